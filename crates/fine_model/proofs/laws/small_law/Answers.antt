@@ -1,0 +1,5 @@
+use Rattle.fine_model.proofs.Stated.{small_law}
+use Rattle.fine_model.proofs.laws.small_law.Goals as goal
+
+pub returns : goal.returns
+returns c = small_law

@@ -1,0 +1,153 @@
+-- What the laws of the definitions say. Each is the contract of a function of its name.
+use Rattle.std.specs.Prelude.{◌≡◌, ◌≢◌, ℕ, ◌<◌, ◌≤◌, Bool, true, nat_le, IsTrue, List, [], ◌∷◌, ◌++◌, length, Some, None, Ok}
+use Rattle.std.specs.List.{AllByRecursion}
+use Rattle.fine_model.specs.Types.{NodeId, Rec, Row, Call, Range, Mark}
+use Rattle.fine_model.specs.Types.rec
+use Rattle.fine_model.specs.Types.node
+use Rattle.fine_model.specs.RowBytes.{FitsRow, BeginsWithRow}
+use Rattle.fine_model.specs.Nodes.{Content, replay, rows_of, content, Agrees}
+use Rattle.fine_model.specs.Map.{Pair, get, set, map_after}
+use Rattle.fine_model.specs.Store.{after_call, writes_of}
+use Rattle.fine_model.specs.Merge.{merged}
+use Rattle.fine_model.specs.Pushed.{pairs_beside, pushed, all_pushed}
+use Rattle.fine_model.specs.Trees.{IsSound, map_of, bucket_of, nodes_of, tree_numbers}
+use Rattle.fine_model.specs.History.{Commit, IsNext, IsLegal, all_rows, map_at, upto, last_epoch}
+use Rattle.fine_model.specs.Paths.{first_unfit, first_unfit_between}
+use Rattle.fine_model.specs.Outcomes.{EpochsFollow}
+use Rattle.fine_model.specs.Regions.{Image, IsRegion, sealed, bad}
+use Rattle.fine_model.specs.Chain.{Shows}
+
+-- ---- maps
+
+-- a key that was set has its value, and the other keys keep theirs
+abbrev pub SetSame : Type 0
+SetSame = (m : List Pair) (key value : List ℕ) → get (set m key value) key ≡ Some value
+
+abbrev pub SetOther : Type 0
+SetOther = (m : List Pair) (key other value : List ℕ) → key ≢ other → get (set m key value) other ≡ get m other
+
+-- ---- rows and bytes
+
+-- Bytes begin with one row at most: a row has one spelling, and no row begins another.
+abbrev pub RowLaw : Type 0
+RowLaw = (mark : Mark) (bytes : List ℕ) (row row' : Row) (rest rest' : List ℕ) → BeginsWithRow mark bytes row rest → BeginsWithRow mark bytes row' rest' → (row ≡ row') × (rest ≡ rest')
+
+-- an image of the disk shows one epoch and one list of rows
+abbrev pub ShownLaw : Type 0
+ShownLaw = (region_len : ℕ) (image : Image) (e e' : ℕ) (rows rows' : List Row) → Shows region_len image e rows → Shows region_len image e' rows' → (e ≡ e') × (rows ≡ rows')
+
+-- a sealed region is bad at no place
+abbrev pub SealedLaw : Type 0
+SealedLaw = (region_len : ℕ) (image : Image) (lead region at : ℕ) (range : Range) (rows : List Row)
+    → IsRegion region_len image lead (sealed range rows) → IsRegion region_len image lead (bad region at) → ⊥
+
+-- ---- replay and agreement
+
+-- later rows go on from what the earlier ones leave
+abbrev pub ReplayLaw : Type 0
+ReplayLaw = (c : Content) (a b : List Row) → replay c (a ++ b) ≡ replay (replay c a) b
+
+abbrev pub ContentLaw : Type 0
+ContentLaw = (a b : List Row) (id : NodeId) → content (a ++ b) id ≡ replay (content a id) (rows_of id b)
+
+-- rows agree with themselves, with what agrees with what they agree with, and also with the same rows behind both
+abbrev pub AgreesItself : Type 0
+AgreesItself = (rows : List Row) → Agrees rows rows
+
+abbrev pub AgreesOn : Type 0
+AgreesOn = (a b c : List Row) → Agrees c b → Agrees b a → Agrees c a
+
+abbrev pub AgreesBehind : Type 0
+AgreesBehind = (new old rows : List Row) → Agrees new old → Agrees (new ++ rows) (old ++ rows)
+
+-- rows that agree with sound ones are sound, and have their map
+pub record IsSameLog (new old : List Row) : Type 0 where
+  pub sound : IsSound new
+  pub map : map_of new ≡ map_of old
+
+abbrev pub AgreementLaw : Type 0
+AgreementLaw = (new old : List Row) → Agrees new old → IsSound old → IsSameLog new old
+
+-- merged rows in place of the two lists that they were merged from change no node that is not left broken
+abbrev pub MergeLaw : Type 0
+MergeLaw = (before older newer after : List Row) (id : NodeId) → AllByRecursion (λ row. row.version ≢ 0) before
+    → (content (before ++ ((older ++ newer) ++ after)) id).0 ≢ node.Broken
+    → content (before ++ (merged older newer ++ after)) id ≡ content (before ++ ((older ++ newer) ++ after)) id
+
+-- ---- trees
+
+-- sound rows leave no node broken that a tree reaches
+abbrev pub WholeLaw : Type 0
+WholeLaw = (rows : List Row) (bucket : ℕ) → IsSound rows → bucket < 256 → AllByRecursion (λ number. (nodes_of rows bucket number).0 ≢ node.Broken) (tree_numbers rows bucket)
+
+-- on sound rows, each node on the path of a key is fit
+abbrev pub FitLaw : Type 0
+FitLaw = (rows : List Row) (key : List ℕ) → IsSound rows → first_unfit rows key ≡ None
+
+-- and so is each on the path of a scan
+abbrev pub ScanLaw : Type 0
+ScanLaw = (rows : List Row) (bucket : ℕ) (low high : List ℕ) (limit : ℕ) → IsSound rows → bucket < 256 → first_unfit_between rows bucket low high limit ≡ None
+
+-- on sound rows, the map has of a key what the leaf has in which the key belongs
+abbrev pub LeafLaw : Type 0
+LeafLaw = (rows : List Row) (key : List ℕ) → IsSound rows → get (map_of rows) key ≡ get (pairs_beside (nodes_of rows (bucket_of key)) key (nodes_of rows (bucket_of key) 0).0) key
+
+-- ---- pushed rows
+
+-- an image has at most 32 pairs or separators, as the format says
+abbrev pub is_small : Rec → Bool
+is_small (rec.LeafImage pairs) = nat_le (length pairs) 32
+is_small (rec.InnerImage seps kids) = nat_le (length seps) 32
+is_small _ = true
+
+pub record AreSmall (rows : List Row) : Type 0 where
+  pub each : AllByRecursion (λ row. IsTrue (is_small row.rec)) rows
+
+-- a row within the format's bounds is such a row
+abbrev pub SmallLaw : Type 0
+SmallLaw = (mark : Mark) (row : Row) → FitsRow mark row → IsTrue (is_small row.rec)
+
+-- rows are sound, and have this map
+pub record HasMap (rows : List Row) (m : List Pair) : Type 0 where
+  pub sound : IsSound rows
+  pub map : map_of rows ≡ m
+
+-- what rows and the rows that were pushed on top of them leave: a sound log with this map
+pub record IsPushed (rows new : List Row) (m : List Pair) : Type 0 where
+  pub has_map : HasMap (rows ++ new) m
+  pub small : AreSmall (rows ++ new)
+
+-- Where rows are sound and the rows that a call pushes are defined, both together are sound, and their map is the map of the
+-- answer.
+abbrev pub PushedLaw : Type 0
+PushedLaw = (rows new : List Row) (c : Call) → AreSmall rows → IsSound rows → pushed rows c ≡ Ok new → IsPushed rows new (after_call (map_of rows) c)
+
+-- the same of calls in order
+abbrev pub AllPushedLaw : Type 0
+AllPushedLaw = (rows new : List Row) (calls : List Call) → AreSmall rows → IsSound rows → all_pushed rows calls ≡ Ok new
+    → IsPushed rows new (map_after (map_of rows) (writes_of (map_of rows) calls))
+
+-- ---- histories
+
+-- up to an epoch, a history is a front of itself
+abbrev pub FrontLaw : Type 0
+FrontLaw = (history : List Commit) (e : ℕ) → (rest : List Commit) × (history ≡ upto history e ++ rest)
+
+-- it grows with the epoch
+abbrev pub GrowthLaw : Type 0
+GrowthLaw = (history : List Commit) (e e' : ℕ) → e ≤ e' → (rest : List Commit) × (upto history e' ≡ upto history e ++ rest)
+
+-- and is whole from the last epoch on
+abbrev pub WholeHistoryLaw : Type 0
+WholeHistoryLaw = (e last : ℕ) (history : List Commit) → EpochsFollow e history → last_epoch e history ≤ last → upto history last ≡ history
+
+-- a legal history is legal at every front, and with one more commit that may follow
+abbrev pub LegalFront : Type 0
+LegalFront = (first : List Row) (before after : List Commit) → IsLegal first (before ++ after) → IsLegal first before
+
+abbrev pub LegalNext : Type 0
+LegalNext = (first : List Row) (history : List Commit) (c : Commit) → IsLegal first history → IsNext first history c → IsLegal first (history ++ c ∷ [])
+
+-- what a legal history leaves on sound rows: a sound log with the map after its writes
+abbrev pub LegalMap : Type 0
+LegalMap = (first : List Row) (history : List Commit) → AreSmall first → IsSound first → IsLegal first history → IsPushed first (all_rows history) (map_at first history)

@@ -1,0 +1,89 @@
+-- What a look into the index and a fetch of one node find, also in regions that are not in the grammar.
+use Rattle.std.specs.Prelude.{◌≡◌, ◌≢◌, ◌⊎◌, ℕ, ◌+◌, ◌-◌, ◌*◌, ◌<◌, ◌≤◌, nat_le, nat_lt, Bool, true, ◌&&◌, if◌then◌else◌, List, [], ◌∷◌, ◌++◌, length, take, drop, Result, Ok, Err}
+use Rattle.std.specs.List.{AllByRecursion}
+use Rattle.std.specs.Int.{w16, w32, w64, leading_zeros}
+use Rattle.fine_model.specs.Types.{NodeId, Row, Header}
+use Rattle.fine_model.specs.RowBytes.{rows_bytes, rows_len, FitsRow}
+use Rattle.fine_model.specs.Regions.{number_in, row_area}
+
+-- an index entry as its bytes say
+pub record IndexEntry : Type 0 where
+  pub node : NodeId
+  pub offset : ℕ
+  pub rows : ℕ
+
+-- where the i-th index entry starts in the body
+abbrev pub entry_place : Header → ℕ → ℕ
+entry_place header i = header.area + 14 * i
+
+abbrev pub entry_of : List ℕ → ℕ → IndexEntry
+entry_of body at = record {
+  node = record { bucket = number_in w16 at body; number = number_in w32 (at + 2) body };
+  offset = number_in w32 (at + 6) body;
+  rows = number_in w32 (at + 10) body;
+}
+
+abbrev pub entry_at : Header → List ℕ → ℕ → IndexEntry
+entry_at header body i = entry_of body (entry_place header i)
+
+-- an entry may stand behind this header
+abbrev pub is_entry : Header → IndexEntry → Bool
+is_entry header e =
+    nat_le e.node.bucket 255 && nat_lt e.node.number 1048576 && nat_lt e.offset header.area
+    && nat_le 1 e.rows && nat_le e.rows header.rows
+
+-- the rows of a node in the row area, from an offset up to an end
+pub record RowSpan : Type 0 where
+  pub at : ℕ
+  pub end : ℕ
+  pub rows : ℕ
+
+-- the offset behind the span of the i-th entry
+abbrev pub span_end : Header → List ℕ → ℕ → ℕ
+span_end header body i = if nat_lt (i + 1) header.nodes then (entry_at header body (i + 1)).offset else header.area
+
+-- the next entry, where there is one, may stand there
+abbrev pub is_followed : Header → List ℕ → ℕ → Bool
+is_followed header body i = if nat_lt (i + 1) header.nodes then is_entry header (entry_at header body (i + 1)) else true
+
+-- The span of the i-th entry, or the place in the body of the entry that is bad: itself, the next one, or itself where its span is empty.
+unfoldable pub span_at : Header → List ℕ → ℕ → Result RowSpan ℕ
+span_at header body i =
+    if is_entry header (entry_at header body i)
+    then (if is_followed header body i
+    then (if nat_lt (entry_at header body i).offset (span_end header body i)
+    then Ok (record { at = (entry_at header body i).offset; end = span_end header body i; rows = (entry_at header body i).rows })
+    else Err (entry_place header i))
+    else Err (entry_place header (i + 1)))
+    else Err (entry_place header i)
+
+abbrev pub span_bytes : Header → List ℕ → RowSpan → List ℕ
+span_bytes header body span = take (span.end - span.at) (drop span.at (row_area header body))
+
+-- the front of a span is these rows of the node, and more follows
+pub record SpanBegins (header : Header) (body : List ℕ) (span : RowSpan) (id : NodeId) (rows : List Row) (rest : List ℕ) : Type 0 where
+  pub fit : AllByRecursion (FitsRow header.mark) rows
+  pub of_node : AllByRecursion (λ row. row.node ≡ id) rows
+  pub spelled : span_bytes header body span ≡ rows_bytes rows ++ rest
+  pub counted : length rows ≤ span.rows
+
+-- a span is exactly these rows of the node
+pub record SpanHolds (header : Header) (body : List ℕ) (span : RowSpan) (id : NodeId) (rows : List Row) : Type 0 where
+  pub begins : SpanBegins header body span id rows []
+  pub all : length rows ≡ span.rows
+
+-- the place in the body where, behind the good rows of a span, none stands that goes on, or bytes are left behind the last one
+pub record IsBadInSpan (header : Header) (body : List ℕ) (span : RowSpan) (id : NodeId) (at : ℕ) : Type 0 where
+  pub rows : List Row
+  pub rest : List ℕ
+  pub good : SpanBegins header body span id rows rest
+  pub place : at ≡ span.at + rows_len rows
+  pub unfinished : (length rows < span.rows) ⊎ (rest ≢ [])
+  pub last : (row : Row) (more : List ℕ) → SpanBegins header body span id (rows ++ row ∷ []) more → ⊥
+
+-- how many binary digits a number has, and how many bytes one look into an index may take
+abbrev pub binary_digits : ℕ → ℕ
+binary_digits n = 64 - leading_zeros w64 n
+
+abbrev pub most_taken : ℕ → ℕ
+most_taken nodes = 14 * (binary_digits nodes + 1)

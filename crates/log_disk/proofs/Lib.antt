@@ -1,0 +1,12 @@
+pub mod Images
+pub mod Lists
+pub mod Regions
+pub mod Writes
+pub mod InMemory
+pub mod Numbers
+pub mod Crashes
+pub mod Moments
+pub mod Seeing
+pub mod Torn
+pub mod Calls
+pub mod Sound

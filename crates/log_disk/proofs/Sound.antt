@@ -1,0 +1,62 @@
+-- What holds of a disk at each moment is kept by its calls.
+use Rattle.std.proofs.Common.{◌≡◌, ℕ, ◌+◌, ◌<◌, List, [], ◌∷◌, ◌++◌, length, map, Some, None, sym, ap, subst, ◌∙◌, inl, inr, arith}
+use Rattle.std.specs.Prelude.{Option, IfSome}
+use Rattle.std.proofs.lemmas.List.{map_push}
+use Rattle.log_disk.specs.Disk.{Image, region_of, Span, Moment, IsImageAt, Told, Disk, BothTold, SameOutside, HasGoneOn, HasSynced, IsToldOf, IsSound, Reads, Writes, Syncs, OnlyFails, unsynced_too, span_of}
+use Rattle.log_disk.proofs.InMemory.{synced_is_image}
+use Rattle.log_disk.proofs.Writes.{image_after}
+
+told_of_same : (old new : Disk) (told : Told) → new.regions ≡ old.regions → new.region_len ≡ old.region_len → new.unsynced ≡ old.unsynced → IsToldOf old told → IsToldOf new told
+told_of_same old new told regions len unsynced is = record {
+  regions = is.regions ∙ sym regions;
+  lengths = λ r h. is.lengths r (subst (λ n. r < n) regions h) ∙ sym len;
+  image = is.image;
+  unsynced = is.unsynced ∙ sym unsynced;
+}
+
+-- a call that changes nothing that is told, as one that fails or opens or closes an eye
+pub sound_same : (old new : Disk) → new.told ≡ old.told → new.regions ≡ old.regions → new.region_len ≡ old.region_len → new.unsynced ≡ old.unsynced → IsSound old → IsSound new
+sound_same old new told regions len unsynced sound = record {
+  told = subst (λ t. IfSome t (IsToldOf new)) (sym told) (each old.told sound.told);
+}
+  where
+    each : (t : Option Told) → IfSome t (IsToldOf old) → IfSome t (IsToldOf new)
+    each None h = tt
+    each (Some t) h = told_of_same old new t regions len unsynced h
+
+-- a write that was begun
+pub sound_write : {r at : ℕ} {bytes : List ℕ} {failed : Type 0} {old new : Disk} → Writes r at bytes failed old new → IsSound old → IsSound new
+sound_write {r} {at} {bytes} {failed} {old} {new} w sound = record { told = each old.told new.told w.time w.outside sound.told }
+  where
+    each : (a b : Option Told) → BothTold (λ x y. HasGoneOn x y (unsynced_too x.present (span_of r at (length bytes)))) a b
+        → BothTold (λ x y. SameOutside r at (at + length bytes) x.bytes y.bytes) a b → IfSome a (IsToldOf old) → IfSome b (IsToldOf new)
+    each None None t o h = tt
+    each None (Some b) t o h = absurd t
+    each (Some a) None t o h = absurd t
+    each (Some a) (Some b) t o h = record {
+      regions = o.regions ∙ h.regions ∙ sym w.beside.regions;
+      lengths = λ q k. o.lengths q ∙ h.lengths q (subst (λ n. q < n) w.beside.regions k) ∙ sym w.beside.region_len;
+      image = subst (λ m. IsImageAt m b.bytes) (sym t.1) (image_after a.present a.bytes b.bytes r at (at + length bytes) o h.image);
+      unsynced =
+          ap (λ (m : Moment). map (λ (span : Span). span.region) m.unsynced) t.1 ∙ map_push (λ (span : Span). span.region) a.present.unsynced (span_of r at (length bytes))
+          ∙ ap (λ xs. xs ++ r ∷ []) h.unsynced ∙ sym w.unsynced;
+    }
+
+-- a sync that succeeded
+pub sound_sync : {old new : Disk} → Syncs old new → IsSound old → IsSound new
+sound_sync {old} {new} s sound = record { told = each old.told new.told s.time sound.told }
+  where
+    one : (a b : Told) → HasSynced old a b → IsToldOf old a → IsToldOf new b
+    one a b (inl nothing) h = subst (IsToldOf new) (sym nothing.1) (told_of_same old new a s.beside.regions s.beside.region_len (s.unsynced ∙ sym nothing.0) h)
+    one a b (inr some) h = record {
+      regions = ap length some.1 ∙ h.regions ∙ sym s.beside.regions;
+      lengths = λ q k. ap (λ i. length (region_of i q)) some.1 ∙ h.lengths q (subst (λ n. q < n) s.beside.regions k) ∙ sym s.beside.region_len;
+      image = subst (λ m. IsImageAt m b.bytes) (sym some.2.1) (synced_is_image a.bytes b.bytes [] some.1);
+      unsynced = ap (λ (m : Moment). map (λ (span : Span). span.region) m.unsynced) some.2.1 ∙ sym s.unsynced;
+    }
+
+    each : (a b : Option Told) → BothTold (HasSynced old) a b → IfSome a (IsToldOf old) → IfSome b (IsToldOf new)
+    each None None t h = tt
+    each None (Some b) t h = absurd t
+    each (Some a) None t h = absurd t
+    each (Some a) (Some b) t h = one a b t h

@@ -1,0 +1,9 @@
+pub mod Disk
+pub mod Eyes
+pub mod Moments
+pub mod Crash
+pub mod Region
+pub mod MemDisk
+pub mod MemEye
+pub mod Laws
+pub mod Plan

@@ -1,0 +1,68 @@
+//! The open eyes of a disk.
+
+ghost use Rattle.std.specs.Prelude.{◌≡◌, ◌+◌, ◌<◌, ◌^◌, ◌++◌, ◌∷◌, [], Contains, OnOk, filter, not, ◌==◌, vec_len, vec_capacity};
+ghost use Rattle.log_disk.specs.Eyes.{eyes_in, numbers_to};
+
+use std::alloc::{AllocError, Global};
+use std::snapshot::Snapshot;
+
+/// An eye that is open, by its number. Its regions are there for contracts and take no memory.
+#[derive(Drop)]
+pub struct OpenEye {
+    pub number: u64,
+    pub regions: Snapshot<Vec<u32>>,
+}
+
+/// The eyes that are open, and how many were opened so far. They are numbered from 1 on.
+#[derive(Drop)]
+pub struct OpenEyes {
+    pub open: Vec<OpenEye>,
+    pub given: u64,
+}
+
+impl OpenEyes {
+    pub fn none(alloc: Global) -> OpenEyes
+        ensures eyes { eyes_in result ≡ [] }
+        ensures given { result.given ≡ 0 }
+    {
+        OpenEyes {
+            open: Vec::new(alloc),
+            given: 0,
+        }
+    }
+
+    /// Makes room for one more.
+    pub fn reserve(&mut self) -> Result<(), AllocError>
+        ensures eyes { eyes_in self.new ≡ eyes_in self.old }
+        ensures given { self.new.given ≡ self.old.given }
+        ensures room { OnOk result (vec_len self.new.open < vec_capacity self.new.open) }
+    {
+        self.open.reserve(1)
+    }
+
+    /// Gives the next number to an eye on some regions. There is room.
+    pub fn open(&mut self, regions: &Vec<u32>) -> u64
+        requires room { vec_len self.old.open < vec_capacity self.old.open }
+        requires left { self.old.given + 1 < 2 ^ 64 }
+        ensures number { result ≡ self.old.given + 1 }
+        ensures is_new { Contains (numbers_to self.old.given) result → ⊥ }
+        ensures numbers { numbers_to self.new.given ≡ numbers_to self.old.given ++ result ∷ [] }
+        ensures given { self.new.given ≡ self.old.given + 1 }
+        ensures eyes { eyes_in self.new ≡ eyes_in self.old ++ record { number = result; regions = regions.now.items } ∷ [] }
+    {
+        self.given += 1;
+        self.open.push_reserved(OpenEye {
+            number: self.given,
+            regions: Snapshot::of(regions),
+        });
+        self.given
+    }
+
+    /// Takes the eye of a number off.
+    pub fn close(&mut self, number: u64)
+        ensures given { self.new.given ≡ self.old.given }
+        ensures eyes { eyes_in self.new ≡ filter (λ eye. not (eye.number == number)) (eyes_in self.old) }
+    {
+        self.open.retain(|eye| eye.number != number);
+    }
+}

@@ -1,0 +1,10 @@
+pub mod Writing
+pub mod Ordered
+pub mod Changes
+pub mod Texts
+pub mod Bounds
+pub mod FieldsRead
+pub mod Loop
+pub mod Readers
+pub mod RowsRead
+pub mod RowLaws

@@ -1,0 +1,94 @@
+-- Which texts are numbers.
+use Rattle.std.proofs.Common.{◌≡◌, ◌≢◌, ℕ, suc, ◌+◌, ◌*◌, ◌-◌, ◌^◌, ◌<◌, ◌≤◌, Bool, true, false, cond, leb, eqb, ◌&&◌, List, [], ◌∷◌, length, ℤ, pos, negsuc, neg_ℤ, Some, None, Result, Ok, Err, refl, sym, ap, subst, ◌∙◌, true≢false, arith}
+use Rattle.std.specs.Prelude.{bytes_eq, FitsSigned, fold}
+use Rattle.std.specs.Int.{w64}
+use Rattle.std.specs.Fmt.{decimal, signed_decimal}
+use Rattle.std.specs.Str.{IsUtf8}
+use Rattle.std.specs.Str.Parse.{AllDigits, ParsesSigned}
+use Rattle.std.specs.Int.Signed.{mag}
+use Rattle.std.proofs.lemmas.Bool.{leb-true, le-leb, eqb-true}
+use Rattle.std.proofs.lemmas.Str.{IsUtf8-from_ascii}
+use Rattle.std.proofs.lemmas.Str.Parse.{IsNumeralModel, numerals_by_fold, tells_digits, not_in_digits}
+use Rattle.std.proofs.lemmas.Fmt.{digits_decimal, digits_value-decimal, parse-signed_decimal, IsAscii-signed, decimal_nonempty}
+use Rattle.std.proofs.lemmas.Slice.Eq.{bytes_eq-Decides}
+use Rattle.node_record.proofs.Changes.{not_true}
+use Rattle.fine_model.specs.NumberText.{number_text, digits_worth, worth, is_i64, number_of}
+
+abbrev read_on : ℕ → List ℕ → ℕ
+read_on n text = fold (λ n digit. 10 * n + (digit - 48)) n text
+
+model : IsNumeralModel (AllDigits 10) (read_on 0)
+model = numerals_by_fold (AllDigits 10) tells_digits read_on (record { empty = λ n. refl; more = λ n c cs h. ap (λ m. read_on (m + (c - 48)) cs) (omega arith) })
+
+both_true : (a b : Bool) → (a && b) ≡ true → (a ≡ true) × (b ≡ true)
+both_true true b h = (refl, h)
+both_true false b h = absurd (true≢false (sym h))
+
+pub fits_from_test : (z : ℤ) → is_i64 z ≡ true → FitsSigned w64 z
+fits_from_test (pos n) h = let le : n ≤ 9223372036854775807 = leb-true n 9223372036854775807 h in omega arith
+fits_from_test (negsuc n) h = let le : n ≤ 9223372036854775807 = leb-true n 9223372036854775807 (both_true (leb n 9223372036854775807) true h).0 in omega arith
+
+pub test_from_fits : (z : ℤ) → FitsSigned w64 z → is_i64 z ≡ true
+test_from_fits (pos n) h = le-leb n 9223372036854775807 (omega (arith, h))
+test_from_fits (negsuc n) h = ap (λ b. b && true) (le-leb n 9223372036854775807 (omega (arith, h)))
+
+small : (z : ℤ) → FitsSigned w64 z → mag z < 2 ^ 63
+small (pos n) h = omega (arith, h)
+small (negsuc n) h = omega (arith, h)
+
+unsigned : (text : List ℕ) → AllDigits 10 text → 0 < length text → worth text ≡ pos (digits_worth text)
+unsigned [] digits some = absurd (omega arith)
+unsigned (b ∷ bs) digits some =
+    let other : b ≢ 45 = not_in_digits model (b ∷ bs) 45 digits (λ h. omega (arith, h.0)) 0 (omega arith) in
+    let no : eqb b 45 ≡ false = not_true (eqb b 45) (λ h. other (eqb-true b 45 h)) in
+    ap (λ t. cond t (neg_ℤ (pos (digits_worth bs))) (pos (digits_worth (b ∷ bs)))) no
+
+pub worth-number : (z : ℤ) → FitsSigned w64 z → worth (number_text z) ≡ z
+unfolding number_text
+worth-number (pos n) h = unsigned (decimal n) (digits_decimal model n (omega (arith, h))) (decimal_nonempty n (omega (arith, h))) ∙ ap pos (digits_value-decimal model n (omega (arith, h)))
+worth-number (negsuc n) h = ap (λ m. neg_ℤ (pos m)) (digits_value-decimal model (suc n) (omega (arith, h)))
+
+-- a number's text is that number
+pub number_again : (z : ℤ) (text : List ℕ) → FitsSigned w64 z → text ≡ number_text z → number_of text ≡ Some z
+unfolding number_of
+number_again z text fits is =
+    let w : worth text ≡ z = ap worth is ∙ worth-number z fits in
+    let same : bytes_eq (number_text (worth text)) text ≡ true = (bytes_eq-Decides (number_text (worth text)) text).1 (ap number_text w ∙ sym is) in
+    let fine : is_i64 (worth text) ≡ true = ap is_i64 w ∙ test_from_fits z fits in
+    rw (same, fine) (ap Some w)
+
+-- a text that no number has is none
+pub no_number : (text : List ℕ) → ((z : ℤ) → FitsSigned w64 z → text ≢ number_text z) → number_of text ≡ None
+unfolding number_of
+no_number text none = by (bytes_eq (number_text (worth text)) text && is_i64 (worth text)) refl
+  where
+    by : (b : Bool) → (bytes_eq (number_text (worth text)) text && is_i64 (worth text)) ≡ b → cond b (Some (worth text)) None ≡ None
+    by false is = refl
+    by true is =
+        let both = both_true (bytes_eq (number_text (worth text)) text) (is_i64 (worth text)) is in
+        absurd (none (worth text) (fits_from_test (worth text) both.1) (sym ((bytes_eq-Decides (number_text (worth text)) text).0 both.0)))
+
+-- a text that is a number fits 64 bits
+pub number_fits : (text : List ℕ) (z : ℤ) → number_of text ≡ Some z → FitsSigned w64 z
+unfolding number_of
+number_fits text z is = by (bytes_eq (number_text (worth text)) text && is_i64 (worth text)) refl is
+  where
+    by : (b : Bool) → (bytes_eq (number_text (worth text)) text && is_i64 (worth text)) ≡ b → cond b (Some (worth text)) None ≡ Some z → FitsSigned w64 z
+    by false e is = absurd cc
+    by true e is = let same : worth text ≡ z = cc in subst (FitsSigned w64) same (fits_from_test (worth text) (both_true (bytes_eq (number_text (worth text)) text) (is_i64 (worth text)) e).1)
+
+-- what is no text, or is not parsed, is no number
+pub not_text : (text : List ℕ) → (IsUtf8 text → ⊥) → number_of text ≡ None
+unfolding number_text
+not_text text bad = no_number text (λ z fits e. bad (subst IsUtf8 (sym e) (IsUtf8-from_ascii (signed_decimal z) (IsAscii-signed z (small z fits)))))
+
+pub not_parsed : {E : Type 0} (text : List ℕ) (r : Result ℤ E) (e : E) → ParsesSigned w64 10 text r → r ≡ Err e → number_of text ≡ None
+unfolding number_text
+not_parsed text r e parses is = no_number text (λ z fits same. let ok = parse-signed_decimal w64 z text r fits (small z fits) same parses in absurd cc)
+
+pub not_written : {E : Type 0} (text : List ℕ) (r : Result ℤ E) (n : ℤ) → ParsesSigned w64 10 text r → r ≡ Ok n → text ≢ number_text n → number_of text ≡ None
+unfolding number_text
+not_written text r n parses is other = no_number text (λ z fits same.
+    let ok = parse-signed_decimal w64 z text r fits (small z fits) same parses in
+    let equal : z ≡ n = cc in
+    other (same ∙ ap signed_decimal equal))

@@ -1,0 +1,5 @@
+pub mod Writing
+pub mod Places
+pub mod Bounds
+pub mod Reading
+pub mod Rows

@@ -1,0 +1,319 @@
+//! The bodies of rows: how long each is, how it is written, and how it is read.
+
+ghost use Rattle.std.specs.Prelude.{◌≡◌, ◌+◌, ◌≤◌, length, drop, vec_len, vec_capacity};
+ghost use Rattle.fine_model.specs.declared.Rec.TheVariants as rec;
+ghost use Rattle.fine_model.specs.RowBytes.{FitsKey, FitsRec, body, key_bytes};
+ghost use Rattle.node_record.specs.Reading.{Gives, head_at, leaf_at, inner_at, put_at, key_at, link_at, plus_at};
+ghost use Rattle.node_record.specs.Writing.{Appends};
+
+/// Root, next number and depth.
+pub mod head {
+    use crate::fault::RowFault;
+    use crate::fields::{byte, child, number_u32, put, sure};
+    use std::alloc::Global;
+
+    #[tactic(auto, unfolding(fine_model::specs::RowBytes::body))]
+    pub fn len(root: &u32, next: &u32, depth: &u8) -> u32
+        ensures is { result ≡ length (body (rec.HeadImage root.now next.now depth.now)) }
+        ensures most { result ≤ 10337 }
+    {
+        9
+    }
+
+    #[tactic(auto, unfolding(fine_model::specs::RowBytes::body))]
+    pub fn write(out: &mut Vec<u8>, root: &u32, next: &u32, depth: &u8)
+        requires { vec_len out.old + length (body (rec.HeadImage root.now next.now depth.now)) ≤ vec_capacity out.old }
+        ensures { Appends out.old out.new (body (rec.HeadImage root.now next.now depth.now)) }
+    {
+        put(out, &root.to_be_bytes());
+        put(out, &next.to_be_bytes());
+        put(out, &[*depth]);
+    }
+
+    #[tactic(auto, unfolding(crate::specs::Reading::head_at))]
+    pub fn read(
+        _alloc: Global,
+        bytes: &[u8],
+        start: usize,
+        at: usize,
+    ) -> Result<((u32, u32, u8), usize), RowFault>
+        requires { at ≤ length bytes.now }
+        ensures { Gives (λ x. rec.HeadImage x.0 x.1 x.2) bytes.now start result (head_at (drop at bytes.now)) }
+    {
+        let (root, at) = child(bytes, start, at)?;
+        let (next, at) = number_u32(bytes, start, at)?;
+        sure(2 <= next && next <= 1_048_576, start)?;
+        let (depth, at) = byte(bytes, start, at)?;
+        sure(1 <= depth && depth <= 8, start)?;
+        Ok(((root, next, depth), at))
+    }
+}
+
+/// The number of the pairs, and the pairs.
+pub mod leaf {
+    use crate::fault::RowFault;
+    use crate::fields::{byte, put, put_key, put_value, sure};
+    use crate::items::items;
+    use crate::places::pairs_ascend;
+    use fine_model::{Bytes, Pairs};
+    use std::alloc::Global;
+
+    #[tactic(auto, unfolding(fine_model::specs::RowBytes::body))]
+    pub fn len(pairs: &Pairs) -> u32
+        requires { FitsRec (rec.LeafImage pairs.now) }
+        ensures is { result ≡ length (body (rec.LeafImage pairs.now)) }
+        ensures most { result ≤ 10337 }
+    {
+        let mut len = 1;
+        for pair in pairs.as_slice() {
+            len += 3 + pair.0.len() as u32 + pair.1.len() as u32;
+        }
+        len
+    }
+
+    #[tactic(auto, unfolding(fine_model::specs::RowBytes::body))]
+    pub fn write(out: &mut Vec<u8>, pairs: &Pairs)
+        requires fits { FitsRec (rec.LeafImage pairs.now) }
+        requires room { vec_len out.old + length (body (rec.LeafImage pairs.now)) ≤ vec_capacity out.old }
+        ensures { Appends out.old out.new (body (rec.LeafImage pairs.now)) }
+    {
+        put(out, &[pairs.len() as u8]);
+        for pair in pairs.as_slice() {
+            put_key(out, &pair.0);
+            put_value(out, &pair.1);
+        }
+    }
+
+    #[tactic(auto, unfolding(crate::specs::Reading::leaf_at))]
+    pub fn read(
+        alloc: Global,
+        bytes: &[u8],
+        start: usize,
+        at: usize,
+    ) -> Result<(Pairs, usize), RowFault>
+        requires { at ≤ length bytes.now }
+        ensures { Gives (λ x. rec.LeafImage x) bytes.now start result (leaf_at (drop at bytes.now)) }
+    {
+        let (count, at) = byte(bytes, start, at)?;
+        sure(count <= 32, start)?;
+        let (pairs, at) = items::<(Bytes, Bytes)>(alloc, count, bytes, start, at)?;
+        sure(pairs_ascend(pairs.as_slice()), start)?;
+        Ok((pairs, at))
+    }
+}
+
+/// The number of the separators, the children, and the separators.
+pub mod inner {
+    use crate::fault::RowFault;
+    use crate::fields::{byte, put, put_key, sure};
+    use crate::items::items;
+    use crate::places::keys_ascend;
+    use fine_model::{Bytes, Keys, Kids};
+    use std::alloc::Global;
+
+    #[tactic(auto, unfolding(fine_model::specs::RowBytes::body))]
+    pub fn len(seps: &Keys, kids: &Kids) -> u32
+        requires { FitsRec (rec.InnerImage seps.now kids.now) }
+        ensures is { result ≡ length (body (rec.InnerImage seps.now kids.now)) }
+        ensures most { result ≤ 10337 }
+    {
+        let mut len = 1 + 4 * kids.len() as u32;
+        for key in seps.as_slice() {
+            len += 1 + key.len() as u32;
+        }
+        len
+    }
+
+    #[tactic(auto, unfolding(fine_model::specs::RowBytes::body))]
+    pub fn write(out: &mut Vec<u8>, seps: &Keys, kids: &Kids)
+        requires fits { FitsRec (rec.InnerImage seps.now kids.now) }
+        requires room { vec_len out.old + length (body (rec.InnerImage seps.now kids.now)) ≤ vec_capacity out.old }
+        ensures { Appends out.old out.new (body (rec.InnerImage seps.now kids.now)) }
+    {
+        put(out, &[seps.len() as u8]);
+        for kid in kids.as_slice() {
+            put(out, &kid.to_be_bytes());
+        }
+        for key in seps.as_slice() {
+            put_key(out, key);
+        }
+    }
+
+    #[tactic(auto, unfolding(crate::specs::Reading::inner_at))]
+    pub fn read(
+        alloc: Global,
+        bytes: &[u8],
+        start: usize,
+        at: usize,
+    ) -> Result<((Keys, Kids), usize), RowFault>
+        requires { at ≤ length bytes.now }
+        ensures { Gives (λ x. rec.InnerImage x.0 x.1) bytes.now start result (inner_at (drop at bytes.now)) }
+    {
+        let (count, at) = byte(bytes, start, at)?;
+        sure(count <= 32, start)?;
+        let (kids, at) = items::<u32>(alloc, count + 1, bytes, start, at)?;
+        let (seps, at) = items::<Bytes>(alloc, count, bytes, start, at)?;
+        sure(keys_ascend(seps.as_slice()), start)?;
+        Ok(((seps, kids), at))
+    }
+}
+
+/// A key and a value.
+pub mod pair {
+    use crate::fault::RowFault;
+    use crate::fields::{pair, put_key, put_value};
+    use fine_model::Bytes;
+    use std::alloc::Global;
+
+    #[tactic(auto, unfolding(fine_model::specs::RowBytes::body))]
+    pub fn len(key: &Bytes, value: &Bytes) -> u32
+        requires { FitsRec (rec.Put key.now value.now) }
+        ensures is { result ≡ length (body (rec.Put key.now value.now)) }
+        ensures most { result ≤ 10337 }
+    {
+        3 + key.len() as u32 + value.len() as u32
+    }
+
+    #[tactic(auto, unfolding(fine_model::specs::RowBytes::body))]
+    pub fn write(out: &mut Vec<u8>, key: &Bytes, value: &Bytes)
+        requires fits { FitsRec (rec.Put key.now value.now) }
+        requires room { vec_len out.old + length (body (rec.Put key.now value.now)) ≤ vec_capacity out.old }
+        ensures { Appends out.old out.new (body (rec.Put key.now value.now)) }
+    {
+        put_key(out, key);
+        put_value(out, value);
+    }
+
+    #[tactic(auto, unfolding(crate::specs::Reading::put_at))]
+    pub fn read(
+        alloc: Global,
+        bytes: &[u8],
+        start: usize,
+        at: usize,
+    ) -> Result<((Bytes, Bytes), usize), RowFault>
+        requires { at ≤ length bytes.now }
+        ensures { Gives (λ x. rec.Put x.0 x.1) bytes.now start result (put_at (drop at bytes.now)) }
+    {
+        pair(alloc, bytes, start, at)
+    }
+}
+
+/// A key.
+pub mod key {
+    use crate::fault::RowFault;
+    use crate::fields::{key, put_key};
+    use fine_model::Bytes;
+    use std::alloc::Global;
+
+    pub fn len(key: &Bytes) -> u32
+        requires { FitsKey key.now }
+        ensures is { result ≡ length (key_bytes key.now) }
+        ensures most { result ≤ 10337 }
+    {
+        1 + key.len() as u32
+    }
+
+    pub fn write(out: &mut Vec<u8>, key: &Bytes)
+        requires fits { FitsKey key.now }
+        requires room { vec_len out.old + length (key_bytes key.now) ≤ vec_capacity out.old }
+        ensures { Appends out.old out.new (key_bytes key.now) }
+    {
+        put_key(out, key);
+    }
+
+    pub fn read(
+        alloc: Global,
+        bytes: &[u8],
+        start: usize,
+        at: usize,
+    ) -> Result<(Bytes, usize), RowFault>
+        requires { at ≤ length bytes.now }
+        ensures { Gives (λ x. x) bytes.now start result (key_at (drop at bytes.now)) }
+    {
+        key(alloc, bytes, start, at)
+    }
+}
+
+/// A separator and the child to its right.
+pub mod link {
+    use crate::fault::RowFault;
+    use crate::fields::{child, key, put, put_key};
+    use fine_model::Bytes;
+    use std::alloc::Global;
+
+    #[tactic(auto, unfolding(fine_model::specs::RowBytes::body))]
+    pub fn len(key: &Bytes, child: &u32) -> u32
+        requires { FitsRec (rec.Link key.now child.now) }
+        ensures is { result ≡ length (body (rec.Link key.now child.now)) }
+        ensures most { result ≤ 10337 }
+    {
+        5 + key.len() as u32
+    }
+
+    #[tactic(auto, unfolding(fine_model::specs::RowBytes::body))]
+    pub fn write(out: &mut Vec<u8>, key: &Bytes, child: &u32)
+        requires fits { FitsRec (rec.Link key.now child.now) }
+        requires room { vec_len out.old + length (body (rec.Link key.now child.now)) ≤ vec_capacity out.old }
+        ensures { Appends out.old out.new (body (rec.Link key.now child.now)) }
+    {
+        put_key(out, key);
+        put(out, &child.to_be_bytes());
+    }
+
+    #[tactic(auto, unfolding(crate::specs::Reading::link_at))]
+    pub fn read(
+        alloc: Global,
+        bytes: &[u8],
+        start: usize,
+        at: usize,
+    ) -> Result<((Bytes, u32), usize), RowFault>
+        requires { at ≤ length bytes.now }
+        ensures { Gives (λ x. rec.Link x.0 x.1) bytes.now start result (link_at (drop at bytes.now)) }
+    {
+        let (key, at) = key(alloc, bytes, start, at)?;
+        let (child, at) = child(bytes, start, at)?;
+        Ok(((key, child), at))
+    }
+}
+
+/// A key and what is added to its number.
+pub mod plus {
+    use crate::fault::RowFault;
+    use crate::fields::{key, number_i64, put, put_key};
+    use fine_model::Bytes;
+    use std::alloc::Global;
+
+    #[tactic(auto, unfolding(fine_model::specs::RowBytes::body))]
+    pub fn len(key: &Bytes, by: &i64) -> u32
+        requires { FitsRec (rec.Plus key.now by.now) }
+        ensures is { result ≡ length (body (rec.Plus key.now by.now)) }
+        ensures most { result ≤ 10337 }
+    {
+        9 + key.len() as u32
+    }
+
+    #[tactic(auto, unfolding(fine_model::specs::RowBytes::body))]
+    pub fn write(out: &mut Vec<u8>, key: &Bytes, by: &i64)
+        requires fits { FitsRec (rec.Plus key.now by.now) }
+        requires room { vec_len out.old + length (body (rec.Plus key.now by.now)) ≤ vec_capacity out.old }
+        ensures { Appends out.old out.new (body (rec.Plus key.now by.now)) }
+    {
+        put_key(out, key);
+        put(out, &by.to_be_bytes());
+    }
+
+    #[tactic(auto, unfolding(crate::specs::Reading::plus_at))]
+    pub fn read(
+        alloc: Global,
+        bytes: &[u8],
+        start: usize,
+        at: usize,
+    ) -> Result<((Bytes, i64), usize), RowFault>
+        requires { at ≤ length bytes.now }
+        ensures { Gives (λ x. rec.Plus x.0 x.1) bytes.now start result (plus_at (drop at bytes.now)) }
+    {
+        let (key, at) = key(alloc, bytes, start, at)?;
+        let (by, at) = number_i64(bytes, start, at)?;
+        Ok(((key, by), at))
+    }
+}

@@ -1,0 +1,183 @@
+//! The fields of which rows are made.
+
+ghost use Rattle.std.specs.Prelude.{◌≡◌, ◌+◌, ◌≤◌, ◌∷◌, [], length, drop, option_map, vec_len, vec_capacity, if◌then◌else◌};
+ghost use Rattle.std.specs.Int.{to_be_bytes, w16, w32, w64};
+ghost use Rattle.fine_model.specs.RowBytes.{FitsKey, FitsValue, key_bytes, value_bytes};
+ghost use Rattle.node_record.specs.declared.fault.RowFault.TheVariants as fault;
+ghost use Rattle.node_record.specs.Reading.{Gives, text_at, byte_at, number_at, signed_at, key_at, value_at, pair_at, child_at};
+ghost use Rattle.node_record.specs.Writing.{Appends};
+
+use crate::fault::RowFault;
+use fine_model::{Bytes, Items};
+use std::alloc::Global;
+
+/// Appends bytes for which there is room.
+pub fn put(out: &mut Vec<u8>, bytes: &[u8])
+    requires { vec_len out.old + length bytes.now ≤ vec_capacity out.old }
+    ensures { Appends out.old out.new bytes.now }
+{
+    let _room = out.extend_from_slice(bytes);
+}
+
+/// Appends a key behind its length in one byte.
+pub fn put_key(out: &mut Vec<u8>, key: &Bytes)
+    requires fits { FitsKey key.now }
+    requires room { vec_len out.old + length (key_bytes key.now) ≤ vec_capacity out.old }
+    ensures { Appends out.old out.new (key_bytes key.now) }
+{
+    put(out, &[key.len() as u8]);
+    put(out, key.as_slice());
+}
+
+/// Appends a value behind its length in two bytes.
+pub fn put_value(out: &mut Vec<u8>, value: &Bytes)
+    requires fits { FitsValue value.now }
+    requires room { vec_len out.old + length (value_bytes value.now) ≤ vec_capacity out.old }
+    ensures { Appends out.old out.new (value_bytes value.now) }
+{
+    put(out, &(value.len() as u16).to_be_bytes());
+    put(out, value.as_slice());
+}
+
+/// The field of `N` bytes at a place, where the bytes reach so far.
+pub fn field<const N: usize>(bytes: &[u8], at: usize) -> Option<[u8; N]>
+    requires { at ≤ length bytes.now }
+    ensures { result ≡ option_map (λ text. text.0) (text_at N (drop at bytes.now)) }
+{
+    bytes[at..].first_chunk::<N>().copied()
+}
+
+/// Goes on where a test holds. The row that is read starts at `start`.
+pub fn sure(holds: bool, start: usize) -> Result<(), RowFault>
+    ensures { result ≡ (if holds then Ok tt else Err (fault.Bad start)) }
+{
+    if holds {
+        Ok(())
+    } else {
+        Err(RowFault::Bad { at: start })
+    }
+}
+
+/// A number of one byte, and the place behind it, as below.
+#[tactic(auto, unfolding(crate::specs::Reading::byte_at))]
+pub fn byte(bytes: &[u8], start: usize, at: usize) -> Result<(u8, usize), RowFault>
+    requires { at ≤ length bytes.now }
+    ensures { Gives (λ n. n) bytes.now start result (byte_at (drop at bytes.now)) }
+{
+    match field::<1>(bytes, at) {
+        Some(text) => Ok((text[0], at + 1)),
+        None => Err(RowFault::Bad { at: start }),
+    }
+}
+
+#[tactic(auto, unfolding(crate::specs::Reading::number_at))]
+pub fn number_u16(bytes: &[u8], start: usize, at: usize) -> Result<(u16, usize), RowFault>
+    requires { at ≤ length bytes.now }
+    ensures { Gives (λ n. n) bytes.now start result (number_at w16 (drop at bytes.now)) }
+{
+    match field::<2>(bytes, at) {
+        Some(text) => Ok((u16::from_be_bytes(text), at + 2)),
+        None => Err(RowFault::Bad { at: start }),
+    }
+}
+
+#[tactic(auto, unfolding(crate::specs::Reading::number_at))]
+pub fn number_u32(bytes: &[u8], start: usize, at: usize) -> Result<(u32, usize), RowFault>
+    requires { at ≤ length bytes.now }
+    ensures { Gives (λ n. n) bytes.now start result (number_at w32 (drop at bytes.now)) }
+{
+    match field::<4>(bytes, at) {
+        Some(text) => Ok((u32::from_be_bytes(text), at + 4)),
+        None => Err(RowFault::Bad { at: start }),
+    }
+}
+
+#[tactic(auto, unfolding(crate::specs::Reading::number_at))]
+pub fn number_u64(bytes: &[u8], start: usize, at: usize) -> Result<(u64, usize), RowFault>
+    requires { at ≤ length bytes.now }
+    ensures { Gives (λ n. n) bytes.now start result (number_at w64 (drop at bytes.now)) }
+{
+    match field::<8>(bytes, at) {
+        Some(text) => Ok((u64::from_be_bytes(text), at + 8)),
+        None => Err(RowFault::Bad { at: start }),
+    }
+}
+
+/// A number with a sign, in two's complement.
+#[tactic(auto, unfolding(crate::specs::Reading::signed_at, crate::specs::Reading::number_at))]
+pub fn number_i64(bytes: &[u8], start: usize, at: usize) -> Result<(i64, usize), RowFault>
+    requires { at ≤ length bytes.now }
+    ensures { Gives (λ n. n) bytes.now start result (signed_at (drop at bytes.now)) }
+{
+    match field::<8>(bytes, at) {
+        Some(text) => Ok((i64::from_be_bytes(text), at + 8)),
+        None => Err(RowFault::Bad { at: start }),
+    }
+}
+
+/// So many bytes.
+fn text(
+    alloc: Global,
+    bytes: &[u8],
+    start: usize,
+    at: usize,
+    len: usize,
+) -> Result<(Bytes, usize), RowFault>
+    requires { at ≤ length bytes.now }
+    ensures { Gives (λ text. text) bytes.now start result (text_at len (drop at bytes.now)) }
+{
+    sure(len <= bytes.len() - at, start)?;
+    let end = at + len;
+    let text = Vec::from_slice(alloc, &bytes[at..end])?;
+    Ok((Items::from_vec(text), end))
+}
+
+#[tactic(auto, unfolding(crate::specs::Reading::key_at))]
+pub fn key(alloc: Global, bytes: &[u8], start: usize, at: usize) -> Result<(Bytes, usize), RowFault>
+    requires { at ≤ length bytes.now }
+    ensures { Gives (λ key. key) bytes.now start result (key_at (drop at bytes.now)) }
+{
+    let (len, at) = byte(bytes, start, at)?;
+    sure(1 <= len && len <= 64, start)?;
+    text(alloc, bytes, start, at, len as usize)
+}
+
+#[tactic(auto, unfolding(crate::specs::Reading::value_at))]
+pub fn value(
+    alloc: Global,
+    bytes: &[u8],
+    start: usize,
+    at: usize,
+) -> Result<(Bytes, usize), RowFault>
+    requires { at ≤ length bytes.now }
+    ensures { Gives (λ value. value) bytes.now start result (value_at (drop at bytes.now)) }
+{
+    let (len, at) = number_u16(bytes, start, at)?;
+    sure(1 <= len && len <= 256, start)?;
+    text(alloc, bytes, start, at, len as usize)
+}
+
+#[tactic(auto, unfolding(crate::specs::Reading::pair_at))]
+pub fn pair(
+    alloc: Global,
+    bytes: &[u8],
+    start: usize,
+    at: usize,
+) -> Result<((Bytes, Bytes), usize), RowFault>
+    requires { at ≤ length bytes.now }
+    ensures { Gives (λ pair. pair) bytes.now start result (pair_at (drop at bytes.now)) }
+{
+    let (key, at) = key(alloc, bytes, start, at)?;
+    let (value, at) = value(alloc, bytes, start, at)?;
+    Ok(((key, value), at))
+}
+
+#[tactic(auto, unfolding(crate::specs::Reading::child_at))]
+pub fn child(bytes: &[u8], start: usize, at: usize) -> Result<(u32, usize), RowFault>
+    requires { at ≤ length bytes.now }
+    ensures { Gives (λ child. child) bytes.now start result (child_at (drop at bytes.now)) }
+{
+    let (child, at) = number_u32(bytes, start, at)?;
+    sure(1 <= child && child <= 1_048_575, start)?;
+    Ok((child, at))
+}

@@ -1,0 +1,81 @@
+//! Fields that stand one after the other.
+
+ghost use Rattle.std.specs.Prelude.{◌≡◌, ℕ, ◌≤◌, List, Option, length, drop};
+ghost use Rattle.node_record.specs.Reading.{Gives, key_at, pair_at, child_at, items_at};
+
+use crate::fault::RowFault;
+use crate::fields::{child, key, pair};
+use fine_model::{Bytes, Items};
+use std::alloc::Global;
+
+/// What is read from a place on, in a row that starts at `start`.
+pub trait Field: Sized {
+    ghost reads: { List ℕ → Option (Self × List ℕ) };
+
+    fn read(alloc: Global, bytes: &[u8], start: usize, at: usize) -> Result<(Self, usize), RowFault>
+        requires { at ≤ length bytes.now }
+        ensures { Gives (λ x. x) bytes.now start result (reads (drop at bytes.now)) };
+}
+
+/// A key.
+impl Field for Bytes {
+    ghost reads = { key_at };
+
+    fn read(
+        alloc: Global,
+        bytes: &[u8],
+        start: usize,
+        at: usize,
+    ) -> Result<(Bytes, usize), RowFault> {
+        key(alloc, bytes, start, at)
+    }
+}
+
+/// A key and a value.
+impl Field for (Bytes, Bytes) {
+    ghost reads = { pair_at };
+
+    fn read(
+        alloc: Global,
+        bytes: &[u8],
+        start: usize,
+        at: usize,
+    ) -> Result<((Bytes, Bytes), usize), RowFault> {
+        pair(alloc, bytes, start, at)
+    }
+}
+
+/// The number of a child.
+impl Field for u32 {
+    ghost reads = { child_at };
+
+    fn read(
+        _alloc: Global,
+        bytes: &[u8],
+        start: usize,
+        at: usize,
+    ) -> Result<(u32, usize), RowFault> {
+        child(bytes, start, at)
+    }
+}
+
+/// So many fields.
+pub fn items<T: Field + Drop>(
+    alloc: Global,
+    count: u8,
+    bytes: &[u8],
+    start: usize,
+    at: usize,
+) -> Result<(Items<T>, usize), RowFault>
+    requires { at ≤ length bytes.now }
+    ensures { Gives (λ xs. xs) bytes.now start result (items_at T.reads count (drop at bytes.now)) }
+{
+    let mut items = Items::new(alloc);
+    let mut end = at;
+    for _ in 0..count {
+        let (item, after) = T::read(alloc, bytes, start, end)?;
+        items.push(item)?;
+        end = after;
+    }
+    Ok((items, end))
+}

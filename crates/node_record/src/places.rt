@@ -1,0 +1,69 @@
+//! The place of a key among items in the order of their keys.
+
+ghost use Rattle.std.specs.Prelude.{◌≡◌, ◌≤◌, IsTrue, MatchResult, map};
+ghost use Rattle.std.specs.List.Sorted.{IsPartitionPoint};
+ghost use Rattle.fine_model.specs.Map.{is_below, is_ascending};
+ghost use Rattle.node_record.specs.Places.{StandsAt, BelongsAt};
+
+use fine_model::{Bytes, Keys, Pairs};
+
+/// Whether `a` stands before `b` in byte order.
+fn is_below(a: &Bytes, b: &Bytes) -> bool
+    ensures { result ≡ is_below a.now b.now }
+{
+    a.as_slice().cmp(b.as_slice()).is_lt()
+}
+
+/// Whether the keys of pairs ascend strictly.
+pub fn pairs_ascend(pairs: &[(Bytes, Bytes)]) -> bool
+    ensures { result ≡ is_ascending (map (λ p. p.0) pairs.now) }
+{
+    match pairs {
+        [first, rest @ ..] => match rest {
+            [second, ..] => is_below(&first.0, &second.0) && pairs_ascend(rest),
+            [] => true,
+        },
+        [] => true,
+    }
+}
+
+/// Whether keys ascend strictly.
+pub fn keys_ascend(keys: &[Bytes]) -> bool
+    ensures { result ≡ is_ascending keys.now }
+{
+    match keys {
+        [first, rest @ ..] => match rest {
+            [second, ..] => is_below(first, second) && keys_ascend(rest),
+            [] => true,
+        },
+        [] => true,
+    }
+}
+
+/// The place of a pair with the key, or, where there is none, the place where one belongs.
+pub fn find_pair(pairs: &Pairs, key: &Bytes) -> Result<usize, usize>
+    requires { IsTrue (is_ascending (map (λ p. p.0) pairs.now)) }
+    ensures { MatchResult result (λ i. StandsAt (λ p. p.0) key.now pairs.now i) (λ i. BelongsAt (λ p. p.0) key.now pairs.now i) }
+{
+    let i = pairs
+        .as_slice()
+        .partition_point(|pair| is_below(&pair.0, key));
+    if i < pairs.len() && !is_below(key, &pairs.at(i).0) {
+        Ok(i)
+    } else {
+        Err(i)
+    }
+}
+
+/// The place of a key, or, where it is absent, the place where it belongs.
+pub fn find_key(keys: &Keys, key: &Bytes) -> Result<usize, usize>
+    requires { IsTrue (is_ascending keys.now) }
+    ensures { MatchResult result (λ i. StandsAt (λ k. k) key.now keys.now i) (λ i. BelongsAt (λ k. k) key.now keys.now i) }
+{
+    let i = keys.as_slice().partition_point(|each| is_below(each, key));
+    if i < keys.len() && !is_below(key, keys.at(i)) {
+        Ok(i)
+    } else {
+        Err(i)
+    }
+}

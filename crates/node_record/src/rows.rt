@@ -1,0 +1,186 @@
+//! Rows as bytes.
+
+ghost use Rattle.std.specs.Prelude.{◌≡◌, ◌+◌, ◌≤◌, ◌<◌, ◌++◌, ◌==◌, length, drop, vec_len, vec_capacity, IfOk, IfErr, OnOk, OnErr, if◌then◌else◌};
+ghost use Rattle.fine_model.specs.RowBytes.{FitsRec, row_bytes, row_len, last_kind};
+ghost use Rattle.node_record.specs.declared.fault.RowFault.TheVariants as fault;
+ghost use Rattle.node_record.specs.Reading.{Gives, fits_kind, front_at};
+ghost use Rattle.node_record.specs.Rows.{IsRowAt, IsFault, IsReadAgain};
+ghost use Rattle.node_record.specs.Writing.{Appends, front};
+
+use crate::bodies::{head, inner, key, leaf, link, pair, plus};
+use crate::fault::RowFault;
+use crate::fields::{byte, number_u16, number_u32, number_u64, put, sure};
+use crate::front::Front;
+use fine_model::{Mark, NoMemory, NodeId, Rec, Row};
+use std::alloc::Global;
+
+/// The greatest version.
+const GREATEST: u64 = 4_611_686_018_427_387_904;
+
+/// The kinds of rows, one in each line: its number, its fields, and the form of its body.
+macro_rules! kinds {
+    ($each:ident $of:tt) => {
+        $each! { $of
+            1 HeadImage { root, next, depth } head;
+            2 LeafImage { pairs } leaf;
+            3 InnerImage { seps, kids } inner;
+            4 Put { key, value } pair;
+            5 Del { key } key;
+            6 CutLeaf { key } key;
+            7 CutInner { key } key;
+            8 Link { key, child } link;
+            9 Plus { key, by } plus;
+        }
+    };
+}
+
+macro_rules! length_of {
+    (($rec:expr) $($kind:literal $name:ident { $($field:ident),* } $body:ident;)*) => {
+        match $rec {
+            $(Rec::$name { $($field),* } => 19 + $body::len($($field),*),)*
+        }
+    };
+}
+
+macro_rules! read_by {
+    (($alloc:expr, $bytes:expr, $at:expr, $front:expr, $start:expr) $($kind:literal $name:ident { $($field:ident),* } $body:ident;)*) => {
+        match $front.kind {
+            $($kind => {
+                let (($($field),*), end) = $body::read($alloc, $bytes, $at, $start)?;
+                whole($front, Rec::$name { $($field),* }, $at, $start, end)
+            })*
+            _ => Err(RowFault::Bad { at: $at }),
+        }
+    };
+}
+
+macro_rules! write_to {
+    (($out:expr, $row:expr, $len:expr) $($kind:literal $name:ident { $($field:ident),* } $body:ident;)*) => {
+        match &$row.rec {
+            $(Rec::$name { $($field),* } => {
+                write_front($out, $kind, $row, $len - 19);
+                $body::write($out, $($field),*);
+                Ok(())
+            })*
+        }
+    };
+}
+
+/// The number of bytes of a row, at most 10,356. Takes no memory.
+#[tactic(auto, unfolding(fine_model::specs::RowBytes::body))]
+pub fn row_len(row: &Row) -> u32
+    requires { FitsRec row.now.rec }
+    ensures is { result ≡ row_len row.now }
+    ensures most { result ≤ 10356 }
+{
+    kinds!(length_of(&row.rec))
+}
+
+/// What stands before the body.
+#[tactic(auto, unfolding(crate::specs::Writing::front))]
+fn write_front(out: &mut Vec<u8>, kind: u8, row: &Row, len: u32)
+    requires { vec_len out.old + 19 ≤ vec_capacity out.old }
+    ensures { Appends out.old out.new (front kind row.now len) }
+{
+    put(out, &[kind]);
+    put(out, &row.node.bucket.to_be_bytes());
+    put(out, &row.node.number.to_be_bytes());
+    put(out, &row.version.to_be_bytes());
+    put(out, &len.to_be_bytes());
+}
+
+/// Appends the one spelling of a row. After `NoMemory` the bytes are those that stood there.
+pub fn write_row(out: &mut Vec<u8>, row: &Row) -> Result<(), NoMemory>
+    requires { FitsRec row.now.rec }
+    ensures ok { OnOk result (out.new.items ≡ out.old.items ++ row_bytes row.now) }
+    ensures err { OnErr result (out.new.items ≡ out.old.items) }
+{
+    let len = row_len(row);
+    out.reserve(len as usize)?;
+    kinds!(write_to(out, row, len))
+}
+
+/// The greatest kind in a partition of a format.
+fn last_kind(mark: Mark) -> u8
+    ensures { result ≡ last_kind mark }
+{
+    match mark {
+        Mark::One => 8,
+        Mark::Two | Mark::Three => 9,
+    }
+}
+
+/// Whether a row of this kind may name a node of this number.
+fn fits_kind(kind: u8, number: u32) -> bool
+    ensures { result ≡ fits_kind kind number }
+{
+    if kind == 1 { number == 0 } else { number != 0 }
+}
+
+/// What stands before the body of a row.
+#[tactic(auto, unfolding(crate::specs::Reading::front_at))]
+fn read_front(bytes: &[u8], start: usize, mark: Mark) -> Result<(Front, usize), RowFault>
+    requires { start ≤ length bytes.now }
+    ensures { Gives (λ front. front) bytes.now start result (front_at mark (drop start bytes.now)) }
+{
+    let (kind, at) = byte(bytes, start, start)?;
+    sure(kind <= last_kind(mark), start)?;
+    let (bucket, at) = number_u16(bytes, start, at)?;
+    sure(bucket <= 255, start)?;
+    let (number, at) = number_u32(bytes, start, at)?;
+    sure(number <= 1_048_575 && fits_kind(kind, number), start)?;
+    let (version, at) = number_u64(bytes, start, at)?;
+    sure(1 <= version && version <= GREATEST, start)?;
+    let (len, at) = number_u32(bytes, start, at)?;
+    let node = NodeId { bucket, number };
+    Ok((
+        Front {
+            kind,
+            node,
+            version,
+            len,
+        },
+        at,
+    ))
+}
+
+/// A row whose body has the length that its front says.
+fn whole(
+    front: Front,
+    rec: Rec,
+    start: usize,
+    body: usize,
+    end: usize,
+) -> Result<(Row, usize), RowFault>
+    ensures { result ≡ (if end == body + front.len then Ok (record { node = front.node; version = front.version; rec = rec }, end) else Err (fault.Bad start)) }
+{
+    sure(body <= end && end - body == front.len as usize, start)?;
+    Ok((
+        Row {
+            node: front.node,
+            version: front.version,
+            rec,
+        },
+        end,
+    ))
+}
+
+/// Reads the row that starts at a place, by the grammar of a format, and answers it with the place behind it.
+///
+/// `Bad` comes exactly where nothing that starts there is a row of the format, whatever the bytes are. A row that was written is read
+/// again, whatever follows it.
+#[tactic(auto, unfolding(crate::specs::Reading::row_at, crate::specs::Reading::body_at, crate::specs::Reading::keyed_at))]
+pub fn read_row(
+    alloc: Global,
+    bytes: &[u8],
+    at: usize,
+    mark: Mark,
+) -> Result<(Row, usize), RowFault>
+    requires { at ≤ length bytes.now }
+    ensures found { IfOk result (λ found. IsRowAt mark bytes.now at found.0 found.1) }
+    ensures bad { IfErr result (IsFault mark bytes.now at) }
+    ensures again { IsReadAgain mark bytes.now at result }
+{
+    let (front, body) = read_front(bytes, at, mark)?;
+    kinds!(read_by(alloc, bytes, at, front, body))
+}

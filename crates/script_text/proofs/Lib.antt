@@ -1,0 +1,10 @@
+pub mod Told
+pub mod Paging
+pub mod Lining
+pub mod Reporting
+pub mod Putting
+pub mod Wording
+pub mod Aheading
+pub mod Grammars
+pub mod Following
+pub mod Reaching

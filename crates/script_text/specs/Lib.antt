@@ -1,0 +1,10 @@
+pub mod Streams
+pub mod Memory
+pub mod Pages
+pub mod Words
+pub mod Reports
+pub mod Grammar
+pub mod Reading
+pub mod Reads
+pub mod Turns
+pub mod Fits

@@ -1,0 +1,97 @@
+//! A page gathers small pieces before they go to a sink.
+
+ghost use Rattle.std.specs.Prelude.{◌≡◌, [], ◌++◌, false, if◌then◌else◌, IsErr};
+ghost use Rattle.script_text.specs.Pages.{desk, Sends, Finishes};
+
+use super::{Failed, Sink};
+use std::marker::Model;
+
+const PAGE: usize = 1024;
+
+/// The bytes that were said and not yet put. Once the sink has failed nothing more is put.
+#[derive(Drop)]
+pub(crate) struct Page {
+    bytes: [u8; PAGE],
+    len: usize,
+    failed: bool,
+}
+
+impl Model for Page {
+    ghost use Rattle.std.specs.Prelude.{◌≤◌, take};
+    ghost use Rattle.script_text.specs.Pages.{Gathered};
+
+    ghost Value = { Gathered };
+
+    ghost view = { λ p. record { bytes = take p.len p.bytes; failed = p.failed } };
+
+    ghost invariant = { λ p. p.len ≤ 1024 };
+}
+
+impl Page {
+    pub(crate) fn new() -> Page
+        ensures { result ≡ record { bytes = []; failed = false } }
+    {
+        Page {
+            bytes: [0; PAGE],
+            len: 0,
+            failed: false,
+        }
+    }
+
+    /// Gathers the bytes, if there is room for them.
+    fn gather(&mut self, bytes: &[u8]) -> bool
+        ensures bytes { self.new.bytes ≡ (if result then self.old.bytes ++ bytes.now else self.old.bytes) }
+        ensures failed { self.new.failed ≡ self.old.failed }
+    {
+        if PAGE - self.len < bytes.len() {
+            return false;
+        }
+        let end = self.len + bytes.len();
+        self.bytes[self.len..end].copy_from_slice(bytes);
+        self.len = end;
+        true
+    }
+
+    /// Puts what was gathered.
+    fn flush<K: Sink>(&mut self, sink: &mut K)
+        ensures sends { Sends [] (desk (K.written sink.old) (K.faults sink.old) self.old) (desk (K.written sink.new) (K.faults sink.new) self.new) }
+        ensures empty { self.new.bytes ≡ [] }
+    {
+        let held = self.len;
+        self.len = 0;
+        if self.failed {
+            return;
+        }
+        self.failed = sink.put(&self.bytes[..held]).is_err();
+    }
+
+    /// Puts bytes past the empty page.
+    fn pass<K: Sink>(&mut self, sink: &mut K, bytes: &[u8])
+        requires { self.old.bytes ≡ [] }
+        ensures { Sends bytes.now (desk (K.written sink.old) (K.faults sink.old) self.old) (desk (K.written sink.new) (K.faults sink.new) self.new) }
+    {
+        if self.failed {
+            return;
+        }
+        self.failed = sink.put(bytes).is_err();
+    }
+
+    /// Says the bytes: they are gathered, or put now.
+    pub(crate) fn say<K: Sink>(&mut self, sink: &mut K, bytes: &[u8])
+        ensures { Sends bytes.now (desk (K.written sink.old) (K.faults sink.old) self.old) (desk (K.written sink.new) (K.faults sink.new) self.new) }
+    {
+        if self.gather(bytes) {
+            return;
+        }
+        self.flush(sink);
+        self.pass(sink, bytes);
+    }
+
+    /// Puts what is left, and answers whether all was put.
+    pub(crate) fn finish<K: Sink>(mut self, sink: &mut K) -> Result<(), Failed>
+        ensures { Finishes (desk (K.written sink.old) (K.faults sink.old) self) (IsErr result) (K.written sink.new) (K.faults sink.new) }
+    {
+        self.flush(sink);
+        if self.failed { Err(Failed) } else { Ok(()) }
+    }
+}

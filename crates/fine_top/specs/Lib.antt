@@ -1,0 +1,4 @@
+pub mod Gates
+pub mod Words
+pub mod FirstPath
+pub mod Ends

@@ -1,0 +1,22 @@
+-- The words that the program takes today.
+use Rattle.std.specs.Prelude.{◌≡◌, ℕ, ◌%◌, ◌≤◌, nat_le, if◌then◌else◌, List, [], ◌∷◌, map, slice_get, Option, Some, None, option_and_then, String, string_bytes, codes}
+use Rattle.std.specs.declared.alloc.Global.{Global}
+use Rattle.fine_model.specs.Words.{geometry_of}
+
+-- the one word `run`
+abbrev pub IsRun : List (String Global) → Type 0
+IsRun words = map string_bytes words ≡ codes "run" ∷ []
+
+-- a geometry whose regions have at least 16384 bytes, in which one epoch fits
+abbrev pub long_enough : ℕ × ℕ → Option (ℕ × ℕ)
+long_enough geometry = if nat_le 16384 geometry.1 then Some geometry else None
+
+-- the geometry that the second word spells
+abbrev pub geometry_in : List (String Global) → Option (ℕ × ℕ)
+geometry_in words = option_and_then (λ word. option_and_then long_enough (geometry_of (string_bytes word))) (slice_get words 1)
+
+-- 4 to 64 regions of 16 KiB to 64 MiB, in whole KiB
+pub record IsGeometry (geometry : ℕ × ℕ) : Type 0 where
+  pub regions : (4 ≤ geometry.0) × (geometry.0 ≤ 64)
+  pub region_len : (16384 ≤ geometry.1) × (geometry.1 ≤ 67108864)
+  pub whole_kib : geometry.1 % 1024 ≡ 0

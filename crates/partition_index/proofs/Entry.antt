@@ -1,0 +1,128 @@
+-- Entries as their bytes say, and what is bad of them.
+use Rattle.std.proofs.Common.{◌≡◌, ℕ, ◌+◌, ◌<◌, ◌≤◌, true, false, List, length, take, drop, refl, sym, ap, ◌∙◌, arith, Option, Ok, Err}
+use Rattle.std.specs.Prelude.{slice_range, nat_lt}
+use Rattle.std.specs.Int.{from_be_bytes, w16, w32}
+use Rattle.std.proofs.lemmas.List.{drop-take, take-take, drop-drop}
+use Rattle.log_disk.specs.Disk.{Eye}
+use Rattle.fine_model.specs.declared.Header.{Header}
+use Rattle.fine_model.specs.declared.Part.{Part}
+use Rattle.fine_model.specs.Regions.{Image, body_in}
+use Rattle.fine_model.specs.Seek.{entry_of, entry_at, entry_place, is_entry, span_at, span_end, is_followed}
+use Rattle.partition_index.specs.Entries.{model_of}
+use Rattle.partition_index.specs.Parts.{LooksAt}
+use Rattle.std.proofs.lemmas.Bool.{lt-ltb, le-ltb}
+use Rattle.std.proofs.lemmas.Bool.Decides.{nat_tests}
+use Rattle.partition_index.specs.Search.{IfTold, IsEntryAt, IsEndOf, IsSpanAt, IsBadAt}
+use Rattle.fine_model.specs.Seek.{IndexEntry as ModelEntry}
+use Rattle.partition_index.specs.declared.entries.IndexEntry.{IndexEntry}
+use Rattle.partition_index.proofs.Looking.{each_told, told_as, range_is}
+
+-- a field behind a place, in the bytes from the place on
+field : (xs : List ℕ) (at k n m : ℕ) → n ≤ m → take n (drop (at + k) xs) ≡ take n (drop k (take (k + m) (drop at xs)))
+field xs at k n m h = sym (ap (take n) (drop-take k m (drop at xs)) ∙ take-take n m (drop k (drop at xs)) h ∙ ap (take n) (drop-drop k at xs))
+
+-- an entry is its 14 bytes
+pub entry_from : (body : List ℕ) (at : ℕ) → entry_of body at ≡ entry_of (take 14 (drop at body)) 0
+entry_from body at =
+    let a : take 2 (drop at body) ≡ take 2 (take 14 (drop at body)) = sym (take-take 2 14 (drop at body) (omega arith)) in
+    let b : take 4 (drop (at + 2) body) ≡ take 4 (drop 2 (take 14 (drop at body))) = field body at 2 4 12 (omega arith) in
+    let c : take 4 (drop (at + 6) body) ≡ take 4 (drop 6 (take 14 (drop at body))) = field body at 6 4 8 (omega arith) in
+    let d : take 4 (drop (at + 10) body) ≡ take 4 (drop 10 (take 14 (drop at body))) = field body at 10 4 4 (omega arith) in
+    λ i. record {
+      node = record { bucket = from_be_bytes w16 (a i); number = from_be_bytes w32 (b i) };
+      offset = from_be_bytes w32 (c i);
+      rows = from_be_bytes w32 (d i);
+    }
+
+-- what was read is the entry, where the eye tells its bytes
+pub told_entry : (old new : Eye) (p : Part) (at i : ℕ) (out : List ℕ) (entry : IndexEntry) (failed : Type 0) → LooksAt p at out failed old new → (failed → ⊥) → at ≡ entry_place p.header i → length out ≡ 14
+    → model_of entry ≡ entry_of out 0 → IfTold old.told p (λ body. entry_at p.header body i ≡ model_of entry)
+told_entry old new p at i out entry failed look is place long spelled =
+    each_told (λ image. entry_at p.header (body_in image p.region p.header) i ≡ model_of entry) old.told
+    (λ image t.
+    let body : List ℕ = body_in image p.region p.header in
+    let read : out ≡ slice_range body at (at + length out) = told_as (λ j. out ≡ slice_range (body_in j p.region p.header) at (at + length out)) old.told image t (look.bytes is) in
+    let bytes : out ≡ take 14 (drop (entry_place p.header i) body) = read ∙ range_is body at (at + length out) 14 (ap (λ n. at + n) long) ∙ ap (λ n. take 14 (drop n body)) place in
+    entry_from body (entry_place p.header i) ∙ sym (ap (λ xs. entry_of xs 0) bytes) ∙ sym spelled)
+
+-- what a span is, by the tests
+pub span_bad : (header : Header) (body : List ℕ) (i : ℕ) → is_entry header (entry_at header body i) ≡ false → span_at header body i ≡ Err (entry_place header i)
+unfolding span_at
+span_bad header body i h = rw h refl
+
+pub span_empty : (header : Header) (body : List ℕ) (i : ℕ) → is_entry header (entry_at header body i) ≡ true → is_followed header body i ≡ true → nat_lt (entry_at header body i).offset (span_end header body i) ≡ false
+    → span_at header body i ≡ Err (entry_place header i)
+unfolding span_at
+span_empty header body i a b c = rw (a, b, c) refl
+
+pub span_good : (header : Header) (body : List ℕ) (i : ℕ) → is_entry header (entry_at header body i) ≡ true → is_followed header body i ≡ true → nat_lt (entry_at header body i).offset (span_end header body i) ≡ true
+    → span_at header body i ≡ Ok (record { at = (entry_at header body i).offset; end = span_end header body i; rows = (entry_at header body i).rows })
+unfolding span_at
+span_good header body i a b c = rw (a, b, c) refl
+
+-- what was read is no entry
+pub bad_entry : (known : Option Image) (p : Part) (at i : ℕ) (entry : IndexEntry) → i < p.header.nodes → at ≡ entry_place p.header i → is_entry p.header (model_of entry) ≡ false
+    → IfTold known p (λ body. entry_at p.header body i ≡ model_of entry) → IsBadAt known p at
+bad_entry known p at i entry there place none told = record {
+  entry = i;
+  there = there;
+  place = place;
+  told = each_told (λ image. (j : ℕ) × (j < p.header.nodes) × (span_at p.header (body_in image p.region p.header) j ≡ Err at)) known
+      (λ image t.
+      let body : List ℕ = body_in image p.region p.header in
+      let is : entry_at p.header body i ≡ model_of entry = told_as (λ j. entry_at p.header (body_in j p.region p.header) i ≡ model_of entry) known image t told in
+      (i, there, span_bad p.header body i (ap (is_entry p.header) is ∙ none) ∙ ap Err (sym place)));
+}
+
+entry_sound : (header : Header) (e : ModelEntry) → is_entry header e ≡ true → (e.offset < header.area) × (1 ≤ e.rows) × (e.rows ≤ header.rows)
+entry_sound header e h = grind (arith, nat_tests)
+
+-- the end of an entry's span is the next entry's offset, or the end of the rows
+pub end_next : (known : Option Image) (p : Part) (i : ℕ) (entry : IndexEntry) → i + 1 < p.header.nodes → IsEntryAt known p (i + 1) entry → IsEndOf known p i entry.offset
+end_next known p i entry there e = record {
+  within = omega (arith, entry_sound p.header (model_of entry) e.sound);
+  told = each_told (λ image. (is_followed p.header (body_in image p.region p.header) i ≡ true) × (span_end p.header (body_in image p.region p.header) i ≡ entry.offset)) known
+      (λ image t.
+      let is : entry_at p.header (body_in image p.region p.header) (i + 1) ≡ model_of entry = told_as (λ j. entry_at p.header (body_in j p.region p.header) (i + 1) ≡ model_of entry) known image t e.told in
+      let more : nat_lt (i + 1) p.header.nodes ≡ true = lt-ltb (i + 1) p.header.nodes there in
+      (rw more (ap (is_entry p.header) is ∙ e.sound), rw more (ap (λ x. x.offset) is)));
+}
+
+pub end_last : (known : Option Image) (p : Part) (i : ℕ) → p.header.nodes ≤ i + 1 → IsEndOf known p i p.header.area
+end_last known p i none = record {
+  within = omega arith;
+  told = each_told (λ image. (is_followed p.header (body_in image p.region p.header) i ≡ true) × (span_end p.header (body_in image p.region p.header) i ≡ p.header.area)) known
+      (λ image t. let more : nat_lt (i + 1) p.header.nodes ≡ false = le-ltb (i + 1) p.header.nodes none in (rw more refl, rw more refl));
+}
+
+-- the span of an entry, where it is not empty
+pub span_some : (known : Option Image) (p : Part) (i end : ℕ) (entry : IndexEntry) → IsEntryAt known p i entry → IsEndOf known p i end → entry.offset < end
+    → IsSpanAt known p i (record { at = entry.offset; end = end; rows = entry.rows })
+span_some known p i end entry e f some =
+    let sound = entry_sound p.header (model_of entry) e.sound in record {
+      some = some;
+      within = f.within;
+      counted = (sound.1, sound.2);
+      told = each_told (λ image. span_at p.header (body_in image p.region p.header) i ≡ Ok (record { at = entry.offset; end = end; rows = entry.rows })) known
+          (λ image t.
+          let body : List ℕ = body_in image p.region p.header in
+          let is : entry_at p.header body i ≡ model_of entry = told_as (λ j. entry_at p.header (body_in j p.region p.header) i ≡ model_of entry) known image t e.told in
+          let ends : (is_followed p.header body i ≡ true) × (span_end p.header body i ≡ end) = told_as (λ j. (is_followed p.header (body_in j p.region p.header) i ≡ true) × (span_end p.header (body_in j p.region p.header) i ≡ end)) known image t f.told in
+          let more : nat_lt (entry_at p.header body i).offset (span_end p.header body i) ≡ true = ap (λ x. nat_lt x.offset (span_end p.header body i)) is ∙ ap (nat_lt entry.offset) ends.1 ∙ lt-ltb entry.offset end some in
+          span_good p.header body i (ap (is_entry p.header) is ∙ e.sound) ends.0 more
+          ∙ λ k. Ok (record { at = (is k).offset; end = ends.1 k; rows = (is k).rows }));
+    }
+
+pub span_none : (known : Option Image) (p : Part) (i at end : ℕ) (entry : IndexEntry) → i < p.header.nodes → at ≡ entry_place p.header i → IsEntryAt known p i entry → IsEndOf known p i end → end ≤ entry.offset → IsBadAt known p at
+span_none known p i at end entry there place e f none = record {
+  entry = i;
+  there = there;
+  place = place;
+  told = each_told (λ image. (j : ℕ) × (j < p.header.nodes) × (span_at p.header (body_in image p.region p.header) j ≡ Err at)) known
+      (λ image t.
+      let body : List ℕ = body_in image p.region p.header in
+      let is : entry_at p.header body i ≡ model_of entry = told_as (λ j. entry_at p.header (body_in j p.region p.header) i ≡ model_of entry) known image t e.told in
+      let ends : (is_followed p.header body i ≡ true) × (span_end p.header body i ≡ end) = told_as (λ j. (is_followed p.header (body_in j p.region p.header) i ≡ true) × (span_end p.header (body_in j p.region p.header) i ≡ end)) known image t f.told in
+      let more : nat_lt (entry_at p.header body i).offset (span_end p.header body i) ≡ false = ap (λ x. nat_lt x.offset (span_end p.header body i)) is ∙ ap (nat_lt entry.offset) ends.1 ∙ le-ltb entry.offset end none in
+      (i, there, span_empty p.header body i (ap (is_entry p.header) is ∙ e.sound) ends.0 more ∙ ap Err (sym place)));
+}

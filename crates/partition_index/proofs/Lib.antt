@@ -1,0 +1,9 @@
+pub mod BodyPlaces
+pub mod Looking
+pub mod NodeOrder
+pub mod Opened
+pub mod Entry
+pub mod Sorted
+pub mod InGrammar
+pub mod Narrowed
+pub mod Exact

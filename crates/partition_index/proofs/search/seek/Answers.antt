@@ -1,0 +1,87 @@
+use Rattle.std.proofs.Common.{◌≡◌, ◌∙◌, ◌+◌, ◌-◌, ◌*◌, ◌/◌, ◌<◌, sym, ap, subst, inl, inr, Ok, Err, Some, rules, arith, get_or}
+use Rattle.fine_model.specs.Merge.{nodes_in, is_node_below}
+use Rattle.partition_index.specs.Search.{IsBadAt, IsSpanAt, IsEntryAt, sought}
+use Rattle.partition_index.proofs.Looking.{seen_same, same_then}
+use Rattle.partition_index.proofs.Exact.{only_failed, entry_exact, span_exact, there_in}
+use Rattle.fine_model.specs.Seek.{binary_digits}
+use Rattle.fine_model.proofs.NodesIn.{exact_nodes}
+use Rattle.partition_index.proofs.Narrowed.{spend, less_below, greater_above, narrow_up, narrow_down, narrowed_none, sought_some}
+use Rattle.partition_index.proofs.search.seek.Goals as goal
+
+pub returns-in_err-entry-clause-exact : goal.returns-in_err-entry-clause-exact
+returns-in_err-entry-clause-exact g c rows t =
+    let eye = g.E.LogEye.state c.args.eye.now in
+    let p = c.args.part.now in
+    let same : c.from_residual.result ≡ Err c.in_err-entry.field-0.0 = search rules in
+    inl (same ∙ ap Err (only_failed eye p rows c.in_err-entry.field-0.0 c.requires.seen t
+    (λ at is. subst (λ known. IsBadAt known p at) c.loop-low.invariant.same.told (c.in_err-entry.ensures.bad at (ap Err is)))))
+
+pub loop-low-preserved-in-Less : goal.loop-low-preserved-in-Less
+loop-low-preserved-in-Less g c =
+    let state = g.E.LogEye.state in
+    let p = c.args.part.now in
+    let l = c.loop-low in
+    let read = c.in_ok-entry.ensures in
+    let middle = l.low + (l.high - l.low) / 2 in
+    let there : middle < p.header.nodes = omega (arith, l.invariant.within) in
+    record {
+      order = omega arith;
+      within = l.invariant.within;
+      same = same_then (state c.args.eye.now) (state l.eye) (state c.read_entry.new.eye) l.invariant.same read.eye.same;
+      steady = search rules;
+      taken = spend (14 * binary_digits p.header.nodes) (state c.args.eye.now).taken (state l.eye).taken (state c.read_entry.new.eye).taken (l.high - l.low) (l.high - (middle + 1)) (omega arith) (omega arith) (omega arith) l.invariant.taken read.eye.taken;
+      narrowed = λ rows t.
+          (let entry = entry_exact (state c.args.eye.now) p rows middle c.in_ok-entry.entry c.args.node c.requires.seen t there (subst (λ known. IsEntryAt known p middle c.in_ok-entry.entry) l.invariant.same.told read.ok) in
+          narrow_up rows c.args.node l.low l.high middle c.args.node (l.invariant.narrowed rows t) (omega arith) (there_in (state c.args.eye.now) p rows middle c.requires.seen t there)
+          (sym (ap (λ e. is_node_below e.node c.args.node) entry) ∙ less_below c.in_ok-entry.entry.node c.args.node c.in-Less.ensures));
+    }
+
+pub loop-low-preserved : goal.loop-low-preserved
+loop-low-preserved g c =
+    let state = g.E.LogEye.state in
+    let p = c.args.part.now in
+    let l = c.loop-low in
+    let read = c.in_ok-entry.ensures in
+    let middle = l.low + (l.high - l.low) / 2 in
+    let there : middle < p.header.nodes = omega (arith, l.invariant.within) in
+    record {
+      order = omega arith;
+      within = omega (arith, l.invariant.within);
+      same = same_then (state c.args.eye.now) (state l.eye) (state c.read_entry.new.eye) l.invariant.same read.eye.same;
+      steady = search rules;
+      taken = spend (14 * binary_digits p.header.nodes) (state c.args.eye.now).taken (state l.eye).taken (state c.read_entry.new.eye).taken (l.high - l.low) (middle - l.low) (omega arith) (omega arith) (omega arith) l.invariant.taken read.eye.taken;
+      narrowed = λ rows t.
+          (let entry = entry_exact (state c.args.eye.now) p rows middle c.in_ok-entry.entry c.args.node c.requires.seen t there (subst (λ known. IsEntryAt known p middle c.in_ok-entry.entry) l.invariant.same.told read.ok) in
+          narrow_down rows c.args.node l.low l.high middle c.args.node (l.invariant.narrowed rows t) (there_in (state c.args.eye.now) p rows middle c.requires.seen t there)
+          (sym (ap (λ e. is_node_below c.args.node e.node) entry) ∙ greater_above c.in_ok-entry.entry.node c.args.node c.in-Greater.ensures));
+    }
+
+pub returns-in-Equal-clause-exact : goal.returns-in-Equal-clause-exact
+returns-in-Equal-clause-exact g c rows t =
+    let state = g.E.LogEye.state in
+    let p = c.args.part.now in
+    let l = c.loop-low in
+    let middle = l.low + (l.high - l.low) / 2 in
+    let there : middle < p.header.nodes = omega (arith, l.invariant.within) in
+    let entry = entry_exact (state c.args.eye.now) p rows middle c.in_ok-entry.entry c.args.node c.requires.seen t there (subst (λ known. IsEntryAt known p middle c.in_ok-entry.entry) l.invariant.same.told c.in_ok-entry.ensures.ok) in
+    let span = span_exact (state c.args.eye.now) p rows middle c.in_ok-span-in-Equal.span c.args.node c.requires.seen t there
+    (subst (λ known. IsSpanAt known p middle c.in_ok-span-in-Equal.span) (c.read_entry.ensures.eye.same.told ∙ l.invariant.same.told) c.in_ok-span-in-Equal.ensures.ok) in
+    let same : get_or (nodes_in rows) middle c.args.node ≡ c.args.node = sym (ap (λ e. e.node) entry) ∙ exact_nodes c.in_ok-entry.entry.node c.args.node (sym c.in-Equal.ensures) in
+    inr (ap (λ s. Ok (Some s)) span ∙ ap Ok (sym (sought_some rows middle c.args.node (there_in (state c.args.eye.now) p rows middle c.requires.seen t there)) ∙ ap (sought rows) same))
+
+pub span_of-requires-clause-seen : goal.span_of-requires-clause-seen
+span_of-requires-clause-seen g c κs within =
+    let state = g.E.LogEye.state in
+    seen_same (state c.args.eye.now) (state c.read_entry.new.eye) c.args.part.now (same_then (state c.args.eye.now) (state c.loop-low.eye) (state c.read_entry.new.eye) c.loop-low.invariant.same c.read_entry.ensures.eye.same) c.requires.seen
+
+pub returns-in_err-span-in-Equal-clause-exact : goal.returns-in_err-span-in-Equal-clause-exact
+returns-in_err-span-in-Equal-clause-exact g c rows t =
+    let eye = g.E.LogEye.state c.args.eye.now in
+    let p = c.args.part.now in
+    let same : c.from_residual-in_err-span-in-Equal.result ≡ Err c.in_err-span-in-Equal.field-0.0 = search rules in
+    inl (same ∙ ap Err (only_failed eye p rows c.in_err-span-in-Equal.field-0.0 c.requires.seen t
+    (λ at is. subst (λ known. IsBadAt known p at) (c.read_entry.ensures.eye.same.told ∙ c.loop-low.invariant.same.told) (c.in_err-span-in-Equal.ensures.bad at (ap Err is)))))
+
+pub returns-clause-exact : goal.returns-clause-exact
+returns-clause-exact g c rows t =
+    inr (ap Ok (sym (narrowed_none rows c.args.node c.loop-low.low c.loop-low.high (c.loop-low.invariant.narrowed rows t) c.loop-low-test.false)))

@@ -1,0 +1,17 @@
+//! The index of a partition: its entries, and the search for a node through an eye.
+//!
+//! Behind its rows a partition has an entry of 14 bytes for each node, in the order of the nodes: the bucket in two bytes, the
+//! number in four, the offset of the node's first row in four, and the number of its rows in four. All numbers are big-endian.
+#![tactic(auto)]
+
+mod built;
+mod entries;
+mod places;
+mod search;
+#[cfg(test)]
+mod tests;
+
+pub use built::{build, index_law};
+pub use entries::{IndexEntry, SeekFault, Span, entry_bytes, entry_law, entry_of};
+pub use places::{place_of, read_body};
+pub use search::{entry_at, seek};

@@ -1,0 +1,169 @@
+//! The search for a node in the index of a part, through an eye.
+
+ghost use Rattle.std.specs.Prelude.{◌≡◌, ◌⊎◌, ℕ, ◌+◌, ◌*◌, ◌<◌, IfOk, IfErr, IfSome, IsErrOf, List, Some, Ok, Err, slice_get};
+ghost use Rattle.fine_model.specs.declared.NodeId.{NodeId};
+ghost use Rattle.fine_model.specs.declared.Row.{Row};
+ghost use Rattle.fine_model.specs.Merge.{nodes_in};
+ghost use Rattle.fine_model.specs.Seek.{is_entry, entry_place, most_taken};
+ghost use Rattle.partition_index.specs.declared.entries.SeekFault.TheVariants as fault;
+ghost use Rattle.partition_index.specs.Entries.{model_of, entry_for};
+ghost use Rattle.partition_index.specs.Parts.{IsSeen};
+ghost use Rattle.partition_index.specs.Search.{Searches, IsEntryAt, IsEndOf, IsSpanAt, IsSpanOf, IsBadAt, TellsRows, span_for, sought};
+
+use crate::entries::{IndexEntry, SeekFault, Span, entry_of};
+use crate::places::read_body;
+use fine_model::{Header, NodeId, Part};
+use log_disk::LogEye;
+use std::cmp::Ordering;
+
+// Whether an entry may stand behind a header.
+fn may_stand(header: &Header, entry: &IndexEntry) -> bool
+    ensures { result ≡ is_entry header.now (model_of entry.now) }
+{
+    entry.node.bucket <= 255
+        && entry.node.number < 1_048_576
+        && entry.offset < header.area
+        && 1 <= entry.rows
+        && entry.rows <= header.rows
+}
+
+// The place in the body of an entry.
+fn entry_place(header: &Header, i: u32) -> u32
+    requires { entry_place header.now i < 4294967296 }
+    ensures { result ≡ entry_place header.now i }
+{
+    header.area + 14 * i
+}
+
+// The entry of a number, if it may stand there.
+fn read_entry<E: LogEye>(
+    eye: &mut E,
+    part: &Part,
+    i: u32,
+    region_len: u64,
+) -> Result<IndexEntry, SeekFault>
+    requires seen { IsSeen (E.LogEye.state eye.old) part.now }
+    requires region_len { region_len ≡ (E.LogEye.state eye.old).region_len }
+    requires there { i < part.now.header.nodes }
+    ensures eye { Searches (IsErrOf result fault.Failed) 14 (E.LogEye.state eye.old) (E.LogEye.state eye.new) }
+    ensures ok { IfOk result (IsEntryAt (E.LogEye.state eye.old).told part.now i) }
+    ensures bad { (at : ℕ) → IsErrOf result (fault.BadIndex at) → IsBadAt (E.LogEye.state eye.old).told part.now at }
+{
+    let at = entry_place(&part.header, i);
+    let mut bytes = [0; 14];
+    if read_body(eye, part, region_len, at, &mut bytes).is_err() {
+        return Err(SeekFault::Failed);
+    }
+    let entry = entry_of(bytes);
+    if !may_stand(&part.header, &entry) {
+        return Err(SeekFault::BadIndex { at });
+    }
+    Ok(entry)
+}
+
+// The end of the span of an entry: the offset of the next one, or the end of the rows.
+fn end_of<E: LogEye>(eye: &mut E, part: &Part, i: u32, region_len: u64) -> Result<u32, SeekFault>
+    requires seen { IsSeen (E.LogEye.state eye.old) part.now }
+    requires region_len { region_len ≡ (E.LogEye.state eye.old).region_len }
+    requires there { i < part.now.header.nodes }
+    ensures eye { Searches (IsErrOf result fault.Failed) 14 (E.LogEye.state eye.old) (E.LogEye.state eye.new) }
+    ensures ok { IfOk result (IsEndOf (E.LogEye.state eye.old).told part.now i) }
+    ensures bad { (at : ℕ) → IsErrOf result (fault.BadIndex at) → IsBadAt (E.LogEye.state eye.old).told part.now at }
+{
+    if i + 1 < part.header.nodes {
+        let next = read_entry(eye, part, i + 1, region_len)?;
+        return Ok(next.offset);
+    }
+    Ok(part.header.area)
+}
+
+// The span of an entry.
+fn span_of<E: LogEye>(
+    eye: &mut E,
+    part: &Part,
+    i: u32,
+    entry: &IndexEntry,
+    region_len: u64,
+) -> Result<Span, SeekFault>
+    requires seen { IsSeen (E.LogEye.state eye.old) part.now }
+    requires region_len { region_len ≡ (E.LogEye.state eye.old).region_len }
+    requires there { i < part.now.header.nodes }
+    requires entry { IsEntryAt (E.LogEye.state eye.old).told part.now i entry.now }
+    ensures eye { Searches (IsErrOf result fault.Failed) 14 (E.LogEye.state eye.old) (E.LogEye.state eye.new) }
+    ensures ok { IfOk result (IsSpanAt (E.LogEye.state eye.old).told part.now i) }
+    ensures bad { (at : ℕ) → IsErrOf result (fault.BadIndex at) → IsBadAt (E.LogEye.state eye.old).told part.now at }
+{
+    let end = end_of(eye, part, i, region_len)?;
+    if end <= entry.offset {
+        return Err(SeekFault::BadIndex {
+            at: entry_place(&part.header, i),
+        });
+    }
+    Ok(Span {
+        at: entry.offset,
+        end,
+        rows: entry.rows,
+    })
+}
+
+/// An entry of a part's index, by its number, and its span.
+///
+/// `Failed` comes only where the eye's count of faults rose in this call. `BadIndex` comes only where, by the bytes read in this
+/// call, the entry at that offset of the body is none, or the span of the one sought is empty. No memory is taken.
+pub fn entry_at<E: LogEye>(
+    eye: &mut E,
+    part: &Part,
+    i: u32,
+    region_len: u64,
+) -> Result<(IndexEntry, Span), SeekFault>
+    requires seen { IsSeen (E.LogEye.state eye.old) part.now }
+    requires region_len { region_len ≡ (E.LogEye.state eye.old).region_len }
+    requires there { i < part.now.header.nodes }
+    ensures eye { Searches (IsErrOf result fault.Failed) 28 (E.LogEye.state eye.old) (E.LogEye.state eye.new) }
+    ensures entry { IfOk result (λ r. IsEntryAt (E.LogEye.state eye.old).told part.now i r.0) }
+    ensures span { IfOk result (λ r. IsSpanAt (E.LogEye.state eye.old).told part.now i r.1) }
+    ensures bad { (at : ℕ) → IsErrOf result (fault.BadIndex at) → IsBadAt (E.LogEye.state eye.old).told part.now at }
+    ensures exact { (rows : List Row) → TellsRows (E.LogEye.state eye.old) part.now rows
+        → (result ≡ Err fault.Failed) ⊎ ((id : NodeId) × (slice_get (nodes_in rows) i ≡ Some id) × (result ≡ Ok (entry_for rows id, span_for rows id))) }
+{
+    let entry = read_entry(eye, part, i, region_len)?;
+    let span = span_of(eye, part, i, &entry, region_len)?;
+    Ok((entry, span))
+}
+
+/// The span of a node's rows, or None where the index has no entry of it.
+///
+/// The index is searched by halves, one entry at a time. In a region in the grammar the answer is exact. On other bytes a span is
+/// that of an entry which names the node. `Failed` comes only where the eye's count of faults rose in this call. `BadIndex` comes
+/// only where, by the bytes read in this call, the entry at that offset of the body is none, or the span of the one sought is
+/// empty. No memory is taken.
+pub fn seek<E: LogEye>(
+    eye: &mut E,
+    part: &Part,
+    node: NodeId,
+    region_len: u64,
+) -> Result<Option<Span>, SeekFault>
+    requires seen { IsSeen (E.LogEye.state eye.old) part.now }
+    requires region_len { region_len ≡ (E.LogEye.state eye.old).region_len }
+    ensures eye { Searches (IsErrOf result fault.Failed) (most_taken part.now.header.nodes) (E.LogEye.state eye.old) (E.LogEye.state eye.new) }
+    ensures span { IfOk result (λ found. IfSome found (IsSpanOf (E.LogEye.state eye.old).told part.now node)) }
+    ensures bad { (at : ℕ) → IsErrOf result (fault.BadIndex at) → IsBadAt (E.LogEye.state eye.old).told part.now at }
+    ensures exact { (rows : List Row) → TellsRows (E.LogEye.state eye.old) part.now rows
+        → (result ≡ Err fault.Failed) ⊎ (result ≡ Ok (sought rows node)) }
+{
+    let mut low = 0;
+    let mut high = part.header.nodes;
+    while low < high {
+        let middle = low + (high - low) / 2;
+        let entry = read_entry(eye, part, middle, region_len)?;
+        match entry.node.cmp(&node) {
+            Ordering::Less => low = middle + 1,
+            Ordering::Greater => high = middle,
+            Ordering::Equal => {
+                let span = span_of(eye, part, middle, &entry, region_len)?;
+                return Ok(Some(span));
+            }
+        }
+    }
+    Ok(None)
+}

@@ -1,0 +1,4 @@
+pub mod Folding
+pub mod Orders
+pub mod Nodes
+pub mod Steps

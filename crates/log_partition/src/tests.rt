@@ -49,7 +49,8 @@ fn header_of(bytes: &[u8], region_len: u64) -> Result<Option<Header>, u32> {
 #[test]
 fn a_header_is_read_and_written(rt: HostRuntime) {
     assert_eq!(rt; header_of(&PUT, 4_194_304), Ok(Some(ONE_ROW)));
-    assert_eq!(rt; &header_bytes(&ONE_ROW, 4_194_304)[..40], &PUT[1..41]);
+    let bytes = header_bytes(&ONE_ROW, 4_194_304);
+    assert_eq!(rt; bytes.as_slice().get(..40), PUT.as_slice().get(1..41));
     let mut closed = PUT;
     closed[0] = 0;
     assert_eq!(rt; header_of(&closed, 4_194_304), Ok(None));
@@ -220,7 +221,8 @@ fn partitions_are_encoded_byte_by_byte(rt: HostRuntime) -> Result<(), Fail> {
         ..ONE_ROW
     };
     let (_, bytes) = encoded(alloc, &header, &image, 4096)?;
-    assert_eq!(rt; &bytes.ok().ok_or("too long")?[40..], &image[..]);
+    let bytes = bytes.ok().ok_or("too long")?;
+    assert_eq!(rt; bytes.as_slice().get(40..), Some(image.as_slice()));
     Ok(())
 }
 
@@ -264,6 +266,7 @@ fn a_split_takes_471_bytes(rt: HostRuntime) -> Result<(), Fail> {
     };
     let (need, bytes) = encoded(alloc, &header, &body, 4_194_304)?;
     assert_eq!(rt; need, 471);
-    assert_eq!(rt; &bytes.ok().ok_or("too long")?[40..], body.as_slice());
+    let bytes = bytes.ok().ok_or("too long")?;
+    assert_eq!(rt; bytes.as_slice().get(40..), Some(body.as_slice()));
     Ok(())
 }

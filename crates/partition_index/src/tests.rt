@@ -211,6 +211,50 @@ fn refuses_bad_entries(rt: HostRuntime) -> Result<(), Fail> {
     Ok(())
 }
 
+// One row of 24 bytes, of node 1 of bucket 0x61: its entry stands behind it, at 65 of the region.
+const ONE_ROW: Part = Part {
+    region: 0,
+    header: Header {
+        mark: Mark::Two,
+        range: Range { first: 1, last: 1 },
+        rows: 1,
+        nodes: 1,
+        area: 24,
+        regions: 1,
+        more: [0; 7],
+    },
+};
+
+// An eye on region 0 of a new disk, which holds the entry of the one row.
+fn look_at_one(alloc: Global, entry: &[u8; 14]) -> Result<MemEye, DiskRefusal>
+    ensures seen { IfOk result (λ eye. IsSeen eye ONE_ROW) }
+    ensures len { IfOk result (λ eye. eye.region_len ≡ 16384) }
+{
+    let mut disk = MemDisk::new(alloc, 1, LEN, FaultPlan::none(alloc))?;
+    disk.write(0, 65, entry)?;
+    disk.sync()?;
+    let _regions = disk.regions();
+    disk.eye(&[0])
+}
+
+#[test]
+fn a_damaged_entry_is_told_at_its_place(rt: HostRuntime) -> Result<(), Fail> {
+    let node = NodeId {
+        bucket: 0x61,
+        number: 1,
+    };
+    // zeros, and an offset at the end of the rows
+    let table = [[0; 14], [0, 0x61, 0, 0, 0, 1, 0, 0, 0, 24, 0, 0, 0, 1]];
+    for entry in table {
+        let mut eye = look_at_one(rt.alloc(), &entry)?;
+        assert_eq!(rt;
+            seek(&mut eye, &ONE_ROW, node, LEN),
+            Err(SeekFault::BadIndex { at: 24 })
+        );
+    }
+    Ok(())
+}
+
 // A row that removes the key `a`; it has 21 bytes.
 fn row(alloc: Global, number: u32, version: u64) -> Result<Row, AllocError>
     ensures { IfOk result (λ r. r ≡ record { node = record { bucket = 7; number = number }; version = version; rec = rec.Del (97 ∷ []) }) }

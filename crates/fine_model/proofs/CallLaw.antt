@@ -23,7 +23,7 @@ use Rattle.fine_model.proofs.LocalChange.{set_is_local, unset_is_local, Tree, tr
 use Rattle.fine_model.proofs.Small.{small-append}
 
 -- pushed rows that are defined are those of the push
-ok_rows : (push : Push) (new : List Row) → within_limits push ≡ Ok new → push.rows ≡ new
+pub ok_rows : (push : Push) (new : List Row) → within_limits push ≡ Ok new → push.rows ≡ new
 unfolding within_limits
 ok_rows push new is = by (nat_lt 1048576 push.next || nat_lt 8 push.depth) (list_any (λ row. nat_lt greatest row.version) push.rows) is
   where

@@ -22,7 +22,7 @@ rows_long (row ∷ rows) =
     let both_long : length (flat_map row_bytes (row ∷ rows)) ≡ length (row_bytes row) + length (flat_map row_bytes rows) = length-append (row_bytes row) (flat_map row_bytes rows) in
     both_long ∙ ap (λ n. n + length (flat_map row_bytes rows)) (row_long row) ∙ ap (λ n. row_len row + n) rest ∙ sym (sum_by-cons row_len row rows)
 
-entries_long : (rows : List Row) (ids : List NodeId) → length (flat_map (entry_bytes rows) ids) ≡ 14 * length ids
+pub entries_long : (rows : List Row) (ids : List NodeId) → length (flat_map (entry_bytes rows) ids) ≡ 14 * length ids
 unfolding entry_bytes
 entries_long rows [] = refl
 entries_long rows (id ∷ ids) = omega (arith, entries_long rows ids, length-append (entry_bytes rows id) (flat_map (entry_bytes rows) ids))
@@ -47,14 +47,14 @@ both : (a b : Bool) → (a && b) ≡ true → (a ≡ true) × (b ≡ true)
 both true b e = (refl, e)
 both false b e = absurd (cc)
 
-ordered_front : (front more : List Row) → is_ordered (front ++ more) ≡ true → is_ordered front ≡ true
+pub ordered_front : (front more : List Row) → is_ordered (front ++ more) ≡ true → is_ordered front ≡ true
 ordered_front [] more e = refl
 ordered_front (a ∷ []) more e = refl
 ordered_front (a ∷ b ∷ front) more e =
     let s = both (is_row_below a b) (is_ordered (b ∷ (front ++ more))) e in
     ap (λ x. x && is_ordered (b ∷ front)) s.0 ∙ ordered_front (b ∷ front) more s.1
 
-rows_bytes-append : (a b : List Row) → rows_bytes (a ++ b) ≡ rows_bytes a ++ rows_bytes b
+pub rows_bytes-append : (a b : List Row) → rows_bytes (a ++ b) ≡ rows_bytes a ++ rows_bytes b
 unfolding rows_bytes
 rows_bytes-append [] b = refl
 rows_bytes-append (row ∷ a) b = ap (λ x. row_bytes row ++ x) (rows_bytes-append a b) ∙ sym (append_assoc (row_bytes row) (flat_map row_bytes a) (flat_map row_bytes b))

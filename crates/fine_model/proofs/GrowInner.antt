@@ -90,22 +90,22 @@ module _ (rows : List Row) (bucket : ℕ) (key value : List ℕ) (next : ℕ) (o
     abbrev f : ℕ → List ℕ
     f = reached height old
 
-    abbrev child : ℕ
+    abbrev pub child : ℕ
     child = slice_index kids (place height bucket old key seps)
 
-    abbrev b : Growth
+    abbrev pub b : Growth
     b = growth height bucket old next (key, value) child
 
-    abbrev mid : ℕ → Content
+    abbrev pub mid : ℕ → Content
     mid = nodes_of (rows ++ b.rows) bucket
 
     abbrev version : ℕ
     version = (old number).1
 
-    z : Zip height bucket old key bounds seps kids
+    pub z : Zip height bucket old key bounds seps kids
     z = let w = within_parts bucket bounds key within in zip height bucket old key bounds seps kids good all w.0 w.1
 
-    abbrev z_bounds : Bounds
+    abbrev pub z_bounds : Bounds
     z_bounds = record { low = z.here; high = first_or z.s2 bounds.high }
 
     sums : (ks k1 k2 : List ℕ) (kid : ℕ) → ks ≡ k1 ++ kid ∷ k2 → (n : ℕ) → times n (flat_map f ks) ≡ times n (flat_map f k1) + (times n (f kid) + times n (flat_map f k2))
@@ -116,10 +116,10 @@ module _ (rows : List Row) (bucket : ℕ) (key value : List ℕ) (next : ℕ) (o
     child_part : (n : ℕ) → times n (f child) ≤ times n (flat_map f kids)
     child_part n = let s = sums kids z.k1 z.k2 z.kid z.kids_are n in let e = ap (λ k. times n (f k)) z.goes in omega (arith, s, e)
 
-    once_child : AreOnce next (f child)
+    pub once_child : AreOnce next (f child)
     once_child = once_part next (f child) (number ∷ flat_map f kids) (λ n. let a = child_part n in let t = times-tail n number (flat_map f kids) in omega (arith, a, t)) once
 
-    z_within : is_key_within bucket z_bounds key ≡ true
+    pub z_within : is_key_within bucket z_bounds key ≡ true
     z_within = within_is bucket z_bounds key z.from z.up_to of_bucket
 
     abbrev Below : Bounds → Type 0
@@ -128,16 +128,16 @@ module _ (rows : List Row) (bucket : ℕ) (key value : List ℕ) (next : ℕ) (o
     below_in : (bounds' : Bounds) → IsSubtree height bucket old bounds' child → is_key_within bucket bounds' key ≡ true → Below bounds'
     below_in bounds' subtree in_bounds = each bounds' child subtree in_bounds once_child
 
-    z_child : IsSubtree height bucket old z_bounds child
+    pub z_child : IsSubtree height bucket old z_bounds child
     z_child = subst (IsSubtree height bucket old z_bounds) (sym z.goes) z.child
 
-    g : Below z_bounds
+    pub g : Below z_bounds
     g = below_in z_bounds z_child z_within
 
     number_out : times number (flat_map f kids) ≡ 0
     number_out = let o = once.once number in let s = times-same number (flat_map f kids) in omega (arith, o, s)
 
-    number_low : number < next
+    pub number_low : number < next
     number_low = by (leb_tells next number)
       where
         by : ((leb next number ≡ true) × (next ≤ number)) ⊎ ((leb next number ≡ false) × (number < next)) → number < next
@@ -154,7 +154,7 @@ module _ (rows : List Row) (bucket : ℕ) (key value : List ℕ) (next : ℕ) (o
     not_number : (n : ℕ) → 1 ≤ times n (flat_map f kids) → n ≢ number
     not_number n here e = let o = number_out in let s = ap (λ k. times k (flat_map f kids)) e in absurd (omega (arith, here, o, s))
 
-    mid_number : mid number ≡ old number
+    pub mid_number : mid number ≡ old number
     mid_number = let c = child_part number in let o = number_out in let gr = g.grown in gr.others number (omega (arith, c, o)) (inl number_low)
 
     -- nodes of the other children stay

@@ -71,13 +71,13 @@ legal_front first before after legal = record {
 }
 
 -- a history item by item, from its end
-taken : {A : Type 0} (xs : List A) (n : ℕ) → n < length xs → (x : A) × (slice_get xs n ≡ Some x) × (take (suc n) xs ≡ take n xs ++ x ∷ [])
+pub taken : {A : Type 0} (xs : List A) (n : ℕ) → n < length xs → (x : A) × (slice_get xs n ≡ Some x) × (take (suc n) xs ≡ take n xs ++ x ∷ [])
 taken [] n h = absurd (omega (arith, h))
 taken (x ∷ xs) zero h = (x, refl, refl)
 taken (x ∷ xs) (suc n) h = let r = taken xs n (omega (arith, h)) in (r.0, r.1, ap (λ ys. x ∷ ys) r.2)
 
 module _ (first : List Row) (small : AreSmall first) (sound : IsSound first) where
-  legal_from : (history : List Commit) → IsLegal first history → (n : ℕ) → n ≤ length history → IsPushed first (all_rows (take n history)) (map_at first (take n history))
+  pub legal_from : (history : List Commit) → IsLegal first history → (n : ℕ) → n ≤ length history → IsPushed first (all_rows (take n history)) (map_at first (take n history))
   unfolding map_after
   legal_from history legal zero h = nothing_more first small sound
   legal_from history legal (suc n) h = by (taken history n (omega (arith, h))) (legal_from history legal n (omega (arith, h)))
@@ -107,7 +107,7 @@ module _ (first : List Row) (small : AreSmall first) (sound : IsSound first) whe
               ∙ sym (ap (map_after (map_of first)) (flat_map-append (λ d. d.entry.writes) past (c ∷ []) ∙ ap (λ ws. all_writes past ++ ws) (append-nil c.entry.writes))
               ∙ map_after-append (map_of first) (all_writes past) c.entry.writes)))
 
-all_taken : {A : Type 0} (xs : List A) → take (length xs) xs ≡ xs
+pub all_taken : {A : Type 0} (xs : List A) → take (length xs) xs ≡ xs
 all_taken [] = refl
 all_taken (x ∷ xs) = ap (λ ys. x ∷ ys) (all_taken xs)
 

@@ -36,7 +36,7 @@ unfolding reached
 reaches_itself zero nodes number = let s = times-same number [] in omega (arith, s)
 reaches_itself (suc height) nodes number = let s = times-same number (flat_map (reached height nodes) (kids_of (nodes number).0)) in omega (arith, s)
 
-itself_low : (next height : ℕ) (nodes : ℕ → Content) (number : ℕ) → AreOnce next (reached height nodes number) → number < next
+pub itself_low : (next height : ℕ) (nodes : ℕ → Content) (number : ℕ) → AreOnce next (reached height nodes number) → number < next
 itself_low next height nodes number once = by (leb_tells next number)
   where
     by : ((leb next number ≡ true) × (next ≤ number)) ⊎ ((leb next number ≡ false) × (number < next)) → number < next
@@ -47,7 +47,7 @@ module _ (rows : List Row) (bucket : ℕ) (key value : List ℕ) (next : ℕ) (o
   abbrev nodes : ℕ → Content
   nodes = nodes_of rows bucket
 
-  small_node : (number : ℕ) → is_small_node (nodes number).0 ≡ true
+  pub small_node : (number : ℕ) → is_small_node (nodes number).0 ≡ true
   small_node number = small_content rows (record { bucket = bucket; number = number }) small
 
   grown_of : ℕ → ℕ → Node → Growth
@@ -64,7 +64,7 @@ module _ (rows : List Row) (bucket : ℕ) (key value : List ℕ) (next : ℕ) (o
   inner_of height each bounds number (node.Leaf pairs) is inner within once few = absurd inner
   inner_of height each bounds number node.Broken is inner within once few = absurd inner
 
-  each_grows : (height : ℕ) → EachGrows rows bucket key value next of_bucket height
+  pub each_grows : (height : ℕ) → EachGrows rows bucket key value next of_bucket height
   unfolding IsSubtree reached growth grown_of
   each_grows zero bounds number subtree within once =
       leaf_grows rows bucket key value next bounds number subtree within (itself_low next zero nodes number once) (small_pairs (nodes number).0 (small_node number))
@@ -77,13 +77,13 @@ IsBody (node.Inner seps kids) = Unit {0}
 IsBody _ = ⊥
 
 module _ (bucket : ℕ) (nodes : ℕ → Content) where
-  leaf_body : (bounds : Bounds) (n : Node) → is_leaf bucket bounds n ≡ true → IsBody n
+  pub leaf_body : (bounds : Bounds) (n : Node) → is_leaf bucket bounds n ≡ true → IsBody n
   leaf_body bounds (node.Leaf pairs) h = tt
   leaf_body bounds (node.Inner seps kids) h = tt
   leaf_body bounds (node.Head root next depth) h = absurd (true≢false (sym h))
   leaf_body bounds node.Broken h = absurd (true≢false (sym h))
 
-  inner_body : (P : Bounds → ℕ → Type 0) (bounds : Bounds) (n : Node) → IsInner P bounds n → IsBody n
+  pub inner_body : (P : Bounds → ℕ → Type 0) (bounds : Bounds) (n : Node) → IsInner P bounds n → IsBody n
   inner_body P bounds (node.Leaf pairs) h = tt
   inner_body P bounds (node.Inner seps kids) h = tt
   inner_body P bounds (node.Head root next depth) h = absurd h
@@ -134,35 +134,35 @@ module _ (rows : List Row) (key value : List ℕ) (small : AreSmall rows) (sound
   old = nodes_of rows bucket
 
   module _ (t : HasTree bucket old (old 0).0) where
-    height : ℕ
+    unfoldable pub height : ℕ
     height = t.depth - 1
 
-    once : AreOnce t.next (reached height old t.root)
+    pub once : AreOnce t.next (reached height old t.root)
     unfolding height
     once = let tree = t.tree in record { once = distinct_times (reached (t.depth - 1) old t.root) tree.distinct; below = below_times t.next (reached (t.depth - 1) old t.root) tree.below }
 
-    subtree : IsSubtree height bucket old whole t.root
+    pub subtree : IsSubtree height bucket old whole t.root
     unfolding height
     subtree = let tree = t.tree in tree.subtree
 
-    g : Growth
+    unfoldable pub g : Growth
     g = growth height bucket old t.next (key, value) t.root
 
-    grows : Grows rows bucket key value t.next height whole t.root g
+    pub grows : Grows rows bucket key value t.next height whole t.root g
     unfolding g
     grows = each_grows rows bucket key value t.next (same_bucket key) small height whole t.root subtree (same_bucket key) once
 
-    head_out : times 0 (reached height old t.root) ≡ 0
+    pub head_out : times 0 (reached height old t.root) ≡ 0
     head_out = by (leb_tells 1 (times 0 (reached height old t.root)))
       where
         by : ((leb 1 (times 0 (reached height old t.root)) ≡ true) × (1 ≤ times 0 (reached height old t.root))) ⊎ ((leb 1 (times 0 (reached height old t.root)) ≡ false) × (times 0 (reached height old t.root) < 1)) → times 0 (reached height old t.root) ≡ 0
         by (inl h) = absurd (subst IsBody t.is (reached_body bucket old height whole t.root subtree 0 h.1))
         by (inr h) = let l = h.1 in omega (arith, l)
 
-    some_next : 0 < t.next
+    pub some_next : 0 < t.next
     some_next = let l = itself_low t.next height old t.root once in omega (arith, l)
 
-    abbrev mid : ℕ → Content
+    abbrev pub mid : ℕ → Content
     mid = nodes_of (rows ++ g.rows) bucket
 
     -- a tree of the grown nodes
@@ -204,10 +204,10 @@ module _ (rows : List Row) (key value : List ℕ) (small : AreSmall rows) (sound
     deep : 1 ≤ t.depth
     deep = let tree = t.tree in tree.deep
 
-    mid_head : mid 0 ≡ old 0
+    pub mid_head : mid 0 ≡ old 0
     mid_head = let gr = grows.grown in gr.others 0 head_out (inl some_next)
 
-    mid_rest : (n : ℕ) → g.next ≤ n → mid n ≡ old n
+    pub mid_rest : (n : ℕ) → g.next ≤ n → mid n ≡ old n
     mid_rest n above = let gr = grows.grown in let o = grows.ordered in gr.others n (once.below n (omega (arith, o, above))) (inr above)
 
     not_head : (ns : List ℕ) → IsGrown t.next g.next (reached height old t.root) ns → (n : ℕ) → 1 ≤ times n ns → n ≢ 0

@@ -33,7 +33,7 @@ times-cons n m ms = by (nat_eq n m) refl
     by true h = let e = eqb-true n m h in inl (e, subst (λ k. times n (k ∷ ms) ≡ times n ms + 1) e (times-same n ms))
     by false h = let o : n ≢ m = λ e. true≢false (sym (eq-eqb n m e) ∙ h) in inr (o, times-other n m ms o)
 
-absent_times : (n : ℕ) (ms : List ℕ) → list_any (nat_eq n) ms ≡ false → times n ms ≡ 0
+pub absent_times : (n : ℕ) (ms : List ℕ) → list_any (nat_eq n) ms ≡ false → times n ms ≡ 0
 unfolding times
 absent_times n [] absent = refl
 absent_times n (m ∷ ms) absent = by (nat_eq n m) (list_any (nat_eq n) ms) refl refl absent (absent_times n ms)
@@ -42,7 +42,7 @@ absent_times n (m ∷ ms) absent = by (nat_eq n m) (list_any (nat_eq n) ms) refl
     by true c e f h rest = absurd (true≢false h)
     by false c e f h rest = let z = rest (f ∙ h) in omega (arith, z)
 
-times_absent : (n : ℕ) (ms : List ℕ) → times n ms ≡ 0 → list_any (nat_eq n) ms ≡ false
+pub times_absent : (n : ℕ) (ms : List ℕ) → times n ms ≡ 0 → list_any (nat_eq n) ms ≡ false
 unfolding times
 times_absent n [] none = refl
 times_absent n (m ∷ ms) none = by (nat_eq n m) none (times_absent n ms)

@@ -1,5 +1,5 @@
 -- The bounds of what a script holds.
-use Rattle.std.specs.Prelude.{ℕ, ◌≤◌, List, length, FitsSigned}
+use Rattle.std.specs.Prelude.{◌≤◌, List, length, FitsSigned}
 use Rattle.std.specs.List.{AllByRecursion}
 use Rattle.std.specs.Int.{w64}
 use Rattle.fine_model.specs.Types.{Call, ScriptTxn}

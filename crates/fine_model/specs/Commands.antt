@@ -9,11 +9,12 @@ use Rattle.fine_model.specs.NumberText.{number_of}
 use Rattle.fine_model.specs.Nodes.{Agrees}
 use Rattle.fine_model.specs.Trees.{map_of}
 use Rattle.fine_model.specs.History.{Commit, last_epoch, map_at}
+use Rattle.fine_model.specs.Outcomes.{is_committed, is_aborted, is_refused}
 use Rattle.fine_model.specs.Regions.{Image}
 use Rattle.fine_model.specs.Chain.{Shows, chain}
 use Rattle.fine_model.specs.Generator.{generated}
 use Rattle.fine_model.specs.Causes.{NoNeighboursFit}
-use Rattle.fine_model.specs.Report.{dump, ranges, line, fault_line}
+use Rattle.fine_model.specs.Report.{all_outcomes, dump, ranges, line, fault_line}
 use Rattle.fine_model.specs.Headline.{Start, IsRun}
 
 -- `dump` and `ranges` leave the disk untouched; with status 0 they print the map's pairs, and the chain
@@ -29,18 +30,6 @@ pub record RangesTheorem (start : Start) (image : Image) (untouched : Type 0) (s
 pub record MergeTheorem (start : Start) (since : Image → Type 0) (image_on_return : Image) (status : ℕ) (written : List ℕ) : Type 0 where
   pub every_image : (image : Image) → since image → (rows : List Row) × Shows start.region_len image start.e rows × Agrees rows start.rows
   pub printed : status ≡ 0 → (parts : List Part) × (chain start.region_len image_on_return ≡ Ok parts) × (written ≡ ranges parts) × NoNeighboursFit start.region_len image_on_return parts
-
-abbrev pub is_committed : Outcome → Bool
-is_committed (outcome.Committed place epoch entry) = true
-is_committed _ = false
-
-abbrev pub is_aborted : Outcome → Bool
-is_aborted outcome.Aborted = true
-is_aborted _ = false
-
-abbrev pub is_refused : Outcome → Bool
-is_refused (outcome.Refused why) = true
-is_refused _ = false
 
 -- the number of a counter's value, where it is one from 0 to 4294967295
 abbrev pub small_number : Option (List ℕ) → ℕ
@@ -83,7 +72,7 @@ are_durable history e = list_all (λ c. nat_le c.epoch e) history
 pub record GenTheorem (start : Start) (first count lanes : ℕ) (since now : Image → Type 0) (own_rose still : Type 0) (status : ℕ) (written : List ℕ) : Type 0 where
   pub ran : Ran
   pub history : List Commit
-  pub run : IsRun start since now (generated first count lanes) ran.outcomes ran.durable history
+  pub run : IsRun start since now (generated first count lanes) (all_outcomes (generated first count lanes) ran.outcomes) ran.durable history
   pub all_durable : ¬ ((status ≡ 6) × own_rose) → (status ≡ 0) ⊎ (status ≡ 6) ⊎ (status ≡ 8) → ran.durable ≡ last_epoch start.e history
   pub printed : (status ≡ 0) ⊎ (status ≡ 8) → written ≡ summary first count lanes ran.outcomes (Some (map_at start.rows history)) (are_durable history ran.durable)
   pub printed_fault : status ≡ 6

@@ -1,5 +1,6 @@
--- The theorem of a run, as seen from outside: the bytes of the script, the bytes printed, the disk's images, the status.
-use Rattle.std.specs.Prelude.{◌≡◌, ◌⊎◌, ℕ, ◌≤◌, List, [], ◌++◌, Option, Some, None, Ok, Err, Any, ⊤}
+-- The theorem of a run, as seen from outside: what the script's bytes spell, the bytes printed, the disk's images, the status.
+use Rattle.std.specs.Prelude.{◌≡◌, ◌⊎◌, ℕ, ◌≤◌, List, [], ◌++◌, Option, Some, None, Result, Ok, Err, if◌then◌else◌}
+use Rattle.std.specs.List.{list_any}
 use Rattle.fine_model.specs.Types.{Row, ScriptTxn, Outcome, RunFault, Ran, Reason}
 use Rattle.fine_model.specs.Types.outcome
 use Rattle.fine_model.specs.Types.run_fault
@@ -7,9 +8,9 @@ use Rattle.fine_model.specs.Nodes.{Agrees}
 use Rattle.fine_model.specs.History.{Commit, IsLegal, all_rows, upto, last_epoch}
 use Rattle.fine_model.specs.Regions.{Image}
 use Rattle.fine_model.specs.Chain.{Shows}
-use Rattle.fine_model.specs.Script.{script_of, many, too_long, bad_line}
-use Rattle.fine_model.specs.Outcomes.{AreOutcomes}
-use Rattle.fine_model.specs.Report.{report, fault_line, reason_bytes, script_line, source_line, words_line}
+use Rattle.fine_model.specs.Script.{Refusal, many, too_long, bad_line}
+use Rattle.fine_model.specs.Outcomes.{AreOutcomes, is_refused}
+use Rattle.fine_model.specs.Report.{all_outcomes, report, fault_line, reason_bytes, script_line, source_line, words_line}
 
 -- What an image shows is the log at entry, with the history up to some epoch that is at least low: each node is what the
 -- entry's rows and those of these commits leave in it.
@@ -21,9 +22,9 @@ pub record ShowsSome (region_len : ℕ) (first : List Row) (history : List Commi
   pub to : e ≤ high
   pub agrees : Agrees rows (first ++ all_rows (upto history e))
 
--- what is known at entry: the script's bytes, the region length, and the epoch and the rows that the log shows
+-- what is known at entry: what the script's bytes spell, the region length, and the epoch and the rows that the log shows
 pub record Start : Type 0 where
-  pub source : List ℕ
+  pub script : Result (List ScriptTxn) Refusal
   pub region_len : ℕ
   pub e : ℕ
   pub rows : List Row
@@ -51,12 +52,7 @@ abbrev pub HasStatus : ℕ → List Outcome → Option RunFault → Type 0
 HasStatus status outcomes (Some run_fault.Memory) = status ≡ 1
 HasStatus status outcomes (Some run_fault.Disk) = status ≡ 6
 HasStatus status outcomes (Some (run_fault.Damaged what)) = status ≡ 7
-HasStatus status outcomes None =
-    ((status ≡ 8) × Any IsRefused outcomes) ⊎ ((status ≡ 0) × (Any IsRefused outcomes → ⊥))
-  where
-    IsRefused : Outcome → Type 0
-    IsRefused (outcome.Refused why) = ⊤
-    IsRefused _ = ⊥
+HasStatus status outcomes None = status ≡ (if list_any is_refused outcomes then 8 else 0)
 
 -- The report was printed, of these outcomes; or the disk failed before anything was written, and its line alone was printed.
 abbrev pub IsPrinted : Type 0 → Type 0 → ℕ → List ℕ → List ScriptTxn → Ran → List Commit → Type 0
@@ -69,8 +65,8 @@ pub record RunDone (start : Start) (since now : Image → Type 0) (own_rose stil
   pub script : List ScriptTxn
   pub ran : Ran
   pub history : List Commit
-  pub read : script_of start.source ≡ Ok script
-  pub run : IsRun start since now script ran.outcomes ran.durable history
+  pub read : start.script ≡ Ok script
+  pub run : IsRun start since now script (all_outcomes script ran.outcomes) ran.durable history
   pub printed : IsPrinted own_rose still status written script ran history
   pub all_durable : ¬ ((status ≡ 6) × own_rose) → ran.durable ≡ last_epoch start.e history
 
@@ -82,8 +78,8 @@ pub record RunCutShort (start : Start) (since now : Image → Type 0) (written :
   pub script : List ScriptTxn
   pub ran : Ran
   pub history : List Commit
-  pub read : script_of start.source ≡ Ok script
-  pub run : IsRun start since now script ran.outcomes ran.durable history
+  pub read : start.script ≡ Ok script
+  pub run : IsRun start since now script (all_outcomes script ran.outcomes) ran.durable history
   pub printed : IsFrontOf written (report script ran)
 
 pub record NothingRun (start : Start) (since : Image → Type 0) (written : List ℕ) : Type 0 where
@@ -92,18 +88,18 @@ pub record NothingRun (start : Start) (since : Image → Type 0) (written : List
   pub every_image : KeepsEvery start since []
 
 -- with status 2, 3 or 4: the line of the reason was printed, and the disk is untouched
-abbrev pub ReasonFor : ℕ → List ℕ → List ℕ → Type 0
-ReasonFor status source written =
+abbrev pub ReasonFor : ℕ → Result (List ScriptTxn) Refusal → List ℕ → Type 0
+ReasonFor status script written =
     ((status ≡ 2) × (written ≡ words_line))
     ⊎ ((status ≡ 3) × (n : ℕ) × RefusedAt n × (written ≡ script_line n))
     ⊎ ((status ≡ 4) × (written ≡ source_line))
   where
     RefusedAt : ℕ → Type 0
-    RefusedAt n = (script_of source ≡ Err (many n)) ⊎ (script_of source ≡ Err (too_long n)) ⊎ (script_of source ≡ Err (bad_line n))
+    RefusedAt n = (script ≡ Err (many n)) ⊎ (script ≡ Err (too_long n)) ⊎ (script ≡ Err (bad_line n))
 
 -- The theorem: what a run of the command `run` gave, by its status. It starts on a sound log, so status 7 does not come.
 pub record RunTheorem (start : Start) (since now : Image → Type 0) (own_rose still untouched : Type 0) (status : ℕ) (written : List ℕ) : Type 0 where
   pub done : (status ≡ 0) ⊎ (status ≡ 6) ⊎ (status ≡ 8) → RunDone start since now own_rose still status written
   pub cut_short : (status ≡ 1) ⊎ (status ≡ 5) → NothingRun start since written ⊎ RunCutShort start since now written
-  pub refused : (status ≡ 2) ⊎ (status ≡ 3) ⊎ (status ≡ 4) → ReasonFor status start.source written × untouched
+  pub refused : (status ≡ 2) ⊎ (status ≡ 3) ⊎ (status ≡ 4) → ReasonFor status start.script written × untouched
   pub others : (status ≡ 7) ⊎ (9 ≤ status) → ⊥

@@ -25,3 +25,6 @@ pub mod Headline
 pub mod Commands
 pub mod Room
 pub mod Laws
+pub mod ChainLaws
+pub mod VersionLaws
+pub mod BoundLaws

@@ -1,5 +1,5 @@
 -- How far the program reaches today: which scripts it takes, of all that the grammar has.
-use Rattle.std.specs.Prelude.{◌≡◌, ℕ, ◌+◌, ◌==◌, nat_le, Bool, true, false, ◌&&◌, List, length, count_by, Option, Some, None, Result}
+use Rattle.std.specs.Prelude.{◌≡◌, ℕ, ◌+◌, ◌==◌, nat_le, Bool, true, false, ◌&&◌, List, length, count_by, sum_by, Option, Some, None, Result}
 use Rattle.std.specs.List.{list_all}
 use Rattle.fine_model.specs.Types.{Call, Ending, ScriptTxn}
 use Rattle.fine_model.specs.Types.call
@@ -19,9 +19,9 @@ abbrev pub is_commit : Ending → Bool
 is_commit ending.Commit = true
 is_commit ending.Abort = false
 
--- a transaction of lane 1 with reads and at most 32 puts
+-- a transaction of lane 1 with reads and puts alone
 abbrev pub is_simple : ℕ → List Call → Bool
-is_simple lane calls = (lane == 1) && list_all is_get_or_put calls && nat_le (count_by is_put calls) 32
+is_simple lane calls = (lane == 1) && list_all is_get_or_put calls
 
 abbrev pub is_simple_txn : ScriptTxn → Bool
 is_simple_txn txn = is_simple txn.lane txn.calls && is_commit txn.ending
@@ -34,9 +34,18 @@ abbrev pub begun : Option (ℕ × List Call) → ℕ
 begun None = 0
 begun (Some t) = 1
 
--- what was read so far is at most one such transaction, which commits
+-- the puts of transactions, and those of one that is open
+abbrev pub puts_of : List ScriptTxn → ℕ
+puts_of txns = sum_by (λ t. count_by is_put t.calls) txns
+
+abbrev pub open_puts : Option (ℕ × List Call) → ℕ
+open_puts None = 0
+open_puts (Some t) = count_by is_put t.1
+
+-- what was read so far is at most 64 such transactions, which commit, with at most 32 puts in all
 unfoldable pub is_in_reach : Reading → Bool
-is_in_reach r = nat_le (length r.done + begun r.open_txn) 1 && list_all is_simple_txn r.done && is_simple_start r.open_txn
+is_in_reach r =
+    nat_le (length r.done + begun r.open_txn) 64 && nat_le (puts_of r.done + open_puts r.open_txn) 32 && list_all is_simple_txn r.done && is_simple_start r.open_txn
 
 -- a whole script is one that the program takes
 abbrev pub IsTaken : List ScriptTxn → Type 0

@@ -4,6 +4,8 @@
 ghost use Rattle.std.specs.Prelude.{◌≡◌, ℕ, ◌<◌, ◌≤◌, List, length};
 ghost use Rattle.fine_model.specs.Trees.{bucket_of};
 
+mod bound_laws;
+mod chain_laws;
 mod copied;
 mod law;
 mod laws;
@@ -11,14 +13,18 @@ mod list;
 mod numbers;
 #[cfg(test)]
 mod tests;
+mod version_laws;
 
-pub use law::{BucketLaw, RoomLaw, ViewLaw};
+pub use bound_laws::bounds_law;
+pub use chain_laws::{chain_law, closed_law, free_law, freed_law, seal_law};
+pub use law::{BucketLaw, Origin, RoomLaw, ViewLaw};
 pub use laws::{
     agreement_law, agrees_law, fit_law, leaf_law, legal_law, map_law, merge_law, pushed_law,
     replay_law, row_law, sealed_law, shown_law, small_law, upto_law, whole_law,
 };
 pub use list::{Copied, Items, NoMemory};
 pub use numbers::{natural_of, number_of, number_text};
+pub use version_laws::{arranged_law, ordered_law, permuted_law, sort_law, versions_law};
 
 /// A key, a value or a text.
 pub type Bytes = Items<u8>;

@@ -1,0 +1,204 @@
+-- Images that differ in one region, and their parts.
+use Rattle.std.proofs.Common.{◌≡◌, ◌≢◌, ◌⊎◌, inl, inr, ℕ, zero, suc, ◌+◌, ◌<◌, ◌≤◌, nat_eq, Bool, false, ◌&&◌, ◌||◌, List, [], ◌∷◌, ◌++◌, length, refl, sym, ap, ◌∙◌, subst, Some, None, Ok, Err, arith}
+use Rattle.std.specs.Prelude.{Option, Result, unwrap_or}
+use Rattle.std.specs.List.{list_any}
+use Rattle.std.proofs.lemmas.Bool.{cases_lt}
+use Rattle.std.proofs.lemmas.Option.{slice_get_past}
+use Rattle.std.proofs.lemmas.List.Folds.{list_any-append}
+use Rattle.fine_model.specs.Types.{Header, Part, Damage}
+use Rattle.fine_model.specs.Types.damage
+use Rattle.fine_model.specs.Pushed.{and_then}
+use Rattle.fine_model.specs.Regions.{Image, region_of, is_sealed, continuations, header_at, header_in}
+use Rattle.fine_model.specs.Chain.{parts_from}
+use Rattle.fine_model.specs.ChainLaws.{DiffersAt, part_of}
+use Rattle.fine_model.proofs.Headers.{header_closed}
+
+-- ---- two images round the region in which they differ
+
+pub record Split (region : ℕ) (old new : Image) : Type 0 where
+  pub front : Image
+  pub before : List ℕ
+  pub after : List ℕ
+  pub back : Image
+  pub old_is : old ≡ front ++ before ∷ back
+  pub new_is : new ≡ front ++ after ∷ back
+  pub at : length front ≡ region
+
+same_images : (old new : Image) → length new ≡ length old → ((i : ℕ) → region_of new i ≡ region_of old i) → new ≡ old
+same_images [] [] long each = refl
+same_images [] (n ∷ ns) long each = absurd (omega (arith, long))
+same_images (o ∷ os) [] long each = absurd (omega (arith, long))
+same_images (o ∷ os) (n ∷ ns) long each = let h = each 0 in let t = same_images os ns (omega (arith, long)) (λ i. each (suc i)) in λ k. h k ∷ t k
+
+shifted : (region : ℕ) (o n : List ℕ) (os ns : Image) → n ≡ o → Split region os ns → Split (suc region) (o ∷ os) (n ∷ ns)
+shifted region o n os ns same s = record {
+  front = o ∷ s.front;
+  before = s.before;
+  after = s.after;
+  back = s.back;
+  old_is = ap (λ xs. o ∷ xs) s.old_is;
+  new_is = λ k. same k ∷ s.new_is k;
+  at = ap suc s.at;
+}
+
+pub split : (region : ℕ) (old new : Image) → length new ≡ length old → ((other : ℕ) → other ≢ region → region_of new other ≡ region_of old other) → region < length old → Split region old new
+split region [] new long others there = absurd (omega (arith, there))
+split region (o ∷ os) [] long others there = absurd (omega (arith, long))
+split zero (o ∷ os) (n ∷ ns) long others there =
+    let t = same_images os ns (omega (arith, long)) (λ i. others (suc i) (λ e. absurd (omega (arith, e)))) in
+    record { front = []; before = o; after = n; back = os; old_is = refl; new_is = ap (λ xs. n ∷ xs) t; at = refl }
+split (suc region) (o ∷ os) (n ∷ ns) long others there =
+    shifted region o n os ns (others 0 (λ e. absurd (omega (arith, e)))) (split region os ns (omega (arith, long)) (λ i other. others (suc i) (λ e. other (omega (arith, e)))) (omega (arith, there)))
+
+pub past : (image : Image) (region : ℕ) → length image ≤ region → region_of image region ≡ []
+past image region h = ap (λ o. unwrap_or o []) (slice_get_past image region h)
+
+-- the images are one, or differ in a region of theirs
+pub differs_where : (region : ℕ) (old new : Image) → DiffersAt region old new → (new ≡ old) ⊎ ((region < length old) × Split region old new)
+differs_where region old new d = elim (cases_lt region (length old)) [
+  | inl there ↦ inr (there, split region old new d.as_many d.others there)
+  | inr beyond ↦ inl (same_images old new d.as_many (λ i. by i (cases_lt i (length old)) beyond))
+]
+  where
+    by : (i : ℕ) → (i < length old) ⊎ (length old ≤ i) → length old ≤ region → region_of new i ≡ region_of old i
+    by i (inl h) beyond = d.others i (λ e. absurd (omega (arith, h, beyond, e)))
+    by i (inr h) beyond = let m = d.as_many in past new i (omega (arith, m, h)) ∙ sym (past old i h)
+
+region_at : (front : Image) (x : List ℕ) (back : Image) (region : ℕ) → length front ≡ region → region_of (front ++ x ∷ back) region ≡ x
+region_at [] x back zero is = refl
+region_at [] x back (suc region) is = absurd (omega (arith, is))
+region_at (f ∷ front) x back zero is = absurd (omega (arith, is))
+region_at (f ∷ front) x back (suc region) is = region_at front x back region (omega (arith, is))
+
+-- what the region holds in each
+pub before_is : (region : ℕ) (old new : Image) (s : Split region old new) → region_of old region ≡ s.before
+before_is region old new s = ap (λ x. region_of x region) s.old_is ∙ region_at s.front s.before s.back region s.at
+
+pub after_is : (region : ℕ) (old new : Image) (s : Split region old new) → region_of new region ≡ s.after
+after_is region old new s = ap (λ x. region_of x region) s.new_is ∙ region_at s.front s.after s.back region s.at
+
+-- ---- the parts of an image
+
+pub and_then_ok : {A B E : Type 0} (r : Result A E) (f : A → Result B E) (b : B) → and_then r f ≡ Ok b → (a : A) × (r ≡ Ok a) × (f a ≡ Ok b)
+and_then_ok (Ok a) f b is = (a, refl, is)
+and_then_ok (Err e) f b is = absurd cc
+
+module _ (region_len regions : ℕ) where
+  abbrev pub header : ℕ → List ℕ → Result (Option Header) ℕ
+  header k bytes = header_in region_len regions k bytes
+
+  pub parts_none : (k : ℕ) (bytes : List ℕ) (image : Image) → header k bytes ≡ Ok None → parts_from region_len regions k (bytes ∷ image) ≡ parts_from region_len regions (k + 1) image
+  unfolding parts_from
+  parts_none k bytes image is = rw is refl
+
+  pub parts_bad : (k at : ℕ) (bytes : List ℕ) (image : Image) → header k bytes ≡ Err at → parts_from region_len regions k (bytes ∷ image) ≡ Err (damage.Region k at)
+  unfolding parts_from
+  parts_bad k at bytes image is = rw is refl
+
+  pub parts_good : (k : ℕ) (bytes : List ℕ) (h : Header) (image : Image) → header k bytes ≡ Ok (Some h)
+      → parts_from region_len regions k (bytes ∷ image) ≡ and_then (parts_from region_len regions (k + 1) image) (λ parts. Ok (part_of k h ∷ parts))
+  unfolding parts_from
+  parts_good k bytes h image is = rw is refl
+
+  -- a closed region is no part, whatever it holds
+  pub parts_closed : (k : ℕ) (front : Image) (x y : List ℕ) (back : Image) → is_sealed x ≡ false → is_sealed y ≡ false → parts_from region_len regions k (front ++ x ∷ back) ≡ parts_from region_len regions k (front ++ y ∷ back)
+  parts_closed k [] x y back no_x no_y =
+      parts_none k x back (header_closed region_len regions k x no_x) ∙ sym (parts_none k y back (header_closed region_len regions k y no_y))
+  parts_closed k (f ∷ front) x y back no_x no_y = by (header k f) refl (parts_closed (k + 1) front x y back no_x no_y)
+    where
+      by : (r : Result (Option Header) ℕ) → header k f ≡ r → parts_from region_len regions (k + 1) (front ++ x ∷ back) ≡ parts_from region_len regions (k + 1) (front ++ y ∷ back)
+          → parts_from region_len regions k (f ∷ (front ++ x ∷ back)) ≡ parts_from region_len regions k (f ∷ (front ++ y ∷ back))
+      by (Err at) e rest = parts_bad k at f (front ++ x ∷ back) e ∙ sym (parts_bad k at f (front ++ y ∷ back) e)
+      by (Ok None) e rest = parts_none k f (front ++ x ∷ back) e ∙ rest ∙ sym (parts_none k f (front ++ y ∷ back) e)
+      by (Ok (Some h)) e rest =
+          parts_good k f h (front ++ x ∷ back) e ∙ ap (λ r. and_then r (λ parts. Ok (part_of k h ∷ parts))) rest ∙ sym (parts_good k f h (front ++ y ∷ back) e)
+
+  -- a part by a number that is the region's
+  part_named : (k region : ℕ) (h : Header) (parts : List Part) → k ≡ region → part_of k h ∷ parts ≡ part_of region h ∷ parts
+  part_named k region h parts e = ap (λ n. part_of n h ∷ parts) e
+
+  -- the parts with one more, which is the region's
+  pub record OneMore (k region : ℕ) (front : Image) (y : List ℕ) (back : Image) (h : Header) (parts : List Part) : Type 0 where
+    pub left : List Part
+    pub right : List Part
+    pub were : parts ≡ left ++ right
+    pub are : parts_from region_len regions k (front ++ y ∷ back) ≡ Ok (left ++ part_of region h ∷ right)
+
+  pub parts_sealed : (k region : ℕ) (front : Image) (x y : List ℕ) (back : Image) (h : Header) (parts : List Part) → k + length front ≡ region → is_sealed x ≡ false → header region y ≡ Ok (Some h)
+      → parts_from region_len regions k (front ++ x ∷ back) ≡ Ok parts → OneMore k region front y back h parts
+  parts_sealed k region [] x y back h parts at closed good is =
+      let e : k ≡ region = omega (arith, at) in record {
+        left = [];
+        right = parts;
+        were = refl;
+        are = parts_good k y h back (subst (λ n. header n y ≡ Ok (Some h)) (sym e) good)
+            ∙ ap (λ r. and_then r (λ ps. Ok (part_of k h ∷ ps))) (sym (parts_none k x back (header_closed region_len regions k x closed)) ∙ is)
+            ∙ ap Ok (part_named k region h parts e);
+      }
+  parts_sealed k region (f ∷ front) x y back h parts at closed good is = by (header k f) refl
+      (λ ps was. parts_sealed (k + 1) region front x y back h ps (omega (arith, at)) closed good was)
+    where
+      wider : (g : Header) → header k f ≡ Ok (Some g) → (ps : List Part) → part_of k g ∷ ps ≡ parts → OneMore (k + 1) region front y back h ps → OneMore k region (f ∷ front) y back h parts
+      wider g e ps whole m = record {
+        left = part_of k g ∷ m.left;
+        right = m.right;
+        were = sym whole ∙ ap (λ ps. part_of k g ∷ ps) m.were;
+        are = parts_good k f g (front ++ y ∷ back) e ∙ ap (λ r. and_then r (λ ps. Ok (part_of k g ∷ ps))) m.are;
+      }
+
+      by : (r : Result (Option Header) ℕ) → header k f ≡ r → ((ps : List Part) → parts_from region_len regions (k + 1) (front ++ x ∷ back) ≡ Ok ps → OneMore (k + 1) region front y back h ps) → OneMore k region (f ∷ front) y back h parts
+      by (Err at) e rest = absurd (let c : ◌≡◌ {A = Result (List Part) Damage} (Err (damage.Region k at)) (Ok parts) = sym (parts_bad k at f (front ++ x ∷ back) e) ∙ is in cc)
+      by (Ok None) e rest =
+          let m = rest parts (sym (parts_none k f (front ++ x ∷ back) e) ∙ is) in
+          record { left = m.left; right = m.right; were = m.were; are = parts_none k f (front ++ y ∷ back) e ∙ m.are }
+      by (Ok (Some g)) e rest =
+          let o = and_then_ok (parts_from region_len regions (k + 1) (front ++ x ∷ back)) (λ ps. Ok (part_of k g ∷ ps)) parts (sym (parts_good k f g (front ++ x ∷ back) e) ∙ is) in
+          let c = o.2 in
+          let whole : part_of k g ∷ o.0 ≡ parts = cc in wider g e o.0 whole (rest o.0 o.1)
+
+  -- the parts without the region's, once its gate is closed
+  pub record OneFewer (k region : ℕ) (front : Image) (y : List ℕ) (back : Image) (h : Header) (parts : List Part) : Type 0 where
+    pub left : List Part
+    pub right : List Part
+    pub were : parts ≡ left ++ part_of region h ∷ right
+    pub are : parts_from region_len regions k (front ++ y ∷ back) ≡ Ok (left ++ right)
+
+  pub parts_unsealed : (k region : ℕ) (front : Image) (x y : List ℕ) (back : Image) (h : Header) (parts : List Part) → k + length front ≡ region → is_sealed y ≡ false → header region x ≡ Ok (Some h)
+      → parts_from region_len regions k (front ++ x ∷ back) ≡ Ok parts → OneFewer k region front y back h parts
+  parts_unsealed k region [] x y back h parts at closed good is =
+      let e : k ≡ region = omega (arith, at) in
+      let o = and_then_ok (parts_from region_len regions (k + 1) back) (λ ps. Ok (part_of k h ∷ ps)) parts (sym (parts_good k x h back (subst (λ n. header n x ≡ Ok (Some h)) (sym e) good)) ∙ is) in
+      let c = o.2 in
+      let whole : part_of k h ∷ o.0 ≡ parts = cc in
+      record { left = []; right = o.0; were = sym whole ∙ part_named k region h o.0 e; are = parts_none k y back (header_closed region_len regions k y closed) ∙ o.1 }
+  parts_unsealed k region (f ∷ front) x y back h parts at closed good is = by (header k f) refl
+      (λ ps was. parts_unsealed (k + 1) region front x y back h ps (omega (arith, at)) closed good was)
+    where
+      wider : (g : Header) → header k f ≡ Ok (Some g) → (ps : List Part) → part_of k g ∷ ps ≡ parts → OneFewer (k + 1) region front y back h ps → OneFewer k region (f ∷ front) y back h parts
+      wider g e ps whole m = record {
+        left = part_of k g ∷ m.left;
+        right = m.right;
+        were = sym whole ∙ ap (λ ps. part_of k g ∷ ps) m.were;
+        are = parts_good k f g (front ++ y ∷ back) e ∙ ap (λ r. and_then r (λ ps. Ok (part_of k g ∷ ps))) m.are;
+      }
+
+      by : (r : Result (Option Header) ℕ) → header k f ≡ r → ((ps : List Part) → parts_from region_len regions (k + 1) (front ++ x ∷ back) ≡ Ok ps → OneFewer (k + 1) region front y back h ps) → OneFewer k region (f ∷ front) y back h parts
+      by (Err at) e rest = absurd (let c : ◌≡◌ {A = Result (List Part) Damage} (Err (damage.Region k at)) (Ok parts) = sym (parts_bad k at f (front ++ x ∷ back) e) ∙ is in cc)
+      by (Ok None) e rest =
+          let m = rest parts (sym (parts_none k f (front ++ x ∷ back) e) ∙ is) in
+          record { left = m.left; right = m.right; were = m.were; are = parts_none k f (front ++ y ∷ back) e ∙ m.are }
+      by (Ok (Some g)) e rest =
+          let o = and_then_ok (parts_from region_len regions (k + 1) (front ++ x ∷ back)) (λ ps. Ok (part_of k g ∷ ps)) parts (sym (parts_good k f g (front ++ x ∷ back) e) ∙ is) in
+          let c = o.2 in
+          let whole : part_of k g ∷ o.0 ≡ parts = cc in wider g e o.0 whole (rest o.0 o.1)
+
+-- ---- the regions that sealed ones name
+
+abbrev pub names : ℕ → List ℕ → Bool
+names region bytes = is_sealed bytes && list_any (nat_eq region) (continuations (header_at bytes))
+
+-- regions that name nothing in both images change nothing of what is named
+pub named_alike : (region : ℕ) (front : Image) (x y : List ℕ) (back : Image) → names region x ≡ false → names region y ≡ false → list_any (names region) (front ++ x ∷ back) ≡ list_any (names region) (front ++ y ∷ back)
+named_alike region front x y back no_x no_y =
+    list_any-append (names region) front (x ∷ back) ∙ ap (λ b. list_any (names region) front || (b || list_any (names region) back)) (no_x ∙ sym no_y)
+    ∙ sym (list_any-append (names region) front (y ∷ back))

@@ -1,0 +1,5 @@
+use Rattle.fine_model.proofs.ChainFacts.{chain_law}
+use Rattle.fine_model.proofs.chain_laws.chain_law.Goals as goal
+
+pub returns : goal.returns
+returns c = chain_law

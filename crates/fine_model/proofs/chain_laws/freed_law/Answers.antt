@@ -1,0 +1,5 @@
+use Rattle.fine_model.proofs.Freed.{freed_law}
+use Rattle.fine_model.proofs.chain_laws.freed_law.Goals as goal
+
+pub returns : goal.returns
+returns c = freed_law

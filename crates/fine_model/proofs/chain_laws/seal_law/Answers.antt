@@ -1,0 +1,5 @@
+use Rattle.fine_model.proofs.Longer.{seal_law}
+use Rattle.fine_model.proofs.chain_laws.seal_law.Goals as goal
+
+pub returns : goal.returns
+returns c = seal_law

@@ -1,0 +1,5 @@
+use Rattle.fine_model.proofs.Permuted.{permuted_law}
+use Rattle.fine_model.proofs.version_laws.permuted_law.Goals as goal
+
+pub returns : goal.returns
+returns c = permuted_law

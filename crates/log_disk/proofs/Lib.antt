@@ -9,4 +9,5 @@ pub mod Moments
 pub mod Seeing
 pub mod Torn
 pub mod Calls
+pub mod Steps
 pub mod Sound

@@ -1,8 +1,8 @@
 -- What holds of a disk at each moment is kept by its calls.
-use Rattle.std.proofs.Common.{◌≡◌, ℕ, ◌+◌, ◌<◌, List, [], ◌∷◌, ◌++◌, length, map, Some, None, sym, ap, subst, ◌∙◌, inl, inr, arith}
+use Rattle.std.proofs.Common.{◌≡◌, ℕ, ◌+◌, ◌<◌, List, [], ◌∷◌, ◌++◌, length, map, Some, None, sym, ap, subst, ◌∙◌, inl, inr}
 use Rattle.std.specs.Prelude.{Option, IfSome}
 use Rattle.std.proofs.lemmas.List.{map_push}
-use Rattle.log_disk.specs.Disk.{Image, region_of, Span, Moment, IsImageAt, Told, Disk, BothTold, SameOutside, HasGoneOn, HasSynced, IsToldOf, IsSound, Reads, Writes, Syncs, OnlyFails, unsynced_too, span_of}
+use Rattle.log_disk.specs.Disk.{region_of, Span, Moment, IsImageAt, Told, Disk, BothTold, SameOutside, HasGoneOn, HasSynced, IsToldOf, IsSound, Eye, Reads, Writes, Syncs, OnlyFails, Opens, Closes, unsynced_too, span_of}
 use Rattle.log_disk.proofs.InMemory.{synced_is_image}
 use Rattle.log_disk.proofs.Writes.{image_after}
 
@@ -60,3 +60,15 @@ sound_sync {old} {new} s sound = record { told = each old.told new.told s.time s
     each None (Some b) t h = absurd t
     each (Some a) None t h = absurd t
     each (Some a) (Some b) t h = one a b t h
+
+pub sound_read : {r at : ℕ} {out : List ℕ} {failed : Type 0} {old new : Disk} → Reads r at out failed old new → IsSound old → IsSound new
+sound_read {old = old} {new = new} reads = sound_same old new reads.told reads.beside.regions reads.beside.region_len reads.unsynced
+
+pub sound_failure : {old new : Disk} → OnlyFails old new → IsSound old → IsSound new
+sound_failure {old} {new} fails = sound_same old new fails.told fails.beside.regions fails.beside.region_len fails.unsynced
+
+pub sound_opens : {regions : List ℕ} {eye : Eye} {old new : Disk} → Opens regions eye old new → IsSound old → IsSound new
+sound_opens {old = old} {new = new} o = sound_same old new o.told o.others.0 o.others.1 o.others.2
+
+pub sound_closes : {eye : Eye} {old new : Disk} → Closes eye old new → IsSound old → IsSound new
+sound_closes {old = old} {new = new} c = sound_same old new c.told c.others.0 c.others.1 c.others.2

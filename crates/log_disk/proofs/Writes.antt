@@ -15,7 +15,7 @@ any_left P xs ys any =
 pub any_last : {A : Type 0} (P : A → Type 0) (xs : List A) (x : A) → P x → Any P (xs ++ x ∷ [])
 any_last P xs x p = (length xs, x, omega (arith, length-append xs (x ∷ [])), get_or_push xs x x (length xs) refl, p)
 
-region_of-set_same : (image : Image) (r : ℕ) (bytes : List ℕ) → r < length image → region_of (set image r bytes) r ≡ bytes
+pub region_of-set_same : (image : Image) (r : ℕ) (bytes : List ℕ) → r < length image → region_of (set image r bytes) r ≡ bytes
 region_of-set_same image r bytes h =
     unwrap_or-slice_get (set image r bytes) r [] ∙ get_or-set_same image r bytes [] h
 

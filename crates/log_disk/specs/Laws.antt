@@ -1,7 +1,7 @@
 -- The laws of images and of eyes, as statements.
-use Rattle.std.specs.Prelude.{◌≡◌, ◌≢◌, ◌⊎◌, ℕ, ◌≤◌, Bool, true, List}
-use Rattle.log_disk.specs.Disk.{Image, Moment, Told, Disk, Eye, IsImageAt, IsImageNow, IsImageSince, IsToldOf, SameOutside, HasGoneOn, HasSynced, IsUnseen, Writes, Syncs, Opens, Closes, clock_of, unsynced_too}
-use Rattle.log_disk.specs.Moments.{LeavesOnly, IsLeft, IsOpenOn}
+use Rattle.std.specs.Prelude.{◌≡◌, ◌≢◌, ◌⊎◌, ℕ, ◌≤◌, Bool, true, List, []}
+use Rattle.log_disk.specs.Disk.{Image, Moment, Told, Disk, Eye, IsImageAt, IsImageNow, IsImageSince, IsToldOf, SameOutside, HasGoneOn, HasSynced, IsSound, IsUnseen, Reads, Writes, Syncs, OnlyFails, Opens, Closes, clock_of, unsynced_too}
+use Rattle.log_disk.specs.Moments.{LeavesOnly, IsLeft, GrowsOn, IsOpenOn}
 
 -- an image now is one since each clock value that is not later
 abbrev pub NowIsSince : Type 0
@@ -47,3 +47,23 @@ EyesStayTrue =
     (regions : List ℕ) (eye other : Eye) (region at : ℕ) (bytes : List ℕ) (failed : Bool) (old new : Disk)
     → (Opens regions eye old new → IsOpenOn eye new) × (Opens regions other old new → IsOpenOn eye old → IsOpenOn eye new) × (IsUnseen old region → Writes region at bytes (failed ≡ true) old new → IsOpenOn eye old → IsOpenOn eye new)
     × (Syncs old new → IsOpenOn eye old → IsOpenOn eye new) × (Closes other old new → eye.number ≢ other.number → IsOpenOn eye old → IsOpenOn eye new)
+
+-- where nothing is unsynced, an image is exactly what a read gives
+abbrev pub SyncedShows : Type 0
+SyncedShows =
+    (disk : Disk) (told : Told) (image : Image) → IsToldOf disk told → disk.unsynced ≡ []
+    → (IsImageNow told image → image ≡ told.bytes) × (image ≡ told.bytes → IsImageNow told image)
+
+-- what each call does to the images since earlier clock values
+abbrev pub CallsGrow : Type 0
+CallsGrow =
+    (region at : ℕ) (bytes : List ℕ) (failed : Bool) (regions : List ℕ) (eye : Eye) (old new : Disk)
+    → (Reads region at bytes (failed ≡ true) old new → GrowsOn old new) × (Writes region at bytes (failed ≡ true) old new → GrowsOn old new) × (Syncs old new → GrowsOn old new)
+    × (OnlyFails old new → GrowsOn old new) × (Opens regions eye old new → GrowsOn old new) × (Closes eye old new → GrowsOn old new)
+
+-- what holds of a disk at each moment is kept by each call
+abbrev pub CallsKeepSound : Type 0
+CallsKeepSound =
+    (region at : ℕ) (bytes : List ℕ) (failed : Bool) (regions : List ℕ) (eye : Eye) (old new : Disk) → IsSound old
+    → (Reads region at bytes (failed ≡ true) old new → IsSound new) × (Writes region at bytes (failed ≡ true) old new → IsSound new) × (Syncs old new → IsSound new)
+    × (OnlyFails old new → IsSound new) × (Opens regions eye old new → IsSound new) × (Closes eye old new → IsSound new)

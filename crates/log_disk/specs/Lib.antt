@@ -7,3 +7,4 @@ pub mod MemDisk
 pub mod MemEye
 pub mod Laws
 pub mod Plan
+pub mod FileDisk

@@ -174,16 +174,21 @@ fn failures(alloc: Global, plan: FaultPlan) -> Result<[bool; 8], NoMemory> {
 fn each_list_of_a_plan_fails_its_calls(rt: HostRuntime) -> Result<(), Fail> {
     let alloc = rt.alloc();
     // Each row plans one failure, by its list and number, and names the calls that fail.
-    let table: [(u8, u64, &[usize]); 11] = [
+    let table: [(u8, u64, &[usize]); 16] = [
         (0, 1, &[0]),
         (0, 2, &[1]),
         (1, 1, &[2]),
         (1, 2, &[3]),
         (2, 1, &[4]),
+        (2, 2, &[]),
         (3, 1, &[5]),
+        (3, 2, &[]),
         (4, 1, &[6]),
         (4, 2, &[7]),
+        (5, 1, &[0, 1, 2, 3, 4]),
         (5, 3, &[2, 3, 4]),
+        (5, 4, &[3, 4]),
+        (5, 5, &[4]),
         (5, 6, &[5]),
         (5, 7, &[]),
     ];

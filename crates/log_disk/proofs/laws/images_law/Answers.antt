@@ -1,4 +1,5 @@
 use Rattle.log_disk.proofs.Moments.{synced_now, synced_is_now}
+use Rattle.log_disk.proofs.Steps.{all_synced, all_synced_is_now}
 use Rattle.log_disk.proofs.Torn.{image_back, torn_before, torn_outside}
 use Rattle.log_disk.proofs.Writes.{image_after}
 use Rattle.log_disk.proofs.laws.images_law.Goals as goal
@@ -11,3 +12,6 @@ returns-clause-writes c = λ moment region from end image. (
 
 pub returns-clause-syncs : goal.returns-clause-syncs
 returns-clause-syncs c = λ disk old new image told synced. (synced_now disk old new image told synced, synced_is_now disk old new image told synced)
+
+pub returns-clause-synced : goal.returns-clause-synced
+returns-clause-synced c = λ disk told image is none. (all_synced disk told image is none, all_synced_is_now disk told image is none)

@@ -1,0 +1,11 @@
+use Rattle.log_disk.proofs.Steps.{grows_told, grows_write, grows_sync}
+use Rattle.log_disk.proofs.Sound.{sound_read, sound_write, sound_sync, sound_failure, sound_opens, sound_closes}
+use Rattle.log_disk.proofs.laws.calls_law.Goals as goal
+
+pub returns-clause-grow : goal.returns-clause-grow
+returns-clause-grow c = λ region at bytes failed regions eye old new.
+    (λ r. grows_told old new r.told, λ w. grows_write w, λ s. grows_sync s, λ f. grows_told old new f.told, λ o. grows_told old new o.told, λ e. grows_told old new e.told)
+
+pub returns-clause-sound : goal.returns-clause-sound
+returns-clause-sound c = λ region at bytes failed regions eye old new sound.
+    (λ r. sound_read r sound, λ w. sound_write w sound, λ s. sound_sync s sound, λ f. sound_failure f sound, λ o. sound_opens o sound, λ e. sound_closes e sound)

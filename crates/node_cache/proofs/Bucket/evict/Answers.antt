@@ -1,0 +1,37 @@
+use Rattle.std.proofs.Common.{◌≡◌, ℕ, ◌-◌, ◌<◌, ◌≤◌, List, Some, nat_eq, count_by, IfSome, sym, ap, subst, ◌∙◌, arith}
+use Rattle.std.specs.Map.{lookup}
+use Rattle.node_cache.specs.declared.Cached.{Cached}
+use Rattle.node_cache.specs.Cache.{Cache}
+use Rattle.node_cache.specs.Entries.{is_published, without_first}
+use Rattle.node_cache.proofs.Restored.{IsCache-fresh}
+use Rattle.node_cache.proofs.Evicted.{stays, unchanged, few, without_none}
+use Rattle.node_cache.proofs.Bucket.evict.Goals as goal
+
+pub invariant_of-self : goal.invariant_of-self
+invariant_of-self c = IsCache-fresh _ _ (ap (λ b. b.saved) c.self.view_is ∙ c.requires) c.remove_first.ensures.unique
+
+pub returns-then-surplus-gt0-clause-kept : goal.returns-then-surplus-gt0-clause-kept
+returns-then-surplus-gt0-clause-kept c =
+    let es = c.self.inside.nodes.entries in
+    rw (← c.self.view_is) (λ n. subst (λ fs. IfSome (lookup (nat_eq n) es) (λ kept. c.args.published < kept.epoch → lookup (nat_eq n) fs ≡ Some kept)) (sym c.remove_first.ensures.nodes) (stays c.args.published n c.saturating_sub-surplus.result es))
+
+pub returns-then-surplus-gt0-clause-same : goal.returns-then-surplus-gt0-clause-same
+returns-then-surplus-gt0-clause-same c =
+    let es = c.self.inside.nodes.entries in
+    rw (← c.self.view_is) (λ n. subst (λ fs. IfSome (lookup (nat_eq n) fs) (λ kept. lookup (nat_eq n) es ≡ Some kept)) (sym c.remove_first.ensures.nodes) (unchanged c.args.published n c.saturating_sub-surplus.result es c.self.invariant.distinct))
+
+pub returns-then-surplus-gt0-clause-few : goal.returns-then-surplus-gt0-clause-few
+returns-then-surplus-gt0-clause-few c =
+    let p = c.args.published in
+    let es = c.self.inside.nodes.entries in
+    let left = c.remove_first.ensures.nodes ∙ ap (λ n. without_first p n es) (c.saturating_sub-surplus.ensures ∙ ap (λ n. n - c.args.keep) c.count_published.ensures) in
+    subst (λ fs. count_by (is_published p) fs ≤ c.args.keep) (sym left) (few p c.args.keep es)
+
+pub returns-else-surplus-gt0-clause-nodes : goal.returns-else-surplus-gt0-clause-nodes
+returns-else-surplus-gt0-clause-nodes c =
+    let p = c.args.published in
+    let inside = c.self.inside in
+    let es = inside.nodes.entries in
+    let with_nodes : List (ℕ × Cached) → Cache = λ fs. record { bucket = inside.bucket; nodes = fs; saved = inside.saved.entries } in
+    let none : count_by (is_published p) es - c.args.keep ≡ 0 = omega (arith, c.saturating_sub-surplus.ensures, c.count_published.ensures) in
+    rw (← c.self.view_is) (ap with_nodes (sym (ap (λ n. without_first p n es) none ∙ without_none p es)))

@@ -1,0 +1,22 @@
+use Rattle.std.proofs.Common.{◌≡◌, [], ◌∷◌, ◌++◌, sym, ap, ◌∙◌}
+use Rattle.std.specs.List.{filter_map}
+use Rattle.std.specs.Option.{option_to_list}
+use Rattle.node_cache.specs.Entries.{as_saved}
+use Rattle.node_cache.proofs.Restored.{is_last, emptied, restored_one, none_saved}
+use Rattle.node_cache.proofs.restore_all.Goals as goal
+
+pub loop-number-preserved : goal.loop-number-preserved
+loop-number-preserved c =
+    let rest = c.pop.new.self.entries in
+    let whole : c.loop-number.saved.entries ≡ rest ++ (c.in-Some.number, c.in-Some.original) ∷ [] = c.pop.ensures.entries ∙ ap (λ r. rest ++ option_to_list r) c.in-Some.is in
+    let last = is_last c.loop-number.saved.entries rest c.in-Some.number c.in-Some.original whole (c.in-Some.ensures).updates.0 in
+    record {
+      nodes = ap (filter_map (as_saved rest)) c.restore.ensures.nodes ∙ restored_one c.loop-number.saved.entries rest c.in-Some.number c.in-Some.original last c.loop-number.nodes.entries c.loop-number.invariant.unique ∙ c.loop-number.invariant.nodes;
+      unique = c.restore.ensures.unique;
+    }
+
+pub returns-clause-nodes : goal.returns-clause-nodes
+returns-clause-nodes c =
+    let es = c.loop-number.nodes.entries in
+    let none = emptied c.loop-number.saved.entries c.pop.result c.in_default.is c.pop.ensures.found in
+    sym (none_saved es) ∙ ap (λ s. filter_map (as_saved s) es) (sym none) ∙ c.loop-number.invariant.nodes

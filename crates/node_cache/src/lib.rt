@@ -1,0 +1,294 @@
+//! The nodes of one bucket that are kept in memory, in the order of their last use, and what a transaction needs to take back
+//! its changes of them.
+#![tactic(auto)]
+
+ghost use Rattle.std.specs.Prelude.{◌≡◌, ◌≢◌, ℕ, ◌<◌, ◌≤◌, ◌-◌, nat_eq, nat_le, nat_lt, not, ◌&&◌, if◌then◌else◌, [], map, IfOk, OnOk, OnErr, IfSome, is_some, option_copied, count_by};
+ghost use Rattle.std.specs.List.{filter_map};
+ghost use Rattle.std.specs.Option.{option_copied_mut};
+ghost use Rattle.indexmap.specs.IndexMap.{IsUnique};
+ghost use Rattle.node_cache.specs.Entries.{as_saved, restored, stamped_at, settled_entry, is_published, without_first};
+ghost use Rattle.std.specs.Borrow.{sem};
+
+use fine_model::{BucketLaw, Copied, NoMemory, Node};
+use indexmap::IndexMap;
+use std::alloc::Global;
+use std::marker::Model;
+
+#[cfg(test)]
+mod tests;
+
+/// A cached node: its content and version, and the last epoch that may have changed it.
+#[derive(Debug, Drop, PartialEq, Eq)]
+pub struct Cached {
+    pub node: Node,
+    pub version: u64,
+    pub epoch: u64,
+}
+
+impl Copied for Cached {
+    fn copy(&self) -> Result<Cached, NoMemory> {
+        Ok(Cached {
+            node: self.node.copy()?,
+            version: self.version,
+            epoch: self.epoch,
+        })
+    }
+}
+
+/// The cached nodes of a bucket by number, the least recently used first, and the originals of those that were saved.
+///
+/// A number is saved before its first change in a transaction. `undo` then takes the changes back, and `settle` keeps them.
+#[derive(Drop)]
+pub struct Bucket {
+    bucket: u16,
+    nodes: IndexMap<u32, Cached>,
+    saved: IndexMap<u32, Option<Cached>>,
+}
+
+impl Model for Bucket {
+    ghost use Rattle.node_cache.specs.Cache.{Cache, IsCache};
+
+    ghost Value = { Cache };
+
+    ghost view = { λ b. record { bucket = b.bucket; nodes = b.nodes.entries; saved = b.saved.entries } };
+
+    ghost invariant = { λ b. IsCache b.nodes.entries b.saved.entries };
+}
+
+impl BucketLaw for Bucket {
+    ghost use Rattle.node_cache.specs.Cache.{kept_at};
+
+    ghost bucket = { λ b. b.bucket };
+
+    ghost cached = { kept_at };
+}
+
+impl Bucket {
+    ghost use Rattle.node_cache.specs.Cache.{Cache, cached, original, before, after, IsSaved, touched, with_node, saving, undone, settled, evicted};
+    ghost use Rattle.node_cache.specs.Lent.{EndsTouched, LendsNode};
+
+    /// A bucket that caches nothing, of this number. It takes no memory.
+    pub fn new(alloc: Global, bucket: u16) -> Bucket
+        ensures { result ≡ record { bucket = bucket; nodes = []; saved = [] } }
+    {
+        Bucket {
+            bucket,
+            nodes: IndexMap::new(alloc),
+            saved: IndexMap::new(alloc),
+        }
+    }
+
+    /// The bucket's number.
+    pub fn bucket(&self) -> u16
+        ensures { result ≡ self.now.bucket }
+    {
+        self.bucket
+    }
+
+    /// What is cached of a number, with the order of last use as it was. None exactly where nothing is. It takes no memory.
+    pub fn peek(&self, number: u32) -> Option<&Cached>
+        ensures { option_copied result ≡ cached self.now number }
+    {
+        self.nodes.get(&number)
+    }
+
+    /// Makes a number the last used, and answers whether it is cached. It takes no memory.
+    pub fn touch(&mut self, number: u32) -> bool
+        ensures there { result ≡ is_some (cached self.old number) }
+        ensures nodes { self.new ≡ touched self.old number }
+        ensures same { (n : ℕ) → cached self.new n ≡ cached self.old n }
+    {
+        match self.nodes.get_index_of(&number) {
+            Some(i) => {
+                let last = self.nodes.len() - 1;
+                self.nodes.move_index(i, last);
+                true
+            }
+            None => false,
+        }
+    }
+
+    /// What is cached of a number, which becomes the last used. None exactly where nothing is. It takes no memory.
+    pub fn get(&mut self, number: u32) -> Option<&Cached>
+        ensures value { option_copied result ≡ cached self.old number }
+        ensures* touches { sem 𝓛 (EndsTouched self.entry number) }
+    {
+        if self.touch(number) {
+            self.nodes.get(&number)
+        } else {
+            None
+        }
+    }
+
+    /// Caches a node under a number, which becomes the last used, in place of what was cached there. `NoMemory` is the only refusal,
+    /// and leaves the bucket as it was.
+    pub fn put(&mut self, number: u32, kept: Cached) -> Result<(), NoMemory>
+        ensures nodes { OnOk result (self.new ≡ with_node self.old number kept) }
+        ensures here { OnOk result (cached self.new number ≡ Some kept) }
+        ensures elsewhere { OnOk result ((n : ℕ) → n ≢ number → cached self.new n ≡ cached self.old n) }
+        ensures err { OnErr result (self.new ≡ self.old) }
+    {
+        self.nodes.insert(number, kept)?;
+        self.touch(number);
+        Ok(())
+    }
+
+    /// Keeps what is cached of a number, or that nothing is, until `undo` or `settle`. A number that was saved already stays as it
+    /// was saved. `NoMemory` is the only refusal, and leaves the bucket as it was.
+    pub fn save(&mut self, number: u32) -> Result<(), NoMemory>
+        ensures saved { OnOk result (self.new ≡ saving self.old number) }
+        ensures here { OnOk result (IsSaved self.new number) }
+        ensures before { (n : ℕ) → before self.new n ≡ before self.old n }
+        ensures err { OnErr result (self.new ≡ self.old) }
+    {
+        if self.saved.contains_key(&number) {
+            return Ok(());
+        }
+        let original = copy_of(self.nodes.get(&number))?;
+        self.saved.insert(number, original)?;
+        Ok(())
+    }
+
+    /// A node that was saved, to change in its place, with the order of last use as it was. None exactly where nothing is cached. It
+    /// takes no memory.
+    pub fn get_mut(&mut self, number: u32) -> Option<&mut Cached>
+        requires { IsSaved self.old number }
+        ensures value { option_copied_mut result ≡ cached self.old number }
+        ensures* writes_back { sem 𝓛 (LendsNode self.entry number result) }
+    {
+        self.nodes.get_mut(&number)
+    }
+
+    /// Takes back all that was done since numbers were saved: each is cached as it was saved, in its place, or is not cached where
+    /// it was not. Nothing is saved then. It takes no memory.
+    pub fn undo(&mut self)
+        ensures nodes { self.new ≡ undone self.old }
+        ensures restored { (n : ℕ) → cached self.new n ≡ before self.old n }
+    {
+        restore_all(&mut self.nodes, &mut self.saved);
+    }
+
+    /// Keeps all that was done since numbers were saved: each of these nodes has this epoch, and what was saved is forgotten. It
+    /// takes no memory.
+    pub fn settle(&mut self, epoch: u64)
+        ensures nodes { self.new ≡ settled epoch self.old }
+        ensures stamped { (n : ℕ) → cached self.new n ≡ after self.old epoch n }
+    {
+        stamp_all(&mut self.nodes, &mut self.saved, epoch);
+    }
+
+    /// Removes nodes whose epoch is at most `published`, the least recently used first, until at most `keep` of these are left. All
+    /// others stay, in their order. It takes no memory.
+    pub fn evict(&mut self, published: u64, keep: usize)
+        requires { self.old.saved ≡ [] }
+        ensures nodes { self.new ≡ evicted published keep self.old }
+        ensures kept { (n : ℕ) → IfSome (cached self.old n) (λ kept. published < kept.epoch → cached self.new n ≡ Some kept) }
+        ensures same { (n : ℕ) → IfSome (cached self.new n) (λ kept. cached self.old n ≡ Some kept) }
+        ensures few { count_by (is_published published) self.new.nodes ≤ keep }
+    {
+        let surplus = count_published(&self.nodes, published).saturating_sub(keep);
+        if surplus > 0 {
+            remove_first(&mut self.nodes, published, surplus);
+        }
+    }
+}
+
+/// A copy of a node, where there is one.
+fn copy_of(kept: Option<&Cached>) -> Result<Option<Cached>, NoMemory>
+    ensures { IfOk result (λ copy. copy ≡ option_copied kept.entry) }
+{
+    match kept {
+        Some(kept) => Ok(Some(kept.copy()?)),
+        None => Ok(None),
+    }
+}
+
+/// Puts a node back as it was saved, or takes it out where it was not cached.
+fn restore(nodes: &mut IndexMap<u32, Cached>, number: u32, original: Option<Cached>)
+    ensures nodes { nodes.new.entries ≡ restored (nat_eq number) original nodes.old.entries }
+    ensures unique { IsUnique nat_eq nodes.new }
+{
+    match original {
+        Some(kept) => {
+            if let Some(node) = nodes.get_mut(&number) {
+                *node = kept;
+            }
+        }
+        None => {
+            nodes.shift_remove(&number);
+        }
+    }
+}
+
+/// Puts each node back as it was saved.
+fn restore_all(nodes: &mut IndexMap<u32, Cached>, saved: &mut IndexMap<u32, Option<Cached>>)
+    requires { IsUnique nat_eq nodes.old }
+    ensures nodes { nodes.new.entries ≡ filter_map (as_saved saved.old.entries) nodes.old.entries }
+    ensures unique { IsUnique nat_eq nodes.new }
+    ensures saved { saved.new.entries ≡ [] }
+{
+    while let Some((number, original)) = saved.pop() {
+        restore(nodes, number, original);
+    }
+}
+
+/// Gives a node an epoch, where it is cached.
+fn stamp(nodes: &mut IndexMap<u32, Cached>, number: u32, epoch: u64)
+    ensures nodes { nodes.new.entries ≡ stamped_at (nat_eq number) epoch nodes.old.entries }
+    ensures unique { IsUnique nat_eq nodes.new }
+{
+    if let Some(node) = nodes.get_mut(&number) {
+        node.epoch = epoch;
+    }
+}
+
+/// Gives each node that was saved an epoch.
+fn stamp_all(
+    nodes: &mut IndexMap<u32, Cached>,
+    saved: &mut IndexMap<u32, Option<Cached>>,
+    epoch: u64,
+)
+    requires { IsUnique nat_eq nodes.old }
+    ensures nodes { nodes.new.entries ≡ map (settled_entry epoch saved.old.entries) nodes.old.entries }
+    ensures unique { IsUnique nat_eq nodes.new }
+    ensures saved { saved.new.entries ≡ [] }
+{
+    while let Some((number, original)) = saved.pop() {
+        drop(original);
+        stamp(nodes, number, epoch);
+    }
+}
+
+/// How many nodes are published.
+fn count_published(nodes: &IndexMap<u32, Cached>, published: u64) -> usize
+    ensures { result ≡ count_by (is_published published) nodes.now.entries }
+{
+    let mut count = 0;
+    for (_number, kept) in nodes.iter() {
+        if kept.epoch <= published {
+            count += 1;
+        }
+    }
+    count
+}
+
+/// Removes the first `surplus` of the nodes that are published.
+fn remove_first(nodes: &mut IndexMap<u32, Cached>, published: u64, surplus: usize)
+    ensures nodes { nodes.new.entries ≡ without_first published surplus nodes.old.entries }
+    ensures unique { IsUnique nat_eq nodes.new }
+{
+    let mut left = surplus;
+    nodes.retain(
+        move |_number: &u32, kept: &mut Cached| -> bool
+            ensures answer { result ≡ not (nat_le kept.old.epoch published && nat_lt 0 left.entry) }
+            ensures same { kept.new ≡ kept.old }
+            ensures left { left.exit ≡ (if nat_le kept.old.epoch published && nat_lt 0 left.entry then left.entry - 1 else left.entry) }
+        {
+            let goes = kept.epoch <= published && left > 0;
+            if goes {
+                left -= 1;
+            }
+            !goes
+        },
+    );
+}

@@ -1,0 +1,190 @@
+-- The rows that setting a pair pushes are of the bucket, within bounds, and of nodes that are there or that they make.
+use Rattle.std.proofs.Common.{◌≡◌, ◌⊎◌, inl, inr, ℕ, zero, suc, ◌+◌, ◌≤◌, nat_lt, Bool, true, false, cond, ◌||◌, List, [], ◌∷◌, ◌++◌, length, drop, slice_get, refl, sym, ap, subst, Option, Some, None, arith}
+use Rattle.std.specs.Prelude.{unwrap_or, IfSome}
+use Rattle.std.specs.List.{AllByRecursion}
+use Rattle.std.proofs.lemmas.Bool.{or_parts, ltb-false}
+use Rattle.std.proofs.lemmas.List.{length-drop, map-id}
+use Rattle.fine_model.specs.declared.Rec.{Rec}
+use Rattle.fine_model.specs.declared.Rec.TheVariants as rec
+use Rattle.fine_model.specs.declared.Row.{Row}
+use Rattle.fine_model.specs.declared.Node.{Node}
+use Rattle.fine_model.specs.declared.Node.TheVariants as node
+use Rattle.fine_model.specs.Map.{Pair, is_below, has, is_ascending}
+use Rattle.fine_model.specs.Nodes.{Content}
+use Rattle.fine_model.specs.Paths.{is_inner, place_among, bounds_at, seps_of, kid_at, unfit_from}
+use Rattle.fine_model.specs.Pushed.{Growth, row_of, key_at, child_for, split_leaf, split_inner, grown_leaf, grown_inner, growth}
+use Rattle.fine_model.specs.RowBytes.{FitsKey, FitsPair, FitsChild, FitsRec}
+use Rattle.fine_model.specs.Trees.{Bounds, is_leaf, pairs_of}
+use Rattle.fine_model.proofs.Order.{ascending-drop}
+use Rattle.fine_model.proofs.Zip.{all_right}
+use Rattle.fine_model.proofs.Sets.{all_append}
+use Rattle.fine_model.proofs.Parts.{Parted, parted, key_at-is}
+use Rattle.node_record.specs.Bounds.{FitsNode}
+use Rattle.node_record.proofs.Ordered.{AreUp-from_ascending, ascending_from_up, AreUp-drop}
+use Rattle.node_cache.specs.declared.Cached.{Cached}
+use Rattle.node_cache.specs.Cache.{Cache, cached}
+use Rattle.btree_nodes.specs.Given.{given, IsCached, FitsKept, FitsCache}
+use Rattle.btree_nodes.specs.Changes.{is_image, IsReady, AreReady}
+use Rattle.btree_nodes.specs.Growths.{split_rows}
+use Rattle.btree_nodes.proofs.Changed.{content_of, given_of}
+use Rattle.btree_nodes.proofs.Pushed.{ready_more}
+use Rattle.btree_nodes.proofs.Sound.{cached_of_whole, leaf_whole, inner_whole, passed}
+use Rattle.btree_nodes.proofs.Ways.{child_is}
+
+-- ---- rows that are ready
+
+pub ready_append : (K : ℕ → Type 0) (rows more : List Row) → AreReady K rows → AreReady K more → AreReady K (rows ++ more)
+ready_append K [] more first second = second
+ready_append K (row ∷ rows) more first second = (first.0, ready_append (λ n. K n ⊎ (n ≡ row.node.number)) rows more first.1 (ready_more K (λ n. K n ⊎ (n ≡ row.node.number)) (λ n h. inl h) more second))
+
+pub split_ready : (K : ℕ → Type 0) (bucket number version next : ℕ) (image cut set : Rec) (left : Bool) → K number → is_image image ≡ true → AreReady K (split_rows bucket number version next image cut set left)
+split_ready K bucket number version next image cut set left here is = (inr is, (inl (inl here), (by left, tt)))
+  where
+    by : (t : Bool) → IsReady (λ n. (K n ⊎ (n ≡ next)) ⊎ (n ≡ number)) (cond t (row_of bucket number (version + 2) set) (row_of bucket next 2 set))
+    by true = inl (inr refl)
+    by false = inl (inl (inr refl))
+
+module _ (b : Cache) (next : ℕ) (key value : List ℕ) where
+  ready_leaf : (number version : ℕ) (pairs : List Pair) → IsCached b number → AreReady (IsCached b) (grown_leaf b.bucket number version next (key, value) pairs).rows
+  unfolding grown_leaf split_leaf
+  ready_leaf number version pairs here = by (has pairs key || nat_lt (length pairs) 32)
+    where
+      by : (t : Bool) → AreReady (IsCached b) (cond {A = Growth} t (record { rows = row_of b.bucket number (version + 1) (rec.Put key value) ∷ []; next = next; split = None }) (split_leaf b.bucket number version next (key, value) pairs (key_at pairs 16))).rows
+      by true = (inl here, tt)
+      by false = split_ready (IsCached b) b.bucket number version next (rec.LeafImage (drop 16 pairs)) (rec.CutLeaf (key_at pairs 16)) (rec.Put key value) (is_below key (key_at pairs 16)) here refl
+
+  ready_inner : (number version : ℕ) (n : Node) (rows : List Row) (next' : ℕ) (split : Option (List ℕ × ℕ)) → IsCached b number → AreReady (IsCached b) rows → AreReady (IsCached b) (grown_inner b.bucket number version n rows next' split).rows
+  unfolding grown_inner split_inner
+  ready_inner number version (node.Inner seps kids) rows next' (Some split) here ready = by (nat_lt (length seps) 32)
+    where
+      by : (t : Bool) → AreReady (IsCached b) (cond {A = Growth} t (record { rows = rows ++ row_of b.bucket number (version + 1) (rec.Link split.0 split.1) ∷ []; next = next'; split = None })
+          (split_inner b.bucket number version seps kids (unwrap_or (slice_get seps 16) []) rows next' split.0 split.1)).rows
+      by true = ready_append (IsCached b) rows (row_of b.bucket number (version + 1) (rec.Link split.0 split.1) ∷ []) ready (inl here, tt)
+      by false = ready_append (IsCached b) rows _ ready (split_ready (IsCached b) b.bucket number version next' (rec.InnerImage (drop 17 seps) (drop 17 kids)) (rec.CutInner (unwrap_or (slice_get seps 16) [])) (rec.Link split.0 split.1) (is_below split.0 (unwrap_or (slice_get seps 16) [])) here refl)
+  ready_inner number version (node.Inner seps kids) rows next' None here ready = ready
+  ready_inner number version (node.Head root n d) rows next' split here ready = ready
+  ready_inner number version (node.Leaf pairs) rows next' split here ready = ready
+  ready_inner number version node.Broken rows next' split here ready = ready
+
+  -- on a way that is fit
+  pub growth_ready : (height : ℕ) (bounds : Bounds) (number : ℕ) → unfit_from height b.bucket (given b) next key bounds number ≡ None → AreReady (IsCached b) (growth height b.bucket (given b) next (key, value) number).rows
+  unfolding unfit_from growth
+  growth_ready zero bounds number fit =
+      ready_leaf number (given b number).1 (pairs_of (given b number).0) (cached_of_whole b number (leaf_whole b.bucket bounds (given b number).0 (passed (is_leaf b.bucket bounds (given b number).0) None number fit).0))
+  growth_ready (suc height) bounds number fit =
+      let kid = kid_at (given b number).0 (place_among key (seps_of (given b number).0)) in
+      let inside = bounds_at bounds (seps_of (given b number).0) (place_among key (seps_of (given b number).0)) in
+      let p = passed (is_inner bounds next (given b number).0) (unfit_from height b.bucket (given b) next key inside kid) number fit in
+      let below = subst (λ k. AreReady (IsCached b) (growth height b.bucket (given b) next (key, value) k).rows) (sym (child_is key (given b number).0)) (growth_ready height inside kid p.1) in
+      let g = growth height b.bucket (given b) next (key, value) (child_for key (given b number).0) in
+      ready_inner number (given b number).1 (given b number).0 g.rows g.next g.split (cached_of_whole b number (inner_whole bounds next (given b number).0 p.0)) below
+
+-- ---- rows within bounds
+
+pub node_fits : (b : Cache) → FitsCache b → (n : ℕ) → FitsNode (given b n).0
+node_fits b fits n = subst (λ (c : Content). FitsNode c.0) (sym (given_of b n)) (by (cached b n) (fits.each n))
+  where
+    by : (o : Option Cached) → IfSome o FitsKept → FitsNode (content_of o).0
+    by None h = tt
+    by (Some kept) h = h.node
+
+all_drop : {A : Type 0} (P : A → Type 0) (n : ℕ) (xs : List A) → AllByRecursion P xs → AllByRecursion P (drop n xs)
+all_drop P zero xs all = all
+all_drop P (suc n) [] all = tt
+all_drop P (suc n) (x ∷ xs) all = all_drop P n xs all.1
+
+item_fits : {A : Type 0} (P : A → Type 0) (n : ℕ) (xs : List A) (p : Parted n xs) → AllByRecursion P xs → P p.item
+item_fits P n xs p all = (all_right P p.front (p.item ∷ p.back) (subst (AllByRecursion P) p.is all)).0
+
+pairs_fit : (n : Node) → FitsNode n → FitsRec (rec.LeafImage (pairs_of n))
+pairs_fit (node.Leaf pairs) fits = fits
+pairs_fit (node.Head root next depth) fits = (omega arith, tt, refl)
+pairs_fit (node.Inner seps kids) fits = (omega arith, tt, refl)
+pairs_fit node.Broken fits = (omega arith, tt, refl)
+
+drop_leaf : (n : ℕ) (pairs : List Pair) → FitsRec (rec.LeafImage pairs) → FitsRec (rec.LeafImage (drop n pairs))
+drop_leaf n pairs fits = let l = length-drop n pairs in let f = fits.0 in (omega (arith, l, f), all_drop FitsPair n pairs fits.1, ascending-drop n pairs fits.2)
+
+drop_inner : (n : ℕ) (seps : List (List ℕ)) (kids : List ℕ) → n ≤ length seps → FitsRec (rec.InnerImage seps kids) → FitsRec (rec.InnerImage (drop n seps) (drop n kids))
+drop_inner n seps kids few fits =
+    let l = length-drop n seps in let k = length-drop n kids in let a = fits.0 in let b = fits.1 in (
+      omega (arith, l, a),
+      omega (arith, l, k, b, few),
+      all_drop FitsChild n kids fits.2,
+      all_drop FitsKey n seps fits.3,
+      subst (λ (ks : List (List ℕ)). is_ascending ks ≡ true) (map-id (drop n seps)) (ascending_from_up (λ k. k) (drop n seps) (AreUp-drop (λ k. k) n seps (AreUp-from_ascending (λ k. k) seps (subst (λ (ks : List (List ℕ)). is_ascending ks ≡ true) (sym (map-id seps)) fits.4)))),
+    )
+
+module _ (bucket : ℕ) where
+  -- a row is of the bucket, and within bounds but for its version
+  abbrev pub IsGood : Row → Type 0
+  IsGood row = (row.node.bucket ≡ bucket) × FitsRec row.rec
+
+  split_good : (number version next : ℕ) (image cut set : Rec) (left : Bool) → FitsRec image → FitsRec cut → FitsRec set → AllByRecursion IsGood (split_rows bucket number version next image cut set left)
+  split_good number version next image cut set left i c s = ((refl, i), ((refl, c), (by left, tt)))
+    where
+      by : (t : Bool) → IsGood (cond t (row_of bucket number (version + 2) set) (row_of bucket next 2 set))
+      by true = (refl, s)
+      by false = (refl, s)
+
+  pub record FitsGrowth (low : ℕ) (g : Growth) : Type 0 where
+    pub ordered : low ≤ g.next
+    pub rows : g.next ≤ 1048576 → AllByRecursion IsGood g.rows
+    pub split : g.next ≤ 1048576 → IfSome g.split (λ s. FitsKey s.0 × FitsChild s.1)
+
+  module _ (low : ℕ) (some : 1 ≤ low) (key value : List ℕ) (pair : FitsPair (key, value)) where
+    leaf_good : (number version : ℕ) (pairs : List Pair) → FitsRec (rec.LeafImage pairs) → FitsGrowth low (grown_leaf bucket number version low (key, value) pairs)
+    unfolding grown_leaf split_leaf
+    leaf_good number version pairs fits = by (has pairs key || nat_lt (length pairs) 32) refl
+      where
+        by : (t : Bool) → (has pairs key || nat_lt (length pairs) 32) ≡ t
+            → FitsGrowth low (cond {A = Growth} t (record { rows = row_of bucket number (version + 1) (rec.Put key value) ∷ []; next = low; split = None }) (split_leaf bucket number version low (key, value) pairs (key_at pairs 16)))
+        by true e = record { ordered = omega arith; rows = λ enough. ((refl, pair), tt); split = λ enough. tt }
+        by false e =
+            let many = ltb-false (length pairs) 32 (or_parts (has pairs key) (nat_lt (length pairs) 32) e).1 in
+            let p = parted 16 pairs (omega (arith, many)) in
+            let sep : FitsKey (key_at pairs 16) = subst FitsKey (sym (key_at-is pairs 16 p.item p.at)) (item_fits FitsPair 16 pairs p fits.1).0 in
+            record {
+              ordered = omega arith;
+              rows = λ enough. split_good number version low (rec.LeafImage (drop 16 pairs)) (rec.CutLeaf (key_at pairs 16)) (rec.Put key value) (is_below key (key_at pairs 16)) (drop_leaf 16 pairs fits) sep pair;
+              split = λ enough. (sep, (some, omega (arith, enough)));
+            }
+
+    inner_good : (number version : ℕ) (n : Node) → FitsNode n → (g : Growth) → FitsGrowth low g → (s : Option (List ℕ × ℕ)) → g.split ≡ s → FitsGrowth low (grown_inner bucket number version n g.rows g.next s)
+    unfolding grown_inner split_inner
+    inner_good number version (node.Inner seps kids) fits g w (Some split) is = by (nat_lt (length seps) 32) refl
+      where
+        set : g.next ≤ 1048576 → FitsKey split.0 × FitsChild split.1
+        set enough = subst (λ o. IfSome o (λ s. FitsKey s.0 × FitsChild s.1)) is (w.split enough)
+
+        by : (t : Bool) → nat_lt (length seps) 32 ≡ t
+            → FitsGrowth low (cond {A = Growth} t (record { rows = g.rows ++ row_of bucket number (version + 1) (rec.Link split.0 split.1) ∷ []; next = g.next; split = None })
+            (split_inner bucket number version seps kids (unwrap_or (slice_get seps 16) []) g.rows g.next split.0 split.1))
+        by true e = record {
+          ordered = w.ordered;
+          rows = λ enough. all_append IsGood g.rows _ (w.rows enough) ((refl, set enough), tt);
+          split = λ enough. tt;
+        }
+        by false e =
+            let many = ltb-false (length seps) 32 e in
+            let p = parted 16 seps (omega (arith, many)) in
+            let middle : FitsKey (unwrap_or (slice_get seps 16) []) = subst FitsKey (sym (ap (λ o. unwrap_or o []) p.at)) (item_fits FitsKey 16 seps p fits.3) in
+            let ordered = w.ordered in
+            record {
+              ordered = omega (arith, ordered);
+              rows = λ enough. all_append IsGood g.rows _ (w.rows (omega (arith, enough)))
+                  (split_good number version g.next (rec.InnerImage (drop 17 seps) (drop 17 kids)) (rec.CutInner (unwrap_or (slice_get seps 16) [])) (rec.Link split.0 split.1) (is_below split.0 (unwrap_or (slice_get seps 16) []))
+                  (drop_inner 17 seps kids (omega (arith, many)) fits) middle (set (omega (arith, enough))));
+              split = λ enough. (middle, (omega (arith, some, ordered), omega (arith, enough)));
+            }
+    inner_good number version (node.Inner seps kids) fits g w None is = record { ordered = w.ordered; rows = w.rows; split = λ enough. tt }
+    inner_good number version (node.Head root n d) fits g w s is = record { ordered = w.ordered; rows = w.rows; split = λ enough. tt }
+    inner_good number version (node.Leaf pairs) fits g w s is = record { ordered = w.ordered; rows = w.rows; split = λ enough. tt }
+    inner_good number version node.Broken fits g w s is = record { ordered = w.ordered; rows = w.rows; split = λ enough. tt }
+
+    pub growth_good : (nodes : ℕ → Content) → ((n : ℕ) → FitsNode (nodes n).0) → (height number : ℕ) → FitsGrowth low (growth height bucket nodes low (key, value) number)
+    unfolding growth
+    growth_good nodes fits zero number = leaf_good number (nodes number).1 (pairs_of (nodes number).0) (pairs_fit (nodes number).0 (fits number))
+    growth_good nodes fits (suc height) number =
+        let g = growth height bucket nodes low (key, value) (child_for key (nodes number).0) in
+        inner_good number (nodes number).1 (nodes number).0 (fits number) g (growth_good nodes fits height (child_for key (nodes number).0)) g.split refl

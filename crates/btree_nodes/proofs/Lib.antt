@@ -1,0 +1,17 @@
+pub mod Places
+pub mod Steps
+pub mod Loads
+pub mod Ways
+pub mod Paths
+pub mod Held
+pub mod Sound
+pub mod Changed
+pub mod LeafPush
+pub mod SoundCalls
+pub mod Grown
+pub mod GrowthFits
+pub mod SoundGrowth
+pub mod PutRows
+pub mod Pushed
+pub mod Sums
+pub mod SumsNew

@@ -1,0 +1,144 @@
+-- The rows that setting a key pushes in a tree may be pushed.
+use Rattle.std.proofs.Common.{◌≡◌, ℕ, ◌+◌, ◌-◌, ◌≤◌, ◌==◌, nat_lt, nat_le, Bool, true, false, cond, ◌&&◌, ◌||◌, List, [], ◌∷◌, ◌++◌, Option, Some, None, Result, Ok, Err, inr, refl, sym, ap, subst, ◌∙◌, arith}
+use Rattle.std.specs.Prelude.{IfSome}
+use Rattle.std.specs.List.{AllByRecursion, list_any}
+use Rattle.std.proofs.lemmas.Bool.{or_parts, ltb-false}
+use Rattle.fine_model.specs.declared.Call.TheVariants as call
+use Rattle.fine_model.specs.declared.Rec.TheVariants as rec
+use Rattle.fine_model.specs.declared.Row.{Row}
+use Rattle.fine_model.specs.declared.Why.{Why}
+use Rattle.fine_model.specs.declared.Why.TheVariants as why
+use Rattle.fine_model.specs.Paths.{unfit_from, unfit_under}
+use Rattle.fine_model.specs.Pushed.{Growth, Push, row_of, growth, with_head, set_push, call_push, within_limits}
+use Rattle.fine_model.specs.RowBytes.{greatest, FitsKey, FitsPair, FitsChild, FitsRec}
+use Rattle.fine_model.specs.Trees.{whole}
+use Rattle.fine_model.proofs.Order.{all_map}
+use Rattle.fine_model.proofs.Parts.{all_both}
+use Rattle.fine_model.proofs.Sets.{all_append}
+use Rattle.node_record.specs.Bounds.{FitsNode}
+use Rattle.node_cache.specs.Cache.{Cache}
+use Rattle.btree_nodes.specs.declared.tree.Path.{Path}
+use Rattle.btree_nodes.specs.Given.{given, IsCached, FitsCache}
+use Rattle.btree_nodes.specs.Changes.{AreReady}
+use Rattle.btree_nodes.specs.Trees.{IsPath}
+use Rattle.btree_nodes.specs.declared.insertion.Push.{Push as Rows}
+use Rattle.btree_nodes.specs.declared.fault.TreeFault.{TreeFault}
+use Rattle.btree_nodes.specs.declared.fault.TreeFault.TheVariants.{Source, Unfit, BucketFull, Number, NoMemory}
+use Rattle.btree_nodes.specs.Growths.{pushed_of, Limits}
+use Rattle.btree_nodes.specs.Calls.{pushed_in, Outcome}
+use Rattle.btree_nodes.proofs.Sound.{passed}
+use Rattle.btree_nodes.proofs.GrowthFits.{ready_append, growth_ready, node_fits, IsGood, FitsGrowth, growth_good}
+
+-- rows that are within the limits
+record IsWithin (push : Push) (new : List Row) : Type 0 where
+  next : push.next ≤ 1048576
+  depth : push.depth ≤ 8
+  versions : AllByRecursion (λ row. row.version ≤ greatest) push.rows
+  rows : push.rows ≡ new
+
+none_any : {A : Type 0} (p : A → Bool) (xs : List A) → list_any p xs ≡ false → AllByRecursion (λ x. p x ≡ false) xs
+none_any p [] h = tt
+none_any p (x ∷ xs) h = let n = or_parts (p x) (list_any p xs) h in (n.0, none_any p xs n.1)
+
+within : (push : Push) (new : List Row) → within_limits push ≡ Ok new → IsWithin push new
+unfolding within_limits
+within push new is = by (nat_lt 1048576 push.next || nat_lt 8 push.depth) refl (list_any (λ row. nat_lt greatest row.version) push.rows) refl is
+  where
+    by : (b : Bool) → (nat_lt 1048576 push.next || nat_lt 8 push.depth) ≡ b → (c : Bool) → list_any (λ row. nat_lt greatest row.version) push.rows ≡ c
+        → cond {A = Result (List Row) Why} b (Err why.Bucket) (cond c (Err why.Number) (Ok push.rows)) ≡ Ok new → IsWithin push new
+    by true e c f is = absurd (cc)
+    by false e true f is = absurd (cc)
+    by false e false f is =
+        let n = or_parts (nat_lt 1048576 push.next) (nat_lt 8 push.depth) e in record {
+          next = ltb-false 1048576 push.next n.0;
+          depth = ltb-false 8 push.depth n.1;
+          versions = all_map (λ row. nat_lt greatest row.version ≡ false) (λ row. row.version ≤ greatest) (λ row h. ltb-false greatest row.version h) push.rows (none_any (λ row. nat_lt greatest row.version) push.rows f);
+          rows = cc;
+        }
+
+-- rows that may be pushed
+pub record CanPush (b : Cache) (rows : List Row) : Type 0 where
+  pub of_bucket : AllByRecursion (λ row. row.node.bucket ≡ b.bucket) rows
+  pub ready : AreReady (IsCached b) rows
+  pub recs : AllByRecursion (λ row. FitsRec row.rec × (row.version ≤ greatest)) rows
+
+module _ (b : Cache) (fits : FitsCache b) (key value : List ℕ) (pair : FitsPair (key, value)) (path : Path) (is : IsPath b key path) where
+  abbrev g : Growth
+  g = growth (path.depth - 1) b.bucket (given b) path.next (key, value) path.root
+
+  abbrev over : Option (List ℕ × ℕ) → Push
+  over s = with_head b.bucket (given b 0).1 path.root path.next path.depth g.rows g.next s
+
+  abbrev pub put_rows : Push
+  put_rows = over g.split
+
+  pub put_is : pushed_in b (call.Put key value) ≡ within_limits put_rows
+  unfolding call_push set_push
+  put_is = ap (λ n. within_limits (set_push b.bucket (given b) (key, value) n)) is.head
+
+  head_fits : FitsRec (rec.HeadImage path.root path.next path.depth)
+  head_fits = subst FitsNode is.head (node_fits b fits 0)
+
+  way_fit : unfit_from (path.depth - 1) b.bucket (given b) path.next key whole path.root ≡ None
+  unfolding unfit_under
+  way_fit = (passed (nat_lt path.root path.next && nat_le 1 path.depth) (unfit_from (path.depth - 1) b.bucket (given b) path.next key whole path.root) 0 (sym (ap (unfit_under b.bucket (given b) key) is.head) ∙ is.fit)).1
+
+  below_ready : AreReady (IsCached b) g.rows
+  below_ready = growth_ready b path.next key value (path.depth - 1) whole path.root way_fit
+
+  below_good : FitsGrowth b.bucket path.next g
+  below_good = let h = head_fits in let n = h.1 in growth_good b.bucket path.next (omega (arith, n)) key value pair (given b) (node_fits b fits) (path.depth - 1) path.root
+
+  over_ready : (s : Option (List ℕ × ℕ)) → AreReady (IsCached b) (over s).rows
+  unfolding with_head
+  over_ready (Some split) = ready_append (IsCached b) g.rows _ below_ready (inr refl, (inr refl, tt))
+  over_ready None = by (g.next == path.next)
+    where
+      by : (t : Bool) → AreReady (IsCached b) (cond t g.rows (g.rows ++ row_of b.bucket 0 ((given b 0).1 + 1) (rec.HeadImage path.root g.next path.depth) ∷ []))
+      by true = below_ready
+      by false = ready_append (IsCached b) g.rows _ below_ready (inr refl, tt)
+
+  over_good : (s : Option (List ℕ × ℕ)) → g.split ≡ s → (over s).next ≤ 1048576 → (over s).depth ≤ 8 → AllByRecursion (IsGood b.bucket) (over s).rows
+  unfolding with_head
+  over_good None e enough few = by (g.next == path.next)
+    where
+      by : (t : Bool) → AllByRecursion (IsGood b.bucket) (cond t g.rows (g.rows ++ row_of b.bucket 0 ((given b 0).1 + 1) (rec.HeadImage path.root g.next path.depth) ∷ []))
+      by true = below_good.rows enough
+      by false =
+          let h = head_fits in let n = h.1 in let o = below_good.ordered in
+          all_append (IsGood b.bucket) g.rows _ (below_good.rows enough) ((refl, (h.0, omega (arith, n, o), enough, h.3, h.4)), tt)
+  over_good (Some split) e enough few =
+      let w = below_good in
+      let low : g.next ≤ 1048576 = omega (arith, enough) in
+      let s : FitsKey split.0 × FitsChild split.1 = subst (λ o. IfSome o (λ s. FitsKey s.0 × FitsChild s.1)) e (w.split low) in
+      let h = head_fits in let n = h.1 in let o = w.ordered in
+      let child : FitsChild g.next = (omega (arith, n, o), omega (arith, enough)) in
+      all_append (IsGood b.bucket) g.rows _ (w.rows low) (
+        (refl, (omega arith, omega arith, (h.0, (s.1, tt)), (s.0, tt), refl)),
+        ((refl, (child, omega (arith, n, o), enough, omega arith, few)), tt),
+      )
+
+  pub can_push : (rows : List Row) → within_limits put_rows ≡ Ok rows → CanPush b rows
+  can_push rows ok =
+      let w = within put_rows rows ok in
+      let good = over_good g.split refl w.next w.depth in
+      subst (CanPush b) w.rows (record {
+        of_bucket = all_map (IsGood b.bucket) (λ row. row.node.bucket ≡ b.bucket) (λ row p. p.0) put_rows.rows good;
+        ready = over_ready g.split;
+        recs = all_both (IsGood b.bucket) (λ row. row.version ≤ greatest) (λ row. FitsRec row.rec × (row.version ≤ greatest)) (λ row p v. (p.1, v)) put_rows.rows good w.versions;
+      })
+
+  module _ (p : Rows) (same : pushed_of p ≡ put_rows) where
+    pub put_pushed : (r : Result (List Row) Why) → within_limits (pushed_of p) ≡ r → pushed_in b (call.Put key value) ≡ r
+    put_pushed r e = put_is ∙ ap within_limits (sym same) ∙ e
+
+    pub can_put : within_limits (pushed_of p) ≡ Ok p.rows → CanPush b p.rows
+    can_put e = can_push p.rows (ap within_limits (sym same) ∙ e)
+
+    -- a limit would be passed
+    pub limits_outcome : (log : List Row) (e : TreeFault) → Limits p (Err e) → Outcome {A = Unit {0}} b b log log (call.Put key value) key (λ u. Unit {0}) (λ f. ⊥) (Err e)
+    limits_outcome log (BucketFull next depth) h = (put_pushed (Err why.Bucket) h, record { here = is.here; fit = is.fit }, record { nodes = refl; rows = refl })
+    limits_outcome log (Number id) h = (put_pushed (Err why.Number) h, record { here = is.here; fit = is.fit }, record { nodes = refl; rows = refl })
+    limits_outcome log (Source f) h = absurd h
+    limits_outcome log (Unfit id) h = absurd h
+    limits_outcome log NoMemory h = absurd h

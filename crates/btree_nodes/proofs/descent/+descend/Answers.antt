@@ -1,0 +1,45 @@
+use Rattle.std.proofs.Common.{◌≡◌, ◌<◌, sym, subst, ◌∙◌, arith}
+use Rattle.btree_nodes.specs.Given.{given, IsCached}
+use Rattle.btree_nodes.specs.Descent.{bounds_by}
+use Rattle.btree_nodes.specs.Descends.{IsWay, IsUnfit}
+use Rattle.btree_nodes.proofs.Ways.{way_leaf, unfit_leaf, unfit_inner, descends_on, kept_stays, step_stays}
+use Rattle.btree_nodes.proofs.descent.+descend.Goals as goal
+
+pub returns-then-is_leaf_within-clause-way : goal.returns-then-is_leaf_within-clause-way
+returns-then-is_leaf_within-clause-way g t c =
+    let b = c.reach.new.bucket in
+    let bounds = bounds_by (given b) c.args.low c.args.high in
+    let here : IsCached b c.args.number = (c.in_ok-reach.ensures).there in
+    let ground_floor : c.args.height ≡ 0 = omega arith in
+    subst (λ h. IsWay b h c.args.next c.args.key.now bounds c.args.number c.args.number) (sym ground_floor)
+    (way_leaf b c.args.next c.args.key.now bounds c.args.number (sym c.is_leaf_within.ensures ∙ c.if-is_leaf_within.true) here)
+
+pub returns-else-is_leaf_within-clause-way : goal.returns-else-is_leaf_within-clause-way
+returns-else-is_leaf_within-clause-way g t c =
+    let b = c.reach.new.bucket in
+    let bounds = bounds_by (given b) c.args.low c.args.high in
+    let here : IsCached b c.args.number = (c.in_ok-reach.ensures).there in
+    let ground_floor : c.args.height ≡ 0 = omega arith in
+    subst (λ h. IsUnfit b h c.args.next c.args.key.now bounds c.args.number c.bucket.result c.args.number) (sym ground_floor)
+    (subst (λ k. IsUnfit b 0 c.args.next c.args.key.now bounds c.args.number k c.args.number) (sym c.bucket.ensures)
+    (unfit_leaf b c.args.next c.args.key.now bounds c.args.number (sym c.is_leaf_within.ensures ∙ c.if-is_leaf_within.false) here))
+
+pub returns-in_default-clause-way : goal.returns-in_default-clause-way
+returns-in_default-clause-way g t c =
+    let b = c.reach.new.bucket in
+    let bounds = bounds_by (given b) c.args.low c.args.high in
+    let here : IsCached b c.args.number = (c.in_ok-reach.ensures).there in
+    let above : 0 < c.args.height = omega arith in
+    subst (λ k. IsUnfit b c.args.height c.args.next c.args.key.now bounds c.args.number k c.args.number) (sym c.bucket.ensures)
+    (unfit_inner b c.args.next c.args.key.now bounds c.args.number c.args.height above (c.in_default.ensures).step here)
+
+pub returns-clause-way : goal.returns-clause-way
+returns-clause-way g t c =
+    let mid = c.reach.new.bucket in
+    let here : IsCached mid c.args.number = (c.in_ok-reach.ensures).there in
+    let above : 0 < c.args.height = omega arith in
+    let kept = (c.in-Some.ensures).kept in
+    let low = kept_stays _ _ _ mid c.reach.ensures.loaded c.args.low c.requires.low in
+    let high = kept_stays _ _ _ mid c.reach.ensures.loaded c.args.high c.requires.high in
+    let step = step_stays _ _ mid c.descend.new.bucket c.descend.ensures.loaded c.args.next c.args.key.now c.args.low c.args.high c.args.number c.in-Some.step here low high kept.0 kept.1 (c.in-Some.ensures).step in
+    descends_on c.descend.new.bucket c.args.next c.args.key.now c.args.low c.args.high c.args.number c.in-Some.step step c.args.height _ _ (λ f h. g.met.S.NodeSource.fails_earlier _ _ _ f c.reach.ensures.later h) above c.descend.result c.descend.ensures.way

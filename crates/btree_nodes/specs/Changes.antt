@@ -1,0 +1,60 @@
+-- What calls that push rows do to a bucket.
+use Rattle.std.specs.Prelude.{◌≡◌, ◌≢◌, ◌⊎◌, ℕ, Bool, true, false, List, [], ◌∷◌, None}
+use Rattle.fine_model.specs.declared.NodeId.{NodeId}
+use Rattle.fine_model.specs.declared.Rec.{Rec}
+use Rattle.fine_model.specs.declared.Rec.TheVariants as rec
+use Rattle.fine_model.specs.declared.Row.{Row}
+use Rattle.fine_model.specs.Nodes.{Content, replay, step, rows_of}
+use Rattle.node_cache.specs.declared.Cached.{Cached}
+use Rattle.node_cache.specs.Cache.{Cache, cached, original, before, rewritten, IsSaved}
+use Rattle.btree_nodes.specs.Given.{given, IsCached, FitsKept}
+
+-- a node of a bucket
+abbrev pub node_at : Cache → ℕ → NodeId
+node_at b n = record { bucket = b.bucket; number = n }
+
+-- Each node that was changed or added was saved, no original is lost, and what would be restored is the same.
+pub record Saves (old new : Cache) : Type 0 where
+  pub bucket : new.bucket ≡ old.bucket
+  pub originals : (n : ℕ) → IsSaved old n → original new n ≡ original old n
+  pub before : (n : ℕ) → before new n ≡ before old n
+  pub changed : (n : ℕ) → IsSaved new n ⊎ (cached new n ≡ cached old n)
+
+-- one node is what a row makes of it, in its place
+pub record IsChanged (old new : Cache) (row : Row) : Type 0 where
+  pub kept : Cached
+  pub is : new ≡ rewritten old row.node.number kept
+  pub same : (kept.node, kept.version) ≡ step (given old row.node.number) row
+  pub fits : FitsKept kept
+
+-- Rows were pushed: each node is what they make of it, those that they name are cached, and those that they make anew are made by
+-- images.
+pub record Pushes (old new : Cache) (rows : List Row) : Type 0 where
+  pub saves : Saves old new
+  pub nodes : (n : ℕ) → given new n ≡ replay (given old n) (rows_of (node_at old n) rows)
+  pub kept : (n : ℕ) → IsCached old n → IsCached new n
+  pub named : (n : ℕ) → cached new n ≡ None → rows_of (node_at old n) rows ≡ []
+  pub added : (n : ℕ) → cached old n ≡ None → IsCached new n → (c d : Content) → replay c (rows_of (node_at old n) rows) ≡ replay d (rows_of (node_at old n) rows)
+
+-- a node's place is held: it is cached, and what the bucket gives is the same
+pub record HoldsPlace (old new : Cache) (number : ℕ) : Type 0 where
+  pub there : IsCached new number
+  pub given : (n : ℕ) → given new n ≡ given old n
+  pub others : (n : ℕ) → n ≢ number → cached new n ≡ cached old n
+  pub saves : Saves old new
+
+-- a row is an image, whatever stood before
+abbrev pub is_image : Rec → Bool
+is_image (rec.HeadImage root next depth) = true
+is_image (rec.LeafImage pairs) = true
+is_image (rec.InnerImage seps kids) = true
+is_image _ = false
+
+-- a row is of a node that is there, or makes it
+abbrev pub IsReady : (ℕ → Type 0) → Row → Type 0
+IsReady There row = There row.node.number ⊎ (is_image row.rec ≡ true)
+
+-- each row is of a node that is there, or that it or an earlier one makes
+abbrev pub AreReady : (ℕ → Type 0) → List Row → Type 0
+AreReady There [] = Unit {0}
+AreReady There (row ∷ rows) = IsReady There row × AreReady (λ n. There n ⊎ (n ≡ row.node.number)) rows

@@ -1,0 +1,182 @@
+//! Adding to the number that a key holds.
+
+ghost use Rattle.std.specs.Prelude.{◌≡◌, ℕ, true, false, ◌++◌, List, IfSome};
+ghost use Rattle.fine_model.specs.declared.Call.TheVariants as call;
+ghost use Rattle.fine_model.specs.Map.{has};
+ghost use Rattle.fine_model.specs.NumberText.{number_of};
+ghost use Rattle.fine_model.specs.RowBytes.{FitsKey};
+ghost use Rattle.fine_model.specs.Store.{add_answer, answer};
+ghost use Rattle.fine_model.specs.Trees.{pairs_of, bucket_of, map_of, IsSound};
+ghost use Rattle.btree_nodes.specs.Given.{given, FitsCache, Holds};
+ghost use Rattle.btree_nodes.specs.Trees.{IsPath, pairs_in};
+ghost use Rattle.btree_nodes.specs.Calls.{Outcome, IsChange, SoundOutcome, is_sum};
+
+use crate::change::{next_version, push_row};
+use crate::fault::TreeFault;
+use crate::insertion::put_at;
+use crate::leaf::value_in;
+use crate::removal::bytes_of;
+use crate::source::NodeSource;
+use crate::tree::{Path, find_leaf};
+use fine_model::{NodeId, Rec, Reply, Row, number_of, number_text};
+use node_cache::Bucket;
+use private_log::PrivateLog;
+use std::alloc::Global;
+
+/// What the store answers where a number is added to a text. It takes no memory.
+#[tactic(auto, unfolding(fine_model::specs::Store::add_answer, fine_model::specs::Store::sum_answer))]
+fn sum_reply(text: &[u8], by: i64) -> Reply
+    ensures { (key : List ℕ) → result ≡ (add_answer key (number_of text.now) by).0 }
+{
+    let Some(number) = number_of(text) else {
+        return Reply::NotNumber;
+    };
+    match number.checked_add(by) {
+        Some(sum) => Reply::Sum { sum },
+        None => Reply::OutOfRange,
+    }
+}
+
+/// Whether a reply says a sum.
+fn is_sum(reply: &Reply) -> bool
+    ensures { result ≡ is_sum reply.now }
+{
+    matches!(reply, Reply::Sum { .. })
+}
+
+/// What the store answers where a number is added to a key of a leaf. An absent key counts as 0. It takes no memory.
+fn reply_in(bucket: &Bucket, number: u32, key: &[u8], by: i64) -> Reply
+    requires { FitsCache bucket.now }
+    ensures { result ≡ (answer (pairs_of (given bucket.now number).0) (call.Add key.now by)).0 }
+{
+    match value_in(bucket, number, key) {
+        Some(text) => sum_reply(text.as_slice(), by),
+        None => Reply::Sum { sum: by },
+    }
+}
+
+/// Adds to a key that is there in the leaf in which it belongs. Where there is no sum, nothing is changed.
+fn add_at(
+    alloc: Global,
+    bucket: &mut Bucket,
+    log: &mut PrivateLog,
+    key: &[u8],
+    by: i64,
+    path: Path,
+) -> Result<Reply, TreeFault>
+    requires fits { FitsCache bucket.old }
+    requires key { FitsKey key.now }
+    requires path { IsPath bucket.old key.now path }
+    requires there { has (pairs_in bucket.old key.now) key.now ≡ true }
+    ensures fits { FitsCache bucket.new }
+    ensures outcome { Outcome bucket.old bucket.new log.old log.new (call.Add key.now by) key.now (λ reply. reply ≡ (answer (pairs_in bucket.old key.now) (call.Add key.now by)).0) (λ _. ⊥) result }
+{
+    let reply = reply_in(bucket, path.leaf, key, by);
+    if !is_sum(&reply) {
+        return Ok(reply);
+    }
+    let row = Row {
+        node: NodeId {
+            bucket: bucket.bucket(),
+            number: path.leaf,
+        },
+        version: next_version(bucket, path.leaf)?,
+        rec: Rec::Plus {
+            key: bytes_of(alloc, key)?,
+            by,
+        },
+    };
+    push_row(alloc, bucket, log, &row)?;
+    Ok(reply)
+}
+
+/// Adds to a key that is absent: the number's text is set.
+fn add_new(
+    alloc: Global,
+    bucket: &mut Bucket,
+    log: &mut PrivateLog,
+    key: &[u8],
+    by: i64,
+    path: Path,
+) -> Result<Reply, TreeFault>
+    requires fits { FitsCache bucket.old }
+    requires key { FitsKey key.now }
+    requires path { IsPath bucket.old key.now path }
+    requires absent { has (pairs_in bucket.old key.now) key.now ≡ false }
+    ensures fits { FitsCache bucket.new }
+    ensures outcome { Outcome bucket.old bucket.new log.old log.new (call.Add key.now by) key.now (λ reply. reply ≡ (answer (pairs_in bucket.old key.now) (call.Add key.now by)).0) (λ _. ⊥) result }
+{
+    let text = number_text(alloc, by)?;
+    put_at(alloc, bucket, log, key, text.as_slice(), path)?;
+    Ok(Reply::Sum { sum: by })
+}
+
+/// Adds to a key in the leaf in which it belongs.
+fn add_in(
+    alloc: Global,
+    bucket: &mut Bucket,
+    log: &mut PrivateLog,
+    key: &[u8],
+    by: i64,
+    path: Path,
+) -> Result<Reply, TreeFault>
+    requires fits { FitsCache bucket.old }
+    requires key { FitsKey key.now }
+    requires path { IsPath bucket.old key.now path }
+    ensures fits { FitsCache bucket.new }
+    ensures outcome { Outcome bucket.old bucket.new log.old log.new (call.Add key.now by) key.now (λ reply. reply ≡ (answer (pairs_in bucket.old key.now) (call.Add key.now by)).0) (λ _. ⊥) result }
+{
+    if value_in(bucket, path.leaf, key).is_some() {
+        add_at(alloc, bucket, log, key, by, path)
+    } else {
+        add_new(alloc, bucket, log, key, by, path)
+    }
+}
+
+/// Adds to a key in the tree that the bucket gives.
+fn add_key<S: NodeSource>(
+    alloc: Global,
+    source: &mut S,
+    bucket: &mut Bucket,
+    log: &mut PrivateLog,
+    key: &[u8],
+    by: i64,
+) -> Result<Reply, TreeFault>
+    requires bucket { bucket.old.bucket ≡ bucket_of key.now }
+    requires key { FitsKey key.now }
+    requires fits { FitsCache bucket.old }
+    ensures rows { S.rows source.new ≡ S.rows source.old }
+    ensures upper { S.upper source.new ≡ S.upper source.old }
+    ensures later { S.later source.old source.new }
+    ensures fits { FitsCache bucket.new }
+    ensures change { IsChange (S.rows source.old) (S.upper source.old) bucket.old bucket.new log.old log.new (call.Add key.now by) key.now (λ mid reply. reply ≡ (answer (pairs_in mid key.now) (call.Add key.now by)).0) (λ failed. S.fails source.old failed source.new) result }
+{
+    let path = find_leaf(source, bucket, key)?;
+    add_in(alloc, bucket, log, key, by, path)
+}
+
+/// Adds to the number whose text a key holds, and answers the sum; an absent key counts as 0. `NotNumber` comes exactly where the key
+/// holds a text that is no number, `OutOfRange` exactly where the sum is outside of 64 bits with a sign: with these, nothing is changed
+/// but what is loaded. Where the key is there, one row with the number is pushed; else what setting the sum's text pushes. Its faults,
+/// and what stands after them, are those of `insert`.
+pub fn add_to<S: NodeSource>(
+    alloc: Global,
+    source: &mut S,
+    bucket: &mut Bucket,
+    log: &mut PrivateLog,
+    key: &[u8],
+    by: i64,
+) -> Result<Reply, TreeFault>
+    requires bucket { bucket.old.bucket ≡ bucket_of key.now }
+    requires key { FitsKey key.now }
+    requires fits { FitsCache bucket.old }
+    ensures rows { S.rows source.new ≡ S.rows source.old }
+    ensures upper { S.upper source.new ≡ S.upper source.old }
+    ensures later { S.later source.old source.new }
+    ensures bucket { bucket.new.bucket ≡ bucket.old.bucket }
+    ensures fits { FitsCache bucket.new }
+    ensures change { IsChange (S.rows source.old) (S.upper source.old) bucket.old bucket.new log.old log.new (call.Add key.now by) key.now (λ mid reply. reply ≡ (answer (pairs_in mid key.now) (call.Add key.now by)).0) (λ failed. S.fails source.old failed source.new) result }
+    ensures sound { IfSome (S.rows source.old) (λ told. Holds bucket.old told log.old → IsSound (told ++ log.old) → SoundOutcome told log.old log.new bucket.new (call.Add key.now by) (λ reply. reply ≡ (answer (map_of (told ++ log.old)) (call.Add key.now by)).0) result) }
+{
+    add_key(alloc, source, bucket, log, key, by)
+}

@@ -1,0 +1,146 @@
+//! Rows that are pushed, and what they do to the nodes of a bucket.
+
+ghost use Rattle.std.specs.Prelude.{◌≡◌, ◌≢◌, ℕ, ◌+◌, ◌<◌, ◌≤◌, [], ◌∷◌, ◌++◌, OnOk, OnErr, IsOk, MatchResult};
+ghost use Rattle.std.specs.List.{AllByRecursion};
+ghost use Rattle.fine_model.specs.Nodes.{step};
+ghost use Rattle.fine_model.specs.RowBytes.{FitsRec, greatest};
+ghost use Rattle.node_cache.specs.Cache.{cached, IsSaved};
+ghost use Rattle.btree_nodes.specs.Given.{given, IsCached, FitsCache};
+ghost use Rattle.btree_nodes.specs.Changes.{Saves, Pushes, IsChanged, HoldsPlace, IsReady, AreReady};
+ghost use Rattle.btree_nodes.specs.declared.fault.TreeFault.TheVariants as fault_of;
+
+use crate::fault::TreeFault;
+use fine_model::{NoMemory, Node, NodeId, Row};
+use node_cache::{Bucket, Cached};
+use node_record::apply;
+use private_log::PrivateLog;
+use std::alloc::Global;
+
+/// The greatest version of a node.
+pub const GREATEST: u64 = 4_611_686_018_427_387_904;
+
+/// The version that the next row of a cached node has. `Number` comes exactly where it would pass the limit.
+#[tactic(auto, unfolding(crate::specs::Given::given))]
+pub fn next_version(bucket: &Bucket, number: u32) -> Result<u64, TreeFault>
+    ensures { MatchResult result (λ version. (version ≡ (given bucket.now number).1 + 1) × (version ≤ greatest)) (λ fault. (fault ≡ fault_of.Number (record { bucket = bucket.now.bucket; number = number })) × (greatest < (given bucket.now number).1 + 1)) }
+{
+    let version = match bucket.peek(number) {
+        Some(kept) => kept.version,
+        None => 0,
+    };
+    if version < GREATEST {
+        Ok(version + 1)
+    } else {
+        Err(TreeFault::Number {
+            node: NodeId {
+                bucket: bucket.bucket(),
+                number,
+            },
+        })
+    }
+}
+
+/// Does to a node that was saved what a row says.
+fn change(alloc: Global, bucket: &mut Bucket, row: &Row) -> Result<(), NoMemory>
+    requires saved { IsSaved bucket.old row.now.node.number }
+    requires there { IsCached bucket.old row.now.node.number }
+    requires fits { FitsCache bucket.old }
+    requires rec { FitsRec row.now.rec }
+    requires version { row.now.version ≤ greatest }
+    ensures ok { OnOk result (IsChanged bucket.old bucket.new row.now) }
+    ensures err { OnErr result (bucket.new ≡ bucket.old) }
+{
+    match bucket.get_mut(row.node.number) {
+        Some(kept) => apply(alloc, &mut kept.node, &mut kept.version, row),
+        None => Ok(()),
+    }
+}
+
+/// Pushes a row of a cached node: the node is saved, the row put behind the others, and the node changed. After `NoMemory` some of
+/// this is done, and what was saved before still is.
+pub fn push_row(
+    alloc: Global,
+    bucket: &mut Bucket,
+    log: &mut PrivateLog,
+    row: &Row,
+) -> Result<(), NoMemory>
+    requires of_bucket { row.now.node.bucket ≡ bucket.old.bucket }
+    requires there { IsCached bucket.old row.now.node.number }
+    requires fits { FitsCache bucket.old }
+    requires rec { FitsRec row.now.rec }
+    requires version { row.now.version ≤ greatest }
+    ensures fits { FitsCache bucket.new }
+    ensures saves { Saves bucket.old bucket.new }
+    ensures pushes { OnOk result (Pushes bucket.old bucket.new (row.now ∷ [])) }
+    ensures log { OnOk result (log.new ≡ log.old ++ row.now ∷ []) }
+{
+    bucket.save(row.node.number)?;
+    log.push(row)?;
+    change(alloc, bucket, row)
+}
+
+/// Caches a broken node under a number where none is cached, to be replaced by an image.
+fn hold_place(bucket: &mut Bucket, number: u32) -> Result<(), NoMemory>
+    requires fits { FitsCache bucket.old }
+    ensures fits { FitsCache bucket.new }
+    ensures saves { Saves bucket.old bucket.new }
+    ensures held { OnOk result (HoldsPlace bucket.old bucket.new number) }
+{
+    if bucket.peek(number).is_some() {
+        return Ok(());
+    }
+    bucket.save(number)?;
+    let place = Cached {
+        node: Node::Broken,
+        version: 0,
+        epoch: 0,
+    };
+    bucket.put(number, place)
+}
+
+/// Pushes a row of a node that is cached, or of one that the row is the image of.
+pub fn push_any(
+    alloc: Global,
+    bucket: &mut Bucket,
+    log: &mut PrivateLog,
+    row: &Row,
+) -> Result<(), NoMemory>
+    requires of_bucket { row.now.node.bucket ≡ bucket.old.bucket }
+    requires ready { IsReady (IsCached bucket.old) row.now }
+    requires fits { FitsCache bucket.old }
+    requires rec { FitsRec row.now.rec }
+    requires version { row.now.version ≤ greatest }
+    ensures fits { FitsCache bucket.new }
+    ensures saves { Saves bucket.old bucket.new }
+    ensures pushes { OnOk result (Pushes bucket.old bucket.new (row.now ∷ [])) }
+    ensures there { OnOk result (IsCached bucket.new row.now.node.number) }
+    ensures log { OnOk result (log.new ≡ log.old ++ row.now ∷ []) }
+{
+    hold_place(bucket, row.node.number)?;
+    push_row(alloc, bucket, log, row)
+}
+
+/// Pushes rows in their order.
+pub fn push_all(
+    alloc: Global,
+    bucket: &mut Bucket,
+    log: &mut PrivateLog,
+    rows: &[Row],
+) -> Result<(), NoMemory>
+    requires of_bucket { AllByRecursion (λ row. row.node.bucket ≡ bucket.old.bucket) rows.now }
+    requires ready { AreReady (IsCached bucket.old) rows.now }
+    requires fits { FitsCache bucket.old }
+    requires recs { AllByRecursion (λ row. FitsRec row.rec × (row.version ≤ greatest)) rows.now }
+    ensures fits { FitsCache bucket.new }
+    ensures saves { Saves bucket.old bucket.new }
+    ensures pushes { OnOk result (Pushes bucket.old bucket.new rows.now) }
+    ensures log { OnOk result (log.new ≡ log.old ++ rows.now) }
+{
+    match rows {
+        [row, rest @ ..] => {
+            push_any(alloc, bucket, log, row)?;
+            push_all(alloc, bucket, log, rest)
+        }
+        [] => Ok(()),
+    }
+}

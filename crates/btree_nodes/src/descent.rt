@@ -1,0 +1,311 @@
+//! The way down a tree. Each node on it is tested before the next one is looked at.
+
+ghost use Rattle.std.specs.Prelude.{◌≡◌, ◌≢◌, ℕ, ◌+◌, ◌==◌, ◌<◌, ◌≤◌, nat_lt, Bool, true, false, not, ◌&&◌, IsTrue, List, filter, map, length, Option, Some, None, option_copied, is_some, slice_get, OnOk, OnErr, IfErr, IfSome, MatchOption};
+ghost use Rattle.std.specs.List.{list_all, AllByRecursion};
+ghost use Rattle.fine_model.specs.declared.Node.{Node as ModelNode};
+ghost use Rattle.fine_model.specs.declared.Node.TheVariants as node;
+ghost use Rattle.fine_model.specs.Map.{is_below, is_ascending};
+ghost use Rattle.fine_model.specs.Paths.{is_inner, place_among};
+ghost use Rattle.fine_model.specs.Trees.{is_leaf, is_from, is_above, is_up_to, is_key_within, are_separators, bucket_of};
+ghost use Rattle.fine_model.specs.RowBytes.{FitsKey, FitsPair};
+ghost use Rattle.node_record.specs.Bounds.{FitsNode};
+ghost use Rattle.btree_nodes.specs.Given.{given, IsCached, FitsCache, IsLoaded};
+ghost use Rattle.btree_nodes.specs.Faults.{OnFault};
+ghost use Rattle.btree_nodes.specs.Descends.{Descends};
+ghost use Rattle.btree_nodes.specs.Descent.{bound_at, bounds_by, low_of, high_of, IsStep, AreKept};
+
+use crate::fault::TreeFault;
+use crate::source::NodeSource;
+use fine_model::{Bytes, Keys, Kids, Node, NodeId, Pairs, bucket_of};
+use node_cache::Bucket;
+
+/// The place of a separator in a cached node. It is the bound of a subtree.
+#[derive(Clone, Copy, Debug)]
+pub struct Sep {
+    pub number: u32,
+    pub place: usize,
+}
+
+/// A child, and what bounds its keys.
+#[derive(Clone, Copy, Debug)]
+pub struct Step {
+    pub number: u32,
+    pub low: Option<Sep>,
+    pub high: Option<Sep>,
+}
+
+/// Whether `a` stands before `b` in byte order.
+pub fn is_below(a: &[u8], b: &[u8]) -> bool
+    ensures { result ≡ is_below a.now b.now }
+{
+    a.cmp(b).is_lt()
+}
+
+/// Whether a key lies at a bound or above it.
+fn is_from(low: Option<&Bytes>, key: &[u8]) -> bool
+    ensures { result ≡ is_from (option_copied low.entry) key.now }
+{
+    match low {
+        Some(low) => !is_below(key, low.as_slice()),
+        None => true,
+    }
+}
+
+/// Whether a key lies above a bound.
+fn is_above(low: Option<&Bytes>, key: &[u8]) -> bool
+    ensures { result ≡ is_above (option_copied low.entry) key.now }
+{
+    match low {
+        Some(low) => is_below(low.as_slice(), key),
+        None => true,
+    }
+}
+
+/// Whether a key lies below a bound.
+fn is_up_to(high: Option<&Bytes>, key: &[u8]) -> bool
+    ensures { result ≡ is_up_to (option_copied high.entry) key.now }
+{
+    match high {
+        Some(high) => is_below(key, high.as_slice()),
+        None => true,
+    }
+}
+
+/// Whether a key lies within bounds and belongs to a bucket.
+fn is_key_within(bucket: u16, low: Option<&Bytes>, high: Option<&Bytes>, key: &Bytes) -> bool
+    requires { FitsKey key.now }
+    ensures { result ≡ is_key_within bucket (record { low = option_copied low.entry; high = option_copied high.entry }) key.now }
+{
+    let key = key.as_slice();
+    is_from(low, key) && is_up_to(high, key) && bucket_of(key) == bucket
+}
+
+/// Whether the keys of pairs lie within bounds and belong to a bucket.
+fn are_within(
+    bucket: u16,
+    low: Option<&Bytes>,
+    high: Option<&Bytes>,
+    pairs: &[(Bytes, Bytes)],
+) -> bool
+    requires { AllByRecursion FitsPair pairs.now }
+    ensures { result ≡ list_all (λ p. is_key_within bucket (record { low = option_copied low.entry; high = option_copied high.entry }) p.0) pairs.now }
+{
+    match pairs {
+        [first, rest @ ..] => {
+            is_key_within(bucket, low, high, &first.0) && are_within(bucket, low, high, rest)
+        }
+        [] => true,
+    }
+}
+
+/// Whether a node is a leaf whose keys ascend, lie within bounds and belong to a bucket. Those of a node within the format's bounds
+/// ascend.
+fn is_fit_leaf(bucket: u16, low: Option<&Bytes>, high: Option<&Bytes>, node: &Node) -> bool
+    requires { FitsNode node.now }
+    ensures { result ≡ is_leaf bucket (record { low = option_copied low.entry; high = option_copied high.entry }) node.now }
+{
+    match node {
+        Node::Leaf { pairs } => are_within(bucket, low, high, pairs.as_slice()),
+        _ => false,
+    }
+}
+
+/// Whether separators lie strictly within bounds.
+fn are_between(low: Option<&Bytes>, high: Option<&Bytes>, seps: &[Bytes]) -> bool
+    ensures { result ≡ list_all (λ sep. is_above (option_copied low.entry) sep && is_up_to (option_copied high.entry) sep) seps.now }
+{
+    match seps {
+        [first, rest @ ..] => {
+            is_above(low, first.as_slice())
+                && is_up_to(high, first.as_slice())
+                && are_between(low, high, rest)
+        }
+        [] => true,
+    }
+}
+
+/// Whether all numbers are below one.
+fn are_below(next: u32, kids: &[u32]) -> bool
+    ensures { result ≡ list_all (λ kid. nat_lt kid next) kids.now }
+{
+    kids.iter().all(|kid| *kid < next)
+}
+
+/// Whether a node is an inner one whose separators ascend within bounds, with one child more, and each child below `next`. The
+/// separators of a node within the format's bounds ascend, and it has one child more.
+fn is_fit_inner(next: u32, low: Option<&Bytes>, high: Option<&Bytes>, node: &Node) -> bool
+    requires { FitsNode node.now }
+    ensures { result ≡ is_inner (record { low = option_copied low.entry; high = option_copied high.entry }) next node.now }
+{
+    match node {
+        Node::Inner { seps, kids } => {
+            are_between(low, high, seps.as_slice()) && are_below(next, kids.as_slice())
+        }
+        _ => false,
+    }
+}
+
+/// The place among separators in whose child a key belongs: a key equal to a separator belongs to the right of it.
+pub fn place_among(seps: &Keys, key: &[u8]) -> usize
+    requires { IsTrue (is_ascending seps.now) }
+    ensures { result ≡ place_among key.now seps.now }
+{
+    seps.as_slice()
+        .partition_point(|sep| !is_below(key, sep.as_slice()))
+}
+
+/// The separator at a place. No place is no bound.
+#[tactic(auto, unfolding(crate::specs::Given::given))]
+fn bound(bucket: &Bucket, at: Option<Sep>) -> Option<&Bytes>
+    ensures { option_copied result ≡ bound_at (given bucket.now) at }
+{
+    let at = at?;
+    match &bucket.peek(at.number)?.node {
+        Node::Inner { seps, .. } => seps.as_slice().get(at.place),
+        _ => None,
+    }
+}
+
+/// The low bound of the child at a place.
+fn low_bound(number: u32, place: usize, low: Option<Sep>) -> Option<Sep>
+    ensures { result ≡ low_of number place low }
+{
+    match place.checked_sub(1) {
+        Some(place) => Some(Sep { number, place }),
+        None => low,
+    }
+}
+
+/// The high bound of the child at a place, among so many separators.
+fn high_bound(number: u32, place: usize, many: usize, high: Option<Sep>) -> Option<Sep>
+    ensures { result ≡ high_of number place many high }
+{
+    if place < many {
+        Some(Sep { number, place })
+    } else {
+        high
+    }
+}
+
+/// One step down from a node that is cached: the child in which a key belongs. None exactly where the node is not fit.
+#[tactic(auto, unfolding(crate::specs::Given::given))]
+fn step_down(
+    bucket: &Bucket,
+    next: u32,
+    key: &[u8],
+    low: Option<Sep>,
+    high: Option<Sep>,
+    number: u32,
+) -> Option<Step>
+    requires fits { FitsCache bucket.now }
+    requires low { AreKept bucket.now low }
+    requires high { AreKept bucket.now high }
+    ensures step { MatchOption result (is_inner (bounds_by (given bucket.now) low high) next (given bucket.now number).0 ≡ false) (IsStep (given bucket.now) next key.now (bounds_by (given bucket.now) low high) (given bucket.now number).0) }
+    ensures kept { IfSome result (λ step. AreKept bucket.now step.low × AreKept bucket.now step.high) }
+{
+    let node = &bucket.peek(number)?.node;
+    let Node::Inner { seps, kids } = node else {
+        return None;
+    };
+    if !is_fit_inner(next, bound(bucket, low), bound(bucket, high), node) {
+        return None;
+    }
+    let place = place_among(seps, key);
+    let child = *kids.at(place);
+    Some(Step {
+        number: child,
+        low: low_bound(number, place, low),
+        high: high_bound(number, place, seps.len(), high),
+    })
+}
+
+/// Caches a node where it is not cached, and makes it the last used where it is. With a fault, nothing is changed.
+pub fn reach<S: NodeSource>(
+    source: &mut S,
+    bucket: &mut Bucket,
+    number: u32,
+) -> Result<(), TreeFault>
+    requires bucket { bucket.old.bucket < 256 }
+    requires number { number < 1048576 }
+    ensures rows { S.rows source.new ≡ S.rows source.old }
+    ensures upper { S.upper source.new ≡ S.upper source.old }
+    ensures later { S.later source.old source.new }
+    ensures loaded { IsLoaded (S.rows source.old) (S.upper source.old) bucket.old bucket.new }
+    ensures there { OnOk result (IsCached bucket.new number) }
+    ensures err { IfErr result (λ fault. OnFault fault (λ failed. S.fails source.old failed source.new) (λ _. ⊥) ⊥) }
+{
+    if bucket.touch(number) {
+        return Ok(());
+    }
+    match source.load(bucket, number) {
+        Ok(()) => Ok(()),
+        Err(fault) => Err(TreeFault::Source { fault }),
+    }
+}
+
+/// Whether a cached node is a fit leaf.
+#[tactic(auto, unfolding(crate::specs::Given::given))]
+fn is_leaf_within(bucket: &Bucket, low: Option<Sep>, high: Option<Sep>, number: u32) -> bool
+    requires fits { FitsCache bucket.now }
+    ensures { result ≡ is_leaf bucket.now.bucket (bounds_by (given bucket.now) low high) (given bucket.now number).0 }
+{
+    match bucket.peek(number) {
+        Some(kept) => is_fit_leaf(
+            bucket.bucket(),
+            bound(bucket, low),
+            bound(bucket, high),
+            &kept.node,
+        ),
+        None => false,
+    }
+}
+
+/// Goes down from a number to the leaf in which a key belongs, within the bounds that separators further up set.
+pub fn descend<S: NodeSource>(
+    source: &mut S,
+    bucket: &mut Bucket,
+    next: u32,
+    key: &[u8],
+    low: Option<Sep>,
+    high: Option<Sep>,
+    number: u32,
+    height: u8,
+) -> Result<u32, TreeFault>
+    requires bucket { bucket.old.bucket < 256 }
+    requires next { next ≤ 1048576 }
+    requires number { number < next }
+    requires fits { FitsCache bucket.old }
+    requires low { AreKept bucket.old low }
+    requires high { AreKept bucket.old high }
+    ensures rows { S.rows source.new ≡ S.rows source.old }
+    ensures upper { S.upper source.new ≡ S.upper source.old }
+    ensures later { S.later source.old source.new }
+    ensures loaded { IsLoaded (S.rows source.old) (S.upper source.old) bucket.old bucket.new }
+    ensures way { Descends bucket.new height next key.now (bounds_by (given bucket.new) low high) number (λ failed. S.fails source.old failed source.new) result }
+{
+    reach(source, bucket, number)?;
+    let unfit = NodeId {
+        bucket: bucket.bucket(),
+        number,
+    };
+    if height == 0 {
+        return if is_leaf_within(bucket, low, high, number) {
+            Ok(number)
+        } else {
+            Err(TreeFault::Unfit { node: unfit })
+        };
+    }
+    let Some(step) = step_down(bucket, next, key, low, high, number) else {
+        return Err(TreeFault::Unfit { node: unfit });
+    };
+    descend(
+        source,
+        bucket,
+        next,
+        key,
+        step.low,
+        step.high,
+        step.number,
+        height - 1,
+    )
+}

@@ -1,0 +1,369 @@
+//! What setting a key pushes where it does not fit into a leaf: leaves and inner nodes are split, from the leaf up. Nothing is changed.
+
+ghost use Rattle.std.specs.Prelude.{◌≡◌, ℕ, ◌+◌, ◌<◌, ◌≤◌, ◌||◌, nat_lt, true, false, length, drop, slice_get, unwrap_or, [], ◌∷◌, ◌++◌, List, IfOk, IfSome, OnOk, MatchOption};
+ghost use Rattle.fine_model.specs.Map.{has};
+ghost use Rattle.fine_model.specs.Pushed.{row_of, key_at, child_for, split_leaf, split_inner, grown_leaf, grown_inner, growth};
+ghost use Rattle.fine_model.specs.RowBytes.{greatest};
+ghost use Rattle.fine_model.specs.Trees.{pairs_of};
+ghost use Rattle.fine_model.specs.declared.Node.TheVariants as node;
+ghost use Rattle.fine_model.specs.declared.Rec.TheVariants as rec;
+ghost use Rattle.node_record.specs.Bounds.{FitsNode};
+ghost use Rattle.btree_nodes.specs.Given.{given, FitsCache};
+ghost use Rattle.btree_nodes.specs.Growths.{grown_of, split_rows, IsNoInner};
+
+use crate::descent::{is_below, place_among};
+use crate::leaf::value_of;
+use crate::removal::bytes_of;
+use fine_model::{Bytes, Copied, Items, Keys, Kids, NoMemory, Node, NodeId, Pairs, Rec, Row, Rows};
+use node_cache::Bucket;
+use std::alloc::Global;
+
+/// Rows that setting a key pushes below a node, the next unused number behind them, and, where the node was split, the separator and
+/// the number of the new node to its right.
+#[derive(Debug, Drop)]
+pub struct Growth {
+    pub rows: Rows,
+    pub next: u32,
+    pub split: Option<(Bytes, u32)>,
+}
+
+/// A row of a node.
+pub fn row_of(bucket: u16, number: u32, version: u64, rec: Rec) -> Row
+    ensures { result ≡ row_of bucket number version rec }
+{
+    Row {
+        node: NodeId { bucket, number },
+        version,
+        rec,
+    }
+}
+
+/// A copy of what stands in a slice.
+fn copy_all<T: Copied + Drop>(alloc: Global, items: &[T]) -> Result<Items<T>, NoMemory>
+    ensures { IfOk result (λ copy. copy ≡ items.now) }
+{
+    let mut copy = Items::new(alloc);
+    for item in items {
+        let one = item.copy()?;
+        if copy.push(one).is_err() {
+            return Err(NoMemory);
+        }
+    }
+    Ok(copy)
+}
+
+/// The version of a cached node. 0 where it is not cached.
+#[tactic(auto, unfolding(crate::specs::Given::given))]
+pub fn version_of(bucket: &Bucket, number: u32) -> u64
+    requires { FitsCache bucket.now }
+    ensures is { result ≡ (given bucket.now number).1 }
+    ensures small { result ≤ greatest }
+{
+    match bucket.peek(number) {
+        Some(kept) => kept.version,
+        None => 0,
+    }
+}
+
+/// The pairs of a cached leaf in which a key has no room: it is absent, and there are 32 others.
+#[tactic(auto, unfolding(crate::specs::Given::given, fine_model::specs::Map::get))]
+fn full_leaf<'a>(bucket: &'a Bucket, number: u32, key: &[u8]) -> Option<&'a Pairs>
+    requires { FitsCache bucket.now }
+    ensures full { MatchOption result ((has (pairs_of (given bucket.now number).0) key.now || nat_lt (length (pairs_of (given bucket.now number).0)) 32) ≡ true) (λ pairs. (pairs.now ≡ pairs_of (given bucket.now number).0) × ((has pairs.now key.now || nat_lt (length pairs.now) 32) ≡ false)) }
+{
+    match &bucket.peek(number)?.node {
+        Node::Leaf { pairs } if value_of(pairs, key).is_none() && pairs.len() >= 32 => Some(pairs),
+        _ => None,
+    }
+}
+
+/// The separators and children of a cached inner node.
+#[tactic(auto, unfolding(crate::specs::Given::given))]
+fn inner_of(bucket: &Bucket, number: u32) -> Option<(&Keys, &Kids)>
+    requires { FitsCache bucket.now }
+    ensures is { MatchOption result (IsNoInner (given bucket.now number).0) (λ inner. (given bucket.now number).0 ≡ node.Inner inner.0.now inner.1.now) }
+    ensures fits { IfSome result (λ inner. FitsNode (node.Inner inner.0.now inner.1.now)) }
+{
+    match &bucket.peek(number)?.node {
+        Node::Inner { seps, kids } => Some((seps, kids)),
+        _ => None,
+    }
+}
+
+/// The key of pair 16.
+fn middle_key(pairs: &Pairs) -> &Bytes
+    requires { 16 < length pairs.now }
+    ensures { result.now ≡ key_at pairs.now 16 }
+{
+    &pairs.at(16).0
+}
+
+/// Separator 16.
+fn middle_sep(seps: &Keys) -> &Bytes
+    requires { 16 < length seps.now }
+    ensures { result.now ≡ unwrap_or (slice_get seps.now 16) [] }
+{
+    seps.at(16)
+}
+
+/// Puts the rows of a split behind others: the new node's image, the cut of the old one, and what is set in one of both.
+fn push_split(
+    rows: &mut Rows,
+    bucket: u16,
+    number: u32,
+    version: u64,
+    next: u32,
+    image: Rec,
+    cut: Rec,
+    set: Rec,
+    left: bool,
+) -> Result<(), NoMemory>
+    requires { version ≤ greatest }
+    ensures { OnOk result (rows.new ≡ rows.old ++ split_rows bucket number version next image cut set left) }
+{
+    rows.push(row_of(bucket, next, 1, image))?;
+    rows.push(row_of(bucket, number, version + 1, cut))?;
+    rows.push(if left {
+        row_of(bucket, number, version + 2, set)
+    } else {
+        row_of(bucket, next, 2, set)
+    })?;
+    Ok(())
+}
+
+/// One row, of a leaf that is not split.
+fn put_whole(
+    alloc: Global,
+    bucket: u16,
+    number: u32,
+    version: u64,
+    next: u32,
+    key: &[u8],
+    value: &[u8],
+) -> Result<Growth, NoMemory>
+    requires { version ≤ greatest }
+    ensures grown { IfOk result (λ g. grown_of g ≡ record { rows = row_of bucket number (version + 1) (rec.Put key.now value.now) ∷ []; next = next; split = None }) }
+    ensures next { IfOk result (λ g. g.next ≤ next) }
+{
+    let put = Rec::Put {
+        key: bytes_of(alloc, key)?,
+        value: bytes_of(alloc, value)?,
+    };
+    let mut rows = Items::new(alloc);
+    rows.push(row_of(bucket, number, version + 1, put))?;
+    Ok(Growth {
+        rows,
+        next,
+        split: None,
+    })
+}
+
+/// A full leaf is split: pairs 16 and up go to a new leaf, and the new pair into the half where it belongs.
+#[tactic(auto, unfolding(fine_model::specs::Pushed::split_leaf))]
+fn split_leaf(
+    alloc: Global,
+    bucket: u16,
+    number: u32,
+    version: u64,
+    next: u32,
+    key: &[u8],
+    value: &[u8],
+    pairs: &Pairs,
+) -> Result<Growth, NoMemory>
+    requires version { version ≤ greatest }
+    requires next { next ≤ 1048600 }
+    requires pairs { 16 < length pairs.now }
+    ensures grown { IfOk result (λ g. grown_of g ≡ split_leaf bucket number version next (key.now, value.now) pairs.now (key_at pairs.now 16)) }
+    ensures next { IfOk result (λ g. g.next ≤ next + 1) }
+{
+    let middle = middle_key(pairs);
+    let image = Rec::LeafImage {
+        pairs: copy_all(alloc, &pairs.as_slice()[16..])?,
+    };
+    let cut = Rec::CutLeaf {
+        key: middle.copy()?,
+    };
+    let put = Rec::Put {
+        key: bytes_of(alloc, key)?,
+        value: bytes_of(alloc, value)?,
+    };
+    let left = is_below(key, middle.as_slice());
+    let mut rows = Items::new(alloc);
+    push_split(
+        &mut rows, bucket, number, version, next, image, cut, put, left,
+    )?;
+    Ok(Growth {
+        rows,
+        next: next + 1,
+        split: Some((middle.copy()?, next)),
+    })
+}
+
+/// What setting a pair pushes in a leaf.
+#[tactic(auto, unfolding(fine_model::specs::Pushed::grown_leaf))]
+fn grow_leaf(
+    alloc: Global,
+    bucket: &Bucket,
+    next: u32,
+    key: &[u8],
+    value: &[u8],
+    number: u32,
+) -> Result<Growth, NoMemory>
+    requires fits { FitsCache bucket.now }
+    requires next { next ≤ 1048600 }
+    ensures grown { IfOk result (λ g. grown_of g ≡ grown_leaf bucket.now.bucket number (given bucket.now number).1 next (key.now, value.now) (pairs_of (given bucket.now number).0)) }
+    ensures next { IfOk result (λ g. g.next ≤ next + 1) }
+{
+    let of = bucket.bucket();
+    let version = version_of(bucket, number);
+    match full_leaf(bucket, number, key) {
+        Some(pairs) => split_leaf(alloc, of, number, version, next, key, value, pairs),
+        None => put_whole(alloc, of, number, version, next, key, value),
+    }
+}
+
+/// A full inner node is split round separator 16, which moves up, and the new separator goes into the half where it belongs.
+#[tactic(auto, unfolding(fine_model::specs::Pushed::split_inner))]
+fn split_inner(
+    alloc: Global,
+    bucket: u16,
+    number: u32,
+    version: u64,
+    seps: &Keys,
+    kids: &Kids,
+    below: Rows,
+    next: u32,
+    sep: Bytes,
+    right: u32,
+) -> Result<Growth, NoMemory>
+    requires version { version ≤ greatest }
+    requires next { next ≤ 1048600 }
+    requires seps { 17 ≤ length seps.now }
+    requires kids { 17 ≤ length kids.now }
+    ensures grown { IfOk result (λ g. grown_of g ≡ split_inner bucket number version seps.now kids.now (unwrap_or (slice_get seps.now 16) []) below next sep right) }
+    ensures next { IfOk result (λ g. g.next ≤ next + 1) }
+{
+    let middle = middle_sep(seps);
+    let image = Rec::InnerImage {
+        seps: copy_all(alloc, &seps.as_slice()[17..])?,
+        kids: copy_all(alloc, &kids.as_slice()[17..])?,
+    };
+    let cut = Rec::CutInner {
+        key: middle.copy()?,
+    };
+    let left = is_below(sep.as_slice(), middle.as_slice());
+    let link = Rec::Link {
+        key: sep,
+        child: right,
+    };
+    let mut rows = below;
+    push_split(
+        &mut rows, bucket, number, version, next, image, cut, link, left,
+    )?;
+    Ok(Growth {
+        rows,
+        next: next + 1,
+        split: Some((middle.copy()?, next)),
+    })
+}
+
+/// A separator is set in an inner node that has room for it.
+fn link_whole(
+    bucket: u16,
+    number: u32,
+    version: u64,
+    below: Rows,
+    next: u32,
+    sep: Bytes,
+    right: u32,
+) -> Result<Growth, NoMemory>
+    requires { version ≤ greatest }
+    ensures grown { IfOk result (λ g. grown_of g ≡ record { rows = below ++ row_of bucket number (version + 1) (rec.Link sep right) ∷ []; next = next; split = None }) }
+    ensures next { IfOk result (λ g. g.next ≤ next) }
+{
+    let mut rows = below;
+    let link = Rec::Link {
+        key: sep,
+        child: right,
+    };
+    rows.push(row_of(bucket, number, version + 1, link))?;
+    Ok(Growth {
+        rows,
+        next,
+        split: None,
+    })
+}
+
+/// What is pushed in an inner node on top of what is pushed below it.
+#[tactic(auto, unfolding(fine_model::specs::Pushed::grown_inner))]
+fn grow_inner(
+    alloc: Global,
+    bucket: &Bucket,
+    number: u32,
+    below: Growth,
+) -> Result<Growth, NoMemory>
+    requires fits { FitsCache bucket.now }
+    requires next { below.next ≤ 1048600 }
+    ensures grown { IfOk result (λ g. grown_of g ≡ grown_inner bucket.now.bucket number (given bucket.now number).1 (given bucket.now number).0 below.rows below.next below.split) }
+    ensures next { IfOk result (λ g. g.next ≤ below.next + 1) }
+{
+    let Growth { rows, next, split } = below;
+    let Some((sep, right)) = split else {
+        return Ok(Growth {
+            rows,
+            next,
+            split: None,
+        });
+    };
+    let of = bucket.bucket();
+    let version = version_of(bucket, number);
+    let Some((seps, kids)) = inner_of(bucket, number) else {
+        return Ok(Growth {
+            rows,
+            next,
+            split: None,
+        });
+    };
+    if seps.len() < 32 {
+        link_whole(of, number, version, rows, next, sep, right)
+    } else {
+        split_inner(
+            alloc, of, number, version, seps, kids, rows, next, sep, right,
+        )
+    }
+}
+
+/// The child of a cached node in which a key belongs. A node that is no inner one has child 0.
+fn child_for(bucket: &Bucket, number: u32, key: &[u8]) -> u32
+    requires { FitsCache bucket.now }
+    ensures { result ≡ child_for key.now (given bucket.now number).0 }
+{
+    match inner_of(bucket, number) {
+        Some((seps, kids)) => *kids.at(place_among(seps, key)),
+        None => 0,
+    }
+}
+
+/// What setting a pair pushes from a node down, the rows of its leaf first.
+#[tactic(auto, unfolding(fine_model::specs::Pushed::growth))]
+pub fn grow(
+    alloc: Global,
+    bucket: &Bucket,
+    next: u32,
+    key: &[u8],
+    value: &[u8],
+    number: u32,
+    height: u8,
+) -> Result<Growth, NoMemory>
+    requires fits { FitsCache bucket.now }
+    requires next { next + height ≤ 1048590 }
+    ensures grown { IfOk result (λ g. grown_of g ≡ growth height bucket.now.bucket (given bucket.now) next (key.now, value.now) number) }
+    ensures next { IfOk result (λ g. g.next ≤ next + height + 1) }
+{
+    if height == 0 {
+        return grow_leaf(alloc, bucket, next, key, value, number);
+    }
+    let child = child_for(bucket, number, key);
+    let below = grow(alloc, bucket, next, key, value, child, height - 1)?;
+    grow_inner(alloc, bucket, number, below)
+}

@@ -1,0 +1,211 @@
+//! Setting a key in a tree.
+
+ghost use Rattle.std.specs.Prelude.{◌≡◌, ℕ, ◌+◌, ◌<◌, ◌≤◌, nat_lt, true, false, [], ◌∷◌, ◌++◌, List, IfOk, IfSome, MatchOption};
+ghost use Rattle.std.specs.List.{list_any};
+ghost use Rattle.fine_model.specs.declared.Call.TheVariants as call;
+ghost use Rattle.fine_model.specs.declared.Rec.TheVariants as rec;
+ghost use Rattle.fine_model.specs.Pushed.{with_head, within_limits};
+ghost use Rattle.fine_model.specs.RowBytes.{FitsKey, FitsValue, greatest};
+ghost use Rattle.fine_model.specs.Trees.{bucket_of, IsSound};
+ghost use Rattle.btree_nodes.specs.Given.{given, FitsCache, Holds};
+ghost use Rattle.btree_nodes.specs.Trees.{IsPath};
+ghost use Rattle.btree_nodes.specs.Growths.{pushed_of, Limits};
+ghost use Rattle.btree_nodes.specs.Calls.{Outcome, IsChange, SoundOutcome};
+
+use crate::change::{GREATEST, push_all};
+use crate::fault::TreeFault;
+use crate::growth::{Growth, grow, row_of, version_of};
+use crate::source::NodeSource;
+use crate::tree::{Path, find_leaf};
+use fine_model::{Bytes, Items, NoMemory, NodeId, Rec, Row, Rows};
+use node_cache::Bucket;
+use private_log::PrivateLog;
+use std::alloc::Global;
+
+/// The most numbers that a bucket's nodes may have.
+const MOST_NUMBERS: u32 = 1_048_576;
+
+/// The greatest depth of a tree.
+const GREATEST_DEPTH: u8 = 8;
+
+/// Rows to be pushed, and the head's next unused number and depth behind them.
+#[derive(Debug, Drop)]
+pub struct Push {
+    pub rows: Rows,
+    pub next: u32,
+    pub depth: u8,
+}
+
+/// An inner node over two others.
+fn root_over(alloc: Global, left: u32, sep: Bytes, right: u32) -> Result<Rec, NoMemory>
+    ensures { IfOk result (λ image. image ≡ rec.InnerImage (sep ∷ []) (left ∷ right ∷ [])) }
+{
+    let mut kids = Items::new(alloc);
+    kids.push(left)?;
+    kids.push(right)?;
+    let mut seps = Items::new(alloc);
+    seps.push(sep)?;
+    Ok(Rec::InnerImage { seps, kids })
+}
+
+/// Where the root was split, a new root is set above both halves; wherever a node was split, the head is written.
+#[tactic(auto, unfolding(fine_model::specs::Pushed::with_head))]
+fn with_head(
+    alloc: Global,
+    bucket: u16,
+    version: u64,
+    path: Path,
+    below: Growth,
+) -> Result<Push, NoMemory>
+    requires version { version ≤ greatest }
+    requires next { below.next ≤ 1048600 }
+    requires depth { path.depth ≤ 8 }
+    ensures { IfOk result (λ push. pushed_of push ≡ with_head bucket version path.root path.next path.depth below.rows below.next below.split) }
+{
+    let Growth { rows, next, split } = below;
+    let mut rows = rows;
+    let Some((sep, right)) = split else {
+        if next != path.next {
+            let head = Rec::HeadImage {
+                root: path.root,
+                next,
+                depth: path.depth,
+            };
+            rows.push(row_of(bucket, 0, version + 1, head))?;
+        }
+        return Ok(Push {
+            rows,
+            next,
+            depth: path.depth,
+        });
+    };
+    let root = root_over(alloc, path.root, sep, right)?;
+    let head = Rec::HeadImage {
+        root: next,
+        next: next + 1,
+        depth: path.depth + 1,
+    };
+    rows.push(row_of(bucket, next, 1, root))?;
+    rows.push(row_of(bucket, 0, version + 1, head))?;
+    Ok(Push {
+        rows,
+        next: next + 1,
+        depth: path.depth + 1,
+    })
+}
+
+/// The node of the first row whose version passes the limit.
+fn first_over(rows: &[Row]) -> Option<NodeId>
+    ensures { MatchOption result (list_any (λ row. nat_lt greatest row.version) rows.now ≡ false) (λ _. list_any (λ row. nat_lt greatest row.version) rows.now ≡ true) }
+{
+    match rows {
+        [row, rest @ ..] => {
+            if row.version > GREATEST {
+                Some(row.node)
+            } else {
+                first_over(rest)
+            }
+        }
+        [] => None,
+    }
+}
+
+/// Tests the limits of a bucket's numbers and depth, and then those of versions. `BucketFull` says what the head says before.
+#[tactic(auto, unfolding(fine_model::specs::Pushed::within_limits))]
+fn test_limits(push: &Push, path: Path) -> Result<(), TreeFault>
+    ensures { Limits push.now result }
+{
+    if push.next > MOST_NUMBERS || push.depth > GREATEST_DEPTH {
+        return Err(TreeFault::BucketFull {
+            next: path.next,
+            depth: path.depth,
+        });
+    }
+    match first_over(push.rows.as_slice()) {
+        Some(node) => Err(TreeFault::Number { node }),
+        None => Ok(()),
+    }
+}
+
+/// Sets a key in the leaf in which it belongs, and splits what has no room for it.
+pub fn put_at(
+    alloc: Global,
+    bucket: &mut Bucket,
+    log: &mut PrivateLog,
+    key: &[u8],
+    value: &[u8],
+    path: Path,
+) -> Result<(), TreeFault>
+    requires fits { FitsCache bucket.old }
+    requires key { FitsKey key.now }
+    requires value { FitsValue value.now }
+    requires path { IsPath bucket.old key.now path }
+    ensures fits { FitsCache bucket.new }
+    ensures outcome { Outcome bucket.old bucket.new log.old log.new (call.Put key.now value.now) key.now (λ _. Unit {0}) (λ _. ⊥) result }
+{
+    let below = grow(
+        alloc,
+        bucket,
+        path.next,
+        key,
+        value,
+        path.root,
+        path.depth - 1,
+    )?;
+    let push = with_head(alloc, bucket.bucket(), version_of(bucket, 0), path, below)?;
+    test_limits(&push, path)?;
+    push_all(alloc, bucket, log, push.rows.as_slice())?;
+    Ok(())
+}
+
+/// Sets a key in the tree that the bucket gives.
+fn put_key<S: NodeSource>(
+    alloc: Global,
+    source: &mut S,
+    bucket: &mut Bucket,
+    log: &mut PrivateLog,
+    key: &[u8],
+    value: &[u8],
+) -> Result<(), TreeFault>
+    requires bucket { bucket.old.bucket ≡ bucket_of key.now }
+    requires key { FitsKey key.now }
+    requires value { FitsValue value.now }
+    requires fits { FitsCache bucket.old }
+    ensures rows { S.rows source.new ≡ S.rows source.old }
+    ensures upper { S.upper source.new ≡ S.upper source.old }
+    ensures later { S.later source.old source.new }
+    ensures fits { FitsCache bucket.new }
+    ensures change { IsChange (S.rows source.old) (S.upper source.old) bucket.old bucket.new log.old log.new (call.Put key.now value.now) key.now (λ _ _. Unit {0}) (λ failed. S.fails source.old failed source.new) result }
+{
+    let path = find_leaf(source, bucket, key)?;
+    put_at(alloc, bucket, log, key, value, path)
+}
+
+/// Sets a key to a value. A leaf of 32 pairs that has not the key is split, and so is each full inner node above it that a split
+/// reaches; a split root has a new root above it. `Unfit` names the first node on the key's way that breaks the rules of a tree,
+/// `BucketFull` comes exactly where the bucket's node numbers or the tree's depth would pass their limits, and has what the head says
+/// of both, `Number` exactly where else a version would, with the first node whose version it is, and `Source` has what the source
+/// answered: with these, nothing is changed but what is loaded. `NoMemory` may leave changed nodes and pushed rows. With every answer,
+/// each node that was changed or added without a load was saved before, and no original is lost.
+pub fn insert<S: NodeSource>(
+    alloc: Global,
+    source: &mut S,
+    bucket: &mut Bucket,
+    log: &mut PrivateLog,
+    key: &[u8],
+    value: &[u8],
+) -> Result<(), TreeFault>
+    requires bucket { bucket.old.bucket ≡ bucket_of key.now }
+    requires key { FitsKey key.now }
+    requires value { FitsValue value.now }
+    requires fits { FitsCache bucket.old }
+    ensures rows { S.rows source.new ≡ S.rows source.old }
+    ensures upper { S.upper source.new ≡ S.upper source.old }
+    ensures later { S.later source.old source.new }
+    ensures bucket { bucket.new.bucket ≡ bucket.old.bucket }
+    ensures fits { FitsCache bucket.new }
+    ensures change { IsChange (S.rows source.old) (S.upper source.old) bucket.old bucket.new log.old log.new (call.Put key.now value.now) key.now (λ _ _. Unit {0}) (λ failed. S.fails source.old failed source.new) result }
+    ensures sound { IfSome (S.rows source.old) (λ told. Holds bucket.old told log.old → IsSound (told ++ log.old) → SoundOutcome told log.old log.new bucket.new (call.Put key.now value.now) (λ _. Unit {0}) result) }
+{
+    put_key(alloc, source, bucket, log, key, value)
+}

@@ -1,0 +1,22 @@
+//! The tree of a bucket, on the nodes that the bucket caches and those that a source loads.
+#![tactic(auto)]
+
+mod adding;
+mod change;
+mod descent;
+mod fault;
+mod growth;
+mod insertion;
+mod leaf;
+mod removal;
+mod source;
+#[cfg(test)]
+mod tests;
+mod tree;
+
+pub use adding::add_to;
+pub use fault::TreeFault;
+pub use insertion::insert;
+pub use removal::remove;
+pub use source::NodeSource;
+pub use tree::find;

@@ -1,0 +1,104 @@
+//! Removing a key from a tree.
+
+ghost use Rattle.std.specs.Prelude.{◌≡◌, ℕ, ◌<◌, ◌≤◌, ◌++◌, [], ◌∷◌, List, IfOk, IfSome, Some, None, is_some};
+ghost use Rattle.fine_model.specs.declared.Call.TheVariants as call;
+ghost use Rattle.fine_model.specs.Map.{has};
+ghost use Rattle.fine_model.specs.RowBytes.{FitsKey};
+ghost use Rattle.fine_model.specs.Trees.{bucket_of, map_of, IsSound};
+ghost use Rattle.btree_nodes.specs.Given.{given, IsCached, FitsCache, Holds};
+ghost use Rattle.btree_nodes.specs.Trees.{IsPath, pairs_in};
+ghost use Rattle.btree_nodes.specs.Calls.{Outcome, IsChange, SoundOutcome};
+
+use crate::change::{next_version, push_row};
+use crate::fault::TreeFault;
+use crate::leaf::value_in;
+use crate::source::NodeSource;
+use crate::tree::{Path, find_leaf};
+use fine_model::{Bytes, Items, NoMemory, NodeId, Rec, Row};
+use node_cache::Bucket;
+use private_log::PrivateLog;
+use std::alloc::Global;
+
+/// The bytes of a slice.
+pub fn bytes_of(alloc: Global, bytes: &[u8]) -> Result<Bytes, NoMemory>
+    ensures { IfOk result (λ copy. copy ≡ bytes.now) }
+{
+    Ok(Items::from_vec(Vec::from_slice(alloc, bytes)?))
+}
+
+/// Removes a key from the leaf in which it belongs. Answers whether it was there.
+fn remove_at(
+    alloc: Global,
+    bucket: &mut Bucket,
+    log: &mut PrivateLog,
+    key: &[u8],
+    path: Path,
+) -> Result<bool, TreeFault>
+    requires fits { FitsCache bucket.old }
+    requires key { FitsKey key.now }
+    requires path { IsPath bucket.old key.now path }
+    ensures fits { FitsCache bucket.new }
+    ensures outcome { Outcome bucket.old bucket.new log.old log.new (call.Del key.now) key.now (λ there. there ≡ has (pairs_in bucket.old key.now) key.now) (λ _. ⊥) result }
+{
+    if value_in(bucket, path.leaf, key).is_none() {
+        return Ok(false);
+    }
+    let row = Row {
+        node: NodeId {
+            bucket: bucket.bucket(),
+            number: path.leaf,
+        },
+        version: next_version(bucket, path.leaf)?,
+        rec: Rec::Del {
+            key: bytes_of(alloc, key)?,
+        },
+    };
+    push_row(alloc, bucket, log, &row)?;
+    Ok(true)
+}
+
+/// Removes a key from the tree that the bucket gives.
+fn remove_key<S: NodeSource>(
+    alloc: Global,
+    source: &mut S,
+    bucket: &mut Bucket,
+    log: &mut PrivateLog,
+    key: &[u8],
+) -> Result<bool, TreeFault>
+    requires bucket { bucket.old.bucket ≡ bucket_of key.now }
+    requires key { FitsKey key.now }
+    requires fits { FitsCache bucket.old }
+    ensures rows { S.rows source.new ≡ S.rows source.old }
+    ensures upper { S.upper source.new ≡ S.upper source.old }
+    ensures later { S.later source.old source.new }
+    ensures fits { FitsCache bucket.new }
+    ensures change { IsChange (S.rows source.old) (S.upper source.old) bucket.old bucket.new log.old log.new (call.Del key.now) key.now (λ mid there. there ≡ has (pairs_in mid key.now) key.now) (λ failed. S.fails source.old failed source.new) result }
+{
+    let path = find_leaf(source, bucket, key)?;
+    remove_at(alloc, bucket, log, key, path)
+}
+
+/// Removes a key, and answers whether it was there. Where it was, one row is pushed; else nothing is changed. `Unfit` names the first
+/// node on the key's way that breaks the rules of a tree, `Number` comes exactly where the leaf's version would pass its limit, and
+/// `Source` has what the source answered: with these, nothing is changed but what is loaded. `NoMemory` may leave a changed node and a
+/// pushed row. With every answer, each node that was changed was saved before, and no original is lost.
+pub fn remove<S: NodeSource>(
+    alloc: Global,
+    source: &mut S,
+    bucket: &mut Bucket,
+    log: &mut PrivateLog,
+    key: &[u8],
+) -> Result<bool, TreeFault>
+    requires bucket { bucket.old.bucket ≡ bucket_of key.now }
+    requires key { FitsKey key.now }
+    requires fits { FitsCache bucket.old }
+    ensures rows { S.rows source.new ≡ S.rows source.old }
+    ensures upper { S.upper source.new ≡ S.upper source.old }
+    ensures later { S.later source.old source.new }
+    ensures bucket { bucket.new.bucket ≡ bucket.old.bucket }
+    ensures fits { FitsCache bucket.new }
+    ensures change { IsChange (S.rows source.old) (S.upper source.old) bucket.old bucket.new log.old log.new (call.Del key.now) key.now (λ mid there. there ≡ has (pairs_in mid key.now) key.now) (λ failed. S.fails source.old failed source.new) result }
+    ensures sound { IfSome (S.rows source.old) (λ told. Holds bucket.old told log.old → IsSound (told ++ log.old) → SoundOutcome told log.old log.new bucket.new (call.Del key.now) (λ there. there ≡ has (map_of (told ++ log.old)) key.now) result) }
+{
+    remove_key(alloc, source, bucket, log, key)
+}

@@ -1,0 +1,109 @@
+//! Looking a key up in a tree.
+
+ghost use Rattle.std.specs.Prelude.{◌≡◌, ℕ, ◌<◌, ◌≤◌, ◌++◌, List, Option, Some, None, option_copied, OnOk, IfSome, IfOk};
+ghost use Rattle.fine_model.specs.declared.Row.{Row as ModelRow};
+ghost use Rattle.fine_model.specs.Map.{get};
+ghost use Rattle.fine_model.specs.RowBytes.{FitsKey};
+ghost use Rattle.fine_model.specs.Trees.{bucket_of, pairs_of, map_of, IsSound};
+ghost use Rattle.node_record.specs.Bounds.{FitsNode};
+ghost use Rattle.btree_nodes.specs.Given.{given, IsCached, FitsCache, IsLoaded, Holds};
+ghost use Rattle.btree_nodes.specs.Trees.{HeadIs, IsPath, IsFound, Answers, AnswersSoundly};
+
+use crate::descent::{descend, reach};
+use crate::fault::TreeFault;
+use crate::leaf::{copy_of, value_in};
+use crate::source::NodeSource;
+use fine_model::{Bytes, Node, NodeId};
+use node_cache::Bucket;
+
+/// The way to a key: what the head says, and the leaf in which the key belongs.
+#[derive(Clone, Copy, Debug)]
+pub struct Path {
+    pub root: u32,
+    pub next: u32,
+    pub depth: u8,
+    pub leaf: u32,
+}
+
+/// What a cached head says: root, next and depth. None where the node is no head, or its root is not below next.
+#[tactic(auto, unfolding(crate::specs::Given::given))]
+fn head_of(bucket: &Bucket) -> Option<(u32, u32, u8)>
+    requires { FitsCache bucket.now }
+    ensures { HeadIs (given bucket.now 0).0 result }
+{
+    match bucket.peek(0)?.node {
+        Node::Head { root, next, depth } => (root < next).then_some((root, next, depth)),
+        _ => None,
+    }
+}
+
+/// Goes from the head of a tree down to the leaf in which a key belongs.
+pub fn find_leaf<S: NodeSource>(
+    source: &mut S,
+    bucket: &mut Bucket,
+    key: &[u8],
+) -> Result<Path, TreeFault>
+    requires bucket { bucket.old.bucket < 256 }
+    requires fits { FitsCache bucket.old }
+    ensures rows { S.rows source.new ≡ S.rows source.old }
+    ensures upper { S.upper source.new ≡ S.upper source.old }
+    ensures later { S.later source.old source.new }
+    ensures loaded { IsLoaded (S.rows source.old) (S.upper source.old) bucket.old bucket.new }
+    ensures path { Answers bucket.new key.now (IsPath bucket.new key.now) (λ failed. S.fails source.old failed source.new) result }
+{
+    reach(source, bucket, 0)?;
+    let unfit = NodeId {
+        bucket: bucket.bucket(),
+        number: 0,
+    };
+    let Some((root, next, depth)) = head_of(bucket) else {
+        return Err(TreeFault::Unfit { node: unfit });
+    };
+    let leaf = descend(source, bucket, next, key, None, None, root, depth - 1)?;
+    Ok(Path {
+        root,
+        next,
+        depth,
+        leaf,
+    })
+}
+
+/// The value of a key in the tree that the bucket gives.
+fn look_up<S: NodeSource>(
+    source: &mut S,
+    bucket: &mut Bucket,
+    key: &[u8],
+) -> Result<Option<Bytes>, TreeFault>
+    requires bucket { bucket.old.bucket < 256 }
+    requires fits { FitsCache bucket.old }
+    ensures rows { S.rows source.new ≡ S.rows source.old }
+    ensures upper { S.upper source.new ≡ S.upper source.old }
+    ensures later { S.later source.old source.new }
+    ensures loaded { IsLoaded (S.rows source.old) (S.upper source.old) bucket.old bucket.new }
+    ensures answer { Answers bucket.new key.now (IsFound bucket.new key.now) (λ failed. S.fails source.old failed source.new) result }
+{
+    let path = find_leaf(source, bucket, key)?;
+    Ok(copy_of(value_in(bucket, path.leaf, key))?)
+}
+
+/// The value of a key. None exactly where it is absent. It changes nothing but what is loaded; loaded nodes stay. `Unfit` names the
+/// first node on the key's way that breaks the rules of a tree, and `Source` has what the source answered.
+pub fn find<S: NodeSource>(
+    source: &mut S,
+    bucket: &mut Bucket,
+    key: &[u8],
+) -> Result<Option<Bytes>, TreeFault>
+    requires bucket { bucket.old.bucket ≡ bucket_of key.now }
+    requires fits { FitsCache bucket.old }
+    ensures rows { S.rows source.new ≡ S.rows source.old }
+    ensures upper { S.upper source.new ≡ S.upper source.old }
+    ensures later { S.later source.old source.new }
+    ensures loaded { IsLoaded (S.rows source.old) (S.upper source.old) bucket.old bucket.new }
+    ensures bucket { bucket.new.bucket ≡ bucket.old.bucket }
+    ensures fits { FitsCache bucket.new }
+    ensures answer { Answers bucket.new key.now (IsFound bucket.new key.now) (λ failed. S.fails source.old failed source.new) result }
+    ensures holds { IfSome (S.rows source.old) (λ rows. (log : List ModelRow) → Holds bucket.old rows log → Holds bucket.new rows log) }
+    ensures sound { IfSome (S.rows source.old) (λ rows. (log : List ModelRow) → Holds bucket.old rows log → IsSound (rows ++ log) → AnswersSoundly (λ value. value ≡ get (map_of (rows ++ log)) key.now) result) }
+{
+    look_up(source, bucket, key)
+}

@@ -1,5 +1,5 @@
 -- What a search finds in a region in the grammar.
-use Rattle.std.proofs.Common.{◌≡◌, ℕ, zero, suc, ◌-◌, ◌<◌, List, [], ◌∷◌, length, get_or, refl, sym, ◌∙◌, subst, arith, Some, Ok, Err}
+use Rattle.std.proofs.Common.{◌≡◌, ℕ, zero, suc, ◌+◌, ◌-◌, ◌<◌, List, [], ◌∷◌, length, get_or, refl, sym, ◌∙◌, subst, arith, Some, Ok, Err}
 use Rattle.std.specs.Prelude.{Result, slice_get}
 use Rattle.std.proofs.lemmas.Nat.{mul-le}
 use Rattle.log_disk.specs.Disk.{Eye}
@@ -25,6 +25,13 @@ use Rattle.partition_index.proofs.InGrammar.{HoldsRows, entry_is, span_is}
 
 area_small : (region_len : ℕ) (header : Header) → LiesIn region_len header → header.area < 4294967296
 area_small region_len header l =
+    let r = laid region_len header l in
+    let small = l.small in
+    let most = mul-le (header.regions - 1) (region_len - 1) 7 67108864 (omega (arith, r.few)) (omega arith) in
+    omega (arith, r.room, most)
+
+pub nodes_small : (region_len : ℕ) (header : Header) → LiesIn region_len header → header.nodes + 1 < 4294967296
+nodes_small region_len header l =
     let r = laid region_len header l in
     let small = l.small in
     let most = mul-le (header.regions - 1) (region_len - 1) 7 67108864 (omega (arith, r.few)) (omega arith) in

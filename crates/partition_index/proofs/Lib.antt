@@ -7,3 +7,5 @@ pub mod Sorted
 pub mod InGrammar
 pub mod Narrowed
 pub mod Exact
+pub mod RowOrder
+pub mod InSpan

@@ -1,0 +1,5 @@
+pub mod Reading
+pub mod SpanLaws
+pub mod Told
+pub mod PartRows
+pub mod Parts

@@ -1,0 +1,188 @@
+-- Parts, of which the newest one is looked at first.
+use Rattle.std.proofs.Common.{◌≡◌, ◌≢◌, ◌⊎◌, ℕ, zero, suc, ◌+◌, ◌<◌, ◌≤◌, Bool, true, false, cond, ◌||◌, List, [], ◌∷◌, ◌++◌, length, Some, Ok, Err, get_or, refl, sym, ap, ◌∙◌, subst, inl, inr, arith, append_assoc, append-nil, length-append}
+use Rattle.std.specs.Prelude.{Result, Option, Any, IfOk, IfErr, MatchResult, sum_by, fold, slice_index_or}
+use Rattle.std.specs.List.{AllByRecursion, list_any}
+use Rattle.std.proofs.lemmas.Bool.{true≢false}
+use Rattle.std.proofs.lemmas.List.Elements.{filter-append}
+use Rattle.std.proofs.lemmas.List.Quantifiers.{Any-push}
+use Rattle.std.proofs.lemmas.List.Sums.{sum_by-append}
+use Rattle.log_disk.specs.Disk.{Eye}
+use Rattle.fine_model.specs.declared.Header.{Header}
+use Rattle.fine_model.specs.declared.NodeId.{NodeId}
+use Rattle.fine_model.specs.declared.Part.{Part}
+use Rattle.fine_model.specs.declared.Rec.{Rec}
+use Rattle.fine_model.specs.declared.Rec.TheVariants as rec
+use Rattle.fine_model.specs.declared.Row.{Row}
+use Rattle.fine_model.specs.Merge.{is_image}
+use Rattle.fine_model.specs.Nodes.{Content, base, step, step_node, replay, is_node, rows_of, content}
+use Rattle.fine_model.specs.RowBytes.{row_len, rows_len, FitsRow, FitsRec}
+use Rattle.fine_model.specs.Regions.{Image, HasHeader, IsSealed}
+use Rattle.fine_model.specs.Chain.{AreRowsOf}
+use Rattle.fine_model.specs.Seek.{most_taken}
+use Rattle.fine_model.proofs.NodeLaws.{content-append}
+use Rattle.fine_model.proofs.Order.{all_map}
+use Rattle.partition_index.specs.Parts.{SameEye, IsSeen}
+use Rattle.partition_index.specs.Search.{TellsRows}
+use Rattle.partition_index.proofs.Looking.{seen_same}
+use Rattle.fine_model.specs.declared.FetchFault.{FetchFault}
+use Rattle.fine_model.specs.declared.FetchFault.TheVariants as fault
+use Rattle.node_fetch.specs.Fetched.{NoDamage, TellsParts, most_sought, most_read}
+use Rattle.node_fetch.proofs.SpanLaws.{all_front, last_one}
+
+-- ---- lists with one more behind the last
+
+pub any_front : {A : Type 0} (P : A → Type 0) (front back : List A) → Any P front → Any P (front ++ back)
+any_front P front back any = record {
+  0 = any.0;
+  1 = any.1;
+  2 = omega (arith, any.2, length-append front back);
+  3 = at_front front back any.0 any.1 any.2 ∙ any.3;
+  4 = any.4;
+}
+  where
+    at_front : {A : Type 0} (xs ys : List A) (i : ℕ) (d : A) → i < length xs → slice_index_or (xs ++ ys) i d ≡ slice_index_or xs i d
+    at_front [] ys i d here = absurd (omega (arith, here))
+    at_front (x ∷ xs) ys zero d here = refl
+    at_front (x ∷ xs) ys (suc i) d here = at_front xs ys i d (omega (arith, here))
+
+pub none_of : {A : Type 0} (xs : List A) → length xs ≡ 0 → xs ≡ []
+none_of [] e = refl
+none_of (x ∷ xs) e = absurd (omega (arith, e))
+
+pub fit_rows : (p : Part) (rows : List Row) → AllByRecursion (FitsRow p.header.mark) rows → AllByRecursion (λ row. FitsRec row.rec) rows
+fit_rows p rows fit = all_map (FitsRow p.header.mark) (λ row. FitsRec row.rec) (λ row h. h.rec) rows fit
+
+-- ---- rows that have an image
+
+step_by : (x : Content) (row : Row) (r : Rec) → row.rec ≡ r → step x row ≡ (step_node x row.version r, row.version)
+unfolding step
+step_by x row r e = ap (λ q. (step_node x row.version q, row.version)) e
+
+image_forgets : (c d : Content) (row : Row) → is_image row.rec ≡ true → step c row ≡ step d row
+image_forgets c d row h = by row.rec refl h
+  where
+    by : (r : Rec) → row.rec ≡ r → is_image r ≡ true → step c row ≡ step d row
+    by (rec.HeadImage root next depth) e h = let f : (x : Content) → step x row ≡ (step_node x row.version (rec.HeadImage root next depth), row.version) = λ x. step_by x row (rec.HeadImage root next depth) e in f c ∙ sym (f d)
+    by (rec.LeafImage pairs) e h = let f : (x : Content) → step x row ≡ (step_node x row.version (rec.LeafImage pairs), row.version) = λ x. step_by x row (rec.LeafImage pairs) e in f c ∙ sym (f d)
+    by (rec.InnerImage seps kids) e h = let f : (x : Content) → step x row ≡ (step_node x row.version (rec.InnerImage seps kids), row.version) = λ x. step_by x row (rec.InnerImage seps kids) e in f c ∙ sym (f d)
+    by (rec.Put key value) e h = absurd (true≢false (sym h))
+    by (rec.Del key) e h = absurd (true≢false (sym h))
+    by (rec.CutLeaf key) e h = absurd (true≢false (sym h))
+    by (rec.CutInner key) e h = absurd (true≢false (sym h))
+    by (rec.Link key child) e h = absurd (true≢false (sym h))
+    by (rec.Plus key n) e h = absurd (true≢false (sym h))
+
+pub forgets : (c d : Content) (rows : List Row) → list_any (λ row. is_image row.rec) rows ≡ true → replay c rows ≡ replay d rows
+unfolding replay
+forgets c d [] h = absurd (true≢false (sym h))
+forgets c d (row ∷ rows) h = by (is_image row.rec) refl h (forgets (step c row) (step d row) rows)
+  where
+    by : (t : Bool) → is_image row.rec ≡ t → (t || list_any (λ r. is_image r.rec) rows) ≡ true → (list_any (λ r. is_image r.rec) rows ≡ true → fold step (step c row) rows ≡ fold step (step d row) rows) → fold step (step c row) rows ≡ fold step (step d row) rows
+    by true e h rest = ap (λ x. fold step x rows) (image_forgets c d row e)
+    by false e h rest = rest h
+
+-- ---- what an eye tells of parts
+
+pub later_tells : (old new : Eye) (parts : List Part) (rows : List Row) → SameEye old new → TellsParts old parts rows → TellsParts new parts rows
+later_tells old new parts rows same t = record {
+  image = t.image;
+  told = same.told ∙ t.told;
+  headers = subst (λ len. AllByRecursion (λ p. HasHeader len t.image p.region p.header) parts) (sym same.region_len) t.headers;
+  are_rows = subst (λ len. AreRowsOf len t.image parts rows) (sym same.region_len) t.are_rows;
+}
+
+pub later_seen : (old new : Eye) (parts : List Part) → SameEye old new → AllByRecursion (IsSeen old) parts → AllByRecursion (IsSeen new) parts
+later_seen old new parts same seen = all_map (IsSeen old) (IsSeen new) (λ p. seen_same old new p same) parts seen
+
+-- the rows of parts, and those of the newest one behind them
+record LastRows (len : ℕ) (image : Image) (front : List Part) (p : Part) (rows : List Row) : Type 0 where
+  before : List Row
+  own : List Row
+  whole : rows ≡ before ++ own
+  are_before : AreRowsOf len image front before
+  sealed : IsSealed len image p.region p.header.range own
+
+last_rows : (len : ℕ) (image : Image) (front : List Part) (p : Part) (rows : List Row) → AreRowsOf len image (front ++ p ∷ []) rows → LastRows len image front p rows
+unfolding AreRowsOf
+last_rows len image [] p rows are = record { before = []; own = are.0; whole = are.2 ∙ ap (λ xs. are.0 ++ xs) are.4 ∙ append-nil are.0; are_before = refl; sealed = are.3 }
+last_rows len image (q ∷ front) p rows are =
+    let l = last_rows len image front p are.1 are.4 in
+    record {
+      before = are.0 ++ l.before;
+      own = l.own;
+      whole = are.2 ∙ ap (λ xs. are.0 ++ xs) l.whole ∙ sym (append_assoc are.0 l.before l.own);
+      are_before = (are.0, l.before, refl, are.3, l.are_before);
+      sealed = l.sealed;
+    }
+
+pub record TellsLast (eye : Eye) (front : List Part) (p : Part) (rows : List Row) : Type 0 where
+  pub before : List Row
+  pub own : List Row
+  pub whole : rows ≡ before ++ own
+  pub tells_before : TellsParts eye front before
+  pub tells_own : TellsRows eye p own
+
+pub tells_last : (eye : Eye) (parts front : List Part) (p : Part) (rows : List Row) → parts ≡ front ++ p ∷ [] → TellsParts eye parts rows → TellsLast eye front p rows
+tells_last eye parts front p rows is t =
+    let headers : AllByRecursion (λ q. HasHeader eye.region_len t.image q.region q.header) (front ++ p ∷ []) = subst (AllByRecursion (λ q. HasHeader eye.region_len t.image q.region q.header)) is t.headers in
+    let l = last_rows eye.region_len t.image front p rows (subst (λ ps. AreRowsOf eye.region_len t.image ps rows) is t.are_rows) in
+    let here = last_one (λ q. HasHeader eye.region_len t.image q.region q.header) front p headers in
+    let both : ◌≡◌ {A = Result (Option Header) ℕ} (Ok (Some l.sealed.header)) (Ok (Some p.header)) = sym l.sealed.has_header ∙ here in
+    record {
+      before = l.before;
+      own = l.own;
+      whole = l.whole;
+      tells_before = record { image = t.image; told = t.told; headers = all_front (λ q. HasHeader eye.region_len t.image q.region q.header) front (p ∷ []) headers; are_rows = l.are_before };
+      tells_own = record { image = t.image; told = t.told; sealed = l.sealed; of_part = cc };
+    }
+
+pub tells_none : (eye : Eye) (rows : List Row) → TellsParts eye [] rows → rows ≡ []
+unfolding AreRowsOf
+tells_none eye rows t = t.are_rows
+
+-- ---- content and bytes, the newest part last
+
+pub content_none : (id : NodeId) → content [] id ≡ base id
+unfolding content replay
+content_none id = refl
+
+pub content_last : (rows before own : List Row) (id : NodeId) → rows ≡ before ++ own → content rows id ≡ replay (content before id) (rows_of id own)
+content_last rows before own id is = ap (λ rs. content rs id) is ∙ content-append before own id
+
+pub len_last : (rows before own : List Row) (id : NodeId) → rows ≡ before ++ own → rows_len (rows_of id rows) ≡ rows_len (rows_of id before) + rows_len (rows_of id own)
+len_last rows before own id is = ap (λ rs. rows_len (rows_of id rs)) is ∙ ap rows_len (filter-append (λ r. is_node id r.node) before own) ∙ sum_by-append row_len (rows_of id before) (rows_of id own)
+
+pub sought_last : (parts front : List Part) (p : Part) → parts ≡ front ++ p ∷ [] → most_sought parts ≡ most_sought front + most_taken p.header.nodes
+sought_last parts front p is = ap most_sought is ∙ sum_by-append (λ q. most_taken q.header.nodes) front (p ∷ []) ∙ (let e : 0 + most_taken p.header.nodes ≡ most_taken p.header.nodes = omega arith in ap (λ n. most_sought front + n) e)
+
+-- the node from the newest part alone, where its rows there have an image
+pub content_by_image : (rows before own found : List Row) (id : NodeId) → rows ≡ before ++ own → found ≡ rows_of id own → list_any (λ row. is_image row.rec) found ≡ true → replay (base id) found ≡ content rows id
+content_by_image rows before own found id is same image =
+    forgets (base id) (content before id) found image ∙ ap (replay (content before id)) same ∙ sym (content_last rows before own id is)
+
+pub content_on : (rows before own found : List Row) (id : NodeId) (c : Content) → rows ≡ before ++ own → found ≡ rows_of id own → c ≡ content before id → replay c found ≡ content rows id
+content_on rows before own found id c is same e = ap (λ x. replay x found) e ∙ ap (replay (content before id)) same ∙ sym (content_last rows before own id is)
+
+-- what the rows of the newest part, and those of the others, may take
+pub taken_last : (old mid : ℕ) (parts front : List Part) (p : Part) (rows before own : List Row) (id : NodeId) → parts ≡ front ++ p ∷ [] → rows ≡ before ++ own
+    → mid ≤ old + (most_taken p.header.nodes + rows_len (rows_of id own)) → mid ≤ old + (most_sought parts + rows_len (rows_of id rows))
+taken_last old mid parts front p rows before own id is whole a = omega (arith, a, sought_last parts front p is, len_last rows before own id whole)
+
+pub taken_all : (old mid new : ℕ) (parts front : List Part) (p : Part) (rows before own : List Row) (id : NodeId) → parts ≡ front ++ p ∷ [] → rows ≡ before ++ own
+    → mid ≤ old + (most_taken p.header.nodes + rows_len (rows_of id own)) → new ≤ mid + (most_sought front + rows_len (rows_of id before)) → new ≤ old + (most_sought parts + rows_len (rows_of id rows))
+taken_all old mid new parts front p rows before own id is whole a b = omega (arith, a, b, sought_last parts front p is, len_last rows before own id whole)
+
+-- ---- answers
+
+abbrev pub Answer : Type 0
+Answer = Result Content FetchFault
+
+pub after_exact : (r : Answer) (x y : Content) → IfOk r (λ a. a ≡ x) → IfErr r (λ e. e ≡ fault.NoMemory) → x ≡ y → MatchResult r (λ a. a ≡ y) NoDamage
+after_exact (Ok a) x y ok err e = ok ∙ e
+after_exact (Err f) x y ok err e = subst NoDamage (sym err) tt
+
+pub err_exact : (r : Answer) (f : FetchFault) (y : Content) → r ≡ Err f → NoDamage f → MatchResult r (λ a. a ≡ y) NoDamage
+err_exact r f y is h = subst (λ x. MatchResult x (λ a. a ≡ y) NoDamage) (sym is) h
+
+pub fault_is : (r : Answer) (f g : FetchFault) → r ≡ Err f → r ≡ Err g → f ≡ g
+fault_is r f g a b = let e : ◌≡◌ {A = Answer} (Err f) (Err g) = sym a ∙ b in cc

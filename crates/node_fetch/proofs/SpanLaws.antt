@@ -1,0 +1,114 @@
+-- The rows that a span holds: they are the only ones, and then no place of it is bad.
+use Rattle.std.proofs.Common.{◌≡◌, ◌≢◌, ◌⊎◌, ℕ, ◌+◌, ◌-◌, ◌<◌, ◌≤◌, List, [], ◌∷◌, ◌++◌, length, take, drop, refl, sym, ap, ◌∙◌, subst, inl, inr, arith, append_assoc, append-nil, length-append, length-drop, drop_at}
+use Rattle.std.specs.Prelude.{flat_map}
+use Rattle.std.specs.List.{AllByRecursion}
+use Rattle.std.proofs.lemmas.Grind.{flat_map-append}
+use Rattle.fine_model.specs.declared.Header.{Header}
+use Rattle.fine_model.specs.declared.Mark.{Mark}
+use Rattle.fine_model.specs.declared.NodeId.{NodeId}
+use Rattle.fine_model.specs.declared.Row.{Row}
+use Rattle.fine_model.specs.RowBytes.{row_bytes, rows_bytes, rows_len, FitsRow}
+use Rattle.fine_model.specs.Seek.{RowSpan, SpanBegins, SpanHolds, IsBadInSpan, span_bytes}
+use Rattle.fine_model.proofs.Grammar.{rows_long}
+use Rattle.fine_model.proofs.Spelling.{row_spelling}
+use Rattle.node_fetch.specs.Spans.{ReadSoFar, ReadsAll, IsStop, IsNoRowOf}
+use Rattle.node_fetch.proofs.Reading.{rows_more}
+
+bytes_append : (a b : List Row) → rows_bytes (a ++ b) ≡ rows_bytes a ++ rows_bytes b
+unfolding rows_bytes
+bytes_append a b = flat_map-append row_bytes a b
+
+-- rows that are spelled at the front of others are the front of these
+rows_begin : (mark : Mark) (front rows : List Row) (x y : List ℕ) → length front ≤ length rows → AllByRecursion (FitsRow mark) front → AllByRecursion (FitsRow mark) rows
+    → rows_bytes front ++ x ≡ rows_bytes rows ++ y → (more : List Row) × (rows ≡ front ++ more) × (x ≡ rows_bytes more ++ y)
+unfolding rows_bytes
+rows_begin mark [] rows x y long f g e = (rows, refl, e)
+rows_begin mark (a ∷ front) [] x y long f g e = absurd (omega (arith, long))
+rows_begin mark (a ∷ front) (b ∷ rows) x y long f g e =
+    let s = row_spelling mark a b (flat_map row_bytes front ++ x) (flat_map row_bytes rows ++ y) f.0 g.0
+    (sym (append_assoc (row_bytes a) (flat_map row_bytes front) x) ∙ e ∙ append_assoc (row_bytes b) (flat_map row_bytes rows) y) in
+    let rest = rows_begin mark front rows x y (omega (arith, long)) f.1 g.1 s.1 in
+    (rest.0, (λ i. sym s.0 i ∷ rest.1 i), rest.2)
+
+pub all_front : {A : Type 0} (P : A → Type 0) (front more : List A) → AllByRecursion P (front ++ more) → AllByRecursion P front
+all_front P [] more all = tt
+all_front P (x ∷ front) more all = (all.0, all_front P front more all.1)
+
+pub last_one : {A : Type 0} (P : A → Type 0) (front : List A) (x : A) → AllByRecursion P (front ++ x ∷ []) → P x
+last_one P [] x all = all.0
+last_one P (y ∷ front) x all = last_one P front x all.1
+
+none_left : {A : Type 0} (xs : List A) → length xs ≡ 0 → xs ≡ []
+none_left [] e = refl
+none_left (x ∷ xs) e = absurd (omega (arith, e))
+
+module _ (header : Header) (body : List ℕ) (span : RowSpan) (id : NodeId) (own : List Row) (h : SpanHolds header body span id own) where
+  -- good rows are the front of all rows
+  front : (good : List Row) (more : List ℕ) → SpanBegins header body span id good more → (others : List Row) × (own ≡ good ++ others) × (more ≡ rows_bytes others ++ [])
+  front good more b = rows_begin header.mark good own more [] (omega (arith, b.counted, h.all)) b.fit h.begins.fit (sym b.spelled ∙ h.begins.spelled)
+
+  pub holds_same : (rows : List Row) → SpanHolds header body span id rows → rows ≡ own
+  holds_same rows r =
+      let f = front rows [] r.begins in
+      let none : f.0 ≡ [] = none_left f.0 (omega (arith, ap length f.1, length-append rows f.0, r.all, h.all)) in
+      sym (f.1 ∙ ap (λ xs. rows ++ xs) none ∙ append-nil rows)
+
+  pub never_bad : (at : ℕ) → IsBadInSpan header body span id at → ⊥
+  unfolding rows_bytes
+  never_bad at b = by (front b.rows b.rest b.good)
+    where
+      by : (others : List Row) × (own ≡ b.rows ++ others) × (b.rest ≡ rows_bytes others ++ []) → ⊥
+      by ([], all, none) = by_unfinished b.unfinished
+        where
+          by_unfinished : (length b.rows < span.rows) ⊎ (b.rest ≢ []) → ⊥
+          by_unfinished (inl fewer) = let long = ap length (all ∙ append-nil b.rows) in omega (arith, fewer, long, h.all)
+          by_unfinished (inr left) = left none
+      by (row ∷ others, all, more) =
+          let whole : own ≡ (b.rows ++ row ∷ []) ++ others = all ∙ sym (append_assoc b.rows (row ∷ []) others) in
+          b.last row (rows_bytes others) (record {
+            fit = all_front (FitsRow header.mark) (b.rows ++ row ∷ []) others (subst (AllByRecursion (FitsRow header.mark)) whole h.begins.fit);
+            of_node = all_front (λ r. r.node ≡ id) (b.rows ++ row ∷ []) others (subst (AllByRecursion (λ r. r.node ≡ id)) whole h.begins.of_node);
+            spelled = h.begins.spelled ∙ append-nil (rows_bytes own) ∙ ap rows_bytes whole ∙ bytes_append (b.rows ++ row ∷ []) others;
+            counted = let long = ap length whole in omega (arith, long, h.all, length-append (b.rows ++ row ∷ []) others);
+          })
+
+-- what was read of the bytes of a span
+module _ (header : Header) (body : List ℕ) (span : RowSpan) (id : NodeId) (bytes : List ℕ) (is : bytes ≡ span_bytes header body span) where
+  begun : (rows : List Row) (at : ℕ) → ReadSoFar header.mark bytes id rows at → length rows ≤ span.rows → SpanBegins header body span id rows (drop at bytes)
+  begun rows at s few = record { fit = s.fit; of_node = s.of_node; spelled = sym is ∙ s.spelled; counted = few }
+
+  pub all_held : (rows : List Row) → ReadsAll header.mark bytes id span.rows rows → SpanHolds header body span id rows
+  all_held rows r =
+      let none : drop (length bytes) bytes ≡ [] = none_left (drop (length bytes) bytes) (omega (arith, length-drop (length bytes) bytes)) in
+      record {
+        begins = subst (SpanBegins header body span id rows) none (begun rows (length bytes) r.so_far (omega (arith, r.counted)));
+        all = r.counted;
+      }
+
+  -- a row that would go on is what stands there
+  goes_on : (rows : List Row) (at : ℕ) (row : Row) (more : List ℕ) → ReadSoFar header.mark bytes id rows at → SpanBegins header body span id (rows ++ row ∷ []) more → drop at bytes ≡ row_bytes row ++ more
+  goes_on rows at row more s b =
+      let words : bytes ≡ rows_bytes rows ++ (row_bytes row ++ more) = is ∙ b.spelled ∙ ap (λ t. t ++ more) (rows_more rows row) ∙ append_assoc (rows_bytes rows) (row_bytes row) more in
+      ap (drop at) words ∙ drop_at (rows_bytes rows) (row_bytes row ++ more) at (rows_long rows ∙ sym s.place)
+
+  pub stop_is_bad : (at : ℕ) → IsStop header.mark bytes id span.rows at → IsBadInSpan header body span id (span.at + at)
+  stop_is_bad at t = by t.why
+    where
+      by : ((length t.rows < span.rows) × IsNoRowOf header.mark bytes id at) ⊎ ((length t.rows ≡ span.rows) × (at < length bytes)) → IsBadInSpan header body span id (span.at + at)
+      by (inl missing) = record {
+        rows = t.rows;
+        rest = drop at bytes;
+        good = begun t.rows at t.so_far (omega (arith, missing.0));
+        place = ap (λ n. span.at + n) t.so_far.place;
+        unfinished = inl missing.0;
+        last = λ row more b.
+            missing.1.none row more (record { fits = last_one (FitsRow header.mark) t.rows row b.fit; spelled = goes_on t.rows at row more t.so_far b }) (last_one (λ r. r.node ≡ id) t.rows row b.of_node);
+      }
+      by (inr left) = record {
+        rows = t.rows;
+        rest = drop at bytes;
+        good = begun t.rows at t.so_far (omega (arith, left.0));
+        place = ap (λ n. span.at + n) t.so_far.place;
+        unfinished = inr (λ none. let n = ap length none in omega (arith, n, left.1, length-drop at bytes));
+        last = λ row more b. let c = b.counted in omega (arith, c, left.0, length-append t.rows (row ∷ []));
+      }

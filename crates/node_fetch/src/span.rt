@@ -1,0 +1,120 @@
+//! The rows of one node in one part.
+
+ghost use Rattle.std.specs.Prelude.{◌≡◌, ℕ, ◌+◌, ◌-◌, ◌≤◌, ◌<◌, IfOk, IfErr, IsErrOf, MatchResult, List, length};
+ghost use Rattle.std.specs.List.{AllByRecursion};
+ghost use Rattle.fine_model.specs.declared.Row.{Row};
+ghost use Rattle.fine_model.specs.declared.FetchFault.TheVariants as fetch_fault;
+ghost use Rattle.fine_model.specs.Nodes.{rows_of};
+ghost use Rattle.fine_model.specs.RowBytes.{FitsRow};
+ghost use Rattle.fine_model.specs.Seek.{SpanHolds, span_bytes};
+ghost use Rattle.partition_index.specs.Entries.{row_span_of};
+ghost use Rattle.partition_index.specs.Parts.{IsSeen};
+ghost use Rattle.partition_index.specs.Search.{Searches, IfTold, TellsRows, span_for};
+ghost use Rattle.node_fetch.specs.Spans.{ReadsAll, StopsAt};
+ghost use Rattle.node_fetch.specs.Fetched.{IsBadRowOf, NoDamage};
+
+use crate::fault::bad_row;
+use fine_model::{FetchFault, Items, Mark, NodeId, Part, Rows};
+use log_disk::LogEye;
+use node_record::{RowFault, read_row};
+use partition_index::{Span, read_body};
+use std::alloc::Global;
+
+/// So many zeros.
+fn zeros(alloc: Global, len: u32) -> Result<Vec<u8>, FetchFault>
+    ensures ok { IfOk result (λ bytes. length bytes.items ≡ len) }
+    ensures err { IfErr result (λ e. e ≡ fetch_fault.NoMemory) }
+{
+    let zeros = vec![in alloc; 0; len as usize];
+    zeros.map_err(|_| FetchFault::NoMemory)
+}
+
+/// The bytes of a span.
+fn read_bytes<E: LogEye>(
+    alloc: Global,
+    eye: &mut E,
+    part: &Part,
+    span: &Span,
+    region_len: u64,
+) -> Result<Vec<u8>, FetchFault>
+    requires seen { IsSeen (E.LogEye.state eye.old) part.now }
+    requires region_len { region_len ≡ (E.LogEye.state eye.old).region_len }
+    requires order { span.now.at ≤ span.now.end }
+    requires within { span.now.end ≤ part.now.header.area }
+    ensures eye { Searches (IsErrOf result fetch_fault.Failed) (span.now.end - span.now.at) (E.LogEye.state eye.old) (E.LogEye.state eye.new) }
+    ensures long { IfOk result (λ bytes. length bytes.items ≡ span.now.end - span.now.at) }
+    ensures read { IfOk result (λ bytes. IfTold (E.LogEye.state eye.old).told part.now (λ body. bytes.items ≡ span_bytes part.now.header body (row_span_of span.now))) }
+    ensures err { IfErr result NoDamage }
+{
+    let mut bytes = zeros(alloc, span.end - span.at)?;
+    match read_body(eye, part, region_len, span.at, &mut bytes) {
+        Ok(()) => Ok(bytes),
+        Err(_) => Err(FetchFault::Failed),
+    }
+}
+
+/// Reads bytes as so many rows of a node. `Bad` has the place where none stands, or where bytes are left behind the last one.
+fn rows_in(
+    alloc: Global,
+    bytes: &[u8],
+    node: NodeId,
+    count: u32,
+    mark: Mark,
+) -> Result<Rows, RowFault>
+    ensures found { IfOk result (ReadsAll mark bytes.now node count) }
+    ensures bad { IfErr result (StopsAt mark bytes.now node count) }
+{
+    let mut rows = Items::new(alloc);
+    let mut at = 0;
+    for _ in 0..count {
+        let (row, end) = match read_row(alloc, bytes, at, mark) {
+            Ok(found) => found,
+            Err(RowFault::Bad { at: _ }) => return Err(RowFault::Bad { at }),
+            Err(RowFault::NoMemory) => return Err(RowFault::NoMemory),
+        };
+        if row.node != node {
+            return Err(RowFault::Bad { at });
+        }
+        rows.push(row)?;
+        at = end;
+    }
+    if at < bytes.len() {
+        return Err(RowFault::Bad { at });
+    }
+    Ok(rows)
+}
+
+/// Reads the rows of a node from the span that its index entry gives.
+///
+/// In a region in the grammar these are the node's rows in the part. `BadRow` comes only where, by the bytes of the span, the
+/// place that it names has no row of the node that ends within the span while the entry counts one there, or has bytes behind
+/// the last row. `Failed` comes only where the eye's count of faults rose in this call. The span is read once.
+pub fn read_span<E: LogEye>(
+    alloc: Global,
+    eye: &mut E,
+    part: &Part,
+    node: NodeId,
+    span: Span,
+    region_len: u64,
+) -> Result<Rows, FetchFault>
+    requires seen { IsSeen (E.LogEye.state eye.old) part.now }
+    requires region_len { region_len ≡ (E.LogEye.state eye.old).region_len }
+    requires some { 1 ≤ part.now.header.nodes }
+    requires order { span.at ≤ span.end }
+    requires within { span.end ≤ part.now.header.area }
+    ensures eye { Searches (IsErrOf result fetch_fault.Failed) (span.end - span.at) (E.LogEye.state eye.old) (E.LogEye.state eye.new) }
+    ensures fit { IfOk result (AllByRecursion (FitsRow part.now.header.mark)) }
+    ensures holds { IfOk result (λ rows. IfTold (E.LogEye.state eye.old).told part.now (λ body. SpanHolds part.now.header body (row_span_of span) node rows)) }
+    ensures bad_row { (region at : ℕ) → IsErrOf result (fetch_fault.BadRow region at)
+        → IsBadRowOf (E.LogEye.state eye.old).told region_len part.now node span (record { region = region; at = at }) }
+    ensures good_index { (region at : ℕ) → IsErrOf result (fetch_fault.BadIndex region at) → ⊥ }
+    ensures exact { (rows : List Row) → TellsRows (E.LogEye.state eye.old) part.now rows → span ≡ span_for rows node
+        → MatchResult result (λ own. own ≡ rows_of node rows) NoDamage }
+{
+    let bytes = read_bytes(alloc, eye, part, &span, region_len)?;
+    match rows_in(alloc, &bytes, node, span.rows, part.header.mark) {
+        Ok(rows) => Ok(rows),
+        Err(RowFault::Bad { at }) => Err(bad_row(part, region_len, span.at + at as u32)),
+        Err(RowFault::NoMemory) => Err(FetchFault::NoMemory),
+    }
+}

@@ -1,4 +1,5 @@
 pub mod Folding
-pub mod Orders
 pub mod Nodes
 pub mod Steps
+pub mod Sources
+pub mod Measured

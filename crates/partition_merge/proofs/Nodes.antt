@@ -9,7 +9,8 @@ use Rattle.fine_model.specs.Merge.{is_node_below, with_node, nodes_in, merged_no
 use Rattle.fine_model.proofs.NodesIn.{node_cases, is_node_below-self, same_node}
 use Rattle.fine_model.proofs.Order.{filter_all, filter_none, all_map}
 use Rattle.partition_merge.specs.Merging.{merged_of}
-use Rattle.partition_merge.proofs.Orders.{below-asym, AllFrom}
+use Rattle.partition_index.proofs.NodeOrder.{below-asym}
+use Rattle.partition_index.proofs.RowOrder.{AllFrom}
 
 pub all_filter : {A : Type 0} (P : A → Type 0) (p : A → Bool) (xs : List A) → AllByRecursion P xs → AllByRecursion P (filter p xs)
 all_filter P p [] all = tt
@@ -101,16 +102,16 @@ fold_lead n there ids (r ∷ rows) over from = by (is_node n r.node) refl (λ b 
       | inr down ↦ absurd (true≢false (sym down.0 ∙ from.0))
     ]
 
-nodes_first : (n : NodeId) (rows : List Row) → AllFrom n rows → names n rows ≡ true → nodes_in rows ≡ n ∷ nodes_in (rest_of n rows)
+pub nodes_first : (n : NodeId) (rows : List Row) → AllFrom n rows → names n rows ≡ true → nodes_in rows ≡ n ∷ nodes_in (rest_of n rows)
 unfolding nodes_in
 nodes_first n rows from named = fold_lead n false [] rows tt from ∙ ap (λ t. lead n t (fold with_node [] (map (λ r. r.node) (rest_of n rows)))) named
 
-nodes_over : (n : NodeId) (rows : List Row) → Over n (nodes_in (rest_of n rows))
+pub nodes_over : (n : NodeId) (rows : List Row) → Over n (nodes_in (rest_of n rows))
 unfolding nodes_in
 nodes_over n rows = all_folded (λ i. is_node_below n i ≡ true) [] (rest_of n rows) tt (all_kept (λ r. is_node_below n r.node) rows)
 
 -- the rows of a higher node are among the rows of higher nodes
-rows_over : (n id : NodeId) (rows : List Row) → is_node_below n id ≡ true → rows_of id rows ≡ rows_of id (rest_of n rows)
+pub rows_over : (n id : NodeId) (rows : List Row) → is_node_below n id ≡ true → rows_of id rows ≡ rows_of id (rest_of n rows)
 rows_over n id [] h = refl
 rows_over n id (r ∷ rows) h = by (is_node id r.node) (is_node_below n r.node) refl refl (rows_over n id rows h)
   where
@@ -129,7 +130,7 @@ flat_same : (f g : NodeId → List Row) (ids : List NodeId) → AllByRecursion (
 flat_same f g [] all = refl
 flat_same f g (i ∷ ids) all = ap (λ xs. xs ++ flat_map f ids) all.0 ∙ ap (λ xs. g i ++ xs) (flat_same f g ids all.1)
 
-merged_by : (rows : List Row) (id : NodeId) → merged_node rows id ≡ merged_of id (rows_of id rows)
+pub merged_by : (rows : List Row) (id : NodeId) → merged_node rows id ≡ merged_of id (rows_of id rows)
 unfolding merged_node merged_of content
 merged_by rows id = refl
 

@@ -13,7 +13,8 @@ use Rattle.fine_model.proofs.Order.{filter_all, filter_none, all_map}
 use Rattle.fine_model.specs.RowBytes.{FitsRec}
 use Rattle.fine_model.proofs.MergedRows.{content-merged}
 use Rattle.partition_merge.specs.Merging.{FitRows, run_len, first_node, merged_of, StandsFor}
-use Rattle.partition_merge.proofs.Orders.{below-asym, AllAbove, AllFrom, all_above, all_from, ordered_tail}
+use Rattle.partition_index.proofs.NodeOrder.{below-asym}
+use Rattle.partition_index.proofs.RowOrder.{AllAbove, AllFrom, all_above, all_from, ordered_tail}
 use Rattle.partition_merge.proofs.Nodes.{all_join, rest_of, names, merged_all, lowest_first}
 
 pub all_drop : {A : Type 0} (P : A → Type 0) (k : ℕ) (xs : List A) → AllByRecursion P xs → AllByRecursion P (drop k xs)
@@ -92,13 +93,13 @@ named_back n (r ∷ older) newer h = by (is_node n r.node) (named_back n older n
 is_head : (n : NodeId) (r : Row) → r.node ≡ n → is_node n r.node ≡ true
 is_head n r same = subst (λ k. is_node n k ≡ true) (sym same) (is_node-self n)
 
-named_head : (n : NodeId) (r : Row) (rows : List Row) → r.node ≡ n → names n (r ∷ rows) ≡ true
+pub named_head : (n : NodeId) (r : Row) (rows : List Row) → r.node ≡ n → names n (r ∷ rows) ≡ true
 named_head n r rows same = ap (λ t. t || names n rows) (is_head n r same)
 
 run_head : (n : NodeId) (r : Row) (rows : List Row) → r.node ≡ n → 0 < run_len n (r ∷ rows)
 run_head n r rows same = let e : run_len n (r ∷ rows) ≡ 1 + run_len n rows = ap (λ t. cond t (1 + run_len n rows) 0) (is_head n r same) in omega (arith, e)
 
-from_head : (n : NodeId) (r : Row) (rows : List Row) → IsTrue (is_ordered (r ∷ rows)) → r.node ≡ n → AllFrom n (r ∷ rows)
+pub from_head : (n : NodeId) (r : Row) (rows : List Row) → IsTrue (is_ordered (r ∷ rows)) → r.node ≡ n → AllFrom n (r ∷ rows)
 from_head n r rows up same = all_from n r rows up (subst (λ k. is_node_below k n ≡ false) (sym same) (is_node_below-self n))
 
 -- a node that is the lowest of both lists

@@ -1,14 +1,13 @@
 //! The image of a node, where it may stand for the node's rows.
 
-ghost use Rattle.std.specs.Prelude.{◌≡◌, ◌-◌, ◌++◌, IfOk, OnOk};
+ghost use Rattle.std.specs.Prelude.{◌≡◌, ◌-◌, ◌++◌, IfOk, IfSome};
 ghost use Rattle.fine_model.specs.Merge.{starts_afresh};
-ghost use Rattle.fine_model.specs.Nodes.{base, replay};
-ghost use Rattle.fine_model.specs.RowBytes.{rows_len};
-ghost use Rattle.node_record.specs.Bounds.{FitsNode};
+ghost use Rattle.fine_model.specs.RowBytes.{FitsRec, rows_len};
 ghost use Rattle.partition_merge.specs.Merging.{FitRows, merged_of, one_or};
 
-use fine_model::{Items, NoMemory, Node, NodeId, Rec, Row};
-use node_record::{apply, image_of, row_len};
+use fine_model::{NoMemory, Node, NodeId, Rec, Row};
+use node_fetch::{base, replayed};
+use node_record::{image_of, row_len};
 use std::alloc::Global;
 
 /// Whether rows need nothing before them.
@@ -22,43 +21,6 @@ fn starts_afresh(older: &[Row], newer: &[Row]) -> bool
         Rec::HeadImage { .. } | Rec::LeafImage { .. } | Rec::InnerImage { .. } => true,
         _ => row.version == 1,
     }
-}
-
-/// A node before its first row.
-fn base(alloc: Global, node: NodeId) -> Node
-    ensures base { (result, 0) ≡ base node }
-    ensures fits { FitsNode result }
-{
-    if node.number == 0 {
-        Node::Head {
-            root: 1,
-            next: 2,
-            depth: 1,
-        }
-    } else {
-        Node::Leaf {
-            pairs: Items::new(alloc),
-        }
-    }
-}
-
-/// Replays rows on a node.
-#[tactic(auto, unfolding(fine_model::specs::Nodes::replay))]
-fn apply_all(
-    alloc: Global,
-    content: &mut Node,
-    version: &mut u64,
-    rows: &[Row],
-) -> Result<(), NoMemory>
-    requires node { FitsNode content.old }
-    requires rows { FitRows rows.now }
-    ensures ok { OnOk result ((content.new, version.new) ≡ replay (content.old, version.old) rows.now) }
-    ensures fits { FitsNode content.new }
-{
-    for row in rows {
-        apply(alloc, content, version, row)?;
-    }
-    Ok(())
 }
 
 /// By how much a length is above that of rows, and 0 where it is not.
@@ -82,15 +44,14 @@ pub fn folded(
 ) -> Result<Option<Row>, NoMemory>
     requires older { FitRows older.now }
     requires newer { FitRows newer.now }
-    ensures { IfOk result (λ image. merged_of node (older.now ++ newer.now) ≡ one_or image (older.now ++ newer.now)) }
+    ensures image { IfOk result (λ image. merged_of node (older.now ++ newer.now) ≡ one_or image (older.now ++ newer.now)) }
+    ensures fit { IfOk result (λ image. IfSome image (λ row. FitsRec row.rec)) }
 {
     if !starts_afresh(older, newer) {
         return Ok(None);
     }
-    let mut content = base(alloc, node);
-    let mut version = 0;
-    apply_all(alloc, &mut content, &mut version, older)?;
-    apply_all(alloc, &mut content, &mut version, newer)?;
+    let between = replayed(alloc, base(alloc, node), older)?;
+    let (content, version) = replayed(alloc, between, newer)?;
     if let Node::Broken = content {
         return Ok(None);
     }

@@ -6,31 +6,50 @@ ghost use Rattle.std.specs.List.{AllByRecursion};
 ghost use Rattle.fine_model.specs.RowBytes.{FitsRec};
 ghost use Rattle.fine_model.specs.Merge.{is_ordered, merged};
 ghost use Rattle.fine_model.specs.Nodes.{is_node};
-ghost use Rattle.partition_merge.specs.Merging.{FitRows, first_node, run_len, merged_of, StandsFor};
+ghost use Rattle.partition_merge.specs.Merging.{FitRows, node_at_head, lower, first_node, run_len, merged_of, StandsFor};
 
 mod fold;
+mod merger;
 #[cfg(test)]
 mod tests;
 
 use fine_model::{Copied, Items, NoMemory, NodeId, Row, Rows};
 use fold::folded;
+pub use merger::{Measure, Merger};
 use std::alloc::Global;
+
+/// The lower one of two nodes.
+fn lower(older: Option<NodeId>, newer: Option<NodeId>) -> Option<NodeId>
+    ensures { result ≡ lower older newer }
+{
+    match (older, newer) {
+        (Some(old), Some(new)) => {
+            if new.cmp(&old).is_lt() {
+                Some(new)
+            } else {
+                Some(old)
+            }
+        }
+        (Some(node), None) | (None, Some(node)) => Some(node),
+        (None, None) => None,
+    }
+}
+
+/// The node with which rows begin.
+fn node_at_head(rows: &[Row]) -> Option<NodeId>
+    ensures { result ≡ node_at_head rows.now }
+{
+    match rows.first() {
+        Some(row) => Some(row.node),
+        None => None,
+    }
+}
 
 /// The lower one of the nodes with which two lists of rows begin.
 fn first_node(older: &[Row], newer: &[Row]) -> Option<NodeId>
     ensures { result ≡ first_node older.now newer.now }
 {
-    match (older.first(), newer.first()) {
-        (Some(old), Some(new)) => {
-            if new.node.cmp(&old.node).is_lt() {
-                Some(new.node)
-            } else {
-                Some(old.node)
-            }
-        }
-        (Some(row), None) | (None, Some(row)) => Some(row.node),
-        (None, None) => None,
-    }
+    lower(node_at_head(older), node_at_head(newer))
 }
 
 /// The number of rows of a node with which rows begin.

@@ -14,7 +14,8 @@ fn text(alloc: Global, text: &[u8]) -> Result<Bytes, Fail>
 }
 
 fn row(number: u32, version: u64, rec: Rec) -> Row
-    ensures { result.rec ≡ rec }
+    ensures rec { result.rec ≡ rec }
+    ensures node { result.node ≡ record { bucket = 97; number = number } }
 {
     Row {
         node: NodeId { bucket: 97, number },
@@ -25,7 +26,8 @@ fn row(number: u32, version: u64, rec: Rec) -> Row
 
 /// `put a` with a value of one byte.
 fn put(alloc: Global, number: u32, version: u64, value: &[u8; 1]) -> Result<Row, Fail>
-    ensures { IfOk result (λ row. FitsRec row.rec) }
+    ensures rec { IfOk result (λ row. FitsRec row.rec) }
+    ensures node { IfOk result (λ row. row.node ≡ record { bucket = 97; number = number }) }
 {
     let key = text(alloc, b"a")?;
     let value = text(alloc, value)?;
@@ -43,6 +45,19 @@ fn one(alloc: Global, row: Row) -> Result<Rows, Fail>
 fn two(alloc: Global, first: Row, second: Row) -> Result<Rows, Fail> {
     let mut rows = one(alloc, first)?;
     rows.push(second).ok().ok_or("memory")?;
+    Ok(rows)
+}
+
+/// A put of each of the nodes 1 to `count`.
+fn many(alloc: Global, count: u32, version: u64, value: &[u8; 1]) -> Result<Rows, Fail>
+    ensures order { IfOk result (λ rows. IsTrue (is_ordered rows)) }
+    ensures fit { IfOk result FitRows }
+{
+    let mut rows = Items::new(alloc);
+    for i in 0..count {
+        let row = put(alloc, i + 1, version, value)?;
+        rows.push(row).ok().ok_or("memory")?;
+    }
     Ok(rows)
 }
 
@@ -101,5 +116,21 @@ fn a_deletion_becomes_an_empty_leaf(rt: HostRuntime) -> Result<(), Fail> {
     let pairs = Items::new(alloc);
     let image = one(alloc, row(1, 1, Rec::LeafImage { pairs }))?;
     assert_eq!(&rt; merged(alloc, &Items::new(alloc), &newer)?, image);
+    Ok(())
+}
+
+/// A put alone stays, since its image is longer by one byte, and of two puts the image of the second stays.
+#[test]
+fn ten_thousand_nodes_are_merged(rt: HostRuntime) -> Result<(), Fail> {
+    let alloc = rt.alloc();
+    let older = many(alloc, 10_000, 1, b"1")?;
+    let newer = many(alloc, 10_000, 2, b"2")?;
+    assert_eq!(&rt; merged(alloc, &older, &Items::new(alloc))?, older);
+    let both = merged(alloc, &older, &newer)?;
+    assert_eq!(&rt; both.len(), 10_000);
+    for row in both.as_slice() {
+        assert!(&rt; matches!(&row.rec, Rec::LeafImage { .. }));
+        assert_eq!(&rt; row.version, 2);
+    }
     Ok(())
 }

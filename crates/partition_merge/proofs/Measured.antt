@@ -1,0 +1,177 @@
+-- The numbers of merged rows, as far as they were handed out.
+use Rattle.std.proofs.Common.{◌≡◌, ℕ, suc, ◌+◌, ◌<◌, ◌≤◌, min, true, false, cond, Bool, ◌&&◌, ◌||◌, IsTrue, Some, None, inl, inr, subst, true≢false, nat_le, List, [], ◌∷◌, ◌++◌, length, map, refl, sym, ap, ◌∙◌, arith, append-nil, append_assoc, length-append}
+use Rattle.std.specs.Prelude.{filter, fold, Option}
+use Rattle.std.specs.List.{list_any}
+use Rattle.std.proofs.lemmas.List.{length-map}
+use Rattle.std.proofs.lemmas.List.Sums.{sum_by-append, length-filter, count_by-le-length}
+use Rattle.std.proofs.lemmas.List.Elements.{filter-append}
+use Rattle.log_disk.specs.Disk.{Eye}
+use Rattle.fine_model.specs.declared.NodeId.{NodeId}
+use Rattle.fine_model.specs.declared.Rec.{Rec}
+use Rattle.fine_model.specs.declared.Row.{Row}
+use Rattle.fine_model.specs.Nodes.{is_node, rows_of, base, replay}
+use Rattle.fine_model.specs.RowBytes.{row_len, rows_len}
+use Rattle.fine_model.specs.Merge.{is_node_below, is_ordered, with_node, nodes_in, image_of, starts_afresh, merged, merged_into}
+use Rattle.fine_model.proofs.NodesIn.{times-nodes_in}
+use Rattle.fine_model.proofs.NodesAscend.{nodes_ascend, same_nodes}
+use Rattle.fine_model.proofs.MergedRows.{rows_of-merged}
+use Rattle.partition_index.proofs.NodeOrder.{below-asym}
+use Rattle.partition_index.proofs.Opened.{few_rows}
+use Rattle.partition_merge.specs.Merging.{first_node, merged_of}
+use Rattle.partition_merge.specs.declared.merger.Measure.{Measure}
+use Rattle.partition_merge.specs.declared.merger.Merger.{Merger}
+use Rattle.fine_model.specs.declared.Part.{Part}
+use Rattle.fine_model.specs.Regions.{Image, Place}
+use Rattle.node_fetch.specs.Fetched.{HasBadRow}
+use Rattle.partition_merge.specs.Mergers.{StandsAt, HandsOut, BlamesRow, older_part, newer_part, behind, measure_of}
+use Rattle.partition_merge.proofs.Nodes.{all_join, rest_of, names, nodes_first, merged_by}
+use Rattle.partition_merge.proofs.Steps.{starts, no_node}
+
+abbrev greatest : ℕ
+greatest = 4294967295
+
+pub record Measured (eye : Eye) (pass : Merger) (older newer : List Row) (measure : Measure) : Type 0 where
+  pub left_older : List Row
+  pub left_newer : List Row
+  pub stands : StandsAt eye pass left_older left_newer
+  pub out : List Row
+  pub whole : merged older newer ≡ out ++ merged left_older left_newer
+  pub rows : measure.rows ≡ min (length out) greatest
+  pub area : measure.area ≡ min (rows_len out) greatest
+  pub steps : ℕ
+  pub nodes : measure.nodes ≡ min steps greatest
+  pub all_nodes : length (nodes_in (older ++ newer)) ≡ steps + length (nodes_in (left_older ++ left_newer))
+
+pub none_measured : (eye : Eye) (pass : Merger) (older newer : List Row) (measure : Measure) → measure.rows ≡ 0 → measure.nodes ≡ 0 → measure.area ≡ 0 → StandsAt eye pass older newer → Measured eye pass older newer measure
+none_measured eye pass older newer measure rows nodes area at = record {
+  left_older = older;
+  left_newer = newer;
+  stands = at;
+  out = [];
+  whole = refl;
+  rows = rows;
+  area = area;
+  steps = 0;
+  nodes = nodes;
+  all_nodes = omega arith;
+}
+
+-- one node less is left
+fewer_nodes : (n : NodeId) (a b : List Row) → IsTrue (is_ordered a) → IsTrue (is_ordered b) → first_node a b ≡ Some n → length (nodes_in (a ++ b)) ≡ 1 + length (nodes_in (behind n a ++ behind n b))
+fewer_nodes n a b a_up b_up first =
+    let s = starts n a b a_up b_up first in
+    let nodes = nodes_first n (a ++ b) (all_join (λ r. is_node_below r.node n ≡ false) a b s.old_from s.new_from) s.named in
+    let rest : length (nodes_in (rest_of n (a ++ b))) ≡ length (nodes_in (behind n a ++ behind n b)) = ap (λ xs. length (nodes_in xs)) (filter-append (λ r. is_node_below n r.node) a b) in
+    let all = ap length nodes in omega (arith, all, rest)
+
+-- ---- merged rows name the nodes that the rows name
+
+some_of : {A : Type 0} → List A → Bool
+some_of [] = false
+some_of (x ∷ xs) = true
+
+names_some : (id : NodeId) (rows : List Row) → names id rows ≡ some_of (rows_of id rows)
+unfolding some_of
+names_some id [] = refl
+names_some id (r ∷ rows) = by (is_node id r.node) (names_some id rows)
+  where
+    by : (t : Bool) → names id rows ≡ some_of (rows_of id rows) → (t || names id rows) ≡ some_of (cond t (r ∷ rows_of id rows) (rows_of id rows))
+    by true rest = refl
+    by false rest = rest
+
+some_merged : (id : NodeId) (own : List Row) → some_of (merged_of id own) ≡ some_of own
+unfolding merged_of merged_into some_of
+some_merged id [] = by (image_of (replay (base id) []).0)
+  where
+    by : (image : Option Rec) → some_of (merged_into id [] (replay (base id) []).1 image) ≡ false
+    by None = refl
+    by (Some image) = refl
+some_merged id (r ∷ own) = by (image_of (replay (base id) (r ∷ own)).0)
+  where
+    choice : (row : Row) (t : Bool) → some_of (cond t (row ∷ []) (r ∷ own)) ≡ true
+    choice row true = refl
+    choice row false = refl
+
+    by : (image : Option Rec) → some_of (merged_into id (r ∷ own) (replay (base id) (r ∷ own)).1 image) ≡ true
+    by None = refl
+    by (Some image) = let row : Row = record { node = id; version = (replay (base id) (r ∷ own)).1; rec = image } in choice row (starts_afresh (r ∷ own) && nat_le (row_len row) (rows_len (r ∷ own)))
+
+merged_nodes : (older newer : List Row) → nodes_in (merged older newer) ≡ nodes_in (older ++ newer)
+merged_nodes older newer = same_nodes (nodes_in (merged older newer)) (nodes_in (older ++ newer)) (nodes_ascend (merged older newer)) (nodes_ascend (older ++ newer)) (λ id. times-nodes_in id (merged older newer) ∙ ap (λ t. cond t (id ∷ []) []) (named id) ∙ sym (times-nodes_in id (older ++ newer)))
+  where
+    named : (id : NodeId) → names id (merged older newer) ≡ names id (older ++ newer)
+    named id =
+        names_some id (merged older newer) ∙ ap some_of (rows_of-merged id older newer ∙ merged_by (older ++ newer) id) ∙ some_merged id (rows_of id (older ++ newer)) ∙ sym (names_some id (older ++ newer))
+
+none_named : length (nodes_in ([] ++ [])) ≡ 0
+unfolding nodes_in
+none_named = refl
+
+-- rows name no more nodes than there are rows
+lower_higher : (id : NodeId) (ids : List NodeId) → length (filter (λ i. is_node_below i id) ids) + length (filter (λ i. is_node_below id i) ids) ≤ length ids
+lower_higher id [] = omega arith
+lower_higher id (i ∷ ids) = by (is_node_below i id) (is_node_below id i) refl refl (lower_higher id ids)
+  where
+    low : List NodeId
+    low = filter (λ j. is_node_below j id) ids
+
+    high : List NodeId
+    high = filter (λ j. is_node_below id j) ids
+
+    by : (a b : Bool) → is_node_below i id ≡ a → is_node_below id i ≡ b → length low + length high ≤ length ids → length (cond a (i ∷ low) low) + length (cond b (i ∷ high) high) ≤ suc (length ids)
+    by true true e f rest = absurd (true≢false (sym f ∙ below-asym i id e))
+    by true false e f rest = omega (arith, rest)
+    by false true e f rest = omega (arith, rest)
+    by false false e f rest = omega (arith, rest)
+
+fold_few : (acc ids : List NodeId) → length (fold with_node acc ids) ≤ length acc + length ids
+fold_few acc [] = omega arith
+fold_few acc (i ∷ ids) = omega (arith, fold_few (with_node acc i) ids, length-append (filter (λ j. is_node_below j i) acc) (i ∷ filter (λ j. is_node_below i j) acc), lower_higher i acc)
+
+nodes_few : (rows : List Row) → length (nodes_in rows) ≤ length rows
+unfolding nodes_in
+nodes_few rows = omega (arith, fold_few [] (map (λ r. r.node) rows), length-map rows (λ r. r.node))
+
+pub more_measured : (eye later : Eye) (pass next : Merger) (older newer rows : List Row) (measure now : Measure) → (m : Measured eye pass older newer measure) → HandsOut later next m.left_older m.left_newer rows
+    → now.rows ≡ min (measure.rows + length rows) greatest → now.nodes ≡ min (measure.nodes + 1) greatest → now.area ≡ min (measure.area + rows_len rows) greatest → Measured later next older newer now
+more_measured eye later pass next older newer rows measure now m h r n a = record {
+  left_older = behind h.node m.left_older;
+  left_newer = behind h.node m.left_newer;
+  stands = h.left;
+  out = m.out ++ rows;
+  whole = m.whole ∙ ap (λ xs. m.out ++ xs) h.together ∙ sym (append_assoc m.out rows (merged (behind h.node m.left_older) (behind h.node m.left_newer)));
+  rows = omega (arith, r, m.rows, length-append m.out rows);
+  area = omega (arith, a, m.area, sum_by-append row_len m.out rows);
+  steps = m.steps + 1;
+  nodes = omega (arith, n, m.nodes);
+  all_nodes = omega (arith, m.all_nodes, fewer_nodes h.node m.left_older m.left_newer m.stands.of_older.is_left.ordered m.stands.of_newer.is_left.ordered h.first);
+}
+
+pub all_measured : (eye : Eye) (pass : Merger) (older newer : List Row) (measure : Measure) → (m : Measured eye pass older newer measure) → m.left_older ≡ [] → m.left_newer ≡ [] → rows_len (merged older newer) < 4294967296 → measure ≡ measure_of (merged older newer)
+all_measured eye pass older newer measure m none_old none_new small =
+    let nothing : merged m.left_older m.left_newer ≡ [] = (λ i. merged (none_old i) (none_new i)) ∙ no_node [] [] refl in
+    let all : merged older newer ≡ m.out = m.whole ∙ ap (λ xs. m.out ++ xs) nothing ∙ append-nil m.out in
+    let no_nodes : length (nodes_in (m.left_older ++ m.left_newer)) ≡ 0 = (λ i. length (nodes_in (none_old i ++ none_new i))) ∙ none_named in
+    let nodes : length (nodes_in (merged older newer)) ≡ m.steps = ap length (merged_nodes older newer) ∙ omega (arith, m.all_nodes, no_nodes) in
+    let bytes : rows_len m.out < 4294967296 = subst (λ xs. rows_len xs < 4294967296) all small in
+    let few = few_rows m.out in
+    let few_nodes = nodes_few (merged older newer) in
+    let long = ap length all in
+    let len = ap rows_len all in
+    let r : measure.rows ≡ length (merged older newer) = omega (arith, m.rows, few, bytes, long) in
+    let n : measure.nodes ≡ length (nodes_in (merged older newer)) = omega (arith, m.nodes, nodes, few_nodes, few, bytes, long) in
+    let a : measure.area ≡ rows_len (merged older newer) = omega (arith, m.area, bytes, len) in
+    λ i. record { rows = r i; nodes = n i; area = a i }
+
+-- what is blamed is told by the parts alone
+pub blames_row : (known now : Option Image) (a b : Merger) (place : Place) → now ≡ known → older_part a ≡ older_part b → newer_part a ≡ newer_part b → a.region_len ≡ b.region_len → BlamesRow now a place → BlamesRow known b place
+blames_row known now a b place told older newer len h = record {
+  node = h.node;
+  is_bad = elim h.is_bad [
+    | inl bad ↦ inl (by (older_part a) (older_part b) older bad)
+    | inr bad ↦ inr (by (newer_part a) (newer_part b) newer bad)
+  ];
+}
+  where
+    by : (p q : Part) → p ≡ q → HasBadRow now a.region_len p h.node place → HasBadRow known b.region_len q h.node place
+    by p q same bad = subst (λ k. HasBadRow k b.region_len q h.node place) told (subst (λ n. HasBadRow now n q h.node place) len (subst (λ r. HasBadRow now a.region_len r h.node place) same bad))

@@ -1,0 +1,13 @@
+use Rattle.std.proofs.Common.{◌≡◌, ◌+◌, ◌≤◌, min, drop, take}
+use Rattle.fine_model.specs.RowBytes.{rows_len}
+use Rattle.partition_merge.specs.Merging.{FitRows}
+use Rattle.partition_merge.proofs.merger.Measure.add.Given as goal
+
+abbrev pub invariant-loop-row : goal.invariant-loop-row
+invariant-loop-row l = record {
+  fit : FitRows (drop l.row-index l.rows);
+  rows : l.self.rows ≡ min (l.fn.self.rows + l.row-index) 4294967295;
+  nodes : l.self.nodes ≡ min (l.fn.self.nodes + 1) 4294967295;
+  small : l.self.area ≤ 4294967295;
+  area : min (l.fn.self.area + rows_len l.rows) 4294967295 ≡ min (l.self.area + rows_len (drop l.row-index l.rows)) 4294967295;
+}

@@ -1,0 +1,74 @@
+use Rattle.std.proofs.Common.{◌≡◌, ◌∙◌, ℕ, ◌+◌, ◌<◌, Err, Some, None, sym, ap, subst, arith, rules, refl}
+use Rattle.partition_index.specs.Parts.{IsSeen}
+use Rattle.partition_index.proofs.Looking.{seen_same, same_then}
+use Rattle.partition_merge.proofs.Sources.{err_clause, source_peeked, peeked_both, none_peeked, handed_out}
+use Rattle.partition_merge.proofs.merger.Merger.next_node.Goals as goal
+
+pub returns-in_err-older-clause-exact : goal.returns-in_err-older-clause-exact
+returns-in_err-older-clause-exact g c older newer at =
+    let same : c.from_residual.result ≡ Err c.in_err-older.field-0.0 = search rules in
+    err_clause c.from_residual.result c.in_err-older.field-0.0 _ same (c.in_err-older.ensures.exact older at.of_older)
+
+pub peek-requires-2-clause-seen : goal.peek-requires-2-clause-seen
+peek-requires-2-clause-seen g c κs within = seen_same (g.E.LogEye.state c.args.eye.now) (g.E.LogEye.state c.peek.new.eye) c.args.self.now.newer.part c.peek.ensures.eye.same c.requires.newer
+
+pub returns-in_err-newer-clause-exact : goal.returns-in_err-newer-clause-exact
+returns-in_err-newer-clause-exact g c older newer at =
+    let same : c.from_residual-in_err-newer.result ≡ Err c.in_err-newer.field-0.0 = search rules in
+    let m = c.args.self.now in
+    err_clause c.from_residual-in_err-newer.result c.in_err-newer.field-0.0 _ same
+    (c.in_err-newer.ensures.exact newer (source_peeked (g.E.LogEye.state c.args.eye.now) (g.E.LogEye.state c.peek.new.eye) m.newer m.newer newer c.peek.ensures.eye.same refl refl at.of_newer))
+
+pub returns-in_default-clause-exact : goal.returns-in_default-clause-exact
+returns-in_default-clause-exact g c older newer at =
+    let m = c.args.self.now in
+    let later = source_peeked (g.E.LogEye.state c.args.eye.now) (g.E.LogEye.state c.peek.new.eye) m.newer m.newer newer c.peek.ensures.eye.same refl refl at.of_newer in
+    let n = none_peeked (g.E.LogEye.state c.args.eye.now) (g.E.LogEye.state c.peek.new.eye) (g.E.LogEye.state c.peek-2.new.eye) m c.peek.new.self c.peek-2.new.self older newer c.in_ok-older.older c.in_ok-newer.newer at
+    c.peek.ensures.eye.same c.peek-2.ensures.eye.same c.peek.ensures.part c.peek.ensures.next c.peek-2.ensures.part c.peek-2.ensures.next
+    (c.in_ok-older.ensures.exact older at.of_older) (c.in_ok-newer.ensures.exact newer later) (sym c.lower.ensures ∙ c.in_default.is) in
+    (n.0, n.1, record { of_older = n.2; of_newer = n.3 })
+
+pub take-requires-clause-seen : goal.take-requires-clause-seen
+take-requires-clause-seen g c κs within =
+    let same = same_then (g.E.LogEye.state c.args.eye.now) (g.E.LogEye.state c.peek.new.eye) (g.E.LogEye.state c.peek-2.new.eye) c.peek.ensures.eye.same c.peek-2.ensures.eye.same in
+    subst (IsSeen (g.E.LogEye.state c.peek-2.new.eye)) (sym c.peek.ensures.part) (seen_same (g.E.LogEye.state c.args.eye.now) (g.E.LogEye.state c.peek-2.new.eye) c.args.self.now.older.part same c.requires.older)
+
+pub returns-in_err-older-2-clause-exact : goal.returns-in_err-older-2-clause-exact
+returns-in_err-older-2-clause-exact g c older newer at =
+    let same : c.from_residual-in_err-older-2.result ≡ Err c.in_err-older-2.field-0.0 = search rules in
+    let m = c.args.self.now in
+    let later = source_peeked (g.E.LogEye.state c.args.eye.now) (g.E.LogEye.state c.peek.new.eye) m.newer m.newer newer c.peek.ensures.eye.same refl refl at.of_newer in
+    let p = peeked_both (g.E.LogEye.state c.args.eye.now) (g.E.LogEye.state c.peek.new.eye) (g.E.LogEye.state c.peek-2.new.eye) m c.peek.new.self c.peek-2.new.self older newer c.in-Some.node c.in_ok-older.older c.in_ok-newer.newer at
+    c.peek.ensures.eye.same c.peek-2.ensures.eye.same c.peek.ensures.part c.peek.ensures.next c.peek-2.ensures.part c.peek-2.ensures.next c.in_ok-older.ensures.head c.in_ok-newer.ensures.head
+    (c.in_ok-older.ensures.exact older at.of_older) (c.in_ok-newer.ensures.exact newer later) (sym c.lower.ensures ∙ c.in-Some.is) in
+    err_clause c.from_residual-in_err-older-2.result c.in_err-older-2.field-0.0 _ same (c.in_err-older-2.ensures.exact older p.of_older p.old_from p.old_kept)
+
+pub take-requires-2-clause-seen : goal.take-requires-2-clause-seen
+take-requires-2-clause-seen g c κs within =
+    let same = same_then (g.E.LogEye.state c.args.eye.now) (g.E.LogEye.state c.peek.new.eye) (g.E.LogEye.state c.take.new.eye) c.peek.ensures.eye.same
+    (same_then (g.E.LogEye.state c.peek.new.eye) (g.E.LogEye.state c.peek-2.new.eye) (g.E.LogEye.state c.take.new.eye) c.peek-2.ensures.eye.same c.take.ensures.eye.same) in
+    subst (IsSeen (g.E.LogEye.state c.take.new.eye)) (sym c.peek-2.ensures.part) (seen_same (g.E.LogEye.state c.args.eye.now) (g.E.LogEye.state c.take.new.eye) c.args.self.now.newer.part same c.requires.newer)
+
+pub returns-in_err-newer-2-clause-exact : goal.returns-in_err-newer-2-clause-exact
+returns-in_err-newer-2-clause-exact g c older newer at =
+    let same : c.from_residual-in_err-newer-2.result ≡ Err c.in_err-newer-2.field-0.0 = search rules in
+    let m = c.args.self.now in
+    let later = source_peeked (g.E.LogEye.state c.args.eye.now) (g.E.LogEye.state c.peek.new.eye) m.newer m.newer newer c.peek.ensures.eye.same refl refl at.of_newer in
+    let p = peeked_both (g.E.LogEye.state c.args.eye.now) (g.E.LogEye.state c.peek.new.eye) (g.E.LogEye.state c.peek-2.new.eye) m c.peek.new.self c.peek-2.new.self older newer c.in-Some.node c.in_ok-older.older c.in_ok-newer.newer at
+    c.peek.ensures.eye.same c.peek-2.ensures.eye.same c.peek.ensures.part c.peek.ensures.next c.peek-2.ensures.part c.peek-2.ensures.next c.in_ok-older.ensures.head c.in_ok-newer.ensures.head
+    (c.in_ok-older.ensures.exact older at.of_older) (c.in_ok-newer.ensures.exact newer later) (sym c.lower.ensures ∙ c.in-Some.is) in
+    let new_at = source_peeked (g.E.LogEye.state c.peek-2.new.eye) (g.E.LogEye.state c.take.new.eye) c.peek-2.new.self c.peek-2.new.self newer c.take.ensures.eye.same refl refl p.of_newer in
+    err_clause c.from_residual-in_err-newer-2.result c.in_err-newer-2.field-0.0 _ same (c.in_err-newer-2.ensures.exact newer new_at p.new_from p.new_kept)
+
+pub returns-in-Ok-clause-exact : goal.returns-in-Ok-clause-exact
+returns-in-Ok-clause-exact g c older newer at =
+    let m = c.args.self.now in
+    let later = source_peeked (g.E.LogEye.state c.args.eye.now) (g.E.LogEye.state c.peek.new.eye) m.newer m.newer newer c.peek.ensures.eye.same refl refl at.of_newer in
+    let p = peeked_both (g.E.LogEye.state c.args.eye.now) (g.E.LogEye.state c.peek.new.eye) (g.E.LogEye.state c.peek-2.new.eye) m c.peek.new.self c.peek-2.new.self older newer c.in-Some.node c.in_ok-older.older c.in_ok-newer.newer at
+    c.peek.ensures.eye.same c.peek-2.ensures.eye.same c.peek.ensures.part c.peek.ensures.next c.peek-2.ensures.part c.peek-2.ensures.next c.in_ok-older.ensures.head c.in_ok-newer.ensures.head
+    (c.in_ok-older.ensures.exact older at.of_older) (c.in_ok-newer.ensures.exact newer later) (sym c.lower.ensures ∙ c.in-Some.is) in
+    let new_at = source_peeked (g.E.LogEye.state c.peek-2.new.eye) (g.E.LogEye.state c.take.new.eye) c.peek-2.new.self c.peek-2.new.self newer c.take.ensures.eye.same refl refl p.of_newer in
+    let old_behind = source_peeked (g.E.LogEye.state c.take.new.eye) (g.E.LogEye.state c.take-2.new.eye) c.take.new.self c.take.new.self _ c.take-2.ensures.eye.same refl refl (c.take.ensures.left older p.of_older p.old_from p.old_kept) in
+    handed_out (g.E.LogEye.state c.take-2.new.eye) _ older newer c.in-Ok.rows c.in_ok-older-2.older c.in_ok-newer-2.newer c.in-Some.node at.of_older.is_left.ordered at.of_newer.is_left.ordered p.first
+    (c.in_ok-older-2.ensures.exact older p.of_older p.old_from p.old_kept) (c.in_ok-newer-2.ensures.exact newer new_at p.new_from p.new_kept) c.in-Ok.ensures.merged
+    old_behind (c.take-2.ensures.left newer new_at p.new_from p.new_kept)

@@ -1,0 +1,46 @@
+use Rattle.std.proofs.Common.{◌≡◌, ◌∙◌, ℕ, ◌+◌, ◌<◌, Err, Some, None, sym, ap, subst, arith, rules, refl}
+use Rattle.fine_model.specs.Nodes.{rows_of}
+use Rattle.partition_index.proofs.Exact.{nodes_small}
+use Rattle.partition_merge.specs.Mergers.{IsEntryOf, KeepsHead, SourceAt, behind}
+use Rattle.partition_merge.proofs.Sources.{none_of_node, other_node, same_at_head, span_kept, step_left, own_left, fit_read, source_later, nodes_differ, nodes_same}
+use Rattle.partition_merge.proofs.merger.Source.take.Goals as goal
+
+pub returns-then-ne-clause-exact : goal.returns-then-ne-clause-exact
+returns-then-ne-clause-exact g c left at from kept =
+    let other : c.in-Some.entry.node ≡ c.args.node → ⊥ = nodes_differ c.in-Some.entry.node c.args.node c.if-ne.ensures in
+    c.new-then-ne.ensures ∙ sym (none_of_node c.args.node left at.is_left.ordered from (other_node c.args.self.now.head c.in-Some.entry c.in-Some.span left c.args.node c.in-Some.is kept other)).0
+
+pub returns-then-ne-clause-left : goal.returns-then-ne-clause-left
+returns-then-ne-clause-left g c left at from kept =
+    let other : c.in-Some.entry.node ≡ c.args.node → ⊥ = nodes_differ c.in-Some.entry.node c.args.node c.if-ne.ensures in
+    subst (SourceAt (g.E.LogEye.state c.args.eye.now) c.args.self.now)
+    (sym (none_of_node c.args.node left at.is_left.ordered from (other_node c.args.self.now.head c.in-Some.entry c.in-Some.span left c.args.node c.in-Some.is kept other)).1) at
+
+pub overflow_add-self : goal.overflow_add-self
+overflow_add-self g c =
+    let eye = g.E.LogEye.state c.args.eye.now in
+    let s = c.args.self.now in
+    let kept : IsEntryOf eye.told s (c.in-Some.entry, c.in-Some.span) = subst (KeepsHead eye.told s) c.in-Some.is c.requires.kept in
+    let there = kept.there in
+    let most = nodes_small eye.region_len s.part.header c.requires.seen.lies in omega arith
+
+pub returns-clause-fit : goal.returns-clause-fit
+returns-clause-fit g c = fit_read c.args.self.now.part c.read_span.result c.read_span.ensures.fit
+
+pub returns-clause-exact : goal.returns-clause-exact
+returns-clause-exact g c left at from kept =
+    let eye = g.E.LogEye.state c.args.eye.now in
+    let s = c.args.self.now in
+    let k : IsEntryOf eye.told s (c.in-Some.entry, c.in-Some.span) = subst (KeepsHead eye.told s) c.in-Some.is c.requires.kept in
+    let same : c.in-Some.entry.node ≡ c.args.node = nodes_same c.in-Some.entry.node c.args.node c.if-ne.ensures in
+    let step = step_left at.rows s.next left c.args.node at.is_left (same_at_head s.head c.in-Some.entry c.in-Some.span left c.args.node c.in-Some.is kept same) in
+    own_left c.read_span.result at.rows left c.args.node step.0
+    (c.read_span.ensures.exact at.rows at.tells (span_kept eye s.part s.next at.rows c.in-Some.entry c.in-Some.span c.args.node c.requires.seen at.tells k.there k.entry k.span same))
+
+pub returns-clause-left : goal.returns-clause-left
+returns-clause-left g c left at from kept =
+    let eye = g.E.LogEye.state c.args.eye.now in
+    let s = c.args.self.now in
+    let same : c.in-Some.entry.node ≡ c.args.node = nodes_same c.in-Some.entry.node c.args.node c.if-ne.ensures in
+    let step = step_left at.rows s.next left c.args.node at.is_left (same_at_head s.head c.in-Some.entry c.in-Some.span left c.args.node c.in-Some.is kept same) in
+    source_later eye (g.E.LogEye.state c.read_span.new.eye) s _ at.rows (behind c.args.node left) c.read_span.ensures.eye.same refl at.tells step.1

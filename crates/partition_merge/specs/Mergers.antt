@@ -1,0 +1,102 @@
+-- Where a merger stands, and what it hands out.
+use Rattle.std.specs.Prelude.{◌≡◌, ◌⊎◌, ℕ, ◌+◌, ◌-◌, ◌<◌, List, [], ◌++◌, length, drop, filter, IsTrue, Option, Some, None, option_map}
+use Rattle.std.specs.List.{AllByRecursion}
+use Rattle.log_disk.specs.Disk.{Eye}
+use Rattle.fine_model.specs.declared.NodeId.{NodeId}
+use Rattle.fine_model.specs.declared.Part.{Part}
+use Rattle.fine_model.specs.declared.Row.{Row}
+use Rattle.fine_model.specs.Nodes.{rows_of}
+use Rattle.fine_model.specs.Regions.{Image, Place}
+use Rattle.fine_model.specs.RowBytes.{rows_len}
+use Rattle.fine_model.specs.Merge.{is_node_below, is_ordered, nodes_in, merged_node, merged}
+use Rattle.partition_index.specs.declared.entries.IndexEntry.{IndexEntry}
+use Rattle.partition_index.specs.declared.entries.Span.{Span}
+use Rattle.partition_index.specs.Search.{IsEntryAt, IsSpanAt, TellsRows}
+use Rattle.node_fetch.specs.Fetched.{HasBadRow, HasBadEntry}
+use Rattle.partition_merge.specs.declared.merger.Measure.{Measure}
+use Rattle.partition_merge.specs.declared.merger.Merger.{Merger}
+use Rattle.partition_merge.specs.declared.merger.Source.{Source}
+use Rattle.partition_merge.specs.Merging.{FitRows, first_node}
+
+-- the rows of the nodes above one
+abbrev pub behind : NodeId → List Row → List Row
+behind id rows = filter (λ r. is_node_below id r.node) rows
+
+-- what is kept of a source is its next entry, as far as an eye tells it
+pub record IsEntryOf (known : Option Image) (source : Source) (head : IndexEntry × Span) : Type 0 where
+  pub there : source.next < source.part.header.nodes
+  pub entry : IsEntryAt known source.part source.next head.0
+  pub span : IsSpanAt known source.part source.next head.1
+
+abbrev pub KeepsHead : Option Image → Source → Option (IndexEntry × Span) → Type 0
+KeepsHead known source None = Unit {0}
+KeepsHead known source (Some head) = IsEntryOf known source head
+
+abbrev pub IsKept : Option Image → Source → Type 0
+IsKept known source = KeepsHead known source source.head
+
+abbrev pub AreKept : Option Image → Merger → Type 0
+AreKept known merger = IsKept known merger.older × IsKept known merger.newer
+
+-- the node of the entry that is kept
+abbrev pub node_kept : Option (IndexEntry × Span) → Option NodeId
+node_kept head = option_map (λ h. h.0.node) head
+
+-- how many nodes are left
+abbrev pub nodes_left : Source → ℕ
+nodes_left source = source.part.header.nodes - source.next
+
+abbrev pub both_left : Merger → ℕ
+both_left merger = nodes_left merger.older + nodes_left merger.newer
+
+abbrev pub older_part : Merger → Part
+older_part merger = merger.older.part
+
+abbrev pub newer_part : Merger → Part
+newer_part merger = merger.newer.part
+
+-- how many bytes the next node may take
+abbrev pub most_for : Merger → ℕ
+most_for merger = 56 + merger.older.part.header.area + merger.newer.part.header.area
+
+-- a bad row of a node, or a bad entry, in one of the parts
+pub record BlamesRow (known : Option Image) (merger : Merger) (place : Place) : Type 0 where
+  pub node : NodeId
+  pub is_bad : HasBadRow known merger.region_len (older_part merger) node place ⊎ HasBadRow known merger.region_len (newer_part merger) node place
+
+pub record BlamesEntry (known : Option Image) (merger : Merger) (place : Place) : Type 0 where
+  pub is_bad : HasBadEntry known merger.region_len (older_part merger) place ⊎ HasBadEntry known merger.region_len (newer_part merger) place
+
+-- of some rows, those of the nodes from one on are left
+pub record IsLeft (rows : List Row) (next : ℕ) (left : List Row) : Type 0 where
+  pub nodes : nodes_in left ≡ drop next (nodes_in rows)
+  pub own : AllByRecursion (λ id. rows_of id left ≡ rows_of id rows) (nodes_in left)
+  pub ordered : IsTrue (is_ordered left)
+  pub fit : FitRows left
+
+-- the eye tells the part of a source, in the grammar, and these of its rows are left
+pub record SourceAt (eye : Eye) (source : Source) (left : List Row) : Type 0 where
+  pub rows : List Row
+  pub tells : TellsRows eye source.part rows
+  pub is_left : IsLeft rows source.next left
+
+pub record StandsAt (eye : Eye) (merger : Merger) (older newer : List Row) : Type 0 where
+  pub of_older : SourceAt eye merger.older older
+  pub of_newer : SourceAt eye merger.newer newer
+
+-- the merged rows of the next node, behind which the merger stands then
+pub record HandsOut (eye : Eye) (merger : Merger) (older newer rows : List Row) : Type 0 where
+  pub node : NodeId
+  pub first : first_node older newer ≡ Some node
+  pub is_merged : rows ≡ merged_node (older ++ newer) node
+  pub left : StandsAt eye merger (behind node older) (behind node newer)
+  pub together : merged older newer ≡ rows ++ merged (behind node older) (behind node newer)
+
+-- none where both parts have no node left
+abbrev pub Answers : Eye → Merger → List Row → List Row → Option (List Row) → Type 0
+Answers eye merger older newer None = (older ≡ []) × (newer ≡ []) × StandsAt eye merger older newer
+Answers eye merger older newer (Some rows) = HandsOut eye merger older newer rows
+
+-- the numbers of rows and nodes, and the bytes of the rows
+abbrev pub measure_of : List Row → Measure
+measure_of rows = record { rows = length rows; nodes = length (nodes_in rows); area = rows_len rows }

@@ -1,0 +1,250 @@
+//! Merging two parts node by node, through an eye.
+
+ghost use Rattle.std.specs.Prelude.{◌≡◌, ℕ, ◌+◌, ◌-◌, ◌<◌, ◌≤◌, ◌++◌, IfOk, IfSome, IsErrOf, MatchResult, List, length, min, Option, Some, None, Ok, option_map};
+ghost use Rattle.log_disk.specs.Disk.{Eye};
+ghost use Rattle.fine_model.specs.declared.Row.{Row};
+ghost use Rattle.fine_model.specs.declared.FetchFault.TheVariants as fetch_fault;
+ghost use Rattle.fine_model.specs.Nodes.{rows_of};
+ghost use Rattle.fine_model.specs.Regions.{Image};
+ghost use Rattle.fine_model.specs.RowBytes.{rows_len};
+ghost use Rattle.fine_model.specs.Merge.{merged};
+ghost use Rattle.partition_index.specs.Parts.{IsSeen, SameEye, CountsFaults};
+ghost use Rattle.partition_index.proofs.RowOrder.{AllFrom};
+ghost use Rattle.partition_index.specs.Search.{Searches, TellsRows};
+ghost use Rattle.node_fetch.specs.Fetched.{HasBadRow, HasBadEntry, NoDamage};
+ghost use Rattle.partition_merge.specs.Merging.{FitRows, node_at_head, merged_of};
+ghost use Rattle.partition_merge.specs.Mergers.{behind, node_kept, nodes_left, IsKept, AreKept, SourceAt, StandsAt, Answers, older_part, newer_part, both_left, most_for, BlamesRow, BlamesEntry, measure_of};
+
+use crate::fold::folded;
+use crate::{lower, push_all};
+use fine_model::{FetchFault, Items, NoMemory, NodeId, Part, Rows};
+use log_disk::LogEye;
+use node_fetch::{bad_index, read_span};
+use node_record::row_len;
+use partition_index::{IndexEntry, SeekFault, Span, entry_at};
+use std::alloc::Global;
+
+/// Where reading a part stands: behind so many of its index entries. The next one is kept once it was read, with its span.
+#[derive(Clone, Copy)]
+struct Source {
+    part: Part,
+    next: u32,
+    head: Option<(IndexEntry, Span)>,
+}
+
+impl Source {
+    fn at_start(part: Part) -> Source
+        ensures part { result.part ≡ part }
+        ensures next { result.next ≡ 0 }
+        ensures head { result.head ≡ None }
+    {
+        Source {
+            part,
+            next: 0,
+            head: None,
+        }
+    }
+
+    /// The next node of the part, which stays the next one.
+    fn peek<E: LogEye>(
+        &mut self,
+        eye: &mut E,
+        region_len: u64,
+    ) -> Result<Option<NodeId>, FetchFault>
+        requires seen { IsSeen (E.LogEye.state eye.old) self.old.part }
+        requires region_len { region_len ≡ (E.LogEye.state eye.old).region_len }
+        requires kept { IsKept (E.LogEye.state eye.old).told self.old }
+        ensures eye { Searches (IsErrOf result fetch_fault.Failed) 28 (E.LogEye.state eye.old) (E.LogEye.state eye.new) }
+        ensures part { self.new.part ≡ self.old.part }
+        ensures next { self.new.next ≡ self.old.next }
+        ensures kept { IsKept (E.LogEye.state eye.old).told self.new }
+        ensures head { IfOk result (λ node. node ≡ option_map (λ head. head.0.node) self.new.head) }
+        ensures good_row { (region at : ℕ) → IsErrOf result (fetch_fault.BadRow region at) → ⊥ }
+        ensures bad_index { (region at : ℕ) → IsErrOf result (fetch_fault.BadIndex region at) → HasBadEntry (E.LogEye.state eye.old).told region_len self.old.part (record { region = region; at = at }) }
+        ensures exact { (left : List Row) → SourceAt (E.LogEye.state eye.old) self.old left → MatchResult result (λ node. node ≡ node_at_head left) NoDamage }
+    {
+        if let Some((entry, _)) = self.head {
+            return Ok(Some(entry.node));
+        }
+        if self.next >= self.part.header.nodes {
+            return Ok(None);
+        }
+        match entry_at(eye, &self.part, self.next, region_len) {
+            Ok((entry, span)) => {
+                self.head = Some((entry, span));
+                Ok(Some(entry.node))
+            }
+            Err(SeekFault::Failed) => Err(FetchFault::Failed),
+            Err(SeekFault::BadIndex { at }) => Err(bad_index(&self.part, region_len, at)),
+        }
+    }
+
+    /// The rows of a node, if it is the next one, which is left behind then.
+    fn take<E: LogEye>(
+        &mut self,
+        alloc: Global,
+        eye: &mut E,
+        node: NodeId,
+        region_len: u64,
+    ) -> Result<Rows, FetchFault>
+        requires seen { IsSeen (E.LogEye.state eye.old) self.old.part }
+        requires region_len { region_len ≡ (E.LogEye.state eye.old).region_len }
+        requires kept { IsKept (E.LogEye.state eye.old).told self.old }
+        ensures eye { Searches (IsErrOf result fetch_fault.Failed) self.old.part.header.area (E.LogEye.state eye.old) (E.LogEye.state eye.new) }
+        ensures part { self.new.part ≡ self.old.part }
+        ensures kept { IsKept (E.LogEye.state eye.old).told self.new }
+        ensures fit { IfOk result FitRows }
+        ensures no_more { nodes_left self.new ≤ nodes_left self.old }
+        ensures fewer { node_kept self.old.head ≡ Some node → nodes_left self.new < nodes_left self.old }
+        ensures bad_row { (region at : ℕ) → IsErrOf result (fetch_fault.BadRow region at) → HasBadRow (E.LogEye.state eye.old).told region_len self.old.part node (record { region = region; at = at }) }
+        ensures good_index { (region at : ℕ) → IsErrOf result (fetch_fault.BadIndex region at) → ⊥ }
+        ensures exact { (left : List Row) → SourceAt (E.LogEye.state eye.old) self.old left → AllFrom node left → node_kept self.old.head ≡ node_at_head left
+            → MatchResult result (λ own. own ≡ rows_of node left) NoDamage }
+        ensures left { (left : List Row) → SourceAt (E.LogEye.state eye.old) self.old left → AllFrom node left → node_kept self.old.head ≡ node_at_head left
+            → SourceAt (E.LogEye.state eye.new) self.new (behind node left) }
+    {
+        let Some((entry, span)) = self.head else {
+            return Ok(Items::new(alloc));
+        };
+        if entry.node != node {
+            return Ok(Items::new(alloc));
+        }
+        self.head = None;
+        self.next += 1;
+        read_span(alloc, eye, &self.part, node, span, region_len)
+    }
+}
+
+/// What the rows of a node in both parts are merged into.
+fn joined(alloc: Global, node: NodeId, older: Rows, newer: Rows) -> Result<Rows, NoMemory>
+    requires older { FitRows older }
+    requires newer { FitRows newer }
+    ensures merged { IfOk result (λ rows. rows ≡ merged_of node (older ++ newer)) }
+    ensures fit { IfOk result FitRows }
+{
+    if let Some(image) = folded(alloc, node, older.as_slice(), newer.as_slice())? {
+        let mut rows = Items::new(alloc);
+        rows.push(image)?;
+        return Ok(rows);
+    }
+    let mut rows = older;
+    push_all(&mut rows, newer.as_slice())?;
+    Ok(rows)
+}
+
+/// The number of rows and nodes, and the bytes of the rows.
+#[derive(Clone, Copy, Debug, PartialEq, Eq)]
+pub struct Measure {
+    pub rows: u32,
+    pub nodes: u32,
+    pub area: u32,
+}
+
+impl Measure {
+    /// Counts the merged rows of one node. A number that is at its greatest stays there.
+    fn add(&mut self, rows: &Rows)
+        requires { FitRows rows.now }
+        ensures rows { self.new.rows ≡ min (self.old.rows + length rows.now) 4294967295 }
+        ensures nodes { self.new.nodes ≡ min (self.old.nodes + 1) 4294967295 }
+        ensures area { self.new.area ≡ min (self.old.area + rows_len rows.now) 4294967295 }
+    {
+        self.nodes = self.nodes.saturating_add(1);
+        for row in rows.as_slice() {
+            self.rows = self.rows.saturating_add(1);
+            self.area = self.area.saturating_add(row_len(row));
+        }
+    }
+}
+
+/// Two parts that are merged node by node. Each of them is read once, from front to back, and no more than one node's rows are
+/// kept. A merger is used with one eye, and is given up after a refusal.
+#[derive(Clone, Copy)]
+pub struct Merger {
+    older: Source,
+    newer: Source,
+    region_len: u64,
+}
+
+impl Merger {
+    /// A merger of two parts that stands at their first node. It takes no memory.
+    pub fn new(older: Part, newer: Part, region_len: u64) -> Merger
+        ensures older { older_part result ≡ older }
+        ensures newer { newer_part result ≡ newer }
+        ensures region_len { result.region_len ≡ region_len }
+        ensures kept { (known : Option Image) → AreKept known result }
+        ensures stands { (eye : Eye) (a b : List Row) → TellsRows eye older a → TellsRows eye newer b → StandsAt eye result a b }
+    {
+        Merger {
+            older: Source::at_start(older),
+            newer: Source::at_start(newer),
+            region_len,
+        }
+    }
+
+    /// The merged rows of the next node, or None behind the last one.
+    ///
+    /// Where the eye tells its bytes, and both parts are in the grammar and have their headers, the lists of all calls together are
+    /// exactly the merged rows. `BadRow` and `BadIndex` come only with a place of the disk that, by the bytes read for this node, has
+    /// a bad row or a bad entry: never in the grammar. `Failed` comes only where the eye's count of faults rose in this call. The eye
+    /// is as before but for its counts.
+    pub fn next_node<E: LogEye>(
+        &mut self,
+        alloc: Global,
+        eye: &mut E,
+    ) -> Result<Option<Rows>, FetchFault>
+        requires older { IsSeen (E.LogEye.state eye.old) (older_part self.old) }
+        requires newer { IsSeen (E.LogEye.state eye.old) (newer_part self.old) }
+        requires region_len { self.old.region_len ≡ (E.LogEye.state eye.old).region_len }
+        requires kept { AreKept (E.LogEye.state eye.old).told self.old }
+        ensures eye { Searches (IsErrOf result fetch_fault.Failed) (most_for self.old) (E.LogEye.state eye.old) (E.LogEye.state eye.new) }
+        ensures older { older_part self.new ≡ older_part self.old }
+        ensures newer { newer_part self.new ≡ newer_part self.old }
+        ensures region_len { self.new.region_len ≡ self.old.region_len }
+        ensures kept { AreKept (E.LogEye.state eye.old).told self.new }
+        ensures fit { IfOk result (λ found. IfSome found FitRows) }
+        ensures fewer { IfOk result (λ found. IfSome found (λ rows. both_left self.new < both_left self.old)) }
+        ensures bad_row { (region at : ℕ) → IsErrOf result (fetch_fault.BadRow region at) → BlamesRow (E.LogEye.state eye.old).told self.old (record { region = region; at = at }) }
+        ensures bad_index { (region at : ℕ) → IsErrOf result (fetch_fault.BadIndex region at) → BlamesEntry (E.LogEye.state eye.old).told self.old (record { region = region; at = at }) }
+        ensures exact { (older newer : List Row) → StandsAt (E.LogEye.state eye.old) self.old older newer → MatchResult result (Answers (E.LogEye.state eye.new) self.new older newer) NoDamage }
+    {
+        let older = self.older.peek(eye, self.region_len)?;
+        let newer = self.newer.peek(eye, self.region_len)?;
+        let Some(node) = lower(older, newer) else {
+            return Ok(None);
+        };
+        let older = self.older.take(alloc, eye, node, self.region_len)?;
+        let newer = self.newer.take(alloc, eye, node, self.region_len)?;
+        match joined(alloc, node, older, newer) {
+            Ok(rows) => Ok(Some(rows)),
+            Err(_) => Err(FetchFault::NoMemory),
+        }
+    }
+
+    /// The numbers of all merged rows, which are read once from the first node on. The merger stays where it stands.
+    ///
+    /// Where the eye tells its bytes, both parts are in the grammar and have their headers, and the merged rows have fewer than 2^32
+    /// bytes, the numbers are exact. The faults are those of `next_node`.
+    pub fn measure<E: LogEye>(&mut self, alloc: Global, eye: &mut E) -> Result<Measure, FetchFault>
+        requires older { IsSeen (E.LogEye.state eye.old) (older_part self.old) }
+        requires newer { IsSeen (E.LogEye.state eye.old) (newer_part self.old) }
+        requires region_len { self.old.region_len ≡ (E.LogEye.state eye.old).region_len }
+        ensures stays { self.new ≡ self.old }
+        ensures same { SameEye (E.LogEye.state eye.old) (E.LogEye.state eye.new) }
+        ensures counts { CountsFaults (IsErrOf result fetch_fault.Failed) (E.LogEye.state eye.old) (E.LogEye.state eye.new) }
+        ensures bad_row { (region at : ℕ) → IsErrOf result (fetch_fault.BadRow region at) → BlamesRow (E.LogEye.state eye.old).told self.old (record { region = region; at = at }) }
+        ensures bad_index { (region at : ℕ) → IsErrOf result (fetch_fault.BadIndex region at) → BlamesEntry (E.LogEye.state eye.old).told self.old (record { region = region; at = at }) }
+        ensures exact { (older newer : List Row) → TellsRows (E.LogEye.state eye.old) (older_part self.old) older → TellsRows (E.LogEye.state eye.old) (newer_part self.old) newer
+            → rows_len (merged older newer) < 4294967296 → MatchResult result (λ measure. measure ≡ measure_of (merged older newer)) NoDamage }
+    {
+        let mut pass = Merger::new(self.older.part, self.newer.part, self.region_len);
+        let mut measure = Measure {
+            rows: 0,
+            nodes: 0,
+            area: 0,
+        };
+        while let Some(rows) = pass.next_node(alloc, eye)? {
+            measure.add(&rows);
+        }
+        Ok(measure)
+    }
+}

@@ -1,0 +1,268 @@
+-- What a room stands for while its open epoch is sealed, and behind each answer.
+use Rattle.std.proofs.Common.{◌≡◌, ◌⊎◌, ℕ, ◌+◌, ◌<◌, ◌≤◌, ◌==◌, true, false, IsTrue, List, [], ◌∷◌, ◌++◌, length, Ok, sym, ap, subst, ◌∙◌, inl, inr, arith, append_assoc}
+use Rattle.std.specs.Prelude.{filter}
+use Rattle.std.specs.List.{AllByRecursion}
+use Rattle.std.proofs.lemmas.List.Sums.{sum_by-append}
+use Rattle.fine_model.specs.declared.Row.{Row}
+use Rattle.fine_model.specs.declared.Mark.TheVariants as mark
+use Rattle.fine_model.specs.RowBytes.{FitsRow, row_len, rows_len, greatest}
+use Rattle.fine_model.specs.Merge.{is_ordered, encoded_len}
+use Rattle.fine_model.specs.Nodes.{Agrees}
+use Rattle.fine_model.specs.Trees.{IsSound}
+use Rattle.fine_model.specs.Regions.{Image, region_of, header_of, partition_bytes}
+use Rattle.fine_model.specs.Chain.{chain, chain_end, is_free}
+use Rattle.fine_model.specs.ChainLaws.{part_of}
+use Rattle.fine_model.specs.History.{Commit, IsLegal, all_rows, upto, last_epoch}
+use Rattle.fine_model.specs.Headline.{ShowsSome}
+use Rattle.fine_model.specs.Room.{RoomState, HoldsLive}
+use Rattle.fine_model.specs.VersionLaws.{VersionsFollow, HaveSameRows}
+use Rattle.fine_model.proofs.Arranged.{arranged_agrees}
+use Rattle.fine_model.proofs.CallVersions.{legal_versions}
+use Rattle.fine_model.proofs.HistoryLaws.{upto-last}
+use Rattle.fine_model.proofs.Unique.{Shows-unique}
+use Rattle.log_disk.specs.Disk.{Disk, Told, SameOutside, IsImageNow, IsImageSince, clock_of, with_bytes}
+use Rattle.log_disk.specs.Moments.{LeavesOnly}
+use Rattle.log_disk.proofs.Moments.{now_since}
+use Rattle.epoch_room.specs.Gate.{gate, IsSealing}
+use Rattle.epoch_room.specs.Meaning.{StandsTold}
+use Rattle.epoch_room.specs.Partition.{IsArranged}
+use Rattle.epoch_room.specs.Steps.{shut_state}
+use Rattle.epoch_room.proofs.Arranging.{same_rows, arranged_order}
+use Rattle.epoch_room.proofs.Histories.{rows_together, last_open, none_behind, split_history, follow_split, sealed_by}
+use Rattle.epoch_room.proofs.Longer.{range_of, base_closed, closed_alike, longer, own_rows, live_kept}
+use Rattle.epoch_room.proofs.Partitions.{alike}
+use Rattle.epoch_room.proofs.Torn.{HasClosed, HasOpened, torn_closed, while_sealed, sealed_bytes}
+
+-- the state behind the sealing of the open epoch in a region
+abbrev pub sealed_room : RoomState → ℕ → RoomState
+sealed_room room region = record room {
+  sealed = room.sealed + 1;
+  parts = room.parts ++ part_of region (header_of (range_of room.sealed) room.open_rows) ∷ [];
+  open_rows = [];
+  waiting = 0;
+  used = 0;
+}
+
+wider : (region_len : ℕ) (first : List Row) (history : List Commit) (low high low' high' : ℕ) (image : Image) → low' ≤ low → high ≤ high' → ShowsSome region_len first history low high image → ShowsSome region_len first history low' high' image
+wider region_len first history low high low' high' image l h some = record { e = some.e; rows = some.rows; shows = some.shows; from = omega (arith, some.from, l); to = omega (arith, some.to, h); agrees = some.agrees }
+
+-- what is known as the region's sealing begins
+pub record Begins (room : RoomState) (region : ℕ) (sorted : List Row) (bytes : List ℕ) (a : Told) : Type 0 where
+  pub open_room : room.is_shut ≡ false
+  pub some : 1 ≤ room.waiting
+  pub small : room.region_len ≤ 67108864
+  pub is_chain : chain room.region_len a.bytes ≡ Ok room.parts
+  pub there : region < length a.bytes
+  pub long : 1 + length bytes ≤ length (region_of a.bytes region)
+  pub free : is_free a.bytes region ≡ true
+  pub end : room.sealed ≡ chain_end room.parts
+  pub epoch : room.sealed + 1 ≤ greatest
+  pub fit : AllByRecursion (FitsRow mark.Two) room.open_rows
+  pub arranged : IsArranged room.open_rows sorted
+  pub within : encoded_len sorted ≤ room.region_len
+  pub spelled : bytes ≡ partition_bytes room.region_len (range_of room.sealed) sorted
+  pub now : IsImageNow a a.bytes
+
+module _ (room : RoomState) (region : ℕ) (sorted : List Row) (bytes : List ℕ) (a : Told) (begins : Begins room region sorted bytes a) where
+  pub gate_closed : (image : Image) → SameOutside region 1 (1 + length bytes) a.bytes image → HasClosed region a.bytes image
+  gate_closed image torn =
+      torn_closed region bytes a.bytes begins.there begins.long
+      (base_closed room.region_len region room.sealed room.parts room.open_rows sorted bytes a.bytes begins.small begins.is_chain begins.free begins.end begins.epoch begins.arranged begins.within begins.spelled) image torn
+
+  pub gate_either : (image : Image) → IsSealing region bytes a.bytes image → HasClosed region a.bytes image ⊎ HasOpened region bytes a.bytes image
+  gate_either image is =
+      while_sealed region bytes a.bytes begins.there begins.long
+      (base_closed room.region_len region room.sealed room.parts room.open_rows sorted bytes a.bytes begins.small begins.is_chain begins.free begins.end begins.epoch begins.arranged begins.within begins.spelled) image is
+
+  pub gate_opened : HasOpened region bytes a.bytes (with_bytes (with_bytes a.bytes region 1 bytes) region 0 gate)
+  gate_opened = sealed_bytes region bytes a.bytes begins.there begins.long
+
+module _ (room : RoomState) (region : ℕ) (sorted : List Row) (bytes : List ℕ) (before a : Told) (first : List Row) (e : ℕ) (history : List Commit) (begins : Begins room region sorted bytes a) (passed : clock_of before ≤ clock_of a)
+    (old : StandsTold room before a first e history) where
+  last : last_epoch e history ≡ room.sealed + 1
+  last = last_open e room.sealed history old.stands.counts.epochs old.stands.counts.sealed (omega (arith, begins.some, old.waiting))
+
+  more_rows : all_rows history ≡ all_rows (upto history room.sealed) ++ room.open_rows
+  more_rows =
+      ap all_rows (sym (split_history e room.sealed history old.stands.counts.epochs (omega (arith, last)))) ∙ rows_together (upto history room.sealed) (filter (λ d. d.epoch == room.sealed + 1) history)
+      ∙ ap (λ rs. all_rows (upto history room.sealed) ++ rs) (sym old.stands.counts.open_epoch)
+
+  log_more : first ++ all_rows (upto history (room.sealed + 1)) ≡ (first ++ all_rows (upto history room.sealed)) ++ room.open_rows
+  log_more =
+      ap (λ h. first ++ all_rows h) (upto-last e (room.sealed + 1) history old.stands.counts.epochs (omega (arith, last))) ∙ ap (λ rs. first ++ rs) more_rows
+      ∙ sym (append_assoc first (all_rows (upto history room.sealed)) room.open_rows)
+
+  legal : IsSound first × IsLegal first history
+  legal = elim old.stands.legal as (λ _. IsSound first × IsLegal first history) [
+    | inl none ↦ absurd (omega (arith, begins.some, old.waiting, ap (λ (h : List Commit). length (filter (λ d. d.epoch == room.sealed + 1) h)) none))
+    | inr is ↦ is
+  ]
+
+  versions : VersionsFollow (first ++ all_rows (upto history room.sealed)) room.open_rows
+  versions = follow_split first (all_rows (upto history room.sealed)) room.open_rows (subst (VersionsFollow first) more_rows (legal_versions first history old.small legal.0 legal.1))
+
+  same : HaveSameRows room.open_rows sorted
+  same = same_rows (first ++ all_rows (upto history room.sealed)) room.open_rows sorted versions begins.arranged
+
+  ordered : IsTrue (is_ordered sorted)
+  ordered = arranged_order (first ++ all_rows (upto history room.sealed)) room.open_rows sorted versions begins.arranged
+
+  agrees_more : (rows : List Row) → Agrees rows (first ++ all_rows (upto history room.sealed)) → Agrees (rows ++ sorted) (first ++ all_rows (upto history (room.sealed + 1)))
+  agrees_more rows agrees = subst (Agrees (rows ++ sorted)) (sym log_more) (arranged_agrees rows (first ++ all_rows (upto history room.sealed)) room.open_rows sorted same agrees)
+
+  -- before the call the disk shows what is sealed
+  early : ShowsSome room.region_len first history e room.sealed a.bytes
+  early = old.none_open begins.open_room a.bytes (now_since (clock_of before) a a.bytes passed begins.now)
+
+  least : ShowsSome room.region_len first history room.sealed (last_epoch e history) a.bytes
+  least = old.stands.images.now_sealed a.bytes begins.now
+
+  early_is : early.e ≡ room.sealed
+  early_is =
+      let one : early.e ≡ least.e = (Shows-unique room.region_len a.bytes early.e least.e early.rows least.rows early.shows least.shows).0 in omega (arith, one, least.from, early.to)
+
+  low : e ≤ room.sealed
+  low = omega (arith, early.from, early.to)
+
+  closed_shows : (image : Image) → HasClosed region a.bytes image → ShowsSome room.region_len first history room.sealed room.sealed image
+  closed_shows image is =
+      let alike_is = closed_alike room.region_len region room.sealed room.parts room.open_rows sorted bytes a.bytes begins.small begins.is_chain begins.free begins.end begins.epoch begins.arranged begins.within begins.spelled image is in
+      record { e = early.e; rows = early.rows; shows = alike_is.shown early.e early.rows early.shows; from = omega (arith, early_is); to = early.to; agrees = early.agrees }
+
+  opened_shows : (image : Image) → HasOpened region bytes a.bytes image → ShowsSome room.region_len first history (room.sealed + 1) (room.sealed + 1) image
+  opened_shows image is =
+      let long = longer room.region_len region room.sealed room.parts room.open_rows sorted bytes a.bytes begins.small begins.is_chain begins.free begins.end begins.epoch begins.arranged begins.within begins.spelled image is in
+      let own = own_rows room.region_len region room.sealed room.parts room.open_rows sorted bytes a.bytes begins.small begins.is_chain begins.free begins.end begins.epoch begins.arranged begins.within begins.spelled begins.fit ordered image is in
+      record {
+        e = room.sealed + 1;
+        rows = early.rows ++ sorted;
+        shows = long.shown early.e early.rows sorted early.shows own;
+        from = omega arith;
+        to = omega arith;
+        agrees = agrees_more early.rows (subst (λ n. Agrees early.rows (first ++ all_rows (upto history n))) early_is early.agrees);
+      }
+
+  pub sealing_shows : (image : Image) → IsSealing region bytes a.bytes image → ShowsSome room.region_len first history room.sealed (last_epoch e history) image
+  sealing_shows image is = elim (gate_either room region sorted bytes a begins image is) as (λ _. ShowsSome room.region_len first history room.sealed (last_epoch e history) image) [
+    | inl shut ↦ wider room.region_len first history room.sealed room.sealed room.sealed (last_epoch e history) image (omega arith) (omega (arith, last)) (closed_shows image shut)
+    | inr opened ↦ wider room.region_len first history (room.sealed + 1) (room.sealed + 1) room.sealed (last_epoch e history) image (omega arith) (omega (arith, last)) (opened_shows image opened)
+  ]
+
+  kept_live : (image : Image) → HasClosed region a.bytes image ⊎ HasOpened region bytes a.bytes image → HoldsLive room image (first ++ all_rows (upto history room.sealed))
+  kept_live image is = record {
+    rows = old.stands.live.rows;
+    are_rows = live_kept room.region_len region room.sealed room.parts room.open_rows sorted bytes a.bytes begins.small begins.is_chain begins.free begins.end begins.epoch begins.arranged begins.within begins.spelled image is old.stands.live.rows old.stands.live.are_rows;
+    agrees = old.stands.live.agrees;
+    no_longer = old.stands.live.no_longer;
+  }
+
+  module _ (b : Told) (run : LeavesOnly (IsSealing region bytes a.bytes) a b) (now : IsImageNow b b.bytes) where
+    pub shown_inside : (image : Image) → IsImageSince (clock_of a) b image → ShowsSome room.region_len first history room.sealed (last_epoch e history) image
+    shown_inside image since = sealing_shows image (run.each image since)
+
+    every : (image : Image) → IsImageSince (clock_of before) b image → ShowsSome room.region_len first history e (last_epoch e history) image
+    every image since = elim (run.before (clock_of before) image passed since) as (λ _. ShowsSome room.region_len first history e (last_epoch e history) image) [
+      | inl earlier ↦ old.stands.images.every_image image earlier
+      | inr is ↦ wider room.region_len first history room.sealed (last_epoch e history) e (last_epoch e history) image low (omega arith) (sealing_shows image is)
+    ]
+
+    last_gate : HasClosed region a.bytes b.bytes ⊎ HasOpened region bytes a.bytes b.bytes
+    last_gate = gate_either room region sorted bytes a begins b.bytes (run.each b.bytes (now_since (clock_of a) b b.bytes run.later now))
+
+    -- the disk failed
+    pub shut_stands : (disk : Disk) → StandsTold (shut_state room disk) before b first e history
+    unfolding shut_state
+    shut_stands disk =
+        let live : HoldsLive room b.bytes (first ++ all_rows (upto history room.sealed)) = kept_live b.bytes last_gate in
+        record {
+          stands = record {
+            legal = old.stands.legal;
+            counts = record {
+              places = old.stands.counts.places;
+              epochs = old.stands.counts.epochs;
+              sealed = old.stands.counts.sealed;
+              open_epoch = old.stands.counts.open_epoch;
+              eyes = old.stands.counts.eyes;
+            };
+            live = record { rows = live.rows; are_rows = live.are_rows; agrees = live.agrees; no_longer = live.no_longer };
+            images = record { every_image = every; now_sealed = λ image is. shown_inside image (now_since (clock_of a) b image run.later is) };
+          };
+          waiting = old.waiting;
+          small = old.small;
+          none_open = λ h. absurd (cc);
+        }
+
+    -- the epoch was sealed
+    pub sealed_stands : b.bytes ≡ with_bytes (with_bytes a.bytes region 1 bytes) region 0 gate → ((image : Image) → IsImageNow b image → image ≡ b.bytes) → StandsTold (sealed_room room region) before b first e history
+    sealed_stands written still =
+        let opened : HasOpened region bytes a.bytes b.bytes = subst (HasOpened region bytes a.bytes) (sym written) (gate_opened room region sorted bytes a begins) in
+        let long = longer room.region_len region room.sealed room.parts room.open_rows sorted bytes a.bytes begins.small begins.is_chain begins.free begins.end begins.epoch begins.arranged begins.within begins.spelled b.bytes opened in
+        let own = own_rows room.region_len region room.sealed room.parts room.open_rows sorted bytes a.bytes begins.small begins.is_chain begins.free begins.end begins.epoch begins.arranged begins.within begins.spelled begins.fit ordered b.bytes opened in
+        let beyond : filter (λ d. d.epoch == room.sealed + 1 + 1) history ≡ [] = none_behind e (room.sealed + 1) history old.stands.counts.epochs (omega (arith, last)) in
+        record {
+          stands = record {
+            legal = old.stands.legal;
+            counts = record {
+              places = old.stands.counts.places;
+              epochs = old.stands.counts.epochs;
+              sealed = sealed_by e (room.sealed + 1) history last;
+              open_epoch = sym (ap all_rows beyond);
+              eyes = old.stands.counts.eyes;
+            };
+            live = record {
+              rows = old.stands.live.rows ++ sorted;
+              are_rows = long.rows old.stands.live.rows sorted old.stands.live.are_rows own;
+              agrees = agrees_more old.stands.live.rows old.stands.live.agrees;
+              no_longer =
+                  omega (
+                    arith,
+                    sum_by-append row_len old.stands.live.rows sorted,
+                    (alike room.open_rows sorted begins.arranged).same_len,
+                    ap rows_len log_more,
+                    sum_by-append row_len (first ++ all_rows (upto history room.sealed)) room.open_rows,
+                    old.stands.live.no_longer,
+                  );
+            };
+            images = record {
+              every_image = every;
+              now_sealed = λ image is.
+                  wider room.region_len first history (room.sealed + 1) (room.sealed + 1) (room.sealed + 1) (last_epoch e history) image (omega arith) (omega (arith, last))
+                  (opened_shows image (subst (HasOpened region bytes a.bytes) (sym (still image is)) opened));
+            };
+          };
+          waiting = sym (ap length beyond);
+          small = old.small;
+          none_open = λ h image since. wider room.region_len first history e (last_epoch e history) e (room.sealed + 1) image (omega arith) (omega (arith, last)) (every image since);
+        }
+
+  -- memory ran out
+  module _ (b : Told) (run : LeavesOnly (SameOutside region 1 (1 + length bytes) a.bytes) a b) (now : IsImageNow b b.bytes) where
+    torn_shows : (image : Image) → SameOutside region 1 (1 + length bytes) a.bytes image → ShowsSome room.region_len first history room.sealed room.sealed image
+    torn_shows image torn = closed_shows image (gate_closed room region sorted bytes a begins image torn)
+
+    torn_since : (image : Image) → IsImageSince (clock_of before) b image → ShowsSome room.region_len first history e room.sealed image
+    torn_since image since = elim (run.before (clock_of before) image passed since) as (λ _. ShowsSome room.region_len first history e room.sealed image) [
+      | inl earlier ↦ old.none_open begins.open_room image earlier
+      | inr torn ↦ wider room.region_len first history room.sealed room.sealed e room.sealed image low (omega arith) (torn_shows image torn)
+    ]
+
+    pub open_stands : StandsTold room before b first e history
+    open_stands =
+        let live : HoldsLive room b.bytes (first ++ all_rows (upto history room.sealed)) =
+        kept_live b.bytes (inl (gate_closed room region sorted bytes a begins b.bytes (run.each b.bytes (now_since (clock_of a) b b.bytes run.later now)))) in
+        record {
+          stands = record {
+            legal = old.stands.legal;
+            counts = old.stands.counts;
+            live = live;
+            images = record {
+              every_image = λ image since. wider room.region_len first history e room.sealed e (last_epoch e history) image (omega arith) (omega (arith, last)) (torn_since image since);
+              now_sealed = λ image is.
+                  wider room.region_len first history room.sealed room.sealed room.sealed (last_epoch e history) image (omega arith) (omega (arith, last))
+                  (torn_shows image (run.each image (now_since (clock_of a) b image run.later is)));
+            };
+          };
+          waiting = old.waiting;
+          small = old.small;
+          none_open = λ h image since. torn_since image since;
+        }

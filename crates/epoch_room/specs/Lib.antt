@@ -1,0 +1,9 @@
+pub mod Value
+pub mod Fitting
+pub mod Epoch
+pub mod Gathered
+pub mod Whole
+pub mod Steps
+pub mod Gate
+pub mod Partition
+pub mod Meaning

@@ -1,0 +1,15 @@
+//! The room: the log's regions, the chain of live parts, and the open epoch, which commits are appended to and which is then
+//! sealed as a whole.
+#![tactic(auto)]
+
+mod answers;
+mod epoch;
+mod partition;
+mod regions;
+mod room;
+mod sealing;
+#[cfg(test)]
+mod tests;
+
+pub use answers::{Counts, Fit, RoomFault, Stamp};
+pub use room::Room;

@@ -1,0 +1,113 @@
+//! The regions of parts, and those beside them.
+
+ghost use Rattle.std.specs.Prelude.{◌≡◌, ◌<◌, ◌^◌, ◌++◌, ◌==◌, not, ◌&&◌, if◌then◌else◌, nat_eq, nat_le, map, find, length, sum_by, take, drop, slice_get, IfOk};
+ghost use Rattle.std.specs.List.{AllByRecursion, list_any};
+ghost use Rattle.fine_model.specs.Chain.{regions_of, chain_end};
+ghost use Rattle.epoch_room.specs.Value.{all_regions, regions_beside};
+ghost use Rattle.epoch_room.specs.Whole.{HasRegions};
+
+use fine_model::{NoMemory, Part, Parts};
+use std::alloc::Global;
+use std::collections::VecDeque;
+
+/// Whether a region is among the first entries of a header.
+fn is_among(more: &[u32], entries: usize, region: u32) -> bool
+    ensures { result ≡ list_any (nat_eq region) (take entries more.now) }
+{
+    more.iter().take(entries).any(|entry| region == *entry)
+}
+
+/// Whether a region is one of a part.
+fn has_region(part: &Part, region: u32) -> bool
+    ensures { result ≡ list_any (nat_eq region) (regions_of part.now) }
+{
+    let behind = usize::from(part.header.regions).saturating_sub(1);
+    region == part.region || is_among(&part.header.more, behind, region)
+}
+
+/// Whether a region is one of these parts.
+fn is_taken(parts: &Parts, region: u32) -> bool
+    ensures { result ≡ list_any (λ p. list_any (nat_eq region) (regions_of p)) parts.now }
+{
+    parts.as_slice().iter().any(|part| has_region(part, region))
+}
+
+/// Whether a region is in none of these parts.
+fn is_beside(live: &Parts, retired: &Parts, region: u32) -> bool
+    ensures { result ≡ (not (list_any (λ p. list_any (nat_eq region) (regions_of p)) live.now) && not (list_any (λ p. list_any (nat_eq region) (regions_of p)) retired.now)) }
+{
+    !is_taken(live, region) && !is_taken(retired, region)
+}
+
+/// The regions of a disk that are in no part, in ascending order.
+#[tactic(auto, unfolding(crate::specs::Value::regions_beside))]
+pub fn free_regions(
+    alloc: Global,
+    regions: u32,
+    live: &Parts,
+    retired: &Parts,
+) -> Result<VecDeque<u32>, NoMemory>
+    ensures { IfOk result (λ free. free.items ≡ regions_beside regions (live.now ++ retired.now)) }
+{
+    let mut free = VecDeque::with_capacity(alloc, regions as usize)?;
+    for region in 0..regions {
+        if is_beside(live, retired, region) {
+            free.push_back(region)?;
+        }
+    }
+    Ok(free)
+}
+
+/// The sum of the numbers of regions that headers tell.
+fn told_regions(parts: &Parts) -> u32
+    requires { sum_by (λ p. p.header.regions) parts.now < 2 ^ 32 }
+    ensures { result ≡ sum_by (λ p. p.header.regions) parts.now }
+{
+    parts
+        .as_slice()
+        .iter()
+        .map(|part| u32::from(part.header.regions))
+        .sum()
+}
+
+/// How many regions parts have, continuations included.
+pub fn regions_in(parts: &Parts) -> u32
+    requires each { AllByRecursion HasRegions parts.now }
+    requires few { length (all_regions parts.now) < 2 ^ 32 }
+    ensures { result ≡ length (all_regions parts.now) }
+{
+    told_regions(parts)
+}
+
+/// The first lead of these parts from a number on.
+pub fn first_lead(parts: &Parts, from: u32) -> Option<u32>
+    ensures { result ≡ find (nat_le from) (map (λ p. p.region) parts.now) }
+{
+    parts
+        .as_slice()
+        .iter()
+        .map(|part| part.region)
+        .find(|region| from <= *region)
+}
+
+/// The target of an epoch: before its first entry it takes the lowest free region, and then it keeps it.
+pub fn take_target(free: &mut VecDeque<u32>, target: Option<u32>, waiting: u64) -> Option<u32>
+    ensures free { free.new.items ≡ (if waiting == 0 then drop 1 free.old.items else free.old.items) }
+    ensures target { result ≡ (if waiting == 0 then slice_get free.old.items 0 else target) }
+{
+    if waiting == 0 {
+        free.pop_front()
+    } else {
+        target
+    }
+}
+
+/// The last epoch of a chain, or 0.
+pub fn last_epoch(parts: &Parts) -> u64
+    ensures { result ≡ chain_end parts.now }
+{
+    match parts.as_slice().last() {
+        Some(part) => part.header.range.last,
+        None => 0,
+    }
+}

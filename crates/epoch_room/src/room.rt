@@ -1,0 +1,274 @@
+//! The room.
+
+ghost use Rattle.std.specs.Prelude.{◌≡◌, ◌+◌, ◌≤◌, false, [], IfOk, IfErr};
+ghost use Rattle.std.specs.List.{AllByRecursion};
+ghost use Rattle.fine_model.specs.Merge.{cost};
+ghost use Rattle.fine_model.specs.RowBytes.{FitsRow};
+ghost use Rattle.fine_model.specs.declared.Mark.TheVariants as mark;
+ghost use Rattle.log_disk.specs.Disk.{Disk};
+ghost use Rattle.epoch_room.specs.declared.answers.Fit.TheVariants as fit;
+ghost use Rattle.epoch_room.specs.declared.answers.RoomFault.TheVariants as room_fault;
+ghost use Rattle.epoch_room.specs.Value.{made};
+ghost use Rattle.epoch_room.specs.Fitting.{fit_of, counts_of, is_pressed};
+ghost use Rattle.epoch_room.specs.Whole.{AreParts, IsIdle, IsWhole};
+ghost use Rattle.epoch_room.specs.Steps.{appended, retired_from, SealsOr};
+ghost use Rattle.epoch_room.specs.Meaning.{GoesOnStanding, KeepsInside, StandsAtFirst, StandsForMore};
+
+use crate::answers::{Counts, Fit, RoomFault, Stamp};
+use crate::epoch::OpenEpoch;
+use crate::partition::{HEADER, as_partition};
+use crate::regions::{first_lead, free_regions, last_epoch, regions_in, take_target};
+use crate::sealing::seal_region;
+use fine_model::{NoMemory, Part, Parts, Range, RoomLaw};
+use log_disk::{DiskRefusal, LogDisk};
+use private_log::PrivateLog;
+use std::alloc::Global;
+use std::collections::VecDeque;
+use std::marker::Model;
+use std::snapshot::Snapshot;
+
+/// The greatest epoch, and the greatest place.
+const GREATEST: u64 = 4_611_686_018_427_387_904;
+
+/// How many regions are free before a new epoch takes one: the last one is kept for merging.
+const FREE: usize = 2;
+
+/// A log on a disk: the chain of live parts, the free and the retired regions, and the open epoch.
+///
+/// After a failure of the device the room is shut: every call that touches the device then answers `Shut`.
+#[derive(Drop)]
+pub struct Room<D: LogDisk> {
+    disk: D,
+    entry: Snapshot<D>,
+    alloc: Global,
+    parts: Parts,
+    retired: Parts,
+    free: VecDeque<u32>,
+    target: Option<u32>,
+    epoch: OpenEpoch,
+    sealed: u64,
+    places: u64,
+    is_shut: bool,
+}
+
+impl<D: LogDisk> Model for Room<D> {
+    ghost use Rattle.std.specs.Prelude.{◌≡◌, ◌+◌};
+    ghost use Rattle.epoch_room.specs.Value.{RoomValue, value_of};
+    ghost use Rattle.epoch_room.specs.Whole.{IsWhole};
+
+    ghost Value = { RoomValue };
+
+    ghost view = { λ r. value_of (D.state r.disk) (D.state r.entry.value) r.parts r.retired r.free.items r.target r.epoch r.sealed r.places r.is_shut };
+
+    ghost invariant = { λ r. IsWhole (value_of (D.state r.disk) (D.state r.entry.value) r.parts r.retired r.free.items r.target r.epoch r.sealed r.places r.is_shut) × (41 + r.epoch.most ≡ (D.state r.disk).region_len) };
+}
+
+impl<D: LogDisk> RoomLaw for Room<D> {
+    ghost use Rattle.epoch_room.specs.Meaning.{origin_of, Stands};
+
+    ghost state = { λ room. room.room };
+
+    ghost origin = { λ room. origin_of room.entry };
+
+    ghost stands_for = { Stands };
+}
+
+impl<D: LogDisk> Room<D> {
+    /// A room on a disk with these live parts, in chain order, and these retired ones, in the order of their regions. The other regions
+    /// are free. It takes all memory that `append` and `into_disk` need.
+    ///
+    /// The disk has 4 to 64 regions of 4,096 to 67,108,864 bytes, whole KiB; nothing is unsynced, and no eye is open. The ranges of the
+    /// live parts follow one another from epoch 1 on, and no region is in two parts. Where the disk tells its bytes, the live parts are
+    /// its chain, and the retired ones its other sealed parts. `NoMemory` gives the disk back as it was.
+    pub fn make(
+        alloc: Global,
+        disk: D,
+        parts: Parts,
+        retired: Parts,
+    ) -> Result<Room<D>, (NoMemory, D)>
+        requires idle { IsIdle (D.state disk) }
+        requires parts { AreParts (D.state disk) parts retired }
+        ensures made { IfOk result (λ room. room ≡ made (D.state disk) parts retired) }
+        ensures stands { IfOk result (λ room. StandsAtFirst room (D.state disk).told) }
+        ensures back { IfErr result (λ e. D.state e.1 ≡ D.state disk) }
+    {
+        let Ok(free) = free_regions(alloc, disk.regions(), &parts, &retired) else {
+            return Err((NoMemory, disk));
+        };
+        let Ok(epoch) = OpenEpoch::new(alloc, disk.region_len() - HEADER) else {
+            return Err((NoMemory, disk));
+        };
+        let sealed = last_epoch(&parts);
+        let entry = Snapshot::of(&disk);
+        Ok(Room {
+            disk,
+            entry,
+            alloc,
+            parts,
+            retired,
+            free,
+            target: None,
+            epoch,
+            sealed,
+            places: 0,
+            is_shut: false,
+        })
+    }
+
+    /// Whether rows that take so many bytes in a partition beside its header may be appended; if not, the first reason that holds.
+    ///
+    /// `Shut` comes exactly where an earlier call answered `Disk`; `Number` where the open epoch's number is above 2^62, or 2^62 places were
+    /// given; `TooLarge` where the rows alone need more bytes than a region has; `Full` where the open epoch has no entry and fewer than
+    /// two regions are free; `EpochFull` where the open epoch would need more bytes than a region has. A sum above the greatest number
+    /// of 64 bits counts as that number.
+    #[tactic(auto, unfolding(crate::specs::Fitting::fit_of))]
+    pub fn fit(&self, cost: u64) -> Fit
+        ensures { result ≡ fit_of self.now cost }
+    {
+        let room = self.disk.region_len();
+        if self.is_shut {
+            return Fit::Shut { epoch: self.sealed };
+        }
+        if self.sealed >= GREATEST || self.places >= GREATEST {
+            return Fit::Number {
+                epoch: self.sealed + 1,
+                place: self.places,
+            };
+        }
+        let need = cost.saturating_add(HEADER);
+        if need > room {
+            return Fit::TooLarge { need, room };
+        }
+        if self.epoch.waiting() == 0 && self.free.len() < FREE {
+            return Fit::Full {
+                free: self.free.len() as u32,
+                live: regions_in(&self.parts),
+                retired: regions_in(&self.retired),
+            };
+        }
+        let need = need.saturating_add(self.epoch.used());
+        if need > room {
+            return Fit::EpochFull { need, room };
+        }
+        Fit::Fits
+    }
+
+    /// Appends the rows of a transaction to the open epoch, whose first entry takes the free region of the lowest number as the epoch's
+    /// target. `fit` of the rows' cost is `Fits`. It takes no memory.
+    pub fn append(&mut self, log: &PrivateLog) -> Stamp
+        requires fits { fit_of self.old (cost log.now) ≡ fit.Fits }
+        requires rows { AllByRecursion (FitsRow mark.Two) log.now }
+        ensures stamp { result ≡ record { place = self.old.room.places + 1; epoch = self.old.room.sealed + 1 } }
+        ensures room { self.new ≡ appended self.old log.now }
+        ensures stands { StandsForMore self.old self.new log.now }
+    {
+        self.target = take_target(&mut self.free, self.target, self.epoch.waiting());
+        self.epoch.add(log);
+        self.places += 1;
+        Stamp {
+            place: self.places,
+            epoch: self.sealed + 1,
+        }
+    }
+
+    /// Makes the open epoch durable as one partition, and answers its number: writes the partition behind the closed gate of its target,
+    /// syncs, writes the gate, and syncs. Then the part is live, and the next epoch is open.
+    ///
+    /// After `NoMemory` the epoch is still open and whole. `Disk` comes only where the disk failed in this call, and shuts the room;
+    /// `Shut` comes exactly where an earlier call answered `Disk`, and changes nothing. A crash at any moment of the call leaves an
+    /// image that shows at least what was sealed before.
+    pub fn seal(&mut self) -> Result<u64, RoomFault>
+        requires waiting { 1 ≤ self.old.room.waiting }
+        ensures room { SealsOr self.old self.new result }
+        ensures stands { GoesOnStanding self.old self.new }
+        ensures inside { KeepsInside self.old self.new }
+    {
+        if self.is_shut {
+            return Err(RoomFault::Shut { epoch: self.sealed });
+        }
+        let region_len = self.disk.region_len();
+        let region = self.target.unwrap_or(0);
+        let epoch = self.sealed + 1;
+        let range = Range {
+            first: epoch,
+            last: epoch,
+        };
+        let partition = as_partition(self.alloc, &self.epoch, range, region_len)?;
+        self.parts.push(Part {
+            region,
+            header: partition.header,
+        })?;
+        match seal_region(&mut self.disk, region, partition.bytes.as_slice()) {
+            Ok(()) => {
+                self.target = None;
+                self.epoch.clear();
+                self.sealed = epoch;
+                Ok(epoch)
+            }
+            Err(refusal) => {
+                self.parts.truncate(self.parts.len() - 1);
+                match refusal {
+                    DiskRefusal::Failed => {
+                        self.is_shut = true;
+                        Err(RoomFault::Disk)
+                    }
+                    DiskRefusal::NoMemory => Err(RoomFault::NoMemory),
+                }
+            }
+        }
+    }
+
+    /// The live parts in chain order.
+    pub fn parts(&self) -> &Parts
+        ensures { result.now ≡ self.now.room.parts }
+    {
+        &self.parts
+    }
+
+    /// The lowest region from a number on that is the lead of a retired part. None exactly where there is none.
+    pub fn retired(&self, from: u32) -> Option<u32>
+        ensures { result ≡ retired_from self.now.room.retired from }
+    {
+        first_lead(&self.retired, from)
+    }
+
+    /// The room in numbers.
+    #[tactic(auto, unfolding(crate::specs::Fitting::counts_of))]
+    pub fn counts(&self) -> Counts
+        ensures counts { result ≡ counts_of self.now }
+        ensures whole { IsWhole self.now }
+    {
+        Counts {
+            free: self.free.len() as u32,
+            live: regions_in(&self.parts),
+            retired: regions_in(&self.retired),
+            sealed: self.sealed,
+            place: self.places,
+            waiting: self.epoch.waiting(),
+        }
+    }
+
+    /// Whether fewer than half of all regions are free.
+    pub fn pressed(&self) -> bool
+        ensures { result ≡ is_pressed self.now }
+    {
+        (2 * self.free.len() as u64) < u64::from(self.disk.regions())
+    }
+
+    /// The length of each region in bytes.
+    pub fn region_len(&self) -> u64
+        ensures { result ≡ self.now.room.region_len }
+    {
+        self.disk.region_len()
+    }
+
+    /// The disk. The room has no view out, and no merge. It takes no memory.
+    pub fn into_disk(self) -> D
+        requires board { self.room.board_eyes ≡ [] }
+        requires no_job { self.room.has_job ≡ false }
+        ensures disk { D.state result ≡ self.disk }
+        ensures whole { IsWhole self }
+    {
+        self.disk
+    }
+}

@@ -1,0 +1,4 @@
+mod Taking
+mod Seeing
+mod SealedParts
+pub mod RoomParts

@@ -1,0 +1,236 @@
+//! What no clause says: the bytes of regions and what they show, and each call with ample memory.
+
+ghost use Rattle.std.specs.Prelude.{◌≡◌, ◌<◌, [], IfOk};
+ghost use Rattle.epoch_room.specs.Whole.{IsIdle};
+
+use super::{OpenFault, open_log, read_chain};
+use fine_model::{Damage, Part};
+use log_disk::{FaultPlan, LogDisk, MemDisk};
+use std::alloc::Global;
+use std::test::Fail;
+
+/// A partition of epoch 1 with the first put of `1` at the key `a`, from the gate on, in regions of 16,384 bytes.
+const PUT: [u8; 79] =
+    *b"\xa7FLP2\x00\x00\x00\x00\x00\x00\x40\x00\x00\x00\x00\x00\x00\x00\x00\x01\x00\x00\x00\x00\x00\x00\x00\x01\x00\x00\x00\x01\x00\x00\x00\x01\x00\x00\x00\x18\x04\x00\x61\x00\x00\x00\x01\x00\x00\x00\x00\x00\x00\x00\x01\x00\x00\x00\x05\x01a\x00\x011\x00\x61\x00\x00\x00\x01\x00\x00\x00\x00\x00\x00\x00\x01";
+
+/// The header of a partition over two regions, of which the second is region 3, and no body: the chain does not depend on it.
+const LEAD: [u8; 79] =
+    *b"\xa7FLP3\x00\x00\x00\x00\x00\x00\x40\x00\x00\x00\x00\x00\x00\x00\x00\x01\x00\x00\x00\x00\x00\x00\x00\x01\x00\x00\x00\x01\x00\x00\x00\x01\x00\x00\x40\x00\x02\x00\x00\x00\x03\x00\x00\x00\x00\x00\x00\x00\x00\x00\x00\x00\x00\x00\x00\x00\x00\x00\x00\x00\x00\x00\x00\x00\x00\x00\x00\x00\x00\x00\x00\x00\x00\x00";
+
+/// What is written to a region.
+#[derive(Clone, Copy)]
+enum Shown {
+    Nothing,
+    /// A partition of the epochs from one to another.
+    Epochs(u8, u8),
+    /// A partition of epoch 1 with another byte at a place.
+    Flipped(usize, u8),
+    /// A partition of these epochs over this region and region 3.
+    Wide(u8, u8),
+}
+
+use Shown::{Epochs, Flipped, Nothing, Wide};
+
+fn bytes_of(shown: Shown) -> [u8; 79] {
+    let (mut bytes, first, last) = match shown {
+        Nothing => return [0; 79],
+        Epochs(first, last) => (PUT, first, last),
+        Flipped(_, _) => (PUT, 1, 1),
+        Wide(first, last) => (LEAD, first, last),
+    };
+    bytes[20] = first;
+    bytes[28] = last;
+    if let Flipped(at, byte) = shown {
+        if at < 79 {
+            bytes[at] = byte;
+        }
+    }
+    bytes
+}
+
+fn write(disk: &mut MemDisk, region: u32, bytes: &[u8; 79]) -> Result<(), Fail>
+    requires region { region < 4 }
+    requires disk { (disk.old.regions ≡ 4) × (disk.old.region_len ≡ 16384) × (disk.old.eyes ≡ []) }
+    ensures { (disk.new.regions ≡ 4) × (disk.new.region_len ≡ 16384) × (disk.new.eyes ≡ []) }
+{
+    disk.write(region, 0, bytes).ok().ok_or("write")?;
+    Ok(())
+}
+
+fn fill(disk: &mut MemDisk, regions: &[Shown; 4]) -> Result<(), Fail>
+    requires { (disk.old.regions ≡ 4) × (disk.old.region_len ≡ 16384) × (disk.old.eyes ≡ []) }
+    ensures { (disk.new.regions ≡ 4) × (disk.new.region_len ≡ 16384) × (disk.new.eyes ≡ []) }
+{
+    write(disk, 0, &bytes_of(regions[0]))?;
+    write(disk, 1, &bytes_of(regions[1]))?;
+    write(disk, 2, &bytes_of(regions[2]))?;
+    write(disk, 3, &bytes_of(regions[3]))?;
+    Ok(())
+}
+
+fn sync(disk: MemDisk) -> Result<MemDisk, Fail>
+    requires { (disk.regions ≡ 4) × (disk.region_len ≡ 16384) × (disk.eyes ≡ []) }
+    ensures { IfOk result IsIdle }
+{
+    let mut disk = disk;
+    match disk.sync() {
+        Ok(()) => Ok(disk),
+        Err(_failed) => Err("sync")?,
+    }
+}
+
+fn disk_of(alloc: Global, regions: &[Shown; 4]) -> Result<MemDisk, Fail>
+    ensures { IfOk result IsIdle }
+{
+    let mut disk = MemDisk::new(alloc, 4, 16384, FaultPlan::none(alloc))?;
+    fill(&mut disk, regions)?;
+    sync(disk)
+}
+
+/// The leads of parts, each as a digit.
+fn leads(parts: &[Part]) -> [u8; 4] {
+    let mut leads = *b"    ";
+    for (lead, part) in leads.iter_mut().zip(parts) {
+        *lead = match part.region {
+            0 => b'0',
+            1 => b'1',
+            2 => b'2',
+            _ => b'3',
+        };
+    }
+    leads
+}
+
+fn damage_of(fault: OpenFault) -> Option<Damage> {
+    match fault {
+        OpenFault::BadRegion { region, at } => Some(Damage::Region { region, at }),
+        OpenFault::Gap { after, region } => Some(Damage::Gap { after, region }),
+        OpenFault::Overlap { region, other } => Some(Damage::Overlap { region, other }),
+        _ => None,
+    }
+}
+
+/// The leads of the chain, and of the other sealed parts.
+fn found(
+    alloc: Global,
+    regions: &[Shown; 4],
+) -> Result<Result<([u8; 4], [u8; 4]), Option<Damage>>, Fail> {
+    let mut disk = disk_of(alloc, regions)?;
+    match read_chain(alloc, &mut disk) {
+        Ok(chain) => Ok(Ok((
+            leads(chain.parts.as_slice()),
+            leads(chain.retired.as_slice()),
+        ))),
+        Err(fault) => Ok(Err(damage_of(fault))),
+    }
+}
+
+/// The leads of the room's live parts, and how many regions are free.
+fn opened(
+    alloc: Global,
+    regions: &[Shown; 4],
+) -> Result<Result<([u8; 4], u32), Option<Damage>>, Fail> {
+    let disk = disk_of(alloc, regions)?;
+    match open_log(alloc, disk) {
+        Ok(room) => Ok(Ok((leads(room.parts().as_slice()), room.counts().free))),
+        Err((fault, _disk)) => Ok(Err(damage_of(fault))),
+    }
+}
+
+#[test]
+fn finds_the_chain_among_sealed_regions(rt: HostRuntime) -> Result<(), Fail> {
+    let alloc = rt.alloc();
+    for (regions, chain, retired, free) in [
+        ([Nothing; 4], *b"    ", *b"    ", 4),
+        (
+            [Nothing, Epochs(1, 1), Nothing, Nothing],
+            *b"1   ",
+            *b"    ",
+            3,
+        ),
+        // what a crash leaves of a gate that was not synced
+        (
+            [
+                Flipped(0, 0xa6),
+                Epochs(1, 1),
+                Flipped(0, 0),
+                Flipped(0, 0xff),
+            ],
+            *b"1   ",
+            *b"    ",
+            3,
+        ),
+        (
+            [Epochs(3, 3), Epochs(1, 1), Epochs(1, 2), Epochs(2, 2)],
+            *b"20  ",
+            *b"13  ",
+            0,
+        ),
+        (
+            [Nothing, Epochs(1, 1), Epochs(1, 1), Nothing],
+            *b"1   ",
+            *b"2   ",
+            2,
+        ),
+        (
+            [Epochs(2, 2), Wide(1, 1), Nothing, Nothing],
+            *b"10  ",
+            *b"    ",
+            1,
+        ),
+    ] {
+        assert_eq!(rt; found(alloc, &regions)?, Ok((chain, retired)));
+        assert_eq!(rt; opened(alloc, &regions)?, Ok((chain, free)));
+    }
+    Ok(())
+}
+
+#[test]
+fn tells_what_is_wrong_with_the_chain(rt: HostRuntime) -> Result<(), Fail> {
+    let alloc = rt.alloc();
+    for (regions, damage) in [
+        // the mark, and the row area's length
+        (
+            [Nothing, Epochs(1, 1), Flipped(4, b'X'), Flipped(40, 0)],
+            Damage::Region { region: 2, at: 1 },
+        ),
+        (
+            [Epochs(3, 3), Flipped(40, 0), Nothing, Nothing],
+            Damage::Region { region: 1, at: 37 },
+        ),
+        // region 3 is sealed itself, or two parts name it
+        (
+            [Wide(1, 1), Nothing, Nothing, Epochs(2, 2)],
+            Damage::Region { region: 0, at: 42 },
+        ),
+        (
+            [Wide(1, 1), Nothing, Wide(2, 2), Nothing],
+            Damage::Region { region: 2, at: 42 },
+        ),
+        (
+            [Nothing, Nothing, Epochs(2, 2), Nothing],
+            Damage::Gap {
+                after: 0,
+                region: 2,
+            },
+        ),
+        (
+            [Epochs(4, 4), Epochs(1, 2), Nothing, Nothing],
+            Damage::Gap {
+                after: 2,
+                region: 0,
+            },
+        ),
+        (
+            [Epochs(2, 3), Epochs(1, 2), Nothing, Nothing],
+            Damage::Overlap {
+                region: 0,
+                other: 1,
+            },
+        ),
+    ] {
+        assert_eq!(rt; found(alloc, &regions)?, Err(Some(damage)));
+        assert_eq!(rt; opened(alloc, &regions)?, Err(Some(damage)));
+    }
+    Ok(())
+}

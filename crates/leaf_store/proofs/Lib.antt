@@ -1,0 +1,11 @@
+pub mod Kept
+pub mod Plain
+pub mod Puts
+pub mod Answering
+pub mod Bounds
+pub mod Bodies
+pub mod Taking
+pub mod Damage
+pub mod Loaded
+pub mod Filled
+pub mod Placed

@@ -6,7 +6,7 @@ use Rattle.fine_model.specs.declared.Call.{Call}
 use Rattle.fine_model.specs.declared.Call.TheVariants as call
 use Rattle.fine_model.specs.declared.ScriptTxn.{ScriptTxn}
 use Rattle.fine_model.specs.Script.{Line, calls, Reading, line_added, within_reach}
-use Rattle.fine_model.specs.Reach.{is_put, is_get_or_put, is_simple, is_simple_txn, is_in_reach}
+use Rattle.fine_model.specs.Reach.{is_put, is_get_or_put, is_simple, is_simple_txn, puts_of, is_in_reach}
 use Rattle.script_text.specs.Reading.{reach_of, IsRead, Adds, Steps}
 use Rattle.script_text.specs.declared.reach.Reach.{Reach}
 use Rattle.script_text.specs.declared.reach.Reach.TheVariants as reach
@@ -21,9 +21,7 @@ count_push : {X : Type 0} (p : X → Bool) (xs : List X) (x : X) → p x ≡ fal
 count_push p xs x e = sum_by_push (λ y. cond (p y) 1 0) xs x ∙ ap (λ b. count_by p xs + cond b 1 0) e ∙ omega arith
 
 simple_push : (lane : ℕ) (cs : List Call) (key : List ℕ) → is_simple lane (cs ++ call.Get key ∷ []) ≡ is_simple lane cs
-simple_push lane cs key =
-    ap (λ b. (lane == 1) && b && nat_le (count_by is_put (cs ++ call.Get key ∷ [])) 32) (all_push is_get_or_put cs (call.Get key) refl)
-    ∙ ap (λ n. (lane == 1) && list_all is_get_or_put cs && nat_le n 32) (count_push is_put cs (call.Get key) refl)
+simple_push lane cs key = ap (λ b. (lane == 1) && b) (all_push is_get_or_put cs (call.Get key) refl)
 
 abbrev with_call : List ScriptTxn → ℕ × List Call → List ℕ → Reading
 with_call done t key = record { done = done; open_txn = Some (t.0, t.1 ++ call.Get key ∷ []) }
@@ -39,7 +37,10 @@ stays done (Some t) key s e h = by_test (nat_lt (length t.1) 10000) e
     by_test false f = absurd cc
     by_test true f =
         let same : with_call done t key ≡ s = cc in
-        ap is_in_reach (sym same) ∙ ap (λ b. nat_le (length done + 1) 1 && list_all is_simple_txn done && b) (simple_push t.0 t.1 key) ∙ h
+        ap is_in_reach (sym same)
+        ∙ ap (λ n. nat_le (length done + 1) 64 && nat_le (puts_of done + n) 32 && list_all is_simple_txn done && is_simple t.0 (t.1 ++ call.Get key ∷ [])) (count_push is_put t.1 (call.Get key) refl)
+        ∙ ap (λ b. nat_le (length done + 1) 64 && nat_le (puts_of done + count_by is_put t.1) 32 && list_all is_simple_txn done && b) (simple_push t.0 t.1 key)
+        ∙ h
 
 -- what was read stays within a reach with a read
 read_stays : (w : Reach) (line : Line) (r s : Reading) → IsRead line → line_added r line ≡ Some s → reach_of w r ≡ true → reach_of w s ≡ true

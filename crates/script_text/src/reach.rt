@@ -1,13 +1,18 @@
-//! How far a reader of scripts reaches: all that the grammar has, or what the program takes today, which is one
-//! transaction of lane 1 with reads and at most 32 puts, which commits.
+//! How far a reader of scripts reaches: all that the grammar has, or what the program takes today, which are at most 64
+//! transactions of lane 1 with reads and puts, at most 32 puts in all, which commit.
 
-ghost use Rattle.std.specs.Prelude.{◌≡◌, nat_le, ◌&&◌, ◌==◌, count_by};
+ghost use Rattle.std.specs.Prelude.{◌≡◌, ◌+◌, nat_le, ◌&&◌, ◌==◌, count_by};
 ghost use Rattle.std.specs.List.{list_all};
-ghost use Rattle.fine_model.specs.Reach.{is_put, is_get_or_put, is_simple, is_simple_txn, is_simple_start, begun, is_in_reach};
+ghost use Rattle.fine_model.specs.Reach.{is_put, is_get_or_put, is_simple, is_simple_txn, is_simple_start, begun, puts_of, open_puts, is_in_reach};
 ghost use Rattle.script_text.specs.Reading.{reading_of, reach_of};
 
 use super::reading::Progress;
 use fine_model::{Call, Calls, Ending, ScriptTxn};
+
+/// The transactions and the puts that a script may have today.
+const MOST_TXNS: usize = 64;
+
+const MOST_PUTS: usize = 32;
 
 /// Which scripts a reader takes.
 #[derive(Clone, Copy)]
@@ -40,11 +45,33 @@ fn puts(calls: &[Call]) -> usize
     calls.iter().filter(|call| is_put(*call)).count()
 }
 
-/// Whether a transaction is of lane 1, with reads and at most 32 puts.
+/// Whether transactions have at most so many puts in all.
+fn have_few_puts(txns: &[ScriptTxn], most: usize) -> bool
+    ensures { result ≡ nat_le (puts_of txns.now) most }
+{
+    match txns {
+        [] => true,
+        [txn, rest @ ..] => match most.checked_sub(puts(txn.calls.as_slice())) {
+            None => false,
+            Some(left) => have_few_puts(rest, left),
+        },
+    }
+}
+
+fn open_puts(open_txn: &Option<(u8, Calls)>) -> usize
+    ensures { result ≡ open_puts open_txn.now }
+{
+    match open_txn {
+        None => 0,
+        Some((_lane, calls)) => puts(calls.as_slice()),
+    }
+}
+
+/// Whether a transaction is of lane 1, with reads and puts alone.
 fn is_simple(lane: u8, calls: &[Call]) -> bool
     ensures { result ≡ is_simple lane calls.now }
 {
-    lane == 1 && are_reads_or_puts(calls) && puts(calls) <= 32
+    lane == 1 && are_reads_or_puts(calls)
 }
 
 fn is_simple_txn(txn: &ScriptTxn) -> bool
@@ -74,6 +101,16 @@ fn begun(open_txn: &Option<(u8, Calls)>) -> usize
     usize::from(open_txn.is_some())
 }
 
+/// Whether transactions that were read, and one that is open, have at most 32 puts in all.
+fn has_few_puts(progress: &Progress) -> bool
+    ensures { result ≡ nat_le (puts_of progress.now.done + open_puts progress.now.open_txn) 32 }
+{
+    match MOST_PUTS.checked_sub(open_puts(&progress.open_txn)) {
+        None => false,
+        Some(left) => have_few_puts(progress.done.as_slice(), left),
+    }
+}
+
 /// Whether what was read so far is what the program takes today.
 #[tactic(auto, unfolding(fine_model::specs::Reach::is_in_reach))]
 fn is_in_reach(progress: &Progress) -> bool
@@ -83,7 +120,10 @@ fn is_in_reach(progress: &Progress) -> bool
         .done
         .len()
         .saturating_add(begun(&progress.open_txn));
-    txns <= 1 && are_simple(progress.done.as_slice()) && is_simple_start(&progress.open_txn)
+    txns <= MOST_TXNS
+        && has_few_puts(progress)
+        && are_simple(progress.done.as_slice())
+        && is_simple_start(&progress.open_txn)
 }
 
 /// Whether what was read so far is within a reach.

@@ -70,7 +70,7 @@ fn reads_what_the_grammar_takes(rt: HostRuntime) -> Result<(), NoMemory> {
 fn refuses_what_is_out_of_reach(rt: HostRuntime) -> Result<(), NoMemory> {
     let alloc = rt.alloc();
     let table = [
-        ("txn 1\ncommit\ntxn 1\n", 3),
+        ("txn 1\ncommit\ntxn 2\n", 3),
         ("txn 2\n", 1),
         ("txn 1\ndel a\n", 2),
         ("txn 1\nadd a 1\n", 2),
@@ -129,6 +129,14 @@ fn reads_up_to_its_limits(rt: HostRuntime) -> Result<(), NoMemory> {
         (("", "\n", 1_000_000, "\n"), "many", 1_000_001),
         (("txn 1\n", "put a 1\n", 32, "commit\n"), "ok", 0),
         (("txn 1\n", "put a 1\n", 33, "commit\n"), "bad", 34),
+        (
+            ("", "txn 1\nput a 1\ncommit\n", 32, "txn 1\nget a\ncommit\n"),
+            "ok",
+            0,
+        ),
+        (("", "txn 1\nput a 1\ncommit\n", 33, ""), "bad", 98),
+        (("", "txn 1\ncommit\n", 64, ""), "ok", 0),
+        (("", "txn 1\ncommit\n", 65, ""), "bad", 129),
         (("txn 1\n", "get a\n", 10_000, "commit\n"), "ok", 0),
         (("txn 1\n", "get a\n", 10_001, "commit\n"), "bad", 10_002),
     ];

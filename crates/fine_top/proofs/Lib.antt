@@ -1,2 +1,8 @@
-pub mod Steps
-pub mod Disks
+pub mod Outcomes
+pub mod Following
+pub mod Theorem
+pub mod Txns
+pub mod Runs
+pub mod Found
+pub mod RunOf
+pub mod Taken

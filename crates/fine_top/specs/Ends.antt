@@ -1,22 +1,27 @@
 -- How a call of the program ends, and what it prints then.
-use Rattle.std.specs.Prelude.{◌≡◌, ◌⊎◌, ℕ, ◌<◌, true, List, [], ◌∷◌, Option, Some, None, IfSome, Err, Ok, ⊤}
-use Rattle.log_disk.specs.Disk.{Disk}
+use Rattle.std.specs.Prelude.{◌≡◌, ◌⊎◌, ℕ, ◌≤◌, List, [], ◌∷◌, ◌++◌, if◌then◌else◌, Option, Some, None, Err, Ok, ⊤}
+use Rattle.std.specs.List.{list_any}
+use Rattle.log_disk.specs.Disk.{Disk, Told, HasRisen, SameBeside, OnlyFails, IsImageNow, IsImageSince, clock_of}
+use Rattle.fine_model.specs.declared.Row.{Row}
 use Rattle.fine_model.specs.declared.ScriptTxn.{ScriptTxn}
+use Rattle.fine_model.specs.declared.Outcome.{Outcome}
 use Rattle.fine_model.specs.declared.RunFault.{RunFault}
 use Rattle.fine_model.specs.declared.RunFault.TheVariants as run_fault
-use Rattle.fine_model.specs.declared.Damage.TheVariants as damage
+use Rattle.fine_model.specs.declared.Damage.{Damage}
 use Rattle.fine_model.specs.declared.Reason.{Reason}
 use Rattle.fine_model.specs.declared.Reason.TheVariants as reason
 use Rattle.fine_model.specs.declared.Ran.{Ran}
+use Rattle.fine_model.specs.Outcomes.{is_refused}
+use Rattle.fine_model.specs.History.{Commit, last_epoch}
+use Rattle.fine_model.specs.Trees.{IsSound}
+use Rattle.fine_model.specs.Chain.{Shows}
+use Rattle.fine_model.specs.Headline.{IsRun, RunTheorem}
 use Rattle.fine_model.specs.Script.{many, too_long, bad_line}
 use Rattle.fine_model.specs.Reach.{reached_script_of}
-use Rattle.fine_model.specs.Regions.{is_sealed, region_of}
-use Rattle.fine_model.specs.Report.{reason_bytes, report}
+use Rattle.fine_model.specs.Report.{all_outcomes, reason_bytes, report}
 use Rattle.script_text.specs.Streams.{Puts}
 use Rattle.script_text.specs.declared.read.ScriptFault.{ScriptFault}
 use Rattle.script_text.specs.declared.read.ScriptFault.TheVariants as fault
-use Rattle.fine_top.specs.Gates.{IsFirstSealed}
-use Rattle.fine_top.specs.FirstPath.{IsRunOf}
 
 -- a call ends before anything is run, for a reason, or with a script that was run
 pub data Ended : Type 0 where
@@ -28,22 +33,26 @@ unfoldable pub text_of : Ended → List ℕ
 text_of (early r) = reason_bytes r
 text_of (ran script r) = report script r
 
-abbrev pub fault_status : Option RunFault → ℕ
-fault_status None = 0
-fault_status (Some run_fault.Memory) = 1
-fault_status (Some run_fault.Disk) = 6
-fault_status (Some (run_fault.Damaged what)) = 7
+abbrev pub fault_status : RunFault → ℕ
+fault_status run_fault.Memory = 1
+fault_status run_fault.Disk = 6
+fault_status (run_fault.Damaged what) = 7
+
+-- the status of a run: that of its fault, or whether a transaction was refused
+abbrev pub run_status : List Outcome → Option RunFault → ℕ
+run_status outcomes None = if list_any is_refused outcomes then 8 else 0
+run_status outcomes (Some fault) = fault_status fault
 
 abbrev pub reason_status : Reason → ℕ
 reason_status reason.Words = 2
 reason_status (reason.Script n) = 3
 reason_status reason.Source = 4
-reason_status (reason.Fault fault) = fault_status (Some fault)
+reason_status (reason.Fault fault) = fault_status fault
 
 -- the status of a call whose text was written
 abbrev pub status_of : Ended → ℕ
 status_of (early r) = reason_status r
-status_of (ran script r) = fault_status r.fault
+status_of (ran script r) = run_status r.outcomes r.fault
 
 -- the reason for which a script was not read
 abbrev pub reason_of : ScriptFault → Reason
@@ -66,48 +75,79 @@ abbrev pub IsRefusedAt : ℕ → List ℕ → Type 0
 IsRefusedAt n bytes =
     (reached_script_of bytes ≡ Err (many n)) ⊎ (reached_script_of bytes ≡ Err (too_long n)) ⊎ (reached_script_of bytes ≡ Err (bad_line n))
 
--- A fault before the run: of a disk that failed, or of a log with a sealed region, of which the lowest is named at its
--- gate, since reading a log comes later.
-abbrev pub NamesSealed : Option (List ℕ) → Disk → RunFault → Type 0
-NamesSealed left disk run_fault.Memory = ⊤
-NamesSealed left disk run_fault.Disk = OfTold left SpellsScript
-NamesSealed left disk (run_fault.Damaged (damage.Region region at)) =
-    (at ≡ 0) × IsFirstSealed (Some region) disk × OfTold left SpellsScript
-NamesSealed left disk (run_fault.Damaged what) = ⊥
+-- ---- what a run was
 
--- why a call ends before anything is run: `words` says that they are those of the command, `left` are the script's bytes
-abbrev pub IsReason : Type 0 → Option (List ℕ) → Disk → Reason → Type 0
-IsReason words left disk reason.Words = words → ⊥
-IsReason words left disk (reason.Script n) = words × OfTold left (IsRefusedAt n)
-IsReason words left disk reason.Source = words
-IsReason words left disk (reason.Fault fault) = words × NamesSealed left disk fault
+-- What a run on a log that shows epoch e and these rows gave: its outcomes are those of one history, which every image keeps as far
+-- as it is durable; where no fault ended it, all of it is.
+pub record IsRunOn (region_len : ℕ) (before after : Told) (script : List ScriptTxn) (ran : Ran) (e : ℕ) (rows : List Row) : Type 0 where
+  pub history : List Commit
+  pub run : IsRun (record { script = Ok script; region_len = region_len; e = e; rows = rows }) (IsImageSince (clock_of before) after) (IsImageNow after) script (all_outcomes script ran.outcomes) ran.durable history
+  pub all_durable : ran.fault ≡ None → ran.durable ≡ last_epoch e history
 
--- a script may be run: the words are those of the command, it is what the bytes spell, and no region is sealed
-pub record MayRun (are_words : Type 0) (left : Option (List ℕ)) (disk : Disk) (script : List ScriptTxn) : Type 0 where
-  pub words : are_words
+-- what it was on every sound log that the disk showed, where it tells its bytes
+abbrev pub IsRunOfTold : ℕ → Option Told → Option Told → List ScriptTxn → Ran → Type 0
+IsRunOfTold region_len (Some before) (Some after) script r =
+    (e : ℕ) (rows : List Row) → Shows region_len before.bytes e rows → IsSound rows → IsRunOn region_len before after script r e rows
+IsRunOfTold region_len _ _ script r = ⊤
+
+-- a run between two states of the disk
+pub record IsRunOf (old new : Disk) (script : List ScriptTxn) (ran : Ran) : Type 0 where
+  pub beside : SameBeside old new
+  pub no_damage : (what : Damage) → ran.fault ≡ Some (run_fault.Damaged what) → ⊥
+  pub failed : ran.fault ≡ Some run_fault.Disk → HasRisen old.faults new.faults × HasRisen old.own_faults new.own_faults
+  pub not_failed : ran.fault ≡ None → (new.faults ≡ old.faults) × (new.own_faults ≡ old.own_faults)
+  pub no_lower : (old.faults ≤ new.faults) × (old.own_faults ≤ new.own_faults)
+  pub told : IsRunOfTold old.region_len old.told new.told script ran
+
+-- ---- how a call ended
+
+-- why a call ends before anything is run: `words` says that they are those of the command, `damaged` what is wrong with the log,
+-- and `left` are the script's bytes
+abbrev pub IsReason : Type 0 → (Damage → Type 0) → Option (List ℕ) → Reason → Type 0
+IsReason words damaged left reason.Words = words → ⊥
+IsReason words damaged left (reason.Script n) = words × OfTold left (IsRefusedAt n)
+IsReason words damaged left reason.Source = words
+IsReason words damaged left (reason.Fault run_fault.Memory) = words
+IsReason words damaged left (reason.Fault run_fault.Disk) = words × OfTold left SpellsScript
+IsReason words damaged left (reason.Fault (run_fault.Damaged what)) = words × OfTold left SpellsScript × damaged what
+
+-- what an early end leaves of the disk: everything, but for the count of a call that failed
+pub record EndsEarly (r : Reason) (old new : Disk) : Type 0 where
+  pub failed : r ≡ reason.Fault run_fault.Disk → OnlyFails old new
+  pub same : (r ≡ reason.Fault run_fault.Disk → ⊥) → new ≡ old
+
+-- a script may be run: the words are those of the command, it is what the bytes spell, and the log was opened
+pub record MayRun (words opened : Type 0) (left : Option (List ℕ)) (script : List ScriptTxn) : Type 0 where
+  pub are_words : words
   pub spelled : OfTold left (λ bytes. reached_script_of bytes ≡ Ok script)
-  pub new_log : IsFirstSealed None disk
+  pub is_opened : opened
 
-abbrev pub IsEnd : Type 0 → Option (List ℕ) → Disk → Ended → Type 0
-IsEnd words left disk (early r) = IsReason words left disk r
-IsEnd words left disk (ran script r) = MayRun words left disk script × IsRunOf script r
+abbrev pub IsEnd : Type 0 → Type 0 → (Damage → Type 0) → Option (List ℕ) → Disk → Disk → Ended → Type 0
+IsEnd words opened damaged left old new (early r) = IsReason words damaged left r × EndsEarly r old new
+IsEnd words opened damaged left old new (ran script r) = MayRun words opened left script × IsRunOf old new script r
 
 -- How a call ended: its whole text was written and the status is the end's, or the output failed and the status is 5.
-pub record Ends (words : Type 0) (left : Option (List ℕ)) (disk : Disk) (status : ℕ) (old new : Option (List ℕ)) : Type 0 where
+pub record Ends (words opened : Type 0) (damaged : Damage → Type 0) (left : Option (List ℕ)) (old new : Disk) (status : ℕ) (was now : Option (List ℕ)) : Type 0 where
   pub ended : Ended
-  pub is_end : IsEnd words left disk ended
+  pub is_end : IsEnd words opened damaged left old new ended
   pub status_is : (status ≡ 5) ⊎ (status ≡ status_of ended)
-  pub printed : Puts (text_of ended) (status ≡ 5) old new
+  pub printed : Puts (text_of ended) (status ≡ 5) was now
+
+-- ---- words of clauses
 
 -- the grammar refuses the script
 abbrev pub IsRefused : List ℕ → Type 0
 IsRefused bytes = (n : ℕ) × IsRefusedAt n bytes
 
--- some region is sealed; nothing is said of a disk that tells no bytes
-abbrev pub HasSealed : Disk → Type 0
-HasSealed disk = IfSome disk.told (λ told. (region : ℕ) × (region < disk.regions) × (is_sealed (region_of told.bytes region) ≡ true))
-
 -- a status is one of these
 abbrev pub OneOf : List ℕ → ℕ → Type 0
 OneOf [] status = ⊥
 OneOf (s ∷ ss) status = (status ≡ s) ⊎ OneOf ss status
+
+-- The theorem of a run: on every sound log that the program reaches, where script, disk and output are told.
+pub record RunsWell (damaged : Damage → Type 0) (left : Option (List ℕ)) (old new : Disk) (status : ℕ) (was now : Option (List ℕ)) : Type 0 where
+  pub holds : (bytes first : List ℕ) (before after : Told) (e : ℕ) (rows : List Row) → left ≡ Some bytes → was ≡ Some first → old.told ≡ Some before → new.told ≡ Some after
+      → Shows old.region_len before.bytes e rows → IsSound rows → ((what : Damage) → damaged what → ⊥)
+      → (written : List ℕ) × (now ≡ Some (first ++ written))
+      × RunTheorem (record { script = reached_script_of bytes; region_len = old.region_len; e = e; rows = rows }) (IsImageSince (clock_of before) after) (IsImageNow after)
+      (HasRisen old.own_faults new.own_faults) (clock_of after ≡ clock_of before) (new ≡ old) status written

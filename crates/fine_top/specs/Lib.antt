@@ -1,4 +1,6 @@
-pub mod Gates
 pub mod Words
-pub mod FirstPath
+pub mod Running
+pub mod Steps
+pub mod Opened
+pub mod Opening
 pub mod Ends

@@ -1,15 +1,12 @@
 //! The store as one call: from the bytes of a script to the bytes of a report, over a log on a disk.
 #![tactic(auto)]
 
-mod entry;
-mod gates;
-mod partition;
-mod rows;
+mod opening;
 mod run;
-mod seal;
 #[cfg(test)]
 mod tests;
 mod top;
+mod txn;
 mod words;
 
 pub use top::{Finish, fineline};

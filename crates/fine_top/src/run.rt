@@ -1,108 +1,129 @@
-//! The run of a script over a new log.
+//! The run of a script: its transactions, one after another.
 
-ghost use Rattle.std.specs.Prelude.{◌≡◌, ℕ, ◌≤◌, [], ◌∷◌, length, vec_len, IsTrue, IfOk, None, Some};
+ghost use Rattle.std.specs.Prelude.{◌≡◌, ◌≤◌, true, false, length, replicate, IfOk, IfErr, OnOk, IsTrue, MatchResult};
 ghost use Rattle.std.specs.List.{AllByRecursion};
-ghost use Rattle.log_disk.specs.Disk.{CountsOwn, SameBeside};
-ghost use Rattle.fine_model.specs.Bounds.{FitsScript, FitsTxn};
-ghost use Rattle.fine_model.specs.Reach.{IsTaken, is_simple_txn};
+ghost use Rattle.fine_model.specs.Bounds.{FitsTxn};
+ghost use Rattle.fine_model.specs.Reach.{is_simple_txn};
 ghost use Rattle.fine_model.specs.declared.Outcome.TheVariants as outcome;
 ghost use Rattle.fine_model.specs.declared.RunFault.TheVariants as run_fault;
-ghost use Rattle.fine_top.specs.FirstPath.{Commits, CommitsNothing, IsPrepared, IsRunOf};
+ghost use Rattle.epoch_room.specs.Meaning.{GoesOnStanding};
+ghost use Rattle.epoch_room.specs.Whole.{IsWhole};
+ghost use Rattle.fine_top.specs.Steps.{RunsTo, IsFine, CountsFailure, FailsToSeal, SealsRest, IsFaultOf, EndsRun, RunsScript};
 
-use crate::entry::first_entry;
-use crate::partition::encode;
-use crate::seal::seal_region;
-use fine_model::{Items, NoMemory, Outcome, Outcomes, Ran, Range, RunFault, Script, ScriptTxn};
-use log_disk::{DiskRefusal, LogDisk};
+use crate::txn::{run_txn, seal_epoch};
+use epoch_room::Room;
+use fine_model::{Items, NoMemory, Outcome, Outcomes, Ran, RunFault, Script};
+use leaf_store::Leaves;
+use log_disk::LogDisk;
 use std::alloc::Global;
 
-/// The region of the first epoch.
-const FIRST_REGION: u32 = 0;
-
-/// The epochs of its partition.
-const FIRST_EPOCH: Range = Range { first: 1, last: 1 };
-
-/// A commit that is not on the disk yet.
-#[derive(Drop)]
-struct Prepared {
-    outcomes: Outcomes,
-    partition: Vec<u8>,
-}
-
-/// The one commit of a script, and the partition of its epoch.
-fn prepare(alloc: Global, txn: &ScriptTxn, region_len: u64) -> Result<Prepared, NoMemory>
-    requires reach { IsTrue (is_simple_txn txn.now) }
-    requires fits { FitsTxn txn.now }
-    ensures committed { IfOk result (λ p. IsPrepared txn.now p.outcomes) }
-    ensures fits { IfOk result (λ p. vec_len p.partition ≤ 11432) }
+/// The outcomes of transactions of which none was run yet.
+fn none_run(alloc: Global, count: usize) -> Result<Outcomes, NoMemory>
+    ensures { IfOk result (λ outcomes. outcomes ≡ replicate count outcome.NotRun) }
 {
-    let entry = first_entry(alloc, txn)?;
-    let partition = encode(alloc, FIRST_EPOCH, &entry.rows, region_len)?;
     let mut outcomes = Items::new(alloc);
-    outcomes.push(Outcome::Committed {
-        place: 1,
-        epoch: 1,
-        entry,
-    })?;
-    Ok(Prepared {
+    for _ in 0..count {
+        outcomes.push(Outcome::NotRun)?;
+    }
+    Ok(outcomes)
+}
+
+/// Runs the transactions in their order, up to the first fault.
+fn run_txns<D: LogDisk>(
+    alloc: Global,
+    room: &mut Room<D>,
+    leaves: &mut Leaves,
+    script: &Script,
+    outcomes: &mut Outcomes,
+) -> Result<(), RunFault>
+    requires open { room.old.room.is_shut ≡ false }
+    requires no_place { room.old.room.places ≡ 0 }
+    requires reach { AllByRecursion (λ t. IsTrue (is_simple_txn t)) script.now }
+    requires fits { AllByRecursion FitsTxn script.now }
+    requires few { length script.now ≤ 64 }
+    requires none { outcomes.old ≡ replicate (length script.now) outcome.NotRun }
+    ensures run { RunsTo script.now room.old room.new leaves.old leaves.new outcomes.new }
+    ensures ok { OnOk result (IsFine room.old room.new) }
+    ensures err { IfErr result (λ fault. CountsFailure fault room.old room.new) }
+{
+    for i in 0..script.len() {
+        let outcome = run_txn(alloc, room, leaves, script.at(i), i as u32 + 1)?;
+        outcomes.replace(i, outcome);
+    }
+    Ok(())
+}
+
+/// Seals the open epoch, if it has an entry.
+fn seal_rest<D: LogDisk>(room: &mut Room<D>) -> Result<(), RunFault>
+    requires open { room.old.room.is_shut ≡ false }
+    ensures ok { OnOk result (SealsRest room.old room.new) }
+    ensures err { IfErr result (FailsToSeal room.old room.new) }
+    ensures stands { GoesOnStanding room.old room.new }
+{
+    if room.counts().waiting == 0 {
+        return Ok(());
+    }
+    seal_epoch(room)
+}
+
+/// Whether a fault is want of memory.
+fn is_memory(fault: RunFault) -> bool
+    ensures memory { result ≡ true → fault ≡ run_fault.Memory }
+    ensures other { result ≡ false → fault ≡ run_fault.Memory → ⊥ }
+{
+    matches!(fault, RunFault::Memory)
+}
+
+/// How a run ends: what was committed is sealed, unless the disk failed before. Want of memory goes before a failure of the disk.
+fn end_run<D: LogDisk>(room: &mut Room<D>, ran: Result<(), RunFault>) -> Option<RunFault>
+    requires open { OnOk ran (room.old.room.is_shut ≡ false) }
+    requires fault { IfErr ran (IsFaultOf room.old) }
+    ensures { EndsRun ran room.old room.new result }
+{
+    match ran {
+        Ok(()) => match seal_rest(room) {
+            Ok(()) => None,
+            Err(fault) => Some(fault),
+        },
+        Err(fault) => {
+            if is_memory(fault) {
+                let _sealed = seal_rest(room);
+                return Some(RunFault::Memory);
+            }
+            Some(fault)
+        }
+    }
+}
+
+/// Runs a script. A fault of the disk, or want of memory, ends the run where it comes, and the transactions from there on are not
+/// run. What was committed is sealed at the end.
+pub fn run_script<D: LogDisk>(
+    alloc: Global,
+    room: &mut Room<D>,
+    leaves: &mut Leaves,
+    script: &Script,
+) -> Ran
+    requires open { room.old.room.is_shut ≡ false }
+    requires no_place { room.old.room.places ≡ 0 }
+    requires none_waits { room.old.room.waiting ≡ 0 }
+    requires reach { AllByRecursion (λ t. IsTrue (is_simple_txn t)) script.now }
+    requires fits { AllByRecursion FitsTxn script.now }
+    requires few { length script.now ≤ 64 }
+    ensures ran { RunsScript script.now room.old room.new leaves.old leaves.new result }
+    ensures whole { IsWhole room.new }
+{
+    let Ok(mut outcomes) = none_run(alloc, script.len()) else {
+        return Ran {
+            outcomes: Items::new(alloc),
+            durable: room.counts().sealed,
+            fault: Some(RunFault::Memory),
+        };
+    };
+    let ran = run_txns(alloc, room, leaves, script, &mut outcomes);
+    let fault = end_run(room, ran);
+    Ran {
         outcomes,
-        partition,
-    })
-}
-
-/// A run that committed nothing.
-fn nothing(alloc: Global, fault: Option<RunFault>) -> Ran
-    ensures { CommitsNothing fault result }
-{
-    Ran {
-        outcomes: Items::new(alloc),
-        durable: 0,
+        durable: room.counts().sealed,
         fault,
     }
-}
-
-/// Commits a script's one transaction, and seals its epoch in the first region.
-pub fn run_txn<D: LogDisk>(alloc: Global, txn: &ScriptTxn, disk: &mut D) -> Ran
-    requires reach { IsTrue (is_simple_txn txn.now) }
-    requires fits { FitsTxn txn.now }
-    requires regions { 1 ≤ (D.state disk.old).regions }
-    requires region_len { 16384 ≤ (D.state disk.old).region_len }
-    requires no_eyes { (D.state disk.old).eyes ≡ [] }
-    ensures run { IsRunOf (txn.now ∷ []) result }
-    ensures beside { SameBeside (D.state disk.old) (D.state disk.new) }
-    ensures counts { CountsOwn (result.fault ≡ Some run_fault.Disk) (D.state disk.old) (D.state disk.new) }
-{
-    let Ok(prepared) = prepare(alloc, txn, disk.region_len()) else {
-        return nothing(alloc, Some(RunFault::Memory));
-    };
-    let sealed = seal_region(disk, FIRST_REGION, prepared.partition.as_slice());
-    let fault = match sealed {
-        Ok(()) => None,
-        Err(DiskRefusal::Failed) => Some(RunFault::Disk),
-        Err(DiskRefusal::NoMemory) => Some(RunFault::Memory),
-    };
-    Ran {
-        outcomes: prepared.outcomes,
-        durable: if fault.is_none() { 1 } else { 0 },
-        fault,
-    }
-}
-
-/// Runs a script on a new log. An empty script writes nothing.
-#[tactic(auto, unfolding(fine_model::specs::Reach::is_in_reach))]
-pub fn run_script<D: LogDisk>(alloc: Global, script: &Script, disk: &mut D) -> Ran
-    requires reach { IsTaken script.now }
-    requires fits { FitsScript script.now }
-    requires regions { 1 ≤ (D.state disk.old).regions }
-    requires region_len { 16384 ≤ (D.state disk.old).region_len }
-    requires no_eyes { (D.state disk.old).eyes ≡ [] }
-    ensures run { IsRunOf script.now result }
-    ensures empty { script.now ≡ [] → D.state disk.new ≡ D.state disk.old }
-    ensures beside { SameBeside (D.state disk.old) (D.state disk.new) }
-    ensures counts { CountsOwn (result.fault ≡ Some run_fault.Disk) (D.state disk.old) (D.state disk.new) }
-{
-    if script.len() == 0 {
-        return nothing(alloc, None);
-    }
-    run_txn(alloc, script.at(0), disk)
 }

@@ -1,28 +1,35 @@
 //! The top call.
 
-ghost use Rattle.std.specs.Prelude.{◌≡◌, ◌⊎◌, ◌↔◌, ℕ, ◌+◌, ◌*◌, ◌%◌, ◌<◌, ◌≤◌, [], ◌∷◌, length, IsTrue, IfOk, OnOk, OnErr, IfErr, IfSome, Option, Some, None, Ok, Err};
-ghost use Rattle.log_disk.specs.Disk.{CountsOwn, Disk, HasRisen, OnlyFails, SameBeside};
+ghost use Rattle.std.specs.Prelude.{◌≡◌, ◌⊎◌, ◌<◌, ◌≤◌, [], ◌∷◌, length, IsTrue};
+ghost use Rattle.std.specs.List.{AllByRecursion, list_any};
+ghost use Rattle.log_disk.specs.Disk.{Disk, HasRisen, SameBeside, IsSound as IsSoundDisk};
+ghost use Rattle.epoch_room.specs.Whole.{IsIdle};
 ghost use Rattle.fine_model.specs.Bounds.{FitsScript};
-ghost use Rattle.fine_model.specs.Reach.{IsTaken, reached_script_of};
-ghost use Rattle.fine_model.specs.Script.{Reading};
-ghost use Rattle.fine_model.specs.declared.Reason.TheVariants as reason;
-ghost use Rattle.fine_model.specs.declared.RunFault.TheVariants as run_fault;
-ghost use Rattle.fine_top.specs.Ends.{Ends, HasSealed, IsReason, IsRefused, MayRun, OfTold, OneOf, fault_status, reason_of, reason_status};
-ghost use Rattle.fine_top.specs.Gates.{IsFirstSealed};
+ghost use Rattle.fine_model.specs.declared.Damage.{Damage};
+ghost use Rattle.fine_model.specs.Outcomes.{is_refused};
+ghost use Rattle.fine_model.specs.Reach.{is_simple_txn};
+ghost use Rattle.fine_model.specs.Report.{reason_bytes, report};
+ghost use Rattle.script_text.specs.Streams.{Puts};
+ghost use Rattle.reopen.specs.Opening.{SeesChain};
+ghost use Rattle.fine_top.specs.Ends.{Ends, IsRefused, OfTold, OneOf, RunsWell, fault_status, reason_status, run_status};
+ghost use Rattle.fine_top.specs.Opened.{IsDamagedLog, IsLoadedFrom, IsOpenedLog};
+ghost use Rattle.fine_top.specs.Opening.{EndsRunOf};
 ghost use Rattle.fine_top.specs.Words.{IsGeometry, IsRun};
 
-use crate::gates::first_sealed;
+use crate::opening::{Opened, open_run};
 use crate::run::run_script;
-use crate::words::is_run;
-use fine_model::{Damage, Gate, Ran, Reason, RunFault, Script};
+use epoch_room::Room;
+use fine_model::{Gate, Outcome, Ran, Reason, RunFault, Script};
 use log_disk::LogDisk;
-use script_text::{ScriptFault, Sink, Source, read_script, write_reason, write_report};
+use script_text::{Sink, Source, write_reason, write_report};
 use std::alloc::Global;
 use std::sync::Wait;
 use std::thread::Threads;
 
-/// The status where the output failed.
+/// The status where the output failed, and where a transaction was refused.
 const OUTPUT_FAILED: u8 = 5;
+
+const REFUSED: u8 = 8;
 
 /// What a call of the program leaves: its status, and the disk with all eyes closed.
 #[derive(Drop)]
@@ -31,15 +38,43 @@ pub struct Finish<D> {
     pub disk: D,
 }
 
-/// The status of a call that a fault ended, or of one that was done.
-fn fault_status(fault: Option<RunFault>) -> u8
+/// The status of a fault.
+fn fault_status(fault: RunFault) -> u8
     ensures { result ≡ fault_status fault }
 {
     match fault {
-        None => 0,
-        Some(RunFault::Memory) => 1,
-        Some(RunFault::Disk) => 6,
-        Some(RunFault::Damaged { .. }) => 7,
+        RunFault::Memory => 1,
+        RunFault::Disk => 6,
+        RunFault::Damaged { .. } => 7,
+    }
+}
+
+fn is_refused(outcome: &Outcome) -> bool
+    ensures { result ≡ is_refused outcome.now }
+{
+    matches!(outcome, Outcome::Refused { .. })
+}
+
+/// Whether a transaction was refused.
+fn has_refused(outcomes: &[Outcome]) -> bool
+    ensures { result ≡ list_any is_refused outcomes.now }
+{
+    outcomes.iter().any(|outcome| is_refused(outcome))
+}
+
+/// The status of a run: that of its fault, or whether a transaction was refused.
+fn run_status(ran: &Ran) -> u8
+    ensures { result ≡ run_status ran.now.outcomes ran.now.fault }
+{
+    match ran.fault {
+        Some(fault) => fault_status(fault),
+        None => {
+            if has_refused(ran.outcomes.as_slice()) {
+                REFUSED
+            } else {
+                0
+            }
+        }
     }
 }
 
@@ -51,58 +86,66 @@ fn reason_status(reason: Reason) -> u8
         Reason::Words => 2,
         Reason::Script { .. } => 3,
         Reason::Source => 4,
-        Reason::Fault { fault } => fault_status(Some(fault)),
+        Reason::Fault { fault } => fault_status(fault),
     }
 }
 
-/// The reason for which a script was not read.
-fn reason_of(fault: ScriptFault) -> Reason
-    ensures { result ≡ reason_of fault }
+/// Prints the line of a reason, and tells the status.
+fn print_reason<K: Sink>(out: &mut K, reason: Reason) -> u8
+    ensures status { (result ≡ 5) ⊎ (result ≡ reason_status reason) }
+    ensures puts { Puts (reason_bytes reason) (result ≡ 5) (K.written out.old) (K.written out.new) }
+    ensures failed { result ≡ 5 → HasRisen (K.faults out.old) (K.faults out.new) }
 {
-    match fault {
-        ScriptFault::Many { line } | ScriptFault::TooLong { line } | ScriptFault::Bad { line } => {
-            Reason::Script { line }
+    match write_reason(out, reason) {
+        Ok(()) => reason_status(reason),
+        Err(_) => OUTPUT_FAILED,
+    }
+}
+
+/// Prints the report of a run, and tells the status.
+fn print_report<K: Sink>(out: &mut K, script: &Script, ran: &Ran) -> u8
+    ensures status { (result ≡ 5) ⊎ (result ≡ run_status ran.now.outcomes ran.now.fault) }
+    ensures puts { Puts (report script.now ran.now) (result ≡ 5) (K.written out.old) (K.written out.new) }
+    ensures failed { result ≡ 5 → HasRisen (K.faults out.old) (K.faults out.new) }
+{
+    match write_report(out, script, ran) {
+        Ok(()) => run_status(ran),
+        Err(_) => OUTPUT_FAILED,
+    }
+}
+
+/// Runs a script on a log that was opened, and prints the report.
+fn run_opened<K: Sink, D: LogDisk>(alloc: Global, opened: Opened, out: &mut K, disk: D) -> Finish<D>
+    requires idle { IsIdle (D.state disk) }
+    requires sees { SeesChain (D.state disk) opened.log.chain }
+    requires loaded { IsLoadedFrom (D.state disk) opened.log.leaves }
+    requires reach { AllByRecursion (λ t. IsTrue (is_simple_txn t)) opened.script }
+    requires fits { FitsScript opened.script }
+    requires few { length opened.script ≤ 64 }
+    ensures ends { EndsRunOf opened.script (D.state disk) (D.state result.disk) result.status (K.written out.old) (K.written out.new) }
+    ensures failed { result.status ≡ 5 → HasRisen (K.faults out.old) (K.faults out.new) }
+{
+    let script = opened.script;
+    let chain = opened.log.chain;
+    let mut leaves = opened.log.leaves;
+    match Room::make(alloc, disk, chain.parts, chain.retired) {
+        Ok(mut room) => {
+            let ran = run_script(alloc, &mut room, &mut leaves, &script);
+            let status = print_report(out, &script, &ran);
+            Finish {
+                status,
+                disk: room.into_disk(),
+            }
         }
-        ScriptFault::Read => Reason::Source,
-        ScriptFault::NoMemory => Reason::Fault {
-            fault: RunFault::Memory,
+        Err((_, disk)) => Finish {
+            status: print_reason(
+                out,
+                Reason::Fault {
+                    fault: RunFault::Memory,
+                },
+            ),
+            disk,
         },
-    }
-}
-
-/// Reads the words and the script, and looks whether the log is a new one.
-fn open_run<S: Source, D: LogDisk>(
-    alloc: Global,
-    words: &[String],
-    source: &mut S,
-    disk: &mut D,
-) -> Result<Script, Reason>
-    requires { 1 ≤ (D.state disk.old).region_len }
-    ensures may_run { IfOk result (MayRun (IsRun words.now) (S.left source.old) (D.state disk.old)) }
-    ensures reason { IfErr result (IsReason (IsRun words.now) (S.left source.old) (D.state disk.old)) }
-    ensures fits { IfOk result FitsScript }
-    ensures reach { IfOk result IsTaken }
-    ensures source_failed { result ≡ Err reason.Source → HasRisen (S.faults source.old) (S.faults source.new) }
-    ensures disk_failed { result ≡ Err (reason.Fault run_fault.Disk) → OnlyFails (D.state disk.old) (D.state disk.new) }
-    ensures disk_same { (result ≡ Err (reason.Fault run_fault.Disk) → ⊥) → D.state disk.new ≡ D.state disk.old }
-{
-    if !is_run(words) {
-        return Err(Reason::Words);
-    }
-    let script = match read_script(alloc, source) {
-        Ok(script) => script,
-        Err(fault) => return Err(reason_of(fault)),
-    };
-    match first_sealed(disk) {
-        Ok(None) => Ok(script),
-        Ok(Some(region)) => Err(Reason::Fault {
-            fault: RunFault::Damaged {
-                what: Damage::Region { region, at: 0 },
-            },
-        }),
-        Err(_) => Err(Reason::Fault {
-            fault: RunFault::Disk,
-        }),
     }
 }
 
@@ -112,44 +155,36 @@ fn run_command<S: Source, K: Sink, D: LogDisk>(
     words: &[String],
     script: &mut S,
     out: &mut K,
-    disk: &mut D,
-) -> u8
-    requires regions { 1 ≤ (D.state disk.old).regions }
-    requires region_len { 16384 ≤ (D.state disk.old).region_len }
-    requires no_eyes { (D.state disk.old).eyes ≡ [] }
-    ensures ends { Ends (IsRun words.now) (S.left script.old) (D.state disk.old) result (K.written out.old) (K.written out.new) }
-    ensures source_failed { result ≡ 4 → HasRisen (S.faults script.old) (S.faults script.new) }
-    ensures output_failed { result ≡ 5 → HasRisen (K.faults out.old) (K.faults out.new) }
-    ensures disk_failed { result ≡ 6 → HasRisen (D.state disk.old).faults (D.state disk.new).faults }
-    ensures disk_told { (D.state disk.old).faults < (D.state disk.new).faults → (result ≡ 6) ⊎ (result ≡ 5) }
-    ensures untouched { (result ≡ 2) ⊎ (result ≡ 3) ⊎ (result ≡ 4) ⊎ (result ≡ 7) → D.state disk.new ≡ D.state disk.old }
-    ensures empty { OfTold (S.left script.old) (λ bytes. reached_script_of bytes ≡ Ok [] → result ≡ 0 → D.state disk.new ≡ D.state disk.old) }
-    ensures beside { SameBeside (D.state disk.old) (D.state disk.new) }
+    disk: D,
+) -> Finish<D>
+    requires idle { IsIdle (D.state disk) }
+    ensures ends { Ends (IsRun words.now) (IsOpenedLog (D.state disk)) (IsDamagedLog (D.state disk)) (S.left script.old) (D.state disk) (D.state result.disk) result.status (K.written out.old) (K.written out.new) }
+    ensures sound { IsSoundDisk (D.state disk) }
+    ensures source_failed { result.status ≡ 4 → HasRisen (S.faults script.old) (S.faults script.new) }
+    ensures output_failed { result.status ≡ 5 → HasRisen (K.faults out.old) (K.faults out.new) }
 {
-    match open_run(alloc, words, script, disk) {
-        Err(reason) => match write_reason(out, reason) {
-            Ok(()) => reason_status(reason),
-            Err(_) => OUTPUT_FAILED,
+    let mut disk = disk;
+    // A disk that tells its geometry is a sound one.
+    let _regions = disk.regions();
+    match open_run(alloc, words, script, &mut disk) {
+        Ok(opened) => run_opened(alloc, opened, out, disk),
+        Err(reason) => Finish {
+            status: print_reason(out, reason),
+            disk,
         },
-        Ok(script) => {
-            let ran = run_script(alloc, &script, disk);
-            match write_report(out, &script, &ran) {
-                Ok(()) => fault_status(ran.fault),
-                Err(_) => OUTPUT_FAILED,
-            }
-        }
     }
 }
 
 /// Runs a command of the program: the words, the script, the opening, the run and the printing, in this order.
 ///
-/// For now the words are the one word `run`, the log is a new one, and the script has at most one transaction, of lane 1, with
-/// reads and at most 32 puts. It commits in epoch 1, which is sealed in region 0; an empty script writes nothing.
+/// For now the words are the one word `run`, the log has puts into root leaves alone, and the script has at most 64 transactions of
+/// lane 1, which read, put and commit, with at most 32 puts in all.
 ///
-/// The status is 0 where the run was done; 2 for other words; 3 for a script with a refused line; 4 where the source failed; 6
-/// where the disk failed; 7 where a region is sealed; 1 where memory ran out. With 0 the report is printed, and with 1 and 6 as
-/// far as the run came, with the reason's line behind it; else the reason's line alone. Where the text cannot be written whole,
-/// the status is 5. The disk comes back with every status; with 2, 3, 4 and 7 it is untouched.
+/// The status is 0 where the run was done, and 8 where it was done and some transaction was refused; 2 for other words; 3 for a
+/// script with a refused line; 4 where the source failed; 6 where the disk failed; 7 where the log is damaged, or is none that this
+/// store takes; 1 where memory ran out. With 0 and 8 the report is printed, and with 1 and 6 as far as the run came, with the reason's
+/// line behind it; else the reason's line alone. Where the text cannot be written whole, the status is 5. The disk comes back with
+/// every status; with 2, 3, 4 and 7 it is untouched.
 pub fn fineline<R: Threads + Wait + Sync, S: Source, K: Sink, D: LogDisk, G: Gate>(
     rt: &R,
     alloc: Global,
@@ -164,35 +199,36 @@ pub fn fineline<R: Threads + Wait + Sync, S: Source, K: Sink, D: LogDisk, G: Gat
     requires no_eyes { (D.state disk).eyes ≡ [] }
 
     // What is printed, and why.
-    ensures ends { Ends (IsRun words.now) (S.left script.old) (D.state disk) result.status (K.written out.old) (K.written out.new) }
+    ensures ends { Ends (IsRun words.now) (IsOpenedLog (D.state disk)) (IsDamagedLog (D.state disk)) (S.left script.old) (D.state disk) (D.state result.disk) result.status (K.written out.old) (K.written out.new) }
+
+    // The printed places order the committed transactions into one history of a sequential store, and every image that a crash could
+    // have left reopens to a prefix of it.
+    ensures run { RunsWell (IsDamagedLog (D.state disk)) (S.left script.old) (D.state disk) (D.state result.disk) result.status (K.written out.old) (K.written out.new) }
 
     // Status 2 comes exactly for other words, unless the output fails.
     ensures words { result.status ≡ 2 → IsRun words.now → ⊥ }
-    ensures other_words { (IsRun words.now → ⊥) → (result.status ≡ 2) ⊎ (result.status ≡ 5) }
+    ensures other_words { (IsRun words.now → ⊥) → OneOf (2 ∷ 5 ∷ []) result.status }
 
     // Status 3 comes exactly for a script that the grammar refuses, unless 1, 4 or 5 comes.
     ensures script { result.status ≡ 3 → OfTold (S.left script.old) IsRefused }
     ensures refused { IsRun words.now → OfTold (S.left script.old) (λ bytes. IsRefused bytes → OneOf (1 ∷ 3 ∷ 4 ∷ 5 ∷ []) result.status) }
 
-    // Status 7 comes exactly where some region is sealed, unless one of 1 to 6 comes.
-    ensures sealed { result.status ≡ 7 → HasSealed (D.state disk) }
-    ensures new_log { result.status ≡ 0 → IsFirstSealed None (D.state disk) }
+    // Status 7 comes for a damaged log alone; with 0 and 8 the log was opened.
+    ensures damaged { result.status ≡ 7 → (what : Damage) × IsDamagedLog (D.state disk) what }
+    ensures opened { OneOf (0 ∷ 8 ∷ []) result.status → IsOpenedLog (D.state disk) }
 
     // The counts of faults that the other statuses need.
     ensures source_failed { result.status ≡ 4 → HasRisen (S.faults script.old) (S.faults script.new) }
     ensures output_failed { result.status ≡ 5 → HasRisen (K.faults out.old) (K.faults out.new) }
     ensures disk_failed { result.status ≡ 6 → HasRisen (D.state disk).faults (D.state result.disk).faults }
-    ensures disk_told { (D.state disk).faults < (D.state result.disk).faults → (result.status ≡ 6) ⊎ (result.status ≡ 5) }
-    ensures known { result.status ≤ 7 }
+    ensures disk_told { (D.state disk).faults < (D.state result.disk).faults → OneOf (1 ∷ 5 ∷ 6 ∷ []) result.status }
+    ensures known { result.status ≤ 8 }
 
     // What stands on the disk.
     ensures untouched { OneOf (2 ∷ 3 ∷ 4 ∷ 7 ∷ []) result.status → D.state result.disk ≡ D.state disk }
-    ensures empty { OfTold (S.left script.old) (λ bytes. reached_script_of bytes ≡ Ok [] → result.status ≡ 0 → D.state result.disk ≡ D.state disk) }
     ensures beside { SameBeside (D.state disk) (D.state result.disk) }
 {
     let _ = rt;
     let _ = gate;
-    let mut disk = disk;
-    let status = run_command(alloc, words, script, out, &mut disk);
-    Finish { status, disk }
+    run_command(alloc, words, script, out, disk)
 }

@@ -1,0 +1,78 @@
+-- A run on a room that was made on a disk is a run between the states of the disk.
+use Rattle.std.proofs.Common.{◌≡◌, ℕ, List, [], refl, sym, ap, ◌∙◌, subst, Option, Some, None, append-nil}
+use Rattle.log_disk.specs.Disk.{Disk, Told}
+use Rattle.fine_model.specs.declared.Row.{Row}
+use Rattle.fine_model.specs.declared.Part.{Part}
+use Rattle.fine_model.specs.declared.ScriptTxn.{ScriptTxn}
+use Rattle.fine_model.specs.declared.Ran.{Ran}
+use Rattle.fine_model.specs.Nodes.{Content}
+use Rattle.fine_model.specs.Trees.{IsSound}
+use Rattle.fine_model.specs.History.{Commit, last_epoch}
+use Rattle.fine_model.specs.Chain.{Shows}
+use Rattle.fine_model.specs.Outcomes.{AreOutcomes}
+use Rattle.fine_model.specs.Headline.{ShowsSome}
+use Rattle.epoch_room.specs.Value.{RoomValue, made}
+use Rattle.epoch_room.specs.Meaning.{Stands, StandsAtFirst, StandsTold, StandsWhere}
+use Rattle.epoch_room.specs.Whole.{IsWhole}
+use Rattle.leaf_store.specs.Leaves.{Holds}
+use Rattle.fine_top.specs.Running.{commits_of}
+use Rattle.fine_top.specs.Steps.{StandsHere, RunsScript}
+use Rattle.fine_top.specs.Opened.{IsLoadedFrom}
+use Rattle.fine_top.specs.Ends.{IsRunOn, IsRunOfTold, IsRunOf}
+use Rattle.fine_top.proofs.Outcomes.{are_outcomes}
+use Rattle.fine_top.proofs.Following.{legal_of, all_sealed}
+
+module _ (disk : Disk) (parts retired : List Part) (new : RoomValue) (leaves after : List Content) (script : List ScriptTxn) (ran : Ran) where
+  abbrev old : RoomValue
+  old = made disk parts retired
+
+  -- what the room stands for at the end of the run
+  stands_told : (r : RunsScript script old new leaves after ran) → StandsAtFirst old disk.told → IsLoadedFrom disk leaves
+      → (before last : Told) (e : ℕ) (rows : List Row) → disk.told ≡ Some before → new.disk.told ≡ Some last → Shows disk.region_len before.bytes e rows → IsSound rows
+      → StandsTold new.room before last rows e (commits_of r.runs_to.done)
+  unfolding Stands
+  stands_told r first loaded before last e rows is_before is_last shows sound =
+      let history : List Commit = commits_of r.runs_to.done in
+      let begun : Stands old rows e [] = subst (StandsAtFirst old) is_before first e rows shows in
+      let here : StandsHere old leaves rows e [] = record { stands = begun; sound = sound; holds = subst (Holds leaves) (sym (append-nil rows)) (loaded.holds before e rows is_before shows) } in
+      let on : StandsHere new after rows e history = r.runs_to.goes_on before is_before rows e [] here in
+      let entry : new.entry.told ≡ Some before = ap (λ d. d.told) r.runs_to.place.entry ∙ is_before in
+      subst (λ t. StandsWhere new.room (Some before) t rows e history) is_last (subst (λ t. StandsWhere new.room t new.disk.told rows e history) entry on.stands)
+
+  run_on : (r : RunsScript script old new leaves after ran) → IsWhole new
+      → (before last : Told) (e : ℕ) (rows : List Row) → StandsTold new.room before last rows e (commits_of r.runs_to.done)
+      → IsRunOn disk.region_len before last script ran e rows
+  run_on r whole before last e rows st =
+      let history : List Commit = commits_of r.runs_to.done in
+      let s = st.stands in
+      let len : new.room.region_len ≡ disk.region_len = whole.region_len ∙ r.runs_to.place.beside.region_len in
+      record {
+        history = history;
+        run = record {
+          one_history = subst (λ os. AreOutcomes script e os history) (sym r.runs_to.outcomes_are) (are_outcomes script e r.runs_to.done r.runs_to.has r.runs_to.numbered r.runs_to.run s.counts.epochs);
+          legal = legal_of rows history s.legal;
+          every_image = λ image since. subst (λ n. ShowsSome n rows history e (last_epoch e history) image) len (s.images.every_image image since);
+          on_return = λ image now.
+              subst (λ d. ShowsSome disk.region_len rows history d (last_epoch e history) image) (sym r.durable)
+              (subst (λ n. ShowsSome n rows history new.room.sealed (last_epoch e history) image) len (s.images.now_sealed image now));
+        };
+        all_durable = λ none. r.durable ∙ all_sealed e history new.room.sealed s.counts.sealed (sym (r.all_sealed none) ∙ st.waiting);
+      }
+
+  told_run : (a b : Option Told)
+      → ((before last : Told) → a ≡ Some before → b ≡ Some last → (e : ℕ) (rows : List Row) → Shows disk.region_len before.bytes e rows → IsSound rows → IsRunOn disk.region_len before last script ran e rows)
+      → IsRunOfTold disk.region_len a b script ran
+  told_run None b h = tt
+  told_run (Some before) None h = tt
+  told_run (Some before) (Some last) h = h before last refl refl
+
+  pub run_of : RunsScript script old new leaves after ran → StandsAtFirst old disk.told → IsLoadedFrom disk leaves → IsWhole new → IsRunOf disk new.disk script ran
+  run_of r first loaded whole = record {
+    beside = r.runs_to.place.beside;
+    no_damage = r.no_damage;
+    failed = r.failed;
+    not_failed = r.not_failed;
+    no_lower = r.runs_to.place.no_lower;
+    told = told_run disk.told new.disk.told
+        (λ before last is_before is_last e rows shows sound. run_on r whole before last e rows (stands_told r first loaded before last e rows is_before is_last shows sound));
+  }

@@ -1,0 +1,275 @@
+-- The theorem of a run, from how the call ended.
+use Rattle.std.proofs.Common.{◌≡◌, ◌⊎◌, inl, inr, ℕ, List, [], ◌++◌, take, drop, refl, sym, ap, ◌∙◌, subst, Option, Some, None, Ok, arith, take-append-drop, Bool, true, false, cond, append-nil}
+use Rattle.std.specs.Prelude.{IfSome}
+use Rattle.std.specs.List.{list_any}
+use Rattle.log_disk.specs.Disk.{Disk, Told, HasRisen, IsToldOf, IsSound as IsSoundDisk, IsImageNow, IsImageSince, clock_of}
+use Rattle.log_disk.proofs.Steps.{all_synced}
+use Rattle.log_disk.proofs.Moments.{only_now}
+use Rattle.fine_model.specs.declared.Row.{Row}
+use Rattle.fine_model.specs.declared.ScriptTxn.{ScriptTxn}
+use Rattle.fine_model.specs.declared.RunFault.{RunFault}
+use Rattle.fine_model.specs.declared.RunFault.TheVariants as run_fault
+use Rattle.fine_model.specs.declared.Damage.{Damage}
+use Rattle.fine_model.specs.declared.Reason.{Reason}
+use Rattle.fine_model.specs.declared.Reason.TheVariants as reason
+use Rattle.fine_model.specs.declared.Ran.{Ran}
+use Rattle.fine_model.specs.Outcomes.{is_refused}
+use Rattle.fine_model.specs.Nodes.{Agrees}
+use Rattle.fine_model.specs.History.{Commit, all_rows, upto, last_epoch}
+use Rattle.fine_model.specs.Trees.{IsSound}
+use Rattle.fine_model.specs.Regions.{Image}
+use Rattle.fine_model.specs.Chain.{Shows}
+use Rattle.fine_model.specs.Outcomes.{AreOutcomes}
+use Rattle.fine_model.specs.Headline.{Start, IsRun, ShowsSome, KeepsEvery, KeepsUpTo, HasStatus, RunDone, RunCutShort, NothingRun, IsFrontOf, ReasonFor, RunTheorem}
+use Rattle.fine_model.specs.Reach.{reached_script_of}
+use Rattle.fine_model.specs.Report.{all_outcomes, reason_bytes, report}
+use Rattle.script_text.specs.Streams.{Puts, behind}
+use Rattle.fine_top.specs.Ends.{Ended, early, ran, text_of, status_of, run_status, IsRunOn, IsRunOf, IsRunOfTold, IsReason, EndsEarly, MayRun, IsEnd, Ends, RunsWell, OfTold, IsRefused}
+use Rattle.fine_model.proofs.NodeLaws.{Agrees-refl}
+use Rattle.fine_top.proofs.Outcomes.{are_outcomes}
+
+-- ---- what was written
+
+-- some first bytes of a text, or all of it
+wrote_all : (text : List ℕ) (failed : Type 0) (was now : Option (List ℕ)) (first : List ℕ) → Puts text failed was now → (failed → ⊥) → was ≡ Some first → now ≡ Some (first ++ text)
+wrote_all text failed was now first p fine is = p.whole fine ∙ ap (λ o. behind o text) is
+
+wrote_front : (text : List ℕ) (failed : Type 0) (was now : Option (List ℕ)) (first : List ℕ) → Puts text failed was now → was ≡ Some first
+    → (written : List ℕ) × (now ≡ Some (first ++ written)) × IsFrontOf written text
+wrote_front text failed was now first p is =
+    let q = p.part in (take q.0 text, q.1 ∙ ap (λ o. behind o (take q.0 text)) is, (drop q.0 text, sym (take-append-drop q.0 text)))
+
+-- ---- a disk that was left as it was
+
+module _ (old : Disk) (before : Told) (e : ℕ) (rows : List Row) (shows : Shows old.region_len before.bytes e rows) (is_told : IsToldOf old before) (synced : old.unsynced ≡ []) where
+  none_upto : (n : ℕ) → all_rows (upto [] n) ≡ []
+  unfolding upto
+  none_upto n = refl
+
+  shows_entry : (image : Image) → IsImageNow before image → ShowsSome old.region_len rows [] e e image
+  shows_entry image now =
+      let same : image ≡ before.bytes = all_synced old before image is_told synced now in
+      record {
+        e = e;
+        rows = rows;
+        shows = subst (λ i. Shows old.region_len i e rows) (sym same) shows;
+        from = omega arith;
+        to = omega arith;
+        agrees = subst (Agrees rows) (sym (ap (λ xs. rows ++ xs) (none_upto e) ∙ append-nil rows)) (Agrees-refl rows);
+      }
+
+  keeps_entry : (image : Image) → IsImageSince (clock_of before) before image → ShowsSome old.region_len rows [] e e image
+  keeps_entry image since = shows_entry image (only_now before image since)
+
+-- ---- the theorem
+
+module _ (words opened : Type 0) (damaged : Damage → Type 0) (left : Option (List ℕ)) (old new : Disk) (status : ℕ) (was now : Option (List ℕ)) where
+  module _ (bytes first : List ℕ) (before after : Told) (e : ℕ) (rows : List Row) (left_is : left ≡ Some bytes) (was_is : was ≡ Some first) (old_is : old.told ≡ Some before)
+      (new_is : new.told ≡ Some after) (shows : Shows old.region_len before.bytes e rows) (sound : IsSound rows) (whole : (what : Damage) → damaged what → ⊥) (is_told : IsToldOf old before)
+      (synced : old.unsynced ≡ []) where
+    abbrev start : Start
+    start = record { script = reached_script_of bytes; region_len = old.region_len; e = e; rows = rows }
+
+    abbrev since : Image → Type 0
+    since = IsImageSince (clock_of before) after
+
+    abbrev Theorem : List ℕ → Type 0
+    Theorem written = RunTheorem start since (IsImageNow after) (HasRisen old.own_faults new.own_faults) (clock_of after ≡ clock_of before) (new ≡ old) status written
+
+    abbrev Result_ : Type 0
+    Result_ = (written : List ℕ) × (now ≡ Some (first ++ written)) × Theorem written
+
+    -- an early end left what the disk tells
+    same_told : (r : Reason) → EndsEarly r old new → new.told ≡ old.told
+    same_told (reason.Fault run_fault.Disk) en = (en.failed refl).told
+    same_told (reason.Fault run_fault.Memory) en = ap (λ d. d.told) (en.same (λ x. cc))
+    same_told (reason.Fault (run_fault.Damaged what)) en = ap (λ d. d.told) (en.same (λ x. cc))
+    same_told reason.Words en = ap (λ d. d.told) (en.same (λ x. cc))
+    same_told (reason.Script n) en = ap (λ d. d.told) (en.same (λ x. cc))
+    same_told reason.Source en = ap (λ d. d.told) (en.same (λ x. cc))
+
+    module _ (r : Reason) (en : EndsEarly r old new) (why : IsReason words damaged left r) where
+      same_after : after ≡ before
+      same_after = let c : ◌≡◌ {A = Option Told} (Some after) (Some before) = sym new_is ∙ same_told r en ∙ old_is in cc
+
+      every_image : KeepsEvery start since []
+      every_image = subst (λ t. KeepsEvery start (IsImageSince (clock_of before) t) []) (sym same_after) (keeps_entry old before e rows shows is_told synced)
+
+      on_return : KeepsUpTo start (IsImageNow after) [] e
+      on_return = subst (λ t. KeepsUpTo start (IsImageNow t) [] e) (sym same_after) (shows_entry old before e rows shows is_told synced)
+
+      nothing : (written : List ℕ) → IsFrontOf written (reason_bytes r) → NothingRun start since written
+      nothing written front = record { reason = r; printed = front; every_image = every_image }
+
+    -- each status has one part of the theorem
+    cut : (written : List ℕ) → (status ≡ 1) ⊎ (status ≡ 5) → NothingRun start since written ⊎ RunCutShort start since (IsImageNow after) written → Theorem written
+    cut written one front = record {
+      done = λ d. absurd (grind (arith, one, d));
+      cut_short = λ c. front;
+      refused = λ d. absurd (grind (arith, one, d));
+      others = λ d. grind (arith, one, d);
+    }
+
+    refuses : (written : List ℕ) → (status ≡ 2) ⊎ (status ≡ 3) ⊎ (status ≡ 4) → ReasonFor status (reached_script_of bytes) written → new ≡ old → Theorem written
+    refuses written one because same = record {
+      done = λ d. absurd (grind (arith, one, d));
+      cut_short = λ d. absurd (grind (arith, one, d));
+      refused = λ d. (because, same);
+      others = λ d. grind (arith, one, d);
+    }
+
+    does : (written : List ℕ) → (status ≡ 0) ⊎ (status ≡ 6) ⊎ (status ≡ 8) → RunDone start since (IsImageNow after) (HasRisen old.own_faults new.own_faults) (clock_of after ≡ clock_of before) status written → Theorem written
+    does written one d = record {
+      done = λ x. d;
+      cut_short = λ x. absurd (grind (arith, one, x));
+      refused = λ x. absurd (grind (arith, one, x));
+      others = λ x. grind (arith, one, x);
+    }
+
+    -- ---- an early end
+
+    -- where nothing is run, the outcomes are those of no history
+    no_outcomes : (script : List ScriptTxn) → AreOutcomes script e (all_outcomes script []) []
+    no_outcomes script = are_outcomes script e [] (record { front = []; back = script; whole = refl; each = tt }) tt tt tt
+
+    early_disk : (en : EndsEarly (reason.Fault run_fault.Disk) old new) (why : IsReason words damaged left (reason.Fault run_fault.Disk)) (written : List ℕ) → written ≡ reason_bytes (reason.Fault run_fault.Disk) → status ≡ 6 → Theorem written
+    unfolding reason_bytes
+    early_disk en why written text is =
+        let spells = why.1 bytes left_is in
+        let nothing_done : Ran = record { outcomes = []; durable = e; fault = Some run_fault.Disk } in
+        does written (inr (inl is)) (record {
+          script = spells.0;
+          ran = nothing_done;
+          history = [];
+          read = spells.1;
+          run = record {
+            one_history = no_outcomes spells.0;
+            legal = record { each = λ k c at. absurd (let x : ◌≡◌ {A = Option Commit} None (Some c) = at in cc) };
+            every_image = every_image (reason.Fault run_fault.Disk) en why;
+            on_return = on_return (reason.Fault run_fault.Disk) en why;
+          };
+          printed = inr (text, is, (en.failed refl).counts.own_faults tt, ap clock_of (same_after (reason.Fault run_fault.Disk) en why), refl);
+          all_durable = λ h. refl;
+        })
+
+    -- an early end whose text was written
+    early_whole : (r : Reason) (en : EndsEarly r old new) (why : IsReason words damaged left r) (written : List ℕ) → written ≡ reason_bytes r → status ≡ status_of (early r) → Theorem written
+    unfolding reason_bytes
+    early_whole reason.Words en why written text is = refuses written (inl is) (inl (is, text)) (en.same (λ x. cc))
+    early_whole (reason.Script n) en why written text is = refuses written (inr (inl is)) (inr (inl (is, n, why.1 bytes left_is, text))) (en.same (λ x. cc))
+    early_whole reason.Source en why written text is = refuses written (inr (inr is)) (inr (inr (is, text))) (en.same (λ x. cc))
+    early_whole (reason.Fault run_fault.Memory) en why written text is =
+        cut written (inl is) (inl (nothing (reason.Fault run_fault.Memory) en why written ([], sym text ∙ sym (append-nil written))))
+    early_whole (reason.Fault run_fault.Disk) en why written text is = early_disk en why written text is
+    early_whole (reason.Fault (run_fault.Damaged what)) en why written text is = absurd (whole what why.2)
+
+    -- ---- a run
+
+    module _ (script : List ScriptTxn) (r : Ran) (may : MayRun words opened left script) (is_run : IsRunOf old new script r) where
+      read : reached_script_of bytes ≡ Ok script
+      read = may.spelled bytes left_is
+
+      told_of : (a b : Option Told) → a ≡ Some before → b ≡ Some after → IsRunOfTold old.region_len a b script r → IsRunOfTold old.region_len (Some before) (Some after) script r
+      told_of a b e1 e2 h = subst (λ x. IsRunOfTold old.region_len x (Some after) script r) e1 (subst (λ x. IsRunOfTold old.region_len a x script r) e2 h)
+
+      on : IsRunOn old.region_len before after script r e rows
+      on = told_of old.told new.told old_is new_is is_run.told e rows shows sound
+
+      run : IsRun start since (IsImageNow after) script (all_outcomes script r.outcomes) r.durable on.history
+      run = let x = on.run in record { one_history = x.one_history; legal = x.legal; every_image = x.every_image; on_return = x.on_return }
+
+      short : (written : List ℕ) → IsFrontOf written (report script r) → RunCutShort start since (IsImageNow after) written
+      short written front = record { script = script; ran = r; history = on.history; read = read; run = run; printed = front }
+
+      done : (written : List ℕ) → written ≡ report script r → HasStatus status r.outcomes r.fault → (¬ ((status ≡ 6) × HasRisen old.own_faults new.own_faults) → r.durable ≡ last_epoch e on.history)
+          → RunDone start since (IsImageNow after) (HasRisen old.own_faults new.own_faults) (clock_of after ≡ clock_of before) status written
+      done written text has all = record { script = script; ran = r; history = on.history; read = read; run = run; printed = inl (text, has); all_durable = all }
+
+      ran_whole : (written : List ℕ) → written ≡ report script r → (f : Option RunFault) → r.fault ≡ f → status ≡ run_status r.outcomes f → Theorem written
+      ran_whole written text None fine is =
+          does written (by (list_any is_refused r.outcomes) is)
+          (done written text (subst (HasStatus status r.outcomes) (sym fine) is) (λ h. on.all_durable fine))
+        where
+          by : (b : Bool) → status ≡ cond {A = ℕ} b 8 0 → (status ≡ 0) ⊎ (status ≡ 6) ⊎ (status ≡ 8)
+          by true h = inr (inr h)
+          by false h = inl h
+      ran_whole written text (Some run_fault.Memory) fine is = cut written (inl is) (inr (short written ([], sym text ∙ sym (append-nil written))))
+      ran_whole written text (Some run_fault.Disk) fine is =
+          does written (inr (inl is)) (done written text (subst (HasStatus status r.outcomes) (sym fine) is) (λ h. absurd (h (is, (is_run.failed fine).1))))
+      ran_whole written text (Some (run_fault.Damaged what)) fine is = absurd (is_run.no_damage what fine)
+
+    -- ---- the whole
+
+    five : (d : Ended) → status_of d ≡ 5 → ⊥
+    five (early reason.Words) is = omega (arith, is)
+    five (early (reason.Script n)) is = omega (arith, is)
+    five (early reason.Source) is = omega (arith, is)
+    five (early (reason.Fault run_fault.Memory)) is = omega (arith, is)
+    five (early (reason.Fault run_fault.Disk)) is = omega (arith, is)
+    five (early (reason.Fault (run_fault.Damaged what))) is = omega (arith, is)
+    five (ran script r) is = by r.fault is
+      where
+        refused : (b : Bool) → cond {A = ℕ} b 8 0 ≡ 5 → ⊥
+        refused true h = omega (arith, h)
+        refused false h = omega (arith, h)
+
+        by : (f : Option RunFault) → run_status r.outcomes f ≡ 5 → ⊥
+        by None h = refused (list_any is_refused r.outcomes) h
+        by (Some run_fault.Memory) h = omega (arith, h)
+        by (Some run_fault.Disk) h = omega (arith, h)
+        by (Some (run_fault.Damaged what)) h = omega (arith, h)
+
+    whole_text : (d : Ended) → IsEnd words opened damaged left old new d → (written : List ℕ) → written ≡ text_of d → status ≡ status_of d → Theorem written
+    unfolding text_of
+    whole_text (early r) end written text is = early_whole r end.1 end.0 written text is
+    whole_text (ran script r) end written text is = ran_whole script r end.0 end.1 written text r.fault refl is
+
+    front_text : (d : Ended) → IsEnd words opened damaged left old new d → (written : List ℕ) → IsFrontOf written (text_of d) → status ≡ 5 → Theorem written
+    unfolding text_of
+    front_text (early r) end written front is = cut written (inr is) (inl (nothing r end.1 end.0 written front))
+    front_text (ran script r) end written front is = cut written (inr is) (inr (short script r end.0 end.1 written front))
+
+    holds : Ends words opened damaged left old new status was now → Result_
+    holds en = by en.status_is
+      where
+        by : (status ≡ 5) ⊎ (status ≡ status_of en.ended) → Result_
+        by (inl failed) = let w = wrote_front (text_of en.ended) (status ≡ 5) was now first en.printed was_is in (w.0, w.1, front_text en.ended en.is_end w.0 w.2 failed)
+        by (inr fine) =
+            (text_of en.ended, wrote_all (text_of en.ended) (status ≡ 5) was now first en.printed (λ failed. five en.ended (sym fine ∙ failed)) was_is, whole_text en.ended en.is_end (text_of en.ended) refl fine)
+
+  -- how a call ended tells that it ran well
+  pub runs_well : IsSoundDisk old → old.unsynced ≡ [] → Ends words opened damaged left old new status was now → RunsWell damaged left old new status was now
+  runs_well is_sound synced en = record {
+    holds = λ bytes first before after e rows left_is was_is old_is new_is shows sound whole.
+        holds bytes first before after e rows left_is was_is old_is new_is shows sound whole (is_told old.told before old_is is_sound.told) synced en;
+  }
+    where
+      is_told : (t : Option Told) (b : Told) → t ≡ Some b → IfSome t (IsToldOf old) → IsToldOf old b
+      is_told t b is h = subst (λ o. IfSome o (IsToldOf old)) is h
+
+  -- status 3 comes for a script that is refused
+  of_refused : (d : Ended) → IsEnd words opened damaged left old new d → status_of d ≡ 3 → OfTold left IsRefused
+  of_refused (early reason.Words) end is = absurd (omega (arith, is))
+  of_refused (early (reason.Script n)) end is = λ bytes left_is. (n, end.0.1 bytes left_is)
+  of_refused (early reason.Source) end is = absurd (omega (arith, is))
+  of_refused (early (reason.Fault run_fault.Memory)) end is = absurd (omega (arith, is))
+  of_refused (early (reason.Fault run_fault.Disk)) end is = absurd (omega (arith, is))
+  of_refused (early (reason.Fault (run_fault.Damaged what))) end is = absurd (omega (arith, is))
+  of_refused (ran script r) end is = absurd (by r.fault is)
+    where
+      other : (b : Bool) → cond {A = ℕ} b 8 0 ≡ 3 → ⊥
+      other true h = omega (arith, h)
+      other false h = omega (arith, h)
+
+      by : (f : Option RunFault) → run_status r.outcomes f ≡ 3 → ⊥
+      by None h = other (list_any is_refused r.outcomes) h
+      by (Some run_fault.Memory) h = omega (arith, h)
+      by (Some run_fault.Disk) h = omega (arith, h)
+      by (Some (run_fault.Damaged what)) h = omega (arith, h)
+
+  pub refused_script : Ends words opened damaged left old new status was now → status ≡ 3 → OfTold left IsRefused
+  refused_script en three = by en.status_is
+    where
+      by : (status ≡ 5) ⊎ (status ≡ status_of en.ended) → OfTold left IsRefused
+      by (inl failed) = absurd (omega (arith, failed, three))
+      by (inr fine) = of_refused en.ended en.is_end (sym fine ∙ three)

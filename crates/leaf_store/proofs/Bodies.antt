@@ -17,7 +17,7 @@ use Rattle.partition_index.specs.Parts.{LiesIn, body_len}
 use Rattle.partition_index.proofs.BodyPlaces.{AreLong, range_of_body}
 use Rattle.log_partition.specs.Bodies.{HasRows}
 use Rattle.leaf_store.specs.Loading.{IsPlaced}
-use Rattle.leaf_store.specs.Reading.{Tells}
+use Rattle.leaf_store.specs.Loading.{Tells}
 
 -- ---- what a disk tells
 

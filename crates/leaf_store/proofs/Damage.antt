@@ -1,6 +1,7 @@
 -- The damage of a log, and that a plain log has none.
 use Rattle.std.proofs.Common.{◌≡◌, ◌≢◌, ◌⊎◌, inl, inr, ℕ, zero, suc, ◌+◌, ◌<◌, ◌==◌, Bool, true, false, cond, IsTrue, List, [], ◌∷◌, ◌++◌, length, take, drop, get_or, refl, sym, ap, ◌∙◌, subst, true≢false, arith, append_assoc, eqb-true}
 use Rattle.std.specs.List.{AllByRecursion}
+use Rattle.log_disk.specs.Disk.{Disk}
 use Rattle.fine_model.specs.declared.NodeId.{NodeId}
 use Rattle.fine_model.specs.declared.Rec.{Rec}
 use Rattle.fine_model.specs.declared.Rec.TheVariants as rec
@@ -22,7 +23,7 @@ use Rattle.fine_model.proofs.Unique.{IsSealed-unique, AreRowsOf-unique}
 use Rattle.leaf_store.specs.declared.fault.LoadFault.{LoadFault}
 use Rattle.leaf_store.specs.declared.fault.LoadFault.TheVariants as fault
 use Rattle.leaf_store.specs.Leaves.{root_leaf, sets_in, is_plain, IsPlain, LeavesWhole, Holds}
-use Rattle.leaf_store.specs.Loading.{IsLoaded, HasRow, is_put, IsDamaged, NoDamage}
+use Rattle.leaf_store.specs.Loading.{HasBadRead, sealed_in, bad_in, AreRowsBy, IsLoaded, HasRow, is_put, IsDamaged, NoDamage}
 use Rattle.leaf_store.specs.Reading.{damage_at, IsBadIn, CannotTake, StopsAt, RefusesRows, FindsDamage}
 use Rattle.leaf_store.proofs.Puts.{content_here, leaf_is}
 use Rattle.leaf_store.proofs.Answering.{split_item}
@@ -44,9 +45,9 @@ all_item P (y ∷ xs) (suc i) x low item all = all_item P xs i x (omega (arith, 
 
 -- ---- the damage at which the rows of a part stop
 
-module _ (region_len : ℕ) (image : Image) (parts earlier later : List Part) (part : Part) (is_part : parts ≡ earlier ++ part ∷ later) (before rows : List Row) (are_rows : AreRowsOf region_len image earlier before)
-    (sealed : IsSealed region_len image part.region part.header.range rows) where
-  has_row : (front back : List Row) (row : Row) (place : Place) → rows ≡ front ++ row ∷ back → place ≡ place_of region_len part.region part.header (rows_len front) → HasRow region_len image parts (before ++ front) row place
+module _ (region_len : ℕ) (has : Part → List Row → Type 0) (bad : Part → Place → Type 0) (parts earlier later : List Part) (part : Part) (is_part : parts ≡ earlier ++ part ∷ later) (before rows : List Row) (are_rows : AreRowsBy has earlier before)
+    (own : has part rows) where
+  has_row : (front back : List Row) (row : Row) (place : Place) → rows ≡ front ++ row ∷ back → place ≡ place_of region_len part.region part.header (rows_len front) → HasRow region_len has parts (before ++ front) row place
   has_row front back row place is at = record {
     earlier = earlier;
     part = part;
@@ -56,7 +57,7 @@ module _ (region_len : ℕ) (image : Image) (parts earlier later : List Part) (p
     are_rows = are_rows;
     front = front;
     back = back;
-    sealed = subst (IsSealed region_len image part.region part.header.range) is sealed;
+    own = subst (has part) is own;
     behind = refl;
     stands = at;
   }
@@ -83,7 +84,7 @@ module _ (region_len : ℕ) (image : Image) (parts earlier later : List Part) (p
       ∙ ap (λ c. (step c row).0) (leaf_is leaves so_far row.node.bucket broken.1.0 h low broken.1.1)
       ∙ broken.1.2))
 
-  pub stops_damage : AllByRecursion (λ row. row.node.bucket < 256) rows → (what : Damage) → StopsAt region_len part before rows (fault.Damaged what) → IsDamaged region_len image parts what
+  pub stops_damage : AllByRecursion (λ row. row.node.bucket < 256) rows → (what : Damage) → StopsAt region_len part before rows (fault.Damaged what) → IsDamaged region_len has bad parts what
   stops_damage low (damage.Region region at) s =
       inr (record {
         before = before ++ s.front;
@@ -104,17 +105,25 @@ module _ (region_len : ℕ) (image : Image) (parts earlier later : List Part) (p
   stops_damage low (damage.Gap after region) s = s.refuses
   stops_damage low (damage.Overlap region other) s = s.refuses
 
-  pub refuses_damage : AllByRecursion (λ row. row.node.bucket < 256) rows → (why : LoadFault) → RefusesRows region_len part before rows why → FindsDamage (IsDamaged region_len image parts) why
+  pub refuses_damage : AllByRecursion (λ row. row.node.bucket < 256) rows → (why : LoadFault) → RefusesRows region_len part before rows why → FindsDamage (IsDamaged region_len has bad parts) why
   refuses_damage low fault.Disk r = tt
   refuses_damage low fault.NoMemory r = tt
   refuses_damage low (fault.Damaged what) r = stops_damage low what r
 
 -- the damage of the body of a part
-pub body_damage : (region_len : ℕ) (image : Image) (parts : List Part) (i : ℕ) (part : Part) → i < length parts → part ≡ get_or parts i part → (what : Damage) → IsBadIn region_len image part what → IsDamaged region_len image parts what
-body_damage region_len image parts i part low item (damage.Region region at) bad = inl (i, part, low, sym item, bad)
-body_damage region_len image parts i part low item (damage.Gap after region) bad = bad
-body_damage region_len image parts i part low item (damage.Overlap region other) bad = bad
-body_damage region_len image parts i part low item (damage.Node id) bad = absurd bad
+pub body_damage : (disk : Disk) (has : Part → List Row → Type 0) (parts : List Part) (i : ℕ) (part : Part) → i < length parts → part ≡ get_or parts i part → (what : Damage) → IsBadIn disk part what
+    → IsDamaged disk.region_len has (HasBadRead disk) parts what
+body_damage disk has parts i part low item (damage.Region region at) bad = inl (i, part, low, sym item, bad)
+body_damage disk has parts i part low item (damage.Gap after region) bad = bad
+body_damage disk has parts i part low item (damage.Overlap region other) bad = bad
+body_damage disk has parts i part low item (damage.Node id) bad = absurd bad
+
+-- ---- rows by an image
+
+pub rows_by : (region_len : ℕ) (image : Image) (parts : List Part) (rows : List Row) → AreRowsBy (sealed_in region_len image) parts rows → AreRowsOf region_len image parts rows
+unfolding AreRowsOf
+rows_by region_len image [] rows are = are
+rows_by region_len image (p ∷ parts) rows are = (are.0, are.1, are.2, are.3, rows_by region_len image parts are.1 are.4)
 
 -- ---- a plain log has no damage
 
@@ -131,11 +140,11 @@ rows_split region_len image (p ∷ earlier) part later rows are =
     let s = rows_split region_len image earlier part later are.1 are.4 in
     (are.0 ++ s.0, s.1, s.2, are.2 ∙ ap (λ xs. are.0 ++ xs) s.3 ∙ sym (append_assoc are.0 s.0 (s.1 ++ s.2)), (are.0, s.0, refl, are.3, s.4), s.5)
 
-among : (region_len : ℕ) (image : Image) (parts : List Part) (rows before : List Row) (row : Row) (place : Place) → AreRowsOf region_len image parts rows → HasRow region_len image parts before row place → Among rows before row
+among : (region_len : ℕ) (image : Image) (parts : List Part) (rows before : List Row) (row : Row) (place : Place) → AreRowsOf region_len image parts rows → HasRow region_len (sealed_in region_len image) parts before row place → Among rows before row
 among region_len image parts rows before row place are has =
     let s = rows_split region_len image has.earlier has.part has.later rows (subst (λ ps. AreRowsOf region_len image ps rows) has.is_part are) in
-    let a : s.0 ≡ has.earlier_rows = AreRowsOf-unique region_len image has.earlier s.0 has.earlier_rows s.4 has.are_rows in
-    let own = IsSealed-unique region_len image has.part.region has.part.header.range has.part.header.range s.1 (has.front ++ row ∷ has.back) s.5 has.sealed in
+    let a : s.0 ≡ has.earlier_rows = AreRowsOf-unique region_len image has.earlier s.0 has.earlier_rows s.4 (rows_by region_len image has.earlier has.earlier_rows has.are_rows) in
+    let own = IsSealed-unique region_len image has.part.region has.part.header.range has.part.header.range s.1 (has.front ++ row ∷ has.back) s.5 has.own in
     record {
       behind = has.back ++ s.2;
       is = s.3 ∙ ap (λ xs. xs ++ (s.1 ++ s.2)) a ∙ ap (λ xs. has.earlier_rows ++ (xs ++ s.2)) own.same_rows ∙ regroup has.earlier_rows has.front has.back s.2 row
@@ -187,12 +196,12 @@ sets_is_put bucket (rec.Link key child) sets = absurd (true≢false (sym sets))
 sets_is_put bucket (rec.Plus key by) sets = absurd (true≢false (sym sets))
 
 module _ (region_len : ℕ) (image : Image) (parts : List Part) (rows : List Row) (are : AreRowsOf region_len image parts rows) (plain : IsPlain rows) (whole : LeavesWhole rows) where
-  row_plain : (before : List Row) (row : Row) (place : Place) → HasRow region_len image parts before row place → (row.node.number ≡ 1) × (sets_in row.node.bucket row.rec ≡ true)
+  row_plain : (before : List Row) (row : Row) (place : Place) → HasRow region_len (sealed_in region_len image) parts before row place → (row.node.number ≡ 1) × (sets_in row.node.bucket row.rec ≡ true)
   row_plain before row place has =
       let p : is_plain row ≡ true = plain_at rows before row plain (among region_len image parts rows before row place are has) in
       let both = first_of_both (row.node.number == 1) (sets_in row.node.bucket row.rec) p in (eqb-true row.node.number 1 both.0, both.1)
 
-  stays_whole : (before : List Row) (row : Row) (place : Place) → HasRow region_len image parts before row place → (content (before ++ row ∷ []) row.node).0 ≢ node.Broken
+  stays_whole : (before : List Row) (row : Row) (place : Place) → HasRow region_len (sealed_in region_len image) parts before row place → (content (before ++ row ∷ []) row.node).0 ≢ node.Broken
   stays_whole before row place has broken =
       let a = among region_len image parts rows before row place are has in
       let p = row_plain before row place has in
@@ -207,7 +216,7 @@ module _ (region_len : ℕ) (image : Image) (parts : List Part) (rows : List Row
       let s = rows_split region_len image (take i parts) part (drop (i + 1) parts) rows (subst (λ ps. AreRowsOf region_len image ps rows) (split_item parts i part low (sym item)) are) in
       sealed_not_bad region_len image part.region region at part.header.range s.1 s.5 (inr bad)
 
-  pub not_damaged : (what : Damage) → IsDamaged region_len image parts what → ⊥
+  pub not_damaged : (what : Damage) → IsDamaged region_len (sealed_in region_len image) (bad_in region_len image) parts what → ⊥
   not_damaged (damage.Region region at) (inl bad) = good_part bad.0 bad.1 region at bad.2 bad.3 bad.4
   not_damaged (damage.Region region at) (inr other) =
       true≢false (sym (sets_is_put other.row.node.bucket other.row.rec (row_plain other.before other.row (record { region = region; at = at }) other.has_row).1).0 ∙ other.no_put)
@@ -223,11 +232,11 @@ module _ (region_len : ℕ) (image : Image) (parts : List Part) (rows : List Row
   not_damaged (damage.Gap after region) bad = bad
   not_damaged (damage.Overlap region other) bad = bad
 
-  pub no_damage : (why : LoadFault) → FindsDamage (IsDamaged region_len image parts) why → NoDamage why
+  pub no_damage : (why : LoadFault) → FindsDamage (IsDamaged region_len (sealed_in region_len image) (bad_in region_len image) parts) why → NoDamage why
   no_damage fault.Disk found = tt
   no_damage fault.NoMemory found = tt
   no_damage (fault.Damaged what) found = absurd (not_damaged what found)
 
 -- the rows of parts are one list
-pub loaded_exact : (region_len : ℕ) (image : Image) (parts : List Part) (rows : List Row) (leaves : List Content) → AreRowsOf region_len image parts rows → IsLoaded region_len image parts leaves → Holds leaves rows
-loaded_exact region_len image parts rows leaves are loaded = subst (Holds leaves) (AreRowsOf-unique region_len image parts loaded.rows rows loaded.are_rows are) loaded.holds
+pub loaded_exact : (region_len : ℕ) (image : Image) (parts : List Part) (rows : List Row) (leaves : List Content) → AreRowsOf region_len image parts rows → IsLoaded (sealed_in region_len image) parts leaves → Holds leaves rows
+loaded_exact region_len image parts rows leaves are loaded = subst (Holds leaves) (AreRowsOf-unique region_len image parts loaded.rows rows (rows_by region_len image parts loaded.rows loaded.are_rows) are) loaded.holds

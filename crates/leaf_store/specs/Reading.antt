@@ -14,11 +14,7 @@ use Rattle.partition_index.specs.Parts.{body_len}
 use Rattle.leaf_store.specs.declared.fault.LoadFault.{LoadFault}
 use Rattle.leaf_store.specs.declared.fault.LoadFault.TheVariants as fault
 use Rattle.leaf_store.specs.Leaves.{sets_in, is_plain, IsStepped, Holds}
-use Rattle.leaf_store.specs.Loading.{is_put}
-
--- a disk tells these bytes
-abbrev pub Tells : Disk → Image → Type 0
-Tells disk image = option_map (λ told. told.bytes) disk.told ≡ Some image
+use Rattle.leaf_store.specs.Loading.{is_put, Tells, HasRowsRead, HasBadRead}
 
 -- reads leave a disk as it was, but for the failure of one
 pub record CountsRead (failed : Type 0) (old new : Disk) : Type 0 where
@@ -34,22 +30,22 @@ pub record ReadsBody (part : Part) (out : List ℕ) (failed : Type 0) (old new :
 pub record ReadsPart (disk : Disk) (part : Part) (rows : List Row) : Type 0 where
   pub fit : AllByRecursion (FitsRow part.header.mark) rows
   pub area : rows_len rows ≡ part.header.area
-  pub sealed : (image : Image) → Tells disk image → HasHeader disk.region_len image part.region part.header → IsSealed disk.region_len image part.region part.header.range rows
+  pub own : HasRowsRead disk part rows
 
 -- the fault that names a place
 abbrev pub damage_at : Place → LoadFault
 damage_at place = fault.Damaged (damage.Region place.region place.at)
 
 -- a part has a bad item at the place that is named
-abbrev pub IsBadIn : ℕ → Image → Part → Damage → Type 0
-IsBadIn region_len image part (damage.Region region at) = HoldsBadItem region_len image part.region (record { region = region; at = at })
-IsBadIn region_len image part _ = ⊥
+abbrev pub IsBadIn : Disk → Part → Damage → Type 0
+IsBadIn disk part (damage.Region region at) = HasBadRead disk part (record { region = region; at = at })
+IsBadIn disk part _ = ⊥
 
 -- why a part was not read
 abbrev pub FindsBad : Disk → Part → LoadFault → Type 0
 FindsBad disk part fault.Disk = Unit {0}
 FindsBad disk part fault.NoMemory = Unit {0}
-FindsBad disk part (fault.Damaged what) = (image : Image) → Tells disk image → HasHeader disk.region_len image part.region part.header → IsBadIn disk.region_len image part what
+FindsBad disk part (fault.Damaged what) = IsBadIn disk part what
 
 -- a row was taken in: it is plain, and its leaf stays whole
 pub record Takes (row : Row) (old new : List Content) : Type 0 where

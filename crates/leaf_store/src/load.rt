@@ -13,7 +13,7 @@ ghost use Rattle.fine_model.specs.Chain.{AreRowsOf};
 ghost use Rattle.partition_index.specs.Parts.{LiesIn, body_len};
 ghost use Rattle.leaf_store.specs.declared.fault.LoadFault.TheVariants as load;
 ghost use Rattle.leaf_store.specs.Leaves.{Holds, IsPlain, LeavesWhole};
-ghost use Rattle.leaf_store.specs.Loading.{IsDamaged, IsLoaded, IsPlaced, NoDamage, TellsParts};
+ghost use Rattle.leaf_store.specs.Loading.{HasBadRead, HasRowsRead, IsDamaged, IsLoaded, IsPlaced, NoDamage, TellsParts, bad_in, sealed_in};
 ghost use Rattle.leaf_store.specs.Reading.{CountsRead, FindsDamage, RefusesRows, RefusesTake, Takes};
 
 use crate::fault::LoadFault;
@@ -95,8 +95,8 @@ fn take_rows(
 fn load_parts<D: LogDisk>(alloc: Global, disk: &mut D, parts: &Parts) -> Result<Leaves, LoadFault>
     requires { AllByRecursion (IsPlaced (D.LogDisk.state disk.old)) parts.now }
     ensures disk { CountsRead (IsErrOf result load.Disk) (D.LogDisk.state disk.old) (D.LogDisk.state disk.new) }
-    ensures ok { (image : Image) → TellsParts (D.LogDisk.state disk.old) parts.now image → IfOk result (IsLoaded (D.LogDisk.state disk.old).region_len image parts.now) }
-    ensures err { (image : Image) → TellsParts (D.LogDisk.state disk.old) parts.now image → IfErr result (FindsDamage (IsDamaged (D.LogDisk.state disk.old).region_len image parts.now)) }
+    ensures ok { IfOk result (IsLoaded (HasRowsRead (D.LogDisk.state disk.old)) parts.now) }
+    ensures err { IfErr result (FindsDamage (IsDamaged (D.LogDisk.state disk.old).region_len (HasRowsRead (D.LogDisk.state disk.old)) (HasBadRead (D.LogDisk.state disk.old)) parts.now)) }
 {
     let region_len = disk.region_len();
     let mut leaves = Leaves::new(alloc)?;
@@ -110,21 +110,23 @@ fn load_parts<D: LogDisk>(alloc: Global, disk: &mut D, parts: &Parts) -> Result<
 impl Leaves {
     /// Reads the parts of a log, in order, into leaves. The whole body of each part is read once, by the disk's own calls.
     ///
-    /// Where the disk tells its bytes, and the parts have their headers there, Ok says that all rows of the parts are in the format's
-    /// grammar and plain, and the leaves are those of these rows. `Damaged` comes only where a part has a bad row or index entry at the
-    /// place that is named, or a row of another kind than a put; or where a put names the node that is named, and this is no root leaf,
-    /// the put's key is of another bucket, or the put leaves the node broken. So it never comes where the rows of the parts are in the
+    /// Ok says that all rows of the parts, by the bytes that were read, are in the format's grammar and plain, and the leaves are those
+    /// of these rows. `Damaged` comes only where a part, by the bytes that were read, has a bad row or index entry at the place that is
+    /// named, or a row of another kind than a put; or where a put names the node that is named, and this is no root leaf, the put's key
+    /// is of another bucket, or the put leaves the node broken. Where the disk tells its bytes, these are the bytes that were read. So it never comes where the rows of the parts are in the
     /// grammar and plain, and leave no root leaf broken. `Disk` comes only where a read of the disk failed in this call, and that is then
     /// all that is changed on the disk; after every other answer the disk is as it was. `NoMemory` is the only other refusal.
     pub fn load<D: LogDisk>(alloc: Global, disk: &mut D, parts: &Parts) -> Result<Leaves, LoadFault>
         requires { AllByRecursion (IsPlaced (D.LogDisk.state disk.old)) parts.now }
         ensures disk { IsErrOf result load.Disk → OnlyFails (D.LogDisk.state disk.old) (D.LogDisk.state disk.new) }
         ensures same { (IsErrOf result load.Disk → ⊥) → D.LogDisk.state disk.new ≡ D.LogDisk.state disk.old }
-        ensures ok { (image : Image) → TellsParts (D.LogDisk.state disk.old) parts.now image → IfOk result (IsLoaded (D.LogDisk.state disk.old).region_len image parts.now) }
+        ensures ok { IfOk result (IsLoaded (HasRowsRead (D.LogDisk.state disk.old)) parts.now) }
         ensures exact { (image : Image) (rows : List Row) → TellsParts (D.LogDisk.state disk.old) parts.now image
             → AreRowsOf (D.LogDisk.state disk.old).region_len image parts.now rows → IfOk result (λ leaves. Holds leaves rows) }
-        ensures damaged { (image : Image) (what : Damage) → TellsParts (D.LogDisk.state disk.old) parts.now image
-            → IsErrOf result (load.Damaged what) → IsDamaged (D.LogDisk.state disk.old).region_len image parts.now what }
+        ensures damaged { (what : Damage) → IsErrOf result (load.Damaged what)
+            → IsDamaged (D.LogDisk.state disk.old).region_len (HasRowsRead (D.LogDisk.state disk.old)) (HasBadRead (D.LogDisk.state disk.old)) parts.now what }
+        ensures told { (image : Image) (what : Damage) → TellsParts (D.LogDisk.state disk.old) parts.now image → IsErrOf result (load.Damaged what)
+            → IsDamaged (D.LogDisk.state disk.old).region_len (sealed_in (D.LogDisk.state disk.old).region_len image) (bad_in (D.LogDisk.state disk.old).region_len image) parts.now what }
         ensures sound { (image : Image) (rows : List Row) → TellsParts (D.LogDisk.state disk.old) parts.now image
             → AreRowsOf (D.LogDisk.state disk.old).region_len image parts.now rows → IsPlain rows → LeavesWhole rows → IfErr result NoDamage }
     {

@@ -1,6 +1,6 @@
 use Rattle.std.proofs.Common.{◌≡◌, ◌-◌, ◌≤◌, length, take}
 use Rattle.fine_model.specs.Regions.{Image, body_in}
-use Rattle.leaf_store.specs.Reading.{Tells}
+use Rattle.leaf_store.specs.Loading.{Tells}
 use Rattle.leaf_store.proofs.read.read_body.Given as goal
 
 abbrev pub invariant-loop-done : goal.invariant-loop-done

@@ -1,10 +1,10 @@
-use Rattle.std.proofs.Common.{◌≡◌, ◌∙◌, sym, ap, subst, arith, length}
+use Rattle.std.proofs.Common.{◌≡◌, ◌∙◌, refl, sym, ap, subst, arith, length}
 use Rattle.std.specs.Prelude.{IsErr}
 use Rattle.fine_model.specs.Regions.{place_of, IsBadItem}
 use Rattle.log_partition.specs.Bodies.{NamesBadItem}
 use Rattle.leaf_store.specs.Reading.{FindsBad, damage_at}
 use Rattle.leaf_store.proofs.Bounds.{written_back}
-use Rattle.leaf_store.proofs.Bodies.{bad_within, sealed_part, bad_part}
+use Rattle.leaf_store.proofs.Bodies.{bad_within}
 use Rattle.leaf_store.proofs.read.read_part.Goals as goal
 
 pub returns-in-Ok-clause-ok : goal.returns-in-Ok-clause-ok
@@ -16,7 +16,11 @@ returns-in-Ok-clause-ok g c =
     record {
       fit = rows.fit;
       area = sym rows.area;
-      sealed = λ image tells has. sealed_part state.region_len image c.args.part.now c.deref.result.now has (back ∙ c.read_body.ensures.bytes whole image tells) c.in-Ok.rows rows;
+      own = record {
+        body = c.deref.result.now;
+        is_body = record { long = omega (arith, ap length back, c.read_body.auto.out, ap length c.deref_mut.ensures.value, c.in_ok-body.ensures.ok, c.body_len.ensures); told = λ image tells. back ∙ c.read_body.ensures.bytes whole image tells };
+        has = rows;
+      };
     }
 
 pub damaged_at-requires-clause-within : goal.damaged_at-requires-clause-within
@@ -35,4 +39,10 @@ returns-in-Err-Bad-clause-err g c =
     let is : c.damaged_at.result ≡ damage_at (place_of state.region_len c.args.part.now.region c.args.part.now.header c.in-Err-Bad.at) =
     c.damaged_at.ensures ∙ ap (λ n. damage_at (place_of n c.args.part.now.region c.args.part.now.header c.in-Err-Bad.at)) c.region_len-region_len.ensures.region_len in
     subst (FindsBad state c.args.part.now) (sym is)
-    (λ image tells has. bad_part state.region_len image c.args.part.now c.deref.result.now has (back ∙ c.read_body.ensures.bytes whole image tells) c.in-Err-Bad.at bad)
+    (record {
+      body = c.deref.result.now;
+      is_body = record { long = omega (arith, ap length back, c.read_body.auto.out, ap length c.deref_mut.ensures.value, c.in_ok-body.ensures.ok, c.body_len.ensures); told = λ image tells. back ∙ c.read_body.ensures.bytes whole image tells };
+      at = c.in-Err-Bad.at;
+      is_bad = bad;
+      stands = refl;
+    })

@@ -1,6 +1,8 @@
 pub mod Outcomes
 pub mod Following
 pub mod Theorem
+pub mod Refused
+pub mod Caused
 pub mod Txns
 pub mod Runs
 pub mod Found

@@ -1,7 +1,7 @@
 -- The theorem of a run, from how the call ended.
-use Rattle.std.proofs.Common.{◌≡◌, ◌⊎◌, inl, inr, ℕ, List, [], ◌++◌, take, drop, refl, sym, ap, ◌∙◌, subst, Option, Some, None, Ok, arith, take-append-drop, Bool, true, false, cond, append-nil}
+use Rattle.std.proofs.Common.{◌≡◌, ◌⊎◌, inl, inr, ℕ, ◌-◌, List, [], ◌∷◌, ◌++◌, length, take, drop, refl, sym, ap, ◌∙◌, subst, Option, Some, None, Ok, arith, take-append-drop, Bool, true, false, cond, append-nil}
 use Rattle.std.specs.Prelude.{IfSome}
-use Rattle.std.specs.List.{list_any}
+use Rattle.std.specs.List.{AllByRecursion, list_any}
 use Rattle.log_disk.specs.Disk.{Disk, Told, HasRisen, IsToldOf, IsSound as IsSoundDisk, IsImageNow, IsImageSince, clock_of}
 use Rattle.log_disk.proofs.Steps.{all_synced}
 use Rattle.log_disk.proofs.Moments.{only_now}
@@ -20,13 +20,15 @@ use Rattle.fine_model.specs.Trees.{IsSound}
 use Rattle.fine_model.specs.Regions.{Image}
 use Rattle.fine_model.specs.Chain.{Shows}
 use Rattle.fine_model.specs.Outcomes.{AreOutcomes}
-use Rattle.fine_model.specs.Headline.{Start, IsRun, ShowsSome, KeepsEvery, KeepsUpTo, HasStatus, RunDone, RunCutShort, NothingRun, IsFrontOf, ReasonFor, RunTheorem}
+use Rattle.fine_model.specs.Headline.{Start, IsRun, ShowsSome, KeepsEvery, KeepsUpTo, HasStatus, RunCutShort, NothingRun, IsFrontOf, ReasonFor}
 use Rattle.fine_model.specs.Reach.{reached_script_of}
 use Rattle.fine_model.specs.Report.{all_outcomes, reason_bytes, report}
 use Rattle.script_text.specs.Streams.{Puts, behind}
-use Rattle.fine_top.specs.Ends.{Ended, early, ran, text_of, status_of, run_status, IsRunOn, IsRunOf, IsRunOfTold, IsReason, EndsEarly, MayRun, IsEnd, Ends, RunsWell, OfTold, IsRefused}
+use Rattle.fine_top.specs.Ends.{Ended, early, ran, text_of, status_of, run_status, IsRunOn, IsRunOf, IsRunOfTold, IsReason, EndsEarly, MayRun, IsEnd, Ends, OneOf, RefusesWell, RanWell, RunsWell, OfTold, IsRefused}
 use Rattle.fine_model.proofs.NodeLaws.{Agrees-refl}
+use Rattle.fine_top.specs.Running.{HasRun}
 use Rattle.fine_top.proofs.Outcomes.{are_outcomes}
+use Rattle.fine_top.proofs.Caused.{no_causes}
 
 -- ---- what was written
 
@@ -74,7 +76,7 @@ module _ (words opened : Type 0) (damaged : Damage → Type 0) (left : Option (L
     since = IsImageSince (clock_of before) after
 
     abbrev Theorem : List ℕ → Type 0
-    Theorem written = RunTheorem start since (IsImageNow after) (HasRisen old.own_faults new.own_faults) (clock_of after ≡ clock_of before) (new ≡ old) status written
+    Theorem written = RanWell start since (IsImageNow after) (HasRisen old.own_faults new.own_faults) (clock_of after ≡ clock_of before) (new ≡ old) after.bytes status written
 
     abbrev Result_ : Type 0
     Result_ = (written : List ℕ) × (now ≡ Some (first ++ written)) × Theorem written
@@ -104,26 +106,35 @@ module _ (words opened : Type 0) (damaged : Damage → Type 0) (left : Option (L
     -- each status has one part of the theorem
     cut : (written : List ℕ) → (status ≡ 1) ⊎ (status ≡ 5) → NothingRun start since written ⊎ RunCutShort start since (IsImageNow after) written → Theorem written
     cut written one front = record {
-      done = λ d. absurd (grind (arith, one, d));
-      cut_short = λ c. front;
-      refused = λ d. absurd (grind (arith, one, d));
-      others = λ d. grind (arith, one, d);
+      theorem = record {
+        done = λ d. absurd (grind (arith, one, d));
+        cut_short = λ c. front;
+        refused = λ d. absurd (grind (arith, one, d));
+        others = λ d. grind (arith, one, d);
+      };
+      refusals = λ d. absurd (grind (arith, one, d));
     }
 
     refuses : (written : List ℕ) → (status ≡ 2) ⊎ (status ≡ 3) ⊎ (status ≡ 4) → ReasonFor status (reached_script_of bytes) written → new ≡ old → Theorem written
     refuses written one because same = record {
-      done = λ d. absurd (grind (arith, one, d));
-      cut_short = λ d. absurd (grind (arith, one, d));
-      refused = λ d. (because, same);
-      others = λ d. grind (arith, one, d);
+      theorem = record {
+        done = λ d. absurd (grind (arith, one, d));
+        cut_short = λ d. absurd (grind (arith, one, d));
+        refused = λ d. (because, same);
+        others = λ d. grind (arith, one, d);
+      };
+      refusals = λ d. absurd (grind (arith, one, d));
     }
 
-    does : (written : List ℕ) → (status ≡ 0) ⊎ (status ≡ 6) ⊎ (status ≡ 8) → RunDone start since (IsImageNow after) (HasRisen old.own_faults new.own_faults) (clock_of after ≡ clock_of before) status written → Theorem written
+    does : (written : List ℕ) → (status ≡ 0) ⊎ (status ≡ 6) ⊎ (status ≡ 8) → RefusesWell start since (IsImageNow after) (HasRisen old.own_faults new.own_faults) (clock_of after ≡ clock_of before) after.bytes status written → Theorem written
     does written one d = record {
-      done = λ x. d;
-      cut_short = λ x. absurd (grind (arith, one, x));
-      refused = λ x. absurd (grind (arith, one, x));
-      others = λ x. grind (arith, one, x);
+      theorem = record {
+        done = λ x. d.done;
+        cut_short = λ x. absurd (grind (arith, one, x));
+        refused = λ x. absurd (grind (arith, one, x));
+        others = λ x. grind (arith, one, x);
+      };
+      refusals = λ x. d;
     }
 
     -- ---- an early end
@@ -138,18 +149,22 @@ module _ (words opened : Type 0) (damaged : Damage → Type 0) (left : Option (L
         let spells = why.1 bytes left_is in
         let nothing_done : Ran = record { outcomes = []; durable = e; fault = Some run_fault.Disk } in
         does written (inr (inl is)) (record {
-          script = spells.0;
-          ran = nothing_done;
-          history = [];
-          read = spells.1;
-          run = record {
-            one_history = no_outcomes spells.0;
-            legal = record { each = λ k c at. absurd (let x : ◌≡◌ {A = Option Commit} None (Some c) = at in cc) };
-            every_image = every_image (reason.Fault run_fault.Disk) en why;
-            on_return = on_return (reason.Fault run_fault.Disk) en why;
+          done = record {
+            script = spells.0;
+            ran = nothing_done;
+            history = [];
+            read = spells.1;
+            run = record {
+              one_history = no_outcomes spells.0;
+              legal = record { each = λ k c at. absurd (let x : ◌≡◌ {A = Option Commit} None (Some c) = at in cc) };
+              every_image = every_image (reason.Fault run_fault.Disk) en why;
+              on_return = on_return (reason.Fault run_fault.Disk) en why;
+            };
+            printed = inr (text, is, (en.failed refl).counts.own_faults tt, ap clock_of (same_after (reason.Fault run_fault.Disk) en why), refl);
+            all_durable = λ h. refl;
           };
-          printed = inr (text, is, (en.failed refl).counts.own_faults tt, ap clock_of (same_after (reason.Fault run_fault.Disk) en why), refl);
-          all_durable = λ h. refl;
+          causes = no_causes old.region_len e rows after.bytes spells.0 (length spells.0 - 0) [] e;
+          all_run = λ h. absurd (grind (arith, is, h));
         })
 
     -- an early end whose text was written
@@ -182,20 +197,25 @@ module _ (words opened : Type 0) (damaged : Damage → Type 0) (left : Option (L
       short written front = record { script = script; ran = r; history = on.history; read = read; run = run; printed = front }
 
       done : (written : List ℕ) → written ≡ report script r → HasStatus status r.outcomes r.fault → (¬ ((status ≡ 6) × HasRisen old.own_faults new.own_faults) → r.durable ≡ last_epoch e on.history)
-          → RunDone start since (IsImageNow after) (HasRisen old.own_faults new.own_faults) (clock_of after ≡ clock_of before) status written
-      done written text has all = record { script = script; ran = r; history = on.history; read = read; run = run; printed = inl (text, has); all_durable = all }
+          → (OneOf (0 ∷ 8 ∷ []) status → AllByRecursion HasRun (all_outcomes script r.outcomes))
+          → RefusesWell start since (IsImageNow after) (HasRisen old.own_faults new.own_faults) (clock_of after ≡ clock_of before) after.bytes status written
+      done written text has durable all = record {
+        done = record { script = script; ran = r; history = on.history; read = read; run = run; printed = inl (text, has); all_durable = durable };
+        causes = on.causes;
+        all_run = all;
+      }
 
       ran_whole : (written : List ℕ) → written ≡ report script r → (f : Option RunFault) → r.fault ≡ f → status ≡ run_status r.outcomes f → Theorem written
       ran_whole written text None fine is =
           does written (by (list_any is_refused r.outcomes) is)
-          (done written text (subst (HasStatus status r.outcomes) (sym fine) is) (λ h. on.all_durable fine))
+          (done written text (subst (HasStatus status r.outcomes) (sym fine) is) (λ h. on.all_durable fine) (λ h. is_run.all_run fine))
         where
           by : (b : Bool) → status ≡ cond {A = ℕ} b 8 0 → (status ≡ 0) ⊎ (status ≡ 6) ⊎ (status ≡ 8)
           by true h = inr (inr h)
           by false h = inl h
       ran_whole written text (Some run_fault.Memory) fine is = cut written (inl is) (inr (short written ([], sym text ∙ sym (append-nil written))))
       ran_whole written text (Some run_fault.Disk) fine is =
-          does written (inr (inl is)) (done written text (subst (HasStatus status r.outcomes) (sym fine) is) (λ h. absurd (h (is, (is_run.failed fine).1))))
+          does written (inr (inl is)) (done written text (subst (HasStatus status r.outcomes) (sym fine) is) (λ h. absurd (h (is, (is_run.failed fine).1))) (λ h. absurd (grind (arith, is, h))))
       ran_whole written text (Some (run_fault.Damaged what)) fine is = absurd (is_run.no_damage what fine)
 
     -- ---- the whole

@@ -5,25 +5,34 @@ use Rattle.fine_model.specs.declared.Row.{Row}
 use Rattle.fine_model.specs.declared.Entry.{Entry}
 use Rattle.fine_model.specs.declared.ScriptTxn.{ScriptTxn}
 use Rattle.fine_model.specs.declared.Ending.TheVariants as ending
+use Rattle.fine_model.specs.declared.Outcome.{Outcome}
 use Rattle.fine_model.specs.declared.Outcome.TheVariants as outcome
+use Rattle.fine_model.specs.declared.NodeId.{NodeId}
 use Rattle.fine_model.specs.declared.RunFault.{RunFault}
 use Rattle.fine_model.specs.declared.RunFault.TheVariants as run_fault
 use Rattle.fine_model.specs.declared.Why.{Why}
 use Rattle.fine_model.specs.Nodes.{Content}
 use Rattle.fine_model.specs.Trees.{map_of}
 use Rattle.fine_model.specs.Store.{replies_to, writes_of}
+use Rattle.fine_model.specs.Merge.{cost}
 use Rattle.fine_model.specs.Pushed.{all_pushed}
 use Rattle.fine_model.specs.History.{Commit, IsLegal, all_rows}
 use Rattle.fine_model.specs.Room.{IsSealedUpTo, RoomState}
 use Rattle.log_disk.specs.Disk.{Disk, Told, SameBeside}
 use Rattle.epoch_room.specs.Value.{RoomValue}
 use Rattle.epoch_room.specs.Whole.{IsWhole, HasPassed}
+use Rattle.epoch_room.specs.Fitting.{fit_of}
+use Rattle.epoch_room.specs.declared.answers.Fit.TheVariants as fit
 use Rattle.epoch_room.specs.Steps.{appended, sealed_state, shut_state}
 use Rattle.epoch_room.specs.Meaning.{Stands, StandsTold, StandsWhere, StandsForMore, GoesOnStanding}
 use Rattle.leaf_store.specs.Leaves.{Holds, kept}
-use Rattle.leaf_store.specs.Answers.{Answers}
+use Rattle.leaf_store.specs.Answers.{Answers, FillsLeaf, PassesVersions}
+use Rattle.leaf_store.specs.declared.fault.AnswerFault.{AnswerFault}
+use Rattle.leaf_store.specs.declared.fault.AnswerFault.TheVariants as answer_fault
 use Rattle.leaf_store.specs.declared.answered.Answered.{Answered}
-use Rattle.fine_top.specs.Steps.{FailsToSeal, MaySeal, KeepsPlace, GoesOn, RunsTxn, EndsBy}
+use Rattle.fine_top.specs.Refusals.{IsFull, IsSpent, GoesLater, unanswered}
+use Rattle.fine_top.specs.Steps.{FailsToSeal, MakesRoom, MaySeal, KeepsPlace, GoesOn, RefusedHere, RunsTxn, EndsBy}
+use Rattle.fine_top.proofs.Refused.{not_full, refused_by_room, refused_by_store, later_none, later_then}
 use Rattle.fine_top.proofs.Following.{epochs_below, legal_of, follows, sealed_on}
 
 -- ---- what sealing leaves
@@ -40,10 +49,11 @@ pub record Rests (old new : RoomValue) : Type 0 where
   pub open_ : new.room.is_shut ≡ false
   pub same_counts : (new.disk.faults ≡ old.disk.faults) × (new.disk.own_faults ≡ old.disk.own_faults)
   pub place : KeepsPlace old new
+  pub later : GoesLater old new
 
 pub rests : (old new : RoomValue) → old.room.is_shut ≡ false → MaySeal old new → Rests old new
 unfolding sealed_state
-rests old new is_open (inl same) = subst (Rests old) (sym same) (record { places = refl; open_ = is_open; same_counts = (refl, refl); place = keeps_itself old })
+rests old new is_open (inl same) = subst (Rests old) (sym same) (record { places = refl; open_ = is_open; same_counts = (refl, refl); place = keeps_itself old; later = later_none old })
 rests old new is_open (inr s) =
     let seals = s.1 in let counts = seals.counts in
     record {
@@ -51,6 +61,12 @@ rests old new is_open (inr s) =
       open_ = ap (λ r. r.is_shut) seals.room ∙ is_open;
       same_counts = (counts.faults, counts.own_faults);
       place = record { entry = seals.entry; beside = seals.beside; no_lower = (let f = counts.faults in omega (arith, f), let f = counts.own_faults in omega (arith, f)) };
+      later = record {
+        region_len = ap (λ r. r.region_len) seals.room;
+        sealed = let e : new.room.sealed ≡ old.room.sealed + 1 = ap (λ r. r.sealed) seals.room in omega (arith, e);
+        places = let e : new.room.places ≡ old.room.places = ap (λ r. r.places) seals.room in omega (arith, e);
+        full = λ f. absurd (let none = f.none_waits in let some = s.0 in omega (arith, none, some));
+      };
     }
 
 -- ---- a transaction that appends nothing
@@ -66,8 +82,8 @@ stays : (v : RoomValue) → GoesOnStanding v v
 stays v first e history h = h
 
 pub refused : (txn : ScriptTxn) (turn : ℕ) (old new : RoomValue) (leaves : List Content) (why : Why) → txn.ending ≡ ending.Commit → old.room.is_shut ≡ false → MaySeal old new → GoesOnStanding old new
-    → RunsTxn txn turn old new leaves leaves (outcome.Refused why)
-refused txn turn old new leaves why commits is_open may stand =
+    → RefusedHere old new leaves txn.calls why → RunsTxn txn turn old new leaves leaves (outcome.Refused why)
+refused txn turn old new leaves why commits is_open may stand because =
     let r = rests old new is_open may in
     record {
       outcome = commits;
@@ -78,15 +94,37 @@ refused txn turn old new leaves why commits is_open may stand =
       same_counts = r.same_counts;
       place = r.place;
       goes_on = none_more old new leaves stand;
+      later = r.later;
+      refused = λ w is. subst (RefusedHere old new leaves txn.calls) (same_why why w is) because;
     }
+  where
+    same_why : (a b : Why) → outcome.Refused a ≡ outcome.Refused b → a ≡ b
+    same_why a b is = cc
 
-pub refused_here : (txn : ScriptTxn) (turn : ℕ) (old : RoomValue) (leaves : List Content) (why : Why) → txn.ending ≡ ending.Commit → old.room.is_shut ≡ false → RunsTxn txn turn old old leaves leaves (outcome.Refused why)
-refused_here txn turn old leaves why commits is_open = refused txn turn old old leaves why commits is_open (inl refl) (stays old)
+-- the room does not take the rows of an answered transaction
+pub refused_rows : (txn : ScriptTxn) (turn : ℕ) (old new : RoomValue) (leaves : List Content) (why : Why) (answered : Answered) → txn.ending ≡ ending.Commit → old.room.is_shut ≡ false → MakesRoom (cost answered.log) old new (Some why)
+    → GoesOnStanding old new → answered.log ≡ answered.rows → ((rows : List Row) → Holds leaves rows → Answers leaves rows txn.calls answered) → RunsTxn txn turn old new leaves leaves (outcome.Refused why)
+refused_rows txn turn old new leaves why answered commits is_open makes stand log answers =
+    let r = rests old new is_open makes.may_seal in
+    refused txn turn old new leaves why commits is_open makes.may_seal stand
+    (λ before told first e history h.
+    let a = answers (first ++ all_rows history) h.holds in
+    refused_by_room new old.room.region_len (first ++ all_rows history) txn.calls answered.log why r.open_ r.later.region_len (a.pushed ∙ ap Ok (sym log)) makes.none_used makes.why)
+
+-- the store does not answer a transaction
+pub refused_calls : (txn : ScriptTxn) (turn : ℕ) (old : RoomValue) (leaves : List Content) (why : Why) (f : AnswerFault) → txn.ending ≡ ending.Commit → old.room.is_shut ≡ false → Some why ≡ unanswered f
+    → ((rows : List Row) → Holds leaves rows → f ≡ answer_fault.Bucket → FillsLeaf rows txn.calls)
+    → ((rows : List Row) (id : NodeId) → Holds leaves rows → f ≡ answer_fault.Number id → PassesVersions rows txn.calls id) → RunsTxn txn turn old old leaves leaves (outcome.Refused why)
+refused_calls txn turn old leaves why f commits is_open is bucket number =
+    refused txn turn old old leaves why commits is_open (inl refl) (stays old)
+    (λ before told first e history h.
+    let rows : List Row = first ++ all_rows history in
+    refused_by_store old.room.region_len rows txn.calls (IsFull old) (IsSpent old) f why is (bucket rows h.holds) (λ id. number rows id h.holds))
 
 -- want of memory before anything was appended
 pub out_of_memory : (old new : RoomValue) (leaves : List Content) → old.room.is_shut ≡ false → MaySeal old new → GoesOnStanding old new → EndsBy old new leaves leaves run_fault.Memory
 out_of_memory old new leaves is_open may stand =
-    let r = rests old new is_open may in record { counts = r.open_; places = r.places; place = r.place; goes_on = none_more old new leaves stand }
+    let r = rests old new is_open may in record { counts = r.open_; places = r.places; place = r.place; goes_on = none_more old new leaves stand; later = r.later }
 
 pub out_of_memory_here : (old : RoomValue) (leaves : List Content) → old.room.is_shut ≡ false → EndsBy old old leaves leaves run_fault.Memory
 out_of_memory_here old leaves is_open = out_of_memory old old leaves is_open (inl refl) (stays old)
@@ -94,19 +132,31 @@ out_of_memory_here old leaves is_open = out_of_memory old old leaves is_open (in
 -- sealing failed
 pub not_sealed : (old new : RoomValue) (leaves : List Content) (f : RunFault) → old.room.is_shut ≡ false → FailsToSeal old new f → GoesOnStanding old new → EndsBy old new leaves leaves f
 unfolding shut_state
-not_sealed old new leaves run_fault.Disk is_open s stand = record {
+not_sealed old new leaves run_fault.Disk is_open (some, s) stand = record {
   counts = (s.faults, s.own_faults);
   places = ap (λ r. r.places) s.room;
   place = record { entry = s.entry; beside = s.beside; no_lower = s.no_lower };
   goes_on = none_more old new leaves stand;
+  later = record {
+    region_len = ap (λ r. r.region_len) s.room;
+    sealed = let e : new.room.sealed ≡ old.room.sealed = ap (λ r. r.sealed) s.room in omega (arith, e);
+    places = let e : new.room.places ≡ old.room.places = ap (λ r. r.places) s.room in omega (arith, e);
+    full = λ f. absurd (let none = f.none_waits in omega (arith, none, some));
+  };
 }
-not_sealed old new leaves run_fault.Memory is_open s stand =
+not_sealed old new leaves run_fault.Memory is_open (some, s) stand =
     let counts = s.counts in
     record {
       counts = ap (λ r. r.is_shut) s.room ∙ is_open;
       places = ap (λ r. r.places) s.room;
       place = record { entry = s.entry; beside = s.beside; no_lower = (let f = counts.faults in omega (arith, f), let f = counts.own_faults in omega (arith, f)) };
       goes_on = none_more old new leaves stand;
+      later = record {
+        region_len = ap (λ r. r.region_len) s.room;
+        sealed = let e : new.room.sealed ≡ old.room.sealed = ap (λ r. r.sealed) s.room in omega (arith, e);
+        places = let e : new.room.places ≡ old.room.places = ap (λ r. r.places) s.room in omega (arith, e);
+        full = λ f. absurd (let none = f.none_waits in omega (arith, none, some));
+      };
     }
 not_sealed old new leaves (run_fault.Damaged what) is_open s stand = absurd s
 
@@ -130,6 +180,7 @@ module _ (txn : ScriptTxn) (turn : ℕ) (old mid new : RoomValue) (leaves after 
     pub may_seal : MaySeal old mid
     pub stand : GoesOnStanding old mid
     pub more : StandsForMore mid new answered.rows
+    pub fits : fit_of mid (cost answered.log) ≡ fit.Fits
     pub appended_is : new ≡ appended mid answered.rows
     pub place_is : place ≡ mid.room.places + 1
     pub epoch_is : epoch ≡ mid.room.sealed + 1
@@ -192,4 +243,7 @@ module _ (txn : ScriptTxn) (turn : ℕ) (old mid new : RoomValue) (leaves after 
         same_counts = (ap (λ v. v.disk.faults) a.appended_is ∙ r.same_counts.0, ap (λ v. v.disk.own_faults) a.appended_is ∙ r.same_counts.1);
         place = kept_place;
         goes_on = goes a;
+        later = later_then old mid new r.later (subst (GoesLater mid) (sym a.appended_is)
+            (record { region_len = refl; sealed = omega arith; places = omega arith; full = λ f. absurd (not_full mid (cost answered.log) a.fits f) }));
+        refused = λ w is. absurd (let c : ◌≡◌ {A = Outcome} (outcome.Committed place epoch entry) (outcome.Refused w) = is in cc);
       }

@@ -1,6 +1,6 @@
 -- How a call of the program ends, and what it prints then.
 use Rattle.std.specs.Prelude.{◌≡◌, ◌⊎◌, ℕ, ◌≤◌, List, [], ◌∷◌, ◌++◌, if◌then◌else◌, Option, Some, None, Err, Ok, ⊤}
-use Rattle.std.specs.List.{list_any}
+use Rattle.std.specs.List.{AllByRecursion, list_any}
 use Rattle.log_disk.specs.Disk.{Disk, Told, HasRisen, SameBeside, OnlyFails, IsImageNow, IsImageSince, clock_of}
 use Rattle.fine_model.specs.declared.Row.{Row}
 use Rattle.fine_model.specs.declared.ScriptTxn.{ScriptTxn}
@@ -15,10 +15,13 @@ use Rattle.fine_model.specs.Outcomes.{is_refused}
 use Rattle.fine_model.specs.History.{Commit, last_epoch}
 use Rattle.fine_model.specs.Trees.{IsSound}
 use Rattle.fine_model.specs.Chain.{Shows}
-use Rattle.fine_model.specs.Headline.{IsRun, RunTheorem}
+use Rattle.fine_model.specs.Regions.{Image}
+use Rattle.fine_model.specs.Headline.{Start, IsRun, RunDone, RunTheorem}
 use Rattle.fine_model.specs.Script.{many, too_long, bad_line}
 use Rattle.fine_model.specs.Reach.{reached_script_of}
 use Rattle.fine_model.specs.Report.{all_outcomes, reason_bytes, report}
+use Rattle.fine_top.specs.Running.{HasRun}
+use Rattle.fine_top.specs.Refusals.{HaveCauses}
 use Rattle.script_text.specs.Streams.{Puts}
 use Rattle.script_text.specs.declared.read.ScriptFault.{ScriptFault}
 use Rattle.script_text.specs.declared.read.ScriptFault.TheVariants as fault
@@ -83,6 +86,7 @@ pub record IsRunOn (region_len : ℕ) (before after : Told) (script : List Scrip
   pub history : List Commit
   pub run : IsRun (record { script = Ok script; region_len = region_len; e = e; rows = rows }) (IsImageSince (clock_of before) after) (IsImageNow after) script (all_outcomes script ran.outcomes) ran.durable history
   pub all_durable : ran.fault ≡ None → ran.durable ≡ last_epoch e history
+  pub causes : HaveCauses region_len e rows after.bytes script (all_outcomes script ran.outcomes) history ran.durable
 
 -- what it was on every sound log that the disk showed, where it tells its bytes
 abbrev pub IsRunOfTold : ℕ → Option Told → Option Told → List ScriptTxn → Ran → Type 0
@@ -96,6 +100,7 @@ pub record IsRunOf (old new : Disk) (script : List ScriptTxn) (ran : Ran) : Type
   pub no_damage : (what : Damage) → ran.fault ≡ Some (run_fault.Damaged what) → ⊥
   pub failed : ran.fault ≡ Some run_fault.Disk → HasRisen old.faults new.faults × HasRisen old.own_faults new.own_faults
   pub not_failed : ran.fault ≡ None → (new.faults ≡ old.faults) × (new.own_faults ≡ old.own_faults)
+  pub all_run : ran.fault ≡ None → AllByRecursion HasRun (all_outcomes script ran.outcomes)
   pub no_lower : (old.faults ≤ new.faults) × (old.own_faults ≤ new.own_faults)
   pub told : IsRunOfTold old.region_len old.told new.told script ran
 
@@ -144,10 +149,21 @@ abbrev pub OneOf : List ℕ → ℕ → Type 0
 OneOf [] status = ⊥
 OneOf (s ∷ ss) status = (status ≡ s) ⊎ OneOf ss status
 
+-- A run that was done, and the cause of each refusal that was printed. Only a failed disk leaves transactions that were not run.
+pub record RefusesWell (start : Start) (since now : Image → Type 0) (own_rose still : Type 0) (image : Image) (status : ℕ) (written : List ℕ) : Type 0 where
+  pub done : RunDone start since now own_rose still status written
+  pub causes : HaveCauses start.region_len start.e start.rows image done.script (all_outcomes done.script done.ran.outcomes) done.history done.ran.durable
+  pub all_run : OneOf (0 ∷ 8 ∷ []) status → AllByRecursion HasRun (all_outcomes done.script done.ran.outcomes)
+
+-- the theorem of a run, and the causes of the refusals that it printed
+pub record RanWell (start : Start) (since now : Image → Type 0) (own_rose still untouched : Type 0) (image : Image) (status : ℕ) (written : List ℕ) : Type 0 where
+  pub theorem : RunTheorem start since now own_rose still untouched status written
+  pub refusals : OneOf (0 ∷ 6 ∷ 8 ∷ []) status → RefusesWell start since now own_rose still image status written
+
 -- The theorem of a run: on every sound log that the program reaches, where script, disk and output are told.
 pub record RunsWell (damaged : Damage → Type 0) (left : Option (List ℕ)) (old new : Disk) (status : ℕ) (was now : Option (List ℕ)) : Type 0 where
   pub holds : (bytes first : List ℕ) (before after : Told) (e : ℕ) (rows : List Row) → left ≡ Some bytes → was ≡ Some first → old.told ≡ Some before → new.told ≡ Some after
       → Shows old.region_len before.bytes e rows → IsSound rows → ((what : Damage) → damaged what → ⊥)
       → (written : List ℕ) × (now ≡ Some (first ++ written))
-      × RunTheorem (record { script = reached_script_of bytes; region_len = old.region_len; e = e; rows = rows }) (IsImageSince (clock_of before) after) (IsImageNow after)
-      (HasRisen old.own_faults new.own_faults) (clock_of after ≡ clock_of before) (new ≡ old) status written
+      × RanWell (record { script = reached_script_of bytes; region_len = old.region_len; e = e; rows = rows }) (IsImageSince (clock_of before) after) (IsImageNow after)
+      (HasRisen old.own_faults new.own_faults) (clock_of after ≡ clock_of before) (new ≡ old) after.bytes status written

@@ -10,7 +10,7 @@ use Rattle.fine_model.specs.Nodes.{Content}
 use Rattle.fine_model.specs.Regions.{Image}
 use Rattle.fine_model.specs.Chain.{Shows, chain}
 use Rattle.leaf_store.specs.Leaves.{Holds, IsPlain, LeavesWhole}
-use Rattle.leaf_store.specs.Loading.{TellsParts, IsDamaged}
+use Rattle.leaf_store.specs.Loading.{TellsParts, HasRowsRead, HasBadRead, sealed_in, bad_in, IsDamaged}
 use Rattle.reopen.specs.declared.chain.Chain.{Chain}
 use Rattle.reopen.specs.declared.fault.OpenFault.{OpenFault}
 use Rattle.reopen.specs.declared.fault.OpenFault.TheVariants as fault
@@ -32,11 +32,13 @@ pub record HasNoChain (disk : Disk) (what : Damage) : Type 0 where
   pub is_seen : IsSeen disk image
   pub damaged : chain disk.region_len image ≡ Err what
 
--- a part of the chain is damaged, or has rows that this store does not take
+-- A part of the chain is damaged, or has rows that this store does not take, by the bytes that were read of it; they are those of
+-- the disk, where it tells them.
 pub record HasBadPart (disk : Disk) (what : Damage) : Type 0 where
   pub found : Chain
   pub sees : SeesChain disk found
-  pub damaged : (image : Image) → TellsParts disk found.parts image → IsDamaged disk.region_len image found.parts what
+  pub damaged : IsDamaged disk.region_len (HasRowsRead disk) (HasBadRead disk) found.parts what
+  pub told : (image : Image) → TellsParts disk found.parts image → IsDamaged disk.region_len (sealed_in disk.region_len image) (bad_in disk.region_len image) found.parts what
 
 -- what is wrong with a log; so the log is none that this store takes
 pub record IsDamagedLog (disk : Disk) (what : Damage) : Type 0 where

@@ -3,6 +3,7 @@ use Rattle.std.specs.Prelude.{◌≡◌, ◌⊎◌, ℕ, ◌+◌, ◌≤◌, fal
 use Rattle.std.specs.List.{AllByRecursion, AllZip}
 use Rattle.log_disk.specs.Disk.{Told, SameBeside, HasRisen}
 use Rattle.fine_model.specs.declared.Row.{Row}
+use Rattle.fine_model.specs.declared.Call.{Call}
 use Rattle.fine_model.specs.declared.ScriptTxn.{ScriptTxn}
 use Rattle.fine_model.specs.declared.Entry.{Entry}
 use Rattle.fine_model.specs.declared.Outcome.{Outcome}
@@ -27,6 +28,7 @@ use Rattle.epoch_room.specs.declared.answers.Fit.TheVariants as fit
 use Rattle.leaf_store.specs.Leaves.{Holds, kept}
 use Rattle.leaf_store.specs.declared.answered.Answered.{Answered}
 use Rattle.fine_top.specs.Running.{commits_of, AreNumbered, HasRun}
+use Rattle.fine_top.specs.Refusals.{IsFull, IsSpent, GoesLater, RefusesBehind, EachRefusedFor}
 
 -- the room stands for a sound log and the history since, and the leaves are those of both
 pub record StandsHere (room : RoomValue) (leaves : List Content) (first : List Row) (e : ℕ) (history : List Commit) : Type 0 where
@@ -43,8 +45,8 @@ why_of _ = Some why.Full
 
 -- a fault of sealing, and what it leaves
 abbrev pub FailsToSeal : RoomValue → RoomValue → RunFault → Type 0
-FailsToSeal old new run_fault.Disk = Shuts old new
-FailsToSeal old new run_fault.Memory = StaysOpen old new
+FailsToSeal old new run_fault.Disk = (1 ≤ old.room.waiting) × Shuts old new
+FailsToSeal old new run_fault.Memory = (1 ≤ old.room.waiting) × StaysOpen old new
 FailsToSeal old new (run_fault.Damaged what) = ⊥
 
 -- the room was left as it was, or its open epoch was sealed
@@ -55,6 +57,8 @@ MaySeal old new = (new ≡ old) ⊎ ((1 ≤ old.room.waiting) × Seals old new)
 pub record MakesRoom (cost : ℕ) (old new : RoomValue) (answer : Option Why) : Type 0 where
   pub may_seal : MaySeal old new
   pub why : answer ≡ why_of (fit_of new cost)
+  -- an epoch that has rows was sealed before its room is called too small
+  pub none_used : (need len : ℕ) → fit_of new cost ≡ fit.EpochFull need len → new.room.used ≡ 0
 
 -- what goes on with a room: it keeps its entry and all beside what its disk tells
 pub record KeepsPlace (old new : RoomValue) : Type 0 where
@@ -67,6 +71,21 @@ abbrev pub GoesOn : RoomValue → RoomValue → List Content → List Content �
 GoesOn old new leaves after more =
     (before : Told) → old.entry.told ≡ Some before → (first : List Row) (e : ℕ) (history : List Commit) → StandsHere old leaves first e history → StandsHere new after first e (history ++ more)
 
+-- why a transaction is refused, where the disk tells its bytes
+abbrev pub RefusedHere : RoomValue → RoomValue → List Content → List Call → Why → Type 0
+RefusedHere old new leaves calls w =
+    (before : Told) → old.entry.told ≡ Some before → (first : List Row) (e : ℕ) (history : List Commit) → StandsHere old leaves first e history
+    → RefusesBehind old.room.region_len (first ++ all_rows history) calls (IsFull new) (IsSpent new) w
+
+-- why each transaction of a run was refused
+abbrev pub RefusedSoFar : RoomValue → RoomValue → List Content → List ScriptTxn → List Outcome → Type 0
+RefusedSoFar old new leaves script done =
+    (before : Told) → old.entry.told ≡ Some before → (first : List Row) (e : ℕ) (history : List Commit) → StandsHere old leaves first e history
+    → EachRefusedFor (λ commits calls w. RefusesBehind old.room.region_len (first ++ all_rows commits) calls (IsFull new) (IsSpent new) w) history script done
+
+abbrev pub IsRefusal : Outcome → Why → Type 0
+IsRefusal o w = o ≡ outcome.Refused w
+
 -- A transaction was run: its outcome, by the number of those before it, and what it left.
 pub record RunsTxn (txn : ScriptTxn) (turn : ℕ) (old new : RoomValue) (leaves after : List Content) (o : Outcome) : Type 0 where
   pub outcome : IsOutcomeOf txn o
@@ -77,6 +96,8 @@ pub record RunsTxn (txn : ScriptTxn) (turn : ℕ) (old new : RoomValue) (leaves 
   pub same_counts : (new.disk.faults ≡ old.disk.faults) × (new.disk.own_faults ≡ old.disk.own_faults)
   pub place : KeepsPlace old new
   pub goes_on : GoesOn old new leaves after (commits_of (o ∷ []))
+  pub later : GoesLater old new
+  pub refused : (w : Why) → IsRefusal o w → RefusedHere old new leaves txn.calls w
 
 -- an answered transaction was appended to a room with room for it, and its changed leaves were kept
 pub record AppendsTxn (txn : ScriptTxn) (turn : ℕ) (answered : Answered) (old new : RoomValue) (leaves after : List Content) (o : Outcome) : Type 0 where
@@ -104,6 +125,7 @@ pub record EndsBy (old new : RoomValue) (leaves after : List Content) (fault : R
   pub places : new.room.places ≡ old.room.places
   pub place : KeepsPlace old new
   pub goes_on : GoesOn old new leaves after []
+  pub later : GoesLater old new
 
 -- ---- a run
 
@@ -125,6 +147,8 @@ pub record RunsTo (script : List ScriptTxn) (old new : RoomValue) (leaves after 
   pub places : new.room.places ≡ old.room.places + length (commits_of done)
   pub place : KeepsPlace old new
   pub goes_on : GoesOn old new leaves after (commits_of done)
+  pub later : GoesLater old new
+  pub refused : RefusedSoFar old new leaves script done
 
 -- the room can still be written to, and its disk's counts did not rise
 pub record IsFine (old new : RoomValue) : Type 0 where
@@ -146,6 +170,7 @@ IsFaultOf room (run_fault.Damaged what) = ⊥
 pub record EndsRun (ran : Result (Unit {0}) RunFault) (old new : RoomValue) (fault : Option RunFault) : Type 0 where
   pub places : new.room.places ≡ old.room.places
   pub place : KeepsPlace old new
+  pub later : GoesLater old new
   pub stands : GoesOnStanding old new
   pub none : fault ≡ None → (ran ≡ Ok tt) × SealsRest old new
   pub disk : fault ≡ Some run_fault.Disk → ((ran ≡ Ok tt) × CountsFailure run_fault.Disk old new) ⊎ ((ran ≡ Err run_fault.Disk) × (new ≡ old))
@@ -156,6 +181,7 @@ pub record RunsScript (script : List ScriptTxn) (old new : RoomValue) (leaves af
   pub runs_to : RunsTo script old new leaves after (all_outcomes script ran.outcomes)
   pub durable : ran.durable ≡ new.room.sealed
   pub all_sealed : ran.fault ≡ None → new.room.waiting ≡ 0
+  pub all_run : ran.fault ≡ None → AllByRecursion HasRun (all_outcomes script ran.outcomes)
   pub no_damage : (what : Damage) → ran.fault ≡ Some (run_fault.Damaged what) → ⊥
   pub failed : ran.fault ≡ Some run_fault.Disk → CountsFailure run_fault.Disk old new
   pub not_failed : ran.fault ≡ None → (new.disk.faults ≡ old.disk.faults) × (new.disk.own_faults ≡ old.disk.own_faults)

@@ -8,6 +8,7 @@ ghost use Rattle.fine_model.specs.declared.Outcome.TheVariants as outcome;
 ghost use Rattle.fine_model.specs.declared.RunFault.TheVariants as run_fault;
 ghost use Rattle.epoch_room.specs.Meaning.{GoesOnStanding};
 ghost use Rattle.epoch_room.specs.Whole.{IsWhole};
+ghost use Rattle.fine_top.specs.Running.{HasRun};
 ghost use Rattle.fine_top.specs.Steps.{RunsTo, IsFine, CountsFailure, FailsToSeal, SealsRest, IsFaultOf, EndsRun, RunsScript};
 
 use crate::txn::{run_txn, seal_epoch};
@@ -44,6 +45,7 @@ fn run_txns<D: LogDisk>(
     requires none { outcomes.old ≡ replicate (length script.now) outcome.NotRun }
     ensures run { RunsTo script.now room.old room.new leaves.old leaves.new outcomes.new }
     ensures ok { OnOk result (IsFine room.old room.new) }
+    ensures all { OnOk result (AllByRecursion HasRun outcomes.new) }
     ensures err { IfErr result (λ fault. CountsFailure fault room.old room.new) }
 {
     for i in 0..script.len() {
@@ -121,9 +123,10 @@ pub fn run_script<D: LogDisk>(
     };
     let ran = run_txns(alloc, room, leaves, script, &mut outcomes);
     let fault = end_run(room, ran);
+    let durable = room.counts().sealed;
     Ran {
         outcomes,
-        durable: room.counts().sealed,
+        durable,
         fault,
     }
 }

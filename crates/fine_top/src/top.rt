@@ -132,10 +132,10 @@ fn run_opened<K: Sink, D: LogDisk>(alloc: Global, opened: Opened, out: &mut K, d
         Ok(mut room) => {
             let ran = run_script(alloc, &mut room, &mut leaves, &script);
             let status = print_report(out, &script, &ran);
-            Finish {
-                status,
-                disk: room.into_disk(),
-            }
+            let disk = room.into_disk();
+            // A disk that tells its geometry is a sound one.
+            let _regions = disk.regions();
+            Finish { status, disk }
         }
         Err((_, disk)) => Finish {
             status: print_reason(
@@ -201,8 +201,8 @@ pub fn fineline<R: Threads + Wait + Sync, S: Source, K: Sink, D: LogDisk, G: Gat
     // What is printed, and why.
     ensures ends { Ends (IsRun words.now) (IsOpenedLog (D.state disk)) (IsDamagedLog (D.state disk)) (S.left script.old) (D.state disk) (D.state result.disk) result.status (K.written out.old) (K.written out.new) }
 
-    // The printed places order the committed transactions into one history of a sequential store, and every image that a crash could
-    // have left reopens to a prefix of it.
+    // The printed places order the committed transactions into one history of a sequential store, every image that a crash could
+    // have left reopens to a prefix of it, and each refusal that is printed has its cause.
     ensures run { RunsWell (IsDamagedLog (D.state disk)) (S.left script.old) (D.state disk) (D.state result.disk) result.status (K.written out.old) (K.written out.new) }
 
     // Status 2 comes exactly for other words, unless the output fails.

@@ -1,6 +1,6 @@
 //! One transaction of a script.
 
-ghost use Rattle.std.specs.Prelude.{◌≡◌, ◌-◌, ◌≤◌, false, List, IfOk, IfErr, OnOk, OnErr, IsTrue};
+ghost use Rattle.std.specs.Prelude.{◌≡◌, ◌-◌, ◌≤◌, ℕ, true, false, List, IfOk, IfErr, OnOk, OnErr, IsTrue};
 ghost use Rattle.std.specs.List.{AllByRecursion};
 ghost use Rattle.fine_model.specs.declared.Row.{Row};
 ghost use Rattle.fine_model.specs.declared.Mark.TheVariants as mark;
@@ -16,6 +16,7 @@ ghost use Rattle.fine_model.specs.Reach.{is_simple_txn};
 ghost use Rattle.epoch_room.specs.Whole.{IsWhole};
 ghost use Rattle.epoch_room.specs.Steps.{Seals};
 ghost use Rattle.epoch_room.specs.Meaning.{GoesOnStanding};
+ghost use Rattle.fine_top.specs.Refusals.{unanswered};
 ghost use Rattle.fine_top.specs.Steps.{why_of, FailsToSeal, MakesRoom, AppendsTxn, RunsTxn, EndsBy};
 
 use epoch_room::{Fit, Room, RoomFault};
@@ -51,6 +52,14 @@ fn why_of(fit: Fit) -> Option<Why>
     }
 }
 
+/// Whether rows fit a new epoch, but not the open one with the entries that wait.
+fn needs_new_epoch(answer: Fit, waiting: u64) -> bool
+    ensures some { result ≡ true → 1 ≤ waiting }
+    ensures none { result ≡ false → (need len : ℕ) → answer ≡ fit.EpochFull need len → waiting ≡ 0 }
+{
+    waiting > 0 && matches!(answer, Fit::EpochFull { .. })
+}
+
 /// Makes the open epoch fit rows of a cost, or says why they may not be appended: an epoch that is too full for them is sealed.
 fn make_room<D: LogDisk>(room: &mut Room<D>, cost: u64) -> Result<Option<Why>, RunFault>
     requires open { room.old.room.is_shut ≡ false }
@@ -60,17 +69,18 @@ fn make_room<D: LogDisk>(room: &mut Room<D>, cost: u64) -> Result<Option<Why>, R
     ensures stands { GoesOnStanding room.old room.new }
 {
     let waiting = room.counts().waiting;
-    match room.fit(cost) {
-        Fit::EpochFull { .. } if waiting > 0 => {
-            seal_epoch(room)?;
-            Ok(why_of(room.fit(cost)))
-        }
-        fit => Ok(why_of(fit)),
+    let fit = room.fit(cost);
+    if !needs_new_epoch(fit, waiting) {
+        return Ok(why_of(fit));
     }
+    seal_epoch(room)?;
+    Ok(why_of(room.fit(cost)))
 }
 
 /// Why the store did not answer a transaction, where that is not for want of memory.
-fn unanswered(fault: AnswerFault) -> Option<Why> {
+fn unanswered(fault: AnswerFault) -> Option<Why>
+    ensures { result ≡ unanswered fault }
+{
     match fault {
         AnswerFault::Bucket => Some(Why::Bucket),
         AnswerFault::Number { .. } => Some(Why::Number),
@@ -131,10 +141,12 @@ fn commit_txn<D: LogDisk>(
 {
     match make_room(room, answered.log.cost()) {
         Err(fault) => Err(fault),
-        Ok(Some(why)) => Ok(Outcome::Refused { why }),
-        Ok(None) => match append_txn(room, leaves, txn, turn, answered) {
-            Ok(outcome) => Ok(outcome),
-            Err(_refused) => Err(RunFault::Memory),
+        Ok(refusal) => match refusal {
+            Some(why) => Ok(Outcome::Refused { why }),
+            None => match append_txn(room, leaves, txn, turn, answered) {
+                Ok(outcome) => Ok(outcome),
+                Err(_refused) => Err(RunFault::Memory),
+            },
         },
     }
 }

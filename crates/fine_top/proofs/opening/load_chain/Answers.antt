@@ -21,7 +21,7 @@ returns-in-Err-Damaged-clause-err g c =
     let is : c.load.result ≡ Err (load.Damaged c.in-Err-Damaged.what) = c.in-Err-Damaged.is ∙ ap (λ f. Err f) c.in-Err-Damaged.field-0-is in
     let d = g.D.LogDisk.state c.args.disk.now in
     record {
-      is = inr (record { found = c.args.chain.now; sees = c.requires.sees; damaged = λ image tells. c.load.ensures.damaged image c.in-Err-Damaged.what tells is });
+      is = inr (record { found = c.args.chain.now; sees = c.requires.sees; damaged = c.load.ensures.damaged c.in-Err-Damaged.what is; told = λ image tells. c.load.ensures.told image c.in-Err-Damaged.what tells is });
       not_plain = λ p.
           subst (λ r. IfErr r NoDamage) is
           (c.load.ensures.sound p.before.bytes p.rows (tells_parts d c.args.chain.now p.before p.told c.requires.sees) (rows_found d c.args.chain.now p.before p.e p.rows p.told c.requires.sees p.shows) p.plain p.whole);

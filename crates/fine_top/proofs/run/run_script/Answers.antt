@@ -12,4 +12,4 @@ pub returns-clause-ran : goal.returns-clause-ran
 unfolding counts_of
 returns-clause-ran g c =
     ran_script c.args.script.now c.args.room.now c.run_txns-ran.new.room c.end_run-fault.new.room c.args.leaves.now c.run_txns-ran.new.leaves c.run_txns-ran.new.outcomes c.run_txns-ran.result c.end_run-fault.result _
-    c.run_txns-ran.ensures.run c.run_txns-ran.ensures.ok c.run_txns-ran.ensures.err c.end_run-fault.ensures refl refl (ap (λ r. r.sealed) c.counts-2.ensures.counts)
+    c.run_txns-ran.ensures.run c.run_txns-ran.ensures.ok c.run_txns-ran.ensures.all c.run_txns-ran.ensures.err c.end_run-fault.ensures refl refl (ap (λ r. r.sealed) c.counts-durable.ensures.counts)

@@ -2,6 +2,7 @@
 use Rattle.std.proofs.Common.{refl, sym, subst}
 use Rattle.fine_model.specs.declared.RunFault.TheVariants as run_fault
 use Rattle.fine_model.specs.declared.Reason.TheVariants as reason
+use Rattle.log_disk.specs.Disk.{IsSound as IsSoundDisk}
 use Rattle.epoch_room.specs.Meaning.{StandsAtFirst}
 use Rattle.reopen.proofs.RoomParts.{room_parts}
 use Rattle.fine_top.specs.Steps.{RunsScript}
@@ -26,7 +27,7 @@ returns-in-Ok-clause-ends g c =
     let first = subst (λ r. StandsAtFirst r d.told) c.in-Ok.ensures.made c.in-Ok.ensures.stands in
     record {
       ended = ran script result;
-      is_end = (refl, subst (λ x. IsRunOf d x script result) (sym c.into_disk.ensures.disk) (run_of d chain.parts chain.retired new leaves after script result runs first c.requires.loaded c.run_script-ran.ensures.whole));
+      is_end = (refl, subst (λ x. IsRunOf d x script result) (sym c.into_disk-disk.ensures.disk) (run_of d chain.parts chain.retired new leaves after script result runs first c.requires.loaded c.run_script-ran.ensures.whole (subst IsSoundDisk c.into_disk-disk.ensures.disk c.regions-regions.ensures.sound) c.requires.few));
       status_is = c.print_report-status.ensures.status;
       printed = c.print_report-status.ensures.puts;
     }

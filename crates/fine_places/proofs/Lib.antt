@@ -1,0 +1,6 @@
+pub mod Closing
+pub mod Giving
+pub mod Keeping
+pub mod Lists
+pub mod Seating
+pub mod Stepping

@@ -1,0 +1,202 @@
+//! The buckets that a transaction has taken, by number.
+#![tactic(auto)]
+
+ghost use Rattle.std.specs.Prelude.{◌≡◌, ◌≢◌, ◌<◌, ◌≤◌, ℕ, IfOk, IfErr, OnOk, OnErr, MatchBool, None, Some, Option, length, replicate, slice_get, slice_set, vec_len};
+ghost use Rattle.fine_model.specs.Trees.{bucket_of as bucket_of_key};
+ghost use Rattle.fine_hall.specs.Laws.{IsBucketFor};
+ghost use Rattle.fine_hall.specs.Passes.{published, seen, HasPlace, LacksPlace};
+ghost use Rattle.fine_hall.specs.Halls.{IsPassOf, begun, FindsHeld};
+ghost use Rattle.std.specs.Option.{option_copied_mut};
+ghost use Rattle.std.specs.Borrow.{sem};
+ghost use Rattle.key_locks.specs.Lent.{LendsBucket, LendsContent};
+ghost use Rattle.key_locks.specs.Locks.{HasLock, LacksLock, AreLocksOf, AllStand, Wants, Gathers, HasAllBelow, StopsAt, Releases};
+
+use fine_hall::{Conflict, Hall, Pass};
+use fine_model::{BucketLaw, NoMemory, RoomLaw, bucket_of};
+use std::alloc::Global;
+use std::marker::Model;
+use std::mem;
+
+/// How many buckets there are.
+const BUCKETS: u16 = 256;
+
+/// The contents of the buckets that a pass holds, each in the place of its number. Contracts see the list of the 256 places.
+///
+/// A bucket that was taken is held until `release_all`.
+#[derive(Drop)]
+pub struct LockSet<B> {
+    contents: Vec<Option<B>>,
+}
+
+impl<B> Model for LockSet<B> {
+    ghost use Rattle.std.specs.Prelude.{◌≡◌, List, Option, length};
+
+    ghost Value = { List (Option B) };
+
+    ghost view = { λ s. s.contents.items };
+
+    ghost invariant = { λ s. length s.contents.items ≡ 256 };
+}
+
+impl<B: BucketLaw + Drop> LockSet<B> {
+    /// A set that holds nothing. It is the only call that takes memory.
+    pub fn new(alloc: Global) -> Result<LockSet<B>, NoMemory>
+        ensures { IfOk result (λ locks. locks ≡ replicate 256 None) }
+    {
+        let mut contents = Vec::with_capacity(alloc, usize::from(BUCKETS))?;
+        for _ in 0..BUCKETS {
+            contents.push_reserved(None);
+        }
+        Ok(LockSet { contents })
+    }
+
+    /// The content of a bucket. None exactly where it is not held.
+    pub fn bucket(&mut self, bucket: u16) -> Option<&mut B>
+        requires { bucket < 256 }
+        ensures value { slice_get self.old bucket ≡ Some (option_copied_mut result) }
+        ensures* writes_back { sem 𝓛 (LendsBucket B.row self.entry bucket result) }
+    {
+        if self.is_held(bucket) {
+            Some(self.content(bucket))
+        } else {
+            None
+        }
+    }
+
+    fn content(&mut self, bucket: u16) -> &mut B
+        requires held { (bucket < 256) × ((content : B) × HasLock self.old bucket content) }
+        ensures value { HasLock self.old bucket result.now }
+        ensures* writes_back { sem 𝓛 (LendsContent B.row self.entry bucket result) }
+    {
+        match &mut self.contents[usize::from(bucket)] {
+            Some(content) => content,
+            None => unreachable!(),
+        }
+    }
+
+    /// Whether a bucket is held.
+    fn is_held(&self, bucket: u16) -> bool
+        requires { bucket < 256 }
+        ensures { MatchBool result ((content : B) × HasLock self.now bucket content) (LacksLock self.now bucket) }
+    {
+        match &self.contents[usize::from(bucket)] {
+            Some(_) => true,
+            None => false,
+        }
+    }
+
+    fn keep(&mut self, bucket: u16, content: B)
+        requires { bucket < 256 }
+        ensures { self.new ≡ slice_set self.old bucket (Some content) }
+    {
+        self.contents[usize::from(bucket)] = Some(content);
+    }
+
+    /// Takes a bucket where it is not held yet, by one try.
+    fn take<R: RoomLaw>(
+        &mut self,
+        hall: &Hall<R, B>,
+        pass: &mut Pass,
+        bucket: u16,
+    ) -> Result<(), Conflict>
+        requires bucket { bucket < 256 }
+        requires pass { IsPassOf R.state R.origin hall.now pass.old × AreLocksOf self.old pass.old }
+        ensures pass { IsPassOf R.state R.origin hall.now pass.new × (pass.new.number ≡ pass.old.number) × AreLocksOf self.new pass.new }
+        ensures wants { OnOk result (Wants B.bucket B.cached (begun R.state R.origin hall.now) bucket self.old self.new pass.old pass.new) }
+        ensures gathers { OnOk result (Gathers B.bucket B.cached (begun R.state R.origin hall.now) self.old self.new pass.old pass.new) }
+        ensures there { OnOk result ((content : B) × HasLock self.new bucket content) }
+        ensures others { (k : ℕ) → k ≢ bucket → slice_get self.new k ≡ slice_get self.old k }
+        ensures stands { AllStand B.bucket B.cached (begun R.state R.origin hall.now) self.old pass.old → AllStand B.bucket B.cached (begun R.state R.origin hall.now) self.new pass.new }
+        ensures conflict { IfErr result (λ conflict. (conflict.bucket ≡ bucket) × LacksLock self.old bucket × FindsHeld (begun R.state R.origin hall.now) bucket conflict.owner pass.old pass.new) }
+        ensures same { OnErr result (self.new ≡ self.old) }
+    {
+        if self.is_held(bucket) {
+            return Ok(());
+        }
+        let content = hall.take_bucket(pass, bucket)?;
+        self.keep(bucket, content);
+        Ok(())
+    }
+
+    /// Takes the bucket of a key of 1 to 64 bytes where it is not held yet, by one try. A conflict comes exactly where this try found
+    /// another seat's number, and leaves the set as it was. It takes no memory.
+    ///
+    /// Where each content in the set stood for the whole history that the pass saw, it still does.
+    pub fn want<R: RoomLaw>(
+        &mut self,
+        hall: &Hall<R, B>,
+        pass: &mut Pass,
+        key: &[u8],
+    ) -> Result<(), Conflict>
+        requires key { (1 ≤ length key.now) × (length key.now ≤ 64) }
+        requires pass { IsPassOf R.state R.origin hall.now pass.old × AreLocksOf self.old pass.old }
+        ensures pass { IsPassOf R.state R.origin hall.now pass.new × (pass.new.number ≡ pass.old.number) × AreLocksOf self.new pass.new }
+        ensures wants { OnOk result (Wants B.bucket B.cached (begun R.state R.origin hall.now) (bucket_of_key key.now) self.old self.new pass.old pass.new) }
+        ensures conflict { IfErr result (λ conflict. (conflict.bucket ≡ bucket_of_key key.now) × LacksLock self.old (bucket_of_key key.now) × FindsHeld (begun R.state R.origin hall.now) (bucket_of_key key.now) conflict.owner pass.old pass.new) }
+        ensures stands { AllStand B.bucket B.cached (begun R.state R.origin hall.now) self.old pass.old → AllStand B.bucket B.cached (begun R.state R.origin hall.now) self.new pass.new }
+        ensures same { OnErr result (self.new ≡ self.old) }
+    {
+        self.take(hall, pass, bucket_of(key))
+    }
+
+    /// Takes all buckets that are not held yet, in ascending order, each by one try. A conflict comes exactly where the last try found
+    /// another seat's number; the buckets below it then stay in the set. It takes no memory.
+    ///
+    /// Where each content in the set stood for the whole history that the pass saw, it still does.
+    pub fn want_all<R: RoomLaw>(
+        &mut self,
+        hall: &Hall<R, B>,
+        pass: &mut Pass,
+    ) -> Result<(), Conflict>
+        requires pass { IsPassOf R.state R.origin hall.now pass.old × AreLocksOf self.old pass.old }
+        ensures pass { IsPassOf R.state R.origin hall.now pass.new × (pass.new.number ≡ pass.old.number) × AreLocksOf self.new pass.new }
+        ensures all { OnOk result (HasAllBelow 256 self.new) }
+        ensures gathers { OnOk result (Gathers B.bucket B.cached (begun R.state R.origin hall.now) self.old self.new pass.old pass.new) }
+        ensures conflict { IfErr result (λ conflict. StopsAt B.bucket B.cached (begun R.state R.origin hall.now) conflict.bucket conflict.owner self.old self.new pass.old pass.new) }
+        ensures stands { AllStand B.bucket B.cached (begun R.state R.origin hall.now) self.old pass.old → AllStand B.bucket B.cached (begun R.state R.origin hall.now) self.new pass.new }
+    {
+        for bucket in 0..BUCKETS {
+            self.take(hall, pass, bucket)?;
+        }
+        Ok(())
+    }
+
+    /// Takes the content of a bucket out of the set, where it is held.
+    fn take_out(&mut self, bucket: u16) -> Option<B>
+        requires { bucket < 256 }
+        ensures was { slice_get self.old bucket ≡ Some result }
+        ensures gone { self.new ≡ slice_set self.old bucket None }
+    {
+        mem::replace(&mut self.contents[usize::from(bucket)], None)
+    }
+
+    /// Gives a bucket back where it is held.
+    fn release<R: RoomLaw>(&mut self, hall: &Hall<R, B>, pass: &mut Pass, bucket: u16)
+        requires bucket { bucket < 256 }
+        requires pass { IsPassOf R.state R.origin hall.now pass.old × AreLocksOf self.old pass.old }
+        requires stands { AllStand B.bucket B.cached (begun R.state R.origin hall.now) self.old pass.old }
+        ensures pass { IsPassOf R.state R.origin hall.now pass.new × (pass.new.number ≡ pass.old.number) × AreLocksOf self.new pass.new }
+        ensures stands { AllStand B.bucket B.cached (begun R.state R.origin hall.now) self.new pass.new }
+        ensures gone { LacksLock self.new bucket }
+        ensures releases { Releases self.old self.new pass.old pass.new }
+    {
+        if let Some(content) = self.take_out(bucket) {
+            hall.give_bucket(pass, bucket, content);
+        }
+    }
+
+    /// Gives all buckets back, each at most once. It takes no memory.
+    ///
+    /// Each content stands for the whole history that the pass saw.
+    pub fn release_all<R: RoomLaw>(&mut self, hall: &Hall<R, B>, pass: &mut Pass)
+        requires pass { IsPassOf R.state R.origin hall.now pass.old × AreLocksOf self.old pass.old }
+        requires stands { AllStand B.bucket B.cached (begun R.state R.origin hall.now) self.old pass.old }
+        ensures pass { IsPassOf R.state R.origin hall.now pass.new × (pass.new.number ≡ pass.old.number) × AreLocksOf self.new pass.new }
+        ensures none { (k : ℕ) → k < 256 → LacksLock self.new k }
+        ensures releases { Releases self.old self.new pass.old pass.new }
+    {
+        for bucket in 0..BUCKETS {
+            self.release(hall, pass, bucket);
+        }
+    }
+}

@@ -15,3 +15,9 @@ pub mod PutRows
 pub mod Pushed
 pub mod Sums
 pub mod SumsNew
+pub mod Takes
+pub mod ScanSteps
+pub mod SameScans
+pub mod ScanHeads
+pub mod SoundScans
+pub mod Scanned

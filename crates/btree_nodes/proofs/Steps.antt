@@ -29,7 +29,7 @@ fits_kept b n kept fits is = (subst (λ o. IfSome o FitsKept) is (fits.each n)).
 pub place_within : (key : List ℕ) (seps : List (List ℕ)) (kids : List ℕ) → FitsNode (node.Inner seps kids) → place_among key seps < length kids
 place_within key seps kids fits = let few = length-filter_le (λ sep. not (is_below key sep)) seps in omega (arith, few, fits.1)
 
-all_at : (p : ℕ → Bool) (xs : List ℕ) (i x : ℕ) → list_all p xs ≡ true → slice_get xs i ≡ Some x → p x ≡ true
+pub all_at : (p : ℕ → Bool) (xs : List ℕ) (i x : ℕ) → list_all p xs ≡ true → slice_get xs i ≡ Some x → p x ≡ true
 all_at p [] i x all at = cc
 all_at p (y ∷ ys) zero x all at = let e : y ≡ x = cc in ap p (sym e) ∙ (first_of_both (p y) (list_all p ys) all).0
 all_at p (y ∷ ys) (suc i) x all at = all_at p ys i x (first_of_both (p y) (list_all p ys) all).1 at
@@ -44,12 +44,12 @@ some_at [] i lt = absurd (omega arith)
 some_at (x ∷ xs) zero lt = refl
 some_at (x ∷ xs) (suc i) lt = some_at xs i (omega arith)
 
-none_at : (xs : List (List ℕ)) (i : ℕ) → length xs ≤ i → slice_get xs i ≡ None
+pub none_at : (xs : List (List ℕ)) (i : ℕ) → length xs ≤ i → slice_get xs i ≡ None
 none_at [] i le = refl
 none_at (x ∷ xs) zero le = absurd (omega arith)
 none_at (x ∷ xs) (suc i) le = none_at xs i (omega arith)
 
-abbrev or_else : Option (List ℕ) → Option (List ℕ) → Option (List ℕ)
+abbrev pub or_else : Option (List ℕ) → Option (List ℕ) → Option (List ℕ)
 or_else None b = b
 or_else (Some a) b = Some a
 
@@ -57,7 +57,7 @@ module _ (nodes : ℕ → Content) (number : ℕ) (seps : List (List ℕ)) (kids
   sep_at : (i : ℕ) → slice_get (seps_of (nodes number).0) i ≡ slice_get seps i
   sep_at i = ap (λ n. slice_get (seps_of n) i) is
 
-  high_is : (place : ℕ) → bound_at nodes (high_of number place (length seps) high) ≡ or_else (slice_get seps place) (bound_at nodes high)
+  pub high_is : (place : ℕ) → bound_at nodes (high_of number place (length seps) high) ≡ or_else (slice_get seps place) (bound_at nodes high)
   high_is place = by (nat_lt place (length seps)) refl
     where
       some : (o : Option (List ℕ)) → IsSome o → (b : Option (List ℕ)) → o ≡ or_else o b
@@ -68,7 +68,7 @@ module _ (nodes : ℕ → Content) (number : ℕ) (seps : List (List ℕ)) (kids
       by true lt = sep_at place ∙ some (slice_get seps place) (some_at seps place (ltb-true place (length seps) lt)) (bound_at nodes high)
       by false ge = ap (λ o. or_else o (bound_at nodes high)) (sym (none_at seps place (ltb-false place (length seps) ge)))
 
-  low_is : (j : ℕ) → bound_at nodes (low_of number (suc j) low) ≡ slice_get seps j
+  pub low_is : (j : ℕ) → bound_at nodes (low_of number (suc j) low) ≡ slice_get seps j
   low_is j =
       ap (λ b. bound_at nodes (if b then low else Some (record { number = number; place = suc j - 1 }))) (ne_eqb (suc j) 0 (λ e. omega (arith, e)))
       ∙ ap (λ k. slice_get (seps_of (nodes number).0) k) (let e : suc j - 1 ≡ j = omega arith in e) ∙ sep_at j

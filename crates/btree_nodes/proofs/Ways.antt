@@ -69,7 +69,7 @@ module _ (b : Cache) (next : ℕ) (key : List ℕ) (low high : Option Sep) (numb
 
 -- a step is one as well once more nodes are loaded
 module _ (told : Option (List Row)) (upper : ℕ) (b c : Cache) (loaded : IsLoaded told upper b c) where
-  bound_stays : (sep : Option Sep) → AreKept b sep → bound_at (given c) sep ≡ bound_at (given b) sep
+  pub bound_stays : (sep : Option Sep) → AreKept b sep → bound_at (given c) sep ≡ bound_at (given b) sep
   bound_stays None kept = refl
   bound_stays (Some at) kept = ap (λ n. slice_get (seps_of n.0) at.place) (loaded_given told upper b c loaded at.number kept)
 

@@ -6,3 +6,4 @@ pub mod Trees
 pub mod Changes
 pub mod Growths
 pub mod Calls
+pub mod Scans

@@ -52,7 +52,7 @@ fn is_from(low: Option<&Bytes>, key: &[u8]) -> bool
 }
 
 /// Whether a key lies above a bound.
-fn is_above(low: Option<&Bytes>, key: &[u8]) -> bool
+pub fn is_above(low: Option<&Bytes>, key: &[u8]) -> bool
     ensures { result ≡ is_above (option_copied low.entry) key.now }
 {
     match low {
@@ -62,7 +62,7 @@ fn is_above(low: Option<&Bytes>, key: &[u8]) -> bool
 }
 
 /// Whether a key lies below a bound.
-fn is_up_to(high: Option<&Bytes>, key: &[u8]) -> bool
+pub fn is_up_to(high: Option<&Bytes>, key: &[u8]) -> bool
     ensures { result ≡ is_up_to (option_copied high.entry) key.now }
 {
     match high {
@@ -133,7 +133,7 @@ fn are_below(next: u32, kids: &[u32]) -> bool
 
 /// Whether a node is an inner one whose separators ascend within bounds, with one child more, and each child below `next`. The
 /// separators of a node within the format's bounds ascend, and it has one child more.
-fn is_fit_inner(next: u32, low: Option<&Bytes>, high: Option<&Bytes>, node: &Node) -> bool
+pub fn is_fit_inner(next: u32, low: Option<&Bytes>, high: Option<&Bytes>, node: &Node) -> bool
     requires { FitsNode node.now }
     ensures { result ≡ is_inner (record { low = option_copied low.entry; high = option_copied high.entry }) next node.now }
 {
@@ -156,7 +156,7 @@ pub fn place_among(seps: &Keys, key: &[u8]) -> usize
 
 /// The separator at a place. No place is no bound.
 #[tactic(auto, unfolding(crate::specs::Given::given))]
-fn bound(bucket: &Bucket, at: Option<Sep>) -> Option<&Bytes>
+pub fn bound(bucket: &Bucket, at: Option<Sep>) -> Option<&Bytes>
     ensures { option_copied result ≡ bound_at (given bucket.now) at }
 {
     let at = at?;
@@ -167,7 +167,7 @@ fn bound(bucket: &Bucket, at: Option<Sep>) -> Option<&Bytes>
 }
 
 /// The low bound of the child at a place.
-fn low_bound(number: u32, place: usize, low: Option<Sep>) -> Option<Sep>
+pub fn low_bound(number: u32, place: usize, low: Option<Sep>) -> Option<Sep>
     ensures { result ≡ low_of number place low }
 {
     match place.checked_sub(1) {
@@ -177,7 +177,7 @@ fn low_bound(number: u32, place: usize, low: Option<Sep>) -> Option<Sep>
 }
 
 /// The high bound of the child at a place, among so many separators.
-fn high_bound(number: u32, place: usize, many: usize, high: Option<Sep>) -> Option<Sep>
+pub fn high_bound(number: u32, place: usize, many: usize, high: Option<Sep>) -> Option<Sep>
     ensures { result ≡ high_of number place many high }
 {
     if place < many {
@@ -245,7 +245,7 @@ pub fn reach<S: NodeSource>(
 
 /// Whether a cached node is a fit leaf.
 #[tactic(auto, unfolding(crate::specs::Given::given))]
-fn is_leaf_within(bucket: &Bucket, low: Option<Sep>, high: Option<Sep>, number: u32) -> bool
+pub fn is_leaf_within(bucket: &Bucket, low: Option<Sep>, high: Option<Sep>, number: u32) -> bool
     requires fits { FitsCache bucket.now }
     ensures { result ≡ is_leaf bucket.now.bucket (bounds_by (given bucket.now) low high) (given bucket.now number).0 }
 {

@@ -9,6 +9,7 @@ mod growth;
 mod insertion;
 mod leaf;
 mod removal;
+mod scanning;
 mod source;
 #[cfg(test)]
 mod tests;
@@ -18,5 +19,6 @@ pub use adding::add_to;
 pub use fault::TreeFault;
 pub use insertion::insert;
 pub use removal::remove;
+pub use scanning::scan;
 pub use source::NodeSource;
 pub use tree::find;

@@ -27,7 +27,7 @@ pub struct Path {
 
 /// What a cached head says: root, next and depth. None where the node is no head, or its root is not below next.
 #[tactic(auto, unfolding(crate::specs::Given::given))]
-fn head_of(bucket: &Bucket) -> Option<(u32, u32, u8)>
+pub fn head_of(bucket: &Bucket) -> Option<(u32, u32, u8)>
     requires { FitsCache bucket.now }
     ensures { HeadIs (given bucket.now 0).0 result }
 {

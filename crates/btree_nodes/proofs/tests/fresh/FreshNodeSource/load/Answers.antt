@@ -5,7 +5,7 @@ use Rattle.fine_model.specs.Trees.{nodes_of}
 use Rattle.node_cache.specs.Cache.{cached}
 use Rattle.btree_nodes.specs.Given.{IsFetched}
 use Rattle.btree_nodes.proofs.LeafPush.{copied_there}
-use Rattle.btree_nodes.proofs.tests.FreshNodeSource.load.Goals as goal
+use Rattle.btree_nodes.proofs.tests.fresh.FreshNodeSource.load.Goals as goal
 
 no_rows : (bucket n : ℕ) → nodes_of [] bucket n ≡ base (record { bucket = bucket; number = n })
 unfolding content replay

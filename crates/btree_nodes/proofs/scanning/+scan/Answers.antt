@@ -1,0 +1,98 @@
+use Rattle.std.proofs.Common.{◌<◌, ◌-◌, sym, ap, subst, ◌∙◌, arith, rules}
+use Rattle.std.proofs.lemmas.Result.{err_from_is_err_and}
+use Rattle.fine_model.specs.Paths.{meets}
+use Rattle.btree_nodes.specs.Given.{given, IsCached}
+use Rattle.btree_nodes.specs.Descent.{bounds_by}
+use Rattle.btree_nodes.specs.Scans.{IsUnfitUnder, IsScanned}
+use Rattle.btree_nodes.proofs.Scanned.{leaf_answer, inner_unfit, kids_answer, inner_stays, none_wanted, none_behind, IsChildOf, child_small, child_stays, child_bounds, scanned_stays, passed_over, scanned_on, fault_below}
+use Rattle.btree_nodes.proofs.Ways.{kept_stays}
+use Rattle.btree_nodes.proofs.scanning.+scan.Goals as goal
+
+pub scan_from-returns-then-height-eq0-clause-way :
+    goal.scan_from-returns-then-height-eq0-clause-way
+scan_from-returns-then-height-eq0-clause-way g t c =
+    let b = c.reach.new.bucket in
+    leaf_answer b c.args.height c.args.next c.args.low.now c.args.high.now (bounds_by (given b) c.args.at.low c.args.at.high) c.args.at.number c.args.wanted c.args.out.now c.scan_leaf.new.out _ c.if-height-eq0.true c.scan_leaf.result (c.scan_leaf.ensures.way c.args.next)
+
+pub scan_from-returns-then-not-is_inner_within-clause-way :
+    goal.scan_from-returns-then-not-is_inner_within-clause-way
+scan_from-returns-then-not-is_inner_within-clause-way g t c =
+    let b = c.reach.new.bucket in
+    let bounds = bounds_by (given b) c.args.at.low c.args.at.high in
+    let above : 0 < c.args.height = omega arith in
+    subst (λ k. IsUnfitUnder b c.args.height c.args.next c.args.low.now c.args.high.now bounds c.args.at.number c.args.wanted (record { bucket = k; number = c.args.at.number })) (sym c.bucket.ensures)
+    (inner_unfit b c.args.next c.args.low.now c.args.high.now bounds c.args.at.number c.args.wanted c.args.height above (sym c.is_inner_within.ensures ∙ c.if-not-is_inner_within.true) (c.in_ok-reach.ensures).there)
+
+pub scan_from-returns-clause-way : goal.scan_from-returns-clause-way
+scan_from-returns-clause-way g t c =
+    let mid = c.reach.new.bucket in
+    let b = c.scan_kids.new.bucket in
+    let here : IsCached mid c.args.at.number = (c.in_ok-reach.ensures).there in
+    let above : 0 < c.args.height = omega arith in
+    let low = kept_stays _ _ _ mid c.reach.ensures.loaded c.args.at.low c.requires.low in
+    let high = kept_stays _ _ _ mid c.reach.ensures.loaded c.args.at.high c.requires.high in
+    let inner = inner_stays _ _ mid b c.scan_kids.ensures.loaded c.args.next c.args.at here low high (sym c.is_inner_within.ensures ∙ c.if-not-is_inner_within.false) in
+    kids_answer b c.args.height c.args.next c.args.low.now c.args.high.now c.args.at c.args.wanted c.args.out.now c.scan_kids.new.out _ _ (λ f h. g.met.S.NodeSource.fails_earlier _ _ _ f c.reach.ensures.later h) above inner c.scan_kids.result c.scan_kids.ensures.way
+
+pub scan_kids-returns-then-wanted-eq0-clause-way :
+    goal.scan_kids-returns-then-wanted-eq0-clause-way
+scan_kids-returns-then-wanted-eq0-clause-way g t c =
+    none_wanted c.args.bucket.now (c.args.height - 1) c.args.next c.args.low.now c.args.high.now c.args.at c.args.place c.args.wanted c.args.out.now c.if-wanted-eq0.true
+
+pub scan_kids-returns-in_default-clause-way : goal.scan_kids-returns-in_default-clause-way
+scan_kids-returns-in_default-clause-way g t c =
+    none_behind c.args.bucket.now (c.args.height - 1) c.args.next c.args.low.now c.args.high.now c.args.at c.args.place c.args.wanted c.args.out.now (c.in_default.ensures).child
+
+pub scan_kids-returns-then-not-child_meets-clause-way :
+    goal.scan_kids-returns-then-not-child_meets-clause-way
+scan_kids-returns-then-not-child_meets-clause-way g t c =
+    let b = c.args.bucket.now in
+    let d = c.scan_kids.new.bucket in
+    let child = c.in-Some.child in
+    let kept = (c.in-Some.ensures).kept in
+    let of : IsChildOf b c.args.next c.args.at c.args.place child = record { there = c.requires.there; low = c.requires.low; high = c.requires.high; inner = c.requires.inner; is = (c.in-Some.ensures).child; child_low = kept.0; child_high = kept.1 } in
+    let none = sym c.child_meets.ensures ∙ c.if-not-child_meets.true in
+    passed_over d (c.args.height - 1) c.args.next c.args.low.now c.args.high.now c.args.at c.args.place child (child_stays _ _ b d c.scan_kids.ensures.loaded c.args.next c.args.at c.args.place child of)
+    c.args.wanted c.args.out.now c.scan_kids.new.out _ (ap (meets c.args.low.now c.args.high.now) (child_bounds _ _ b d c.scan_kids.ensures.loaded c.args.next c.args.at c.args.place child of) ∙ none) c.scan_kids.result c.scan_kids.ensures.way
+
+pub scan_kids-scan_from-requires : goal.scan_kids-scan_from-requires
+scan_kids-scan_from-requires g t c κs within =
+    let small = child_small (given c.args.bucket.now) (bounds_by (given c.args.bucket.now) c.args.at.low c.args.at.high) c.args.next c.args.at c.args.place c.in-Some.child c.requires.inner (c.in-Some.ensures).child in
+    search (rules, small)
+
+pub scan_kids-returns-in_err-left-clause-way : goal.scan_kids-returns-in_err-left-clause-way
+scan_kids-returns-in_err-left-clause-way g t c =
+    let b = c.args.bucket.now in
+    let d = c.scan_from.new.bucket in
+    let child = c.in-Some.child in
+    let kept = (c.in-Some.ensures).kept in
+    let of : IsChildOf b c.args.next c.args.at c.args.place child = record { there = c.requires.there; low = c.requires.low; high = c.requires.high; inner = c.requires.inner; is = (c.in-Some.ensures).child; child_low = kept.0; child_high = kept.1 } in
+    let some = ap (meets c.args.low.now c.args.high.now) (child_bounds _ _ b d c.scan_from.ensures.loaded c.args.next c.args.at c.args.place child of) ∙ sym c.child_meets.ensures ∙ c.if-not-child_meets.false in
+    let p = err_from_is_err_and c.from_residual.result c.from_residual.ensures.1 in
+    rw (p.1, p.2)
+    (fault_below d (c.args.height - 1) c.args.next c.args.low.now c.args.high.now c.args.at c.args.place child (child_stays _ _ b d c.scan_from.ensures.loaded c.args.next c.args.at c.args.place child of)
+    c.args.wanted some c.if-wanted-eq0.false c.args.out.now c.scan_from.new.out _ c.in_err-left.field-0.0 (c.in_err-left.ensures).way)
+
+pub scan_kids-scan_kids-requires-2 : goal.scan_kids-scan_kids-requires-2
+scan_kids-scan_kids-requires-2 g t c κs within =
+    let inner = inner_stays _ _ c.args.bucket.now c.scan_from.new.bucket c.scan_from.ensures.loaded c.args.next c.args.at c.requires.there c.requires.low c.requires.high c.requires.inner in
+    search (rules, inner)
+
+pub scan_kids-returns-clause-way : goal.scan_kids-returns-clause-way
+scan_kids-returns-clause-way g t c =
+    let b = c.args.bucket.now in
+    let mid = c.scan_from.new.bucket in
+    let d = c.scan_kids-2.new.bucket in
+    let low = c.args.low.now in
+    let high = c.args.high.now in
+    let child = c.in-Some.child in
+    let kept = (c.in-Some.ensures).kept in
+    let of : IsChildOf b c.args.next c.args.at c.args.place child = record { there = c.requires.there; low = c.requires.low; high = c.requires.high; inner = c.requires.inner; is = (c.in-Some.ensures).child; child_low = kept.0; child_high = kept.1 } in
+    let of_mid = child_stays _ _ b mid c.scan_from.ensures.loaded c.args.next c.args.at c.args.place child of in
+    let of_d = child_stays _ _ mid d c.scan_kids-2.ensures.loaded c.args.next c.args.at c.args.place child of_mid in
+    let bounds = child_bounds _ _ mid d c.scan_kids-2.ensures.loaded c.args.next c.args.at c.args.place child of_mid in
+    let some = ap (meets low high) (bounds ∙ child_bounds _ _ b mid c.scan_from.ensures.loaded c.args.next c.args.at c.args.place child of) ∙ sym c.child_meets.ensures ∙ c.if-not-child_meets.false in
+    let one = scanned_stays _ _ mid d c.scan_kids-2.ensures.loaded (c.args.height - 1) c.args.next low high (bounds_by (given mid) child.low child.high) child.number c.args.wanted c.in_ok-left.left c.args.out.now c.scan_from.new.out (c.in_ok-left.ensures).way in
+    scanned_on d (c.args.height - 1) c.args.next low high c.args.at c.args.place child of_d c.args.wanted some c.if-wanted-eq0.false c.in_ok-left.left c.args.out.now c.scan_from.new.out c.scan_kids-2.new.out _ _
+    (λ f h. g.met.S.NodeSource.fails_earlier _ _ _ f c.scan_from.ensures.later h)
+    (subst (λ k. IsScanned d (c.args.height - 1) c.args.next low high k child.number c.args.wanted c.in_ok-left.left c.args.out.now c.scan_from.new.out) (sym bounds) one) c.scan_kids-2.result c.scan_kids-2.ensures.way

@@ -1,0 +1,57 @@
+use Rattle.std.proofs.Common.{◌≡◌, ◌==◌, ◌&&◌, not, true, refl, sym, ap, subst, ◌∙◌, ne_eqb, eq-eqb}
+use Rattle.std.proofs.lemmas.Result.{err_from_is_err_and}
+use Rattle.std.proofs.Math.Bool.{and-false}
+use Rattle.fine_model.specs.Map.{is_below}
+use Rattle.btree_nodes.specs.Given.{given, IsCached}
+use Rattle.btree_nodes.specs.Scans.{IsFirstUnfitBetween}
+use Rattle.btree_nodes.proofs.Loads.{loaded_given, loaded_kept}
+use Rattle.btree_nodes.proofs.Paths.{SaysHead, head_some}
+use Rattle.btree_nodes.proofs.ScanHeads.{no_head, found_none, found_all, fault_of_scan}
+use Rattle.btree_nodes.proofs.scanning.scan_from_head.Goals as goal
+use Rattle.btree_nodes.proofs.scanning.scan_from_head.Goals.{then-limit-eq0-via-then-limit-eq0, then-limit-eq0-via-else-limit-eq0+then-not-is_below}
+
+pub returns-in_default-clause-err : goal.returns-in_default-clause-err
+returns-in_default-clause-err g c =
+    let b = c.reach.new.bucket in
+    subst (λ k. IsFirstUnfitBetween b c.args.low.now c.args.high.now c.args.limit (record { bucket = k; number = 0 })) (sym c.bucket.ensures)
+    (record { of_bucket = refl; first = no_head b.bucket (given b) c.args.low.now c.args.high.now c.args.limit (given b 0).0 c.in_default.ensures; there = (c.in_ok-reach.ensures).there })
+
+pub returns-then-limit-eq0-clause-ok : goal.returns-then-limit-eq0-clause-ok
+returns-then-limit-eq0-clause-ok g c =
+    let b = c.reach.new.bucket in
+    let low = c.args.low.now in
+    let high = c.args.high.now in
+    let says = head_some (given b 0).0 (c.in-Some.root, c.in-Some.next, c.in-Some.depth) c.in-Some.ensures in
+    found_none b low high c.args.limit c.in-Some.root c.in-Some.next c.in-Some.depth (c.in_ok-reach.ensures).there says c.args.out.now
+    (elim c.then-limit-eq0.branch [
+      | then-limit-eq0-via-then-limit-eq0 w ↦ ap (λ k. is_below low high && not k) (eq-eqb c.args.limit 0 w.if-limit-eq0.true) ∙ and-false (is_below low high)
+      | then-limit-eq0-via-else-limit-eq0+then-not-is_below w ↦ ap (λ k. k && not (c.args.limit == 0)) (sym w.is_below.ensures ∙ w.if-not-is_below.true)
+    ])
+
+pub returns-in_err-scan_from-clause-err : goal.returns-in_err-scan_from-clause-err
+returns-in_err-scan_from-clause-err g c =
+    let mid = c.reach.new.bucket in
+    let b = c.scan_from.new.bucket in
+    let low = c.args.low.now in
+    let high = c.args.high.now in
+    let here : IsCached mid 0 = (c.in_ok-reach.ensures).there in
+    let then_here = loaded_kept _ _ mid b c.scan_from.ensures.loaded 0 here in
+    let same = loaded_given _ _ mid b c.scan_from.ensures.loaded 0 here in
+    let says = subst (λ k. SaysHead k.0 c.in-Some.root c.in-Some.next c.in-Some.depth) (sym same) (head_some (given mid 0).0 (c.in-Some.root, c.in-Some.next, c.in-Some.depth) c.in-Some.ensures) in
+    let some : (is_below low high && not (c.args.limit == 0)) ≡ true = (λ i. (sym c.is_below.ensures ∙ c.if-not-is_below.false) i && not (ne_eqb c.args.limit 0 c.if-limit-eq0.false i)) in
+    let p = err_from_is_err_and c.from_residual-in_err-scan_from.result c.from_residual-in_err-scan_from.ensures.1 in
+    rw (p.1, p.2)
+    (fault_of_scan b low high c.args.limit c.in-Some.root c.in-Some.next c.in-Some.depth then_here says c.args.out.now c.scan_from.new.out _ _ (λ f h. g.met.S.NodeSource.fails_earlier _ _ _ f c.reach.ensures.later h) some c.in_err-scan_from.field-0.0 (c.in_err-scan_from.ensures).way)
+
+pub returns-clause-ok : goal.returns-clause-ok
+returns-clause-ok g c =
+    let mid = c.reach.new.bucket in
+    let b = c.scan_from.new.bucket in
+    let low = c.args.low.now in
+    let high = c.args.high.now in
+    let here : IsCached mid 0 = (c.in_ok-reach.ensures).there in
+    let then_here = loaded_kept _ _ mid b c.scan_from.ensures.loaded 0 here in
+    let same = loaded_given _ _ mid b c.scan_from.ensures.loaded 0 here in
+    let says = subst (λ k. SaysHead k.0 c.in-Some.root c.in-Some.next c.in-Some.depth) (sym same) (head_some (given mid 0).0 (c.in-Some.root, c.in-Some.next, c.in-Some.depth) c.in-Some.ensures) in
+    let some : (is_below low high && not (c.args.limit == 0)) ≡ true = (λ i. (sym c.is_below.ensures ∙ c.if-not-is_below.false) i && not (ne_eqb c.args.limit 0 c.if-limit-eq0.false i)) in
+    found_all b low high c.args.limit c.in-Some.root c.in-Some.next c.in-Some.depth then_here says c.in_ok-scan_from.field-0 c.args.out.now c.scan_from.new.out some (c.in_ok-scan_from.ensures).way

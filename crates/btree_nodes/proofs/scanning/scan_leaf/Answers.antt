@@ -1,0 +1,19 @@
+use Rattle.std.proofs.Common.{sym, subst, ◌∙◌}
+use Rattle.btree_nodes.specs.Given.{given}
+use Rattle.btree_nodes.specs.Descent.{bounds_by}
+use Rattle.btree_nodes.specs.Scans.{IsUnfitUnder}
+use Rattle.btree_nodes.proofs.Scanned.{leaf_unfit, leaf_scanned}
+use Rattle.btree_nodes.proofs.scanning.scan_leaf.Goals as goal
+
+pub returns-then-not-is_leaf_within-clause-way : goal.returns-then-not-is_leaf_within-clause-way
+returns-then-not-is_leaf_within-clause-way c = λ next.
+    let b = c.args.bucket.now in
+    let bounds = bounds_by (given b) c.args.at.low c.args.at.high in
+    subst (λ k. IsUnfitUnder b 0 next c.args.low.now c.args.high.now bounds c.args.at.number c.args.wanted (record { bucket = k; number = c.args.at.number })) (sym c.bucket.ensures)
+    (leaf_unfit b next c.args.low.now c.args.high.now bounds c.args.at.number c.args.wanted (sym c.is_leaf_within.ensures ∙ c.if-not-is_leaf_within.true) c.requires.there)
+
+pub returns-clause-way : goal.returns-clause-way
+returns-clause-way c = λ next.
+    let b = c.args.bucket.now in
+    leaf_scanned b next c.args.low.now c.args.high.now (bounds_by (given b) c.args.at.low c.args.at.high) c.args.at.number c.args.wanted c.in_ok-take_from.field-0 c.args.out.now c.take_from.new.out
+    (sym c.is_leaf_within.ensures ∙ c.if-not-is_leaf_within.false) (c.in_ok-take_from.ensures).taken

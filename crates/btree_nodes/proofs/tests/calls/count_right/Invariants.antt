@@ -1,0 +1,5 @@
+use Rattle.btree_nodes.specs.Given.{FitsCache}
+use Rattle.btree_nodes.proofs.tests.calls.count_right.Given as goal
+
+abbrev pub invariant-loop-place : goal.invariant-loop-place
+invariant-loop-place l = FitsCache l.tree.bucket

@@ -1,0 +1,5 @@
+use Rattle.btree_nodes.specs.Given.{FitsCache}
+use Rattle.btree_nodes.proofs.tests.splits.put_keys.Given as goal
+
+abbrev pub invariant-loop-key : goal.invariant-loop-key
+invariant-loop-key l = FitsCache l.tree.bucket

@@ -1,0 +1,188 @@
+//! Calls by chance, against an ordered map.
+
+ghost use Rattle.btree_nodes.specs.Given.{FitsCache};
+ghost use Rattle.std.specs.Prelude.{IfOk};
+
+use super::fixtures::{Tree, add, del, get, key_at, put, tree_of};
+use super::scans::pairs_between;
+use super::splits::depth_of;
+use fine_model::{Reply, number_of, number_text};
+use std::collections::BTreeMap;
+use std::test::*;
+
+/// How many keys the calls are about.
+const KEYS: u32 = 600;
+
+/// What a key holds in the map, by its place among the keys of thirteen pieces.
+type Map = BTreeMap<u32, Vec<u8>>;
+
+fn get_both(tree: &mut Tree, map: &Map, place: u32) -> Result<bool, Fail>
+    requires { FitsCache tree.old.bucket }
+    ensures { IfOk result (λ _. FitsCache tree.new.bucket) }
+{
+    let key = key_at(tree.alloc, place, 13)?;
+    let Ok(found) = get(tree, key.as_slice()) else {
+        return Ok(false);
+    };
+    Ok(match (&found, map.get(&place)) {
+        (Some(value), Some(wanted)) => value.as_slice() == wanted.as_slice(),
+        (None, None) => true,
+        _ => false,
+    })
+}
+
+fn put_both(tree: &mut Tree, map: &mut Map, place: u32, value: &[u8]) -> Result<bool, Fail>
+    requires { FitsCache tree.old.bucket }
+    ensures { IfOk result (λ _. FitsCache tree.new.bucket) }
+{
+    let key = key_at(tree.alloc, place, 13)?;
+    let copy = Vec::from_slice(tree.alloc, value).ok().ok_or("memory")?;
+    map.insert(place, copy).ok().ok_or("memory")?;
+    Ok(put(tree, key.as_slice(), value).is_ok())
+}
+
+fn del_both(tree: &mut Tree, map: &mut Map, place: u32) -> Result<bool, Fail>
+    requires { FitsCache tree.old.bucket }
+    ensures { IfOk result (λ _. FitsCache tree.new.bucket) }
+{
+    let key = key_at(tree.alloc, place, 13)?;
+    let there = map.remove(&place).is_some();
+    Ok(match del(tree, key.as_slice()) {
+        Ok(was_there) => was_there == there,
+        Err(_) => false,
+    })
+}
+
+/// The sum that a key of the map is to have, where it is one, and whether the text that it has is a number.
+fn sum_of(map: &Map, place: u32, by: i64) -> (Option<i64>, bool) {
+    match map.get(&place) {
+        Some(text) => match number_of(text.as_slice()) {
+            Some(number) => (number.checked_add(by), true),
+            None => (None, false),
+        },
+        None => (Some(by), true),
+    }
+}
+
+fn add_both(tree: &mut Tree, map: &mut Map, place: u32, by: i64) -> Result<bool, Fail>
+    requires { FitsCache tree.old.bucket }
+    ensures { IfOk result (λ _. FitsCache tree.new.bucket) }
+{
+    let key = key_at(tree.alloc, place, 13)?;
+    let (wanted, is_number) = sum_of(map, place, by);
+    if let Some(sum) = wanted {
+        let text = number_text(tree.alloc, sum).ok().ok_or("memory")?;
+        let copy = Vec::from_slice(tree.alloc, text.as_slice())
+            .ok()
+            .ok_or("memory")?;
+        map.insert(place, copy).ok().ok_or("memory")?;
+    }
+    Ok(match add(tree, key.as_slice(), by) {
+        Ok(Reply::Sum { sum }) => wanted == Some(sum),
+        Ok(Reply::OutOfRange) => wanted.is_none() && is_number,
+        Ok(Reply::NotNumber) => !is_number,
+        _ => false,
+    })
+}
+
+fn scan_both(tree: &mut Tree, map: &Map, low: u32, limit: u32) -> Result<bool, Fail>
+    requires { FitsCache tree.old.bucket }
+    ensures { IfOk result (λ _. FitsCache tree.new.bucket) }
+{
+    let high = low.saturating_add(100);
+    let found = pairs_between(tree, low, high, limit)?;
+    let mut at = 0;
+    for (place, wanted) in map.range(low..high) {
+        if at >= limit as usize {
+            break;
+        }
+        let Some((key, value)) = found.as_slice().get(at) else {
+            return Ok(false);
+        };
+        let right = key_at(tree.alloc, *place, 13)?;
+        if key.as_slice() != right.as_slice() || value.as_slice() != wanted.as_slice() {
+            return Ok(false);
+        }
+        at = at.saturating_add(1);
+    }
+    Ok(at == found.len())
+}
+
+/// One call by chance. Answers whether tree and map agree.
+fn call_both(tree: &mut Tree, map: &mut Map, chance: u64) -> Result<bool, Fail>
+    requires { FitsCache tree.old.bucket }
+    ensures { IfOk result (λ _. FitsCache tree.new.bucket) }
+{
+    let place = (chance / 8_589_934_592 % u64::from(KEYS)) as u32;
+    let number = (chance / 65_536 % 2000) as i64;
+    match chance / 536_870_912 % 8 {
+        0 => get_both(tree, map, place),
+        1 => del_both(tree, map, place),
+        2 => scan_both(tree, map, place, (number % 120) as u32),
+        3 => add_both(tree, map, place, number - 1000),
+        4 => add_both(tree, map, place, 9_223_372_036_854_775_000 + number % 800),
+        5 => put_both(tree, map, place, b"text"),
+        _ => {
+            let text = number_text(tree.alloc, number).ok().ok_or("memory")?;
+            put_both(tree, map, place, text.as_slice())
+        }
+    }
+}
+
+/// Sets each key. Answers whether all were set.
+fn put_all(tree: &mut Tree, map: &mut Map) -> Result<bool, Fail>
+    requires { FitsCache tree.old.bucket }
+    ensures { IfOk result (λ _. FitsCache tree.new.bucket) }
+{
+    for place in 0..KEYS {
+        if !put_both(tree, map, place, b"1")? {
+            return Ok(false);
+        }
+    }
+    Ok(true)
+}
+
+/// So many calls by chance. Answers how many agreed.
+fn call_many(tree: &mut Tree, map: &mut Map, many: u32) -> Result<u32, Fail>
+    requires { FitsCache tree.old.bucket }
+    ensures { IfOk result (λ _. FitsCache tree.new.bucket) }
+{
+    let mut chance = 12_345u64;
+    let mut right = 0u32;
+    for _call in 0..many {
+        chance = chance
+            .wrapping_mul(6_364_136_223_846_793_005)
+            .wrapping_add(1_442_695_040_888_963_407);
+        if call_both(tree, map, chance)? {
+            right = right.saturating_add(1);
+        }
+    }
+    Ok(right)
+}
+
+/// How many keys hold in a tree what they hold in the map.
+fn count_right(tree: &mut Tree, map: &Map) -> Result<u32, Fail>
+    requires { FitsCache tree.old.bucket }
+    ensures { IfOk result (λ _. FitsCache tree.new.bucket) }
+{
+    let mut right = 0u32;
+    for place in 0..KEYS {
+        if get_both(tree, map, place)? {
+            right = right.saturating_add(1);
+        }
+    }
+    Ok(right)
+}
+
+#[test]
+fn ten_thousand_calls_agree_with_an_ordered_map(rt: HostRuntime) -> Result<(), Fail> {
+    let mut tree = tree_of(rt.alloc(), b"")?;
+    let mut map = BTreeMap::new(rt.alloc());
+    assert!(rt; put_all(&mut tree, &mut map)?);
+    assert_eq!(rt; call_many(&mut tree, &mut map, 10_000)?, 10_000);
+    assert_eq!(rt; depth_of(&tree), 3);
+    let mut again = tree_of(rt.alloc(), tree.log.bytes())?;
+    assert_eq!(rt; count_right(&mut again, &map)?, KEYS);
+    assert!(rt; scan_both(&mut again, &map, 9, 2000)?);
+    Ok(())
+}

@@ -1,0 +1,113 @@
+//! Calls on a log that has no rows.
+
+ghost use Rattle.std.specs.Prelude.{ℕ, ◌≡◌, ◌≤◌, length, Some, []};
+ghost use Rattle.fine_model.specs.Trees.{bucket_of};
+ghost use Rattle.fine_model.specs.Nodes.{base};
+ghost use Rattle.node_record.specs.Bounds.{FitsNode};
+ghost use Rattle.btree_nodes.specs.Given.{FitsCache};
+
+use crate::{NodeSource, add_to, find, remove};
+use fine_model::{FetchFault, Items, Node, Reply, bucket_of};
+use node_cache::{Bucket, Cached};
+use private_log::PrivateLog;
+use std::alloc::Global;
+use std::test::*;
+
+/// A node before its first row.
+pub fn first_node(alloc: Global, number: u32) -> Node
+    ensures first { (bucket : ℕ) → (result, 0) ≡ base (record { bucket = bucket; number = number }) }
+    ensures fits { FitsNode result }
+{
+    if number == 0 {
+        Node::Head {
+            root: 1,
+            next: 2,
+            depth: 1,
+        }
+    } else {
+        Node::Leaf {
+            pairs: Items::new(alloc),
+        }
+    }
+}
+
+/// A source of a log that has no rows.
+#[derive(Drop)]
+struct Fresh {
+    alloc: Global,
+}
+
+impl NodeSource for Fresh {
+    ghost rows = { λ _. Some [] };
+
+    ghost upper = { λ _. 0 };
+
+    ghost later = { λ _ _. Unit {0} };
+
+    ghost fails = { λ _ _ _. Unit {0} };
+
+    ghost later_itself = { λ _. tt };
+
+    ghost later_on = { λ _ _ _ _ _. tt };
+
+    ghost fails_earlier = { λ _ _ _ _ _ _. tt };
+
+    fn load(&mut self, bucket: &mut Bucket, number: u32) -> Result<(), FetchFault> {
+        if bucket.peek(number).is_some() {
+            return Ok(());
+        }
+        let fresh = Cached {
+            node: first_node(self.alloc, number),
+            version: 0,
+            epoch: 0,
+        };
+        match bucket.put(number, fresh) {
+            Ok(()) => Ok(()),
+            Err(_) => Err(FetchFault::NoMemory),
+        }
+    }
+}
+
+/// The bucket of a key, with nothing cached.
+fn empty(alloc: Global, key: &[u8]) -> Bucket
+    requires { (1 ≤ length key.now) × (length key.now ≤ 64) }
+    ensures fits { FitsCache result }
+    ensures bucket { result.bucket ≡ bucket_of key.now }
+{
+    Bucket::new(alloc, bucket_of(key))
+}
+
+#[test]
+fn a_key_that_is_absent_is_not_removed(rt: HostRuntime) -> Result<(), Fail> {
+    let alloc = rt.alloc();
+    let mut source = Fresh { alloc };
+    let key = b"a";
+    let mut bucket = empty(alloc, key);
+    let mut log = PrivateLog::new(alloc);
+    assert!(rt; matches!(find(&mut source, &mut bucket, key), Ok(None)));
+    assert!(rt;
+        matches!(
+            remove(alloc, &mut source, &mut bucket, &mut log, key),
+            Ok(false)
+        )
+    );
+    assert!(rt; log.bytes().is_empty());
+    Ok(())
+}
+
+#[test]
+fn a_number_is_added_to_a_key(rt: HostRuntime) -> Result<(), Fail> {
+    let alloc = rt.alloc();
+    let mut source = Fresh { alloc };
+    let key = b"c";
+    let mut bucket = empty(alloc, key);
+    let mut log = PrivateLog::new(alloc);
+    let first = add_to(alloc, &mut source, &mut bucket, &mut log, key, 5);
+    assert!(rt; matches!(first, Ok(Reply::Sum { sum: 5 })));
+    let second = add_to(alloc, &mut source, &mut bucket, &mut log, key, 2);
+    assert!(rt; matches!(second, Ok(Reply::Sum { sum: 7 })));
+    let rows =
+        b"\x04\x00\x63\x00\x00\x00\x01\x00\x00\x00\x00\x00\x00\x00\x01\x00\x00\x00\x05\x01c\x00\x015\x09\x00\x63\x00\x00\x00\x01\x00\x00\x00\x00\x00\x00\x00\x02\x00\x00\x00\x0a\x01c\x00\x00\x00\x00\x00\x00\x00\x02";
+    assert_eq!(rt; log.bytes(), rows.as_slice());
+    Ok(())
+}

@@ -1,0 +1,90 @@
+//! Scans of a tree of depth 3.
+
+ghost use Rattle.btree_nodes.specs.Given.{FitsCache};
+ghost use Rattle.std.specs.Prelude.{IfOk};
+
+use super::fixtures::{Tree, key_at, pairs, tree_of};
+use super::splits::{are_keys, put_keys};
+use fine_model::{Node, Pairs};
+use std::alloc::Global;
+use std::test::*;
+
+/// The rows of a tree of 600 keys of thirteen pieces, each with `1`.
+pub fn deep_rows(alloc: Global) -> Result<Vec<u8>, Fail> {
+    let mut tree = tree_of(alloc, b"")?;
+    if !put_keys(&mut tree, 600, 13, 1, 600)? {
+        return Err("memory".into());
+    }
+    Ok(
+        Vec::from_slice(alloc, tree.log.bytes())
+            .ok()
+            .ok_or("memory")?,
+    )
+}
+
+/// A scan between two places among the keys of thirteen pieces.
+pub fn pairs_between(tree: &mut Tree, low: u32, high: u32, limit: u32) -> Result<Pairs, Fail>
+    requires { FitsCache tree.old.bucket }
+    ensures { IfOk result (λ _. FitsCache tree.new.bucket) }
+{
+    let low = key_at(tree.alloc, low, 13)?;
+    let high = key_at(tree.alloc, high, 13)?;
+    let found = pairs(tree, low.as_slice(), high.as_slice(), limit);
+    Ok(found.ok().ok_or("scan")?)
+}
+
+/// What a cached head says of the next unused number, or 0.
+fn next_of(tree: &Tree) -> u32 {
+    match tree.bucket.peek(0) {
+        Some(kept) => match &kept.node {
+            Node::Head { next, .. } => *next,
+            _ => 0,
+        },
+        None => 0,
+    }
+}
+
+#[test]
+fn a_scan_finds_the_first_pairs_of_its_range(rt: HostRuntime) -> Result<(), Fail> {
+    let rows = deep_rows(rt.alloc())?;
+    for (low, high, limit, many) in [
+        (0, 600, 2000, 600),
+        (0, 600, 500, 500),
+        (0, 600, 0, 0),
+        (15, 17, 9, 2),
+        (16, 16, 9, 0),
+        (17, 16, 9, 0),
+        (200, 500, 300, 300),
+        (200, 500, 299, 299),
+        (200, 500, 301, 300),
+        (599, 8000, 9, 1),
+        (600, 8000, 9, 0),
+    ] {
+        let mut tree = tree_of(rt.alloc(), rows.as_slice())?;
+        let found = pairs_between(&mut tree, low, high, limit)?;
+        let right = are_keys(rt.alloc(), found.as_slice(), low, many)?;
+        assert!(rt; right, "from {low} to {high}, {limit}");
+    }
+    Ok(())
+}
+
+#[test]
+fn a_scan_loads_only_what_it_needs(rt: HostRuntime) -> Result<(), Fail> {
+    let rows = deep_rows(rt.alloc())?;
+    for (low, high, limit, loads) in [
+        (0, 600, 0, 1),
+        (9, 9, 9, 1),
+        (9, 8, 9, 1),
+        (100, 101, 9, 4),
+        (100, 120, 1, 4),
+        (8, 24, 99, 5),
+    ] {
+        let mut tree = tree_of(rt.alloc(), rows.as_slice())?;
+        pairs_between(&mut tree, low, high, limit)?;
+        assert_eq!(rt; tree.source.loads, loads, "from {low} to {high}, {limit}");
+    }
+    let mut tree = tree_of(rt.alloc(), rows.as_slice())?;
+    pairs_between(&mut tree, 0, 600, 2000)?;
+    assert_eq!(rt; tree.source.loads, next_of(&tree));
+    Ok(())
+}

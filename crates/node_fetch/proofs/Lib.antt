@@ -3,3 +3,4 @@ pub mod SpanLaws
 pub mod Told
 pub mod PartRows
 pub mod Parts
+pub mod ReadBack

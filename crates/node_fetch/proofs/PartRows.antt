@@ -1,6 +1,7 @@
 -- What a search in a part finds of a node's rows.
-use Rattle.std.proofs.Common.{◌≡◌, ◌⊎◌, ℕ, ◌+◌, ◌-◌, ◌*◌, ◌<◌, ◌≤◌, ◌==◌, Bool, true, false, cond, List, [], ◌∷◌, length, Option, Some, None, Ok, Err, refl, sym, ap, ◌∙◌, subst, inl, inr, arith, eqb-true}
-use Rattle.std.specs.Prelude.{Result}
+use Rattle.std.proofs.Common.{◌≡◌, ◌⊎◌, ℕ, ◌+◌, ◌-◌, ◌<◌, ◌≤◌, ◌==◌, Bool, true, false, cond, List, [], length, Option, Some, None, Ok, Err, refl, sym, ap, ◌∙◌, subst, inl, inr, arith, eqb-true}
+use Rattle.std.specs.Prelude.{Result, IfOk}
+use Rattle.std.proofs.lemmas.List.{nil_from_length}
 use Rattle.log_disk.specs.Disk.{Eye}
 use Rattle.fine_model.specs.declared.NodeId.{NodeId}
 use Rattle.fine_model.specs.declared.Part.{Part}
@@ -12,21 +13,19 @@ use Rattle.partition_index.specs.declared.entries.Span.{Span}
 use Rattle.partition_index.specs.declared.entries.SeekFault.{SeekFault}
 use Rattle.partition_index.specs.declared.entries.SeekFault.TheVariants as fault
 use Rattle.partition_index.specs.Parts.{SameEye, body_len}
-use Rattle.partition_index.specs.Search.{TellsRows, IsBadAt, sought, span_for}
+use Rattle.partition_index.specs.Search.{TellsRows, IsSpanOf, IsBadAt, sought, span_for}
+use Rattle.fine_model.specs.declared.FetchFault.{FetchFault}
+use Rattle.node_fetch.specs.Fetched.{HoldsRows, ReadsRows}
 
 abbrev pub SeekResult : Type 0
 SeekResult = Result (Option Span) SeekFault
-
-none_left : {A : Type 0} (xs : List A) → (length xs == 0) ≡ true → xs ≡ []
-none_left [] e = refl
-none_left (x ∷ xs) e = absurd (omega (arith, eqb-true (length (x ∷ xs)) 0 e))
 
 sought_none : (rows : List Row) (id : NodeId) → sought rows id ≡ None → rows_of id rows ≡ []
 unfolding sought
 sought_none rows id e = by (length (rows_of id rows) == 0) refl e
   where
     by : (t : Bool) → (length (rows_of id rows) == 0) ≡ t → ◌≡◌ {A = Option Span} (cond t None (Some (span_for rows id))) None → rows_of id rows ≡ []
-    by true h e = none_left (rows_of id rows) h
+    by true h e = nil_from_length (rows_of id rows) (eqb-true (length (rows_of id rows)) 0 h)
     by false h e = absurd (cc)
 
 sought_some : (rows : List Row) (id : NodeId) (span : Span) → Some span ≡ sought rows id → span ≡ span_for rows id
@@ -59,3 +58,8 @@ bad_within known p at b = omega (arith, b.there, b.place)
 -- how many bytes the rows of a span are
 pub span_taken : (old mid new most : ℕ) (rows : List Row) (id : NodeId) (span : Span) → span ≡ span_for rows id → mid ≤ old + most → new ≤ mid + (span.end - span.at) → new ≤ old + (most + rows_len (rows_of id rows))
 span_taken old mid new most rows id span is a b = omega (arith, a, b, ap (λ s. s.end) is, ap (λ s. s.at) is)
+
+-- the rows that a span holds are what is read of a part
+pub read_found : (r : Result (List Row) FetchFault) (known now : Option Image) (id : NodeId) (p : Part) (span : Span) → now ≡ known → IsSpanOf known p id span → IfOk r (HoldsRows now p id span) → IfOk r (ReadsRows known id p)
+read_found (Ok rows) known now id p span told is h = inr (span, is, subst (λ k. HoldsRows k p id span rows) told h)
+read_found (Err e) known now id p span told is h = tt

@@ -1,10 +1,9 @@
 -- Parts, of which the newest one is looked at first.
-use Rattle.std.proofs.Common.{◌≡◌, ◌≢◌, ◌⊎◌, ℕ, zero, suc, ◌+◌, ◌<◌, ◌≤◌, Bool, true, false, cond, ◌||◌, List, [], ◌∷◌, ◌++◌, length, Some, Ok, Err, get_or, refl, sym, ap, ◌∙◌, subst, inl, inr, arith, append_assoc, append-nil, length-append}
-use Rattle.std.specs.Prelude.{Result, Option, Any, IfOk, IfErr, MatchResult, sum_by, fold, slice_index_or}
+use Rattle.std.proofs.Common.{◌≡◌, ℕ, zero, suc, ◌+◌, ◌<◌, ◌≤◌, Bool, true, false, ◌||◌, List, [], ◌∷◌, ◌++◌, length, Some, Ok, Err, refl, sym, ap, ◌∙◌, subst, arith, append_assoc, append-nil, length-append}
+use Rattle.std.specs.Prelude.{Result, Option, Any, IfOk, IfErr, MatchResult, fold, slice_index_or}
 use Rattle.std.specs.List.{AllByRecursion, list_any}
 use Rattle.std.proofs.lemmas.Bool.{true≢false}
 use Rattle.std.proofs.lemmas.List.Elements.{filter-append}
-use Rattle.std.proofs.lemmas.List.Quantifiers.{Any-push}
 use Rattle.std.proofs.lemmas.List.Sums.{sum_by-append}
 use Rattle.log_disk.specs.Disk.{Eye}
 use Rattle.fine_model.specs.declared.Header.{Header}
@@ -21,13 +20,13 @@ use Rattle.fine_model.specs.Chain.{AreRowsOf}
 use Rattle.fine_model.specs.Seek.{most_taken}
 use Rattle.fine_model.proofs.NodeLaws.{content-append}
 use Rattle.fine_model.proofs.Order.{all_map}
+use Rattle.fine_model.proofs.Zip.{all_left, all_right}
 use Rattle.partition_index.specs.Parts.{SameEye, IsSeen}
 use Rattle.partition_index.specs.Search.{TellsRows}
 use Rattle.partition_index.proofs.Looking.{seen_same}
 use Rattle.fine_model.specs.declared.FetchFault.{FetchFault}
 use Rattle.fine_model.specs.declared.FetchFault.TheVariants as fault
-use Rattle.node_fetch.specs.Fetched.{NoDamage, TellsParts, most_sought, most_read}
-use Rattle.node_fetch.proofs.SpanLaws.{all_front, last_one}
+use Rattle.node_fetch.specs.Fetched.{NoDamage, TellsParts, most_sought}
 
 -- ---- lists with one more behind the last
 
@@ -44,10 +43,6 @@ any_front P front back any = record {
     at_front [] ys i d here = absurd (omega (arith, here))
     at_front (x ∷ xs) ys zero d here = refl
     at_front (x ∷ xs) ys (suc i) d here = at_front xs ys i d (omega (arith, here))
-
-pub none_of : {A : Type 0} (xs : List A) → length xs ≡ 0 → xs ≡ []
-none_of [] e = refl
-none_of (x ∷ xs) e = absurd (omega (arith, e))
 
 pub fit_rows : (p : Part) (rows : List Row) → AllByRecursion (FitsRow p.header.mark) rows → AllByRecursion (λ row. FitsRec row.rec) rows
 fit_rows p rows fit = all_map (FitsRow p.header.mark) (λ row. FitsRec row.rec) (λ row h. h.rec) rows fit
@@ -126,13 +121,13 @@ pub tells_last : (eye : Eye) (parts front : List Part) (p : Part) (rows : List R
 tells_last eye parts front p rows is t =
     let headers : AllByRecursion (λ q. HasHeader eye.region_len t.image q.region q.header) (front ++ p ∷ []) = subst (AllByRecursion (λ q. HasHeader eye.region_len t.image q.region q.header)) is t.headers in
     let l = last_rows eye.region_len t.image front p rows (subst (λ ps. AreRowsOf eye.region_len t.image ps rows) is t.are_rows) in
-    let here = last_one (λ q. HasHeader eye.region_len t.image q.region q.header) front p headers in
+    let here = (all_right (λ q. HasHeader eye.region_len t.image q.region q.header) front (p ∷ []) headers).0 in
     let both : ◌≡◌ {A = Result (Option Header) ℕ} (Ok (Some l.sealed.header)) (Ok (Some p.header)) = sym l.sealed.has_header ∙ here in
     record {
       before = l.before;
       own = l.own;
       whole = l.whole;
-      tells_before = record { image = t.image; told = t.told; headers = all_front (λ q. HasHeader eye.region_len t.image q.region q.header) front (p ∷ []) headers; are_rows = l.are_before };
+      tells_before = record { image = t.image; told = t.told; headers = all_left (λ q. HasHeader eye.region_len t.image q.region q.header) front (p ∷ []) headers; are_rows = l.are_before };
       tells_own = record { image = t.image; told = t.told; sealed = l.sealed; of_part = cc };
     }
 

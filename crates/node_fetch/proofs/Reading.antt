@@ -1,21 +1,20 @@
 -- Rows of one node that are read one after the other.
-use Rattle.std.proofs.Common.{◌≡◌, ◌≢◌, ◌⊎◌, ℕ, ◌+◌, ◌<◌, ◌≤◌, List, [], ◌∷◌, ◌++◌, length, drop, refl, sym, ap, ◌∙◌, subst, inl, inr, arith, append_assoc, append-nil}
+use Rattle.std.proofs.Common.{◌≡◌, ◌≢◌, ℕ, ◌+◌, ◌<◌, ◌≤◌, List, [], ◌∷◌, ◌++◌, length, drop, refl, sym, ap, ◌∙◌, subst, inl, inr, arith, append_assoc, append-nil}
 use Rattle.std.specs.Prelude.{flat_map}
-use Rattle.std.specs.List.{AllByRecursion}
-use Rattle.std.proofs.lemmas.Grind.{flat_map-append}
 use Rattle.std.proofs.lemmas.List.Sums.{sum_by-append}
 use Rattle.fine_model.specs.declared.Mark.{Mark}
 use Rattle.fine_model.specs.declared.NodeId.{NodeId}
 use Rattle.fine_model.specs.declared.Row.{Row}
 use Rattle.fine_model.specs.RowBytes.{row_bytes, row_len, rows_bytes, rows_len, FitsRow}
+use Rattle.fine_model.proofs.Grammar.{rows_bytes-append}
 use Rattle.fine_model.proofs.Sets.{all_append}
 use Rattle.fine_model.proofs.Spelling.{row_spelling}
 use Rattle.node_record.specs.Rows.{IsRowAt, IsNoRowAt}
-use Rattle.node_fetch.specs.Spans.{ReadSoFar, ReadsAll, IsNoRowOf, IsStop}
+use Rattle.node_fetch.specs.Spans.{ReadSoFar, ReadsAll, IsStop}
 
 pub rows_more : (rows : List Row) (row : Row) → rows_bytes (rows ++ row ∷ []) ≡ rows_bytes rows ++ row_bytes row
 unfolding rows_bytes
-rows_more rows row = flat_map-append row_bytes rows (row ∷ []) ∙ ap (λ t. flat_map row_bytes rows ++ t) (append-nil (row_bytes row))
+rows_more rows row = rows_bytes-append rows (row ∷ []) ∙ ap (λ t. flat_map row_bytes rows ++ t) (append-nil (row_bytes row))
 
 len_more : (rows : List Row) (row : Row) → rows_len (rows ++ row ∷ []) ≡ rows_len rows + row_len row
 len_more rows row = sum_by-append row_len rows (row ∷ []) ∙ (let e : rows_len (row ∷ []) ≡ row_len row = omega arith in ap (λ n. rows_len rows + n) e)

@@ -1,22 +1,19 @@
 -- The rows that a span holds: they are the only ones, and then no place of it is bad.
-use Rattle.std.proofs.Common.{◌≡◌, ◌≢◌, ◌⊎◌, ℕ, ◌+◌, ◌-◌, ◌<◌, ◌≤◌, List, [], ◌∷◌, ◌++◌, length, take, drop, refl, sym, ap, ◌∙◌, subst, inl, inr, arith, append_assoc, append-nil, length-append, length-drop, drop_at}
+use Rattle.std.proofs.Common.{◌≡◌, ◌≢◌, ◌⊎◌, ℕ, ◌+◌, ◌<◌, ◌≤◌, List, [], ◌∷◌, ◌++◌, length, drop, refl, sym, ap, ◌∙◌, subst, inl, inr, arith, append_assoc, append-nil, length-append, length-drop, drop_at}
 use Rattle.std.specs.Prelude.{flat_map}
 use Rattle.std.specs.List.{AllByRecursion}
-use Rattle.std.proofs.lemmas.Grind.{flat_map-append}
+use Rattle.std.proofs.lemmas.List.{nil_from_length}
 use Rattle.fine_model.specs.declared.Header.{Header}
 use Rattle.fine_model.specs.declared.Mark.{Mark}
 use Rattle.fine_model.specs.declared.NodeId.{NodeId}
 use Rattle.fine_model.specs.declared.Row.{Row}
-use Rattle.fine_model.specs.RowBytes.{row_bytes, rows_bytes, rows_len, FitsRow}
+use Rattle.fine_model.specs.RowBytes.{row_bytes, rows_bytes, FitsRow}
 use Rattle.fine_model.specs.Seek.{RowSpan, SpanBegins, SpanHolds, IsBadInSpan, span_bytes}
-use Rattle.fine_model.proofs.Grammar.{rows_long}
+use Rattle.fine_model.proofs.Grammar.{rows_long, rows_bytes-append}
 use Rattle.fine_model.proofs.Spelling.{row_spelling}
+use Rattle.fine_model.proofs.Zip.{all_left, all_right}
 use Rattle.node_fetch.specs.Spans.{ReadSoFar, ReadsAll, IsStop, IsNoRowOf}
 use Rattle.node_fetch.proofs.Reading.{rows_more}
-
-bytes_append : (a b : List Row) → rows_bytes (a ++ b) ≡ rows_bytes a ++ rows_bytes b
-unfolding rows_bytes
-bytes_append a b = flat_map-append row_bytes a b
 
 -- rows that are spelled at the front of others are the front of these
 rows_begin : (mark : Mark) (front rows : List Row) (x y : List ℕ) → length front ≤ length rows → AllByRecursion (FitsRow mark) front → AllByRecursion (FitsRow mark) rows
@@ -30,18 +27,6 @@ rows_begin mark (a ∷ front) (b ∷ rows) x y long f g e =
     let rest = rows_begin mark front rows x y (omega (arith, long)) f.1 g.1 s.1 in
     (rest.0, (λ i. sym s.0 i ∷ rest.1 i), rest.2)
 
-pub all_front : {A : Type 0} (P : A → Type 0) (front more : List A) → AllByRecursion P (front ++ more) → AllByRecursion P front
-all_front P [] more all = tt
-all_front P (x ∷ front) more all = (all.0, all_front P front more all.1)
-
-pub last_one : {A : Type 0} (P : A → Type 0) (front : List A) (x : A) → AllByRecursion P (front ++ x ∷ []) → P x
-last_one P [] x all = all.0
-last_one P (y ∷ front) x all = last_one P front x all.1
-
-none_left : {A : Type 0} (xs : List A) → length xs ≡ 0 → xs ≡ []
-none_left [] e = refl
-none_left (x ∷ xs) e = absurd (omega (arith, e))
-
 module _ (header : Header) (body : List ℕ) (span : RowSpan) (id : NodeId) (own : List Row) (h : SpanHolds header body span id own) where
   -- good rows are the front of all rows
   front : (good : List Row) (more : List ℕ) → SpanBegins header body span id good more → (others : List Row) × (own ≡ good ++ others) × (more ≡ rows_bytes others ++ [])
@@ -50,7 +35,7 @@ module _ (header : Header) (body : List ℕ) (span : RowSpan) (id : NodeId) (own
   pub holds_same : (rows : List Row) → SpanHolds header body span id rows → rows ≡ own
   holds_same rows r =
       let f = front rows [] r.begins in
-      let none : f.0 ≡ [] = none_left f.0 (omega (arith, ap length f.1, length-append rows f.0, r.all, h.all)) in
+      let none : f.0 ≡ [] = nil_from_length f.0 (omega (arith, ap length f.1, length-append rows f.0, r.all, h.all)) in
       sym (f.1 ∙ ap (λ xs. rows ++ xs) none ∙ append-nil rows)
 
   pub never_bad : (at : ℕ) → IsBadInSpan header body span id at → ⊥
@@ -66,9 +51,9 @@ module _ (header : Header) (body : List ℕ) (span : RowSpan) (id : NodeId) (own
       by (row ∷ others, all, more) =
           let whole : own ≡ (b.rows ++ row ∷ []) ++ others = all ∙ sym (append_assoc b.rows (row ∷ []) others) in
           b.last row (rows_bytes others) (record {
-            fit = all_front (FitsRow header.mark) (b.rows ++ row ∷ []) others (subst (AllByRecursion (FitsRow header.mark)) whole h.begins.fit);
-            of_node = all_front (λ r. r.node ≡ id) (b.rows ++ row ∷ []) others (subst (AllByRecursion (λ r. r.node ≡ id)) whole h.begins.of_node);
-            spelled = h.begins.spelled ∙ append-nil (rows_bytes own) ∙ ap rows_bytes whole ∙ bytes_append (b.rows ++ row ∷ []) others;
+            fit = all_left (FitsRow header.mark) (b.rows ++ row ∷ []) others (subst (AllByRecursion (FitsRow header.mark)) whole h.begins.fit);
+            of_node = all_left (λ r. r.node ≡ id) (b.rows ++ row ∷ []) others (subst (AllByRecursion (λ r. r.node ≡ id)) whole h.begins.of_node);
+            spelled = h.begins.spelled ∙ append-nil (rows_bytes own) ∙ ap rows_bytes whole ∙ rows_bytes-append (b.rows ++ row ∷ []) others;
             counted = let long = ap length whole in omega (arith, long, h.all, length-append (b.rows ++ row ∷ []) others);
           })
 
@@ -79,7 +64,7 @@ module _ (header : Header) (body : List ℕ) (span : RowSpan) (id : NodeId) (byt
 
   pub all_held : (rows : List Row) → ReadsAll header.mark bytes id span.rows rows → SpanHolds header body span id rows
   all_held rows r =
-      let none : drop (length bytes) bytes ≡ [] = none_left (drop (length bytes) bytes) (omega (arith, length-drop (length bytes) bytes)) in
+      let none : drop (length bytes) bytes ≡ [] = nil_from_length (drop (length bytes) bytes) (omega (arith, length-drop (length bytes) bytes)) in
       record {
         begins = subst (SpanBegins header body span id rows) none (begun rows (length bytes) r.so_far (omega (arith, r.counted)));
         all = r.counted;
@@ -102,7 +87,7 @@ module _ (header : Header) (body : List ℕ) (span : RowSpan) (id : NodeId) (byt
         place = ap (λ n. span.at + n) t.so_far.place;
         unfinished = inl missing.0;
         last = λ row more b.
-            missing.1.none row more (record { fits = last_one (FitsRow header.mark) t.rows row b.fit; spelled = goes_on t.rows at row more t.so_far b }) (last_one (λ r. r.node ≡ id) t.rows row b.of_node);
+            missing.1.none row more (record { fits = (all_right (FitsRow header.mark) t.rows (row ∷ []) b.fit).0; spelled = goes_on t.rows at row more t.so_far b }) (all_right (λ r. r.node ≡ id) t.rows (row ∷ []) b.of_node).0;
       }
       by (inr left) = record {
         rows = t.rows;

@@ -1,6 +1,6 @@
 -- What fetching finds, and when it gives up.
-use Rattle.std.specs.Prelude.{◌≡◌, ℕ, ◌+◌, List, Option, Some, sum_by}
-use Rattle.std.specs.List.{AllByRecursion}
+use Rattle.std.specs.Prelude.{◌≡◌, ◌⊎◌, ℕ, ◌+◌, ◌-◌, Bool, false, IsTrue, List, [], ◌∷◌, ◌++◌, map, flat_map, Option, Some, sum_by}
+use Rattle.std.specs.List.{AllByRecursion, list_any}
 use Rattle.log_disk.specs.Disk.{Eye}
 use Rattle.fine_model.specs.declared.FetchFault.{FetchFault}
 use Rattle.fine_model.specs.declared.FetchFault.TheVariants as fault
@@ -9,7 +9,10 @@ use Rattle.fine_model.specs.declared.Part.{Part}
 use Rattle.fine_model.specs.declared.Row.{Row}
 use Rattle.fine_model.specs.Regions.{Image, Place, place_of, HasHeader}
 use Rattle.fine_model.specs.Chain.{AreRowsOf}
-use Rattle.fine_model.specs.Seek.{IsBadInSpan, most_taken}
+use Rattle.fine_model.specs.Merge.{is_image}
+use Rattle.fine_model.specs.Nodes.{Content, base, replay}
+use Rattle.fine_model.specs.RowBytes.{rows_len}
+use Rattle.fine_model.specs.Seek.{SpanHolds, IsBadInSpan, most_taken}
 use Rattle.partition_index.specs.declared.entries.Span.{Span}
 use Rattle.partition_index.specs.Entries.{row_span_of}
 use Rattle.partition_index.specs.Search.{IfTold, IsSpanOf, IsBadAt}
@@ -27,17 +30,48 @@ NoDamage (fault.BadRow region at) = ⊥
 NoDamage (fault.BadIndex region at) = ⊥
 NoDamage fault.NoMemory = Unit {0}
 
--- a place of the disk at which, by the bytes of the part there, a span of a node has a bad row
+-- a body of a part as it was read, which is the one that the eye tells, where it tells its bytes
+abbrev pub IsBodyOf : Option Image → Part → List ℕ → Type 0
+IsBodyOf known part body = IfTold known part (λ told. body ≡ told)
+
+-- by the bytes that were read, a span is exactly these rows of the node
+pub record HoldsRows (known : Option Image) (part : Part) (id : NodeId) (span : Span) (rows : List Row) : Type 0 where
+  pub body : List ℕ
+  pub is_body : IsBodyOf known part body
+  pub holds : SpanHolds part.header body (row_span_of span) id rows
+  pub long : rows_len rows ≡ span.end - span.at
+
+-- a place of the disk at which, by the bytes that were read, a span of a node has a bad row
 pub record IsBadRowOf (known : Option Image) (region_len : ℕ) (part : Part) (id : NodeId) (span : Span) (place : Place) : Type 0 where
   pub at : ℕ
   pub stands : place ≡ place_of region_len part.region part.header at
-  pub told : IfTold known part (λ body. IsBadInSpan part.header body (row_span_of span) id at)
+  pub body : List ℕ
+  pub is_body : IsBodyOf known part body
+  pub is_bad : IsBadInSpan part.header body (row_span_of span) id at
 
 -- the span of a node in a part has a bad row at a place of the disk
 pub record HasBadRow (known : Option Image) (region_len : ℕ) (part : Part) (id : NodeId) (place : Place) : Type 0 where
   pub span : Span
   pub is_span : IsSpanOf known part id span
   pub is_bad : IsBadRowOf known region_len part id span place
+
+-- what was read of a node's rows in a part: none, or those of the span that an entry of the node gives
+abbrev pub ReadsRows : Option Image → NodeId → Part → List Row → Type 0
+ReadsRows known id part rows = (rows ≡ []) ⊎ ((span : Span) × IsSpanOf known part id span × HoldsRows known part id span rows)
+
+-- the first of the parts that were read has an image of the node
+abbrev pub has_image_first : List (Part × List Row) → Bool
+has_image_first [] = false
+has_image_first (r ∷ read) = list_any (λ row. is_image row.rec) r.1
+
+-- A content is the replay of what was read of parts: of all of them, or of those from one with an image of the node on.
+pub record IsReplayOf (known : Option Image) (parts : List Part) (id : NodeId) (found : Content) : Type 0 where
+  pub skipped : List Part
+  pub read : List (Part × List Row)
+  pub whole : parts ≡ skipped ++ map (λ r. r.0) read
+  pub each : AllByRecursion (λ r. ReadsRows known id r.0 r.1) read
+  pub why : (skipped ≡ []) ⊎ IsTrue (has_image_first read)
+  pub replayed : found ≡ replay (base id) (flat_map (λ r. r.1) read)
 
 -- the index of a part has a bad entry at a place of the disk
 pub record HasBadEntry (known : Option Image) (region_len : ℕ) (part : Part) (place : Place) : Type 0 where

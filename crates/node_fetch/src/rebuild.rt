@@ -11,7 +11,7 @@ ghost use Rattle.fine_model.specs.Seek.{most_taken};
 ghost use Rattle.node_record.specs.Bounds.{FitsNode};
 ghost use Rattle.partition_index.specs.Parts.{IsSeen};
 ghost use Rattle.partition_index.specs.Search.{Searches, TellsRows};
-ghost use Rattle.node_fetch.specs.Fetched.{HasBadRow, HasBadEntry, NoDamage, TellsParts, most_sought, most_read};
+ghost use Rattle.node_fetch.specs.Fetched.{ReadsRows, IsReplayOf, HasBadRow, HasBadEntry, NoDamage, TellsParts, most_sought, most_read};
 
 use crate::fault::bad_index;
 use crate::replay::{base, replayed};
@@ -43,6 +43,7 @@ fn part_rows<E: LogEye>(
     requires region_len { region_len ≡ (E.LogEye.state eye.old).region_len }
     ensures eye { Searches (IsErrOf result fetch_fault.Failed) (most_taken part.now.header.nodes + part.now.header.area) (E.LogEye.state eye.old) (E.LogEye.state eye.new) }
     ensures fit { IfOk result (AllByRecursion (FitsRow part.now.header.mark)) }
+    ensures read { IfOk result (ReadsRows (E.LogEye.state eye.old).told node part.now) }
     ensures bad_row { (region at : ℕ) → IsErrOf result (fetch_fault.BadRow region at) → HasBadRow (E.LogEye.state eye.old).told region_len part.now node (record { region = region; at = at }) }
     ensures bad_index { (region at : ℕ) → IsErrOf result (fetch_fault.BadIndex region at) → HasBadEntry (E.LogEye.state eye.old).told region_len part.now (record { region = region; at = at }) }
     ensures exact { (rows : List Row) → TellsRows (E.LogEye.state eye.old) part.now rows → MatchResult result (λ own. own ≡ rows_of node rows) NoDamage }
@@ -81,6 +82,7 @@ fn rebuilt<E: LogEye>(
     requires region_len { region_len ≡ (E.LogEye.state eye.old).region_len }
     ensures eye { Searches (IsErrOf result fetch_fault.Failed) (most_read parts.now) (E.LogEye.state eye.old) (E.LogEye.state eye.new) }
     ensures fits { IfOk result (λ found. FitsNode found.0) }
+    ensures read { IfOk result (IsReplayOf (E.LogEye.state eye.old).told parts.now node) }
     ensures bad_row { (region at : ℕ) → IsErrOf result (fetch_fault.BadRow region at) → Any (λ p. HasBadRow (E.LogEye.state eye.old).told region_len p node (record { region = region; at = at })) parts.now }
     ensures bad_index { (region at : ℕ) → IsErrOf result (fetch_fault.BadIndex region at) → Any (λ p. HasBadEntry (E.LogEye.state eye.old).told region_len p (record { region = region; at = at })) parts.now }
     ensures exact { (rows : List Row) → TellsParts (E.LogEye.state eye.old) parts.now rows → MatchResult result (λ found. found ≡ content rows node) NoDamage }
@@ -100,12 +102,13 @@ fn rebuilt<E: LogEye>(
 
 /// The content and the version of a node that its rows in the parts leave, in the order of the parts.
 ///
-/// The parts are probed from the newest back, up to one that has an image of the node, and its rows from there on are replayed.
-/// Where the eye tells its bytes, and each part is in the grammar and has its header, the answer is exact, also where the node is
-/// `Broken`. Else `BadRow` and `BadIndex` come only with a place of the disk that, by the bytes read in this call, has a bad row
-/// of the node's span, or a bad entry: never in the grammar. `Failed` comes only where the eye's count of faults rose in this call.
-/// The eye is as before but for its counts. In each part that is probed, the bytes that it takes are at most 14 for each binary
-/// digit of the part's count of entries, 14 more, and the node's rows there.
+/// The parts are probed from the newest back, up to one that has an image of the node, and its rows from there on are replayed:
+/// those of the spans that the entries of the node give, by the bytes that were read. Where the eye tells its bytes, and each part
+/// is in the grammar and has its header, the answer is exact, also where the node is `Broken`. `BadRow` comes only with a place of
+/// the disk that, by the bytes read in this call, has a bad row of the node's span, and `BadIndex` only with the place of an index
+/// entry, which is bad by the bytes that the eye tells: neither comes in the grammar. `Failed` comes only where the eye's count of
+/// faults rose in this call. The eye is as before but for its counts. In each part, the bytes that it takes are at most 14 for each
+/// binary digit of the part's count of entries, 14 more, and the node's rows there.
 pub fn fetch<E: LogEye>(
     alloc: Global,
     eye: &mut E,
@@ -117,6 +120,7 @@ pub fn fetch<E: LogEye>(
     requires region_len { region_len ≡ (E.LogEye.state eye.old).region_len }
     ensures eye { Searches (IsErrOf result fetch_fault.Failed) (most_read parts.now) (E.LogEye.state eye.old) (E.LogEye.state eye.new) }
     ensures fits { IfOk result (λ found. FitsNode found.0) }
+    ensures read { IfOk result (IsReplayOf (E.LogEye.state eye.old).told parts.now node) }
     ensures bad_row { (region at : ℕ) → IsErrOf result (fetch_fault.BadRow region at) → Any (λ p. HasBadRow (E.LogEye.state eye.old).told region_len p node (record { region = region; at = at })) parts.now }
     ensures bad_index { (region at : ℕ) → IsErrOf result (fetch_fault.BadIndex region at) → Any (λ p. HasBadEntry (E.LogEye.state eye.old).told region_len p (record { region = region; at = at })) parts.now }
     ensures exact { (rows : List Row) → TellsParts (E.LogEye.state eye.old) parts.now rows → MatchResult result (λ found. found ≡ content rows node) NoDamage }

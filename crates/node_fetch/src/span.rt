@@ -6,12 +6,12 @@ ghost use Rattle.fine_model.specs.declared.Row.{Row};
 ghost use Rattle.fine_model.specs.declared.FetchFault.TheVariants as fetch_fault;
 ghost use Rattle.fine_model.specs.Nodes.{rows_of};
 ghost use Rattle.fine_model.specs.RowBytes.{FitsRow};
-ghost use Rattle.fine_model.specs.Seek.{SpanHolds, span_bytes};
+ghost use Rattle.fine_model.specs.Seek.{span_bytes};
 ghost use Rattle.partition_index.specs.Entries.{row_span_of};
 ghost use Rattle.partition_index.specs.Parts.{IsSeen};
 ghost use Rattle.partition_index.specs.Search.{Searches, IfTold, TellsRows, span_for};
 ghost use Rattle.node_fetch.specs.Spans.{ReadsAll, StopsAt};
-ghost use Rattle.node_fetch.specs.Fetched.{IsBadRowOf, NoDamage};
+ghost use Rattle.node_fetch.specs.Fetched.{HoldsRows, IsBadRowOf, NoDamage};
 
 use crate::fault::bad_row;
 use fine_model::{FetchFault, Items, Mark, NodeId, Part, Rows};
@@ -86,9 +86,11 @@ fn rows_in(
 
 /// Reads the rows of a node from the span that its index entry gives.
 ///
-/// In a region in the grammar these are the node's rows in the part. `BadRow` comes only where, by the bytes of the span, the
-/// place that it names has no row of the node that ends within the span while the entry counts one there, or has bytes behind
-/// the last row. `Failed` comes only where the eye's count of faults rose in this call. The span is read once.
+/// By the bytes that were read, which are the disk's where the eye tells them, the span is exactly these rows: all of the node,
+/// as many as the entry counts, up to the span's end. In a region in the grammar they are the node's rows in the part. `BadRow`
+/// comes only where, by the bytes that were read, the place that it names has no row of the node that ends within the span while
+/// the entry counts one there, or has bytes behind the last row. `Failed` comes only where the eye's count of faults rose in this
+/// call. The span is read once.
 pub fn read_span<E: LogEye>(
     alloc: Global,
     eye: &mut E,
@@ -104,7 +106,7 @@ pub fn read_span<E: LogEye>(
     requires within { span.end ≤ part.now.header.area }
     ensures eye { Searches (IsErrOf result fetch_fault.Failed) (span.end - span.at) (E.LogEye.state eye.old) (E.LogEye.state eye.new) }
     ensures fit { IfOk result (AllByRecursion (FitsRow part.now.header.mark)) }
-    ensures holds { IfOk result (λ rows. IfTold (E.LogEye.state eye.old).told part.now (λ body. SpanHolds part.now.header body (row_span_of span) node rows)) }
+    ensures holds { IfOk result (HoldsRows (E.LogEye.state eye.old).told part.now node span) }
     ensures bad_row { (region at : ℕ) → IsErrOf result (fetch_fault.BadRow region at)
         → IsBadRowOf (E.LogEye.state eye.old).told region_len part.now node span (record { region = region; at = at }) }
     ensures good_index { (region at : ℕ) → IsErrOf result (fetch_fault.BadIndex region at) → ⊥ }

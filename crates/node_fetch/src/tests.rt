@@ -1,6 +1,6 @@
 //! What no clause says: fetching from bytes that were laid out by hand, through an eye of which a read may fail.
 
-ghost use Rattle.std.specs.Prelude.{◌≡◌, [], ◌∷◌, None, IfOk};
+ghost use Rattle.std.specs.Prelude.{◌≡◌, ◌<◌, [], ◌∷◌, None, IfOk};
 ghost use Rattle.fine_model.specs.declared.FetchFault.TheVariants as fetch_fault;
 ghost use Rattle.fine_model.specs.RowBytes.{FitsRec};
 ghost use Rattle.log_disk.specs.Disk.{Eye};
@@ -111,6 +111,20 @@ const FOLDED: Part = Part {
         rows: 2,
         nodes: 1,
         area: 49,
+        regions: 1,
+        more: [0; 7],
+    },
+};
+
+/// As the part with the image, but with a put in its place.
+const PLAIN: Part = Part {
+    region: 5,
+    header: Header {
+        mark: Mark::Two,
+        range: Range { first: 1, last: 1 },
+        rows: 2,
+        nodes: 1,
+        area: 48,
         regions: 1,
         more: [0; 7],
     },
@@ -278,14 +292,24 @@ fn lay_thousand(alloc: Global, regions: &mut Vec<Vec<u8>>) -> Result<(), Fail> {
     lay(alloc, regions, 70, &body)
 }
 
-/// An eye on all parts, of which a read fails.
-fn look(alloc: Global, fails: u64) -> Result<Eye, Fail> {
+/// The regions of the first four parts.
+fn lay_first(alloc: Global) -> Result<Vec<Vec<u8>>, Fail> {
     let mut regions = Vec::new(alloc);
     lay_puts(alloc, &mut regions, 41, 1, 1)?;
     lay_two(alloc, &mut regions, [(1, 0, 1), (2, 24, 1)])?;
     lay_other(alloc, &mut regions)?;
     lay_puts(alloc, &mut regions, 70, 3, 700)?;
-    lay_folded(alloc, &mut regions)?;
+    Ok(regions)
+}
+
+/// An eye on all parts, with the image or with puts alone, of which a read fails.
+fn look(alloc: Global, folded: bool, fails: u64) -> Result<Eye, Fail> {
+    let mut regions = lay_first(alloc)?;
+    if folded {
+        lay_folded(alloc, &mut regions)?;
+    } else {
+        lay_puts(alloc, &mut regions, 41, 703, 2)?;
+    }
     lay_puts(alloc, &mut regions, 41, 705, 1)?;
     Ok(eye_on(regions, fails))
 }
@@ -340,17 +364,94 @@ fn damage_is_told_at_its_place(rt: HostRuntime) -> Result<(), Fail> {
     Ok(())
 }
 
-/// A node from the parts, without the image and what follows it.
+/// A part of two puts of node 1, over whose rows other bytes are laid from a place on.
+fn fetch_over(alloc: Global, at: usize, bytes: &[u8]) -> Result<(bool, u32), Fail>
+    requires { at < 48 }
+{
+    let mut region = vec![in alloc; 0; 41].ok().ok_or("memory")?;
+    puts(alloc, &mut region, 1, 703, 2)?;
+    for (i, byte) in bytes.iter().enumerate() {
+        if let Some(there) = region.get_mut(41 + at + i) {
+            *there ^= byte;
+        }
+    }
+    entry(&mut region, 1, 0, 2)?;
+    told_of_one(alloc, region)
+}
+
+/// Whether a fetch of node 1 from the bytes of region 5 met a bad row, and where.
+fn told_of_one(alloc: Global, region: Vec<u8>) -> Result<(bool, u32), Fail> {
+    let mut regions = Vec::new(alloc);
+    for _ in 0..5 {
+        regions.push(Vec::new(alloc)).ok().ok_or("memory")?;
+    }
+    regions.push(region).ok().ok_or("memory")?;
+    let mut eye = eye_on(regions, 0);
+    Ok(match plain(alloc, &mut eye) {
+        Err(FetchFault::BadRow { region: 5, at }) => (true, at),
+        Ok(_) => (false, 0),
+        Err(_) => (true, 0),
+    })
+}
+
+/// Node 1 from the part with two puts alone.
+fn plain(alloc: Global, eye: &mut Eye) -> Result<(Node, u64), FetchFault> {
+    let Ok(parts) = Vec::from_slice(alloc, &[PLAIN]) else {
+        return Err(FetchFault::NoMemory);
+    };
+    fetch(alloc, eye, &Items::from_vec(parts), node(1), LEN)
+}
+
+/// A bit is flipped in each byte of two puts: in versions, keys and values it makes another row, and elsewhere a bad one.
+#[test]
+fn a_flipped_bit_of_a_span_is_told_at_its_row(rt: HostRuntime) -> Result<(), Fail> {
+    let alloc = rt.alloc();
+    for at in 0..48u32 {
+        let told = fetch_over(alloc, at as usize, &[1])?;
+        let good = matches!(at % 24, 7..=14 | 20 | 23);
+        let wanted = if good {
+            (false, 0)
+        } else {
+            (true, 41 + at / 24 * 24)
+        };
+        assert_eq!(&rt; told, wanted, "at {at}");
+    }
+    Ok(())
+}
+
+/// Random bytes in a span are no row, from the first row on or from the second one on.
+#[test]
+fn random_bytes_in_a_span_are_told(rt: HostRuntime) -> Result<(), Fail> {
+    let alloc = rt.alloc();
+    let mut state = 7u64;
+    for turn in 0..100u32 {
+        let mut bytes = [0; 24];
+        for i in 0..24 {
+            state = state
+                .wrapping_mul(6364136223846793005)
+                .wrapping_add(1442695040888963407);
+            bytes[i] = (state >> 56) as u8;
+        }
+        let row = turn % 2;
+        let told = fetch_over(alloc, 24 * row as usize, &bytes)?;
+        assert_eq!(&rt; told, (true, 41 + 24 * row), "turn {turn}");
+    }
+    Ok(())
+}
+
+/// A node from the parts, all of them with puts alone.
 fn unfolded(alloc: Global, eye: &mut Eye, number: u32) -> Result<(Node, u64), FetchFault> {
-    let Ok(parts) = Vec::from_slice(alloc, &[FIRST, WITH_ANOTHER, OF_ANOTHER, SEVERAL]) else {
+    let parts = [FIRST, WITH_ANOTHER, OF_ANOTHER, SEVERAL, PLAIN, LAST];
+    let Ok(parts) = Vec::from_slice(alloc, &parts) else {
         return Err(FetchFault::NoMemory);
     };
     fetch(alloc, eye, &Items::from_vec(parts), node(number), LEN)
 }
 
-/// A node from the newest parts.
+/// A node from the parts, of which one begins with an image.
 fn folded(alloc: Global, eye: &mut Eye, number: u32) -> Result<(Node, u64), FetchFault> {
-    let Ok(parts) = Vec::from_slice(alloc, &[SEVERAL, FOLDED, LAST]) else {
+    let parts = [FIRST, WITH_ANOTHER, OF_ANOTHER, SEVERAL, FOLDED, LAST];
+    let Ok(parts) = Vec::from_slice(alloc, &parts) else {
         return Err(FetchFault::NoMemory);
     };
     fetch(alloc, eye, &Items::from_vec(parts), node(number), LEN)
@@ -364,47 +465,65 @@ fn among(alloc: Global, eye: &mut Eye, number: u32) -> Result<(Node, u64), Fetch
     fetch(alloc, eye, &Items::from_vec(parts), node(number), LEN)
 }
 
-/// Rows in five parts, of which one begins with an image: the parts before it are not read.
+/// Rows in five parts of all three marks, and a part that has none of the node: with an image, those before it are not read.
 #[test]
-fn rows_are_replayed_from_the_newest_image(rt: HostRuntime) -> Result<(), Fail> {
+fn rows_of_five_parts_are_replayed(rt: HostRuntime) -> Result<(), Fail> {
     let alloc = rt.alloc();
-    let mut eye = look(alloc, 0)?;
-    let Ok((content, version)) = folded(alloc, &mut eye, 1) else {
-        return Err(Fail::from("fault"));
-    };
-    assert_eq!(&rt; version, 705);
-    assert_eq!(&rt; content, leaf(alloc)?);
-    assert_eq!(&rt; eye.taken, 14 + 24 + 14 + 49);
+    // whether there is an image, and how many bytes are taken
+    let newest = 14 + 24;
+    let table = [
+        (true, newest + 14 + 49),
+        (
+            false,
+            newest + 14 + 48 + 14 + 16_800 + 14 + 3 * 14 + 24 + 14 + 24,
+        ),
+    ];
+    for (with_image, taken) in table {
+        let mut eye = look(alloc, with_image, 0)?;
+        let found = if with_image {
+            folded(alloc, &mut eye, 1)
+        } else {
+            unfolded(alloc, &mut eye, 1)
+        };
+        assert_eq!(&rt; found.ok(), Some((leaf(alloc)?, 705)));
+        assert_eq!(&rt; eye.taken, taken);
+    }
     Ok(())
 }
 
-/// Without the image all rows are replayed, over the seam of two regions; a node that no part has is as it began.
+/// A node that no part has is as it began, a leaf or a head, and no row is read for it.
 #[test]
-fn rows_over_the_seam_of_regions_are_replayed(rt: HostRuntime) -> Result<(), Fail> {
+fn an_absent_node_is_as_it_began(rt: HostRuntime) -> Result<(), Fail> {
     let alloc = rt.alloc();
-    let mut eye = look(alloc, 0)?;
-    let Ok((content, version)) = unfolded(alloc, &mut eye, 1) else {
-        return Err(Fail::from("fault"));
+    let mut eye = look(alloc, true, 0)?;
+    let pairs = Items::new(alloc);
+    assert_eq!(&rt;
+        folded(alloc, &mut eye, 3).ok(),
+        Some((Node::Leaf { pairs }, 0))
+    );
+    let head = Node::Head {
+        root: 1,
+        next: 2,
+        depth: 1,
     };
-    assert_eq!(&rt; version, 702);
-    assert_eq!(&rt; content, leaf(alloc)?);
-    let Ok((_, never)) = unfolded(alloc, &mut eye, 3) else {
-        return Err(Fail::from("fault"));
-    };
-    assert_eq!(&rt; never, 0);
+    assert_eq!(&rt; folded(alloc, &mut eye, 0).ok(), Some((head, 0)));
+    assert_eq!(&rt; eye.taken, 14 * (6 + 7));
     Ok(())
 }
 
-/// Each of the reads fails in turn, as long as there is one.
+/// Each of the reads fails in turn, until none does.
 #[test]
 fn a_failed_read_is_told(rt: HostRuntime) -> Result<(), Fail> {
     let alloc = rt.alloc();
-    for fails in 1..14u64 {
-        let mut eye = look(alloc, fails)?;
+    let mut failures = 0u64;
+    for fails in 1..40u64 {
+        let mut eye = look(alloc, false, fails)?;
         let failed = matches!(unfolded(alloc, &mut eye, 1), Err(FetchFault::Failed));
         assert_eq!(&rt; failed, fails <= eye.reads);
-        assert_eq!(&rt; failed, eye.faults == 1);
+        assert_eq!(&rt; eye.faults, u64::from(failed));
+        failures = failures.saturating_add(u64::from(failed));
     }
+    assert!(&rt; failures < 39);
     Ok(())
 }
 

@@ -1,28 +1,30 @@
-use Rattle.std.proofs.Common.{rules, ◌≡◌, ℕ, ◌+◌, ◌≤◌, true, ◌++◌, ◌∷◌, [], List, length, refl, sym, ap, ◌∙◌, subst, arith, Err, Ok}
-use Rattle.std.specs.Prelude.{IfOk, IfErr, IsErrOf, MatchResult, Any}
+use Rattle.std.proofs.Common.{rules, ◌≡◌, true, ◌∷◌, [], sym, ap, ◌∙◌, subst, Err}
+use Rattle.std.specs.Prelude.{Any, Option}
 use Rattle.std.specs.List.{AllByRecursion, list_any}
+use Rattle.std.proofs.lemmas.List.{nil_from_length}
 use Rattle.std.proofs.lemmas.List.Quantifiers.{Any-push}
 use Rattle.fine_model.specs.declared.Part.{Part}
 use Rattle.fine_model.specs.declared.FetchFault.TheVariants as fault
 use Rattle.fine_model.specs.Merge.{is_image}
 use Rattle.fine_model.specs.Nodes.{content, replay}
-use Rattle.fine_model.specs.Regions.{Place}
-use Rattle.node_fetch.specs.Fetched.{HasBadRow, HasBadEntry, NoDamage, TellsParts}
-use Rattle.node_fetch.proofs.SpanLaws.{all_front, last_one}
-use Rattle.node_fetch.proofs.Parts.{any_front, fit_rows, later_tells, later_seen, tells_last, tells_none, content_none, content_by_image, content_on, taken_last, taken_all, after_exact, err_exact, fault_is, none_of}
+use Rattle.fine_model.specs.Regions.{Image}
+use Rattle.node_fetch.specs.Fetched.{IsReplayOf, HasBadRow, HasBadEntry, TellsParts}
+use Rattle.fine_model.proofs.Zip.{all_left, all_right}
+use Rattle.node_fetch.proofs.Parts.{fit_rows, later_tells, later_seen, tells_last, tells_none, content_none, content_by_image, content_on, taken_last, taken_all, after_exact, err_exact, fault_is}
+use Rattle.node_fetch.proofs.ReadBack.{replay_none, replay_image, replay_last, after_is}
 use Rattle.partition_index.specs.Parts.{IsSeen}
 use Rattle.node_fetch.proofs.rebuild.+rebuilt.Goals as goal
 
 pub returns-in_default-clause-exact : goal.returns-in_default-clause-exact
 returns-in_default-clause-exact g t c rows tells =
-    let none : c.args.parts.now ≡ [] = none_of c.args.parts.now c.in_default.ensures.cases in
+    let none : c.args.parts.now ≡ [] = nil_from_length c.args.parts.now c.in_default.ensures.cases in
     let no_rows : rows ≡ [] = tells_none (g.E.LogEye.state c.args.eye.now) rows (subst (λ ps. TellsParts (g.E.LogEye.state c.args.eye.now) ps rows) none tells) in
     c.base.ensures.base ∙ sym (ap (λ rs. content rs c.args.node) no_rows ∙ content_none c.args.node)
 
 pub part_rows-requires-clause-seen : goal.part_rows-requires-clause-seen
 part_rows-requires-clause-seen g t c κs within =
     let P : Part → Type 0 = IsSeen (g.E.LogEye.state c.args.eye.now) in
-    last_one P c.in-Some.older.now c.in-Some.newest.now (subst (AllByRecursion P) c.in-Some.ensures.cases.0 c.requires.seen)
+    (all_right P c.in-Some.older.now (c.in-Some.newest.now ∷ []) (subst (AllByRecursion P) c.in-Some.ensures.cases.0 c.requires.seen)).0
 
 pub returns-in_err-rows-clause-bad_row : goal.returns-in_err-rows-clause-bad_row
 returns-in_err-rows-clause-bad_row g t c region at e =
@@ -71,7 +73,7 @@ pub rebuilt-requires-clause-seen : goal.rebuilt-requires-clause-seen
 rebuilt-requires-clause-seen g t c κs within =
     let P : Part → Type 0 = IsSeen (g.E.LogEye.state c.args.eye.now) in
     later_seen (g.E.LogEye.state c.args.eye.now) (g.E.LogEye.state c.part_rows.new.eye) c.in-Some.older.now c.part_rows.ensures.eye.same
-    (all_front P c.in-Some.older.now (c.in-Some.newest.now ∷ []) (subst (AllByRecursion P) c.in-Some.ensures.cases.0 c.requires.seen))
+    (all_left P c.in-Some.older.now (c.in-Some.newest.now ∷ []) (subst (AllByRecursion P) c.in-Some.ensures.cases.0 c.requires.seen))
 
 pub returns-in_err-before-clause-exact : goal.returns-in_err-before-clause-exact
 returns-in_err-before-clause-exact g t c rows tells =
@@ -105,3 +107,23 @@ returns-clause-taken g t c rows tells =
     let later = later_tells (g.E.LogEye.state c.args.eye.now) (g.E.LogEye.state c.part_rows.new.eye) c.in-Some.older.now l.before c.part_rows.ensures.eye.same l.tells_before in
     taken_all (g.E.LogEye.state c.args.eye.now).taken (g.E.LogEye.state c.part_rows.new.eye).taken (g.E.LogEye.state c.rebuilt.new.eye).taken c.args.parts.now c.in-Some.older.now c.in-Some.newest.now rows l.before l.own c.args.node c.in-Some.ensures.cases.0 l.whole
     (c.part_rows.ensures.taken l.own l.tells_own) (c.rebuilt.ensures.taken l.before later)
+
+pub returns-in_default-clause-read : goal.returns-in_default-clause-read
+returns-in_default-clause-read g t c =
+    replay_none (g.E.LogEye.state c.args.eye.now).told c.args.parts.now c.args.node c.base.result (nil_from_length c.args.parts.now c.in_default.ensures.cases) c.base.ensures.base
+
+pub returns-then-has_image-clause-read : goal.returns-then-has_image-clause-read
+returns-then-has_image-clause-read g t c =
+    let known : Option Image = (g.E.LogEye.state c.args.eye.now).told in
+    let image : list_any (λ row. is_image row.rec) c.in_ok-rows.rows ≡ true = search rules in
+    after_is c.after.result known c.args.parts.now c.args.node _ c.after.ensures.replay
+    (λ found is. replay_image known c.args.parts.now c.in-Some.older.now c.in-Some.newest.now c.args.node c.in_ok-rows.rows found c.in-Some.ensures.cases.0 c.in_ok-rows.ensures.read image
+    (is ∙ ap (λ x. replay x c.in_ok-rows.rows) c.base-then-has_image.ensures.base))
+
+pub returns-clause-read : goal.returns-clause-read
+returns-clause-read g t c =
+    let known : Option Image = (g.E.LogEye.state c.args.eye.now).told in
+    let later : (g.E.LogEye.state c.part_rows.new.eye).told ≡ known = c.part_rows.ensures.eye.same.told in
+    let before = subst (λ k. IsReplayOf k c.in-Some.older.now c.args.node c.in_ok-before.before) later c.in_ok-before.ensures.read in
+    after_is c.after-2.result known c.args.parts.now c.args.node _ c.after-2.ensures.replay
+    (λ found is. replay_last known c.args.parts.now c.in-Some.older.now c.in-Some.newest.now c.args.node c.in_ok-rows.rows c.in_ok-before.before found c.in-Some.ensures.cases.0 c.in_ok-rows.ensures.read before is)

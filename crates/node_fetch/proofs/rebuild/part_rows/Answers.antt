@@ -1,7 +1,7 @@
-use Rattle.std.proofs.Common.{◌≡◌, ◌∙◌, Err, sym, ap, arith}
+use Rattle.std.proofs.Common.{◌∙◌, inl, Err, sym, ap, arith}
 use Rattle.partition_index.proofs.Exact.{never_bad}
 use Rattle.partition_index.proofs.Looking.{seen_same}
-use Rattle.node_fetch.proofs.PartRows.{none_found, some_found, tells_same, bad_within, span_taken}
+use Rattle.node_fetch.proofs.PartRows.{none_found, some_found, read_found, tells_same, bad_within, span_taken}
 use Rattle.node_fetch.proofs.rebuild.part_rows.Goals as goal
 
 pub returns-in-Ok-None-clause-exact : goal.returns-in-Ok-None-clause-exact
@@ -28,3 +28,11 @@ pub returns-clause-taken : goal.returns-clause-taken
 returns-clause-taken g c rows t =
     span_taken (g.E.LogEye.state c.args.eye.now).taken (g.E.LogEye.state c.seek.new.eye).taken (g.E.LogEye.state c.read_span.new.eye).taken _ rows c.args.node c.in-Ok-Some.span
     (some_found rows c.args.node c.in-Ok-Some.span (rw c.in-Ok-Some.field-0-is at (c.in-Ok-Some.ensures.exact rows t))) c.seek.ensures.eye.taken c.read_span.ensures.eye.taken
+
+pub returns-in-Ok-None-clause-read : goal.returns-in-Ok-None-clause-read
+returns-in-Ok-None-clause-read g c = inl c.new.ensures
+
+pub returns-clause-read : goal.returns-clause-read
+returns-clause-read g c =
+    read_found c.read_span.result (g.E.LogEye.state c.args.eye.now).told (g.E.LogEye.state c.seek.new.eye).told c.args.node c.args.part.now c.in-Ok-Some.span c.seek.ensures.eye.same.told (rw c.in-Ok-Some.field-0-is at c.in-Ok-Some.ensures.span)
+    c.read_span.ensures.holds

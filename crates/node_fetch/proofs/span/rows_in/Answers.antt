@@ -1,7 +1,7 @@
-use Rattle.std.proofs.Common.{◌≡◌, ◌≢◌, ◌+◌, ◌<◌, List, [], ◌∷◌, ◌++◌, length, refl, sym, ap, ◌∙◌, subst, arith, rules, length-append}
+use Rattle.std.proofs.Common.{◌≡◌, List, [], ◌∷◌, length, sym, ap, subst, arith, rules, length-append}
 use Rattle.fine_model.specs.declared.Row.{Row}
-use Rattle.node_fetch.specs.Spans.{ReadSoFar, StopsAt}
-use Rattle.node_fetch.proofs.Reading.{read_none, read_more, stops_without, stops_at_other}
+use Rattle.node_fetch.specs.Spans.{ReadSoFar}
+use Rattle.node_fetch.proofs.Reading.{read_none, read_more}
 use Rattle.node_fetch.proofs.span.rows_in.Goals as goal
 
 pub loop-init : goal.loop-init

@@ -1,5 +1,6 @@
 pub mod Folding
 pub mod Nodes
 pub mod Steps
+pub mod Taken
 pub mod Sources
 pub mod Measured

@@ -1,9 +1,8 @@
 -- The numbers of merged rows, as far as they were handed out.
-use Rattle.std.proofs.Common.{◌≡◌, ℕ, suc, ◌+◌, ◌<◌, ◌≤◌, min, true, false, cond, Bool, ◌&&◌, ◌||◌, IsTrue, Some, None, inl, inr, subst, true≢false, nat_le, List, [], ◌∷◌, ◌++◌, length, map, refl, sym, ap, ◌∙◌, arith, append-nil, append_assoc, length-append}
+use Rattle.std.proofs.Common.{◌≡◌, ℕ, suc, ◌+◌, ◌*◌, ◌<◌, ◌≤◌, min, true, false, cond, Bool, ◌&&◌, ◌||◌, IsTrue, Some, None, inl, inr, subst, true≢false, nat_le, List, [], ◌∷◌, ◌++◌, length, map, refl, sym, ap, ◌∙◌, arith, append-nil, append_assoc, length-append}
 use Rattle.std.specs.Prelude.{filter, fold, Option}
-use Rattle.std.specs.List.{list_any}
 use Rattle.std.proofs.lemmas.List.{length-map}
-use Rattle.std.proofs.lemmas.List.Sums.{sum_by-append, length-filter, count_by-le-length}
+use Rattle.std.proofs.lemmas.List.Sums.{sum_by-append}
 use Rattle.std.proofs.lemmas.List.Elements.{filter-append}
 use Rattle.log_disk.specs.Disk.{Eye}
 use Rattle.fine_model.specs.declared.NodeId.{NodeId}
@@ -15,7 +14,8 @@ use Rattle.fine_model.specs.Merge.{is_node_below, is_ordered, with_node, nodes_i
 use Rattle.fine_model.proofs.NodesIn.{times-nodes_in}
 use Rattle.fine_model.proofs.NodesAscend.{nodes_ascend, same_nodes}
 use Rattle.fine_model.proofs.MergedRows.{rows_of-merged}
-use Rattle.partition_index.proofs.NodeOrder.{below-asym}
+use Rattle.fine_model.proofs.Sets.{all_append}
+use Rattle.fine_model.proofs.NodeOrder.{below-asym}
 use Rattle.partition_index.proofs.Opened.{few_rows}
 use Rattle.partition_merge.specs.Merging.{first_node, merged_of}
 use Rattle.partition_merge.specs.declared.merger.Measure.{Measure}
@@ -23,14 +23,20 @@ use Rattle.partition_merge.specs.declared.merger.Merger.{Merger}
 use Rattle.fine_model.specs.declared.Part.{Part}
 use Rattle.fine_model.specs.Regions.{Image, Place}
 use Rattle.node_fetch.specs.Fetched.{HasBadRow}
-use Rattle.partition_merge.specs.Mergers.{StandsAt, HandsOut, BlamesRow, older_part, newer_part, behind, measure_of}
-use Rattle.partition_merge.proofs.Nodes.{all_join, rest_of, names, nodes_first, merged_by}
+use Rattle.partition_merge.specs.Mergers.{StandsAt, HandsOut, BlamesRow, older_part, newer_part, behind, both_unread, next_len, measure_of}
+use Rattle.partition_merge.proofs.Nodes.{rest_of, names, nodes_first, merged_by}
 use Rattle.partition_merge.proofs.Steps.{starts, no_node}
+use Rattle.partition_merge.proofs.Taken.{next_parted, next_within}
 
 abbrev greatest : ℕ
 greatest = 4294967295
 
-pub record Measured (eye : Eye) (pass : Merger) (older newer : List Row) (measure : Measure) : Type 0 where
+-- how many bytes measuring may take
+abbrev pub most_of : Eye → Merger → List Row → List Row → ℕ
+most_of eye merger older newer = eye.taken + (28 * ((older_part merger).header.nodes + (newer_part merger).header.nodes) + (rows_len older + rows_len newer))
+
+-- what was handed out so far is counted; most is how many bytes may have been taken behind the last node
+pub record Measured (eye : Eye) (pass : Merger) (older newer : List Row) (measure : Measure) (most : ℕ) : Type 0 where
   pub left_older : List Row
   pub left_newer : List Row
   pub stands : StandsAt eye pass left_older left_newer
@@ -41,9 +47,11 @@ pub record Measured (eye : Eye) (pass : Merger) (older newer : List Row) (measur
   pub steps : ℕ
   pub nodes : measure.nodes ≡ min steps greatest
   pub all_nodes : length (nodes_in (older ++ newer)) ≡ steps + length (nodes_in (left_older ++ left_newer))
+  pub bytes : eye.taken + (28 * both_unread pass + (rows_len left_older + rows_len left_newer)) ≤ most
 
-pub none_measured : (eye : Eye) (pass : Merger) (older newer : List Row) (measure : Measure) → measure.rows ≡ 0 → measure.nodes ≡ 0 → measure.area ≡ 0 → StandsAt eye pass older newer → Measured eye pass older newer measure
-none_measured eye pass older newer measure rows nodes area at = record {
+pub none_measured : (eye : Eye) (pass : Merger) (older newer : List Row) (measure : Measure) (most : ℕ) → measure.rows ≡ 0 → measure.nodes ≡ 0 → measure.area ≡ 0 → StandsAt eye pass older newer
+    → eye.taken + (28 * both_unread pass + (rows_len older + rows_len newer)) ≤ most → Measured eye pass older newer measure most
+none_measured eye pass older newer measure most rows nodes area at bytes = record {
   left_older = older;
   left_newer = newer;
   stands = at;
@@ -54,13 +62,14 @@ none_measured eye pass older newer measure rows nodes area at = record {
   steps = 0;
   nodes = nodes;
   all_nodes = omega arith;
+  bytes = bytes;
 }
 
 -- one node less is left
 fewer_nodes : (n : NodeId) (a b : List Row) → IsTrue (is_ordered a) → IsTrue (is_ordered b) → first_node a b ≡ Some n → length (nodes_in (a ++ b)) ≡ 1 + length (nodes_in (behind n a ++ behind n b))
 fewer_nodes n a b a_up b_up first =
     let s = starts n a b a_up b_up first in
-    let nodes = nodes_first n (a ++ b) (all_join (λ r. is_node_below r.node n ≡ false) a b s.old_from s.new_from) s.named in
+    let nodes = nodes_first n (a ++ b) (all_append (λ r. is_node_below r.node n ≡ false) a b s.old_from s.new_from) s.named in
     let rest : length (nodes_in (rest_of n (a ++ b))) ≡ length (nodes_in (behind n a ++ behind n b)) = ap (λ xs. length (nodes_in xs)) (filter-append (λ r. is_node_below n r.node) a b) in
     let all = ap length nodes in omega (arith, all, rest)
 
@@ -132,9 +141,10 @@ nodes_few : (rows : List Row) → length (nodes_in rows) ≤ length rows
 unfolding nodes_in
 nodes_few rows = omega (arith, fold_few [] (map (λ r. r.node) rows), length-map rows (λ r. r.node))
 
-pub more_measured : (eye later : Eye) (pass next : Merger) (older newer rows : List Row) (measure now : Measure) → (m : Measured eye pass older newer measure) → HandsOut later next m.left_older m.left_newer rows
-    → now.rows ≡ min (measure.rows + length rows) greatest → now.nodes ≡ min (measure.nodes + 1) greatest → now.area ≡ min (measure.area + rows_len rows) greatest → Measured later next older newer now
-more_measured eye later pass next older newer rows measure now m h r n a = record {
+pub more_measured : (eye later : Eye) (pass next : Merger) (older newer rows : List Row) (measure now : Measure) (most : ℕ) → (m : Measured eye pass older newer measure most) → HandsOut later next m.left_older m.left_newer rows
+    → later.taken + 28 * both_unread next ≤ eye.taken + (28 * both_unread pass + next_len m.left_older m.left_newer)
+    → now.rows ≡ min (measure.rows + length rows) greatest → now.nodes ≡ min (measure.nodes + 1) greatest → now.area ≡ min (measure.area + rows_len rows) greatest → Measured later next older newer now most
+more_measured eye later pass next older newer rows measure now most m h ahead r n a = record {
   left_older = behind h.node m.left_older;
   left_newer = behind h.node m.left_newer;
   stands = h.left;
@@ -145,10 +155,16 @@ more_measured eye later pass next older newer rows measure now m h r n a = recor
   steps = m.steps + 1;
   nodes = omega (arith, n, m.nodes);
   all_nodes = omega (arith, m.all_nodes, fewer_nodes h.node m.left_older m.left_newer m.stands.of_older.is_left.ordered m.stands.of_newer.is_left.ordered h.first);
+  bytes = omega (arith, m.bytes, ahead, next_parted h.node m.left_older m.left_newer m.stands.of_older.is_left.ordered m.stands.of_newer.is_left.ordered h.first);
 }
 
-pub all_measured : (eye : Eye) (pass : Merger) (older newer : List Row) (measure : Measure) → (m : Measured eye pass older newer measure) → m.left_older ≡ [] → m.left_newer ≡ [] → rows_len (merged older newer) < 4294967296 → measure ≡ measure_of (merged older newer)
-all_measured eye pass older newer measure m none_old none_new small =
+-- no more was taken than all of both parts
+pub within_most : (eye later : Eye) (pass : Merger) (older newer : List Row) (measure : Measure) (most : ℕ) → (m : Measured eye pass older newer measure most)
+    → later.taken ≤ eye.taken + (28 * both_unread pass + next_len m.left_older m.left_newer) → later.taken ≤ most
+within_most eye later pass older newer measure most m taken = omega (arith, m.bytes, taken, next_within m.left_older m.left_newer m.stands.of_older.is_left.ordered m.stands.of_newer.is_left.ordered)
+
+pub all_measured : (eye : Eye) (pass : Merger) (older newer : List Row) (measure : Measure) (most : ℕ) → (m : Measured eye pass older newer measure most) → m.left_older ≡ [] → m.left_newer ≡ [] → rows_len (merged older newer) < 4294967296 → measure ≡ measure_of (merged older newer)
+all_measured eye pass older newer measure most m none_old none_new small =
     let nothing : merged m.left_older m.left_newer ≡ [] = (λ i. merged (none_old i) (none_new i)) ∙ no_node [] [] refl in
     let all : merged older newer ≡ m.out = m.whole ∙ ap (λ xs. m.out ++ xs) nothing ∙ append-nil m.out in
     let no_nodes : length (nodes_in (m.left_older ++ m.left_newer)) ≡ 0 = (λ i. length (nodes_in (none_old i ++ none_new i))) ∙ none_named in

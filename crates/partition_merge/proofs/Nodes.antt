@@ -7,34 +7,15 @@ use Rattle.fine_model.specs.declared.Row.{Row}
 use Rattle.fine_model.specs.Nodes.{is_node, rows_of, content}
 use Rattle.fine_model.specs.Merge.{is_node_below, with_node, nodes_in, merged_node}
 use Rattle.fine_model.proofs.NodesIn.{node_cases, is_node_below-self, same_node}
+use Rattle.fine_model.proofs.NodeOrder.{below-asym}
 use Rattle.fine_model.proofs.Order.{filter_all, filter_none, all_map}
+use Rattle.fine_model.proofs.Sets.{all_filter, all_pass, all_append}
 use Rattle.partition_merge.specs.Merging.{merged_of}
-use Rattle.partition_index.proofs.NodeOrder.{below-asym}
 use Rattle.partition_index.proofs.RowOrder.{AllFrom}
-
-pub all_filter : {A : Type 0} (P : A → Type 0) (p : A → Bool) (xs : List A) → AllByRecursion P xs → AllByRecursion P (filter p xs)
-all_filter P p [] all = tt
-all_filter P p (x ∷ xs) all = by (p x) (all_filter P p xs all.1)
-  where
-    by : (t : Bool) → AllByRecursion P (filter p xs) → AllByRecursion P (cond t (x ∷ filter p xs) (filter p xs))
-    by true rest = (all.0, rest)
-    by false rest = rest
-
-all_kept : {A : Type 0} (p : A → Bool) (xs : List A) → AllByRecursion (λ x. p x ≡ true) (filter p xs)
-all_kept p [] = tt
-all_kept p (x ∷ xs) = by (p x) refl (all_kept p xs)
-  where
-    by : (t : Bool) → p x ≡ t → AllByRecursion (λ y. p y ≡ true) (filter p xs) → AllByRecursion (λ y. p y ≡ true) (cond t (x ∷ filter p xs) (filter p xs))
-    by true e rest = (e, rest)
-    by false e rest = rest
-
-pub all_join : {A : Type 0} (P : A → Type 0) (xs ys : List A) → AllByRecursion P xs → AllByRecursion P ys → AllByRecursion P (xs ++ ys)
-all_join P [] ys left right = right
-all_join P (x ∷ xs) ys left right = (left.0, all_join P xs ys left.1 right)
 
 all_with : (P : NodeId → Type 0) (acc : List NodeId) (id : NodeId) → AllByRecursion P acc → P id → AllByRecursion P (with_node acc id)
 all_with P acc id all here =
-    all_join P (filter (λ i. is_node_below i id) acc) (id ∷ filter (λ i. is_node_below id i) acc) (all_filter P (λ i. is_node_below i id) acc all) (here, all_filter P (λ i. is_node_below id i) acc all)
+    all_append P (filter (λ i. is_node_below i id) acc) (id ∷ filter (λ i. is_node_below id i) acc) (all_filter P (λ i. is_node_below i id) acc all) (here, all_filter P (λ i. is_node_below id i) acc all)
 
 all_folded : (P : NodeId → Type 0) (acc : List NodeId) (rows : List Row) → AllByRecursion P acc → AllByRecursion (λ r. P r.node) rows → AllByRecursion P (fold with_node acc (map (λ r. r.node) rows))
 all_folded P acc [] all each = all
@@ -108,7 +89,7 @@ nodes_first n rows from named = fold_lead n false [] rows tt from ∙ ap (λ t. 
 
 pub nodes_over : (n : NodeId) (rows : List Row) → Over n (nodes_in (rest_of n rows))
 unfolding nodes_in
-nodes_over n rows = all_folded (λ i. is_node_below n i ≡ true) [] (rest_of n rows) tt (all_kept (λ r. is_node_below n r.node) rows)
+nodes_over n rows = all_folded (λ i. is_node_below n i ≡ true) [] (rest_of n rows) tt (all_pass (λ r. is_node_below n r.node) rows)
 
 -- the rows of a higher node are among the rows of higher nodes
 pub rows_over : (n id : NodeId) (rows : List Row) → is_node_below n id ≡ true → rows_of id rows ≡ rows_of id (rest_of n rows)

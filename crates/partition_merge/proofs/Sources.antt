@@ -1,6 +1,6 @@
 -- The rows that are left of a source.
-use Rattle.std.proofs.Common.{◌≡◌, ◌⊎◌, ℕ, zero, suc, ◌+◌, ◌<◌, ◌≤◌, Bool, true, false, cond, IsTrue, List, [], ◌∷◌, ◌++◌, length, drop, get_or, Option, Some, None, refl, sym, ap, ◌∙◌, subst, arith, true≢false, inl, inr}
-use Rattle.std.specs.Prelude.{filter, not, Result, Ok, Err, IfOk, MatchResult}
+use Rattle.std.proofs.Common.{◌≡◌, ℕ, zero, suc, ◌+◌, ◌-◌, ◌<◌, ◌≤◌, Bool, true, false, cond, IsTrue, List, [], ◌∷◌, ◌++◌, length, drop, get_or, Option, Some, None, refl, sym, ap, ◌∙◌, subst, arith, true≢false, inl, inr}
+use Rattle.std.specs.Prelude.{not, Result, Ok, Err, IfOk, MatchResult}
 use Rattle.std.specs.List.{AllByRecursion}
 use Rattle.std.proofs.Math.ListN.{drop_of_length-le}
 use Rattle.std.proofs.lemmas.List.{drop-drop}
@@ -12,9 +12,9 @@ use Rattle.fine_model.specs.declared.Row.{Row}
 use Rattle.fine_model.specs.Nodes.{is_node, rows_of}
 use Rattle.fine_model.specs.Merge.{is_node_below, is_ordered, nodes_in, merged, merged_node}
 use Rattle.fine_model.specs.RowBytes.{FitsRow, FitsRec}
-use Rattle.fine_model.proofs.NodesIn.{node_cases, is_node_below-self, is_node-self, same_node}
+use Rattle.fine_model.proofs.NodesIn.{node_cases, is_node-self, same_node}
 use Rattle.fine_model.proofs.Order.{filter_all, filter_none, all_map}
-use Rattle.fine_model.proofs.Sets.{all_filter}
+use Rattle.fine_model.proofs.Sets.{all_filter, all_append}
 use Rattle.fine_model.specs.Regions.{Image, body_in}
 use Rattle.fine_model.specs.Seek.{entry_at}
 use Rattle.partition_index.specs.declared.entries.IndexEntry.{IndexEntry}
@@ -24,17 +24,17 @@ use Rattle.partition_index.specs.Parts.{IsSeen, SameEye}
 use Rattle.partition_index.specs.Search.{TellsRows, IsEntryAt, IsSpanAt, IsSpanOf, span_for}
 use Rattle.partition_index.proofs.Exact.{holds_rows, entry_exact, span_exact, there_in}
 use Rattle.fine_model.specs.declared.FetchFault.{FetchFault}
-use Rattle.node_fetch.specs.Fetched.{NoDamage}
+use Rattle.node_fetch.specs.Fetched.{HoldsRows, NoDamage}
 use Rattle.node_fetch.proofs.Parts.{fit_rows}
 use Rattle.node_fetch.proofs.PartRows.{tells_same}
 use Rattle.node_fetch.proofs.Told.{map_told}
 use Rattle.partition_merge.specs.declared.merger.Merger.{Merger}
 use Rattle.partition_merge.specs.declared.merger.Source.{Source}
-use Rattle.partition_index.proofs.NodeOrder.{below-other}
-use Rattle.partition_index.proofs.RowOrder.{AllFrom, AllAbove, all_above}
-use Rattle.partition_merge.specs.Merging.{FitRows, node_at_head, lower, first_node, run_len, merged_of}
-use Rattle.partition_merge.specs.Mergers.{IsLeft, SourceAt, StandsAt, HandsOut, behind, node_kept}
-use Rattle.partition_merge.proofs.Nodes.{all_join, rest_of, merged_all, nodes_first, nodes_over, rows_over, merged_by, lowest_first}
+use Rattle.fine_model.proofs.NodeOrder.{below-other}
+use Rattle.partition_index.proofs.RowOrder.{AllFrom, all_above}
+use Rattle.partition_merge.specs.Merging.{FitRows, node_at_head, lower, first_node, merged_of}
+use Rattle.partition_merge.specs.Mergers.{IsLeft, SourceAt, StandsAt, HandsOut, TakesRows, nodes_left, behind, node_kept}
+use Rattle.partition_merge.proofs.Nodes.{rest_of, merged_all, nodes_first, nodes_over, rows_over, merged_by, lowest_first}
 use Rattle.partition_merge.proofs.Steps.{starts, split_run, from_head, named_head}
 
 inside : (a b : NodeId) → ◌≡◌ {A = Option NodeId} (Some a) (Some b) → a ≡ b
@@ -123,7 +123,7 @@ pub next_merged : (n : NodeId) (older newer : List Row) → IsTrue (is_ordered o
 unfolding merged
 next_merged n older newer old_up new_up first =
     let s = starts n older newer old_up new_up first in
-    lowest_first n (older ++ newer) (all_join (λ r. is_node_below r.node n ≡ false) older newer s.old_from s.new_from) s.named
+    lowest_first n (older ++ newer) (all_append (λ r. is_node_below r.node n ≡ false) older newer s.old_from s.new_from) s.named
     ∙ ap (λ xs. xs ++ merged_all (rest_of n (older ++ newer))) (sym (merged_by (older ++ newer) n))
     ∙ ap (λ xs. merged_node (older ++ newer) n ++ merged_all xs) (filter-append (λ r. is_node_below n r.node) older newer)
 
@@ -189,6 +189,23 @@ fit_read p (Err e) h = tt
 
 pub err_clause : {A : Type 0} (r : Result A FetchFault) (f : FetchFault) (P : A → Type 0) → r ≡ Err f → NoDamage f → MatchResult r P NoDamage
 err_clause r f P is h = subst (λ x. MatchResult x P NoDamage) (sym is) h
+
+-- the rows of the next entry's span are taken
+pub taken_of : (r : Result (List Row) FetchFault) (known : Option Image) (id : NodeId) (before after : Source) (span : Span) → IsSpanAt known before.part before.next span → IfOk r (HoldsRows known before.part id span)
+    → nodes_left after + 1 ≡ nodes_left before → IfOk r (TakesRows known id before after)
+taken_of (Ok rows) known id before after span is holds one = inr (span, is, holds, one)
+taken_of (Err e) known id before after span is holds one = tt
+
+-- what was taken since an entry was kept was taken since before
+pub takes_as : (known now : Option Image) (p q after : Source) (id : NodeId) (rows : List Row) → now ≡ known → q.part ≡ p.part → q.next ≡ p.next → TakesRows now id q after rows → TakesRows known id p after rows
+takes_as known now p q after id rows told part next (inl none) = inl (none.0, none.1 ∙ (λ i. (part i).header.nodes - next i))
+takes_as known now p q after id rows told part next (inr some) =
+    inr (
+      some.0,
+      subst (λ k. IsSpanAt k p.part p.next some.0) told (subst (λ x. IsSpanAt now x p.next some.0) part (subst (λ n. IsSpanAt now q.part n some.0) next some.1)),
+      subst (λ k. HoldsRows k p.part id some.0 rows) told (subst (λ x. HoldsRows now x id some.0 rows) part some.2),
+      some.3 ∙ (λ i. (part i).header.nodes - next i),
+    )
 
 -- where no node is the lower one, nothing is left
 pub none_first : (a b : Option NodeId) → lower a b ≡ None → (a ≡ None) × (b ≡ None)

@@ -1,7 +1,6 @@
 -- Merging goes on behind the rows of the lowest node.
-use Rattle.std.proofs.Common.{◌≡◌, ℕ, zero, suc, ◌+◌, ◌<◌, ◌≤◌, Bool, true, false, cond, ◌||◌, IsTrue, List, [], ◌∷◌, ◌++◌, length, take, drop, Some, None, refl, sym, ap, ◌∙◌, subst, inl, inr, true≢false, arith, append_assoc, ◌-◌}
+use Rattle.std.proofs.Common.{◌≡◌, ℕ, suc, ◌+◌, ◌<◌, ◌≤◌, Bool, true, false, cond, ◌||◌, IsTrue, List, [], ◌∷◌, ◌++◌, length, take, drop, Some, None, refl, sym, ap, ◌∙◌, subst, inl, inr, true≢false, arith, append_assoc, ◌-◌}
 use Rattle.std.specs.Prelude.{Option}
-use Rattle.std.specs.List.{AllByRecursion}
 use Rattle.std.proofs.lemmas.List.{length-drop}
 use Rattle.std.proofs.lemmas.List.Elements.{filter-append}
 use Rattle.fine_model.specs.declared.NodeId.{NodeId}
@@ -9,31 +8,15 @@ use Rattle.fine_model.specs.declared.Row.{Row}
 use Rattle.fine_model.specs.Nodes.{is_node, rows_of, content}
 use Rattle.fine_model.specs.Merge.{is_node_below, is_ordered, nodes_in, merged}
 use Rattle.fine_model.proofs.NodesIn.{node_cases, is_node_below-self, is_node-self, same_node}
+use Rattle.fine_model.proofs.Lists.{all_drop}
+use Rattle.fine_model.proofs.NodeOrder.{below-asym, below-other}
 use Rattle.fine_model.proofs.Order.{filter_all, filter_none, all_map}
+use Rattle.fine_model.proofs.Sets.{all_append}
 use Rattle.fine_model.specs.RowBytes.{FitsRec}
 use Rattle.fine_model.proofs.MergedRows.{content-merged}
 use Rattle.partition_merge.specs.Merging.{FitRows, run_len, first_node, merged_of, StandsFor}
-use Rattle.partition_index.proofs.NodeOrder.{below-asym}
 use Rattle.partition_index.proofs.RowOrder.{AllAbove, AllFrom, all_above, all_from, ordered_tail}
-use Rattle.partition_merge.proofs.Nodes.{all_join, rest_of, names, merged_all, lowest_first}
-
-pub all_drop : {A : Type 0} (P : A → Type 0) (k : ℕ) (xs : List A) → AllByRecursion P xs → AllByRecursion P (drop k xs)
-all_drop P zero xs all = all
-all_drop P (suc k) [] all = tt
-all_drop P (suc k) (x ∷ xs) all = all_drop P k xs all.1
-
-pub all_take : {A : Type 0} (P : A → Type 0) (k : ℕ) (xs : List A) → AllByRecursion P xs → AllByRecursion P (take k xs)
-all_take P zero xs all = tt
-all_take P (suc k) [] all = tt
-all_take P (suc k) (x ∷ xs) all = (all.0, all_take P k xs all.1)
-
--- a node is not one that is above it
-other : (n i : NodeId) → is_node_below n i ≡ true → is_node n i ≡ false
-other n i h = by (is_node n i) refl
-  where
-    by : (t : Bool) → is_node n i ≡ t → is_node n i ≡ false
-    by true e = absurd (true≢false (sym h ∙ subst (λ k. is_node_below n k ≡ false) (same_node n i e) (is_node_below-self n)))
-    by false e = e
+use Rattle.partition_merge.proofs.Nodes.{rest_of, names, merged_all, lowest_first}
 
 -- the first rows are those of a node, and the others those of higher nodes
 pub record Split (n : NodeId) (rows : List Row) (k : ℕ) : Type 0 where
@@ -54,7 +37,7 @@ split_more n r rows k same s =
 
 split_none : (n : NodeId) (rows : List Row) → IsTrue (is_ordered rows) → AllAbove n rows → Split n rows 0
 split_none n rows up above = record {
-  own = filter_none (λ r. is_node n r.node) rows (all_map (λ r. is_node_below n r.node ≡ true) (λ r. is_node n r.node ≡ false) (λ r h. other n r.node h) rows above);
+  own = filter_none (λ r. is_node n r.node) rows (all_map (λ r. is_node_below n r.node ≡ true) (λ r. is_node n r.node ≡ false) (λ r h. (below-other n r.node h).0) rows above);
   rest = filter_all (λ r. is_node_below n r.node) rows above;
   few = omega arith;
   order = up;
@@ -150,7 +133,7 @@ next_node n older newer old_up new_up first =
     let b = split_run n newer new_up s.new_from in
     let own : rows_of n (older ++ newer) ≡ take (run_len n older) older ++ take (run_len n newer) newer = filter-append (λ r. is_node n r.node) older newer ∙ ap (λ xs. xs ++ rows_of n newer) a.own ∙ ap (λ xs. take (run_len n older) older ++ xs) b.own in
     let rest : rest_of n (older ++ newer) ≡ drop (run_len n older) older ++ drop (run_len n newer) newer = filter-append (λ r. is_node_below n r.node) older newer ∙ ap (λ xs. xs ++ rest_of n newer) a.rest ∙ ap (λ xs. drop (run_len n older) older ++ xs) b.rest in
-    lowest_first n (older ++ newer) (all_join (λ r. is_node_below r.node n ≡ false) older newer s.old_from s.new_from) s.named
+    lowest_first n (older ++ newer) (all_append (λ r. is_node_below r.node n ≡ false) older newer s.old_from s.new_from) s.named
     ∙ ap (λ xs. merged_of n xs ++ merged_all (rest_of n (older ++ newer))) own
     ∙ ap (λ xs. merged_of n (take (run_len n older) older ++ take (run_len n newer) newer) ++ merged_all xs) rest
 

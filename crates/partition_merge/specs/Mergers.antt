@@ -12,11 +12,11 @@ use Rattle.fine_model.specs.Merge.{is_node_below, is_ordered, nodes_in, merged_n
 use Rattle.partition_index.specs.declared.entries.IndexEntry.{IndexEntry}
 use Rattle.partition_index.specs.declared.entries.Span.{Span}
 use Rattle.partition_index.specs.Search.{IsEntryAt, IsSpanAt, TellsRows}
-use Rattle.node_fetch.specs.Fetched.{HasBadRow, HasBadEntry}
+use Rattle.node_fetch.specs.Fetched.{HoldsRows, HasBadRow, HasBadEntry}
 use Rattle.partition_merge.specs.declared.merger.Measure.{Measure}
 use Rattle.partition_merge.specs.declared.merger.Merger.{Merger}
 use Rattle.partition_merge.specs.declared.merger.Source.{Source}
-use Rattle.partition_merge.specs.Merging.{FitRows, first_node}
+use Rattle.partition_merge.specs.Merging.{FitRows, first_node, merged_of}
 
 -- the rows of the nodes above one
 abbrev pub behind : NodeId → List Row → List Row
@@ -55,6 +55,25 @@ older_part merger = merger.older.part
 abbrev pub newer_part : Merger → Part
 newer_part merger = merger.newer.part
 
+-- how many index entries are still to be read: those of the nodes that are left, but for the one that is kept
+abbrev pub kept_count : Option (IndexEntry × Span) → ℕ
+kept_count None = 0
+kept_count (Some head) = 1
+
+abbrev pub unread : Source → ℕ
+unread source = nodes_left source - kept_count source.head
+
+abbrev pub both_unread : Merger → ℕ
+both_unread merger = unread merger.older + unread merger.newer
+
+-- how many bytes the rows of the next node have in both parts
+abbrev pub own_len : Option NodeId → List Row → List Row → ℕ
+own_len None older newer = 0
+own_len (Some id) older newer = rows_len (rows_of id older) + rows_len (rows_of id newer)
+
+abbrev pub next_len : List Row → List Row → ℕ
+next_len older newer = own_len (first_node older newer) older newer
+
 -- how many bytes the next node may take
 abbrev pub most_for : Merger → ℕ
 most_for merger = 56 + merger.older.part.header.area + merger.newer.part.header.area
@@ -66,6 +85,21 @@ pub record BlamesRow (known : Option Image) (merger : Merger) (place : Place) : 
 
 pub record BlamesEntry (known : Option Image) (merger : Merger) (place : Place) : Type 0 where
   pub is_bad : HasBadEntry known merger.region_len (older_part merger) place ⊎ HasBadEntry known merger.region_len (newer_part merger) place
+
+-- What was read of a part: nothing, and no node less is left; or the rows of the next entry's span, and one node less is left.
+abbrev pub TakesRows : Option Image → NodeId → Source → Source → List Row → Type 0
+TakesRows known id before after rows =
+    ((rows ≡ []) × (nodes_left after ≡ nodes_left before))
+    ⊎ ((span : Span) × IsSpanAt known before.part before.next span × HoldsRows known before.part id span rows × (nodes_left after + 1 ≡ nodes_left before))
+
+-- Rows are what the rows of one node are merged into, as they were read of both parts.
+pub record IsJoinOf (known : Option Image) (before after : Merger) (rows : List Row) : Type 0 where
+  pub node : NodeId
+  pub older : List Row
+  pub newer : List Row
+  pub of_older : TakesRows known node before.older after.older older
+  pub of_newer : TakesRows known node before.newer after.newer newer
+  pub joined : rows ≡ merged_of node (older ++ newer)
 
 -- of some rows, those of the nodes from one on are left
 pub record IsLeft (rows : List Row) (next : ℕ) (left : List Row) : Type 0 where

@@ -1,6 +1,6 @@
 //! Merging two parts node by node, through an eye.
 
-ghost use Rattle.std.specs.Prelude.{◌≡◌, ℕ, ◌+◌, ◌-◌, ◌<◌, ◌≤◌, ◌++◌, IfOk, IfSome, IsErrOf, MatchResult, List, length, min, Option, Some, None, Ok, option_map};
+ghost use Rattle.std.specs.Prelude.{◌≡◌, ℕ, ◌+◌, ◌-◌, ◌*◌, ◌<◌, ◌≤◌, ◌++◌, IfOk, IfSome, IsErrOf, MatchResult, List, length, min, Option, Some, None, Ok, option_map};
 ghost use Rattle.log_disk.specs.Disk.{Eye};
 ghost use Rattle.fine_model.specs.declared.Row.{Row};
 ghost use Rattle.fine_model.specs.declared.FetchFault.TheVariants as fetch_fault;
@@ -13,7 +13,7 @@ ghost use Rattle.partition_index.proofs.RowOrder.{AllFrom};
 ghost use Rattle.partition_index.specs.Search.{Searches, TellsRows};
 ghost use Rattle.node_fetch.specs.Fetched.{HasBadRow, HasBadEntry, NoDamage};
 ghost use Rattle.partition_merge.specs.Merging.{FitRows, node_at_head, merged_of};
-ghost use Rattle.partition_merge.specs.Mergers.{behind, node_kept, nodes_left, IsKept, AreKept, SourceAt, StandsAt, Answers, older_part, newer_part, both_left, most_for, BlamesRow, BlamesEntry, measure_of};
+ghost use Rattle.partition_merge.specs.Mergers.{behind, node_kept, nodes_left, IsKept, AreKept, SourceAt, StandsAt, Answers, older_part, newer_part, both_left, unread, both_unread, next_len, most_for, BlamesRow, BlamesEntry, TakesRows, IsJoinOf, measure_of};
 
 use crate::fold::folded;
 use crate::{lower, push_all};
@@ -59,6 +59,9 @@ impl Source {
         ensures next { self.new.next ≡ self.old.next }
         ensures kept { IsKept (E.LogEye.state eye.old).told self.new }
         ensures head { IfOk result (λ node. node ≡ option_map (λ head. head.0.node) self.new.head) }
+        ensures end { result ≡ Ok None → nodes_left self.new ≡ 0 }
+        ensures ahead { IfOk result (λ node. (E.LogEye.state eye.new).taken + 28 * unread self.new ≤ (E.LogEye.state eye.old).taken + 28 * unread self.old) }
+        ensures taken { (E.LogEye.state eye.new).taken ≤ (E.LogEye.state eye.old).taken + 28 * unread self.old }
         ensures good_row { (region at : ℕ) → IsErrOf result (fetch_fault.BadRow region at) → ⊥ }
         ensures bad_index { (region at : ℕ) → IsErrOf result (fetch_fault.BadIndex region at) → HasBadEntry (E.LogEye.state eye.old).told region_len self.old.part (record { region = region; at = at }) }
         ensures exact { (left : List Row) → SourceAt (E.LogEye.state eye.old) self.old left → MatchResult result (λ node. node ≡ node_at_head left) NoDamage }
@@ -94,6 +97,8 @@ impl Source {
         ensures part { self.new.part ≡ self.old.part }
         ensures kept { IsKept (E.LogEye.state eye.old).told self.new }
         ensures fit { IfOk result FitRows }
+        ensures read { IfOk result (TakesRows (E.LogEye.state eye.old).told node self.old self.new) }
+        ensures unread { unread self.new ≡ unread self.old }
         ensures no_more { nodes_left self.new ≤ nodes_left self.old }
         ensures fewer { node_kept self.old.head ≡ Some node → nodes_left self.new < nodes_left self.old }
         ensures bad_row { (region at : ℕ) → IsErrOf result (fetch_fault.BadRow region at) → HasBadRow (E.LogEye.state eye.old).told region_len self.old.part node (record { region = region; at = at }) }
@@ -102,6 +107,8 @@ impl Source {
             → MatchResult result (λ own. own ≡ rows_of node left) NoDamage }
         ensures left { (left : List Row) → SourceAt (E.LogEye.state eye.old) self.old left → AllFrom node left → node_kept self.old.head ≡ node_at_head left
             → SourceAt (E.LogEye.state eye.new) self.new (behind node left) }
+        ensures taken { (left : List Row) → SourceAt (E.LogEye.state eye.old) self.old left → AllFrom node left → node_kept self.old.head ≡ node_at_head left
+            → (E.LogEye.state eye.new).taken ≤ (E.LogEye.state eye.old).taken + rows_len (rows_of node left) }
     {
         let Some((entry, span)) = self.head else {
             return Ok(Items::new(alloc));
@@ -172,6 +179,7 @@ impl Merger {
         ensures newer { newer_part result ≡ newer }
         ensures region_len { result.region_len ≡ region_len }
         ensures kept { (known : Option Image) → AreKept known result }
+        ensures unread { both_unread result ≡ older.header.nodes + newer.header.nodes }
         ensures stands { (eye : Eye) (a b : List Row) → TellsRows eye older a → TellsRows eye newer b → StandsAt eye result a b }
     {
         Merger {
@@ -181,12 +189,14 @@ impl Merger {
         }
     }
 
-    /// The merged rows of the next node, or None behind the last one.
+    /// The merged rows of the next node, or None behind the last entry of both parts.
     ///
-    /// Where the eye tells its bytes, and both parts are in the grammar and have their headers, the lists of all calls together are
-    /// exactly the merged rows. `BadRow` and `BadIndex` come only with a place of the disk that, by the bytes read for this node, has
-    /// a bad row or a bad entry: never in the grammar. `Failed` comes only where the eye's count of faults rose in this call. The eye
-    /// is as before but for its counts.
+    /// They are what the node's rows are merged into, as they were read of the spans that the next entries give. Where the eye tells
+    /// its bytes, and both parts are in the grammar and have their headers, the lists of all calls together are exactly the merged
+    /// rows. `BadRow` comes only with a place of the disk that, by the bytes read for this node, has a bad row, and `BadIndex` only
+    /// with the place of an index entry, which is bad by the bytes that the eye tells: neither comes in the grammar. `Failed` comes
+    /// only where the eye's count of faults rose in this call. The eye is as before but for its counts. In the grammar it takes at
+    /// most 28 bytes for each index entry that this call is the first to read, and the node's rows.
     pub fn next_node<E: LogEye>(
         &mut self,
         alloc: Global,
@@ -202,10 +212,16 @@ impl Merger {
         ensures region_len { self.new.region_len ≡ self.old.region_len }
         ensures kept { AreKept (E.LogEye.state eye.old).told self.new }
         ensures fit { IfOk result (λ found. IfSome found FitRows) }
+        ensures read { IfOk result (λ found. IfSome found (IsJoinOf (E.LogEye.state eye.old).told self.old self.new)) }
+        ensures end { result ≡ Ok None → both_left self.new ≡ 0 }
         ensures fewer { IfOk result (λ found. IfSome found (λ rows. both_left self.new < both_left self.old)) }
         ensures bad_row { (region at : ℕ) → IsErrOf result (fetch_fault.BadRow region at) → BlamesRow (E.LogEye.state eye.old).told self.old (record { region = region; at = at }) }
         ensures bad_index { (region at : ℕ) → IsErrOf result (fetch_fault.BadIndex region at) → BlamesEntry (E.LogEye.state eye.old).told self.old (record { region = region; at = at }) }
         ensures exact { (older newer : List Row) → StandsAt (E.LogEye.state eye.old) self.old older newer → MatchResult result (Answers (E.LogEye.state eye.new) self.new older newer) NoDamage }
+        ensures ahead { (older newer : List Row) → StandsAt (E.LogEye.state eye.old) self.old older newer
+            → IfOk result (λ found. (E.LogEye.state eye.new).taken + 28 * both_unread self.new ≤ (E.LogEye.state eye.old).taken + (28 * both_unread self.old + next_len older newer)) }
+        ensures taken { (older newer : List Row) → StandsAt (E.LogEye.state eye.old) self.old older newer
+            → (E.LogEye.state eye.new).taken ≤ (E.LogEye.state eye.old).taken + (28 * both_unread self.old + next_len older newer) }
     {
         let older = self.older.peek(eye, self.region_len)?;
         let newer = self.newer.peek(eye, self.region_len)?;
@@ -223,7 +239,8 @@ impl Merger {
     /// The numbers of all merged rows, which are read once from the first node on. The merger stays where it stands.
     ///
     /// Where the eye tells its bytes, both parts are in the grammar and have their headers, and the merged rows have fewer than 2^32
-    /// bytes, the numbers are exact. The faults are those of `next_node`.
+    /// bytes, the numbers are exact. The eye takes at most 28 bytes for each node of each part, and the rows of both. The faults are
+    /// those of `next_node`.
     pub fn measure<E: LogEye>(&mut self, alloc: Global, eye: &mut E) -> Result<Measure, FetchFault>
         requires older { IsSeen (E.LogEye.state eye.old) (older_part self.old) }
         requires newer { IsSeen (E.LogEye.state eye.old) (newer_part self.old) }
@@ -235,6 +252,8 @@ impl Merger {
         ensures bad_index { (region at : ℕ) → IsErrOf result (fetch_fault.BadIndex region at) → BlamesEntry (E.LogEye.state eye.old).told self.old (record { region = region; at = at }) }
         ensures exact { (older newer : List Row) → TellsRows (E.LogEye.state eye.old) (older_part self.old) older → TellsRows (E.LogEye.state eye.old) (newer_part self.old) newer
             → rows_len (merged older newer) < 4294967296 → MatchResult result (λ measure. measure ≡ measure_of (merged older newer)) NoDamage }
+        ensures taken { (older newer : List Row) → TellsRows (E.LogEye.state eye.old) (older_part self.old) older → TellsRows (E.LogEye.state eye.old) (newer_part self.old) newer
+            → (E.LogEye.state eye.new).taken ≤ (E.LogEye.state eye.old).taken + (28 * ((older_part self.old).header.nodes + (newer_part self.old).header.nodes) + (rows_len older + rows_len newer)) }
     {
         let mut pass = Merger::new(self.older.part, self.newer.part, self.region_len);
         let mut measure = Measure {

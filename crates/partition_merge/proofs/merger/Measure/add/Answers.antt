@@ -1,4 +1,4 @@
-use Rattle.std.proofs.Common.{◌≡◌, ◌≤◌, ℕ, [], length, drop, arith, ap, subst}
+use Rattle.std.proofs.Common.{◌≡◌, ◌≤◌, length, drop, arith, ap, subst}
 use Rattle.std.proofs.Math.ListN.{drop_of_length-le}
 use Rattle.fine_model.specs.RowBytes.{rows_len}
 use Rattle.partition_merge.proofs.merger.Measure.add.Goals as goal

@@ -1,4 +1,4 @@
-use Rattle.std.proofs.Common.{◌≡◌, ◌+◌, ◌≤◌, min, drop, take}
+use Rattle.std.proofs.Common.{◌≡◌, ◌+◌, ◌≤◌, min, drop}
 use Rattle.fine_model.specs.RowBytes.{rows_len}
 use Rattle.partition_merge.specs.Merging.{FitRows}
 use Rattle.partition_merge.proofs.merger.Measure.add.Given as goal

@@ -1,11 +1,10 @@
-use Rattle.std.proofs.Common.{◌≡◌, ◌∙◌, ℕ, Err, Some, None, sym, ap, subst, arith, rules, refl}
-use Rattle.fine_model.specs.declared.FetchFault.{FetchFault}
+use Rattle.std.proofs.Common.{◌≡◌, ◌∙◌, Err, None, sym, ap, subst, arith, rules, refl}
 use Rattle.fine_model.specs.declared.FetchFault.TheVariants as fault
 use Rattle.partition_index.specs.Parts.{IsSeen}
 use Rattle.partition_index.proofs.Looking.{seen_same, same_then}
-use Rattle.partition_merge.specs.Mergers.{Answers, HandsOut, measure_of}
+use Rattle.partition_merge.specs.Mergers.{Answers, HandsOut}
 use Rattle.partition_merge.proofs.Sources.{err_clause}
-use Rattle.partition_merge.proofs.Measured.{none_measured, more_measured, all_measured, blames_row}
+use Rattle.partition_merge.proofs.Measured.{none_measured, more_measured, all_measured, within_most, blames_row}
 use Rattle.partition_merge.proofs.merger.Merger.measure.Goals as goal
 
 pub loop-rows-init : goal.loop-rows-init
@@ -17,7 +16,8 @@ loop-rows-init g c = record {
   newer = c.new-pass.ensures.newer;
   region_len = c.new-pass.ensures.region_len;
   kept = c.new-pass.ensures.kept (g.E.LogEye.state c.args.eye.now).told;
-  counted = λ older newer a b. none_measured (g.E.LogEye.state c.args.eye.now) c.new-pass.result older newer _ refl refl refl (c.new-pass.ensures.stands (g.E.LogEye.state c.args.eye.now) older newer a b);
+  counted = λ older newer a b.
+      none_measured (g.E.LogEye.state c.args.eye.now) c.new-pass.result older newer _ _ refl refl refl (c.new-pass.ensures.stands (g.E.LogEye.state c.args.eye.now) older newer a b) (let all = c.new-pass.ensures.unread in omega (arith, all));
 }
 
 pub next_node-requires-clause-older : goal.next_node-requires-clause-older
@@ -59,7 +59,7 @@ loop-rows-preserved g c =
           let m = i.counted older newer a b in
           let h : HandsOut (g.E.LogEye.state c.next_node.new.eye) c.next_node.new.self m.left_older m.left_newer c.in-Some.rows =
           subst (Answers (g.E.LogEye.state c.next_node.new.eye) c.next_node.new.self m.left_older m.left_newer) c.in-Some.is (c.in_ok-rows.ensures.exact m.left_older m.left_newer m.stands) in
-          more_measured (g.E.LogEye.state c.loop-rows.eye) (g.E.LogEye.state c.next_node.new.eye) c.loop-rows.pass c.next_node.new.self older newer c.in-Some.rows c.loop-rows.measure c.add.new.self m h c.add.ensures.rows c.add.ensures.nodes c.add.ensures.area;
+          more_measured (g.E.LogEye.state c.loop-rows.eye) (g.E.LogEye.state c.next_node.new.eye) c.loop-rows.pass c.next_node.new.self older newer c.in-Some.rows c.loop-rows.measure c.add.new.self _ m h (c.in_ok-rows.ensures.ahead m.left_older m.left_newer m.stands) c.add.ensures.rows c.add.ensures.nodes c.add.ensures.area;
     }
 
 pub returns-clause-exact : goal.returns-clause-exact
@@ -67,4 +67,14 @@ returns-clause-exact g c older newer a b small =
     let m = c.loop-rows.invariant.counted older newer a b in
     let none : c.in_ok-rows.field-0 ≡ None = search rules in
     let h : Answers (g.E.LogEye.state c.next_node.new.eye) c.next_node.new.self m.left_older m.left_newer None = subst (Answers (g.E.LogEye.state c.next_node.new.eye) c.next_node.new.self m.left_older m.left_newer) none (c.in_ok-rows.ensures.exact m.left_older m.left_newer m.stands) in
-    all_measured (g.E.LogEye.state c.loop-rows.eye) c.loop-rows.pass older newer c.loop-rows.measure m h.0 h.1 small
+    all_measured (g.E.LogEye.state c.loop-rows.eye) c.loop-rows.pass older newer c.loop-rows.measure _ m h.0 h.1 small
+
+pub returns-in_err-rows-clause-taken : goal.returns-in_err-rows-clause-taken
+returns-in_err-rows-clause-taken g c older newer a b =
+    let m = c.loop-rows.invariant.counted older newer a b in
+    within_most (g.E.LogEye.state c.loop-rows.eye) (g.E.LogEye.state c.next_node.new.eye) c.loop-rows.pass older newer c.loop-rows.measure _ m (c.next_node.ensures.taken m.left_older m.left_newer m.stands)
+
+pub returns-clause-taken : goal.returns-clause-taken
+returns-clause-taken g c older newer a b =
+    let m = c.loop-rows.invariant.counted older newer a b in
+    within_most (g.E.LogEye.state c.loop-rows.eye) (g.E.LogEye.state c.next_node.new.eye) c.loop-rows.pass older newer c.loop-rows.measure _ m (c.next_node.ensures.taken m.left_older m.left_newer m.stands)

@@ -1,7 +1,8 @@
-use Rattle.std.proofs.Common.{◌≡◌, ◌∙◌, ℕ, ◌+◌, ◌<◌, Err, Some, None, sym, ap, subst, arith, rules, refl}
+use Rattle.std.proofs.Common.{◌≡◌, ◌∙◌, Ok, Err, sym, ap, subst, arith, rules, refl}
 use Rattle.partition_index.specs.Parts.{IsSeen}
 use Rattle.partition_index.proofs.Looking.{seen_same, same_then}
-use Rattle.partition_merge.proofs.Sources.{err_clause, source_peeked, peeked_both, none_peeked, handed_out}
+use Rattle.partition_merge.proofs.Sources.{err_clause, source_peeked, peeked_both, none_peeked, none_first, takes_as, handed_out}
+use Rattle.partition_merge.proofs.Taken.{next_is}
 use Rattle.partition_merge.proofs.merger.Merger.next_node.Goals as goal
 
 pub returns-in_err-older-clause-exact : goal.returns-in_err-older-clause-exact
@@ -72,3 +73,73 @@ returns-in-Ok-clause-exact g c older newer at =
     handed_out (g.E.LogEye.state c.take-2.new.eye) _ older newer c.in-Ok.rows c.in_ok-older-2.older c.in_ok-newer-2.newer c.in-Some.node at.of_older.is_left.ordered at.of_newer.is_left.ordered p.first
     (c.in_ok-older-2.ensures.exact older p.of_older p.old_from p.old_kept) (c.in_ok-newer-2.ensures.exact newer new_at p.new_from p.new_kept) c.in-Ok.ensures.merged
     old_behind (c.take-2.ensures.left newer new_at p.new_from p.new_kept)
+
+pub returns-in_err-older-2-clause-taken : goal.returns-in_err-older-2-clause-taken
+returns-in_err-older-2-clause-taken g c older newer at =
+    let m = c.args.self.now in
+    let later = source_peeked (g.E.LogEye.state c.args.eye.now) (g.E.LogEye.state c.peek.new.eye) m.newer m.newer newer c.peek.ensures.eye.same refl refl at.of_newer in
+    let p = peeked_both (g.E.LogEye.state c.args.eye.now) (g.E.LogEye.state c.peek.new.eye) (g.E.LogEye.state c.peek-2.new.eye) m c.peek.new.self c.peek-2.new.self older newer c.in-Some.node c.in_ok-older.older c.in_ok-newer.newer at
+    c.peek.ensures.eye.same c.peek-2.ensures.eye.same c.peek.ensures.part c.peek.ensures.next c.peek-2.ensures.part c.peek-2.ensures.next c.in_ok-older.ensures.head c.in_ok-newer.ensures.head
+    (c.in_ok-older.ensures.exact older at.of_older) (c.in_ok-newer.ensures.exact newer later) (sym c.lower.ensures ∙ c.in-Some.is) in
+    omega (arith, c.in_ok-older.ensures.ahead, c.in_ok-newer.ensures.ahead, c.take.ensures.taken older p.of_older p.old_from p.old_kept, next_is c.in-Some.node older newer p.first)
+
+pub returns-in_err-newer-2-clause-taken : goal.returns-in_err-newer-2-clause-taken
+returns-in_err-newer-2-clause-taken g c older newer at =
+    let m = c.args.self.now in
+    let later = source_peeked (g.E.LogEye.state c.args.eye.now) (g.E.LogEye.state c.peek.new.eye) m.newer m.newer newer c.peek.ensures.eye.same refl refl at.of_newer in
+    let p = peeked_both (g.E.LogEye.state c.args.eye.now) (g.E.LogEye.state c.peek.new.eye) (g.E.LogEye.state c.peek-2.new.eye) m c.peek.new.self c.peek-2.new.self older newer c.in-Some.node c.in_ok-older.older c.in_ok-newer.newer at
+    c.peek.ensures.eye.same c.peek-2.ensures.eye.same c.peek.ensures.part c.peek.ensures.next c.peek-2.ensures.part c.peek-2.ensures.next c.in_ok-older.ensures.head c.in_ok-newer.ensures.head
+    (c.in_ok-older.ensures.exact older at.of_older) (c.in_ok-newer.ensures.exact newer later) (sym c.lower.ensures ∙ c.in-Some.is) in
+    let new_at = source_peeked (g.E.LogEye.state c.peek-2.new.eye) (g.E.LogEye.state c.take.new.eye) c.peek-2.new.self c.peek-2.new.self newer c.take.ensures.eye.same refl refl p.of_newer in
+    omega
+    (arith, c.in_ok-older.ensures.ahead, c.in_ok-newer.ensures.ahead, c.take.ensures.taken older p.of_older p.old_from p.old_kept, c.take-2.ensures.taken newer new_at p.new_from p.new_kept, next_is c.in-Some.node older newer p.first)
+
+pub returns-in-Ok-clause-ahead : goal.returns-in-Ok-clause-ahead
+returns-in-Ok-clause-ahead g c older newer at =
+    let m = c.args.self.now in
+    let later = source_peeked (g.E.LogEye.state c.args.eye.now) (g.E.LogEye.state c.peek.new.eye) m.newer m.newer newer c.peek.ensures.eye.same refl refl at.of_newer in
+    let p = peeked_both (g.E.LogEye.state c.args.eye.now) (g.E.LogEye.state c.peek.new.eye) (g.E.LogEye.state c.peek-2.new.eye) m c.peek.new.self c.peek-2.new.self older newer c.in-Some.node c.in_ok-older.older c.in_ok-newer.newer at
+    c.peek.ensures.eye.same c.peek-2.ensures.eye.same c.peek.ensures.part c.peek.ensures.next c.peek-2.ensures.part c.peek-2.ensures.next c.in_ok-older.ensures.head c.in_ok-newer.ensures.head
+    (c.in_ok-older.ensures.exact older at.of_older) (c.in_ok-newer.ensures.exact newer later) (sym c.lower.ensures ∙ c.in-Some.is) in
+    let new_at = source_peeked (g.E.LogEye.state c.peek-2.new.eye) (g.E.LogEye.state c.take.new.eye) c.peek-2.new.self c.peek-2.new.self newer c.take.ensures.eye.same refl refl p.of_newer in
+    omega
+    (arith, c.in_ok-older.ensures.ahead, c.in_ok-newer.ensures.ahead, c.take.ensures.unread, c.take-2.ensures.unread, c.take.ensures.taken older p.of_older p.old_from p.old_kept, c.take-2.ensures.taken newer new_at p.new_from p.new_kept, next_is c.in-Some.node older newer p.first)
+
+pub returns-in-Ok-clause-taken : goal.returns-in-Ok-clause-taken
+returns-in-Ok-clause-taken g c older newer at =
+    let m = c.args.self.now in
+    let later = source_peeked (g.E.LogEye.state c.args.eye.now) (g.E.LogEye.state c.peek.new.eye) m.newer m.newer newer c.peek.ensures.eye.same refl refl at.of_newer in
+    let p = peeked_both (g.E.LogEye.state c.args.eye.now) (g.E.LogEye.state c.peek.new.eye) (g.E.LogEye.state c.peek-2.new.eye) m c.peek.new.self c.peek-2.new.self older newer c.in-Some.node c.in_ok-older.older c.in_ok-newer.newer at
+    c.peek.ensures.eye.same c.peek-2.ensures.eye.same c.peek.ensures.part c.peek.ensures.next c.peek-2.ensures.part c.peek-2.ensures.next c.in_ok-older.ensures.head c.in_ok-newer.ensures.head
+    (c.in_ok-older.ensures.exact older at.of_older) (c.in_ok-newer.ensures.exact newer later) (sym c.lower.ensures ∙ c.in-Some.is) in
+    let new_at = source_peeked (g.E.LogEye.state c.peek-2.new.eye) (g.E.LogEye.state c.take.new.eye) c.peek-2.new.self c.peek-2.new.self newer c.take.ensures.eye.same refl refl p.of_newer in
+    omega
+    (arith, c.in_ok-older.ensures.ahead, c.in_ok-newer.ensures.ahead, c.take.ensures.taken older p.of_older p.old_from p.old_kept, c.take-2.ensures.taken newer new_at p.new_from p.new_kept, next_is c.in-Some.node older newer p.first)
+
+pub returns-in-Err-clause-taken : goal.returns-in-Err-clause-taken
+returns-in-Err-clause-taken g c older newer at =
+    let m = c.args.self.now in
+    let later = source_peeked (g.E.LogEye.state c.args.eye.now) (g.E.LogEye.state c.peek.new.eye) m.newer m.newer newer c.peek.ensures.eye.same refl refl at.of_newer in
+    let p = peeked_both (g.E.LogEye.state c.args.eye.now) (g.E.LogEye.state c.peek.new.eye) (g.E.LogEye.state c.peek-2.new.eye) m c.peek.new.self c.peek-2.new.self older newer c.in-Some.node c.in_ok-older.older c.in_ok-newer.newer at
+    c.peek.ensures.eye.same c.peek-2.ensures.eye.same c.peek.ensures.part c.peek.ensures.next c.peek-2.ensures.part c.peek-2.ensures.next c.in_ok-older.ensures.head c.in_ok-newer.ensures.head
+    (c.in_ok-older.ensures.exact older at.of_older) (c.in_ok-newer.ensures.exact newer later) (sym c.lower.ensures ∙ c.in-Some.is) in
+    let new_at = source_peeked (g.E.LogEye.state c.peek-2.new.eye) (g.E.LogEye.state c.take.new.eye) c.peek-2.new.self c.peek-2.new.self newer c.take.ensures.eye.same refl refl p.of_newer in
+    omega
+    (arith, c.in_ok-older.ensures.ahead, c.in_ok-newer.ensures.ahead, c.take.ensures.taken older p.of_older p.old_from p.old_kept, c.take-2.ensures.taken newer new_at p.new_from p.new_kept, next_is c.in-Some.node older newer p.first)
+
+pub returns-in_default-clause-end : goal.returns-in_default-clause-end
+returns-in_default-clause-end g c e =
+    let both = none_first c.in_ok-older.older c.in_ok-newer.newer (sym c.lower.ensures ∙ c.in_default.is) in
+    let old_end = c.in_ok-older.ensures.end (ap Ok both.0) in
+    let new_end = c.in_ok-newer.ensures.end (ap Ok both.1) in
+    omega (arith, old_end, new_end)
+
+pub returns-in-Ok-clause-read : goal.returns-in-Ok-clause-read
+returns-in-Ok-clause-read g c = record {
+  node = c.in-Some.node;
+  older = c.in_ok-older-2.older;
+  newer = c.in_ok-newer-2.newer;
+  of_older = takes_as _ _ c.args.self.now.older c.peek.new.self c.take.new.self c.in-Some.node c.in_ok-older-2.older (c.peek-2.ensures.eye.same.told ∙ c.peek.ensures.eye.same.told) c.peek.ensures.part c.peek.ensures.next c.in_ok-older-2.ensures.read;
+  of_newer = takes_as _ _ c.args.self.now.newer c.peek-2.new.self c.take-2.new.self c.in-Some.node c.in_ok-newer-2.newer (c.take.ensures.eye.same.told ∙ c.peek-2.ensures.eye.same.told ∙ c.peek.ensures.eye.same.told) c.peek-2.ensures.part c.peek-2.ensures.next c.in_ok-newer-2.ensures.read;
+  joined = c.in-Ok.ensures.merged;
+}

@@ -1,4 +1,4 @@
-use Rattle.std.proofs.Common.{◌≡◌, ◌∙◌, ℕ, Err, Some, sym, ap, subst, arith}
+use Rattle.std.proofs.Common.{Err, ap, subst}
 use Rattle.partition_index.proofs.Exact.{never_bad}
 use Rattle.node_fetch.proofs.PartRows.{bad_within}
 use Rattle.partition_merge.specs.Mergers.{IsEntryOf, KeepsHead}

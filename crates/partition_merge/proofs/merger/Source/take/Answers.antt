@@ -1,8 +1,9 @@
-use Rattle.std.proofs.Common.{◌≡◌, ◌∙◌, ℕ, ◌+◌, ◌<◌, Err, Some, None, sym, ap, subst, arith, rules, refl}
-use Rattle.fine_model.specs.Nodes.{rows_of}
+use Rattle.std.proofs.Common.{◌≡◌, ◌∙◌, ◌+◌, None, sym, ap, subst, arith, refl}
 use Rattle.partition_index.proofs.Exact.{nodes_small}
-use Rattle.partition_merge.specs.Mergers.{IsEntryOf, KeepsHead, SourceAt, behind}
-use Rattle.partition_merge.proofs.Sources.{none_of_node, other_node, same_at_head, span_kept, step_left, own_left, fit_read, source_later, nodes_differ, nodes_same}
+use Rattle.fine_model.specs.RowBytes.{rows_len}
+use Rattle.partition_merge.specs.Mergers.{IsEntryOf, KeepsHead, SourceAt, behind, kept_count}
+use Rattle.partition_merge.proofs.Sources.{none_of_node, other_node, same_at_head, span_kept, step_left, own_left, fit_read, source_later, nodes_differ, nodes_same, taken_of}
+use Rattle.partition_merge.specs.declared.merger.Source.{Source}
 use Rattle.partition_merge.proofs.merger.Source.take.Goals as goal
 
 pub returns-then-ne-clause-exact : goal.returns-then-ne-clause-exact
@@ -44,3 +45,25 @@ returns-clause-left g c left at from kept =
     let same : c.in-Some.entry.node ≡ c.args.node = nodes_same c.in-Some.entry.node c.args.node c.if-ne.ensures in
     let step = step_left at.rows s.next left c.args.node at.is_left (same_at_head s.head c.in-Some.entry c.in-Some.span left c.args.node c.in-Some.is kept same) in
     source_later eye (g.E.LogEye.state c.read_span.new.eye) s _ at.rows (behind c.args.node left) c.read_span.ensures.eye.same refl at.tells step.1
+
+pub returns-clause-unread : goal.returns-clause-unread
+returns-clause-unread g c = let one : kept_count c.args.self.now.head ≡ 1 = ap kept_count c.in-Some.is in omega (arith, one)
+
+pub returns-clause-taken : goal.returns-clause-taken
+returns-clause-taken g c left at from kept =
+    let eye = g.E.LogEye.state c.args.eye.now in
+    let s = c.args.self.now in
+    let k : IsEntryOf eye.told s (c.in-Some.entry, c.in-Some.span) = subst (KeepsHead eye.told s) c.in-Some.is c.requires.kept in
+    let same : c.in-Some.entry.node ≡ c.args.node = nodes_same c.in-Some.entry.node c.args.node c.if-ne.ensures in
+    let step = step_left at.rows s.next left c.args.node at.is_left (same_at_head s.head c.in-Some.entry c.in-Some.span left c.args.node c.in-Some.is kept same) in
+    let is = span_kept eye s.part s.next at.rows c.in-Some.entry c.in-Some.span c.args.node c.requires.seen at.tells k.there k.entry k.span same in
+    omega (arith, c.read_span.ensures.eye.taken, ap (λ x. x.end) is, ap (λ x. x.at) is, ap rows_len step.0)
+
+pub returns-clause-read : goal.returns-clause-read
+returns-clause-read g c =
+    let eye = g.E.LogEye.state c.args.eye.now in
+    let s = c.args.self.now in
+    let k : IsEntryOf eye.told s (c.in-Some.entry, c.in-Some.span) = subst (KeepsHead eye.told s) c.in-Some.is c.requires.kept in
+    let there = k.there in
+    let after : Source = record { part = s.part; next = s.next + 1; head = None } in
+    taken_of c.read_span.result eye.told c.args.node s after c.in-Some.span k.span c.read_span.ensures.holds (omega (arith, there))

@@ -23,7 +23,7 @@ use Rattle.fine_hall.specs.declared.law.Load.TheVariants as load
 use Rattle.fine_hall.specs.declared.pass.Pass.{Pass}
 use Rattle.fine_hall.specs.Turns.{commits, touches_bucket, faults_after}
 use Rattle.fine_hall.specs.Laws.{Stands, IsRoomFor}
-use Rattle.fine_hall.specs.Passes.{Sight, known, own_turns, HasPlace, HoldsNothing, IsPass}
+use Rattle.fine_hall.specs.Passes.{PassView, known, own_turns, HasPlace, HoldsNothing, IsPass}
 use Rattle.fine_hall.specs.Opening.{HoldsRoom}
 use Rattle.fine_hall.proofs.Passing.{known_is, owns, found_room, not_bucket, room_256}
 use Rattle.fine_hall.proofs.Laying.{some_same}
@@ -40,14 +40,14 @@ owns_left (q ∷ qs) b n ms o = ⊎_elim (λ x. inl x) (λ x. inr (owns_left qs 
 abbrev pub Gathered : List Pass → List Pass → List (Share Turn) → Type 0
 Gathered all left shares = (i : ℕ) (p : Pass) → get_elem? all i ≡ some p → (get_elem? left i ≡ some p) ⊎ Owns shares p.number (own_turns p)
 
-pub gathers : (z : TableId) (x : Beginning) (all before left : List Pass) (p : Pass) (shares : List (Share Turn)) (v : Sight) → before ≡ left ++ p ∷ [] → IsPass z x p → p.badge.views ≡ v ∷ [] → Gathered all before shares → Gathered all left (shares ++ v.places.shares)
+pub gathers : (z : TableId) (x : Beginning) (all before left : List Pass) (p : Pass) (shares : List (Share Turn)) (v : PassView) → before ≡ left ++ p ∷ [] → IsPass z x p → p.badge.views ≡ v ∷ [] → Gathered all before shares → Gathered all left (shares ++ v.places.shares)
 gathers z x all before left p shares v last ok e so i q at = ⊎_elim
     (λ a. ⊎_elim (λ b. inl b) (λ (is : p ≡ q). inr (owns_right shares v.places.shares q.number (own_turns q) (subst (λ (r : Pass). Owns v.places.shares r.number (own_turns r)) is (owns z x p v ok e))))
     (at_snoc left p q i (subst (λ l. get_elem? l i ≡ some q) last a)))
     (λ o. inr (owns_left shares v.places.shares q.number (own_turns q) o))
     (so i q at)
 
-pub gathers_first : (z : TableId) (x : Beginning) (all left : List Pass) (p : Pass) (v : Sight) → all ≡ left ++ p ∷ [] → IsPass z x p → p.badge.views ≡ v ∷ [] → Gathered all left v.places.shares
+pub gathers_first : (z : TableId) (x : Beginning) (all left : List Pass) (p : Pass) (v : PassView) → all ≡ left ++ p ∷ [] → IsPass z x p → p.badge.views ≡ v ∷ [] → Gathered all left v.places.shares
 gathers_first z x all left p v last ok e = gathers z x all all left p [] v last ok e (λ i q at. inl at)
 
 pub gathers_last : (all left : List Pass) (shares : List (Share Turn)) → left ≡ [] → Gathered all left shares → (i : ℕ) (p : Pass) → get_elem? all i ≡ some p → Owns shares p.number (own_turns p)
@@ -59,7 +59,7 @@ beyond (x ∷ xs) zero b le e = absurd (omega arith)
 beyond (x ∷ xs) (suc k) b le e = beyond xs k b (let less : length xs ≤ k = omega arith in less) e
 
 -- nothing is held, as the pass says
-pub holds_none : (z : TableId) (x : Beginning) (p : Pass) (v : Sight) → IsPass z x p → p.badge.views ≡ v ∷ [] → HoldsNothing p → (k : ℕ) → ¬ Holds v.places k
+pub holds_none : (z : TableId) (x : Beginning) (p : Pass) (v : PassView) → IsPass z x p → p.badge.views ≡ v ∷ [] → HoldsNothing p → (k : ℕ) → ¬ Holds v.places k
 holds_none z x p v ok e free k h = let had : HasPlace p k = subst (λ (u : Known Beginning Turn). Holds u k) (sym (known_is p v e)) h in
     go (≤_or_< k places.room) had
   where

@@ -22,7 +22,7 @@ use Rattle.fine_hall.specs.declared.law.Load.TheVariants as load
 use Rattle.fine_hall.specs.declared.pass.Pass.{Pass}
 use Rattle.fine_hall.specs.Turns.{commits}
 use Rattle.fine_hall.specs.Laws.{AreTurns, IsRoomFor, IsBucketFor, Stands, beginning}
-use Rattle.fine_hall.specs.Passes.{Sight, first_mine, known, turns, own_turns, IsPass}
+use Rattle.fine_hall.specs.Passes.{PassView, first_mine, known, turns, own_turns, IsPass}
 use Rattle.fine_hall.specs.Halls.{IsFreshRoom, AreFreshBuckets, IsFreshPass}
 use Rattle.fine_hall.specs.Opening.{bucket_slot, room_slot, laid, HandedOut}
 use Rattle.fine_places.proofs.Lists.{decide}
@@ -239,7 +239,7 @@ none_held zero k lt = absurd (omega arith)
 none_held (suc n) zero lt = refl
 none_held (suc n) (suc k) lt = none_held n k (let less : k < n = omega arith in less)
 
-pub fresh_pass : (z : TableId) (x : Beginning) (n : ℕ) (p : Pass) (v : Sight) → p.badge.table_id ≡ z → p.badge.views ≡ v ∷ [] → p.number ≡ n → 0 < n → n ≤ x.seats → x.seats ≤ 18 → Single x n v.places → IsPass z x p × IsFreshPass x n p
+pub fresh_pass : (z : TableId) (x : Beginning) (n : ℕ) (p : Pass) (v : PassView) → p.badge.table_id ≡ z → p.badge.views ≡ v ∷ [] → p.number ≡ n → 0 < n → n ≤ x.seats → x.seats ≤ 18 → Single x n v.places → IsPass z x p × IsFreshPass x n p
 unfolding most_seats commits
 fresh_pass z x n p v t e num low high few s =
     let is : known p ≡ v.places = known_is p v e in

@@ -24,41 +24,41 @@ use Rattle.fine_hall.specs.declared.law.Load.TheVariants as load
 use Rattle.fine_hall.specs.declared.pass.Pass.{Pass}
 use Rattle.fine_hall.specs.Turns.{added, commits, in_bucket, is_some_in, touches_bucket, numbers_of, faults_after, faults_of, NeverFalls}
 use Rattle.fine_hall.specs.Laws.{Began, AreTurns, IsRoomFor, IsBucketFor, Stands, adds, level, turn_of}
-use Rattle.fine_hall.specs.Passes.{Sight, first_known, first_mine, known, turns, own_turns, seen, published, found_held, faults_seen, HasPlace, LacksPlace, IsPass}
+use Rattle.fine_hall.specs.Passes.{PassView, first_known, first_mine, known, turns, own_turns, seen, published, found_held, faults_seen, HasPlace, LacksPlace, IsPass}
 use Rattle.fine_hall.specs.Halls.{Takes, Stays, FindsHeld, Gives, GivesRoom, MayGive}
 use Rattle.fine_hall.proofs.Bucket.{commits_more, commits_touching, for_all, for_touching}
 use Rattle.fine_hall.proofs.Turning.{after_more, same_faults, own_turn, never_falls}
 
 -- ---- what a pass has of its view
 
-pub known_is : (p : Pass) (v : Sight) → p.badge.views ≡ v ∷ [] → known p ≡ v.places
+pub known_is : (p : Pass) (v : PassView) → p.badge.views ≡ v ∷ [] → known p ≡ v.places
 unfolding known
 known_is p v e = ap first_known e
 
-pub owns : (z : TableId) (x : Beginning) (p : Pass) (v : Sight) → IsPass z x p → p.badge.views ≡ v ∷ [] → Owns v.places.shares p.number (own_turns p)
+pub owns : (z : TableId) (x : Beginning) (p : Pass) (v : PassView) → IsPass z x p → p.badge.views ≡ v ∷ [] → Owns v.places.shares p.number (own_turns p)
 owns z x p v ok e = subst (λ (u : Known Beginning Turn). Owns u.shares p.number (own_turns p)) (known_is p v e) (subst (λ ss. Owns ss p.number (own_turns p)) (sym ok.alone) (inl (refl, refl)))
 
-pub own : (z : TableId) (x : Beginning) (p : Pass) (v : Sight) → IsPass z x p → p.badge.views ≡ v ∷ [] → Owned v.places.shares p.number
+pub own : (z : TableId) (x : Beginning) (p : Pass) (v : PassView) → IsPass z x p → p.badge.views ≡ v ∷ [] → Owned v.places.shares p.number
 own z x p v ok e = (own_turns p, owns z x p v ok e)
 
-pub about : (z : TableId) (x : Beginning) (p : Pass) (v : Sight) → IsPass z x p → p.badge.views ≡ v ∷ [] → v.places.about ≡ Some x
+pub about : (z : TableId) (x : Beginning) (p : Pass) (v : PassView) → IsPass z x p → p.badge.views ≡ v ∷ [] → v.places.about ≡ Some x
 about z x p v ok e = ap (λ (u : Known Beginning Turn). u.about) (sym (known_is p v e)) ∙ ok.about
 
-pub still : (z : TableId) (x : Beginning) (p : Pass) (v : Sight) → IsPass z x p → p.badge.views ≡ v ∷ [] → v.places.moving ≡ None
+pub still : (z : TableId) (x : Beginning) (p : Pass) (v : PassView) → IsPass z x p → p.badge.views ≡ v ∷ [] → v.places.moving ≡ None
 still z x p v ok e = ap (λ (u : Known Beginning Turn). u.moving) (sym (known_is p v e)) ∙ ok.still
 
-pub lacks : (p : Pass) (v : Sight) (k : ℕ) → p.badge.views ≡ v ∷ [] → LacksPlace p k → get_elem? v.places.held k ≡ some false
+pub lacks : (p : Pass) (v : PassView) (k : ℕ) → p.badge.views ≡ v ∷ [] → LacksPlace p k → get_elem? v.places.held k ≡ some false
 lacks p v k e l = ap (λ (u : Known Beginning Turn). get_elem? u.held k) (sym (known_is p v e)) ∙ l
 
-pub has : (p : Pass) (v : Sight) (k : ℕ) → p.badge.views ≡ v ∷ [] → HasPlace p k → Holds v.places k
+pub has : (p : Pass) (v : PassView) (k : ℕ) → p.badge.views ≡ v ∷ [] → HasPlace p k → Holds v.places k
 has p v k e h = subst (λ (u : Known Beginning Turn). Holds u k) (known_is p v e) h
 
-one_view : (p : Pass) (v : Sight) → p.badge.views ≡ v ∷ [] → p.badge.views ≡ record { places = known p; beside = tt } ∷ []
+one_view : (p : Pass) (v : PassView) → p.badge.views ≡ v ∷ [] → p.badge.views ≡ record { places = known p; beside = tt } ∷ []
 one_view p v e = e ∙ ap (λ (u : Known Beginning Turn). record { places = u; beside = tt } ∷ []) (sym (known_is p v e))
 
 -- ---- taking
 
-module _ {T : Type 0} (stands : Beginning → ℕ → ℕ → T → List (Placed Turn) → Type 0) (taken : Unit {0} → T → Unit {0}) (learns : Beginning → Unit {0} → T → Type 0) (z : TableId) (x : Beginning) (p p' : Pass) (k : ℕ) (thing : T) (v v' : Sight)
+module _ {T : Type 0} (stands : Beginning → ℕ → ℕ → T → List (Placed Turn) → Type 0) (taken : Unit {0} → T → Unit {0}) (learns : Beginning → Unit {0} → T → Type 0) (z : TableId) (x : Beginning) (p p' : Pass) (k : ℕ) (thing : T) (v v' : PassView)
     (ok : IsPass z x p) (e : p.badge.views ≡ v ∷ []) (e' : p'.badge.views ≡ v' ∷ []) (t' : p'.badge.table_id ≡ z) (n' : p'.number ≡ p.number) (took : TookIt stands AreTurns touches_bucket taken learns k v thing v') where
   was : known p ≡ v.places
   was = known_is p v e
@@ -111,7 +111,7 @@ module _ {T : Type 0} (stands : Beginning → ℕ → ℕ → T → List (Placed
   stood = subst (λ l. stands x k (published p') thing (touching touches_bucket k l)) (sym now_turns) (subst (λ q. stands x k q thing (touching touches_bucket k took.log)) (ap (λ (u : Known Beginning Turn). u.published) (sym now)) found.stood)
 
 -- what was taken stood for some turns
-pub stood_once : {T : Type 0} (stands : Beginning → ℕ → ℕ → T → List (Placed Turn) → Type 0) (taken : Unit {0} → T → Unit {0}) (learns : Beginning → Unit {0} → T → Type 0) (z : TableId) (x : Beginning) (p : Pass) (k : ℕ) (thing : T) (v v' : Sight)
+pub stood_once : {T : Type 0} (stands : Beginning → ℕ → ℕ → T → List (Placed Turn) → Type 0) (taken : Unit {0} → T → Unit {0}) (learns : Beginning → Unit {0} → T → Type 0) (z : TableId) (x : Beginning) (p : Pass) (k : ℕ) (thing : T) (v v' : PassView)
     → IsPass z x p → p.badge.views ≡ v ∷ [] → TookIt stands AreTurns touches_bucket taken learns k v thing v' → (q : ℕ) × (all : List (Placed Turn)) × stands x k q thing all
 stood_once stands taken learns z x p k thing v v' ok e took = (took.published, touching touches_bucket k took.log, (took.found x (about z x p v ok e)).stood)
 
@@ -162,7 +162,7 @@ max_above : (n m : ℕ) → n ≤ m → max n m ≡ m
 max_above n m le = omega arith
 
 module _ {R B : Type 0} (state : R → RoomState) (origin : R → Origin) (stands_for : R → List Row → ℕ → List Commit → Type 0) (bucket : B → ℕ) (cached : B → ℕ → Option (Content × ℕ))
-    (owes : Beginning → ℕ → List (Placed Turn) → Unit {0} → Load R B → Type 0) (z : TableId) (x : Beginning) (p : Pass) (v : Sight) (ok : IsPass z x p) (e : p.badge.views ≡ v ∷ []) where
+    (owes : Beginning → ℕ → List (Placed Turn) → Unit {0} → Load R B → Type 0) (z : TableId) (x : Beginning) (p : Pass) (v : PassView) (ok : IsPass z x p) (e : p.badge.views ≡ v ∷ []) where
   seen_is : v.places.seen ≡ turns p
   seen_is = ap (λ (u : Known Beginning Turn). u.seen) (sym (known_is p v e))
 
@@ -315,11 +315,11 @@ module _ {R B : Type 0} (state : R → RoomState) (origin : R → Origin) (stand
 
 -- ---- a conflict
 
-pub fits_owner : (seats : Beginning → ℕ) (k owner : ℕ) (v v' : Sight) → FoundHeld seats k v owner v' → owner < 4294967296
+pub fits_owner : (seats : Beginning → ℕ) (k owner : ℕ) (v v' : PassView) → FoundHeld seats k v owner v' → owner < 4294967296
 unfolding most_seats
 fits_owner seats k owner v v' f = let few = f.few in omega arith
 
-module _ (z : TableId) (x : Beginning) (p p' : Pass) (k owner : ℕ) (v v' : Sight) (ok : IsPass z x p) (e : p.badge.views ≡ v ∷ []) (e' : p'.badge.views ≡ v' ∷ []) (t' : p'.badge.table_id ≡ z) (n' : p'.number ≡ p.number)
+module _ (z : TableId) (x : Beginning) (p p' : Pass) (k owner : ℕ) (v v' : PassView) (ok : IsPass z x p) (e : p.badge.views ≡ v ∷ []) (e' : p'.badge.views ≡ v' ∷ []) (t' : p'.badge.table_id ≡ z) (n' : p'.number ≡ p.number)
     (f : FoundHeld (λ (y : Beginning). y.seats) k v owner v') where
   tried : known p' ≡ finding (known p) k owner
   tried = known_is p' v' e' ∙ (f.places ∙ ap (λ (u : Known Beginning Turn). finding u k owner) (sym (known_is p v e)))

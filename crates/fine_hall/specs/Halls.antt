@@ -17,13 +17,13 @@ use Rattle.fine_hall.specs.declared.law.Beginning.{Beginning}
 use Rattle.fine_hall.specs.declared.law.Load.{Load}
 use Rattle.fine_hall.specs.declared.law.Start.{Start}
 use Rattle.fine_hall.specs.declared.pass.Pass.{Pass}
-use Rattle.fine_hall.specs.declared.hall.Walls.{Walls}
+use Rattle.fine_hall.specs.declared.hall.HallTable.{HallTable}
 use Rattle.fine_hall.specs.Turns.{added, commits, in_bucket, is_in, faults_after}
 use Rattle.fine_hall.specs.Laws.{Began, beginning, AreTurns, IsRoomFor}
 use Rattle.fine_hall.specs.Passes.{turns, own_turns, seen, mine, known, published, found_held, faults_seen, own_faults, HasPlace, HoldsNothing, IsPass}
 
 abbrev pub HallOf : Type 0 → Type 0 → Type 0 → Type 0
-HallOf R B Q = Walls (Option (Load R B)) (Start R) Q
+HallOf R B Q = HallTable (Option (Load R B)) (Start R) Q
 
 -- how a hall begins that is told this
 abbrev pub begun_by : {R : Type 0} → (R → RoomState) → (R → Origin) → Start R → Beginning

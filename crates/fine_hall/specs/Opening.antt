@@ -11,7 +11,7 @@ use Rattle.fine_hall.specs.declared.law.Load.{Load}
 use Rattle.fine_hall.specs.declared.law.Load.TheVariants as load
 use Rattle.fine_hall.specs.declared.pass.Pass.{Pass}
 use Rattle.fine_places.specs.Places.{newcomer}
-use Rattle.fine_hall.specs.Passes.{Sight, IsPass}
+use Rattle.fine_hall.specs.Passes.{PassView, IsPass}
 use Rattle.fine_hall.specs.Halls.{IsFreshPass}
 
 module _ {R B : Type 0} where
@@ -26,7 +26,7 @@ module _ {R B : Type 0} where
   laid room buckets = map bucket_slot buckets ++ room_slot room ∷ []
 
 -- a seat that has all numbers, and has seen and added nothing yet
-pub record StartsAll {T : Type 0} (seats : ℕ) (x : Beginning) (m : Me (Option T) Sight) : Type 0 where
+pub record StartsAll {T : Type 0} (seats : ℕ) (x : Beginning) (m : Me (Option T) PassView) : Type 0 where
   pub view : m.0.places ≡ newcomer seats x.sealed x
   pub still : m.1 ≡ []
 

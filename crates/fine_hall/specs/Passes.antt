@@ -18,10 +18,10 @@ use Rattle.fine_hall.specs.declared.pass.Pass.{Pass}
 use Rattle.fine_hall.specs.Turns.{commits, faults_after, faults_of}
 use Rattle.fine_hall.specs.Laws.{AreTurns}
 
-abbrev pub Sight : Type 0
-Sight = View Beginning Turn (Unit {0})
+abbrev pub PassView : Type 0
+PassView = View Beginning Turn (Unit {0})
 
-abbrev pub first_known : List Sight → Known Beginning Turn
+abbrev pub first_known : List PassView → Known Beginning Turn
 first_known [] = spent
 first_known (v ∷ vs) = v.places
 

@@ -11,7 +11,7 @@ ghost use Rattle.fine_hall.specs.declared.law.Load.{Load};
 ghost use Rattle.fine_hall.specs.declared.law.Load.TheVariants as load;
 ghost use Rattle.fine_hall.specs.Opening.{HoldsRoom};
 
-use crate::hall::{Hall, Seat, Walls};
+use crate::hall::{Hall, HallTable, Seat};
 use crate::law::Load;
 use crate::pass::Pass;
 use atomic_table::Closed;
@@ -32,7 +32,7 @@ impl<R: RoomLaw + Drop, B: BucketLaw + Drop> Hall<R, B> {
         requires some_pass { 0 < length passes.items }
         ensures { Closes R.state R.origin R.stands_for (begun R.state R.origin self) passes.items result }
     {
-        let Walls { table } = self;
+        let HallTable { table } = self;
         let mut passes = passes;
         let Some(last) = passes.pop() else {
             unreachable!()

@@ -16,13 +16,13 @@ pub(crate) type Seat<R, B> = PlaceSeat<Load<R, B>, Beginning, Turn, ()>;
 
 /// A hall by what its slots hold: a type may cross threads only where a parameter of its own may.
 #[derive(Drop)]
-pub struct Walls<S, K, Q: TableRule<S, View<Beginning, Turn, ()>, K>> {
+pub struct HallTable<S, K, Q: TableRule<S, View<Beginning, Turn, ()>, K>> {
     pub(crate) table: Table<S, View<Beginning, Turn, ()>, K, Q, Global>,
     ghost sized: { IsSized table.shared.table_id },
 }
 
 /// One room and 256 buckets, which passes take and give back, and the one history of what they commit.
-pub type Hall<R, B> = Walls<Option<Load<R, B>>, Start<R>, Rule<HallLaw<R, B>, Alone>>;
+pub type Hall<R, B> = HallTable<Option<Load<R, B>>, Start<R>, Rule<HallLaw<R, B>, Alone>>;
 
 impl<R: RoomLaw, B: BucketLaw> Hall<R, B> {
     ghost use Rattle.fine_hall.specs.Laws.{IsBucketFor};

@@ -9,7 +9,7 @@ mod pass;
 mod room_turn;
 mod turn;
 
-pub use hall::{Hall, Walls};
+pub use hall::{Hall, HallTable};
 pub use law::{Beginning, HallLaw, Load, Start};
 pub use pass::{Conflict, Pass};
 pub use turn::{RoomNumbers, Turn};

@@ -7,7 +7,7 @@ ghost use Rattle.fine_hall.specs.Halls.{begun_by};
 ghost use Rattle.fine_hall.specs.declared.law.Load.{Load};
 ghost use Rattle.fine_hall.specs.Opening.{bucket_slot, room_slot, laid, StartsAll, HandedOut};
 
-use crate::hall::{Hall, Seat, Walls};
+use crate::hall::{Hall, HallTable, Seat};
 use crate::law::{Beginning, HallLaw, Load, Start};
 use crate::pass::Pass;
 use crate::turn::Turn;
@@ -55,7 +55,7 @@ impl<R: RoomLaw + Drop, B: BucketLaw + Drop> Hall<R, B> {
         match open(alloc, &[0; PLACES], slots, &start) {
             Ok((table, seat)) => {
                 let passes = hand_out(&table.shared, seat, seats, passes);
-                Ok((Walls { table }, passes))
+                Ok((HallTable { table }, passes))
             }
             Err(Refused { slots }) => {
                 let (room, buckets) = empty(slots, emptied);

@@ -1,7 +1,7 @@
 //! Passes.
 
 ghost use Rattle.std.specs.Prelude.{◌≡◌, [], ◌∷◌};
-ghost use Rattle.fine_hall.specs.Passes.{Sight};
+ghost use Rattle.fine_hall.specs.Passes.{PassView};
 
 use crate::law::Beginning;
 use crate::turn::Turn;
@@ -28,7 +28,7 @@ impl Pass {
 
     /// The pass's seat, for a step. `stand_up` gives it back.
     pub(crate) fn sit<T>(&mut self) -> PlaceSeat<T, Beginning, Turn, ()>
-        requires { (v : Sight) × (self.old.badge.views ≡ v ∷ []) }
+        requires { (v : PassView) × (self.old.badge.views ≡ v ∷ []) }
         ensures seat { (result.table_id ≡ self.old.badge.table_id) × (result.id ≡ self.old.badge.id) × (result.me.1 ≡ []) }
         ensures view { self.old.badge.views ≡ result.me.0 ∷ [] }
         ensures number { self.new.number ≡ self.old.number }

@@ -4,6 +4,7 @@ use Rattle.std.proofs.Common.{le_trans}
 use mathlib.Core.Option.{some}
 use lib.ListN.{get_elem?}
 use Rattle.fine_places.specs.History as places
+use Rattle.atomic_table.proofs.Lists.{set_else}
 use Rattle.fine_places.proofs.Lists.{decide}
 use Rattle.fine_hall.specs.declared.law.Beginning.{Beginning}
 use Rattle.fine_hall.specs.declared.pass.Pass.{Pass}
@@ -16,7 +17,7 @@ use Rattle.fine_hall.specs.Passes.{known, seen, published, HasPlace}
 use Rattle.fine_hall.specs.Halls.{Takes, Stays, FindsHeld}
 use Rattle.fine_hall.proofs.Bucket.{same_bucket}
 use Rattle.key_locks.specs.Locks.{HasLock, LacksLock, AreLocksOf, AllStand, Gathers, HasAllBelow, StayFrom, StopsAt}
-use Rattle.key_locks.proofs.Held.{near, not_both, has_place, get_same, get_else, set_else, below_room}
+use Rattle.key_locks.proofs.Held.{near, not_both, has_place, get_same, get_else, below_room}
 
 -- ---- what is held stands for more
 

@@ -1,9 +1,9 @@
 -- How the set and the pass go on together.
 use Rattle.std.proofs.Common.{◌≡◌, ◌≢◌, ◌⊎◌, ℕ, zero, suc, ◌<◌, Bool, true, false, List, [], ◌∷◌, set, slice_get, slice_set, Option, Some, None, refl, sym, ap, ◌∙◌, subst, inl, inr, ⊎_elim, arith}
-use mathlib.Core.Option.{some, some-ne-none}
 use lib.ListN.{get_elem?}
 use Rattle.fine_places.specs.History as places
-use Rattle.fine_places.proofs.Lists.{decide}
+use Rattle.atomic_table.proofs.Lists.{set_else}
+use Rattle.fine_places.proofs.Lists.{decide, set_at}
 use Rattle.fine_hall.specs.declared.law.Beginning.{Beginning}
 use Rattle.fine_hall.specs.declared.pass.Pass.{Pass}
 use Rattle.fine_model.specs.Nodes.{Content}
@@ -47,18 +47,6 @@ get_else (x ∷ xs) zero zero b ne = absurd (ne refl)
 get_else (x ∷ xs) zero (suc j) b ne = refl
 get_else (x ∷ xs) (suc k) zero b ne = refl
 get_else (x ∷ xs) (suc k) (suc j) b ne = get_else xs k j b (λ e. ne (ap suc e))
-
-set_at : {A : Type 0} (l : List A) (i : ℕ) (a b : A) → get_elem? l i ≡ some a → get_elem? (set l i b) i ≡ some b
-set_at [] i a b e = absurd (some-ne-none a (sym e))
-set_at (x ∷ xs) zero a b e = refl
-set_at (x ∷ xs) (suc i) a b e = set_at xs i a b e
-
-pub set_else : {A : Type 0} (l : List A) (k j : ℕ) (b : A) → j ≢ k → get_elem? (set l k b) j ≡ get_elem? l j
-set_else [] k j b ne = refl
-set_else (x ∷ xs) zero zero b ne = absurd (ne refl)
-set_else (x ∷ xs) zero (suc j) b ne = refl
-set_else (x ∷ xs) (suc k) zero b ne = refl
-set_else (x ∷ xs) (suc k) (suc j) b ne = set_else xs k j b (λ e. ne (ap suc e))
 
 -- one bucket changes, in the set and at the pass
 changes : {B : Type 0} (locks locks' : List (Option B)) (p p' : Pass) (k : ℕ) (o : Option B) (on : Bool) → locks' ≡ slice_set locks k o → (known p').held ≡ set (known p).held k on → AreLocksOf locks p

@@ -4,6 +4,7 @@
 ghost use Rattle.std.specs.Prelude.{◌≡◌, ℕ, ◌<◌, ◌≤◌, List, length};
 ghost use Rattle.fine_model.specs.Trees.{bucket_of};
 
+mod becoming;
 mod bound_laws;
 mod chain_laws;
 mod copied;
@@ -15,12 +16,13 @@ mod numbers;
 mod tests;
 mod version_laws;
 
+pub use becoming::{becomes_law, buckets_law, job_law, set_law};
 pub use bound_laws::bounds_law;
-pub use chain_laws::{chain_law, closed_law, free_law, freed_law, seal_law};
-pub use law::{BucketLaw, Origin, RoomLaw, ViewLaw};
+pub use chain_laws::{chain_law, closed_law, free_law, freed_law, own_law, seal_law, tells_law};
+pub use law::{BucketLaw, OpenedEye, Origin, RoomLaw, RoomState, ViewLaw, ViewState};
 pub use laws::{
-    agreement_law, agrees_law, fit_law, leaf_law, legal_law, map_law, merge_law, pushed_law,
-    replay_law, row_law, sealed_law, shown_law, small_law, upto_law, whole_law,
+    agreement_law, agrees_law, fit_law, leaf_law, legal_law, map_law, mark_law, merge_law,
+    pushed_law, replay_law, row_law, sealed_law, shown_law, small_law, upto_law, whole_law,
 };
 pub use list::{Copied, Items, NoMemory};
 pub use numbers::{natural_of, number_of, number_text};
@@ -200,6 +202,17 @@ pub struct Header {
 pub struct Part {
     pub region: u32,
     pub header: Header,
+}
+
+/// A merge of two neighbours that is out: its header, once it has taken its regions, the lead of these, and how many bytes of the
+/// body are written. What its target holds is read off the disk.
+#[derive(Clone, Copy, Debug, PartialEq, Eq)]
+pub struct Job {
+    pub older: Part,
+    pub newer: Part,
+    pub header: Option<Header>,
+    pub target: u32,
+    pub written: u32,
 }
 
 /// Why a node was not fetched.

@@ -18,7 +18,7 @@ mod version_laws;
 
 pub use becoming::{becomes_law, buckets_law, job_law, set_law};
 pub use bound_laws::bounds_law;
-pub use chain_laws::{chain_law, closed_law, free_law, freed_law, own_law, seal_law, tells_law};
+pub use chain_laws::{behind_law, chain_law, closed_law, free_law, freed_law, own_law, seal_law, tells_law};
 pub use law::{BucketLaw, OpenedEye, Origin, RoomLaw, RoomState, ViewLaw, ViewState};
 pub use laws::{
     agreement_law, agrees_law, fit_law, leaf_law, legal_law, map_law, mark_law, merge_law,

@@ -1,14 +1,14 @@
 -- A change behind the closed gates of free regions.
-use Rattle.std.proofs.Common.{◌≡◌, ◌≢◌, ◌⊎◌, inl, inr, ℕ, zero, suc, ◌+◌, nat_eq, true, false, ◌&&◌, ◌||◌, not, Bool, List, [], ◌∷◌, length, refl, sym, ap, ◌∙◌, subst, Some, None, Ok, Err, arith, true≢false}
+use Rattle.std.proofs.Common.{◌≡◌, ◌≢◌, ◌⊎◌, inl, inr, ℕ, suc, ◌+◌, nat_eq, true, false, ◌&&◌, ◌||◌, not, List, [], ◌∷◌, length, refl, sym, ap, ◌∙◌, subst, Some, None, Ok, Err, arith, true≢false}
 use Rattle.std.specs.Prelude.{Option, Result, filter, take}
 use Rattle.std.specs.List.{AllByRecursion, list_any, range_with_len}
 use Rattle.std.proofs.lemmas.Bool.{cases_eq, cases_Bool}
 use Rattle.std.proofs.lemmas.List.Elements.{filter_agree}
-use Rattle.fine_model.specs.Types.{Row, Range, Header, Part, Damage}
+use Rattle.fine_model.specs.Types.{Row, Range, Header, Part}
 use Rattle.fine_model.specs.Pushed.{and_then}
 use Rattle.fine_model.specs.Regions.{Image, region_of, is_sealed, continuations, header_at, header_in, HasHeader, IsSealed}
 use Rattle.fine_model.specs.Chain.{parts_from, apart, chain_of, chain, regions_of, is_free, free_regions, AreRowsOf, Shows}
-use Rattle.fine_model.specs.ChainLaws.{StaysClosed, ShowsAlike, ClosedLaw, BehindLaw, DiffersBehind, SameIn, HasAlike, part_of}
+use Rattle.fine_model.specs.ChainLaws.{ShowsAlike, ClosedLaw, BehindLaw, HasAlike, part_of}
 use Rattle.fine_model.proofs.Nothing.{each_there, all_at}
 use Rattle.fine_model.proofs.Headers.{header_closed}
 use Rattle.fine_model.proofs.Images.{parts_none, parts_bad, parts_good, names}

@@ -1,6 +1,6 @@
 -- How long merged rows are, and which nodes they name.
 use Rattle.std.proofs.Common.{◌≡◌, ℕ, ◌+◌, ◌≤◌, ◌&&◌, ◌||◌, Bool, true, false, cond, List, [], ◌∷◌, ◌++◌, map, refl, sym, ap, ◌∙◌, subst, arith, nat_le}
-use Rattle.std.specs.Prelude.{flat_map, fold, sum_by, Option, Some, None}
+use Rattle.std.specs.Prelude.{flat_map, Option, Some, None}
 use Rattle.std.specs.List.{AllByRecursion, list_any}
 use Rattle.std.proofs.lemmas.Bool.{leb-true, and_parts}
 use Rattle.std.proofs.lemmas.List.Sums.{sum_by-cons, sum_by-append}
@@ -8,10 +8,10 @@ use Rattle.fine_model.specs.Types.{NodeId, Rec, Row}
 use Rattle.fine_model.specs.RowBytes.{row_len, rows_len}
 use Rattle.fine_model.specs.Nodes.{is_node, rows_of, content}
 use Rattle.fine_model.specs.Merge.{is_node_below, nodes_in, image_of, starts_afresh, merged_into, merged_node, merged}
-use Rattle.fine_model.specs.MergeSteps.{IsNoLonger, MergedLen}
+use Rattle.fine_model.specs.MergeSteps.{MergedLen}
 use Rattle.fine_model.proofs.Order.{all_map}
-use Rattle.fine_model.proofs.NodesIn.{same_node, times, times-nodes_in}
-use Rattle.fine_model.proofs.NodesAscend.{AllAbove, Ascend, nodes_ascend, same_nodes}
+use Rattle.fine_model.proofs.NodesIn.{same_node, times-nodes_in}
+use Rattle.fine_model.proofs.NodesAscend.{Ascend, nodes_ascend, same_nodes}
 use Rattle.fine_model.proofs.NodeOrder.{below-other}
 use Rattle.fine_model.proofs.MergedRows.{rows_of-merged}
 

@@ -5,7 +5,7 @@ use Rattle.std.specs.Ordering.{ordering_then}
 use Rattle.std.specs.List.{AllByRecursion, list_all}
 use Rattle.fine_model.specs.Types.{NodeId, Rec, Row}
 use Rattle.fine_model.specs.Nodes.{is_node, rows_of, content}
-use Rattle.fine_model.specs.Merge.{node_cmp, is_node_below, is_row_below, is_ordered, nodes_in, image_of, starts_afresh, merged_into, merged_node, merged}
+use Rattle.fine_model.specs.Merge.{node_cmp, is_node_below, is_row_below, is_ordered, nodes_in, image_of, merged_into, merged_node, merged}
 use Rattle.fine_model.specs.MergeSteps.{MergedOrder}
 use Rattle.fine_model.proofs.Order.{less, all_map}
 use Rattle.fine_model.proofs.Sets.{all_append, all_pass}

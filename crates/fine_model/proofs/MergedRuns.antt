@@ -1,11 +1,11 @@
 -- Agreement of logs with merged rows, and runs of lists that are merged one after another.
-use Rattle.std.proofs.Common.{◌≡◌, ◌≢◌, ℕ, ◌+◌, ◌≤◌, ◌||◌, List, [], ◌∷◌, ◌++◌, map, refl, sym, ap, ◌∙◌, subst, arith, append-nil, append_assoc}
-use Rattle.std.specs.Prelude.{flat_map, fold}
+use Rattle.std.proofs.Common.{◌≡◌, ◌≢◌, ◌||◌, List, [], ◌∷◌, ◌++◌, map, sym, ap, ◌∙◌, subst, arith, append-nil, append_assoc}
+use Rattle.std.specs.Prelude.{flat_map}
 use Rattle.std.specs.List.{AllByRecursion, list_any}
 use Rattle.std.proofs.lemmas.List.{map-append}
 use Rattle.std.proofs.lemmas.List.Folds.{list_any-append}
 use Rattle.std.proofs.lemmas.List.Sums.{sum_by-append}
-use Rattle.fine_model.specs.Types.{NodeId, Row, Mark}
+use Rattle.fine_model.specs.Types.{NodeId, Row}
 use Rattle.fine_model.specs.Types.mark
 use Rattle.fine_model.specs.RowBytes.{row_len, rows_len, FitsRow}
 use Rattle.fine_model.specs.Nodes.{is_node, Agrees}

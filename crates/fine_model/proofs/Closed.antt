@@ -9,6 +9,7 @@ use Rattle.fine_model.specs.Pushed.{and_then}
 use Rattle.fine_model.specs.Regions.{Image, region_of, is_sealed, continuations, header_at, header_in, HasHeader, IsSealed}
 use Rattle.fine_model.specs.Chain.{parts_from, apart, chain_of, chain, regions_of, is_free, free_regions, AreRowsOf, Shows}
 use Rattle.fine_model.specs.ChainLaws.{ShowsAlike, ClosedLaw, BehindLaw, HasAlike, part_of}
+use Rattle.fine_model.proofs.Order.{all_map}
 use Rattle.fine_model.proofs.Nothing.{each_there, all_at}
 use Rattle.fine_model.proofs.Headers.{header_closed}
 use Rattle.fine_model.proofs.Images.{parts_none, parts_bad, parts_good, names}
@@ -125,6 +126,11 @@ module _ (region_len : ℕ) (old new : Image) (behind : Behind old new) where
     leads = sealed_kept;
     rows = rows_kept;
     shown = shown;
+    retired = λ parts others r. record {
+      is_chain = same_chain ∙ r.is_chain;
+      headers = all_map (λ p. HasHeader region_len old p.region p.header) (λ p. HasHeader region_len new p.region p.header) (λ p has. header_kept p.region p.header has) others r.headers;
+      beside = r.beside;
+    };
   }
 
 -- ---- one region

@@ -8,14 +8,14 @@ use Rattle.std.proofs.lemmas.List.Folds.{list_any-append}
 use Rattle.fine_model.specs.Types.{Header, Part}
 use Rattle.fine_model.specs.Regions.{Image, region_of, is_sealed, continuations, header_at, header_in, HasHeader}
 use Rattle.fine_model.specs.Chain.{regions_of, parts_from, is_taken_from, bad_continuation, chain, is_free, free_regions}
-use Rattle.fine_model.specs.ChainLaws.{DiffersAt, part_of}
+use Rattle.fine_model.specs.ChainLaws.{DiffersAt, AreRetired, part_of}
 use Rattle.fine_model.proofs.Order.{all_map}
 use Rattle.fine_model.proofs.Parts.{all_both}
 use Rattle.fine_model.proofs.Nothing.{any_none, none_any}
 use Rattle.fine_model.proofs.Times.{times-same, times_absent}
 use Rattle.fine_model.proofs.Headers.{Good, good, own_regions}
 use Rattle.fine_model.proofs.Images.{Split, split, before_is, after_is, OneMore, parts_sealed, names}
-use Rattle.fine_model.proofs.Free.{free_parts, sealed_there, free_law}
+use Rattle.fine_model.proofs.Free.{free_parts, sealed_there, free_law, header_kept}
 use Rattle.fine_model.proofs.Chains.{Walked}
 use Rattle.fine_model.proofs.ReadChain.{ReadChain, read_chain, chain_read, have_headers, header_ordered, own, none_bad}
 use Rattle.fine_model.proofs.Sealing.{any_without, filter_twice, round}
@@ -201,3 +201,14 @@ module _ (region_len region : ℕ) (old new : Image) (header : Header) (s : IsOp
       inserted_in parts c i (parts_sealed region_len (length old) 0 region i.front i.before i.after i.back header c.all (let a = i.at in omega (arith, a)) (ap is_sealed (sym (before_is region old new i)) ∙ was_closed)
       (sym (ap (λ n. header_in region_len n region i.after) d.as_many) ∙ ap (header_in region_len (length new) region) (sym (after_is region old new i)) ∙ s.has_header)
       (sym (ap (parts_from region_len (length old) 0) i.old_is) ∙ c.are))
+
+  -- parts beside the old chain stand beside the new one, whose parts are of the old one or the new part
+  pub still_retired : (longer others : List Part) → chain region_len new ≡ Ok longer → AllByRecursion (λ p. HasHeader region_len old p.region p.header) others
+      → AllByRecursion (λ other. (region ≢ other.region → AllByRecursion (λ p. p.region ≢ other.region) longer)) others → AreRetired region_len new longer others
+  still_retired longer others is headers apart = record {
+    is_chain = is;
+    headers = all_map (λ p. HasHeader region_len old p.region p.header) (λ p. HasHeader region_len new p.region p.header) (λ p has. header_kept region_len region old new s.differs lead_free p.region p.header has) others headers;
+    beside = all_both (λ p. HasHeader region_len old p.region p.header) (λ other. (region ≢ other.region → AllByRecursion (λ p. p.region ≢ other.region) longer)) (λ other. AllByRecursion (λ p. p.region ≢ other.region) longer)
+        (λ p has clear. clear (λ e. let g = good region_len (length old) p.region (region_of old p.region) p.header has in
+        true≢false (sym g.is_open ∙ ap (λ r. is_sealed (region_of old r)) (sym e) ∙ was_closed))) others headers apart;
+  }

@@ -1,16 +1,15 @@
 -- The law of a free region that takes the place of neighbours on the chain.
-use Rattle.std.proofs.Common.{◌≡◌, ◌≢◌, ℕ, ◌+◌, ◌≤◌, ◌<◌, true, List, [], ◌∷◌, ◌++◌, length, refl, sym, ap, ◌∙◌, subst, None, Ok, arith, true≢false, length-append, append_assoc}
+use Rattle.std.proofs.Common.{◌≡◌, ◌≢◌, ℕ, ◌+◌, ◌≤◌, ◌<◌, true, List, [], ◌∷◌, ◌++◌, length, refl, sym, ap, ◌∙◌, subst, None, Ok, arith, length-append, append_assoc}
 use Rattle.std.specs.Prelude.{flat_map}
 use Rattle.std.specs.List.{AllByRecursion}
 use Rattle.std.proofs.lemmas.Bool.{cases_eq}
 use Rattle.std.proofs.lemmas.List.Sums.{fold-append}
 use Rattle.std.proofs.lemmas.Grind.{flat_map-append}
 use Rattle.fine_model.specs.Types.{Row, Header, Part}
-use Rattle.fine_model.specs.Regions.{Image, region_of, continuations, IsSealed}
+use Rattle.fine_model.specs.Regions.{Image, region_of, continuations, HasHeader, IsSealed}
 use Rattle.fine_model.specs.Chain.{regions_of, chain_end, fault_beside, chain, is_free, AreRowsOf}
-use Rattle.fine_model.specs.ChainLaws.{part_of, PartsFollow, IsPart, IsChain, LeadsApart, IsOpenedOver, ReplaceLaw, RowsSplit, RowsJoin}
+use Rattle.fine_model.specs.ChainLaws.{part_of, PartsFollow, IsPart, IsChain, AreRetired, IsOpenedOver, ReplaceLaw, RowsSplit, RowsJoin}
 use Rattle.fine_model.proofs.Order.{all_map}
-use Rattle.fine_model.proofs.Parts.{all_both}
 use Rattle.fine_model.proofs.Sets.{all_append}
 use Rattle.fine_model.proofs.Zip.{all_left, all_right}
 use Rattle.fine_model.proofs.Times.{times, times-append, times-same, distinct_times}
@@ -19,7 +18,7 @@ use Rattle.fine_model.proofs.Free.{header_kept, sealed_kept, rows_kept}
 use Rattle.fine_model.proofs.Chains.{follow_end, Walked, end_from}
 use Rattle.fine_model.proofs.Sealing.{round}
 use Rattle.fine_model.proofs.ChainFacts.{chain_law}
-use Rattle.fine_model.proofs.Opened.{IsOpened, Inserted, inserted, is_good, free_now, left_now}
+use Rattle.fine_model.proofs.Opened.{IsOpened, Inserted, inserted, is_good, free_now, left_now, still_retired}
 use Rattle.fine_model.proofs.Replacing.{walk_ends, walk_replaced, taken_walks, no_fault_itself, no_fault_now}
 
 -- ---- rows of parts
@@ -167,14 +166,19 @@ module _ (region_len region : ℕ) (old new : Image) (before : List Part) (oldes
   chain_now : chain region_len new ≡ Ok now
   chain_now = let i = inserted region_len region old new header opened was s.is_chain in i.now now (walked_now i)
 
-  beside_now : LeadsApart now run
-  beside_now =
+  retired_now : (others : List Part) → AreRetired region_len old was others → AreRetired region_len new now (run ++ others)
+  retired_now others r =
       let k = facts in
-      all_both (λ u. AllByRecursion (λ p. p.region ≢ u.region) before × AllByRecursion (λ p. p.region ≢ u.region) after) (IsPart region_len old) (λ u. AllByRecursion (λ p. p.region ≢ u.region) now)
-      (λ u apart is. all_append (λ p. p.region ≢ u.region) before (part ∷ after) apart.0
-      ((λ e. let r = is.regions in true≢false (sym lead_free ∙ ap (is_free old) e ∙ r.0.1)), apart.1))
-      run (apart_round before run after (distinct_times (flat_map regions_of was) k.distinct))
-      (all_left (IsPart region_len old) run after (all_right (IsPart region_len old) before (run ++ after) k.each))
+      still_retired region_len region old new header opened now (run ++ others) chain_now
+      (all_append (λ p. HasHeader region_len old p.region p.header) run others
+      (all_map (IsPart region_len old) (λ p. HasHeader region_len old p.region p.header) (λ p is. is.has_header) run (all_left (IsPart region_len old) run after (all_right (IsPart region_len old) before (run ++ after) k.each)))
+      r.headers)
+      (all_append (λ other. (region ≢ other.region → AllByRecursion (λ p. p.region ≢ other.region) now)) run others
+      (all_map (λ u. AllByRecursion (λ p. p.region ≢ u.region) before × AllByRecursion (λ p. p.region ≢ u.region) after) (λ other. (region ≢ other.region → AllByRecursion (λ p. p.region ≢ other.region) now))
+      (λ u apart new_one. all_append (λ p. p.region ≢ u.region) before (part ∷ after) apart.0 (new_one, apart.1)) run (apart_round before run after (distinct_times (flat_map regions_of was) k.distinct)))
+      (all_map (λ other. AllByRecursion (λ p. p.region ≢ other.region) was) (λ other. (region ≢ other.region → AllByRecursion (λ p. p.region ≢ other.region) now))
+      (λ other apart new_one. all_append (λ p. p.region ≢ other.region) before (part ∷ after) (all_left (λ p. p.region ≢ other.region) before (run ++ after) apart)
+      (new_one, all_right (λ p. p.region ≢ other.region) run after (all_right (λ p. p.region ≢ other.region) before (run ++ after) apart))) others r.beside))
 
   rows_now : (a b own : List Row) → AreRowsOf region_len old before a → AreRowsOf region_len old after b → IsSealed region_len new region header.range own → AreRowsOf region_len new now (a ++ (own ++ b))
   unfolding AreRowsOf
@@ -186,7 +190,7 @@ pub replace_law : ReplaceLaw
 replace_law region_len region old new before oldest newer after header s = record {
   is_chain = chain_now region_len region old new before oldest newer after header s;
   same_end = same_end region_len region old new before oldest newer after header s;
-  beside = beside_now region_len region old new before oldest newer after header s;
+  retired = retired_now region_len region old new before oldest newer after header s;
   taken = λ r. free_now region_len region old new header (opened region_len region old new before oldest newer after header s) r (cases_eq r region);
   left = left_now region_len region old new header (opened region_len region old new before oldest newer after header s);
   headers = header_kept region_len region old new s.differs (let f = s.free in f.0);

@@ -19,8 +19,8 @@ mod version_laws;
 pub use becoming::{becomes_law, buckets_law, job_law, set_law};
 pub use bound_laws::bounds_law;
 pub use chain_laws::{
-    behind_law, chain_law, closed_law, free_law, freed_law, own_law, replace_law, rows_law,
-    seal_law, tells_law,
+    behind_law, chain_law, closed_law, erased_law, free_law, freed_law, own_law, replace_law,
+    rows_law, seal_law, tells_law,
 };
 pub use law::{BucketLaw, OpenedEye, Origin, RoomLaw, RoomState, ViewLaw, ViewState};
 pub use laws::{

@@ -18,10 +18,10 @@ use Rattle.fine_model.proofs.Pairs.{AllOther, Around, around_key}
 use Rattle.fine_model.proofs.Joined.{joined, joined-append, joined-swap, set_is_swap}
 use Rattle.fine_model.proofs.Buckets.{ascends}
 
-abbrev Ascends : List Pair → Type 0
+abbrev pub Ascends : List Pair → Type 0
 Ascends pairs = is_ascending (keys_of pairs) ≡ true
 
-joined-ascends : (m pairs : List Pair) → Ascends m → Ascends (joined m pairs)
+pub joined-ascends : (m pairs : List Pair) → Ascends m → Ascends (joined m pairs)
 joined-ascends m [] up = up
 joined-ascends m (p ∷ pairs) up = joined-ascends (set m p.0 p.1) pairs (ascending-set m p.0 p.1 up)
 
@@ -34,7 +34,7 @@ take_twice (suc n) (suc k) [] le = refl
 take_twice (suc n) (suc k) (x ∷ xs) le = ap (λ ys. x ∷ ys) (take_twice n k xs (omega (arith, le)))
 
 -- the first of ascending pairs ascend
-up_front : (n : ℕ) (m : List Pair) → Ascends m → Ascends (take n m)
+pub up_front : (n : ℕ) (m : List Pair) → Ascends m → Ascends (take n m)
 up_front zero m up = refl
 up_front (suc n) [] up = refl
 up_front (suc n) (x ∷ []) up = up_front_single n
@@ -221,7 +221,7 @@ module _ (test : List ℕ → Bool) where
 abbrev SameSums : List Pair → List Pair → Type 0
 SameSums xs ys = (f : Pair → ℕ) → sum_by f xs ≡ sum_by f ys
 
-abbrev count : Bool → ℕ
+abbrev pub count : Bool → ℕ
 count b = cond b 1 0
 
 record FoundIn (test : Pair → Bool) (xs : List Pair) : Type 0 where
@@ -248,7 +248,7 @@ none_other key (x ∷ xs) none =
     let c = sum_by-cons (λ p. count (bytes_eq p.0 key)) x xs in
     ((λ e. absurd (let one : count (bytes_eq x.0 key) ≡ 1 = ap count ((bytes_eq-Decides x.0 key).1 e) in omega (arith, none, c, one))), none_other key xs (omega (arith, none, c)))
 
-above_none : (key : List ℕ) (ys : List Pair) → AllAbove key ys → sum_by (λ p. count (bytes_eq p.0 key)) ys ≡ 0
+pub above_none : (key : List ℕ) (ys : List Pair) → AllAbove key ys → sum_by (λ p. count (bytes_eq p.0 key)) ys ≡ 0
 above_none key [] above = refl
 above_none key (y ∷ ys) above = let c = sum_by-cons (λ p. count (bytes_eq p.0 key)) y ys in let z = by (bytes_eq y.0 key) refl in let rest = above_none key ys above.1 in omega (arith, c, z, rest)
   where
@@ -256,7 +256,7 @@ above_none key (y ∷ ys) above = let c = sum_by-cons (λ p. count (bytes_eq p.0
     by false e = ap count e
     by true e = absurd (true≢false (sym above.0 ∙ ap (is_below key) ((bytes_eq-Decides y.0 key).0 e) ∙ is_below-self key))
 
-all_above : (p : Pair) (pairs : List Pair) → Ascends (p ∷ pairs) → AllAbove p.0 pairs
+pub all_above : (p : Pair) (pairs : List Pair) → Ascends (p ∷ pairs) → AllAbove p.0 pairs
 all_above p pairs up = above_first p.0 p pairs up (inr refl)
 
 in_order : (xs ys : List Pair) → SameSums xs ys → Ascends ys → joined [] xs ≡ ys

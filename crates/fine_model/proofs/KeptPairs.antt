@@ -1,8 +1,10 @@
 -- The pairs that a scan keeps from bucket to bucket.
-use Rattle.std.proofs.Common.{◌≡◌, ◌≢◌, ◌⊎◌, inl, inr, ℕ, zero, suc, ◌+◌, ◌-◌, ◌<◌, ◌≤◌, ◌==◌, Bool, true, false, not, ◌&&◌, List, [], ◌∷◌, ◌++◌, take, get_or, refl, sym, ap, ◌∙◌, subst, arith, true≢false, append-nil, append_assoc, eqb-true}
+use Rattle.std.proofs.Common.{length, ◌≡◌, ◌≢◌, ◌⊎◌, inl, inr, ℕ, zero, suc, ◌+◌, ◌-◌, ◌<◌, ◌≤◌, ◌==◌, Bool, true, false, not, ◌&&◌, List, [], ◌∷◌, ◌++◌, take, get_or, refl, sym, ap, ◌∙◌, subst, arith, true≢false, append-nil, append_assoc, eqb-true, replicate, nat_lt, is_lt, Less, Equal, Greater, nat_cmp, eq-eqb, cond}
 use Rattle.std.specs.Prelude.{flat_map, bytes_eq, IsSortedBy}
 use Rattle.std.specs.List.{AllByRecursion, range_with_len}
-use Rattle.std.proofs.lemmas.Bool.{cases_eq}
+use Rattle.std.specs.Ordering.{ordering_then}
+use Rattle.std.specs.Cmp.Lexicographic.{slice_cmp}
+use Rattle.std.proofs.lemmas.Bool.{cases_eq, ltb-false}
 use Rattle.std.proofs.lemmas.Grind.{flat_map-append}
 use Rattle.std.proofs.lemmas.Slice.Eq.{bytes_eq-Decides}
 use Rattle.std.proofs.lemmas.List.Elements.{All-from_recursion, recursion_from_All}
@@ -17,8 +19,8 @@ use Rattle.fine_model.specs.Nodes.{Content}
 use Rattle.fine_model.specs.BoundLaws.{FitsNode}
 use Rattle.fine_model.specs.Store.{answer}
 use Rattle.fine_model.specs.Trees.{bucket_of, kids_of, pairs_of, pairs_under, pairs_from, nodes_of, tree_map, map_of}
-use Rattle.fine_model.specs.ScanLaws.{gathered, times_of, IsSorted, KeptFirst, KeptMore, KeptCut, KeptAll, PairsFit}
-use Rattle.fine_model.proofs.Order.{order_cases, all_map, keys_of}
+use Rattle.fine_model.specs.ScanLaws.{gathered, times_of, IsSorted, KeptFirst, KeptMore, KeptCut, KeptAll, PairsFit, WholeRange}
+use Rattle.fine_model.proofs.Order.{filter_all, order_cases, all_map, keys_of}
 use Rattle.fine_model.proofs.Sets.{all_append, all_filter, ascending-filter, ascending-tail}
 use Rattle.fine_model.proofs.Lists.{all_take}
 use Rattle.fine_model.proofs.Joined.{joined}
@@ -207,3 +209,29 @@ tree_fits mark rows fits b = from_fits (nodes_of rows b) (λ number. node_fits m
 pub pairs_fit : PairsFit
 unfolding map_of from_pairs
 pairs_fit mark rows fits = joined_fits [] (flat_map (tree_map rows) (range_with_len 0 256)) tt (flat_fits (tree_map rows) (tree_fits mark rows fits) (range_with_len 0 256))
+
+-- ---- the whole range
+
+-- a key of bytes is below more bytes of 255
+below_last : (key : List ℕ) (n : ℕ) → length key < n → AllByRecursion (λ byte. byte < 256) key → is_below key (replicate n 255) ≡ true
+below_last key zero short small = absurd (omega (arith, short))
+below_last [] (suc n) short small = refl
+below_last (b ∷ key) (suc n) short small = by (nat_lt b 255) (b == 255) refl refl (below_last key n (omega (arith, short)) small.1)
+  where
+    by : (l e : Bool) → nat_lt b 255 ≡ l → (b == 255) ≡ e → is_below key (replicate n 255) ≡ true → is_lt (ordering_then (cond l Less (cond e Equal Greater)) (slice_cmp nat_cmp key (replicate n 255))) ≡ true
+    by true e low same rest = refl
+    by false true low same rest = rest
+    by false false low same rest =
+        let high = ltb-false b 255 low in let least = small.0 in
+        absurd (true≢false (sym (eq-eqb b 255 (omega (arith, high, least))) ∙ same))
+
+none_below : (key : List ℕ) → is_below key [] ≡ false
+none_below [] = refl
+none_below (b ∷ key) = refl
+
+pub whole_range : WholeRange
+unfolding between
+whole_range pairs small =
+    filter_all (λ p. not (is_below p.0 []) && is_below p.0 (replicate 65 255)) pairs
+    (all_map (λ p. (length p.0 ≤ 64) × AllByRecursion (λ byte. byte < 256) p.0) (λ p. (not (is_below p.0 []) && is_below p.0 (replicate 65 255)) ≡ true)
+    (λ p h. let short = h.0 in ap (λ b. not b && is_below p.0 (replicate 65 255)) (none_below p.0) ∙ below_last p.0 65 (omega (arith, short)) h.1) pairs small)

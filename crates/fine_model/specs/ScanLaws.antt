@@ -1,5 +1,5 @@
 -- What the laws of a scan over all buckets say. Each is the contract of a function of its name.
-use Rattle.std.specs.Prelude.{◌≡◌, ℕ, ◌+◌, ◌<◌, ◌≤◌, IsTrue, if◌then◌else◌, List, [], ◌++◌, map, take, flat_map, sum_by, bytes_eq, IsPermutation, IsSortedBy}
+use Rattle.std.specs.Prelude.{◌≡◌, ℕ, ◌+◌, ◌<◌, ◌≤◌, IsTrue, if◌then◌else◌, List, [], ◌++◌, length, map, replicate, take, flat_map, sum_by, bytes_eq, IsPermutation, IsSortedBy}
 use Rattle.std.specs.List.{AllByRecursion, range_with_len}
 use Rattle.fine_model.specs.Types.{Row, Mark}
 use Rattle.fine_model.specs.Types.call
@@ -76,3 +76,7 @@ KeptAll = (rows : List Row) (low high : List ℕ) (limit : ℕ) (kept found : Li
 -- the map of rows within the format's bounds has keys and values within them
 abbrev pub PairsFit : Type 0
 PairsFit = (mark : Mark) (rows : List Row) → AllByRecursion (FitsRow mark) rows → AllByRecursion FitsPair (map_of rows)
+
+-- A range from the empty key to 65 bytes of 255 holds all pairs whose keys have at most 64 bytes.
+abbrev pub WholeRange : Type 0
+WholeRange = (pairs : List Pair) → AllByRecursion (λ p. (length p.0 ≤ 64) × AllByRecursion (λ byte. byte < 256) p.0) pairs → between [] (replicate 65 255) pairs ≡ pairs

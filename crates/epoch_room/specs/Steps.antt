@@ -55,6 +55,7 @@ pub record KeepsCounts (old new : Disk) : Type 0 where
 pub record Seals (old new : RoomValue) : Type 0 where
   pub room : new.room ≡ on (sealed_state old) new.disk
   pub target : new.target ≡ None
+  pub region_len : new.room.region_len ≡ old.room.region_len
   pub entry : new.entry ≡ old.entry
   pub beside : SameBeside old.disk new.disk
   pub counts : KeepsCounts old.disk new.disk
@@ -63,6 +64,7 @@ pub record Seals (old new : RoomValue) : Type 0 where
 pub record Shuts (old new : RoomValue) : Type 0 where
   pub room : new.room ≡ shut_state old.room new.disk
   pub target : new.target ≡ old.target
+  pub region_len : new.room.region_len ≡ old.room.region_len
   pub entry : new.entry ≡ old.entry
   pub beside : SameBeside old.disk new.disk
   pub faults : HasRisen old.disk.faults new.disk.faults
@@ -73,6 +75,7 @@ pub record Shuts (old new : RoomValue) : Type 0 where
 pub record StaysOpen (old new : RoomValue) : Type 0 where
   pub room : new.room ≡ on old.room new.disk
   pub target : new.target ≡ old.target
+  pub region_len : new.room.region_len ≡ old.room.region_len
   pub entry : new.entry ≡ old.entry
   pub beside : SameBeside old.disk new.disk
   pub counts : KeepsCounts old.disk new.disk

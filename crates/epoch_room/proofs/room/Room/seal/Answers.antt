@@ -122,6 +122,7 @@ returns-in-Ok-clause-room g c =
       record {
         room = sealed_is old new entry in'.parts c.push.new.self in'.retired in'.free.items in'.target in'.epoch c.clear.new.self in'.sealed in'.places in'.epoch.most in'.is_shut pushed' c.clear.ensures;
         target = refl;
+        region_len = same.region_len;
         entry = refl;
         beside = same;
         counts = counts;
@@ -205,6 +206,7 @@ returns-in-Failed-clause-room g c =
       record {
         room = shut_is old new entry in'.parts c.truncate.new.self in'.retired in'.free.items in'.target in'.epoch in'.sealed in'.places in'.is_shut back;
         target = refl;
+        region_len = same.region_len;
         entry = refl;
         beside = same;
         faults = counts.faults failed;

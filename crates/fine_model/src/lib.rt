@@ -24,9 +24,9 @@ pub use chain_laws::{
 };
 pub use law::{BucketLaw, OpenedEye, Origin, RoomLaw, RoomState, ViewLaw, ViewState};
 pub use laws::{
-    agreement_law, agrees_law, fit_law, leaf_law, legal_law, map_law, mark_law, merge_law,
-    merged_law, merged_run_law, pushed_law, replay_law, row_law, sealed_law, shown_law, small_law,
-    upto_law, whole_law,
+    agreement_law, agrees_law, calls_law, cut_law, fit_law, keys_law, leaf_law, legal_law, map_law,
+    mark_law, merge_law, merged_law, merged_run_law, pushed_law, range_law, replay_law, row_law,
+    scan_law, sealed_law, shown_law, small_law, upto_law, whole_law,
 };
 pub use list::{Copied, Items, NoMemory};
 pub use numbers::{natural_of, number_of, number_text};

@@ -1,7 +1,7 @@
 -- As long as an eye is open, its regions on the disk hold what it shows: laws for the crates above.
-use Rattle.std.proofs.Common.{◌≡◌, ◌≢◌, ℕ, zero, suc, ◌+◌, ◌<◌, Bool, true, false, cond, List, [], ◌∷◌, ◌++◌, length, get_or, Some, None, refl, sym, ap, subst, ◌∙◌, inl, inr, arith}
+use Rattle.std.proofs.Common.{◌≡◌, ◌≢◌, ℕ, zero, suc, ◌+◌, ◌<◌, Bool, true, false, cond, List, [], ◌∷◌, length, get_or, Some, None, sym, ap, subst, ◌∙◌, inl, inr, arith}
 use Rattle.std.specs.Prelude.{Option, All, Any, Contains, filter, not, ◌==◌}
-use Rattle.std.proofs.lemmas.List.{get_or_append_left, get_or_push, length-append, get_or_default}
+use Rattle.std.proofs.lemmas.List.{get_or_default}
 use Rattle.std.proofs.lemmas.Bool.{ne_eqb}
 use Rattle.std.proofs.lemmas.List.Elements.{All-contains}
 use Rattle.log_disk.specs.Disk.{Image, region_of, Told, Disk, Eye, OpenEye, BothTold, BothSee, SameOutside, IsUnseen, Writes, Syncs, Opens, Closes, Looks, HasSynced}

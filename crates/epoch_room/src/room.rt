@@ -1,6 +1,7 @@
 //! The room.
 
-ghost use Rattle.std.specs.Prelude.{◌≡◌, ◌+◌, ◌≤◌, false, [], IfOk, IfErr};
+ghost use Rattle.std.specs.Prelude.{◌≡◌, ◌+◌, ◌≤◌, None, [], IfOk, IfErr};
+ghost use Rattle.fine_model.specs.Boards.{posted};
 ghost use Rattle.std.specs.List.{AllByRecursion};
 ghost use Rattle.fine_model.specs.Merge.{cost};
 ghost use Rattle.fine_model.specs.RowBytes.{FitsRow};
@@ -264,8 +265,8 @@ impl<D: LogDisk> Room<D> {
 
     /// The disk. The room has no view out, and no merge. It takes no memory.
     pub fn into_disk(self) -> D
-        requires board { self.room.board_eyes ≡ [] }
-        requires no_job { self.room.has_job ≡ false }
+        requires board { posted self.room.board ≡ [] }
+        requires no_job { self.room.job ≡ None }
         ensures disk { D.state result ≡ self.disk }
         ensures whole { IsWhole self }
     {

@@ -1,7 +1,7 @@
 //! The open eyes of a disk.
 
 ghost use Rattle.std.specs.Bool.{OnFalse};
-ghost use Rattle.std.specs.Prelude.{length, ◌≡◌, ◌+◌, ◌<◌, ◌^◌, ◌++◌, ◌∷◌, [], Contains, OnOk, filter, not, ◌==◌, vec_len, vec_capacity};
+ghost use Rattle.std.specs.Prelude.{length, true, ◌≡◌, ◌+◌, ◌<◌, ◌^◌, ◌++◌, ◌∷◌, [], Contains, OnOk, filter, not, ◌==◌, vec_len, vec_capacity};
 ghost use Rattle.log_disk.specs.Disk.{AreNumbered, last_count};
 ghost use Rattle.log_disk.specs.Eyes.{eyes_in, numbers_to};
 
@@ -37,6 +37,7 @@ impl OpenEyes {
     /// Whether all numbers of 64 bits were given.
     pub fn are_spent(&self) -> bool
         ensures spent { result ≡ (length (numbers_to self.now.given) == last_count) }
+        ensures all { result ≡ true → length (numbers_to self.now.given) ≡ last_count }
         ensures left { OnFalse result (self.now.given + 1 < 2 ^ 64) }
     {
         self.given == u64::MAX

@@ -2,10 +2,10 @@
 //!
 //! Contracts name the path by which each file was opened, and the place and length of what it is asked for.
 
-ghost use Rattle.std.specs.Prelude.{◌≡◌, ◌≢◌, ℕ, ◌*◌, ◌<◌, ◌≤◌, ◌+◌, ◌^◌, true, false, All, Any, Contains, None, Err, IfOk, OnOk, OnErr, IsErr, IsErrOf, is_err, length};
+ghost use Rattle.std.specs.Prelude.{◌≡◌, ◌≢◌, ◌⊎◌, ℕ, ◌*◌, ◌<◌, ◌≤◌, ◌+◌, ◌^◌, true, false, All, Any, Contains, None, Err, IfOk, OnOk, OnErr, IsErr, IsErrOf, is_err, length};
 ghost use Rattle.log_disk.specs.declared.file.MakeFault.TheVariants as fault;
 ghost use Rattle.log_disk.specs.declared.file.handle.FileAsk.TheVariants as ask;
-ghost use Rattle.log_disk.specs.Disk.{new_disk, IsWithin, IsUnseen, Reads, Writes, Syncs, OnlyFails, Opens, Closes, Looks};
+ghost use Rattle.log_disk.specs.Disk.{new_disk, last_count, IsWithin, IsUnseen, Reads, Writes, Syncs, OnlyFails, Opens, Closes, Looks};
 
 use crate::eyes::OpenEyes;
 use crate::faults::Faults;
@@ -223,13 +223,14 @@ impl<R: Files<File = File> + Clone + Drop + Send> LogDisk for FileDisk<R> {
         Ok(())
     }
 
-    /// The eye's file is opened by the disk's own path.
+    /// The eye's file is opened by the disk's own path. `Failed` says that this failed, or that all numbers are spent.
     fn eye(&mut self, regions: &[u32]) -> Result<FileEye, DiskRefusal>
         requires there { All (λ r. r < self.old.disk.regions) regions.now }
         requires synced { All (λ r. Contains self.old.disk.unsynced r → ⊥) regions.now }
         ensures ok { IfOk result (λ opened. Opens regions.now opened.eye self.old.disk self.new.disk) }
         ensures failed { IsErrOf result DiskRefusal.Failed → OnlyFails self.old.disk self.new.disk }
         ensures no_memory { IsErrOf result DiskRefusal.NoMemory → self.new.disk ≡ self.old.disk }
+        ensures cause { IsErrOf result DiskRefusal.Failed → (length self.old.disk.given ≡ last_count) ⊎ (self.new.file.last ≡ record { ask = ask.Open; failed = true }) }
         ensures at_path { IfOk result (λ opened. opened.path ≡ self.old.path) }
         ensures same_path { self.new.path ≡ self.old.path }
     {
@@ -239,7 +240,7 @@ impl<R: Files<File = File> + Clone + Drop + Send> LogDisk for FileDisk<R> {
         }
         self.eyes.reserve()?;
         let named = Vec::from_slice(self.alloc, regions)?;
-        let Ok(file) = Handle::open(&self.rt, &self.path, false) else {
+        let Ok(file) = self.file.open_again(&self.rt, &self.path) else {
             self.faults.count();
             return Err(DiskRefusal::Failed);
         };

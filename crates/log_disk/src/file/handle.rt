@@ -62,6 +62,22 @@ impl Handle {
         })
     }
 
+    /// Opens the file at a path once more, to be read.
+    pub(crate) fn open_again<R: Files<File = File>>(
+        &mut self,
+        rt: &R,
+        path: &String,
+    ) -> io::Result<Handle>
+        ensures opened { IfOk result (λ file. file.path.value ≡ path.now) }
+        ensures last { self.new.last.value ≡ record { ask = ask.Open; failed = is_err result } }
+        ensures locked { self.new.locked ≡ self.old.locked }
+        ensures path { self.new.path ≡ self.old.path }
+    {
+        let opened = Handle::open(rt, path, false);
+        self.last = Handle::call(FileAsk::Open, opened.is_err());
+        opened
+    }
+
     /// Takes the exclusive lock, which lasts as long as the handle. It fails where another handle has it, also one of this
     /// process.
     pub(crate) fn lock(&mut self) -> io::Result<()>

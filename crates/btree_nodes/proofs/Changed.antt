@@ -1,9 +1,9 @@
 -- A row that is done to a node.
-use Rattle.std.proofs.Common.{◌≡◌, ◌≢◌, inl, inr, ⊎_elim, ℕ, ◌≤◌, ◌==◌, Bool, true, false, cond, ◌&&◌, ◌||◌, if◌then◌else◌, nat_eq, eq-eqb, ne_eqb, List, [], ◌∷◌, ◌++◌, Option, Some, None, is_some, Result, Ok, Err, refl, sym, ap, subst, ◌∙◌, true≢false}
+use Rattle.std.proofs.Common.{◌≡◌, ◌≢◌, inl, inr, ⊎_elim, ℕ, ◌≤◌, ◌==◌, Bool, true, false, cond, ◌&&◌, ◌||◌, if◌then◌else◌, nat_eq, eq-eqb, ne_eqb, List, [], ◌∷◌, ◌++◌, Option, Some, None, is_some, Result, Ok, Err, refl, sym, ap, subst, ◌∙◌, true≢false, append-nil}
 use Rattle.std.specs.Prelude.{IsSome, IfSome, OnOk, OnErr, unwrap_or, option_map}
 use Rattle.std.specs.Cmp.{nat_eq_equiv}
-use Rattle.std.specs.Map.{lookup}
-use Rattle.std.proofs.lemmas.Map.{lookup-set_value}
+use Rattle.std.specs.Map.{keys_of, lookup}
+use Rattle.std.proofs.lemmas.Map.{lookup-set_value, keys-set_value}
 use Rattle.std.proofs.lemmas.Map.Steps.{set_value_same}
 use Rattle.fine_model.specs.declared.list.NoMemory.{NoMemory}
 use Rattle.fine_model.specs.declared.Node.{Node}
@@ -157,6 +157,7 @@ module _ (b m new : Cache) (row : Row) (of_bucket : row.node.bucket ≡ b.bucket
         (λ same. subst (λ n. before new n ≡ before b n) (sym same) (at_saved (original m row.node.number) is_saved refl ∙ kept_before row.node.number))
         (λ other. (λ i. unwrap_or (same_original q i) ((now_else q other ∙ sym (same_cached q)) i)) ∙ kept_before q)
         (same_or_not q row.node.number);
+    order = record { added = []; is = ap (λ c. keys_of c.nodes) changed.is ∙ keys-set_value (nat_eq row.node.number) m.nodes changed.kept ∙ ap (λ c. keys_of c.nodes) saved ∙ ap (λ (es : List (ℕ × Cached)). keys_of es) (saving_same b row.node.number).1 ∙ sym (append-nil (keys_of b.nodes)) };
     changed = λ q. ⊎_elim (λ same. inl (subst (IsSaved new) (sym same) (ap is_some (same_original row.node.number) ∙ is_saved))) (λ other. inr (now_else q other)) (same_or_not q row.node.number);
   }
     where
@@ -191,6 +192,7 @@ saves_itself b new same = record {
   originals = λ n h. ap (λ c. original c n) same;
   before = λ n. ap (λ c. before c n) same;
   changed = λ n. inr (ap (λ c. cached c n) same);
+  order = record { added = []; is = ap (λ c. keys_of c.nodes) same ∙ sym (append-nil (keys_of b.nodes)) };
 }
 
 module _ (b m : Cache) (k : ℕ) (saved : m ≡ saving b k) where
@@ -204,6 +206,7 @@ module _ (b m : Cache) (k : ℕ) (saved : m ≡ saving b k) where
     originals = λ q h. ap (λ c. original c q) saved ∙ saving_original b k q h;
     before = kept_before;
     changed = λ q. inr (unchanged q);
+    order = record { added = []; is = ap (λ c. keys_of c.nodes) saved ∙ ap (λ (es : List (ℕ × Cached)). keys_of es) (saving_same b k).1 ∙ sym (append-nil (keys_of b.nodes)) };
   }
 
   pub saved_there : IsCached b k → IsCached m k

@@ -1,7 +1,8 @@
 -- Rows that are pushed one after the other.
-use Rattle.std.proofs.Common.{◌≡◌, ◌≢◌, ◌⊎◌, inl, inr, ⊎_elim, ℕ, nat_eq, Bool, true, false, ◌||◌, List, [], ◌∷◌, ◌++◌, Option, Some, None, is_some, Result, Ok, Err, refl, sym, ap, subst, ◌∙◌, true≢false, length, get_or, take, drop, ◌-◌, ◌≤◌, ◌<◌, arith}
+use Rattle.std.proofs.Common.{◌≡◌, ◌≢◌, ◌⊎◌, inl, inr, ⊎_elim, ℕ, nat_eq, Bool, true, false, cond, ◌||◌, append_assoc, List, [], ◌∷◌, ◌++◌, Option, Some, None, is_some, Result, Ok, Err, refl, sym, ap, subst, ◌∙◌, true≢false, length, get_or, take, drop, ◌-◌, ◌≤◌, ◌<◌, arith}
 use Rattle.std.specs.Prelude.{IsSome, IfSome, OnOk, OnErr, unwrap_or}
 use Rattle.std.specs.List.{AllByRecursion}
+use Rattle.std.specs.Map.{keys_of, lookup, remove_entry}
 use Rattle.std.proofs.lemmas.List.{take_all}
 use Rattle.fine_model.specs.declared.Rec.{Rec}
 use Rattle.fine_model.specs.declared.Rec.TheVariants as rec
@@ -28,6 +29,7 @@ saves_on a b c first second = record {
   changed = λ n. ⊎_elim (λ h. inl h)
       (λ same. ⊎_elim (λ h. inl (ap is_some (second.originals n h) ∙ h)) (λ same'. inr (same ∙ same')) (first.changed n))
       (second.changed n);
+  order = record { added = first.order.added ++ second.order.added; is = second.order.is ∙ ap (λ ks. ks ++ second.order.added) first.order.is ∙ append_assoc (keys_of a.nodes) first.order.added second.order.added };
 }
 
 or_assoc : (a b c : Bool) → ((a || b) || c) ≡ (a || (b || c))
@@ -130,10 +132,26 @@ ready_more K L on (row ∷ rows) ready = (⊎_elim (λ k. inl (on row.node.numbe
 
 -- ---- a place that is held
 
+keys_behind : (es : List (ℕ × Cached)) (k : ℕ) (kept : Cached) → keys_of (es ++ (k, kept) ∷ []) ≡ keys_of es ++ k ∷ []
+keys_behind [] k kept = refl
+keys_behind (e ∷ es) k kept = ap (λ ks. e.0 ∷ ks) (keys_behind es k kept)
+
+remove_absent : (k : ℕ) (es : List (ℕ × Cached)) → lookup (nat_eq k) es ≡ None → remove_entry (nat_eq k) es ≡ es
+remove_absent k [] none = refl
+remove_absent k (e ∷ es) none = by (nat_eq k e.0) none (remove_absent k es)
+  where
+    by : (t : Bool) → cond t (Some e.1) (lookup (nat_eq k) es) ≡ None → (lookup (nat_eq k) es ≡ None → remove_entry (nat_eq k) es ≡ es) → cond t es (e ∷ remove_entry (nat_eq k) es) ≡ e ∷ es
+    by true none rest = absurd (true≢false (ap is_some none))
+    by false none rest = ap (λ (xs : List (ℕ × Cached)). e ∷ xs) (rest none)
+
 module _ (b m new : Cache) (k : ℕ) (kept : Cached) (was : cached b k ≡ None) (saved : m ≡ saving b k) (same_before : (n : ℕ) → before m n ≡ before b n) (is_saved : IsSaved m k)
     (put : new ≡ with_node m k kept) (here : cached new k ≡ Some kept) (elsewhere : (n : ℕ) → n ≢ k → cached new n ≡ cached m n) where
+  put_order : keys_of new.nodes ≡ keys_of m.nodes ++ k ∷ []
+  put_order = ap (λ c. keys_of c.nodes) put ∙ keys_behind (remove_entry (nat_eq k) m.nodes) k kept ∙ ap (λ (es : List (ℕ × Cached)). keys_of es ++ k ∷ []) (remove_absent k m.nodes (unchanged b m k saved k ∙ was))
+
   put_saves : Saves m new
   put_saves = record {
+    order = record { added = k ∷ []; is = put_order };
     bucket = ap (λ c. c.bucket) put;
     originals = λ n h. ap (λ c. original c n) put;
     before = λ n. ⊎_elim

@@ -15,7 +15,7 @@ use Rattle.btree_nodes.specs.declared.fault.TreeFault.{TreeFault}
 use Rattle.btree_nodes.specs.declared.fault.TreeFault.TheVariants.{Source, Unfit, BucketFull, Number, NoMemory}
 use Rattle.node_cache.specs.Given.{given, IsCached, IsLoaded}
 use Rattle.btree_nodes.specs.Trees.{unfit_in, pairs_in, Serves, Holds, LoadsOnWay, HeadSays, first_over}
-use Rattle.btree_nodes.specs.Calls.{Answers, IsFound, IsReached, IsAsBefore, Outcome, IsChange, OnCleanAnswer, Stays, SoundOutcome, SoundReading}
+use Rattle.btree_nodes.specs.Calls.{Answers, IsFound, IsReached, IsAsBefore, Outcome, IsChange, OnReached, OnCleanAnswer, Stays, SoundOutcome, SoundReading}
 use Rattle.btree_nodes.proofs.Changed.{saves_itself}
 use Rattle.btree_nodes.proofs.Held.{restores_saved, holds_pushed}
 use Rattle.btree_nodes.proofs.OnWays.{holds_on_way}
@@ -104,6 +104,22 @@ clean_map (Err (Unfit id)) C D on h = on h
 clean_map (Err (BucketFull m d)) C D on h = on h
 clean_map (Err (Number id)) C D on h = on h
 clean_map (Err NoMemory) C D on h = h
+
+-- the leaf was reached, and what is used then is
+pub reached_ok : {A : Type 0} (r : Result A TreeFault) (P : Type 0) → P → OnReached r P
+reached_ok (Ok a) P h = h
+reached_ok (Err (Source f)) P h = tt
+reached_ok (Err (Unfit id)) P h = tt
+reached_ok (Err (BucketFull m d)) P h = h
+reached_ok (Err (Number id)) P h = h
+reached_ok (Err NoMemory) P h = tt
+
+pub reached_fault : (A B : Type 0) (mid : Cache) (key : List ℕ) (Q : B → Type 0) (F : FetchFault → Type 0) (e : TreeFault) (P : Type 0) → Answers mid key Q F (Err e) → OnReached {A = A} (Err e) P
+reached_fault A B mid key Q F (Source f) P h = tt
+reached_fault A B mid key Q F (Unfit id) P h = tt
+reached_fault A B mid key Q F (BucketFull m d) P h = absurd h
+reached_fault A B mid key Q F (Number id) P h = absurd h
+reached_fault A B mid key Q F NoMemory P h = tt
 
 -- a removal on sound rows
 pub removed_soundly : (tells : List Row → Type 0) (upper : ℕ) (old new : Cache) (log log' : List Row) (key : List ℕ) (F : FetchFault → Type 0) (r : Result Bool TreeFault) → old.bucket ≡ bucket_of key

@@ -17,7 +17,7 @@ use Rattle.node_cache.specs.Given.{given, IsCached, IsLoaded, OnCleanFault}
 use Rattle.btree_nodes.specs.declared.fault.TreeFault.{TreeFault}
 use Rattle.btree_nodes.specs.declared.fault.TreeFault.TheVariants.{Source, Unfit, BucketFull, Number, NoMemory}
 use Rattle.btree_nodes.specs.Faults.{OnFault}
-use Rattle.btree_nodes.specs.Trees.{unfit_in, pairs_in, pairs_between, Restores, Holds, LoadsOnWay, FitsLog, HeadSays, first_over}
+use Rattle.btree_nodes.specs.Trees.{unfit_in, pairs_in, way_in, pairs_between, Restores, Holds, LoadsOnWay, AreUsed, FitsLog, HeadSays, first_over}
 use Rattle.btree_nodes.specs.Changes.{Saves, Pushes}
 
 -- a reply that says a sum
@@ -68,11 +68,20 @@ Outcome mid new log log' c P Failed (Err (Number id)) =
     (pushed_in mid c ≡ Err why.Number) × (first_over (call_push mid.bucket (given mid) c).rows ≡ Some id) × IsReached mid (key_of c) × IsAsBefore mid new log log'
 Outcome mid new log log' c P Failed (Err NoMemory) = Saves mid new
 
--- A change of a tree: nodes on the way are loaded, and no others, before anything is pushed; then the call has its outcome.
+-- with an answer for which the key's leaf was reached
+abbrev pub OnReached : {A : Type 0} → Result A TreeFault → Type 0 → Type 0
+OnReached (Ok a) P = P
+OnReached (Err (BucketFull next depth)) P = P
+OnReached (Err (Number id)) P = P
+OnReached (Err _) P = Unit {0}
+
+-- A change of a tree: nodes on the way are loaded, and no others, and those that were cached are the last used, before anything is
+-- pushed; then the call has its outcome.
 pub record IsChange {A : Type 0} (tells : List Row → Type 0) (upper : ℕ) (old new : Cache) (log log' : List Row) (c : Call) (P : Cache → A → Type 0) (Failed : FetchFault → Type 0) (r : Result A TreeFault) : Type 0 where
   pub mid : Cache
   pub loaded : IsLoaded tells upper old mid
   pub on_way : LoadsOnWay old mid (key_of c)
+  pub used : OnReached r (AreUsed old mid (way_in mid (key_of c)))
   pub outcome : Outcome mid new log log' c (P mid) Failed r
 
 -- an answer of a call that changes nothing

@@ -1,5 +1,6 @@
 -- What calls that push rows do to a bucket.
-use Rattle.std.specs.Prelude.{◌≡◌, ◌≢◌, ◌⊎◌, ℕ, nat_eq, Bool, true, false, ◌||◌, List, [], ◌∷◌, None, is_some}
+use Rattle.std.specs.Prelude.{◌≡◌, ◌≢◌, ◌⊎◌, ℕ, nat_eq, Bool, true, false, ◌||◌, List, [], ◌∷◌, ◌++◌, None, is_some}
+use Rattle.std.specs.Map.{keys_of}
 use Rattle.std.specs.List.{AllByRecursion, list_any}
 use Rattle.fine_model.specs.declared.Rec.{Rec}
 use Rattle.fine_model.specs.declared.Rec.TheVariants as rec
@@ -10,12 +11,19 @@ use Rattle.node_cache.specs.Cache.{Cache, cached, original, before, rewritten, I
 use Rattle.node_cache.specs.Given.{given, IsCached}
 use Rattle.btree_nodes.specs.Trees.{node_at}
 
--- Each node that was changed or added was saved, no original is lost, and what would be restored is the same.
+-- the numbers that are cached stay in their order, and those that were added stand behind
+pub record Adds (old new : Cache) : Type 0 where
+  pub added : List ℕ
+  pub is : keys_of new.nodes ≡ keys_of old.nodes ++ added
+
+-- Each node that was changed or added was saved, no original is lost, what would be restored is the same, and the order of last use
+-- stays, with what was added as the last used.
 pub record Saves (old new : Cache) : Type 0 where
   pub bucket : new.bucket ≡ old.bucket
   pub originals : (n : ℕ) → IsSaved old n → original new n ≡ original old n
   pub before : (n : ℕ) → before new n ≡ before old n
   pub changed : (n : ℕ) → IsSaved new n ⊎ (cached new n ≡ cached old n)
+  pub order : Adds old new
 
 -- one node is what a row makes of it, in its place
 pub record IsChanged (old new : Cache) (row : Row) : Type 0 where

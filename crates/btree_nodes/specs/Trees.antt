@@ -12,7 +12,7 @@ use Rattle.fine_model.specs.Paths.{place_among, kid_at, seps_of, meets, unfit_un
 use Rattle.fine_model.specs.Pushed.{leaf_for, pairs_beside}
 use Rattle.fine_model.specs.RowBytes.{greatest, FitsRow}
 use Rattle.fine_model.specs.Trees.{Bounds, whole, kids_of, pairs_of, nodes_of}
-use Rattle.node_cache.specs.Cache.{Cache, cached, before}
+use Rattle.node_cache.specs.Cache.{Cache, cached, before, touched}
 use Rattle.node_cache.specs.Given.{given, IsCached}
 use Rattle.btree_nodes.specs.declared.tree.Path.{Path}
 
@@ -54,6 +54,15 @@ way_from nodes key _ = 0 ∷ []
 -- the way to a key, by what a bucket gives
 abbrev pub way_in : Cache → List ℕ → List ℕ
 way_in b key = way_from (given b) key (given b 0).0
+
+-- each of some numbers is the last used, one after the other
+abbrev pub used : Cache → List ℕ → Cache
+used b [] = b
+used b (n ∷ ns) = used (touched b n) ns
+
+-- where all these numbers were cached, they are the last used, in their order, and nothing else is changed
+abbrev pub AreUsed : Cache → Cache → List ℕ → Type 0
+AreUsed old new numbers = AllByRecursion (IsCached old) numbers → new ≡ used old numbers
 
 -- what is met of the children of a node that hold keys of a range, from left to right
 abbrev pub kids_met : {A : Type 0} → (Bounds → ℕ → List A) → List ℕ → List ℕ → Bounds → List (List ℕ) → List ℕ → List A

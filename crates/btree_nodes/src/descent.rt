@@ -9,10 +9,11 @@ ghost use Rattle.fine_model.specs.Paths.{is_inner, place_among};
 ghost use Rattle.fine_model.specs.Trees.{is_leaf, is_from, is_above, is_up_to, is_key_within, are_separators, bucket_of};
 ghost use Rattle.fine_model.specs.RowBytes.{FitsKey, FitsPair};
 ghost use Rattle.node_record.specs.Bounds.{FitsNode};
+ghost use Rattle.node_cache.specs.Cache.{touched};
 ghost use Rattle.node_cache.specs.Given.{given, IsCached, IsLoaded};
 ghost use Rattle.btree_nodes.specs.Faults.{OnFault};
 ghost use Rattle.btree_nodes.specs.Calls.{OnCleanAnswer};
-ghost use Rattle.btree_nodes.specs.Trees.{way, LoadsAmong};
+ghost use Rattle.btree_nodes.specs.Trees.{way, LoadsAmong, AreUsed};
 ghost use Rattle.btree_nodes.specs.Descends.{Descends};
 ghost use Rattle.btree_nodes.specs.Descent.{bound_at, bounds_by, low_of, high_of, IsStep, AreKept};
 
@@ -231,6 +232,7 @@ pub fn reach<S: NodeSource>(
     ensures clean { OnCleanAnswer result (S.clean source.old source.new) }
     ensures loaded { IsLoaded (S.tells source.old) (S.upper source.old) bucket.old bucket.new }
     ensures among { LoadsAmong bucket.old bucket.new (number ∷ []) }
+    ensures used { IsCached bucket.old number → bucket.new ≡ touched bucket.old number }
     ensures there { OnOk result (IsCached bucket.new number) }
     ensures err { IfErr result (λ fault. OnFault fault (λ failed. S.fails source.old failed source.new) (λ _. ⊥) ⊥) }
 {
@@ -279,6 +281,7 @@ pub fn descend<S: NodeSource>(
     ensures clean { OnCleanAnswer result (S.clean source.old source.new) }
     ensures loaded { IsLoaded (S.tells source.old) (S.upper source.old) bucket.old bucket.new }
     ensures on_way { LoadsAmong bucket.old bucket.new (way height (given bucket.new) key.now number) }
+    ensures used { OnOk result (AreUsed bucket.old bucket.new (way height (given bucket.new) key.now number)) }
     ensures way { Descends bucket.new height next key.now (bounds_by (given bucket.new) low high) number (λ failed. S.fails source.old failed source.new) result }
 {
     reach(source, bucket, number)?;

@@ -7,7 +7,7 @@ ghost use Rattle.fine_model.specs.RowBytes.{FitsKey};
 ghost use Rattle.fine_model.specs.Trees.{bucket_of, pairs_of, map_of, IsSound};
 ghost use Rattle.node_record.specs.Bounds.{FitsNode};
 ghost use Rattle.node_cache.specs.Given.{given, IsCached, IsLoaded};
-ghost use Rattle.btree_nodes.specs.Trees.{Serves, Holds, LoadsOnWay, HeadIs, IsPath};
+ghost use Rattle.btree_nodes.specs.Trees.{Serves, Holds, LoadsOnWay, AreUsed, way_in, HeadIs, IsPath};
 ghost use Rattle.btree_nodes.specs.Calls.{IsFound, Answers, OnCleanAnswer, SoundReading};
 
 use crate::descent::{descend, reach};
@@ -47,6 +47,7 @@ pub fn find_leaf<S: NodeSource>(
     ensures clean { OnCleanAnswer result (S.clean source.old source.new) }
     ensures loaded { IsLoaded (S.tells source.old) (S.upper source.old) bucket.old bucket.new }
     ensures on_way { LoadsOnWay bucket.old bucket.new key.now }
+    ensures used { OnOk result (AreUsed bucket.old bucket.new (way_in bucket.new key.now)) }
     ensures path { Answers bucket.new key.now (IsPath bucket.new key.now) (λ failed. S.fails source.old failed source.new) result }
 {
     reach(source, bucket, 0)?;
@@ -77,6 +78,7 @@ fn look_up<S: NodeSource>(
     ensures clean { OnCleanAnswer result (S.clean source.old source.new) }
     ensures loaded { IsLoaded (S.tells source.old) (S.upper source.old) bucket.old bucket.new }
     ensures on_way { LoadsOnWay bucket.old bucket.new key.now }
+    ensures used { OnOk result (AreUsed bucket.old bucket.new (way_in bucket.new key.now)) }
     ensures answer { Answers bucket.new key.now (IsFound bucket.new key.now) (λ failed. S.fails source.old failed source.new) result }
 {
     let path = find_leaf(source, bucket, key)?;
@@ -95,6 +97,7 @@ pub fn find<S: NodeSource>(
     ensures clean { OnCleanAnswer result (S.clean source.old source.new) }
     ensures loaded { IsLoaded (S.tells source.old) (S.upper source.old) bucket.old bucket.new }
     ensures on_way { LoadsOnWay bucket.old bucket.new key.now }
+    ensures used { OnOk result (AreUsed bucket.old bucket.new (way_in bucket.new key.now)) }
     ensures answer { Answers bucket.new key.now (IsFound bucket.new key.now) (λ failed. S.fails source.old failed source.new) result }
     ensures sound { (rows log : List ModelRow) → Serves (S.tells source.old) bucket.old rows → Holds bucket.old rows log → IsSound (rows ++ log) → SoundReading rows log bucket.new (λ value. value ≡ get (map_of (rows ++ log)) key.now) result }
 {

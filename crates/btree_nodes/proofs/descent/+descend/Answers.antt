@@ -2,7 +2,8 @@ use Rattle.std.proofs.Common.{◌≡◌, ◌<◌, sym, subst, ◌∙◌, arith}
 use Rattle.node_cache.specs.Given.{given, IsCached}
 use Rattle.btree_nodes.specs.Descent.{bounds_by}
 use Rattle.btree_nodes.specs.Descends.{IsWay, IsUnfit}
-use Rattle.btree_nodes.proofs.Ways.{way_leaf, unfit_leaf, unfit_inner, descends_on, kept_stays, step_stays, among_first, among_step}
+use Rattle.btree_nodes.proofs.Ways.{way_leaf, unfit_leaf, unfit_inner, descends_on, kept_stays, step_stays, among_first, among_step, used_first, used_step}
+use Rattle.btree_nodes.proofs.Changed.{on_ok}
 use Rattle.btree_nodes.proofs.Loads.{loaded_then}
 use Rattle.btree_nodes.proofs.SoundCalls.{clean_map}
 use Rattle.btree_nodes.proofs.descent.+descend.Goals as goal
@@ -76,3 +77,19 @@ returns-clause-loaded g t c =
 pub returns-clause-clean : goal.returns-clause-clean
 returns-clause-clean g t c =
     clean_map c.descend.result _ _ (g.met.S.NodeSource.clean_on _ _ _ (c.in_ok-reach.ensures).clean) c.descend.ensures.clean
+
+pub returns-then-is_leaf_within-clause-used : goal.returns-then-is_leaf_within-clause-used
+returns-then-is_leaf_within-clause-used g t c =
+    let ground_floor : c.args.height ≡ 0 = omega arith in
+    used_first _ _ _ _ c.args.height c.args.number ground_floor c.reach.ensures.used
+
+pub returns-clause-used : goal.returns-clause-used
+returns-clause-used g t c =
+    let mid = c.reach.new.bucket in
+    let here : IsCached mid c.args.number = (c.in_ok-reach.ensures).there in
+    let above : 0 < c.args.height = omega arith in
+    let kept = (c.in-Some.ensures).kept in
+    let low = kept_stays _ _ _ mid c.reach.ensures.loaded c.args.low c.requires.low in
+    let high = kept_stays _ _ _ mid c.reach.ensures.loaded c.args.high c.requires.high in
+    let step = step_stays _ _ mid c.descend.new.bucket c.descend.ensures.loaded c.args.next c.args.key.now c.args.low c.args.high c.args.number c.in-Some.step here low high kept.0 kept.1 (c.in-Some.ensures).step in
+    on_ok c.descend.result (used_step _ _ c.args.bucket.now mid c.descend.new.bucket c.args.key.now c.args.height c.args.number c.in-Some.step.number above step.number c.reach.ensures.used c.reach.ensures.loaded) c.descend.ensures.used

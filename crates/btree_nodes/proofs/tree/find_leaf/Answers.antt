@@ -5,7 +5,7 @@ use Rattle.btree_nodes.specs.Calls.{IsFirstUnfit}
 use Rattle.btree_nodes.specs.declared.tree.Path.{Path}
 use Rattle.btree_nodes.proofs.Loads.{loaded_given, loaded_kept, loaded_then}
 use Rattle.btree_nodes.proofs.SoundCalls.{clean_map, clean_fault}
-use Rattle.btree_nodes.proofs.Ways.{among_head}
+use Rattle.btree_nodes.proofs.Ways.{among_head, used_under}
 use Rattle.btree_nodes.proofs.Paths.{SaysHead, head_some, head_none, way_path, way_from_head, fault_under}
 use Rattle.btree_nodes.proofs.tree.find_leaf.Goals as goal
 
@@ -74,3 +74,11 @@ returns-in_err-leaf-clause-clean g c =
 
 pub returns-clause-clean : goal.returns-clause-clean
 returns-clause-clean g c = g.met.S.NodeSource.clean_on _ _ _ (c.in_ok-reach.ensures).clean (c.in_ok-leaf.ensures).clean
+
+pub returns-clause-used : goal.returns-clause-used
+returns-clause-used g c =
+    let b = c.descend.new.bucket in
+    let here : IsCached c.reach.new.bucket 0 = (c.in_ok-reach.ensures).there in
+    let same = loaded_given _ _ c.reach.new.bucket b c.descend.ensures.loaded 0 here in
+    let says = subst (λ k. SaysHead k.0 c.in-Some.root c.in-Some.next c.in-Some.depth) (sym same) (head_some (given c.reach.new.bucket 0).0 (c.in-Some.root, c.in-Some.next, c.in-Some.depth) c.in-Some.ensures) in
+    used_under _ _ c.args.bucket.now c.reach.new.bucket b c.args.key.now c.in-Some.root c.in-Some.next c.in-Some.depth says.is c.reach.ensures.used c.reach.ensures.loaded (c.in_ok-leaf.ensures).used

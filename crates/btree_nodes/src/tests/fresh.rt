@@ -4,6 +4,7 @@ ghost use Rattle.std.specs.Prelude.{ℕ, ◌≡◌, ◌≤◌, length, Some, []}
 ghost use Rattle.fine_model.specs.Trees.{bucket_of};
 ghost use Rattle.fine_model.specs.Nodes.{base};
 ghost use Rattle.fine_model.specs.declared.FetchFault.TheVariants as fetch_fault;
+ghost use Rattle.node_cache.specs.Cache.{IsResting};
 ghost use Rattle.node_cache.specs.Given.{OnCleanFault};
 ghost use Rattle.node_record.specs.Bounds.{FitsNode};
 
@@ -34,8 +35,8 @@ pub fn first_node(alloc: Global, number: u32) -> Node
 
 /// A source of a log that has no rows.
 #[derive(Drop)]
-struct Fresh {
-    alloc: Global,
+pub struct Fresh {
+    pub alloc: Global,
 }
 
 impl NodeSource for Fresh {
@@ -84,9 +85,10 @@ impl NodeSource for Fresh {
 }
 
 /// The bucket of a key, with nothing cached.
-fn empty(alloc: Global, key: &[u8]) -> Bucket
+pub fn empty(alloc: Global, key: &[u8]) -> Bucket
     requires { (1 ≤ length key.now) × (length key.now ≤ 64) }
     ensures bucket { result.bucket ≡ bucket_of key.now }
+    ensures resting { IsResting result }
 {
     Bucket::new(alloc, bucket_of(key))
 }

@@ -36,15 +36,12 @@ pub appended_whole : (value : RoomValue) (rows : List Row) → IsWhole value →
 unfolding appended
 appended_whole value rows whole may fit = record {
   geometry = whole.geometry;
-  region_len = whole.region_len;
-  faults = whole.faults;
-  own_faults = whole.own_faults;
-  alone = record { board = whole.alone.board; eyes = whole.alone.eyes; no_job = whole.alone.no_job; none_open = whole.alone.none_open };
+  of_disk = ap (λ r. (appended (record value { room = r }) rows).room) whole.of_disk;
+  alone = record { board = whole.alone.board; no_job = whole.alone.no_job; none_open = whole.alone.none_open };
   in_chain = whole.in_chain;
   ends = whole.ends;
   apart = whole.apart;
   fit = whole.fit;
-  leads = whole.leads;
   rising = whole.rising;
   free = taken value.room.free value.target value.room.waiting (λ e. (whole.epoch.none e).0) may.free ∙ whole.free;
   epoch = record {

@@ -9,7 +9,7 @@ use Rattle.fine_model.specs.Merge.{encoded_len}
 use Rattle.fine_model.specs.Regions.{header_of, partition_bytes}
 use Rattle.fine_model.specs.ChainLaws.{part_of}
 use Rattle.fine_model.specs.History.{Commit}
-use Rattle.fine_model.specs.Room.{RoomState}
+use Rattle.fine_model.specs.declared.law.RoomState.{RoomState}
 use Rattle.log_disk.specs.Disk.{Disk, Told, BothTold, SameBeside, SameOutside, IsSound, IsToldOf, clock_of, with_bytes}
 use Rattle.log_disk.specs.declared.refusal.DiskRefusal.{DiskRefusal}
 use Rattle.log_disk.specs.declared.refusal.DiskRefusal.TheVariants as refusal
@@ -19,8 +19,8 @@ use Rattle.epoch_room.specs.Epoch.{Open, empty}
 use Rattle.epoch_room.specs.Gate.{gate, IsSealing, LeavesSealing, LeavesTorn, HasBytes}
 use Rattle.epoch_room.specs.Meaning.{StandsWhere, ShownInside}
 use Rattle.epoch_room.specs.Partition.{IsArranged}
-use Rattle.epoch_room.specs.Steps.{KeepsCounts, next_part, sealed_state, shut_state}
-use Rattle.epoch_room.specs.Value.{RoomValue, value_of}
+use Rattle.epoch_room.specs.Steps.{next_part, sealed_state, shut_state}
+use Rattle.epoch_room.specs.Value.{RoomValue, value_of, on}
 use Rattle.epoch_room.specs.Whole.{HasPassed, HoldsParts, IsWhole}
 use Rattle.epoch_room.proofs.Ending.{IsFirstFree, first_free}
 use Rattle.epoch_room.proofs.Holding.{free_of, held_closed, held_opened}
@@ -127,28 +127,29 @@ module _ (old new entry : Disk) (parts retired : List Part) (free : List ℕ) (t
           (λ x y z. StandsWhere (value_of old entry parts retired free target epoch sealed places shut).room x y first_rows e history → IfSome y (IsToldOf old) → IfSome z (IsToldOf new) → IfSome y (λ t. HoldsParts old.region_len t.bytes parts retired)
           → StandsWhere (shut_state (value_of old entry parts retired free target epoch sealed places shut).room new) x z first_rows e history) entry.told old.told new.told whole.time leaves (λ s t u h. tt)
           (λ before a b p run s t u h.
-          shut_stands (value_of old entry parts retired free target epoch sealed places shut).room region sorted bytes before a first_rows e history (begins a t h) p s b run u.image new)
+          shut_stands (value_of old entry parts retired free target epoch sealed places shut).room region sorted bytes before a first_rows e history (begins a t h) p s b run u.image new same.region_len (ap (map (λ eye. (eye.number, eye.regions))) same.eyes))
           stands sound.told sound'.told (whole.told open_room)
 
       pub stands_sealed : LeavesSealing region bytes old new → HasBytes (λ image. with_bytes (with_bytes image region 1 bytes) region 0 gate) old new
-          → StandsWhere (sealed_room (value_of old entry parts retired free target epoch sealed places shut).room region) entry.told new.told first_rows e history
+          → StandsWhere (on (sealed_room (value_of old entry parts retired free target epoch sealed places shut).room region) new) entry.told new.told first_rows e history
       stands_sealed leaves done =
           all_told (λ a b. LeavesOnly (IsSealing region bytes a.bytes) a b)
           (λ x y z. StandsWhere (value_of old entry parts retired free target epoch sealed places shut).room x y first_rows e history → IfSome y (IsToldOf old) → IfSome z (IsToldOf new) → IfSome y (λ t. HoldsParts old.region_len t.bytes parts retired)
-          → BothTold (λ a b. b.bytes ≡ with_bytes (with_bytes a.bytes region 1 bytes) region 0 gate) y z → StandsWhere (sealed_room (value_of old entry parts retired free target epoch sealed places shut).room region) x z first_rows e history)
+          → BothTold (λ a b. b.bytes ≡ with_bytes (with_bytes a.bytes region 1 bytes) region 0 gate) y z → StandsWhere (on (sealed_room (value_of old entry parts retired free target epoch sealed places shut).room region) new) x z first_rows e history)
           entry.told old.told new.told whole.time leaves (λ s t u h d. tt)
           (λ before a b p run s t u h d.
-          sealed_stands (value_of old entry parts retired free target epoch sealed places shut).room region sorted bytes before a first_rows e history (begins a t h) p s b run u.image d
+          sealed_stands (value_of old entry parts retired free target epoch sealed places shut).room region sorted bytes before a first_rows e history (begins a t h) p s b run u.image new same.region_len (ap (map (λ eye. (eye.number, eye.regions))) same.eyes) d
           (λ image is. synced_now new b b image u (inl (done.synced, refl)) is))
           stands sound.told sound'.told (whole.told open_room) done.told
 
-      pub stands_open : LeavesTorn region bytes old new → StandsWhere (value_of old entry parts retired free target epoch sealed places shut).room entry.told new.told first_rows e history
+      pub stands_open : LeavesTorn region bytes old new → StandsWhere (on (value_of old entry parts retired free target epoch sealed places shut).room new) entry.told new.told first_rows e history
       stands_open leaves =
           all_told (λ a b. LeavesOnly (SameOutside region 1 (1 + length bytes) a.bytes) a b)
           (λ x y z. StandsWhere (value_of old entry parts retired free target epoch sealed places shut).room x y first_rows e history → IfSome y (IsToldOf old) → IfSome z (IsToldOf new) → IfSome y (λ t. HoldsParts old.region_len t.bytes parts retired)
-          → StandsWhere (value_of old entry parts retired free target epoch sealed places shut).room x z first_rows e history) entry.told old.told new.told whole.time leaves (λ s t u h. tt)
+          → StandsWhere (on (value_of old entry parts retired free target epoch sealed places shut).room new) x z first_rows e history) entry.told old.told new.told whole.time leaves (λ s t u h. tt)
           (λ before a b p run s t u h.
-          open_stands (value_of old entry parts retired free target epoch sealed places shut).room region sorted bytes before a first_rows e history (begins a t h) p s b run u.image)
+          open_stands (value_of old entry parts retired free target epoch sealed places shut).room region sorted bytes before a first_rows e history (begins a t h) p s b run u.image new same.region_len
+          (ap (map (λ eye. (eye.number, eye.regions))) same.eyes))
           stands sound.told sound'.told (whole.told open_room)
 
 -- where nothing happened, what a crash leaves now shows what is sealed
@@ -170,81 +171,24 @@ popped xs all new y n is long cut =
     cut ∙ ap (λ m. take m all) (sym k) ∙ ap (take (length xs)) is ∙ take_at xs (y ∷ []) (length xs) refl
 
 pub sealed_is : (old new entry : Disk) (parts parts' retired : List Part) (free : List ℕ) (target : Option ℕ) (epoch epoch' : Open) (sealed places most : ℕ) (shut : Bool)
-    → parts' ≡ parts ++ part_of (unwrap_or target 0) (header_of (range_of sealed) epoch.rows) ∷ [] → epoch' ≡ empty most → SameBeside old new → KeepsCounts old new
-    → (value_of new entry parts' retired free None epoch' (sealed + 1) places shut).room ≡ sealed_state (value_of old entry parts retired free target epoch sealed places shut)
+    → parts' ≡ parts ++ part_of (unwrap_or target 0) (header_of (range_of sealed) epoch.rows) ∷ [] → epoch' ≡ empty most
+    → (value_of new entry parts' retired free None epoch' (sealed + 1) places shut).room ≡ on (sealed_state (value_of old entry parts retired free target epoch sealed places shut)) new
 unfolding sealed_state next_part
-sealed_is old new entry parts parts' retired free target epoch epoch' sealed places most shut pushed cleared same counts =
-    let len = same.region_len in
-    let faults = counts.faults in
-    let own = counts.own_faults in
-    λ i. record {
-      region_len = len i;
-      sealed = sealed + 1;
-      places = places;
-      parts = pushed i;
-      free = free;
-      retired = map (λ (p : Part). p.region) retired;
-      open_rows = (cleared i).rows;
-      waiting = (cleared i).waiting;
-      used = (cleared i).used;
-      board_eyes = [];
-      open_eyes = [];
-      has_job = false;
-      is_shut = shut;
-      faults = faults i;
-      own_faults = own i;
-    }
+sealed_is old new entry parts parts' retired free target epoch epoch' sealed places most shut pushed cleared =
+    λ i. (value_of new entry (pushed i) retired free None (cleared i) (sealed + 1) places shut).room
 
-pub sealed_at : (value : RoomValue) (region : ℕ) → unwrap_or value.target 0 ≡ region → sealed_state value ≡ sealed_room value.room region
+pub sealed_at : (value : RoomValue) (new : Disk) (region : ℕ) → unwrap_or value.target 0 ≡ region → on (sealed_state value) new ≡ on (sealed_room value.room region) new
 unfolding sealed_state next_part
-sealed_at value region at = ap (sealed_room value.room) at
+sealed_at value new region at = ap (λ r. on (sealed_room value.room r) new) at
 
-pub shut_is : (old new entry : Disk) (parts parts' retired : List Part) (free : List ℕ) (target : Option ℕ) (epoch : Open) (sealed places : ℕ) (shut : Bool) → parts' ≡ parts → SameBeside old new
+pub shut_is : (old new entry : Disk) (parts parts' retired : List Part) (free : List ℕ) (target : Option ℕ) (epoch : Open) (sealed places : ℕ) (shut : Bool) → parts' ≡ parts
     → (value_of new entry parts' retired free target epoch sealed places true).room ≡ shut_state (value_of old entry parts retired free target epoch sealed places shut).room new
 unfolding shut_state
-shut_is old new entry parts parts' retired free target epoch sealed places shut same_parts same =
-    let len = same.region_len in
-    λ i. record {
-      region_len = len i;
-      sealed = sealed;
-      places = places;
-      parts = same_parts i;
-      free = free;
-      retired = map (λ (p : Part). p.region) retired;
-      open_rows = epoch.rows;
-      waiting = epoch.waiting;
-      used = epoch.used;
-      board_eyes = [];
-      open_eyes = [];
-      has_job = false;
-      is_shut = true;
-      faults = new.faults;
-      own_faults = new.own_faults;
-    }
+shut_is old new entry parts parts' retired free target epoch sealed places shut same_parts = λ i. (value_of new entry (same_parts i) retired free target epoch sealed places true).room
 
-pub open_is : (old new entry : Disk) (parts parts' retired : List Part) (free : List ℕ) (target : Option ℕ) (epoch : Open) (sealed places : ℕ) (shut : Bool) → parts' ≡ parts → SameBeside old new → KeepsCounts old new
-    → (value_of new entry parts' retired free target epoch sealed places shut).room ≡ (value_of old entry parts retired free target epoch sealed places shut).room
-open_is old new entry parts parts' retired free target epoch sealed places shut same_parts same counts =
-    let len = same.region_len in
-    let faults = counts.faults in
-    let own = counts.own_faults in
-    λ i. record {
-      region_len = len i;
-      sealed = sealed;
-      places = places;
-      parts = same_parts i;
-      free = free;
-      retired = map (λ (p : Part). p.region) retired;
-      open_rows = epoch.rows;
-      waiting = epoch.waiting;
-      used = epoch.used;
-      board_eyes = [];
-      open_eyes = [];
-      has_job = false;
-      is_shut = shut;
-      faults = faults i;
-      own_faults = own i;
-    }
+pub open_is : (old new entry : Disk) (parts parts' retired : List Part) (free : List ℕ) (target : Option ℕ) (epoch : Open) (sealed places : ℕ) (shut : Bool) → parts' ≡ parts
+    → (value_of new entry parts' retired free target epoch sealed places shut).room ≡ on (value_of old entry parts retired free target epoch sealed places shut).room new
+open_is old new entry parts parts' retired free target epoch sealed places shut same_parts = λ i. (value_of new entry (same_parts i) retired free target epoch sealed places shut).room
 
 -- one refusal is not the other
 pub not_both : (r : DiskRefusal) → ◌≡◌ {A = Result (Unit {0}) DiskRefusal} (Err r) (Err refusal.Failed) → r ≡ refusal.NoMemory → ⊥

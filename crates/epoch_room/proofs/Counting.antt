@@ -27,16 +27,16 @@ module _ (value : RoomValue) (whole : IsWhole value) where
 
   pub free_few : length value.room.free ≤ 64
   free_few =
-      omega (arith, ap length whole.free, length-append (option_to_list value.target) value.room.free, beside_few value.disk.regions (value.room.parts ++ value.retired), whole.geometry.regions_high)
+      omega (arith, ap length whole.free, length-append (option_to_list value.target) value.room.free, beside_few value.disk.regions (value.room.parts ++ value.room.retired), whole.geometry.regions_high)
 
   pub live_have : AllByRecursion HasRegions value.room.parts
-  live_have = all_map (FitsRegions value.disk.region_len) HasRegions (λ p h. h.has) value.room.parts (all_front (FitsRegions value.disk.region_len) value.room.parts value.retired whole.fit)
+  live_have = all_map (FitsRegions value.disk.region_len) HasRegions (λ p h. h.has) value.room.parts (all_front (FitsRegions value.disk.region_len) value.room.parts value.room.retired whole.fit)
 
-  pub retired_have : AllByRecursion HasRegions value.retired
-  retired_have = all_map (FitsRegions value.disk.region_len) HasRegions (λ p h. h.has) value.retired (all_back (FitsRegions value.disk.region_len) value.room.parts value.retired whole.fit)
+  pub retired_have : AllByRecursion HasRegions value.room.retired
+  retired_have = all_map (FitsRegions value.disk.region_len) HasRegions (λ p h. h.has) value.room.retired (all_back (FitsRegions value.disk.region_len) value.room.parts value.room.retired whole.fit)
 
   pub live_few : length (all_regions value.room.parts) < 2 ^ 32
-  live_few = omega (arith, few_both value.disk.regions value.room.parts value.retired whole.apart, whole.geometry.regions_high)
+  live_few = omega (arith, few_both value.disk.regions value.room.parts value.room.retired whole.apart, whole.geometry.regions_high)
 
-  pub retired_few : length (all_regions value.retired) < 2 ^ 32
-  retired_few = omega (arith, few_both value.disk.regions value.room.parts value.retired whole.apart, whole.geometry.regions_high)
+  pub retired_few : length (all_regions value.room.retired) < 2 ^ 32
+  retired_few = omega (arith, few_both value.disk.regions value.room.parts value.room.retired whole.apart, whole.geometry.regions_high)

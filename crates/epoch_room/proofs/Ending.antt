@@ -167,15 +167,12 @@ module _ (old new entry : Disk) (parts retired : List Part) (free : List ℕ) (t
   pub moved_whole : IfSome new.told (λ t. HoldsParts new.region_len t.bytes parts retired) → IsWhole (value_of new entry parts retired free target epoch sealed places shut)
   moved_whole held = record {
     geometry = still_geometry old new same whole.geometry;
-    region_len = refl;
-    faults = refl;
-    own_faults = refl;
-    alone = record { board = refl; eyes = refl; no_job = refl; none_open = same.eyes ∙ whole.alone.none_open };
+    of_disk = refl;
+    alone = record { board = refl; no_job = refl; none_open = same.eyes ∙ whole.alone.none_open };
     in_chain = whole.in_chain;
     ends = whole.ends;
     apart = subst (λ n. AreApart n (parts ++ retired)) (sym same.regions) whole.apart;
     fit = subst (λ n. AllByRecursion (FitsRegions n) (parts ++ retired)) (sym same.region_len) whole.fit;
-    leads = refl;
     rising = whole.rising;
     free = whole.free ∙ ap (λ n. regions_beside n (parts ++ retired)) (sym same.regions);
     epoch = record {
@@ -206,17 +203,14 @@ module _ (old new entry : Disk) (parts retired : List Part) (free : List ℕ) (t
       } in
       record {
         geometry = still_geometry old new same whole.geometry;
-        region_len = refl;
-        faults = refl;
-        own_faults = refl;
-        alone = record { board = refl; eyes = refl; no_job = refl; none_open = same.eyes ∙ whole.alone.none_open };
+        of_disk = refl;
+        alone = record { board = refl; no_job = refl; none_open = same.eyes ∙ whole.alone.none_open };
         in_chain = record { follow = follow_next parts (part_of region header) (ap (λ n. n + 1) whole.ends) (omega arith) (whole.epoch.epoch some) whole.in_chain.follow };
         ends = sym (end_next parts (part_of region header));
         apart = subst (λ n. AreApart n ((parts ++ part_of region header ∷ []) ++ retired)) (sym same.regions) (apart_next old.regions region parts retired header refl whole.apart first.there first.in_none);
         fit = subst (λ n. AllByRecursion (FitsRegions n) ((parts ++ part_of region header ∷ []) ++ retired)) (sym same.region_len)
             (all_append (FitsRegions old.region_len) (parts ++ part_of region header ∷ []) retired
             (all_append (FitsRegions old.region_len) parts (part_of region header ∷ []) (all_front (FitsRegions old.region_len) parts retired whole.fit) (own, tt)) (all_back (FitsRegions old.region_len) parts retired whole.fit));
-        leads = refl;
         rising = whole.rising;
         free = left_free old.regions region free parts retired header refl is ∙ ap (λ n. regions_beside n ((parts ++ part_of region header ∷ []) ++ retired)) (sym same.regions);
         epoch = record {

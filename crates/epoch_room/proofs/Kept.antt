@@ -1,5 +1,5 @@
 -- What a room stands for while its open epoch is sealed, and behind each answer.
-use Rattle.std.proofs.Common.{◌≡◌, ◌⊎◌, ℕ, ◌+◌, ◌<◌, ◌≤◌, ◌==◌, true, false, IsTrue, List, [], ◌∷◌, ◌++◌, length, Ok, sym, ap, subst, ◌∙◌, inl, inr, arith, append_assoc}
+use Rattle.std.proofs.Common.{◌≡◌, ◌⊎◌, ℕ, ◌+◌, ◌<◌, ◌≤◌, ◌==◌, true, false, IsTrue, List, [], ◌∷◌, ◌++◌, length, map, Ok, sym, ap, subst, ◌∙◌, inl, inr, arith, append_assoc}
 use Rattle.std.specs.Prelude.{filter}
 use Rattle.std.specs.List.{AllByRecursion}
 use Rattle.std.proofs.lemmas.List.Sums.{sum_by-append}
@@ -10,11 +10,13 @@ use Rattle.fine_model.specs.Merge.{is_ordered, encoded_len}
 use Rattle.fine_model.specs.Nodes.{Agrees}
 use Rattle.fine_model.specs.Trees.{IsSound}
 use Rattle.fine_model.specs.Regions.{Image, region_of, header_of, partition_bytes}
-use Rattle.fine_model.specs.Chain.{chain, chain_end, is_free}
+use Rattle.fine_model.specs.Chain.{AreRowsOf, chain, chain_end, is_free}
 use Rattle.fine_model.specs.ChainLaws.{part_of}
 use Rattle.fine_model.specs.History.{Commit, IsLegal, all_rows, upto, last_epoch}
 use Rattle.fine_model.specs.Headline.{ShowsSome}
-use Rattle.fine_model.specs.Room.{RoomState, HoldsLive}
+use Rattle.fine_model.specs.declared.law.RoomState.{RoomState}
+use Rattle.fine_model.specs.Boards.{posted, named, held_of}
+use Rattle.fine_model.specs.Room.{HoldsLive, KeepsImages, SameMembers}
 use Rattle.fine_model.specs.VersionLaws.{VersionsFollow, HaveSameRows}
 use Rattle.fine_model.proofs.Arranged.{arranged_agrees}
 use Rattle.fine_model.proofs.CallVersions.{legal_versions}
@@ -27,6 +29,7 @@ use Rattle.epoch_room.specs.Gate.{gate, IsSealing}
 use Rattle.epoch_room.specs.Meaning.{StandsTold}
 use Rattle.epoch_room.specs.Partition.{IsArranged}
 use Rattle.epoch_room.specs.Steps.{shut_state}
+use Rattle.epoch_room.specs.Value.{on}
 use Rattle.epoch_room.proofs.Arranging.{same_rows, arranged_order}
 use Rattle.epoch_room.proofs.Histories.{rows_together, last_open, none_behind, split_history, follow_split, sealed_by}
 use Rattle.epoch_room.proofs.Longer.{range_of, base_closed, closed_alike, longer, own_rows, live_kept}
@@ -42,6 +45,32 @@ sealed_room room region = record room {
   waiting = 0;
   used = 0;
 }
+
+-- what a room stands for does not change with the disk's counts and bytes
+module _ (room : RoomState) (disk : Disk) (before told : Told) (first : List Row) (e : ℕ) (history : List Commit) (len : disk.region_len ≡ room.region_len)
+    (eyes : map (λ eye. (eye.number, eye.regions)) disk.eyes ≡ room.eyes) (old : StandsTold room before told first e history) where
+  on_stands : StandsTold (on room disk) before told first e history
+  on_stands =
+      let counts = old.stands.counts in
+      let live = old.stands.live in
+      let images = subst (λ n. KeepsImages n first e room.sealed history (IsImageSince (clock_of before) told) (IsImageNow told)) (sym len) old.stands.images in
+      record {
+        stands = record {
+          legal = old.stands.legal;
+          counts = record {
+            places = counts.places;
+            epochs = counts.epochs;
+            sealed = counts.sealed;
+            open_epoch = counts.open_epoch;
+            eyes = subst (λ es. SameMembers (map named es) (map held_of (posted room.board))) (sym eyes) counts.eyes;
+          };
+          live = record { rows = live.rows; are_rows = subst (λ n. AreRowsOf n told.bytes room.parts live.rows) (sym len) live.are_rows; agrees = live.agrees; no_longer = live.no_longer };
+          images = images;
+        };
+        waiting = old.waiting;
+        small = old.small;
+        none_open = subst (λ n. room.is_shut ≡ false → (image : Image) → IsImageSince (clock_of before) told image → ShowsSome n first history e room.sealed image) (sym len) old.none_open;
+      }
 
 wider : (region_len : ℕ) (first : List Row) (history : List Commit) (low high low' high' : ℕ) (image : Image) → low' ≤ low → high ≤ high' → ShowsSome region_len first history low high image → ShowsSome region_len first history low' high' image
 wider region_len first history low high low' high' image l h some = record { e = some.e; rows = some.rows; shows = some.shows; from = omega (arith, some.from, l); to = omega (arith, some.to, h); agrees = some.agrees }
@@ -170,9 +199,8 @@ module _ (room : RoomState) (region : ℕ) (sorted : List Row) (bytes : List ℕ
     last_gate = gate_either room region sorted bytes a begins b.bytes (run.each b.bytes (now_since (clock_of a) b b.bytes run.later now))
 
     -- the disk failed
-    pub shut_stands : (disk : Disk) → StandsTold (shut_state room disk) before b first e history
-    unfolding shut_state
-    shut_stands disk =
+    closed_stands : StandsTold (record room { is_shut = true }) before b first e history
+    closed_stands =
         let live : HoldsLive room b.bytes (first ++ all_rows (upto history room.sealed)) = kept_live b.bytes last_gate in
         record {
           stands = record {
@@ -192,48 +220,56 @@ module _ (room : RoomState) (region : ℕ) (sorted : List Row) (bytes : List ℕ
           none_open = λ h. absurd (cc);
         }
 
+    pub shut_stands : (disk : Disk) → disk.region_len ≡ room.region_len → map (λ eye. (eye.number, eye.regions)) disk.eyes ≡ room.eyes → StandsTold (shut_state room disk) before b first e history
+    unfolding shut_state
+    shut_stands disk len eyes = on_stands (record room { is_shut = true }) disk before b first e history len eyes closed_stands
+
     -- the epoch was sealed
-    pub sealed_stands : b.bytes ≡ with_bytes (with_bytes a.bytes region 1 bytes) region 0 gate → ((image : Image) → IsImageNow b image → image ≡ b.bytes) → StandsTold (sealed_room room region) before b first e history
-    sealed_stands written still =
-        let opened : HasOpened region bytes a.bytes b.bytes = subst (HasOpened region bytes a.bytes) (sym written) (gate_opened room region sorted bytes a begins) in
-        let long = longer room.region_len region room.sealed room.parts room.open_rows sorted bytes a.bytes begins.small begins.is_chain begins.free begins.end begins.epoch begins.arranged begins.within begins.spelled b.bytes opened in
-        let own = own_rows room.region_len region room.sealed room.parts room.open_rows sorted bytes a.bytes begins.small begins.is_chain begins.free begins.end begins.epoch begins.arranged begins.within begins.spelled begins.fit ordered b.bytes opened in
-        let beyond : filter (λ d. d.epoch == room.sealed + 1 + 1) history ≡ [] = none_behind e (room.sealed + 1) history old.stands.counts.epochs (omega (arith, last)) in
-        record {
-          stands = record {
-            legal = old.stands.legal;
-            counts = record {
-              places = old.stands.counts.places;
-              epochs = old.stands.counts.epochs;
-              sealed = sealed_by e (room.sealed + 1) history last;
-              open_epoch = sym (ap all_rows beyond);
-              eyes = old.stands.counts.eyes;
-            };
-            live = record {
-              rows = old.stands.live.rows ++ sorted;
-              are_rows = long.rows old.stands.live.rows sorted old.stands.live.are_rows own;
-              agrees = agrees_more old.stands.live.rows old.stands.live.agrees;
-              no_longer =
-                  omega (
-                    arith,
-                    sum_by-append row_len old.stands.live.rows sorted,
-                    (alike room.open_rows sorted begins.arranged).same_len,
-                    ap rows_len log_more,
-                    sum_by-append row_len (first ++ all_rows (upto history room.sealed)) room.open_rows,
-                    old.stands.live.no_longer,
-                  );
-            };
-            images = record {
-              every_image = every;
-              now_sealed = λ image is.
-                  wider room.region_len first history (room.sealed + 1) (room.sealed + 1) (room.sealed + 1) (last_epoch e history) image (omega arith) (omega (arith, last))
-                  (opened_shows image (subst (HasOpened region bytes a.bytes) (sym (still image is)) opened));
-            };
-          };
-          waiting = sym (ap length beyond);
-          small = old.small;
-          none_open = λ h image since. wider room.region_len first history e (last_epoch e history) e (room.sealed + 1) image (omega arith) (omega (arith, last)) (every image since);
-        }
+    pub sealed_stands : (disk : Disk) → disk.region_len ≡ room.region_len → map (λ eye. (eye.number, eye.regions)) disk.eyes ≡ room.eyes
+        → b.bytes ≡ with_bytes (with_bytes a.bytes region 1 bytes) region 0 gate → ((image : Image) → IsImageNow b image → image ≡ b.bytes) → StandsTold (on (sealed_room room region) disk) before b first e history
+    sealed_stands disk len eyes written still = on_stands (sealed_room room region) disk before b first e history len eyes (opened_stands written still)
+      where
+        opened_stands : b.bytes ≡ with_bytes (with_bytes a.bytes region 1 bytes) region 0 gate → ((image : Image) → IsImageNow b image → image ≡ b.bytes) → StandsTold (sealed_room room region) before b first e history
+        opened_stands written still =
+            let opened : HasOpened region bytes a.bytes b.bytes = subst (HasOpened region bytes a.bytes) (sym written) (gate_opened room region sorted bytes a begins) in
+            let long = longer room.region_len region room.sealed room.parts room.open_rows sorted bytes a.bytes begins.small begins.is_chain begins.free begins.end begins.epoch begins.arranged begins.within begins.spelled b.bytes opened in
+            let own = own_rows room.region_len region room.sealed room.parts room.open_rows sorted bytes a.bytes begins.small begins.is_chain begins.free begins.end begins.epoch begins.arranged begins.within begins.spelled begins.fit ordered b.bytes opened in
+            let beyond : filter (λ d. d.epoch == room.sealed + 1 + 1) history ≡ [] = none_behind e (room.sealed + 1) history old.stands.counts.epochs (omega (arith, last)) in
+            record {
+              stands = record {
+                legal = old.stands.legal;
+                counts = record {
+                  places = old.stands.counts.places;
+                  epochs = old.stands.counts.epochs;
+                  sealed = sealed_by e (room.sealed + 1) history last;
+                  open_epoch = sym (ap all_rows beyond);
+                  eyes = old.stands.counts.eyes;
+                };
+                live = record {
+                  rows = old.stands.live.rows ++ sorted;
+                  are_rows = long.rows old.stands.live.rows sorted old.stands.live.are_rows own;
+                  agrees = agrees_more old.stands.live.rows old.stands.live.agrees;
+                  no_longer =
+                      omega (
+                        arith,
+                        sum_by-append row_len old.stands.live.rows sorted,
+                        (alike room.open_rows sorted begins.arranged).same_len,
+                        ap rows_len log_more,
+                        sum_by-append row_len (first ++ all_rows (upto history room.sealed)) room.open_rows,
+                        old.stands.live.no_longer,
+                      );
+                };
+                images = record {
+                  every_image = every;
+                  now_sealed = λ image is.
+                      wider room.region_len first history (room.sealed + 1) (room.sealed + 1) (room.sealed + 1) (last_epoch e history) image (omega arith) (omega (arith, last))
+                      (opened_shows image (subst (HasOpened region bytes a.bytes) (sym (still image is)) opened));
+                };
+              };
+              waiting = sym (ap length beyond);
+              small = old.small;
+              none_open = λ h image since. wider room.region_len first history e (last_epoch e history) e (room.sealed + 1) image (omega arith) (omega (arith, last)) (every image since);
+            }
 
   -- memory ran out
   module _ (b : Told) (run : LeavesOnly (SameOutside region 1 (1 + length bytes) a.bytes) a b) (now : IsImageNow b b.bytes) where
@@ -246,8 +282,8 @@ module _ (room : RoomState) (region : ℕ) (sorted : List Row) (bytes : List ℕ
       | inr torn ↦ wider room.region_len first history room.sealed room.sealed e room.sealed image low (omega arith) (torn_shows image torn)
     ]
 
-    pub open_stands : StandsTold room before b first e history
-    open_stands =
+    torn_stands : StandsTold room before b first e history
+    torn_stands =
         let live : HoldsLive room b.bytes (first ++ all_rows (upto history room.sealed)) =
         kept_live b.bytes (inl (gate_closed room region sorted bytes a begins b.bytes (run.each b.bytes (now_since (clock_of a) b b.bytes run.later now)))) in
         record {
@@ -266,3 +302,6 @@ module _ (room : RoomState) (region : ℕ) (sorted : List Row) (bytes : List ℕ
           small = old.small;
           none_open = λ h image since. torn_since image since;
         }
+
+    pub open_stands : (disk : Disk) → disk.region_len ≡ room.region_len → map (λ eye. (eye.number, eye.regions)) disk.eyes ≡ room.eyes → StandsTold (on room disk) before b first e history
+    open_stands disk len eyes = on_stands room disk before b first e history len eyes torn_stands

@@ -61,7 +61,7 @@ module _ (region_len region s : ℕ) (parts : List Part) (rows sorted : List Row
   pub longer : (image : Image) → HasOpened region bytes base image → IsLonger region_len region base image parts (header_of (range_of s) rows)
   longer image is =
       seal_law region_len region base image parts (header_of (range_of s) rows)
-      (record { differs = is.differs; free = free; is_chain = is_chain; has_header = has_header image is; alone = refl; next = ap (λ n. n + 1) end })
+      (record { differs = is.differs; free = (free, tt); is_chain = is_chain; has_header = has_header image is; next = ap (λ n. n + 1) end })
 
   pub own_rows : AllByRecursion (FitsRow mark.Two) rows → IsTrue (is_ordered sorted) → (image : Image) → HasOpened region bytes base image → IsSealed region_len image region (range_of s) sorted
   own_rows fit ordered image is =

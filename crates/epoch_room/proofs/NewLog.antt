@@ -7,7 +7,7 @@ use Rattle.fine_model.specs.Trees.{is_distinct}
 use Rattle.fine_model.specs.Chain.{parts_from, apart, chain_of, chain, taken}
 use Rattle.log_partition.proofs.Heads.{in_closed}
 use Rattle.log_disk.specs.Disk.{zeros, told_anew, new_disk}
-use Rattle.fine_model.specs.Room.{RoomState}
+use Rattle.fine_model.specs.declared.law.RoomState.{RoomState}
 use Rattle.epoch_room.specs.Value.{RoomValue}
 use Rattle.epoch_room.specs.Whole.{AreParts}
 use Rattle.epoch_room.specs.Steps.{SealsOr, shut_state}

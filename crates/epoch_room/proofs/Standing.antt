@@ -1,6 +1,6 @@
 -- What a room stands for when it is made, and with an entry more.
 use Rattle.std.proofs.Common.{◌≡◌, ℕ, ◌+◌, ◌≤◌, ◌==◌, false, IsTrue, List, [], ◌∷◌, ◌++◌, length, Some, None, Ok, refl, sym, ap, subst, ◌∙◌, inl, inr, arith, append-nil, length-append}
-use Rattle.std.specs.Prelude.{Option, Result, filter, IfSome}
+use Rattle.std.specs.Prelude.{Option, Result, filter, map, IfSome}
 use Rattle.std.specs.List.{AllByRecursion}
 use Rattle.fine_model.specs.declared.Damage.{Damage}
 use Rattle.fine_model.specs.declared.Part.{Part}
@@ -12,7 +12,9 @@ use Rattle.fine_model.specs.Regions.{Image}
 use Rattle.fine_model.specs.Chain.{AreRowsOf, Shows, chain_end}
 use Rattle.fine_model.specs.History.{Commit, IsLegal, all_rows, upto, last_epoch}
 use Rattle.fine_model.specs.Headline.{ShowsSome}
+use Rattle.fine_model.specs.Boards.{named}
 use Rattle.fine_model.specs.Laws.{is_small}
+use Rattle.fine_model.specs.Room.{SameMembers}
 use Rattle.fine_model.proofs.NodeLaws.{Agrees-refl}
 use Rattle.fine_model.proofs.Order.{all_map}
 use Rattle.fine_model.proofs.Sets.{all_append}
@@ -44,7 +46,7 @@ nothing_more rows n = append-nil rows
 same_log : (rows : List Row) (n : ℕ) → Agrees rows (rows ++ all_rows (upto [] n))
 same_log rows n = subst (Agrees rows) (sym (nothing_more rows n)) (Agrees-refl rows)
 
-module _ (disk : Disk) (told : Told) (sound : IsToldOf disk told) (nothing : disk.unsynced ≡ []) (live retired : List Part) (holds : HoldsParts disk.region_len told.bytes live retired) where
+module _ (disk : Disk) (told : Told) (sound : IsToldOf disk told) (nothing : disk.unsynced ≡ []) (no_eyes : disk.eyes ≡ []) (live retired : List Part) (holds : HoldsParts disk.region_len told.bytes live retired) where
   -- where nothing is unsynced, a crash leaves what a read gives
   still : (image : Image) → IsImageSince (clock_of told) told image → image ≡ told.bytes
   still image since = synced_now disk told told image sound (inl (nothing, refl)) (only_now told image since)
@@ -58,7 +60,7 @@ module _ (disk : Disk) (told : Told) (sound : IsToldOf disk told) (nothing : dis
       record {
         stands = record {
           legal = inl refl;
-          counts = record { places = refl; epochs = tt; sealed = sym end; open_epoch = refl; eyes = λ x. (λ h. h, λ h. h) };
+          counts = record { places = refl; epochs = tt; sealed = sym end; open_epoch = refl; eyes = subst (λ eyes. SameMembers (map named (map (λ eye. (eye.number, eye.regions)) eyes)) []) (sym no_eyes) (λ x. (λ h. h, λ h. h)) };
           live = record {
             rows = rows;
             are_rows = subst (λ ps. AreRowsOf disk.region_len told.bytes ps rows) parts shows.are_rows;
@@ -78,7 +80,7 @@ made_stands disk live retired value is idle parts sound = subst (λ (v : RoomVal
   where
     at : (told : Option Told) → disk.told ≡ told → IfSome told (IsToldOf disk) → IfSome told (λ t. HoldsParts disk.region_len t.bytes live retired) → StandsAtFirst (made disk live retired) told
     at None e s h = tt
-    at (Some told) e s h = λ n rows shows. subst (λ (t : Option Told). StandsWhere (made disk live retired).room t t rows n []) (sym e) (first_stands disk told s idle.synced live retired h n rows shows)
+    at (Some told) e s h = λ n rows shows. subst (λ (t : Option Told). StandsWhere (made disk live retired).room t t rows n []) (sym e) (first_stands disk told s idle.synced idle.no_eyes live retired h n rows shows)
 
 -- ---- an entry more
 

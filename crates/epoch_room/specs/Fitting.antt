@@ -1,7 +1,7 @@
 -- Whether rows may be appended, and a room in numbers.
 use Rattle.std.specs.Prelude.{ℕ, ◌+◌, ◌*◌, ◌==◌, nat_lt, nat_le, Bool, ◌&&◌, ◌||◌, if◌then◌else◌, length}
 use Rattle.fine_model.specs.RowBytes.{greatest}
-use Rattle.fine_model.specs.Room.{RoomState}
+use Rattle.fine_model.specs.declared.law.RoomState.{RoomState}
 use Rattle.log_partition.specs.Encoding.{saturated}
 use Rattle.epoch_room.specs.Value.{RoomValue, all_regions}
 use Rattle.epoch_room.specs.declared.answers.Fit.{Fit}
@@ -29,7 +29,7 @@ fit_of value cost =
     if value.room.is_shut then fit.Shut value.room.sealed
     else (if is_spent value.room then fit.Number (value.room.sealed + 1) value.room.places
     else (if nat_lt value.room.region_len (need_alone cost) then fit.TooLarge (need_alone cost) value.room.region_len
-    else (if is_full value.room then fit.Full (length value.room.free) (length (all_regions value.room.parts)) (length (all_regions value.retired))
+    else (if is_full value.room then fit.Full (length value.room.free) (length (all_regions value.room.parts)) (length (all_regions value.room.retired))
     else (if nat_lt value.room.region_len (need_in_epoch value.room cost) then fit.EpochFull (need_in_epoch value.room cost) value.room.region_len
     else fit.Fits))))
 
@@ -38,7 +38,7 @@ unfoldable pub counts_of : RoomValue → Counts
 counts_of value = record {
   free = length value.room.free;
   live = length (all_regions value.room.parts);
-  retired = length (all_regions value.retired);
+  retired = length (all_regions value.room.retired);
   sealed = value.room.sealed;
   place = value.room.places;
   waiting = value.room.waiting;

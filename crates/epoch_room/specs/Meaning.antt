@@ -5,7 +5,8 @@ use Rattle.fine_model.specs.Trees.{IsSound}
 use Rattle.fine_model.specs.History.{Commit, IsLegal, last_epoch}
 use Rattle.fine_model.specs.Headline.{ShowsSome}
 use Rattle.fine_model.specs.Chain.{Shows}
-use Rattle.fine_model.specs.Room.{RoomState, StandsFor}
+use Rattle.fine_model.specs.declared.law.RoomState.{RoomState}
+use Rattle.fine_model.specs.Room.{StandsFor}
 use Rattle.fine_model.specs.Laws.{AreSmall}
 use Rattle.fine_model.specs.declared.law.Origin.{Origin}
 use Rattle.log_disk.specs.Disk.{Disk, Told, Image, clock_of, IsImageNow, IsImageSince}

@@ -1,12 +1,12 @@
 -- What calls make of a room.
-use Rattle.std.specs.Prelude.{◌≡◌, ℕ, ◌+◌, ◌≤◌, ◌==◌, true, false, if◌then◌else◌, List, [], ◌∷◌, ◌++◌, drop, find, nat_le, Option, None, Result, Ok, Err, unwrap_or, slice_get}
+use Rattle.std.specs.Prelude.{◌≡◌, ℕ, ◌+◌, ◌≤◌, ◌==◌, true, false, if◌then◌else◌, List, [], ◌∷◌, ◌++◌, drop, map, find, nat_le, Option, None, Result, Ok, Err, unwrap_or, slice_get}
 use Rattle.fine_model.specs.declared.Row.{Row}
 use Rattle.fine_model.specs.declared.Part.{Part}
 use Rattle.fine_model.specs.Merge.{cost}
 use Rattle.fine_model.specs.Regions.{header_of}
-use Rattle.fine_model.specs.Room.{RoomState}
+use Rattle.fine_model.specs.declared.law.RoomState.{RoomState}
 use Rattle.log_disk.specs.Disk.{Disk, SameBeside, HasRisen}
-use Rattle.epoch_room.specs.Value.{RoomValue}
+use Rattle.epoch_room.specs.Value.{RoomValue, on}
 use Rattle.epoch_room.specs.declared.answers.RoomFault.{RoomFault}
 use Rattle.epoch_room.specs.declared.answers.RoomFault.TheVariants as room_fault
 
@@ -20,7 +20,6 @@ appended value rows = record {
     waiting = value.room.waiting + 1;
     used = value.room.used + cost rows;
   };
-  retired = value.retired;
   target = if value.room.waiting == 0 then slice_get value.room.free 0 else value.target;
   disk = value.disk;
   entry = value.entry;
@@ -45,7 +44,7 @@ sealed_state value = record value.room {
 
 -- the state of a room whose disk failed
 unfoldable pub shut_state : RoomState → Disk → RoomState
-shut_state room disk = record room { is_shut = true; faults = disk.faults; own_faults = disk.own_faults }
+shut_state room disk = on (record room { is_shut = true }) disk
 
 -- the disk's counts did not rise
 pub record KeepsCounts (old new : Disk) : Type 0 where
@@ -54,9 +53,9 @@ pub record KeepsCounts (old new : Disk) : Type 0 where
 
 -- the epoch was sealed
 pub record Seals (old new : RoomValue) : Type 0 where
-  pub room : new.room ≡ sealed_state old
-  pub retired : new.retired ≡ old.retired
+  pub room : new.room ≡ on (sealed_state old) new.disk
   pub target : new.target ≡ None
+  pub region_len : new.room.region_len ≡ old.room.region_len
   pub entry : new.entry ≡ old.entry
   pub beside : SameBeside old.disk new.disk
   pub counts : KeepsCounts old.disk new.disk
@@ -64,8 +63,8 @@ pub record Seals (old new : RoomValue) : Type 0 where
 -- the disk failed, and the room is shut
 pub record Shuts (old new : RoomValue) : Type 0 where
   pub room : new.room ≡ shut_state old.room new.disk
-  pub retired : new.retired ≡ old.retired
   pub target : new.target ≡ old.target
+  pub region_len : new.room.region_len ≡ old.room.region_len
   pub entry : new.entry ≡ old.entry
   pub beside : SameBeside old.disk new.disk
   pub faults : HasRisen old.disk.faults new.disk.faults
@@ -74,9 +73,9 @@ pub record Shuts (old new : RoomValue) : Type 0 where
 
 -- memory ran out, and the room is as it was, but that its target may hold other bytes behind its closed gate
 pub record StaysOpen (old new : RoomValue) : Type 0 where
-  pub room : new.room ≡ old.room
-  pub retired : new.retired ≡ old.retired
+  pub room : new.room ≡ on old.room new.disk
   pub target : new.target ≡ old.target
+  pub region_len : new.room.region_len ≡ old.room.region_len
   pub entry : new.entry ≡ old.entry
   pub beside : SameBeside old.disk new.disk
   pub counts : KeepsCounts old.disk new.disk
@@ -89,5 +88,5 @@ SealsOr old new (Err (room_fault.Shut epoch)) = (old.room.is_shut ≡ true) × (
 SealsOr old new (Err room_fault.NoMemory) = (old.room.is_shut ≡ false) × StaysOpen old new
 
 -- the lowest lead of a retired part from a number on
-abbrev pub retired_from : List ℕ → ℕ → Option ℕ
-retired_from leads from = find (nat_le from) leads
+abbrev pub retired_from : List Part → ℕ → Option ℕ
+retired_from retired from = find (nat_le from) (map (λ p. p.region) retired)

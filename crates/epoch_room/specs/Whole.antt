@@ -6,10 +6,11 @@ use Rattle.fine_model.specs.declared.Mark.TheVariants as mark
 use Rattle.fine_model.specs.RowBytes.{greatest, FitsRow}
 use Rattle.fine_model.specs.Merge.{cost, fits_in}
 use Rattle.fine_model.specs.Regions.{Image, region_of, is_sealed, HasHeader}
+use Rattle.fine_model.specs.Boards.{posted}
 use Rattle.fine_model.specs.Chain.{chain, chain_end}
 use Rattle.fine_model.specs.Trees.{is_distinct}
 use Rattle.log_disk.specs.Disk.{Disk, Told, clock_of}
-use Rattle.epoch_room.specs.Value.{RoomValue, all_regions, regions_beside}
+use Rattle.epoch_room.specs.Value.{RoomValue, all_regions, regions_beside, on}
 
 -- the limits of a disk: 4 to 64 regions of 4,096 to 67,108,864 bytes, whole KiB
 pub record HasGeometry (disk : Disk) : Type 0 where
@@ -90,28 +91,24 @@ HasPassed (Some before) None = ⊥
 
 -- no view is out, and no merge
 pub record IsAlone (value : RoomValue) : Type 0 where
-  pub board : value.room.board_eyes ≡ []
-  pub eyes : value.room.open_eyes ≡ []
-  pub no_job : value.room.has_job ≡ false
+  pub board : posted value.room.board ≡ []
+  pub no_job : value.room.job ≡ None
   pub none_open : value.disk.eyes ≡ []
 
 pub record IsWhole (value : RoomValue) : Type 0 where
   pub geometry : HasGeometry value.disk
-  pub region_len : value.room.region_len ≡ value.disk.region_len
-  pub faults : value.room.faults ≡ value.disk.faults
-  pub own_faults : value.room.own_faults ≡ value.disk.own_faults
+  pub of_disk : value.room ≡ on value.room value.disk
   pub alone : IsAlone value
   pub in_chain : AreInChain value.room.parts
   pub ends : value.room.sealed ≡ chain_end value.room.parts
-  pub apart : AreApart value.disk.regions (value.room.parts ++ value.retired)
-  pub fit : AllByRecursion (FitsRegions value.disk.region_len) (value.room.parts ++ value.retired)
-  pub leads : value.room.retired ≡ map (λ p. p.region) value.retired
-  pub rising : AreRising value.room.retired
+  pub apart : AreApart value.disk.regions (value.room.parts ++ value.room.retired)
+  pub fit : AllByRecursion (FitsRegions value.disk.region_len) (value.room.parts ++ value.room.retired)
+  pub rising : AreRising (map (λ p. p.region) value.room.retired)
   -- what no part has is free, or the target
-  pub free : option_to_list value.target ++ value.room.free ≡ regions_beside value.disk.regions (value.room.parts ++ value.retired)
+  pub free : option_to_list value.target ++ value.room.free ≡ regions_beside value.disk.regions (value.room.parts ++ value.room.retired)
   pub epoch : IsOpenEpoch value
   pub entry_len : value.entry.region_len ≡ value.disk.region_len
   pub time : HasPassed value.entry.told value.disk.told
   -- unless a call on the device failed
   pub synced : value.room.is_shut ≡ false → value.disk.unsynced ≡ []
-  pub told : value.room.is_shut ≡ false → IfSome value.disk.told (λ told. HoldsParts value.disk.region_len told.bytes value.room.parts value.retired)
+  pub told : value.room.is_shut ≡ false → IfSome value.disk.told (λ told. HoldsParts value.disk.region_len told.bytes value.room.parts value.room.retired)

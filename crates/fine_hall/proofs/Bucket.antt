@@ -14,7 +14,7 @@ use Rattle.fine_places.specs.History.{touching}
 use Rattle.fine_hall.specs.declared.turn.Turn.{Turn}
 use Rattle.fine_hall.specs.declared.law.Beginning.{Beginning}
 use Rattle.fine_hall.specs.Turns.{added, commits, is_in, is_some_in, in_bucket, touches_bucket}
-use Rattle.fine_hall.specs.Laws.{IsUpTo, IsBucketFor, node_id}
+use Rattle.fine_model.specs.Buckets.{IsUpTo, IsBucketFor, node_id}
 
 bool_cases : (b : Bool) → (b ≡ true) ⊎ (b ≡ false)
 bool_cases true = inl refl
@@ -114,10 +114,11 @@ pub same_up_to : (e k n : ℕ) (h h' : List Commit) → in_bucket k h ≡ in_buc
 same_up_to e k n h h' same u = up_to_all e (node_id k n) h' (subst (IsUpTo e (node_id k n)) same (up_to_in e (node_id k n) h u))
 
 -- what a bucket stands for it stands for after each history with the same entries in it
-pub same_bucket : {B : Type 0} (bucket : B → ℕ) (cached : B → ℕ → Option (Content × ℕ)) (x : Beginning) (k p : ℕ) (b : B) (h h' : List Commit) → in_bucket k h ≡ in_bucket k h'
-    → IsBucketFor bucket cached x k p b h → IsBucketFor bucket cached x k p b h'
-same_bucket bucket cached x k p b h h' same s = record {
+pub same_bucket : {B : Type 0} (bucket : B → ℕ) (cached : B → ℕ → Option (Content × ℕ)) (is_settled : B → Type 0) (x : Beginning) (k p : ℕ) (b : B) (h h' : List Commit) → in_bucket k h ≡ in_bucket k h'
+    → IsBucketFor bucket cached is_settled x.log k p b h → IsBucketFor bucket cached is_settled x.log k p b h'
+same_bucket bucket cached is_settled x k p b h h' same s = record {
   number = s.number;
+  settled = s.settled;
   nodes = λ n kept there. let q = s.nodes n kept there in record {
     content = λ e first began. q.content e first began ∙ same_content k h h' same first n;
     epoch = same_up_to kept.1 k n h h' same q.epoch;
@@ -134,10 +135,10 @@ in_again k (c ∷ cs) = ⊎_elim
     (bool_cases (is_in k c.entry))
 
 -- what lies at a bucket's place stands for the whole history as for what touches the place
-pub for_all : {B : Type 0} (bucket : B → ℕ) (cached : B → ℕ → Option (Content × ℕ)) (x : Beginning) (k p : ℕ) (b : B) (turns : List (Placed Turn)) → k < places.room
-    → IsBucketFor bucket cached x k p b (commits (touching touches_bucket k turns)) → IsBucketFor bucket cached x k p b (commits turns)
-for_all bucket cached x k p b turns near s = same_bucket bucket cached x k p b _ (commits turns) (ap (in_bucket k) (commits_touching k near turns) ∙ in_again k (commits turns)) s
+pub for_all : {B : Type 0} (bucket : B → ℕ) (cached : B → ℕ → Option (Content × ℕ)) (is_settled : B → Type 0) (x : Beginning) (k p : ℕ) (b : B) (turns : List (Placed Turn)) → k < places.room
+    → IsBucketFor bucket cached is_settled x.log k p b (commits (touching touches_bucket k turns)) → IsBucketFor bucket cached is_settled x.log k p b (commits turns)
+for_all bucket cached is_settled x k p b turns near s = same_bucket bucket cached is_settled x k p b _ (commits turns) (ap (in_bucket k) (commits_touching k near turns) ∙ in_again k (commits turns)) s
 
-pub for_touching : {B : Type 0} (bucket : B → ℕ) (cached : B → ℕ → Option (Content × ℕ)) (x : Beginning) (k p : ℕ) (b : B) (turns : List (Placed Turn)) → k < places.room
-    → IsBucketFor bucket cached x k p b (commits turns) → IsBucketFor bucket cached x k p b (commits (touching touches_bucket k turns))
-for_touching bucket cached x k p b turns near s = same_bucket bucket cached x k p b (commits turns) _ (sym (ap (in_bucket k) (commits_touching k near turns) ∙ in_again k (commits turns))) s
+pub for_touching : {B : Type 0} (bucket : B → ℕ) (cached : B → ℕ → Option (Content × ℕ)) (is_settled : B → Type 0) (x : Beginning) (k p : ℕ) (b : B) (turns : List (Placed Turn)) → k < places.room
+    → IsBucketFor bucket cached is_settled x.log k p b (commits turns) → IsBucketFor bucket cached is_settled x.log k p b (commits (touching touches_bucket k turns))
+for_touching bucket cached is_settled x k p b turns near s = same_bucket bucket cached is_settled x k p b (commits turns) _ (sym (ap (in_bucket k) (commits_touching k near turns) ∙ in_again k (commits turns))) s

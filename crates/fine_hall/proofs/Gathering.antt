@@ -8,7 +8,7 @@ use Rattle.fine_model.specs.declared.Row.{Row}
 use Rattle.fine_model.specs.declared.law.Origin.{Origin}
 use Rattle.fine_model.specs.History.{Commit}
 use Rattle.fine_model.specs.Nodes.{Content}
-use Rattle.fine_model.specs.Room.{RoomState}
+use Rattle.fine_model.specs.declared.law.RoomState.{RoomState}
 use Rattle.fine_places.specs.declared.model.Placed.{Placed}
 use Rattle.fine_places.specs.declared.model.Share.{Share}
 use Rattle.fine_places.specs.declared.model.Known.{Known}
@@ -80,15 +80,15 @@ pub no_passes : (l : List Pass) → length l ≡ 0 → l ≡ []
 no_passes [] e = refl
 no_passes (p ∷ ps) e = absurd (omega arith)
 
-module _ {R B : Type 0} (state : R → RoomState) (origin : R → Origin) (stands_for : R → List Row → ℕ → List Commit → Type 0) (bucket : B → ℕ) (cached : B → ℕ → Option (Content × ℕ)) (x : Beginning) (p : ℕ) (all : List (Placed Turn)) where
+module _ {R B : Type 0} (state : R → RoomState) (origin : R → Origin) (stands_for : R → List Row → ℕ → List Commit → Type 0) (bucket : B → ℕ) (cached : B → ℕ → Option (Content × ℕ)) (is_settled : B → Type 0) (x : Beginning) (p : ℕ) (all : List (Placed Turn)) where
   -- the room is in the last slot
-  pub room_there : (thing : Load R B) (slots : List (Option (Load R B))) → get_elem? slots places.room ≡ some (Some thing) → Stands state origin stands_for bucket cached x places.room p thing (touching touches_bucket places.room all) → (room : R) × HoldsRoom room slots
+  pub room_there : (thing : Load R B) (slots : List (Option (Load R B))) → get_elem? slots places.room ≡ some (Some thing) → Stands state origin stands_for bucket cached is_settled x places.room p thing (touching touches_bucket places.room all) → (room : R) × HoldsRoom room slots
   room_there (load.Room room entry epoch) slots at s = (room, (entry, epoch, ap (get_elem? slots) room_256 ∙ at))
-  room_there (load.Bucket b) slots at s = absurd (not_bucket state origin stands_for bucket cached x places.room p (load.Bucket b) b (touching touches_bucket places.room all) refl refl s)
+  room_there (load.Bucket b) slots at s = absurd (not_bucket state origin stands_for bucket cached is_settled x places.room p (load.Bucket b) b (touching touches_bucket places.room all) refl refl s)
 
-  pub room_stands : (thing : Load R B) (slots : List (Option (Load R B))) (room : R) → get_elem? slots places.room ≡ some (Some thing) → Stands state origin stands_for bucket cached x places.room p thing (touching touches_bucket places.room all) → HoldsRoom room slots
+  pub room_stands : (thing : Load R B) (slots : List (Option (Load R B))) (room : R) → get_elem? slots places.room ≡ some (Some thing) → Stands state origin stands_for bucket cached is_settled x places.room p thing (touching touches_bucket places.room all) → HoldsRoom room slots
       → IsRoomFor state origin stands_for x p room (commits all) × ((state room).faults ≡ faults_after x.log.faults all)
-  room_stands thing slots room at s h = found_room state origin stands_for bucket cached x places.room p thing room h.0 h.1 all refl (some_same _ _ (some-injective _ _ (sym at ∙ (ap (get_elem? slots) (sym room_256) ∙ h.2)))) s
+  room_stands thing slots room at s h = found_room state origin stands_for bucket cached is_settled x places.room p thing room h.0 h.1 all refl (some_same _ _ (some-injective _ _ (sym at ∙ (ap (get_elem? slots) (sym room_256) ∙ h.2)))) s
 
 -- ---- emptying the slots, but the room's, one after another
 

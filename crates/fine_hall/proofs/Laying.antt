@@ -10,7 +10,7 @@ use Rattle.fine_model.specs.declared.Row.{Row}
 use Rattle.fine_model.specs.declared.law.Origin.{Origin}
 use Rattle.fine_model.specs.History.{Commit}
 use Rattle.fine_model.specs.Nodes.{Content}
-use Rattle.fine_model.specs.Room.{RoomState}
+use Rattle.fine_model.specs.declared.law.RoomState.{RoomState}
 use Rattle.fine_places.specs.declared.model.Known.{Known}
 use Rattle.fine_places.specs.History as places
 use Rattle.fine_places.specs.History.{most_seats, by_seat}
@@ -21,7 +21,8 @@ use Rattle.fine_hall.specs.declared.law.Load.{Load}
 use Rattle.fine_hall.specs.declared.law.Load.TheVariants as load
 use Rattle.fine_hall.specs.declared.pass.Pass.{Pass}
 use Rattle.fine_hall.specs.Turns.{commits}
-use Rattle.fine_hall.specs.Laws.{AreTurns, IsRoomFor, IsBucketFor, Stands, beginning}
+use Rattle.fine_model.specs.Buckets.{IsBucketFor}
+use Rattle.fine_hall.specs.Laws.{AreTurns, IsRoomFor, Stands, beginning}
 use Rattle.fine_hall.specs.Passes.{PassView, first_mine, known, turns, own_turns, IsPass}
 use Rattle.fine_hall.specs.Halls.{IsFreshRoom, AreFreshBuckets, IsFreshPass}
 use Rattle.fine_hall.specs.Opening.{bucket_slot, room_slot, laid, HandedOut}
@@ -141,7 +142,7 @@ fresh_turns x = record { legal = λ e first began. record { each = λ k c at. ab
     none_at : (k : ℕ) (c : Commit) → slice_get [] k ≡ Some c → ⊥
     none_at k c at = no_slot c (at)
 
-module _ {R B : Type 0} (state : R → RoomState) (origin : R → Origin) (stands_for : R → List Row → ℕ → List Commit → Type 0) (bucket : B → ℕ) (cached : B → ℕ → Option (Content × ℕ)) where
+module _ {R B : Type 0} (state : R → RoomState) (origin : R → Origin) (stands_for : R → List Row → ℕ → List Commit → Type 0) (bucket : B → ℕ) (cached : B → ℕ → Option (Content × ℕ)) (is_settled : B → Type 0) where
   fresh_room : (seats : ℕ) (room : R) → IsFreshRoom state origin stands_for room → IsRoomFor state origin stands_for (beginning seats (state room).sealed (origin room)) (state room).sealed room []
   fresh_room seats room f = record {
     log = refl;
@@ -154,19 +155,20 @@ module _ {R B : Type 0} (state : R → RoomState) (origin : R → Origin) (stand
     shut = λ is. absurd (true≢false (sym is ∙ f.not_shut));
   }
 
-  fresh_bucket : (x : Beginning) (k : ℕ) (b : B) → bucket b ≡ k → ((n : ℕ) → cached b n ≡ None) → IsBucketFor bucket cached x k x.sealed b []
-  fresh_bucket x k b number none = record {
+  fresh_bucket : (x : Beginning) (k : ℕ) (b : B) → bucket b ≡ k → is_settled b → ((n : ℕ) → cached b n ≡ None) → IsBucketFor bucket cached is_settled x.log k x.sealed b []
+  fresh_bucket x k b number settled none = record {
     number = number;
+    settled = settled;
     nodes = λ n kept there. absurd (no_slot kept (sym (none n) ∙ there));
     absent = λ n _. tt;
   }
 
-  pub lies : (seats : ℕ) (room : R) (all : List B) (slots : List (Option (Load R B))) → slots ≡ laid room all → IsFreshRoom state origin stands_for room → AreFreshBuckets bucket cached all
-      → (k : ℕ) → k ≤ places.room → (thing : Load R B) × (get_elem? slots k ≡ some (Some thing)) × Stands state origin stands_for bucket cached (beginning seats (state room).sealed (origin room)) k (state room).sealed thing []
+  pub lies : (seats : ℕ) (room : R) (all : List B) (slots : List (Option (Load R B))) → slots ≡ laid room all → IsFreshRoom state origin stands_for room → AreFreshBuckets bucket cached is_settled all
+      → (k : ℕ) → k ≤ places.room → (thing : Load R B) × (get_elem? slots k ≡ some (Some thing)) × Stands state origin stands_for bucket cached is_settled (beginning seats (state room).sealed (origin room)) k (state room).sealed thing []
   unfolding places.room commits
   lies seats room all slots is f b k le = ⊎_elim
       (λ (near : k < 256). let at = at_bucket room all k (let long = b.all in let less : k < length all = omega arith in less) in let e = b.empty k at.0 at.1 in
-      (load.Bucket at.0, ap (λ l. get_elem? l k) is ∙ at.2, ((let less : k < 256 = omega arith in less), fresh_bucket (beginning seats (state room).sealed (origin room)) k at.0 e.0 e.1)))
+      (load.Bucket at.0, ap (λ l. get_elem? l k) is ∙ at.2, ((let less : k < 256 = omega arith in less), fresh_bucket (beginning seats (state room).sealed (origin room)) k at.0 e.0 e.1 e.2)))
       (λ (e : k ≡ 256). (load.Room room None 0, ap (λ l. get_elem? l k) is ∙ (ap (get_elem? (laid room all)) (e ∙ sym b.all) ∙ at_room room all), (e, fresh_room seats room f, f.faults)))
       (split_at k le)
     where

@@ -10,7 +10,7 @@ use Rattle.fine_model.specs.declared.Row.{Row}
 use Rattle.fine_model.specs.declared.law.Origin.{Origin}
 use Rattle.fine_model.specs.History.{Commit, IsLegal}
 use Rattle.fine_model.specs.Nodes.{Content}
-use Rattle.fine_model.specs.Room.{RoomState}
+use Rattle.fine_model.specs.declared.law.RoomState.{RoomState}
 use Rattle.fine_places.specs.declared.model.Placed.{Placed}
 use Rattle.fine_places.specs.declared.model.Known.{Known}
 use Rattle.fine_places.specs.History as places
@@ -22,8 +22,9 @@ use Rattle.fine_hall.specs.declared.law.Beginning.{Beginning}
 use Rattle.fine_hall.specs.declared.law.Load.{Load}
 use Rattle.fine_hall.specs.declared.law.Load.TheVariants as load
 use Rattle.fine_hall.specs.declared.pass.Pass.{Pass}
-use Rattle.fine_hall.specs.Turns.{added, commits, in_bucket, is_some_in, touches_bucket, numbers_of, faults_after, faults_of, NeverFalls}
-use Rattle.fine_hall.specs.Laws.{Began, AreTurns, IsRoomFor, IsBucketFor, Stands, adds, level, turn_of}
+use Rattle.fine_hall.specs.Turns.{added, commits, in_bucket, is_some_in, touches_bucket, faults_after, faults_of, NeverFalls}
+use Rattle.fine_model.specs.Buckets.{Began, IsBucketFor}
+use Rattle.fine_hall.specs.Laws.{AreTurns, IsRoomFor, Stands, adds, level, turn_of}
 use Rattle.fine_hall.specs.Passes.{PassView, first_known, first_mine, known, turns, own_turns, seen, published, found_held, faults_seen, HasPlace, LacksPlace, IsPass}
 use Rattle.fine_hall.specs.Halls.{Takes, Stays, FindsHeld, Gives, GivesRoom, MayGive}
 use Rattle.fine_hall.proofs.Bucket.{commits_more, commits_touching, for_all, for_touching}
@@ -120,9 +121,9 @@ whole : (all : List (Placed Turn)) → touching touches_bucket places.room all �
 whole [] = refl
 whole (t ∷ ts) = ap (λ b. cond (b || touches_bucket places.room t.item) (t ∷ touching touches_bucket places.room ts) (touching touches_bucket places.room ts)) (eq-eqb places.room places.room refl) ∙ ap (λ l. t ∷ l) (whole ts)
 
-module _ {R B : Type 0} (state : R → RoomState) (origin : R → Origin) (stands_for : R → List Row → ℕ → List Commit → Type 0) (bucket : B → ℕ) (cached : B → ℕ → Option (Content × ℕ)) where
+module _ {R B : Type 0} (state : R → RoomState) (origin : R → Origin) (stands_for : R → List Row → ℕ → List Commit → Type 0) (bucket : B → ℕ) (cached : B → ℕ → Option (Content × ℕ)) (is_settled : B → Type 0) where
   abbrev pub Meant : Beginning → ℕ → ℕ → Load R B → List (Placed Turn) → Type 0
-  Meant = Stands state origin stands_for bucket cached
+  Meant = Stands state origin stands_for bucket cached is_settled
 
   -- what is found at a bucket's place is a bucket, and at the room's place the room
   pub not_room : (x : Beginning) (k p : ℕ) (l : Load R B) (room : R) (entry : Option (Snapshot Entry)) (epoch : ℕ) (all : List (Placed Turn)) → k < places.room → l ≡ load.Room room entry epoch → ¬ Meant x k p l all
@@ -131,8 +132,8 @@ module _ {R B : Type 0} (state : R → RoomState) (origin : R → Origin) (stand
   pub not_bucket : (x : Beginning) (k p : ℕ) (l : Load R B) (b : B) (all : List (Placed Turn)) → k ≡ places.room → l ≡ load.Bucket b → ¬ Meant x k p l all
   not_bucket x k p l b all at is s = let less : k < places.room = (subst (λ y. Meant x k p y all) is s).0 in absurd (omega arith)
 
-  pub found_bucket : (x : Beginning) (k p : ℕ) (l : Load R B) (b : B) (all : List (Placed Turn)) → k < places.room → l ≡ load.Bucket b → Meant x k p l (touching touches_bucket k all) → IsBucketFor bucket cached x k p b (commits all)
-  found_bucket x k p l b all near is s = for_all bucket cached x k p b all near (subst (λ y. Meant x k p y (touching touches_bucket k all)) is s).1
+  pub found_bucket : (x : Beginning) (k p : ℕ) (l : Load R B) (b : B) (all : List (Placed Turn)) → k < places.room → l ≡ load.Bucket b → Meant x k p l (touching touches_bucket k all) → IsBucketFor bucket cached is_settled x.log k p b (commits all)
+  found_bucket x k p l b all near is s = for_all bucket cached is_settled x k p b all near (subst (λ y. Meant x k p y (touching touches_bucket k all)) is s).1
 
   pub found_room : (x : Beginning) (k p : ℕ) (l : Load R B) (room : R) (entry : Option (Snapshot Entry)) (epoch : ℕ) (all : List (Placed Turn)) → k ≡ places.room → l ≡ load.Room room entry epoch → Meant x k p l (touching touches_bucket k all)
       → IsRoomFor state origin stands_for x p room (commits all) × ((state room).faults ≡ faults_after x.log.faults all)
@@ -161,7 +162,7 @@ max_none n = omega arith
 max_above : (n m : ℕ) → n ≤ m → max n m ≡ m
 max_above n m le = omega arith
 
-module _ {R B : Type 0} (state : R → RoomState) (origin : R → Origin) (stands_for : R → List Row → ℕ → List Commit → Type 0) (bucket : B → ℕ) (cached : B → ℕ → Option (Content × ℕ))
+module _ {R B : Type 0} (state : R → RoomState) (origin : R → Origin) (stands_for : R → List Row → ℕ → List Commit → Type 0) (bucket : B → ℕ) (cached : B → ℕ → Option (Content × ℕ)) (is_settled : B → Type 0)
     (owes : Beginning → ℕ → List (Placed Turn) → Unit {0} → Load R B → Type 0) (z : TableId) (x : Beginning) (p : Pass) (v : PassView) (ok : IsPass z x p) (e : p.badge.views ≡ v ∷ []) where
   seen_is : v.places.seen ≡ turns p
   seen_is = ap (λ (u : Known Beginning Turn). u.seen) (sym (known_is p v e))
@@ -172,15 +173,15 @@ module _ {R B : Type 0} (state : R → RoomState) (origin : R → Origin) (stand
   alone_is : v.places.shares ≡ share p.number (own_turns p) ∷ []
   alone_is = ap (λ (u : Known Beginning Turn). u.shares) (sym (known_is p v e)) ∙ ok.alone
 
-  pub may_give_bucket : (k : ℕ) (b : B) → k < places.room → IsBucketFor bucket cached x k (published p) b (seen p) → ((q : ℕ) (l : List (Placed Turn)) (u : Unit {0}) (y : Load R B) → owes x q l u y)
-      → GivesIt (Stands state origin stands_for bucket cached) AreTurns touches_bucket (adds state) (level state) owes x k v (load.Bucket b)
+  pub may_give_bucket : (k : ℕ) (b : B) → k < places.room → IsBucketFor bucket cached is_settled x.log k (published p) b (seen p) → ((q : ℕ) (l : List (Placed Turn)) (u : Unit {0}) (y : Load R B) → owes x q l u y)
+      → GivesIt (Stands state origin stands_for bucket cached is_settled) AreTurns touches_bucket (adds state) (level state) owes x k v (load.Bucket b)
   may_give_bucket k b near s free = record {
     bucket = λ _. (refl, zero-le);
     item = tt;
     stood = (
       near,
-      for_touching bucket cached x k (max v.places.published 0) b v.places.seen near
-          (subst (λ q. IsBucketFor bucket cached x k q b (commits v.places.seen)) (sym (max_none v.places.published ∙ published_is)) (subst (λ l. IsBucketFor bucket cached x k (published p) b (commits l)) (sym seen_is) s)),
+      for_touching bucket cached is_settled x k (max v.places.published 0) b v.places.seen near
+          (subst (λ q. IsBucketFor bucket cached is_settled x.log k q b (commits v.places.seen)) (sym (max_none v.places.published ∙ published_is)) (subst (λ l. IsBucketFor bucket cached is_settled x.log k (published p) b (commits l)) (sym seen_is) s)),
     );
     owed = λ _. free _ _ _ _;
   }
@@ -214,7 +215,6 @@ module _ {R B : Type 0} (state : R → RoomState) (origin : R → Origin) (stand
     held_after (Some y) may j near is = may.touched j near is
 
     turns_after : MayGive x (state room) entry epoch p → faults_seen x p ≤ (state room).faults → AreTurns x (v.places.seen ++ step ∷ [])
-    unfolding numbers_of
     turns_after may le = record {
       legal = λ f first began. subst (IsLegal first) (sym seen_after) (legal_after entry may f first began);
       faults = subst (λ l. NeverFalls x.log.faults (l ++ step ∷ [])) (sym seen_is) (never_falls x.log.faults (turns p) step ok.lawful.faults le);
@@ -228,8 +228,7 @@ module _ {R B : Type 0} (state : R → RoomState) (origin : R → Origin) (stand
 
     pub may_give_room : (k : ℕ) → k ≡ places.room → HasPlace p places.room → IsRoomFor state origin stands_for x (published p) room (seen p ++ added entry epoch) → faults_seen x p ≤ (state room).faults → MayGive x (state room) entry epoch p
         → ((q : ℕ) (l : List (Placed Turn)) (u : Unit {0}) (y : Load R B) → owes x q l u y)
-        → GivesIt (Stands state origin stands_for bucket cached) AreTurns touches_bucket (adds state) (level state) owes x k v (load.Room room note epoch)
-    unfolding numbers_of
+        → GivesIt (Stands state origin stands_for bucket cached is_settled) AreTurns touches_bucket (adds state) (level state) owes x k v (load.Room room note epoch)
     may_give_room k is held s le may free = record {
       bucket = λ ne. absurd (ne is);
       item = record {
@@ -255,7 +254,6 @@ module _ {R B : Type 0} (state : R → RoomState) (origin : R → Origin) (stand
     module _ (given : Unit {0} → Load R B → Unit {0}) (p' : Pass) (t' : p'.badge.table_id ≡ z) (n' : p'.number ≡ p.number) where
       pub gives_room : (k : ℕ) → k ≡ places.room → p'.badge.views ≡ given_back (adds state) (level state) given v k (load.Room room note epoch) ∷ [] → IsRoomFor state origin stands_for x (published p) room (seen p ++ added entry epoch) → faults_seen x p ≤ (state room).faults
           → MayGive x (state room) entry epoch p → IsPass z x p' × GivesRoom x (state room) entry epoch p p'
-      unfolding numbers_of
       gives_room k is e' s le may =
           let a : known p' ≡ giving v.places k (max v.places.published (state room).sealed) (Some turn) = known_is p' _ e' in
           let t : turns p' ≡ v.places.seen ++ step ∷ [] = ap (λ (u : Known Beginning Turn). u.seen) a in

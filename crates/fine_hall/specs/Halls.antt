@@ -7,7 +7,7 @@ use Rattle.fine_model.specs.declared.Row.{Row}
 use Rattle.fine_model.specs.declared.law.Origin.{Origin}
 use Rattle.fine_model.specs.History.{Commit, IsLegal}
 use Rattle.fine_model.specs.Nodes.{Content}
-use Rattle.fine_model.specs.Room.{RoomState}
+use Rattle.fine_model.specs.declared.law.RoomState.{RoomState}
 use Rattle.fine_places.specs.declared.model.Placed.{Placed}
 use Rattle.fine_places.specs.declared.model.Found.{Found}
 use Rattle.fine_places.specs.History as places
@@ -19,7 +19,9 @@ use Rattle.fine_hall.specs.declared.law.Start.{Start}
 use Rattle.fine_hall.specs.declared.pass.Pass.{Pass}
 use Rattle.fine_hall.specs.declared.hall.HallTable.{HallTable}
 use Rattle.fine_hall.specs.Turns.{added, commits, in_bucket, is_in, faults_after}
-use Rattle.fine_hall.specs.Laws.{Began, beginning, AreTurns, IsRoomFor}
+use Rattle.fine_model.specs.Boards.{posted}
+use Rattle.fine_model.specs.Buckets.{Began}
+use Rattle.fine_hall.specs.Laws.{beginning, AreTurns, IsRoomFor}
 use Rattle.fine_hall.specs.Passes.{turns, own_turns, seen, mine, known, published, found_held, faults_seen, own_faults, HasPlace, HoldsNothing, IsPass}
 
 abbrev pub HallOf : Type 0 → Type 0 → Type 0 → Type 0
@@ -104,13 +106,13 @@ pub record IsFreshRoom {R : Type 0} (state : R → RoomState) (origin : R → Or
   pub places : (state room).places ≡ 0
   pub faults : (state room).faults ≡ (origin room).faults
   pub not_shut : (state room).is_shut ≡ false
-  pub board : (state room).board_eyes ≡ []
-  pub no_job : (state room).has_job ≡ false
+  pub board : posted (state room).board ≡ []
+  pub no_job : (state room).job ≡ None
 
 -- the buckets of all numbers, in ascending order, which cache nothing
-pub record AreFreshBuckets {B : Type 0} (bucket : B → ℕ) (cached : B → ℕ → Option (Content × ℕ)) (buckets : List B) : Type 0 where
+pub record AreFreshBuckets {B : Type 0} (bucket : B → ℕ) (cached : B → ℕ → Option (Content × ℕ)) (is_settled : B → Type 0) (buckets : List B) : Type 0 where
   pub all : length buckets ≡ 256
-  pub empty : (k : ℕ) (b : B) → get_elem? buckets k ≡ some b → (bucket b ≡ k) × ((n : ℕ) → cached b n ≡ None)
+  pub empty : (k : ℕ) (b : B) → get_elem? buckets k ≡ some b → (bucket b ≡ k) × is_settled b × ((n : ℕ) → cached b n ≡ None)
 
 -- ---- the ends
 

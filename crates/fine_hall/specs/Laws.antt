@@ -12,7 +12,7 @@ use Rattle.fine_model.specs.Trees.{IsSound}
 use Rattle.fine_model.specs.History.{Commit, IsLegal, all_rows}
 use Rattle.fine_model.specs.Regions.{Image}
 use Rattle.fine_model.specs.Chain.{Shows}
-use Rattle.fine_model.specs.Room.{RoomState}
+use Rattle.fine_model.specs.declared.law.RoomState.{RoomState}
 use Rattle.fine_model.specs.declared.law.Origin.{Origin}
 use Rattle.fine_places.specs.declared.model.Placed.{Placed}
 use Rattle.fine_places.specs.History as places
@@ -20,16 +20,12 @@ use Rattle.fine_hall.specs.declared.turn.Turn.{Turn}
 use Rattle.fine_hall.specs.declared.law.Beginning.{Beginning}
 use Rattle.fine_hall.specs.declared.law.Load.{Load}
 use Rattle.fine_hall.specs.declared.law.Load.TheVariants as load
-use Rattle.fine_hall.specs.Turns.{numbers_of, commits, has_row_on, faults_after, NeverFalls}
+use Rattle.fine_model.specs.Boards.{posted}
+use Rattle.fine_model.specs.Buckets.{Began, IsBucketFor}
+use Rattle.fine_model.proofs.Goings.{buckets_on}
+use Rattle.fine_hall.specs.Turns.{commits, faults_after, NeverFalls}
 
 -- ---- at entry
-
--- the log at entry told its bytes, which show these sound rows up to epoch e
-pub record Began (log : Origin) (e : ℕ) (first : List Row) : Type 0 where
-  pub image : Image
-  pub told : log.image ≡ Some image
-  pub shows : Shows log.region_len image e first
-  pub sound : IsSound first
 
 -- how a hall of so many seats began, by the epoch that was sealed and by the log
 abbrev pub beginning : ℕ → ℕ → Origin → Beginning
@@ -53,40 +49,18 @@ module _ {R : Type 0} (state : R → RoomState) (origin : R → Origin) (stands_
     pub places : (state room).places ≡ length history
     pub epochs : AllByRecursion (λ c. c.epoch ≤ (state room).sealed + 1) history
     pub sealed : published ≤ (state room).sealed
-    pub board : (state room).board_eyes ≡ []
-    pub no_job : (state room).has_job ≡ false
+    pub board : posted (state room).board ≡ []
+    pub no_job : (state room).job ≡ None
     pub shut : (state room).is_shut ≡ true → HasRisen x.log.own_faults (state room).own_faults
-
--- ---- a bucket
-
-abbrev pub node_id : ℕ → ℕ → NodeId
-node_id bucket number = record { bucket = bucket; number = number }
-
--- no row on the node is of a later epoch
-abbrev pub IsUpTo : ℕ → NodeId → List Commit → Type 0
-IsUpTo epoch id history = AllByRecursion (λ c. has_row_on id c ≡ true → c.epoch ≤ epoch) history
-
--- A cached node has what the rows leave in it, where the log at entry was told and sound, and its epoch is not below that of any
--- row on it.
-pub record IsNodeFor (x : Beginning) (id : NodeId) (kept : Content × ℕ) (history : List Commit) : Type 0 where
-  pub content : (e : ℕ) (first : List Row) → Began x.log e first → kept.0 ≡ content (first ++ all_rows history) id
-  pub epoch : IsUpTo kept.1 id history
-
-module _ {B : Type 0} (bucket : B → ℕ) (cached : B → ℕ → Option (Content × ℕ)) where
-  -- Each cached node is as this history left it. A node that is not cached has no row of an epoch above the published one.
-  pub record IsBucketFor (x : Beginning) (k published : ℕ) (b : B) (history : List Commit) : Type 0 where
-    pub number : bucket b ≡ k
-    pub nodes : (n : ℕ) (kept : Content × ℕ) → cached b n ≡ Some kept → IsNodeFor x (node_id k n) kept history
-    pub absent : (n : ℕ) → cached b n ≡ None → IsUpTo published (node_id k n) history
 
 -- ---- what lies at a place
 
-module _ {R B : Type 0} (state : R → RoomState) (origin : R → Origin) (stands_for : R → List Row → ℕ → List Commit → Type 0) (bucket : B → ℕ) (cached : B → ℕ → Option (Content × ℕ)) where
+module _ {R B : Type 0} (state : R → RoomState) (origin : R → Origin) (stands_for : R → List Row → ℕ → List Commit → Type 0) (bucket : B → ℕ) (cached : B → ℕ → Option (Content × ℕ)) (is_settled : B → Type 0) where
   -- of the room also that its count of faults is that after its last turn
   abbrev pub Stands : Beginning → ℕ → ℕ → Load R B → List (Placed Turn) → Type 0
   Stands x k published (load.Room room entry epoch) turns =
       (k ≡ places.room) × IsRoomFor state origin stands_for x published room (commits turns) × ((state room).faults ≡ faults_after x.log.faults turns)
-  Stands x k published (load.Bucket b) turns = (k < places.room) × IsBucketFor bucket cached x k published b (commits turns)
+  Stands x k published (load.Bucket b) turns = (k < places.room) × IsBucketFor bucket cached is_settled x.log k published b (commits turns)
 
   -- what a bucket stands for it stands for while a later epoch is published
   pub grows : (x : Beginning) (k p q : ℕ) (thing : Load R B) (turns : List (Placed Turn)) → k < places.room → p ≤ q → Stands x k p thing turns → Stands x k q thing turns
@@ -94,22 +68,11 @@ module _ {R B : Type 0} (state : R → RoomState) (origin : R → Origin) (stand
     where
       not_itself : (a b : ℕ) → a < b → a ≡ b → ⊥
       not_itself a b near e = omega arith
-  grows x k p q (load.Bucket b) turns near le s = (
-    s.0,
-    record {
-      number = s.1.number;
-      nodes = s.1.nodes;
-      absent = λ n none. up_to (node_id k n) (commits turns) (s.1.absent n none);
-    },
-  )
-    where
-      up_to : (id : NodeId) (history : List Commit) → IsUpTo p id history → IsUpTo q id history
-      up_to id [] u = tt
-      up_to id (c ∷ cs) u = (λ row. le_trans (u.0 row) le, up_to id cs u.1)
+  grows x k p q (load.Bucket b) turns near le s = (s.0, buckets_on bucket cached is_settled x.log k p q b (commits turns) le s.1)
 
 -- what giving back a thing adds: each room a turn, and a bucket nothing
 abbrev pub turn_of : RoomState → Option (Snapshot Entry) → ℕ → Turn
-turn_of room entry epoch = record { entry = option_map (λ note. note.value) entry; epoch = epoch; room = numbers_of room }
+turn_of room entry epoch = record { entry = option_map (λ note. note.value) entry; epoch = epoch; room = room }
 
 abbrev pub adds : {R B : Type 0} → (R → RoomState) → Load R B → Option Turn
 adds state (load.Room room entry epoch) = Some (turn_of (state room) entry epoch)

@@ -9,28 +9,11 @@ use Rattle.fine_model.specs.Nodes.{is_node}
 use Rattle.fine_model.specs.Trees.{bucket_of}
 use Rattle.fine_model.specs.Pushed.{key_of}
 use Rattle.fine_model.specs.History.{Commit}
-use Rattle.fine_model.specs.Room.{RoomState}
-use Rattle.fine_hall.specs.declared.turn.RoomNumbers.{RoomNumbers}
+use Rattle.fine_model.specs.declared.law.RoomState.{RoomState}
 use Rattle.fine_hall.specs.declared.turn.Turn.{Turn}
 use Rattle.fine_places.specs.declared.model.Placed.{Placed}
 
 -- ---- one turn
-
--- the numbers of a room
-unfoldable pub numbers_of : RoomState → RoomNumbers
-numbers_of room = record {
-  region_len = room.region_len;
-  sealed = room.sealed;
-  places = room.places;
-  parts = room.parts;
-  free = room.free;
-  retired = room.retired;
-  waiting = room.waiting;
-  used = room.used;
-  is_shut = room.is_shut;
-  faults = room.faults;
-  own_faults = room.own_faults;
-}
 
 abbrev pub committed : Entry → ℕ → Commit
 committed entry epoch = record { entry = entry; epoch = epoch }
@@ -61,10 +44,6 @@ touches_bucket bucket turn = is_some_in bucket turn.entry
 -- what of a history is in a bucket
 abbrev pub in_bucket : ℕ → List Commit → List Commit
 in_bucket bucket history = filter (λ c. is_in bucket c.entry) history
-
--- an entry has a row on a node
-abbrev pub has_row_on : NodeId → Commit → Bool
-has_row_on id c = list_any (λ row. is_node id row.node) c.entry.rows
 
 -- ---- turns in order
 

@@ -25,7 +25,7 @@ pub struct HallTable<S, K, Q: TableRule<S, View<Beginning, Turn, ()>, K>> {
 pub type Hall<R, B> = HallTable<Option<Load<R, B>>, Start<R>, Rule<HallLaw<R, B>, Alone>>;
 
 impl<R: RoomLaw, B: BucketLaw> Hall<R, B> {
-    ghost use Rattle.fine_hall.specs.Laws.{IsBucketFor};
+    ghost use Rattle.fine_model.specs.Buckets.{IsBucketFor};
     ghost use Rattle.fine_hall.specs.Passes.{HasPlace, LacksPlace, published, seen};
     ghost use Rattle.fine_hall.specs.Halls.{IsPassOf, begun, Takes, Gives, FindsHeld};
 
@@ -39,7 +39,7 @@ impl<R: RoomLaw, B: BucketLaw> Hall<R, B> {
         requires free { (bucket < places.room) × LacksPlace pass.old bucket }
         ensures pass { IsPassOf R.state R.origin self.now pass.new × (pass.new.number ≡ pass.old.number) }
         ensures takes { IfOk result (λ content. Takes (begun R.state R.origin self.now) bucket pass.old pass.new) }
-        ensures content { IfOk result (λ content. IsBucketFor B.bucket B.cached (begun R.state R.origin self.now) bucket (published pass.new) content (seen pass.new)) }
+        ensures content { IfOk result (λ content. IsBucketFor B.bucket B.cached B.is_settled (begun R.state R.origin self.now).log bucket (published pass.new) content (seen pass.new)) }
         ensures conflict { IfErr result (λ conflict. (conflict.bucket ≡ bucket) × FindsHeld (begun R.state R.origin self.now) bucket conflict.owner pass.old pass.new) }
     {
         let mut seat: Seat<R, B> = pass.sit();
@@ -70,7 +70,7 @@ impl<R: RoomLaw, B: BucketLaw> Hall<R, B> {
     pub fn give_bucket(&self, pass: &mut Pass, bucket: u16, content: B)
         requires pass { IsPassOf R.state R.origin self.now pass.old }
         requires held { (bucket < places.room) × HasPlace pass.old bucket }
-        requires stands { IsBucketFor B.bucket B.cached (begun R.state R.origin self.now) bucket (published pass.old) content (seen pass.old) }
+        requires stands { IsBucketFor B.bucket B.cached B.is_settled (begun R.state R.origin self.now).log bucket (published pass.old) content (seen pass.old) }
         ensures pass { IsPassOf R.state R.origin self.now pass.new × (pass.new.number ≡ pass.old.number) }
         ensures gives { Gives bucket pass.old pass.new }
     {

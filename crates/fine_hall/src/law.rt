@@ -40,7 +40,7 @@ impl<R: RoomLaw, B: BucketLaw> PlaceLaw<Load<R, B>, Beginning, Turn> for HallLaw
     ghost use Rattle.fine_hall.specs.Laws.{Stands, AreTurns, adds, level, grows};
     ghost use Rattle.fine_hall.specs.Turns.{touches_bucket};
 
-    ghost stands = { Stands R.state R.origin R.stands_for B.bucket B.cached };
+    ghost stands = { Stands R.state R.origin R.stands_for B.bucket B.cached B.is_settled };
 
     ghost legal = { AreTurns };
 
@@ -54,7 +54,7 @@ impl<R: RoomLaw, B: BucketLaw> PlaceLaw<Load<R, B>, Beginning, Turn> for HallLaw
 
     ghost level = { level R.state };
 
-    ghost grows = { λ x k p q thing turns near le s. grows R.state R.origin R.stands_for B.bucket B.cached x k p q thing turns near le s };
+    ghost grows = { λ x k p q thing turns near le s. grows R.state R.origin R.stands_for B.bucket B.cached B.is_settled x k p q thing turns near le s };
 }
 
 impl<R: RoomLaw, B: BucketLaw> StartLaw<Beginning, Start<R>> for HallLaw<R, B> {

@@ -12,4 +12,4 @@ mod turn;
 pub use hall::{Hall, HallTable};
 pub use law::{Beginning, HallLaw, Load, Start};
 pub use pass::{Conflict, Pass};
-pub use turn::{RoomNumbers, Turn};
+pub use turn::Turn;

@@ -35,7 +35,7 @@ impl<R: RoomLaw + Drop, B: BucketLaw + Drop> Hall<R, B> {
     ) -> Result<(Hall<R, B>, Vec<Pass>), (NoMemory, R, Vec<B>)>
         requires seats { (1 ≤ seats) × (seats ≤ 18) }
         requires room { IsFreshRoom R.state R.origin R.stands_for room }
-        requires buckets { AreFreshBuckets B.bucket B.cached buckets.items }
+        requires buckets { AreFreshBuckets B.bucket B.cached B.is_settled buckets.items }
         ensures hall { IfOk result (λ made. begun R.state R.origin made.0 ≡ beginning seats (R.state room).sealed (R.origin room)) }
         ensures count { IfOk result (λ made. length made.1.items ≡ seats) }
         ensures passes { IfOk result (λ made. HandedOut made.0.table.shared.table_id (begun R.state R.origin made.0) seats made.1.items) }

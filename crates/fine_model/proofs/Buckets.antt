@@ -52,11 +52,12 @@ other_nodes rows new bucket other number of_bucket is_other =
     (all_map (λ row. row.node.bucket ≡ bucket) (λ row. is_node id row.node ≡ false) (λ row e. ap (λ b. b && (number == row.node.number)) (ne_eqb other row.node.bucket (λ same. is_other (same ∙ e)))) new of_bucket))
 
 module _ (rows : List Row) (sound : IsSound rows) where
-  in_bucket : (i : ℕ) → i < 256 → AllInBucket i (tree_map rows i)
+  -- the keys of a tree belong to its bucket, and ascend
+  pub in_bucket : (i : ℕ) → i < 256 → AllInBucket i (tree_map rows i)
   unfolding tree_map
   in_bucket i h = tree_in_bucket i (nodes_of rows i) (nodes_of rows i 0).0 (sound.fit i h)
 
-  ascends : (i : ℕ) → i < 256 → is_ascending (keys_of (tree_map rows i)) ≡ true
+  pub ascends : (i : ℕ) → i < 256 → is_ascending (keys_of (tree_map rows i)) ≡ true
   unfolding tree_map
   ascends i h = tree_ascends i (nodes_of rows i) (nodes_of rows i 0).0 (sound.fit i h)
 

@@ -1,5 +1,5 @@
 -- What holds of the parts of each chain.
-use Rattle.std.proofs.Common.{◌≡◌, ◌≢◌, ◌⊎◌, inl, inr, ℕ, zero, suc, ◌+◌, ◌<◌, ◌≤◌, ◌==◌, nat_eq, nat_lt, Bool, true, false, ◌&&◌, ◌||◌, not, List, [], ◌∷◌, length, refl, sym, ap, ◌∙◌, subst, Some, None, Ok, arith, true≢false, eqb-true, eq-eqb, lt-ltb}
+use Rattle.std.proofs.Common.{◌≡◌, ◌≢◌, ◌⊎◌, inl, inr, ℕ, zero, suc, ◌+◌, ◌<◌, ◌≤◌, ◌==◌, nat_eq, nat_lt, Bool, true, false, ◌&&◌, not, List, [], ◌∷◌, length, refl, sym, ap, ◌∙◌, subst, Some, None, Ok, arith, true≢false, eq-eqb, lt-ltb}
 use Rattle.std.specs.Prelude.{Option, Result, flat_map}
 use Rattle.std.specs.List.{AllByRecursion, list_any}
 use Rattle.std.proofs.lemmas.Bool.{or_left, or_right, cases_Bool, cases_order, and_right}
@@ -9,22 +9,13 @@ use Rattle.fine_model.specs.Chain.{regions_of, is_taken_from, bad_continuation, 
 use Rattle.fine_model.specs.ChainLaws.{PartsFollow, IsPart, IsChain, ChainLaw, FreeOfChain}
 use Rattle.fine_model.proofs.Order.{all_map}
 use Rattle.fine_model.proofs.Parts.{all_both}
-use Rattle.fine_model.proofs.Nothing.{any_flat}
+use Rattle.fine_model.proofs.Nothing.{any_flat, all_at, each_there}
 use Rattle.fine_model.proofs.Times.{times, times-none, times-append, times-cons, times_distinct, absent_times}
 use Rattle.fine_model.proofs.Headers.{Good, good, own_regions}
 use Rattle.fine_model.proofs.Images.{names}
 use Rattle.fine_model.proofs.Free.{sealed_there, named, free_law}
 use Rattle.fine_model.proofs.Chains.{taken_all, taken_follow}
 use Rattle.fine_model.proofs.ReadChain.{ReadChain, read_chain, have_headers, header_ordered, own}
-
--- a number that is found among numbers
-all_at : (P : ℕ → Type 0) (n : ℕ) (ns : List ℕ) → AllByRecursion P ns → list_any (nat_eq n) ns ≡ true → P n
-all_at P n [] all there = absurd (true≢false (sym there))
-all_at P n (m ∷ ns) all there = by (nat_eq n m) refl there (all_at P n ns all.1)
-  where
-    by : (b : Bool) → nat_eq n m ≡ b → (b || list_any (nat_eq n) ns) ≡ true → (list_any (nat_eq n) ns ≡ true → P n) → P n
-    by true e h rest = subst P (sym (eqb-true n m e)) all.0
-    by false e h rest = rest h
 
 any_here : (n : ℕ) (ns : List ℕ) → 1 ≤ times n ns → list_any (nat_eq n) ns ≡ true
 any_here n ns here = elim (cases_Bool (list_any (nat_eq n) ns)) as (λ _. list_any (nat_eq n) ns ≡ true) [
@@ -168,13 +159,6 @@ module _ (region_len : ℕ) (image : Image) (parts : List Part) (c : ReadChain r
               o.there (each_there (continuations p.header)),
         );
       }
-    where
-      each_there : (ns : List ℕ) → AllByRecursion (λ n. list_any (nat_eq n) ns ≡ true) ns
-      each_there [] = tt
-      each_there (n ∷ ns) = (
-        or_left (nat_eq n n) (list_any (nat_eq n) ns) (eq-eqb n n refl),
-        all_map (λ m. list_any (nat_eq m) ns ≡ true) (λ m. list_any (nat_eq m) (n ∷ ns) ≡ true) (λ m h. or_right (nat_eq m n) (list_any (nat_eq m) ns) h) ns (each_there ns),
-      )
 
   pub each_part : AllByRecursion (IsPart region_len image) c.all
   each_part = all_map (λ p. HasHeader region_len image p.region p.header) (IsPart region_len image) part_of_image c.all headers

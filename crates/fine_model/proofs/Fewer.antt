@@ -15,7 +15,7 @@ use Rattle.fine_model.proofs.Chains.{step, longest_is, longest_none, taken_none,
 
 module _ (next : ℕ) (p : Part) where
   -- the best so far with the part, and without it: the same, or the part and none that is longer
-  abbrev AreBest : Option Part → Option Part → Type 0
+  abbrev pub AreBest : Option Part → Option Part → Type 0
   AreBest with_it without = (with_it ≡ without) ⊎ ((with_it ≡ Some p) × ((b : Part) → without ≡ Some b → b.header.range.last ≤ p.header.range.last))
 
   later_both : (without : Option Part) (q : Part) → ((b : Part) → without ≡ Some b → b.header.range.last ≤ p.header.range.last) → AreBest (later (Some p) q) (later without q)
@@ -61,16 +61,19 @@ module _ (next : ℕ) (p : Part) where
           of true e = inr (refl, λ c is. let s : b ≡ c = cc in subst (λ x. x.header.range.last ≤ p.header.range.last) s (let l = ltb-true b.header.range.last p.header.range.last e in omega (arith, l)))
           of false e = inl refl
 
-  pub longest_fewer : (left right : List Part) (o : Option Part) → longest_at next (left ++ p ∷ right) ≡ o → (o ≡ Some p → ⊥) → longest_at next (left ++ right) ≡ o
+  pub longest_both : (left right : List Part) → AreBest (longest_at next (left ++ p ∷ right)) (longest_at next (left ++ right))
   unfolding longest_at
-  longest_fewer left right o is other = by (fold_both right (step next (fold (step next) None left) p) (fold (step next) None left) (first_both (fold (step next) None left)))
-    where
-      whole : fold (step next) (step next (fold (step next) None left) p) right ≡ o
-      whole = sym (fold-append (step next) None left (p ∷ right)) ∙ is
+  longest_both left right =
+      let both = fold_both right (step next (fold (step next) None left) p) (fold (step next) None left) (first_both (fold (step next) None left)) in
+      subst (λ o. AreBest o (longest_at next (left ++ right))) (sym (fold-append (step next) None left (p ∷ right)))
+      (subst (AreBest (fold (step next) (step next (fold (step next) None left) p) right)) (sym (fold-append (step next) None left right)) both)
 
-      by : AreBest (fold (step next) (step next (fold (step next) None left) p) right) (fold (step next) (fold (step next) None left) right) → fold (step next) None (left ++ right) ≡ o
-      by (inl same) = fold-append (step next) None left right ∙ sym same ∙ whole
-      by (inr h) = absurd (other (sym whole ∙ h.0))
+  pub longest_fewer : (left right : List Part) (o : Option Part) → longest_at next (left ++ p ∷ right) ≡ o → (o ≡ Some p → ⊥) → longest_at next (left ++ right) ≡ o
+  longest_fewer left right o is other = by (longest_both left right)
+    where
+      by : AreBest (longest_at next (left ++ p ∷ right)) (longest_at next (left ++ right)) → longest_at next (left ++ right) ≡ o
+      by (inl same) = sym same ∙ is
+      by (inr h) = absurd (other (sym is ∙ h.0))
 
 -- ---- the parts that are taken
 
@@ -149,7 +152,7 @@ taken_few (suc turns) e parts ordered = by (longest_at (e + 1) parts) refl (λ f
         let b = behind_less e q.header.range.last parts (omega (arith, o, f)) (there q some) in omega (arith, l, r, b)
 
 -- so as many turns as there are parts are enough
-enough : (turns next : ℕ) (parts : List Part) → length (taken (suc turns) parts next) ≤ turns → taken turns parts next ≡ taken (suc turns) parts next
+pub enough : (turns next : ℕ) (parts : List Part) → length (taken (suc turns) parts next) ≤ turns → taken turns parts next ≡ taken (suc turns) parts next
 unfolding taken
 enough zero next parts few = none (taken 1 parts next) few
   where
@@ -164,6 +167,11 @@ enough (suc turns) next parts few = by (longest_at next parts) refl (λ n. enoug
         let l = ap length (taken_some (suc turns) parts next q some) in
         taken_some turns parts next q some ∙ ap (λ ps. q ∷ ps) (rest (q.header.range.last + 1) (omega (arith, few, l))) ∙ sym (taken_some (suc turns) parts next q some)
 
+-- as many turns as there are parts
+pub as_many_turns : (parts : List Part) → AllByRecursion (λ p. p.header.range.first ≤ p.header.range.last) parts → length (taken (suc (length parts)) parts 1) ≤ length parts
+as_many_turns parts ordered =
+    let f = taken_few (suc (length parts)) 0 parts ordered in let l = length-filter_le (λ q. nat_lt 0 q.header.range.first) parts in omega (arith, f, l)
+
 -- the walk without a part that it does not take
 pub walk_fewer : (left right : List Part) (p : Part) (chain : List Part) → AllByRecursion (λ q. q.header.range.first ≤ q.header.range.last) (left ++ right) → AllByRecursion (λ q. q.region ≢ p.region) chain
     → taken (length (left ++ p ∷ right)) (left ++ p ∷ right) 1 ≡ chain → taken (length (left ++ right)) (left ++ right) 1 ≡ chain
@@ -171,6 +179,4 @@ walk_fewer left right p chain ordered other is =
     let a = length-append left (p ∷ right) in let b = length-append left right in
     let n : length (left ++ p ∷ right) ≡ suc (length (left ++ right)) = omega (arith, a, b) in
     let more = taken_fewer left right p (suc (length (left ++ right))) 1 chain (ap (λ k. taken k (left ++ p ∷ right) 1) (sym n) ∙ is) other in
-    let f = taken_few (suc (length (left ++ right))) 0 (left ++ right) ordered in
-    let l = length-filter_le (λ q. nat_lt 0 q.header.range.first) (left ++ right) in
-    enough (length (left ++ right)) 1 (left ++ right) (omega (arith, f, l)) ∙ more
+    enough (length (left ++ right)) 1 (left ++ right) (as_many_turns (left ++ right) ordered) ∙ more

@@ -9,14 +9,15 @@ use Rattle.fine_model.specs.Types.{Row, Range, Header, Part, Damage}
 use Rattle.fine_model.specs.Types.damage
 use Rattle.fine_model.specs.Regions.{Image, region_of, is_sealed, continuations, header_at, bad_field, header_in, HasHeader, IsSealed}
 use Rattle.fine_model.specs.Chain.{parts_from, is_taken_from, bad_continuation, regions_of, taken, fault_beside, chain, is_free, free_regions, AreRowsOf, Shows}
-use Rattle.fine_model.specs.ChainLaws.{DiffersAt, part_of, IsClosedBeside, IsFreed, FreedLaw}
+use Rattle.fine_model.specs.ChainLaws.{DiffersAt, part_of, IsClosedBeside, IsFreed, FreedLaw, AreRetired, IsErased, ErasedLaw}
 use Rattle.fine_model.proofs.Order.{all_map}
+use Rattle.fine_model.proofs.Parts.{all_both}
 use Rattle.fine_model.proofs.Zip.{all_left, all_right}
 use Rattle.fine_model.proofs.Sets.{all_append}
 use Rattle.fine_model.proofs.Nothing.{any_none, none_any}
 use Rattle.fine_model.proofs.Headers.{Good, good, header_good, header_bad}
 use Rattle.fine_model.proofs.Images.{Split, split, before_is, after_is, and_then_ok, parts_none, parts_bad, parts_good, OneFewer, parts_unsealed, names, named_alike}
-use Rattle.fine_model.proofs.Free.{sealed_there, sealed_stays}
+use Rattle.fine_model.proofs.Free.{sealed_there, header_stays, sealed_stays}
 use Rattle.fine_model.proofs.Chains.{Walked}
 use Rattle.fine_model.proofs.ReadChain.{ReadChain, read_chain, chain_read, have_headers, header_ordered, own, none_bad}
 use Rattle.fine_model.proofs.ChainFacts.{Fact, no_lead, no_lower, all_facts}
@@ -117,6 +118,9 @@ module _ (region_len region : ℕ) (old new : Image) (parts : List Part) (header
       (false_from_ne_true (list_any (nat_eq region) (continuations h)) (λ there.
       let g = good region_len (length old) lead (region_of old lead) h has in let f = part_of_region lead g.is_open in
       no_lead region_len old c.all f.0 part f.1 known (ap (λ x. list_any (nat_eq region) (continuations x)) (same_header f.0 f.1 lead f.2 h has) ∙ there)))
+
+  headers_stay : (lead : ℕ) (h : Header) → lead ≢ region → HasHeader region_len old lead h → HasHeader region_len new lead h
+  headers_stay lead h other has = header_stays region_len region old new s.differs lead h (without lead h other has) has
 
   leads_stay : (lead : ℕ) (range : Range) (rows : List Row) → lead ≢ region → IsSealed region_len old lead range rows → IsSealed region_len new lead range rows
   leads_stay lead range rows other sealed = sealed_stays region_len region old new s.differs lead range rows sealed (without lead sealed.header other sealed.has_header)
@@ -267,6 +271,7 @@ module _ (region_len region : ℕ) (old new : Image) (parts : List Part) (header
     same_chain = chain_stays;
     freed = λ r. free_now r (nat_eq r region) (list_any (nat_eq r) (continuations header)) refl refl;
     regions = regions_now;
+    headers = headers_stay;
     leads = leads_stay;
     rows = λ rows are. rows_stay_of parts rows s.beside are;
     shown = shown_stays;
@@ -274,3 +279,34 @@ module _ (region_len region : ℕ) (old new : Image) (parts : List Part) (header
 
 pub freed_law : FreedLaw
 freed_law region_len region old new parts header s = is_freed region_len region old new parts header s (read_chain region_len old parts s.is_chain)
+
+-- ---- one of several
+
+module _ (region_len : ℕ) (old new : Image) (parts left : List Part) (erased : Part) (right : List Part) (s : IsErased region_len old new parts left erased right) where
+  was : AreRetired region_len old parts (left ++ erased ∷ right)
+  was = s.retired
+
+  of_one : (P : Part → Type 0) → AllByRecursion P (left ++ erased ∷ right) → P erased
+  of_one P all = (all_right P left (erased ∷ right) all).0
+
+  freed_one : IsFreed region_len erased.region old new parts erased.header
+  freed_one = let w = was in freed_law region_len erased.region old new parts erased.header (record {
+    differs = s.differs;
+    is_chain = w.is_chain;
+    has_header = of_one (λ p. HasHeader region_len old p.region p.header) w.headers;
+    beside = of_one (λ other. AllByRecursion (λ p. p.region ≢ other.region) parts) w.beside;
+    closed = s.closed;
+  })
+
+  others_retired : AreRetired region_len new parts (left ++ right)
+  others_retired =
+      let w = was in let f = freed_one in record {
+        is_chain = f.same_chain;
+        headers = all_both (λ p. p.region ≢ erased.region) (λ p. HasHeader region_len old p.region p.header) (λ p. HasHeader region_len new p.region p.header) (λ p other has. f.headers p.region p.header other has) (left ++ right)
+            s.once (fewer (λ p. HasHeader region_len old p.region p.header) left erased right w.headers);
+        beside = fewer (λ other. AllByRecursion (λ p. p.region ≢ other.region) parts) left erased right w.beside;
+      }
+
+pub erased_law : ErasedLaw
+erased_law region_len old new parts left erased right s =
+    record { retired = others_retired region_len old new parts left erased right s; freed = freed_one region_len old new parts left erased right s }

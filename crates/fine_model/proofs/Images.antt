@@ -1,8 +1,7 @@
 -- Images that differ in one region, and their parts.
-use Rattle.std.proofs.Common.{◌≡◌, ◌≢◌, ◌⊎◌, inl, inr, ℕ, zero, suc, ◌+◌, ◌<◌, ◌≤◌, nat_eq, Bool, false, ◌&&◌, ◌||◌, List, [], ◌∷◌, ◌++◌, length, refl, sym, ap, ◌∙◌, subst, Some, None, Ok, Err, arith}
+use Rattle.std.proofs.Common.{◌≡◌, ◌≢◌, ℕ, zero, suc, ◌+◌, ◌<◌, ◌≤◌, nat_eq, Bool, false, ◌&&◌, ◌||◌, List, [], ◌∷◌, ◌++◌, length, refl, sym, ap, ◌∙◌, subst, Some, None, Ok, Err, arith}
 use Rattle.std.specs.Prelude.{Option, Result, unwrap_or}
 use Rattle.std.specs.List.{list_any}
-use Rattle.std.proofs.lemmas.Bool.{cases_lt}
 use Rattle.std.proofs.lemmas.Option.{slice_get_past}
 use Rattle.std.proofs.lemmas.List.Folds.{list_any-append}
 use Rattle.fine_model.specs.Types.{Header, Part, Damage}
@@ -10,7 +9,7 @@ use Rattle.fine_model.specs.Types.damage
 use Rattle.fine_model.specs.Pushed.{and_then}
 use Rattle.fine_model.specs.Regions.{Image, region_of, is_sealed, continuations, header_at, header_in}
 use Rattle.fine_model.specs.Chain.{parts_from}
-use Rattle.fine_model.specs.ChainLaws.{DiffersAt, part_of}
+use Rattle.fine_model.specs.ChainLaws.{part_of}
 use Rattle.fine_model.proofs.Headers.{header_closed}
 
 -- ---- two images round the region in which they differ
@@ -53,17 +52,6 @@ split (suc region) (o ∷ os) (n ∷ ns) long others there =
 pub past : (image : Image) (region : ℕ) → length image ≤ region → region_of image region ≡ []
 past image region h = ap (λ o. unwrap_or o []) (slice_get_past image region h)
 
--- the images are one, or differ in a region of theirs
-pub differs_where : (region : ℕ) (old new : Image) → DiffersAt region old new → (new ≡ old) ⊎ ((region < length old) × Split region old new)
-differs_where region old new d = elim (cases_lt region (length old)) [
-  | inl there ↦ inr (there, split region old new d.as_many d.others there)
-  | inr beyond ↦ inl (same_images old new d.as_many (λ i. by i (cases_lt i (length old)) beyond))
-]
-  where
-    by : (i : ℕ) → (i < length old) ⊎ (length old ≤ i) → length old ≤ region → region_of new i ≡ region_of old i
-    by i (inl h) beyond = d.others i (λ e. absurd (omega (arith, h, beyond, e)))
-    by i (inr h) beyond = let m = d.as_many in past new i (omega (arith, m, h)) ∙ sym (past old i h)
-
 region_at : (front : Image) (x : List ℕ) (back : Image) (region : ℕ) → length front ≡ region → region_of (front ++ x ∷ back) region ≡ x
 region_at [] x back zero is = refl
 region_at [] x back (suc region) is = absurd (omega (arith, is))
@@ -99,19 +87,6 @@ module _ (region_len regions : ℕ) where
       → parts_from region_len regions k (bytes ∷ image) ≡ and_then (parts_from region_len regions (k + 1) image) (λ parts. Ok (part_of k h ∷ parts))
   unfolding parts_from
   parts_good k bytes h image is = rw is refl
-
-  -- a closed region is no part, whatever it holds
-  pub parts_closed : (k : ℕ) (front : Image) (x y : List ℕ) (back : Image) → is_sealed x ≡ false → is_sealed y ≡ false → parts_from region_len regions k (front ++ x ∷ back) ≡ parts_from region_len regions k (front ++ y ∷ back)
-  parts_closed k [] x y back no_x no_y =
-      parts_none k x back (header_closed region_len regions k x no_x) ∙ sym (parts_none k y back (header_closed region_len regions k y no_y))
-  parts_closed k (f ∷ front) x y back no_x no_y = by (header k f) refl (parts_closed (k + 1) front x y back no_x no_y)
-    where
-      by : (r : Result (Option Header) ℕ) → header k f ≡ r → parts_from region_len regions (k + 1) (front ++ x ∷ back) ≡ parts_from region_len regions (k + 1) (front ++ y ∷ back)
-          → parts_from region_len regions k (f ∷ (front ++ x ∷ back)) ≡ parts_from region_len regions k (f ∷ (front ++ y ∷ back))
-      by (Err at) e rest = parts_bad k at f (front ++ x ∷ back) e ∙ sym (parts_bad k at f (front ++ y ∷ back) e)
-      by (Ok None) e rest = parts_none k f (front ++ x ∷ back) e ∙ rest ∙ sym (parts_none k f (front ++ y ∷ back) e)
-      by (Ok (Some h)) e rest =
-          parts_good k f h (front ++ x ∷ back) e ∙ ap (λ r. and_then r (λ parts. Ok (part_of k h ∷ parts))) rest ∙ sym (parts_good k f h (front ++ y ∷ back) e)
 
   -- a part by a number that is the region's
   part_named : (k region : ℕ) (h : Header) (parts : List Part) → k ≡ region → part_of k h ∷ parts ≡ part_of region h ∷ parts

@@ -47,7 +47,7 @@ get-set_other m a key x other = by (order_cases a key)
 abbrev pub joined : List Pair → List Pair → List Pair
 joined m pairs = fold (λ m p. set m p.0 p.1) m pairs
 
-joined-append : (m xs ys : List Pair) → joined m (xs ++ ys) ≡ joined (joined m xs) ys
+pub joined-append : (m xs ys : List Pair) → joined m (xs ++ ys) ≡ joined (joined m xs) ys
 joined-append m xs ys = fold-append (λ m p. set m p.0 p.1) m xs ys
 
 -- A change at a key: it goes before or behind the setting of another key, and joining a changed tree is the change of what is
@@ -57,12 +57,12 @@ pub record IsChange (key : List ℕ) (f : List Pair → List Pair) : Type 0 wher
   pub joins : (m pairs : List Pair) → is_ascending (keys_of pairs) ≡ true → unset m key ≡ m → joined m (f pairs) ≡ f (joined m pairs)
 
 -- a change goes before or behind all that has other keys
-joined-swap : (key : List ℕ) (f : List Pair → List Pair) (swap : (m : List Pair) (a x : List ℕ) → a ≢ key → f (set m a x) ≡ set (f m) a x)
+pub joined-swap : (key : List ℕ) (f : List Pair → List Pair) (swap : (m : List Pair) (a x : List ℕ) → a ≢ key → f (set m a x) ≡ set (f m) a x)
     (m pairs : List Pair) → AllOther key pairs → joined (f m) pairs ≡ f (joined m pairs)
 joined-swap key f swap m [] other = refl
 joined-swap key f swap m (p ∷ pairs) other = ap (λ n. joined n pairs) (sym (swap m p.0 p.1 other.0)) ∙ joined-swap key f swap (set m p.0 p.1) pairs other.1
 
-set_is_swap : (key value : List ℕ) (m : List Pair) (a x : List ℕ) → a ≢ key → set (set m a x) key value ≡ set (set m key value) a x
+pub set_is_swap : (key value : List ℕ) (m : List Pair) (a x : List ℕ) → a ≢ key → set (set m a x) key value ≡ set (set m key value) a x
 set_is_swap key value m a x other = set-swap m a key x value other
 
 unset_is_swap : (key : List ℕ) (m : List Pair) (a x : List ℕ) → a ≢ key → unset (set m a x) key ≡ set (unset m key) a x

@@ -1,8 +1,9 @@
 -- Lists in which a test finds nothing.
-use Rattle.std.proofs.Common.{◌≡◌, ℕ, ◌+◌, ◌<◌, Bool, true, false, cond, ◌||◌, List, [], ◌∷◌, ◌++◌, zero, suc, refl, ap, ◌∙◌, subst, Some, None, option_map, arith}
+use Rattle.std.proofs.Common.{◌≡◌, ℕ, ◌+◌, ◌<◌, nat_eq, Bool, true, false, cond, ◌||◌, List, [], ◌∷◌, ◌++◌, zero, suc, refl, sym, ap, ◌∙◌, subst, true≢false, eqb-true, eq-eqb, Some, None, option_map, arith}
 use Rattle.std.specs.Prelude.{Option, find, filter_map, flat_map, map}
 use Rattle.std.specs.List.{AllByRecursion, list_any, range_with_len, cons_option}
-use Rattle.std.proofs.lemmas.Bool.{or_parts}
+use Rattle.std.proofs.lemmas.Bool.{or_parts, or_left, or_right}
+use Rattle.fine_model.proofs.Order.{all_map}
 
 pub none_found : {A : Type 0} (p : A → Bool) (xs : List A) → find p xs ≡ None → AllByRecursion (λ x. p x ≡ false) xs
 none_found p [] none = tt
@@ -65,3 +66,20 @@ all_below P n all i h = let e : 0 + i ≡ i = omega arith in subst P e (all_rang
 pub all_mapped : {A B : Type 0} (P : B → Type 0) (f : A → B) (xs : List A) → AllByRecursion P (map f xs) → AllByRecursion (λ x. P (f x)) xs
 all_mapped P f [] all = tt
 all_mapped P f (x ∷ xs) all = (all.0, all_mapped P f xs all.1)
+
+-- a number that is found among numbers
+pub all_at : (P : ℕ → Type 0) (n : ℕ) (ns : List ℕ) → AllByRecursion P ns → list_any (nat_eq n) ns ≡ true → P n
+all_at P n [] all there = absurd (true≢false (sym there))
+all_at P n (m ∷ ns) all there = by (nat_eq n m) refl there (all_at P n ns all.1)
+  where
+    by : (b : Bool) → nat_eq n m ≡ b → (b || list_any (nat_eq n) ns) ≡ true → (list_any (nat_eq n) ns ≡ true → P n) → P n
+    by true e h rest = subst P (sym (eqb-true n m e)) all.0
+    by false e h rest = rest h
+
+-- each number is found among its list
+pub each_there : (ns : List ℕ) → AllByRecursion (λ n. list_any (nat_eq n) ns ≡ true) ns
+each_there [] = tt
+each_there (n ∷ ns) = (
+  or_left (nat_eq n n) (list_any (nat_eq n) ns) (eq-eqb n n refl),
+  all_map (λ m. list_any (nat_eq m) ns ≡ true) (λ m. list_any (nat_eq m) (n ∷ ns) ≡ true) (λ m h. or_right (nat_eq m n) (list_any (nat_eq m) ns) h) ns (each_there ns),
+)

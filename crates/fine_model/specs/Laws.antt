@@ -1,7 +1,7 @@
 -- What the laws of the definitions say. Each is the contract of a function of its name.
-use Rattle.std.specs.Prelude.{◌≡◌, ◌≢◌, ℕ, ◌<◌, ◌≤◌, Bool, true, nat_le, IsTrue, List, [], ◌∷◌, ◌++◌, length, Some, None, Ok}
+use Rattle.std.specs.Prelude.{◌≡◌, ◌≢◌, ℕ, ◌<◌, ◌≤◌, Bool, true, nat_le, IsTrue, List, [], ◌∷◌, ◌++◌, length, Some, None, Ok, Err}
 use Rattle.std.specs.List.{AllByRecursion}
-use Rattle.fine_model.specs.Types.{NodeId, Rec, Row, Call, Range, Mark}
+use Rattle.fine_model.specs.Types.{NodeId, Rec, Row, Call, Range, Mark, Why}
 use Rattle.fine_model.specs.Types.rec
 use Rattle.fine_model.specs.Types.node
 use Rattle.fine_model.specs.RowBytes.{FitsRow, BeginsWithRow}
@@ -9,7 +9,7 @@ use Rattle.fine_model.specs.Nodes.{Content, replay, rows_of, content, Agrees}
 use Rattle.fine_model.specs.Map.{Pair, get, set, map_after}
 use Rattle.fine_model.specs.Store.{after_call, writes_of}
 use Rattle.fine_model.specs.Merge.{merged}
-use Rattle.fine_model.specs.Pushed.{pairs_beside, pushed, all_pushed}
+use Rattle.fine_model.specs.Pushed.{pairs_beside, pushed, all_pushed, and_then}
 use Rattle.fine_model.specs.Trees.{IsSound, map_of, bucket_of, nodes_of, tree_numbers}
 use Rattle.fine_model.specs.History.{Commit, IsNext, IsLegal, all_rows, map_at, upto, last_epoch}
 use Rattle.fine_model.specs.Paths.{first_unfit, first_unfit_between}
@@ -126,6 +126,17 @@ PushedLaw = (rows new : List Row) (c : Call) → AreSmall rows → IsSound rows 
 abbrev pub AllPushedLaw : Type 0
 AllPushedLaw = (rows new : List Row) (calls : List Call) → AreSmall rows → IsSound rows → all_pushed rows calls ≡ Ok new
     → IsPushed rows new (map_after (map_of rows) (writes_of (map_of rows) calls))
+
+-- what calls push behind other calls, and what one more pushes
+abbrev pub PushedBehind : Type 0
+PushedBehind = (rows own : List Row) (calls more : List Call) → all_pushed rows calls ≡ Ok own → all_pushed rows (calls ++ more) ≡ and_then (all_pushed (rows ++ own) more) (λ new. Ok (own ++ new))
+
+abbrev pub PushedLast : Type 0
+PushedLast = (rows own new : List Row) (calls : List Call) (c : Call) → all_pushed rows calls ≡ Ok own → pushed (rows ++ own) c ≡ Ok new → all_pushed rows (calls ++ c ∷ []) ≡ Ok (own ++ new)
+
+-- where a call is refused, all are, whatever follows
+abbrev pub PushedStops : Type 0
+PushedStops = (rows own : List Row) (calls more : List Call) (c : Call) (why : Why) → all_pushed rows calls ≡ Ok own → pushed (rows ++ own) c ≡ Err why → all_pushed rows (calls ++ c ∷ more) ≡ Err why
 
 -- ---- histories
 

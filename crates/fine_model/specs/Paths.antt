@@ -82,6 +82,7 @@ scan_from (suc height) bucket nodes next low high bounds number wanted =
     then scan_kids (scan_from height bucket nodes next low high) low high bounds (seps_of (nodes number).0) (kids_of (nodes number).0) wanted
     else Err number
 
+-- A scan of an empty range, or of no pairs, looks at the head alone.
 unfoldable pub unfit_between : ℕ → (ℕ → Content) → List ℕ → List ℕ → ℕ → Node → Option ℕ
 unfit_between bucket nodes low high limit (node.Head root next depth) =
     if nat_lt root next && nat_le 1 depth

@@ -8,6 +8,7 @@ mod becoming;
 mod bound_laws;
 mod chain_laws;
 mod copied;
+pub mod format;
 mod law;
 mod laws;
 mod list;
@@ -18,11 +19,15 @@ mod version_laws;
 
 pub use becoming::{becomes_law, buckets_law, job_law, set_law};
 pub use bound_laws::bounds_law;
-pub use chain_laws::{chain_law, closed_law, free_law, freed_law, own_law, seal_law, tells_law};
+pub use chain_laws::{
+    behind_law, chain_law, closed_law, erased_law, free_law, freed_law, own_law, replace_law,
+    rows_law, seal_law, tells_law,
+};
 pub use law::{BucketLaw, OpenedEye, Origin, RoomLaw, RoomState, ViewLaw, ViewState};
 pub use laws::{
-    agreement_law, agrees_law, fit_law, leaf_law, legal_law, map_law, mark_law, merge_law,
-    pushed_law, replay_law, row_law, sealed_law, shown_law, small_law, upto_law, whole_law,
+    agreement_law, agrees_law, calls_law, cut_law, fit_law, keys_law, leaf_law, legal_law, map_law,
+    mark_law, merge_law, merged_law, merged_run_law, pushed_law, range_law, replay_law, row_law,
+    scan_law, sealed_law, shown_law, small_law, upto_law, whole_law,
 };
 pub use list::{Copied, Items, NoMemory};
 pub use numbers::{natural_of, number_of, number_text};

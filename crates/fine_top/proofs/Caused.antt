@@ -132,12 +132,12 @@ held_told told last P is h = subst (λ t. IfSome t P) is h
 -- a full room keeps the last free region of its disk
 pub full_free : (value : RoomValue) (last : Told) → IsWhole value → IsFull value → value.disk.told ≡ Some last → IsToldOf value.disk last → length (free_regions last.bytes) < 2
 full_free value last whole f is told =
-    let holds = held_told value.disk.told last (λ t. HoldsParts value.disk.region_len t.bytes value.room.parts value.retired) is (whole.told f.open_) in
-    let few = few_free value.disk.region_len last.bytes value.room.parts value.retired holds in
+    let holds = held_told value.disk.told last (λ t. HoldsParts value.disk.region_len t.bytes value.room.parts value.room.retired) is (whole.told f.open_) in
+    let few = few_free value.disk.region_len last.bytes value.room.parts value.room.retired holds in
     let none : value.target ≡ None = (whole.epoch.none f.none_waits).0 in
-    let free : value.room.free ≡ regions_beside value.disk.regions (value.room.parts ++ value.retired) = ap (λ t. option_to_list t ++ value.room.free) (sym none) ∙ whole.free in
-    let same : regions_beside (length last.bytes) (value.room.parts ++ value.retired) ≡ value.room.free = ap (λ n. regions_beside n (value.room.parts ++ value.retired)) told.regions ∙ sym free in
-    let l : length (regions_beside (length last.bytes) (value.room.parts ++ value.retired)) ≡ length value.room.free = ap length same in
+    let free : value.room.free ≡ regions_beside value.disk.regions (value.room.parts ++ value.room.retired) = ap (λ t. option_to_list t ++ value.room.free) (sym none) ∙ whole.free in
+    let same : regions_beside (length last.bytes) (value.room.parts ++ value.room.retired) ≡ value.room.free = ap (λ n. regions_beside n (value.room.parts ++ value.room.retired)) told.regions ∙ sym free in
+    let l : length (regions_beside (length last.bytes) (value.room.parts ++ value.room.retired)) ≡ length value.room.free = ap length same in
     let h = f.few_free in omega (arith, few, l, h)
 
 -- ---- the causes

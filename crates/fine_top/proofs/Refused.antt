@@ -36,7 +36,7 @@ module _ (value : RoomValue) (own : ℕ) where
       if shut then fit.Shut value.room.sealed
       else (if spent then fit.Number (value.room.sealed + 1) value.room.places
       else (if large then fit.TooLarge (need_alone own) value.room.region_len
-      else (if full then fit.Full (length value.room.free) (length (all_regions value.room.parts)) (length (all_regions value.retired))
+      else (if full then fit.Full (length value.room.free) (length (all_regions value.room.parts)) (length (all_regions value.room.retired))
       else (if long then fit.EpochFull (need_in_epoch value.room own) value.room.region_len
       else fit.Fits))))
 
@@ -63,7 +63,7 @@ module _ (value : RoomValue) (own : ℕ) where
   fits_none true large long is = let c : ◌≡◌ {A = Fit} (fit.Number (value.room.sealed + 1) value.room.places) fit.Fits = is in cc
   fits_none false true long is = let c : ◌≡◌ {A = Fit} (fit.TooLarge (need_alone own) value.room.region_len) fit.Fits = is in cc
   fits_none false false long is =
-      let c : ◌≡◌ {A = Fit} (fit.Full (length value.room.free) (length (all_regions value.room.parts)) (length (all_regions value.retired))) fit.Fits = is in cc
+      let c : ◌≡◌ {A = Fit} (fit.Full (length value.room.free) (length (all_regions value.room.parts)) (length (all_regions value.room.retired))) fit.Fits = is in cc
 
   pub not_full : fit_of value own ≡ fit.Fits → IsFull value → ⊥
   not_full fits f =

@@ -15,6 +15,7 @@ use Rattle.fine_model.specs.History.{Commit, last_epoch}
 use Rattle.fine_model.specs.Chain.{Shows}
 use Rattle.fine_model.specs.Outcomes.{AreOutcomes}
 use Rattle.fine_model.specs.Headline.{ShowsSome}
+use Rattle.fine_model.specs.declared.law.RoomState.{RoomState}
 use Rattle.epoch_room.specs.Value.{RoomValue, made}
 use Rattle.epoch_room.specs.Meaning.{Stands, StandsAtFirst, StandsTold, StandsWhere}
 use Rattle.epoch_room.specs.Whole.{IsWhole}
@@ -85,7 +86,7 @@ module _ (disk : Disk) (parts retired : List Part) (new : RoomValue) (leaves aft
       let st = stands_told r first loaded before last e rows is_before is_last shows sound in
       let history : List Commit = commits_of r.runs_to.done in
       let s = st.stands in
-      let len : new.room.region_len ≡ disk.region_len = whole.region_len ∙ r.runs_to.place.beside.region_len in
+      let len : new.room.region_len ≡ disk.region_len = ap (λ (x : RoomState). x.region_len) whole.of_disk ∙ r.runs_to.place.beside.region_len in
       record {
         history = history;
         run = record {

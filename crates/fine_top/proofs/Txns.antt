@@ -17,7 +17,8 @@ use Rattle.fine_model.specs.Store.{replies_to, writes_of}
 use Rattle.fine_model.specs.Merge.{cost}
 use Rattle.fine_model.specs.Pushed.{all_pushed}
 use Rattle.fine_model.specs.History.{Commit, IsLegal, all_rows}
-use Rattle.fine_model.specs.Room.{IsSealedUpTo, RoomState}
+use Rattle.fine_model.specs.declared.law.RoomState.{RoomState}
+use Rattle.fine_model.specs.Room.{IsSealedUpTo}
 use Rattle.log_disk.specs.Disk.{Disk, Told, SameBeside}
 use Rattle.epoch_room.specs.Value.{RoomValue}
 use Rattle.epoch_room.specs.Whole.{IsWhole, HasPassed}
@@ -62,7 +63,7 @@ rests old new is_open (inr s) =
       same_counts = (counts.faults, counts.own_faults);
       place = record { entry = seals.entry; beside = seals.beside; no_lower = (let f = counts.faults in omega (arith, f), let f = counts.own_faults in omega (arith, f)) };
       later = record {
-        region_len = ap (λ r. r.region_len) seals.room;
+        region_len = seals.region_len;
         sealed = let e : new.room.sealed ≡ old.room.sealed + 1 = ap (λ r. r.sealed) seals.room in omega (arith, e);
         places = let e : new.room.places ≡ old.room.places = ap (λ r. r.places) seals.room in omega (arith, e);
         full = λ f. absurd (let none = f.none_waits in let some = s.0 in omega (arith, none, some));
@@ -138,7 +139,7 @@ not_sealed old new leaves run_fault.Disk is_open (some, s) stand = record {
   place = record { entry = s.entry; beside = s.beside; no_lower = s.no_lower };
   goes_on = none_more old new leaves stand;
   later = record {
-    region_len = ap (λ r. r.region_len) s.room;
+    region_len = s.region_len;
     sealed = let e : new.room.sealed ≡ old.room.sealed = ap (λ r. r.sealed) s.room in omega (arith, e);
     places = let e : new.room.places ≡ old.room.places = ap (λ r. r.places) s.room in omega (arith, e);
     full = λ f. absurd (let none = f.none_waits in omega (arith, none, some));
@@ -152,7 +153,7 @@ not_sealed old new leaves run_fault.Memory is_open (some, s) stand =
       place = record { entry = s.entry; beside = s.beside; no_lower = (let f = counts.faults in omega (arith, f), let f = counts.own_faults in omega (arith, f)) };
       goes_on = none_more old new leaves stand;
       later = record {
-        region_len = ap (λ r. r.region_len) s.room;
+        region_len = s.region_len;
         sealed = let e : new.room.sealed ≡ old.room.sealed = ap (λ r. r.sealed) s.room in omega (arith, e);
         places = let e : new.room.places ≡ old.room.places = ap (λ r. r.places) s.room in omega (arith, e);
         full = λ f. absurd (let none = f.none_waits in omega (arith, none, some));

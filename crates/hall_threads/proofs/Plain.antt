@@ -12,7 +12,7 @@ use Rattle.fine_model.specs.History.{Commit}
 use Rattle.fine_places.proofs.Lists.{decide}
 use Rattle.fine_hall.specs.declared.law.Beginning.{Beginning}
 use Rattle.fine_hall.specs.Turns.{added, in_bucket, is_in, is_call_in}
-use Rattle.fine_hall.specs.Laws.{IsBucketFor, IsUpTo, node_id}
+use Rattle.fine_model.specs.Buckets.{IsBucketFor, IsUpTo, node_id}
 use Rattle.fine_hall.proofs.Bucket.{same_up_to}
 use Rattle.fine_hall.proofs.Laying.{no_slot, some_same}
 
@@ -25,9 +25,10 @@ up_more p q id [] (Some e) epoch le none u = (λ on. absurd (no_row id e.rows (n
 up_more p q id (c ∷ cs) o epoch le none u = (λ on. le_trans (u.0 on) le, up_more p q id cs o epoch le none u.1)
 
 pub stands_on : {B : Type 0} (bucket : B → ℕ) (x : Beginning) (k p q : ℕ) (b : B) (h h' all : List Commit) (o : Option Entry) (epoch : ℕ) → ((e : Entry) → o ≡ Some e → e.rows ≡ []) → in_bucket k h ≡ in_bucket k h' → p ≤ q → all ≡ h' ++ added o epoch
-    → IsBucketFor bucket (λ _ _. None) x k p b h → IsBucketFor bucket (λ _ _. None) x k q b all
-stands_on bucket x k p q b h h' all o epoch none same le is s = subst (IsBucketFor bucket (λ _ _. None) x k q b) (sym is) (record {
+    → IsBucketFor bucket (λ _ _. None) (λ _. Unit {0}) x.log k p b h → IsBucketFor bucket (λ _ _. None) (λ _. Unit {0}) x.log k q b all
+stands_on bucket x k p q b h h' all o epoch none same le is s = subst (IsBucketFor bucket (λ _ _. None) (λ _. Unit {0}) x.log k q b) (sym is) (record {
   number = s.number;
+  settled = s.settled;
   nodes = λ n kept there. absurd (no_slot kept there);
   absent = λ n no. up_more p q (node_id k n) h' o epoch le none (same_up_to p k n h h' same (s.absent n no));
 })

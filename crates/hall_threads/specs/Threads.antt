@@ -3,7 +3,7 @@ use Rattle.std.specs.Prelude.{◌≡◌, ℕ, true, false, [], Option, None}
 use Rattle.fine_model.specs.declared.Entry.{Entry}
 use Rattle.fine_model.specs.declared.law.Origin.{Origin}
 use Rattle.fine_model.specs.Nodes.{Content}
-use Rattle.fine_model.specs.Room.{RoomState}
+use Rattle.fine_model.specs.declared.law.RoomState.{RoomState}
 use Rattle.fine_hall.specs.declared.pass.Pass.{Pass}
 use Rattle.fine_hall.specs.Turns.{is_in}
 use Rattle.fine_hall.specs.Halls.{HallOf, IsPassOf}
@@ -19,18 +19,22 @@ nowhere = record { region_len = 0; image = None; clock = 0; faults = 0; own_faul
 abbrev pub counting : ℕ → RoomState
 counting n = record {
   region_len = 0;
+  regions = 0;
   sealed = 0;
   places = n;
   parts = [];
-  free = [];
   retired = [];
+  free = [];
+  lost = [];
   open_rows = [];
   waiting = 0;
   used = 0;
-  board_eyes = [];
-  open_eyes = [];
-  has_job = false;
+  board = [];
+  job = None;
   is_shut = false;
+  image = None;
+  eyes = [];
+  given = [];
   faults = 0;
   own_faults = 0;
 }
@@ -59,3 +63,6 @@ number_of b = b.bucket
 
 abbrev pub no_node : EmptyBucket → ℕ → Option (Content × ℕ)
 no_node b n = None
+
+abbrev pub is_resting : EmptyBucket → Type 0
+is_resting b = Unit {0}

@@ -1,7 +1,7 @@
 //! A room that counts, and buckets that cache nothing.
 
 ghost use Rattle.std.specs.Prelude.{◌≡◌, None};
-ghost use Rattle.hall_threads.specs.Threads.{counting, nowhere};
+ghost use Rattle.hall_threads.specs.Threads.{counting, nowhere, is_resting};
 
 use fine_model::{BucketLaw, RoomLaw};
 
@@ -29,4 +29,6 @@ impl BucketLaw for EmptyBucket {
     ghost bucket = { λ b. b.bucket };
 
     ghost cached = { λ b n. None };
+
+    ghost is_settled = { is_resting };
 }

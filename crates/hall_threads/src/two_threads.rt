@@ -2,7 +2,7 @@
 
 ghost use Rattle.std.specs.Prelude.{◌≡◌, ◌<◌, ◌+◌, ◌∷◌, [], IfSome, IfOk, vec_len, vec_capacity};
 ghost use Rattle.fine_hall.specs.Halls.{AreFreshBuckets};
-ghost use Rattle.hall_threads.specs.Threads.{IsAlone, number_of, no_node};
+ghost use Rattle.hall_threads.specs.Threads.{IsAlone, number_of, no_node, is_resting};
 
 use crate::things::{CountingRoom, EmptyBucket};
 use crate::threads::both;
@@ -14,7 +14,7 @@ use std::thread::Threads;
 
 /// The buckets in order.
 pub(crate) fn fresh_buckets(alloc: Global) -> Result<Vec<EmptyBucket>, AllocError>
-    ensures { IfOk result (λ buckets. AreFreshBuckets number_of no_node buckets.items) }
+    ensures { IfOk result (λ buckets. AreFreshBuckets number_of no_node is_resting buckets.items) }
 {
     let mut buckets = Vec::with_capacity(alloc, 256)?;
     for bucket in 0..256 {

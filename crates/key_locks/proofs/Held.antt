@@ -8,7 +8,7 @@ use Rattle.fine_hall.specs.declared.law.Beginning.{Beginning}
 use Rattle.fine_hall.specs.declared.pass.Pass.{Pass}
 use Rattle.fine_model.specs.Nodes.{Content}
 use Rattle.fine_hall.specs.Turns.{commits}
-use Rattle.fine_hall.specs.Laws.{IsBucketFor}
+use Rattle.fine_model.specs.Buckets.{IsBucketFor}
 use Rattle.fine_hall.specs.Passes.{known, seen, published, HasPlace, LacksPlace}
 use Rattle.fine_hall.specs.Halls.{Takes, Stays, Gives}
 use Rattle.key_locks.specs.Locks.{HasLock, LacksLock, AreLocksOf, AllStand, Releases}
@@ -71,11 +71,11 @@ all_stay locks p p' s all j lt = let q = ap (λ l. get_elem? l j) s.same_held in
 pub gone_there : {B : Type 0} (locks locks' : List (Option B)) (k : ℕ) (b : B) → locks' ≡ slice_set locks k None → HasLock locks k b → LacksLock locks' k
 gone_there locks locks' k b e h = ap (λ l. slice_get l k) e ∙ get_same locks k (Some b) None h
 
-pub others_stand : {B : Type 0} (bucket : B → ℕ) (cached : B → ℕ → Option (Content × ℕ)) (x : Beginning) (locks locks' : List (Option B)) (p p' : Pass) (k : ℕ) (b : B) → locks' ≡ slice_set locks k None → HasLock locks k b → Gives k p p'
-    → AllStand bucket cached x locks p → AllStand bucket cached x locks' p'
-others_stand bucket cached x locks locks' p p' k b e h g all j c lt has = ⊎_elim
+pub others_stand : {B : Type 0} (bucket : B → ℕ) (cached : B → ℕ → Option (Content × ℕ)) (is_settled : B → Type 0) (x : Beginning) (locks locks' : List (Option B)) (p p' : Pass) (k : ℕ) (b : B) → locks' ≡ slice_set locks k None → HasLock locks k b → Gives k p p'
+    → AllStand bucket cached is_settled x locks p → AllStand bucket cached is_settled x locks' p'
+others_stand bucket cached is_settled x locks locks' p p' k b e h g all j c lt has = ⊎_elim
     (λ (is : j ≡ k). absurd (not_both locks' k c (gone_there locks locks' k b e h) (subst (λ i. HasLock locks' i c) is has)))
-    (λ (ne : j ≢ k). subst (λ q. IsBucketFor bucket cached x j q c (seen p')) (sym g.same_published) (subst (λ l. IsBucketFor bucket cached x j (published p) c (commits l)) (sym g.same_turns) (all j c lt (sym (ap (λ l. slice_get l j) e ∙ get_else locks k j None ne) ∙ has))))
+    (λ (ne : j ≢ k). subst (λ q. IsBucketFor bucket cached is_settled x.log j q c (seen p')) (sym g.same_published) (subst (λ l. IsBucketFor bucket cached is_settled x.log j (published p) c (commits l)) (sym g.same_turns) (all j c lt (sym (ap (λ l. slice_get l j) e ∙ get_else locks k j None ne) ∙ has))))
     (decide j k)
 
 pub below_room : (k : ℕ) → k < 256 → places.room ≢ k

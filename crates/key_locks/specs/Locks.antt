@@ -5,7 +5,7 @@ use Rattle.fine_places.specs.History as places
 use Rattle.fine_model.specs.Nodes.{Content}
 use Rattle.fine_hall.specs.declared.law.Beginning.{Beginning}
 use Rattle.fine_hall.specs.declared.pass.Pass.{Pass}
-use Rattle.fine_hall.specs.Laws.{IsBucketFor}
+use Rattle.fine_model.specs.Buckets.{IsBucketFor}
 use Rattle.fine_hall.specs.Turns.{in_bucket}
 use Rattle.fine_model.specs.History.{Commit}
 use Rattle.fine_hall.specs.Passes.{seen, mine, published, own_faults, known, turns, own_turns, HasPlace, LacksPlace}
@@ -24,19 +24,19 @@ module _ {B : Type 0} where
   AreLocksOf locks p = (k : ℕ) → k < 256 → (LacksLock locks k × LacksPlace p k) ⊎ (((b : B) × HasLock locks k b) × HasPlace p k)
 
   -- a bucket was taken, whose content stands for the whole history; all else is as it was
-  pub record TakesLock (bucket : B → ℕ) (cached : B → ℕ → Option (Content × ℕ)) (x : Beginning) (k : ℕ) (locks locks' : List (Option B)) (p p' : Pass) : Type 0 where
+  pub record TakesLock (bucket : B → ℕ) (cached : B → ℕ → Option (Content × ℕ)) (is_settled : B → Type 0) (x : Beginning) (k : ℕ) (locks locks' : List (Option B)) (p p' : Pass) : Type 0 where
     pub content : B
     pub locked : locks' ≡ slice_set locks k (Some content)
-    pub stands : IsBucketFor bucket cached x k (published p') content (seen p')
+    pub stands : IsBucketFor bucket cached is_settled x.log k (published p') content (seen p')
     pub takes : Takes x k p p'
 
   -- a bucket is in the set: it was before, and nothing changed, or it was taken
-  abbrev pub Wants : (B → ℕ) → (B → ℕ → Option (Content × ℕ)) → Beginning → ℕ → List (Option B) → List (Option B) → Pass → Pass → Type 0
-  Wants bucket cached x k locks locks' p p' = (((b : B) × HasLock locks k b) × (locks' ≡ locks) × (p' ≡ p)) ⊎ TakesLock bucket cached x k locks locks' p p'
+  abbrev pub Wants : (B → ℕ) → (B → ℕ → Option (Content × ℕ)) → (B → Type 0) → Beginning → ℕ → List (Option B) → List (Option B) → Pass → Pass → Type 0
+  Wants bucket cached is_settled x k locks locks' p p' = (((b : B) × HasLock locks k b) × (locks' ≡ locks) × (p' ≡ p)) ⊎ TakesLock bucket cached is_settled x k locks locks' p p'
 
   -- each content in the set stands for the whole history that the pass saw
-  abbrev pub AllStand : (B → ℕ) → (B → ℕ → Option (Content × ℕ)) → Beginning → List (Option B) → Pass → Type 0
-  AllStand bucket cached x locks p = (k : ℕ) (b : B) → k < 256 → HasLock locks k b → IsBucketFor bucket cached x k (published p) b (seen p)
+  abbrev pub AllStand : (B → ℕ) → (B → ℕ → Option (Content × ℕ)) → (B → Type 0) → Beginning → List (Option B) → Pass → Type 0
+  AllStand bucket cached is_settled x locks p = (k : ℕ) (b : B) → k < 256 → HasLock locks k b → IsBucketFor bucket cached is_settled x.log k (published p) b (seen p)
 
   -- Buckets were given back: the set has no others than before, and the pass knows what it knew, and holds the room where it did.
   pub record Releases (locks locks' : List (Option B)) (p p' : Pass) : Type 0 where
@@ -48,9 +48,9 @@ module _ {B : Type 0} where
 
   -- Buckets were taken: the set has what it had, and each other content stands for the whole history. The pass saw the history so far,
   -- which began with what it saw before, and in each bucket that it held the same.
-  pub record Gathers (bucket : B → ℕ) (cached : B → ℕ → Option (Content × ℕ)) (x : Beginning) (locks locks' : List (Option B)) (p p' : Pass) : Type 0 where
+  pub record Gathers (bucket : B → ℕ) (cached : B → ℕ → Option (Content × ℕ)) (is_settled : B → Type 0) (x : Beginning) (locks locks' : List (Option B)) (p p' : Pass) : Type 0 where
     pub kept : (k : ℕ) (b : B) → HasLock locks k b → HasLock locks' k b
-    pub stands : (k : ℕ) (b : B) → k < 256 → HasLock locks' k b → HasLock locks k b ⊎ IsBucketFor bucket cached x k (published p') b (seen p')
+    pub stands : (k : ℕ) (b : B) → k < 256 → HasLock locks' k b → HasLock locks k b ⊎ IsBucketFor bucket cached is_settled x.log k (published p') b (seen p')
     pub same_in : (k : ℕ) → k < 256 → HasPlace p k → in_bucket k (seen p) ≡ in_bucket k (seen p')
     pub longer : (more : List Commit) × (seen p' ≡ seen p ++ more)
     pub same_mine : mine p' ≡ mine p
@@ -68,11 +68,11 @@ module _ {B : Type 0} where
 
   -- All buckets were to be taken, in ascending order, and this one was found held. Those below it are in the set, and the others are as
   -- they were; the last try was that for this bucket.
-  pub record StopsAt (number : B → ℕ) (cached : B → ℕ → Option (Content × ℕ)) (x : Beginning) (bucket owner : ℕ) (locks locks' : List (Option B)) (p p' : Pass) : Type 0 where
+  pub record StopsAt (number : B → ℕ) (cached : B → ℕ → Option (Content × ℕ)) (is_settled : B → Type 0) (x : Beginning) (bucket owner : ℕ) (locks locks' : List (Option B)) (p p' : Pass) : Type 0 where
     pub within : bucket < 256
     pub below : HasAllBelow bucket locks'
     pub stay : StayFrom bucket locks locks'
     pub lacks : LacksLock locks bucket
     pub between : Pass
-    pub gathers : Gathers number cached x locks locks' p between
+    pub gathers : Gathers number cached is_settled x locks locks' p between
     pub finds : FindsHeld x bucket owner between p'

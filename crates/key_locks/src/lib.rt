@@ -3,7 +3,7 @@
 
 ghost use Rattle.std.specs.Prelude.{◌≡◌, ◌≢◌, ◌<◌, ◌≤◌, ℕ, IfOk, IfErr, OnOk, OnErr, MatchBool, None, Some, Option, length, replicate, slice_get, slice_set, vec_len};
 ghost use Rattle.fine_model.specs.Trees.{bucket_of as bucket_of_key};
-ghost use Rattle.fine_hall.specs.Laws.{IsBucketFor};
+ghost use Rattle.fine_model.specs.Buckets.{IsBucketFor};
 ghost use Rattle.fine_hall.specs.Passes.{published, seen, HasPlace, LacksPlace};
 ghost use Rattle.fine_hall.specs.Halls.{IsPassOf, begun, FindsHeld};
 ghost use Rattle.std.specs.Option.{option_copied_mut};
@@ -102,11 +102,11 @@ impl<B: BucketLaw + Drop> LockSet<B> {
         requires bucket { bucket < 256 }
         requires pass { IsPassOf R.state R.origin hall.now pass.old × AreLocksOf self.old pass.old }
         ensures pass { IsPassOf R.state R.origin hall.now pass.new × (pass.new.number ≡ pass.old.number) × AreLocksOf self.new pass.new }
-        ensures wants { OnOk result (Wants B.bucket B.cached (begun R.state R.origin hall.now) bucket self.old self.new pass.old pass.new) }
-        ensures gathers { OnOk result (Gathers B.bucket B.cached (begun R.state R.origin hall.now) self.old self.new pass.old pass.new) }
+        ensures wants { OnOk result (Wants B.bucket B.cached B.is_settled (begun R.state R.origin hall.now) bucket self.old self.new pass.old pass.new) }
+        ensures gathers { OnOk result (Gathers B.bucket B.cached B.is_settled (begun R.state R.origin hall.now) self.old self.new pass.old pass.new) }
         ensures there { OnOk result ((content : B) × HasLock self.new bucket content) }
         ensures others { (k : ℕ) → k ≢ bucket → slice_get self.new k ≡ slice_get self.old k }
-        ensures stands { AllStand B.bucket B.cached (begun R.state R.origin hall.now) self.old pass.old → AllStand B.bucket B.cached (begun R.state R.origin hall.now) self.new pass.new }
+        ensures stands { AllStand B.bucket B.cached B.is_settled (begun R.state R.origin hall.now) self.old pass.old → AllStand B.bucket B.cached B.is_settled (begun R.state R.origin hall.now) self.new pass.new }
         ensures conflict { IfErr result (λ conflict. (conflict.bucket ≡ bucket) × LacksLock self.old bucket × FindsHeld (begun R.state R.origin hall.now) bucket conflict.owner pass.old pass.new) }
         ensures same { OnErr result (self.new ≡ self.old) }
     {
@@ -131,9 +131,9 @@ impl<B: BucketLaw + Drop> LockSet<B> {
         requires key { (1 ≤ length key.now) × (length key.now ≤ 64) }
         requires pass { IsPassOf R.state R.origin hall.now pass.old × AreLocksOf self.old pass.old }
         ensures pass { IsPassOf R.state R.origin hall.now pass.new × (pass.new.number ≡ pass.old.number) × AreLocksOf self.new pass.new }
-        ensures wants { OnOk result (Wants B.bucket B.cached (begun R.state R.origin hall.now) (bucket_of_key key.now) self.old self.new pass.old pass.new) }
+        ensures wants { OnOk result (Wants B.bucket B.cached B.is_settled (begun R.state R.origin hall.now) (bucket_of_key key.now) self.old self.new pass.old pass.new) }
         ensures conflict { IfErr result (λ conflict. (conflict.bucket ≡ bucket_of_key key.now) × LacksLock self.old (bucket_of_key key.now) × FindsHeld (begun R.state R.origin hall.now) (bucket_of_key key.now) conflict.owner pass.old pass.new) }
-        ensures stands { AllStand B.bucket B.cached (begun R.state R.origin hall.now) self.old pass.old → AllStand B.bucket B.cached (begun R.state R.origin hall.now) self.new pass.new }
+        ensures stands { AllStand B.bucket B.cached B.is_settled (begun R.state R.origin hall.now) self.old pass.old → AllStand B.bucket B.cached B.is_settled (begun R.state R.origin hall.now) self.new pass.new }
         ensures same { OnErr result (self.new ≡ self.old) }
     {
         self.take(hall, pass, bucket_of(key))
@@ -151,9 +151,9 @@ impl<B: BucketLaw + Drop> LockSet<B> {
         requires pass { IsPassOf R.state R.origin hall.now pass.old × AreLocksOf self.old pass.old }
         ensures pass { IsPassOf R.state R.origin hall.now pass.new × (pass.new.number ≡ pass.old.number) × AreLocksOf self.new pass.new }
         ensures all { OnOk result (HasAllBelow 256 self.new) }
-        ensures gathers { OnOk result (Gathers B.bucket B.cached (begun R.state R.origin hall.now) self.old self.new pass.old pass.new) }
-        ensures conflict { IfErr result (λ conflict. StopsAt B.bucket B.cached (begun R.state R.origin hall.now) conflict.bucket conflict.owner self.old self.new pass.old pass.new) }
-        ensures stands { AllStand B.bucket B.cached (begun R.state R.origin hall.now) self.old pass.old → AllStand B.bucket B.cached (begun R.state R.origin hall.now) self.new pass.new }
+        ensures gathers { OnOk result (Gathers B.bucket B.cached B.is_settled (begun R.state R.origin hall.now) self.old self.new pass.old pass.new) }
+        ensures conflict { IfErr result (λ conflict. StopsAt B.bucket B.cached B.is_settled (begun R.state R.origin hall.now) conflict.bucket conflict.owner self.old self.new pass.old pass.new) }
+        ensures stands { AllStand B.bucket B.cached B.is_settled (begun R.state R.origin hall.now) self.old pass.old → AllStand B.bucket B.cached B.is_settled (begun R.state R.origin hall.now) self.new pass.new }
     {
         for bucket in 0..BUCKETS {
             self.take(hall, pass, bucket)?;
@@ -174,9 +174,9 @@ impl<B: BucketLaw + Drop> LockSet<B> {
     fn release<R: RoomLaw>(&mut self, hall: &Hall<R, B>, pass: &mut Pass, bucket: u16)
         requires bucket { bucket < 256 }
         requires pass { IsPassOf R.state R.origin hall.now pass.old × AreLocksOf self.old pass.old }
-        requires stands { AllStand B.bucket B.cached (begun R.state R.origin hall.now) self.old pass.old }
+        requires stands { AllStand B.bucket B.cached B.is_settled (begun R.state R.origin hall.now) self.old pass.old }
         ensures pass { IsPassOf R.state R.origin hall.now pass.new × (pass.new.number ≡ pass.old.number) × AreLocksOf self.new pass.new }
-        ensures stands { AllStand B.bucket B.cached (begun R.state R.origin hall.now) self.new pass.new }
+        ensures stands { AllStand B.bucket B.cached B.is_settled (begun R.state R.origin hall.now) self.new pass.new }
         ensures gone { LacksLock self.new bucket }
         ensures releases { Releases self.old self.new pass.old pass.new }
     {
@@ -190,7 +190,7 @@ impl<B: BucketLaw + Drop> LockSet<B> {
     /// Each content stands for the whole history that the pass saw.
     pub fn release_all<R: RoomLaw>(&mut self, hall: &Hall<R, B>, pass: &mut Pass)
         requires pass { IsPassOf R.state R.origin hall.now pass.old × AreLocksOf self.old pass.old }
-        requires stands { AllStand B.bucket B.cached (begun R.state R.origin hall.now) self.old pass.old }
+        requires stands { AllStand B.bucket B.cached B.is_settled (begun R.state R.origin hall.now) self.old pass.old }
         ensures pass { IsPassOf R.state R.origin hall.now pass.new × (pass.new.number ≡ pass.old.number) × AreLocksOf self.new pass.new }
         ensures none { (k : ℕ) → k < 256 → LacksLock self.new k }
         ensures releases { Releases self.old self.new pass.old pass.new }

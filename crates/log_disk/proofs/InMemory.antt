@@ -7,7 +7,7 @@ use Rattle.log_disk.proofs.Regions.{region_of-map}
 use Rattle.std.specs.declared.sync.Arc.{Arc}
 use Rattle.std.proofs.lemmas.List.{map_push, length-map, length-replicate, get_or-replicate}
 use Rattle.std.proofs.lemmas.Option.{unwrap_or-slice_get}
-use Rattle.log_disk.specs.Disk.{Image, region_of, Span, Moment, IsImageAt, SameOutside, Syncs, zeros, new_disk, told_anew}
+use Rattle.log_disk.specs.Disk.{Image, region_of, Span, Moment, IsImageAt, AreNumbered, SameOutside, Syncs, zeros, new_disk, told_anew}
 use Rattle.log_disk.specs.Eyes.{eyes_in, numbers_to}
 use Rattle.log_disk.specs.MemDisk.{range_of, image_of, synced_image_of, moment_of, disk_of, IsKeptWell}
 use Rattle.log_disk.specs.declared.mem.Present.{Present}
@@ -44,25 +44,27 @@ zeros_length regions len r h =
 
 -- the same regions and ranges are kept as well
 pub kept_alike : (a b : Inside) → IsKeptWell a → b.present.regions.items ≡ a.present.regions.items → b.present.unsynced.items ≡ a.present.unsynced.items
-    → b.region_len ≡ a.region_len → (0 < vec_len b.present.unsynced → vec_len b.past < vec_capacity b.past) → IsKeptWell b
-kept_alike a b kept rows ranges len room = record {
+    → b.region_len ≡ a.region_len → (0 < vec_len b.present.unsynced → vec_len b.past < vec_capacity b.past) → b.eyes ≡ a.eyes → IsKeptWell b
+kept_alike a b kept rows ranges len room eyes = record {
   few = subst (λ n. n < 4294967296) (sym (ap length rows)) kept.few;
   lengths = λ r h. ap (λ xs. length (region_of (map bytes_of xs) r)) rows ∙ kept.lengths r (omega (arith, h, ap length rows)) ∙ sym len;
   image =
       let P : List Region → List Written → Type 0 = λ xs spans. IsImageAt (record { synced = map synced_of xs; unsynced = map range_of spans }) (map bytes_of xs) in
       subst (λ spans. P b.present.regions.items spans) (sym ranges) (subst (λ xs. P xs a.present.unsynced.items) (sym rows) kept.image);
   room = room;
+  eyes = subst (λ e. AreNumbered (eyes_in e) (numbers_to e.given)) (sym eyes) kept.eyes;
 }
 
 -- and so are regions that differ only in a range that was noted
 pub kept_written : (a b : Inside) (before : List Written) (w : Written) → IsKeptWell a → length b.present.regions.items ≡ length a.present.regions.items → b.region_len ≡ a.region_len
     → SameOutside w.region w.from w.end (image_of a.present) (image_of b.present) → synced_image_of b.present ≡ synced_image_of a.present
-    → b.present.unsynced.items ≡ before ++ w ∷ [] → before ≡ a.present.unsynced.items → (0 < vec_len b.present.unsynced → vec_len b.past < vec_capacity b.past) → IsKeptWell b
-kept_written a b before w kept count len outside synced ranges same room = record {
+    → b.present.unsynced.items ≡ before ++ w ∷ [] → before ≡ a.present.unsynced.items → (0 < vec_len b.present.unsynced → vec_len b.past < vec_capacity b.past) → b.eyes ≡ a.eyes → IsKeptWell b
+kept_written a b before w kept count len outside synced ranges same room eyes = record {
   few = subst (λ n. n < 4294967296) (sym count) kept.few;
   lengths = λ r h. outside.lengths r ∙ kept.lengths r (omega (arith, h, count)) ∙ sym len;
   image = image_noted _ _ _ _ _ _ w (ranges ∙ ap (λ xs. xs ++ w ∷ []) same) synced outside kept.image;
   room = room;
+  eyes = subst (λ e. AreNumbered (eyes_in e) (numbers_to e.given)) (sym eyes) kept.eyes;
 }
 
 -- how many regions there are, by what they show
@@ -83,12 +85,14 @@ new_disk_is disk image regions len number bytes synced ranges past eyes given al
 
 -- a disk that is new is kept well
 pub new_kept : (disk : Inside) (image : Image) → length image < 4294967296 → ((r : ℕ) → r < length image → length (region_of image r) ≡ disk.region_len)
-    → map bytes_of disk.present.regions.items ≡ image → map synced_of disk.present.regions.items ≡ image → vec_len disk.present.unsynced ≡ 0 → IsKeptWell disk
-new_kept disk image few lengths bytes synced none = record {
+    → map bytes_of disk.present.regions.items ≡ image → map synced_of disk.present.regions.items ≡ image → vec_len disk.present.unsynced ≡ 0
+    → AreNumbered (eyes_in disk.eyes) (numbers_to disk.eyes.given) → IsKeptWell disk
+new_kept disk image few lengths bytes synced none eyes = record {
   few = subst (λ n. n < 4294967296) (sym (count_shown bytes_of disk.present.regions.items image bytes)) few;
   lengths = λ r h. ap (λ i. length (region_of i r)) bytes ∙ lengths r (omega (arith, h, count_shown bytes_of disk.present.regions.items image bytes));
   image = synced_is_image _ _ _ (bytes ∙ sym synced);
   room = λ some. absurd (omega (arith, some, none));
+  eyes = eyes;
 }
 
 -- an eye that shares all regions, whose bytes have their length, is kept well

@@ -11,3 +11,4 @@ pub mod Torn
 pub mod Calls
 pub mod Steps
 pub mod Sound
+pub mod Times

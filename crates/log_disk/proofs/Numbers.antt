@@ -1,10 +1,13 @@
--- The open eyes of a disk.
-use Rattle.std.proofs.Common.{◌≡◌, ℕ, ◌+◌, ◌<◌, Bool, true, false, cond, List, [], ◌∷◌, ◌++◌, map, refl, sym, ap, ◌∙◌, arith}
-use Rattle.std.specs.Prelude.{Contains, filter, not, ◌==◌}
-use Rattle.std.specs.List.{range_with_len}
+-- The open eyes of a disk, and their numbers.
+use Rattle.std.proofs.Common.{◌≡◌, ℕ, ◌+◌, ◌<◌, Bool, true, false, cond, List, [], ◌∷◌, ◌++◌, map, refl, sym, ap, subst, ◌∙◌, arith}
+use Rattle.std.specs.Prelude.{Contains, filter, not, ◌==◌, nat_eq}
+use Rattle.std.specs.List.{range_with_len, AllByRecursion, IsDistinct}
 use Rattle.std.proofs.lemmas.List.FromFn.{map-range_with_len_more, length-range_with_len, get_or-range_with_len}
 use Rattle.std.proofs.lemmas.List.{map-id, map_push}
-use Rattle.log_disk.specs.Disk.{OpenEye}
+use Rattle.std.proofs.lemmas.Bool.{ne_eqb}
+use Rattle.std.proofs.lemmas.Map.Keys.{IsDistinct-cons, IsDistinct-head, IsDistinct-tail}
+use Rattle.log_disk.specs.Disk.{OpenEye, AreNumbered}
+use Rattle.log_disk.proofs.Lists.{contains_left, contains_last, all_push, all_weaker, all_filter}
 use Rattle.log_disk.specs.Eyes.{open_of, numbers_to}
 use Rattle.log_disk.specs.declared.eyes.OpenEye.{OpenEye as Opened}
 
@@ -36,3 +39,53 @@ listed_more eyes before after e number regions more same n r =
     ap (map open_of) more ∙ map_push open_of before e ∙ ap (λ xs. map open_of xs ++ open_of e ∷ []) same
     ∙ ap (λ m. map open_of eyes ++ record { number = m; regions = e.regions.value.items } ∷ []) n
     ∙ ap (λ rs. map open_of eyes ++ record { number = number; regions = rs } ∷ []) r
+
+-- numbers that differ from one that comes before them
+abbrev AreApartFrom : ℕ → List OpenEye → Type 0
+AreApartFrom number eyes = AllByRecursion (λ n. nat_eq number n ≡ false) (map (λ (eye : OpenEye). eye.number) eyes)
+
+-- eyes stay apart with one more that differs from each, and with some of them gone
+distinct_push : (eyes : List OpenEye) (eye : OpenEye) → IsDistinct nat_eq (map (λ (e : OpenEye). e.number) eyes)
+    → AllByRecursion (λ e. nat_eq e.number eye.number ≡ false) eyes → IsDistinct nat_eq (map (λ (e : OpenEye). e.number) (eyes ++ eye ∷ []))
+distinct_push [] eye apart new = IsDistinct-cons nat_eq eye.number [] tt apart
+distinct_push (e ∷ eyes) eye apart new =
+    IsDistinct-cons nat_eq e.number _ (front eyes (IsDistinct-head nat_eq e.number _ apart)) (distinct_push eyes eye (IsDistinct-tail nat_eq e.number _ apart) new.1)
+  where
+    front : (es : List OpenEye) → AreApartFrom e.number es → AreApartFrom e.number (es ++ eye ∷ [])
+    front [] h = (new.0, tt)
+    front (x ∷ es) h = (h.0, front es h.1)
+
+apart_filter : (number : ℕ) (p : OpenEye → Bool) (eyes : List OpenEye) → AreApartFrom number eyes → AreApartFrom number (filter p eyes)
+apart_filter number p [] h = tt
+apart_filter number p (e ∷ eyes) h = by (p e) (filter p eyes) (apart_filter number p eyes h.1)
+  where
+    by : (b : Bool) (es : List OpenEye) → AreApartFrom number es → AreApartFrom number (cond b (e ∷ es) es)
+    by true es rest = (h.0, rest)
+    by false es rest = rest
+
+distinct_filter : (p : OpenEye → Bool) (eyes : List OpenEye) → IsDistinct nat_eq (map (λ (e : OpenEye). e.number) eyes) → IsDistinct nat_eq (map (λ (e : OpenEye). e.number) (filter p eyes))
+distinct_filter p [] apart = apart
+distinct_filter p (e ∷ eyes) apart =
+    by (p e) (filter p eyes) (apart_filter e.number p eyes (IsDistinct-head nat_eq e.number _ apart)) (distinct_filter p eyes (IsDistinct-tail nat_eq e.number _ apart))
+  where
+    by : (b : Bool) (es : List OpenEye) → AreApartFrom e.number es → IsDistinct nat_eq (map (λ (e : OpenEye). e.number) es) → IsDistinct nat_eq (map (λ (e : OpenEye). e.number) (cond b (e ∷ es) es))
+    by true es front rest = IsDistinct-cons nat_eq e.number _ front rest
+    by false es front rest = rest
+
+-- no eye is open, and an eye is opened or closed
+pub numbered_none : (given : List ℕ) → AreNumbered [] given
+unfolding IsDistinct
+numbered_none given = record { apart = tt; given = tt }
+
+pub numbered_opens : (eyes : List OpenEye) (given : List ℕ) (eye : OpenEye) → (Contains given eye.number → ⊥) → AreNumbered eyes given → AreNumbered (eyes ++ eye ∷ []) (given ++ eye.number ∷ [])
+numbered_opens eyes given eye new are = record {
+  apart =
+      distinct_push eyes eye are.apart
+      (all_weaker (λ (e : OpenEye). Contains given e.number) _ (λ e in'. ne_eqb e.number eye.number (λ same. new (subst (Contains given) same in'))) eyes are.given);
+  given =
+      all_push (λ (e : OpenEye). Contains (given ++ eye.number ∷ []) e.number) eyes eye
+      (all_weaker (λ (e : OpenEye). Contains given e.number) _ (λ e in'. contains_left given (eye.number ∷ []) e.number in') eyes are.given) (contains_last given eye.number);
+}
+
+pub numbered_closes : (eyes : List OpenEye) (given : List ℕ) (p : OpenEye → Bool) → AreNumbered eyes given → AreNumbered (filter p eyes) given
+numbered_closes eyes given p are = record { apart = distinct_filter p eyes are.apart; given = all_filter (λ (e : OpenEye). Contains given e.number) p eyes are.given }

@@ -1,18 +1,12 @@
 -- As long as an eye is open, its regions on the disk hold what it shows: laws for the crates above.
-use Rattle.std.proofs.Common.{◌≡◌, ◌≢◌, ℕ, zero, suc, ◌+◌, ◌<◌, Bool, true, false, cond, List, [], ◌∷◌, ◌++◌, length, get_or, Some, None, refl, sym, ap, subst, ◌∙◌, inl, inr, arith}
+use Rattle.std.proofs.Common.{◌≡◌, ◌≢◌, ℕ, zero, suc, ◌+◌, ◌<◌, Bool, true, false, cond, List, [], ◌∷◌, length, get_or, Some, None, sym, ap, subst, ◌∙◌, inl, inr, arith}
 use Rattle.std.specs.Prelude.{Option, All, Any, Contains, filter, not, ◌==◌}
-use Rattle.std.proofs.lemmas.List.{get_or_append_left, get_or_push, length-append, get_or_default}
-use Rattle.std.proofs.lemmas.Bool.Decides.{eqb_tells}
+use Rattle.std.proofs.lemmas.List.{get_or_default}
+use Rattle.std.proofs.lemmas.Bool.{ne_eqb}
 use Rattle.std.proofs.lemmas.List.Elements.{All-contains}
 use Rattle.log_disk.specs.Disk.{Image, region_of, Told, Disk, Eye, OpenEye, BothTold, BothSee, SameOutside, IsUnseen, Writes, Syncs, Opens, Closes, Looks, HasSynced}
 use Rattle.log_disk.specs.Moments.{SameSeen, IsOpenOn}
-
--- an element of the first of two lists, and the last
-contains_left : {A : Type 0} (xs ys : List A) (x : A) → Contains xs x → Contains (xs ++ ys) x
-contains_left xs ys x in' = (in'.0, omega (arith, in'.1, length-append xs ys), get_or_append_left xs ys x in'.0 in'.1 ∙ in'.2)
-
-contains_last : {A : Type 0} (xs : List A) (x : A) → Contains (xs ++ x ∷ []) x
-contains_last xs x = (length xs, omega (arith, length-append xs (x ∷ [])), get_or_push xs x x (length xs) refl)
+use Rattle.log_disk.proofs.Lists.{contains_left, contains_last}
 
 -- an eye that was opened is open
 pub opens_open : {regions : List ℕ} {eye : Eye} {old new : Disk} → Opens regions eye old new → IsOpenOn eye new
@@ -92,16 +86,12 @@ filter_has p (y ∷ ys) x (suc k) t h e = either (p y) (filter p ys) (filter_has
     either true zs c = (suc c.0, omega (arith, c.1), c.2)
     either false zs c = c
 
--- numbers that differ are told apart
-told_apart : (a b : ℕ) → a ≢ b → (a == b) ≡ false
-told_apart a b apart = elim (eqb_tells a b) [ inl same ↦ absurd (apart same.1) | inr other ↦ other.0 ]
-
 -- another eye that is closed
 pub closes_kept : {eye other : Eye} {old new : Disk} → Closes other old new → eye.number ≢ other.number → IsOpenOn eye old → IsOpenOn eye new
 closes_kept {eye} {other} {old} {new} c apart is = record {
   listed =
       subst (λ es. Contains es (record { number = eye.number; regions = eye.regions })) (sym c.listed)
-      (filter_has (λ (e : OpenEye). not (e.number == other.number)) old.eyes _ is.listed.0 (ap not (told_apart eye.number other.number apart)) is.listed.1 is.listed.2);
+      (filter_has (λ (e : OpenEye). not (e.number == other.number)) old.eyes _ is.listed.0 (ap not (ne_eqb eye.number other.number apart)) is.listed.1 is.listed.2);
   seen = subst (λ t. SameSeen eye.regions t eye.told) (sym c.told) is.seen;
 }
 

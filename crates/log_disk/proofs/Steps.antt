@@ -10,20 +10,20 @@ use Rattle.log_disk.proofs.Writes.{region_of-set_same}
 use Rattle.log_disk.proofs.Calls.{left_write, left_sync, leaves_write, leaves_sync}
 
 -- Facts of what is told, on states of a disk.
-both_same : (P : Told → Told → Type 0) → ((a : Told) → P a a) → (old new : Option Told) → new ≡ old → BothTold P old new
+pub both_same : (P : Told → Told → Type 0) → ((a : Told) → P a a) → (old new : Option Told) → new ≡ old → BothTold P old new
 both_same P each old new e = subst (BothTold P old) (sym e) (here old)
   where
     here : (t : Option Told) → BothTold P t t
     here None = tt
     here (Some a) = each a
 
-both_weaker : (P Q : Told → Told → Type 0) → ((a b : Told) → P a b → Q a b) → (old new : Option Told) → BothTold P old new → BothTold Q old new
+pub both_weaker : (P Q : Told → Told → Type 0) → ((a b : Told) → P a b → Q a b) → (old new : Option Told) → BothTold P old new → BothTold Q old new
 both_weaker P Q each None None p = tt
 both_weaker P Q each None (Some b) p = absurd p
 both_weaker P Q each (Some a) None p = absurd p
 both_weaker P Q each (Some a) (Some b) p = each a b p
 
-both_then : (P Q S : Told → Told → Type 0) → ((a b c : Told) → P a b → Q b c → S a c) → (old mid new : Option Told) → BothTold P old mid → BothTold Q mid new → BothTold S old new
+pub both_then : (P Q S : Told → Told → Type 0) → ((a b c : Told) → P a b → Q b c → S a c) → (old mid new : Option Told) → BothTold P old mid → BothTold Q mid new → BothTold S old new
 both_then P Q S each None None None p q = tt
 both_then P Q S each None None (Some c) p q = absurd q
 both_then P Q S each None (Some b) c p q = absurd p

@@ -1,5 +1,6 @@
 -- A disk as contracts see it: its regions, what a read gives, the moments that it was in, its open eyes and its counts.
-use Rattle.std.specs.Prelude.{◌≡◌, ◌≢◌, ◌⊎◌, ℕ, ◌+◌, ◌<◌, ◌≤◌, min, List, [], ◌∷◌, ◌++◌, length, take, drop, map, slice_get, slice_set, slice_range, slice_index, Option, Some, None, unwrap_or, All, Any, Contains, filter, ◌==◌, not, IfSome, replicate}
+use Rattle.std.specs.Prelude.{◌≡◌, ◌≢◌, ◌⊎◌, ℕ, ◌+◌, ◌<◌, ◌≤◌, min, List, [], ◌∷◌, ◌++◌, length, take, drop, map, slice_get, slice_set, slice_range, slice_index, Option, Some, None, unwrap_or, All, Any, Contains, filter, ◌==◌, nat_eq, not, IfSome, replicate}
+use Rattle.std.specs.List.{AllByRecursion, IsDistinct}
 
 -- the bytes of all regions
 abbrev pub Image : Type 0
@@ -141,8 +142,15 @@ pub record IsToldOf (disk : Disk) (told : Told) : Type 0 where
   pub image : IsImageNow told told.bytes
   pub unsynced : map (λ span. span.region) told.present.unsynced ≡ disk.unsynced
 
+-- no two open eyes have one number, and each has one that was given
+pub record AreNumbered (eyes : List OpenEye) (numbers : List ℕ) : Type 0 where
+  pub apart : IsDistinct nat_eq (map (λ eye. eye.number) eyes)
+  pub given : AllByRecursion (λ eye. Contains numbers eye.number) eyes
+
+-- what holds of a disk at every moment
 pub record IsSound (disk : Disk) : Type 0 where
   pub told : IfSome disk.told (IsToldOf disk)
+  pub eyes : AreNumbered disk.eyes disk.given
 
 -- a new disk: all bytes are 0 and on it, no eye was opened, and nothing has failed
 abbrev pub zeros : ℕ → ℕ → Image

@@ -1,7 +1,7 @@
 -- The laws of images and of eyes, as statements.
-use Rattle.std.specs.Prelude.{◌≡◌, ◌≢◌, ◌⊎◌, ℕ, ◌≤◌, Bool, true, List, []}
-use Rattle.log_disk.specs.Disk.{Image, Moment, Told, Disk, Eye, IsImageAt, IsImageNow, IsImageSince, IsToldOf, SameOutside, HasGoneOn, HasSynced, IsSound, IsUnseen, Reads, Writes, Syncs, OnlyFails, Opens, Closes, clock_of, unsynced_too}
-use Rattle.log_disk.specs.Moments.{LeavesOnly, IsLeft, GrowsOn, IsOpenOn}
+use Rattle.std.specs.Prelude.{◌≡◌, ◌≢◌, ◌⊎◌, ℕ, ◌<◌, ◌≤◌, Bool, true, List, [], length, Some, None}
+use Rattle.log_disk.specs.Disk.{Image, region_of, Moment, Told, Disk, Eye, IsImageAt, IsImageNow, IsImageSince, IsToldOf, SameOutside, HasGoneOn, HasSynced, IsSound, IsUnseen, Reads, Writes, Syncs, OnlyFails, Opens, Closes, clock_of, unsynced_too, told_anew, new_disk}
+use Rattle.log_disk.specs.Moments.{LeavesOnly, IsLeft, GrowsOn, Continues, ContinuesOn, IsOpenOn}
 
 -- an image now is one since each clock value that is not later
 abbrev pub NowIsSince : Type 0
@@ -60,6 +60,30 @@ CallsGrow =
     (region at : ℕ) (bytes : List ℕ) (failed : Bool) (regions : List ℕ) (eye : Eye) (old new : Disk)
     → (Reads region at bytes (failed ≡ true) old new → GrowsOn old new) × (Writes region at bytes (failed ≡ true) old new → GrowsOn old new) × (Syncs old new → GrowsOn old new)
     × (OnlyFails old new → GrowsOn old new) × (Opens regions eye old new → GrowsOn old new) × (Closes eye old new → GrowsOn old new)
+
+-- the moments that were go on to be the first ones: with no call, and over two runs
+abbrev pub TimesJoin : Type 0
+TimesJoin = (old mid new : Disk) → ContinuesOn old old × (ContinuesOn old mid → ContinuesOn mid new → ContinuesOn old new)
+
+-- so they do over each call
+abbrev pub CallsContinue : Type 0
+CallsContinue =
+    (region at : ℕ) (bytes : List ℕ) (failed : Bool) (regions : List ℕ) (eye : Eye) (old new : Disk)
+    → (Reads region at bytes (failed ≡ true) old new → ContinuesOn old new) × (Writes region at bytes (failed ≡ true) old new → ContinuesOn old new) × (Syncs old new → ContinuesOn old new)
+    × (OnlyFails old new → ContinuesOn old new) × (Opens regions eye old new → ContinuesOn old new) × (Closes eye old new → ContinuesOn old new)
+
+-- as they do, the clock does not go back, and what was an image since a clock value still is
+abbrev pub ContinuedKeeps : Type 0
+ContinuedKeeps =
+    (old new : Told) → Continues old new
+    → (clock_of old ≤ clock_of new) × ((clock : ℕ) (image : Image) → clock ≤ clock_of old → IsImageSince clock old image → IsImageSince clock new image)
+
+-- a new disk is sound, where what it shows, if it does, has its geometry
+abbrev pub NewIsSound : Type 0
+NewIsSound =
+    (regions region_len : ℕ) (image : Image)
+    → IsSound (new_disk regions region_len None)
+    × (length image ≡ regions → ((r : ℕ) → r < regions → length (region_of image r) ≡ region_len) → IsSound (new_disk regions region_len (Some (told_anew image))))
 
 -- what holds of a disk at each moment is kept by each call
 abbrev pub CallsKeepSound : Type 0

@@ -7,4 +7,5 @@ pub mod MemDisk
 pub mod MemEye
 pub mod Laws
 pub mod Plan
+pub mod Schedule
 pub mod FileDisk

@@ -2,6 +2,7 @@
 use Rattle.std.specs.Prelude.{◌≡◌, ◌<◌, length, map, All, Some}
 use Rattle.log_disk.specs.declared.mem.MemEye.TheInside.{Inside}
 use Rattle.log_disk.specs.Disk.{Eye}
+use Rattle.log_disk.specs.Plan.{PlannedEye}
 
 abbrev pub eye_of : Inside → Eye
 eye_of eye = record {
@@ -12,6 +13,9 @@ eye_of eye = record {
   faults = eye.faults;
   taken = eye.taken;
 }
+
+abbrev pub planned_eye : Inside → PlannedEye
+planned_eye eye = record { eye = eye_of eye; fails = eye.failing.items; reads = eye.reads }
 
 -- each region that it names is there, and has its length
 pub record IsEyeKeptWell (eye : Inside) : Type 0 where

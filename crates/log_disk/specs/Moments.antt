@@ -1,6 +1,6 @@
 -- What a run of calls leaves, at each moment of it.
-use Rattle.std.specs.Prelude.{ℕ, ◌≡◌, ◌≤◌, ◌⊎◌, Option, Contains, All, IfSome, List, Some, None}
-use Rattle.log_disk.specs.Disk.{Image, region_of, Told, Disk, Eye, BothTold, SameOutside, clock_of, IsImageNow, IsImageSince}
+use Rattle.std.specs.Prelude.{ℕ, ◌≡◌, ◌≤◌, ◌⊎◌, [], ◌∷◌, ◌++◌, Option, Contains, All, IfSome, List, Some, None}
+use Rattle.log_disk.specs.Disk.{Image, region_of, Moment, Told, Disk, Eye, BothTold, SameOutside, clock_of, IsImageNow, IsImageSince}
 
 -- A crash at any moment since old leaves an image that has P.
 pub record LeavesOnly (P : Image → Type 0) (old new : Told) : Type 0 where
@@ -46,3 +46,12 @@ pub record Grows (old new : Told) : Type 0 where
 -- the same of two states of a disk, where it tells its bytes
 abbrev pub GrowsOn : Disk → Disk → Type 0
 GrowsOn old new = BothTold Grows old.told new.told
+
+-- The moments of one state are the first ones of a later one.
+pub record Continues (old new : Told) : Type 0 where
+  pub more : List Moment
+  pub moments : new.past ++ new.present ∷ [] ≡ (old.past ++ old.present ∷ []) ++ more
+
+-- the same of two states of a disk, where it tells its bytes
+abbrev pub ContinuesOn : Disk → Disk → Type 0
+ContinuesOn old new = BothTold Continues old.told new.told

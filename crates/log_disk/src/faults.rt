@@ -1,7 +1,10 @@
 //! The counts of faults of a disk.
 
-ghost use Rattle.std.specs.Prelude.{◌≡◌, ◌+◌, ◌≤◌, min};
+ghost use Rattle.std.specs.Prelude.{◌≡◌, ◌+◌, ◌≤◌, min, if◌then◌else◌, is_err};
 ghost use Rattle.log_disk.specs.Disk.{last_count};
+
+use crate::Failed;
+use std::io;
 
 /// How often a call of a disk, or a read of an eye of it that was closed, has failed, and how often a call of its own.
 #[derive(Clone, Copy)]
@@ -25,6 +28,21 @@ impl Faults {
     {
         self.all = self.all.saturating_add(1);
         self.own = self.own.saturating_add(1);
+    }
+
+    /// Answers for a call on a file of the disk, and counts it where it failed.
+    pub fn answer(&mut self, done: io::Result<()>) -> Result<(), Failed>
+        ensures answer { is_err result ≡ is_err done }
+        ensures all { self.new.all ≡ (if is_err done then min (self.old.all + 1) last_count else self.old.all) }
+        ensures own { self.new.own ≡ (if is_err done then min (self.old.own + 1) last_count else self.old.own) }
+    {
+        match done {
+            Ok(()) => Ok(()),
+            Err(_) => {
+                self.count();
+                Err(Failed)
+            }
+        }
     }
 
     /// Adds the count of an eye that is closed.

@@ -1,25 +1,28 @@
 //! A disk in a file of the system. What the file keeps is not told: this is the edge where the system is trusted.
 //!
-//! Contracts name the path of the disk and of each eye, and every file is opened by it. That the system then opens that
-//! file, that it keeps what is written, and that a call on it fails only where the device does, no contract can say.
+//! Contracts name the path by which each file was opened, and the place and length of what it is asked for.
 
-ghost use Rattle.std.specs.Prelude.{◌≡◌, ◌≢◌, ℕ, ◌*◌, ◌<◌, ◌≤◌, ◌+◌, ◌^◌, All, Any, Contains, None, Err, IfOk, OnOk, OnErr, IsErr, IsErrOf, length};
+ghost use Rattle.std.specs.Prelude.{◌≡◌, ◌≢◌, ℕ, ◌*◌, ◌<◌, ◌≤◌, ◌+◌, ◌^◌, true, false, All, Any, Contains, None, Err, IfOk, OnOk, OnErr, IsErr, IsErrOf, is_err, length};
 ghost use Rattle.log_disk.specs.declared.file.MakeFault.TheVariants as fault;
+ghost use Rattle.log_disk.specs.declared.file.handle.FileAsk.TheVariants as ask;
 ghost use Rattle.log_disk.specs.Disk.{new_disk, IsWithin, IsUnseen, Reads, Writes, Syncs, OnlyFails, Opens, Closes, Looks};
 
 use crate::eyes::OpenEyes;
 use crate::faults::Faults;
 use crate::{DiskRefusal, Failed, LogDisk, LogEye};
 use std::alloc::{AllocError, Global};
-use std::fs::{File, Files, OpenOptions};
+use std::fs::{File, Files};
 use std::io;
 use std::marker::Model;
-use std::os::unix::fs::FileExt;
 use std::snapshot::Snapshot;
 use thiserror::Error;
 
+mod handle;
 #[cfg(test)]
 mod tests;
+
+use handle::Handle;
+pub use handle::{FileAsk, FileCall};
 
 /// Why no disk was made of a file.
 #[derive(Debug, Drop, Error)]
@@ -53,12 +56,13 @@ impl From<io::Error> for MakeFault {
 /// A disk in one file, with region `r` from byte `r * region_len` on. It tells no bytes, and its counts rise at each call
 /// on the file that fails.
 ///
-/// It keeps where the file is, at which each eye opens it once more. No call changes that.
+/// Its file is locked as long as it lives. It keeps the path, by which each eye opens the file once more. No call changes that.
 #[derive(Drop)]
 pub struct FileDisk<R: Files<File = File> + Clone + Drop + Send> {
     alloc: Global,
-    place: Place<R>,
-    file: File,
+    rt: R,
+    path: String,
+    file: Handle,
     regions: u32,
     region_len: u64,
     unsynced: Vec<Snapshot<u32>>,
@@ -67,15 +71,17 @@ pub struct FileDisk<R: Files<File = File> + Clone + Drop + Send> {
 }
 
 impl<R: Files<File = File> + Clone + Drop + Send> Model for FileDisk<R> {
-    ghost use Rattle.std.specs.Prelude.{ℕ, ◌*◌, ◌<◌, ◌^◌, map, None, string_bytes};
-    ghost use Rattle.log_disk.specs.FileDisk.{DiskAtPath};
+    ghost use Rattle.std.specs.Prelude.{ℕ, ◌≡◌, ◌*◌, ◌<◌, ◌^◌, true, map, None, string_bytes};
+    ghost use Rattle.log_disk.specs.Disk.{AreNumbered};
+    ghost use Rattle.log_disk.specs.FileDisk.{DiskAtPath, file_of};
 
     ghost Value = { DiskAtPath };
 
     ghost use Rattle.log_disk.specs.Eyes.{eyes_in, numbers_to};
 
     ghost view = { λ d. record {
-      path = string_bytes d.place.path;
+      path = string_bytes d.file.path.value;
+      file = file_of d.file;
       disk = record {
         regions = d.regions;
         region_len = d.region_len;
@@ -88,16 +94,17 @@ impl<R: Files<File = File> + Clone + Drop + Send> Model for FileDisk<R> {
       };
     } };
 
-    ghost invariant = { λ d. d.regions * d.region_len < 2 ^ 63 };
+    ghost invariant = { λ d. (d.regions * d.region_len < 2 ^ 63) × AreNumbered (eyes_in d.eyes) (numbers_to d.eyes.given) × (d.file.locked.value ≡ true) × (d.file.path.value ≡ d.path) };
 }
 
 impl<R: Files<File = File> + Clone + Drop + Send> FileDisk<R> {
-    /// Opens the file at a path as a disk of regions, and makes it where there is none. An empty file is filled with
-    /// zeros. Then the file is synced with all that the system offers.
+    /// Opens the file at a path as a disk of regions, and makes it where there is none. It takes the file's lock, fills an
+    /// empty file with zeros, and then syncs it with all that the system offers.
     ///
-    /// A file of another length than 0 and the whole is `WrongLength`, and is left as it was. `Failed` says that a call
-    /// on the file failed; the file may then have been made or filled. No clause gives its cause, since no disk is there
-    /// yet that could count it. `NoMemory` comes before the file is touched.
+    /// `WrongLength` comes exactly where the file's length is neither 0 nor the whole; the file is left as it was. `Failed`
+    /// says that a call on the file failed, as the lock does where another disk, of this or another process, has the file; the
+    /// file may then have been made or filled. No clause gives its cause, since no disk is there yet that could count it.
+    /// `NoMemory` comes before the file is touched.
     pub fn make(
         rt: &R,
         alloc: Global,
@@ -108,24 +115,21 @@ impl<R: Files<File = File> + Clone + Drop + Send> FileDisk<R> {
         requires { regions * region_len < 2 ^ 63 }
         ensures made { IfOk result (λ made. made.disk ≡ new_disk regions region_len None) }
         ensures at_path { IfOk result (λ made. made.path ≡ path.now) }
+        ensures locked { IfOk result (λ made. made.file.locked ≡ true) }
+        ensures whole { IfOk result (λ made. made.file.len ≡ regions * region_len) }
+        ensures synced { IfOk result (λ made. made.file.last ≡ record { ask = ask.Sync; failed = false }) }
         ensures wrong_length { (found : ℕ) → result ≡ Err (MakeFault.WrongLength found) → (found ≢ 0) × (found ≢ regions * region_len) }
     {
-        let whole = u64::from(regions) * region_len;
-        let place = Place {
-            path: String::from_str(alloc, path)?,
-            rt: rt.clone()?,
-        };
-        let file = place.open(true)?;
-        let found = file.metadata()?.len();
-        if found == 0 {
-            file.set_len(whole)?;
-        } else if found != whole {
-            return Err(MakeFault::WrongLength { found });
-        }
-        file.sync_all()?;
+        let path = String::from_str(alloc, path)?;
+        let rt = rt.clone()?;
+        let mut file = Handle::open(&rt, &path, true)?;
+        file.lock()?;
+        fill(&mut file, u64::from(regions) * region_len)?;
+        file.sync()?;
         Ok(FileDisk {
             alloc,
-            place,
+            rt,
+            path,
             file,
             regions,
             region_len,
@@ -134,6 +138,31 @@ impl<R: Files<File = File> + Clone + Drop + Send> FileDisk<R> {
             faults: Faults::none(),
         })
     }
+}
+
+// Fills an empty file up to the whole of a disk. A file of another length is refused.
+fn fill(file: &mut Handle, whole: u64) -> Result<(), MakeFault>
+    requires { file.old.locked.value ≡ true }
+    ensures whole { OnOk result (file.new.len.value ≡ whole) }
+    ensures wrong_length { (found : ℕ) → result ≡ Err (MakeFault.WrongLength found) → (found ≡ file.new.len.value) × (found ≢ 0) × (found ≢ whole) }
+    ensures locked { file.new.locked ≡ file.old.locked }
+    ensures path { file.new.path ≡ file.old.path }
+{
+    let found = file.len()?;
+    if found == 0 {
+        file.set_len(whole)?;
+    } else if found != whole {
+        return Err(MakeFault::WrongLength { found });
+    }
+    Ok(())
+}
+
+// The byte of the file at an offset of a region.
+fn place_of(region_len: u64, region: u32, at: u64) -> u64
+    requires { region * region_len + at < 2 ^ 64 }
+    ensures { result ≡ region * region_len + at }
+{
+    u64::from(region) * region_len + at
 }
 
 impl<R: Files<File = File> + Clone + Drop + Send> LogDisk for FileDisk<R> {
@@ -149,42 +178,45 @@ impl<R: Files<File = File> + Clone + Drop + Send> LogDisk for FileDisk<R> {
         self.region_len
     }
 
+    /// The file is asked for these bytes, once, and `Failed` says that it failed.
     fn read(&mut self, region: u32, at: u64, out: &mut [u8]) -> Result<(), Failed>
         requires { IsWithin self.old.disk region at (length out.old) }
         ensures reads { Reads region at out.new (IsErr result) self.old.disk self.new.disk }
+        ensures asked { self.new.file.last ≡ record { ask = ask.Read (region * self.old.disk.region_len + at) (length out.old); failed = is_err result } }
         ensures same_path { self.new.path ≡ self.old.path }
     {
-        let place = u64::from(region) * self.region_len + at;
-        if self.file.read_exact_at(out, place).is_err() {
-            self.faults.count();
-            return Err(Failed);
-        }
-        Ok(())
+        let done = self.file.read(place_of(self.region_len, region, at), out);
+        self.faults.answer(done)
     }
 
+    /// The file is given these bytes, once, and `Failed` says that it failed.
     fn write(&mut self, region: u32, at: u64, bytes: &[u8]) -> Result<(), DiskRefusal>
         requires within { IsWithin self.old.disk region at (length bytes.now) }
         requires unseen { IsUnseen self.old.disk region }
         ensures begun { result ≢ Err DiskRefusal.NoMemory → Writes region at bytes.now (IsErr result) self.old.disk self.new.disk }
         ensures no_memory { IsErrOf result DiskRefusal.NoMemory → self.new.disk ≡ self.old.disk }
+        ensures asked { result ≢ Err DiskRefusal.NoMemory → self.new.file.last ≡ record { ask = ask.Write (region * self.old.disk.region_len + at) (length bytes.now); failed = is_err result } }
         ensures same_path { self.new.path ≡ self.old.path }
     {
         self.unsynced.push(Snapshot::of(&region))?;
-        let place = u64::from(region) * self.region_len + at;
-        if self.file.write_all_at(bytes, place).is_err() {
-            self.faults.count();
-            return Err(DiskRefusal::Failed);
+        let done = self
+            .file
+            .write(place_of(self.region_len, region, at), bytes);
+        match self.faults.answer(done) {
+            Ok(()) => Ok(()),
+            Err(Failed) => Err(DiskRefusal::Failed),
         }
-        Ok(())
     }
 
+    /// The file is asked to sync, once, and `Failed` says that it failed.
     fn sync(&mut self) -> Result<(), Failed>
         ensures ok { OnOk result (Syncs self.old.disk self.new.disk) }
         ensures err { OnErr result (OnlyFails self.old.disk self.new.disk) }
+        ensures asked { self.new.file.last ≡ record { ask = ask.Sync; failed = is_err result } }
         ensures same_path { self.new.path ≡ self.old.path }
     {
-        if self.file.sync_all().is_err() {
-            self.faults.count();
+        let done = self.file.sync();
+        if self.faults.answer(done).is_err() {
             return Err(Failed);
         }
         self.unsynced.clear();
@@ -201,13 +233,13 @@ impl<R: Files<File = File> + Clone + Drop + Send> LogDisk for FileDisk<R> {
         ensures at_path { IfOk result (λ opened. opened.path ≡ self.old.path) }
         ensures same_path { self.new.path ≡ self.old.path }
     {
-        self.eyes.reserve()?;
-        let named = Vec::from_slice(self.alloc, regions)?;
-        if self.eyes.given == u64::MAX {
+        if self.eyes.are_spent() {
             self.faults.count();
             return Err(DiskRefusal::Failed);
         }
-        let Ok(file) = self.place.open(false) else {
+        self.eyes.reserve()?;
+        let named = Vec::from_slice(self.alloc, regions)?;
+        let Ok(file) = Handle::open(&self.rt, &self.path, false) else {
             self.faults.count();
             return Err(DiskRefusal::Failed);
         };
@@ -218,7 +250,6 @@ impl<R: Files<File = File> + Clone + Drop + Send> LogDisk for FileDisk<R> {
             disk_regions: self.regions,
             region_len: self.region_len,
             regions: Snapshot::of(&named),
-            path: Snapshot::of(&self.place.path),
             faults: 0,
             taken: 0,
         })
@@ -235,28 +266,27 @@ impl<R: Files<File = File> + Clone + Drop + Send> LogDisk for FileDisk<R> {
     }
 }
 
-/// An eye on a disk in a file, which was opened for it. It tells no bytes. Its path is there for contracts and takes no
-/// memory.
+/// An eye on a disk in a file, which was opened for it. It tells no bytes, and takes no lock.
 #[derive(Drop)]
 pub struct FileEye {
     number: u64,
-    file: File,
+    file: Handle,
     disk_regions: u32,
     region_len: u64,
     regions: Snapshot<Vec<u32>>,
-    path: Snapshot<String>,
     faults: u64,
     taken: u64,
 }
 
 impl Model for FileEye {
     ghost use Rattle.std.specs.Prelude.{ℕ, ◌*◌, ◌<◌, ◌^◌, All, None, string_bytes};
-    ghost use Rattle.log_disk.specs.FileDisk.{EyeAtPath};
+    ghost use Rattle.log_disk.specs.FileDisk.{EyeAtPath, file_of};
 
     ghost Value = { EyeAtPath };
 
     ghost view = { λ e. record {
-      path = string_bytes e.path.value;
+      path = string_bytes e.file.path.value;
+      file = file_of e.file;
       eye = record {
         number = e.number;
         regions = e.regions.value.items;
@@ -281,31 +311,15 @@ impl LogEye for FileEye {
         requires named { Contains self.old.eye.regions region }
         requires within { at + length out.old ≤ self.old.eye.region_len }
         ensures looks { Looks region at out.new (IsErr result) self.old.eye self.new.eye }
+        ensures asked { self.new.file.last ≡ record { ask = ask.Read (region * self.old.eye.region_len + at) (length out.old); failed = is_err result } }
         ensures same_path { self.new.path ≡ self.old.path }
     {
         self.taken = self.taken.saturating_add(out.len() as u64);
-        let place = u64::from(region) * self.region_len + at;
-        if self.file.read_exact_at(out, place).is_err() {
+        let done = self.file.read(place_of(self.region_len, region, at), out);
+        if done.is_err() {
             self.faults = self.faults.saturating_add(1);
             return Err(Failed);
         }
         Ok(())
-    }
-}
-
-/// Where the file of a disk is: a path, and the runtime that opens it.
-#[derive(Drop)]
-struct Place<R: Files<File = File> + Drop> {
-    rt: R,
-    path: String,
-}
-
-impl<R: Files<File = File> + Drop> Place<R> {
-    // Opens the file to be read, and, where it is the disk's own, to be written and made. Files are opened here alone, by
-    // the path that contracts name. That the system opens this file and no other is trusted.
-    fn open(&self, is_own: bool) -> io::Result<File> {
-        let mut options = OpenOptions::new();
-        options.read(true).write(is_own).create(is_own);
-        options.open(&self.rt, self.path.as_str())
     }
 }

@@ -1,6 +1,6 @@
 //! Laws of images and of eyes, for the crates above. The functions do nothing: what counts is what they ensure.
 
-ghost use Rattle.log_disk.specs.Laws.{NowIsSince, OnlyNowSinceNow, TimeGoesOn, WritesTear, SyncsKeep, SyncedShows, CallsGrow, CallsKeepSound, RunsJoin, EyesStayTrue};
+ghost use Rattle.log_disk.specs.Laws.{NowIsSince, OnlyNowSinceNow, TimeGoesOn, WritesTear, SyncsKeep, SyncedShows, CallsGrow, CallsContinue, CallsKeepSound, ContinuedKeeps, NewIsSound, RunsJoin, TimesJoin, EyesStayTrue};
 
 /// Which images a crash may leave now, and which it might have left since a clock value, as time goes on.
 pub fn moments_law()
@@ -8,6 +8,8 @@ pub fn moments_law()
     ensures only_now { OnlyNowSinceNow }
     ensures time { TimeGoesOn }
     ensures runs { RunsJoin }
+    ensures times { TimesJoin }
+    ensures continued { ContinuedKeeps }
 {}
 
 /// What a write and a sync do to the images that a crash may leave.
@@ -17,10 +19,13 @@ pub fn images_law()
     ensures synced { SyncedShows }
 {}
 
-/// What each call, whether it fails or not, does to the images since earlier clock values and to what holds at each moment.
+/// What each call, whether it fails or not, does to the images since earlier clock values, to the moments, and to what holds
+/// at each of them, which also holds of a new disk.
 pub fn calls_law()
     ensures grow { CallsGrow }
+    ensures continues { CallsContinue }
     ensures sound { CallsKeepSound }
+    ensures fresh { NewIsSound }
 {}
 
 /// As long as an eye is open, its regions on the disk hold its bytes.

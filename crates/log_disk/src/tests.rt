@@ -11,15 +11,15 @@ type Step = Option<(u32, u64, u8)>;
 
 // A disk of four regions of two bytes, with no eye open.
 fn small(alloc: Global, plan: FaultPlan) -> Result<MemDisk, NoMemory>
-    ensures { IfOk result (λ disk. (disk.regions ≡ 4) × (disk.region_len ≡ 2) × (disk.eyes ≡ [])) }
+    ensures { IfOk result (λ made. (made.disk.regions ≡ 4) × (made.disk.region_len ≡ 2) × (made.disk.eyes ≡ [])) }
 {
     MemDisk::new(alloc, 4, 2, plan)
 }
 
 // Makes a step, and says whether it failed.
 fn step(disk: &mut MemDisk, step: Step) -> bool
-    requires { (disk.old.regions ≡ 4) × (disk.old.region_len ≡ 2) × (disk.old.eyes ≡ []) }
-    ensures { (disk.new.regions ≡ 4) × (disk.new.region_len ≡ 2) × (disk.new.eyes ≡ []) }
+    requires { (disk.old.disk.regions ≡ 4) × (disk.old.disk.region_len ≡ 2) × (disk.old.disk.eyes ≡ []) }
+    ensures { (disk.new.disk.regions ≡ 4) × (disk.new.disk.region_len ≡ 2) × (disk.new.disk.eyes ≡ []) }
 {
     match step {
         Some((region, at, byte)) if region < 4 && at < 2 => {
@@ -31,8 +31,8 @@ fn step(disk: &mut MemDisk, step: Step) -> bool
 
 // Makes steps one after the other.
 fn steps(disk: &mut MemDisk, calls: &[Step])
-    requires { (disk.old.regions ≡ 4) × (disk.old.region_len ≡ 2) × (disk.old.eyes ≡ []) }
-    ensures { (disk.new.regions ≡ 4) × (disk.new.region_len ≡ 2) × (disk.new.eyes ≡ []) }
+    requires { (disk.old.disk.regions ≡ 4) × (disk.old.disk.region_len ≡ 2) × (disk.old.disk.eyes ≡ []) }
+    ensures { (disk.new.disk.regions ≡ 4) × (disk.new.disk.region_len ≡ 2) × (disk.new.disk.eyes ≡ []) }
 {
     for call in calls {
         let _ = step(disk, *call);
@@ -41,8 +41,8 @@ fn steps(disk: &mut MemDisk, calls: &[Step])
 
 // Reads a byte of a region, or answers None.
 fn byte(disk: &mut MemDisk, region: u32, at: u64) -> Option<u8>
-    requires { (disk.old.regions ≡ 4) × (disk.old.region_len ≡ 2) × (disk.old.eyes ≡ []) }
-    ensures { (disk.new.regions ≡ 4) × (disk.new.region_len ≡ 2) × (disk.new.eyes ≡ []) }
+    requires { (disk.old.disk.regions ≡ 4) × (disk.old.disk.region_len ≡ 2) × (disk.old.disk.eyes ≡ []) }
+    ensures { (disk.new.disk.regions ≡ 4) × (disk.new.disk.region_len ≡ 2) × (disk.new.disk.eyes ≡ []) }
 {
     let mut byte = [0u8; 1];
     if region < 4 && at < 2 && disk.read(region, at, &mut byte).is_ok() {
@@ -140,9 +140,9 @@ fn picks_go_by_region_and_offset(rt: HostRuntime) -> Result<(), Fail> {
 
 // Opens an eye on a region, reads by it twice and closes it. Says which of the three failed.
 fn look(disk: &mut MemDisk, region: u32) -> [bool; 3]
-    requires there { region < disk.old.regions }
-    requires long { 1 ≤ disk.old.region_len }
-    requires synced { disk.old.unsynced ≡ [] }
+    requires there { region < disk.old.disk.regions }
+    requires long { 1 ≤ disk.old.disk.region_len }
+    requires synced { disk.old.disk.unsynced ≡ [] }
 {
     let mut byte = [0u8; 1];
     match disk.eye(&[region]) {
@@ -216,7 +216,7 @@ fn each_list_of_a_plan_fails_its_calls(rt: HostRuntime) -> Result<(), Fail> {
 
 // Opens two eyes on regions that overlap, and reads one byte of region 1 by each.
 fn seen_by_two(disk: &mut MemDisk) -> Result<[u8; 2], DiskRefusal>
-    requires { (disk.old.regions ≡ 4) × (disk.old.region_len ≡ 2) × (disk.old.unsynced ≡ []) }
+    requires { (disk.old.disk.regions ≡ 4) × (disk.old.disk.region_len ≡ 2) × (disk.old.disk.unsynced ≡ []) }
 {
     let mut seen = [0u8; 2];
     let mut first = disk.eye(&[0, 1])?;

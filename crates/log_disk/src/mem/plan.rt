@@ -1,15 +1,14 @@
 //! Which calls of a disk in memory fail.
 
-ghost use Rattle.std.specs.Prelude.{◌≡◌, ◌||◌, [], ◌==◌, map, filter, IfOk};
-ghost use Rattle.std.specs.List.{list_any};
-ghost use Rattle.log_disk.specs.Disk.{last_count};
-ghost use Rattle.log_disk.specs.Plan.{next, is_stopped};
+ghost use Rattle.std.specs.Prelude.{◌≡◌, IfOk};
+ghost use Rattle.log_disk.specs.Plan.{no_faults, no_calls, is_stopped, next, one_read, one_write, one_sync, one_eye, read_fails, write_fails, sync_fails, eye_fails, eye_reads_of};
+ghost use Rattle.log_disk.specs.Schedule.{plan_of, calls_of};
 
 use std::alloc::{AllocError, Global};
 
 /// The calls that fail: the numbers, from 1, of those of each kind, pairs of an eye's number and the number of a read of
 /// it, and the number, over reads, writes, syncs and eyes together, from which every such call fails (`u64::MAX` for
-/// never). Reads of an eye are not counted by `stop`, and do not fail by it. A call that is answered `NoMemory` may count.
+/// never). Reads of an eye are not counted by `stop`, and do not fail by it. A call that is answered `NoMemory` counts.
 #[derive(Debug, Drop)]
 pub struct FaultPlan {
     pub reads: Vec<u64>,
@@ -23,12 +22,7 @@ pub struct FaultPlan {
 impl FaultPlan {
     /// A plan by which no call fails.
     pub fn none(alloc: Global) -> FaultPlan
-        ensures reads { result.reads.items ≡ [] }
-        ensures writes { result.writes.items ≡ [] }
-        ensures syncs { result.syncs.items ≡ [] }
-        ensures eyes { result.eyes.items ≡ [] }
-        ensures eye_reads { result.eye_reads.items ≡ [] }
-        ensures stop { result.stop ≡ last_count }
+        ensures { plan_of result ≡ no_faults }
     {
         FaultPlan {
             reads: Vec::new(alloc),
@@ -54,7 +48,8 @@ pub struct Schedule {
 
 impl Schedule {
     pub fn new(plan: FaultPlan) -> Schedule
-        ensures { result ≡ record { plan = plan; reads = 0; writes = 0; syncs = 0; eyes = 0; all = 0 } }
+        ensures plan { result.plan ≡ plan }
+        ensures calls { calls_of result ≡ no_calls }
     {
         Schedule {
             plan,
@@ -68,8 +63,9 @@ impl Schedule {
 
     /// Counts a read, and says whether it fails.
     pub fn read_fails(&mut self) -> bool
-        ensures fails { result ≡ (is_stopped self.new.plan.stop self.new.all || list_any (λ n. n == self.new.reads) self.new.plan.reads.items) }
-        ensures counted { self.new ≡ record self.old { reads = next self.old.reads; all = next self.old.all } }
+        ensures fails { result ≡ read_fails (plan_of self.old.plan) (calls_of self.new) }
+        ensures calls { calls_of self.new ≡ one_read (calls_of self.old) }
+        ensures plan { self.new.plan ≡ self.old.plan }
     {
         self.reads = self.reads.saturating_add(1);
         let stopped = self.is_stopped();
@@ -78,8 +74,9 @@ impl Schedule {
 
     /// Counts a write, and says whether it fails.
     pub fn write_fails(&mut self) -> bool
-        ensures fails { result ≡ (is_stopped self.new.plan.stop self.new.all || list_any (λ n. n == self.new.writes) self.new.plan.writes.items) }
-        ensures counted { self.new ≡ record self.old { writes = next self.old.writes; all = next self.old.all } }
+        ensures fails { result ≡ write_fails (plan_of self.old.plan) (calls_of self.new) }
+        ensures calls { calls_of self.new ≡ one_write (calls_of self.old) }
+        ensures plan { self.new.plan ≡ self.old.plan }
     {
         self.writes = self.writes.saturating_add(1);
         let stopped = self.is_stopped();
@@ -88,8 +85,9 @@ impl Schedule {
 
     /// Counts a sync, and says whether it fails.
     pub fn sync_fails(&mut self) -> bool
-        ensures fails { result ≡ (is_stopped self.new.plan.stop self.new.all || list_any (λ n. n == self.new.syncs) self.new.plan.syncs.items) }
-        ensures counted { self.new ≡ record self.old { syncs = next self.old.syncs; all = next self.old.all } }
+        ensures fails { result ≡ sync_fails (plan_of self.old.plan) (calls_of self.new) }
+        ensures calls { calls_of self.new ≡ one_sync (calls_of self.old) }
+        ensures plan { self.new.plan ≡ self.old.plan }
     {
         self.syncs = self.syncs.saturating_add(1);
         let stopped = self.is_stopped();
@@ -98,8 +96,9 @@ impl Schedule {
 
     /// Counts the opening of an eye, and says whether it fails.
     pub fn eye_fails(&mut self) -> bool
-        ensures fails { result ≡ (is_stopped self.new.plan.stop self.new.all || list_any (λ n. n == self.new.eyes) self.new.plan.eyes.items) }
-        ensures counted { self.new ≡ record self.old { eyes = next self.old.eyes; all = next self.old.all } }
+        ensures fails { result ≡ eye_fails (plan_of self.old.plan) (calls_of self.new) }
+        ensures calls { calls_of self.new ≡ one_eye (calls_of self.old) }
+        ensures plan { self.new.plan ≡ self.old.plan }
     {
         self.eyes = self.eyes.saturating_add(1);
         let stopped = self.is_stopped();
@@ -108,7 +107,7 @@ impl Schedule {
 
     /// The numbers of the reads of an eye that fail.
     pub fn failing_reads(&self, alloc: Global, eye: u64) -> Result<Vec<u64>, AllocError>
-        ensures { IfOk result (λ reads. reads.items ≡ map (λ p. p.1) (filter (λ p. p.0 == eye) self.now.plan.eye_reads.items)) }
+        ensures { IfOk result (λ reads. reads.items ≡ eye_reads_of (plan_of self.now.plan) eye) }
     {
         let mut reads = Vec::new(alloc);
         for (number, read) in &self.plan.eye_reads {
@@ -121,7 +120,7 @@ impl Schedule {
 
     // Counts a call of any kind, and says whether the plan has stopped all calls.
     fn is_stopped(&mut self) -> bool
-        ensures stopped { result ≡ is_stopped self.new.plan.stop self.new.all }
+        ensures stopped { result ≡ is_stopped self.old.plan.stop self.new.all }
         ensures counted { self.new ≡ record self.old { all = next self.old.all } }
     {
         self.all = self.all.saturating_add(1);

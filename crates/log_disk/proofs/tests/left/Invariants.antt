@@ -2,4 +2,4 @@ use Rattle.std.proofs.Common.{◌≡◌, []}
 use Rattle.log_disk.proofs.tests.left.Given as goal
 
 abbrev pub invariant-loop-k : goal.invariant-loop-k
-invariant-loop-k l = (l.disk.regions ≡ 4) × (l.disk.region_len ≡ 2) × (l.disk.eyes ≡ [])
+invariant-loop-k l = (l.disk.disk.regions ≡ 4) × (l.disk.disk.region_len ≡ 2) × (l.disk.disk.eyes ≡ [])

@@ -3,4 +3,4 @@ use Rattle.log_disk.proofs.Seeing.{opens_open, closable}
 use Rattle.log_disk.proofs.tests.look.Goals as goal
 
 pub close-requires : goal.close-requires
-close-requires c = closable c.read-in-Ok.new.self (opens_open c.in-Ok.ensures.ok) (c.read-in-Ok.ensures.same.0 ∙ c.read.ensures.same.0)
+close-requires c = closable c.read-in-Ok.new.self.eye (opens_open c.in-Ok.ensures.ok) (c.read-in-Ok.ensures.looks.same.0 ∙ c.read.ensures.looks.same.0)

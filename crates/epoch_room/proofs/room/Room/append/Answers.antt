@@ -2,6 +2,7 @@ use Rattle.std.proofs.Common.{◌≡◌, ◌==◌, cond, drop, ◌∙◌, sym, s
 use Rattle.std.specs.Prelude.{slice_get}
 use Rattle.fine_model.specs.Merge.{cost}
 use Rattle.epoch_room.specs.Epoch.{Open}
+use Rattle.fine_model.specs.declared.law.RoomState.{RoomState}
 use Rattle.epoch_room.specs.Value.{RoomValue}
 use Rattle.epoch_room.specs.Fitting.{fit_of}
 use Rattle.epoch_room.specs.Whole.{IsWhole}
@@ -58,5 +59,5 @@ invariant_of-self g c =
 pub returns-clause-stands : goal.returns-clause-stands
 returns-clause-stands g c =
     let whole : IsWhole c.args.self.now = subst IsWhole c.self.view_is c.self.invariant.0 in
-    let may = may_append c.args.self.now (cost c.args.log.now) (omega (arith, whole.geometry.len_high, whole.region_len)) c.requires.fits in
+    let may = may_append c.args.self.now (cost c.args.log.now) (omega (arith, whole.geometry.len_high, ap (λ (r : RoomState). r.region_len) whole.of_disk)) c.requires.fits in
     subst (λ (v : RoomValue). StandsForMore c.args.self.now v c.args.log.now) (sym (returns-clause-room g c)) (appended_stands c.args.self.now c.args.log.now whole may.open_room)

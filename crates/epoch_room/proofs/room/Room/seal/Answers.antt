@@ -3,7 +3,7 @@ use Rattle.std.specs.Prelude.{Option, unwrap_or}
 use Rattle.fine_model.specs.declared.Header.{Header}
 use Rattle.fine_model.specs.declared.Part.{Part}
 use Rattle.fine_model.specs.Regions.{header_of, partition_bytes}
-use Rattle.fine_model.specs.Room.{RoomState}
+use Rattle.fine_model.specs.declared.law.RoomState.{RoomState}
 use Rattle.fine_model.specs.ChainLaws.{part_of}
 use Rattle.log_disk.specs.Disk.{Disk}
 use Rattle.log_disk.specs.declared.refusal.DiskRefusal.{DiskRefusal}
@@ -120,9 +120,9 @@ returns-in-Ok-clause-room g c =
       c.if-self.false,
       refl,
       record {
-        room = sealed_is old new entry in'.parts c.push.new.self in'.retired in'.free.items in'.target in'.epoch c.clear.new.self in'.sealed in'.places in'.epoch.most in'.is_shut pushed' c.clear.ensures same counts;
-        retired = refl;
+        room = sealed_is old new entry in'.parts c.push.new.self in'.retired in'.free.items in'.target in'.epoch c.clear.new.self in'.sealed in'.places in'.epoch.most in'.is_shut pushed' c.clear.ensures;
         target = refl;
+        region_len = same.region_len;
         entry = refl;
         beside = same;
         counts = counts;
@@ -154,8 +154,8 @@ returns-in-Ok-clause-stands g c = λ first e history stands.
     let before : StandsWhere (value_of old entry in'.parts in'.retired in'.free.items in'.target in'.epoch in'.sealed in'.places in'.is_shut).room entry.told old.told first e history = subst (λ (v : RoomValue). StandsWhere v.room v.entry.told v.disk.told first e history) (sym c.self.view_is) stands in
     let taken : region ≡ unwrap_or in'.target 0 = c.unwrap_or-region.ensures in
     let pushed' : c.push.new.self ≡ in'.parts ++ part_of (unwrap_or in'.target 0) (header_of (range_of in'.sealed) in'.epoch.rows) ∷ [] = pushed ∙ ap (λ n. in'.parts ++ part_of n (header_of (range_of in'.sealed) in'.epoch.rows) ∷ []) taken in
-    let is = sealed_is old new entry in'.parts c.push.new.self in'.retired in'.free.items in'.target in'.epoch c.clear.new.self in'.sealed in'.places in'.epoch.most in'.is_shut pushed' c.clear.ensures same counts in
-    let at' = sealed_at (value_of old entry in'.parts in'.retired in'.free.items in'.target in'.epoch in'.sealed in'.places in'.is_shut) region (sym taken) in
+    let is = sealed_is old new entry in'.parts c.push.new.self in'.retired in'.free.items in'.target in'.epoch c.clear.new.self in'.sealed in'.places in'.epoch.most in'.is_shut pushed' c.clear.ensures in
+    let at' = sealed_at (value_of old entry in'.parts in'.retired in'.free.items in'.target in'.epoch in'.sealed in'.places in'.is_shut) new region (sym taken) in
     subst (λ (r : RoomState). StandsWhere r entry.told new.told first e history) (sym (is ∙ at')) (stands_sealed old new entry in'.parts in'.retired in'.free.items in'.target in'.epoch in'.sealed in'.places in'.is_shut whole c.if-self.false some region at part.sorted bytes part.is_arranged part.within spelled sound sound' same first e history before leaves c.in-Ok.ensures.ok)
 
 pub returns-in-Ok-clause-inside : goal.returns-in-Ok-clause-inside
@@ -204,9 +204,9 @@ returns-in-Failed-clause-room g c =
     subst (λ (v : RoomValue). (v.room.is_shut ≡ false) × Shuts v (value_of new entry c.truncate.new.self in'.retired in'.free.items in'.target in'.epoch in'.sealed in'.places true)) c.self.view_is (
       c.if-self.false,
       record {
-        room = shut_is old new entry in'.parts c.truncate.new.self in'.retired in'.free.items in'.target in'.epoch in'.sealed in'.places in'.is_shut back same;
-        retired = refl;
+        room = shut_is old new entry in'.parts c.truncate.new.self in'.retired in'.free.items in'.target in'.epoch in'.sealed in'.places in'.is_shut back;
         target = refl;
+        region_len = same.region_len;
         entry = refl;
         beside = same;
         faults = counts.faults failed;
@@ -236,7 +236,7 @@ returns-in-Failed-clause-stands g c = λ first e history stands.
     let leaves = c.seal_region.ensures.leaves in
     let back : c.truncate.new.self ≡ in'.parts = popped in'.parts c.push.new.self c.truncate.new.self (part_of region c.in_ok-partition.partition.header) c.len.result c.in_ok-push.ensures.ok c.len.ensures c.truncate.ensures in
     let before : StandsWhere (value_of old entry in'.parts in'.retired in'.free.items in'.target in'.epoch in'.sealed in'.places in'.is_shut).room entry.told old.told first e history = subst (λ (v : RoomValue). StandsWhere v.room v.entry.told v.disk.told first e history) (sym c.self.view_is) stands in
-    let is = shut_is old new entry in'.parts c.truncate.new.self in'.retired in'.free.items in'.target in'.epoch in'.sealed in'.places in'.is_shut back same in
+    let is = shut_is old new entry in'.parts c.truncate.new.self in'.retired in'.free.items in'.target in'.epoch in'.sealed in'.places in'.is_shut back in
     subst (λ (r : RoomState). StandsWhere r entry.told new.told first e history) (sym is) (stands_shut old new entry in'.parts in'.retired in'.free.items in'.target in'.epoch in'.sealed in'.places in'.is_shut whole c.if-self.false some region at part.sorted bytes part.is_arranged part.within spelled sound sound' same first e history before leaves)
 
 pub returns-in-Failed-clause-inside : goal.returns-in-Failed-clause-inside
@@ -310,7 +310,7 @@ returns-clause-stands g c = λ first e history stands.
     let counts : KeepsCounts old new = record { faults = same_counts.0; own_faults = same_counts.1 } in
     let before : StandsWhere (value_of old entry in'.parts in'.retired in'.free.items in'.target in'.epoch in'.sealed in'.places in'.is_shut).room entry.told old.told first e history = subst (λ (v : RoomValue). StandsWhere v.room v.entry.told v.disk.told first e history) (sym c.self.view_is) stands in
     let refused : ◌≡◌ {A = Result (Unit {0}) DiskRefusal} (Err c.in-Err.refusal) (Err refusal.NoMemory) = ap (λ (r : DiskRefusal). Err r) c.in-NoMemory.is in
-    let is = open_is old new entry in'.parts c.truncate.new.self in'.retired in'.free.items in'.target in'.epoch in'.sealed in'.places in'.is_shut back same counts in
+    let is = open_is old new entry in'.parts c.truncate.new.self in'.retired in'.free.items in'.target in'.epoch in'.sealed in'.places in'.is_shut back in
     subst (λ (r : RoomState). StandsWhere r entry.told new.told first e history) (sym is) (stands_open old new entry in'.parts in'.retired in'.free.items in'.target in'.epoch in'.sealed in'.places in'.is_shut whole c.if-self.false some region at part.sorted bytes part.is_arranged part.within spelled sound sound' same first e history before (c.in-Err.ensures.untouched refused))
 
 pub returns-clause-inside : goal.returns-clause-inside

@@ -47,11 +47,11 @@ shut-requires-clause-all g c = λ n lo hi. let a = c.requires.all n lo hi in let
 
 pub unload-requires-clause-room : goal.unload-requires-clause-room
 unload-requires-clause-room g c = let e = c.shut.ensures.ended in let y = e.each places.room (le_refl places.room) in
-    room_there g.R.RoomLaw.state g.R.RoomLaw.origin g.R.RoomLaw.stands_for g.B.BucketLaw.bucket g.B.BucketLaw.cached (begun g.R.RoomLaw.state g.R.RoomLaw.origin c.args.self) e.published c.loop-pass.seat.me.0.places.seen y.0 _ y.1 y.2
+    room_there g.R.RoomLaw.state g.R.RoomLaw.origin g.R.RoomLaw.stands_for g.B.BucketLaw.bucket g.B.BucketLaw.cached g.B.BucketLaw.is_settled (begun g.R.RoomLaw.state g.R.RoomLaw.origin c.args.self) e.published c.loop-pass.seat.me.0.places.seen y.0 _ y.1 y.2
 
 pub returns : goal.returns
 returns g c = let e = c.shut.ensures.ended in let y = e.each places.room (le_refl places.room) in
-    let s = room_stands g.R.RoomLaw.state g.R.RoomLaw.origin g.R.RoomLaw.stands_for g.B.BucketLaw.bucket g.B.BucketLaw.cached (begun g.R.RoomLaw.state g.R.RoomLaw.origin c.args.self) e.published c.loop-pass.seat.me.0.places.seen y.0 _ c.unload.result y.1 y.2 c.unload.ensures in
+    let s = room_stands g.R.RoomLaw.state g.R.RoomLaw.origin g.R.RoomLaw.stands_for g.B.BucketLaw.bucket g.B.BucketLaw.cached g.B.BucketLaw.is_settled (begun g.R.RoomLaw.state g.R.RoomLaw.origin c.args.self) e.published c.loop-pass.seat.me.0.places.seen y.0 _ c.unload.result y.1 y.2 c.unload.ensures in
     let none : length c.loop-pass.passes.items ≡ 0 = grind (arith, common_steps) in record {
       all = c.loop-pass.seat.me.0.places.seen;
       lawful = e.lawful;

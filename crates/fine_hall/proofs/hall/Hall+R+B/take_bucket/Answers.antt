@@ -14,7 +14,7 @@ take-answer-requires-clause-own g c = subst (Owned c.sit-seat.result.me.0.places
 pub unreachable-requires : goal.unreachable-requires
 unreachable-requires g c =
     let s = stood_once _ _ _ _ _ c.args.pass.now _ _ _ _ c.requires.pass c.sit-seat.ensures.view c.in-Ok.ensures.took in
-    not_room g.R.RoomLaw.state g.R.RoomLaw.origin g.R.RoomLaw.stands_for g.B.BucketLaw.bucket g.B.BucketLaw.cached _ _ s.0 c.in-Ok.load _ _ _ s.1 (subst (λ k. k < places.room) (sym c.from.ensures) c.requires.free.0) c.in_default.is s.2
+    not_room g.R.RoomLaw.state g.R.RoomLaw.origin g.R.RoomLaw.stands_for g.B.BucketLaw.bucket g.B.BucketLaw.cached g.B.BucketLaw.is_settled _ _ s.0 c.in-Ok.load _ _ _ s.1 (subst (λ k. k < places.room) (sym c.from.ensures) c.requires.free.0) c.in_default.is s.2
 
 pub overflow_cast-result : goal.overflow_cast-result
 overflow_cast-result g c = let few : c.in-Err.owner < 4294967296 = fits_owner _ _ _ _ _ c.in-Err.ensures.took in omega arith
@@ -35,8 +35,8 @@ pub returns-in-Bucket-clause-content : goal.returns-in-Bucket-clause-content
 returns-in-Bucket-clause-content g c =
     let s = stood _ _ _ _ _ c.args.pass.now c.stand_up.new.self _ _ _ _ c.requires.pass c.sit-seat.ensures.view c.stand_up.ensures.view
     (c.stand_up.ensures.seat.0 ∙ (c.in-Ok.ensures.table.0 ∙ (c.sit-seat.ensures.seat.0 ∙ c.requires.pass.table))) (c.stand_up.ensures.number ∙ c.sit-seat.ensures.number) c.in-Ok.ensures.took in
-    found_bucket g.R.RoomLaw.state g.R.RoomLaw.origin g.R.RoomLaw.stands_for g.B.BucketLaw.bucket g.B.BucketLaw.cached _ _ _ c.in-Ok.load _ (turns c.stand_up.new.self) c.requires.free.0 c.in-Bucket.is
-    (subst (λ k. Stands g.R.RoomLaw.state g.R.RoomLaw.origin g.R.RoomLaw.stands_for g.B.BucketLaw.bucket g.B.BucketLaw.cached (begun g.R.RoomLaw.state g.R.RoomLaw.origin c.args.self.now) k (published c.stand_up.new.self) c.in-Ok.load (touching touches_bucket k (turns c.stand_up.new.self))) c.from.ensures s)
+    found_bucket g.R.RoomLaw.state g.R.RoomLaw.origin g.R.RoomLaw.stands_for g.B.BucketLaw.bucket g.B.BucketLaw.cached g.B.BucketLaw.is_settled _ _ _ c.in-Ok.load _ (turns c.stand_up.new.self) c.requires.free.0 c.in-Bucket.is
+    (subst (λ k. Stands g.R.RoomLaw.state g.R.RoomLaw.origin g.R.RoomLaw.stands_for g.B.BucketLaw.bucket g.B.BucketLaw.cached g.B.BucketLaw.is_settled (begun g.R.RoomLaw.state g.R.RoomLaw.origin c.args.self.now) k (published c.stand_up.new.self) c.in-Ok.load (touching touches_bucket k (turns c.stand_up.new.self))) c.from.ensures s)
 
 pub returns-in-Err-clause-pass : goal.returns-in-Err-clause-pass
 returns-in-Err-clause-pass g c = (

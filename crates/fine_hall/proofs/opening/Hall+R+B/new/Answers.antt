@@ -21,8 +21,8 @@ pub open-requires-clause-free : goal.open-requires-clause-free
 open-requires-clause-free g c = λ k le. zeros 257 k
 
 pub open-requires-clause-stands : goal.open-requires-clause-stands
-open-requires-clause-stands g c = subst (λ q. (k : ℕ) → k ≤ places.room → (thing : Load g.row.R.Denot g.row.B.Denot) × (get_elem? c.fill-slots.result.0.items k ≡ some (Some thing)) × Stands g.R.RoomLaw.state g.R.RoomLaw.origin g.R.RoomLaw.stands_for g.B.BucketLaw.bucket g.B.BucketLaw.cached (beginning c.args.seats (g.R.RoomLaw.state q).sealed (g.R.RoomLaw.origin q)) k (g.R.RoomLaw.state q).sealed thing []) (sym c.of.ensures)
-    (lies g.R.RoomLaw.state g.R.RoomLaw.origin g.R.RoomLaw.stands_for g.B.BucketLaw.bucket g.B.BucketLaw.cached c.args.seats c.args.room c.args.buckets.items c.fill-slots.result.0.items c.fill-slots.ensures.slots c.requires.room c.requires.buckets)
+open-requires-clause-stands g c = subst (λ q. (k : ℕ) → k ≤ places.room → (thing : Load g.row.R.Denot g.row.B.Denot) × (get_elem? c.fill-slots.result.0.items k ≡ some (Some thing)) × Stands g.R.RoomLaw.state g.R.RoomLaw.origin g.R.RoomLaw.stands_for g.B.BucketLaw.bucket g.B.BucketLaw.cached g.B.BucketLaw.is_settled (beginning c.args.seats (g.R.RoomLaw.state q).sealed (g.R.RoomLaw.origin q)) k (g.R.RoomLaw.state q).sealed thing []) (sym c.of.ensures)
+    (lies g.R.RoomLaw.state g.R.RoomLaw.origin g.R.RoomLaw.stands_for g.B.BucketLaw.bucket g.B.BucketLaw.cached g.B.BucketLaw.is_settled c.args.seats c.args.room c.args.buckets.items c.fill-slots.result.0.items c.fill-slots.ensures.slots c.requires.room c.requires.buckets)
 
 pub returns-clause-back : goal.returns-clause-back
 returns-clause-back g c = laid_same c.args.room c.empty-room.result.0 c.args.buckets.items c.empty-room.result.1.items (sym c.fill-slots.ensures.slots ∙ (sym c.in-Err.ensures.refused ∙ c.empty-room.ensures))

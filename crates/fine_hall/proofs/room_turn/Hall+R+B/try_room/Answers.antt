@@ -17,7 +17,7 @@ take-answer-requires-clause-within g c = room_within
 pub unreachable-requires : goal.unreachable-requires
 unreachable-requires g c =
     let s = stood_once _ _ _ _ _ c.args.pass.now _ _ _ _ c.requires.pass c.sit-seat.ensures.view c.in-Ok.ensures.took in
-    not_bucket g.R.RoomLaw.state g.R.RoomLaw.origin g.R.RoomLaw.stands_for g.B.BucketLaw.bucket g.B.BucketLaw.cached _ _ s.0 c.in-Ok.load _ s.1 room_256 c.in_default.is s.2
+    not_bucket g.R.RoomLaw.state g.R.RoomLaw.origin g.R.RoomLaw.stands_for g.B.BucketLaw.bucket g.B.BucketLaw.cached g.B.BucketLaw.is_settled _ _ s.0 c.in-Ok.load _ s.1 room_256 c.in_default.is s.2
 
 pub returns-in-Room-clause-pass : goal.returns-in-Room-clause-pass
 returns-in-Room-clause-pass g c = (
@@ -35,7 +35,7 @@ pub returns-in-Room-clause-room : goal.returns-in-Room-clause-room
 returns-in-Room-clause-room g c =
     let s = stood _ _ _ _ _ c.args.pass.now c.stand_up.new.self _ _ _ _ c.requires.pass c.sit-seat.ensures.view c.stand_up.ensures.view
     (c.stand_up.ensures.seat.0 ∙ (c.in-Ok.ensures.table.0 ∙ (c.sit-seat.ensures.seat.0 ∙ c.requires.pass.table))) (c.stand_up.ensures.number ∙ c.sit-seat.ensures.number) c.in-Ok.ensures.took in
-    found_room g.R.RoomLaw.state g.R.RoomLaw.origin g.R.RoomLaw.stands_for g.B.BucketLaw.bucket g.B.BucketLaw.cached _ _ _ c.in-Ok.load _ _ _ (turns c.stand_up.new.self) room_256 c.in-Room.is s
+    found_room g.R.RoomLaw.state g.R.RoomLaw.origin g.R.RoomLaw.stands_for g.B.BucketLaw.bucket g.B.BucketLaw.cached g.B.BucketLaw.is_settled _ _ _ c.in-Ok.load _ _ _ (turns c.stand_up.new.self) room_256 c.in-Room.is s
 
 pub returns-in-Err-clause-pass : goal.returns-in-Err-clause-pass
 returns-in-Err-clause-pass g c = (

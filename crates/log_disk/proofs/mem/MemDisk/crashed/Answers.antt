@@ -19,10 +19,10 @@ invariant_of-result c =
     let number : length (crash_image m picks) ≡ length c.self.inside.present.regions.items = length-crash_image m picks ∙ length-map c.self.inside.present.regions.items synced_of in
     new_kept _ (crash_image m picks) (subst (λ n. n < 4294967296) (sym number) c.self.invariant.few)
     (crash_lengths m picks c.self.inside.region_len (λ r h. sym (c.self.invariant.image.lengths r) ∙ c.self.invariant.lengths r (omega (arith, h, length-map c.self.inside.present.regions.items synced_of))))
-    bytes (c.in_ok-rows.ensures.synced ∙ bytes) c.new.ensures.len
+    bytes (c.in_ok-rows.ensures.synced ∙ bytes) c.new.ensures.len c.none-2.ensures.numbered
 
-pub returns : goal.returns
-returns c =
+pub returns-clause-crash : goal.returns-clause-crash
+returns-clause-crash c =
     let m = moment_of c.self.inside.present in
     let picks = c.args.picks.now in
     let same : ◌≡◌ {A = Moment} (record { synced = map synced_of c.deref.result.now; unsynced = map range_of c.deref-2.result.now }) m =

@@ -1,0 +1,5 @@
+use Rattle.fine_model.proofs.Freed.{erased_law}
+use Rattle.fine_model.proofs.chain_laws.erased_law.Goals as goal
+
+pub returns : goal.returns
+returns c = erased_law

@@ -1,0 +1,5 @@
+use Rattle.fine_model.proofs.Gathered.{range_law}
+use Rattle.fine_model.proofs.laws.range_law.Goals as goal
+
+pub returns : goal.returns
+returns c = range_law

@@ -1,0 +1,86 @@
+-- What the laws of a scan over all buckets say. Each is the contract of a function of its name.
+use Rattle.std.specs.Prelude.{◌≡◌, ℕ, ◌+◌, ◌<◌, ◌≤◌, IsTrue, if◌then◌else◌, List, [], ◌++◌, length, map, replicate, take, flat_map, sum_by, bytes_eq, IsPermutation, IsSortedBy}
+use Rattle.std.specs.List.{AllByRecursion, range_with_len}
+use Rattle.fine_model.specs.Types.{Row, Mark}
+use Rattle.fine_model.specs.Types.call
+use Rattle.fine_model.specs.Types.reply
+use Rattle.fine_model.specs.RowBytes.{rows_len, FitsPair, FitsRow}
+use Rattle.fine_model.specs.Map.{Pair, is_below, is_ascending, between, from_pairs}
+use Rattle.fine_model.specs.Store.{answer}
+use Rattle.fine_model.specs.Trees.{IsSound, bucket_of, tree_map, map_of}
+
+-- the keys of pairs ascend strictly
+abbrev pub KeysAscend : List Pair → Type 0
+KeysAscend pairs = IsTrue (is_ascending (map (λ p. p.0) pairs))
+
+-- the first pairs of a range in each tree of the buckets below a number, bucket by bucket
+unfoldable pub gathered : List Row → List ℕ → List ℕ → ℕ → ℕ → List Pair
+gathered rows low high limit next = flat_map (λ b. take limit (between low high (tree_map rows b))) (range_with_len 0 next)
+
+-- gathered from all trees of sound rows and put in order, the first pairs are those of the map
+abbrev pub RangeLaw : Type 0
+RangeLaw =
+    (rows : List Row) (low high : List ℕ) (limit : ℕ) (found : List Pair) → IsSound rows → IsPermutation (gathered rows low high limit 256) found → KeysAscend found
+    → take limit found ≡ take limit (between low high (map_of rows))
+
+-- pairs that were put in order are the map of them
+abbrev pub OrderLaw : Type 0
+OrderLaw = (pairs found : List Pair) → IsPermutation pairs found → KeysAscend found → found ≡ from_pairs pairs
+
+-- Pairs that are cut to their first ones in order: whatever is gathered besides, the first pairs of all are the same.
+abbrev pub CutLaw : Type 0
+CutLaw = (limit : ℕ) (pairs more : List Pair) → take limit (from_pairs (take limit (from_pairs pairs) ++ more)) ≡ take limit (from_pairs (pairs ++ more))
+
+-- ---- from bucket to bucket
+
+-- how often a key stands among pairs
+abbrev pub times_of : List ℕ → List Pair → ℕ
+times_of key pairs = sum_by (λ p. if bytes_eq p.0 key then 1 else 0) pairs
+
+-- What is kept of the pairs that were gathered from the buckets below a number: no key twice, keys of these buckets alone, and
+-- whatever is gathered besides, the first pairs in order are the same.
+pub record IsKept (rows : List Row) (low high : List ℕ) (limit next : ℕ) (kept : List Pair) : Type 0 where
+  pub same : (more : List Pair) → take limit (from_pairs (kept ++ more)) ≡ take limit (from_pairs (gathered rows low high limit next ++ more))
+  pub once : (key : List ℕ) → times_of key kept ≤ 1
+  pub of_buckets : AllByRecursion (λ p. bucket_of p.0 < next) kept
+
+-- kept pairs that were sorted by their keys
+pub record IsSorted (pairs found : List Pair) : Type 0 where
+  pub permuted : IsPermutation pairs found
+  pub sorted : IsSortedBy (λ a b. is_below a.0 b.0) found
+
+-- nothing is kept at first; then the pairs of the next bucket are put behind
+abbrev pub KeptFirst : Type 0
+KeptFirst = (rows : List Row) (low high : List ℕ) (limit : ℕ) → IsKept rows low high limit 0 []
+
+abbrev pub KeptMore : Type 0
+KeptMore =
+    (rows : List Row) (low high : List ℕ) (limit next : ℕ) (kept : List Pair) → IsSound rows → next < 256 → IsKept rows low high limit next kept
+    → IsKept rows low high limit (next + 1) (kept ++ take limit (between low high (tree_map rows next)))
+
+-- they may be sorted and cut to the first ones at any time
+abbrev pub KeptCut : Type 0
+KeptCut = (rows : List Row) (low high : List ℕ) (limit next : ℕ) (kept found : List Pair) → IsKept rows low high limit next kept → IsSorted kept found → IsKept rows low high limit next (take limit found)
+
+-- after the last bucket the first ones are the reply of the store
+pub record IsWholeScan (rows : List Row) (low high : List ℕ) (limit : ℕ) (found : List Pair) : Type 0 where
+  pub ascends : KeysAscend found
+  pub first : take limit found ≡ take limit (between low high (map_of rows))
+  pub reply : answer (map_of rows) (call.Scan low high limit) ≡ (reply.Found (take limit found), [])
+
+abbrev pub KeptAll : Type 0
+KeptAll = (rows : List Row) (low high : List ℕ) (limit : ℕ) (kept found : List Pair) → IsSound rows → IsKept rows low high limit 256 kept → IsSorted kept found → IsWholeScan rows low high limit found
+
+-- ---- keys and values
+
+-- the map of rows within the format's bounds has keys and values within them
+abbrev pub PairsFit : Type 0
+PairsFit = (mark : Mark) (rows : List Row) → AllByRecursion (FitsRow mark) rows → AllByRecursion FitsPair (map_of rows)
+
+-- and has no more pairs than the rows have bytes
+abbrev pub FewPairs : Type 0
+FewPairs = (rows : List Row) → IsSound rows → length (map_of rows) ≤ rows_len rows
+
+-- A range from the empty key to 65 bytes of 255 holds all pairs whose keys have at most 64 bytes.
+abbrev pub WholeRange : Type 0
+WholeRange = (pairs : List Pair) → AllByRecursion (λ p. (length p.0 ≤ 64) × AllByRecursion (λ byte. byte < 256) p.0) pairs → between [] (replicate 65 255) pairs ≡ pairs

@@ -23,3 +23,4 @@ pub mod ScanHeads
 pub mod SoundScans
 pub mod Scanned
 pub mod OnWalks
+pub mod LastUsed

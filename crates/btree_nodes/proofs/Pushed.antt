@@ -19,6 +19,7 @@ use Rattle.btree_nodes.specs.Trees.{node_at}
 use Rattle.btree_nodes.specs.Changes.{Saves, is_named, Pushes, HoldsPlace, is_image, IsReady, AreReady}
 use Rattle.btree_nodes.proofs.Loads.{none_or_some, same_or_not}
 use Rattle.btree_nodes.proofs.Changed.{rows_here, rows_else, content_of, given_of, unchanged, saves_saved, saving_saved}
+use Rattle.btree_nodes.proofs.LastUsed.{keys_behind, remove_absent}
 use Rattle.btree_nodes.proofs.Steps.{given_is}
 
 pub saves_on : (a b c : Cache) → Saves a b → Saves b c → Saves a c
@@ -131,18 +132,6 @@ ready_more K L on [] ready = tt
 ready_more K L on (row ∷ rows) ready = (⊎_elim (λ k. inl (on row.node.number k)) (λ i. inr i) ready.0, ready_more (λ n. K n ⊎ (n ≡ row.node.number)) (λ n. L n ⊎ (n ≡ row.node.number)) (λ n h. ⊎_elim (λ k. inl (on n k)) (λ e. inr e) h) rows ready.1)
 
 -- ---- a place that is held
-
-keys_behind : (es : List (ℕ × Cached)) (k : ℕ) (kept : Cached) → keys_of (es ++ (k, kept) ∷ []) ≡ keys_of es ++ k ∷ []
-keys_behind [] k kept = refl
-keys_behind (e ∷ es) k kept = ap (λ ks. e.0 ∷ ks) (keys_behind es k kept)
-
-remove_absent : (k : ℕ) (es : List (ℕ × Cached)) → lookup (nat_eq k) es ≡ None → remove_entry (nat_eq k) es ≡ es
-remove_absent k [] none = refl
-remove_absent k (e ∷ es) none = by (nat_eq k e.0) none (remove_absent k es)
-  where
-    by : (t : Bool) → cond t (Some e.1) (lookup (nat_eq k) es) ≡ None → (lookup (nat_eq k) es ≡ None → remove_entry (nat_eq k) es ≡ es) → cond t es (e ∷ remove_entry (nat_eq k) es) ≡ e ∷ es
-    by true none rest = absurd (true≢false (ap is_some none))
-    by false none rest = ap (λ (xs : List (ℕ × Cached)). e ∷ xs) (rest none)
 
 module _ (b m new : Cache) (k : ℕ) (kept : Cached) (was : cached b k ≡ None) (saved : m ≡ saving b k) (same_before : (n : ℕ) → before m n ≡ before b n) (is_saved : IsSaved m k)
     (put : new ≡ with_node m k kept) (here : cached new k ≡ Some kept) (elsewhere : (n : ℕ) → n ≢ k → cached new n ≡ cached m n) where

@@ -9,8 +9,7 @@ use Rattle.fine_model.specs.Pushed.{leaf_for, child_for}
 use Rattle.fine_model.specs.Trees.{Bounds, is_leaf}
 use Rattle.fine_model.specs.declared.Node.{Node}
 use Rattle.fine_model.specs.declared.Node.TheVariants as node
-use Rattle.fine_model.proofs.Order.{all_map}
-use Rattle.node_cache.specs.Cache.{Cache, touched}
+use Rattle.node_cache.specs.Cache.{Cache}
 use Rattle.btree_nodes.specs.declared.descent.Sep.{Sep}
 use Rattle.btree_nodes.specs.declared.descent.Step.{Step}
 use Rattle.btree_nodes.specs.declared.fault.TreeFault.{TreeFault}
@@ -18,7 +17,7 @@ use Rattle.btree_nodes.specs.declared.fault.TreeFault.TheVariants.{Source, Unfit
 use Rattle.node_cache.specs.Given.{given, IsCached, IsLoaded}
 use Rattle.btree_nodes.specs.Descent.{bound_at, bounds_by, AreKept, IsStep}
 use Rattle.btree_nodes.specs.Descends.{IsWay, IsUnfit, Descends}
-use Rattle.btree_nodes.specs.Trees.{way, way_from, way_in, LoadsAmong, used, AreUsed}
+use Rattle.btree_nodes.specs.Trees.{way, way_from, way_in, LoadsAmong, last_used, AreUsed}
 use Rattle.btree_nodes.proofs.Loads.{loaded_given, loaded_kept, contains_first, contains_one, among_more, among_on}
 
 module _ (b : Cache) (next : ℕ) (key : List ℕ) (bounds : Bounds) (number : ℕ) where
@@ -116,25 +115,24 @@ among_step a b c key (suc height) number kid above is first rest =
 
 -- ---- what was used
 
-pub used_first : (a b : Cache) (nodes : ℕ → Content) (key : List ℕ) (height number : ℕ) → height ≡ 0 → (IsCached a number → b ≡ touched a number) → AreUsed a b (way height nodes key number)
+pub used_first : (a b : Cache) (nodes : ℕ → Content) (key : List ℕ) (height number : ℕ) → height ≡ 0 → AreUsed a b (number ∷ []) → AreUsed a b (way height nodes key number)
 unfolding way
-used_first a b nodes key zero number ground first = λ all. first all.0
+used_first a b nodes key zero number ground first = first
 used_first a b nodes key (suc height) number ground first = absurd (omega arith)
 
-used_then : (tells : List Row → Type 0) (upper : ℕ) (a b c : Cache) (number : ℕ) (rest : List ℕ) → (IsCached a number → b ≡ touched a number) → IsLoaded tells upper a b → AreUsed b c rest → AreUsed a c (number ∷ rest)
-used_then tells upper a b c number rest first loaded then_rest = λ all.
-    then_rest (all_map (IsCached a) (IsCached b) (λ n here. loaded_kept tells upper a b loaded n here) rest all.1) ∙ ap (λ k. used k rest) (first all.0)
+-- one number, and then others
+used_then : (a b c : Cache) (number : ℕ) (rest : List ℕ) → AreUsed a b (number ∷ []) → AreUsed b c rest → AreUsed a c (number ∷ rest)
+used_then a b c number rest first then_rest = then_rest ∙ ap (λ ks. last_used ks rest) first
 
-pub used_step : (tells : List Row → Type 0) (upper : ℕ) (a b c : Cache) (key : List ℕ) (height number kid : ℕ) → 0 < height → kid ≡ kid_at (given c number).0 (place_among key (seps_of (given c number).0)) → (IsCached a number → b ≡ touched a number) → IsLoaded tells upper a b
+pub used_step : (a b c : Cache) (key : List ℕ) (height number kid : ℕ) → 0 < height → kid ≡ kid_at (given c number).0 (place_among key (seps_of (given c number).0)) → AreUsed a b (number ∷ [])
     → AreUsed b c (way (height - 1) (given c) key kid) → AreUsed a c (way height (given c) key number)
 unfolding way
-used_step tells upper a b c key zero number kid above is first loaded rest = absurd (omega arith)
-used_step tells upper a b c key (suc height) number kid above is first loaded rest =
+used_step a b c key zero number kid above is first rest = absurd (omega arith)
+used_step a b c key (suc height) number kid above is first rest =
     let e : suc height - 1 ≡ height = omega arith in
-    used_then tells upper a b c number (way height (given c) key (kid_at (given c number).0 (place_among key (seps_of (given c number).0)))) first loaded
+    used_then a b c number (way height (given c) key (kid_at (given c number).0 (place_among key (seps_of (given c number).0)))) first
     (subst (λ k. AreUsed b c (way height (given c) key k)) is (subst (λ h. AreUsed b c (way h (given c) key kid)) e rest))
 
-pub used_under : (tells : List Row → Type 0) (upper : ℕ) (a b c : Cache) (key : List ℕ) (root next depth : ℕ) → (given c 0).0 ≡ node.Head root next depth → (IsCached a 0 → b ≡ touched a 0) → IsLoaded tells upper a b
-    → AreUsed b c (way (depth - 1) (given c) key root) → AreUsed a c (way_in c key)
-used_under tells upper a b c key root next depth is first loaded rest =
-    subst (λ n. AreUsed a c (way_from (given c) key n)) (sym is) (used_then tells upper a b c 0 (way (depth - 1) (given c) key root) first loaded rest)
+pub used_under : (a b c : Cache) (key : List ℕ) (root next depth : ℕ) → (given c 0).0 ≡ node.Head root next depth → AreUsed a b (0 ∷ []) → AreUsed b c (way (depth - 1) (given c) key root) → AreUsed a c (way_in c key)
+used_under a b c key root next depth is first rest =
+    subst (λ n. AreUsed a c (way_from (given c) key n)) (sym is) (used_then a b c 0 (way (depth - 1) (given c) key root) first rest)

@@ -75,8 +75,8 @@ OnReached (Err (BucketFull next depth)) P = P
 OnReached (Err (Number id)) P = P
 OnReached (Err _) P = Unit {0}
 
--- A change of a tree: nodes on the way are loaded, and no others, and those that were cached are the last used, before anything is
--- pushed; then the call has its outcome.
+-- A change of a tree: nodes on the way are loaded, and no others, and the way is what was used last, before anything is pushed; then
+-- the call has its outcome.
 pub record IsChange {A : Type 0} (tells : List Row → Type 0) (upper : ℕ) (old new : Cache) (log log' : List Row) (c : Call) (P : Cache → A → Type 0) (Failed : FetchFault → Type 0) (r : Result A TreeFault) : Type 0 where
   pub mid : Cache
   pub loaded : IsLoaded tells upper old mid

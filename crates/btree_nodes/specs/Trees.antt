@@ -1,6 +1,7 @@
 -- What a bucket holds of a tree, what a source serves, and which nodes lie on a way.
-use Rattle.std.specs.Prelude.{◌≡◌, ◌≢◌, ℕ, zero, suc, ◌-◌, ◌<◌, ◌≤◌, nat_lt, if◌then◌else◌, List, [], ◌∷◌, ◌++◌, find, Option, Some, None, option_map, IfSome, Contains}
+use Rattle.std.specs.Prelude.{◌≡◌, ◌≢◌, ℕ, zero, suc, ◌-◌, ◌<◌, ◌≤◌, nat_eq, nat_lt, if◌then◌else◌, List, [], ◌∷◌, ◌++◌, find, Option, Some, None, option_map, IfSome, Contains}
 use Rattle.std.specs.List.{AllByRecursion}
+use Rattle.std.specs.Map.{keys_of}
 use Rattle.fine_model.specs.declared.NodeId.{NodeId}
 use Rattle.fine_model.specs.declared.Node.{Node}
 use Rattle.fine_model.specs.declared.Node.TheVariants as node
@@ -12,7 +13,7 @@ use Rattle.fine_model.specs.Paths.{place_among, kid_at, seps_of, meets, unfit_un
 use Rattle.fine_model.specs.Pushed.{leaf_for, pairs_beside}
 use Rattle.fine_model.specs.RowBytes.{greatest, FitsRow}
 use Rattle.fine_model.specs.Trees.{Bounds, whole, kids_of, pairs_of, nodes_of}
-use Rattle.node_cache.specs.Cache.{Cache, cached, before, touched}
+use Rattle.node_cache.specs.Cache.{Cache, cached, before}
 use Rattle.node_cache.specs.Given.{given, IsCached}
 use Rattle.btree_nodes.specs.declared.tree.Path.{Path}
 
@@ -55,14 +56,19 @@ way_from nodes key _ = 0 ∷ []
 abbrev pub way_in : Cache → List ℕ → List ℕ
 way_in b key = way_from (given b) key (given b 0).0
 
--- each of some numbers is the last used, one after the other
-abbrev pub used : Cache → List ℕ → Cache
-used b [] = b
-used b (n ∷ ns) = used (touched b n) ns
+-- without the first that is this number
+abbrev pub without : ℕ → List ℕ → List ℕ
+without n [] = []
+without n (k ∷ ks) = if nat_eq n k then ks else k ∷ without n ks
 
--- where all these numbers were cached, they are the last used, in their order, and nothing else is changed
+-- each of some numbers is put behind all others, one after the other
+abbrev pub last_used : List ℕ → List ℕ → List ℕ
+last_used ks [] = ks
+last_used ks (n ∷ ns) = last_used (without n ks ++ n ∷ []) ns
+
+-- these numbers are cached as the last used, in their order, and the others stay in theirs
 abbrev pub AreUsed : Cache → Cache → List ℕ → Type 0
-AreUsed old new numbers = AllByRecursion (IsCached old) numbers → new ≡ used old numbers
+AreUsed old new numbers = keys_of new.nodes ≡ last_used (keys_of old.nodes) numbers
 
 -- what is met of the children of a node that hold keys of a range, from left to right
 abbrev pub kids_met : {A : Type 0} → (Bounds → ℕ → List A) → List ℕ → List ℕ → Bounds → List (List ℕ) → List ℕ → List A

@@ -9,7 +9,6 @@ ghost use Rattle.fine_model.specs.Paths.{is_inner, place_among};
 ghost use Rattle.fine_model.specs.Trees.{is_leaf, is_from, is_above, is_up_to, is_key_within, are_separators, bucket_of};
 ghost use Rattle.fine_model.specs.RowBytes.{FitsKey, FitsPair};
 ghost use Rattle.node_record.specs.Bounds.{FitsNode};
-ghost use Rattle.node_cache.specs.Cache.{touched};
 ghost use Rattle.node_cache.specs.Given.{given, IsCached, IsLoaded};
 ghost use Rattle.btree_nodes.specs.Faults.{OnFault};
 ghost use Rattle.btree_nodes.specs.Calls.{OnCleanAnswer};
@@ -232,7 +231,7 @@ pub fn reach<S: NodeSource>(
     ensures clean { OnCleanAnswer result (S.clean source.old source.new) }
     ensures loaded { IsLoaded (S.tells source.old) (S.upper source.old) bucket.old bucket.new }
     ensures among { LoadsAmong bucket.old bucket.new (number ∷ []) }
-    ensures used { IsCached bucket.old number → bucket.new ≡ touched bucket.old number }
+    ensures used { OnOk result (AreUsed bucket.old bucket.new (number ∷ [])) }
     ensures there { OnOk result (IsCached bucket.new number) }
     ensures err { IfErr result (λ fault. OnFault fault (λ failed. S.fails source.old failed source.new) (λ _. ⊥) ⊥) }
 {

@@ -81,7 +81,7 @@ returns-clause-clean g t c =
 pub returns-then-is_leaf_within-clause-used : goal.returns-then-is_leaf_within-clause-used
 returns-then-is_leaf_within-clause-used g t c =
     let ground_floor : c.args.height ≡ 0 = omega arith in
-    used_first _ _ _ _ c.args.height c.args.number ground_floor c.reach.ensures.used
+    used_first c.args.bucket.now c.reach.new.bucket _ _ c.args.height c.args.number ground_floor (c.in_ok-reach.ensures).used
 
 pub returns-clause-used : goal.returns-clause-used
 returns-clause-used g t c =
@@ -92,4 +92,4 @@ returns-clause-used g t c =
     let low = kept_stays _ _ _ mid c.reach.ensures.loaded c.args.low c.requires.low in
     let high = kept_stays _ _ _ mid c.reach.ensures.loaded c.args.high c.requires.high in
     let step = step_stays _ _ mid c.descend.new.bucket c.descend.ensures.loaded c.args.next c.args.key.now c.args.low c.args.high c.args.number c.in-Some.step here low high kept.0 kept.1 (c.in-Some.ensures).step in
-    on_ok c.descend.result (used_step _ _ c.args.bucket.now mid c.descend.new.bucket c.args.key.now c.args.height c.args.number c.in-Some.step.number above step.number c.reach.ensures.used c.reach.ensures.loaded) c.descend.ensures.used
+    on_ok c.descend.result (used_step c.args.bucket.now mid c.descend.new.bucket c.args.key.now c.args.height c.args.number c.in-Some.step.number above step.number (c.in_ok-reach.ensures).used) c.descend.ensures.used

@@ -81,4 +81,4 @@ returns-clause-used g c =
     let here : IsCached c.reach.new.bucket 0 = (c.in_ok-reach.ensures).there in
     let same = loaded_given _ _ c.reach.new.bucket b c.descend.ensures.loaded 0 here in
     let says = subst (λ k. SaysHead k.0 c.in-Some.root c.in-Some.next c.in-Some.depth) (sym same) (head_some (given c.reach.new.bucket 0).0 (c.in-Some.root, c.in-Some.next, c.in-Some.depth) c.in-Some.ensures) in
-    used_under _ _ c.args.bucket.now c.reach.new.bucket b c.args.key.now c.in-Some.root c.in-Some.next c.in-Some.depth says.is c.reach.ensures.used c.reach.ensures.loaded (c.in_ok-leaf.ensures).used
+    used_under c.args.bucket.now c.reach.new.bucket b c.args.key.now c.in-Some.root c.in-Some.next c.in-Some.depth says.is (c.in_ok-reach.ensures).used (c.in_ok-leaf.ensures).used

@@ -1,9 +1,9 @@
 -- A row that is done to a node.
-use Rattle.std.proofs.Common.{◌≡◌, ◌≢◌, inl, inr, ⊎_elim, ℕ, ◌≤◌, ◌==◌, Bool, true, false, cond, ◌&&◌, if◌then◌else◌, nat_eq, eq-eqb, ne_eqb, List, [], ◌∷◌, ◌++◌, Option, Some, None, is_some, Result, Ok, Err, refl, sym, ap, subst, ◌∙◌, true≢false}
+use Rattle.std.proofs.Common.{◌≡◌, ◌≢◌, inl, inr, ⊎_elim, ℕ, ◌≤◌, ◌==◌, Bool, true, false, cond, ◌&&◌, ◌||◌, if◌then◌else◌, nat_eq, eq-eqb, ne_eqb, List, [], ◌∷◌, ◌++◌, Option, Some, None, is_some, Result, Ok, Err, refl, sym, ap, subst, ◌∙◌, true≢false, append-nil}
 use Rattle.std.specs.Prelude.{IsSome, IfSome, OnOk, OnErr, unwrap_or, option_map}
 use Rattle.std.specs.Cmp.{nat_eq_equiv}
-use Rattle.std.specs.Map.{lookup}
-use Rattle.std.proofs.lemmas.Map.{lookup-set_value}
+use Rattle.std.specs.Map.{keys_of, lookup}
+use Rattle.std.proofs.lemmas.Map.{lookup-set_value, keys-set_value}
 use Rattle.std.proofs.lemmas.Map.Steps.{set_value_same}
 use Rattle.fine_model.specs.declared.list.NoMemory.{NoMemory}
 use Rattle.fine_model.specs.declared.Node.{Node}
@@ -11,11 +11,12 @@ use Rattle.fine_model.specs.declared.Node.TheVariants as node
 use Rattle.fine_model.specs.declared.Row.{Row}
 use Rattle.fine_model.specs.Nodes.{Content, replay, step, rows_of}
 use Rattle.fine_model.specs.RowBytes.{greatest}
-use Rattle.node_record.specs.Bounds.{FitsNode}
-use Rattle.node_cache.specs.declared.Cached.{Cached}
+use Rattle.node_cache.specs.declared.cached.Cached.{Cached}
 use Rattle.node_cache.specs.Cache.{Cache, cached, original, before, rewritten, saving, IsSaved}
-use Rattle.btree_nodes.specs.Given.{given, IsCached, FitsKept, FitsCache}
-use Rattle.btree_nodes.specs.Changes.{node_at, Saves, IsChanged, Pushes}
+use Rattle.node_cache.specs.Given.{given, IsCached}
+use Rattle.node_cache.proofs.Bounds.{same_kept}
+use Rattle.btree_nodes.specs.Trees.{node_at}
+use Rattle.btree_nodes.specs.Changes.{Saves, IsChanged, is_named, Pushes}
 use Rattle.btree_nodes.proofs.Steps.{given_is}
 use Rattle.btree_nodes.proofs.Loads.{same_or_not}
 
@@ -23,21 +24,25 @@ pub on_ok : {A E : Type 0} {P Q : Type 0} (r : Result A E) → (P → Q) → OnO
 on_ok (Ok a) f h = f h
 on_ok (Err e) f h = tt
 
-pub was_changed : (b : Cache) (row : Row) (kept : Cached) → cached b row.node.number ≡ Some kept → (content : Node) (version : ℕ) → (content, version) ≡ step (kept.node, kept.version) row → FitsNode content → row.version ≤ greatest
-    → IsChanged b (rewritten b row.node.number (record { node = content; version = version; epoch = kept.epoch })) row
+pub was_changed : (b : Cache) (row : Row) (kept now : Cached) → cached b row.node.number ≡ Some kept → (now.node, now.version) ≡ step (kept.node, kept.version) row → IsChanged b (rewritten b row.node.number now) row
 unfolding step
-was_changed b row kept found content version is fits small = record {
-  kept = record { node = content; version = version; epoch = kept.epoch };
+was_changed b row kept now found is = record {
+  kept = now;
   is = refl;
   same = is ∙ ap (λ c. step c row) (sym (given_is b row.node.number kept found));
-  fits = record { node = fits; version = subst (λ (v : ℕ). v ≤ greatest) (sym (ap (λ (c : Content). c.1) is)) small };
 }
 
-pub was_not : (b : Cache) (row : Row) (kept : Cached) → cached b row.node.number ≡ Some kept → (content : Node) (version : ℕ) (r : Result (Unit {0}) NoMemory) → OnErr r (content ≡ kept.node) → OnErr r (version ≡ kept.version)
-    → OnErr r (rewritten b row.node.number (record { node = content; version = version; epoch = kept.epoch }) ≡ b)
-was_not b row kept found content version (Ok u) same same' = tt
-was_not b row kept found content version (Err e) same same' =
-    (λ i. rewritten b row.node.number (record { node = same i; version = same' i; epoch = kept.epoch })) ∙ (λ i. record { bucket = b.bucket; nodes = set_value_same (nat_eq row.node.number) b.nodes kept found i; saved = b.saved })
+-- the version is one that was there, or the row's
+pub still_in_range : (r : Result (Unit {0}) NoMemory) (n m : Node) (v w : ℕ) (row : Row) → OnOk r ((m, w) ≡ step (n, v) row) → OnErr r (w ≡ v) → v ≤ greatest → row.version ≤ greatest → w ≤ greatest
+unfolding step
+still_in_range (Ok u) n m v w row ok err low small = subst (λ (k : ℕ). k ≤ greatest) (sym (ap (λ (c : Content). c.1) ok)) small
+still_in_range (Err e) n m v w row ok err low small = subst (λ (k : ℕ). k ≤ greatest) (sym err) low
+
+pub was_not : (b : Cache) (row : Row) (kept now : Cached) → cached b row.node.number ≡ Some kept → (r : Result (Unit {0}) NoMemory) → OnErr r (now.node ≡ kept.node) → OnErr r (now.version ≡ kept.version) → now.epoch ≡ kept.epoch
+    → OnErr r (rewritten b row.node.number now ≡ b)
+was_not b row kept now found (Ok u) same same' epoch = tt
+was_not b row kept now found (Err e) same same' epoch =
+    ap (rewritten b row.node.number) (same_kept now kept same same' epoch) ∙ (λ i. record { bucket = b.bucket; nodes = set_value_same (nat_eq row.node.number) b.nodes kept found i; saved = b.saved })
 
 -- ---- a node that is saved, and then changed
 
@@ -56,6 +61,41 @@ saving_original b k q h = by (is_some (original b k))
     by : (t : Bool) → original (if t then b else record b { saved = b.saved ++ (k, cached b k) ∷ [] }) q ≡ original b q
     by true = refl
     by false = found_before q b.saved ((k, cached b k) ∷ []) h
+
+pub or_false : (t : Bool) → (t || false) ≡ t
+or_false true = refl
+or_false false = refl
+
+or_here : (s t : Bool) → s ≡ true → s ≡ (s || t)
+or_here true t e = refl
+or_here false t e = absurd (true≢false (sym e))
+
+found_behind : (k q : ℕ) (o : Option Cached) (es : List (ℕ × Option Cached)) → is_some (lookup (nat_eq q) (es ++ (k, o) ∷ [])) ≡ (is_some (lookup (nat_eq q) es) || nat_eq q k)
+found_behind k q o [] = by (nat_eq q k)
+  where
+    by : (t : Bool) → is_some (cond t (Some o) None) ≡ t
+    by true = refl
+    by false = refl
+found_behind k q o (e ∷ es) = by (nat_eq q e.0) (found_behind k q o es)
+  where
+    by : (t : Bool) → is_some (lookup (nat_eq q) (es ++ (k, o) ∷ [])) ≡ (is_some (lookup (nat_eq q) es) || nat_eq q k)
+        → is_some (cond t (Some e.1) (lookup (nat_eq q) (es ++ (k, o) ∷ []))) ≡ (is_some (cond t (Some e.1) (lookup (nat_eq q) es)) || nat_eq q k)
+    by true rest = refl
+    by false rest = rest
+
+eq_swap : (k q : ℕ) → nat_eq q k ≡ nat_eq k q
+eq_swap k q = ⊎_elim (λ same. eq-eqb q k same ∙ sym (eq-eqb k q (sym same))) (λ other. ne_eqb q k other ∙ sym (ne_eqb k q (λ e. other (sym e)))) (same_or_not q k)
+
+-- what is saved once a number was
+pub saving_saved : (b : Cache) (k q : ℕ) → is_some (original (saving b k) q) ≡ (is_some (original b q) || nat_eq k q)
+saving_saved b k q = by (is_some (original b k)) refl
+  where
+    by : (t : Bool) → is_some (original b k) ≡ t → is_some (original (if t then b else record b { saved = b.saved ++ (k, cached b k) ∷ [] }) q) ≡ (is_some (original b q) || nat_eq k q)
+    by true e = ⊎_elim
+        (λ same. or_here (is_some (original b q)) (nat_eq k q) (ap (λ n. is_some (original b n)) same ∙ e))
+        (λ other. sym (or_false (is_some (original b q))) ∙ ap (λ t. is_some (original b q) || t) (sym (ne_eqb k q (λ e. other (sym e)))))
+        (same_or_not q k)
+    by false e = found_behind k q (cached b k) b.saved ∙ ap (λ t. is_some (original b q) || t) (eq_swap k q)
 
 pub saving_same : (b : Cache) (k : ℕ) → ((saving b k).bucket ≡ b.bucket) × ((saving b k).nodes ≡ b.nodes)
 saving_same b k = by (is_some (original b k))
@@ -117,6 +157,7 @@ module _ (b m new : Cache) (row : Row) (of_bucket : row.node.bucket ≡ b.bucket
         (λ same. subst (λ n. before new n ≡ before b n) (sym same) (at_saved (original m row.node.number) is_saved refl ∙ kept_before row.node.number))
         (λ other. (λ i. unwrap_or (same_original q i) ((now_else q other ∙ sym (same_cached q)) i)) ∙ kept_before q)
         (same_or_not q row.node.number);
+    order = record { added = []; is = ap (λ c. keys_of c.nodes) changed.is ∙ keys-set_value (nat_eq row.node.number) m.nodes changed.kept ∙ ap (λ c. keys_of c.nodes) saved ∙ ap (λ (es : List (ℕ × Cached)). keys_of es) (saving_same b row.node.number).1 ∙ sym (append-nil (keys_of b.nodes)) };
     changed = λ q. ⊎_elim (λ same. inl (subst (IsSaved new) (sym same) (ap is_some (same_original row.node.number) ∙ is_saved))) (λ other. inr (now_else q other)) (same_or_not q row.node.number);
   }
     where
@@ -124,10 +165,14 @@ module _ (b m new : Cache) (row : Row) (of_bucket : row.node.bucket ≡ b.bucket
       at_saved None h is = absurd (true≢false (sym h))
       at_saved (Some o) h is = ap (λ s. unwrap_or s (cached new row.node.number)) (same_original row.node.number ∙ is) ∙ ap (λ s. unwrap_or s (cached m row.node.number)) (sym is)
 
+  now_saved : (q : ℕ) → is_some (original new q) ≡ (is_some (original b q) || is_named q (row ∷ []))
+  now_saved q = ap is_some (same_original q) ∙ ap (λ c. is_some (original c q)) saved ∙ saving_saved b row.node.number q ∙ ap (λ t. is_some (original b q) || t) (sym (or_false (nat_eq row.node.number q)))
+
   pub pushed_one : Pushes b new (row ∷ [])
   unfolding replay
   pushed_one = record {
     saves = one_saves;
+    saved = now_saved;
     nodes = λ q. ⊎_elim
         (λ same. subst (λ n. given new n ≡ replay (given b n) (rows_of (node_at b n) (row ∷ []))) (sym same)
         (given_is new row.node.number changed.kept now_here ∙ changed.same ∙ ap (λ c. step c row) (given_of m row.node.number ∙ ap content_of (same_cached row.node.number) ∙ sym (given_of b row.node.number))
@@ -135,7 +180,8 @@ module _ (b m new : Cache) (row : Row) (of_bucket : row.node.bucket ≡ b.bucket
         (λ other. given_of new q ∙ ap content_of (now_else q other) ∙ sym (given_of b q) ∙ ap (replay (given b q)) (sym (rows_else b row q other)))
         (same_or_not q row.node.number);
     kept = λ q h. ⊎_elim (λ same. subst (IsCached new) (sym same) (ap is_some now_here)) (λ other. ap is_some (now_else q other) ∙ h) (same_or_not q row.node.number);
-    named = λ q none. ⊎_elim (λ same. absurd (true≢false (ap is_some (sym now_here ∙ subst (λ n. cached new n ≡ None) same none)))) (λ other. rows_else b row q other) (same_or_not q row.node.number);
+    named = ((ap is_some (same_original row.node.number) ∙ is_saved, ap is_some now_here), tt);
+    others = λ q none. ⊎_elim (λ same. absurd (true≢false (ap is_some (sym now_here ∙ subst (λ n. cached new n ≡ None) same none)))) (λ other. rows_else b row q other) (same_or_not q row.node.number);
     added = λ q none h. ⊎_elim (λ same. absurd (true≢false (sym here ∙ ap is_some (subst (λ n. cached b n ≡ None) same none)))) (λ other. absurd (true≢false (sym h ∙ ap is_some (now_else q other ∙ none)))) (same_or_not q row.node.number);
   }
 
@@ -146,6 +192,7 @@ saves_itself b new same = record {
   originals = λ n h. ap (λ c. original c n) same;
   before = λ n. ap (λ c. before c n) same;
   changed = λ n. inr (ap (λ c. cached c n) same);
+  order = record { added = []; is = ap (λ c. keys_of c.nodes) same ∙ sym (append-nil (keys_of b.nodes)) };
 }
 
 module _ (b m : Cache) (k : ℕ) (saved : m ≡ saving b k) where
@@ -159,25 +206,13 @@ module _ (b m : Cache) (k : ℕ) (saved : m ≡ saving b k) where
     originals = λ q h. ap (λ c. original c q) saved ∙ saving_original b k q h;
     before = kept_before;
     changed = λ q. inr (unchanged q);
+    order = record { added = []; is = ap (λ c. keys_of c.nodes) saved ∙ ap (λ (es : List (ℕ × Cached)). keys_of es) (saving_same b k).1 ∙ sym (append-nil (keys_of b.nodes)) };
   }
-
-  pub saved_fits : FitsCache b → FitsCache m
-  saved_fits fits = record { each = λ n. subst (λ o. IfSome o FitsKept) (sym (unchanged n)) (fits.each n) }
 
   pub saved_there : IsCached b k → IsCached m k
   saved_there here = ap is_some (unchanged k) ∙ here
 
   -- and then a row is done to it, or memory runs out
-  pub fits_then : (new : Cache) (row : Row) (r : Result (Unit {0}) NoMemory) → row.node.number ≡ k → IsCached b k → FitsCache b → OnOk r (IsChanged m new row) → OnErr r (new ≡ m) → FitsCache new
-  fits_then new row (Err e) same here fits ok err = subst FitsCache (sym err) (saved_fits fits)
-  fits_then new row (Ok u) same here fits ok err = record {
-    each = λ n. subst (λ o. IfSome o FitsKept) (sym (ap (λ c. cached c n) ok.is ∙ rewritten_cached m row.node.number ok.kept (subst (IsCached m) (sym same) (saved_there here)) n)) (by (nat_eq row.node.number n) n);
-  }
-    where
-      by : (t : Bool) (n : ℕ) → IfSome (cond t (Some ok.kept) (cached m n)) FitsKept
-      by true n = ok.fits
-      by false n = (saved_fits fits).each n
-
   pub saves_then : (new : Cache) (row : Row) (r : Result (Unit {0}) NoMemory) → row.node.number ≡ k → row.node.bucket ≡ b.bucket → IsCached b k → ((n : ℕ) → before m n ≡ before b n) → IsSaved m k → OnOk r (IsChanged m new row) → OnErr r (new ≡ m) → Saves b new
   saves_then new row (Err e) same of_bucket here kept_before is_saved ok err = subst (Saves b) (sym err) (saves_saved kept_before)
   saves_then new row (Ok u) same of_bucket here kept_before is_saved ok err =

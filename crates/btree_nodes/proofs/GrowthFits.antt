@@ -1,6 +1,6 @@
 -- The rows that setting a pair pushes are of the bucket, within bounds, and of nodes that are there or that they make.
-use Rattle.std.proofs.Common.{◌≡◌, ◌⊎◌, inl, inr, ℕ, zero, suc, ◌+◌, ◌≤◌, nat_lt, Bool, true, false, cond, ◌||◌, List, [], ◌∷◌, ◌++◌, length, drop, slice_get, refl, sym, ap, subst, Option, Some, None, arith}
-use Rattle.std.specs.Prelude.{unwrap_or, IfSome}
+use Rattle.std.proofs.Common.{◌≡◌, ◌⊎◌, inl, inr, ℕ, zero, suc, ◌+◌, ◌<◌, ◌≤◌, nat_lt, Bool, true, false, cond, ◌||◌, List, [], ◌∷◌, ◌++◌, length, drop, slice_get, refl, sym, ap, subst, Option, Some, None, arith}
+use Rattle.std.specs.Prelude.{◌↔◌, unwrap_or, IfSome}
 use Rattle.std.specs.List.{AllByRecursion}
 use Rattle.std.proofs.lemmas.Bool.{or_parts, ltb-false}
 use Rattle.std.proofs.lemmas.List.{length-drop, map-id}
@@ -13,7 +13,7 @@ use Rattle.fine_model.specs.Map.{Pair, is_below, has, is_ascending}
 use Rattle.fine_model.specs.Nodes.{Content}
 use Rattle.fine_model.specs.Paths.{is_inner, place_among, bounds_at, seps_of, kid_at, unfit_from}
 use Rattle.fine_model.specs.Pushed.{Growth, row_of, key_at, child_for, split_leaf, split_inner, grown_leaf, grown_inner, growth}
-use Rattle.fine_model.specs.RowBytes.{FitsKey, FitsPair, FitsChild, FitsRec}
+use Rattle.fine_model.specs.RowBytes.{kind, FitsKey, FitsPair, FitsChild, FitsRec}
 use Rattle.fine_model.specs.Trees.{Bounds, is_leaf, pairs_of}
 use Rattle.fine_model.proofs.Order.{ascending-drop}
 use Rattle.fine_model.proofs.Zip.{all_right}
@@ -21,15 +21,16 @@ use Rattle.fine_model.proofs.Sets.{all_append}
 use Rattle.fine_model.proofs.Parts.{Parted, parted, key_at-is}
 use Rattle.node_record.specs.Bounds.{FitsNode}
 use Rattle.node_record.proofs.Ordered.{AreUp-from_ascending, ascending_from_up, AreUp-drop}
-use Rattle.node_cache.specs.declared.Cached.{Cached}
+use Rattle.node_cache.specs.declared.cached.Cached.{Cached}
 use Rattle.node_cache.specs.Cache.{Cache, cached}
-use Rattle.btree_nodes.specs.Given.{given, IsCached, FitsKept, FitsCache}
+use Rattle.node_cache.specs.Given.{given, IsCached}
 use Rattle.btree_nodes.specs.Changes.{is_image, IsReady, AreReady}
 use Rattle.btree_nodes.specs.Growths.{split_rows}
 use Rattle.btree_nodes.proofs.Changed.{content_of, given_of}
 use Rattle.btree_nodes.proofs.Pushed.{ready_more}
 use Rattle.btree_nodes.proofs.Sound.{cached_of_whole, leaf_whole, inner_whole, passed}
 use Rattle.btree_nodes.proofs.Ways.{child_is}
+use Rattle.btree_nodes.proofs.Paths.{HasPlace, kid_below, leaf_place, inner_place}
 
 -- ---- rows that are ready
 
@@ -81,12 +82,12 @@ module _ (b : Cache) (next : ℕ) (key value : List ℕ) where
 
 -- ---- rows within bounds
 
-pub node_fits : (b : Cache) → FitsCache b → (n : ℕ) → FitsNode (given b n).0
-node_fits b fits n = subst (λ (c : Content). FitsNode c.0) (sym (given_of b n)) (by (cached b n) (fits.each n))
+pub node_fits : (b : Cache) (n : ℕ) → FitsNode (given b n).0
+node_fits b n = subst (λ (c : Content). FitsNode c.0) (sym (given_of b n)) (by (cached b n))
   where
-    by : (o : Option Cached) → IfSome o FitsKept → FitsNode (content_of o).0
-    by None h = tt
-    by (Some kept) h = h.node
+    by : (o : Option Cached) → FitsNode (content_of o).0
+    by None = tt
+    by (Some kept) = kept.fits
 
 all_drop : {A : Type 0} (P : A → Type 0) (n : ℕ) (xs : List A) → AllByRecursion P xs → AllByRecursion P (drop n xs)
 all_drop P zero xs all = all
@@ -116,16 +117,27 @@ drop_inner n seps kids few fits =
     )
 
 module _ (bucket : ℕ) where
-  -- a row is of the bucket, and within bounds but for its version
-  abbrev pub IsGood : Row → Type 0
-  IsGood row = (row.node.bucket ≡ bucket) × FitsRec row.rec
+  -- a row is of the bucket, and within bounds but for the greatest version
+  pub record IsGood (row : Row) : Type 0 where
+    pub of_bucket : row.node.bucket ≡ bucket
+    pub number : row.node.number < 1048576
+    pub head : (row.node.number ≡ 0) ↔ (kind row.rec ≡ 1)
+    pub version : 1 ≤ row.version
+    pub rec : FitsRec row.rec
 
-  split_good : (number version next : ℕ) (image cut set : Rec) (left : Bool) → FitsRec image → FitsRec cut → FitsRec set → AllByRecursion IsGood (split_rows bucket number version next image cut set left)
-  split_good number version next image cut set left i c s = ((refl, i), ((refl, c), (by left, tt)))
+  -- a row that is no head's
+  pub one_good : (number version : ℕ) (change : Rec) → 1 ≤ version → HasPlace number → (kind change ≡ 1 → ⊥) → FitsRec change → IsGood (row_of bucket number version change)
+  one_good number version change some place other fits =
+      let above = place.above in
+      record { of_bucket = refl; number = place.small; head = (λ zero. absurd (omega (arith, above, zero)), λ one. absurd (other one)); version = some; rec = fits }
+
+  split_good : (number version next : ℕ) (image cut set : Rec) (left : Bool) → HasPlace number → HasPlace next → (kind image ≡ 1 → ⊥) → (kind cut ≡ 1 → ⊥) → (kind set ≡ 1 → ⊥) → FitsRec image → FitsRec cut → FitsRec set
+      → AllByRecursion IsGood (split_rows bucket number version next image cut set left)
+  split_good number version next image cut set left place new no_i no_c no_s i c s = (one_good next 1 image (omega arith) new no_i i, (one_good number (version + 1) cut (omega arith) place no_c c, (by left, tt)))
     where
       by : (t : Bool) → IsGood (cond t (row_of bucket number (version + 2) set) (row_of bucket next 2 set))
-      by true = (refl, s)
-      by false = (refl, s)
+      by true = one_good number (version + 2) set (omega arith) place no_s s
+      by false = one_good next 2 set (omega arith) new no_s s
 
   pub record FitsGrowth (low : ℕ) (g : Growth) : Type 0 where
     pub ordered : low ≤ g.next
@@ -133,26 +145,26 @@ module _ (bucket : ℕ) where
     pub split : g.next ≤ 1048576 → IfSome g.split (λ s. FitsKey s.0 × FitsChild s.1)
 
   module _ (low : ℕ) (some : 1 ≤ low) (key value : List ℕ) (pair : FitsPair (key, value)) where
-    leaf_good : (number version : ℕ) (pairs : List Pair) → FitsRec (rec.LeafImage pairs) → FitsGrowth low (grown_leaf bucket number version low (key, value) pairs)
+    leaf_good : (number version : ℕ) (pairs : List Pair) → HasPlace number → FitsRec (rec.LeafImage pairs) → FitsGrowth low (grown_leaf bucket number version low (key, value) pairs)
     unfolding grown_leaf split_leaf
-    leaf_good number version pairs fits = by (has pairs key || nat_lt (length pairs) 32) refl
+    leaf_good number version pairs place fits = by (has pairs key || nat_lt (length pairs) 32) refl
       where
         by : (t : Bool) → (has pairs key || nat_lt (length pairs) 32) ≡ t
             → FitsGrowth low (cond {A = Growth} t (record { rows = row_of bucket number (version + 1) (rec.Put key value) ∷ []; next = low; split = None }) (split_leaf bucket number version low (key, value) pairs (key_at pairs 16)))
-        by true e = record { ordered = omega arith; rows = λ enough. ((refl, pair), tt); split = λ enough. tt }
+        by true e = record { ordered = omega arith; rows = λ enough. (one_good number (version + 1) (rec.Put key value) (omega arith) place (λ e. omega (arith, e)) pair, tt); split = λ enough. tt }
         by false e =
             let many = ltb-false (length pairs) 32 (or_parts (has pairs key) (nat_lt (length pairs) 32) e).1 in
             let p = parted 16 pairs (omega (arith, many)) in
             let sep : FitsKey (key_at pairs 16) = subst FitsKey (sym (key_at-is pairs 16 p.item p.at)) (item_fits FitsPair 16 pairs p fits.1).0 in
             record {
               ordered = omega arith;
-              rows = λ enough. split_good number version low (rec.LeafImage (drop 16 pairs)) (rec.CutLeaf (key_at pairs 16)) (rec.Put key value) (is_below key (key_at pairs 16)) (drop_leaf 16 pairs fits) sep pair;
+              rows = λ enough. split_good number version low (rec.LeafImage (drop 16 pairs)) (rec.CutLeaf (key_at pairs 16)) (rec.Put key value) (is_below key (key_at pairs 16)) place (record { above = some; small = omega (arith, enough) }) (λ e. omega (arith, e)) (λ e. omega (arith, e)) (λ e. omega (arith, e)) (drop_leaf 16 pairs fits) sep pair;
               split = λ enough. (sep, (some, omega (arith, enough)));
             }
 
-    inner_good : (number version : ℕ) (n : Node) → FitsNode n → (g : Growth) → FitsGrowth low g → (s : Option (List ℕ × ℕ)) → g.split ≡ s → FitsGrowth low (grown_inner bucket number version n g.rows g.next s)
+    inner_good : (number version : ℕ) (n : Node) → HasPlace number → FitsNode n → (g : Growth) → FitsGrowth low g → (s : Option (List ℕ × ℕ)) → g.split ≡ s → FitsGrowth low (grown_inner bucket number version n g.rows g.next s)
     unfolding grown_inner split_inner
-    inner_good number version (node.Inner seps kids) fits g w (Some split) is = by (nat_lt (length seps) 32) refl
+    inner_good number version (node.Inner seps kids) place fits g w (Some split) is = by (nat_lt (length seps) 32) refl
       where
         set : g.next ≤ 1048576 → FitsKey split.0 × FitsChild split.1
         set enough = subst (λ o. IfSome o (λ s. FitsKey s.0 × FitsChild s.1)) is (w.split enough)
@@ -162,7 +174,7 @@ module _ (bucket : ℕ) where
             (split_inner bucket number version seps kids (unwrap_or (slice_get seps 16) []) g.rows g.next split.0 split.1))
         by true e = record {
           ordered = w.ordered;
-          rows = λ enough. all_append IsGood g.rows _ (w.rows enough) ((refl, set enough), tt);
+          rows = λ enough. all_append IsGood g.rows _ (w.rows enough) (one_good number (version + 1) (rec.Link split.0 split.1) (omega arith) place (λ e. omega (arith, e)) (set enough), tt);
           split = λ enough. tt;
         }
         by false e =
@@ -174,17 +186,27 @@ module _ (bucket : ℕ) where
               ordered = omega (arith, ordered);
               rows = λ enough. all_append IsGood g.rows _ (w.rows (omega (arith, enough)))
                   (split_good number version g.next (rec.InnerImage (drop 17 seps) (drop 17 kids)) (rec.CutInner (unwrap_or (slice_get seps 16) [])) (rec.Link split.0 split.1) (is_below split.0 (unwrap_or (slice_get seps 16) []))
+                  place (record { above = omega (arith, some, ordered); small = omega (arith, enough) }) (λ e. omega (arith, e)) (λ e. omega (arith, e)) (λ e. omega (arith, e))
                   (drop_inner 17 seps kids (omega (arith, many)) fits) middle (set (omega (arith, enough))));
               split = λ enough. (middle, (omega (arith, some, ordered), omega (arith, enough)));
             }
-    inner_good number version (node.Inner seps kids) fits g w None is = record { ordered = w.ordered; rows = w.rows; split = λ enough. tt }
-    inner_good number version (node.Head root n d) fits g w s is = record { ordered = w.ordered; rows = w.rows; split = λ enough. tt }
-    inner_good number version (node.Leaf pairs) fits g w s is = record { ordered = w.ordered; rows = w.rows; split = λ enough. tt }
-    inner_good number version node.Broken fits g w s is = record { ordered = w.ordered; rows = w.rows; split = λ enough. tt }
+    inner_good number version (node.Inner seps kids) place fits g w None is = record { ordered = w.ordered; rows = w.rows; split = λ enough. tt }
+    inner_good number version (node.Head root n d) place fits g w s is = record { ordered = w.ordered; rows = w.rows; split = λ enough. tt }
+    inner_good number version (node.Leaf pairs) place fits g w s is = record { ordered = w.ordered; rows = w.rows; split = λ enough. tt }
+    inner_good number version node.Broken place fits g w s is = record { ordered = w.ordered; rows = w.rows; split = λ enough. tt }
 
-    pub growth_good : (nodes : ℕ → Content) → ((n : ℕ) → FitsNode (nodes n).0) → (height number : ℕ) → FitsGrowth low (growth height bucket nodes low (key, value) number)
-    unfolding growth
-    growth_good nodes fits zero number = leaf_good number (nodes number).1 (pairs_of (nodes number).0) (pairs_fit (nodes number).0 (fits number))
-    growth_good nodes fits (suc height) number =
-        let g = growth height bucket nodes low (key, value) (child_for key (nodes number).0) in
-        inner_good number (nodes number).1 (nodes number).0 (fits number) g (growth_good nodes fits height (child_for key (nodes number).0)) g.split refl
+    module _ (nodes : ℕ → Content) (fits : (n : ℕ) → FitsNode (nodes n).0) (small : low ≤ 1048576) (root next' depth : ℕ) (head : (nodes 0).0 ≡ node.Head root next' depth) where
+      -- on a way that is fit
+      pub growth_good : (height : ℕ) (bounds : Bounds) (number : ℕ) → number < low → unfit_from height bucket nodes low key bounds number ≡ None → FitsGrowth low (growth height bucket nodes low (key, value) number)
+      unfolding growth unfit_from
+      growth_good zero bounds number below fit =
+          leaf_good number (nodes number).1 (pairs_of (nodes number).0) (leaf_place nodes bucket low key small root next' depth head bounds number below (passed (is_leaf bucket bounds (nodes number).0) None number fit).0)
+          (pairs_fit (nodes number).0 (fits number))
+      growth_good (suc height) bounds number below fit =
+          let kid = kid_at (nodes number).0 (place_among key (seps_of (nodes number).0)) in
+          let inside = bounds_at bounds (seps_of (nodes number).0) (place_among key (seps_of (nodes number).0)) in
+          let p = passed (is_inner bounds low (nodes number).0) (unfit_from height bucket nodes low key inside kid) number fit in
+          let g = growth height bucket nodes low (key, value) (child_for key (nodes number).0) in
+          inner_good number (nodes number).1 (nodes number).0 (inner_place nodes bucket low key small root next' depth head bounds number below p.0) (fits number) g
+          (subst (λ k. FitsGrowth low (growth height bucket nodes low (key, value) k)) (sym (child_is key (nodes number).0))
+          (growth_good height inside kid (kid_below bounds low (place_among key (seps_of (nodes number).0)) (nodes number).0 p.0 some) p.1)) g.split refl

@@ -5,6 +5,7 @@ pub mod Ways
 pub mod Paths
 pub mod Held
 pub mod Sound
+pub mod OnWays
 pub mod Changed
 pub mod LeafPush
 pub mod SoundCalls
@@ -21,3 +22,5 @@ pub mod SameScans
 pub mod ScanHeads
 pub mod SoundScans
 pub mod Scanned
+pub mod OnWalks
+pub mod LastUsed

@@ -1,7 +1,8 @@
 -- Rows that are pushed one after the other.
-use Rattle.std.proofs.Common.{◌≡◌, ◌≢◌, ◌⊎◌, inl, inr, ⊎_elim, ℕ, true, List, [], ◌∷◌, ◌++◌, Option, Some, None, is_some, Result, Ok, Err, refl, sym, ap, subst, ◌∙◌, true≢false, length, get_or, take, drop, ◌-◌, ◌≤◌, ◌<◌, arith}
+use Rattle.std.proofs.Common.{◌≡◌, ◌≢◌, ◌⊎◌, inl, inr, ⊎_elim, ℕ, nat_eq, Bool, true, false, cond, ◌||◌, append_assoc, List, [], ◌∷◌, ◌++◌, Option, Some, None, is_some, Result, Ok, Err, refl, sym, ap, subst, ◌∙◌, true≢false, length, get_or, take, drop, ◌-◌, ◌≤◌, ◌<◌, arith}
 use Rattle.std.specs.Prelude.{IsSome, IfSome, OnOk, OnErr, unwrap_or}
 use Rattle.std.specs.List.{AllByRecursion}
+use Rattle.std.specs.Map.{keys_of, lookup, remove_entry}
 use Rattle.std.proofs.lemmas.List.{take_all}
 use Rattle.fine_model.specs.declared.Rec.{Rec}
 use Rattle.fine_model.specs.declared.Rec.TheVariants as rec
@@ -9,12 +10,16 @@ use Rattle.fine_model.specs.declared.Node.TheVariants as node
 use Rattle.fine_model.specs.declared.Row.{Row}
 use Rattle.fine_model.specs.Nodes.{Content, replay, step, rows_of}
 use Rattle.fine_model.proofs.NodeLaws.{replay-append, rows_of-append}
-use Rattle.node_cache.specs.declared.Cached.{Cached}
+use Rattle.node_cache.specs.declared.cached.Cached.{Cached}
 use Rattle.node_cache.specs.Cache.{Cache, cached, original, before, saving, with_node, IsSaved}
-use Rattle.btree_nodes.specs.Given.{given, IsCached, FitsKept, FitsCache}
-use Rattle.btree_nodes.specs.Changes.{node_at, Saves, Pushes, HoldsPlace, is_image, IsReady, AreReady}
+use Rattle.node_cache.specs.Given.{given, IsCached}
+use Rattle.fine_model.proofs.Order.{all_map}
+use Rattle.fine_model.proofs.Sets.{all_append}
+use Rattle.btree_nodes.specs.Trees.{node_at}
+use Rattle.btree_nodes.specs.Changes.{Saves, is_named, Pushes, HoldsPlace, is_image, IsReady, AreReady}
 use Rattle.btree_nodes.proofs.Loads.{none_or_some, same_or_not}
-use Rattle.btree_nodes.proofs.Changed.{rows_here, rows_else, content_of, given_of, unchanged, saves_saved, saved_fits}
+use Rattle.btree_nodes.proofs.Changed.{rows_here, rows_else, content_of, given_of, unchanged, saves_saved, saving_saved}
+use Rattle.btree_nodes.proofs.LastUsed.{keys_behind, remove_absent}
 use Rattle.btree_nodes.proofs.Steps.{given_is}
 
 pub saves_on : (a b c : Cache) → Saves a b → Saves b c → Saves a c
@@ -25,7 +30,16 @@ saves_on a b c first second = record {
   changed = λ n. ⊎_elim (λ h. inl h)
       (λ same. ⊎_elim (λ h. inl (ap is_some (second.originals n h) ∙ h)) (λ same'. inr (same ∙ same')) (first.changed n))
       (second.changed n);
+  order = record { added = first.order.added ++ second.order.added; is = second.order.is ∙ ap (λ ks. ks ++ second.order.added) first.order.is ∙ append_assoc (keys_of a.nodes) first.order.added second.order.added };
 }
+
+or_assoc : (a b c : Bool) → ((a || b) || c) ≡ (a || (b || c))
+or_assoc true b c = refl
+or_assoc false b c = refl
+
+named_append : (n : ℕ) (rows more : List Row) → is_named n (rows ++ more) ≡ (is_named n rows || is_named n more)
+named_append n [] more = refl
+named_append n (row ∷ rows) more = ap (λ t. nat_eq row.node.number n || t) (named_append n rows more) ∙ sym (or_assoc (nat_eq row.node.number n) (is_named n rows) (is_named n more))
 
 -- some rows, and then more
 pub pushes_on : (a b c : Cache) (rows more : List Row) → Pushes a b rows → Pushes b c more → Pushes a c (rows ++ more)
@@ -33,11 +47,15 @@ unfolding replay
 pushes_on a b c rows more first second = record {
   saves = saves_on a b c first.saves second.saves;
   nodes = λ n. second.nodes n ∙ (λ i. replay (first.nodes n i) (rows_of (record { bucket = first.saves.bucket i; number = n }) more)) ∙ sym (both n (given a n));
+  saved = λ n. second.saved n ∙ ap (λ t. t || is_named n more) (first.saved n) ∙ or_assoc (is_some (original a n)) (is_named n rows) (is_named n more) ∙ ap (λ t. is_some (original a n) || t) (sym (named_append n rows more));
   kept = λ n h. second.kept n (first.kept n h);
-  named = λ n none. rows_of-append (node_at a n) rows more
-      ∙ (λ i. first.named n (was_none n none (cached b n) refl) i ++ (ap (λ k. rows_of (record { bucket = k; number = n }) more) (sym first.saves.bucket) ∙ second.named n none) i);
+  named = all_append (λ row. IsSaved c row.node.number × IsCached c row.node.number) rows more
+      (all_map (λ row. IsSaved b row.node.number × IsCached b row.node.number) (λ row. IsSaved c row.node.number × IsCached c row.node.number)
+      (λ row h. (ap is_some (second.saves.originals row.node.number h.0) ∙ h.0, second.kept row.node.number h.1)) rows first.named) second.named;
+  others = λ n none. rows_of-append (node_at a n) rows more
+      ∙ (λ i. first.others n (was_none n none (cached b n) refl) i ++ (ap (λ k. rows_of (record { bucket = k; number = n }) more) (sym first.saves.bucket) ∙ second.others n none) i);
   added = λ n none here x y. both n x ∙ ⊎_elim
-      (λ gone. ap (λ k. replay k (rows_of (node_at a n) more)) (ap (replay x) (first.named n gone)) ∙ later n gone here x y ∙ ap (λ k. replay k (rows_of (node_at a n) more)) (sym (ap (replay y) (first.named n gone))))
+      (λ gone. ap (λ k. replay k (rows_of (node_at a n) more)) (ap (replay x) (first.others n gone)) ∙ later n gone here x y ∙ ap (λ k. replay k (rows_of (node_at a n) more)) (sym (ap (replay y) (first.others n gone))))
       (λ there. ap (λ k. replay k (rows_of (node_at a n) more)) (first.added n none there x y))
       (none_or_some (cached b n)) ∙ sym (both n y);
 }
@@ -75,7 +93,9 @@ pushes_held a b c row of_bucket ready held pushes = record {
   saves = saves_on a b c held.saves pushes.saves;
   nodes = λ n. pushes.nodes n ∙ (λ i. replay (held.given n i) (rows_of (record { bucket = held.saves.bucket i; number = n }) (row ∷ [])));
   kept = λ n h. pushes.kept n (⊎_elim (λ same. subst (IsCached b) (sym same) held.there) (λ other. ap is_some (held.others n other) ∙ h) (same_or_not n row.node.number));
-  named = λ n none. ap (λ k. rows_of (record { bucket = k; number = n }) (row ∷ [])) (sym held.saves.bucket) ∙ pushes.named n none;
+  saved = λ n. pushes.saved n ∙ by_held n held.saved;
+  named = pushes.named;
+  others = λ n none. ap (λ k. rows_of (record { bucket = k; number = n }) (row ∷ [])) (sym held.saves.bucket) ∙ pushes.others n none;
   added = λ n none here x y. ⊎_elim
       (λ same. subst (λ m. replay x (rows_of (node_at a m) (row ∷ [])) ≡ replay y (rows_of (node_at a m) (row ∷ []))) (sym same)
       (ap (replay x) (rows_here a row of_bucket) ∙ image (subst (λ m. cached a m ≡ None) same none) x y ∙ sym (ap (replay y) (rows_here a row of_bucket))))
@@ -83,6 +103,16 @@ pushes_held a b c row of_bucket ready held pushes = record {
       (same_or_not n row.node.number);
 }
   where
+    twice : (s t : Bool) → ((s || t) || (t || false)) ≡ (s || (t || false))
+    twice true t = refl
+    twice false true = refl
+    twice false false = refl
+
+    by_held : (n : ℕ) → ((k : ℕ) → is_some (original b k) ≡ is_some (original a k)) ⊎ ((k : ℕ) → is_some (original b k) ≡ (is_some (original a k) || nat_eq row.node.number k))
+        → (is_some (original b n) || is_named n (row ∷ [])) ≡ (is_some (original a n) || is_named n (row ∷ []))
+    by_held n (inl same) = ap (λ t. t || is_named n (row ∷ [])) (same n)
+    by_held n (inr more) = ap (λ t. t || is_named n (row ∷ [])) (more n) ∙ twice (is_some (original a n)) (nat_eq row.node.number n)
+
     image : cached a row.node.number ≡ None → (x y : Content) → step x row ≡ step y row
     image none x y = ⊎_elim (λ there. absurd (true≢false (sym there ∙ ap is_some none))) (λ is. forgets row is x y) ready
 
@@ -105,8 +135,12 @@ ready_more K L on (row ∷ rows) ready = (⊎_elim (λ k. inl (on row.node.numbe
 
 module _ (b m new : Cache) (k : ℕ) (kept : Cached) (was : cached b k ≡ None) (saved : m ≡ saving b k) (same_before : (n : ℕ) → before m n ≡ before b n) (is_saved : IsSaved m k)
     (put : new ≡ with_node m k kept) (here : cached new k ≡ Some kept) (elsewhere : (n : ℕ) → n ≢ k → cached new n ≡ cached m n) where
+  put_order : keys_of new.nodes ≡ keys_of m.nodes ++ k ∷ []
+  put_order = ap (λ c. keys_of c.nodes) put ∙ keys_behind (remove_entry (nat_eq k) m.nodes) k kept ∙ ap (λ (es : List (ℕ × Cached)). keys_of es ++ k ∷ []) (remove_absent k m.nodes (unchanged b m k saved k ∙ was))
+
   put_saves : Saves m new
   put_saves = record {
+    order = record { added = k ∷ []; is = put_order };
     bucket = ap (λ c. c.bucket) put;
     originals = λ n h. ap (λ c. original c n) put;
     before = λ n. ⊎_elim
@@ -132,6 +166,7 @@ module _ (b m new : Cache) (k : ℕ) (kept : Cached) (was : cached b k ≡ None)
         (same_or_not n k);
     others = λ n other. elsewhere n other ∙ unchanged b m k saved n;
     saves = place_saves;
+    saved = inr (λ q. ap (λ c. is_some (original c q)) put ∙ ap (λ c. is_some (original c q)) saved ∙ saving_saved b k q);
   }
 
 pub on_ok_or : {P Q : Type 0} {A E : Type 0} (r : Result A E) → (P → Q) → OnOk r P → OnOk r Q
@@ -147,15 +182,6 @@ module _ (b m new : Cache) (k : ℕ) (kept : Cached) (was : cached b k ≡ None)
   pub hold_held : {A E : Type 0} (r : Result A E) → ◌≡◌ {A = Content} (kept.node, kept.version) (node.Broken, 0) → OnOk r (new ≡ with_node m k kept) → OnOk r (cached new k ≡ Some kept) → OnOk r ((n : ℕ) → n ≢ k → cached new n ≡ cached m n) → OnOk r (HoldsPlace b new k)
   hold_held (Ok a) broken put here elsewhere = place_held b m new k kept was saved same_before is_saved put here elsewhere broken
   hold_held (Err e) broken put here elsewhere = tt
-
-  pub hold_fits : {A E : Type 0} (r : Result A E) → FitsCache b → FitsKept kept → OnOk r (cached new k ≡ Some kept) → OnOk r ((n : ℕ) → n ≢ k → cached new n ≡ cached m n) → OnErr r (new ≡ m) → FitsCache new
-  hold_fits (Err e) fits fit here elsewhere err = subst FitsCache (sym err) (saved_fits b m k saved fits)
-  hold_fits (Ok a) fits fit here elsewhere err = record {
-    each = λ n. ⊎_elim
-        (λ same. subst (λ q. IfSome (cached new q) FitsKept) (sym same) (subst (λ o. IfSome o FitsKept) (sym here) fit))
-        (λ other. subst (λ o. IfSome o FitsKept) (sym (elsewhere n other)) ((saved_fits b m k saved fits).each n))
-        (same_or_not n k);
-  }
 
 -- nothing is pushed by no rows, and all rows are pushed by the first and the others
 pub push_first : (a b c : Cache) (row : Row) (rows : List Row) → Pushes a b (row ∷ []) → Pushes b c rows → Pushes a c (row ∷ rows)

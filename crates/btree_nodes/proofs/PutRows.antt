@@ -1,5 +1,5 @@
 -- The rows that setting a key pushes in a tree may be pushed.
-use Rattle.std.proofs.Common.{◌≡◌, ℕ, ◌+◌, ◌-◌, ◌≤◌, ◌==◌, nat_lt, nat_le, Bool, true, false, cond, ◌&&◌, ◌||◌, List, [], ◌∷◌, ◌++◌, Option, Some, None, Result, Ok, Err, inr, refl, sym, ap, subst, ◌∙◌, arith}
+use Rattle.std.proofs.Common.{◌≡◌, ℕ, ◌+◌, ◌-◌, ◌<◌, ◌≤◌, ◌==◌, nat_lt, nat_le, Bool, true, false, cond, ◌&&◌, ◌||◌, List, [], ◌∷◌, ◌++◌, Option, Some, None, Result, Ok, Err, inr, refl, sym, ap, subst, ◌∙◌, arith}
 use Rattle.std.specs.Prelude.{IfSome}
 use Rattle.std.specs.List.{AllByRecursion, list_any}
 use Rattle.std.proofs.lemmas.Bool.{or_parts, ltb-false}
@@ -10,7 +10,8 @@ use Rattle.fine_model.specs.declared.Why.{Why}
 use Rattle.fine_model.specs.declared.Why.TheVariants as why
 use Rattle.fine_model.specs.Paths.{unfit_from, unfit_under}
 use Rattle.fine_model.specs.Pushed.{Growth, Push, row_of, growth, with_head, set_push, call_push, within_limits}
-use Rattle.fine_model.specs.RowBytes.{greatest, FitsKey, FitsPair, FitsChild, FitsRec}
+use Rattle.fine_model.specs.RowBytes.{greatest, FitsKey, FitsPair, FitsChild, FitsRec, FitsRow}
+use Rattle.fine_model.specs.declared.Mark.TheVariants as mark
 use Rattle.fine_model.specs.Trees.{whole}
 use Rattle.fine_model.proofs.Order.{all_map}
 use Rattle.fine_model.proofs.Parts.{all_both}
@@ -18,16 +19,17 @@ use Rattle.fine_model.proofs.Sets.{all_append}
 use Rattle.node_record.specs.Bounds.{FitsNode}
 use Rattle.node_cache.specs.Cache.{Cache}
 use Rattle.btree_nodes.specs.declared.tree.Path.{Path}
-use Rattle.btree_nodes.specs.Given.{given, IsCached, FitsCache}
+use Rattle.node_cache.specs.Given.{given, IsCached}
 use Rattle.btree_nodes.specs.Changes.{AreReady}
-use Rattle.btree_nodes.specs.Trees.{IsPath}
+use Rattle.btree_nodes.specs.Trees.{IsPath, FitsLog, HeadSays, first_over}
 use Rattle.btree_nodes.specs.declared.insertion.Push.{Push as Rows}
 use Rattle.btree_nodes.specs.declared.fault.TreeFault.{TreeFault}
 use Rattle.btree_nodes.specs.declared.fault.TreeFault.TheVariants.{Source, Unfit, BucketFull, Number, NoMemory}
 use Rattle.btree_nodes.specs.Growths.{pushed_of, Limits}
 use Rattle.btree_nodes.specs.Calls.{pushed_in, Outcome}
 use Rattle.btree_nodes.proofs.Sound.{passed}
-use Rattle.btree_nodes.proofs.GrowthFits.{ready_append, growth_ready, node_fits, IsGood, FitsGrowth, growth_good}
+use Rattle.btree_nodes.proofs.GrowthFits.{ready_append, growth_ready, node_fits, IsGood, one_good, FitsGrowth, growth_good}
+use Rattle.btree_nodes.proofs.LeafPush.{kind_small}
 
 -- rows that are within the limits
 record IsWithin (push : Push) (new : List Row) : Type 0 where
@@ -61,8 +63,9 @@ pub record CanPush (b : Cache) (rows : List Row) : Type 0 where
   pub of_bucket : AllByRecursion (λ row. row.node.bucket ≡ b.bucket) rows
   pub ready : AreReady (IsCached b) rows
   pub recs : AllByRecursion (λ row. FitsRec row.rec × (row.version ≤ greatest)) rows
+  pub fits : FitsLog b.bucket rows
 
-module _ (b : Cache) (fits : FitsCache b) (key value : List ℕ) (pair : FitsPair (key, value)) (path : Path) (is : IsPath b key path) where
+module _ (b : Cache) (key value : List ℕ) (pair : FitsPair (key, value)) (path : Path) (is : IsPath b key path) where
   abbrev g : Growth
   g = growth (path.depth - 1) b.bucket (given b) path.next (key, value) path.root
 
@@ -77,7 +80,7 @@ module _ (b : Cache) (fits : FitsCache b) (key value : List ℕ) (pair : FitsPai
   put_is = ap (λ n. within_limits (set_push b.bucket (given b) (key, value) n)) is.head
 
   head_fits : FitsRec (rec.HeadImage path.root path.next path.depth)
-  head_fits = subst FitsNode is.head (node_fits b fits 0)
+  head_fits = subst FitsNode is.head (node_fits b 0)
 
   way_fit : unfit_from (path.depth - 1) b.bucket (given b) path.next key whole path.root ≡ None
   unfolding unfit_under
@@ -87,7 +90,7 @@ module _ (b : Cache) (fits : FitsCache b) (key value : List ℕ) (pair : FitsPai
   below_ready = growth_ready b path.next key value (path.depth - 1) whole path.root way_fit
 
   below_good : FitsGrowth b.bucket path.next g
-  below_good = let h = head_fits in let n = h.1 in growth_good b.bucket path.next (omega (arith, n)) key value pair (given b) (node_fits b fits) (path.depth - 1) path.root
+  below_good = let h = head_fits in let n = h.1 in growth_good b.bucket path.next (omega (arith, n)) key value pair (given b) (node_fits b) is.small path.root path.next path.depth is.head (path.depth - 1) whole path.root is.below way_fit
 
   over_ready : (s : Option (List ℕ × ℕ)) → AreReady (IsCached b) (over s).rows
   unfolding with_head
@@ -98,6 +101,9 @@ module _ (b : Cache) (fits : FitsCache b) (key value : List ℕ) (pair : FitsPai
       by true = below_ready
       by false = ready_append (IsCached b) g.rows _ below_ready (inr refl, tt)
 
+  head_good : (root next depth : ℕ) → FitsRec (rec.HeadImage root next depth) → IsGood b.bucket (row_of b.bucket 0 ((given b 0).1 + 1) (rec.HeadImage root next depth))
+  head_good root next depth h = record { of_bucket = refl; number = omega arith; head = (λ e. refl, λ e. refl); version = omega arith; rec = h }
+
   over_good : (s : Option (List ℕ × ℕ)) → g.split ≡ s → (over s).next ≤ 1048576 → (over s).depth ≤ 8 → AllByRecursion (IsGood b.bucket) (over s).rows
   unfolding with_head
   over_good None e enough few = by (g.next == path.next)
@@ -106,7 +112,7 @@ module _ (b : Cache) (fits : FitsCache b) (key value : List ℕ) (pair : FitsPai
       by true = below_good.rows enough
       by false =
           let h = head_fits in let n = h.1 in let o = below_good.ordered in
-          all_append (IsGood b.bucket) g.rows _ (below_good.rows enough) ((refl, (h.0, omega (arith, n, o), enough, h.3, h.4)), tt)
+          all_append (IsGood b.bucket) g.rows _ (below_good.rows enough) (head_good path.root g.next path.depth (h.0, omega (arith, n, o), enough, h.3, h.4), tt)
   over_good (Some split) e enough few =
       let w = below_good in
       let low : g.next ≤ 1048576 = omega (arith, enough) in
@@ -114,8 +120,8 @@ module _ (b : Cache) (fits : FitsCache b) (key value : List ℕ) (pair : FitsPai
       let h = head_fits in let n = h.1 in let o = w.ordered in
       let child : FitsChild g.next = (omega (arith, n, o), omega (arith, enough)) in
       all_append (IsGood b.bucket) g.rows _ (w.rows low) (
-        (refl, (omega arith, omega arith, (h.0, (s.1, tt)), (s.0, tt), refl)),
-        ((refl, (child, omega (arith, n, o), enough, omega arith, few)), tt),
+        one_good b.bucket g.next 1 (rec.InnerImage (split.0 ∷ []) (path.root ∷ split.1 ∷ [])) (omega arith) (record { above = child.0; small = child.1 }) (λ e. omega (arith, e)) (omega arith, omega arith, (h.0, (s.1, tt)), (s.0, tt), refl),
+        (head_good g.next (g.next + 1) (path.depth + 1) (child, omega (arith, n, o), enough, omega arith, few), tt),
       )
 
   pub can_push : (rows : List Row) → within_limits put_rows ≡ Ok rows → CanPush b rows
@@ -123,12 +129,21 @@ module _ (b : Cache) (fits : FitsCache b) (key value : List ℕ) (pair : FitsPai
       let w = within put_rows rows ok in
       let good = over_good g.split refl w.next w.depth in
       subst (CanPush b) w.rows (record {
-        of_bucket = all_map (IsGood b.bucket) (λ row. row.node.bucket ≡ b.bucket) (λ row p. p.0) put_rows.rows good;
+        of_bucket = all_map (IsGood b.bucket) (λ row. row.node.bucket ≡ b.bucket) (λ row p. p.of_bucket) put_rows.rows good;
         ready = over_ready g.split;
-        recs = all_both (IsGood b.bucket) (λ row. row.version ≤ greatest) (λ row. FitsRec row.rec × (row.version ≤ greatest)) (λ row p v. (p.1, v)) put_rows.rows good w.versions;
+        recs = all_both (IsGood b.bucket) (λ row. row.version ≤ greatest) (λ row. FitsRec row.rec × (row.version ≤ greatest)) (λ row p v. (p.rec, v)) put_rows.rows good w.versions;
+        fits = record {
+          fit = all_both (IsGood b.bucket) (λ row. row.version ≤ greatest) (FitsRow mark.Two)
+              (λ row p v. record { of_format = kind_small row.rec; bucket = subst (λ (k : ℕ). k < 256) (sym p.of_bucket) is.bucket; number = p.number; head = p.head; version_low = p.version; version_high = v; rec = p.rec }) put_rows.rows good w.versions;
+          here = all_map (IsGood b.bucket) (λ row. row.node.bucket ≡ b.bucket) (λ row p. p.of_bucket) put_rows.rows good;
+        };
       })
 
   module _ (p : Rows) (same : pushed_of p ≡ put_rows) where
+    push_is : call_push b.bucket (given b) (call.Put key value) ≡ pushed_of p
+    unfolding call_push set_push
+    push_is = ap (λ n. set_push b.bucket (given b) (key, value) n) is.head ∙ sym same
+
     pub put_pushed : (r : Result (List Row) Why) → within_limits (pushed_of p) ≡ r → pushed_in b (call.Put key value) ≡ r
     put_pushed r e = put_is ∙ ap within_limits (sym same) ∙ e
 
@@ -136,9 +151,9 @@ module _ (b : Cache) (fits : FitsCache b) (key value : List ℕ) (pair : FitsPai
     can_put e = can_push p.rows (ap within_limits (sym same) ∙ e)
 
     -- a limit would be passed
-    pub limits_outcome : (log : List Row) (e : TreeFault) → Limits p (Err e) → Outcome {A = Unit {0}} b b log log (call.Put key value) key (λ u. Unit {0}) (λ f. ⊥) (Err e)
-    limits_outcome log (BucketFull next depth) h = (put_pushed (Err why.Bucket) h, record { here = is.here; fit = is.fit }, record { nodes = refl; rows = refl })
-    limits_outcome log (Number id) h = (put_pushed (Err why.Number) h, record { here = is.here; fit = is.fit }, record { nodes = refl; rows = refl })
+    pub limits_outcome : (log : List Row) (e : TreeFault) → Limits p path (Err e) → Outcome {A = Unit {0}} b b log log (call.Put key value) (λ u. Unit {0}) (λ f. ⊥) (Err e)
+    limits_outcome log (BucketFull next depth) h = (put_pushed (Err why.Bucket) h.0, subst (λ n. HeadSays n next depth) (sym is.head) (h.1, h.2), record { here = is.here; fit = is.fit }, record { nodes = refl; rows = refl })
+    limits_outcome log (Number id) h = (put_pushed (Err why.Number) h.0, ap (λ (k : Push). first_over k.rows) push_is ∙ h.1, record { here = is.here; fit = is.fit }, record { nodes = refl; rows = refl })
     limits_outcome log (Source f) h = absurd h
     limits_outcome log (Unfit id) h = absurd h
     limits_outcome log NoMemory h = absurd h

@@ -6,7 +6,7 @@ use Rattle.fine_model.specs.Map.{Pair, between}
 use Rattle.fine_model.specs.Nodes.{Content}
 use Rattle.fine_model.specs.Paths.{meets, seps_of, is_inner, scan_kids, scan_from}
 use Rattle.fine_model.specs.Trees.{Bounds, is_leaf, kids_of, pairs_of}
-use Rattle.btree_nodes.specs.Scans.{kids_met, pairs_met}
+use Rattle.btree_nodes.specs.Trees.{kids_met, pairs_met}
 use Rattle.btree_nodes.proofs.Sound.{leaf_whole, inner_whole}
 use Rattle.btree_nodes.proofs.ScanSteps.{first, kids_go, kids_stop}
 use Rattle.btree_nodes.proofs.Takes.{IsSame, same_on, same_empty, same_full, between-append, between_none}

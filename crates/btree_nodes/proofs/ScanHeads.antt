@@ -11,9 +11,10 @@ use Rattle.node_cache.specs.Cache.{Cache}
 use Rattle.btree_nodes.specs.declared.fault.TreeFault.{TreeFault}
 use Rattle.btree_nodes.specs.declared.fault.TreeFault.TheVariants.{Source, Unfit, BucketFull, Number, NoMemory}
 use Rattle.btree_nodes.specs.Faults.{OnFault}
-use Rattle.btree_nodes.specs.Given.{given, IsCached}
-use Rattle.btree_nodes.specs.Trees.{HeadIs}
-use Rattle.btree_nodes.specs.Scans.{pairs_met, pairs_between, IsScanned, ScansFrom, IsFirstUnfitBetween, IsFoundBetween}
+use Rattle.node_cache.specs.Given.{given, IsCached}
+use Rattle.btree_nodes.specs.Trees.{HeadIs, pairs_met, pairs_between}
+use Rattle.btree_nodes.specs.Scans.{IsScanned, ScansFrom}
+use Rattle.btree_nodes.specs.Calls.{IsFirstUnfitBetween, IsFoundBetween}
 use Rattle.btree_nodes.proofs.Paths.{SaysHead, not_lower}
 use Rattle.btree_nodes.proofs.Takes.{none_taken}
 

@@ -3,7 +3,6 @@ use Rattle.std.proofs.Common.{◌≡◌, ℕ, zero, suc, ◌+◌, ◌≤◌, ◌
 use Rattle.std.proofs.lemmas.Bool.{ltb-false}
 use Rattle.std.proofs.lemmas.Option.{slice_get-get_or, slice_get_within}
 use Rattle.std.specs.List.{list_all}
-use Rattle.fine_model.specs.Map.{Pair}
 use Rattle.fine_model.specs.Nodes.{Content}
 use Rattle.fine_model.specs.Paths.{meets, seps_of, is_inner, scan_kids}
 use Rattle.fine_model.specs.Trees.{Bounds, kids_of, are_separators}
@@ -13,7 +12,8 @@ use Rattle.fine_model.proofs.Order.{first_of_both}
 use Rattle.node_record.proofs.Ordered.{at_drop}
 use Rattle.btree_nodes.specs.declared.descent.Step.{Step}
 use Rattle.btree_nodes.specs.Descent.{bound_at, bounds_by, low_of}
-use Rattle.btree_nodes.specs.Scans.{kids_met, rest_bounds, IsChildAt}
+use Rattle.btree_nodes.specs.Scans.{rest_bounds, IsChildAt}
+use Rattle.btree_nodes.specs.Trees.{kids_met}
 use Rattle.btree_nodes.proofs.Steps.{none_at, or_else, high_is, low_is}
 
 -- what the test of an inner node says of it
@@ -109,12 +109,12 @@ module _ (below : Bounds → ℕ → ℕ → Result ℕ ℕ) (low high : List �
         (λ i. scan_kids below low high (rest_bounds nodes at place) (some i) (kids' i) wanted)
         ∙ kids_stop (rest_bounds nodes at place) sep (drop (suc place) (seps nodes at)) child.number (drop (suc place) (kids nodes at)) wanted n (ap (λ c. first c child.number wanted) (sym is) ∙ done)
 
--- the pairs that are met from a place on
-module _ (f : Bounds → ℕ → List Pair) (low high : List ℕ) (nodes : ℕ → Content) (at : Step) (place : ℕ) (child : Step) where
-  abbrev pub met_from : ℕ → List Pair
+-- what is met from a place on
+module _ {A : Type 0} (f : Bounds → ℕ → List A) (low high : List ℕ) (nodes : ℕ → Content) (at : Step) (place : ℕ) (child : Step) where
+  abbrev pub met_from : ℕ → List A
   met_from place = kids_met f low high (rest_bounds nodes at place) (drop place (seps nodes at)) (drop place (kids nodes at))
 
-  abbrev pub met_first : Bounds → List Pair
+  abbrev pub met_first : Bounds → List A
   met_first bounds = cond (meets low high bounds) (f bounds child.number) []
 
   pub met_on : IsCut nodes at place child → met_from place ≡ met_first (bounds_by nodes child.low child.high) ++ met_from (suc place)

@@ -14,13 +14,13 @@ use Rattle.fine_model.specs.Pushed.{Push, row_of, leaf_for, leaf_push, child_for
 use Rattle.fine_model.specs.Trees.{Bounds, whole, is_leaf, bucket_of, nodes_of, pairs_of, IsSound, map_of}
 use Rattle.fine_model.proofs.FitPaths.{fit_law}
 use Rattle.fine_model.proofs.Stated.{leaf_law}
-use Rattle.node_cache.specs.declared.Cached.{Cached}
+use Rattle.node_cache.specs.declared.cached.Cached.{Cached}
 use Rattle.node_cache.specs.Cache.{Cache, cached}
-use Rattle.btree_nodes.specs.Given.{given, IsCached, IsLoaded, Holds}
-use Rattle.btree_nodes.specs.Trees.{unfit_in, pairs_in, IsFirstUnfit, IsFound, Answers, AnswersSoundly}
+use Rattle.node_cache.specs.Given.{given, IsCached, IsLoaded}
+use Rattle.btree_nodes.specs.Trees.{Holds, unfit_in, pairs_in}
+use Rattle.btree_nodes.specs.Calls.{IsFirstUnfit, IsFound, Answers}
 use Rattle.btree_nodes.specs.declared.fault.TreeFault.{TreeFault}
 use Rattle.btree_nodes.specs.declared.fault.TreeFault.TheVariants.{Source, Unfit, BucketFull, Number, NoMemory}
-use Rattle.btree_nodes.proofs.Held.{holds_loaded}
 use Rattle.btree_nodes.proofs.Ways.{child_is}
 
 -- what a bucket does not have it gives as broken
@@ -192,29 +192,5 @@ module _ (rows : List Row) (key : List ℕ) (sound : IsSound rows) where
             by node.Broken is first = subst (IsCached b) (let e : id.number ≡ 0 = cc in e) unfit.there
 
 -- a bucket that holds rows gives what they leave
-pub holds_agrees : (b : Cache) (told log : List Row) (key : List ℕ) → b.bucket ≡ bucket_of key → Holds b told log → (n : ℕ) → IsCached b n → (theirs (told ++ log) key n).0 ≢ node.Broken → given b n ≡ theirs (told ++ log) key n
-holds_agrees b told log key of_key holds n here whole =
-    holds.same n here (subst (λ k. (nodes_of (told ++ log) k n).0 ≢ node.Broken) (sym of_key) whole) ∙ ap (λ k. nodes_of (told ++ log) k n) of_key
-
--- answers that stand on the way that a bucket gives, on sound rows
-pub answers_soundly : {A : Type 0} (b : Cache) (key : List ℕ) (P Q : A → Type 0) (F : FetchFault → Type 0) → ((a : A) → P a → Q a) → ((id : NodeId) → IsFirstUnfit b key id → ⊥) → (r : Result A TreeFault) → Answers b key P F r → AnswersSoundly Q r
-answers_soundly b key P Q F on fit (Ok a) h = on a h
-answers_soundly b key P Q F on fit (Err (Unfit id)) h = fit id h
-answers_soundly b key P Q F on fit (Err (Source f)) h = tt
-answers_soundly b key P Q F on fit (Err (BucketFull m d)) h = tt
-answers_soundly b key P Q F on fit (Err (Number id)) h = tt
-answers_soundly b key P Q F on fit (Err NoMemory) h = tt
-
--- what is found of a key on sound rows
-pub found_soundly : (told : Option (List Row)) (upper : ℕ) (old new : Cache) (key : List ℕ) (F : FetchFault → Type 0) (r : Result (Option (List ℕ)) TreeFault) → old.bucket ≡ bucket_of key → IsLoaded told upper old new → Answers new key (IsFound new key) F r
-    → IfSome told (λ rows. (log : List Row) → Holds old rows log → IsSound (rows ++ log) → AnswersSoundly (λ value. value ≡ get (map_of (rows ++ log)) key) r)
-found_soundly None upper old new key F r of_key loaded answer = tt
-found_soundly (Some rows) upper old new key F r of_key loaded answer = λ log holds sound.
-    let of_key' = loaded.bucket ∙ of_key in
-    let agrees = holds_agrees new rows log key of_key' (holds_loaded rows log upper old new loaded holds) in
-    answers_soundly new key (IsFound new key) (λ value. value ≡ get (map_of (rows ++ log)) key) F
-    (λ value found. found.stands ∙ sound_value (rows ++ log) key sound new of_key' agrees found.here found.fit) (sound_fit (rows ++ log) key sound new of_key' agrees) r answer
-
-pub holds_told : (told : Option (List Row)) (upper : ℕ) (old new : Cache) → IsLoaded told upper old new → IfSome told (λ rows. (log : List Row) → Holds old rows log → Holds new rows log)
-holds_told None upper old new loaded = tt
-holds_told (Some rows) upper old new loaded = λ log holds. holds_loaded rows log upper old new loaded holds
+pub holds_agrees : (b : Cache) (rows log : List Row) (key : List ℕ) → b.bucket ≡ bucket_of key → Holds b rows log → (n : ℕ) → IsCached b n → (theirs (rows ++ log) key n).0 ≢ node.Broken → given b n ≡ theirs (rows ++ log) key n
+holds_agrees b rows log key of_key holds n here fine = holds.same n here ∙ ap (λ k. nodes_of (rows ++ log) k n) of_key

@@ -1,100 +1,152 @@
 -- Calls that change a tree, on sound rows.
-use Rattle.std.proofs.Common.{◌≡◌, ℕ, Bool, if◌then◌else◌, List, ◌++◌, Option, Some, None, is_some, Result, Ok, Err, refl, sym, ap, subst, ◌∙◌}
-use Rattle.std.specs.Prelude.{IfSome}
+use Rattle.std.proofs.Common.{◌≡◌, ℕ, Bool, if◌then◌else◌, List, ◌++◌, Option, None, is_some, Result, Ok, Err, refl, sym, ap, subst, ◌∙◌}
 use Rattle.fine_model.specs.declared.Call.{Call}
 use Rattle.fine_model.specs.declared.Call.TheVariants as call
 use Rattle.fine_model.specs.declared.FetchFault.{FetchFault}
-use Rattle.fine_model.specs.declared.NodeId.{NodeId}
+use Rattle.fine_model.specs.declared.FetchFault.TheVariants as fetch_fault
 use Rattle.fine_model.specs.declared.Rec.TheVariants as rec
 use Rattle.fine_model.specs.declared.Row.{Row}
-use Rattle.fine_model.specs.Map.{has}
-use Rattle.fine_model.specs.Pushed.{call_push, push_of, leaf_push, nothing_pushed, within_limits}
+use Rattle.fine_model.specs.Map.{get, has}
+use Rattle.fine_model.specs.Nodes.{Content}
+use Rattle.fine_model.specs.Pushed.{Push, key_of, call_push, push_of, leaf_push, nothing_pushed, within_limits}
 use Rattle.fine_model.specs.Trees.{bucket_of, IsSound, map_of}
 use Rattle.node_cache.specs.Cache.{Cache}
 use Rattle.btree_nodes.specs.declared.fault.TreeFault.{TreeFault}
 use Rattle.btree_nodes.specs.declared.fault.TreeFault.TheVariants.{Source, Unfit, BucketFull, Number, NoMemory}
-use Rattle.btree_nodes.specs.Given.{given, IsCached, Holds}
-use Rattle.btree_nodes.specs.Trees.{unfit_in, pairs_in, IsFirstUnfit, Answers}
-use Rattle.btree_nodes.specs.Calls.{IsReached, Outcome, IsChange, SoundOutcome}
+use Rattle.node_cache.specs.Given.{given, IsCached, IsLoaded}
+use Rattle.btree_nodes.specs.Trees.{unfit_in, pairs_in, Serves, Holds, LoadsOnWay, HeadSays, first_over}
+use Rattle.btree_nodes.specs.Calls.{Answers, IsFound, IsReached, IsAsBefore, Outcome, IsChange, OnReached, OnCleanAnswer, Stays, SoundOutcome, SoundReading}
 use Rattle.btree_nodes.proofs.Changed.{saves_itself}
-use Rattle.btree_nodes.proofs.Held.{holds_loaded, holds_pushed}
-use Rattle.btree_nodes.proofs.Sound.{holds_agrees, sound_pairs, sound_value, sound_leaf_push, sound_fit}
+use Rattle.btree_nodes.proofs.Held.{restores_saved, holds_pushed}
+use Rattle.btree_nodes.proofs.OnWays.{holds_on_way}
+use Rattle.btree_nodes.proofs.Sound.{holds_agrees, head_same, sound_pairs, sound_value, sound_leaf_push, sound_fit}
 
--- the outcome on what the bucket gives is that on sound rows, where the call pushes the same
-pub outcome_soundly : {A : Type 0} (told log log' : List Row) (mid new : Cache) (c : Call) (key : List ℕ) (P Q : A → Type 0) (F : FetchFault → Type 0) → Holds mid told log → (IsReached mid key → push_of (told ++ log) c ≡ call_push mid.bucket (given mid) c)
-    → ((a : A) → IsReached mid key → P a → Q a) → ((id : NodeId) → IsFirstUnfit mid key id → ⊥) → (r : Result A TreeFault) → Outcome mid new log log' c key P F r → SoundOutcome told log log' new c Q r
-outcome_soundly told log log' mid new c key P Q F holds same on fit r o = by r o
-  where
-    before : (new : Cache) (log' : List Row) → new ≡ mid → log' ≡ log → Holds new told log'
-    before new log' n l = subst (λ b. Holds b told log') (sym n) (subst (Holds mid told) (sym l) holds)
+module _ {A : Type 0} (rows log log' : List Row) (mid new : Cache) (c : Call) (P Q : A → Type 0) (F : FetchFault → Type 0) (sound : IsSound (rows ++ log)) (of_key : mid.bucket ≡ bucket_of (key_of c)) (holds : Holds mid rows log)
+    (same : IsReached mid (key_of c) → push_of (rows ++ log) c ≡ call_push mid.bucket (given mid) c) (on : (a : A) → IsReached mid (key_of c) → P a → Q a) where
+  stays : IsAsBefore mid new log log' → Stays rows log log' new
+  stays before = record { same = before.rows; holds = subst (λ b. Holds b rows log) (sym before.nodes) holds }
 
-    by : (r : Result _ TreeFault) → Outcome mid new log log' c key P F r → SoundOutcome told log log' new c Q r
-    by (Ok a) o = (
-      on a o.1 o.0,
-      record {
-        rows = o.2.rows;
-        pushed = ap within_limits (same o.1) ∙ o.2.pushed;
-        behind = o.2.behind;
-        holds = subst (Holds new told) (sym o.2.behind) (holds_pushed told log o.2.rows mid new o.2.pushes holds);
-      },
-    )
-    by (Err (Source f)) o = before new log' o.1.nodes o.1.rows
-    by (Err (Unfit id)) o = fit id o.0
-    by (Err (BucketFull m d)) o = (ap within_limits (same o.1) ∙ o.0, before new log' o.2.nodes o.2.rows)
-    by (Err (Number id)) o = (ap within_limits (same o.1) ∙ o.0, before new log' o.2.nodes o.2.rows)
-    by (Err NoMemory) o = tt
+  -- the outcome on what the bucket gives is that on sound rows, where the call pushes the same
+  pub outcome_soundly : (r : Result A TreeFault) → Outcome mid new log log' c P F r → SoundOutcome rows log log' new c Q r
+  outcome_soundly (Ok a) o = (
+    on a o.1 o.0,
+    record {
+      own = o.2.rows;
+      is_pushed = ap within_limits (same o.1) ∙ o.2.is_pushed;
+      behind = o.2.behind;
+      holds = subst (Holds new rows) (sym o.2.behind) (holds_pushed rows log o.2.rows mid new o.2.pushes holds);
+    },
+  )
+  outcome_soundly (Err (Source f)) o = stays o.1
+  outcome_soundly (Err (Unfit id)) o = sound_fit (rows ++ log) (key_of c) sound mid of_key (holds_agrees mid rows log (key_of c) of_key holds) id o.0
+  outcome_soundly (Err (BucketFull m d)) o = (
+    ap within_limits (same o.2) ∙ o.0,
+    subst (λ (k : Content). HeadSays k.0 m d) (head_same (rows ++ log) (key_of c) sound mid of_key (holds_agrees mid rows log (key_of c) of_key holds) o.2.here) o.1,
+    stays o.3,
+  )
+  outcome_soundly (Err (Number id)) o = (ap within_limits (same o.2) ∙ o.0, ap (λ (p : Push). first_over p.rows) (same o.2) ∙ o.1, stays o.3)
+  outcome_soundly (Err NoMemory) o = restores_saved rows mid new o holds.restores
 
-module _ (told log : List Row) (mid : Cache) (key : List ℕ) (sound : IsSound (told ++ log)) (of_key : mid.bucket ≡ bucket_of key) (holds : Holds mid told log) where
+module _ (rows log : List Row) (mid : Cache) (key : List ℕ) (sound : IsSound (rows ++ log)) (of_key : mid.bucket ≡ bucket_of key) (holds : Holds mid rows log) where
   -- deleting pushes the same
-  pub del_same : IsCached mid 0 → unfit_in mid key ≡ None → push_of (told ++ log) (call.Del key) ≡ call_push mid.bucket (given mid) (call.Del key)
+  pub del_same : IsCached mid 0 → unfit_in mid key ≡ None → push_of (rows ++ log) (call.Del key) ≡ call_push mid.bucket (given mid) (call.Del key)
   unfolding push_of call_push
   del_same here fit =
-      sym ((λ i. if has (sound_pairs (told ++ log) key sound mid of_key (holds_agrees mid told log key of_key holds) here fit i) key then sound_leaf_push (told ++ log) key sound mid of_key (holds_agrees mid told log key of_key holds) (rec.Del key) here fit i else nothing_pushed))
+      sym ((λ i. if has (sound_pairs (rows ++ log) key sound mid of_key (holds_agrees mid rows log key of_key holds) here fit i) key then sound_leaf_push (rows ++ log) key sound mid of_key (holds_agrees mid rows log key of_key holds) (rec.Del key) here fit i else nothing_pushed))
       ∙ ap (λ k. if has (pairs_in mid key) key then leaf_push k (given mid) key (rec.Del key) (given mid 0).0 else nothing_pushed) (sym of_key)
 
-  pub has_same : IsCached mid 0 → unfit_in mid key ≡ None → has (pairs_in mid key) key ≡ has (map_of (told ++ log)) key
-  has_same here fit = ap is_some (sound_value (told ++ log) key sound mid of_key (holds_agrees mid told log key of_key holds) here fit)
+  pub has_same : IsCached mid 0 → unfit_in mid key ≡ None → has (pairs_in mid key) key ≡ has (map_of (rows ++ log)) key
+  has_same here fit = ap is_some (sound_value (rows ++ log) key sound mid of_key (holds_agrees mid rows log key of_key holds) here fit)
 
 -- ---- from the way on
 
 -- a fault on the way
-pub fault_first : {A B : Type 0} (mid : Cache) (log : List Row) (c : Call) (key : List ℕ) (P : A → Type 0) (P' : B → Type 0) (F : FetchFault → Type 0) (e : TreeFault) → Answers mid key P F (Err e) → Outcome mid mid log log c key P' F (Err e)
-fault_first mid log c key P P' F (Source f) h = (h, record { nodes = refl; rows = refl })
-fault_first mid log c key P P' F (Unfit id) h = (h, record { nodes = refl; rows = refl })
-fault_first mid log c key P P' F (BucketFull m d) h = absurd h
-fault_first mid log c key P P' F (Number id) h = absurd h
-fault_first mid log c key P P' F NoMemory h = saves_itself mid mid refl
+pub fault_first : {A B : Type 0} (mid : Cache) (log : List Row) (c : Call) (P : A → Type 0) (P' : B → Type 0) (F : FetchFault → Type 0) (e : TreeFault) → Answers mid (key_of c) P F (Err e) → Outcome mid mid log log c P' F (Err e)
+fault_first mid log c P P' F (Source f) h = (h, record { nodes = refl; rows = refl })
+fault_first mid log c P P' F (Unfit id) h = (h, record { nodes = refl; rows = refl })
+fault_first mid log c P P' F (BucketFull m d) h = absurd h
+fault_first mid log c P P' F (Number id) h = absurd h
+fault_first mid log c P P' F NoMemory h = saves_itself mid mid refl
 
 -- what follows on the way loads nothing
-pub no_source : {A : Type 0} (mid new : Cache) (log log' : List Row) (c : Call) (key : List ℕ) (P : A → Type 0) (F : FetchFault → Type 0) (r : Result A TreeFault) → Outcome mid new log log' c key P (λ _. ⊥) r → Outcome mid new log log' c key P F r
-no_source mid new log log' c key P F (Ok a) h = h
-no_source mid new log log' c key P F (Err (Source f)) h = absurd h.0
-no_source mid new log log' c key P F (Err (Unfit id)) h = h
-no_source mid new log log' c key P F (Err (BucketFull m d)) h = h
-no_source mid new log log' c key P F (Err (Number id)) h = h
-no_source mid new log log' c key P F (Err NoMemory) h = h
+pub no_source : {A : Type 0} (mid new : Cache) (log log' : List Row) (c : Call) (P : A → Type 0) (F : FetchFault → Type 0) (r : Result A TreeFault) → Outcome mid new log log' c P (λ _. ⊥) r → Outcome mid new log log' c P F r
+no_source mid new log log' c P F (Ok a) h = h
+no_source mid new log log' c P F (Err (Source f)) h = absurd h.0
+no_source mid new log log' c P F (Err (Unfit id)) h = h
+no_source mid new log log' c P F (Err (BucketFull m d)) h = h
+no_source mid new log log' c P F (Err (Number id)) h = h
+no_source mid new log log' c P F (Err NoMemory) h = h
+
+-- and no load failed on the way, where what follows is no failed load
+pub still_clean : {A : Type 0} (mid new : Cache) (log log' : List Row) (c : Call) (P : A → Type 0) (r : Result A TreeFault) (C : Type 0) → C → Outcome mid new log log' c P (λ _. ⊥) r → OnCleanAnswer r C
+still_clean mid new log log' c P (Ok a) C clean h = clean
+still_clean mid new log log' c P (Err (Source f)) C clean h = absurd h.0
+still_clean mid new log log' c P (Err (Unfit id)) C clean h = clean
+still_clean mid new log log' c P (Err (BucketFull m d)) C clean h = clean
+still_clean mid new log log' c P (Err (Number id)) C clean h = clean
+still_clean mid new log log' c P (Err NoMemory) C clean h = tt
+
+-- the same answer at another type
+pub clean_fault : (A B : Type 0) (e : TreeFault) (C : Type 0) → OnCleanAnswer {A = A} (Err e) C → OnCleanAnswer {A = B} (Err e) C
+clean_fault A B (Source f) C h = h
+clean_fault A B (Unfit id) C h = h
+clean_fault A B (BucketFull m d) C h = h
+clean_fault A B (Number id) C h = h
+clean_fault A B NoMemory C h = h
+
+pub clean_map : {A : Type 0} (r : Result A TreeFault) (C D : Type 0) → (C → D) → OnCleanAnswer r C → OnCleanAnswer r D
+clean_map (Ok a) C D on h = on h
+clean_map (Err (Source fetch_fault.Failed)) C D on h = h
+clean_map (Err (Source fetch_fault.NoMemory)) C D on h = h
+clean_map (Err (Source (fetch_fault.BadRow region at))) C D on h = on h
+clean_map (Err (Source (fetch_fault.BadIndex region at))) C D on h = on h
+clean_map (Err (Unfit id)) C D on h = on h
+clean_map (Err (BucketFull m d)) C D on h = on h
+clean_map (Err (Number id)) C D on h = on h
+clean_map (Err NoMemory) C D on h = h
+
+-- the leaf was reached, and what is used then is
+pub reached_ok : {A : Type 0} (r : Result A TreeFault) (P : Type 0) → P → OnReached r P
+reached_ok (Ok a) P h = h
+reached_ok (Err (Source f)) P h = tt
+reached_ok (Err (Unfit id)) P h = tt
+reached_ok (Err (BucketFull m d)) P h = h
+reached_ok (Err (Number id)) P h = h
+reached_ok (Err NoMemory) P h = tt
+
+pub reached_fault : (A B : Type 0) (mid : Cache) (key : List ℕ) (Q : B → Type 0) (F : FetchFault → Type 0) (e : TreeFault) (P : Type 0) → Answers mid key Q F (Err e) → OnReached {A = A} (Err e) P
+reached_fault A B mid key Q F (Source f) P h = tt
+reached_fault A B mid key Q F (Unfit id) P h = tt
+reached_fault A B mid key Q F (BucketFull m d) P h = absurd h
+reached_fault A B mid key Q F (Number id) P h = absurd h
+reached_fault A B mid key Q F NoMemory P h = tt
 
 -- a removal on sound rows
-pub removed_soundly : (told : Option (List Row)) (upper : ℕ) (old new : Cache) (log log' : List Row) (key : List ℕ) (F : FetchFault → Type 0) (r : Result Bool TreeFault) → old.bucket ≡ bucket_of key
-    → IsChange told upper old new log log' (call.Del key) key (λ mid there. there ≡ has (pairs_in mid key) key) F r
-    → IfSome told (λ rows. Holds old rows log → IsSound (rows ++ log) → SoundOutcome rows log log' new (call.Del key) (λ there. there ≡ has (map_of (rows ++ log)) key) r)
-removed_soundly None upper old new log log' key F r of_key change = tt
-removed_soundly (Some rows) upper old new log log' key F r of_key change = λ holds sound.
+pub removed_soundly : (tells : List Row → Type 0) (upper : ℕ) (old new : Cache) (log log' : List Row) (key : List ℕ) (F : FetchFault → Type 0) (r : Result Bool TreeFault) → old.bucket ≡ bucket_of key
+    → IsChange tells upper old new log log' (call.Del key) (λ mid there. there ≡ has (pairs_in mid key) key) F r
+    → (rows : List Row) → Serves tells old rows → Holds old rows log → IsSound (rows ++ log) → SoundOutcome rows log log' new (call.Del key) (λ there. there ≡ has (map_of (rows ++ log)) key) r
+removed_soundly tells upper old new log log' key F r of_key change rows serves holds sound =
     let of_key' = change.loaded.bucket ∙ of_key in
-    let holds' = holds_loaded rows log upper old change.mid change.loaded holds in
-    outcome_soundly rows log log' change.mid new (call.Del key) key (λ there. there ≡ has (pairs_in change.mid key) key) (λ there. there ≡ has (map_of (rows ++ log)) key) F holds'
+    let holds' = holds_on_way tells upper rows log old change.mid key of_key sound change.loaded change.on_way serves holds in
+    outcome_soundly rows log log' change.mid new (call.Del key) (λ there. there ≡ has (pairs_in change.mid key) key) (λ there. there ≡ has (map_of (rows ++ log)) key) F sound of_key' holds'
     (λ reached. del_same rows log change.mid key sound of_key' holds' reached.here reached.fit)
-    (λ there reached is. is ∙ has_same rows log change.mid key sound of_key' holds' reached.here reached.fit)
-    (sound_fit (rows ++ log) key sound change.mid of_key' (holds_agrees change.mid rows log key of_key' holds')) r change.outcome
+    (λ there reached is. is ∙ has_same rows log change.mid key sound of_key' holds' reached.here reached.fit) r change.outcome
 
--- a change leaves the bucket's number
-pub change_bucket : {A : Type 0} (told : Option (List Row)) (upper : ℕ) (old new : Cache) (log log' : List Row) (c : Call) (key : List ℕ) (P : Cache → A → Type 0) (F : FetchFault → Type 0) (r : Result A TreeFault) → IsChange told upper old new log log' c key P F r → new.bucket ≡ old.bucket
-change_bucket told upper old new log log' c key P F r change = by r change.outcome ∙ change.loaded.bucket
+-- what is found of a key on sound rows
+pub found_soundly : (tells : List Row → Type 0) (upper : ℕ) (old new : Cache) (key : List ℕ) (F : FetchFault → Type 0) (r : Result (Option (List ℕ)) TreeFault) → old.bucket ≡ bucket_of key → IsLoaded tells upper old new → LoadsOnWay old new key → Answers new key (IsFound new key) F r
+    → (rows log : List Row) → Serves tells old rows → Holds old rows log → IsSound (rows ++ log) → SoundReading rows log new (λ value. value ≡ get (map_of (rows ++ log)) key) r
+found_soundly tells upper old new key F r of_key loaded on_way answer rows log serves holds sound = by r answer
   where
-    by : (r : Result _ TreeFault) → Outcome change.mid new log log' c key (P change.mid) F r → new.bucket ≡ change.mid.bucket
-    by (Ok a) o = o.2.pushes.saves.bucket
-    by (Err (Source f)) o = ap (λ b. b.bucket) o.1.nodes
-    by (Err (Unfit id)) o = ap (λ b. b.bucket) o.1.nodes
-    by (Err (BucketFull n d)) o = ap (λ b. b.bucket) o.2.nodes
-    by (Err (Number id)) o = ap (λ b. b.bucket) o.2.nodes
-    by (Err NoMemory) o = o.bucket
+    of_key' : new.bucket ≡ bucket_of key
+    of_key' = loaded.bucket ∙ of_key
+
+    then_holds : Holds new rows log
+    then_holds = holds_on_way tells upper rows log old new key of_key sound loaded on_way serves holds
+
+    by : (r : Result (Option (List ℕ)) TreeFault) → Answers new key (IsFound new key) F r → SoundReading rows log new (λ value. value ≡ get (map_of (rows ++ log)) key) r
+    by (Ok value) h = (h.stands ∙ sound_value (rows ++ log) key sound new of_key' (holds_agrees new rows log key of_key' then_holds) h.here h.fit, then_holds)
+    by (Err (Unfit id)) h = sound_fit (rows ++ log) key sound new of_key' (holds_agrees new rows log key of_key' then_holds) id h
+    by (Err (Source f)) h = then_holds
+    by (Err (BucketFull m d)) h = h
+    by (Err (Number id)) h = h
+    by (Err NoMemory) h = then_holds

@@ -1,6 +1,5 @@
 -- On sound rows, setting a key pushes by what the bucket gives what it pushes in the rows' tree.
-use Rattle.std.proofs.Common.{◌≡◌, ◌≢◌, ℕ, zero, suc, ◌-◌, List, ◌++◌, Option, Some, None, Result, sym, ap, subst, ◌∙◌}
-use Rattle.std.specs.Prelude.{IfSome}
+use Rattle.std.proofs.Common.{◌≡◌, ◌≢◌, ℕ, zero, suc, ◌-◌, List, ◌++◌, None, Result, sym, ap, subst, ◌∙◌}
 use Rattle.fine_model.specs.declared.Call.TheVariants as call
 use Rattle.fine_model.specs.declared.FetchFault.{FetchFault}
 use Rattle.fine_model.specs.declared.Node.TheVariants as node
@@ -10,14 +9,14 @@ use Rattle.fine_model.specs.Paths.{is_inner, place_among, bounds_at, seps_of, ki
 use Rattle.fine_model.specs.Pushed.{child_for, grown_leaf, grown_inner, growth, with_head, set_push, call_push, push_of}
 use Rattle.fine_model.specs.Trees.{Bounds, whole, is_leaf, pairs_of, bucket_of, IsSound}
 use Rattle.node_cache.specs.Cache.{Cache}
-use Rattle.btree_nodes.specs.Given.{given, IsCached, Holds}
-use Rattle.btree_nodes.specs.Trees.{unfit_in}
+use Rattle.node_cache.specs.Given.{given, IsCached}
+use Rattle.btree_nodes.specs.Trees.{unfit_in, Serves, Holds}
 use Rattle.btree_nodes.specs.declared.fault.TreeFault.{TreeFault}
 use Rattle.btree_nodes.specs.Calls.{IsChange, SoundOutcome}
-use Rattle.btree_nodes.proofs.Held.{holds_loaded}
+use Rattle.btree_nodes.proofs.OnWays.{holds_on_way}
 use Rattle.btree_nodes.proofs.SoundCalls.{outcome_soundly}
 use Rattle.btree_nodes.proofs.Ways.{child_is}
-use Rattle.btree_nodes.proofs.Sound.{cached_of_whole, leaf_whole, inner_whole, passed, rest, theirs, sound_head, head_same, from_root, holds_agrees, sound_fit}
+use Rattle.btree_nodes.proofs.Sound.{cached_of_whole, leaf_whole, inner_whole, passed, rest, theirs, sound_head, head_same, from_root, holds_agrees}
 
 module _ (b : Cache) (nodes : ℕ → Content) (agrees : (n : ℕ) → IsCached b n → (nodes n).0 ≢ node.Broken → given b n ≡ nodes n) (bucket next : ℕ) (key value : List ℕ) where
   growth_same : (height : ℕ) (bounds : Bounds) (number : ℕ) → unfit_from height bucket nodes next key bounds number ≡ None → unfit_from height bucket (given b) next key bounds number ≡ None
@@ -51,22 +50,20 @@ module _ (rows : List Row) (key value : List ℕ) (sound : IsSound rows) (b : Ca
       ∙ ap (set_push (bucket_of key) (theirs rows key) (key, value)) (sym h.is)
 
 -- setting pushes the same
-pub put_same : (told log : List Row) (mid : Cache) (key value : List ℕ) → IsSound (told ++ log) → mid.bucket ≡ bucket_of key → Holds mid told log → IsCached mid 0 → unfit_in mid key ≡ None
-    → push_of (told ++ log) (call.Put key value) ≡ call_push mid.bucket (given mid) (call.Put key value)
+pub put_same : (rows log : List Row) (mid : Cache) (key value : List ℕ) → IsSound (rows ++ log) → mid.bucket ≡ bucket_of key → Holds mid rows log → IsCached mid 0 → unfit_in mid key ≡ None
+    → push_of (rows ++ log) (call.Put key value) ≡ call_push mid.bucket (given mid) (call.Put key value)
 unfolding push_of call_push
-put_same told log mid key value sound of_key holds here fit =
-    sym (sound_set_push (told ++ log) key value sound mid of_key (holds_agrees mid told log key of_key holds) here fit)
+put_same rows log mid key value sound of_key holds here fit =
+    sym (sound_set_push (rows ++ log) key value sound mid of_key (holds_agrees mid rows log key of_key holds) here fit)
     ∙ ap (λ k. set_push k (given mid) (key, value) (given mid 0).0) (sym of_key)
 
 -- setting a key on sound rows
-pub put_soundly : (told : Option (List Row)) (upper : ℕ) (old new : Cache) (log log' : List Row) (key value : List ℕ) (F : FetchFault → Type 0) (r : Result (Unit {0}) TreeFault) → old.bucket ≡ bucket_of key
-    → IsChange told upper old new log log' (call.Put key value) key (λ mid u. Unit {0}) F r
-    → IfSome told (λ rows. Holds old rows log → IsSound (rows ++ log) → SoundOutcome rows log log' new (call.Put key value) (λ u. Unit {0}) r)
-put_soundly None upper old new log log' key value F r of_key change = tt
-put_soundly (Some rows) upper old new log log' key value F r of_key change = λ holds sound.
+pub put_soundly : (tells : List Row → Type 0) (upper : ℕ) (old new : Cache) (log log' : List Row) (key value : List ℕ) (F : FetchFault → Type 0) (r : Result (Unit {0}) TreeFault) → old.bucket ≡ bucket_of key
+    → IsChange tells upper old new log log' (call.Put key value) (λ mid u. Unit {0}) F r
+    → (rows : List Row) → Serves tells old rows → Holds old rows log → IsSound (rows ++ log) → SoundOutcome rows log log' new (call.Put key value) (λ u. Unit {0}) r
+put_soundly tells upper old new log log' key value F r of_key change rows serves holds sound =
     let of_key' = change.loaded.bucket ∙ of_key in
-    let holds' = holds_loaded rows log upper old change.mid change.loaded holds in
-    outcome_soundly rows log log' change.mid new (call.Put key value) key (λ u. Unit {0}) (λ u. Unit {0}) F holds'
+    let holds' = holds_on_way tells upper rows log old change.mid key of_key sound change.loaded change.on_way serves holds in
+    outcome_soundly rows log log' change.mid new (call.Put key value) (λ u. Unit {0}) (λ u. Unit {0}) F sound of_key' holds'
     (λ reached. put_same rows log change.mid key value sound of_key' holds' reached.here reached.fit)
-    (λ u reached is. tt)
-    (sound_fit (rows ++ log) key sound change.mid of_key' (holds_agrees change.mid rows log key of_key' holds')) r change.outcome
+    (λ u reached is. tt) r change.outcome

@@ -19,10 +19,10 @@ use Rattle.fine_model.proofs.Buckets.{HasTree, has_tree}
 use Rattle.node_cache.specs.Cache.{Cache}
 use Rattle.btree_nodes.specs.declared.fault.TreeFault.{TreeFault}
 use Rattle.btree_nodes.specs.declared.fault.TreeFault.TheVariants.{Source, Unfit, BucketFull, Number, NoMemory}
-use Rattle.btree_nodes.specs.Given.{given, IsCached, IsLoaded, Holds}
-use Rattle.btree_nodes.specs.Trees.{AnswersSoundly}
-use Rattle.btree_nodes.specs.Scans.{kids_met, pairs_met, pairs_between, IsFirstUnfitBetween, IsFoundBetween, Scans}
-use Rattle.btree_nodes.proofs.Held.{holds_loaded}
+use Rattle.node_cache.specs.Given.{given, IsCached, IsLoaded}
+use Rattle.btree_nodes.specs.Trees.{Serves, Holds, LoadsOnWalk, kids_met, pairs_met, pairs_between}
+use Rattle.btree_nodes.specs.Calls.{Reads, IsFirstUnfitBetween, IsFoundBetween, SoundReading}
+use Rattle.btree_nodes.proofs.OnWalks.{holds_on_walk}
 use Rattle.btree_nodes.proofs.Sound.{cached_of_whole}
 use Rattle.btree_nodes.proofs.SameScans.{GoesAlike, same_from}
 use Rattle.btree_nodes.proofs.Takes.{between_none, between-append, none_taken}
@@ -170,19 +170,24 @@ module _ (rows : List Row) (b : Cache) (sound : IsSound rows) (small : b.bucket 
               h (subst (IsCached b) (sym (let same : n ≡ id.number = cc in same)) first.there)
 
 -- what a scan answers on sound rows
-pub scans_soundly : (told : Option (List Row)) (upper : ℕ) (old new : Cache) (low high : List ℕ) (limit : ℕ) (out out' : List Pair) (F : FetchFault → Type 0) (r : Result (Unit {0}) TreeFault) → old.bucket < 256 → IsLoaded told upper old new → Scans new low high limit out out' F r
-    → IfSome told (λ rows. (log : List Row) → Holds old rows log → IsSound (rows ++ log) → AnswersSoundly (λ _. out' ≡ out ++ take limit (between low high (tree_map (rows ++ log) old.bucket))) r)
-scans_soundly None upper old new low high limit out out' F r small loaded answer = tt
-scans_soundly (Some rows) upper old new low high limit out out' F r small loaded answer = λ log holds sound. by log (holds_loaded rows log upper old new loaded holds) sound r answer
+pub scans_soundly : (tells : List Row → Type 0) (upper : ℕ) (old new : Cache) (low high : List ℕ) (limit : ℕ) (out out' : List Pair) (F : FetchFault → Type 0) (r : Result (Unit {0}) TreeFault) → old.bucket < 256 → IsLoaded tells upper old new
+    → LoadsOnWalk old new low high → Reads (λ done. IsFoundBetween new low high limit out out') F (IsFirstUnfitBetween new low high limit) r
+    → (rows log : List Row) → Serves tells old rows → Holds old rows log → IsSound (rows ++ log) → SoundReading rows log new (λ done. out' ≡ out ++ take limit (between low high (tree_map (rows ++ log) old.bucket))) r
+scans_soundly tells upper old new low high limit out out' F r small loaded on_walk answer rows log serves holds sound = by r answer
   where
     small' : new.bucket < 256
     small' = subst (λ k. k < 256) (sym loaded.bucket) small
 
-    by : (log : List Row) → Holds new rows log → IsSound (rows ++ log) → (r : Result (Unit {0}) TreeFault) → Scans new low high limit out out' F r → AnswersSoundly (λ _. out' ≡ out ++ take limit (between low high (tree_map (rows ++ log) old.bucket))) r
-    by log holds sound (Ok done) h =
-        sound_found (rows ++ log) new sound small' holds.same low high limit out out' h ∙ ap (λ k. out ++ take limit (between low high (tree_map (rows ++ log) k))) loaded.bucket
-    by log holds sound (Err (Unfit id)) h = sound_fit (rows ++ log) new sound small' holds.same low high limit id h.0
-    by log holds sound (Err (Source f)) h = tt
-    by log holds sound (Err (BucketFull m d)) h = tt
-    by log holds sound (Err (Number id)) h = tt
-    by log holds sound (Err NoMemory) h = tt
+    then_holds : Holds new rows log
+    then_holds = holds_on_walk tells upper rows log old new low high small sound loaded on_walk serves holds
+
+    agrees : (n : ℕ) → IsCached new n → (nodes_of (rows ++ log) new.bucket n).0 ≢ node.Broken → given new n ≡ nodes_of (rows ++ log) new.bucket n
+    agrees n here fine = then_holds.same n here
+
+    by : (r : Result (Unit {0}) TreeFault) → Reads (λ done. IsFoundBetween new low high limit out out') F (IsFirstUnfitBetween new low high limit) r → SoundReading rows log new (λ done. out' ≡ out ++ take limit (between low high (tree_map (rows ++ log) old.bucket))) r
+    by (Ok done) h = (sound_found (rows ++ log) new sound small' agrees low high limit out out' h ∙ ap (λ k. out ++ take limit (between low high (tree_map (rows ++ log) k))) loaded.bucket, then_holds)
+    by (Err (Unfit id)) h = sound_fit (rows ++ log) new sound small' agrees low high limit id h
+    by (Err (Source f)) h = then_holds
+    by (Err (BucketFull m d)) h = h
+    by (Err (Number id)) h = h
+    by (Err NoMemory) h = then_holds

@@ -11,19 +11,16 @@ use Rattle.fine_model.specs.Trees.{are_separators}
 use Rattle.fine_model.proofs.Small.{length-filter_le}
 use Rattle.fine_model.proofs.Order.{first_of_both}
 use Rattle.node_record.specs.Bounds.{FitsNode}
-use Rattle.node_cache.specs.declared.Cached.{Cached}
+use Rattle.node_cache.specs.declared.cached.Cached.{Cached}
 use Rattle.node_cache.specs.Cache.{Cache, cached}
 use Rattle.btree_nodes.specs.declared.descent.Sep.{Sep}
-use Rattle.btree_nodes.specs.Given.{given, FitsKept, FitsCache, IsCached}
+use Rattle.node_cache.specs.Given.{given, IsCached}
 use Rattle.btree_nodes.specs.Descent.{bound_at, bounds_by, low_of, high_of, IsStep, AreKept}
 
 -- what is cached is what the bucket gives
 pub given_is : (b : Cache) (n : ℕ) (kept : Cached) → cached b n ≡ Some kept → given b n ≡ (kept.node, kept.version)
 unfolding given
 given_is b n kept is = ap (λ o. unwrap_or (option_map (λ k. (k.node, k.version)) o) (node.Broken, 0)) is
-
-pub fits_kept : (b : Cache) (n : ℕ) (kept : Cached) → FitsCache b → cached b n ≡ Some kept → FitsNode kept.node
-fits_kept b n kept fits is = (subst (λ o. IfSome o FitsKept) is (fits.each n)).node
 
 -- a place of a child
 pub place_within : (key : List ℕ) (seps : List (List ℕ)) (kids : List ℕ) → FitsNode (node.Inner seps kids) → place_among key seps < length kids

@@ -11,15 +11,15 @@ use Rattle.fine_model.specs.declared.Write.{Write}
 use Rattle.fine_model.specs.declared.Write.TheVariants as write
 use Rattle.fine_model.specs.Map.{Pair, get, has}
 use Rattle.fine_model.specs.NumberText.{number_of, number_text, is_i64}
-use Rattle.fine_model.specs.Pushed.{call_push, add_push, leaf_push, set_push, within_limits}
+use Rattle.fine_model.specs.Pushed.{Push, call_push, add_push, leaf_push, set_push, within_limits}
 use Rattle.fine_model.specs.RowBytes.{greatest}
 use Rattle.fine_model.specs.Store.{answer, add_answer, sum_answer, number_at}
 use Rattle.node_cache.specs.Cache.{Cache}
 use Rattle.btree_nodes.specs.declared.tree.Path.{Path}
-use Rattle.btree_nodes.specs.Given.{given}
-use Rattle.btree_nodes.specs.Trees.{IsPath, pairs_in}
+use Rattle.node_cache.specs.Given.{given}
+use Rattle.btree_nodes.specs.Trees.{IsPath, pairs_in, first_over}
 use Rattle.btree_nodes.specs.Calls.{is_sum, pushed_in, IsDone}
-use Rattle.btree_nodes.proofs.LeafPush.{leaf_row, leaf_push_is, one_within, one_over, pushes_none}
+use Rattle.btree_nodes.proofs.LeafPush.{one_first, leaf_row, leaf_push_is, one_within, one_over, pushes_none}
 
 pub answer_there : (m : List Pair) (key text : List ℕ) (by : ℤ) → get m key ≡ Some text → (answer m (call.Add key by)).0 ≡ (add_answer key (number_of text) by).0
 unfolding answer number_at
@@ -66,9 +66,10 @@ module _ (b : Cache) (key : List ℕ) (by : ℤ) (path : Path) (is : IsPath b ke
   unfolding call_push answer within_limits add_push
   add_nothing log none = record {
     rows = [];
-    pushed = ap (λ ws. within_limits (add_push b.bucket (given b) key by (pairs_in b key) ws)) (writes_none key (number_at (pairs_in b key) key) by none);
+    is_pushed = ap (λ ws. within_limits (add_push b.bucket (given b) key by (pairs_in b key) ws)) (writes_none key (number_at (pairs_in b key) key) by none);
     behind = sym (append-nil log);
     pushes = pushes_none b;
+    fits = record { fit = tt; here = tt };
   }
 
   plus_push : has (pairs_in b key) key ≡ true → is_sum (answer (pairs_in b key) (call.Add key by)).0 ≡ true → call_push b.bucket (given b) (call.Add key by) ≡ record { rows = leaf_row b key path is (rec.Plus key by) ∷ []; next = path.next; depth = path.depth }
@@ -84,3 +85,6 @@ module _ (b : Cache) (key : List ℕ) (by : ℤ) (path : Path) (is : IsPath b ke
 
   pub plus_over : has (pairs_in b key) key ≡ true → is_sum (answer (pairs_in b key) (call.Add key by)).0 ≡ true → greatest < (given b path.leaf).1 + 1 → pushed_in b (call.Add key by) ≡ Err why.Number
   plus_over there sum large = ap within_limits (plus_push there sum) ∙ one_over path.next path.depth is.small is.deep.1 (leaf_row b key path is (rec.Plus key by)) large
+
+  pub plus_first : has (pairs_in b key) key ≡ true → is_sum (answer (pairs_in b key) (call.Add key by)).0 ≡ true → greatest < (given b path.leaf).1 + 1 → first_over (call_push b.bucket (given b) (call.Add key by)).rows ≡ Some (leaf_row b key path is (rec.Plus key by)).node
+  plus_first there sum large = ap (λ (p : Push). first_over p.rows) (plus_push there sum) ∙ one_first (leaf_row b key path is (rec.Plus key by)) large

@@ -1,9 +1,7 @@
 -- Adding to an absent key, and adding on sound rows.
 use Rattle.std.proofs.Common.{◌≡◌, ℕ, Bool, true, false, if◌then◌else◌, List, [], ◌∷◌, ◌++◌, Option, Some, None, Result, Err, ℤ, pos, negsuc, ◌+ℤ◌, FitsSigned, w64, refl, sym, ap, subst, ◌∙◌, arith}
-use Rattle.std.specs.Prelude.{IfSome}
 use Rattle.std.proofs.lemmas.Int.{ints}
 use Rattle.std.proofs.lemmas.Fmt.{length_signed_le, decimal_nonempty}
-use Rattle.fine_model.specs.declared.Call.{Call}
 use Rattle.fine_model.specs.declared.Call.TheVariants as call
 use Rattle.fine_model.specs.declared.FetchFault.{FetchFault}
 use Rattle.fine_model.specs.declared.Rec.TheVariants as rec
@@ -14,19 +12,19 @@ use Rattle.fine_model.specs.declared.Write.{Write}
 use Rattle.fine_model.specs.declared.Write.TheVariants as write
 use Rattle.fine_model.specs.Map.{Pair, get, has}
 use Rattle.fine_model.specs.NumberText.{number_text, is_i64}
-use Rattle.fine_model.specs.Pushed.{call_push, push_of, add_push, leaf_push, set_push, pairs_beside, within_limits}
+use Rattle.fine_model.specs.Pushed.{Push, call_push, push_of, add_push, leaf_push, set_push, pairs_beside, within_limits}
 use Rattle.fine_model.specs.RowBytes.{FitsValue}
 use Rattle.fine_model.specs.Store.{answer, add_answer, sum_answer, number_at}
 use Rattle.fine_model.specs.Trees.{bucket_of, map_of, IsSound}
 use Rattle.node_cache.specs.Cache.{Cache}
 use Rattle.btree_nodes.specs.declared.fault.TreeFault.{TreeFault}
 use Rattle.btree_nodes.specs.declared.fault.TreeFault.TheVariants.{Source, Unfit, BucketFull, Number, NoMemory}
-use Rattle.btree_nodes.specs.Given.{given, IsCached, Holds}
-use Rattle.btree_nodes.specs.Trees.{unfit_in, pairs_in}
-use Rattle.btree_nodes.specs.Calls.{pushed_in, Outcome, IsChange, SoundOutcome}
-use Rattle.btree_nodes.proofs.Held.{holds_loaded}
+use Rattle.node_cache.specs.Given.{given, IsCached}
+use Rattle.btree_nodes.specs.Trees.{unfit_in, pairs_in, Serves, Holds, first_over}
+use Rattle.btree_nodes.specs.Calls.{Outcome, IsChange, SoundOutcome}
+use Rattle.btree_nodes.proofs.OnWays.{holds_on_way}
 use Rattle.btree_nodes.proofs.LeafPush.{none_found}
-use Rattle.btree_nodes.proofs.Sound.{theirs, holds_agrees, sound_pairs, sound_value, sound_leaf_push, sound_fit}
+use Rattle.btree_nodes.proofs.Sound.{theirs, holds_agrees, sound_pairs, sound_value, sound_leaf_push}
 use Rattle.btree_nodes.proofs.SoundCalls.{outcome_soundly}
 use Rattle.btree_nodes.proofs.SoundGrowth.{sound_set_push}
 
@@ -46,21 +44,20 @@ writes_absent m key by is fits =
     both t = if t then (reply.Sum by, write.Set key (number_text by) ∷ []) else (reply.OutOfRange, [])
 
 -- adding to an absent key pushes what setting the number's text does
-pub pushed_new : (b : Cache) (key : List ℕ) (by : ℤ) → has (pairs_in b key) key ≡ false → is_i64 by ≡ true → pushed_in b (call.Add key by) ≡ pushed_in b (call.Put key (number_text by))
+pub pushed_new : (b : Cache) (key : List ℕ) (by : ℤ) → has (pairs_in b key) key ≡ false → is_i64 by ≡ true → call_push b.bucket (given b) (call.Add key by) ≡ call_push b.bucket (given b) (call.Put key (number_text by))
 unfolding call_push add_push
 pushed_new b key by absent fits =
-    ap within_limits
-    (ap (add_push b.bucket (given b) key by (pairs_in b key)) (writes_absent (pairs_in b key) key by (none_found (get (pairs_in b key) key) absent) fits)
-    ∙ ap (λ t. if t then leaf_push b.bucket (given b) key (rec.Plus key by) (given b 0).0 else set_push b.bucket (given b) (key, number_text by) (given b 0).0) absent)
+    ap (add_push b.bucket (given b) key by (pairs_in b key)) (writes_absent (pairs_in b key) key by (none_found (get (pairs_in b key) key) absent) fits)
+    ∙ ap (λ t. if t then leaf_push b.bucket (given b) key (rec.Plus key by) (given b 0).0 else set_push b.bucket (given b) (key, number_text by) (given b 0).0) absent
 
 -- a fault of a call that pushes the same
-pub fault_same : {A B : Type 0} (mid new : Cache) (log log' : List Row) (c d : Call) (key : List ℕ) (P : A → Type 0) (Q : B → Type 0) (F : FetchFault → Type 0) → pushed_in mid d ≡ pushed_in mid c → (e : TreeFault)
-    → Outcome mid new log log' c key P F (Err e) → Outcome mid new log log' d key Q F (Err e)
-fault_same mid new log log' c d key P Q F same (Source f) h = h
-fault_same mid new log log' c d key P Q F same (Unfit id) h = h
-fault_same mid new log log' c d key P Q F same (BucketFull n m) h = (same ∙ h.0, h.1, h.2)
-fault_same mid new log log' c d key P Q F same (Number id) h = (same ∙ h.0, h.1, h.2)
-fault_same mid new log log' c d key P Q F same NoMemory h = h
+pub fault_same : {A B : Type 0} (mid new : Cache) (log log' : List Row) (key value : List ℕ) (by : ℤ) (P : A → Type 0) (Q : B → Type 0) (F : FetchFault → Type 0) → call_push mid.bucket (given mid) (call.Add key by) ≡ call_push mid.bucket (given mid) (call.Put key value) → (e : TreeFault)
+    → Outcome mid new log log' (call.Put key value) P F (Err e) → Outcome mid new log log' (call.Add key by) Q F (Err e)
+fault_same mid new log log' key value by P Q F same (Source f) h = h
+fault_same mid new log log' key value by P Q F same (Unfit id) h = h
+fault_same mid new log log' key value by P Q F same (BucketFull n m) h = (ap within_limits same ∙ h.0, h.1, h.2, h.3)
+fault_same mid new log log' key value by P Q F same (Number id) h = (ap within_limits same ∙ h.0, ap (λ (p : Push). first_over p.rows) same ∙ h.1, h.2, h.3)
+fault_same mid new log log' key value by P Q F same NoMemory h = h
 
 -- ---- on sound rows
 
@@ -68,41 +65,39 @@ answer_same : (m m' : List Pair) (key : List ℕ) (by : ℤ) → get m key ≡ g
 unfolding answer number_at
 answer_same m m' key by same = rw same refl
 
-module _ (told log : List Row) (mid : Cache) (key : List ℕ) (by : ℤ) (sound : IsSound (told ++ log)) (of_key : mid.bucket ≡ bucket_of key) (holds : Holds mid told log) (here : IsCached mid 0) (fit : unfit_in mid key ≡ None) where
-  writes_same : (pairs : List Pair) (ws : List Write) → add_push (bucket_of key) (given mid) key by pairs ws ≡ add_push (bucket_of key) (theirs (told ++ log) key) key by pairs ws
+module _ (rows log : List Row) (mid : Cache) (key : List ℕ) (by : ℤ) (sound : IsSound (rows ++ log)) (of_key : mid.bucket ≡ bucket_of key) (holds : Holds mid rows log) (here : IsCached mid 0) (fit : unfit_in mid key ≡ None) where
+  writes_same : (pairs : List Pair) (ws : List Write) → add_push (bucket_of key) (given mid) key by pairs ws ≡ add_push (bucket_of key) (theirs (rows ++ log) key) key by pairs ws
   unfolding add_push
   writes_same pairs [] = refl
   writes_same pairs (write.Unset k ∷ ws) = refl
   writes_same pairs (write.Set k text ∷ ws) = λ i.
-      if has pairs key then sound_leaf_push (told ++ log) key sound mid of_key (holds_agrees mid told log key of_key holds) (rec.Plus key by) here fit i
-      else sound_set_push (told ++ log) key text sound mid of_key (holds_agrees mid told log key of_key holds) here fit i
+      if has pairs key then sound_leaf_push (rows ++ log) key sound mid of_key (holds_agrees mid rows log key of_key holds) (rec.Plus key by) here fit i
+      else sound_set_push (rows ++ log) key text sound mid of_key (holds_agrees mid rows log key of_key holds) here fit i
 
-  pub add_same : push_of (told ++ log) (call.Add key by) ≡ call_push mid.bucket (given mid) (call.Add key by)
+  pub add_same : push_of (rows ++ log) (call.Add key by) ≡ call_push mid.bucket (given mid) (call.Add key by)
   unfolding push_of call_push
   add_same =
-      sym ((λ i. let m = sound_pairs (told ++ log) key sound mid of_key (holds_agrees mid told log key of_key holds) here fit i in add_push (bucket_of key) (given mid) key by m (answer m (call.Add key by)).1)
-      ∙ writes_same (pairs_beside (theirs (told ++ log) key) key (theirs (told ++ log) key 0).0) (answer (pairs_beside (theirs (told ++ log) key) key (theirs (told ++ log) key 0).0) (call.Add key by)).1)
+      sym ((λ i. let m = sound_pairs (rows ++ log) key sound mid of_key (holds_agrees mid rows log key of_key holds) here fit i in add_push (bucket_of key) (given mid) key by m (answer m (call.Add key by)).1)
+      ∙ writes_same (pairs_beside (theirs (rows ++ log) key) key (theirs (rows ++ log) key 0).0) (answer (pairs_beside (theirs (rows ++ log) key) key (theirs (rows ++ log) key 0).0) (call.Add key by)).1)
       ∙ ap (λ k. add_push k (given mid) key by (pairs_in mid key) (answer (pairs_in mid key) (call.Add key by)).1) (sym of_key)
 
-  pub reply_same : (answer (pairs_in mid key) (call.Add key by)).0 ≡ (answer (map_of (told ++ log)) (call.Add key by)).0
-  reply_same = answer_same (pairs_in mid key) (map_of (told ++ log)) key by (sound_value (told ++ log) key sound mid of_key (holds_agrees mid told log key of_key holds) here fit)
+  pub reply_same : (answer (pairs_in mid key) (call.Add key by)).0 ≡ (answer (map_of (rows ++ log)) (call.Add key by)).0
+  reply_same = answer_same (pairs_in mid key) (map_of (rows ++ log)) key by (sound_value (rows ++ log) key sound mid of_key (holds_agrees mid rows log key of_key holds) here fit)
 
-pub added_soundly : (told : Option (List Row)) (upper : ℕ) (old new : Cache) (log log' : List Row) (key : List ℕ) (by : ℤ) (F : FetchFault → Type 0) (r : Result Reply TreeFault) → old.bucket ≡ bucket_of key
-    → IsChange told upper old new log log' (call.Add key by) key (λ mid said. said ≡ (answer (pairs_in mid key) (call.Add key by)).0) F r
-    → IfSome told (λ rows. Holds old rows log → IsSound (rows ++ log) → SoundOutcome rows log log' new (call.Add key by) (λ said. said ≡ (answer (map_of (rows ++ log)) (call.Add key by)).0) r)
-added_soundly None upper old new log log' key by F r of_key change = tt
-added_soundly (Some rows) upper old new log log' key by F r of_key change = λ holds sound.
+pub added_soundly : (tells : List Row → Type 0) (upper : ℕ) (old new : Cache) (log log' : List Row) (key : List ℕ) (by : ℤ) (F : FetchFault → Type 0) (r : Result Reply TreeFault) → old.bucket ≡ bucket_of key
+    → IsChange tells upper old new log log' (call.Add key by) (λ mid said. said ≡ (answer (pairs_in mid key) (call.Add key by)).0) F r
+    → (rows : List Row) → Serves tells old rows → Holds old rows log → IsSound (rows ++ log) → SoundOutcome rows log log' new (call.Add key by) (λ said. said ≡ (answer (map_of (rows ++ log)) (call.Add key by)).0) r
+added_soundly tells upper old new log log' key by F r of_key change rows serves holds sound =
     let of_key' = change.loaded.bucket ∙ of_key in
-    let holds' = holds_loaded rows log upper old change.mid change.loaded holds in
-    outcome_soundly rows log log' change.mid new (call.Add key by) key (λ said. said ≡ (answer (pairs_in change.mid key) (call.Add key by)).0) (λ said. said ≡ (answer (map_of (rows ++ log)) (call.Add key by)).0) F holds'
+    let holds' = holds_on_way tells upper rows log old change.mid key of_key sound change.loaded change.on_way serves holds in
+    outcome_soundly rows log log' change.mid new (call.Add key by) (λ said. said ≡ (answer (pairs_in change.mid key) (call.Add key by)).0) (λ said. said ≡ (answer (map_of (rows ++ log)) (call.Add key by)).0) F sound of_key' holds'
     (λ reached. add_same rows log change.mid key by sound of_key' holds' reached.here reached.fit)
-    (λ said reached is. is ∙ reply_same rows log change.mid key by sound of_key' holds' reached.here reached.fit)
-    (sound_fit (rows ++ log) key sound change.mid of_key' (holds_agrees change.mid rows log key of_key' holds')) r change.outcome
+    (λ said reached is. is ∙ reply_same rows log change.mid key by sound of_key' holds' reached.here reached.fit) r change.outcome
 
 -- the same with the number as the call hands it on
-pub added_on : (told : Option (List Row)) (upper : ℕ) (old new : Cache) (log log' : List Row) (key : List ℕ) (z by : ℤ) → z ≡ by → (F : FetchFault → Type 0) (r : Result Reply TreeFault) → old.bucket ≡ bucket_of key
-    → IsChange told upper old new log log' (call.Add key z) key (λ mid said. said ≡ (answer (pairs_in mid key) (call.Add key z)).0) F r
-    → IfSome told (λ rows. Holds old rows log → IsSound (rows ++ log) → SoundOutcome rows log log' new (call.Add key by) (λ said. said ≡ (answer (map_of (rows ++ log)) (call.Add key by)).0) r)
-added_on told upper old new log log' key z by same F r of_key change =
-    subst (λ k. IfSome told (λ rows. Holds old rows log → IsSound (rows ++ log) → SoundOutcome rows log log' new (call.Add key k) (λ said. said ≡ (answer (map_of (rows ++ log)) (call.Add key k)).0) r)) same
-    (added_soundly told upper old new log log' key z F r of_key change)
+pub added_on : (tells : List Row → Type 0) (upper : ℕ) (old new : Cache) (log log' : List Row) (key : List ℕ) (z by : ℤ) → z ≡ by → (F : FetchFault → Type 0) (r : Result Reply TreeFault) → old.bucket ≡ bucket_of key
+    → IsChange tells upper old new log log' (call.Add key z) (λ mid said. said ≡ (answer (pairs_in mid key) (call.Add key z)).0) F r
+    → (rows : List Row) → Serves tells old rows → Holds old rows log → IsSound (rows ++ log) → SoundOutcome rows log log' new (call.Add key by) (λ said. said ≡ (answer (map_of (rows ++ log)) (call.Add key by)).0) r
+added_on tells upper old new log log' key z by same F r of_key change rows serves holds sound =
+    subst (λ k. SoundOutcome rows log log' new (call.Add key k) (λ said. said ≡ (answer (map_of (rows ++ log)) (call.Add key k)).0) r) same
+    (added_soundly tells upper old new log log' key z F r of_key change rows serves holds sound)

@@ -1,7 +1,9 @@
 -- The way down, one node after the other.
-use Rattle.std.proofs.Common.{◌≡◌, ℕ, zero, suc, ◌-◌, ◌<◌, true, false, cond, List, Option, Some, None, Result, Ok, Err, refl, sym, ap, subst, ◌∙◌, arith, slice_get}
+use Rattle.std.proofs.Common.{◌≡◌, ℕ, zero, suc, ◌-◌, ◌<◌, true, false, cond, List, [], ◌∷◌, Option, Some, None, Result, Ok, Err, refl, sym, ap, subst, ◌∙◌, arith, slice_get}
+use Rattle.std.specs.Prelude.{Contains}
 use Rattle.fine_model.specs.declared.FetchFault.{FetchFault}
 use Rattle.fine_model.specs.declared.Row.{Row}
+use Rattle.fine_model.specs.Nodes.{Content}
 use Rattle.fine_model.specs.Paths.{is_inner, place_among, bounds_at, seps_of, kid_at, unfit_from}
 use Rattle.fine_model.specs.Pushed.{leaf_for, child_for}
 use Rattle.fine_model.specs.Trees.{Bounds, is_leaf}
@@ -12,10 +14,11 @@ use Rattle.btree_nodes.specs.declared.descent.Sep.{Sep}
 use Rattle.btree_nodes.specs.declared.descent.Step.{Step}
 use Rattle.btree_nodes.specs.declared.fault.TreeFault.{TreeFault}
 use Rattle.btree_nodes.specs.declared.fault.TreeFault.TheVariants.{Source, Unfit, BucketFull, Number, NoMemory}
-use Rattle.btree_nodes.specs.Given.{given, IsCached, IsLoaded}
+use Rattle.node_cache.specs.Given.{given, IsCached, IsLoaded}
 use Rattle.btree_nodes.specs.Descent.{bound_at, bounds_by, AreKept, IsStep}
 use Rattle.btree_nodes.specs.Descends.{IsWay, IsUnfit, Descends}
-use Rattle.btree_nodes.proofs.Loads.{loaded_given, loaded_kept}
+use Rattle.btree_nodes.specs.Trees.{way, way_from, way_in, LoadsAmong, last_used, AreUsed}
+use Rattle.btree_nodes.proofs.Loads.{loaded_given, loaded_kept, contains_first, contains_one, among_more, among_on}
 
 module _ (b : Cache) (next : ℕ) (key : List ℕ) (bounds : Bounds) (number : ℕ) where
   -- the way ends at a fit leaf
@@ -68,18 +71,68 @@ module _ (b : Cache) (next : ℕ) (key : List ℕ) (low high : Option Sep) (numb
       by (Err NoMemory) h = h
 
 -- a step is one as well once more nodes are loaded
-module _ (told : Option (List Row)) (upper : ℕ) (b c : Cache) (loaded : IsLoaded told upper b c) where
+module _ (tells : List Row → Type 0) (upper : ℕ) (b c : Cache) (loaded : IsLoaded tells upper b c) where
   pub bound_stays : (sep : Option Sep) → AreKept b sep → bound_at (given c) sep ≡ bound_at (given b) sep
   bound_stays None kept = refl
-  bound_stays (Some at) kept = ap (λ n. slice_get (seps_of n.0) at.place) (loaded_given told upper b c loaded at.number kept)
+  bound_stays (Some at) kept = ap (λ n. slice_get (seps_of n.0) at.place) (loaded_given tells upper b c loaded at.number kept)
 
   pub kept_stays : (sep : Option Sep) → AreKept b sep → AreKept c sep
   kept_stays None kept = tt
-  kept_stays (Some at) kept = loaded_kept told upper b c loaded at.number kept
+  kept_stays (Some at) kept = loaded_kept tells upper b c loaded at.number kept
 
   pub step_stays : (next : ℕ) (key : List ℕ) (low high : Option Sep) (number : ℕ) (s : Step) → IsCached b number → AreKept b low → AreKept b high → AreKept b s.low → AreKept b s.high
       → IsStep (given b) next key (bounds_by (given b) low high) (given b number).0 s → IsStep (given c) next key (bounds_by (given c) low high) (given c number).0 s
   step_stays next key low high number s here low_kept high_kept low_kept' high_kept' is =
-      subst (λ n. IsStep (given c) next key (bounds_by (given c) low high) n s) (sym (ap (λ k. k.0) (loaded_given told upper b c loaded number here)))
+      subst (λ n. IsStep (given c) next key (bounds_by (given c) low high) n s) (sym (ap (λ k. k.0) (loaded_given tells upper b c loaded number here)))
       (subst (λ bounds. IsStep (given c) next key bounds (given b number).0 s) (λ i. record { low = sym (bound_stays low low_kept) i; high = sym (bound_stays high high_kept) i })
       (record { good = is.good; number = is.number; small = is.small; within = (λ i. record { low = bound_stays s.low low_kept' i; high = bound_stays s.high high_kept' i }) ∙ is.within }))
+
+-- ---- what was loaded lies on the way
+
+module _ (b c : Cache) (nodes : ℕ → Content) (key : List ℕ) where
+  -- a number lies on the way down from it
+  pub among_first : (height number : ℕ) → LoadsAmong b c (number ∷ []) → LoadsAmong b c (way height nodes key number)
+  unfolding way
+  among_first zero number among = among
+  among_first (suc height) number among =
+      among_more b c (number ∷ []) (way (suc height) nodes key number) (λ n on. subst (Contains (way (suc height) nodes key number)) (sym (contains_one number n on)) (contains_first number _)) among
+
+  pub among_head : (n : Node) → LoadsAmong b c (0 ∷ []) → LoadsAmong b c (way_from nodes key n)
+  among_head (node.Head root next depth) among =
+      among_more b c (0 ∷ []) (0 ∷ way (depth - 1) nodes key root) (λ n on. subst (Contains (0 ∷ way (depth - 1) nodes key root)) (sym (contains_one 0 n on)) (contains_first 0 _)) among
+  among_head (node.Leaf pairs) among = among
+  among_head (node.Inner seps kids) among = among
+  among_head node.Broken among = among
+
+-- a number and then the way down from its child
+pub among_step : (a b c : Cache) (key : List ℕ) (height number kid : ℕ) → 0 < height → kid ≡ kid_at (given c number).0 (place_among key (seps_of (given c number).0)) → LoadsAmong a b (number ∷ []) → LoadsAmong b c (way (height - 1) (given c) key kid) → LoadsAmong a c (way height (given c) key number)
+unfolding way
+among_step a b c key zero number kid above is first rest = absurd (omega arith)
+among_step a b c key (suc height) number kid above is first rest =
+    let e : suc height - 1 ≡ height = omega arith in
+    among_on a b c number (way height (given c) key (kid_at (given c number).0 (place_among key (seps_of (given c number).0)))) first
+    (subst (λ k. LoadsAmong b c (way height (given c) key k)) is (subst (λ h. LoadsAmong b c (way h (given c) key kid)) e rest))
+
+-- ---- what was used
+
+pub used_first : (a b : Cache) (nodes : ℕ → Content) (key : List ℕ) (height number : ℕ) → height ≡ 0 → AreUsed a b (number ∷ []) → AreUsed a b (way height nodes key number)
+unfolding way
+used_first a b nodes key zero number ground first = first
+used_first a b nodes key (suc height) number ground first = absurd (omega arith)
+
+-- one number, and then others
+used_then : (a b c : Cache) (number : ℕ) (rest : List ℕ) → AreUsed a b (number ∷ []) → AreUsed b c rest → AreUsed a c (number ∷ rest)
+used_then a b c number rest first then_rest = then_rest ∙ ap (λ ks. last_used ks rest) first
+
+pub used_step : (a b c : Cache) (key : List ℕ) (height number kid : ℕ) → 0 < height → kid ≡ kid_at (given c number).0 (place_among key (seps_of (given c number).0)) → AreUsed a b (number ∷ [])
+    → AreUsed b c (way (height - 1) (given c) key kid) → AreUsed a c (way height (given c) key number)
+unfolding way
+used_step a b c key zero number kid above is first rest = absurd (omega arith)
+used_step a b c key (suc height) number kid above is first rest =
+    let e : suc height - 1 ≡ height = omega arith in
+    used_then a b c number (way height (given c) key (kid_at (given c number).0 (place_among key (seps_of (given c number).0)))) first
+    (subst (λ k. AreUsed b c (way height (given c) key k)) is (subst (λ h. AreUsed b c (way h (given c) key kid)) e rest))
+
+pub used_under : (a b c : Cache) (key : List ℕ) (root next depth : ℕ) → (given c 0).0 ≡ node.Head root next depth → AreUsed a b (0 ∷ []) → AreUsed b c (way (depth - 1) (given c) key root) → AreUsed a c (way_in c key)
+used_under a b c key root next depth is first rest =
+    subst (λ n. AreUsed a c (way_from (given c) key n)) (sym is) (used_then a b c 0 (way (depth - 1) (given c) key root) first rest)

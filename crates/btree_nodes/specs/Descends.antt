@@ -7,7 +7,7 @@ use Rattle.fine_model.specs.Trees.{Bounds}
 use Rattle.node_cache.specs.Cache.{Cache}
 use Rattle.btree_nodes.specs.declared.fault.TreeFault.{TreeFault}
 use Rattle.btree_nodes.specs.Faults.{OnFault}
-use Rattle.btree_nodes.specs.Given.{given, IsCached}
+use Rattle.node_cache.specs.Given.{given, IsCached}
 
 -- by what a bucket gives, all nodes on the way from a number are fit, and this leaf stands at its end
 pub record IsWay (b : Cache) (height next : ℕ) (key : List ℕ) (bounds : Bounds) (number leaf : ℕ) : Type 0 where

@@ -7,7 +7,7 @@ use Rattle.fine_model.specs.Trees.{Bounds}
 use Rattle.node_cache.specs.Cache.{Cache}
 use Rattle.btree_nodes.specs.declared.descent.Sep.{Sep}
 use Rattle.btree_nodes.specs.declared.descent.Step.{Step}
-use Rattle.btree_nodes.specs.Given.{IsCached}
+use Rattle.node_cache.specs.Given.{IsCached}
 
 -- the separator at a place, which bounds a subtree; no place is no bound
 abbrev pub bound_at : (ℕ → Content) → Option Sep → Option (List ℕ)

@@ -1,5 +1,5 @@
 -- What setting a pair pushes, as the crate has it.
-use Rattle.std.specs.Prelude.{◌≡◌, ℕ, ◌+◌, Bool, if◌then◌else◌, List, [], ◌∷◌, Result, Ok, Err}
+use Rattle.std.specs.Prelude.{◌≡◌, ℕ, ◌+◌, Bool, if◌then◌else◌, List, [], ◌∷◌, Some, Result, Ok, Err}
 use Rattle.fine_model.specs.declared.Node.{Node}
 use Rattle.fine_model.specs.declared.Node.TheVariants as node
 use Rattle.fine_model.specs.declared.Rec.{Rec}
@@ -8,6 +8,8 @@ use Rattle.fine_model.specs.declared.Why.TheVariants as why
 use Rattle.fine_model.specs.Pushed.{Growth as Grown, Push as Pushed, row_of, within_limits}
 use Rattle.btree_nodes.specs.declared.growth.Growth.{Growth}
 use Rattle.btree_nodes.specs.declared.insertion.Push.{Push}
+use Rattle.btree_nodes.specs.declared.tree.Path.{Path}
+use Rattle.btree_nodes.specs.Trees.{first_over}
 use Rattle.btree_nodes.specs.declared.fault.TreeFault.{TreeFault}
 use Rattle.btree_nodes.specs.declared.fault.TreeFault.TheVariants.{BucketFull, Number}
 
@@ -28,9 +30,9 @@ IsNoInner _ = Unit {0}
 abbrev pub pushed_of : Push → Pushed
 pushed_of p = record { rows = p.rows; next = p.next; depth = p.depth }
 
--- what the limits say of rows to be pushed: which of them would be passed
-abbrev pub Limits : Push → Result (Unit {0}) TreeFault → Type 0
-Limits p (Ok u) = within_limits (pushed_of p) ≡ Ok p.rows
-Limits p (Err (BucketFull next depth)) = within_limits (pushed_of p) ≡ Err why.Bucket
-Limits p (Err (Number id)) = within_limits (pushed_of p) ≡ Err why.Number
-Limits p (Err _) = ⊥
+-- what the limits say of rows to be pushed: which of them would be passed, and what the head said before, or the first row that does
+abbrev pub Limits : Push → Path → Result (Unit {0}) TreeFault → Type 0
+Limits p path (Ok u) = within_limits (pushed_of p) ≡ Ok p.rows
+Limits p path (Err (BucketFull next depth)) = (within_limits (pushed_of p) ≡ Err why.Bucket) × (next ≡ path.next) × (depth ≡ path.depth)
+Limits p path (Err (Number id)) = (within_limits (pushed_of p) ≡ Err why.Number) × (first_over p.rows ≡ Some id)
+Limits p path (Err _) = ⊥

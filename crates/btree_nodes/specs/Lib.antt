@@ -1,4 +1,3 @@
-pub mod Given
 pub mod Faults
 pub mod Descent
 pub mod Descends

@@ -2,24 +2,24 @@
 
 ghost use Rattle.std.specs.Prelude.{◌≡◌, ℕ, true, false, ◌++◌, List, IfSome};
 ghost use Rattle.fine_model.specs.declared.Call.TheVariants as call;
+ghost use Rattle.fine_model.specs.declared.Row.{Row as ModelRow};
 ghost use Rattle.fine_model.specs.Map.{has};
 ghost use Rattle.fine_model.specs.NumberText.{number_of};
 ghost use Rattle.fine_model.specs.RowBytes.{FitsKey};
 ghost use Rattle.fine_model.specs.Store.{add_answer, answer};
 ghost use Rattle.fine_model.specs.Trees.{pairs_of, bucket_of, map_of, IsSound};
-ghost use Rattle.btree_nodes.specs.Given.{given, FitsCache, Holds};
-ghost use Rattle.btree_nodes.specs.Trees.{IsPath, pairs_in};
-ghost use Rattle.btree_nodes.specs.Calls.{Outcome, IsChange, SoundOutcome, is_sum};
+ghost use Rattle.node_cache.specs.Given.{given};
+ghost use Rattle.btree_nodes.specs.Trees.{Serves, Holds, IsPath, pairs_in};
+ghost use Rattle.btree_nodes.specs.Calls.{Outcome, IsChange, OnCleanAnswer, SoundOutcome, is_sum};
 
 use crate::change::{next_version, push_row};
 use crate::fault::TreeFault;
 use crate::insertion::put_at;
 use crate::leaf::value_in;
 use crate::removal::bytes_of;
-use crate::source::NodeSource;
 use crate::tree::{Path, find_leaf};
 use fine_model::{NodeId, Rec, Reply, Row, number_of, number_text};
-use node_cache::Bucket;
+use node_cache::{Bucket, NodeSource};
 use private_log::PrivateLog;
 use std::alloc::Global;
 
@@ -46,7 +46,6 @@ fn is_sum(reply: &Reply) -> bool
 
 /// What the store answers where a number is added to a key of a leaf. An absent key counts as 0. It takes no memory.
 fn reply_in(bucket: &Bucket, number: u32, key: &[u8], by: i64) -> Reply
-    requires { FitsCache bucket.now }
     ensures { result ≡ (answer (pairs_of (given bucket.now number).0) (call.Add key.now by)).0 }
 {
     match value_in(bucket, number, key) {
@@ -64,12 +63,10 @@ fn add_at(
     by: i64,
     path: Path,
 ) -> Result<Reply, TreeFault>
-    requires fits { FitsCache bucket.old }
     requires key { FitsKey key.now }
     requires path { IsPath bucket.old key.now path }
     requires there { has (pairs_in bucket.old key.now) key.now ≡ true }
-    ensures fits { FitsCache bucket.new }
-    ensures outcome { Outcome bucket.old bucket.new log.old log.new (call.Add key.now by) key.now (λ reply. reply ≡ (answer (pairs_in bucket.old key.now) (call.Add key.now by)).0) (λ _. ⊥) result }
+    ensures outcome { Outcome bucket.old bucket.new log.old log.new (call.Add key.now by) (λ reply. reply ≡ (answer (pairs_in bucket.old key.now) (call.Add key.now by)).0) (λ _. ⊥) result }
 {
     let reply = reply_in(bucket, path.leaf, key, by);
     if !is_sum(&reply) {
@@ -99,12 +96,10 @@ fn add_new(
     by: i64,
     path: Path,
 ) -> Result<Reply, TreeFault>
-    requires fits { FitsCache bucket.old }
     requires key { FitsKey key.now }
     requires path { IsPath bucket.old key.now path }
     requires absent { has (pairs_in bucket.old key.now) key.now ≡ false }
-    ensures fits { FitsCache bucket.new }
-    ensures outcome { Outcome bucket.old bucket.new log.old log.new (call.Add key.now by) key.now (λ reply. reply ≡ (answer (pairs_in bucket.old key.now) (call.Add key.now by)).0) (λ _. ⊥) result }
+    ensures outcome { Outcome bucket.old bucket.new log.old log.new (call.Add key.now by) (λ reply. reply ≡ (answer (pairs_in bucket.old key.now) (call.Add key.now by)).0) (λ _. ⊥) result }
 {
     let text = number_text(alloc, by)?;
     put_at(alloc, bucket, log, key, text.as_slice(), path)?;
@@ -120,11 +115,9 @@ fn add_in(
     by: i64,
     path: Path,
 ) -> Result<Reply, TreeFault>
-    requires fits { FitsCache bucket.old }
     requires key { FitsKey key.now }
     requires path { IsPath bucket.old key.now path }
-    ensures fits { FitsCache bucket.new }
-    ensures outcome { Outcome bucket.old bucket.new log.old log.new (call.Add key.now by) key.now (λ reply. reply ≡ (answer (pairs_in bucket.old key.now) (call.Add key.now by)).0) (λ _. ⊥) result }
+    ensures outcome { Outcome bucket.old bucket.new log.old log.new (call.Add key.now by) (λ reply. reply ≡ (answer (pairs_in bucket.old key.now) (call.Add key.now by)).0) (λ _. ⊥) result }
 {
     if value_in(bucket, path.leaf, key).is_some() {
         add_at(alloc, bucket, log, key, by, path)
@@ -144,12 +137,9 @@ fn add_key<S: NodeSource>(
 ) -> Result<Reply, TreeFault>
     requires bucket { bucket.old.bucket ≡ bucket_of key.now }
     requires key { FitsKey key.now }
-    requires fits { FitsCache bucket.old }
-    ensures rows { S.rows source.new ≡ S.rows source.old }
-    ensures upper { S.upper source.new ≡ S.upper source.old }
     ensures later { S.later source.old source.new }
-    ensures fits { FitsCache bucket.new }
-    ensures change { IsChange (S.rows source.old) (S.upper source.old) bucket.old bucket.new log.old log.new (call.Add key.now by) key.now (λ mid reply. reply ≡ (answer (pairs_in mid key.now) (call.Add key.now by)).0) (λ failed. S.fails source.old failed source.new) result }
+    ensures clean { OnCleanAnswer result (S.clean source.old source.new) }
+    ensures change { IsChange (S.tells source.old) (S.upper source.old) bucket.old bucket.new log.old log.new (call.Add key.now by) (λ mid reply. reply ≡ (answer (pairs_in mid key.now) (call.Add key.now by)).0) (λ failed. S.fails source.old failed source.new) result }
 {
     let path = find_leaf(source, bucket, key)?;
     add_in(alloc, bucket, log, key, by, path)
@@ -169,14 +159,10 @@ pub fn add_to<S: NodeSource>(
 ) -> Result<Reply, TreeFault>
     requires bucket { bucket.old.bucket ≡ bucket_of key.now }
     requires key { FitsKey key.now }
-    requires fits { FitsCache bucket.old }
-    ensures rows { S.rows source.new ≡ S.rows source.old }
-    ensures upper { S.upper source.new ≡ S.upper source.old }
     ensures later { S.later source.old source.new }
-    ensures bucket { bucket.new.bucket ≡ bucket.old.bucket }
-    ensures fits { FitsCache bucket.new }
-    ensures change { IsChange (S.rows source.old) (S.upper source.old) bucket.old bucket.new log.old log.new (call.Add key.now by) key.now (λ mid reply. reply ≡ (answer (pairs_in mid key.now) (call.Add key.now by)).0) (λ failed. S.fails source.old failed source.new) result }
-    ensures sound { IfSome (S.rows source.old) (λ told. Holds bucket.old told log.old → IsSound (told ++ log.old) → SoundOutcome told log.old log.new bucket.new (call.Add key.now by) (λ reply. reply ≡ (answer (map_of (told ++ log.old)) (call.Add key.now by)).0) result) }
+    ensures clean { OnCleanAnswer result (S.clean source.old source.new) }
+    ensures change { IsChange (S.tells source.old) (S.upper source.old) bucket.old bucket.new log.old log.new (call.Add key.now by) (λ mid reply. reply ≡ (answer (pairs_in mid key.now) (call.Add key.now by)).0) (λ failed. S.fails source.old failed source.new) result }
+    ensures sound { (rows : List ModelRow) → Serves (S.tells source.old) bucket.old rows → Holds bucket.old rows log.old → IsSound (rows ++ log.old) → SoundOutcome rows log.old log.new bucket.new (call.Add key.now by) (λ reply. reply ≡ (answer (map_of (rows ++ log.old)) (call.Add key.now by)).0) result }
 {
     add_key(alloc, source, bucket, log, key, by)
 }

@@ -5,7 +5,7 @@ ghost use Rattle.std.specs.List.{AllByRecursion};
 ghost use Rattle.fine_model.specs.Nodes.{step};
 ghost use Rattle.fine_model.specs.RowBytes.{FitsRec, greatest};
 ghost use Rattle.node_cache.specs.Cache.{cached, IsSaved};
-ghost use Rattle.btree_nodes.specs.Given.{given, IsCached, FitsCache};
+ghost use Rattle.node_cache.specs.Given.{given, IsCached};
 ghost use Rattle.btree_nodes.specs.Changes.{Saves, Pushes, IsChanged, HoldsPlace, IsReady, AreReady};
 ghost use Rattle.btree_nodes.specs.declared.fault.TreeFault.TheVariants as fault_of;
 
@@ -20,7 +20,7 @@ use std::alloc::Global;
 pub const GREATEST: u64 = 4_611_686_018_427_387_904;
 
 /// The version that the next row of a cached node has. `Number` comes exactly where it would pass the limit.
-#[tactic(auto, unfolding(crate::specs::Given::given))]
+#[tactic(auto, unfolding(node_cache::specs::Given::given))]
 pub fn next_version(bucket: &Bucket, number: u32) -> Result<u64, TreeFault>
     ensures { MatchResult result (λ version. (version ≡ (given bucket.now number).1 + 1) × (version ≤ greatest)) (λ fault. (fault ≡ fault_of.Number (record { bucket = bucket.now.bucket; number = number })) × (greatest < (given bucket.now number).1 + 1)) }
 {
@@ -44,7 +44,6 @@ pub fn next_version(bucket: &Bucket, number: u32) -> Result<u64, TreeFault>
 fn change(alloc: Global, bucket: &mut Bucket, row: &Row) -> Result<(), NoMemory>
     requires saved { IsSaved bucket.old row.now.node.number }
     requires there { IsCached bucket.old row.now.node.number }
-    requires fits { FitsCache bucket.old }
     requires rec { FitsRec row.now.rec }
     requires version { row.now.version ≤ greatest }
     ensures ok { OnOk result (IsChanged bucket.old bucket.new row.now) }
@@ -66,10 +65,8 @@ pub fn push_row(
 ) -> Result<(), NoMemory>
     requires of_bucket { row.now.node.bucket ≡ bucket.old.bucket }
     requires there { IsCached bucket.old row.now.node.number }
-    requires fits { FitsCache bucket.old }
     requires rec { FitsRec row.now.rec }
     requires version { row.now.version ≤ greatest }
-    ensures fits { FitsCache bucket.new }
     ensures saves { Saves bucket.old bucket.new }
     ensures pushes { OnOk result (Pushes bucket.old bucket.new (row.now ∷ [])) }
     ensures log { OnOk result (log.new ≡ log.old ++ row.now ∷ []) }
@@ -81,8 +78,6 @@ pub fn push_row(
 
 /// Caches a broken node under a number where none is cached, to be replaced by an image.
 fn hold_place(bucket: &mut Bucket, number: u32) -> Result<(), NoMemory>
-    requires fits { FitsCache bucket.old }
-    ensures fits { FitsCache bucket.new }
     ensures saves { Saves bucket.old bucket.new }
     ensures held { OnOk result (HoldsPlace bucket.old bucket.new number) }
 {
@@ -107,10 +102,8 @@ pub fn push_any(
 ) -> Result<(), NoMemory>
     requires of_bucket { row.now.node.bucket ≡ bucket.old.bucket }
     requires ready { IsReady (IsCached bucket.old) row.now }
-    requires fits { FitsCache bucket.old }
     requires rec { FitsRec row.now.rec }
     requires version { row.now.version ≤ greatest }
-    ensures fits { FitsCache bucket.new }
     ensures saves { Saves bucket.old bucket.new }
     ensures pushes { OnOk result (Pushes bucket.old bucket.new (row.now ∷ [])) }
     ensures there { OnOk result (IsCached bucket.new row.now.node.number) }
@@ -129,9 +122,7 @@ pub fn push_all(
 ) -> Result<(), NoMemory>
     requires of_bucket { AllByRecursion (λ row. row.node.bucket ≡ bucket.old.bucket) rows.now }
     requires ready { AreReady (IsCached bucket.old) rows.now }
-    requires fits { FitsCache bucket.old }
     requires recs { AllByRecursion (λ row. FitsRec row.rec × (row.version ≤ greatest)) rows.now }
-    ensures fits { FitsCache bucket.new }
     ensures saves { Saves bucket.old bucket.new }
     ensures pushes { OnOk result (Pushes bucket.old bucket.new rows.now) }
     ensures log { OnOk result (log.new ≡ log.old ++ rows.now) }

@@ -1,6 +1,6 @@
 //! The way down a tree. Each node on it is tested before the next one is looked at.
 
-ghost use Rattle.std.specs.Prelude.{◌≡◌, ◌≢◌, ℕ, ◌+◌, ◌==◌, ◌<◌, ◌≤◌, nat_lt, Bool, true, false, not, ◌&&◌, IsTrue, List, filter, map, length, Option, Some, None, option_copied, is_some, slice_get, OnOk, OnErr, IfErr, IfSome, MatchOption};
+ghost use Rattle.std.specs.Prelude.{◌≡◌, ◌≢◌, ℕ, ◌+◌, ◌==◌, ◌<◌, ◌≤◌, nat_lt, Bool, true, false, not, ◌&&◌, IsTrue, List, [], ◌∷◌, filter, map, length, Option, Some, None, option_copied, is_some, slice_get, OnOk, OnErr, IfErr, IfSome, MatchOption};
 ghost use Rattle.std.specs.List.{list_all, AllByRecursion};
 ghost use Rattle.fine_model.specs.declared.Node.{Node as ModelNode};
 ghost use Rattle.fine_model.specs.declared.Node.TheVariants as node;
@@ -9,15 +9,16 @@ ghost use Rattle.fine_model.specs.Paths.{is_inner, place_among};
 ghost use Rattle.fine_model.specs.Trees.{is_leaf, is_from, is_above, is_up_to, is_key_within, are_separators, bucket_of};
 ghost use Rattle.fine_model.specs.RowBytes.{FitsKey, FitsPair};
 ghost use Rattle.node_record.specs.Bounds.{FitsNode};
-ghost use Rattle.btree_nodes.specs.Given.{given, IsCached, FitsCache, IsLoaded};
+ghost use Rattle.node_cache.specs.Given.{given, IsCached, IsLoaded};
 ghost use Rattle.btree_nodes.specs.Faults.{OnFault};
+ghost use Rattle.btree_nodes.specs.Calls.{OnCleanAnswer};
+ghost use Rattle.btree_nodes.specs.Trees.{way, LoadsAmong, AreUsed};
 ghost use Rattle.btree_nodes.specs.Descends.{Descends};
 ghost use Rattle.btree_nodes.specs.Descent.{bound_at, bounds_by, low_of, high_of, IsStep, AreKept};
 
 use crate::fault::TreeFault;
-use crate::source::NodeSource;
 use fine_model::{Bytes, Keys, Kids, Node, NodeId, Pairs, bucket_of};
-use node_cache::Bucket;
+use node_cache::{Bucket, NodeSource};
 
 /// The place of a separator in a cached node. It is the bound of a subtree.
 #[derive(Clone, Copy, Debug)]
@@ -155,7 +156,7 @@ pub fn place_among(seps: &Keys, key: &[u8]) -> usize
 }
 
 /// The separator at a place. No place is no bound.
-#[tactic(auto, unfolding(crate::specs::Given::given))]
+#[tactic(auto, unfolding(node_cache::specs::Given::given))]
 pub fn bound(bucket: &Bucket, at: Option<Sep>) -> Option<&Bytes>
     ensures { option_copied result ≡ bound_at (given bucket.now) at }
 {
@@ -188,7 +189,7 @@ pub fn high_bound(number: u32, place: usize, many: usize, high: Option<Sep>) -> 
 }
 
 /// One step down from a node that is cached: the child in which a key belongs. None exactly where the node is not fit.
-#[tactic(auto, unfolding(crate::specs::Given::given))]
+#[tactic(auto, unfolding(node_cache::specs::Given::given))]
 fn step_down(
     bucket: &Bucket,
     next: u32,
@@ -197,7 +198,6 @@ fn step_down(
     high: Option<Sep>,
     number: u32,
 ) -> Option<Step>
-    requires fits { FitsCache bucket.now }
     requires low { AreKept bucket.now low }
     requires high { AreKept bucket.now high }
     ensures step { MatchOption result (is_inner (bounds_by (given bucket.now) low high) next (given bucket.now number).0 ≡ false) (IsStep (given bucket.now) next key.now (bounds_by (given bucket.now) low high) (given bucket.now number).0) }
@@ -227,10 +227,11 @@ pub fn reach<S: NodeSource>(
 ) -> Result<(), TreeFault>
     requires bucket { bucket.old.bucket < 256 }
     requires number { number < 1048576 }
-    ensures rows { S.rows source.new ≡ S.rows source.old }
-    ensures upper { S.upper source.new ≡ S.upper source.old }
     ensures later { S.later source.old source.new }
-    ensures loaded { IsLoaded (S.rows source.old) (S.upper source.old) bucket.old bucket.new }
+    ensures clean { OnCleanAnswer result (S.clean source.old source.new) }
+    ensures loaded { IsLoaded (S.tells source.old) (S.upper source.old) bucket.old bucket.new }
+    ensures among { LoadsAmong bucket.old bucket.new (number ∷ []) }
+    ensures used { OnOk result (AreUsed bucket.old bucket.new (number ∷ [])) }
     ensures there { OnOk result (IsCached bucket.new number) }
     ensures err { IfErr result (λ fault. OnFault fault (λ failed. S.fails source.old failed source.new) (λ _. ⊥) ⊥) }
 {
@@ -244,9 +245,8 @@ pub fn reach<S: NodeSource>(
 }
 
 /// Whether a cached node is a fit leaf.
-#[tactic(auto, unfolding(crate::specs::Given::given))]
+#[tactic(auto, unfolding(node_cache::specs::Given::given))]
 pub fn is_leaf_within(bucket: &Bucket, low: Option<Sep>, high: Option<Sep>, number: u32) -> bool
-    requires fits { FitsCache bucket.now }
     ensures { result ≡ is_leaf bucket.now.bucket (bounds_by (given bucket.now) low high) (given bucket.now number).0 }
 {
     match bucket.peek(number) {
@@ -274,13 +274,13 @@ pub fn descend<S: NodeSource>(
     requires bucket { bucket.old.bucket < 256 }
     requires next { next ≤ 1048576 }
     requires number { number < next }
-    requires fits { FitsCache bucket.old }
     requires low { AreKept bucket.old low }
     requires high { AreKept bucket.old high }
-    ensures rows { S.rows source.new ≡ S.rows source.old }
-    ensures upper { S.upper source.new ≡ S.upper source.old }
     ensures later { S.later source.old source.new }
-    ensures loaded { IsLoaded (S.rows source.old) (S.upper source.old) bucket.old bucket.new }
+    ensures clean { OnCleanAnswer result (S.clean source.old source.new) }
+    ensures loaded { IsLoaded (S.tells source.old) (S.upper source.old) bucket.old bucket.new }
+    ensures on_way { LoadsAmong bucket.old bucket.new (way height (given bucket.new) key.now number) }
+    ensures used { OnOk result (AreUsed bucket.old bucket.new (way height (given bucket.new) key.now number)) }
     ensures way { Descends bucket.new height next key.now (bounds_by (given bucket.new) low high) number (λ failed. S.fails source.old failed source.new) result }
 {
     reach(source, bucket, number)?;

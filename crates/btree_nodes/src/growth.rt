@@ -8,7 +8,7 @@ ghost use Rattle.fine_model.specs.Trees.{pairs_of};
 ghost use Rattle.fine_model.specs.declared.Node.TheVariants as node;
 ghost use Rattle.fine_model.specs.declared.Rec.TheVariants as rec;
 ghost use Rattle.node_record.specs.Bounds.{FitsNode};
-ghost use Rattle.btree_nodes.specs.Given.{given, FitsCache};
+ghost use Rattle.node_cache.specs.Given.{given};
 ghost use Rattle.btree_nodes.specs.Growths.{grown_of, split_rows, IsNoInner};
 
 use crate::descent::{is_below, place_among};
@@ -53,9 +53,8 @@ fn copy_all<T: Copied + Drop>(alloc: Global, items: &[T]) -> Result<Items<T>, No
 }
 
 /// The version of a cached node. 0 where it is not cached.
-#[tactic(auto, unfolding(crate::specs::Given::given))]
+#[tactic(auto, unfolding(node_cache::specs::Given::given))]
 pub fn version_of(bucket: &Bucket, number: u32) -> u64
-    requires { FitsCache bucket.now }
     ensures is { result ≡ (given bucket.now number).1 }
     ensures small { result ≤ greatest }
 {
@@ -66,9 +65,8 @@ pub fn version_of(bucket: &Bucket, number: u32) -> u64
 }
 
 /// The pairs of a cached leaf in which a key has no room: it is absent, and there are 32 others.
-#[tactic(auto, unfolding(crate::specs::Given::given, fine_model::specs::Map::get))]
+#[tactic(auto, unfolding(node_cache::specs::Given::given, fine_model::specs::Map::get))]
 fn full_leaf<'a>(bucket: &'a Bucket, number: u32, key: &[u8]) -> Option<&'a Pairs>
-    requires { FitsCache bucket.now }
     ensures full { MatchOption result ((has (pairs_of (given bucket.now number).0) key.now || nat_lt (length (pairs_of (given bucket.now number).0)) 32) ≡ true) (λ pairs. (pairs.now ≡ pairs_of (given bucket.now number).0) × ((has pairs.now key.now || nat_lt (length pairs.now) 32) ≡ false)) }
 {
     match &bucket.peek(number)?.node {
@@ -78,9 +76,8 @@ fn full_leaf<'a>(bucket: &'a Bucket, number: u32, key: &[u8]) -> Option<&'a Pair
 }
 
 /// The separators and children of a cached inner node.
-#[tactic(auto, unfolding(crate::specs::Given::given))]
+#[tactic(auto, unfolding(node_cache::specs::Given::given))]
 fn inner_of(bucket: &Bucket, number: u32) -> Option<(&Keys, &Kids)>
-    requires { FitsCache bucket.now }
     ensures is { MatchOption result (IsNoInner (given bucket.now number).0) (λ inner. (given bucket.now number).0 ≡ node.Inner inner.0.now inner.1.now) }
     ensures fits { IfSome result (λ inner. FitsNode (node.Inner inner.0.now inner.1.now)) }
 {
@@ -209,7 +206,6 @@ fn grow_leaf(
     value: &[u8],
     number: u32,
 ) -> Result<Growth, NoMemory>
-    requires fits { FitsCache bucket.now }
     requires next { next ≤ 1048600 }
     ensures grown { IfOk result (λ g. grown_of g ≡ grown_leaf bucket.now.bucket number (given bucket.now number).1 next (key.now, value.now) (pairs_of (given bucket.now number).0)) }
     ensures next { IfOk result (λ g. g.next ≤ next + 1) }
@@ -302,7 +298,6 @@ fn grow_inner(
     number: u32,
     below: Growth,
 ) -> Result<Growth, NoMemory>
-    requires fits { FitsCache bucket.now }
     requires next { below.next ≤ 1048600 }
     ensures grown { IfOk result (λ g. grown_of g ≡ grown_inner bucket.now.bucket number (given bucket.now number).1 (given bucket.now number).0 below.rows below.next below.split) }
     ensures next { IfOk result (λ g. g.next ≤ below.next + 1) }
@@ -335,7 +330,6 @@ fn grow_inner(
 
 /// The child of a cached node in which a key belongs. A node that is no inner one has child 0.
 fn child_for(bucket: &Bucket, number: u32, key: &[u8]) -> u32
-    requires { FitsCache bucket.now }
     ensures { result ≡ child_for key.now (given bucket.now number).0 }
 {
     match inner_of(bucket, number) {
@@ -355,7 +349,6 @@ pub fn grow(
     number: u32,
     height: u8,
 ) -> Result<Growth, NoMemory>
-    requires fits { FitsCache bucket.now }
     requires next { next + height ≤ 1048590 }
     ensures grown { IfOk result (λ g. grown_of g ≡ growth height bucket.now.bucket (given bucket.now) next (key.now, value.now) number) }
     ensures next { IfOk result (λ g. g.next ≤ next + height + 1) }

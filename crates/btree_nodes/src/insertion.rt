@@ -1,24 +1,24 @@
 //! Setting a key in a tree.
 
-ghost use Rattle.std.specs.Prelude.{◌≡◌, ℕ, ◌+◌, ◌<◌, ◌≤◌, nat_lt, true, false, [], ◌∷◌, ◌++◌, List, IfOk, IfSome, MatchOption};
+ghost use Rattle.std.specs.Prelude.{◌≡◌, ℕ, ◌+◌, ◌<◌, ◌≤◌, nat_lt, true, false, [], ◌∷◌, ◌++◌, List, IfOk, is_some};
 ghost use Rattle.std.specs.List.{list_any};
 ghost use Rattle.fine_model.specs.declared.Call.TheVariants as call;
+ghost use Rattle.fine_model.specs.declared.Row.{Row as ModelRow};
 ghost use Rattle.fine_model.specs.declared.Rec.TheVariants as rec;
 ghost use Rattle.fine_model.specs.Pushed.{with_head, within_limits};
 ghost use Rattle.fine_model.specs.RowBytes.{FitsKey, FitsValue, greatest};
 ghost use Rattle.fine_model.specs.Trees.{bucket_of, IsSound};
-ghost use Rattle.btree_nodes.specs.Given.{given, FitsCache, Holds};
-ghost use Rattle.btree_nodes.specs.Trees.{IsPath};
+ghost use Rattle.node_cache.specs.Given.{given};
+ghost use Rattle.btree_nodes.specs.Trees.{Serves, Holds, IsPath, first_over};
 ghost use Rattle.btree_nodes.specs.Growths.{pushed_of, Limits};
-ghost use Rattle.btree_nodes.specs.Calls.{Outcome, IsChange, SoundOutcome};
+ghost use Rattle.btree_nodes.specs.Calls.{Outcome, IsChange, OnCleanAnswer, SoundOutcome};
 
 use crate::change::{GREATEST, push_all};
 use crate::fault::TreeFault;
 use crate::growth::{Growth, grow, row_of, version_of};
-use crate::source::NodeSource;
 use crate::tree::{Path, find_leaf};
 use fine_model::{Bytes, Items, NoMemory, NodeId, Rec, Row, Rows};
-use node_cache::Bucket;
+use node_cache::{Bucket, NodeSource};
 use private_log::PrivateLog;
 use std::alloc::Global;
 
@@ -96,7 +96,8 @@ fn with_head(
 
 /// The node of the first row whose version passes the limit.
 fn first_over(rows: &[Row]) -> Option<NodeId>
-    ensures { MatchOption result (list_any (λ row. nat_lt greatest row.version) rows.now ≡ false) (λ _. list_any (λ row. nat_lt greatest row.version) rows.now ≡ true) }
+    ensures first { result ≡ first_over rows.now }
+    ensures none { is_some result ≡ list_any (λ row. nat_lt greatest row.version) rows.now }
 {
     match rows {
         [row, rest @ ..] => {
@@ -113,7 +114,7 @@ fn first_over(rows: &[Row]) -> Option<NodeId>
 /// Tests the limits of a bucket's numbers and depth, and then those of versions. `BucketFull` says what the head says before.
 #[tactic(auto, unfolding(fine_model::specs::Pushed::within_limits))]
 fn test_limits(push: &Push, path: Path) -> Result<(), TreeFault>
-    ensures { Limits push.now result }
+    ensures { Limits push.now path result }
 {
     if push.next > MOST_NUMBERS || push.depth > GREATEST_DEPTH {
         return Err(TreeFault::BucketFull {
@@ -136,12 +137,10 @@ pub fn put_at(
     value: &[u8],
     path: Path,
 ) -> Result<(), TreeFault>
-    requires fits { FitsCache bucket.old }
     requires key { FitsKey key.now }
     requires value { FitsValue value.now }
     requires path { IsPath bucket.old key.now path }
-    ensures fits { FitsCache bucket.new }
-    ensures outcome { Outcome bucket.old bucket.new log.old log.new (call.Put key.now value.now) key.now (λ _. Unit {0}) (λ _. ⊥) result }
+    ensures outcome { Outcome bucket.old bucket.new log.old log.new (call.Put key.now value.now) (λ _. Unit {0}) (λ _. ⊥) result }
 {
     let below = grow(
         alloc,
@@ -170,12 +169,9 @@ fn put_key<S: NodeSource>(
     requires bucket { bucket.old.bucket ≡ bucket_of key.now }
     requires key { FitsKey key.now }
     requires value { FitsValue value.now }
-    requires fits { FitsCache bucket.old }
-    ensures rows { S.rows source.new ≡ S.rows source.old }
-    ensures upper { S.upper source.new ≡ S.upper source.old }
     ensures later { S.later source.old source.new }
-    ensures fits { FitsCache bucket.new }
-    ensures change { IsChange (S.rows source.old) (S.upper source.old) bucket.old bucket.new log.old log.new (call.Put key.now value.now) key.now (λ _ _. Unit {0}) (λ failed. S.fails source.old failed source.new) result }
+    ensures clean { OnCleanAnswer result (S.clean source.old source.new) }
+    ensures change { IsChange (S.tells source.old) (S.upper source.old) bucket.old bucket.new log.old log.new (call.Put key.now value.now) (λ _ _. Unit {0}) (λ failed. S.fails source.old failed source.new) result }
 {
     let path = find_leaf(source, bucket, key)?;
     put_at(alloc, bucket, log, key, value, path)
@@ -198,14 +194,10 @@ pub fn insert<S: NodeSource>(
     requires bucket { bucket.old.bucket ≡ bucket_of key.now }
     requires key { FitsKey key.now }
     requires value { FitsValue value.now }
-    requires fits { FitsCache bucket.old }
-    ensures rows { S.rows source.new ≡ S.rows source.old }
-    ensures upper { S.upper source.new ≡ S.upper source.old }
     ensures later { S.later source.old source.new }
-    ensures bucket { bucket.new.bucket ≡ bucket.old.bucket }
-    ensures fits { FitsCache bucket.new }
-    ensures change { IsChange (S.rows source.old) (S.upper source.old) bucket.old bucket.new log.old log.new (call.Put key.now value.now) key.now (λ _ _. Unit {0}) (λ failed. S.fails source.old failed source.new) result }
-    ensures sound { IfSome (S.rows source.old) (λ told. Holds bucket.old told log.old → IsSound (told ++ log.old) → SoundOutcome told log.old log.new bucket.new (call.Put key.now value.now) (λ _. Unit {0}) result) }
+    ensures clean { OnCleanAnswer result (S.clean source.old source.new) }
+    ensures change { IsChange (S.tells source.old) (S.upper source.old) bucket.old bucket.new log.old log.new (call.Put key.now value.now) (λ _ _. Unit {0}) (λ failed. S.fails source.old failed source.new) result }
+    ensures sound { (rows : List ModelRow) → Serves (S.tells source.old) bucket.old rows → Holds bucket.old rows log.old → IsSound (rows ++ log.old) → SoundOutcome rows log.old log.new bucket.new (call.Put key.now value.now) (λ _. Unit {0}) result }
 {
     put_key(alloc, source, bucket, log, key, value)
 }

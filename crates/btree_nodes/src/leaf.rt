@@ -5,7 +5,7 @@ ghost use Rattle.fine_model.specs.Map.{get, is_ascending};
 ghost use Rattle.fine_model.specs.Trees.{pairs_of};
 ghost use Rattle.node_record.specs.Bounds.{FitsNode};
 ghost use Rattle.node_record.specs.Places.{StandsAt, BelongsAt};
-ghost use Rattle.btree_nodes.specs.Given.{given, FitsCache};
+ghost use Rattle.node_cache.specs.Given.{given};
 
 use crate::descent::is_below;
 use fine_model::{Bytes, Copied, NoMemory, Node, Pairs};
@@ -38,9 +38,8 @@ pub fn value_of<'a>(pairs: &'a Pairs, key: &[u8]) -> Option<&'a Bytes>
 }
 
 /// The value of a key in a cached leaf. A node that is no leaf has none.
-#[tactic(auto, unfolding(crate::specs::Given::given, fine_model::specs::Map::get))]
+#[tactic(auto, unfolding(node_cache::specs::Given::given, fine_model::specs::Map::get))]
 pub fn value_in<'a>(bucket: &'a Bucket, number: u32, key: &[u8]) -> Option<&'a Bytes>
-    requires { FitsCache bucket.now }
     ensures { option_copied result ≡ get (pairs_of (given bucket.now number).0) key.now }
 {
     match &bucket.peek(number)?.node {

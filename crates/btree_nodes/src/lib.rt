@@ -10,7 +10,6 @@ mod insertion;
 mod leaf;
 mod removal;
 mod scanning;
-mod source;
 #[cfg(test)]
 mod tests;
 mod tree;
@@ -20,5 +19,4 @@ pub use fault::TreeFault;
 pub use insertion::insert;
 pub use removal::remove;
 pub use scanning::scan;
-pub use source::NodeSource;
 pub use tree::find;

@@ -2,20 +2,20 @@
 
 ghost use Rattle.std.specs.Prelude.{◌≡◌, ℕ, ◌<◌, ◌≤◌, ◌++◌, [], ◌∷◌, List, IfOk, IfSome, Some, None, is_some};
 ghost use Rattle.fine_model.specs.declared.Call.TheVariants as call;
+ghost use Rattle.fine_model.specs.declared.Row.{Row as ModelRow};
 ghost use Rattle.fine_model.specs.Map.{has};
 ghost use Rattle.fine_model.specs.RowBytes.{FitsKey};
 ghost use Rattle.fine_model.specs.Trees.{bucket_of, map_of, IsSound};
-ghost use Rattle.btree_nodes.specs.Given.{given, IsCached, FitsCache, Holds};
-ghost use Rattle.btree_nodes.specs.Trees.{IsPath, pairs_in};
-ghost use Rattle.btree_nodes.specs.Calls.{Outcome, IsChange, SoundOutcome};
+ghost use Rattle.node_cache.specs.Given.{given, IsCached};
+ghost use Rattle.btree_nodes.specs.Trees.{Serves, Holds, IsPath, pairs_in};
+ghost use Rattle.btree_nodes.specs.Calls.{Outcome, IsChange, OnCleanAnswer, SoundOutcome};
 
 use crate::change::{next_version, push_row};
 use crate::fault::TreeFault;
 use crate::leaf::value_in;
-use crate::source::NodeSource;
 use crate::tree::{Path, find_leaf};
 use fine_model::{Bytes, Items, NoMemory, NodeId, Rec, Row};
-use node_cache::Bucket;
+use node_cache::{Bucket, NodeSource};
 use private_log::PrivateLog;
 use std::alloc::Global;
 
@@ -34,11 +34,9 @@ fn remove_at(
     key: &[u8],
     path: Path,
 ) -> Result<bool, TreeFault>
-    requires fits { FitsCache bucket.old }
     requires key { FitsKey key.now }
     requires path { IsPath bucket.old key.now path }
-    ensures fits { FitsCache bucket.new }
-    ensures outcome { Outcome bucket.old bucket.new log.old log.new (call.Del key.now) key.now (λ there. there ≡ has (pairs_in bucket.old key.now) key.now) (λ _. ⊥) result }
+    ensures outcome { Outcome bucket.old bucket.new log.old log.new (call.Del key.now) (λ there. there ≡ has (pairs_in bucket.old key.now) key.now) (λ _. ⊥) result }
 {
     if value_in(bucket, path.leaf, key).is_none() {
         return Ok(false);
@@ -67,12 +65,9 @@ fn remove_key<S: NodeSource>(
 ) -> Result<bool, TreeFault>
     requires bucket { bucket.old.bucket ≡ bucket_of key.now }
     requires key { FitsKey key.now }
-    requires fits { FitsCache bucket.old }
-    ensures rows { S.rows source.new ≡ S.rows source.old }
-    ensures upper { S.upper source.new ≡ S.upper source.old }
     ensures later { S.later source.old source.new }
-    ensures fits { FitsCache bucket.new }
-    ensures change { IsChange (S.rows source.old) (S.upper source.old) bucket.old bucket.new log.old log.new (call.Del key.now) key.now (λ mid there. there ≡ has (pairs_in mid key.now) key.now) (λ failed. S.fails source.old failed source.new) result }
+    ensures clean { OnCleanAnswer result (S.clean source.old source.new) }
+    ensures change { IsChange (S.tells source.old) (S.upper source.old) bucket.old bucket.new log.old log.new (call.Del key.now) (λ mid there. there ≡ has (pairs_in mid key.now) key.now) (λ failed. S.fails source.old failed source.new) result }
 {
     let path = find_leaf(source, bucket, key)?;
     remove_at(alloc, bucket, log, key, path)
@@ -91,14 +86,10 @@ pub fn remove<S: NodeSource>(
 ) -> Result<bool, TreeFault>
     requires bucket { bucket.old.bucket ≡ bucket_of key.now }
     requires key { FitsKey key.now }
-    requires fits { FitsCache bucket.old }
-    ensures rows { S.rows source.new ≡ S.rows source.old }
-    ensures upper { S.upper source.new ≡ S.upper source.old }
     ensures later { S.later source.old source.new }
-    ensures bucket { bucket.new.bucket ≡ bucket.old.bucket }
-    ensures fits { FitsCache bucket.new }
-    ensures change { IsChange (S.rows source.old) (S.upper source.old) bucket.old bucket.new log.old log.new (call.Del key.now) key.now (λ mid there. there ≡ has (pairs_in mid key.now) key.now) (λ failed. S.fails source.old failed source.new) result }
-    ensures sound { IfSome (S.rows source.old) (λ told. Holds bucket.old told log.old → IsSound (told ++ log.old) → SoundOutcome told log.old log.new bucket.new (call.Del key.now) (λ there. there ≡ has (map_of (told ++ log.old)) key.now) result) }
+    ensures clean { OnCleanAnswer result (S.clean source.old source.new) }
+    ensures change { IsChange (S.tells source.old) (S.upper source.old) bucket.old bucket.new log.old log.new (call.Del key.now) (λ mid there. there ≡ has (pairs_in mid key.now) key.now) (λ failed. S.fails source.old failed source.new) result }
+    ensures sound { (rows : List ModelRow) → Serves (S.tells source.old) bucket.old rows → Holds bucket.old rows log.old → IsSound (rows ++ log.old) → SoundOutcome rows log.old log.new bucket.new (call.Del key.now) (λ there. there ≡ has (map_of (rows ++ log.old)) key.now) result }
 {
     remove_key(alloc, source, bucket, log, key)
 }

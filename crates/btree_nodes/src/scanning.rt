@@ -1,25 +1,25 @@
 //! The pairs of a range of keys in a tree, from left to right.
 
-ghost use Rattle.std.specs.Prelude.{◌≡◌, ◌≢◌, ℕ, ◌-◌, ◌<◌, ◌≤◌, ◌++◌, List, length, take, None, OnOk, IfOk, IfErr, IfSome, MatchOption, option_copied, slice_get, true, not, ◌&&◌};
+ghost use Rattle.std.specs.Prelude.{◌≡◌, ◌≢◌, ℕ, ◌-◌, ◌<◌, ◌≤◌, ◌++◌, List, length, take, None, OnOk, OnErr, IfOk, IfErr, IfSome, MatchOption, option_copied, slice_get, true, not, ◌&&◌};
 ghost use Rattle.fine_model.specs.declared.Row.{Row as ModelRow};
 ghost use Rattle.fine_model.specs.Map.{is_below, between};
 ghost use Rattle.fine_model.specs.Paths.{meets, is_inner, seps_of};
 ghost use Rattle.fine_model.specs.Trees.{kids_of, pairs_of, tree_map, IsSound};
-ghost use Rattle.btree_nodes.specs.Given.{given, IsCached, FitsCache, IsLoaded, Holds};
+ghost use Rattle.node_cache.specs.Given.{given, IsCached, IsLoaded};
 ghost use Rattle.btree_nodes.specs.Descent.{bounds_by, low_of, high_of, AreKept};
-ghost use Rattle.btree_nodes.specs.Scans.{IsLonger, IsTaken, IsChildAt, ScansFrom, ScansKids, IsFirstUnfitBetween, IsFoundBetween, Scans};
+ghost use Rattle.btree_nodes.specs.Scans.{IsLonger, IsTaken, IsChildAt, ScansFrom, ScansKids, numbers_from};
+ghost use Rattle.btree_nodes.specs.Calls.{Reads, IsFirstUnfitBetween, IsFoundBetween, OnCleanAnswer, SoundReading};
 ghost use Rattle.btree_nodes.specs.Faults.{OnFault};
-ghost use Rattle.btree_nodes.specs.Trees.{AnswersSoundly};
+ghost use Rattle.btree_nodes.specs.Trees.{Serves, Holds, numbers_met, LoadsAmong, LoadsOnWalk};
 
 use crate::descent::{
     Step, bound, high_bound, is_above, is_below, is_fit_inner, is_leaf_within, is_up_to, low_bound,
     reach,
 };
 use crate::fault::TreeFault;
-use crate::source::NodeSource;
 use crate::tree::head_of;
 use fine_model::{Bytes, Copied, NoMemory, Node, NodeId, Pairs};
-use node_cache::Bucket;
+use node_cache::{Bucket, NodeSource};
 
 /// Whether a child within these bounds holds keys of a range.
 fn meets(low: &[u8], high: &[u8], child_low: Option<&Bytes>, child_high: Option<&Bytes>) -> bool
@@ -61,7 +61,7 @@ fn take_between(
 }
 
 /// The same of the pairs of a cached leaf. A node that is no leaf has none.
-#[tactic(auto, unfolding(crate::specs::Given::given, fine_model::specs::Map::between))]
+#[tactic(auto, unfolding(node_cache::specs::Given::given, fine_model::specs::Map::between))]
 fn take_from(
     bucket: &Bucket,
     number: u32,
@@ -91,7 +91,6 @@ fn scan_leaf(
     wanted: u32,
     out: &mut Pairs,
 ) -> Result<u32, TreeFault>
-    requires fits { FitsCache bucket.now }
     requires there { IsCached bucket.now at.number }
     ensures longer { IsLonger out.old out.new }
     ensures way { (next : ℕ) → ScansFrom bucket.now 0 next low.now high.now (bounds_by (given bucket.now) at.low at.high) at.number wanted out.old out.new (λ _. ⊥) result }
@@ -108,9 +107,8 @@ fn scan_leaf(
 }
 
 /// Whether a cached node is a fit inner one.
-#[tactic(auto, unfolding(crate::specs::Given::given))]
+#[tactic(auto, unfolding(node_cache::specs::Given::given))]
 fn is_inner_within(bucket: &Bucket, next: u32, at: Step) -> bool
-    requires fits { FitsCache bucket.now }
     ensures { result ≡ is_inner (bounds_by (given bucket.now) at.low at.high) next (given bucket.now at.number).0 }
 {
     match bucket.peek(at.number) {
@@ -125,9 +123,8 @@ fn is_inner_within(bucket: &Bucket, next: u32, at: Step) -> bool
 }
 
 /// The child at a place of a cached node, with its bounds. None exactly where there is none.
-#[tactic(auto, unfolding(crate::specs::Given::given))]
+#[tactic(auto, unfolding(node_cache::specs::Given::given))]
 fn child_at(bucket: &Bucket, at: Step, place: usize) -> Option<Step>
-    requires fits { FitsCache bucket.now }
     requires low { AreKept bucket.now at.low }
     requires high { AreKept bucket.now at.high }
     ensures child { MatchOption result (slice_get (kids_of (given bucket.now at.number).0) place ≡ None) (λ child. IsChildAt (given bucket.now) at place child) }
@@ -173,13 +170,12 @@ fn scan_from<S: NodeSource>(
     requires bucket { bucket.old.bucket < 256 }
     requires next { next ≤ 1048576 }
     requires number { at.number < next }
-    requires fits { FitsCache bucket.old }
     requires low { AreKept bucket.old at.low }
     requires high { AreKept bucket.old at.high }
-    ensures rows { S.rows source.new ≡ S.rows source.old }
-    ensures upper { S.upper source.new ≡ S.upper source.old }
     ensures later { S.later source.old source.new }
-    ensures loaded { IsLoaded (S.rows source.old) (S.upper source.old) bucket.old bucket.new }
+    ensures clean { OnCleanAnswer result (S.clean source.old source.new) }
+    ensures loaded { IsLoaded (S.tells source.old) (S.upper source.old) bucket.old bucket.new }
+    ensures on_walk { LoadsAmong bucket.old bucket.new (numbers_met height (given bucket.new) low.now high.now (bounds_by (given bucket.new) at.low at.high) at.number) }
     ensures longer { IsLonger out.old out.new }
     ensures way { ScansFrom bucket.new height next low.now high.now (bounds_by (given bucket.new) at.low at.high) at.number wanted out.old out.new (λ failed. S.fails source.old failed source.new) result }
 {
@@ -217,15 +213,14 @@ fn scan_kids<S: NodeSource>(
     requires next { next ≤ 1048576 }
     requires height { 0 < height }
     requires place { place ≤ 33 }
-    requires fits { FitsCache bucket.old }
     requires there { IsCached bucket.old at.number }
     requires low { AreKept bucket.old at.low }
     requires high { AreKept bucket.old at.high }
     requires inner { is_inner (bounds_by (given bucket.old) at.low at.high) next (given bucket.old at.number).0 ≡ true }
-    ensures rows { S.rows source.new ≡ S.rows source.old }
-    ensures upper { S.upper source.new ≡ S.upper source.old }
     ensures later { S.later source.old source.new }
-    ensures loaded { IsLoaded (S.rows source.old) (S.upper source.old) bucket.old bucket.new }
+    ensures clean { OnCleanAnswer result (S.clean source.old source.new) }
+    ensures loaded { IsLoaded (S.tells source.old) (S.upper source.old) bucket.old bucket.new }
+    ensures on_walk { LoadsAmong bucket.old bucket.new (numbers_from (height - 1) (given bucket.new) low.now high.now at place) }
     ensures longer { IsLonger out.old out.new }
     ensures way { ScansKids bucket.new (height - 1) next low.now high.now at place wanted out.old out.new (λ failed. S.fails source.old failed source.new) result }
 {
@@ -284,11 +279,10 @@ fn scan_from_head<S: NodeSource>(
     out: &mut Pairs,
 ) -> Result<(), TreeFault>
     requires bucket { bucket.old.bucket < 256 }
-    requires fits { FitsCache bucket.old }
-    ensures rows { S.rows source.new ≡ S.rows source.old }
-    ensures upper { S.upper source.new ≡ S.upper source.old }
     ensures later { S.later source.old source.new }
-    ensures loaded { IsLoaded (S.rows source.old) (S.upper source.old) bucket.old bucket.new }
+    ensures clean { OnCleanAnswer result (S.clean source.old source.new) }
+    ensures loaded { IsLoaded (S.tells source.old) (S.upper source.old) bucket.old bucket.new }
+    ensures on_walk { LoadsOnWalk bucket.old bucket.new low.now high.now }
     ensures longer { IsLonger out.old out.new }
     ensures ok { OnOk result (IsFoundBetween bucket.new low.now high.now limit out.old out.new) }
     ensures err { IfErr result (λ fault. OnFault fault (λ failed. S.fails source.old failed source.new) (IsFirstUnfitBetween bucket.new low.now high.now limit) (Unit {0})) }
@@ -323,12 +317,12 @@ fn scan_tree<S: NodeSource>(
     out: &mut Pairs,
 ) -> Result<(), TreeFault>
     requires bucket { bucket.old.bucket < 256 }
-    requires fits { FitsCache bucket.old }
-    ensures rows { S.rows source.new ≡ S.rows source.old }
-    ensures upper { S.upper source.new ≡ S.upper source.old }
     ensures later { S.later source.old source.new }
-    ensures loaded { IsLoaded (S.rows source.old) (S.upper source.old) bucket.old bucket.new }
-    ensures answer { Scans bucket.new low.now high.now limit out.old out.new (λ failed. S.fails source.old failed source.new) result }
+    ensures clean { OnCleanAnswer result (S.clean source.old source.new) }
+    ensures loaded { IsLoaded (S.tells source.old) (S.upper source.old) bucket.old bucket.new }
+    ensures on_walk { LoadsOnWalk bucket.old bucket.new low.now high.now }
+    ensures answer { Reads (λ done. IsFoundBetween bucket.new low.now high.now limit out.old out.new) (λ failed. S.fails source.old failed source.new) (IsFirstUnfitBetween bucket.new low.now high.now limit) result }
+    ensures same { OnErr result (out.new ≡ out.old) }
 {
     let before = out.len();
     match scan_from_head(source, bucket, low, high, limit, out) {
@@ -355,16 +349,13 @@ pub fn scan<S: NodeSource>(
     out: &mut Pairs,
 ) -> Result<(), TreeFault>
     requires bucket { bucket.old.bucket < 256 }
-    requires fits { FitsCache bucket.old }
-    ensures rows { S.rows source.new ≡ S.rows source.old }
-    ensures upper { S.upper source.new ≡ S.upper source.old }
     ensures later { S.later source.old source.new }
-    ensures loaded { IsLoaded (S.rows source.old) (S.upper source.old) bucket.old bucket.new }
-    ensures bucket { bucket.new.bucket ≡ bucket.old.bucket }
-    ensures fits { FitsCache bucket.new }
-    ensures answer { Scans bucket.new low.now high.now limit out.old out.new (λ failed. S.fails source.old failed source.new) result }
-    ensures holds { IfSome (S.rows source.old) (λ rows. (log : List ModelRow) → Holds bucket.old rows log → Holds bucket.new rows log) }
-    ensures sound { IfSome (S.rows source.old) (λ rows. (log : List ModelRow) → Holds bucket.old rows log → IsSound (rows ++ log) → AnswersSoundly (λ _. out.new ≡ out.old ++ take limit (between low.now high.now (tree_map (rows ++ log) bucket.old.bucket))) result) }
+    ensures clean { OnCleanAnswer result (S.clean source.old source.new) }
+    ensures loaded { IsLoaded (S.tells source.old) (S.upper source.old) bucket.old bucket.new }
+    ensures on_walk { LoadsOnWalk bucket.old bucket.new low.now high.now }
+    ensures answer { Reads (λ done. IsFoundBetween bucket.new low.now high.now limit out.old out.new) (λ failed. S.fails source.old failed source.new) (IsFirstUnfitBetween bucket.new low.now high.now limit) result }
+    ensures same { OnErr result (out.new ≡ out.old) }
+    ensures sound { (rows log : List ModelRow) → Serves (S.tells source.old) bucket.old rows → Holds bucket.old rows log → IsSound (rows ++ log) → SoundReading rows log bucket.new (λ done. out.new ≡ out.old ++ take limit (between low.now high.now (tree_map (rows ++ log) bucket.old.bucket))) result }
 {
     scan_tree(source, bucket, low, high, limit, out)
 }

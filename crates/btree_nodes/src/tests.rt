@@ -1,5 +1,6 @@
 //! Worked calls, and what no clause says.
 
+mod again;
 mod calls;
 mod fixtures;
 mod fresh;

@@ -6,15 +6,15 @@ ghost use Rattle.fine_model.specs.Map.{get};
 ghost use Rattle.fine_model.specs.RowBytes.{FitsKey};
 ghost use Rattle.fine_model.specs.Trees.{bucket_of, pairs_of, map_of, IsSound};
 ghost use Rattle.node_record.specs.Bounds.{FitsNode};
-ghost use Rattle.btree_nodes.specs.Given.{given, IsCached, FitsCache, IsLoaded, Holds};
-ghost use Rattle.btree_nodes.specs.Trees.{HeadIs, IsPath, IsFound, Answers, AnswersSoundly};
+ghost use Rattle.node_cache.specs.Given.{given, IsCached, IsLoaded};
+ghost use Rattle.btree_nodes.specs.Trees.{Serves, Holds, LoadsOnWay, AreUsed, way_in, HeadIs, IsPath};
+ghost use Rattle.btree_nodes.specs.Calls.{IsFound, Answers, OnCleanAnswer, SoundReading};
 
 use crate::descent::{descend, reach};
 use crate::fault::TreeFault;
 use crate::leaf::{copy_of, value_in};
-use crate::source::NodeSource;
 use fine_model::{Bytes, Node, NodeId};
-use node_cache::Bucket;
+use node_cache::{Bucket, NodeSource};
 
 /// The way to a key: what the head says, and the leaf in which the key belongs.
 #[derive(Clone, Copy, Debug)]
@@ -26,9 +26,8 @@ pub struct Path {
 }
 
 /// What a cached head says: root, next and depth. None where the node is no head, or its root is not below next.
-#[tactic(auto, unfolding(crate::specs::Given::given))]
+#[tactic(auto, unfolding(node_cache::specs::Given::given))]
 pub fn head_of(bucket: &Bucket) -> Option<(u32, u32, u8)>
-    requires { FitsCache bucket.now }
     ensures { HeadIs (given bucket.now 0).0 result }
 {
     match bucket.peek(0)?.node {
@@ -44,11 +43,11 @@ pub fn find_leaf<S: NodeSource>(
     key: &[u8],
 ) -> Result<Path, TreeFault>
     requires bucket { bucket.old.bucket < 256 }
-    requires fits { FitsCache bucket.old }
-    ensures rows { S.rows source.new ≡ S.rows source.old }
-    ensures upper { S.upper source.new ≡ S.upper source.old }
     ensures later { S.later source.old source.new }
-    ensures loaded { IsLoaded (S.rows source.old) (S.upper source.old) bucket.old bucket.new }
+    ensures clean { OnCleanAnswer result (S.clean source.old source.new) }
+    ensures loaded { IsLoaded (S.tells source.old) (S.upper source.old) bucket.old bucket.new }
+    ensures on_way { LoadsOnWay bucket.old bucket.new key.now }
+    ensures used { OnOk result (AreUsed bucket.old bucket.new (way_in bucket.new key.now)) }
     ensures path { Answers bucket.new key.now (IsPath bucket.new key.now) (λ failed. S.fails source.old failed source.new) result }
 {
     reach(source, bucket, 0)?;
@@ -75,11 +74,11 @@ fn look_up<S: NodeSource>(
     key: &[u8],
 ) -> Result<Option<Bytes>, TreeFault>
     requires bucket { bucket.old.bucket < 256 }
-    requires fits { FitsCache bucket.old }
-    ensures rows { S.rows source.new ≡ S.rows source.old }
-    ensures upper { S.upper source.new ≡ S.upper source.old }
     ensures later { S.later source.old source.new }
-    ensures loaded { IsLoaded (S.rows source.old) (S.upper source.old) bucket.old bucket.new }
+    ensures clean { OnCleanAnswer result (S.clean source.old source.new) }
+    ensures loaded { IsLoaded (S.tells source.old) (S.upper source.old) bucket.old bucket.new }
+    ensures on_way { LoadsOnWay bucket.old bucket.new key.now }
+    ensures used { OnOk result (AreUsed bucket.old bucket.new (way_in bucket.new key.now)) }
     ensures answer { Answers bucket.new key.now (IsFound bucket.new key.now) (λ failed. S.fails source.old failed source.new) result }
 {
     let path = find_leaf(source, bucket, key)?;
@@ -94,16 +93,13 @@ pub fn find<S: NodeSource>(
     key: &[u8],
 ) -> Result<Option<Bytes>, TreeFault>
     requires bucket { bucket.old.bucket ≡ bucket_of key.now }
-    requires fits { FitsCache bucket.old }
-    ensures rows { S.rows source.new ≡ S.rows source.old }
-    ensures upper { S.upper source.new ≡ S.upper source.old }
     ensures later { S.later source.old source.new }
-    ensures loaded { IsLoaded (S.rows source.old) (S.upper source.old) bucket.old bucket.new }
-    ensures bucket { bucket.new.bucket ≡ bucket.old.bucket }
-    ensures fits { FitsCache bucket.new }
+    ensures clean { OnCleanAnswer result (S.clean source.old source.new) }
+    ensures loaded { IsLoaded (S.tells source.old) (S.upper source.old) bucket.old bucket.new }
+    ensures on_way { LoadsOnWay bucket.old bucket.new key.now }
+    ensures used { OnOk result (AreUsed bucket.old bucket.new (way_in bucket.new key.now)) }
     ensures answer { Answers bucket.new key.now (IsFound bucket.new key.now) (λ failed. S.fails source.old failed source.new) result }
-    ensures holds { IfSome (S.rows source.old) (λ rows. (log : List ModelRow) → Holds bucket.old rows log → Holds bucket.new rows log) }
-    ensures sound { IfSome (S.rows source.old) (λ rows. (log : List ModelRow) → Holds bucket.old rows log → IsSound (rows ++ log) → AnswersSoundly (λ value. value ≡ get (map_of (rows ++ log)) key.now) result) }
+    ensures sound { (rows log : List ModelRow) → Serves (S.tells source.old) bucket.old rows → Holds bucket.old rows log → IsSound (rows ++ log) → SoundReading rows log bucket.new (λ value. value ≡ get (map_of (rows ++ log)) key.now) result }
 {
     look_up(source, bucket, key)
 }

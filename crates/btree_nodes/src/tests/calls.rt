@@ -1,6 +1,5 @@
 //! Calls by chance, against an ordered map.
 
-ghost use Rattle.btree_nodes.specs.Given.{FitsCache};
 ghost use Rattle.std.specs.Prelude.{IfOk};
 
 use super::fixtures::{Tree, add, del, get, key_at, put, tree_of};
@@ -17,8 +16,6 @@ const KEYS: u32 = 600;
 type Map = BTreeMap<u32, Vec<u8>>;
 
 fn get_both(tree: &mut Tree, map: &Map, place: u32) -> Result<bool, Fail>
-    requires { FitsCache tree.old.bucket }
-    ensures { IfOk result (λ _. FitsCache tree.new.bucket) }
 {
     let key = key_at(tree.alloc, place, 13)?;
     let Ok(found) = get(tree, key.as_slice()) else {
@@ -32,8 +29,6 @@ fn get_both(tree: &mut Tree, map: &Map, place: u32) -> Result<bool, Fail>
 }
 
 fn put_both(tree: &mut Tree, map: &mut Map, place: u32, value: &[u8]) -> Result<bool, Fail>
-    requires { FitsCache tree.old.bucket }
-    ensures { IfOk result (λ _. FitsCache tree.new.bucket) }
 {
     let key = key_at(tree.alloc, place, 13)?;
     let copy = Vec::from_slice(tree.alloc, value).ok().ok_or("memory")?;
@@ -42,8 +37,6 @@ fn put_both(tree: &mut Tree, map: &mut Map, place: u32, value: &[u8]) -> Result<
 }
 
 fn del_both(tree: &mut Tree, map: &mut Map, place: u32) -> Result<bool, Fail>
-    requires { FitsCache tree.old.bucket }
-    ensures { IfOk result (λ _. FitsCache tree.new.bucket) }
 {
     let key = key_at(tree.alloc, place, 13)?;
     let there = map.remove(&place).is_some();
@@ -65,8 +58,6 @@ fn sum_of(map: &Map, place: u32, by: i64) -> (Option<i64>, bool) {
 }
 
 fn add_both(tree: &mut Tree, map: &mut Map, place: u32, by: i64) -> Result<bool, Fail>
-    requires { FitsCache tree.old.bucket }
-    ensures { IfOk result (λ _. FitsCache tree.new.bucket) }
 {
     let key = key_at(tree.alloc, place, 13)?;
     let (wanted, is_number) = sum_of(map, place, by);
@@ -86,8 +77,6 @@ fn add_both(tree: &mut Tree, map: &mut Map, place: u32, by: i64) -> Result<bool,
 }
 
 fn scan_both(tree: &mut Tree, map: &Map, low: u32, limit: u32) -> Result<bool, Fail>
-    requires { FitsCache tree.old.bucket }
-    ensures { IfOk result (λ _. FitsCache tree.new.bucket) }
 {
     let high = low.saturating_add(100);
     let found = pairs_between(tree, low, high, limit)?;
@@ -110,8 +99,6 @@ fn scan_both(tree: &mut Tree, map: &Map, low: u32, limit: u32) -> Result<bool, F
 
 /// One call by chance. Answers whether tree and map agree.
 fn call_both(tree: &mut Tree, map: &mut Map, chance: u64) -> Result<bool, Fail>
-    requires { FitsCache tree.old.bucket }
-    ensures { IfOk result (λ _. FitsCache tree.new.bucket) }
 {
     let place = (chance / 8_589_934_592 % u64::from(KEYS)) as u32;
     let number = (chance / 65_536 % 2000) as i64;
@@ -131,8 +118,6 @@ fn call_both(tree: &mut Tree, map: &mut Map, chance: u64) -> Result<bool, Fail>
 
 /// Sets each key. Answers whether all were set.
 fn put_all(tree: &mut Tree, map: &mut Map) -> Result<bool, Fail>
-    requires { FitsCache tree.old.bucket }
-    ensures { IfOk result (λ _. FitsCache tree.new.bucket) }
 {
     for place in 0..KEYS {
         if !put_both(tree, map, place, b"1")? {
@@ -144,8 +129,6 @@ fn put_all(tree: &mut Tree, map: &mut Map) -> Result<bool, Fail>
 
 /// So many calls by chance. Answers how many agreed.
 fn call_many(tree: &mut Tree, map: &mut Map, many: u32) -> Result<u32, Fail>
-    requires { FitsCache tree.old.bucket }
-    ensures { IfOk result (λ _. FitsCache tree.new.bucket) }
 {
     let mut chance = 12_345u64;
     let mut right = 0u32;
@@ -162,8 +145,6 @@ fn call_many(tree: &mut Tree, map: &mut Map, many: u32) -> Result<u32, Fail>
 
 /// How many keys hold in a tree what they hold in the map.
 fn count_right(tree: &mut Tree, map: &Map) -> Result<u32, Fail>
-    requires { FitsCache tree.old.bucket }
-    ensures { IfOk result (λ _. FitsCache tree.new.bucket) }
 {
     let mut right = 0u32;
     for place in 0..KEYS {

@@ -3,12 +3,11 @@
 ghost use Rattle.std.specs.Prelude.{◌≡◌, true, IfOk, None};
 ghost use Rattle.fine_model.specs.RowBytes.{FitsKey};
 ghost use Rattle.fine_model.specs.Trees.{bucket_of};
-ghost use Rattle.btree_nodes.specs.Given.{FitsCache, FitsKept};
 
 use super::fresh::first_node;
-use crate::{NodeSource, TreeFault, add_to, find, insert, remove, scan};
+use crate::{TreeFault, add_to, find, insert, remove, scan};
 use fine_model::{Bytes, FetchFault, Items, Mark, NodeId, Pairs, Reply, bucket_of};
-use node_cache::{Bucket, Cached};
+use node_cache::{Bucket, Cached, NodeSource};
 use node_record::{apply, read_row};
 use private_log::PrivateLog;
 use std::alloc::Global;
@@ -17,7 +16,6 @@ use std::test::*;
 /// What the rows of a node among bytes leave. It ends at the first bytes that are no row.
 #[tactic(auto, unfolding(fine_model::specs::Nodes::step))]
 fn replay(alloc: Global, bytes: &[u8], id: NodeId) -> Result<Cached, FetchFault>
-    ensures fits { IfOk result (λ kept. FitsKept kept) }
     ensures epoch { IfOk result (λ kept. kept.epoch ≡ 0) }
 {
     let mut node = first_node(alloc, id.number);
@@ -49,11 +47,13 @@ pub struct Rows {
 }
 
 impl NodeSource for Rows {
-    ghost rows = { λ _. None };
+    ghost tells = { λ _ _. ⊥ };
 
     ghost upper = { λ _. 0 };
 
     ghost later = { λ _ _. Unit {0} };
+
+    ghost clean = { λ _ _. Unit {0} };
 
     ghost fails = { λ _ _ _. Unit {0} };
 
@@ -61,7 +61,19 @@ impl NodeSource for Rows {
 
     ghost later_on = { λ _ _ _ _ _. tt };
 
+    ghost later_tells = { λ _ _ _ _ told. told };
+
+    ghost tells_before = { λ _ _ _ _ told. told };
+
+    ghost later_upper = { λ _ _ _. refl };
+
+    ghost clean_itself = { λ _. tt };
+
+    ghost clean_on = { λ _ _ _ _ _. tt };
+
     ghost fails_earlier = { λ _ _ _ _ _ _. tt };
+
+    ghost fails_told = { λ _ _ _ _ told _. absurd told };
 
     fn load(&mut self, bucket: &mut Bucket, number: u32) -> Result<(), FetchFault> {
         if bucket.peek(number).is_some() {
@@ -94,7 +106,6 @@ pub struct Tree {
 
 /// A tree of bucket 64 on the rows that bytes spell, with nothing cached.
 pub fn tree_of(alloc: Global, rows: &[u8]) -> Result<Tree, Fail>
-    ensures { IfOk result (λ tree. FitsCache tree.bucket) }
 {
     let bytes = Vec::from_slice(alloc, rows).ok().ok_or("memory")?;
     Ok(Tree {
@@ -137,8 +148,6 @@ fn is_of(bucket: &Bucket, key: &[u8]) -> bool
 }
 
 pub fn get(tree: &mut Tree, key: &[u8]) -> Result<Option<Bytes>, TreeFault>
-    requires { FitsCache tree.old.bucket }
-    ensures { FitsCache tree.new.bucket }
 {
     if !is_of(&tree.bucket, key) {
         return Err(TreeFault::NoMemory);
@@ -147,8 +156,6 @@ pub fn get(tree: &mut Tree, key: &[u8]) -> Result<Option<Bytes>, TreeFault>
 }
 
 pub fn put(tree: &mut Tree, key: &[u8], value: &[u8]) -> Result<(), TreeFault>
-    requires fits { FitsCache tree.old.bucket }
-    ensures { FitsCache tree.new.bucket }
 {
     if !is_of(&tree.bucket, key) || value.is_empty() || value.len() > 256 {
         return Err(TreeFault::NoMemory);
@@ -164,8 +171,6 @@ pub fn put(tree: &mut Tree, key: &[u8], value: &[u8]) -> Result<(), TreeFault>
 }
 
 pub fn del(tree: &mut Tree, key: &[u8]) -> Result<bool, TreeFault>
-    requires { FitsCache tree.old.bucket }
-    ensures { FitsCache tree.new.bucket }
 {
     if !is_of(&tree.bucket, key) {
         return Err(TreeFault::NoMemory);
@@ -180,8 +185,6 @@ pub fn del(tree: &mut Tree, key: &[u8]) -> Result<bool, TreeFault>
 }
 
 pub fn add(tree: &mut Tree, key: &[u8], by: i64) -> Result<Reply, TreeFault>
-    requires { FitsCache tree.old.bucket }
-    ensures { FitsCache tree.new.bucket }
 {
     if !is_of(&tree.bucket, key) {
         return Err(TreeFault::NoMemory);
@@ -197,8 +200,6 @@ pub fn add(tree: &mut Tree, key: &[u8], by: i64) -> Result<Reply, TreeFault>
 }
 
 pub fn pairs(tree: &mut Tree, low: &[u8], high: &[u8], limit: u32) -> Result<Pairs, TreeFault>
-    requires fits { FitsCache tree.old.bucket }
-    ensures { FitsCache tree.new.bucket }
 {
     if tree.bucket.bucket() > 255 {
         return Err(TreeFault::NoMemory);

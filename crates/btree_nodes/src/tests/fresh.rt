@@ -3,12 +3,14 @@
 ghost use Rattle.std.specs.Prelude.{ℕ, ◌≡◌, ◌≤◌, length, Some, []};
 ghost use Rattle.fine_model.specs.Trees.{bucket_of};
 ghost use Rattle.fine_model.specs.Nodes.{base};
+ghost use Rattle.fine_model.specs.declared.FetchFault.TheVariants as fetch_fault;
+ghost use Rattle.node_cache.specs.Cache.{IsResting};
+ghost use Rattle.node_cache.specs.Given.{OnCleanFault};
 ghost use Rattle.node_record.specs.Bounds.{FitsNode};
-ghost use Rattle.btree_nodes.specs.Given.{FitsCache};
 
-use crate::{NodeSource, add_to, find, remove};
+use crate::{add_to, find, remove};
 use fine_model::{FetchFault, Items, Node, Reply, bucket_of};
-use node_cache::{Bucket, Cached};
+use node_cache::{Bucket, Cached, NodeSource};
 use private_log::PrivateLog;
 use std::alloc::Global;
 use std::test::*;
@@ -33,24 +35,38 @@ pub fn first_node(alloc: Global, number: u32) -> Node
 
 /// A source of a log that has no rows.
 #[derive(Drop)]
-struct Fresh {
-    alloc: Global,
+pub struct Fresh {
+    pub alloc: Global,
 }
 
 impl NodeSource for Fresh {
-    ghost rows = { λ _. Some [] };
+    ghost tells = { λ _ rows. rows ≡ [] };
 
     ghost upper = { λ _. 0 };
 
     ghost later = { λ _ _. Unit {0} };
 
-    ghost fails = { λ _ _ _. Unit {0} };
+    ghost clean = { λ _ _. Unit {0} };
+
+    ghost fails = { λ _ fault _. fault ≡ fetch_fault.NoMemory };
 
     ghost later_itself = { λ _. tt };
 
     ghost later_on = { λ _ _ _ _ _. tt };
 
-    ghost fails_earlier = { λ _ _ _ _ _ _. tt };
+    ghost later_tells = { λ _ _ _ _ told. told };
+
+    ghost tells_before = { λ _ _ _ _ told. told };
+
+    ghost later_upper = { λ _ _ _. refl };
+
+    ghost clean_itself = { λ _. tt };
+
+    ghost clean_on = { λ _ _ _ _ _. tt };
+
+    ghost fails_earlier = { λ _ _ _ _ _ failed. failed };
+
+    ghost fails_told = { λ _ _ _ _ _ failed. subst (λ fault. OnCleanFault fault ⊥) (sym failed) tt };
 
     fn load(&mut self, bucket: &mut Bucket, number: u32) -> Result<(), FetchFault> {
         if bucket.peek(number).is_some() {
@@ -69,10 +85,10 @@ impl NodeSource for Fresh {
 }
 
 /// The bucket of a key, with nothing cached.
-fn empty(alloc: Global, key: &[u8]) -> Bucket
+pub fn empty(alloc: Global, key: &[u8]) -> Bucket
     requires { (1 ≤ length key.now) × (length key.now ≤ 64) }
-    ensures fits { FitsCache result }
     ensures bucket { result.bucket ≡ bucket_of key.now }
+    ensures resting { IsResting result }
 {
     Bucket::new(alloc, bucket_of(key))
 }

@@ -1,6 +1,5 @@
 //! Trees at the limits of numbers, depth and versions.
 
-ghost use Rattle.btree_nodes.specs.Given.{FitsCache};
 ghost use Rattle.std.specs.Prelude.{IfOk};
 
 use super::fixtures::{Tree, add, del, put, tree_of};
@@ -79,7 +78,6 @@ fn push_full_inner(
 
 /// A tree of a depth whose nodes on the way of the least key are all full but for the leaf.
 fn full_tree(alloc: Global, depth: u8) -> Result<Tree, Fail>
-    ensures { IfOk result (λ tree. FitsCache tree.bucket) }
 {
     let mut rows = Vec::new(alloc);
     push_head(&mut rows, 1, u32::from(depth), 20, depth)?;
@@ -92,8 +90,6 @@ fn full_tree(alloc: Global, depth: u8) -> Result<Tree, Fail>
 
 /// The answer to the 33rd key of a leaf.
 fn split(tree: &mut Tree) -> Result<Result<(), TreeFault>, Fail>
-    requires { FitsCache tree.old.bucket }
-    ensures { IfOk result (λ _. FitsCache tree.new.bucket) }
 {
     if !put_keys(tree, 32, 5, 1, 32)? {
         return Err("memory".into());

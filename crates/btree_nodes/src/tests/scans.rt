@@ -1,6 +1,5 @@
 //! Scans of a tree of depth 3.
 
-ghost use Rattle.btree_nodes.specs.Given.{FitsCache};
 ghost use Rattle.std.specs.Prelude.{IfOk};
 
 use super::fixtures::{Tree, key_at, pairs, tree_of};
@@ -24,8 +23,6 @@ pub fn deep_rows(alloc: Global) -> Result<Vec<u8>, Fail> {
 
 /// A scan between two places among the keys of thirteen pieces.
 pub fn pairs_between(tree: &mut Tree, low: u32, high: u32, limit: u32) -> Result<Pairs, Fail>
-    requires { FitsCache tree.old.bucket }
-    ensures { IfOk result (λ _. FitsCache tree.new.bucket) }
 {
     let low = key_at(tree.alloc, low, 13)?;
     let high = key_at(tree.alloc, high, 13)?;

@@ -1,6 +1,5 @@
 //! Splits of leaves, inner nodes and roots.
 
-ghost use Rattle.btree_nodes.specs.Given.{FitsCache};
 ghost use Rattle.std.specs.Prelude.{IfOk};
 
 use super::fixtures::{Tree, get, key_at, pairs, put, tree_of};
@@ -34,8 +33,6 @@ fn rows_of_split(alloc: Global) -> Result<Vec<u8>, Fail> {
 
 /// Sets so many keys of so many pieces to `1`, each `step` places behind the last one, round `span` places. Answers whether all were set.
 pub fn put_keys(tree: &mut Tree, many: u32, pieces: u32, step: u32, span: u32) -> Result<bool, Fail>
-    requires { FitsCache tree.old.bucket }
-    ensures { IfOk result (λ _. FitsCache tree.new.bucket) }
 {
     let mut place = 0u32;
     for _key in 0..many {
@@ -61,8 +58,6 @@ pub fn depth_of(tree: &Tree) -> u8 {
 
 /// How many of the first keys of thirteen pieces are there.
 pub fn count_keys(tree: &mut Tree, many: u32) -> Result<u32, Fail>
-    requires { FitsCache tree.old.bucket }
-    ensures { IfOk result (λ _. FitsCache tree.new.bucket) }
 {
     let mut count = 0u32;
     for place in 0..many {

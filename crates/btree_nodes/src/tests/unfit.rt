@@ -1,6 +1,5 @@
 //! Trees that break the rules, one for each rule, and sources that fail.
 
-ghost use Rattle.btree_nodes.specs.Given.{FitsCache};
 ghost use Rattle.std.specs.Prelude.{IfOk};
 
 use super::fixtures::{Tree, add, del, get, pairs, put, tree_of};
@@ -76,8 +75,6 @@ fn is_unfit<T: Drop>(answer: &Result<T, TreeFault>, number: u32) -> bool {
 
 /// How many of the five calls on the least key name this node as unfit.
 fn count_unfit(tree: &mut Tree, number: u32) -> u32
-    requires { FitsCache tree.old.bucket }
-    ensures { FitsCache tree.new.bucket }
 {
     let key = b"AaAaAaAaAa";
     let all = [
@@ -129,8 +126,6 @@ fn end_of<T: Drop>(answer: &Result<T, TreeFault>) -> Ends {
 
 /// A scan over some leaves behind a pair that stood there. Where it fails, the pair is all that is there.
 fn scan_behind(tree: &mut Tree, before: (Bytes, Bytes)) -> Ends
-    requires { FitsCache tree.old.bucket }
-    ensures { FitsCache tree.new.bucket }
 {
     if tree.bucket.bucket() > 255 {
         return Ends::Otherwise;
@@ -158,8 +153,6 @@ fn scan_behind(tree: &mut Tree, before: (Bytes, Bytes)) -> Ends
 
 /// One of the five calls.
 fn call(tree: &mut Tree, kind: u32) -> Ends
-    requires { FitsCache tree.old.bucket }
-    ensures { FitsCache tree.new.bucket }
 {
     let key = b"AaAaAaAaAaAaAaAaAaAaAaAaBB";
     match kind {

@@ -6,11 +6,12 @@ use Rattle.fine_model.specs.declared.Reply.{Reply}
 use Rattle.fine_model.specs.declared.Reply.TheVariants as reply
 use Rattle.fine_model.specs.Map.{get}
 use Rattle.fine_model.specs.NumberText.{number_text}
+use Rattle.fine_model.specs.Pushed.{call_push, within_limits}
 use Rattle.fine_model.specs.RowBytes.{FitsValue}
+use Rattle.node_cache.specs.Given.{given}
 use Rattle.fine_model.specs.Store.{answer}
 use Rattle.node_record.proofs.Texts.{test_from_fits}
 use Rattle.btree_nodes.specs.Trees.{pairs_in}
-use Rattle.btree_nodes.specs.Calls.{pushed_in}
 use Rattle.btree_nodes.proofs.LeafPush.{none_found}
 use Rattle.btree_nodes.proofs.Sums.{answer_absent}
 use Rattle.btree_nodes.proofs.SumsNew.{text_fits, pushed_new, fault_same}
@@ -21,27 +22,27 @@ put_at-requires-clause-value c =
     let text : c.as_slice.result.now ≡ number_text c.args.by = c.as_slice.ensures ∙ (c.in_ok-text.ensures) ∙ ap number_text (to_z-of_z c.ranges.by) in
     subst FitsValue (sym text) (text_fits c.args.by c.ranges.by)
 
-pub returns-in_err-put_at-clause-outcome : goal.returns-in_err-put_at-clause-outcome
-returns-in_err-put_at-clause-outcome c =
+pub returns-in_err-put_at : goal.returns-in_err-put_at
+returns-in_err-put_at c =
     let b = c.args.bucket.now in
     let key = c.args.key.now in
     let by = c.args.by in
     let text : c.as_slice.result.now ≡ number_text by = c.as_slice.ensures ∙ (c.in_ok-text.ensures) ∙ ap number_text (to_z-of_z c.ranges.by) in
-    let same : pushed_in b (call.Add key by) ≡ pushed_in b (call.Put key c.as_slice.result.now) = pushed_new b key by c.requires.absent (test_from_fits by c.ranges.by) ∙ ap (λ t. pushed_in b (call.Put key t)) (sym text) in
+    let same : call_push b.bucket (given b) (call.Add key by) ≡ call_push b.bucket (given b) (call.Put key c.as_slice.result.now) = pushed_new b key by c.requires.absent (test_from_fits by c.ranges.by) ∙ ap (λ t. call_push b.bucket (given b) (call.Put key t)) (sym text) in
     let p = err_from_is_err_and c.from_residual-in_err-put_at.result c.from_residual-in_err-put_at.ensures.1 in
-    rw (p.1, p.2)
-    (fault_same b c.put_at.new.bucket c.args.log.now c.put_at.new.log (call.Put key c.as_slice.result.now) (call.Add key by) key (λ (u : Unit {0}). Unit {0}) (λ (r : Reply). r ≡ (answer (pairs_in b key) (call.Add key by)).0) (λ (f : FetchFault). ⊥) same
-    c.in_err-put_at.field-0.0 (c.in_err-put_at.ensures).outcome)
+    record { outcome = rw (p.1, p.2)
+    (fault_same b c.put_at.new.bucket c.args.log.now c.put_at.new.log key c.as_slice.result.now by (λ (u : Unit {0}). Unit {0}) (λ (r : Reply). r ≡ (answer (pairs_in b key) (call.Add key by)).0) (λ (f : FetchFault). ⊥) same
+    c.in_err-put_at.field-0.0 (c.in_err-put_at.ensures).outcome) }
 
-pub returns-clause-outcome : goal.returns-clause-outcome
-returns-clause-outcome c =
+pub returns : goal.returns
+returns c =
     let b = c.args.bucket.now in
     let key = c.args.key.now in
     let by = c.args.by in
     let text : c.as_slice.result.now ≡ number_text by = c.as_slice.ensures ∙ (c.in_ok-text.ensures) ∙ ap number_text (to_z-of_z c.ranges.by) in
-    let same : pushed_in b (call.Add key by) ≡ pushed_in b (call.Put key c.as_slice.result.now) = pushed_new b key by c.requires.absent (test_from_fits by c.ranges.by) ∙ ap (λ t. pushed_in b (call.Put key t)) (sym text) in
-    let done = (c.in_ok-put_at.ensures).outcome in (
+    let same : call_push b.bucket (given b) (call.Add key by) ≡ call_push b.bucket (given b) (call.Put key c.as_slice.result.now) = pushed_new b key by c.requires.absent (test_from_fits by c.ranges.by) ∙ ap (λ t. call_push b.bucket (given b) (call.Put key t)) (sym text) in
+    let done = (c.in_ok-put_at.ensures).outcome in record { outcome = (
       ap reply.Sum (to_z-of_z c.ranges.by) ∙ sym (answer_absent (pairs_in b key) key by (none_found (get (pairs_in b key) key) c.requires.absent) (test_from_fits by c.ranges.by)),
       done.1,
-      record { rows = done.2.rows; pushed = same ∙ done.2.pushed; behind = done.2.behind; pushes = done.2.pushes },
-    )
+      record { rows = done.2.rows; is_pushed = ap within_limits same ∙ done.2.is_pushed; behind = done.2.behind; pushes = done.2.pushes; fits = done.2.fits },
+    ) }

@@ -1,10 +1,6 @@
 use Rattle.std.proofs.Common.{to_z-of_z}
 use Rattle.btree_nodes.proofs.SumsNew.{added_on}
-use Rattle.btree_nodes.proofs.SoundCalls.{change_bucket}
 use Rattle.btree_nodes.proofs.adding.add_to.Goals as goal
-
-pub returns-clause-bucket : goal.returns-clause-bucket
-returns-clause-bucket g c = change_bucket _ _ c.args.bucket.now c.add_key.new.bucket _ _ _ _ _ _ c.add_key.result c.add_key.ensures.change
 
 pub returns-clause-sound : goal.returns-clause-sound
 returns-clause-sound g c =

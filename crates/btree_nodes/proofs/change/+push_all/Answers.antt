@@ -2,7 +2,7 @@ use Rattle.std.proofs.Common.{◌≡◌, ◌-◌, ◌≤◌, List, length, take,
 use Rattle.std.specs.List.{AllByRecursion}
 use Rattle.fine_model.specs.declared.Row.{Row}
 use Rattle.fine_model.specs.RowBytes.{FitsRec, greatest}
-use Rattle.btree_nodes.specs.Given.{IsCached}
+use Rattle.node_cache.specs.Given.{IsCached}
 use Rattle.btree_nodes.specs.Changes.{Pushes, AreReady}
 use Rattle.btree_nodes.proofs.Changed.{on_ok}
 use Rattle.btree_nodes.proofs.LeafPush.{pushes_none}
@@ -22,7 +22,7 @@ push_all-requires t c =
         same_buckets a b rest c.push_any.ensures.saves.bucket (subst (AllByRecursion (λ r. r.node.bucket ≡ a.bucket)) whole c.requires.of_bucket).1,
         (
           rest_ready a b row rest done.pushes done.there (subst (AreReady (IsCached a)) whole c.requires.ready).1,
-          (c.push_any.ensures.fits, (subst (AllByRecursion (λ r. FitsRec r.rec × (r.version ≤ greatest))) whole c.requires.recs).1),
+          (subst (AllByRecursion (λ r. FitsRec r.rec × (r.version ≤ greatest))) whole c.requires.recs).1,
         ),
       ),
     )

@@ -1,13 +1,9 @@
 use Rattle.std.proofs.Common.{refl}
-use Rattle.btree_nodes.proofs.Changed.{on_ok, pushed_one, saves_saved, fits_then, saves_then}
+use Rattle.btree_nodes.proofs.Changed.{on_ok, pushed_one, saves_saved, saves_then}
 use Rattle.btree_nodes.proofs.change.push_row.Goals as goal
 
 pub returns-in_err-push-clause-saves : goal.returns-in_err-push-clause-saves
 returns-in_err-push-clause-saves c = saves_saved c.args.bucket.now c.save.new.self c.args.row.now.node.number (c.in_ok-save.ensures).saved c.save.ensures.before
-
-pub returns-clause-fits : goal.returns-clause-fits
-returns-clause-fits c =
-    fits_then c.args.bucket.now c.save.new.self c.args.row.now.node.number (c.in_ok-save.ensures).saved c.change.new.bucket c.args.row.now c.change.result refl c.requires.there c.requires.fits c.change.ensures.ok c.change.ensures.err
 
 pub returns-clause-saves : goal.returns-clause-saves
 returns-clause-saves c =

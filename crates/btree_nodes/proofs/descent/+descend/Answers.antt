@@ -1,8 +1,11 @@
 use Rattle.std.proofs.Common.{◌≡◌, ◌<◌, sym, subst, ◌∙◌, arith}
-use Rattle.btree_nodes.specs.Given.{given, IsCached}
+use Rattle.node_cache.specs.Given.{given, IsCached}
 use Rattle.btree_nodes.specs.Descent.{bounds_by}
 use Rattle.btree_nodes.specs.Descends.{IsWay, IsUnfit}
-use Rattle.btree_nodes.proofs.Ways.{way_leaf, unfit_leaf, unfit_inner, descends_on, kept_stays, step_stays}
+use Rattle.btree_nodes.proofs.Ways.{way_leaf, unfit_leaf, unfit_inner, descends_on, kept_stays, step_stays, among_first, among_step, used_first, used_step}
+use Rattle.btree_nodes.proofs.Changed.{on_ok}
+use Rattle.btree_nodes.proofs.Loads.{loaded_then}
+use Rattle.btree_nodes.proofs.SoundCalls.{clean_map}
 use Rattle.btree_nodes.proofs.descent.+descend.Goals as goal
 
 pub returns-then-is_leaf_within-clause-way : goal.returns-then-is_leaf_within-clause-way
@@ -43,3 +46,50 @@ returns-clause-way g t c =
     let high = kept_stays _ _ _ mid c.reach.ensures.loaded c.args.high c.requires.high in
     let step = step_stays _ _ mid c.descend.new.bucket c.descend.ensures.loaded c.args.next c.args.key.now c.args.low c.args.high c.args.number c.in-Some.step here low high kept.0 kept.1 (c.in-Some.ensures).step in
     descends_on c.descend.new.bucket c.args.next c.args.key.now c.args.low c.args.high c.args.number c.in-Some.step step c.args.height _ _ (λ f h. g.met.S.NodeSource.fails_earlier _ _ _ f c.reach.ensures.later h) above c.descend.result c.descend.ensures.way
+
+pub returns-in_err-reach-clause-on_way : goal.returns-in_err-reach-clause-on_way
+returns-in_err-reach-clause-on_way g t c = among_first _ _ _ _ c.args.height c.args.number c.reach.ensures.among
+
+pub returns-then-is_leaf_within-clause-on_way : goal.returns-then-is_leaf_within-clause-on_way
+returns-then-is_leaf_within-clause-on_way g t c = among_first _ _ _ _ c.args.height c.args.number c.reach.ensures.among
+
+pub returns-else-is_leaf_within-clause-on_way : goal.returns-else-is_leaf_within-clause-on_way
+returns-else-is_leaf_within-clause-on_way g t c = among_first _ _ _ _ c.args.height c.args.number c.reach.ensures.among
+
+pub returns-in_default-clause-on_way : goal.returns-in_default-clause-on_way
+returns-in_default-clause-on_way g t c = among_first _ _ _ _ c.args.height c.args.number c.reach.ensures.among
+
+pub returns-clause-on_way : goal.returns-clause-on_way
+returns-clause-on_way g t c =
+    let mid = c.reach.new.bucket in
+    let here : IsCached mid c.args.number = (c.in_ok-reach.ensures).there in
+    let above : 0 < c.args.height = omega arith in
+    let kept = (c.in-Some.ensures).kept in
+    let low = kept_stays _ _ _ mid c.reach.ensures.loaded c.args.low c.requires.low in
+    let high = kept_stays _ _ _ mid c.reach.ensures.loaded c.args.high c.requires.high in
+    let step = step_stays _ _ mid c.descend.new.bucket c.descend.ensures.loaded c.args.next c.args.key.now c.args.low c.args.high c.args.number c.in-Some.step here low high kept.0 kept.1 (c.in-Some.ensures).step in
+    among_step c.args.bucket.now mid c.descend.new.bucket c.args.key.now c.args.height c.args.number c.in-Some.step.number above step.number c.reach.ensures.among c.descend.ensures.on_way
+
+pub returns-clause-loaded : goal.returns-clause-loaded
+returns-clause-loaded g t c =
+    loaded_then _ _ _ _ _ c.reach.new.bucket _ (λ rows. g.met.S.NodeSource.later_tells _ _ rows c.reach.ensures.later) (g.met.S.NodeSource.later_upper _ _ c.reach.ensures.later) c.reach.ensures.loaded c.descend.ensures.loaded
+
+pub returns-clause-clean : goal.returns-clause-clean
+returns-clause-clean g t c =
+    clean_map c.descend.result _ _ (g.met.S.NodeSource.clean_on _ _ _ (c.in_ok-reach.ensures).clean) c.descend.ensures.clean
+
+pub returns-then-is_leaf_within-clause-used : goal.returns-then-is_leaf_within-clause-used
+returns-then-is_leaf_within-clause-used g t c =
+    let ground_floor : c.args.height ≡ 0 = omega arith in
+    used_first c.args.bucket.now c.reach.new.bucket _ _ c.args.height c.args.number ground_floor (c.in_ok-reach.ensures).used
+
+pub returns-clause-used : goal.returns-clause-used
+returns-clause-used g t c =
+    let mid = c.reach.new.bucket in
+    let here : IsCached mid c.args.number = (c.in_ok-reach.ensures).there in
+    let above : 0 < c.args.height = omega arith in
+    let kept = (c.in-Some.ensures).kept in
+    let low = kept_stays _ _ _ mid c.reach.ensures.loaded c.args.low c.requires.low in
+    let high = kept_stays _ _ _ mid c.reach.ensures.loaded c.args.high c.requires.high in
+    let step = step_stays _ _ mid c.descend.new.bucket c.descend.ensures.loaded c.args.next c.args.key.now c.args.low c.args.high c.args.number c.in-Some.step here low high kept.0 kept.1 (c.in-Some.ensures).step in
+    on_ok c.descend.result (used_step c.args.bucket.now mid c.descend.new.bucket c.args.key.now c.args.height c.args.number c.in-Some.step.number above step.number (c.in_ok-reach.ensures).used) c.descend.ensures.used

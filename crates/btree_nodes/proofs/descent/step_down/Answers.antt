@@ -4,9 +4,9 @@ use Rattle.fine_model.specs.Paths.{is_inner, place_among}
 use Rattle.node_record.specs.Bounds.{FitsNode}
 use Rattle.node_cache.specs.Cache.{cached}
 use Rattle.btree_nodes.specs.declared.descent.Step.{Step}
-use Rattle.btree_nodes.specs.Given.{given, IsCached}
+use Rattle.node_cache.specs.Given.{given, IsCached}
 use Rattle.btree_nodes.specs.Descent.{bounds_by, low_of, high_of, IsStep, AreKept}
-use Rattle.btree_nodes.proofs.Steps.{given_is, fits_kept, place_within, stepped, low_kept, high_kept}
+use Rattle.btree_nodes.proofs.Steps.{given_is, place_within, stepped, low_kept, high_kept}
 use Rattle.btree_nodes.proofs.descent.step_down.Goals as goal
 
 pub at-child-requires : goal.at-child-requires
@@ -15,7 +15,7 @@ at-child-requires c =
     let n = c.args.number in
     let kept = c.in_ok-node.field-0.now in
     let found : cached b n ≡ Some kept = sym c.peek.ensures ∙ ap option_copied c.in_ok-node.was in
-    let fits = subst FitsNode c.in-Inner.is (fits_kept b n kept c.requires.fits found) in
+    let fits = subst FitsNode c.in-Inner.is kept.fits in
     subst (λ (p : ℕ). p < length c.in-Inner.kids) (sym c.place_among-place.ensures) (place_within c.args.key.now c.in-Inner.seps c.in-Inner.kids fits)
 
 pub returns-clause-step : goal.returns-clause-step

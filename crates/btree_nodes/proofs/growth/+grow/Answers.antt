@@ -2,7 +2,7 @@ use Rattle.std.proofs.Common.{◌≡◌, ◌-◌, ◌<◌, ap, ◌∙◌, arith}
 use Rattle.fine_model.specs.Map.{Pair}
 use Rattle.fine_model.specs.Pushed.{grown_inner, growth}
 use Rattle.btree_nodes.specs.declared.growth.Growth.{Growth}
-use Rattle.btree_nodes.specs.Given.{given}
+use Rattle.node_cache.specs.Given.{given}
 use Rattle.btree_nodes.specs.Growths.{grown_of}
 use Rattle.btree_nodes.proofs.Grown.{if_ok, grow_on}
 use Rattle.btree_nodes.proofs.growth.+grow.Goals as goal

@@ -1,5 +1,5 @@
 use Rattle.std.proofs.Common.{sym}
-use Rattle.btree_nodes.specs.Given.{given}
+use Rattle.node_cache.specs.Given.{given}
 use Rattle.btree_nodes.proofs.Grown.{no_inner}
 use Rattle.btree_nodes.proofs.growth.grow_inner.Goals as goal
 

@@ -1,9 +1,5 @@
 use Rattle.btree_nodes.proofs.SoundGrowth.{put_soundly}
-use Rattle.btree_nodes.proofs.SoundCalls.{change_bucket}
 use Rattle.btree_nodes.proofs.insertion.insert.Goals as goal
-
-pub returns-clause-bucket : goal.returns-clause-bucket
-returns-clause-bucket g c = change_bucket _ _ c.args.bucket.now c.put_key.new.bucket _ _ _ _ _ _ c.put_key.result c.put_key.ensures.change
 
 pub returns-clause-sound : goal.returns-clause-sound
 returns-clause-sound g c =

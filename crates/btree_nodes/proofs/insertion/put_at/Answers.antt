@@ -4,24 +4,24 @@ use Rattle.std.proofs.lemmas.Result.{err_from_is_err_and}
 use Rattle.fine_model.specs.declared.Row.{Row}
 use Rattle.fine_model.specs.Pushed.{growth, with_head}
 use Rattle.fine_model.specs.RowBytes.{FitsPair, FitsRec, greatest}
-use Rattle.btree_nodes.specs.Given.{given, IsCached}
+use Rattle.node_cache.specs.Given.{given, IsCached}
 use Rattle.btree_nodes.specs.Changes.{Pushes, AreReady}
 use Rattle.btree_nodes.specs.Growths.{grown_of, pushed_of}
 use Rattle.btree_nodes.proofs.PutRows.{put_rows, put_pushed, can_put, limits_outcome}
 use Rattle.btree_nodes.proofs.insertion.put_at.Goals as goal
 
-pub returns-in_err-test_limits-clause-outcome : goal.returns-in_err-test_limits-clause-outcome
-returns-in_err-test_limits-clause-outcome c =
+pub returns-in_err-test_limits : goal.returns-in_err-test_limits
+returns-in_err-test_limits c =
     let b = c.args.bucket.now in
     let key = c.args.key.now in
     let value = c.args.value.now in
     let path = c.args.path in
     let pair : FitsPair (key, value) = (c.requires.key, c.requires.value) in
     let grown : grown_of c.in_ok-below.below ≡ growth (path.depth - 1) b.bucket (given b) path.next (key, value) path.root = (c.in_ok-below.ensures).grown in
-    let same : pushed_of c.in_ok-push.push ≡ put_rows b c.requires.fits key value pair path c.requires.path =
+    let same : pushed_of c.in_ok-push.push ≡ put_rows b key value pair path c.requires.path =
     (c.in_ok-push.ensures) ∙ (λ i. with_head (c.bucket.ensures i) (c.version_of.ensures.is i) path.root path.next path.depth (grown i).rows (grown i).next (grown i).split) in
     let p = err_from_is_err_and c.from_residual-in_err-test_limits.result c.from_residual-in_err-test_limits.ensures.1 in
-    rw (p.1, p.2) (limits_outcome b c.requires.fits key value pair path c.requires.path c.in_ok-push.push same c.args.log.now c.in_err-test_limits.field-0.0 (c.in_err-test_limits.ensures))
+    record { outcome = rw (p.1, p.2) (limits_outcome b key value pair path c.requires.path c.in_ok-push.push same c.args.log.now c.in_err-test_limits.field-0.0 (c.in_err-test_limits.ensures)) }
 
 pub push_all-requires-clause-of_bucket : goal.push_all-requires-clause-of_bucket
 push_all-requires-clause-of_bucket c =
@@ -31,9 +31,9 @@ push_all-requires-clause-of_bucket c =
     let path = c.args.path in
     let pair : FitsPair (key, value) = (c.requires.key, c.requires.value) in
     let grown : grown_of c.in_ok-below.below ≡ growth (path.depth - 1) b.bucket (given b) path.next (key, value) path.root = (c.in_ok-below.ensures).grown in
-    let same : pushed_of c.in_ok-push.push ≡ put_rows b c.requires.fits key value pair path c.requires.path =
+    let same : pushed_of c.in_ok-push.push ≡ put_rows b key value pair path c.requires.path =
     (c.in_ok-push.ensures) ∙ (λ i. with_head (c.bucket.ensures i) (c.version_of.ensures.is i) path.root path.next path.depth (grown i).rows (grown i).next (grown i).split) in
-    let can = can_put b c.requires.fits key value pair path c.requires.path c.in_ok-push.push same (c.in_ok-test_limits.ensures) in
+    let can = can_put b key value pair path c.requires.path c.in_ok-push.push same (c.in_ok-test_limits.ensures) in
     subst (λ (rows : List Row). AllByRecursion (λ row. row.node.bucket ≡ b.bucket) rows) (sym c.as_slice.ensures) can.of_bucket
 
 pub push_all-requires-clause-ready : goal.push_all-requires-clause-ready
@@ -44,9 +44,9 @@ push_all-requires-clause-ready c =
     let path = c.args.path in
     let pair : FitsPair (key, value) = (c.requires.key, c.requires.value) in
     let grown : grown_of c.in_ok-below.below ≡ growth (path.depth - 1) b.bucket (given b) path.next (key, value) path.root = (c.in_ok-below.ensures).grown in
-    let same : pushed_of c.in_ok-push.push ≡ put_rows b c.requires.fits key value pair path c.requires.path =
+    let same : pushed_of c.in_ok-push.push ≡ put_rows b key value pair path c.requires.path =
     (c.in_ok-push.ensures) ∙ (λ i. with_head (c.bucket.ensures i) (c.version_of.ensures.is i) path.root path.next path.depth (grown i).rows (grown i).next (grown i).split) in
-    let can = can_put b c.requires.fits key value pair path c.requires.path c.in_ok-push.push same (c.in_ok-test_limits.ensures) in
+    let can = can_put b key value pair path c.requires.path c.in_ok-push.push same (c.in_ok-test_limits.ensures) in
     subst (λ (rows : List Row). AreReady (IsCached b) rows) (sym c.as_slice.ensures) can.ready
 
 pub push_all-requires-clause-recs : goal.push_all-requires-clause-recs
@@ -57,27 +57,28 @@ push_all-requires-clause-recs c =
     let path = c.args.path in
     let pair : FitsPair (key, value) = (c.requires.key, c.requires.value) in
     let grown : grown_of c.in_ok-below.below ≡ growth (path.depth - 1) b.bucket (given b) path.next (key, value) path.root = (c.in_ok-below.ensures).grown in
-    let same : pushed_of c.in_ok-push.push ≡ put_rows b c.requires.fits key value pair path c.requires.path =
+    let same : pushed_of c.in_ok-push.push ≡ put_rows b key value pair path c.requires.path =
     (c.in_ok-push.ensures) ∙ (λ i. with_head (c.bucket.ensures i) (c.version_of.ensures.is i) path.root path.next path.depth (grown i).rows (grown i).next (grown i).split) in
-    let can = can_put b c.requires.fits key value pair path c.requires.path c.in_ok-push.push same (c.in_ok-test_limits.ensures) in
+    let can = can_put b key value pair path c.requires.path c.in_ok-push.push same (c.in_ok-test_limits.ensures) in
     subst (λ (rows : List Row). AllByRecursion (λ row. FitsRec row.rec × (row.version ≤ greatest)) rows) (sym c.as_slice.ensures) can.recs
 
-pub returns-clause-outcome : goal.returns-clause-outcome
-returns-clause-outcome c =
+pub returns : goal.returns
+returns c =
     let b = c.args.bucket.now in
     let key = c.args.key.now in
     let value = c.args.value.now in
     let path = c.args.path in
     let pair : FitsPair (key, value) = (c.requires.key, c.requires.value) in
     let grown : grown_of c.in_ok-below.below ≡ growth (path.depth - 1) b.bucket (given b) path.next (key, value) path.root = (c.in_ok-below.ensures).grown in
-    let same : pushed_of c.in_ok-push.push ≡ put_rows b c.requires.fits key value pair path c.requires.path =
-    (c.in_ok-push.ensures) ∙ (λ i. with_head (c.bucket.ensures i) (c.version_of.ensures.is i) path.root path.next path.depth (grown i).rows (grown i).next (grown i).split) in (
+    let same : pushed_of c.in_ok-push.push ≡ put_rows b key value pair path c.requires.path =
+    (c.in_ok-push.ensures) ∙ (λ i. with_head (c.bucket.ensures i) (c.version_of.ensures.is i) path.root path.next path.depth (grown i).rows (grown i).next (grown i).split) in record { outcome = (
       tt,
       record { here = c.requires.path.here; fit = c.requires.path.fit },
       record {
         rows = c.in_ok-push.push.rows;
-        pushed = put_pushed b c.requires.fits key value pair path c.requires.path c.in_ok-push.push same (Ok c.in_ok-push.push.rows) (c.in_ok-test_limits.ensures);
+        is_pushed = put_pushed b key value pair path c.requires.path c.in_ok-push.push same (Ok c.in_ok-push.push.rows) (c.in_ok-test_limits.ensures);
         behind = (c.in_ok-push_all.ensures).log ∙ ap (λ (rows : List Row). c.args.log.now ++ rows) c.as_slice.ensures;
         pushes = subst (Pushes b c.push_all.new.bucket) c.as_slice.ensures (c.in_ok-push_all.ensures).pushes;
+        fits = (can_put b key value pair path c.requires.path c.in_ok-push.push same (c.in_ok-test_limits.ensures)).fits;
       },
-    )
+    ) }

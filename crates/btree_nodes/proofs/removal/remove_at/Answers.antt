@@ -1,30 +1,30 @@
-use Rattle.std.proofs.Common.{◌≡◌, ◌≤◌, true, false, [], ◌∷◌, refl, sym, ap, subst, ◌∙◌, Ok}
+use Rattle.std.proofs.Common.{◌≡◌, ◌≤◌, true, false, [], ◌∷◌, refl, sym, ap, subst, ◌∙◌, Ok, arith}
 use Rattle.std.proofs.lemmas.Result.{err_from_is_err_and}
 use Rattle.fine_model.specs.declared.Rec.TheVariants as rec
 use Rattle.fine_model.specs.declared.Row.{Row}
 use Rattle.fine_model.specs.Map.{has}
-use Rattle.btree_nodes.specs.Trees.{pairs_in}
-use Rattle.btree_nodes.proofs.LeafPush.{copied_there, leaf_row, there_by, del_pushed, del_over, del_absent}
+use Rattle.btree_nodes.specs.Trees.{pairs_in, FitsLog}
+use Rattle.btree_nodes.proofs.LeafPush.{copied_there, leaf_row, there_by, del_pushed, del_over, del_first, del_absent, leaf_fits}
 use Rattle.btree_nodes.proofs.removal.remove_at.Goals as goal
 
-pub returns-then-is_none-clause-outcome : goal.returns-then-is_none-clause-outcome
-returns-then-is_none-clause-outcome c =
+pub returns-then-is_none : goal.returns-then-is_none
+returns-then-is_none c =
     let b = c.args.bucket.now in
     let key = c.args.key.now in
     let absent : has (pairs_in b key) key ≡ false = sym (there_by b key c.args.path c.requires.path _ c.value_in.ensures) ∙ copied_there c.value_in.result ∙ c.if-is_none.ensures in
-    (sym absent, record { here = c.requires.path.here; fit = c.requires.path.fit }, del_absent b key c.args.path c.requires.path c.args.log.now absent)
+    record { outcome = (sym absent, record { here = c.requires.path.here; fit = c.requires.path.fit }, del_absent b key c.args.path c.requires.path c.args.log.now absent) }
 
-pub returns-in_err-next_version-clause-outcome : goal.returns-in_err-next_version-clause-outcome
-returns-in_err-next_version-clause-outcome c =
+pub returns-in_err-next_version : goal.returns-in_err-next_version
+returns-in_err-next_version c =
     let b = c.args.bucket.now in
     let key = c.args.key.now in
     let there : has (pairs_in b key) key ≡ true = sym (there_by b key c.args.path c.requires.path _ c.value_in.ensures) ∙ copied_there c.value_in.result ∙ c.if-is_none.ensures in
     let over = (c.in_err-next_version.ensures) in
     let p = err_from_is_err_and c.from_residual.result c.from_residual.ensures.1 in
-    rw (p.1, p.2, over.0) (del_over b key c.args.path c.requires.path there over.1, record { here = c.requires.path.here; fit = c.requires.path.fit }, record { nodes = refl; rows = refl })
+    record { outcome = rw (p.1, p.2, over.0) (del_over b key c.args.path c.requires.path there over.1, del_first b key c.args.path c.requires.path there over.1, record { here = c.requires.path.here; fit = c.requires.path.fit }, record { nodes = refl; rows = refl }) }
 
-pub returns-clause-outcome : goal.returns-clause-outcome
-returns-clause-outcome c =
+pub returns : goal.returns
+returns c =
     let b = c.args.bucket.now in
     let key = c.args.key.now in
     let path = c.args.path in
@@ -32,13 +32,14 @@ returns-clause-outcome c =
     let version = (c.in_ok-next_version.ensures) in
     let mine : Row = record { node = record { bucket = c.bucket.result; number = path.leaf }; version = c.in_ok-next_version.field-0; rec = rec.Del c.in_ok-bytes_of.field-0 } in
     let same : mine ≡ leaf_row b key path c.requires.path (rec.Del key) =
-    λ i. record { node = record { bucket = c.bucket.ensures i; number = path.leaf }; version = version.0 i; rec = rec.Del (c.in_ok-bytes_of.ensures i) } in (
+    λ i. record { node = record { bucket = c.bucket.ensures i; number = path.leaf }; version = version.0 i; rec = rec.Del (c.in_ok-bytes_of.ensures i) } in record { outcome = (
       sym there,
       record { here = c.requires.path.here; fit = c.requires.path.fit },
       record {
         rows = mine ∷ [];
-        pushed = del_pushed b key path c.requires.path there (subst (λ v. v ≤ 4611686018427387904) version.0 version.1) ∙ ap (λ row. Ok (row ∷ [])) (sym same);
+        is_pushed = del_pushed b key path c.requires.path there (subst (λ v. v ≤ 4611686018427387904) version.0 version.1) ∙ ap (λ row. Ok (row ∷ [])) (sym same);
         behind = (c.in_ok-push_row.ensures).log;
         pushes = (c.in_ok-push_row.ensures).pushes;
+        fits = subst (λ row. FitsLog b.bucket (row ∷ [])) (sym same) (leaf_fits b key path c.requires.path (rec.Del key) c.requires.key (λ e. omega (arith, e)) (subst (λ v. v ≤ 4611686018427387904) version.0 version.1));
       },
-    )
+    ) }

@@ -1,10 +1,12 @@
 use Rattle.std.proofs.Common.{◌<◌, ◌-◌, sym, ap, subst, ◌∙◌, arith, rules}
 use Rattle.std.proofs.lemmas.Result.{err_from_is_err_and}
 use Rattle.fine_model.specs.Paths.{meets}
-use Rattle.btree_nodes.specs.Given.{given, IsCached}
+use Rattle.node_cache.specs.Given.{given, IsCached}
 use Rattle.btree_nodes.specs.Descent.{bounds_by}
 use Rattle.btree_nodes.specs.Scans.{IsUnfitUnder, IsScanned}
 use Rattle.btree_nodes.proofs.Scanned.{leaf_answer, inner_unfit, kids_answer, inner_stays, none_wanted, none_behind, IsChildOf, child_small, child_stays, child_bounds, scanned_stays, passed_over, scanned_on, fault_below}
+use Rattle.btree_nodes.proofs.Loads.{loaded_then}
+use Rattle.btree_nodes.proofs.OnWalks.{numbers_first, numbers_step, walk_past, walk_first, walk_on}
 use Rattle.btree_nodes.proofs.Ways.{kept_stays}
 use Rattle.btree_nodes.proofs.scanning.+scan.Goals as goal
 
@@ -96,3 +98,54 @@ scan_kids-returns-clause-way g t c =
     scanned_on d (c.args.height - 1) c.args.next low high c.args.at c.args.place child of_d c.args.wanted some c.if-wanted-eq0.false c.in_ok-left.left c.args.out.now c.scan_from.new.out c.scan_kids-2.new.out _ _
     (λ f h. g.met.S.NodeSource.fails_earlier _ _ _ f c.scan_from.ensures.later h)
     (subst (λ k. IsScanned d (c.args.height - 1) c.args.next low high k child.number c.args.wanted c.in_ok-left.left c.args.out.now c.scan_from.new.out) (sym bounds) one) c.scan_kids-2.result c.scan_kids-2.ensures.way
+
+pub scan_kids-returns-clause-loaded : goal.scan_kids-returns-clause-loaded
+scan_kids-returns-clause-loaded g t c =
+    loaded_then _ _ _ _ _ c.scan_from.new.bucket _ (λ rows. g.met.S.NodeSource.later_tells _ _ rows c.scan_from.ensures.later) (g.met.S.NodeSource.later_upper _ _ c.scan_from.ensures.later) c.scan_from.ensures.loaded c.scan_kids-2.ensures.loaded
+
+pub scan_from-returns-in_err-reach-clause-on_walk : goal.scan_from-returns-in_err-reach-clause-on_walk
+scan_from-returns-in_err-reach-clause-on_walk g t c = numbers_first _ _ _ _ _ c.args.height _ c.args.at.number c.reach.ensures.among
+
+pub scan_from-returns-then-height-eq0-clause-on_walk : goal.scan_from-returns-then-height-eq0-clause-on_walk
+scan_from-returns-then-height-eq0-clause-on_walk g t c = numbers_first _ _ _ _ _ c.args.height _ c.args.at.number c.reach.ensures.among
+
+pub scan_from-returns-then-not-is_inner_within-clause-on_walk : goal.scan_from-returns-then-not-is_inner_within-clause-on_walk
+scan_from-returns-then-not-is_inner_within-clause-on_walk g t c = numbers_first _ _ _ _ _ c.args.height _ c.args.at.number c.reach.ensures.among
+
+pub scan_from-returns-clause-on_walk : goal.scan_from-returns-clause-on_walk
+scan_from-returns-clause-on_walk g t c =
+    let above : 0 < c.args.height = omega arith in
+    numbers_step c.args.low.now c.args.high.now c.args.bucket.now c.reach.new.bucket c.scan_kids.new.bucket c.args.height c.args.at above c.reach.ensures.among c.scan_kids.ensures.on_walk
+
+pub scan_kids-returns-then-not-child_meets-clause-on_walk : goal.scan_kids-returns-then-not-child_meets-clause-on_walk
+scan_kids-returns-then-not-child_meets-clause-on_walk g t c =
+    let b = c.args.bucket.now in
+    let child = c.in-Some.child in
+    let kept = (c.in-Some.ensures).kept in
+    let of : IsChildOf b c.args.next c.args.at c.args.place child = record { there = c.requires.there; low = c.requires.low; high = c.requires.high; inner = c.requires.inner; is = (c.in-Some.ensures).child; child_low = kept.0; child_high = kept.1 } in
+    let d = c.scan_kids.new.bucket in
+    walk_past c.args.low.now c.args.high.now d (c.args.height - 1) c.args.next c.args.at c.args.place child (child_stays _ _ b d c.scan_kids.ensures.loaded c.args.next c.args.at c.args.place child of) b c.scan_kids.ensures.on_walk
+
+pub scan_kids-returns-in_err-left-clause-on_walk : goal.scan_kids-returns-in_err-left-clause-on_walk
+scan_kids-returns-in_err-left-clause-on_walk g t c =
+    let b = c.args.bucket.now in
+    let child = c.in-Some.child in
+    let kept = (c.in-Some.ensures).kept in
+    let of : IsChildOf b c.args.next c.args.at c.args.place child = record { there = c.requires.there; low = c.requires.low; high = c.requires.high; inner = c.requires.inner; is = (c.in-Some.ensures).child; child_low = kept.0; child_high = kept.1 } in
+    let d = c.scan_from.new.bucket in
+    let some = ap (meets c.args.low.now c.args.high.now) (child_bounds _ _ b d c.scan_from.ensures.loaded c.args.next c.args.at c.args.place child of) ∙ sym c.child_meets.ensures ∙ c.if-not-child_meets.false in
+    walk_first c.args.low.now c.args.high.now d (c.args.height - 1) c.args.next c.args.at c.args.place child (child_stays _ _ b d c.scan_from.ensures.loaded c.args.next c.args.at c.args.place child of) b some c.scan_from.ensures.on_walk
+
+pub scan_kids-returns-clause-on_walk : goal.scan_kids-returns-clause-on_walk
+scan_kids-returns-clause-on_walk g t c =
+    let b = c.args.bucket.now in
+    let child = c.in-Some.child in
+    let kept = (c.in-Some.ensures).kept in
+    let of : IsChildOf b c.args.next c.args.at c.args.place child = record { there = c.requires.there; low = c.requires.low; high = c.requires.high; inner = c.requires.inner; is = (c.in-Some.ensures).child; child_low = kept.0; child_high = kept.1 } in
+    let mid = c.scan_from.new.bucket in
+    let d = c.scan_kids-2.new.bucket in
+    let of_mid = child_stays _ _ b mid c.scan_from.ensures.loaded c.args.next c.args.at c.args.place child of in
+    let of_d = child_stays _ _ mid d c.scan_kids-2.ensures.loaded c.args.next c.args.at c.args.place child of_mid in
+    let bounds = child_bounds _ _ mid d c.scan_kids-2.ensures.loaded c.args.next c.args.at c.args.place child of_mid in
+    let some = ap (meets c.args.low.now c.args.high.now) (bounds ∙ child_bounds _ _ b mid c.scan_from.ensures.loaded c.args.next c.args.at c.args.place child of) ∙ sym c.child_meets.ensures ∙ c.if-not-child_meets.false in
+    walk_on c.args.low.now c.args.high.now d (c.args.height - 1) c.args.next c.args.at c.args.place child of_d _ _ b mid c.scan_kids-2.ensures.loaded some bounds c.scan_from.ensures.on_walk c.scan_kids-2.ensures.on_walk

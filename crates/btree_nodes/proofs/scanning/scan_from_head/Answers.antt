@@ -2,9 +2,10 @@ use Rattle.std.proofs.Common.{◌≡◌, ◌==◌, ◌&&◌, not, true, refl, sy
 use Rattle.std.proofs.lemmas.Result.{err_from_is_err_and}
 use Rattle.std.proofs.Math.Bool.{and-false}
 use Rattle.fine_model.specs.Map.{is_below}
-use Rattle.btree_nodes.specs.Given.{given, IsCached}
-use Rattle.btree_nodes.specs.Scans.{IsFirstUnfitBetween}
+use Rattle.node_cache.specs.Given.{given, IsCached}
+use Rattle.btree_nodes.specs.Calls.{IsFirstUnfitBetween}
 use Rattle.btree_nodes.proofs.Loads.{loaded_given, loaded_kept}
+use Rattle.btree_nodes.proofs.OnWalks.{numbers_under}
 use Rattle.btree_nodes.proofs.Paths.{SaysHead, head_some}
 use Rattle.btree_nodes.proofs.ScanHeads.{no_head, found_none, found_all, fault_of_scan}
 use Rattle.btree_nodes.proofs.scanning.scan_from_head.Goals as goal
@@ -55,3 +56,19 @@ returns-clause-ok g c =
     let says = subst (λ k. SaysHead k.0 c.in-Some.root c.in-Some.next c.in-Some.depth) (sym same) (head_some (given mid 0).0 (c.in-Some.root, c.in-Some.next, c.in-Some.depth) c.in-Some.ensures) in
     let some : (is_below low high && not (c.args.limit == 0)) ≡ true = (λ i. (sym c.is_below.ensures ∙ c.if-not-is_below.false) i && not (ne_eqb c.args.limit 0 c.if-limit-eq0.false i)) in
     found_all b low high c.args.limit c.in-Some.root c.in-Some.next c.in-Some.depth then_here says c.in_ok-scan_from.field-0 c.args.out.now c.scan_from.new.out some (c.in_ok-scan_from.ensures).way
+
+pub returns-in_err-scan_from-clause-on_walk : goal.returns-in_err-scan_from-clause-on_walk
+returns-in_err-scan_from-clause-on_walk g c =
+    let b = c.scan_from.new.bucket in
+    let here : IsCached c.reach.new.bucket 0 = (c.in_ok-reach.ensures).there in
+    let same = loaded_given _ _ c.reach.new.bucket b c.scan_from.ensures.loaded 0 here in
+    let says = subst (λ k. SaysHead k.0 c.in-Some.root c.in-Some.next c.in-Some.depth) (sym same) (head_some (given c.reach.new.bucket 0).0 (c.in-Some.root, c.in-Some.next, c.in-Some.depth) c.in-Some.ensures) in
+    numbers_under c.args.low.now c.args.high.now c.args.bucket.now c.reach.new.bucket b c.in-Some.root c.in-Some.next c.in-Some.depth says c.reach.ensures.among c.scan_from.ensures.on_walk
+
+pub returns-clause-on_walk : goal.returns-clause-on_walk
+returns-clause-on_walk g c =
+    let b = c.scan_from.new.bucket in
+    let here : IsCached c.reach.new.bucket 0 = (c.in_ok-reach.ensures).there in
+    let same = loaded_given _ _ c.reach.new.bucket b c.scan_from.ensures.loaded 0 here in
+    let says = subst (λ k. SaysHead k.0 c.in-Some.root c.in-Some.next c.in-Some.depth) (sym same) (head_some (given c.reach.new.bucket 0).0 (c.in-Some.root, c.in-Some.next, c.in-Some.depth) c.in-Some.ensures) in
+    numbers_under c.args.low.now c.args.high.now c.args.bucket.now c.reach.new.bucket b c.in-Some.root c.in-Some.next c.in-Some.depth says c.reach.ensures.among c.scan_from.ensures.on_walk

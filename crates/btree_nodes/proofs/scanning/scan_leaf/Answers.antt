@@ -1,5 +1,5 @@
 use Rattle.std.proofs.Common.{sym, subst, ◌∙◌}
-use Rattle.btree_nodes.specs.Given.{given}
+use Rattle.node_cache.specs.Given.{given}
 use Rattle.btree_nodes.specs.Descent.{bounds_by}
 use Rattle.btree_nodes.specs.Scans.{IsUnfitUnder}
 use Rattle.btree_nodes.proofs.Scanned.{leaf_unfit, leaf_scanned}

@@ -1,9 +1,12 @@
-use Rattle.std.proofs.Common.{refl, sym, subst}
+use Rattle.std.proofs.Common.{ℕ, ◌<◌, Err, refl, sym, subst, ◌∙◌}
 use Rattle.std.proofs.lemmas.Result.{err_from_is_err_and}
-use Rattle.btree_nodes.specs.Given.{given, IsCached}
-use Rattle.btree_nodes.specs.Trees.{IsFirstUnfit}
-use Rattle.btree_nodes.proofs.Loads.{loaded_given, loaded_kept}
-use Rattle.btree_nodes.proofs.Paths.{SaysHead, head_some, head_none, way_path, fault_under}
+use Rattle.node_cache.specs.Given.{given, IsCached}
+use Rattle.btree_nodes.specs.Calls.{IsFirstUnfit}
+use Rattle.btree_nodes.specs.declared.tree.Path.{Path}
+use Rattle.btree_nodes.proofs.Loads.{loaded_given, loaded_kept, loaded_then}
+use Rattle.btree_nodes.proofs.SoundCalls.{clean_map, clean_fault}
+use Rattle.btree_nodes.proofs.Ways.{among_head, used_under}
+use Rattle.btree_nodes.proofs.Paths.{SaysHead, head_some, head_none, way_path, way_from_head, fault_under}
 use Rattle.btree_nodes.proofs.tree.find_leaf.Goals as goal
 
 pub returns-in_default-clause-path : goal.returns-in_default-clause-path
@@ -30,4 +33,52 @@ returns-clause-path g c =
     let then_here = loaded_kept _ _ c.reach.new.bucket b c.descend.ensures.loaded 0 here in
     let same = loaded_given _ _ c.reach.new.bucket b c.descend.ensures.loaded 0 here in
     let says = subst (λ k. SaysHead k.0 c.in-Some.root c.in-Some.next c.in-Some.depth) (sym same) (head_some (given c.reach.new.bucket 0).0 (c.in-Some.root, c.in-Some.next, c.in-Some.depth) c.in-Some.ensures) in
-    way_path b c.args.key.now c.in-Some.root c.in-Some.next c.in-Some.depth then_here says c.in_ok-leaf.leaf (c.in_ok-leaf.ensures).way
+    let of_bucket : b.bucket < 256 = subst (λ (k : ℕ). k < 256) (sym (c.descend.ensures.loaded.bucket ∙ c.reach.ensures.loaded.bucket)) c.requires.bucket in
+    way_path b c.args.key.now c.in-Some.root c.in-Some.next c.in-Some.depth then_here says c.in_ok-leaf.leaf of_bucket (c.in_ok-leaf.ensures).way
+
+pub returns-in_err-reach-clause-on_way : goal.returns-in_err-reach-clause-on_way
+returns-in_err-reach-clause-on_way g c = among_head _ _ _ _ _ c.reach.ensures.among
+
+pub returns-in_default-clause-on_way : goal.returns-in_default-clause-on_way
+returns-in_default-clause-on_way g c = among_head _ _ _ _ _ c.reach.ensures.among
+
+pub returns-in_err-leaf-clause-on_way : goal.returns-in_err-leaf-clause-on_way
+returns-in_err-leaf-clause-on_way g c =
+    let b = c.descend.new.bucket in
+    let here : IsCached c.reach.new.bucket 0 = (c.in_ok-reach.ensures).there in
+    let same = loaded_given _ _ c.reach.new.bucket b c.descend.ensures.loaded 0 here in
+    let says = subst (λ k. SaysHead k.0 c.in-Some.root c.in-Some.next c.in-Some.depth) (sym same) (head_some (given c.reach.new.bucket 0).0 (c.in-Some.root, c.in-Some.next, c.in-Some.depth) c.in-Some.ensures) in
+    way_from_head c.args.bucket.now c.reach.new.bucket b c.args.key.now c.in-Some.root c.in-Some.next c.in-Some.depth says c.reach.ensures.among c.descend.ensures.on_way
+
+pub returns-clause-on_way : goal.returns-clause-on_way
+returns-clause-on_way g c =
+    let b = c.descend.new.bucket in
+    let here : IsCached c.reach.new.bucket 0 = (c.in_ok-reach.ensures).there in
+    let same = loaded_given _ _ c.reach.new.bucket b c.descend.ensures.loaded 0 here in
+    let says = subst (λ k. SaysHead k.0 c.in-Some.root c.in-Some.next c.in-Some.depth) (sym same) (head_some (given c.reach.new.bucket 0).0 (c.in-Some.root, c.in-Some.next, c.in-Some.depth) c.in-Some.ensures) in
+    way_from_head c.args.bucket.now c.reach.new.bucket b c.args.key.now c.in-Some.root c.in-Some.next c.in-Some.depth says c.reach.ensures.among c.descend.ensures.on_way
+
+pub returns-in_err-leaf-clause-loaded : goal.returns-in_err-leaf-clause-loaded
+returns-in_err-leaf-clause-loaded g c =
+    loaded_then _ _ _ _ _ c.reach.new.bucket _ (λ rows. g.met.S.NodeSource.later_tells _ _ rows c.reach.ensures.later) (g.met.S.NodeSource.later_upper _ _ c.reach.ensures.later) c.reach.ensures.loaded c.descend.ensures.loaded
+
+pub returns-clause-loaded : goal.returns-clause-loaded
+returns-clause-loaded g c =
+    loaded_then _ _ _ _ _ c.reach.new.bucket _ (λ rows. g.met.S.NodeSource.later_tells _ _ rows c.reach.ensures.later) (g.met.S.NodeSource.later_upper _ _ c.reach.ensures.later) c.reach.ensures.loaded c.descend.ensures.loaded
+
+pub returns-in_err-leaf-clause-clean : goal.returns-in_err-leaf-clause-clean
+returns-in_err-leaf-clause-clean g c =
+    let p = err_from_is_err_and c.from_residual-in_err-leaf.result c.from_residual-in_err-leaf.ensures.1 in
+    rw (p.1, p.2)
+    (clean_fault ℕ Path c.in_err-leaf.field-0.0 _ (clean_map {A = ℕ} (Err c.in_err-leaf.field-0.0) _ _ (g.met.S.NodeSource.clean_on _ _ _ (c.in_ok-reach.ensures).clean) (c.in_err-leaf.ensures).clean))
+
+pub returns-clause-clean : goal.returns-clause-clean
+returns-clause-clean g c = g.met.S.NodeSource.clean_on _ _ _ (c.in_ok-reach.ensures).clean (c.in_ok-leaf.ensures).clean
+
+pub returns-clause-used : goal.returns-clause-used
+returns-clause-used g c =
+    let b = c.descend.new.bucket in
+    let here : IsCached c.reach.new.bucket 0 = (c.in_ok-reach.ensures).there in
+    let same = loaded_given _ _ c.reach.new.bucket b c.descend.ensures.loaded 0 here in
+    let says = subst (λ k. SaysHead k.0 c.in-Some.root c.in-Some.next c.in-Some.depth) (sym same) (head_some (given c.reach.new.bucket 0).0 (c.in-Some.root, c.in-Some.next, c.in-Some.depth) c.in-Some.ensures) in
+    used_under c.args.bucket.now c.reach.new.bucket b c.args.key.now c.in-Some.root c.in-Some.next c.in-Some.depth says.is (c.in_ok-reach.ensures).used (c.in_ok-leaf.ensures).used

@@ -1,4 +1,4 @@
-use Rattle.btree_nodes.specs.Given.{FitsCache}
+use Rattle.node_cache.proofs.Bounds.{FitsCache, fits_cache}
 use Rattle.btree_nodes.proofs.tests.calls.call_many.Given as goal
 
 abbrev pub invariant-loop-call : goal.invariant-loop-call

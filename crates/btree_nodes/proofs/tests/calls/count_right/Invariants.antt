@@ -1,4 +1,4 @@
-use Rattle.btree_nodes.specs.Given.{FitsCache}
+use Rattle.node_cache.proofs.Bounds.{FitsCache, fits_cache}
 use Rattle.btree_nodes.proofs.tests.calls.count_right.Given as goal
 
 abbrev pub invariant-loop-place : goal.invariant-loop-place

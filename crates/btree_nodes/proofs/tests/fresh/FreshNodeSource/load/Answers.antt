@@ -1,9 +1,9 @@
-use Rattle.std.proofs.Common.{◌≡◌, ℕ, [], Some, is_some, false, refl, sym, ap, subst, ◌∙◌, true≢false, arith}
+use Rattle.std.proofs.Common.{◌≡◌, ℕ, [], is_some, false, refl, sym, ap, subst, ◌∙◌, true≢false}
 use Rattle.std.specs.Prelude.{IfSome}
 use Rattle.fine_model.specs.Nodes.{base, content, replay}
 use Rattle.fine_model.specs.Trees.{nodes_of}
 use Rattle.node_cache.specs.Cache.{cached}
-use Rattle.btree_nodes.specs.Given.{IsFetched}
+use Rattle.node_cache.specs.Given.{IsFetched}
 use Rattle.btree_nodes.proofs.LeafPush.{copied_there}
 use Rattle.btree_nodes.proofs.tests.fresh.FreshNodeSource.load.Goals as goal
 
@@ -22,9 +22,8 @@ returns-in-Ok-clause-load c =
       saved = ap (λ b. b.saved) done.nodes;
       others = done.elsewhere;
       stays = λ here. absurd (true≢false (sym here ∙ none));
-      fetched = λ _. subst (λ o. IfSome o (IsFetched (Some []) 0 old.bucket n)) (sym done.here) (record {
+      fetched = λ _. subst (λ o. IfSome o (IsFetched (λ rows. rows ≡ []) 0 old.bucket n)) (sym done.here) (record {
         epoch = refl;
-        fits = record { node = c.first_node.ensures.fits; version = omega arith };
-        same = λ _. c.first_node.ensures.first old.bucket ∙ sym (no_rows old.bucket n);
+        same = λ rows told fine. c.first_node.ensures.first old.bucket ∙ sym (no_rows old.bucket n) ∙ ap (λ r. nodes_of r old.bucket n) (sym told);
       });
     }

@@ -1,30 +1,53 @@
--- The rows that an eye tells of parts.
-use Rattle.std.specs.Prelude.{◌≡◌, ℕ, zero, suc, List, [], ◌∷◌, take, flat_map, Option, Some, None, option_map}
+-- A view as contracts see it.
+use Rattle.std.specs.Prelude.{◌≡◌, ◌<◌, ◌≤◌, ℕ, List, Contains}
+use Rattle.std.specs.List.{AllByRecursion}
 use Rattle.log_disk.specs.Disk.{Eye}
-use Rattle.fine_model.specs.declared.Mark.{Mark}
 use Rattle.fine_model.specs.declared.Part.{Part}
 use Rattle.fine_model.specs.declared.Row.{Row}
-use Rattle.fine_model.specs.Regions.{Image, body_in}
-use Rattle.node_record.specs.Reading.{row_at}
+use Rattle.fine_model.specs.declared.law.OpenedEye.{OpenedEye}
+use Rattle.fine_model.specs.declared.law.ViewState.{ViewState}
+use Rattle.fine_model.specs.Chain.{regions_of}
+use Rattle.fine_model.specs.Boards.{set_of}
+use Rattle.fine_model.specs.Views.{TellsRows}
+use Rattle.partition_index.specs.Parts.{IsSeen, SameEye}
 use Rattle.node_fetch.specs.Fetched.{TellsParts}
 
--- so many rows that bytes begin with, or those before the first that is none
-unfoldable pub rows_read : Mark → ℕ → List ℕ → List Row
-rows_read mark zero bytes = []
-rows_read mark (suc n) bytes = go_on (row_at mark bytes) (rows_read mark n)
-  where
-    go_on : Option (Row × List ℕ) → (List ℕ → List Row) → List Row
-    go_on None rest = []
-    go_on (Some found) rest = found.0 ∷ rest found.1
+-- the eye, the parts that are read through it, the last epoch that they hold, the place on the board, and the length of the regions
+pub record ViewValue : Type 0 where
+  pub eye : Eye
+  pub parts : List Part
+  pub upto : ℕ
+  pub seat : ℕ
+  pub buffer : ℕ
+  pub region_len : ℕ
 
--- the rows of a part in an image
-abbrev pub part_rows : Image → Part → List Row
-part_rows image p = rows_read p.header.mark p.header.rows (take p.header.area (body_in image p.region p.header))
+-- what holds of every view: its eye sees each part, and has regions below 64 of this length; seats are from 1 on, and each has three buffers
+pub record IsView (v : ViewValue) : Type 0 where
+  pub seen : AllByRecursion (IsSeen v.eye) v.parts
+  pub long : v.region_len ≡ v.eye.region_len
+  pub small : AllByRecursion (λ r. r < 64) v.eye.regions
+  pub place : (1 ≤ v.seat) × (v.buffer < 3)
 
--- the rows of parts, in the order of the parts, where their image is told
-unfoldable pub rows_told : Option Image → List Part → Option (List Row)
-rows_told told parts = option_map (λ image. flat_map (part_rows image) parts) told
+-- an eye as the board has it
+abbrev pub opened : Eye → OpenedEye
+opened eye = record { number = eye.number; regions = set_of eye.regions; told = eye.told }
 
--- parts in the grammar have the rows that they tell
-abbrev pub ViewRows : Type 0
-ViewRows = (eye : Eye) (parts : List Part) (rows : List Row) → TellsParts eye parts rows → rows_told eye.told parts ≡ Some rows
+-- a view as a hall sees it
+abbrev pub state_of : ViewValue → ViewState
+state_of v = record { seat = v.seat; buffer = v.buffer; upto = v.upto; parts = v.parts; region_len = v.region_len; eye = opened v.eye; faults = v.eye.faults }
+
+-- the same view, but for the counts of its eye
+pub record SameView (old new : ViewValue) : Type 0 where
+  pub eye : SameEye old.eye new.eye
+  pub parts : new.parts ≡ old.parts
+  pub upto : new.upto ≡ old.upto
+  pub place : (new.seat ≡ old.seat) × (new.buffer ≡ old.buffer)
+  pub region_len : new.region_len ≡ old.region_len
+
+-- what a view tells is what its eye tells of its parts
+abbrev pub ViewTells : Type 0
+ViewTells = (v : ViewValue) (rows : List Row) → IsView v → TellsRows (state_of v) rows → TellsParts v.eye v.parts rows
+
+-- the eye of a view names all regions of its parts, also as the board has it
+abbrev pub ViewNames : Type 0
+ViewNames = (v : ViewValue) → IsView v → AllByRecursion (λ p. AllByRecursion (Contains (set_of v.eye.regions)) (regions_of p)) v.parts

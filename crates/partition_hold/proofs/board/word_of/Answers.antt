@@ -1,6 +1,5 @@
-use Rattle.std.proofs.Common.{◌≡◌, ◌==◌, ◌<◌, take, ◌∙◌, ap, sym, subst, arith}
-use Rattle.std.specs.Prelude.{nat_eq, bit_or, slice_index_or}
-use Rattle.std.specs.Int.{bit_at}
+use Rattle.std.proofs.Common.{◌<◌, take, ◌∙◌, ap, sym}
+use Rattle.std.specs.Prelude.{nat_eq, slice_index_or}
 use Rattle.std.specs.List.{list_any}
 use Rattle.std.proofs.lemmas.List.{take_more}
 use Rattle.partition_hold.proofs.Bits.{all_next, bit_more}

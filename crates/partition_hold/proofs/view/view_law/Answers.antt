@@ -1,5 +1,5 @@
-use Rattle.partition_hold.proofs.Told.{view_rows}
+use Rattle.partition_hold.proofs.ViewLemmas.{view_names, view_tells}
 use Rattle.partition_hold.proofs.view.view_law.Goals as goal
 
 pub returns : goal.returns
-returns c = view_rows
+returns c = record { tells = view_tells; names = view_names }

@@ -1,5 +1,5 @@
-use Rattle.std.proofs.Common.{◌≡◌, ◌+◌, ◌*◌, ◌∙◌, None, ap, subst, arith, rules}
-use Rattle.std.specs.Prelude.{map, option_map, replicate, Option, vec_len}
+use Rattle.std.proofs.Common.{◌∙◌, ap, rules}
+use Rattle.std.specs.Prelude.{map, option_map}
 use Rattle.partition_hold.specs.Boards.{held_of}
 use Rattle.partition_hold.proofs.Bits.{none_more}
 use Rattle.partition_hold.proofs.table.Board.new.Goals as goal

@@ -1,9 +1,9 @@
-use Rattle.std.proofs.Common.{◌≡◌, ◌+◌, ◌-◌, ◌*◌, ◌<◌, ◌==◌, ◌∙◌, Some, length, drop, length-take, sym, ap, subst, arith, rules}
-use Rattle.std.specs.Prelude.{option_map, map, nat_eq, slice_range, slice_set, IsSome, IfSome, Option}
+use Rattle.std.proofs.Common.{◌≡◌, ◌+◌, ◌-◌, ◌*◌, ◌<◌, ◌==◌, ◌∙◌, Some, length, drop, length-take, sym, ap, subst, arith}
+use Rattle.std.specs.Prelude.{option_map, map, nat_eq, slice_range, slice_set, IsSome, IfSome}
 use Rattle.std.specs.Int.{bit_at}
 use Rattle.std.specs.List.{list_any}
 use Rattle.std.proofs.lemmas.List.{map-set, length-map}
-use Rattle.partition_hold.specs.Boards.{Buffer, buffers_of, empty_of, first_from, is_empty, held_of, set_of}
+use Rattle.partition_hold.specs.Boards.{buffers_of, empty_of, first_from, is_empty, held_of}
 use Rattle.partition_hold.proofs.Bits.{own_buffers, same_regions}
 use Rattle.partition_hold.proofs.table.Board.post.Goals as goal
 

@@ -9,3 +9,4 @@ pub mod Narrowed
 pub mod Exact
 pub mod RowOrder
 pub mod InSpan
+pub mod Placed

@@ -10,3 +10,5 @@ pub mod Exact
 pub mod RowOrder
 pub mod InSpan
 pub mod Placed
+pub mod Bytes
+pub mod Pieces

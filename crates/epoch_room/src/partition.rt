@@ -9,17 +9,13 @@ ghost use Rattle.log_partition.specs.Encoding.{FitsRange};
 ghost use Rattle.epoch_room.specs.Partition.{IsArranged, IsPartitionOf};
 
 use crate::epoch::OpenEpoch;
+use fine_model::format::INDEX_ENTRY;
 use fine_model::{Header, Items, Mark, NoMemory, Range, Row, Rows};
 use log_partition::{EncodeFault, encode};
 use std::alloc::Global;
 
-/// What stands before the rows of a partition in its region, in bytes, and behind the gate.
-pub const HEADER: u64 = 41;
-
+/// What stands between the gate of a region and the rows of a partition, in bytes.
 const BEHIND_GATE: usize = 40;
-
-/// What the index entry of a node takes, in bytes.
-const ENTRY: usize = 14;
 
 /// The header of a partition, and its bytes from byte 1 of its region on.
 #[derive(Drop)]
@@ -60,7 +56,7 @@ pub fn as_partition(
         mark: Mark::Two,
         range,
         rows: rows.len() as u32,
-        nodes: ((bytes.len() - BEHIND_GATE - area) / ENTRY) as u32,
+        nodes: ((bytes.len() - BEHIND_GATE - area) / INDEX_ENTRY) as u32,
         area: area as u32,
         regions: 1,
         more: [0; 7],

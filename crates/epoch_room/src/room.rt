@@ -17,9 +17,10 @@ ghost use Rattle.epoch_room.specs.Meaning.{GoesOnStanding, KeepsInside, StandsAt
 
 use crate::answers::{Counts, Fit, RoomFault, Stamp};
 use crate::epoch::OpenEpoch;
-use crate::partition::{HEADER, as_partition};
+use crate::partition::as_partition;
 use crate::regions::{first_lead, free_regions, last_epoch, regions_in, take_target};
 use crate::sealing::seal_region;
+use fine_model::format::{BODY_START, GREATEST};
 use fine_model::{NoMemory, Part, Parts, Range, RoomLaw};
 use log_disk::{DiskRefusal, LogDisk};
 use private_log::PrivateLog;
@@ -27,9 +28,6 @@ use std::alloc::Global;
 use std::collections::VecDeque;
 use std::marker::Model;
 use std::snapshot::Snapshot;
-
-/// The greatest epoch, and the greatest place.
-const GREATEST: u64 = 4_611_686_018_427_387_904;
 
 /// How many regions are free before a new epoch takes one: the last one is kept for merging.
 const FREE: usize = 2;
@@ -96,7 +94,7 @@ impl<D: LogDisk> Room<D> {
         let Ok(free) = free_regions(alloc, disk.regions(), &parts, &retired) else {
             return Err((NoMemory, disk));
         };
-        let Ok(epoch) = OpenEpoch::new(alloc, disk.region_len() - HEADER) else {
+        let Ok(epoch) = OpenEpoch::new(alloc, disk.region_len() - BODY_START) else {
             return Err((NoMemory, disk));
         };
         let sealed = last_epoch(&parts);
@@ -136,7 +134,7 @@ impl<D: LogDisk> Room<D> {
                 place: self.places,
             };
         }
-        let need = cost.saturating_add(HEADER);
+        let need = cost.saturating_add(BODY_START);
         if need > room {
             return Fit::TooLarge { need, room };
         }

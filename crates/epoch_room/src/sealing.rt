@@ -4,10 +4,8 @@ ghost use Rattle.std.specs.Prelude.{◌+◌, ◌≡◌, ◌<◌, ◌≤◌, [], 
 ghost use Rattle.log_disk.specs.Disk.{IsSound, IsUnseen, SameBeside, CountsOwn, with_bytes};
 ghost use Rattle.epoch_room.specs.Gate.{LeavesOpening, LeavesSealing, LeavesNow, LeavesTorn, HasBytes, gate};
 
+use fine_model::format::SEALED_GATE;
 use log_disk::{DiskRefusal, LogDisk};
-
-/// The first byte of a sealed region.
-const SEALED_GATE: u8 = 0xa7;
 
 /// Opens the gate of a region in which a partition was written from byte 1 on: syncs, writes the gate, and syncs.
 ///

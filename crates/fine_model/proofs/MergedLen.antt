@@ -61,7 +61,7 @@ names_merged older newer id =
 -- ---- lengths
 
 -- what a function of nodes gives, added up
-total : (NodeId → ℕ) → List NodeId → ℕ
+unfoldable pub total : (NodeId → ℕ) → List NodeId → ℕ
 total f [] = 0
 total f (id ∷ ids) = f id + total f ids
 
@@ -88,7 +88,7 @@ into_len id own version (Some image) = by (starts_afresh own && nat_le (row_len 
         let few = leb-true (row_len row) (rows_len own) (and_parts (starts_afresh own) (nat_le (row_len row) (rows_len own)) e).1 in omega (arith, few, one)
     by false e = omega arith
 
-abbrev len_of : List Row → NodeId → ℕ
+abbrev pub len_of : List Row → NodeId → ℕ
 len_of rows id = rows_len (rows_of id rows)
 
 node_len : (rows : List Row) (id : NodeId) → rows_len (merged_node rows id) ≤ len_of rows id
@@ -103,8 +103,17 @@ other_row row rows (id ∷ ids) others =
     let here : len_of (row ∷ rows) id ≡ len_of rows id = ap (λ b. rows_len (cond b (row ∷ rows_of id rows) (rows_of id rows))) others.0 in
     let rest = other_row row rows ids others.1 in omega (arith, here, rest)
 
+-- no node stands twice
+abbrev pub Apart : List NodeId → Type 0
+Apart [] = Unit {0}
+Apart (id ∷ ids) = AllByRecursion (λ i. is_node i id ≡ false) ids × Apart ids
+
+ascend_apart : (ids : List NodeId) → Ascend ids → Apart ids
+ascend_apart [] up = tt
+ascend_apart (id ∷ ids) up = (all_map (λ i. is_node_below id i ≡ true) (λ i. is_node i id ≡ false) (λ i h. (below-other id i h).1) ids up.0, ascend_apart ids up.1)
+
 -- a row adds its length at one node at most
-one_row : (row : Row) (rows : List Row) (ids : List NodeId) → Ascend ids → total (len_of (row ∷ rows)) ids ≤ row_len row + total (len_of rows) ids
+one_row : (row : Row) (rows : List Row) (ids : List NodeId) → Apart ids → total (len_of (row ∷ rows)) ids ≤ row_len row + total (len_of rows) ids
 unfolding total
 one_row row rows [] up = omega arith
 one_row row rows (id ∷ ids) up = by (is_node id row.node) refl (one_row row rows ids up.1)
@@ -115,7 +124,7 @@ one_row row rows (id ∷ ids) up = by (is_node id row.node) refl (one_row row ro
         let here : rows_len (cond (is_node id row.node) (row ∷ rows_of id rows) (rows_of id rows)) ≡ row_len row + len_of rows id =
         ap (λ b. rows_len (cond b (row ∷ rows_of id rows) (rows_of id rows))) e ∙ sum_by-cons row_len row (rows_of id rows) in
         let others = other_row row rows ids
-        (all_map (λ i. is_node_below id i ≡ true) (λ i. is_node i row.node ≡ false) (λ i h. subst (λ k. is_node i k ≡ false) (same_node id row.node e) (below-other id i h).1) ids up.0) in omega (arith, here, others)
+        (all_map (λ i. is_node i id ≡ false) (λ i. is_node i row.node ≡ false) (λ i h. subst (λ k. is_node i k ≡ false) (same_node id row.node e) h) ids up.0) in omega (arith, here, others)
     by false e rest =
         let here : rows_len (cond (is_node id row.node) (row ∷ rows_of id rows) (rows_of id rows)) ≡ len_of rows id = ap (λ b. rows_len (cond b (row ∷ rows_of id rows) (rows_of id rows))) e in
         omega (arith, here, rest)
@@ -126,7 +135,7 @@ no_rows [] = refl
 no_rows (id ∷ ids) = let rest = no_rows ids in omega (arith, rest)
 
 -- rows by node are no longer than the rows
-by_node : (rows : List Row) (ids : List NodeId) → Ascend ids → total (len_of rows) ids ≤ rows_len rows
+pub by_node : (rows : List Row) (ids : List NodeId) → Apart ids → total (len_of rows) ids ≤ rows_len rows
 by_node [] ids up = let z = no_rows ids in omega (arith, z)
 by_node (row ∷ rows) ids up =
     let one = one_row row rows ids up in
@@ -138,7 +147,7 @@ unfolding merged
 merged_len older newer = record {
   rows =
       let flat = len_flat (merged_node (older ++ newer)) (len_of (older ++ newer)) (node_len (older ++ newer)) (nodes_in (older ++ newer)) in
-      let few = by_node (older ++ newer) (nodes_in (older ++ newer)) (nodes_ascend (older ++ newer)) in
+      let few = by_node (older ++ newer) (nodes_in (older ++ newer)) (ascend_apart (nodes_in (older ++ newer)) (nodes_ascend (older ++ newer))) in
       let both = sum_by-append row_len older newer in omega (arith, flat, few, both);
   nodes = nodes_alike (merged older newer) (older ++ newer) (names_merged older newer);
 }

@@ -4,7 +4,7 @@ use Rattle.std.specs.List.{AllByRecursion, range_with_len}
 use Rattle.fine_model.specs.Types.{Row, Mark}
 use Rattle.fine_model.specs.Types.call
 use Rattle.fine_model.specs.Types.reply
-use Rattle.fine_model.specs.RowBytes.{FitsPair, FitsRow}
+use Rattle.fine_model.specs.RowBytes.{rows_len, FitsPair, FitsRow}
 use Rattle.fine_model.specs.Map.{Pair, is_below, is_ascending, between, from_pairs}
 use Rattle.fine_model.specs.Store.{answer}
 use Rattle.fine_model.specs.Trees.{IsSound, bucket_of, tree_map, map_of}
@@ -76,6 +76,10 @@ KeptAll = (rows : List Row) (low high : List ℕ) (limit : ℕ) (kept found : Li
 -- the map of rows within the format's bounds has keys and values within them
 abbrev pub PairsFit : Type 0
 PairsFit = (mark : Mark) (rows : List Row) → AllByRecursion (FitsRow mark) rows → AllByRecursion FitsPair (map_of rows)
+
+-- and has no more pairs than the rows have bytes
+abbrev pub FewPairs : Type 0
+FewPairs = (rows : List Row) → IsSound rows → length (map_of rows) ≤ rows_len rows
 
 -- A range from the empty key to 65 bytes of 255 holds all pairs whose keys have at most 64 bytes.
 abbrev pub WholeRange : Type 0

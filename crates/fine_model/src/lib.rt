@@ -8,6 +8,7 @@ mod becoming;
 mod bound_laws;
 mod chain_laws;
 mod copied;
+pub mod format;
 mod law;
 mod laws;
 mod list;

@@ -36,17 +36,38 @@ impl<T: Drop> From<(NoMemory, T)> for NoMemory {
 pub trait Copied: Sized {
     fn copy(&self) -> Result<Self, NoMemory>
         ensures { IfOk result (λ copy. copy ≡ self.now) };
+
+    /// The copies of items, in one block of memory beside what each of them takes.
+    fn copy_all(alloc: Global, items: &[Self]) -> Result<Vec<Self>, NoMemory>
+    where
+        Self: Drop
+        ensures { IfOk result (λ copies. copies.items ≡ items.now) }
+    {
+        let mut copies = Vec::with_capacity(alloc, items.len())?;
+        for item in items {
+            copies.push(item.copy()?)?;
+        }
+        Ok(copies)
+    }
 }
 
 impl Copied for u8 {
     fn copy(&self) -> Result<u8, NoMemory> {
         Ok(*self)
     }
+
+    fn copy_all(alloc: Global, items: &[u8]) -> Result<Vec<u8>, NoMemory> {
+        Ok(Vec::from_slice(alloc, items)?)
+    }
 }
 
 impl Copied for u32 {
     fn copy(&self) -> Result<u32, NoMemory> {
         Ok(*self)
+    }
+
+    fn copy_all(alloc: Global, items: &[u32]) -> Result<Vec<u32>, NoMemory> {
+        Ok(Vec::from_slice(alloc, items)?)
     }
 }
 
@@ -172,13 +193,7 @@ impl<T: Drop> Items<T> {
 
 impl<T: Copied + Drop> Copied for Items<T> {
     fn copy(&self) -> Result<Items<T>, NoMemory> {
-        let mut copy = Items::new(*self.items.allocator());
-        for item in &self.items {
-            let one = item.copy()?;
-            if copy.push(one).is_err() {
-                return Err(NoMemory);
-            }
-        }
-        Ok(copy)
+        let items = T::copy_all(*self.items.allocator(), &self.items)?;
+        Ok(Items { items })
     }
 }

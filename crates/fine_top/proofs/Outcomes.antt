@@ -11,7 +11,8 @@ use Rattle.fine_model.specs.declared.Outcome.TheVariants as outcome
 use Rattle.fine_model.specs.History.{Commit}
 use Rattle.fine_model.specs.Outcomes.{IsOutcomeOf, IsCommittedAt, IsHistoryOf, AreOutcomes, EpochsFollow}
 use Rattle.fine_model.specs.Report.{all_outcomes}
-use Rattle.fine_top.specs.Running.{commit_of, commits_of, AreNumbered, HasRunFirst, HasRun}
+use Rattle.fine_top.specs.Running.{commit_of, commits_of, AreNumbered, HasRunFirst}
+use Rattle.fine_model.specs.Outcomes.{HasRun}
 use Rattle.fine_top.specs.Steps.{HasOutcomes}
 
 -- ---- one more outcome

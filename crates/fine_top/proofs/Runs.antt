@@ -20,7 +20,8 @@ use Rattle.fine_model.proofs.Sets.{all_append}
 use Rattle.log_disk.specs.Disk.{HasRisen}
 use Rattle.epoch_room.specs.Value.{RoomValue}
 use Rattle.epoch_room.specs.Meaning.{GoesOnStanding}
-use Rattle.fine_top.specs.Running.{commit_of, commits_of, AreNumbered, HasRun}
+use Rattle.fine_top.specs.Running.{commit_of, commits_of, AreNumbered}
+use Rattle.fine_model.specs.Outcomes.{HasRun}
 use Rattle.fine_top.specs.Refusals.{IsFull, IsSpent, GoesLater, RefusesBehind, EachRefusedFor}
 use Rattle.fine_top.specs.Steps.{StandsHere, KeepsPlace, GoesOn, RefusedSoFar, RunsTxn, CountsFailure, RunsTo, IsFine, MaySeal, FailsToSeal, SealsRest, IsFaultOf, EndsRun, RunsScript}
 use Rattle.fine_top.proofs.Outcomes.{numbered_more}

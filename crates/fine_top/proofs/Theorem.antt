@@ -26,7 +26,7 @@ use Rattle.fine_model.specs.Report.{all_outcomes, reason_bytes, report}
 use Rattle.script_text.specs.Streams.{Puts, behind}
 use Rattle.fine_top.specs.Ends.{Ended, early, ran, text_of, status_of, run_status, IsRunOn, IsRunOf, IsRunOfTold, IsReason, EndsEarly, MayRun, IsEnd, Ends, OneOf, RefusesWell, RanWell, RunsWell, OfTold, IsRefused}
 use Rattle.fine_model.proofs.NodeLaws.{Agrees-refl}
-use Rattle.fine_top.specs.Running.{HasRun}
+use Rattle.fine_model.specs.Outcomes.{AllRun}
 use Rattle.fine_top.proofs.Outcomes.{are_outcomes}
 use Rattle.fine_top.proofs.Caused.{no_causes}
 
@@ -162,9 +162,9 @@ module _ (words opened : Type 0) (damaged : Damage → Type 0) (left : Option (L
             };
             printed = inr (text, is, (en.failed refl).counts.own_faults tt, ap clock_of (same_after (reason.Fault run_fault.Disk) en why), refl);
             all_durable = λ h. refl;
+            all_run = λ h. absurd (grind (arith, is, h));
           };
           causes = no_causes old.region_len e rows after.bytes spells.0 (length spells.0 - 0) [] e;
-          all_run = λ h. absurd (grind (arith, is, h));
         })
 
     -- an early end whose text was written
@@ -197,12 +197,11 @@ module _ (words opened : Type 0) (damaged : Damage → Type 0) (left : Option (L
       short written front = record { script = script; ran = r; history = on.history; read = read; run = run; printed = front }
 
       done : (written : List ℕ) → written ≡ report script r → HasStatus status r.outcomes r.fault → (¬ ((status ≡ 6) × HasRisen old.own_faults new.own_faults) → r.durable ≡ last_epoch e on.history)
-          → (OneOf (0 ∷ 8 ∷ []) status → AllByRecursion HasRun (all_outcomes script r.outcomes))
+          → ((status ≡ 0) ⊎ (status ≡ 8) → AllRun (all_outcomes script r.outcomes))
           → RefusesWell start since (IsImageNow after) (HasRisen old.own_faults new.own_faults) (clock_of after ≡ clock_of before) after.bytes status written
       done written text has durable all = record {
-        done = record { script = script; ran = r; history = on.history; read = read; run = run; printed = inl (text, has); all_durable = durable };
+        done = record { script = script; ran = r; history = on.history; read = read; run = run; printed = inl (text, has); all_durable = durable; all_run = all };
         causes = on.causes;
-        all_run = all;
       }
 
       ran_whole : (written : List ℕ) → written ≡ report script r → (f : Option RunFault) → r.fault ≡ f → status ≡ run_status r.outcomes f → Theorem written

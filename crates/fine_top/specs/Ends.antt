@@ -11,7 +11,7 @@ use Rattle.fine_model.specs.declared.Damage.{Damage}
 use Rattle.fine_model.specs.declared.Reason.{Reason}
 use Rattle.fine_model.specs.declared.Reason.TheVariants as reason
 use Rattle.fine_model.specs.declared.Ran.{Ran}
-use Rattle.fine_model.specs.Outcomes.{is_refused}
+use Rattle.fine_model.specs.Outcomes.{AllRun, is_refused}
 use Rattle.fine_model.specs.History.{Commit, last_epoch}
 use Rattle.fine_model.specs.Trees.{IsSound}
 use Rattle.fine_model.specs.Chain.{Shows}
@@ -20,7 +20,6 @@ use Rattle.fine_model.specs.Headline.{Start, IsRun, RunDone, RunTheorem}
 use Rattle.fine_model.specs.Script.{many, too_long, bad_line}
 use Rattle.fine_model.specs.Reach.{reached_script_of}
 use Rattle.fine_model.specs.Report.{all_outcomes, reason_bytes, report}
-use Rattle.fine_top.specs.Running.{HasRun}
 use Rattle.fine_top.specs.Refusals.{HaveCauses}
 use Rattle.script_text.specs.Streams.{Puts}
 use Rattle.script_text.specs.declared.read.ScriptFault.{ScriptFault}
@@ -100,7 +99,7 @@ pub record IsRunOf (old new : Disk) (script : List ScriptTxn) (ran : Ran) : Type
   pub no_damage : (what : Damage) → ran.fault ≡ Some (run_fault.Damaged what) → ⊥
   pub failed : ran.fault ≡ Some run_fault.Disk → HasRisen old.faults new.faults × HasRisen old.own_faults new.own_faults
   pub not_failed : ran.fault ≡ None → (new.faults ≡ old.faults) × (new.own_faults ≡ old.own_faults)
-  pub all_run : ran.fault ≡ None → AllByRecursion HasRun (all_outcomes script ran.outcomes)
+  pub all_run : ran.fault ≡ None → AllRun (all_outcomes script ran.outcomes)
   pub no_lower : (old.faults ≤ new.faults) × (old.own_faults ≤ new.own_faults)
   pub told : IsRunOfTold old.region_len old.told new.told script ran
 
@@ -149,11 +148,10 @@ abbrev pub OneOf : List ℕ → ℕ → Type 0
 OneOf [] status = ⊥
 OneOf (s ∷ ss) status = (status ≡ s) ⊎ OneOf ss status
 
--- A run that was done, and the cause of each refusal that was printed. Only a failed disk leaves transactions that were not run.
+-- A run that was done, and the cause of each refusal that was printed.
 pub record RefusesWell (start : Start) (since now : Image → Type 0) (own_rose still : Type 0) (image : Image) (status : ℕ) (written : List ℕ) : Type 0 where
   pub done : RunDone start since now own_rose still status written
   pub causes : HaveCauses start.region_len start.e start.rows image done.script (all_outcomes done.script done.ran.outcomes) done.history done.ran.durable
-  pub all_run : OneOf (0 ∷ 8 ∷ []) status → AllByRecursion HasRun (all_outcomes done.script done.ran.outcomes)
 
 -- the theorem of a run, and the causes of the refusals that it printed
 pub record RanWell (start : Start) (since now : Image → Type 0) (own_rose still untouched : Type 0) (image : Image) (status : ℕ) (written : List ℕ) : Type 0 where

@@ -24,8 +24,3 @@ abbrev pub HasRunFirst : List Outcome → Type 0
 HasRunFirst [] = ⊤
 HasRunFirst (outcome.NotRun ∷ outcomes) = AllByRecursion (λ o. o ≡ outcome.NotRun) outcomes
 HasRunFirst (_ ∷ outcomes) = HasRunFirst outcomes
-
--- an outcome of a transaction that was run
-abbrev pub HasRun : Outcome → Type 0
-HasRun outcome.NotRun = ⊥
-HasRun _ = ⊤

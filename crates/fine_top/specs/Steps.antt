@@ -27,7 +27,8 @@ use Rattle.epoch_room.specs.declared.answers.Fit.{Fit}
 use Rattle.epoch_room.specs.declared.answers.Fit.TheVariants as fit
 use Rattle.leaf_store.specs.Leaves.{Holds, kept}
 use Rattle.leaf_store.specs.declared.answered.Answered.{Answered}
-use Rattle.fine_top.specs.Running.{commits_of, AreNumbered, HasRun}
+use Rattle.fine_model.specs.Outcomes.{HasRun}
+use Rattle.fine_top.specs.Running.{commits_of, AreNumbered}
 use Rattle.fine_top.specs.Refusals.{IsFull, IsSpent, GoesLater, RefusesBehind, EachRefusedFor}
 
 -- the room stands for a sound log and the history since, and the leaves are those of both

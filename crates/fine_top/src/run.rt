@@ -8,7 +8,7 @@ ghost use Rattle.fine_model.specs.declared.Outcome.TheVariants as outcome;
 ghost use Rattle.fine_model.specs.declared.RunFault.TheVariants as run_fault;
 ghost use Rattle.epoch_room.specs.Meaning.{GoesOnStanding};
 ghost use Rattle.epoch_room.specs.Whole.{IsWhole};
-ghost use Rattle.fine_top.specs.Running.{HasRun};
+ghost use Rattle.fine_model.specs.Outcomes.{HasRun};
 ghost use Rattle.fine_top.specs.Steps.{RunsTo, IsFine, CountsFailure, FailsToSeal, SealsRest, IsFaultOf, EndsRun, RunsScript};
 
 use crate::txn::{run_txn, seal_epoch};

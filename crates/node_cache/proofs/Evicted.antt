@@ -5,7 +5,7 @@ use Rattle.std.specs.Map.{keys_of, lookup}
 use Rattle.std.proofs.lemmas.Bool.{cond-true, cond-false, eqb-true, ltb-true, ltb-false, leb-true}
 use Rattle.std.proofs.lemmas.List.Sums.{sum_by-cons}
 use Rattle.std.specs.Map.Calls.{RetainsPairs}
-use Rattle.node_cache.specs.declared.Cached.{Cached}
+use Rattle.node_cache.specs.declared.cached.Cached.{Cached}
 use Rattle.node_cache.specs.Entries.{is_published, without_first}
 
 abbrev goes : ℕ → ℕ → Cached → Bool

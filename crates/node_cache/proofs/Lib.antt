@@ -1,3 +1,4 @@
 pub mod Moved
 pub mod Restored
 pub mod Evicted
+pub mod Bounds

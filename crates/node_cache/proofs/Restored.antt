@@ -3,7 +3,7 @@ use Rattle.std.proofs.Common.{◌≡◌, ℕ, Bool, true, false, cond, if◌then
 use Rattle.std.specs.List.{filter_map, cons_option, IsDistinct, AllByRecursion}
 use Rattle.std.specs.Map.{keys_of, lookup, remove_entry, set_value}
 use Rattle.std.proofs.lemmas.Bool.{cond-true, cond-false}
-use Rattle.node_cache.specs.declared.Cached.{Cached}
+use Rattle.node_cache.specs.declared.cached.Cached.{Cached}
 use Rattle.std.proofs.lemmas.Map.{keys-set_value}
 use Rattle.node_cache.specs.Cache.{IsCache}
 use Rattle.node_cache.specs.Entries.{stamped, restored, as_saved, stamped_at, settled_entry}

@@ -4,7 +4,7 @@ use Rattle.std.specs.List.{IsDistinct, filter_map}
 use Rattle.std.specs.Map.{keys_of, lookup, lookup_entry, remove_entry, set_value}
 use Rattle.std.specs.Option.{option_to_list}
 use Rattle.fine_model.specs.Nodes.{Content}
-use Rattle.node_cache.specs.declared.Cached.{Cached}
+use Rattle.node_cache.specs.declared.cached.Cached.{Cached}
 use Rattle.node_cache.specs.Entries.{stamped, as_saved, settled_entry, is_published, without_first}
 
 -- the bucket's number, its nodes by number with the least recently used first, and of each number that was saved what was
@@ -39,6 +39,10 @@ after c epoch number =
 -- what a bucket stands for at a number: content and version, and the epoch
 abbrev pub kept_at : Cache → ℕ → Option (Content × ℕ)
 kept_at c number = option_map (λ kept. ((kept.node, kept.version), kept.epoch)) (cached c number)
+
+-- nothing is saved
+abbrev pub IsResting : Cache → Type 0
+IsResting c = c.saved ≡ []
 
 -- ---- what the calls leave
 

@@ -1,7 +1,7 @@
 -- The entries of a bucket, and what becomes of them.
 use Rattle.std.specs.Prelude.{ℕ, ◌-◌, nat_eq, nat_le, nat_lt, Bool, ◌&&◌, if◌then◌else◌, List, [], ◌∷◌, Option, Some, None, option_map, is_some, unwrap_or}
 use Rattle.std.specs.Map.{lookup, remove_entry, set_value}
-use Rattle.node_cache.specs.declared.Cached.{Cached}
+use Rattle.node_cache.specs.declared.cached.Cached.{Cached}
 
 -- a node with another epoch
 abbrev pub stamped : ℕ → Cached → Cached

@@ -3,8 +3,8 @@ use Rattle.std.specs.Prelude.{◌≡◌, ℕ, Option, ⊤}
 use Rattle.std.specs.Borrow.{Fml, MutBor, LendsIf, follows_so}
 use mathlib.Core.Option.{none}
 use Rattle.node_cache.specs.Cache.{Cache, touched, rewritten}
-use Rattle.node_cache.specs.declared.Cached.{Cached}
-use Rattle.node_cache.specs.contracts.Cached as kept
+use Rattle.node_cache.specs.declared.cached.Cached.{Cached}
+use Rattle.node_cache.specs.contracts.cached.Cached as kept
 use Rattle.node_cache.specs.contracts.Bucket as bucket
 
 -- the number is the last used

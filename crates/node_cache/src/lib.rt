@@ -9,31 +9,18 @@ ghost use Rattle.indexmap.specs.IndexMap.{IsUnique};
 ghost use Rattle.node_cache.specs.Entries.{as_saved, restored, stamped_at, settled_entry, is_published, without_first};
 ghost use Rattle.std.specs.Borrow.{sem};
 
-use fine_model::{BucketLaw, Copied, NoMemory, Node};
+use fine_model::{BucketLaw, Copied, NoMemory};
 use indexmap::IndexMap;
 use std::alloc::Global;
 use std::marker::Model;
 
+mod cached;
+mod source;
 #[cfg(test)]
 mod tests;
 
-/// A cached node: its content and version, and the last epoch that may have changed it.
-#[derive(Debug, Drop, PartialEq, Eq)]
-pub struct Cached {
-    pub node: Node,
-    pub version: u64,
-    pub epoch: u64,
-}
-
-impl Copied for Cached {
-    fn copy(&self) -> Result<Cached, NoMemory> {
-        Ok(Cached {
-            node: self.node.copy()?,
-            version: self.version,
-            epoch: self.epoch,
-        })
-    }
-}
+pub use cached::Cached;
+pub use source::NodeSource;
 
 /// The cached nodes of a bucket by number, the least recently used first, and the originals of those that were saved.
 ///
@@ -47,8 +34,11 @@ pub struct Bucket {
 
 impl Model for Bucket {
     ghost use Rattle.node_cache.specs.Cache.{Cache, IsCache};
+    ghost use Rattle.node_cache.specs.Codes.{cache_code};
 
     ghost Value = { Cache };
+
+    ghost coded = { cache_code };
 
     ghost view = { λ b. record { bucket = b.bucket; nodes = b.nodes.entries; saved = b.saved.entries } };
 
@@ -56,15 +46,17 @@ impl Model for Bucket {
 }
 
 impl BucketLaw for Bucket {
-    ghost use Rattle.node_cache.specs.Cache.{kept_at};
+    ghost use Rattle.node_cache.specs.Cache.{kept_at, IsResting};
 
     ghost bucket = { λ b. b.bucket };
 
     ghost cached = { kept_at };
+
+    ghost is_settled = { IsResting };
 }
 
 impl Bucket {
-    ghost use Rattle.node_cache.specs.Cache.{Cache, cached, original, before, after, IsSaved, touched, with_node, saving, undone, settled, evicted};
+    ghost use Rattle.node_cache.specs.Cache.{Cache, cached, original, before, after, IsSaved, IsResting, touched, with_node, saving, undone, settled, evicted};
     ghost use Rattle.node_cache.specs.Lent.{EndsTouched, LendsNode};
 
     /// A bucket that caches nothing, of this number. It takes no memory.
@@ -180,7 +172,7 @@ impl Bucket {
     /// Removes nodes whose epoch is at most `published`, the least recently used first, until at most `keep` of these are left. All
     /// others stay, in their order. It takes no memory.
     pub fn evict(&mut self, published: u64, keep: usize)
-        requires { self.old.saved ≡ [] }
+        requires { IsResting self.old }
         ensures nodes { self.new ≡ evicted published keep self.old }
         ensures kept { (n : ℕ) → IfSome (cached self.old n) (λ kept. published < kept.epoch → cached self.new n ≡ Some kept) }
         ensures same { (n : ℕ) → IfSome (cached self.new n) (λ kept. cached self.old n ≡ Some kept) }

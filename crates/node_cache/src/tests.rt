@@ -1,11 +1,14 @@
-ghost use Rattle.std.specs.Prelude.{◌≡◌, [], IfOk};
+ghost use Rattle.std.specs.Prelude.{◌≡◌, ◌≤◌, [], IfOk};
+ghost use Rattle.fine_model.specs.RowBytes.{greatest};
 
 use super::*;
-use fine_model::{Items, Pairs};
+use fine_model::{Items, Node, Pairs};
 use std::test::*;
 
 /// An empty leaf of this version, last changed in this epoch.
-fn leaf(alloc: Global, version: u64, epoch: u64) -> Cached {
+fn leaf(alloc: Global, version: u64, epoch: u64) -> Cached
+    requires { version ≤ greatest }
+{
     Cached {
         node: Node::Leaf {
             pairs: Items::new(alloc),

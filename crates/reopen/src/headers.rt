@@ -9,13 +9,11 @@ ghost use Rattle.reopen.specs.Opening.{SeesHeader, IsBadHeader, with_part, SeesP
 
 use crate::chain::{Chain, chain_of, check_apart};
 use crate::fault::OpenFault;
+use fine_model::format::LONGEST_HEADER;
 use fine_model::{Header, Items, NoMemory, Part, Parts};
 use log_disk::{Failed, LogDisk};
 use log_partition::{HeaderFault, read_header};
 use std::alloc::Global;
-
-/// How many bytes a header has at the most.
-const HEADER: usize = 70;
 
 /// What the first bytes of a region answer to as a header.
 fn see_header<D: LogDisk>(
@@ -28,7 +26,7 @@ fn see_header<D: LogDisk>(
     ensures same { OnOk result (D.state disk.new ≡ D.state disk.old) }
     ensures failed { OnErr result (OnlyFails (D.state disk.old) (D.state disk.new)) }
 {
-    let mut bytes = [0; HEADER];
+    let mut bytes = [0; LONGEST_HEADER];
     let regions = disk.regions();
     let region_len = disk.region_len();
     disk.read(region, 0, &mut bytes)?;

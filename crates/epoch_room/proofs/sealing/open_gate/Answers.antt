@@ -30,7 +30,7 @@ returns-in_err-sync-2-clause-leaves g c =
 
 pub returns-in_err-sync-2-clause-sound : goal.returns-in_err-sync-2-clause-sound
 returns-in_err-sync-2-clause-sound g c =
-    sound_same (g.D.LogDisk.state c.write.new.self) (g.D.LogDisk.state c.sync-2.new.self) c.in_err-sync-2.ensures.err.told c.in_err-sync-2.ensures.err.beside.regions c.in_err-sync-2.ensures.err.beside.region_len c.in_err-sync-2.ensures.err.unsynced
+    sound_same (g.D.LogDisk.state c.write.new.self) (g.D.LogDisk.state c.sync-2.new.self) c.in_err-sync-2.ensures.err.told c.in_err-sync-2.ensures.err.beside c.in_err-sync-2.ensures.err.unsynced
     (sound_write (c.in_ok-write.ensures.begun (λ e. cc)) (sound_sync c.in_ok-sync.ensures.ok c.requires.sound))
 
 pub returns-clause-leaves : goal.returns-clause-leaves

@@ -1,6 +1,6 @@
 use Rattle.std.proofs.Common.{◌≡◌, ℕ, ◌-◌, ◌<◌, ◌≤◌, List, Some, nat_eq, count_by, IfSome, sym, ap, subst, ◌∙◌, arith}
 use Rattle.std.specs.Map.{lookup}
-use Rattle.node_cache.specs.declared.Cached.{Cached}
+use Rattle.node_cache.specs.declared.cached.Cached.{Cached}
 use Rattle.node_cache.specs.Cache.{Cache}
 use Rattle.node_cache.specs.Entries.{is_published, without_first}
 use Rattle.node_cache.proofs.Restored.{IsCache-fresh}

@@ -2,7 +2,7 @@ use Rattle.std.proofs.Common.{ℕ, List, ◌++◌, nat_eq, ap, ◌∙◌}
 use Rattle.std.specs.Map.{remove_entry, lookup_entry}
 use Rattle.std.specs.Option.{option_to_list}
 use Rattle.node_cache.specs.Cache.{Cache}
-use Rattle.node_cache.specs.declared.Cached.{Cached}
+use Rattle.node_cache.specs.declared.cached.Cached.{Cached}
 use Rattle.node_cache.proofs.Moved.{others_inserted, entry_inserted}
 use Rattle.node_cache.proofs.Bucket.put.Goals as goal
 

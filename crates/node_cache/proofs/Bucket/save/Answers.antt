@@ -2,7 +2,7 @@ use Rattle.std.proofs.Common.{◌≡◌, ℕ, if◌then◌else◌, false, Bool, 
 use Rattle.std.specs.Map.{lookup}
 use Rattle.indexmap.proofs.CallerLemmas.{insert_entry-new}
 use Rattle.node_cache.specs.Cache.{Cache}
-use Rattle.node_cache.specs.declared.Cached.{Cached}
+use Rattle.node_cache.specs.declared.cached.Cached.{Cached}
 use Rattle.node_cache.proofs.Moved.{none_found}
 use Rattle.node_cache.proofs.Bucket.save.Goals as goal
 

@@ -1,7 +1,7 @@
 use Rattle.std.proofs.Common.{ℕ, ◌-◌, List, nat_eq, sym, ap, ◌∙◌}
 use Rattle.indexmap.specs.IndexMap.{move_index}
 use Rattle.node_cache.specs.Cache.{Cache}
-use Rattle.node_cache.specs.declared.Cached.{Cached}
+use Rattle.node_cache.specs.declared.cached.Cached.{Cached}
 use Rattle.node_cache.proofs.Moved.{moved, unmoved, none_found}
 use Rattle.node_cache.proofs.Bucket.touch.Goals as goal
 

@@ -70,12 +70,12 @@ names_region_at region_len p at start from l here s f high =
     rw (s, f) (names_region region_len p at l here low)
 
 -- the place of a byte in the lead, and of one behind it
-low_place : (region_len lead : ℕ) (header : Header) (at : ℕ) → at < region_len - body_start header.mark
+pub low_place : (region_len lead : ℕ) (header : Header) (at : ℕ) → at < region_len - body_start header.mark
     → place_of region_len lead header at ≡ record { region = lead; at = body_start header.mark + at }
 unfolding place_of
 low_place region_len lead header at low = rw (lt-ltb at (region_len - body_start header.mark) low) refl
 
-high_place : (region_len lead : ℕ) (header : Header) (at : ℕ) → region_len - body_start header.mark ≤ at
+pub high_place : (region_len lead : ℕ) (header : Header) (at : ℕ) → region_len - body_start header.mark ≤ at
     → place_of region_len lead header at ≡ record {
       region = slice_index header.more ((at - (region_len - body_start header.mark)) / (region_len - 1));
       at = 1 + (at - (region_len - body_start header.mark)) % (region_len - 1);
@@ -117,7 +117,7 @@ place_more region_len lead header at k large within = by (cases_lt at (region_le
         ∙ ap (λ n. record { region = slice_index header.more ((at - (region_len - start)) / (region_len - 1)); at = n }) rest
         ∙ sym (ap (λ p. record { region = p.region; at = p.at + k }) here)
 
-all_long : (len : ℕ) (f : ℕ → List ℕ) (ks : List ℕ) → AllByRecursion (λ k. length (f k) ≡ len) ks → length (flat_map f ks) ≡ length ks * len
+pub all_long : (len : ℕ) (f : ℕ → List ℕ) (ks : List ℕ) → AllByRecursion (λ k. length (f k) ≡ len) ks → length (flat_map f ks) ≡ length ks * len
 all_long len f [] long = omega arith
 all_long len f (k ∷ ks) long = omega (arith, length-append (f k) (flat_map f ks), all_long len f ks long.1, long.0)
 
@@ -125,7 +125,7 @@ all_long len f (k ∷ ks) long = omega (arith, length-append (f k) (flat_map f k
 abbrev pub AreLong : ℕ → Image → Part → Type 0
 AreLong region_len image p = AllByRecursion (λ region. length (region_of image region) ≡ region_len) (regions_of p)
 
-behind_long : (region_len : ℕ) (image : Image) (p : Part) → AreLong region_len image p → AllByRecursion (λ k. length (drop 1 (region_of image k)) ≡ region_len - 1) (continuations p.header)
+pub behind_long : (region_len : ℕ) (image : Image) (p : Part) → AreLong region_len image p → AllByRecursion (λ k. length (drop 1 (region_of image k)) ≡ region_len - 1) (continuations p.header)
 behind_long region_len image p long =
     all_map (λ k. length (region_of image k) ≡ region_len) (λ k. length (drop 1 (region_of image k)) ≡ region_len - 1)
     (λ k h. length-drop 1 (region_of image k) ∙ ap (λ n. n - 1) h) (continuations p.header) long.1

@@ -9,3 +9,6 @@ pub mod Narrowed
 pub mod Exact
 pub mod RowOrder
 pub mod InSpan
+pub mod Placed
+pub mod Bytes
+pub mod Pieces

@@ -10,6 +10,7 @@ use Rattle.fine_model.specs.Nodes.{is_node, rows_of}
 use Rattle.fine_model.specs.Merge.{node_cmp, is_node_below, is_row_below, is_ordered}
 use Rattle.fine_model.proofs.NodesIn.{exact_nodes, node_cases, is_node_below-self, same_node}
 use Rattle.fine_model.proofs.Order.{filter_all, filter_none, first_of_both, all_map}
+pub use Rattle.partition_index.specs.Index.{AllFrom}
 use Rattle.partition_index.proofs.NodeOrder.{below-trans, below-asym, below-other}
 
 -- the node of a row is below that of a row above it, or the same
@@ -23,9 +24,6 @@ row_order r s h = by (node_cmp r.node s.node) refl h
 
 abbrev pub AllAbove : NodeId → List Row → Type 0
 AllAbove n rows = AllByRecursion (λ r. is_node_below n r.node ≡ true) rows
-
-abbrev pub AllFrom : NodeId → List Row → Type 0
-AllFrom n rows = AllByRecursion (λ r. is_node_below r.node n ≡ false) rows
 
 above_next : (n : NodeId) (r s : Row) → is_row_below r s ≡ true → is_node_below n r.node ≡ true → is_node_below n s.node ≡ true
 above_next n r s up h = elim (row_order r s up) [

@@ -8,17 +8,7 @@ use Rattle.fine_model.specs.declared.Row.{Row}
 use Rattle.fine_model.specs.Nodes.{is_node, rows_of}
 use Rattle.fine_model.specs.Merge.{is_node_below, with_node, nodes_in}
 use Rattle.fine_model.proofs.NodesIn.{times, times-nodes_in, is_node-self, same_node}
-use Rattle.fine_model.proofs.Order.{all_map}
-use Rattle.fine_model.proofs.Sets.{all_pass}
-use Rattle.partition_index.proofs.NodeOrder.{AllBelow, below-trans}
-
-abbrev pub AllAbove : NodeId → List NodeId → Type 0
-AllAbove id ids = AllByRecursion (λ i. is_node_below id i ≡ true) ids
-
--- nodes ascend strictly
-abbrev pub Ascend : List NodeId → Type 0
-Ascend [] = Unit {0}
-Ascend (i ∷ ids) = AllAbove i ids × Ascend ids
+pub use Rattle.fine_model.proofs.NodesAscend.{AllAbove, Ascend, nodes_ascend}
 
 all_kept : (P : NodeId → Type 0) (p : NodeId → Bool) (ids : List NodeId) → AllByRecursion P ids → AllByRecursion P (filter p ids)
 all_kept P p [] all = tt
@@ -28,36 +18,9 @@ all_kept P p (i ∷ ids) all = by (p i) (all_kept P p ids all.1)
     by true rest = (all.0, rest)
     by false rest = rest
 
-ascend_kept : (p : NodeId → Bool) (ids : List NodeId) → Ascend ids → Ascend (filter p ids)
-ascend_kept p [] up = tt
-ascend_kept p (i ∷ ids) up = by (p i) (ascend_kept p ids up.1)
-  where
-    by : (t : Bool) → Ascend (filter p ids) → Ascend (cond t (i ∷ filter p ids) (filter p ids))
-    by true rest = (all_kept (λ j. is_node_below i j ≡ true) p ids up.0, rest)
-    by false rest = rest
-
 all_joined : (P : NodeId → Type 0) (a b : List NodeId) → AllByRecursion P a → AllByRecursion P b → AllByRecursion P (a ++ b)
 all_joined P [] b x y = y
 all_joined P (i ∷ a) b x y = (x.0, all_joined P a b x.1 y)
-
--- nodes that ascend, and a node above them that is below others
-ascend_joined : (a : List NodeId) (id : NodeId) (b : List NodeId) → Ascend a → AllBelow id a → AllAbove id b → Ascend b → Ascend (a ++ id ∷ b)
-ascend_joined [] id b up below above rest = (above, rest)
-ascend_joined (i ∷ a) id b up below above rest =
-    (all_joined (λ j. is_node_below i j ≡ true) a (id ∷ b) up.0 (below.0, all_map (λ j. is_node_below id j ≡ true) (λ j. is_node_below i j ≡ true) (λ j h. below-trans i id j below.0 h) b above), ascend_joined a id b up.1 below.1 above rest)
-
-ascend_with : (ids : List NodeId) (id : NodeId) → Ascend ids → Ascend (with_node ids id)
-ascend_with ids id up =
-    ascend_joined (filter (λ i. is_node_below i id) ids) id (filter (λ i. is_node_below id i) ids) (ascend_kept (λ i. is_node_below i id) ids up)
-    (all_pass (λ i. is_node_below i id) ids) (all_pass (λ i. is_node_below id i) ids) (ascend_kept (λ i. is_node_below id i) ids up)
-
-ascend_fold : (acc ids : List NodeId) → Ascend acc → Ascend (fold with_node acc ids)
-ascend_fold acc [] up = up
-ascend_fold acc (i ∷ ids) up = ascend_fold (with_node acc i) ids (ascend_with acc i up)
-
-pub nodes_ascend : (rows : List Row) → Ascend (nodes_in rows)
-unfolding nodes_in
-nodes_ascend rows = ascend_fold [] (map (λ r. r.node) rows) tt
 
 all_at : (P : NodeId → Type 0) (ids : List NodeId) (j : ℕ) (d : NodeId) → AllByRecursion P ids → j < length ids → P (get_or ids j d)
 all_at P [] j d all h = absurd (omega (arith, h))
@@ -111,9 +74,12 @@ all_mapped : (P : NodeId → Type 0) (rows : List Row) → AllByRecursion (λ r.
 all_mapped P [] all = tt
 all_mapped P (r ∷ rows) all = (all.0, all_mapped P rows all.1)
 
-pub all_nodes : (P : NodeId → Type 0) (rows : List Row) (i : ℕ) (d : NodeId) → AllByRecursion (λ r. P r.node) rows → i < length (nodes_in rows) → P (get_or (nodes_in rows) i d)
+pub nodes_all : (P : NodeId → Type 0) (rows : List Row) → AllByRecursion (λ r. P r.node) rows → AllByRecursion P (nodes_in rows)
 unfolding nodes_in
-all_nodes P rows i d all here = all_at P (fold with_node [] (map (λ r. r.node) rows)) i d (all_fold P [] (map (λ r. r.node) rows) tt (all_mapped P rows all)) here
+nodes_all P rows all = all_fold P [] (map (λ r. r.node) rows) tt (all_mapped P rows all)
+
+pub all_nodes : (P : NodeId → Type 0) (rows : List Row) (i : ℕ) (d : NodeId) → AllByRecursion (λ r. P r.node) rows → i < length (nodes_in rows) → P (get_or (nodes_in rows) i d)
+all_nodes P rows i d all here = all_at P (nodes_in rows) i d (nodes_all P rows all) here
 
 -- a node among others stands there
 times_at : (id : NodeId) (ids : List NodeId) (i : ℕ) (d : NodeId) → i < length ids → get_or ids i d ≡ id → 1 ≤ length (times id ids)

@@ -2,7 +2,7 @@
 
 ghost use Rattle.std.specs.Prelude.{◌≡◌, ◌<◌, IsTrue, IfOk, IfSome, OnOk, Some, map};
 ghost use Rattle.fine_model.specs.RowBytes.{row_len, rows_len};
-ghost use Rattle.partition_index.specs.Index.{is_rising, entries_of, opened, closed, IndexLaw, RisingLaw};
+ghost use Rattle.partition_index.specs.Index.{is_rising, entries_of, opened, closed, IndexLaw, RisingLaw, NextNodeLaw, PiecesLaw};
 
 use crate::entries::IndexEntry;
 use fine_model::{NoMemory, NodeId, Rows};
@@ -65,7 +65,12 @@ pub fn build(alloc: Global, rows: &Rows, lens: &[u32]) -> Result<Vec<IndexEntry>
 }
 
 /// The bytes of the entries of rows are the bytes of their index, and rows in strict order are in the order that is asked.
+///
+/// An index can be written node by node: the rows of a higher node put one entry behind those that stand there, at the offset at
+/// which the rows before it end, and change no other.
 pub fn index_law()
     ensures bytes { IndexLaw }
     ensures strict { RisingLaw }
+    ensures next { NextNodeLaw }
+    ensures pieces { PiecesLaw }
 {}

@@ -13,5 +13,5 @@ mod tests;
 
 pub use built::{build, index_law};
 pub use entries::{IndexEntry, SeekFault, Span, entry_bytes, entry_law, entry_of};
-pub use places::{place_of, read_body};
+pub use places::{place_of, placed_law, read_body};
 pub use search::{entry_at, seek};

@@ -4,6 +4,7 @@ ghost use Rattle.std.specs.Prelude.{◌≡◌, ◌+◌, ◌<◌, ◌≤◌, Cont
 ghost use Rattle.fine_model.specs.Chain.{regions_of};
 ghost use Rattle.fine_model.specs.Regions.{body_start, place_of};
 ghost use Rattle.partition_index.specs.Parts.{body_len, LiesIn, IsSeen, LooksAt};
+ghost use Rattle.partition_index.specs.Placing.{PlacedLaw, FrontLaw};
 
 use fine_model::{Mark, Part};
 use log_disk::{Failed, LogEye};
@@ -68,3 +69,11 @@ pub fn read_body<E: LogEye>(
     }
     Ok(())
 }
+
+/// Bytes that are written where `place_of` says, and do not pass the end of that region, stand at this offset of the body, and no
+/// other byte of the body, no gate and no other region changes. Bytes that are written to the lead before its body, as a gate or a
+/// header, leave the body.
+pub fn placed_law()
+    ensures placed { PlacedLaw }
+    ensures front { FrontLaw }
+{}

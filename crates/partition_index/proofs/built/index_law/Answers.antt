@@ -12,16 +12,18 @@ use Rattle.fine_model.proofs.NodesIn.{nodes_total}
 use Rattle.fine_model.proofs.Order.{first_of_both}
 use Rattle.partition_index.specs.Entries.{bytes_of, entry_for}
 use Rattle.partition_index.specs.Index.{is_rising, entries_of}
+use Rattle.partition_index.proofs.Bytes.{index_is}
+use Rattle.partition_index.proofs.Pieces.{next_node, in_pieces}
 use Rattle.partition_index.proofs.built.index_law.Goals as goal
 
-bytes_each : (rows : List Row) (ids : List NodeId) → flat_map bytes_of (map (entry_for rows) ids) ≡ flat_map (entry_bytes rows) ids
-unfolding bytes_of entry_bytes
-bytes_each rows [] = refl
-bytes_each rows (id ∷ ids) = ap (λ xs. entry_bytes rows id ++ xs) (bytes_each rows ids)
-
 pub returns-clause-bytes : goal.returns-clause-bytes
-unfolding entries_of index_bytes
-returns-clause-bytes c rows = bytes_each rows (nodes_in rows)
+returns-clause-bytes c = index_is
+
+pub returns-clause-next : goal.returns-clause-next
+returns-clause-next c = next_node
+
+pub returns-clause-pieces : goal.returns-clause-pieces
+returns-clause-pieces c = in_pieces
 
 rows_total : IsTotalOrder (λ (a : Row) (b : Row). ordering_then (node_cmp a.node b.node) (nat_cmp a.version b.version))
 rows_total = then_total (on_total (λ r. r.node) nodes_total) (on_total (λ r. r.version) nat_cmp_total)

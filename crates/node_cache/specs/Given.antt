@@ -1,5 +1,5 @@
 -- What a bucket gives, and what loads from a source leave in it.
-use Rattle.std.specs.Prelude.{◌≡◌, ◌≢◌, ℕ, List, None, option_map, unwrap_or, IsSome, IfSome, Result, Ok, Err}
+use Rattle.std.specs.Prelude.{◌≡◌, ◌≢◌, ℕ, List, None, option_map, unwrap_or, IsSome, IfSome, Result, Ok, Err, ◌⊎◌, [], ◌∷◌, ◌++◌}
 use Rattle.fine_model.specs.declared.FetchFault.{FetchFault}
 use Rattle.fine_model.specs.declared.FetchFault.TheVariants as fetch_fault
 use Rattle.fine_model.specs.declared.Row.{Row}
@@ -29,6 +29,8 @@ pub record IsLoad (tells : List Row → Type 0) (upper number : ℕ) (old new : 
   pub others : (n : ℕ) → n ≢ number → cached new n ≡ cached old n
   pub stays : IsCached old number → cached new number ≡ cached old number
   pub fetched : cached old number ≡ None → IfSome (cached new number) (IsFetched tells upper old.bucket number)
+  -- a node that is loaded is the last used, and the others stay in their order
+  pub order : (new.nodes ≡ old.nodes) ⊎ ((kept : Cached) × (new.nodes ≡ old.nodes ++ (number, kept) ∷ []))
 
 -- A bucket before and after loads: each node that was cached stays as it was, each other one is as the source gives it.
 pub record IsLoaded (tells : List Row → Type 0) (upper : ℕ) (old new : Cache) : Type 0 where

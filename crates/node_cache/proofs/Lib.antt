@@ -1,4 +1,9 @@
+pub mod Bounds
 pub mod Moved
 pub mod Restored
 pub mod Evicted
-pub mod Bounds
+pub mod PairSteps
+pub mod Poured
+pub mod Kept
+pub mod StepLemmas
+pub mod Noted

@@ -17,7 +17,7 @@ pub record IsLast (saved rest : Saved) (k : ℕ) (o : Option Cached) : Type 0 wh
   pub gone : lookup (nat_eq k) rest ≡ None
   pub others : (q : ℕ) → nat_eq k q ≡ false → lookup (nat_eq q) rest ≡ lookup (nat_eq q) saved
 
-found_last : (rest : Saved) (k : ℕ) (o : Option Cached) → lookup (nat_eq k) rest ≡ None → lookup (nat_eq k) (rest ++ (k, o) ∷ []) ≡ Some o
+pub found_last : {X : Type 0} (rest : List (ℕ × X)) (k : ℕ) (o : X) → lookup (nat_eq k) rest ≡ None → lookup (nat_eq k) (rest ++ (k, o) ∷ []) ≡ Some o
 found_last [] k o none = cond-true (nat_eq k k) (Some o) None (eq-eqb k k refl)
 found_last (e ∷ es) k o none = by (nat_eq k e.0) none (found_last es k o)
   where

@@ -1,6 +1,9 @@
 pub mod Fits
+pub mod Undo
 pub mod Entries
 pub mod Cache
+pub mod Originals
 pub mod Codes
+pub mod Changing
 pub mod Given
 pub mod Lent

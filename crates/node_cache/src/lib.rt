@@ -2,24 +2,33 @@
 //! its changes of them.
 #![tactic(auto)]
 
-ghost use Rattle.std.specs.Prelude.{◌≡◌, ◌≢◌, ℕ, ◌<◌, ◌≤◌, ◌-◌, nat_eq, nat_le, nat_lt, not, ◌&&◌, if◌then◌else◌, [], map, IfOk, OnOk, OnErr, IfSome, is_some, option_copied, count_by};
+ghost use Rattle.std.specs.Prelude.{◌≡◌, ◌≢◌, ℕ, ◌<◌, ◌≤◌, ◌-◌, nat_eq, nat_le, nat_lt, not, ◌&&◌, if◌then◌else◌, [], map, IfOk, OnOk, OnErr, IfSome, IsSome, Some, is_some, option_copied, count_by};
 ghost use Rattle.std.specs.List.{filter_map};
-ghost use Rattle.std.specs.Option.{option_copied_mut};
+ghost use Rattle.std.specs.Bool.{OnTrue, OnFalse};
+ghost use Rattle.fine_model.specs.RowBytes.{FitsRec, greatest};
 ghost use Rattle.indexmap.specs.IndexMap.{IsUnique};
-ghost use Rattle.node_cache.specs.Entries.{as_saved, restored, stamped_at, settled_entry, is_published, without_first};
+ghost use Rattle.node_cache.specs.Entries.{as_saved, stamped_at, settled_entry, is_published, without_first};
+ghost use Rattle.node_cache.specs.Originals.{originals, IsKept};
 ghost use Rattle.std.specs.Borrow.{sem};
 
-use fine_model::{BucketLaw, Copied, NoMemory};
+use changing::change_pair;
+use fine_model::{BucketLaw, Copied, NoMemory, Row};
 use indexmap::IndexMap;
 use std::alloc::Global;
 use std::marker::Model;
 
 mod cached;
+mod changing;
+mod original;
+mod pairs;
 mod source;
 #[cfg(test)]
 mod tests;
+mod undo;
 
 pub use cached::Cached;
+use original::{Original, keep_whole, restore};
+pub use pairs::find_pair;
 pub use source::NodeSource;
 
 /// The cached nodes of a bucket by number, the least recently used first, and the originals of those that were saved.
@@ -29,20 +38,21 @@ pub use source::NodeSource;
 pub struct Bucket {
     bucket: u16,
     nodes: IndexMap<u32, Cached>,
-    saved: IndexMap<u32, Option<Cached>>,
+    saved: IndexMap<u32, Original>,
 }
 
 impl Model for Bucket {
-    ghost use Rattle.node_cache.specs.Cache.{Cache, IsCache};
+    ghost use Rattle.node_cache.specs.Cache.{Cache};
+    ghost use Rattle.node_cache.specs.Originals.{originals, IsKept};
     ghost use Rattle.node_cache.specs.Codes.{cache_code};
 
     ghost Value = { Cache };
 
     ghost coded = { cache_code };
 
-    ghost view = { λ b. record { bucket = b.bucket; nodes = b.nodes.entries; saved = b.saved.entries } };
+    ghost view = { λ b. record { bucket = b.bucket; nodes = b.nodes.entries; saved = originals b.saved.entries } };
 
-    ghost invariant = { λ b. IsCache b.nodes.entries b.saved.entries };
+    ghost invariant = { λ b. IsKept b.nodes.entries b.saved.entries };
 }
 
 impl BucketLaw for Bucket {
@@ -57,6 +67,7 @@ impl BucketLaw for Bucket {
 
 impl Bucket {
     ghost use Rattle.node_cache.specs.Cache.{Cache, cached, original, before, after, IsSaved, IsResting, touched, with_node, saving, undone, settled, evicted};
+    ghost use Rattle.node_cache.specs.Changing.{changes_cached, IsPairChange};
     ghost use Rattle.node_cache.specs.Lent.{EndsTouched, LendsNode};
 
     /// A bucket that caches nothing, of this number. It takes no memory.
@@ -120,6 +131,7 @@ impl Bucket {
         ensures elsewhere { OnOk result ((n : ℕ) → n ≢ number → cached self.new n ≡ cached self.old n) }
         ensures err { OnErr result (self.new ≡ self.old) }
     {
+        keep_whole(&self.nodes, &mut self.saved, number)?;
         self.nodes.insert(number, kept)?;
         self.touch(number);
         Ok(())
@@ -137,18 +149,41 @@ impl Bucket {
             return Ok(());
         }
         let original = copy_of(self.nodes.get(&number))?;
-        self.saved.insert(number, original)?;
+        self.saved.insert(number, Original::Whole(original))?;
         Ok(())
     }
 
-    /// A node that was saved, to change in its place, with the order of last use as it was. None exactly where nothing is cached. It
-    /// takes no memory.
-    pub fn get_mut(&mut self, number: u32) -> Option<&mut Cached>
-        requires { IsSaved self.old number }
-        ensures value { option_copied_mut result ≡ cached self.old number }
+    /// A cached node that was saved, to change in its place, with the order of last use as it was. `NoMemory` is the only refusal. It
+    /// comes only where the node was saved by the changes of its pairs, so that its original has to be copied first, and leaves the
+    /// bucket as it was.
+    pub fn get_mut(&mut self, number: u32) -> Result<&mut Cached, NoMemory>
+        requires saved { IsSaved self.old number }
+        requires there { IsSome (cached self.old number) }
+        ensures value { IfOk result (λ kept. cached self.old number ≡ Some kept.now) }
         ensures* writes_back { sem 𝓛 (LendsNode self.entry number result) }
     {
-        self.nodes.get_mut(&number)
+        keep_whole(&self.nodes, &mut self.saved, number)?;
+        match self.nodes.get_mut(&number) {
+            Some(kept) => Ok(kept),
+            None => Err(NoMemory),
+        }
+    }
+
+    /// Does to a cached leaf what a row says that sets or removes one of its pairs, with the order of last use as it was. Answers
+    /// whether it did: false exactly where no leaf is cached of the number, the row is not its next version, or is no `Put` or
+    /// `Del`, the key of a `Del` is not in the leaf, or that of a `Put` is not and the leaf is full; the bucket is then as it was.
+    /// A number that was not saved is saved, at the cost of the pair and not of the node. `NoMemory` is the only refusal, and leaves
+    /// the bucket as it was.
+    pub fn change_pair(&mut self, row: &Row) -> Result<bool, NoMemory>
+        requires rec { FitsRec row.now.rec }
+        requires version { row.now.version ≤ greatest }
+        ensures done { IfOk result (λ done. done ≡ changes_cached (cached self.old row.now.node.number) row.now) }
+        ensures changed { IfOk result (λ done. OnTrue done (IsPairChange self.old self.new row.now)) }
+        ensures before { (n : ℕ) → before self.new n ≡ before self.old n }
+        ensures same { IfOk result (λ done. OnFalse done (self.new ≡ self.old)) }
+        ensures err { OnErr result (self.new ≡ self.old) }
+    {
+        change_pair(&mut self.nodes, &mut self.saved, row)
     }
 
     /// Takes back all that was done since numbers were saved: each is cached as it was saved, in its place, or is not cached where
@@ -195,27 +230,10 @@ fn copy_of(kept: Option<&Cached>) -> Result<Option<Cached>, NoMemory>
     }
 }
 
-/// Puts a node back as it was saved, or takes it out where it was not cached.
-fn restore(nodes: &mut IndexMap<u32, Cached>, number: u32, original: Option<Cached>)
-    ensures nodes { nodes.new.entries ≡ restored (nat_eq number) original nodes.old.entries }
-    ensures unique { IsUnique nat_eq nodes.new }
-{
-    match original {
-        Some(kept) => {
-            if let Some(node) = nodes.get_mut(&number) {
-                *node = kept;
-            }
-        }
-        None => {
-            nodes.shift_remove(&number);
-        }
-    }
-}
-
 /// Puts each node back as it was saved.
-fn restore_all(nodes: &mut IndexMap<u32, Cached>, saved: &mut IndexMap<u32, Option<Cached>>)
-    requires { IsUnique nat_eq nodes.old }
-    ensures nodes { nodes.new.entries ≡ filter_map (as_saved saved.old.entries) nodes.old.entries }
+fn restore_all(nodes: &mut IndexMap<u32, Cached>, saved: &mut IndexMap<u32, Original>)
+    requires { IsKept nodes.old.entries saved.old.entries }
+    ensures nodes { nodes.new.entries ≡ filter_map (as_saved (originals saved.old.entries)) nodes.old.entries }
     ensures unique { IsUnique nat_eq nodes.new }
     ensures saved { saved.new.entries ≡ [] }
 {
@@ -235,13 +253,9 @@ fn stamp(nodes: &mut IndexMap<u32, Cached>, number: u32, epoch: u64)
 }
 
 /// Gives each node that was saved an epoch.
-fn stamp_all(
-    nodes: &mut IndexMap<u32, Cached>,
-    saved: &mut IndexMap<u32, Option<Cached>>,
-    epoch: u64,
-)
+fn stamp_all(nodes: &mut IndexMap<u32, Cached>, saved: &mut IndexMap<u32, Original>, epoch: u64)
     requires { IsUnique nat_eq nodes.old }
-    ensures nodes { nodes.new.entries ≡ map (settled_entry epoch saved.old.entries) nodes.old.entries }
+    ensures nodes { nodes.new.entries ≡ map (settled_entry epoch (originals saved.old.entries)) nodes.old.entries }
     ensures unique { IsUnique nat_eq nodes.new }
     ensures saved { saved.new.entries ≡ [] }
 {

@@ -1,8 +1,8 @@
-ghost use Rattle.std.specs.Prelude.{◌≡◌, ◌≤◌, [], IfOk};
+ghost use Rattle.std.specs.Prelude.{◌≡◌, ◌≤◌, [], IfOk, length};
 ghost use Rattle.fine_model.specs.RowBytes.{greatest};
 
 use super::*;
-use fine_model::{Items, Node, Pairs};
+use fine_model::{Bytes, Items, Node, NodeId, Pairs, Rec};
 use std::test::*;
 
 /// An empty leaf of this version, last changed in this epoch.
@@ -68,16 +68,25 @@ fn evict_keeps_the_open_epoch_and_the_last_used(rt: HostRuntime) -> Result<(), F
     Ok(())
 }
 
+/// Gives a cached node a version, where memory allows it.
+fn set_version(bucket: &mut Bucket, number: u32, version: u64) -> Result<(), Fail>
+    requires { version ≤ greatest }
+{
+    bucket.save(number).ok().ok_or("memory")?;
+    if bucket.touch(number) {
+        let kept = bucket.get_mut(number).ok().ok_or("memory")?;
+        kept.version = version;
+    }
+    Ok(())
+}
+
 #[test]
 fn undo_restores_what_was_saved(rt: HostRuntime) -> Result<(), Fail> {
     let alloc = rt.alloc();
     let mut bucket = filled(alloc, 2)?;
-    bucket.save(1).ok().ok_or("memory")?;
     bucket.save(3).ok().ok_or("memory")?;
     bucket.put(3, leaf(alloc, 5, 9)).ok().ok_or("memory")?;
-    if let Some(kept) = bucket.get_mut(1) {
-        kept.version = 4;
-    }
+    set_version(&mut bucket, 1, 4)?;
     bucket.save(1).ok().ok_or("memory")?;
     assert_eq!(rt; version_of(&bucket, 1), 4);
     bucket.undo();
@@ -96,5 +105,139 @@ fn settle_stamps_what_was_saved(rt: HostRuntime) -> Result<(), Fail> {
     bucket.evict(8, 0);
     assert!(rt; bucket.peek(1).is_some());
     assert!(rt; bucket.peek(2).is_none());
+    Ok(())
+}
+
+/// A text of one byte.
+fn text(alloc: Global, byte: u8) -> Result<Bytes, Fail>
+    ensures { IfOk result (λ text. length text ≡ 1) }
+{
+    let mut text = Items::new(alloc);
+    text.push(byte).ok().ok_or("memory")?;
+    Ok(text)
+}
+
+/// Sets a key of node 1 to a value, or removes it, by the row of this version. Answers whether that was done.
+fn change(
+    bucket: &mut Bucket,
+    alloc: Global,
+    version: u64,
+    key: u8,
+    value: Option<u8>,
+) -> Result<bool, Fail>
+    requires { version ≤ greatest }
+{
+    let key = text(alloc, key)?;
+    let rec = match value {
+        Some(value) => Rec::Put {
+            key,
+            value: text(alloc, value)?,
+        },
+        None => Rec::Del { key },
+    };
+    let row = Row {
+        node: NodeId {
+            bucket: 64,
+            number: 1,
+        },
+        version,
+        rec,
+    };
+    Ok(bucket.change_pair(&row).ok().ok_or("memory")?)
+}
+
+/// The value of a key in node 1, or 0.
+fn value_of(bucket: &Bucket, key: u8) -> u8 {
+    let Some(kept) = bucket.peek(1) else {
+        return 0;
+    };
+    let Node::Leaf { pairs } = &kept.node else {
+        return 0;
+    };
+    for pair in pairs.as_slice() {
+        if pair.0.as_slice().first() == Some(&key) {
+            return pair.1.as_slice().first().copied().unwrap_or(0);
+        }
+    }
+    0
+}
+
+/// A bucket whose node 1 is a leaf of version 3 with 10 to 1 and 20 to 2.
+fn with_pairs(alloc: Global) -> Result<Bucket, Fail> {
+    let mut bucket = filled(alloc, 1)?;
+    change(&mut bucket, alloc, 2, 10, Some(1))?;
+    change(&mut bucket, alloc, 3, 20, Some(2))?;
+    bucket.settle(5);
+    Ok(bucket)
+}
+
+/// Whether node 1 has these values of 10, 15 and 20, and this version.
+fn has(bucket: &Bucket, values: [u8; 3], version: u64) -> bool {
+    [
+        value_of(bucket, 10),
+        value_of(bucket, 15),
+        value_of(bucket, 20),
+    ] == values
+        && version_of(bucket, 1) == version
+}
+
+#[test]
+fn changes_of_pairs_are_done_and_taken_back(rt: HostRuntime) -> Result<(), Fail> {
+    let alloc = rt.alloc();
+    let mut bucket = with_pairs(alloc)?;
+    // the version, the key and the value of a row, and whether it is done
+    let rows = [
+        (4, 10, Some(7), true),
+        (4, 15, Some(4), false),
+        (5, 20, None, true),
+        (6, 20, None, false),
+        (6, 15, Some(4), true),
+        (7, 20, Some(9), true),
+    ];
+    for (version, key, value, done) in rows {
+        assert_eq!(rt;
+            change(&mut bucket, alloc, version, key, value)?,
+            done,
+            "version {version}, key {key}"
+        );
+    }
+    assert!(rt; has(&bucket, [7, 4, 9], 7));
+    bucket.undo();
+    assert!(rt; has(&bucket, [1, 0, 2], 3));
+    Ok(())
+}
+
+#[test]
+fn a_full_leaf_takes_no_other_key(rt: HostRuntime) -> Result<(), Fail> {
+    let alloc = rt.alloc();
+    let mut bucket = filled(alloc, 1)?;
+    for key in 1..=32u8 {
+        assert!(rt;
+            change(&mut bucket, alloc, u64::from(key) + 1, key, Some(1))?,
+            "key {key}"
+        );
+    }
+    assert!(rt; !change(&mut bucket, alloc, 34, 33, Some(1))?);
+    assert!(rt; change(&mut bucket, alloc, 34, 32, Some(2))?);
+    bucket.undo();
+    assert_eq!(rt; value_of(&bucket, 32), 0);
+    assert_eq!(rt; version_of(&bucket, 1), 1);
+    Ok(())
+}
+
+#[test]
+fn a_changed_node_is_changed_in_any_way_and_taken_back(rt: HostRuntime) -> Result<(), Fail> {
+    let alloc = rt.alloc();
+    let mut bucket = with_pairs(alloc)?;
+    change(&mut bucket, alloc, 4, 10, None)?;
+    set_version(&mut bucket, 1, 9)?;
+    change(&mut bucket, alloc, 10, 15, Some(4))?;
+    assert!(rt; has(&bucket, [0, 4, 2], 10));
+    bucket.undo();
+    assert!(rt; has(&bucket, [1, 0, 2], 3));
+    change(&mut bucket, alloc, 4, 10, None)?;
+    bucket.put(1, leaf(alloc, 1, 1)).ok().ok_or("memory")?;
+    bucket.undo();
+    assert!(rt; has(&bucket, [1, 0, 2], 3));
     Ok(())
 }

@@ -1,22 +1,42 @@
-use Rattle.std.proofs.Common.{◌≡◌, [], ◌∷◌, ◌++◌, sym, ap, ◌∙◌}
+use Rattle.std.proofs.Common.{◌≡◌, nat_eq, [], ◌∷◌, ◌++◌, IfSome, refl, sym, ap, subst, ◌∙◌}
 use Rattle.std.specs.List.{filter_map}
+use Rattle.std.specs.Map.{lookup}
 use Rattle.std.specs.Option.{option_to_list}
 use Rattle.node_cache.specs.Entries.{as_saved}
+use Rattle.node_cache.specs.Originals.{original_of, originals, Stands}
+use Rattle.node_cache.proofs.Kept.{originals_pushed, finds_originals, stands_changed, popped_here, popped_stands}
 use Rattle.node_cache.proofs.Restored.{is_last, emptied, restored_one, none_saved}
 use Rattle.node_cache.proofs.restore_all.Goals as goal
 
+pub loop-number-init : goal.loop-number-init
+loop-number-init c = record { nodes = refl; unique = c.requires.distinct; stands = c.requires.stands }
+
+pub restore-requires : goal.restore-requires
+restore-requires c =
+    let saved = c.loop-number.saved.entries in
+    let rest = c.pop.new.self.entries in
+    let k = c.in-Some.number in
+    let o = c.in-Some.original in
+    let whole : saved ≡ rest ++ (k, o) ∷ [] = c.pop.ensures.entries ∙ ap (λ r. rest ++ option_to_list r) c.in-Some.is in
+    let here = popped_here saved rest k o whole (c.in-Some.ensures).updates.0 in
+    stands_changed o (lookup (nat_eq k) c.loop-number.nodes.entries) (subst (λ s. IfSome s (λ o. Stands o (lookup (nat_eq k) c.loop-number.nodes.entries))) here (c.loop-number.invariant.stands k))
+
 pub loop-number-preserved : goal.loop-number-preserved
 loop-number-preserved c =
+    let saved = c.loop-number.saved.entries in
     let rest = c.pop.new.self.entries in
-    let whole : c.loop-number.saved.entries ≡ rest ++ (c.in-Some.number, c.in-Some.original) ∷ [] = c.pop.ensures.entries ∙ ap (λ r. rest ++ option_to_list r) c.in-Some.is in
-    let last = is_last c.loop-number.saved.entries rest c.in-Some.number c.in-Some.original whole (c.in-Some.ensures).updates.0 in
+    let k = c.in-Some.number in
+    let o = c.in-Some.original in
+    let whole : saved ≡ rest ++ (k, o) ∷ [] = c.pop.ensures.entries ∙ ap (λ r. rest ++ option_to_list r) c.in-Some.is in
+    let last = is_last (originals saved) (originals rest) k (original_of o) (ap originals whole ∙ originals_pushed rest k o) (finds_originals saved rest k (c.in-Some.ensures).updates.0) in
     record {
-      nodes = ap (filter_map (as_saved rest)) c.restore.ensures.nodes ∙ restored_one c.loop-number.saved.entries rest c.in-Some.number c.in-Some.original last c.loop-number.nodes.entries c.loop-number.invariant.unique ∙ c.loop-number.invariant.nodes;
+      nodes = ap (filter_map (as_saved (originals rest))) c.restore.ensures.nodes ∙ restored_one (originals saved) (originals rest) k (original_of o) last c.loop-number.nodes.entries c.loop-number.invariant.unique ∙ c.loop-number.invariant.nodes;
       unique = c.restore.ensures.unique;
+      stands = popped_stands saved rest k (original_of o) c.loop-number.nodes.entries c.restore.new.nodes.entries (c.in-Some.ensures).updates.0 c.restore.ensures.nodes c.loop-number.invariant.stands;
     }
 
 pub returns-clause-nodes : goal.returns-clause-nodes
 returns-clause-nodes c =
     let es = c.loop-number.nodes.entries in
     let none = emptied c.loop-number.saved.entries c.pop.result c.in_default.is c.pop.ensures.found in
-    sym (none_saved es) ∙ ap (λ s. filter_map (as_saved s) es) (sym none) ∙ c.loop-number.invariant.nodes
+    sym (none_saved es) ∙ ap (λ s. filter_map (as_saved (originals s)) es) (sym none) ∙ c.loop-number.invariant.nodes

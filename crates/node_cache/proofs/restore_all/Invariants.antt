@@ -1,13 +1,16 @@
-use Rattle.std.proofs.Common.{◌≡◌, nat_eq}
+use Rattle.std.proofs.Common.{◌≡◌, ℕ, nat_eq, IfSome}
 use Rattle.std.specs.List.{filter_map}
+use Rattle.std.specs.Map.{lookup}
 use Rattle.indexmap.specs.IndexMap.{IsUnique, index_map_len}
 use Rattle.node_cache.specs.Entries.{as_saved}
+use Rattle.node_cache.specs.Originals.{originals, Stands}
 use Rattle.node_cache.proofs.restore_all.Given as goal
 
 abbrev pub invariant-loop-number : goal.invariant-loop-number
 invariant-loop-number l = record {
-  nodes : filter_map (as_saved l.saved.entries) l.nodes.entries ≡ filter_map (as_saved l.initial.saved.entries) l.initial.nodes.entries;
+  nodes : filter_map (as_saved (originals l.saved.entries)) l.nodes.entries ≡ filter_map (as_saved (originals l.initial.saved.entries)) l.initial.nodes.entries;
   unique : IsUnique nat_eq l.nodes;
+  stands : (q : ℕ) → IfSome (lookup (nat_eq q) l.saved.entries) (λ o. Stands o (lookup (nat_eq q) l.nodes.entries));
 }
 
 abbrev pub decreases-loop-number : goal.decreases-loop-number

@@ -1,14 +1,15 @@
 use Rattle.std.proofs.Common.{◌≡◌, ℕ, ◌-◌, ◌<◌, ◌≤◌, List, Some, nat_eq, count_by, IfSome, sym, ap, subst, ◌∙◌, arith}
 use Rattle.std.specs.Map.{lookup}
+use Rattle.node_cache.specs.Originals.{originals}
 use Rattle.node_cache.specs.declared.cached.Cached.{Cached}
 use Rattle.node_cache.specs.Cache.{Cache}
 use Rattle.node_cache.specs.Entries.{is_published, without_first}
-use Rattle.node_cache.proofs.Restored.{IsCache-fresh}
+use Rattle.node_cache.proofs.Kept.{fresh, originals_none}
 use Rattle.node_cache.proofs.Evicted.{stays, unchanged, few, without_none}
 use Rattle.node_cache.proofs.Bucket.evict.Goals as goal
 
 pub invariant_of-self : goal.invariant_of-self
-invariant_of-self c = IsCache-fresh _ _ (ap (λ b. b.saved) c.self.view_is ∙ c.requires) c.remove_first.ensures.unique
+invariant_of-self c = fresh _ _ (originals_none c.self.inside.saved.entries (ap (λ b. b.saved) c.self.view_is ∙ c.requires)) c.remove_first.ensures.unique
 
 pub returns-then-surplus-gt0-clause-kept : goal.returns-then-surplus-gt0-clause-kept
 returns-then-surplus-gt0-clause-kept c =
@@ -32,6 +33,6 @@ returns-else-surplus-gt0-clause-nodes c =
     let p = c.args.published in
     let inside = c.self.inside in
     let es = inside.nodes.entries in
-    let with_nodes : List (ℕ × Cached) → Cache = λ fs. record { bucket = inside.bucket; nodes = fs; saved = inside.saved.entries } in
+    let with_nodes : List (ℕ × Cached) → Cache = λ fs. record { bucket = inside.bucket; nodes = fs; saved = originals inside.saved.entries } in
     let none : count_by (is_published p) es - c.args.keep ≡ 0 = omega (arith, c.saturating_sub-surplus.ensures, c.count_published.ensures) in
     rw (← c.self.view_is) (ap with_nodes (sym (ap (λ n. without_first p n es) none ∙ without_none p es)))

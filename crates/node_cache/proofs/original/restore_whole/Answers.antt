@@ -1,7 +1,7 @@
 use Rattle.std.proofs.Common.{nat_eq, sym, ap, ◌∙◌}
 use Rattle.node_cache.specs.Entries.{restored}
 use Rattle.node_cache.proofs.Restored.{set_nowhere}
-use Rattle.node_cache.proofs.restore.Goals as goal
+use Rattle.node_cache.proofs.original.restore_whole.Goals as goal
 
 pub returns-in_default-clause-nodes : goal.returns-in_default-clause-nodes
 returns-in_default-clause-nodes c =

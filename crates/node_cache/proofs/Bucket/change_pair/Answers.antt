@@ -1,0 +1,14 @@
+use Rattle.node_cache.proofs.Noted.{kept_then, changed_then, before_then}
+use Rattle.node_cache.proofs.Bucket.change_pair.Goals as goal
+
+pub invariant_of-self : goal.invariant_of-self
+invariant_of-self c =
+    kept_then c.self.inside.nodes.entries c.change_pair.new.nodes.entries c.self.inside.saved.entries c.change_pair.new.saved.entries c.args.row.now c.change_pair.result c.change_pair.ensures.change c.self.invariant c.change_pair.ensures.unique_nodes c.change_pair.ensures.unique_saved
+
+pub returns-clause-changed : goal.returns-clause-changed
+returns-clause-changed c =
+    rw (← c.self.view_is) (changed_then c.self.inside.nodes.entries c.change_pair.new.nodes.entries c.self.inside.saved.entries c.change_pair.new.saved.entries c.args.row.now c.self.inside.bucket c.change_pair.result c.change_pair.ensures.change)
+
+pub returns-clause-before : goal.returns-clause-before
+returns-clause-before c =
+    rw (← c.self.view_is) (before_then c.self.inside.nodes.entries c.change_pair.new.nodes.entries c.self.inside.saved.entries c.change_pair.new.saved.entries c.args.row.now c.change_pair.result c.change_pair.ensures.change)

@@ -1,0 +1,101 @@
+//! The pairs of a leaf.
+
+ghost use Rattle.std.specs.Prelude.{◌≡◌, ◌<◌, ◌≤◌, ◌||◌, nat_lt, IsTrue, IfOk, IfErr, OnOk, OnErr, Some, option_copied, option_map, MatchResult, is_some, length, map, slice_get};
+ghost use Rattle.fine_model.specs.Map.{get, has, is_ascending, is_below, set, unset};
+ghost use Rattle.node_record.specs.Places.{StandsAt, BelongsAt};
+ghost use Rattle.node_cache.specs.Undo.{TakesBack, with_value};
+
+use crate::undo::Step;
+use fine_model::{Bytes, Items, NoMemory, Pairs};
+use std::alloc::Global;
+
+/// The most pairs of a leaf.
+const MOST: usize = 32;
+
+/// Whether `a` stands before `b` in byte order.
+fn is_below(a: &[u8], b: &[u8]) -> bool
+    ensures { result ≡ is_below a.now b.now }
+{
+    a.cmp(b).is_lt()
+}
+
+/// The place of a pair with the key, or, where there is none, the place where one belongs.
+pub fn find_pair(pairs: &Pairs, key: &[u8]) -> Result<usize, usize>
+    requires { IsTrue (is_ascending (map (λ p. p.0) pairs.now)) }
+    ensures { MatchResult result (λ i. StandsAt (λ p. p.0) key.now pairs.now i) (λ i. BelongsAt (λ p. p.0) key.now pairs.now i) }
+{
+    let i = pairs
+        .as_slice()
+        .partition_point(|pair| is_below(pair.0.as_slice(), key));
+    if i < pairs.len() && !is_below(key, pairs.at(i).0.as_slice()) {
+        Ok(i)
+    } else {
+        Err(i)
+    }
+}
+
+/// The bytes of a slice.
+fn bytes_of(alloc: Global, bytes: &[u8]) -> Result<Bytes, NoMemory>
+    ensures { IfOk result (λ copy. copy ≡ bytes.now) }
+{
+    Ok(Items::from_vec(Vec::from_slice(alloc, bytes)?))
+}
+
+/// Sets the value of the pair at a place. Answers the one that stood there.
+pub fn exchange_value(alloc: Global, pairs: &mut Pairs, at: usize, value: Bytes) -> Bytes
+    requires { at < length pairs.old }
+    ensures stood { option_map (λ p. p.1) (slice_get pairs.old at) ≡ Some result }
+    ensures set { pairs.new ≡ with_value pairs.old at value }
+{
+    let (key, stood) = pairs.replace(at, (Items::new(alloc), Items::new(alloc)));
+    let _empty = pairs.replace(at, (key, value));
+    stood
+}
+
+/// Sets a pair, where the leaf has its key or room for it. Answers what takes this back.
+pub fn set_pair(
+    alloc: Global,
+    pairs: &mut Pairs,
+    key: &[u8],
+    value: &[u8],
+) -> Result<Option<Step>, NoMemory>
+    requires few { length pairs.old ≤ 32 }
+    requires order { IsTrue (is_ascending (map (λ p. p.0) pairs.old)) }
+    ensures done { IfOk result (λ step. is_some step ≡ (has pairs.old key.now || nat_lt (length pairs.old) 32)) }
+    ensures step { IfOk result (λ step. TakesBack step pairs.old pairs.new (set pairs.old key.now value.now)) }
+    ensures few { length pairs.new ≤ 32 }
+    ensures err { OnErr result (pairs.new ≡ pairs.old) }
+{
+    match find_pair(pairs, key) {
+        Ok(at) => {
+            let value = bytes_of(alloc, value)?;
+            let value = exchange_value(alloc, pairs, at, value);
+            Ok(Some(Step::Replaced { at, value }))
+        }
+        Err(at) => {
+            if pairs.len() == MOST {
+                return Ok(None);
+            }
+            let pair = (bytes_of(alloc, key)?, bytes_of(alloc, value)?);
+            pairs.insert(at, pair)?;
+            Ok(Some(Step::Inserted { at }))
+        }
+    }
+}
+
+/// Removes the pair with the key, where there is one. Answers what takes this back.
+pub fn unset_pair(alloc: Global, pairs: &mut Pairs, key: &[u8]) -> Result<Option<Step>, NoMemory>
+    requires few { length pairs.old ≤ 32 }
+    requires order { IsTrue (is_ascending (map (λ p. p.0) pairs.old)) }
+    ensures done { IfOk result (λ step. is_some step ≡ has pairs.old key.now) }
+    ensures step { IfOk result (λ step. TakesBack step pairs.old pairs.new (unset pairs.old key.now)) }
+    ensures few { length pairs.new ≤ 32 }
+    ensures err { OnErr result (pairs.new ≡ pairs.old) }
+{
+    let Ok(at) = find_pair(pairs, key) else {
+        return Ok(None);
+    };
+    let room = Vec::with_capacity(alloc, pairs.len())?;
+    let pair = pairs.remove(at);
+    Ok(Some(Step::Removed { at, pair, room }))
+}

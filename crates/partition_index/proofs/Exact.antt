@@ -23,7 +23,7 @@ use Rattle.partition_index.proofs.BodyPlaces.{laid}
 use Rattle.partition_index.proofs.Looking.{told_as}
 use Rattle.partition_index.proofs.InGrammar.{HoldsRows, entry_is, span_is}
 
-area_small : (region_len : ℕ) (header : Header) → LiesIn region_len header → header.area < 4294967296
+pub area_small : (region_len : ℕ) (header : Header) → LiesIn region_len header → header.area < 4294967296
 area_small region_len header l =
     let r = laid region_len header l in
     let small = l.small in

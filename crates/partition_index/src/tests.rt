@@ -65,14 +65,15 @@ fn thousand(alloc: Global) -> Result<Vec<u8>, AllocError>
 // An eye on region 0 of a new disk, which holds bytes at 2041, behind the header and the rows.
 fn look(alloc: Global, bytes: &[u8]) -> Result<MemEye, DiskRefusal>
     requires { 2041 + length bytes.now ≤ 16384 }
-    ensures seen { IfOk result (λ eye. IsSeen eye THOUSAND) }
-    ensures len { IfOk result (λ eye. eye.region_len ≡ 16384) }
+    ensures seen { IfOk result (λ eye. IsSeen eye.eye THOUSAND) }
+    ensures len { IfOk result (λ eye. eye.eye.region_len ≡ 16384) }
 {
     let mut disk = MemDisk::new(alloc, 1, LEN, FaultPlan::none(alloc))?;
     disk.write(0, 2041, bytes)?;
     disk.sync()?;
     let _regions = disk.regions();
-    disk.eye(&[0])
+    let eye = disk.eye(&[0])?;
+    Ok(eye)
 }
 
 #[test]
@@ -121,8 +122,8 @@ const SEVERAL: Part = Part {
 // An eye on both regions of a new disk, of which region 1 leads and region 0 goes on. The first entry and 12 bytes of the second
 // one stand at the lead's end.
 fn look_at_both(alloc: Global, bytes: &[u8; 42]) -> Result<MemEye, DiskRefusal>
-    ensures seen { IfOk result (λ eye. IsSeen eye SEVERAL) }
-    ensures len { IfOk result (λ eye. eye.region_len ≡ 4096) }
+    ensures seen { IfOk result (λ eye. IsSeen eye.eye SEVERAL) }
+    ensures len { IfOk result (λ eye. eye.eye.region_len ≡ 4096) }
 {
     let mut disk = MemDisk::new(alloc, 2, 4096, FaultPlan::none(alloc))?;
     disk.write(1, 4070, &bytes[..26])?;
@@ -227,8 +228,8 @@ const ONE_ROW: Part = Part {
 
 // An eye on region 0 of a new disk, which holds the entry of the one row.
 fn look_at_one(alloc: Global, entry: &[u8; 14]) -> Result<MemEye, DiskRefusal>
-    ensures seen { IfOk result (λ eye. IsSeen eye ONE_ROW) }
-    ensures len { IfOk result (λ eye. eye.region_len ≡ 16384) }
+    ensures seen { IfOk result (λ eye. IsSeen eye.eye ONE_ROW) }
+    ensures len { IfOk result (λ eye. eye.eye.region_len ≡ 16384) }
 {
     let mut disk = MemDisk::new(alloc, 1, LEN, FaultPlan::none(alloc))?;
     disk.write(0, 65, entry)?;

@@ -6,8 +6,8 @@ use Rattle.partition_index.proofs.tests.look_at_both.Goals as goal
 
 pub returns-clause-seen : goal.returns-clause-seen
 returns-clause-seen c =
-    let disk = c.sync.new.self in
+    let disk = c.sync.new.self.disk in
     let len : disk.region_len ≡ 4096 = search rules in
     let count : disk.regions ≡ 2 = search rules in
     let lies : LiesIn 4096 SEVERAL.header = record { large = omega arith; small = omega arith; listed = refl; counted = refl; lies = refl } in
-    seen_opened disk c.eye.new.self c.in_ok-eye.eye SEVERAL c.regions-regions.ensures.sound c.in_ok-eye.ensures.ok (omega arith, (omega arith, tt)) (subst (λ n. LiesIn n SEVERAL.header) (sym len) lies)
+    seen_opened disk c.eye.new.self.disk c.in_ok-eye.eye.eye SEVERAL c.regions-regions.ensures.sound c.in_ok-eye.ensures.ok (omega arith, (omega arith, tt)) (subst (λ n. LiesIn n SEVERAL.header) (sym len) lies)

@@ -7,6 +7,6 @@ pub loop-number-preserved : goal.loop-number-preserved
 loop-number-preserved g c =
     let same = c.seek.ensures.eye.same in
     record {
-      seen = seen_same c.loop-number.eye c.seek.new.eye THOUSAND same c.loop-number.invariant.seen;
+      seen = seen_same c.loop-number.eye.eye c.seek.new.eye.eye THOUSAND same c.loop-number.invariant.seen;
       len = same.region_len ∙ c.loop-number.invariant.len;
     }

@@ -1,4 +1,5 @@
 pub mod Streams
+pub mod Console
 pub mod Memory
 pub mod Pages
 pub mod Words

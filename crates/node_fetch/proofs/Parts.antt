@@ -14,7 +14,7 @@ use Rattle.fine_model.specs.declared.Rec.TheVariants as rec
 use Rattle.fine_model.specs.declared.Row.{Row}
 use Rattle.fine_model.specs.Merge.{is_image}
 use Rattle.fine_model.specs.Nodes.{Content, base, step, step_node, replay, is_node, rows_of, content}
-use Rattle.fine_model.specs.RowBytes.{row_len, rows_len, FitsRow, FitsRec}
+use Rattle.fine_model.specs.RowBytes.{row_len, rows_len, FitsRow, FitsRec, greatest}
 use Rattle.fine_model.specs.Regions.{Image, HasHeader, IsSealed}
 use Rattle.fine_model.specs.Chain.{AreRowsOf}
 use Rattle.fine_model.specs.Seek.{most_taken}
@@ -46,6 +46,18 @@ any_front P front back any = record {
 
 pub fit_rows : (p : Part) (rows : List Row) → AllByRecursion (FitsRow p.header.mark) rows → AllByRecursion (λ row. FitsRec row.rec) rows
 fit_rows p rows fit = all_map (FitsRow p.header.mark) (λ row. FitsRec row.rec) (λ row h. h.rec) rows fit
+
+pub low_versions : (p : Part) (rows : List Row) → AllByRecursion (FitsRow p.header.mark) rows → AllByRecursion (λ row. row.version ≤ greatest) rows
+low_versions p rows fit = all_map (FitsRow p.header.mark) (λ row. row.version ≤ greatest) (λ row h. h.version_high) rows fit
+
+replay_low : (c : Content) (rows : List Row) → c.1 ≤ greatest → AllByRecursion (λ row. row.version ≤ greatest) rows → (replay c rows).1 ≤ greatest
+unfolding replay step
+replay_low c [] low all = low
+replay_low c (row ∷ rows) low all = replay_low (step c row) rows all.0 all.1
+
+pub version_low : (r : Result Content FetchFault) (c : Content) (rows : List Row) → IfOk r (λ after. after ≡ replay c rows) → c.1 ≤ greatest → AllByRecursion (λ row. row.version ≤ greatest) rows → IfOk r (λ after. after.1 ≤ greatest)
+version_low (Ok after) c rows is low all = subst (λ (x : Content). x.1 ≤ greatest) (sym is) (replay_low c rows low all)
+version_low (Err e) c rows is low all = tt
 
 -- ---- rows that have an image
 

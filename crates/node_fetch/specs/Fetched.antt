@@ -10,12 +10,12 @@ use Rattle.fine_model.specs.declared.Row.{Row}
 use Rattle.fine_model.specs.Regions.{Image, Place, place_of, HasHeader}
 use Rattle.fine_model.specs.Chain.{AreRowsOf}
 use Rattle.fine_model.specs.Merge.{is_image}
-use Rattle.fine_model.specs.Nodes.{Content, base, replay}
+use Rattle.fine_model.specs.Nodes.{Content, base, replay, rows_of}
 use Rattle.fine_model.specs.RowBytes.{rows_len}
 use Rattle.fine_model.specs.Seek.{SpanHolds, IsBadInSpan, most_taken}
 use Rattle.partition_index.specs.declared.entries.Span.{Span}
 use Rattle.partition_index.specs.Entries.{row_span_of}
-use Rattle.partition_index.specs.Search.{IfTold, IsSpanOf, IsBadAt}
+use Rattle.partition_index.specs.Search.{IfTold, IsSpanOf, IsBadAt, TellsRows}
 
 abbrev pub row_fault : Place → FetchFault
 row_fault place = fault.BadRow place.region place.at
@@ -55,9 +55,11 @@ pub record HasBadRow (known : Option Image) (region_len : ℕ) (part : Part) (id
   pub is_span : IsSpanOf known part id span
   pub is_bad : IsBadRowOf known region_len part id span place
 
--- what was read of a node's rows in a part: none, or those of the span that an entry of the node gives
-abbrev pub ReadsRows : Option Image → NodeId → Part → List Row → Type 0
-ReadsRows known id part rows = (rows ≡ []) ⊎ ((span : Span) × IsSpanOf known part id span × HoldsRows known part id span rows)
+-- What was read of a node's rows in a part: none, or those of the span that an entry of the node gives. Where the eye tells the part
+-- in the grammar, they are the node's rows there, whatever other parts are.
+pub record ReadsRows (eye : Eye) (id : NodeId) (part : Part) (rows : List Row) : Type 0 where
+  pub read : (rows ≡ []) ⊎ ((span : Span) × IsSpanOf eye.told part id span × HoldsRows eye.told part id span rows)
+  pub exact : (own : List Row) → TellsRows eye part own → rows ≡ rows_of id own
 
 -- the first of the parts that were read has an image of the node
 abbrev pub has_image_first : List (Part × List Row) → Bool
@@ -65,11 +67,11 @@ has_image_first [] = false
 has_image_first (r ∷ read) = list_any (λ row. is_image row.rec) r.1
 
 -- A content is the replay of what was read of parts: of all of them, or of those from one with an image of the node on.
-pub record IsReplayOf (known : Option Image) (parts : List Part) (id : NodeId) (found : Content) : Type 0 where
+pub record IsReplayOf (eye : Eye) (parts : List Part) (id : NodeId) (found : Content) : Type 0 where
   pub skipped : List Part
   pub read : List (Part × List Row)
   pub whole : parts ≡ skipped ++ map (λ r. r.0) read
-  pub each : AllByRecursion (λ r. ReadsRows known id r.0 r.1) read
+  pub each : AllByRecursion (λ r. ReadsRows eye id r.0 r.1) read
   pub why : (skipped ≡ []) ⊎ IsTrue (has_image_first read)
   pub replayed : found ≡ replay (base id) (flat_map (λ r. r.1) read)
 

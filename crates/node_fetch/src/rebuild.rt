@@ -4,11 +4,11 @@ ghost use Rattle.std.specs.Prelude.{◌≡◌, ℕ, ◌+◌, ◌≤◌, IfOk, If
 ghost use Rattle.std.specs.List.{AllByRecursion, list_any};
 ghost use Rattle.fine_model.specs.declared.Row.{Row};
 ghost use Rattle.fine_model.specs.declared.FetchFault.TheVariants as fetch_fault;
+ghost use Rattle.fine_model.specs.BoundLaws.{FitsNode};
 ghost use Rattle.fine_model.specs.Merge.{is_image};
 ghost use Rattle.fine_model.specs.Nodes.{content, replay, rows_of};
-ghost use Rattle.fine_model.specs.RowBytes.{FitsRec, FitsRow, rows_len};
+ghost use Rattle.fine_model.specs.RowBytes.{FitsRec, FitsRow, greatest, rows_len};
 ghost use Rattle.fine_model.specs.Seek.{most_taken};
-ghost use Rattle.node_record.specs.Bounds.{FitsNode};
 ghost use Rattle.partition_index.specs.Parts.{IsSeen};
 ghost use Rattle.partition_index.specs.Search.{Searches, TellsRows};
 ghost use Rattle.node_fetch.specs.Fetched.{ReadsRows, IsReplayOf, HasBadRow, HasBadEntry, NoDamage, TellsParts, most_sought, most_read};
@@ -43,7 +43,7 @@ fn part_rows<E: LogEye>(
     requires region_len { region_len ≡ (E.LogEye.state eye.old).region_len }
     ensures eye { Searches (IsErrOf result fetch_fault.Failed) (most_taken part.now.header.nodes + part.now.header.area) (E.LogEye.state eye.old) (E.LogEye.state eye.new) }
     ensures fit { IfOk result (AllByRecursion (FitsRow part.now.header.mark)) }
-    ensures read { IfOk result (ReadsRows (E.LogEye.state eye.old).told node part.now) }
+    ensures read { IfOk result (ReadsRows (E.LogEye.state eye.old) node part.now) }
     ensures bad_row { (region at : ℕ) → IsErrOf result (fetch_fault.BadRow region at) → HasBadRow (E.LogEye.state eye.old).told region_len part.now node (record { region = region; at = at }) }
     ensures bad_index { (region at : ℕ) → IsErrOf result (fetch_fault.BadIndex region at) → HasBadEntry (E.LogEye.state eye.old).told region_len part.now (record { region = region; at = at }) }
     ensures exact { (rows : List Row) → TellsRows (E.LogEye.state eye.old) part.now rows → MatchResult result (λ own. own ≡ rows_of node rows) NoDamage }
@@ -65,6 +65,7 @@ fn after(alloc: Global, before: (Node, u64), rows: &Rows) -> Result<(Node, u64),
     requires rows { AllByRecursion (λ row. FitsRec row.rec) rows.now }
     ensures replay { IfOk result (λ after. after ≡ replay before rows.now) }
     ensures fits { IfOk result (λ after. FitsNode after.0) }
+    ensures version { before.1 ≤ greatest → AllByRecursion (λ row. row.version ≤ greatest) rows.now → IfOk result (λ after. after.1 ≤ greatest) }
     ensures err { IfErr result (λ e. e ≡ fetch_fault.NoMemory) }
 {
     replayed(alloc, before, rows.as_slice()).map_err(|_| FetchFault::NoMemory)
@@ -82,7 +83,8 @@ fn rebuilt<E: LogEye>(
     requires region_len { region_len ≡ (E.LogEye.state eye.old).region_len }
     ensures eye { Searches (IsErrOf result fetch_fault.Failed) (most_read parts.now) (E.LogEye.state eye.old) (E.LogEye.state eye.new) }
     ensures fits { IfOk result (λ found. FitsNode found.0) }
-    ensures read { IfOk result (IsReplayOf (E.LogEye.state eye.old).told parts.now node) }
+    ensures version { IfOk result (λ found. found.1 ≤ greatest) }
+    ensures read { IfOk result (IsReplayOf (E.LogEye.state eye.old) parts.now node) }
     ensures bad_row { (region at : ℕ) → IsErrOf result (fetch_fault.BadRow region at) → Any (λ p. HasBadRow (E.LogEye.state eye.old).told region_len p node (record { region = region; at = at })) parts.now }
     ensures bad_index { (region at : ℕ) → IsErrOf result (fetch_fault.BadIndex region at) → Any (λ p. HasBadEntry (E.LogEye.state eye.old).told region_len p (record { region = region; at = at })) parts.now }
     ensures exact { (rows : List Row) → TellsParts (E.LogEye.state eye.old) parts.now rows → MatchResult result (λ found. found ≡ content rows node) NoDamage }
@@ -104,7 +106,8 @@ fn rebuilt<E: LogEye>(
 ///
 /// The parts are probed from the newest back, up to one that has an image of the node, and its rows from there on are replayed:
 /// those of the spans that the entries of the node give, by the bytes that were read. Where the eye tells its bytes, and each part
-/// is in the grammar and has its header, the answer is exact, also where the node is `Broken`. `BadRow` comes only with a place of
+/// is in the grammar and has its header, the answer is exact, also where the node is `Broken`; of a part that is so, the rows are exact
+/// also where other parts are not. The version is at most 2^62. `BadRow` comes only with a place of
 /// the disk that, by the bytes read in this call, has a bad row of the node's span, and `BadIndex` only with the place of an index
 /// entry, which is bad by the bytes that the eye tells: neither comes in the grammar. `Failed` comes only where the eye's count of
 /// faults rose in this call. The eye is as before but for its counts. In each part, the bytes that it takes are at most 14 for each
@@ -120,7 +123,8 @@ pub fn fetch<E: LogEye>(
     requires region_len { region_len ≡ (E.LogEye.state eye.old).region_len }
     ensures eye { Searches (IsErrOf result fetch_fault.Failed) (most_read parts.now) (E.LogEye.state eye.old) (E.LogEye.state eye.new) }
     ensures fits { IfOk result (λ found. FitsNode found.0) }
-    ensures read { IfOk result (IsReplayOf (E.LogEye.state eye.old).told parts.now node) }
+    ensures version { IfOk result (λ found. found.1 ≤ greatest) }
+    ensures read { IfOk result (IsReplayOf (E.LogEye.state eye.old) parts.now node) }
     ensures bad_row { (region at : ℕ) → IsErrOf result (fetch_fault.BadRow region at) → Any (λ p. HasBadRow (E.LogEye.state eye.old).told region_len p node (record { region = region; at = at })) parts.now }
     ensures bad_index { (region at : ℕ) → IsErrOf result (fetch_fault.BadIndex region at) → Any (λ p. HasBadEntry (E.LogEye.state eye.old).told region_len p (record { region = region; at = at })) parts.now }
     ensures exact { (rows : List Row) → TellsParts (E.LogEye.state eye.old) parts.now rows → MatchResult result (λ found. found ≡ content rows node) NoDamage }

@@ -2,9 +2,9 @@
 
 ghost use Rattle.std.specs.Prelude.{◌≡◌, IfOk};
 ghost use Rattle.std.specs.List.{AllByRecursion};
+ghost use Rattle.fine_model.specs.BoundLaws.{FitsNode};
 ghost use Rattle.fine_model.specs.Nodes.{base, replay};
 ghost use Rattle.fine_model.specs.RowBytes.{FitsRec};
-ghost use Rattle.node_record.specs.Bounds.{FitsNode};
 
 use fine_model::{Items, NoMemory, Node, NodeId, Row};
 use node_record::apply;
@@ -13,6 +13,7 @@ use std::alloc::Global;
 /// A node before its first row, at version 0: a head with root 1, or an empty leaf.
 pub fn base(alloc: Global, node: NodeId) -> (Node, u64)
     ensures base { result ≡ base node }
+    ensures version { result.1 ≡ 0 }
     ensures fits { FitsNode result.0 }
 {
     let content = if node.number == 0 {

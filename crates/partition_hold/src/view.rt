@@ -8,7 +8,7 @@ ghost use Rattle.fine_model.specs.declared.FetchFault.TheVariants as fetch_fault
 ghost use Rattle.fine_model.specs.BoundLaws.{FitsNode};
 ghost use Rattle.fine_model.specs.Merge.{merged};
 ghost use Rattle.fine_model.specs.Nodes.{content, rows_of};
-ghost use Rattle.fine_model.specs.RowBytes.{rows_len};
+ghost use Rattle.fine_model.specs.RowBytes.{greatest, rows_len};
 ghost use Rattle.fine_model.specs.Views.{TellsRows};
 ghost use Rattle.partition_index.specs.Parts.{CountsFaults, IsSeen, LooksAt, body_len};
 ghost use Rattle.partition_index.specs.Search.{Searches};
@@ -129,7 +129,8 @@ impl<E: LogEye> View<E> {
         ensures same { SameView self.old self.new }
         ensures eye { Searches (IsErrOf result fetch_fault.Failed) (most_read self.old.parts) self.old.eye self.new.eye }
         ensures fits { IfOk result (λ found. FitsNode found.0) }
-        ensures read { IfOk result (IsReplayOf self.old.eye.told self.old.parts node) }
+        ensures version { IfOk result (λ found. found.1 ≤ greatest) }
+        ensures read { IfOk result (IsReplayOf self.old.eye self.old.parts node) }
         ensures bad_row { (region at : ℕ) → IsErrOf result (fetch_fault.BadRow region at)
             → Any (λ p. HasBadRow self.old.eye.told self.old.region_len p node (record { region = region; at = at })) self.old.parts }
         ensures bad_index { (region at : ℕ) → IsErrOf result (fetch_fault.BadIndex region at)

@@ -1,5 +1,5 @@
 use Rattle.std.proofs.Common.{rules, ◌≡◌, true, ◌∷◌, [], sym, ap, ◌∙◌, subst, Err}
-use Rattle.std.specs.Prelude.{Any, Option}
+use Rattle.std.specs.Prelude.{Any}
 use Rattle.std.specs.List.{AllByRecursion, list_any}
 use Rattle.std.proofs.lemmas.List.{nil_from_length}
 use Rattle.std.proofs.lemmas.List.Quantifiers.{Any-push}
@@ -7,11 +7,10 @@ use Rattle.fine_model.specs.declared.Part.{Part}
 use Rattle.fine_model.specs.declared.FetchFault.TheVariants as fault
 use Rattle.fine_model.specs.Merge.{is_image}
 use Rattle.fine_model.specs.Nodes.{content, replay}
-use Rattle.fine_model.specs.Regions.{Image}
-use Rattle.node_fetch.specs.Fetched.{IsReplayOf, HasBadRow, HasBadEntry, TellsParts}
+use Rattle.node_fetch.specs.Fetched.{HasBadRow, HasBadEntry, TellsParts}
 use Rattle.fine_model.proofs.Zip.{all_left, all_right}
 use Rattle.node_fetch.proofs.Parts.{fit_rows, later_tells, later_seen, tells_last, tells_none, content_none, content_by_image, content_on, taken_last, taken_all, after_exact, err_exact, fault_is}
-use Rattle.node_fetch.proofs.ReadBack.{replay_none, replay_image, replay_last, after_is}
+use Rattle.node_fetch.proofs.ReadBack.{replay_none, replay_image, replay_last, replay_same, after_is}
 use Rattle.partition_index.specs.Parts.{IsSeen}
 use Rattle.node_fetch.proofs.rebuild.+rebuilt.Goals as goal
 
@@ -110,20 +109,19 @@ returns-clause-taken g t c rows tells =
 
 pub returns-in_default-clause-read : goal.returns-in_default-clause-read
 returns-in_default-clause-read g t c =
-    replay_none (g.E.LogEye.state c.args.eye.now).told c.args.parts.now c.args.node c.base.result (nil_from_length c.args.parts.now c.in_default.ensures.cases) c.base.ensures.base
+    replay_none (g.E.LogEye.state c.args.eye.now) c.args.parts.now c.args.node c.base.result (nil_from_length c.args.parts.now c.in_default.ensures.cases) c.base.ensures.base
 
 pub returns-then-has_image-clause-read : goal.returns-then-has_image-clause-read
 returns-then-has_image-clause-read g t c =
-    let known : Option Image = (g.E.LogEye.state c.args.eye.now).told in
+    let eye = g.E.LogEye.state c.args.eye.now in
     let image : list_any (λ row. is_image row.rec) c.in_ok-rows.rows ≡ true = search rules in
-    after_is c.after.result known c.args.parts.now c.args.node _ c.after.ensures.replay
-    (λ found is. replay_image known c.args.parts.now c.in-Some.older.now c.in-Some.newest.now c.args.node c.in_ok-rows.rows found c.in-Some.ensures.cases.0 c.in_ok-rows.ensures.read image
+    after_is c.after.result eye c.args.parts.now c.args.node _ c.after.ensures.replay
+    (λ found is. replay_image eye c.args.parts.now c.in-Some.older.now c.in-Some.newest.now c.args.node c.in_ok-rows.rows found c.in-Some.ensures.cases.0 c.in_ok-rows.ensures.read image
     (is ∙ ap (λ x. replay x c.in_ok-rows.rows) c.base-then-has_image.ensures.base))
 
 pub returns-clause-read : goal.returns-clause-read
 returns-clause-read g t c =
-    let known : Option Image = (g.E.LogEye.state c.args.eye.now).told in
-    let later : (g.E.LogEye.state c.part_rows.new.eye).told ≡ known = c.part_rows.ensures.eye.same.told in
-    let before = subst (λ k. IsReplayOf k c.in-Some.older.now c.args.node c.in_ok-before.before) later c.in_ok-before.ensures.read in
-    after_is c.after-2.result known c.args.parts.now c.args.node _ c.after-2.ensures.replay
-    (λ found is. replay_last known c.args.parts.now c.in-Some.older.now c.in-Some.newest.now c.args.node c.in_ok-rows.rows c.in_ok-before.before found c.in-Some.ensures.cases.0 c.in_ok-rows.ensures.read before is)
+    let eye = g.E.LogEye.state c.args.eye.now in
+    let before = replay_same eye (g.E.LogEye.state c.part_rows.new.eye) c.in-Some.older.now c.args.node c.in_ok-before.before c.part_rows.ensures.eye.same c.in_ok-before.ensures.read in
+    after_is c.after-2.result eye c.args.parts.now c.args.node _ c.after-2.ensures.replay
+    (λ found is. replay_last eye c.args.parts.now c.in-Some.older.now c.in-Some.newest.now c.args.node c.in_ok-rows.rows c.in_ok-before.before found c.in-Some.ensures.cases.0 c.in_ok-rows.ensures.read before is)

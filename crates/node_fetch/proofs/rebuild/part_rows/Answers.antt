@@ -30,9 +30,9 @@ returns-clause-taken g c rows t =
     (some_found rows c.args.node c.in-Ok-Some.span (rw c.in-Ok-Some.field-0-is at (c.in-Ok-Some.ensures.exact rows t))) c.seek.ensures.eye.taken c.read_span.ensures.eye.taken
 
 pub returns-in-Ok-None-clause-read : goal.returns-in-Ok-None-clause-read
-returns-in-Ok-None-clause-read g c = inl c.new.ensures
+returns-in-Ok-None-clause-read g c = record { read = inl c.new.ensures; exact = returns-in-Ok-None-clause-exact g c }
 
 pub returns-clause-read : goal.returns-clause-read
 returns-clause-read g c =
-    read_found c.read_span.result (g.E.LogEye.state c.args.eye.now).told (g.E.LogEye.state c.seek.new.eye).told c.args.node c.args.part.now c.in-Ok-Some.span c.seek.ensures.eye.same.told (rw c.in-Ok-Some.field-0-is at c.in-Ok-Some.ensures.span)
-    c.read_span.ensures.holds
+    read_found c.read_span.result (g.E.LogEye.state c.args.eye.now) (g.E.LogEye.state c.seek.new.eye) c.args.node c.args.part.now c.in-Ok-Some.span c.seek.ensures.eye.same (rw c.in-Ok-Some.field-0-is at c.in-Ok-Some.ensures.span)
+    c.read_span.ensures.holds (returns-clause-exact g c)

@@ -2,7 +2,7 @@ use Rattle.std.proofs.Common.{◌≡◌, drop}
 use Rattle.std.specs.List.{AllByRecursion}
 use Rattle.fine_model.specs.Nodes.{replay}
 use Rattle.fine_model.specs.RowBytes.{FitsRec}
-use Rattle.node_record.specs.Bounds.{FitsNode}
+use Rattle.fine_model.specs.BoundLaws.{FitsNode}
 use Rattle.node_fetch.proofs.replay.replayed.Given as goal
 
 abbrev pub invariant-loop-row : goal.invariant-loop-row

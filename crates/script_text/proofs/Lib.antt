@@ -8,3 +8,5 @@ pub mod Aheading
 pub mod Grammars
 pub mod Following
 pub mod Reaching
+pub mod Feeds
+pub mod Telling

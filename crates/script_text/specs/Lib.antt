@@ -9,3 +9,4 @@ pub mod Reading
 pub mod Reads
 pub mod Turns
 pub mod Fits
+pub mod Marks

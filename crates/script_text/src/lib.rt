@@ -15,11 +15,13 @@ mod reach;
 mod read;
 mod reading;
 mod report;
+mod report_law;
 
 pub use console::{StdSink, StdSource};
 pub use memory::{MemSink, MemSource};
 pub use read::{ScriptFault, read_script, read_whole_script};
 pub use report::{write_reason, write_report};
+pub use report_law::text_law;
 
 /// A call of a source or of a sink failed.
 #[derive(Clone, Copy, Debug, PartialEq, Eq)]

@@ -1,0 +1,5 @@
+use Rattle.script_text.proofs.Telling.{text_tells}
+use Rattle.script_text.proofs.report_law.text_law.Goals as goal
+
+pub returns : goal.returns
+returns c = record { text = text_tells }

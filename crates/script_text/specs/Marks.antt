@@ -1,0 +1,73 @@
+-- What the text of a report says of each transaction.
+use Rattle.std.specs.Prelude.{◌≡◌, ◌≢◌, ℕ, ◌≤◌, List, map, ⊤}
+use Rattle.std.specs.List.{AllByRecursion}
+use Rattle.fine_model.specs.declared.Call.{Call}
+use Rattle.fine_model.specs.declared.Reply.{Reply}
+use Rattle.fine_model.specs.declared.ScriptTxn.{ScriptTxn}
+use Rattle.fine_model.specs.declared.Why.{Why}
+use Rattle.fine_model.specs.declared.Outcome.{Outcome}
+use Rattle.fine_model.specs.declared.Ran.{Ran}
+use Rattle.fine_model.specs.declared.Call.TheVariants as call
+use Rattle.fine_model.specs.declared.Reply.TheVariants as reply
+use Rattle.fine_model.specs.declared.Outcome.TheVariants as outcome
+use Rattle.fine_model.specs.Map.{Pair}
+use Rattle.fine_model.specs.RowBytes.{greatest}
+use Rattle.fine_model.specs.Report.{report, all_outcomes}
+
+-- what a report says of a transaction: committed at a place in an epoch, aborted, refused with a word, or not run
+pub data TxnMark : Type 0 where
+  committed : ℕ → ℕ → TxnMark
+  aborted : TxnMark
+  refused : Why → TxnMark
+  not_run : TxnMark
+
+abbrev pub mark_of : Outcome → TxnMark
+mark_of (outcome.Committed place epoch entry) = committed place epoch
+mark_of outcome.Aborted = aborted
+mark_of (outcome.Refused why) = refused why
+mark_of outcome.NotRun = not_run
+
+-- what a report says of a script's transactions, in their order
+abbrev pub marks : List ScriptTxn → Ran → List TxnMark
+marks script ran = map mark_of (all_outcomes script ran.outcomes)
+
+-- no line feed is among the bytes
+abbrev pub HasNoFeed : List ℕ → Type 0
+HasNoFeed bytes = AllByRecursion (λ b. b ≢ 10) bytes
+
+-- a pair whose key and value hold no line feed
+abbrev pub PairHasNoFeed : Pair → Type 0
+PairHasNoFeed pair = HasNoFeed pair.0 × HasNoFeed pair.1
+
+-- a call whose keys and value hold none
+abbrev pub CallHasNoFeed : Call → Type 0
+CallHasNoFeed (call.Get key) = HasNoFeed key
+CallHasNoFeed (call.Put key value) = HasNoFeed key × HasNoFeed value
+CallHasNoFeed (call.Del key) = HasNoFeed key
+CallHasNoFeed (call.Add key by) = HasNoFeed key
+CallHasNoFeed (call.Scan low high limit) = HasNoFeed low × HasNoFeed high
+
+-- a reply whose value or pairs hold none
+abbrev pub ReplyHasNoFeed : Reply → Type 0
+ReplyHasNoFeed (reply.Value value) = HasNoFeed value
+ReplyHasNoFeed (reply.Found pairs) = AllByRecursion PairHasNoFeed pairs
+ReplyHasNoFeed _ = ⊤
+
+-- an outcome whose calls and replies hold none
+abbrev pub OutcomeHasNoFeed : Outcome → Type 0
+OutcomeHasNoFeed (outcome.Committed place epoch entry) = AllByRecursion CallHasNoFeed entry.calls × AllByRecursion ReplyHasNoFeed entry.replies
+OutcomeHasNoFeed _ = ⊤
+
+-- a place and an epoch within the format's bounds
+abbrev pub FitsMark : TxnMark → Type 0
+FitsMark (committed place epoch) = (place ≤ greatest) × (epoch ≤ greatest)
+FitsMark _ = ⊤
+
+-- an outcome that its lines tell
+abbrev pub IsTold : Outcome → Type 0
+IsTold o = OutcomeHasNoFeed o × FitsMark (mark_of o)
+
+-- Where no key or value holds a line feed, reports of the same text say the same of each transaction, of whatever scripts and runs they are.
+abbrev pub TextTells : Type 0
+TextTells = (one other : List ScriptTxn) (r s : Ran) → AllByRecursion IsTold r.outcomes → AllByRecursion IsTold s.outcomes
+    → report one r ≡ report other s → marks one r ≡ marks other s

@@ -181,44 +181,59 @@ fn has(bucket: &Bucket, values: [u8; 3], version: u64) -> bool {
         && version_of(bucket, 1) == version
 }
 
+/// Does rows to node 1, by the version, the key and the value of each. Answers the versions of those that were not done.
+fn change_all(
+    bucket: &mut Bucket,
+    alloc: Global,
+    rows: &[(u8, u8, Option<u8>)],
+) -> Result<Vec<u8>, Fail> {
+    let mut refused = Vec::new(alloc);
+    for (version, key, value) in rows {
+        if !change(bucket, alloc, u64::from(*version), *key, *value)? {
+            refused.push(*version).ok().ok_or("memory")?;
+        }
+    }
+    Ok(refused)
+}
+
 #[test]
 fn changes_of_pairs_are_done_and_taken_back(rt: HostRuntime) -> Result<(), Fail> {
     let alloc = rt.alloc();
     let mut bucket = with_pairs(alloc)?;
-    // the version, the key and the value of a row, and whether it is done
     let rows = [
-        (4, 10, Some(7), true),
-        (4, 15, Some(4), false),
-        (5, 20, None, true),
-        (6, 20, None, false),
-        (6, 15, Some(4), true),
-        (7, 20, Some(9), true),
+        (4, 10, Some(7)),
+        // not the next version
+        (9, 15, Some(4)),
+        (5, 20, None),
+        // no such key
+        (6, 20, None),
+        (6, 15, Some(4)),
+        (7, 20, Some(9)),
     ];
-    for (version, key, value, done) in rows {
-        assert_eq!(rt;
-            change(&mut bucket, alloc, version, key, value)?,
-            done,
-            "version {version}, key {key}"
-        );
-    }
+    let refused = change_all(&mut bucket, alloc, &rows)?;
+    assert!(rt; refused.as_slice() == [9u8, 6].as_slice());
     assert!(rt; has(&bucket, [7, 4, 9], 7));
     bucket.undo();
     assert!(rt; has(&bucket, [1, 0, 2], 3));
     Ok(())
 }
 
+/// A bucket whose node 1 is a leaf with the keys 1 to 32, which were set since it was saved.
+fn full(alloc: Global) -> Result<Bucket, Fail> {
+    let mut bucket = filled(alloc, 1)?;
+    for key in 1..=32u8 {
+        change(&mut bucket, alloc, u64::from(key) + 1, key, Some(1))?;
+    }
+    Ok(bucket)
+}
+
 #[test]
 fn a_full_leaf_takes_no_other_key(rt: HostRuntime) -> Result<(), Fail> {
     let alloc = rt.alloc();
-    let mut bucket = filled(alloc, 1)?;
-    for key in 1..=32u8 {
-        assert!(rt;
-            change(&mut bucket, alloc, u64::from(key) + 1, key, Some(1))?,
-            "key {key}"
-        );
-    }
+    let mut bucket = full(alloc)?;
     assert!(rt; !change(&mut bucket, alloc, 34, 33, Some(1))?);
     assert!(rt; change(&mut bucket, alloc, 34, 32, Some(2))?);
+    assert_eq!(rt; value_of(&bucket, 32), 2);
     bucket.undo();
     assert_eq!(rt; value_of(&bucket, 32), 0);
     assert_eq!(rt; version_of(&bucket, 1), 1);
@@ -235,6 +250,13 @@ fn a_changed_node_is_changed_in_any_way_and_taken_back(rt: HostRuntime) -> Resul
     assert!(rt; has(&bucket, [0, 4, 2], 10));
     bucket.undo();
     assert!(rt; has(&bucket, [1, 0, 2], 3));
+    Ok(())
+}
+
+#[test]
+fn a_changed_node_is_put_in_place_of_and_taken_back(rt: HostRuntime) -> Result<(), Fail> {
+    let alloc = rt.alloc();
+    let mut bucket = with_pairs(alloc)?;
     change(&mut bucket, alloc, 4, 10, None)?;
     bucket.put(1, leaf(alloc, 1, 1)).ok().ok_or("memory")?;
     bucket.undo();

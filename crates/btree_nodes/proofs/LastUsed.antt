@@ -63,7 +63,7 @@ pub loaded_used : (tells : List Row → Type 0) (upper k : ℕ) (b m new : Cache
 loaded_used tells upper k b m new is none load here = ⊎_elim
     (λ same. absurd (true≢false (sym here ∙ ap (λ (es : List (ℕ × Cached)). is_some (lookup (nat_eq k) es)) (same ∙ same_nodes) ∙ ap is_some none)))
     (λ more. ap (λ (es : List (ℕ × Cached)). keys_of es) more.1 ∙ keys_behind m.nodes k more.0
-        ∙ ap (λ (es : List (ℕ × Cached)). keys_of es ++ k ∷ []) same_nodes ∙ ap (λ ks. ks ++ k ∷ []) (sym (without_absent k b.nodes none)))
+    ∙ ap (λ (es : List (ℕ × Cached)). keys_of es ++ k ∷ []) same_nodes ∙ ap (λ ks. ks ++ k ∷ []) (sym (without_absent k b.nodes none)))
     load.order
   where
     same_nodes : m.nodes ≡ b.nodes

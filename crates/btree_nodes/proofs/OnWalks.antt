@@ -76,10 +76,10 @@ module _ (low high : List ℕ) where
         ⊎_elim
         (λ same. subst (Contains (number ∷ met (given d) (given d number))) (sym same) (contains_first number (met (given d) (given d number))))
         (λ more. contains_more number (met (given d) (given d number)) n (⊎_elim
-            (λ none. absurd (contains_none n (subst (λ (c : Content). Contains (met (given b) c) n) (given_none b number none) more)))
-            (λ here. subst (λ (c : Content). Contains (met (given d) c) n) (sym (loaded_given tells upper b d loaded number here))
-                (kids_grow (numbers_met height (given b) low high) (numbers_met height (given d) low high) n (λ c k. numbers_grow height c k) bounds (seps_of (given b number).0) (kids_of (given b number).0) more))
-            (none_or_some (cached b number))))
+        (λ none. absurd (contains_none n (subst (λ (c : Content). Contains (met (given b) c) n) (given_none b number none) more)))
+        (λ here. subst (λ (c : Content). Contains (met (given d) c) n) (sym (loaded_given tells upper b d loaded number here))
+        (kids_grow (numbers_met height (given b) low high) (numbers_met height (given d) low high) n (λ c k. numbers_grow height c k) bounds (seps_of (given b number).0) (kids_of (given b number).0) more))
+        (none_or_some (cached b number))))
         (contains_cases number (met (given b) (given b number)) n h)
 
   -- ---- one child, and then the others
@@ -117,7 +117,7 @@ module _ (low high : List ℕ) where
     walk_on tells upper b mid loaded some same first then_rest =
         among_both b mid d (numbers_met height (given mid) low high (bounds_by (given mid) child.low child.high) child.number) rest (numbers_from height (given d) low high at place)
         (λ n h. in_first some n (subst (λ k. Contains (numbers_met height (given d) low high k child.number) n) (sym same)
-            (numbers_grow tells upper mid d loaded n height (bounds_by (given mid) child.low child.high) child.number h))) in_rest first then_rest
+        (numbers_grow tells upper mid d loaded n height (bounds_by (given mid) child.low child.high) child.number h))) in_rest first then_rest
 
   -- ---- on sound rows
 
@@ -157,10 +157,10 @@ module _ (low high : List ℕ) where
         ⊎_elim
         (λ same. subst (λ k. (nodes k).0 ≢ node.Broken) (sym same) fine)
         (λ more. ⊎_elim
-            (λ none. absurd (contains_none n (subst (λ (c : Content). Contains (met c) n) (given_none b number none) more)))
-            (λ here. node_met (IsSubtree height bucket nodes) ((nodes n).0 ≢ node.Broken) (numbers_met height (given b) low high) n (λ c k. met_whole height c k) bounds (nodes number).0 subtree
-                (subst (λ (c : Content). Contains (met c) n) (agrees number here fine) more))
-            (none_or_some (cached b number)))
+        (λ none. absurd (contains_none n (subst (λ (c : Content). Contains (met c) n) (given_none b number none) more)))
+        (λ here. node_met (IsSubtree height bucket nodes) ((nodes n).0 ≢ node.Broken) (numbers_met height (given b) low high) n (λ c k. met_whole height c k) bounds (nodes number).0 subtree
+        (subst (λ (c : Content). Contains (met c) n) (agrees number here fine) more))
+        (none_or_some (cached b number)))
         (contains_cases number (met (given b number)) n h)
 
     pub walk_whole : (t : HasTree bucket nodes (nodes 0).0) → Contains (numbers_between (given b) low high (given b 0).0) n → (nodes n).0 ≢ node.Broken
@@ -186,4 +186,4 @@ pub holds_on_walk : (tells : List Row → Type 0) (upper : ℕ) (rows log : List
 holds_on_walk tells upper rows log old new low high small sound loaded on_walk serves holds =
     holds_loaded tells upper rows log old new loaded serves holds
     (λ n none here. walk_whole low high new new.bucket (nodes_of (rows ++ log) new.bucket) (agrees_loaded tells upper rows log old new loaded serves holds) n
-        (has_tree new.bucket (nodes_of (rows ++ log) new.bucket) (nodes_of (rows ++ log) new.bucket 0).0 (sound.fit new.bucket (subst (λ (k : ℕ). k < 256) (sym loaded.bucket) small))) (on_walk.each n none here))
+    (has_tree new.bucket (nodes_of (rows ++ log) new.bucket) (nodes_of (rows ++ log) new.bucket 0).0 (sound.fit new.bucket (subst (λ (k : ℕ). k < 256) (sym loaded.bucket) small))) (on_walk.each n none here))

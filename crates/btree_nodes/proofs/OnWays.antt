@@ -43,10 +43,10 @@ module _ (b : Cache) (nodes : ℕ → Content) (agrees : (n : ℕ) → IsCached 
       ⊎_elim
       (λ same. subst (λ k. (nodes k).0 ≢ node.Broken) (sym same) fine)
       (λ more. ⊎_elim
-          (λ none. subst (λ k. (nodes k).0 ≢ node.Broken) (sym (way_zeros height n (subst (λ (c : Content). Contains (way height (given b) key (kid_of c.0)) n) (given_none b number none) more))) head)
-          (λ here. way_whole height (bounds_at bounds (seps_of (nodes number).0) (place_among key (seps_of (nodes number).0))) (kid_of (nodes number).0) good.1 n
-              (subst (λ (c : Content). Contains (way height (given b) key (kid_of c.0)) n) (agrees number here fine) more))
-          (none_or_some (cached b number)))
+      (λ none. subst (λ k. (nodes k).0 ≢ node.Broken) (sym (way_zeros height n (subst (λ (c : Content). Contains (way height (given b) key (kid_of c.0)) n) (given_none b number none) more))) head)
+      (λ here. way_whole height (bounds_at bounds (seps_of (nodes number).0) (place_among key (seps_of (nodes number).0))) (kid_of (nodes number).0) good.1 n
+      (subst (λ (c : Content). Contains (way height (given b) key (kid_of c.0)) n) (agrees number here fine) more))
+      (none_or_some (cached b number)))
       (contains_cases number (way height (given b) key (kid_of (given b number).0)) n on)
 
 module _ (rows : List Row) (key : List ℕ) (sound : IsSound rows) (b : Cache) (of_key : b.bucket ≡ bucket_of key) (agrees : (n : ℕ) → IsCached b n → (theirs rows key n).0 ≢ node.Broken → given b n ≡ theirs rows key n) where

@@ -15,8 +15,7 @@ const KEYS: u32 = 600;
 /// What a key holds in the map, by its place among the keys of thirteen pieces.
 type Map = BTreeMap<u32, Vec<u8>>;
 
-fn get_both(tree: &mut Tree, map: &Map, place: u32) -> Result<bool, Fail>
-{
+fn get_both(tree: &mut Tree, map: &Map, place: u32) -> Result<bool, Fail> {
     let key = key_at(tree.alloc, place, 13)?;
     let Ok(found) = get(tree, key.as_slice()) else {
         return Ok(false);
@@ -28,16 +27,14 @@ fn get_both(tree: &mut Tree, map: &Map, place: u32) -> Result<bool, Fail>
     })
 }
 
-fn put_both(tree: &mut Tree, map: &mut Map, place: u32, value: &[u8]) -> Result<bool, Fail>
-{
+fn put_both(tree: &mut Tree, map: &mut Map, place: u32, value: &[u8]) -> Result<bool, Fail> {
     let key = key_at(tree.alloc, place, 13)?;
     let copy = Vec::from_slice(tree.alloc, value).ok().ok_or("memory")?;
     map.insert(place, copy).ok().ok_or("memory")?;
     Ok(put(tree, key.as_slice(), value).is_ok())
 }
 
-fn del_both(tree: &mut Tree, map: &mut Map, place: u32) -> Result<bool, Fail>
-{
+fn del_both(tree: &mut Tree, map: &mut Map, place: u32) -> Result<bool, Fail> {
     let key = key_at(tree.alloc, place, 13)?;
     let there = map.remove(&place).is_some();
     Ok(match del(tree, key.as_slice()) {
@@ -57,8 +54,7 @@ fn sum_of(map: &Map, place: u32, by: i64) -> (Option<i64>, bool) {
     }
 }
 
-fn add_both(tree: &mut Tree, map: &mut Map, place: u32, by: i64) -> Result<bool, Fail>
-{
+fn add_both(tree: &mut Tree, map: &mut Map, place: u32, by: i64) -> Result<bool, Fail> {
     let key = key_at(tree.alloc, place, 13)?;
     let (wanted, is_number) = sum_of(map, place, by);
     if let Some(sum) = wanted {
@@ -76,8 +72,7 @@ fn add_both(tree: &mut Tree, map: &mut Map, place: u32, by: i64) -> Result<bool,
     })
 }
 
-fn scan_both(tree: &mut Tree, map: &Map, low: u32, limit: u32) -> Result<bool, Fail>
-{
+fn scan_both(tree: &mut Tree, map: &Map, low: u32, limit: u32) -> Result<bool, Fail> {
     let high = low.saturating_add(100);
     let found = pairs_between(tree, low, high, limit)?;
     let mut at = 0;
@@ -98,8 +93,7 @@ fn scan_both(tree: &mut Tree, map: &Map, low: u32, limit: u32) -> Result<bool, F
 }
 
 /// One call by chance. Answers whether tree and map agree.
-fn call_both(tree: &mut Tree, map: &mut Map, chance: u64) -> Result<bool, Fail>
-{
+fn call_both(tree: &mut Tree, map: &mut Map, chance: u64) -> Result<bool, Fail> {
     let place = (chance / 8_589_934_592 % u64::from(KEYS)) as u32;
     let number = (chance / 65_536 % 2000) as i64;
     match chance / 536_870_912 % 8 {
@@ -117,8 +111,7 @@ fn call_both(tree: &mut Tree, map: &mut Map, chance: u64) -> Result<bool, Fail>
 }
 
 /// Sets each key. Answers whether all were set.
-fn put_all(tree: &mut Tree, map: &mut Map) -> Result<bool, Fail>
-{
+fn put_all(tree: &mut Tree, map: &mut Map) -> Result<bool, Fail> {
     for place in 0..KEYS {
         if !put_both(tree, map, place, b"1")? {
             return Ok(false);
@@ -128,8 +121,7 @@ fn put_all(tree: &mut Tree, map: &mut Map) -> Result<bool, Fail>
 }
 
 /// So many calls by chance. Answers how many agreed.
-fn call_many(tree: &mut Tree, map: &mut Map, many: u32) -> Result<u32, Fail>
-{
+fn call_many(tree: &mut Tree, map: &mut Map, many: u32) -> Result<u32, Fail> {
     let mut chance = 12_345u64;
     let mut right = 0u32;
     for _call in 0..many {
@@ -144,8 +136,7 @@ fn call_many(tree: &mut Tree, map: &mut Map, many: u32) -> Result<u32, Fail>
 }
 
 /// How many keys hold in a tree what they hold in the map.
-fn count_right(tree: &mut Tree, map: &Map) -> Result<u32, Fail>
-{
+fn count_right(tree: &mut Tree, map: &Map) -> Result<u32, Fail> {
     let mut right = 0u32;
     for place in 0..KEYS {
         if get_both(tree, map, place)? {

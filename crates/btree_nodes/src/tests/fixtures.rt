@@ -105,8 +105,7 @@ pub struct Tree {
 }
 
 /// A tree of bucket 64 on the rows that bytes spell, with nothing cached.
-pub fn tree_of(alloc: Global, rows: &[u8]) -> Result<Tree, Fail>
-{
+pub fn tree_of(alloc: Global, rows: &[u8]) -> Result<Tree, Fail> {
     let bytes = Vec::from_slice(alloc, rows).ok().ok_or("memory")?;
     Ok(Tree {
         alloc,
@@ -147,16 +146,14 @@ fn is_of(bucket: &Bucket, key: &[u8]) -> bool
     !key.is_empty() && key.len() <= 64 && bucket_of(key) == bucket.bucket()
 }
 
-pub fn get(tree: &mut Tree, key: &[u8]) -> Result<Option<Bytes>, TreeFault>
-{
+pub fn get(tree: &mut Tree, key: &[u8]) -> Result<Option<Bytes>, TreeFault> {
     if !is_of(&tree.bucket, key) {
         return Err(TreeFault::NoMemory);
     }
     find(&mut tree.source, &mut tree.bucket, key)
 }
 
-pub fn put(tree: &mut Tree, key: &[u8], value: &[u8]) -> Result<(), TreeFault>
-{
+pub fn put(tree: &mut Tree, key: &[u8], value: &[u8]) -> Result<(), TreeFault> {
     if !is_of(&tree.bucket, key) || value.is_empty() || value.len() > 256 {
         return Err(TreeFault::NoMemory);
     }
@@ -170,8 +167,7 @@ pub fn put(tree: &mut Tree, key: &[u8], value: &[u8]) -> Result<(), TreeFault>
     )
 }
 
-pub fn del(tree: &mut Tree, key: &[u8]) -> Result<bool, TreeFault>
-{
+pub fn del(tree: &mut Tree, key: &[u8]) -> Result<bool, TreeFault> {
     if !is_of(&tree.bucket, key) {
         return Err(TreeFault::NoMemory);
     }
@@ -184,8 +180,7 @@ pub fn del(tree: &mut Tree, key: &[u8]) -> Result<bool, TreeFault>
     )
 }
 
-pub fn add(tree: &mut Tree, key: &[u8], by: i64) -> Result<Reply, TreeFault>
-{
+pub fn add(tree: &mut Tree, key: &[u8], by: i64) -> Result<Reply, TreeFault> {
     if !is_of(&tree.bucket, key) {
         return Err(TreeFault::NoMemory);
     }
@@ -199,8 +194,7 @@ pub fn add(tree: &mut Tree, key: &[u8], by: i64) -> Result<Reply, TreeFault>
     )
 }
 
-pub fn pairs(tree: &mut Tree, low: &[u8], high: &[u8], limit: u32) -> Result<Pairs, TreeFault>
-{
+pub fn pairs(tree: &mut Tree, low: &[u8], high: &[u8], limit: u32) -> Result<Pairs, TreeFault> {
     if tree.bucket.bucket() > 255 {
         return Err(TreeFault::NoMemory);
     }

@@ -77,8 +77,7 @@ fn push_full_inner(
 }
 
 /// A tree of a depth whose nodes on the way of the least key are all full but for the leaf.
-fn full_tree(alloc: Global, depth: u8) -> Result<Tree, Fail>
-{
+fn full_tree(alloc: Global, depth: u8) -> Result<Tree, Fail> {
     let mut rows = Vec::new(alloc);
     push_head(&mut rows, 1, u32::from(depth), 20, depth)?;
     for height in 1..depth {
@@ -89,8 +88,7 @@ fn full_tree(alloc: Global, depth: u8) -> Result<Tree, Fail>
 }
 
 /// The answer to the 33rd key of a leaf.
-fn split(tree: &mut Tree) -> Result<Result<(), TreeFault>, Fail>
-{
+fn split(tree: &mut Tree) -> Result<Result<(), TreeFault>, Fail> {
     if !put_keys(tree, 32, 5, 1, 32)? {
         return Err("memory".into());
     }

@@ -22,8 +22,7 @@ pub fn deep_rows(alloc: Global) -> Result<Vec<u8>, Fail> {
 }
 
 /// A scan between two places among the keys of thirteen pieces.
-pub fn pairs_between(tree: &mut Tree, low: u32, high: u32, limit: u32) -> Result<Pairs, Fail>
-{
+pub fn pairs_between(tree: &mut Tree, low: u32, high: u32, limit: u32) -> Result<Pairs, Fail> {
     let low = key_at(tree.alloc, low, 13)?;
     let high = key_at(tree.alloc, high, 13)?;
     let found = pairs(tree, low.as_slice(), high.as_slice(), limit);

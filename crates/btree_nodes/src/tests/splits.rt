@@ -32,8 +32,13 @@ fn rows_of_split(alloc: Global) -> Result<Vec<u8>, Fail> {
 }
 
 /// Sets so many keys of so many pieces to `1`, each `step` places behind the last one, round `span` places. Answers whether all were set.
-pub fn put_keys(tree: &mut Tree, many: u32, pieces: u32, step: u32, span: u32) -> Result<bool, Fail>
-{
+pub fn put_keys(
+    tree: &mut Tree,
+    many: u32,
+    pieces: u32,
+    step: u32,
+    span: u32,
+) -> Result<bool, Fail> {
     let mut place = 0u32;
     for _key in 0..many {
         let key = key_at(tree.alloc, place, pieces)?;
@@ -57,8 +62,7 @@ pub fn depth_of(tree: &Tree) -> u8 {
 }
 
 /// How many of the first keys of thirteen pieces are there.
-pub fn count_keys(tree: &mut Tree, many: u32) -> Result<u32, Fail>
-{
+pub fn count_keys(tree: &mut Tree, many: u32) -> Result<u32, Fail> {
     let mut count = 0u32;
     for place in 0..many {
         let key = key_at(tree.alloc, place, 13)?;

@@ -74,8 +74,7 @@ fn is_unfit<T: Drop>(answer: &Result<T, TreeFault>, number: u32) -> bool {
 }
 
 /// How many of the five calls on the least key name this node as unfit.
-fn count_unfit(tree: &mut Tree, number: u32) -> u32
-{
+fn count_unfit(tree: &mut Tree, number: u32) -> u32 {
     let key = b"AaAaAaAaAa";
     let all = [
         is_unfit(&get(tree, key), number),
@@ -125,8 +124,7 @@ fn end_of<T: Drop>(answer: &Result<T, TreeFault>) -> Ends {
 }
 
 /// A scan over some leaves behind a pair that stood there. Where it fails, the pair is all that is there.
-fn scan_behind(tree: &mut Tree, before: (Bytes, Bytes)) -> Ends
-{
+fn scan_behind(tree: &mut Tree, before: (Bytes, Bytes)) -> Ends {
     if tree.bucket.bucket() > 255 {
         return Ends::Otherwise;
     }
@@ -152,8 +150,7 @@ fn scan_behind(tree: &mut Tree, before: (Bytes, Bytes)) -> Ends
 }
 
 /// One of the five calls.
-fn call(tree: &mut Tree, kind: u32) -> Ends
-{
+fn call(tree: &mut Tree, kind: u32) -> Ends {
     let key = b"AaAaAaAaAaAaAaAaAaAaAaAaBB";
     match kind {
         0 => end_of(&get(tree, key)),

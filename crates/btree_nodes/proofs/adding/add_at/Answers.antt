@@ -43,14 +43,16 @@ returns c =
     let version = (c.in_ok-next_version.ensures) in
     let mine : Row = record { node = record { bucket = c.bucket.result; number = path.leaf }; version = c.in_ok-next_version.field-0; rec = rec.Plus c.in_ok-bytes_of.field-0 (to_z w64 (of_z w64 c.args.by)) } in
     let same : mine ≡ leaf_row b key path is (rec.Plus key c.args.by) =
-    λ i. record { node = record { bucket = c.bucket.ensures i; number = path.leaf }; version = version.0 i; rec = rec.Plus (c.in_ok-bytes_of.ensures i) (to_z-of_z c.ranges.by i) } in record { outcome = (
-      said,
-      record { here = is.here; fit = is.fit },
-      record {
-        rows = mine ∷ [];
-        is_pushed = plus_pushed b key c.args.by path is c.requires.there sum (subst (λ v. v ≤ 4611686018427387904) version.0 version.1) ∙ ap (λ row. Ok (row ∷ [])) (sym same);
-        behind = (c.in_ok-push_row.ensures).log;
-        pushes = (c.in_ok-push_row.ensures).pushes;
-        fits = subst (λ row. FitsLog b.bucket (row ∷ [])) (sym same) (leaf_fits b key path is (rec.Plus key c.args.by) (c.requires.key, c.ranges.by) (λ e. omega (arith, e)) (subst (λ v. v ≤ 4611686018427387904) version.0 version.1));
-      },
-    ) }
+    λ i. record { node = record { bucket = c.bucket.ensures i; number = path.leaf }; version = version.0 i; rec = rec.Plus (c.in_ok-bytes_of.ensures i) (to_z-of_z c.ranges.by i) } in record {
+      outcome = (
+        said,
+        record { here = is.here; fit = is.fit },
+        record {
+          rows = mine ∷ [];
+          is_pushed = plus_pushed b key c.args.by path is c.requires.there sum (subst (λ v. v ≤ 4611686018427387904) version.0 version.1) ∙ ap (λ row. Ok (row ∷ [])) (sym same);
+          behind = (c.in_ok-push_row.ensures).log;
+          pushes = (c.in_ok-push_row.ensures).pushes;
+          fits = subst (λ row. FitsLog b.bucket (row ∷ [])) (sym same) (leaf_fits b key path is (rec.Plus key c.args.by) (c.requires.key, c.ranges.by) (λ e. omega (arith, e)) (subst (λ v. v ≤ 4611686018427387904) version.0 version.1));
+        },
+      );
+    }

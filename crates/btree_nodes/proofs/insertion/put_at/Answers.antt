@@ -71,14 +71,16 @@ returns c =
     let pair : FitsPair (key, value) = (c.requires.key, c.requires.value) in
     let grown : grown_of c.in_ok-below.below ≡ growth (path.depth - 1) b.bucket (given b) path.next (key, value) path.root = (c.in_ok-below.ensures).grown in
     let same : pushed_of c.in_ok-push.push ≡ put_rows b key value pair path c.requires.path =
-    (c.in_ok-push.ensures) ∙ (λ i. with_head (c.bucket.ensures i) (c.version_of.ensures.is i) path.root path.next path.depth (grown i).rows (grown i).next (grown i).split) in record { outcome = (
-      tt,
-      record { here = c.requires.path.here; fit = c.requires.path.fit },
-      record {
-        rows = c.in_ok-push.push.rows;
-        is_pushed = put_pushed b key value pair path c.requires.path c.in_ok-push.push same (Ok c.in_ok-push.push.rows) (c.in_ok-test_limits.ensures);
-        behind = (c.in_ok-push_all.ensures).log ∙ ap (λ (rows : List Row). c.args.log.now ++ rows) c.as_slice.ensures;
-        pushes = subst (Pushes b c.push_all.new.bucket) c.as_slice.ensures (c.in_ok-push_all.ensures).pushes;
-        fits = (can_put b key value pair path c.requires.path c.in_ok-push.push same (c.in_ok-test_limits.ensures)).fits;
-      },
-    ) }
+    (c.in_ok-push.ensures) ∙ (λ i. with_head (c.bucket.ensures i) (c.version_of.ensures.is i) path.root path.next path.depth (grown i).rows (grown i).next (grown i).split) in record {
+      outcome = (
+        tt,
+        record { here = c.requires.path.here; fit = c.requires.path.fit },
+        record {
+          rows = c.in_ok-push.push.rows;
+          is_pushed = put_pushed b key value pair path c.requires.path c.in_ok-push.push same (Ok c.in_ok-push.push.rows) (c.in_ok-test_limits.ensures);
+          behind = (c.in_ok-push_all.ensures).log ∙ ap (λ (rows : List Row). c.args.log.now ++ rows) c.as_slice.ensures;
+          pushes = subst (Pushes b c.push_all.new.bucket) c.as_slice.ensures (c.in_ok-push_all.ensures).pushes;
+          fits = (can_put b key value pair path c.requires.path c.in_ok-push.push same (c.in_ok-test_limits.ensures)).fits;
+        },
+      );
+    }

@@ -32,14 +32,16 @@ returns c =
     let version = (c.in_ok-next_version.ensures) in
     let mine : Row = record { node = record { bucket = c.bucket.result; number = path.leaf }; version = c.in_ok-next_version.field-0; rec = rec.Del c.in_ok-bytes_of.field-0 } in
     let same : mine ≡ leaf_row b key path c.requires.path (rec.Del key) =
-    λ i. record { node = record { bucket = c.bucket.ensures i; number = path.leaf }; version = version.0 i; rec = rec.Del (c.in_ok-bytes_of.ensures i) } in record { outcome = (
-      sym there,
-      record { here = c.requires.path.here; fit = c.requires.path.fit },
-      record {
-        rows = mine ∷ [];
-        is_pushed = del_pushed b key path c.requires.path there (subst (λ v. v ≤ 4611686018427387904) version.0 version.1) ∙ ap (λ row. Ok (row ∷ [])) (sym same);
-        behind = (c.in_ok-push_row.ensures).log;
-        pushes = (c.in_ok-push_row.ensures).pushes;
-        fits = subst (λ row. FitsLog b.bucket (row ∷ [])) (sym same) (leaf_fits b key path c.requires.path (rec.Del key) c.requires.key (λ e. omega (arith, e)) (subst (λ v. v ≤ 4611686018427387904) version.0 version.1));
-      },
-    ) }
+    λ i. record { node = record { bucket = c.bucket.ensures i; number = path.leaf }; version = version.0 i; rec = rec.Del (c.in_ok-bytes_of.ensures i) } in record {
+      outcome = (
+        sym there,
+        record { here = c.requires.path.here; fit = c.requires.path.fit },
+        record {
+          rows = mine ∷ [];
+          is_pushed = del_pushed b key path c.requires.path there (subst (λ v. v ≤ 4611686018427387904) version.0 version.1) ∙ ap (λ row. Ok (row ∷ [])) (sym same);
+          behind = (c.in_ok-push_row.ensures).log;
+          pushes = (c.in_ok-push_row.ensures).pushes;
+          fits = subst (λ row. FitsLog b.bucket (row ∷ [])) (sym same) (leaf_fits b key path c.requires.path (rec.Del key) c.requires.key (λ e. omega (arith, e)) (subst (λ v. v ≤ 4611686018427387904) version.0 version.1));
+        },
+      );
+    }

@@ -12,20 +12,15 @@ use Rattle.fine_model.proofs.Spelling.{split_same}
 use Rattle.partition_index.specs.Entries.{bytes_of, entry_for}
 use Rattle.partition_index.specs.Index.{entries_of}
 use Rattle.partition_index.specs.declared.entries.IndexEntry.{IndexEntry}
+use Rattle.partition_index.proofs.Bytes.{index_is as bytes_are}
 use Rattle.log_partition.specs.Bodies.{body_len, AreTheRows, IsTheIndex}
 
 -- what an index has behind its end
 abbrev pub no_entry : IndexEntry
 no_entry = record { node = record { bucket = 0; number = 0 }; offset = 0; rows = 0 }
 
-same_entries : (rows : List Row) (ids : List NodeId) → flat_map (entry_bytes rows) ids ≡ flat_map bytes_of (map (entry_for rows) ids)
-unfolding entry_bytes bytes_of
-same_entries rows [] = refl
-same_entries rows (id ∷ ids) = ap (λ t. entry_bytes rows id ++ t) (same_entries rows ids)
-
 pub index_is : (rows : List Row) → index_bytes rows ≡ flat_map bytes_of (entries_of rows)
-unfolding index_bytes entries_of
-index_is rows = same_entries rows (nodes_in rows)
+index_is rows = sym (bytes_are rows)
 
 entry_long : (e : IndexEntry) → length (bytes_of e) ≡ 14
 unfolding bytes_of

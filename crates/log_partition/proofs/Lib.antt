@@ -5,3 +5,4 @@ pub mod Indexed
 pub mod Counted
 pub mod Sealed
 pub mod Written
+pub mod GoodHeaders

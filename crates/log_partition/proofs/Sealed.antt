@@ -69,13 +69,13 @@ pub rows_most : (rows : List Row) → 19 * length rows ≤ rows_len rows
 rows_most [] = omega arith
 rows_most (row ∷ rows) = omega (arith, rows_most rows, sum_by-cons row_len row rows)
 
-both_zero : (a b : ℕ) → (a ≡ 0 → b ≡ 0) → (b ≡ 0 → a ≡ 0) → alike (a == 0) (b == 0) ≡ true
+pub both_zero : (a b : ℕ) → (a ≡ 0 → b ≡ 0) → (b ≡ 0 → a ≡ 0) → alike (a == 0) (b == 0) ≡ true
 both_zero zero zero f g = refl
 both_zero zero (suc b) f g = absurd (omega (arith, f refl))
 both_zero (suc a) zero f g = absurd (omega (arith, g refl))
 both_zero (suc a) (suc b) f g = let x : (suc a == 0) ≡ false = eqb-suc-zero a in let y : (suc b == 0) ≡ false = eqb-suc-zero b in rw (x, y) refl
 
-and_true : (a b : Bool) → a ≡ true → b ≡ true → (a && b) ≡ true
+pub and_true : (a b : Bool) → a ≡ true → b ≡ true → (a && b) ≡ true
 and_true true b e f = f
 and_true false b e f = absurd (true≢false (sym e))
 

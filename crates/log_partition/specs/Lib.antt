@@ -1,3 +1,4 @@
 pub mod Headers
 pub mod Bodies
 pub mod Encoding
+pub mod Written

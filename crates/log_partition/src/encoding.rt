@@ -1,6 +1,6 @@
 //! Partitions, written.
 
-ghost use Rattle.std.specs.Prelude.{◌≡◌, ◌↔◌, ◌≤◌, ◌++◌, IsTrue, OnOk, IfErr, Some, flat_map};
+ghost use Rattle.std.specs.Prelude.{◌≡◌, ◌↔◌, ◌≤◌, ◌++◌, IsTrue, OnOk, IfErr, flat_map, if◌then◌else◌};
 ghost use Rattle.std.specs.List.{AllByRecursion};
 ghost use Rattle.fine_model.specs.declared.Mark.TheVariants as mark;
 ghost use Rattle.fine_model.specs.RowBytes.{rows_bytes, FitsRow};
@@ -10,43 +10,84 @@ ghost use Rattle.partition_index.specs.Entries.{bytes_of};
 ghost use Rattle.partition_index.specs.Index.{is_rising, entries_of};
 ghost use Rattle.log_partition.specs.declared.fault.EncodeFault.TheVariants as fault;
 ghost use Rattle.log_partition.specs.Bodies.{HaveLengths};
-ghost use Rattle.log_partition.specs.Encoding.{saturated, FitsRange, Encodes, EncodeLaw};
+ghost use Rattle.log_partition.specs.Encoding.{saturated, names, IsGreatestOf, greater, FitsRange, Encodes, EncodeLaw};
 
 use crate::body::lens_of;
 use crate::fault::EncodeFault;
 use crate::write_header::header_bytes;
-use fine_model::{Header, Mark, NodeId, Range, Rows};
+use fine_model::{Header, Mark, NodeId, Range, Row, Rows};
 use node_record::{row_len, write_row};
 use partition_index::{IndexEntry, build, entry_bytes};
 use std::alloc::Global;
+use std::cmp::Ordering;
 
 /// How many bytes rows take as a partition of one region: 41, their lengths, and 14 for each node that they name. A sum above the
 /// greatest number of 64 bits counts as that number.
 ///
-/// The rows ascend by bucket, number and version, where equal ones may follow each other, so that one pass counts the nodes. Takes
-/// no memory.
+/// The rows may stand in any order. Those that ascend by bucket and number are gone over once; for each row of a node below one before
+/// it, the rows before it are looked through. Takes no memory.
 pub fn encoded_len(rows: &Rows) -> u64
     requires fit { HaveLengths rows.now }
-    requires order { IsTrue (is_rising rows.now) }
     ensures { result ≡ saturated (encoded_len rows.now) }
 {
+    let rows = rows.as_slice();
     let mut len: u64 = 41;
-    let mut last: Option<NodeId> = None;
-    for row in rows.as_slice() {
-        if !is_last(last, row.node) {
-            len = len.saturating_add(14);
-            last = Some(row.node);
-        }
+    let mut greatest: Option<NodeId> = None;
+    for (i, row) in rows.iter().enumerate() {
+        len = len.saturating_add(entry_len(&rows[..i], greatest, row.node));
         len = len.saturating_add(u64::from(row_len(row)));
+        greatest = greater(greatest, row.node);
     }
     len
 }
 
-/// Whether the last node, if there is one, is this one.
-fn is_last(last: Option<NodeId>, node: NodeId) -> bool
-    ensures { IsTrue result ↔ (last ≡ Some node) }
+/// How many bytes the index grows by for a row of a node behind these rows, of which the greatest node is given.
+fn entry_len(rows: &[Row], greatest: Option<NodeId>, node: NodeId) -> u64
+    requires { IsGreatestOf rows.now greatest }
+    ensures { result ≡ (if names node rows.now then 0 else 14) }
 {
-    last == Some(node)
+    let Some(greatest) = greatest else {
+        return 14;
+    };
+    match greatest.cmp(&node) {
+        Ordering::Less => 14,
+        Ordering::Equal => 0,
+        Ordering::Greater => {
+            if is_named(rows, node) {
+                0
+            } else {
+                14
+            }
+        }
+    }
+}
+
+/// Whether rows name a node.
+fn is_named(rows: &[Row], node: NodeId) -> bool
+    ensures { result ≡ names node rows.now }
+{
+    for row in rows {
+        if node == row.node {
+            return true;
+        }
+    }
+    false
+}
+
+/// The greater one of a node and the greatest so far.
+fn greater(greatest: Option<NodeId>, node: NodeId) -> Option<NodeId>
+    ensures { result ≡ greater greatest node }
+{
+    match greatest {
+        Some(other) => {
+            if other.cmp(&node).is_lt() {
+                Some(node)
+            } else {
+                Some(other)
+            }
+        }
+        None => Some(node),
+    }
 }
 
 /// A partition of one region, of mark `FLP2`, from byte 1 of the region on.

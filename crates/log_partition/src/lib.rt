@@ -15,7 +15,7 @@ pub use body::decode_body;
 pub use encoding::{encode, encode_law, encoded_len};
 pub use fault::{DecodeFault, EncodeFault, HeaderFault};
 pub use header::{header_law, read_header};
-pub use write_header::header_bytes;
+pub use write_header::{header_bytes, written_law};
 
 #[cfg(test)]
 mod tests;

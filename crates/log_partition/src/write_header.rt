@@ -4,6 +4,7 @@ ghost use Rattle.std.specs.Prelude.{◌≡◌, ◌+◌, ◌≤◌, ◌∷◌, �
 ghost use Rattle.std.specs.Int.{to_be_bytes, w32};
 ghost use Rattle.fine_model.specs.Regions.{header_bytes, mark_bytes};
 ghost use Rattle.log_partition.specs.Headers.{padding, Fills, front};
+ghost use Rattle.log_partition.specs.Written.{WrittenHeaderLaw, WrittenPartitionLaw};
 
 use fine_model::{Header, Mark};
 
@@ -63,3 +64,10 @@ pub fn header_bytes(header: &Header, region_len: u64) -> [u8; 69]
     }
     bytes
 }
+
+/// The gate and the bytes of a good header are read as this header, whatever follows them and over however many regions its partition
+/// lies. Where its rows and their index are the body, they are in the grammar.
+pub fn written_law()
+    ensures header { WrittenHeaderLaw }
+    ensures partition { WrittenPartitionLaw }
+{}

@@ -14,7 +14,9 @@ use Rattle.fine_model.specs.RowBytes.{greatest}
 use Rattle.node_cache.specs.declared.cached.Cached.{Cached}
 use Rattle.node_cache.specs.Cache.{Cache, cached, original, before, rewritten, saving, IsSaved}
 use Rattle.node_cache.specs.Given.{given, IsCached}
+use Rattle.node_cache.specs.Changing.{IsPairChange}
 use Rattle.node_cache.proofs.Bounds.{same_kept}
+use Rattle.node_cache.proofs.Kept.{saving_before, saving_here}
 use Rattle.btree_nodes.specs.Trees.{node_at}
 use Rattle.btree_nodes.specs.Changes.{Saves, IsChanged, is_named, Pushes}
 use Rattle.btree_nodes.proofs.Steps.{given_is}
@@ -217,3 +219,11 @@ module _ (b m : Cache) (k : ℕ) (saved : m ≡ saving b k) where
   saves_then new row (Err e) same of_bucket here kept_before is_saved ok err = subst (Saves b) (sym err) (saves_saved kept_before)
   saves_then new row (Ok u) same of_bucket here kept_before is_saved ok err =
       (pushed_one b m new row of_bucket (subst (IsCached b) (sym same) here) (saved ∙ ap (saving b) (sym same)) kept_before (subst (IsSaved m) (sym same) is_saved) ok).saves
+
+-- a pair of a leaf was changed, as a row says
+pub pair_pushed : (b new : Cache) (row : Row) → row.node.bucket ≡ b.bucket → IsCached b row.node.number → IsPairChange b new row → Pushes b new (row ∷ [])
+pair_pushed b new row of_bucket here change =
+    let there : cached (saving b row.node.number) row.node.number ≡ Some change.kept = ap (lookup (nat_eq row.node.number)) (saving_same b row.node.number).1 ∙ change.there in
+    let changed : IsChanged (saving b row.node.number) new row =
+    subst (λ c. IsChanged (saving b row.node.number) c row) (sym change.is) (was_changed (saving b row.node.number) row change.kept change.now there change.made) in
+    pushed_one b (saving b row.node.number) new row of_bucket here refl (λ q. saving_before b row.node.number q) (saving_here b row.node.number) changed

@@ -49,14 +49,41 @@ fn change(alloc: Global, bucket: &mut Bucket, row: &Row) -> Result<(), NoMemory>
     ensures ok { OnOk result (IsChanged bucket.old bucket.new row.now) }
     ensures err { OnErr result (bucket.new ≡ bucket.old) }
 {
-    match bucket.get_mut(row.node.number) {
-        Some(kept) => apply(alloc, &mut kept.node, &mut kept.version, row),
-        None => Ok(()),
+    let kept = bucket.get_mut(row.node.number)?;
+    apply(alloc, &mut kept.node, &mut kept.version, row)
+}
+
+/// Saves a cached node as a whole, and does to it what a row says.
+fn save_and_change(alloc: Global, bucket: &mut Bucket, row: &Row) -> Result<(), NoMemory>
+    requires of_bucket { row.now.node.bucket ≡ bucket.old.bucket }
+    requires there { IsCached bucket.old row.now.node.number }
+    requires rec { FitsRec row.now.rec }
+    requires version { row.now.version ≤ greatest }
+    ensures saves { Saves bucket.old bucket.new }
+    ensures pushes { OnOk result (Pushes bucket.old bucket.new (row.now ∷ [])) }
+{
+    bucket.save(row.node.number)?;
+    change(alloc, bucket, row)
+}
+
+/// Saves a cached node, and does to it what a row says. Where the row sets or removes one pair of a leaf, that costs the pair alone.
+fn change_cached(alloc: Global, bucket: &mut Bucket, row: &Row) -> Result<(), NoMemory>
+    requires of_bucket { row.now.node.bucket ≡ bucket.old.bucket }
+    requires there { IsCached bucket.old row.now.node.number }
+    requires rec { FitsRec row.now.rec }
+    requires version { row.now.version ≤ greatest }
+    ensures saves { Saves bucket.old bucket.new }
+    ensures pushes { OnOk result (Pushes bucket.old bucket.new (row.now ∷ [])) }
+{
+    if bucket.change_pair(row)? {
+        Ok(())
+    } else {
+        save_and_change(alloc, bucket, row)
     }
 }
 
-/// Pushes a row of a cached node: the node is saved, the row put behind the others, and the node changed. After `NoMemory` some of
-/// this is done, and what was saved before still is.
+/// Pushes a row of a cached node: the row is put behind the others, and the node saved and changed. After `NoMemory` some of this is
+/// done, and what was saved before still is.
 pub fn push_row(
     alloc: Global,
     bucket: &mut Bucket,
@@ -71,9 +98,8 @@ pub fn push_row(
     ensures pushes { OnOk result (Pushes bucket.old bucket.new (row.now ∷ [])) }
     ensures log { OnOk result (log.new ≡ log.old ++ row.now ∷ []) }
 {
-    bucket.save(row.node.number)?;
     log.push(row)?;
-    change(alloc, bucket, row)
+    change_cached(alloc, bucket, row)
 }
 
 /// Caches a broken node under a number where none is cached, to be replaced by an image.

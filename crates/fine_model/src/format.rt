@@ -23,10 +23,12 @@ pub const MOST_IN_NODE: usize = 32;
 
 /// The most bytes of a key, and of a value.
 pub const MOST_IN_KEY: usize = 64;
+
 pub const MOST_IN_VALUE: usize = 256;
 
 /// The number of buckets, and the first number that no node of a bucket has.
 pub const BUCKETS: u16 = 256;
+
 pub const NODE_NUMBERS: u32 = 1_048_576;
 
 /// The greatest depth of a tree.
@@ -34,4 +36,5 @@ pub const GREATEST_DEPTH: u8 = 8;
 
 /// The most bytes of a region, and the most regions of a partition.
 pub const LONGEST_REGION: u64 = 67_108_864;
+
 pub const MOST_REGIONS: u8 = 8;

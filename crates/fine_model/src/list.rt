@@ -40,7 +40,7 @@ pub trait Copied: Sized {
     /// The copies of items, in one block of memory beside what each of them takes.
     fn copy_all(alloc: Global, items: &[Self]) -> Result<Vec<Self>, NoMemory>
     where
-        Self: Drop
+        Self: Drop,
         ensures { IfOk result (λ copies. copies.items ≡ items.now) }
     {
         let mut copies = Vec::with_capacity(alloc, items.len())?;

@@ -1,13 +1,17 @@
 -- The order of last use, by the numbers that are cached.
-use Rattle.std.proofs.Common.{◌≡◌, ◌⊎◌, inl, inr, ⊎_elim, ℕ, nat_eq, Bool, true, false, cond, List, [], ◌∷◌, ◌++◌, Option, Some, None, is_some, refl, sym, ap, ◌∙◌, true≢false, eqb-true, append-nil}
-use Rattle.std.specs.Prelude.{IsSome}
+use Rattle.std.proofs.Common.{◌≡◌, ◌≢◌, ◌⊎◌, inl, inr, ⊎_elim, ℕ, nat_eq, Bool, true, false, cond, List, [], ◌∷◌, ◌++◌, Option, Some, None, is_some, refl, sym, ap, subst, ◌∙◌, true≢false, eqb-true, append-nil}
+use Rattle.std.specs.Prelude.{IsSome, IfSome}
 use Rattle.std.specs.Map.{keys_of, lookup, lookup_entry, remove_entry}
 use Rattle.std.specs.Option.{option_to_list}
 use Rattle.fine_model.specs.declared.Row.{Row}
 use Rattle.node_cache.specs.declared.cached.Cached.{Cached}
-use Rattle.node_cache.specs.Cache.{Cache, cached, touched}
-use Rattle.node_cache.specs.Given.{IsCached, IsLoad}
+use Rattle.node_cache.specs.Cache.{Cache, cached, touched, with_node}
+use Rattle.node_cache.specs.Given.{IsCached, IsFetched, IsLoad}
 use Rattle.btree_nodes.specs.Trees.{without, AreUsed}
+
+none_found : {A : Type 0} (o : Option A) → is_some o ≡ false → o ≡ None
+none_found None h = refl
+none_found (Some x) h = absurd (true≢false h)
 
 keys_append : (xs ys : List (ℕ × Cached)) → keys_of (xs ++ ys) ≡ keys_of xs ++ keys_of ys
 keys_append [] ys = refl
@@ -68,3 +72,14 @@ loaded_used tells upper k b m new is none load here = ⊎_elim
   where
     same_nodes : m.nodes ≡ b.nodes
     same_nodes = ap (λ c. c.nodes) is ∙ (λ i. remove_absent k b.nodes none i ++ entry_absent k b.nodes none i) ∙ append-nil b.nodes
+
+-- a node that is put under a number where none was cached is loaded
+pub put_loaded : (tells : List Row → Type 0) (upper k : ℕ) (b new : Cache) (kept : Cached) → is_some (cached b k) ≡ false → new ≡ with_node b k kept → cached new k ≡ Some kept → ((n : ℕ) → n ≢ k → cached new n ≡ cached b n) → IsFetched tells upper b.bucket k kept → IsLoad tells upper k b new
+put_loaded tells upper k b new kept absent put here elsewhere fetched = record {
+  bucket = ap (λ c. c.bucket) put;
+  saved = ap (λ c. c.saved) put;
+  others = elsewhere;
+  stays = λ there. absurd (true≢false (sym there ∙ absent));
+  fetched = λ none. subst (λ o. IfSome o (IsFetched tells upper b.bucket k)) (sym here) fetched;
+  order = inr (kept, ap (λ c. c.nodes) put ∙ ap (λ (es : List (ℕ × Cached)). es ++ (k, kept) ∷ []) (remove_absent k b.nodes (none_found (cached b k) absent)));
+}

@@ -177,12 +177,14 @@ fn put_key<S: NodeSource>(
     put_at(alloc, bucket, log, key, value, path)
 }
 
-/// Sets a key to a value. A leaf of 32 pairs that has not the key is split, and so is each full inner node above it that a split
-/// reaches; a split root has a new root above it. `Unfit` names the first node on the key's way that breaks the rules of a tree,
-/// `BucketFull` comes exactly where the bucket's node numbers or the tree's depth would pass their limits, and has what the head says
-/// of both, `Number` exactly where else a version would, with the first node whose version it is, and `Source` has what the source
-/// answered: with these, nothing is changed but what is loaded. `NoMemory` may leave changed nodes and pushed rows. With every answer,
-/// each node that was changed or added without a load was saved before, and no original is lost.
+/// Sets a key to a value. First nodes on the key's way are loaded, and no others; the way is then what was used last. A leaf of 32 pairs
+/// that has not the key is split, and so is each full inner node above it that a split reaches; a split root has a new root above it.
+/// The pushed rows fit the format. `Unfit` names the first node on the key's way that breaks the rules of a tree, `BucketFull` comes
+/// exactly where the bucket's node numbers or the tree's depth would pass their limits, and has what the head says of both, `Number`
+/// exactly where else a version would, with the node of the first such row, and `Source` has what the source answered: with these,
+/// nothing is changed but what is loaded. Where no load is told as failed and memory was enough, none failed. `NoMemory` may leave
+/// changed nodes and pushed rows. With Ok, each node that a row names was saved before, and no other; with every answer no original is
+/// lost.
 pub fn insert<S: NodeSource>(
     alloc: Global,
     source: &mut S,

@@ -85,8 +85,9 @@ fn look_up<S: NodeSource>(
     Ok(copy_of(value_in(bucket, path.leaf, key))?)
 }
 
-/// The value of a key. None exactly where it is absent. It changes nothing but what is loaded; loaded nodes stay. `Unfit` names the
-/// first node on the key's way that breaks the rules of a tree, and `Source` has what the source answered.
+/// The value of a key. None exactly where it is absent. It loads nodes on the key's way alone, and changes nothing else but the order of
+/// last use: with Ok the way is what was used last, from the head down. `Unfit` names the first node on the key's way that breaks the
+/// rules of a tree, and `Source` has what the source answered. Where no load is told as failed and memory was enough, none failed.
 pub fn find<S: NodeSource>(
     source: &mut S,
     bucket: &mut Bucket,

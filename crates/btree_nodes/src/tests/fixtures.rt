@@ -47,6 +47,8 @@ pub struct Rows {
 }
 
 impl NodeSource for Rows {
+    ghost use Rattle.std.proofs.Common.{refl};
+
     ghost tells = { λ _ _. ⊥ };
 
     ghost upper = { λ _. 0 };

@@ -40,6 +40,8 @@ pub struct Fresh {
 }
 
 impl NodeSource for Fresh {
+    ghost use Rattle.std.proofs.Common.{refl, sym, subst};
+
     ghost tells = { λ _ rows. rows ≡ [] };
 
     ghost upper = { λ _. 0 };

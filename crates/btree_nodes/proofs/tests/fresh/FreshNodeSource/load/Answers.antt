@@ -1,9 +1,8 @@
-use Rattle.std.proofs.Common.{◌≡◌, ℕ, [], is_some, false, refl, sym, ap, subst, ◌∙◌, true≢false}
-use Rattle.std.specs.Prelude.{IfSome}
+use Rattle.std.proofs.Common.{◌≡◌, ℕ, [], is_some, false, refl, sym, ap, ◌∙◌}
 use Rattle.fine_model.specs.Nodes.{base, content, replay}
 use Rattle.fine_model.specs.Trees.{nodes_of}
 use Rattle.node_cache.specs.Cache.{cached}
-use Rattle.node_cache.specs.Given.{IsFetched}
+use Rattle.btree_nodes.proofs.LastUsed.{put_loaded}
 use Rattle.btree_nodes.proofs.LeafPush.{copied_there}
 use Rattle.btree_nodes.proofs.tests.fresh.FreshNodeSource.load.Goals as goal
 
@@ -17,13 +16,7 @@ returns-in-Ok-clause-load c =
     let n = c.args.number in
     let done = (c.in-Ok.ensures) in
     let none : is_some (cached old n) ≡ false = ap is_some (sym c.peek.ensures) ∙ copied_there c.peek.result ∙ sym c.if-is_some.ensures in
-    record {
-      bucket = ap (λ b. b.bucket) done.nodes;
-      saved = ap (λ b. b.saved) done.nodes;
-      others = done.elsewhere;
-      stays = λ here. absurd (true≢false (sym here ∙ none));
-      fetched = λ _. subst (λ o. IfSome o (IsFetched (λ rows. rows ≡ []) 0 old.bucket n)) (sym done.here) (record {
-        epoch = refl;
-        same = λ rows told fine. c.first_node.ensures.first old.bucket ∙ sym (no_rows old.bucket n) ∙ ap (λ r. nodes_of r old.bucket n) (sym told);
-      });
-    }
+    put_loaded (λ rows. rows ≡ []) 0 n old _ _ none done.nodes done.here done.elsewhere (record {
+      epoch = refl;
+      same = λ rows told fine. c.first_node.ensures.first old.bucket ∙ sym (no_rows old.bucket n) ∙ ap (λ r. nodes_of r old.bucket n) (sym told);
+    })

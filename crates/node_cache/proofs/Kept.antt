@@ -8,11 +8,11 @@ use Rattle.std.proofs.lemmas.Map.Steps.{set_value_same}
 use Rattle.node_cache.specs.declared.cached.Cached.{Cached}
 use Rattle.node_cache.specs.declared.original.Original.{Original}
 use Rattle.node_cache.specs.declared.original.Original.TheVariants as original
-use Rattle.node_cache.specs.Cache.{Cache, IsCache, cached, original as was_saved, before, saving, IsSaved}
+use Rattle.node_cache.specs.Cache.{Cache, cached, original as was_saved, before, saving, IsSaved}
 use Rattle.node_cache.specs.Entries.{restored}
 use Rattle.node_cache.specs.Originals.{original_of, originals, made_whole, whole_at, ChangedAt, Stands, IsKept}
 use Rattle.node_cache.proofs.Moved.{none_found}
-use Rattle.node_cache.proofs.Restored.{found_last}
+use Rattle.node_cache.proofs.Restored.{IsCache, found_last}
 
 abbrev Nodes : Type 0
 Nodes = List (ℕ × Cached)

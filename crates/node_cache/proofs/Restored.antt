@@ -4,12 +4,16 @@ use Rattle.std.specs.List.{filter_map, cons_option, IsDistinct, AllByRecursion}
 use Rattle.std.specs.Map.{keys_of, lookup, remove_entry, set_value}
 use Rattle.std.proofs.lemmas.Bool.{cond-true, cond-false}
 use Rattle.node_cache.specs.declared.cached.Cached.{Cached}
-use Rattle.std.proofs.lemmas.Map.{keys-set_value}
-use Rattle.node_cache.specs.Cache.{IsCache}
 use Rattle.node_cache.specs.Entries.{stamped, restored, as_saved, stamped_at, settled_entry}
 
 abbrev Saved : Type 0
 Saved = List (ℕ × Option Cached)
+
+-- a number stands once, and what was saved as cached is cached
+pub record IsCache (nodes : List (ℕ × Cached)) (saved : Saved) : Type 0 where
+  pub distinct : IsDistinct nat_eq (keys_of nodes)
+  pub once : IsDistinct nat_eq (keys_of saved)
+  pub there : (number : ℕ) (kept : Cached) → lookup (nat_eq number) saved ≡ Some (Some kept) → IsSome (lookup (nat_eq number) nodes)
 
 -- the last of the saved numbers, and those before it
 pub record IsLast (saved rest : Saved) (k : ℕ) (o : Option Cached) : Type 0 where
@@ -100,44 +104,6 @@ module _ (saved rest : Saved) (k : ℕ) (o : Option Cached) (last : IsLast saved
           (λ i. (if is_some (there_gone f.0 same i) then (f.0, stamped epoch f.1) else (f.0, stamped epoch f.1)) ∷ same_stamps epoch fs (apart_of f.0 (keys_of fs) same d.0) i)
           ∙ (λ i. (if is_some (sym (there_here f.0 same) i) then (f.0, stamped epoch f.1) else f) ∷ map (settled_entry epoch saved) fs)
       here false other later = (λ i. (if is_some (same_other f other i) then (f.0, stamped epoch f.1) else f) ∷ later i)
-
--- a node that is changed in its place leaves what holds of a bucket
-pub IsCache-set : (t : ℕ → Bool) (nodes : List (ℕ × Cached)) (saved : Saved) (w : Cached) → IsCache nodes saved → IsCache (set_value t nodes w) saved
-IsCache-set t nodes saved w is = record {
-  distinct = subst (IsDistinct nat_eq) (sym (keys-set_value t nodes w)) is.distinct;
-  once = is.once;
-  there = λ number kept h. some_set nodes number ∙ is.there number kept h;
-}
-  where
-    some_set : (es : List (ℕ × Cached)) (q : ℕ) → is_some (lookup (nat_eq q) (set_value t es w)) ≡ is_some (lookup (nat_eq q) es)
-    some_set [] q = refl
-    some_set (e ∷ es) q = by (t e.0) (some_set es q)
-      where
-        other : (d : Bool) → is_some (lookup (nat_eq q) (set_value t es w)) ≡ is_some (lookup (nat_eq q) es)
-            → is_some (cond d (Some e.1) (lookup (nat_eq q) (set_value t es w))) ≡ is_some (cond d (Some e.1) (lookup (nat_eq q) es))
-        other true rest = refl
-        other false rest = rest
-
-        same : (d : Bool) → is_some (cond d (Some w) (lookup (nat_eq q) es)) ≡ is_some (cond d (Some e.1) (lookup (nat_eq q) es))
-        same true = refl
-        same false = refl
-
-        by : (b : Bool) → is_some (lookup (nat_eq q) (set_value t es w)) ≡ is_some (lookup (nat_eq q) es)
-            → is_some (lookup (nat_eq q) (cond b ((e.0, w) ∷ es) (e ∷ set_value t es w))) ≡ is_some (lookup (nat_eq q) (e ∷ es))
-        by true rest = same (nat_eq q e.0)
-        by false rest = other (nat_eq q e.0) rest
-
--- a bucket in which nothing is saved
-pub IsCache-fresh : (nodes : List (ℕ × Cached)) (saved : Saved) → saved ≡ [] → IsDistinct nat_eq (keys_of nodes) → IsCache nodes saved
-unfolding IsDistinct
-IsCache-fresh nodes saved none distinct = record {
-  distinct = distinct;
-  once = subst (λ s. IsDistinct nat_eq (keys_of s)) (sym none) tt;
-  there = λ number kept h. absurd (nothing (ap (λ s. lookup (nat_eq number) s) (sym none) ∙ h));
-}
-  where
-    nothing : {o : Option Cached} → None ≡ Some o → ⊥
-    nothing e = cc
 
 -- nothing is saved
 pub none_saved : (es : List (ℕ × Cached)) → filter_map (as_saved []) es ≡ es

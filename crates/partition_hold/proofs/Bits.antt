@@ -7,7 +7,8 @@ use Rattle.std.proofs.lemmas.List.{map-append}
 use Rattle.std.proofs.lemmas.List.Folds.{list_any-append}
 use Rattle.std.proofs.lemmas.Map.Views.{any-filter_same}
 use Rattle.std.proofs.lemmas.Nat.Bits.{bit_at_set_same, bit_at_set_other}
-use Rattle.partition_hold.specs.Boards.{regions_by}
+use Rattle.fine_model.specs.declared.law.OpenedEye.{OpenedEye}
+use Rattle.fine_model.specs.Boards.{Buffer, regions_by, empty_of, first_from, is_empty}
 
 in_range : (r a n : ℕ) → a ≤ r → r < a + n → list_any (nat_eq r) (range_with_len a n) ≡ true
 in_range r a zero low high = absurd (omega (arith, low, high))
@@ -82,11 +83,18 @@ drop_map f zero xs = refl
 drop_map f (suc n) [] = refl
 drop_map f (suc n) (x ∷ xs) = drop_map f n xs
 
-pub own_buffers : {A B : Type 0} (f : A → B) (xs : List A) (seat : ℕ) → 1 ≤ seat → slice_range (map f xs) (3 * (seat - 1)) (3 * seat) ≡ map f (slice_range xs (3 * (seat - 1)) (3 * (seat - 1) + 3))
+own_buffers : {A B : Type 0} (f : A → B) (xs : List A) (seat : ℕ) → 1 ≤ seat → slice_range (map f xs) (3 * (seat - 1)) (3 * seat) ≡ map f (slice_range xs (3 * (seat - 1)) (3 * (seat - 1) + 3))
 own_buffers f xs seat some =
     let e : 3 * seat ≡ 3 * (seat - 1) + 3 = omega arith in
     ap (λ b. take (b - 3 * (seat - 1)) (drop (3 * (seat - 1)) (map f xs))) e
     ∙ ap (take (3 * (seat - 1) + 3 - 3 * (seat - 1))) (drop_map f (3 * (seat - 1)) xs) ∙ take_map f (3 * (seat - 1) + 3 - 3 * (seat - 1)) (drop (3 * (seat - 1)) xs)
+
+-- the lowest empty buffer of a seat, found among the seat's own
+pub lowest : {H : Type 0} (f : H → OpenedEye) (items : List (Option H)) (board : List Buffer) (shown : List (Option H)) (seat : ℕ) (found : Option ℕ) → 1 ≤ seat → map (option_map f) items ≡ board → shown ≡ items
+    → found ≡ first_from is_empty 0 (map (option_map f) (slice_range shown (3 * (seat - 1)) (3 * (seat - 1) + 3))) → empty_of board seat ≡ found
+lowest f items board shown seat found some view is first =
+    sym (ap (λ bs. empty_of bs seat) view) ∙ ap (first_from is_empty 0) (own_buffers (option_map f) items seat some)
+    ∙ ap (λ xs. first_from is_empty 0 (map (option_map f) (slice_range xs (3 * (seat - 1)) (3 * (seat - 1) + 3)))) (sym is) ∙ sym first
 
 one_more : {A : Type 0} (n : ℕ) (x : A) → replicate n x ++ x ∷ [] ≡ replicate (n + 1) x
 one_more zero x = refl

@@ -1,21 +1,55 @@
 //! The board of the views.
 
-ghost use Rattle.std.specs.Prelude.{◌≡◌, ℕ, ◌+◌, ◌-◌, ◌*◌, ◌<◌, ◌≤◌, ◌==◌, IfOk, IfSome, IsSome, None, Some, List, length, map, nat_eq, replicate, slice_set, option_map, vec_len};
+ghost use Rattle.std.specs.Prelude.{◌≡◌, ℕ, ◌+◌, ◌*◌, ◌<◌, ◌≤◌, ◌==◌, IfOk, IfSome, IsSome, None, Some, List, length, nat_eq, option_map, replicate, slice_set};
 ghost use Rattle.std.specs.Int.{bit_at};
 ghost use Rattle.std.specs.List.{AllByRecursion, list_any};
-ghost use Rattle.partition_hold.specs.Boards.{buffers_of, held_of, names_region, is_empty, first_from, empty_of, naming_of, set_of};
+ghost use Rattle.log_disk.specs.Disk.{Eye};
+ghost use Rattle.fine_model.specs.Boards.{Buffer, buffer_at, empty_of, first_from, is_empty, names_region, naming_of};
+ghost use Rattle.partition_hold.specs.Boards.{buffers_of, held_of};
+ghost use Rattle.partition_hold.specs.Views.{opened};
 
-use crate::table::{Board, Held};
 use fine_model::NoMemory;
+use log_disk::LogEye;
 use std::alloc::Global;
+use std::marker::Model;
+use std::snapshot::Snapshot;
 
 /// The buffers of a seat.
 const BUFFERS: usize = 3;
 
+/// What a buffer holds: the number of an eye, its regions, of which region `r` is bit `r`, and what contracts see of the eye, which
+/// takes no bytes.
+#[derive(Drop)]
+struct Held<E: LogEye> {
+    eye: u64,
+    regions: u64,
+    seen: Snapshot<E>,
+}
+
+/// Three buffers for each seat, numbered from 0 to 2, each empty or with the eye of a view that is out.
+///
+/// Seats are 1 to 18, as many as it was made for, and regions are below 64.
+#[derive(Drop)]
+pub struct Board<E: LogEye> {
+    buffers: Vec<Option<Held<E>>>,
+}
+
+impl<E: LogEye> Model for Board<E> {
+    ghost use Rattle.std.specs.Prelude.{◌≤◌, List, length};
+    ghost use Rattle.fine_model.specs.Boards.{Buffer};
+    ghost use Rattle.partition_hold.specs.Boards.{buffers_of};
+
+    ghost Value = { List Buffer };
+
+    ghost view = { λ board. buffers_of E.state board.buffers.items };
+
+    ghost invariant = { λ board. length board.buffers.items ≤ 54 };
+}
+
 /// Whether a buffer names a region.
-fn is_naming(buffer: &Option<Held>, region: u32) -> bool
+fn is_naming<E: LogEye>(buffer: &Option<Held<E>>, region: u32) -> bool
     requires { region < 64 }
-    ensures { result ≡ names_region region (option_map held_of buffer.now) }
+    ensures { result ≡ names_region region (option_map (held_of E.LogEye.state) buffer.now) }
 {
     match buffer {
         Some(held) => held.regions >> region & 1 == 1,
@@ -36,8 +70,8 @@ fn word_of(regions: &[u32]) -> u64
 }
 
 /// The lowest empty one of some buffers.
-fn first_empty(buffers: &[Option<Held>]) -> Option<usize>
-    ensures first { result ≡ first_from is_empty 0 (map (option_map held_of) buffers.now) }
+fn first_empty<E: LogEye>(buffers: &[Option<Held<E>>]) -> Option<usize>
+    ensures first { result ≡ first_from is_empty 0 (buffers_of E.LogEye.state buffers.now) }
     ensures there { IfSome result (λ at. at < length buffers.now) }
 {
     for (at, buffer) in buffers.iter().enumerate() {
@@ -49,9 +83,9 @@ fn first_empty(buffers: &[Option<Held>]) -> Option<usize>
 }
 
 /// The first one of some buffers that names a region.
-fn first_naming(buffers: &[Option<Held>], region: u32) -> Option<usize>
+fn first_naming<E: LogEye>(buffers: &[Option<Held<E>>], region: u32) -> Option<usize>
     requires { region < 64 }
-    ensures first { result ≡ first_from (names_region region) 0 (map (option_map held_of) buffers.now) }
+    ensures first { result ≡ first_from (names_region region) 0 (buffers_of E.LogEye.state buffers.now) }
     ensures there { IfSome result (λ at. at < length buffers.now) }
 {
     for (at, buffer) in buffers.iter().enumerate() {
@@ -62,12 +96,12 @@ fn first_naming(buffers: &[Option<Held>], region: u32) -> Option<usize>
     None
 }
 
-impl Board {
+impl<E: LogEye> Board<E> {
     /// An empty board.
-    pub fn new(alloc: Global, seats: u32) -> Result<Board, NoMemory>
+    pub fn new(alloc: Global, seats: u32) -> Result<Board<E>, NoMemory>
         requires some { 1 ≤ seats }
         requires few { seats ≤ 18 }
-        ensures { IfOk result (λ board. buffers_of board ≡ replicate (3 * seats) None) }
+        ensures { IfOk result (λ board. board ≡ replicate (3 * seats) None) }
     {
         let mut buffers = Vec::with_capacity(alloc, BUFFERS * seats as usize)?;
         for _ in 0..BUFFERS * seats as usize {
@@ -76,19 +110,21 @@ impl Board {
         Ok(Board { buffers })
     }
 
-    /// Fills the lowest empty buffer of a seat, and answers its number.
-    pub fn post(&mut self, seat: u32, eye: u64, regions: &[u32]) -> u8
+    /// Fills the lowest empty buffer of a seat with an eye on these regions, and answers the buffer's number. It takes no memory.
+    pub fn post(&mut self, seat: u32, eye: &E, regions: &[u32]) -> u8
         requires seat { 1 ≤ seat }
-        requires seats { 3 * seat ≤ length (buffers_of self.old) }
+        requires seats { 3 * seat ≤ length self.old }
         requires regions { AllByRecursion (λ region. region < 64) regions.now }
-        requires empty { IsSome (empty_of (buffers_of self.old) seat) }
-        ensures lowest { empty_of (buffers_of self.old) seat ≡ Some result }
-        ensures filled { buffers_of self.new ≡ slice_set (buffers_of self.old) (3 * (seat - 1) + result) (Some (eye, set_of regions.now)) }
+        requires of_eye { (E.LogEye.state eye.now).regions ≡ regions.now }
+        requires empty { IsSome (empty_of self.old seat) }
+        ensures lowest { empty_of self.old seat ≡ Some result }
+        ensures filled { self.new ≡ slice_set self.old (buffer_at seat result) (Some (opened (E.LogEye.state eye.now))) }
     {
         let first = BUFFERS * (seat as usize - 1);
         let held = Held {
-            eye,
+            eye: eye.number(),
             regions: word_of(regions),
+            seen: Snapshot::of(eye),
         };
         let buffer = first_empty(&self.buffers[first..first + BUFFERS]).unwrap();
         self.buffers[first + buffer] = Some(held);
@@ -98,17 +134,17 @@ impl Board {
     /// Empties a buffer of a seat.
     pub fn returned(&mut self, seat: u32, buffer: u8)
         requires seat { 1 ≤ seat }
-        requires seats { 3 * seat ≤ length (buffers_of self.old) }
+        requires seats { 3 * seat ≤ length self.old }
         requires buffer { buffer < 3 }
-        ensures { buffers_of self.new ≡ slice_set (buffers_of self.old) (3 * (seat - 1) + buffer) None }
+        ensures { self.new ≡ slice_set self.old (buffer_at seat buffer) None }
     {
         self.buffers[BUFFERS * (seat as usize - 1) + buffer as usize] = None;
     }
 
-    /// The first seat, and its first buffer, that name a region; None exactly where none does. No memory is taken.
+    /// The first seat, and its first buffer, that name a region; None exactly where none does. It takes no memory.
     pub fn names(&self, region: u32) -> Option<(u32, u8)>
         requires { region < 64 }
-        ensures { result ≡ naming_of (buffers_of self.now) region }
+        ensures { result ≡ naming_of self.now region }
     {
         match first_naming(&self.buffers, region) {
             Some(at) => Some((1 + (at / BUFFERS) as u32, (at % BUFFERS) as u8)),

@@ -2,10 +2,9 @@
 #![tactic(auto)]
 
 mod board;
-mod table;
 mod view;
 
-pub use table::Board;
+pub use board::Board;
 pub use view::{View, view_law};
 
 #[cfg(test)]

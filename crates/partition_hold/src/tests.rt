@@ -1,27 +1,66 @@
-//! What no clause says: that a board is made with ample memory, and its answers in a run of posts and returns.
+//! What no clause says: that a board is made with ample memory, its answers in a run of posts and returns, and a view at an eye of its own.
 
-use crate::Board;
+ghost use Rattle.std.specs.Prelude.{◌≡◌, None};
+ghost use Rattle.log_disk.specs.Disk.{Eye};
+
+use crate::{Board, View};
+use fine_model::{Items, Node, NodeId};
+use log_disk::{Failed, LogEye};
 use std::test::*;
 
-/// Each of the three buffers of each seat is filled in turn, and the first place that names a region is told.
+/// An eye on two regions, whose reads fail.
+#[derive(Drop)]
+struct Eye {
+    number: u64,
+    regions: [u32; 2],
+    faults: u64,
+    taken: u64,
+}
+
+impl LogEye for Eye {
+    ghost state = { λ eye. record { number = eye.number; regions = eye.regions; region_len = 4096; told = None; faults = eye.faults; taken = eye.taken } };
+
+    fn number(&self) -> u64 {
+        self.number
+    }
+
+    fn read(&mut self, _region: u32, _at: u64, out: &mut [u8]) -> Result<(), Failed> {
+        self.taken = self.taken.saturating_add(out.len() as u64);
+        self.faults = self.faults.saturating_add(1);
+        Err(Failed)
+    }
+}
+
+fn eye_on(number: u64, regions: [u32; 2]) -> Eye
+    ensures number { result.number ≡ number }
+    ensures regions { result.regions ≡ regions }
+{
+    Eye {
+        number,
+        regions,
+        faults: 0,
+        taken: 0,
+    }
+}
+
+/// The buffers of each seat are filled in turn, and the first place that names a region is told.
 #[test]
 fn the_board_names_each_buffer(rt: HostRuntime) -> Result<(), Fail> {
     let mut board = Board::new(rt.alloc(), 2)?;
     assert_eq!(&rt; board.names(5), None);
-    assert_eq!(&rt; board.post(2, 7, &[3, 63]), 0);
-    assert_eq!(&rt; board.post(2, 8, &[4, 63]), 1);
-    assert_eq!(&rt; board.post(2, 9, &[5, 63]), 2);
-    assert_eq!(&rt; board.post(1, 10, &[0, 63]), 0);
-    assert_eq!(&rt; board.post(1, 11, &[]), 1);
-    assert_eq!(&rt; board.post(1, 12, &[2, 5]), 2);
+    assert_eq!(&rt; board.post(2, &eye_on(7, [3, 63]), &[3, 63]), 0);
+    assert_eq!(&rt; board.post(2, &eye_on(8, [4, 63]), &[4, 63]), 1);
+    assert_eq!(&rt; board.post(2, &eye_on(9, [5, 63]), &[5, 63]), 2);
+    assert_eq!(&rt; board.post(1, &eye_on(10, [0, 63]), &[0, 63]), 0);
+    assert_eq!(&rt; board.post(1, &eye_on(11, [2, 5]), &[2, 5]), 1);
     board.returned(1, 0);
     board.returned(2, 0);
     let table = [
         (0, None),
-        (2, Some((1, 2))),
+        (2, Some((1, 1))),
         (3, None),
         (4, Some((2, 1))),
-        (5, Some((1, 2))),
+        (5, Some((1, 1))),
         (63, Some((2, 1))),
     ];
     for (region, place) in table {
@@ -34,10 +73,42 @@ fn the_board_names_each_buffer(rt: HostRuntime) -> Result<(), Fail> {
 #[test]
 fn a_returned_buffer_is_filled_again(rt: HostRuntime) -> Result<(), Fail> {
     let mut board = Board::new(rt.alloc(), 1)?;
-    assert_eq!(&rt; board.post(1, 7, &[1]), 0);
+    assert_eq!(&rt; board.post(1, &eye_on(7, [1, 3]), &[1, 3]), 0);
     board.returned(1, 0);
-    assert_eq!(&rt; board.post(1, 8, &[2]), 0);
+    assert_eq!(&rt; board.post(1, &eye_on(8, [2, 3]), &[2, 3]), 0);
     assert_eq!(&rt; board.names(2), Some((1, 0)));
     assert_eq!(&rt; board.names(1), None);
+    Ok(())
+}
+
+/// A view without parts has each node as it begins, and gives back the eye that it was made with.
+#[test]
+fn a_view_without_parts_reads_nothing(rt: HostRuntime) -> Result<(), Fail> {
+    let mut view = View::new(
+        rt.alloc(),
+        eye_on(7, [1, 3]),
+        Items::new(rt.alloc()),
+        5,
+        2,
+        1,
+        4096,
+    );
+    let node = NodeId {
+        bucket: 97,
+        number: 0,
+    };
+    let (content, version) = view.fetch(node).ok().ok_or("no node")?;
+    let head = Node::Head {
+        root: 1,
+        next: 2,
+        depth: 1,
+    };
+    assert!(&rt; content == head, "a head as it begins");
+    assert_eq!(&rt; version, 0);
+    assert_eq!(&rt; (view.upto(), view.seat()), (5, 2));
+    assert_eq!(&rt; (view.buffer(), view.region_len()), (1, 4096));
+    assert_eq!(&rt; view.parts().len(), 0);
+    let eye = view.into_eye();
+    assert_eq!(&rt; (eye.number, eye.taken), (7, 0));
     Ok(())
 }

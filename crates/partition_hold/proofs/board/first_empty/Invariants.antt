@@ -1,7 +1,7 @@
-use Rattle.std.proofs.Common.{◌≡◌, drop, map}
-use Rattle.std.specs.Prelude.{option_map}
-use Rattle.partition_hold.specs.Boards.{held_of, is_empty, first_from}
+use Rattle.std.proofs.Common.{◌≡◌, drop}
+use Rattle.fine_model.specs.Boards.{is_empty, first_from}
+use Rattle.partition_hold.specs.Boards.{buffers_of}
 use Rattle.partition_hold.proofs.board.first_empty.Given as goal
 
 abbrev pub invariant-loop-at : goal.invariant-loop-at
-invariant-loop-at l = first_from is_empty 0 (map (option_map held_of) l.buffers) ≡ first_from is_empty l.at (map (option_map held_of) (drop l.at l.buffers))
+invariant-loop-at g l = first_from is_empty 0 (buffers_of g.E.LogEye.state l.buffers) ≡ first_from is_empty l.at (buffers_of g.E.LogEye.state (drop l.at l.buffers))

@@ -52,13 +52,7 @@ fn entry_len(rows: &[Row], greatest: Option<NodeId>, node: NodeId) -> u64
     match greatest.cmp(&node) {
         Ordering::Less => 14,
         Ordering::Equal => 0,
-        Ordering::Greater => {
-            if is_named(rows, node) {
-                0
-            } else {
-                14
-            }
-        }
+        Ordering::Greater => { if is_named(rows, node) { 0 } else { 14 } }
     }
 }
 

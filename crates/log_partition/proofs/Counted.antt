@@ -1,5 +1,5 @@
 -- The nodes that rows name, counted row by row.
-use Rattle.std.proofs.Common.{◌≡◌, ◌⊎◌, ℕ, suc, ◌+◌, ◌*◌, ◌<◌, Bool, true, false, cond, ◌||◌, IsTrue, List, [], ◌∷◌, ◌++◌, map, length, take, get_or, Option, Some, None, refl, sym, ap, ◌∙◌, subst, inl, inr, arith, length-append, true≢false, Less, is_lt}
+use Rattle.std.proofs.Common.{◌≡◌, ℕ, suc, ◌+◌, ◌<◌, Bool, true, false, cond, ◌||◌, IsTrue, List, [], ◌∷◌, ◌++◌, map, length, take, get_or, Option, Some, None, refl, sym, ap, ◌∙◌, subst, inl, inr, arith, length-append, true≢false}
 use Rattle.std.specs.Prelude.{filter, if◌then◌else◌}
 use Rattle.std.specs.List.{AllByRecursion, list_any}
 use Rattle.std.proofs.lemmas.List.{take_more, map-append}
@@ -8,8 +8,8 @@ use Rattle.std.proofs.lemmas.List.Sums.{sum_by-append}
 use Rattle.fine_model.specs.declared.NodeId.{NodeId}
 use Rattle.fine_model.specs.declared.Row.{Row}
 use Rattle.fine_model.specs.Nodes.{is_node}
-use Rattle.fine_model.specs.Merge.{is_node_below, with_node, nodes_in, encoded_len}
-use Rattle.fine_model.specs.RowBytes.{row_len, rows_len}
+use Rattle.fine_model.specs.Merge.{is_node_below, nodes_in, encoded_len}
+use Rattle.fine_model.specs.RowBytes.{row_len}
 use Rattle.fine_model.proofs.NodesIn.{times, times-nodes_in, node_cases, is_node_below-self, is_node-self, same_node}
 use Rattle.fine_model.proofs.NodeOrder.{below-trans, nodes_more}
 use Rattle.fine_model.proofs.Order.{all_map}

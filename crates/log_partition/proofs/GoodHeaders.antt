@@ -1,7 +1,7 @@
 -- A good header is read back from its bytes.
-use Rattle.std.proofs.Common.{◌≡◌, ◌↔◌, ℕ, zero, suc, ◌+◌, ◌-◌, ◌*◌, ◌^◌, ◌<◌, ◌≤◌, ◌==◌, nat_le, nat_lt, Bool, true, false, cond, not, ◌&&◌, IsTrue, List, [], ◌∷◌, ◌++◌, map, length, drop, take, Option, Some, None, Result, Ok, Err, refl, sym, ap, ◌∙◌, subst, arith, append_assoc, eq-eqb, eqb-true}
-use Rattle.std.specs.Prelude.{if◌then◌else◌, slice_index, replicate}
-use Rattle.std.specs.List.{AllByRecursion, range_with_len}
+use Rattle.std.proofs.Common.{◌≡◌, ℕ, ◌+◌, ◌-◌, ◌*◌, ◌<◌, ◌≤◌, ◌==◌, nat_le, nat_lt, Bool, true, false, not, ◌&&◌, List, [], ◌∷◌, ◌++◌, length, Some, None, Ok, refl, sym, ap, ◌∙◌, subst, arith, eq-eqb, eqb-true}
+use Rattle.std.specs.Prelude.{if◌then◌else◌}
+use Rattle.std.specs.List.{AllByRecursion}
 use Rattle.std.specs.Int.{to_be_bytes, from_be_bytes, w32, w64}
 use Rattle.std.proofs.lemmas.Bool.{le-leb, true≢false}
 use Rattle.std.proofs.lemmas.Bool.Decides.{nat_tests}
@@ -9,15 +9,13 @@ use Rattle.std.proofs.lemmas.Nat.{from_be_bytes-to_be_bytes_4, from_be_bytes-to_
 use Rattle.fine_model.specs.declared.Header.{Header}
 use Rattle.fine_model.specs.declared.Mark.{Mark}
 use Rattle.fine_model.specs.declared.Mark.TheVariants as mark
-use Rattle.fine_model.specs.declared.Range.{Range}
 use Rattle.fine_model.specs.RowBytes.{greatest}
 use Rattle.fine_model.specs.Merge.{fits_in}
-use Rattle.fine_model.specs.Regions.{sealed_gate, is_sealed, header_bytes, number_in, header_at, alike, entry_test, header_tests, length_tests, bad_field, header_in}
-use Rattle.partition_index.specs.Parts.{LiesIn, body_len, is_counted}
+use Rattle.fine_model.specs.Regions.{sealed_gate, header_bytes, header_at, alike, header_tests, bad_field, header_in}
 use Rattle.partition_index.proofs.BodyPlaces.{laid}
 use Rattle.partition_index.proofs.Exact.{area_small}
 use Rattle.log_partition.specs.Headers.{first_bad}
-use Rattle.log_partition.specs.Written.{IsGood, WrittenHeaderLaw, HoldsPartition, WrittenPartitionLaw}
+use Rattle.log_partition.specs.Written.{IsGood, WrittenHeaderLaw, WrittenPartitionLaw}
 use Rattle.log_partition.proofs.Heads.{in_good}
 use Rattle.log_partition.proofs.Sealed.{and_true, both_zero}
 

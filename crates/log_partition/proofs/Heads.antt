@@ -1,13 +1,12 @@
 -- The header of a region depends on its first 70 bytes alone.
-use Rattle.std.proofs.Common.{◌≡◌, ℕ, ◌+◌, ◌*◌, ◌<◌, ◌≤◌, Bool, true, false, List, [], ◌∷◌, ◌++◌, length, map, take, drop, Option, Some, None, Result, Ok, Err, refl, sym, ap, ◌∙◌, subst, arith, length-drop}
-use Rattle.std.specs.Prelude.{slice_index, unwrap_or, is_some}
-use Rattle.std.specs.List.{range_with_len}
+use Rattle.std.proofs.Common.{◌≡◌, ℕ, ◌+◌, ◌<◌, ◌≤◌, Bool, true, false, List, [], ◌∷◌, ◌++◌, length, take, drop, Option, Some, None, Ok, Err, refl, sym, ap, ◌∙◌, arith, length-drop}
+use Rattle.std.specs.Prelude.{slice_index, unwrap_or}
 use Rattle.std.specs.Int.{Width, byte_len, from_be_bytes, w32, w64}
 use Rattle.std.proofs.lemmas.List.{take-append-le, drop-append-le, get_or_append_left}
 use Rattle.fine_model.specs.declared.Header.{Header}
 use Rattle.fine_model.specs.declared.Mark.{Mark}
 use Rattle.fine_model.specs.declared.Mark.TheVariants as mark
-use Rattle.fine_model.specs.Regions.{is_sealed, mark_of, number_in, regions_at, more_at, header_at, length_tests, header_tests, bad_field, header_in}
+use Rattle.fine_model.specs.Regions.{is_sealed, mark_of, number_in, regions_at, more_at, header_at, header_tests, bad_field, header_in}
 use Rattle.log_partition.specs.Headers.{first_bad, HeaderLaw}
 
 -- what a header is read to be, by its gate and its first bad field

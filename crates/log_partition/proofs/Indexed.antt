@@ -1,13 +1,12 @@
 -- An index, entry by entry.
-use Rattle.std.proofs.Common.{◌≡◌, ◌≢◌, ℕ, zero, suc, ◌+◌, ◌-◌, ◌*◌, ◌<◌, ◌≤◌, List, [], ◌∷◌, ◌++◌, map, length, take, drop, get_or, refl, sym, ap, ◌∙◌, subst, inl, inr, arith, length-append, length-take, length-drop, take_at, drop_at}
+use Rattle.std.proofs.Common.{◌≡◌, ℕ, zero, suc, ◌+◌, ◌-◌, ◌*◌, ◌<◌, ◌≤◌, List, [], ◌∷◌, ◌++◌, length, take, drop, get_or, refl, sym, ap, ◌∙◌, inl, inr, arith, length-append, length-take, length-drop, take_at, drop_at}
 use Rattle.std.specs.Prelude.{flat_map}
 use Rattle.std.proofs.Math.Seq.{take-add}
 use Rattle.std.proofs.lemmas.List.{drop-drop, take_all, take-take, length-map}
 use Rattle.fine_model.specs.declared.Header.{Header}
-use Rattle.fine_model.specs.declared.NodeId.{NodeId}
 use Rattle.fine_model.specs.declared.Row.{Row}
 use Rattle.fine_model.specs.Merge.{nodes_in}
-use Rattle.fine_model.specs.Regions.{entry_bytes, index_bytes, index_area, IsBadEntry}
+use Rattle.fine_model.specs.Regions.{index_bytes, index_area, IsBadEntry}
 use Rattle.fine_model.proofs.Spelling.{split_same}
 use Rattle.partition_index.specs.Entries.{bytes_of, entry_for}
 use Rattle.partition_index.specs.Index.{entries_of}

@@ -1,8 +1,7 @@
 -- What is written behind an open gate is in the grammar.
-use Rattle.std.proofs.Common.{◌≡◌, ℕ, zero, suc, ◌+◌, ◌*◌, ◌^◌, ◌<◌, ◌≤◌, ◌==◌, Bool, true, false, cond, ◌&&◌, IsTrue, List, [], ◌∷◌, ◌++◌, map, length, drop, take, Option, Some, None, Result, Ok, Err, refl, sym, ap, ◌∙◌, subst, arith, append_assoc, append-nil, length-append, eq-eqb}
+use Rattle.std.proofs.Common.{◌≡◌, ℕ, zero, suc, ◌+◌, ◌*◌, ◌≤◌, ◌==◌, Bool, true, false, cond, ◌&&◌, List, [], ◌∷◌, ◌++◌, map, length, drop, Some, None, Ok, refl, sym, ap, ◌∙◌, arith, append_assoc, append-nil, length-append, eq-eqb}
 use Rattle.std.specs.Prelude.{filter, fold, replicate}
-use Rattle.std.specs.List.{AllByRecursion}
-use Rattle.std.specs.Int.{w32, w64}
+use Rattle.std.specs.Int.{w64}
 use Rattle.std.proofs.Math.Dec.{eqb-suc-zero}
 use Rattle.std.proofs.lemmas.Bool.{le-leb, true≢false}
 use Rattle.std.proofs.lemmas.List.{length-map}
@@ -13,9 +12,9 @@ use Rattle.fine_model.specs.declared.Mark.TheVariants as mark
 use Rattle.fine_model.specs.declared.NodeId.{NodeId}
 use Rattle.fine_model.specs.declared.Range.{Range}
 use Rattle.fine_model.specs.declared.Row.{Row}
-use Rattle.fine_model.specs.RowBytes.{row_len, rows_len, rows_bytes, greatest, FitsRow}
-use Rattle.fine_model.specs.Merge.{is_node_below, is_ordered, with_node, nodes_in, encoded_len, fits_in}
-use Rattle.fine_model.specs.Regions.{Image, region_of, sealed_gate, is_sealed, header_of, header_bytes, body_bytes, body_in, partition_bytes, number_in, header_at, alike, header_tests, bad_field, header_in, IsSealed}
+use Rattle.fine_model.specs.RowBytes.{row_len, rows_len, greatest}
+use Rattle.fine_model.specs.Merge.{is_node_below, with_node, nodes_in, encoded_len}
+use Rattle.fine_model.specs.Regions.{region_of, sealed_gate, header_of, header_bytes, body_bytes, body_in, partition_bytes, number_in, header_at, alike, header_tests, bad_field, header_in}
 use Rattle.partition_index.proofs.NodeOrder.{below-asym}
 use Rattle.log_partition.specs.Headers.{first_bad}
 use Rattle.log_partition.specs.Encoding.{FitsRange, EncodeLaw}

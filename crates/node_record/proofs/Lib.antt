@@ -2,7 +2,6 @@ pub mod Writing
 pub mod Ordered
 pub mod Changes
 pub mod Texts
-pub mod Bounds
 pub mod FieldsRead
 pub mod Loop
 pub mod Readers

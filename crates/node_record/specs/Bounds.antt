@@ -1,16 +1,12 @@
 -- Nodes within bounds, and the rows that need no memory.
-use Rattle.std.specs.Prelude.{◌≡◌, ◌↔◌, ℕ, ◌<◌, ◌≤◌, Bool, true, false, IsTrue, if◌then◌else◌, IfSome}
+use Rattle.std.specs.Prelude.{◌≡◌, ◌↔◌, ℕ, ◌<◌, ◌≤◌, Bool, true, false, IsTrue, if◌then◌else◌}
 use Rattle.fine_model.specs.declared.Node.{Node}
 use Rattle.fine_model.specs.declared.Node.TheVariants as node
 use Rattle.fine_model.specs.declared.NodeId.{NodeId}
 use Rattle.fine_model.specs.declared.Rec.{Rec}
 use Rattle.fine_model.specs.declared.Rec.TheVariants as rec
-use Rattle.fine_model.specs.Merge.{image_of}
-use Rattle.fine_model.specs.RowBytes.{FitsRec, greatest}
-
--- a node whose image has a spelling; a broken one has no image, and is within bounds
-abbrev pub FitsNode : Node → Type 0
-FitsNode n = IfSome (image_of n) FitsRec
+pub use Rattle.fine_model.specs.BoundLaws.{FitsNode}
+use Rattle.fine_model.specs.RowBytes.{greatest}
 
 -- what keeps nothing of the row but numbers
 abbrev pub takes_no_memory : Rec → Bool

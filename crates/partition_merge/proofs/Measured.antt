@@ -10,10 +10,13 @@ use Rattle.fine_model.specs.declared.Rec.{Rec}
 use Rattle.fine_model.specs.declared.Row.{Row}
 use Rattle.fine_model.specs.Nodes.{is_node, rows_of, base, replay}
 use Rattle.fine_model.specs.RowBytes.{row_len, rows_len}
-use Rattle.fine_model.specs.Merge.{is_node_below, is_ordered, with_node, nodes_in, image_of, starts_afresh, merged, merged_into}
+use Rattle.fine_model.specs.Merge.{is_node_below, is_ordered, with_node, nodes_in, image_of, starts_afresh, merged, merged_node, merged_into}
 use Rattle.fine_model.proofs.NodesIn.{times-nodes_in}
 use Rattle.fine_model.proofs.NodesAscend.{nodes_ascend, same_nodes}
 use Rattle.fine_model.proofs.MergedRows.{rows_of-merged}
+use Rattle.fine_model.proofs.MergedOrder.{merged_order}
+use Rattle.fine_model.proofs.Order.{all_map}
+use Rattle.std.specs.List.{AllByRecursion, list_all}
 use Rattle.fine_model.proofs.Sets.{all_append}
 use Rattle.fine_model.proofs.NodeOrder.{below-asym}
 use Rattle.partition_index.proofs.Opened.{few_rows}
@@ -23,8 +26,8 @@ use Rattle.partition_merge.specs.declared.merger.Merger.{Merger}
 use Rattle.fine_model.specs.declared.Part.{Part}
 use Rattle.fine_model.specs.Regions.{Image, Place}
 use Rattle.node_fetch.specs.Fetched.{HasBadRow}
-use Rattle.partition_merge.specs.Mergers.{StandsAt, HandsOut, BlamesRow, older_part, newer_part, behind, both_unread, next_len, measure_of}
-use Rattle.partition_merge.proofs.Nodes.{rest_of, names, nodes_first, merged_by}
+use Rattle.partition_merge.specs.Mergers.{StandsAt, HandsOut, BlamesRow, older_part, newer_part, behind, both_unread, next_len, measure_of, IsCounted}
+use Rattle.partition_merge.proofs.Nodes.{rest_of, names, nodes_first, nodes_over, rows_over, merged_by}
 use Rattle.partition_merge.proofs.Steps.{starts, no_node}
 use Rattle.partition_merge.proofs.Taken.{next_parted, next_within}
 
@@ -48,10 +51,11 @@ pub record Measured (eye : Eye) (pass : Merger) (older newer : List Row) (measur
   pub nodes : measure.nodes ≡ min steps greatest
   pub all_nodes : length (nodes_in (older ++ newer)) ≡ steps + length (nodes_in (left_older ++ left_newer))
   pub bytes : eye.taken + (28 * both_unread pass + (rows_len left_older + rows_len left_newer)) ≤ most
+  pub ordered : (measure.ordered && is_ordered (merged left_older left_newer)) ≡ is_ordered (merged older newer)
 
-pub none_measured : (eye : Eye) (pass : Merger) (older newer : List Row) (measure : Measure) (most : ℕ) → measure.rows ≡ 0 → measure.nodes ≡ 0 → measure.area ≡ 0 → StandsAt eye pass older newer
+pub none_measured : (eye : Eye) (pass : Merger) (older newer : List Row) (measure : Measure) (most : ℕ) → measure.rows ≡ 0 → measure.nodes ≡ 0 → measure.area ≡ 0 → measure.ordered ≡ true → StandsAt eye pass older newer
     → eye.taken + (28 * both_unread pass + (rows_len older + rows_len newer)) ≤ most → Measured eye pass older newer measure most
-none_measured eye pass older newer measure most rows nodes area at bytes = record {
+none_measured eye pass older newer measure most rows nodes area ordered at bytes = record {
   left_older = older;
   left_newer = newer;
   stands = at;
@@ -63,6 +67,7 @@ none_measured eye pass older newer measure most rows nodes area at bytes = recor
   nodes = nodes;
   all_nodes = omega arith;
   bytes = bytes;
+  ordered = ap (λ t. t && is_ordered (merged older newer)) ordered;
 }
 
 -- one node less is left
@@ -141,10 +146,49 @@ nodes_few : (rows : List Row) → length (nodes_in rows) ≤ length rows
 unfolding nodes_in
 nodes_few rows = omega (arith, fold_few [] (map (λ r. r.node) rows), length-map rows (λ r. r.node))
 
+-- ---- the order of merged rows, node by node
+
+and_assoc : (a b c : Bool) → ((a && b) && c) ≡ (a && (b && c))
+and_assoc true b c = refl
+and_assoc false b c = refl
+
+all_alike : (f g : NodeId → Bool) (ids : List NodeId) → AllByRecursion (λ id. f id ≡ g id) ids → list_all f ids ≡ list_all g ids
+all_alike f g [] same = refl
+all_alike f g (id ∷ ids) same = (λ i. same.0 i && all_alike f g ids same.1 i)
+
+-- merged rows are in order where those of the lowest node are, and those of the others
+ordered_next : (n : NodeId) (a b : List Row) → IsTrue (is_ordered a) → IsTrue (is_ordered b) → first_node a b ≡ Some n
+    → is_ordered (merged a b) ≡ (is_ordered (merged_node (a ++ b) n) && is_ordered (merged (behind n a) (behind n b)))
+ordered_next n a b a_up b_up first =
+    let s = starts n a b a_up b_up first in
+    let rest : rest_of n (a ++ b) ≡ behind n a ++ behind n b = filter-append (λ r. is_node_below n r.node) a b in
+    let nodes : nodes_in (a ++ b) ≡ n ∷ nodes_in (rest_of n (a ++ b)) = nodes_first n (a ++ b) (all_append (λ r. is_node_below r.node n ≡ false) a b s.old_from s.new_from) s.named in
+    let each : AllByRecursion (λ id. is_ordered (merged_node (a ++ b) id) ≡ is_ordered (merged_node (rest_of n (a ++ b)) id)) (nodes_in (rest_of n (a ++ b))) = all_map (λ id. is_node_below n id ≡ true) (λ id. is_ordered (merged_node (a ++ b) id) ≡ is_ordered (merged_node (rest_of n (a ++ b)) id))
+    (λ id over. ap is_ordered (merged_by (a ++ b) id ∙ ap (merged_of id) (rows_over n id (a ++ b) over) ∙ sym (merged_by (rest_of n (a ++ b)) id))) (nodes_in (rest_of n (a ++ b))) (nodes_over n (a ++ b)) in
+    merged_order a b ∙ ap (list_all (λ id. is_ordered (merged_node (a ++ b) id))) nodes
+    ∙ ap (λ t. is_ordered (merged_node (a ++ b) n) && t) (all_alike (λ id. is_ordered (merged_node (a ++ b) id)) (λ id. is_ordered (merged_node (rest_of n (a ++ b)) id)) (nodes_in (rest_of n (a ++ b))) each
+    ∙ ap (λ xs. list_all (λ id. is_ordered (merged_node xs id)) (nodes_in xs)) rest ∙ sym (merged_order (behind n a) (behind n b)))
+
+-- ---- numbers that are 0 together
+
+pub nothing_counted : (measure : Measure) → measure.rows ≡ 0 → measure.nodes ≡ 0 → measure.area ≡ 0 → IsCounted measure
+nothing_counted measure r n a = record { few = omega (arith, r, n); nodes = (λ e. r, λ e. n); area = (λ e. r, λ e. a) }
+
+pub more_counted : (measure now : Measure) (rows : List Row) → IsCounted measure → 1 ≤ length rows
+    → now.rows ≡ min (measure.rows + length rows) greatest → now.nodes ≡ min (measure.nodes + 1) greatest → now.area ≡ min (measure.area + rows_len rows) greatest → IsCounted now
+more_counted measure now rows was some r n a =
+    let few = few_rows rows in
+    let lower = was.few in
+    record {
+      few = omega (arith, r, n, lower, some);
+      nodes = (λ e. absurd (omega (arith, e, n)), λ e. absurd (omega (arith, e, r, some)));
+      area = (λ e. absurd (omega (arith, e, a, few, some)), λ e. absurd (omega (arith, e, r, some)));
+    }
+
 pub more_measured : (eye later : Eye) (pass next : Merger) (older newer rows : List Row) (measure now : Measure) (most : ℕ) → (m : Measured eye pass older newer measure most) → HandsOut later next m.left_older m.left_newer rows
     → later.taken + 28 * both_unread next ≤ eye.taken + (28 * both_unread pass + next_len m.left_older m.left_newer)
-    → now.rows ≡ min (measure.rows + length rows) greatest → now.nodes ≡ min (measure.nodes + 1) greatest → now.area ≡ min (measure.area + rows_len rows) greatest → Measured later next older newer now most
-more_measured eye later pass next older newer rows measure now most m h ahead r n a = record {
+    → now.rows ≡ min (measure.rows + length rows) greatest → now.nodes ≡ min (measure.nodes + 1) greatest → now.area ≡ min (measure.area + rows_len rows) greatest → now.ordered ≡ (measure.ordered && is_ordered rows) → Measured later next older newer now most
+more_measured eye later pass next older newer rows measure now most m h ahead r n a o = record {
   left_older = behind h.node m.left_older;
   left_newer = behind h.node m.left_newer;
   stands = h.left;
@@ -156,12 +200,19 @@ more_measured eye later pass next older newer rows measure now most m h ahead r 
   nodes = omega (arith, n, m.nodes);
   all_nodes = omega (arith, m.all_nodes, fewer_nodes h.node m.left_older m.left_newer m.stands.of_older.is_left.ordered m.stands.of_newer.is_left.ordered h.first);
   bytes = omega (arith, m.bytes, ahead, next_parted h.node m.left_older m.left_newer m.stands.of_older.is_left.ordered m.stands.of_newer.is_left.ordered h.first);
+  ordered = ap (λ t. t && is_ordered (merged (behind h.node m.left_older) (behind h.node m.left_newer))) o ∙ and_assoc measure.ordered (is_ordered rows) (is_ordered (merged (behind h.node m.left_older) (behind h.node m.left_newer)))
+      ∙ ap (λ t. measure.ordered && (is_ordered t && is_ordered (merged (behind h.node m.left_older) (behind h.node m.left_newer)))) h.is_merged
+      ∙ ap (λ t. measure.ordered && t) (sym (ordered_next h.node m.left_older m.left_newer m.stands.of_older.is_left.ordered m.stands.of_newer.is_left.ordered h.first)) ∙ m.ordered;
 }
 
 -- no more was taken than all of both parts
 pub within_most : (eye later : Eye) (pass : Merger) (older newer : List Row) (measure : Measure) (most : ℕ) → (m : Measured eye pass older newer measure most)
     → later.taken ≤ eye.taken + (28 * both_unread pass + next_len m.left_older m.left_newer) → later.taken ≤ most
 within_most eye later pass older newer measure most m taken = omega (arith, m.bytes, taken, next_within m.left_older m.left_newer m.stands.of_older.is_left.ordered m.stands.of_newer.is_left.ordered)
+
+and_true : (a : Bool) → (a && true) ≡ a
+and_true true = refl
+and_true false = refl
 
 pub all_measured : (eye : Eye) (pass : Merger) (older newer : List Row) (measure : Measure) (most : ℕ) → (m : Measured eye pass older newer measure most) → m.left_older ≡ [] → m.left_newer ≡ [] → rows_len (merged older newer) < 4294967296 → measure ≡ measure_of (merged older newer)
 all_measured eye pass older newer measure most m none_old none_new small =
@@ -177,7 +228,8 @@ all_measured eye pass older newer measure most m none_old none_new small =
     let r : measure.rows ≡ length (merged older newer) = omega (arith, m.rows, few, bytes, long) in
     let n : measure.nodes ≡ length (nodes_in (merged older newer)) = omega (arith, m.nodes, nodes, few_nodes, few, bytes, long) in
     let a : measure.area ≡ rows_len (merged older newer) = omega (arith, m.area, bytes, len) in
-    λ i. record { rows = r i; nodes = n i; area = a i }
+    let o : measure.ordered ≡ is_ordered (merged older newer) = sym (and_true measure.ordered) ∙ ap (λ xs. measure.ordered && is_ordered xs) (sym nothing) ∙ m.ordered in
+    λ i. record { rows = r i; nodes = n i; area = a i; ordered = o i }
 
 -- what is blamed is told by the parts alone
 pub blames_row : (known now : Option Image) (a b : Merger) (place : Place) → now ≡ known → older_part a ≡ older_part b → newer_part a ≡ newer_part b → a.region_len ≡ b.region_len → BlamesRow now a place → BlamesRow known b place

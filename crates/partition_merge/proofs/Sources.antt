@@ -1,6 +1,6 @@
 -- The rows that are left of a source.
-use Rattle.std.proofs.Common.{◌≡◌, ℕ, zero, suc, ◌+◌, ◌-◌, ◌<◌, ◌≤◌, Bool, true, false, cond, IsTrue, List, [], ◌∷◌, ◌++◌, length, drop, get_or, Option, Some, None, refl, sym, ap, ◌∙◌, subst, arith, true≢false, inl, inr}
-use Rattle.std.specs.Prelude.{not, Result, Ok, Err, IfOk, MatchResult}
+use Rattle.std.proofs.Common.{◌≡◌, ℕ, zero, suc, ◌+◌, ◌-◌, ◌<◌, ◌≤◌, Bool, true, false, cond, IsTrue, List, [], ◌∷◌, ◌++◌, length, drop, get_or, Option, Some, None, refl, sym, ap, ◌∙◌, subst, arith, true≢false, inl, inr, length-append}
+use Rattle.std.specs.Prelude.{not, ◌⊎◌, Result, Ok, Err, IfOk, IfSome, MatchResult}
 use Rattle.std.specs.List.{AllByRecursion}
 use Rattle.std.proofs.Math.ListN.{drop_of_length-le}
 use Rattle.std.proofs.lemmas.List.{drop-drop}
@@ -9,10 +9,11 @@ use Rattle.log_disk.specs.Disk.{Eye}
 use Rattle.fine_model.specs.declared.NodeId.{NodeId}
 use Rattle.fine_model.specs.declared.Part.{Part}
 use Rattle.fine_model.specs.declared.Row.{Row}
-use Rattle.fine_model.specs.Nodes.{is_node, rows_of}
-use Rattle.fine_model.specs.Merge.{is_node_below, is_ordered, nodes_in, merged, merged_node}
+use Rattle.fine_model.specs.declared.Rec.{Rec}
+use Rattle.fine_model.specs.Nodes.{is_node, rows_of, base, replay}
+use Rattle.fine_model.specs.Merge.{is_node_below, is_ordered, nodes_in, image_of, merged, merged_into, merged_node}
 use Rattle.fine_model.specs.RowBytes.{FitsRow, FitsRec}
-use Rattle.fine_model.proofs.NodesIn.{node_cases, is_node-self, same_node}
+use Rattle.fine_model.proofs.NodesIn.{node_cases, is_node_below-self, is_node-self, same_node}
 use Rattle.fine_model.proofs.Order.{filter_all, filter_none, all_map}
 use Rattle.fine_model.proofs.Sets.{all_filter, all_append}
 use Rattle.fine_model.specs.Regions.{Image, body_in}
@@ -30,10 +31,10 @@ use Rattle.node_fetch.proofs.PartRows.{tells_same}
 use Rattle.node_fetch.proofs.Told.{map_told}
 use Rattle.partition_merge.specs.declared.merger.Merger.{Merger}
 use Rattle.partition_merge.specs.declared.merger.Source.{Source}
-use Rattle.fine_model.proofs.NodeOrder.{below-other}
+use Rattle.fine_model.proofs.NodeOrder.{below-other, below-asym, above_or_same}
 use Rattle.partition_index.proofs.RowOrder.{AllFrom, all_above}
 use Rattle.partition_merge.specs.Merging.{FitRows, node_at_head, lower, first_node, merged_of}
-use Rattle.partition_merge.specs.Mergers.{IsLeft, SourceAt, StandsAt, HandsOut, TakesRows, nodes_left, behind, node_kept}
+use Rattle.partition_merge.specs.Mergers.{IsLeft, SourceAt, StandsAt, HandsOut, IsPast, TakesRows, nodes_left, behind, node_kept}
 use Rattle.partition_merge.proofs.Nodes.{rest_of, merged_all, nodes_first, nodes_over, rows_over, merged_by, lowest_first}
 use Rattle.partition_merge.proofs.Steps.{starts, split_run, from_head, named_head}
 
@@ -198,7 +199,15 @@ taken_of (Err e) known id before after span is holds one = tt
 
 -- what was taken since an entry was kept was taken since before
 pub takes_as : (known now : Option Image) (p q after : Source) (id : NodeId) (rows : List Row) → now ≡ known → q.part ≡ p.part → q.next ≡ p.next → TakesRows now id q after rows → TakesRows known id p after rows
-takes_as known now p q after id rows told part next (inl none) = inl (none.0, none.1 ∙ (λ i. (part i).header.nodes - next i))
+takes_as known now p q after id rows told part next (inl none) =
+    inl (
+      none.0,
+      none.1 ∙ (λ i. (part i).header.nodes - next i),
+      elim none.2 as (λ _. IsPast known id p) [
+        | inl end ↦ inl (sym (λ i. (part i).header.nodes - next i) ∙ end)
+        | inr above ↦ inr (above.0, subst (λ k. IsEntryAt k p.part p.next above.0) told (subst (λ x. IsEntryAt now x p.next above.0) part (subst (λ n. IsEntryAt now q.part n above.0) next above.1)), above.2)
+      ],
+    )
 takes_as known now p q after id rows told part next (inr some) =
     inr (
       some.0,
@@ -279,3 +288,79 @@ handed_out eye m older newer rows old_own new_own n old_up new_up first a b join
       left = record { of_older = of_older; of_newer = of_newer };
       together = next_merged n older newer old_up new_up first ∙ ap (λ xs. xs ++ merged (behind n older) (behind n newer)) (sym is);
     }
+
+-- ---- what is passed over
+
+-- the next entry of a part names a node that is above the one that is not its own and not above it
+pub past_entry : (known : Option Image) (source : Source) (entry : IndexEntry) (id : NodeId) → IsEntryAt known source.part source.next entry → is_node_below entry.node id ≡ false → (entry.node ≡ id → ⊥) → IsPast known id source
+past_entry known source entry id is not_below other = elim (above_or_same id entry.node not_below) as (λ _. IsPast known id source) [
+  | inl above ↦ inr (entry, is, above)
+  | inr same ↦ absurd (other (sym same))
+]
+
+abbrev pub Lowest : NodeId → Option (IndexEntry × Span) → Type 0
+Lowest id head = IfSome head (λ h. is_node_below h.0.node id ≡ false)
+
+-- the lower one of two nodes is above neither, and one of them
+pub record IsLower (a b : Option NodeId) (id : NodeId) : Type 0 where
+  pub first : IfSome a (λ i. is_node_below i id ≡ false)
+  pub second : IfSome b (λ i. is_node_below i id ≡ false)
+  pub one : (a ≡ Some id) ⊎ (b ≡ Some id)
+
+is_lower : (a b : Option NodeId) (id : NodeId) → lower a b ≡ Some id → IsLower a b id
+is_lower None None id e = absurd (cc)
+is_lower None (Some b) id e = record { first = tt; second = subst (λ k. is_node_below k id ≡ false) (sym (inside b id e)) (is_node_below-self id); one = inr e }
+is_lower (Some a) None id e = record { first = subst (λ k. is_node_below k id ≡ false) (sym (inside a id e)) (is_node_below-self id); second = tt; one = inl e }
+is_lower (Some a) (Some b) id e = by (is_node_below b a) refl e
+  where
+    by : (t : Bool) → is_node_below b a ≡ t → ◌≡◌ {A = Option NodeId} (cond t (Some b) (Some a)) (Some id) → IsLower (Some a) (Some b) id
+    by true h e =
+        let same : b ≡ id = inside b id e in
+        record {
+          first = subst (λ k. is_node_below a k ≡ false) same (below-asym b a h);
+          second = subst (λ k. is_node_below b k ≡ false) same (is_node_below-self b);
+          one = inr e;
+        }
+    by false h e =
+        let same : a ≡ id = inside a id e in
+        record {
+          first = subst (λ k. is_node_below a k ≡ false) same (is_node_below-self a);
+          second = subst (λ k. is_node_below b k ≡ false) same h;
+          one = inl e;
+        }
+
+pub first_lowest : (head : Option (IndexEntry × Span)) (a b : Option NodeId) (id : NodeId) → a ≡ node_kept head → lower a b ≡ Some id → Lowest id head
+first_lowest None a b id kept e = tt
+first_lowest (Some head) a b id kept e = subst (λ o. IfSome o (λ i. is_node_below i id ≡ false)) kept (is_lower a b id e).first
+
+pub second_lowest : (head : Option (IndexEntry × Span)) (a b : Option NodeId) (id : NodeId) → b ≡ node_kept head → lower a b ≡ Some id → Lowest id head
+second_lowest None a b id kept e = tt
+second_lowest (Some head) a b id kept e = subst (λ o. IfSome o (λ i. is_node_below i id ≡ false)) kept (is_lower a b id e).second
+
+-- ---- that there are rows
+
+pub some_read : (r : Result (List Row) FetchFault) (known : Option Image) (p : Part) (id : NodeId) (span : Span) (A : Type 0) → 1 ≤ span.rows → IfOk r (HoldsRows known p id span) → IfOk r (λ rows. A → 1 ≤ length rows)
+some_read (Ok rows) known p id span A some holds = λ a. let all = holds.holds.all in omega (arith, some, all)
+some_read (Err e) known p id span A some holds = tt
+
+merged_some : (id : NodeId) (own : List Row) → 1 ≤ length own → 1 ≤ length (merged_of id own)
+unfolding merged_of merged_into
+merged_some id own some = by (image_of (replay (base id) own).0)
+  where
+    choice : (row : Row) (t : Bool) → 1 ≤ length (cond t (row ∷ []) own)
+    choice row true = omega arith
+    choice row false = some
+
+    by : (image : Option Rec) → 1 ≤ length (merged_into id own (replay (base id) own).1 image)
+    by None = some
+    by (Some image) = choice (record { node = id; version = (replay (base id) own).1; rec = image }) _
+
+-- rows of which one list has some are merged into some
+pub some_joined : (id : NodeId) (a b : Option NodeId) (old new : Option (IndexEntry × Span)) (older newer rows : List Row) → lower a b ≡ Some id → a ≡ node_kept old → b ≡ node_kept new → (node_kept old ≡ Some id → 1 ≤ length older) → (node_kept new ≡ Some id → 1 ≤ length newer)
+    → rows ≡ merged_of id (older ++ newer) → 1 ≤ length rows
+some_joined id a b old new older newer rows e ak bk os ns joined =
+    let both : 1 ≤ length (older ++ newer) = elim (is_lower a b id e).one as (λ _. 1 ≤ length (older ++ newer)) [
+      | inl first ↦ let s = os (sym ak ∙ first) in omega (arith, s, length-append older newer)
+      | inr second ↦ let s = ns (sym bk ∙ second) in omega (arith, s, length-append older newer)
+    ] in
+    subst (λ xs. 1 ≤ length xs) (sym joined) (merged_some id (older ++ newer) both)

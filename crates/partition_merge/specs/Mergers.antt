@@ -1,5 +1,5 @@
 -- Where a merger stands, and what it hands out.
-use Rattle.std.specs.Prelude.{◌≡◌, ◌⊎◌, ℕ, ◌+◌, ◌-◌, ◌<◌, List, [], ◌++◌, length, drop, filter, IsTrue, Option, Some, None, option_map}
+use Rattle.std.specs.Prelude.{◌≡◌, ◌⊎◌, ◌↔◌, ℕ, ◌+◌, ◌-◌, ◌<◌, ◌≤◌, true, List, [], ◌++◌, length, drop, filter, IsTrue, Option, Some, None, option_map}
 use Rattle.std.specs.List.{AllByRecursion}
 use Rattle.log_disk.specs.Disk.{Eye}
 use Rattle.fine_model.specs.declared.NodeId.{NodeId}
@@ -86,10 +86,16 @@ pub record BlamesRow (known : Option Image) (merger : Merger) (place : Place) : 
 pub record BlamesEntry (known : Option Image) (merger : Merger) (place : Place) : Type 0 where
   pub is_bad : HasBadEntry known merger.region_len (older_part merger) place ⊎ HasBadEntry known merger.region_len (newer_part merger) place
 
--- What was read of a part: nothing, and no node less is left; or the rows of the next entry's span, and one node less is left.
+-- A part has no rows of a node, as far as its next entry says: no node is left of it, or the next one is above.
+abbrev pub IsPast : Option Image → NodeId → Source → Type 0
+IsPast known id source =
+    (nodes_left source ≡ 0) ⊎ ((entry : IndexEntry) × IsEntryAt known source.part source.next entry × (is_node_below id entry.node ≡ true))
+
+-- What was read of a part: nothing where it has no rows of the node, and no node less is left; or the rows of the next entry's span,
+-- and one node less is left.
 abbrev pub TakesRows : Option Image → NodeId → Source → Source → List Row → Type 0
 TakesRows known id before after rows =
-    ((rows ≡ []) × (nodes_left after ≡ nodes_left before))
+    ((rows ≡ []) × (nodes_left after ≡ nodes_left before) × IsPast known id before)
     ⊎ ((span : Span) × IsSpanAt known before.part before.next span × HoldsRows known before.part id span rows × (nodes_left after + 1 ≡ nodes_left before))
 
 -- Rows are what the rows of one node are merged into, as they were read of both parts.
@@ -131,6 +137,12 @@ abbrev pub Answers : Eye → Merger → List Row → List Row → Option (List R
 Answers eye merger older newer None = (older ≡ []) × (newer ≡ []) × StandsAt eye merger older newer
 Answers eye merger older newer (Some rows) = HandsOut eye merger older newer rows
 
--- the numbers of rows and nodes, and the bytes of the rows
+-- the numbers of rows and nodes, the bytes of the rows, and whether they are in order
 abbrev pub measure_of : List Row → Measure
-measure_of rows = record { rows = length rows; nodes = length (nodes_in rows); area = rows_len rows }
+measure_of rows = record { rows = length rows; nodes = length (nodes_in rows); area = rows_len rows; ordered = is_ordered rows }
+
+-- the numbers of a measure are 0 together, and there are no more nodes than rows
+pub record IsCounted (measure : Measure) : Type 0 where
+  pub few : measure.nodes ≤ measure.rows
+  pub nodes : (measure.nodes ≡ 0) ↔ (measure.rows ≡ 0)
+  pub area : (measure.area ≡ 0) ↔ (measure.rows ≡ 0)

@@ -1,11 +1,11 @@
 -- Merging rows node by node.
-use Rattle.std.specs.Prelude.{◌≡◌, ◌≢◌, ℕ, ◌+◌, List, [], ◌∷◌, ◌++◌, Option, Some, None, if◌then◌else◌}
+use Rattle.std.specs.Prelude.{◌≡◌, ◌≢◌, ℕ, ◌+◌, Bool, true, List, [], ◌∷◌, ◌++◌, Option, Some, None, if◌then◌else◌}
 use Rattle.std.specs.List.{AllByRecursion}
 use Rattle.fine_model.specs.declared.NodeId.{NodeId}
 use Rattle.fine_model.specs.declared.Node.TheVariants as node
 use Rattle.fine_model.specs.declared.Row.{Row}
 use Rattle.fine_model.specs.Nodes.{base, replay, content, is_node}
-use Rattle.fine_model.specs.Merge.{is_node_below, image_of, merged_into}
+use Rattle.fine_model.specs.Merge.{is_node_below, is_row_below, image_of, merged_into}
 use Rattle.fine_model.specs.RowBytes.{FitsRec}
 
 -- rows whose bodies are within the format's bounds
@@ -29,6 +29,11 @@ first_node older newer = lower (node_at_head older) (node_at_head newer)
 abbrev pub run_len : NodeId → List Row → ℕ
 run_len id [] = 0
 run_len id (row ∷ rows) = if is_node id row.node then 1 + run_len id rows else 0
+
+-- the first of rows, if there is one, is above a row
+abbrev pub begins_above : Row → List Row → Bool
+begins_above row [] = true
+begins_above row (next ∷ rows) = is_row_below row next
 
 -- what the rows of one node are merged into
 unfoldable pub merged_of : NodeId → List Row → List Row

@@ -6,7 +6,7 @@ ghost use Rattle.std.specs.List.{AllByRecursion};
 ghost use Rattle.fine_model.specs.RowBytes.{FitsRec};
 ghost use Rattle.fine_model.specs.Merge.{is_ordered, merged};
 ghost use Rattle.fine_model.specs.Nodes.{is_node};
-ghost use Rattle.partition_merge.specs.Merging.{FitRows, node_at_head, lower, first_node, run_len, merged_of, StandsFor};
+ghost use Rattle.partition_merge.specs.Merging.{FitRows, node_at_head, lower, first_node, run_len, begins_above, merged_of, StandsFor};
 
 mod fold;
 mod merger;
@@ -62,6 +62,33 @@ fn run_len(rows: &[Row], node: NodeId) -> usize
         }
     }
     rows.len()
+}
+
+/// Whether the first of rows, if there is one, is above a row.
+fn begins_above(row: &Row, rows: &[Row]) -> bool
+    ensures { result ≡ begins_above row.now rows.now }
+{
+    match rows.first() {
+        Some(next) => {
+            let order = row.node.cmp(&next.node);
+            order.then(row.version.cmp(&next.version)).is_lt()
+        }
+        None => true,
+    }
+}
+
+/// Whether rows ascend strictly by bucket, number and version, as those of a partition do. They are gone over once. Takes no memory.
+pub fn is_ordered(rows: &[Row]) -> bool
+    ensures { result ≡ is_ordered rows.now }
+{
+    let mut left = rows;
+    while let Some((row, rest)) = left.split_first() {
+        if !begins_above(row, rest) {
+            return false;
+        }
+        left = rest;
+    }
+    true
 }
 
 fn push_all(merged: &mut Rows, rows: &[Row]) -> Result<(), NoMemory>

@@ -1,22 +1,22 @@
 //! Merging two parts node by node, through an eye.
 
-ghost use Rattle.std.specs.Prelude.{◌≡◌, ℕ, ◌+◌, ◌-◌, ◌*◌, ◌<◌, ◌≤◌, ◌++◌, IfOk, IfSome, IsErrOf, MatchResult, List, length, min, Option, Some, None, Ok, option_map};
+ghost use Rattle.std.specs.Prelude.{◌≡◌, ℕ, ◌+◌, ◌-◌, ◌*◌, ◌<◌, ◌≤◌, ◌++◌, ◌&&◌, false, IfOk, IfSome, IsErrOf, MatchResult, List, length, min, Option, Some, None, Ok, option_map};
 ghost use Rattle.log_disk.specs.Disk.{Eye};
 ghost use Rattle.fine_model.specs.declared.Row.{Row};
 ghost use Rattle.fine_model.specs.declared.FetchFault.TheVariants as fetch_fault;
 ghost use Rattle.fine_model.specs.Nodes.{rows_of};
 ghost use Rattle.fine_model.specs.Regions.{Image};
 ghost use Rattle.fine_model.specs.RowBytes.{rows_len};
-ghost use Rattle.fine_model.specs.Merge.{merged};
+ghost use Rattle.fine_model.specs.Merge.{is_node_below, is_ordered, merged};
 ghost use Rattle.partition_index.specs.Parts.{IsSeen, SameEye, CountsFaults};
-ghost use Rattle.partition_index.proofs.RowOrder.{AllFrom};
+ghost use Rattle.partition_index.specs.Index.{AllFrom};
 ghost use Rattle.partition_index.specs.Search.{Searches, TellsRows};
 ghost use Rattle.node_fetch.specs.Fetched.{HasBadRow, HasBadEntry, NoDamage};
 ghost use Rattle.partition_merge.specs.Merging.{FitRows, node_at_head, merged_of};
-ghost use Rattle.partition_merge.specs.Mergers.{behind, node_kept, nodes_left, IsKept, AreKept, SourceAt, StandsAt, Answers, older_part, newer_part, both_left, unread, both_unread, next_len, most_for, BlamesRow, BlamesEntry, TakesRows, IsJoinOf, measure_of};
+ghost use Rattle.partition_merge.specs.Mergers.{behind, node_kept, nodes_left, IsKept, AreKept, SourceAt, StandsAt, Answers, older_part, newer_part, both_left, unread, both_unread, next_len, most_for, BlamesRow, BlamesEntry, TakesRows, IsJoinOf, measure_of, IsCounted};
 
 use crate::fold::folded;
-use crate::{lower, push_all};
+use crate::{is_ordered, lower, push_all};
 use fine_model::{FetchFault, Items, NoMemory, NodeId, Part, Rows};
 use log_disk::LogEye;
 use node_fetch::{bad_index, read_span};
@@ -60,6 +60,7 @@ impl Source {
         ensures kept { IsKept (E.LogEye.state eye.old).told self.new }
         ensures head { IfOk result (λ node. node ≡ option_map (λ head. head.0.node) self.new.head) }
         ensures end { result ≡ Ok None → nodes_left self.new ≡ 0 }
+        ensures ready { IfOk result (λ node. self.new.head ≡ None → nodes_left self.new ≡ 0) }
         ensures ahead { IfOk result (λ node. (E.LogEye.state eye.new).taken + 28 * unread self.new ≤ (E.LogEye.state eye.old).taken + 28 * unread self.old) }
         ensures taken { (E.LogEye.state eye.new).taken ≤ (E.LogEye.state eye.old).taken + 28 * unread self.old }
         ensures good_row { (region at : ℕ) → IsErrOf result (fetch_fault.BadRow region at) → ⊥ }
@@ -93,11 +94,14 @@ impl Source {
         requires seen { IsSeen (E.LogEye.state eye.old) self.old.part }
         requires region_len { region_len ≡ (E.LogEye.state eye.old).region_len }
         requires kept { IsKept (E.LogEye.state eye.old).told self.old }
+        requires ready { self.old.head ≡ None → nodes_left self.old ≡ 0 }
+        requires lowest { IfSome self.old.head (λ head. is_node_below head.0.node node ≡ false) }
         ensures eye { Searches (IsErrOf result fetch_fault.Failed) self.old.part.header.area (E.LogEye.state eye.old) (E.LogEye.state eye.new) }
         ensures part { self.new.part ≡ self.old.part }
         ensures kept { IsKept (E.LogEye.state eye.old).told self.new }
         ensures fit { IfOk result FitRows }
         ensures read { IfOk result (TakesRows (E.LogEye.state eye.old).told node self.old self.new) }
+        ensures some { IfOk result (λ rows. node_kept self.old.head ≡ Some node → 1 ≤ length rows) }
         ensures unread { unread self.new ≡ unread self.old }
         ensures no_more { nodes_left self.new ≤ nodes_left self.old }
         ensures fewer { node_kept self.old.head ≡ Some node → nodes_left self.new < nodes_left self.old }
@@ -139,12 +143,14 @@ fn joined(alloc: Global, node: NodeId, older: Rows, newer: Rows) -> Result<Rows,
     Ok(rows)
 }
 
-/// The number of rows and nodes, and the bytes of the rows.
+/// The number of rows and nodes, the bytes of the rows, and whether the rows ascend strictly by bucket, number and version, as those of
+/// a partition do.
 #[derive(Clone, Copy, Debug, PartialEq, Eq)]
 pub struct Measure {
     pub rows: u32,
     pub nodes: u32,
     pub area: u32,
+    pub ordered: bool,
 }
 
 impl Measure {
@@ -154,7 +160,10 @@ impl Measure {
         ensures rows { self.new.rows ≡ min (self.old.rows + length rows.now) 4294967295 }
         ensures nodes { self.new.nodes ≡ min (self.old.nodes + 1) 4294967295 }
         ensures area { self.new.area ≡ min (self.old.area + rows_len rows.now) 4294967295 }
+        ensures ordered { self.new.ordered ≡ (self.old.ordered && is_ordered rows.now) }
     {
+        let ordered = is_ordered(rows.as_slice());
+        self.ordered = self.ordered && ordered;
         self.nodes = self.nodes.saturating_add(1);
         for row in rows.as_slice() {
             self.rows = self.rows.saturating_add(1);
@@ -191,7 +200,9 @@ impl Merger {
 
     /// The merged rows of the next node, or None behind the last entry of both parts.
     ///
-    /// They are what the node's rows are merged into, as they were read of the spans that the next entries give. Where the eye tells
+    /// They are what the node's rows are merged into, as they were read of the spans that the next entries give. A part is passed over
+    /// only where no node is left of it, or its next entry names a higher node, also where the bytes of the other part are bad. There
+    /// is at least one row. Where the eye tells
     /// its bytes, and both parts are in the grammar and have their headers, the lists of all calls together are exactly the merged
     /// rows. `BadRow` comes only with a place of the disk that, by the bytes read for this node, has a bad row, and `BadIndex` only
     /// with the place of an index entry, which is bad by the bytes that the eye tells: neither comes in the grammar. `Failed` comes
@@ -212,6 +223,7 @@ impl Merger {
         ensures region_len { self.new.region_len ≡ self.old.region_len }
         ensures kept { AreKept (E.LogEye.state eye.old).told self.new }
         ensures fit { IfOk result (λ found. IfSome found FitRows) }
+        ensures some { IfOk result (λ found. IfSome found (λ rows. 1 ≤ length rows)) }
         ensures read { IfOk result (λ found. IfSome found (IsJoinOf (E.LogEye.state eye.old).told self.old self.new)) }
         ensures end { result ≡ Ok None → both_left self.new ≡ 0 }
         ensures fewer { IfOk result (λ found. IfSome found (λ rows. both_left self.new < both_left self.old)) }
@@ -236,16 +248,18 @@ impl Merger {
         }
     }
 
-    /// The numbers of all merged rows, which are read once from the first node on. The merger stays where it stands.
+    /// The numbers of all merged rows, which are read once from the first node on, and whether they are in order. The merger stays where
+    /// it stands.
     ///
     /// Where the eye tells its bytes, both parts are in the grammar and have their headers, and the merged rows have fewer than 2^32
-    /// bytes, the numbers are exact. The eye takes at most 28 bytes for each node of each part, and the rows of both. The faults are
+    /// bytes, the answer is exact. Whatever was read, the three numbers are 0 together, and there are no more nodes than rows. The eye takes at most 28 bytes for each node of each part, and the rows of both. The faults are
     /// those of `next_node`.
     pub fn measure<E: LogEye>(&mut self, alloc: Global, eye: &mut E) -> Result<Measure, FetchFault>
         requires older { IsSeen (E.LogEye.state eye.old) (older_part self.old) }
         requires newer { IsSeen (E.LogEye.state eye.old) (newer_part self.old) }
         requires region_len { self.old.region_len ≡ (E.LogEye.state eye.old).region_len }
         ensures stays { self.new ≡ self.old }
+        ensures counted { IfOk result IsCounted }
         ensures same { SameEye (E.LogEye.state eye.old) (E.LogEye.state eye.new) }
         ensures counts { CountsFaults (IsErrOf result fetch_fault.Failed) (E.LogEye.state eye.old) (E.LogEye.state eye.new) }
         ensures bad_row { (region at : ℕ) → IsErrOf result (fetch_fault.BadRow region at) → BlamesRow (E.LogEye.state eye.old).told self.old (record { region = region; at = at }) }
@@ -260,6 +274,7 @@ impl Merger {
             rows: 0,
             nodes: 0,
             area: 0,
+            ordered: true,
         };
         while let Some(rows) = pass.next_node(alloc, eye)? {
             measure.add(&rows);

@@ -210,9 +210,9 @@ fn disk_of(alloc: Global, older: &[u8], newer: &[u8], fails: u64) -> Result<MemD
 fn look(alloc: Global, older: &[u8], newer: &[u8], fails: u64) -> Result<MemEye, DiskRefusal>
     requires older { length older.now ≤ 400000 }
     requires newer { length newer.now ≤ 400000 }
-    ensures older { IfOk result (λ eye. IsSeen eye OLDER) }
-    ensures newer { IfOk result (λ eye. IsSeen eye NEWER) }
-    ensures len { IfOk result (λ eye. eye.region_len ≡ 524288) }
+    ensures older { IfOk result (λ eye. IsSeen eye.eye OLDER) }
+    ensures newer { IfOk result (λ eye. IsSeen eye.eye NEWER) }
+    ensures len { IfOk result (λ eye. eye.eye.region_len ≡ 524288) }
 {
     let mut disk = disk_of(alloc, older, newer, fails)?;
     let _regions = disk.regions();
@@ -224,9 +224,9 @@ fn look(alloc: Global, older: &[u8], newer: &[u8], fails: u64) -> Result<MemEye,
 fn look_at(alloc: Global, older: &Rows, newer: &Rows, fails: u64) -> Result<MemEye, Fail>
     requires older { FitRows older.now }
     requires newer { FitRows newer.now }
-    ensures older { IfOk result (λ eye. IsSeen eye OLDER) }
-    ensures newer { IfOk result (λ eye. IsSeen eye NEWER) }
-    ensures len { IfOk result (λ eye. eye.region_len ≡ 524288) }
+    ensures older { IfOk result (λ eye. IsSeen eye.eye OLDER) }
+    ensures newer { IfOk result (λ eye. IsSeen eye.eye NEWER) }
+    ensures len { IfOk result (λ eye. eye.eye.region_len ≡ 524288) }
 {
     let older = body_of(alloc, older)?;
     let newer = body_of(alloc, newer)?;
@@ -269,6 +269,7 @@ fn parts_are_merged_node_by_node(rt: HostRuntime) -> Result<(), Fail> {
         rows: 15_000,
         nodes: 15_000,
         area: 10_000 * 24 + 5_000 * 25,
+        ordered: true,
     };
     assert_eq!(&rt; merger.measure(alloc, &mut eye).ok(), Some(measure));
     assert_eq!(&rt; eye.taken(), 28 * 20_000 - 2 * 14 + 480_000);

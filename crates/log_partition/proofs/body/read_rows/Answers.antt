@@ -1,7 +1,5 @@
-use Rattle.std.proofs.Common.{◌≡◌, ◌+◌, ◌<◌, ◌∷◌, [], ◌++◌, List, length, take, refl, sym, ap, ◌∙◌, subst, arith, false, length-append, length-take}
+use Rattle.std.proofs.Common.{◌<◌, ◌∷◌, [], List, length, take, refl, sym, ap, ◌∙◌, subst, arith, length-append, length-take}
 use Rattle.fine_model.specs.declared.Row.{Row}
-use Rattle.fine_model.specs.Merge.{is_ordered}
-use Rattle.fine_model.specs.Regions.{row_area}
 use Rattle.log_partition.specs.Bodies.{ReadSoFar}
 use Rattle.log_partition.proofs.RowsRead.{none_read, read_more, bad_row, unordered_row}
 use Rattle.log_partition.proofs.body.read_rows.Goals as goal

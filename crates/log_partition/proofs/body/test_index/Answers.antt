@@ -1,4 +1,4 @@
-use Rattle.std.proofs.Common.{◌≡◌, ◌≢◌, ◌+◌, ◌*◌, ◌<◌, ◌∙◌, sym, ap, subst, length, take, get_or, refl, arith, inr}
+use Rattle.std.proofs.Common.{◌≡◌, ◌*◌, ◌∙◌, sym, ap, subst, length, take, get_or, refl, arith, inr}
 use Rattle.std.proofs.lemmas.Bool.{true≢false}
 use Rattle.partition_index.specs.Entries.{bytes_of}
 use Rattle.fine_model.specs.Regions.{index_area, index_bytes}

@@ -1,4 +1,4 @@
-use Rattle.std.proofs.Common.{◌≡◌, ◌≤◌, ◌∙◌, arith}
+use Rattle.std.proofs.Common.{◌≤◌, ◌∙◌, arith}
 use Rattle.fine_model.specs.Merge.{encoded_len}
 use Rattle.log_partition.proofs.Written.{whole_partition}
 use Rattle.log_partition.proofs.encoding.encode.Goals as goal

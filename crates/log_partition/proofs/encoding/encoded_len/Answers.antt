@@ -1,4 +1,4 @@
-use Rattle.std.proofs.Common.{◌≡◌, ◌+◌, ◌<◌, ◌∷◌, [], ◌++◌, ◌∙◌, sym, ap, subst, length, take, get_or, arith, refl}
+use Rattle.std.proofs.Common.{◌+◌, ◌<◌, sym, ap, subst, length, take, arith, refl}
 use Rattle.fine_model.specs.Merge.{encoded_len, nodes_in}
 use Rattle.log_partition.specs.Encoding.{IsGreatestOf, greater}
 use Rattle.log_partition.proofs.Counted.{len_more, greatest_more, next_taken}

@@ -1,4 +1,4 @@
-use Rattle.std.proofs.Common.{◌≡◌, ◌++◌, ◌∙◌, sym, ap, length, take, length-take, arith, List, ℕ}
+use Rattle.std.proofs.Common.{◌++◌, ◌∙◌, sym, ap, List, ℕ}
 use Rattle.log_partition.proofs.Fields.{first_forty, forty_long}
 use Rattle.log_partition.proofs.encoding.write_front.Goals as goal
 

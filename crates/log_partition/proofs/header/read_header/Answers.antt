@@ -2,7 +2,7 @@ use Rattle.std.proofs.Common.{◌≡◌, ◌∙◌, sym, rules}
 use Rattle.std.specs.Prelude.{Ok, Some}
 use Rattle.fine_model.specs.Regions.{header_in}
 use Rattle.log_partition.specs.Headers.{read}
-use Rattle.log_partition.proofs.Heads.{header_same, in_good, in_bad}
+use Rattle.log_partition.proofs.Heads.{header_same}
 use Rattle.log_partition.proofs.header.read_header.Goals as goal
 
 pub returns-in_err-test_fields-clause-whole : goal.returns-in_err-test_fields-clause-whole

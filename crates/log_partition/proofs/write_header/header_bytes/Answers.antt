@@ -1,4 +1,4 @@
-use Rattle.std.proofs.Common.{◌≡◌, ◌∙◌, sym, append-nil}
+use Rattle.std.proofs.Common.{◌∙◌, sym, append-nil}
 use Rattle.log_partition.proofs.Fields.{whole, three, older, nothing_yet}
 use Rattle.log_partition.proofs.write_header.header_bytes.Goals as goal
 

@@ -1,4 +1,4 @@
-use Rattle.std.proofs.Common.{◌≡◌, ◌+◌, ◌*◌, ◌∷◌, [], ◌++◌, take, rules, arith}
+use Rattle.std.proofs.Common.{◌+◌, ◌*◌, ◌∷◌, [], ◌++◌, take, arith}
 use Rattle.std.specs.Prelude.{flat_map, slice_index}
 use Rattle.std.specs.Int.{to_be_bytes, w32}
 use Rattle.log_partition.proofs.Fields.{number_more, all_numbers, spelled}

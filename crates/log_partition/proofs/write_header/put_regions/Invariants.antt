@@ -1,4 +1,4 @@
-use Rattle.std.proofs.Common.{◌≡◌, ◌+◌, ◌*◌, ◌∷◌, ◌++◌, length, take}
+use Rattle.std.proofs.Common.{◌≡◌, ◌+◌, ◌*◌, ◌∷◌, length, take}
 use Rattle.std.specs.Prelude.{flat_map}
 use Rattle.std.specs.Int.{to_be_bytes, w32}
 use Rattle.log_partition.specs.Headers.{Fills}

@@ -1,10 +1,11 @@
-use Rattle.std.proofs.Common.{◌≡◌, ◌∙◌, Err, None, sym, ap, subst, arith, rules, refl}
+use Rattle.std.proofs.Common.{◌≡◌, ◌∙◌, ◌≤◌, length, Err, Some, None, sym, ap, subst, arith, rules, refl}
+use Rattle.std.specs.Prelude.{IfSome}
 use Rattle.fine_model.specs.declared.FetchFault.TheVariants as fault
 use Rattle.partition_index.specs.Parts.{IsSeen}
 use Rattle.partition_index.proofs.Looking.{seen_same, same_then}
 use Rattle.partition_merge.specs.Mergers.{Answers, HandsOut}
 use Rattle.partition_merge.proofs.Sources.{err_clause}
-use Rattle.partition_merge.proofs.Measured.{none_measured, more_measured, all_measured, within_most, blames_row}
+use Rattle.partition_merge.proofs.Measured.{none_measured, nothing_counted, more_measured, more_counted, all_measured, within_most, blames_row}
 use Rattle.partition_merge.proofs.merger.Merger.measure.Goals as goal
 
 pub loop-rows-init : goal.loop-rows-init
@@ -16,8 +17,9 @@ loop-rows-init g c = record {
   newer = c.new-pass.ensures.newer;
   region_len = c.new-pass.ensures.region_len;
   kept = c.new-pass.ensures.kept (g.E.LogEye.state c.args.eye.now).told;
+  amounts = nothing_counted _ refl refl refl;
   counted = λ older newer a b.
-      none_measured (g.E.LogEye.state c.args.eye.now) c.new-pass.result older newer _ _ refl refl refl (c.new-pass.ensures.stands (g.E.LogEye.state c.args.eye.now) older newer a b) (let all = c.new-pass.ensures.unread in omega (arith, all));
+      none_measured (g.E.LogEye.state c.args.eye.now) c.new-pass.result older newer _ _ refl refl refl refl (c.new-pass.ensures.stands (g.E.LogEye.state c.args.eye.now) older newer a b) (let all = c.new-pass.ensures.unread in omega (arith, all));
 }
 
 pub next_node-requires-clause-older : goal.next_node-requires-clause-older
@@ -55,11 +57,12 @@ loop-rows-preserved g c =
       newer = c.next_node.ensures.newer ∙ i.newer;
       region_len = c.next_node.ensures.region_len ∙ i.region_len;
       kept = search rules;
+      amounts = more_counted c.loop-rows.measure c.add.new.self c.in-Some.rows i.amounts (let some : IfSome (Some c.in-Some.rows) (λ rows. 1 ≤ length rows) = subst (λ found. IfSome found (λ rows. 1 ≤ length rows)) c.in-Some.is c.in_ok-rows.ensures.some in some) c.add.ensures.rows c.add.ensures.nodes c.add.ensures.area;
       counted = λ older newer a b.
           let m = i.counted older newer a b in
           let h : HandsOut (g.E.LogEye.state c.next_node.new.eye) c.next_node.new.self m.left_older m.left_newer c.in-Some.rows =
           subst (Answers (g.E.LogEye.state c.next_node.new.eye) c.next_node.new.self m.left_older m.left_newer) c.in-Some.is (c.in_ok-rows.ensures.exact m.left_older m.left_newer m.stands) in
-          more_measured (g.E.LogEye.state c.loop-rows.eye) (g.E.LogEye.state c.next_node.new.eye) c.loop-rows.pass c.next_node.new.self older newer c.in-Some.rows c.loop-rows.measure c.add.new.self _ m h (c.in_ok-rows.ensures.ahead m.left_older m.left_newer m.stands) c.add.ensures.rows c.add.ensures.nodes c.add.ensures.area;
+          more_measured (g.E.LogEye.state c.loop-rows.eye) (g.E.LogEye.state c.next_node.new.eye) c.loop-rows.pass c.next_node.new.self older newer c.in-Some.rows c.loop-rows.measure c.add.new.self _ m h (c.in_ok-rows.ensures.ahead m.left_older m.left_newer m.stands) c.add.ensures.rows c.add.ensures.nodes c.add.ensures.area c.add.ensures.ordered;
     }
 
 pub returns-clause-exact : goal.returns-clause-exact

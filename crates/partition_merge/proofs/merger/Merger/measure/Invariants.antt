@@ -2,7 +2,7 @@ use Rattle.std.proofs.Common.{◌≡◌, List}
 use Rattle.fine_model.specs.declared.Row.{Row}
 use Rattle.partition_index.specs.Parts.{SameEye}
 use Rattle.partition_index.specs.Search.{TellsRows}
-use Rattle.partition_merge.specs.Mergers.{AreKept, both_left, older_part, newer_part}
+use Rattle.partition_merge.specs.Mergers.{AreKept, IsCounted, both_left, older_part, newer_part}
 use Rattle.partition_merge.proofs.Measured.{Measured, most_of}
 use Rattle.partition_merge.proofs.merger.Merger.measure.Given as goal
 
@@ -15,6 +15,7 @@ invariant-loop-rows g l = record {
   newer : newer_part l.pass ≡ newer_part l.self;
   region_len : l.pass.region_len ≡ l.self.region_len;
   kept : AreKept (g.E.LogEye.state l.initial.eye).told l.pass;
+  amounts : IsCounted l.measure;
   counted : (older newer : List Row) → TellsRows (g.E.LogEye.state l.initial.eye) (older_part l.self) older → TellsRows (g.E.LogEye.state l.initial.eye) (newer_part l.self) newer → Measured (g.E.LogEye.state l.eye) l.pass older newer l.measure (most_of (g.E.LogEye.state l.initial.eye) l.self older newer);
 }
 

@@ -1,7 +1,7 @@
 use Rattle.std.proofs.Common.{◌≡◌, ◌∙◌, Ok, Err, sym, ap, subst, arith, rules, refl}
 use Rattle.partition_index.specs.Parts.{IsSeen}
 use Rattle.partition_index.proofs.Looking.{seen_same, same_then}
-use Rattle.partition_merge.proofs.Sources.{err_clause, source_peeked, peeked_both, none_peeked, none_first, takes_as, handed_out}
+use Rattle.partition_merge.proofs.Sources.{err_clause, source_peeked, peeked_both, none_peeked, none_first, takes_as, handed_out, first_lowest, second_lowest, some_joined}
 use Rattle.partition_merge.proofs.Taken.{next_is}
 use Rattle.partition_merge.proofs.merger.Merger.next_node.Goals as goal
 
@@ -143,3 +143,16 @@ returns-in-Ok-clause-read g c = record {
   of_newer = takes_as _ _ c.args.self.now.newer c.peek-2.new.self c.take-2.new.self c.in-Some.node c.in_ok-newer-2.newer (c.take.ensures.eye.same.told ∙ c.peek-2.ensures.eye.same.told ∙ c.peek.ensures.eye.same.told) c.peek-2.ensures.part c.peek-2.ensures.next c.in_ok-newer-2.ensures.read;
   joined = c.in-Ok.ensures.merged;
 }
+
+pub take-requires-clause-lowest : goal.take-requires-clause-lowest
+take-requires-clause-lowest g c κs within =
+    first_lowest c.peek.new.self.head c.in_ok-older.older c.in_ok-newer.newer c.in-Some.node c.in_ok-older.ensures.head (sym c.lower.ensures ∙ c.in-Some.is)
+
+pub take-requires-2-clause-lowest : goal.take-requires-2-clause-lowest
+take-requires-2-clause-lowest g c κs within =
+    second_lowest c.peek-2.new.self.head c.in_ok-older.older c.in_ok-newer.newer c.in-Some.node c.in_ok-newer.ensures.head (sym c.lower.ensures ∙ c.in-Some.is)
+
+pub returns-in-Ok-clause-some : goal.returns-in-Ok-clause-some
+returns-in-Ok-clause-some g c =
+    some_joined c.in-Some.node c.in_ok-older.older c.in_ok-newer.newer c.peek.new.self.head c.peek-2.new.self.head c.in_ok-older-2.older c.in_ok-newer-2.newer c.in-Ok.rows (sym c.lower.ensures ∙ c.in-Some.is)
+    c.in_ok-older.ensures.head c.in_ok-newer.ensures.head c.in_ok-older-2.ensures.some c.in_ok-newer-2.ensures.some c.in-Ok.ensures.merged

@@ -1,8 +1,8 @@
-use Rattle.std.proofs.Common.{◌≡◌, ◌∙◌, ◌+◌, None, sym, ap, subst, arith, refl}
+use Rattle.std.proofs.Common.{◌≡◌, ◌∙◌, ◌+◌, None, Some, sym, ap, subst, arith, refl, inl}
 use Rattle.partition_index.proofs.Exact.{nodes_small}
 use Rattle.fine_model.specs.RowBytes.{rows_len}
 use Rattle.partition_merge.specs.Mergers.{IsEntryOf, KeepsHead, SourceAt, behind, kept_count}
-use Rattle.partition_merge.proofs.Sources.{none_of_node, other_node, same_at_head, span_kept, step_left, own_left, fit_read, source_later, nodes_differ, nodes_same, taken_of}
+use Rattle.partition_merge.proofs.Sources.{none_of_node, other_node, same_at_head, span_kept, step_left, own_left, fit_read, source_later, nodes_differ, nodes_same, taken_of, past_entry, some_read, Lowest}
 use Rattle.partition_merge.specs.declared.merger.Source.{Source}
 use Rattle.partition_merge.proofs.merger.Source.take.Goals as goal
 
@@ -67,3 +67,18 @@ returns-clause-read g c =
     let there = k.there in
     let after : Source = record { part = s.part; next = s.next + 1; head = None } in
     taken_of c.read_span.result eye.told c.args.node s after c.in-Some.span k.span c.read_span.ensures.holds (omega (arith, there))
+
+pub returns-then-ne-clause-read : goal.returns-then-ne-clause-read
+returns-then-ne-clause-read g c =
+    let eye = g.E.LogEye.state c.args.eye.now in
+    let s = c.args.self.now in
+    let k : IsEntryOf eye.told s (c.in-Some.entry, c.in-Some.span) = subst (KeepsHead eye.told s) c.in-Some.is c.requires.kept in
+    let lowest : Lowest c.args.node (Some (c.in-Some.entry, c.in-Some.span)) = subst (Lowest c.args.node) c.in-Some.is c.requires.lowest in
+    inl (c.new-then-ne.ensures, refl, past_entry eye.told s c.in-Some.entry c.args.node k.entry lowest (nodes_differ c.in-Some.entry.node c.args.node c.if-ne.ensures))
+
+pub returns-clause-some : goal.returns-clause-some
+returns-clause-some g c =
+    let eye = g.E.LogEye.state c.args.eye.now in
+    let s = c.args.self.now in
+    let k : IsEntryOf eye.told s (c.in-Some.entry, c.in-Some.span) = subst (KeepsHead eye.told s) c.in-Some.is c.requires.kept in
+    some_read c.read_span.result eye.told s.part c.args.node c.in-Some.span _ (let n = k.span in n.counted.0) c.read_span.ensures.holds

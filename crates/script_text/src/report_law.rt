@@ -1,9 +1,10 @@
 //! What a report's text says, the contract of a function that does nothing.
 
-ghost use Rattle.script_text.specs.Marks.{TextTells};
+ghost use Rattle.script_text.specs.Marks.{TextTells, RunTells};
 
 /// Where no key or value holds a line feed, the text of a report fixes for each transaction whether it was committed and at
 /// which place in which epoch, aborted, refused and why, or not run.
 pub fn text_law()
     ensures text { TextTells }
+    ensures run { RunTells }
 {}

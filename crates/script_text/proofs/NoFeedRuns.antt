@@ -4,7 +4,7 @@ use Rattle.std.specs.Prelude.{flat_map}
 use Rattle.std.specs.List.{AllByRecursion, AllZip, list_any, IsDistinct}
 use Rattle.std.proofs.Math.Dec.{eqb}
 use Rattle.std.proofs.Math.Seq.{take-suc}
-use Rattle.std.proofs.lemmas.List.{length-map}
+use Rattle.std.proofs.lemmas.List.{length-map, take_all}
 use Rattle.std.proofs.lemmas.Bool.{ne_eqb, eqb-true}
 use Rattle.std.proofs.lemmas.Option.{slice_get_within, slice_get_cases}
 use Rattle.std.proofs.lemmas.Map.Steps.{length-le_from_distinct_below}
@@ -22,7 +22,7 @@ use Rattle.fine_model.specs.Report.{all_outcomes}
 use Rattle.fine_model.proofs.HistoryLaws.{last_epoch-from}
 use Rattle.fine_model.proofs.Lists.{all_at}
 use Rattle.fine_model.proofs.Sets.{all_append}
-use Rattle.script_text.specs.Marks.{CallHasNoFeed, ReplyHasNoFeed, IsTold, IsPlainRun, RunTells}
+use Rattle.script_text.specs.Marks.{CallHasNoFeed, ReplyHasNoFeed, IsTold, IsPlainRun, RunTells, MapsStay}
 use Rattle.script_text.proofs.NoFeedReplies.{MapHasNoFeed, WriteHasNoFeed, after_all, replies_all}
 use Rattle.script_text.proofs.NoFeedScripts.{TxnHasNoFeed, script_all}
 use Rattle.script_text.proofs.Telling.{text_tells}
@@ -131,13 +131,13 @@ module _ (script : List ScriptTxn) (outs : List Outcome) (rows : List Row) (e : 
   map_before : (k : ℕ) → AllByRecursion WritesHaveNoFeed (take k history) → MapHasNoFeed (map_at rows (take k history))
   map_before k writes = after_all (map_of rows) (all_writes (take k history)) map_plain (all_flat WriteHasNoFeed (λ (c : Commit). c.entry.writes) (take k history) writes)
 
-  writes_before : (k : ℕ) → k ≤ length history → AllByRecursion WritesHaveNoFeed (take k history)
-  writes_before zero within = tt
-  writes_before (suc k) within = by (slice_get_cases history k).1 (writes_before k (omega arith))
+  writes_before : (k : ℕ) → AllByRecursion WritesHaveNoFeed (take k history)
+  writes_before zero = tt
+  writes_before (suc k) = by (slice_get_cases history k).1 (writes_before k)
     where
       by : ((c : Commit) × (k < length history) × (slice_get history k ≡ Some c) × (get_or history k c ≡ c)) ⊎ ((length history ≤ k) × (slice_get history k ≡ None))
           → AllByRecursion WritesHaveNoFeed (take k history) → AllByRecursion WritesHaveNoFeed (take (suc k) history)
-      by (inr past) writes = absurd (omega (arith, past.0))
+      by (inr past) writes = subst (AllByRecursion WritesHaveNoFeed) (take_all k history past.0 ∙ sym (take_all (suc k) history (omega (arith, past.0)))) writes
       by (inl at_) writes =
           let c : Commit = at_.0 in
           let next = legal.each k c at_.2 in
@@ -145,11 +145,13 @@ module _ (script : List ScriptTxn) (outs : List Outcome) (rows : List Row) (e : 
           let more : take (suc k) history ≡ take k history ++ c ∷ [] = take-suc history k c at_.1 ∙ ap (λ d. take k history ++ d ∷ []) at_.3 in
           subst (AllByRecursion WritesHaveNoFeed) (sym more) (all_append WritesHaveNoFeed (take k history) (c ∷ []) writes (own, tt))
 
+  map_stays : (k : ℕ) → MapHasNoFeed (map_at rows (take k history))
+  map_stays k = map_before k (writes_before k)
+
   replies_at : (k : ℕ) (c : Commit) → slice_get history k ≡ Some c → AllByRecursion ReplyHasNoFeed c.entry.replies
   replies_at k c is =
-      let within = slice_get_within history k c is in
       let next = legal.each k c is in
-      subst (AllByRecursion ReplyHasNoFeed) (sym next.replies) (replies_all (map_at rows (take k history)) c.entry.calls (map_before k (writes_before k (omega (arith, within)))) (calls_at k c is)).0
+      subst (AllByRecursion ReplyHasNoFeed) (sym next.replies) (replies_all (map_at rows (take k history)) c.entry.calls (map_stays k) (calls_at k c is)).0
 
   told_at : (i : ℕ) (o : Outcome) → slice_get outs i ≡ Some o → IsTold o
   told_at i (outcome.Committed zero epoch entry) is = absurd (are.history_of.no_place_zero i (record { entry = entry; epoch = epoch }) is)
@@ -171,6 +173,11 @@ run_told : (script : List ScriptTxn) (ran : Ran) → IsPlainRun script ran → A
 run_told script ran run =
     let read = script_all run.bytes script run.spelled in
     all_front IsTold ran.outcomes _ (all_told script (all_outcomes script ran.outcomes) run.rows run.e run.history read.1 read.0 run.plain run.outcomes run.legal run.epochs)
+
+pub maps_stay : MapsStay
+maps_stay script ran run =
+    let read = script_all run.bytes script run.spelled in
+    map_stays script (all_outcomes script ran.outcomes) run.rows run.e run.history read.1 read.0 run.plain run.outcomes run.legal run.epochs
 
 pub run_tells : RunTells
 run_tells one other r s p q e = text_tells one other r s (run_told one r p) (run_told other s q) e

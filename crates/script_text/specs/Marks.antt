@@ -1,5 +1,5 @@
 -- What the text of a report says of each transaction.
-use Rattle.std.specs.Prelude.{◌≡◌, ◌≢◌, ℕ, ◌≤◌, List, map, Ok, ⊤}
+use Rattle.std.specs.Prelude.{◌≡◌, ◌≢◌, ℕ, ◌≤◌, List, map, take, Ok, ⊤}
 use Rattle.std.specs.List.{AllByRecursion}
 use Rattle.fine_model.specs.declared.Call.{Call}
 use Rattle.fine_model.specs.declared.Reply.{Reply}
@@ -14,7 +14,7 @@ use Rattle.fine_model.specs.declared.Outcome.TheVariants as outcome
 use Rattle.fine_model.specs.Map.{Pair}
 use Rattle.fine_model.specs.RowBytes.{greatest}
 use Rattle.fine_model.specs.Trees.{map_of}
-use Rattle.fine_model.specs.History.{Commit, IsLegal, last_epoch}
+use Rattle.fine_model.specs.History.{Commit, IsLegal, map_at, last_epoch}
 use Rattle.fine_model.specs.Outcomes.{AreOutcomes}
 use Rattle.fine_model.specs.Script.{script_of}
 use Rattle.fine_model.specs.Report.{report, all_outcomes}
@@ -93,3 +93,7 @@ pub record IsPlainRun (script : List ScriptTxn) (ran : Ran) : Type 0 where
 -- Where no key or value of the maps at entry holds a line feed, reports of the same text say the same of each transaction.
 abbrev pub RunTells : Type 0
 RunTells = (one other : List ScriptTxn) (r s : Ran) → IsPlainRun one r → IsPlainRun other s → report one r ≡ report other s → marks one r ≡ marks other s
+
+-- after any number of such a run's commits the map still holds none
+abbrev pub MapsStay : Type 0
+MapsStay = (script : List ScriptTxn) (ran : Ran) (run : IsPlainRun script ran) (k : ℕ) → AllByRecursion PairHasNoFeed (map_at run.rows (take k run.history))

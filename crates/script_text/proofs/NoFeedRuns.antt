@@ -83,6 +83,14 @@ epoch_within e [] k c on is = absurd cc
 epoch_within e (d ∷ ds) zero c on is = let same : d ≡ c = cc in omega (arith, ap (λ (x : Commit). x.epoch) same, last_epoch-from d.epoch ds on.1)
 epoch_within e (d ∷ ds) (suc k) c on is = epoch_within d.epoch ds k c on.1 is
 
+last_within : (e : ℕ) (history : List Commit) → EpochsGoOn e history → last_epoch e history ≤ e + length history
+last_within e [] on = omega arith
+last_within e (c ∷ cs) on =
+    elim on.0 as (λ _. last_epoch c.epoch cs ≤ e + length (c ∷ cs)) [
+      | inl same ↦ omega (arith, last_within c.epoch cs on.1, same)
+      | inr more ↦ omega (arith, last_within c.epoch cs on.1, more)
+    ]
+
 epochs_go_on : (e : ℕ) (history : List Commit) → EpochsFollow e history → EpochsGoOn e history
 epochs_go_on e [] follow = tt
 epochs_go_on e (c ∷ cs) follow = (inr follow.0, follow.1)
@@ -91,7 +99,7 @@ epochs_go_on e (c ∷ cs) follow = (inr follow.0, follow.1)
 
 module _ (script : List ScriptTxn) (outs : List Outcome) (rows : List Row) (e : ℕ) (history : List Commit)
     (few : length script ≤ 100000) (plain : AllByRecursion TxnHasNoFeed script) (map_plain : MapHasNoFeed (map_of rows))
-    (are : AreOutcomes script e outs history) (legal : IsLegal rows history) (epochs : last_epoch e history ≤ greatest) where
+    (are : AreOutcomes script e outs history) (legal : IsLegal rows history) (start : e ≤ greatest) where
   -- the place of a commit in the script
   place_of : (k : ℕ) (c : Commit) → slice_get history k ≡ Some c → (c.entry.turn - 1 < length outs) × (slice_get outs (c.entry.turn - 1) ≡ Some (outcome.Committed (k + 1) c.epoch c.entry))
   place_of k c is =
@@ -160,8 +168,10 @@ module _ (script : List ScriptTxn) (outs : List Outcome) (rows : List Row) (e : 
       let next : suc place ≡ place + 1 = omega arith in
       let at_ = are.history_of.each i place c (is ∙ ap (λ n. Some (outcome.Committed n epoch entry)) next) in
       let within = slice_get_within history place c at_.0 in
-      let bound = epoch_within e history place c (epochs_go_on e history are.epochs) at_.0 in
-      ((calls_at place c at_.0, replies_at place c at_.0), (omega (arith, within, few_commits), omega (arith, bound, epochs)))
+      let on = epochs_go_on e history are.epochs in
+      let bound = epoch_within e history place c on at_.0 in
+      let last = last_within e history on in
+      ((calls_at place c at_.0, replies_at place c at_.0), (omega (arith, within, few_commits), omega (arith, bound, last, few_commits, start)))
   told_at i outcome.Aborted is = (tt, tt)
   told_at i (outcome.Refused why) is = (tt, tt)
   told_at i outcome.NotRun is = (tt, tt)
@@ -172,12 +182,12 @@ module _ (script : List ScriptTxn) (outs : List Outcome) (rows : List Row) (e : 
 run_told : (script : List ScriptTxn) (ran : Ran) → IsPlainRun script ran → AllByRecursion IsTold ran.outcomes
 run_told script ran run =
     let read = script_all run.bytes script run.spelled in
-    all_front IsTold ran.outcomes _ (all_told script (all_outcomes script ran.outcomes) run.rows run.e run.history read.1 read.0 run.plain run.outcomes run.legal run.epochs)
+    all_front IsTold ran.outcomes _ (all_told script (all_outcomes script ran.outcomes) run.rows run.e run.history read.1 read.0 run.plain run.outcomes run.legal run.epoch)
 
 pub maps_stay : MapsStay
 maps_stay script ran run =
     let read = script_all run.bytes script run.spelled in
-    map_stays script (all_outcomes script ran.outcomes) run.rows run.e run.history read.1 read.0 run.plain run.outcomes run.legal run.epochs
+    map_stays script (all_outcomes script ran.outcomes) run.rows run.e run.history read.1 read.0 run.plain run.outcomes run.legal run.epoch
 
 pub run_tells : RunTells
 run_tells one other r s p q e = text_tells one other r s (run_told one r p) (run_told other s q) e

@@ -1,5 +1,5 @@
 -- What the text of a report says of each transaction.
-use Rattle.std.specs.Prelude.{◌≡◌, ◌≢◌, ℕ, ◌≤◌, List, map, take, Ok, ⊤}
+use Rattle.std.specs.Prelude.{◌≡◌, ◌≢◌, ℕ, ◌<◌, ◌≤◌, ◌^◌, List, map, take, Ok, ⊤}
 use Rattle.std.specs.List.{AllByRecursion}
 use Rattle.fine_model.specs.declared.Call.{Call}
 use Rattle.fine_model.specs.declared.Reply.{Reply}
@@ -14,7 +14,7 @@ use Rattle.fine_model.specs.declared.Outcome.TheVariants as outcome
 use Rattle.fine_model.specs.Map.{Pair}
 use Rattle.fine_model.specs.RowBytes.{greatest}
 use Rattle.fine_model.specs.Trees.{map_of}
-use Rattle.fine_model.specs.History.{Commit, IsLegal, map_at, last_epoch}
+use Rattle.fine_model.specs.History.{Commit, IsLegal, map_at}
 use Rattle.fine_model.specs.Outcomes.{AreOutcomes}
 use Rattle.fine_model.specs.Script.{script_of}
 use Rattle.fine_model.specs.Report.{report, all_outcomes}
@@ -63,9 +63,9 @@ abbrev pub OutcomeHasNoFeed : Outcome → Type 0
 OutcomeHasNoFeed (outcome.Committed place epoch entry) = AllByRecursion CallHasNoFeed entry.calls × AllByRecursion ReplyHasNoFeed entry.replies
 OutcomeHasNoFeed _ = ⊤
 
--- a place and an epoch within the format's bounds
+-- a place and an epoch of 64 bits
 abbrev pub FitsMark : TxnMark → Type 0
-FitsMark (committed place epoch) = (place ≤ greatest) × (epoch ≤ greatest)
+FitsMark (committed place epoch) = (place < 2 ^ 64) × (epoch < 2 ^ 64)
 FitsMark _ = ⊤
 
 -- an outcome that its lines tell
@@ -77,18 +77,18 @@ abbrev pub TextTells : Type 0
 TextTells = (one other : List ScriptTxn) (r s : Ran) → AllByRecursion IsTold r.outcomes → AllByRecursion IsTold s.outcomes
     → report one r ≡ report other s → marks one r ≡ marks other s
 
--- A run of a script that some bytes spell: its outcomes have a legal history behind rows of whose map no key or value holds a
--- line feed, with epochs within the format's bounds.
+-- A run of a script that some bytes spell: its outcomes have a legal history behind an epoch of the format, and behind rows of
+-- whose map no key or value holds a line feed.
 pub record IsPlainRun (script : List ScriptTxn) (ran : Ran) : Type 0 where
   pub bytes : List ℕ
   pub spelled : script_of bytes ≡ Ok script
   pub rows : List Row
   pub plain : AllByRecursion PairHasNoFeed (map_of rows)
   pub e : ℕ
+  pub epoch : e ≤ greatest
   pub history : List Commit
   pub outcomes : AreOutcomes script e (all_outcomes script ran.outcomes) history
   pub legal : IsLegal rows history
-  pub epochs : last_epoch e history ≤ greatest
 
 -- Where no key or value of the maps at entry holds a line feed, reports of the same text say the same of each transaction.
 abbrev pub RunTells : Type 0

@@ -10,3 +10,6 @@ pub mod Following
 pub mod Reaching
 pub mod Feeds
 pub mod Telling
+pub mod NoFeedReplies
+pub mod NoFeedScripts
+pub mod NoFeedRuns

@@ -1,8 +1,9 @@
 -- What the text of a report says of each transaction.
-use Rattle.std.specs.Prelude.{◌≡◌, ◌≢◌, ℕ, ◌≤◌, List, map, ⊤}
+use Rattle.std.specs.Prelude.{◌≡◌, ◌≢◌, ℕ, ◌<◌, ◌≤◌, ◌^◌, List, map, take, Ok, ⊤}
 use Rattle.std.specs.List.{AllByRecursion}
 use Rattle.fine_model.specs.declared.Call.{Call}
 use Rattle.fine_model.specs.declared.Reply.{Reply}
+use Rattle.fine_model.specs.declared.Row.{Row}
 use Rattle.fine_model.specs.declared.ScriptTxn.{ScriptTxn}
 use Rattle.fine_model.specs.declared.Why.{Why}
 use Rattle.fine_model.specs.declared.Outcome.{Outcome}
@@ -12,6 +13,10 @@ use Rattle.fine_model.specs.declared.Reply.TheVariants as reply
 use Rattle.fine_model.specs.declared.Outcome.TheVariants as outcome
 use Rattle.fine_model.specs.Map.{Pair}
 use Rattle.fine_model.specs.RowBytes.{greatest}
+use Rattle.fine_model.specs.Trees.{map_of}
+use Rattle.fine_model.specs.History.{Commit, IsLegal, map_at}
+use Rattle.fine_model.specs.Outcomes.{AreOutcomes}
+use Rattle.fine_model.specs.Script.{script_of}
 use Rattle.fine_model.specs.Report.{report, all_outcomes}
 
 -- what a report says of a transaction: committed at a place in an epoch, aborted, refused with a word, or not run
@@ -58,9 +63,9 @@ abbrev pub OutcomeHasNoFeed : Outcome → Type 0
 OutcomeHasNoFeed (outcome.Committed place epoch entry) = AllByRecursion CallHasNoFeed entry.calls × AllByRecursion ReplyHasNoFeed entry.replies
 OutcomeHasNoFeed _ = ⊤
 
--- a place and an epoch within the format's bounds
+-- a place and an epoch of 64 bits
 abbrev pub FitsMark : TxnMark → Type 0
-FitsMark (committed place epoch) = (place ≤ greatest) × (epoch ≤ greatest)
+FitsMark (committed place epoch) = (place < 2 ^ 64) × (epoch < 2 ^ 64)
 FitsMark _ = ⊤
 
 -- an outcome that its lines tell
@@ -71,3 +76,24 @@ IsTold o = OutcomeHasNoFeed o × FitsMark (mark_of o)
 abbrev pub TextTells : Type 0
 TextTells = (one other : List ScriptTxn) (r s : Ran) → AllByRecursion IsTold r.outcomes → AllByRecursion IsTold s.outcomes
     → report one r ≡ report other s → marks one r ≡ marks other s
+
+-- A run of a script that some bytes spell: its outcomes have a legal history behind an epoch of the format, and behind rows of
+-- whose map no key or value holds a line feed.
+pub record IsPlainRun (script : List ScriptTxn) (ran : Ran) : Type 0 where
+  pub bytes : List ℕ
+  pub spelled : script_of bytes ≡ Ok script
+  pub rows : List Row
+  pub plain : AllByRecursion PairHasNoFeed (map_of rows)
+  pub e : ℕ
+  pub epoch : e ≤ greatest
+  pub history : List Commit
+  pub outcomes : AreOutcomes script e (all_outcomes script ran.outcomes) history
+  pub legal : IsLegal rows history
+
+-- Where no key or value of the maps at entry holds a line feed, reports of the same text say the same of each transaction.
+abbrev pub RunTells : Type 0
+RunTells = (one other : List ScriptTxn) (r s : Ran) → IsPlainRun one r → IsPlainRun other s → report one r ≡ report other s → marks one r ≡ marks other s
+
+-- after any number of such a run's commits the map still holds none
+abbrev pub MapsStay : Type 0
+MapsStay = (script : List ScriptTxn) (ran : Ran) (run : IsPlainRun script ran) (k : ℕ) → AllByRecursion PairHasNoFeed (map_at run.rows (take k run.history))

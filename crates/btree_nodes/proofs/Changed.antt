@@ -1,6 +1,6 @@
 -- A row that is done to a node.
 use Rattle.std.proofs.Common.{◌≡◌, ◌≢◌, inl, inr, ⊎_elim, ℕ, ◌≤◌, ◌==◌, Bool, true, false, cond, ◌&&◌, ◌||◌, if◌then◌else◌, nat_eq, eq-eqb, ne_eqb, List, [], ◌∷◌, ◌++◌, Option, Some, None, is_some, Result, Ok, Err, refl, sym, ap, subst, ◌∙◌, true≢false, append-nil}
-use Rattle.std.specs.Prelude.{IsSome, IfSome, OnOk, OnErr, unwrap_or, option_map}
+use Rattle.std.specs.Prelude.{IsSome, OnOk, OnErr, unwrap_or, option_map}
 use Rattle.std.specs.Cmp.{nat_eq_equiv}
 use Rattle.std.specs.Map.{keys_of, lookup}
 use Rattle.std.proofs.lemmas.Map.{lookup-set_value, keys-set_value}

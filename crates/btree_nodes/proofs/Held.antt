@@ -1,5 +1,5 @@
 -- A bucket that holds what rows leave.
-use Rattle.std.proofs.Common.{◌≡◌, ◌≢◌, ◌⊎◌, ℕ, inl, inr, ⊎_elim, List, [], ◌++◌, Option, Some, None, is_some, refl, sym, ap, subst, ◌∙◌, true≢false, append_assoc, nat_eq}
+use Rattle.std.proofs.Common.{◌≡◌, ◌≢◌, ℕ, ⊎_elim, List, [], ◌++◌, Option, Some, None, is_some, refl, sym, ap, subst, ◌∙◌, true≢false, append_assoc, nat_eq}
 use Rattle.std.specs.Prelude.{IsSome, IfSome, unwrap_or}
 use Rattle.std.specs.Map.{lookup}
 use Rattle.fine_model.specs.declared.Row.{Row}

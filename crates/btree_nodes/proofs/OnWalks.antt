@@ -1,5 +1,5 @@
 -- What a scan loads: numbers that it may meet, of which on sound rows none is one that the rows leave broken.
-use Rattle.std.proofs.Common.{◌≡◌, ◌≢◌, ◌⊎◌, inl, inr, ⊎_elim, ℕ, zero, suc, ◌+◌, ◌-◌, ◌<◌, Bool, true, false, cond, List, [], ◌∷◌, ◌++◌, drop, Option, Some, None, refl, sym, ap, subst, ◌∙◌, arith}
+use Rattle.std.proofs.Common.{◌≡◌, ◌≢◌, ⊎_elim, ℕ, zero, suc, ◌+◌, ◌-◌, ◌<◌, Bool, true, false, cond, List, [], ◌∷◌, ◌++◌, Some, None, sym, ap, subst, ◌∙◌, arith}
 use Rattle.std.specs.Prelude.{Contains}
 use Rattle.std.proofs.lemmas.List.Elements.{Contains-append_left, Contains-append_right, Contains-append_cases}
 use Rattle.fine_model.specs.declared.Row.{Row}
@@ -20,7 +20,7 @@ use Rattle.btree_nodes.proofs.Held.{agrees_loaded, holds_loaded}
 use Rattle.btree_nodes.proofs.OnWays.{given_none, head_whole}
 use Rattle.btree_nodes.proofs.Paths.{SaysHead}
 use Rattle.btree_nodes.proofs.Scanned.{IsChildOf, cut_off}
-use Rattle.btree_nodes.proofs.ScanSteps.{met_from, met_first, met_on}
+use Rattle.btree_nodes.proofs.ScanSteps.{met_first, met_on}
 use Rattle.btree_nodes.proofs.Sound.{leaf_whole}
 
 module _ (low high : List ℕ) where

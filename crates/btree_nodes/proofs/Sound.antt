@@ -1,9 +1,8 @@
 -- On sound rows, the way that a bucket gives is the way in the rows' tree.
-use Rattle.std.proofs.Common.{◌≡◌, ◌≢◌, ◌⊎◌, ℕ, zero, suc, ◌+◌, ◌∷◌, ◌-◌, nat_lt, nat_le, inl, inr, ⊎_elim, Bool, true, false, cond, ◌&&◌, List, [], ◌++◌, Option, Some, None, Result, Ok, Err, is_some, refl, sym, ap, subst, ◌∙◌, true≢false}
-use Rattle.std.specs.Prelude.{IsSome, IfSome, option_map, unwrap_or}
+use Rattle.std.proofs.Common.{◌≡◌, ◌≢◌, ◌⊎◌, ℕ, zero, suc, ◌+◌, ◌∷◌, ◌-◌, nat_lt, nat_le, inl, inr, ⊎_elim, Bool, true, false, cond, ◌&&◌, List, [], ◌++◌, Option, Some, None, is_some, refl, sym, ap, subst, ◌∙◌, true≢false}
+use Rattle.std.specs.Prelude.{IsSome, option_map, unwrap_or}
 use Rattle.fine_model.specs.declared.Row.{Row}
 use Rattle.fine_model.specs.declared.Rec.{Rec}
-use Rattle.fine_model.specs.declared.FetchFault.{FetchFault}
 use Rattle.fine_model.specs.declared.Node.{Node}
 use Rattle.fine_model.specs.declared.Node.TheVariants as node
 use Rattle.fine_model.specs.declared.NodeId.{NodeId}
@@ -16,11 +15,9 @@ use Rattle.fine_model.proofs.FitPaths.{fit_law}
 use Rattle.fine_model.proofs.Stated.{leaf_law}
 use Rattle.node_cache.specs.declared.cached.Cached.{Cached}
 use Rattle.node_cache.specs.Cache.{Cache, cached}
-use Rattle.node_cache.specs.Given.{given, IsCached, IsLoaded}
+use Rattle.node_cache.specs.Given.{given, IsCached}
 use Rattle.btree_nodes.specs.Trees.{Holds, unfit_in, pairs_in}
-use Rattle.btree_nodes.specs.Calls.{IsFirstUnfit, IsFound, Answers}
-use Rattle.btree_nodes.specs.declared.fault.TreeFault.{TreeFault}
-use Rattle.btree_nodes.specs.declared.fault.TreeFault.TheVariants.{Source, Unfit, BucketFull, Number, NoMemory}
+use Rattle.btree_nodes.specs.Calls.{IsFirstUnfit}
 use Rattle.btree_nodes.proofs.Ways.{child_is}
 
 -- what a bucket does not have it gives as broken

@@ -1,7 +1,7 @@
 -- One step down a tree.
 use Rattle.std.proofs.Common.{◌≡◌, ℕ, zero, suc, ◌+◌, ◌-◌, ◌<◌, ◌≤◌, ◌==◌, nat_lt, Bool, true, false, ◌&&◌, not, if◌then◌else◌, List, [], ◌∷◌, length, slice_get, slice_index, refl, sym, ap, subst, ◌∙◌, true≢false, arith, Option, Some, None, option_map, unwrap_or, ltb-true, ne_eqb}
 use Rattle.std.proofs.lemmas.Bool.{ltb-false}
-use Rattle.std.specs.Prelude.{IsSome, IfSome}
+use Rattle.std.specs.Prelude.{IsSome}
 use Rattle.std.specs.List.{list_all}
 use Rattle.fine_model.specs.declared.Node.TheVariants as node
 use Rattle.fine_model.specs.Map.{is_below}

@@ -1,5 +1,5 @@
 -- Adding to an absent key, and adding on sound rows.
-use Rattle.std.proofs.Common.{◌≡◌, ℕ, Bool, true, false, if◌then◌else◌, List, [], ◌∷◌, ◌++◌, Option, Some, None, Result, Err, ℤ, pos, negsuc, ◌+ℤ◌, FitsSigned, w64, refl, sym, ap, subst, ◌∙◌, arith}
+use Rattle.std.proofs.Common.{◌≡◌, ℕ, Bool, true, false, if◌then◌else◌, List, [], ◌∷◌, ◌++◌, None, Result, Err, ℤ, pos, negsuc, ◌+ℤ◌, FitsSigned, w64, refl, sym, ap, subst, ◌∙◌, arith}
 use Rattle.std.proofs.lemmas.Int.{ints}
 use Rattle.std.proofs.lemmas.Fmt.{length_signed_le, decimal_nonempty}
 use Rattle.fine_model.specs.declared.Call.TheVariants as call

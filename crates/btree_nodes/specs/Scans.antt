@@ -1,13 +1,11 @@
 -- What a scan of a tree finds.
-use Rattle.std.specs.Prelude.{◌≡◌, ℕ, zero, suc, ◌-◌, if◌then◌else◌, List, [], ◌∷◌, ◌++◌, take, drop, length, slice_get, Some, None, Result, Ok, Err}
+use Rattle.std.specs.Prelude.{◌≡◌, ℕ, ◌-◌, List, ◌++◌, take, drop, length, slice_get, Some, Result, Ok, Err}
 use Rattle.fine_model.specs.declared.FetchFault.{FetchFault}
 use Rattle.fine_model.specs.declared.NodeId.{NodeId}
-use Rattle.fine_model.specs.declared.Node.{Node}
-use Rattle.fine_model.specs.declared.Node.TheVariants as node
 use Rattle.fine_model.specs.Map.{Pair, between}
 use Rattle.fine_model.specs.Nodes.{Content}
-use Rattle.fine_model.specs.Paths.{meets, seps_of, scan_kids, scan_from, unfit_between}
-use Rattle.fine_model.specs.Trees.{Bounds, whole, kids_of, pairs_of}
+use Rattle.fine_model.specs.Paths.{seps_of, scan_kids, scan_from}
+use Rattle.fine_model.specs.Trees.{Bounds, kids_of}
 use Rattle.node_cache.specs.Cache.{Cache}
 use Rattle.btree_nodes.specs.declared.descent.Step.{Step}
 use Rattle.btree_nodes.specs.declared.fault.TreeFault.{TreeFault}

@@ -194,9 +194,9 @@ fn plan_of(alloc: Global, fails: u64) -> Result<FaultPlan, AllocError> {
 fn disk_of(alloc: Global, older: &[u8], newer: &[u8], fails: u64) -> Result<MemDisk, DiskRefusal>
     requires older { length older.now ≤ 400000 }
     requires newer { length newer.now ≤ 400000 }
-    ensures count { IfOk result (λ disk. disk.regions ≡ 2) }
-    ensures len { IfOk result (λ disk. disk.region_len ≡ 524288) }
-    ensures synced { IfOk result (λ disk. disk.unsynced ≡ []) }
+    ensures count { IfOk result (λ disk. disk.disk.regions ≡ 2) }
+    ensures len { IfOk result (λ disk. disk.disk.region_len ≡ 524288) }
+    ensures synced { IfOk result (λ disk. disk.disk.unsynced ≡ []) }
 {
     let plan = plan_of(alloc, fails)?;
     let mut disk = MemDisk::new(alloc, 2, LEN, plan)?;

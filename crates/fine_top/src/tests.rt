@@ -36,16 +36,16 @@ struct Printed {
 
 // A new disk of four regions of the least length.
 fn small(alloc: Global, plan: FaultPlan) -> Result<MemDisk, Fail>
-    ensures { IfOk result (λ disk. IsGeometry (disk.regions, disk.region_len) × (disk.unsynced ≡ []) × (disk.eyes ≡ [])) }
+    ensures { IfOk result (λ disk. IsGeometry (disk.disk.regions, disk.disk.region_len) × (disk.disk.unsynced ≡ []) × (disk.disk.eyes ≡ [])) }
 {
     Ok(MemDisk::new(alloc, 4, LENGTH, plan)?)
 }
 
 // The disk after a crash, which has nothing unsynced.
 fn crash(disk: MemDisk, picks: &[u8]) -> Result<MemDisk, Fail>
-    requires geometry { IsGeometry (disk.regions, disk.region_len) }
-    requires no_eyes { disk.eyes ≡ [] }
-    ensures { IfOk result (λ disk. IsGeometry (disk.regions, disk.region_len) × (disk.unsynced ≡ []) × (disk.eyes ≡ [])) }
+    requires geometry { IsGeometry (disk.disk.regions, disk.disk.region_len) }
+    requires no_eyes { disk.disk.eyes ≡ [] }
+    ensures { IfOk result (λ disk. IsGeometry (disk.disk.regions, disk.disk.region_len) × (disk.disk.unsynced ≡ []) × (disk.disk.eyes ≡ [])) }
 {
     Ok(disk.crashed(picks)?)
 }
@@ -59,10 +59,10 @@ fn run<R: Threads + Wait + Sync>(
     fails: (Vec<u64>, Vec<u64>),
     disk: MemDisk,
 ) -> Result<Printed, Fail>
-    requires geometry { IsGeometry (disk.regions, disk.region_len) }
-    requires synced { disk.unsynced ≡ [] }
-    requires no_eyes { disk.eyes ≡ [] }
-    ensures { IfOk result (λ printed. IsGeometry (printed.finish.disk.regions, printed.finish.disk.region_len) × (printed.finish.disk.eyes ≡ [])) }
+    requires geometry { IsGeometry (disk.disk.regions, disk.disk.region_len) }
+    requires synced { disk.disk.unsynced ≡ [] }
+    requires no_eyes { disk.disk.eyes ≡ [] }
+    ensures { IfOk result (λ printed. IsGeometry (printed.finish.disk.disk.regions, printed.finish.disk.disk.region_len) × (printed.finish.disk.disk.eyes ≡ [])) }
 {
     let mut words = Vec::new(alloc);
     for text in texts {
@@ -89,10 +89,10 @@ fn run_well<R: Threads + Wait + Sync>(
     script: &str,
     disk: MemDisk,
 ) -> Result<Printed, Fail>
-    requires geometry { IsGeometry (disk.regions, disk.region_len) }
-    requires synced { disk.unsynced ≡ [] }
-    requires no_eyes { disk.eyes ≡ [] }
-    ensures { IfOk result (λ printed. IsGeometry (printed.finish.disk.regions, printed.finish.disk.region_len) × (printed.finish.disk.eyes ≡ [])) }
+    requires geometry { IsGeometry (disk.disk.regions, disk.disk.region_len) }
+    requires synced { disk.disk.unsynced ≡ [] }
+    requires no_eyes { disk.disk.eyes ≡ [] }
+    ensures { IfOk result (λ printed. IsGeometry (printed.finish.disk.disk.regions, printed.finish.disk.disk.region_len) × (printed.finish.disk.disk.eyes ≡ [])) }
 {
     let none = (Vec::new(alloc), Vec::new(alloc));
     run(rt, alloc, &["run"], script, none, disk)
@@ -230,10 +230,10 @@ const FREE: Crafted = (0, 0, 0);
 
 // Writes a partition with no rows, or leaves the region free.
 fn craft(disk: &mut MemDisk, region: u32, part: Crafted) -> Result<(), Fail>
-    requires geometry { IsGeometry (disk.old.regions, disk.old.region_len) }
-    requires region { region < disk.old.regions }
-    requires no_eyes { disk.old.eyes ≡ [] }
-    ensures { IsGeometry (disk.new.regions, disk.new.region_len) × (disk.new.eyes ≡ []) × (disk.new.regions ≡ disk.old.regions) }
+    requires geometry { IsGeometry (disk.old.disk.regions, disk.old.disk.region_len) }
+    requires region { region < disk.old.disk.regions }
+    requires no_eyes { disk.old.disk.eyes ≡ [] }
+    ensures { IsGeometry (disk.new.disk.regions, disk.new.disk.region_len) × (disk.new.disk.eyes ≡ []) × (disk.new.disk.regions ≡ disk.old.disk.regions) }
 {
     let (mark, first, last) = part;
     let gate = if mark == 0 { 0 } else { 0xa7 };
@@ -294,10 +294,10 @@ fn go_on<R: Threads + Wait + Sync + Abort>(
     text: &str,
     disk: MemDisk,
 ) -> Result<MemDisk, Fail>
-    requires geometry { IsGeometry (disk.regions, disk.region_len) }
-    requires synced { disk.unsynced ≡ [] }
-    requires no_eyes { disk.eyes ≡ [] }
-    ensures { IfOk result (λ disk. IsGeometry (disk.regions, disk.region_len) × (disk.unsynced ≡ []) × (disk.eyes ≡ [])) }
+    requires geometry { IsGeometry (disk.disk.regions, disk.disk.region_len) }
+    requires synced { disk.disk.unsynced ≡ [] }
+    requires no_eyes { disk.disk.eyes ≡ [] }
+    ensures { IfOk result (λ disk. IsGeometry (disk.disk.regions, disk.disk.region_len) × (disk.disk.unsynced ≡ []) × (disk.disk.eyes ≡ [])) }
 {
     let printed = run_well(rt, alloc, script, disk)?;
     assert_eq!(rt; printed.finish.status, status);
@@ -307,10 +307,10 @@ fn go_on<R: Threads + Wait + Sync + Abort>(
 
 // The disk with another byte as a region's gate.
 fn with_gate(disk: MemDisk, region: u32, gate: u8) -> Result<MemDisk, Fail>
-    requires geometry { IsGeometry (disk.regions, disk.region_len) }
+    requires geometry { IsGeometry (disk.disk.regions, disk.disk.region_len) }
     requires region { region < 4 }
-    requires no_eyes { disk.eyes ≡ [] }
-    ensures { IfOk result (λ disk. IsGeometry (disk.regions, disk.region_len) × (disk.unsynced ≡ []) × (disk.eyes ≡ [])) }
+    requires no_eyes { disk.disk.eyes ≡ [] }
+    ensures { IfOk result (λ disk. IsGeometry (disk.disk.regions, disk.disk.region_len) × (disk.disk.unsynced ≡ []) × (disk.disk.eyes ≡ [])) }
 {
     let mut disk = disk;
     disk.write(region, 0, &[gate])?;

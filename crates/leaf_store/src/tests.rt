@@ -174,7 +174,7 @@ fn part(area: u32) -> Part
 
 /// A disk of one region, with no eye open.
 fn small(alloc: Global, plan: FaultPlan) -> Result<MemDisk, Fail>
-    ensures { IfOk result (λ disk. (disk.regions ≡ 1) × (disk.region_len ≡ 4096) × (disk.eyes ≡ [])) }
+    ensures { IfOk result (λ made. (made.disk.regions ≡ 1) × (made.disk.region_len ≡ 4096) × (made.disk.eyes ≡ [])) }
 {
     Ok(MemDisk::new(alloc, 1, 4096, plan).ok().ok_or("memory")?)
 }
@@ -191,7 +191,7 @@ fn parts(alloc: Global, area: u32) -> Result<Parts, Fail>
 
 /// A disk that holds bytes behind a header.
 fn held(alloc: Global, plan: FaultPlan, bytes: &[u8; 38]) -> Result<MemDisk, Fail>
-    ensures { IfOk result (λ disk. (disk.regions ≡ 1) × (disk.region_len ≡ 4096)) }
+    ensures { IfOk result (λ made. (made.disk.regions ≡ 1) × (made.disk.region_len ≡ 4096)) }
 {
     let mut disk = small(alloc, plan)?;
     match disk.write(0, 41, bytes) {

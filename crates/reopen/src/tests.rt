@@ -50,16 +50,16 @@ fn bytes_of(shown: Shown) -> [u8; 79] {
 
 fn write(disk: &mut MemDisk, region: u32, bytes: &[u8; 79]) -> Result<(), Fail>
     requires region { region < 4 }
-    requires disk { (disk.old.regions ≡ 4) × (disk.old.region_len ≡ 16384) × (disk.old.eyes ≡ []) }
-    ensures { (disk.new.regions ≡ 4) × (disk.new.region_len ≡ 16384) × (disk.new.eyes ≡ []) }
+    requires disk { (disk.old.disk.regions ≡ 4) × (disk.old.disk.region_len ≡ 16384) × (disk.old.disk.eyes ≡ []) }
+    ensures { (disk.new.disk.regions ≡ 4) × (disk.new.disk.region_len ≡ 16384) × (disk.new.disk.eyes ≡ []) }
 {
     disk.write(region, 0, bytes).ok().ok_or("write")?;
     Ok(())
 }
 
 fn fill(disk: &mut MemDisk, regions: &[Shown; 4]) -> Result<(), Fail>
-    requires { (disk.old.regions ≡ 4) × (disk.old.region_len ≡ 16384) × (disk.old.eyes ≡ []) }
-    ensures { (disk.new.regions ≡ 4) × (disk.new.region_len ≡ 16384) × (disk.new.eyes ≡ []) }
+    requires { (disk.old.disk.regions ≡ 4) × (disk.old.disk.region_len ≡ 16384) × (disk.old.disk.eyes ≡ []) }
+    ensures { (disk.new.disk.regions ≡ 4) × (disk.new.disk.region_len ≡ 16384) × (disk.new.disk.eyes ≡ []) }
 {
     write(disk, 0, &bytes_of(regions[0]))?;
     write(disk, 1, &bytes_of(regions[1]))?;
@@ -69,8 +69,8 @@ fn fill(disk: &mut MemDisk, regions: &[Shown; 4]) -> Result<(), Fail>
 }
 
 fn sync(disk: MemDisk) -> Result<MemDisk, Fail>
-    requires { (disk.regions ≡ 4) × (disk.region_len ≡ 16384) × (disk.eyes ≡ []) }
-    ensures { IfOk result IsIdle }
+    requires { (disk.disk.regions ≡ 4) × (disk.disk.region_len ≡ 16384) × (disk.disk.eyes ≡ []) }
+    ensures { IfOk result (λ idle. IsIdle idle.disk) }
 {
     let mut disk = disk;
     match disk.sync() {
@@ -80,7 +80,7 @@ fn sync(disk: MemDisk) -> Result<MemDisk, Fail>
 }
 
 fn disk_of(alloc: Global, regions: &[Shown; 4]) -> Result<MemDisk, Fail>
-    ensures { IfOk result IsIdle }
+    ensures { IfOk result (λ idle. IsIdle idle.disk) }
 {
     let mut disk = MemDisk::new(alloc, 4, 16384, FaultPlan::none(alloc))?;
     fill(&mut disk, regions)?;

@@ -1,7 +1,7 @@
 use Rattle.std.proofs.Common.{◌≡◌, ap}
 use Rattle.std.proofs.lemmas.Result.{err_from_is_err_and}
 use Rattle.log_disk.specs.Disk.{Disk}
-use Rattle.log_disk.proofs.Sound.{sound_same, sound_write, sound_sync}
+use Rattle.log_disk.proofs.Sound.{sound_failure, sound_write, sound_sync}
 use Rattle.epoch_room.specs.Gate.{gate, LeavesOpening}
 use Rattle.epoch_room.proofs.Gates.{still_unseen, opening_same, opening_synced, opening_begun, opening_done, by_refusal, still_sound, now_same, now_synced}
 use Rattle.epoch_room.proofs.sealing.open_gate.Goals as goal
@@ -30,7 +30,7 @@ returns-in_err-sync-2-clause-leaves g c =
 
 pub returns-in_err-sync-2-clause-sound : goal.returns-in_err-sync-2-clause-sound
 returns-in_err-sync-2-clause-sound g c =
-    sound_same (g.D.LogDisk.state c.write.new.self) (g.D.LogDisk.state c.sync-2.new.self) c.in_err-sync-2.ensures.err.told c.in_err-sync-2.ensures.err.beside c.in_err-sync-2.ensures.err.unsynced
+    sound_failure c.in_err-sync-2.ensures.err
     (sound_write (c.in_ok-write.ensures.begun (λ e. cc)) (sound_sync c.in_ok-sync.ensures.ok c.requires.sound))
 
 pub returns-clause-leaves : goal.returns-clause-leaves

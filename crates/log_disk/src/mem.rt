@@ -75,9 +75,7 @@ impl MemDisk {
         region_len: u64,
         plan: FaultPlan,
     ) -> Result<MemDisk, NoMemory>
-        ensures disk { IfOk result (λ made. made.disk ≡ new_disk regions region_len (Some (told_anew (zeros regions region_len)))) }
-        ensures plan { IfOk result (λ made. made.plan ≡ plan_of plan) }
-        ensures calls { IfOk result (λ made. made.calls ≡ no_calls) }
+        ensures { IfOk result (λ made. made ≡ record { disk = new_disk regions region_len (Some (told_anew (zeros regions region_len))); plan = plan_of plan; calls = no_calls }) }
     {
         let rows = zero_regions(alloc, regions, region_len)?;
         Ok(MemDisk {

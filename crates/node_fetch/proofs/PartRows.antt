@@ -13,7 +13,7 @@ use Rattle.partition_index.specs.declared.entries.Span.{Span}
 use Rattle.partition_index.specs.declared.entries.SeekFault.{SeekFault}
 use Rattle.partition_index.specs.declared.entries.SeekFault.TheVariants as fault
 use Rattle.partition_index.specs.Parts.{SameEye, body_len}
-use Rattle.partition_index.specs.Search.{TellsRows, IsSpanOf, IsBadAt, sought, span_for}
+use Rattle.partition_index.specs.Search.{TellsRows, IsSpanOf, IsBadAt, LacksNode, sought, span_for}
 use Rattle.fine_model.specs.declared.FetchFault.{FetchFault}
 use Rattle.node_fetch.specs.Fetched.{HoldsRows, ReadsRows, NoDamage}
 
@@ -68,6 +68,6 @@ read_found (Err e) eye now id p span same is h exact = tt
 -- what was read through an eye that is the same but for its counts
 pub reads_same : (old new : Eye) (id : NodeId) (p : Part) (rows : List Row) → SameEye old new → ReadsRows new id p rows → ReadsRows old id p rows
 reads_same old new id p rows same r = record {
-  read = subst (λ (known : Option Image). (rows ≡ []) ⊎ ((span : Span) × IsSpanOf known p id span × HoldsRows known p id span rows)) same.told r.read;
+  read = subst (λ (known : Option Image). ((rows ≡ []) × LacksNode known p id) ⊎ ((span : Span) × IsSpanOf known p id span × HoldsRows known p id span rows)) same.told r.read;
   exact = λ own t. r.exact own (tells_same old new p own same t);
 }

@@ -1,9 +1,10 @@
 -- What a search in an index does and finds.
-use Rattle.std.specs.Prelude.{◌≡◌, ℕ, ◌+◌, ◌<◌, ◌≤◌, ◌==◌, List, true, length, Option, Some, None, IfSome, if◌then◌else◌, Ok, Err}
+use Rattle.std.specs.Prelude.{◌≡◌, ◌⊎◌, ℕ, ◌+◌, ◌-◌, ◌<◌, ◌≤◌, ◌==◌, List, true, length, Option, Some, None, IfSome, if◌then◌else◌, Ok, Err}
 use Rattle.log_disk.specs.Disk.{Eye}
 use Rattle.fine_model.specs.declared.NodeId.{NodeId}
 use Rattle.fine_model.specs.declared.Part.{Part}
 use Rattle.fine_model.specs.declared.Row.{Row}
+use Rattle.fine_model.specs.Merge.{is_node_below}
 use Rattle.fine_model.specs.Nodes.{rows_of}
 use Rattle.fine_model.specs.RowBytes.{rows_len}
 use Rattle.fine_model.specs.Regions.{Image, body_in, IsSealed}
@@ -46,6 +47,14 @@ pub record IsSpanOf (known : Option Image) (part : Part) (id : NodeId) (span : S
   pub there : entry < part.header.nodes
   pub names : IfTold known part (λ body. (entry_at part.header body entry).node ≡ id)
   pub is_span : IsSpanAt known part entry span
+
+-- No entry of a node: there is a number before whose entry one stands that names a lower node, and whose own entry names a higher one,
+-- as far as there are entries. Each of the two may stand there.
+pub record LacksNode (known : Option Image) (part : Part) (id : NodeId) : Type 0 where
+  pub number : ℕ
+  pub within : number ≤ part.header.nodes
+  pub before : (number ≡ 0) ⊎ ((entry : IndexEntry) × IsEntryAt known part (number - 1) entry × (is_node_below entry.node id ≡ true))
+  pub behind : (number ≡ part.header.nodes) ⊎ ((entry : IndexEntry) × IsEntryAt known part number entry × (is_node_below id entry.node ≡ true))
 
 -- a place of the body at which a bad entry starts, by the bytes of it and of the one before it
 pub record IsBadAt (known : Option Image) (part : Part) (at : ℕ) : Type 0 where

@@ -1,6 +1,6 @@
 //! The search for a node in the index of a part, through an eye.
 
-ghost use Rattle.std.specs.Prelude.{◌≡◌, ◌⊎◌, ℕ, ◌+◌, ◌*◌, ◌<◌, IfOk, IfErr, IfSome, IsErrOf, List, Some, Ok, Err, slice_get};
+ghost use Rattle.std.specs.Prelude.{◌≡◌, ◌⊎◌, ℕ, ◌+◌, ◌*◌, ◌<◌, IfOk, IfErr, IfSome, IsErrOf, List, None, Some, Ok, Err, slice_get};
 ghost use Rattle.fine_model.specs.declared.NodeId.{NodeId};
 ghost use Rattle.fine_model.specs.declared.Row.{Row};
 ghost use Rattle.fine_model.specs.Merge.{nodes_in};
@@ -8,7 +8,7 @@ ghost use Rattle.fine_model.specs.Seek.{is_entry, entry_place, most_taken};
 ghost use Rattle.partition_index.specs.declared.entries.SeekFault.TheVariants as fault;
 ghost use Rattle.partition_index.specs.Entries.{model_of, entry_for};
 ghost use Rattle.partition_index.specs.Parts.{IsSeen};
-ghost use Rattle.partition_index.specs.Search.{Searches, IsEntryAt, IsEndOf, IsSpanAt, IsSpanOf, IsBadAt, TellsRows, span_for, sought};
+ghost use Rattle.partition_index.specs.Search.{Searches, IsEntryAt, IsEndOf, IsSpanAt, IsSpanOf, IsBadAt, LacksNode, TellsRows, span_for, sought};
 
 use crate::entries::{IndexEntry, SeekFault, Span, entry_of};
 use crate::places::read_body;
@@ -134,7 +134,8 @@ pub fn entry_at<E: LogEye>(
 /// The span of a node's rows, or None where the index has no entry of it.
 ///
 /// The index is searched by halves, one entry at a time. In a region in the grammar the answer is exact. On other bytes a span is
-/// that of an entry which names the node. `Failed` comes only where the eye's count of faults rose in this call. `BadIndex` comes
+/// that of an entry which names the node, and None comes only where an entry of a lower node and one of a higher node follow each
+/// other, or stand at the ends of the index, by the bytes read in this call. `Failed` comes only where the eye's count of faults rose in this call. `BadIndex` comes
 /// only where, by the bytes read in this call, the entry at that offset of the body is none, or the span of the one sought is
 /// empty. No memory is taken.
 pub fn seek<E: LogEye>(
@@ -147,6 +148,7 @@ pub fn seek<E: LogEye>(
     requires region_len { region_len ≡ (E.LogEye.state eye.old).region_len }
     ensures eye { Searches (IsErrOf result fault.Failed) (most_taken part.now.header.nodes) (E.LogEye.state eye.old) (E.LogEye.state eye.new) }
     ensures span { IfOk result (λ found. IfSome found (IsSpanOf (E.LogEye.state eye.old).told part.now node)) }
+    ensures none { result ≡ Ok None → LacksNode (E.LogEye.state eye.old).told part.now node }
     ensures bad { (at : ℕ) → IsErrOf result (fault.BadIndex at) → IsBadAt (E.LogEye.state eye.old).told part.now at }
     ensures exact { (rows : List Row) → TellsRows (E.LogEye.state eye.old) part.now rows
         → (result ≡ Err fault.Failed) ⊎ (result ≡ Ok (sought rows node)) }

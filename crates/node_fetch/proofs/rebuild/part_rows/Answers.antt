@@ -1,4 +1,4 @@
-use Rattle.std.proofs.Common.{◌∙◌, inl, Err, sym, ap, arith}
+use Rattle.std.proofs.Common.{◌∙◌, inl, Ok, Err, sym, ap, arith}
 use Rattle.partition_index.proofs.Exact.{never_bad}
 use Rattle.partition_index.proofs.Looking.{seen_same}
 use Rattle.node_fetch.proofs.PartRows.{none_found, some_found, read_found, tells_same, bad_within, span_taken}
@@ -30,7 +30,7 @@ returns-clause-taken g c rows t =
     (some_found rows c.args.node c.in-Ok-Some.span (rw c.in-Ok-Some.field-0-is at (c.in-Ok-Some.ensures.exact rows t))) c.seek.ensures.eye.taken c.read_span.ensures.eye.taken
 
 pub returns-in-Ok-None-clause-read : goal.returns-in-Ok-None-clause-read
-returns-in-Ok-None-clause-read g c = record { read = inl c.new.ensures; exact = returns-in-Ok-None-clause-exact g c }
+returns-in-Ok-None-clause-read g c = record { read = inl (c.new.ensures, c.in-Ok-None.ensures.none (ap Ok c.in-Ok-None.field-0-is)); exact = returns-in-Ok-None-clause-exact g c }
 
 pub returns-clause-read : goal.returns-clause-read
 returns-clause-read g c =

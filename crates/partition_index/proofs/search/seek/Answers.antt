@@ -1,5 +1,8 @@
-use Rattle.std.proofs.Common.{◌≡◌, ◌∙◌, ◌+◌, ◌-◌, ◌*◌, ◌/◌, ◌<◌, sym, ap, subst, inl, inr, Ok, Err, Some, rules, arith, get_or}
+use Rattle.std.proofs.Common.{◌≡◌, ◌⊎◌, ℕ, true, ◌∙◌, ◌+◌, ◌-◌, ◌*◌, ◌/◌, ◌<◌, sym, ap, subst, inl, inr, Ok, Err, Some, rules, arith, get_or}
 use Rattle.fine_model.specs.Merge.{nodes_in, is_node_below}
+use Rattle.std.specs.Prelude.{Option}
+use Rattle.fine_model.specs.Regions.{Image}
+use Rattle.partition_index.specs.declared.entries.IndexEntry.{IndexEntry}
 use Rattle.partition_index.specs.Search.{IsBadAt, IsSpanAt, IsEntryAt, sought}
 use Rattle.partition_index.proofs.Looking.{seen_same, same_then}
 use Rattle.partition_index.proofs.Exact.{only_failed, entry_exact, span_exact, there_in}
@@ -7,6 +10,9 @@ use Rattle.fine_model.specs.Seek.{binary_digits}
 use Rattle.fine_model.proofs.NodesIn.{exact_nodes}
 use Rattle.partition_index.proofs.Narrowed.{spend, less_below, greater_above, narrow_up, narrow_down, narrowed_none, sought_some}
 use Rattle.partition_index.proofs.search.seek.Goals as goal
+
+back : (n : ℕ) → n ≡ n + 1 - 1
+back n = omega arith
 
 pub returns-in_err-entry-clause-exact : goal.returns-in_err-entry-clause-exact
 returns-in_err-entry-clause-exact g c rows t =
@@ -30,6 +36,8 @@ loop-low-preserved-in-Less g c =
       same = same_then (state c.args.eye.now) (state l.eye) (state c.read_entry.new.eye) l.invariant.same read.eye.same;
       steady = search rules;
       taken = spend (14 * binary_digits p.header.nodes) (state c.args.eye.now).taken (state l.eye).taken (state c.read_entry.new.eye).taken (l.high - l.low) (l.high - (middle + 1)) (omega arith) (omega arith) (omega arith) l.invariant.taken read.eye.taken;
+      before = inr (c.in_ok-entry.entry, subst (λ i. IsEntryAt (state c.args.eye.now).told p i c.in_ok-entry.entry) (back middle) (subst (λ known. IsEntryAt known p middle c.in_ok-entry.entry) l.invariant.same.told read.ok), less_below c.in_ok-entry.entry.node c.args.node c.in-Less.ensures);
+      behind = l.invariant.behind;
       narrowed = λ rows t.
           (let entry = entry_exact (state c.args.eye.now) p rows middle c.in_ok-entry.entry c.args.node c.requires.seen t there (subst (λ known. IsEntryAt known p middle c.in_ok-entry.entry) l.invariant.same.told read.ok) in
           narrow_up rows c.args.node l.low l.high middle c.args.node (l.invariant.narrowed rows t) (omega arith) (there_in (state c.args.eye.now) p rows middle c.requires.seen t there)
@@ -50,6 +58,8 @@ loop-low-preserved g c =
       same = same_then (state c.args.eye.now) (state l.eye) (state c.read_entry.new.eye) l.invariant.same read.eye.same;
       steady = search rules;
       taken = spend (14 * binary_digits p.header.nodes) (state c.args.eye.now).taken (state l.eye).taken (state c.read_entry.new.eye).taken (l.high - l.low) (middle - l.low) (omega arith) (omega arith) (omega arith) l.invariant.taken read.eye.taken;
+      before = l.invariant.before;
+      behind = inr (c.in_ok-entry.entry, subst (λ known. IsEntryAt known p middle c.in_ok-entry.entry) l.invariant.same.told read.ok, greater_above c.in_ok-entry.entry.node c.args.node c.in-Greater.ensures);
       narrowed = λ rows t.
           (let entry = entry_exact (state c.args.eye.now) p rows middle c.in_ok-entry.entry c.args.node c.requires.seen t there (subst (λ known. IsEntryAt known p middle c.in_ok-entry.entry) l.invariant.same.told read.ok) in
           narrow_down rows c.args.node l.low l.high middle c.args.node (l.invariant.narrowed rows t) (there_in (state c.args.eye.now) p rows middle c.requires.seen t there)
@@ -85,3 +95,15 @@ returns-in_err-span-in-Equal-clause-exact g c rows t =
 pub returns-clause-exact : goal.returns-clause-exact
 returns-clause-exact g c rows t =
     inr (ap Ok (sym (narrowed_none rows c.args.node c.loop-low.low c.loop-low.high (c.loop-low.invariant.narrowed rows t) c.loop-low-test.false)))
+
+pub returns-clause-none : goal.returns-clause-none
+returns-clause-none g c e =
+    let l = c.loop-low in
+    let known : Option Image = (g.E.LogEye.state c.args.eye.now).told in
+    let met : l.high ≡ l.low = omega (arith, l.invariant.order, c.loop-low-test.false) in
+    record {
+      number = l.low;
+      within = omega (arith, l.invariant.order, l.invariant.within);
+      before = l.invariant.before;
+      behind = subst (λ i. (i ≡ c.args.part.now.header.nodes) ⊎ ((entry : IndexEntry) × IsEntryAt known c.args.part.now i entry × (is_node_below c.args.node entry.node ≡ true))) met l.invariant.behind;
+    }

@@ -12,7 +12,8 @@ use Rattle.node_cache.specs.Cache.{Cache, cached, original as was_saved, before,
 use Rattle.node_cache.specs.Entries.{restored}
 use Rattle.node_cache.specs.Originals.{original_of, originals, made_whole, whole_at, ChangedAt, Stands, IsKept}
 use Rattle.node_cache.proofs.Moved.{none_found}
-use Rattle.node_cache.proofs.Restored.{IsCache, found_last}
+use Rattle.node_cache.specs.Cache.{IsCache}
+use Rattle.node_cache.proofs.Restored.{found_last}
 
 abbrev Nodes : Type 0
 Nodes = List (ℕ × Cached)

@@ -4,16 +4,11 @@ use Rattle.std.specs.List.{filter_map, cons_option, IsDistinct, AllByRecursion}
 use Rattle.std.specs.Map.{keys_of, lookup, remove_entry, set_value}
 use Rattle.std.proofs.lemmas.Bool.{cond-true, cond-false}
 use Rattle.node_cache.specs.declared.cached.Cached.{Cached}
+use Rattle.node_cache.specs.Cache.{IsCache}
 use Rattle.node_cache.specs.Entries.{stamped, restored, as_saved, stamped_at, settled_entry}
 
 abbrev Saved : Type 0
 Saved = List (ℕ × Option Cached)
-
--- a number stands once, and what was saved as cached is cached
-pub record IsCache (nodes : List (ℕ × Cached)) (saved : Saved) : Type 0 where
-  pub distinct : IsDistinct nat_eq (keys_of nodes)
-  pub once : IsDistinct nat_eq (keys_of saved)
-  pub there : (number : ℕ) (kept : Cached) → lookup (nat_eq number) saved ≡ Some (Some kept) → IsSome (lookup (nat_eq number) nodes)
 
 -- the last of the saved numbers, and those before it
 pub record IsLast (saved rest : Saved) (k : ℕ) (o : Option Cached) : Type 0 where

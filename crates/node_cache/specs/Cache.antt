@@ -1,7 +1,7 @@
 -- What a bucket caches and what it saved, and what each call makes of it.
-use Rattle.std.specs.Prelude.{◌≡◌, ℕ, ◌-◌, nat_eq, if◌then◌else◌, List, [], ◌∷◌, ◌++◌, map, count_by, Option, option_map, is_some, unwrap_or, IsSome}
-use Rattle.std.specs.List.{filter_map}
-use Rattle.std.specs.Map.{lookup, lookup_entry, remove_entry, set_value}
+use Rattle.std.specs.Prelude.{◌≡◌, ℕ, ◌-◌, nat_eq, if◌then◌else◌, List, [], ◌∷◌, ◌++◌, map, count_by, Option, option_map, is_some, unwrap_or, IsSome, Some}
+use Rattle.std.specs.List.{IsDistinct, filter_map}
+use Rattle.std.specs.Map.{keys_of, lookup, lookup_entry, remove_entry, set_value}
 use Rattle.std.specs.Option.{option_to_list}
 use Rattle.fine_model.specs.Nodes.{Content}
 use Rattle.node_cache.specs.declared.cached.Cached.{Cached}
@@ -75,3 +75,11 @@ settled epoch c = record c { nodes = map (settled_entry epoch c.saved) c.nodes; 
 abbrev pub evicted : ℕ → ℕ → Cache → Cache
 evicted published keep c =
     record c { nodes = without_first published (count_by (is_published published) c.nodes - keep) c.nodes }
+
+-- ---- what holds of each bucket
+
+-- a number stands once, and what was saved as cached is cached
+pub record IsCache (nodes : List (ℕ × Cached)) (saved : List (ℕ × Option Cached)) : Type 0 where
+  pub distinct : IsDistinct nat_eq (keys_of nodes)
+  pub once : IsDistinct nat_eq (keys_of saved)
+  pub there : (number : ℕ) (kept : Cached) → lookup (nat_eq number) saved ≡ Some (Some kept) → IsSome (lookup (nat_eq number) nodes)

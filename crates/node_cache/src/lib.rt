@@ -2,7 +2,7 @@
 //! its changes of them.
 #![tactic(auto)]
 
-ghost use Rattle.std.specs.Prelude.{◌≡◌, ◌≢◌, ℕ, ◌<◌, ◌≤◌, ◌-◌, nat_eq, nat_le, nat_lt, not, ◌&&◌, if◌then◌else◌, [], map, IfOk, OnOk, OnErr, IfSome, IsSome, Some, is_some, option_copied, count_by};
+ghost use Rattle.std.specs.Prelude.{◌≡◌, ◌≢◌, ℕ, ◌<◌, ◌≤◌, ◌-◌, length, nat_eq, nat_le, nat_lt, not, ◌&&◌, if◌then◌else◌, [], map, IfOk, OnOk, OnErr, IfSome, IsSome, Some, is_some, option_copied, count_by};
 ghost use Rattle.std.specs.List.{filter_map};
 ghost use Rattle.std.specs.Bool.{OnTrue, OnFalse};
 ghost use Rattle.fine_model.specs.RowBytes.{FitsRec, greatest};
@@ -66,7 +66,7 @@ impl BucketLaw for Bucket {
 }
 
 impl Bucket {
-    ghost use Rattle.node_cache.specs.Cache.{Cache, cached, original, before, after, IsSaved, IsResting, touched, with_node, saving, undone, settled, evicted};
+    ghost use Rattle.node_cache.specs.Cache.{Cache, IsCache, cached, original, before, after, IsSaved, IsResting, touched, with_node, saving, undone, settled, evicted};
     ghost use Rattle.node_cache.specs.Changing.{changes_cached, IsPairChange};
     ghost use Rattle.node_cache.specs.Lent.{EndsTouched, LendsNode};
 
@@ -86,6 +86,14 @@ impl Bucket {
         ensures { result ≡ self.now.bucket }
     {
         self.bucket
+    }
+
+    /// How many nodes are cached. It also tells what holds of every bucket.
+    pub fn len(&self) -> usize
+        ensures count { result ≡ length self.now.nodes }
+        ensures whole { IsCache self.now.nodes self.now.saved }
+    {
+        self.nodes.len()
     }
 
     /// What is cached of a number, with the order of last use as it was. None exactly where nothing is. It takes no memory.

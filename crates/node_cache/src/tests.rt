@@ -103,6 +103,7 @@ fn settle_stamps_what_was_saved(rt: HostRuntime) -> Result<(), Fail> {
     bucket.settle(9);
     bucket.undo();
     bucket.evict(8, 0);
+    assert_eq!(rt; bucket.len(), 1);
     assert!(rt; bucket.peek(1).is_some());
     assert!(rt; bucket.peek(2).is_none());
     Ok(())

@@ -123,6 +123,13 @@ impl<T> Items<T> {
         Items { items }
     }
 
+    /// The list as a vector, with no memory taken.
+    pub fn into_vec(self) -> Vec<T>
+        ensures { result.items ≡ self }
+    {
+        self.items
+    }
+
     pub fn len(&self) -> usize
         ensures { result ≡ length self.now }
     {

@@ -10,14 +10,12 @@ ghost use Rattle.btree_nodes.specs.Changes.{Saves, Pushes, IsChanged, HoldsPlace
 ghost use Rattle.btree_nodes.specs.declared.fault.TreeFault.TheVariants as fault_of;
 
 use crate::fault::TreeFault;
+use fine_model::format::GREATEST;
 use fine_model::{NoMemory, Node, NodeId, Row};
 use node_cache::{Bucket, Cached};
 use node_record::apply;
 use private_log::PrivateLog;
 use std::alloc::Global;
-
-/// The greatest version of a node.
-pub const GREATEST: u64 = 4_611_686_018_427_387_904;
 
 /// The version that the next row of a cached node has. `Number` comes exactly where it would pass the limit.
 #[tactic(auto, unfolding(node_cache::specs::Given::given))]

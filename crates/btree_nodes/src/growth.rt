@@ -42,14 +42,7 @@ pub fn row_of(bucket: u16, number: u32, version: u64, rec: Rec) -> Row
 fn copy_all<T: Copied + Drop>(alloc: Global, items: &[T]) -> Result<Items<T>, NoMemory>
     ensures { IfOk result (λ copy. copy ≡ items.now) }
 {
-    let mut copy = Items::new(alloc);
-    for item in items {
-        let one = item.copy()?;
-        if copy.push(one).is_err() {
-            return Err(NoMemory);
-        }
-    }
-    Ok(copy)
+    Ok(Items::from_vec(T::copy_all(alloc, items)?))
 }
 
 /// The version of a cached node. 0 where it is not cached.

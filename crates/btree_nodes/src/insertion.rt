@@ -13,20 +13,15 @@ ghost use Rattle.btree_nodes.specs.Trees.{Serves, Holds, IsPath, first_over};
 ghost use Rattle.btree_nodes.specs.Growths.{pushed_of, Limits};
 ghost use Rattle.btree_nodes.specs.Calls.{Outcome, IsChange, OnCleanAnswer, SoundOutcome};
 
-use crate::change::{GREATEST, push_all};
+use crate::change::push_all;
 use crate::fault::TreeFault;
 use crate::growth::{Growth, grow, row_of, version_of};
 use crate::tree::{Path, find_leaf};
+use fine_model::format::{GREATEST, GREATEST_DEPTH, NODE_NUMBERS};
 use fine_model::{Bytes, Items, NoMemory, NodeId, Rec, Row, Rows};
 use node_cache::{Bucket, NodeSource};
 use private_log::PrivateLog;
 use std::alloc::Global;
-
-/// The most numbers that a bucket's nodes may have.
-const MOST_NUMBERS: u32 = 1_048_576;
-
-/// The greatest depth of a tree.
-const GREATEST_DEPTH: u8 = 8;
 
 /// Rows to be pushed, and the head's next unused number and depth behind them.
 #[derive(Debug, Drop)]
@@ -116,7 +111,7 @@ fn first_over(rows: &[Row]) -> Option<NodeId>
 fn test_limits(push: &Push, path: Path) -> Result<(), TreeFault>
     ensures { Limits push.now path result }
 {
-    if push.next > MOST_NUMBERS || push.depth > GREATEST_DEPTH {
+    if push.next > NODE_NUMBERS || push.depth > GREATEST_DEPTH {
         return Err(TreeFault::BucketFull {
             next: path.next,
             depth: path.depth,

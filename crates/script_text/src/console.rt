@@ -1,159 +1,186 @@
-//! The standard input as a source and the standard output as a sink. What they give and take is not told: contracts name what
-//! the library's call answered.
+//! The standard input as a source and the standard output as a sink.
+//!
+//! What the system gives and takes no contract can say. So both are generic over a reader and a writer: contracts say what a
+//! call does with the bytes of one that tells them, and which one call of the library it makes on any.
 
-ghost use Rattle.std.specs.Prelude.{◌≡◌, ◌≤◌, None, length, option_map, IfOk, OnErr, IsErr};
+ghost use Rattle.std.specs.Prelude.{◌≡◌, ◌≤◌, ⊤, None, length, option_map, IfOk, OnOk, OnErr, IsErr};
 ghost use Rattle.std.specs.Result.{result_ok};
+ghost use Rattle.std.specs.Io.KnownBytes.{ReadConsumes, Appends};
 ghost use Rattle.fine_model.specs.Faults.{CountsFault};
 ghost use Rattle.script_text.specs.Streams.{tells_nothing, Takes, Puts};
+ghost use Rattle.script_text.specs.Console.{one_call_more};
 
 use super::{Failed, Sink, Source};
-use std::io::{self, Read};
+use std::io::{self, Printer, Read, Write};
 use std::marker::Model;
 use std::snapshot::Snapshot;
 
 #[cfg(test)]
 mod tests;
 
-/// The standard input. It tells no bytes.
+/// The standard input, or another reader. As a source it tells no bytes.
 #[derive(Drop)]
-pub struct StdSource<'r, R: Input> {
-    _rt: &'r R,
-    input: Incoming<R>,
+pub struct StdSource<I: Read> {
+    input: Incoming<I>,
     faults: u64,
 }
 
-impl<'r, R: Input> Model for StdSource<'r, R> {
-    ghost use Rattle.script_text.specs.Console.{InputState};
+impl<I: Read> Model for StdSource<I> {
+    ghost use Rattle.script_text.specs.Console.{StreamState};
 
-    ghost Value = { InputState };
+    ghost Value = { StreamState };
 
-    ghost view = { λ s. record { faults = s.faults; last = s.input.last.value } };
+    ghost view = { λ s. record { faults = s.faults; calls = s.input.calls; asked = s.input.asked.value; done = s.input.done.value; told = I.remaining s.input.reader } };
 }
 
-impl<'r, R: Input> StdSource<'r, R> {
+impl<I: Read> StdSource<I> {
     /// The standard input, from where it stands.
-    pub fn new(rt: &'r R) -> StdSource<'r, R>
-        ensures { result ≡ record { faults = 0; last = None } }
+    pub fn new<R: Input<Reader = I>>(rt: &R) -> StdSource<I>
+        ensures faults { result.faults ≡ 0 }
+        ensures calls { result.calls ≡ 0 }
     {
         StdSource {
-            _rt: rt,
             input: Incoming {
                 reader: rt.reader(),
-                last: Snapshot::of(&None),
+                calls: 0,
+                asked: Snapshot::of(&0),
+                done: Snapshot::of(&None),
             },
             faults: 0,
         }
     }
 }
 
-impl<'r, R: Input> Source for StdSource<'r, R> {
+impl<I: Read> Source for StdSource<I> {
     ghost left = { λ _. tells_nothing };
 
     ghost faults = { λ input. input.faults };
 
-    /// It answers what one read of the input answered, and `Failed` where that failed.
+    /// It reads once, for as many bytes as `out` has, and answers what that read answered, or `Failed` where it failed. Of a
+    /// reader that tells its bytes `out` begins with the next ones; behind them `out` is as the reader left it.
     fn take(&mut self, out: &mut [u8]) -> Result<usize, Failed>
         ensures ok { IfOk result (λ n. Takes out.new n tells_nothing tells_nothing) }
         ensures err { OnErr result (tells_nothing ≡ tells_nothing) }
         ensures counts { CountsFault (IsErr result) self.old.faults self.new.faults }
-        ensures asked { self.new.last ≡ result_ok result }
+        ensures once { self.new.calls ≡ one_call_more self.old.calls }
+        ensures asked { self.new.asked ≡ length out.new }
+        ensures done { self.new.done ≡ result_ok result }
+        ensures bytes { ReadConsumes self.old.told self.new.told result out.new }
     {
-        let taken = self.input.read(out);
-        answer(&mut self.faults, taken)
+        match self.input.read(out) {
+            Ok(taken) => Ok(taken),
+            Err(_) => Err(failed(&mut self.faults)),
+        }
     }
 }
 
-/// The standard output. It tells no bytes.
+/// The standard output, or another writer. As a sink it tells no bytes.
 #[derive(Drop)]
-pub struct StdSink<'r, R: Print> {
-    output: Outgoing<'r, R>,
+pub struct StdSink<W: Write> {
+    output: Outgoing<W>,
     faults: u64,
 }
 
-impl<'r, R: Print> Model for StdSink<'r, R> {
-    ghost use Rattle.script_text.specs.Console.{OutputState};
+impl<W: Write> Model for StdSink<W> {
+    ghost use Rattle.script_text.specs.Console.{StreamState};
 
-    ghost Value = { OutputState };
+    ghost Value = { StreamState };
 
-    ghost view = { λ s. record { faults = s.faults; last = s.output.last.value } };
+    ghost view = { λ s. record { faults = s.faults; calls = s.output.calls; asked = s.output.asked.value; done = s.output.done.value; told = W.contents s.output.writer } };
 }
 
-impl<'r, R: Print> StdSink<'r, R> {
+impl<'r, R: Print> StdSink<Printer<'r, R>> {
     /// The standard output, behind what was printed.
-    pub fn new(rt: &'r R) -> StdSink<'r, R>
-        ensures { result ≡ record { faults = 0; last = None } }
+    pub fn new(rt: &'r R) -> StdSink<Printer<'r, R>>
+        ensures { result ≡ record { faults = 0; calls = 0; asked = 0; done = None; told = None } }
     {
         StdSink {
             output: Outgoing {
-                rt,
-                last: Snapshot::of(&None),
+                writer: io::writer(rt),
+                calls: 0,
+                asked: Snapshot::of(&0),
+                done: Snapshot::of(&None),
             },
             faults: 0,
         }
     }
 }
 
-impl<'r, R: Print> Sink for StdSink<'r, R> {
+impl<W: Write> Sink for StdSink<W> {
     ghost written = { λ _. tells_nothing };
 
     ghost faults = { λ output. output.faults };
 
-    /// The output is given these bytes once, and `Failed` says that this failed.
+    /// It writes once, all of the bytes, and `Failed` says that this failed. A writer that tells its bytes has just these more.
     fn put(&mut self, bytes: &[u8]) -> Result<(), Failed>
         ensures puts { Puts bytes.now (IsErr result) tells_nothing tells_nothing }
         ensures counts { CountsFault (IsErr result) self.old.faults self.new.faults }
-        ensures asked { self.new.last ≡ option_map (λ _. length bytes.now) (result_ok result) }
+        ensures once { self.new.calls ≡ one_call_more self.old.calls }
+        ensures asked { self.new.asked ≡ length bytes.now }
+        ensures done { self.new.done ≡ option_map (λ _. length bytes.now) (result_ok result) }
+        ensures bytes { OnOk result (Appends self.old.told self.new.told bytes.now) }
     {
-        let written = self.output.write(bytes);
-        answer(&mut self.faults, written)
+        match self.output.write(bytes) {
+            Ok(()) => Ok(()),
+            Err(_) => Err(failed(&mut self.faults)),
+        }
     }
 }
 
-// The reader of the standard input. It keeps for contracts what the last read answered, which takes no memory.
+// A reader. It counts the calls on it, and keeps for contracts what the last one was for and what it answered, which takes no
+// memory.
 #[derive(Drop)]
-struct Incoming<R: Input> {
-    reader: R::Reader,
-    last: Snapshot<Option<usize>>,
+struct Incoming<I: Read> {
+    reader: I,
+    calls: u64,
+    asked: Snapshot<usize>,
+    done: Snapshot<Option<usize>>,
 }
 
-impl<R: Input> Incoming<R> {
+impl<I: Read> Incoming<I> {
     fn read(&mut self, out: &mut [u8]) -> io::Result<usize>
         ensures len { IfOk result (λ n. n ≤ length out.new) }
-        ensures last { self.new.last.value ≡ result_ok result }
+        ensures once { self.new.calls ≡ one_call_more self.old.calls }
+        ensures asked { self.new.asked.value ≡ length out.new }
+        ensures done { self.new.done.value ≡ result_ok result }
+        ensures bytes { ReadConsumes (I.remaining self.old.reader) (I.remaining self.new.reader) result out.new }
     {
+        self.calls = self.calls.saturating_add(1);
+        self.asked = Snapshot::of(&out.len());
         let taken = self.reader.read(out);
-        self.last = Snapshot::of(&taken.as_ref().ok().copied());
+        self.done = Snapshot::of(&taken.as_ref().ok().copied());
         taken
     }
 }
 
-// The printer of the standard output. It keeps for contracts what the last write was given, which takes no memory.
+// A writer. It counts the calls on it, and keeps for contracts what the last one was given, which takes no memory.
 #[derive(Drop)]
-struct Outgoing<'r, R: Print> {
-    rt: &'r R,
-    last: Snapshot<Option<usize>>,
+struct Outgoing<W: Write> {
+    writer: W,
+    calls: u64,
+    asked: Snapshot<usize>,
+    done: Snapshot<Option<usize>>,
 }
 
-impl<'r, R: Print> Outgoing<'r, R> {
+impl<W: Write> Outgoing<W> {
     fn write(&mut self, bytes: &[u8]) -> io::Result<()>
-        ensures last { self.new.last.value ≡ option_map (λ _. length bytes.now) (result_ok result) }
+        ensures once { self.new.calls ≡ one_call_more self.old.calls }
+        ensures asked { self.new.asked.value ≡ length bytes.now }
+        ensures done { self.new.done.value ≡ option_map (λ _. length bytes.now) (result_ok result) }
+        ensures bytes { OnOk result (Appends (W.contents self.old.writer) (W.contents self.new.writer) bytes.now) }
     {
-        let written = self.rt.write_all(bytes);
-        self.last = Snapshot::of(&written.is_ok().then_some(bytes.len()));
+        self.calls = self.calls.saturating_add(1);
+        self.asked = Snapshot::of(&bytes.len());
+        let written = self.writer.write_all(bytes);
+        self.done = Snapshot::of(&written.is_ok().then_some(bytes.len()));
         written
     }
 }
 
-// Answers for a call on a stream, and counts it where it failed.
-fn answer<T: Drop>(faults: &mut u64, done: io::Result<T>) -> Result<T, Failed>
-    ensures answer { result_ok result ≡ result_ok done }
-    ensures counts { CountsFault (IsErr result) faults.old faults.new }
+// What a call answers that failed, which it counts.
+fn failed(faults: &mut u64) -> Failed
+    ensures { CountsFault ⊤ faults.old faults.new }
 {
-    match done {
-        Ok(given) => Ok(given),
-        Err(_) => {
-            *faults = faults.saturating_add(1);
-            Err(Failed)
-        }
-    }
+    *faults = faults.saturating_add(1);
+    Failed
 }

@@ -8,4 +8,5 @@ pub mod MemEye
 pub mod Laws
 pub mod Plan
 pub mod Schedule
+pub mod FileCalls
 pub mod FileDisk

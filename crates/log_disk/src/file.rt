@@ -2,9 +2,9 @@
 //!
 //! Contracts name the path by which each file was opened, and the place and length of what it is asked for.
 
-ghost use Rattle.std.specs.Prelude.{◌≡◌, ◌≢◌, ◌⊎◌, ℕ, ◌*◌, ◌<◌, ◌≤◌, ◌+◌, ◌^◌, true, false, All, Any, Contains, None, Err, IfOk, OnOk, OnErr, IsErr, IsErrOf, is_err, length};
+ghost use Rattle.std.specs.Prelude.{◌≡◌, ◌≢◌, ◌⊎◌, ℕ, ◌*◌, ◌<◌, ◌≤◌, ◌+◌, ◌^◌, ◌∷◌, [], true, false, All, Any, Contains, None, Err, IfOk, OnOk, OnErr, IsErr, IsErrOf, is_err, length};
 ghost use Rattle.log_disk.specs.declared.file.MakeFault.TheVariants as fault;
-ghost use Rattle.log_disk.specs.declared.file.handle.FileAsk.TheVariants as ask;
+ghost use Rattle.log_disk.specs.FileCalls.{filling, finding, opens, tells_len, sets_len, reads, writes, syncs};
 ghost use Rattle.log_disk.specs.Disk.{new_disk, last_count, IsWithin, IsUnseen, Reads, Writes, Syncs, OnlyFails, Opens, Closes, Looks};
 
 use crate::eyes::OpenEyes;
@@ -18,11 +18,11 @@ use std::snapshot::Snapshot;
 use thiserror::Error;
 
 mod handle;
+mod record;
 #[cfg(test)]
 mod tests;
 
 use handle::Handle;
-pub use handle::{FileAsk, FileCall};
 
 /// Why no disk was made of a file.
 #[derive(Debug, Drop, Error)]
@@ -116,8 +116,7 @@ impl<R: Files<File = File> + Clone + Drop + Send> FileDisk<R> {
         ensures made { IfOk result (λ made. made.disk ≡ new_disk regions region_len None) }
         ensures at_path { IfOk result (λ made. made.path ≡ path.now) }
         ensures locked { IfOk result (λ made. made.file.locked ≡ true) }
-        ensures whole { IfOk result (λ made. made.file.len ≡ regions * region_len) }
-        ensures synced { IfOk result (λ made. made.file.last ≡ record { ask = ask.Sync; failed = false }) }
+        ensures calls { IfOk result (λ made. (made.file.calls ≡ filling (regions * region_len)) ⊎ (made.file.calls ≡ finding (regions * region_len))) }
         ensures wrong_length { (found : ℕ) → result ≡ Err (MakeFault.WrongLength found) → (found ≢ 0) × (found ≢ regions * region_len) }
     {
         let path = String::from_str(alloc, path)?;
@@ -143,8 +142,10 @@ impl<R: Files<File = File> + Clone + Drop + Send> FileDisk<R> {
 // Fills an empty file up to the whole of a disk. A file of another length is refused.
 fn fill(file: &mut Handle, whole: u64) -> Result<(), MakeFault>
     requires { file.old.locked.value ≡ true }
-    ensures whole { OnOk result (file.new.len.value ≡ whole) }
-    ensures wrong_length { (found : ℕ) → result ≡ Err (MakeFault.WrongLength found) → (found ≡ file.new.len.value) × (found ≢ 0) × (found ≢ whole) }
+    ensures ok { OnOk result ((file.new.record.calls ≡ sets_len whole false ∷ tells_len 0 false ∷ file.old.record.calls) ⊎ (file.new.record.calls ≡ tells_len whole false ∷ file.old.record.calls)) }
+    ensures wrong_length { (found : ℕ) → result ≡ Err (MakeFault.WrongLength found) → (file.new.record.calls ≡ tells_len found false ∷ file.old.record.calls) × (found ≢ 0) × (found ≢ whole) }
+    ensures failed { IsErrOf result MakeFault.Failed → (file.new.record.calls ≡ tells_len 0 true ∷ file.old.record.calls) ⊎ (file.new.record.calls ≡ sets_len whole true ∷ tells_len 0 false ∷ file.old.record.calls) }
+    ensures memory { result ≢ Err MakeFault.NoMemory }
     ensures locked { file.new.locked ≡ file.old.locked }
     ensures path { file.new.path ≡ file.old.path }
 {
@@ -182,7 +183,7 @@ impl<R: Files<File = File> + Clone + Drop + Send> LogDisk for FileDisk<R> {
     fn read(&mut self, region: u32, at: u64, out: &mut [u8]) -> Result<(), Failed>
         requires { IsWithin self.old.disk region at (length out.old) }
         ensures reads { Reads region at out.new (IsErr result) self.old.disk self.new.disk }
-        ensures asked { self.new.file.last ≡ record { ask = ask.Read (region * self.old.disk.region_len + at) (length out.old); failed = is_err result } }
+        ensures asked { self.new.file.calls ≡ reads (region * self.old.disk.region_len + at) out.new (is_err result) ∷ self.old.file.calls }
         ensures same_path { self.new.path ≡ self.old.path }
     {
         let done = self.file.read(place_of(self.region_len, region, at), out);
@@ -195,7 +196,8 @@ impl<R: Files<File = File> + Clone + Drop + Send> LogDisk for FileDisk<R> {
         requires unseen { IsUnseen self.old.disk region }
         ensures begun { result ≢ Err DiskRefusal.NoMemory → Writes region at bytes.now (IsErr result) self.old.disk self.new.disk }
         ensures no_memory { IsErrOf result DiskRefusal.NoMemory → self.new.disk ≡ self.old.disk }
-        ensures asked { result ≢ Err DiskRefusal.NoMemory → self.new.file.last ≡ record { ask = ask.Write (region * self.old.disk.region_len + at) (length bytes.now); failed = is_err result } }
+        ensures unasked { IsErrOf result DiskRefusal.NoMemory → self.new.file ≡ self.old.file }
+        ensures asked { result ≢ Err DiskRefusal.NoMemory → self.new.file.calls ≡ writes (region * self.old.disk.region_len + at) bytes.now (is_err result) ∷ self.old.file.calls }
         ensures same_path { self.new.path ≡ self.old.path }
     {
         self.unsynced.push(Snapshot::of(&region))?;
@@ -212,7 +214,7 @@ impl<R: Files<File = File> + Clone + Drop + Send> LogDisk for FileDisk<R> {
     fn sync(&mut self) -> Result<(), Failed>
         ensures ok { OnOk result (Syncs self.old.disk self.new.disk) }
         ensures err { OnErr result (OnlyFails self.old.disk self.new.disk) }
-        ensures asked { self.new.file.last ≡ record { ask = ask.Sync; failed = is_err result } }
+        ensures asked { self.new.file.calls ≡ syncs (is_err result) ∷ self.old.file.calls }
         ensures same_path { self.new.path ≡ self.old.path }
     {
         let done = self.file.sync();
@@ -230,7 +232,10 @@ impl<R: Files<File = File> + Clone + Drop + Send> LogDisk for FileDisk<R> {
         ensures ok { IfOk result (λ opened. Opens regions.now opened.eye self.old.disk self.new.disk) }
         ensures failed { IsErrOf result DiskRefusal.Failed → OnlyFails self.old.disk self.new.disk }
         ensures no_memory { IsErrOf result DiskRefusal.NoMemory → self.new.disk ≡ self.old.disk }
-        ensures cause { IsErrOf result DiskRefusal.Failed → (length self.old.disk.given ≡ last_count) ⊎ (self.new.file.last ≡ record { ask = ask.Open; failed = true }) }
+        ensures cause { IsErrOf result DiskRefusal.Failed → ((length self.old.disk.given ≡ last_count) × (self.new.file ≡ self.old.file)) ⊎ (self.new.file.calls ≡ opens true ∷ self.old.file.calls) }
+        ensures asked { OnOk result (self.new.file.calls ≡ opens false ∷ self.old.file.calls) }
+        ensures unasked { IsErrOf result DiskRefusal.NoMemory → self.new.file ≡ self.old.file }
+        ensures opened { IfOk result (λ opened. opened.file.calls ≡ opens false ∷ []) }
         ensures at_path { IfOk result (λ opened. opened.path ≡ self.old.path) }
         ensures same_path { self.new.path ≡ self.old.path }
     {
@@ -259,6 +264,7 @@ impl<R: Files<File = File> + Clone + Drop + Send> LogDisk for FileDisk<R> {
     fn close(&mut self, eye: FileEye)
         requires { Any (λ e. e.number ≡ eye.eye.number) self.old.disk.eyes }
         ensures closes { Closes eye.eye self.old.disk self.new.disk }
+        ensures unasked { self.new.file ≡ self.old.file }
         ensures same_path { self.new.path ≡ self.old.path }
     {
         let number = eye.number;
@@ -312,7 +318,7 @@ impl LogEye for FileEye {
         requires named { Contains self.old.eye.regions region }
         requires within { at + length out.old ≤ self.old.eye.region_len }
         ensures looks { Looks region at out.new (IsErr result) self.old.eye self.new.eye }
-        ensures asked { self.new.file.last ≡ record { ask = ask.Read (region * self.old.eye.region_len + at) (length out.old); failed = is_err result } }
+        ensures asked { self.new.file.calls ≡ reads (region * self.old.eye.region_len + at) out.new (is_err result) ∷ self.old.file.calls }
         ensures same_path { self.new.path ≡ self.old.path }
     {
         self.taken = self.taken.saturating_add(out.len() as u64);

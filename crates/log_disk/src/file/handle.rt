@@ -1,34 +1,30 @@
 //! The file of a disk. Each call of the library on it stands here, alone in a function.
 //!
-//! A handle keeps for contracts what its file was asked last and whether that failed, which takes no memory. That the system
-//! then does what it was asked, and fails only where the device does, no contract can say.
+//! A handle records for contracts each call on its file, the bytes that it took or gave, and whether it failed, which takes no
+//! memory. That the system then does what it was asked, and fails only where the device does, no contract can say.
 
-ghost use Rattle.std.specs.Prelude.{◌≡◌, true, false, length, IfOk, OnOk, is_err};
-ghost use Rattle.log_disk.specs.declared.file.handle.FileAsk.TheVariants as ask;
+ghost use Rattle.std.specs.Prelude.{◌≡◌, true, false, [], ◌∷◌, IfOk, OnOk, OnErr, Any, is_err};
+ghost use Rattle.log_disk.specs.FileCalls.{opens, locks, tells_len, sets_len, reads, writes, syncs};
 
+use crate::file::record::Record;
 use std::fs::{File, Files, OpenOptions};
 use std::io;
 use std::os::unix::fs::FileExt;
 use std::snapshot::Snapshot;
 
-/// What a file is asked for.
-#[derive(Clone, Copy)]
-pub enum FileAsk {
-    Open,
-    Lock,
-    Len,
-    SetLen { len: u64 },
-    Read { from: u64, len: usize },
-    Write { from: u64, len: usize },
-    Sync,
-}
+const OPEN: u64 = 0;
 
-/// A call on a file, and whether it failed.
-#[derive(Clone, Copy)]
-pub struct FileCall {
-    pub ask: FileAsk,
-    pub failed: bool,
-}
+const LOCK: u64 = 1;
+
+const LEN: u64 = 2;
+
+const SET_LEN: u64 = 3;
+
+const READ: u64 = 4;
+
+const WRITE: u64 = 5;
+
+const SYNC: u64 = 6;
 
 /// An open file, with the path by which it was opened.
 #[derive(Drop)]
@@ -36,8 +32,7 @@ pub(crate) struct Handle {
     pub(crate) file: File,
     pub(crate) path: Snapshot<String>,
     pub(crate) locked: Snapshot<bool>,
-    pub(crate) len: Snapshot<u64>,
-    pub(crate) last: Snapshot<FileCall>,
+    pub(crate) record: Record,
 }
 
 impl Handle {
@@ -48,17 +43,18 @@ impl Handle {
         is_own: bool,
     ) -> io::Result<Handle>
         ensures path { IfOk result (λ file. file.path.value ≡ path.now) }
-        ensures last { IfOk result (λ file. file.last.value ≡ record { ask = ask.Open; failed = false }) }
+        ensures calls { IfOk result (λ file. file.record.calls ≡ opens false ∷ []) }
     {
         let mut options = OpenOptions::new();
         options.read(true).write(is_own).create(is_own);
         let file = options.open(rt, path.as_str())?;
+        let mut record = Record::new();
+        record.note(&[OPEN, 0, 0], &[]);
         Ok(Handle {
             file,
             path: Snapshot::of(path),
             locked: Snapshot::of(&false),
-            len: Snapshot::of(&0),
-            last: Handle::call(FileAsk::Open, false),
+            record,
         })
     }
 
@@ -69,12 +65,13 @@ impl Handle {
         path: &String,
     ) -> io::Result<Handle>
         ensures opened { IfOk result (λ file. file.path.value ≡ path.now) }
-        ensures last { self.new.last.value ≡ record { ask = ask.Open; failed = is_err result } }
+        ensures opened_calls { IfOk result (λ file. file.record.calls ≡ opens false ∷ []) }
+        ensures calls { self.new.record.calls ≡ opens (is_err result) ∷ self.old.record.calls }
         ensures locked { self.new.locked ≡ self.old.locked }
         ensures path { self.new.path ≡ self.old.path }
     {
         let opened = Handle::open(rt, path, false);
-        self.last = Handle::call(FileAsk::Open, opened.is_err());
+        self.note(OPEN, 0, opened.is_err(), &[]);
         opened
     }
 
@@ -82,10 +79,11 @@ impl Handle {
     /// process.
     pub(crate) fn lock(&mut self) -> io::Result<()>
         ensures locked { OnOk result (self.new.locked.value ≡ true) }
+        ensures calls { self.new.record.calls ≡ locks (is_err result) ∷ self.old.record.calls }
         ensures path { self.new.path ≡ self.old.path }
     {
         let done = self.file.try_lock();
-        self.last = Handle::call(FileAsk::Lock, done.is_err());
+        self.note(LOCK, 0, done.is_err(), &[]);
         done?;
         self.locked = Snapshot::of(&true);
         Ok(())
@@ -93,70 +91,78 @@ impl Handle {
 
     /// The file's length.
     pub(crate) fn len(&mut self) -> io::Result<u64>
-        ensures len { IfOk result (λ len. len ≡ self.new.len.value) }
+        ensures ok { IfOk result (λ len. self.new.record.calls ≡ tells_len len false ∷ self.old.record.calls) }
+        ensures err { OnErr result (self.new.record.calls ≡ tells_len 0 true ∷ self.old.record.calls) }
         ensures locked { self.new.locked ≡ self.old.locked }
         ensures path { self.new.path ≡ self.old.path }
     {
-        let found = self.file.metadata();
-        self.last = Handle::call(FileAsk::Len, found.is_err());
-        let len = found?.len();
-        self.len = Snapshot::of(&len);
-        Ok(len)
+        match self.file.metadata() {
+            Ok(found) => {
+                let len = found.len();
+                self.note(LEN, len, false, &[]);
+                Ok(len)
+            }
+            Err(error) => {
+                self.note(LEN, 0, true, &[]);
+                Err(error)
+            }
+        }
     }
 
     /// Cuts the file to a length, or fills it with zeros up to it. No other process has the file.
     pub(crate) fn set_len(&mut self, len: u64) -> io::Result<()>
         requires { self.old.locked.value ≡ true }
-        ensures len { OnOk result (self.new.len.value ≡ len) }
+        ensures calls { self.new.record.calls ≡ sets_len len (is_err result) ∷ self.old.record.calls }
         ensures locked { self.new.locked ≡ self.old.locked }
         ensures path { self.new.path ≡ self.old.path }
     {
         let done = self.file.set_len(len);
-        self.last = Handle::call(FileAsk::SetLen { len }, done.is_err());
-        done?;
-        self.len = Snapshot::of(&len);
-        Ok(())
+        self.note(SET_LEN, len, done.is_err(), &[]);
+        done
     }
 
     /// Reads the bytes from a place of the file on.
     pub(crate) fn read(&mut self, from: u64, out: &mut [u8]) -> io::Result<()>
-        ensures last { self.new.last.value ≡ record { ask = ask.Read from (length out.old); failed = is_err result } }
+        ensures calls { self.new.record.calls ≡ reads from out.new (is_err result) ∷ self.old.record.calls }
         ensures locked { self.new.locked ≡ self.old.locked }
         ensures path { self.new.path ≡ self.old.path }
     {
-        let len = out.len();
         let done = self.file.read_exact_at(out, from);
-        self.last = Handle::call(FileAsk::Read { from, len }, done.is_err());
+        self.note(READ, from, done.is_err(), out);
         done
     }
 
     /// Writes bytes from a place of the file on.
     pub(crate) fn write(&mut self, from: u64, bytes: &[u8]) -> io::Result<()>
-        ensures last { self.new.last.value ≡ record { ask = ask.Write from (length bytes.now); failed = is_err result } }
+        ensures calls { self.new.record.calls ≡ writes from bytes.now (is_err result) ∷ self.old.record.calls }
         ensures locked { self.new.locked ≡ self.old.locked }
         ensures path { self.new.path ≡ self.old.path }
     {
-        let len = bytes.len();
         let done = self.file.write_all_at(bytes, from);
-        self.last = Handle::call(FileAsk::Write { from, len }, done.is_err());
+        self.note(WRITE, from, done.is_err(), bytes);
         done
     }
 
     /// Syncs the file with all that the system offers.
     pub(crate) fn sync(&mut self) -> io::Result<()>
-        ensures last { self.new.last.value ≡ record { ask = ask.Sync; failed = is_err result } }
-        ensures len { self.new.len ≡ self.old.len }
+        ensures calls { self.new.record.calls ≡ syncs (is_err result) ∷ self.old.record.calls }
         ensures locked { self.new.locked ≡ self.old.locked }
         ensures path { self.new.path ≡ self.old.path }
     {
         let done = self.file.sync_all();
-        self.last = Handle::call(FileAsk::Sync, done.is_err());
+        self.note(SYNC, 0, done.is_err(), &[]);
         done
     }
 
-    fn call(ask: FileAsk, failed: bool) -> Snapshot<FileCall>
-        ensures { result.value ≡ record { ask = ask; failed = failed } }
+    fn note(&mut self, ask: u64, number: u64, failed: bool, bytes: &[u8])
+        ensures calls { self.new.record.calls ≡ (ask, (number, (failed, bytes.now))) ∷ self.old.record.calls }
+        ensures locked { self.new.locked ≡ self.old.locked }
+        ensures path { self.new.path ≡ self.old.path }
     {
-        Snapshot::of(&FileCall { ask, failed })
+        if failed {
+            self.record.note(&[ask, number, 1], bytes);
+        } else {
+            self.record.note(&[ask, number, 0], bytes);
+        }
     }
 }

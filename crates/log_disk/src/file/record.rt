@@ -1,0 +1,36 @@
+//! The calls that were made on a file. They are there for contracts and take no memory.
+
+ghost use Rattle.std.specs.Prelude.{◌≡◌, List, [], ◌∷◌};
+ghost use Rattle.std.specs.Borrow.{ftrue};
+ghost use Rattle.log_disk.specs.FileCalls.{FileCall, call_of};
+
+use std::marker::{Model, PhantomData};
+
+/// The calls on a file since it was opened, the newest first.
+#[derive(Drop)]
+pub struct Record {
+    marker: PhantomData<u8>,
+    pub ghost calls: { List FileCall },
+}
+
+impl Model for Record {
+    ghost also_owns = { λ _. ftrue };
+}
+
+// It owns nothing.
+unsafe impl Send for Record {}
+
+impl Record {
+    pub(crate) fn new() -> Record
+        ensures { result.calls ≡ [] }
+    {
+        Record {
+            marker: PhantomData,
+        }
+    }
+
+    /// Adds a call: what was asked, a place or a length, and 1 where it failed; and the bytes that it took or gave.
+    pub(crate) fn note(&mut self, _numbers: &[u64], _bytes: &[u8])
+        ensures { self.new.calls ≡ call_of _numbers.now _bytes.now ∷ self.old.calls }
+    {}
+}

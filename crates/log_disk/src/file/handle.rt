@@ -3,14 +3,17 @@
 //! A handle records for contracts each call on its file, the bytes that it took or gave, and whether it failed, which takes no
 //! memory. That the system then does what it was asked, and fails only where the device does, no contract can say.
 
-ghost use Rattle.std.specs.Prelude.{◌≡◌, true, false, [], ◌∷◌, IfOk, OnOk, OnErr, Any, is_err};
+ghost use Rattle.std.specs.Prelude.{◌≡◌, true, false, [], ◌∷◌, IfOk, OnOk, OnErr, is_err};
 ghost use Rattle.log_disk.specs.FileCalls.{opens, locks, tells_len, sets_len, reads, writes, syncs};
 
-use crate::file::record::Record;
 use std::fs::{File, Files, OpenOptions};
 use std::io;
 use std::os::unix::fs::FileExt;
 use std::snapshot::Snapshot;
+
+mod record;
+
+use record::Record;
 
 const OPEN: u64 = 0;
 
@@ -26,13 +29,13 @@ const WRITE: u64 = 5;
 
 const SYNC: u64 = 6;
 
-/// An open file, with the path by which it was opened.
+/// An open file, with the path by which it was opened. Its fields are private, so that no call on the file goes unrecorded.
 #[derive(Drop)]
 pub(crate) struct Handle {
-    pub(crate) file: File,
-    pub(crate) path: Snapshot<String>,
-    pub(crate) locked: Snapshot<bool>,
-    pub(crate) record: Record,
+    file: File,
+    path: Snapshot<String>,
+    locked: Snapshot<bool>,
+    record: Record,
 }
 
 impl Handle {
@@ -152,6 +155,15 @@ impl Handle {
         let done = self.file.sync_all();
         self.note(SYNC, 0, done.is_err(), &[]);
         done
+    }
+
+    /// Puts another file in the place of this one, so that calls on it fail.
+    #[cfg(test)]
+    pub(crate) fn replace(&mut self, file: File)
+        ensures locked { self.new.locked ≡ self.old.locked }
+        ensures path { self.new.path ≡ self.old.path }
+    {
+        self.file = file;
     }
 
     fn note(&mut self, ask: u64, number: u64, failed: bool, bytes: &[u8])

@@ -17,11 +17,8 @@ impl Model for Record {
     ghost also_owns = { λ _. ftrue };
 }
 
-// It owns nothing.
-unsafe impl Send for Record {}
-
 impl Record {
-    pub(crate) fn new() -> Record
+    pub(super) fn new() -> Record
         ensures { result.calls ≡ [] }
     {
         Record {
@@ -30,7 +27,7 @@ impl Record {
     }
 
     /// Adds a call: what was asked, a place or a length, and 1 where it failed; and the bytes that it took or gave.
-    pub(crate) fn note(&mut self, _numbers: &[u64], _bytes: &[u8])
+    pub(super) fn note(&mut self, _numbers: &[u64], _bytes: &[u8])
         ensures { self.new.calls ≡ call_of _numbers.now _bytes.now ∷ self.old.calls }
     {}
 }

@@ -21,12 +21,12 @@ use denote.Triple.Entry.{on_entry}
 use denote.Triple.Spec.{Meets, triple_of}
 use denote.Triple.Table.{entered}
 use denote.Triple.Walked.{says, ends_at, walked, walk_Meets}
-use Rattle.log_disk.specs.declared.file.record.Record.{Record}
-use Rattle.log_disk.specs.contracts.file.record.Record as T
-use Rattle.log_disk.specs.contracts.file.record.Record.new.Key.{name as #it}
-use Rattle.log_disk.specs.contracts.file.record.Record.new as it
-use Rattle.log_disk.proofs.file.record.Record.new.Statement as stated
-use Rattle.log_disk.proofs.file.record.Record.new.Code as code
+use Rattle.log_disk.specs.declared.file.handle.record.Record.{Record}
+use Rattle.log_disk.specs.contracts.file.handle.record.Record as T
+use Rattle.log_disk.specs.contracts.file.handle.record.Record.new.Key.{name as #it}
+use Rattle.log_disk.specs.contracts.file.handle.record.Record.new as it
+use Rattle.log_disk.proofs.file.handle.record.Record.new.Statement as stated
+use Rattle.log_disk.proofs.file.handle.record.Record.new.Code as code
 
 abbrev v : Val
 v = vstruct (vcons (vstruct vnil) vnil)

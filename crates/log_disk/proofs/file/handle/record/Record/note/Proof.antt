@@ -25,13 +25,13 @@ use denote.Triple.Entry.{on_entry}
 use denote.Triple.Spec.{Meets, triple_of}
 use denote.Triple.Table.{entered}
 use denote.Triple.Walked.{says, Stays, stay_ref, walk_of, AllGo, Goes-ref, Walks, ends_at, walked, walk_Meets}
-use Rattle.log_disk.specs.declared.file.record.Record.{Record}
+use Rattle.log_disk.specs.declared.file.handle.record.Record.{Record}
 use Rattle.log_disk.specs.FileCalls.{call_of}
-use Rattle.log_disk.specs.contracts.file.record.Record as T
-use Rattle.log_disk.specs.contracts.file.record.Record.note.Key.{name as #it}
-use Rattle.log_disk.specs.contracts.file.record.Record.note as it
-use Rattle.log_disk.proofs.file.record.Record.note.Statement as stated
-use Rattle.log_disk.proofs.file.record.Record.note.Code as code
+use Rattle.log_disk.specs.contracts.file.handle.record.Record as T
+use Rattle.log_disk.specs.contracts.file.handle.record.Record.note.Key.{name as #it}
+use Rattle.log_disk.specs.contracts.file.handle.record.Record.note as it
+use Rattle.log_disk.proofs.file.handle.record.Record.note.Statement as stated
+use Rattle.log_disk.proofs.file.handle.record.Record.note.Code as code
 use denote.Ref.{Bor}
 use denote.Builtin.{u8, u64}
 use denote.Exit.{yes}

@@ -143,9 +143,9 @@ impl<R: Files<File = File> + Clone + Drop + Send> FileDisk<R> {
 // the calls, so the length that the file tells decides.
 fn fill(file: &mut Handle, whole: u64) -> Result<(), MakeFault>
     requires { file.old.locked.value ≡ true }
-    ensures ok { OnOk result ((file.new.record.calls ≡ sets_len whole false ∷ tells_len 0 false ∷ file.old.record.calls) ⊎ (file.new.record.calls ≡ tells_len whole false ∷ file.old.record.calls)) }
-    ensures wrong_length { (found : ℕ) → result ≡ Err (MakeFault.WrongLength found) → (file.new.record.calls ≡ tells_len found false ∷ file.old.record.calls) × (found ≢ 0) × (found ≢ whole) }
-    ensures failed { IsErrOf result MakeFault.Failed → (file.new.record.calls ≡ tells_len 0 true ∷ file.old.record.calls) ⊎ (file.new.record.calls ≡ sets_len whole true ∷ tells_len 0 false ∷ file.old.record.calls) }
+    ensures ok { OnOk result ((file.new.history.calls ≡ sets_len whole false ∷ tells_len 0 false ∷ file.old.history.calls) ⊎ (file.new.history.calls ≡ tells_len whole false ∷ file.old.history.calls)) }
+    ensures wrong_length { (found : ℕ) → result ≡ Err (MakeFault.WrongLength found) → (file.new.history.calls ≡ tells_len found false ∷ file.old.history.calls) × (found ≢ 0) × (found ≢ whole) }
+    ensures failed { IsErrOf result MakeFault.Failed → (file.new.history.calls ≡ tells_len 0 true ∷ file.old.history.calls) ⊎ (file.new.history.calls ≡ sets_len whole true ∷ tells_len 0 false ∷ file.old.history.calls) }
     ensures memory { result ≢ Err MakeFault.NoMemory }
     ensures locked { file.new.locked ≡ file.old.locked }
     ensures path { file.new.path ≡ file.old.path }
@@ -226,8 +226,8 @@ impl<R: Files<File = File> + Clone + Drop + Send> LogDisk for FileDisk<R> {
         Ok(())
     }
 
-    /// The eye's file is opened by the disk's own path, and nothing is asked of the disk's file. `Failed` says that the opening
-    /// failed, or that all numbers are spent.
+    /// The eye's file is opened by the disk's own path, once, which the disk's calls tell too, and no other call is made.
+    /// `Failed` says that the opening failed, or that all numbers are spent.
     fn eye(&mut self, regions: &[u32]) -> Result<FileEye, DiskRefusal>
         requires there { All (λ r. r < self.old.disk.regions) regions.now }
         requires synced { All (λ r. Contains self.old.disk.unsynced r → ⊥) regions.now }

@@ -8,20 +8,20 @@ use std::marker::{Model, PhantomData};
 
 /// The calls on a file since it was opened, the newest first.
 #[derive(Drop)]
-pub struct Record {
+pub struct History {
     marker: PhantomData<u8>,
     pub ghost calls: { List FileCall },
 }
 
-impl Model for Record {
+impl Model for History {
     ghost also_owns = { λ _. ftrue };
 }
 
-impl Record {
-    pub(super) fn new() -> Record
+impl History {
+    pub(super) fn new() -> History
         ensures { result.calls ≡ [] }
     {
-        Record {
+        History {
             marker: PhantomData,
         }
     }

@@ -11,7 +11,7 @@ pub record FileState : Type 0 where
   pub calls : List FileCall
 
 abbrev pub file_of : Handle → FileState
-file_of file = record { locked = file.locked.value; calls = file.record.calls }
+file_of file = record { locked = file.locked.value; calls = file.history.calls }
 
 pub record DiskAtPath : Type 0 where
   pub path : List ℕ

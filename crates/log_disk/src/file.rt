@@ -1,6 +1,6 @@
 //! A disk in a file of the system. What the file keeps is not told: this is the edge where the system is trusted.
 //!
-//! Contracts name the path by which each file was opened, and the place and length of what it is asked for.
+//! Contracts name the path by which each file was opened, and every call on it, in order, with its place and its bytes.
 
 ghost use Rattle.std.specs.Prelude.{◌≡◌, ◌≢◌, ◌⊎◌, ℕ, ◌*◌, ◌<◌, ◌≤◌, ◌+◌, ◌^◌, ◌∷◌, [], true, false, All, Any, Contains, None, Err, IfOk, OnOk, OnErr, IsErr, IsErrOf, is_err, length};
 ghost use Rattle.log_disk.specs.declared.file.MakeFault.TheVariants as fault;
@@ -18,7 +18,6 @@ use std::snapshot::Snapshot;
 use thiserror::Error;
 
 mod handle;
-mod record;
 #[cfg(test)]
 mod tests;
 
@@ -101,10 +100,11 @@ impl<R: Files<File = File> + Clone + Drop + Send> FileDisk<R> {
     /// Opens the file at a path as a disk of regions, and makes it where there is none. It takes the file's lock, fills an
     /// empty file with zeros, and then syncs it with all that the system offers.
     ///
-    /// `WrongLength` comes exactly where the file's length is neither 0 nor the whole; the file is left as it was. `Failed`
-    /// says that a call on the file failed, as the lock does where another disk, of this or another process, has the file; the
-    /// file may then have been made or filled. No clause gives its cause, since no disk is there yet that could count it.
-    /// `NoMemory` comes before the file is touched.
+    /// After `Ok` the calls on the file were these and no others: it was opened and locked, told its length, and was synced; and
+    /// its length was 0 and then set once, to the whole, or was the whole and not set. `WrongLength` comes where the length that
+    /// the file told is neither 0 nor the whole; the file is left as it was. `Failed` says that a call on the file failed, as the
+    /// lock does where another disk, of this or another process, has the file; the file may then have been made or filled. No
+    /// clause gives its cause, since no disk is there yet that could count it. `NoMemory` comes before the file is touched.
     pub fn make(
         rt: &R,
         alloc: Global,
@@ -139,12 +139,13 @@ impl<R: Files<File = File> + Clone + Drop + Send> FileDisk<R> {
     }
 }
 
-// Fills an empty file up to the whole of a disk. A file of another length is refused.
+// Fills an empty file up to the whole of a disk. A file of another length is refused, and is only asked for it. Each answer names
+// the calls, so the length that the file tells decides.
 fn fill(file: &mut Handle, whole: u64) -> Result<(), MakeFault>
     requires { file.old.locked.value ≡ true }
-    ensures ok { OnOk result ((file.new.record.calls ≡ sets_len whole false ∷ tells_len 0 false ∷ file.old.record.calls) ⊎ (file.new.record.calls ≡ tells_len whole false ∷ file.old.record.calls)) }
-    ensures wrong_length { (found : ℕ) → result ≡ Err (MakeFault.WrongLength found) → (file.new.record.calls ≡ tells_len found false ∷ file.old.record.calls) × (found ≢ 0) × (found ≢ whole) }
-    ensures failed { IsErrOf result MakeFault.Failed → (file.new.record.calls ≡ tells_len 0 true ∷ file.old.record.calls) ⊎ (file.new.record.calls ≡ sets_len whole true ∷ tells_len 0 false ∷ file.old.record.calls) }
+    ensures ok { OnOk result ((file.new.history.calls ≡ sets_len whole false ∷ tells_len 0 false ∷ file.old.history.calls) ⊎ (file.new.history.calls ≡ tells_len whole false ∷ file.old.history.calls)) }
+    ensures wrong_length { (found : ℕ) → result ≡ Err (MakeFault.WrongLength found) → (file.new.history.calls ≡ tells_len found false ∷ file.old.history.calls) × (found ≢ 0) × (found ≢ whole) }
+    ensures failed { IsErrOf result MakeFault.Failed → (file.new.history.calls ≡ tells_len 0 true ∷ file.old.history.calls) ⊎ (file.new.history.calls ≡ sets_len whole true ∷ tells_len 0 false ∷ file.old.history.calls) }
     ensures memory { result ≢ Err MakeFault.NoMemory }
     ensures locked { file.new.locked ≡ file.old.locked }
     ensures path { file.new.path ≡ file.old.path }
@@ -179,7 +180,7 @@ impl<R: Files<File = File> + Clone + Drop + Send> LogDisk for FileDisk<R> {
         self.region_len
     }
 
-    /// The file is asked for these bytes, once, and `Failed` says that it failed.
+    /// The file is asked for these bytes, once and for nothing else, and `Failed` says that it failed. `out` has what it gave.
     fn read(&mut self, region: u32, at: u64, out: &mut [u8]) -> Result<(), Failed>
         requires { IsWithin self.old.disk region at (length out.old) }
         ensures reads { Reads region at out.new (IsErr result) self.old.disk self.new.disk }
@@ -190,7 +191,7 @@ impl<R: Files<File = File> + Clone + Drop + Send> LogDisk for FileDisk<R> {
         self.faults.answer(done)
     }
 
-    /// The file is given these bytes, once, and `Failed` says that it failed.
+    /// The file is given these bytes, once and nothing else, and `Failed` says that it failed. `NoMemory` comes before.
     fn write(&mut self, region: u32, at: u64, bytes: &[u8]) -> Result<(), DiskRefusal>
         requires within { IsWithin self.old.disk region at (length bytes.now) }
         requires unseen { IsUnseen self.old.disk region }
@@ -210,7 +211,7 @@ impl<R: Files<File = File> + Clone + Drop + Send> LogDisk for FileDisk<R> {
         }
     }
 
-    /// The file is asked to sync, once, and `Failed` says that it failed.
+    /// The file is asked to sync, once and for nothing else, and `Failed` says that it failed.
     fn sync(&mut self) -> Result<(), Failed>
         ensures ok { OnOk result (Syncs self.old.disk self.new.disk) }
         ensures err { OnErr result (OnlyFails self.old.disk self.new.disk) }
@@ -225,7 +226,8 @@ impl<R: Files<File = File> + Clone + Drop + Send> LogDisk for FileDisk<R> {
         Ok(())
     }
 
-    /// The eye's file is opened by the disk's own path. `Failed` says that this failed, or that all numbers are spent.
+    /// The eye's file is opened by the disk's own path, once, which the disk's calls tell too, and no other call is made.
+    /// `Failed` says that the opening failed, or that all numbers are spent.
     fn eye(&mut self, regions: &[u32]) -> Result<FileEye, DiskRefusal>
         requires there { All (λ r. r < self.old.disk.regions) regions.now }
         requires synced { All (λ r. Contains self.old.disk.unsynced r → ⊥) regions.now }
@@ -261,6 +263,7 @@ impl<R: Files<File = File> + Clone + Drop + Send> LogDisk for FileDisk<R> {
         })
     }
 
+    /// Nothing is asked of the disk's file.
     fn close(&mut self, eye: FileEye)
         requires { Any (λ e. e.number ≡ eye.eye.number) self.old.disk.eyes }
         ensures closes { Closes eye.eye self.old.disk self.new.disk }
@@ -314,6 +317,8 @@ impl LogEye for FileEye {
         self.number
     }
 
+    /// The eye's file is asked for these bytes, once and for nothing else, and `Failed` says that it failed. `out` has what it
+    /// gave.
     fn read(&mut self, region: u32, at: u64, out: &mut [u8]) -> Result<(), Failed>
         requires named { Contains self.old.eye.regions region }
         requires within { at + length out.old ≤ self.old.eye.region_len }

@@ -3,14 +3,17 @@
 //! A handle records for contracts each call on its file, the bytes that it took or gave, and whether it failed, which takes no
 //! memory. That the system then does what it was asked, and fails only where the device does, no contract can say.
 
-ghost use Rattle.std.specs.Prelude.{◌≡◌, true, false, [], ◌∷◌, IfOk, OnOk, OnErr, Any, is_err};
+ghost use Rattle.std.specs.Prelude.{◌≡◌, true, false, [], ◌∷◌, IfOk, OnOk, OnErr, is_err};
 ghost use Rattle.log_disk.specs.FileCalls.{opens, locks, tells_len, sets_len, reads, writes, syncs};
 
-use crate::file::record::Record;
 use std::fs::{File, Files, OpenOptions};
 use std::io;
 use std::os::unix::fs::FileExt;
 use std::snapshot::Snapshot;
+
+mod history;
+
+use history::History;
 
 const OPEN: u64 = 0;
 
@@ -26,13 +29,13 @@ const WRITE: u64 = 5;
 
 const SYNC: u64 = 6;
 
-/// An open file, with the path by which it was opened.
+/// An open file, with the path by which it was opened. Its fields are private, so that no call on the file goes unrecorded.
 #[derive(Drop)]
 pub(crate) struct Handle {
-    pub(crate) file: File,
-    pub(crate) path: Snapshot<String>,
-    pub(crate) locked: Snapshot<bool>,
-    pub(crate) record: Record,
+    file: File,
+    path: Snapshot<String>,
+    locked: Snapshot<bool>,
+    history: History,
 }
 
 impl Handle {
@@ -43,18 +46,18 @@ impl Handle {
         is_own: bool,
     ) -> io::Result<Handle>
         ensures path { IfOk result (λ file. file.path.value ≡ path.now) }
-        ensures calls { IfOk result (λ file. file.record.calls ≡ opens false ∷ []) }
+        ensures calls { IfOk result (λ file. file.history.calls ≡ opens false ∷ []) }
     {
         let mut options = OpenOptions::new();
         options.read(true).write(is_own).create(is_own);
         let file = options.open(rt, path.as_str())?;
-        let mut record = Record::new();
-        record.note(&[OPEN, 0, 0], &[]);
+        let mut history = History::new();
+        history.note(&[OPEN, 0, 0], &[]);
         Ok(Handle {
             file,
             path: Snapshot::of(path),
             locked: Snapshot::of(&false),
-            record,
+            history,
         })
     }
 
@@ -65,8 +68,8 @@ impl Handle {
         path: &String,
     ) -> io::Result<Handle>
         ensures opened { IfOk result (λ file. file.path.value ≡ path.now) }
-        ensures opened_calls { IfOk result (λ file. file.record.calls ≡ opens false ∷ []) }
-        ensures calls { self.new.record.calls ≡ opens (is_err result) ∷ self.old.record.calls }
+        ensures opened_calls { IfOk result (λ file. file.history.calls ≡ opens false ∷ []) }
+        ensures calls { self.new.history.calls ≡ opens (is_err result) ∷ self.old.history.calls }
         ensures locked { self.new.locked ≡ self.old.locked }
         ensures path { self.new.path ≡ self.old.path }
     {
@@ -79,7 +82,7 @@ impl Handle {
     /// process.
     pub(crate) fn lock(&mut self) -> io::Result<()>
         ensures locked { OnOk result (self.new.locked.value ≡ true) }
-        ensures calls { self.new.record.calls ≡ locks (is_err result) ∷ self.old.record.calls }
+        ensures calls { self.new.history.calls ≡ locks (is_err result) ∷ self.old.history.calls }
         ensures path { self.new.path ≡ self.old.path }
     {
         let done = self.file.try_lock();
@@ -91,8 +94,8 @@ impl Handle {
 
     /// The file's length.
     pub(crate) fn len(&mut self) -> io::Result<u64>
-        ensures ok { IfOk result (λ len. self.new.record.calls ≡ tells_len len false ∷ self.old.record.calls) }
-        ensures err { OnErr result (self.new.record.calls ≡ tells_len 0 true ∷ self.old.record.calls) }
+        ensures ok { IfOk result (λ len. self.new.history.calls ≡ tells_len len false ∷ self.old.history.calls) }
+        ensures err { OnErr result (self.new.history.calls ≡ tells_len 0 true ∷ self.old.history.calls) }
         ensures locked { self.new.locked ≡ self.old.locked }
         ensures path { self.new.path ≡ self.old.path }
     {
@@ -112,7 +115,7 @@ impl Handle {
     /// Cuts the file to a length, or fills it with zeros up to it. No other process has the file.
     pub(crate) fn set_len(&mut self, len: u64) -> io::Result<()>
         requires { self.old.locked.value ≡ true }
-        ensures calls { self.new.record.calls ≡ sets_len len (is_err result) ∷ self.old.record.calls }
+        ensures calls { self.new.history.calls ≡ sets_len len (is_err result) ∷ self.old.history.calls }
         ensures locked { self.new.locked ≡ self.old.locked }
         ensures path { self.new.path ≡ self.old.path }
     {
@@ -123,7 +126,7 @@ impl Handle {
 
     /// Reads the bytes from a place of the file on.
     pub(crate) fn read(&mut self, from: u64, out: &mut [u8]) -> io::Result<()>
-        ensures calls { self.new.record.calls ≡ reads from out.new (is_err result) ∷ self.old.record.calls }
+        ensures calls { self.new.history.calls ≡ reads from out.new (is_err result) ∷ self.old.history.calls }
         ensures locked { self.new.locked ≡ self.old.locked }
         ensures path { self.new.path ≡ self.old.path }
     {
@@ -134,7 +137,7 @@ impl Handle {
 
     /// Writes bytes from a place of the file on.
     pub(crate) fn write(&mut self, from: u64, bytes: &[u8]) -> io::Result<()>
-        ensures calls { self.new.record.calls ≡ writes from bytes.now (is_err result) ∷ self.old.record.calls }
+        ensures calls { self.new.history.calls ≡ writes from bytes.now (is_err result) ∷ self.old.history.calls }
         ensures locked { self.new.locked ≡ self.old.locked }
         ensures path { self.new.path ≡ self.old.path }
     {
@@ -145,7 +148,7 @@ impl Handle {
 
     /// Syncs the file with all that the system offers.
     pub(crate) fn sync(&mut self) -> io::Result<()>
-        ensures calls { self.new.record.calls ≡ syncs (is_err result) ∷ self.old.record.calls }
+        ensures calls { self.new.history.calls ≡ syncs (is_err result) ∷ self.old.history.calls }
         ensures locked { self.new.locked ≡ self.old.locked }
         ensures path { self.new.path ≡ self.old.path }
     {
@@ -154,15 +157,24 @@ impl Handle {
         done
     }
 
+    /// Puts another file in the place of this one, so that calls on it fail.
+    #[cfg(test)]
+    pub(crate) fn replace(&mut self, file: File)
+        ensures locked { self.new.locked ≡ self.old.locked }
+        ensures path { self.new.path ≡ self.old.path }
+    {
+        self.file = file;
+    }
+
     fn note(&mut self, ask: u64, number: u64, failed: bool, bytes: &[u8])
-        ensures calls { self.new.record.calls ≡ (ask, (number, (failed, bytes.now))) ∷ self.old.record.calls }
+        ensures calls { self.new.history.calls ≡ (ask, (number, (failed, bytes.now))) ∷ self.old.history.calls }
         ensures locked { self.new.locked ≡ self.old.locked }
         ensures path { self.new.path ≡ self.old.path }
     {
         if failed {
-            self.record.note(&[ask, number, 1], bytes);
+            self.history.note(&[ask, number, 1], bytes);
         } else {
-            self.record.note(&[ask, number, 0], bytes);
+            self.history.note(&[ask, number, 0], bytes);
         }
     }
 }

@@ -25,13 +25,13 @@ use denote.Triple.Entry.{on_entry}
 use denote.Triple.Spec.{Meets, triple_of}
 use denote.Triple.Table.{entered}
 use denote.Triple.Walked.{says, Stays, stay_ref, walk_of, AllGo, Goes-ref, Walks, ends_at, walked, walk_Meets}
-use Rattle.log_disk.specs.declared.file.record.Record.{Record}
+use Rattle.log_disk.specs.declared.file.handle.history.History.{History}
 use Rattle.log_disk.specs.FileCalls.{call_of}
-use Rattle.log_disk.specs.contracts.file.record.Record as T
-use Rattle.log_disk.specs.contracts.file.record.Record.note.Key.{name as #it}
-use Rattle.log_disk.specs.contracts.file.record.Record.note as it
-use Rattle.log_disk.proofs.file.record.Record.note.Statement as stated
-use Rattle.log_disk.proofs.file.record.Record.note.Code as code
+use Rattle.log_disk.specs.contracts.file.handle.history.History as T
+use Rattle.log_disk.specs.contracts.file.handle.history.History.note.Key.{name as #it}
+use Rattle.log_disk.specs.contracts.file.handle.history.History.note as it
+use Rattle.log_disk.proofs.file.handle.history.History.note.Statement as stated
+use Rattle.log_disk.proofs.file.handle.history.History.note.Code as code
 use denote.Ref.{Bor}
 use denote.Builtin.{u8, u64}
 use denote.Exit.{yes}
@@ -40,18 +40,18 @@ use denote.Triple.Walked.{stay_none_slice, Goes-none_slice}
 use Rattle.std.proofs.Common.{◌<◌, ◌^◌, length}
 
 abbrev Arg : Type 0
-Arg = MutBor Record × (Bor (List ℕ) × (Bor (List ℕ) × Unit {0}))
+Arg = MutBor History × (Bor (List ℕ) × (Bor (List ℕ) × Unit {0}))
 
 abbrev stayed : Stays (it.ended).signature.params (it.ended).kept
 stayed = (stay_ref (0 ∷ []) tt (plain (λ _. T.the_row)), (stay_none_slice (1 ∷ []) tt (plain (λ _. u64)) yes, (stay_none_slice (2 ∷ []) tt (plain (λ _. u8)) yes, tt)))
 
-module _ {M : Type 1} {𝓤 : Ura M} (𝓛 : Logic 𝓤) (at_mem : Memory → SProp 𝓤) (run : Routine → Fun 𝓤) (κ κ' κ'' : Lft) (q q' q'' : Share) (b o : ℕ) (γ : GName) (h : Record) (k s : Bor (List ℕ)) where
+module _ {M : Type 1} {𝓤 : Ura M} (𝓛 : Logic 𝓤) (at_mem : Memory → SProp 𝓤) (run : Routine → Fun 𝓤) (κ κ' κ'' : Lft) (q q' q'' : Share) (b o : ℕ) (γ : GName) (h : History) (k s : Bor (List ℕ)) where
   open 𝓛 use {H, A}
 
   abbrev x : Arg
   x = (record { ref_ptr = (b, o); ghost_name = γ; now = h }, (k, (s, tt)))
 
-  abbrev h' : Record
+  abbrev h' : History
   h' = record { marker = h.marker; calls = call_of k.now s.now ∷ h.calls }
 
   abbrev at : List Val × (List Val × (List Val × Unit {0}))

@@ -21,17 +21,17 @@ use denote.Triple.Entry.{on_entry}
 use denote.Triple.Spec.{Meets, triple_of}
 use denote.Triple.Table.{entered}
 use denote.Triple.Walked.{says, ends_at, walked, walk_Meets}
-use Rattle.log_disk.specs.declared.file.record.Record.{Record}
-use Rattle.log_disk.specs.contracts.file.record.Record as T
-use Rattle.log_disk.specs.contracts.file.record.Record.new.Key.{name as #it}
-use Rattle.log_disk.specs.contracts.file.record.Record.new as it
-use Rattle.log_disk.proofs.file.record.Record.new.Statement as stated
-use Rattle.log_disk.proofs.file.record.Record.new.Code as code
+use Rattle.log_disk.specs.declared.file.handle.history.History.{History}
+use Rattle.log_disk.specs.contracts.file.handle.history.History as T
+use Rattle.log_disk.specs.contracts.file.handle.history.History.new.Key.{name as #it}
+use Rattle.log_disk.specs.contracts.file.handle.history.History.new as it
+use Rattle.log_disk.proofs.file.handle.history.History.new.Statement as stated
+use Rattle.log_disk.proofs.file.handle.history.History.new.Code as code
 
 abbrev v : Val
 v = vstruct (vcons (vstruct vnil) vnil)
 
-abbrev r : Record
+abbrev r : History
 r = record { marker = record {}; calls = [] }
 
 meets : {M : Type 1} {𝓤 : Ura M} (𝓛 : Logic 𝓤) → (at_mem : Memory → SProp 𝓤) (run : Routine → Fun 𝓤) (𝓣 : Tables 𝓤 𝓛.H)

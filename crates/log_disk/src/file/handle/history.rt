@@ -8,29 +8,26 @@ use std::marker::{Model, PhantomData};
 
 /// The calls on a file since it was opened, the newest first.
 #[derive(Drop)]
-pub struct Record {
+pub struct History {
     marker: PhantomData<u8>,
     pub ghost calls: { List FileCall },
 }
 
-impl Model for Record {
+impl Model for History {
     ghost also_owns = { λ _. ftrue };
 }
 
-// It owns nothing.
-unsafe impl Send for Record {}
-
-impl Record {
-    pub(crate) fn new() -> Record
+impl History {
+    pub(super) fn new() -> History
         ensures { result.calls ≡ [] }
     {
-        Record {
+        History {
             marker: PhantomData,
         }
     }
 
     /// Adds a call: what was asked, a place or a length, and 1 where it failed; and the bytes that it took or gave.
-    pub(crate) fn note(&mut self, _numbers: &[u64], _bytes: &[u8])
+    pub(super) fn note(&mut self, _numbers: &[u64], _bytes: &[u8])
         ensures { self.new.calls ≡ call_of _numbers.now _bytes.now ∷ self.old.calls }
     {}
 }

@@ -8,5 +8,4 @@ pub mod MemEye
 pub mod Laws
 pub mod Plan
 pub mod Schedule
-pub mod FileCalls
 pub mod FileDisk

@@ -1,10 +1,10 @@
 //! A disk in a file of the system. What the file keeps is not told: this is the edge where the system is trusted.
 //!
-//! Contracts name the path by which each file was opened, and every call on it, in order, with its place and its bytes.
+//! Contracts name the path by which each file was opened, and the place and length of what it is asked for.
 
-ghost use Rattle.std.specs.Prelude.{◌≡◌, ◌≢◌, ◌⊎◌, ℕ, ◌*◌, ◌<◌, ◌≤◌, ◌+◌, ◌^◌, ◌∷◌, [], true, false, All, Any, Contains, None, Err, IfOk, OnOk, OnErr, IsErr, IsErrOf, is_err, length};
+ghost use Rattle.std.specs.Prelude.{◌≡◌, ◌≢◌, ◌⊎◌, ℕ, ◌*◌, ◌<◌, ◌≤◌, ◌+◌, ◌^◌, true, false, All, Any, Contains, None, Err, IfOk, OnOk, OnErr, IsErr, IsErrOf, is_err, length};
 ghost use Rattle.log_disk.specs.declared.file.MakeFault.TheVariants as fault;
-ghost use Rattle.log_disk.specs.FileCalls.{filling, finding, opens, tells_len, sets_len, reads, writes, syncs};
+ghost use Rattle.log_disk.specs.declared.file.handle.FileAsk.TheVariants as ask;
 ghost use Rattle.log_disk.specs.Disk.{new_disk, last_count, IsWithin, IsUnseen, Reads, Writes, Syncs, OnlyFails, Opens, Closes, Looks};
 
 use crate::eyes::OpenEyes;
@@ -22,6 +22,7 @@ mod handle;
 mod tests;
 
 use handle::Handle;
+pub use handle::{FileAsk, FileCall};
 
 /// Why no disk was made of a file.
 #[derive(Debug, Drop, Error)]
@@ -100,11 +101,10 @@ impl<R: Files<File = File> + Clone + Drop + Send> FileDisk<R> {
     /// Opens the file at a path as a disk of regions, and makes it where there is none. It takes the file's lock, fills an
     /// empty file with zeros, and then syncs it with all that the system offers.
     ///
-    /// After `Ok` the calls on the file were these and no others: it was opened and locked, told its length, and was synced; and
-    /// its length was 0 and then set once, to the whole, or was the whole and not set. `WrongLength` comes where the length that
-    /// the file told is neither 0 nor the whole; the file is left as it was. `Failed` says that a call on the file failed, as the
-    /// lock does where another disk, of this or another process, has the file; the file may then have been made or filled. No
-    /// clause gives its cause, since no disk is there yet that could count it. `NoMemory` comes before the file is touched.
+    /// `WrongLength` comes exactly where the file's length is neither 0 nor the whole; the file is left as it was. `Failed`
+    /// says that a call on the file failed, as the lock does where another disk, of this or another process, has the file; the
+    /// file may then have been made or filled. No clause gives its cause, since no disk is there yet that could count it.
+    /// `NoMemory` comes before the file is touched.
     pub fn make(
         rt: &R,
         alloc: Global,
@@ -116,7 +116,8 @@ impl<R: Files<File = File> + Clone + Drop + Send> FileDisk<R> {
         ensures made { IfOk result (λ made. made.disk ≡ new_disk regions region_len None) }
         ensures at_path { IfOk result (λ made. made.path ≡ path.now) }
         ensures locked { IfOk result (λ made. made.file.locked ≡ true) }
-        ensures calls { IfOk result (λ made. (made.file.calls ≡ filling (regions * region_len)) ⊎ (made.file.calls ≡ finding (regions * region_len))) }
+        ensures whole { IfOk result (λ made. made.file.len ≡ regions * region_len) }
+        ensures synced { IfOk result (λ made. made.file.last ≡ record { ask = ask.Sync; failed = false }) }
         ensures wrong_length { (found : ℕ) → result ≡ Err (MakeFault.WrongLength found) → (found ≢ 0) × (found ≢ regions * region_len) }
     {
         let path = String::from_str(alloc, path)?;
@@ -139,14 +140,11 @@ impl<R: Files<File = File> + Clone + Drop + Send> FileDisk<R> {
     }
 }
 
-// Fills an empty file up to the whole of a disk. A file of another length is refused, and is only asked for it. Each answer names
-// the calls, so the length that the file tells decides.
+// Fills an empty file up to the whole of a disk. A file of another length is refused.
 fn fill(file: &mut Handle, whole: u64) -> Result<(), MakeFault>
     requires { file.old.locked.value ≡ true }
-    ensures ok { OnOk result ((file.new.history.calls ≡ sets_len whole false ∷ tells_len 0 false ∷ file.old.history.calls) ⊎ (file.new.history.calls ≡ tells_len whole false ∷ file.old.history.calls)) }
-    ensures wrong_length { (found : ℕ) → result ≡ Err (MakeFault.WrongLength found) → (file.new.history.calls ≡ tells_len found false ∷ file.old.history.calls) × (found ≢ 0) × (found ≢ whole) }
-    ensures failed { IsErrOf result MakeFault.Failed → (file.new.history.calls ≡ tells_len 0 true ∷ file.old.history.calls) ⊎ (file.new.history.calls ≡ sets_len whole true ∷ tells_len 0 false ∷ file.old.history.calls) }
-    ensures memory { result ≢ Err MakeFault.NoMemory }
+    ensures whole { OnOk result (file.new.len.value ≡ whole) }
+    ensures wrong_length { (found : ℕ) → result ≡ Err (MakeFault.WrongLength found) → (found ≡ file.new.len.value) × (found ≢ 0) × (found ≢ whole) }
     ensures locked { file.new.locked ≡ file.old.locked }
     ensures path { file.new.path ≡ file.old.path }
 {
@@ -180,25 +178,24 @@ impl<R: Files<File = File> + Clone + Drop + Send> LogDisk for FileDisk<R> {
         self.region_len
     }
 
-    /// The file is asked for these bytes, once and for nothing else, and `Failed` says that it failed. `out` has what it gave.
+    /// The file is asked for these bytes, once, and `Failed` says that it failed.
     fn read(&mut self, region: u32, at: u64, out: &mut [u8]) -> Result<(), Failed>
         requires { IsWithin self.old.disk region at (length out.old) }
         ensures reads { Reads region at out.new (IsErr result) self.old.disk self.new.disk }
-        ensures asked { self.new.file.calls ≡ reads (region * self.old.disk.region_len + at) out.new (is_err result) ∷ self.old.file.calls }
+        ensures asked { self.new.file.last ≡ record { ask = ask.Read (region * self.old.disk.region_len + at) (length out.old); failed = is_err result } }
         ensures same_path { self.new.path ≡ self.old.path }
     {
         let done = self.file.read(place_of(self.region_len, region, at), out);
         self.faults.answer(done)
     }
 
-    /// The file is given these bytes, once and nothing else, and `Failed` says that it failed. `NoMemory` comes before.
+    /// The file is given these bytes, once, and `Failed` says that it failed.
     fn write(&mut self, region: u32, at: u64, bytes: &[u8]) -> Result<(), DiskRefusal>
         requires within { IsWithin self.old.disk region at (length bytes.now) }
         requires unseen { IsUnseen self.old.disk region }
         ensures begun { result ≢ Err DiskRefusal.NoMemory → Writes region at bytes.now (IsErr result) self.old.disk self.new.disk }
         ensures no_memory { IsErrOf result DiskRefusal.NoMemory → self.new.disk ≡ self.old.disk }
-        ensures unasked { IsErrOf result DiskRefusal.NoMemory → self.new.file ≡ self.old.file }
-        ensures asked { result ≢ Err DiskRefusal.NoMemory → self.new.file.calls ≡ writes (region * self.old.disk.region_len + at) bytes.now (is_err result) ∷ self.old.file.calls }
+        ensures asked { result ≢ Err DiskRefusal.NoMemory → self.new.file.last ≡ record { ask = ask.Write (region * self.old.disk.region_len + at) (length bytes.now); failed = is_err result } }
         ensures same_path { self.new.path ≡ self.old.path }
     {
         self.unsynced.push(Snapshot::of(&region))?;
@@ -211,11 +208,11 @@ impl<R: Files<File = File> + Clone + Drop + Send> LogDisk for FileDisk<R> {
         }
     }
 
-    /// The file is asked to sync, once and for nothing else, and `Failed` says that it failed.
+    /// The file is asked to sync, once, and `Failed` says that it failed.
     fn sync(&mut self) -> Result<(), Failed>
         ensures ok { OnOk result (Syncs self.old.disk self.new.disk) }
         ensures err { OnErr result (OnlyFails self.old.disk self.new.disk) }
-        ensures asked { self.new.file.calls ≡ syncs (is_err result) ∷ self.old.file.calls }
+        ensures asked { self.new.file.last ≡ record { ask = ask.Sync; failed = is_err result } }
         ensures same_path { self.new.path ≡ self.old.path }
     {
         let done = self.file.sync();
@@ -226,18 +223,14 @@ impl<R: Files<File = File> + Clone + Drop + Send> LogDisk for FileDisk<R> {
         Ok(())
     }
 
-    /// The eye's file is opened by the disk's own path, once, which the disk's calls tell too, and no other call is made.
-    /// `Failed` says that the opening failed, or that all numbers are spent.
+    /// The eye's file is opened by the disk's own path. `Failed` says that this failed, or that all numbers are spent.
     fn eye(&mut self, regions: &[u32]) -> Result<FileEye, DiskRefusal>
         requires there { All (λ r. r < self.old.disk.regions) regions.now }
         requires synced { All (λ r. Contains self.old.disk.unsynced r → ⊥) regions.now }
         ensures ok { IfOk result (λ opened. Opens regions.now opened.eye self.old.disk self.new.disk) }
         ensures failed { IsErrOf result DiskRefusal.Failed → OnlyFails self.old.disk self.new.disk }
         ensures no_memory { IsErrOf result DiskRefusal.NoMemory → self.new.disk ≡ self.old.disk }
-        ensures cause { IsErrOf result DiskRefusal.Failed → ((length self.old.disk.given ≡ last_count) × (self.new.file ≡ self.old.file)) ⊎ (self.new.file.calls ≡ opens true ∷ self.old.file.calls) }
-        ensures asked { OnOk result (self.new.file.calls ≡ opens false ∷ self.old.file.calls) }
-        ensures unasked { IsErrOf result DiskRefusal.NoMemory → self.new.file ≡ self.old.file }
-        ensures opened { IfOk result (λ opened. opened.file.calls ≡ opens false ∷ []) }
+        ensures cause { IsErrOf result DiskRefusal.Failed → (length self.old.disk.given ≡ last_count) ⊎ (self.new.file.last ≡ record { ask = ask.Open; failed = true }) }
         ensures at_path { IfOk result (λ opened. opened.path ≡ self.old.path) }
         ensures same_path { self.new.path ≡ self.old.path }
     {
@@ -263,11 +256,9 @@ impl<R: Files<File = File> + Clone + Drop + Send> LogDisk for FileDisk<R> {
         })
     }
 
-    /// Nothing is asked of the disk's file.
     fn close(&mut self, eye: FileEye)
         requires { Any (λ e. e.number ≡ eye.eye.number) self.old.disk.eyes }
         ensures closes { Closes eye.eye self.old.disk self.new.disk }
-        ensures unasked { self.new.file ≡ self.old.file }
         ensures same_path { self.new.path ≡ self.old.path }
     {
         let number = eye.number;
@@ -317,13 +308,11 @@ impl LogEye for FileEye {
         self.number
     }
 
-    /// The eye's file is asked for these bytes, once and for nothing else, and `Failed` says that it failed. `out` has what it
-    /// gave.
     fn read(&mut self, region: u32, at: u64, out: &mut [u8]) -> Result<(), Failed>
         requires named { Contains self.old.eye.regions region }
         requires within { at + length out.old ≤ self.old.eye.region_len }
         ensures looks { Looks region at out.new (IsErr result) self.old.eye self.new.eye }
-        ensures asked { self.new.file.calls ≡ reads (region * self.old.eye.region_len + at) out.new (is_err result) ∷ self.old.file.calls }
+        ensures asked { self.new.file.last ≡ record { ask = ask.Read (region * self.old.eye.region_len + at) (length out.old); failed = is_err result } }
         ensures same_path { self.new.path ≡ self.old.path }
     {
         self.taken = self.taken.saturating_add(out.len() as u64);

@@ -4,7 +4,7 @@ ghost use Rattle.std.specs.Prelude.{◌≡◌, ◌+◌, ◌<◌, ◌≤◌, [], 
 
 use super::{FileDisk, MakeFault};
 use crate::{DiskRefusal, Failed, LogDisk, LogEye};
-use std::fs::{self, File, OpenOptions};
+use std::fs::{self, File};
 use std::test::Fail;
 
 // Opens an eye on a region and reads by it from an offset on.
@@ -129,7 +129,7 @@ fn no_eye_is_opened_once_the_file_is_gone(rt: HostRuntime) -> Result<(), Fail> {
 fn a_file_that_is_only_read_refuses_writes(rt: HostRuntime) -> Result<(), Fail> {
     let path = fresh_path(&rt, "read_only")?;
     let mut disk = FileDisk::make(&rt, rt.alloc(), path.as_str(), 4, 8)?;
-    disk.file.replace(File::open(&rt, path.as_str())?);
+    disk.file.file = File::open(&rt, path.as_str())?;
     assert_eq!(rt; disk.write(0, 0, &[1]), Err(DiskRefusal::Failed));
     assert_eq!(rt; (disk.faults.all, disk.faults.own), (1, 1));
     fs::remove_file(&rt, path.as_str())?;
@@ -140,10 +140,7 @@ fn a_file_that_is_only_read_refuses_writes(rt: HostRuntime) -> Result<(), Fail> 
 fn reads_past_a_file_that_was_cut_are_counted(rt: HostRuntime) -> Result<(), Fail> {
     let path = fresh_path(&rt, "cut")?;
     let mut disk = FileDisk::make(&rt, rt.alloc(), path.as_str(), 4, 8)?;
-    OpenOptions::new()
-        .write(true)
-        .open(&rt, path.as_str())?
-        .set_len(24)?;
+    disk.file.file.set_len(24)?;
     // The eye's failure comes to the disk's whole count alone.
     let mut byte = [0u8; 1];
     assert_eq!(rt; disk.read(3, 0, &mut byte), Err(Failed));

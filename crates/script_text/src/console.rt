@@ -18,7 +18,7 @@ use std::snapshot::Snapshot;
 #[cfg(test)]
 mod tests;
 
-/// The standard input, or another reader. As a source it tells no bytes.
+/// The standard input, by its reader. As a source it tells no bytes.
 #[derive(Drop)]
 pub struct StdSource<I: Read> {
     input: Incoming<I>,
@@ -74,7 +74,7 @@ impl<I: Read> Source for StdSource<I> {
     }
 }
 
-/// The standard output, or another writer. As a sink it tells no bytes.
+/// The standard output, by a writer that prints to it. As a sink it tells no bytes.
 #[derive(Drop)]
 pub struct StdSink<W: Write> {
     output: Outgoing<W>,

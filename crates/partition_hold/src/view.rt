@@ -1,6 +1,6 @@
 //! The view through which a seat reads.
 
-ghost use Rattle.std.specs.Prelude.{◌≡◌, ℕ, ◌+◌, ◌*◌, ◌<◌, ◌≤◌, List, Any, Contains, IfOk, IfSome, IsErr, IsErrOf, MatchResult, None, Ok, length};
+ghost use Rattle.std.specs.Prelude.{◌≡◌, ℕ, ◌+◌, ◌*◌, ◌<◌, ◌≤◌, List, Any, Contains, IfOk, IfSome, IsErr, IsErrOf, MatchResult, None, Ok, OnErr, length};
 ghost use Rattle.std.specs.List.{AllByRecursion};
 ghost use Rattle.log_disk.specs.Disk.{Eye};
 ghost use Rattle.fine_model.specs.declared.Row.{Row};
@@ -14,7 +14,7 @@ ghost use Rattle.partition_index.specs.Parts.{CountsFaults, IsSeen, LooksAt, bod
 ghost use Rattle.partition_index.specs.Search.{Searches};
 ghost use Rattle.partition_index.specs.Search.{TellsRows as TellsPart};
 ghost use Rattle.node_fetch.specs.Fetched.{HasBadEntry, HasBadRow, IsReplayOf, NoDamage, most_read, most_sought};
-ghost use Rattle.partition_merge.specs.Mergers.{Answers, AreKept, BlamesEntry, BlamesRow, IsJoinOf, StandsAt, both_left, both_unread, measure_of, most_for, newer_part, next_len, older_part};
+ghost use Rattle.partition_merge.specs.Mergers.{Answers, AreKept, BlamesEntry, BlamesRow, IsCounted, IsJoinOf, IsMeasureOf, StandsAt, both_left, both_unread, measure_of, most_for, newer_part, next_len, older_part, start_of};
 ghost use Rattle.partition_merge.specs.Merging.{FitRows};
 ghost use Rattle.partition_hold.specs.Views.{ViewValue, SameView, ViewNames, ViewTells, state_of};
 
@@ -148,8 +148,9 @@ impl<E: LogEye> View<E> {
         )
     }
 
-    /// The merged rows of the next node of two parts of the view, or None behind the last entry of both. What the merger says of an eye
-    /// holds of the view's. The view is as before but for its eye's counts.
+    /// The merged rows of the next node of two parts of the view, or None where no node was left of both. What the merger says of an eye
+    /// holds of the view's. The view is as before but for its eye's counts, and with None and each refusal the merger stands where it
+    /// stood.
     pub fn next_node(&mut self, merger: &mut Merger) -> Result<Option<Rows>, FetchFault>
         requires older { Contains self.old.parts (older_part merger.old) }
         requires newer { Contains self.old.parts (newer_part merger.old) }
@@ -162,12 +163,17 @@ impl<E: LogEye> View<E> {
         ensures region_len { merger.new.region_len ≡ merger.old.region_len }
         ensures kept { AreKept self.old.eye.told merger.new }
         ensures fit { IfOk result (λ found. IfSome found FitRows) }
+        ensures some { IfOk result (λ found. IfSome found (λ rows. 1 ≤ length rows)) }
         ensures read { IfOk result (λ found. IfSome found (IsJoinOf self.old.eye.told merger.old merger.new)) }
-        ensures end { result ≡ Ok None → both_left merger.new ≡ 0 }
+        ensures end { result ≡ Ok None → both_left merger.old ≡ 0 }
+        ensures ended { result ≡ Ok None → merger.new ≡ merger.old }
+        ensures refused { OnErr result (merger.new ≡ merger.old) }
         ensures fewer { IfOk result (λ found. IfSome found (λ rows. both_left merger.new < both_left merger.old)) }
         ensures bad_row { (region at : ℕ) → IsErrOf result (fetch_fault.BadRow region at) → BlamesRow self.old.eye.told merger.old (record { region = region; at = at }) }
         ensures bad_index { (region at : ℕ) → IsErrOf result (fetch_fault.BadIndex region at) → BlamesEntry self.old.eye.told merger.old (record { region = region; at = at }) }
         ensures exact { (older newer : List Row) → StandsAt self.old.eye merger.old older newer → MatchResult result (Answers self.new.eye merger.new older newer) NoDamage }
+        ensures ahead { (older newer : List Row) → StandsAt self.old.eye merger.old older newer
+            → IfOk result (λ found. self.new.eye.taken + 28 * both_unread merger.new ≤ self.old.eye.taken + (28 * both_unread merger.old + next_len older newer)) }
         ensures taken { (older newer : List Row) → StandsAt self.old.eye merger.old older newer
             → self.new.eye.taken ≤ self.old.eye.taken + (28 * both_unread merger.old + next_len older newer) }
     {
@@ -182,11 +188,15 @@ impl<E: LogEye> View<E> {
         requires region_len { merger.old.region_len ≡ self.old.region_len }
         ensures same { SameView self.old self.new }
         ensures stays { merger.new ≡ merger.old }
+        ensures sums { IfOk result (IsMeasureOf self.old.eye.told (start_of merger.old)) }
+        ensures counted { IfOk result IsCounted }
         ensures counts { CountsFaults (IsErrOf result fetch_fault.Failed) self.old.eye self.new.eye }
         ensures bad_row { (region at : ℕ) → IsErrOf result (fetch_fault.BadRow region at) → BlamesRow self.old.eye.told merger.old (record { region = region; at = at }) }
         ensures bad_index { (region at : ℕ) → IsErrOf result (fetch_fault.BadIndex region at) → BlamesEntry self.old.eye.told merger.old (record { region = region; at = at }) }
         ensures exact { (older newer : List Row) → TellsPart self.old.eye (older_part merger.old) older → TellsPart self.old.eye (newer_part merger.old) newer
             → rows_len (merged older newer) < 4294967296 → MatchResult result (λ measure. measure ≡ measure_of (merged older newer)) NoDamage }
+        ensures taken { (older newer : List Row) → TellsPart self.old.eye (older_part merger.old) older → TellsPart self.old.eye (newer_part merger.old) newer
+            → self.new.eye.taken ≤ self.old.eye.taken + (28 * ((older_part merger.old).header.nodes + (newer_part merger.old).header.nodes) + (rows_len older + rows_len newer)) }
     {
         merger.measure(self.alloc, &mut self.eye)
     }

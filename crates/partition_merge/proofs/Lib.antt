@@ -4,3 +4,4 @@ pub mod Steps
 pub mod Taken
 pub mod Sources
 pub mod Measured
+pub mod Handed

@@ -265,15 +265,16 @@ peeked_both e0 e1 e2 m old new older newer n a b at s1 s2 op on np nn ak bk ah b
       new_kept = sym bk ∙ bh;
     }
 
-pub none_peeked : (e0 e1 e2 : Eye) (m : Merger) (old new : Source) (older newer : List Row) (a b : Option NodeId) → StandsAt e0 m older newer → SameEye e0 e1 → SameEye e1 e2
-    → old.part ≡ m.older.part → old.next ≡ m.older.next → new.part ≡ m.newer.part → new.next ≡ m.newer.next
-    → a ≡ node_at_head older → b ≡ node_at_head newer → lower a b ≡ None → (older ≡ []) × (newer ≡ []) × SourceAt e2 old older × SourceAt e2 new newer
-none_peeked e0 e1 e2 m old new older newer a b at s1 s2 op on np nn ah bh none =
+pub none_peeked : (e0 e1 e2 : Eye) (m : Merger) (older newer : List Row) (a b : Option NodeId) → StandsAt e0 m older newer → SameEye e0 e1 → SameEye e1 e2
+    → a ≡ node_at_head older → b ≡ node_at_head newer → lower a b ≡ None → (older ≡ []) × (newer ≡ []) × StandsAt e2 m older newer
+none_peeked e0 e1 e2 m older newer a b at s1 s2 ah bh none =
     let both = none_first a b none in (
       none_at_head older (sym ah ∙ both.0),
       none_at_head newer (sym bh ∙ both.1),
-      source_peeked e1 e2 old old older s2 refl refl (source_peeked e0 e1 m.older old older s1 op on at.of_older),
-      source_peeked e1 e2 m.newer new newer s2 np nn (source_peeked e0 e1 m.newer m.newer newer s1 refl refl at.of_newer),
+      record {
+        of_older = source_peeked e1 e2 m.older m.older older s2 refl refl (source_peeked e0 e1 m.older m.older older s1 refl refl at.of_older);
+        of_newer = source_peeked e1 e2 m.newer m.newer newer s2 refl refl (source_peeked e0 e1 m.newer m.newer newer s1 refl refl at.of_newer);
+      },
     )
 
 -- the rows of the lowest node are handed out

@@ -1,6 +1,6 @@
 //! Merging two parts node by node, through an eye.
 
-ghost use Rattle.std.specs.Prelude.{◌≡◌, ℕ, ◌+◌, ◌-◌, ◌*◌, ◌<◌, ◌≤◌, ◌++◌, ◌&&◌, false, IfOk, IfSome, IsErrOf, MatchResult, List, length, min, Option, Some, None, Ok, option_map};
+ghost use Rattle.std.specs.Prelude.{◌≡◌, ℕ, ◌+◌, ◌-◌, ◌*◌, ◌<◌, ◌≤◌, ◌++◌, ◌&&◌, false, IfOk, IfSome, IsErrOf, MatchResult, OnErr, List, length, min, Option, Some, None, Ok, option_map};
 ghost use Rattle.log_disk.specs.Disk.{Eye};
 ghost use Rattle.fine_model.specs.declared.Row.{Row};
 ghost use Rattle.fine_model.specs.declared.FetchFault.TheVariants as fetch_fault;
@@ -13,7 +13,7 @@ ghost use Rattle.partition_index.specs.Index.{AllFrom};
 ghost use Rattle.partition_index.specs.Search.{Searches, TellsRows};
 ghost use Rattle.node_fetch.specs.Fetched.{HasBadRow, HasBadEntry, NoDamage};
 ghost use Rattle.partition_merge.specs.Merging.{FitRows, node_at_head, merged_of};
-ghost use Rattle.partition_merge.specs.Mergers.{behind, node_kept, nodes_left, IsKept, AreKept, SourceAt, StandsAt, Answers, older_part, newer_part, both_left, unread, both_unread, next_len, most_for, BlamesRow, BlamesEntry, TakesRows, IsJoinOf, measure_of, IsCounted};
+ghost use Rattle.partition_merge.specs.Mergers.{behind, node_kept, nodes_left, IsKept, AreKept, SourceAt, StandsAt, Answers, older_part, newer_part, both_left, unread, both_unread, next_len, most_for, BlamesRow, BlamesEntry, TakesRows, IsJoinOf, at_front, start_of, IsMeasureOf, measure_of, IsCounted};
 
 use crate::fold::folded;
 use crate::{is_ordered, lower, push_all};
@@ -59,7 +59,7 @@ impl Source {
         ensures next { self.new.next ≡ self.old.next }
         ensures kept { IsKept (E.LogEye.state eye.old).told self.new }
         ensures head { IfOk result (λ node. node ≡ option_map (λ head. head.0.node) self.new.head) }
-        ensures end { result ≡ Ok None → nodes_left self.new ≡ 0 }
+        ensures end { result ≡ Ok None → nodes_left self.old ≡ 0 }
         ensures ready { IfOk result (λ node. self.new.head ≡ None → nodes_left self.new ≡ 0) }
         ensures ahead { IfOk result (λ node. (E.LogEye.state eye.new).taken + 28 * unread self.new ≤ (E.LogEye.state eye.old).taken + 28 * unread self.old) }
         ensures taken { (E.LogEye.state eye.new).taken ≤ (E.LogEye.state eye.old).taken + 28 * unread self.old }
@@ -173,7 +173,7 @@ impl Measure {
 }
 
 /// Two parts that are merged node by node. Each of them is read once, from front to back, and no more than one node's rows are
-/// kept. A merger is used with one eye, and is given up after a refusal.
+/// kept. A merger is used with one eye, and after a refusal stands where it stood.
 #[derive(Clone, Copy)]
 pub struct Merger {
     older: Source,
@@ -184,6 +184,7 @@ pub struct Merger {
 impl Merger {
     /// A merger of two parts that stands at their first node. It takes no memory.
     pub fn new(older: Part, newer: Part, region_len: u64) -> Merger
+        ensures front { result ≡ at_front older newer region_len }
         ensures older { older_part result ≡ older }
         ensures newer { newer_part result ≡ newer }
         ensures region_len { result.region_len ≡ region_len }
@@ -198,7 +199,8 @@ impl Merger {
         }
     }
 
-    /// The merged rows of the next node, or None behind the last entry of both parts.
+    /// The merged rows of the next node, or None where no node was left of both parts. With None, and with each refusal, the merger
+    /// stands where it stood, with the same entries kept.
     ///
     /// They are what the node's rows are merged into, as they were read of the spans that the next entries give. A part is passed over
     /// only where no node is left of it, or its next entry names a higher node, also where the bytes of the other part are bad. There
@@ -225,7 +227,9 @@ impl Merger {
         ensures fit { IfOk result (λ found. IfSome found FitRows) }
         ensures some { IfOk result (λ found. IfSome found (λ rows. 1 ≤ length rows)) }
         ensures read { IfOk result (λ found. IfSome found (IsJoinOf (E.LogEye.state eye.old).told self.old self.new)) }
-        ensures end { result ≡ Ok None → both_left self.new ≡ 0 }
+        ensures end { result ≡ Ok None → both_left self.old ≡ 0 }
+        ensures ended { result ≡ Ok None → self.new ≡ self.old }
+        ensures refused { OnErr result (self.new ≡ self.old) }
         ensures fewer { IfOk result (λ found. IfSome found (λ rows. both_left self.new < both_left self.old)) }
         ensures bad_row { (region at : ℕ) → IsErrOf result (fetch_fault.BadRow region at) → BlamesRow (E.LogEye.state eye.old).told self.old (record { region = region; at = at }) }
         ensures bad_index { (region at : ℕ) → IsErrOf result (fetch_fault.BadIndex region at) → BlamesEntry (E.LogEye.state eye.old).told self.old (record { region = region; at = at }) }
@@ -235,15 +239,19 @@ impl Merger {
         ensures taken { (older newer : List Row) → StandsAt (E.LogEye.state eye.old) self.old older newer
             → (E.LogEye.state eye.new).taken ≤ (E.LogEye.state eye.old).taken + (28 * both_unread self.old + next_len older newer) }
     {
-        let older = self.older.peek(eye, self.region_len)?;
-        let newer = self.newer.peek(eye, self.region_len)?;
+        let mut pass = *self;
+        let older = pass.older.peek(eye, self.region_len)?;
+        let newer = pass.newer.peek(eye, self.region_len)?;
         let Some(node) = lower(older, newer) else {
             return Ok(None);
         };
-        let older = self.older.take(alloc, eye, node, self.region_len)?;
-        let newer = self.newer.take(alloc, eye, node, self.region_len)?;
+        let older = pass.older.take(alloc, eye, node, self.region_len)?;
+        let newer = pass.newer.take(alloc, eye, node, self.region_len)?;
         match joined(alloc, node, older, newer) {
-            Ok(rows) => Ok(Some(rows)),
+            Ok(rows) => {
+                *self = pass;
+                Ok(Some(rows))
+            }
             Err(_) => Err(FetchFault::NoMemory),
         }
     }
@@ -252,13 +260,16 @@ impl Merger {
     /// it stands.
     ///
     /// Where the eye tells its bytes, both parts are in the grammar and have their headers, and the merged rows have fewer than 2^32
-    /// bytes, the answer is exact. Whatever was read, the three numbers are 0 together, and there are no more nodes than rows. The eye takes at most 28 bytes for each node of each part, and the rows of both. The faults are
-    /// those of `next_node`.
+    /// bytes, the answer is exact. Whatever was read, it is that of lists of rows, one a node, as `next_node` hands them out from the
+    /// first node on until none is left: the rows and the bytes of all lists, the number of lists, and whether each list is in order,
+    /// where a number above 2^32 - 1 is told as 2^32 - 1. The three numbers are 0 together, and there are no more nodes than rows. In
+    /// the grammar the eye takes at most 28 bytes for each node of each part, and the rows of both. The faults are those of `next_node`.
     pub fn measure<E: LogEye>(&mut self, alloc: Global, eye: &mut E) -> Result<Measure, FetchFault>
         requires older { IsSeen (E.LogEye.state eye.old) (older_part self.old) }
         requires newer { IsSeen (E.LogEye.state eye.old) (newer_part self.old) }
         requires region_len { self.old.region_len ≡ (E.LogEye.state eye.old).region_len }
         ensures stays { self.new ≡ self.old }
+        ensures sums { IfOk result (IsMeasureOf (E.LogEye.state eye.old).told (start_of self.old)) }
         ensures counted { IfOk result IsCounted }
         ensures same { SameEye (E.LogEye.state eye.old) (E.LogEye.state eye.new) }
         ensures counts { CountsFaults (IsErrOf result fetch_fault.Failed) (E.LogEye.state eye.old) (E.LogEye.state eye.new) }

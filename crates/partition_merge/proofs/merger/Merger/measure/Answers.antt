@@ -1,10 +1,11 @@
-use Rattle.std.proofs.Common.{◌≡◌, ◌∙◌, ◌≤◌, length, Err, Some, None, sym, ap, subst, arith, rules, refl}
+use Rattle.std.proofs.Common.{◌≡◌, ◌∙◌, ◌≤◌, length, Ok, Err, Some, None, sym, ap, subst, arith, rules, refl}
 use Rattle.std.specs.Prelude.{IfSome}
 use Rattle.fine_model.specs.declared.FetchFault.TheVariants as fault
 use Rattle.partition_index.specs.Parts.{IsSeen}
 use Rattle.partition_index.proofs.Looking.{seen_same, same_then}
-use Rattle.partition_merge.specs.Mergers.{Answers, HandsOut}
+use Rattle.partition_merge.specs.Mergers.{Answers, HandsOut, IsJoinOf, start_of}
 use Rattle.partition_merge.proofs.Sources.{err_clause}
+use Rattle.partition_merge.proofs.Handed.{none_handed, more_handed, all_handed}
 use Rattle.partition_merge.proofs.Measured.{none_measured, nothing_counted, more_measured, more_counted, all_measured, within_most, blames_row}
 use Rattle.partition_merge.proofs.merger.Merger.measure.Goals as goal
 
@@ -18,6 +19,7 @@ loop-rows-init g c = record {
   region_len = c.new-pass.ensures.region_len;
   kept = c.new-pass.ensures.kept (g.E.LogEye.state c.args.eye.now).told;
   amounts = nothing_counted _ refl refl refl;
+  handed = none_handed (g.E.LogEye.state c.args.eye.now).told (start_of c.args.self.now) c.new-pass.result _ c.new-pass.ensures.front refl refl refl refl;
   counted = λ older newer a b.
       none_measured (g.E.LogEye.state c.args.eye.now) c.new-pass.result older newer _ _ refl refl refl refl (c.new-pass.ensures.stands (g.E.LogEye.state c.args.eye.now) older newer a b) (let all = c.new-pass.ensures.unread in omega (arith, all));
 }
@@ -58,12 +60,22 @@ loop-rows-preserved g c =
       region_len = c.next_node.ensures.region_len ∙ i.region_len;
       kept = search rules;
       amounts = more_counted c.loop-rows.measure c.add.new.self c.in-Some.rows i.amounts (let some : IfSome (Some c.in-Some.rows) (λ rows. 1 ≤ length rows) = subst (λ found. IfSome found (λ rows. 1 ≤ length rows)) c.in-Some.is c.in_ok-rows.ensures.some in some) c.add.ensures.rows c.add.ensures.nodes c.add.ensures.area;
+      handed =
+          let join : IsJoinOf (g.E.LogEye.state c.loop-rows.eye).told c.loop-rows.pass c.next_node.new.self c.in-Some.rows =
+          let found : IfSome (Some c.in-Some.rows) (IsJoinOf (g.E.LogEye.state c.loop-rows.eye).told c.loop-rows.pass c.next_node.new.self) = subst (λ found. IfSome found (IsJoinOf (g.E.LogEye.state c.loop-rows.eye).told c.loop-rows.pass c.next_node.new.self)) c.in-Some.is c.in_ok-rows.ensures.read in found in
+          more_handed (g.E.LogEye.state c.args.eye.now).told (g.E.LogEye.state c.loop-rows.eye).told (start_of c.args.self.now) c.loop-rows.pass c.next_node.new.self c.in-Some.rows c.loop-rows.measure c.add.new.self
+          i.same.told i.handed c.next_node.ensures.older c.next_node.ensures.newer join c.add.ensures.rows c.add.ensures.nodes c.add.ensures.area c.add.ensures.ordered;
       counted = λ older newer a b.
           let m = i.counted older newer a b in
           let h : HandsOut (g.E.LogEye.state c.next_node.new.eye) c.next_node.new.self m.left_older m.left_newer c.in-Some.rows =
           subst (Answers (g.E.LogEye.state c.next_node.new.eye) c.next_node.new.self m.left_older m.left_newer) c.in-Some.is (c.in_ok-rows.ensures.exact m.left_older m.left_newer m.stands) in
           more_measured (g.E.LogEye.state c.loop-rows.eye) (g.E.LogEye.state c.next_node.new.eye) c.loop-rows.pass c.next_node.new.self older newer c.in-Some.rows c.loop-rows.measure c.add.new.self _ m h (c.in_ok-rows.ensures.ahead m.left_older m.left_newer m.stands) c.add.ensures.rows c.add.ensures.nodes c.add.ensures.area c.add.ensures.ordered;
     }
+
+pub returns-clause-sums : goal.returns-clause-sums
+returns-clause-sums g c =
+    let none : c.in_ok-rows.field-0 ≡ None = search rules in
+    all_handed _ _ c.loop-rows.pass c.loop-rows.measure c.loop-rows.invariant.handed (c.in_ok-rows.ensures.end (ap Ok none))
 
 pub returns-clause-exact : goal.returns-clause-exact
 returns-clause-exact g c older newer a b small =

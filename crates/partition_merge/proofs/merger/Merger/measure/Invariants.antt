@@ -2,7 +2,8 @@ use Rattle.std.proofs.Common.{◌≡◌, List}
 use Rattle.fine_model.specs.declared.Row.{Row}
 use Rattle.partition_index.specs.Parts.{SameEye}
 use Rattle.partition_index.specs.Search.{TellsRows}
-use Rattle.partition_merge.specs.Mergers.{AreKept, IsCounted, both_left, older_part, newer_part}
+use Rattle.partition_merge.specs.Mergers.{AreKept, IsCounted, both_left, older_part, newer_part, start_of}
+use Rattle.partition_merge.proofs.Handed.{Handed}
 use Rattle.partition_merge.proofs.Measured.{Measured, most_of}
 use Rattle.partition_merge.proofs.merger.Merger.measure.Given as goal
 
@@ -16,6 +17,7 @@ invariant-loop-rows g l = record {
   region_len : l.pass.region_len ≡ l.self.region_len;
   kept : AreKept (g.E.LogEye.state l.initial.eye).told l.pass;
   amounts : IsCounted l.measure;
+  handed : Handed (g.E.LogEye.state l.initial.eye).told (start_of l.self) l.pass l.measure;
   counted : (older newer : List Row) → TellsRows (g.E.LogEye.state l.initial.eye) (older_part l.self) older → TellsRows (g.E.LogEye.state l.initial.eye) (newer_part l.self) newer → Measured (g.E.LogEye.state l.eye) l.pass older newer l.measure (most_of (g.E.LogEye.state l.initial.eye) l.self older newer);
 }
 

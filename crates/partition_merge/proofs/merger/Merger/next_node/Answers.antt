@@ -24,10 +24,8 @@ pub returns-in_default-clause-exact : goal.returns-in_default-clause-exact
 returns-in_default-clause-exact g c older newer at =
     let m = c.args.self.now in
     let later = source_peeked (g.E.LogEye.state c.args.eye.now) (g.E.LogEye.state c.peek.new.eye) m.newer m.newer newer c.peek.ensures.eye.same refl refl at.of_newer in
-    let n = none_peeked (g.E.LogEye.state c.args.eye.now) (g.E.LogEye.state c.peek.new.eye) (g.E.LogEye.state c.peek-2.new.eye) m c.peek.new.self c.peek-2.new.self older newer c.in_ok-older.older c.in_ok-newer.newer at
-    c.peek.ensures.eye.same c.peek-2.ensures.eye.same c.peek.ensures.part c.peek.ensures.next c.peek-2.ensures.part c.peek-2.ensures.next
-    (c.in_ok-older.ensures.exact older at.of_older) (c.in_ok-newer.ensures.exact newer later) (sym c.lower.ensures ∙ c.in_default.is) in
-    (n.0, n.1, record { of_older = n.2; of_newer = n.3 })
+    none_peeked (g.E.LogEye.state c.args.eye.now) (g.E.LogEye.state c.peek.new.eye) (g.E.LogEye.state c.peek-2.new.eye) m older newer c.in_ok-older.older c.in_ok-newer.newer at
+    c.peek.ensures.eye.same c.peek-2.ensures.eye.same (c.in_ok-older.ensures.exact older at.of_older) (c.in_ok-newer.ensures.exact newer later) (sym c.lower.ensures ∙ c.in_default.is)
 
 pub take-requires-clause-seen : goal.take-requires-clause-seen
 take-requires-clause-seen g c κs within =
@@ -133,6 +131,13 @@ returns-in_default-clause-end g c e =
     let old_end = c.in_ok-older.ensures.end (ap Ok both.0) in
     let new_end = c.in_ok-newer.ensures.end (ap Ok both.1) in
     omega (arith, old_end, new_end)
+
+pub returns-in_default-clause-ahead : goal.returns-in_default-clause-ahead
+returns-in_default-clause-ahead g c older newer at =
+    let both = none_first c.in_ok-older.older c.in_ok-newer.newer (sym c.lower.ensures ∙ c.in_default.is) in
+    let old_end = c.in_ok-older.ensures.end (ap Ok both.0) in
+    let new_end = c.in_ok-newer.ensures.end (ap Ok both.1) in
+    omega (arith, old_end, new_end, c.peek.ensures.taken, c.peek-2.ensures.taken)
 
 pub returns-in-Ok-clause-read : goal.returns-in-Ok-clause-read
 returns-in-Ok-clause-read g c = record {

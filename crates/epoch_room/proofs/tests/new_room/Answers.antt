@@ -9,4 +9,4 @@ use Rattle.epoch_room.proofs.tests.new_room.Goals as goal
 pub make-requires-clause-parts : goal.make-requires-clause-parts
 make-requires-clause-parts c = λ _.
     subst (λ (ps : List Part). AreParts c.in_ok-disk.disk.disk ps c.new-3.result) (sym c.new-2.ensures)
-    (subst (λ (ps : List Part). AreParts c.in_ok-disk.disk [] ps) (sym c.new-3.ensures) (subst (λ (d : Disk). AreParts d [] []) (sym (ap (λ (made : PlannedDisk). made.disk) c.in_ok-disk.ensures)) (new_parts 4 c.args.region_len)))
+    (subst (λ (ps : List Part). AreParts c.in_ok-disk.disk.disk [] ps) (sym c.new-3.ensures) (subst (λ (d : Disk). AreParts d [] []) (sym (ap (λ (made : PlannedDisk). made.disk) c.in_ok-disk.ensures)) (new_parts 4 c.args.region_len)))

@@ -16,7 +16,7 @@ ghost use Rattle.partition_index.specs.Search.{TellsRows as TellsPart};
 ghost use Rattle.node_fetch.specs.Fetched.{HasBadEntry, HasBadRow, IsReplayOf, NoDamage, most_read, most_sought};
 ghost use Rattle.partition_merge.specs.Mergers.{Answers, AreKept, BlamesEntry, BlamesRow, IsCounted, IsJoinOf, IsMeasureOf, StandsAt, both_left, both_unread, measure_of, most_for, newer_part, next_len, older_part, start_of};
 ghost use Rattle.partition_merge.specs.Merging.{FitRows};
-ghost use Rattle.partition_hold.specs.Views.{ViewValue, SameView, ViewNames, ViewTells, state_of};
+ghost use Rattle.partition_hold.specs.Views.{IsView, ViewValue, SameView, ViewNames, ViewTells, state_of};
 
 use fine_model::{FetchFault, Node, NodeId, Part, Parts, Rows, ViewLaw};
 use log_disk::{Failed, LogEye};
@@ -84,7 +84,8 @@ impl<E: LogEye> View<E> {
 
     /// The parts, in the order in which they were given.
     pub fn parts(&self) -> &Parts
-        ensures { result.now ≡ self.now.parts }
+        ensures parts { result.now ≡ self.now.parts }
+        ensures whole { IsView self.now }
     {
         &self.parts
     }

@@ -1,5 +1,5 @@
 -- A step behind the places, which may see the history and raise the published number, keeps the rule of the places.
-use Rattle.std.proofs.Common.{◌≡◌, ◌≢◌, ℕ, suc, ◌<◌, ◌≤◌, List, [], ◌∷◌, length, slice_index, set, Bool, Option, sym, ap, ◌∙◌, subst, refl, ⊎_elim, arith, append-nil, length-set, get_or-set_other}
+use Rattle.std.proofs.Common.{◌≡◌, ℕ, suc, ◌<◌, ◌≤◌, List, [], ◌∷◌, length, slice_index, set, Bool, Option, sym, ap, ◌∙◌, subst, refl, ⊎_elim, arith, append-nil, length-set, get_or-set_other}
 use Rattle.std.specs.List.{AllByRecursion}
 use mathlib.Core.Option.{none, some}
 use lib.ListN.{get_elem?}
@@ -64,7 +64,7 @@ module _ {T X N Y : Type 0} (stands : X → ℕ → ℕ → T → List (Placed N
   beside_allows slots id me i f then far behind step s r deep at small =
       let v : View X N Y = me.0 in
       let fit = r.places.each_view id v at in
-      let sees : Sees legal touches x v.places r.log = record { lawful = r.places.is_legal; longer = fit.seen; mine = λ n ms o. (fit.mine n ms o).0; holds = λ j h. (fit.holds j h).same } in
+      let sees : Sees legal touches x r.published v.places r.log = record { lawful = r.places.is_legal; longer = fit.seen; mine = λ n ms o. (fit.mine n ms o).0; holds = λ j h. (fit.holds j h).same; holder = fit.holder } in
       let g = step r.published r.log s r.beside (around stands legal seats touches x s r.published r.log r.places) deep at small fit.about sees in
       let q : ℕ = g.0 in
       let w : View X N Y = g.1 in

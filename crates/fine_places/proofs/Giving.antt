@@ -1,5 +1,5 @@
 -- A place is given back, with or without an item that joins the history.
-use Rattle.std.proofs.Common.{◌≡◌, ◌≢◌, ◌⊎◌, ℕ, ◌<◌, ◌≤◌, List, [], ◌∷◌, ◌++◌, length, slice_index, set, Bool, true, false, Option, Some, None, ◌==◌, ◌||◌, sym, refl, ap, ◌∙◌, subst, inl, inr, ⊎_elim, arith, le_refl, get_or-set_other, get_or-set_same, append-nil, append_assoc, ne_eqb, eq-eqb, true≢false}
+use Rattle.std.proofs.Common.{◌≡◌, ◌≢◌, ℕ, ◌<◌, ◌≤◌, List, [], ◌∷◌, ◌++◌, length, slice_index, set, Bool, true, false, Option, Some, None, ◌==◌, ◌||◌, sym, refl, ap, ◌∙◌, subst, inl, inr, ⊎_elim, arith, le_refl, get_or-set_other, get_or-set_same, append-nil, append_assoc, ne_eqb, eq-eqb, true≢false}
 use Rattle.std.proofs.lemmas.List.Elements.{All-append, All-cons, All-nil}
 use mathlib.Core.Option.{none, some, some-injective}
 use lib.ListN.{get_elem?}

@@ -5,7 +5,6 @@ use mathlib.Core.Option.{some, some-injective, some-ne-none}
 use lib.ListN.{get_elem?}
 use Rattle.atomic_table.proofs.Lists.{at_set, set_else}
 use Rattle.fine_places.specs.declared.model.Placed.{Placed}
-use Rattle.fine_places.specs.declared.model.Known.{Known}
 use Rattle.fine_places.specs.declared.model.View.{View}
 use Rattle.fine_places.specs.History.{room, touching, by_seat, StartsWith, Owned}
 use Rattle.fine_places.specs.Places.{Holds, Homes, PlaceState, Fits, Home, Away, Keeps}

@@ -1,5 +1,5 @@
 -- How a table opens, and how seats are cut in two and joined.
-use Rattle.std.proofs.Common.{◌≡◌, ◌≢◌, ◌⊎◌, ℕ, zero, suc, ◌<◌, ◌≤◌, List, [], ◌∷◌, ◌++◌, map, length, slice_index, set, Bool, Option, Some, sym, refl, ap, ◌∙◌, subst, inl, inr, ⊎_elim, arith, le_refl, append-nil}
+use Rattle.std.proofs.Common.{◌≡◌, ◌≢◌, ◌⊎◌, ℕ, zero, suc, ◌<◌, ◌≤◌, List, [], ◌∷◌, ◌++◌, map, length, slice_index, set, Bool, Option, Some, sym, refl, ap, ◌∙◌, subst, inl, inr, ⊎_elim, arith, le_refl}
 use Rattle.std.proofs.lemmas.List.Elements.{All-nil}
 use Rattle.std.proofs.Math.Nat.{max-le}
 use mathlib.Core.Option.{some, some-injective, some-ne-none}
@@ -7,9 +7,8 @@ use lib.ListN.{get_elem?, length-map}
 use Rattle.atomic_table.specs.Table.{Splits, Joins, opening}
 use Rattle.atomic_table.proofs.Lists.{at_set, set_else, at_longer}
 use Rattle.fine_places.specs.declared.model.Placed.{Placed}
-use Rattle.fine_places.specs.declared.model.Share.{Share}
 use Rattle.fine_places.specs.declared.model.View.{View}
-use Rattle.fine_places.specs.History.{room, most_seats, StartsWith, longer, Owns, Owned}
+use Rattle.fine_places.specs.History.{room, most_seats, StartsWith, Owns, Owned}
 use Rattle.fine_places.specs.Places.{share, shares_of, newcomer, spent, without_first, only_first, tail_of, head_of, joined, Holds, PlaceState, Fits, Keeps, Rules}
 use Rattle.fine_places.specs.Telling.{HoldsNothing}
 use Rattle.fine_places.specs.Beside as beside

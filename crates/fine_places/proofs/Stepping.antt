@@ -240,7 +240,7 @@ module _ {T X N Y : Type 0} (stands : X → ℕ → ℕ → T → List (Placed N
             view = refl;
             found = λ z e. let is : x ≡ z = sym (f.about z e) in subst (λ z. Finds stands legal touches learns z k r.published y v r.log) is (record {
               stood = home.stood;
-              sees = record { lawful = r.places.is_legal; longer = f.seen; mine = λ m ms o. (f.mine m ms o).0; holds = λ j h. (f.holds j h).same };
+              sees = record { lawful = r.places.is_legal; longer = f.seen; mine = λ m ms o. (f.mine m ms o).0; holds = λ j h. (f.holds j h).same; holder = f.holder };
               learnt = λ e. (at_law e).1;
             });
           },

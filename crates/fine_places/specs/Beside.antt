@@ -98,7 +98,7 @@ TakesBehind (chain a b) = TakesBehind a × TakesBehind b
 abbrev pub AllowsBeside : {T X N Y : Type 0} → (X → List (Placed N) → Type 0) → (ℕ → N → Bool) → (X → ℕ → List (Placed N) → State (Option T) (View X N Y) → Type 0) → X → ℕ → ℕ → Me (Option T) (View X N Y) → ℕ → (ℕ → ℕ) → (ℕ → Me (Option T) (View X N Y) → Type 0) → Type 0
 AllowsBeside {T} {X} {N} {Y} legal touches kept x slots id me i f then = (p : ℕ) (log : List (Placed N)) (s : State (Option T) (View X N Y)) → kept x p log s → Around p log s → length s.homes ≡ slots
     → get_elem? s.views id ≡ some me.0 → slice_index s.words i < 18446744073709551616
-    → ((z : X) → me.0.places.about ≡ Some z → z ≡ x) → Sees legal touches x me.0.places log
+    → ((z : X) → me.0.places.about ≡ Some z → z ≡ x) → Sees legal touches x p me.0.places log
     → (q : ℕ) × (w : View X N Y) × (a : Act (Option T)) × GoesBeside p q log me.0.places w.places × TakesBehind a × Valid s.homes me.1 a
     × kept x q log (stepped s i (f (slice_index s.words i)) id me.1 w a) × then (slice_index s.words i) (w, carried_after me.1 a)
 

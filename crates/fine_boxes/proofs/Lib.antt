@@ -1,0 +1,6 @@
+pub mod Keeping
+pub mod Looking
+pub mod Refreshing
+pub mod Posting
+pub mod Publishing
+pub mod Laws

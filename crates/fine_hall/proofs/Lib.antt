@@ -1,5 +1,8 @@
+pub mod Since
 pub mod Bucket
 pub mod Turning
 pub mod Passing
-pub mod Laying
-pub mod Gathering
+pub mod Meaning
+pub mod Giving
+pub mod Taking
+pub mod Fronts

@@ -4,3 +4,6 @@ pub mod Refreshing
 pub mod Posting
 pub mod Publishing
 pub mod Laws
+pub mod Allowing
+pub mod Numbers
+pub mod Exchanging

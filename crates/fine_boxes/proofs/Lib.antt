@@ -7,3 +7,5 @@ pub mod Laws
 pub mod Allowing
 pub mod Numbers
 pub mod Exchanging
+pub mod Opening
+pub mod Ending

@@ -1,5 +1,5 @@
 -- What is told of a refresh and of a post as a whole, by what its steps tell.
-use Rattle.std.proofs.Common.{◌≡◌, ℕ, suc, ◌+◌, ◌*◌, ◌<◌, List, [], ◌∷◌, length, slice_index, Bool, Option, Some, None, sym, ap, ◌∙◌, subst, get_or-set_same}
+use Rattle.std.proofs.Common.{◌≡◌, ℕ, suc, ◌+◌, ◌-◌, ◌*◌, ◌<◌, List, [], ◌∷◌, length, slice_index, Bool, Option, Some, None, sym, refl, ap, ◌∙◌, subst, get_or-set_same}
 use mathlib.Core.Option.{none}
 use Rattle.atomic_table.specs.Table.{Me, Step, step, rest}
 use Rattle.fine_model.specs.declared.law.ViewState.{ViewState}
@@ -9,9 +9,9 @@ use Rattle.fine_places.specs.declared.model.View.{View}
 use Rattle.fine_boxes.specs.declared.model.BoxNote.{BoxNote}
 use Rattle.fine_boxes.specs.declared.model.TurnNote.{TurnNote}
 use Rattle.fine_boxes.specs.declared.model.Reads.{Reads}
-use Rattle.fine_boxes.specs.Boxes.{bit, slot}
+use Rattle.fine_boxes.specs.Boxes.{bit, mailbox, slot}
 use Rattle.fine_boxes.specs.Telling.{with_note, refreshing, landing, posting, Refreshed, FetchedBack, MayPost, Posted}
-use Rattle.fine_boxes.specs.Plays.{swapped, landed, posted, landed_back}
+use Rattle.fine_boxes.specs.Plays.{MayPostIt, fetched_back, swapped, landed, posted, landed_back}
 
 module _ {T X N : Type 0} (legal : X → List (Placed N) → Type 0) (touches : ℕ → N → Bool) (view : T → Option ViewState) (shows : X → List (Placed N) → ViewState → Type 0) where
   abbrev M : Type 0
@@ -52,11 +52,46 @@ module _ {T X N : Type 0} (legal : X → List (Placed N) → Type 0) (touches : 
   pub may_still : (x : X) (t : TurnNote) (i : ℕ) (seen : List (Placed N)) (new : ViewState) (o : Option ℕ) → MayPost shows x t i seen new → MayPost shows x (record t { out = o }) i seen new
   may_still x t i seen new o m = record { seat = m.seat; within = m.within; empty = m.empty; shown = m.shown; clean = m.clean; later = m.later }
 
-  pub post_tells : (before me after : M) (k h r : ℕ) (y : T) → me ≡ (before.0, (k, Some y) ∷ rest before.1) → before.1 ≡ (h, None) ∷ [] → posted view any me r after
-      → (t : TurnNote) (i : ℕ) (new : ViewState) → before.0.beside.turn ≡ Some t → t.out ≡ Some i → view y ≡ Some new → k ≡ slot i new.buffer
-      → (z : T) × (old : ViewState) × (fresh : Bool) × (view z ≡ Some old) × (r ≡ 2 * old.buffer + bit fresh) × Posted t i new old before.0 after.0 × (after.1 ≡ (slot i old.buffer, Some z) ∷ [])
-  post_tells before me after k h r y moved hand told t i new is out shown there =
-      subst (λ (z : M). posted view any z r after) (moved ∙ ap (λ (l : List (ℕ × Option T)). (before.0, (k, Some y) ∷ rest l)) hand) told t i y new is out shown (λ j. (there j, Some y) ∷ [])
+  -- once the back slot is in hand, it is that of the new view's buffer
+  pub fetch_tells : (x : X) (start loaded : M) (n w number back : ℕ) (y : T) (o : MayPostIt view shows x number back y start.0) → start.1 ≡ [] → w ≡ mailbox (number - 1) → fetched_back (step n w 0 0 none) start 0 loaded
+      → FetchedBack o.turn (number - 1) start.0 loaded.0 × (loaded.1 ≡ (slot (number - 1) (slice_index o.turn.backs (number - 1)), None) ∷ []) × (o.new.buffer ≡ back)
+  fetch_tells x start loaded n w number back y o still word told =
+      let f = told o.turn (number - 1) o.is word in
+      (f.0, f.1 ∙ ap (λ (l : List (ℕ × Option T)). (slot (number - 1) (slice_index o.turn.backs (number - 1)), None) ∷ l) still, f.0.only o.new.buffer o.may.within o.may.empty ∙ o.known)
+
+  -- what the load and the swap of a post tell together
+  pub record PostTold (t : TurnNote) (i back r : ℕ) (new : ViewState) (start loaded after : M) : Type 0 where
+    pub fetched : FetchedBack t i start.0 loaded.0
+    pub hand : loaded.1 ≡ (slot i (slice_index t.backs i), None) ∷ []
+    pub buffer : new.buffer ≡ back
+    pub thing : T
+    pub old : ViewState
+    pub fresh : Bool
+    pub is_old : view thing ≡ Some old
+    pub found : r ≡ 2 * old.buffer + bit fresh
+    pub told : Posted (record t { out = Some i }) i new old loaded.0 after.0
+    pub in_hand : after.1 ≡ (slot i old.buffer, Some thing) ∷ []
+
+  pub post_tells : (x : X) (start loaded filled after : M) (n w k r number back : ℕ) (y : T) (o : MayPostIt view shows x number back y start.0) → start.1 ≡ [] → w ≡ mailbox (number - 1) → fetched_back (step n w 0 0 none) start 0 loaded
+      → k ≡ slot (number - 1) back → filled ≡ (loaded.0, (k, Some y) ∷ rest loaded.1) → posted view any filled r after
+      → PostTold o.turn (number - 1) back r o.new start loaded after
+  post_tells x start loaded filled after n w k r number back y o still word fetch there moved post =
+      let i : ℕ = number - 1 in
+      let f = fetch_tells x start loaded n w number back y o still word fetch in
+      let at_new : k ≡ slot i o.new.buffer = there ∙ ap (slot i) (sym f.2) in
+      let p = subst (λ (z : M). posted view any z r after) (moved ∙ ap (λ (l : List (ℕ × Option T)). (loaded.0, (k, Some y) ∷ rest l)) f.1) post (record o.turn { out = Some i }) i y o.new
+      (ap (λ (z : Reads N). z.turn) f.0.beside) refl o.is_new (λ j. (at_new j, Some y) ∷ []) in record {
+        fetched = f.0;
+        hand = f.1;
+        buffer = f.2;
+        thing = p.0;
+        old = p.1;
+        fresh = p.2;
+        is_old = p.3;
+        found = p.4;
+        told = p.5;
+        in_hand = p.6;
+      }
 
   -- the back of the seat is the old middle's buffer
   pub back_now : (t : TurnNote) (i b : ℕ) (new old : ViewState) → i < length t.backs → slice_index (posting t i b new old).backs i ≡ old.buffer

@@ -4,3 +4,8 @@ pub mod Refreshing
 pub mod Posting
 pub mod Publishing
 pub mod Laws
+pub mod Allowing
+pub mod Numbers
+pub mod Exchanging
+pub mod Opening
+pub mod Ending

@@ -147,6 +147,7 @@ module _ {T X N : Type 0} (seats : X → ℕ) (view : T → Option ViewState) (b
             record {
               places = refl;
               beside = refl;
+              known = (let l = q.long.0 in omega arith);
               is_empty = ap (λ j. slice_get t.board (3 * i + j)) back ∙ (q.names i d.back near b.apart.back_in ∙ ap Some (back_is_empty d b.apart d.back refl));
               only = λ j lt e. empty_is_back d b.apart j lt (some_same (named d j) None (sym (q.names i j near lt) ∙ e)) ∙ sym back;
             },

@@ -172,3 +172,11 @@ named_posted board i count d c a lt long front shown middle back was j le =
     ∙ (get_set_here board (3 * i + c.middle) (Some c.ahead.eye) (omega arith) ∙ ap Some (sym (named_middle c j (λ z. a.front_back (sym (z ∙ front) ∙ e)) is)))))
     rest)
     (one_of_three d a j le)
+
+pub boxes_same : (i j : ℕ) → mailbox i ≡ mailbox j → i ≡ j
+unfolding mailbox
+boxes_same i j e = omega arith
+
+pub slots_same : (i j a b : ℕ) → i ≡ j → slot i a ≡ slot j b → a ≡ b
+unfolding slot
+slots_same i j a b e f = omega arith

@@ -124,3 +124,12 @@ pub zeros_index : (n k : ℕ) → slice_index (replicate n 0) k ≡ 0
 zeros_index zero k = refl
 zeros_index (suc n) zero = refl
 zeros_index (suc n) (suc k) = zeros_index n k
+
+-- the place of the first slot in hand
+at_first : {A : Type 0} → List (ℕ × A) → ℕ
+at_first [] = 0
+at_first (x ∷ xs) = x.0
+
+pub same_place : {A : Type 0} (j k : ℕ) (a b : A) (c d : List (ℕ × A)) → (j, a) ∷ c ≡ (k, b) ∷ d → j ≡ k
+unfolding at_first
+same_place j k a b c d e = ap at_first e

@@ -1,5 +1,5 @@
 -- What each step at a mailbox tells, and what it asks.
-use Rattle.std.specs.Prelude.{◌≡◌, ◌≢◌, ℕ, suc, ◌+◌, ◌*◌, ◌<◌, ◌≤◌, List, [], ◌∷◌, ◌++◌, slice_index, slice_set, slice_get, Bool, false, Some, None}
+use Rattle.std.specs.Prelude.{◌≡◌, ◌≢◌, ℕ, suc, ◌+◌, ◌*◌, ◌<◌, ◌≤◌, List, [], ◌∷◌, ◌++◌, length, slice_index, slice_set, slice_get, Bool, false, Some, None}
 use Rattle.fine_model.specs.declared.law.ViewState.{ViewState}
 use Rattle.fine_places.specs.declared.model.Placed.{Placed}
 use Rattle.fine_places.specs.declared.model.View.{View}
@@ -59,10 +59,11 @@ module _ {X N : Type 0} (legal : X → List (Placed N) → Type 0) (touches : �
     pub reaches : published ≤ new.upto
     pub sees : (x : X) → v.places.about ≡ Some x → Sees legal touches x published v.places log × shows x log new
 
--- The back slot of the box i came into hand: a buffer of the seat that the board leaves empty is the back buffer.
+-- The back slot of the box i came into hand: a buffer of the seat that the board leaves empty is the back buffer, which the turn knows.
 pub record FetchedBack {X N : Type 0} (t : TurnNote) (i : ℕ) (v w : View X N (Reads N)) : Type 0 where
   pub places : w.places ≡ v.places
   pub beside : w.beside ≡ record v.beside { turn = Some (record t { out = Some i }) }
+  pub known : i < length t.backs
   pub is_empty : slice_get t.board (3 * i + slice_index t.backs i) ≡ Some None
   pub only : (j : ℕ) → j < 3 → slice_get t.board (3 * i + j) ≡ Some None → j ≡ slice_index t.backs i
 

@@ -10,7 +10,10 @@
 mod boxes;
 mod law;
 mod model;
+mod plays;
+mod steps;
 
 pub use boxes::Boxes;
 pub use law::BoxLaw;
 pub use model::{BoxNote, Mark, Reads, TurnNote};
+pub use steps::{PUBLISHED, look, mailbox, post, publish, published, refresh, slot};

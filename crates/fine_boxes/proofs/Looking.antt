@@ -27,10 +27,10 @@ use Rattle.fine_boxes.proofs.Keeping.{boxes_moved}
 
 -- what a step tells that only sees
 pub sees_all : {X N : Type 0} (p : ℕ) (log : List (Placed N)) (v : Known X N) → v.published ≤ p → GoesBeside p p log v (knowing v log p)
-sees_all p log v le = record { rise = le_refl p; raised = inl refl; seen = inr refl; published = (le_refl p, le, λ _. refl); about = refl; shares = refl; fronts = refl; held = refl; moving = refl }
+sees_all p log v le = record { rise = le_refl p; raised = inl refl; seen = inr refl; published = (le_refl p, le, λ _. refl); about = refl; shares = refl; fronts = refl; held = refl; found = refl; moving = refl }
 
 pub sees_none : {X N : Type 0} (p : ℕ) (log : List (Placed N)) (v : Known X N) → v.published ≤ p → (Holds v room → v.published ≡ p) → GoesBeside p p log v v
-sees_none p log v le held = record { rise = le_refl p; raised = inl refl; seen = inl refl; published = (le, le_refl v.published, held); about = refl; shares = refl; fronts = refl; held = refl; moving = refl }
+sees_none p log v le held = record { rise = le_refl p; raised = inl refl; seen = inl refl; published = (le, le_refl v.published, held); about = refl; shares = refl; fronts = refl; held = refl; found = refl; moving = refl }
 
 module _ {T X N : Type 0} (seats : X → ℕ) (view : T → Option ViewState) (board : T → List (Option OpenedEye)) (sealed : T → ℕ) (backs : T → List ℕ)
     (shows : X → List (Placed N) → ViewState → Type 0) (above : ℕ → N → Type 0) (returned : N → ℕ) (x : X) where

@@ -106,6 +106,7 @@ module _ {T X N : Type 0} (seats : X → ℕ) (view : T → Option ViewState) (b
             shares = refl;
             fronts = refl;
             held = refl;
+            found = refl;
             moving = refl;
           },
           tt,

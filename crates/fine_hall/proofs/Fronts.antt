@@ -32,6 +32,7 @@ module _ {V : Type 0} (view : V → ViewState) where
     alone = ok.alone;
     wide = ok.wide;
     few = ok.few;
+    boxes = ok.boxes;
     number = ok.number;
     lawful = ok.lawful;
     own = ok.own;

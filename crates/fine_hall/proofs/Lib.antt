@@ -6,3 +6,6 @@ pub mod Meaning
 pub mod Giving
 pub mod Taking
 pub mod Fronts
+pub mod Laying
+pub mod Mailing
+pub mod Refreshing

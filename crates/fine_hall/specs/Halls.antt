@@ -33,6 +33,10 @@ use Rattle.fine_hall.specs.Turns.{added, commits, in_bucket, is_in, places_more}
 use Rattle.fine_hall.specs.Laws.{beginning, AreTurns, CountsEpochs, IsRoomFor, IsViewFor}
 use Rattle.fine_hall.specs.Passes.{turns, own_turns, seen, known, reads, published, found_held, last_room, given_up, looks, marks, front_of, troubles, HasPlace, HoldsNothing, IsHolder, IsPass}
 
+-- how a hall began, by what it was told once
+abbrev pub begun_by : {R V : Type 0} → (R → RoomState) → (R → Origin) → (V → ViewState) → Start R V → Beginning
+begun_by state origin view key = beginning key.seats (origin key.room.value) (state key.room.value) view key.fronts.value.items
+
 abbrev pub HallOf : Type 0 → Type 0 → Type 0 → Type 0 → Type 0
 HallOf R B V Q = HallTable (Option (Load R B V)) (Start R V) Q
 

@@ -20,6 +20,7 @@ use Rattle.fine_boxes.specs.declared.model.Mark.{Mark}
 use Rattle.fine_boxes.specs.declared.model.TurnNote.{TurnNote}
 use Rattle.fine_boxes.specs.declared.model.Reads.{Reads}
 use Rattle.fine_boxes.specs.Boxes.{nothing}
+use Rattle.fine_boxes.specs.Plays.{HasBoxes}
 use Rattle.fine_hall.specs.declared.turn.Turn.{Turn}
 use Rattle.fine_hall.specs.declared.law.Beginning.{Beginning}
 use Rattle.fine_hall.specs.declared.pass.Pass.{Pass}
@@ -152,6 +153,7 @@ module _ {V : Type 0} where
     pub alone : (known p).shares ≡ share p.number (own_turns p) ∷ []
     pub wide : length (known p).held ≡ suc places.room
     pub few : x.seats ≤ most_seats
+    pub boxes : HasBoxes x.seats z
     pub number : (0 < p.number) × (p.number ≤ x.seats)
     pub lawful : AreTurns x (turns p)
     pub own : own_turns p ≡ by_seat p.number (turns p)

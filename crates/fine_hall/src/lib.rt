@@ -5,6 +5,8 @@
 mod hall;
 mod law;
 mod laws;
+mod mail;
+mod opening;
 mod pass;
 mod room_turn;
 mod turn;

@@ -80,6 +80,7 @@ pub record GoesBeside {X N : Type 0} (p q : ℕ) (log : List (Placed N)) (v w : 
   pub shares : w.shares ≡ v.shares
   pub fronts : w.fronts ≡ v.fronts
   pub held : w.held ≡ v.held
+  pub found : w.found ≡ v.found
   pub moving : w.moving ≡ v.moving
 
 -- each slot in hand, and each that an act takes, lies behind the places

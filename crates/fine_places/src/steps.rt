@@ -94,6 +94,7 @@ pub fn open<T, X, N, Y, K, L: PlaceLaw<T, X, N, Y> + StartLaw<X, K>, E: BesideLa
     requires stands { (k : ℕ) → k ≤ room → (thing : T) × (get_elem? slots.items k ≡ some (Some thing)) × L.stands (L.start key.now) k (L.begins (L.start key.now)) thing [] }
     requires beside { E.keeps (L.start key.now) (L.begins (L.start key.now)) [] (opening words.now slots.items (record { places = newcomer (L.seats (L.start key.now)) (L.begins (L.start key.now)) (L.start key.now); beside = E.first (L.start key.now) })) }
     ensures table { IfOk result (λ r. IsSized r.0.shared.table_id × (r.1.table_id ≡ r.0.shared.table_id) × (r.0.shared.key ≡ key.now)) }
+    ensures counts { IfOk result (λ r. (r.0.shared.table_id.words ≡ length words.now) × (r.0.shared.table_id.slots ≡ length slots.items)) }
     ensures seat { IfOk result (λ r. r.1.me ≡ (record { places = newcomer (L.seats (L.start key.now)) (L.begins (L.start key.now)) (L.start key.now); beside = E.first (L.start key.now) }, [])) }
     ensures refused { IfErr result (λ r. r.slots.items ≡ slots.items) }
 {

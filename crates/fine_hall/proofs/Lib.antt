@@ -9,3 +9,4 @@ pub mod Fronts
 pub mod Laying
 pub mod Mailing
 pub mod Refreshing
+pub mod Handing

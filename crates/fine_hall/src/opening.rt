@@ -4,6 +4,7 @@ ghost use Rattle.std.specs.Prelude.{◌≡◌, ◌<◌, ◌≤◌, ◌+◌, ◌*
 ghost use mathlib.Core.Option.{some};
 ghost use lib.ListN.{get_elem?};
 ghost use Rattle.fine_places.specs.Telling.{IsSized};
+ghost use Rattle.fine_boxes.specs.Plays.{HasBoxes};
 ghost use Rattle.fine_hall.specs.declared.law.Beginning.{Beginning};
 ghost use Rattle.fine_hall.specs.Laws.{beginning};
 ghost use Rattle.fine_hall.specs.Halls.{begun_by, IsFreshView};
@@ -166,4 +167,49 @@ fn empty_places<R: Drop, B: Drop, V: Drop>(
     }
     buckets.reverse();
     (room, buckets)
+}
+/// The first seat has all numbers, and keeps the least. Each pass gets its front.
+fn hand_out<R: RoomLaw, B: BucketLaw, V: ViewLaw + Drop>(
+    places: &HallPlaces<R, B, V>,
+    mut seat: Seat<R, B, V>,
+    mut fronts: Vec<V>,
+    mut passes: Vec<Pass<V>>,
+) -> Vec<Pass<V>>
+    requires seats { (1 ≤ length fronts.items) × (length fronts.items ≤ 18) × (length fronts.items ≡ (begun_by R.state R.origin V.state places.now.key).seats) }
+    requires places { (begun_by R.state R.origin V.state places.now.key).room.places ≡ 0 }
+    requires fronts { (i : ℕ) (v : V.row.Denot) → get_elem? fronts.items i ≡ some v → IsFreshView (begun_by R.state R.origin V.state places.now.key) (suc i) 0 (V.state v) }
+    requires passes { (passes.items ≡ []) × (length fronts.items ≤ vec_capacity passes) }
+    requires table { (seat.table_id ≡ places.now.table_id) × IsSized places.now.table_id × HasBoxes (length fronts.items) places.now.table_id }
+    requires first { StartsAll (length fronts.items) (begun_by R.state R.origin V.state places.now.key) (map V.state fronts.items) seat.me }
+    ensures count { length result.items ≡ length fronts.items }
+    ensures passes { HandedOut V.state places.now.table_id (begun_by R.state R.origin V.state places.now.key) fronts.items result.items }
+{
+    while fronts.len() > 1 {
+        let number = fronts.len() as u32;
+        let Some(front) = fronts.pop() else {
+            unreachable!()
+        };
+        let other = split(places, &mut seat);
+        passes.push_reserved(seated(other, number, front));
+    }
+    let Some(front) = fronts.pop() else {
+        unreachable!()
+    };
+    passes.push_reserved(seated(seat, 1, front));
+    passes
+}
+
+/// The pass of a seat.
+fn seated<S, V>(seat: HallSeat<S>, number: u32, front: V) -> Pass<V>
+    requires { seat.me.1 ≡ [] }
+    ensures badge { (result.badge.table_id ≡ seat.table_id) × (result.badge.views ≡ seat.me.0 ∷ []) }
+    ensures rest { (result.number ≡ number) × (result.front ≡ Some front) × (result.buffer ≡ 0) }
+{
+    Pass {
+        badge: seat.into_badge(),
+        number,
+        front: Some(front),
+        buffer: 0,
+        backs: [2; 18],
+    }
 }

@@ -1,17 +1,12 @@
 -- How the passes of a new hall are handed out.
-use Rattle.std.proofs.Common.{◌≡◌, ◌⊎◌, ℕ, zero, suc, ◌+◌, ◌-◌, ◌*◌, ◌<◌, ◌≤◌, List, [], ◌∷◌, ◌++◌, map, reverse, take, drop, length, replicate, Option, Some, None, false, refl, sym, ap, ◌∙◌, subst, inl, inr, ⊎_elim, arith, append-nil, length-append, le_refl, zero-le}
+use Rattle.std.proofs.Common.{◌≡◌, ℕ, suc, ◌+◌, ◌<◌, ◌≤◌, List, [], ◌∷◌, ◌++◌, map, reverse, take, drop, length, replicate, Some, None, false, refl, sym, ap, ◌∙◌, subst, ⊎_elim, arith, length-append, le_refl, zero-le}
 use Rattle.std.proofs.lemmas.List.{map-append, reverse-append}
-use mathlib.Core.Option.{some, some-ne-none, some-injective}
+use mathlib.Core.Option.{some}
 use lib.ListN.{get_elem?, length-replicate}
 use Rattle.atomic_table.specs.Seated.{TableId}
 use Rattle.atomic_table.proofs.Lists.{at_last, at_longer}
 use Rattle.fine_model.specs.declared.law.ViewState.{ViewState}
-use Rattle.fine_model.specs.declared.Row.{Row}
-use Rattle.fine_model.specs.Buckets.{Began}
-use Rattle.fine_model.specs.History.{Commit, IsLegal}
-use Rattle.fine_model.specs.Views.{counting}
 use Rattle.fine_places.specs.declared.model.Known.{Known}
-use Rattle.fine_places.specs.declared.model.Placed.{Placed}
 use Rattle.fine_places.specs.History as places
 use Rattle.fine_places.specs.History.{most_seats, by_seat}
 use Rattle.fine_places.specs.Places.{share, shares_of, newcomer, without_first, only_first, tail_of, head_of}
@@ -25,8 +20,8 @@ use Rattle.fine_hall.specs.declared.law.Beginning.{Beginning}
 use Rattle.fine_hall.specs.declared.pass.Pass.{Pass}
 use Rattle.fine_hall.specs.Turns.{commits}
 use Rattle.fine_hall.specs.Laws.{AreTurns, IsViewFor}
-use Rattle.fine_hall.specs.Passes.{PassView, first_mine, first_given, first_marks, first_looks, view_of, known, reads, turns, own_turns, published, given_up, front_of, HasPlace, HasFront, IsPass}
-use Rattle.fine_hall.specs.Halls.{IsFreshView, IsFreshPass, IsAhead}
+use Rattle.fine_hall.specs.Passes.{PassView, first_mine, first_given, view_of, known, reads, turns, own_turns, front_of, HasFront, IsPass}
+use Rattle.fine_hall.specs.Halls.{IsFreshView, IsFreshPass}
 use Rattle.fine_hall.specs.Opening.{HandsOut, HandedOut}
 use Rattle.fine_hall.proofs.Laying.{no_slot}
 use Rattle.fine_hall.proofs.Passing.{known_is, reads_is, one_view}

@@ -10,3 +10,4 @@ pub mod Laying
 pub mod Mailing
 pub mod Refreshing
 pub mod Handing
+pub mod Entering

@@ -3,10 +3,10 @@ ghost use Rattle.fine_places.specs.Places.{newcomer};
 ghost use Rattle.fine_places.specs.Telling.{IsSized};
 ghost use Rattle.fine_boxes.specs.Boxes.{first_notes};
 ghost use Rattle.fine_boxes.specs.Plays.{HasBoxes};
-ghost use Rattle.fine_boxes.specs.Trial.{state_in};
+ghost use Rattle.fine_boxes.specs.Trial.{state_in, Rests};
 
-use crate::{BoxLaw, Boxes, Reads, look, published};
-use fine_places::{PlaceLaw, PlaceSeat, Places, StartLaw, open};
+use crate::{BoxLaw, Boxes, Reads, look, post, publish, published, refresh};
+use fine_places::{PlaceLaw, PlaceSeat, Places, ROOM, StartLaw, give, open, take};
 use std::alloc::Global;
 use std::test::*;
 
@@ -121,11 +121,52 @@ fn opened(alloc: Global) -> Result<(TrialPlaces, TrialSeat), Fail>
     }
 }
 
+/// The seat takes the room, posts itself a view for its back, publishes up to it, and gives the room back.
+#[tactic(auto, unfolding(fine_places::specs::History::room))]
+fn turn(places: &TrialPlaces, seat: &mut TrialSeat) -> Option<(Thing, u8)>
+    requires table { (seat.old.table_id ≡ places.now.shared.table_id) × IsSized places.now.shared.table_id × HasBoxes 1 places.now.shared.table_id }
+    requires rests { Rests seat.old.me }
+    ensures table { seat.new.table_id ≡ seat.old.table_id }
+    ensures notes { seat.new.me.0.beside.notes ≡ seat.old.me.0.beside.notes }
+    ensures hand { seat.new.me.1 ≡ [] }
+{
+    let Ok(thing) = take(&places.shared, seat, ROOM, 1) else {
+        return None;
+    };
+    let Err(back) = thing else {
+        return None;
+    };
+    let number = published(&places.shared, seat);
+    if number > 5 {
+        return None;
+    }
+    let posted = post(&places.shared, seat, 1, back, Ok(back));
+    publish(&places.shared, seat, 5);
+    give(&places.shared, seat, ROOM, Err(posted.1));
+    Some(posted)
+}
+
 #[test]
 fn a_new_mailbox_is_not_fresh(rt: HostRuntime) -> Result<(), Fail> {
     let (places, mut seat) = opened(rt.alloc())?;
     let number = published(&places.shared, &mut seat);
     let fresh = look(&places.shared, &mut seat, 1);
     assert!(rt; number == 0 && !fresh);
+    Ok(())
+}
+
+#[test]
+#[tactic(auto, unfolding(fine_places::specs::History::room))]
+fn a_seat_finds_what_was_posted(rt: HostRuntime) -> Result<(), Fail> {
+    let (places, mut seat) = opened(rt.alloc())?;
+    let posted = turn(&places, &mut seat);
+    assert!(rt; posted == Some((Ok(1), 1)));
+    let number = published(&places.shared, &mut seat);
+    assert!(rt; number == 5);
+    if !look(&places.shared, &mut seat, 1) {
+        return Err(Fail::from("stale"));
+    }
+    let front = refresh(&places.shared, &mut seat, 1, 0, Ok(0));
+    assert!(rt; front == (Ok(2), 2));
     Ok(())
 }

@@ -1,4 +1,4 @@
-use Rattle.std.proofs.Common.{◌≡◌, ◌∙◌, ◌∷◌, [], ap, refl}
+use Rattle.std.proofs.Common.{◌∙◌, ap, refl}
 use Rattle.atomic_table.specs.Table.{Me}
 use Rattle.fine_boxes.specs.declared.model.Reads.{Reads}
 use Rattle.fine_places.specs.declared.model.View.{View}

@@ -11,3 +11,5 @@ pub mod Mailing
 pub mod Refreshing
 pub mod Handing
 pub mod Entering
+pub mod Sums
+pub mod SumsClosing

@@ -13,3 +13,4 @@ pub mod Handing
 pub mod Entering
 pub mod Sums
 pub mod SumsClosing
+pub mod SumsMiddles

@@ -37,17 +37,17 @@ module _ {A : Type 0} where
 
 -- ---- a number among all numbers
 
-no_hit : (n s m : ℕ) → s ≢ m → (if s == m then n else 0) ≡ 0
+pub no_hit : (n s m : ℕ) → s ≢ m → (if s == m then n else 0) ≡ 0
 no_hit n s m ne = ⊎_elim (λ is. absurd (ne is.1)) (λ is. ap (λ b. cond b n 0) is.0) (eqb_tells s m)
 
-hit : (n s m : ℕ) → s ≡ m → (if s == m then n else 0) ≡ n
+pub hit : (n s m : ℕ) → s ≡ m → (if s == m then n else 0) ≡ n
 hit n s m e = ap (λ b. cond b n 0) (eq-eqb s m e)
 
 missed : (n s a k : ℕ) → s < a → sum_by (λ m. if s == m then n else 0) (range_with_len a k) ≡ 0
 missed n s a zero lt = refl
 missed n s a (suc k) lt = let c = sum_by-cons (λ m. if s == m then n else 0) a (range_with_len (a + 1) k) in let h = no_hit n s a (λ e. omega arith) in let t = missed n s (a + 1) k (omega arith) in omega arith
 
-found : (n s a k : ℕ) → a ≤ s → s < a + k → sum_by (λ m. if s == m then n else 0) (range_with_len a k) ≡ n
+pub found : (n s a k : ℕ) → a ≤ s → s < a + k → sum_by (λ m. if s == m then n else 0) (range_with_len a k) ≡ n
 found n s a zero le lt = absurd (omega arith)
 found n s a (suc k) le lt = let c = sum_by-cons (λ m. if s == m then n else 0) a (range_with_len (a + 1) k) in ⊎_elim
     (λ is. let h = hit n s a is.1 in let t = missed n s (a + 1) k (let e = is.1 in omega arith) in omega arith)

@@ -3,7 +3,6 @@ use Rattle.std.proofs.Common.{◌≡◌, ◌⊎◌, ℕ, zero, suc, ◌+◌, ◌
 use Rattle.std.proofs.lemmas.List.{get_or-take, length-take-le}
 use Rattle.atomic_table.specs.Seated.{TableId}
 use Rattle.fine_places.specs.History.{most_seats}
-use Rattle.fine_boxes.specs.Plays.{HasBoxes}
 use mathlib.Core.Option.{some, some-injective, some-ne-none}
 use lib.ListN.{get_elem?, length-map}
 use Rattle.atomic_table.proofs.Lists.{at_map, at_longer}
@@ -21,6 +20,7 @@ use Rattle.fine_boxes.specs.Ends.{Opens, OpensSeat}
 use Rattle.fine_hall.specs.declared.law.Beginning.{Beginning}
 use Rattle.fine_hall.specs.declared.law.Load.{Load}
 use Rattle.fine_hall.specs.declared.law.Load.TheVariants as load
+use Rattle.fine_hall.specs.Passes.{HasTable}
 use Rattle.fine_hall.specs.Turns.{commits}
 use Rattle.fine_hall.specs.Laws.{Stands, IsRoomFor, ShowsTurns, beginning, view_in, board_in, sealed_in, backs_in}
 use Rattle.fine_hall.specs.Halls.{IsFreshHall, AreFreshBuckets, first_board}
@@ -101,9 +101,9 @@ pub all_free : (n : ℕ) (words : List ℕ) → ((k : ℕ) → k < 258 → slice
 unfolding places.room
 all_free n words free k le = words_at (258 + n) words k 0 (omega arith) (free k (omega arith))
 
-pub has_boxes : (n seats : ℕ) (z : TableId) (words : List ℕ) (count : ℕ) → n ≡ seats → n ≤ 18 → length words ≡ 276 → z.words ≡ length (take (258 + n) words) → z.slots ≡ count → count ≡ suc places.room + 3 * n → HasBoxes seats z
+pub has_boxes : (n seats : ℕ) (z : TableId) (words : List ℕ) (count : ℕ) → n ≡ seats → n ≤ 18 → length words ≡ 276 → z.words ≡ length (take (258 + n) words) → z.slots ≡ count → count ≡ suc places.room + 3 * n → HasTable seats z
 unfolding places.room
-has_boxes n seats z words count same few long w s deep = let e = length-take-le (258 + n) words (omega arith) in ((omega (arith, same, w, e)), (omega (arith, same, s, deep)))
+has_boxes n seats z words count same few long w s deep = let e = length-take-le (258 + n) words (omega arith) in (((omega (arith, same, w, e)), (omega (arith, same, s, deep))), (omega (arith, same, w, e)))
 
 module _ {R B V : Type 0} (state : R → RoomState) (origin : R → Origin) (stands_for : R → List Row → ℕ → List Commit → Type 0) (bucket : B → ℕ) (cached : B → ℕ → Option (Content × ℕ)) (is_settled : B → Type 0) (view : V → ViewState)
     (room : R) (all : List B) (fronts middles : List V) (x : Beginning) (is : x ≡ beginning (length fronts) (origin room) (state room) view fronts) (buckets : AreFreshBuckets bucket cached is_settled all)

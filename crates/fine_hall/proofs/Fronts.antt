@@ -33,6 +33,7 @@ module _ {V : Type 0} (view : V → ViewState) where
     wide = ok.wide;
     few = ok.few;
     boxes = ok.boxes;
+    words = ok.words;
     number = ok.number;
     lawful = ok.lawful;
     own = ok.own;

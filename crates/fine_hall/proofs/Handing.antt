@@ -14,13 +14,12 @@ use Rattle.fine_places.proofs.Lists.{none_held, replicate_at, snoc_at}
 use Rattle.fine_boxes.specs.declared.model.BoxNote.{BoxNote}
 use Rattle.fine_boxes.specs.declared.model.Reads.{Reads}
 use Rattle.fine_boxes.specs.Boxes.{first_notes, note_of, cut_left, cut_right}
-use Rattle.fine_boxes.specs.Plays.{HasBoxes}
 use Rattle.fine_hall.specs.declared.turn.Turn.{Turn}
 use Rattle.fine_hall.specs.declared.law.Beginning.{Beginning}
 use Rattle.fine_hall.specs.declared.pass.Pass.{Pass}
 use Rattle.fine_hall.specs.Turns.{commits}
 use Rattle.fine_hall.specs.Laws.{AreTurns, IsViewFor}
-use Rattle.fine_hall.specs.Passes.{PassView, first_mine, first_given, view_of, known, reads, turns, own_turns, front_of, HasFront, IsPass}
+use Rattle.fine_hall.specs.Passes.{PassView, HasTable, first_mine, first_given, view_of, known, reads, turns, own_turns, front_of, HasFront, IsPass}
 use Rattle.fine_hall.specs.Halls.{IsFreshView, IsFreshPass}
 use Rattle.fine_hall.specs.Opening.{HandsOut, HandedOut}
 use Rattle.fine_hall.proofs.Laying.{no_slot}
@@ -105,7 +104,7 @@ one_note y f e = ap (λ (r : Reads Turn). r.notes) e
 vacant : (n k : ℕ) → k < n → get_elem? (replicate n false) k ≡ some false
 vacant n k lt = replicate_at n k false lt
 
-module _ {V : Type 0} (view : V → ViewState) (z : TableId) (x : Beginning) (boxes : HasBoxes x.seats z) (none : x.room.places ≡ 0) (few : x.seats ≤ 18) where
+module _ {V : Type 0} (view : V → ViewState) (z : TableId) (x : Beginning) (boxes : HasTable x.seats z) (none : x.room.places ≡ 0) (few : x.seats ≤ 18) where
   module _ (n : ℕ) (low : 0 < n) (high : n ≤ x.seats) (p : Pass V) (v : PassView) (front : V) (table : p.badge.table_id ≡ z) (views : p.badge.views ≡ v ∷ []) (number : p.number ≡ n) (is_front : p.front ≡ Some front) (buffer : p.buffer ≡ 0)
       (s : Single x n v.places) (notes : v.beside.notes ≡ note_of (view front) ∷ []) (f : IsFreshView x n 0 (view front)) where
     is : known p ≡ v.places
@@ -149,7 +148,8 @@ module _ {V : Type 0} (view : V → ViewState) (z : TableId) (x : Beginning) (bo
       alone = ap (λ (u : K). u.shares) is ∙ (s.shares ∙ (λ i. share (sym number i) (sym mine_none i) ∷ []));
       wide = ap (λ (u : K). length u.held) is ∙ (ap length s.held ∙ length-replicate (suc places.room) false);
       few = few;
-      boxes = boxes;
+      boxes = boxes.0;
+      words = boxes.1;
       number = subst (λ m. (0 < m) × (m ≤ x.seats)) (sym number) (low, high);
       lawful = subst (AreTurns x) (sym seen_none) (fresh_turns x none);
       own = mine_none ∙ ap (by_seat p.number) (sym seen_none);

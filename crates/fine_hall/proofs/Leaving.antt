@@ -63,6 +63,10 @@ pub few_seats : (n : ℕ) → n ≤ most_seats → n ≤ 18
 unfolding most_seats
 few_seats n le = le
 
+pub counted_words : (n words : ℕ) → words ≡ suc (suc places.room) + n → words ≡ 258 + n
+unfolding places.room
+counted_words n words e = e
+
 pub enough_slots : (n slots count : ℕ) → suc places.room + 3 * n ≤ slots → count ≡ slots → 257 + 3 * n ≤ count
 unfolding places.room
 enough_slots n slots count le e = omega arith

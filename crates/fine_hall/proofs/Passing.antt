@@ -118,6 +118,7 @@ module _ {V : Type 0} (view : V → ViewState) (z : TableId) (x : Beginning) (p 
           wide = ap (λ (u : Known Beginning Turn). length u.held) now ∙ (wide ∙ (ap (λ (u : Known Beginning Turn). length u.held) was ∙ ok.wide));
           few = ok.few;
           boxes = ok.boxes;
+          words = ok.words;
           number = subst (λ n. (0 < n) × (n ≤ x.seats)) (sym n') ok.number;
           lawful = subst (AreTurns x) seen' lawful;
           own = own' ∙ (mine ∙ (λ i. by_seat (sym n' i) (seen' i)));

@@ -54,6 +54,10 @@ abbrev pub first_looks : List (BoxNote Turn) → List Bool
 first_looks [] = []
 first_looks (m ∷ ms) = m.looks
 
+-- a table has the words and slots of so many seats, and no more words
+abbrev pub HasTable : ℕ → TableId → Type 0
+HasTable seats z = HasBoxes seats z × (z.words ≡ suc (suc places.room) + seats)
+
 -- what a view is that is not there
 abbrev pub no_view : ViewState
 no_view = record { seat = 0; buffer = 0; upto = 0; parts = []; region_len = 0; eye = record { number = 0; regions = []; told = None }; faults = 0 }
@@ -154,6 +158,7 @@ module _ {V : Type 0} where
     pub wide : length (known p).held ≡ suc places.room
     pub few : x.seats ≤ most_seats
     pub boxes : HasBoxes x.seats z
+    pub words : z.words ≡ suc (suc places.room) + x.seats
     pub number : (0 < p.number) × (p.number ≤ x.seats)
     pub lawful : AreTurns x (turns p)
     pub own : own_turns p ≡ by_seat p.number (turns p)

@@ -10,7 +10,7 @@ use crate::turn::Turn;
 use atomic_table::{Table, TableRule};
 use fine_boxes::{Boxes, Reads};
 use fine_model::{BucketLaw, RoomLaw, ViewLaw};
-use fine_places::{Rule, View, give, take};
+use fine_places::{PLACES, Rule, View, give, take};
 use std::alloc::Global;
 
 pub(crate) type Seat<R, B, V> = HallSeat<Load<R, B, V>>;
@@ -34,6 +34,14 @@ impl<R: RoomLaw, B: BucketLaw, V: ViewLaw> Hall<R, B, V> {
     ghost use Rattle.fine_model.specs.Buckets.{IsBucketFor};
     ghost use Rattle.fine_hall.specs.Passes.{HasPlace, LacksPlace, published, seen};
     ghost use Rattle.fine_hall.specs.Halls.{IsPassOf, begun, Takes, Gives, FindsHeld};
+
+    /// How many seats the hall has, which any of its passes knows.
+    pub fn seats(&self, pass: &Pass<V>) -> u32
+        requires pass { IsPassOf R.state R.origin V.state self.now pass.now }
+        ensures { result ≡ (begun R.state R.origin V.state self.now).seats }
+    {
+        (self.table.word_count() - PLACES - 1) as u32
+    }
 
     /// Takes a bucket that the pass does not hold, by one compare-exchange, or says which seat holds it. It never waits, and takes no
     /// memory.

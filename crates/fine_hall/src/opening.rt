@@ -4,7 +4,7 @@ ghost use Rattle.std.specs.Prelude.{◌≡◌, ◌<◌, ◌≤◌, ◌+◌, ◌*
 ghost use mathlib.Core.Option.{some};
 ghost use lib.ListN.{get_elem?};
 ghost use Rattle.fine_places.specs.Telling.{IsSized};
-ghost use Rattle.fine_boxes.specs.Plays.{HasBoxes};
+ghost use Rattle.fine_hall.specs.Passes.{HasTable};
 ghost use Rattle.fine_hall.specs.declared.law.Beginning.{Beginning};
 ghost use Rattle.fine_hall.specs.Laws.{beginning};
 ghost use Rattle.fine_hall.specs.Halls.{begun_by, IsFreshView};
@@ -179,7 +179,7 @@ fn hand_out<R: RoomLaw, B: BucketLaw, V: ViewLaw + Drop>(
     requires places { (begun_by R.state R.origin V.state places.now.key).room.places ≡ 0 }
     requires fronts { (i : ℕ) (v : V.row.Denot) → get_elem? fronts.items i ≡ some v → IsFreshView (begun_by R.state R.origin V.state places.now.key) (suc i) 0 (V.state v) }
     requires passes { (passes.items ≡ []) × (length fronts.items ≤ vec_capacity passes) }
-    requires table { (seat.table_id ≡ places.now.table_id) × IsSized places.now.table_id × HasBoxes (length fronts.items) places.now.table_id }
+    requires table { (seat.table_id ≡ places.now.table_id) × IsSized places.now.table_id × HasTable (length fronts.items) places.now.table_id }
     requires first { StartsAll (length fronts.items) (begun_by R.state R.origin V.state places.now.key) (map V.state fronts.items) seat.me }
     ensures count { length result.items ≡ length fronts.items }
     ensures passes { HandedOut V.state places.now.table_id (begun_by R.state R.origin V.state places.now.key) fronts.items result.items }

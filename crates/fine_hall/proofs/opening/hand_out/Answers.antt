@@ -3,7 +3,7 @@ use Rattle.std.proofs.lemmas.List.{map-append}
 use lib.ListN.{get_elem?}
 use Rattle.fine_places.specs.History as places
 use Rattle.fine_places.proofs.Lists.{none_held}
-use Rattle.fine_boxes.specs.Plays.{HasBoxes}
+use Rattle.fine_hall.specs.Passes.{HasTable}
 use Rattle.fine_hall.specs.Halls.{begun_by}
 use Rattle.fine_hall.proofs.Handing.{Beginner, keeps_rest, takes_first, last_one, right_note, left_notes, one_note, first_pass, fresh_pass, hands, front_at, longer_by}
 use Rattle.fine_hall.proofs.Laying.{none_of}
@@ -26,7 +26,7 @@ pub loop-fronts-preserved : goal.loop-fronts-preserved
 loop-fronts-preserved g c =
     let i = c.loop-fronts.invariant in
     let seats = c.requires.seats in
-    let boxes = subst (λ n. HasBoxes n c.args.places.now.table_id) seats.2 c.requires.table.2 in
+    let boxes = subst (λ n. HasTable n c.args.places.now.table_id) seats.2 c.requires.table.2 in
     let few = subst (λ n. n ≤ 18) seats.2 seats.1 in
     let before = c.pop.new.self.items in
     let popped = c.in-Some.ensures in
@@ -74,7 +74,7 @@ pub returns-clause-passes : goal.returns-clause-passes
 returns-clause-passes g c =
     let i = c.loop-fronts.invariant in
     let seats = c.requires.seats in
-    let boxes = subst (λ n. HasBoxes n c.args.places.now.table_id) seats.2 c.requires.table.2 in
+    let boxes = subst (λ n. HasTable n c.args.places.now.table_id) seats.2 c.requires.table.2 in
     let few = subst (λ n. n ≤ 18) seats.2 seats.1 in
     let before = c.pop-2.new.self.items in
     let popped = c.in-Some-pop.ensures in

@@ -1,2 +1,3 @@
 pub mod ViewLemmas
 pub mod Bits
+pub mod Sets

@@ -3,10 +3,12 @@
 
 mod board;
 mod regions;
+mod source;
 mod view;
 
 pub use board::Board;
 pub use regions::RegionSet;
+pub use source::source_law;
 pub use view::{View, view_law};
 
 #[cfg(test)]

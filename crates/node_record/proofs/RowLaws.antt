@@ -252,7 +252,7 @@ pub record Reads (mark : Mark) (bytes : List ℕ) (at : ℕ) (result : Result (R
   pub bad : IfErr result (IsFault mark bytes at)
   pub again : IsReadAgain mark bytes at result
 
-row_length : (row : Row) → length (row_bytes row) ≡ row_len row
+pub row_length : (row : Row) → length (row_bytes row) ≡ row_len row
 unfolding row_bytes
 row_length row = length-append (front_text (record { kind = kind row.rec; node = row.node; version = row.version; len = length (body row.rec) })) (body row.rec)
 

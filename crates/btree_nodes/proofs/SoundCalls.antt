@@ -84,7 +84,7 @@ still_clean mid new log log' c P (Err (Source f)) C clean h = absurd h.0
 still_clean mid new log log' c P (Err (Unfit id)) C clean h = clean
 still_clean mid new log log' c P (Err (BucketFull m d)) C clean h = clean
 still_clean mid new log log' c P (Err (Number id)) C clean h = clean
-still_clean mid new log log' c P (Err NoMemory) C clean h = tt
+still_clean mid new log log' c P (Err NoMemory) C clean h = clean
 
 -- the same answer at another type
 pub clean_fault : (A B : Type 0) (e : TreeFault) (C : Type 0) → OnCleanAnswer {A = A} (Err e) C → OnCleanAnswer {A = B} (Err e) C
@@ -103,7 +103,7 @@ clean_map (Err (Source (fetch_fault.BadIndex region at))) C D on h = on h
 clean_map (Err (Unfit id)) C D on h = on h
 clean_map (Err (BucketFull m d)) C D on h = on h
 clean_map (Err (Number id)) C D on h = on h
-clean_map (Err NoMemory) C D on h = h
+clean_map (Err NoMemory) C D on h = on h
 
 -- the leaf was reached, and what is used then is
 pub reached_ok : {A : Type 0} (r : Result A TreeFault) (P : Type 0) → P → OnReached r P

@@ -111,11 +111,10 @@ pub record IsFoundBetween (b : Cache) (low high : List ℕ) (limit : ℕ) (old n
   pub fit : unfit_between b.bucket (given b) low high limit (given b 0).0 ≡ None
   pub behind : new ≡ old ++ take limit (pairs_between (given b) low high (given b 0).0)
 
--- with every answer but want of memory and a failed load, no load failed
+-- with every answer but that of a failed load, no load failed: want of memory of the call's own included
 abbrev pub OnCleanAnswer : {A : Type 0} → Result A TreeFault → Type 0 → Type 0
 OnCleanAnswer (Ok a) P = P
 OnCleanAnswer (Err (Source fault)) P = OnCleanFault fault P
-OnCleanAnswer (Err NoMemory) P = Unit {0}
 OnCleanAnswer (Err _) P = P
 
 -- ---- on sound rows, for which the source serves the bucket

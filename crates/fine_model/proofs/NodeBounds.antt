@@ -204,10 +204,13 @@ base_fits id = by (id.number == 0)
     by true = ((omega arith, omega arith), omega arith, omega arith, omega arith, omega arith)
     by false = (omega arith, tt, refl)
 
-recs_fit : (mark : Mark) (rows : List Row) → AllByRecursion (FitsRow mark) rows → AllByRecursion (λ row. FitsRec row.rec) rows
+pub recs_fit : (mark : Mark) (rows : List Row) → AllByRecursion (FitsRow mark) rows → AllByRecursion (λ row. FitsRec row.rec) rows
 recs_fit mark [] fits = tt
 recs_fit mark (row ∷ rows) fits = (let f = fits.0 in f.rec, recs_fit mark rows fits.1)
 
-pub node_fits : NodeFits
+pub node_fits_of : (rows : List Row) (id : NodeId) → AllByRecursion (λ row. FitsRec row.rec) rows → FitsNode (content rows id).0
 unfolding content
-node_fits mark rows id fits = replay_fits (rows_of id rows) (base id) (all_filter (λ row. FitsRec row.rec) (λ row. is_node id row.node) rows (recs_fit mark rows fits)) (base_fits id)
+node_fits_of rows id fits = replay_fits (rows_of id rows) (base id) (all_filter (λ row. FitsRec row.rec) (λ row. is_node id row.node) rows fits) (base_fits id)
+
+pub node_fits : NodeFits
+node_fits mark rows id fits = node_fits_of rows id (recs_fit mark rows fits)

@@ -1,8 +1,9 @@
 -- A region is closed, bad or sealed, and no two of these.
-use Rattle.std.proofs.Common.{◌≡◌, ◌≢◌, ◌⊎◌, ℕ, ◌+◌, ◌*◌, ◌<◌, ◌≤◌, Bool, true, false, ◌&&◌, List, [], ◌∷◌, ◌++◌, length, take, drop, Some, Ok, Err, refl, sym, ap, ◌∙◌, subst, inl, inr, arith, append_assoc, append-nil, length-append, take_at, drop_at}
+use Rattle.std.proofs.Common.{◌≡◌, ◌≢◌, ◌⊎◌, ℕ, ◌+◌, ◌*◌, ◌<◌, ◌≤◌, true, ◌&&◌, List, [], ◌∷◌, ◌++◌, length, take, drop, Some, Ok, Err, refl, sym, ap, ◌∙◌, subst, inl, inr, arith, append_assoc, append-nil, length-append, take_at, drop_at}
 use Rattle.std.specs.Prelude.{Result, Option, flat_map}
 use Rattle.std.specs.List.{AllByRecursion}
 use Rattle.std.proofs.lemmas.List.Sums.{sum_by-cons}
+use Rattle.std.proofs.lemmas.Bool.{and_parts}
 use Rattle.fine_model.specs.Types.{NodeId, Row, Range, Mark, Header}
 use Rattle.fine_model.specs.RowBytes.{row_bytes, row_len, rows_bytes, rows_len, FitsRow}
 use Rattle.fine_model.specs.Merge.{is_row_below, is_ordered, nodes_in}
@@ -40,15 +41,11 @@ rows_begin mark (a ∷ front) (b ∷ rows) x y long f g e =
     let rest = rows_begin mark front rows x y (omega (arith, long)) f.1 g.1 s.1 in
     (rest.0, (λ i. sym s.0 i ∷ rest.1 i), rest.2)
 
-both : (a b : Bool) → (a && b) ≡ true → (a ≡ true) × (b ≡ true)
-both true b e = (refl, e)
-both false b e = absurd (cc)
-
 pub ordered_front : (front more : List Row) → is_ordered (front ++ more) ≡ true → is_ordered front ≡ true
 ordered_front [] more e = refl
 ordered_front (a ∷ []) more e = refl
 ordered_front (a ∷ b ∷ front) more e =
-    let s = both (is_row_below a b) (is_ordered (b ∷ (front ++ more))) e in
+    let s = and_parts (is_row_below a b) (is_ordered (b ∷ (front ++ more))) e in
     ap (λ x. x && is_ordered (b ∷ front)) s.0 ∙ ordered_front (b ∷ front) more s.1
 
 pub rows_bytes-append : (a b : List Row) → rows_bytes (a ++ b) ≡ rows_bytes a ++ rows_bytes b

@@ -75,7 +75,7 @@ there_shorter key (q ∷ pairs) p is = by (bytes_eq q.0 key) refl (λ e. there_s
     by false e more is = rest (is_below q.0 key) (is_below key q.0) refl refl (more is)
 
 -- a number of 64 bits
-signed : (z : ℤ) → is_i64 z ≡ true → FitsSigned w64 z
+pub signed : (z : ℤ) → is_i64 z ≡ true → FitsSigned w64 z
 signed (pos n) h = let le : n ≤ 9223372036854775807 = leb-true n 9223372036854775807 h in omega arith
 signed (negsuc n) h = let le : n ≤ 9223372036854775807 = leb-true n 9223372036854775807 (and_parts (leb n 9223372036854775807) true h).0 in omega arith
 

@@ -37,7 +37,7 @@ module _ (tells : List Row → Type 0) (upper : ℕ) (rows log : List Row) (old 
       let f = subst (λ o. IfSome o (IsFetched tells upper old.bucket n)) is (loaded.fetched n none) in
       let fine' = subst (λ k. k.0 ≢ node.Broken) (of_rows n none) fine in
       let known = serves.each n none fine' in
-      f.same serves.known serves.is_told (subst (λ k. k.0 ≢ node.Broken) (sym known) fine') ∙ known
+      f.same serves.known serves.is_told ∙ known
 
   -- what is cached is what the rows leave, where that is not broken
   pub agrees_loaded : (n : ℕ) → IsCached new n → IsWhole n → given new n ≡ nodes_of (rows ++ log) new.bucket n

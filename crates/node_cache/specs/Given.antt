@@ -17,10 +17,10 @@ given b n = unwrap_or (option_map (λ kept. (kept.node, kept.version)) (cached b
 abbrev pub IsCached : Cache → ℕ → Type 0
 IsCached b n = IsSome (cached b n)
 
--- a node as a source gives it: what each list of rows that the source tells leaves there, unless it leaves the node broken
+-- a node as a source gives it: what each list of rows that the source tells leaves there, a broken node included
 pub record IsFetched (tells : List Row → Type 0) (upper bucket number : ℕ) (kept : Cached) : Type 0 where
   pub epoch : kept.epoch ≡ upper
-  pub same : (rows : List Row) → tells rows → (nodes_of rows bucket number).0 ≢ node.Broken → (kept.node, kept.version) ≡ nodes_of rows bucket number
+  pub same : (rows : List Row) → tells rows → (kept.node, kept.version) ≡ nodes_of rows bucket number
 
 -- A bucket before and after a load of a number: nothing is changed but that this node may be cached then, as the source gives it.
 pub record IsLoad (tells : List Row → Type 0) (upper number : ℕ) (old new : Cache) : Type 0 where

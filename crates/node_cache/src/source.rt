@@ -23,7 +23,7 @@ pub trait NodeSource {
     // what holds between the states before and after a load that answers a fault
     ghost fails: { Self → Fault → Self → Type 0 };
 
-    /// Caches a node that is not cached, as what the source's rows leave there. A node that they leave broken may be given otherwise.
+    /// Caches a node that is not cached, as exactly what the source's rows leave there, a broken node included.
     /// With a fault, no node is cached that was not before.
     fn load(&mut self, bucket: &mut Bucket, number: u32) -> Result<(), FetchFault>
         requires bucket { bucket.old.bucket < 256 }

@@ -13,7 +13,7 @@ use Rattle.fine_model.specs.Paths.{unfit_between}
 use Rattle.fine_model.specs.Pushed.{call_push, within_limits, pushed, push_of, key_of}
 use Rattle.fine_model.specs.Trees.{nodes_of, bucket_of}
 use Rattle.node_cache.specs.Cache.{Cache}
-use Rattle.node_cache.specs.Given.{given, IsCached, IsLoaded, OnCleanFault}
+use Rattle.node_cache.specs.Given.{Finds, given, IsCached, IsLoaded, OnCleanFault}
 use Rattle.btree_nodes.specs.declared.fault.TreeFault.{TreeFault}
 use Rattle.btree_nodes.specs.declared.fault.TreeFault.TheVariants.{Source, Unfit, BucketFull, Number, NoMemory}
 use Rattle.btree_nodes.specs.Faults.{OnFault}
@@ -77,9 +77,9 @@ OnReached (Err _) P = Unit {0}
 
 -- A change of a tree: nodes on the way are loaded, and no others, and the way is what was used last, before anything is pushed; then
 -- the call has its outcome.
-pub record IsChange {A : Type 0} (tells : List Row → Type 0) (upper : ℕ) (old new : Cache) (log log' : List Row) (c : Call) (P : Cache → A → Type 0) (Failed : FetchFault → Type 0) (r : Result A TreeFault) : Type 0 where
+pub record IsChange {A : Type 0} (tells : List Row → Type 0) (finds : Finds) (upper : ℕ) (old new : Cache) (log log' : List Row) (c : Call) (P : Cache → A → Type 0) (Failed : FetchFault → Type 0) (r : Result A TreeFault) : Type 0 where
   pub mid : Cache
-  pub loaded : IsLoaded tells upper old mid
+  pub loaded : IsLoaded tells finds upper old mid
   pub on_way : LoadsOnWay old mid (key_of c)
   pub used : OnReached r (AreUsed old mid (way_in mid (key_of c)))
   pub outcome : Outcome mid new log log' c (P mid) Failed r

@@ -3,7 +3,7 @@ use Rattle.std.specs.Prelude.{nat_eq, slice_index_or}
 use Rattle.std.specs.List.{list_any}
 use Rattle.std.proofs.lemmas.List.{take_more}
 use Rattle.partition_hold.proofs.Bits.{all_next, bit_more}
-use Rattle.partition_hold.proofs.board.word_of.Goals as goal
+use Rattle.partition_hold.proofs.regions.word_of.Goals as goal
 
 pub loop-region-preserved : goal.loop-region-preserved
 loop-region-preserved c =

@@ -1,5 +1,11 @@
+pub mod Since
 pub mod Bucket
 pub mod Turning
 pub mod Passing
+pub mod Meaning
+pub mod Giving
+pub mod Taking
+pub mod Fronts
 pub mod Laying
-pub mod Gathering
+pub mod Mailing
+pub mod Refreshing

@@ -1,15 +1,16 @@
 -- The turns of the room, in order: the history that they make, and the faults that were counted in them.
-use Rattle.std.specs.Prelude.{ℕ, ◌+◌, ◌-◌, ◌≤◌, ◌==◌, Bool, true, false, ◌||◌, if◌then◌else◌, List, [], ◌∷◌, filter, flat_map, Option, Some, None, option_map, option_to_list, ⊤}
+use Rattle.std.specs.Prelude.{ℕ, ◌+◌, ◌-◌, ◌≤◌, ◌≡◌, ◌≢◌, ◌⊎◌, ◌==◌, Bool, true, false, ◌||◌, if◌then◌else◌, List, [], ◌∷◌, filter, flat_map, Option, Some, None, option_map, option_to_list, ⊤}
 use Rattle.std.specs.List.{list_any}
 use Rattle.fine_model.specs.declared.Entry.{Entry}
-use Rattle.fine_model.specs.declared.NodeId.{NodeId}
 use Rattle.fine_model.specs.declared.Call.{Call}
 use Rattle.fine_model.specs.declared.Call.TheVariants as call
-use Rattle.fine_model.specs.Nodes.{is_node}
 use Rattle.fine_model.specs.Trees.{bucket_of}
 use Rattle.fine_model.specs.Pushed.{key_of}
 use Rattle.fine_model.specs.History.{Commit}
+use Rattle.fine_model.specs.Faults.{last_count}
 use Rattle.fine_model.specs.declared.law.RoomState.{RoomState}
+use Rattle.fine_model.specs.Becomes.{Becomes}
+use Rattle.fine_model.specs.Jobs.{KeepsJob}
 use Rattle.fine_hall.specs.declared.turn.Turn.{Turn}
 use Rattle.fine_places.specs.declared.model.Placed.{Placed}
 
@@ -51,17 +52,39 @@ in_bucket bucket history = filter (λ c. is_in bucket c.entry) history
 unfoldable pub commits : List (Placed Turn) → List Commit
 commits turns = flat_map (λ t. added t.item.entry t.item.epoch) turns
 
--- the count of faults after these turns, where it was `before` at their start
-abbrev pub faults_after : ℕ → List (Placed Turn) → ℕ
-faults_after before [] = before
-faults_after before (t ∷ turns) = faults_after t.item.room.faults turns
+-- the room after these turns
+abbrev pub room_after : RoomState → List (Placed Turn) → RoomState
+room_after before [] = before
+room_after before (t ∷ turns) = room_after t.item.room turns
 
--- how much the count of faults rose in the turns of one seat
-abbrev pub faults_of : ℕ → ℕ → List (Placed Turn) → ℕ
-faults_of seat before [] = 0
-faults_of seat before (t ∷ turns) = (if t.seat == seat then t.item.room.faults - before else 0) + faults_of seat t.item.room.faults turns
+-- how often a call on the disk failed in a turn: what the count rose beyond the counts of the views that were given back
+abbrev pub failed_in : RoomState → Turn → ℕ
+failed_in before t = t.room.faults - (before.faults + t.returned)
 
--- the count of faults falls in no turn
-abbrev pub NeverFalls : ℕ → List (Placed Turn) → Type 0
-NeverFalls before [] = ⊤
-NeverFalls before (t ∷ turns) = (before ≤ t.item.room.faults) × NeverFalls t.item.room.faults turns
+-- how often calls failed in the turns of one seat
+abbrev pub failed_of : ℕ → RoomState → List (Placed Turn) → ℕ
+failed_of seat before [] = 0
+failed_of seat before (t ∷ turns) = (if t.seat == seat then failed_in before t.item else 0) + failed_of seat t.item.room turns
+
+-- a count of places more with an entry, and none without
+abbrev pub places_more : ℕ → Option Entry → ℕ
+places_more places None = places
+places_more places (Some entry) = places + 1
+
+-- an entry of a turn is of the epoch behind the sealed one
+abbrev pub IsOfOpenEpoch : Turn → Option Entry → Type 0
+IsOfOpenEpoch t None = ⊤
+IsOfOpenEpoch t (Some entry) = t.epoch ≡ t.room.sealed + 1
+
+-- What each turn keeps: the room became what it was given back as, the merge job and what its target holds are those of before but in turns of seat 1, and the count
+-- of faults rose by no less than the counts of the views that were given back, unless it stands at its last value.
+pub record IsTurnFrom (before : RoomState) (t : Placed Turn) : Type 0 where
+  pub becomes : Becomes before t.item.room
+  pub job : t.seat ≢ 1 → KeepsJob before t.item.room
+  pub counted : (before.faults + t.item.returned ≤ t.item.room.faults) ⊎ (last_count ≤ t.item.room.faults)
+  pub places : t.item.room.places ≡ places_more before.places t.item.entry
+  pub open_epoch : IsOfOpenEpoch t.item t.item.entry
+
+abbrev pub RoomsGoOn : RoomState → List (Placed Turn) → Type 0
+RoomsGoOn before [] = ⊤
+RoomsGoOn before (t ∷ turns) = IsTurnFrom before t × RoomsGoOn t.item.room turns

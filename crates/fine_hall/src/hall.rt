@@ -5,26 +5,32 @@ ghost use Rattle.fine_places.specs.History as places;
 ghost use Rattle.fine_places.specs.Telling.{IsSized};
 
 use crate::law::{Beginning, HallLaw, Load, Start};
-use crate::pass::{Conflict, Pass};
+use crate::pass::{Conflict, HallSeat, Pass};
 use crate::turn::Turn;
 use atomic_table::{Table, TableRule};
-use fine_model::{BucketLaw, RoomLaw};
-use fine_places::{Alone, PlaceSeat, Rule, View, give, take};
+use fine_boxes::{Boxes, Reads};
+use fine_model::{BucketLaw, RoomLaw, ViewLaw};
+use fine_places::{Rule, View, give, take};
 use std::alloc::Global;
 
-pub(crate) type Seat<R, B> = PlaceSeat<Load<R, B>, Beginning, Turn, ()>;
+pub(crate) type Seat<R, B, V> = HallSeat<Load<R, B, V>>;
 
 /// A hall by what its slots hold: a type may cross threads only where a parameter of its own may.
 #[derive(Drop)]
-pub struct HallTable<S, K, Q: TableRule<S, View<Beginning, Turn, ()>, K>> {
-    pub(crate) table: Table<S, View<Beginning, Turn, ()>, K, Q, Global>,
+pub struct HallTable<S, K, Q: TableRule<S, View<Beginning, Turn, Reads<Turn>>, K>> {
+    pub(crate) table: Table<S, View<Beginning, Turn, Reads<Turn>>, K, Q, Global>,
     ghost sized: { IsSized table.shared.table_id },
 }
 
-/// One room and 256 buckets, which passes take and give back, and the one history of what they commit.
-pub type Hall<R, B> = HallTable<Option<Load<R, B>>, Start<R>, Rule<HallLaw<R, B>, Alone>>;
+/// One room, 256 buckets and three buffers of views for each seat, which passes take, give back, post and exchange, and the one
+/// history of what they commit.
+pub type Hall<R, B, V> = HallTable<
+    Option<Load<R, B, V>>,
+    Start<R, V>,
+    Rule<HallLaw<R, B, V>, Boxes<HallLaw<R, B, V>>>,
+>;
 
-impl<R: RoomLaw, B: BucketLaw> Hall<R, B> {
+impl<R: RoomLaw, B: BucketLaw, V: ViewLaw> Hall<R, B, V> {
     ghost use Rattle.fine_model.specs.Buckets.{IsBucketFor};
     ghost use Rattle.fine_hall.specs.Passes.{HasPlace, LacksPlace, published, seen};
     ghost use Rattle.fine_hall.specs.Halls.{IsPassOf, begun, Takes, Gives, FindsHeld};
@@ -34,15 +40,15 @@ impl<R: RoomLaw, B: BucketLaw> Hall<R, B> {
     ///
     /// The bucket stands for the whole history so far, which the pass then saw. A conflict comes exactly where the
     /// compare-exchange of this call found another seat's number, and changes nothing else.
-    pub fn take_bucket(&self, pass: &mut Pass, bucket: u16) -> Result<B, Conflict>
-        requires pass { IsPassOf R.state R.origin self.now pass.old }
+    pub fn take_bucket(&self, pass: &mut Pass<V>, bucket: u16) -> Result<B, Conflict>
+        requires pass { IsPassOf R.state R.origin V.state self.now pass.old }
         requires free { (bucket < places.room) × LacksPlace pass.old bucket }
-        ensures pass { IsPassOf R.state R.origin self.now pass.new × (pass.new.number ≡ pass.old.number) }
-        ensures takes { IfOk result (λ content. Takes (begun R.state R.origin self.now) bucket pass.old pass.new) }
-        ensures content { IfOk result (λ content. IsBucketFor B.bucket B.cached B.is_settled (begun R.state R.origin self.now).log bucket (published pass.new) content (seen pass.new)) }
-        ensures conflict { IfErr result (λ conflict. (conflict.bucket ≡ bucket) × FindsHeld (begun R.state R.origin self.now) bucket conflict.owner pass.old pass.new) }
+        ensures pass { IsPassOf R.state R.origin V.state self.now pass.new × (pass.new.number ≡ pass.old.number) }
+        ensures takes { IfOk result (λ content. Takes bucket pass.old pass.new) }
+        ensures content { IfOk result (λ content. IsBucketFor B.bucket B.cached B.is_settled (begun R.state R.origin V.state self.now).log bucket (published pass.new) content (seen pass.new)) }
+        ensures conflict { IfErr result (λ conflict. (conflict.bucket ≡ bucket) × FindsHeld (begun R.state R.origin V.state self.now) bucket conflict.owner pass.old pass.new) }
     {
-        let mut seat: Seat<R, B> = pass.sit();
+        let mut seat: Seat<R, B, V> = pass.sit();
         let answer = take(
             &self.table.shared,
             &mut seat,
@@ -67,14 +73,14 @@ impl<R: RoomLaw, B: BucketLaw> Hall<R, B> {
     /// Gives back a bucket that the pass holds. It takes no memory.
     ///
     /// The content stands for the whole history that the pass saw.
-    pub fn give_bucket(&self, pass: &mut Pass, bucket: u16, content: B)
-        requires pass { IsPassOf R.state R.origin self.now pass.old }
+    pub fn give_bucket(&self, pass: &mut Pass<V>, bucket: u16, content: B)
+        requires pass { IsPassOf R.state R.origin V.state self.now pass.old }
         requires held { (bucket < places.room) × HasPlace pass.old bucket }
-        requires stands { IsBucketFor B.bucket B.cached B.is_settled (begun R.state R.origin self.now).log bucket (published pass.old) content (seen pass.old) }
-        ensures pass { IsPassOf R.state R.origin self.now pass.new × (pass.new.number ≡ pass.old.number) }
+        requires stands { IsBucketFor B.bucket B.cached B.is_settled (begun R.state R.origin V.state self.now).log bucket (published pass.old) content (seen pass.old) }
+        ensures pass { IsPassOf R.state R.origin V.state self.now pass.new × (pass.new.number ≡ pass.old.number) }
         ensures gives { Gives bucket pass.old pass.new }
     {
-        let mut seat: Seat<R, B> = pass.sit();
+        let mut seat: Seat<R, B, V> = pass.sit();
         give(
             &self.table.shared,
             &mut seat,

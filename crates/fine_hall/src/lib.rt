@@ -1,9 +1,11 @@
-//! The hall: one room and 256 buckets, which threads take and give back, and the one history of what they commit.
+//! The hall: one room, 256 buckets, and a front, a middle and a back view for each seat, which threads take, give back, post and
+//! exchange; and the one history of what they commit.
 #![tactic(auto)]
 
-mod closing;
 mod hall;
 mod law;
+mod laws;
+mod mail;
 mod opening;
 mod pass;
 mod room_turn;
@@ -11,5 +13,6 @@ mod turn;
 
 pub use hall::{Hall, HallTable};
 pub use law::{Beginning, HallLaw, Load, Start};
+pub use laws::{front_law, since_law, stuck_law};
 pub use pass::{Conflict, Pass};
 pub use turn::Turn;

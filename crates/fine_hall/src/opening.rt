@@ -1,84 +1,71 @@
 //! How a hall begins.
 
-ghost use Rattle.std.specs.Prelude.{◌≡◌, ◌<◌, ◌≤◌, ◌+◌, ℕ, [], ◌∷◌, ◌++◌, List, Option, map, IfOk, IfErr, MatchOption, length, vec_len, vec_capacity};
+ghost use Rattle.std.specs.Prelude.{◌≡◌, ◌<◌, ◌≤◌, ◌+◌, ◌*◌, ℕ, suc, [], ◌∷◌, ◌++◌, List, Option, Some, map, reverse, IfOk, IfErr, MatchOption, length, vec_len, vec_capacity};
+ghost use mathlib.Core.Option.{some};
+ghost use lib.ListN.{get_elem?};
 ghost use Rattle.fine_places.specs.Telling.{IsSized};
+ghost use Rattle.fine_hall.specs.declared.law.Beginning.{Beginning};
 ghost use Rattle.fine_hall.specs.Laws.{beginning};
-ghost use Rattle.fine_hall.specs.Halls.{begun_by};
+ghost use Rattle.fine_hall.specs.Halls.{begun_by, IsFreshView};
 ghost use Rattle.fine_hall.specs.declared.law.Load.{Load};
-ghost use Rattle.fine_hall.specs.Opening.{bucket_slot, room_slot, laid, StartsAll, HandedOut};
+ghost use Rattle.fine_hall.specs.Opening.{bucket_slot, room_slot, laid_places, laid_views, laid, first_words, StartsAll, HandedOut};
 
 use crate::hall::{Hall, HallTable, Seat};
 use crate::law::{Beginning, HallLaw, Load, Start};
-use crate::pass::Pass;
+use crate::pass::{HallSeat, Pass};
 use crate::turn::Turn;
 use atomic_table::Refused;
-use fine_model::{BucketLaw, NoMemory, RoomLaw};
-use fine_places::{Alone, PLACES, SharedPlaces, open, split};
+use fine_boxes::{Boxes, Reads};
+use fine_model::{BucketLaw, NoMemory, RoomLaw, ViewLaw};
+use fine_places::{PLACES, SharedPlaces, open, split};
 use std::alloc::Global;
 use std::snapshot::Snapshot;
 
-type Slots<R, B> = Vec<Option<Load<R, B>>>;
+type Slots<R, B, V> = Vec<Option<Load<R, B, V>>>;
 
-impl<R: RoomLaw + Drop, B: BucketLaw + Drop> Hall<R, B> {
-    ghost use Rattle.fine_hall.specs.Halls.{begun, IsFreshRoom, AreFreshBuckets};
+type HallPlaces<R, B, V> = SharedPlaces<
+    Load<R, B, V>,
+    Beginning,
+    Turn,
+    Reads<Turn>,
+    Start<R, V>,
+    HallLaw<R, B, V>,
+    Boxes<HallLaw<R, B, V>>,
+>;
 
-    /// A hall of this room and these 256 buckets, and the passes of 1 to 18 seats, the one with the number 1 last. It is the only call
-    /// that takes memory; `NoMemory` hands everything back.
-    ///
-    /// The room is not shut, has no view on its board and no job out, and stands for what its log showed at entry, with no history. The
-    /// buckets are empty, and in ascending order.
-    pub fn new(
-        alloc: Global,
-        room: R,
-        buckets: Vec<B>,
-        seats: u32,
-    ) -> Result<(Hall<R, B>, Vec<Pass>), (NoMemory, R, Vec<B>)>
-        requires seats { (1 ≤ seats) × (seats ≤ 18) }
-        requires room { IsFreshRoom R.state R.origin R.stands_for room }
-        requires buckets { AreFreshBuckets B.bucket B.cached B.is_settled buckets.items }
-        ensures hall { IfOk result (λ made. begun R.state R.origin made.0 ≡ beginning seats (R.state room).sealed (R.origin room)) }
-        ensures count { IfOk result (λ made. length made.1.items ≡ seats) }
-        ensures passes { IfOk result (λ made. HandedOut made.0.table.shared.table_id (begun R.state R.origin made.0) seats made.1.items) }
-        ensures back { IfErr result (λ refused. (refused.1 ≡ room) × (refused.2.items ≡ buckets.items)) }
-    {
-        let start = Start {
-            room: Snapshot::of(&room),
-            seats,
-        };
-        let Ok(passes) = Vec::with_capacity(alloc, seats as usize) else {
-            return Err((NoMemory, room, buckets));
-        };
-        let Ok(slots) = Vec::with_capacity(alloc, PLACES) else {
-            return Err((NoMemory, room, buckets));
-        };
-        let (slots, emptied) = fill(slots, room, buckets);
-        match open(alloc, &[0; PLACES], slots, &start) {
-            Ok((table, seat)) => {
-                let passes = hand_out(&table.shared, seat, seats, passes);
-                Ok((HallTable { table }, passes))
-            }
-            Err(Refused { slots }) => {
-                let (room, buckets) = empty(slots, emptied);
-                Err((NoMemory, room, buckets))
-            }
-        }
+/// Moves the middles into slots, three for each, from the last on. Their memory comes back.
+fn fill_views<R: Drop, B: Drop, V: Drop>(
+    mut slots: Slots<R, B, V>,
+    mut middles: Vec<V>,
+) -> (Slots<R, B, V>, Vec<V>)
+    requires slots { (slots.items ≡ []) × (3 * vec_len middles ≤ vec_capacity slots) }
+    ensures slots { reverse result.0.items ≡ laid_views middles.items }
+    ensures room { (vec_capacity result.0 ≡ vec_capacity slots) × (vec_len result.0 ≡ 3 * vec_len middles) }
+    ensures emptied { (result.1.items ≡ []) × (vec_capacity result.1 ≡ vec_capacity middles) }
+{
+    while let Some(view) = middles.pop() {
+        slots.push_reserved(None);
+        slots.push_reserved(Some(Load::View(view)));
+        slots.push_reserved(None);
     }
+    (slots, middles)
 }
 
-/// Moves the buckets and the room into slots. The memory of the buckets comes back.
-fn fill<R: Drop, B: Drop>(
-    mut slots: Slots<R, B>,
+/// Moves the room and the buckets into slots, behind those of the views, and turns all round. The memory of the buckets comes back.
+fn fill_places<R: Drop, B: Drop, V: Drop>(
+    mut slots: Slots<R, B, V>,
     room: R,
     mut buckets: Vec<B>,
-) -> (Slots<R, B>, Vec<B>)
-    requires slots { (slots.items ≡ []) × (vec_len buckets + 1 ≤ vec_capacity slots) }
-    ensures slots { result.0.items ≡ laid room buckets.items }
-    ensures emptied { (result.1.items ≡ []) × (vec_len buckets ≤ vec_capacity result.1) }
+) -> (Slots<R, B, V>, Vec<B>)
+    requires slots { vec_len slots + vec_len buckets + 1 ≤ vec_capacity slots }
+    ensures slots { result.0.items ≡ laid_places room buckets.items ++ reverse slots.items }
+    ensures emptied { (result.1.items ≡ []) × (vec_capacity result.1 ≡ vec_capacity buckets) }
 {
     slots.push_reserved(Some(Load::Room {
         room,
         entry: None,
         epoch: 0,
+        backs: [2; 18],
     }));
     while let Some(bucket) = buckets.pop() {
         slots.push_reserved(Some(Load::Bucket(bucket)));
@@ -87,19 +74,45 @@ fn fill<R: Drop, B: Drop>(
     (slots, buckets)
 }
 
-/// The room in the last slot.
-fn take_room<R: Drop, B: Drop>(slots: &mut Slots<R, B>) -> R
-    requires { (room : R) × (front : List (Option (Load R B))) × (slots.old.items ≡ front ++ room_slot room ∷ []) }
-    ensures { slots.old.items ≡ slots.new.items ++ room_slot result ∷ [] }
+/// The last item of a list that has one.
+fn take_last<S: Drop>(items: &mut Vec<S>) -> S
+    requires { (front : List S) × (last : S) × (items.old.items ≡ front ++ last ∷ []) }
+    ensures { items.old.items ≡ items.new.items ++ result ∷ [] }
 {
-    let Some(slot) = slots.pop() else {
+    let Some(last) = items.pop() else {
         unreachable!()
     };
+    last
+}
+
+/// The middle in the last three slots.
+fn take_view<R: Drop, B: Drop, V: Drop>(slots: &mut Slots<R, B, V>) -> V
+    requires { (front : List (Option (Load R B V))) × (v : V) × (slots.old.items ≡ front ++ laid_views (v ∷ [])) }
+    ensures { slots.old.items ≡ slots.new.items ++ laid_views (result ∷ []) }
+{
+    let last = take_last(slots);
+    let slot = take_last(slots);
+    let first = take_last(slots);
+    drop((last, first));
+    let Some(load) = slot else { unreachable!() };
+    let Load::View(view) = load else {
+        unreachable!()
+    };
+    view
+}
+
+/// The room in the last slot.
+fn take_room<R: Drop, B: Drop, V: Drop>(slots: &mut Slots<R, B, V>) -> R
+    requires { (room : R) × (front : List (Option (Load R B V))) × (slots.old.items ≡ front ++ room_slot room ∷ []) }
+    ensures { slots.old.items ≡ slots.new.items ++ room_slot result ∷ [] }
+{
+    let slot = take_last(slots);
     let Some(load) = slot else { unreachable!() };
     let Load::Room {
         room,
         entry: _,
         epoch: _,
+        backs: _,
     } = load
     else {
         unreachable!()
@@ -108,7 +121,7 @@ fn take_room<R: Drop, B: Drop>(slots: &mut Slots<R, B>) -> R
 }
 
 /// The bucket in the last slot, where there is a slot.
-fn take_bucket<R: Drop, B: Drop>(slots: &mut Slots<R, B>) -> Option<B>
+fn take_bucket<R: Drop, B: Drop, V: Drop>(slots: &mut Slots<R, B, V>) -> Option<B>
     requires { (all : List B) × (slots.old.items ≡ map bucket_slot all) }
     ensures { MatchOption result (slots.old.items ≡ []) (λ bucket. slots.old.items ≡ slots.new.items ++ bucket_slot bucket ∷ []) }
 {
@@ -120,11 +133,32 @@ fn take_bucket<R: Drop, B: Drop>(slots: &mut Slots<R, B>) -> Option<B>
     Some(bucket)
 }
 
+/// Moves the middles out of the last slots.
+fn empty_views<R: Drop, B: Drop, V: Drop>(
+    mut slots: Slots<R, B, V>,
+    mut middles: Vec<V>,
+    count: usize,
+) -> (Slots<R, B, V>, Vec<V>)
+    requires slots { (front : List (Option (Load R B V))) × (all : List V) × (slots.items ≡ front ++ laid_views all) × (length all ≡ count) }
+    requires emptied { (middles.items ≡ []) × (count ≤ vec_capacity middles) }
+    ensures slots { slots.items ≡ result.0.items ++ laid_views result.1.items }
+    ensures count { length result.1.items ≡ count }
+{
+    for _ in 0..count {
+        middles.push_reserved(take_view(&mut slots));
+    }
+    middles.reverse();
+    (slots, middles)
+}
+
 /// Moves the room and the buckets out of slots.
-fn empty<R: Drop, B: Drop>(mut slots: Slots<R, B>, mut buckets: Vec<B>) -> (R, Vec<B>)
-    requires slots { (room : R) × (all : List B) × (slots.items ≡ laid room all) × (length all ≤ vec_capacity buckets) }
+fn empty_places<R: Drop, B: Drop, V: Drop>(
+    mut slots: Slots<R, B, V>,
+    mut buckets: Vec<B>,
+) -> (R, Vec<B>)
+    requires slots { (room : R) × (all : List B) × (slots.items ≡ laid_places room all) × (length all ≤ vec_capacity buckets) }
     requires emptied { buckets.items ≡ [] }
-    ensures { slots.items ≡ laid result.0 result.1.items }
+    ensures { slots.items ≡ laid_places result.0 result.1.items }
 {
     let room = take_room(&mut slots);
     while let Some(bucket) = take_bucket(&mut slots) {
@@ -132,34 +166,4 @@ fn empty<R: Drop, B: Drop>(mut slots: Slots<R, B>, mut buckets: Vec<B>) -> (R, V
     }
     buckets.reverse();
     (room, buckets)
-}
-
-/// The first seat has all numbers, and keeps the least.
-fn hand_out<R: RoomLaw, B: BucketLaw>(
-    places: &SharedPlaces<Load<R, B>, Beginning, Turn, (), Start<R>, HallLaw<R, B>, Alone>,
-    mut seat: Seat<R, B>,
-    seats: u32,
-    mut passes: Vec<Pass>,
-) -> Vec<Pass>
-    requires seats { (1 ≤ seats) × (seats ≤ 18) × (seats ≡ places.now.key.seats) }
-    requires passes { (passes.items ≡ []) × (seats ≤ vec_capacity passes) }
-    requires table { (seat.table_id ≡ places.now.table_id) × IsSized places.now.table_id }
-    requires first { StartsAll seats (begun_by R.state R.origin places.now.key) seat.me }
-    ensures count { length result.items ≡ seats }
-    ensures passes { HandedOut places.now.table_id (begun_by R.state R.origin places.now.key) seats result.items }
-{
-    let mut number = seats;
-    while number > 1 {
-        let other = split(places, &mut seat);
-        passes.push_reserved(Pass {
-            badge: other.into_badge(),
-            number,
-        });
-        number -= 1;
-    }
-    passes.push_reserved(Pass {
-        badge: seat.into_badge(),
-        number,
-    });
-    passes
 }

@@ -2,31 +2,31 @@
 
 ghost use Rattle.std.specs.Prelude.{◌≡◌, ◌≤◌, ◌++◌, MatchOption, IfSome, option_copied, option_map};
 ghost use Rattle.fine_places.specs.History as places;
+ghost use Rattle.fine_boxes.specs.declared.model.TurnNote.{TurnNote};
 
 use crate::hall::{Hall, Seat};
 use crate::law::Load;
 use crate::pass::Pass;
-use fine_model::{BucketLaw, Entry, RoomLaw};
+use fine_model::{BucketLaw, Entry, RoomLaw, ViewLaw};
 use fine_places::{ROOM, give, take};
 use std::snapshot::Snapshot;
 use std::sync::Wait;
 use std::thread;
 
-impl<R: RoomLaw, B: BucketLaw> Hall<R, B> {
-    ghost use Rattle.fine_hall.specs.Turns.{added};
+impl<R: RoomLaw, B: BucketLaw, V: ViewLaw> Hall<R, B, V> {
     ghost use Rattle.fine_hall.specs.Laws.{IsRoomFor};
-    ghost use Rattle.fine_hall.specs.Passes.{HasPlace, LacksPlace, published, seen, faults_seen};
-    ghost use Rattle.fine_hall.specs.Halls.{IsPassOf, begun, Takes, Stays, GivesRoom, MayGive};
+    ghost use Rattle.fine_hall.specs.Passes.{HasPlace, LacksPlace, IsHolder, published, turns};
+    ghost use Rattle.fine_hall.specs.Halls.{IsPassOf, begun, Waits, TakesRoom, MayGiveRoom, GivesRoom};
 
     /// One try to take the room.
-    fn try_room(&self, pass: &mut Pass) -> Option<R>
-        requires pass { IsPassOf R.state R.origin self.now pass.old }
+    fn try_room(&self, pass: &mut Pass<V>) -> Option<R>
+        requires pass { IsPassOf R.state R.origin V.state self.now pass.old }
         requires free { LacksPlace pass.old places.room }
-        ensures pass { IsPassOf R.state R.origin self.now pass.new × (pass.new.number ≡ pass.old.number) }
-        ensures takes { MatchOption result (Stays pass.old pass.new) (λ room. Takes (begun R.state R.origin self.now) places.room pass.old pass.new) }
-        ensures room { IfSome result (λ room. IsRoomFor R.state R.origin R.stands_for (begun R.state R.origin self.now) (published pass.new) room (seen pass.new) × ((R.state room).faults ≡ faults_seen (begun R.state R.origin self.now) pass.new)) }
+        ensures pass { IsPassOf R.state R.origin V.state self.now pass.new × (pass.new.number ≡ pass.old.number) }
+        ensures takes { MatchOption result (Waits pass.old pass.new) (λ room. TakesRoom V.state (begun R.state R.origin V.state self.now) (R.state room) pass.old pass.new) }
+        ensures room { IfSome result (λ room. IsRoomFor R.state R.origin R.stands_for (begun R.state R.origin V.state self.now) (published pass.new) room (turns pass.new)) }
     {
-        let mut seat: Seat<R, B> = pass.sit();
+        let mut seat: Seat<R, B, V> = pass.sit();
         let answer = take(&self.table.shared, &mut seat, ROOM, u64::from(pass.number));
         pass.stand_up(seat);
         match answer {
@@ -35,27 +35,29 @@ impl<R: RoomLaw, B: BucketLaw> Hall<R, B> {
                     room,
                     entry: _,
                     epoch: _,
+                    backs,
                 } = load
                 else {
                     unreachable!()
                 };
+                pass.backs = backs;
                 Some(room)
             }
             Err(_) => None,
         }
     }
 
-    /// Takes the room, once no other seat holds it. It may wait, yields between tries, and takes no memory. Nothing says that the
-    /// room is ever had.
+    /// Takes the room, once no other seat holds it: a turn begins. It may wait, yields between tries, and takes no memory. Nothing says
+    /// that the room is ever had.
     ///
-    /// The room stands for the whole history so far, which the pass then saw.
-    pub fn take_room<W: Wait>(&self, rt: &W, pass: &mut Pass) -> R
-        requires pass { IsPassOf R.state R.origin self.now pass.old }
+    /// The room stands for the whole history so far, which the pass then saw, and is as it was given back last; its board names the
+    /// pass's front. The seat with the number 1 finds the merge job as it left it.
+    pub fn take_room<W: Wait>(&self, rt: &W, pass: &mut Pass<V>) -> R
+        requires pass { IsPassOf R.state R.origin V.state self.now pass.old }
         requires free { LacksPlace pass.old places.room }
-        ensures pass { IsPassOf R.state R.origin self.now pass.new × (pass.new.number ≡ pass.old.number) }
-        ensures takes { Takes (begun R.state R.origin self.now) places.room pass.old pass.new }
-        ensures room { IsRoomFor R.state R.origin R.stands_for (begun R.state R.origin self.now) (published pass.new) result (seen pass.new) }
-        ensures faults { (R.state result).faults ≡ faults_seen (begun R.state R.origin self.now) pass.new }
+        ensures pass { IsPassOf R.state R.origin V.state self.now pass.new × (pass.new.number ≡ pass.old.number) }
+        ensures takes { TakesRoom V.state (begun R.state R.origin V.state self.now) (R.state result) pass.old pass.new }
+        ensures room { IsRoomFor R.state R.origin R.stands_for (begun R.state R.origin V.state self.now) (published pass.new) result (turns pass.new) }
     {
         for _ in rt.forever() {
             if let Some(room) = self.try_room(pass) {
@@ -66,27 +68,33 @@ impl<R: RoomLaw, B: BucketLaw> Hall<R, B> {
         unreachable!()
     }
 
-    /// Gives the room back. With an entry, the history grows by it, with this epoch; without one, the epoch has no effect. It takes
-    /// no memory.
+    /// Gives the room back: the turn joins the list of turns, with an entry or none. With an entry, the history grows by it, with this
+    /// epoch; without one, the epoch has no effect. It takes no memory.
     ///
-    /// The room stands for the history with the entry, and its count of faults has not fallen. An entry is of the epoch behind the
-    /// sealed one, is legal behind what the pass saw, and has calls and rows in buckets that the pass holds, and in no others.
-    pub fn give_room(&self, pass: &mut Pass, room: R, entry: Option<&Entry>, epoch: u64)
-        requires pass { IsPassOf R.state R.origin self.now pass.old }
+    /// The room became what it is from what it was as it was taken, stands for the history with the entry, and has the board that the
+    /// turn records; its sealed epoch is not below any posted view's, and its count of faults rose by no less than the counts of the old
+    /// middles that were handed out in the turn. Only the seat with the number 1 may change the merge job. An entry is of the epoch
+    /// behind the sealed one, is legal behind what the pass saw, and has calls and rows in buckets that the pass holds, and in no others.
+    pub fn give_room(&self, pass: &mut Pass<V>, room: R, entry: Option<&Entry>, epoch: u64)
+        requires pass { IsPassOf R.state R.origin V.state self.now pass.old }
         requires held { HasPlace pass.old places.room }
-        requires room { IsRoomFor R.state R.origin R.stands_for (begun R.state R.origin self.now) (published pass.old) room (seen pass.old ++ added (option_copied entry) epoch) }
-        requires faults { faults_seen (begun R.state R.origin self.now) pass.old ≤ (R.state room).faults }
-        requires entry { MayGive (begun R.state R.origin self.now) (R.state room) (option_copied entry) epoch pass.old }
-        ensures pass { IsPassOf R.state R.origin self.now pass.new × (pass.new.number ≡ pass.old.number) }
-        ensures gives { GivesRoom (begun R.state R.origin self.now) (R.state room) (option_copied entry.entry) epoch pass.old pass.new }
+        requires room { (t : TurnNote) × IsHolder (begun R.state R.origin V.state self.now) pass.old t × MayGiveRoom R.state R.origin R.stands_for (begun R.state R.origin V.state self.now) room (option_copied entry) epoch t pass.old }
+        ensures pass { IsPassOf R.state R.origin V.state self.now pass.new × (pass.new.number ≡ pass.old.number) }
+        ensures gives { (t : TurnNote) → IsHolder (begun R.state R.origin V.state self.now) pass.old t → GivesRoom (R.state room) (option_copied entry.entry) epoch t pass.old pass.new }
     {
-        let mut seat: Seat<R, B> = pass.sit();
+        let mut seat: Seat<R, B, V> = pass.sit();
         let entry = noted(entry);
+        let backs = pass.backs;
         give(
             &self.table.shared,
             &mut seat,
             ROOM,
-            Load::Room { room, entry, epoch },
+            Load::Room {
+                room,
+                entry,
+                epoch,
+                backs,
+            },
         );
         pass.stand_up(seat);
     }

@@ -5,12 +5,11 @@ use mathlib.Core.Option.{some, some-injective, some-ne-none}
 use lib.ListN.{get_elem?}
 use Rattle.atomic_table.proofs.Lists.{at_set, set_else}
 use Rattle.fine_places.specs.declared.model.Placed.{Placed}
-use Rattle.fine_places.specs.declared.model.Known.{Known}
 use Rattle.fine_places.specs.declared.model.View.{View}
 use Rattle.fine_places.specs.History.{room, touching, by_seat, StartsWith, Owned}
 use Rattle.fine_places.specs.Places.{Holds, Homes, PlaceState, Fits, Home, Away, Keeps}
 use Rattle.fine_places.specs.Beside.{changed, Around}
-use Rattle.fine_places.proofs.Lists.{decide, set_at}
+use Rattle.fine_places.proofs.Lists.{decide, set_at, all_map, whole}
 
 module _ {T X N Y : Type 0} (stands : X → ℕ → ℕ → T → List (Placed N) → Type 0) (legal : X → List (Placed N) → Type 0) (seats : X → ℕ) (touches : ℕ → N → Bool) (x : X) where
   -- a place has one holder
@@ -35,6 +34,8 @@ module _ {T X N Y : Type 0} (stands : X → ℕ → ℕ → T → List (Placed N
     seen = λ i v at. (r.each_view i v at).seen;
     published = λ i v at. (r.each_view i v at).published;
     one_holder = one_holder s p log r;
+    apart = r.apart;
+    holder = λ i v at h. let f = r.each_view i v at in (sym (whole touches v.places.seen) ∙ (f.holds room h).same ∙ whole touches log, f.holder h);
     busy = word_held s p log r;
   }
 
@@ -47,7 +48,7 @@ module _ {T X N Y : Type 0} (stands : X → ℕ → ℕ → T → List (Placed N
       → ((j : ℕ) → j ≤ room → j ≢ k → get_elem? hs j ≡ get_elem? s.homes j)
       → legal x now → All (λ e. (0 < e.seat) × (e.seat ≤ seats x)) now
       → p ≤ q → (q ≡ p) ⊎ Holds v.places room
-      → ((u : Known X N) → StartsWith log u.seen → StartsWith now u.seen)
+      → ((l : List (Placed N)) → StartsWith log l → StartsWith now l)
       → ((j : ℕ) → j ≤ room → ¬ Holds v.places j → j ≢ k → touching touches j now ≡ touching touches j log)
       → ((m : ℕ) → ¬ Owned v.places.shares m → by_seat m now ≡ by_seat m log)
       → ((j : ℕ) (u : View X N Y) → j ≢ id → get_elem? s.views j ≡ some u → ¬ Holds u.places k)
@@ -55,7 +56,7 @@ module _ {T X N Y : Type 0} (stands : X → ℕ → ℕ → T → List (Placed N
       → ((m : ℕ) → Owned w.places.shares m → Owned v.places.shares m)
       → ((m : ℕ) → Owned v.places.shares m → Owned w.places.shares m)
       → ((j : ℕ) → j ≢ k → Holds v.places j → Holds w.places j)
-      → (w.places.seen ≡ now) ⊎ ((now ≡ log) × (v.places.seen ≡ log → w.places.seen ≡ now))
+      → ((w.places.seen ≡ now) × ((m : ℕ) × Owned w.places.shares m)) ⊎ ((now ≡ log) × (v.places.seen ≡ log → w.places.seen ≡ now))
       → (k ≤ room → Home stands touches x q now ws hs k ⊎ Away (set s.views id w) k)
       → Keeps stands legal seats touches x q now record { words = ws; homes = hs; views = set s.views id w }
   others_stay grows s p q log now r id v w at k ws hs wide deep word_else home_else lawful wrote rise raised more same by free own less gain keep long here =
@@ -63,9 +64,9 @@ module _ {T X N Y : Type 0} (stands : X → ℕ → ℕ → T → List (Placed N
       let there : get_elem? vs id ≡ some w = set_at s.views id v w at in
       let other : (j : ℕ) (u : View X N Y) → j ≢ id → get_elem? s.views j ≡ some u → Fits touches (seats x) x q now ws hs u.places = λ j u apart at'. let f = r.each_view j u at' in record {
         about = f.about;
-        seen = more u.places f.seen;
+        seen = more u.places.seen f.seen;
         mine = λ m ms o. let g = f.mine m ms o in (g.0 ∙ sym (by m (λ t. apart (sym (r.apart id j m v u at at' t (ms, o))))), g.1, g.2);
-        nobody = f.nobody;
+        fronts = all_map (StartsWith log) (StartsWith now) more u.places.fronts f.fronts;
         holds = λ i hold. let g = f.holds i hold in let ne : i ≢ k = λ e. free j u apart at' (subst (Holds u.places) e hold) in record {
           within = g.within;
           same = g.same ∙ sym (same i g.within (λ t. apart (sym (one_holder s p log r id j i v u at at' t hold))) ne);
@@ -108,10 +109,10 @@ module _ {T X N Y : Type 0} (stands : X → ℕ → ℕ → T → List (Placed N
             (λ t. ⊎_elim (λ u. r.apart i id m a v t.1 at o (less m (subst (λ (u : View X N Y). Owned u.places.shares m) (sym u.1) o')) ∙ sym u.0) (λ u. r.apart i j m a b t.1 u.1 o o') (at_set s.views id j w b e'))
             (at_set s.views id i w a e);
         longest = ⊎_elim
-            (λ (e : w.places.seen ≡ now). (id, w, there, e))
+            (λ t. (id, w, there, t.0, t.1))
             (λ t. let o = r.longest in ⊎_elim
-            (λ (e : o.0 ≡ id). let is : o.1 ≡ v = some-injective _ _ (sym o.2 ∙ ap (get_elem? s.views) e ∙ at) in (id, w, there, t.1 (subst (λ (u : View X N Y). u.places.seen ≡ log) is o.3)))
-            (λ (e : o.0 ≢ id). (o.0, o.1, set_else s.views id o.0 w e ∙ o.2, o.3 ∙ sym t.0))
+            (λ (e : o.0 ≡ id). let is : o.1 ≡ v = some-injective _ _ (sym o.2 ∙ ap (get_elem? s.views) e ∙ at) in (id, w, there, t.1 (subst (λ (u : View X N Y). u.places.seen ≡ log) is o.3), (o.4.0, gain o.4.0 (subst (λ (u : View X N Y). Owned u.places.shares o.4.0) is o.4.1))))
+            (λ (e : o.0 ≢ id). (o.0, o.1, set_else s.views id o.0 w e ∙ o.2, o.3 ∙ sym t.0, o.4))
             (decide o.0 id))
             long;
         each_place = λ j le. ⊎_elim (λ (e : j ≡ k). subst (λ i. Home stands touches x q now ws hs i ⊎ Away vs i) (sym e) (here (subst (λ i. i ≤ room) e le))) (λ (ne : j ≢ k). place j le ne (r.each_place j le)) (decide j k);
@@ -123,7 +124,7 @@ module _ {T X N Y : Type 0} (stands : X → ℕ → ℕ → T → List (Placed N
       → (k n : ℕ) (h : maybe.Option (Option T))
       → legal x now → All (λ e. (0 < e.seat) × (e.seat ≤ seats x)) now
       → p ≤ q → (q ≡ p) ⊎ Holds v.places room
-      → ((u : Known X N) → StartsWith log u.seen → StartsWith now u.seen)
+      → ((l : List (Placed N)) → StartsWith log l → StartsWith now l)
       → ((j : ℕ) → j ≤ room → ¬ Holds v.places j → j ≢ k → touching touches j now ≡ touching touches j log)
       → ((m : ℕ) → ¬ Owned v.places.shares m → by_seat m now ≡ by_seat m log)
       → ((j : ℕ) (u : View X N Y) → j ≢ id → get_elem? s.views j ≡ some u → ¬ Holds u.places k)
@@ -131,7 +132,7 @@ module _ {T X N Y : Type 0} (stands : X → ℕ → ℕ → T → List (Placed N
       → ((m : ℕ) → Owned w.places.shares m → Owned v.places.shares m)
       → ((m : ℕ) → Owned v.places.shares m → Owned w.places.shares m)
       → ((j : ℕ) → j ≢ k → Holds v.places j → Holds w.places j)
-      → (w.places.seen ≡ now) ⊎ ((now ≡ log) × (v.places.seen ≡ log → w.places.seen ≡ now))
+      → ((w.places.seen ≡ now) × ((m : ℕ) × Owned w.places.shares m)) ⊎ ((now ≡ log) × (v.places.seen ≡ log → w.places.seen ≡ now))
       → Home stands touches x q now (set s.words k n) (set s.homes k h) k ⊎ Away (set s.views id w) k
       → Keeps stands legal seats touches x q now (changed s k n h id w)
   moved grows s p q log now r id v w at k n h lawful wrote rise raised more same by free own less gain keep long here =
@@ -147,7 +148,7 @@ module _ {T X N Y : Type 0} (stands : X → ℕ → ℕ → T → List (Placed N
       → Fits touches (seats x) x q log ws hs w.places → w.places.shares ≡ v.places.shares → (v.places.seen ≡ log → w.places.seen ≡ log) → ((j : ℕ) → Holds v.places j → Holds w.places j)
       → Keeps stands legal seats touches x q log record { words = ws; homes = hs; views = set s.views id w }
   elsewhere grows s p q log r id v w at ws hs wide deep words homes rise raised own shares seen keep =
-      others_stay grows s p q log log r id v w at (suc room) ws hs wide deep (λ j le _. words j le) (λ j le _. homes j le) r.is_legal r.authors rise raised (λ u a. a) (λ j _ _ _. refl) (λ m _. refl)
+      others_stay grows s p q log log r id v w at (suc room) ws hs wide deep (λ j le _. words j le) (λ j le _. homes j le) r.is_legal r.authors rise raised (λ l a. a) (λ j _ _ _. refl) (λ m _. refl)
       (λ j u _ at' hold. let within = ((r.each_view j u at').holds (suc room) hold).within in absurd (omega arith)) own
       (λ m o. subst (λ ps. Owned ps m) shares o) (λ m o. subst (λ ps. Owned ps m) (sym shares) o) (λ j _ h. keep j h) (inr (refl, seen)) (λ le. absurd (omega arith))
 
@@ -156,7 +157,7 @@ module _ {T X N Y : Type 0} (stands : X → ℕ → ℕ → T → List (Placed N
       → ((i : ℕ) (v : View X N Y) → get_elem? vs i ≡ some v → Fits touches (seats x) x p log s.words s.homes v.places)
       → ((n : ℕ) → 0 < n → n ≤ seats x → (i : ℕ) × (v : View X N Y) × (get_elem? vs i ≡ some v) × Owned v.places.shares n)
       → ((i j n : ℕ) (v u : View X N Y) → get_elem? vs i ≡ some v → get_elem? vs j ≡ some u → Owned v.places.shares n → Owned u.places.shares n → i ≡ j)
-      → ((i : ℕ) × (v : View X N Y) × (get_elem? vs i ≡ some v) × (v.places.seen ≡ log))
+      → ((i : ℕ) × (v : View X N Y) × (get_elem? vs i ≡ some v) × (v.places.seen ≡ log) × ((n : ℕ) × Owned v.places.shares n))
       → ((k : ℕ) → Away s.views k → Away vs k)
       → Keeps stands legal seats touches x p log record { words = s.words; homes = s.homes; views = vs }
   reseated s p log r vs fit each apart longest away = record {

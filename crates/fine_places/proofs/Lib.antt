@@ -1,3 +1,4 @@
+pub mod Behind
 pub mod Closing
 pub mod Giving
 pub mod Keeping

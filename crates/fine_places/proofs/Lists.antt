@@ -2,6 +2,7 @@
 use Rattle.std.proofs.Common.{◌≡◌, ◌≢◌, ◌⊎◌, ℕ, zero, suc, ◌<◌, ◌≤◌, nat_lt, List, [], ◌∷◌, ◌++◌, length, slice_index, filter, set, cond, replicate, Bool, true, false, Option, Some, None, sym, refl, ap, ◌∙◌, subst, inl, inr, ⊎_elim, arith, append-nil, true≢false, eqb, eq-eqb, ne_eqb}
 use Rattle.std.proofs.lemmas.Bool.{cond-true, cond-false, le-ltb, lt-ltb}
 use Rattle.std.proofs.lemmas.List.{length-append}
+use Rattle.std.specs.List.{AllByRecursion}
 use Rattle.std.proofs.lemmas.List.Elements.{filter-append}
 use mathlib.Core.Option.{some, some-injective, some-ne-none}
 use native.Mathlib.Decide.{ℕ_discrete, dec_le}
@@ -69,6 +70,16 @@ module _ {A : Type 0} where
       (λ e. subst P (sym (cond-true (eqb k room) a b (eq-eqb k room e))) (here e))
       (λ ne. subst P (sym (cond-false (eqb k room) a b (ne_eqb k room ne))) (else ne))
       (decide k room)
+
+-- ---- what holds of each element
+
+pub all_map : {A : Type 0} (P Q : A → Type 0) → ((a : A) → P a → Q a) → (l : List A) → AllByRecursion P l → AllByRecursion Q l
+all_map P Q f [] all = tt
+all_map P Q f (a ∷ l) all = (f a all.0, all_map P Q f l all.1)
+
+pub all_append : {A : Type 0} (P : A → Type 0) (l m : List A) → AllByRecursion P l → AllByRecursion P m → AllByRecursion P (l ++ m)
+all_append P [] m p q = q
+all_append P (a ∷ l) m p q = (p.0, all_append P l m p.1 q)
 
 -- ---- histories
 

@@ -1,5 +1,5 @@
 -- How a table opens, and how seats are cut in two and joined.
-use Rattle.std.proofs.Common.{◌≡◌, ◌≢◌, ◌⊎◌, ℕ, zero, suc, ◌<◌, ◌≤◌, List, [], ◌∷◌, ◌++◌, map, length, slice_index, set, Bool, Option, Some, sym, refl, ap, ◌∙◌, subst, inl, inr, ⊎_elim, arith, le_refl, append-nil}
+use Rattle.std.proofs.Common.{◌≡◌, ◌≢◌, ◌⊎◌, ℕ, zero, suc, ◌<◌, ◌≤◌, List, [], ◌∷◌, ◌++◌, map, length, slice_index, set, Bool, Option, Some, sym, refl, ap, ◌∙◌, subst, inl, inr, ⊎_elim, arith, le_refl}
 use Rattle.std.proofs.lemmas.List.Elements.{All-nil}
 use Rattle.std.proofs.Math.Nat.{max-le}
 use mathlib.Core.Option.{some, some-injective, some-ne-none}
@@ -7,14 +7,13 @@ use lib.ListN.{get_elem?, length-map}
 use Rattle.atomic_table.specs.Table.{Splits, Joins, opening}
 use Rattle.atomic_table.proofs.Lists.{at_set, set_else, at_longer}
 use Rattle.fine_places.specs.declared.model.Placed.{Placed}
-use Rattle.fine_places.specs.declared.model.Share.{Share}
 use Rattle.fine_places.specs.declared.model.View.{View}
-use Rattle.fine_places.specs.History.{room, most_seats, longer, Owns, Owned}
+use Rattle.fine_places.specs.History.{room, most_seats, StartsWith, Owns, Owned}
 use Rattle.fine_places.specs.Places.{share, shares_of, newcomer, spent, without_first, only_first, tail_of, head_of, joined, Holds, PlaceState, Fits, Keeps, Rules}
 use Rattle.fine_places.specs.Telling.{HoldsNothing}
 use Rattle.fine_places.specs.Beside as beside
 use Rattle.fine_places.proofs.Keeping.{around, reseated}
-use Rattle.fine_places.proofs.Lists.{decide, set_at, snoc_at, none_held, owned_first, owns_each, owns_append, owns_left, owns_right, longer_starts, longer_whole}
+use Rattle.fine_places.proofs.Lists.{decide, set_at, snoc_at, none_held, owned_first, owns_each, owns_append, owns_left, owns_right, longer_starts, longer_whole, all_append}
 
 module _ {T X N Y : Type 0} (stands : X → ℕ → ℕ → T → List (Placed N) → Type 0) (legal : X → List (Placed N) → Type 0) (seats : X → ℕ) (touches : ℕ → N → Bool) (x : X) where
   -- a table opens with all places at home and one seat, which has all numbers
@@ -32,14 +31,14 @@ module _ {T X N Y : Type 0} (stands : X → ℕ → ℕ → T → List (Placed N
       about = λ z q. grind arith;
       seen = ([], refl);
       mine = λ n ms o. owned_first (seats x) n ms o;
-      nobody = λ _. refl;
+      fronts = tt;
       holds = λ k h. absurd (none_held (suc room) k h);
       published = le_refl p;
       holder = λ h. refl;
     });
     each_number = λ n pos le. (0, v, refl, ([], owns_each N (seats x) n pos le));
     apart = λ i j n a b e e' o o'. at_zero v i a e ∙ sym (at_zero v j b e');
-    longest = (0, v, refl, refl);
+    longest = (0, v, refl, refl, (seats x, ([], owns_each N (seats x) (seats x) few.0 (le_refl (seats x)))));
     each_place = λ k le. let t = each k le in inl (record { word = zero_words k le; thing = t.0; there = mapped slots k (Some t.0) t.1; stood = t.2 });
   }
     where
@@ -69,8 +68,8 @@ module _ {T X N Y : Type 0} (stands : X → ℕ → ℕ → T → List (Placed N
       let q_shares : q.places.shares ≡ share (suc (suc n)) [] ∷ [] = ap head_of shares in
       let l_owns : (m : ℕ) (ms : List (Placed N)) → Owns l.places.shares m ms → Owns v.places.shares m ms = λ m ms o. subst (λ ps. Owns ps m ms) (sym shares) (inr (subst (λ ps. Owns ps m ms) l_shares o)) in
       let q_owns : (m : ℕ) (ms : List (Placed N)) → Owns q.places.shares m ms → (m ≡ suc (suc n)) × Owns v.places.shares m ms = λ m ms o. ⊎_elim (λ a. (sym a.0, subst (λ ps. Owns ps m ms) (sym shares) (inl a))) (λ a. absurd a) (subst (λ ps. Owns ps m ms) q_shares o) in
-      let l_fits : Fits touches (seats x) x p log s.words s.homes l.places = record { about = f.about; seen = f.seen; mine = λ m ms o. f.mine m ms (l_owns m ms o); nobody = λ e. absurd (some_share (share (suc n) []) (shares_of n) (sym l_shares ∙ e)); holds = λ k h. absurd (empty k h); published = f.published; holder = f.holder } in
-      let q_fits : Fits touches (seats x) x p log s.words s.homes q.places = record { about = f.about; seen = f.seen; mine = λ m ms o. f.mine m ms (q_owns m ms o).1; nobody = λ e. absurd (some_share (share (suc (suc n)) []) [] (sym q_shares ∙ e)); holds = λ k h. absurd (none_held (suc room) k h); published = f.published; holder = λ h. absurd (none_held (suc room) room h) } in
+      let l_fits : Fits touches (seats x) x p log s.words s.homes l.places = record { about = f.about; seen = f.seen; mine = λ m ms o. f.mine m ms (l_owns m ms o); fronts = f.fronts; holds = λ k h. absurd (empty k h); published = f.published; holder = f.holder } in
+      let q_fits : Fits touches (seats x) x p log s.words s.homes q.places = record { about = f.about; seen = f.seen; mine = λ m ms o. f.mine m ms (q_owns m ms o).1; fronts = f.fronts; holds = λ k h. absurd (none_held (suc room) k h); published = f.published; holder = λ h. absurd (none_held (suc room) room h) } in
       let low : (i m : ℕ) (a : View X N Y) → get_elem? vs i ≡ some a → Owned a.places.shares m → ¬ (m ≡ suc (suc n)) = λ i m a e o is. ⊎_elim
       (λ t. let o' = subst (λ (u : View X N Y). Owned u.places.shares m) (sym t.1) o in let h = (owned_first (suc n) m o'.0 (subst (λ ps. Owns ps m o'.0) l_shares o'.1)).2 in absurd (omega arith))
       (λ t. t.0 (r.apart i id m a v t.1 at o ([], subst (λ ps. Owns ps m []) (sym shares) (inl (sym is, refl)))))
@@ -100,17 +99,14 @@ module _ {T X N Y : Type 0} (stands : X → ℕ → ℕ → T → List (Placed N
       (λ t. ⊎_elim (λ u. absurd (low j m b u o' (q_number m a t.1 o))) (λ u. t.0 ∙ sym u.0) (snoc_at vs q b j e'))
       (snoc_at vs q a i e))
       (let o = r.longest in ⊎_elim
-      (λ (e : o.0 ≡ id). let is : o.1 ≡ v = some-injective _ _ (sym o.2 ∙ ap (get_elem? s.views) e ∙ at) in (id, l, l_at, subst (λ (u : View X N Y). u.places.seen ≡ log) is o.3))
-      (λ (e : o.0 ≢ id). (o.0, o.1, else_at o.0 o.1 e o.2, o.3))
+      (λ (e : o.0 ≡ id). let is : o.1 ≡ v = some-injective _ _ (sym o.2 ∙ ap (get_elem? s.views) e ∙ at) in (id, l, l_at, subst (λ (u : View X N Y). u.places.seen ≡ log) is o.3, (suc n, ([], subst (λ ps. Owns ps (suc n) []) (sym l_shares) (inl (refl, refl))))))
+      (λ (e : o.0 ≢ id). (o.0, o.1, else_at o.0 o.1 e o.2, o.3, o.4))
       (decide o.0 id))
       (λ k a. ⊎_elim
       (λ (e : a.who ≡ id). absurd (empty k (subst (λ (u : View X N Y). Holds u.places k) (some-injective _ _ (sym a.there ∙ ap (get_elem? s.views) e ∙ at)) a.holds)))
       (λ (ne : a.who ≢ id). record { who = a.who; view = a.view; there = else_at a.who a.view ne a.there; holds = a.holds })
       (decide a.who id))
     where
-      some_share : (a : Share N) (others : List (Share N)) → ¬ (a ∷ others ≡ [])
-      some_share a others e = grind arith
-
       last_at : (l : List (View X N Y)) (a : View X N Y) → get_elem? (l ++ a ∷ []) (length l) ≡ some a
       last_at [] a = refl
       last_at (b ∷ l) a = last_at l a
@@ -130,7 +126,7 @@ module _ {T X N Y : Type 0} (stands : X → ℕ → ℕ → T → List (Placed N
         about = f.about;
         seen = longer_starts log v.places.seen w.places.seen f.seen g.seen;
         mine = λ n ms o. ⊎_elim (λ a. f.mine n ms a) (λ a. g.mine n ms a) (owns_append v.places.shares w.places.shares n ms o);
-        nobody = λ e. no_share v.places.shares w.places.shares v.places.seen w.places.seen f.nobody g.nobody e;
+        fronts = (f.seen, (g.seen, all_append (StartsWith log) v.places.fronts w.places.fronts f.fronts g.fronts));
         holds = λ k h. absurd (v_empty k h);
         published = max-le f.published g.published;
         holder = λ h. absurd (v_empty room h);
@@ -139,7 +135,7 @@ module _ {T X N Y : Type 0} (stands : X → ℕ → ℕ → T → List (Placed N
         about = λ a q. grind arith;
         seen = (log, refl);
         mine = λ n ms o. absurd o;
-        nobody = λ _. refl;
+        fronts = tt;
         holds = λ k h. absurd (some-ne-none _ (sym h));
         published = omega arith;
         holder = λ h. absurd (some-ne-none _ (sym h));
@@ -173,10 +169,22 @@ module _ {T X N Y : Type 0} (stands : X → ℕ → ℕ → T → List (Placed N
       (kind j c e'))
       (kind i a e))
       (let o = r.longest in let whole = λ (q : (v.places.seen ≡ log) ⊎ (w.places.seen ≡ log)). longer_whole log v.places.seen w.places.seen f.seen g.seen q in ⊎_elim
-      (λ (e : o.0 ≡ id). let is : o.1 ≡ v = some-injective _ _ (sym o.2 ∙ ap (get_elem? s.views) e ∙ at) in (id, b, b_at, whole (inl (subst (λ (u : View X N Y). u.places.seen ≡ log) is o.3))))
+      (λ (e : o.0 ≡ id). let is : o.1 ≡ v = some-injective _ _ (sym o.2 ∙ ap (get_elem? s.views) e ∙ at) in (
+        id,
+        b,
+        b_at,
+        whole (inl (subst (λ (u : View X N Y). u.places.seen ≡ log) is o.3)),
+        let own = subst (λ (u : View X N Y). Owned u.places.shares o.4.0) is o.4.1 in (o.4.0, (own.0, owns_left v.places.shares w.places.shares o.4.0 own.0 own.1)),
+      ))
       (λ (ne : o.0 ≢ id). ⊎_elim
-      (λ (e : o.0 ≡ other). let is : o.1 ≡ w = some-injective _ _ (sym o.2 ∙ ap (get_elem? s.views) e ∙ at') in (id, b, b_at, whole (inr (subst (λ (u : View X N Y). u.places.seen ≡ log) is o.3))))
-      (λ (ne' : o.0 ≢ other). (o.0, o.1, else_at o.0 o.1 ne ne' o.2, o.3))
+      (λ (e : o.0 ≡ other). let is : o.1 ≡ w = some-injective _ _ (sym o.2 ∙ ap (get_elem? s.views) e ∙ at') in (
+        id,
+        b,
+        b_at,
+        whole (inr (subst (λ (u : View X N Y). u.places.seen ≡ log) is o.3)),
+        let own = subst (λ (u : View X N Y). Owned u.places.shares o.4.0) is o.4.1 in (o.4.0, (own.0, owns_right v.places.shares w.places.shares o.4.0 own.0 own.1)),
+      ))
+      (λ (ne' : o.0 ≢ other). (o.0, o.1, else_at o.0 o.1 ne ne' o.2, o.3, o.4))
       (decide o.0 other))
       (decide o.0 id))
       (λ k a. ⊎_elim
@@ -186,11 +194,6 @@ module _ {T X N Y : Type 0} (stands : X → ℕ → ℕ → T → List (Placed N
       (λ (ne' : a.who ≢ id). record { who = a.who; view = a.view; there = else_at a.who a.view ne' ne a.there; holds = a.holds })
       (decide a.who id))
       (decide a.who other))
-    where
-      no_share : (a b : List (Share N)) (l m : List (Placed N)) → (a ≡ [] → l ≡ []) → (b ≡ [] → m ≡ []) → a ++ b ≡ [] → longer l m ≡ []
-      no_share [] [] l m f g e = longer_whole [] l m ([], sym (f refl) ∙ sym (append-nil l)) ([], sym (g refl) ∙ sym (append-nil m)) (inl (f refl))
-      no_share [] (c ∷ b) l m f g e = absurd (let o : c ∷ b ≡ [] = e in grind arith)
-      no_share (c ∷ a) b l m f g e = absurd (let o : c ∷ (a ++ b) ≡ [] = e in grind arith)
 
 -- ---- under the rule of the table
 

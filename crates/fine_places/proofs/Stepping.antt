@@ -31,7 +31,7 @@ module _ {T X N Y : Type 0} (stands : X → ℕ → ℕ → T → List (Placed N
         about = f.about;
         seen = ([], sym (append-nil log));
         mine = f.mine;
-        nobody = λ e. absurd (subst (λ ps. Owned ps number) e own).1;
+        fronts = f.fronts;
         holds = λ i hold. ⊎_elim
             (λ (e : i ≡ k). record {
               within = subst (λ j. j ≤ room) (sym e) le;
@@ -49,9 +49,9 @@ module _ {T X N Y : Type 0} (stands : X → ℕ → ℕ → T → List (Placed N
         published = le_refl p;
         holder = λ _. refl;
       } in
-      moved stands legal seats touches x grows s p p log log r id v w at k number none r.is_legal r.authors (le_refl p) (inl refl) (λ u a. a) (λ j _ _ _. refl) (λ m _. refl)
+      moved stands legal seats touches x grows s p p log log r id v w at k number none r.is_legal r.authors (le_refl p) (inl refl) (λ l a. a) (λ j _ _ _. refl) (λ m _. refl)
       (λ j u _ at' h. nobody stands legal seats touches x s p log r k j u free at' h) mine (λ m o. o) (λ m o. o)
-      (λ j ne h. set_else v.places.held k j true ne ∙ h) (inl refl) (inr (record { who = id; view = w; there = set_at s.views id v w at; holds = set_at v.places.held k false true vacant }))
+      (λ j ne h. set_else v.places.held k j true ne ∙ h) (inl (refl, (number, own))) (inr (record { who = id; view = w; there = set_at s.views id v w at; holds = set_at v.places.held k false true vacant }))
 
   -- the empty slot of a held place goes home
   pub settle_keeps : (s : PlaceState T X N Y) (p : ℕ) (log : List (Placed N)) (r : Keeps stands legal seats touches x p log s) (id k : ℕ) (v : View X N Y) → get_elem? s.views id ≡ some v
@@ -66,7 +66,7 @@ module _ {T X N Y : Type 0} (stands : X → ℕ → ℕ → T → List (Placed N
         about = f.about;
         seen = f.seen;
         mine = f.mine;
-        nobody = f.nobody;
+        fronts = f.fronts;
         holds = λ i hold. let g = f.holds i hold in record {
           within = g.within;
           same = g.same;
@@ -79,7 +79,7 @@ module _ {T X N Y : Type 0} (stands : X → ℕ → ℕ → T → List (Placed N
         published = f.published;
         holder = f.holder;
       } in
-      moved stands legal seats touches x grows s p p log log r id v w at k found (some None) r.is_legal r.authors (le_refl p) (inl refl) (λ u a. a) (λ j _ _ _. refl) (λ m _. refl)
+      moved stands legal seats touches x grows s p p log log r id v w at k found (some None) r.is_legal r.authors (le_refl p) (inl refl) (λ l a. a) (λ j _ _ _. refl) (λ m _. refl)
       (λ j u ne at' h. ne (one_holder stands legal seats touches x s p log r j id k u v at' at h held)) mine (λ m o. o) (λ m o. o) (λ j ne h. h)
       (inr (refl, λ e. e)) (inr (record { who = id; view = w; there = set_at s.views id v w at; holds = held }))
 
@@ -95,7 +95,7 @@ module _ {T X N Y : Type 0} (stands : X → ℕ → ℕ → T → List (Placed N
         about = f.about;
         seen = f.seen;
         mine = f.mine;
-        nobody = f.nobody;
+        fronts = f.fronts;
         holds = λ i hold. let g = f.holds i hold in record {
           within = g.within;
           same = g.same;
@@ -105,7 +105,7 @@ module _ {T X N Y : Type 0} (stands : X → ℕ → ℕ → T → List (Placed N
         published = f.published;
         holder = f.holder;
       } in
-      moved stands legal seats touches x grows s p p log log r id v w at k found none r.is_legal r.authors (le_refl p) (inl refl) (λ u a. a) (λ j _ _ _. refl) (λ m _. refl)
+      moved stands legal seats touches x grows s p p log log r id v w at k found none r.is_legal r.authors (le_refl p) (inl refl) (λ l a. a) (λ j _ _ _. refl) (λ m _. refl)
       (λ j u ne at' h. ne (one_holder stands legal seats touches x s p log r j id k u v at' at h held)) mine (λ m o. o) (λ m o. o) (λ j ne h. h)
       (inr (refl, λ e. e)) (inr (record { who = id; view = w; there = set_at s.views id v w at; holds = held }))
 
@@ -177,7 +177,7 @@ module _ {T X N Y : Type 0} (stands : X → ℕ → ℕ → T → List (Placed N
         published = r.published;
         places = subst (λ (ws : List ℕ). Keeps stands legal seats touches x r.published r.log record { words = ws; homes = s.homes; views = set s.views id (record { places = w; beside = v.beside }) }) (sym (set-get_or s.words k 0))
             (elsewhere stands legal seats touches x grows s r.published r.published r.log r.places id v (record { places = w; beside = v.beside }) at s.words s.homes r.places.wide r.places.deep (λ j _. refl) (λ j _. refl) (le_refl r.published) (inl refl)
-            (record { about = f.about; seen = f.seen; mine = f.mine; nobody = f.nobody; holds = λ i hold. let g = f.holds i hold in record { within = g.within; same = g.same; owner = g.owner; emptied = g.emptied }; published = f.published; holder = f.holder })
+            (record { about = f.about; seen = f.seen; mine = f.mine; fronts = f.fronts; holds = λ i hold. let g = f.holds i hold in record { within = g.within; same = g.same; owner = g.owner; emptied = g.emptied }; published = f.published; holder = f.holder })
             refl (λ e. e) (λ _ h. h));
         beside = subst (λ (hs : List (maybe.Option (Option T))). also x r.published r.log record { words = set s.words k found; homes = hs; views = set s.views id (record { places = w; beside = v.beside }) }) (set_again s.homes k h.0 h.1)
             (stays x r.published r.log s r.beside (around stands legal seats touches x s r.published r.log r.places) k found h.0 id v w
@@ -240,7 +240,7 @@ module _ {T X N Y : Type 0} (stands : X → ℕ → ℕ → T → List (Placed N
             view = refl;
             found = λ z e. let is : x ≡ z = sym (f.about z e) in subst (λ z. Finds stands legal touches learns z k r.published y v r.log) is (record {
               stood = home.stood;
-              sees = record { lawful = r.places.is_legal; longer = f.seen; mine = λ m ms o. (f.mine m ms o).0; holds = λ j h. (f.holds j h).same };
+              sees = record { lawful = r.places.is_legal; longer = f.seen; mine = λ m ms o. (f.mine m ms o).0; holds = λ j h. (f.holds j h).same; holder = f.holder };
               learnt = λ e. (at_law e).1;
             });
           },

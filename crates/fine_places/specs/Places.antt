@@ -1,4 +1,5 @@
 -- What a seat knows of the places, how each step changes it, and the rule of the places.
+use Rattle.std.specs.List.{AllByRecursion}
 use Rattle.std.specs.Prelude.{◌≡◌, ◌≢◌, ℕ, zero, suc, ◌<◌, ◌≤◌, max, List, [], ◌∷◌, ◌++◌, ◌⊎◌, length, slice_index, slice_set, replicate, Bool, true, false, Option, Some, None, All}
 use mathlib.Core.Option.{some}
 use mathlib.Core.Option as maybe
@@ -46,10 +47,10 @@ placed shares n = record { seat = first_seat shares; item = n }
 module _ {X N : Type 0} where
   -- the first seat, which has the numbers n to 1
   abbrev pub newcomer : ℕ → ℕ → X → Known X N
-  newcomer n p x = record { about = Some x; shares = shares_of n; seen = []; held = replicate (suc room) false; found = []; moving = None; published = p }
+  newcomer n p x = record { about = Some x; shares = shares_of n; seen = []; fronts = []; held = replicate (suc room) false; found = []; moving = None; published = p }
 
   abbrev pub spent : Known X N
-  spent = record { about = None; shares = []; seen = []; held = []; found = []; moving = None; published = 0 }
+  spent = record { about = None; shares = []; seen = []; fronts = []; held = []; found = []; moving = None; published = 0 }
 
   abbrev pub without_first : Known X N → Known X N
   without_first v = record v { shares = tail_of v.shares }
@@ -58,7 +59,7 @@ module _ {X N : Type 0} where
   only_first v = record v { shares = head_of v.shares; held = replicate (suc room) false; found = []; moving = None }
 
   abbrev pub joined : Known X N → Known X N → Known X N
-  joined v w = record v { shares = v.shares ++ w.shares; seen = longer v.seen w.seen; published = max v.published w.published }
+  joined v w = record v { shares = v.shares ++ w.shares; seen = longer v.seen w.seen; fronts = v.seen ∷ w.seen ∷ (v.fronts ++ w.fronts); published = max v.published w.published }
 
   abbrev pub Holds : Known X N → ℕ → Type 0
   Holds v k = get_elem? v.held k ≡ some true
@@ -78,14 +79,14 @@ module _ {X N : Type 0} where
   abbrev pub moving : Known X N → Option ℕ → Known X N
   moving v o = record v { moving = o }
 
-  -- the place was given back, with an item that joins the history or none
-  abbrev pub giving : Known X N → ℕ → ℕ → Option N → Known X N
-  giving v k p None = record v { held = slice_set v.held k false; moving = None; published = p }
-  giving v k p (Some n) = record v { shares = grown (placed v.shares n) v.shares; seen = v.seen ++ placed v.shares n ∷ []; held = slice_set v.held k false; moving = None; published = p }
+  -- the history and the published number were seen
+  abbrev pub knowing : Known X N → List (Placed N) → ℕ → Known X N
+  knowing v log p = record v { seen = log; published = p }
 
--- the thing was given back to the place
-abbrev pub after : {T X N : Type 0} → (T → Option N) → (T → ℕ) → Known X N → ℕ → T → Known X N
-after adds level v k thing = giving v k (max v.published (level thing)) (adds thing)
+  -- the place was given back, with an item that joins the history or none
+  abbrev pub giving : Known X N → ℕ → Option N → Known X N
+  giving v k None = record v { held = slice_set v.held k false; moving = None }
+  giving v k (Some n) = record v { shares = grown (placed v.shares n) v.shares; seen = v.seen ++ placed v.shares n ∷ []; held = slice_set v.held k false; moving = None }
 
 -- ---- the rule
 
@@ -112,7 +113,7 @@ pub record Fits {T X N : Type 0} (touches : ℕ → N → Bool) (seats : ℕ) (x
   pub about : (y : X) → v.about ≡ Some y → y ≡ x
   pub seen : StartsWith log v.seen
   pub mine : (n : ℕ) (ms : List (Placed N)) → Owns v.shares n ms → (ms ≡ by_seat n log) × (0 < n) × (n ≤ seats)
-  pub nobody : v.shares ≡ [] → v.seen ≡ []
+  pub fronts : AllByRecursion (StartsWith log) v.fronts
   pub holds : (k : ℕ) → Holds v k → HoldOk touches log words homes v k
   pub published : v.published ≤ p
   pub holder : Holds v room → v.published ≡ p
@@ -132,7 +133,7 @@ pub record Away {X N Y : Type 0} (views : List (View X N Y)) (k : ℕ) : Type 0 
   pub holds : Holds view.places k
 
 -- The rule of the places, at a history and a published number. The history is legal, each of its items is of one of the
--- seats, and some seat saw all of it. What each seat knows is so; each number has one seat, and each seat other numbers.
+-- seats, and some seat that has a number saw all of it. What each seat knows is so; each number has one seat, and each seat other numbers.
 -- Each place is at home or held.
 pub record Keeps {T X N Y : Type 0} (stands : X → ℕ → ℕ → T → List (Placed N) → Type 0) (legal : X → List (Placed N) → Type 0) (seats : X → ℕ) (touches : ℕ → N → Bool)
     (x : X) (p : ℕ) (log : List (Placed N)) (s : PlaceState T X N Y) : Type 0 where
@@ -144,7 +145,7 @@ pub record Keeps {T X N Y : Type 0} (stands : X → ℕ → ℕ → T → List (
   pub each_view : (i : ℕ) (v : View X N Y) → get_elem? s.views i ≡ some v → Fits touches (seats x) x p log s.words s.homes v.places
   pub each_number : (n : ℕ) → 0 < n → n ≤ seats x → (i : ℕ) × (v : View X N Y) × (get_elem? s.views i ≡ some v) × Owned v.places.shares n
   pub apart : (i j n : ℕ) (v u : View X N Y) → get_elem? s.views i ≡ some v → get_elem? s.views j ≡ some u → Owned v.places.shares n → Owned u.places.shares n → i ≡ j
-  pub longest : (i : ℕ) × (v : View X N Y) × (get_elem? s.views i ≡ some v) × (v.places.seen ≡ log)
+  pub longest : (i : ℕ) × (v : View X N Y) × (get_elem? s.views i ≡ some v) × (v.places.seen ≡ log) × ((n : ℕ) × Owned v.places.shares n)
   pub each_place : (k : ℕ) → k ≤ room → Home stands touches x p log s.words s.homes k ⊎ Away s.views k
 
 -- the rule of a table: that of the places, and what it keeps beside them

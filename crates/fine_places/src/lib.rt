@@ -19,7 +19,7 @@ pub use beside::{Alone, BesideLaw};
 pub use law::{PlaceLaw, Rule, StartLaw};
 pub use model::{Found, Known, Placed, Share, View};
 pub use plays::{Cut, Fetched, Gave, Glue, Settled, Took};
-pub use steps::{PlaceSeat, Places, SharedPlaces, give, join, open, shut, split, take};
+pub use steps::{PlaceSeat, Places, SharedPlaces, beside_law, give, join, open, shut, split, take};
 
 /// The place of the room. Those before it are the buckets.
 pub const ROOM: usize = 256;

@@ -7,13 +7,14 @@ ghost use Rattle.std.specs.Slots.{slots_items, slots_len, IsFull};
 ghost use Rattle.atomic_table.specs.Table.{opening};
 ghost use Rattle.fine_places.specs.History.{room, most_seats, Owned};
 ghost use Rattle.fine_places.specs.Places.{Holds, newcomer, without_first, only_first, joined, shares_of};
+ghost use Rattle.fine_places.specs.Beside.{StepsBeside};
 ghost use Rattle.fine_places.specs.Telling.{TookIt, FoundHeld, GivesIt, given_back, IsStill, HoldsNothing, IsSized, Ended};
 
 use crate::beside::BesideLaw;
 use crate::law::{PlaceLaw, Rule, StartLaw};
 use crate::model::View;
 use crate::plays::{Cut, Fetched, Gave, Glue, Settled, Took};
-use atomic_table::{Closed, Refused, Seat, Table};
+use atomic_table::{Closed, Play, Refused, Seat, Table};
 use std::alloc::Global;
 
 /// The places as threads share them.
@@ -32,7 +33,7 @@ pub type PlaceSeat<T, X, N, Y> = Seat<Option<T>, View<X, N, Y>>;
 
 /// Takes the thing at a place that the seat does not hold, under one of the seat's numbers, by one compare-exchange. Where
 /// another seat holds the place, the number found is handed back, and nothing changes but that the seat knows it.
-pub fn take<T, X, N, Y, K, L: PlaceLaw<T, X, N> + StartLaw<X, K>, E: BesideLaw<T, X, N, Y>>(
+pub fn take<T, X, N, Y, K, L: PlaceLaw<T, X, N, Y> + StartLaw<X, K>, E: BesideLaw<T, X, N, Y>>(
     places: &SharedPlaces<T, X, N, Y, K, L, E>,
     seat: &mut PlaceSeat<T, X, N, Y>,
     place: usize,
@@ -58,7 +59,7 @@ pub fn take<T, X, N, Y, K, L: PlaceLaw<T, X, N> + StartLaw<X, K>, E: BesideLaw<T
 }
 
 /// Gives a thing back to a place that the seat holds, with what it adds to the history.
-pub fn give<T, X, N, Y, K, L: PlaceLaw<T, X, N> + StartLaw<X, K>, E: BesideLaw<T, X, N, Y>>(
+pub fn give<T, X, N, Y, K, L: PlaceLaw<T, X, N, Y> + StartLaw<X, K>, E: BesideLaw<T, X, N, Y>>(
     places: &SharedPlaces<T, X, N, Y, K, L, E>,
     seat: &mut PlaceSeat<T, X, N, Y>,
     place: usize,
@@ -68,9 +69,9 @@ pub fn give<T, X, N, Y, K, L: PlaceLaw<T, X, N> + StartLaw<X, K>, E: BesideLaw<T
     requires still { IsStill seat.old.me }
     requires held { Holds seat.old.me.0.places place }
     requires within { place ≤ room }
-    requires gives { GivesIt L.stands L.legal L.touches L.adds L.level E.owes (L.start places.now.key) place seat.old.me.0 thing }
+    requires gives { GivesIt L.stands L.legal L.touches L.adds E.owes (L.start places.now.key) place seat.old.me.0 thing }
     ensures table { (seat.new.table_id ≡ seat.old.table_id) × (seat.new.id ≡ seat.old.id) }
-    ensures gave { seat.new.me ≡ (given_back L.adds L.level E.given seat.old.me.0 place thing, []) }
+    ensures gave { seat.new.me ≡ (given_back L.adds E.given seat.old.me.0 place thing, []) }
 {
     places.load::<Fetched>(seat, place);
     let empty = places.exchange(seat, place, Some(thing));
@@ -80,7 +81,7 @@ pub fn give<T, X, N, Y, K, L: PlaceLaw<T, X, N> + StartLaw<X, K>, E: BesideLaw<T
 
 /// Opens a table. Its first words are those of the places, and all 0; so are its first slots, and each has its thing. The first
 /// seat has all numbers. Where there is no memory, the slots come back.
-pub fn open<T, X, N, Y, K, L: PlaceLaw<T, X, N> + StartLaw<X, K>, E: BesideLaw<T, X, N, Y>>(
+pub fn open<T, X, N, Y, K, L: PlaceLaw<T, X, N, Y> + StartLaw<X, K>, E: BesideLaw<T, X, N, Y>>(
     alloc: Global,
     words: &[u64],
     slots: Vec<Option<T>>,
@@ -93,6 +94,7 @@ pub fn open<T, X, N, Y, K, L: PlaceLaw<T, X, N> + StartLaw<X, K>, E: BesideLaw<T
     requires stands { (k : ℕ) → k ≤ room → (thing : T) × (get_elem? slots.items k ≡ some (Some thing)) × L.stands (L.start key.now) k (L.begins (L.start key.now)) thing [] }
     requires beside { E.keeps (L.start key.now) (L.begins (L.start key.now)) [] (opening words.now slots.items (record { places = newcomer (L.seats (L.start key.now)) (L.begins (L.start key.now)) (L.start key.now); beside = E.first (L.start key.now) })) }
     ensures table { IfOk result (λ r. IsSized r.0.shared.table_id × (r.1.table_id ≡ r.0.shared.table_id) × (r.0.shared.key ≡ key.now)) }
+    ensures counts { IfOk result (λ r. (r.0.shared.table_id.words ≡ length words.now) × (r.0.shared.table_id.slots ≡ length slots.items)) }
     ensures seat { IfOk result (λ r. r.1.me ≡ (record { places = newcomer (L.seats (L.start key.now)) (L.begins (L.start key.now)) (L.start key.now); beside = E.first (L.start key.now) }, [])) }
     ensures refused { IfErr result (λ r. r.slots.items ≡ slots.items) }
 {
@@ -100,7 +102,7 @@ pub fn open<T, X, N, Y, K, L: PlaceLaw<T, X, N> + StartLaw<X, K>, E: BesideLaw<T
 }
 
 /// Makes a new seat, which gets the greatest number of a seat that has more than one, added nothing and holds nothing.
-pub fn split<T, X, N, Y, K, L: PlaceLaw<T, X, N> + StartLaw<X, K>, E: BesideLaw<T, X, N, Y>>(
+pub fn split<T, X, N, Y, K, L: PlaceLaw<T, X, N, Y> + StartLaw<X, K>, E: BesideLaw<T, X, N, Y>>(
     places: &SharedPlaces<T, X, N, Y, K, L, E>,
     seat: &mut PlaceSeat<T, X, N, Y>,
 ) -> PlaceSeat<T, X, N, Y>
@@ -115,7 +117,7 @@ pub fn split<T, X, N, Y, K, L: PlaceLaw<T, X, N> + StartLaw<X, K>, E: BesideLaw<
 }
 
 /// Takes over the numbers, and all else that another seat knows. Both hold nothing.
-pub fn join<T, X, N, Y, K, L: PlaceLaw<T, X, N> + StartLaw<X, K>, E: BesideLaw<T, X, N, Y>>(
+pub fn join<T, X, N, Y, K, L: PlaceLaw<T, X, N, Y> + StartLaw<X, K>, E: BesideLaw<T, X, N, Y>>(
     places: &SharedPlaces<T, X, N, Y, K, L, E>,
     seat: &mut PlaceSeat<T, X, N, Y>,
     other: PlaceSeat<T, X, N, Y>,
@@ -129,7 +131,7 @@ pub fn join<T, X, N, Y, K, L: PlaceLaw<T, X, N> + StartLaw<X, K>, E: BesideLaw<T
 }
 
 /// Ends a table, once one seat has the numbers of all and holds nothing.
-pub fn shut<T, X, N, Y, K, L: PlaceLaw<T, X, N> + StartLaw<X, K>, E: BesideLaw<T, X, N, Y>>(
+pub fn shut<T, X, N, Y, K, L: PlaceLaw<T, X, N, Y> + StartLaw<X, K>, E: BesideLaw<T, X, N, Y>>(
     places: Places<T, X, N, Y, K, L, E>,
     seat: PlaceSeat<T, X, N, Y>,
 ) -> Closed<Option<T>, Global>
@@ -141,3 +143,17 @@ pub fn shut<T, X, N, Y, K, L: PlaceLaw<T, X, N> + StartLaw<X, K>, E: BesideLaw<T
 {
     places.close_with(seat)
 }
+
+/// A step at a word behind the places, which may see the history and, in the hand of who holds the room, raise the published
+/// number, keeps the rule of the table where it keeps what is kept beside the places.
+pub fn beside_law<
+    T,
+    X,
+    N,
+    Y,
+    L: PlaceLaw<T, X, N, Y>,
+    E: BesideLaw<T, X, N, Y>,
+    P: Play<Option<T>, View<X, N, Y>>,
+>()
+    ensures law { StepsBeside L.stands L.legal L.seats L.touches E.keeps P.then }
+{}

@@ -9,7 +9,7 @@ use std::test::*;
 /// Two seats, and things of which nothing is said.
 struct Plain;
 
-impl PlaceLaw<u64, (), ()> for Plain {
+impl PlaceLaw<u64, (), (), ()> for Plain {
     ghost stands = { λ _ _ _ _ _. Unit {0} };
 
     ghost grows = { λ _ _ _ _ _ _ _ _ _. tt };
@@ -22,9 +22,7 @@ impl PlaceLaw<u64, (), ()> for Plain {
 
     ghost touches = { λ _ _. false };
 
-    ghost adds = { λ _. None };
-
-    ghost level = { λ _. 0 };
+    ghost adds = { λ _ _. None };
 }
 
 impl StartLaw<(), ()> for Plain {

@@ -97,6 +97,7 @@ module _ (disk : Disk) (parts retired : List Part) (new : RoomValue) (leaves aft
               subst (λ d. ShowsSome disk.region_len rows history d (last_epoch e history) image) (sym r.durable)
               (subst (λ n. ShowsSome n rows history new.room.sealed (last_epoch e history) image) len (s.images.now_sealed image now));
         };
+        few = let c = few_commits r.runs_to.done in let d = few_run script r.runs_to.done r.runs_to.has in omega (arith, c, d, few);
         causes = causes_of r whole sound_disk few first loaded before last e rows is_before is_last shows sound st;
         all_durable = λ none. r.durable ∙ all_sealed e history new.room.sealed s.counts.sealed (sym (r.all_sealed none) ∙ st.waiting);
       }

@@ -10,7 +10,8 @@ use Rattle.fine_model.specs.declared.Row.{Row}
 use Rattle.fine_model.specs.RowBytes.{body, row_bytes, row_len}
 use Rattle.node_record.specs.Keys.{IsKeyOf, AreKeysOf, AreSorted, SortedLaw, StartsAt}
 use Rattle.node_record.specs.declared.key.RowAt.{RowAt}
-use Rattle.node_record.proofs.RowLaws.{body_short, row_length}
+use Rattle.fine_model.proofs.Grammar.{row_long}
+use Rattle.node_record.proofs.RowLaws.{body_short}
 
 -- ---- the fields of a front
 
@@ -66,7 +67,7 @@ len_small bytes at row starts = body_short row.rec starts.begins.fits.rec
 pub spelled_at : (bytes : List ℕ) (at len : ℕ) (row : Row) → StartsAt bytes at row → len ≡ row_len row → take len (drop at bytes) ≡ row_bytes row
 spelled_at bytes at len row starts is =
     let f = front_is bytes at row starts in
-    ap (take len) f.1 ∙ ap (λ n. take n (row_bytes row ++ f.0)) (is ∙ sym (row_length row)) ∙ take-append-le (length (row_bytes row)) (row_bytes row) f.0 (omega arith) ∙ take_all (length (row_bytes row)) (row_bytes row) (omega arith)
+    ap (take len) f.1 ∙ ap (λ n. take n (row_bytes row ++ f.0)) (is ∙ sym (row_long row)) ∙ take-append-le (length (row_bytes row)) (row_bytes row) f.0 (omega arith) ∙ take_all (length (row_bytes row)) (row_bytes row) (omega arith)
 
 -- ---- sorting
 

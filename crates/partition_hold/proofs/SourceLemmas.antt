@@ -9,14 +9,16 @@ use Rattle.fine_model.specs.declared.FetchFault.TheVariants as fetch_fault
 use Rattle.fine_model.specs.declared.NodeId.{NodeId}
 use Rattle.fine_model.specs.declared.Part.{Part}
 use Rattle.fine_model.specs.declared.Row.{Row}
+use Rattle.fine_model.specs.Nodes.{Content}
 use Rattle.fine_model.specs.Regions.{Image}
 use Rattle.fine_model.specs.Views.{TellsRowsOf}
 use Rattle.node_cache.specs.declared.cached.Cached.{Cached}
 use Rattle.node_cache.specs.Cache.{Cache, cached, with_node}
-use Rattle.node_cache.specs.Given.{IsFetched, IsLoad, OnCleanFault}
-use Rattle.node_fetch.specs.Fetched.{HasBadEntry, HasBadRow, NoDamage}
+use Rattle.node_cache.specs.Given.{Finds, IsFetched, IsLoad, OnCleanFault}
+use Rattle.node_fetch.specs.Fetched.{HasBadEntry, HasBadRow, IsReplayOf, NoDamage}
+use Rattle.node_fetch.proofs.ReadBack.{replay_same}
 use Rattle.partition_index.specs.Parts.{CountsFaults}
-use Rattle.partition_hold.specs.Sources.{Fails, IsLater, SourceLaws, tells_rows}
+use Rattle.partition_hold.specs.Sources.{Fails, IsLater, SourceLaws, finds_in, tells_rows}
 use Rattle.partition_hold.specs.Views.{SameView, ViewValue}
 
 same_itself : (v : ViewValue) → SameView v v
@@ -72,12 +74,17 @@ fails_told s t rows (fetch_fault.BadRow region at) told f = f.0 rows told
 fails_told s t rows (fetch_fault.BadIndex region at) told f = f.0 rows told
 fails_told s t rows fetch_fault.NoMemory told f = tt
 
+-- what a view finds later, it finds now
+pub finds_before : (s t : ViewValue) (id : NodeId) (found : Content) → IsLater s t → finds_in t id found → finds_in s id found
+finds_before s t id found l f = subst (λ ps. IsReplayOf s.eye ps id found) l.same.parts (replay_same s.eye t.eye t.parts id found l.same.eye f)
+
 pub laws : SourceLaws
 laws = record {
   later_itself = later_itself;
   later_on = later_on;
   later_tells = later_tells;
   tells_before = tells_before;
+  finds_before = finds_before;
   later_upper = λ s t l. l.same.upto;
   clean_itself = λ v. refl;
   clean_on = λ s t u a b. b ∙ a;
@@ -116,12 +123,12 @@ pub copied_there : {A : Type 0} (o : Option (Bor A)) → is_some (option_copied 
 copied_there None = refl
 copied_there (Some x) = refl
 
-pub put_loads : (tells : List Row → Type 0) (upper k : ℕ) (b new : Cache) (kept : Cached) → is_some (cached b k) ≡ false → new ≡ with_node b k kept → cached new k ≡ Some kept → ((n : ℕ) → n ≢ k → cached new n ≡ cached b n) → IsFetched tells upper b.bucket k kept → IsLoad tells upper k b new
-put_loads tells upper k b new kept absent put here elsewhere fetched = record {
+pub put_loads : (tells : List Row → Type 0) (finds : Finds) (upper k : ℕ) (b new : Cache) (kept : Cached) → is_some (cached b k) ≡ false → new ≡ with_node b k kept → cached new k ≡ Some kept → ((n : ℕ) → n ≢ k → cached new n ≡ cached b n) → IsFetched tells finds upper b.bucket k kept → IsLoad tells finds upper k b new
+put_loads tells finds upper k b new kept absent put here elsewhere fetched = record {
   bucket = ap (λ (c : Cache). c.bucket) put;
   saved = ap (λ (c : Cache). c.saved) put;
   others = elsewhere;
   stays = λ there. absurd (true≢false (sym there ∙ absent));
-  fetched = λ none. subst (λ o. IfSome o (IsFetched tells upper b.bucket k)) (sym here) fetched;
+  fetched = λ none. subst (λ o. IfSome o (IsFetched tells finds upper b.bucket k)) (sym here) fetched;
   order = inr (kept, ap (λ (c : Cache). c.nodes) put ∙ ap (λ (es : List (ℕ × Cached)). es ++ (k, kept) ∷ []) (remove_absent k b.nodes (none_there (cached b k) absent)));
 }

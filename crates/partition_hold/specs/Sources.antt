@@ -6,13 +6,18 @@ use Rattle.fine_model.specs.declared.FetchFault.TheVariants as fetch_fault
 use Rattle.fine_model.specs.declared.NodeId.{NodeId}
 use Rattle.fine_model.specs.declared.Row.{Row}
 use Rattle.fine_model.specs.Views.{TellsRows}
-use Rattle.node_cache.specs.Given.{OnCleanFault}
-use Rattle.node_fetch.specs.Fetched.{HasBadEntry, HasBadRow}
+use Rattle.fine_model.specs.Nodes.{Content}
+use Rattle.node_cache.specs.Given.{Finds, OnCleanFault}
+use Rattle.node_fetch.specs.Fetched.{HasBadEntry, HasBadRow, IsReplayOf}
 use Rattle.partition_hold.specs.Views.{SameView, ViewValue, state_of}
 
 -- the rows that a view tells
 abbrev pub tells_rows : ViewValue → List Row → Type 0
 tells_rows v rows = TellsRows (state_of v) rows
+
+-- the contents that a view may find in a node: the replay of what was read of its parts
+abbrev pub finds_in : ViewValue → Finds
+finds_in v id found = IsReplayOf v.eye v.parts id found
 
 -- a view some loads later
 pub record IsLater (old new : ViewValue) : Type 0 where
@@ -41,6 +46,7 @@ pub record SourceLaws : Type 0 where
   pub later_on : (u v w : ViewValue) → IsLater u v → IsLater v w → IsLater u w
   pub later_tells : (s t : ViewValue) (rows : List Row) → IsLater s t → tells_rows s rows → tells_rows t rows
   pub tells_before : (s t : ViewValue) (rows : List Row) → IsLater s t → tells_rows t rows → tells_rows s rows
+  pub finds_before : (s t : ViewValue) (id : NodeId) (found : Content) → IsLater s t → finds_in t id found → finds_in s id found
   pub later_upper : (s t : ViewValue) → IsLater s t → t.upto ≡ s.upto
   pub clean_itself : (v : ViewValue) → IsClean v v
   pub clean_on : (s t u : ViewValue) → IsClean s t → IsClean t u → IsClean s u

@@ -2,7 +2,7 @@
 
 ghost use Rattle.std.specs.Prelude.{ℕ, ◌<◌, IfErr, OnErr, OnOk};
 ghost use Rattle.node_cache.specs.Given.{IsCached, IsLoad, OnCleanLoad, SameNodes};
-ghost use Rattle.partition_hold.specs.Sources.{Fails, IsClean, IsLater, SourceLaws, tells_rows};
+ghost use Rattle.partition_hold.specs.Sources.{Fails, IsClean, IsLater, SourceLaws, finds_in, tells_rows};
 
 use crate::view::View;
 use fine_model::{FetchFault, NodeId};
@@ -10,7 +10,7 @@ use log_disk::LogEye;
 use node_cache::{Bucket, Cached};
 
 impl<E: LogEye> View<E> {
-    /// Caches a node that is not cached, as what the view's rows leave there. A node that they leave broken may be given otherwise.
+    /// Caches a node that is not cached, as the replay of what was read of the view's parts, and exactly what the view's rows leave there.
     ///
     /// With a fault, no node is cached that was not before. `Failed` comes only where the eye's count of faults rose in this call, and
     /// `BadRow` and `BadIndex` only with a place that is bad by the bytes that were read, and only where the view tells no rows. A call
@@ -20,7 +20,7 @@ impl<E: LogEye> View<E> {
         requires number { number < 1048576 }
         ensures later { IsLater self.old self.new }
         ensures clean { OnCleanLoad result (IsClean self.old self.new) }
-        ensures load { IsLoad (tells_rows self.old) self.old.upto number bucket.old bucket.new }
+        ensures load { IsLoad (tells_rows self.old) (finds_in self.old) self.old.upto number bucket.old bucket.new }
         ensures there { OnOk result (IsCached bucket.new number) }
         ensures none { OnErr result (SameNodes bucket.old bucket.new) }
         ensures fails { IfErr result (λ fault. Fails self.old fault self.new) }

@@ -1,7 +1,8 @@
-use Rattle.std.proofs.Common.{◌≡◌, ◌∙◌, Err, false, is_some, rules, sym, ap}
+use Rattle.std.proofs.Common.{◌≡◌, ◌∙◌, Err, false, is_some, rules, sym, ap, subst}
 use Rattle.fine_model.specs.Nodes.{content}
 use Rattle.node_cache.specs.Cache.{cached}
-use Rattle.partition_hold.specs.Sources.{tells_rows}
+use Rattle.node_fetch.specs.Fetched.{IsReplayOf}
+use Rattle.partition_hold.specs.Sources.{finds_in, tells_rows}
 use Rattle.partition_hold.proofs.SourceLemmas.{copied_there, err_fails, fetch_fails, put_loads}
 use Rattle.partition_hold.proofs.view.View.load.Goals as goal
 
@@ -18,8 +19,9 @@ returns-in-Ok-clause-load g c =
     let old = c.args.bucket.now in
     let done = (c.in-Ok.ensures) in
     let none : is_some (cached old c.args.number) ≡ false = ap is_some (sym c.peek.ensures) ∙ copied_there c.peek.result ∙ sym c.if-is_some.ensures in
-    put_loads (tells_rows c.args.self.now) c.args.self.now.upto c.args.number old _ _ none done.nodes done.here done.elsewhere
+    put_loads (tells_rows c.args.self.now) (finds_in c.args.self.now) c.args.self.now.upto c.args.number old _ _ none done.nodes done.here done.elsewhere
     (record {
       epoch = c.upto.ensures ∙ c.fetch.ensures.same.upto;
-      same = λ rows told whole. c.in_ok-node.ensures.exact rows told ∙ ap (λ b. content rows (record { bucket = b; number = c.args.number })) c.bucket.ensures;
+      found = subst (λ b. IsReplayOf c.args.self.now.eye c.args.self.now.parts (record { bucket = b; number = c.args.number }) (c.in_ok-node.node, c.in_ok-node.version)) c.bucket.ensures c.in_ok-node.ensures.read;
+      same = λ rows told. c.in_ok-node.ensures.exact rows told ∙ ap (λ b. content rows (record { bucket = b; number = c.args.number })) c.bucket.ensures;
     })

@@ -1,0 +1,12 @@
+pub mod Keeping
+pub mod Looking
+pub mod Refreshing
+pub mod Posting
+pub mod Publishing
+pub mod Laws
+pub mod Allowing
+pub mod Numbers
+pub mod Exchanging
+pub mod Opening
+pub mod Ending
+pub mod Trying

@@ -1,0 +1,10 @@
+pub mod Boxes
+pub mod Telling
+pub mod Steps
+pub mod Plays
+pub mod Ends
+pub mod Lists
+pub mod Cells
+pub mod Boxing
+pub mod Placing
+pub mod Trial

@@ -17,7 +17,7 @@ use Rattle.fine_model.proofs.Order.{first_of_both}
 use Rattle.log_partition.specs.Encoding.{FitsRange}
 use Rattle.log_partition.proofs.Sealed.{good_header, sealed_again}
 use Rattle.epoch_room.specs.Partition.{IsArranged}
-use Rattle.epoch_room.proofs.Beside.{not_true}
+use Rattle.epoch_room.proofs.Taken.{not_true}
 use Rattle.epoch_room.proofs.Partitions.{alike, as_many}
 use Rattle.epoch_room.proofs.Torn.{HasClosed, HasOpened}
 

@@ -48,7 +48,7 @@ sealed_room room region = record room {
 -- what a room stands for does not change with the disk's counts and bytes
 module _ (room : RoomState) (disk : Disk) (before told : Told) (first : List Row) (e : ℕ) (history : List Commit) (len : disk.region_len ≡ room.region_len)
     (eyes : map (λ eye. (eye.number, eye.regions)) disk.eyes ≡ room.eyes) (old : StandsTold room before told first e history) where
-  on_stands : StandsTold (on room disk) before told first e history
+  pub on_stands : StandsTold (on room disk) before told first e history
   on_stands =
       let counts = old.stands.counts in
       let live = old.stands.live in

@@ -19,6 +19,7 @@ pub mod NewLog
 pub mod OneRegion
 pub mod Partitions
 pub mod Reading
+pub mod Seating
 pub mod Sorting
 pub mod Standing
 pub mod Taken

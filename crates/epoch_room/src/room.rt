@@ -1,6 +1,6 @@
 //! The room.
 
-ghost use Rattle.std.specs.Prelude.{◌≡◌, ◌+◌, ◌≤◌, true, None, IfOk, IfErr};
+ghost use Rattle.std.specs.Prelude.{◌≡◌, ◌+◌, ◌*◌, ◌≤◌, true, None, replicate, IfOk, IfErr, OnOk, OnErr};
 ghost use Rattle.std.specs.List.{AllByRecursion, list_all};
 ghost use Rattle.fine_model.specs.Boards.{is_empty};
 ghost use Rattle.fine_model.specs.Becomes.{Becomes};
@@ -14,7 +14,7 @@ ghost use Rattle.epoch_room.specs.declared.answers.RoomFault.TheVariants as room
 ghost use Rattle.epoch_room.specs.Value.{made};
 ghost use Rattle.epoch_room.specs.Fitting.{fit_of, counts_of, is_pressed};
 ghost use Rattle.epoch_room.specs.Whole.{AreParts, IsIdle, IsWhole};
-ghost use Rattle.epoch_room.specs.Steps.{appended, retired_from, SealsOr};
+ghost use Rattle.epoch_room.specs.Steps.{appended, retired_from, with_state, SealsOr};
 ghost use Rattle.epoch_room.specs.Meaning.{Keeps, Seals, StandsAtFirst, StandsForMore};
 
 use crate::answers::{Counts, Fit, RoomFault, Stamp};
@@ -266,6 +266,20 @@ impl<D: LogDisk> Room<D> {
                 }
             }
         }
+    }
+
+    /// Three empty buffers for each of so many seats. No view is out. After `NoMemory` the board is as it was.
+    pub fn set_seats(&mut self, seats: u32) -> Result<(), NoMemory>
+        requires some { 1 ≤ seats }
+        requires few { seats ≤ 18 }
+        requires board { list_all is_empty self.old.room.board ≡ true }
+        ensures ok { OnOk result (self.new ≡ with_state self.old (record self.old.room { board = replicate (3 * seats) None })) }
+        ensures err { OnErr result (self.new ≡ self.old) }
+        ensures keeps { Keeps self.old self.new }
+        ensures job { KeepsJob self.old.room self.new.room }
+    {
+        self.board = Board::new(self.alloc, seats)?;
+        Ok(())
     }
 
     /// The live parts in chain order.

@@ -25,3 +25,5 @@ pub mod Standing
 pub mod Taken
 pub mod Torn
 pub mod Touching
+pub mod Viewed
+pub mod Viewing

@@ -1,6 +1,6 @@
 //! The regions of parts, and those beside them.
 
-ghost use Rattle.std.specs.Prelude.{◌≡◌, ◌<◌, ◌^◌, ◌++◌, ◌==◌, not, ◌&&◌, if◌then◌else◌, nat_eq, nat_le, map, find, length, sum_by, take, drop, slice_get, IfOk};
+ghost use Rattle.std.specs.Prelude.{◌≡◌, ◌<◌, ◌^◌, ◌++◌, ◌==◌, not, ◌&&◌, if◌then◌else◌, nat_eq, nat_le, map, find, length, sum_by, take, drop, slice_get, IfOk, OnOk};
 ghost use Rattle.std.specs.List.{AllByRecursion, list_any};
 ghost use Rattle.fine_model.specs.Chain.{regions_of, chain_end};
 ghost use Rattle.epoch_room.specs.Fitting.{one_taken};
@@ -67,6 +67,30 @@ pub fn has_taken(job: &Option<Job>) -> bool
         Some(job) => job.header.is_some(),
         None => false,
     }
+}
+
+/// Puts the regions of a part behind others.
+fn add_regions(out: &mut Vec<u32>, part: &Part) -> Result<(), NoMemory>
+    requires { HasRegions part.now }
+    ensures { OnOk result (out.new.items ≡ out.old.items ++ regions_of part.now) }
+{
+    let behind = usize::from(part.header.regions) - 1;
+    out.push(part.region)?;
+    out.extend_from_slice(&part.header.more[..behind])?;
+    Ok(())
+}
+
+/// All regions of parts, in their order.
+pub fn all_regions(alloc: Global, parts: &Parts) -> Result<Vec<u32>, NoMemory>
+    requires each { AllByRecursion HasRegions parts.now }
+    ensures { IfOk result (λ regions. regions.items ≡ all_regions parts.now) }
+{
+    let slice = parts.as_slice();
+    let mut regions = Vec::new(alloc);
+    for part in slice {
+        add_regions(&mut regions, part)?;
+    }
+    Ok(regions)
 }
 
 /// The sum of the numbers of regions that headers tell.

@@ -1,8 +1,8 @@
 //! The room.
 
-ghost use Rattle.std.specs.Prelude.{◌≡◌, ◌+◌, ◌*◌, ◌≤◌, true, None, replicate, IfOk, IfErr, OnOk, OnErr};
+ghost use Rattle.std.specs.Prelude.{◌≡◌, ◌+◌, ◌*◌, ◌≤◌, true, None, length, replicate, IfOk, IfErr, IsSome, OnOk, OnErr};
 ghost use Rattle.std.specs.List.{AllByRecursion, list_all};
-ghost use Rattle.fine_model.specs.Boards.{is_empty};
+ghost use Rattle.fine_model.specs.Boards.{empty_of, is_empty};
 ghost use Rattle.fine_model.specs.Becomes.{Becomes};
 ghost use Rattle.fine_model.specs.Jobs.{KeepsJob};
 ghost use Rattle.fine_model.specs.Merge.{cost};
@@ -16,16 +16,19 @@ ghost use Rattle.epoch_room.specs.Fitting.{fit_of, counts_of, is_pressed};
 ghost use Rattle.epoch_room.specs.Whole.{AreParts, IsIdle, IsWhole};
 ghost use Rattle.epoch_room.specs.Steps.{appended, retired_from, with_state, SealsOr};
 ghost use Rattle.epoch_room.specs.Meaning.{Keeps, Seals, StandsAtFirst, StandsForMore};
+ghost use Rattle.epoch_room.specs.Views.{MakesView, ViewsLog, ViewsOr};
 
 use crate::answers::{Counts, Fit, RoomFault, Stamp};
 use crate::epoch::OpenEpoch;
 use crate::partition::as_partition;
-use crate::regions::{first_lead, free_regions, has_taken, last_epoch, regions_in, take_target};
+use crate::regions::{
+    all_regions, first_lead, free_regions, has_taken, last_epoch, regions_in, take_target,
+};
 use crate::sealing::seal_region;
 use fine_model::format::{BODY_START, GREATEST};
-use fine_model::{Job, NoMemory, Part, Parts, Range, RoomLaw};
+use fine_model::{Copied, Job, NoMemory, Part, Parts, Range, RoomLaw};
 use log_disk::{DiskRefusal, LogDisk};
-use partition_hold::Board;
+use partition_hold::{Board, View};
 use private_log::PrivateLog;
 use std::alloc::Global;
 use std::collections::VecDeque;
@@ -280,6 +283,58 @@ impl<D: LogDisk> Room<D> {
     {
         self.board = Board::new(self.alloc, seats)?;
         Ok(())
+    }
+
+    /// A view of all live parts for a seat that has an empty buffer: its eye stands in the lowest one, and its rows are those of the log up
+    /// to the last sealed epoch. Until it is taken back no region of these parts is written or erased.
+    ///
+    /// `Disk` comes only where the disk failed in this call, and shuts the room; nothing is lost. After `NoMemory` the room is as it was.
+    pub fn view_for(&mut self, seat: u32) -> Result<View<D::Eye>, RoomFault>
+        requires some { 1 ≤ seat }
+        requires seats { 3 * seat ≤ length self.old.room.board }
+        requires empty { IsSome (empty_of self.old.room.board seat) }
+        ensures room { ViewsOr self.old self.new seat result }
+        ensures log { IfOk result (ViewsLog self.old) }
+        ensures keeps { Keeps self.old self.new }
+        ensures job { KeepsJob self.old.room self.new.room }
+    {
+        self.make_view(seat)
+    }
+
+    /// Makes a view; all that `view_for` says of it, in one clause.
+    fn make_view(&mut self, seat: u32) -> Result<View<D::Eye>, RoomFault>
+        requires some { 1 ≤ seat }
+        requires seats { 3 * seat ≤ length self.old.room.board }
+        requires empty { IsSome (empty_of self.old.room.board seat) }
+        ensures { MakesView self.old self.new seat result }
+    {
+        if self.is_shut {
+            return Err(RoomFault::Shut { epoch: self.sealed });
+        }
+        let region_len = self.disk.region_len();
+        let parts = self.parts.copy()?;
+        let regions = all_regions(self.alloc, &self.parts)?;
+        match self.disk.eye(regions.as_slice()) {
+            Ok(eye) => {
+                let buffer = self.board.post(seat, &eye, regions.as_slice());
+                Ok(View::new(
+                    self.alloc,
+                    eye,
+                    parts,
+                    self.sealed,
+                    seat,
+                    buffer,
+                    region_len,
+                ))
+            }
+            Err(refusal) => match refusal {
+                DiskRefusal::Failed => {
+                    self.is_shut = true;
+                    Err(RoomFault::Disk)
+                }
+                DiskRefusal::NoMemory => Err(RoomFault::NoMemory),
+            },
+        }
     }
 
     /// The live parts in chain order.

@@ -8,7 +8,6 @@ use Rattle.fine_model.specs.declared.Header.{Header}
 use Rattle.fine_model.specs.declared.Job.{Job}
 use Rattle.fine_model.specs.declared.Row.{Row}
 use Rattle.fine_model.specs.declared.Mark.TheVariants as mark
-use Rattle.fine_model.specs.declared.law.RoomState.{RoomState}
 use Rattle.fine_model.specs.Becomes.{Becomes}
 use Rattle.fine_model.specs.Jobs.{KeepsJob, job_left}
 use Rattle.fine_model.specs.RowBytes.{FitsRow}
@@ -17,7 +16,7 @@ use Rattle.fine_model.proofs.Sets.{all_append}
 use Rattle.log_disk.specs.Disk.{Disk}
 use Rattle.epoch_room.specs.Epoch.{Open, with_entry}
 use Rattle.epoch_room.specs.Fitting.{one_taken, taken_once}
-use Rattle.epoch_room.specs.Value.{RoomValue, Kept, value_of, all_regions, regions_outside, taken}
+use Rattle.epoch_room.specs.Value.{RoomValue, Kept, value_of, all_regions, regions_outside}
 use Rattle.epoch_room.specs.Whole.{AreApart, IsJob, IsWhole}
 use Rattle.epoch_room.specs.Steps.{appended}
 use Rattle.epoch_room.proofs.Costs.{cost_together}

@@ -1,19 +1,17 @@
 -- What holds behind each answer of sealing, whether the disk tells its bytes or not.
-use Rattle.std.proofs.Common.{◌≡◌, ◌≢◌, ℕ, ◌+◌, ◌-◌, ◌<◌, ◌≤◌, Bool, true, false, List, [], ◌∷◌, ◌++◌, length, length-append, take, map, Some, None, Err, Ok, Result, ◌||◌, refl, sym, ap, subst, ◌∙◌, inl, inr, arith}
+use Rattle.std.proofs.Common.{◌≡◌, ◌≢◌, ℕ, ◌+◌, ◌-◌, ◌<◌, ◌≤◌, true, false, List, [], ◌∷◌, ◌++◌, length, length-append, take, map, Some, None, Err, Ok, Result, ◌||◌, refl, sym, ap, subst, ◌∙◌, inl, inr, arith}
 use Rattle.std.specs.Prelude.{Option, IfSome, IsErrOf, is_some, nat_eq, option_map, option_to_list, unwrap_or}
-use Rattle.std.specs.List.{AllByRecursion, list_any}
+use Rattle.std.specs.List.{list_any}
 use Rattle.std.proofs.lemmas.List.{take_at}
-use Rattle.fine_model.specs.declared.Header.{Header}
 use Rattle.fine_model.specs.declared.Job.{Job}
-use Rattle.fine_model.specs.declared.Part.{Part}
 use Rattle.fine_model.specs.declared.Row.{Row}
 use Rattle.fine_model.specs.declared.law.RoomState.{RoomState}
 use Rattle.fine_model.specs.Becomes.{Becomes}
-use Rattle.fine_model.specs.Jobs.{KeepsJob, held_for, job_regions, taken_by}
+use Rattle.fine_model.specs.Jobs.{held_for, job_regions, taken_by}
 use Rattle.fine_model.specs.Boards.{set_of}
 use Rattle.fine_model.specs.Merge.{encoded_len}
-use Rattle.fine_model.specs.Regions.{Image, header_of, partition_bytes, region_of}
-use Rattle.fine_model.specs.ChainLaws.{DiffersAt, part_of}
+use Rattle.fine_model.specs.Regions.{Image, partition_bytes, region_of}
+use Rattle.fine_model.specs.ChainLaws.{DiffersAt}
 use Rattle.fine_model.specs.History.{Commit}
 use Rattle.fine_model.proofs.Goings.{becomes_itself, job_itself}
 use Rattle.fine_model.proofs.Nothing.{any_none}
@@ -24,11 +22,10 @@ use Rattle.log_disk.specs.declared.refusal.DiskRefusal.TheVariants as refusal
 use Rattle.log_disk.specs.Moments.{Continues, ContinuesOn, IsLeft, LeavesOnly}
 use Rattle.log_disk.proofs.Moments.{now_since, only_now, synced_now}
 use Rattle.log_disk.proofs.Times.{continued_later, continues_none}
-use Rattle.epoch_room.specs.Epoch.{Open, empty}
 use Rattle.epoch_room.specs.Gate.{gate, IsBehind, IsSealing, KeepsBeside, LeavesBehind, LeavesSealing, DirtiesOnly, HasBytes}
 use Rattle.epoch_room.specs.Meaning.{Keeps, Seals, ShownInside, Stands, StandsWhere}
 use Rattle.epoch_room.specs.Partition.{IsArranged}
-use Rattle.epoch_room.specs.Steps.{Does, Fails, KeepsCounts, SealsOr, Shuts, Steps, next_part, sealed_state, shut_state}
+use Rattle.epoch_room.specs.Steps.{Does, SealsOr, next_part, sealed_state}
 use Rattle.epoch_room.specs.Value.{RoomValue, Kept, value_of, on}
 use Rattle.epoch_room.specs.Whole.{HoldsParts, IsWhole}
 use Rattle.epoch_room.specs.declared.answers.RoomFault.{RoomFault}

@@ -1,23 +1,23 @@
 -- The open eyes name regions of parts alone, so what is written beside the parts changes nothing of what they show.
-use Rattle.std.proofs.Common.{◌≡◌, ℕ, zero, suc, ◌+◌, ◌<◌, ◌≤◌, Bool, true, false, ◌||◌, List, [], ◌∷◌, ◌++◌, length, map, Some, None, refl, sym, ap, subst, ◌∙◌, arith, true≢false}
-use Rattle.std.specs.Prelude.{Option, nat_eq, option_map, Any, All, Contains, filter, not}
+use Rattle.std.proofs.Common.{◌≡◌, ℕ, zero, suc, Bool, true, false, ◌||◌, List, [], ◌∷◌, ◌++◌, length, map, Some, None, refl, sym, ap, subst, ◌∙◌, arith, true≢false}
+use Rattle.std.specs.Prelude.{Option, nat_eq, option_map, Any, Contains}
 use Rattle.std.specs.List.{AllByRecursion, list_any, range_with_len}
-use Rattle.std.proofs.lemmas.Bool.{or_parts, or_left, or_right}
+use Rattle.std.proofs.lemmas.Bool.{or_right}
 use Rattle.std.proofs.lemmas.List.Elements.{All-contains, All-from_recursion, recursion_from_All}
 use Rattle.std.proofs.lemmas.List.Folds.{list_any-append}
 use Rattle.std.proofs.lemmas.List.Sorted.{All-permutation}
-use Rattle.std.proofs.lemmas.Map.Views.{list_any-from_Contains, Contains-from_any}
+use Rattle.std.proofs.lemmas.Map.Views.{list_any-from_Contains}
 use Rattle.fine_model.specs.declared.Part.{Part}
 use Rattle.fine_model.specs.declared.law.OpenedEye.{OpenedEye}
 use Rattle.fine_model.specs.declared.law.RoomState.{RoomState}
-use Rattle.fine_model.specs.Boards.{Buffer, regions_by, set_of, posted, named, held_of}
+use Rattle.fine_model.specs.Boards.{regions_by, set_of, posted, named, held_of}
 use Rattle.fine_model.specs.Chain.{regions_of}
 use Rattle.fine_model.specs.Regions.{Image, region_of}
 use Rattle.fine_model.specs.Views.{SameSeen}
-use Rattle.fine_model.proofs.Nothing.{all_mapped, all_at, any_none}
+use Rattle.fine_model.proofs.Nothing.{all_mapped, all_at}
 use Rattle.fine_model.proofs.Order.{all_map}
 use Rattle.fine_model.proofs.Sets.{all_pass}
-use Rattle.log_disk.specs.Disk.{Told, Disk, OpenEye, BothTold, IsUnseen, IsToldOf}
+use Rattle.log_disk.specs.Disk.{Told, Disk, OpenEye, BothTold, IsUnseen}
 use Rattle.epoch_room.specs.Value.{all_regions}
 use Rattle.epoch_room.specs.Whole.{AreOnBoard, NamesWhole}
 use Rattle.epoch_room.proofs.Freeing.{nat_alike}

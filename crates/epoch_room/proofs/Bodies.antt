@@ -1,5 +1,5 @@
 -- What the body of a part holds depends on the part's regions alone.
-use Rattle.std.proofs.Common.{◌≡◌, ℕ, Bool, false, List, [], ◌∷◌, ◌++◌, drop, take, Some, None, refl, sym, ap, ◌∙◌, length}
+use Rattle.std.proofs.Common.{◌≡◌, ℕ, false, List, [], ◌∷◌, ◌++◌, drop, take, Some, None, refl, ap, ◌∙◌}
 use Rattle.std.specs.Prelude.{Option, flat_map, nat_eq, option_map}
 use Rattle.std.specs.List.{AllByRecursion, list_any}
 use Rattle.fine_model.specs.declared.Header.{Header}

@@ -1,15 +1,13 @@
 -- A room behind each answer of sealing.
-use Rattle.std.proofs.Common.{◌≡◌, ◌⊎◌, ℕ, zero, suc, ◌+◌, ◌*◌, ◌%◌, ◌<◌, ◌≤◌, Bool, true, false, not, ◌||◌, List, [], ◌∷◌, ◌++◌, length, map, Some, None, refl, sym, ap, subst, ◌∙◌, inl, inr, arith, append_assoc, eq-eqb}
-use Rattle.std.specs.Prelude.{Option, filter, fold, nat_eq, option_map, option_to_list, take, IfSome, All, Any, Contains, IsPermutation, IsTrue}
+use Rattle.std.proofs.Common.{◌≡◌, ℕ, zero, suc, ◌+◌, ◌*◌, ◌%◌, ◌<◌, ◌≤◌, true, false, not, ◌||◌, List, [], ◌∷◌, ◌++◌, length, map, Some, None, refl, sym, ap, subst, ◌∙◌, inl, inr, arith, append_assoc, eq-eqb}
+use Rattle.std.specs.Prelude.{Option, fold, nat_eq, option_map, option_to_list, IfSome, All, Any, Contains, IsPermutation, IsTrue}
 use Rattle.std.specs.List.{AllByRecursion, list_any}
 use Rattle.std.proofs.lemmas.Bool.{le-leb, or_parts}
-use Rattle.std.proofs.lemmas.List.Elements.{All-contains, All-from_recursion}
+use Rattle.std.proofs.lemmas.List.Elements.{All-contains}
 use Rattle.std.proofs.lemmas.List.Folds.{list_any-append}
 use Rattle.std.proofs.lemmas.List.Sums.{fold-append}
 use Rattle.std.proofs.lemmas.Map.Views.{list_any-from_Contains}
 use Rattle.std.proofs.lemmas.Option.{IfSome_then}
-use Rattle.fine_model.specs.declared.Header.{Header}
-use Rattle.fine_model.specs.declared.Job.{Job}
 use Rattle.fine_model.specs.declared.Part.{Part}
 use Rattle.fine_model.specs.declared.law.OpenedEye.{OpenedEye}
 use Rattle.fine_model.specs.RowBytes.{greatest, rows_len}
@@ -22,25 +20,25 @@ use Rattle.fine_model.specs.Jobs.{job_left, job_regions}
 use Rattle.fine_model.specs.Merge.{nodes_in}
 use Rattle.fine_model.specs.Regions.{header_of}
 use Rattle.fine_model.specs.Views.{SameSeen}
-use Rattle.fine_model.proofs.Nothing.{all_at, any_none}
+use Rattle.fine_model.proofs.Nothing.{any_none}
 use Rattle.fine_model.proofs.Order.{all_map, filter_all}
 use Rattle.fine_model.proofs.Sets.{all_append}
-use Rattle.fine_model.proofs.Times.{times, times-append, times-none, times_absent, absent_times}
+use Rattle.fine_model.proofs.Times.{times, times-append}
 use Rattle.partition_index.specs.Parts.{LiesIn}
-use Rattle.log_disk.specs.Disk.{Disk, Told, BothTold, HasRisen, SameBeside, IsSound, IsToldOf, last_count, region_of}
+use Rattle.log_disk.specs.Disk.{Disk, Told, BothTold, HasRisen, SameBeside, IsSound, IsToldOf, region_of}
 use Rattle.log_disk.specs.Moments.{ContinuesOn, IsLeft}
 use Rattle.log_disk.proofs.Times.{continues_then}
-use Rattle.epoch_room.specs.Epoch.{Open, empty}
+use Rattle.epoch_room.specs.Epoch.{empty}
 use Rattle.epoch_room.specs.Gate.{DirtiesOnly, KeepsBeside}
-use Rattle.epoch_room.specs.Value.{RoomValue, Kept, all_regions, regions_outside, taken, value_of}
+use Rattle.epoch_room.specs.Value.{Kept, all_regions, regions_outside, taken, value_of}
 use Rattle.epoch_room.specs.Whole.{AreApart, AreOnBoard, FollowOn, HasEntry, HasGeometry, HoldsParts, IsJob, IsTaken, IsWhole, NamesWhole}
-use Rattle.epoch_room.proofs.Beside.{regions_together, any_together}
+use Rattle.epoch_room.proofs.Beside.{regions_together}
 use Rattle.epoch_room.proofs.Boarding.{AreAlike, AreBeside, one_beside, still_shows, unnamed_posted}
 use Rattle.epoch_room.proofs.Costs.{cost_none}
 use Rattle.epoch_room.proofs.Counting.{all_front, all_back}
 use Rattle.epoch_room.proofs.Freeing.{all_left, nat_alike}
 use Rattle.epoch_room.proofs.Longer.{range_of}
-use Rattle.epoch_room.proofs.Taken.{SameTimes, same_apart, same_outside, apart_front, apart_back, other_list}
+use Rattle.epoch_room.proofs.Taken.{SameTimes, same_apart, same_outside, other_list}
 
 -- ---- ranges
 

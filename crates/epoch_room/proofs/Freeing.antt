@@ -1,7 +1,7 @@
 -- What is free in a room is free in the image of its disk.
 use Rattle.std.proofs.Common.{◌≡◌, ℕ, zero, suc, ◌+◌, ◌<◌, ◌≤◌, Bool, true, false, cond, not, ◌&&◌, ◌||◌, List, [], ◌∷◌, ◌++◌, length, Some, None, refl, sym, ap, subst, ◌∙◌, inl, inr, arith, eq-eqb, length-append}
 use Rattle.std.specs.Prelude.{Option, filter, nat_eq, option_map, option_to_list, IfSome}
-use Rattle.std.specs.List.{AllByRecursion, list_any, range_with_len, IsDistinct}
+use Rattle.std.specs.List.{AllByRecursion, list_any, range_with_len}
 use Rattle.std.specs.Cmp.{IsEquivalence}
 use Rattle.std.proofs.lemmas.Bool.{eqb-true, cases_lt, or_right, or_parts}
 use Rattle.std.proofs.lemmas.List.Folds.{list_any-append}
@@ -15,11 +15,11 @@ use Rattle.fine_model.specs.Jobs.{job_left, job_regions, taken_by}
 use Rattle.fine_model.specs.Trees.{is_distinct}
 use Rattle.fine_model.proofs.Nothing.{none_any, all_at}
 use Rattle.fine_model.proofs.Order.{all_map, filter_all}
-use Rattle.fine_model.proofs.Times.{times, times-append, distinct_times, times_distinct, absent_times, times_absent}
-use Rattle.log_disk.specs.Disk.{Told, Disk, IsToldOf, IsImageNow}
+use Rattle.fine_model.proofs.Times.{times, times-append, distinct_times, times_distinct, absent_times}
+use Rattle.log_disk.specs.Disk.{Told, IsToldOf}
 use Rattle.log_disk.specs.Moments.{IsLeft}
 use Rattle.epoch_room.specs.Fitting.{one_taken, taken_once}
-use Rattle.epoch_room.specs.Value.{RoomValue, all_regions, taken, regions_outside}
+use Rattle.epoch_room.specs.Value.{RoomValue, all_regions, taken}
 use Rattle.epoch_room.specs.Whole.{AreRising, AreApart, HoldsParts, IsWhole}
 use Rattle.epoch_room.proofs.Beside.{distinct_from}
 use Rattle.epoch_room.proofs.Holding.{free_of}

@@ -1,14 +1,13 @@
 -- Which regions are taken and which are left depends on how often each stands in a list alone.
-use Rattle.std.proofs.Common.{◌≡◌, ◌⊎◌, ℕ, zero, suc, ◌+◌, ◌<◌, ◌≤◌, Bool, true, false, cond, not, ◌&&◌, ◌||◌, List, [], ◌∷◌, ◌++◌, length, refl, sym, ap, subst, ◌∙◌, inl, inr, arith, eq-eqb, true≢false, leb}
+use Rattle.std.proofs.Common.{◌≡◌, ℕ, zero, suc, ◌+◌, ◌<◌, ◌≤◌, Bool, true, false, cond, not, ◌&&◌, ◌||◌, List, [], ◌∷◌, ◌++◌, refl, sym, ap, subst, ◌∙◌, inl, inr, arith, eq-eqb, true≢false}
 use Rattle.std.specs.Prelude.{filter, nat_eq}
 use Rattle.std.specs.List.{AllByRecursion, list_any, range_with_len}
-use Rattle.std.proofs.lemmas.Bool.{eqb-true}
 use Rattle.std.proofs.lemmas.Bool.Decides.{leb_tells}
 use Rattle.fine_model.specs.Trees.{is_distinct}
 use Rattle.fine_model.proofs.Nothing.{all_at}
 use Rattle.fine_model.proofs.Order.{all_map, filter_all}
 use Rattle.fine_model.proofs.Sets.{all_filter, all_pass}
-use Rattle.fine_model.proofs.Times.{times, times-append, times-cons, times-none, absent_times, times_absent, distinct_times, times_distinct, below_times, times_below}
+use Rattle.fine_model.proofs.Times.{times, times-append, absent_times, times_absent, distinct_times, times_distinct, below_times, times_below}
 use Rattle.epoch_room.specs.Value.{regions_outside}
 use Rattle.epoch_room.specs.Whole.{AreApart, AreRising}
 

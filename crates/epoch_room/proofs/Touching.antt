@@ -1,9 +1,9 @@
 -- What calls of a disk touch: which regions become unsynced, and where a read gives the same.
-use Rattle.std.proofs.Common.{◌≡◌, ◌≢◌, ◌⊎◌, ℕ, zero, suc, ◌+◌, Bool, true, false, Result, Err, List, [], ◌∷◌, ◌++◌, length, refl, sym, ap, subst, ◌∙◌, inl, inr, arith, true≢false, eq-eqb}
+use Rattle.std.proofs.Common.{◌≡◌, ◌≢◌, ◌⊎◌, ℕ, zero, suc, ◌+◌, true, false, Result, Err, List, [], ◌∷◌, ◌++◌, length, refl, sym, ap, subst, ◌∙◌, inl, inr, arith, true≢false, eq-eqb}
 use Rattle.std.specs.Prelude.{nat_eq, All, Contains, ◌||◌}
 use Rattle.std.specs.List.{list_any}
 use Rattle.std.proofs.lemmas.List.Elements.{All-append, All-contains, All-contains_itself}
-use Rattle.log_disk.specs.Disk.{Told, Disk, BothTold, HasSynced, SameOutside, region_of, Writes, Syncs}
+use Rattle.log_disk.specs.Disk.{Told, Disk, HasSynced, SameOutside, region_of, Writes, Syncs}
 use Rattle.log_disk.proofs.Steps.{both_same, both_weaker, both_then}
 use Rattle.log_disk.specs.Moments.{ContinuesOn}
 use Rattle.log_disk.specs.declared.refusal.DiskRefusal.{DiskRefusal}

@@ -1,17 +1,14 @@
 -- What holds behind each answer of making a view.
-use Rattle.std.proofs.Common.{◌≡◌, ◌⊎◌, ℕ, ◌+◌, ◌*◌, ◌<◌, ◌≤◌, Bool, true, false, List, [], ◌∷◌, ◌++◌, length, map, Some, None, Ok, Err, Result, refl, sym, ap, subst, ◌∙◌, inl, inr, arith, true≢false}
-use Rattle.std.specs.Prelude.{Option, IfOk, IfSome, All, Contains, IsPermutation, IsTrue, nat_eq, option_map, option_to_list, slice_set, ◌||◌}
+use Rattle.std.proofs.Common.{◌≡◌, ℕ, ◌<◌, true, false, List, [], ◌∷◌, ◌++◌, length, map, Some, None, Ok, Err, refl, sym, ap, subst, ◌∙◌, inl, inr, arith, true≢false}
+use Rattle.std.specs.Prelude.{Option, IfSome, All, Contains, IsPermutation, IsTrue, nat_eq, option_map, option_to_list, slice_set, ◌||◌}
 use Rattle.std.specs.List.{AllByRecursion, list_any, range_with_len}
 use Rattle.std.proofs.lemmas.List.{length-set, map-append}
 use Rattle.std.proofs.lemmas.List.Elements.{All-contains, All-from_recursion}
 use Rattle.std.proofs.lemmas.List.Folds.{list_any-append}
 use Rattle.fine_model.specs.declared.Part.{Part}
-use Rattle.fine_model.specs.declared.Row.{Row}
 use Rattle.fine_model.specs.declared.law.OpenedEye.{OpenedEye}
-use Rattle.fine_model.specs.declared.law.RoomState.{RoomState}
 use Rattle.fine_model.specs.Boards.{Buffer, buffer_at, empty_of, posted, named, held_of, regions_by, set_of}
 use Rattle.fine_model.specs.Chain.{AreRowsOf, regions_of}
-use Rattle.fine_model.specs.History.{Commit}
 use Rattle.fine_model.specs.Jobs.{job_left}
 use Rattle.fine_model.specs.Regions.{Image, HasHeader, region_of}
 use Rattle.fine_model.specs.Trees.{is_distinct}
@@ -27,10 +24,9 @@ use Rattle.log_disk.specs.Moments.{Continues, IsLeft}
 use Rattle.log_disk.proofs.Sound.{sound_failure, sound_opens}
 use Rattle.log_disk.proofs.Times.{continues_told}
 use Rattle.epoch_room.specs.Meaning.{Stands, StandsWhere}
-use Rattle.epoch_room.specs.Steps.{shut_state}
-use Rattle.epoch_room.specs.Value.{RoomValue, Kept, all_regions, on, taken, value_of}
+use Rattle.epoch_room.specs.Value.{RoomValue, Kept, all_regions, on, value_of}
 use Rattle.epoch_room.specs.Views.{AgreesUpTo, MakesView, ViewsLog, ViewsOr}
-use Rattle.epoch_room.specs.Whole.{AreApart, AreOnBoard, HoldsParts, IsWhole, NamesWhole}
+use Rattle.epoch_room.specs.Whole.{AreOnBoard, HoldsParts, IsWhole, NamesWhole}
 use Rattle.epoch_room.specs.declared.answers.RoomFault.{RoomFault}
 use Rattle.epoch_room.specs.declared.answers.RoomFault.TheVariants as room_fault
 use Rattle.epoch_room.proofs.Behind.{keeps_none}

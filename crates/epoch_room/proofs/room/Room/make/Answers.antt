@@ -1,6 +1,6 @@
 use Rattle.std.proofs.Common.{◌≡◌, ◌-◌, ◌++◌, ap, ◌∙◌, subst, sym, None, false, [], arith}
 use Rattle.epoch_room.specs.Epoch.{Open, empty}
-use Rattle.epoch_room.specs.Value.{RoomValue, value_of, regions_outside, all_regions, made}
+use Rattle.epoch_room.specs.Value.{value_of, regions_outside, all_regions}
 use Rattle.epoch_room.specs.Whole.{IsWhole}
 use Rattle.epoch_room.proofs.Standing.{made_stands, made_whole}
 use Rattle.epoch_room.proofs.room.Room.make.Goals as goal

@@ -1,14 +1,13 @@
-use Rattle.std.proofs.Common.{◌≡◌, ◌<◌, ℕ, List, Some, None, Ok, Err, Result, refl, sym, subst, ap, ◌∙◌, true, false}
-use Rattle.std.specs.Prelude.{All, Contains, option_to_list, slice_set}
+use Rattle.std.proofs.Common.{◌≡◌, ◌<◌, List, Some, Ok, Err, Result, refl, sym, subst, ap, ◌∙◌, true, false}
+use Rattle.std.specs.Prelude.{All, Contains, option_to_list}
 use Rattle.std.specs.List.{AllByRecursion}
 use Rattle.std.proofs.lemmas.List.Elements.{All-from_recursion}
 use Rattle.std.proofs.lemmas.Result.{err_from_is_err_and}
-use Rattle.fine_model.specs.declared.Part.{Part}
-use Rattle.fine_model.specs.Boards.{Buffer, buffer_at, empty_of}
+use Rattle.fine_model.specs.Boards.{Buffer, empty_of}
 use Rattle.log_disk.specs.Disk.{Disk, Opens}
 use Rattle.log_disk.specs.declared.refusal.DiskRefusal.{DiskRefusal}
 use Rattle.partition_index.specs.Parts.{IsSeen}
-use Rattle.partition_hold.specs.Views.{ViewValue, opened}
+use Rattle.partition_hold.specs.Views.{ViewValue}
 use Rattle.epoch_room.specs.Value.{RoomValue, Kept, all_regions, value_of}
 use Rattle.epoch_room.specs.Views.{MakesView}
 use Rattle.epoch_room.specs.Whole.{IsWhole}

@@ -1,6 +1,6 @@
 -- How a call of the program ends, and what it prints then.
 use Rattle.std.specs.Prelude.{◌≡◌, ◌⊎◌, ℕ, ◌≤◌, List, [], ◌∷◌, ◌++◌, if◌then◌else◌, Option, Some, None, Err, Ok, ⊤}
-use Rattle.std.specs.List.{AllByRecursion, list_any}
+use Rattle.std.specs.List.{list_any}
 use Rattle.log_disk.specs.Disk.{Disk, Told, HasRisen, SameBeside, OnlyFails, IsImageNow, IsImageSince, clock_of}
 use Rattle.fine_model.specs.declared.Row.{Row}
 use Rattle.fine_model.specs.declared.ScriptTxn.{ScriptTxn}

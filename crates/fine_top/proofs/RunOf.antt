@@ -62,7 +62,7 @@ module _ (disk : Disk) (parts retired : List Part) (new : RoomValue) (leaves aft
       (have_causes disk.region_len e rows last.bytes script done (length script - length done) ran.durable r.runs_to.numbered (IsFull new) (IsSpent new)
       (r.runs_to.refused before is_before rows e [] (stands_first first loaded before e rows is_before shows sound))
       (λ f. record {
-        few_free = full_free new last whole f is_last (is_told new.disk.told last is_last sound_disk.told);
+        few_free = full_free new last whole r.runs_to.place.job f is_last (is_told new.disk.told last is_last sound_disk.told);
         all_durable = r.durable ∙ all_sealed e (commits_of done) new.room.sealed st.stands.counts.sealed (sym f.none_waits ∙ st.waiting);
       })
       (spent r))

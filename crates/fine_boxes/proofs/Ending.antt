@@ -59,6 +59,7 @@ module _ {T X N : Type 0} (seats : X → ℕ) (view : T → Option ViewState) (b
           within = q.within;
           front = q.front;
           marks = q.marks;
+          first = q.first;
           upto = subst (λ (u : ViewState). u.upto ≤ sealed h.thing) q.front (o.below q.i q.within).0;
           emptied = λ e. let b = r.each_box q.i q.within in
               subst (λ (j : ℕ). get_elem? slots (slot q.i j) ≡ some None) (sym b.front_at.buffer ∙ ap (λ (u : ViewState). u.buffer) q.front) (homes (slot q.i (r.cells q.i).front) None (q.emptied e));

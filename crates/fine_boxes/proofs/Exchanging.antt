@@ -44,6 +44,7 @@ module _ {T X N : Type 0} (legal : X → List (Placed N) → Type 0) (touches : 
         later = t.later;
         reaches = t.reaches;
         sees = t.sees;
+        on_board = t.on_board;
       }
 
   -- ---- posting

@@ -9,3 +9,4 @@ pub mod Numbers
 pub mod Exchanging
 pub mod Opening
 pub mod Ending
+pub mod Trying

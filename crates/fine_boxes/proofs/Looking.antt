@@ -1,5 +1,5 @@
 -- A seat looks at its mailbox, and puts the empty slot of its front home.
-use Rattle.std.proofs.Common.{◌≡◌, ◌≢◌, ℕ, suc, ◌+◌, ◌*◌, ◌<◌, ◌≤◌, List, [], ◌∷◌, map, length, slice_index, set, Bool, true, false, Option, None, sum_by, sym, refl, ap, ◌∙◌, subst, inl, inr, ⊎_elim, arith, le_refl, length-set, true≢false}
+use Rattle.std.proofs.Common.{slice_get, Some, ◌≡◌, ◌≢◌, ℕ, suc, ◌+◌, ◌*◌, ◌<◌, ◌≤◌, List, [], ◌∷◌, map, length, slice_index, set, Bool, true, false, Option, None, sum_by, sym, refl, ap, ◌∙◌, subst, inl, inr, ⊎_elim, arith, le_refl, length-set, true≢false}
 use Rattle.std.proofs.lemmas.List.{set-get_or}
 use Rattle.std.specs.List.{AllByRecursion}
 use mathlib.Core.Option.{some, none}
@@ -16,12 +16,14 @@ use Rattle.fine_places.specs.Places.{Holds, Homes, Emptied, knowing}
 use Rattle.fine_places.specs.Telling.{Sees}
 use Rattle.fine_places.specs.Beside.{Around, GoesBeside}
 use Rattle.fine_boxes.specs.declared.model.BoxNote.{BoxNote}
+use Rattle.fine_boxes.specs.declared.model.TurnNote.{TurnNote}
 use Rattle.fine_boxes.specs.declared.model.Reads.{Reads}
 use Rattle.fine_boxes.specs.Boxes.{Cell, NoteOk, Keeps, bit, mailbox, slot, given_by, given_of}
-use Rattle.fine_boxes.specs.Telling.{with_note, looking, landing, Looked}
+use Rattle.fine_boxes.specs.Telling.{IsNamed, with_note, looking, landing, Looked}
 use Rattle.fine_boxes.specs.Steps.{LooksStep, LandsStep}
+use Rattle.fine_boxes.specs.Placing.{own_turn}
 use Rattle.fine_boxes.specs.Lists.{decide, bool_cases, sum_same}
-use Rattle.fine_boxes.specs.Cells.{slot_behind, slot_within, seats_apart, buffers_apart}
+use Rattle.fine_boxes.specs.Cells.{named_front, slot_behind, slot_within, seats_apart, buffers_apart}
 use Rattle.fine_boxes.specs.Boxing.{NoteHere, box_changed, note_here, notes_owned, turn_homes}
 use Rattle.fine_boxes.proofs.Keeping.{boxes_moved}
 
@@ -75,10 +77,20 @@ module _ {T X N : Type 0} (seats : X → ℕ) (view : T → Option ViewState) (b
       (λ t _ q. turn_homes (seats x) returned p r.cells log s.homes hs (given_by s.views) (given_by (set s.views id w)) t backs_stay total q)
       (record {
         numbers = ap (map (λ m. m.seat)) notes ∙ (ap (λ n. n ∷ []) seat ∙ (ap (map (λ m. m.seat)) (sym is) ∙ (k.numbers ∙ ap (map (λ s. s.seat)) (sym shares))));
-        notes = subst (AllByRecursion (NoteOk (seats x) above r.cells log hs)) (sym notes) (record { i = i; number = seat ∙ number; within = now.within; front = now.front; found = now.found; marks = now.marks; emptied = now.emptied }, tt);
+        notes = subst (AllByRecursion (NoteOk (seats x) above r.cells log hs)) (sym notes) (record { i = i; number = seat ∙ number; within = now.within; front = now.front; found = now.found; marks = now.marks; first = now.first; emptied = now.emptied }, tt);
         turning = λ h. let q = k.turning (subst (λ (l : List Bool). get_elem? l room ≡ some true) held h) in
             record { turn = q.turn; is = ap (λ (y : Reads N). y.turn) beside ∙ q.is; ok = turn_homes (seats x) returned p r.cells log s.homes hs (given_by s.views) (given_by (set s.views id w)) q.turn backs_stay total q.ok };
       })
+
+  -- in a turn of the seat the board names its front
+  pub front_named : (p : ℕ) (log : List (Placed N)) (s : St) (r : Kept p log s) (id : ℕ) (v : View X N (Reads N)) → get_elem? s.views id ≡ some v → Holds v.places room → (t : TurnNote) → v.beside.turn ≡ Some t
+      → (m : BoxNote N) (i : ℕ) → NoteHere (seats x) above r.cells log s.homes i m → IsNamed t i m.front
+  front_named p log s r id v at held t turn m i o =
+      let q = own_turn seats view board sealed backs shows above returned x p log s r id v at held t turn in
+      let d : Cell = r.cells i in
+      let b = r.each_box i o.within in
+      let names : slice_get t.board (3 * i + d.shown.buffer) ≡ Some (Some d.shown.eye) = ap (λ j. slice_get t.board (3 * i + j)) b.front_at.buffer ∙ (q.names i d.front o.within b.apart.front_in ∙ ap Some (named_front d d.front refl)) in
+      subst (IsNamed t i) o.front (names, (q.below i o.within).0)
 
   module _ (legal : X → List (Placed N) → Type 0) (touches : ℕ → N → Bool) (slots id : ℕ) where
     pub looks : LooksStep (Keeps seats view board sealed backs shows above returned) legal touches seats view shows x slots id
@@ -97,6 +109,7 @@ module _ {T X N : Type 0} (seats : X → ℕ) (view : T → Option ViewState) (b
           beside = refl;
           sees = λ z q. subst (λ (y : X). Sees legal touches y p v.places log × (fresh ≡ false → shows y log m.front × (p ≤ m.front.upto))) (sym (about z q))
               (sees, λ stale. (subst (shows x log) o.front b.front_shows, subst (λ (u : ViewState). p ≤ u.upto) o.front (b.reaches.stale (e ∙ stale))));
+          on_board = λ t j held turn own. front_named p log s r id v at held t turn m j (own_note p log s r id v at m j is own);
         } in
         ⊎_elim
         (λ (fresh : d.fresh ≡ true).
@@ -110,7 +123,7 @@ module _ {T X N : Type 0} (seats : X → ℕ) (view : T → Option ViewState) (b
           empty,
           front_moved p log s r a id v w at m (looking m true) i is number (set s.homes home none) (length-set s.homes home none)
               (λ k ne. set_else s.homes home k none (λ e. ne (e ∙ ap (slot i) buffer))) refl refl refl refl refl
-              (record { within = o.within; front = o.front; found = λ _. fresh; marks = o.marks; emptied = λ e. absurd (true≢false e) }),
+              (record { within = o.within; front = o.front; found = λ _. fresh; marks = o.marks; first = o.first; emptied = λ e. absurd (true≢false e) }),
           (d.middle, true, b.word ∙ ap (λ f. 2 * d.middle + bit f) fresh, b.apart.middle_in, tell true fresh, refl),
         ))
         (λ (stale : d.fresh ≡ false).
@@ -122,7 +135,7 @@ module _ {T X N : Type 0} (seats : X → ℕ) (view : T → Option ViewState) (b
           tt,
           tt,
           front_moved p log s r a id v w at m (looking m false) i is number s.homes refl (λ k _. refl) refl refl refl refl refl
-              (record { within = o.within; front = o.front; found = λ e. absurd (true≢false (sym e)); marks = o.marks; emptied = λ _. o.emptied inside }),
+              (record { within = o.within; front = o.front; found = λ e. absurd (true≢false (sym e)); marks = o.marks; first = o.first; emptied = λ _. o.emptied inside }),
           (d.middle, false, b.word ∙ ap (λ f. 2 * d.middle + bit f) stale, b.apart.middle_in, tell false stale, refl),
         ))
         (bool_cases d.fresh)
@@ -144,6 +157,6 @@ module _ {T X N : Type 0} (seats : X → ℕ) (view : T → Option ViewState) (b
           tt,
           front_moved p log s r a id v w at m (landing m) i is number (set s.homes home (some None)) (length-set s.homes home (some None))
               (λ k ne. set_else s.homes home k (some None) (λ e. ne (e ∙ ap (slot i) buffer))) refl refl refl refl refl
-              (record { within = o.within; front = o.front; found = o.found; marks = o.marks; emptied = λ _. ap (λ j. get_elem? (set s.homes home (some None)) (slot i j)) (sym buffer) ∙ set_here s.homes home (some None) near }),
+              (record { within = o.within; front = o.front; found = o.found; marks = o.marks; first = o.first; emptied = λ _. ap (λ j. get_elem? (set s.homes home (some None)) (slot i j)) (sym buffer) ∙ set_here s.homes home (some None) near }),
           (refl, refl),
         )

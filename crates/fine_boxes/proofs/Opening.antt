@@ -144,6 +144,7 @@ module _ {T X N : Type 0} (seats : X → ℕ) (fronts : X → List ViewState) (v
         front = by_seat (λ j c. j ≡ i → c.shown ≡ f) (λ j s q. some-injective s.front f (sym s.is_front ∙ (ap (get_elem? (fronts x)) q ∙ e))) i lt refl;
         found = λ q. absurd (true≢false (sym q));
         marks = ((record { more = []; is_front = refl; later = tt }, le_refl f.upto), tt);
+        first = ([], [], refl);
         emptied = λ _. by_seat (λ j c. get_elem? homes (slot j c.front) ≡ some (some None)) (λ j s. at_map some slots (slot j 0) None s.empty.0) i lt;
       }
 

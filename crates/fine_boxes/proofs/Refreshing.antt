@@ -1,5 +1,5 @@
 -- A seat exchanges its front and its middle.
-use Rattle.std.proofs.Common.{◌≡◌, ◌≢◌, ℕ, suc, ◌+◌, ◌*◌, ◌<◌, ◌≤◌, List, [], map, length, set, Bool, true, false, Option, Some, sum_by, sym, refl, ap, ◌∙◌, subst, arith, le_refl, length-set, true≢false, get_or-set_same, append-nil}
+use Rattle.std.proofs.Common.{slice_get, ◌≡◌, ◌≢◌, ℕ, suc, ◌+◌, ◌*◌, ◌<◌, ◌≤◌, List, [], map, length, set, Bool, true, false, Option, Some, sum_by, sym, refl, ap, ◌∙◌, subst, arith, le_refl, length-set, true≢false, get_or-set_same, append-nil}
 use mathlib.Core.Option.{some, none}
 use lib.ListN.{get_elem?}
 use Rattle.atomic_table.specs.Table.{gives, takes, chain}
@@ -14,10 +14,11 @@ use Rattle.fine_places.specs.Telling.{Sees}
 use Rattle.fine_boxes.specs.declared.model.TurnNote.{TurnNote}
 use Rattle.fine_boxes.specs.declared.model.Reads.{Reads}
 use Rattle.fine_boxes.specs.Boxes.{Cell, Apart, BoxOk, TurnOk, Keeps, ShowsAnyway, bit, mailbox, slot, given_by, given_of}
-use Rattle.fine_boxes.specs.Telling.{with_note, refreshing}
+use Rattle.fine_boxes.specs.Telling.{IsNamed, with_note, refreshing}
 use Rattle.fine_boxes.specs.Steps.{SwapsStep}
+use Rattle.fine_boxes.specs.Placing.{own_turn}
 use Rattle.fine_boxes.specs.Lists.{all_map, sum_set, sum_below_put}
-use Rattle.fine_boxes.specs.Cells.{put, put_here, put_else, slot_behind, slot_within, seats_apart, buffers_apart, box_within, named_swapped}
+use Rattle.fine_boxes.specs.Cells.{put, put_here, put_else, slot_behind, slot_within, seats_apart, buffers_apart, box_within, named_middle, named_swapped}
 use Rattle.fine_boxes.specs.Boxing.{mark_later, turn_put}
 use Rattle.fine_boxes.proofs.Keeping.{boxes_moved}
 use Rattle.fine_boxes.proofs.Looking.{own_note, no_other, sees_all}
@@ -130,6 +131,7 @@ module _ {T X N : Type 0} (seats : X → ℕ) (view : T → Option ViewState) (b
                     front = ap (λ (e : Cell). e.shown) (put_here r.cells i i (swapped d was) refl);
                     found = λ e. absurd (true≢false (sym e));
                     marks = ((record { more = []; is_front = sym (append-nil log); later = tt }, le_refl new.upto), all_map (mark_later above log m.front.upto new.upto up) m.marks o.marks);
+                    first = (log, m.marks, refl);
                     emptied = λ e. absurd (true≢false (sym out ∙ e));
                   },
                   tt,
@@ -152,6 +154,13 @@ module _ {T X N : Type 0} (seats : X → ℕ) (view : T → Option ViewState) (b
               later = up;
               reaches = b.reaches.fresh fresh;
               sees = λ u e. subst (λ (q : X). Sees legal touches q p v.places log × shows q log new) (sym (about u e)) (sees, b.middle_shows);
+              on_board = λ t j held turn own. let q = own_turn seats view board sealed backs shows above returned x p log s r id v at held t turn in
+                  let same : j ≡ i = (omega arith) in
+                  subst (λ (l : ℕ). IsNamed t l new) (sym same) (
+                    ap (λ l. slice_get t.board (3 * i + l)) b.middle_at.buffer
+                        ∙ (q.names i d.middle o.within b.apart.middle_in ∙ ap Some (named_middle d d.middle (λ e. b.apart.front_middle (sym e)) refl)),
+                    (q.below i o.within).1,
+                  );
             },
             refl,
           ),

@@ -167,6 +167,7 @@ pub record NoteOk {T N : Type 0} (count : ℕ) (above : ℕ → N → Type 0) (c
   pub front : (cells i).shown ≡ m.front
   pub found : m.found_fresh ≡ true → (cells i).fresh ≡ true
   pub marks : AllByRecursion (IsMark above log m.front.upto) m.marks
+  pub first : (had : List (Placed N)) × (rest : List (Mark N)) × (m.marks ≡ record { upto = m.front.upto; seen = had } ∷ rest)
   pub emptied : m.is_out ≡ false → Emptied homes (slot i (cells i).front)
 
 -- the counts of the fronts that were given up, of all seats

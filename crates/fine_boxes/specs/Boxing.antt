@@ -69,6 +69,7 @@ module _ {T N : Type 0} (count : ℕ) (above : ℕ → N → Type 0) where
     front = shown ∙ r.front;
     found = λ f. fresh (r.found f);
     marks = all_map mark m.marks r.marks;
+    first = r.first;
     emptied = λ o. home (r.emptied o);
   }
 
@@ -94,6 +95,7 @@ pub record NoteHere {T N : Type 0} (count : ℕ) (above : ℕ → N → Type 0) 
   pub front : (cells i).shown ≡ m.front
   pub found : m.found_fresh ≡ true → (cells i).fresh ≡ true
   pub marks : AllByRecursion (IsMark above log m.front.upto) m.marks
+  pub first : (had : List (Placed N)) × (rest : List (Mark N)) × (m.marks ≡ record { upto = m.front.upto; seen = had } ∷ rest)
   pub emptied : m.is_out ≡ false → Emptied homes (slot i (cells i).front)
 
 pub note_here : {T N : Type 0} (count : ℕ) (above : ℕ → N → Type 0) (cells : ℕ → Cell) (log : List (Placed N)) (homes : Homes T) (i : ℕ) (m : BoxNote N) → m.seat ≡ suc i → NoteOk count above cells log homes m → NoteHere count above cells log homes i m
@@ -102,6 +104,7 @@ note_here count above cells log homes i m number r = let e : r.i ≡ i = (let n 
   front = ap (λ (j : ℕ). (cells j).shown) (sym e) ∙ r.front;
   found = λ f. ap (λ (j : ℕ). (cells j).fresh) (sym e) ∙ r.found f;
   marks = r.marks;
+  first = r.first;
   emptied = λ o. ap (λ (j : ℕ). get_elem? homes (slot j (cells j).front)) (sym e) ∙ r.emptied o;
 }
 

@@ -1,5 +1,5 @@
 -- What the rule of the mailboxes asks of a new table, and what it gives of one that ended.
-use Rattle.std.specs.Prelude.{◌≡◌, ℕ, suc, ◌+◌, ◌*◌, ◌<◌, ◌≤◌, List, [], map, length, slice_index, slice_get, sum_by, false, Option, Some, None}
+use Rattle.std.specs.Prelude.{◌∷◌, ◌≡◌, ℕ, suc, ◌+◌, ◌*◌, ◌<◌, ◌≤◌, List, [], map, length, slice_index, slice_get, sum_by, false, Option, Some, None}
 use Rattle.std.specs.List.{AllByRecursion}
 use mathlib.Core.Option.{some}
 use lib.ListN.{get_elem?}
@@ -9,6 +9,7 @@ use Rattle.fine_places.specs.declared.model.Placed.{Placed}
 use Rattle.fine_places.specs.declared.model.View.{View}
 use Rattle.fine_places.specs.History.{room}
 use Rattle.fine_boxes.specs.declared.model.BoxNote.{BoxNote}
+use Rattle.fine_boxes.specs.declared.model.Mark.{Mark}
 use Rattle.fine_boxes.specs.declared.model.Reads.{Reads}
 use Rattle.fine_boxes.specs.Boxes.{Cell, Apart, Reaches, IsAt, IsMark, published_word, mailbox, slot, named, sum_below, given_of}
 
@@ -76,6 +77,7 @@ pub record EndsNote {T N : Type 0} (count : ℕ) (above : ℕ → N → Type 0) 
   pub within : i < count
   pub front : (cells i).shown ≡ m.front
   pub marks : AllByRecursion (IsMark above log m.front.upto) m.marks
+  pub first : (had : List (Placed N)) × (rest : List (Mark N)) × (m.marks ≡ record { upto = m.front.upto; seen = had } ∷ rest)
   pub upto : m.front.upto ≤ sealed
   pub emptied : m.is_out ≡ false → get_elem? slots (slot i m.front.buffer) ≡ some None
 

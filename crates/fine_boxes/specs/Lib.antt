@@ -7,3 +7,4 @@ pub mod Lists
 pub mod Cells
 pub mod Boxing
 pub mod Placing
+pub mod Trial

@@ -3,7 +3,8 @@ use Rattle.std.specs.Prelude.{◌≡◌, ◌≢◌, ℕ, suc, ◌+◌, ◌*◌, 
 use Rattle.fine_model.specs.declared.law.ViewState.{ViewState}
 use Rattle.fine_places.specs.declared.model.Placed.{Placed}
 use Rattle.fine_places.specs.declared.model.View.{View}
-use Rattle.fine_places.specs.Places.{knowing}
+use Rattle.fine_places.specs.History.{room}
+use Rattle.fine_places.specs.Places.{Holds, knowing}
 use Rattle.fine_places.specs.Telling.{Sees}
 use Rattle.fine_boxes.specs.declared.model.BoxNote.{BoxNote}
 use Rattle.fine_boxes.specs.declared.model.TurnNote.{TurnNote}
@@ -35,9 +36,13 @@ posting t i b new old = record t {
   in_hand = t.in_hand + old.faults;
 }
 
+-- the board of a turn names the view of a seat, which shows no epoch above the top of the turn
+abbrev pub IsNamed : TurnNote → ℕ → ViewState → Type 0
+IsNamed t i v = (slice_get t.board (3 * i + v.buffer) ≡ Some (Some v.eye)) × (v.upto ≤ t.top)
+
 module _ {X N : Type 0} (legal : X → List (Placed N) → Type 0) (touches : ℕ → N → Bool) (shows : X → List (Placed N) → ViewState → Type 0) where
   -- A look at the own mailbox: the history and the published number were seen. Where it was not fresh, the front shows this history up
-  -- to an epoch that is not below the published one.
+  -- to an epoch that is not below the published one. In a turn of the seat the board names its front.
   pub record Looked (m : BoxNote N) (fresh : Bool) (v w : View X N (Reads N)) : Type 0 where
     pub log : List (Placed N)
     pub published : ℕ
@@ -45,8 +50,9 @@ module _ {X N : Type 0} (legal : X → List (Placed N) → Type 0) (touches : �
     pub places : w.places ≡ knowing v.places log published
     pub beside : w.beside ≡ with_note v.beside (looking m fresh)
     pub sees : (x : X) → v.places.about ≡ Some x → Sees legal touches x published v.places log × (fresh ≡ false → shows x log m.front × (published ≤ m.front.upto))
+    pub on_board : (t : TurnNote) (i : ℕ) → Holds v.places room → v.beside.turn ≡ Some t → m.seat ≡ suc i → IsNamed t i m.front
 
-  -- the front and the middle were exchanged
+  -- The front and the middle were exchanged. In a turn of the seat the board names the new front.
   pub record Refreshed (m : BoxNote N) (count : ℕ) (new : ViewState) (v w : View X N (Reads N)) : Type 0 where
     pub log : List (Placed N)
     pub published : ℕ
@@ -58,6 +64,7 @@ module _ {X N : Type 0} (legal : X → List (Placed N) → Type 0) (touches : �
     pub later : m.front.upto ≤ new.upto
     pub reaches : published ≤ new.upto
     pub sees : (x : X) → v.places.about ≡ Some x → Sees legal touches x published v.places log × shows x log new
+    pub on_board : (t : TurnNote) (i : ℕ) → Holds v.places room → v.beside.turn ≡ Some t → m.seat ≡ suc i → IsNamed t i new
 
 -- The back slot of the box i came into hand: a buffer of the seat that the board leaves empty is the back buffer, which the turn knows.
 pub record FetchedBack {X N : Type 0} (t : TurnNote) (i : ℕ) (v w : View X N (Reads N)) : Type 0 where

@@ -49,8 +49,8 @@ fn middle_in(found: u64) -> u8
 }
 
 /// Looks once at the mailbox of a seat, which has the one number: whether it is fresh, that is, whether a view was posted since the
-/// last refresh. The seat then knows the history so far. Where the answer is false, its front shows this history up to an
-/// epoch that is not below the published one. Where it is true, the slot of its front is in hand, and `refresh` comes next.
+/// last refresh. The seat learns how the history goes on. Where the answer is false, its front shows it up to an epoch that
+/// is not below the published one. Where it is true, the slot of its front is in hand, and `refresh` comes next.
 pub fn look<T, X, N, K, L: PlaceLaw<T, X, N, Reads<N>> + StartLaw<X, K>, W: BoxLaw<T, X, N>>(
     places: &SharedPlaces<T, X, N, Reads<N>, K, L, Boxes<W>>,
     seat: &mut PlaceSeat<T, X, N, Reads<N>>,
@@ -69,7 +69,7 @@ pub fn look<T, X, N, K, L: PlaceLaw<T, X, N, Reads<N>> + StartLaw<X, K>, W: BoxL
 
 /// Exchanges the front of a seat with the middle, once `look` found the mailbox fresh, and hands back the new front and its
 /// buffer. The old front, of which nothing but the count of faults may have changed, is given up to the mailbox. The new
-/// one shows no less than the old, and the history so far up to an epoch that is not below the published one.
+/// one shows no less than the old, and how the history goes on up to an epoch that is not below the published one.
 pub fn refresh<T, X, N, K, L: PlaceLaw<T, X, N, Reads<N>> + StartLaw<X, K>, W: BoxLaw<T, X, N>>(
     places: &SharedPlaces<T, X, N, Reads<N>, K, L, Boxes<W>>,
     seat: &mut PlaceSeat<T, X, N, Reads<N>>,
@@ -146,7 +146,7 @@ pub fn publish<T, X, N, K, L: PlaceLaw<T, X, N, Reads<N>> + StartLaw<X, K>, W: B
     places.store::<Publishing>(seat, PUBLISHED, number);
 }
 
-/// Reads the published number. The seat then knows it, and the history so far.
+/// Reads the published number, which is not below what the seat knew of it. The seat learns how the history goes on.
 pub fn published<T, X, N, K, L: PlaceLaw<T, X, N, Reads<N>> + StartLaw<X, K>, W: BoxLaw<T, X, N>>(
     places: &SharedPlaces<T, X, N, Reads<N>, K, L, Boxes<W>>,
     seat: &mut PlaceSeat<T, X, N, Reads<N>>,

@@ -9,3 +9,5 @@ pub mod Fronts
 pub mod Laying
 pub mod Mailing
 pub mod Refreshing
+pub mod Handing
+pub mod Entering

@@ -1,6 +1,6 @@
 -- How a pass goes on as it looks at its mailbox, and exchanges its front and its middle.
-use Rattle.std.proofs.Common.{◌≡◌, ℕ, ◌+◌, ◌-◌, ◌≤◌, Bool, true, false, List, [], ◌∷◌, ◌++◌, length, Option, Some, None, refl, sym, ap, ◌∙◌, subst, le_refl, le_trans, append_assoc}
-use Rattle.std.specs.Prelude.{if◌then◌else◌}
+use Rattle.std.proofs.Common.{◌≡◌, ℕ, suc, ◌+◌, ◌-◌, ◌*◌, ◌≤◌, Bool, true, false, List, [], ◌∷◌, ◌++◌, length, Option, Some, None, refl, sym, ap, ◌∙◌, subst, arith, le_refl, le_trans, append_assoc}
+use Rattle.std.specs.Prelude.{if◌then◌else◌, slice_get}
 use lib.ListN.{get_elem?}
 use Rattle.atomic_table.specs.Seated.{TableId}
 use Rattle.fine_model.specs.declared.law.ViewState.{ViewState}
@@ -9,7 +9,7 @@ use Rattle.fine_places.specs.declared.model.Placed.{Placed}
 use Rattle.fine_places.specs.declared.model.Known.{Known}
 use Rattle.fine_places.specs.History as places
 use Rattle.fine_places.specs.History.{touching}
-use Rattle.fine_places.specs.Places.{knowing}
+use Rattle.fine_places.specs.Places.{Holds, knowing}
 use Rattle.fine_places.specs.Telling.{Sees}
 use Rattle.fine_places.proofs.Lists.{some_same}
 use Rattle.fine_boxes.specs.declared.model.BoxNote.{BoxNote}
@@ -26,9 +26,9 @@ use Rattle.fine_hall.specs.Turns.{commits, touches_bucket}
 use Rattle.fine_hall.specs.Laws.{AreTurns, ShowsTurns, IsViewFor, view_in}
 use Rattle.fine_hall.specs.Showing.{shows_anyway}
 use Rattle.fine_hall.specs.Passes.{PassView, first_given, first_marks, first_looks, view_of, known, reads, seen, given_up, looks, marks, front_of, HasPlace, HasFront, IsPass}
-use Rattle.fine_hall.specs.Halls.{Refreshes, FindsStale, IsAhead}
+use Rattle.fine_hall.specs.Halls.{Refreshes, FindsStale, IsAhead, NamesFront}
 use Rattle.fine_hall.proofs.Taking.{front_is, upto_is}
-use Rattle.fine_hall.proofs.Passing.{known_is, reads_is, keeps_holder, about, still, seeing_pass, sees_more, same_number}
+use Rattle.fine_hall.proofs.Passing.{known_is, reads_is, has, keeps_holder, about, still, seeing_pass, sees_more, same_number}
 
 -- what was seen in two steps was seen
 pub sees_twice : (x : Beginning) (q r : ℕ) (v : Known Beginning Turn) (log all : List (Placed Turn)) → Sees AreTurns touches_bucket x q v log → Sees AreTurns touches_bucket x r (knowing v log q) all → Sees AreTurns touches_bucket x r v all
@@ -64,6 +64,9 @@ module _ {V : Type 0} (view : V → ViewState) (z : TableId) (x : Beginning) (p 
 
   given_is : given_up p ≡ note.given_up
   given_is = ap first_given ok.front.one
+
+  own_number : ok.front.note.seat ≡ suc (p.number - 1)
+  own_number = ok.front.seat ∙ (let low = ok.number.0 in omega arith)
 
   pub own_front : (front : V) → p.front ≡ Some front → Some (view front) ≡ Some (counting ok.front.note.front (view ok.front.there).faults)
   own_front front there = ap (λ (w : V). Some (view w)) (some_same front ok.front.there (sym there ∙ ok.front.is_there)) ∙ ap Some ok.front.front
@@ -125,6 +128,14 @@ module _ {V : Type 0} (view : V → ViewState) (z : TableId) (x : Beginning) (p 
           shows = subst (IsViewFor x (seen p')) (sym is) (subst (λ (ts : List (Placed Turn)). IsViewFor x (commits ts) (counting note.front (view ok.front.there).faults)) (sym (ap (λ (u : Known Beginning Turn). u.seen) stale_known)) (shows_anyway x l.log note.front (view ok.front.there).faults told.1));
           reaches = subst (λ n. n ≤ (front_of view p').upto) (sym (ap (λ (u : Known Beginning Turn). u.published) stale_known)) (subst (λ (w : ViewState). l.published ≤ w.upto) (sym is) told.2);
         }
+
+    pub stale_named : NamesFront view x p p'
+    stale_named t held h =
+        let named = l.on_board t (p.number - 1) (has p v places.room e held) (turn_is ∙ h.turn) own_number in
+        let is : front_of view p' ≡ counting note.front (view ok.front.there).faults = ap (view_of view) (front'.0 ∙ ok.front.is_there) ∙ ok.front.front in (
+          ap (λ b. slice_get t.board (3 * (p.number - 1) + b)) (front'.1 ∙ sym ok.front.place.1) ∙ (named.0 ∙ ap (λ (w : ViewState). Some (Some w.eye)) (sym is)),
+          subst (λ (w : ViewState). w.upto ≤ t.top) (sym is) named.1,
+        )
 
   -- the mailbox was found fresh
   module _ (w : PassView) (l : Looked AreTurns touches_bucket ShowsTurns ok.front.note true v w) where
@@ -214,3 +225,10 @@ module _ {V : Type 0} (view : V → ViewState) (z : TableId) (x : Beginning) (p 
         shows = subst (IsViewFor x (seen p')) (sym front_now) (subst (λ (ts : List (Placed Turn)). IsViewFor x (commits ts) new) (sym (ap (λ (u : Known Beginning Turn). u.seen) fresh_known)) second.1);
         reaches = subst (λ k. k ≤ (front_of view p').upto) (sym (ap (λ (u : Known Beginning Turn). u.published) fresh_known)) (subst (λ (w : ViewState). r.published ≤ w.upto) (sym front_now) r.reaches);
       }
+
+      pub fresh_named : NamesFront view x p p'
+      fresh_named t held h =
+          let named = r.on_board t (p.number - 1) (subst (λ (k : Known Beginning Turn). Holds k places.room) (sym l.places) (has p v places.room e held)) (ap (λ (y : Reads Turn). y.turn) l.beside ∙ (turn_is ∙ h.turn)) own_number in (
+            ap (λ b. slice_get t.board (3 * (p.number - 1) + b)) buffer' ∙ (named.0 ∙ ap (λ (w : ViewState). Some (Some w.eye)) (sym front_now)),
+            subst (λ (w : ViewState). w.upto ≤ t.top) (sym front_now) named.1,
+          )

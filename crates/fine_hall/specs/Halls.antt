@@ -184,6 +184,10 @@ module _ {V : Type 0} where
     pub shows : IsViewFor x (seen p) (front_of view p)
     pub reaches : published p ≤ (front_of view p).upto
 
+  -- in a turn of the pass the board names its front, which shows no epoch above the sealed one and all that were posted in the turn
+  abbrev pub NamesFront : (V → ViewState) → Beginning → Pass V → Pass V → Type 0
+  NamesFront view x p p' = (t : TurnNote) → HasPlace p places.room → IsHolder x p t → (slice_get t.board (3 * (p.number - 1) + p'.buffer) ≡ Some (Some (front_of view p').eye)) × ((front_of view p').upto ≤ t.top)
+
   -- the pass looked at its mailbox, found it fresh, and has a new front, and the old one was given up
   pub record Refreshes (view : V → ViewState) (x : Beginning) (p p' : Pass V) : Type 0 where
     pub sees : SeesMore p p'

@@ -15,7 +15,7 @@ use fine_model::{BucketLaw, RoomLaw, ViewLaw};
 
 impl<R: RoomLaw, B: BucketLaw, V: ViewLaw> Hall<R, B, V> {
     ghost use Rattle.fine_hall.specs.Passes.{HasPlace, IsHolder, published};
-    ghost use Rattle.fine_hall.specs.Halls.{IsPassOf, begun, MayPost, Posts, Refreshes, FindsStale, IsAhead, Publishes, Reads};
+    ghost use Rattle.fine_hall.specs.Halls.{IsPassOf, begun, MayPost, Posts, Refreshes, FindsStale, IsAhead, NamesFront, Publishes, Reads};
 
     /// Reads the published number. It never waits, and takes no memory.
     ///
@@ -76,12 +76,14 @@ impl<R: RoomLaw, B: BucketLaw, V: ViewLaw> Hall<R, B, V> {
     /// stays. It waits for nobody, and takes no memory.
     ///
     /// The pass then saw the history so far, which its front shows up to an epoch that is not below the published one. A new front
-    /// shows no less than the old one, and has met no fault; the faults of the old one are among those that the pass gave up.
+    /// shows no less than the old one, and has met no fault; the faults of the old one are among those that the pass gave up. In a turn of
+    /// the pass the board names its front.
     pub fn refresh(&self, pass: &mut Pass<V>) -> bool
         requires pass { IsPassOf R.state R.origin V.state self.now pass.old }
         ensures pass { IsPassOf R.state R.origin V.state self.now pass.new × (pass.new.number ≡ pass.old.number) }
         ensures answer { MatchBool result (Refreshes V.state (begun R.state R.origin V.state self.now) pass.old pass.new) (FindsStale pass.old pass.new) }
         ensures ahead { IsAhead V.state (begun R.state R.origin V.state self.now) pass.new }
+        ensures on_board { NamesFront V.state (begun R.state R.origin V.state self.now) pass.old pass.new }
     {
         let mut seat: Seat<R, B, V> = pass.sit();
         let is_fresh = look(&self.table.shared, &mut seat, pass.number);

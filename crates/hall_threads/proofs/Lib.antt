@@ -1,3 +1,7 @@
 pub mod Idle
-pub mod Plain
-pub mod Counting
+pub mod Epochs
+pub mod Putting
+pub mod Standing
+pub mod Caching
+pub mod Going
+pub mod Beginning

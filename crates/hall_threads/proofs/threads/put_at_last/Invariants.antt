@@ -1,7 +1,7 @@
 use Rattle.std.proofs.Common.{◌≡◌}
 use Rattle.fine_hall.specs.Passes.{mine}
-use Rattle.hall_threads.specs.Threads.{IsIdlePass}
-use Rattle.hall_threads.proofs.threads.commit_at_last.Given as goal
+use Rattle.hall_threads.specs.Days.{IsIdlePass}
+use Rattle.hall_threads.proofs.threads.put_at_last.Given as goal
 
 abbrev pub invariant-loop : goal.invariant-loop
 invariant-loop g l = record {

@@ -1,20 +1,26 @@
 -- How a pass goes on through a transaction.
-use Rattle.std.proofs.Common.{◌≡◌, ℕ, ◌==◌, ◌||◌, Bool, true, false, List, [], ◌∷◌, ◌++◌, Option, Some, None, refl, sym, ap, ◌∙◌, subst, eqb-true}
+use Rattle.std.proofs.Common.{◌≡◌, ◌≢◌, ℕ, ◌+◌, ◌<◌, ◌≤◌, ◌==◌, ◌||◌, Bool, true, false, true≢false, List, [], ◌∷◌, ◌++◌, map, Option, Some, None, refl, sym, ap, ◌∙◌, subst, append-nil, eqb-true}
 use Rattle.std.proofs.lemmas.List.{map-append}
+use Rattle.fine_places.specs.declared.model.Placed.{Placed}
+use Rattle.fine_places.specs.History as places
 use Rattle.fine_boxes.specs.declared.model.TurnNote.{TurnNote}
 use Rattle.fine_model.specs.declared.Entry.{Entry}
+use Rattle.fine_model.specs.declared.Call.{Call}
 use Rattle.fine_model.specs.declared.law.RoomState.{RoomState}
 use Rattle.fine_model.specs.History.{Commit}
 use Rattle.fine_model.specs.Buckets.{IsBucketFor}
+use Rattle.fine_model.specs.Trees.{bucket_of}
 use Rattle.fine_hall.specs.declared.law.Beginning.{Beginning}
+use Rattle.fine_hall.specs.declared.turn.Turn.{Turn}
 use Rattle.fine_hall.specs.declared.pass.Pass.{Pass}
-use Rattle.fine_hall.specs.Turns.{added, committed, commits, is_in, in_bucket}
-use Rattle.fine_hall.specs.Passes.{turns, own_turns, seen, mine, published, HasPlace}
+use Rattle.fine_hall.specs.Turns.{added, committed, commits, is_in, in_bucket, room_after}
+use Rattle.fine_hall.specs.Passes.{turns, own_turns, seen, mine, published, HasPlace, LacksJob}
 use Rattle.fine_hall.specs.Halls.{SeesMore, GivesRoom}
-use Rattle.fine_hall.proofs.Turning.{commits_one}
+use Rattle.fine_hall.proofs.Turning.{commits_one, after_last}
+use Rattle.hall_threads.specs.declared.things.DayRoom.{DayRoom}
 use Rattle.hall_threads.specs.declared.things.DayBucket.{DayBucket}
 use Rattle.hall_threads.specs.declared.things.DayView.{DayView}
-use Rattle.hall_threads.specs.Days.{key_bucket, put_entry, put_calls, bucket_number, bucket_cached, bucket_rests}
+use Rattle.hall_threads.specs.Days.{key_bucket, put_entry, put_calls, room_state, bucket_number, bucket_cached, bucket_rests}
 use Rattle.hall_threads.proofs.Idle.{near}
 use Rattle.hall_threads.proofs.Caching.{Stands, stands_more}
 
@@ -57,3 +63,13 @@ calls_none before after is = ap put_calls is ∙ map-append (λ (c : Commit). c.
 
 pub calls_one : (before after : List Commit) (entry : Entry) (epoch : ℕ) → after ≡ before ++ added (Some entry) epoch → put_calls after ≡ put_calls before ++ entry.calls ∷ []
 calls_one before after entry epoch is = ap put_calls is ∙ map-append (λ (c : Commit). c.entry.calls) before (committed entry epoch ∷ [])
+
+-- ---- the job
+
+-- a room of a day has no job
+pub no_job : (x : Beginning) (room : DayRoom) (entry : Option Entry) (epoch : ℕ) (t : TurnNote) (p p' p'' : Pass DayView) → GivesRoom (room_state room) entry epoch t p p' → turns p'' ≡ turns p' → LacksJob x p''
+no_job x room entry epoch t p p' p'' g same one =
+    ap (λ l. (room_after x.room l).job) (same ∙ g.turns_more) ∙ ap (λ (r : RoomState). r.job) (after_last x.room (turns p) (record { seat = p.number; item = record { entry = entry; epoch = epoch; room = room_state room; returned = t.in_hand } }))
+
+pub job_stays : (x : Beginning) (p p' : Pass DayView) → turns p' ≡ turns p → p'.number ≡ p.number → LacksJob x p → LacksJob x p'
+job_stays x p p' same number lacks one = ap (λ l. (room_after x.room l).job) same ∙ lacks (sym number ∙ one)

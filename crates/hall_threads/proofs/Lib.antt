@@ -5,3 +5,6 @@ pub mod Standing
 pub mod Caching
 pub mod Going
 pub mod Beginning
+pub mod Ending
+pub mod Fresh
+pub mod Rounds

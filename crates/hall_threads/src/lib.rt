@@ -3,11 +3,13 @@
 
 mod entries;
 mod opening;
+mod round;
 mod things;
 mod threads;
 mod transaction;
 
 pub use opening::open;
+pub use round::look_up;
 pub use things::{DayBucket, DayRoom, DayView, Leaf};
 pub use threads::{both, put_times};
 pub use transaction::{DayHall, put};

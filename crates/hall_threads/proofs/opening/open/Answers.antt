@@ -1,4 +1,5 @@
-use Rattle.std.proofs.Common.{subst}
+use Rattle.std.proofs.Common.{subst, ap, ◌∙◌}
+use Rattle.fine_hall.specs.declared.law.Beginning.{Beginning}
 use Rattle.fine_hall.specs.Halls.{begun}
 use Rattle.fine_hall.specs.Opening.{HandedOut}
 use Rattle.hall_threads.specs.Days.{room_state, room_log, view_state}
@@ -11,3 +12,6 @@ new-requires-clause-fresh c κs = fresh_hall c.in-Ok-first_room.room c.in-Ok-fir
 pub returns-in-Ok-new-clause-passes : goal.returns-in-Ok-new-clause-passes
 returns-in-Ok-new-clause-passes c = let made = c.in-Ok-new.made in
     subst (λ fronts. HandedOut view_state made.0.table.shared.table_id (begun room_state room_log view_state made.0) fronts made.1.items) c.in-Ok-views.ensures c.in-Ok-new.ensures.passes
+
+pub returns-in-Ok-new-clause-sealed : goal.returns-in-Ok-new-clause-sealed
+returns-in-Ok-new-clause-sealed c = ap (λ (x : Beginning). x.room.sealed) c.in-Ok-new.ensures.hall ∙ c.in-Ok-first_room.ensures.counts.0

@@ -1,17 +1,18 @@
 -- One transaction: the bucket, the room, and both given back.
-use Rattle.std.proofs.Common.{◌≡◌, ◌<◌, true, ◌+◌, ◌++◌, [], ◌∷◌, Some, None, ℕ, sym, ap, subst, ◌∙◌, arith, append-nil}
+use Rattle.std.proofs.Common.{◌≡◌, ◌≤◌, ◌<◌, true, ◌+◌, ◌++◌, [], ◌∷◌, Some, None, ℕ, refl, sym, ap, subst, ◌∙◌, le_trans, arith, append-nil}
+use lib.ListN.{get_elem?}
 use Rattle.fine_places.specs.History as places
 use Rattle.fine_model.specs.declared.Entry.{Entry}
 use Rattle.fine_hall.specs.Halls.{begun, MayGiveRoom}
 use Rattle.fine_hall.specs.Turns.{commits, added, is_in}
-use Rattle.fine_hall.specs.Passes.{known, seen, mine, published, HasPlace}
-use Rattle.hall_threads.specs.Days.{key_bucket, put_entry, put_calls, room_state, room_log, view_state, Appends}
-use Rattle.hall_threads.proofs.Idle.{near, bucket_had, room_free, room_held, bucket_held, bucket_still, idle_again}
+use Rattle.fine_hall.specs.Passes.{known, seen, mine, published, turns, own_turns, HasPlace}
+use Rattle.hall_threads.specs.Days.{key_bucket, put_entry, put_call, put_calls, leaf_at, room_state, room_log, view_state, Appends}
+use Rattle.hall_threads.proofs.Idle.{near, low, bucket_had, room_free, room_held, bucket_held, bucket_still, idle_again}
 use Rattle.hall_threads.proofs.Standing.{day_stands, may_give_none, may_give_put, all_below}
 use Rattle.hall_threads.specs.declared.things.DayBucket.{DayBucket}
 use Rattle.hall_threads.proofs.Putting.{leaf_after}
 use Rattle.hall_threads.proofs.Caching.{Stands, stands_put}
-use Rattle.hall_threads.proofs.Going.{touched, still, given, mine_after, calls_none, calls_one}
+use Rattle.hall_threads.proofs.Going.{touched, still, given, mine_after, no_job, job_stays, calls_none, calls_one}
 use Rattle.hall_threads.proofs.transaction.put.Goals as goal
 
 pub take_bucket-requires-clause-free : goal.take_bucket-requires-clause-free
@@ -95,13 +96,21 @@ give_bucket-requires-2-clause-stands g c κs =
 
 pub returns-in_default-clause-pass : goal.returns-in_default-clause-pass
 returns-in_default-clause-pass g c = let p = c.give_bucket.ensures in let t = c.take_room-room.ensures.takes in (
-  (p.pass.0, idle_again c.args.bucket c.requires.bucket _ _ _ c.requires.pass.1 c.in_ok-content.ensures.takes.held t.takes.held _ (c.give_room.ensures.gives t.turn t.is_turn).held _ p.gives.held),
+  (
+    p.pass.0,
+    idle_again c.args.bucket c.requires.bucket _ _ _ c.requires.pass.1 c.in_ok-content.ensures.takes.held t.takes.held _ (c.give_room.ensures.gives t.turn t.is_turn).held _ p.gives.held,
+    no_job (begun room_state room_log view_state c.args.hall.now) c.append-entry.new.room None 0 t.turn c.take_room-room.new.pass c.give_room.new.pass c.give_bucket.new.pass (c.give_room.ensures.gives t.turn t.is_turn) p.gives.same_turns,
+  ),
   p.pass.1 ∙ (c.give_room.ensures.pass.1 ∙ (c.take_room-room.ensures.pass.1 ∙ c.in_ok-content.ensures.pass.1)),
 )
 
 pub returns-clause-pass : goal.returns-clause-pass
 returns-clause-pass g c = let p = c.give_bucket-2.ensures in let t = c.take_room-room.ensures.takes in (
-  (p.pass.0, idle_again c.args.bucket c.requires.bucket _ _ _ c.requires.pass.1 c.in_ok-content.ensures.takes.held t.takes.held _ (c.give_room-2.ensures.gives t.turn t.is_turn).held _ p.gives.held),
+  (
+    p.pass.0,
+    idle_again c.args.bucket c.requires.bucket _ _ _ c.requires.pass.1 c.in_ok-content.ensures.takes.held t.takes.held _ (c.give_room-2.ensures.gives t.turn t.is_turn).held _ p.gives.held,
+    no_job (begun room_state room_log view_state c.args.hall.now) c.append-entry.new.room (Some c.in-Some.entry) (c.append-entry.new.room.sealed + 1) t.turn c.take_room-room.new.pass c.give_room-2.new.pass c.give_bucket-2.new.pass (c.give_room-2.ensures.gives t.turn t.is_turn) p.gives.same_turns,
+  ),
   p.pass.1 ∙ (c.give_room-2.ensures.pass.1 ∙ (c.take_room-room.ensures.pass.1 ∙ c.in_ok-content.ensures.pass.1)),
 )
 
@@ -124,3 +133,9 @@ returns-clause-ok g c =
     calls_one (mine c.args.pass.now) (mine c.give_bucket-2.new.pass) c.in-Some.entry (new.sealed + 1)
     (ap commits c.give_bucket-2.ensures.gives.same_own ∙ (mine_after x c.args.bucket c.requires.bucket (room_state new) (Some c.in-Some.entry) (new.sealed + 1) t.turn p c.give_room-2.new.pass (c.give_room-2.ensures.gives t.turn t.is_turn) ∙ ap (λ l. l ++ added (Some c.in-Some.entry) (new.sealed + 1)) before))
     ∙ ap (λ (entry : Entry). put_calls (mine c.args.pass.now) ++ entry.calls ∷ []) c.in-Some.ensures.0
+
+pub returns-in_err-content-clause-pass : goal.returns-in_err-content-clause-pass
+returns-in_err-content-clause-pass g c = let f = c.in_err-content.ensures.conflict.1.places in let p = c.in_err-content.ensures.pass in (
+  (p.0, λ k le. ap (λ l. get_elem? l k) f.same_held ∙ c.requires.pass.1 k le, job_stays (begun room_state room_log view_state c.args.hall.now) c.args.pass.now c.take_bucket.new.pass f.same_turns p.1 c.requires.pass.2),
+  p.1,
+)

@@ -4,6 +4,8 @@
 mod entries;
 mod opening;
 mod round;
+#[cfg(test)]
+mod tests;
 mod things;
 mod threads;
 mod transaction;
@@ -12,4 +14,4 @@ pub use opening::open;
 pub use round::look_up;
 pub use things::{DayBucket, DayRoom, DayView, Leaf};
 pub use threads::{both, put_times};
-pub use transaction::{DayHall, put};
+pub use transaction::{DayHall, put, the_bucket};

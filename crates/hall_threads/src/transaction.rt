@@ -7,10 +7,19 @@ ghost use Rattle.hall_threads.specs.Days.{key_bucket, put_call, put_calls, IsIdl
 use crate::entries::append;
 use crate::things::{DayBucket, DayRoom, DayView, Leaf};
 use fine_hall::{Conflict, Hall, Pass};
+use fine_model::bucket_of;
 use std::alloc::Global;
 use std::sync::Wait;
 
 pub type DayHall = Hall<DayRoom, DayBucket, DayView>;
+
+/// The bucket of the key.
+#[tactic(auto, unfolding(crate::specs::Days::key_bucket))]
+pub fn the_bucket() -> u16
+    ensures { result ≡ key_bucket }
+{
+    bucket_of(b"a")
+}
 
 /// Puts a value of the key in the open epoch, or says which seat holds the key's bucket. False where memory is wanted, or the room
 /// takes no more.

@@ -1,0 +1,53 @@
+//! A bucket that another seat holds, and what two threads leave.
+
+ghost use Rattle.std.specs.Prelude.{◌≡◌};
+ghost use Rattle.hall_threads.specs.Days.{key_bucket, IsIdlePass};
+
+use crate::things::DayView;
+use crate::transaction::DayHall;
+use crate::{open, the_bucket};
+use fine_hall::{Conflict, Pass};
+use std::alloc::Global;
+use std::test::Fail;
+
+// The second pass tries the bucket of the key while the first holds it.
+fn tried_by_two(
+    hall: &DayHall,
+    one: &mut Pass<DayView>,
+    two: &mut Pass<DayView>,
+    bucket: u16,
+) -> Option<Conflict>
+    requires one { IsIdlePass hall.now one.old }
+    requires two { IsIdlePass hall.now two.old }
+    requires bucket { bucket ≡ key_bucket }
+{
+    let Ok(_content) = hall.take_bucket(one, bucket) else {
+        return None;
+    };
+    match hall.take_bucket(two, bucket) {
+        Ok(_content) => None,
+        Err(conflict) => Some(conflict),
+    }
+}
+
+fn conflict_on_a_new_hall(alloc: Global) -> Option<(Conflict, u16)> {
+    let (hall, mut passes) = open(alloc, 1)?;
+    let Some(mut one) = passes.pop() else {
+        return None;
+    };
+    let Some(mut two) = passes.pop() else {
+        return None;
+    };
+    let bucket = the_bucket();
+    let conflict = tried_by_two(&hall, &mut one, &mut two, bucket)?;
+    Some((conflict, bucket))
+}
+
+#[test]
+fn a_held_bucket_names_its_holder(rt: HostRuntime) -> Result<(), Fail> {
+    let Some((conflict, bucket)) = conflict_on_a_new_hall(rt.alloc()) else {
+        return Err("no conflict")?;
+    };
+    assert!(rt; conflict == Conflict { bucket, owner: 1 });
+    Ok(())
+}

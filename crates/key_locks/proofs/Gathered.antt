@@ -133,13 +133,14 @@ module _ {V B : Type 0} (number : B → ℕ) (cached : B → ℕ → Option (Con
       above : (k : ℕ) → i + 1 ≤ k → k ≢ i
       above k h same = omega (arith, h, same)
 
-  pub stops : (i bucket owner : ℕ) (locks mid locks' : List (Option B)) (p q p' : Pass V) → i < 256 → SoFar i locks mid p q → locks' ≡ mid → bucket ≡ i → LacksLock mid i → FindsHeld x i owner q p' → StopsAt number cached is_settled x bucket owner locks locks' p p'
-  stops i bucket owner locks mid locks' p q p' low s same is lacks finds = subst (λ b. StopsAt number cached is_settled x b owner locks locks' p p') (sym is) (subst (λ l. StopsAt number cached is_settled x i owner locks l p p') (sym same) (record {
+  pub stops : (i bucket owner : ℕ) (locks mid locks' : List (Option B)) (p q p' : Pass V) → i < 256 → q.number ≡ p.number → SoFar i locks mid p q → locks' ≡ mid → bucket ≡ i → LacksLock mid i → FindsHeld x i owner q p' → StopsAt number cached is_settled x bucket owner locks locks' p p'
+  stops i bucket owner locks mid locks' p q p' low same_number s same is lacks finds = subst (λ b. StopsAt number cached is_settled x b owner locks locks' p p') (sym is) (subst (λ l. StopsAt number cached is_settled x i owner locks l p p') (sym same) (record {
     within = low;
     below = s.all;
     stay = s.stay;
     lacks = sym (s.stay i (omega arith)) ∙ lacks;
     between = q;
+    same_number = same_number;
     gathers = s.gathers;
     finds = finds;
   }))

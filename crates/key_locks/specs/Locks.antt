@@ -74,6 +74,7 @@ module _ {V B : Type 0} (bucket : B → ℕ) (cached : B → ℕ → Option (Con
     pub stay : StayFrom stop locks locks'
     pub lacks : LacksLock locks stop
     pub between : Pass V
+    pub same_number : between.number ≡ p.number
     pub gathers : Gathers x.log locks locks' p between
     pub finds : FindsHeld x stop owner between p'
 

@@ -20,7 +20,7 @@ returns-in_err-take-clause-conflict g c =
     let found = c.in_err-take.ensures.conflict in
     let low : c.loop-bucket.bucket < 256 = omega (arith, c.loop-bucket-test.true) in
     rw (p.1, p.2)
-    (stops g.B.BucketLaw.bucket g.B.BucketLaw.cached g.B.BucketLaw.is_settled (begun g.R.RoomLaw.state g.R.RoomLaw.origin g.V.ViewLaw.state c.args.hall.now) c.loop-bucket.bucket c.in_err-take.field-0.0.bucket c.in_err-take.field-0.0.owner c.args.self.now c.loop-bucket.self c.take.new.self c.args.pass.now c.loop-bucket.pass c.take.new.pass low c.loop-bucket.invariant.so_far c.in_err-take.ensures.same
+    (stops g.B.BucketLaw.bucket g.B.BucketLaw.cached g.B.BucketLaw.is_settled (begun g.R.RoomLaw.state g.R.RoomLaw.origin g.V.ViewLaw.state c.args.hall.now) c.loop-bucket.bucket c.in_err-take.field-0.0.bucket c.in_err-take.field-0.0.owner c.args.self.now c.loop-bucket.self c.take.new.self c.args.pass.now c.loop-bucket.pass c.take.new.pass low c.loop-bucket.invariant.pass.1 c.loop-bucket.invariant.so_far c.in_err-take.ensures.same
     found.0 found.1 found.2)
 
 pub returns-in_err-take-clause-stands : goal.returns-in_err-take-clause-stands

@@ -3,24 +3,22 @@ use Rattle.std.proofs.Common.{◌≡◌, ◌⊎◌, inl, inr, ℕ, zero, suc, �
 use Rattle.std.specs.Prelude.{◌↔◌, unwrap_or, IfSome}
 use Rattle.std.specs.List.{AllByRecursion}
 use Rattle.std.proofs.lemmas.Bool.{or_parts, ltb-false}
-use Rattle.std.proofs.lemmas.List.{length-drop, map-id}
 use Rattle.fine_model.specs.declared.Rec.{Rec}
 use Rattle.fine_model.specs.declared.Rec.TheVariants as rec
 use Rattle.fine_model.specs.declared.Row.{Row}
 use Rattle.fine_model.specs.declared.Node.{Node}
 use Rattle.fine_model.specs.declared.Node.TheVariants as node
-use Rattle.fine_model.specs.Map.{Pair, is_below, has, is_ascending}
+use Rattle.fine_model.specs.Map.{Pair, is_below, has}
 use Rattle.fine_model.specs.Nodes.{Content}
 use Rattle.fine_model.specs.Paths.{is_inner, place_among, bounds_at, seps_of, kid_at, unfit_from}
 use Rattle.fine_model.specs.Pushed.{Growth, row_of, key_at, child_for, split_leaf, split_inner, grown_leaf, grown_inner, growth}
 use Rattle.fine_model.specs.RowBytes.{kind, FitsKey, FitsPair, FitsChild, FitsRec}
 use Rattle.fine_model.specs.Trees.{Bounds, is_leaf, pairs_of}
-use Rattle.fine_model.proofs.Order.{ascending-drop}
 use Rattle.fine_model.proofs.Zip.{all_right}
 use Rattle.fine_model.proofs.Sets.{all_append}
 use Rattle.fine_model.proofs.Parts.{Parted, parted, key_at-is}
 use Rattle.node_record.specs.Bounds.{FitsNode}
-use Rattle.node_record.proofs.Ordered.{AreUp-from_ascending, ascending_from_up, AreUp-drop}
+use Rattle.fine_model.proofs.FitGrown.{pairs_fit, drop_leaf, drop_inner}
 use Rattle.node_cache.specs.declared.cached.Cached.{Cached}
 use Rattle.node_cache.specs.Cache.{Cache, cached}
 use Rattle.node_cache.specs.Given.{given, IsCached}
@@ -96,25 +94,6 @@ all_drop P (suc n) (x ∷ xs) all = all_drop P n xs all.1
 
 item_fits : {A : Type 0} (P : A → Type 0) (n : ℕ) (xs : List A) (p : Parted n xs) → AllByRecursion P xs → P p.item
 item_fits P n xs p all = (all_right P p.front (p.item ∷ p.back) (subst (AllByRecursion P) p.is all)).0
-
-pairs_fit : (n : Node) → FitsNode n → FitsRec (rec.LeafImage (pairs_of n))
-pairs_fit (node.Leaf pairs) fits = fits
-pairs_fit (node.Head root next depth) fits = (omega arith, tt, refl)
-pairs_fit (node.Inner seps kids) fits = (omega arith, tt, refl)
-pairs_fit node.Broken fits = (omega arith, tt, refl)
-
-drop_leaf : (n : ℕ) (pairs : List Pair) → FitsRec (rec.LeafImage pairs) → FitsRec (rec.LeafImage (drop n pairs))
-drop_leaf n pairs fits = let l = length-drop n pairs in let f = fits.0 in (omega (arith, l, f), all_drop FitsPair n pairs fits.1, ascending-drop n pairs fits.2)
-
-drop_inner : (n : ℕ) (seps : List (List ℕ)) (kids : List ℕ) → n ≤ length seps → FitsRec (rec.InnerImage seps kids) → FitsRec (rec.InnerImage (drop n seps) (drop n kids))
-drop_inner n seps kids few fits =
-    let l = length-drop n seps in let k = length-drop n kids in let a = fits.0 in let b = fits.1 in (
-      omega (arith, l, a),
-      omega (arith, l, k, b, few),
-      all_drop FitsChild n kids fits.2,
-      all_drop FitsKey n seps fits.3,
-      subst (λ (ks : List (List ℕ)). is_ascending ks ≡ true) (map-id (drop n seps)) (ascending_from_up (λ k. k) (drop n seps) (AreUp-drop (λ k. k) n seps (AreUp-from_ascending (λ k. k) seps (subst (λ (ks : List (List ℕ)). is_ascending ks ≡ true) (sym (map-id seps)) fits.4)))),
-    )
 
 module _ (bucket : ℕ) where
   -- a row is of the bucket, and within bounds but for the greatest version

@@ -9,7 +9,7 @@ use Rattle.fine_model.specs.Trees.{nodes_of}
 use Rattle.fine_model.proofs.NodeLaws.{content-append, rows_of-append}
 use Rattle.node_cache.specs.declared.cached.Cached.{Cached}
 use Rattle.node_cache.specs.Cache.{Cache, cached, original, before}
-use Rattle.node_cache.specs.Given.{given, IsCached, IsFetched, IsLoaded}
+use Rattle.node_cache.specs.Given.{Finds, given, IsCached, IsFetched, IsLoaded}
 use Rattle.btree_nodes.specs.Trees.{node_at, Serves, Restores, Holds}
 use Rattle.btree_nodes.specs.Changes.{Saves, Pushes}
 use Rattle.btree_nodes.proofs.Loads.{none_or_some, loaded_given}
@@ -21,7 +21,7 @@ unfolding replay
 same_rows rows log bucket n none =
     content-append rows log (record { bucket = bucket; number = n }) ∙ ap (replay (nodes_of rows bucket n)) none
 
-module _ (tells : List Row → Type 0) (upper : ℕ) (rows log : List Row) (old new : Cache) (loaded : IsLoaded tells upper old new) (serves : Serves tells old rows) (holds : Holds old rows log) where
+module _ (tells : List Row → Type 0) (finds : Finds) (upper : ℕ) (rows log : List Row) (old new : Cache) (loaded : IsLoaded tells finds upper old new) (serves : Serves tells old rows) (holds : Holds old rows log) where
   abbrev IsWhole : ℕ → Type 0
   IsWhole n = (nodes_of (rows ++ log) new.bucket n).0 ≢ node.Broken
 
@@ -34,16 +34,16 @@ module _ (tells : List Row → Type 0) (upper : ℕ) (rows log : List Row) (old 
   -- what was loaded and is not broken is what the rows leave
   fetched_is : (n : ℕ) (kept : Cached) → cached old n ≡ None → cached new n ≡ Some kept → IsWhole n → (kept.node, kept.version) ≡ nodes_of rows old.bucket n
   fetched_is n kept none is fine =
-      let f = subst (λ o. IfSome o (IsFetched tells upper old.bucket n)) is (loaded.fetched n none) in
+      let f = subst (λ o. IfSome o (IsFetched tells finds upper old.bucket n)) is (loaded.fetched n none) in
       let fine' = subst (λ k. k.0 ≢ node.Broken) (of_rows n none) fine in
       let known = serves.each n none fine' in
-      f.same serves.known serves.is_told (subst (λ k. k.0 ≢ node.Broken) (sym known) fine') ∙ known
+      f.same serves.known serves.is_told ∙ known
 
   -- what is cached is what the rows leave, where that is not broken
   pub agrees_loaded : (n : ℕ) → IsCached new n → IsWhole n → given new n ≡ nodes_of (rows ++ log) new.bucket n
   agrees_loaded n here fine = ⊎_elim
       (λ none. of none (cached new n) refl here)
-      (λ there. loaded_given tells upper old new loaded n there ∙ holds.same n there ∙ sym (same_bucket n))
+      (λ there. loaded_given tells finds upper old new loaded n there ∙ holds.same n there ∙ sym (same_bucket n))
       (none_or_some (cached old n))
     where
       of : cached old n ≡ None → (o : Option Cached) → cached new n ≡ o → IsSome (cached new n) → given new n ≡ nodes_of (rows ++ log) new.bucket n
@@ -80,7 +80,7 @@ module _ (tells : List Row → Type 0) (upper : ℕ) (rows log : List Row) (old 
     pub holds_loaded : Holds new rows log
     holds_loaded = record {
       same = λ n here. ⊎_elim (λ none. agrees_loaded n here (fine n none here))
-          (λ there. loaded_given tells upper old new loaded n there ∙ holds.same n there ∙ sym (same_bucket n)) (none_or_some (cached old n));
+          (λ there. loaded_given tells finds upper old new loaded n there ∙ holds.same n there ∙ sym (same_bucket n)) (none_or_some (cached old n));
       others = λ n none. ap (λ k. rows_of (record { bucket = k; number = n }) log) loaded.bucket ∙ holds.others n (was_none n none);
       restores = record { each = restores_loaded };
     }

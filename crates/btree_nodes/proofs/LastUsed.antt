@@ -6,7 +6,7 @@ use Rattle.std.specs.Option.{option_to_list}
 use Rattle.fine_model.specs.declared.Row.{Row}
 use Rattle.node_cache.specs.declared.cached.Cached.{Cached}
 use Rattle.node_cache.specs.Cache.{Cache, cached, touched, with_node}
-use Rattle.node_cache.specs.Given.{IsCached, IsFetched, IsLoad}
+use Rattle.node_cache.specs.Given.{Finds, IsCached, IsFetched, IsLoad}
 use Rattle.btree_nodes.specs.Trees.{without, AreUsed}
 use Rattle.btree_nodes.proofs.LeafPush.{none_found}
 
@@ -60,8 +60,8 @@ touched_used b new k is here =
     ∙ (λ i. keys_without k b.nodes i ++ entry_there k b.nodes here i)
 
 -- and so is one that is loaded
-pub loaded_used : (tells : List Row → Type 0) (upper k : ℕ) (b m new : Cache) → m ≡ touched b k → cached b k ≡ None → IsLoad tells upper k m new → IsCached new k → AreUsed b new (k ∷ [])
-loaded_used tells upper k b m new is none load here = ⊎_elim
+pub loaded_used : (tells : List Row → Type 0) (finds : Finds) (upper k : ℕ) (b m new : Cache) → m ≡ touched b k → cached b k ≡ None → IsLoad tells finds upper k m new → IsCached new k → AreUsed b new (k ∷ [])
+loaded_used tells finds upper k b m new is none load here = ⊎_elim
     (λ same. absurd (true≢false (sym here ∙ ap (λ (es : List (ℕ × Cached)). is_some (lookup (nat_eq k) es)) (same ∙ same_nodes) ∙ ap is_some none)))
     (λ more. ap (λ (es : List (ℕ × Cached)). keys_of es) more.1 ∙ keys_behind m.nodes k more.0
     ∙ ap (λ (es : List (ℕ × Cached)). keys_of es ++ k ∷ []) same_nodes ∙ ap (λ ks. ks ++ k ∷ []) (sym (without_absent k b.nodes none)))
@@ -71,12 +71,12 @@ loaded_used tells upper k b m new is none load here = ⊎_elim
     same_nodes = ap (λ c. c.nodes) is ∙ (λ i. remove_absent k b.nodes none i ++ entry_absent k b.nodes none i) ∙ append-nil b.nodes
 
 -- a node that is put under a number where none was cached is loaded
-pub put_loaded : (tells : List Row → Type 0) (upper k : ℕ) (b new : Cache) (kept : Cached) → is_some (cached b k) ≡ false → new ≡ with_node b k kept → cached new k ≡ Some kept → ((n : ℕ) → n ≢ k → cached new n ≡ cached b n) → IsFetched tells upper b.bucket k kept → IsLoad tells upper k b new
-put_loaded tells upper k b new kept absent put here elsewhere fetched = record {
+pub put_loaded : (tells : List Row → Type 0) (finds : Finds) (upper k : ℕ) (b new : Cache) (kept : Cached) → is_some (cached b k) ≡ false → new ≡ with_node b k kept → cached new k ≡ Some kept → ((n : ℕ) → n ≢ k → cached new n ≡ cached b n) → IsFetched tells finds upper b.bucket k kept → IsLoad tells finds upper k b new
+put_loaded tells finds upper k b new kept absent put here elsewhere fetched = record {
   bucket = ap (λ c. c.bucket) put;
   saved = ap (λ c. c.saved) put;
   others = elsewhere;
   stays = λ there. absurd (true≢false (sym there ∙ absent));
-  fetched = λ none. subst (λ o. IfSome o (IsFetched tells upper b.bucket k)) (sym here) fetched;
+  fetched = λ none. subst (λ o. IfSome o (IsFetched tells finds upper b.bucket k)) (sym here) fetched;
   order = inr (kept, ap (λ c. c.nodes) put ∙ ap (λ (es : List (ℕ × Cached)). es ++ (k, kept) ∷ []) (remove_absent k b.nodes (none_found (cached b k) absent)));
 }

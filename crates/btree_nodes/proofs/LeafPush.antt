@@ -11,6 +11,7 @@ use Rattle.fine_model.specs.Nodes.{replay}
 use Rattle.fine_model.specs.Pushed.{Push, row_of, leaf_push, call_push, within_limits, nothing_pushed}
 use Rattle.fine_model.specs.RowBytes.{greatest, kind, FitsRec}
 use Rattle.fine_model.specs.Trees.{pairs_of}
+use Rattle.fine_model.proofs.FitPushed.{kind_few}
 use Rattle.node_cache.specs.Cache.{Cache, original}
 use Rattle.btree_nodes.specs.declared.tree.Path.{Path}
 use Rattle.node_cache.specs.Given.{given}
@@ -52,18 +53,6 @@ module _ (next depth : ℕ) (low : next ≤ 1048576) (flat : depth ≤ 8) (row :
       ∙ ap (λ t. if t then Err why.Bucket else (if nat_lt greatest row.version || false then Err why.Number else Ok (row ∷ []))) (not_lower 8 depth flat)
       ∙ ap (λ t. if t || false then Err why.Number else Ok (row ∷ [])) (lt-ltb greatest row.version large)
 
--- each kind has a number
-pub kind_small : (r : Rec) → kind r ≤ 9
-kind_small (rec.HeadImage root next depth) = omega arith
-kind_small (rec.LeafImage pairs) = omega arith
-kind_small (rec.InnerImage seps kids) = omega arith
-kind_small (rec.Put key value) = omega arith
-kind_small (rec.Del key) = omega arith
-kind_small (rec.CutLeaf key) = omega arith
-kind_small (rec.CutInner key) = omega arith
-kind_small (rec.Link key child) = omega arith
-kind_small (rec.Plus key by) = omega arith
-
 -- the first row whose version would pass the limit
 pub one_first : (row : Row) → greatest < row.version → first_over (row ∷ []) ≡ Some row.node
 one_first row large = ap (λ t. option_map (λ (r : Row). r.node) (if t then Some row else None)) (lt-ltb greatest row.version large)
@@ -85,7 +74,7 @@ module _ (b : Cache) (key : List ℕ) (path : Path) (is : IsPath b key path) whe
       let above = place.above in record {
         fit = (
           record {
-            of_format = kind_small change;
+            of_format = kind_few change;
             bucket = is.bucket;
             number = place.small;
             head = (λ zero. absurd (omega (arith, above, zero)), λ one. absurd (other one));

@@ -1,11 +1,13 @@
 -- Loads of nodes.
 use Rattle.std.proofs.Common.{◌≡◌, ◌≢◌, ℕ, zero, suc, List, [], ◌∷◌, arith, Option, Some, None, is_some, refl, sym, ap, subst, ◌∙◌, true≢false, false, true, ◌⊎◌, inl, inr, ⊎_elim, eqb-true, eq-eqb, eqb, Bool}
 use Rattle.std.specs.Prelude.{IsSome, IfSome, option_map, unwrap_or, Contains}
+use Rattle.fine_model.specs.declared.NodeId.{NodeId}
+use Rattle.fine_model.specs.Nodes.{Content}
 use Rattle.fine_model.specs.declared.Row.{Row}
 use Rattle.fine_model.specs.declared.Node.TheVariants as node
 use Rattle.node_cache.specs.declared.cached.Cached.{Cached}
 use Rattle.node_cache.specs.Cache.{Cache, cached}
-use Rattle.node_cache.specs.Given.{given, IsCached, IsFetched, IsLoad, IsLoaded, SameNodes}
+use Rattle.node_cache.specs.Given.{Finds, given, IsCached, IsFetched, IsLoad, IsLoaded, SameNodes}
 use Rattle.btree_nodes.specs.Trees.{LoadsAmong}
 
 pub same_or_not : (n m : ℕ) → (n ≡ m) ⊎ (n ≢ m)
@@ -19,65 +21,65 @@ pub none_or_some : (o : Option Cached) → (o ≡ None) ⊎ IsSome o
 none_or_some None = inl refl
 none_or_some (Some kept) = inr refl
 
-module _ (tells : List Row → Type 0) (upper : ℕ) where
+module _ (tells : List Row → Type 0) (finds : Finds) (upper : ℕ) where
   -- nothing was loaded
-  pub loaded_same : (old new : Cache) → new.bucket ≡ old.bucket → new.saved ≡ old.saved → SameNodes old new → IsLoaded tells upper old new
+  pub loaded_same : (old new : Cache) → new.bucket ≡ old.bucket → new.saved ≡ old.saved → SameNodes old new → IsLoaded tells finds upper old new
   loaded_same old new bucket saved same = record {
     bucket = bucket;
     saved = saved;
     stays = λ n here. same n;
-    fetched = λ n none. subst (λ o. IfSome o (IsFetched tells upper old.bucket n)) (sym (same n ∙ none)) tt;
+    fetched = λ n none. subst (λ o. IfSome o (IsFetched tells finds upper old.bucket n)) (sym (same n ∙ none)) tt;
   }
 
   -- one node was
-  pub loaded_one : (number : ℕ) (old new : Cache) → IsLoad tells upper number old new → IsLoaded tells upper old new
+  pub loaded_one : (number : ℕ) (old new : Cache) → IsLoad tells finds upper number old new → IsLoaded tells finds upper old new
   loaded_one number old new load = record {
     bucket = load.bucket;
     saved = load.saved;
     stays = λ n here. ⊎_elim (λ same. subst (λ m. cached new m ≡ cached old m) (sym same) (load.stays (subst (IsCached old) same here))) (λ other. load.others n other) (same_or_not n number);
     fetched = λ n none. ⊎_elim
-        (λ same. subst (λ m. IfSome (cached new m) (IsFetched tells upper old.bucket m)) (sym same) (load.fetched (subst (λ m. cached old m ≡ None) same none)))
-        (λ other. subst (λ o. IfSome o (IsFetched tells upper old.bucket n)) (sym (load.others n other ∙ none)) tt)
+        (λ same. subst (λ m. IfSome (cached new m) (IsFetched tells finds upper old.bucket m)) (sym same) (load.fetched (subst (λ m. cached old m ≡ None) same none)))
+        (λ other. subst (λ o. IfSome o (IsFetched tells finds upper old.bucket n)) (sym (load.others n other ∙ none)) tt)
         (same_or_not n number);
   }
 
   -- some, and then some more
-  pub loaded_on : (a b c : Cache) → IsLoaded tells upper a b → IsLoaded tells upper b c → IsLoaded tells upper a c
+  pub loaded_on : (a b c : Cache) → IsLoaded tells finds upper a b → IsLoaded tells finds upper b c → IsLoaded tells finds upper a c
   loaded_on a b c first second = record {
     bucket = second.bucket ∙ first.bucket;
     saved = second.saved ∙ first.saved;
     stays = λ n here. second.stays n (ap is_some (first.stays n here) ∙ here) ∙ first.stays n here;
     fetched = λ n none. ⊎_elim
-        (λ gone. subst (λ k. IfSome (cached c n) (IsFetched tells upper k n)) first.bucket (second.fetched n gone))
-        (λ here. subst (λ o. IfSome o (IsFetched tells upper a.bucket n)) (sym (second.stays n here)) (first.fetched n none))
+        (λ gone. subst (λ k. IfSome (cached c n) (IsFetched tells finds upper k n)) first.bucket (second.fetched n gone))
+        (λ here. subst (λ o. IfSome o (IsFetched tells finds upper a.bucket n)) (sym (second.stays n here)) (first.fetched n none))
         (none_or_some (cached b n));
   }
 
-  pub loaded_kept : (old new : Cache) → IsLoaded tells upper old new → (n : ℕ) → IsCached old n → IsCached new n
+  pub loaded_kept : (old new : Cache) → IsLoaded tells finds upper old new → (n : ℕ) → IsCached old n → IsCached new n
   loaded_kept old new loaded n here = ap is_some (loaded.stays n here) ∙ here
 
-  pub loaded_given : (old new : Cache) → IsLoaded tells upper old new → (n : ℕ) → IsCached old n → given new n ≡ given old n
+  pub loaded_given : (old new : Cache) → IsLoaded tells finds upper old new → (n : ℕ) → IsCached old n → given new n ≡ given old n
   unfolding given
   loaded_given old new loaded n here = ap (λ o. unwrap_or (option_map (λ k. (k.node, k.version)) o) (node.Broken, 0)) (loaded.stays n here)
 
 -- ---- loads of a source later on
 
 -- what a source gives later on is what it gave before
-pub loaded_before : (tells tells' : List Row → Type 0) (upper upper' : ℕ) (b c : Cache) → ((rows : List Row) → tells rows → tells' rows) → upper' ≡ upper → IsLoaded tells' upper' b c → IsLoaded tells upper b c
-loaded_before tells tells' upper upper' b c on same loaded = record {
+pub loaded_before : (tells tells' : List Row → Type 0) (finds finds' : Finds) (upper upper' : ℕ) (b c : Cache) → ((rows : List Row) → tells rows → tells' rows) → ((id : NodeId) (found : Content) → finds' id found → finds id found) → upper' ≡ upper → IsLoaded tells' finds' upper' b c → IsLoaded tells finds upper b c
+loaded_before tells tells' finds finds' upper upper' b c on back same loaded = record {
   bucket = loaded.bucket;
   saved = loaded.saved;
   stays = loaded.stays;
   fetched = λ n none. of n (cached c n) (loaded.fetched n none);
 }
   where
-    of : (n : ℕ) (o : Option Cached) → IfSome o (IsFetched tells' upper' b.bucket n) → IfSome o (IsFetched tells upper b.bucket n)
+    of : (n : ℕ) (o : Option Cached) → IfSome o (IsFetched tells' finds' upper' b.bucket n) → IfSome o (IsFetched tells finds upper b.bucket n)
     of n None h = tt
-    of n (Some kept) h = record { epoch = h.epoch ∙ same; same = λ rows told. h.same rows (on rows told) }
+    of n (Some kept) h = record { epoch = h.epoch ∙ same; found = back (record { bucket = b.bucket; number = n }) (kept.node, kept.version) h.found; same = λ rows told. h.same rows (on rows told) }
 
 -- loads, and then more of the same source
-pub loaded_then : (tells tells' : List Row → Type 0) (upper upper' : ℕ) (a b c : Cache) → ((rows : List Row) → tells rows → tells' rows) → upper' ≡ upper → IsLoaded tells upper a b → IsLoaded tells' upper' b c → IsLoaded tells upper a c
-loaded_then tells tells' upper upper' a b c on same first second = loaded_on tells upper a b c first (loaded_before tells tells' upper upper' b c on same second)
+pub loaded_then : (tells tells' : List Row → Type 0) (finds finds' : Finds) (upper upper' : ℕ) (a b c : Cache) → ((rows : List Row) → tells rows → tells' rows) → ((id : NodeId) (found : Content) → finds' id found → finds id found) → upper' ≡ upper → IsLoaded tells finds upper a b → IsLoaded tells' finds' upper' b c → IsLoaded tells finds upper a c
+loaded_then tells tells' finds finds' upper upper' a b c on back same first second = loaded_on tells finds upper a b c first (loaded_before tells tells' finds finds' upper upper' b c on back same second)
 
 -- ---- what was loaded
 
@@ -105,8 +107,8 @@ pub among_none : (old new : Cache) (numbers : List ℕ) → SameNodes old new �
 among_none old new numbers same = record { each = λ n none here. nothing_loaded old new n (same n) none here }
 
 -- one number was
-pub among_one : (tells : List Row → Type 0) (upper number : ℕ) (old new : Cache) → IsLoad tells upper number old new → LoadsAmong old new (number ∷ [])
-among_one tells upper number old new load = record {
+pub among_one : (tells : List Row → Type 0) (finds : Finds) (upper number : ℕ) (old new : Cache) → IsLoad tells finds upper number old new → LoadsAmong old new (number ∷ [])
+among_one tells finds upper number old new load = record {
   each = λ n none here. ⊎_elim (λ same. subst (Contains (number ∷ [])) (sym same) (contains_first number [])) (λ other. nothing_loaded old new n (load.others n other) none here) (same_or_not n number);
 }
 

@@ -10,7 +10,7 @@ use Rattle.fine_model.specs.Paths.{meets, seps_of}
 use Rattle.fine_model.specs.Trees.{Bounds, whole, AllBetween, IsInner, IsSubtree, IsSound, kids_of, nodes_of}
 use Rattle.fine_model.proofs.Buckets.{HasTree, has_tree}
 use Rattle.node_cache.specs.Cache.{Cache, cached}
-use Rattle.node_cache.specs.Given.{given, IsCached, IsLoaded}
+use Rattle.node_cache.specs.Given.{Finds, given, IsCached, IsLoaded}
 use Rattle.btree_nodes.specs.declared.descent.Step.{Step}
 use Rattle.btree_nodes.specs.Descent.{bounds_by}
 use Rattle.btree_nodes.specs.Scans.{numbers_from}
@@ -67,7 +67,7 @@ module _ (low high : List ℕ) where
       (λ right. Contains-append_right (cond (meets low high c) (g c kid) []) (kids_met g low high d seps kids) n (kids_grow f g n each d seps kids right))
       (Contains-append_cases (cond (meets low high c) (f c kid) []) (kids_met f low high d seps kids) n h)
 
-  module _ (tells : List Row → Type 0) (upper : ℕ) (b d : Cache) (loaded : IsLoaded tells upper b d) (n : ℕ) where
+  module _ (tells : List Row → Type 0) (finds : Finds) (upper : ℕ) (b d : Cache) (loaded : IsLoaded tells finds upper b d) (n : ℕ) where
     pub numbers_grow : (height : ℕ) (bounds : Bounds) (number : ℕ) → Contains (numbers_met height (given b) low high bounds number) n → Contains (numbers_met height (given d) low high bounds number) n
     unfolding numbers_met
     numbers_grow zero bounds number h = h
@@ -77,7 +77,7 @@ module _ (low high : List ℕ) where
         (λ same. subst (Contains (number ∷ met (given d) (given d number))) (sym same) (contains_first number (met (given d) (given d number))))
         (λ more. contains_more number (met (given d) (given d number)) n (⊎_elim
         (λ none. absurd (contains_none n (subst (λ (c : Content). Contains (met (given b) c) n) (given_none b number none) more)))
-        (λ here. subst (λ (c : Content). Contains (met (given d) c) n) (sym (loaded_given tells upper b d loaded number here))
+        (λ here. subst (λ (c : Content). Contains (met (given d) c) n) (sym (loaded_given tells finds upper b d loaded number here))
         (kids_grow (numbers_met height (given b) low high) (numbers_met height (given d) low high) n (λ c k. numbers_grow height c k) bounds (seps_of (given b number).0) (kids_of (given b number).0) more))
         (none_or_some (cached b number))))
         (contains_cases number (met (given b) (given b number)) n h)
@@ -111,13 +111,13 @@ module _ (low high : List ℕ) where
     pub walk_first : (b : Cache) → meets low high (bounds_by (given d) child.low child.high) ≡ true → LoadsAmong b d one → LoadsAmong b d (numbers_from height (given d) low high at place)
     walk_first b some among = among_more b d one (numbers_from height (given d) low high at place) (in_first some) among
 
-    pub walk_on : (tells : List Row → Type 0) (upper : ℕ) (b mid : Cache) → IsLoaded tells upper mid d → meets low high (bounds_by (given d) child.low child.high) ≡ true
+    pub walk_on : (tells : List Row → Type 0) (finds : Finds) (upper : ℕ) (b mid : Cache) → IsLoaded tells finds upper mid d → meets low high (bounds_by (given d) child.low child.high) ≡ true
         → bounds_by (given d) child.low child.high ≡ bounds_by (given mid) child.low child.high
         → LoadsAmong b mid (numbers_met height (given mid) low high (bounds_by (given mid) child.low child.high) child.number) → LoadsAmong mid d rest → LoadsAmong b d (numbers_from height (given d) low high at place)
-    walk_on tells upper b mid loaded some same first then_rest =
+    walk_on tells finds upper b mid loaded some same first then_rest =
         among_both b mid d (numbers_met height (given mid) low high (bounds_by (given mid) child.low child.high) child.number) rest (numbers_from height (given d) low high at place)
         (λ n h. in_first some n (subst (λ k. Contains (numbers_met height (given d) low high k child.number) n) (sym same)
-        (numbers_grow tells upper mid d loaded n height (bounds_by (given mid) child.low child.high) child.number h))) in_rest first then_rest
+        (numbers_grow tells finds upper mid d loaded n height (bounds_by (given mid) child.low child.high) child.number h))) in_rest first then_rest
 
   -- ---- on sound rows
 
@@ -182,8 +182,8 @@ module _ (low high : List ℕ) where
             (contains_cases 0 (numbers_met (t.depth - 1) (given b) low high whole t.root) n (subst (λ c. Contains (numbers_between (given b) low high c) n) is h))
 
 -- what a bucket holds once a range was scanned
-pub holds_on_walk : (tells : List Row → Type 0) (upper : ℕ) (rows log : List Row) (old new : Cache) (low high : List ℕ) → old.bucket < 256 → IsSound (rows ++ log) → IsLoaded tells upper old new → LoadsOnWalk old new low high → Serves tells old rows → Holds old rows log → Holds new rows log
-holds_on_walk tells upper rows log old new low high small sound loaded on_walk serves holds =
-    holds_loaded tells upper rows log old new loaded serves holds
-    (λ n none here. walk_whole low high new new.bucket (nodes_of (rows ++ log) new.bucket) (agrees_loaded tells upper rows log old new loaded serves holds) n
+pub holds_on_walk : (tells : List Row → Type 0) (finds : Finds) (upper : ℕ) (rows log : List Row) (old new : Cache) (low high : List ℕ) → old.bucket < 256 → IsSound (rows ++ log) → IsLoaded tells finds upper old new → LoadsOnWalk old new low high → Serves tells old rows → Holds old rows log → Holds new rows log
+holds_on_walk tells finds upper rows log old new low high small sound loaded on_walk serves holds =
+    holds_loaded tells finds upper rows log old new loaded serves holds
+    (λ n none here. walk_whole low high new new.bucket (nodes_of (rows ++ log) new.bucket) (agrees_loaded tells finds upper rows log old new loaded serves holds) n
     (has_tree new.bucket (nodes_of (rows ++ log) new.bucket) (nodes_of (rows ++ log) new.bucket 0).0 (sound.fit new.bucket (subst (λ (k : ℕ). k < 256) (sym loaded.bucket) small))) (on_walk.each n none here))

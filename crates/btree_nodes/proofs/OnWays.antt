@@ -8,7 +8,7 @@ use Rattle.fine_model.specs.Nodes.{Content}
 use Rattle.fine_model.specs.Paths.{is_inner, place_among, bounds_at, seps_of, kid_at, unfit_from}
 use Rattle.fine_model.specs.Trees.{Bounds, whole, is_leaf, bucket_of, nodes_of, IsSound}
 use Rattle.node_cache.specs.Cache.{Cache, cached}
-use Rattle.node_cache.specs.Given.{given, IsCached, IsLoaded}
+use Rattle.node_cache.specs.Given.{Finds, given, IsCached, IsLoaded}
 use Rattle.btree_nodes.specs.Trees.{Serves, Holds, way, way_from, way_in, LoadsOnWay}
 use Rattle.btree_nodes.proofs.Loads.{none_or_some, contains_one, contains_cases}
 use Rattle.btree_nodes.proofs.Held.{agrees_loaded, holds_loaded}
@@ -72,13 +72,13 @@ module _ (rows : List Row) (key : List ℕ) (sound : IsSound rows) (b : Cache) (
           (contains_cases 0 (way (h.depth - 1) (given b) key h.root) n (subst (λ c. Contains (way_from (given b) key c) n) is on))
 
 -- what a bucket holds once the way to a key is loaded
-pub holds_on_way : (tells : List Row → Type 0) (upper : ℕ) (rows log : List Row) (old new : Cache) (key : List ℕ) → old.bucket ≡ bucket_of key → IsSound (rows ++ log) → IsLoaded tells upper old new → LoadsOnWay old new key → Serves tells old rows → Holds old rows log → Holds new rows log
-holds_on_way tells upper rows log old new key of_key sound loaded on_way serves holds =
-    holds_loaded tells upper rows log old new loaded serves holds (λ n none here. subst (λ k. (nodes_of (rows ++ log) k n).0 ≢ node.Broken) (sym of_key') (way_sound (rows ++ log) key sound new of_key' agrees n (on_way.each n none here)))
+pub holds_on_way : (tells : List Row → Type 0) (finds : Finds) (upper : ℕ) (rows log : List Row) (old new : Cache) (key : List ℕ) → old.bucket ≡ bucket_of key → IsSound (rows ++ log) → IsLoaded tells finds upper old new → LoadsOnWay old new key → Serves tells old rows → Holds old rows log → Holds new rows log
+holds_on_way tells finds upper rows log old new key of_key sound loaded on_way serves holds =
+    holds_loaded tells finds upper rows log old new loaded serves holds (λ n none here. subst (λ k. (nodes_of (rows ++ log) k n).0 ≢ node.Broken) (sym of_key') (way_sound (rows ++ log) key sound new of_key' agrees n (on_way.each n none here)))
   where
     of_key' : new.bucket ≡ bucket_of key
     of_key' = loaded.bucket ∙ of_key
 
     agrees : (n : ℕ) → IsCached new n → (theirs (rows ++ log) key n).0 ≢ node.Broken → given new n ≡ theirs (rows ++ log) key n
     agrees n here fine =
-        agrees_loaded tells upper rows log old new loaded serves holds n here (subst (λ k. (nodes_of (rows ++ log) k n).0 ≢ node.Broken) (sym of_key') fine) ∙ ap (λ k. nodes_of (rows ++ log) k n) of_key'
+        agrees_loaded tells finds upper rows log old new loaded serves holds n here (subst (λ k. (nodes_of (rows ++ log) k n).0 ≢ node.Broken) (sym of_key') fine) ∙ ap (λ k. nodes_of (rows ++ log) k n) of_key'

@@ -6,7 +6,7 @@ use Rattle.std.specs.List.Sorted.{IsPartitionedBy, IsPartitionPoint}
 use Rattle.std.proofs.lemmas.List.Elements.{All-from_recursion}
 use Rattle.fine_model.specs.Map.{is_below}
 use Rattle.fine_model.proofs.Order.{is_below-trans}
-use Rattle.node_record.proofs.Ordered.{AreUp}
+use Rattle.fine_model.proofs.InOrder.{AreUp}
 
 -- a separator that the key is not below
 abbrev pub is_left : List ℕ → List ℕ → Bool

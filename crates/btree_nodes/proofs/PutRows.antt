@@ -1,8 +1,7 @@
 -- The rows that setting a key pushes in a tree may be pushed.
-use Rattle.std.proofs.Common.{◌≡◌, ℕ, ◌+◌, ◌-◌, ◌<◌, ◌≤◌, ◌==◌, nat_lt, nat_le, Bool, true, false, cond, ◌&&◌, ◌||◌, List, [], ◌∷◌, ◌++◌, Option, Some, None, Result, Ok, Err, inr, refl, sym, ap, subst, ◌∙◌, arith}
+use Rattle.std.proofs.Common.{◌≡◌, ℕ, ◌+◌, ◌-◌, ◌<◌, ◌≤◌, ◌==◌, nat_lt, nat_le, Bool, true, false, cond, ◌&&◌, List, [], ◌∷◌, ◌++◌, Option, Some, None, Result, Ok, Err, inr, refl, sym, ap, subst, ◌∙◌, arith}
 use Rattle.std.specs.Prelude.{IfSome}
-use Rattle.std.specs.List.{AllByRecursion, list_any}
-use Rattle.std.proofs.lemmas.Bool.{or_parts, ltb-false}
+use Rattle.std.specs.List.{AllByRecursion}
 use Rattle.fine_model.specs.declared.Call.TheVariants as call
 use Rattle.fine_model.specs.declared.Rec.TheVariants as rec
 use Rattle.fine_model.specs.declared.Row.{Row}
@@ -29,34 +28,7 @@ use Rattle.btree_nodes.specs.Growths.{pushed_of, Limits}
 use Rattle.btree_nodes.specs.Calls.{pushed_in, Outcome}
 use Rattle.btree_nodes.proofs.Sound.{passed}
 use Rattle.btree_nodes.proofs.GrowthFits.{ready_append, growth_ready, node_fits, IsGood, one_good, FitsGrowth, growth_good}
-use Rattle.btree_nodes.proofs.LeafPush.{kind_small}
-
--- rows that are within the limits
-record IsWithin (push : Push) (new : List Row) : Type 0 where
-  next : push.next ≤ 1048576
-  depth : push.depth ≤ 8
-  versions : AllByRecursion (λ row. row.version ≤ greatest) push.rows
-  rows : push.rows ≡ new
-
-none_any : {A : Type 0} (p : A → Bool) (xs : List A) → list_any p xs ≡ false → AllByRecursion (λ x. p x ≡ false) xs
-none_any p [] h = tt
-none_any p (x ∷ xs) h = let n = or_parts (p x) (list_any p xs) h in (n.0, none_any p xs n.1)
-
-within : (push : Push) (new : List Row) → within_limits push ≡ Ok new → IsWithin push new
-unfolding within_limits
-within push new is = by (nat_lt 1048576 push.next || nat_lt 8 push.depth) refl (list_any (λ row. nat_lt greatest row.version) push.rows) refl is
-  where
-    by : (b : Bool) → (nat_lt 1048576 push.next || nat_lt 8 push.depth) ≡ b → (c : Bool) → list_any (λ row. nat_lt greatest row.version) push.rows ≡ c
-        → cond {A = Result (List Row) Why} b (Err why.Bucket) (cond c (Err why.Number) (Ok push.rows)) ≡ Ok new → IsWithin push new
-    by true e c f is = absurd (cc)
-    by false e true f is = absurd (cc)
-    by false e false f is =
-        let n = or_parts (nat_lt 1048576 push.next) (nat_lt 8 push.depth) e in record {
-          next = ltb-false 1048576 push.next n.0;
-          depth = ltb-false 8 push.depth n.1;
-          versions = all_map (λ row. nat_lt greatest row.version ≡ false) (λ row. row.version ≤ greatest) (λ row h. ltb-false greatest row.version h) push.rows (none_any (λ row. nat_lt greatest row.version) push.rows f);
-          rows = cc;
-        }
+use Rattle.fine_model.proofs.FitPushed.{within, kind_few}
 
 -- rows that may be pushed
 pub record CanPush (b : Cache) (rows : List Row) : Type 0 where
@@ -134,7 +106,7 @@ module _ (b : Cache) (key value : List ℕ) (pair : FitsPair (key, value)) (path
         recs = all_both (IsGood b.bucket) (λ row. row.version ≤ greatest) (λ row. FitsRec row.rec × (row.version ≤ greatest)) (λ row p v. (p.rec, v)) put_rows.rows good w.versions;
         fits = record {
           fit = all_both (IsGood b.bucket) (λ row. row.version ≤ greatest) (FitsRow mark.Two)
-              (λ row p v. record { of_format = kind_small row.rec; bucket = subst (λ (k : ℕ). k < 256) (sym p.of_bucket) is.bucket; number = p.number; head = p.head; version_low = p.version; version_high = v; rec = p.rec }) put_rows.rows good w.versions;
+              (λ row p v. record { of_format = kind_few row.rec; bucket = subst (λ (k : ℕ). k < 256) (sym p.of_bucket) is.bucket; number = p.number; head = p.head; version_low = p.version; version_high = v; rec = p.rec }) put_rows.rows good w.versions;
           here = all_map (IsGood b.bucket) (λ row. row.node.bucket ≡ b.bucket) (λ row p. p.of_bucket) put_rows.rows good;
         };
       })

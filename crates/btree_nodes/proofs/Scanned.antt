@@ -13,7 +13,7 @@ use Rattle.btree_nodes.specs.declared.descent.Sep.{Sep}
 use Rattle.btree_nodes.specs.declared.descent.Step.{Step}
 use Rattle.btree_nodes.specs.declared.fault.TreeFault.{TreeFault}
 use Rattle.btree_nodes.specs.declared.fault.TreeFault.TheVariants.{Source, Unfit, BucketFull, Number, NoMemory}
-use Rattle.node_cache.specs.Given.{given, IsCached, IsLoaded}
+use Rattle.node_cache.specs.Given.{Finds, given, IsCached, IsLoaded}
 use Rattle.btree_nodes.specs.Descent.{bounds_by, high_of, AreKept}
 use Rattle.btree_nodes.specs.Scans.{rest_bounds, IsTaken, IsChildAt, IsScanned, IsUnfitUnder, ScansFrom, AreScanned, ScansKids}
 use Rattle.btree_nodes.specs.Trees.{kids_met, pairs_met}
@@ -119,29 +119,29 @@ pub child_small : (nodes : ℕ → Content) (bounds : Bounds) (next : ℕ) (at :
 child_small nodes bounds next at place child inner is =
     ltb-true child.number next (all_at (λ kid. nat_lt kid next) (kids_of (nodes at.number).0) place child.number (inner_is bounds next (nodes at.number).0 inner).below is.number)
 
-module _ (tells : List Row → Type 0) (upper : ℕ) (b d : Cache) (loaded : IsLoaded tells upper b d) where
+module _ (tells : List Row → Type 0) (finds : Finds) (upper : ℕ) (b d : Cache) (loaded : IsLoaded tells finds upper b d) where
   pub bounds_stay : (low high : Option Sep) → AreKept b low → AreKept b high → bounds_by (given d) low high ≡ bounds_by (given b) low high
-  bounds_stay low high kept kept' = λ i. record { low = bound_stays tells upper b d loaded low kept i; high = bound_stays tells upper b d loaded high kept' i }
+  bounds_stay low high kept kept' = λ i. record { low = bound_stays tells finds upper b d loaded low kept i; high = bound_stays tells finds upper b d loaded high kept' i }
 
   pub inner_stays : (next : ℕ) (at : Step) → IsCached b at.number → AreKept b at.low → AreKept b at.high → is_inner (bounds_by (given b) at.low at.high) next (given b at.number).0 ≡ true
       → is_inner (bounds_by (given d) at.low at.high) next (given d at.number).0 ≡ true
-  inner_stays next at there low high inner = (λ i. is_inner (bounds_stay at.low at.high low high i) next (loaded_given tells upper b d loaded at.number there i).0) ∙ inner
+  inner_stays next at there low high inner = (λ i. is_inner (bounds_stay at.low at.high low high i) next (loaded_given tells finds upper b d loaded at.number there i).0) ∙ inner
 
   pub child_stays : (next : ℕ) (at : Step) (place : ℕ) (child : Step) → IsChildOf b next at place child → IsChildOf d next at place child
   child_stays next at place child of =
-      let same = loaded_given tells upper b d loaded at.number of.there in
+      let same = loaded_given tells finds upper b d loaded at.number of.there in
       record {
-        there = loaded_kept tells upper b d loaded at.number of.there;
-        low = kept_stays tells upper b d loaded at.low of.low;
-        high = kept_stays tells upper b d loaded at.high of.high;
+        there = loaded_kept tells finds upper b d loaded at.number of.there;
+        low = kept_stays tells finds upper b d loaded at.low of.low;
+        high = kept_stays tells finds upper b d loaded at.high of.high;
         inner = inner_stays next at of.there of.low of.high of.inner;
         is = record {
           number = ap (λ (n : Content). slice_get (kids_of n.0) place) same ∙ of.is.number;
           low = of.is.low;
           high = of.is.high ∙ ap (λ (n : Content). high_of at.number place (length (seps_of n.0)) at.high) (sym same);
         };
-        child_low = kept_stays tells upper b d loaded child.low of.child_low;
-        child_high = kept_stays tells upper b d loaded child.high of.child_high;
+        child_low = kept_stays tells finds upper b d loaded child.low of.child_low;
+        child_high = kept_stays tells finds upper b d loaded child.high of.child_high;
       }
 
   pub child_bounds : (next : ℕ) (at : Step) (place : ℕ) (child : Step) → IsChildOf b next at place child → bounds_by (given d) child.low child.high ≡ bounds_by (given b) child.low child.high
@@ -151,7 +151,7 @@ module _ (tells : List Row → Type 0) (upper : ℕ) (b d : Cache) (loaded : IsL
   pub scanned_stays : (height next : ℕ) (low high : List ℕ) (bounds : Bounds) (number wanted left : ℕ) (old new : List Pair) → IsScanned b height next low high bounds number wanted left old new → IsScanned d height next low high bounds number wanted left old new
   scanned_stays height next low high bounds number wanted left old new h =
       by (scan_from height b.bucket (given d) next low high bounds number wanted) refl
-      (same_from (given d) (given b) (λ n. Unit {0}) (λ n whole. tt) (λ n any whole. loaded_given tells upper b d loaded n (cached_of_whole b n whole)) b.bucket next low high height bounds number wanted left h.fit)
+      (same_from (given d) (given b) (λ n. Unit {0}) (λ n whole. tt) (λ n any whole. loaded_given tells finds upper b d loaded n (cached_of_whole b n whole)) b.bucket next low high height bounds number wanted left h.fit)
     where
       by : (r : Result ℕ ℕ) → scan_from height b.bucket (given d) next low high bounds number wanted ≡ r
           → GoesAlike (λ n. Unit {0}) r wanted left (between low high (pairs_met height (given d) low high bounds number)) (between low high (pairs_met height (given b) low high bounds number)) → IsScanned d height next low high bounds number wanted left old new

@@ -13,7 +13,7 @@ use Rattle.fine_model.specs.Trees.{bucket_of, IsSound, map_of}
 use Rattle.node_cache.specs.Cache.{Cache}
 use Rattle.btree_nodes.specs.declared.fault.TreeFault.{TreeFault}
 use Rattle.btree_nodes.specs.declared.fault.TreeFault.TheVariants.{Source, Unfit, BucketFull, Number, NoMemory}
-use Rattle.node_cache.specs.Given.{given, IsCached, IsLoaded}
+use Rattle.node_cache.specs.Given.{Finds, given, IsCached, IsLoaded}
 use Rattle.btree_nodes.specs.Trees.{unfit_in, pairs_in, Serves, Holds, LoadsOnWay, HeadSays, first_over}
 use Rattle.btree_nodes.specs.Calls.{Answers, IsFound, IsReached, IsAsBefore, Outcome, IsChange, OnReached, OnCleanAnswer, Stays, SoundOutcome, SoundReading}
 use Rattle.btree_nodes.proofs.Changed.{saves_itself}
@@ -84,7 +84,7 @@ still_clean mid new log log' c P (Err (Source f)) C clean h = absurd h.0
 still_clean mid new log log' c P (Err (Unfit id)) C clean h = clean
 still_clean mid new log log' c P (Err (BucketFull m d)) C clean h = clean
 still_clean mid new log log' c P (Err (Number id)) C clean h = clean
-still_clean mid new log log' c P (Err NoMemory) C clean h = tt
+still_clean mid new log log' c P (Err NoMemory) C clean h = clean
 
 -- the same answer at another type
 pub clean_fault : (A B : Type 0) (e : TreeFault) (C : Type 0) → OnCleanAnswer {A = A} (Err e) C → OnCleanAnswer {A = B} (Err e) C
@@ -103,7 +103,7 @@ clean_map (Err (Source (fetch_fault.BadIndex region at))) C D on h = on h
 clean_map (Err (Unfit id)) C D on h = on h
 clean_map (Err (BucketFull m d)) C D on h = on h
 clean_map (Err (Number id)) C D on h = on h
-clean_map (Err NoMemory) C D on h = h
+clean_map (Err NoMemory) C D on h = on h
 
 -- the leaf was reached, and what is used then is
 pub reached_ok : {A : Type 0} (r : Result A TreeFault) (P : Type 0) → P → OnReached r P
@@ -122,26 +122,26 @@ reached_fault A B mid key Q F (Number id) P h = absurd h
 reached_fault A B mid key Q F NoMemory P h = tt
 
 -- a removal on sound rows
-pub removed_soundly : (tells : List Row → Type 0) (upper : ℕ) (old new : Cache) (log log' : List Row) (key : List ℕ) (F : FetchFault → Type 0) (r : Result Bool TreeFault) → old.bucket ≡ bucket_of key
-    → IsChange tells upper old new log log' (call.Del key) (λ mid there. there ≡ has (pairs_in mid key) key) F r
+pub removed_soundly : (tells : List Row → Type 0) (finds : Finds) (upper : ℕ) (old new : Cache) (log log' : List Row) (key : List ℕ) (F : FetchFault → Type 0) (r : Result Bool TreeFault) → old.bucket ≡ bucket_of key
+    → IsChange tells finds upper old new log log' (call.Del key) (λ mid there. there ≡ has (pairs_in mid key) key) F r
     → (rows : List Row) → Serves tells old rows → Holds old rows log → IsSound (rows ++ log) → SoundOutcome rows log log' new (call.Del key) (λ there. there ≡ has (map_of (rows ++ log)) key) r
-removed_soundly tells upper old new log log' key F r of_key change rows serves holds sound =
+removed_soundly tells finds upper old new log log' key F r of_key change rows serves holds sound =
     let of_key' = change.loaded.bucket ∙ of_key in
-    let holds' = holds_on_way tells upper rows log old change.mid key of_key sound change.loaded change.on_way serves holds in
+    let holds' = holds_on_way tells finds upper rows log old change.mid key of_key sound change.loaded change.on_way serves holds in
     outcome_soundly rows log log' change.mid new (call.Del key) (λ there. there ≡ has (pairs_in change.mid key) key) (λ there. there ≡ has (map_of (rows ++ log)) key) F sound of_key' holds'
     (λ reached. del_same rows log change.mid key sound of_key' holds' reached.here reached.fit)
     (λ there reached is. is ∙ has_same rows log change.mid key sound of_key' holds' reached.here reached.fit) r change.outcome
 
 -- what is found of a key on sound rows
-pub found_soundly : (tells : List Row → Type 0) (upper : ℕ) (old new : Cache) (key : List ℕ) (F : FetchFault → Type 0) (r : Result (Option (List ℕ)) TreeFault) → old.bucket ≡ bucket_of key → IsLoaded tells upper old new → LoadsOnWay old new key → Answers new key (IsFound new key) F r
+pub found_soundly : (tells : List Row → Type 0) (finds : Finds) (upper : ℕ) (old new : Cache) (key : List ℕ) (F : FetchFault → Type 0) (r : Result (Option (List ℕ)) TreeFault) → old.bucket ≡ bucket_of key → IsLoaded tells finds upper old new → LoadsOnWay old new key → Answers new key (IsFound new key) F r
     → (rows log : List Row) → Serves tells old rows → Holds old rows log → IsSound (rows ++ log) → SoundReading rows log new (λ value. value ≡ get (map_of (rows ++ log)) key) r
-found_soundly tells upper old new key F r of_key loaded on_way answer rows log serves holds sound = by r answer
+found_soundly tells finds upper old new key F r of_key loaded on_way answer rows log serves holds sound = by r answer
   where
     of_key' : new.bucket ≡ bucket_of key
     of_key' = loaded.bucket ∙ of_key
 
     then_holds : Holds new rows log
-    then_holds = holds_on_way tells upper rows log old new key of_key sound loaded on_way serves holds
+    then_holds = holds_on_way tells finds upper rows log old new key of_key sound loaded on_way serves holds
 
     by : (r : Result (Option (List ℕ)) TreeFault) → Answers new key (IsFound new key) F r → SoundReading rows log new (λ value. value ≡ get (map_of (rows ++ log)) key) r
     by (Ok value) h = (h.stands ∙ sound_value (rows ++ log) key sound new of_key' (holds_agrees new rows log key of_key' then_holds) h.here h.fit, then_holds)

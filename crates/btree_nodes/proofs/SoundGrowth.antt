@@ -9,7 +9,7 @@ use Rattle.fine_model.specs.Paths.{is_inner, place_among, bounds_at, seps_of, ki
 use Rattle.fine_model.specs.Pushed.{child_for, grown_leaf, grown_inner, growth, with_head, set_push, call_push, push_of}
 use Rattle.fine_model.specs.Trees.{Bounds, whole, is_leaf, pairs_of, bucket_of, IsSound}
 use Rattle.node_cache.specs.Cache.{Cache}
-use Rattle.node_cache.specs.Given.{given, IsCached}
+use Rattle.node_cache.specs.Given.{Finds, given, IsCached}
 use Rattle.btree_nodes.specs.Trees.{unfit_in, Serves, Holds}
 use Rattle.btree_nodes.specs.declared.fault.TreeFault.{TreeFault}
 use Rattle.btree_nodes.specs.Calls.{IsChange, SoundOutcome}
@@ -58,12 +58,12 @@ put_same rows log mid key value sound of_key holds here fit =
     ∙ ap (λ k. set_push k (given mid) (key, value) (given mid 0).0) (sym of_key)
 
 -- setting a key on sound rows
-pub put_soundly : (tells : List Row → Type 0) (upper : ℕ) (old new : Cache) (log log' : List Row) (key value : List ℕ) (F : FetchFault → Type 0) (r : Result (Unit {0}) TreeFault) → old.bucket ≡ bucket_of key
-    → IsChange tells upper old new log log' (call.Put key value) (λ mid u. Unit {0}) F r
+pub put_soundly : (tells : List Row → Type 0) (finds : Finds) (upper : ℕ) (old new : Cache) (log log' : List Row) (key value : List ℕ) (F : FetchFault → Type 0) (r : Result (Unit {0}) TreeFault) → old.bucket ≡ bucket_of key
+    → IsChange tells finds upper old new log log' (call.Put key value) (λ mid u. Unit {0}) F r
     → (rows : List Row) → Serves tells old rows → Holds old rows log → IsSound (rows ++ log) → SoundOutcome rows log log' new (call.Put key value) (λ u. Unit {0}) r
-put_soundly tells upper old new log log' key value F r of_key change rows serves holds sound =
+put_soundly tells finds upper old new log log' key value F r of_key change rows serves holds sound =
     let of_key' = change.loaded.bucket ∙ of_key in
-    let holds' = holds_on_way tells upper rows log old change.mid key of_key sound change.loaded change.on_way serves holds in
+    let holds' = holds_on_way tells finds upper rows log old change.mid key of_key sound change.loaded change.on_way serves holds in
     outcome_soundly rows log log' change.mid new (call.Put key value) (λ u. Unit {0}) (λ u. Unit {0}) F sound of_key' holds'
     (λ reached. put_same rows log change.mid key value sound of_key' holds' reached.here reached.fit)
     (λ u reached is. tt) r change.outcome

@@ -19,7 +19,7 @@ use Rattle.fine_model.specs.Trees.{bucket_of, map_of, IsSound}
 use Rattle.node_cache.specs.Cache.{Cache}
 use Rattle.btree_nodes.specs.declared.fault.TreeFault.{TreeFault}
 use Rattle.btree_nodes.specs.declared.fault.TreeFault.TheVariants.{Source, Unfit, BucketFull, Number, NoMemory}
-use Rattle.node_cache.specs.Given.{given, IsCached}
+use Rattle.node_cache.specs.Given.{Finds, given, IsCached}
 use Rattle.btree_nodes.specs.Trees.{unfit_in, pairs_in, Serves, Holds, first_over}
 use Rattle.btree_nodes.specs.Calls.{Outcome, IsChange, SoundOutcome}
 use Rattle.btree_nodes.proofs.OnWays.{holds_on_way}
@@ -84,20 +84,20 @@ module _ (rows log : List Row) (mid : Cache) (key : List ℕ) (by : ℤ) (sound 
   pub reply_same : (answer (pairs_in mid key) (call.Add key by)).0 ≡ (answer (map_of (rows ++ log)) (call.Add key by)).0
   reply_same = answer_same (pairs_in mid key) (map_of (rows ++ log)) key by (sound_value (rows ++ log) key sound mid of_key (holds_agrees mid rows log key of_key holds) here fit)
 
-pub added_soundly : (tells : List Row → Type 0) (upper : ℕ) (old new : Cache) (log log' : List Row) (key : List ℕ) (by : ℤ) (F : FetchFault → Type 0) (r : Result Reply TreeFault) → old.bucket ≡ bucket_of key
-    → IsChange tells upper old new log log' (call.Add key by) (λ mid said. said ≡ (answer (pairs_in mid key) (call.Add key by)).0) F r
+pub added_soundly : (tells : List Row → Type 0) (finds : Finds) (upper : ℕ) (old new : Cache) (log log' : List Row) (key : List ℕ) (by : ℤ) (F : FetchFault → Type 0) (r : Result Reply TreeFault) → old.bucket ≡ bucket_of key
+    → IsChange tells finds upper old new log log' (call.Add key by) (λ mid said. said ≡ (answer (pairs_in mid key) (call.Add key by)).0) F r
     → (rows : List Row) → Serves tells old rows → Holds old rows log → IsSound (rows ++ log) → SoundOutcome rows log log' new (call.Add key by) (λ said. said ≡ (answer (map_of (rows ++ log)) (call.Add key by)).0) r
-added_soundly tells upper old new log log' key by F r of_key change rows serves holds sound =
+added_soundly tells finds upper old new log log' key by F r of_key change rows serves holds sound =
     let of_key' = change.loaded.bucket ∙ of_key in
-    let holds' = holds_on_way tells upper rows log old change.mid key of_key sound change.loaded change.on_way serves holds in
+    let holds' = holds_on_way tells finds upper rows log old change.mid key of_key sound change.loaded change.on_way serves holds in
     outcome_soundly rows log log' change.mid new (call.Add key by) (λ said. said ≡ (answer (pairs_in change.mid key) (call.Add key by)).0) (λ said. said ≡ (answer (map_of (rows ++ log)) (call.Add key by)).0) F sound of_key' holds'
     (λ reached. add_same rows log change.mid key by sound of_key' holds' reached.here reached.fit)
     (λ said reached is. is ∙ reply_same rows log change.mid key by sound of_key' holds' reached.here reached.fit) r change.outcome
 
 -- the same with the number as the call hands it on
-pub added_on : (tells : List Row → Type 0) (upper : ℕ) (old new : Cache) (log log' : List Row) (key : List ℕ) (z by : ℤ) → z ≡ by → (F : FetchFault → Type 0) (r : Result Reply TreeFault) → old.bucket ≡ bucket_of key
-    → IsChange tells upper old new log log' (call.Add key z) (λ mid said. said ≡ (answer (pairs_in mid key) (call.Add key z)).0) F r
+pub added_on : (tells : List Row → Type 0) (finds : Finds) (upper : ℕ) (old new : Cache) (log log' : List Row) (key : List ℕ) (z by : ℤ) → z ≡ by → (F : FetchFault → Type 0) (r : Result Reply TreeFault) → old.bucket ≡ bucket_of key
+    → IsChange tells finds upper old new log log' (call.Add key z) (λ mid said. said ≡ (answer (pairs_in mid key) (call.Add key z)).0) F r
     → (rows : List Row) → Serves tells old rows → Holds old rows log → IsSound (rows ++ log) → SoundOutcome rows log log' new (call.Add key by) (λ said. said ≡ (answer (map_of (rows ++ log)) (call.Add key by)).0) r
-added_on tells upper old new log log' key z by same F r of_key change rows serves holds sound =
+added_on tells finds upper old new log log' key z by same F r of_key change rows serves holds sound =
     subst (λ k. SoundOutcome rows log log' new (call.Add key k) (λ said. said ≡ (answer (map_of (rows ++ log)) (call.Add key k)).0) r) same
-    (added_soundly tells upper old new log log' key z F r of_key change rows serves holds sound)
+    (added_soundly tells finds upper old new log log' key z F r of_key change rows serves holds sound)

@@ -14,7 +14,7 @@ use Rattle.btree_nodes.specs.declared.descent.Sep.{Sep}
 use Rattle.btree_nodes.specs.declared.descent.Step.{Step}
 use Rattle.btree_nodes.specs.declared.fault.TreeFault.{TreeFault}
 use Rattle.btree_nodes.specs.declared.fault.TreeFault.TheVariants.{Source, Unfit, BucketFull, Number, NoMemory}
-use Rattle.node_cache.specs.Given.{given, IsCached, IsLoaded}
+use Rattle.node_cache.specs.Given.{Finds, given, IsCached, IsLoaded}
 use Rattle.btree_nodes.specs.Descent.{bound_at, bounds_by, AreKept, IsStep}
 use Rattle.btree_nodes.specs.Descends.{IsWay, IsUnfit, Descends}
 use Rattle.btree_nodes.specs.Trees.{way, way_from, way_in, LoadsAmong, last_used, AreUsed}
@@ -71,19 +71,19 @@ module _ (b : Cache) (next : ℕ) (key : List ℕ) (low high : Option Sep) (numb
       by (Err NoMemory) h = h
 
 -- a step is one as well once more nodes are loaded
-module _ (tells : List Row → Type 0) (upper : ℕ) (b c : Cache) (loaded : IsLoaded tells upper b c) where
+module _ (tells : List Row → Type 0) (finds : Finds) (upper : ℕ) (b c : Cache) (loaded : IsLoaded tells finds upper b c) where
   pub bound_stays : (sep : Option Sep) → AreKept b sep → bound_at (given c) sep ≡ bound_at (given b) sep
   bound_stays None kept = refl
-  bound_stays (Some at) kept = ap (λ n. slice_get (seps_of n.0) at.place) (loaded_given tells upper b c loaded at.number kept)
+  bound_stays (Some at) kept = ap (λ n. slice_get (seps_of n.0) at.place) (loaded_given tells finds upper b c loaded at.number kept)
 
   pub kept_stays : (sep : Option Sep) → AreKept b sep → AreKept c sep
   kept_stays None kept = tt
-  kept_stays (Some at) kept = loaded_kept tells upper b c loaded at.number kept
+  kept_stays (Some at) kept = loaded_kept tells finds upper b c loaded at.number kept
 
   pub step_stays : (next : ℕ) (key : List ℕ) (low high : Option Sep) (number : ℕ) (s : Step) → IsCached b number → AreKept b low → AreKept b high → AreKept b s.low → AreKept b s.high
       → IsStep (given b) next key (bounds_by (given b) low high) (given b number).0 s → IsStep (given c) next key (bounds_by (given c) low high) (given c number).0 s
   step_stays next key low high number s here low_kept high_kept low_kept' high_kept' is =
-      subst (λ n. IsStep (given c) next key (bounds_by (given c) low high) n s) (sym (ap (λ k. k.0) (loaded_given tells upper b c loaded number here)))
+      subst (λ n. IsStep (given c) next key (bounds_by (given c) low high) n s) (sym (ap (λ k. k.0) (loaded_given tells finds upper b c loaded number here)))
       (subst (λ bounds. IsStep (given c) next key bounds (given b number).0 s) (λ i. record { low = sym (bound_stays low low_kept) i; high = sym (bound_stays high high_kept) i })
       (record { good = is.good; number = is.number; small = is.small; within = (λ i. record { low = bound_stays s.low low_kept' i; high = bound_stays s.high high_kept' i }) ∙ is.within }))
 

@@ -13,7 +13,7 @@ use Rattle.fine_model.specs.Paths.{unfit_between}
 use Rattle.fine_model.specs.Pushed.{call_push, within_limits, pushed, push_of, key_of}
 use Rattle.fine_model.specs.Trees.{nodes_of, bucket_of}
 use Rattle.node_cache.specs.Cache.{Cache}
-use Rattle.node_cache.specs.Given.{given, IsCached, IsLoaded, OnCleanFault}
+use Rattle.node_cache.specs.Given.{Finds, given, IsCached, IsLoaded, OnCleanFault}
 use Rattle.btree_nodes.specs.declared.fault.TreeFault.{TreeFault}
 use Rattle.btree_nodes.specs.declared.fault.TreeFault.TheVariants.{Source, Unfit, BucketFull, Number, NoMemory}
 use Rattle.btree_nodes.specs.Faults.{OnFault}
@@ -77,9 +77,9 @@ OnReached (Err _) P = Unit {0}
 
 -- A change of a tree: nodes on the way are loaded, and no others, and the way is what was used last, before anything is pushed; then
 -- the call has its outcome.
-pub record IsChange {A : Type 0} (tells : List Row → Type 0) (upper : ℕ) (old new : Cache) (log log' : List Row) (c : Call) (P : Cache → A → Type 0) (Failed : FetchFault → Type 0) (r : Result A TreeFault) : Type 0 where
+pub record IsChange {A : Type 0} (tells : List Row → Type 0) (finds : Finds) (upper : ℕ) (old new : Cache) (log log' : List Row) (c : Call) (P : Cache → A → Type 0) (Failed : FetchFault → Type 0) (r : Result A TreeFault) : Type 0 where
   pub mid : Cache
-  pub loaded : IsLoaded tells upper old mid
+  pub loaded : IsLoaded tells finds upper old mid
   pub on_way : LoadsOnWay old mid (key_of c)
   pub used : OnReached r (AreUsed old mid (way_in mid (key_of c)))
   pub outcome : Outcome mid new log log' c (P mid) Failed r
@@ -111,11 +111,10 @@ pub record IsFoundBetween (b : Cache) (low high : List ℕ) (limit : ℕ) (old n
   pub fit : unfit_between b.bucket (given b) low high limit (given b 0).0 ≡ None
   pub behind : new ≡ old ++ take limit (pairs_between (given b) low high (given b 0).0)
 
--- with every answer but want of memory and a failed load, no load failed
+-- with every answer but that of a failed load, no load failed: want of memory of the call's own included
 abbrev pub OnCleanAnswer : {A : Type 0} → Result A TreeFault → Type 0 → Type 0
 OnCleanAnswer (Ok a) P = P
 OnCleanAnswer (Err (Source fault)) P = OnCleanFault fault P
-OnCleanAnswer (Err NoMemory) P = Unit {0}
 OnCleanAnswer (Err _) P = P
 
 -- ---- on sound rows, for which the source serves the bucket

@@ -139,7 +139,7 @@ fn add_key<S: NodeSource>(
     requires key { FitsKey key.now }
     ensures later { S.later source.old source.new }
     ensures clean { OnCleanAnswer result (S.clean source.old source.new) }
-    ensures change { IsChange (S.tells source.old) (S.upper source.old) bucket.old bucket.new log.old log.new (call.Add key.now by) (λ mid reply. reply ≡ (answer (pairs_in mid key.now) (call.Add key.now by)).0) (λ failed. S.fails source.old failed source.new) result }
+    ensures change { IsChange (S.tells source.old) (S.finds source.old) (S.upper source.old) bucket.old bucket.new log.old log.new (call.Add key.now by) (λ mid reply. reply ≡ (answer (pairs_in mid key.now) (call.Add key.now by)).0) (λ failed. S.fails source.old failed source.new) result }
 {
     let path = find_leaf(source, bucket, key)?;
     add_in(alloc, bucket, log, key, by, path)
@@ -161,7 +161,7 @@ pub fn add_to<S: NodeSource>(
     requires key { FitsKey key.now }
     ensures later { S.later source.old source.new }
     ensures clean { OnCleanAnswer result (S.clean source.old source.new) }
-    ensures change { IsChange (S.tells source.old) (S.upper source.old) bucket.old bucket.new log.old log.new (call.Add key.now by) (λ mid reply. reply ≡ (answer (pairs_in mid key.now) (call.Add key.now by)).0) (λ failed. S.fails source.old failed source.new) result }
+    ensures change { IsChange (S.tells source.old) (S.finds source.old) (S.upper source.old) bucket.old bucket.new log.old log.new (call.Add key.now by) (λ mid reply. reply ≡ (answer (pairs_in mid key.now) (call.Add key.now by)).0) (λ failed. S.fails source.old failed source.new) result }
     ensures sound { (rows : List ModelRow) → Serves (S.tells source.old) bucket.old rows → Holds bucket.old rows log.old → IsSound (rows ++ log.old) → SoundOutcome rows log.old log.new bucket.new (call.Add key.now by) (λ reply. reply ≡ (answer (map_of (rows ++ log.old)) (call.Add key.now by)).0) result }
 {
     add_key(alloc, source, bucket, log, key, by)

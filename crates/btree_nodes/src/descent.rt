@@ -229,7 +229,7 @@ pub fn reach<S: NodeSource>(
     requires number { number < 1048576 }
     ensures later { S.later source.old source.new }
     ensures clean { OnCleanAnswer result (S.clean source.old source.new) }
-    ensures loaded { IsLoaded (S.tells source.old) (S.upper source.old) bucket.old bucket.new }
+    ensures loaded { IsLoaded (S.tells source.old) (S.finds source.old) (S.upper source.old) bucket.old bucket.new }
     ensures among { LoadsAmong bucket.old bucket.new (number ∷ []) }
     ensures used { OnOk result (AreUsed bucket.old bucket.new (number ∷ [])) }
     ensures there { OnOk result (IsCached bucket.new number) }
@@ -278,7 +278,7 @@ pub fn descend<S: NodeSource>(
     requires high { AreKept bucket.old high }
     ensures later { S.later source.old source.new }
     ensures clean { OnCleanAnswer result (S.clean source.old source.new) }
-    ensures loaded { IsLoaded (S.tells source.old) (S.upper source.old) bucket.old bucket.new }
+    ensures loaded { IsLoaded (S.tells source.old) (S.finds source.old) (S.upper source.old) bucket.old bucket.new }
     ensures on_way { LoadsAmong bucket.old bucket.new (way height (given bucket.new) key.now number) }
     ensures used { OnOk result (AreUsed bucket.old bucket.new (way height (given bucket.new) key.now number)) }
     ensures way { Descends bucket.new height next key.now (bounds_by (given bucket.new) low high) number (λ failed. S.fails source.old failed source.new) result }

@@ -166,7 +166,7 @@ fn put_key<S: NodeSource>(
     requires value { FitsValue value.now }
     ensures later { S.later source.old source.new }
     ensures clean { OnCleanAnswer result (S.clean source.old source.new) }
-    ensures change { IsChange (S.tells source.old) (S.upper source.old) bucket.old bucket.new log.old log.new (call.Put key.now value.now) (λ _ _. Unit {0}) (λ failed. S.fails source.old failed source.new) result }
+    ensures change { IsChange (S.tells source.old) (S.finds source.old) (S.upper source.old) bucket.old bucket.new log.old log.new (call.Put key.now value.now) (λ _ _. Unit {0}) (λ failed. S.fails source.old failed source.new) result }
 {
     let path = find_leaf(source, bucket, key)?;
     put_at(alloc, bucket, log, key, value, path)
@@ -193,7 +193,7 @@ pub fn insert<S: NodeSource>(
     requires value { FitsValue value.now }
     ensures later { S.later source.old source.new }
     ensures clean { OnCleanAnswer result (S.clean source.old source.new) }
-    ensures change { IsChange (S.tells source.old) (S.upper source.old) bucket.old bucket.new log.old log.new (call.Put key.now value.now) (λ _ _. Unit {0}) (λ failed. S.fails source.old failed source.new) result }
+    ensures change { IsChange (S.tells source.old) (S.finds source.old) (S.upper source.old) bucket.old bucket.new log.old log.new (call.Put key.now value.now) (λ _ _. Unit {0}) (λ failed. S.fails source.old failed source.new) result }
     ensures sound { (rows : List ModelRow) → Serves (S.tells source.old) bucket.old rows → Holds bucket.old rows log.old → IsSound (rows ++ log.old) → SoundOutcome rows log.old log.new bucket.new (call.Put key.now value.now) (λ _. Unit {0}) result }
 {
     put_key(alloc, source, bucket, log, key, value)

@@ -67,7 +67,7 @@ fn remove_key<S: NodeSource>(
     requires key { FitsKey key.now }
     ensures later { S.later source.old source.new }
     ensures clean { OnCleanAnswer result (S.clean source.old source.new) }
-    ensures change { IsChange (S.tells source.old) (S.upper source.old) bucket.old bucket.new log.old log.new (call.Del key.now) (λ mid there. there ≡ has (pairs_in mid key.now) key.now) (λ failed. S.fails source.old failed source.new) result }
+    ensures change { IsChange (S.tells source.old) (S.finds source.old) (S.upper source.old) bucket.old bucket.new log.old log.new (call.Del key.now) (λ mid there. there ≡ has (pairs_in mid key.now) key.now) (λ failed. S.fails source.old failed source.new) result }
 {
     let path = find_leaf(source, bucket, key)?;
     remove_at(alloc, bucket, log, key, path)
@@ -88,7 +88,7 @@ pub fn remove<S: NodeSource>(
     requires key { FitsKey key.now }
     ensures later { S.later source.old source.new }
     ensures clean { OnCleanAnswer result (S.clean source.old source.new) }
-    ensures change { IsChange (S.tells source.old) (S.upper source.old) bucket.old bucket.new log.old log.new (call.Del key.now) (λ mid there. there ≡ has (pairs_in mid key.now) key.now) (λ failed. S.fails source.old failed source.new) result }
+    ensures change { IsChange (S.tells source.old) (S.finds source.old) (S.upper source.old) bucket.old bucket.new log.old log.new (call.Del key.now) (λ mid there. there ≡ has (pairs_in mid key.now) key.now) (λ failed. S.fails source.old failed source.new) result }
     ensures sound { (rows : List ModelRow) → Serves (S.tells source.old) bucket.old rows → Holds bucket.old rows log.old → IsSound (rows ++ log.old) → SoundOutcome rows log.old log.new bucket.new (call.Del key.now) (λ there. there ≡ has (map_of (rows ++ log.old)) key.now) result }
 {
     remove_key(alloc, source, bucket, log, key)

@@ -174,7 +174,7 @@ fn scan_from<S: NodeSource>(
     requires high { AreKept bucket.old at.high }
     ensures later { S.later source.old source.new }
     ensures clean { OnCleanAnswer result (S.clean source.old source.new) }
-    ensures loaded { IsLoaded (S.tells source.old) (S.upper source.old) bucket.old bucket.new }
+    ensures loaded { IsLoaded (S.tells source.old) (S.finds source.old) (S.upper source.old) bucket.old bucket.new }
     ensures on_walk { LoadsAmong bucket.old bucket.new (numbers_met height (given bucket.new) low.now high.now (bounds_by (given bucket.new) at.low at.high) at.number) }
     ensures longer { IsLonger out.old out.new }
     ensures way { ScansFrom bucket.new height next low.now high.now (bounds_by (given bucket.new) at.low at.high) at.number wanted out.old out.new (λ failed. S.fails source.old failed source.new) result }
@@ -219,7 +219,7 @@ fn scan_kids<S: NodeSource>(
     requires inner { is_inner (bounds_by (given bucket.old) at.low at.high) next (given bucket.old at.number).0 ≡ true }
     ensures later { S.later source.old source.new }
     ensures clean { OnCleanAnswer result (S.clean source.old source.new) }
-    ensures loaded { IsLoaded (S.tells source.old) (S.upper source.old) bucket.old bucket.new }
+    ensures loaded { IsLoaded (S.tells source.old) (S.finds source.old) (S.upper source.old) bucket.old bucket.new }
     ensures on_walk { LoadsAmong bucket.old bucket.new (numbers_from (height - 1) (given bucket.new) low.now high.now at place) }
     ensures longer { IsLonger out.old out.new }
     ensures way { ScansKids bucket.new (height - 1) next low.now high.now at place wanted out.old out.new (λ failed. S.fails source.old failed source.new) result }
@@ -281,7 +281,7 @@ fn scan_from_head<S: NodeSource>(
     requires bucket { bucket.old.bucket < 256 }
     ensures later { S.later source.old source.new }
     ensures clean { OnCleanAnswer result (S.clean source.old source.new) }
-    ensures loaded { IsLoaded (S.tells source.old) (S.upper source.old) bucket.old bucket.new }
+    ensures loaded { IsLoaded (S.tells source.old) (S.finds source.old) (S.upper source.old) bucket.old bucket.new }
     ensures on_walk { LoadsOnWalk bucket.old bucket.new low.now high.now }
     ensures longer { IsLonger out.old out.new }
     ensures ok { OnOk result (IsFoundBetween bucket.new low.now high.now limit out.old out.new) }
@@ -319,7 +319,7 @@ fn scan_tree<S: NodeSource>(
     requires bucket { bucket.old.bucket < 256 }
     ensures later { S.later source.old source.new }
     ensures clean { OnCleanAnswer result (S.clean source.old source.new) }
-    ensures loaded { IsLoaded (S.tells source.old) (S.upper source.old) bucket.old bucket.new }
+    ensures loaded { IsLoaded (S.tells source.old) (S.finds source.old) (S.upper source.old) bucket.old bucket.new }
     ensures on_walk { LoadsOnWalk bucket.old bucket.new low.now high.now }
     ensures answer { Reads (λ done. IsFoundBetween bucket.new low.now high.now limit out.old out.new) (λ failed. S.fails source.old failed source.new) (IsFirstUnfitBetween bucket.new low.now high.now limit) result }
     ensures same { OnErr result (out.new ≡ out.old) }
@@ -351,7 +351,7 @@ pub fn scan<S: NodeSource>(
     requires bucket { bucket.old.bucket < 256 }
     ensures later { S.later source.old source.new }
     ensures clean { OnCleanAnswer result (S.clean source.old source.new) }
-    ensures loaded { IsLoaded (S.tells source.old) (S.upper source.old) bucket.old bucket.new }
+    ensures loaded { IsLoaded (S.tells source.old) (S.finds source.old) (S.upper source.old) bucket.old bucket.new }
     ensures on_walk { LoadsOnWalk bucket.old bucket.new low.now high.now }
     ensures answer { Reads (λ done. IsFoundBetween bucket.new low.now high.now limit out.old out.new) (λ failed. S.fails source.old failed source.new) (IsFirstUnfitBetween bucket.new low.now high.now limit) result }
     ensures same { OnErr result (out.new ≡ out.old) }

@@ -45,7 +45,7 @@ pub fn find_leaf<S: NodeSource>(
     requires bucket { bucket.old.bucket < 256 }
     ensures later { S.later source.old source.new }
     ensures clean { OnCleanAnswer result (S.clean source.old source.new) }
-    ensures loaded { IsLoaded (S.tells source.old) (S.upper source.old) bucket.old bucket.new }
+    ensures loaded { IsLoaded (S.tells source.old) (S.finds source.old) (S.upper source.old) bucket.old bucket.new }
     ensures on_way { LoadsOnWay bucket.old bucket.new key.now }
     ensures used { OnOk result (AreUsed bucket.old bucket.new (way_in bucket.new key.now)) }
     ensures path { Answers bucket.new key.now (IsPath bucket.new key.now) (λ failed. S.fails source.old failed source.new) result }
@@ -76,7 +76,7 @@ fn look_up<S: NodeSource>(
     requires bucket { bucket.old.bucket < 256 }
     ensures later { S.later source.old source.new }
     ensures clean { OnCleanAnswer result (S.clean source.old source.new) }
-    ensures loaded { IsLoaded (S.tells source.old) (S.upper source.old) bucket.old bucket.new }
+    ensures loaded { IsLoaded (S.tells source.old) (S.finds source.old) (S.upper source.old) bucket.old bucket.new }
     ensures on_way { LoadsOnWay bucket.old bucket.new key.now }
     ensures used { OnOk result (AreUsed bucket.old bucket.new (way_in bucket.new key.now)) }
     ensures answer { Answers bucket.new key.now (IsFound bucket.new key.now) (λ failed. S.fails source.old failed source.new) result }
@@ -96,7 +96,7 @@ pub fn find<S: NodeSource>(
     requires bucket { bucket.old.bucket ≡ bucket_of key.now }
     ensures later { S.later source.old source.new }
     ensures clean { OnCleanAnswer result (S.clean source.old source.new) }
-    ensures loaded { IsLoaded (S.tells source.old) (S.upper source.old) bucket.old bucket.new }
+    ensures loaded { IsLoaded (S.tells source.old) (S.finds source.old) (S.upper source.old) bucket.old bucket.new }
     ensures on_way { LoadsOnWay bucket.old bucket.new key.now }
     ensures used { OnOk result (AreUsed bucket.old bucket.new (way_in bucket.new key.now)) }
     ensures answer { Answers bucket.new key.now (IsFound bucket.new key.now) (λ failed. S.fails source.old failed source.new) result }

@@ -1,167 +1,345 @@
 -- What holds behind each answer of sealing, whether the disk tells its bytes or not.
-use Rattle.std.proofs.Common.{◌≡◌, ℕ, ◌+◌, ◌-◌, ◌<◌, ◌≤◌, Bool, true, false, List, [], ◌∷◌, ◌++◌, length, length-append, take, map, Some, None, Err, Result, refl, sym, ap, subst, ◌∙◌, inl, arith}
-use Rattle.std.specs.Prelude.{Option, IfSome, option_to_list, unwrap_or}
+use Rattle.std.proofs.Common.{◌≡◌, ◌≢◌, ℕ, ◌+◌, ◌-◌, ◌<◌, ◌≤◌, true, false, List, [], ◌∷◌, ◌++◌, length, length-append, take, map, Some, None, Err, Ok, Result, ◌||◌, refl, sym, ap, subst, ◌∙◌, inl, inr, arith}
+use Rattle.std.specs.Prelude.{Option, IfSome, IsErrOf, is_some, nat_eq, option_map, option_to_list, unwrap_or}
+use Rattle.std.specs.List.{list_any}
 use Rattle.std.proofs.lemmas.List.{take_at}
-use Rattle.fine_model.specs.declared.Header.{Header}
-use Rattle.fine_model.specs.declared.Part.{Part}
+use Rattle.fine_model.specs.declared.Job.{Job}
 use Rattle.fine_model.specs.declared.Row.{Row}
-use Rattle.fine_model.specs.Merge.{encoded_len}
-use Rattle.fine_model.specs.Regions.{header_of, partition_bytes}
-use Rattle.fine_model.specs.ChainLaws.{part_of}
-use Rattle.fine_model.specs.History.{Commit}
 use Rattle.fine_model.specs.declared.law.RoomState.{RoomState}
-use Rattle.log_disk.specs.Disk.{Disk, Told, BothTold, SameBeside, SameOutside, IsSound, IsToldOf, clock_of, with_bytes}
+use Rattle.fine_model.specs.Becomes.{Becomes}
+use Rattle.fine_model.specs.Jobs.{held_for, job_regions, taken_by}
+use Rattle.fine_model.specs.Boards.{set_of}
+use Rattle.fine_model.specs.Merge.{encoded_len}
+use Rattle.fine_model.specs.Regions.{Image, partition_bytes, region_of}
+use Rattle.fine_model.specs.ChainLaws.{DiffersAt}
+use Rattle.fine_model.specs.History.{Commit}
+use Rattle.fine_model.proofs.Goings.{becomes_itself, job_itself}
+use Rattle.fine_model.proofs.Nothing.{any_none}
+use Rattle.fine_model.proofs.Order.{all_map}
+use Rattle.log_disk.specs.Disk.{Disk, Told, BothTold, HasRisen, SameBeside, IsSound, IsToldOf, IsImageNow, CountsOwn, clock_of, with_bytes}
 use Rattle.log_disk.specs.declared.refusal.DiskRefusal.{DiskRefusal}
 use Rattle.log_disk.specs.declared.refusal.DiskRefusal.TheVariants as refusal
-use Rattle.log_disk.specs.Moments.{LeavesOnly}
-use Rattle.log_disk.proofs.Moments.{now_since, synced_now, only_now}
-use Rattle.epoch_room.specs.Epoch.{Open, empty}
-use Rattle.epoch_room.specs.Gate.{gate, IsSealing, LeavesSealing, LeavesTorn, HasBytes}
-use Rattle.epoch_room.specs.Meaning.{StandsWhere, ShownInside}
+use Rattle.log_disk.specs.Moments.{Continues, ContinuesOn, IsLeft, LeavesOnly}
+use Rattle.log_disk.proofs.Moments.{now_since, only_now, synced_now}
+use Rattle.log_disk.proofs.Times.{continued_later, continues_none}
+use Rattle.epoch_room.specs.Gate.{gate, IsBehind, IsSealing, KeepsBeside, LeavesBehind, LeavesSealing, DirtiesOnly, HasBytes}
+use Rattle.epoch_room.specs.Meaning.{Keeps, Seals, ShownInside, Stands, StandsWhere}
 use Rattle.epoch_room.specs.Partition.{IsArranged}
-use Rattle.epoch_room.specs.Steps.{next_part, sealed_state, shut_state}
-use Rattle.epoch_room.specs.Value.{RoomValue, value_of, on}
-use Rattle.epoch_room.specs.Whole.{HasPassed, HoldsParts, IsWhole}
-use Rattle.epoch_room.proofs.Ending.{IsFirstFree, first_free}
+use Rattle.epoch_room.specs.Steps.{Does, SealsOr, next_part, sealed_state}
+use Rattle.epoch_room.specs.Value.{RoomValue, Kept, value_of, on}
+use Rattle.epoch_room.specs.Whole.{HoldsParts, IsWhole}
+use Rattle.epoch_room.specs.declared.answers.RoomFault.{RoomFault}
+use Rattle.epoch_room.specs.declared.answers.RoomFault.TheVariants as room_fault
+use Rattle.epoch_room.proofs.Bodies.{holds_still}
+use Rattle.epoch_room.proofs.Boarding.{AreAlike}
+use Rattle.epoch_room.proofs.Ending.{alike_told, beside_target, ended_kept, ended_whole, moved_whole, none_lost, not_job, own_part, shut_kept, shut_whole, target_beside, target_there}
 use Rattle.epoch_room.proofs.Holding.{free_of, held_closed, held_opened}
-use Rattle.epoch_room.proofs.Kept.{Begins, sealed_room, gate_closed, gate_opened, shown_inside, shut_stands, sealed_stands, open_stands}
-use Rattle.epoch_room.proofs.Longer.{range_of, base_closed, closed_alike, longer, has_header}
+use Rattle.epoch_room.proofs.Kept.{CanSeal, IsBase, alike_closed, behind_closed, gate_opened, header_opened, longer_opened, open_stands, sealed_room, sealed_stands, shown_inside, shut_before, shut_stands}
+use Rattle.epoch_room.proofs.Longer.{range_of}
 use Rattle.epoch_room.proofs.Partitions.{partition_long}
-use Rattle.epoch_room.proofs.Torn.{HasClosed, HasOpened}
+use Rattle.epoch_room.proofs.OneRegion.{set_one}
+use Rattle.epoch_room.proofs.Torn.{HasOpened}
 
--- a call's states tell all or nothing
-all_told : (R : Told → Told → Type 0) (P : Option Told → Option Told → Option Told → Type 0) (x y z : Option Told) → HasPassed x y → BothTold R y z → P None None None
-    → ((before a b : Told) → clock_of before ≤ clock_of a → R a b → P (Some before) (Some a) (Some b)) → P x y z
-all_told R P None None None p r none some = none
-all_told R P None None (Some b) p r none some = absurd r
-all_told R P None (Some a) z p r none some = absurd p
-all_told R P (Some x) None z p r none some = absurd p
-all_told R P (Some x) (Some a) None p r none some = absurd r
-all_told R P (Some x) (Some a) (Some b) p r none some = some x a b p r
+-- ---- what is told at entry, before and then
 
-module _ (old new entry : Disk) (parts retired : List Part) (free : List ℕ) (target : Option ℕ) (epoch : Open) (sealed places : ℕ) (shut : Bool) (whole : IsWhole (value_of old entry parts retired free target epoch sealed places shut))
-    (open_room : shut ≡ false) (some : 1 ≤ epoch.waiting) (region : ℕ) (at : target ≡ Some region) (sorted : List Row) (bytes : List ℕ) (arranged : IsArranged epoch.rows sorted) (within : encoded_len sorted ≤ old.region_len)
-    (spelled : bytes ≡ partition_bytes old.region_len (range_of sealed) sorted) where
-  abbrev room : RoomState
-  room = (value_of old entry parts retired free target epoch sealed places shut).room
+both_and : (P Q : Told → Told → Type 0) (y z : Option Told) → BothTold P y z → BothTold Q y z → BothTold (λ a b. P a b × Q a b) y z
+both_and P Q None None p q = tt
+both_and P Q None (Some b) p q = absurd p
+both_and P Q (Some a) None p q = absurd p
+both_and P Q (Some a) (Some b) p q = (p, q)
 
-  first : IsFirstFree old.regions region free (parts ++ retired)
-  first = first_free old.regions region free (parts ++ retired) (ap (λ t. option_to_list t ++ free) (sym at) ∙ whole.free)
+some_behind : {R : Told → Told → Type 0} (Q : Told → Type 0) (y z : Option Told) → BothTold R y z → ((a b : Told) → R a b → Q b) → IfSome z Q
+some_behind Q None None r each = tt
+some_behind Q None (Some b) r each = absurd r
+some_behind Q (Some a) None r each = absurd r
+some_behind Q (Some a) (Some b) r each = each a b r
 
-  pub region_there : region < old.regions
-  region_there = first.there
+all_told : {R : Told → Told → Type 0} (P : Option Told → Option Told → Option Told → Type 0) (x y z : Option Told) → BothTold Continues x y → BothTold R y z → P None None None
+    → ((before a b : Told) → Continues before a → R a b → P (Some before) (Some a) (Some b)) → P x y z
+all_told P None None None p r none some = none
+all_told P None None (Some b) p r none some = absurd r
+all_told P None (Some a) z p r none some = absurd p
+all_told P (Some x) None z p r none some = absurd p
+all_told P (Some x) (Some a) None p r none some = absurd r
+all_told P (Some x) (Some a) (Some b) p r none some = some x a b p r
 
-  pub bytes_fit : 1 + length bytes ≤ old.region_len
-  bytes_fit = omega (arith, ap length spelled, partition_long old.region_len (range_of sealed) sorted, within)
-
-  begins : (a : Told) → IsToldOf old a → HoldsParts old.region_len a.bytes parts retired → Begins (value_of old entry parts retired free target epoch sealed places shut).room region sorted bytes a
-  begins a told holds = record {
-    open_room = open_room;
-    some = some;
-    small = whole.geometry.len_high;
-    is_chain = holds.is_chain;
-    there = omega (arith, first.there, told.regions);
-    long = omega (arith, bytes_fit, told.lengths region first.there);
-    free = free_of old.region_len a.bytes parts retired region holds (omega (arith, first.there, told.regions)) first.in_none;
-    end = whole.ends;
-    epoch = whole.epoch.epoch some;
-    fit = whole.epoch.fits;
-    arranged = arranged;
-    within = within;
-    spelled = spelled;
-    now = told.image;
-  }
-
-  module _ (sound : IsSound old) (sound' : IsSound new) (same : SameBeside old new) where
-    pub passed_sealing : LeavesSealing region bytes old new → HasPassed entry.told new.told
-    passed_sealing leaves =
-        all_told (λ a b. LeavesOnly (IsSealing region bytes a.bytes) a b) (λ x y z. HasPassed x z) entry.told old.told new.told whole.time leaves tt (λ before a b p run. omega (arith, p, run.later))
-
-    -- the parts that the disk holds once the epoch is sealed
-    pub held_ok : LeavesSealing region bytes old new → HasBytes (λ image. with_bytes (with_bytes image region 1 bytes) region 0 gate) old new
-        → IfSome new.told (λ t. HoldsParts new.region_len t.bytes (parts ++ part_of region (header_of (range_of sealed) epoch.rows) ∷ []) retired)
-    held_ok leaves done =
-        all_told (λ a b. LeavesOnly (IsSealing region bytes a.bytes) a b)
-        (λ x y z. IfSome y (IsToldOf old) → IfSome y (λ t. HoldsParts old.region_len t.bytes parts retired) → BothTold (λ a b. b.bytes ≡ with_bytes (with_bytes a.bytes region 1 bytes) region 0 gate) y z
-        → IfSome z (λ t. HoldsParts new.region_len t.bytes (parts ++ part_of region (header_of (range_of sealed) epoch.rows) ∷ []) retired)) entry.told old.told new.told whole.time leaves (λ t h d. tt)
-        (λ before a b p run t h d.
-        let start = begins a t h in
-        let header : Header = header_of (range_of sealed) epoch.rows in
-        let opened : HasOpened region bytes a.bytes b.bytes =
-        subst (HasOpened region bytes a.bytes) (sym d) (gate_opened (value_of old entry parts retired free target epoch sealed places shut).room region sorted bytes a start) in
-        subst (λ n. HoldsParts n b.bytes (parts ++ part_of region header ∷ []) retired) (sym same.region_len)
-        (held_opened old.region_len region bytes a.bytes b.bytes parts retired header h opened
-        (longer old.region_len region sealed parts epoch.rows sorted bytes a.bytes start.small start.is_chain start.free start.end start.epoch arranged within spelled b.bytes opened)
-        (has_header old.region_len region sealed parts epoch.rows sorted bytes a.bytes start.small start.is_chain start.free start.end start.epoch arranged within spelled b.bytes opened)))
-        sound.told (whole.told open_room) done.told
-
-    -- and where memory ran out
-    pub held_torn : LeavesTorn region bytes old new → IfSome new.told (λ t. HoldsParts new.region_len t.bytes parts retired)
-    held_torn leaves =
-        all_told (λ a b. LeavesOnly (SameOutside region 1 (1 + length bytes) a.bytes) a b)
-        (λ x y z. IfSome y (IsToldOf old) → IfSome z (IsToldOf new) → IfSome y (λ t. HoldsParts old.region_len t.bytes parts retired) → IfSome z (λ t. HoldsParts new.region_len t.bytes parts retired)) entry.told old.told new.told whole.time leaves
-        (λ t u h. tt)
-        (λ before a b p run t u h.
-        let start = begins a t h in
-        let shut_gate : HasClosed region a.bytes b.bytes =
-        gate_closed (value_of old entry parts retired free target epoch sealed places shut).room region sorted bytes a start b.bytes (run.each b.bytes (now_since (clock_of a) b b.bytes run.later u.image)) in
-        subst (λ n. HoldsParts n b.bytes parts retired) (sym same.region_len)
-        (held_closed old.region_len region a.bytes b.bytes parts retired h shut_gate
-        (closed_alike old.region_len region sealed parts epoch.rows sorted bytes a.bytes start.small start.is_chain start.free start.end start.epoch arranged within spelled b.bytes shut_gate)
-        (base_closed old.region_len region sealed parts epoch.rows sorted bytes a.bytes start.small start.is_chain start.free start.end start.epoch arranged within spelled)))
-        sound.told sound'.told (whole.told open_room)
-
-    module _ (first_rows : List Row) (e : ℕ) (history : List Commit) (stands : StandsWhere (value_of old entry parts retired free target epoch sealed places shut).room entry.told old.told first_rows e history) where
-      pub inside_any : LeavesSealing region bytes old new → ShownInside (value_of old entry parts retired free target epoch sealed places shut) old.told new.told first_rows e history
-      inside_any leaves =
-          all_told (λ a b. LeavesOnly (IsSealing region bytes a.bytes) a b)
-          (λ x y z. StandsWhere (value_of old entry parts retired free target epoch sealed places shut).room x y first_rows e history → IfSome y (IsToldOf old) → IfSome z (IsToldOf new) → IfSome y (λ t. HoldsParts old.region_len t.bytes parts retired)
-          → ShownInside (value_of old entry parts retired free target epoch sealed places shut) y z first_rows e history) entry.told old.told new.told whole.time leaves (λ s t u h. tt)
-          (λ before a b p run s t u h.
-          shown_inside (value_of old entry parts retired free target epoch sealed places shut).room region sorted bytes before a first_rows e history (begins a t h) p s b run u.image)
-          stands sound.told sound'.told (whole.told open_room)
-
-      pub stands_shut : LeavesSealing region bytes old new → StandsWhere (shut_state (value_of old entry parts retired free target epoch sealed places shut).room new) entry.told new.told first_rows e history
-      stands_shut leaves =
-          all_told (λ a b. LeavesOnly (IsSealing region bytes a.bytes) a b)
-          (λ x y z. StandsWhere (value_of old entry parts retired free target epoch sealed places shut).room x y first_rows e history → IfSome y (IsToldOf old) → IfSome z (IsToldOf new) → IfSome y (λ t. HoldsParts old.region_len t.bytes parts retired)
-          → StandsWhere (shut_state (value_of old entry parts retired free target epoch sealed places shut).room new) x z first_rows e history) entry.told old.told new.told whole.time leaves (λ s t u h. tt)
-          (λ before a b p run s t u h.
-          shut_stands (value_of old entry parts retired free target epoch sealed places shut).room region sorted bytes before a first_rows e history (begins a t h) p s b run u.image new same.region_len (ap (map (λ eye. (eye.number, eye.regions))) same.eyes))
-          stands sound.told sound'.told (whole.told open_room)
-
-      pub stands_sealed : LeavesSealing region bytes old new → HasBytes (λ image. with_bytes (with_bytes image region 1 bytes) region 0 gate) old new
-          → StandsWhere (on (sealed_room (value_of old entry parts retired free target epoch sealed places shut).room region) new) entry.told new.told first_rows e history
-      stands_sealed leaves done =
-          all_told (λ a b. LeavesOnly (IsSealing region bytes a.bytes) a b)
-          (λ x y z. StandsWhere (value_of old entry parts retired free target epoch sealed places shut).room x y first_rows e history → IfSome y (IsToldOf old) → IfSome z (IsToldOf new) → IfSome y (λ t. HoldsParts old.region_len t.bytes parts retired)
-          → BothTold (λ a b. b.bytes ≡ with_bytes (with_bytes a.bytes region 1 bytes) region 0 gate) y z → StandsWhere (on (sealed_room (value_of old entry parts retired free target epoch sealed places shut).room region) new) x z first_rows e history)
-          entry.told old.told new.told whole.time leaves (λ s t u h d. tt)
-          (λ before a b p run s t u h d.
-          sealed_stands (value_of old entry parts retired free target epoch sealed places shut).room region sorted bytes before a first_rows e history (begins a t h) p s b run u.image new same.region_len (ap (map (λ eye. (eye.number, eye.regions))) same.eyes) d
-          (λ image is. synced_now new b b image u (inl (done.synced, refl)) is))
-          stands sound.told sound'.told (whole.told open_room) done.told
-
-      pub stands_open : LeavesTorn region bytes old new → StandsWhere (on (value_of old entry parts retired free target epoch sealed places shut).room new) entry.told new.told first_rows e history
-      stands_open leaves =
-          all_told (λ a b. LeavesOnly (SameOutside region 1 (1 + length bytes) a.bytes) a b)
-          (λ x y z. StandsWhere (value_of old entry parts retired free target epoch sealed places shut).room x y first_rows e history → IfSome y (IsToldOf old) → IfSome z (IsToldOf new) → IfSome y (λ t. HoldsParts old.region_len t.bytes parts retired)
-          → StandsWhere (on (value_of old entry parts retired free target epoch sealed places shut).room new) x z first_rows e history) entry.told old.told new.told whole.time leaves (λ s t u h. tt)
-          (λ before a b p run s t u h.
-          open_stands (value_of old entry parts retired free target epoch sealed places shut).room region sorted bytes before a first_rows e history (begins a t h) p s b run u.image new same.region_len
-          (ap (map (λ eye. (eye.number, eye.regions))) same.eyes))
-          stands sound.told sound'.told (whole.told open_room)
+as_told : (R : Told → Told → Type 0) (y z : Option Told) → BothTold R y z → is_some (option_map (λ (t : Told). t.bytes) z) ≡ is_some (option_map (λ (t : Told). t.bytes) y)
+as_told R None None r = refl
+as_told R None (Some b) r = absurd r
+as_told R (Some a) None r = absurd r
+as_told R (Some a) (Some b) r = refl
 
 -- where nothing happened, what a crash leaves now shows what is sealed
-pub inside_none : (value : RoomValue) (first_rows : List Row) (e : ℕ) (history : List Commit) → HasPassed value.entry.told value.disk.told → StandsWhere value.room value.entry.told value.disk.told first_rows e history
-    → ShownInside value value.disk.told value.disk.told first_rows e history
-inside_none value first_rows e history passed stands = on value.entry.told value.disk.told passed stands
+pub inside_none : (value : RoomValue) (first : List Row) (e : ℕ) (history : List Commit) → ContinuesOn value.entry value.disk → StandsWhere value.room value.entry.told value.disk.told first e history
+    → ShownInside value value.disk.told value.disk.told first e history
+inside_none value first e history passed stands = on' value.entry.told value.disk.told passed stands
   where
-    on : (x y : Option Told) → HasPassed x y → StandsWhere value.room x y first_rows e history → ShownInside value y y first_rows e history
-    on None None p s = tt
-    on None (Some b) p s = absurd p
-    on (Some a) None p s = absurd p
-    on (Some a) (Some b) p s = λ image since. s.stands.images.now_sealed image (only_now b image since)
+    on' : (x y : Option Told) → BothTold Continues x y → StandsWhere value.room x y first e history → ShownInside value y y first e history
+    on' None None p s = tt
+    on' None (Some b) p s = absurd p
+    on' (Some a) None p s = absurd p
+    on' (Some a) (Some b) p s = λ image since. s.stands.images.now_sealed image (only_now b image since)
+
+pub keeps_none : (value : RoomValue) → IsWhole value → Keeps value value
+unfolding Stands
+keeps_none value whole = record {
+  stands = λ first e history stands. stands;
+  inside = λ first e history stands. inside_none value first e history whole.entry.time stands;
+  becomes = becomes_itself value.room;
+  time = continues_none value.disk;
+}
+
+same_beside : (disk : Disk) → SameBeside disk disk
+same_beside disk = record { regions = refl; region_len = refl; eyes = refl; given = refl }
+
+-- an earlier failure, and want of memory before the disk was called
+pub seals_none : (value : RoomValue) (result : Result ℕ RoomFault) → IsWhole value → SealsOr value value result → Seals value value result
+seals_none value result whole room = record { room = room; beside = same_beside value.disk; keeps = keeps_none value whole; job = job_itself value.room }
+
+pub does_none : (value : RoomValue) → IsWhole value → value.room.is_shut ≡ false → Does value.room value.target value value
+does_none value whole open_room = (
+  open_room,
+  record { room = whole.of_disk; target = refl; entry = refl; regions = refl; region_len = refl; time = continues_none value.disk },
+  record { faults = refl; own_faults = refl },
+)
+
+-- ---- a region was to be sealed
+
+module _ (old entry : Disk) (kept : Kept) (whole : IsWhole (value_of old entry kept)) (open_room : kept.is_shut ≡ false) (some : 1 ≤ kept.epoch.waiting) (region : ℕ) (at : kept.target ≡ Some region)
+    (sorted : List Row) (bytes : List ℕ) (arranged : IsArranged kept.epoch.rows sorted) (within : encoded_len sorted ≤ old.region_len) (spelled : bytes ≡ partition_bytes old.region_len (range_of kept.sealed) sorted) where
+  abbrev value : RoomValue
+  value = value_of old entry kept
+
+  pub bytes_fit : 1 + length bytes ≤ old.region_len
+  bytes_fit = omega (arith, ap length spelled, partition_long old.region_len (range_of kept.sealed) sorted, within)
+
+  can : CanSeal (value_of old entry kept).room sorted bytes
+  can = record { open_room = open_room; some = some; small = whole.geometry.len_high; end = whole.ends; epoch = whole.epoch.epoch some; fit = whole.epoch.fits; arranged = arranged; within = within; spelled = spelled }
+
+  abbrev Holds : Image → Type 0
+  Holds image = HoldsParts old.region_len image kept.parts kept.retired
+
+  pub there : region < old.regions
+  there = target_there old entry kept whole region at open_room
+
+  base_of : (a : Told) → IsToldOf old a → IsLeft Holds a → (was : Image) → IsImageNow a was → IsBase (value_of old entry kept).room region bytes was
+  base_of a told left was now =
+      let long : length was ≡ old.regions = now.regions ∙ sym told.image.regions ∙ told.regions in
+      let holds = left was now in
+      record {
+        is_chain = holds.is_chain;
+        free = free_of old.region_len was kept.parts kept.retired region holds (omega (arith, there, long)) (target_beside old entry kept whole region at open_room);
+        there = omega (arith, there, long);
+        long = let e : length (region_of was region) ≡ old.region_len = now.lengths region ∙ sym (told.image.lengths region) ∙ told.lengths region there in omega (arith, bytes_fit, e);
+      }
+
+  module _ (new : Disk) (same : SameBeside old new) (sound : IsSound new) (time : ContinuesOn old new) (failed : Type 0) (counts : CountsOwn failed old new) (read : KeepsBeside (region ∷ []) old new) where
+    lower : (old.faults ≤ new.faults) × (old.own_faults ≤ new.own_faults)
+    lower = counts.no_lower
+
+    -- what is told before, and then
+    record Run (a b : Told) : Type 0 where
+      told : IsToldOf old a
+      told' : IsToldOf new b
+      left : IsLeft Holds a
+      differs : DiffersAt region a.bytes b.bytes
+
+    runs : BothTold Run old.told new.told
+    runs = on' old.told new.told (alike_told old new (region ∷ []) whole.sound sound same read) whole.sound.told sound.told (whole.told (none_lost old entry kept whole region at open_room))
+      where
+        other : (m n : ℕ) → m ≢ n → (nat_eq m n || false) ≡ false
+        other m n h = grind (arith, h)
+
+        on' : (y z : Option Told) → BothTold (AreAlike (region ∷ [])) y z → IfSome y (IsToldOf old) → IfSome z (IsToldOf new) → IfSome y (IsLeft Holds) → BothTold Run y z
+        on' None None p s t h = tt
+        on' None (Some b) p s t h = absurd p
+        on' (Some a) None p s t h = absurd p
+        on' (Some a) (Some b) p s t h = record { told = s; told' = t; left = h; differs = record { as_many = p.0; others = λ r ne. p.1 r (other r region ne) } }
+
+    abbrev eyes_of : Disk → List (ℕ × List ℕ)
+    eyes_of disk = map (λ eye. (eye.number, eye.regions)) disk.eyes
+
+    same_eyes : eyes_of new ≡ eyes_of old
+    same_eyes = ap (map (λ eye. (eye.number, eye.regions))) same.eyes
+
+    -- what a merge holds stays
+    job_held : (job : Job) → kept.job ≡ Some job → held_for (option_map (λ (t : Told). t.bytes) new.told) job ≡ held_for (option_map (λ (t : Told). t.bytes) old.told) job
+    job_held job is =
+        holds_still (region ∷ []) job old.told new.told
+        (all_map (λ r. nat_eq region r ≡ false) (λ r. (nat_eq r region || false) ≡ false) (λ r h. turned region r h) (taken_by job.target job.header)
+        (any_none (nat_eq region) (taken_by job.target job.header) (subst (λ o. list_any (nat_eq region) (job_regions o) ≡ false) is (not_job old entry kept whole region at open_room)))) read
+      where
+        turned : (m n : ℕ) → nat_eq m n ≡ false → (nat_eq n m || false) ≡ false
+        turned m n h = grind (arith, h)
+
+    same_told : is_some (option_map (λ (t : Told). t.bytes) new.told) ≡ is_some (option_map (λ (t : Told). t.bytes) old.told)
+    same_told = as_told Run old.told new.told runs
+
+    -- which state becomes of the room, where an entry waits
+    becomes : (state : RoomState) → state.region_len ≡ new.region_len → state.regions ≡ new.regions → state.image ≡ option_map (λ (t : Told). t.bytes) new.told → kept.sealed ≤ state.sealed → kept.places ≡ state.places
+        → state.faults ≡ new.faults → state.own_faults ≡ new.own_faults → (state.is_shut ≡ true → HasRisen old.own_faults new.own_faults × HasRisen old.faults new.faults) → Becomes (value_of old entry kept).room state
+    becomes state len regions image sealed places faults own shut_by = record {
+      region_len = len ∙ same.region_len;
+      regions = regions ∙ same.regions;
+      told = ap is_some image ∙ same_told;
+      sealed = sealed;
+      places = omega (arith, places);
+      faults = let l = lower.0 in omega (arith, faults, l);
+      own_faults = let l = lower.1 in omega (arith, own, l);
+      shut = λ h. absurd (cc);
+      shut_by = λ h. inr (let r = shut_by h in (subst (HasRisen old.own_faults) (sym own) r.0, subst (HasRisen old.faults) (sym faults) r.1));
+      stuck = λ s. absurd (let n : kept.epoch.waiting ≡ 0 = s.none_waits in omega (arith, some, n));
+    }
+
+    module _ (leaves : LeavesSealing region bytes old new) where
+      inside : (first : List Row) (e : ℕ) (history : List Commit) → Stands (value_of old entry kept) first e history → ShownInside (value_of old entry kept) old.told new.told first e history
+      unfolding Stands
+      inside first e history stands =
+          all_told (λ x y z. StandsWhere (value_of old entry kept).room x y first e history → ShownInside (value_of old entry kept) y z first e history) entry.told old.told new.told whole.entry.time (both_and Run (λ a b. LeavesOnly (IsSealing region bytes a) a b) old.told new.told runs leaves) (λ s. tt)
+          (λ before a b p run s.
+          shown_inside (value_of old entry kept).room region sorted bytes can before a first e history (base_of a run.0.told run.0.left) run.0.told.image (continued_later before a p) s b run.0.differs run.0.told'.image run.1)
+          stands
+
+      -- the epoch was sealed
+      module _ (synced : new.unsynced ≡ []) (written : HasBytes (λ image. with_bytes (with_bytes image region 1 bytes) region 0 gate) old new) where
+        held : IfSome new.told (IsLeft (λ image. HoldsParts new.region_len image (kept.parts ++ own_part kept region ∷ []) kept.retired))
+        held = some_behind (IsLeft (λ image. HoldsParts new.region_len image (kept.parts ++ own_part kept region ∷ []) kept.retired)) old.told new.told (both_and Run (λ a b. b.bytes ≡ with_bytes (with_bytes a.bytes region 1 bytes) region 0 gate) old.told new.told runs written) one
+          where
+            one : (a b : Told) → Run a b × (b.bytes ≡ with_bytes (with_bytes a.bytes region 1 bytes) region 0 gate) → IsLeft (λ image. HoldsParts new.region_len image (kept.parts ++ own_part kept region ∷ []) kept.retired) b
+            one a b run image now =
+                let base = base_of a run.0.told run.0.left a.bytes run.0.told.image in
+                let is : image ≡ with_bytes (with_bytes a.bytes region 1 bytes) region 0 gate = synced_now new b b image run.0.told' (inl (synced, refl)) now ∙ run.1 in
+                let opened : HasOpened region bytes a.bytes image = subst (HasOpened region bytes a.bytes) (sym is) (gate_opened (value_of old entry kept).room region sorted bytes can a.bytes base) in
+                subst (λ n. HoldsParts n image (kept.parts ++ own_part kept region ∷ []) kept.retired) (sym same.region_len)
+                (held_opened old.region_len region bytes a.bytes image kept.parts kept.retired (own_part kept region).header (run.0.left a.bytes run.0.told.image) opened
+                (longer_opened (value_of old entry kept).room region sorted bytes can a.bytes base image opened) (header_opened (value_of old entry kept).room region sorted bytes can a.bytes base image opened))
+
+        pub whole_ok : (most : ℕ) → IsWhole (value_of new entry (ended_kept kept region most))
+        whole_ok most = ended_whole old new entry kept whole same sound time lower region at open_room some read synced most held
+
+        pub stands_ok : (first : List Row) (e : ℕ) (history : List Commit) → Stands (value_of old entry kept) first e history → StandsWhere (on (sealed_room (value_of old entry kept).room region) new) entry.told new.told first e history
+        unfolding Stands
+        stands_ok first e history stands =
+            all_told (λ x y z. StandsWhere (value_of old entry kept).room x y first e history → StandsWhere (on (sealed_room (value_of old entry kept).room region) new) x z first e history) entry.told old.told new.told whole.entry.time
+            (both_and (λ a b. Run a b × LeavesOnly (IsSealing region bytes a) a b) (λ a b. b.bytes ≡ with_bytes (with_bytes a.bytes region 1 bytes) region 0 gate) old.told new.told (both_and Run (λ a b. LeavesOnly (IsSealing region bytes a) a b) old.told new.told runs leaves) written) (λ s. tt)
+            (λ before a b p run s.
+            sealed_stands (value_of old entry kept).room region sorted bytes can before a first e history (base_of a run.0.0.told run.0.0.left) run.0.0.told.image (continued_later before a p) s b run.0.0.differs run.0.0.told'.image run.0.1 new same.region_len
+            same_eyes run.1 (λ image now. synced_now new b b image run.0.0.told' (inl (synced, refl)) now))
+            stands
+
+        pub seals_ok : (most : ℕ) → (failed → ⊥) → Seals (value_of old entry kept) (value_of new entry (ended_kept kept region most)) (Ok (kept.sealed + 1))
+        unfolding Stands sealed_state next_part
+        seals_ok most fine = record {
+          room = (
+            refl,
+            synced,
+            (
+              open_room,
+              record {
+                room = sym (ap (λ r. on (sealed_room (value_of old entry kept).room r) new) (ap (λ t. unwrap_or t 0) at));
+                target = refl;
+                entry = refl;
+                regions = same.regions;
+                region_len = same.region_len;
+                time = time;
+              },
+              record { faults = (counts.else_same fine).0; own_faults = (counts.else_same fine).1 },
+            ),
+          );
+          beside = same;
+          keeps = record {
+            stands = stands_ok;
+            inside = inside;
+            becomes = becomes (value_of new entry (ended_kept kept region most)).room refl refl refl (omega arith) refl refl refl (λ h. absurd (cc));
+            time = time;
+          };
+          job = record { job = refl; held = job_held };
+        }
+
+      -- the disk failed
+      pub whole_shut : failed → IsWhole (value_of new entry (shut_kept kept region))
+      whole_shut f = shut_whole old new entry kept whole same sound time lower region at open_room some read (counts.faults f) (counts.own_faults f)
+
+      stands_shut : (first : List Row) (e : ℕ) (history : List Commit) → Stands (value_of old entry kept) first e history → StandsWhere (on (record (value_of old entry kept).room { is_shut = true; lost = region ∷ [] }) new) entry.told new.told first e history
+      unfolding Stands
+      stands_shut first e history stands =
+          all_told (λ x y z. StandsWhere (value_of old entry kept).room x y first e history → StandsWhere (on (record (value_of old entry kept).room { is_shut = true; lost = region ∷ [] }) new) x z first e history) entry.told old.told new.told whole.entry.time
+          (both_and Run (λ a b. LeavesOnly (IsSealing region bytes a) a b) old.told new.told runs leaves) (λ s. tt)
+          (λ before a b p run s.
+          shut_stands (value_of old entry kept).room region sorted bytes can before a first e history (base_of a run.0.told run.0.left) run.0.told.image (continued_later before a p) s b run.0.differs run.0.told'.image run.1 (region ∷ []) new same.region_len same_eyes)
+          stands
+
+      pub seals_shut : failed → Seals (value_of old entry kept) (value_of new entry (shut_kept kept region)) (Err room_fault.Disk)
+      unfolding Stands
+      seals_shut f = record {
+        room = (
+          open_room,
+          record {
+            room = ap (λ lost. on (record (value_of old entry kept).room { is_shut = true; lost = lost }) new) (sym lost_is);
+            target = refl;
+            entry = refl;
+            regions = same.regions;
+            region_len = same.region_len;
+            time = time;
+          },
+          record { faults = counts.faults f; own_faults = counts.own_faults f; no_lower = lower },
+        );
+        beside = same;
+        keeps = record {
+          stands = stands_shut;
+          inside = inside;
+          becomes = becomes (value_of new entry (shut_kept kept region)).room refl refl refl (omega arith) refl refl refl (λ h. (counts.own_faults f, counts.faults f));
+          time = time;
+        };
+        job = record { job = refl; held = job_held };
+      }
+        where
+          lost_is : set_of (option_to_list kept.target) ≡ region ∷ []
+          lost_is = ap (λ t. set_of (option_to_list t)) at ∙ set_one region (let h = whole.geometry.regions_high in omega (arith, there, h))
+
+      -- memory ran out
+      module _ (torn : LeavesBehind (region ∷ []) old new) where
+        still_held : IfSome new.told (IsLeft (λ image. HoldsParts new.region_len image kept.parts kept.retired))
+        still_held = some_behind (IsLeft (λ image. HoldsParts new.region_len image kept.parts kept.retired)) old.told new.told (both_and Run (λ a b. LeavesOnly (IsBehind (region ∷ []) a) a b) old.told new.told runs torn) one
+          where
+            one : (a b : Told) → Run a b × LeavesOnly (IsBehind (region ∷ []) a) a b → IsLeft (λ image. HoldsParts new.region_len image kept.parts kept.retired) b
+            one a b run image now =
+                let t = run.1.each image (now_since (clock_of a) b image run.1.later now) in
+                let base = base_of a run.0.told run.0.left t.was t.is_was in
+                let closed = behind_closed (value_of old entry kept).room region sorted bytes can t.was base image t.differs in
+                subst (λ n. HoldsParts n image kept.parts kept.retired) (sym same.region_len)
+                (held_closed old.region_len region t.was image kept.parts kept.retired (run.0.left t.was t.is_was) closed (alike_closed (value_of old entry kept).room region sorted bytes can t.was base image closed)
+                (shut_before (value_of old entry kept).room region sorted bytes can t.was base))
+
+        pub whole_open : DirtiesOnly (region ∷ []) old new → IsWhole (value_of new entry kept)
+        whole_open dirties = moved_whole old new entry kept whole same sound time lower (region ∷ []) (beside_target old new entry kept whole same sound time lower region at open_room some read) read open_room dirties still_held
+
+        stands_open : (first : List Row) (e : ℕ) (history : List Commit) → Stands (value_of old entry kept) first e history → StandsWhere (on (value_of old entry kept).room new) entry.told new.told first e history
+        unfolding Stands
+        stands_open first e history stands =
+            all_told (λ x y z. StandsWhere (value_of old entry kept).room x y first e history → StandsWhere (on (value_of old entry kept).room new) x z first e history) entry.told old.told new.told whole.entry.time
+            (both_and Run (λ a b. LeavesOnly (IsBehind (region ∷ []) a) a b) old.told new.told runs torn) (λ s. tt)
+            (λ before a b p run s.
+            open_stands (value_of old entry kept).room region sorted bytes can before a first e history (base_of a run.0.told run.0.left) run.0.told.image (continued_later before a p) s b run.0.differs run.0.told'.image run.1 new same.region_len same_eyes)
+            stands
+
+        pub seals_open : (failed → ⊥) → Seals (value_of old entry kept) (value_of new entry kept) (Err room_fault.NoMemory)
+        unfolding Stands
+        seals_open fine = record {
+          room = (
+            open_room,
+            record { room = refl; target = refl; entry = refl; regions = same.regions; region_len = same.region_len; time = time },
+            record { faults = (counts.else_same fine).0; own_faults = (counts.else_same fine).1 },
+          );
+          beside = same;
+          keeps = record {
+            stands = stands_open;
+            inside = inside;
+            becomes = becomes (value_of new entry kept).room refl refl refl (omega arith) refl refl refl (λ h. absurd (cc));
+            time = time;
+          };
+          job = record { job = refl; held = job_held };
+        }
 
 -- ---- the fields behind each answer
 
@@ -170,26 +348,18 @@ popped xs all new y n is long cut =
     let k : length xs ≡ n - 1 = omega (arith, long, ap length is, length-append xs (y ∷ [])) in
     cut ∙ ap (λ m. take m all) (sym k) ∙ ap (take (length xs)) is ∙ take_at xs (y ∷ []) (length xs) refl
 
-pub sealed_is : (old new entry : Disk) (parts parts' retired : List Part) (free : List ℕ) (target : Option ℕ) (epoch epoch' : Open) (sealed places most : ℕ) (shut : Bool)
-    → parts' ≡ parts ++ part_of (unwrap_or target 0) (header_of (range_of sealed) epoch.rows) ∷ [] → epoch' ≡ empty most
-    → (value_of new entry parts' retired free None epoch' (sealed + 1) places shut).room ≡ on (sealed_state (value_of old entry parts retired free target epoch sealed places shut)) new
-unfolding sealed_state next_part
-sealed_is old new entry parts parts' retired free target epoch epoch' sealed places most shut pushed cleared =
-    λ i. (value_of new entry (pushed i) retired free None (cleared i) (sealed + 1) places shut).room
+-- the target that an open epoch has
+pub target_at : (target : Option ℕ) → (region : ℕ) × (target ≡ Some region) → (result : ℕ) → result ≡ unwrap_or target 0 → target ≡ Some result
+target_at target found result is = found.1 ∙ ap (λ (n : ℕ). Some n) (sym (is ∙ ap (λ (t : Option ℕ). unwrap_or t 0) found.1))
 
-pub sealed_at : (value : RoomValue) (new : Disk) (region : ℕ) → unwrap_or value.target 0 ≡ region → on (sealed_state value) new ≡ on (sealed_room value.room region) new
-unfolding sealed_state next_part
-sealed_at value new region at = ap (λ r. on (sealed_room value.room r) new) at
+pub is_failed : (result : Result (Unit {0}) DiskRefusal) (r : DiskRefusal) → result ≡ Err r → r ≡ refusal.Failed → IsErrOf result refusal.Failed
+is_failed result r is e = cc
 
-pub shut_is : (old new entry : Disk) (parts parts' retired : List Part) (free : List ℕ) (target : Option ℕ) (epoch : Open) (sealed places : ℕ) (shut : Bool) → parts' ≡ parts
-    → (value_of new entry parts' retired free target epoch sealed places true).room ≡ shut_state (value_of old entry parts retired free target epoch sealed places shut).room new
-unfolding shut_state
-shut_is old new entry parts parts' retired free target epoch sealed places shut same_parts = λ i. (value_of new entry (same_parts i) retired free target epoch sealed places true).room
+pub is_no_memory : (result : Result (Unit {0}) DiskRefusal) (r : DiskRefusal) → result ≡ Err r → r ≡ refusal.NoMemory → IsErrOf result refusal.NoMemory
+is_no_memory result r is e = cc
 
-pub open_is : (old new entry : Disk) (parts parts' retired : List Part) (free : List ℕ) (target : Option ℕ) (epoch : Open) (sealed places : ℕ) (shut : Bool) → parts' ≡ parts
-    → (value_of new entry parts' retired free target epoch sealed places shut).room ≡ on (value_of old entry parts retired free target epoch sealed places shut).room new
-open_is old new entry parts parts' retired free target epoch sealed places shut same_parts = λ i. (value_of new entry (same_parts i) retired free target epoch sealed places shut).room
+pub not_failed : (result : Result (Unit {0}) DiskRefusal) → IsErrOf result refusal.NoMemory → IsErrOf result refusal.Failed → ⊥
+not_failed result is e = let h : ◌≡◌ {A = Result (Unit {0}) DiskRefusal} (Err refusal.NoMemory) (Err refusal.Failed) = sym is ∙ e in cc
 
--- one refusal is not the other
-pub not_both : (r : DiskRefusal) → ◌≡◌ {A = Result (Unit {0}) DiskRefusal} (Err r) (Err refusal.Failed) → r ≡ refusal.NoMemory → ⊥
-not_both r h is = cc
+pub not_failed_ok : (result : Result (Unit {0}) DiskRefusal) {u : Unit {0}} → result ≡ Ok u → IsErrOf result refusal.Failed → ⊥
+not_failed_ok result {u} is e = let h : ◌≡◌ {A = Result (Unit {0}) DiskRefusal} (Ok u) (Err refusal.Failed) = sym is ∙ e in cc

@@ -13,8 +13,9 @@ use Rattle.fine_model.specs.Chain.{regions_of}
 use Rattle.fine_model.specs.Trees.{is_distinct}
 use Rattle.fine_model.proofs.Nothing.{any_none}
 use Rattle.fine_model.proofs.Order.{first_of_both}
-use Rattle.epoch_room.specs.Value.{all_regions, regions_beside}
+use Rattle.epoch_room.specs.Value.{all_regions, regions_outside}
 use Rattle.epoch_room.specs.Whole.{HasRegions, AreApart}
+use Rattle.epoch_room.proofs.Taken.{not_true}
 
 -- a region is in one of the parts where it is among all their regions
 pub any_region : (r : ℕ) (parts : List Part) → list_any (λ p. list_any (nat_eq r) (regions_of p)) parts ≡ list_any (nat_eq r) (all_regions parts)
@@ -37,10 +38,6 @@ regions_sum [] all = refl
 regions_sum (p ∷ parts) all =
     omega (arith, sum_by-cons (λ (p : Part). p.header.regions) p parts, regions_sum parts all.1, length-append (regions_of p) (all_regions parts), part_sum p all.0)
 
-pub not_true : (b : Bool) → not b ≡ true → b ≡ false
-not_true true h = absurd (true≢false (sym h))
-not_true false h = refl
-
 pub distinct_from : (xs : List ℕ) → is_distinct xs ≡ true → IsDistinct nat_eq xs
 unfolding is_distinct IsDistinct
 distinct_from [] h = tt
@@ -55,11 +52,8 @@ at_member P (x ∷ xs) q all h = by (nat_eq q x) refl h (λ rest. at_member P xs
     by true e h rest = subst P (sym (eqb-true q x e)) all.0
     by false e h rest = rest h
 
-pub few_apart : (regions : ℕ) (parts : List Part) → AreApart regions parts → length (all_regions parts) ≤ regions
-few_apart regions parts apart = length-le_from_distinct_below (all_regions parts) regions (distinct_from (all_regions parts) apart.distinct) (λ q h. at_member (λ r. r < regions) (all_regions parts) q apart.below h)
-
-pub few_both : (regions : ℕ) (a b : List Part) → AreApart regions (a ++ b) → length (all_regions a) + length (all_regions b) ≤ regions
-few_both regions a b apart = omega (arith, few_apart regions (a ++ b) apart, ap length (regions_together a b), length-append (all_regions a) (all_regions b))
+pub few_apart : (regions : ℕ) (some : List ℕ) → AreApart regions some → length some ≤ regions
+few_apart regions some apart = length-le_from_distinct_below some regions (distinct_from some apart.distinct) (λ q h. at_member (λ r. r < regions) some q apart.below h)
 
 -- ---- those beside them
 
@@ -71,9 +65,9 @@ filter_few p (x ∷ xs) = by (p x) (filter_few p xs)
     by true h = omega (arith, h)
     by false h = omega (arith, h)
 
-pub beside_few : (regions : ℕ) (parts : List Part) → length (regions_beside regions parts) ≤ regions
-unfolding regions_beside
-beside_few regions parts = omega (arith, filter_few (λ r. not (list_any (nat_eq r) (all_regions parts))) (range_with_len 0 regions), length-range_with_len 0 regions)
+pub outside_few : (regions : ℕ) (some : List ℕ) → length (regions_outside regions some) ≤ regions
+unfolding regions_outside
+outside_few regions some = omega (arith, filter_few (λ r. not (list_any (nat_eq r) some)) (range_with_len 0 regions), length-range_with_len 0 regions)
 
 range_more : (a n : ℕ) → range_with_len a (n + 1) ≡ range_with_len a n ++ (a + n) ∷ []
 range_more a zero = let e : a + 0 ≡ a = omega arith in ap (λ b. b ∷ []) (sym e)

@@ -1,28 +1,44 @@
--- A room whose open epoch was sealed.
-use Rattle.std.proofs.Common.{◌≡◌, ℕ, zero, suc, ◌+◌, ◌-◌, ◌*◌, ◌%◌, ◌<◌, ◌≤◌, Bool, true, false, cond, not, ◌&&◌, ◌||◌, List, [], ◌∷◌, ◌++◌, length, Some, None, refl, sym, ap, subst, ◌∙◌, arith, append_assoc, eq-eqb}
-use Rattle.std.specs.Prelude.{Option, filter, fold, nat_eq, option_to_list, take, IfSome}
-use Rattle.std.specs.List.{AllByRecursion, list_any, range_with_len}
+-- A room behind each answer of sealing.
+use Rattle.std.proofs.Common.{◌≡◌, ℕ, zero, suc, ◌+◌, ◌*◌, ◌%◌, ◌<◌, ◌≤◌, true, false, not, ◌||◌, List, [], ◌∷◌, ◌++◌, length, map, Some, None, refl, sym, ap, subst, ◌∙◌, inl, inr, arith, append_assoc, eq-eqb}
+use Rattle.std.specs.Prelude.{Option, fold, nat_eq, option_map, option_to_list, IfSome, All, Any, Contains, IsPermutation, IsTrue}
+use Rattle.std.specs.List.{AllByRecursion, list_any}
 use Rattle.std.proofs.lemmas.Bool.{le-leb, or_parts}
+use Rattle.std.proofs.lemmas.List.Elements.{All-contains}
 use Rattle.std.proofs.lemmas.List.Folds.{list_any-append}
 use Rattle.std.proofs.lemmas.List.Sums.{fold-append}
-use Rattle.fine_model.specs.declared.Header.{Header}
+use Rattle.std.proofs.lemmas.Map.Views.{list_any-from_Contains}
+use Rattle.std.proofs.lemmas.Option.{IfSome_then}
 use Rattle.fine_model.specs.declared.Part.{Part}
+use Rattle.fine_model.specs.declared.law.OpenedEye.{OpenedEye}
 use Rattle.fine_model.specs.RowBytes.{greatest, rows_len}
+use Rattle.fine_model.specs.Boards.{posted, named, held_of}
 use Rattle.fine_model.specs.Trees.{is_distinct}
-use Rattle.fine_model.specs.Chain.{chain_end}
+use Rattle.fine_model.specs.declared.law.RoomState.{RoomState}
+use Rattle.fine_model.specs.Chain.{chain_end, regions_of}
 use Rattle.fine_model.specs.ChainLaws.{part_of}
-use Rattle.fine_model.proofs.Order.{all_map, filter_all, first_of_both}
-use Rattle.fine_model.proofs.Sets.{all_append, all_filter, all_pass}
+use Rattle.fine_model.specs.Jobs.{job_left, job_regions}
 use Rattle.fine_model.specs.Merge.{nodes_in}
 use Rattle.fine_model.specs.Regions.{header_of}
-use Rattle.log_disk.specs.Disk.{Disk, SameBeside}
-use Rattle.epoch_room.specs.Epoch.{Open, empty}
-use Rattle.epoch_room.specs.Value.{all_regions, regions_beside, value_of}
-use Rattle.epoch_room.specs.Whole.{AreApart, AreRising, FollowOn, FitsRegions, HasGeometry, HasPassed, HoldsParts, IsWhole}
-use Rattle.epoch_room.proofs.Beside.{not_true, regions_together, any_together}
+use Rattle.fine_model.specs.Views.{SameSeen}
+use Rattle.fine_model.proofs.Nothing.{any_none}
+use Rattle.fine_model.proofs.Order.{all_map, filter_all}
+use Rattle.fine_model.proofs.Sets.{all_append}
+use Rattle.fine_model.proofs.Times.{times, times-append}
+use Rattle.partition_index.specs.Parts.{LiesIn}
+use Rattle.log_disk.specs.Disk.{Disk, Told, BothTold, HasRisen, SameBeside, IsSound, IsToldOf, region_of}
+use Rattle.log_disk.specs.Moments.{ContinuesOn, IsLeft}
+use Rattle.log_disk.proofs.Times.{continues_then}
+use Rattle.epoch_room.specs.Epoch.{empty}
+use Rattle.epoch_room.specs.Gate.{DirtiesOnly, KeepsBeside}
+use Rattle.epoch_room.specs.Value.{Kept, all_regions, regions_outside, taken, value_of}
+use Rattle.epoch_room.specs.Whole.{AreApart, AreOnBoard, FollowOn, HasEntry, HasGeometry, HoldsParts, IsJob, IsTaken, IsWhole, NamesWhole}
+use Rattle.epoch_room.proofs.Beside.{regions_together}
+use Rattle.epoch_room.proofs.Boarding.{AreAlike, AreBeside, one_beside, still_shows, unnamed_posted}
 use Rattle.epoch_room.proofs.Costs.{cost_none}
 use Rattle.epoch_room.proofs.Counting.{all_front, all_back}
+use Rattle.epoch_room.proofs.Freeing.{all_left, nat_alike}
 use Rattle.epoch_room.proofs.Longer.{range_of}
+use Rattle.epoch_room.proofs.Taken.{SameTimes, same_apart, same_outside, other_list}
 
 -- ---- ranges
 
@@ -38,118 +54,20 @@ follow_next parts p first order most follow = follow_more parts p 1 0 refl first
 pub end_next : (parts : List Part) (p : Part) → chain_end (parts ++ p ∷ []) ≡ p.header.range.last
 end_next parts p = fold-append (λ (n : ℕ) (q : Part). q.header.range.last) 0 parts (p ∷ [])
 
--- ---- the region that was free
+-- ---- names, with a part more
 
-rising_range : (a n : ℕ) → AllByRecursion (λ r. a ≤ r) (range_with_len a n) × AreRising (range_with_len a n)
-rising_range a zero = (tt, tt)
-rising_range a (suc n) =
-    let rest = rising_range (a + 1) n in
-    ((omega arith, all_map (λ r. a + 1 ≤ r) (λ r. a ≤ r) (λ r h. omega (arith, h)) (range_with_len (a + 1) n) rest.0), (all_map (λ r. a + 1 ≤ r) (λ r. a < r) (λ r h. omega (arith, h)) (range_with_len (a + 1) n) rest.0, rest.1))
+any_cons : {A : Type 0} (P : A → Type 0) (x : A) (xs : List A) → Any P xs → Any P (x ∷ xs)
+any_cons P x xs any = (suc any.0, any.1, omega (arith, any.2), any.3, any.4)
 
-rising_filter : (p : ℕ → Bool) (xs : List ℕ) → AreRising xs → AreRising (filter p xs)
-rising_filter p [] up = tt
-rising_filter p (x ∷ xs) up = by (p x) (rising_filter p xs up.1)
-  where
-    by : (b : Bool) → AreRising (filter p xs) → AreRising (cond b (x ∷ filter p xs) (filter p xs))
-    by true rest = (all_filter (λ y. x < y) p xs up.0, rest)
-    by false rest = rest
+any_insert : {A : Type 0} (P : A → Type 0) (xs : List A) (y : A) (ys : List A) → Any P (xs ++ ys) → Any P ((xs ++ y ∷ []) ++ ys)
+any_insert P [] y ys any = any_cons P y ys any
+any_insert P (x ∷ xs) y ys (zero, z, low, is, holds) = (zero, z, omega arith, is, holds)
+any_insert P (x ∷ xs) y ys (suc k, z, low, is, holds) = any_cons P x ((xs ++ y ∷ []) ++ ys) (any_insert P xs y ys (k, z, omega (arith, low), is, holds))
 
-below_range : (a n : ℕ) → AllByRecursion (λ r. r < a + n) (range_with_len a n)
-below_range a zero = tt
-below_range a (suc n) = (omega arith, all_map (λ r. r < a + 1 + n) (λ r. r < a + suc n) (λ r h. omega (arith, h)) (range_with_len (a + 1) n) (below_range (a + 1) n))
-
--- the first region that no part has
-pub record IsFirstFree (regions region : ℕ) (free : List ℕ) (parts : List Part) : Type 0 where
-  pub there : region < regions
-  pub in_none : list_any (nat_eq region) (all_regions parts) ≡ false
-  pub above : AllByRecursion (λ r. region < r) free
-
-pub first_free : (regions region : ℕ) (free : List ℕ) (parts : List Part) → region ∷ free ≡ regions_beside regions parts → IsFirstFree regions region free parts
-unfolding regions_beside
-first_free regions region free parts is =
-    let p : ℕ → Bool = λ r. not (list_any (nat_eq r) (all_regions parts)) in
-    let low : AllByRecursion (λ r. r < 0 + regions) (region ∷ free) = subst (AllByRecursion (λ r. r < 0 + regions)) (sym is) (all_filter (λ r. r < 0 + regions) p (range_with_len 0 regions) (below_range 0 regions)) in
-    let pass : AllByRecursion (λ r. p r ≡ true) (region ∷ free) = subst (AllByRecursion (λ r. p r ≡ true)) (sym is) (all_pass p (range_with_len 0 regions)) in
-    let up : AreRising (region ∷ free) = subst AreRising (sym is) (rising_filter p (range_with_len 0 regions) (rising_range 0 regions).1) in
-    record { there = omega (arith, low.0); in_none = not_true (list_any (nat_eq region) (all_regions parts)) pass.0; above = up.0 }
-
-filter_twice : {A : Type 0} (p q r : A → Bool) → ((x : A) → r x ≡ (p x && q x)) → (xs : List A) → filter r xs ≡ filter q (filter p xs)
-filter_twice p q r both [] = refl
-filter_twice p q r both (x ∷ xs) = ap (λ b. cond b (x ∷ filter r xs) (filter r xs)) (both x) ∙ by (p x) (filter_twice p q r both xs)
-  where
-    by : (b : Bool) → filter r xs ≡ filter q (filter p xs) → cond (b && q x) (x ∷ filter r xs) (filter r xs) ≡ filter q (cond b (x ∷ filter p xs) (filter p xs))
-    by true rest = ap (λ ys. cond (q x) (x ∷ ys) ys) rest
-    by false rest = rest
-
--- a part of one region has its lead alone
-own_regions : (region : ℕ) (header : Header) → header.regions ≡ 1 → all_regions (part_of region header ∷ []) ≡ region ∷ []
-own_regions region header alone = ap (λ n. (region ∷ take (n - 1) header.more) ++ []) alone
-
--- once a part has it, the others are left
-pub left_free : (regions region : ℕ) (free : List ℕ) (live retired : List Part) (header : Header) → header.regions ≡ 1 → region ∷ free ≡ regions_beside regions (live ++ retired)
-    → free ≡ regions_beside regions ((live ++ part_of region header ∷ []) ++ retired)
-unfolding regions_beside
-left_free regions region free live retired header alone is =
-    let p : ℕ → Bool = λ r. not (list_any (nat_eq r) (all_regions (live ++ retired))) in
-    let q : ℕ → Bool = λ r. not (nat_eq r region) in
-    let r : ℕ → Bool = λ r. not (list_any (nat_eq r) (all_regions ((live ++ part_of region header ∷ []) ++ retired))) in
-    let first = first_free regions region free (live ++ retired) is in
-    let gone : filter q (region ∷ free) ≡ free =
-    ap (λ b. cond (not b) (region ∷ filter q free) (filter q free)) (eq-eqb region region refl)
-    ∙ filter_all q free (all_map (λ s. region < s) (λ s. q s ≡ true) (λ s h. other region s h) free first.above) in
-    sym (filter_twice p q r (λ s. one_more s) (range_with_len 0 regions) ∙ ap (filter q) (sym is) ∙ gone)
-  where
-    other : (m n : ℕ) → m < n → not (nat_eq n m) ≡ true
-    other m n h = grind (arith, h)
-
-    three : (a b c : Bool) → not ((a || (b || false)) || c) ≡ (not (a || c) && not b)
-    three true true c = refl
-    three true false c = refl
-    three false true true = refl
-    three false true false = refl
-    three false false true = refl
-    three false false false = refl
-
-    own : (s : ℕ) → list_any (nat_eq s) (all_regions (part_of region header ∷ [])) ≡ (nat_eq s region || false)
-    own s = ap (list_any (nat_eq s)) (own_regions region header alone)
-
-    one_more : (s : ℕ) → not (list_any (nat_eq s) (all_regions ((live ++ part_of region header ∷ []) ++ retired))) ≡ (not (list_any (nat_eq s) (all_regions (live ++ retired))) && not (nat_eq s region))
-    one_more s =
-        ap not (
-        any_together s (live ++ part_of region header ∷ []) retired
-        ∙ ap (λ b. b || list_any (nat_eq s) (all_regions retired)) (any_together s live (part_of region header ∷ []) ∙ ap (λ b. list_any (nat_eq s) (all_regions live) || b) (own s))
-        )
-        ∙ three (list_any (nat_eq s) (all_regions live)) (nat_eq s region) (list_any (nat_eq s) (all_regions retired)) ∙ ap (λ b. not b && not (nat_eq s region)) (sym (any_together s live retired))
-
--- ---- no region is in two parts
-
-insert_distinct : (xs ys : List ℕ) (r : ℕ) → is_distinct (xs ++ ys) ≡ true → list_any (nat_eq r) (xs ++ ys) ≡ false → is_distinct (xs ++ r ∷ ys) ≡ true
-unfolding is_distinct
-insert_distinct [] ys r d h = ap (λ b. not b && is_distinct ys) h ∙ d
-insert_distinct (x ∷ xs) ys r d h =
-    let both = first_of_both (not (list_any (nat_eq x) (xs ++ ys))) (is_distinct (xs ++ ys)) d in
-    let apart = or_parts (nat_eq r x) (list_any (nat_eq r) (xs ++ ys)) h in
-    let none = or_parts (list_any (nat_eq x) xs) (list_any (nat_eq x) ys) (sym (list_any-append (nat_eq x) xs ys) ∙ not_true (list_any (nat_eq x) (xs ++ ys)) both.0) in
-    let here : list_any (nat_eq x) (xs ++ r ∷ ys) ≡ false =
-    list_any-append (nat_eq x) xs (r ∷ ys) ∙ ap (λ b. b || (nat_eq x r || list_any (nat_eq x) ys)) none.0 ∙ ap (λ b. b || list_any (nat_eq x) ys) (turned r x apart.0) ∙ none.1 in
-    ap (λ b. not b && is_distinct (xs ++ r ∷ ys)) here ∙ insert_distinct xs ys r both.1 apart.1
-  where
-    turned : (m n : ℕ) → nat_eq m n ≡ false → nat_eq n m ≡ false
-    turned m n h = grind (arith, h)
-
-pub apart_next : (regions region : ℕ) (live retired : List Part) (header : Header) → header.regions ≡ 1 → AreApart regions (live ++ retired) → region < regions → list_any (nat_eq region) (all_regions (live ++ retired)) ≡ false
-    → AreApart regions ((live ++ part_of region header ∷ []) ++ retired)
-apart_next regions region live retired header alone apart there none =
-    let old : all_regions (live ++ retired) ≡ all_regions live ++ all_regions retired = regions_together live retired in
-    let new : all_regions ((live ++ part_of region header ∷ []) ++ retired) ≡ all_regions live ++ region ∷ all_regions retired =
-    regions_together (live ++ part_of region header ∷ []) retired ∙ ap (λ xs. xs ++ all_regions retired) (regions_together live (part_of region header ∷ []) ∙ ap (λ xs. all_regions live ++ xs) (own_regions region header alone))
-    ∙ append_assoc (all_regions live) (region ∷ []) (all_regions retired) in
-    let below = subst (AllByRecursion (λ r. r < regions)) old apart.below in
-    record {
-      distinct = ap is_distinct new ∙ insert_distinct (all_regions live) (all_regions retired) region (sym (ap is_distinct old) ∙ apart.distinct) (sym (ap (list_any (nat_eq region)) old) ∙ none);
-      below = subst (AllByRecursion (λ r. r < regions)) (sym new)
-          (all_append (λ r. r < regions) (all_regions live) (region ∷ all_regions retired) (all_front (λ r. r < regions) (all_regions live) (all_regions retired) below) (there, all_back (λ r. r < regions) (all_regions live) (all_regions retired) below));
-    }
+names_more : (parts : List Part) (p : Part) (retired : List Part) (eye : ℕ × List ℕ) → NamesWhole (parts ++ retired) eye → NamesWhole ((parts ++ p ∷ []) ++ retired) eye
+names_more parts p retired eye names =
+    all_map (λ r. Any (λ q. Contains (regions_of q) r × AllByRecursion (Contains eye.1) (regions_of q)) (parts ++ retired)) (λ r. Any (λ q. Contains (regions_of q) r × AllByRecursion (Contains eye.1) (regions_of q)) ((parts ++ p ∷ []) ++ retired))
+    (λ r any. any_insert (λ q. Contains (regions_of q) r × AllByRecursion (Contains eye.1) (regions_of q)) parts p retired any) eye.1 names
 
 -- ---- a room on a disk that went on
 
@@ -162,19 +80,88 @@ still_geometry old new same geometry = record {
   whole = ap (λ n. n % 1024) same.region_len ∙ geometry.whole;
 }
 
-module _ (old new entry : Disk) (parts retired : List Part) (free : List ℕ) (target : Option ℕ) (epoch : Open) (sealed places : ℕ) (shut : Bool) (whole : IsWhole (value_of old entry parts retired free target epoch sealed places shut))
-    (same : SameBeside old new) (synced : new.unsynced ≡ []) (passed : HasPassed entry.told new.told) where
-  pub moved_whole : IfSome new.told (λ t. HoldsParts new.region_len t.bytes parts retired) → IsWhole (value_of new entry parts retired free target epoch sealed places shut)
-  moved_whole held = record {
+pub risen_since : (a b c : ℕ) → a ≤ b → HasRisen b c → HasRisen a c
+risen_since a b c low risen = grind (arith, low, risen)
+
+-- nothing of it lies in a part, where all that is new lies in some regions beside them
+pub still_clean : (old new : Disk) (regions : List ℕ) (parts : List Part) → DirtiesOnly regions old new → AreBeside regions parts → All (λ r. list_any (nat_eq r) (all_regions parts) ≡ false) old.unsynced
+    → All (λ r. list_any (nat_eq r) (all_regions parts) ≡ false) new.unsynced
+still_clean old new regions parts dirties beside clean k d h = elim (dirties k d h) [
+  | inl was ↦ All-contains (λ r. list_any (nat_eq r) (all_regions parts) ≡ false) old.unsynced _ clean was
+  | inr own ↦ beside _ (member regions _ own)
+]
+  where
+    member : (xs : List ℕ) (n : ℕ) → Contains xs n → list_any (nat_eq n) xs ≡ true
+    member xs n there = list_any-from_Contains nat_alike n xs there
+
+pub no_parts_unsynced : (new : Disk) (parts : List Part) → new.unsynced ≡ [] → All (λ r. list_any (nat_eq r) (all_regions parts) ≡ false) new.unsynced
+no_parts_unsynced new parts e = subst (All (λ r. list_any (nat_eq r) (all_regions parts) ≡ false)) (sym e) (λ k d h. absurd (omega (arith, h)))
+
+-- as many regions before and after, and the same bytes in all but some
+pub alike_told : (old new : Disk) (regions : List ℕ) → IsSound old → IsSound new → SameBeside old new → KeepsBeside regions old new → BothTold (AreAlike regions) old.told new.told
+alike_told old new regions sound sound' same read = on old.told new.told read sound.told sound'.told
+  where
+    on : (a b : Option Told) → BothTold (λ a b. (r : ℕ) → list_any (nat_eq r) regions ≡ false → region_of b.bytes r ≡ region_of a.bytes r) a b → IfSome a (IsToldOf old) → IfSome b (IsToldOf new) → BothTold (AreAlike regions) a b
+    on None None p s t = tt
+    on None (Some b) p s t = absurd p
+    on (Some a) None p s t = absurd p
+    on (Some a) (Some b) p s t = (t.regions ∙ same.regions ∙ sym s.regions, p)
+
+module _ (old new entry : Disk) (kept : Kept) (whole : IsWhole (value_of old entry kept)) (same : SameBeside old new) (sound : IsSound new) (time : ContinuesOn old new) (lower : (old.faults ≤ new.faults) × (old.own_faults ≤ new.own_faults))
+    (regions : List ℕ) (beside : AreBeside regions (kept.parts ++ kept.retired)) (read : KeepsBeside regions old new) where
+  abbrev eyes_of : Disk → List (ℕ × List ℕ)
+  eyes_of disk = map (λ eye. (eye.number, eye.regions)) disk.eyes
+
+  same_eyes : eyes_of new ≡ eyes_of old
+  same_eyes = ap (map (λ eye. (eye.number, eye.regions))) same.eyes
+
+  shows : AllByRecursion (λ (eye : OpenedEye). SameSeen eye.regions (option_map (λ (t : Told). t.bytes) new.told) eye.told) (posted kept.board)
+  shows =
+      still_shows regions old.told new.told (posted kept.board) (alike_told old new regions whole.sound sound same read)
+      (unnamed_posted (value_of old entry kept).room whole.board regions beside) whole.board.shows
+
+  -- the board of a room with these parts, on the disk as it is then
+  pub moved_board : (kept' : Kept) → kept'.board ≡ kept.board → AllByRecursion (NamesWhole (kept'.parts ++ kept'.retired)) (eyes_of old) → AreOnBoard (value_of new entry kept').room
+  moved_board kept' e names = record {
+    seats = subst (λ b. (n : ℕ) × (1 ≤ n) × (n ≤ 18) × (length b ≡ 3 * n)) (sym e) whole.board.seats;
+    eyes = subst (λ b. IsPermutation (map named (eyes_of new)) (map held_of (posted b))) (sym e) (subst (λ es. IsPermutation (map named es) (map held_of (posted kept.board))) (sym same_eyes) whole.board.eyes);
+    once = subst (λ es. IsTrue (is_distinct (map (λ (eye : ℕ × List ℕ). eye.0) es))) (sym same_eyes) whole.board.once;
+    given = subst (λ es. AllByRecursion (λ (eye : ℕ × List ℕ). Contains new.given eye.0) es) (sym same_eyes) (subst (λ ns. AllByRecursion (λ (eye : ℕ × List ℕ). Contains ns eye.0) (eyes_of old)) (sym same.given) whole.board.given);
+    of_parts = subst (AllByRecursion (NamesWhole (kept'.parts ++ kept'.retired))) (sym same_eyes) names;
+    shows = subst (λ b. AllByRecursion (λ (eye : OpenedEye). SameSeen eye.regions (option_map (λ (t : Told). t.bytes) new.told) eye.told) (posted b)) (sym e) shows;
+  }
+
+  pub moved_entry : (kept' : Kept) → (kept'.is_shut ≡ true → (HasRisen entry.own_faults new.own_faults × HasRisen entry.faults new.faults)) → HasEntry (value_of new entry kept')
+  moved_entry kept' failed = record {
+    regions = whole.entry.regions ∙ sym same.regions;
+    region_len = whole.entry.region_len ∙ sym same.region_len;
+    time = continues_then entry old new whole.entry.time time;
+    no_lower = (let a = whole.entry.no_lower.0 in let b = lower.0 in omega (arith, a, b), let a = whole.entry.no_lower.1 in let b = lower.1 in omega (arith, a, b));
+    failed = failed;
+  }
+
+  pub moved_job : (kept' : Kept) → kept'.job ≡ kept.job → kept'.parts ≡ kept.parts → IfSome kept'.job (IsJob (value_of new entry kept').room)
+  moved_job kept' e parts =
+      subst (λ j. IfSome j (IsJob (value_of new entry kept').room)) (sym e)
+      (IfSome_then kept.job {P = IsJob (value_of old entry kept).room} {Q = IsJob (value_of new entry kept').room} whole.job
+      (λ job is. record { before = is.before; after = is.after; neighbours = parts ∙ is.neighbours; untaken = is.untaken; is_taken = λ header h. subst (λ n. IsTaken n job header) (sym same.region_len) (is.is_taken header h) }))
+
+  pub moved_lie : (parts : List Part) → AllByRecursion (λ p. LiesIn old.region_len p.header) parts → AllByRecursion (λ p. LiesIn new.region_len p.header) parts
+  moved_lie parts lie = subst (λ n. AllByRecursion (λ (p : Part). LiesIn n p.header) parts) (sym same.region_len) lie
+
+  -- nothing but the disk is another
+  pub moved_whole : kept.is_shut ≡ false → DirtiesOnly regions old new → IfSome new.told (IsLeft (λ image. HoldsParts new.region_len image kept.parts kept.retired)) → IsWhole (value_of new entry kept)
+  moved_whole open_room dirties held = record {
     geometry = still_geometry old new same whole.geometry;
+    sound = sound;
     of_disk = refl;
-    alone = record { board = refl; no_job = refl; none_open = same.eyes ∙ whole.alone.none_open };
     in_chain = whole.in_chain;
     ends = whole.ends;
-    apart = subst (λ n. AreApart n (parts ++ retired)) (sym same.regions) whole.apart;
-    fit = subst (λ n. AllByRecursion (FitsRegions n) (parts ++ retired)) (sym same.region_len) whole.fit;
+    lie = moved_lie (kept.parts ++ kept.retired) whole.lie;
+    apart = subst (λ n. AreApart n (taken (value_of old entry kept).room kept.target)) (sym same.regions) whole.apart;
+    free = whole.free ∙ ap (λ n. regions_outside n (taken (value_of old entry kept).room kept.target)) (sym same.regions);
     rising = whole.rising;
-    free = whole.free ∙ ap (λ n. regions_beside n (parts ++ retired)) (sym same.regions);
+    board = moved_board kept refl whole.board.of_parts;
     epoch = record {
       none = whole.epoch.none;
       some = whole.epoch.some;
@@ -185,37 +172,166 @@ module _ (old new entry : Disk) (parts retired : List Part) (free : List ℕ) (t
       places = whole.epoch.places;
       epoch = whole.epoch.epoch;
     };
-    entry_len = whole.entry_len ∙ sym same.region_len;
-    time = passed;
-    synced = λ h. synced;
-    told = λ h. held;
+    job = moved_job kept refl refl;
+    entry = moved_entry kept (λ h. absurd (cc));
+    lost = whole.lost;
+    unsynced = λ l. still_clean old new regions (kept.parts ++ kept.retired) dirties beside (whole.unsynced l);
+    told = λ l. held;
   }
 
-  pub ended_whole : (region : ℕ) → target ≡ Some region → 1 ≤ epoch.waiting → IfSome new.told (λ t. HoldsParts new.region_len t.bytes (parts ++ part_of region (header_of (range_of sealed) epoch.rows) ∷ []) retired) → (most : ℕ)
-      → IsWhole (value_of new entry (parts ++ part_of region (header_of (range_of sealed) epoch.rows) ∷ []) retired free None (empty most) (sealed + 1) places shut)
-  ended_whole region at some held most =
-      let header : Header = header_of (range_of sealed) epoch.rows in
-      let is : region ∷ free ≡ regions_beside old.regions (parts ++ retired) = ap (λ t. option_to_list t ++ free) (sym at) ∙ whole.free in
-      let first = first_free old.regions region free (parts ++ retired) is in
-      let own : FitsRegions old.region_len (part_of region header) = record {
-        has = record { low = omega arith; high = omega arith; more = refl };
-        long = le-leb (41 + (rows_len epoch.rows + 14 * length (nodes_in epoch.rows))) old.region_len (omega (arith, whole.epoch.costs, whole.epoch.within));
+-- ---- what a room keeps behind an answer
+
+-- the disk failed: the target is lost
+abbrev pub shut_kept : Kept → ℕ → Kept
+shut_kept kept region = record kept { lost = region ∷ []; target = None; is_shut = true }
+
+-- the epoch was sealed as a part
+abbrev pub own_part : Kept → ℕ → Part
+own_part kept region = part_of region (header_of (range_of kept.sealed) kept.epoch.rows)
+
+abbrev pub ended_kept : Kept → ℕ → ℕ → Kept
+ended_kept kept region most = record kept { parts = kept.parts ++ own_part kept region ∷ []; target = None; epoch = empty most; sealed = kept.sealed + 1 }
+
+-- ---- the target of an open epoch
+
+module _ (old entry : Disk) (kept : Kept) (whole : IsWhole (value_of old entry kept)) (region : ℕ) (at : kept.target ≡ Some region) (open_room : kept.is_shut ≡ false) where
+  pub none_lost : kept.lost ≡ []
+  none_lost = whole.lost open_room
+
+  abbrev pub rest : List ℕ
+  rest = job_left (value_of old entry kept).room ++ (kept.lost ++ all_regions (kept.parts ++ kept.retired))
+
+  pub taken_is : taken (value_of old entry kept).room kept.target ≡ region ∷ rest
+  taken_is = ap (λ t. option_to_list t ++ rest) at
+
+  apart_is : AreApart old.regions (region ∷ rest)
+  apart_is = subst (AreApart old.regions) taken_is whole.apart
+
+  pub target_there : region < old.regions
+  target_there = apart_is.below.0
+
+  not_rest : list_any (nat_eq region) rest ≡ false
+  not_rest = other_list old.regions (region ∷ []) rest region apart_is (ap (λ b. b || false) (eq-eqb region region refl))
+
+  behind_job : list_any (nat_eq region) (kept.lost ++ all_regions (kept.parts ++ kept.retired)) ≡ false
+  behind_job = (or_parts (list_any (nat_eq region) (job_left (value_of old entry kept).room)) _ (sym (list_any-append (nat_eq region) (job_left (value_of old entry kept).room) _) ∙ not_rest)).1
+
+  pub target_beside : list_any (nat_eq region) (all_regions (kept.parts ++ kept.retired)) ≡ false
+  target_beside = (or_parts (list_any (nat_eq region) kept.lost) _ (sym (list_any-append (nat_eq region) kept.lost _) ∙ behind_job)).1
+
+  pub not_job : list_any (nat_eq region) (job_regions kept.job) ≡ false
+  not_job = subst (λ rs. list_any (nat_eq region) rs ≡ false) left_all (or_parts (list_any (nat_eq region) (job_left (value_of old entry kept).room)) _ (sym (list_any-append (nat_eq region) (job_left (value_of old entry kept).room) _) ∙ not_rest)).0
+    where
+      left_all : job_left (value_of old entry kept).room ≡ job_regions kept.job
+      left_all = all_left (value_of old entry kept) whole none_lost
+
+module _ (old new entry : Disk) (kept : Kept) (whole : IsWhole (value_of old entry kept)) (same : SameBeside old new) (sound : IsSound new) (time : ContinuesOn old new) (lower : (old.faults ≤ new.faults) × (old.own_faults ≤ new.own_faults))
+    (region : ℕ) (at : kept.target ≡ Some region) (open_room : kept.is_shut ≡ false) (some : 1 ≤ kept.epoch.waiting) (read : KeepsBeside (region ∷ []) old new) where
+  abbrev room_of : Disk → Kept → RoomState
+  room_of disk k = (value_of disk entry k).room
+
+  pub beside_target : AreBeside (region ∷ []) (kept.parts ++ kept.retired)
+  beside_target = one_beside region (kept.parts ++ kept.retired) (target_beside old entry kept whole region at open_room)
+
+  -- the disk failed: the target is lost
+  abbrev shut : Kept
+  shut = shut_kept kept region
+
+  shut_left : job_left (room_of new shut) ≡ job_regions kept.job
+  shut_left = filter_all (λ r. not (nat_eq r region || false)) (job_regions kept.job) (all_map (λ r. nat_eq region r ≡ false) (λ r. not (nat_eq r region || false) ≡ true) (λ r h. turned region r h) (job_regions kept.job) (any_none (nat_eq region) (job_regions kept.job) (not_job old entry kept whole region at open_room)))
+    where
+      turned : (m n : ℕ) → nat_eq m n ≡ false → not (nat_eq n m || false) ≡ true
+      turned m n h = grind (arith, h)
+
+  shut_times : SameTimes (taken (value_of old entry kept).room kept.target) (taken (room_of new shut) None)
+  shut_times n =
+      let l = all_left (value_of old entry kept) whole (none_lost old entry kept whole region at open_room) in
+      let job : times n (job_left (value_of old entry kept).room) ≡ times n (job_left (room_of new shut)) = ap (times n) (l ∙ sym shut_left) in
+      let parts : List ℕ = all_regions (kept.parts ++ kept.retired) in
+      let a = ap (times n) (taken_is old entry kept whole region at open_room) ∙ times-append n (region ∷ []) (rest old entry kept whole region at open_room) in
+      let b = times-append n (job_left (value_of old entry kept).room) (kept.lost ++ parts) in
+      let c = ap (λ lost. times n (lost ++ parts)) (none_lost old entry kept whole region at open_room) in
+      let d = times-append n (job_left (room_of new shut)) (region ∷ parts) in
+      let e = times-append n (region ∷ []) parts in
+      omega (arith, a, b, c, d, e, job)
+
+  pub shut_whole : HasRisen old.faults new.faults → HasRisen old.own_faults new.own_faults → IsWhole (value_of new entry shut)
+  shut_whole risen own = record {
+    geometry = still_geometry old new same whole.geometry;
+    sound = sound;
+    of_disk = refl;
+    in_chain = whole.in_chain;
+    ends = whole.ends;
+    lie = moved_lie old new entry kept whole same sound time lower (region ∷ []) beside_target read (kept.parts ++ kept.retired) whole.lie;
+    apart = subst (λ n. AreApart n (taken (room_of new shut) None)) (sym same.regions) (same_apart old.regions (taken (value_of old entry kept).room kept.target) (taken (room_of new shut) None) shut_times whole.apart);
+    free = whole.free ∙ same_outside old.regions (taken (value_of old entry kept).room kept.target) (taken (room_of new shut) None) shut_times ∙ ap (λ n. regions_outside n (taken (room_of new shut) None)) (sym same.regions);
+    rising = whole.rising;
+    board = moved_board old new entry kept whole same sound time lower (region ∷ []) beside_target read shut refl whole.board.of_parts;
+    epoch = record {
+      none = λ h. absurd (omega (arith, h, some));
+      some = λ l. absurd (let e : ◌≡◌ {A = List ℕ} (region ∷ []) [] = l in cc);
+      fits = whole.epoch.fits;
+      costs = whole.epoch.costs;
+      within = omega (arith, whole.epoch.within, same.region_len);
+      entries = whole.epoch.entries;
+      places = whole.epoch.places;
+      epoch = whole.epoch.epoch;
+    };
+    job = moved_job old new entry kept whole same sound time lower (region ∷ []) beside_target read shut refl refl;
+    entry = moved_entry old new entry kept whole same sound time lower (region ∷ []) beside_target read shut
+        (λ h. (risen_since entry.own_faults old.own_faults new.own_faults whole.entry.no_lower.1 own, risen_since entry.faults old.faults new.faults whole.entry.no_lower.0 risen));
+    lost = λ h. absurd (let e : true ≡ false = h in cc);
+    unsynced = λ l. absurd (let e : ◌≡◌ {A = List ℕ} (region ∷ []) [] = l in cc);
+    told = λ l. absurd (let e : ◌≡◌ {A = List ℕ} (region ∷ []) [] = l in cc);
+  }
+
+  -- the epoch was sealed
+  abbrev own : Part
+  own = own_part kept region
+
+  abbrev ended : ℕ → Kept
+  ended most = ended_kept kept region most
+
+  ended_times : (most : ℕ) → SameTimes (taken (value_of old entry kept).room kept.target) (taken (room_of new (ended most)) None)
+  ended_times most n =
+      let j : List ℕ = job_left (value_of old entry kept).room in
+      let a = ap (times n) (taken_is old entry kept whole region at open_room) ∙ times-append n (region ∷ []) (rest old entry kept whole region at open_room) in
+      let b = times-append n j (kept.lost ++ all_regions (kept.parts ++ kept.retired)) in
+      let c = times-append n kept.lost (all_regions (kept.parts ++ kept.retired)) in
+      let d = ap (times n) (regions_together kept.parts kept.retired) ∙ times-append n (all_regions kept.parts) (all_regions kept.retired) in
+      let e = times-append n j (kept.lost ++ all_regions ((kept.parts ++ own ∷ []) ++ kept.retired)) in
+      let f = times-append n kept.lost (all_regions ((kept.parts ++ own ∷ []) ++ kept.retired)) in
+      let g = ap (times n) (regions_together (kept.parts ++ own ∷ []) kept.retired) ∙ times-append n (all_regions (kept.parts ++ own ∷ [])) (all_regions kept.retired) in
+      let h = ap (times n) (regions_together kept.parts (own ∷ [])) ∙ times-append n (all_regions kept.parts) (region ∷ []) in
+      omega (arith, a, b, c, d, e, f, g, h)
+
+  pub ended_whole : new.unsynced ≡ [] → (most : ℕ) → IfSome new.told (IsLeft (λ image. HoldsParts new.region_len image (kept.parts ++ own ∷ []) kept.retired)) → IsWhole (value_of new entry (ended most))
+  ended_whole synced most held =
+      let lies : LiesIn old.region_len own.header = record {
+        large = omega (arith, whole.geometry.len_low);
+        small = whole.geometry.len_high;
+        listed = refl;
+        counted = refl;
+        lies = le-leb (41 + (rows_len kept.epoch.rows + 14 * length (nodes_in kept.epoch.rows))) old.region_len (omega (arith, whole.epoch.costs, whole.epoch.within));
       } in
       record {
         geometry = still_geometry old new same whole.geometry;
+        sound = sound;
         of_disk = refl;
-        alone = record { board = refl; no_job = refl; none_open = same.eyes ∙ whole.alone.none_open };
-        in_chain = record { follow = follow_next parts (part_of region header) (ap (λ n. n + 1) whole.ends) (omega arith) (whole.epoch.epoch some) whole.in_chain.follow };
-        ends = sym (end_next parts (part_of region header));
-        apart = subst (λ n. AreApart n ((parts ++ part_of region header ∷ []) ++ retired)) (sym same.regions) (apart_next old.regions region parts retired header refl whole.apart first.there first.in_none);
-        fit = subst (λ n. AllByRecursion (FitsRegions n) ((parts ++ part_of region header ∷ []) ++ retired)) (sym same.region_len)
-            (all_append (FitsRegions old.region_len) (parts ++ part_of region header ∷ []) retired
-            (all_append (FitsRegions old.region_len) parts (part_of region header ∷ []) (all_front (FitsRegions old.region_len) parts retired whole.fit) (own, tt)) (all_back (FitsRegions old.region_len) parts retired whole.fit));
+        in_chain = record { follow = follow_next kept.parts own (ap (λ n. n + 1) whole.ends) (omega arith) (whole.epoch.epoch some) whole.in_chain.follow };
+        ends = sym (end_next kept.parts own);
+        lie = moved_lie old new entry kept whole same sound time lower (region ∷ []) beside_target read ((kept.parts ++ own ∷ []) ++ kept.retired)
+            (all_append (λ (p : Part). LiesIn old.region_len p.header) (kept.parts ++ own ∷ []) kept.retired
+            (all_append (λ (p : Part). LiesIn old.region_len p.header) kept.parts (own ∷ []) (all_front (λ (p : Part). LiesIn old.region_len p.header) kept.parts kept.retired whole.lie) (lies, tt))
+            (all_back (λ (p : Part). LiesIn old.region_len p.header) kept.parts kept.retired whole.lie));
+        apart = subst (λ n. AreApart n (taken (room_of new (ended most)) None)) (sym same.regions) (same_apart old.regions (taken (value_of old entry kept).room kept.target) (taken (room_of new (ended most)) None) (ended_times most) whole.apart);
+        free = whole.free ∙ same_outside old.regions (taken (value_of old entry kept).room kept.target) (taken (room_of new (ended most)) None) (ended_times most) ∙ ap (λ n. regions_outside n (taken (room_of new (ended most)) None)) (sym same.regions);
         rising = whole.rising;
-        free = left_free old.regions region free parts retired header refl is ∙ ap (λ n. regions_beside n ((parts ++ part_of region header ∷ []) ++ retired)) (sym same.regions);
+        board = moved_board old new entry kept whole same sound time lower (region ∷ []) beside_target read (ended most) refl
+            (all_map (NamesWhole (kept.parts ++ kept.retired)) (NamesWhole ((kept.parts ++ own ∷ []) ++ kept.retired)) (names_more kept.parts own kept.retired) (value_of old entry kept).room.eyes whole.board.of_parts);
         epoch = record {
           none = λ h. (refl, refl, refl);
-          some = λ h. absurd (omega (arith, h));
+          some = λ l h. absurd (omega (arith, h));
           fits = tt;
           costs = omega (arith, cost_none);
           within = omega (arith, whole.epoch.within, same.region_len);
@@ -223,8 +339,15 @@ module _ (old new entry : Disk) (parts retired : List Part) (free : List ℕ) (t
           places = whole.epoch.places;
           epoch = λ h. absurd (omega (arith, h));
         };
-        entry_len = whole.entry_len ∙ sym same.region_len;
-        time = passed;
-        synced = λ h. synced;
-        told = λ h. held;
+        job = IfSome_then kept.job {P = IsJob (value_of old entry kept).room} {Q = IsJob (room_of new (ended most))} whole.job (λ job is. record {
+          before = is.before;
+          after = is.after ++ own ∷ [];
+          neighbours = ap (λ ps. ps ++ own ∷ []) is.neighbours ∙ append_assoc is.before (job.older ∷ job.newer ∷ is.after) (own ∷ []);
+          untaken = is.untaken;
+          is_taken = λ header h. subst (λ n. IsTaken n job header) (sym same.region_len) (is.is_taken header h);
+        });
+        entry = moved_entry old new entry kept whole same sound time lower (region ∷ []) beside_target read (ended most) (λ h. absurd (cc));
+        lost = whole.lost;
+        unsynced = λ l. no_parts_unsynced new ((kept.parts ++ own ∷ []) ++ kept.retired) synced;
+        told = λ l. held;
       }

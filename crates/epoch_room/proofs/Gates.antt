@@ -1,15 +1,18 @@
 -- What a crash leaves while a gate is opened, and while a region is sealed.
-use Rattle.std.proofs.Common.{◌≡◌, ◌≢◌, ℕ, ◌+◌, List, [], length, Some, None, Result, Err, refl, sym, ap, subst, ◌∙◌, inl, inr}
-use Rattle.std.specs.Prelude.{Option, IfSome, All, Contains}
-use Rattle.log_disk.specs.Disk.{Image, Told, Disk, OpenEye, BothTold, SameOutside, HasGoneOn, HasSynced, IsToldOf, IsSound, IsUnseen, IsImageNow, Writes, Syncs, with_bytes, unsynced_too, span_of}
+use Rattle.std.proofs.Common.{◌≡◌, ◌≢◌, ℕ, zero, suc, ◌+◌, ◌≤◌, false, List, [], ◌∷◌, length, take, Some, None, Result, Err, refl, sym, ap, subst, ◌∙◌, inl, inr, arith}
+use Rattle.std.specs.Prelude.{Option, IfSome, All, Contains, nat_eq, ◌||◌}
+use Rattle.std.proofs.lemmas.Bool.{cases_eq}
+use Rattle.log_disk.specs.Disk.{Image, Told, Disk, OpenEye, region_of, BothTold, SameOutside, HasGoneOn, HasSynced, IsToldOf, IsSound, IsUnseen, IsImageNow, Writes, Syncs, with_bytes, unsynced_too, span_of}
 use Rattle.log_disk.specs.Moments.{LeavesOnly, IsLeft}
-use Rattle.log_disk.proofs.Moments.{leaves_none, leaves_more, leaves_then, leaves_weaker, synced_now}
+use Rattle.log_disk.proofs.Moments.{leaves_none, leaves_more, leaves_then, leaves_weaker}
+use Rattle.log_disk.proofs.Steps.{both_weaker, both_then}
 use Rattle.log_disk.proofs.Calls.{left_write, left_sync}
 use Rattle.log_disk.proofs.Sound.{sound_write}
 use Rattle.log_disk.proofs.Writes.{same_outside_same}
 use Rattle.log_disk.specs.declared.refusal.DiskRefusal.{DiskRefusal}
 use Rattle.log_disk.specs.declared.refusal.DiskRefusal.TheVariants as refusal
-use Rattle.epoch_room.specs.Gate.{gate, IsOpening, IsSealing, LeavesOpening, LeavesSealing, LeavesNow, LeavesTorn}
+use Rattle.fine_model.specs.ChainLaws.{DiffersBehind}
+use Rattle.epoch_room.specs.Gate.{gate, IsBehind, IsAtGate, IsOpening, IsSealing, LeavesOpening, LeavesSealing, LeavesBehind, LeavesNow, HasBytes}
 
 -- no eye names the region on a disk that has the same eyes
 pub still_unseen : (region : ℕ) (old new : Disk) → new.eyes ≡ old.eyes → IsUnseen old region → IsUnseen new region
@@ -18,6 +21,32 @@ still_unseen region old new e unseen = subst (λ (eyes : List OpenEye). All (λ 
 -- what equals an image differs from it nowhere
 outside_equal : (r from end : ℕ) (old new : Image) → new ≡ old → SameOutside r from end old new
 outside_equal r from end old new e = subst (λ (image : Image). SameOutside r from end old image) (sym e) (same_outside_same r from end old)
+
+-- an image that a read gave, but for the gate
+at_gate : (region : ℕ) (bytes image : Image) → SameOutside region 0 1 bytes image → IsAtGate region (λ was. was ≡ bytes) image
+at_gate region bytes image same = record { was = bytes; is_was = refl; same = same }
+
+-- what differs in a range behind the gate
+pub behind : (region from end : ℕ) (old new : Image) → 1 ≤ from → SameOutside region from end old new → DiffersBehind (region ∷ []) old new
+behind region from end old new low same = record {
+  as_many = same.regions;
+  others = λ r h. same.others r (other r region h);
+  lengths = same.lengths;
+  gates = λ r. elim (cases_eq r region) as (λ _. take 1 (region_of new r) ≡ take 1 (region_of old r)) [
+    | inl here ↦ subst (λ n. take 1 (region_of new n) ≡ take 1 (region_of old n)) (sym here) (front from (region_of new region) (region_of old region) low same.before)
+    | inr there ↦ ap (take 1) (same.others r there)
+  ];
+}
+  where
+    other : (m n : ℕ) → (nat_eq m n || false) ≡ false → m ≢ n
+    other m n h = grind (arith, h)
+
+    front : (n : ℕ) (xs ys : List ℕ) → 1 ≤ n → take n xs ≡ take n ys → take 1 xs ≡ take 1 ys
+    front zero xs ys h e = absurd (omega (arith, h))
+    front (suc n) [] [] h e = refl
+    front (suc n) [] (y ∷ ys) h e = ap (take 1) e
+    front (suc n) (x ∷ xs) [] h e = ap (take 1) e
+    front (suc n) (x ∷ xs) (y ∷ ys) h e = ap (take 1) e
 
 -- ---- opening a gate
 
@@ -32,14 +61,14 @@ module _ (region : ℕ) (disk : Disk) (a b : Told) (told : IsToldOf disk a) (syn
   told_synced =
       elim synced [
         | inl nothing ↦ subst (λ (t : Told). LeavesOnly (IsOpening region a) a t) (sym nothing.1) (leaves_none (IsOpening region a) a (λ image is. inl is))
-        | inr some ↦ leaves_more (IsOpening region a) a a b _ (leaves_none (IsOpening region a) a (λ image is. inl is)) some.2 (λ image is. inr (outside_equal region 0 1 a.bytes image (left_now image is)))
+        | inr some ↦ leaves_more (IsOpening region a) a a b _ (leaves_none (IsOpening region a) a (λ image is. inl is)) some.2 (λ image is. inr (at_gate region a.bytes image (outside_equal region 0 1 a.bytes image (left_now image is))))
       ]
 
   told_begun : (c : Told) → HasGoneOn b c (unsynced_too b.present (span_of region 0 1)) → LeavesOnly (IsOpening region a) a c
   told_begun c gone =
       leaves_more (IsOpening region a) a b c _ told_synced gone (λ image is.
       let torn = left_write (λ i. i ≡ a.bytes) region 0 1 b c left_now gone image is in
-      inr (subst (λ (i : Image). SameOutside region 0 1 i image) torn.1 torn.2))
+      inr (at_gate region a.bytes image (subst (λ (i : Image). SameOutside region 0 1 i image) torn.1 torn.2)))
 
   told_opened : (disk' : Disk) (c d : Told) → HasGoneOn b c (unsynced_too b.present (span_of region 0 1)) → SameOutside region 0 1 b.bytes c.bytes → IsToldOf disk' c → HasSynced disk' c d
       → LeavesOnly (IsOpening region a) a d
@@ -48,7 +77,7 @@ module _ (region : ℕ) (disk : Disk) (a b : Told) (told : IsToldOf disk a) (syn
         | inl nothing ↦ subst (λ (t : Told). LeavesOnly (IsOpening region a) a t) (sym nothing.1) (told_begun c gone)
         | inr some ↦ leaves_more (IsOpening region a) a c d _ (told_begun c gone) some.2 (λ image is.
             let bytes : image ≡ c.bytes = left_sync disk' c d told' (inr some) image is ∙ some.1 in
-            inr (subst (λ (i : Image). SameOutside region 0 1 a.bytes i) (sym bytes) (subst (λ (i : Image). SameOutside region 0 1 i c.bytes) same_bytes outside)))
+            inr (at_gate region a.bytes image (subst (λ (i : Image). SameOutside region 0 1 a.bytes i) (sym bytes) (subst (λ (i : Image). SameOutside region 0 1 i c.bytes) same_bytes outside))))
       ]
 
 module _ (region : ℕ) (start synced : Disk) (sound : IsSound start) (first : Syncs start synced) where
@@ -120,86 +149,90 @@ opening_none region start new e = subst (BothTold (λ x y. LeavesOnly (IsOpening
 
 -- ---- sealing a region
 
-module _ (region : ℕ) (bytes : List ℕ) (disk : Disk) (a : Told) (told : IsToldOf disk a) (nothing : disk.unsynced ≡ []) where
-  -- nothing is unsynced at first
-  first_now : IsLeft (λ image. image ≡ a.bytes) a
-  first_now image is = synced_now disk a a image told (inl (nothing, refl)) is
+module _ (region : ℕ) (bytes : List ℕ) (disk : Disk) (a : Told) where
+  -- an image of before is one that differs nowhere
+  still_behind : (image : Image) → IsImageNow a image → IsBehind (region ∷ []) a image
+  still_behind image now = record { was = image; is_was = now; differs = record { as_many = refl; others = λ r h. refl; lengths = λ r. refl; gates = λ r. refl } }
 
-  first_left : LeavesOnly (IsSealing region bytes a.bytes) a a
-  first_left = leaves_none (IsSealing region bytes a.bytes) a (λ image is. inl (outside_equal region 1 (1 + length bytes) a.bytes image (first_now image is)))
+  still : (image : Image) → IsImageNow a image → IsSealing region bytes a image
+  still image now = inl (still_behind image now)
 
-  torn_now : (b : Told) → HasGoneOn a b (unsynced_too a.present (span_of region 1 (length bytes))) → IsLeft (IsSealing region bytes a.bytes) b
-  torn_now b gone image is =
-      let torn = left_write (λ i. i ≡ a.bytes) region 1 (length bytes) a b first_now gone image is in
-      inl (subst (λ (i : Image). SameOutside region 1 (1 + length bytes) i image) torn.1 torn.2)
+  torn_behind : (b : Told) → HasGoneOn a b (unsynced_too a.present (span_of region 1 (length bytes))) → IsLeft (IsBehind (region ∷ []) a) b
+  torn_behind b gone image is =
+      let torn = left_write (IsImageNow a) region 1 (length bytes) a b (λ i now. now) gone image is in
+      record { was = torn.0; is_was = torn.1; differs = behind region 1 (1 + length bytes) torn.0 image (omega arith) torn.2 }
 
-  torn_left : (b : Told) → HasGoneOn a b (unsynced_too a.present (span_of region 1 (length bytes))) → LeavesOnly (IsSealing region bytes a.bytes) a b
-  torn_left b gone = leaves_more (IsSealing region bytes a.bytes) a a b _ first_left gone (torn_now b gone)
+  first_left : LeavesOnly (IsSealing region bytes a) a a
+  first_left = leaves_none (IsSealing region bytes a) a still
+
+  torn_now : (b : Told) → HasGoneOn a b (unsynced_too a.present (span_of region 1 (length bytes))) → IsLeft (IsSealing region bytes a) b
+  torn_now b gone image is = inl (torn_behind b gone image is)
+
+  torn_left : (b : Told) → HasGoneOn a b (unsynced_too a.present (span_of region 1 (length bytes))) → LeavesOnly (IsSealing region bytes a) a b
+  torn_left b gone = leaves_more (IsSealing region bytes a) a a b _ first_left gone (torn_now b gone)
 
   gated_left : (b c : Told) → HasGoneOn a b (unsynced_too a.present (span_of region 1 (length bytes))) → b.bytes ≡ with_bytes a.bytes region 1 bytes → LeavesOnly (IsOpening region b) b c
-      → LeavesOnly (IsSealing region bytes a.bytes) a c
+      → LeavesOnly (IsSealing region bytes a) a c
   gated_left b c gone written opening =
-      leaves_then (IsSealing region bytes a.bytes) a b c (torn_left b gone) (leaves_weaker (IsOpening region b) (IsSealing region bytes a.bytes) b c weaker opening)
+      leaves_then (IsSealing region bytes a) a b c (torn_left b gone) (leaves_weaker (IsOpening region b) (IsSealing region bytes a) b c weaker opening)
     where
-      weaker : (image : Image) → IsOpening region b image → IsSealing region bytes a.bytes image
+      weaker : (image : Image) → IsOpening region b image → IsSealing region bytes a image
       weaker image (inl now) = torn_now b gone image now
-      weaker image (inr at) = inr (subst (λ (i : Image). SameOutside region 0 1 i image) written at)
+      weaker image (inr at) = inr (record { was = at.was; is_was = at.is_was ∙ written; same = at.same })
 
-module _ (region : ℕ) (bytes : List ℕ) (start : Disk) (sound : IsSound start) (nothing : start.unsynced ≡ []) where
+module _ (region : ℕ) (bytes : List ℕ) (start : Disk) where
   pub sealing_none : (new : Disk) → new.told ≡ start.told → LeavesSealing region bytes start new
-  sealing_none new e = subst (BothTold (λ x y. LeavesOnly (IsSealing region bytes x.bytes) x y) start.told) (sym e) (each start.told sound.told)
+  sealing_none new e = subst (BothTold (λ x y. LeavesOnly (IsSealing region bytes x) x y) start.told) (sym e) (each start.told)
     where
-      each : (a : Option Told) → IfSome a (IsToldOf start) → BothTold (λ x y. LeavesOnly (IsSealing region bytes x.bytes) x y) a a
-      each None h = tt
-      each (Some a) h = first_left region bytes start a h nothing
+      each : (a : Option Told) → BothTold (λ x y. LeavesOnly (IsSealing region bytes x) x y) a a
+      each None = tt
+      each (Some a) = first_left region bytes start a
 
   pub sealing_torn : {failed : Type 0} (begun : Disk) → Writes region 1 bytes failed start begun → LeavesSealing region bytes start begun
-  sealing_torn begun w = on start.told begun.told w.time sound.told
-    where
-      on : (a b : Option Told) → BothTold (λ x y. HasGoneOn x y (unsynced_too x.present (span_of region 1 (length bytes)))) a b → IfSome a (IsToldOf start)
-          → BothTold (λ x y. LeavesOnly (IsSealing region bytes x.bytes) x y) a b
-      on None None p h = tt
-      on None (Some b) p h = absurd p
-      on (Some a) None p h = absurd p
-      on (Some a) (Some b) p h = torn_left region bytes start a h nothing b p
+  sealing_torn begun w = both_weaker _ (λ x y. LeavesOnly (IsSealing region bytes x) x y) (λ a b gone. torn_left region bytes start a b gone) start.told begun.told w.time
 
   pub sealing_gated : {failed : Type 0} (begun done : Disk) → Writes region 1 bytes failed start begun → (failed → ⊥) → LeavesOpening region begun done → LeavesSealing region bytes start done
-  sealing_gated begun done w ok opening = on start.told begun.told done.told w.time (w.written ok) opening sound.told
+  sealing_gated begun done w ok opening = on start.told begun.told done.told w.time (w.written ok) opening
     where
       on : (a b c : Option Told) → BothTold (λ x y. HasGoneOn x y (unsynced_too x.present (span_of region 1 (length bytes)))) a b → BothTold (λ x y. y.bytes ≡ with_bytes x.bytes region 1 bytes) a b
-          → BothTold (λ x y. LeavesOnly (IsOpening region x) x y) b c → IfSome a (IsToldOf start) → BothTold (λ x y. LeavesOnly (IsSealing region bytes x.bytes) x y) a c
-      on None None None p q r h = tt
-      on None None (Some c) p q r h = absurd r
-      on None (Some b) c p q r h = absurd p
-      on (Some a) None c p q r h = absurd p
-      on (Some a) (Some b) None p q r h = absurd r
-      on (Some a) (Some b) (Some c) p q r h = gated_left region bytes start a h nothing b c p q r
+          → BothTold (λ x y. LeavesOnly (IsOpening region x) x y) b c → BothTold (λ x y. LeavesOnly (IsSealing region bytes x) x y) a c
+      on None None None p q r = tt
+      on None None (Some c) p q r = absurd r
+      on None (Some b) c p q r = absurd p
+      on (Some a) None c p q r = absurd p
+      on (Some a) (Some b) None p q r = absurd r
+      on (Some a) (Some b) (Some c) p q r = gated_left region bytes start a b c p q r
 
-module _ (region : ℕ) (bytes : List ℕ) (start : Disk) (sound : IsSound start) (nothing : start.unsynced ≡ []) where
-  pub torn_none : (new : Disk) → new.told ≡ start.told → LeavesTorn region bytes start new
-  torn_none new e = subst (BothTold (λ x y. LeavesOnly (SameOutside region 1 (1 + length bytes) x.bytes) x y) start.told) (sym e) (each start.told sound.told)
+  -- where the gate was not written
+  pub behind_none : (new : Disk) → new.told ≡ start.told → LeavesBehind (region ∷ []) start new
+  behind_none new e = subst (BothTold (λ x y. LeavesOnly (IsBehind (region ∷ []) x) x y) start.told) (sym e) (each start.told)
     where
-      each : (a : Option Told) → IfSome a (IsToldOf start) → BothTold (λ x y. LeavesOnly (SameOutside region 1 (1 + length bytes) x.bytes) x y) a a
-      each None h = tt
-      each (Some a) h = leaves_none (SameOutside region 1 (1 + length bytes) a.bytes) a (λ image is. outside_equal region 1 (1 + length bytes) a.bytes image (first_now region bytes start a h nothing image is))
+      each : (a : Option Told) → BothTold (λ x y. LeavesOnly (IsBehind (region ∷ []) x) x y) a a
+      each None = tt
+      each (Some a) = leaves_none (IsBehind (region ∷ []) a) a (still_behind region bytes start a)
 
-  pub torn_gated : {failed : Type 0} (begun done : Disk) → Writes region 1 bytes failed start begun → LeavesNow begun done → LeavesTorn region bytes start done
-  torn_gated begun done w opening = on start.told begun.told done.told w.time opening sound.told
+  pub behind_gated : {failed : Type 0} (begun done : Disk) → Writes region 1 bytes failed start begun → LeavesNow begun done → LeavesBehind (region ∷ []) start done
+  behind_gated begun done w opening =
+      both_then (λ x y. HasGoneOn x y (unsynced_too x.present (span_of region 1 (length bytes)))) (λ x y. LeavesOnly (IsImageNow x) x y) (λ x y. LeavesOnly (IsBehind (region ∷ []) x) x y) one start.told begun.told done.told w.time opening
     where
-      on : (a b c : Option Told) → BothTold (λ x y. HasGoneOn x y (unsynced_too x.present (span_of region 1 (length bytes)))) a b
-          → BothTold (λ x y. LeavesOnly (IsImageNow x) x y) b c → IfSome a (IsToldOf start) → BothTold (λ x y. LeavesOnly (SameOutside region 1 (1 + length bytes) x.bytes) x y) a c
-      on None None None p r h = tt
-      on None None (Some c) p r h = absurd r
-      on None (Some b) c p r h = absurd p
-      on (Some a) None c p r h = absurd p
-      on (Some a) (Some b) None p r h = absurd r
-      on (Some a) (Some b) (Some c) p r h =
-          let P : Image → Type 0 = SameOutside region 1 (1 + length bytes) a.bytes in
-          let torn : IsLeft P b = λ image is.
-          let t = left_write (λ i. i ≡ a.bytes) region 1 (length bytes) a b (first_now region bytes start a h nothing) p image is in
-          subst (λ (i : Image). SameOutside region 1 (1 + length bytes) i image) t.1 t.2 in
-          leaves_then P a b c (leaves_more P a a b _ (leaves_none P a (λ image is. outside_equal region 1 (1 + length bytes) a.bytes image (first_now region bytes start a h nothing image is))) p torn)
-          (leaves_weaker (IsImageNow b) P b c torn r)
+      one : (a b c : Told) → HasGoneOn a b (unsynced_too a.present (span_of region 1 (length bytes))) → LeavesOnly (IsImageNow b) b c → LeavesOnly (IsBehind (region ∷ []) a) a c
+      one a b c gone run =
+          let P : Image → Type 0 = IsBehind (region ∷ []) a in
+          let torn : IsLeft P b = torn_behind region bytes start a b gone in
+          leaves_then P a b c (leaves_more P a a b _ (leaves_none P a (still_behind region bytes start a)) gone torn) (leaves_weaker (IsImageNow b) P b c torn run)
+
+  -- what a read gives once it is written, and its gate is opened, or is not
+  pub written_then : {failed : Type 0} (then' : Image → Image) (begun done : Disk) → Writes region 1 bytes failed start begun → (failed → ⊥) → HasBytes then' begun done
+      → HasBytes (λ image. then' (with_bytes image region 1 bytes)) start done
+  written_then then' begun done w ok after = on start.told begun.told done.told (w.written ok) after
+    where
+      on : (a b c : Option Told) → BothTold (λ x y. y.bytes ≡ with_bytes x.bytes region 1 bytes) a b → BothTold (λ x y. y.bytes ≡ then' x.bytes) b c → BothTold (λ x y. y.bytes ≡ then' (with_bytes x.bytes region 1 bytes)) a c
+      on None None None p q = tt
+      on None None (Some c) p q = absurd q
+      on None (Some b) c p q = absurd p
+      on (Some a) None c p q = absurd p
+      on (Some a) (Some b) None p q = absurd q
+      on (Some a) (Some b) (Some c) p q = q ∙ ap then' p
 
 -- ---- a write that was refused: it was begun and failed, or it took no memory
 

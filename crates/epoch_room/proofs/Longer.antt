@@ -1,5 +1,5 @@
 -- What an image shows while a region is sealed.
-use Rattle.std.proofs.Common.{◌≡◌, ◌⊎◌, ℕ, ◌+◌, ◌≤◌, true, false, not, IsTrue, List, [], ◌∷◌, ◌++◌, length, Some, Ok, refl, ap, ◌∙◌, inl, inr, arith, append_assoc}
+use Rattle.std.proofs.Common.{◌≡◌, ◌⊎◌, ℕ, ◌+◌, ◌≤◌, true, false, not, IsTrue, List, [], ◌∷◌, ◌++◌, length, Some, Ok, ap, ◌∙◌, inl, inr, arith, append_assoc}
 use Rattle.std.specs.List.{AllByRecursion}
 use Rattle.fine_model.specs.declared.Header.{Header}
 use Rattle.fine_model.specs.declared.Part.{Part}
@@ -17,7 +17,7 @@ use Rattle.fine_model.proofs.Order.{first_of_both}
 use Rattle.log_partition.specs.Encoding.{FitsRange}
 use Rattle.log_partition.proofs.Sealed.{good_header, sealed_again}
 use Rattle.epoch_room.specs.Partition.{IsArranged}
-use Rattle.epoch_room.proofs.Beside.{not_true}
+use Rattle.epoch_room.proofs.Taken.{not_true}
 use Rattle.epoch_room.proofs.Partitions.{alike, as_many}
 use Rattle.epoch_room.proofs.Torn.{HasClosed, HasOpened}
 

@@ -1,5 +1,5 @@
 -- A new disk has no parts.
-use Rattle.std.proofs.Common.{◌≡◌, ℕ, zero, suc, ◌+◌, false, [], length, Some, Ok, Err, refl, ap}
+use Rattle.std.proofs.Common.{◌≡◌, ℕ, zero, suc, ◌+◌, false, [], length, Some, Ok, Err, Result, refl, ap}
 use Rattle.std.specs.Prelude.{replicate}
 use Rattle.fine_model.specs.Regions.{region_of, is_sealed}
 use Rattle.fine_model.specs.Pushed.{and_then}
@@ -10,7 +10,7 @@ use Rattle.log_disk.specs.Disk.{zeros, told_anew, new_disk}
 use Rattle.fine_model.specs.declared.law.RoomState.{RoomState}
 use Rattle.epoch_room.specs.Value.{RoomValue}
 use Rattle.epoch_room.specs.Whole.{AreParts}
-use Rattle.epoch_room.specs.Steps.{SealsOr, shut_state}
+use Rattle.epoch_room.specs.Steps.{SealsOr, sealed_state}
 use Rattle.epoch_room.specs.declared.answers.RoomFault.{RoomFault}
 use Rattle.epoch_room.specs.declared.answers.RoomFault.TheVariants as room_fault
 
@@ -37,14 +37,21 @@ unfolding is_distinct
 new_parts regions len = record {
   in_chain = record { follow = tt };
   apart = record { distinct = refl; below = tt };
-  fit = tt;
+  lie = tt;
   rising = tt;
   told = record { is_chain = no_chain regions len; leads = λ r h. zero_region regions len r; headers = tt };
 }
 
+-- sealing leaves the board
+pub still_boards : (old new : RoomValue) (result : Result ℕ RoomFault) → SealsOr old new result → new.room.board ≡ old.room.board
+unfolding sealed_state
+still_boards old new (Ok epoch) is = ap (λ (r : RoomState). r.board) is.2.1.room
+still_boards old new (Err room_fault.Disk) is = ap (λ (r : RoomState). r.board) is.1.room
+still_boards old new (Err (room_fault.Shut epoch)) is = ap (λ (v : RoomValue). v.room.board) is.2
+still_boards old new (Err room_fault.NoMemory) is = ap (λ (r : RoomState). r.board) is.1.room
+
 -- where nothing was sealed, the entries still wait
 pub still_waits : (old new : RoomValue) (fault : RoomFault) → SealsOr old new (Err fault) → new.room.waiting ≡ old.room.waiting
-unfolding shut_state
 still_waits old new room_fault.Disk is = ap (λ (r : RoomState). r.waiting) is.1.room
 still_waits old new (room_fault.Shut epoch) is = ap (λ (v : RoomValue). v.room.waiting) is.2
 still_waits old new room_fault.NoMemory is = ap (λ (r : RoomState). r.waiting) is.1.room

@@ -1,6 +1,7 @@
 -- What a room stands for when it is made, and with an entry more.
-use Rattle.std.proofs.Common.{◌≡◌, ℕ, ◌+◌, ◌≤◌, ◌==◌, false, IsTrue, List, [], ◌∷◌, ◌++◌, length, Some, None, Ok, refl, sym, ap, subst, ◌∙◌, inl, inr, arith, append-nil, length-append}
-use Rattle.std.specs.Prelude.{Option, Result, filter, map, IfSome}
+use Rattle.std.proofs.Common.{◌≡◌, ℕ, ◌+◌, ◌≤◌, ◌==◌, true, false, IsTrue, List, [], ◌∷◌, ◌++◌, length, Some, None, Ok, refl, sym, ap, subst, ◌∙◌, inl, inr, arith, append-nil, length-append}
+use Rattle.std.specs.Prelude.{Option, Result, filter, map, IfSome, IsPermutation, Contains}
+use Rattle.std.proofs.lemmas.List.Sorted.{IsPermutation-refl}
 use Rattle.std.specs.List.{AllByRecursion}
 use Rattle.fine_model.specs.declared.Damage.{Damage}
 use Rattle.fine_model.specs.declared.Part.{Part}
@@ -20,10 +21,15 @@ use Rattle.fine_model.proofs.Order.{all_map}
 use Rattle.fine_model.proofs.Sets.{all_append}
 use Rattle.fine_model.proofs.Stated.{small_law}
 use Rattle.fine_model.proofs.Unique.{Shows-unique}
-use Rattle.log_disk.specs.Disk.{Disk, Told, IsSound as IsSoundDisk, IsToldOf, IsImageNow, IsImageSince, clock_of}
+use Rattle.log_disk.specs.Disk.{Disk, Told, IsSound as IsSoundDisk, IsToldOf, IsImageNow, IsImageSince, BothTold, clock_of}
+use Rattle.log_disk.specs.Moments.{Continues, IsLeft}
+use Rattle.log_disk.proofs.Times.{continued_later, continues_none}
 use Rattle.log_disk.proofs.Moments.{only_now, now_since, synced_now}
 use Rattle.epoch_room.specs.Value.{RoomValue, made}
-use Rattle.epoch_room.specs.Whole.{IsIdle, AreParts, HoldsParts, HasPassed, IsWhole}
+use Rattle.epoch_room.specs.Whole.{IsIdle, AreParts, HoldsParts, IsWhole, NamesWhole}
+use Rattle.epoch_room.proofs.Costs.{cost_none}
+use Rattle.epoch_room.proofs.Ending.{no_parts_unsynced}
+use Rattle.fine_model.specs.Trees.{is_distinct}
 use Rattle.epoch_room.specs.Steps.{appended}
 use Rattle.epoch_room.specs.Meaning.{StandsTold, StandsWhere, Stands, StandsAtFirst, StandsForMore}
 use Rattle.epoch_room.proofs.Histories.{upto_push, last_push, follow_push, sealed_push, open_push, rows_push}
@@ -73,6 +79,51 @@ module _ (disk : Disk) (told : Told) (sound : IsToldOf disk told) (nothing : dis
         small = record { each = small_rows disk.region_len told.bytes shows.parts rows shows.are_rows };
         none_open = λ open_room image since. subst (λ n. ShowsSome disk.region_len rows [] e n image) end (shown image since);
       }
+
+-- the room as it is made
+pub made_whole : (disk : Disk) (live retired : List Part) → IsIdle disk → AreParts disk live retired → IsSoundDisk disk → IsWhole (made disk live retired)
+unfolding is_distinct
+made_whole disk live retired idle parts sound = record {
+  geometry = idle.geometry;
+  sound = sound;
+  of_disk = refl;
+  in_chain = parts.in_chain;
+  ends = refl;
+  lie = parts.lie;
+  apart = parts.apart;
+  free = refl;
+  rising = parts.rising;
+  board = record {
+    seats = (1, omega arith, omega arith, refl);
+    eyes = subst (λ eyes. IsPermutation (map named (map (λ eye. (eye.number, eye.regions)) eyes)) []) (sym idle.no_eyes) (IsPermutation-refl []);
+    once = subst (λ eyes. IsTrue (is_distinct (map (λ (eye : ℕ × List ℕ). eye.0) (map (λ eye. (eye.number, eye.regions)) eyes)))) (sym idle.no_eyes) none_twice;
+    given = subst (λ eyes. AllByRecursion (λ (eye : ℕ × List ℕ). Contains disk.given eye.0) (map (λ eye. (eye.number, eye.regions)) eyes)) (sym idle.no_eyes) tt;
+    of_parts = subst (λ eyes. AllByRecursion (NamesWhole (live ++ retired)) (map (λ eye. (eye.number, eye.regions)) eyes)) (sym idle.no_eyes) tt;
+    shows = tt;
+  };
+  epoch = record {
+    none = λ h. (refl, refl, refl);
+    some = λ l h. absurd (omega (arith, h));
+    fits = tt;
+    costs = omega (arith, cost_none);
+    within = omega (arith, idle.geometry.len_low);
+    entries = omega arith;
+    places = omega arith;
+    epoch = λ h. absurd (omega (arith, h));
+  };
+  job = tt;
+  entry = record { regions = refl; region_len = refl; time = continues_none disk; no_lower = (omega arith, omega arith); failed = λ h. absurd (let e : false ≡ true = h in cc) };
+  lost = λ h. refl;
+  unsynced = λ l. no_parts_unsynced disk (live ++ retired) idle.synced;
+  told = λ l. held disk.told sound.told parts.told;
+}
+  where
+    none_twice : IsTrue (is_distinct [])
+    none_twice = refl
+
+    held : (told : Option Told) → IfSome told (IsToldOf disk) → IfSome told (λ t. HoldsParts disk.region_len t.bytes live retired) → IfSome told (IsLeft (λ image. HoldsParts disk.region_len image live retired))
+    held None s h = tt
+    held (Some t) s h = λ image now. subst (λ i. HoldsParts disk.region_len i live retired) (sym (synced_now disk t t image s (inl (idle.synced, refl)) now)) h
 
 pub made_stands : (disk : Disk) (live retired : List Part) (value : RoomValue) → value ≡ made disk live retired → IsIdle disk → AreParts disk live retired → IsSoundDisk disk → StandsAtFirst value disk.told
 unfolding Stands
@@ -148,10 +199,10 @@ module _ (value : RoomValue) (rows : List Row) (before told : Told) (first : Lis
 
 pub appended_stands : (value : RoomValue) (rows : List Row) → IsWhole value → value.room.is_shut ≡ false → StandsForMore value (appended value rows) rows
 unfolding Stands appended
-appended_stands value rows whole open_room first e history c of_rows of_epoch sound legal stands = on value.entry.told value.disk.told whole.time stands
+appended_stands value rows whole open_room first e history c of_rows of_epoch sound legal stands = on value.entry.told value.disk.told whole.entry.time stands
   where
-    on : (a b : Option Told) → HasPassed a b → StandsWhere value.room a b first e history → StandsWhere (appended value rows).room a b first e (history ++ c ∷ [])
+    on : (a b : Option Told) → BothTold Continues a b → StandsWhere value.room a b first e history → StandsWhere (appended value rows).room a b first e (history ++ c ∷ [])
     on None None p s = tt
     on None (Some b) p s = tt
     on (Some a) None p s = tt
-    on (Some a) (Some b) p s = more_stands value rows a b first e history c open_room p of_rows of_epoch sound legal s
+    on (Some a) (Some b) p s = more_stands value rows a b first e history c open_room (continued_later a b p) of_rows of_epoch sound legal s

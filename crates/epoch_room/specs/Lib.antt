@@ -7,3 +7,4 @@ pub mod Steps
 pub mod Gate
 pub mod Partition
 pub mod Meaning
+pub mod Views

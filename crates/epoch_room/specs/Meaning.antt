@@ -1,16 +1,21 @@
 -- What a room stands for.
-use Rattle.std.specs.Prelude.{◌≡◌, ℕ, ◌+◌, ◌==◌, false, List, [], ◌∷◌, ◌++◌, length, filter, Option, Some, None, option_map, ⊤}
+use Rattle.std.specs.Prelude.{◌≡◌, ℕ, ◌+◌, ◌==◌, false, List, [], ◌∷◌, ◌++◌, length, filter, Option, Some, None, option_map, Result, ⊤}
 use Rattle.fine_model.specs.declared.Row.{Row}
+use Rattle.fine_model.specs.declared.law.Origin.{Origin}
+use Rattle.fine_model.specs.declared.law.RoomState.{RoomState}
 use Rattle.fine_model.specs.Trees.{IsSound}
 use Rattle.fine_model.specs.History.{Commit, IsLegal, last_epoch}
 use Rattle.fine_model.specs.Headline.{ShowsSome}
 use Rattle.fine_model.specs.Chain.{Shows}
-use Rattle.fine_model.specs.declared.law.RoomState.{RoomState}
 use Rattle.fine_model.specs.Room.{StandsFor}
+use Rattle.fine_model.specs.Becomes.{Becomes}
+use Rattle.fine_model.specs.Jobs.{KeepsJob}
 use Rattle.fine_model.specs.Laws.{AreSmall}
-use Rattle.fine_model.specs.declared.law.Origin.{Origin}
-use Rattle.log_disk.specs.Disk.{Disk, Told, Image, clock_of, IsImageNow, IsImageSince}
+use Rattle.log_disk.specs.Disk.{Disk, Told, Image, SameBeside, clock_of, IsImageNow, IsImageSince}
+use Rattle.log_disk.specs.Moments.{ContinuesOn}
 use Rattle.epoch_room.specs.Value.{RoomValue}
+use Rattle.epoch_room.specs.Steps.{SealsOr}
+use Rattle.epoch_room.specs.declared.answers.RoomFault.{RoomFault}
 
 -- the log as the room was made
 unfoldable pub origin_of : Disk → Origin
@@ -65,3 +70,17 @@ ShownInside old _ _ first e history = ⊤
 abbrev pub KeepsInside : RoomValue → RoomValue → Type 0
 KeepsInside old new =
     (first : List Row) (e : ℕ) (history : List Commit) → Stands old first e history → ShownInside old old.disk.told new.disk.told first e history
+
+-- what each call but `append` and `adopt` does to what a room stands for, whatever it answers
+pub record Keeps (old new : RoomValue) : Type 0 where
+  pub stands : GoesOnStanding old new
+  pub inside : KeepsInside old new
+  pub becomes : Becomes old.room new.room
+  pub time : ContinuesOn old.disk new.disk
+
+-- all that sealing does
+pub record Seals (old new : RoomValue) (result : Result ℕ RoomFault) : Type 0 where
+  pub room : SealsOr old new result
+  pub beside : SameBeside old.disk new.disk
+  pub keeps : Keeps old new
+  pub job : KeepsJob old.room new.room

@@ -1,12 +1,13 @@
 //! The regions of parts, and those beside them.
 
-ghost use Rattle.std.specs.Prelude.{◌≡◌, ◌<◌, ◌^◌, ◌++◌, ◌==◌, not, ◌&&◌, if◌then◌else◌, nat_eq, nat_le, map, find, length, sum_by, take, drop, slice_get, IfOk};
+ghost use Rattle.std.specs.Prelude.{◌≡◌, ◌<◌, ◌^◌, ◌++◌, ◌==◌, not, ◌&&◌, if◌then◌else◌, nat_eq, nat_le, map, find, length, sum_by, take, drop, slice_get, IfOk, OnOk};
 ghost use Rattle.std.specs.List.{AllByRecursion, list_any};
 ghost use Rattle.fine_model.specs.Chain.{regions_of, chain_end};
-ghost use Rattle.epoch_room.specs.Value.{all_regions, regions_beside};
+ghost use Rattle.epoch_room.specs.Fitting.{one_taken};
+ghost use Rattle.epoch_room.specs.Value.{all_regions, regions_outside};
 ghost use Rattle.epoch_room.specs.Whole.{HasRegions};
 
-use fine_model::{NoMemory, Part, Parts};
+use fine_model::{Job, NoMemory, Part, Parts};
 use std::alloc::Global;
 use std::collections::VecDeque;
 
@@ -40,14 +41,14 @@ fn is_beside(live: &Parts, retired: &Parts, region: u32) -> bool
 }
 
 /// The regions of a disk that are in no part, in ascending order.
-#[tactic(auto, unfolding(crate::specs::Value::regions_beside))]
+#[tactic(auto, unfolding(crate::specs::Value::regions_outside))]
 pub fn free_regions(
     alloc: Global,
     regions: u32,
     live: &Parts,
     retired: &Parts,
 ) -> Result<VecDeque<u32>, NoMemory>
-    ensures { IfOk result (λ free. free.items ≡ regions_beside regions (live.now ++ retired.now)) }
+    ensures { IfOk result (λ free. free.items ≡ regions_outside regions (all_regions (live.now ++ retired.now))) }
 {
     let mut free = VecDeque::with_capacity(alloc, regions as usize)?;
     for region in 0..regions {
@@ -56,6 +57,40 @@ pub fn free_regions(
         }
     }
     Ok(free)
+}
+
+/// Whether the merge that is out has taken its regions.
+pub fn has_taken(job: &Option<Job>) -> bool
+    ensures { (if result then 1 else 0) ≡ one_taken job.now }
+{
+    match job {
+        Some(job) => job.header.is_some(),
+        None => false,
+    }
+}
+
+/// Puts the regions of a part behind others.
+fn add_regions(out: &mut Vec<u32>, part: &Part) -> Result<(), NoMemory>
+    requires { HasRegions part.now }
+    ensures { OnOk result (out.new.items ≡ out.old.items ++ regions_of part.now) }
+{
+    let behind = usize::from(part.header.regions) - 1;
+    out.push(part.region)?;
+    out.extend_from_slice(&part.header.more[..behind])?;
+    Ok(())
+}
+
+/// All regions of parts, in their order.
+pub fn all_regions(alloc: Global, parts: &Parts) -> Result<Vec<u32>, NoMemory>
+    requires each { AllByRecursion HasRegions parts.now }
+    ensures { IfOk result (λ regions. regions.items ≡ all_regions parts.now) }
+{
+    let slice = parts.as_slice();
+    let mut regions = Vec::new(alloc);
+    for part in slice {
+        add_regions(&mut regions, part)?;
+    }
+    Ok(regions)
 }
 
 /// The sum of the numbers of regions that headers tell.

@@ -1,28 +1,34 @@
 //! The room.
 
-ghost use Rattle.std.specs.Prelude.{◌≡◌, ◌+◌, ◌≤◌, None, [], IfOk, IfErr};
-ghost use Rattle.fine_model.specs.Boards.{posted};
-ghost use Rattle.std.specs.List.{AllByRecursion};
+ghost use Rattle.std.specs.Prelude.{◌≡◌, ◌+◌, ◌*◌, ◌≤◌, true, None, length, replicate, IfOk, IfErr, IsSome, OnOk, OnErr};
+ghost use Rattle.std.specs.List.{AllByRecursion, list_all};
+ghost use Rattle.fine_model.specs.Boards.{empty_of, is_empty};
+ghost use Rattle.fine_model.specs.Becomes.{Becomes};
+ghost use Rattle.fine_model.specs.Jobs.{KeepsJob};
 ghost use Rattle.fine_model.specs.Merge.{cost};
 ghost use Rattle.fine_model.specs.RowBytes.{FitsRow};
 ghost use Rattle.fine_model.specs.declared.Mark.TheVariants as mark;
-ghost use Rattle.log_disk.specs.Disk.{Disk};
+ghost use Rattle.log_disk.specs.Disk.{Disk, SameBeside};
 ghost use Rattle.epoch_room.specs.declared.answers.Fit.TheVariants as fit;
 ghost use Rattle.epoch_room.specs.declared.answers.RoomFault.TheVariants as room_fault;
 ghost use Rattle.epoch_room.specs.Value.{made};
 ghost use Rattle.epoch_room.specs.Fitting.{fit_of, counts_of, is_pressed};
 ghost use Rattle.epoch_room.specs.Whole.{AreParts, IsIdle, IsWhole};
-ghost use Rattle.epoch_room.specs.Steps.{appended, retired_from, SealsOr};
-ghost use Rattle.epoch_room.specs.Meaning.{GoesOnStanding, KeepsInside, StandsAtFirst, StandsForMore};
+ghost use Rattle.epoch_room.specs.Steps.{appended, retired_from, with_state, SealsOr};
+ghost use Rattle.epoch_room.specs.Meaning.{Keeps, Seals, StandsAtFirst, StandsForMore};
+ghost use Rattle.epoch_room.specs.Views.{MakesView, ViewsLog, ViewsOr};
 
 use crate::answers::{Counts, Fit, RoomFault, Stamp};
 use crate::epoch::OpenEpoch;
 use crate::partition::as_partition;
-use crate::regions::{first_lead, free_regions, last_epoch, regions_in, take_target};
+use crate::regions::{
+    all_regions, first_lead, free_regions, has_taken, last_epoch, regions_in, take_target,
+};
 use crate::sealing::seal_region;
 use fine_model::format::{BODY_START, GREATEST};
-use fine_model::{NoMemory, Part, Parts, Range, RoomLaw};
+use fine_model::{Copied, Job, NoMemory, Part, Parts, Range, RoomLaw};
 use log_disk::{DiskRefusal, LogDisk};
+use partition_hold::{Board, View};
 use private_log::PrivateLog;
 use std::alloc::Global;
 use std::collections::VecDeque;
@@ -32,9 +38,11 @@ use std::snapshot::Snapshot;
 /// How many regions are free before a new epoch takes one: the last one is kept for merging.
 const FREE: usize = 2;
 
-/// A log on a disk: the chain of live parts, the free and the retired regions, and the open epoch.
+/// A log on a disk: the chain of live parts, the free and the retired regions, the open epoch, the board of the views, and the merge
+/// that is out.
 ///
-/// After a failure of the device the room is shut: every call that touches the device then answers `Shut`.
+/// After a failure of the device the room is shut: every call that touches the device then answers `Shut`. What the failed call was
+/// writing is lost to writing until the log is opened again.
 #[derive(Drop)]
 pub struct Room<D: LogDisk> {
     disk: D,
@@ -43,7 +51,10 @@ pub struct Room<D: LogDisk> {
     parts: Parts,
     retired: Parts,
     free: VecDeque<u32>,
+    lost: Option<u32>,
     target: Option<u32>,
+    board: Board<D::Eye>,
+    job: Option<Job>,
     epoch: OpenEpoch,
     sealed: u64,
     places: u64,
@@ -51,15 +62,39 @@ pub struct Room<D: LogDisk> {
 }
 
 impl<D: LogDisk> Model for Room<D> {
-    ghost use Rattle.std.specs.Prelude.{◌≡◌, ◌+◌};
+    ghost use Rattle.std.specs.Prelude.{◌≡◌, ◌+◌, option_to_list};
     ghost use Rattle.epoch_room.specs.Value.{RoomValue, value_of};
     ghost use Rattle.epoch_room.specs.Whole.{IsWhole};
 
     ghost Value = { RoomValue };
 
-    ghost view = { λ r. value_of (D.state r.disk) (D.state r.entry.value) r.parts r.retired r.free.items r.target r.epoch r.sealed r.places r.is_shut };
+    ghost view = { λ r. value_of (D.state r.disk) (D.state r.entry.value) (record {
+      parts = r.parts;
+      retired = r.retired;
+      free = r.free.items;
+      lost = option_to_list r.lost;
+      target = r.target;
+      board = r.board;
+      job = r.job;
+      epoch = r.epoch;
+      sealed = r.sealed;
+      places = r.places;
+      is_shut = r.is_shut;
+    }) };
 
-    ghost invariant = { λ r. IsWhole (value_of (D.state r.disk) (D.state r.entry.value) r.parts r.retired r.free.items r.target r.epoch r.sealed r.places r.is_shut) × (41 + r.epoch.most ≡ (D.state r.disk).region_len) };
+    ghost invariant = { λ r. IsWhole (value_of (D.state r.disk) (D.state r.entry.value) (record {
+      parts = r.parts;
+      retired = r.retired;
+      free = r.free.items;
+      lost = option_to_list r.lost;
+      target = r.target;
+      board = r.board;
+      job = r.job;
+      epoch = r.epoch;
+      sealed = r.sealed;
+      places = r.places;
+      is_shut = r.is_shut;
+    })) × (41 + r.epoch.most ≡ (D.state r.disk).region_len) };
 }
 
 impl<D: LogDisk> RoomLaw for Room<D> {
@@ -97,6 +132,9 @@ impl<D: LogDisk> Room<D> {
         let Ok(epoch) = OpenEpoch::new(alloc, disk.region_len() - BODY_START) else {
             return Err((NoMemory, disk));
         };
+        let Ok(board) = Board::new(alloc, 1) else {
+            return Err((NoMemory, disk));
+        };
         let sealed = last_epoch(&parts);
         let entry = Snapshot::of(&disk);
         Ok(Room {
@@ -106,7 +144,10 @@ impl<D: LogDisk> Room<D> {
             parts,
             retired,
             free,
+            lost: None,
             target: None,
+            board,
+            job: None,
             epoch,
             sealed,
             places: 0,
@@ -118,11 +159,11 @@ impl<D: LogDisk> Room<D> {
     ///
     /// `Shut` comes exactly where an earlier call answered `Disk`; `Number` where the open epoch's number is above 2^62, or 2^62 places were
     /// given; `TooLarge` where the rows alone need more bytes than a region has; `Full` where the open epoch has no entry and fewer than
-    /// two regions are free; `EpochFull` where the open epoch would need more bytes than a region has. A sum above the greatest number
-    /// of 64 bits counts as that number.
+    /// two regions are free, a merge that has taken its regions counting as one; `EpochFull` where the open epoch would need more bytes
+    /// than a region has. A sum above the greatest number of 64 bits counts as that number.
     #[tactic(auto, unfolding(crate::specs::Fitting::fit_of))]
     pub fn fit(&self, cost: u64) -> Fit
-        ensures { result ≡ fit_of self.now cost }
+        ensures { result ≡ fit_of self.now.room cost }
     {
         let room = self.disk.region_len();
         if self.is_shut {
@@ -138,7 +179,7 @@ impl<D: LogDisk> Room<D> {
         if need > room {
             return Fit::TooLarge { need, room };
         }
-        if self.epoch.waiting() == 0 && self.free.len() < FREE {
+        if self.epoch.waiting() == 0 && self.free.len() + usize::from(has_taken(&self.job)) < FREE {
             return Fit::Full {
                 free: self.free.len() as u32,
                 live: regions_in(&self.parts),
@@ -155,11 +196,13 @@ impl<D: LogDisk> Room<D> {
     /// Appends the rows of a transaction to the open epoch, whose first entry takes the free region of the lowest number as the epoch's
     /// target. `fit` of the rows' cost is `Fits`. It takes no memory.
     pub fn append(&mut self, log: &PrivateLog) -> Stamp
-        requires fits { fit_of self.old (cost log.now) ≡ fit.Fits }
+        requires fits { fit_of self.old.room (cost log.now) ≡ fit.Fits }
         requires rows { AllByRecursion (FitsRow mark.Two) log.now }
         ensures stamp { result ≡ record { place = self.old.room.places + 1; epoch = self.old.room.sealed + 1 } }
         ensures room { self.new ≡ appended self.old log.now }
         ensures stands { StandsForMore self.old self.new log.now }
+        ensures becomes { Becomes self.old.room self.new.room }
+        ensures job { KeepsJob self.old.room self.new.room }
     {
         self.target = take_target(&mut self.free, self.target, self.epoch.waiting());
         self.epoch.add(log);
@@ -179,8 +222,17 @@ impl<D: LogDisk> Room<D> {
     pub fn seal(&mut self) -> Result<u64, RoomFault>
         requires waiting { 1 ≤ self.old.room.waiting }
         ensures room { SealsOr self.old self.new result }
-        ensures stands { GoesOnStanding self.old self.new }
-        ensures inside { KeepsInside self.old self.new }
+        ensures beside { SameBeside self.old.disk self.new.disk }
+        ensures keeps { Keeps self.old self.new }
+        ensures job { KeepsJob self.old.room self.new.room }
+    {
+        self.seal_epoch()
+    }
+
+    /// Seals the open epoch; all that `seal` says of it, in one clause.
+    fn seal_epoch(&mut self) -> Result<u64, RoomFault>
+        requires waiting { 1 ≤ self.old.room.waiting }
+        ensures { Seals self.old self.new result }
     {
         if self.is_shut {
             return Err(RoomFault::Shut { epoch: self.sealed });
@@ -208,12 +260,80 @@ impl<D: LogDisk> Room<D> {
                 self.parts.truncate(self.parts.len() - 1);
                 match refusal {
                     DiskRefusal::Failed => {
+                        self.lost = self.target;
+                        self.target = None;
                         self.is_shut = true;
                         Err(RoomFault::Disk)
                     }
                     DiskRefusal::NoMemory => Err(RoomFault::NoMemory),
                 }
             }
+        }
+    }
+
+    /// Three empty buffers for each of so many seats. No view is out. After `NoMemory` the board is as it was.
+    pub fn set_seats(&mut self, seats: u32) -> Result<(), NoMemory>
+        requires some { 1 ≤ seats }
+        requires few { seats ≤ 18 }
+        requires board { list_all is_empty self.old.room.board ≡ true }
+        ensures ok { OnOk result (self.new ≡ with_state self.old (record self.old.room { board = replicate (3 * seats) None })) }
+        ensures err { OnErr result (self.new ≡ self.old) }
+        ensures keeps { Keeps self.old self.new }
+        ensures job { KeepsJob self.old.room self.new.room }
+    {
+        self.board = Board::new(self.alloc, seats)?;
+        Ok(())
+    }
+
+    /// A view of all live parts for a seat that has an empty buffer: its eye stands in the lowest one, and its rows are those of the log up
+    /// to the last sealed epoch. Until it is taken back no region of these parts is written or erased.
+    ///
+    /// `Disk` comes only where the disk failed in this call, and shuts the room; nothing is lost. After `NoMemory` the room is as it was.
+    pub fn view_for(&mut self, seat: u32) -> Result<View<D::Eye>, RoomFault>
+        requires some { 1 ≤ seat }
+        requires seats { 3 * seat ≤ length self.old.room.board }
+        requires empty { IsSome (empty_of self.old.room.board seat) }
+        ensures room { ViewsOr self.old self.new seat result }
+        ensures log { IfOk result (ViewsLog self.old) }
+        ensures keeps { Keeps self.old self.new }
+        ensures job { KeepsJob self.old.room self.new.room }
+    {
+        self.make_view(seat)
+    }
+
+    /// Makes a view; all that `view_for` says of it, in one clause.
+    fn make_view(&mut self, seat: u32) -> Result<View<D::Eye>, RoomFault>
+        requires some { 1 ≤ seat }
+        requires seats { 3 * seat ≤ length self.old.room.board }
+        requires empty { IsSome (empty_of self.old.room.board seat) }
+        ensures { MakesView self.old self.new seat result }
+    {
+        if self.is_shut {
+            return Err(RoomFault::Shut { epoch: self.sealed });
+        }
+        let region_len = self.disk.region_len();
+        let parts = self.parts.copy()?;
+        let regions = all_regions(self.alloc, &self.parts)?;
+        match self.disk.eye(regions.as_slice()) {
+            Ok(eye) => {
+                let buffer = self.board.post(seat, &eye, regions.as_slice());
+                Ok(View::new(
+                    self.alloc,
+                    eye,
+                    parts,
+                    self.sealed,
+                    seat,
+                    buffer,
+                    region_len,
+                ))
+            }
+            Err(refusal) => match refusal {
+                DiskRefusal::Failed => {
+                    self.is_shut = true;
+                    Err(RoomFault::Disk)
+                }
+                DiskRefusal::NoMemory => Err(RoomFault::NoMemory),
+            },
         }
     }
 
@@ -226,15 +346,15 @@ impl<D: LogDisk> Room<D> {
 
     /// The lowest region from a number on that is the lead of a retired part. None exactly where there is none.
     pub fn retired(&self, from: u32) -> Option<u32>
-        ensures { result ≡ retired_from self.now.room.retired from }
+        ensures { result ≡ retired_from self.now.room from }
     {
         first_lead(&self.retired, from)
     }
 
-    /// The room in numbers.
+    /// The room in numbers. By `whole`, what holds of every room comes to the caller.
     #[tactic(auto, unfolding(crate::specs::Fitting::counts_of))]
     pub fn counts(&self) -> Counts
-        ensures counts { result ≡ counts_of self.now }
+        ensures counts { result ≡ counts_of self.now.room }
         ensures whole { IsWhole self.now }
     {
         Counts {
@@ -249,7 +369,7 @@ impl<D: LogDisk> Room<D> {
 
     /// Whether fewer than half of all regions are free.
     pub fn pressed(&self) -> bool
-        ensures { result ≡ is_pressed self.now }
+        ensures { result ≡ is_pressed self.now.room }
     {
         (2 * self.free.len() as u64) < u64::from(self.disk.regions())
     }
@@ -261,9 +381,9 @@ impl<D: LogDisk> Room<D> {
         self.disk.region_len()
     }
 
-    /// The disk. The room has no view out, and no merge. It takes no memory.
+    /// The disk. No view is out, and no merge. It takes no memory.
     pub fn into_disk(self) -> D
-        requires board { posted self.room.board ≡ [] }
+        requires board { list_all is_empty self.room.board ≡ true }
         requires no_job { self.room.job ≡ None }
         ensures disk { D.state result ≡ self.disk }
         ensures whole { IsWhole self }

@@ -1,7 +1,8 @@
 //! What no clause says: worked numbers and bytes, and each call with ample memory.
 
-ghost use Rattle.std.specs.Prelude.{◌≡◌, ◌%◌, ◌≤◌, [], ◌∷◌, IfOk, OnOk};
-ghost use Rattle.std.specs.List.{AllByRecursion};
+ghost use Rattle.std.specs.Prelude.{◌≡◌, ◌%◌, ◌≤◌, [], ◌∷◌, true, None, IfOk, OnOk};
+ghost use Rattle.std.specs.List.{AllByRecursion, list_all};
+ghost use Rattle.fine_model.specs.Boards.{is_empty};
 ghost use Rattle.fine_model.specs.RowBytes.{FitsRow};
 ghost use Rattle.fine_model.specs.declared.Mark.TheVariants as mark;
 
@@ -19,6 +20,7 @@ fn new_room(alloc: Global, region_len: u64, stop: u64) -> Result<Room<MemDisk>, 
     requires low { 4096 ≤ region_len }
     requires high { region_len ≤ 67108864 }
     requires whole { region_len % 1024 ≡ 0 }
+    ensures { IfOk result (λ room. (list_all is_empty room.room.board ≡ true) × (room.room.job ≡ None)) }
 {
     let mut plan = FaultPlan::none(alloc);
     plan.stop = stop;
@@ -58,7 +60,7 @@ fn put(alloc: Global) -> Result<PrivateLog, Fail>
 #[tactic(auto, unfolding(crate::specs::Steps::appended))]
 fn commit(room: &mut Room<MemDisk>, log: &PrivateLog) -> Result<Stamp, Fail>
     requires { AllByRecursion (FitsRow mark.Two) log.now }
-    ensures { OnOk result (1 ≤ room.new.room.waiting) }
+    ensures { OnOk result ((1 ≤ room.new.room.waiting) × (room.new.room.board ≡ room.old.room.board) × (room.new.room.job ≡ room.old.room.job)) }
 {
     match room.fit(log.cost()) {
         Fit::Fits => Ok(room.append(log)),
@@ -67,7 +69,6 @@ fn commit(room: &mut Room<MemDisk>, log: &PrivateLog) -> Result<Stamp, Fail>
 }
 
 // Seals, and where that fails, again.
-#[tactic(auto, unfolding(crate::specs::Steps::shut_state))]
 fn seal_twice(room: &mut Room<MemDisk>) -> (Result<u64, RoomFault>, Option<Result<u64, RoomFault>>)
     requires { 1 ≤ room.old.room.waiting }
 {

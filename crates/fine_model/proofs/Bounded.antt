@@ -1,14 +1,15 @@
 -- The keys of a subtree lie within its bounds.
-use Rattle.std.proofs.Common.{◌≡◌, ◌⊎◌, ℕ, zero, suc, Bool, true, false, not, ◌&&◌, List, [], ◌∷◌, ◌++◌, refl, sym, ◌∙◌, subst, inl, inr, true≢false, Some}
+use Rattle.std.proofs.Common.{◌≡◌, ◌⊎◌, ℕ, zero, suc, Bool, true, false, ◌&&◌, List, [], ◌∷◌, refl, sym, ◌∙◌, subst, inl, inr, true≢false, Some}
 use Rattle.std.specs.Prelude.{flat_map}
 use Rattle.std.specs.List.{AllByRecursion}
+use Rattle.std.proofs.lemmas.Bool.{not-true}
 use Rattle.fine_model.specs.Types.{Node}
 use Rattle.fine_model.specs.Types.node
 use Rattle.fine_model.specs.Map.{Pair, is_below, is_ascending}
 use Rattle.fine_model.specs.Nodes.{Content}
 use Rattle.fine_model.specs.Trees.{Bounds, AllBetween, is_key_within, is_leaf, are_separators, IsInner, IsSubtree, kids_of, pairs_of, pairs_under, is_from, is_above, is_up_to}
 use Rattle.fine_model.proofs.Order.{keys_of, order_cases, is_below-trans, is_below-asym, is_below-self, first_of_both, all_map}
-use Rattle.fine_model.proofs.Sets.{all_from_list_all}
+use Rattle.fine_model.proofs.Sets.{all_append, all_from_list_all}
 
 -- a stands before b, and c not before b, so a stands before c
 pub below_not : (a b c : List ℕ) → is_below a b ≡ true → is_below c b ≡ false → is_below a c ≡ true
@@ -35,14 +36,6 @@ not_lower a c b bc ab = by (is_below a c) refl
     by true h = absurd (true≢false (sym (below_not a c b h bc) ∙ ab))
     by false h = h
 
-not_true : (b : Bool) → not b ≡ true → b ≡ false
-not_true true h = absurd (true≢false (sym h))
-not_true false h = refl
-
-all_append : {A : Type 0} (P : A → Type 0) (xs ys : List A) → AllByRecursion P xs → AllByRecursion P ys → AllByRecursion P (xs ++ ys)
-all_append P [] ys a b = b
-all_append P (x ∷ xs) ys a b = (a.0, all_append P xs ys a.1 b)
-
 abbrev pub AllFrom : List ℕ → List Pair → Type 0
 AllFrom low pairs = AllByRecursion (λ p. is_below p.0 low ≡ false) pairs
 
@@ -53,7 +46,7 @@ AllUpTo high pairs = AllByRecursion (λ p. is_below p.0 high ≡ true) pairs
 leaf_from : (bucket : ℕ) (bounds : Bounds) (low : List ℕ) (n : Node) → bounds.low ≡ Some low → is_leaf bucket bounds n ≡ true → AllFrom low (pairs_of n)
 leaf_from bucket bounds low (node.Leaf pairs) is leaf =
     all_map (λ p. is_key_within bucket bounds p.0 ≡ true) (λ p. is_below p.0 low ≡ false)
-    (λ p h. not_true (is_below p.0 low) (subst (λ b. is_from b p.0 ≡ true) is (first_of_both (is_from bounds.low p.0) _ h).0))
+    (λ p h. not-true (is_below p.0 low) (subst (λ b. is_from b p.0 ≡ true) is (first_of_both (is_from bounds.low p.0) _ h).0))
     pairs (all_from_list_all (λ p. is_key_within bucket bounds p.0) pairs (first_of_both (is_ascending (keys_of pairs)) _ leaf).1)
 leaf_from bucket bounds low (node.Head root next depth) is leaf = absurd (true≢false (sym leaf))
 leaf_from bucket bounds low (node.Inner seps kids) is leaf = absurd (true≢false (sym leaf))

@@ -50,10 +50,10 @@ pairs_fit (node.Head root next depth) fits = (omega arith, tt, refl)
 pairs_fit (node.Inner seps kids) fits = (omega arith, tt, refl)
 pairs_fit node.Broken fits = (omega arith, tt, refl)
 
-drop_leaf : (n : ℕ) (pairs : List Pair) → FitsRec (rec.LeafImage pairs) → FitsRec (rec.LeafImage (drop n pairs))
+pub drop_leaf : (n : ℕ) (pairs : List Pair) → FitsRec (rec.LeafImage pairs) → FitsRec (rec.LeafImage (drop n pairs))
 drop_leaf n pairs fits = let l = length-drop n pairs in let f = fits.0 in (omega (arith, l, f), all_drop FitsPair n pairs fits.1, ascending-drop n pairs fits.2)
 
-drop_inner : (n : ℕ) (seps : List (List ℕ)) (kids : List ℕ) → n ≤ length seps → FitsRec (rec.InnerImage seps kids) → FitsRec (rec.InnerImage (drop n seps) (drop n kids))
+pub drop_inner : (n : ℕ) (seps : List (List ℕ)) (kids : List ℕ) → n ≤ length seps → FitsRec (rec.InnerImage seps kids) → FitsRec (rec.InnerImage (drop n seps) (drop n kids))
 drop_inner n seps kids few fits =
     let l = length-drop n seps in let k = length-drop n kids in let a = fits.0 in let b = fits.1 in (
       omega (arith, l, a),

@@ -36,13 +36,13 @@ use Rattle.fine_model.proofs.NodeBounds.{text_fits, node_fits}
 use Rattle.fine_model.proofs.FitGrown.{IsPushable, ArePushable, FitsSplit, FitsGrowth, body_row, Fits, leaf_fits, inner_fits}
 
 -- rows that are pushed within the limits
-record IsWithin (push : Push) (new : List Row) : Type 0 where
-  next : push.next ≤ 1048576
-  depth : push.depth ≤ 8
-  versions : AllByRecursion (λ row. row.version ≤ greatest) push.rows
-  rows : push.rows ≡ new
+pub record IsWithin (push : Push) (new : List Row) : Type 0 where
+  pub next : push.next ≤ 1048576
+  pub depth : push.depth ≤ 8
+  pub versions : AllByRecursion (λ row. row.version ≤ greatest) push.rows
+  pub rows : push.rows ≡ new
 
-within : (push : Push) (new : List Row) → within_limits push ≡ Ok new → IsWithin push new
+pub within : (push : Push) (new : List Row) → within_limits push ≡ Ok new → IsWithin push new
 unfolding within_limits
 within push new is = by (nat_lt 1048576 push.next || nat_lt 8 push.depth) refl (list_any (λ row. nat_lt greatest row.version) push.rows) refl is
   where
@@ -58,7 +58,7 @@ within push new is = by (nat_lt 1048576 push.next || nat_lt 8 push.depth) refl (
           rows = cc;
         }
 
-kind_few : (change : Rec) → kind change ≤ 9
+pub kind_few : (change : Rec) → kind change ≤ 9
 kind_few (rec.HeadImage root next depth) = omega arith
 kind_few (rec.LeafImage pairs) = omega arith
 kind_few (rec.InnerImage seps kids) = omega arith

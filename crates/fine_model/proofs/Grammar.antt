@@ -1,13 +1,15 @@
 -- A region is closed, bad or sealed, and no two of these.
-use Rattle.std.proofs.Common.{◌≡◌, ◌≢◌, ◌⊎◌, ℕ, ◌+◌, ◌*◌, ◌<◌, ◌≤◌, Bool, true, false, ◌&&◌, List, [], ◌∷◌, ◌++◌, length, take, drop, Some, Ok, Err, refl, sym, ap, ◌∙◌, subst, inl, inr, arith, append_assoc, append-nil, length-append, take_at, drop_at}
+use Rattle.std.proofs.Common.{◌≡◌, ◌≢◌, ◌⊎◌, ℕ, ◌+◌, ◌*◌, ◌<◌, ◌≤◌, true, ◌&&◌, List, [], ◌∷◌, ◌++◌, length, take, drop, Some, Ok, Err, refl, sym, ap, ◌∙◌, subst, inl, inr, arith, append_assoc, append-nil, length-append, take_at, drop_at}
 use Rattle.std.specs.Prelude.{Result, Option, flat_map}
 use Rattle.std.specs.List.{AllByRecursion}
 use Rattle.std.proofs.lemmas.List.Sums.{sum_by-cons}
+use Rattle.std.proofs.lemmas.Bool.{and_parts}
 use Rattle.fine_model.specs.Types.{NodeId, Row, Range, Mark, Header}
 use Rattle.fine_model.specs.RowBytes.{row_bytes, row_len, rows_bytes, rows_len, FitsRow}
 use Rattle.fine_model.specs.Merge.{is_row_below, is_ordered, nodes_in}
 use Rattle.fine_model.specs.Regions.{Image, body_in, body_bytes, index_bytes, entry_bytes, row_area, index_area, BeginsWithRows, IsBadRow, IsBadEntry, IsRegion, bad, sealed}
 use Rattle.fine_model.proofs.Spelling.{row_spelling}
+use Rattle.fine_model.proofs.Zip.{all_left}
 
 -- the bytes of a row, and of rows, are as many as their lengths say
 pub row_long : (row : Row) → length (row_bytes row) ≡ row_len row
@@ -28,7 +30,7 @@ entries_long rows [] = refl
 entries_long rows (id ∷ ids) = omega (arith, entries_long rows ids, length-append (entry_bytes rows id) (flat_map (entry_bytes rows) ids))
 
 -- rows that are spelled at the front of others are the front of these
-rows_begin : (mark : Mark) (front rows : List Row) (x y : List ℕ) → length front ≤ length rows → AllByRecursion (FitsRow mark) front → AllByRecursion (FitsRow mark) rows
+pub rows_begin : (mark : Mark) (front rows : List Row) (x y : List ℕ) → length front ≤ length rows → AllByRecursion (FitsRow mark) front → AllByRecursion (FitsRow mark) rows
     → rows_bytes front ++ x ≡ rows_bytes rows ++ y → (more : List Row) × (rows ≡ front ++ more) × (x ≡ rows_bytes more ++ y)
 unfolding rows_bytes
 rows_begin mark [] rows x y long f g e = (rows, refl, e)
@@ -39,19 +41,11 @@ rows_begin mark (a ∷ front) (b ∷ rows) x y long f g e =
     let rest = rows_begin mark front rows x y (omega (arith, long)) f.1 g.1 s.1 in
     (rest.0, (λ i. sym s.0 i ∷ rest.1 i), rest.2)
 
-all_front : {A : Type 0} (P : A → Type 0) (front more : List A) → AllByRecursion P (front ++ more) → AllByRecursion P front
-all_front P [] more all = tt
-all_front P (x ∷ front) more all = (all.0, all_front P front more all.1)
-
-both : (a b : Bool) → (a && b) ≡ true → (a ≡ true) × (b ≡ true)
-both true b e = (refl, e)
-both false b e = absurd (cc)
-
 pub ordered_front : (front more : List Row) → is_ordered (front ++ more) ≡ true → is_ordered front ≡ true
 ordered_front [] more e = refl
 ordered_front (a ∷ []) more e = refl
 ordered_front (a ∷ b ∷ front) more e =
-    let s = both (is_row_below a b) (is_ordered (b ∷ (front ++ more))) e in
+    let s = and_parts (is_row_below a b) (is_ordered (b ∷ (front ++ more))) e in
     ap (λ x. x && is_ordered (b ∷ front)) s.0 ∙ ordered_front (b ∷ front) more s.1
 
 pub rows_bytes-append : (a b : List Row) → rows_bytes (a ++ b) ≡ rows_bytes a ++ rows_bytes b
@@ -89,7 +83,7 @@ module _ (header : Header) (bytes : List ℕ) (rows : List Row) (rest : List ℕ
       by (row ∷ others, all, more) =
           let whole : rows ≡ (b.rows ++ row ∷ []) ++ others = all ∙ sym (append_assoc b.rows (row ∷ []) others) in
           b.last row (rows_bytes others) (record {
-            fit = all_front (FitsRow header.mark) (b.rows ++ row ∷ []) others (subst (AllByRecursion (FitsRow header.mark)) whole fit);
+            fit = all_left (FitsRow header.mark) (b.rows ++ row ∷ []) others (subst (AllByRecursion (FitsRow header.mark)) whole fit);
             ordered = ordered_front (b.rows ++ row ∷ []) others (ap is_ordered (sym whole) ∙ ordered);
             spelled = area ∙ ap rows_bytes whole ∙ rows_bytes-append (b.rows ++ row ∷ []) others;
             counted = let long = ap length whole in omega (arith, long, counts.0, length-append (b.rows ++ row ∷ []) others);

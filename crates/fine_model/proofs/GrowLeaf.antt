@@ -2,7 +2,7 @@
 use Rattle.std.proofs.Common.{◌≡◌, ◌≢◌, ◌⊎◌, inl, inr, ℕ, zero, suc, ◌+◌, ◌<◌, ◌≤◌, ◌==◌, nat_lt, Bool, true, false, cond, not, ◌&&◌, ◌||◌, IsTrue, List, [], ◌∷◌, ◌++◌, length, drop, refl, sym, ap, ◌∙◌, subst, true≢false, Some, None, arith, eq-eqb, leb, le-leb, length-append, is_some}
 use Rattle.std.specs.Prelude.{Option}
 use Rattle.std.specs.List.{AllByRecursion, list_all}
-use Rattle.std.proofs.lemmas.Bool.{leb-true}
+use Rattle.std.proofs.lemmas.Bool.{leb-true, not-true}
 use Rattle.std.proofs.lemmas.Bool.Decides.{leb_tells}
 use Rattle.fine_model.specs.Types.{Row}
 use Rattle.fine_model.specs.Types.rec
@@ -48,7 +48,7 @@ length-set_there pairs key value up there = by (around_key key pairs up)
             let l = ap length s in let m = ap length e.1 in let c = length-append a.front ((key, value) ∷ a.back) in let d = length-append a.front ((key, e.0) ∷ a.back) in omega (arith, l, m, c, d)
 
 -- a leaf that takes the pair
-fits_leaf : (pairs : List Pair) → length pairs ≤ 32 → leaf pairs ≡ node.Leaf pairs
+pub fits_leaf : (pairs : List Pair) → length pairs ≤ 32 → leaf pairs ≡ node.Leaf pairs
 fits_leaf pairs h = ap (λ b. cond b (node.Leaf pairs) node.Broken) (le-leb (length pairs) 32 h)
 
 -- a row at the next version
@@ -77,13 +77,9 @@ low_before low a b from below = by (order_cases low a)
     by (inr (inl e)) = ap (λ k. is_below k b) e ∙ below
     by (inr (inr h)) = absurd (true≢false (sym h.0 ∙ from))
 
-not_true : (b : Bool) → not b ≡ true → b ≡ false
-not_true true h = absurd (true≢false (sym h))
-not_true false h = refl
-
 above_from : (low : Option (List ℕ)) (a b : List ℕ) → is_from low a ≡ true → is_below a b ≡ true → is_above low b ≡ true
 above_from None a b h l = refl
-above_from (Some low) a b h l = low_before low a b (not_true (is_below a low) h) l
+above_from (Some low) a b h l = low_before low a b (not-true (is_below a low) h) l
 
 abbrev AllWithin : ℕ → Bounds → List Pair → Type 0
 AllWithin bucket bounds pairs = AllByRecursion (λ p. is_key_within bucket bounds p.0 ≡ true) pairs

@@ -65,15 +65,15 @@ in_order region_len regions lead bytes header g =
 
 -- ---- the regions of a header
 
-regions_are : (bytes : List ℕ) → (header_at bytes).regions ≡ regions_at (header_at bytes).mark bytes
+pub regions_are : (bytes : List ℕ) → (header_at bytes).regions ≡ regions_at (header_at bytes).mark bytes
 unfolding header_at
 regions_are bytes = refl
 
-more_are : (bytes : List ℕ) → (header_at bytes).more ≡ more_at (header_at bytes).mark bytes
+pub more_are : (bytes : List ℕ) → (header_at bytes).more ≡ more_at (header_at bytes).mark bytes
 unfolding header_at
 more_are bytes = refl
 
-seven : (m : Mark) (bytes : List ℕ) → length (more_at m bytes) ≡ 7
+pub seven : (m : Mark) (bytes : List ℕ) → length (more_at m bytes) ≡ 7
 seven mark.One bytes = refl
 seven mark.Two bytes = refl
 seven mark.Three bytes = refl

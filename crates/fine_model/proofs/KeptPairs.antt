@@ -1,5 +1,5 @@
 -- The pairs that a scan keeps from bucket to bucket.
-use Rattle.std.proofs.Common.{length, ◌≡◌, ◌≢◌, ◌⊎◌, inl, inr, ℕ, zero, suc, ◌+◌, ◌-◌, ◌<◌, ◌≤◌, ◌==◌, Bool, true, false, not, ◌&&◌, List, [], ◌∷◌, ◌++◌, take, get_or, refl, sym, ap, ◌∙◌, subst, arith, true≢false, append-nil, append_assoc, eqb-true, replicate, nat_lt, is_lt, Less, Equal, Greater, nat_cmp, eq-eqb, cond}
+use Rattle.std.proofs.Common.{length, ◌≡◌, ◌≢◌, ◌⊎◌, inl, inr, ℕ, zero, suc, ◌+◌, ◌<◌, ◌≤◌, ◌==◌, Bool, true, false, not, ◌&&◌, List, [], ◌∷◌, ◌++◌, take, get_or, refl, sym, ap, ◌∙◌, subst, arith, true≢false, append-nil, append_assoc, eqb-true, replicate, nat_lt, is_lt, Less, Equal, Greater, nat_cmp, eq-eqb, cond}
 use Rattle.std.specs.Prelude.{flat_map, bytes_eq, IsSortedBy}
 use Rattle.std.specs.List.{AllByRecursion, range_with_len}
 use Rattle.std.specs.Ordering.{ordering_then}
@@ -10,22 +10,22 @@ use Rattle.std.proofs.lemmas.Slice.Eq.{bytes_eq-Decides}
 use Rattle.std.proofs.lemmas.List.Elements.{All-from_recursion, recursion_from_All}
 use Rattle.std.proofs.lemmas.List.Sums.{sum_by-cons, sum_by-append}
 use Rattle.std.proofs.lemmas.List.Sorted.{sum_by-IsPermutation, All-permutation}
-use Rattle.fine_model.specs.Types.{Row, Node, Mark}
+use Rattle.fine_model.specs.Types.{Row, Node}
 use Rattle.fine_model.specs.Types.reply
 use Rattle.fine_model.specs.Types.node
-use Rattle.fine_model.specs.RowBytes.{FitsPair, FitsRow}
-use Rattle.fine_model.specs.Map.{Pair, is_below, is_ascending, pairs_below, pairs_above, set, between, from_pairs}
-use Rattle.fine_model.specs.Nodes.{Content}
+use Rattle.fine_model.specs.RowBytes.{FitsPair}
+use Rattle.fine_model.specs.Map.{Pair, is_below, is_ascending, between, from_pairs}
+use Rattle.fine_model.specs.Nodes.{content}
 use Rattle.fine_model.specs.BoundLaws.{FitsNode}
 use Rattle.fine_model.specs.Store.{answer}
-use Rattle.fine_model.specs.Trees.{bucket_of, kids_of, pairs_of, pairs_under, pairs_from, nodes_of, tree_map, map_of}
+use Rattle.fine_model.specs.Trees.{bucket_of, pairs_of, tree_map, map_of}
 use Rattle.fine_model.specs.ScanLaws.{gathered, times_of, IsSorted, KeptFirst, KeptMore, KeptCut, KeptAll, PairsFit, WholeRange}
 use Rattle.fine_model.proofs.Order.{filter_all, order_cases, all_map, keys_of}
 use Rattle.fine_model.proofs.Sets.{all_append, all_filter, ascending-filter, ascending-tail}
 use Rattle.fine_model.proofs.Lists.{all_take}
-use Rattle.fine_model.proofs.Joined.{joined}
 use Rattle.fine_model.proofs.Buckets.{in_bucket, ascends}
 use Rattle.fine_model.proofs.NodeBounds.{node_fits}
+use Rattle.fine_model.proofs.AllPairs.{map_all}
 use Rattle.fine_model.proofs.Gathered.{Ascends, count, up_front, above_none, all_above, order_law, cut_law, first_gathered}
 
 -- ---- keys that stand once
@@ -172,43 +172,14 @@ kept_all rows low high limit kept found sound k s =
 
 -- ---- keys and values
 
-pairs_fit_node : (n : Node) → FitsNode n → AllByRecursion FitsPair (pairs_of n)
+pub pairs_fit_node : (n : Node) → FitsNode n → AllByRecursion FitsPair (pairs_of n)
 pairs_fit_node (node.Leaf pairs) fits = fits.1
 pairs_fit_node (node.Head root next depth) fits = tt
 pairs_fit_node (node.Inner seps kids) fits = tt
 pairs_fit_node node.Broken fits = tt
 
-flat_fits : (f : ℕ → List Pair) → ((b : ℕ) → AllByRecursion FitsPair (f b)) → (bs : List ℕ) → AllByRecursion FitsPair (flat_map f bs)
-flat_fits f all [] = tt
-flat_fits f all (b ∷ bs) = all_append FitsPair (f b) (flat_map f bs) (all b) (flat_fits f all bs)
-
-module _ (nodes : ℕ → Content) (each : (number : ℕ) → FitsNode (nodes number).0) where
-  under_fits : (height number : ℕ) → AllByRecursion FitsPair (pairs_under height nodes number)
-  unfolding pairs_under
-  under_fits zero number = pairs_fit_node (nodes number).0 (each number)
-  under_fits (suc height) number = flat_fits (pairs_under height nodes) (under_fits height) (kids_of (nodes number).0)
-
-  from_fits : (n : Node) → AllByRecursion FitsPair (pairs_from nodes n)
-  from_fits (node.Head root next depth) = under_fits (depth - 1) root
-  from_fits (node.Leaf pairs) = tt
-  from_fits (node.Inner seps kids) = tt
-  from_fits node.Broken = tt
-
-set_fits : (m : List Pair) (p : Pair) → AllByRecursion FitsPair m → FitsPair p → AllByRecursion FitsPair (set m p.0 p.1)
-unfolding set
-set_fits m p all one = all_append FitsPair (pairs_below p.0 m) ((p.0, p.1) ∷ pairs_above p.0 m) (all_filter FitsPair (λ q. is_below q.0 p.0) m all) (one, all_filter FitsPair (λ q. is_below p.0 q.0) m all)
-
-joined_fits : (m pairs : List Pair) → AllByRecursion FitsPair m → AllByRecursion FitsPair pairs → AllByRecursion FitsPair (joined m pairs)
-joined_fits m [] all all' = all
-joined_fits m (p ∷ pairs) all all' = joined_fits (set m p.0 p.1) pairs (set_fits m p all all'.0) all'.1
-
-tree_fits : (mark : Mark) (rows : List Row) → AllByRecursion (FitsRow mark) rows → (b : ℕ) → AllByRecursion FitsPair (tree_map rows b)
-unfolding tree_map
-tree_fits mark rows fits b = from_fits (nodes_of rows b) (λ number. node_fits mark rows (record { bucket = b; number = number }) fits) (nodes_of rows b 0).0
-
 pub pairs_fit : PairsFit
-unfolding map_of from_pairs
-pairs_fit mark rows fits = joined_fits [] (flat_map (tree_map rows) (range_with_len 0 256)) tt (flat_fits (tree_map rows) (tree_fits mark rows fits) (range_with_len 0 256))
+pairs_fit mark rows fits = map_all FitsPair rows (λ id. pairs_fit_node (content rows id).0 (node_fits mark rows id fits))
 
 -- ---- the whole range
 

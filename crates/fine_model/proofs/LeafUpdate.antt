@@ -2,6 +2,7 @@
 use Rattle.std.proofs.Common.{◌≡◌, ◌≢◌, ℕ, zero, suc, ◌==◌, nat_eq, Bool, true, false, cond, not, ◌&&◌, ◌||◌, IsTrue, List, [], ◌∷◌, ◌++◌, length, slice_index, refl, sym, ap, ◌∙◌, subst, true≢false, Some, eqb-true, eq-eqb, append-nil}
 use Rattle.std.specs.Prelude.{flat_map, filter, Option}
 use Rattle.std.specs.List.{AllByRecursion, list_any}
+use Rattle.std.proofs.lemmas.Bool.{or_parts, not-true}
 use Rattle.std.proofs.lemmas.List.Folds.{list_any-append}
 use Rattle.fine_model.specs.Types.{Node}
 use Rattle.fine_model.specs.Types.node
@@ -11,14 +12,6 @@ use Rattle.fine_model.specs.Trees.{Bounds, AllBetween, is_key_within, is_leaf, I
 use Rattle.fine_model.specs.Pushed.{child_for, leaf_for}
 use Rattle.fine_model.proofs.Order.{AllBelow, AllAbove, is_below-trans, is_below-self, first_of_both, all_map}
 use Rattle.fine_model.proofs.Bounded.{below_not, kids_from, subtree_from, subtree_up_to}
-
-or_false : (a b : Bool) → (a || b) ≡ false → (a ≡ false) × (b ≡ false)
-or_false true b h = absurd (true≢false h)
-or_false false b h = (refl, h)
-
-not_true : (b : Bool) → not b ≡ true → b ≡ false
-not_true true h = absurd (true≢false (sym h))
-not_true false h = refl
 
 abbrev pub IsIn : ℕ → List ℕ → Type 0
 IsIn n ns = list_any (nat_eq n) ns ≡ true
@@ -31,7 +24,7 @@ unfolding is_distinct
 distinct_left [] ys h = refl
 distinct_left (x ∷ xs) ys h =
     let b = first_of_both (not (list_any (nat_eq x) (xs ++ ys))) (is_distinct (xs ++ ys)) h in
-    let a = or_false (list_any (nat_eq x) xs) (list_any (nat_eq x) ys) (sym (list_any-append (nat_eq x) xs ys) ∙ not_true (list_any (nat_eq x) (xs ++ ys)) b.0) in
+    let a = or_parts (list_any (nat_eq x) xs) (list_any (nat_eq x) ys) (sym (list_any-append (nat_eq x) xs ys) ∙ not-true (list_any (nat_eq x) (xs ++ ys)) b.0) in
     ap (λ c. not c && is_distinct xs) a.0 ∙ distinct_left xs ys b.1
 
 distinct_right : (xs ys : List ℕ) → is_distinct (xs ++ ys) ≡ true → is_distinct ys ≡ true
@@ -47,7 +40,7 @@ apart n (x ∷ xs) ys h here = by (nat_eq n x) refl here (apart n xs ys (first_o
   where
     by : (b : Bool) → nat_eq n x ≡ b → (b || list_any (nat_eq n) xs) ≡ true → (IsIn n xs → IsAbsent n ys) → IsAbsent n ys
     by true same here rest =
-        let a = or_false (list_any (nat_eq x) xs) (list_any (nat_eq x) ys) (sym (list_any-append (nat_eq x) xs ys) ∙ not_true (list_any (nat_eq x) (xs ++ ys)) (first_of_both (not (list_any (nat_eq x) (xs ++ ys))) (is_distinct (xs ++ ys)) h).0) in
+        let a = or_parts (list_any (nat_eq x) xs) (list_any (nat_eq x) ys) (sym (list_any-append (nat_eq x) xs ys) ∙ not-true (list_any (nat_eq x) (xs ++ ys)) (first_of_both (not (list_any (nat_eq x) (xs ++ ys))) (is_distinct (xs ++ ys)) h).0) in
         subst (λ m. list_any (nat_eq m) ys ≡ false) (sym (eqb-true n x same)) a.1
     by false same here rest = rest here
 
@@ -78,19 +71,19 @@ module _ (bucket : ℕ) (old new : ℕ → Content) (leaf : ℕ) (key : List ℕ
     same_pairs : flat_map (pairs_under height new) kids ≡ flat_map (pairs_under height old) kids
 
   other_than : (number : ℕ) (rest : List ℕ) → IsAbsent leaf (number ∷ rest) → new number ≡ old number
-  other_than number rest absent = others number (λ e. true≢false (sym (eq-eqb leaf number (sym e)) ∙ (or_false (nat_eq leaf number) (list_any (nat_eq leaf) rest) absent).0))
+  other_than number rest absent = others number (λ e. true≢false (sym (eq-eqb leaf number (sym e)) ∙ (or_parts (nat_eq leaf number) (list_any (nat_eq leaf) rest) absent).0))
 
   same_kids : (height : ℕ) (each : (b : Bounds) (k : ℕ) → IsSubtree height bucket old b k → IsAbsent leaf (reached height old k) → SameUnder height b k)
       (bounds : Bounds) (seps : List (List ℕ)) (kids : List ℕ) → AllBetween (IsSubtree height bucket old) bounds seps kids → IsAbsent leaf (flat_map (reached height old) kids) → SameKids height bounds seps kids
   unfolding AllBetween
   same_kids height each bounds [] [] all absent = absurd all
   same_kids height each bounds [] (kid ∷ []) all absent =
-      let s = each bounds kid all (or_false (list_any (nat_eq leaf) (reached height old kid)) (list_any (nat_eq leaf) []) (sym (list_any-append (nat_eq leaf) (reached height old kid) []) ∙ absent)).0 in
+      let s = each bounds kid all (or_parts (list_any (nat_eq leaf) (reached height old kid)) (list_any (nat_eq leaf) []) (sym (list_any-append (nat_eq leaf) (reached height old kid) []) ∙ absent)).0 in
       record { between = s.subtree; same_reached = ap (λ xs. xs ++ []) s.same_reached; same_pairs = ap (λ xs. xs ++ []) s.same_pairs }
   same_kids height each bounds [] (kid ∷ kid' ∷ kids) all absent = absurd all
   same_kids height each bounds (sep ∷ seps) [] all absent = absurd all
   same_kids height each bounds (sep ∷ seps) (kid ∷ kids) all absent =
-      let o = or_false (list_any (nat_eq leaf) (reached height old kid)) (list_any (nat_eq leaf) (flat_map (reached height old) kids)) (sym (list_any-append (nat_eq leaf) (reached height old kid) (flat_map (reached height old) kids)) ∙ absent) in
+      let o = or_parts (list_any (nat_eq leaf) (reached height old kid)) (list_any (nat_eq leaf) (flat_map (reached height old) kids)) (sym (list_any-append (nat_eq leaf) (reached height old kid) (flat_map (reached height old) kids)) ∙ absent) in
       let s = each (record { low = bounds.low; high = Some sep }) kid all.0 o.0 in
       let r = same_kids height each (record { low = Some sep; high = bounds.high }) seps kids all.1 o.1 in
       record {
@@ -115,7 +108,7 @@ module _ (bucket : ℕ) (old new : ℕ → Content) (leaf : ℕ) (key : List ℕ
       record { subtree = subst (λ c. IsTrue (is_leaf bucket bounds c.0)) (sym e) subtree; same_reached = refl; same_pairs = ap (λ c. pairs_of c.0) e }
   same_under (suc height) bounds number subtree absent =
       let e = other_than number (flat_map (reached height old) (kids_of (old number).0)) absent in
-      let s = same_inner height (same_under height) bounds (old number).0 subtree (or_false (nat_eq leaf number) (list_any (nat_eq leaf) (flat_map (reached height old) (kids_of (old number).0))) absent).1 in
+      let s = same_inner height (same_under height) bounds (old number).0 subtree (or_parts (nat_eq leaf number) (list_any (nat_eq leaf) (flat_map (reached height old) (kids_of (old number).0))) absent).1 in
       record {
         subtree = subst (λ c. IsInner (IsSubtree height bucket new) bounds c.0) (sym e) s.0;
         same_reached = ap (λ ns. number ∷ ns) (ap (λ c. flat_map (reached height new) (kids_of c.0)) e ∙ s.1);
@@ -255,7 +248,7 @@ module _ (bucket : ℕ) (old new : ℕ → Content) (leaf : ℕ) (key : List ℕ
   updated (suc height) bounds number subtree apart_all to within =
       let d = first_of_both (not (list_any (nat_eq number) (flat_map (reached height old) (kids_of (old number).0)))) (is_distinct (flat_map (reached height old) (kids_of (old number).0))) apart_all in
       let u = updated_inner height (updated height) bounds (old number).0 subtree d.1 to within in
-      let e : new number ≡ old number = others number (λ is. true≢false (sym u.3 ∙ subst (λ m. list_any (nat_eq m) (flat_map (reached height old) (kids_of (old number).0)) ≡ false) is (not_true (list_any (nat_eq number) (flat_map (reached height old) (kids_of (old number).0))) d.0))) in
+      let e : new number ≡ old number = others number (λ is. true≢false (sym u.3 ∙ subst (λ m. list_any (nat_eq m) (flat_map (reached height old) (kids_of (old number).0)) ≡ false) is (not-true (list_any (nat_eq number) (flat_map (reached height old) (kids_of (old number).0))) d.0))) in
       record {
         subtree = subst (λ c. IsInner (IsSubtree height bucket new) bounds c.0) (sym e) u.0;
         same_reached = ap (λ ns. number ∷ ns) (ap (λ c. flat_map (reached height new) (kids_of c.0)) e ∙ u.1);

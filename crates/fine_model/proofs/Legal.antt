@@ -14,7 +14,7 @@ use Rattle.fine_model.specs.History.{Commit, IsNext, IsLegal, all_rows, all_writ
 use Rattle.fine_model.specs.Laws.{AreSmall, HasMap, IsPushed, AllPushedLaw, LegalFront, LegalMap, FrontLaw, GrowthLaw}
 use Rattle.fine_model.proofs.SetLaw.{pushed_law}
 
-map_after-append : (m : List Pair) (a b : List Write) → map_after m (a ++ b) ≡ map_after (map_after m a) b
+pub map_after-append : (m : List Pair) (a b : List Write) → map_after m (a ++ b) ≡ map_after (map_after m a) b
 unfolding map_after
 map_after-append m a b = fold-append after_write m a b
 

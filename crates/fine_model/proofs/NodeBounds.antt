@@ -75,7 +75,7 @@ there_shorter key (q ∷ pairs) p is = by (bytes_eq q.0 key) refl (λ e. there_s
     by false e more is = rest (is_below q.0 key) (is_below key q.0) refl refl (more is)
 
 -- a number of 64 bits
-signed : (z : ℤ) → is_i64 z ≡ true → FitsSigned w64 z
+pub signed : (z : ℤ) → is_i64 z ≡ true → FitsSigned w64 z
 signed (pos n) h = let le : n ≤ 9223372036854775807 = leb-true n 9223372036854775807 h in omega arith
 signed (negsuc n) h = let le : n ≤ 9223372036854775807 = leb-true n 9223372036854775807 (and_parts (leb n 9223372036854775807) true h).0 in omega arith
 
@@ -204,10 +204,13 @@ base_fits id = by (id.number == 0)
     by true = ((omega arith, omega arith), omega arith, omega arith, omega arith, omega arith)
     by false = (omega arith, tt, refl)
 
-recs_fit : (mark : Mark) (rows : List Row) → AllByRecursion (FitsRow mark) rows → AllByRecursion (λ row. FitsRec row.rec) rows
+pub recs_fit : (mark : Mark) (rows : List Row) → AllByRecursion (FitsRow mark) rows → AllByRecursion (λ row. FitsRec row.rec) rows
 recs_fit mark [] fits = tt
 recs_fit mark (row ∷ rows) fits = (let f = fits.0 in f.rec, recs_fit mark rows fits.1)
 
-pub node_fits : NodeFits
+pub node_fits_of : (rows : List Row) (id : NodeId) → AllByRecursion (λ row. FitsRec row.rec) rows → FitsNode (content rows id).0
 unfolding content
-node_fits mark rows id fits = replay_fits (rows_of id rows) (base id) (all_filter (λ row. FitsRec row.rec) (λ row. is_node id row.node) rows (recs_fit mark rows fits)) (base_fits id)
+node_fits_of rows id fits = replay_fits (rows_of id rows) (base id) (all_filter (λ row. FitsRec row.rec) (λ row. is_node id row.node) rows fits) (base_fits id)
+
+pub node_fits : NodeFits
+node_fits mark rows id fits = node_fits_of rows id (recs_fit mark rows fits)

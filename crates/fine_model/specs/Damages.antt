@@ -1,41 +1,132 @@
 -- What status 7 means on any log.
-use Rattle.std.specs.Prelude.{◌≡◌, ◌⊎◌, ℕ, ◌≤◌, List, Some, Ok, Err, Contains}
-use Rattle.fine_model.specs.Types.{Row, Part, Damage, NodeId}
+use Rattle.std.specs.Prelude.{◌≡◌, ◌⊎◌, ℕ, ◌-◌, ◌<◌, ◌≤◌, Bool, true, false, IsTrue, List, [], ◌∷◌, ◌++◌, map, flat_map, Some, Ok, Err, Contains}
+use Rattle.std.specs.List.{AllByRecursion, list_any}
+use Rattle.fine_model.specs.Types.{Row, Header, Part, Damage, NodeId}
 use Rattle.fine_model.specs.Types.damage
-use Rattle.fine_model.specs.Trees.{IsSound}
-use Rattle.fine_model.specs.Paths.{first_unfit, first_unfit_between}
-use Rattle.fine_model.specs.Regions.{Image, Place, HoldsBadItem}
-use Rattle.fine_model.specs.Chain.{chain, AreRowsOf, Shows}
+use Rattle.fine_model.specs.Types.node
+use Rattle.fine_model.specs.Nodes.{Content, base, replay, rows_of}
+use Rattle.fine_model.specs.Merge.{is_image, is_node_below}
+use Rattle.fine_model.specs.Trees.{IsSound, bucket_of, nodes_of}
+use Rattle.fine_model.specs.Paths.{unfit_under, unfit_between}
+use Rattle.fine_model.specs.Regions.{Image, Place, place_of, body_in, HasHeader, HoldsBadItem, IsSealed}
+use Rattle.fine_model.specs.Seek.{RowSpan, entry_at, is_entry, span_at, SpanHolds, IsBadInSpan}
+use Rattle.fine_model.specs.Chain.{chain, Shows}
 use Rattle.fine_model.specs.Report.{damage_line}
+use Rattle.fine_model.specs.Headline.{Return, TellsFaults}
 
 -- nothing that an image shows is a sound log
 abbrev pub IsUnsound : ℕ → Image → Type 0
 IsUnsound region_len image = (e : ℕ) (rows : List Row) → Shows region_len image e rows → IsSound rows → ⊥
 
--- a part of the chain has a bad row or index entry there
-abbrev pub HasBadItemAt : ℕ → Image → List Part → Place → Type 0
-HasBadItemAt region_len image parts place = (p : Part) × Contains parts p × HoldsBadItem region_len image p.region place
+-- ---- places
 
--- a node is the first that is not fit on the path of some key, or of some scan
-abbrev pub IsUnfitNode : List Row → NodeId → Type 0
-IsUnfitNode rows id =
-    ((key : List ℕ) × (first_unfit rows key ≡ Some id))
-    ⊎ ((low : List ℕ) × (high : List ℕ) × (limit : ℕ) × (first_unfit_between rows id.bucket low high limit ≡ Some id))
+-- an index entry of a part that is none, or whose span does not end behind its start
+pub record HasBadSpan (region_len : ℕ) (image : Image) (p : Part) (place : Place) : Type 0 where
+  pub entry : ℕ
+  pub there : entry < p.header.nodes
+  pub at : ℕ
+  pub is_bad : span_at p.header (body_in image p.region p.header) entry ≡ Err at
+  pub stands : place ≡ place_of region_len p.region p.header at
 
--- What may be named as damaged where the chain is defined: a bad row or index entry of its parts, or a node that their rows leave unfit;
--- where some part has a bad item the parts have no list of rows, and a node may be unfit by those of them that are good.
+-- the span of an index entry of a part has a bad row
+pub record HasBadRowInSpan (region_len : ℕ) (image : Image) (p : Part) (place : Place) : Type 0 where
+  pub entry : ℕ
+  pub there : entry < p.header.nodes
+  pub span : RowSpan
+  pub is_span : span_at p.header (body_in image p.region p.header) entry ≡ Ok span
+  pub at : ℕ
+  pub is_bad : IsBadInSpan p.header (body_in image p.region p.header) span (entry_at p.header (body_in image p.region p.header) entry).node at
+  pub stands : place ≡ place_of region_len p.region p.header at
+
+-- What a reader may call bad in a part: its first bad row or index entry, or what a look for one node meets there, an entry or a row of its
+-- span. In the grammar there is none of them.
+abbrev pub IsBadPlace : ℕ → Image → Part → Place → Type 0
+IsBadPlace region_len image p place = HoldsBadItem region_len image p.region place ⊎ HasBadSpan region_len image p place ⊎ HasBadRowInSpan region_len image p place
+
+-- a part of the chain is bad there
+abbrev pub HasBadPlace : ℕ → Image → List Part → Place → Type 0
+HasBadPlace region_len image parts place = (p : Part) × Contains parts p × IsBadPlace region_len image p place
+
+-- ---- nodes
+
+-- An index without a node, as a search sees it: there is a number before whose entry one stands that names a lower node, and whose own
+-- entry names a higher one, as far as there are entries.
+pub record LacksEntry (header : Header) (body : List ℕ) (id : NodeId) : Type 0 where
+  pub number : ℕ
+  pub within : number ≤ header.nodes
+  pub before : (number ≡ 0) ⊎ ((is_entry header (entry_at header body (number - 1)) ≡ true) × (is_node_below (entry_at header body (number - 1)).node id ≡ true))
+  pub behind : (number ≡ header.nodes) ⊎ ((is_entry header (entry_at header body number) ≡ true) × (is_node_below id (entry_at header body number).node ≡ true))
+
+-- the span of an entry that names a node is exactly these rows of it
+pub record HasEntryWith (header : Header) (body : List ℕ) (id : NodeId) (rows : List Row) : Type 0 where
+  pub entry : ℕ
+  pub there : entry < header.nodes
+  pub names : (entry_at header body entry).node ≡ id
+  pub span : RowSpan
+  pub is_span : span_at header body entry ≡ Ok span
+  pub holds : SpanHolds header body span id rows
+
+-- The rows of a node that a reader finds in a part: none, or those of an entry's span; in the grammar they are the node's rows there,
+-- whatever other parts are.
+pub record FindsRows (region_len : ℕ) (image : Image) (id : NodeId) (p : Part) (rows : List Row) : Type 0 where
+  pub found : ((rows ≡ []) × LacksEntry p.header (body_in image p.region p.header) id) ⊎ HasEntryWith p.header (body_in image p.region p.header) id rows
+  pub exact : (own : List Row) → HasHeader region_len image p.region p.header → IsSealed region_len image p.region p.header.range own → rows ≡ rows_of id own
+
+-- the first of the parts that were read has an image of the node
+abbrev pub has_image_first : List (Part × List Row) → Bool
+has_image_first [] = false
+has_image_first (r ∷ read) = list_any (λ row. is_image row.rec) r.1
+
+-- A content that a reader of parts finds in a node: the replay of the rows of all parts, or of those from one with an image of it on.
+-- Parts before that one need not be good.
+pub record FindsContent (region_len : ℕ) (image : Image) (parts : List Part) (id : NodeId) (found : Content) : Type 0 where
+  pub skipped : List Part
+  pub read : List (Part × List Row)
+  pub whole : parts ≡ skipped ++ map (λ r. r.0) read
+  pub each : AllByRecursion (λ r. FindsRows region_len image id r.0 r.1) read
+  pub why : (skipped ≡ []) ⊎ IsTrue (has_image_first read)
+  pub replayed : found ≡ replay (base id) (flat_map (λ r. r.1) read)
+
+-- a node is the first that is not fit on the path of some key, or of some scan, over contents of its bucket
+abbrev pub IsUnfitNode : (ℕ → Content) → NodeId → Type 0
+IsUnfitNode nodes id =
+    ((key : List ℕ) × (bucket_of key ≡ id.bucket) × (unfit_under id.bucket nodes key (nodes 0).0 ≡ Some id.number))
+    ⊎ ((low : List ℕ) × (high : List ℕ) × (limit : ℕ) × (unfit_between id.bucket nodes low high limit (nodes 0).0 ≡ Some id.number))
+
+-- A node that a reader finds unfit. It found the contents of this node and of those before it on the path, which are fit; what it did not
+-- find counts as broken, and no path goes on behind it.
+pub record FindsUnfit (region_len : ℕ) (image : Image) (parts : List Part) (id : NodeId) : Type 0 where
+  pub in_bucket : id.bucket < 256
+  pub nodes : ℕ → Content
+  pub each : (number : ℕ) → FindsContent region_len image parts (record { bucket = id.bucket; number = number }) (nodes number) ⊎ (nodes number ≡ (node.Broken, 0))
+  pub itself : FindsContent region_len image parts id (nodes id.number)
+  pub unfit : IsUnfitNode nodes id
+
+-- Contents of which each is the node's own, or broken as nothing was found: a node that is unfit over them, and is there itself, is unfit over
+-- all of its own.
+abbrev pub FoundUnfit : Type 0
+FoundUnfit =
+    (nodes own : ℕ → Content) (id : NodeId) → ((number : ℕ) → (nodes number ≡ own number) ⊎ (nodes number ≡ (node.Broken, 0))) → nodes id.number ≡ own id.number
+    → IsUnfitNode nodes id → IsUnfitNode own id
+
+-- and so on sound rows no node is unfit
+abbrev pub SoundlyFit : Type 0
+SoundlyFit = (rows : List Row) (id : NodeId) → id.bucket < 256 → IsSound rows → IsUnfitNode (nodes_of rows id.bucket) id → ⊥
+
+-- What may be named as damaged where the chain is defined: a bad place of its parts, or a node that is found unfit.
 abbrev pub IsDamageOf : ℕ → Image → List Part → Damage → Type 0
-IsDamageOf region_len image parts (damage.Region region at) = HasBadItemAt region_len image parts (record { region = region; at = at })
-IsDamageOf region_len image parts (damage.Node id) =
-    ((rows : List Row) × AreRowsOf region_len image parts rows × IsUnfitNode rows id) ⊎ ((place : Place) × HasBadItemAt region_len image parts place)
+IsDamageOf region_len image parts (damage.Region region at) = HasBadPlace region_len image parts (record { region = region; at = at })
+IsDamageOf region_len image parts (damage.Node id) = FindsUnfit region_len image parts id
 IsDamageOf region_len image parts _ = ⊥
 
--- Status 7 of any command, by the bytes of the disk at entry. Where the chain is undefined, its damage is printed.
-pub record DamagedTheorem (region_len : ℕ) (entry : Image) (status : ℕ) (written : List ℕ) : Type 0 where
+-- Status 7 of any command, by the bytes of the disk at entry. Where the chain is undefined, its damage is printed. On no log a rise of the
+-- disk's count of faults is passed over.
+pub record DamagedTheorem (region_len : ℕ) (entry : Image) (back : Return) (status : ℕ) (written : List ℕ) : Type 0 where
   pub unsound : status ≡ 7 → IsUnsound region_len entry
   pub no_chain : (what : Damage) → chain region_len entry ≡ Err what → (1 ≤ status) × (status ≤ 7) × (status ≡ 7 → written ≡ damage_line what)
+  pub faults : TellsFaults back status
 
 -- status 7 of `dump`, which reads all that its log shows: the damage that it prints is there
-pub record DumpDamagedTheorem (region_len : ℕ) (entry : Image) (status : ℕ) (written : List ℕ) : Type 0 where
-  pub general : DamagedTheorem region_len entry status written
+pub record DumpDamagedTheorem (region_len : ℕ) (entry : Image) (back : Return) (status : ℕ) (written : List ℕ) : Type 0 where
+  pub general : DamagedTheorem region_len entry back status written
   pub named : status ≡ 7 → (parts : List Part) → chain region_len entry ≡ Ok parts → (what : Damage) × (written ≡ damage_line what) × IsDamageOf region_len entry parts what

@@ -7,6 +7,8 @@ use Rattle.fine_model.specs.Types.reply
 use Rattle.fine_model.specs.RowBytes.{rows_len, FitsPair, FitsRow}
 use Rattle.fine_model.specs.Map.{Pair, is_below, is_ascending, between, from_pairs}
 use Rattle.fine_model.specs.Store.{answer}
+use Rattle.fine_model.specs.Regions.{Image}
+use Rattle.fine_model.specs.Chain.{Shows}
 use Rattle.fine_model.specs.Trees.{IsSound, bucket_of, tree_map, map_of}
 
 -- the keys of pairs ascend strictly
@@ -81,6 +83,33 @@ PairsFit = (mark : Mark) (rows : List Row) → AllByRecursion (FitsRow mark) row
 abbrev pub FewPairs : Type 0
 FewPairs = (rows : List Row) → IsSound rows → length (map_of rows) ≤ rows_len rows
 
+-- bytes, and pairs whose keys are of bytes
+abbrev pub AreBytes : List ℕ → Type 0
+AreBytes bytes = AllByRecursion (λ byte. byte < 256) bytes
+
+abbrev pub HaveByteKeys : List Pair → Type 0
+HaveByteKeys pairs = AllByRecursion (λ p. AreBytes p.0) pairs
+
+-- the keys of a log that an image of bytes shows are of bytes
+abbrev pub ByteKeys : Type 0
+ByteKeys = (region_len : ℕ) (image : Image) (e : ℕ) (rows : List Row) → AllByRecursion AreBytes image → Shows region_len image e rows → HaveByteKeys (map_of rows)
+
 -- A range from the empty key to 65 bytes of 255 holds all pairs whose keys have at most 64 bytes.
 abbrev pub WholeRange : Type 0
-WholeRange = (pairs : List Pair) → AllByRecursion (λ p. (length p.0 ≤ 64) × AllByRecursion (λ byte. byte < 256) p.0) pairs → between [] (replicate 65 255) pairs ≡ pairs
+WholeRange = (pairs : List Pair) → AllByRecursion (λ p. (length p.0 ≤ 64) × AreBytes p.0) pairs → between [] (replicate 65 255) pairs ≡ pairs
+
+-- and so all pairs of a log that an image of bytes shows
+abbrev pub WholeMap : Type 0
+WholeMap =
+    (region_len : ℕ) (image : Image) (e : ℕ) (rows : List Row) → AllByRecursion AreBytes image → Shows region_len image e rows
+    → between [] (replicate 65 255) (map_of rows) ≡ map_of rows
+
+-- the keys of a map stand in order, each once
+abbrev pub MapAscends : Type 0
+MapAscends = (rows : List Row) → KeysAscend (map_of rows)
+
+-- What is kept of this range from bucket to bucket, sorted after the last one: its first pairs are the whole map, where it has no more.
+abbrev pub WholeScan : Type 0
+WholeScan =
+    (region_len : ℕ) (image : Image) (e : ℕ) (rows : List Row) (limit : ℕ) (kept found : List Pair) → AllByRecursion AreBytes image → Shows region_len image e rows → IsSound rows
+    → length (map_of rows) ≤ limit → IsKept rows [] (replicate 65 255) limit 256 kept → IsSorted kept found → take limit found ≡ map_of rows

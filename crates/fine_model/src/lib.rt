@@ -27,7 +27,7 @@ pub use law::{BucketLaw, OpenedEye, Origin, RoomLaw, RoomState, ViewLaw, ViewSta
 pub use laws::{
     agreement_law, agrees_law, calls_law, cut_law, fit_law, keys_law, leaf_law, legal_law, map_law,
     mark_law, merge_law, merged_law, merged_run_law, pushed_law, range_law, replay_law, row_law,
-    scan_law, sealed_law, shown_law, small_law, upto_law, whole_law,
+    scan_law, sealed_law, shown_law, small_law, unfit_law, upto_law, whole_law, whole_map_law,
 };
 pub use list::{Copied, Items, NoMemory};
 pub use numbers::{natural_of, number_of, number_text};

@@ -6,6 +6,7 @@ use Rattle.std.proofs.lemmas.List.Elements.{filter_map-append}
 use Rattle.std.proofs.lemmas.Slice.Zip.{AllZip-long}
 use Rattle.std.proofs.Math.Seq.{take-append_seam}
 use Rattle.log_disk.specs.Disk.{Told, IsToldOf}
+use Rattle.log_disk.specs.Moments.{IsLeft}
 use Rattle.fine_model.specs.declared.Row.{Row}
 use Rattle.fine_model.specs.declared.Part.{Part}
 use Rattle.fine_model.specs.declared.Call.{Call}
@@ -20,12 +21,14 @@ use Rattle.fine_model.specs.Pushed.{all_pushed}
 use Rattle.fine_model.specs.History.{Commit, all_rows}
 use Rattle.fine_model.specs.Regions.{Image, HasHeader}
 use Rattle.fine_model.specs.Chain.{free_regions, is_free, regions_of}
+use Rattle.fine_model.specs.Jobs.{job_left, job_regions}
 use Rattle.fine_model.specs.Outcomes.{IsOutcomeOf, IsCommittedAt}
 use Rattle.fine_model.specs.Causes.{AfterSome}
 use Rattle.fine_model.proofs.Free.{free_law}
 use Rattle.fine_model.proofs.Nothing.{any_flat}
 use Rattle.fine_model.proofs.Order.{all_map}
-use Rattle.epoch_room.specs.Value.{RoomValue, all_regions, regions_beside}
+use Rattle.epoch_room.specs.Fitting.{one_taken}
+use Rattle.epoch_room.specs.Value.{RoomValue, all_regions, regions_outside, taken}
 use Rattle.epoch_room.specs.Whole.{FollowOn, HoldsParts, IsWhole}
 use Rattle.leaf_store.specs.Answers.{FillsLeaf}
 use Rattle.fine_top.specs.Running.{commit_of, commits_of, AreNumbered}
@@ -120,8 +123,8 @@ in_no_part region_len image parts region headers free =
     any_flat (nat_eq region) regions_of parts
     (all_map (λ p. HasHeader region_len image p.region p.header) (λ p. list_any (nat_eq region) (regions_of p) ≡ false) (λ p has. free_law region_len image region p.region p.header free has) parts headers)
 
-few_free : (region_len : ℕ) (image : Image) (live retired : List Part) → HoldsParts region_len image live retired → length (free_regions image) ≤ length (regions_beside (length image) (live ++ retired))
-unfolding regions_beside
+few_free : (region_len : ℕ) (image : Image) (live retired : List Part) → HoldsParts region_len image live retired → length (free_regions image) ≤ length (regions_outside (length image) (all_regions (live ++ retired)))
+unfolding regions_outside
 few_free region_len image live retired holds =
     fewer (is_free image) (λ r. not (list_any (nat_eq r) (all_regions (live ++ retired)))) (range_with_len 0 (length image))
     (λ r free. ap not (in_no_part region_len image (live ++ retired) r holds.headers free))
@@ -129,16 +132,21 @@ few_free region_len image live retired holds =
 held_told : (told : Option Told) (last : Told) (P : Told → Type 0) → told ≡ Some last → IfSome told P → P last
 held_told told last P is h = subst (λ t. IfSome t P) is h
 
--- a full room keeps the last free region of its disk
-pub full_free : (value : RoomValue) (last : Told) → IsWhole value → IsFull value → value.disk.told ≡ Some last → IsToldOf value.disk last → length (free_regions last.bytes) < 2
-full_free value last whole f is told =
-    let holds = held_told value.disk.told last (λ t. HoldsParts value.disk.region_len t.bytes value.room.parts value.room.retired) is (whole.told f.open_) in
-    let few = few_free value.disk.region_len last.bytes value.room.parts value.room.retired holds in
+-- a full room with no merge out keeps the last free region of its disk
+pub full_free : (value : RoomValue) (last : Told) → IsWhole value → value.room.job ≡ None → IsFull value → value.disk.told ≡ Some last → IsToldOf value.disk last → length (free_regions last.bytes) < 2
+full_free value last whole no_job f is told =
+    let parts : List ℕ = all_regions (value.room.parts ++ value.room.retired) in
+    let no_lost : value.room.lost ≡ [] = whole.lost f.open_ in
+    let held = held_told value.disk.told last (IsLeft (λ image. HoldsParts value.disk.region_len image value.room.parts value.room.retired)) is (whole.told no_lost) in
+    let few = few_free value.disk.region_len last.bytes value.room.parts value.room.retired (held last.bytes told.image) in
     let none : value.target ≡ None = (whole.epoch.none f.none_waits).0 in
-    let free : value.room.free ≡ regions_beside value.disk.regions (value.room.parts ++ value.room.retired) = ap (λ t. option_to_list t ++ value.room.free) (sym none) ∙ whole.free in
-    let same : regions_beside (length last.bytes) (value.room.parts ++ value.room.retired) ≡ value.room.free = ap (λ n. regions_beside n (value.room.parts ++ value.room.retired)) told.regions ∙ sym free in
-    let l : length (regions_beside (length last.bytes) (value.room.parts ++ value.room.retired)) ≡ length value.room.free = ap length same in
-    let h = f.few_free in omega (arith, few, l, h)
+    let taken_is : taken value.room value.target ≡ parts =
+    ap (λ t. option_to_list t ++ (job_left value.room ++ (value.room.lost ++ parts))) none
+    ∙ ap (λ j. filter (λ r. not (list_any (nat_eq r) value.room.lost)) (job_regions j) ++ (value.room.lost ++ parts)) no_job ∙ ap (λ l. l ++ parts) no_lost in
+    let same : regions_outside (length last.bytes) parts ≡ value.room.free = ap (λ n. regions_outside n parts) told.regions ∙ ap (regions_outside value.disk.regions) (sym taken_is) ∙ sym whole.free in
+    let l : length (regions_outside (length last.bytes) parts) ≡ length value.room.free = ap length same in
+    let h : length value.room.free + 0 < 2 = subst (λ j. length value.room.free + one_taken j < 2) no_job f.few_free in
+    omega (arith, few, l, h)
 
 -- ---- the causes
 

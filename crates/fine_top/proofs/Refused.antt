@@ -17,7 +17,7 @@ use Rattle.fine_model.specs.Merge.{cost}
 use Rattle.fine_model.specs.Pushed.{all_pushed}
 use Rattle.fine_model.specs.History.{Commit}
 use Rattle.epoch_room.specs.Value.{RoomValue, all_regions}
-use Rattle.epoch_room.specs.Fitting.{fit_of, is_spent, is_full, need_alone, need_in_epoch}
+use Rattle.epoch_room.specs.Fitting.{fit_of, is_spent, is_full, need_alone, need_in_epoch, one_taken}
 use Rattle.epoch_room.specs.declared.answers.Fit.{Fit}
 use Rattle.epoch_room.specs.declared.answers.Fit.TheVariants as fit
 use Rattle.leaf_store.specs.Answers.{FillsLeaf, PassesVersions}
@@ -54,7 +54,7 @@ module _ (value : RoomValue) (own : ℕ) where
   reason w false false false true is = by_long refl refl refl
   reason w false false false false is = absurd (let c : ◌≡◌ {A = Option Why} (Some w) None = is in cc)
 
-  tests : value.room.is_shut ≡ false → fit_of value own ≡ chosen false (is_spent value.room) (nat_lt value.room.region_len (need_alone own)) (is_full value.room) (nat_lt value.room.region_len (need_in_epoch value.room own))
+  tests : value.room.is_shut ≡ false → fit_of value.room own ≡ chosen false (is_spent value.room) (nat_lt value.room.region_len (need_alone own)) (is_full value.room) (nat_lt value.room.region_len (need_in_epoch value.room own))
   unfolding fit_of
   tests is_open = ap (λ shut. chosen shut (is_spent value.room) (nat_lt value.room.region_len (need_alone own)) (is_full value.room) (nat_lt value.room.region_len (need_in_epoch value.room own))) is_open
 
@@ -65,13 +65,13 @@ module _ (value : RoomValue) (own : ℕ) where
   fits_none false false long is =
       let c : ◌≡◌ {A = Fit} (fit.Full (length value.room.free) (length (all_regions value.room.parts)) (length (all_regions value.room.retired))) fit.Fits = is in cc
 
-  pub not_full : fit_of value own ≡ fit.Fits → IsFull value → ⊥
+  pub not_full : fit_of value.room own ≡ fit.Fits → IsFull value → ⊥
   not_full fits f =
       fits_none (is_spent value.room) (nat_lt value.room.region_len (need_alone own)) (nat_lt value.room.region_len (need_in_epoch value.room own))
       (ap (λ full. chosen false (is_spent value.room) (nat_lt value.room.region_len (need_alone own)) full (nat_lt value.room.region_len (need_in_epoch value.room own))) (sym is_full_here) ∙ sym (tests f.open_) ∙ fits)
     where
       is_full_here : is_full value.room ≡ true
-      is_full_here = ap (λ b. b && nat_lt (length value.room.free) 2) (eq-eqb value.room.waiting 0 f.none_waits) ∙ lt-ltb (length value.room.free) 2 f.few_free
+      is_full_here = ap (λ b. b && nat_lt (length value.room.free + one_taken value.room.job) 2) (eq-eqb value.room.waiting 0 f.none_waits) ∙ lt-ltb (length value.room.free + one_taken value.room.job) 2 f.few_free
 
 -- what is not refused fits
 pub fits_of : (f : Fit) → None ≡ why_of f → f ≡ fit.Fits
@@ -94,7 +94,7 @@ large_of region_len need is = let l = ltb-true region_len (min need 184467440737
 
 -- rows that a room does not take are refused for this
 pub refused_by_room : (value : RoomValue) (region_len : ℕ) (rows : List Row) (calls : List Call) (own : List Row) (w : Why) → value.room.is_shut ≡ false → value.room.region_len ≡ region_len → all_pushed rows calls ≡ Ok own
-    → ((need len : ℕ) → fit_of value (cost own) ≡ fit.EpochFull need len → value.room.used ≡ 0) → Some w ≡ why_of (fit_of value (cost own))
+    → ((need len : ℕ) → fit_of value.room (cost own) ≡ fit.EpochFull need len → value.room.used ≡ 0) → Some w ≡ why_of (fit_of value.room (cost own))
     → RefusesBehind region_len rows calls (IsFull value) (IsSpent value) w
 refused_by_room value region_len rows calls own w is_open same pushed none_used is =
     by (reason value (cost own) w (is_spent value.room) (nat_lt value.room.region_len (need_alone (cost own))) (is_full value.room) (nat_lt value.room.region_len (need_in_epoch value.room (cost own))) (is ∙ ap why_of (tests value (cost own) is_open)))
@@ -107,8 +107,8 @@ refused_by_room value region_len rows calls own w is_open same pushed none_used 
     by (by_spent h e) = subst Goal (sym e) (inr (spent_of value h))
     by (by_large h e) = subst Goal (sym e) (own, pushed, subst (λ n. n < 41 + cost own) same (large_of value.room.region_len (41 + cost own) h))
     by (by_full h e) =
-        let both = and_parts (value.room.waiting == 0) (nat_lt (length value.room.free) 2) h in
-        subst Goal (sym e) (record { none_waits = eqb-true value.room.waiting 0 both.0; few_free = ltb-true (length value.room.free) 2 both.1; open_ = is_open })
+        let both = and_parts (value.room.waiting == 0) (nat_lt (length value.room.free + one_taken value.room.job) 2) h in
+        subst Goal (sym e) (record { none_waits = eqb-true value.room.waiting 0 both.0; few_free = ltb-true (length value.room.free + one_taken value.room.job) 2 both.1; open_ = is_open })
     by (by_long short long e) =
         let used = none_used (need_in_epoch value.room (cost own)) value.room.region_len (tests value (cost own) is_open ∙ e) in
         absurd (true≢false (sym long ∙ ap (λ n. nat_lt value.room.region_len (min (41 + n + cost own) 18446744073709551615)) used ∙ short))

@@ -62,7 +62,7 @@ module _ (disk : Disk) (parts retired : List Part) (new : RoomValue) (leaves aft
       (have_causes disk.region_len e rows last.bytes script done (length script - length done) ran.durable r.runs_to.numbered (IsFull new) (IsSpent new)
       (r.runs_to.refused before is_before rows e [] (stands_first first loaded before e rows is_before shows sound))
       (λ f. record {
-        few_free = full_free new last whole f is_last (is_told new.disk.told last is_last sound_disk.told);
+        few_free = full_free new last whole r.runs_to.place.job f is_last (is_told new.disk.told last is_last sound_disk.told);
         all_durable = r.durable ∙ all_sealed e (commits_of done) new.room.sealed st.stands.counts.sealed (sym f.none_waits ∙ st.waiting);
       })
       (spent r))
@@ -97,6 +97,7 @@ module _ (disk : Disk) (parts retired : List Part) (new : RoomValue) (leaves aft
               subst (λ d. ShowsSome disk.region_len rows history d (last_epoch e history) image) (sym r.durable)
               (subst (λ n. ShowsSome n rows history new.room.sealed (last_epoch e history) image) len (s.images.now_sealed image now));
         };
+        few = let c = few_commits r.runs_to.done in let d = few_run script r.runs_to.done r.runs_to.has in omega (arith, c, d, few);
         causes = causes_of r whole sound_disk few first loaded before last e rows is_before is_last shows sound st;
         all_durable = λ none. r.durable ∙ all_sealed e history new.room.sealed s.counts.sealed (sym (r.all_sealed none) ∙ st.waiting);
       }

@@ -33,6 +33,8 @@ use Rattle.fine_top.proofs.Txns.{keeps_itself, rests, none_more, not_sealed}
 
 place_then : (old mid new : RoomValue) → KeepsPlace old mid → KeepsPlace mid new → KeepsPlace old new
 place_then old mid new a b = record {
+  board = b.board ∙ a.board;
+  job = b.job ∙ a.job;
   entry = b.entry ∙ a.entry;
   beside = record { regions = b.beside.regions ∙ a.beside.regions; region_len = b.beside.region_len ∙ a.beside.region_len; eyes = b.beside.eyes ∙ a.beside.eyes; given = b.beside.given ∙ a.beside.given };
   no_lower = let x = a.no_lower in let y = b.no_lower in (let p = x.0 in let q = y.0 in omega (arith, p, q), let p = x.1 in let q = y.1 in omega (arith, p, q));

@@ -1,8 +1,10 @@
 -- The theorem of a run, from how the call ended.
-use Rattle.std.proofs.Common.{◌≡◌, ◌⊎◌, inl, inr, ℕ, ◌-◌, List, [], ◌∷◌, ◌++◌, length, take, drop, refl, sym, ap, ◌∙◌, subst, Option, Some, None, Ok, arith, take-append-drop, Bool, true, false, cond, append-nil}
+use Rattle.std.proofs.Common.{◌≡◌, ◌⊎◌, inl, inr, ℕ, ◌-◌, ◌<◌, ◌≤◌, ◌==◌, leb, List, [], ◌++◌, length, take, drop, refl, sym, ap, ◌∙◌, subst, Option, Some, None, Ok, arith, take-append-drop, Bool, true, false, cond, append-nil}
 use Rattle.std.specs.Prelude.{IfSome}
-use Rattle.std.specs.List.{AllByRecursion, list_any}
-use Rattle.log_disk.specs.Disk.{Disk, Told, HasRisen, IsToldOf, IsSound as IsSoundDisk, IsImageNow, IsImageSince, clock_of}
+use Rattle.std.specs.List.{list_any}
+use Rattle.std.proofs.lemmas.Bool.Decides.{leb_tells}
+use Rattle.std.proofs.lemmas.List.Sums.{count_by-le-length}
+use Rattle.log_disk.specs.Disk.{Disk, Told, last_count, HasRisen, IsToldOf, IsSound as IsSoundDisk, IsImageNow, IsImageSince, clock_of}
 use Rattle.log_disk.proofs.Steps.{all_synced}
 use Rattle.log_disk.proofs.Moments.{only_now}
 use Rattle.fine_model.specs.declared.Row.{Row}
@@ -20,11 +22,11 @@ use Rattle.fine_model.specs.Trees.{IsSound}
 use Rattle.fine_model.specs.Regions.{Image}
 use Rattle.fine_model.specs.Chain.{Shows}
 use Rattle.fine_model.specs.Outcomes.{AreOutcomes}
-use Rattle.fine_model.specs.Headline.{Start, IsRun, ShowsSome, KeepsEvery, KeepsUpTo, HasStatus, RunCutShort, NothingRun, IsFrontOf, ReasonFor}
+use Rattle.fine_model.specs.Headline.{Start, Return, TellsFaults, RunDone, RunTheorem, IsRun, ShowsSome, KeepsEvery, KeepsUpTo, HasStatus, RunCutShort, NothingRun, IsFrontOf, ReasonFor}
 use Rattle.fine_model.specs.Reach.{reached_script_of}
-use Rattle.fine_model.specs.Report.{all_outcomes, reason_bytes, report}
+use Rattle.fine_model.specs.Report.{all_outcomes, reason_bytes, fault_line, report}
 use Rattle.script_text.specs.Streams.{Puts, behind}
-use Rattle.fine_top.specs.Ends.{Ended, early, ran, text_of, status_of, run_status, IsRunOn, IsRunOf, IsRunOfTold, IsReason, EndsEarly, MayRun, IsEnd, Ends, OneOf, RefusesWell, RanWell, RunsWell, OfTold, IsRefused}
+use Rattle.fine_top.specs.Ends.{Ended, early, ran, text_of, status_of, run_status, IsRunOn, IsRunOf, IsRunOfTold, IsReason, EndsEarly, MayRun, IsEnd, Ends, RunsWell, causes_on, return_of, start_on, OfTold, IsRefused}
 use Rattle.fine_model.proofs.NodeLaws.{Agrees-refl}
 use Rattle.fine_model.specs.Outcomes.{AllRun}
 use Rattle.fine_top.proofs.Outcomes.{are_outcomes}
@@ -65,18 +67,43 @@ module _ (old : Disk) (before : Told) (e : ℕ) (rows : List Row) (shows : Shows
 
 -- ---- the theorem
 
+-- what is known of the counts by a call's status
+record CountsByStatus (source_rose output_rose : Type 0) (old new : Disk) (status : ℕ) : Type 0 where
+  source : status ≡ 4 → source_rose
+  output : status ≡ 5 → output_rose
+  disk : status ≡ 6 → HasRisen old.faults new.faults
+  told : old.faults < new.faults → (status ≡ 1) ⊎ (status ≡ 5) ⊎ (status ≡ 6)
+
+risen_by : (before now : ℕ) → HasRisen before now → (1 ≤ now - before) ⊎ (last_count ≤ now)
+risen_by before now risen = by (leb_tells last_count now)
+  where
+    by : ((leb last_count now ≡ true) × (last_count ≤ now)) ⊎ ((leb last_count now ≡ false) × (now < last_count)) → (1 ≤ now - before) ⊎ (last_count ≤ now)
+    by (inl at) = inr at.1
+    by (inr below) = inl (let low = below.1 in omega (arith, risen, low))
+
 module _ (words opened : Type 0) (damaged : Damage → Type 0) (left : Option (List ℕ)) (old new : Disk) (status : ℕ) (was now : Option (List ℕ)) where
-  module _ (bytes first : List ℕ) (before after : Told) (e : ℕ) (rows : List Row) (left_is : left ≡ Some bytes) (was_is : was ≡ Some first) (old_is : old.told ≡ Some before)
+  module _ (source_rose output_rose : Type 0) (counts : CountsByStatus source_rose output_rose old new status) (bytes first : List ℕ) (before after : Told) (e : ℕ) (rows : List Row) (left_is : left ≡ Some bytes) (was_is : was ≡ Some first) (old_is : old.told ≡ Some before)
       (new_is : new.told ≡ Some after) (shows : Shows old.region_len before.bytes e rows) (sound : IsSound rows) (whole : (what : Damage) → damaged what → ⊥) (is_told : IsToldOf old before)
       (synced : old.unsynced ≡ []) where
     abbrev start : Start
-    start = record { script = reached_script_of bytes; region_len = old.region_len; e = e; rows = rows }
+    start = start_on old bytes e rows
+
+    abbrev back : Return
+    back = return_of old new source_rose output_rose before after
+
+    faults : TellsFaults back status
+    faults = record {
+      source = counts.source;
+      output = counts.output;
+      disk = λ is. risen_by old.faults new.faults (counts.disk is);
+      told = λ rose. counts.told (omega (arith, rose));
+    }
 
     abbrev since : Image → Type 0
     since = IsImageSince (clock_of before) after
 
     abbrev Theorem : List ℕ → Type 0
-    Theorem written = RanWell start since (IsImageNow after) (HasRisen old.own_faults new.own_faults) (clock_of after ≡ clock_of before) (new ≡ old) after.bytes status written
+    Theorem written = RunTheorem (causes_on start after) words start 64 since (IsImageNow after) back (new ≡ old) status written
 
     abbrev Result_ : Type 0
     Result_ = (written : List ℕ) × (now ≡ Some (first ++ written)) × Theorem written
@@ -100,41 +127,35 @@ module _ (words opened : Type 0) (damaged : Damage → Type 0) (left : Option (L
       on_return : KeepsUpTo start (IsImageNow after) [] e
       on_return = subst (λ t. KeepsUpTo start (IsImageNow t) [] e) (sym same_after) (shows_entry old before e rows shows is_told synced)
 
-      nothing : (written : List ℕ) → IsFrontOf written (reason_bytes r) → NothingRun start since written
-      nothing written front = record { reason = r; printed = front; every_image = every_image }
+      nothing : (written : List ℕ) → IsFrontOf written (reason_bytes r) → (status ≡ 1 → written ≡ fault_line run_fault.Memory) → NothingRun start since status written
+      nothing written front all = record { reason = r; printed = front; whole = all; every_image = every_image }
 
     -- each status has one part of the theorem
-    cut : (written : List ℕ) → (status ≡ 1) ⊎ (status ≡ 5) → NothingRun start since written ⊎ RunCutShort start since (IsImageNow after) written → Theorem written
+    cut : (written : List ℕ) → (status ≡ 1) ⊎ (status ≡ 5) → NothingRun start since status written ⊎ RunCutShort start since (IsImageNow after) status written → Theorem written
     cut written one front = record {
-      theorem = record {
-        done = λ d. absurd (grind (arith, one, d));
-        cut_short = λ c. front;
-        refused = λ d. absurd (grind (arith, one, d));
-        others = λ d. grind (arith, one, d);
-      };
-      refusals = λ d. absurd (grind (arith, one, d));
+      done = λ d. absurd (grind (arith, one, d));
+      cut_short = λ c. front;
+      refused = λ d. absurd (grind (arith, one, d));
+      others = λ d. grind (arith, one, d);
+      faults = faults;
     }
 
-    refuses : (written : List ℕ) → (status ≡ 2) ⊎ (status ≡ 3) ⊎ (status ≡ 4) → ReasonFor status (reached_script_of bytes) written → new ≡ old → Theorem written
+    refuses : (written : List ℕ) → (status ≡ 2) ⊎ (status ≡ 3) ⊎ (status ≡ 4) → ReasonFor words status (reached_script_of bytes) written → new ≡ old → Theorem written
     refuses written one because same = record {
-      theorem = record {
-        done = λ d. absurd (grind (arith, one, d));
-        cut_short = λ d. absurd (grind (arith, one, d));
-        refused = λ d. (because, same);
-        others = λ d. grind (arith, one, d);
-      };
-      refusals = λ d. absurd (grind (arith, one, d));
+      done = λ d. absurd (grind (arith, one, d));
+      cut_short = λ d. absurd (grind (arith, one, d));
+      refused = λ d. (because, same);
+      others = λ d. grind (arith, one, d);
+      faults = faults;
     }
 
-    does : (written : List ℕ) → (status ≡ 0) ⊎ (status ≡ 6) ⊎ (status ≡ 8) → RefusesWell start since (IsImageNow after) (HasRisen old.own_faults new.own_faults) (clock_of after ≡ clock_of before) after.bytes status written → Theorem written
+    does : (written : List ℕ) → (status ≡ 0) ⊎ (status ≡ 6) ⊎ (status ≡ 8) → RunDone (causes_on start after) start 64 since (IsImageNow after) back status written → Theorem written
     does written one d = record {
-      theorem = record {
-        done = λ x. d.done;
-        cut_short = λ x. absurd (grind (arith, one, x));
-        refused = λ x. absurd (grind (arith, one, x));
-        others = λ x. grind (arith, one, x);
-      };
-      refusals = λ x. d;
+      done = λ x. d;
+      cut_short = λ x. absurd (grind (arith, one, x));
+      refused = λ x. absurd (grind (arith, one, x));
+      others = λ x. grind (arith, one, x);
+      faults = faults;
     }
 
     -- ---- an early end
@@ -148,33 +169,36 @@ module _ (words opened : Type 0) (damaged : Damage → Type 0) (left : Option (L
     early_disk en why written text is =
         let spells = why.1 bytes left_is in
         let nothing_done : Ran = record { outcomes = []; durable = e; fault = Some run_fault.Disk } in
+        let own_rose = (en.failed refl).counts.own_faults tt in
         does written (inr (inl is)) (record {
-          done = record {
-            script = spells.0;
-            ran = nothing_done;
-            history = [];
-            read = spells.1;
-            run = record {
-              one_history = no_outcomes spells.0;
-              legal = record { each = λ k c at. absurd (let x : ◌≡◌ {A = Option Commit} None (Some c) = at in cc) };
-              every_image = every_image (reason.Fault run_fault.Disk) en why;
-              on_return = on_return (reason.Fault run_fault.Disk) en why;
-            };
-            printed = inr (text, is, (en.failed refl).counts.own_faults tt, ap clock_of (same_after (reason.Fault run_fault.Disk) en why), refl);
-            all_durable = λ h. refl;
-            all_run = λ h. absurd (grind (arith, is, h));
+          script = spells.0;
+          ran = nothing_done;
+          history = [];
+          read = spells.1;
+          run = record {
+            one_history = no_outcomes spells.0;
+            legal = record { each = λ k c at. absurd (let x : ◌≡◌ {A = Option Commit} None (Some c) = at in cc) };
+            every_image = every_image (reason.Fault run_fault.Disk) en why;
+            on_return = on_return (reason.Fault run_fault.Disk) en why;
           };
-          causes = no_causes old.region_len e rows after.bytes spells.0 (length spells.0 - 0) [] e;
+          printed = inr (text, is, own_rose, ap clock_of (same_after (reason.Fault run_fault.Disk) en why), refl);
+          done = record {
+            all_run = λ h. absurd (grind (arith, is, h));
+            all_durable = λ h. refl;
+            caused = no_causes old.region_len e rows after.bytes spells.0 (length spells.0 - 0) [] e;
+            few_each = λ one e. omega arith;
+            one_each = λ six none. absurd (none own_rose);
+          };
         })
 
     -- an early end whose text was written
     early_whole : (r : Reason) (en : EndsEarly r old new) (why : IsReason words damaged left r) (written : List ℕ) → written ≡ reason_bytes r → status ≡ status_of (early r) → Theorem written
     unfolding reason_bytes
-    early_whole reason.Words en why written text is = refuses written (inl is) (inl (is, text)) (en.same (λ x. cc))
+    early_whole reason.Words en why written text is = refuses written (inl is) (inl (is, why, text)) (en.same (λ x. cc))
     early_whole (reason.Script n) en why written text is = refuses written (inr (inl is)) (inr (inl (is, n, why.1 bytes left_is, text))) (en.same (λ x. cc))
     early_whole reason.Source en why written text is = refuses written (inr (inr is)) (inr (inr (is, text))) (en.same (λ x. cc))
     early_whole (reason.Fault run_fault.Memory) en why written text is =
-        cut written (inl is) (inl (nothing (reason.Fault run_fault.Memory) en why written ([], sym text ∙ sym (append-nil written))))
+        cut written (inl is) (inl (nothing (reason.Fault run_fault.Memory) en why written ([], sym text ∙ sym (append-nil written)) (λ one. text)))
     early_whole (reason.Fault run_fault.Disk) en why written text is = early_disk en why written text is
     early_whole (reason.Fault (run_fault.Damaged what)) en why written text is = absurd (whole what why.2)
 
@@ -193,28 +217,43 @@ module _ (words opened : Type 0) (damaged : Damage → Type 0) (left : Option (L
       run : IsRun start since (IsImageNow after) script (all_outcomes script r.outcomes) r.durable on.history
       run = let x = on.run in record { one_history = x.one_history; legal = x.legal; every_image = x.every_image; on_return = x.on_return }
 
-      short : (written : List ℕ) → IsFrontOf written (report script r) → RunCutShort start since (IsImageNow after) written
-      short written front = record { script = script; ran = r; history = on.history; read = read; run = run; printed = front }
+      short : (written : List ℕ) → IsFrontOf written (report script r) → (status ≡ 1 → (written ≡ report script r) × (r.fault ≡ Some run_fault.Memory)) → RunCutShort start since (IsImageNow after) status written
+      short written front all = record { script = script; ran = r; history = on.history; read = read; run = run; printed = front; whole = all }
 
       done : (written : List ℕ) → written ≡ report script r → HasStatus status r.outcomes r.fault → (¬ ((status ≡ 6) × HasRisen old.own_faults new.own_faults) → r.durable ≡ last_epoch e on.history)
           → ((status ≡ 0) ⊎ (status ≡ 8) → AllRun (all_outcomes script r.outcomes))
-          → RefusesWell start since (IsImageNow after) (HasRisen old.own_faults new.own_faults) (clock_of after ≡ clock_of before) after.bytes status written
-      done written text has durable all = record {
-        done = record { script = script; ran = r; history = on.history; read = read; run = run; printed = inl (text, has); all_durable = durable; all_run = all };
-        causes = on.causes;
+          → (status ≡ 6 → HasRisen old.own_faults new.own_faults) → RunDone (causes_on start after) start 64 since (IsImageNow after) back status written
+      done written text has durable all own = record {
+        script = script;
+        ran = r;
+        history = on.history;
+        read = read;
+        run = run;
+        printed = inl (text, has);
+        done = record {
+          all_run = all;
+          all_durable = durable;
+          caused = on.causes;
+          few_each = λ one e. let few = on.few in let c = count_by-le-length (λ (c : Commit). c.epoch == e) on.history in omega (arith, few, c);
+          one_each = λ six none. absurd (none (own six));
+        };
       }
 
       ran_whole : (written : List ℕ) → written ≡ report script r → (f : Option RunFault) → r.fault ≡ f → status ≡ run_status r.outcomes f → Theorem written
       ran_whole written text None fine is =
           does written (by (list_any is_refused r.outcomes) is)
-          (done written text (subst (HasStatus status r.outcomes) (sym fine) is) (λ h. on.all_durable fine) (λ h. is_run.all_run fine))
+          (done written text (subst (HasStatus status r.outcomes) (sym fine) is) (λ h. on.all_durable fine) (λ h. is_run.all_run fine) (λ six. absurd (not_six (list_any is_refused r.outcomes) (sym is ∙ six))))
         where
+          not_six : (b : Bool) → cond {A = ℕ} b 8 0 ≡ 6 → ⊥
+          not_six true h = omega (arith, h)
+          not_six false h = omega (arith, h)
+
           by : (b : Bool) → status ≡ cond {A = ℕ} b 8 0 → (status ≡ 0) ⊎ (status ≡ 6) ⊎ (status ≡ 8)
           by true h = inr (inr h)
           by false h = inl h
-      ran_whole written text (Some run_fault.Memory) fine is = cut written (inl is) (inr (short written ([], sym text ∙ sym (append-nil written))))
+      ran_whole written text (Some run_fault.Memory) fine is = cut written (inl is) (inr (short written ([], sym text ∙ sym (append-nil written)) (λ one. (text, fine))))
       ran_whole written text (Some run_fault.Disk) fine is =
-          does written (inr (inl is)) (done written text (subst (HasStatus status r.outcomes) (sym fine) is) (λ h. absurd (h (is, (is_run.failed fine).1))) (λ h. absurd (grind (arith, is, h))))
+          does written (inr (inl is)) (done written text (subst (HasStatus status r.outcomes) (sym fine) is) (λ h. absurd (h (is, (is_run.failed fine).1))) (λ h. absurd (grind (arith, is, h))) (λ six. (is_run.failed fine).1))
       ran_whole written text (Some (run_fault.Damaged what)) fine is = absurd (is_run.no_damage what fine)
 
     -- ---- the whole
@@ -245,8 +284,8 @@ module _ (words opened : Type 0) (damaged : Damage → Type 0) (left : Option (L
 
     front_text : (d : Ended) → IsEnd words opened damaged left old new d → (written : List ℕ) → IsFrontOf written (text_of d) → status ≡ 5 → Theorem written
     unfolding text_of
-    front_text (early r) end written front is = cut written (inr is) (inl (nothing r end.1 end.0 written front))
-    front_text (ran script r) end written front is = cut written (inr is) (inr (short script r end.0 end.1 written front))
+    front_text (early r) end written front is = cut written (inr is) (inl (nothing r end.1 end.0 written front (λ one. absurd (omega (arith, is, one)))))
+    front_text (ran script r) end written front is = cut written (inr is) (inr (short script r end.0 end.1 written front (λ one. absurd (omega (arith, is, one)))))
 
     holds : Ends words opened damaged left old new status was now → Result_
     holds en = by en.status_is
@@ -256,11 +295,62 @@ module _ (words opened : Type 0) (damaged : Damage → Type 0) (left : Option (L
         by (inr fine) =
             (text_of en.ended, wrote_all (text_of en.ended) (status ≡ 5) was now first en.printed (λ failed. five en.ended (sym fine ∙ failed)) was_is, whole_text en.ended en.is_end (text_of en.ended) refl fine)
 
+  -- ---- the disk's count
+
+  failed_end : (d : Ended) → IsEnd words opened damaged left old new d → status_of d ≡ 6 → HasRisen old.faults new.faults
+  failed_end (early reason.Words) end is = absurd (omega (arith, is))
+  failed_end (early (reason.Script n)) end is = absurd (omega (arith, is))
+  failed_end (early reason.Source) end is = absurd (omega (arith, is))
+  failed_end (early (reason.Fault run_fault.Memory)) end is = absurd (omega (arith, is))
+  failed_end (early (reason.Fault run_fault.Disk)) end is = (end.1.failed refl).counts.faults tt
+  failed_end (early (reason.Fault (run_fault.Damaged what))) end is = absurd (omega (arith, is))
+  failed_end (ran script r) end is = by r.fault refl is
+    where
+      other : (b : Bool) → cond {A = ℕ} b 8 0 ≡ 6 → ⊥
+      other true h = omega (arith, h)
+      other false h = omega (arith, h)
+
+      by : (f : Option RunFault) → r.fault ≡ f → run_status r.outcomes f ≡ 6 → HasRisen old.faults new.faults
+      by None fault h = absurd (other (list_any is_refused r.outcomes) h)
+      by (Some run_fault.Memory) fault h = absurd (omega (arith, h))
+      by (Some run_fault.Disk) fault h = (end.1.failed fault).0
+      by (Some (run_fault.Damaged what)) fault h = absurd (omega (arith, h))
+
+  same_count : new ≡ old → old.faults < new.faults → ⊥
+  same_count same rose = let e = ap (λ (d : Disk). d.faults) same in omega (arith, e, rose)
+
+  told_end : (d : Ended) → IsEnd words opened damaged left old new d → old.faults < new.faults → (status_of d ≡ 1) ⊎ (status_of d ≡ 6)
+  told_end (early reason.Words) end rose = absurd (same_count (end.1.same (λ x. cc)) rose)
+  told_end (early (reason.Script n)) end rose = absurd (same_count (end.1.same (λ x. cc)) rose)
+  told_end (early reason.Source) end rose = absurd (same_count (end.1.same (λ x. cc)) rose)
+  told_end (early (reason.Fault run_fault.Memory)) end rose = inl refl
+  told_end (early (reason.Fault run_fault.Disk)) end rose = inr refl
+  told_end (early (reason.Fault (run_fault.Damaged what))) end rose = absurd (same_count (end.1.same (λ x. cc)) rose)
+  told_end (ran script r) end rose = by r.fault refl
+    where
+      by : (f : Option RunFault) → r.fault ≡ f → (run_status r.outcomes f ≡ 1) ⊎ (run_status r.outcomes f ≡ 6)
+      by None fault = let e = (end.1.not_failed fault).0 in absurd (omega (arith, e, rose))
+      by (Some run_fault.Memory) fault = inl refl
+      by (Some run_fault.Disk) fault = inr refl
+      by (Some (run_fault.Damaged what)) fault = absurd (end.1.no_damage what fault)
+
+  counts_of : (source_rose output_rose : Type 0) → (status ≡ 4 → source_rose) → (status ≡ 5 → output_rose) → Ends words opened damaged left old new status was now → CountsByStatus source_rose output_rose old new status
+  counts_of source_rose output_rose source output en = record { source = source; output = output; disk = λ six. disk en.status_is six; told = λ rose. told en.status_is (told_end en.ended en.is_end rose) }
+    where
+      disk : (status ≡ 5) ⊎ (status ≡ status_of en.ended) → status ≡ 6 → HasRisen old.faults new.faults
+      disk (inl failed) six = absurd (omega (arith, failed, six))
+      disk (inr fine) six = failed_end en.ended en.is_end (sym fine ∙ six)
+
+      told : (status ≡ 5) ⊎ (status ≡ status_of en.ended) → (status_of en.ended ≡ 1) ⊎ (status_of en.ended ≡ 6) → (status ≡ 1) ⊎ (status ≡ 5) ⊎ (status ≡ 6)
+      told (inl failed) one = inr (inl failed)
+      told (inr fine) (inl one) = inl (fine ∙ one)
+      told (inr fine) (inr six) = inr (inr (fine ∙ six))
+
   -- how a call ended tells that it ran well
-  pub runs_well : IsSoundDisk old → old.unsynced ≡ [] → Ends words opened damaged left old new status was now → RunsWell damaged left old new status was now
-  runs_well is_sound synced en = record {
+  pub runs_well : (source_rose output_rose : Type 0) → (status ≡ 4 → source_rose) → (status ≡ 5 → output_rose) → IsSoundDisk old → old.unsynced ≡ [] → Ends words opened damaged left old new status was now → RunsWell words damaged left source_rose output_rose old new status was now
+  runs_well source_rose output_rose source output is_sound synced en = record {
     holds = λ bytes first before after e rows left_is was_is old_is new_is shows sound whole.
-        holds bytes first before after e rows left_is was_is old_is new_is shows sound whole (is_told old.told before old_is is_sound.told) synced en;
+        holds source_rose output_rose (counts_of source_rose output_rose source output en) bytes first before after e rows left_is was_is old_is new_is shows sound whole (is_told old.told before old_is is_sound.told) synced en;
   }
     where
       is_told : (t : Option Told) (b : Told) → t ≡ Some b → IfSome t (IsToldOf old) → IsToldOf old b

@@ -19,12 +19,13 @@ use Rattle.fine_model.specs.Pushed.{all_pushed}
 use Rattle.fine_model.specs.History.{Commit, IsLegal, all_rows}
 use Rattle.fine_model.specs.declared.law.RoomState.{RoomState}
 use Rattle.fine_model.specs.Room.{IsSealedUpTo}
-use Rattle.log_disk.specs.Disk.{Disk, Told, SameBeside}
+use Rattle.log_disk.specs.Disk.{BothTold, Disk, Told, SameBeside}
+use Rattle.log_disk.specs.Moments.{Continues}
 use Rattle.epoch_room.specs.Value.{RoomValue}
-use Rattle.epoch_room.specs.Whole.{IsWhole, HasPassed}
+use Rattle.epoch_room.specs.Whole.{IsWhole}
 use Rattle.epoch_room.specs.Fitting.{fit_of}
 use Rattle.epoch_room.specs.declared.answers.Fit.TheVariants as fit
-use Rattle.epoch_room.specs.Steps.{appended, sealed_state, shut_state}
+use Rattle.epoch_room.specs.Steps.{appended, sealed_state}
 use Rattle.epoch_room.specs.Meaning.{Stands, StandsTold, StandsWhere, StandsForMore, GoesOnStanding}
 use Rattle.leaf_store.specs.Leaves.{Holds, kept}
 use Rattle.leaf_store.specs.Answers.{Answers, FillsLeaf, PassesVersions}
@@ -42,7 +43,7 @@ same_beside : (d : Disk) → SameBeside d d
 same_beside d = record { regions = refl; region_len = refl; eyes = refl; given = refl }
 
 pub keeps_itself : (v : RoomValue) → KeepsPlace v v
-keeps_itself v = record { entry = refl; beside = same_beside v.disk; no_lower = (omega arith, omega arith) }
+keeps_itself v = record { board = refl; job = refl; entry = refl; beside = same_beside v.disk; no_lower = (omega arith, omega arith) }
 
 -- a room that may have been sealed
 pub record Rests (old new : RoomValue) : Type 0 where
@@ -56,14 +57,14 @@ pub rests : (old new : RoomValue) → old.room.is_shut ≡ false → MaySeal old
 unfolding sealed_state
 rests old new is_open (inl same) = subst (Rests old) (sym same) (record { places = refl; open_ = is_open; same_counts = (refl, refl); place = keeps_itself old; later = later_none old })
 rests old new is_open (inr s) =
-    let seals = s.1 in let counts = seals.counts in
+    let seals = s.1.does.1 in let counts = s.1.does.2 in
     record {
       places = ap (λ r. r.places) seals.room;
       open_ = ap (λ r. r.is_shut) seals.room ∙ is_open;
       same_counts = (counts.faults, counts.own_faults);
-      place = record { entry = seals.entry; beside = seals.beside; no_lower = (let f = counts.faults in omega (arith, f), let f = counts.own_faults in omega (arith, f)) };
+      place = record { board = ap (λ r. r.board) seals.room; job = ap (λ r. r.job) seals.room; entry = seals.entry; beside = s.1.beside; no_lower = (let f = counts.faults in omega (arith, f), let f = counts.own_faults in omega (arith, f)) };
       later = record {
-        region_len = seals.region_len;
+        region_len = s.1.region_len;
         sealed = let e : new.room.sealed ≡ old.room.sealed + 1 = ap (λ r. r.sealed) seals.room in omega (arith, e);
         places = let e : new.room.places ≡ old.room.places = ap (λ r. r.places) seals.room in omega (arith, e);
         full = λ f. absurd (let none = f.none_waits in let some = s.0 in omega (arith, none, some));
@@ -132,30 +133,37 @@ out_of_memory_here old leaves is_open = out_of_memory old old leaves is_open (in
 
 -- sealing failed
 pub not_sealed : (old new : RoomValue) (leaves : List Content) (f : RunFault) → old.room.is_shut ≡ false → FailsToSeal old new f → GoesOnStanding old new → EndsBy old new leaves leaves f
-unfolding shut_state
-not_sealed old new leaves run_fault.Disk is_open (some, s) stand = record {
-  counts = (s.faults, s.own_faults);
-  places = ap (λ r. r.places) s.room;
-  place = record { entry = s.entry; beside = s.beside; no_lower = s.no_lower };
-  goes_on = none_more old new leaves stand;
-  later = record {
-    region_len = s.region_len;
-    sealed = let e : new.room.sealed ≡ old.room.sealed = ap (λ r. r.sealed) s.room in omega (arith, e);
-    places = let e : new.room.places ≡ old.room.places = ap (λ r. r.places) s.room in omega (arith, e);
-    full = λ f. absurd (let none = f.none_waits in omega (arith, none, some));
-  };
-}
-not_sealed old new leaves run_fault.Memory is_open (some, s) stand =
-    let counts = s.counts in
+not_sealed old new leaves run_fault.Disk is_open (some, s) stand =
+    let shuts = s.shuts.1 in let fails = s.shuts.2 in
     record {
-      counts = ap (λ r. r.is_shut) s.room ∙ is_open;
-      places = ap (λ r. r.places) s.room;
-      place = record { entry = s.entry; beside = s.beside; no_lower = (let f = counts.faults in omega (arith, f), let f = counts.own_faults in omega (arith, f)) };
+      counts = (fails.faults, fails.own_faults);
+      places = ap (λ r. r.places) shuts.room;
+      place = record { board = ap (λ r. r.board) shuts.room; job = ap (λ r. r.job) shuts.room; entry = shuts.entry; beside = s.beside; no_lower = fails.no_lower };
       goes_on = none_more old new leaves stand;
       later = record {
         region_len = s.region_len;
-        sealed = let e : new.room.sealed ≡ old.room.sealed = ap (λ r. r.sealed) s.room in omega (arith, e);
-        places = let e : new.room.places ≡ old.room.places = ap (λ r. r.places) s.room in omega (arith, e);
+        sealed = let e : new.room.sealed ≡ old.room.sealed = ap (λ r. r.sealed) shuts.room in omega (arith, e);
+        places = let e : new.room.places ≡ old.room.places = ap (λ r. r.places) shuts.room in omega (arith, e);
+        full = λ f. absurd (let none = f.none_waits in omega (arith, none, some));
+      };
+    }
+not_sealed old new leaves run_fault.Memory is_open (some, s) stand =
+    let does = s.does.1 in let counts = s.does.2 in
+    record {
+      counts = ap (λ r. r.is_shut) does.room ∙ is_open;
+      places = ap (λ r. r.places) does.room;
+      place = record {
+        board = ap (λ r. r.board) does.room;
+        job = ap (λ r. r.job) does.room;
+        entry = does.entry;
+        beside = s.beside;
+        no_lower = (let f = counts.faults in omega (arith, f), let f = counts.own_faults in omega (arith, f));
+      };
+      goes_on = none_more old new leaves stand;
+      later = record {
+        region_len = s.region_len;
+        sealed = let e : new.room.sealed ≡ old.room.sealed = ap (λ r. r.sealed) does.room in omega (arith, e);
+        places = let e : new.room.places ≡ old.room.places = ap (λ r. r.places) does.room in omega (arith, e);
         full = λ f. absurd (let none = f.none_waits in omega (arith, none, some));
       };
     }
@@ -164,7 +172,7 @@ not_sealed old new leaves (run_fault.Damaged what) is_open s stand = absurd s
 -- ---- a transaction that is committed
 
 -- what a room on a disk that told its bytes stands for
-told_where : (room : RoomState) (a b : Option Told) (before : Told) (first : List Row) (e : ℕ) (history : List Commit) → a ≡ Some before → HasPassed a b → StandsWhere room a b first e history
+told_where : (room : RoomState) (a b : Option Told) (before : Told) (first : List Row) (e : ℕ) (history : List Commit) → a ≡ Some before → BothTold Continues a b → StandsWhere room a b first e history
     → (t : Told) × StandsTold room before t first e history
 told_where room None b before first e history is passed s = absurd (let c : ◌≡◌ {A = Option Told} None (Some before) = is in cc)
 told_where room (Some x) None before first e history is passed s = absurd passed
@@ -172,7 +180,7 @@ told_where room (Some x) (Some t) before first e history is passed s = let c : x
 
 pub stands_told : (v : RoomValue) (before : Told) (first : List Row) (e : ℕ) (history : List Commit) → IsWhole v → v.entry.told ≡ Some before → Stands v first e history → (t : Told) × StandsTold v.room before t first e history
 unfolding Stands
-stands_told v before first e history whole is s = told_where v.room v.entry.told v.disk.told before first e history is whole.time s
+stands_told v before first e history whole is s = told_where v.room v.entry.told v.disk.told before first e history is whole.entry.time s
 
 module _ (txn : ScriptTxn) (turn : ℕ) (old mid new : RoomValue) (leaves after : List Content) (answered : Answered) (entry : Entry) (place epoch : ℕ) where
   pub record Appends : Type 0 where
@@ -181,7 +189,7 @@ module _ (txn : ScriptTxn) (turn : ℕ) (old mid new : RoomValue) (leaves after 
     pub may_seal : MaySeal old mid
     pub stand : GoesOnStanding old mid
     pub more : StandsForMore mid new answered.rows
-    pub fits : fit_of mid (cost answered.log) ≡ fit.Fits
+    pub fits : fit_of mid.room (cost answered.log) ≡ fit.Fits
     pub appended_is : new ≡ appended mid answered.rows
     pub place_is : place ≡ mid.room.places + 1
     pub epoch_is : epoch ≡ mid.room.sealed + 1
@@ -207,7 +215,7 @@ module _ (txn : ScriptTxn) (turn : ℕ) (old mid new : RoomValue) (leaves after 
       by (inl same) = subst (λ v. IsSealedUpTo e history v.room.sealed) (sym same) s.stands.counts.sealed
       by (inr m) =
           let seals = m.1 in
-          subst (IsSealedUpTo e history) (sym (ap (λ r. r.sealed) seals.room))
+          subst (IsSealedUpTo e history) (sym (ap (λ r. r.sealed) seals.does.1.room))
           (sealed_on e history old.room.sealed s.stands.counts.epochs s.stands.counts.sealed (let w = s.waiting in let one = m.0 in omega (arith, w, one)))
 
   goes : Appends → GoesOn old new leaves after (commit ∷ [])
@@ -234,7 +242,7 @@ module _ (txn : ScriptTxn) (turn : ℕ) (old mid new : RoomValue) (leaves after 
   unfolding appended
   committed a =
       let r = rests old mid a.is_open a.may_seal in
-      let kept_place : KeepsPlace old new = subst (KeepsPlace old) (sym a.appended_is) (record { entry = r.place.entry; beside = r.place.beside; no_lower = r.place.no_lower }) in
+      let kept_place : KeepsPlace old new = subst (KeepsPlace old) (sym a.appended_is) (record { board = r.place.board; job = r.place.job; entry = r.place.entry; beside = r.place.beside; no_lower = r.place.no_lower }) in
       record {
         outcome = (a.commits, a.lane, a.calls);
         has_run = tt;

@@ -1,7 +1,7 @@
 -- How a call of the program ends, and what it prints then.
-use Rattle.std.specs.Prelude.{◌≡◌, ◌⊎◌, ℕ, ◌≤◌, List, [], ◌∷◌, ◌++◌, if◌then◌else◌, Option, Some, None, Err, Ok, ⊤}
-use Rattle.std.specs.List.{AllByRecursion, list_any}
-use Rattle.log_disk.specs.Disk.{Disk, Told, HasRisen, SameBeside, OnlyFails, IsImageNow, IsImageSince, clock_of}
+use Rattle.std.specs.Prelude.{◌≡◌, ◌⊎◌, ℕ, ◌-◌, ◌≤◌, length, List, [], ◌∷◌, ◌++◌, if◌then◌else◌, Option, Some, None, Err, Ok, ⊤}
+use Rattle.std.specs.List.{list_any}
+use Rattle.log_disk.specs.Disk.{Disk, Told, last_count, HasRisen, SameBeside, OnlyFails, IsImageNow, IsImageSince, clock_of}
 use Rattle.fine_model.specs.declared.Row.{Row}
 use Rattle.fine_model.specs.declared.ScriptTxn.{ScriptTxn}
 use Rattle.fine_model.specs.declared.Outcome.{Outcome}
@@ -15,8 +15,7 @@ use Rattle.fine_model.specs.Outcomes.{AllRun, is_refused}
 use Rattle.fine_model.specs.History.{Commit, last_epoch}
 use Rattle.fine_model.specs.Trees.{IsSound}
 use Rattle.fine_model.specs.Chain.{Shows}
-use Rattle.fine_model.specs.Regions.{Image}
-use Rattle.fine_model.specs.Headline.{Start, IsRun, RunDone, RunTheorem}
+use Rattle.fine_model.specs.Headline.{Start, Return, Causes, IsRun, RunTheorem}
 use Rattle.fine_model.specs.Script.{many, too_long, bad_line}
 use Rattle.fine_model.specs.Reach.{reached_script_of}
 use Rattle.fine_model.specs.Report.{all_outcomes, reason_bytes, report}
@@ -86,6 +85,7 @@ pub record IsRunOn (region_len : ℕ) (before after : Told) (script : List Scrip
   pub run : IsRun (record { script = Ok script; region_len = region_len; e = e; rows = rows }) (IsImageSince (clock_of before) after) (IsImageNow after) script (all_outcomes script ran.outcomes) ran.durable history
   pub all_durable : ran.fault ≡ None → ran.durable ≡ last_epoch e history
   pub causes : HaveCauses region_len e rows after.bytes script (all_outcomes script ran.outcomes) history ran.durable
+  pub few : length history ≤ 64
 
 -- what it was on every sound log that the disk showed, where it tells its bytes
 abbrev pub IsRunOfTold : ℕ → Option Told → Option Told → List ScriptTxn → Ran → Type 0
@@ -148,20 +148,30 @@ abbrev pub OneOf : List ℕ → ℕ → Type 0
 OneOf [] status = ⊥
 OneOf (s ∷ ss) status = (status ≡ s) ⊎ OneOf ss status
 
--- A run that was done, and the cause of each refusal that was printed.
-pub record RefusesWell (start : Start) (since now : Image → Type 0) (own_rose still : Type 0) (image : Image) (status : ℕ) (written : List ℕ) : Type 0 where
-  pub done : RunDone start since now own_rose still status written
-  pub causes : HaveCauses start.region_len start.e start.rows image done.script (all_outcomes done.script done.ran.outcomes) done.history done.ran.durable
+-- the causes of refusals on a log that showed an epoch and rows, by what the disk shows on return
+abbrev pub causes_on : Start → Told → Causes
+causes_on start after = HaveCauses start.region_len start.e start.rows after.bytes
 
--- the theorem of a run, and the causes of the refusals that it printed
-pub record RanWell (start : Start) (since now : Image → Type 0) (own_rose still untouched : Type 0) (image : Image) (status : ℕ) (written : List ℕ) : Type 0 where
-  pub theorem : RunTheorem start since now own_rose still untouched status written
-  pub refusals : OneOf (0 ∷ 6 ∷ 8 ∷ []) status → RefusesWell start since now own_rose still image status written
+-- what is known on return
+abbrev pub return_of : Disk → Disk → Type 0 → Type 0 → Told → Told → Return
+return_of old new source_rose output_rose before after = record {
+  image = after.bytes;
+  rise = new.faults - old.faults;
+  at_last = last_count ≤ new.faults;
+  own_rose = HasRisen old.own_faults new.own_faults;
+  source_rose = source_rose;
+  output_rose = output_rose;
+  still = clock_of after ≡ clock_of before;
+}
+
+-- what is known at entry
+abbrev pub start_on : Disk → List ℕ → ℕ → List Row → Start
+start_on old bytes e rows = record { script = reached_script_of bytes; region_len = old.region_len; e = e; rows = rows }
 
 -- The theorem of a run: on every sound log that the program reaches, where script, disk and output are told.
-pub record RunsWell (damaged : Damage → Type 0) (left : Option (List ℕ)) (old new : Disk) (status : ℕ) (was now : Option (List ℕ)) : Type 0 where
+pub record RunsWell (words : Type 0) (damaged : Damage → Type 0) (left : Option (List ℕ)) (source_rose output_rose : Type 0) (old new : Disk) (status : ℕ) (was now : Option (List ℕ)) : Type 0 where
   pub holds : (bytes first : List ℕ) (before after : Told) (e : ℕ) (rows : List Row) → left ≡ Some bytes → was ≡ Some first → old.told ≡ Some before → new.told ≡ Some after
       → Shows old.region_len before.bytes e rows → IsSound rows → ((what : Damage) → damaged what → ⊥)
       → (written : List ℕ) × (now ≡ Some (first ++ written))
-      × RanWell (record { script = reached_script_of bytes; region_len = old.region_len; e = e; rows = rows }) (IsImageSince (clock_of before) after) (IsImageNow after)
-      (HasRisen old.own_faults new.own_faults) (clock_of after ≡ clock_of before) (new ≡ old) after.bytes status written
+      × RunTheorem (causes_on (start_on old bytes e rows) after) words (start_on old bytes e rows) 64 (IsImageSince (clock_of before) after) (IsImageNow after)
+      (return_of old new source_rose output_rose before after) (new ≡ old) status written

@@ -14,6 +14,7 @@ use Rattle.fine_model.specs.History.{Commit, all_rows, last_epoch}
 use Rattle.fine_model.specs.Regions.{Image}
 use Rattle.fine_model.specs.Chain.{free_regions}
 use Rattle.fine_model.specs.Causes.{AfterSome, HasCause}
+use Rattle.epoch_room.specs.Fitting.{one_taken}
 use Rattle.epoch_room.specs.Value.{RoomValue}
 use Rattle.leaf_store.specs.Answers.{FillsLeaf}
 use Rattle.leaf_store.specs.declared.fault.AnswerFault.{AnswerFault}
@@ -25,7 +26,7 @@ use Rattle.fine_top.specs.Running.{commits_of}
 -- a room that takes no entry any more: none waits in it, and its last free region is kept
 pub record IsFull (value : RoomValue) : Type 0 where
   pub none_waits : value.room.waiting ≡ 0
-  pub few_free : length value.room.free < 2
+  pub few_free : length value.room.free + one_taken value.room.job < 2
   pub open_ : value.room.is_shut ≡ false
 
 -- no epoch is left, or no place

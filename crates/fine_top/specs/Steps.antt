@@ -1,5 +1,5 @@
 -- What a transaction and a run make of a room and of the store in memory.
-use Rattle.std.specs.Prelude.{◌≡◌, ◌⊎◌, ℕ, ◌+◌, ◌≤◌, false, List, [], ◌∷◌, ◌++◌, length, Option, Some, None, Result, Ok, Err, ⊤}
+use Rattle.std.specs.Prelude.{◌≡◌, ◌⊎◌, ℕ, ◌+◌, ◌≤◌, false, List, [], ◌∷◌, ◌++◌, length, option_to_list, Option, Some, None, Result, Ok, Err, ⊤}
 use Rattle.std.specs.List.{AllByRecursion, AllZip}
 use Rattle.log_disk.specs.Disk.{Told, SameBeside, HasRisen}
 use Rattle.fine_model.specs.declared.Row.{Row}
@@ -21,7 +21,7 @@ use Rattle.fine_model.specs.Outcomes.{IsOutcomeOf}
 use Rattle.fine_model.specs.Report.{all_outcomes}
 use Rattle.epoch_room.specs.Value.{RoomValue}
 use Rattle.epoch_room.specs.Fitting.{fit_of}
-use Rattle.epoch_room.specs.Steps.{appended, Seals, Shuts, StaysOpen}
+use Rattle.epoch_room.specs.Steps.{appended, sealed_state, Does, Shuts}
 use Rattle.epoch_room.specs.Meaning.{Stands, StandsForMore, GoesOnStanding}
 use Rattle.epoch_room.specs.declared.answers.Fit.{Fit}
 use Rattle.epoch_room.specs.declared.answers.Fit.TheVariants as fit
@@ -44,9 +44,26 @@ why_of (fit.Number epoch place) = Some why.Number
 why_of (fit.TooLarge need room) = Some why.Large
 why_of _ = Some why.Full
 
+-- the open epoch was sealed
+pub record Seals (old new : RoomValue) : Type 0 where
+  pub does : Does (sealed_state old) None old new
+  pub region_len : new.room.region_len ≡ old.room.region_len
+  pub beside : SameBeside old.disk new.disk
+
+-- it was not, since the disk failed, or memory ran out
+pub record Shut (old new : RoomValue) : Type 0 where
+  pub shuts : Shuts old.room None (option_to_list old.target) old new
+  pub region_len : new.room.region_len ≡ old.room.region_len
+  pub beside : SameBeside old.disk new.disk
+
+pub record StaysOpen (old new : RoomValue) : Type 0 where
+  pub does : Does old.room old.target old new
+  pub region_len : new.room.region_len ≡ old.room.region_len
+  pub beside : SameBeside old.disk new.disk
+
 -- a fault of sealing, and what it leaves
 abbrev pub FailsToSeal : RoomValue → RoomValue → RunFault → Type 0
-FailsToSeal old new run_fault.Disk = (1 ≤ old.room.waiting) × Shuts old new
+FailsToSeal old new run_fault.Disk = (1 ≤ old.room.waiting) × Shut old new
 FailsToSeal old new run_fault.Memory = (1 ≤ old.room.waiting) × StaysOpen old new
 FailsToSeal old new (run_fault.Damaged what) = ⊥
 
@@ -57,12 +74,14 @@ MaySeal old new = (new ≡ old) ⊎ ((1 ≤ old.room.waiting) × Seals old new)
 -- rows of a cost fit the room now, or this is why they do not
 pub record MakesRoom (cost : ℕ) (old new : RoomValue) (answer : Option Why) : Type 0 where
   pub may_seal : MaySeal old new
-  pub why : answer ≡ why_of (fit_of new cost)
+  pub why : answer ≡ why_of (fit_of new.room cost)
   -- an epoch that has rows was sealed before its room is called too small
-  pub none_used : (need len : ℕ) → fit_of new cost ≡ fit.EpochFull need len → new.room.used ≡ 0
+  pub none_used : (need len : ℕ) → fit_of new.room cost ≡ fit.EpochFull need len → new.room.used ≡ 0
 
--- what goes on with a room: it keeps its entry and all beside what its disk tells
+-- what goes on with a room: it keeps its entry, its board and its merge, and all beside what its disk tells
 pub record KeepsPlace (old new : RoomValue) : Type 0 where
+  pub board : new.room.board ≡ old.room.board
+  pub job : new.room.job ≡ old.room.job
   pub entry : new.entry ≡ old.entry
   pub beside : SameBeside old.disk new.disk
   pub no_lower : (old.disk.faults ≤ new.disk.faults) × (old.disk.own_faults ≤ new.disk.own_faults)

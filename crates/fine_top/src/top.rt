@@ -202,8 +202,8 @@ pub fn fineline<R: Threads + Wait + Sync, S: Source, K: Sink, D: LogDisk, G: Gat
     ensures ends { Ends (IsRun words.now) (IsOpenedLog (D.state disk)) (IsDamagedLog (D.state disk)) (S.left script.old) (D.state disk) (D.state result.disk) result.status (K.written out.old) (K.written out.new) }
 
     // The printed places order the committed transactions into one history of a sequential store, every image that a crash could
-    // have left reopens to a prefix of it, and each refusal that is printed has its cause.
-    ensures run { RunsWell (IsDamagedLog (D.state disk)) (S.left script.old) (D.state disk) (D.state result.disk) result.status (K.written out.old) (K.written out.new) }
+    // have left reopens to a prefix of it, each refusal that is printed has its cause, and status 6 tells a failed disk.
+    ensures run { RunsWell (IsRun words.now) (IsDamagedLog (D.state disk)) (S.left script.old) (HasRisen (S.faults script.old) (S.faults script.new)) (HasRisen (K.faults out.old) (K.faults out.new)) (D.state disk) (D.state result.disk) result.status (K.written out.old) (K.written out.new) }
 
     // Status 2 comes exactly for other words, unless the output fails.
     ensures words { result.status ≡ 2 → IsRun words.now → ⊥ }

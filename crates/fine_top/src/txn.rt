@@ -14,10 +14,9 @@ ghost use Rattle.leaf_store.specs.Answers.{Answers};
 ghost use Rattle.fine_model.specs.Bounds.{FitsTxn};
 ghost use Rattle.fine_model.specs.Reach.{is_simple_txn};
 ghost use Rattle.epoch_room.specs.Whole.{IsWhole};
-ghost use Rattle.epoch_room.specs.Steps.{Seals};
 ghost use Rattle.epoch_room.specs.Meaning.{GoesOnStanding};
 ghost use Rattle.fine_top.specs.Refusals.{unanswered};
-ghost use Rattle.fine_top.specs.Steps.{why_of, FailsToSeal, MakesRoom, AppendsTxn, RunsTxn, EndsBy};
+ghost use Rattle.fine_top.specs.Steps.{why_of, Seals, FailsToSeal, MakesRoom, AppendsTxn, RunsTxn, EndsBy};
 
 use epoch_room::{Fit, Room, RoomFault};
 use fine_model::{Copied, Entry, NoMemory, Outcome, RunFault, ScriptTxn, Why};
@@ -97,7 +96,7 @@ fn append_txn<D: LogDisk>(
     turn: u32,
     answered: Answered,
 ) -> Result<Outcome, NoMemory>
-    requires fits { fit_of room.old (cost answered.log) ≡ fit.Fits }
+    requires fits { fit_of room.old.room (cost answered.log) ≡ fit.Fits }
     requires rows { AllByRecursion (FitsRow mark.Two) answered.rows }
     requires log { answered.log ≡ answered.rows }
     ensures ok { IfOk result (AppendsTxn txn.now turn answered room.old room.new leaves.old leaves.new) }

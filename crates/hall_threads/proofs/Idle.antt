@@ -1,21 +1,27 @@
 -- What a pass holds during a transaction.
-use Rattle.std.proofs.Common.{◌≡◌, ◌≢◌, ℕ, ◌<◌, ◌≤◌, Bool, true, false, List, set, sym, ap, ◌∙◌, ⊎_elim, arith, le_refl}
+use Rattle.std.proofs.Common.{◌≡◌, ◌≢◌, ℕ, ◌<◌, ◌≤◌, ◌+◌, ◌*◌, Bool, true, false, List, set, sym, ap, ◌∙◌, subst, ⊎_elim, arith, le_refl, fold}
 use mathlib.Core.Option.{some}
 use lib.ListN.{get_elem?}
 use Rattle.fine_places.specs.History as places
+use Rattle.fine_model.specs.Trees.{bucket_of}
 use Rattle.atomic_table.proofs.Lists.{set_else}
 use Rattle.fine_places.proofs.Lists.{decide, set_at}
+use Rattle.hall_threads.specs.Days.{key_bucket}
 
-pub near : (k : ℕ) → k < 256 → k < places.room
+pub low : (k : ℕ) → k ≡ key_bucket → k < 256
+unfolding key_bucket bucket_of
+low k is = omega (arith, is)
+
+pub near : (k : ℕ) → k ≡ key_bucket → k < places.room
 unfolding places.room
-near k lt = lt
+near k is = low k is
 
-module _ (b : ℕ) (low : b < 256) (h h₁ h₂ : List Bool) (idle : (k : ℕ) → k ≤ places.room → get_elem? h k ≡ some false) (e₁ : h₁ ≡ set h b true) where
+module _ (b : ℕ) (key : b ≡ key_bucket) (h h₁ h₂ : List Bool) (idle : (k : ℕ) → k ≤ places.room → get_elem? h k ≡ some false) (e₁ : h₁ ≡ set h b true) where
   apart : places.room ≢ b
-  apart e = let lt = near b low in absurd (omega arith)
+  apart e = let lt = near b key in absurd (omega arith)
 
   within : b ≤ places.room
-  within = let lt = near b low in omega arith
+  within = let lt = near b key in omega arith
 
   pub bucket_had : get_elem? h₁ b ≡ some true
   bucket_had = ap (λ l. get_elem? l b) e₁ ∙ set_at h b false true (idle b within)

@@ -1,3 +1,10 @@
 pub mod Idle
-pub mod Plain
-pub mod Counting
+pub mod Epochs
+pub mod Putting
+pub mod Standing
+pub mod Caching
+pub mod Going
+pub mod Beginning
+pub mod Ending
+pub mod Fresh
+pub mod Rounds

@@ -1,1 +1,1 @@
-pub mod Threads
+pub mod Days

@@ -1,14 +1,17 @@
 //! Transactions of several threads on one hall: what the hall's clauses give to who uses it.
 #![tactic(auto)]
 
+mod entries;
+mod opening;
+mod round;
 #[cfg(test)]
 mod tests;
 mod things;
 mod threads;
 mod transaction;
-mod two_threads;
 
-pub use things::{CountingRoom, EmptyBucket};
-pub use threads::{both, commit_times};
-pub use transaction::commit;
-pub use two_threads::commit_on_two_threads;
+pub use opening::open;
+pub use round::look_up;
+pub use things::{DayBucket, DayRoom, DayView, Leaf};
+pub use threads::{both, put_times};
+pub use transaction::{DayHall, put, the_bucket};

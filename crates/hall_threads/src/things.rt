@@ -1,34 +1,65 @@
-//! A room that counts, and buckets that cache nothing.
+//! A small log: its room, its buckets and its views.
 
-ghost use Rattle.std.specs.Prelude.{◌≡◌, None};
-ghost use Rattle.hall_threads.specs.Threads.{counting, nowhere, is_resting};
+ghost use Rattle.hall_threads.specs.Days.{room_state, room_log, StandsFor, bucket_number, bucket_cached, bucket_rests, view_state};
 
-use fine_model::{BucketLaw, RoomLaw};
+use fine_model::{BucketLaw, Entry, RoomLaw, ViewLaw};
+use std::snapshot::Snapshot;
 
-/// A room of a log of which nothing is told. It counts the places that it gives.
+/// The room of a log of four regions of zero bytes. It keeps the entries that it was given, in order, for as many as it has memory.
 #[derive(Drop)]
-pub struct CountingRoom {
+pub struct DayRoom {
+    pub sealed: u64,
     pub places: u64,
+    pub waiting: u64,
+    pub faults: u64,
+    /// The value that was put last.
+    pub value: u8,
+    /// The numbers of the eyes of the views that are out, three buffers for each seat.
+    pub board: Vec<Option<u64>>,
+    pub kept: Vec<Snapshot<Entry>>,
 }
 
-impl RoomLaw for CountingRoom {
-    ghost state = { λ r. counting r.places };
+impl RoomLaw for DayRoom {
+    ghost state = { room_state };
 
-    ghost origin = { λ r. nowhere };
+    ghost origin = { room_log };
 
-    ghost stands_for = { λ r first e history. Unit {0} };
+    ghost stands_for = { λ r first e history. StandsFor r first history };
 }
 
-/// A bucket that caches nothing.
+/// The leaf of the key, after so many changes, the last one in this epoch.
+#[derive(Clone, Copy, Drop)]
+pub struct Leaf {
+    pub version: u64,
+    pub value: u8,
+    pub epoch: u64,
+}
+
+/// A bucket that caches the leaf of the key, or nothing.
 #[derive(Drop)]
-pub struct EmptyBucket {
+pub struct DayBucket {
     pub bucket: u16,
+    pub leaf: Option<Leaf>,
 }
 
-impl BucketLaw for EmptyBucket {
-    ghost bucket = { λ b. b.bucket };
+impl BucketLaw for DayBucket {
+    ghost bucket = { bucket_number };
 
-    ghost cached = { λ b n. None };
+    ghost cached = { bucket_cached };
 
-    ghost is_settled = { is_resting };
+    ghost is_settled = { bucket_rests };
+}
+
+/// A view of the log as it was at entry, by the number of its eye.
+#[derive(Drop)]
+pub struct DayView {
+    pub seat: u32,
+    pub buffer: u8,
+    pub upto: u64,
+    pub eye: u64,
+    pub faults: u64,
+}
+
+impl ViewLaw for DayView {
+    ghost state = { view_state };
 }

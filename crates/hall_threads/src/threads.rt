@@ -1,34 +1,33 @@
-//! Two threads that commit on one hall.
+//! Two threads that put values on one hall.
 
-ghost use Rattle.std.specs.Prelude.{◌≡◌, ◌<◌, ◌+◌, ◌++◌, [], if◌then◌else◌, Some, IfSome, length};
-ghost use Rattle.fine_hall.specs.Turns.{added};
+ghost use Rattle.std.specs.Prelude.{◌≡◌, ◌++◌, [], ◌∷◌, if◌then◌else◌, replicate};
 ghost use Rattle.fine_hall.specs.Passes.{mine};
-ghost use Rattle.hall_threads.specs.Threads.{IsIdlePass, IsAlone};
+ghost use Rattle.hall_threads.specs.Days.{key_bucket, put_call, put_calls, IsIdlePass};
 
-use crate::things::{CountingRoom, EmptyBucket};
-use crate::transaction::commit;
-use fine_hall::{Hall, Pass};
-use fine_model::Entry;
+use crate::things::DayView;
+use crate::transaction::{DayHall, put};
+use fine_hall::Pass;
+use std::alloc::Global;
 use std::sync::Wait;
 use std::thread;
 use std::thread::{Threads, join};
 
-/// Commits an entry of one bucket once no other seat holds the bucket. False where the room gave all places.
-fn commit_at_last<W: Wait>(
+/// Puts a value once no other seat holds the key's bucket. False where memory is wanted, or the room takes no more.
+fn put_at_last<W: Wait>(
     rt: &W,
-    hall: &Hall<CountingRoom, EmptyBucket>,
-    pass: &mut Pass,
+    alloc: Global,
+    hall: &DayHall,
+    pass: &mut Pass<DayView>,
     bucket: u16,
-    entry: &Entry,
+    value: u8,
 ) -> bool
     requires pass { IsIdlePass hall.now pass.old }
-    requires bucket { bucket < 256 }
-    requires entry { IsAlone bucket entry.now }
+    requires bucket { bucket ≡ key_bucket }
     ensures pass { IsIdlePass hall.now pass.new × (pass.new.number ≡ pass.old.number) }
-    ensures more { mine pass.new ≡ mine pass.old ++ (if result then added (Some entry.now) 1 else []) }
+    ensures more { put_calls (mine pass.new) ≡ put_calls (mine pass.old) ++ (if result then (put_call value ∷ []) ∷ [] else []) }
 {
     for _ in rt.forever() {
-        if let Ok(done) = commit(rt, hall, pass, bucket, entry) {
+        if let Ok(done) = put(rt, alloc, hall, pass, bucket, value, value) {
             return done;
         }
         thread::yield_now();
@@ -36,72 +35,75 @@ fn commit_at_last<W: Wait>(
     unreachable!()
 }
 
-/// Commits an entry of one bucket so many times, and answers how often it did.
-pub fn commit_times<W: Wait>(
+/// Puts a value so many times, and answers how often it did.
+pub fn put_times<W: Wait>(
     rt: &W,
-    hall: &Hall<CountingRoom, EmptyBucket>,
-    pass: &mut Pass,
+    alloc: Global,
+    hall: &DayHall,
+    pass: &mut Pass<DayView>,
     bucket: u16,
-    entry: &Entry,
+    value: u8,
     times: u64,
 ) -> u64
     requires pass { IsIdlePass hall.now pass.old }
-    requires bucket { bucket < 256 }
-    requires entry { IsAlone bucket entry.now }
+    requires bucket { bucket ≡ key_bucket }
     ensures pass { IsIdlePass hall.now pass.new × (pass.new.number ≡ pass.old.number) }
-    ensures more { length (mine pass.new) ≡ length (mine pass.old) + result }
+    ensures more { put_calls (mine pass.new) ≡ put_calls (mine pass.old) ++ replicate result (put_call value ∷ []) }
 {
     let mut done = 0;
     for _ in 0..times {
-        if commit_at_last(rt, hall, pass, bucket, entry) {
+        if put_at_last(rt, alloc, hall, pass, bucket, value) {
             done += 1;
         }
     }
     done
 }
 
-fn commit_as<W: Wait>(
+fn put_as<W: Wait>(
     rt: &W,
-    hall: &Hall<CountingRoom, EmptyBucket>,
-    mut pass: Pass,
+    alloc: Global,
+    hall: &DayHall,
+    mut pass: Pass<DayView>,
     bucket: u16,
-    entry: &Entry,
+    value: u8,
     times: u64,
-) -> (Pass, u64)
+) -> (Pass<DayView>, u64)
     requires pass { IsIdlePass hall.now pass }
-    requires bucket { bucket < 256 }
-    requires entry { IsAlone bucket entry.now }
+    requires bucket { bucket ≡ key_bucket }
     ensures pass { IsIdlePass hall.now result.0 × (result.0.number ≡ pass.number) }
-    ensures more { length (mine result.0) ≡ length (mine pass) + result.1 }
+    ensures more { put_calls (mine result.0) ≡ put_calls (mine pass) ++ replicate result.1 (put_call value ∷ []) }
 {
-    let done = commit_times(rt, hall, &mut pass, bucket, entry, times);
+    let done = put_times(rt, alloc, hall, &mut pass, bucket, value, times);
     (pass, done)
 }
 
-/// Both threads at once, each with a pass of its own, on buckets that may be one.
+/// Both threads at once, each with a pass and a value of its own.
 pub fn both<R: Threads + Wait + Sync>(
     rt: &R,
-    hall: &Hall<CountingRoom, EmptyBucket>,
-    first: (Pass, u16, &Entry),
-    second: (Pass, u16, &Entry),
+    alloc: Global,
+    hall: &DayHall,
+    bucket: u16,
+    first: (Pass<DayView>, u8),
+    second: (Pass<DayView>, u8),
     times: u64,
-) -> ((Pass, u64), (Pass, u64))
-    requires first { IsIdlePass hall.now first.0 × (first.1 < 256) × IsAlone first.1 first.2.now }
-    requires second { IsIdlePass hall.now second.0 × (second.1 < 256) × IsAlone second.1 second.2.now }
-    ensures first { IsIdlePass hall.now result.0.0 × (result.0.0.number ≡ first.entry.0.number) × (length (mine result.0.0) ≡ length (mine first.entry.0) + result.0.1) }
-    ensures second { IsIdlePass hall.now result.1.0 × (result.1.0.number ≡ second.entry.0.number) × (length (mine result.1.0) ≡ length (mine second.entry.0) + result.1.1) }
+) -> ((Pass<DayView>, u64), (Pass<DayView>, u64))
+    requires first { IsIdlePass hall.now first.0 }
+    requires second { IsIdlePass hall.now second.0 }
+    requires bucket { bucket ≡ key_bucket }
+    ensures first { IsIdlePass hall.now result.0.0 × (result.0.0.number ≡ first.0.number) × (put_calls (mine result.0.0) ≡ put_calls (mine first.0) ++ replicate result.0.1 (put_call first.1 ∷ [])) }
+    ensures second { IsIdlePass hall.now result.1.0 × (result.1.0.number ≡ second.0.number) × (put_calls (mine result.1.0) ≡ put_calls (mine second.0) ++ replicate result.1.1 (put_call second.1 ∷ [])) }
 {
-    let (one, one_bucket, one_entry) = first;
-    let (two, two_bucket, two_entry) = second;
+    let (one, one_value) = first;
+    let (two, two_value) = second;
     join(
         rt,
-        || -> (Pass, u64)
-            requires { IsIdlePass hall.now one × (one_bucket < 256) × IsAlone one_bucket one_entry.now }
-            ensures { IsIdlePass hall.entry.now result.0 × (result.0.number ≡ one.number) × (length (mine result.0) ≡ length (mine one) + result.1) }
-        { commit_as(rt, hall, one, one_bucket, one_entry, times) },
-        || -> (Pass, u64)
-            requires { IsIdlePass hall.now two × (two_bucket < 256) × IsAlone two_bucket two_entry.now }
-            ensures { IsIdlePass hall.entry.now result.0 × (result.0.number ≡ two.number) × (length (mine result.0) ≡ length (mine two) + result.1) }
-        { commit_as(rt, hall, two, two_bucket, two_entry, times) },
+        || -> (Pass<DayView>, u64)
+            requires { IsIdlePass hall.now one × (bucket ≡ key_bucket) }
+            ensures { IsIdlePass hall.entry.now result.0 × (result.0.number ≡ one.number) × (put_calls (mine result.0) ≡ put_calls (mine one) ++ replicate result.1 (put_call one_value ∷ [])) }
+        { put_as(rt, alloc, hall, one, bucket, one_value, times) },
+        || -> (Pass<DayView>, u64)
+            requires { IsIdlePass hall.now two × (bucket ≡ key_bucket) }
+            ensures { IsIdlePass hall.entry.now result.0 × (result.0.number ≡ two.number) × (put_calls (mine result.0) ≡ put_calls (mine two) ++ replicate result.1 (put_call two_value ∷ [])) }
+        { put_as(rt, alloc, hall, two, bucket, two_value, times) },
     )
 }

@@ -1,39 +1,64 @@
 //! One transaction.
 
-ghost use Rattle.std.specs.Prelude.{◌≡◌, ◌<◌, ◌++◌, [], if◌then◌else◌, Some, IfOk, OnErr};
-ghost use Rattle.fine_hall.specs.Turns.{added};
+ghost use Rattle.std.specs.Prelude.{◌≡◌, ◌++◌, [], ◌∷◌, if◌then◌else◌, map, IfOk, OnErr};
 ghost use Rattle.fine_hall.specs.Passes.{mine};
-ghost use Rattle.hall_threads.specs.Threads.{IsIdlePass, IsAlone};
+ghost use Rattle.hall_threads.specs.Days.{key_bucket, put_call, put_calls, IsIdlePass};
 
-use crate::things::{CountingRoom, EmptyBucket};
+use crate::entries::append;
+use crate::things::{DayBucket, DayRoom, DayView, Leaf};
 use fine_hall::{Conflict, Hall, Pass};
-use fine_model::Entry;
+use fine_model::bucket_of;
+use std::alloc::Global;
 use std::sync::Wait;
 
-/// Commits an entry of one bucket in epoch 1, or says which seat holds the bucket. False where the room gave all places.
-pub fn commit<W: Wait>(
+pub type DayHall = Hall<DayRoom, DayBucket, DayView>;
+
+/// The bucket of the key.
+#[tactic(auto, unfolding(crate::specs::Days::key_bucket))]
+pub fn the_bucket() -> u16
+    ensures { result ≡ key_bucket }
+{
+    bucket_of(b"a")
+}
+
+/// Puts a value of the key in the open epoch, or says which seat holds the key's bucket. False where memory is wanted, or the room
+/// takes no more.
+///
+/// The room takes the entry behind all that it kept, and the bucket caches the leaf that the entry leaves.
+pub fn put<W: Wait>(
     rt: &W,
-    hall: &Hall<CountingRoom, EmptyBucket>,
-    pass: &mut Pass,
+    alloc: Global,
+    hall: &DayHall,
+    pass: &mut Pass<DayView>,
     bucket: u16,
-    entry: &Entry,
+    lane: u8,
+    value: u8,
 ) -> Result<bool, Conflict>
     requires pass { IsIdlePass hall.now pass.old }
-    requires bucket { bucket < 256 }
-    requires entry { IsAlone bucket entry.now }
+    requires bucket { bucket ≡ key_bucket }
     ensures pass { IsIdlePass hall.now pass.new × (pass.new.number ≡ pass.old.number) }
-    ensures ok { IfOk result (λ done. mine pass.new ≡ mine pass.old ++ (if done then added (Some entry.now) 1 else [])) }
+    ensures ok { IfOk result (λ done. put_calls (mine pass.new) ≡ put_calls (mine pass.old) ++ (if done then (put_call value ∷ []) ∷ [] else [])) }
     ensures err { OnErr result (mine pass.new ≡ mine pass.old) }
 {
     let content = hall.take_bucket(pass, bucket)?;
-    let room = hall.take_room(rt, pass);
-    let places = room.places.checked_add(1);
-    let Some(places) = places else {
+    let mut room = hall.take_room(rt, pass);
+    let entry = append(alloc, &mut room, lane, bucket, value);
+    let Some(entry) = entry else {
         hall.give_room(pass, room, None, 0);
         hall.give_bucket(pass, bucket, content);
         return Ok(false);
     };
-    hall.give_room(pass, CountingRoom { places }, Some(entry), 1);
+    let epoch = room.sealed + 1;
+    let leaf = Leaf {
+        version: room.places,
+        value,
+        epoch,
+    };
+    hall.give_room(pass, room, Some(&entry), epoch);
+    let content = DayBucket {
+        bucket,
+        leaf: Some(leaf),
+    };
     hall.give_bucket(pass, bucket, content);
     Ok(true)
 }

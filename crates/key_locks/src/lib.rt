@@ -12,10 +12,14 @@ ghost use Rattle.key_locks.specs.Lent.{LendsBucket, LendsContent};
 ghost use Rattle.key_locks.specs.Locks.{HasLock, LacksLock, AreLocksOf, AllStand, Wants, Gathers, HasAllBelow, StopsAt, Releases};
 
 use fine_hall::{Conflict, Hall, Pass};
-use fine_model::{BucketLaw, NoMemory, RoomLaw, bucket_of};
+use fine_model::{BucketLaw, NoMemory, RoomLaw, ViewLaw, bucket_of};
 use std::alloc::Global;
 use std::marker::Model;
 use std::mem;
+
+mod laws;
+
+pub use laws::{hold_law, stand_law};
 
 /// How many buckets there are.
 const BUCKETS: u16 = 256;
@@ -93,21 +97,21 @@ impl<B: BucketLaw + Drop> LockSet<B> {
     }
 
     /// Takes a bucket where it is not held yet, by one try.
-    fn take<R: RoomLaw>(
+    fn take<R: RoomLaw, V: ViewLaw>(
         &mut self,
-        hall: &Hall<R, B>,
-        pass: &mut Pass,
+        hall: &Hall<R, B, V>,
+        pass: &mut Pass<V>,
         bucket: u16,
     ) -> Result<(), Conflict>
         requires bucket { bucket < 256 }
-        requires pass { IsPassOf R.state R.origin hall.now pass.old × AreLocksOf self.old pass.old }
-        ensures pass { IsPassOf R.state R.origin hall.now pass.new × (pass.new.number ≡ pass.old.number) × AreLocksOf self.new pass.new }
-        ensures wants { OnOk result (Wants B.bucket B.cached B.is_settled (begun R.state R.origin hall.now) bucket self.old self.new pass.old pass.new) }
-        ensures gathers { OnOk result (Gathers B.bucket B.cached B.is_settled (begun R.state R.origin hall.now) self.old self.new pass.old pass.new) }
+        requires pass { IsPassOf R.state R.origin V.state hall.now pass.old × AreLocksOf self.old pass.old }
+        ensures pass { IsPassOf R.state R.origin V.state hall.now pass.new × (pass.new.number ≡ pass.old.number) × AreLocksOf self.new pass.new }
+        ensures wants { OnOk result (Wants B.bucket B.cached B.is_settled (begun R.state R.origin V.state hall.now).log bucket self.old self.new pass.old pass.new) }
+        ensures gathers { OnOk result (Gathers B.bucket B.cached B.is_settled (begun R.state R.origin V.state hall.now).log self.old self.new pass.old pass.new) }
         ensures there { OnOk result ((content : B) × HasLock self.new bucket content) }
         ensures others { (k : ℕ) → k ≢ bucket → slice_get self.new k ≡ slice_get self.old k }
-        ensures stands { AllStand B.bucket B.cached B.is_settled (begun R.state R.origin hall.now) self.old pass.old → AllStand B.bucket B.cached B.is_settled (begun R.state R.origin hall.now) self.new pass.new }
-        ensures conflict { IfErr result (λ conflict. (conflict.bucket ≡ bucket) × LacksLock self.old bucket × FindsHeld (begun R.state R.origin hall.now) bucket conflict.owner pass.old pass.new) }
+        ensures stands { AllStand B.bucket B.cached B.is_settled (begun R.state R.origin V.state hall.now).log self.old pass.old → AllStand B.bucket B.cached B.is_settled (begun R.state R.origin V.state hall.now).log self.new pass.new }
+        ensures conflict { IfErr result (λ conflict. (conflict.bucket ≡ bucket) × LacksLock self.old bucket × FindsHeld (begun R.state R.origin V.state hall.now) bucket conflict.owner pass.old pass.new) }
         ensures same { OnErr result (self.new ≡ self.old) }
     {
         if self.is_held(bucket) {
@@ -122,18 +126,18 @@ impl<B: BucketLaw + Drop> LockSet<B> {
     /// another seat's number, and leaves the set as it was. It takes no memory.
     ///
     /// Where each content in the set stood for the whole history that the pass saw, it still does.
-    pub fn want<R: RoomLaw>(
+    pub fn want<R: RoomLaw, V: ViewLaw>(
         &mut self,
-        hall: &Hall<R, B>,
-        pass: &mut Pass,
+        hall: &Hall<R, B, V>,
+        pass: &mut Pass<V>,
         key: &[u8],
     ) -> Result<(), Conflict>
         requires key { (1 ≤ length key.now) × (length key.now ≤ 64) }
-        requires pass { IsPassOf R.state R.origin hall.now pass.old × AreLocksOf self.old pass.old }
-        ensures pass { IsPassOf R.state R.origin hall.now pass.new × (pass.new.number ≡ pass.old.number) × AreLocksOf self.new pass.new }
-        ensures wants { OnOk result (Wants B.bucket B.cached B.is_settled (begun R.state R.origin hall.now) (bucket_of_key key.now) self.old self.new pass.old pass.new) }
-        ensures conflict { IfErr result (λ conflict. (conflict.bucket ≡ bucket_of_key key.now) × LacksLock self.old (bucket_of_key key.now) × FindsHeld (begun R.state R.origin hall.now) (bucket_of_key key.now) conflict.owner pass.old pass.new) }
-        ensures stands { AllStand B.bucket B.cached B.is_settled (begun R.state R.origin hall.now) self.old pass.old → AllStand B.bucket B.cached B.is_settled (begun R.state R.origin hall.now) self.new pass.new }
+        requires pass { IsPassOf R.state R.origin V.state hall.now pass.old × AreLocksOf self.old pass.old }
+        ensures pass { IsPassOf R.state R.origin V.state hall.now pass.new × (pass.new.number ≡ pass.old.number) × AreLocksOf self.new pass.new }
+        ensures wants { OnOk result (Wants B.bucket B.cached B.is_settled (begun R.state R.origin V.state hall.now).log (bucket_of_key key.now) self.old self.new pass.old pass.new) }
+        ensures conflict { IfErr result (λ conflict. (conflict.bucket ≡ bucket_of_key key.now) × LacksLock self.old (bucket_of_key key.now) × FindsHeld (begun R.state R.origin V.state hall.now) (bucket_of_key key.now) conflict.owner pass.old pass.new) }
+        ensures stands { AllStand B.bucket B.cached B.is_settled (begun R.state R.origin V.state hall.now).log self.old pass.old → AllStand B.bucket B.cached B.is_settled (begun R.state R.origin V.state hall.now).log self.new pass.new }
         ensures same { OnErr result (self.new ≡ self.old) }
     {
         self.take(hall, pass, bucket_of(key))
@@ -143,17 +147,17 @@ impl<B: BucketLaw + Drop> LockSet<B> {
     /// another seat's number; the buckets below it then stay in the set. It takes no memory.
     ///
     /// Where each content in the set stood for the whole history that the pass saw, it still does.
-    pub fn want_all<R: RoomLaw>(
+    pub fn want_all<R: RoomLaw, V: ViewLaw>(
         &mut self,
-        hall: &Hall<R, B>,
-        pass: &mut Pass,
+        hall: &Hall<R, B, V>,
+        pass: &mut Pass<V>,
     ) -> Result<(), Conflict>
-        requires pass { IsPassOf R.state R.origin hall.now pass.old × AreLocksOf self.old pass.old }
-        ensures pass { IsPassOf R.state R.origin hall.now pass.new × (pass.new.number ≡ pass.old.number) × AreLocksOf self.new pass.new }
+        requires pass { IsPassOf R.state R.origin V.state hall.now pass.old × AreLocksOf self.old pass.old }
+        ensures pass { IsPassOf R.state R.origin V.state hall.now pass.new × (pass.new.number ≡ pass.old.number) × AreLocksOf self.new pass.new }
         ensures all { OnOk result (HasAllBelow 256 self.new) }
-        ensures gathers { OnOk result (Gathers B.bucket B.cached B.is_settled (begun R.state R.origin hall.now) self.old self.new pass.old pass.new) }
-        ensures conflict { IfErr result (λ conflict. StopsAt B.bucket B.cached B.is_settled (begun R.state R.origin hall.now) conflict.bucket conflict.owner self.old self.new pass.old pass.new) }
-        ensures stands { AllStand B.bucket B.cached B.is_settled (begun R.state R.origin hall.now) self.old pass.old → AllStand B.bucket B.cached B.is_settled (begun R.state R.origin hall.now) self.new pass.new }
+        ensures gathers { OnOk result (Gathers B.bucket B.cached B.is_settled (begun R.state R.origin V.state hall.now).log self.old self.new pass.old pass.new) }
+        ensures conflict { IfErr result (λ conflict. StopsAt B.bucket B.cached B.is_settled (begun R.state R.origin V.state hall.now) conflict.bucket conflict.owner self.old self.new pass.old pass.new) }
+        ensures stands { AllStand B.bucket B.cached B.is_settled (begun R.state R.origin V.state hall.now).log self.old pass.old → AllStand B.bucket B.cached B.is_settled (begun R.state R.origin V.state hall.now).log self.new pass.new }
     {
         for bucket in 0..BUCKETS {
             self.take(hall, pass, bucket)?;
@@ -171,12 +175,17 @@ impl<B: BucketLaw + Drop> LockSet<B> {
     }
 
     /// Gives a bucket back where it is held.
-    fn release<R: RoomLaw>(&mut self, hall: &Hall<R, B>, pass: &mut Pass, bucket: u16)
+    fn release<R: RoomLaw, V: ViewLaw>(
+        &mut self,
+        hall: &Hall<R, B, V>,
+        pass: &mut Pass<V>,
+        bucket: u16,
+    )
         requires bucket { bucket < 256 }
-        requires pass { IsPassOf R.state R.origin hall.now pass.old × AreLocksOf self.old pass.old }
-        requires stands { AllStand B.bucket B.cached B.is_settled (begun R.state R.origin hall.now) self.old pass.old }
-        ensures pass { IsPassOf R.state R.origin hall.now pass.new × (pass.new.number ≡ pass.old.number) × AreLocksOf self.new pass.new }
-        ensures stands { AllStand B.bucket B.cached B.is_settled (begun R.state R.origin hall.now) self.new pass.new }
+        requires pass { IsPassOf R.state R.origin V.state hall.now pass.old × AreLocksOf self.old pass.old }
+        requires stands { AllStand B.bucket B.cached B.is_settled (begun R.state R.origin V.state hall.now).log self.old pass.old }
+        ensures pass { IsPassOf R.state R.origin V.state hall.now pass.new × (pass.new.number ≡ pass.old.number) × AreLocksOf self.new pass.new }
+        ensures stands { AllStand B.bucket B.cached B.is_settled (begun R.state R.origin V.state hall.now).log self.new pass.new }
         ensures gone { LacksLock self.new bucket }
         ensures releases { Releases self.old self.new pass.old pass.new }
     {
@@ -188,10 +197,10 @@ impl<B: BucketLaw + Drop> LockSet<B> {
     /// Gives all buckets back, each at most once. It takes no memory.
     ///
     /// Each content stands for the whole history that the pass saw.
-    pub fn release_all<R: RoomLaw>(&mut self, hall: &Hall<R, B>, pass: &mut Pass)
-        requires pass { IsPassOf R.state R.origin hall.now pass.old × AreLocksOf self.old pass.old }
-        requires stands { AllStand B.bucket B.cached B.is_settled (begun R.state R.origin hall.now) self.old pass.old }
-        ensures pass { IsPassOf R.state R.origin hall.now pass.new × (pass.new.number ≡ pass.old.number) × AreLocksOf self.new pass.new }
+    pub fn release_all<R: RoomLaw, V: ViewLaw>(&mut self, hall: &Hall<R, B, V>, pass: &mut Pass<V>)
+        requires pass { IsPassOf R.state R.origin V.state hall.now pass.old × AreLocksOf self.old pass.old }
+        requires stands { AllStand B.bucket B.cached B.is_settled (begun R.state R.origin V.state hall.now).log self.old pass.old }
+        ensures pass { IsPassOf R.state R.origin V.state hall.now pass.new × (pass.new.number ≡ pass.old.number) × AreLocksOf self.new pass.new }
         ensures none { (k : ℕ) → k < 256 → LacksLock self.new k }
         ensures releases { Releases self.old self.new pass.old pass.new }
     {

@@ -1,6 +1,5 @@
 -- One call more.
-use Rattle.std.proofs.Common.{◌≡◌, ℕ, ◌+◌, ◌<◌, ◌≤◌, nat_lt, Bool, true, false, ◌||◌, List, [], ◌∷◌, ◌++◌, length, set, take, drop, get_or, slice_get, refl, sym, ap, ◌∙◌, subst, true≢false, arith, append-nil, append_assoc, Some, Ok, Err}
-use Rattle.std.specs.Prelude.{Result}
+use Rattle.std.proofs.Common.{◌≡◌, ℕ, ◌+◌, ◌<◌, ◌≤◌, nat_lt, Bool, true, false, ◌||◌, List, [], ◌∷◌, ◌++◌, length, set, take, drop, get_or, slice_get, refl, sym, ap, ◌∙◌, subst, true≢false, arith, append-nil, append_assoc, Some, Ok}
 use Rattle.std.specs.List.{AllByRecursion}
 use Rattle.std.proofs.lemmas.Bool.{ltb-false}
 use Rattle.std.proofs.lemmas.List.{take_more, take-append-drop}
@@ -13,7 +12,6 @@ use Rattle.fine_model.specs.declared.Row.{Row}
 use Rattle.fine_model.specs.declared.Node.{Node}
 use Rattle.fine_model.specs.declared.Call.{Call}
 use Rattle.fine_model.specs.declared.Write.{Write}
-use Rattle.fine_model.specs.declared.Why.{Why}
 use Rattle.fine_model.specs.declared.Node.TheVariants as node
 use Rattle.fine_model.specs.declared.Call.TheVariants as call
 use Rattle.fine_model.specs.declared.Reply.TheVariants as reply
@@ -25,13 +23,14 @@ use Rattle.fine_model.specs.Map.{Pair, get, has, after_write, map_after}
 use Rattle.fine_model.specs.Nodes.{Content, step, content}
 use Rattle.fine_model.specs.Store.{answer, after_call, replies_to, writes_of, value_answer}
 use Rattle.fine_model.specs.Trees.{bucket_of, map_of, pairs_of, IsSound}
-use Rattle.fine_model.specs.Pushed.{call_push, push_of, within_limits, pushed, and_then, all_pushed}
+use Rattle.fine_model.specs.Pushed.{call_push, push_of, within_limits, pushed, all_pushed}
 use Rattle.fine_model.specs.Laws.{IsPushed}
 use Rattle.fine_model.proofs.CallLaw.{bucket_below}
 use Rattle.fine_model.proofs.Legal.{all_pushed_law}
 use Rattle.node_record.specs.Bounds.{FitsNode}
 use Rattle.leaf_store.specs.declared.answered.Answered.{Answered}
 use Rattle.leaf_store.specs.declared.fault.AnswerFault.TheVariants as fault
+use Rattle.fine_model.proofs.PushedCalls.{pushed_last, pushed_stops}
 use Rattle.leaf_store.specs.Leaves.{root_leaf, kept, Holds}
 use Rattle.leaf_store.specs.Answers.{Answers, ComesTo, FillsLeaf, PassesVersions}
 use Rattle.leaf_store.specs.Steps.{IsBlank, Gets, Puts, AddsCall, RefusesCall}
@@ -40,51 +39,6 @@ use Rattle.leaf_store.proofs.Plain.{holds_sound, get_of_map}
 use Rattle.leaf_store.proofs.Puts.{put_pushed, put_passes, plain_small, leaf_is, holds_put}
 
 -- ---- calls in order
-
-and_then_ok : (r : Result (List Row) Why) → and_then r (λ more. Ok ([] ++ more)) ≡ r
-and_then_ok (Ok more) = refl
-and_then_ok (Err why) = refl
-
-twice : (r : Result (List Row) Why) (one own : List Row) → and_then (and_then r (λ more. Ok (own ++ more))) (λ more. Ok (one ++ more)) ≡ and_then r (λ more. Ok ((one ++ own) ++ more))
-twice (Ok more) one own = ap Ok (sym (append_assoc one own more))
-twice (Err why) one own = refl
-
--- what calls push behind calls
-pub pushed_behind : (rows own : List Row) (cs ds : List Call) → all_pushed rows cs ≡ Ok own → all_pushed rows (cs ++ ds) ≡ and_then (all_pushed (rows ++ own) ds) (λ more. Ok (own ++ more))
-unfolding all_pushed
-pushed_behind rows own [] ds is =
-    let none : own ≡ [] = cc in
-    sym (and_then_ok (all_pushed rows ds)) ∙ ap (λ rs. and_then (all_pushed rs ds) (λ more. Ok ([] ++ more))) (sym (append-nil rows)) ∙ ap (λ o. and_then (all_pushed (rows ++ o) ds) (λ more. Ok (o ++ more))) (sym none)
-pushed_behind rows own (c ∷ cs) ds is = by (pushed rows c) is (λ one more is'. pushed_behind (rows ++ one) more cs ds is')
-  where
-    by : (r : Result (List Row) Why) → and_then r (λ one. and_then (all_pushed (rows ++ one) cs) (λ more. Ok (one ++ more))) ≡ Ok own
-        → ((one more : List Row) → all_pushed (rows ++ one) cs ≡ Ok more → all_pushed (rows ++ one) (cs ++ ds) ≡ and_then (all_pushed ((rows ++ one) ++ more) ds) (λ rest. Ok (more ++ rest)))
-        → and_then r (λ one. and_then (all_pushed (rows ++ one) (cs ++ ds)) (λ more. Ok (one ++ more))) ≡ and_then (all_pushed (rows ++ own) ds) (λ more. Ok (own ++ more))
-    by (Err why) is rest = absurd cc
-    by (Ok one) is rest = of (all_pushed (rows ++ one) cs) refl is
-      where
-        of : (r : Result (List Row) Why) → all_pushed (rows ++ one) cs ≡ r → and_then r (λ more. Ok (one ++ more)) ≡ Ok own
-            → and_then (all_pushed (rows ++ one) (cs ++ ds)) (λ more. Ok (one ++ more)) ≡ and_then (all_pushed (rows ++ own) ds) (λ more. Ok (own ++ more))
-        of (Err why) e is' = absurd cc
-        of (Ok more) e is' =
-            let joined : one ++ more ≡ own = cc in
-            ap (λ r. and_then r (λ rest. Ok (one ++ rest))) (rest one more e)
-            ∙ twice (all_pushed ((rows ++ one) ++ more) ds) one more
-            ∙ ap (λ rs. and_then (all_pushed rs ds) (λ rest. Ok ((one ++ more) ++ rest))) (append_assoc rows one more)
-            ∙ ap (λ o. and_then (all_pushed (rows ++ o) ds) (λ rest. Ok (o ++ rest))) joined
-
-pushed_last : (rows own new : List Row) (cs : List Call) (c : Call) → all_pushed rows cs ≡ Ok own → pushed (rows ++ own) c ≡ Ok new → all_pushed rows (cs ++ c ∷ []) ≡ Ok (own ++ new)
-unfolding all_pushed
-pushed_last rows own new cs c is one =
-    pushed_behind rows own cs (c ∷ []) is
-    ∙ ap (λ r. and_then (and_then r (λ n. and_then {A = List Row} {B = List Row} {E = Why} (Ok []) (λ more. Ok (n ++ more)))) (λ more. Ok (own ++ more))) one
-    ∙ ap (λ n. Ok (own ++ n)) (append-nil new)
-
-pub pushed_refused : (rows own : List Row) (cs ds : List Call) (c : Call) (why : Why) → all_pushed rows cs ≡ Ok own → pushed (rows ++ own) c ≡ Err why → all_pushed rows (cs ++ c ∷ ds) ≡ Err why
-unfolding all_pushed
-pushed_refused rows own cs ds c why is err =
-    pushed_behind rows own cs (c ∷ ds) is
-    ∙ ap (λ r. and_then (and_then r (λ one. and_then (all_pushed ((rows ++ own) ++ one) ds) (λ more. Ok (one ++ more)))) (λ more. Ok (own ++ more))) err
 
 map_after-append : (m : List Pair) (a b : List Write) → map_after m (a ++ b) ≡ map_after (map_after m a) b
 unfolding map_after
@@ -246,7 +200,7 @@ module _ (leaves : List Content) (rows : List Row) (cs : List Call) (a : Answere
         of_node = cause.0;
         last = cause.2;
         refused = ap (all_pushed rows) is
-            ∙ pushed_refused rows a.rows cs ds (call.Put key value) why.Number so_far.pushed (put_passes now key value r.leaf so_far.holds.plain (content_is key r.leaf r.is_leaf) cause.1 cause.2);
+            ∙ pushed_stops rows a.rows cs ds (call.Put key value) why.Number so_far.pushed (put_passes now key value r.leaf so_far.holds.plain (content_is key r.leaf r.is_leaf) cause.1 cause.2);
       }
   passes_versions (call.Get key) calls ds id is r = absurd cc
   passes_versions (call.Del key) calls ds id is r = absurd cc

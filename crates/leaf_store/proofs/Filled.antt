@@ -15,7 +15,7 @@ use Rattle.leaf_store.specs.declared.answered.Answered.{Answered}
 use Rattle.leaf_store.specs.Leaves.{is_plain, IsPlain}
 use Rattle.leaf_store.specs.Answers.{Answers, ComesTo, FillsLeaf}
 use Rattle.leaf_store.proofs.Puts.{half, put_splits}
-use Rattle.leaf_store.proofs.Answering.{pushed_behind}
+use Rattle.fine_model.proofs.PushedCalls.{pushed_behind}
 use Rattle.leaf_store.proofs.Damage.{all_among}
 
 is_full : (there : Bool) (n : ℕ) → there ≡ false → n ≡ 32 → (there || nat_lt n 32) ≡ false

@@ -1,9 +1,7 @@
 -- One part more, and what was read of a disk that tells its bytes.
-use Rattle.std.proofs.Common.{◌≡◌, ◌⊎◌, inl, inr, ℕ, ◌+◌, ◌<◌, List, [], ◌∷◌, ◌++◌, length, take, drop, get_or, refl, sym, ap, ◌∙◌, subst, append_assoc, append-nil}
-use Rattle.std.specs.Prelude.{Any}
+use Rattle.std.proofs.Common.{◌≡◌, inl, inr, ℕ, ◌+◌, ◌<◌, List, [], ◌∷◌, ◌++◌, length, take, drop, get_or, refl, sym, ap, ◌∙◌, subst, append_assoc, append-nil}
 use Rattle.std.specs.List.{AllByRecursion}
 use Rattle.log_disk.specs.Disk.{Disk}
-use Rattle.fine_model.specs.declared.NodeId.{NodeId}
 use Rattle.fine_model.specs.declared.Row.{Row}
 use Rattle.fine_model.specs.declared.Part.{Part}
 use Rattle.fine_model.specs.declared.Damage.{Damage}
@@ -15,7 +13,7 @@ use Rattle.fine_model.proofs.Order.{all_map}
 use Rattle.leaf_store.specs.declared.fault.LoadFault.{LoadFault}
 use Rattle.leaf_store.specs.declared.fault.LoadFault.TheVariants as fault
 use Rattle.leaf_store.specs.Leaves.{Holds}
-use Rattle.leaf_store.specs.Loading.{TellsParts, HasRowsRead, HasBadRead, sealed_in, bad_in, AreRowsBy, IsLoaded, HasRow, IsNoPut, IsBadNode, IsDamaged}
+use Rattle.leaf_store.specs.Loading.{TellsParts, HasRowsRead, HasBadRead, sealed_in, bad_in, AreRowsBy, IsLoaded, HasRow, IsDamaged}
 use Rattle.leaf_store.specs.Reading.{ReadsPart, FindsBad, RefusesRows, FindsDamage}
 use Rattle.leaf_store.proofs.Answering.{take_next, split_item}
 use Rattle.leaf_store.proofs.Bodies.{sealed_part, bad_part}

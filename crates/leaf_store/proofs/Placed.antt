@@ -8,24 +8,11 @@ use Rattle.fine_model.specs.declared.Mark.TheVariants as mark
 use Rattle.fine_model.specs.declared.Part.{Part}
 use Rattle.fine_model.specs.Merge.{fits_in}
 use Rattle.fine_model.specs.Chain.{regions_of}
-use Rattle.fine_model.specs.Regions.{Image, region_of, header_at, regions_at, more_at, alike, length_tests, header_tests, HasHeader}
+use Rattle.fine_model.specs.Regions.{Image, region_of, header_at, regions_at, alike, length_tests, header_tests, HasHeader}
 use Rattle.fine_model.proofs.Order.{first_of_both}
-use Rattle.fine_model.proofs.Headers.{Good, good}
+use Rattle.fine_model.proofs.Headers.{Good, good, regions_are, more_are, seven}
 use Rattle.partition_index.specs.Parts.{is_counted, body_len}
 use Rattle.leaf_store.specs.Loading.{IsPlaced}
-
-regions_are : (bytes : List ℕ) → (header_at bytes).regions ≡ regions_at (header_at bytes).mark bytes
-unfolding header_at
-regions_are bytes = refl
-
-more_are : (bytes : List ℕ) → (header_at bytes).more ≡ more_at (header_at bytes).mark bytes
-unfolding header_at
-more_are bytes = refl
-
-seven : (m : Mark) (bytes : List ℕ) → length (more_at m bytes) ≡ 7
-seven mark.One bytes = refl
-seven mark.Two bytes = refl
-seven mark.Three bytes = refl
 
 alike_true : (a b : Bool) → alike a b ≡ true → a ≡ true → b ≡ true
 alike_true a b both is = sym (ap (λ x. alike x b) is) ∙ both

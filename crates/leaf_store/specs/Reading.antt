@@ -1,5 +1,5 @@
 -- What reading one part, and taking its rows in, answers.
-use Rattle.std.specs.Prelude.{◌≡◌, ◌≢◌, ◌⊎◌, ℕ, ◌<◌, true, false, List, ◌∷◌, ◌++◌, take, slice_get, Some, option_map}
+use Rattle.std.specs.Prelude.{◌≡◌, ◌≢◌, ◌⊎◌, ℕ, ◌<◌, true, false, List, ◌∷◌, ◌++◌, take, slice_get, Some}
 use Rattle.std.specs.List.{AllByRecursion}
 use Rattle.log_disk.specs.Disk.{Disk, OnlyFails}
 use Rattle.fine_model.specs.declared.Row.{Row}
@@ -9,7 +9,7 @@ use Rattle.fine_model.specs.declared.Damage.{Damage}
 use Rattle.fine_model.specs.declared.Damage.TheVariants as damage
 use Rattle.fine_model.specs.RowBytes.{rows_len, FitsRow}
 use Rattle.fine_model.specs.Nodes.{Content, step}
-use Rattle.fine_model.specs.Regions.{Image, Place, place_of, body_in, HasHeader, HoldsBadItem, IsSealed}
+use Rattle.fine_model.specs.Regions.{Image, Place, place_of, body_in}
 use Rattle.partition_index.specs.Parts.{body_len}
 use Rattle.leaf_store.specs.declared.fault.LoadFault.{LoadFault}
 use Rattle.leaf_store.specs.declared.fault.LoadFault.TheVariants as fault

@@ -2,7 +2,7 @@
 //!
 //! Contracts name the path by which each file was opened, and the place and length of what it is asked for.
 
-ghost use Rattle.std.specs.Prelude.{◌≡◌, ◌≢◌, ◌⊎◌, ℕ, ◌*◌, ◌<◌, ◌≤◌, ◌+◌, ◌^◌, true, false, All, Any, Contains, None, Err, IfOk, OnOk, OnErr, IsErr, IsErrOf, is_err, length};
+ghost use Rattle.std.specs.Prelude.{◌≡◌, ◌≢◌, ◌⊎◌, ℕ, ◌*◌, ◌<◌, ◌≤◌, ◌+◌, ◌^◌, true, false, All, Any, Contains, None, Some, Err, IfOk, OnOk, OnErr, IsErr, IsErrOf, is_err, length};
 ghost use Rattle.log_disk.specs.declared.file.MakeFault.TheVariants as fault;
 ghost use Rattle.log_disk.specs.declared.file.handle.FileAsk.TheVariants as ask;
 ghost use Rattle.log_disk.specs.Disk.{new_disk, last_count, IsWithin, IsUnseen, Reads, Writes, Syncs, OnlyFails, Opens, Closes, Looks};
@@ -116,7 +116,7 @@ impl<R: Files<File = File> + Clone + Drop + Send> FileDisk<R> {
         ensures made { IfOk result (λ made. made.disk ≡ new_disk regions region_len None) }
         ensures at_path { IfOk result (λ made. made.path ≡ path.now) }
         ensures locked { IfOk result (λ made. made.file.locked ≡ true) }
-        ensures whole { IfOk result (λ made. made.file.len ≡ regions * region_len) }
+        ensures whole { IfOk result (λ made. made.file.len ≡ Some (regions * region_len)) }
         ensures synced { IfOk result (λ made. made.file.last ≡ record { ask = ask.Sync; failed = false }) }
         ensures wrong_length { (found : ℕ) → result ≡ Err (MakeFault.WrongLength found) → (found ≢ 0) × (found ≢ regions * region_len) }
     {
@@ -143,14 +143,14 @@ impl<R: Files<File = File> + Clone + Drop + Send> FileDisk<R> {
 // Fills an empty file up to the whole of a disk. A file of another length is refused.
 fn fill(file: &mut Handle, whole: u64) -> Result<(), MakeFault>
     requires { file.old.locked.value ≡ true }
-    ensures whole { OnOk result (file.new.len.value ≡ whole) }
-    ensures wrong_length { (found : ℕ) → result ≡ Err (MakeFault.WrongLength found) → (found ≡ file.new.len.value) × (found ≢ 0) × (found ≢ whole) }
+    ensures whole { OnOk result (file.new.len.value ≡ Some whole) }
+    ensures wrong_length { (found : ℕ) → result ≡ Err (MakeFault.WrongLength found) → (file.new.len.value ≡ Some found) × (found ≢ 0) × (found ≢ whole) }
     ensures locked { file.new.locked ≡ file.old.locked }
     ensures path { file.new.path ≡ file.old.path }
 {
     let found = file.len()?;
     if found == 0 {
-        file.set_len(whole)?;
+        file.fill(whole)?;
     } else if found != whole {
         return Err(MakeFault::WrongLength { found });
     }
@@ -259,6 +259,7 @@ impl<R: Files<File = File> + Clone + Drop + Send> LogDisk for FileDisk<R> {
     fn close(&mut self, eye: FileEye)
         requires { Any (λ e. e.number ≡ eye.eye.number) self.old.disk.eyes }
         ensures closes { Closes eye.eye self.old.disk self.new.disk }
+        ensures not_asked { self.new.file ≡ self.old.file }
         ensures same_path { self.new.path ≡ self.old.path }
     {
         let number = eye.number;

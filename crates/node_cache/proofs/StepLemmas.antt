@@ -16,7 +16,7 @@ use Rattle.fine_model.specs.declared.Rec.{Rec}
 use Rattle.fine_model.specs.declared.Rec.TheVariants as rec
 use Rattle.fine_model.specs.declared.Row.{Row}
 use Rattle.fine_model.proofs.NodeBounds.{step_fits}
-use Rattle.node_record.proofs.Changes.{leaf_whole}
+use Rattle.fine_model.proofs.GrowLeaf.{fits_leaf}
 use Rattle.node_cache.specs.declared.cached.Cached.{Cached}
 use Rattle.node_cache.specs.declared.undo.Step.{Step}
 use Rattle.node_cache.specs.Undo.{TakesBack, CanTakeBack, back}
@@ -26,7 +26,7 @@ use Rattle.node_cache.proofs.Bounds.{same_kept}
 -- what a change of a pair leaves
 pub changed_leaf : (pairs : List Pair) (r : Rec) → changes_leaf pairs r ≡ true → length (changed_pairs pairs r) ≤ 32 → changed (node.Leaf pairs) r ≡ node.Leaf (changed_pairs pairs r)
 unfolding changed
-changed_leaf pairs (rec.Put key value) does few = leaf_whole (set pairs key value) few
+changed_leaf pairs (rec.Put key value) does few = fits_leaf (set pairs key value) few
 changed_leaf pairs (rec.Del key) does few = refl
 changed_leaf pairs (rec.HeadImage root next depth) does few = absurd (true≢false (sym does))
 changed_leaf pairs (rec.LeafImage pairs') does few = absurd (true≢false (sym does))

@@ -1,9 +1,11 @@
 //! Where nodes come from that a bucket has not.
 
 ghost use Rattle.std.specs.Prelude.{◌≡◌, ℕ, ◌<◌, List, OnOk, OnErr, IfErr};
+ghost use Rattle.fine_model.specs.declared.NodeId.{NodeId};
 ghost use Rattle.fine_model.specs.declared.Row.{Row};
+ghost use Rattle.fine_model.specs.Nodes.{Content};
 ghost use Rattle.fine_model.specs.declared.FetchFault.{FetchFault as Fault};
-ghost use Rattle.node_cache.specs.Given.{IsCached, IsLoad, SameNodes, OnCleanFault, OnCleanLoad};
+ghost use Rattle.node_cache.specs.Given.{Finds, IsCached, IsLoad, SameNodes, OnCleanFault, OnCleanLoad};
 
 use crate::Bucket;
 use fine_model::FetchFault;
@@ -11,6 +13,9 @@ use fine_model::FetchFault;
 /// A source of nodes, by the lists of rows that it tells and their last epoch.
 pub trait NodeSource {
     ghost tells: { Self → List Row → Type 0 };
+
+    // the contents that it may find in a node, whatever is told
+    ghost finds: { Self → Finds };
 
     ghost upper: { Self → ℕ };
 
@@ -23,14 +28,14 @@ pub trait NodeSource {
     // what holds between the states before and after a load that answers a fault
     ghost fails: { Self → Fault → Self → Type 0 };
 
-    /// Caches a node that is not cached, as what the source's rows leave there. A node that they leave broken may be given otherwise.
+    /// Caches a node that is not cached, as a content that the source finds in it, and exactly what the source's rows leave there, a broken node included.
     /// With a fault, no node is cached that was not before.
     fn load(&mut self, bucket: &mut Bucket, number: u32) -> Result<(), FetchFault>
         requires bucket { bucket.old.bucket < 256 }
         requires number { number < 1048576 }
         ensures later { later self.old self.new }
         ensures clean { OnCleanLoad result (clean self.old self.new) }
-        ensures load { IsLoad (tells self.old) (upper self.old) number bucket.old bucket.new }
+        ensures load { IsLoad (tells self.old) (finds self.old) (upper self.old) number bucket.old bucket.new }
         ensures there { OnOk result (IsCached bucket.new number) }
         ensures none { OnErr result (SameNodes bucket.old bucket.new) }
         ensures fails { IfErr result (λ fault. fails self.old fault self.new) };
@@ -42,6 +47,8 @@ pub trait NodeSource {
     ghost later_tells: { (s t : Self) (rows : List Row) → later s t → tells s rows → tells t rows };
 
     ghost tells_before: { (s t : Self) (rows : List Row) → later s t → tells t rows → tells s rows };
+
+    ghost finds_before: { (s t : Self) (id : NodeId) (found : Content) → later s t → finds t id found → finds s id found };
 
     ghost later_upper: { (s t : Self) → later s t → upper t ≡ upper s };
 

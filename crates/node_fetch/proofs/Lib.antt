@@ -4,3 +4,4 @@ pub mod Told
 pub mod PartRows
 pub mod Parts
 pub mod ReadBack
+pub mod Blames

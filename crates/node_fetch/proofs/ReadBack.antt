@@ -16,7 +16,8 @@ use Rattle.fine_model.proofs.Order.{all_map}
 use Rattle.node_fetch.proofs.PartRows.{reads_same}
 use Rattle.fine_model.proofs.NodeLaws.{replay-append}
 use Rattle.fine_model.proofs.Sets.{all_append}
-use Rattle.node_fetch.specs.Fetched.{ReadsRows, IsReplayOf, has_image_first}
+use Rattle.fine_model.specs.Damages.{has_image_first}
+use Rattle.node_fetch.specs.Fetched.{ReadsRows, IsReplayOf}
 
 -- with no parts the node is as it began
 pub replay_none : (eye : Eye) (parts : List Part) (id : NodeId) (found : Content) → parts ≡ [] → found ≡ base id → IsReplayOf eye parts id found

@@ -1,31 +1,17 @@
 -- The rows that a span holds: they are the only ones, and then no place of it is bad.
-use Rattle.std.proofs.Common.{◌≡◌, ◌≢◌, ◌⊎◌, ℕ, ◌+◌, ◌<◌, ◌≤◌, List, [], ◌∷◌, ◌++◌, length, drop, refl, sym, ap, ◌∙◌, subst, inl, inr, arith, append_assoc, append-nil, length-append, length-drop, drop_at}
-use Rattle.std.specs.Prelude.{flat_map}
+use Rattle.std.proofs.Common.{◌≡◌, ◌≢◌, ◌⊎◌, ℕ, ◌+◌, ◌<◌, ◌≤◌, List, [], ◌∷◌, ◌++◌, length, drop, sym, ap, ◌∙◌, subst, inl, inr, arith, append_assoc, append-nil, length-append, length-drop, drop_at}
 use Rattle.std.specs.List.{AllByRecursion}
 use Rattle.std.proofs.lemmas.List.{nil_from_length}
 use Rattle.fine_model.specs.declared.Header.{Header}
-use Rattle.fine_model.specs.declared.Mark.{Mark}
 use Rattle.fine_model.specs.declared.NodeId.{NodeId}
 use Rattle.fine_model.specs.declared.Row.{Row}
 use Rattle.fine_model.specs.RowBytes.{row_bytes, rows_bytes, FitsRow}
 use Rattle.fine_model.specs.Seek.{RowSpan, SpanBegins, SpanHolds, IsBadInSpan, span_bytes}
 use Rattle.fine_model.proofs.Grammar.{rows_long, rows_bytes-append}
-use Rattle.fine_model.proofs.Spelling.{row_spelling}
 use Rattle.fine_model.proofs.Zip.{all_left, all_right}
+use Rattle.fine_model.proofs.Grammar.{rows_begin}
 use Rattle.node_fetch.specs.Spans.{ReadSoFar, ReadsAll, IsStop, IsNoRowOf}
 use Rattle.node_fetch.proofs.Reading.{rows_more}
-
--- rows that are spelled at the front of others are the front of these
-rows_begin : (mark : Mark) (front rows : List Row) (x y : List ℕ) → length front ≤ length rows → AllByRecursion (FitsRow mark) front → AllByRecursion (FitsRow mark) rows
-    → rows_bytes front ++ x ≡ rows_bytes rows ++ y → (more : List Row) × (rows ≡ front ++ more) × (x ≡ rows_bytes more ++ y)
-unfolding rows_bytes
-rows_begin mark [] rows x y long f g e = (rows, refl, e)
-rows_begin mark (a ∷ front) [] x y long f g e = absurd (omega (arith, long))
-rows_begin mark (a ∷ front) (b ∷ rows) x y long f g e =
-    let s = row_spelling mark a b (flat_map row_bytes front ++ x) (flat_map row_bytes rows ++ y) f.0 g.0
-    (sym (append_assoc (row_bytes a) (flat_map row_bytes front) x) ∙ e ∙ append_assoc (row_bytes b) (flat_map row_bytes rows) y) in
-    let rest = rows_begin mark front rows x y (omega (arith, long)) f.1 g.1 s.1 in
-    (rest.0, (λ i. sym s.0 i ∷ rest.1 i), rest.2)
 
 module _ (header : Header) (body : List ℕ) (span : RowSpan) (id : NodeId) (own : List Row) (h : SpanHolds header body span id own) where
   -- good rows are the front of all rows

@@ -1,6 +1,6 @@
 -- What fetching finds, and when it gives up.
-use Rattle.std.specs.Prelude.{◌≡◌, ◌⊎◌, ℕ, ◌+◌, ◌-◌, Bool, false, IsTrue, List, [], ◌∷◌, ◌++◌, map, flat_map, Option, Some, sum_by}
-use Rattle.std.specs.List.{AllByRecursion, list_any}
+use Rattle.std.specs.Prelude.{◌≡◌, ◌⊎◌, ℕ, ◌+◌, ◌-◌, IsTrue, List, [], ◌++◌, map, flat_map, Option, Some, sum_by}
+use Rattle.std.specs.List.{AllByRecursion}
 use Rattle.log_disk.specs.Disk.{Eye}
 use Rattle.fine_model.specs.declared.FetchFault.{FetchFault}
 use Rattle.fine_model.specs.declared.FetchFault.TheVariants as fault
@@ -9,7 +9,7 @@ use Rattle.fine_model.specs.declared.Part.{Part}
 use Rattle.fine_model.specs.declared.Row.{Row}
 use Rattle.fine_model.specs.Regions.{Image, Place, place_of, HasHeader}
 use Rattle.fine_model.specs.Chain.{AreRowsOf}
-use Rattle.fine_model.specs.Merge.{is_image}
+use Rattle.fine_model.specs.Damages.{has_image_first}
 use Rattle.fine_model.specs.Nodes.{Content, base, replay, rows_of}
 use Rattle.fine_model.specs.RowBytes.{rows_len}
 use Rattle.fine_model.specs.Seek.{SpanHolds, IsBadInSpan, most_taken}
@@ -60,11 +60,6 @@ pub record HasBadRow (known : Option Image) (region_len : ℕ) (part : Part) (id
 pub record ReadsRows (eye : Eye) (id : NodeId) (part : Part) (rows : List Row) : Type 0 where
   pub read : ((rows ≡ []) × LacksNode eye.told part id) ⊎ ((span : Span) × IsSpanOf eye.told part id span × HoldsRows eye.told part id span rows)
   pub exact : (own : List Row) → TellsRows eye part own → rows ≡ rows_of id own
-
--- the first of the parts that were read has an image of the node
-abbrev pub has_image_first : List (Part × List Row) → Bool
-has_image_first [] = false
-has_image_first (r ∷ read) = list_any (λ row. is_image row.rec) r.1
 
 -- A content is the replay of what was read of parts: of all of them, or of those from one with an image of the node on.
 pub record IsReplayOf (eye : Eye) (parts : List Part) (id : NodeId) (found : Content) : Type 0 where

@@ -2,11 +2,13 @@
 #![tactic(auto)]
 
 mod fault;
+mod laws;
 mod rebuild;
 mod replay;
 mod span;
 
 pub use fault::bad_index;
+pub use laws::damage_law;
 pub use rebuild::fetch;
 pub use replay::{base, replayed};
 pub use span::read_span;

@@ -6,10 +6,12 @@ use Rattle.std.proofs.lemmas.List.{length-take, take_at, set_split}
 use Rattle.std.proofs.lemmas.Bool.{le-leb, lt-leb}
 use Rattle.std.proofs.lemmas.Slice.Eq.{bytes_eq-Decides}
 use Rattle.fine_model.specs.Map.{Pair, is_below, get, set, pairs_above}
-use Rattle.fine_model.specs.Nodes.{leaf, linked, added, with_sum, keys_below, keys_above}
+use Rattle.fine_model.specs.Nodes.{linked, added, with_sum, keys_below, keys_above}
 use Rattle.fine_model.specs.NumberText.{number_of}
 use Rattle.fine_model.specs.declared.Node.TheVariants as node
-use Rattle.fine_model.proofs.Order.{is_below-self}
+use Rattle.fine_model.proofs.Order.{is_below-self, all_map}
+use Rattle.fine_model.proofs.Nothing.{finds_none, none_any}
+use Rattle.fine_model.proofs.Sets.{all_append, all_pass}
 use Rattle.node_record.specs.Places.{StandsAt, BelongsAt}
 use Rattle.node_record.proofs.Ordered.{at_drop}
 
@@ -24,33 +26,9 @@ below_differs a b low = not_true (bytes_eq a b) (λ same. true≢false (sym low 
 pub above_differs : (a b : List ℕ) → is_below b a ≡ true → bytes_eq a b ≡ false
 above_differs a b low = not_true (bytes_eq a b) (λ same. true≢false (sym low ∙ ap (is_below b) ((bytes_eq-Decides a b).0 same) ∙ is_below-self b))
 
-all_imply : {A : Type 0} (P Q : A → Type 0) (imply : (x : A) → P x → Q x) (xs : List A) → AllByRecursion P xs → AllByRecursion Q xs
-all_imply P Q imply [] all = tt
-all_imply P Q imply (x ∷ xs) all = (imply x all.0, all_imply P Q imply xs all.1)
-
-pub all_pass : {A : Type 0} (p : A → Bool) (xs : List A) → AllByRecursion (λ x. p x ≡ true) (filter p xs)
-all_pass p [] = tt
-all_pass {A} p (x ∷ xs) = by (p x) refl (all_pass p xs)
-  where
-    by : (b : Bool) → p x ≡ b → AllByRecursion (λ x. p x ≡ true) (filter p xs) → AllByRecursion (λ x. p x ≡ true) (cond b (x ∷ filter p xs) (filter p xs))
-    by true is rest = (is, rest)
-    by false is rest = rest
-
-pub all_append : {A : Type 0} (P : A → Type 0) (xs ys : List A) → AllByRecursion P xs → AllByRecursion P ys → AllByRecursion P (xs ++ ys)
-all_append P [] ys a b = b
-all_append P (x ∷ xs) ys a b = (a.0, all_append P xs ys a.1 b)
-
-find_none : {A : Type 0} (p : A → Bool) (xs : List A) → AllByRecursion (λ x. p x ≡ false) xs → find p xs ≡ None
-find_none p [] all = refl
-find_none p (x ∷ xs) all = ap (λ b. cond b (Some x) (find p xs)) all.0 ∙ find_none p xs all.1
-
 find_behind : {A : Type 0} (p : A → Bool) (front : List A) (x : A) (back : List A) → AllByRecursion (λ y. p y ≡ false) front → p x ≡ true → find p (front ++ x ∷ back) ≡ Some x
 find_behind p [] x back all here = ap (λ b. cond b (Some x) (find p back)) here
 find_behind p (y ∷ front) x back all here = ap (λ b. cond b (Some y) (find p (front ++ x ∷ back))) all.0 ∙ find_behind p front x back all.1 here
-
-any_none : {A : Type 0} (p : A → Bool) (xs : List A) → AllByRecursion (λ x. p x ≡ false) xs → list_any p xs ≡ false
-any_none p [] all = refl
-any_none p (x ∷ xs) all = rw all.0 (any_none p xs all.1)
 
 any_behind : {A : Type 0} (p : A → Bool) (front : List A) (x : A) (back : List A) → AllByRecursion (λ y. p y ≡ false) front → p x ≡ true → list_any p (front ++ x ∷ back) ≡ true
 any_behind p [] x back all here = rw here refl
@@ -59,12 +37,12 @@ any_behind p (y ∷ front) x back all here = rw all.0 (any_behind p front x back
 module _ {A : Type 0} (name : A → List ℕ) (key : List ℕ) (xs : List A) (i : ℕ) where
   pub absent : BelongsAt name key xs i → (P : A → Type 0) → ((x : A) → is_below (name x) key ≡ true → P x) → ((x : A) → is_below key (name x) ≡ true → P x) → AllByRecursion P xs
   absent at P low high =
-      let front : AllByRecursion P (take i xs) = subst (AllByRecursion P) at.lower (all_imply (λ x. is_below (name x) key ≡ true) P low (filter (λ x. is_below (name x) key) xs) (all_pass (λ x. is_below (name x) key) xs)) in
-      let back : AllByRecursion P (drop i xs) = subst (AllByRecursion P) at.higher (all_imply (λ x. is_below key (name x) ≡ true) P high (filter (λ x. is_below key (name x)) xs) (all_pass (λ x. is_below key (name x)) xs)) in
+      let front : AllByRecursion P (take i xs) = subst (AllByRecursion P) at.lower (all_map (λ x. is_below (name x) key ≡ true) P low (filter (λ x. is_below (name x) key) xs) (all_pass (λ x. is_below (name x) key) xs)) in
+      let back : AllByRecursion P (drop i xs) = subst (AllByRecursion P) at.higher (all_map (λ x. is_below key (name x) ≡ true) P high (filter (λ x. is_below key (name x)) xs) (all_pass (λ x. is_below key (name x)) xs)) in
       subst (AllByRecursion P) (take-append-drop i xs) (all_append P (take i xs) (drop i xs) front back)
 
   pub before : StandsAt name key xs i → (P : A → Type 0) → ((x : A) → is_below (name x) key ≡ true → P x) → AllByRecursion P (take i xs)
-  before at P low = subst (AllByRecursion P) at.lower (all_imply (λ x. is_below (name x) key ≡ true) P low (filter (λ x. is_below (name x) key) xs) (all_pass (λ x. is_below (name x) key) xs))
+  before at P low = subst (AllByRecursion P) at.lower (all_map (λ x. is_below (name x) key ≡ true) P low (filter (λ x. is_below (name x) key) xs) (all_pass (λ x. is_below (name x) key) xs))
 
   pub around : (x : A) → slice_get xs i ≡ Some x → xs ≡ take i xs ++ x ∷ drop (suc i) xs
   around x is = sym (take-append-drop i xs) ∙ ap (λ (ys : List A). take i xs ++ ys) (at_drop name xs i x is)
@@ -74,7 +52,7 @@ module _ {A : Type 0} (name : A → List ℕ) (key : List ℕ) (xs : List A) (i 
 module _ (key : List ℕ) (pairs : List Pair) (i : ℕ) where
   pub get_absent : BelongsAt (λ p. p.0) key pairs i → get pairs key ≡ None
   unfolding get
-  get_absent at = rw (find_none (λ p. bytes_eq p.0 key) pairs (absent (λ p. p.0) key pairs i at (λ p. bytes_eq p.0 key ≡ false) (λ p h. below_differs p.0 key h) (λ p h. above_differs p.0 key h))) refl
+  get_absent at = rw (finds_none (λ p. bytes_eq p.0 key) pairs (absent (λ p. p.0) key pairs i at (λ p. bytes_eq p.0 key ≡ false) (λ p h. below_differs p.0 key h) (λ p h. above_differs p.0 key h))) refl
 
   pub get_there : StandsAt (λ p. p.0) key pairs i → (p : Pair) → slice_get pairs i ≡ Some p → get pairs key ≡ Some p.1
   unfolding get
@@ -90,9 +68,6 @@ module _ (key : List ℕ) (pairs : List Pair) (i : ℕ) where
   pub set_there : StandsAt (λ p. p.0) key pairs i → (value : List ℕ) → slice_set pairs i (key, value) ≡ set pairs key value
   unfolding set
   set_there at value = set_split pairs i (key, value) at.within ∙ sym (ap (λ (xs : List Pair). xs ++ (key, value) ∷ pairs_above key pairs) at.lower ∙ ap (λ (xs : List Pair). take i pairs ++ (key, value) ∷ xs) at.higher)
-
-pub leaf_whole : (pairs : List Pair) → length pairs ≤ 32 → leaf pairs ≡ node.Leaf pairs
-leaf_whole pairs few = ap (λ b. cond b (node.Leaf pairs) node.Broken) (le-leb (length pairs) 32 few)
 
 pub added_absent : (pairs : List Pair) (key : List ℕ) (by : ℤ) → get pairs key ≡ None → node.Broken ≡ added pairs key by (get pairs key)
 unfolding added
@@ -118,7 +93,7 @@ link_there key seps kids child i at =
 
 pub link_absent : (key : List ℕ) (seps : List (List ℕ)) (kids : List ℕ) (child i : ℕ) → BelongsAt (λ k. k) key seps i → length seps < 32 → node.Inner (insert seps i key) (insert kids (i + 1) child) ≡ linked seps kids key child
 link_absent key seps kids child i at few =
-    let none : list_any (bytes_eq key) seps ≡ false = any_none (bytes_eq key) seps (absent (λ k. k) key seps i at (λ k. bytes_eq key k ≡ false) (λ k h. above_differs key k h) (λ k h. below_differs key k h)) in
+    let none : list_any (bytes_eq key) seps ≡ false = none_any (bytes_eq key) seps (absent (λ k. k) key seps i at (λ k. bytes_eq key k ≡ false) (λ k h. above_differs key k h) (λ k h. below_differs key k h)) in
     let low : keys_below key seps ≡ take i seps = at.lower in
     let high : keys_above key seps ≡ drop i seps = at.higher in
     let long : length (take i seps) ≡ i = omega (arith, length-take i seps, at.within) in

@@ -7,3 +7,4 @@ pub mod Loop
 pub mod Readers
 pub mod RowsRead
 pub mod RowLaws
+pub mod Fronts

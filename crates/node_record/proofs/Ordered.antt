@@ -1,51 +1,24 @@
--- Items in the order of their keys, and the place of a key among them.
-use Rattle.std.proofs.Common.{◌≡◌, ◌⊎◌, ℕ, zero, suc, ◌+◌, ◌<◌, ◌≤◌, true, false, cond, ◌&&◌, List, [], ◌∷◌, ◌++◌, map, length, take, drop, get_or, slice_get, Some, refl, sym, ap, subst, ◌∙◌, inl, inr, true≢false, arith, append-nil, take-append-drop}
+-- The place of a key among items in the order of their keys.
+use Rattle.std.proofs.Common.{◌≡◌, ◌⊎◌, ℕ, zero, suc, ◌+◌, ◌<◌, ◌≤◌, true, false, cond, List, [], ◌∷◌, ◌++◌, length, take, drop, get_or, slice_get, Some, refl, sym, ap, subst, ◌∙◌, inl, inr, true≢false, arith, append-nil, take-append-drop}
 use Rattle.std.specs.Prelude.{filter}
 use Rattle.std.specs.List.{AllByRecursion}
 use Rattle.std.specs.List.Sorted.{IsPartitionedBy, IsPartitionPoint}
 use Rattle.std.proofs.lemmas.List.{length-take, length-drop, get_or-take, get_or-drop}
 use Rattle.std.proofs.lemmas.List.Elements.{filter-append, recursion_from_All, All-from_recursion}
-use Rattle.fine_model.specs.Map.{is_below, is_ascending}
-use Rattle.fine_model.proofs.Order.{order_cases, is_below-trans, is_below-asym, filter_all, filter_none, all_map, first_of_both}
+use Rattle.fine_model.specs.Map.{is_below}
+use Rattle.fine_model.proofs.Order.{order_cases, is_below-trans, is_below-asym, filter_all, filter_none, all_map}
+use Rattle.fine_model.proofs.InOrder.{AreUp, AreUp-drop}
 use Rattle.node_record.specs.Places.{StandsAt, BelongsAt}
 
 module _ {A : Type 0} (name : A → List ℕ) where
-  -- each item is below all behind it
-  abbrev pub AreUp : List A → Type 0
-  AreUp [] = Unit {0}
-  AreUp (x ∷ xs) = AllByRecursion (λ y. is_below (name x) (name y) ≡ true) xs × AreUp xs
-
-  behind : (key : List ℕ) (x : A) (xs : List A) → is_ascending (map name (x ∷ xs)) ≡ true → (is_below key (name x) ≡ true) ⊎ (key ≡ name x) → AllByRecursion (λ y. is_below key (name y) ≡ true) xs
-  behind key x [] up from = tt
-  behind key x (y ∷ ys) up from = (step from, behind key y ys (first_of_both (is_below (name x) (name y)) (is_ascending (map name (y ∷ ys))) up).1 (inl (step from)))
-    where
-      step : (is_below key (name x) ≡ true) ⊎ (key ≡ name x) → is_below key (name y) ≡ true
-      step (inl h) = is_below-trans key (name x) (name y) h (first_of_both (is_below (name x) (name y)) (is_ascending (map name (y ∷ ys))) up).0
-      step (inr e) = subst (λ k. is_below k (name y) ≡ true) (sym e) (first_of_both (is_below (name x) (name y)) (is_ascending (map name (y ∷ ys))) up).0
-
-  pub AreUp-from_ascending : (xs : List A) → is_ascending (map name xs) ≡ true → AreUp xs
-  AreUp-from_ascending [] up = tt
-  AreUp-from_ascending (x ∷ []) up = (tt, tt)
-  AreUp-from_ascending (x ∷ y ∷ ys) up = (behind (name x) x (y ∷ ys) up (inr refl), AreUp-from_ascending (y ∷ ys) (first_of_both (is_below (name x) (name y)) (is_ascending (map name (y ∷ ys))) up).1)
-
-  pub ascending_from_up : (xs : List A) → AreUp xs → is_ascending (map name xs) ≡ true
-  ascending_from_up [] up = refl
-  ascending_from_up (x ∷ []) up = refl
-  ascending_from_up (x ∷ y ∷ ys) up = ap (λ b. b && is_ascending (map name (y ∷ ys))) up.0.0 ∙ ascending_from_up (y ∷ ys) up.1
-
-  pub AreUp-drop : (n : ℕ) (xs : List A) → AreUp xs → AreUp (drop n xs)
-  AreUp-drop zero xs up = up
-  AreUp-drop (suc n) [] up = up
-  AreUp-drop (suc n) (x ∷ xs) up = AreUp-drop n xs up.1
-
   -- in ascending items, none that is below a key comes after one that is not
-  pub partitioned : (key : List ℕ) (xs : List A) → AreUp xs → IsPartitionedBy (λ x. is_below (name x) key) xs
+  pub partitioned : (key : List ℕ) (xs : List A) → AreUp name xs → IsPartitionedBy (λ x. is_below (name x) key) xs
   partitioned key xs up i j d le lt low = by xs i j up le lt low
     where
       one : (x : A) (xs : List A) (j : ℕ) → AllByRecursion (λ y. is_below (name x) (name y) ≡ true) xs → j < length xs → is_below (name (get_or xs j d)) key ≡ true → is_below (name x) key ≡ true
       one x xs j above lt low = is_below-trans (name x) (name (get_or xs j d)) key (All-from_recursion (λ y. is_below (name x) (name y) ≡ true) xs above j d lt) low
 
-      by : (xs : List A) (i j : ℕ) → AreUp xs → i ≤ j → j < length xs → is_below (name (get_or xs j d)) key ≡ true → is_below (name (get_or xs i d)) key ≡ true
+      by : (xs : List A) (i j : ℕ) → AreUp name xs → i ≤ j → j < length xs → is_below (name (get_or xs j d)) key ≡ true → is_below (name (get_or xs i d)) key ≡ true
       by [] i j up le lt low = absurd (omega arith)
       by (x ∷ xs) zero zero up le lt low = low
       by (x ∷ xs) zero (suc j) up le lt low = one x xs j up.0 (omega arith) low
@@ -86,12 +59,12 @@ module _ {A : Type 0} (name : A → List ℕ) where
   past_end (x ∷ xs) zero le = absurd (omega arith)
   past_end (x ∷ xs) (suc i) le = past_end xs i (omega arith)
 
-  module _ (key : List ℕ) (xs : List A) (i : ℕ) (within : i ≤ length xs) (up : AreUp xs)
+  module _ (key : List ℕ) (xs : List A) (i : ℕ) (within : i ≤ length xs) (up : AreUp name xs)
       (point : IsPartitionPoint (λ x. is_below (name x) key ≡ true) (λ x. is_below (name x) key ≡ false) xs i) where
     -- the item at the place is not above the key, so it has the key
     pub stands_at : (lt : i < length xs) (x : A) → slice_get xs i ≡ Some x → is_below key (name x) ≡ false → StandsAt name key xs i
     stands_at lt x is high =
-        let rest = subst (λ (ys : List A). AreUp ys) (at_drop xs i x is) (AreUp-drop i xs up) in
+        let rest = subst (λ (ys : List A). AreUp name ys) (at_drop xs i x is) (AreUp-drop name i xs up) in
         let low : is_below (name x) key ≡ false = (subst (λ (ys : List A). AllByRecursion (λ x. is_below (name x) key ≡ false) ys) (at_drop xs i x is) (none_after key xs i within point)).0 in
         let same : name x ≡ key = by (order_cases (name x) key) low in
         record {
@@ -111,7 +84,7 @@ module _ {A : Type 0} (name : A → List ℕ) where
     -- the item at the place is above the key
     pub belongs_before : (x : A) → slice_get xs i ≡ Some x → is_below key (name x) ≡ true → BelongsAt name key xs i
     belongs_before x is high =
-        let rest = subst (λ (ys : List A). AreUp ys) (at_drop xs i x is) (AreUp-drop i xs up) in
+        let rest = subst (λ (ys : List A). AreUp name ys) (at_drop xs i x is) (AreUp-drop name i xs up) in
         let above : AllByRecursion (λ y. is_below key (name y) ≡ true) (drop i xs) =
         subst (λ (ys : List A). AllByRecursion (λ y. is_below key (name y) ≡ true) ys) (sym (at_drop xs i x is)) (high, all_map (λ y. is_below (name x) (name y) ≡ true) (λ y. is_below key (name y) ≡ true) (λ y h. is_below-trans key (name x) (name y) high h) (drop (suc i) xs) rest.0) in
         record { within = within; lower = lower_is key xs i within point; higher = higher_is key xs i within point ∙ filter_all (λ x. is_below key (name x)) (drop i xs) above }

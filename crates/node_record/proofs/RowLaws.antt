@@ -9,7 +9,9 @@ use Rattle.fine_model.specs.declared.Mark.{Mark}
 use Rattle.fine_model.specs.declared.Rec.{Rec}
 use Rattle.fine_model.specs.declared.Rec.TheVariants as rec
 use Rattle.fine_model.specs.declared.Row.{Row}
-use Rattle.fine_model.specs.RowBytes.{greatest, last_kind, key_bytes, value_bytes, pair_bytes, kind, body, row_bytes, row_len, FitsKey, FitsPair, FitsChild, FitsRec, FitsRow, BeginsWithRow}
+use Rattle.fine_model.specs.RowBytes.{greatest, last_kind, key_bytes, value_bytes, pair_bytes, kind, body, row_bytes, FitsKey, FitsPair, FitsChild, FitsRec, FitsRow, BeginsWithRow}
+use Rattle.fine_model.proofs.Grammar.{row_long}
+use Rattle.std.proofs.lemmas.Bool.{and_parts}
 use Rattle.node_record.specs.declared.front.Front.{Front}
 use Rattle.node_record.specs.declared.fault.RowFault.{RowFault}
 use Rattle.node_record.specs.declared.fault.RowFault.TheVariants as fault
@@ -17,7 +19,7 @@ use Rattle.node_record.specs.Rows.{IsRowAt, IsFault, IsReadAgain}
 use Rattle.node_record.specs.Reading.{Gives, ◌>>=◌, only, within, byte_at, number_at, head_at, leaf_at, inner_at, put_at, keyed_at, link_at, plus_at, body_at, fits_kind, front_at, row_at}
 use Rattle.node_record.proofs.Changes.{not_true}
 use Rattle.node_record.proofs.Readers.{IsBytes, IsBytes-drop, bind_some, found, some_is, Takes, Takes-then, IsReader, byte_reader, reader_16, reader_32, reader_64, only_reader, map_takes, map_again}
-use Rattle.node_record.proofs.RowsRead.{both_true, within_is, is_within, Body, head_takes, head_again, leaf_takes, leaf_again, inner_takes, inner_again, put_takes, put_again, keyed_takes, keyed_again, link_takes, link_again, plus_takes, plus_again}
+use Rattle.node_record.proofs.RowsRead.{within_is, is_within, Body, head_takes, head_again, leaf_takes, leaf_again, inner_takes, inner_again, put_takes, put_again, keyed_takes, keyed_again, link_takes, link_again, plus_takes, plus_again}
 
 -- ---- bodies of all kinds
 
@@ -119,7 +121,7 @@ module _ (mark : Mark) where
       let t2 = Takes-then bytes (a.0.0 ∷ to_be_bytes w16 b.0.0) b.0.1 (to_be_bytes w32 n.0.0) n.0.1 t1 rn.0 in
       let t3 = Takes-then bytes (a.0.0 ∷ to_be_bytes w16 b.0.0 ++ to_be_bytes w32 n.0.0) n.0.1 (to_be_bytes w64 v.0.0) v.0.1 t2 rv.0 in
       let t4 = Takes-then bytes (a.0.0 ∷ to_be_bytes w16 b.0.0 ++ to_be_bytes w32 n.0.0 ++ to_be_bytes w64 v.0.0) v.0.1 (to_be_bytes w32 m.part) rest t3 m.takes in
-      let number = both_true (leb n.0.0 1048575) (fits_kind a.0.0 n.0.0) rn.1.1 in
+      let number = and_parts (leb n.0.0 1048575) (fits_kind a.0.0 n.0.0) rn.1.1 in
       let version = within_is 1 greatest v.0.0 rv.1.1 in
       subst (λ (x : Front). Takes bytes (front_text x) rest × FrontFits mark x) (sym m.is) (
         t4,
@@ -156,10 +158,6 @@ module _ (mark : Mark) where
       ∙ map_again (number_at w32) (to_be_bytes w32) (λ n. n < 2 ^ 32) (front_of front.kind front.node.bucket front.node.number front.version) reader_32 front.len rest short
 
 -- ---- rows
-
-not_eq : (b : Bool) → not b ≡ true → b ≡ false
-not_eq true h = absurd (true≢false (sym h))
-not_eq false h = refl
 
 -- only node 0 has head images
 head_is : (kind number : ℕ) → fits_kind kind number ≡ true → (number ≡ 0) ↔ (kind ≡ 1)
@@ -252,10 +250,6 @@ pub record Reads (mark : Mark) (bytes : List ℕ) (at : ℕ) (result : Result (R
   pub bad : IfErr result (IsFault mark bytes at)
   pub again : IsReadAgain mark bytes at result
 
-row_length : (row : Row) → length (row_bytes row) ≡ row_len row
-unfolding row_bytes
-row_length row = length-append (front_text (record { kind = kind row.rec; node = row.node; version = row.version; len = length (body row.rec) })) (body row.rec)
-
 read_there : (mark : Mark) (bytes : List ℕ) (at : ℕ) (row : Row) (rest : List ℕ) → BeginsWithRow mark (drop at bytes) row rest → row_at mark (drop at bytes) ≡ Some (row, rest)
 read_there mark bytes at row rest b = ap (row_at mark) b.spelled ∙ row_again mark row rest b.fits
 
@@ -265,7 +259,7 @@ reads mark bytes at (Ok x) start fits given =
     record {
       found = record {
         begins = begins;
-        ends = omega (arith, start, given.0, ap length begins.spelled, length-append (row_bytes x.0) (drop x.1 bytes), row_length x.0, length-drop at bytes, length-drop x.1 bytes);
+        ends = omega (arith, start, given.0, ap length begins.spelled, length-append (row_bytes x.0) (drop x.1 bytes), row_long x.0, length-drop at bytes, length-drop x.1 bytes);
         within = given.0;
       };
       bad = tt;

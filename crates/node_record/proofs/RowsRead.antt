@@ -1,5 +1,5 @@
 -- Reading a row is reading one of the grammar.
-use Rattle.std.proofs.Common.{◌≡◌, ℕ, ◌+◌, ◌^◌, ◌<◌, ◌≤◌, Bool, true, false, leb, ◌&&◌, List, [], ◌∷◌, ◌++◌, map, length, Option, Some, ℤ, pos, negsuc, FitsSigned, refl, sym, ap, subst, ◌∙◌, append_assoc, arith, true≢false, to_z-of_z}
+use Rattle.std.proofs.Common.{◌≡◌, ℕ, ◌+◌, ◌^◌, ◌<◌, ◌≤◌, Bool, true, leb, ◌&&◌, List, [], ◌∷◌, ◌++◌, map, length, Option, Some, ℤ, FitsSigned, refl, sym, ap, subst, ◌∙◌, append_assoc, arith, to_z-of_z}
 use Rattle.std.specs.List.{flat_map}
 use Rattle.std.specs.Int.{w16, w32, w64, to_be_bytes, cast_unsigned, cast_signed}
 use Rattle.std.proofs.lemmas.Int.{of_z-to_z}
@@ -9,15 +9,13 @@ use Rattle.fine_model.specs.declared.Rec.{Rec}
 use Rattle.fine_model.specs.declared.Rec.TheVariants as rec
 use Rattle.fine_model.specs.Map.{Pair, is_ascending}
 use Rattle.fine_model.specs.RowBytes.{key_bytes, value_bytes, pair_bytes, kind, body, FitsKey, FitsValue, FitsPair, FitsChild, FitsRec}
+use Rattle.std.proofs.lemmas.Bool.{and_parts}
+use Rattle.fine_model.proofs.Spelling.{small_bits}
 use Rattle.node_record.specs.Reading.{◌>>=◌, only, within, text_at, byte_at, number_at, signed_at, key_at, value_at, pair_at, child_at, items_at, head_at, leaf_at, inner_at, put_at, keyed_at, link_at, plus_at}
 use Rattle.node_record.proofs.Readers.{IsBytes, bind_some, found, some_is, only_some, only_again, Takes, Takes-then, IsReader, text_takes, text_again, byte_reader, reader_16, reader_32, reader_64, only_reader, items_take, items_again, map_takes, map_again, pair_reader}
 
-pub both_true : (a b : Bool) → (a && b) ≡ true → (a ≡ true) × (b ≡ true)
-both_true true b h = (refl, h)
-both_true false b h = absurd (true≢false (sym h))
-
 pub within_is : (low high n : ℕ) → within low high n ≡ true → (low ≤ n) × (n ≤ high)
-within_is low high n h = let b = both_true (leb low n) (leb n high) h in (leb-true low n b.0, leb-true n high b.1)
+within_is low high n h = let b = and_parts (leb low n) (leb n high) h in (leb-true low n b.0, leb-true n high b.1)
 
 pub is_within : (low high n : ℕ) → low ≤ n → n ≤ high → within low high n ≡ true
 is_within low high n a b = ap (λ x. x && leb n high) (le-leb low n a) ∙ le-leb n high b
@@ -74,10 +72,6 @@ value_reader = record {
 row_pair_reader : IsReader pair_at pair_bytes FitsPair
 unfolding pair_at
 row_pair_reader = pair_reader key_at key_bytes FitsKey value_at value_bytes FitsValue key_reader value_reader
-
-small_bits : (z : ℤ) → FitsSigned w64 z → cast_unsigned w64 z < 2 ^ 64
-small_bits (pos n) fits = omega (arith, fits)
-small_bits (negsuc n) fits = omega (arith, fits)
 
 signed_fits : (n : ℕ) → n < 2 ^ 64 → FitsSigned w64 (cast_signed w64 n)
 signed_fits n lt = sfits_to_z {w = w64} {n = n} (omega (arith, lt))

@@ -1,32 +1,26 @@
 -- Which texts are numbers.
-use Rattle.std.proofs.Common.{◌≡◌, ◌≢◌, ℕ, suc, ◌+◌, ◌*◌, ◌-◌, ◌^◌, ◌<◌, ◌≤◌, Bool, true, false, cond, leb, eqb, ◌&&◌, List, [], ◌∷◌, length, ℤ, pos, negsuc, neg_ℤ, Some, None, Result, Ok, Err, refl, sym, ap, subst, ◌∙◌, true≢false, arith}
+use Rattle.std.proofs.Common.{◌≡◌, ◌≢◌, ℕ, suc, ◌+◌, ◌*◌, ◌-◌, ◌^◌, ◌<◌, Bool, true, false, cond, eqb, ◌&&◌, List, [], ◌∷◌, length, ℤ, pos, negsuc, neg_ℤ, Some, None, Result, Ok, Err, refl, sym, ap, subst, ◌∙◌, arith}
 use Rattle.std.specs.Prelude.{bytes_eq, FitsSigned, fold}
 use Rattle.std.specs.Int.{w64}
 use Rattle.std.specs.Fmt.{decimal, signed_decimal}
 use Rattle.std.specs.Str.{IsUtf8}
 use Rattle.std.specs.Str.Parse.{AllDigits, ParsesSigned}
 use Rattle.std.specs.Int.Signed.{mag}
-use Rattle.std.proofs.lemmas.Bool.{leb-true, le-leb, eqb-true}
+use Rattle.std.proofs.lemmas.Bool.{le-leb, eqb-true}
 use Rattle.std.proofs.lemmas.Str.{IsUtf8-from_ascii}
 use Rattle.std.proofs.lemmas.Str.Parse.{IsNumeralModel, numerals_by_fold, tells_digits, not_in_digits}
 use Rattle.std.proofs.lemmas.Fmt.{digits_decimal, digits_value-decimal, parse-signed_decimal, IsAscii-signed, decimal_nonempty}
 use Rattle.std.proofs.lemmas.Slice.Eq.{bytes_eq-Decides}
 use Rattle.node_record.proofs.Changes.{not_true}
 use Rattle.fine_model.specs.NumberText.{number_text, digits_worth, worth, is_i64, number_of}
+use Rattle.std.proofs.lemmas.Bool.{and_parts}
+use Rattle.fine_model.proofs.NodeBounds.{signed}
 
 abbrev read_on : ℕ → List ℕ → ℕ
 read_on n text = fold (λ n digit. 10 * n + (digit - 48)) n text
 
 model : IsNumeralModel (AllDigits 10) (read_on 0)
 model = numerals_by_fold (AllDigits 10) tells_digits read_on (record { empty = λ n. refl; more = λ n c cs h. ap (λ m. read_on (m + (c - 48)) cs) (omega arith) })
-
-both_true : (a b : Bool) → (a && b) ≡ true → (a ≡ true) × (b ≡ true)
-both_true true b h = (refl, h)
-both_true false b h = absurd (true≢false (sym h))
-
-pub fits_from_test : (z : ℤ) → is_i64 z ≡ true → FitsSigned w64 z
-fits_from_test (pos n) h = let le : n ≤ 9223372036854775807 = leb-true n 9223372036854775807 h in omega arith
-fits_from_test (negsuc n) h = let le : n ≤ 9223372036854775807 = leb-true n 9223372036854775807 (both_true (leb n 9223372036854775807) true h).0 in omega arith
 
 pub test_from_fits : (z : ℤ) → FitsSigned w64 z → is_i64 z ≡ true
 test_from_fits (pos n) h = le-leb n 9223372036854775807 (omega (arith, h))
@@ -65,8 +59,8 @@ no_number text none = by (bytes_eq (number_text (worth text)) text && is_i64 (wo
     by : (b : Bool) → (bytes_eq (number_text (worth text)) text && is_i64 (worth text)) ≡ b → cond b (Some (worth text)) None ≡ None
     by false is = refl
     by true is =
-        let both = both_true (bytes_eq (number_text (worth text)) text) (is_i64 (worth text)) is in
-        absurd (none (worth text) (fits_from_test (worth text) both.1) (sym ((bytes_eq-Decides (number_text (worth text)) text).0 both.0)))
+        let both = and_parts (bytes_eq (number_text (worth text)) text) (is_i64 (worth text)) is in
+        absurd (none (worth text) (signed (worth text) both.1) (sym ((bytes_eq-Decides (number_text (worth text)) text).0 both.0)))
 
 -- a text that is a number fits 64 bits
 pub number_fits : (text : List ℕ) (z : ℤ) → number_of text ≡ Some z → FitsSigned w64 z
@@ -75,7 +69,7 @@ number_fits text z is = by (bytes_eq (number_text (worth text)) text && is_i64 (
   where
     by : (b : Bool) → (bytes_eq (number_text (worth text)) text && is_i64 (worth text)) ≡ b → cond b (Some (worth text)) None ≡ Some z → FitsSigned w64 z
     by false e is = absurd cc
-    by true e is = let same : worth text ≡ z = cc in subst (FitsSigned w64) same (fits_from_test (worth text) (both_true (bytes_eq (number_text (worth text)) text) (is_i64 (worth text)) e).1)
+    by true e is = let same : worth text ≡ z = cc in subst (FitsSigned w64) same (signed (worth text) (and_parts (bytes_eq (number_text (worth text)) text) (is_i64 (worth text)) e).1)
 
 -- what is no text, or is not parsed, is no number
 pub not_text : (text : List ℕ) → (IsUtf8 text → ⊥) → number_of text ≡ None

@@ -9,12 +9,14 @@ mod fault;
 mod fields;
 mod front;
 mod items;
+mod key;
 mod leaves;
 mod places;
 mod replay;
 mod rows;
 
 pub use fault::RowFault;
+pub use key::{RowAt, front_at, sorted_law};
 pub use replay::{apply, image_of};
 pub use rows::{read_row, row_len, write_row};
 

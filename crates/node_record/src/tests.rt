@@ -63,6 +63,24 @@ fn both_ways(rt: &impl Abort, alloc: Global, text: &[u8], row: Row) -> Result<()
     Ok(())
 }
 
+/// The key of the row with which a text begins.
+fn key_of(alloc: Global, text: &[u8]) -> Result<RowAt, Fail> {
+    match read_row(alloc, text, 0, Mark::Two) {
+        Ok(_found) => Ok(front_at(text, 0)),
+        Err(_) => Err(Fail::from("no row")),
+    }
+}
+
+#[test]
+fn keys_are_read_off_the_fronts_of_rows(rt: HostRuntime) -> Result<(), Fail> {
+    for (text, bucket, version, len) in [(&PUT[..], 97, 1, 24), (&PLUS[..], 99, 2, 29)] {
+        let key = key_of(rt.alloc(), text)?;
+        assert_eq!(&rt; (key.node.bucket, key.node.number), (bucket, 1));
+        assert_eq!(&rt; (key.version, key.at, key.len), (version, 0, len));
+    }
+    Ok(())
+}
+
 #[test]
 fn rows_are_read_and_written_byte_by_byte(rt: HostRuntime) -> Result<(), Fail> {
     let alloc = rt.alloc();

@@ -1,2 +1,4 @@
 pub mod ViewLemmas
 pub mod Bits
+pub mod Sets
+pub mod SourceLemmas

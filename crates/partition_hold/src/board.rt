@@ -1,13 +1,13 @@
 //! The board of the views.
 
-ghost use Rattle.std.specs.Prelude.{◌≡◌, ℕ, ◌+◌, ◌*◌, ◌<◌, ◌≤◌, ◌==◌, IfOk, IfSome, IsSome, None, Some, List, length, nat_eq, option_map, replicate, slice_set};
-ghost use Rattle.std.specs.Int.{bit_at};
-ghost use Rattle.std.specs.List.{AllByRecursion, list_any};
+ghost use Rattle.std.specs.Prelude.{◌≡◌, ◌+◌, ◌*◌, ◌<◌, ◌≤◌, IfOk, IfSome, IsSome, None, Some, List, length, option_map, replicate, slice_set};
+ghost use Rattle.std.specs.List.{AllByRecursion};
 ghost use Rattle.log_disk.specs.Disk.{Eye};
 ghost use Rattle.fine_model.specs.Boards.{Buffer, buffer_at, empty_of, first_from, is_empty, names_region, naming_of};
 ghost use Rattle.partition_hold.specs.Boards.{buffers_of, held_of};
 ghost use Rattle.partition_hold.specs.Views.{opened};
 
+use crate::regions::RegionSet;
 use fine_model::NoMemory;
 use log_disk::LogEye;
 use std::alloc::Global;
@@ -17,12 +17,11 @@ use std::snapshot::Snapshot;
 /// The buffers of a seat.
 const BUFFERS: usize = 3;
 
-/// What a buffer holds: the number of an eye, its regions, of which region `r` is bit `r`, and what contracts see of the eye, which
-/// takes no bytes.
+/// What a buffer holds: the number of an eye, its regions, and what contracts see of the eye, which takes no bytes.
 #[derive(Drop)]
 struct Held<E: LogEye> {
     eye: u64,
-    regions: u64,
+    regions: RegionSet,
     seen: Snapshot<E>,
 }
 
@@ -52,21 +51,9 @@ fn is_naming<E: LogEye>(buffer: &Option<Held<E>>, region: u32) -> bool
     ensures { result ≡ names_region region (option_map (held_of E.LogEye.state) buffer.now) }
 {
     match buffer {
-        Some(held) => held.regions >> region & 1 == 1,
+        Some(held) => held.regions.holds(region),
         None => false,
     }
-}
-
-/// The word of some regions.
-fn word_of(regions: &[u32]) -> u64
-    requires { AllByRecursion (λ region. region < 64) regions.now }
-    ensures { (region : ℕ) → region < 64 → (bit_at result region == 1) ≡ list_any (nat_eq region) regions.now }
-{
-    let mut word = 0;
-    for region in regions {
-        word |= 1 << *region;
-    }
-    word
 }
 
 /// The lowest empty one of some buffers.
@@ -123,7 +110,7 @@ impl<E: LogEye> Board<E> {
         let first = BUFFERS * (seat as usize - 1);
         let held = Held {
             eye: eye.number(),
-            regions: word_of(regions),
+            regions: RegionSet::of(regions),
             seen: Snapshot::of(eye),
         };
         let buffer = first_empty(&self.buffers[first..first + BUFFERS]).unwrap();

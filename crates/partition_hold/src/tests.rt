@@ -3,7 +3,7 @@
 ghost use Rattle.std.specs.Prelude.{◌≡◌, None};
 ghost use Rattle.log_disk.specs.Disk.{Eye};
 
-use crate::{Board, View};
+use crate::{Board, RegionSet, View};
 use fine_model::{Items, Node, NodeId};
 use log_disk::{Failed, LogEye};
 use std::test::*;
@@ -79,6 +79,24 @@ fn a_returned_buffer_is_filled_again(rt: HostRuntime) -> Result<(), Fail> {
     assert_eq!(&rt; board.names(2), Some((1, 0)));
     assert_eq!(&rt; board.names(1), None);
     Ok(())
+}
+
+/// The regions of a set are taken lowest first; those that were put in twice are there once.
+#[test]
+fn regions_are_taken_lowest_first(rt: HostRuntime) {
+    let mut set = RegionSet::of(&[63, 5, 0, 5]);
+    assert_eq!(&rt; (set.len(), set.holds(5), set.holds(4)), (3, true, false));
+    set.insert_all(&[4, 63]);
+    set.remove(5);
+    for region in [Some(0), Some(4), Some(63), None] {
+        assert_eq!(&rt; set.take_lowest(), region);
+    }
+    let mut all = RegionSet::below(64);
+    let mut lowest = [9; 3];
+    if all.len() == 64 {
+        all.take_into(&mut lowest);
+    }
+    assert_eq!(&rt; (lowest, all.len(), all.lowest()), ([0, 1, 2], 61, Some(3)));
 }
 
 /// A view without parts has each node as it begins, and gives back the eye that it was made with.

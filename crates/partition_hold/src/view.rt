@@ -1,6 +1,6 @@
 //! The view through which a seat reads.
 
-ghost use Rattle.std.specs.Prelude.{◌≡◌, ℕ, ◌+◌, ◌*◌, ◌<◌, ◌≤◌, List, Any, Contains, IfOk, IfSome, IsErr, IsErrOf, MatchResult, None, Ok, OnErr, length};
+ghost use Rattle.std.specs.Prelude.{◌≡◌, ◌⊎◌, ℕ, ◌+◌, ◌*◌, ◌<◌, ◌≤◌, List, Any, Contains, IfOk, IfSome, IsErr, IsErrOf, MatchResult, None, Ok, OnErr, [], length, true};
 ghost use Rattle.std.specs.List.{AllByRecursion};
 ghost use Rattle.log_disk.specs.Disk.{Eye};
 ghost use Rattle.fine_model.specs.declared.Row.{Row};
@@ -14,13 +14,14 @@ ghost use Rattle.partition_index.specs.Parts.{CountsFaults, IsSeen, LooksAt, bod
 ghost use Rattle.partition_index.specs.Search.{Searches};
 ghost use Rattle.partition_index.specs.Search.{TellsRows as TellsPart};
 ghost use Rattle.node_fetch.specs.Fetched.{HasBadEntry, HasBadRow, IsReplayOf, NoDamage, most_read, most_sought};
+ghost use Rattle.partition_merge.specs.Blocks.{Gives, IsAhead, SameBlocks};
 ghost use Rattle.partition_merge.specs.Mergers.{Answers, AreKept, BlamesEntry, BlamesRow, IsCounted, IsJoinOf, IsMeasureOf, StandsAt, both_left, both_unread, measure_of, most_for, newer_part, next_len, older_part, start_of};
 ghost use Rattle.partition_merge.specs.Merging.{FitRows};
 ghost use Rattle.partition_hold.specs.Views.{IsView, ViewValue, SameView, ViewNames, ViewTells, state_of};
 
 use fine_model::{FetchFault, Node, NodeId, Part, Parts, Rows, ViewLaw};
 use log_disk::{Failed, LogEye};
-use partition_merge::{Measure, Merger};
+use partition_merge::{Blocks, Measure, Merger};
 use std::alloc::Global;
 use std::marker::Model;
 
@@ -200,6 +201,27 @@ impl<E: LogEye> View<E> {
             → self.new.eye.taken ≤ self.old.eye.taken + (28 * ((older_part merger.old).header.nodes + (newer_part merger.old).header.nodes) + (rows_len older + rows_len newer)) }
     {
         merger.measure(self.alloc, &mut self.eye)
+    }
+
+    /// The next block of the body of two merged parts of the view. What the blocks say of an eye holds of the view's. The view is as
+    /// before but for its eye's counts.
+    pub fn next_block(&mut self, blocks: &mut Blocks) -> Result<bool, FetchFault>
+        requires older { Contains self.old.parts (older_part blocks.old.merger) }
+        requires newer { Contains self.old.parts (newer_part blocks.old.merger) }
+        requires region_len { blocks.old.merger.region_len ≡ self.old.region_len }
+        requires kept { AreKept self.old.eye.told blocks.old.merger }
+        ensures same { SameView self.old self.new }
+        ensures blocks { SameBlocks blocks.old blocks.new }
+        ensures counts { CountsFaults (IsErrOf result fetch_fault.Failed) self.old.eye self.new.eye }
+        ensures kept { AreKept self.old.eye.told blocks.new.merger }
+        ensures most { length blocks.new.block ≤ blocks.new.most }
+        ensures some { result ≡ Ok true → 1 ≤ length blocks.new.block }
+        ensures full { IfOk result (λ more. (length blocks.new.block ≡ blocks.new.most) ⊎ ((blocks.new.waiting ≡ []) × (blocks.new.is_whole ≡ true))) }
+        ensures bad_row { (region at : ℕ) → IsErrOf result (fetch_fault.BadRow region at) → BlamesRow self.old.eye.told blocks.old.merger (record { region = region; at = at }) }
+        ensures bad_index { (region at : ℕ) → IsErrOf result (fetch_fault.BadIndex region at) → BlamesEntry self.old.eye.told blocks.old.merger (record { region = region; at = at }) }
+        ensures exact { (handed : List ℕ) (a b : List Row) → IsAhead self.old.eye blocks.old handed a b → MatchResult result (Gives self.new.eye blocks.new handed a b) NoDamage }
+    {
+        blocks.next(self.alloc, &mut self.eye)
     }
 
     /// Reads a range of the body of a part of the view, which may lie over several regions. After `Failed`, what `out` holds is not told.

@@ -1,6 +1,5 @@
 -- The span of a node in a region in the grammar: it holds exactly the node's rows.
-use Rattle.std.proofs.Common.{◌≡◌, ℕ, ◌+◌, ◌-◌, ◌<◌, ◌≤◌, true, List, [], ◌∷◌, ◌++◌, length, take, drop, refl, sym, ap, ◌∙◌, subst, arith, append_assoc, append-nil, take_at, drop_at}
-use Rattle.std.specs.Prelude.{flat_map}
+use Rattle.std.proofs.Common.{◌≡◌, ℕ, ◌+◌, ◌-◌, true, List, ◌++◌, take, drop, refl, sym, ap, ◌∙◌, subst, arith, append_assoc, append-nil, take_at, drop_at}
 use Rattle.std.specs.List.{AllByRecursion}
 use Rattle.std.proofs.lemmas.Grind.{flat_map-append}
 use Rattle.log_disk.specs.Disk.{Eye}
@@ -11,8 +10,8 @@ use Rattle.fine_model.specs.declared.Row.{Row}
 use Rattle.fine_model.specs.Nodes.{is_node, rows_of}
 use Rattle.fine_model.specs.RowBytes.{row_bytes, rows_bytes, rows_len, FitsRow}
 use Rattle.fine_model.specs.Merge.{is_ordered}
-use Rattle.fine_model.specs.Regions.{body_bytes, index_bytes, body_in, row_area}
-use Rattle.fine_model.specs.Seek.{RowSpan, SpanBegins, SpanHolds, span_bytes}
+use Rattle.fine_model.specs.Regions.{index_bytes, body_in, row_area}
+use Rattle.fine_model.specs.Seek.{SpanHolds, span_bytes}
 use Rattle.fine_model.proofs.Grammar.{rows_long}
 use Rattle.fine_model.proofs.NodesIn.{same_node}
 use Rattle.fine_model.proofs.Order.{all_map}

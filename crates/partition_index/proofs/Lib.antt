@@ -12,3 +12,4 @@ pub mod InSpan
 pub mod Placed
 pub mod Bytes
 pub mod Pieces
+pub mod Fed

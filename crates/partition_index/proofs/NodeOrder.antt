@@ -1,18 +1,14 @@
 -- The order of nodes, and what a row more does to the entries of rows.
-use Rattle.std.proofs.Common.{◌≡◌, ◌⊎◌, ℕ, ◌+◌, Bool, true, false, cond, List, [], ◌∷◌, ◌++◌, map, length, refl, sym, ap, ◌∙◌, subst, inl, inr, append-nil, length-append, Ordering, Less, Equal, Greater, is_lt}
-use Rattle.std.specs.Prelude.{filter, fold}
+use Rattle.std.proofs.Common.{◌≡◌, ℕ, ◌+◌, Bool, true, false, cond, List, [], ◌∷◌, ◌++◌, map, length, refl, sym, ap, ◌∙◌, subst, append-nil, length-append}
+use Rattle.std.specs.Prelude.{filter}
 use Rattle.std.specs.List.{AllByRecursion}
-use Rattle.std.specs.Ordering.{ordering_reverse}
-use Rattle.std.proofs.lemmas.Bool.{true≢false}
-use Rattle.std.proofs.lemmas.List.{map-append}
 use Rattle.std.proofs.lemmas.List.Elements.{filter-append}
-use Rattle.std.proofs.lemmas.List.Sums.{fold-append}
 use Rattle.fine_model.specs.declared.NodeId.{NodeId}
 use Rattle.fine_model.specs.declared.Row.{Row}
 use Rattle.fine_model.specs.Nodes.{is_node, rows_of}
 use Rattle.fine_model.specs.RowBytes.{rows_len}
-use Rattle.fine_model.specs.Merge.{node_cmp, is_node_below, with_node, nodes_in}
-use Rattle.fine_model.proofs.NodesIn.{nodes_total, node_cases, is_node_below-self, is_node-self, same_node}
+use Rattle.fine_model.specs.Merge.{is_node_below}
+use Rattle.fine_model.proofs.NodesIn.{is_node_below-self, is_node-self}
 use Rattle.fine_model.proofs.Order.{filter_all, filter_none, all_map}
 use Rattle.partition_index.specs.Entries.{entry_for}
 pub use Rattle.fine_model.proofs.NodeOrder.{AllBelow, below-trans, below-asym, below-other, above_or_same, not_above_below, nodes_more, with_above, with_last}

@@ -17,23 +17,8 @@ use Rattle.fine_model.proofs.Order.{all_map, first_of_both}
 use Rattle.partition_index.specs.Entries.{entry_for}
 use Rattle.partition_index.specs.Index.{is_rising, entries_of, opened, closed, first_of}
 use Rattle.partition_index.specs.declared.entries.IndexEntry.{IndexEntry}
+use Rattle.partition_index.specs.Indexer.{BuiltTo, IsBuilt}
 use Rattle.partition_index.proofs.NodeOrder.{AllBelow, below-trans, below-asym, above_or_same, not_above_below, nodes_more, with_above, with_last, entries_kept, entry_counts, entry_begins}
-
-pub record BuiltTo (rows : List Row) (whole : List IndexEntry) (e : IndexEntry) : Type 0 where
-  pub below : List NodeId
-  pub nodes : nodes_in rows ≡ below ++ e.node ∷ []
-  pub ascend : AllBelow e.node below
-  pub upto : AllByRecursion (λ r. is_node_below e.node r.node ≡ false) rows
-  pub are : whole ≡ map (entry_for rows) below
-  pub is : e ≡ entry_for rows e.node
-  pub front : List Row
-  pub row : Row
-  pub ends : rows ≡ front ++ row ∷ []
-  pub of_row : row.node ≡ e.node
-
-abbrev pub IsBuilt : List Row → List IndexEntry → Option IndexEntry → Type 0
-IsBuilt rows whole None = (rows ≡ []) × (whole ≡ [])
-IsBuilt rows whole (Some e) = BuiltTo rows whole e
 
 pub built_index : (rows : List Row) (whole : List IndexEntry) (open_entry : Option IndexEntry) → IsBuilt rows whole open_entry → closed whole open_entry ≡ entries_of rows
 unfolding entries_of nodes_in

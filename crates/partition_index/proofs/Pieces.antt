@@ -1,5 +1,5 @@
 -- The index of rows that stand node by node.
-use Rattle.std.proofs.Common.{◌≡◌, ℕ, ◌+◌, ◌≤◌, true, false, List, [], ◌∷◌, ◌++◌, map, length, refl, sym, ap, ◌∙◌, subst, arith, append_assoc, append-nil}
+use Rattle.std.proofs.Common.{◌≡◌, ◌+◌, ◌≤◌, true, false, List, [], ◌∷◌, ◌++◌, map, length, refl, sym, ap, ◌∙◌, subst, arith, append_assoc, append-nil}
 use Rattle.std.specs.Prelude.{filter, fold, flat_map}
 use Rattle.std.specs.List.{AllByRecursion}
 use Rattle.std.proofs.lemmas.List.{map-append}
@@ -10,11 +10,10 @@ use Rattle.fine_model.specs.declared.Row.{Row}
 use Rattle.fine_model.specs.Nodes.{is_node, rows_of}
 use Rattle.fine_model.specs.RowBytes.{row_len, rows_len}
 use Rattle.fine_model.specs.Merge.{is_node_below, with_node, nodes_in}
-use Rattle.fine_model.specs.Regions.{index_bytes}
 use Rattle.fine_model.proofs.NodesIn.{is_node_below-self, is_node-self}
 use Rattle.fine_model.proofs.Order.{filter_all, filter_none, all_map}
 use Rattle.partition_index.specs.Entries.{entry_for, bytes_of}
-use Rattle.partition_index.specs.Index.{entries_of, IsNextNode, AreNextNodes, entry_at, entries_from, rows_in, HasEntryMore, IsIndexOf, NextNodeLaw, PiecesLaw}
+use Rattle.partition_index.specs.Index.{entries_of, IsNextNode, AreNextNodes, entry_at, entries_from, rows_in, NextNodeLaw, PiecesLaw}
 use Rattle.partition_index.specs.declared.entries.IndexEntry.{IndexEntry}
 use Rattle.partition_index.proofs.NodeOrder.{AllBelow, below-asym, below-other, with_above, with_last}
 use Rattle.partition_index.proofs.Sorted.{nodes_all}

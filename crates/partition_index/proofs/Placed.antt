@@ -1,5 +1,5 @@
 -- Bytes that are written where an offset of a body stands.
-use Rattle.std.proofs.Common.{◌≡◌, ◌≢◌, ◌⊎◌, ℕ, zero, suc, ◌+◌, ◌-◌, ◌*◌, ◌/◌, ◌%◌, ◌<◌, ◌≤◌, Bool, true, false, not, ◌&&◌, IsTrue, List, [], ◌∷◌, ◌++◌, get_or, length, take, drop, set, refl, sym, ap, ◌∙◌, subst, inl, inr, arith, append_assoc, append-nil, length-append, length-drop, length-take}
+use Rattle.std.proofs.Common.{◌≡◌, ◌≢◌, ◌⊎◌, ℕ, zero, suc, ◌+◌, ◌-◌, ◌*◌, ◌/◌, ◌%◌, ◌<◌, ◌≤◌, Bool, true, false, not, List, [], ◌∷◌, ◌++◌, get_or, length, take, drop, set, refl, sym, ap, ◌∙◌, subst, inl, inr, arith, append_assoc, append-nil, length-append, length-drop, length-take}
 use Rattle.std.specs.Prelude.{flat_map, nat_eq, slice_index, Contains}
 use Rattle.std.specs.List.{AllByRecursion, list_any}
 use Rattle.std.proofs.lemmas.Bool.{cases_lt, cases_eq, true≢false, eq-eqb}
@@ -17,7 +17,6 @@ use Rattle.fine_model.specs.declared.Mark.TheVariants as mark
 use Rattle.fine_model.specs.Trees.{is_distinct}
 use Rattle.fine_model.specs.Regions.{Image, region_of, continuations, body_start, body_in, place_of}
 use Rattle.fine_model.specs.Chain.{regions_of}
-use Rattle.fine_model.specs.ChainLaws.{DiffersBehind}
 use Rattle.fine_model.proofs.BodyPlaces.{holds_byte}
 use Rattle.fine_model.proofs.Nothing.{any_none}
 use Rattle.fine_model.proofs.Order.{all_map, first_of_both}

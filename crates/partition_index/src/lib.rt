@@ -6,6 +6,7 @@
 
 mod built;
 mod entries;
+mod indexer;
 mod places;
 mod search;
 #[cfg(test)]
@@ -13,5 +14,6 @@ mod tests;
 
 pub use built::{build, index_law};
 pub use entries::{IndexEntry, SeekFault, Span, entry_bytes, entry_law, entry_of};
+pub use indexer::Indexer;
 pub use places::{place_of, placed_law, read_body};
 pub use search::{entry_at, seek};

@@ -5,7 +5,8 @@ ghost use Rattle.fine_model.specs.declared.Rec.TheVariants as rec;
 ghost use Rattle.partition_index.specs.Parts.{IsSeen};
 
 use crate::{
-    IndexEntry, SeekFault, Span, build, entry_at, entry_bytes, entry_of, place_of, read_body, seek,
+    IndexEntry, Indexer, SeekFault, Span, build, entry_at, entry_bytes, entry_of, place_of,
+    read_body, seek,
 };
 use fine_model::{Bytes, Header, Items, Mark, NodeId, Part, Range, Rec, Row, Rows};
 use log_disk::{DiskRefusal, FaultPlan, LogDisk, MemDisk, MemEye};
@@ -60,6 +61,25 @@ fn thousand(alloc: Global) -> Result<Vec<u8>, AllocError>
         }))?;
     }
     Ok(bytes)
+}
+
+// The index of one row of 21 bytes.
+fn index_of_one(alloc: Global) -> Result<Vec<u8>, AllocError> {
+    let mut indexer = Indexer::new(Vec::with_capacity(alloc, 14)?);
+    let node = NodeId {
+        bucket: 97,
+        number: 1,
+    };
+    indexer.feed(node, 21);
+    Ok(indexer.finish())
+}
+
+#[test]
+fn an_index_is_written_row_by_row(rt: HostRuntime) -> Result<(), Fail> {
+    let index = index_of_one(rt.alloc()).ok().ok_or("memory")?;
+    let entry = [0, 0x61, 0, 0, 0, 1, 0, 0, 0, 0, 0, 0, 0, 1];
+    assert_eq!(rt; index.as_slice(), entry.as_slice());
+    Ok(())
 }
 
 // An eye on region 0 of a new disk, which holds bytes at 2041, behind the header and the rows.

@@ -5,3 +5,4 @@ pub mod Taken
 pub mod Sources
 pub mod Measured
 pub mod Handed
+pub mod Ahead

@@ -8,11 +8,13 @@ ghost use Rattle.fine_model.specs.Merge.{is_ordered, merged};
 ghost use Rattle.fine_model.specs.Nodes.{is_node};
 ghost use Rattle.partition_merge.specs.Merging.{FitRows, node_at_head, lower, first_node, run_len, begins_above, merged_of, StandsFor};
 
+mod blocks;
 mod fold;
 mod merger;
 #[cfg(test)]
 mod tests;
 
+pub use blocks::Blocks;
 use fine_model::{Copied, Items, NoMemory, NodeId, Row, Rows};
 use fold::folded;
 pub use merger::{Measure, Merger};

@@ -256,6 +256,27 @@ fn node_by_node<E: LogEye>(alloc: Global, eye: &mut E, merger: Merger) -> Result
     Ok(all)
 }
 
+/// How many blocks there are, and how many bytes they have together.
+fn count_blocks<E: LogEye>(
+    alloc: Global,
+    eye: &mut E,
+    blocks: &mut Blocks,
+) -> Result<(usize, usize), FetchFault>
+    requires older { IsSeen (E.LogEye.state eye.old) (older_part blocks.old.merger) }
+    requires newer { IsSeen (E.LogEye.state eye.old) (newer_part blocks.old.merger) }
+    requires region_len { blocks.old.merger.region_len ≡ (E.LogEye.state eye.old).region_len }
+    requires kept { AreKept (E.LogEye.state eye.old).told blocks.old.merger }
+{
+    let mut bytes = 0usize;
+    for count in 0..1_000usize {
+        if !blocks.next(alloc, eye)? {
+            return Ok((count, bytes));
+        }
+        bytes = bytes.saturating_add(blocks.block().len());
+    }
+    Ok((1_000, bytes))
+}
+
 /// Five thousand nodes are in both parts, which have ten thousand each. Measuring leaves the merger at the first node, and what all
 /// calls hand out then is what merging the lists gives.
 #[test]
@@ -275,6 +296,21 @@ fn parts_are_merged_node_by_node(rt: HostRuntime) -> Result<(), Fail> {
     assert_eq!(&rt; eye.taken(), 28 * 20_000 - 2 * 14 + 480_000);
     let whole = merged(alloc, &older, &newer)?;
     assert_eq!(&rt; node_by_node(alloc, &mut eye, merger).ok(), Some(whole));
+    Ok(())
+}
+
+/// The rows of fifteen thousand nodes, and an entry for each.
+#[test]
+fn the_body_comes_in_blocks(rt: HostRuntime) -> Result<(), Fail> {
+    let alloc = rt.alloc();
+    let older = many(alloc, 1, 1, b"1")?;
+    let newer = many(alloc, 5_001, 2, b"2")?;
+    let mut eye = look_at(alloc, &older, &newer, 0)?;
+    let Ok(mut blocks) = Blocks::new(alloc, OLDER, NEWER, LEN, 65_536) else {
+        return Err(Fail::from("no memory"));
+    };
+    let counts = count_blocks(alloc, &mut eye, &mut blocks).ok();
+    assert_eq!(&rt; counts, Some((9, 365_000 + 14 * 15_000)));
     Ok(())
 }
 

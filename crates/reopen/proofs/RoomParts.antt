@@ -1,20 +1,23 @@
 -- The parts of a chain that was seen are those of a room.
-use Rattle.std.proofs.Common.{◌≡◌, ℕ, ◌+◌, ◌<◌, ◌==◌, true, false, List, [], ◌∷◌, ◌++◌, length, map, refl, sym, ap, ◌∙◌, subst, Option, Some, None, Ok, arith, eq-eqb}
-use Rattle.std.specs.Prelude.{IfSome, flat_map, Result}
+use Rattle.std.proofs.Common.{◌≡◌, ℕ, ◌+◌, ◌<◌, ◌≤◌, ◌==◌, ◌&&◌, IsTrue, true, false, List, [], ◌∷◌, ◌++◌, length, map, refl, sym, ap, ◌∙◌, subst, Option, Some, None, Ok, arith, eq-eqb}
+use Rattle.std.specs.Prelude.{IfSome, flat_map, nat_le, Result}
 use Rattle.std.specs.List.{AllByRecursion, list_any}
 use Rattle.fine_model.specs.declared.Part.{Part}
+use Rattle.fine_model.specs.declared.Mark.{Mark}
+use Rattle.fine_model.specs.declared.Mark.TheVariants as mark
 use Rattle.fine_model.specs.declared.Damage.{Damage}
 use Rattle.fine_model.specs.Regions.{Image, region_of, is_sealed, HasHeader}
 use Rattle.fine_model.specs.Chain.{parts_from, chain, regions_of, is_free}
 use Rattle.fine_model.specs.ChainLaws.{PartsFollow, IsPart, IsChain}
 use Rattle.fine_model.proofs.Order.{all_map}
 use Rattle.fine_model.proofs.Sets.{all_append}
-use Rattle.fine_model.proofs.Headers.{good, lies, in_bounds}
+use Rattle.fine_model.proofs.Headers.{Lies, good, lies, in_bounds}
 use Rattle.fine_model.proofs.ReadChain.{ReadChain, read_chain, chain_read}
 use Rattle.fine_model.proofs.ChainFacts.{Fact, all_facts, facts, each_part, chain_law}
 use Rattle.log_disk.specs.Disk.{Disk, Told}
 use Rattle.epoch_room.specs.Value.{all_regions}
-use Rattle.epoch_room.specs.Whole.{FollowOn, AreInChain, AreApart, FitsRegions, AreRising, HoldsParts, AreParts}
+use Rattle.partition_index.specs.Parts.{LiesIn, is_counted}
+use Rattle.epoch_room.specs.Whole.{FollowOn, AreInChain, AreApart, AreRising, HasGeometry, HoldsParts, AreParts}
 use Rattle.reopen.specs.declared.chain.Chain.{Chain}
 use Rattle.reopen.specs.Opening.{SeesChain, beside}
 use Rattle.reopen.proofs.SealedParts.{AreLeads, leads, all_beside, rising_beside, apart_beside, all_leads, distinct}
@@ -32,11 +35,19 @@ all_flat : (P : ℕ → Type 0) (parts : List Part) → AllByRecursion (λ p. Al
 all_flat P [] all = tt
 all_flat P (p ∷ parts) all = all_append P (regions_of p) (flat_map regions_of parts) all.0 (all_flat P parts all.1)
 
--- what a part with its header is, as far as its regions go
-fits_regions : (region_len : ℕ) (image : Image) (p : Part) → HasHeader region_len image p.region p.header → FitsRegions region_len p
-fits_regions region_len image p has =
+-- a part with its header lies in its regions
+lies_in : (region_len : ℕ) (image : Image) (p : Part) → 4096 ≤ region_len → region_len ≤ 67108864 → HasHeader region_len image p.region p.header → LiesIn region_len p.header
+lies_in region_len image p low high has =
     let l = lies region_len (length image) p.region (region_of image p.region) p.header (good region_len (length image) p.region (region_of image p.region) p.header has) in
-    record { has = record { low = l.few.0; high = l.few.1; more = l.long }; long = l.fits }
+    record { large = omega (arith, low); small = high; listed = l.long; counted = by p.header.mark refl l; lies = l.fits }
+  where
+    by : (m : Mark) → p.header.mark ≡ m → Lies region_len p.header → IsTrue (is_counted m p.header.regions)
+    by mark.One is l = eq-eqb p.header.regions 1 (l.alone (λ three. let c : mark.One ≡ mark.Three = sym is ∙ three in cc))
+    by mark.Two is l = eq-eqb p.header.regions 1 (l.alone (λ three. let c : mark.Two ≡ mark.Three = sym is ∙ three in cc))
+    by mark.Three is l = let two = l.several is in let few = l.few.1 in between p.header.regions two few
+      where
+        between : (n : ℕ) → 2 ≤ n → n ≤ 8 → (nat_le 2 n && nat_le n 8) ≡ true
+        between n a b = grind (arith, a, b)
 
 module _ (region_len : ℕ) (image : Image) (live : List Part) (c : ReadChain region_len image live) where
   is_chain : IsChain region_len image live
@@ -85,14 +96,14 @@ module _ (region_len : ℕ) (image : Image) (live : List Part) (c : ReadChain re
   holds : chain region_len image ≡ Ok live → HoldsParts region_len image live retired
   holds is = record { is_chain = is; leads = lead_of; headers = headers }
 
-  are_parts : (is : chain region_len image ≡ Ok live) → (regions : ℕ) → length image ≡ regions → AreInChain live × AreApart regions (live ++ retired) × AllByRecursion (FitsRegions region_len) (live ++ retired) × AreRising (map (λ p. p.region) retired)
-  are_parts is regions long = (
+  are_parts : (is : chain region_len image ≡ Ok live) → 4096 ≤ region_len → region_len ≤ 67108864 → (regions : ℕ) → length image ≡ regions → AreInChain live × AreApart regions (all_regions (live ++ retired)) × AllByRecursion (λ p. LiesIn region_len p.header) (live ++ retired) × AreRising (map (λ p. p.region) retired)
+  are_parts is low high regions long = (
     record { follow = follow_on region_len image 0 live is_chain.follow is_chain.each },
     record {
       distinct = distinct region_len image sealed live retired (apart_beside live sealed) live_facts retired_facts is_chain.distinct (rising_beside live sealed are_leads.rising);
       below = subst (λ n. AllByRecursion (λ r. r < n) (all_regions (live ++ retired))) long below;
     },
-    all_map (λ p. HasHeader region_len image p.region p.header) (FitsRegions region_len) (fits_regions region_len image) (live ++ retired) headers,
+    all_map (λ p. HasHeader region_len image p.region p.header) (λ p. LiesIn region_len p.header) (λ p has. lies_in region_len image p low high has) (live ++ retired) headers,
     rising_beside live sealed are_leads.rising,
   )
 
@@ -101,18 +112,18 @@ told_parts region_len image live others None same h = tt
 told_parts region_len image live others (Some t) same h = subst (λ i. HoldsParts region_len i live others) same h
 
 -- a chain that was seen, and the other sealed parts, are the parts of a room
-pub room_parts : (disk : Disk) (found : Chain) → SeesChain disk found → AreParts disk found.parts found.retired
-room_parts disk found s =
+pub room_parts : (disk : Disk) (found : Chain) → HasGeometry disk → SeesChain disk found → AreParts disk found.parts found.retired
+room_parts disk found geometry s =
     let c = read_chain disk.region_len s.image found.parts s.is_chain in
     let same : c.all ≡ s.sealed =
     let e : ◌≡◌ {A = Result (List Part) Damage} (Ok c.all) (Ok s.sealed) = sym c.are ∙ ap (λ n. parts_from disk.region_len n 0 s.image) s.is_seen.regions ∙ s.are_sealed in cc in
     let retired : beside found.parts c.all ≡ found.retired = ap (beside found.parts) same ∙ sym s.retired in
     subst (AreParts disk found.parts) retired
-    (let p = are_parts disk.region_len s.image found.parts c s.is_chain disk.regions s.is_seen.regions in
+    (let p = are_parts disk.region_len s.image found.parts c s.is_chain geometry.len_low geometry.len_high disk.regions s.is_seen.regions in
     record {
       in_chain = p.0;
       apart = p.1;
-      fit = p.2;
+      lie = p.2;
       rising = p.3;
       told = told_parts disk.region_len s.image found.parts (beside found.parts c.all) disk.told s.is_seen.told (holds disk.region_len s.image found.parts c s.is_chain);
     })

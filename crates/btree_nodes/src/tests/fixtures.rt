@@ -51,6 +51,8 @@ impl NodeSource for Rows {
 
     ghost tells = { λ _ _. ⊥ };
 
+    ghost finds = { λ _ _ _. Unit {0} };
+
     ghost upper = { λ _. 0 };
 
     ghost later = { λ _ _. Unit {0} };
@@ -66,6 +68,8 @@ impl NodeSource for Rows {
     ghost later_tells = { λ _ _ _ _ told. told };
 
     ghost tells_before = { λ _ _ _ _ told. told };
+
+    ghost finds_before = { λ _ _ _ _ _ found. found };
 
     ghost later_upper = { λ _ _ _. refl };
 

@@ -44,6 +44,8 @@ impl NodeSource for Fresh {
 
     ghost tells = { λ _ rows. rows ≡ [] };
 
+    ghost finds = { λ _ id found. found ≡ base id };
+
     ghost upper = { λ _. 0 };
 
     ghost later = { λ _ _. Unit {0} };
@@ -59,6 +61,8 @@ impl NodeSource for Fresh {
     ghost later_tells = { λ _ _ _ _ told. told };
 
     ghost tells_before = { λ _ _ _ _ told. told };
+
+    ghost finds_before = { λ _ _ _ _ _ found. found };
 
     ghost later_upper = { λ _ _ _. refl };
 

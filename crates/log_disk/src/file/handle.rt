@@ -3,7 +3,7 @@
 //! A handle keeps for contracts what its file was asked last and whether that failed, which takes no memory. That the system
 //! then does what it was asked, and fails only where the device does, no contract can say.
 
-ghost use Rattle.std.specs.Prelude.{◌≡◌, true, false, length, IfOk, OnOk, is_err};
+ghost use Rattle.std.specs.Prelude.{◌≡◌, true, false, length, Some, IfOk, OnOk, is_err};
 ghost use Rattle.log_disk.specs.declared.file.handle.FileAsk.TheVariants as ask;
 
 use std::fs::{File, Files, OpenOptions};
@@ -17,7 +17,7 @@ pub enum FileAsk {
     Open,
     Lock,
     Len,
-    SetLen { len: u64 },
+    Fill { len: u64 },
     Read { from: u64, len: usize },
     Write { from: u64, len: usize },
     Sync,
@@ -36,7 +36,7 @@ pub(crate) struct Handle {
     pub(crate) file: File,
     pub(crate) path: Snapshot<String>,
     pub(crate) locked: Snapshot<bool>,
-    pub(crate) len: Snapshot<u64>,
+    pub(crate) len: Snapshot<Option<u64>>,
     pub(crate) last: Snapshot<FileCall>,
 }
 
@@ -57,7 +57,7 @@ impl Handle {
             file,
             path: Snapshot::of(path),
             locked: Snapshot::of(&false),
-            len: Snapshot::of(&0),
+            len: Snapshot::of(&None),
             last: Handle::call(FileAsk::Open, false),
         })
     }
@@ -93,28 +93,30 @@ impl Handle {
 
     /// The file's length.
     pub(crate) fn len(&mut self) -> io::Result<u64>
-        ensures len { IfOk result (λ len. len ≡ self.new.len.value) }
+        ensures len { IfOk result (λ len. self.new.len.value ≡ Some len) }
         ensures locked { self.new.locked ≡ self.old.locked }
         ensures path { self.new.path ≡ self.old.path }
     {
         let found = self.file.metadata();
         self.last = Handle::call(FileAsk::Len, found.is_err());
         let len = found?.len();
-        self.len = Snapshot::of(&len);
+        self.len = Snapshot::of(&Some(len));
         Ok(len)
     }
 
-    /// Cuts the file to a length, or fills it with zeros up to it. No other process has the file.
-    pub(crate) fn set_len(&mut self, len: u64) -> io::Result<()>
-        requires { self.old.locked.value ≡ true }
-        ensures len { OnOk result (self.new.len.value ≡ len) }
+    /// Fills an empty file with zeros up to a length. No other process has the file, and it was found empty last: so no call
+    /// cuts or wipes a log.
+    pub(crate) fn fill(&mut self, len: u64) -> io::Result<()>
+        requires locked { self.old.locked.value ≡ true }
+        requires is_empty { self.old.len.value ≡ Some 0 }
+        ensures len { OnOk result (self.new.len.value ≡ Some len) }
         ensures locked { self.new.locked ≡ self.old.locked }
         ensures path { self.new.path ≡ self.old.path }
     {
         let done = self.file.set_len(len);
-        self.last = Handle::call(FileAsk::SetLen { len }, done.is_err());
+        self.last = Handle::call(FileAsk::Fill { len }, done.is_err());
         done?;
-        self.len = Snapshot::of(&len);
+        self.len = Snapshot::of(&Some(len));
         Ok(())
     }
 

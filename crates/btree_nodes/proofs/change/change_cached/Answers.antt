@@ -1,7 +1,5 @@
 use Rattle.std.proofs.Common.{Bool, true, false, ◌≡◌, sym, true≢false}
 use Rattle.std.specs.Bool.{OnTrue}
-use Rattle.node_cache.specs.Changing.{IsPairChange}
-use Rattle.btree_nodes.specs.Changes.{Pushes}
 use Rattle.btree_nodes.proofs.Changed.{pair_pushed}
 use Rattle.btree_nodes.proofs.change.change_cached.Goals as goal
 

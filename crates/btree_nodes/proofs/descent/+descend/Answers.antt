@@ -42,9 +42,9 @@ returns-clause-way g t c =
     let here : IsCached mid c.args.number = (c.in_ok-reach.ensures).there in
     let above : 0 < c.args.height = omega arith in
     let kept = (c.in-Some.ensures).kept in
-    let low = kept_stays _ _ _ mid c.reach.ensures.loaded c.args.low c.requires.low in
-    let high = kept_stays _ _ _ mid c.reach.ensures.loaded c.args.high c.requires.high in
-    let step = step_stays _ _ mid c.descend.new.bucket c.descend.ensures.loaded c.args.next c.args.key.now c.args.low c.args.high c.args.number c.in-Some.step here low high kept.0 kept.1 (c.in-Some.ensures).step in
+    let low = kept_stays _ _ _ _ mid c.reach.ensures.loaded c.args.low c.requires.low in
+    let high = kept_stays _ _ _ _ mid c.reach.ensures.loaded c.args.high c.requires.high in
+    let step = step_stays _ _ _ mid c.descend.new.bucket c.descend.ensures.loaded c.args.next c.args.key.now c.args.low c.args.high c.args.number c.in-Some.step here low high kept.0 kept.1 (c.in-Some.ensures).step in
     descends_on c.descend.new.bucket c.args.next c.args.key.now c.args.low c.args.high c.args.number c.in-Some.step step c.args.height _ _ (λ f h. g.met.S.NodeSource.fails_earlier _ _ _ f c.reach.ensures.later h) above c.descend.result c.descend.ensures.way
 
 pub returns-in_err-reach-clause-on_way : goal.returns-in_err-reach-clause-on_way
@@ -65,14 +65,14 @@ returns-clause-on_way g t c =
     let here : IsCached mid c.args.number = (c.in_ok-reach.ensures).there in
     let above : 0 < c.args.height = omega arith in
     let kept = (c.in-Some.ensures).kept in
-    let low = kept_stays _ _ _ mid c.reach.ensures.loaded c.args.low c.requires.low in
-    let high = kept_stays _ _ _ mid c.reach.ensures.loaded c.args.high c.requires.high in
-    let step = step_stays _ _ mid c.descend.new.bucket c.descend.ensures.loaded c.args.next c.args.key.now c.args.low c.args.high c.args.number c.in-Some.step here low high kept.0 kept.1 (c.in-Some.ensures).step in
+    let low = kept_stays _ _ _ _ mid c.reach.ensures.loaded c.args.low c.requires.low in
+    let high = kept_stays _ _ _ _ mid c.reach.ensures.loaded c.args.high c.requires.high in
+    let step = step_stays _ _ _ mid c.descend.new.bucket c.descend.ensures.loaded c.args.next c.args.key.now c.args.low c.args.high c.args.number c.in-Some.step here low high kept.0 kept.1 (c.in-Some.ensures).step in
     among_step c.args.bucket.now mid c.descend.new.bucket c.args.key.now c.args.height c.args.number c.in-Some.step.number above step.number c.reach.ensures.among c.descend.ensures.on_way
 
 pub returns-clause-loaded : goal.returns-clause-loaded
 returns-clause-loaded g t c =
-    loaded_then _ _ _ _ _ c.reach.new.bucket _ (λ rows. g.met.S.NodeSource.later_tells _ _ rows c.reach.ensures.later) (g.met.S.NodeSource.later_upper _ _ c.reach.ensures.later) c.reach.ensures.loaded c.descend.ensures.loaded
+    loaded_then _ _ _ _ _ _ _ c.reach.new.bucket _ (λ rows. g.met.S.NodeSource.later_tells _ _ rows c.reach.ensures.later) (λ id found. g.met.S.NodeSource.finds_before _ _ id found c.reach.ensures.later) (g.met.S.NodeSource.later_upper _ _ c.reach.ensures.later) c.reach.ensures.loaded c.descend.ensures.loaded
 
 pub returns-clause-clean : goal.returns-clause-clean
 returns-clause-clean g t c =
@@ -89,7 +89,7 @@ returns-clause-used g t c =
     let here : IsCached mid c.args.number = (c.in_ok-reach.ensures).there in
     let above : 0 < c.args.height = omega arith in
     let kept = (c.in-Some.ensures).kept in
-    let low = kept_stays _ _ _ mid c.reach.ensures.loaded c.args.low c.requires.low in
-    let high = kept_stays _ _ _ mid c.reach.ensures.loaded c.args.high c.requires.high in
-    let step = step_stays _ _ mid c.descend.new.bucket c.descend.ensures.loaded c.args.next c.args.key.now c.args.low c.args.high c.args.number c.in-Some.step here low high kept.0 kept.1 (c.in-Some.ensures).step in
+    let low = kept_stays _ _ _ _ mid c.reach.ensures.loaded c.args.low c.requires.low in
+    let high = kept_stays _ _ _ _ mid c.reach.ensures.loaded c.args.high c.requires.high in
+    let step = step_stays _ _ _ mid c.descend.new.bucket c.descend.ensures.loaded c.args.next c.args.key.now c.args.low c.args.high c.args.number c.in-Some.step here low high kept.0 kept.1 (c.in-Some.ensures).step in
     on_ok c.descend.result (used_step c.args.bucket.now mid c.descend.new.bucket c.args.key.now c.args.height c.args.number c.in-Some.step.number above step.number (c.in_ok-reach.ensures).used) c.descend.ensures.used

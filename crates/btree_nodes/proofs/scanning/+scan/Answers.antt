@@ -31,9 +31,9 @@ scan_from-returns-clause-way g t c =
     let b = c.scan_kids.new.bucket in
     let here : IsCached mid c.args.at.number = (c.in_ok-reach.ensures).there in
     let above : 0 < c.args.height = omega arith in
-    let low = kept_stays _ _ _ mid c.reach.ensures.loaded c.args.at.low c.requires.low in
-    let high = kept_stays _ _ _ mid c.reach.ensures.loaded c.args.at.high c.requires.high in
-    let inner = inner_stays _ _ mid b c.scan_kids.ensures.loaded c.args.next c.args.at here low high (sym c.is_inner_within.ensures ∙ c.if-not-is_inner_within.false) in
+    let low = kept_stays _ _ _ _ mid c.reach.ensures.loaded c.args.at.low c.requires.low in
+    let high = kept_stays _ _ _ _ mid c.reach.ensures.loaded c.args.at.high c.requires.high in
+    let inner = inner_stays _ _ _ mid b c.scan_kids.ensures.loaded c.args.next c.args.at here low high (sym c.is_inner_within.ensures ∙ c.if-not-is_inner_within.false) in
     kids_answer b c.args.height c.args.next c.args.low.now c.args.high.now c.args.at c.args.wanted c.args.out.now c.scan_kids.new.out _ _ (λ f h. g.met.S.NodeSource.fails_earlier _ _ _ f c.reach.ensures.later h) above inner c.scan_kids.result c.scan_kids.ensures.way
 
 pub scan_kids-returns-then-wanted-eq0-clause-way :
@@ -54,8 +54,8 @@ scan_kids-returns-then-not-child_meets-clause-way g t c =
     let kept = (c.in-Some.ensures).kept in
     let of : IsChildOf b c.args.next c.args.at c.args.place child = record { there = c.requires.there; low = c.requires.low; high = c.requires.high; inner = c.requires.inner; is = (c.in-Some.ensures).child; child_low = kept.0; child_high = kept.1 } in
     let none = sym c.child_meets.ensures ∙ c.if-not-child_meets.true in
-    passed_over d (c.args.height - 1) c.args.next c.args.low.now c.args.high.now c.args.at c.args.place child (child_stays _ _ b d c.scan_kids.ensures.loaded c.args.next c.args.at c.args.place child of)
-    c.args.wanted c.args.out.now c.scan_kids.new.out _ (ap (meets c.args.low.now c.args.high.now) (child_bounds _ _ b d c.scan_kids.ensures.loaded c.args.next c.args.at c.args.place child of) ∙ none) c.scan_kids.result c.scan_kids.ensures.way
+    passed_over d (c.args.height - 1) c.args.next c.args.low.now c.args.high.now c.args.at c.args.place child (child_stays _ _ _ b d c.scan_kids.ensures.loaded c.args.next c.args.at c.args.place child of)
+    c.args.wanted c.args.out.now c.scan_kids.new.out _ (ap (meets c.args.low.now c.args.high.now) (child_bounds _ _ _ b d c.scan_kids.ensures.loaded c.args.next c.args.at c.args.place child of) ∙ none) c.scan_kids.result c.scan_kids.ensures.way
 
 pub scan_kids-scan_from-requires : goal.scan_kids-scan_from-requires
 scan_kids-scan_from-requires g t c κs within =
@@ -69,15 +69,15 @@ scan_kids-returns-in_err-left-clause-way g t c =
     let child = c.in-Some.child in
     let kept = (c.in-Some.ensures).kept in
     let of : IsChildOf b c.args.next c.args.at c.args.place child = record { there = c.requires.there; low = c.requires.low; high = c.requires.high; inner = c.requires.inner; is = (c.in-Some.ensures).child; child_low = kept.0; child_high = kept.1 } in
-    let some = ap (meets c.args.low.now c.args.high.now) (child_bounds _ _ b d c.scan_from.ensures.loaded c.args.next c.args.at c.args.place child of) ∙ sym c.child_meets.ensures ∙ c.if-not-child_meets.false in
+    let some = ap (meets c.args.low.now c.args.high.now) (child_bounds _ _ _ b d c.scan_from.ensures.loaded c.args.next c.args.at c.args.place child of) ∙ sym c.child_meets.ensures ∙ c.if-not-child_meets.false in
     let p = err_from_is_err_and c.from_residual.result c.from_residual.ensures.1 in
     rw (p.1, p.2)
-    (fault_below d (c.args.height - 1) c.args.next c.args.low.now c.args.high.now c.args.at c.args.place child (child_stays _ _ b d c.scan_from.ensures.loaded c.args.next c.args.at c.args.place child of)
+    (fault_below d (c.args.height - 1) c.args.next c.args.low.now c.args.high.now c.args.at c.args.place child (child_stays _ _ _ b d c.scan_from.ensures.loaded c.args.next c.args.at c.args.place child of)
     c.args.wanted some c.if-wanted-eq0.false c.args.out.now c.scan_from.new.out _ c.in_err-left.field-0.0 (c.in_err-left.ensures).way)
 
 pub scan_kids-scan_kids-requires-2 : goal.scan_kids-scan_kids-requires-2
 scan_kids-scan_kids-requires-2 g t c κs within =
-    let inner = inner_stays _ _ c.args.bucket.now c.scan_from.new.bucket c.scan_from.ensures.loaded c.args.next c.args.at c.requires.there c.requires.low c.requires.high c.requires.inner in
+    let inner = inner_stays _ _ _ c.args.bucket.now c.scan_from.new.bucket c.scan_from.ensures.loaded c.args.next c.args.at c.requires.there c.requires.low c.requires.high c.requires.inner in
     search (rules, inner)
 
 pub scan_kids-returns-clause-way : goal.scan_kids-returns-clause-way
@@ -90,18 +90,18 @@ scan_kids-returns-clause-way g t c =
     let child = c.in-Some.child in
     let kept = (c.in-Some.ensures).kept in
     let of : IsChildOf b c.args.next c.args.at c.args.place child = record { there = c.requires.there; low = c.requires.low; high = c.requires.high; inner = c.requires.inner; is = (c.in-Some.ensures).child; child_low = kept.0; child_high = kept.1 } in
-    let of_mid = child_stays _ _ b mid c.scan_from.ensures.loaded c.args.next c.args.at c.args.place child of in
-    let of_d = child_stays _ _ mid d c.scan_kids-2.ensures.loaded c.args.next c.args.at c.args.place child of_mid in
-    let bounds = child_bounds _ _ mid d c.scan_kids-2.ensures.loaded c.args.next c.args.at c.args.place child of_mid in
-    let some = ap (meets low high) (bounds ∙ child_bounds _ _ b mid c.scan_from.ensures.loaded c.args.next c.args.at c.args.place child of) ∙ sym c.child_meets.ensures ∙ c.if-not-child_meets.false in
-    let one = scanned_stays _ _ mid d c.scan_kids-2.ensures.loaded (c.args.height - 1) c.args.next low high (bounds_by (given mid) child.low child.high) child.number c.args.wanted c.in_ok-left.left c.args.out.now c.scan_from.new.out (c.in_ok-left.ensures).way in
+    let of_mid = child_stays _ _ _ b mid c.scan_from.ensures.loaded c.args.next c.args.at c.args.place child of in
+    let of_d = child_stays _ _ _ mid d c.scan_kids-2.ensures.loaded c.args.next c.args.at c.args.place child of_mid in
+    let bounds = child_bounds _ _ _ mid d c.scan_kids-2.ensures.loaded c.args.next c.args.at c.args.place child of_mid in
+    let some = ap (meets low high) (bounds ∙ child_bounds _ _ _ b mid c.scan_from.ensures.loaded c.args.next c.args.at c.args.place child of) ∙ sym c.child_meets.ensures ∙ c.if-not-child_meets.false in
+    let one = scanned_stays _ _ _ mid d c.scan_kids-2.ensures.loaded (c.args.height - 1) c.args.next low high (bounds_by (given mid) child.low child.high) child.number c.args.wanted c.in_ok-left.left c.args.out.now c.scan_from.new.out (c.in_ok-left.ensures).way in
     scanned_on d (c.args.height - 1) c.args.next low high c.args.at c.args.place child of_d c.args.wanted some c.if-wanted-eq0.false c.in_ok-left.left c.args.out.now c.scan_from.new.out c.scan_kids-2.new.out _ _
     (λ f h. g.met.S.NodeSource.fails_earlier _ _ _ f c.scan_from.ensures.later h)
     (subst (λ k. IsScanned d (c.args.height - 1) c.args.next low high k child.number c.args.wanted c.in_ok-left.left c.args.out.now c.scan_from.new.out) (sym bounds) one) c.scan_kids-2.result c.scan_kids-2.ensures.way
 
 pub scan_kids-returns-clause-loaded : goal.scan_kids-returns-clause-loaded
 scan_kids-returns-clause-loaded g t c =
-    loaded_then _ _ _ _ _ c.scan_from.new.bucket _ (λ rows. g.met.S.NodeSource.later_tells _ _ rows c.scan_from.ensures.later) (g.met.S.NodeSource.later_upper _ _ c.scan_from.ensures.later) c.scan_from.ensures.loaded c.scan_kids-2.ensures.loaded
+    loaded_then _ _ _ _ _ _ _ c.scan_from.new.bucket _ (λ rows. g.met.S.NodeSource.later_tells _ _ rows c.scan_from.ensures.later) (λ id found. g.met.S.NodeSource.finds_before _ _ id found c.scan_from.ensures.later) (g.met.S.NodeSource.later_upper _ _ c.scan_from.ensures.later) c.scan_from.ensures.loaded c.scan_kids-2.ensures.loaded
 
 pub scan_from-returns-in_err-reach-clause-on_walk : goal.scan_from-returns-in_err-reach-clause-on_walk
 scan_from-returns-in_err-reach-clause-on_walk g t c = numbers_first _ _ _ _ _ c.args.height _ c.args.at.number c.reach.ensures.among
@@ -124,7 +124,7 @@ scan_kids-returns-then-not-child_meets-clause-on_walk g t c =
     let kept = (c.in-Some.ensures).kept in
     let of : IsChildOf b c.args.next c.args.at c.args.place child = record { there = c.requires.there; low = c.requires.low; high = c.requires.high; inner = c.requires.inner; is = (c.in-Some.ensures).child; child_low = kept.0; child_high = kept.1 } in
     let d = c.scan_kids.new.bucket in
-    walk_past c.args.low.now c.args.high.now d (c.args.height - 1) c.args.next c.args.at c.args.place child (child_stays _ _ b d c.scan_kids.ensures.loaded c.args.next c.args.at c.args.place child of) b c.scan_kids.ensures.on_walk
+    walk_past c.args.low.now c.args.high.now d (c.args.height - 1) c.args.next c.args.at c.args.place child (child_stays _ _ _ b d c.scan_kids.ensures.loaded c.args.next c.args.at c.args.place child of) b c.scan_kids.ensures.on_walk
 
 pub scan_kids-returns-in_err-left-clause-on_walk : goal.scan_kids-returns-in_err-left-clause-on_walk
 scan_kids-returns-in_err-left-clause-on_walk g t c =
@@ -133,8 +133,8 @@ scan_kids-returns-in_err-left-clause-on_walk g t c =
     let kept = (c.in-Some.ensures).kept in
     let of : IsChildOf b c.args.next c.args.at c.args.place child = record { there = c.requires.there; low = c.requires.low; high = c.requires.high; inner = c.requires.inner; is = (c.in-Some.ensures).child; child_low = kept.0; child_high = kept.1 } in
     let d = c.scan_from.new.bucket in
-    let some = ap (meets c.args.low.now c.args.high.now) (child_bounds _ _ b d c.scan_from.ensures.loaded c.args.next c.args.at c.args.place child of) ∙ sym c.child_meets.ensures ∙ c.if-not-child_meets.false in
-    walk_first c.args.low.now c.args.high.now d (c.args.height - 1) c.args.next c.args.at c.args.place child (child_stays _ _ b d c.scan_from.ensures.loaded c.args.next c.args.at c.args.place child of) b some c.scan_from.ensures.on_walk
+    let some = ap (meets c.args.low.now c.args.high.now) (child_bounds _ _ _ b d c.scan_from.ensures.loaded c.args.next c.args.at c.args.place child of) ∙ sym c.child_meets.ensures ∙ c.if-not-child_meets.false in
+    walk_first c.args.low.now c.args.high.now d (c.args.height - 1) c.args.next c.args.at c.args.place child (child_stays _ _ _ b d c.scan_from.ensures.loaded c.args.next c.args.at c.args.place child of) b some c.scan_from.ensures.on_walk
 
 pub scan_kids-returns-clause-on_walk : goal.scan_kids-returns-clause-on_walk
 scan_kids-returns-clause-on_walk g t c =
@@ -144,8 +144,8 @@ scan_kids-returns-clause-on_walk g t c =
     let of : IsChildOf b c.args.next c.args.at c.args.place child = record { there = c.requires.there; low = c.requires.low; high = c.requires.high; inner = c.requires.inner; is = (c.in-Some.ensures).child; child_low = kept.0; child_high = kept.1 } in
     let mid = c.scan_from.new.bucket in
     let d = c.scan_kids-2.new.bucket in
-    let of_mid = child_stays _ _ b mid c.scan_from.ensures.loaded c.args.next c.args.at c.args.place child of in
-    let of_d = child_stays _ _ mid d c.scan_kids-2.ensures.loaded c.args.next c.args.at c.args.place child of_mid in
-    let bounds = child_bounds _ _ mid d c.scan_kids-2.ensures.loaded c.args.next c.args.at c.args.place child of_mid in
-    let some = ap (meets c.args.low.now c.args.high.now) (bounds ∙ child_bounds _ _ b mid c.scan_from.ensures.loaded c.args.next c.args.at c.args.place child of) ∙ sym c.child_meets.ensures ∙ c.if-not-child_meets.false in
-    walk_on c.args.low.now c.args.high.now d (c.args.height - 1) c.args.next c.args.at c.args.place child of_d _ _ b mid c.scan_kids-2.ensures.loaded some bounds c.scan_from.ensures.on_walk c.scan_kids-2.ensures.on_walk
+    let of_mid = child_stays _ _ _ b mid c.scan_from.ensures.loaded c.args.next c.args.at c.args.place child of in
+    let of_d = child_stays _ _ _ mid d c.scan_kids-2.ensures.loaded c.args.next c.args.at c.args.place child of_mid in
+    let bounds = child_bounds _ _ _ mid d c.scan_kids-2.ensures.loaded c.args.next c.args.at c.args.place child of_mid in
+    let some = ap (meets c.args.low.now c.args.high.now) (bounds ∙ child_bounds _ _ _ b mid c.scan_from.ensures.loaded c.args.next c.args.at c.args.place child of) ∙ sym c.child_meets.ensures ∙ c.if-not-child_meets.false in
+    walk_on c.args.low.now c.args.high.now d (c.args.height - 1) c.args.next c.args.at c.args.place child of_d _ _ _ b mid c.scan_kids-2.ensures.loaded some bounds c.scan_from.ensures.on_walk c.scan_kids-2.ensures.on_walk

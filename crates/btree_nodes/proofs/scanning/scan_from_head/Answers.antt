@@ -36,8 +36,8 @@ returns-in_err-scan_from-clause-err g c =
     let low = c.args.low.now in
     let high = c.args.high.now in
     let here : IsCached mid 0 = (c.in_ok-reach.ensures).there in
-    let then_here = loaded_kept _ _ mid b c.scan_from.ensures.loaded 0 here in
-    let same = loaded_given _ _ mid b c.scan_from.ensures.loaded 0 here in
+    let then_here = loaded_kept _ _ _ mid b c.scan_from.ensures.loaded 0 here in
+    let same = loaded_given _ _ _ mid b c.scan_from.ensures.loaded 0 here in
     let says = subst (λ k. SaysHead k.0 c.in-Some.root c.in-Some.next c.in-Some.depth) (sym same) (head_some (given mid 0).0 (c.in-Some.root, c.in-Some.next, c.in-Some.depth) c.in-Some.ensures) in
     let some : (is_below low high && not (c.args.limit == 0)) ≡ true = (λ i. (sym c.is_below.ensures ∙ c.if-not-is_below.false) i && not (ne_eqb c.args.limit 0 c.if-limit-eq0.false i)) in
     let p = err_from_is_err_and c.from_residual-in_err-scan_from.result c.from_residual-in_err-scan_from.ensures.1 in
@@ -51,8 +51,8 @@ returns-clause-ok g c =
     let low = c.args.low.now in
     let high = c.args.high.now in
     let here : IsCached mid 0 = (c.in_ok-reach.ensures).there in
-    let then_here = loaded_kept _ _ mid b c.scan_from.ensures.loaded 0 here in
-    let same = loaded_given _ _ mid b c.scan_from.ensures.loaded 0 here in
+    let then_here = loaded_kept _ _ _ mid b c.scan_from.ensures.loaded 0 here in
+    let same = loaded_given _ _ _ mid b c.scan_from.ensures.loaded 0 here in
     let says = subst (λ k. SaysHead k.0 c.in-Some.root c.in-Some.next c.in-Some.depth) (sym same) (head_some (given mid 0).0 (c.in-Some.root, c.in-Some.next, c.in-Some.depth) c.in-Some.ensures) in
     let some : (is_below low high && not (c.args.limit == 0)) ≡ true = (λ i. (sym c.is_below.ensures ∙ c.if-not-is_below.false) i && not (ne_eqb c.args.limit 0 c.if-limit-eq0.false i)) in
     found_all b low high c.args.limit c.in-Some.root c.in-Some.next c.in-Some.depth then_here says c.in_ok-scan_from.field-0 c.args.out.now c.scan_from.new.out some (c.in_ok-scan_from.ensures).way
@@ -61,7 +61,7 @@ pub returns-in_err-scan_from-clause-on_walk : goal.returns-in_err-scan_from-clau
 returns-in_err-scan_from-clause-on_walk g c =
     let b = c.scan_from.new.bucket in
     let here : IsCached c.reach.new.bucket 0 = (c.in_ok-reach.ensures).there in
-    let same = loaded_given _ _ c.reach.new.bucket b c.scan_from.ensures.loaded 0 here in
+    let same = loaded_given _ _ _ c.reach.new.bucket b c.scan_from.ensures.loaded 0 here in
     let says = subst (λ k. SaysHead k.0 c.in-Some.root c.in-Some.next c.in-Some.depth) (sym same) (head_some (given c.reach.new.bucket 0).0 (c.in-Some.root, c.in-Some.next, c.in-Some.depth) c.in-Some.ensures) in
     numbers_under c.args.low.now c.args.high.now c.args.bucket.now c.reach.new.bucket b c.in-Some.root c.in-Some.next c.in-Some.depth says c.reach.ensures.among c.scan_from.ensures.on_walk
 
@@ -69,6 +69,6 @@ pub returns-clause-on_walk : goal.returns-clause-on_walk
 returns-clause-on_walk g c =
     let b = c.scan_from.new.bucket in
     let here : IsCached c.reach.new.bucket 0 = (c.in_ok-reach.ensures).there in
-    let same = loaded_given _ _ c.reach.new.bucket b c.scan_from.ensures.loaded 0 here in
+    let same = loaded_given _ _ _ c.reach.new.bucket b c.scan_from.ensures.loaded 0 here in
     let says = subst (λ k. SaysHead k.0 c.in-Some.root c.in-Some.next c.in-Some.depth) (sym same) (head_some (given c.reach.new.bucket 0).0 (c.in-Some.root, c.in-Some.next, c.in-Some.depth) c.in-Some.ensures) in
     numbers_under c.args.low.now c.args.high.now c.args.bucket.now c.reach.new.bucket b c.in-Some.root c.in-Some.next c.in-Some.depth says c.reach.ensures.among c.scan_from.ensures.on_walk

@@ -8,4 +8,4 @@ look_up-requires g c = record { bucket = subst (λ (k : ℕ). k < 256) (sym c.re
 
 pub returns-clause-sound : goal.returns-clause-sound
 returns-clause-sound g c =
-    found_soundly _ _ c.args.bucket.now c.look_up.new.bucket c.args.key.now _ c.look_up.result c.requires.bucket c.look_up.ensures.loaded c.look_up.ensures.on_way c.look_up.ensures.answer
+    found_soundly _ _ _ c.args.bucket.now c.look_up.new.bucket c.args.key.now _ c.look_up.result c.requires.bucket c.look_up.ensures.loaded c.look_up.ensures.on_way c.look_up.ensures.answer

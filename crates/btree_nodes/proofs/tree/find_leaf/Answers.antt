@@ -19,8 +19,8 @@ pub returns-in_err-leaf-clause-path : goal.returns-in_err-leaf-clause-path
 returns-in_err-leaf-clause-path g c =
     let b = c.descend.new.bucket in
     let here : IsCached c.reach.new.bucket 0 = (c.in_ok-reach.ensures).there in
-    let then_here = loaded_kept _ _ c.reach.new.bucket b c.descend.ensures.loaded 0 here in
-    let same = loaded_given _ _ c.reach.new.bucket b c.descend.ensures.loaded 0 here in
+    let then_here = loaded_kept _ _ _ c.reach.new.bucket b c.descend.ensures.loaded 0 here in
+    let same = loaded_given _ _ _ c.reach.new.bucket b c.descend.ensures.loaded 0 here in
     let says = subst (λ k. SaysHead k.0 c.in-Some.root c.in-Some.next c.in-Some.depth) (sym same) (head_some (given c.reach.new.bucket 0).0 (c.in-Some.root, c.in-Some.next, c.in-Some.depth) c.in-Some.ensures) in
     let p = err_from_is_err_and c.from_residual-in_err-leaf.result c.from_residual-in_err-leaf.ensures.1 in
     rw (p.1, p.2)
@@ -30,8 +30,8 @@ pub returns-clause-path : goal.returns-clause-path
 returns-clause-path g c =
     let b = c.descend.new.bucket in
     let here : IsCached c.reach.new.bucket 0 = (c.in_ok-reach.ensures).there in
-    let then_here = loaded_kept _ _ c.reach.new.bucket b c.descend.ensures.loaded 0 here in
-    let same = loaded_given _ _ c.reach.new.bucket b c.descend.ensures.loaded 0 here in
+    let then_here = loaded_kept _ _ _ c.reach.new.bucket b c.descend.ensures.loaded 0 here in
+    let same = loaded_given _ _ _ c.reach.new.bucket b c.descend.ensures.loaded 0 here in
     let says = subst (λ k. SaysHead k.0 c.in-Some.root c.in-Some.next c.in-Some.depth) (sym same) (head_some (given c.reach.new.bucket 0).0 (c.in-Some.root, c.in-Some.next, c.in-Some.depth) c.in-Some.ensures) in
     let of_bucket : b.bucket < 256 = subst (λ (k : ℕ). k < 256) (sym (c.descend.ensures.loaded.bucket ∙ c.reach.ensures.loaded.bucket)) c.requires.bucket in
     way_path b c.args.key.now c.in-Some.root c.in-Some.next c.in-Some.depth then_here says c.in_ok-leaf.leaf of_bucket (c.in_ok-leaf.ensures).way
@@ -46,7 +46,7 @@ pub returns-in_err-leaf-clause-on_way : goal.returns-in_err-leaf-clause-on_way
 returns-in_err-leaf-clause-on_way g c =
     let b = c.descend.new.bucket in
     let here : IsCached c.reach.new.bucket 0 = (c.in_ok-reach.ensures).there in
-    let same = loaded_given _ _ c.reach.new.bucket b c.descend.ensures.loaded 0 here in
+    let same = loaded_given _ _ _ c.reach.new.bucket b c.descend.ensures.loaded 0 here in
     let says = subst (λ k. SaysHead k.0 c.in-Some.root c.in-Some.next c.in-Some.depth) (sym same) (head_some (given c.reach.new.bucket 0).0 (c.in-Some.root, c.in-Some.next, c.in-Some.depth) c.in-Some.ensures) in
     way_from_head c.args.bucket.now c.reach.new.bucket b c.args.key.now c.in-Some.root c.in-Some.next c.in-Some.depth says c.reach.ensures.among c.descend.ensures.on_way
 
@@ -54,17 +54,17 @@ pub returns-clause-on_way : goal.returns-clause-on_way
 returns-clause-on_way g c =
     let b = c.descend.new.bucket in
     let here : IsCached c.reach.new.bucket 0 = (c.in_ok-reach.ensures).there in
-    let same = loaded_given _ _ c.reach.new.bucket b c.descend.ensures.loaded 0 here in
+    let same = loaded_given _ _ _ c.reach.new.bucket b c.descend.ensures.loaded 0 here in
     let says = subst (λ k. SaysHead k.0 c.in-Some.root c.in-Some.next c.in-Some.depth) (sym same) (head_some (given c.reach.new.bucket 0).0 (c.in-Some.root, c.in-Some.next, c.in-Some.depth) c.in-Some.ensures) in
     way_from_head c.args.bucket.now c.reach.new.bucket b c.args.key.now c.in-Some.root c.in-Some.next c.in-Some.depth says c.reach.ensures.among c.descend.ensures.on_way
 
 pub returns-in_err-leaf-clause-loaded : goal.returns-in_err-leaf-clause-loaded
 returns-in_err-leaf-clause-loaded g c =
-    loaded_then _ _ _ _ _ c.reach.new.bucket _ (λ rows. g.met.S.NodeSource.later_tells _ _ rows c.reach.ensures.later) (g.met.S.NodeSource.later_upper _ _ c.reach.ensures.later) c.reach.ensures.loaded c.descend.ensures.loaded
+    loaded_then _ _ _ _ _ _ _ c.reach.new.bucket _ (λ rows. g.met.S.NodeSource.later_tells _ _ rows c.reach.ensures.later) (λ id found. g.met.S.NodeSource.finds_before _ _ id found c.reach.ensures.later) (g.met.S.NodeSource.later_upper _ _ c.reach.ensures.later) c.reach.ensures.loaded c.descend.ensures.loaded
 
 pub returns-clause-loaded : goal.returns-clause-loaded
 returns-clause-loaded g c =
-    loaded_then _ _ _ _ _ c.reach.new.bucket _ (λ rows. g.met.S.NodeSource.later_tells _ _ rows c.reach.ensures.later) (g.met.S.NodeSource.later_upper _ _ c.reach.ensures.later) c.reach.ensures.loaded c.descend.ensures.loaded
+    loaded_then _ _ _ _ _ _ _ c.reach.new.bucket _ (λ rows. g.met.S.NodeSource.later_tells _ _ rows c.reach.ensures.later) (λ id found. g.met.S.NodeSource.finds_before _ _ id found c.reach.ensures.later) (g.met.S.NodeSource.later_upper _ _ c.reach.ensures.later) c.reach.ensures.loaded c.descend.ensures.loaded
 
 pub returns-in_err-leaf-clause-clean : goal.returns-in_err-leaf-clause-clean
 returns-in_err-leaf-clause-clean g c =
@@ -79,6 +79,6 @@ pub returns-clause-used : goal.returns-clause-used
 returns-clause-used g c =
     let b = c.descend.new.bucket in
     let here : IsCached c.reach.new.bucket 0 = (c.in_ok-reach.ensures).there in
-    let same = loaded_given _ _ c.reach.new.bucket b c.descend.ensures.loaded 0 here in
+    let same = loaded_given _ _ _ c.reach.new.bucket b c.descend.ensures.loaded 0 here in
     let says = subst (λ k. SaysHead k.0 c.in-Some.root c.in-Some.next c.in-Some.depth) (sym same) (head_some (given c.reach.new.bucket 0).0 (c.in-Some.root, c.in-Some.next, c.in-Some.depth) c.in-Some.ensures) in
     used_under c.args.bucket.now c.reach.new.bucket b c.args.key.now c.in-Some.root c.in-Some.next c.in-Some.depth says.is (c.in_ok-reach.ensures).used (c.in_ok-leaf.ensures).used

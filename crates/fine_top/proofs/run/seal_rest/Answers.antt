@@ -4,8 +4,8 @@ use Rattle.std.specs.Prelude.{OnOk}
 use Rattle.fine_model.specs.declared.RunFault.{RunFault}
 use Rattle.epoch_room.specs.Value.{RoomValue}
 use Rattle.epoch_room.specs.Fitting.{counts_of}
-use Rattle.epoch_room.specs.Steps.{sealed_state, Seals}
-use Rattle.fine_top.specs.Steps.{SealsRest}
+use Rattle.epoch_room.specs.Steps.{sealed_state}
+use Rattle.fine_top.specs.Steps.{Seals, SealsRest}
 use Rattle.fine_top.proofs.run.seal_rest.Goals as goal
 
 pub returns-then-counts-eq0-clause-ok : goal.returns-then-counts-eq0-clause-ok
@@ -18,7 +18,7 @@ seal_epoch-requires-clause-waiting g c κs within = let e : c.counts.result.wait
 
 seals_rest : (old new : RoomValue) → 1 ≤ old.room.waiting → Seals old new → SealsRest old new
 unfolding sealed_state
-seals_rest old new some s = record { none_waits = ap (λ r. r.waiting) s.room; may_seal = inr (some, s) }
+seals_rest old new some s = record { none_waits = ap (λ r. r.waiting) s.does.1.room; may_seal = inr (some, s) }
 
 pub returns-clause-ok : goal.returns-clause-ok
 unfolding counts_of

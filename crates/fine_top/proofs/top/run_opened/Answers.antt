@@ -11,7 +11,7 @@ use Rattle.fine_top.proofs.RunOf.{run_of}
 use Rattle.fine_top.proofs.top.run_opened.Goals as goal
 
 pub make-requires-clause-parts : goal.make-requires-clause-parts
-make-requires-clause-parts g c κs within = room_parts (g.D.LogDisk.state c.args.disk) c.args.opened.log.chain c.requires.sees
+make-requires-clause-parts g c κs within = room_parts (g.D.LogDisk.state c.args.disk) c.args.opened.log.chain c.requires.idle.geometry c.requires.sees
 
 pub returns-in-Ok-clause-ends : goal.returns-in-Ok-clause-ends
 unfolding text_of

@@ -3,14 +3,14 @@ use Rattle.std.proofs.Common.{◌≡◌, ◌≤◌, inl, inr, sym, ap, ◌∙◌
 use Rattle.epoch_room.specs.Value.{RoomValue}
 use Rattle.epoch_room.specs.Whole.{IsWhole}
 use Rattle.epoch_room.specs.Fitting.{counts_of}
-use Rattle.epoch_room.specs.Steps.{sealed_state, Seals}
-use Rattle.fine_top.specs.Steps.{why_of}
+use Rattle.epoch_room.specs.Steps.{sealed_state}
+use Rattle.fine_top.specs.Steps.{why_of, Seals}
 use Rattle.fine_top.proofs.txn.make_room.Goals as goal
 
 -- an epoch has no rows that was sealed just now, or in which nothing waits
 sealed_used : (old new : RoomValue) → Seals old new → new.room.used ≡ 0
 unfolding sealed_state
-sealed_used old new s = ap (λ r. r.used) s.room
+sealed_used old new s = ap (λ r. r.used) s.does.1.room
 
 waiting_used : (value : RoomValue) → IsWhole value → value.room.waiting ≡ 0 → value.room.used ≡ 0
 waiting_used value whole none = (whole.epoch.none none).2

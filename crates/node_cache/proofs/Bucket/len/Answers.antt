@@ -1,4 +1,3 @@
-use Rattle.std.specs.Prelude.{ℕ}
 use Rattle.std.proofs.Common.{subst}
 use Rattle.node_cache.specs.Cache.{Cache, IsCache}
 use Rattle.node_cache.proofs.Kept.{is_cache}

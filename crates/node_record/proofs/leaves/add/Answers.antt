@@ -3,8 +3,9 @@ use Rattle.fine_model.specs.Map.{set}
 use Rattle.fine_model.specs.Nodes.{with_sum}
 use Rattle.fine_model.specs.NumberText.{number_of, number_text, is_i64}
 use Rattle.fine_model.specs.declared.Node.TheVariants as node
+use Rattle.fine_model.proofs.NodeBounds.{signed}
 use Rattle.node_record.proofs.Changes.{get_there, get_absent, set_there, added_absent, added_text, added_sum, not_true}
-use Rattle.node_record.proofs.Texts.{number_fits, fits_from_test, test_from_fits}
+use Rattle.node_record.proofs.Texts.{number_fits, test_from_fits}
 use Rattle.node_record.proofs.leaves.add.Goals as goal
 
 pub returns-in_default-clause-ok : goal.returns-in_default-clause-ok
@@ -23,7 +24,7 @@ returns-in_default-checked_add-clause-ok c =
     let sum : with_sum c.args.pairs.now c.args.key.now (c.in-Some.number +ℤ c.args.by) ≡ node.Broken =
     let n = number_fits c.at.result.now.1 c.in-Some.number number in
     let whole : to_z w64 (of_z w64 c.in-Some.number) +ℤ to_z w64 (of_z w64 c.args.by) ≡ c.in-Some.number +ℤ c.args.by = λ j. to_z-of_z n j +ℤ to_z-of_z c.ranges.by j in
-    let test : is_i64 (c.in-Some.number +ℤ c.args.by) ≡ false = not_true (is_i64 (c.in-Some.number +ℤ c.args.by)) (λ t. c.in_default-checked_add.ensures (subst (FitsSigned w64) (sym whole) (fits_from_test (c.in-Some.number +ℤ c.args.by) t))) in
+    let test : is_i64 (c.in-Some.number +ℤ c.args.by) ≡ false = not_true (is_i64 (c.in-Some.number +ℤ c.args.by)) (λ t. c.in_default-checked_add.ensures (subst (FitsSigned w64) (sym whole) (signed (c.in-Some.number +ℤ c.args.by) t))) in
     ap (λ b. cond b (node.Leaf (set c.args.pairs.now c.args.key.now (number_text (c.in-Some.number +ℤ c.args.by)))) node.Broken) test in
     sym sum ∙ added_sum c.args.pairs.now c.args.key.now c.at.result.now.1 c.args.by c.in-Some.number there number
 

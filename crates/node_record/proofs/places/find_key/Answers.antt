@@ -2,7 +2,8 @@ use Rattle.std.proofs.Common.{◌≡◌, ◌<◌, ◌≤◌, ℕ, true, List, le
 use Rattle.std.proofs.lemmas.List.{map-id}
 use Rattle.std.proofs.lemmas.List.Sorted.{IsPartitionPoint-from_clause}
 use Rattle.fine_model.specs.Map.{is_below, is_ascending}
-use Rattle.node_record.proofs.Ordered.{AreUp, AreUp-from_ascending, partitioned, stands_at, belongs_before, belongs_last}
+use Rattle.fine_model.proofs.InOrder.{AreUp, AreUp-from_ascending}
+use Rattle.node_record.proofs.Ordered.{partitioned, stands_at, belongs_before, belongs_last}
 use Rattle.node_record.proofs.places.find_key.Goals as goal
 use Rattle.node_record.proofs.places.find_key.Goals.{else-i-len-via-then-i-len+else-not-is_below, else-i-len-via-else-i-len}
 

@@ -1,6 +1,6 @@
 use Rattle.std.proofs.Common.{◌≡◌, take}
 use Rattle.fine_model.specs.RowBytes.{rows_len}
-use Rattle.partition_index.proofs.Opened.{IsBuilt}
+use Rattle.partition_index.specs.Indexer.{IsBuilt}
 use Rattle.partition_index.proofs.built.build.Given as goal
 
 abbrev pub invariant-loop-i : goal.invariant-loop-i

@@ -1,17 +1,13 @@
-use Rattle.std.proofs.Common.{◌≡◌, true, not, ◌&&◌, List, [], ◌∷◌, ◌++◌, map, refl, sym, ap, ◌∙◌, Ordering, Less, Equal, Greater, is_lt, nat_cmp}
-use Rattle.std.specs.Prelude.{flat_map}
+use Rattle.std.proofs.Common.{◌≡◌, true, not, ◌&&◌, List, [], ◌∷◌, refl, sym, ap, ◌∙◌, Ordering, Less, Equal, Greater, is_lt, nat_cmp}
 use Rattle.std.specs.Cmp.{IsTotalOrder}
 use Rattle.std.specs.Ordering.{ordering_reverse, ordering_then}
 use Rattle.std.proofs.lemmas.Bool.{true≢false}
 use Rattle.std.proofs.lemmas.Cmp.{nat_cmp_total, on_total, then_total}
-use Rattle.fine_model.specs.declared.NodeId.{NodeId}
 use Rattle.fine_model.specs.declared.Row.{Row}
-use Rattle.fine_model.specs.Merge.{node_cmp, is_row_below, is_ordered, nodes_in}
-use Rattle.fine_model.specs.Regions.{entry_bytes, index_bytes}
+use Rattle.fine_model.specs.Merge.{node_cmp, is_row_below, is_ordered}
 use Rattle.fine_model.proofs.NodesIn.{nodes_total}
 use Rattle.fine_model.proofs.Order.{first_of_both}
-use Rattle.partition_index.specs.Entries.{bytes_of, entry_for}
-use Rattle.partition_index.specs.Index.{is_rising, entries_of}
+use Rattle.partition_index.specs.Index.{is_rising}
 use Rattle.partition_index.proofs.Bytes.{index_is}
 use Rattle.partition_index.proofs.Pieces.{next_node, in_pieces}
 use Rattle.partition_index.proofs.built.index_law.Goals as goal

@@ -1,8 +1,6 @@
-use Rattle.std.proofs.Common.{◌≡◌, ◌∙◌, ℕ, [], ◌∷◌, length, sym, subst, refl, rules, arith, lit<, lit≤}
-use Rattle.log_disk.specs.Disk.{Eye}
+use Rattle.std.proofs.Common.{◌≡◌, ◌∙◌, [], ◌∷◌, sym, subst, refl, arith, lit<, lit≤}
 use Rattle.fine_model.specs.declared.Mark.TheVariants as mark
 use Rattle.fine_model.specs.declared.Part.{Part}
-use Rattle.fine_model.specs.Regions.{region_of}
 use Rattle.partition_index.specs.Parts.{LiesIn, IsSeen}
 use Rattle.partition_index.proofs.Looking.{seen_opened}
 use Rattle.node_fetch.proofs.Told.{map_told}

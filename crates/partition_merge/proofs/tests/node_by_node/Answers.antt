@@ -1,4 +1,4 @@
-use Rattle.std.proofs.Common.{◌≡◌, ◌∙◌, sym, subst, rules, refl}
+use Rattle.std.proofs.Common.{◌∙◌, sym, subst, rules, refl}
 use Rattle.partition_index.specs.Parts.{IsSeen}
 use Rattle.partition_index.proofs.Looking.{seen_same, same_then}
 use Rattle.partition_merge.proofs.tests.node_by_node.Goals as goal

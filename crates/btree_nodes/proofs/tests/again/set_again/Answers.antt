@@ -11,7 +11,7 @@ use Rattle.fine_model.specs.Pushed.{key_of}
 use Rattle.fine_model.specs.Trees.{bucket_of, nodes_of, IsSound}
 use Rattle.node_cache.specs.declared.cached.Cached.{Cached}
 use Rattle.node_cache.specs.Cache.{Cache, cached, original, before, undone, evicted, IsResting}
-use Rattle.node_cache.specs.Given.{given, IsCached}
+use Rattle.node_cache.specs.Given.{Finds, given, IsCached}
 use Rattle.btree_nodes.specs.declared.fault.TreeFault.{TreeFault}
 use Rattle.btree_nodes.specs.declared.fault.TreeFault.TheVariants.{Source, Unfit, BucketFull, Number, NoMemory}
 use Rattle.btree_nodes.specs.Trees.{Serves, Restores, Holds}
@@ -58,9 +58,9 @@ holds_at_rest rows b resting each = record {
     same n here None is h = absurd (true≢false (sym here ∙ ap is_some is))
     same n here (Some kept) is h = given_is b n kept is ∙ h ∙ ap (λ r. nodes_of r b.bucket n) (sym (append-nil rows))
 
-module _ (tells tells' : List Row → Type 0) (on : (rows : List Row) → tells rows → tells' rows) (upper published keep : ℕ) (rows : List Row) (old new gone back : Cache) (log log' : List Row) (c : Call) (P : Cache → Unit {0} → Type 0) (F : FetchFault → Type 0) (r : Result (Unit {0}) TreeFault)
+module _ (tells tells' : List Row → Type 0) (on : (rows : List Row) → tells rows → tells' rows) (finds : Finds) (upper published keep : ℕ) (rows : List Row) (old new gone back : Cache) (log log' : List Row) (c : Call) (P : Cache → Unit {0} → Type 0) (F : FetchFault → Type 0) (r : Result (Unit {0}) TreeFault)
     (resting : IsResting old) (serves : Serves tells old rows) (served : (n : ℕ) → IfSome (cached old n) (λ kept. kept.epoch ≤ published → nodes_of serves.known old.bucket n ≡ nodes_of rows old.bucket n))
-    (change : IsChange tells upper old new log log' c P F r) (restores : Restores new rows)
+    (change : IsChange tells finds upper old new log log' c P F r) (restores : Restores new rows)
     (undone_is : gone ≡ undone new) (restored : (n : ℕ) → cached gone n ≡ before new n) (evicted_is : back ≡ evicted published keep gone)
     (kept_back : (n : ℕ) → IfSome (cached gone n) (λ kept. published < kept.epoch → cached back n ≡ Some kept)) (same_back : (n : ℕ) → IfSome (cached back n) (λ kept. cached gone n ≡ Some kept)) where
   back_bucket : back.bucket ≡ new.bucket
@@ -122,9 +122,9 @@ returns g c = record {
       let first = c.insert.ensures.sound rows serves (subst (Holds old rows) (sym c.requires.first) holds) (subst IsSound (sym (ap (λ l. rows ++ l) c.requires.first ∙ append-nil rows)) sound) in
       let restores = restored_then rows c.args.first.now c.insert.new.log new call (λ (u : Unit {0}). Unit {0}) c.insert.result first in
       let on = λ (known : List Row). g.met.S.NodeSource.later_tells _ _ known c.insert.ensures.later in
-      let then_serves = serves_back _ _ on _ c.args.published c.args.keep rows old new c.undo.new.self c.evict.new.self c.args.first.now c.insert.new.log call _ _ c.insert.result c.requires.resting serves served c.insert.ensures.change restores
+      let then_serves = serves_back _ _ on _ _ c.args.published c.args.keep rows old new c.undo.new.self c.evict.new.self c.args.first.now c.insert.new.log call _ _ c.insert.result c.requires.resting serves served c.insert.ensures.change restores
       c.undo.ensures.nodes c.undo.ensures.restored c.evict.ensures.nodes c.evict.ensures.kept c.evict.ensures.same in
-      let then_holds = holds_back _ _ on _ c.args.published c.args.keep rows old new c.undo.new.self c.evict.new.self c.args.first.now c.insert.new.log call _ _ c.insert.result c.requires.resting serves served c.insert.ensures.change restores
+      let then_holds = holds_back _ _ on _ _ c.args.published c.args.keep rows old new c.undo.new.self c.evict.new.self c.args.first.now c.insert.new.log call _ _ c.insert.result c.requires.resting serves served c.insert.ensures.change restores
       c.undo.ensures.nodes c.undo.ensures.restored c.evict.ensures.nodes c.evict.ensures.kept c.evict.ensures.same in
       subst (λ l. SoundOutcome rows l c.insert-2.new.log c.insert-2.new.bucket call (λ (u : Unit {0}). Unit {0}) c.insert-2.result) c.requires.second
       (c.insert-2.ensures.sound rows then_serves (subst (Holds c.evict.new.self rows) (sym c.requires.second) then_holds) (subst IsSound (sym (ap (λ l. rows ++ l) c.requires.second ∙ append-nil rows)) sound));

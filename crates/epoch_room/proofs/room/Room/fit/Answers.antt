@@ -11,8 +11,8 @@ regions_in-requires-clause-each g c = live_have _ c.self.invariant.0
 pub regions_in-requires-clause-few : goal.regions_in-requires-clause-few
 regions_in-requires-clause-few g c = live_few _ c.self.invariant.0
 
-pub regions_in-requires-then-len-lt-FREE-clause-each : goal.regions_in-requires-then-len-lt-FREE-clause-each
-regions_in-requires-then-len-lt-FREE-clause-each g c = retired_have _ c.self.invariant.0
+pub regions_in-requires-then-len-from-lt-FREE-clause-each : goal.regions_in-requires-then-len-from-lt-FREE-clause-each
+regions_in-requires-then-len-from-lt-FREE-clause-each g c = retired_have _ c.self.invariant.0
 
-pub regions_in-requires-then-len-lt-FREE-clause-few : goal.regions_in-requires-then-len-lt-FREE-clause-few
-regions_in-requires-then-len-lt-FREE-clause-few g c = retired_few _ c.self.invariant.0
+pub regions_in-requires-then-len-from-lt-FREE-clause-few : goal.regions_in-requires-then-len-from-lt-FREE-clause-few
+regions_in-requires-then-len-from-lt-FREE-clause-few g c = retired_few _ c.self.invariant.0

@@ -1,13 +1,12 @@
-use Rattle.std.proofs.Common.{◌≡◌, ◌==◌, ◌∙◌, Some, sym, ap, subst}
-use Rattle.std.specs.Prelude.{option_map, nat_eq, slice_set, IsSome}
-use Rattle.std.specs.Int.{bit_at}
-use Rattle.std.specs.List.{list_any}
+use Rattle.std.proofs.Common.{◌≡◌, ◌∙◌, Some, sym, ap, subst}
+use Rattle.std.specs.Prelude.{option_map, slice_set, IsSome}
 use Rattle.std.proofs.lemmas.List.{map-set}
 use Rattle.fine_model.specs.declared.law.OpenedEye.{OpenedEye}
 use Rattle.fine_model.specs.Boards.{buffer_at, empty_of, set_of}
 use Rattle.partition_hold.specs.Boards.{held_of}
+use Rattle.partition_hold.specs.declared.board.Held.{Held}
 use Rattle.partition_hold.specs.Views.{opened}
-use Rattle.partition_hold.proofs.Bits.{lowest, same_regions}
+use Rattle.partition_hold.proofs.Bits.{lowest}
 use Rattle.partition_hold.proofs.board.Board.post.Goals as goal
 
 pub unwrap-buffer-requires : goal.unwrap-buffer-requires
@@ -27,11 +26,10 @@ pub returns-clause-filled : goal.returns-clause-filled
 returns-clause-filled g c =
     let state = g.E.LogEye.state in
     let at = buffer_at c.args.seat c.unwrap-buffer.result in
-    let regions : (held_of state (record { eye = c.number.result; regions = c.word_of.result; seen = c.of.result })).regions ≡ set_of (state c.args.eye.now).regions =
-    same_regions (λ r. bit_at c.word_of.result r == 1) (λ r. list_any (nat_eq r) c.args.regions.now) c.word_of.ensures ∙ sym (ap set_of c.requires.of_eye) in
-    let told = ap (λ e. (state e).told) c.of.ensures in
-    let same : ◌≡◌ {A = OpenedEye} (held_of state (record { eye = c.number.result; regions = c.word_of.result; seen = c.of.result })) (opened (state c.args.eye.now)) =
-    λ i. record { number = c.number.ensures i; regions = regions i; told = told i } in
-    map-set (option_map (held_of state)) c.self.inside.buffers.items at (Some (record { eye = c.number.result; regions = c.word_of.result; seen = c.of.result }))
-    ∙ ap (λ bs. slice_set bs at (Some (held_of state (record { eye = c.number.result; regions = c.word_of.result; seen = c.of.result })))) c.self.view_is
+    let regions : c.of.result ≡ set_of (state c.args.eye.now).regions = c.of.ensures ∙ sym (ap set_of c.requires.of_eye) in
+    let told = ap (λ e. (state e).told) c.of-2.ensures in
+    let held : Held g.row.E.Denot = record { eye = c.number.result; regions = c.of.result; seen = c.of-2.result } in
+    let same : ◌≡◌ {A = OpenedEye} (held_of state held) (opened (state c.args.eye.now)) = λ i. record { number = c.number.ensures i; regions = regions i; told = told i } in
+    map-set (option_map (held_of state)) c.self.inside.buffers.items at (Some held)
+    ∙ ap (λ bs. slice_set bs at (Some (held_of state held))) c.self.view_is
     ∙ ap (λ eye. slice_set c.args.self.now at (Some eye)) same

@@ -16,7 +16,8 @@ returns-in-Ok-clause-load c =
     let n = c.args.number in
     let done = (c.in-Ok.ensures) in
     let none : is_some (cached old n) ≡ false = ap is_some (sym c.peek.ensures) ∙ copied_there c.peek.result ∙ sym c.if-is_some.ensures in
-    put_loaded (λ rows. rows ≡ []) 0 n old _ _ none done.nodes done.here done.elsewhere (record {
+    put_loaded (λ rows. rows ≡ []) (λ id found. found ≡ base id) 0 n old _ _ none done.nodes done.here done.elsewhere (record {
       epoch = refl;
-      same = λ rows told fine. c.first_node.ensures.first old.bucket ∙ sym (no_rows old.bucket n) ∙ ap (λ r. nodes_of r old.bucket n) (sym told);
+      found = c.first_node.ensures.first old.bucket;
+      same = λ rows told. c.first_node.ensures.first old.bucket ∙ sym (no_rows old.bucket n) ∙ ap (λ r. nodes_of r old.bucket n) (sym told);
     })

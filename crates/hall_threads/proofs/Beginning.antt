@@ -1,0 +1,104 @@
+-- A day begins on a log that shows no rows.
+use Rattle.std.proofs.Common.{◌≡◌, ◌≢◌, ◌⊎◌, inl, inr, ℕ, zero, suc, ◌+◌, ◌<◌, ◌≤◌, List, [], ◌∷◌, ◌++◌, map, length, Option, Some, None, Ok, refl, sym, ap, ◌∙◌, subst, ⊎_elim, arith, le_refl}
+use mathlib.Core.Option.{some, some-injective, some-ne-none}
+use lib.ListN.{get_elem?}
+use Rattle.fine_places.proofs.Lists.{some_same}
+use Rattle.fine_model.specs.declared.Row.{Row}
+use Rattle.fine_model.specs.declared.Node.TheVariants as node
+use Rattle.fine_model.specs.declared.law.ViewState.{ViewState}
+use Rattle.fine_model.specs.Regions.{Image, header_in}
+use Rattle.fine_model.specs.Chain.{Shows, chain, parts_from, apart, chain_of, taken, AreRowsOf}
+use Rattle.fine_model.specs.Nodes.{content, replay, Agrees}
+use Rattle.fine_model.specs.History.{all_rows, upto}
+use Rattle.fine_model.specs.Views.{TellsRowsOf}
+use Rattle.fine_model.specs.Buckets.{Began, node_id}
+use Rattle.fine_model.proofs.Unique.{Shows-unique}
+use Rattle.fine_hall.specs.declared.law.Beginning.{Beginning}
+use Rattle.fine_hall.specs.Laws.{beginning, IsViewFor}
+use Rattle.fine_hall.specs.Halls.{IsFreshHall, IsFreshView, first_board}
+use Rattle.hall_threads.specs.declared.things.DayRoom.{DayRoom}
+use Rattle.hall_threads.specs.declared.things.DayBucket.{DayBucket}
+use Rattle.hall_threads.specs.declared.things.DayView.{DayView}
+use Rattle.hall_threads.specs.Days.{zero_image, day_log, key_bucket, leaf_at, board_of, room_state, room_log, view_state, StandsFor, view_of_log, first_numbers, IsFirstRoom}
+use Rattle.hall_threads.proofs.Standing.{day_stands}
+
+-- ---- the log shows no rows
+
+pub day_shows : Shows 41 zero_image 0 []
+unfolding zero_image chain parts_from header_in apart chain_of taken AreRowsOf
+day_shows = record { parts = []; is_chain = refl; ends = refl; are_rows = refl }
+
+pub none_first : (e : ℕ) (first : List Row) → Began day_log e first → first ≡ []
+none_first e first b = sym (Shows-unique 41 zero_image 0 e [] first day_shows (subst (λ i. Shows 41 i e first) (some_same b.image zero_image (sym b.told)) b.shows)).1
+
+empty_head : (first : List Row) → first ≡ [] → content (first ++ []) (node_id key_bucket 0) ≡ (node.Head 1 2 1, 0)
+unfolding content replay
+empty_head first none = ap (λ (f : List Row). content (f ++ []) (node_id key_bucket 0)) none
+
+empty_leaf : (first : List Row) → first ≡ [] → content (first ++ []) (node_id key_bucket 1) ≡ leaf_at 0 0
+unfolding content replay
+empty_leaf first none = ap (λ (f : List Row). content (f ++ []) (node_id key_bucket 1)) none
+
+-- ---- the views
+
+tells : TellsRowsOf (Some zero_image) 41 [] []
+unfolding AreRowsOf
+tells = record { image = zero_image; is_told = refl; headers = tt; are_rows = refl }
+
+agrees : (first : List Row) → first ≡ [] → Agrees [] (first ++ all_rows (upto [] 0))
+unfolding upto
+agrees first none = subst (λ (f : List Row). Agrees [] (f ++ [])) (sym none) (record { same = λ id whole. refl })
+
+module _ (room : DayRoom) (r : IsFirstRoom room) (fronts : List DayView) where
+  abbrev x : Beginning
+  x = beginning (length fronts) (room_log room) (room_state room) view_state fronts
+
+  fresh_view : (seat buffer eye : ℕ) → IsFreshView x seat buffer (view_state (view_of_log seat buffer eye))
+  fresh_view seat buffer eye = record {
+    place = (refl, refl);
+    upto = sym r.counts.0;
+    clean = refl;
+    shows = record { region_len = refl; since = let e = r.counts.0 in omega (arith, e); tells = λ e first b. ([], tells, agrees first (none_first e first b)) };
+  }
+
+  each : (buffer a b : ℕ) (views : List DayView) → views ≡ view_of_log 1 buffer a ∷ view_of_log 2 buffer b ∷ [] → (i : ℕ) (v : DayView) → get_elem? views i ≡ some v → IsFreshView x (suc i) buffer (view_state v)
+  each buffer a b views is i v at = go i (ap (λ (l : List DayView). get_elem? l i) (sym is) ∙ at)
+    where
+      go : (i : ℕ) → get_elem? (view_of_log 1 buffer a ∷ view_of_log 2 buffer b ∷ []) i ≡ some v → IsFreshView x (suc i) buffer (view_state v)
+      go zero e = subst (λ w. IsFreshView x 1 buffer (view_state w)) (some-injective (view_of_log 1 buffer a) v e) (fresh_view 1 buffer a)
+      go (suc zero) e = subst (λ w. IsFreshView x 2 buffer (view_state w)) (some-injective (view_of_log 2 buffer b) v e) (fresh_view 2 buffer b)
+      go (suc (suc n)) e = absurd (some-ne-none v (sym e))
+
+  pub fresh_hall : (middles : List DayView) → fronts ≡ view_of_log 1 0 1 ∷ view_of_log 2 0 2 ∷ [] → middles ≡ view_of_log 1 1 3 ∷ view_of_log 2 1 4 ∷ [] → IsFreshHall room_state view_state day_stands x room fronts middles
+  fresh_hall middles f m = record {
+    stands = λ e first b. let none = none_first e first b in record {
+      none_first = none;
+      kept = ap (map (λ note. note.value)) r.kept;
+      head = empty_head first none;
+      leaf = empty_leaf first none ∙ (λ i. leaf_at (sym r.counts.1 i) (sym r.value i));
+    };
+    places = r.counts.1;
+    none_waits = r.counts.2;
+    not_shut = refl;
+    no_job = refl;
+    board = ap board_of r.board ∙ (λ i. first_board (map view_state (sym f i)) (map view_state (sym m i)));
+    each_front = each 0 1 2 fronts f;
+    each_middle = each 1 3 4 middles m;
+  }
+
+-- ---- the buckets
+
+snoc_at : {A : Type 0} (l : List A) (a b : A) (j : ℕ) → get_elem? (l ++ a ∷ []) j ≡ some b → (get_elem? l j ≡ some b) ⊎ ((j ≡ length l) × (a ≡ b))
+snoc_at [] a b zero e = inr (refl, some-injective a b e)
+snoc_at [] a b (suc j) e = absurd (some-ne-none b (sym e))
+snoc_at (x ∷ xs) a b zero e = inl e
+snoc_at (x ∷ xs) a b (suc j) e = ⊎_elim (λ p. inl p) (λ p. inr (ap suc p.0, p.1)) (snoc_at xs a b j e)
+
+abbrev pub Fresh : ℕ → DayBucket → Type 0
+Fresh k b = (b.bucket ≡ k) × (b.leaf ≡ None)
+
+pub next_bucket : (l l' : List DayBucket) (n : ℕ) → length l ≡ n → l' ≡ l ++ record { bucket = n; leaf = None } ∷ [] → ((k : ℕ) (b : DayBucket) → get_elem? l k ≡ some b → Fresh k b) → (k : ℕ) (b : DayBucket) → get_elem? l' k ≡ some b → Fresh k b
+next_bucket l l' n long is each k b at = ⊎_elim
+    (λ old. each k b old)
+    (λ new. (sym (ap (λ (h : DayBucket). h.bucket) new.1) ∙ (sym long ∙ sym new.0), sym (ap (λ (h : DayBucket). h.leaf) new.1)))
+    (snoc_at l (record { bucket = n; leaf = None }) b k (ap (λ (m : List DayBucket). get_elem? m k) (sym is) ∙ at))

@@ -1,0 +1,50 @@
+-- A day ends: its passes, and the log at entry.
+use Rattle.std.proofs.Common.{◌≡◌, ◌≢◌, ℕ, zero, suc, ◌+◌, ◌<◌, ◌≤◌, ◌==◌, List, [], ◌∷◌, ◌++◌, length, map, Option, Some, None, refl, sym, ap, ◌∙◌, subst, arith, le_refl, ne_eqb, length-append}
+use Rattle.std.specs.Prelude.{IsPermutation, if◌then◌else◌}
+use mathlib.Core.Option.{some, some-injective, some-ne-none}
+use lib.ListN.{get_elem?}
+use Rattle.fine_model.specs.declared.Row.{Row}
+use Rattle.fine_model.specs.declared.Node.TheVariants as node
+use Rattle.fine_model.specs.Nodes.{content, replay}
+use Rattle.fine_model.specs.Trees.{IsSound, IsFit, IsTree, IsSubtree, reached, is_distinct, is_leaf, nodes_of}
+use Rattle.fine_model.specs.Buckets.{Began}
+use Rattle.fine_hall.specs.Turns.{commits}
+use Rattle.hall_threads.specs.Days.{zero_image, day_log}
+use Rattle.hall_threads.proofs.Beginning.{day_shows}
+
+unused : (bucket n : ℕ) → 2 ≤ n → nodes_of [] bucket n ≡ (node.Leaf [], 0)
+unfolding content replay
+unused bucket n least = ap (λ b. if b then (node.Head 1 2 1, 0) else (node.Leaf [], 0)) (ne_eqb n 0 (λ e. omega (arith, e, least)))
+
+none_sound : IsSound []
+unfolding content replay IsSubtree reached is_distinct
+none_sound = record { fit = λ bucket low. record { deep = le_refl 1; subtree = refl; distinct = refl; below = (omega arith, tt); unused = unused bucket } }
+
+pub day_began : Began day_log 0 []
+day_began = record { image = zero_image; told = refl; shows = day_shows; sound = none_sound }
+
+pub none_yet : commits [] ≡ []
+unfolding commits
+none_yet = refl
+
+pub popped : {A : Type 0} (l rest : List A) (a : A) → l ≡ rest ++ a ∷ [] → get_elem? l (length rest) ≡ some a
+popped {A} l rest a is = ap (λ (m : List A). get_elem? m (length rest)) is ∙ at rest
+  where
+    at : (r : List A) → get_elem? (r ++ a ∷ []) (length r) ≡ some a
+    at [] = refl
+    at (x ∷ r) = at r
+
+pub popped_before : {A : Type 0} (l rest less : List A) (a b : A) → l ≡ rest ++ a ∷ [] → rest ≡ less ++ b ∷ [] → get_elem? l (length less) ≡ some b
+popped_before {A} l rest less a b is was = ap (λ (m : List A). get_elem? m (length less)) (is ∙ ap (λ (m : List A). m ++ a ∷ []) was) ∙ at less
+  where
+    at : (r : List A) → get_elem? ((r ++ b ∷ []) ++ a ∷ []) (length r) ≡ some b
+    at [] = refl
+    at (x ∷ r) = at r
+
+pub two_cases : {A : Type 0} (a b : A) (l : List A) (P : A → Type 0) → l ≡ a ∷ b ∷ [] → P a → P b → (i : ℕ) (p : A) → get_elem? l i ≡ some p → P p
+two_cases {A} a b l P is pa pb i p at = go i (ap (λ (m : List A). get_elem? m i) (sym is) ∙ at)
+  where
+    go : (i : ℕ) → get_elem? (a ∷ b ∷ []) i ≡ some p → P p
+    go zero e = subst P (some-injective a p e) pa
+    go (suc zero) e = subst P (some-injective b p e) pb
+    go (suc (suc n)) e = absurd (some-ne-none p (sym e))

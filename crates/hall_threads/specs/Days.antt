@@ -1,0 +1,188 @@
+-- A small log: a room that keeps its entries, buckets that cache the one leaf that is written, and views of the empty log.
+use Rattle.std.specs.Prelude.{◌≡◌, ℕ, zero, suc, ◌+◌, ◌<◌, ◌≤◌, ◌==◌, if◌then◌else◌, List, [], ◌∷◌, ◌++◌, map, length, replicate, Option, Some, None, option_map, true, false, All}
+use Rattle.fine_model.specs.declared.Entry.{Entry}
+use Rattle.fine_model.specs.declared.Row.{Row}
+use Rattle.fine_model.specs.declared.Call.{Call}
+use Rattle.fine_model.specs.declared.Call.TheVariants as call
+use Rattle.fine_model.specs.declared.Reply.TheVariants as reply
+use Rattle.fine_model.specs.declared.Write.TheVariants as write
+use Rattle.fine_model.specs.declared.Rec.TheVariants as rec
+use Rattle.fine_model.specs.declared.Node.TheVariants as node
+use Rattle.fine_model.specs.declared.law.Origin.{Origin}
+use Rattle.fine_model.specs.declared.law.RoomState.{RoomState}
+use Rattle.fine_model.specs.declared.law.ViewState.{ViewState}
+use Rattle.fine_model.specs.declared.law.OpenedEye.{OpenedEye}
+use Rattle.fine_model.specs.RowBytes.{greatest}
+use Rattle.fine_model.specs.Nodes.{Content, content}
+use Rattle.fine_model.specs.Map.{Pair}
+use Rattle.fine_model.specs.Pushed.{row_of}
+use Rattle.fine_model.specs.Trees.{bucket_of}
+use Rattle.fine_model.specs.History.{Commit, IsLegal, all_rows}
+use Rattle.fine_model.specs.Outcomes.{EpochsFollow}
+use Rattle.fine_model.specs.Room.{IsSealedUpTo}
+use Rattle.fine_places.specs.declared.model.Placed.{Placed}
+use Rattle.fine_places.specs.History.{by_seat}
+use Rattle.fine_hall.specs.declared.turn.Turn.{Turn}
+use Rattle.fine_hall.specs.Turns.{commits}
+use Rattle.fine_model.specs.Buckets.{node_id}
+use Rattle.fine_hall.specs.declared.pass.Pass.{Pass}
+use Rattle.fine_hall.specs.Halls.{HallOf, IsPassOf, begun}
+use Rattle.fine_hall.specs.Passes.{HoldsNothing, LacksJob}
+use Rattle.hall_threads.specs.declared.things.DayRoom.{DayRoom}
+use Rattle.hall_threads.specs.declared.things.DayBucket.{DayBucket}
+use Rattle.hall_threads.specs.declared.things.DayView.{DayView}
+use Rattle.hall_threads.specs.declared.things.Leaf.{Leaf}
+
+-- ---- the log at entry
+
+-- four regions of 41 zero bytes, which show no rows
+unfoldable pub zero_image : List (List ℕ)
+zero_image = replicate 4 (replicate 41 0)
+
+abbrev pub day_log : Origin
+day_log = record { region_len = 41; image = Some zero_image; clock = 0; faults = 0; own_faults = 0 }
+
+-- ---- the one key
+
+abbrev pub key : List ℕ
+key = 97 ∷ []
+
+unfoldable pub key_bucket : ℕ
+key_bucket = bucket_of key
+
+-- the leaf of the key after so many commits, the last of which put this value
+abbrev pub pairs_at : ℕ → ℕ → List Pair
+pairs_at version value = if version == 0 then [] else (key, value ∷ []) ∷ []
+
+abbrev pub leaf_at : ℕ → ℕ → Content
+leaf_at version value = (node.Leaf (pairs_at version value), version)
+
+-- the transaction that puts a value
+abbrev pub put_call : ℕ → Call
+put_call value = call.Put key (value ∷ [])
+
+abbrev pub put_row : ℕ → ℕ → ℕ → Row
+put_row bucket version value = row_of bucket 1 version (rec.Put key (value ∷ []))
+
+abbrev pub put_entry : ℕ → ℕ → ℕ → ℕ → Entry
+put_entry lane bucket version value = record {
+  lane = lane;
+  turn = 1;
+  calls = put_call value ∷ [];
+  replies = reply.Stored ∷ [];
+  writes = write.Set key (value ∷ []) ∷ [];
+  rows = put_row bucket version value ∷ [];
+}
+
+-- the calls of each commit
+abbrev pub put_calls : List Commit → List (List Call)
+put_calls history = map (λ c. c.entry.calls) history
+
+-- ---- the room
+
+abbrev pub eye_of : ℕ → OpenedEye
+eye_of number = record { number = number; regions = []; told = Some zero_image }
+
+abbrev pub board_of : List (Option ℕ) → List (Option OpenedEye)
+board_of numbers = map (option_map eye_of) numbers
+
+abbrev pub room_state : DayRoom → RoomState
+room_state room = record {
+  region_len = 41;
+  regions = 4;
+  sealed = room.sealed;
+  places = room.places;
+  parts = [];
+  retired = [];
+  free = [];
+  lost = [];
+  open_rows = [];
+  waiting = room.waiting;
+  used = 0;
+  board = board_of room.board.items;
+  job = None;
+  is_shut = false;
+  image = Some zero_image;
+  eyes = [];
+  given = [];
+  faults = room.faults;
+  own_faults = 0;
+}
+
+-- The room keeps the entries of the history, in order, and knows what they leave of the key.
+pub record StandsFor (room : DayRoom) (first : List Row) (history : List Commit) : Type 0 where
+  pub none_first : first ≡ []
+  pub kept : map (λ note. note.value) room.kept.items ≡ map (λ c. c.entry) history
+  pub head : content (first ++ all_rows history) (node_id key_bucket 0) ≡ (node.Head 1 2 1, 0)
+  pub leaf : content (first ++ all_rows history) (node_id key_bucket 1) ≡ leaf_at room.places room.value
+
+abbrev pub room_log : DayRoom → Origin
+room_log room = day_log
+
+-- ---- buckets
+
+abbrev pub cached_leaf : Option Leaf → ℕ → Option (Content × ℕ)
+cached_leaf None n = None
+cached_leaf (Some leaf) n = if n == 1 then Some (leaf_at leaf.version leaf.value, leaf.epoch) else None
+
+abbrev pub bucket_number : DayBucket → ℕ
+bucket_number b = b.bucket
+
+abbrev pub bucket_cached : DayBucket → ℕ → Option (Content × ℕ)
+bucket_cached b n = cached_leaf b.leaf n
+
+abbrev pub bucket_rests : DayBucket → Type 0
+bucket_rests b = Unit {0}
+
+-- ---- views
+
+abbrev pub view_state : DayView → ViewState
+view_state v = record { seat = v.seat; buffer = v.buffer; upto = v.upto; parts = []; region_len = 41; eye = eye_of v.eye; faults = v.faults }
+
+-- ---- a commit
+
+-- the room took an entry
+pub record Appends (entry : Entry) (old new : DayRoom) : Type 0 where
+  pub few : (old.places < greatest) × (old.sealed < greatest)
+  pub sealed : new.sealed ≡ old.sealed
+  pub places : new.places ≡ old.places + 1
+  pub waiting : new.waiting ≡ old.waiting + 1
+  pub faults : new.faults ≡ old.faults
+  pub board : new.board.items ≡ old.board.items
+  pub kept : map (λ note. note.value) new.kept.items ≡ map (λ note. note.value) old.kept.items ++ entry ∷ []
+
+-- a pass of the hall, which holds nothing, and has no job out
+abbrev pub IsIdlePass : {Q : Type 0} → HallOf DayRoom DayBucket DayView Q → Pass DayView → Type 0
+IsIdlePass hall p = IsPassOf room_state room_log view_state hall p × HoldsNothing p × LacksJob (begun room_state room_log view_state hall) p
+
+-- ---- the beginning
+
+-- a view of the log at entry
+abbrev pub view_of_log : ℕ → ℕ → ℕ → DayView
+view_of_log seat buffer eye = record { seat = seat; buffer = buffer; upto = 0; eye = eye; faults = 0 }
+
+abbrev pub first_numbers : List (Option ℕ)
+first_numbers = Some 1 ∷ Some 3 ∷ None ∷ Some 2 ∷ Some 4 ∷ None ∷ []
+
+-- a room without entries
+pub record IsFirstRoom (room : DayRoom) : Type 0 where
+  pub counts : (room.sealed ≡ 0) × (room.places ≡ 0) × (room.waiting ≡ 0) × (room.faults ≡ 0)
+  pub value : room.value ≡ 0
+  pub board : room.board.items ≡ first_numbers
+  pub kept : room.kept.items ≡ []
+
+-- ---- the end
+
+-- There is one list of turns, each of one of the two seats. It makes a legal history of the epochs behind 0, in which the transactions of
+-- each seat are those that its thread said; the room keeps their entries in this order, and what they leave of the key is what it knows.
+pub record IsDay (first second a b : ℕ) (room : DayRoom) : Type 0 where
+  pub all : List (Placed Turn)
+  pub authors : All (λ t. (0 < t.seat) × (t.seat ≤ 2)) all
+  pub legal : IsLegal [] (commits all)
+  pub of_first : put_calls (commits (by_seat 1 all)) ≡ replicate a (put_call first ∷ [])
+  pub of_second : put_calls (commits (by_seat 2 all)) ≡ replicate b (put_call second ∷ [])
+  pub kept : map (λ note. note.value) room.kept.items ≡ map (λ c. c.entry) (commits all)
+  pub places : room.places ≡ length (commits all)
+  pub follow : EpochsFollow 0 (commits all)
+  pub sealed : IsSealedUpTo 0 (commits all) room.sealed
+  pub leaf : content (all_rows (commits all)) (node_id key_bucket 1) ≡ leaf_at room.places room.value

@@ -1,0 +1,54 @@
+-- A view as a source of nodes.
+use Rattle.std.specs.Prelude.{◌≡◌, ◌≤◌, List, Any}
+use Rattle.log_disk.specs.Disk.{HasRisen}
+use Rattle.fine_model.specs.declared.FetchFault.{FetchFault}
+use Rattle.fine_model.specs.declared.FetchFault.TheVariants as fetch_fault
+use Rattle.fine_model.specs.declared.NodeId.{NodeId}
+use Rattle.fine_model.specs.declared.Row.{Row}
+use Rattle.fine_model.specs.Views.{TellsRows}
+use Rattle.fine_model.specs.Nodes.{Content}
+use Rattle.node_cache.specs.Given.{Finds, OnCleanFault}
+use Rattle.node_fetch.specs.Fetched.{HasBadEntry, HasBadRow, IsReplayOf}
+use Rattle.partition_hold.specs.Views.{SameView, ViewValue, state_of}
+
+-- the rows that a view tells
+abbrev pub tells_rows : ViewValue → List Row → Type 0
+tells_rows v rows = TellsRows (state_of v) rows
+
+-- the contents that a view may find in a node: the replay of what was read of its parts
+abbrev pub finds_in : ViewValue → Finds
+finds_in v id found = IsReplayOf v.eye v.parts id found
+
+-- a view some loads later
+pub record IsLater (old new : ViewValue) : Type 0 where
+  pub same : SameView old new
+  pub no_lower : old.eye.faults ≤ new.eye.faults
+
+-- and none of these loads failed
+abbrev pub IsClean : ViewValue → ViewValue → Type 0
+IsClean old new = new.eye.faults ≡ old.eye.faults
+
+-- what a view tells is not in the grammar
+abbrev pub TellsNone : ViewValue → Type 0
+TellsNone v = (rows : List Row) → tells_rows v rows → ⊥
+
+-- What a fault of a load says: a failure that the eye's count of faults rose, damage that a place of a part is bad by what was read and
+-- that the view tells no rows.
+abbrev pub Fails : ViewValue → FetchFault → ViewValue → Type 0
+Fails old fetch_fault.Failed new = HasRisen old.eye.faults new.eye.faults
+Fails old (fetch_fault.BadRow region at) new = TellsNone old × ((node : NodeId) × Any (λ p. HasBadRow old.eye.told old.region_len p node (record { region = region; at = at })) old.parts)
+Fails old (fetch_fault.BadIndex region at) new = TellsNone old × Any (λ p. HasBadEntry old.eye.told old.region_len p (record { region = region; at = at })) old.parts
+Fails old fetch_fault.NoMemory new = Unit {0}
+
+-- what holds of the states of a view that is a source of nodes
+pub record SourceLaws : Type 0 where
+  pub later_itself : (v : ViewValue) → IsLater v v
+  pub later_on : (u v w : ViewValue) → IsLater u v → IsLater v w → IsLater u w
+  pub later_tells : (s t : ViewValue) (rows : List Row) → IsLater s t → tells_rows s rows → tells_rows t rows
+  pub tells_before : (s t : ViewValue) (rows : List Row) → IsLater s t → tells_rows t rows → tells_rows s rows
+  pub finds_before : (s t : ViewValue) (id : NodeId) (found : Content) → IsLater s t → finds_in t id found → finds_in s id found
+  pub later_upper : (s t : ViewValue) → IsLater s t → t.upto ≡ s.upto
+  pub clean_itself : (v : ViewValue) → IsClean v v
+  pub clean_on : (s t u : ViewValue) → IsClean s t → IsClean t u → IsClean s u
+  pub fails_earlier : (s t u : ViewValue) (fault : FetchFault) → IsLater s t → Fails t fault u → Fails s fault u
+  pub fails_told : (s t : ViewValue) (rows : List Row) (fault : FetchFault) → tells_rows s rows → Fails s fault t → OnCleanFault fault ⊥

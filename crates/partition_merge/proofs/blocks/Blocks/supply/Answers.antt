@@ -1,0 +1,38 @@
+use Rattle.std.proofs.Common.{◌≡◌, ◌∙◌, ◌≤◌, ◌+◌, ◌++◌, ℕ, [], length, min, Err, Some, None, sym, ap, subst, arith, rules, refl}
+use Rattle.std.specs.Prelude.{IfSome}
+use Rattle.std.specs.Global.{Vec}
+use Rattle.std.proofs.lemmas.List.{drop_all}
+use Rattle.fine_model.specs.RowBytes.{rows_bytes}
+use Rattle.partition_merge.specs.Blocks.{BlocksValue, IsAhead}
+use Rattle.partition_merge.specs.Mergers.{Answers, HandsOut}
+use Rattle.partition_merge.proofs.Ahead.{HasEntry, more_ahead, whole_ahead}
+use Rattle.partition_merge.proofs.Sources.{err_clause}
+use Rattle.partition_merge.proofs.blocks.Blocks.supply.Goals as goal
+
+pub returns-in_err-rows-clause-exact : goal.returns-in_err-rows-clause-exact
+returns-in_err-rows-clause-exact g c handed a b ahead =
+    let i = subst (λ (v : BlocksValue). IsAhead (g.E.LogEye.state c.args.eye.now) v handed a b) (sym c.self.view_is) ahead in
+    let same : c.from_residual.result ≡ Err c.in_err-rows.field-0.0 = search rules in
+    err_clause c.from_residual.result c.in_err-rows.field-0.0 _ same (c.in_err-rows.ensures.exact i.left_older i.left_newer i.stands)
+
+pub returns-in_default-clause-exact : goal.returns-in_default-clause-exact
+returns-in_default-clause-exact g c handed a b ahead =
+    let later = g.E.LogEye.state c.next_node.new.eye in
+    let i = subst (λ (v : BlocksValue). IsAhead (g.E.LogEye.state c.args.eye.now) v handed a b) (sym c.self.view_is) ahead in
+    let ends : Answers later c.next_node.new.self i.left_older i.left_newer None = subst (Answers later c.next_node.new.self i.left_older i.left_newer) c.in_default.is (c.in_ok-rows.ensures.exact i.left_older i.left_newer i.stands) in
+    whole_ahead (g.E.LogEye.state c.args.eye.now) later _ _ handed a b i (drop_all c.self.inside.at c.self.inside.waiting.items (omega (arith, c.if-self-len.false, c.len.ensures))) c.if-self.false ends (ap (λ (v : Vec ℕ). v.items) c.swap.ensures.x_after) refl refl
+
+pub returns-clause-exact : goal.returns-clause-exact
+returns-clause-exact g c handed a b ahead =
+    let later = g.E.LogEye.state c.next_node.new.eye in
+    let i = subst (λ (v : BlocksValue). IsAhead (g.E.LogEye.state c.args.eye.now) v handed a b) (sym c.self.view_is) ahead in
+    let h : HandsOut later c.next_node.new.self i.left_older i.left_newer c.in-Some.rows = subst (Answers later c.next_node.new.self i.left_older i.left_newer) c.in-Some.is (c.in_ok-rows.ensures.exact i.left_older i.left_newer i.stands) in
+    let some : IfSome (Some c.in-Some.rows) (λ rows. 1 ≤ length rows) = subst (λ found. IfSome found (λ rows. 1 ≤ length rows)) c.in-Some.is c.in_ok-rows.ensures.some in
+    let clear : c.clear.new.self.items ≡ [] = c.clear.ensures.items in
+    let is : c.as_slice.result.now ≡ c.in-Some.rows = search rules in
+    let again : c.as_slice-2.result.now ≡ c.in-Some.rows = search rules in
+    let spelled : c.spell.new.out.items ≡ c.clear.new.self.items ++ rows_bytes c.as_slice.result.now = search rules in
+    let waiting : c.spell.new.out.items ≡ rows_bytes c.in-Some.rows = spelled ∙ ap (λ xs. xs ++ rows_bytes c.as_slice.result.now) clear ∙ ap rows_bytes is in
+    let entry : HasEntry c.self.inside.index.items c.put_entry.new.index.items c.self.inside.offset c.in-Some.rows = subst (HasEntry c.self.inside.index.items c.put_entry.new.index.items c.self.inside.offset) again c.put_entry.ensures.bytes in
+    let offset : c.saturating_add-self-inside.result ≡ min (c.self.inside.offset + min (length (rows_bytes c.in-Some.rows)) 4294967295) 4294967295 = omega (arith, c.saturating_add-self-inside.ensures, c.saturated.ensures, c.len-2.ensures, ap length waiting) in
+    more_ahead (g.E.LogEye.state c.args.eye.now) later _ _ handed a b c.in-Some.rows i (drop_all c.self.inside.at c.self.inside.waiting.items (omega (arith, c.if-self-len.false, c.len.ensures))) c.if-self.false h some waiting c.if-self.false entry offset

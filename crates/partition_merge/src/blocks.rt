@@ -1,0 +1,219 @@
+//! The body of two merged parts, in blocks.
+
+ghost use Rattle.std.specs.Prelude.{◌≡◌, ◌⊎◌, ℕ, ◌+◌, ◌-◌, ◌<◌, ◌≤◌, [], ◌∷◌, ◌++◌, ◌==◌, not, nat_le, nat_lt, false, true, IfOk, IsErrOf, List, MatchResult, Ok, OnErr, OnOk, Option, drop, length, min, take, vec_capacity, vec_len};
+ghost use Rattle.std.specs.List.{AllByRecursion};
+ghost use Rattle.log_disk.specs.Disk.{Eye};
+ghost use Rattle.fine_model.specs.declared.NodeId.{NodeId};
+ghost use Rattle.fine_model.specs.declared.Row.{Row};
+ghost use Rattle.fine_model.specs.declared.FetchFault.TheVariants as fetch_fault;
+ghost use Rattle.fine_model.specs.Merge.{merged};
+ghost use Rattle.fine_model.specs.Regions.{Image};
+ghost use Rattle.fine_model.specs.RowBytes.{rows_bytes, rows_len};
+ghost use Rattle.partition_index.specs.Entries.{bytes_of};
+ghost use Rattle.partition_index.specs.Index.{entry_at};
+ghost use Rattle.partition_index.specs.Parts.{CountsFaults, IsSeen, SameEye};
+ghost use Rattle.partition_index.specs.Search.{TellsRows};
+ghost use Rattle.node_fetch.specs.Fetched.{NoDamage};
+ghost use Rattle.partition_merge.specs.Blocks.{Gives, IsAhead, IsAtStart, SameBlocks, steps_left};
+ghost use Rattle.partition_merge.specs.Mergers.{AreKept, BlamesEntry, BlamesRow, newer_part, older_part};
+ghost use Rattle.partition_merge.specs.Merging.{FitRows};
+
+use crate::merger::Merger;
+use fine_model::{FetchFault, NoMemory, Part, Row, Rows};
+use log_disk::LogEye;
+use node_record::write_row;
+use partition_index::{IndexEntry, entry_bytes};
+use std::alloc::Global;
+use std::marker::Model;
+use std::mem;
+
+/// The body of two merged parts, block by block: the rows first, and then the index. All memory but that of one node's rows is taken
+/// by `new`.
+#[derive(Drop)]
+pub struct Blocks {
+    merger: Merger,
+    most: usize,
+    block: Vec<u8>,
+    waiting: Vec<u8>,
+    at: usize,
+    index: Vec<u8>,
+    offset: u32,
+    is_whole: bool,
+}
+
+impl Model for Blocks {
+    ghost use Rattle.std.specs.Prelude.{◌≡◌, ◌+◌, ◌*◌, ◌≤◌, false, drop, vec_capacity, vec_len};
+    ghost use Rattle.partition_merge.specs.Blocks.{BlocksValue, HasRoom};
+
+    ghost Value = { BlocksValue };
+
+    ghost view = { λ b. record { merger = b.merger; most = b.most; block = b.block.items; waiting = drop b.at b.waiting.items; index = b.index.items; offset = b.offset; is_whole = b.is_whole } };
+
+    ghost invariant = { λ b. HasRoom b.merger b.most (vec_capacity b.block) b.at (vec_len b.waiting) (vec_len b.index) (vec_capacity b.index) b.is_whole };
+}
+
+// Appends the bytes of rows. After `NoMemory` what is there is not told.
+#[tactic(auto, unfolding(fine_model::specs::RowBytes::rows_bytes))]
+fn spell(out: &mut Vec<u8>, rows: &[Row]) -> Result<(), NoMemory>
+    requires { FitRows rows.now }
+    ensures { OnOk result (out.new.items ≡ out.old.items ++ rows_bytes rows.now) }
+{
+    for row in rows {
+        write_row(out, row)?;
+    }
+    Ok(())
+}
+
+// A number, or the greatest of 32 bits where it is above that.
+fn saturated(n: usize) -> u32
+    ensures { result ≡ min n 4294967295 }
+{
+    u32::try_from(n).unwrap_or(u32::MAX)
+}
+
+// Puts the entry of a node's rows behind an index, for which there is room.
+fn put_entry(index: &mut Vec<u8>, rows: &[Row], offset: u32)
+    requires some { 1 ≤ length rows.now }
+    requires room { vec_len index.old + 14 ≤ vec_capacity index.old }
+    ensures bytes { (id : NodeId) → AllByRecursion (λ r. r.node ≡ id) rows.now → length rows.now < 4294967296 → index.new.items ≡ index.old.items ++ bytes_of (entry_at offset id rows.now) }
+    ensures len { vec_len index.new ≡ vec_len index.old + 14 }
+    ensures capacity { vec_capacity index.old ≤ vec_capacity index.new }
+{
+    let entry = IndexEntry {
+        node: rows[0].node,
+        offset,
+        rows: saturated(rows.len()),
+    };
+    let _room = index.extend_from_slice(&entry_bytes(&entry));
+}
+
+impl Blocks {
+    /// Blocks of at most `most` bytes each.
+    pub fn new(
+        alloc: Global,
+        older: Part,
+        newer: Part,
+        region_len: u64,
+        most: u32,
+    ) -> Result<Blocks, NoMemory>
+        requires some { 1 ≤ most }
+        ensures made { IfOk result (IsAtStart older newer region_len most) }
+        ensures kept { IfOk result (λ blocks. (known : Option Image) → AreKept known blocks.merger) }
+        ensures ahead { IfOk result (λ blocks. (eye : Eye) (a b : List Row) → TellsRows eye older a → TellsRows eye newer b → rows_len (merged a b) < 4294967296 → IsAhead eye blocks [] a b) }
+    {
+        let nodes = older.header.nodes as usize + newer.header.nodes as usize;
+        Ok(Blocks {
+            merger: Merger::new(older, newer, region_len),
+            most: most as usize,
+            block: Vec::with_capacity(alloc, most as usize)?,
+            waiting: Vec::new(alloc),
+            at: 0,
+            index: Vec::with_capacity(alloc, 14 * nodes)?,
+            offset: 0,
+            is_whole: false,
+        })
+    }
+
+    /// The block that `next` filled.
+    pub fn block(&self) -> &[u8]
+        ensures { result.now ≡ self.now.block }
+    {
+        &self.block
+    }
+
+    // Whether the block has as many bytes as it may have.
+    fn is_full(&self) -> bool
+        ensures { result ≡ nat_le self.now.most (length self.now.block) }
+    {
+        self.most <= self.block.len()
+    }
+
+    // Empties the block.
+    fn clear(&mut self)
+        ensures cleared { self.new ≡ record self.old { block = [] } }
+        ensures some { 1 ≤ self.old.most }
+    {
+        self.block.clear();
+    }
+
+    // Moves to the block what waits, as far as the block has room.
+    fn fill(&mut self)
+        requires { length self.old.block ≤ self.old.most }
+        ensures { self.new ≡ record self.old { block = self.old.block ++ take (self.old.most - length self.old.block) self.old.waiting; waiting = drop (self.old.most - length self.old.block) self.old.waiting } }
+    {
+        let left = &self.waiting[self.at..];
+        let count = left.len().min(self.most - self.block.len());
+        let _room = self.block.extend_from_slice(&left[..count]);
+        self.at += count;
+    }
+
+    // Sees that bytes wait: the rows of the next node, and behind the last node the index. False where nothing is left.
+    fn supply<E: LogEye>(&mut self, alloc: Global, eye: &mut E) -> Result<bool, FetchFault>
+        requires older { IsSeen (E.LogEye.state eye.old) (older_part self.old.merger) }
+        requires newer { IsSeen (E.LogEye.state eye.old) (newer_part self.old.merger) }
+        requires region_len { self.old.merger.region_len ≡ (E.LogEye.state eye.old).region_len }
+        requires kept { AreKept (E.LogEye.state eye.old).told self.old.merger }
+        ensures same { SameBlocks self.old self.new }
+        ensures block { self.new.block ≡ self.old.block }
+        ensures eye { SameEye (E.LogEye.state eye.old) (E.LogEye.state eye.new) }
+        ensures counts { CountsFaults (IsErrOf result fetch_fault.Failed) (E.LogEye.state eye.old) (E.LogEye.state eye.new) }
+        ensures kept { AreKept (E.LogEye.state eye.old).told self.new.merger }
+        ensures no_more { steps_left self.new ≤ steps_left self.old }
+        ensures moves { result ≡ Ok true → (1 ≤ length self.new.waiting) ⊎ (steps_left self.new < steps_left self.old) }
+        ensures end { result ≡ Ok false → (self.new.waiting ≡ []) × (self.new.is_whole ≡ true) }
+        ensures bad_row { (region at : ℕ) → IsErrOf result (fetch_fault.BadRow region at) → BlamesRow (E.LogEye.state eye.old).told self.old.merger (record { region = region; at = at }) }
+        ensures bad_index { (region at : ℕ) → IsErrOf result (fetch_fault.BadIndex region at) → BlamesEntry (E.LogEye.state eye.old).told self.old.merger (record { region = region; at = at }) }
+        ensures exact { (handed : List ℕ) (a b : List Row) → IsAhead (E.LogEye.state eye.old) self.old handed a b → MatchResult result (λ more. IsAhead (E.LogEye.state eye.new) self.new handed a b) NoDamage }
+    {
+        if self.at < self.waiting.len() {
+            return Ok(true);
+        }
+        if self.is_whole {
+            return Ok(false);
+        }
+        let Some(rows) = self.merger.next_node(alloc, eye)? else {
+            mem::swap(&mut self.waiting, &mut self.index);
+            self.at = 0;
+            self.is_whole = true;
+            return Ok(true);
+        };
+        self.waiting.clear();
+        self.at = 0;
+        if spell(&mut self.waiting, rows.as_slice()).is_err() {
+            return Err(FetchFault::NoMemory);
+        }
+        put_entry(&mut self.index, rows.as_slice(), self.offset);
+        self.offset = self.offset.saturating_add(saturated(self.waiting.len()));
+        Ok(true)
+    }
+
+    /// Fills the next block, and answers whether there is one: false behind the last one.
+    ///
+    /// Where the eye tells its bytes, both parts are in the grammar and have their headers, and the merged rows have fewer than 2^32
+    /// bytes, all blocks together are the body of the merged rows. Whatever was read, a block has at least one byte and at most as many as
+    /// `new` was told, and each but the last has as many. The faults are those of `Merger::next_node`; after a refusal the blocks are given up.
+    pub fn next<E: LogEye>(&mut self, alloc: Global, eye: &mut E) -> Result<bool, FetchFault>
+        requires older { IsSeen (E.LogEye.state eye.old) (older_part self.old.merger) }
+        requires newer { IsSeen (E.LogEye.state eye.old) (newer_part self.old.merger) }
+        requires region_len { self.old.merger.region_len ≡ (E.LogEye.state eye.old).region_len }
+        requires kept { AreKept (E.LogEye.state eye.old).told self.old.merger }
+        ensures same { SameBlocks self.old self.new }
+        ensures eye { SameEye (E.LogEye.state eye.old) (E.LogEye.state eye.new) }
+        ensures counts { CountsFaults (IsErrOf result fetch_fault.Failed) (E.LogEye.state eye.old) (E.LogEye.state eye.new) }
+        ensures kept { AreKept (E.LogEye.state eye.old).told self.new.merger }
+        ensures most { length self.new.block ≤ self.new.most }
+        ensures some { result ≡ Ok true → 1 ≤ length self.new.block }
+        ensures full { IfOk result (λ more. (length self.new.block ≡ self.new.most) ⊎ ((self.new.waiting ≡ []) × (self.new.is_whole ≡ true))) }
+        ensures bad_row { (region at : ℕ) → IsErrOf result (fetch_fault.BadRow region at) → BlamesRow (E.LogEye.state eye.old).told self.old.merger (record { region = region; at = at }) }
+        ensures bad_index { (region at : ℕ) → IsErrOf result (fetch_fault.BadIndex region at) → BlamesEntry (E.LogEye.state eye.old).told self.old.merger (record { region = region; at = at }) }
+        ensures exact { (handed : List ℕ) (a b : List Row) → IsAhead (E.LogEye.state eye.old) self.old handed a b → MatchResult result (Gives (E.LogEye.state eye.new) self.new handed a b) NoDamage }
+    {
+        self.clear();
+        let mut more = true;
+        while more && !self.is_full() {
+            more = self.supply(alloc, eye)?;
+            self.fill();
+        }
+        Ok(!self.block.is_empty())
+    }
+}

@@ -11,3 +11,9 @@ pub mod Mailing
 pub mod Refreshing
 pub mod Handing
 pub mod Entering
+pub mod Gathering
+pub mod Sums
+pub mod SumsClosing
+pub mod SumsMiddles
+pub mod Boarding
+pub mod Leaving

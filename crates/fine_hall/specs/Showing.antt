@@ -25,7 +25,7 @@ unfolding upto
 added_later u epoch None h l = ap (λ (k : List Commit). upto k u) (append-nil h)
 added_later u epoch (Some entry) h l = upto_last u h (committed entry epoch) (is_later u epoch l)
 
-upto_more : (u : ℕ) (log : List (Placed Turn)) (t : Placed Turn) → IsAbove u t.item → upto (commits (log ++ t ∷ [])) u ≡ upto (commits log) u
+pub upto_more : (u : ℕ) (log : List (Placed Turn)) (t : Placed Turn) → IsAbove u t.item → upto (commits (log ++ t ∷ [])) u ≡ upto (commits log) u
 unfolding commits
 upto_more u log t l =
     ap (λ h. upto h u) (flat_map-append (λ (p : Placed Turn). added p.item.entry p.item.epoch) log (t ∷ []))

@@ -2,6 +2,7 @@
 //! exchange; and the one history of what they commit.
 #![tactic(auto)]
 
+mod closing;
 mod hall;
 mod law;
 mod laws;

@@ -24,7 +24,7 @@ use std::snapshot::Snapshot;
 
 type Slots<R, B, V> = Vec<Option<Load<R, B, V>>>;
 
-type HallPlaces<R, B, V> = SharedPlaces<
+pub(crate) type HallPlaces<R, B, V> = SharedPlaces<
     Load<R, B, V>,
     Beginning,
     Turn,

@@ -1,0 +1,13 @@
+use Rattle.std.proofs.Common.{◌≡◌, ◌-◌, ◌++◌}
+use Rattle.std.specs.Prelude.{vec_capacity}
+use Rattle.std.specs.Slots.{slots_items, slots_filled, slots_len}
+use Rattle.fine_hall.specs.Ending.{IsTakenTo, views_from}
+use Rattle.fine_hall.proofs.closing.take_views.Given as goal
+
+abbrev pub invariant-loop-k : goal.invariant-loop-k
+invariant-loop-k g l = record {
+  taken : IsTakenTo (slots_filled l.closed.slots) (slots_len l.closed.slots) l.k;
+  same : (slots_items l.closed.slots ≡ slots_items l.fn.closed.slots) × (slots_len l.closed.slots ≡ slots_len l.fn.closed.slots);
+  views : l.back.items ≡ l.fn.back.items ++ views_from (slots_items l.fn.closed.slots) l.fn.from (l.k - l.fn.from);
+  room : vec_capacity l.back ≡ vec_capacity l.fn.back;
+}

@@ -9,9 +9,11 @@ mod tests;
 mod things;
 mod threads;
 mod transaction;
+mod whole_day;
 
 pub use opening::open;
 pub use round::look_up;
 pub use things::{DayBucket, DayRoom, DayView, Leaf};
 pub use threads::{both, put_times};
 pub use transaction::{DayHall, put, the_bucket};
+pub use whole_day::day;

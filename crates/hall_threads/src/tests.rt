@@ -5,7 +5,7 @@ ghost use Rattle.hall_threads.specs.Days.{key_bucket, IsIdlePass};
 
 use crate::things::DayView;
 use crate::transaction::DayHall;
-use crate::{open, the_bucket};
+use crate::{day, open, the_bucket};
 use fine_hall::{Conflict, Pass};
 use std::alloc::Global;
 use std::test::Fail;
@@ -49,5 +49,15 @@ fn a_held_bucket_names_its_holder(rt: HostRuntime) -> Result<(), Fail> {
         return Err("no conflict")?;
     };
     assert!(rt; conflict == Conflict { bucket, owner: 1 });
+    Ok(())
+}
+
+#[test]
+fn two_threads_put_on_one_bucket(rt: HostRuntime) -> Result<(), Fail> {
+    let Some((room, first, second)) = day(&rt, rt.alloc(), 256, 1, 2, 100) else {
+        return Err("memory")?;
+    };
+    assert!(rt; (first, second) == (100, 100));
+    assert!(rt; (room.places, room.waiting) == (200, 200));
     Ok(())
 }

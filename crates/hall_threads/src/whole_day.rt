@@ -1,0 +1,60 @@
+//! A day of two threads, from its beginning to its end.
+
+ghost use Rattle.std.specs.Prelude.{◌≡◌, ◌∷◌, [], IfOk, IfSome, length, vec_len, vec_capacity, ◌≤◌};
+ghost use Rattle.hall_threads.specs.Days.{IsDay};
+
+use crate::opening::open;
+use crate::things::{DayRoom, DayView};
+use crate::threads::both;
+use crate::transaction::the_bucket;
+use fine_hall::Pass;
+use std::alloc::{AllocError, Global};
+use std::sync::Wait;
+use std::thread::Threads;
+
+fn pair(
+    alloc: Global,
+    one: Pass<DayView>,
+    two: Pass<DayView>,
+) -> Result<Vec<Pass<DayView>>, AllocError>
+    ensures { IfOk result (λ passes. passes.items ≡ one ∷ two ∷ []) }
+{
+    let mut passes = Vec::with_capacity(alloc, 2)?;
+    passes.push_reserved(one);
+    passes.push_reserved(two);
+    Ok(passes)
+}
+
+/// Opens a hall of two seats, lets two threads put a value each so many times, and closes it. Answers the room and how often each of
+/// the threads did it; None where there is no memory.
+///
+/// There is one history: it is legal, it has the transactions of both threads, each as often as it said, and no others, and the room
+/// keeps their entries in this order, and knows the leaf that they leave.
+pub fn day<R: Threads + Wait + Sync>(
+    rt: &R,
+    alloc: Global,
+    most: usize,
+    first: u8,
+    second: u8,
+    times: u64,
+) -> Option<(DayRoom, u64, u64)>
+    ensures { IfSome result (λ r. IsDay first second r.1 r.2 r.0) }
+{
+    let (hall, mut passes) = open(alloc, most)?;
+    let Ok(mut views) = Vec::with_capacity(alloc, 4) else {
+        return None;
+    };
+    let Some(one) = passes.pop() else {
+        return None;
+    };
+    let Some(two) = passes.pop() else {
+        return None;
+    };
+    let bucket = the_bucket();
+    let ((one, a), (two, b)) = both(rt, alloc, &hall, bucket, (one, first), (two, second), times);
+    let Ok(passes) = pair(alloc, one, two) else {
+        return None;
+    };
+    let room = hall.close(passes, &mut views);
+    Some((room, a, b))
+}

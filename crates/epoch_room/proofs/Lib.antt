@@ -8,6 +8,7 @@ pub mod Costs
 pub mod Counting
 pub mod Ending
 pub mod Fits
+pub mod FreeSets
 pub mod Freeing
 pub mod Gates
 pub mod Gathering

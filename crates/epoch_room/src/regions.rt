@@ -1,6 +1,6 @@
 //! The regions of parts, and those beside them.
 
-ghost use Rattle.std.specs.Prelude.{◌≡◌, ◌<◌, ◌^◌, ◌++◌, ◌==◌, not, ◌&&◌, if◌then◌else◌, nat_eq, nat_le, map, find, length, sum_by, take, drop, slice_get, IfOk, OnOk};
+ghost use Rattle.std.specs.Prelude.{◌≡◌, ◌<◌, ◌^◌, ◌≤◌, ◌++◌, ◌==◌, not, ◌&&◌, if◌then◌else◌, nat_eq, nat_le, map, find, length, sum_by, take, drop, slice_get, IfOk, OnOk};
 ghost use Rattle.std.specs.List.{AllByRecursion, list_any};
 ghost use Rattle.fine_model.specs.Chain.{regions_of, chain_end};
 ghost use Rattle.epoch_room.specs.Fitting.{one_taken};
@@ -8,8 +8,8 @@ ghost use Rattle.epoch_room.specs.Value.{all_regions, regions_outside};
 ghost use Rattle.epoch_room.specs.Whole.{HasRegions};
 
 use fine_model::{Job, NoMemory, Part, Parts};
+use partition_hold::RegionSet;
 use std::alloc::Global;
-use std::collections::VecDeque;
 
 /// Whether a region is among the first entries of a header.
 fn is_among(more: &[u32], entries: usize, region: u32) -> bool
@@ -27,36 +27,32 @@ fn has_region(part: &Part, region: u32) -> bool
 }
 
 /// Whether a region is one of these parts.
-fn is_taken(parts: &Parts, region: u32) -> bool
+fn is_taken(parts: &[Part], region: u32) -> bool
     ensures { result ≡ list_any (λ p. list_any (nat_eq region) (regions_of p)) parts.now }
 {
-    parts.as_slice().iter().any(|part| has_region(part, region))
+    parts.iter().any(|part| has_region(part, region))
 }
 
 /// Whether a region is in none of these parts.
-fn is_beside(live: &Parts, retired: &Parts, region: u32) -> bool
+fn is_beside(live: &[Part], retired: &[Part], region: u32) -> bool
     ensures { result ≡ (not (list_any (λ p. list_any (nat_eq region) (regions_of p)) live.now) && not (list_any (λ p. list_any (nat_eq region) (regions_of p)) retired.now)) }
 {
     !is_taken(live, region) && !is_taken(retired, region)
 }
 
-/// The regions of a disk that are in no part, in ascending order.
+/// The regions of a disk that are in no part.
 #[tactic(auto, unfolding(crate::specs::Value::regions_outside))]
-pub fn free_regions(
-    alloc: Global,
-    regions: u32,
-    live: &Parts,
-    retired: &Parts,
-) -> Result<VecDeque<u32>, NoMemory>
-    ensures { IfOk result (λ free. free.items ≡ regions_outside regions (all_regions (live.now ++ retired.now))) }
+pub fn free_regions(regions: u32, live: &[Part], retired: &[Part]) -> RegionSet
+    requires few { regions ≤ 64 }
+    ensures { result ≡ regions_outside regions (all_regions (live.now ++ retired.now)) }
 {
-    let mut free = VecDeque::with_capacity(alloc, regions as usize)?;
+    let mut free = RegionSet::none();
     for region in 0..regions {
         if is_beside(live, retired, region) {
-            free.push_back(region)?;
+            free.insert(region);
         }
     }
-    Ok(free)
+    free
 }
 
 /// Whether the merge that is out has taken its regions.
@@ -94,19 +90,18 @@ pub fn all_regions(alloc: Global, parts: &Parts) -> Result<Vec<u32>, NoMemory>
 }
 
 /// The sum of the numbers of regions that headers tell.
-fn told_regions(parts: &Parts) -> u32
+fn told_regions(parts: &[Part]) -> u32
     requires { sum_by (λ p. p.header.regions) parts.now < 2 ^ 32 }
     ensures { result ≡ sum_by (λ p. p.header.regions) parts.now }
 {
     parts
-        .as_slice()
         .iter()
         .map(|part| u32::from(part.header.regions))
         .sum()
 }
 
 /// How many regions parts have, continuations included.
-pub fn regions_in(parts: &Parts) -> u32
+pub fn regions_in(parts: &[Part]) -> u32
     requires each { AllByRecursion HasRegions parts.now }
     requires few { length (all_regions parts.now) < 2 ^ 32 }
     ensures { result ≡ length (all_regions parts.now) }
@@ -115,23 +110,22 @@ pub fn regions_in(parts: &Parts) -> u32
 }
 
 /// The first lead of these parts from a number on.
-pub fn first_lead(parts: &Parts, from: u32) -> Option<u32>
+pub fn first_lead(parts: &[Part], from: u32) -> Option<u32>
     ensures { result ≡ find (nat_le from) (map (λ p. p.region) parts.now) }
 {
     parts
-        .as_slice()
         .iter()
         .map(|part| part.region)
         .find(|region| from <= *region)
 }
 
 /// The target of an epoch: before its first entry it takes the lowest free region, and then it keeps it.
-pub fn take_target(free: &mut VecDeque<u32>, target: Option<u32>, waiting: u64) -> Option<u32>
-    ensures free { free.new.items ≡ (if waiting == 0 then drop 1 free.old.items else free.old.items) }
-    ensures target { result ≡ (if waiting == 0 then slice_get free.old.items 0 else target) }
+pub fn take_target(free: &mut RegionSet, target: Option<u32>, waiting: u64) -> Option<u32>
+    ensures free { free.new ≡ (if waiting == 0 then drop 1 free.old else free.old) }
+    ensures target { result ≡ (if waiting == 0 then slice_get free.old 0 else target) }
 {
     if waiting == 0 {
-        free.pop_front()
+        free.take_lowest()
     } else {
         target
     }

@@ -28,15 +28,17 @@ use crate::sealing::seal_region;
 use fine_model::format::{BODY_START, GREATEST};
 use fine_model::{Copied, Job, NoMemory, Part, Parts, Range, RoomLaw};
 use log_disk::{DiskRefusal, LogDisk};
-use partition_hold::{Board, View};
+use partition_hold::{Board, RegionSet, View};
 use private_log::PrivateLog;
 use std::alloc::Global;
-use std::collections::VecDeque;
 use std::marker::Model;
 use std::snapshot::Snapshot;
 
+/// The most regions that a disk has, and so the most parts.
+const MOST_REGIONS: usize = 64;
+
 /// How many regions are free before a new epoch takes one: the last one is kept for merging.
-const FREE: usize = 2;
+const FREE: u32 = 2;
 
 /// A log on a disk: the chain of live parts, the free and the retired regions, the open epoch, the board of the views, and the merge
 /// that is out.
@@ -49,9 +51,9 @@ pub struct Room<D: LogDisk> {
     entry: Snapshot<D>,
     alloc: Global,
     parts: Parts,
-    retired: Parts,
-    free: VecDeque<u32>,
-    lost: Option<u32>,
+    retired: Vec<Part>,
+    free: RegionSet,
+    lost: RegionSet,
     target: Option<u32>,
     board: Board<D::Eye>,
     job: Option<Job>,
@@ -62,7 +64,7 @@ pub struct Room<D: LogDisk> {
 }
 
 impl<D: LogDisk> Model for Room<D> {
-    ghost use Rattle.std.specs.Prelude.{◌≡◌, ◌+◌, option_to_list};
+    ghost use Rattle.std.specs.Prelude.{◌≡◌, ◌+◌, ◌≤◌, vec_capacity};
     ghost use Rattle.epoch_room.specs.Value.{RoomValue, value_of};
     ghost use Rattle.epoch_room.specs.Whole.{IsWhole};
 
@@ -70,9 +72,9 @@ impl<D: LogDisk> Model for Room<D> {
 
     ghost view = { λ r. value_of (D.state r.disk) (D.state r.entry.value) (record {
       parts = r.parts;
-      retired = r.retired;
-      free = r.free.items;
-      lost = option_to_list r.lost;
+      retired = r.retired.items;
+      free = r.free;
+      lost = r.lost;
       target = r.target;
       board = r.board;
       job = r.job;
@@ -84,9 +86,9 @@ impl<D: LogDisk> Model for Room<D> {
 
     ghost invariant = { λ r. IsWhole (value_of (D.state r.disk) (D.state r.entry.value) (record {
       parts = r.parts;
-      retired = r.retired;
-      free = r.free.items;
-      lost = option_to_list r.lost;
+      retired = r.retired.items;
+      free = r.free;
+      lost = r.lost;
       target = r.target;
       board = r.board;
       job = r.job;
@@ -94,7 +96,7 @@ impl<D: LogDisk> Model for Room<D> {
       sealed = r.sealed;
       places = r.places;
       is_shut = r.is_shut;
-    })) × (41 + r.epoch.most ≡ (D.state r.disk).region_len) };
+    })) × (41 + r.epoch.most ≡ (D.state r.disk).region_len) × (64 ≤ vec_capacity r.retired) };
 }
 
 impl<D: LogDisk> RoomLaw for Room<D> {
@@ -126,9 +128,11 @@ impl<D: LogDisk> Room<D> {
         ensures stands { IfOk result (λ room. StandsAtFirst room (D.state disk).told) }
         ensures back { IfErr result (λ e. D.state e.1 ≡ D.state disk) }
     {
-        let Ok(free) = free_regions(alloc, disk.regions(), &parts, &retired) else {
+        let mut retired = retired.into_vec();
+        let Ok(_reserved) = retired.reserve_exact(MOST_REGIONS) else {
             return Err((NoMemory, disk));
         };
+        let free = free_regions(disk.regions(), parts.as_slice(), retired.as_slice());
         let Ok(epoch) = OpenEpoch::new(alloc, disk.region_len() - BODY_START) else {
             return Err((NoMemory, disk));
         };
@@ -144,7 +148,7 @@ impl<D: LogDisk> Room<D> {
             parts,
             retired,
             free,
-            lost: None,
+            lost: RegionSet::none(),
             target: None,
             board,
             job: None,
@@ -179,11 +183,11 @@ impl<D: LogDisk> Room<D> {
         if need > room {
             return Fit::TooLarge { need, room };
         }
-        if self.epoch.waiting() == 0 && self.free.len() + usize::from(has_taken(&self.job)) < FREE {
+        if self.epoch.waiting() == 0 && self.free.len() + u32::from(has_taken(&self.job)) < FREE {
             return Fit::Full {
-                free: self.free.len() as u32,
-                live: regions_in(&self.parts),
-                retired: regions_in(&self.retired),
+                free: self.free.len(),
+                live: regions_in(self.parts.as_slice()),
+                retired: regions_in(self.retired.as_slice()),
             };
         }
         let need = need.saturating_add(self.epoch.used());
@@ -260,7 +264,7 @@ impl<D: LogDisk> Room<D> {
                 self.parts.truncate(self.parts.len() - 1);
                 match refusal {
                     DiskRefusal::Failed => {
-                        self.lost = self.target;
+                        self.lost = RegionSet::of(&[region]);
                         self.target = None;
                         self.is_shut = true;
                         Err(RoomFault::Disk)
@@ -348,7 +352,7 @@ impl<D: LogDisk> Room<D> {
     pub fn retired(&self, from: u32) -> Option<u32>
         ensures { result ≡ retired_from self.now.room from }
     {
-        first_lead(&self.retired, from)
+        first_lead(self.retired.as_slice(), from)
     }
 
     /// The room in numbers. By `whole`, what holds of every room comes to the caller.
@@ -358,9 +362,9 @@ impl<D: LogDisk> Room<D> {
         ensures whole { IsWhole self.now }
     {
         Counts {
-            free: self.free.len() as u32,
-            live: regions_in(&self.parts),
-            retired: regions_in(&self.retired),
+            free: self.free.len(),
+            live: regions_in(self.parts.as_slice()),
+            retired: regions_in(self.retired.as_slice()),
             sealed: self.sealed,
             place: self.places,
             waiting: self.epoch.waiting(),
@@ -371,7 +375,7 @@ impl<D: LogDisk> Room<D> {
     pub fn pressed(&self) -> bool
         ensures { result ≡ is_pressed self.now.room }
     {
-        (2 * self.free.len() as u64) < u64::from(self.disk.regions())
+        2 * u64::from(self.free.len()) < u64::from(self.disk.regions())
     }
 
     /// The length of each region in bytes.

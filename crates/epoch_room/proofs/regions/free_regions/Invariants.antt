@@ -5,4 +5,4 @@ use Rattle.epoch_room.specs.Value.{all_regions}
 use Rattle.epoch_room.proofs.regions.free_regions.Given as goal
 
 abbrev pub invariant-loop-region : goal.invariant-loop-region
-invariant-loop-region l = l.free.items ≡ filter (λ r. not (list_any (nat_eq r) (all_regions (l.live ++ l.retired)))) (range_with_len 0 l.region)
+invariant-loop-region l = l.free ≡ filter (λ r. not (list_any (nat_eq r) (all_regions (l.live ++ l.retired)))) (range_with_len 0 l.region)

@@ -39,10 +39,10 @@ returns-clause-room g c =
     let old = c.self.inside in
     let at : c.waiting.result ≡ old.epoch.waiting = c.waiting.ensures in
     appended_is (g.D.LogDisk.state old.disk) (g.D.LogDisk.state old.entry.value)
-    (record { parts = old.parts; retired = old.retired; free = old.free.items; lost = option_to_list old.lost; target = old.target; board = old.board; job = old.job; epoch = old.epoch; sealed = old.sealed; places = old.places; is_shut = old.is_shut }) c.args.log.now
-    c.take_target-self-inside.new.free.items c.take_target-self-inside.result c.add.new.self
-    (c.take_target-self-inside.ensures.free ∙ ap (λ w. cond (w == 0) (drop 1 old.free.items) old.free.items) at)
-    (c.take_target-self-inside.ensures.target ∙ ap (λ w. cond (w == 0) (slice_get old.free.items 0) old.target) at) c.add.ensures
+    (record { parts = old.parts; retired = old.retired.items; free = old.free; lost = old.lost; target = old.target; board = old.board; job = old.job; epoch = old.epoch; sealed = old.sealed; places = old.places; is_shut = old.is_shut }) c.args.log.now
+    c.take_target-self-inside.new.free c.take_target-self-inside.result c.add.new.self
+    (c.take_target-self-inside.ensures.free ∙ ap (λ w. cond (w == 0) (drop 1 old.free) old.free) at)
+    (c.take_target-self-inside.ensures.target ∙ ap (λ w. cond (w == 0) (slice_get old.free 0) old.target) at) c.add.ensures
     ∙ ap (λ (v : RoomValue). appended v c.args.log.now) c.self.view_is
 
 pub invariant_of-self : goal.invariant_of-self
@@ -51,6 +51,7 @@ invariant_of-self g c =
     let may = may_append c.args.self.now.room (cost c.args.log.now) (omega (arith, whole.geometry.len_high, ap (λ (r : RoomState). r.region_len) whole.of_disk)) c.requires.fits in (
       subst IsWhole (sym (returns-clause-room g c)) (appended_whole c.args.self.now c.args.log.now whole may c.requires.rows),
       omega (arith, ap (λ (o : Open). o.most) c.add.ensures, c.self.invariant.1),
+      c.self.invariant.2,
     )
 
 pub returns-clause-stands : goal.returns-clause-stands

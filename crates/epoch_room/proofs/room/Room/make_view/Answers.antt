@@ -47,7 +47,7 @@ eye-requires-clause-there g c =
     let in' = c.self.inside in
     let old = g.D.LogDisk.state in'.disk in
     let entry = g.D.LogDisk.state in'.entry.value in
-    let kept : Kept = record { parts = in'.parts; retired = in'.retired; free = in'.free.items; lost = option_to_list in'.lost; target = in'.target; board = in'.board; job = in'.job; epoch = in'.epoch; sealed = in'.sealed; places = in'.places; is_shut = in'.is_shut } in
+    let kept : Kept = record { parts = in'.parts; retired = in'.retired.items; free = in'.free; lost = in'.lost; target = in'.target; board = in'.board; job = in'.job; epoch = in'.epoch; sealed = in'.sealed; places = in'.places; is_shut = in'.is_shut } in
     let whole = c.self.invariant.0 in
     let regions : c.as_slice.result.now ≡ all_regions in'.parts = c.as_slice.ensures.value ∙ c.in_ok-regions.ensures in
     subst (All (λ r. r < old.regions)) (sym regions) (All-from_recursion (λ r. r < old.regions) (all_regions in'.parts) (live_below old entry kept whole))
@@ -57,7 +57,7 @@ eye-requires-clause-synced g c =
     let in' = c.self.inside in
     let old = g.D.LogDisk.state in'.disk in
     let entry = g.D.LogDisk.state in'.entry.value in
-    let kept : Kept = record { parts = in'.parts; retired = in'.retired; free = in'.free.items; lost = option_to_list in'.lost; target = in'.target; board = in'.board; job = in'.job; epoch = in'.epoch; sealed = in'.sealed; places = in'.places; is_shut = in'.is_shut } in
+    let kept : Kept = record { parts = in'.parts; retired = in'.retired.items; free = in'.free; lost = in'.lost; target = in'.target; board = in'.board; job = in'.job; epoch = in'.epoch; sealed = in'.sealed; places = in'.places; is_shut = in'.is_shut } in
     let whole = c.self.invariant.0 in
     let regions : c.as_slice.result.now ≡ all_regions in'.parts = c.as_slice.ensures.value ∙ c.in_ok-regions.ensures in
     subst (All (λ r. Contains old.unsynced r → ⊥)) (sym regions) (live_synced old entry kept whole c.if-self.false)
@@ -67,7 +67,7 @@ post-buffer-requires-clause-regions g c κs within =
     let in' = c.self.inside in
     let old = g.D.LogDisk.state in'.disk in
     let entry = g.D.LogDisk.state in'.entry.value in
-    let kept : Kept = record { parts = in'.parts; retired = in'.retired; free = in'.free.items; lost = option_to_list in'.lost; target = in'.target; board = in'.board; job = in'.job; epoch = in'.epoch; sealed = in'.sealed; places = in'.places; is_shut = in'.is_shut } in
+    let kept : Kept = record { parts = in'.parts; retired = in'.retired.items; free = in'.free; lost = in'.lost; target = in'.target; board = in'.board; job = in'.job; epoch = in'.epoch; sealed = in'.sealed; places = in'.places; is_shut = in'.is_shut } in
     let whole = c.self.invariant.0 in
     subst (AllByRecursion (λ r. r < 64)) (sym (c.as_slice-in-Ok.ensures.value ∙ c.in_ok-regions.ensures)) (live_small old entry kept whole)
 
@@ -76,7 +76,7 @@ new-requires-clause-seen g c κs within =
     let in' = c.self.inside in
     let old = g.D.LogDisk.state in'.disk in
     let entry = g.D.LogDisk.state in'.entry.value in
-    let kept : Kept = record { parts = in'.parts; retired = in'.retired; free = in'.free.items; lost = option_to_list in'.lost; target = in'.target; board = in'.board; job = in'.job; epoch = in'.epoch; sealed = in'.sealed; places = in'.places; is_shut = in'.is_shut } in
+    let kept : Kept = record { parts = in'.parts; retired = in'.retired.items; free = in'.free; lost = in'.lost; target = in'.target; board = in'.board; job = in'.job; epoch = in'.epoch; sealed = in'.sealed; places = in'.places; is_shut = in'.is_shut } in
     let whole = c.self.invariant.0 in
     let regions : c.as_slice.result.now ≡ all_regions in'.parts = c.as_slice.ensures.value ∙ c.in_ok-regions.ensures in
     let new = g.D.LogDisk.state c.eye.new.self in
@@ -90,7 +90,7 @@ new-requires-clause-small g c κs within =
     let in' = c.self.inside in
     let old = g.D.LogDisk.state in'.disk in
     let entry = g.D.LogDisk.state in'.entry.value in
-    let kept : Kept = record { parts = in'.parts; retired = in'.retired; free = in'.free.items; lost = option_to_list in'.lost; target = in'.target; board = in'.board; job = in'.job; epoch = in'.epoch; sealed = in'.sealed; places = in'.places; is_shut = in'.is_shut } in
+    let kept : Kept = record { parts = in'.parts; retired = in'.retired.items; free = in'.free; lost = in'.lost; target = in'.target; board = in'.board; job = in'.job; epoch = in'.epoch; sealed = in'.sealed; places = in'.places; is_shut = in'.is_shut } in
     let whole = c.self.invariant.0 in
     let regions : c.as_slice.result.now ≡ all_regions in'.parts = c.as_slice.ensures.value ∙ c.in_ok-regions.ensures in
     let new = g.D.LogDisk.state c.eye.new.self in
@@ -104,21 +104,21 @@ invariant_of-self g c =
     let in' = c.self.inside in
     let old = g.D.LogDisk.state in'.disk in
     let entry = g.D.LogDisk.state in'.entry.value in
-    let kept : Kept = record { parts = in'.parts; retired = in'.retired; free = in'.free.items; lost = option_to_list in'.lost; target = in'.target; board = in'.board; job = in'.job; epoch = in'.epoch; sealed = in'.sealed; places = in'.places; is_shut = in'.is_shut } in
+    let kept : Kept = record { parts = in'.parts; retired = in'.retired.items; free = in'.free; lost = in'.lost; target = in'.target; board = in'.board; job = in'.job; epoch = in'.epoch; sealed = in'.sealed; places = in'.places; is_shut = in'.is_shut } in
     let whole = c.self.invariant.0 in
     let regions : c.as_slice.result.now ≡ all_regions in'.parts = c.as_slice.ensures.value ∙ c.in_ok-regions.ensures in
     let new = g.D.LogDisk.state c.eye.new.self in
     let eye = g.D.Eye.LogEye.state c.in-Ok.eye in
     let opens : Opens (all_regions in'.parts) eye old new = subst (λ rs. Opens rs eye old new) regions c.in-Ok.ensures.ok in
     let lowest : empty_of in'.board c.args.seat ≡ Some c.post-buffer.result = c.post-buffer.ensures.lowest in
-    (subst (λ (b : List Buffer). IsWhole (value_of new entry (record kept { board = b }))) (sym c.post-buffer.ensures.filled) (viewed_whole old new entry kept whole c.if-self.false c.args.seat c.post-buffer.result eye opens lowest), c.self.invariant.1 ∙ sym opens.others.1)
+    (subst (λ (b : List Buffer). IsWhole (value_of new entry (record kept { board = b }))) (sym c.post-buffer.ensures.filled) (viewed_whole old new entry kept whole c.if-self.false c.args.seat c.post-buffer.result eye opens lowest), c.self.invariant.1 ∙ sym opens.others.1, c.self.invariant.2)
 
 pub returns-in-Ok : goal.returns-in-Ok
 returns-in-Ok g c =
     let in' = c.self.inside in
     let old = g.D.LogDisk.state in'.disk in
     let entry = g.D.LogDisk.state in'.entry.value in
-    let kept : Kept = record { parts = in'.parts; retired = in'.retired; free = in'.free.items; lost = option_to_list in'.lost; target = in'.target; board = in'.board; job = in'.job; epoch = in'.epoch; sealed = in'.sealed; places = in'.places; is_shut = in'.is_shut } in
+    let kept : Kept = record { parts = in'.parts; retired = in'.retired.items; free = in'.free; lost = in'.lost; target = in'.target; board = in'.board; job = in'.job; epoch = in'.epoch; sealed = in'.sealed; places = in'.places; is_shut = in'.is_shut } in
     let whole = c.self.invariant.0 in
     let regions : c.as_slice.result.now ≡ all_regions in'.parts = c.as_slice.ensures.value ∙ c.in_ok-regions.ensures in
     let new = g.D.LogDisk.state c.eye.new.self in
@@ -139,18 +139,18 @@ invariant_of-self-in-Failed g c =
     let in' = c.self.inside in
     let old = g.D.LogDisk.state in'.disk in
     let entry = g.D.LogDisk.state in'.entry.value in
-    let kept : Kept = record { parts = in'.parts; retired = in'.retired; free = in'.free.items; lost = option_to_list in'.lost; target = in'.target; board = in'.board; job = in'.job; epoch = in'.epoch; sealed = in'.sealed; places = in'.places; is_shut = in'.is_shut } in
+    let kept : Kept = record { parts = in'.parts; retired = in'.retired.items; free = in'.free; lost = in'.lost; target = in'.target; board = in'.board; job = in'.job; epoch = in'.epoch; sealed = in'.sealed; places = in'.places; is_shut = in'.is_shut } in
     let whole = c.self.invariant.0 in
     let new = g.D.LogDisk.state c.eye.new.self in
     let fails = c.in-Err.ensures.failed (ap (λ (r : DiskRefusal). Err r) c.in-Failed.is) in
-    (failed_whole old new entry kept whole c.if-self.false fails, c.self.invariant.1 ∙ sym fails.beside.region_len)
+    (failed_whole old new entry kept whole c.if-self.false fails, c.self.invariant.1 ∙ sym fails.beside.region_len, c.self.invariant.2)
 
 pub returns-in-Failed : goal.returns-in-Failed
 returns-in-Failed g c =
     let in' = c.self.inside in
     let old = g.D.LogDisk.state in'.disk in
     let entry = g.D.LogDisk.state in'.entry.value in
-    let kept : Kept = record { parts = in'.parts; retired = in'.retired; free = in'.free.items; lost = option_to_list in'.lost; target = in'.target; board = in'.board; job = in'.job; epoch = in'.epoch; sealed = in'.sealed; places = in'.places; is_shut = in'.is_shut } in
+    let kept : Kept = record { parts = in'.parts; retired = in'.retired.items; free = in'.free; lost = in'.lost; target = in'.target; board = in'.board; job = in'.job; epoch = in'.epoch; sealed = in'.sealed; places = in'.places; is_shut = in'.is_shut } in
     let whole = c.self.invariant.0 in
     let new = g.D.LogDisk.state c.eye.new.self in
     let fails = c.in-Err.ensures.failed (ap (λ (r : DiskRefusal). Err r) c.in-Failed.is) in
@@ -161,7 +161,7 @@ returns g c =
     let in' = c.self.inside in
     let old = g.D.LogDisk.state in'.disk in
     let entry = g.D.LogDisk.state in'.entry.value in
-    let kept : Kept = record { parts = in'.parts; retired = in'.retired; free = in'.free.items; lost = option_to_list in'.lost; target = in'.target; board = in'.board; job = in'.job; epoch = in'.epoch; sealed = in'.sealed; places = in'.places; is_shut = in'.is_shut } in
+    let kept : Kept = record { parts = in'.parts; retired = in'.retired.items; free = in'.free; lost = in'.lost; target = in'.target; board = in'.board; job = in'.job; epoch = in'.epoch; sealed = in'.sealed; places = in'.places; is_shut = in'.is_shut } in
     let whole = c.self.invariant.0 in
     let same : g.D.LogDisk.state c.eye.new.self ≡ old = c.in-Err.ensures.no_memory (ap (λ (r : DiskRefusal). Err r) c.in-NoMemory.is) in
     let whole' : IsWhole c.args.self.now = subst IsWhole c.self.view_is whole in

@@ -15,18 +15,19 @@ returns-in_err-self-inside-clause-keeps g c = keeps_none c.args.self.now (subst 
 pub invariant_of-self : goal.invariant_of-self
 invariant_of-self g c =
     let in' = c.self.inside in
-    let kept : Kept = record { parts = in'.parts; retired = in'.retired; free = in'.free.items; lost = option_to_list in'.lost; target = in'.target; board = in'.board; job = in'.job; epoch = in'.epoch; sealed = in'.sealed; places = in'.places; is_shut = in'.is_shut } in
+    let kept : Kept = record { parts = in'.parts; retired = in'.retired.items; free = in'.free; lost = in'.lost; target = in'.target; board = in'.board; job = in'.job; epoch = in'.epoch; sealed = in'.sealed; places = in'.places; is_shut = in'.is_shut } in
     let empty : list_all is_empty in'.board ≡ true = ap (λ (v : RoomValue). list_all is_empty v.room.board) c.self.view_is ∙ c.requires.board in
     let made : c.in_ok-self-inside.field-0 ≡ replicate (3 * c.args.seats) None = c.in_ok-self-inside.ensures in (
       subst (λ (b : List Buffer). IsWhole (value_of (g.D.LogDisk.state in'.disk) (g.D.LogDisk.state in'.entry.value) (record kept { board = b }))) (sym made)
           (seats_whole (g.D.LogDisk.state in'.disk) (g.D.LogDisk.state in'.entry.value) kept c.self.invariant.0 c.args.seats c.requires.some c.requires.few empty),
       c.self.invariant.1,
+      c.self.invariant.2,
     )
 
 pub returns-clause-keeps : goal.returns-clause-keeps
 returns-clause-keeps g c =
     let in' = c.self.inside in
-    let kept : Kept = record { parts = in'.parts; retired = in'.retired; free = in'.free.items; lost = option_to_list in'.lost; target = in'.target; board = in'.board; job = in'.job; epoch = in'.epoch; sealed = in'.sealed; places = in'.places; is_shut = in'.is_shut } in
+    let kept : Kept = record { parts = in'.parts; retired = in'.retired.items; free = in'.free; lost = in'.lost; target = in'.target; board = in'.board; job = in'.job; epoch = in'.epoch; sealed = in'.sealed; places = in'.places; is_shut = in'.is_shut } in
     let empty : list_all is_empty in'.board ≡ true = ap (λ (v : RoomValue). list_all is_empty v.room.board) c.self.view_is ∙ c.requires.board in
     let made : c.in_ok-self-inside.field-0 ≡ replicate (3 * c.args.seats) None = c.in_ok-self-inside.ensures in
     let new : List Buffer → RoomValue = λ b. value_of (g.D.LogDisk.state in'.disk) (g.D.LogDisk.state in'.entry.value) (record kept { board = b }) in

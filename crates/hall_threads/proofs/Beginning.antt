@@ -1,12 +1,11 @@
 -- A day begins on a log that shows no rows.
-use Rattle.std.proofs.Common.{◌≡◌, ◌≢◌, ◌⊎◌, inl, inr, ℕ, zero, suc, ◌+◌, ◌<◌, ◌≤◌, List, [], ◌∷◌, ◌++◌, map, length, Option, Some, None, Ok, refl, sym, ap, ◌∙◌, subst, ⊎_elim, arith, le_refl}
+use Rattle.std.proofs.Common.{◌≡◌, ◌⊎◌, inl, inr, ℕ, zero, suc, List, [], ◌∷◌, ◌++◌, map, length, Some, None, refl, sym, ap, ◌∙◌, subst, ⊎_elim, arith}
 use mathlib.Core.Option.{some, some-injective, some-ne-none}
 use lib.ListN.{get_elem?}
 use Rattle.fine_places.proofs.Lists.{some_same}
 use Rattle.fine_model.specs.declared.Row.{Row}
 use Rattle.fine_model.specs.declared.Node.TheVariants as node
-use Rattle.fine_model.specs.declared.law.ViewState.{ViewState}
-use Rattle.fine_model.specs.Regions.{Image, header_in}
+use Rattle.fine_model.specs.Regions.{header_in}
 use Rattle.fine_model.specs.Chain.{Shows, chain, parts_from, apart, chain_of, taken, AreRowsOf}
 use Rattle.fine_model.specs.Nodes.{content, replay, Agrees}
 use Rattle.fine_model.specs.History.{all_rows, upto}
@@ -14,12 +13,12 @@ use Rattle.fine_model.specs.Views.{TellsRowsOf}
 use Rattle.fine_model.specs.Buckets.{Began, node_id}
 use Rattle.fine_model.proofs.Unique.{Shows-unique}
 use Rattle.fine_hall.specs.declared.law.Beginning.{Beginning}
-use Rattle.fine_hall.specs.Laws.{beginning, IsViewFor}
+use Rattle.fine_hall.specs.Laws.{beginning}
 use Rattle.fine_hall.specs.Halls.{IsFreshHall, IsFreshView, first_board}
 use Rattle.hall_threads.specs.declared.things.DayRoom.{DayRoom}
 use Rattle.hall_threads.specs.declared.things.DayBucket.{DayBucket}
 use Rattle.hall_threads.specs.declared.things.DayView.{DayView}
-use Rattle.hall_threads.specs.Days.{zero_image, day_log, key_bucket, leaf_at, board_of, room_state, room_log, view_state, StandsFor, view_of_log, first_numbers, IsFirstRoom}
+use Rattle.hall_threads.specs.Days.{zero_image, day_log, key_bucket, leaf_at, board_of, room_state, room_log, view_state, view_of_log, IsFirstRoom}
 use Rattle.hall_threads.proofs.Standing.{day_stands}
 
 -- ---- the log shows no rows

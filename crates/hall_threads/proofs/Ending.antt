@@ -1,12 +1,11 @@
 -- A day ends: its passes, and the log at entry.
-use Rattle.std.proofs.Common.{◌≡◌, ◌≢◌, ℕ, zero, suc, ◌+◌, ◌<◌, ◌≤◌, ◌==◌, List, [], ◌∷◌, ◌++◌, length, map, Option, Some, None, refl, sym, ap, ◌∙◌, subst, arith, le_refl, ne_eqb, length-append}
-use Rattle.std.specs.Prelude.{IsPermutation, if◌then◌else◌}
+use Rattle.std.proofs.Common.{◌≡◌, ℕ, zero, suc, ◌≤◌, List, [], ◌∷◌, ◌++◌, length, refl, sym, ap, ◌∙◌, subst, arith, le_refl, ne_eqb}
+use Rattle.std.specs.Prelude.{if◌then◌else◌}
 use mathlib.Core.Option.{some, some-injective, some-ne-none}
 use lib.ListN.{get_elem?}
-use Rattle.fine_model.specs.declared.Row.{Row}
 use Rattle.fine_model.specs.declared.Node.TheVariants as node
 use Rattle.fine_model.specs.Nodes.{content, replay}
-use Rattle.fine_model.specs.Trees.{IsSound, IsFit, IsTree, IsSubtree, reached, is_distinct, is_leaf, nodes_of}
+use Rattle.fine_model.specs.Trees.{IsSound, IsSubtree, reached, is_distinct, nodes_of}
 use Rattle.fine_model.specs.Buckets.{Began}
 use Rattle.fine_hall.specs.Turns.{commits}
 use Rattle.hall_threads.specs.Days.{zero_image, day_log}

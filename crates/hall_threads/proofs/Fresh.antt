@@ -1,10 +1,8 @@
 -- The two passes of a new day.
-use Rattle.std.proofs.Common.{◌≡◌, ℕ, suc, ◌+◌, List, [], ◌∷◌, ◌++◌, length, refl, sym, ap, ◌∙◌, subst, arith, length-append}
-use mathlib.Core.Option.{some}
-use lib.ListN.{get_elem?}
+use Rattle.std.proofs.Common.{◌≡◌, ℕ, ◌+◌, List, [], ◌∷◌, ◌++◌, length, ap, ◌∙◌, arith, length-append}
 use Rattle.fine_hall.specs.declared.pass.Pass.{Pass}
 use Rattle.fine_hall.specs.Turns.{room_after, commits}
-use Rattle.fine_hall.specs.Passes.{own_turns, mine, turns}
+use Rattle.fine_hall.specs.Passes.{mine}
 use Rattle.fine_hall.specs.Halls.{HallOf, begun}
 use Rattle.fine_hall.specs.Opening.{HandsOut, HandedOut}
 use Rattle.hall_threads.specs.declared.things.DayRoom.{DayRoom}

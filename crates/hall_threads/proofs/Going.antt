@@ -1,17 +1,12 @@
 -- How a pass goes on through a transaction.
-use Rattle.std.proofs.Common.{◌≡◌, ◌≢◌, ℕ, ◌+◌, ◌<◌, ◌≤◌, ◌==◌, ◌||◌, Bool, true, false, true≢false, List, [], ◌∷◌, ◌++◌, map, Option, Some, None, refl, sym, ap, ◌∙◌, subst, append-nil, eqb-true}
+use Rattle.std.proofs.Common.{◌≡◌, ℕ, ◌==◌, ◌||◌, Bool, true, false, List, [], ◌∷◌, ◌++◌, Option, Some, None, refl, sym, ap, ◌∙◌, subst, eqb-true}
 use Rattle.std.proofs.lemmas.List.{map-append}
-use Rattle.fine_places.specs.declared.model.Placed.{Placed}
-use Rattle.fine_places.specs.History as places
 use Rattle.fine_boxes.specs.declared.model.TurnNote.{TurnNote}
 use Rattle.fine_model.specs.declared.Entry.{Entry}
-use Rattle.fine_model.specs.declared.Call.{Call}
 use Rattle.fine_model.specs.declared.law.RoomState.{RoomState}
 use Rattle.fine_model.specs.History.{Commit}
 use Rattle.fine_model.specs.Buckets.{IsBucketFor}
-use Rattle.fine_model.specs.Trees.{bucket_of}
 use Rattle.fine_hall.specs.declared.law.Beginning.{Beginning}
-use Rattle.fine_hall.specs.declared.turn.Turn.{Turn}
 use Rattle.fine_hall.specs.declared.pass.Pass.{Pass}
 use Rattle.fine_hall.specs.Turns.{added, committed, commits, is_in, in_bucket, room_after}
 use Rattle.fine_hall.specs.Passes.{turns, own_turns, seen, mine, published, HasPlace, LacksJob}

@@ -1,5 +1,5 @@
 -- What a pass holds during a transaction.
-use Rattle.std.proofs.Common.{◌≡◌, ◌≢◌, ℕ, ◌<◌, ◌≤◌, ◌+◌, ◌*◌, Bool, true, false, List, set, sym, ap, ◌∙◌, subst, ⊎_elim, arith, le_refl, fold}
+use Rattle.std.proofs.Common.{◌≡◌, ◌≢◌, ℕ, ◌<◌, ◌≤◌, Bool, true, false, List, set, sym, ap, ◌∙◌, ⊎_elim, arith, le_refl}
 use mathlib.Core.Option.{some}
 use lib.ListN.{get_elem?}
 use Rattle.fine_places.specs.History as places

@@ -1,8 +1,6 @@
 -- The transaction that puts a value may follow on any history that left the leaf so, and what it leaves.
-use Rattle.std.proofs.Common.{◌≡◌, ◌≢◌, ℕ, zero, suc, ◌+◌, ◌<◌, ◌≤◌, ◌==◌, ◌||◌, ◌&&◌, nat_lt, Bool, true, false, cond, List, [], ◌∷◌, ◌++◌, All, Option, Some, None, Ok, Err, refl, sym, ap, ◌∙◌, subst, arith, append_assoc, append-nil, eq-eqb, ne_eqb}
+use Rattle.std.proofs.Common.{◌≡◌, ℕ, ◌+◌, ◌<◌, ◌≤◌, ◌==◌, ◌||◌, ◌&&◌, nat_lt, Bool, true, false, cond, List, [], ◌∷◌, ◌++◌, All, Ok, Err, refl, sym, ap, ◌∙◌, arith, append_assoc, eq-eqb, ne_eqb}
 use Rattle.std.specs.Prelude.{if◌then◌else◌}
-use Rattle.std.specs.List.{list_any}
-use Rattle.fine_model.specs.declared.Entry.{Entry}
 use Rattle.fine_model.specs.declared.Row.{Row}
 use Rattle.fine_model.specs.declared.NodeId.{NodeId}
 use Rattle.fine_model.specs.declared.Why.TheVariants as why
@@ -12,11 +10,11 @@ use Rattle.fine_model.specs.Map.{Pair, get, set}
 use Rattle.fine_model.specs.Nodes.{Content, content, replay, step, rows_of, is_node, changed}
 use Rattle.fine_model.specs.Store.{replies_to, writes_of, answer}
 use Rattle.fine_model.specs.Trees.{pairs_of, nodes_of}
-use Rattle.fine_model.specs.Pushed.{Growth, Push, row_of, set_push, growth, grown_leaf, with_head, call_push, push_of, within_limits, pushed, all_pushed, and_then}
-use Rattle.fine_model.specs.History.{Commit, IsNext, all_rows, map_at}
+use Rattle.fine_model.specs.Pushed.{Growth, Push, set_push, growth, grown_leaf, with_head, call_push, push_of, within_limits, pushed, all_pushed, and_then}
+use Rattle.fine_model.specs.History.{Commit, IsNext, all_rows}
 use Rattle.fine_model.specs.Buckets.{node_id}
 use Rattle.fine_model.proofs.NodeLaws.{content-append}
-use Rattle.hall_threads.specs.Days.{key, key_bucket, pairs_at, leaf_at, put_call, put_row, put_entry}
+use Rattle.hall_threads.specs.Days.{key, key_bucket, leaf_at, put_call, put_row, put_entry}
 use Rattle.hall_threads.proofs.Epochs.{rows_push}
 
 -- ---- the row

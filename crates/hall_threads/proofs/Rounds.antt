@@ -1,7 +1,6 @@
 -- How a pass goes on through steps that see more.
-use Rattle.std.proofs.Common.{◌≡◌, ◌≤◌, ℕ, Bool, true, false, None, refl, sym, ap, ◌∙◌, subst}
+use Rattle.std.proofs.Common.{◌≡◌, Bool, true, false, sym, ap, ◌∙◌, subst}
 use lib.ListN.{get_elem?}
-use Rattle.fine_places.specs.History as places
 use Rattle.fine_places.specs.History.{by_seat}
 use Rattle.fine_hall.specs.declared.law.Beginning.{Beginning}
 use Rattle.fine_hall.specs.declared.pass.Pass.{Pass}

@@ -1,38 +1,30 @@
 -- What may be given back behind a transaction.
-use Rattle.std.proofs.Common.{◌≡◌, ◌≢◌, ◌⊎◌, inl, inr, ℕ, ◌+◌, ◌<◌, ◌≤◌, ◌==◌, Bool, true, false, true≢false, cond, List, [], ◌∷◌, ◌++◌, map, length, All, Option, Some, None, refl, sym, ap, ◌∙◌, subst, ⊎_elim, arith, append-nil, le_refl, le_trans, eqb-true, eq-eqb, ne_eqb}
-use Rattle.std.specs.Prelude.{if◌then◌else◌, count_by}
-use Rattle.std.specs.List.{AllByRecursion, list_any}
+use Rattle.std.proofs.Common.{◌≡◌, inl, ℕ, ◌+◌, ◌<◌, ◌≤◌, ◌==◌, true, true≢false, List, [], ◌∷◌, ◌++◌, length, All, Option, Some, None, refl, sym, ap, ◌∙◌, subst, arith, append-nil, le_refl}
+use Rattle.std.specs.Prelude.{count_by}
 use Rattle.std.proofs.lemmas.List.{map-append}
 use Rattle.fine_places.proofs.Lists.{some_same}
 use Rattle.fine_places.specs.History as places
 use Rattle.fine_model.specs.declared.Entry.{Entry}
 use Rattle.fine_model.specs.declared.Row.{Row}
-use Rattle.fine_model.specs.declared.Node.TheVariants as node
 use Rattle.fine_model.specs.declared.law.RoomState.{RoomState}
-use Rattle.fine_model.specs.RowBytes.{greatest}
-use Rattle.fine_model.specs.Regions.{Image}
 use Rattle.fine_model.specs.Chain.{free_regions, is_free}
-use Rattle.fine_model.specs.Nodes.{Content, content, is_node}
-use Rattle.fine_model.specs.History.{Commit, IsLegal, all_rows}
+use Rattle.fine_model.specs.History.{Commit, IsLegal}
 use Rattle.fine_model.specs.Becomes.{Becomes, IsStuck}
 use Rattle.fine_model.specs.Room.{IsSealedUpTo}
 use Rattle.fine_model.specs.Jobs.{KeepsJob}
-use Rattle.fine_model.specs.Buckets.{Began, IsBucketFor, IsNodeFor, IsUpTo, node_id, has_row_on}
+use Rattle.fine_model.specs.Buckets.{Began}
 use Rattle.fine_model.proofs.HistoryLaws.{IsLegal-push}
-use Rattle.fine_model.proofs.Goings.{buckets_on}
 use Rattle.fine_hall.specs.declared.law.Beginning.{Beginning}
 use Rattle.fine_hall.specs.declared.pass.Pass.{Pass}
-use Rattle.fine_hall.specs.Turns.{added, committed, is_in, in_bucket, places_more}
+use Rattle.fine_hall.specs.Turns.{added, committed, is_in, places_more}
 use Rattle.fine_hall.specs.Laws.{CountsEpochs, IsRoomFor}
 use Rattle.fine_hall.specs.Passes.{seen, turns, published, last_room, HasPlace}
-use Rattle.fine_hall.specs.Halls.{TakesRoom, MayGiveRoom, MayGive, MayCommit}
+use Rattle.fine_hall.specs.Halls.{TakesRoom, MayGiveRoom, MayGive}
 use Rattle.hall_threads.specs.declared.things.DayRoom.{DayRoom}
-use Rattle.hall_threads.specs.declared.things.DayBucket.{DayBucket}
 use Rattle.hall_threads.specs.declared.things.DayView.{DayView}
-use Rattle.hall_threads.specs.Days.{zero_image, key, key_bucket, leaf_at, put_call, put_entry, board_of, room_state, room_log, StandsFor, bucket_number, bucket_cached, cached_leaf, bucket_rests, view_state, Appends}
-use Rattle.hall_threads.proofs.Idle.{low, near}
+use Rattle.hall_threads.specs.Days.{zero_image, key_bucket, leaf_at, put_entry, board_of, room_state, room_log, StandsFor, view_state, Appends}
 use Rattle.hall_threads.proofs.Epochs.{epochs_below, waiting_push, sealed_push, follow_push}
-use Rattle.hall_threads.proofs.Putting.{next_put, leaf_after, others_stay, on_leaf}
+use Rattle.hall_threads.proofs.Putting.{next_put, leaf_after, others_stay}
 
 abbrev pub day_stands : DayRoom → List Row → ℕ → List Commit → Type 0
 day_stands room first e history = StandsFor room first history

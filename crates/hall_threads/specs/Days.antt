@@ -1,5 +1,5 @@
 -- A small log: a room that keeps its entries, buckets that cache the one leaf that is written, and views of the empty log.
-use Rattle.std.specs.Prelude.{◌≡◌, ℕ, zero, suc, ◌+◌, ◌<◌, ◌≤◌, ◌==◌, if◌then◌else◌, List, [], ◌∷◌, ◌++◌, map, length, replicate, Option, Some, None, option_map, true, false, All}
+use Rattle.std.specs.Prelude.{◌≡◌, ℕ, ◌+◌, ◌<◌, ◌==◌, if◌then◌else◌, List, [], ◌∷◌, ◌++◌, map, replicate, Option, Some, None, option_map, false}
 use Rattle.fine_model.specs.declared.Entry.{Entry}
 use Rattle.fine_model.specs.declared.Row.{Row}
 use Rattle.fine_model.specs.declared.Call.{Call}
@@ -17,13 +17,7 @@ use Rattle.fine_model.specs.Nodes.{Content, content}
 use Rattle.fine_model.specs.Map.{Pair}
 use Rattle.fine_model.specs.Pushed.{row_of}
 use Rattle.fine_model.specs.Trees.{bucket_of}
-use Rattle.fine_model.specs.History.{Commit, IsLegal, all_rows}
-use Rattle.fine_model.specs.Outcomes.{EpochsFollow}
-use Rattle.fine_model.specs.Room.{IsSealedUpTo}
-use Rattle.fine_places.specs.declared.model.Placed.{Placed}
-use Rattle.fine_places.specs.History.{by_seat}
-use Rattle.fine_hall.specs.declared.turn.Turn.{Turn}
-use Rattle.fine_hall.specs.Turns.{commits}
+use Rattle.fine_model.specs.History.{Commit, all_rows}
 use Rattle.fine_model.specs.Buckets.{node_id}
 use Rattle.fine_hall.specs.declared.pass.Pass.{Pass}
 use Rattle.fine_hall.specs.Halls.{HallOf, IsPassOf, begun}
@@ -170,19 +164,3 @@ pub record IsFirstRoom (room : DayRoom) : Type 0 where
   pub value : room.value ≡ 0
   pub board : room.board.items ≡ first_numbers
   pub kept : room.kept.items ≡ []
-
--- ---- the end
-
--- There is one list of turns, each of one of the two seats. It makes a legal history of the epochs behind 0, in which the transactions of
--- each seat are those that its thread said; the room keeps their entries in this order, and what they leave of the key is what it knows.
-pub record IsDay (first second a b : ℕ) (room : DayRoom) : Type 0 where
-  pub all : List (Placed Turn)
-  pub authors : All (λ t. (0 < t.seat) × (t.seat ≤ 2)) all
-  pub legal : IsLegal [] (commits all)
-  pub of_first : put_calls (commits (by_seat 1 all)) ≡ replicate a (put_call first ∷ [])
-  pub of_second : put_calls (commits (by_seat 2 all)) ≡ replicate b (put_call second ∷ [])
-  pub kept : map (λ note. note.value) room.kept.items ≡ map (λ c. c.entry) (commits all)
-  pub places : room.places ≡ length (commits all)
-  pub follow : EpochsFollow 0 (commits all)
-  pub sealed : IsSealedUpTo 0 (commits all) room.sealed
-  pub leaf : content (all_rows (commits all)) (node_id key_bucket 1) ≡ leaf_at room.places room.value

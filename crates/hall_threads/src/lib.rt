@@ -16,4 +16,4 @@ pub use round::look_up;
 pub use things::{DayBucket, DayRoom, DayView, Leaf};
 pub use threads::{both, put_times};
 pub use transaction::{DayHall, put, the_bucket};
-pub use whole_day::day;
+pub use whole_day::{day, end};

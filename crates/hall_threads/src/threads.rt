@@ -4,6 +4,7 @@ ghost use Rattle.std.specs.Prelude.{◌≡◌, ◌++◌, [], ◌∷◌, if◌the
 ghost use Rattle.fine_hall.specs.Passes.{mine};
 ghost use Rattle.hall_threads.specs.Days.{key_bucket, put_call, put_calls, IsIdlePass};
 
+use crate::round::look_up;
 use crate::things::DayView;
 use crate::transaction::{DayHall, put};
 use fine_hall::Pass;
@@ -73,7 +74,9 @@ fn put_as<W: Wait>(
     ensures pass { IsIdlePass hall.now result.0 × (result.0.number ≡ pass.number) }
     ensures more { put_calls (mine result.0) ≡ put_calls (mine pass) ++ replicate result.1 (put_call value ∷ []) }
 {
+    look_up(hall, &mut pass);
     let done = put_times(rt, alloc, hall, &mut pass, bucket, value, times);
+    look_up(hall, &mut pass);
     (pass, done)
 }
 

@@ -1,12 +1,14 @@
 //! A day of two threads, from its beginning to its end.
 
 ghost use Rattle.std.specs.Prelude.{◌≡◌, ◌∷◌, [], IfOk, IfSome, length, vec_len, vec_capacity, ◌≤◌};
-ghost use Rattle.hall_threads.specs.Days.{IsDay};
+ghost use Rattle.fine_hall.specs.Halls.{begun};
+ghost use Rattle.hall_threads.specs.Days.{room_state, room_log, view_state, IsIdlePass};
+ghost use Rattle.hall_threads.specs.Ends.{Ends, IsDay};
 
 use crate::opening::open;
 use crate::things::{DayRoom, DayView};
 use crate::threads::both;
-use crate::transaction::the_bucket;
+use crate::transaction::{DayHall, the_bucket};
 use fine_hall::Pass;
 use std::alloc::{AllocError, Global};
 use std::sync::Wait;
@@ -25,6 +27,27 @@ fn pair(
     Ok(passes)
 }
 
+/// Closes a hall of two seats, whose room began without entries, with both its passes. None where there is no memory.
+///
+/// There is one history. It is legal, the room keeps its entries in this order and knows the leaf that they leave, and what each pass
+/// did is its part of it. Each pass saw a front of it, and each view that a refresh gave it shows this history up to the view's epoch.
+pub fn end(alloc: Global, hall: DayHall, one: Pass<DayView>, two: Pass<DayView>) -> Option<DayRoom>
+    requires seats { (begun room_state room_log view_state hall).seats ≡ 2 }
+    requires sealed { (begun room_state room_log view_state hall).room.sealed ≡ 0 }
+    requires one { IsIdlePass hall one × (one.number ≡ 1) }
+    requires two { IsIdlePass hall two × (two.number ≡ 2) }
+    ensures { IfSome result (λ room. Ends one two room) }
+{
+    let Ok(mut views) = Vec::with_capacity(alloc, 4) else {
+        return None;
+    };
+    let Ok(passes) = pair(alloc, one, two) else {
+        return None;
+    };
+    let room = hall.close(passes, &mut views);
+    Some(room)
+}
+
 /// Opens a hall of two seats, lets two threads put a value each so many times, and closes it. Answers the room and how often each of
 /// the threads did it; None where there is no memory.
 ///
@@ -41,9 +64,6 @@ pub fn day<R: Threads + Wait + Sync>(
     ensures { IfSome result (λ r. IsDay first second r.1 r.2 r.0) }
 {
     let (hall, mut passes) = open(alloc, most)?;
-    let Ok(mut views) = Vec::with_capacity(alloc, 4) else {
-        return None;
-    };
     let Some(one) = passes.pop() else {
         return None;
     };
@@ -52,9 +72,6 @@ pub fn day<R: Threads + Wait + Sync>(
     };
     let bucket = the_bucket();
     let ((one, a), (two, b)) = both(rt, alloc, &hall, bucket, (one, first), (two, second), times);
-    let Ok(passes) = pair(alloc, one, two) else {
-        return None;
-    };
-    let room = hall.close(passes, &mut views);
+    let room = end(alloc, hall, one, two)?;
     Some((room, a, b))
 }

@@ -1,13 +1,13 @@
 -- One transaction: the bucket, the room, and both given back.
-use Rattle.std.proofs.Common.{◌≡◌, ◌≤◌, ◌<◌, true, ◌+◌, ◌++◌, [], ◌∷◌, Some, None, ℕ, refl, sym, ap, subst, ◌∙◌, le_trans, arith, append-nil}
+use Rattle.std.proofs.Common.{◌≡◌, ◌<◌, true, ◌+◌, ◌++◌, [], ◌∷◌, Some, None, ℕ, sym, ap, subst, ◌∙◌, arith, append-nil}
 use lib.ListN.{get_elem?}
 use Rattle.fine_places.specs.History as places
 use Rattle.fine_model.specs.declared.Entry.{Entry}
 use Rattle.fine_hall.specs.Halls.{begun, MayGiveRoom}
 use Rattle.fine_hall.specs.Turns.{commits, added, is_in}
-use Rattle.fine_hall.specs.Passes.{known, seen, mine, published, turns, own_turns, HasPlace}
-use Rattle.hall_threads.specs.Days.{key_bucket, put_entry, put_call, put_calls, leaf_at, room_state, room_log, view_state, Appends}
-use Rattle.hall_threads.proofs.Idle.{near, low, bucket_had, room_free, room_held, bucket_held, bucket_still, idle_again}
+use Rattle.fine_hall.specs.Passes.{known, seen, mine, published, HasPlace}
+use Rattle.hall_threads.specs.Days.{key_bucket, put_entry, put_calls, room_state, room_log, view_state, Appends}
+use Rattle.hall_threads.proofs.Idle.{near, bucket_had, room_free, room_held, bucket_held, bucket_still, idle_again}
 use Rattle.hall_threads.proofs.Standing.{day_stands, may_give_none, may_give_put, all_below}
 use Rattle.hall_threads.specs.declared.things.DayBucket.{DayBucket}
 use Rattle.hall_threads.proofs.Putting.{leaf_after}

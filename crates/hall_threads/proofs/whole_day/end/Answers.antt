@@ -1,0 +1,51 @@
+-- What the hall tells at its end is told of the two passes and of a log without rows.
+use Rattle.std.proofs.Common.{◌≡◌, ◌<◌, ◌≤◌, ◌∷◌, [], ℕ, map, sym, ap, subst, ◌∙◌}
+use Rattle.std.proofs.lemmas.List.Sorted.{IsPermutation-refl}
+use Rattle.std.specs.Prelude.{IsPermutation, All}
+use Rattle.std.specs.List.{range_with_len}
+use mathlib.Core.Option.{some}
+use lib.ListN.{get_elem?}
+use Rattle.fine_places.specs.History.{by_seat}
+use Rattle.fine_model.specs.Outcomes.{EpochsFollow}
+use Rattle.fine_model.specs.Room.{IsSealedUpTo}
+use Rattle.fine_hall.specs.declared.pass.Pass.{Pass}
+use Rattle.fine_hall.specs.Turns.{commits}
+use Rattle.fine_hall.specs.Passes.{HoldsNothing, LacksJob}
+use Rattle.fine_hall.specs.Halls.{begun, IsPassOf}
+use Rattle.hall_threads.specs.declared.things.DayView.{DayView}
+use Rattle.hall_threads.specs.Days.{room_state, room_log, view_state}
+use Rattle.hall_threads.proofs.Ending.{day_began, two_cases}
+use Rattle.hall_threads.proofs.whole_day.end.Goals as goal
+
+pub close-room-requires-clause-passes : goal.close-room-requires-clause-passes
+close-room-requires-clause-passes c κs = two_cases c.args.one c.args.two c.in-Ok-pair.passes.items
+    (λ p. IsPassOf room_state room_log view_state c.args.hall p × HoldsNothing p × LacksJob (begun room_state room_log view_state c.args.hall) p) c.in-Ok-pair.ensures c.requires.one.0 c.requires.two.0
+
+pub close-room-requires-clause-all : goal.close-room-requires-clause-all
+close-room-requires-clause-all c κs =
+    let is : map (λ (p : Pass DayView). p.number) c.in-Ok-pair.passes.items ≡ 1 ∷ 2 ∷ [] = ap (map (λ (p : Pass DayView). p.number)) c.in-Ok-pair.ensures ∙ (λ i. c.requires.one.1 i ∷ c.requires.two.1 i ∷ []) in
+    subst (λ l. IsPermutation l (range_with_len 1 (begun room_state room_log view_state c.args.hall).seats)) (sym is)
+    (subst (λ n. IsPermutation (1 ∷ 2 ∷ []) (range_with_len 1 n)) (sym c.requires.seats) (IsPermutation-refl (1 ∷ 2 ∷ [])))
+
+pub returns : goal.returns
+returns c =
+    let e = c.close-room.ensures.closes.2 in
+    let stands = e.stood.stands 0 [] day_began in
+    let at_one : get_elem? c.in-Ok-pair.passes.items 0 ≡ some c.args.one = ap (λ l. get_elem? l 0) c.in-Ok-pair.ensures in
+    let at_two : get_elem? c.in-Ok-pair.passes.items 1 ≡ some c.args.two = ap (λ l. get_elem? l 1) c.in-Ok-pair.ensures in
+    record {
+      all = e.all;
+      whole = record {
+        authors = subst (λ (n : ℕ). All (λ t. (0 < t.seat) × (t.seat ≤ n)) e.all) c.requires.seats e.authors;
+        legal = e.lawful.legal 0 [] day_began;
+        kept = stands.kept;
+        places = e.stood.places;
+        follow = subst (λ (n : ℕ). EpochsFollow n (commits e.all)) c.requires.sealed e.stood.epochs.follow;
+        sealed = subst (λ (n : ℕ). IsSealedUpTo n (commits e.all) c.close-room.result.sealed) c.requires.sealed e.stood.epochs.sealed;
+        leaf = stands.leaf;
+      };
+      own_first = e.parts 0 c.args.one at_one ∙ ap (λ n. by_seat n e.all) c.requires.one.1;
+      own_second = e.parts 1 c.args.two at_two ∙ ap (λ n. by_seat n e.all) c.requires.two.1;
+      saw_first = record { front = e.saw 0 c.args.one at_one; marks = e.marks 0 c.args.one at_one };
+      saw_second = record { front = e.saw 1 c.args.two at_two; marks = e.marks 1 c.args.two at_two };
+    }

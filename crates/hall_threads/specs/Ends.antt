@@ -1,0 +1,50 @@
+-- What the end of a day tells.
+use Rattle.std.specs.Prelude.{◌≡◌, ℕ, ◌<◌, ◌≤◌, List, [], ◌∷◌, ◌++◌, map, length, replicate, All}
+use Rattle.std.specs.List.{AllByRecursion}
+use Rattle.fine_model.specs.Nodes.{content}
+use Rattle.fine_model.specs.History.{IsLegal, all_rows, upto}
+use Rattle.fine_model.specs.Outcomes.{EpochsFollow}
+use Rattle.fine_model.specs.Room.{IsSealedUpTo}
+use Rattle.fine_model.specs.Buckets.{node_id}
+use Rattle.fine_places.specs.declared.model.Placed.{Placed}
+use Rattle.fine_places.specs.History.{by_seat}
+use Rattle.fine_boxes.specs.declared.model.Mark.{Mark}
+use Rattle.fine_hall.specs.declared.turn.Turn.{Turn}
+use Rattle.fine_hall.specs.declared.pass.Pass.{Pass}
+use Rattle.fine_hall.specs.Turns.{commits}
+use Rattle.fine_hall.specs.Passes.{turns, own_turns, marks}
+use Rattle.hall_threads.specs.declared.things.DayRoom.{DayRoom}
+use Rattle.hall_threads.specs.declared.things.DayView.{DayView}
+use Rattle.hall_threads.specs.Days.{key_bucket, leaf_at, put_call, put_calls}
+
+-- All turns, each of one of the two seats, make a legal history of the epochs behind 0; the room keeps their entries in this order, and
+-- what they leave of the key is what it knows.
+pub record IsWhole (all : List (Placed Turn)) (room : DayRoom) : Type 0 where
+  pub authors : All (λ t. (0 < t.seat) × (t.seat ≤ 2)) all
+  pub legal : IsLegal [] (commits all)
+  pub kept : map (λ note. note.value) room.kept.items ≡ map (λ c. c.entry) (commits all)
+  pub places : room.places ≡ length (commits all)
+  pub follow : EpochsFollow 0 (commits all)
+  pub sealed : IsSealedUpTo 0 (commits all) room.sealed
+  pub leaf : content (all_rows (commits all)) (node_id key_bucket 1) ≡ leaf_at room.places room.value
+
+-- A pass saw a front of all turns, and each view that a refresh gave it shows of the whole history all up to its epoch, which was sealed.
+pub record Saw (all : List (Placed Turn)) (room : DayRoom) (p : Pass DayView) : Type 0 where
+  pub front : (more : List (Placed Turn)) × (all ≡ turns p ++ more)
+  pub marks : AllByRecursion (λ (k : Mark Turn). (upto (commits all) k.upto ≡ upto (commits k.seen) k.upto) × (k.upto ≤ room.sealed)) (marks p)
+
+-- both passes at the end
+pub record Ends (one two : Pass DayView) (room : DayRoom) : Type 0 where
+  pub all : List (Placed Turn)
+  pub whole : IsWhole all room
+  pub own_first : own_turns one ≡ by_seat 1 all
+  pub own_second : own_turns two ≡ by_seat 2 all
+  pub saw_first : Saw all room one
+  pub saw_second : Saw all room two
+
+-- There is one list of turns, and in it the transactions of each seat are those that its thread said.
+pub record IsDay (first second a b : ℕ) (room : DayRoom) : Type 0 where
+  pub all : List (Placed Turn)
+  pub whole : IsWhole all room
+  pub of_first : put_calls (commits (by_seat 1 all)) ≡ replicate a (put_call first ∷ [])
+  pub of_second : put_calls (commits (by_seat 2 all)) ≡ replicate b (put_call second ∷ [])

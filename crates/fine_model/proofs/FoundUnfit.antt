@@ -1,13 +1,13 @@
 -- A node that is unfit over the contents that were found is unfit over all contents, where each one that was found is the node's own.
-use Rattle.std.proofs.Common.{◌≡◌, ◌⊎◌, inl, inr, ℕ, zero, suc, ◌-◌, ◌==◌, nat_lt, nat_le, Bool, true, false, cond, not, ◌&&◌, List, [], ◌∷◌, length, Option, Some, None, option_map, sym, refl, ap, subst, ◌∙◌}
-use Rattle.std.specs.Prelude.{Result, Ok, Err}
+use Rattle.std.proofs.Common.{◌≡◌, ◌⊎◌, inl, inr, ℕ, zero, suc, ◌-◌, ◌==◌, nat_lt, nat_le, Bool, true, false, true≢false, cond, not, ◌&&◌, List, [], ◌∷◌, length, Option, Some, None, option_map, sym, refl, ap, subst, ◌∙◌}
+use Rattle.std.specs.Prelude.{Result, Ok, Err, IsSome, unwrap_or}
 use Rattle.fine_model.specs.Types.{NodeId, Node}
 use Rattle.fine_model.specs.Types.node
 use Rattle.fine_model.specs.Map.{is_below, between}
 use Rattle.fine_model.specs.Nodes.{Content}
 use Rattle.fine_model.specs.Trees.{Bounds, whole, is_leaf, kids_of, pairs_of, nodes_of, bucket_of}
 use Rattle.fine_model.specs.Paths.{is_inner, place_among, bounds_at, seps_of, kid_at, unfit_from, unfit_under, first_unfit, meets, scan_kids, scan_from, unfit_between, first_unfit_between}
-use Rattle.fine_model.specs.Damages.{FoundUnfit, SoundlyFit}
+use Rattle.fine_model.specs.Damages.{FoundUnfit, SoundlyFit, FindsContent, UnfitLaw}
 use Rattle.fine_model.proofs.FitPaths.{fit_law, scan_law}
 
 module _ (bucket : ℕ) (a b : ℕ → Content) (n : ℕ) (each : (number : ℕ) → (a number ≡ b number) ⊎ (a number ≡ (node.Broken, 0))) (itself : a n ≡ b n) where
@@ -162,3 +162,24 @@ soundly_fit rows id within sound (inr (low, high, limit, is)) =
     let none = scan_law rows id.bucket low high limit sound within in
     let some : first_unfit_between rows id.bucket low high limit ≡ Some (record { bucket = id.bucket; number = id.number }) = ap (option_map (λ number. record { bucket = id.bucket; number = number })) is in
     let x : ◌≡◌ {A = Option NodeId} None (Some (record { bucket = id.bucket; number = id.number })) = sym none ∙ some in cc
+
+pub unfit_law : UnfitLaw
+unfit_law region_len image parts id contents within each here unfit = record {
+  in_bucket = within;
+  nodes = nodes;
+  each = λ number. by number (contents number) refl;
+  itself = itself (contents id.number) refl here;
+  unfit = unfit;
+}
+  where
+    nodes : ℕ → Content
+    nodes number = unwrap_or (contents number) (node.Broken, 0)
+
+    by : (number : ℕ) (c : Option Content) → contents number ≡ c
+        → FindsContent region_len image parts (record { bucket = id.bucket; number = number }) (unwrap_or c (node.Broken, 0)) ⊎ (unwrap_or c (node.Broken, 0) ≡ (node.Broken, 0))
+    by number None is = inr refl
+    by number (Some c) is = inl (each number c is)
+
+    itself : (c : Option Content) → contents id.number ≡ c → IsSome c → FindsContent region_len image parts id (unwrap_or c (node.Broken, 0))
+    itself None is some = absurd (true≢false (sym some))
+    itself (Some c) is some = each id.number c is

@@ -1,9 +1,10 @@
 -- What status 7 means on any log.
-use Rattle.std.specs.Prelude.{◌≡◌, ◌⊎◌, ℕ, ◌-◌, ◌<◌, ◌≤◌, Bool, true, false, IsTrue, List, [], ◌∷◌, ◌++◌, map, flat_map, Some, Ok, Err, Contains}
+use Rattle.std.specs.Prelude.{◌≡◌, ◌⊎◌, ℕ, ◌-◌, ◌<◌, ◌≤◌, Bool, true, false, IsTrue, List, [], ◌∷◌, ◌++◌, map, flat_map, Option, Some, IsSome, unwrap_or, Result, Ok, Err, Contains}
 use Rattle.std.specs.List.{AllByRecursion, list_any}
-use Rattle.fine_model.specs.Types.{Row, Header, Part, Damage, NodeId}
+use Rattle.fine_model.specs.Types.{Row, Header, Part, Damage, NodeId, ScriptTxn, Ran}
 use Rattle.fine_model.specs.Types.damage
 use Rattle.fine_model.specs.Types.node
+use Rattle.fine_model.specs.Types.run_fault
 use Rattle.fine_model.specs.Nodes.{Content, base, replay, rows_of}
 use Rattle.fine_model.specs.Merge.{is_image, is_node_below}
 use Rattle.fine_model.specs.Trees.{IsSound, bucket_of, nodes_of}
@@ -11,8 +12,9 @@ use Rattle.fine_model.specs.Paths.{unfit_under, unfit_between}
 use Rattle.fine_model.specs.Regions.{Image, Place, place_of, body_in, HasHeader, HoldsBadItem, IsSealed}
 use Rattle.fine_model.specs.Seek.{RowSpan, entry_at, is_entry, span_at, SpanHolds, IsBadInSpan}
 use Rattle.fine_model.specs.Chain.{chain, Shows}
-use Rattle.fine_model.specs.Report.{damage_line}
-use Rattle.fine_model.specs.Headline.{Return, TellsFaults}
+use Rattle.fine_model.specs.Script.{Refusal}
+use Rattle.fine_model.specs.Report.{damage_line, report}
+use Rattle.fine_model.specs.Headline.{Return, TellsFaults, OneOf}
 
 -- nothing that an image shows is a sound log
 abbrev pub IsUnsound : ℕ → Image → Type 0
@@ -119,14 +121,42 @@ IsDamageOf region_len image parts (damage.Region region at) = HasBadPlace region
 IsDamageOf region_len image parts (damage.Node id) = FindsUnfit region_len image parts id
 IsDamageOf region_len image parts _ = ⊥
 
--- Status 7 of any command, by the bytes of the disk at entry. Where the chain is undefined, its damage is printed. On no log a rise of the
+-- Damage that may be printed of a log: that of its chain, or, where it has one, damage of which P holds by its parts.
+abbrev pub IsDamage : ℕ → Image → (List Part → Damage → Type 0) → Damage → Type 0
+IsDamage region_len entry P what = (chain region_len entry ≡ Err what) ⊎ ((parts : List Part) × (chain region_len entry ≡ Ok parts) × P parts what)
+
+-- where the chain is undefined, what the disk tells stays, and nothing is done; with status 7 the chain's damage is printed
+pub record HasNoChain (still_told : Type 0) (what : Damage) (status : ℕ) (written : List ℕ) : Type 0 where
+  pub disk : still_told
+  pub status_is : OneOf (1 ∷ 3 ∷ 4 ∷ 5 ∷ 6 ∷ 7 ∷ []) status
+  pub printed : status ≡ 7 → written ≡ damage_line what
+
+-- What holds of a command on every log that the disk tells, sound or not, by its bytes at entry. The status is one of the command's. 7 comes on
+-- an unsound log alone, and some damage is printed: its line alone, or behind what the command prints before it (`behind`). Which one it is
+-- where the chain is defined is not said: a run that made an unsound log longer may meet damage that was not there. On no log a rise of the
 -- disk's count of faults is passed over.
-pub record DamagedTheorem (region_len : ℕ) (entry : Image) (back : Return) (status : ℕ) (written : List ℕ) : Type 0 where
+pub record DamagedTheorem (region_len : ℕ) (entry : Image) (back : Return) (still_told : Type 0) (statuses : List ℕ) (behind : Damage → List ℕ → Type 0) (status : ℕ) (written : List ℕ) : Type 0 where
+  pub known : OneOf statuses status
   pub unsound : status ≡ 7 → IsUnsound region_len entry
-  pub no_chain : (what : Damage) → chain region_len entry ≡ Err what → (1 ≤ status) × (status ≤ 7) × (status ≡ 7 → written ≡ damage_line what)
+  pub printed : status ≡ 7 → (what : Damage) × ((written ≡ damage_line what) ⊎ behind what written)
+  pub no_chain : (what : Damage) → chain region_len entry ≡ Err what → HasNoChain still_told what status written
   pub faults : TellsFaults back status
 
--- status 7 of `dump`, which reads all that its log shows: the damage that it prints is there
-pub record DumpDamagedTheorem (region_len : ℕ) (entry : Image) (back : Return) (status : ℕ) (written : List ℕ) : Type 0 where
-  pub general : DamagedTheorem region_len entry back status written
-  pub named : status ≡ 7 → (parts : List Part) → chain region_len entry ≡ Ok parts → (what : Damage) × (written ≡ damage_line what) × IsDamageOf region_len entry parts what
+-- the report of a run of this script that damage ended
+abbrev pub EndsDamaged : Result (List ScriptTxn) Refusal → Damage → List ℕ → Type 0
+EndsDamaged script what written = (txns : List ScriptTxn) × (ran : Ran) × (script ≡ Ok txns) × (ran.fault ≡ Some (run_fault.Damaged what)) × (written ≡ report txns ran)
+
+-- a run of the command `run` on every log that the disk tells, sound or not
+abbrev pub RunDamagedTheorem : Result (List ScriptTxn) Refusal → ℕ → Image → Return → Type 0 → ℕ → List ℕ → Type 0
+RunDamagedTheorem script region_len entry back still_told status written =
+    DamagedTheorem region_len entry back still_told (0 ∷ 1 ∷ 3 ∷ 4 ∷ 5 ∷ 6 ∷ 7 ∷ 8 ∷ []) (EndsDamaged script) status written
+
+-- ---- laws
+
+-- Contents of nodes that a reader found in parts, and nothing of the others: a node that is unfit over them, and was found itself, is one that
+-- a reader finds unfit.
+abbrev pub UnfitLaw : Type 0
+UnfitLaw =
+    (region_len : ℕ) (image : Image) (parts : List Part) (id : NodeId) (found : ℕ → Option Content) → id.bucket < 256
+    → ((number : ℕ) (c : Content) → found number ≡ Some c → FindsContent region_len image parts (record { bucket = id.bucket; number = number }) c)
+    → IsSome (found id.number) → IsUnfitNode (λ number. unwrap_or (found number) (node.Broken, 0)) id → FindsUnfit region_len image parts id

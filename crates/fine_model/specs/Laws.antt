@@ -1,5 +1,5 @@
 -- What the laws of the definitions say. Each is the contract of a function of its name.
-use Rattle.std.specs.Prelude.{◌≡◌, ◌≢◌, ℕ, ◌<◌, ◌≤◌, Bool, true, nat_le, IsTrue, List, [], ◌∷◌, ◌++◌, length, Some, None, Ok, Err}
+use Rattle.std.specs.Prelude.{◌≡◌, ◌≢◌, ℕ, ◌+◌, ◌<◌, ◌≤◌, ◌==◌, Bool, true, nat_le, IsTrue, List, [], ◌∷◌, ◌++◌, length, filter, All, Some, None, Ok, Err}
 use Rattle.std.specs.List.{AllByRecursion}
 use Rattle.fine_model.specs.Types.{NodeId, Rec, Row, Call, Range, Mark, Why}
 use Rattle.fine_model.specs.Types.rec
@@ -14,6 +14,7 @@ use Rattle.fine_model.specs.Trees.{IsSound, map_of, bucket_of, nodes_of, tree_nu
 use Rattle.fine_model.specs.History.{Commit, IsNext, IsLegal, all_rows, map_at, upto, last_epoch}
 use Rattle.fine_model.specs.Paths.{first_unfit, first_unfit_between}
 use Rattle.fine_model.specs.Outcomes.{EpochsFollow}
+use Rattle.fine_model.specs.Room.{IsSealedUpTo}
 use Rattle.fine_model.specs.Regions.{Image, IsRegion, sealed, bad}
 use Rattle.fine_model.specs.Chain.{Shows}
 
@@ -162,3 +163,19 @@ LegalNext = (first : List Row) (history : List Commit) (c : Commit) → IsLegal 
 -- what a legal history leaves on sound rows: a sound log with the map after its writes
 abbrev pub LegalMap : Type 0
 LegalMap = (first : List Row) (history : List Commit) → AreSmall first → IsSound first → IsLegal first history → IsPushed first (all_rows history) (map_at first history)
+
+-- ---- epochs
+
+-- with a commit of the open epoch a history still follows, and is sealed up to where it was
+abbrev pub FollowsOn : Type 0
+FollowsOn =
+    (e sealed : ℕ) (history : List Commit) (c : Commit) → EpochsFollow e history → IsSealedUpTo e history sealed → c.epoch ≡ sealed + 1
+    → EpochsFollow e (history ++ c ∷ []) × IsSealedUpTo e (history ++ c ∷ []) sealed
+
+-- no epoch is above the open one
+abbrev pub EpochsBelow : Type 0
+EpochsBelow = (e : ℕ) (history : List Commit) (sealed : ℕ) → EpochsFollow e history → IsSealedUpTo e history sealed → All (λ c. c.epoch ≤ sealed + 1) history
+
+-- a history is what is sealed, and then what is open
+abbrev pub SplitLaw : Type 0
+SplitLaw = (e sealed : ℕ) (history : List Commit) → EpochsFollow e history → IsSealedUpTo e history sealed → upto history sealed ++ filter (λ c. c.epoch == sealed + 1) history ≡ history

@@ -175,6 +175,14 @@ pub legal_of : (first : List Row) (history : List Commit) → (history ≡ []) �
 legal_of first history (inl none) = subst (IsLegal first) (sym none) (record { each = λ k c is. absurd cc })
 legal_of first history (inr both) = both.1
 
+-- what is sealed is not below the entry's epoch
+pub sealed_from : (e sealed : ℕ) (history : List Commit) → EpochsFollow e history → IsSealedUpTo e history sealed → e ≤ sealed
+sealed_from e sealed [] follow is = omega (arith, is)
+sealed_from e sealed (c ∷ cs) follow is =
+    let least = last_epoch-from c.epoch cs follow.1 in
+    let here = follow.0 in
+    elim is as (λ _. e ≤ sealed) [ inl s ↦ omega (arith, least, here, s) | inr s ↦ omega (arith, least, here, s) ]
+
 -- ---- laws
 
 pub follows_on : FollowsOn

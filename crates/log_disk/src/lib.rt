@@ -21,7 +21,7 @@ pub use mem::{FaultPlan, MemDisk, MemEye};
 pub use refusal::{DiskRefusal, Failed, NoMemory};
 
 /// A view of some regions of a disk, which stay as they are as long as it is open.
-pub trait LogEye: Send + Drop {
+pub trait LogEye: Drop {
     /// What contracts see of an eye: its number, its regions, their length, its bytes where it tells them, how often a
     /// read of it has failed, and how many bytes its reads asked for.
     ghost state: { Self → Eye };
@@ -45,7 +45,7 @@ pub trait LogEye: Send + Drop {
 /// Each call counts its failures: `Failed` comes only where the disk's count of faults, and its own count, rose in this
 /// call, and every other answer leaves both counts as they were. A counter at its last value counts as risen.
 pub trait LogDisk: Sized + Send + Drop {
-    type Eye: LogEye;
+    type Eye: LogEye + Send;
 
     /// What contracts see of a disk: its geometry, the bytes and the moments where it tells them, the regions with
     /// unsynced writes, its open eyes, the numbers that eyes got so far, and its counts of faults.

@@ -37,7 +37,7 @@ use Rattle.node_fetch.proofs.Parts.{forgets}
 
 -- ---- from what was read to what a reader finds
 
-same_header : (region_len : ℕ) (image : Image) (p : Part) (own : List Row) (sealed : IsSealed region_len image p.region p.header.range own) → HasHeader region_len image p.region p.header → sealed.header ≡ p.header
+pub same_header : (region_len : ℕ) (image : Image) (p : Part) (own : List Row) (sealed : IsSealed region_len image p.region p.header.range own) → HasHeader region_len image p.region p.header → sealed.header ≡ p.header
 same_header region_len image p own sealed has = let both : ◌≡◌ {A = Result (Option Header) ℕ} (Ok (Some sealed.header)) (Ok (Some p.header)) = sym sealed.has_header ∙ has in cc
 
 module _ (image : Image) (p : Part) (id : NodeId) where

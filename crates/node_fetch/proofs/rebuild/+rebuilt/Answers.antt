@@ -21,7 +21,7 @@ returns-in_default-clause-exact g t c rows tells =
     c.base.ensures.base ∙ sym (ap (λ rs. content rs c.args.node) no_rows ∙ content_none c.args.node)
 
 pub part_rows-requires-clause-seen : goal.part_rows-requires-clause-seen
-part_rows-requires-clause-seen g t c κs within =
+part_rows-requires-clause-seen g t c =
     let P : Part → Type 0 = IsSeen (g.E.LogEye.state c.args.eye.now) in
     (all_right P c.in-Some.older.now (c.in-Some.newest.now ∷ []) (subst (AllByRecursion P) c.in-Some.ensures.cases.0 c.requires.seen)).0
 
@@ -68,11 +68,19 @@ returns-then-has_image-clause-taken g t c rows tells =
     taken_last (g.E.LogEye.state c.args.eye.now).taken (g.E.LogEye.state c.part_rows.new.eye).taken c.args.parts.now c.in-Some.older.now c.in-Some.newest.now rows l.before l.own c.args.node c.in-Some.ensures.cases.0 l.whole
     (c.part_rows.ensures.taken l.own l.tells_own)
 
-pub rebuilt-requires-clause-seen : goal.rebuilt-requires-clause-seen
-rebuilt-requires-clause-seen g t c κs within =
-    let P : Part → Type 0 = IsSeen (g.E.LogEye.state c.args.eye.now) in
-    later_seen (g.E.LogEye.state c.args.eye.now) (g.E.LogEye.state c.part_rows.new.eye) c.in-Some.older.now c.part_rows.ensures.eye.same
-    (all_left P c.in-Some.older.now (c.in-Some.newest.now ∷ []) (subst (AllByRecursion P) c.in-Some.ensures.cases.0 c.requires.seen))
+pub rebuilt-requires : goal.rebuilt-requires
+rebuilt-requires g t c κs within =
+    let P : Part → Type 0 = IsSeen (g.E.LogEye.state c.args.eye.now) in (
+      search rules,
+      (
+        search rules,
+        (
+          later_seen (g.E.LogEye.state c.args.eye.now) (g.E.LogEye.state c.part_rows.new.eye) c.in-Some.older.now c.part_rows.ensures.eye.same
+              (all_left P c.in-Some.older.now (c.in-Some.newest.now ∷ []) (subst (AllByRecursion P) c.in-Some.ensures.cases.0 c.requires.seen)),
+          c.requires.region_len ∙ sym c.part_rows.ensures.eye.same.region_len,
+        ),
+      ),
+    )
 
 pub returns-in_err-before-clause-exact : goal.returns-in_err-before-clause-exact
 returns-in_err-before-clause-exact g t c rows tells =

@@ -17,7 +17,7 @@ returns-in-Err-BadIndex-clause-exact g c rows t =
     absurd (never_bad (g.E.LogEye.state c.args.eye.now) c.args.part.now rows c.in-Err-BadIndex.at c.requires.seen t (c.in-Err-BadIndex.ensures.bad c.in-Err-BadIndex.at (ap Err c.in-Err-BadIndex.field-0-is)))
 
 pub read_span-requires-clause-seen : goal.read_span-requires-clause-seen
-read_span-requires-clause-seen g c κs within = seen_same (g.E.LogEye.state c.args.eye.now) (g.E.LogEye.state c.seek.new.eye) c.args.part.now c.seek.ensures.eye.same c.requires.seen
+read_span-requires-clause-seen g c = seen_same (g.E.LogEye.state c.args.eye.now) (g.E.LogEye.state c.seek.new.eye) c.args.part.now c.seek.ensures.eye.same c.requires.seen
 
 pub returns-clause-exact : goal.returns-clause-exact
 returns-clause-exact g c rows t =

@@ -12,7 +12,7 @@ returns-in_err-entry-clause-exact g c rows t =
     inl (same ∙ ap Err (only_failed eye c.args.part.now rows c.in_err-entry.field-0.0 c.requires.seen t (λ at is. c.in_err-entry.ensures.bad at (ap Err is))))
 
 pub span_of-requires-clause-seen : goal.span_of-requires-clause-seen
-span_of-requires-clause-seen g c κs within =
+span_of-requires-clause-seen g c =
     let state = g.E.LogEye.state in
     seen_same (state c.args.eye.now) (state c.read_entry.new.eye) c.args.part.now c.read_entry.ensures.eye.same c.requires.seen
 

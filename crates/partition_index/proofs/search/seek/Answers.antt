@@ -80,7 +80,7 @@ returns-in-Equal-clause-exact g c rows t =
     inr (ap (λ s. Ok (Some s)) span ∙ ap Ok (sym (sought_some rows middle c.args.node (there_in (state c.args.eye.now) p rows middle c.requires.seen t there)) ∙ ap (sought rows) same))
 
 pub span_of-requires-clause-seen : goal.span_of-requires-clause-seen
-span_of-requires-clause-seen g c κs within =
+span_of-requires-clause-seen g c =
     let state = g.E.LogEye.state in
     seen_same (state c.args.eye.now) (state c.read_entry.new.eye) c.args.part.now (same_then (state c.args.eye.now) (state c.loop-low.eye) (state c.read_entry.new.eye) c.loop-low.invariant.same c.read_entry.ensures.eye.same) c.requires.seen
 

@@ -8,12 +8,12 @@ pub loop-count-init : goal.loop-count-init
 loop-count-init g c = record { eye = record { number = refl; regions = refl; region_len = refl; told = refl }; same = record { older = refl; newer = refl; region_len = refl; most = refl }; kept = c.requires.kept }
 
 pub next-requires-clause-older : goal.next-requires-clause-older
-next-requires-clause-older g c κs within =
+next-requires-clause-older g c =
     let i = c.loop-count.invariant in
     subst (IsSeen (g.E.LogEye.state c.loop-count.eye)) (sym i.same.older) (seen_same (g.E.LogEye.state c.args.eye.now) (g.E.LogEye.state c.loop-count.eye) _ i.eye c.requires.older)
 
 pub next-requires-clause-newer : goal.next-requires-clause-newer
-next-requires-clause-newer g c κs within =
+next-requires-clause-newer g c =
     let i = c.loop-count.invariant in
     subst (IsSeen (g.E.LogEye.state c.loop-count.eye)) (sym i.same.newer) (seen_same (g.E.LogEye.state c.args.eye.now) (g.E.LogEye.state c.loop-count.eye) _ i.eye c.requires.newer)
 

@@ -7,12 +7,12 @@ pub loop-all-init : goal.loop-all-init
 loop-all-init g c = record { same = record { number = refl; regions = refl; region_len = refl; told = refl }; older = refl; newer = refl; region_len = refl; kept = c.requires.kept }
 
 pub next_node-requires-clause-older : goal.next_node-requires-clause-older
-next_node-requires-clause-older g c κs within =
+next_node-requires-clause-older g c =
     let i = c.loop-all.invariant in
     subst (IsSeen (g.E.LogEye.state c.loop-all.eye)) (sym i.older) (seen_same (g.E.LogEye.state c.args.eye.now) (g.E.LogEye.state c.loop-all.eye) _ i.same c.requires.older)
 
 pub next_node-requires-clause-newer : goal.next_node-requires-clause-newer
-next_node-requires-clause-newer g c κs within =
+next_node-requires-clause-newer g c =
     let i = c.loop-all.invariant in
     subst (IsSeen (g.E.LogEye.state c.loop-all.eye)) (sym i.newer) (seen_same (g.E.LogEye.state c.args.eye.now) (g.E.LogEye.state c.loop-all.eye) _ i.same c.requires.newer)
 

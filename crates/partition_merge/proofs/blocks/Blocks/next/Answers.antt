@@ -23,12 +23,12 @@ loop-more-init g c = record {
 }
 
 pub supply-requires-clause-older : goal.supply-requires-clause-older
-supply-requires-clause-older g c κs within =
+supply-requires-clause-older g c =
     let i = c.loop-more.invariant in
     subst (IsSeen (g.E.LogEye.state c.loop-more.eye)) (sym i.same.older) (seen_same (g.E.LogEye.state c.args.eye.now) (g.E.LogEye.state c.loop-more.eye) _ i.eye c.requires.older)
 
 pub supply-requires-clause-newer : goal.supply-requires-clause-newer
-supply-requires-clause-newer g c κs within =
+supply-requires-clause-newer g c =
     let i = c.loop-more.invariant in
     subst (IsSeen (g.E.LogEye.state c.loop-more.eye)) (sym i.same.newer) (seen_same (g.E.LogEye.state c.args.eye.now) (g.E.LogEye.state c.loop-more.eye) _ i.eye c.requires.newer)
 

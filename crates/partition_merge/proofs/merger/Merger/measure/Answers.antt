@@ -25,12 +25,12 @@ loop-rows-init g c = record {
 }
 
 pub next_node-requires-clause-older : goal.next_node-requires-clause-older
-next_node-requires-clause-older g c κs within =
+next_node-requires-clause-older g c =
     let i = c.loop-rows.invariant in
     subst (IsSeen (g.E.LogEye.state c.loop-rows.eye)) (sym i.older) (seen_same (g.E.LogEye.state c.args.eye.now) (g.E.LogEye.state c.loop-rows.eye) _ i.same c.requires.older)
 
 pub next_node-requires-clause-newer : goal.next_node-requires-clause-newer
-next_node-requires-clause-newer g c κs within =
+next_node-requires-clause-newer g c =
     let i = c.loop-rows.invariant in
     subst (IsSeen (g.E.LogEye.state c.loop-rows.eye)) (sym i.newer) (seen_same (g.E.LogEye.state c.args.eye.now) (g.E.LogEye.state c.loop-rows.eye) _ i.same c.requires.newer)
 

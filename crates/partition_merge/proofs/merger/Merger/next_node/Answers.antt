@@ -11,7 +11,7 @@ returns-in_err-older-clause-exact g c older newer at =
     err_clause c.from_residual.result c.in_err-older.field-0.0 _ same (c.in_err-older.ensures.exact older at.of_older)
 
 pub peek-requires-2-clause-seen : goal.peek-requires-2-clause-seen
-peek-requires-2-clause-seen g c κs within = seen_same (g.E.LogEye.state c.args.eye.now) (g.E.LogEye.state c.peek.new.eye) c.args.self.now.newer.part c.peek.ensures.eye.same c.requires.newer
+peek-requires-2-clause-seen g c = seen_same (g.E.LogEye.state c.args.eye.now) (g.E.LogEye.state c.peek.new.eye) c.args.self.now.newer.part c.peek.ensures.eye.same c.requires.newer
 
 pub returns-in_err-newer-clause-exact : goal.returns-in_err-newer-clause-exact
 returns-in_err-newer-clause-exact g c older newer at =
@@ -28,7 +28,7 @@ returns-in_default-clause-exact g c older newer at =
     c.peek.ensures.eye.same c.peek-2.ensures.eye.same (c.in_ok-older.ensures.exact older at.of_older) (c.in_ok-newer.ensures.exact newer later) (sym c.lower.ensures ∙ c.in_default.is)
 
 pub take-requires-clause-seen : goal.take-requires-clause-seen
-take-requires-clause-seen g c κs within =
+take-requires-clause-seen g c =
     let same = same_then (g.E.LogEye.state c.args.eye.now) (g.E.LogEye.state c.peek.new.eye) (g.E.LogEye.state c.peek-2.new.eye) c.peek.ensures.eye.same c.peek-2.ensures.eye.same in
     subst (IsSeen (g.E.LogEye.state c.peek-2.new.eye)) (sym c.peek.ensures.part) (seen_same (g.E.LogEye.state c.args.eye.now) (g.E.LogEye.state c.peek-2.new.eye) c.args.self.now.older.part same c.requires.older)
 
@@ -43,7 +43,7 @@ returns-in_err-older-2-clause-exact g c older newer at =
     err_clause c.from_residual-in_err-older-2.result c.in_err-older-2.field-0.0 _ same (c.in_err-older-2.ensures.exact older p.of_older p.old_from p.old_kept)
 
 pub take-requires-2-clause-seen : goal.take-requires-2-clause-seen
-take-requires-2-clause-seen g c κs within =
+take-requires-2-clause-seen g c =
     let same = same_then (g.E.LogEye.state c.args.eye.now) (g.E.LogEye.state c.peek.new.eye) (g.E.LogEye.state c.take.new.eye) c.peek.ensures.eye.same
     (same_then (g.E.LogEye.state c.peek.new.eye) (g.E.LogEye.state c.peek-2.new.eye) (g.E.LogEye.state c.take.new.eye) c.peek-2.ensures.eye.same c.take.ensures.eye.same) in
     subst (IsSeen (g.E.LogEye.state c.take.new.eye)) (sym c.peek-2.ensures.part) (seen_same (g.E.LogEye.state c.args.eye.now) (g.E.LogEye.state c.take.new.eye) c.args.self.now.newer.part same c.requires.newer)
@@ -150,11 +150,11 @@ returns-in-Ok-clause-read g c = record {
 }
 
 pub take-requires-clause-lowest : goal.take-requires-clause-lowest
-take-requires-clause-lowest g c κs within =
+take-requires-clause-lowest g c =
     first_lowest c.peek.new.self.head c.in_ok-older.older c.in_ok-newer.newer c.in-Some.node c.in_ok-older.ensures.head (sym c.lower.ensures ∙ c.in-Some.is)
 
 pub take-requires-2-clause-lowest : goal.take-requires-2-clause-lowest
-take-requires-2-clause-lowest g c κs within =
+take-requires-2-clause-lowest g c =
     second_lowest c.peek-2.new.self.head c.in_ok-older.older c.in_ok-newer.newer c.in-Some.node c.in_ok-newer.ensures.head (sym c.lower.ensures ∙ c.in-Some.is)
 
 pub returns-in-Ok-clause-some : goal.returns-in-Ok-clause-some

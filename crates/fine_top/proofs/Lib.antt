@@ -8,3 +8,4 @@ pub mod Runs
 pub mod Found
 pub mod RunOf
 pub mod Taken
+pub mod Commanded

@@ -2,6 +2,7 @@
 use Rattle.std.proofs.Common.{◌≡◌, inl, inr, ℕ, ◌+◌, ◌-◌, ◌≤◌, List, [], length, arith, refl, sym, ap, ◌∙◌, subst, Option, Some, None, append-nil}
 use Rattle.std.specs.Prelude.{IfSome}
 use Rattle.log_disk.specs.Disk.{Disk, Told, IsToldOf, IsSound as IsSoundDisk}
+use Rattle.log_disk.specs.Moments.{ContinuesOn}
 use Rattle.fine_model.specs.declared.Row.{Row}
 use Rattle.fine_model.specs.declared.Part.{Part}
 use Rattle.fine_model.specs.declared.ScriptTxn.{ScriptTxn}
@@ -27,7 +28,7 @@ use Rattle.fine_top.specs.Opened.{IsLoadedFrom}
 use Rattle.fine_top.specs.Ends.{IsRunOn, IsRunOfTold, IsRunOf}
 use Rattle.fine_top.proofs.Outcomes.{are_outcomes}
 use Rattle.fine_top.proofs.Caused.{few_commits, few_run, sealed_within, full_free, have_causes}
-use Rattle.fine_top.proofs.Following.{legal_of, all_sealed}
+use Rattle.fine_model.proofs.Epochs.{legal_of, all_sealed, sealed_from}
 
 module _ (disk : Disk) (parts retired : List Part) (new : RoomValue) (leaves after : List Content) (script : List ScriptTxn) (ran : Ran) where
   abbrev old : RoomValue
@@ -96,6 +97,7 @@ module _ (disk : Disk) (parts retired : List Part) (new : RoomValue) (leaves aft
           on_return = λ image now.
               subst (λ d. ShowsSome disk.region_len rows history d (last_epoch e history) image) (sym r.durable)
               (subst (λ n. ShowsSome n rows history new.room.sealed (last_epoch e history) image) len (s.images.now_sealed image now));
+          from_entry = subst (λ d. e ≤ d) (sym r.durable) (sealed_from e new.room.sealed history s.counts.epochs s.counts.sealed);
         };
         few = let c = few_commits r.runs_to.done in let d = few_run script r.runs_to.done r.runs_to.has in omega (arith, c, d, few);
         causes = causes_of r whole sound_disk few first loaded before last e rows is_before is_last shows sound st;
@@ -112,6 +114,7 @@ module _ (disk : Disk) (parts retired : List Part) (new : RoomValue) (leaves aft
   pub run_of : RunsScript script old new leaves after ran → StandsAtFirst old disk.told → IsLoadedFrom disk leaves → IsWhole new → IsSoundDisk new.disk → length script ≤ 64 → IsRunOf disk new.disk script ran
   run_of r first loaded whole sound_disk few = record {
     beside = r.runs_to.place.beside;
+    time = subst (λ d. ContinuesOn d new.disk) r.runs_to.place.entry whole.entry.time;
     no_damage = r.no_damage;
     failed = r.failed;
     not_failed = r.not_failed;

@@ -1,5 +1,5 @@
 -- The theorem of a run, from how the call ended.
-use Rattle.std.proofs.Common.{◌≡◌, ◌⊎◌, inl, inr, ℕ, ◌-◌, ◌<◌, ◌≤◌, ◌==◌, leb, List, [], ◌++◌, length, take, drop, refl, sym, ap, ◌∙◌, subst, Option, Some, None, Ok, arith, take-append-drop, Bool, true, false, cond, append-nil}
+use Rattle.std.proofs.Common.{◌≡◌, ◌⊎◌, inl, inr, ℕ, ◌-◌, ◌<◌, ◌≤◌, ◌==◌, leb, List, [], ◌∷◌, ◌++◌, length, take, drop, refl, sym, ap, ◌∙◌, subst, Option, Some, None, Ok, arith, take-append-drop, Bool, true, false, cond, append-nil}
 use Rattle.std.specs.Prelude.{IfSome}
 use Rattle.std.specs.List.{list_any}
 use Rattle.std.proofs.lemmas.Bool.Decides.{leb_tells}
@@ -7,6 +7,10 @@ use Rattle.std.proofs.lemmas.List.Sums.{count_by-le-length}
 use Rattle.log_disk.specs.Disk.{Disk, Told, last_count, HasRisen, IsToldOf, IsSound as IsSoundDisk, IsImageNow, IsImageSince, clock_of}
 use Rattle.log_disk.proofs.Steps.{all_synced}
 use Rattle.log_disk.proofs.Moments.{only_now}
+use Rattle.log_disk.proofs.Times.{continues_told}
+use Rattle.log_disk.specs.Disk.{BothTold}
+use Rattle.log_disk.specs.Moments.{Continues, ContinuesOn}
+use Rattle.fine_model.specs.declared.Options.{Options}
 use Rattle.fine_model.specs.declared.Row.{Row}
 use Rattle.fine_model.specs.declared.ScriptTxn.{ScriptTxn}
 use Rattle.fine_model.specs.declared.RunFault.{RunFault}
@@ -22,11 +26,15 @@ use Rattle.fine_model.specs.Trees.{IsSound}
 use Rattle.fine_model.specs.Regions.{Image}
 use Rattle.fine_model.specs.Chain.{Shows}
 use Rattle.fine_model.specs.Outcomes.{AreOutcomes}
-use Rattle.fine_model.specs.Headline.{Start, Return, TellsFaults, RunDone, RunTheorem, IsRun, ShowsSome, KeepsEvery, KeepsUpTo, HasStatus, RunCutShort, NothingRun, IsFrontOf, ReasonFor}
+use Rattle.fine_model.specs.Headline.{Start, Return, DiskRose, TellsFaults, FailsSound, OneOf, RunDone, RunTheorem, IsRunWith, IsComplete, ShowsSome, KeepsEvery, KeepsUpTo, HasStatus, RunCutShort, MayEnd, NothingRun, IsFrontOf, ReasonFor}
+use Rattle.fine_model.specs.Words.{Command}
+use Rattle.fine_model.specs.Commands.{WordsTheorem}
+use Rattle.leaf_store.specs.Leaves.{IsPlain, LeavesWhole}
+use Rattle.fine_top.specs.Words.{SpellsRun}
 use Rattle.fine_model.specs.Reach.{reached_script_of}
-use Rattle.fine_model.specs.Report.{all_outcomes, reason_bytes, fault_line, report}
+use Rattle.fine_model.specs.Report.{all_outcomes, reason_bytes, words_line, fault_line, report}
 use Rattle.script_text.specs.Streams.{Puts, behind}
-use Rattle.fine_top.specs.Ends.{Ended, early, ran, text_of, status_of, run_status, IsRunOn, IsRunOf, IsRunOfTold, IsReason, EndsEarly, MayRun, IsEnd, Ends, RunsWell, causes_on, return_of, start_on, OfTold, IsRefused}
+use Rattle.fine_top.specs.Ends.{Ended, early, ran, text_of, status_of, run_status, IsRunOn, IsRunOf, IsRunOfTold, IsReason, EndsEarly, MayRun, IsEnd, Ends, RunsWell, RefusesWords, causes_on, return_of, start_on, OfTold, IsRefused}
 use Rattle.fine_model.proofs.NodeLaws.{Agrees-refl}
 use Rattle.fine_model.specs.Outcomes.{AllRun}
 use Rattle.fine_top.proofs.Outcomes.{are_outcomes}
@@ -81,8 +89,8 @@ risen_by before now risen = by (leb_tells last_count now)
     by (inl at) = inr at.1
     by (inr below) = inl (let low = below.1 in omega (arith, risen, low))
 
-module _ (words opened : Type 0) (damaged : Damage → Type 0) (left : Option (List ℕ)) (old new : Disk) (status : ℕ) (was now : Option (List ℕ)) where
-  module _ (source_rose output_rose : Type 0) (counts : CountsByStatus source_rose output_rose old new status) (bytes first : List ℕ) (before after : Told) (e : ℕ) (rows : List Row) (left_is : left ≡ Some bytes) (was_is : was ≡ Some first) (old_is : old.told ≡ Some before)
+module _ (words source_rose opened : Type 0) (damaged : Damage → Type 0) (left : Option (List ℕ)) (old new : Disk) (status : ℕ) (was now : Option (List ℕ)) where
+  module _ (output_rose : Type 0) (counts : CountsByStatus source_rose output_rose old new status) (are_words : words) (group : ℕ) (enough : 64 ≤ group) (bytes first : List ℕ) (before after : Told) (e : ℕ) (rows : List Row) (left_is : left ≡ Some bytes) (was_is : was ≡ Some first) (old_is : old.told ≡ Some before)
       (new_is : new.told ≡ Some after) (shows : Shows old.region_len before.bytes e rows) (sound : IsSound rows) (whole : (what : Damage) → damaged what → ⊥) (is_told : IsToldOf old before)
       (synced : old.unsynced ≡ []) where
     abbrev start : Start
@@ -103,7 +111,7 @@ module _ (words opened : Type 0) (damaged : Damage → Type 0) (left : Option (L
     since = IsImageSince (clock_of before) after
 
     abbrev Theorem : List ℕ → Type 0
-    Theorem written = RunTheorem (causes_on start after) words start 64 since (IsImageNow after) back (new ≡ old) status written
+    Theorem written = RunTheorem (causes_on start after) start group since (IsImageNow after) back (new ≡ old) status written
 
     abbrev Result_ : Type 0
     Result_ = (written : List ℕ) × (now ≡ Some (first ++ written)) × Theorem written
@@ -117,7 +125,7 @@ module _ (words opened : Type 0) (damaged : Damage → Type 0) (left : Option (L
     same_told (reason.Script n) en = ap (λ d. d.told) (en.same (λ x. cc))
     same_told reason.Source en = ap (λ d. d.told) (en.same (λ x. cc))
 
-    module _ (r : Reason) (en : EndsEarly r old new) (why : IsReason words damaged left r) where
+    module _ (r : Reason) (en : EndsEarly r old new) (why : IsReason words source_rose damaged left r) where
       same_after : after ≡ before
       same_after = let c : ◌≡◌ {A = Option Told} (Some after) (Some before) = sym new_is ∙ same_told r en ∙ old_is in cc
 
@@ -127,36 +135,70 @@ module _ (words opened : Type 0) (damaged : Damage → Type 0) (left : Option (L
       on_return : KeepsUpTo start (IsImageNow after) [] e
       on_return = subst (λ t. KeepsUpTo start (IsImageNow t) [] e) (sym same_after) (shows_entry old before e rows shows is_told synced)
 
-      nothing : (written : List ℕ) → IsFrontOf written (reason_bytes r) → (status ≡ 1 → written ≡ fault_line run_fault.Memory) → NothingRun start since status written
-      nothing written front all = record { reason = r; printed = front; whole = all; every_image = every_image }
+      nothing : (written : List ℕ) → MayEnd start back r → IsFrontOf written (reason_bytes r) → (status ≡ 1 → written ≡ fault_line run_fault.Memory) → NothingRun start since back status written
+      nothing written may front all = record { reason = r; because = may; printed = front; whole = all; every_image = every_image }
+
+    -- where no count rose, the statuses of a good script are those of a run that was done, or of want of memory
+    complete : ((script : List ScriptTxn) → start.script ≡ Ok script → OneOf (0 ∷ 1 ∷ 4 ∷ 5 ∷ 6 ∷ 8 ∷ []) status) → IsComplete start back status
+    complete known script read none = by (known script read)
+      where
+        by : OneOf (0 ∷ 1 ∷ 4 ∷ 5 ∷ 6 ∷ 8 ∷ []) status → OneOf (0 ∷ 1 ∷ 8 ∷ []) status
+        by (inl is) = inl is
+        by (inr (inl is)) = inr (inl is)
+        by (inr (inr (inl is))) = absurd (none (inl (faults.source is)))
+        by (inr (inr (inr (inl is)))) = absurd (none (inr (inl (faults.output is))))
+        by (inr (inr (inr (inr (inl is))))) = absurd (none (inr (inr (faults.disk is))))
+        by (inr (inr (inr (inr (inr (inl is)))))) = inr (inr (inl is))
+        by (inr (inr (inr (inr (inr (inr none)))))) = absurd none
 
     -- each status has one part of the theorem
-    cut : (written : List ℕ) → (status ≡ 1) ⊎ (status ≡ 5) → NothingRun start since status written ⊎ RunCutShort start since (IsImageNow after) status written → Theorem written
+    cut : (written : List ℕ) → (status ≡ 1) ⊎ (status ≡ 5) → NothingRun start since back status written ⊎ RunCutShort (causes_on start after) start group since (IsImageNow after) back status written → Theorem written
     cut written one front = record {
       done = λ d. absurd (grind (arith, one, d));
       cut_short = λ c. front;
       refused = λ d. absurd (grind (arith, one, d));
       others = λ d. grind (arith, one, d);
       faults = faults;
+      complete = complete (λ script read. by one);
     }
+      where
+        by : (status ≡ 1) ⊎ (status ≡ 5) → OneOf (0 ∷ 1 ∷ 4 ∷ 5 ∷ 6 ∷ 8 ∷ []) status
+        by (inl is) = inr (inl is)
+        by (inr is) = inr (inr (inr (inl is)))
 
-    refuses : (written : List ℕ) → (status ≡ 2) ⊎ (status ≡ 3) ⊎ (status ≡ 4) → ReasonFor words status (reached_script_of bytes) written → new ≡ old → Theorem written
+    refuses : (written : List ℕ) → (one : (status ≡ 3) ⊎ (status ≡ 4)) → ReasonFor status (reached_script_of bytes) written → new ≡ old → Theorem written
     refuses written one because same = record {
       done = λ d. absurd (grind (arith, one, d));
       cut_short = λ d. absurd (grind (arith, one, d));
       refused = λ d. (because, same);
       others = λ d. grind (arith, one, d);
       faults = faults;
+      complete = complete (λ script read. by script read because);
     }
+      where
+        by : (script : List ScriptTxn) → reached_script_of bytes ≡ Ok script → ReasonFor status (reached_script_of bytes) written → OneOf (0 ∷ 1 ∷ 4 ∷ 5 ∷ 6 ∷ 8 ∷ []) status
+        by script read (inl (is, n, inl many, text)) = absurd cc
+        by script read (inl (is, n, inr (inl long), text)) = absurd cc
+        by script read (inl (is, n, inr (inr bad), text)) = absurd cc
+        by script read (inr (is, text)) = inr (inr (inl is))
 
-    does : (written : List ℕ) → (status ≡ 0) ⊎ (status ≡ 6) ⊎ (status ≡ 8) → RunDone (causes_on start after) start 64 since (IsImageNow after) back status written → Theorem written
+    does : (written : List ℕ) → (status ≡ 0) ⊎ (status ≡ 6) ⊎ (status ≡ 8) → RunDone (causes_on start after) start group since (IsImageNow after) back status written → Theorem written
     does written one d = record {
       done = λ x. d;
       cut_short = λ x. absurd (grind (arith, one, x));
       refused = λ x. absurd (grind (arith, one, x));
       others = λ x. grind (arith, one, x);
       faults = faults;
+      complete = complete (λ script read. by one);
     }
+      where
+        by : (status ≡ 0) ⊎ (status ≡ 6) ⊎ (status ≡ 8) → OneOf (0 ∷ 1 ∷ 4 ∷ 5 ∷ 6 ∷ 8 ∷ []) status
+        by (inl is) = inl is
+        by (inr (inl is)) = inr (inr (inr (inr (inl is))))
+        by (inr (inr is)) = inr (inr (inr (inr (inr (inl is)))))
+
+    disk_rose : HasRisen old.faults new.faults → DiskRose back
+    disk_rose risen = risen_by old.faults new.faults risen
 
     -- ---- an early end
 
@@ -164,41 +206,62 @@ module _ (words opened : Type 0) (damaged : Damage → Type 0) (left : Option (L
     no_outcomes : (script : List ScriptTxn) → AreOutcomes script e (all_outcomes script []) []
     no_outcomes script = are_outcomes script e [] (record { front = []; back = script; whole = refl; each = tt }) tt tt tt
 
-    early_disk : (en : EndsEarly (reason.Fault run_fault.Disk) old new) (why : IsReason words damaged left (reason.Fault run_fault.Disk)) (written : List ℕ) → written ≡ reason_bytes (reason.Fault run_fault.Disk) → status ≡ 6 → Theorem written
+    early_disk : (en : EndsEarly (reason.Fault run_fault.Disk) old new) (why : IsReason words source_rose damaged left (reason.Fault run_fault.Disk)) (written : List ℕ) → written ≡ reason_bytes (reason.Fault run_fault.Disk) → status ≡ 6 → Theorem written
     unfolding reason_bytes
     early_disk en why written text is =
         let spells = why.1 bytes left_is in
         let nothing_done : Ran = record { outcomes = []; durable = e; fault = Some run_fault.Disk } in
-        let own_rose = (en.failed refl).counts.own_faults tt in
+        let counts = (en.failed refl).counts in
+        let own_rose = counts.own_faults tt in
         does written (inr (inl is)) (record {
           script = spells.0;
           ran = nothing_done;
           history = [];
           read = spells.1;
           run = record {
-            one_history = no_outcomes spells.0;
-            legal = record { each = λ k c at. absurd (let x : ◌≡◌ {A = Option Commit} None (Some c) = at in cc) };
-            every_image = every_image (reason.Fault run_fault.Disk) en why;
-            on_return = on_return (reason.Fault run_fault.Disk) en why;
+            run = record {
+              one_history = no_outcomes spells.0;
+              legal = record { each = λ k c at. absurd (let x : ◌≡◌ {A = Option Commit} None (Some c) = at in cc) };
+              every_image = every_image (reason.Fault run_fault.Disk) en why;
+              on_return = on_return (reason.Fault run_fault.Disk) en why;
+              from_entry = omega arith;
+            };
+            caused = no_causes old.region_len e rows after.bytes spells.0 (length spells.0 - 0) [] e;
+            few_each = λ one e. omega arith;
+            failed = λ fault is. failed_by fault is (disk_rose (counts.faults tt));
+            all_run = λ none. absurd (let x : ◌≡◌ {A = Option RunFault} (Some run_fault.Disk) None = none in cc);
+            all_durable = λ none. refl;
           };
           printed = inr (text, is, own_rose, ap clock_of (same_after (reason.Fault run_fault.Disk) en why), refl);
           done = record {
             all_run = λ h. absurd (grind (arith, is, h));
             all_durable = λ h. refl;
-            caused = no_causes old.region_len e rows after.bytes spells.0 (length spells.0 - 0) [] e;
-            few_each = λ one e. omega arith;
             one_each = λ six none. absurd (none own_rose);
           };
         })
+      where
+        failed_by : (fault : RunFault) → ◌≡◌ {A = Option RunFault} (Some run_fault.Disk) (Some fault) → DiskRose back → FailsSound back fault
+        failed_by run_fault.Memory is rose = absurd cc
+        failed_by run_fault.Disk is rose = rose
+        failed_by (run_fault.Damaged what) is rose = absurd cc
+
+    -- why it ended
+    may_end : (r : Reason) (en : EndsEarly r old new) → IsReason words source_rose damaged left r → MayEnd start back r
+    may_end reason.Words en why = absurd (why are_words)
+    may_end (reason.Script n) en why = why.1 bytes left_is
+    may_end reason.Source en why = why.1
+    may_end (reason.Fault run_fault.Memory) en why = tt
+    may_end (reason.Fault run_fault.Disk) en why = disk_rose ((en.failed refl).counts.faults tt)
+    may_end (reason.Fault (run_fault.Damaged what)) en why = absurd (whole what why.2)
 
     -- an early end whose text was written
-    early_whole : (r : Reason) (en : EndsEarly r old new) (why : IsReason words damaged left r) (written : List ℕ) → written ≡ reason_bytes r → status ≡ status_of (early r) → Theorem written
+    early_whole : (r : Reason) (en : EndsEarly r old new) (why : IsReason words source_rose damaged left r) (written : List ℕ) → written ≡ reason_bytes r → status ≡ status_of (early r) → Theorem written
     unfolding reason_bytes
-    early_whole reason.Words en why written text is = refuses written (inl is) (inl (is, why, text)) (en.same (λ x. cc))
-    early_whole (reason.Script n) en why written text is = refuses written (inr (inl is)) (inr (inl (is, n, why.1 bytes left_is, text))) (en.same (λ x. cc))
-    early_whole reason.Source en why written text is = refuses written (inr (inr is)) (inr (inr (is, text))) (en.same (λ x. cc))
+    early_whole reason.Words en why written text is = absurd (why are_words)
+    early_whole (reason.Script n) en why written text is = refuses written (inl is) (inl (is, n, why.1 bytes left_is, text)) (en.same (λ x. cc))
+    early_whole reason.Source en why written text is = refuses written (inr is) (inr (is, text)) (en.same (λ x. cc))
     early_whole (reason.Fault run_fault.Memory) en why written text is =
-        cut written (inl is) (inl (nothing (reason.Fault run_fault.Memory) en why written ([], sym text ∙ sym (append-nil written)) (λ one. text)))
+        cut written (inl is) (inl (nothing (reason.Fault run_fault.Memory) en why written tt ([], sym text ∙ sym (append-nil written)) (λ one. text)))
     early_whole (reason.Fault run_fault.Disk) en why written text is = early_disk en why written text is
     early_whole (reason.Fault (run_fault.Damaged what)) en why written text is = absurd (whole what why.2)
 
@@ -214,15 +277,27 @@ module _ (words opened : Type 0) (damaged : Damage → Type 0) (left : Option (L
       on : IsRunOn old.region_len before after script r e rows
       on = told_of old.told new.told old_is new_is is_run.told e rows shows sound
 
-      run : IsRun start since (IsImageNow after) script (all_outcomes script r.outcomes) r.durable on.history
-      run = let x = on.run in record { one_history = x.one_history; legal = x.legal; every_image = x.every_image; on_return = x.on_return }
+      failed_by : (fault : RunFault) → r.fault ≡ Some fault → FailsSound back fault
+      failed_by run_fault.Memory is = tt
+      failed_by run_fault.Disk is = disk_rose (is_run.failed is).0
+      failed_by (run_fault.Damaged what) is = is_run.no_damage what is
 
-      short : (written : List ℕ) → IsFrontOf written (report script r) → (status ≡ 1 → (written ≡ report script r) × (r.fault ≡ Some run_fault.Memory)) → RunCutShort start since (IsImageNow after) status written
+      run : IsRunWith (causes_on start after) start group since (IsImageNow after) back script r on.history
+      run = record {
+        run = let x = on.run in record { one_history = x.one_history; legal = x.legal; every_image = x.every_image; on_return = x.on_return; from_entry = x.from_entry };
+        caused = on.causes;
+        few_each = λ one e. let few = on.few in let c = count_by-le-length (λ (c : Commit). c.epoch == e) on.history in omega (arith, few, c, enough);
+        failed = failed_by;
+        all_run = is_run.all_run;
+        all_durable = on.all_durable;
+      }
+
+      short : (written : List ℕ) → IsFrontOf written (report script r) → (status ≡ 1 → (written ≡ report script r) × (r.fault ≡ Some run_fault.Memory)) → RunCutShort (causes_on start after) start group since (IsImageNow after) back status written
       short written front all = record { script = script; ran = r; history = on.history; read = read; run = run; printed = front; whole = all }
 
       done : (written : List ℕ) → written ≡ report script r → HasStatus status r.outcomes r.fault → (¬ ((status ≡ 6) × HasRisen old.own_faults new.own_faults) → r.durable ≡ last_epoch e on.history)
           → ((status ≡ 0) ⊎ (status ≡ 8) → AllRun (all_outcomes script r.outcomes))
-          → (status ≡ 6 → HasRisen old.own_faults new.own_faults) → RunDone (causes_on start after) start 64 since (IsImageNow after) back status written
+          → (status ≡ 6 → HasRisen old.own_faults new.own_faults) → RunDone (causes_on start after) start group since (IsImageNow after) back status written
       done written text has durable all own = record {
         script = script;
         ran = r;
@@ -233,8 +308,6 @@ module _ (words opened : Type 0) (damaged : Damage → Type 0) (left : Option (L
         done = record {
           all_run = all;
           all_durable = durable;
-          caused = on.causes;
-          few_each = λ one e. let few = on.few in let c = count_by-le-length (λ (c : Commit). c.epoch == e) on.history in omega (arith, few, c);
           one_each = λ six none. absurd (none (own six));
         };
       }
@@ -277,17 +350,17 @@ module _ (words opened : Type 0) (damaged : Damage → Type 0) (left : Option (L
         by (Some run_fault.Disk) h = omega (arith, h)
         by (Some (run_fault.Damaged what)) h = omega (arith, h)
 
-    whole_text : (d : Ended) → IsEnd words opened damaged left old new d → (written : List ℕ) → written ≡ text_of d → status ≡ status_of d → Theorem written
+    whole_text : (d : Ended) → IsEnd words source_rose opened damaged left old new d → (written : List ℕ) → written ≡ text_of d → status ≡ status_of d → Theorem written
     unfolding text_of
     whole_text (early r) end written text is = early_whole r end.1 end.0 written text is
     whole_text (ran script r) end written text is = ran_whole script r end.0 end.1 written text r.fault refl is
 
-    front_text : (d : Ended) → IsEnd words opened damaged left old new d → (written : List ℕ) → IsFrontOf written (text_of d) → status ≡ 5 → Theorem written
+    front_text : (d : Ended) → IsEnd words source_rose opened damaged left old new d → (written : List ℕ) → IsFrontOf written (text_of d) → status ≡ 5 → Theorem written
     unfolding text_of
-    front_text (early r) end written front is = cut written (inr is) (inl (nothing r end.1 end.0 written front (λ one. absurd (omega (arith, is, one)))))
+    front_text (early r) end written front is = cut written (inr is) (inl (nothing r end.1 end.0 written (may_end r end.1 end.0) front (λ one. absurd (omega (arith, is, one)))))
     front_text (ran script r) end written front is = cut written (inr is) (inr (short script r end.0 end.1 written front (λ one. absurd (omega (arith, is, one)))))
 
-    holds : Ends words opened damaged left old new status was now → Result_
+    holds : Ends words source_rose opened damaged left old new status was now → Result_
     holds en = by en.status_is
       where
         by : (status ≡ 5) ⊎ (status ≡ status_of en.ended) → Result_
@@ -297,7 +370,7 @@ module _ (words opened : Type 0) (damaged : Damage → Type 0) (left : Option (L
 
   -- ---- the disk's count
 
-  failed_end : (d : Ended) → IsEnd words opened damaged left old new d → status_of d ≡ 6 → HasRisen old.faults new.faults
+  failed_end : (d : Ended) → IsEnd words source_rose opened damaged left old new d → status_of d ≡ 6 → HasRisen old.faults new.faults
   failed_end (early reason.Words) end is = absurd (omega (arith, is))
   failed_end (early (reason.Script n)) end is = absurd (omega (arith, is))
   failed_end (early reason.Source) end is = absurd (omega (arith, is))
@@ -319,7 +392,7 @@ module _ (words opened : Type 0) (damaged : Damage → Type 0) (left : Option (L
   same_count : new ≡ old → old.faults < new.faults → ⊥
   same_count same rose = let e = ap (λ (d : Disk). d.faults) same in omega (arith, e, rose)
 
-  told_end : (d : Ended) → IsEnd words opened damaged left old new d → old.faults < new.faults → (status_of d ≡ 1) ⊎ (status_of d ≡ 6)
+  told_end : (d : Ended) → IsEnd words source_rose opened damaged left old new d → old.faults < new.faults → (status_of d ≡ 1) ⊎ (status_of d ≡ 6)
   told_end (early reason.Words) end rose = absurd (same_count (end.1.same (λ x. cc)) rose)
   told_end (early (reason.Script n)) end rose = absurd (same_count (end.1.same (λ x. cc)) rose)
   told_end (early reason.Source) end rose = absurd (same_count (end.1.same (λ x. cc)) rose)
@@ -334,8 +407,8 @@ module _ (words opened : Type 0) (damaged : Damage → Type 0) (left : Option (L
       by (Some run_fault.Disk) fault = inr refl
       by (Some (run_fault.Damaged what)) fault = absurd (end.1.no_damage what fault)
 
-  counts_of : (source_rose output_rose : Type 0) → (status ≡ 4 → source_rose) → (status ≡ 5 → output_rose) → Ends words opened damaged left old new status was now → CountsByStatus source_rose output_rose old new status
-  counts_of source_rose output_rose source output en = record { source = source; output = output; disk = λ six. disk en.status_is six; told = λ rose. told en.status_is (told_end en.ended en.is_end rose) }
+  counts_of : (output_rose : Type 0) → (status ≡ 4 → source_rose) → (status ≡ 5 → output_rose) → Ends words source_rose opened damaged left old new status was now → CountsByStatus source_rose output_rose old new status
+  counts_of output_rose source output en = record { source = source; output = output; disk = λ six. disk en.status_is six; told = λ rose. told en.status_is (told_end en.ended en.is_end rose) }
     where
       disk : (status ≡ 5) ⊎ (status ≡ status_of en.ended) → status ≡ 6 → HasRisen old.faults new.faults
       disk (inl failed) six = absurd (omega (arith, failed, six))
@@ -346,18 +419,95 @@ module _ (words opened : Type 0) (damaged : Damage → Type 0) (left : Option (L
       told (inr fine) (inl one) = inl (fine ∙ one)
       told (inr fine) (inr six) = inr (inr (fine ∙ six))
 
+  -- a disk that tells its bytes at entry tells them on return
+  pub goes_on : Ends words source_rose opened damaged left old new status was now → ContinuesOn old new
+  goes_on en = by en.ended en.is_end
+    where
+      early_on : (r : Reason) → EndsEarly r old new → ContinuesOn old new
+      early_on (reason.Fault run_fault.Disk) en = continues_told old new (en.failed refl).told
+      early_on (reason.Fault run_fault.Memory) en = continues_told old new (ap (λ d. d.told) (en.same (λ x. cc)))
+      early_on (reason.Fault (run_fault.Damaged what)) en = continues_told old new (ap (λ d. d.told) (en.same (λ x. cc)))
+      early_on reason.Words en = continues_told old new (ap (λ d. d.told) (en.same (λ x. cc)))
+      early_on (reason.Script n) en = continues_told old new (ap (λ d. d.told) (en.same (λ x. cc)))
+      early_on reason.Source en = continues_told old new (ap (λ d. d.told) (en.same (λ x. cc)))
+
+      by : (d : Ended) → IsEnd words source_rose opened damaged left old new d → ContinuesOn old new
+      by (early r) end = early_on r end.1
+      by (ran script r) end = end.1.time
+
+  told_on_return : (before : Told) → old.told ≡ Some before → ContinuesOn old new → (after : Told) × (new.told ≡ Some after)
+  told_on_return before is time = by old.told new.told is refl time
+    where
+      by : (a b : Option Told) → a ≡ Some before → new.told ≡ b → BothTold Continues a b → (after : Told) × (new.told ≡ Some after)
+      by a (Some after) at here both = (after, here)
+      by None None at here both = absurd cc
+      by (Some a) None at here both = absurd both
+
   -- how a call ended tells that it ran well
-  pub runs_well : (source_rose output_rose : Type 0) → (status ≡ 4 → source_rose) → (status ≡ 5 → output_rose) → IsSoundDisk old → old.unsynced ≡ [] → Ends words opened damaged left old new status was now → RunsWell words damaged left source_rose output_rose old new status was now
-  runs_well source_rose output_rose source output is_sound synced en = record {
-    holds = λ bytes first before after e rows left_is was_is old_is new_is shows sound whole.
-        holds source_rose output_rose (counts_of source_rose output_rose source output en) bytes first before after e rows left_is was_is old_is new_is shows sound whole (is_told old.told before old_is is_sound.told) synced en;
+  pub runs_well : (command : Option Command) (output_rose : Type 0) → (status ≡ 4 → source_rose) → (status ≡ 5 → output_rose) → IsSoundDisk old → old.unsynced ≡ []
+      → ((options : Options) → words → SpellsRun command options → options.group ≡ 64)
+      → ((before : Told) (e : ℕ) (rows : List Row) → old.told ≡ Some before → Shows old.region_len before.bytes e rows → IsPlain rows → LeavesWhole rows → (what : Damage) → damaged what → ⊥)
+      → Ends words source_rose opened damaged left old new status was now → RunsWell words command left source_rose output_rose old new status was now
+  runs_well command output_rose source output is_sound synced grouped undamaged en = record {
+    holds = λ options bytes first before e rows are_words spelled left_is was_is old_is shows sound plain unbroken.
+        let after = told_on_return before old_is (goes_on en) in
+        let h = holds output_rose (counts_of output_rose source output en) are_words options.group (omega (arith, grouped options are_words spelled)) bytes first before after.0 e rows left_is was_is old_is after.1 shows sound
+        (undamaged before e rows old_is shows plain unbroken) (is_told old.told before old_is is_sound.told) synced en in
+        (after.0, after.1, h.0, h.1, h.2);
   }
     where
       is_told : (t : Option Told) (b : Told) → t ≡ Some b → IfSome t (IsToldOf old) → IsToldOf old b
       is_told t b is h = subst (λ o. IfSome o (IsToldOf old)) is h
 
+  -- other words end a call at once
+  words_end : (d : Ended) → IsEnd words source_rose opened damaged left old new d → (words → ⊥) → (d ≡ early reason.Words) × (new ≡ old)
+  words_end (early reason.Words) end other = (refl, end.1.same (λ x. cc))
+  words_end (early (reason.Script n)) end other = absurd (other end.0.0)
+  words_end (early reason.Source) end other = absurd (other end.0.0)
+  words_end (early (reason.Fault run_fault.Memory)) end other = absurd (other end.0)
+  words_end (early (reason.Fault run_fault.Disk)) end other = absurd (other end.0.0)
+  words_end (early (reason.Fault (run_fault.Damaged what))) end other = absurd (other end.0.0)
+  words_end (ran script r) end other = absurd (other end.0.are_words)
+
+  words_text : (d : Ended) → d ≡ early reason.Words → (text_of d ≡ words_line) × (status_of d ≡ 2)
+  unfolding text_of reason_bytes
+  words_text d is = (ap text_of is, ap status_of is)
+
+  pub refuses_words : (output_rose : Type 0) → (status ≡ 5 → output_rose) → Ends words source_rose opened damaged left old new status was now → RefusesWords words output_rose old new status was now
+  refuses_words output_rose output en = record { holds = λ other first was_is. let w = words_end en.ended en.is_end other in by first was_is (words_text en.ended w.0) w.1 en.status_is }
+    where
+      by : (first : List ℕ) → was ≡ Some first → (text_of en.ended ≡ words_line) × (status_of en.ended ≡ 2) → new ≡ old → (status ≡ 5) ⊎ (status ≡ status_of en.ended)
+          → (written : List ℕ) × (now ≡ Some (first ++ written)) × WordsTheorem output_rose (new ≡ old) status written
+      by first was_is (text, two) same (inl failed) =
+          let w = wrote_front (text_of en.ended) (status ≡ 5) was now first en.printed was_is in (
+            w.0,
+            w.1,
+            record {
+              disk = same;
+              words = λ h. absurd (omega (arith, failed, h));
+              memory = λ h. absurd (omega (arith, failed, h));
+              cut_short = λ h. inl (subst (IsFrontOf w.0) text w.2);
+              output = output;
+              others = inr (inr (inl failed));
+            },
+          )
+      by first was_is (text, two) same (inr fine) =
+          let is : status ≡ 2 = fine ∙ two in
+          let whole = wrote_all (text_of en.ended) (status ≡ 5) was now first en.printed (λ failed. omega (arith, is, failed)) was_is in (
+            text_of en.ended,
+            whole,
+            record {
+              disk = same;
+              words = λ h. text;
+              memory = λ h. absurd (omega (arith, is, h));
+              cut_short = λ h. absurd (omega (arith, is, h));
+              output = output;
+              others = inr (inl is);
+            },
+          )
+
   -- status 3 comes for a script that is refused
-  of_refused : (d : Ended) → IsEnd words opened damaged left old new d → status_of d ≡ 3 → OfTold left IsRefused
+  of_refused : (d : Ended) → IsEnd words source_rose opened damaged left old new d → status_of d ≡ 3 → OfTold left IsRefused
   of_refused (early reason.Words) end is = absurd (omega (arith, is))
   of_refused (early (reason.Script n)) end is = λ bytes left_is. (n, end.0.1 bytes left_is)
   of_refused (early reason.Source) end is = absurd (omega (arith, is))
@@ -376,7 +526,7 @@ module _ (words opened : Type 0) (damaged : Damage → Type 0) (left : Option (L
       by (Some run_fault.Disk) h = omega (arith, h)
       by (Some (run_fault.Damaged what)) h = omega (arith, h)
 
-  pub refused_script : Ends words opened damaged left old new status was now → status ≡ 3 → OfTold left IsRefused
+  pub refused_script : Ends words source_rose opened damaged left old new status was now → status ≡ 3 → OfTold left IsRefused
   refused_script en three = by en.status_is
     where
       by : (status ≡ 5) ⊎ (status ≡ status_of en.ended) → OfTold left IsRefused

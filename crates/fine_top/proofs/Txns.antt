@@ -1,5 +1,5 @@
 -- A transaction on a room and on the store in memory.
-use Rattle.std.proofs.Common.{◌≡◌, inl, inr, ℕ, ◌+◌, false, List, [], ◌∷◌, ◌++◌, refl, sym, ap, ◌∙◌, subst, Option, Some, None, Ok, arith, append-nil, append_assoc}
+use Rattle.std.proofs.Common.{◌≡◌, inl, inr, ℕ, ◌+◌, false, List, [], ◌∷◌, ◌++◌, refl, sym, ap, ◌∙◌, subst, Option, Some, None, Ok, arith, append-nil, append_assoc, All, ◌≤◌}
 use Rattle.std.proofs.lemmas.Grind.{flat_map-append}
 use Rattle.fine_model.specs.declared.Row.{Row}
 use Rattle.fine_model.specs.declared.Entry.{Entry}
@@ -35,7 +35,8 @@ use Rattle.leaf_store.specs.declared.answered.Answered.{Answered}
 use Rattle.fine_top.specs.Refusals.{IsFull, IsSpent, GoesLater, unanswered}
 use Rattle.fine_top.specs.Steps.{FailsToSeal, MakesRoom, MaySeal, KeepsPlace, GoesOn, RefusedHere, RunsTxn, EndsBy}
 use Rattle.fine_top.proofs.Refused.{not_full, refused_by_room, refused_by_store, later_none, later_then}
-use Rattle.fine_top.proofs.Following.{epochs_below, legal_of, follows, sealed_on}
+use Rattle.fine_model.proofs.Epochs.{epochs_below, legal_of, sealed_on}
+use Rattle.fine_top.proofs.Following.{follows}
 
 -- ---- what sealing leaves
 
@@ -225,7 +226,7 @@ module _ (txn : ScriptTxn) (turn : ℕ) (old mid new : RoomValue) (leaves after 
       let ans = a.answers (first ++ all_rows history) h.holds in
       let next : IsLegal first (history ++ commit ∷ []) =
       follows first history commit s.1.small h.sound legal
-      (epochs_below e history mid.room.sealed epoch s.1.stands.counts.epochs (mid_sealed a before s.0 first e history s.1) a.epoch_is)
+      (subst (λ n. All (λ b. b.epoch ≤ n) history) (sym a.epoch_is) (epochs_below e history mid.room.sealed s.1.stands.counts.epochs (mid_sealed a before s.0 first e history s.1)))
       (a.replies ∙ ans.replies ∙ ap (λ cs. replies_to (map_of (first ++ all_rows history)) cs) (sym a.calls))
       (a.writes ∙ ans.writes ∙ ap (λ cs. writes_of (map_of (first ++ all_rows history)) cs) (sym a.calls))
       (ap (all_pushed (first ++ all_rows history)) a.calls ∙ ans.pushed ∙ ap Ok (sym a.rows)) in

@@ -1,7 +1,9 @@
 -- How a call of the program ends, and what it prints then.
-use Rattle.std.specs.Prelude.{◌≡◌, ◌⊎◌, ℕ, ◌-◌, ◌≤◌, length, List, [], ◌∷◌, ◌++◌, if◌then◌else◌, Option, Some, None, Err, Ok, ⊤}
+use Rattle.std.specs.Prelude.{◌≡◌, ◌⊎◌, ℕ, ◌-◌, ◌≤◌, length, List, ◌++◌, if◌then◌else◌, Option, Some, None, Ok, ⊤}
 use Rattle.std.specs.List.{list_any}
 use Rattle.log_disk.specs.Disk.{Disk, Told, last_count, HasRisen, SameBeside, OnlyFails, IsImageNow, IsImageSince, clock_of}
+use Rattle.log_disk.specs.Moments.{ContinuesOn}
+use Rattle.fine_model.specs.declared.Options.{Options}
 use Rattle.fine_model.specs.declared.Row.{Row}
 use Rattle.fine_model.specs.declared.ScriptTxn.{ScriptTxn}
 use Rattle.fine_model.specs.declared.Outcome.{Outcome}
@@ -15,11 +17,14 @@ use Rattle.fine_model.specs.Outcomes.{AllRun, is_refused}
 use Rattle.fine_model.specs.History.{Commit, last_epoch}
 use Rattle.fine_model.specs.Trees.{IsSound}
 use Rattle.fine_model.specs.Chain.{Shows}
-use Rattle.fine_model.specs.Headline.{Start, Return, Causes, IsRun, RunTheorem}
-use Rattle.fine_model.specs.Script.{many, too_long, bad_line}
+use Rattle.fine_model.specs.Headline.{Start, Return, Causes, IsRun, IsRefusedAt, RunTheorem}
+use Rattle.fine_model.specs.Words.{Command}
+use Rattle.fine_model.specs.Commands.{WordsTheorem}
 use Rattle.fine_model.specs.Reach.{reached_script_of}
 use Rattle.fine_model.specs.Report.{all_outcomes, reason_bytes, report}
+use Rattle.leaf_store.specs.Leaves.{IsPlain, LeavesWhole}
 use Rattle.fine_top.specs.Refusals.{HaveCauses}
+use Rattle.fine_top.specs.Words.{SpellsRun}
 use Rattle.script_text.specs.Streams.{Puts}
 use Rattle.script_text.specs.declared.read.ScriptFault.{ScriptFault}
 use Rattle.script_text.specs.declared.read.ScriptFault.TheVariants as fault
@@ -71,10 +76,9 @@ OfTold left P = (bytes : List ℕ) → left ≡ Some bytes → P bytes
 abbrev pub SpellsScript : List ℕ → Type 0
 SpellsScript bytes = (script : List ScriptTxn) × (reached_script_of bytes ≡ Ok script)
 
--- the first refusal of the script stands at line n
-abbrev pub IsRefusedAt : ℕ → List ℕ → Type 0
-IsRefusedAt n bytes =
-    (reached_script_of bytes ≡ Err (many n)) ⊎ (reached_script_of bytes ≡ Err (too_long n)) ⊎ (reached_script_of bytes ≡ Err (bad_line n))
+-- the first refusal of the script that they spell stands at line n
+abbrev pub IsRefusedIn : ℕ → List ℕ → Type 0
+IsRefusedIn n bytes = IsRefusedAt n (reached_script_of bytes)
 
 -- ---- what a run was
 
@@ -96,6 +100,7 @@ IsRunOfTold region_len _ _ script r = ⊤
 -- a run between two states of the disk
 pub record IsRunOf (old new : Disk) (script : List ScriptTxn) (ran : Ran) : Type 0 where
   pub beside : SameBeside old new
+  pub time : ContinuesOn old new
   pub no_damage : (what : Damage) → ran.fault ≡ Some (run_fault.Damaged what) → ⊥
   pub failed : ran.fault ≡ Some run_fault.Disk → HasRisen old.faults new.faults × HasRisen old.own_faults new.own_faults
   pub not_failed : ran.fault ≡ None → (new.faults ≡ old.faults) × (new.own_faults ≡ old.own_faults)
@@ -105,15 +110,15 @@ pub record IsRunOf (old new : Disk) (script : List ScriptTxn) (ran : Ran) : Type
 
 -- ---- how a call ended
 
--- why a call ends before anything is run: `words` says that they are those of the command, `damaged` what is wrong with the log,
--- and `left` are the script's bytes
-abbrev pub IsReason : Type 0 → (Damage → Type 0) → Option (List ℕ) → Reason → Type 0
-IsReason words damaged left reason.Words = words → ⊥
-IsReason words damaged left (reason.Script n) = words × OfTold left (IsRefusedAt n)
-IsReason words damaged left reason.Source = words
-IsReason words damaged left (reason.Fault run_fault.Memory) = words
-IsReason words damaged left (reason.Fault run_fault.Disk) = words × OfTold left SpellsScript
-IsReason words damaged left (reason.Fault (run_fault.Damaged what)) = words × OfTold left SpellsScript × damaged what
+-- why a call ends before anything is run: `words` says that they are those of the command, `source_rose` that the source's count of faults
+-- rose, `damaged` what is wrong with the log, and `left` are the script's bytes
+abbrev pub IsReason : Type 0 → Type 0 → (Damage → Type 0) → Option (List ℕ) → Reason → Type 0
+IsReason words source_rose damaged left reason.Words = words → ⊥
+IsReason words source_rose damaged left (reason.Script n) = words × OfTold left (IsRefusedIn n)
+IsReason words source_rose damaged left reason.Source = words × source_rose
+IsReason words source_rose damaged left (reason.Fault run_fault.Memory) = words
+IsReason words source_rose damaged left (reason.Fault run_fault.Disk) = words × OfTold left SpellsScript
+IsReason words source_rose damaged left (reason.Fault (run_fault.Damaged what)) = words × OfTold left SpellsScript × damaged what
 
 -- what an early end leaves of the disk: everything, but for the count of a call that failed
 pub record EndsEarly (r : Reason) (old new : Disk) : Type 0 where
@@ -126,14 +131,14 @@ pub record MayRun (words opened : Type 0) (left : Option (List ℕ)) (script : L
   pub spelled : OfTold left (λ bytes. reached_script_of bytes ≡ Ok script)
   pub is_opened : opened
 
-abbrev pub IsEnd : Type 0 → Type 0 → (Damage → Type 0) → Option (List ℕ) → Disk → Disk → Ended → Type 0
-IsEnd words opened damaged left old new (early r) = IsReason words damaged left r × EndsEarly r old new
-IsEnd words opened damaged left old new (ran script r) = MayRun words opened left script × IsRunOf old new script r
+abbrev pub IsEnd : Type 0 → Type 0 → Type 0 → (Damage → Type 0) → Option (List ℕ) → Disk → Disk → Ended → Type 0
+IsEnd words source_rose opened damaged left old new (early r) = IsReason words source_rose damaged left r × EndsEarly r old new
+IsEnd words source_rose opened damaged left old new (ran script r) = MayRun words opened left script × IsRunOf old new script r
 
 -- How a call ended: its whole text was written and the status is the end's, or the output failed and the status is 5.
-pub record Ends (words opened : Type 0) (damaged : Damage → Type 0) (left : Option (List ℕ)) (old new : Disk) (status : ℕ) (was now : Option (List ℕ)) : Type 0 where
+pub record Ends (words source_rose opened : Type 0) (damaged : Damage → Type 0) (left : Option (List ℕ)) (old new : Disk) (status : ℕ) (was now : Option (List ℕ)) : Type 0 where
   pub ended : Ended
-  pub is_end : IsEnd words opened damaged left old new ended
+  pub is_end : IsEnd words source_rose opened damaged left old new ended
   pub status_is : (status ≡ 5) ⊎ (status ≡ status_of ended)
   pub printed : Puts (text_of ended) (status ≡ 5) was now
 
@@ -141,12 +146,7 @@ pub record Ends (words opened : Type 0) (damaged : Damage → Type 0) (left : Op
 
 -- the grammar refuses the script
 abbrev pub IsRefused : List ℕ → Type 0
-IsRefused bytes = (n : ℕ) × IsRefusedAt n bytes
-
--- a status is one of these
-abbrev pub OneOf : List ℕ → ℕ → Type 0
-OneOf [] status = ⊥
-OneOf (s ∷ ss) status = (status ≡ s) ⊎ OneOf ss status
+IsRefused bytes = (n : ℕ) × IsRefusedIn n bytes
 
 -- the causes of refusals on a log that showed an epoch and rows, by what the disk shows on return
 abbrev pub causes_on : Start → Told → Causes
@@ -168,10 +168,16 @@ return_of old new source_rose output_rose before after = record {
 abbrev pub start_on : Disk → List ℕ → ℕ → List Row → Start
 start_on old bytes e rows = record { script = reached_script_of bytes; region_len = old.region_len; e = e; rows = rows }
 
--- The theorem of a run: on every sound log that the program reaches, where script, disk and output are told.
-pub record RunsWell (words : Type 0) (damaged : Damage → Type 0) (left : Option (List ℕ)) (source_rose output_rose : Type 0) (old new : Disk) (status : ℕ) (was now : Option (List ℕ)) : Type 0 where
-  pub holds : (bytes first : List ℕ) (before after : Told) (e : ℕ) (rows : List Row) → left ≡ Some bytes → was ≡ Some first → old.told ≡ Some before → new.told ≡ Some after
-      → Shows old.region_len before.bytes e rows → IsSound rows → ((what : Damage) → damaged what → ⊥)
-      → (written : List ℕ) × (now ≡ Some (first ++ written))
-      × RunTheorem (causes_on (start_on old bytes e rows) after) words (start_on old bytes e rows) 64 (IsImageSince (clock_of before) after) (IsImageNow after)
+-- What other words give, where the output is told.
+pub record RefusesWords (words output_rose : Type 0) (old new : Disk) (status : ℕ) (was now : Option (List ℕ)) : Type 0 where
+  pub holds : (words → ⊥) → (first : List ℕ) → was ≡ Some first → (written : List ℕ) × (now ≡ Some (first ++ written)) × WordsTheorem output_rose (new ≡ old) status written
+
+-- The theorem of a run, where the words are those of the command `run` with these options, script, output and disk are told, and the log is
+-- sound. The disk then tells its bytes on return too. For now `words` says that they are the one word `run`, and the log is one that the store
+-- of root leaves takes.
+pub record RunsWell (words : Type 0) (command : Option Command) (left : Option (List ℕ)) (source_rose output_rose : Type 0) (old new : Disk) (status : ℕ) (was now : Option (List ℕ)) : Type 0 where
+  pub holds : (options : Options) (bytes first : List ℕ) (before : Told) (e : ℕ) (rows : List Row) → words → SpellsRun command options → left ≡ Some bytes → was ≡ Some first → old.told ≡ Some before
+      → Shows old.region_len before.bytes e rows → IsSound rows → IsPlain rows → LeavesWhole rows
+      → (after : Told) × (new.told ≡ Some after) × (written : List ℕ) × (now ≡ Some (first ++ written))
+      × RunTheorem (causes_on (start_on old bytes e rows) after) (start_on old bytes e rows) options.group (IsImageSince (clock_of before) after) (IsImageNow after)
       (return_of old new source_rose output_rose before after) (new ≡ old) status written

@@ -1,11 +1,20 @@
 -- The words that the program takes today.
 use Rattle.std.specs.Prelude.{◌≡◌, ℕ, ◌%◌, ◌≤◌, nat_le, if◌then◌else◌, List, [], ◌∷◌, map, slice_get, Option, Some, None, option_and_then, String, string_bytes, codes}
 use Rattle.std.specs.declared.alloc.Global.{Global}
-use Rattle.fine_model.specs.Words.{geometry_of}
+use Rattle.fine_model.specs.declared.Options.{Options}
+use Rattle.fine_model.specs.Words.{Command, run, command_of, geometry_of}
 
 -- the one word `run`
 abbrev pub IsRun : List (String Global) → Type 0
 IsRun words = map string_bytes words ≡ codes "run" ∷ []
+
+-- the command that words spell by the whole grammar
+abbrev pub command_in : List (String Global) → Option Command
+command_in words = command_of (map string_bytes words)
+
+-- it is `run`, with these options
+abbrev pub SpellsRun : Option Command → Options → Type 0
+SpellsRun command options = command ≡ Some (run options)
 
 -- a geometry whose regions have at least 16384 bytes, in which one epoch fits
 abbrev pub long_enough : ℕ × ℕ → Option (ℕ × ℕ)

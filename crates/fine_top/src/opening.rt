@@ -121,7 +121,7 @@ pub fn open_run<S: Source, D: LogDisk>(
 ) -> Result<Opened, Reason>
     requires region_len { (70 < (D.state disk.old).region_len) × ((D.state disk.old).region_len ≤ 67108864) }
     ensures ok { IfOk result (OpensRun (IsRun words.now) (S.left source.old) (D.state disk.old)) }
-    ensures reason { IfErr result (IsReason (IsRun words.now) (IsDamagedLog (D.state disk.old)) (S.left source.old)) }
+    ensures reason { IfErr result (IsReason (IsRun words.now) (HasRisen (S.faults source.old) (S.faults source.new)) (IsDamagedLog (D.state disk.old)) (S.left source.old)) }
     ensures source_failed { result ≡ Err reason.Source → HasRisen (S.faults source.old) (S.faults source.new) }
     ensures disk_failed { result ≡ Err (reason.Fault run_fault.Disk) → OnlyFails (D.state disk.old) (D.state disk.new) }
     ensures disk_same { (result ≡ Err (reason.Fault run_fault.Disk) → ⊥) → D.state disk.new ≡ D.state disk.old }

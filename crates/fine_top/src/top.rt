@@ -3,6 +3,7 @@
 ghost use Rattle.std.specs.Prelude.{◌≡◌, ◌⊎◌, ◌<◌, ◌≤◌, [], ◌∷◌, length, IsTrue};
 ghost use Rattle.std.specs.List.{AllByRecursion, list_any};
 ghost use Rattle.log_disk.specs.Disk.{Disk, HasRisen, SameBeside, IsSound as IsSoundDisk};
+ghost use Rattle.log_disk.specs.Moments.{ContinuesOn};
 ghost use Rattle.epoch_room.specs.Whole.{IsIdle};
 ghost use Rattle.fine_model.specs.Bounds.{FitsScript};
 ghost use Rattle.fine_model.specs.declared.Damage.{Damage};
@@ -11,10 +12,11 @@ ghost use Rattle.fine_model.specs.Reach.{is_simple_txn};
 ghost use Rattle.fine_model.specs.Report.{reason_bytes, report};
 ghost use Rattle.script_text.specs.Streams.{Puts};
 ghost use Rattle.reopen.specs.Opening.{SeesChain};
-ghost use Rattle.fine_top.specs.Ends.{Ends, IsRefused, OfTold, OneOf, RunsWell, fault_status, reason_status, run_status};
+ghost use Rattle.fine_model.specs.Headline.{OneOf};
+ghost use Rattle.fine_top.specs.Ends.{Ends, IsRefused, OfTold, RefusesWords, RunsWell, fault_status, reason_status, run_status};
 ghost use Rattle.fine_top.specs.Opened.{IsDamagedLog, IsLoadedFrom, IsOpenedLog};
 ghost use Rattle.fine_top.specs.Opening.{EndsRunOf};
-ghost use Rattle.fine_top.specs.Words.{IsGeometry, IsRun};
+ghost use Rattle.fine_top.specs.Words.{IsGeometry, IsRun, command_in};
 
 use crate::opening::{Opened, open_run};
 use crate::run::run_script;
@@ -158,7 +160,7 @@ fn run_command<S: Source, K: Sink, D: LogDisk>(
     disk: D,
 ) -> Finish<D>
     requires idle { IsIdle (D.state disk) }
-    ensures ends { Ends (IsRun words.now) (IsOpenedLog (D.state disk)) (IsDamagedLog (D.state disk)) (S.left script.old) (D.state disk) (D.state result.disk) result.status (K.written out.old) (K.written out.new) }
+    ensures ends { Ends (IsRun words.now) (HasRisen (S.faults script.old) (S.faults script.new)) (IsOpenedLog (D.state disk)) (IsDamagedLog (D.state disk)) (S.left script.old) (D.state disk) (D.state result.disk) result.status (K.written out.old) (K.written out.new) }
     ensures sound { IsSoundDisk (D.state disk) }
     ensures source_failed { result.status ≡ 4 → HasRisen (S.faults script.old) (S.faults script.new) }
     ensures output_failed { result.status ≡ 5 → HasRisen (K.faults out.old) (K.faults out.new) }
@@ -199,15 +201,16 @@ pub fn fineline<R: Threads + Wait + Sync, S: Source, K: Sink, D: LogDisk, G: Gat
     requires no_eyes { (D.state disk).eyes ≡ [] }
 
     // What is printed, and why.
-    ensures ends { Ends (IsRun words.now) (IsOpenedLog (D.state disk)) (IsDamagedLog (D.state disk)) (S.left script.old) (D.state disk) (D.state result.disk) result.status (K.written out.old) (K.written out.new) }
+    ensures ends { Ends (IsRun words.now) (HasRisen (S.faults script.old) (S.faults script.new)) (IsOpenedLog (D.state disk)) (IsDamagedLog (D.state disk)) (S.left script.old) (D.state disk) (D.state result.disk) result.status (K.written out.old) (K.written out.new) }
 
     // The printed places order the committed transactions into one history of a sequential store, every image that a crash could
     // have left reopens to a prefix of it, each refusal that is printed has its cause, and status 6 tells a failed disk.
-    ensures run { RunsWell (IsRun words.now) (IsDamagedLog (D.state disk)) (S.left script.old) (HasRisen (S.faults script.old) (S.faults script.new)) (HasRisen (K.faults out.old) (K.faults out.new)) (D.state disk) (D.state result.disk) result.status (K.written out.old) (K.written out.new) }
+    ensures run { RunsWell (IsRun words.now) (command_in words.now) (S.left script.old) (HasRisen (S.faults script.old) (S.faults script.new)) (HasRisen (K.faults out.old) (K.faults out.new)) (D.state disk) (D.state result.disk) result.status (K.written out.old) (K.written out.new) }
 
     // Status 2 comes exactly for other words, unless the output fails.
     ensures words { result.status ≡ 2 → IsRun words.now → ⊥ }
     ensures other_words { (IsRun words.now → ⊥) → OneOf (2 ∷ 5 ∷ []) result.status }
+    ensures words_line { RefusesWords (IsRun words.now) (HasRisen (K.faults out.old) (K.faults out.new)) (D.state disk) (D.state result.disk) result.status (K.written out.old) (K.written out.new) }
 
     // Status 3 comes exactly for a script that the grammar refuses, unless 1, 4 or 5 comes.
     ensures script { result.status ≡ 3 → OfTold (S.left script.old) IsRefused }
@@ -227,6 +230,9 @@ pub fn fineline<R: Threads + Wait + Sync, S: Source, K: Sink, D: LogDisk, G: Gat
     // What stands on the disk.
     ensures untouched { OneOf (2 ∷ 3 ∷ 4 ∷ 7 ∷ []) result.status → D.state result.disk ≡ D.state disk }
     ensures beside { SameBeside (D.state disk) (D.state result.disk) }
+
+    // A disk that tells its bytes at entry tells them on return, and its moments go on from those at entry.
+    ensures told { ContinuesOn (D.state disk) (D.state result.disk) }
 {
     let _ = rt;
     let _ = gate;

@@ -182,8 +182,10 @@ fn first_version(
 /// What asks a source for nodes is given a view, and has each node as it begins.
 #[test]
 fn a_view_is_a_source_of_nodes(rt: HostRuntime) -> Result<(), Fail> {
-    let mut view = empty_view(rt.alloc()).ok().ok_or("memory")?;
     for number in [0, 1, 1_048_575] {
+        let Ok(mut view) = empty_view(rt.alloc()) else {
+            return Err(Fail::from("memory"));
+        };
         let version = first_version(rt.alloc(), &mut view, number);
         assert!(&rt; version.ok() == Some(Some(0)), "a version");
     }

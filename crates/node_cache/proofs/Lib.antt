@@ -7,3 +7,4 @@ pub mod Poured
 pub mod Kept
 pub mod StepLemmas
 pub mod Noted
+pub mod Loading

@@ -1,17 +1,20 @@
 -- What a view tells.
-use Rattle.std.proofs.Common.{◌<◌, ◌≤◌, ◌∙◌, ℕ, List, [], ◌∷◌, refl, sym, subst}
+use Rattle.std.proofs.Common.{◌≡◌, ◌<◌, ◌≤◌, ◌∙◌, ℕ, List, [], ◌∷◌, ◌++◌, Some, refl, sym, ap, subst, append-nil}
 use Rattle.std.specs.Prelude.{Contains}
 use Rattle.std.specs.List.{AllByRecursion}
 use Rattle.std.proofs.lemmas.List.Elements.{All-contains, All-from_recursion}
 use Rattle.fine_model.specs.declared.Part.{Part}
 use Rattle.fine_model.specs.Boards.{set_of}
-use Rattle.fine_model.specs.Regions.{HasHeader}
+use Rattle.fine_model.specs.declared.Row.{Row}
+use Rattle.fine_model.specs.Regions.{Image, HasHeader}
 use Rattle.fine_model.specs.Chain.{AreRowsOf, regions_of}
 use Rattle.fine_model.proofs.Setting.{set_keeps}
 use Rattle.partition_index.specs.Parts.{IsSeen, SameEye}
+use Rattle.partition_index.specs.Search.{TellsRows as TellsPart}
 use Rattle.log_disk.specs.Disk.{Eye}
+use Rattle.node_fetch.proofs.Blames.{same_header}
 use Rattle.node_fetch.proofs.Parts.{later_seen}
-use Rattle.partition_hold.specs.Views.{ViewValue, IsView, SameView, ViewNames, ViewTells}
+use Rattle.partition_hold.specs.Views.{ViewValue, IsView, SameView, TellsEach, ViewNames, ViewTells, ViewTellsEach, ViewTellsPart}
 
 pub view_tells : ViewTells
 view_tells v rows is tells = record {
@@ -20,6 +23,27 @@ view_tells v rows is tells = record {
   headers = subst (λ len. AllByRecursion (λ p. HasHeader len tells.image p.region p.header) v.parts) is.long tells.headers;
   are_rows = subst (λ len. AreRowsOf len tells.image v.parts rows) is.long tells.are_rows;
 }
+
+-- what an image tells of parts that have their headers
+each_told : (eye : Eye) (image : Image) (parts : List Part) (rows : List Row) → eye.told ≡ Some image → AllByRecursion (λ p. HasHeader eye.region_len image p.region p.header) parts → AreRowsOf eye.region_len image parts rows → TellsEach eye parts rows
+unfolding AreRowsOf
+each_told eye image [] rows told headers are = are
+each_told eye image (p ∷ parts) rows told headers are = (
+  are.0,
+  are.1,
+  are.2,
+  record { image = image; told = told; sealed = are.3; of_part = same_header eye.region_len image p are.0 are.3 headers.0 },
+  each_told eye image parts are.1 told headers.1 are.4,
+)
+
+pub view_each : ViewTellsEach
+view_each v rows is tells = let t = view_tells v rows is tells in each_told v.eye t.image v.parts rows t.told t.headers t.are_rows
+
+pub view_part : ViewTellsPart
+view_part v p rows is tells =
+    let headers = subst (λ len. AllByRecursion (λ p. HasHeader len tells.image p.region p.header) (p ∷ [])) is.long tells.headers in
+    let t = each_told v.eye tells.image (p ∷ []) rows tells.is_told headers (subst (λ len. AreRowsOf len tells.image (p ∷ []) rows) is.long tells.are_rows) in
+    subst (TellsPart v.eye p) (sym (t.2 ∙ ap (λ xs. t.0 ++ xs) t.4 ∙ append-nil t.0)) t.3
 
 -- regions that are among some below 64 are in the set of these
 all_named : (some regions : List ℕ) → AllByRecursion (λ r. r < 64) some → AllByRecursion (Contains some) regions → AllByRecursion (Contains (set_of some)) regions

@@ -1,3 +1,4 @@
 pub mod Boards
 pub mod Views
 pub mod Sources
+pub mod SourceLaws

@@ -39,16 +39,3 @@ Fails old fetch_fault.Failed new = HasRisen old.eye.faults new.eye.faults
 Fails old (fetch_fault.BadRow region at) new = TellsNone old × ((node : NodeId) × Any (λ p. HasBadRow old.eye.told old.region_len p node (record { region = region; at = at })) old.parts)
 Fails old (fetch_fault.BadIndex region at) new = TellsNone old × Any (λ p. HasBadEntry old.eye.told old.region_len p (record { region = region; at = at })) old.parts
 Fails old fetch_fault.NoMemory new = Unit {0}
-
--- what holds of the states of a view that is a source of nodes
-pub record SourceLaws : Type 0 where
-  pub later_itself : (v : ViewValue) → IsLater v v
-  pub later_on : (u v w : ViewValue) → IsLater u v → IsLater v w → IsLater u w
-  pub later_tells : (s t : ViewValue) (rows : List Row) → IsLater s t → tells_rows s rows → tells_rows t rows
-  pub tells_before : (s t : ViewValue) (rows : List Row) → IsLater s t → tells_rows t rows → tells_rows s rows
-  pub finds_before : (s t : ViewValue) (id : NodeId) (found : Content) → IsLater s t → finds_in t id found → finds_in s id found
-  pub later_upper : (s t : ViewValue) → IsLater s t → t.upto ≡ s.upto
-  pub clean_itself : (v : ViewValue) → IsClean v v
-  pub clean_on : (s t u : ViewValue) → IsClean s t → IsClean t u → IsClean s u
-  pub fails_earlier : (s t u : ViewValue) (fault : FetchFault) → IsLater s t → Fails t fault u → Fails s fault u
-  pub fails_told : (s t : ViewValue) (rows : List Row) (fault : FetchFault) → tells_rows s rows → Fails s fault t → OnCleanFault fault ⊥

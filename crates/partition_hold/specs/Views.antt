@@ -1,5 +1,5 @@
 -- A view as contracts see it.
-use Rattle.std.specs.Prelude.{◌≡◌, ◌<◌, ◌≤◌, ℕ, List, Contains}
+use Rattle.std.specs.Prelude.{◌≡◌, ◌<◌, ◌≤◌, ℕ, List, [], ◌∷◌, ◌++◌, Contains}
 use Rattle.std.specs.List.{AllByRecursion}
 use Rattle.log_disk.specs.Disk.{Eye}
 use Rattle.fine_model.specs.declared.Part.{Part}
@@ -8,8 +8,9 @@ use Rattle.fine_model.specs.declared.law.OpenedEye.{OpenedEye}
 use Rattle.fine_model.specs.declared.law.ViewState.{ViewState}
 use Rattle.fine_model.specs.Chain.{regions_of}
 use Rattle.fine_model.specs.Boards.{set_of}
-use Rattle.fine_model.specs.Views.{TellsRows}
+use Rattle.fine_model.specs.Views.{TellsRows, TellsRowsOf}
 use Rattle.partition_index.specs.Parts.{IsSeen, SameEye}
+use Rattle.partition_index.specs.Search.{TellsRows as TellsPart}
 use Rattle.node_fetch.specs.Fetched.{TellsParts}
 
 -- the eye, the parts that are read through it, the last epoch that they hold, the place on the board, and the length of the regions
@@ -47,6 +48,19 @@ pub record SameView (old new : ViewValue) : Type 0 where
 -- what a view tells is what its eye tells of its parts
 abbrev pub ViewTells : Type 0
 ViewTells = (v : ViewValue) (rows : List Row) → IsView v → TellsRows (state_of v) rows → TellsParts v.eye v.parts rows
+
+-- an eye tells each of some parts, and these are their rows in order
+abbrev pub TellsEach : Eye → List Part → List Row → Type 0
+TellsEach eye [] rows = rows ≡ []
+TellsEach eye (p ∷ parts) rows = (own more : List Row) × (rows ≡ own ++ more) × TellsPart eye p own × TellsEach eye parts more
+
+-- and each of its parts
+abbrev pub ViewTellsEach : Type 0
+ViewTellsEach = (v : ViewValue) (rows : List Row) → IsView v → TellsRows (state_of v) rows → TellsEach v.eye v.parts rows
+
+-- what a view tells of one part is what its eye tells of that part
+abbrev pub ViewTellsPart : Type 0
+ViewTellsPart = (v : ViewValue) (p : Part) (rows : List Row) → IsView v → TellsRowsOf v.eye.told v.region_len (p ∷ []) rows → TellsPart v.eye p rows
 
 -- the eye of a view names all regions of its parts, also as the board has it
 abbrev pub ViewNames : Type 0

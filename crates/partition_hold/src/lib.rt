@@ -8,7 +8,6 @@ mod view;
 
 pub use board::Board;
 pub use regions::RegionSet;
-pub use source::source_law;
 pub use view::{View, view_law};
 
 #[cfg(test)]

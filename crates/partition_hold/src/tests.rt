@@ -1,11 +1,18 @@
 //! What no clause says: that a board is made with ample memory, its answers in a run of posts and returns, and a view at an eye of its own.
+//! A caller of sources is given a view.
 
-ghost use Rattle.std.specs.Prelude.{◌≡◌, None};
+ghost use Rattle.std.specs.Prelude.{◌≡◌, ◌<◌, [], List, IfOk, IfSome, None};
 ghost use Rattle.log_disk.specs.Disk.{Eye};
+ghost use Rattle.fine_model.specs.declared.Row.{Row};
+ghost use Rattle.fine_model.specs.Trees.{nodes_of};
+ghost use Rattle.node_cache.specs.Cache.{cached};
+ghost use Rattle.partition_hold.specs.Sources.{tells_rows};
 
 use crate::{Board, RegionSet, View};
-use fine_model::{Items, Node, NodeId};
-use log_disk::{Failed, LogEye};
+use fine_model::{FetchFault, Items, Node, NodeId};
+use log_disk::{DiskRefusal, Failed, FaultPlan, LogDisk, LogEye, MemDisk, MemEye};
+use node_cache::{Bucket, NodeSource};
+use std::alloc::Global;
 use std::test::*;
 
 /// An eye on two regions, whose reads fail.
@@ -128,5 +135,59 @@ fn a_view_without_parts_reads_nothing(rt: HostRuntime) -> Result<(), Fail> {
     assert_eq!(&rt; view.parts().len(), 0);
     let eye = view.into_eye();
     assert_eq!(&rt; (eye.number, eye.taken), (7, 0));
+    Ok(())
+}
+
+/// The version of a node as a source gives it. Where the source tells rows and the node was not cached, it is what the rows leave there.
+fn version_by<S: NodeSource>(
+    source: &mut S,
+    bucket: &mut Bucket,
+    number: u32,
+) -> Result<Option<u64>, FetchFault>
+    requires bucket { bucket.old.bucket < 256 }
+    requires number { number < 1048576 }
+    ensures exact { (rows : List Row) → S.tells source.old rows → cached bucket.old number ≡ None
+        → IfOk result (λ found. IfSome found (λ version. version ≡ (nodes_of rows bucket.old.bucket number).1)) }
+{
+    source.load(bucket, number)?;
+    match bucket.peek(number) {
+        Some(kept) => Ok(Some(kept.version)),
+        None => Ok(None),
+    }
+}
+
+/// A view of no parts at an eye on a disk of zeros.
+fn empty_view(alloc: Global) -> Result<View<MemEye>, DiskRefusal>
+    ensures { IfOk result (λ view. tells_rows view []) }
+{
+    let mut disk = MemDisk::new(alloc, 2, 4096, FaultPlan::none(alloc))?;
+    let eye = disk.eye(&[0, 1])?;
+    Ok(View::new(alloc, eye, Items::new(alloc), 5, 2, 1, 4096))
+}
+
+/// The version that a view of no parts gives of a node.
+fn first_version(
+    alloc: Global,
+    view: &mut View<MemEye>,
+    number: u32,
+) -> Result<Option<u64>, FetchFault>
+    requires tells { tells_rows view.old [] }
+    requires number { number < 1048576 }
+    ensures { IfOk result (λ found. IfSome found (λ version. version ≡ 0)) }
+{
+    let mut bucket = Bucket::new(alloc, 97);
+    version_by(view, &mut bucket, number)
+}
+
+/// What asks a source for nodes is given a view, and has each node as it begins.
+#[test]
+fn a_view_is_a_source_of_nodes(rt: HostRuntime) -> Result<(), Fail> {
+    for number in [0, 1, 1_048_575] {
+        let Ok(mut view) = empty_view(rt.alloc()) else {
+            return Err(Fail::from("memory"));
+        };
+        let version = first_version(rt.alloc(), &mut view, number);
+        assert!(&rt; version.ok() == Some(Some(0)), "a version");
+    }
     Ok(())
 }

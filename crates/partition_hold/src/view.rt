@@ -17,7 +17,7 @@ ghost use Rattle.node_fetch.specs.Fetched.{HasBadEntry, HasBadRow, IsReplayOf, N
 ghost use Rattle.partition_merge.specs.Blocks.{Gives, IsAhead, SameBlocks};
 ghost use Rattle.partition_merge.specs.Mergers.{Answers, AreKept, BlamesEntry, BlamesRow, IsCounted, IsJoinOf, IsMeasureOf, StandsAt, both_left, both_unread, measure_of, most_for, newer_part, next_len, older_part, start_of};
 ghost use Rattle.partition_merge.specs.Merging.{FitRows};
-ghost use Rattle.partition_hold.specs.Views.{IsView, ViewValue, SameView, ViewNames, ViewTells, state_of};
+ghost use Rattle.partition_hold.specs.Views.{IsView, ViewValue, SameView, ViewNames, ViewTells, ViewTellsEach, ViewTellsPart, state_of};
 
 use fine_model::{FetchFault, Node, NodeId, Part, Parts, Rows, ViewLaw};
 use log_disk::{Failed, LogEye};
@@ -48,7 +48,7 @@ impl<E: LogEye> Model for View<E> {
     ghost invariant = { λ v. IsView (record { eye = E.state v.eye; parts = v.parts; upto = v.upto; seat = v.seat; buffer = v.buffer; region_len = v.region_len }) };
 }
 
-impl<E: LogEye> ViewLaw for View<E> {
+impl<E: LogEye + Send> ViewLaw for View<E> {
     ghost use Rattle.partition_hold.specs.Views.{state_of};
 
     ghost state = { λ v. state_of v };
@@ -243,8 +243,12 @@ impl<E: LogEye> View<E> {
     }
 }
 
-/// What a view tells is what its eye tells of its parts, and the eye names all their regions, also as the board has it.
+/// What a view tells is what its eye tells of its parts, and of each of them: the rows of the view are those of its parts in their order, and
+/// what is told of one part as a view tells it is what the eye tells of that part. The eye names all regions of the parts, also as the board
+/// has it.
 pub fn view_law()
     ensures tells { ViewTells }
+    ensures each { ViewTellsEach }
+    ensures part { ViewTellsPart }
     ensures names { ViewNames }
 {}

@@ -3,8 +3,9 @@ use Rattle.fine_model.specs.Nodes.{content}
 use Rattle.node_cache.specs.Cache.{cached}
 use Rattle.node_fetch.specs.Fetched.{IsReplayOf}
 use Rattle.partition_hold.specs.Sources.{finds_in, tells_rows}
-use Rattle.partition_hold.proofs.SourceLemmas.{copied_there, err_fails, fetch_fails, put_loads}
-use Rattle.partition_hold.proofs.view.View.load.Goals as goal
+use Rattle.node_cache.proofs.Loading.{copied_there, put_loads}
+use Rattle.partition_hold.proofs.SourceLemmas.{err_fails, fetch_fails}
+use Rattle.partition_hold.proofs.source.ViewNodeSource.load.Goals as goal
 
 pub returns-in_err-node-clause-fails : goal.returns-in_err-node-clause-fails
 returns-in_err-node-clause-fails g c =

@@ -21,7 +21,6 @@ pub mod OneRegion
 pub mod Partitions
 pub mod Reading
 pub mod Seating
-pub mod Sorting
 pub mod Standing
 pub mod Taken
 pub mod Torn

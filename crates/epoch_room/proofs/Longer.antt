@@ -18,7 +18,7 @@ use Rattle.log_partition.specs.Encoding.{FitsRange}
 use Rattle.log_partition.proofs.Sealed.{good_header, sealed_again}
 use Rattle.epoch_room.specs.Partition.{IsArranged}
 use Rattle.epoch_room.proofs.Taken.{not_true}
-use Rattle.epoch_room.proofs.Partitions.{alike, as_many}
+use Rattle.epoch_room.proofs.Partitions.{alike, same_header}
 use Rattle.epoch_room.proofs.Torn.{HasClosed, HasOpened}
 
 abbrev pub range_of : ℕ → Range
@@ -40,12 +40,6 @@ module _ (region_len region s : ℕ) (parts : List Part) (rows sorted : List Row
   pub closed_alike : (image : Image) → HasClosed region base image → ShowsAlike region_len base image
   closed_alike image is = closed_law region_len region base image (record { differs = is.differs; free = free; closed = is.closed })
 
-  same_header : header_of (range_of s) sorted ≡ header_of (range_of s) rows
-  same_header =
-      let a = as_many rows sorted arranged in
-      let b = ap length (alike rows sorted arranged).same_nodes in
-      let c = (alike rows sorted arranged).same_len in λ i. record (header_of (range_of s) rows) { rows = a i; nodes = b i; area = c i }
-
   epochs : FitsRange (range_of s)
   epochs = record { low = omega arith; order = omega arith; high = epoch }
 
@@ -56,7 +50,7 @@ module _ (region_len region s : ℕ) (parts : List Part) (rows sorted : List Row
       let words : region_of image region ≡ sealed_gate ∷ (h ++ (body_bytes sorted ++ is.rest)) =
       is.spelled ∙ ap (λ xs. (sealed_gate ∷ xs) ++ is.rest) spelled ∙ ap (λ xs. sealed_gate ∷ xs) (append_assoc h (body_bytes sorted) is.rest) in
       ap (header_in region_len (length image) region) words ∙ good_header region_len (range_of s) sorted (body_bytes sorted ++ is.rest) small epochs within (length image) region
-      ∙ ap (λ (header : Header). Ok (Some header)) same_header
+      ∙ ap (λ (header : Header). Ok (Some header)) (same_header rows sorted arranged (range_of s))
 
   pub longer : (image : Image) → HasOpened region bytes base image → IsLonger region_len region base image parts (header_of (range_of s) rows)
   longer image is =

@@ -1,20 +1,24 @@
 -- The open epoch's rows as a partition: its length, and its header.
-use Rattle.std.proofs.Common.{◌≡◌, ℕ, ◌+◌, ◌-◌, ◌*◌, ◌/◌, ◌≤◌, List, length, refl, ap, ◌∙◌, arith, length-append}
+use Rattle.std.proofs.Common.{◌≡◌, ℕ, ◌+◌, ◌≤◌, List, length, Ok, Err, Result, refl, ap, ◌∙◌, arith, length-append}
 use Rattle.std.proofs.lemmas.List.Sorted.{length_permutation}
-use Rattle.std.specs.Prelude.{replicate}
-use Rattle.fine_model.specs.declared.Header.{Header}
+use Rattle.std.specs.Prelude.{IfOk, IsPermutation, IsSortedBy}
+use Rattle.fine_model.specs.declared.list.NoMemory.{NoMemory}
 use Rattle.fine_model.specs.declared.Range.{Range}
 use Rattle.fine_model.specs.declared.Row.{Row}
-use Rattle.fine_model.specs.declared.Mark.TheVariants as mark
-use Rattle.fine_model.specs.RowBytes.{rows_bytes, rows_len}
-use Rattle.fine_model.specs.Merge.{nodes_in, cost, encoded_len}
+use Rattle.fine_model.specs.RowBytes.{rows_bytes}
+use Rattle.fine_model.specs.Merge.{cost, encoded_len}
 use Rattle.fine_model.specs.Regions.{header_of, header_bytes, index_bytes, body_bytes, partition_bytes}
 use Rattle.fine_model.specs.VersionLaws.{CostAlike}
 use Rattle.fine_model.proofs.Grammar.{rows_long}
 use Rattle.fine_model.proofs.Permuted.{permuted_law}
+use Rattle.node_record.specs.Keys.{AreKeysOf, is_key_below}
+use Rattle.node_record.specs.declared.key.RowAt.{RowAt}
+use Rattle.node_record.proofs.Fronts.{sorted_law}
+use Rattle.log_partition.specs.Encoding.{AreRowsAt, IsEncoded}
+use Rattle.log_partition.specs.declared.encoding.Partition.{Partition}
 use Rattle.log_partition.proofs.Indexed.{index_long}
-use Rattle.log_partition.proofs.Sealed.{rows_most}
-use Rattle.epoch_room.specs.Partition.{IsArranged}
+use Rattle.epoch_room.specs.Partition.{IsArranged, IsPartitionOf}
+use Rattle.epoch_room.proofs.Arranging.{rising, rows_sorted}
 
 header_long : (region_len : ℕ) (range : Range) (rows : List Row) → length (header_bytes region_len (header_of range rows)) ≡ 40
 unfolding header_bytes
@@ -29,21 +33,30 @@ module _ (rows sorted : List Row) (arranged : IsArranged rows sorted) where
   pub alike : CostAlike rows sorted
   alike = permuted_law rows sorted arranged.permuted
 
-  pub as_long : encoded_len sorted ≡ encoded_len rows
-  as_long = omega (arith, alike.same_cost)
-
   pub as_many : length sorted ≡ length rows
   as_many = length_permutation rows sorted arranged.permuted
 
-  pub few_rows : 19 * length sorted ≤ encoded_len rows
-  few_rows = omega (arith, rows_most sorted, alike.same_len)
+  pub same_header : (range : Range) → header_of range sorted ≡ header_of range rows
+  same_header range =
+      let count = as_many in
+      let nodes = ap length alike.same_nodes in
+      let area = alike.same_len in λ i. record (header_of range rows) { rows = count i; nodes = nodes i; area = area i }
 
-  pub bytes_long : (region_len : ℕ) (range : Range) (bytes : List ℕ) → bytes ≡ partition_bytes region_len range sorted → length bytes ≡ 40 + (rows_len rows + 14 * length (nodes_in rows))
-  bytes_long region_len range bytes spelled = ap length spelled ∙ partition_long region_len range sorted ∙ ap (λ n. 40 + n) alike.same_cost
+-- keys of the rows in any order that are sorted are the keys of the arranged rows
+pub record ArrangedAt (region_len : ℕ) (bytes : List ℕ) (rows : List Row) (keys : List RowAt) : Type 0 where
+  pub sorted : List Row
+  pub arranged : IsArranged rows sorted
+  pub at : AreRowsAt region_len bytes keys sorted
 
-  pub header_made : (range : Range) (count len area : ℕ) → count ≡ length sorted → len ≡ 40 + (rows_len rows + 14 * length (nodes_in rows)) → area ≡ rows_len rows
-      → ◌≡◌ {A = Header} (record { mark = mark.Two; range = range; rows = count; nodes = (len - 40 - area) / 14; area = area; regions = 1; more = replicate 7 0 }) (header_of range rows)
-  header_made range count len area c l a =
-      let rows_e : count ≡ length rows = c ∙ as_many in
-      let nodes_e : (len - 40 - area) / 14 ≡ length (nodes_in rows) = omega (arith, l, a) in
-      λ i. record { mark = mark.Two; range = range; rows = rows_e i; nodes = nodes_e i; area = a i; regions = 1; more = replicate 7 0 }
+pub arranged_at : (region_len : ℕ) (bytes : List ℕ) (rows : List Row) (keys sorted : List RowAt) → AreKeysOf bytes rows keys → IsPermutation keys sorted → IsSortedBy is_key_below sorted → encoded_len rows ≤ region_len
+    → ArrangedAt region_len bytes rows sorted
+arranged_at region_len bytes rows keys sorted are permuted up room =
+    let same = sorted_law bytes rows keys sorted are permuted in
+    let rows_up = rows_sorted bytes same.arranged sorted same.keys up in
+    let is : IsArranged rows same.arranged = record { permuted = same.permuted; sorted = rows_up } in
+    record { sorted = same.arranged; arranged = is; at = record { are = same.keys; rising = rising same.arranged rows_up; within = omega (arith, (alike rows same.arranged is).same_cost, room) } }
+
+pub as_arranged : (region_len : ℕ) (range : Range) (bytes : List ℕ) (rows : List Row) (keys : List RowAt) (result : Result Partition NoMemory) → (a : ArrangedAt region_len bytes rows keys)
+    → IfOk result (IsEncoded region_len range a.sorted) → IfOk result (IsPartitionOf region_len range rows)
+as_arranged region_len range bytes rows keys (Ok partition) a is = record { header = is.header ∙ same_header rows a.sorted a.arranged range; sorted = a.sorted; is_arranged = a.arranged; within = a.at.within; bytes = is.bytes }
+as_arranged region_len range bytes rows keys (Err refused) a is = tt

@@ -1,17 +1,16 @@
 -- The open epoch's rows as a partition.
 use Rattle.std.specs.Prelude.{◌≡◌, ℕ, ◌≤◌, List, IsPermutation}
-use Rattle.std.specs.List.Sorted.{IsSortedBy, IsStableBy}
+use Rattle.std.specs.List.Sorted.{IsSortedBy}
 use Rattle.fine_model.specs.declared.Row.{Row}
 use Rattle.fine_model.specs.declared.Range.{Range}
 use Rattle.fine_model.specs.Merge.{is_row_below, encoded_len}
 use Rattle.fine_model.specs.Regions.{header_of, partition_bytes}
-use Rattle.epoch_room.specs.declared.partition.Partition.{Partition}
+use Rattle.log_partition.specs.declared.encoding.Partition.{Partition}
 
--- the rows in the order of node and version; rows that tie keep their order
+-- the rows in the order of node and version
 pub record IsArranged (rows arranged : List Row) : Type 0 where
   pub permuted : IsPermutation rows arranged
   pub sorted : IsSortedBy is_row_below arranged
-  pub stable : IsStableBy is_row_below rows arranged
 
 -- the header and the bytes of a partition of these rows, arranged
 pub record IsPartitionOf (region_len : ℕ) (range : Range) (rows : List Row) (partition : Partition) : Type 0 where

@@ -3,12 +3,13 @@
 ghost use Rattle.std.specs.Prelude.{◌≡◌, ◌+◌, ◌++◌, ◌<◌, ◌≤◌, length, vec_len, vec_capacity, IfOk};
 ghost use Rattle.std.specs.List.{AllByRecursion};
 ghost use Rattle.fine_model.specs.Merge.{cost};
-ghost use Rattle.fine_model.specs.RowBytes.{FitsRow, rows_len};
+ghost use Rattle.fine_model.specs.RowBytes.{FitsRow, rows_bytes, rows_len};
+ghost use Rattle.node_record.specs.Keys.{AreKeysOf};
 ghost use Rattle.fine_model.specs.declared.Mark.TheVariants as mark;
 ghost use Rattle.epoch_room.specs.Epoch.{empty, with_entry};
 
-use fine_model::{Mark, NoMemory, Row};
-use node_record::read_row;
+use fine_model::NoMemory;
+use node_record::{RowAt, front_at};
 use private_log::PrivateLog;
 use std::alloc::Global;
 use std::marker::Model;
@@ -76,13 +77,6 @@ impl OpenEpoch {
         self.used
     }
 
-    /// The bytes of the rows.
-    pub fn area(&self) -> usize
-        ensures { result ≡ rows_len self.now.rows }
-    {
-        self.bytes.len()
-    }
-
     /// Puts the rows of an entry behind those that are there. It takes no memory.
     pub fn add(&mut self, log: &PrivateLog)
         requires rows { AllByRecursion (FitsRow mark.Two) log.now }
@@ -106,20 +100,26 @@ impl OpenEpoch {
         self.used = 0;
     }
 
-    /// The rows, read back from their bytes.
-    pub fn rows(&self, alloc: Global) -> Result<Vec<Row>, NoMemory>
-        ensures { IfOk result (λ rows. rows.items ≡ self.now.rows) }
+    /// The bytes of the rows, in the order in which they were appended.
+    pub fn bytes(&self) -> &[u8]
+        ensures { result.now ≡ rows_bytes self.now.rows }
+    {
+        self.bytes.as_slice()
+    }
+
+    /// The keys of the rows, which say where in these bytes they lie.
+    pub fn keys(&self, alloc: Global) -> Result<Vec<RowAt>, NoMemory>
+        requires { rows_len self.now.rows < 4294967296 }
+        ensures { IfOk result (λ keys. AreKeysOf (rows_bytes self.now.rows) self.now.rows keys.items) }
     {
         let bytes = self.bytes.as_slice();
-        let mut rows = Vec::new(alloc);
-        let mut at = 0;
-        while at < bytes.len() {
-            let Ok((row, end)) = read_row(alloc, bytes, at, Mark::Two) else {
-                return Err(NoMemory);
-            };
-            rows.push(row)?;
-            at = end;
+        let mut keys = Vec::new(alloc);
+        let mut at: u32 = 0;
+        while (at as usize) < bytes.len() {
+            let key = front_at(bytes, at);
+            keys.push(key)?;
+            at += key.len;
         }
-        Ok(rows)
+        Ok(keys)
     }
 }

@@ -6,3 +6,4 @@ pub mod Counted
 pub mod Sealed
 pub mod Written
 pub mod GoodHeaders
+pub mod Keyed

@@ -1,17 +1,18 @@
 -- What writing a partition answers.
-use Rattle.std.specs.Prelude.{◌≡◌, ℕ, ◌<◌, ◌≤◌, min, Bool, false, List, [], ◌∷◌, ◌++◌, map, Option, Some, None, Result, Ok, Err, IsTrue, if◌then◌else◌}
+use Rattle.std.specs.Prelude.{◌≡◌, ℕ, ◌+◌, ◌*◌, ◌≤◌, min, Bool, false, List, [], ◌∷◌, ◌++◌, length, map, Option, Some, None, IsTrue, if◌then◌else◌}
 use Rattle.std.specs.List.{AllByRecursion, list_any}
-use Rattle.std.specs.Global.{Vec}
 use Rattle.fine_model.specs.declared.NodeId.{NodeId}
 use Rattle.fine_model.specs.declared.Range.{Range}
 use Rattle.fine_model.specs.declared.Row.{Row}
 use Rattle.fine_model.specs.declared.Mark.TheVariants as mark
 use Rattle.fine_model.specs.RowBytes.{greatest, FitsRow}
-use Rattle.fine_model.specs.Merge.{is_node_below, is_ordered, encoded_len}
+use Rattle.fine_model.specs.Merge.{is_node_below, is_ordered, nodes_in, encoded_len}
 use Rattle.fine_model.specs.Nodes.{is_node}
-use Rattle.fine_model.specs.Regions.{Image, region_of, sealed_gate, partition_bytes, IsSealed}
-use Rattle.log_partition.specs.declared.fault.EncodeFault.{EncodeFault}
-use Rattle.log_partition.specs.declared.fault.EncodeFault.TheVariants as fault
+use Rattle.fine_model.specs.Regions.{Image, region_of, sealed_gate, header_of, partition_bytes, IsSealed}
+use Rattle.node_record.specs.Keys.{AreKeysOf}
+use Rattle.node_record.specs.declared.key.RowAt.{RowAt}
+use Rattle.partition_index.specs.Index.{is_rising}
+use Rattle.log_partition.specs.declared.encoding.Partition.{Partition}
 
 -- a number, or the greatest of 64 bits where it is above that
 abbrev pub saturated : ℕ → ℕ
@@ -36,11 +37,28 @@ pub record FitsRange (range : Range) : Type 0 where
   pub order : range.first ≤ range.last
   pub high : range.last ≤ greatest
 
--- The bytes of a partition, where they fit a region behind its gate. Too long is told exactly where they do not.
-abbrev pub Encodes : ℕ → Range → List Row → Result (Vec ℕ) EncodeFault → Type 0
-Encodes region_len range rows (Ok bytes) = (encoded_len rows ≤ region_len) × (bytes.items ≡ partition_bytes region_len range rows)
-Encodes region_len range rows (Err (fault.TooLong need room)) = (need ≡ saturated (encoded_len rows)) × (room ≡ region_len) × (room < need)
-Encodes region_len range rows (Err fault.NoMemory) = encoded_len rows ≤ region_len
+-- rows lie in bytes where their keys say, ascend, and fit a partition of one region
+pub record AreRowsAt (region_len : ℕ) (bytes : List ℕ) (keys : List RowAt) (rows : List Row) : Type 0 where
+  pub are : AreKeysOf bytes rows keys
+  pub rising : IsTrue (is_rising rows)
+  pub within : encoded_len rows ≤ region_len
+
+-- behind so many bytes there is room for the index of rows that have these keys
+pub record HasIndexRoom (len capacity : ℕ) (keys : List RowAt) : Type 0 where
+  pub bytes : List ℕ
+  pub rows : List Row
+  pub at : AreRowsAt 67108864 bytes keys rows
+  pub room : len + 14 * length (nodes_in rows) ≤ capacity
+
+-- the header and the bytes of a partition of rows
+pub record IsEncoded (region_len : ℕ) (range : Range) (rows : List Row) (partition : Partition) : Type 0 where
+  pub header : partition.header ≡ header_of range rows
+  pub bytes : partition.bytes.items ≡ partition_bytes region_len range rows
+
+-- a node is that of the row before
+abbrev pub is_last : Option NodeId → NodeId → Bool
+is_last None id = false
+is_last (Some other) id = is_node other id
 
 -- behind an open gate the bytes of a partition of rows that ascend strictly are in the grammar, whatever follows them
 abbrev pub EncodeLaw : Type 0

@@ -1,25 +1,24 @@
 //! Partitions, written.
 
-ghost use Rattle.std.specs.Prelude.{◌≡◌, ◌↔◌, ◌≤◌, ◌++◌, IsTrue, OnOk, IfErr, flat_map, if◌then◌else◌};
-ghost use Rattle.std.specs.List.{AllByRecursion};
-ghost use Rattle.fine_model.specs.declared.Mark.TheVariants as mark;
-ghost use Rattle.fine_model.specs.RowBytes.{rows_bytes, FitsRow};
+ghost use Rattle.std.specs.Prelude.{◌≡◌, ℕ, ◌+◌, ◌*◌, ◌≤◌, ◌++◌, List, IfOk, if◌then◌else◌, length, vec_len, vec_capacity};
+ghost use Rattle.fine_model.specs.declared.Row.{Row};
+ghost use Rattle.fine_model.specs.RowBytes.{rows_bytes, rows_len};
 ghost use Rattle.fine_model.specs.Merge.{encoded_len};
-ghost use Rattle.fine_model.specs.Regions.{header_of, header_bytes};
-ghost use Rattle.partition_index.specs.Entries.{bytes_of};
-ghost use Rattle.partition_index.specs.Index.{is_rising, entries_of};
-ghost use Rattle.log_partition.specs.declared.fault.EncodeFault.TheVariants as fault;
+ghost use Rattle.fine_model.specs.Regions.{header_of, index_bytes};
+ghost use Rattle.node_record.specs.Keys.{AreKeysOf};
 ghost use Rattle.log_partition.specs.Bodies.{HaveLengths};
-ghost use Rattle.log_partition.specs.Encoding.{saturated, names, IsGreatestOf, greater, FitsRange, Encodes, EncodeLaw};
+ghost use Rattle.log_partition.specs.Encoding.{saturated, names, IsGreatestOf, greater, is_last, AreRowsAt, HasIndexRoom, IsEncoded, EncodeLaw};
 
-use crate::body::lens_of;
-use crate::fault::EncodeFault;
 use crate::write_header::header_bytes;
-use fine_model::{Header, Mark, NodeId, Range, Row, Rows};
-use node_record::{row_len, write_row};
-use partition_index::{IndexEntry, build, entry_bytes};
+use fine_model::format::INDEX_ENTRY;
+use fine_model::{Header, Mark, NoMemory, NodeId, Range, Row, Rows};
+use node_record::{RowAt, row_len};
+use partition_index::Indexer;
 use std::alloc::Global;
 use std::cmp::Ordering;
+
+/// The bytes of a header of mark `FLP2`.
+const FRONT: usize = 40;
 
 /// How many bytes rows take as a partition of one region: 41, their lengths, and 14 for each node that they name. A sum above the
 /// greatest number of 64 bits counts as that number.
@@ -84,91 +83,102 @@ fn greater(greatest: Option<NodeId>, node: NodeId) -> Option<NodeId>
     }
 }
 
-/// A partition of one region, of mark `FLP2`, from byte 1 of the region on.
+/// A partition of one region: its header, and its bytes from byte 1 of the region on.
+#[derive(Drop)]
+pub struct Partition {
+    pub header: Header,
+    pub bytes: Vec<u8>,
+}
+
+/// A partition of one region, of mark `FLP2`, of rows that lie in bytes where their keys say.
 ///
-/// The rows ascend by bucket, number and version, where equal ones may follow each other. `TooLong` comes exactly where the partition
-/// needs more bytes than a region has.
+/// The keys ascend by bucket, number and version, where equal ones may follow each other, and the partition fits a region. Each row is
+/// copied as it stands and nothing is read but its key. Memory is taken once, and nothing else is refused.
 pub fn encode(
     alloc: Global,
     range: Range,
-    rows: &Rows,
+    bytes: &[u8],
+    keys: &[RowAt],
     region_len: u64,
-) -> Result<Vec<u8>, EncodeFault>
-    requires range { FitsRange range }
-    requires fit { AllByRecursion (FitsRow mark.Two) rows.now }
-    requires order { IsTrue (is_rising rows.now) }
+) -> Result<Partition, NoMemory>
+    requires rows { (rows : List Row) × AreRowsAt region_len bytes.now keys.now rows }
     requires region_len { region_len ≤ 67108864 }
-    ensures { Encodes region_len range rows.now result }
+    ensures { (rows : List Row) → AreRowsAt region_len bytes.now keys.now rows → IfOk result (IsEncoded region_len range rows) }
 {
-    let need = encoded_len(rows);
-    if need > region_len {
-        return Err(EncodeFault::TooLong {
-            need,
-            room: region_len,
-        });
-    }
-    let lens = lens_of(alloc, rows)?;
-    let entries = build(alloc, rows, &lens)?;
-    let header = header_for(range, rows, &entries, need);
-    let mut bytes = Vec::with_capacity(alloc, need as usize - 1)?;
-    write_front(&mut bytes, &header, region_len)?;
-    write_rows(&mut bytes, rows)?;
-    write_index(&mut bytes, &entries)?;
-    Ok(bytes)
+    let header = header_for(range, keys);
+    let body = header.area as usize + INDEX_ENTRY * header.nodes as usize;
+    let mut out = Vec::with_capacity(alloc, FRONT + body)?;
+    put(&mut out, &header_bytes(&header, region_len)[..FRONT]);
+    put_rows(&mut out, bytes, keys);
+    let bytes = put_index(out, keys);
+    Ok(Partition { header, bytes })
 }
 
-/// The header of rows with these index entries, which take so many bytes as a partition.
-fn header_for(range: Range, rows: &Rows, entries: &[IndexEntry], need: u64) -> Header
-    requires entries { entries.now ≡ entries_of rows.now }
-    requires need { need ≡ encoded_len rows.now }
-    requires small { need ≤ 67108864 }
-    ensures { result ≡ header_of range rows.now }
+/// The header of rows that have these keys.
+fn header_for(range: Range, keys: &[RowAt]) -> Header
+    requires { (bytes : List ℕ) × (rows : List Row) × AreRowsAt 67108864 bytes keys.now rows }
+    ensures { (bytes : List ℕ) (rows : List Row) → AreRowsAt 67108864 bytes keys.now rows → result ≡ header_of range rows }
 {
-    let nodes = entries.len() as u32;
+    let mut last = None;
+    let mut nodes = 0;
+    let mut area = 0;
+    for key in keys {
+        nodes += entries_more(last, key.node);
+        area += key.len;
+        last = Some(key.node);
+    }
     Header {
         mark: Mark::Two,
         range,
-        rows: rows.len() as u32,
+        rows: keys.len() as u32,
         nodes,
-        area: need as u32 - 41 - 14 * nodes,
+        area,
         regions: 1,
         more: [0; 7],
     }
 }
 
-/// Appends a header of mark `FLP2`.
-fn write_front(bytes: &mut Vec<u8>, header: &Header, region_len: u64) -> Result<(), EncodeFault>
-    requires { header.now.mark ≡ mark.Two }
-    ensures ok { OnOk result (bytes.new.items ≡ bytes.old.items ++ header_bytes region_len header.now) }
-    ensures err { IfErr result (λ e. e ≡ fault.NoMemory) }
+/// How many index entries a row of a node brings behind one of the last node.
+fn entries_more(last: Option<NodeId>, node: NodeId) -> u32
+    ensures { result ≡ (if is_last last node then 0 else 1) }
 {
-    let front = header_bytes(header, region_len);
-    bytes.extend_from_slice(&front[..40])?;
-    Ok(())
+    match last {
+        Some(other) => { if other == node { 0 } else { 1 } }
+        None => 1,
+    }
 }
 
-/// Appends rows.
-#[tactic(auto, unfolding(fine_model::specs::RowBytes::rows_bytes))]
-fn write_rows(bytes: &mut Vec<u8>, rows: &Rows) -> Result<(), EncodeFault>
-    requires { HaveLengths rows.now }
-    ensures ok { OnOk result (bytes.new.items ≡ bytes.old.items ++ rows_bytes rows.now) }
-    ensures err { IfErr result (λ e. e ≡ fault.NoMemory) }
+/// Puts bytes for which there is room behind those that stand there.
+fn put(out: &mut Vec<u8>, bytes: &[u8])
+    requires { vec_len out.old + length bytes.now ≤ vec_capacity out.old }
+    ensures items { out.new.items ≡ out.old.items ++ bytes.now }
+    ensures capacity { vec_capacity out.old ≤ vec_capacity out.new }
 {
-    for row in rows.as_slice() {
-        write_row(bytes, row)?;
-    }
-    Ok(())
+    let _room = out.extend_from_slice(bytes);
 }
 
-/// Appends index entries.
-fn write_index(bytes: &mut Vec<u8>, entries: &[IndexEntry]) -> Result<(), EncodeFault>
-    ensures ok { OnOk result (bytes.new.items ≡ bytes.old.items ++ flat_map bytes_of entries.now) }
-    ensures err { IfErr result (λ e. e ≡ fault.NoMemory) }
+/// Puts rows for which there is room behind what stands there.
+fn put_rows(out: &mut Vec<u8>, bytes: &[u8], keys: &[RowAt])
+    requires { (rows : List Row) × AreKeysOf bytes.now rows keys.now × (vec_len out.old + rows_len rows ≤ vec_capacity out.old) }
+    ensures items { (rows : List Row) → AreKeysOf bytes.now rows keys.now → out.new.items ≡ out.old.items ++ rows_bytes rows }
+    ensures capacity { vec_capacity out.old ≤ vec_capacity out.new }
 {
-    for entry in entries {
-        bytes.extend_from_slice(&entry_bytes(entry))?;
+    for key in keys {
+        let at = key.at as usize;
+        put(out, &bytes[at..at + key.len as usize]);
     }
-    Ok(())
+}
+
+/// Puts the index of rows, for which there is room, behind what stands there.
+fn put_index(out: Vec<u8>, keys: &[RowAt]) -> Vec<u8>
+    requires { HasIndexRoom (vec_len out) (vec_capacity out) keys.now }
+    ensures { (bytes : List ℕ) (rows : List Row) → AreRowsAt 67108864 bytes keys.now rows → result.items ≡ out.items ++ index_bytes rows }
+{
+    let mut indexer = Indexer::new(out);
+    for key in keys {
+        indexer.feed(key.node, key.len);
+    }
+    indexer.finish()
 }
 
 /// Behind an open gate, the bytes of a partition of rows that ascend strictly are in the grammar, with its range and its rows.

@@ -1,8 +1,7 @@
-//! Why a partition was not read or written.
+//! Why a partition was not read.
 
 ghost use Rattle.std.specs.Prelude.{◌≡◌};
 ghost use Rattle.log_partition.specs.declared.fault.DecodeFault.TheVariants.{NoMemory};
-ghost use Rattle.log_partition.specs.declared.fault.EncodeFault.TheVariants as encode;
 
 use fine_model;
 use std::alloc::AllocError;
@@ -43,29 +42,5 @@ impl<T: Drop> From<(fine_model::NoMemory, T)> for DecodeFault {
 
     fn from(_refused: (fine_model::NoMemory, T)) -> DecodeFault {
         DecodeFault::NoMemory
-    }
-}
-
-/// Why a partition was not written.
-#[derive(Debug, Drop)]
-pub enum EncodeFault {
-    /// It needs so many bytes, and its region has fewer.
-    TooLong { need: u64, room: u64 },
-    NoMemory,
-}
-
-impl From<AllocError> for EncodeFault {
-    ghost from_gives = { λ _ e. e ≡ encode.NoMemory };
-
-    fn from(_refused: AllocError) -> EncodeFault {
-        EncodeFault::NoMemory
-    }
-}
-
-impl From<fine_model::NoMemory> for EncodeFault {
-    ghost from_gives = { λ _ e. e ≡ encode.NoMemory };
-
-    fn from(_refused: fine_model::NoMemory) -> EncodeFault {
-        EncodeFault::NoMemory
     }
 }

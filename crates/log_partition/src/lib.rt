@@ -12,8 +12,8 @@ mod header;
 mod write_header;
 
 pub use body::decode_body;
-pub use encoding::{encode, encode_law, encoded_len};
-pub use fault::{DecodeFault, EncodeFault, HeaderFault};
+pub use encoding::{Partition, encode, encode_law, encoded_len};
+pub use fault::{DecodeFault, HeaderFault};
 pub use header::{header_law, read_header};
 pub use write_header::{header_bytes, written_law};
 

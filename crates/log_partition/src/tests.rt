@@ -1,5 +1,6 @@
 use super::*;
-use fine_model::{Header, Items, Mark, NodeId, Range, Rec, Row, Rows};
+use fine_model::{Header, Items, Mark, NoMemory, NodeId, Range, Rec, Row, Rows};
+use node_record::RowAt;
 use std::alloc::Global;
 use std::process::Abort;
 use std::test::*;
@@ -173,56 +174,60 @@ fn damaged_bodies_are_told_at_their_first_bad_item(rt: HostRuntime) -> Result<()
     Ok(())
 }
 
-/// Decodes a body of mark `FLP2`, and encodes its rows again. The answer is the length that is told, and the bytes, or what was told
-/// to be too long.
-#[tactic(auto, using(crate::proofs::RowsRead::rises, crate::proofs::RowsRead::lengths))]
-fn encoded(
-    alloc: Global,
-    header: &Header,
-    body: &[u8],
-    region_len: u64,
-) -> Result<(u64, Result<Vec<u8>, (u64, u64)>), Fail> {
+/// The length that the rows of a body take as a partition of one region.
+#[tactic(auto, using(crate::proofs::RowsRead::lengths))]
+fn encoded_length(alloc: Global, header: &Header, body: &[u8]) -> Result<u64, Fail> {
     let len = u64::from(header.area) + 14 * u64::from(header.nodes);
     if body.len() as u64 != len || len >= 4_294_967_296 || header.nodes == 0 {
         return Err("another length".into());
     }
-    let Range { first, last } = header.range;
-    if first == 0 || last < first || last > 4096 || region_len > 67_108_864 {
-        return Err("out of bounds".into());
-    }
-    let header = Header {
-        mark: Mark::Two,
-        ..*header
-    };
-    let rows = decode_body(alloc, &header, body).ok().ok_or("no body")?;
-    let need = encoded_len(&rows);
-    match encode(alloc, header.range, &rows, region_len) {
-        Ok(bytes) => Ok((need, Ok(bytes))),
-        Err(EncodeFault::TooLong { need: told, room }) => Ok((need, Err((told, room)))),
-        Err(EncodeFault::NoMemory) => Err("memory".into()),
-    }
+    let rows = decode_body(alloc, header, body).ok().ok_or("no body")?;
+    Ok(encoded_len(&rows))
+}
+
+/// Where `put a 1` lies behind `put b 1`.
+const FIRST: RowAt = RowAt {
+    node: NodeId {
+        bucket: 97,
+        number: 1,
+    },
+    version: 1,
+    at: 24,
+    len: 24,
+};
+
+const SECOND: RowAt = RowAt {
+    node: NodeId {
+        bucket: 98,
+        number: 1,
+    },
+    version: 1,
+    at: 0,
+    len: 24,
+};
+
+/// The partition of `put b 1` and `put a 1` in epoch 1, of which the row of `b` lies first.
+fn encoded(alloc: Global) -> Result<Partition, NoMemory> {
+    let bytes =
+        *b"\x04\x00\x62\x00\x00\x00\x01\x00\x00\x00\x00\x00\x00\x00\x01\x00\x00\x00\x05\x01b\x00\x011\x04\x00\x61\x00\x00\x00\x01\x00\x00\x00\x00\x00\x00\x00\x01\x00\x00\x00\x05\x01a\x00\x011";
+    let range = Range { first: 1, last: 1 };
+    encode(alloc, range, &bytes, &[FIRST, SECOND], 4_194_304)
 }
 
 #[test]
-fn partitions_are_encoded_byte_by_byte(rt: HostRuntime) -> Result<(), Fail> {
-    let alloc = rt.alloc();
-    let (need, bytes) = encoded(alloc, &ONE_ROW, &PUT[41..], 4_194_304)?;
-    assert_eq!(rt; need, 79);
-    assert_eq!(rt; bytes.ok().ok_or("too long")?.as_slice(), &PUT[1..]);
-    let (_, bytes) = encoded(alloc, &ONE_ROW, &PUT[41..], 79)?;
-    assert_eq!(rt; bytes.ok().ok_or("too long")?.len(), 78);
-    let (_, bytes) = encoded(alloc, &ONE_ROW, &PUT[41..], 78)?;
-    assert_eq!(rt; bytes.err(), Some((79, 78)));
-    let image =
-        *b"\x02\x00\x61\x00\x00\x00\x01\x00\x00\x00\x00\x00\x00\x00\x02\x00\x00\x00\x06\x01\x01a\x00\x012\x00\x61\x00\x00\x00\x01\x00\x00\x00\x00\x00\x00\x00\x01";
-    let header = Header {
-        range: Range { first: 1, last: 2 },
-        area: 25,
+fn a_partition_is_encoded_byte_by_byte(rt: HostRuntime) -> Result<(), Fail> {
+    let Partition { header, bytes } = encoded(rt.alloc())?;
+    let wanted = Header {
+        rows: 2,
+        nodes: 2,
+        area: 48,
         ..ONE_ROW
     };
-    let (_, bytes) = encoded(alloc, &header, &image, 4096)?;
-    let bytes = bytes.ok().ok_or("too long")?;
-    assert_eq!(rt; bytes.as_slice().get(40..), Some(image.as_slice()));
+    assert_eq!(rt; header, wanted);
+    assert_eq!(rt;
+        bytes.as_slice(),
+        b"FLP2\x00\x00\x00\x00\x00\x40\x00\x00\x00\x00\x00\x00\x00\x00\x00\x01\x00\x00\x00\x00\x00\x00\x00\x01\x00\x00\x00\x02\x00\x00\x00\x02\x00\x00\x00\x30\x04\x00\x61\x00\x00\x00\x01\x00\x00\x00\x00\x00\x00\x00\x01\x00\x00\x00\x05\x01a\x00\x011\x04\x00\x62\x00\x00\x00\x01\x00\x00\x00\x00\x00\x00\x00\x01\x00\x00\x00\x05\x01b\x00\x011\x00\x61\x00\x00\x00\x01\x00\x00\x00\x00\x00\x00\x00\x01\x00\x62\x00\x00\x00\x01\x00\x00\x00\x18\x00\x00\x00\x01".as_slice()
+    );
     Ok(())
 }
 
@@ -264,9 +269,7 @@ fn a_split_takes_471_bytes(rt: HostRuntime) -> Result<(), Fail> {
         area: 374,
         ..ONE_ROW
     };
-    let (need, bytes) = encoded(alloc, &header, &body, 4_194_304)?;
-    assert_eq!(rt; need, 471);
-    let bytes = bytes.ok().ok_or("too long")?;
-    assert_eq!(rt; bytes.as_slice().get(40..), Some(body.as_slice()));
+    assert_eq!(rt; encoded_length(alloc, &header, &body)?, 471);
+    assert_eq!(rt; encoded_length(alloc, &ONE_ROW, &PUT[41..])?, 79);
     Ok(())
 }

@@ -1,12 +1,55 @@
-use Rattle.std.proofs.Common.{◌≤◌, ◌∙◌, arith}
-use Rattle.fine_model.specs.Merge.{encoded_len}
+use Rattle.std.proofs.Common.{◌++◌, length, sym, ap, ◌∙◌, arith, length-append}
+use Rattle.fine_model.specs.RowBytes.{rows_bytes}
+use Rattle.fine_model.proofs.Grammar.{rows_long}
+use Rattle.log_partition.proofs.Fields.{first_forty, forty_long}
+use Rattle.log_partition.proofs.Keyed.{in_bounds}
 use Rattle.log_partition.proofs.Written.{whole_partition}
 use Rattle.log_partition.proofs.encoding.encode.Goals as goal
 
+pub slice_bounds-put-end-2 : goal.slice_bounds-put-end-2
+slice_bounds-put-end-2 c =
+    let rows = c.requires.rows.0 in
+    let at = in_bounds c.args.region_len c.args.bytes.now c.args.keys.now rows c.requires.rows.1 c.requires.region_len in
+    sym (forty_long c.args.region_len c.header_for-header.result c.header_bytes.result (ap (λ h. h.mark) (c.header_for-header.ensures c.args.bytes.now rows at)) c.header_bytes.ensures)
+
+pub put-requires : goal.put-requires
+put-requires c =
+    let rows = c.requires.rows.0 in
+    let at = in_bounds c.args.region_len c.args.bytes.now c.args.keys.now rows c.requires.rows.1 c.requires.region_len in
+    let long = forty_long c.args.region_len c.header_for-header.result c.header_bytes.result (ap (λ h. h.mark) (c.header_for-header.ensures c.args.bytes.now rows at)) c.header_bytes.ensures in
+    omega (arith, long, ap length c.in_ok-out.ensures.items, c.in_ok-out.ensures.capacity)
+
+pub put_rows-requires : goal.put_rows-requires
+put_rows-requires c =
+    let rows = c.requires.rows.0 in
+    let at = in_bounds c.args.region_len c.args.bytes.now c.args.keys.now rows c.requires.rows.1 c.requires.region_len in
+    let header = c.header_for-header.ensures c.args.bytes.now rows at in
+    let long = forty_long c.args.region_len c.header_for-header.result c.header_bytes.result (ap (λ h. h.mark) header) c.header_bytes.ensures in
+    let front = ap length c.put.ensures.items ∙ length-append c.in_ok-out.out.items _ in
+    (rows, at.are, omega (arith, long, front, ap (λ h. h.area) header, ap length c.in_ok-out.ensures.items, c.in_ok-out.ensures.capacity, c.put.ensures.capacity))
+
+pub put_index-bytes-requires : goal.put_index-bytes-requires
+put_index-bytes-requires c =
+    let rows = c.requires.rows.0 in
+    let at = in_bounds c.args.region_len c.args.bytes.now c.args.keys.now rows c.requires.rows.1 c.requires.region_len in
+    let header = c.header_for-header.ensures c.args.bytes.now rows at in
+    let long = forty_long c.args.region_len c.header_for-header.result c.header_bytes.result (ap (λ h. h.mark) header) c.header_bytes.ensures in
+    let front = ap length c.put.ensures.items ∙ length-append c.in_ok-out.out.items _ in
+    let middle = ap length (c.put_rows.ensures.items rows at.are) ∙ length-append c.put.new.out.items (rows_bytes rows) in
+    record {
+      bytes = c.args.bytes.now;
+      rows = rows;
+      at = at;
+      room = omega (arith, long, front, middle, rows_long rows, ap (λ h. h.area) header, ap (λ h. h.nodes) header, ap length c.in_ok-out.ensures.items, c.in_ok-out.ensures.capacity, c.put.ensures.capacity, c.put_rows.ensures.capacity);
+    }
+
 pub returns : goal.returns
-returns c =
-    let short : encoded_len c.args.rows.now ≤ c.args.region_len = omega (arith, c.encoded_len-need.ensures, c.requires.region_len) in (
-      short,
-      whole_partition c.args.region_len c.args.range c.args.rows.now c.header_for-header.result c.deref-3.result.now c.in_ok-bytes.bytes.items c.write_front.new.bytes.items c.write_rows.new.bytes.items c.write_index.new.bytes.items
-          c.in_ok-bytes.ensures.items c.header_for-header.ensures (c.deref-3.ensures.value ∙ c.in_ok-entries.ensures) c.in_ok-write_front.ensures.ok c.in_ok-write_rows.ensures.ok c.in_ok-write_index.ensures.ok,
-    )
+returns c rows given =
+    let at = in_bounds c.args.region_len c.args.bytes.now c.args.keys.now rows given c.requires.region_len in
+    let header = c.header_for-header.ensures c.args.bytes.now rows at in
+    record {
+      header = header;
+      bytes = whole_partition c.args.region_len c.args.range rows c.header_for-header.result c.in_ok-out.out.items c.put.new.out.items c.put_rows.new.out.items c.put_index-bytes.result.items
+          c.in_ok-out.ensures.items header (c.put.ensures.items ∙ ap (λ t. c.in_ok-out.out.items ++ t) (first_forty c.args.region_len c.header_for-header.result c.header_bytes.result (ap (λ h. h.mark) header) c.header_bytes.ensures))
+          (c.put_rows.ensures.items rows at.are) (c.put_index-bytes.ensures c.args.bytes.now rows at);
+    }

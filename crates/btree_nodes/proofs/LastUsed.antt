@@ -1,14 +1,14 @@
 -- The order of last use, by the numbers that are cached.
-use Rattle.std.proofs.Common.{◌≡◌, ◌≢◌, inr, ⊎_elim, ℕ, nat_eq, Bool, true, false, cond, List, [], ◌∷◌, ◌++◌, Some, None, is_some, refl, sym, ap, subst, ◌∙◌, true≢false, eqb-true, append-nil}
-use Rattle.std.specs.Prelude.{IsSome, IfSome}
+use Rattle.std.proofs.Common.{◌≡◌, ⊎_elim, ℕ, nat_eq, Bool, true, false, cond, List, [], ◌∷◌, ◌++◌, Some, None, is_some, refl, sym, ap, ◌∙◌, true≢false, eqb-true, append-nil}
+use Rattle.std.specs.Prelude.{IsSome}
 use Rattle.std.specs.Map.{keys_of, lookup, lookup_entry, remove_entry}
 use Rattle.std.specs.Option.{option_to_list}
 use Rattle.fine_model.specs.declared.Row.{Row}
 use Rattle.node_cache.specs.declared.cached.Cached.{Cached}
-use Rattle.node_cache.specs.Cache.{Cache, cached, touched, with_node}
-use Rattle.node_cache.specs.Given.{Finds, IsCached, IsFetched, IsLoad}
+use Rattle.node_cache.specs.Cache.{Cache, cached, touched}
+use Rattle.node_cache.specs.Given.{Finds, IsCached, IsLoad}
+use Rattle.node_cache.proofs.Loading.{remove_absent}
 use Rattle.btree_nodes.specs.Trees.{without, AreUsed}
-use Rattle.btree_nodes.proofs.LeafPush.{none_found}
 
 keys_append : (xs ys : List (ℕ × Cached)) → keys_of (xs ++ ys) ≡ keys_of xs ++ keys_of ys
 keys_append [] ys = refl
@@ -16,14 +16,6 @@ keys_append (x ∷ xs) ys = ap (λ ks. x.0 ∷ ks) (keys_append xs ys)
 
 pub keys_behind : (es : List (ℕ × Cached)) (k : ℕ) (kept : Cached) → keys_of (es ++ (k, kept) ∷ []) ≡ keys_of es ++ k ∷ []
 keys_behind es k kept = keys_append es ((k, kept) ∷ [])
-
-pub remove_absent : (k : ℕ) (es : List (ℕ × Cached)) → lookup (nat_eq k) es ≡ None → remove_entry (nat_eq k) es ≡ es
-remove_absent k [] none = refl
-remove_absent k (e ∷ es) none = by (nat_eq k e.0) none (remove_absent k es)
-  where
-    by : (t : Bool) → cond t (Some e.1) (lookup (nat_eq k) es) ≡ None → (lookup (nat_eq k) es ≡ None → remove_entry (nat_eq k) es ≡ es) → cond t es (e ∷ remove_entry (nat_eq k) es) ≡ e ∷ es
-    by true none rest = absurd (true≢false (ap is_some none))
-    by false none rest = ap (λ (xs : List (ℕ × Cached)). e ∷ xs) (rest none)
 
 keys_without : (k : ℕ) (es : List (ℕ × Cached)) → keys_of (remove_entry (nat_eq k) es) ≡ without k (keys_of es)
 keys_without k [] = refl
@@ -69,14 +61,3 @@ loaded_used tells finds upper k b m new is none load here = ⊎_elim
   where
     same_nodes : m.nodes ≡ b.nodes
     same_nodes = ap (λ c. c.nodes) is ∙ (λ i. remove_absent k b.nodes none i ++ entry_absent k b.nodes none i) ∙ append-nil b.nodes
-
--- a node that is put under a number where none was cached is loaded
-pub put_loaded : (tells : List Row → Type 0) (finds : Finds) (upper k : ℕ) (b new : Cache) (kept : Cached) → is_some (cached b k) ≡ false → new ≡ with_node b k kept → cached new k ≡ Some kept → ((n : ℕ) → n ≢ k → cached new n ≡ cached b n) → IsFetched tells finds upper b.bucket k kept → IsLoad tells finds upper k b new
-put_loaded tells finds upper k b new kept absent put here elsewhere fetched = record {
-  bucket = ap (λ c. c.bucket) put;
-  saved = ap (λ c. c.saved) put;
-  others = elsewhere;
-  stays = λ there. absurd (true≢false (sym there ∙ absent));
-  fetched = λ none. subst (λ o. IfSome o (IsFetched tells finds upper b.bucket k)) (sym here) fetched;
-  order = inr (kept, ap (λ c. c.nodes) put ∙ ap (λ (es : List (ℕ × Cached)). es ++ (k, kept) ∷ []) (remove_absent k b.nodes (none_found (cached b k) absent)));
-}

@@ -1,6 +1,5 @@
 -- One row of the leaf in which a key belongs.
-use Rattle.std.proofs.Common.{◌≡◌, ℕ, ◌+◌, ◌<◌, ◌≤◌, nat_lt, true, false, ◌||◌, if◌then◌else◌, List, [], ◌∷◌, Option, Some, None, option_map, is_some, option_copied, Ok, Err, refl, sym, ap, ◌∙◌, lt-ltb, append-nil, arith}
-use Rattle.std.specs.Borrow.{Bor}
+use Rattle.std.proofs.Common.{◌≡◌, ℕ, ◌+◌, ◌<◌, ◌≤◌, nat_lt, true, false, ◌||◌, if◌then◌else◌, List, [], ◌∷◌, Option, Some, None, option_map, is_some, Ok, Err, refl, sym, ap, ◌∙◌, lt-ltb, append-nil, arith}
 use Rattle.fine_model.specs.declared.Call.TheVariants as call
 use Rattle.fine_model.specs.declared.Rec.{Rec}
 use Rattle.fine_model.specs.declared.Rec.TheVariants as rec
@@ -28,14 +27,6 @@ pushes_none b = record { saves = saves_itself b b refl; saved = λ n. sym (or_fa
   where
     nothing : {A : Type 0} {o : Option A} → is_some o ≡ true → o ≡ None → ⊥
     nothing h e = cc
-
-pub none_found : {A : Type 0} (o : Option A) → is_some o ≡ false → o ≡ None
-none_found None h = refl
-none_found (Some x) h = cc
-
-pub copied_there : {A : Type 0} (o : Option (Bor A)) → is_some (option_copied o) ≡ is_some o
-copied_there None = refl
-copied_there (Some x) = refl
 
 -- one row, within the limits or not
 module _ (next depth : ℕ) (low : next ≤ 1048576) (flat : depth ≤ 8) (row : Row) where

@@ -19,7 +19,8 @@ use Rattle.btree_nodes.specs.Trees.{node_at}
 use Rattle.btree_nodes.specs.Changes.{Saves, is_named, Pushes, HoldsPlace, is_image, IsReady, AreReady}
 use Rattle.btree_nodes.proofs.Loads.{none_or_some, same_or_not}
 use Rattle.btree_nodes.proofs.Changed.{rows_here, rows_else, content_of, given_of, unchanged, saves_saved, saving_saved}
-use Rattle.btree_nodes.proofs.LastUsed.{keys_behind, remove_absent}
+use Rattle.node_cache.proofs.Loading.{remove_absent}
+use Rattle.btree_nodes.proofs.LastUsed.{keys_behind}
 use Rattle.btree_nodes.proofs.Steps.{given_is}
 
 pub saves_on : (a b c : Cache) → Saves a b → Saves b c → Saves a c

@@ -23,7 +23,7 @@ use Rattle.node_cache.specs.Given.{Finds, given, IsCached}
 use Rattle.btree_nodes.specs.Trees.{unfit_in, pairs_in, Serves, Holds, first_over}
 use Rattle.btree_nodes.specs.Calls.{Outcome, IsChange, SoundOutcome}
 use Rattle.btree_nodes.proofs.OnWays.{holds_on_way}
-use Rattle.btree_nodes.proofs.LeafPush.{none_found}
+use Rattle.node_cache.proofs.Loading.{none_there}
 use Rattle.btree_nodes.proofs.Sound.{theirs, holds_agrees, sound_pairs, sound_value, sound_leaf_push}
 use Rattle.btree_nodes.proofs.SoundCalls.{outcome_soundly}
 use Rattle.btree_nodes.proofs.SoundGrowth.{sound_set_push}
@@ -47,7 +47,7 @@ writes_absent m key by is fits =
 pub pushed_new : (b : Cache) (key : List ℕ) (by : ℤ) → has (pairs_in b key) key ≡ false → is_i64 by ≡ true → call_push b.bucket (given b) (call.Add key by) ≡ call_push b.bucket (given b) (call.Put key (number_text by))
 unfolding call_push add_push
 pushed_new b key by absent fits =
-    ap (add_push b.bucket (given b) key by (pairs_in b key)) (writes_absent (pairs_in b key) key by (none_found (get (pairs_in b key) key) absent) fits)
+    ap (add_push b.bucket (given b) key by (pairs_in b key)) (writes_absent (pairs_in b key) key by (none_there (get (pairs_in b key) key) absent) fits)
     ∙ ap (λ t. if t then leaf_push b.bucket (given b) key (rec.Plus key by) (given b 0).0 else set_push b.bucket (given b) (key, number_text by) (given b 0).0) absent
 
 -- a fault of a call that pushes the same

@@ -1,5 +1,6 @@
 use Rattle.std.proofs.Common.{sym, ◌∙◌}
-use Rattle.btree_nodes.proofs.LeafPush.{copied_there, there_by}
+use Rattle.node_cache.proofs.Loading.{copied_there}
+use Rattle.btree_nodes.proofs.LeafPush.{there_by}
 use Rattle.btree_nodes.proofs.adding.add_in.Goals as goal
 
 pub add_at-requires-clause-there : goal.add_at-requires-clause-there

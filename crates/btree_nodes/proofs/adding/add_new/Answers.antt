@@ -12,7 +12,7 @@ use Rattle.node_cache.specs.Given.{given}
 use Rattle.fine_model.specs.Store.{answer}
 use Rattle.node_record.proofs.Texts.{test_from_fits}
 use Rattle.btree_nodes.specs.Trees.{pairs_in}
-use Rattle.btree_nodes.proofs.LeafPush.{none_found}
+use Rattle.node_cache.proofs.Loading.{none_there}
 use Rattle.btree_nodes.proofs.Sums.{answer_absent}
 use Rattle.btree_nodes.proofs.SumsNew.{text_fits, pushed_new, fault_same}
 use Rattle.btree_nodes.proofs.adding.add_new.Goals as goal
@@ -45,7 +45,7 @@ returns c =
     let same : call_push b.bucket (given b) (call.Add key by) ≡ call_push b.bucket (given b) (call.Put key c.as_slice.result.now) = pushed_new b key by c.requires.absent (test_from_fits by c.ranges.by) ∙ ap (λ t. call_push b.bucket (given b) (call.Put key t)) (sym text) in
     let done = (c.in_ok-put_at.ensures).outcome in record {
       outcome = (
-        ap reply.Sum (to_z-of_z c.ranges.by) ∙ sym (answer_absent (pairs_in b key) key by (none_found (get (pairs_in b key) key) c.requires.absent) (test_from_fits by c.ranges.by)),
+        ap reply.Sum (to_z-of_z c.ranges.by) ∙ sym (answer_absent (pairs_in b key) key by (none_there (get (pairs_in b key) key) c.requires.absent) (test_from_fits by c.ranges.by)),
         done.1,
         record { rows = done.2.rows; is_pushed = ap within_limits same ∙ done.2.is_pushed; behind = done.2.behind; pushes = done.2.pushes; fits = done.2.fits },
       );

@@ -1,6 +1,6 @@
 use Rattle.std.proofs.Common.{◌≡◌, false, is_some, refl, sym, ap, ◌∙◌}
 use Rattle.node_cache.specs.Cache.{cached}
-use Rattle.btree_nodes.proofs.LeafPush.{copied_there, none_found}
+use Rattle.node_cache.proofs.Loading.{copied_there, none_there}
 use Rattle.btree_nodes.proofs.Pushed.{hold_saves, hold_held}
 use Rattle.btree_nodes.proofs.change.hold_place.Goals as goal
 
@@ -8,10 +8,10 @@ pub returns-clause-saves : goal.returns-clause-saves
 returns-clause-saves c =
     let b = c.args.bucket.now in
     let absent : is_some (cached b c.args.number) ≡ false = ap is_some (sym c.peek.ensures) ∙ copied_there c.peek.result ∙ sym c.if-is_some.ensures in
-    hold_saves b c.save.new.self c.put.new.self c.args.number _ (none_found (cached b c.args.number) absent) (c.in_ok-save.ensures).saved c.save.ensures.before (c.in_ok-save.ensures).here c.put.result c.put.ensures.nodes c.put.ensures.here c.put.ensures.elsewhere c.put.ensures.err
+    hold_saves b c.save.new.self c.put.new.self c.args.number _ (none_there (cached b c.args.number) absent) (c.in_ok-save.ensures).saved c.save.ensures.before (c.in_ok-save.ensures).here c.put.result c.put.ensures.nodes c.put.ensures.here c.put.ensures.elsewhere c.put.ensures.err
 
 pub returns-clause-held : goal.returns-clause-held
 returns-clause-held c =
     let b = c.args.bucket.now in
     let absent : is_some (cached b c.args.number) ≡ false = ap is_some (sym c.peek.ensures) ∙ copied_there c.peek.result ∙ sym c.if-is_some.ensures in
-    hold_held b c.save.new.self c.put.new.self c.args.number _ (none_found (cached b c.args.number) absent) (c.in_ok-save.ensures).saved c.save.ensures.before (c.in_ok-save.ensures).here c.put.result refl c.put.ensures.nodes c.put.ensures.here c.put.ensures.elsewhere
+    hold_held b c.save.new.self c.put.new.self c.args.number _ (none_there (cached b c.args.number) absent) (c.in_ok-save.ensures).saved c.save.ensures.before (c.in_ok-save.ensures).here c.put.result refl c.put.ensures.nodes c.put.ensures.here c.put.ensures.elsewhere

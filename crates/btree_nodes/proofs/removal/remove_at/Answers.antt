@@ -4,7 +4,8 @@ use Rattle.fine_model.specs.declared.Rec.TheVariants as rec
 use Rattle.fine_model.specs.declared.Row.{Row}
 use Rattle.fine_model.specs.Map.{has}
 use Rattle.btree_nodes.specs.Trees.{pairs_in, FitsLog}
-use Rattle.btree_nodes.proofs.LeafPush.{copied_there, leaf_row, there_by, del_pushed, del_over, del_first, del_absent, leaf_fits}
+use Rattle.node_cache.proofs.Loading.{copied_there}
+use Rattle.btree_nodes.proofs.LeafPush.{leaf_row, there_by, del_pushed, del_over, del_first, del_absent, leaf_fits}
 use Rattle.btree_nodes.proofs.removal.remove_at.Goals as goal
 
 pub returns-then-is_none : goal.returns-then-is_none

@@ -5,7 +5,7 @@ use Rattle.node_fetch.specs.declared.tests.TheConstants.{THOUSAND}
 use Rattle.node_fetch.proofs.tests.among.Goals as goal
 
 pub fetch-requires-clause-seen : goal.fetch-requires-clause-seen
-fetch-requires-clause-seen c κs =
+fetch-requires-clause-seen c =
     let parts : c.from_vec.result ≡ THOUSAND ∷ [] = search rules in
     subst (AllByRecursion (IsSeen _)) (sym parts) (
       record { named = ((7, lit< tt, refl), ((8, lit< tt, refl), ((9, lit< tt, refl), tt))); long = tt; lies = record { large = lit< tt; small = lit≤ tt; listed = refl; counted = refl; lies = refl } },

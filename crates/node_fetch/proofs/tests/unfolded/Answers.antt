@@ -5,7 +5,7 @@ use Rattle.node_fetch.specs.declared.tests.TheConstants.{FIRST, WITH_ANOTHER, OF
 use Rattle.node_fetch.proofs.tests.unfolded.Goals as goal
 
 pub fetch-requires-clause-seen : goal.fetch-requires-clause-seen
-fetch-requires-clause-seen c κs =
+fetch-requires-clause-seen c =
     let parts : c.from_vec.result ≡ FIRST ∷ WITH_ANOTHER ∷ OF_ANOTHER ∷ SEVERAL ∷ PLAIN ∷ LAST ∷ [] = search rules in
     subst (AllByRecursion (IsSeen _)) (sym parts) (
       record { named = ((0, lit< tt, refl), tt); long = tt; lies = record { large = lit< tt; small = lit≤ tt; listed = refl; counted = refl; lies = refl } },

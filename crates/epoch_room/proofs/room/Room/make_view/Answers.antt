@@ -63,7 +63,7 @@ eye-requires-clause-synced g c =
     subst (All (λ r. Contains old.unsynced r → ⊥)) (sym regions) (live_synced old entry kept whole c.if-self.false)
 
 pub post-buffer-requires-clause-regions : goal.post-buffer-requires-clause-regions
-post-buffer-requires-clause-regions g c κs within =
+post-buffer-requires-clause-regions g c =
     let in' = c.self.inside in
     let old = g.D.LogDisk.state in'.disk in
     let entry = g.D.LogDisk.state in'.entry.value in
@@ -72,7 +72,7 @@ post-buffer-requires-clause-regions g c κs within =
     subst (AllByRecursion (λ r. r < 64)) (sym (c.as_slice-in-Ok.ensures.value ∙ c.in_ok-regions.ensures)) (live_small old entry kept whole)
 
 pub new-requires-clause-seen : goal.new-requires-clause-seen
-new-requires-clause-seen g c κs within =
+new-requires-clause-seen g c =
     let in' = c.self.inside in
     let old = g.D.LogDisk.state in'.disk in
     let entry = g.D.LogDisk.state in'.entry.value in
@@ -86,7 +86,7 @@ new-requires-clause-seen g c κs within =
     subst (AllByRecursion (IsSeen eye)) (sym c.in_ok-parts.ensures) (viewed_seen old new entry kept whole c.if-self.false c.args.seat c.post-buffer.result eye opens lowest)
 
 pub new-requires-clause-small : goal.new-requires-clause-small
-new-requires-clause-small g c κs within =
+new-requires-clause-small g c =
     let in' = c.self.inside in
     let old = g.D.LogDisk.state in'.disk in
     let entry = g.D.LogDisk.state in'.entry.value in

@@ -20,6 +20,7 @@ pub mod NewLog
 pub mod OneRegion
 pub mod Partitions
 pub mod Reading
+pub mod Returning
 pub mod Seating
 pub mod Sorting
 pub mod Standing

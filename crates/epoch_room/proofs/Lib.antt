@@ -10,11 +10,14 @@ pub mod Ending
 pub mod Fits
 pub mod FreeSets
 pub mod Freeing
+pub mod GateImages
+pub mod GateSteps
 pub mod Gates
 pub mod Gathering
 pub mod Histories
 pub mod Holding
 pub mod Kept
+pub mod LedParts
 pub mod Longer
 pub mod NewLog
 pub mod OneRegion

@@ -9,3 +9,5 @@ pub mod Partition
 pub mod Meaning
 pub mod Views
 pub mod Returns
+pub mod Closing
+pub mod Erasing

@@ -3,6 +3,7 @@
 #![tactic(auto)]
 
 mod answers;
+mod closing;
 mod epoch;
 mod partition;
 mod regions;

@@ -1,5 +1,5 @@
 -- Images that differ at the gates of retired parts show the same.
-use Rattle.std.proofs.Common.{◌≡◌, ◌≢◌, ◌⊎◌, ℕ, ◌<◌, ◌≤◌, ◌==◌, Bool, true, false, not, ◌||◌, cond, List, [], ◌∷◌, ◌++◌, length, take, drop, set, Some, Ok, refl, sym, ap, subst, ◌∙◌, inl, inr, arith, true≢false}
+use Rattle.std.proofs.Common.{◌≡◌, ◌≢◌, ◌⊎◌, ℕ, suc, ◌<◌, ◌≤◌, ◌==◌, Bool, true, false, not, ◌||◌, cond, List, [], ◌∷◌, ◌++◌, length, take, drop, set, Some, Ok, refl, sym, ap, subst, ◌∙◌, inl, inr, arith, true≢false}
 use Rattle.std.specs.Prelude.{nat_eq, filter, slice_index}
 use Rattle.std.specs.List.{AllByRecursion, list_any}
 use Rattle.std.proofs.lemmas.Bool.{cases_eq, eqb-true, or_parts}
@@ -137,7 +137,7 @@ same_image : (old new : Image) → length new ≡ length old → ((r : ℕ) → 
 same_image [] [] long same = refl
 same_image [] (x ∷ new) long same = absurd (omega (arith, long))
 same_image (x ∷ old) [] long same = absurd (omega (arith, long))
-same_image (x ∷ old) (y ∷ new) long same = ap (λ z. z ∷ new) (same 0) ∙ ap (λ zs. x ∷ zs) (same_image old new (omega (arith, long)) (λ r. same (r + 1)))
+same_image (x ∷ old) (y ∷ new) long same = ap (λ z. z ∷ new) (same 0) ∙ ap (λ zs. x ∷ zs) (same_image old new (omega (arith, long)) (λ r. same (suc r)))
 
 -- whichever of these gates are closed, the chain, its rows and all that is shown stay
 pub gates_still : (region_len : ℕ) (leads : List ℕ) (old new : Image) (parts : List Part) → chain region_len old ≡ Ok parts → DiffersAtGates leads old new → AllByRecursion (LeadsBeside region_len old parts) leads → ShowsStill region_len leads old new parts

@@ -8,11 +8,12 @@ use Rattle.std.proofs.lemmas.List.Elements.{All-contains, All-from_recursion}
 use Rattle.fine_model.specs.declared.Part.{Part}
 use Rattle.fine_model.specs.Boards.{regions_by, set_of}
 use Rattle.fine_model.specs.Chain.{regions_of}
+use Rattle.fine_model.specs.Regions.{continuations}
 use Rattle.fine_model.specs.Trees.{is_distinct}
 use Rattle.fine_model.proofs.Nothing.{all_at}
 use Rattle.fine_model.proofs.Order.{all_map}
 use Rattle.fine_model.proofs.Sets.{all_filter}
-use Rattle.fine_model.proofs.Times.{times, times-append, times-none, absent_times, times_absent, distinct_times, times_distinct, below_times, times_below}
+use Rattle.fine_model.proofs.Times.{times, times-append, times-none, times-other, absent_times, times_absent, distinct_times, times_distinct, below_times, times_below}
 use Rattle.epoch_room.specs.Erasing.{led_by, without}
 use Rattle.epoch_room.specs.Value.{all_regions, regions_outside}
 use Rattle.epoch_room.specs.Whole.{AreApart, AreRising}
@@ -45,7 +46,7 @@ lead_in r (p ∷ parts) there = list_any-append (nat_eq r) (regions_of p) (all_r
 
     by : (b : Bool) → (p.region == r) ≡ b → (b || list_any (λ p. p.region == r) parts) ≡ true → (list_any (λ p. p.region == r) parts ≡ true → list_any (nat_eq r) (all_regions parts) ≡ true)
         → (list_any (nat_eq r) (regions_of p) || list_any (nat_eq r) (all_regions parts)) ≡ true
-    by true e h rest = ap (λ b. (b || list_any (nat_eq r) _) || list_any (nat_eq r) (all_regions parts)) (turned p.region r e)
+    by true e h rest = ap (λ b. (b || list_any (nat_eq r) (continuations p.header)) || list_any (nat_eq r) (all_regions parts)) (turned p.region r e)
     by false e h rest = or_right (list_any (nat_eq r) (regions_of p)) (list_any (nat_eq r) (all_regions parts)) (rest h)
 
 -- a lead of a retired part is the lead of no part whose regions are others
@@ -87,6 +88,17 @@ lead_gone r leads (p ∷ parts) there = by (list_any (nat_eq p.region) leads) re
         side : (b : Bool) → (p.region == r) ≡ b → ((p.region == r) || list_any (λ q. q.region == r) (without leads parts)) ≡ false
         side false f = ap (λ b. b || list_any (λ q. q.region == r) (without leads parts)) f ∙ rest
         side true f = absurd (true≢false (sym there ∙ ap (λ n. list_any (nat_eq n) leads) (sym (eqb-true p.region r f)) ∙ e))
+
+pub lead_led : (r : ℕ) (leads : List ℕ) (parts : List Part) → list_any (nat_eq r) leads ≡ true → list_any (λ p. p.region == r) parts ≡ true → list_any (λ p. p.region == r) (led_by leads parts) ≡ true
+lead_led r leads [] there some = absurd (true≢false (sym some))
+lead_led r leads (p ∷ parts) there some = by (list_any (nat_eq p.region) leads) refl (p.region == r) refl (λ h. lead_led r leads parts there h)
+  where
+    by : (b : Bool) → list_any (nat_eq p.region) leads ≡ b → (s : Bool) → (p.region == r) ≡ s → (list_any (λ q. q.region == r) parts ≡ true → list_any (λ q. q.region == r) (led_by leads parts) ≡ true)
+        → list_any (λ q. q.region == r) (cond b (p ∷ led_by leads parts) (led_by leads parts)) ≡ true
+    by true e true f rest = ap (λ b. b || list_any (λ q. q.region == r) (led_by leads parts)) f
+    by true e false f rest = or_right (p.region == r) (list_any (λ q. q.region == r) (led_by leads parts)) (rest (ap (λ b. b || list_any (λ q. q.region == r) parts) (sym f) ∙ some))
+    by false e true f rest = absurd (true≢false (sym there ∙ ap (λ n. list_any (nat_eq n) leads) (sym (eqb-true p.region r f)) ∙ e))
+    by false e false f rest = rest (ap (λ b. b || list_any (λ q. q.region == r) parts) (sym f) ∙ some)
 
 pub left_rising : (leads : List ℕ) (parts : List Part) → AreRising (map (λ p. p.region) parts) → AreRising (map (λ p. p.region) (without leads parts))
 left_rising leads [] up = tt
@@ -156,19 +168,16 @@ outside_past a (suc k) n p high = side (p a) (outside_past (a + 1) k n p (omega 
 -- regions that were taken are free: they join those that were
 pub free_more : (regions : ℕ) (old new gone : List ℕ) → regions ≤ 64 → AreApart regions old → ((n : ℕ) → times n old ≡ times n gone + times n new) → set_of (regions_outside regions old ++ gone) ≡ regions_outside regions new
 unfolding regions_by regions_outside
-free_more regions old new gone few apart same = alike_from (λ r. list_any (nat_eq r) (filter q (range_with_len 0 regions) ++ gone)) (λ r. not (list_any (nat_eq r) new)) 0 regions 64 few (λ r low high. inside r high) (λ r low. past r low)
+free_more regions old new gone few apart same = alike_from (λ r. list_any (nat_eq r) (filter (λ r. not (list_any (nat_eq r) old)) (range_with_len 0 regions) ++ gone)) (λ r. not (list_any (nat_eq r) new)) 0 regions 64 few (λ r low high. inside r high) (λ r low. past r low)
   where
-    abbrev q : ℕ → Bool
-    q r = not (list_any (nat_eq r) old)
-
-    past : (r : ℕ) → 0 + regions ≤ r → list_any (nat_eq r) (filter q (range_with_len 0 regions) ++ gone) ≡ false
+    past : (r : ℕ) → 0 + regions ≤ r → list_any (nat_eq r) (filter (λ r. not (list_any (nat_eq r) old)) (range_with_len 0 regions) ++ gone) ≡ false
     past r low =
-        list_any-append (nat_eq r) (filter q (range_with_len 0 regions)) gone ∙ ap (λ b. b || list_any (nat_eq r) gone) (outside_past 0 regions r q low)
+        list_any-append (nat_eq r) (filter (λ r. not (list_any (nat_eq r) old)) (range_with_len 0 regions)) gone ∙ ap (λ b. b || list_any (nat_eq r) gone) (outside_past 0 regions r (λ r. not (list_any (nat_eq r) old)) low)
         ∙ times_absent r gone (let s = same r in let b = below_times regions old apart.below r (omega (arith, low)) in omega (arith, s, b))
 
-    inside : (r : ℕ) → r < 0 + regions → list_any (nat_eq r) (filter q (range_with_len 0 regions) ++ gone) ≡ not (list_any (nat_eq r) new)
+    inside : (r : ℕ) → r < 0 + regions → list_any (nat_eq r) (filter (λ r. not (list_any (nat_eq r) old)) (range_with_len 0 regions) ++ gone) ≡ not (list_any (nat_eq r) new)
     inside r high =
-        list_any-append (nat_eq r) (filter q (range_with_len 0 regions)) gone ∙ ap (λ b. b || list_any (nat_eq r) gone) (outside_is 0 regions r q (omega arith) high)
+        list_any-append (nat_eq r) (filter (λ r. not (list_any (nat_eq r) old)) (range_with_len 0 regions)) gone ∙ ap (λ b. b || list_any (nat_eq r) gone) (outside_is 0 regions r (λ r. not (list_any (nat_eq r) old)) (omega arith) high)
         ∙ by (list_any (nat_eq r) gone) (list_any (nat_eq r) new) refl refl
       where
         once : times r old ≤ 1
@@ -188,7 +197,7 @@ free_more regions old new gone few apart same = alike_from (λ r. list_any (nat_
 
 -- a set has each of its list's regions as often, where these are apart
 pub set_times : (regions : ℕ) (xs : List ℕ) → regions ≤ 64 → AreApart regions xs → (n : ℕ) → times n (set_of xs) ≡ times n xs
-unfolding regions_by
+unfolding regions_by times
 set_times regions xs few apart n = by (list_any (nat_eq n) xs) refl
   where
     range_times : (a k : ℕ) → n < a → times n (filter (λ r. list_any (nat_eq r) xs) (range_with_len a k)) ≡ 0
@@ -196,14 +205,7 @@ set_times regions xs few apart n = by (list_any (nat_eq n) xs) refl
     range_times a (suc k) low = side (list_any (nat_eq a) xs) (range_times (a + 1) k (omega (arith, low)))
       where
         side : (s : Bool) → times n (filter (λ r. list_any (nat_eq r) xs) (range_with_len (a + 1) k)) ≡ 0 → times n (cond s (a ∷ filter (λ r. list_any (nat_eq r) xs) (range_with_len (a + 1) k)) (filter (λ r. list_any (nat_eq r) xs) (range_with_len (a + 1) k))) ≡ 0
-        side true rest = times_other a (filter (λ r. list_any (nat_eq r) xs) (range_with_len (a + 1) k)) (omega (arith, low)) ∙ rest
-          where
-            times_other : (m : ℕ) (ms : List ℕ) → n < m → times n (m ∷ ms) ≡ times n ms
-            unfolding times
-            times_other m ms l = ap (λ b. cond {A = ℕ} b 1 0 + times n ms) (apart' n m l)
-              where
-                apart' : (x y : ℕ) → x < y → nat_eq x y ≡ false
-                apart' x y h = grind (arith, h)
+        side true rest = times-other n a (filter (λ r. list_any (nat_eq r) xs) (range_with_len (a + 1) k)) (λ e. absurd (omega (arith, low, e))) ∙ rest
         side false rest = rest
 
     set_there : list_any (nat_eq n) xs ≡ true → n < 64
@@ -217,7 +219,6 @@ set_times regions xs few apart n = by (list_any (nat_eq n) xs) refl
         once a (suc k) = side (list_any (nat_eq a) xs) (once (a + 1) k)
           where
             side : (s : Bool) → times n (filter (λ r. list_any (nat_eq r) xs) (range_with_len (a + 1) k)) ≤ 1 → times n (cond s (a ∷ filter (λ r. list_any (nat_eq r) xs) (range_with_len (a + 1) k)) (filter (λ r. list_any (nat_eq r) xs) (range_with_len (a + 1) k))) ≤ 1
-            unfolding times
             side true rest = here (nat_eq n a) refl
               where
                 here : (b : Bool) → nat_eq n a ≡ b → cond {A = ℕ} b 1 0 + times n (filter (λ r. list_any (nat_eq r) xs) (range_with_len (a + 1) k)) ≤ 1

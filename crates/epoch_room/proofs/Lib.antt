@@ -1,3 +1,4 @@
+pub mod Added
 pub mod Appending
 pub mod Arranging
 pub mod Behind
@@ -7,6 +8,7 @@ pub mod Bodies
 pub mod Costs
 pub mod Counting
 pub mod Ending
+pub mod Erasing
 pub mod Fits
 pub mod FreeSets
 pub mod Freeing
@@ -17,6 +19,7 @@ pub mod Gathering
 pub mod Histories
 pub mod Holding
 pub mod Kept
+pub mod Led
 pub mod LedParts
 pub mod Longer
 pub mod NewLog

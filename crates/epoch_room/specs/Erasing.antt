@@ -53,7 +53,7 @@ pub record ErasesLed (leads : List ℕ) (old new : RoomValue) (result : Result (
   pub wanted : IsErrOf result refusal.NoMemory → more ≢ []
   pub none : begun ≡ [] → new ≡ old
   pub synced : (IsErrOf result refusal.Failed → ⊥) → begun ≢ [] → new.disk.unsynced ≡ []
-  pub does : (IsErrOf result refusal.Failed → ⊥) → Does (erased_state old.room begun) old.target old new
+  pub does : (IsErrOf result refusal.Failed → ⊥) → begun ≢ [] → Does (erased_state old.room begun) old.target old new
   pub shuts : IsErrOf result refusal.Failed → Shuts (left_state old.room begun) old.target (all_regions (led_by begun old.room.retired)) old new
   pub keeps : Keeps old new
   pub job : KeepsJob old.room new.room

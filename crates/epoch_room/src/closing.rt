@@ -11,7 +11,7 @@ use log_disk::{DiskRefusal, LogDisk};
 const CLOSED_GATE: u8 = 0;
 
 /// Whether the disk failed.
-fn has_failed(written: &Result<(), DiskRefusal>) -> bool
+pub fn has_failed(written: &Result<(), DiskRefusal>) -> bool
     ensures yes { result ≡ true → IsErrOf written.now DiskRefusal.Failed }
     ensures no { result ≡ false → IsErrOf written.now DiskRefusal.Failed → ⊥ }
 {

@@ -19,6 +19,7 @@ ghost use Rattle.epoch_room.specs.Meaning.{Keeps, Seals, StandsAtFirst, StandsFo
 ghost use Rattle.epoch_room.specs.Views.{MakesView, ViewsLog, ViewsOr};
 
 mod board;
+mod erasing;
 
 use crate::answers::{Counts, Fit, RoomFault, Stamp};
 use crate::epoch::OpenEpoch;

@@ -1,9 +1,9 @@
 -- What holds behind each answer of erasing parts by their leads.
-use Rattle.std.proofs.Common.{◌≡◌, ◌≢◌, ℕ, zero, suc, ◌+◌, ◌<◌, ◌≤◌, ◌==◌, Bool, true, false, List, [], ◌∷◌, ◌++◌, length, take, drop, Ok, Err, Result, refl, sym, ap, subst, ◌∙◌, arith, true≢false}
-use Rattle.std.specs.Prelude.{IsErrOf, OnOk, nat_eq, not, option_to_list}
+use Rattle.std.proofs.Common.{◌≡◌, ◌≢◌, ℕ, zero, suc, ◌+◌, ◌<◌, ◌≤◌, ◌==◌, Bool, true, false, List, [], ◌∷◌, ◌++◌, length, take, drop, Ok, Err, None, ◌||◌, append-nil, length-append, Result, refl, sym, ap, subst, ◌∙◌, arith, true≢false}
+use Rattle.std.specs.Prelude.{IsErrOf, OnOk, nat_eq, not, option_to_list, slice_index}
 use Rattle.std.specs.List.{AllByRecursion, list_any}
 use Rattle.fine_model.specs.declared.law.OpenedEye.{OpenedEye}
-use Rattle.fine_model.specs.Boards.{posted, set_of}
+use Rattle.fine_model.specs.Boards.{naming_of, posted, set_of}
 use Rattle.fine_model.specs.declared.Part.{Part}
 use Rattle.fine_model.specs.Chain.{regions_of}
 use Rattle.fine_model.specs.Jobs.{job_left}
@@ -14,7 +14,10 @@ use Rattle.log_disk.specs.Disk.{Disk, HasRisen}
 use Rattle.log_disk.specs.declared.refusal.DiskRefusal.{DiskRefusal}
 use Rattle.log_disk.specs.declared.refusal.DiskRefusal.TheVariants as refusal
 use Rattle.epoch_room.specs.Closing.{ClosesGates}
-use Rattle.epoch_room.specs.Erasing.{ErasesLed, led_by, left_state, without}
+use Rattle.epoch_room.specs.Erasing.{Erases, ErasesLed, ErasesOr, erased_state, led_by, left_state, without}
+use Rattle.epoch_room.specs.Steps.{Does, Shuts}
+use Rattle.epoch_room.specs.declared.answers.EraseFault.{EraseFault}
+use Rattle.epoch_room.specs.declared.answers.EraseFault.TheVariants as erase_fault
 use Rattle.epoch_room.specs.Value.{Kept, RoomValue, all_regions, on, regions_outside, taken, value_of}
 use Rattle.epoch_room.specs.Whole.{AreApart, IsWhole}
 use Rattle.epoch_room.proofs.Behind.{keeps_none}
@@ -190,3 +193,52 @@ module _ (value : RoomValue) (whole : IsWhole value) where
         all_map (λ r. r < value.disk.regions) (λ r. r < 64) (λ r h. let m = whole.geometry.regions_high in omega (arith, h, m)) (regions_of p) (all_front (λ r. r < value.disk.regions) (regions_of p) (all_regions ps) all),
         parted ps (all_back (λ r. r < value.disk.regions) (regions_of p) (all_regions ps) all),
       )
+
+  -- the lead of a retired part is a region
+  pub lead_small : (region : ℕ) → list_any (λ p. p.region == region) value.room.retired ≡ true → region < 64
+  lead_small region there = find value.room.retired retired_parts_small there
+    where
+      find : (ps : List Part) → AllByRecursion (λ p. AllByRecursion (λ r. r < 64) (regions_of p)) ps → list_any (λ p. p.region == region) ps ≡ true → region < 64
+      find [] all h = absurd (true≢false (sym h))
+      find (p ∷ ps) all h = by (p.region == region) refl h (λ rest. find ps all.1 rest)
+        where
+          is : (m n : ℕ) → (m == n) ≡ true → m ≡ n
+          is m n e = grind (arith, e)
+
+          by : (b : Bool) → (p.region == region) ≡ b → (b || list_any (λ q. q.region == region) ps) ≡ true → (list_any (λ q. q.region == region) ps ≡ true → region < 64) → region < 64
+          by true e h rest = subst (λ n. n < 64) (is p.region region e) all.0.0
+          by false e h rest = rest h
+
+-- ---- one part
+
+first_alone : (r : ℕ) (begun more : List ℕ) → r ∷ [] ≡ begun ++ more → begun ≢ [] → begun ≡ r ∷ []
+first_alone r [] more e ne = absurd (ne refl)
+first_alone r (x ∷ []) more e ne = let h : r ≡ x = ap (λ xs. slice_index xs 0) e in ap (λ n. n ∷ []) (sym h)
+first_alone r (x ∷ y ∷ xs) more e ne = absurd (let l = ap length e in omega (arith, l))
+
+none_begun : (r : ℕ) (begun more : List ℕ) → r ∷ [] ≡ begun ++ more → more ≢ [] → begun ≡ []
+none_begun r [] more e ne = refl
+none_begun r (x ∷ xs) [] e ne = absurd (ne refl)
+none_begun r (x ∷ xs) (m ∷ more) e ne = absurd (let l = ap length e in let k = length-append xs (m ∷ more) in omega (arith, l, k))
+
+pub erases_none : (region : ℕ) (value : RoomValue) (result : Result (Unit {0}) EraseFault) → IsWhole value → ErasesOr region value value result → Erases region value value result
+erases_none region value result whole room = record { room = room; keeps = keeps_none value whole; job = job_itself value.room }
+
+module _ (region : ℕ) (old new : RoomValue) (result : Answer) (led : ErasesLed (region ∷ []) old new result) (unnamed : naming_of old.room.board region ≡ None) where
+  pub erases_ok : result ≡ Ok tt → Erases region old new (Ok tt)
+  erases_ok is =
+      let all = led.all is in
+      let fine : IsErrOf result refusal.Failed → ⊥ = λ f. (let e : ◌≡◌ {A = Answer} (Ok tt) (Err refusal.Failed) = sym is ∙ f in cc) in
+      let begun : led.begun ≡ region ∷ [] = sym (append-nil led.begun) ∙ ap (λ more. led.begun ++ more) (sym all) ∙ sym led.are in
+      let ne : led.begun ≢ [] = λ e. (let c : ◌≡◌ {A = List ℕ} (region ∷ []) [] = sym begun ∙ e in cc) in
+      record { room = (unnamed, led.synced fine ne, subst (λ rs. Does (erased_state old.room rs) old.target old new) begun (led.does fine ne)); keeps = led.keeps; job = led.job }
+
+  pub erases_disk : IsErrOf result refusal.Failed → Erases region old new (Err erase_fault.Disk)
+  erases_disk f =
+      let begun : led.begun ≡ region ∷ [] = first_alone region led.begun led.more led.are (led.some f) in
+      record { room = (unnamed, subst (λ rs. Shuts (left_state old.room rs) old.target (all_regions (led_by rs old.room.retired)) old new) begun (led.shuts f)); keeps = led.keeps; job = led.job }
+
+  pub erases_memory : old.room.is_shut ≡ false → IsErrOf result refusal.NoMemory → Erases region old new (Err erase_fault.NoMemory)
+  erases_memory open_room m =
+      let begun : led.begun ≡ [] = none_begun region led.begun led.more led.are (led.wanted m) in
+      record { room = (open_room, unnamed, led.none begun); keeps = led.keeps; job = led.job }

@@ -57,3 +57,9 @@ pub record ErasesLed (leads : List ℕ) (old new : RoomValue) (result : Result (
   pub shuts : IsErrOf result refusal.Failed → Shuts (left_state old.room begun) old.target (all_regions (led_by begun old.room.retired)) old new
   pub keeps : Keeps old new
   pub job : KeepsJob old.room new.room
+
+-- all that erasing one part does
+pub record Erases (region : ℕ) (old new : RoomValue) (result : Result (Unit {0}) EraseFault) : Type 0 where
+  pub room : ErasesOr region old new result
+  pub keeps : Keeps old new
+  pub job : KeepsJob old.room new.room

@@ -71,10 +71,9 @@ invariant_of-self-then-has_failed g c =
     let are : AllByRecursion (λ r. list_any (λ p. p.region == r) in'.retired.items ≡ true) c.args.leads.now = subst (λ (v : RoomValue). AllByRecursion (λ r. list_any (λ p. p.region == r) v.room.retired ≡ true) c.args.leads.now) (sym c.self.view_is) c.requires.retired in
     let unnamed : NamesNone c.args.leads.now (posted in'.board) = names_none in'.board c.args.leads.now (subst (λ (v : RoomValue). AllByRecursion (λ r. naming_of v.room.board r ≡ None) c.args.leads.now) (sym c.self.view_is) c.requires.unnamed) in
     let f = c.has_failed.ensures.yes c.if-has_failed.true in
-    let lost : c.add_led.new.set ≡ set_of (in'.lost ++ all_regions (led_by (take k c.args.leads.now) in'.retired.items)) = c.add_led.ensures ∙ ap (λ (ps : List Part). set_of (in'.lost ++ all_regions (led_by (take k c.args.leads.now) ps))) c.as_slice.ensures.value in
-    (
+    let lost : c.add_led.new.set ≡ set_of (in'.lost ++ all_regions (led_by (take k c.args.leads.now) in'.retired.items)) = c.add_led.ensures ∙ ap (λ (ps : List Part). set_of (in'.lost ++ all_regions (led_by (take k c.args.leads.now) ps))) c.as_slice.ensures.value in (
       subst (λ (v : RoomValue). IsWhole v) (sym (λ i. value_of new entry (record kept { retired = c.keep_others.ensures.others i; lost = lost i; is_shut = true })))
-      (whole_failed old entry kept c.self.invariant.0 open_room c.args.leads.now are unnamed new k c.close_gates-begun.result.1 c.close_gates-begun.ensures c.if-begun-eq0.false f),
+          (whole_failed old entry kept c.self.invariant.0 open_room c.args.leads.now are unnamed new k c.close_gates-begun.result.1 c.close_gates-begun.ensures c.if-begun-eq0.false f),
       c.self.invariant.1 ∙ sym c.close_gates-begun.ensures.gates.touches.beside.region_len,
       subst (λ n. 64 ≤ n) (sym c.keep_others.ensures.capacity) c.self.invariant.2,
     )
@@ -119,10 +118,9 @@ invariant_of-self-2 g c =
     let are : AllByRecursion (λ r. list_any (λ p. p.region == r) in'.retired.items ≡ true) c.args.leads.now = subst (λ (v : RoomValue). AllByRecursion (λ r. list_any (λ p. p.region == r) v.room.retired ≡ true) c.args.leads.now) (sym c.self.view_is) c.requires.retired in
     let unnamed : NamesNone c.args.leads.now (posted in'.board) = names_none in'.board c.args.leads.now (subst (λ (v : RoomValue). AllByRecursion (λ r. naming_of v.room.board r ≡ None) c.args.leads.now) (sym c.self.view_is) c.requires.unnamed) in
     let fine = c.has_failed.ensures.no c.if-has_failed.false in
-    let free : c.add_led-2.new.set ≡ set_of (in'.free ++ all_regions (led_by (take k c.args.leads.now) in'.retired.items)) = c.add_led-2.ensures ∙ ap (λ (ps : List Part). set_of (in'.free ++ all_regions (led_by (take k c.args.leads.now) ps))) c.as_slice-2.ensures.value in
-    (
+    let free : c.add_led-2.new.set ≡ set_of (in'.free ++ all_regions (led_by (take k c.args.leads.now) in'.retired.items)) = c.add_led-2.ensures ∙ ap (λ (ps : List Part). set_of (in'.free ++ all_regions (led_by (take k c.args.leads.now) ps))) c.as_slice-2.ensures.value in (
       subst (λ (v : RoomValue). IsWhole v) (sym (λ i. value_of new entry (record kept { retired = c.keep_others-2.ensures.others i; free = free i })))
-      (whole_fine old entry kept c.self.invariant.0 open_room c.args.leads.now are unnamed new k c.close_gates-begun.result.1 c.close_gates-begun.ensures c.if-begun-eq0.false fine),
+          (whole_fine old entry kept c.self.invariant.0 open_room c.args.leads.now are unnamed new k c.close_gates-begun.result.1 c.close_gates-begun.ensures c.if-begun-eq0.false fine),
       c.self.invariant.1 ∙ sym c.close_gates-begun.ensures.gates.touches.beside.region_len,
       subst (λ n. 64 ≤ n) (sym c.keep_others-2.ensures.capacity) c.self.invariant.2,
     )

@@ -42,19 +42,19 @@ use Rattle.epoch_room.proofs.Torn.{HasOpened}
 
 -- ---- what is told at entry, before and then
 
-both_and : (P Q : Told → Told → Type 0) (y z : Option Told) → BothTold P y z → BothTold Q y z → BothTold (λ a b. P a b × Q a b) y z
+pub both_and : (P Q : Told → Told → Type 0) (y z : Option Told) → BothTold P y z → BothTold Q y z → BothTold (λ a b. P a b × Q a b) y z
 both_and P Q None None p q = tt
 both_and P Q None (Some b) p q = absurd p
 both_and P Q (Some a) None p q = absurd p
 both_and P Q (Some a) (Some b) p q = (p, q)
 
-some_behind : {R : Told → Told → Type 0} (Q : Told → Type 0) (y z : Option Told) → BothTold R y z → ((a b : Told) → R a b → Q b) → IfSome z Q
+pub some_behind : {R : Told → Told → Type 0} (Q : Told → Type 0) (y z : Option Told) → BothTold R y z → ((a b : Told) → R a b → Q b) → IfSome z Q
 some_behind Q None None r each = tt
 some_behind Q None (Some b) r each = absurd r
 some_behind Q (Some a) None r each = absurd r
 some_behind Q (Some a) (Some b) r each = each a b r
 
-all_told : {R : Told → Told → Type 0} (P : Option Told → Option Told → Option Told → Type 0) (x y z : Option Told) → BothTold Continues x y → BothTold R y z → P None None None
+pub all_told : {R : Told → Told → Type 0} (P : Option Told → Option Told → Option Told → Type 0) (x y z : Option Told) → BothTold Continues x y → BothTold R y z → P None None None
     → ((before a b : Told) → Continues before a → R a b → P (Some before) (Some a) (Some b)) → P x y z
 all_told P None None None p r none some = none
 all_told P None None (Some b) p r none some = absurd r
@@ -63,7 +63,7 @@ all_told P (Some x) None z p r none some = absurd p
 all_told P (Some x) (Some a) None p r none some = absurd r
 all_told P (Some x) (Some a) (Some b) p r none some = some x a b p r
 
-as_told : (R : Told → Told → Type 0) (y z : Option Told) → BothTold R y z → is_some (option_map (λ (t : Told). t.bytes) z) ≡ is_some (option_map (λ (t : Told). t.bytes) y)
+pub as_told : (R : Told → Told → Type 0) (y z : Option Told) → BothTold R y z → is_some (option_map (λ (t : Told). t.bytes) z) ≡ is_some (option_map (λ (t : Told). t.bytes) y)
 as_told R None None r = refl
 as_told R None (Some b) r = absurd r
 as_told R (Some a) None r = absurd r

@@ -10,7 +10,7 @@ none_from q a zero fails = refl
 none_from q a (suc n) fails = ap (λ b. cond b (a ∷ filter q (range_with_len (a + 1) n)) (filter q (range_with_len (a + 1) n))) (fails a (omega arith)) ∙ none_from q (a + 1) n (λ i low. fails i (omega (arith, low)))
 
 -- a test that passes nothing from a place on, and before it what another one passes
-alike_from : (q p : ℕ → Bool) (a k n : ℕ) → k ≤ n → ((i : ℕ) → a ≤ i → i < a + k → q i ≡ p i) → ((i : ℕ) → a + k ≤ i → q i ≡ false) → filter q (range_with_len a n) ≡ filter p (range_with_len a k)
+pub alike_from : (q p : ℕ → Bool) (a k n : ℕ) → k ≤ n → ((i : ℕ) → a ≤ i → i < a + k → q i ≡ p i) → ((i : ℕ) → a + k ≤ i → q i ≡ false) → filter q (range_with_len a n) ≡ filter p (range_with_len a k)
 alike_from q p a zero n few same fails = none_from q a n (λ i low. fails i (omega (arith, low)))
 alike_from q p a (suc k) zero few same fails = absurd (omega (arith, few))
 alike_from q p a (suc k) (suc n) few same fails =

@@ -8,3 +8,6 @@ pub mod Gate
 pub mod Partition
 pub mod Meaning
 pub mod Views
+pub mod Returns
+pub mod Closing
+pub mod Erasing

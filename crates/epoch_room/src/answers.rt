@@ -31,6 +31,18 @@ pub enum RoomFault {
     NoMemory,
 }
 
+/// Why a retired part was not erased.
+#[derive(Clone, Copy, Debug, PartialEq, Eq)]
+pub enum EraseFault {
+    /// A view names the part: the first seat, and its first buffer, that do.
+    Held { seat: u32, buffer: u8 },
+    /// The disk failed in this call. The room is shut from now on.
+    Disk,
+    /// An earlier call failed on the device. `epoch` is the last sealed one.
+    Shut { epoch: u64 },
+    NoMemory,
+}
+
 impl From<NoMemory> for RoomFault {
     ghost from_gives = { λ _ e. e ≡ room_fault.NoMemory };
 

@@ -3,7 +3,9 @@
 #![tactic(auto)]
 
 mod answers;
+mod closing;
 mod epoch;
+mod led_parts;
 mod partition;
 mod regions;
 mod room;
@@ -11,5 +13,5 @@ mod sealing;
 #[cfg(test)]
 mod tests;
 
-pub use answers::{Counts, Fit, RoomFault, Stamp};
+pub use answers::{Counts, EraseFault, Fit, RoomFault, Stamp};
 pub use room::Room;

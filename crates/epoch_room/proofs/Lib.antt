@@ -14,14 +14,17 @@ pub mod Gates
 pub mod Gathering
 pub mod Histories
 pub mod Holding
+pub mod JobRegions
 pub mod Kept
 pub mod Longer
 pub mod NewLog
 pub mod OneRegion
 pub mod Partitions
+pub mod Picking
 pub mod Reading
 pub mod Seating
 pub mod Sorting
+pub mod Spare
 pub mod Standing
 pub mod Taken
 pub mod Torn

@@ -8,3 +8,4 @@ pub mod Gate
 pub mod Partition
 pub mod Meaning
 pub mod Views
+pub mod MergeSteps

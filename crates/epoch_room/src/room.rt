@@ -18,6 +18,8 @@ ghost use Rattle.epoch_room.specs.Steps.{appended, retired_from, with_state, Sea
 ghost use Rattle.epoch_room.specs.Meaning.{Keeps, Seals, StandsAtFirst, StandsForMore};
 ghost use Rattle.epoch_room.specs.Views.{MakesView, ViewsLog, ViewsOr};
 
+mod merging;
+
 use crate::answers::{Counts, Fit, RoomFault, Stamp};
 use crate::epoch::OpenEpoch;
 use crate::partition::as_partition;

@@ -18,6 +18,7 @@ pub mod Gates
 pub mod Gathering
 pub mod Histories
 pub mod Holding
+pub mod JobRegions
 pub mod Kept
 pub mod Led
 pub mod LedParts
@@ -25,9 +26,11 @@ pub mod Longer
 pub mod NewLog
 pub mod OneRegion
 pub mod Partitions
+pub mod Picking
 pub mod Reading
 pub mod Returning
 pub mod Seating
+pub mod Spare
 pub mod Standing
 pub mod Taken
 pub mod Torn

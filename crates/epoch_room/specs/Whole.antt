@@ -1,5 +1,5 @@
 -- What holds of every room.
-use Rattle.std.specs.Prelude.{◌≡◌, ◌↔◌, ℕ, ◌+◌, ◌-◌, ◌*◌, ◌%◌, ◌<◌, ◌≤◌, ◌==◌, nat_eq, true, false, IsTrue, if◌then◌else◌, List, [], ◌∷◌, ◌++◌, length, map, drop, Some, None, IfSome, slice_get, Ok, Any, Contains, ⊤, All, IsPermutation}
+use Rattle.std.specs.Prelude.{◌≡◌, ◌↔◌, ℕ, ◌+◌, ◌-◌, ◌*◌, ◌%◌, ◌^◌, ◌<◌, ◌≤◌, ◌==◌, nat_eq, true, false, IsTrue, if◌then◌else◌, List, [], ◌∷◌, ◌++◌, length, map, drop, Some, None, IfSome, slice_get, Ok, Any, Contains, ⊤, All, IsPermutation}
 use Rattle.std.specs.List.{AllByRecursion, list_any}
 use Rattle.fine_model.specs.declared.Header.{Header}
 use Rattle.fine_model.specs.declared.Job.{Job}
@@ -98,7 +98,7 @@ pub record IsTaken (region_len : ℕ) (job : Job) (header : Header) : Type 0 whe
   pub of_mark : header.mark ≡ (if header.regions == 1 then mark.Two else mark.Three)
   pub lies : LiesIn region_len header
   pub least : 2 ≤ header.regions → fits_in region_len (header.regions - 1) (body_len header) ≡ false
-  pub counted : (header.nodes ≤ header.rows) × ((header.nodes ≡ 0) ↔ (header.rows ≡ 0)) × ((header.area ≡ 0) ↔ (header.rows ≡ 0))
+  pub counted : (header.rows < 2 ^ 32) × (header.nodes ≤ header.rows) × ((header.nodes ≡ 0) ↔ (header.rows ≡ 0)) × ((header.area ≡ 0) ↔ (header.rows ≡ 0))
   pub behind : AllByRecursion (λ r. r ≡ 0) (drop (header.regions - 1) header.more)
   pub within : job.written ≤ body_len header
 

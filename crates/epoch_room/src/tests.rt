@@ -5,10 +5,12 @@ ghost use Rattle.std.specs.List.{AllByRecursion, list_all};
 ghost use Rattle.fine_model.specs.Boards.{is_empty};
 ghost use Rattle.fine_model.specs.RowBytes.{FitsRow};
 ghost use Rattle.fine_model.specs.declared.Mark.TheVariants as mark;
+ghost use Rattle.partition_merge.specs.Mergers.{IsCounted};
 
 use super::{Counts, Fit, Room, RoomFault, Stamp};
 use fine_model::{Bytes, Items, NodeId, Rec, Row};
 use log_disk::{FaultPlan, LogDisk, MemDisk};
+use partition_merge::Measure;
 use private_log::PrivateLog;
 use std::alloc::Global;
 use std::test::Fail;
@@ -159,5 +161,70 @@ fn each_call_that_fails_shuts_the_room(rt: HostRuntime) -> Result<(), Fail> {
             assert_eq!(rt; room.fit(0), Fit::Shut { epoch: 0 });
         }
     }
+    Ok(())
+}
+
+// A room of four regions with two sealed epochs.
+fn two_epochs(alloc: Global) -> Result<Room<MemDisk>, Fail>
+    ensures { IfOk result (λ room. room.room.job ≡ None) }
+{
+    let mut room = new_room(alloc, 4096, MOST)?;
+    for _epoch in 1..3 {
+        commit(&mut room, &put(alloc)?)?;
+        seal(&mut room)?;
+    }
+    Ok(room)
+}
+
+fn seal(room: &mut Room<MemDisk>) -> Result<(), Fail>
+    requires { 1 ≤ room.old.room.waiting }
+    ensures { room.new.room.job ≡ room.old.room.job }
+{
+    match room.seal() {
+        Ok(_epoch) => Ok(()),
+        Err(_fault) => Err("seal")?,
+    }
+}
+
+fn measure(area: u32) -> Measure
+    requires { 1 ≤ area }
+    ensures { IsCounted result }
+{
+    Measure {
+        rows: 1,
+        nodes: 1,
+        area,
+        ordered: true,
+    }
+}
+
+// Whether a job takes its regions, how many are free then, and how many once it is given up.
+fn take_and_drop(room: &mut Room<MemDisk>, area: u32) -> Result<(bool, u32, u32), Fail>
+    requires job { room.old.room.job ≡ None }
+    requires area { 1 ≤ area }
+    ensures { OnOk result (room.new.room.job ≡ None) }
+{
+    let Some(mut job) = room.merge_pick(1) else {
+        return Err("neighbours")?;
+    };
+    let taken = room.merge_take(&mut job, measure(area));
+    let free = room.counts().free;
+    room.merge_drop(job);
+    Ok((taken, free, room.counts().free))
+}
+
+#[test]
+fn a_job_takes_regions_and_gives_them_back(rt: HostRuntime) -> Result<(), Fail> {
+    let mut room = two_epochs(rt.alloc())?;
+    let table = [
+        (4041, (true, 1, 2)),
+        (4042, (true, 0, 2)),
+        (8107, (true, 0, 2)),
+        (8108, (false, 2, 2)),
+    ];
+    for (area, answer) in table {
+        assert_eq!(rt; take_and_drop(&mut room, area)?, answer);
+    }
+    assert_eq!(rt; room.merge_pick(2), None);
     Ok(())
 }

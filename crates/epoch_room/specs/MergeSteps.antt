@@ -1,0 +1,137 @@
+-- What the steps of a merge make of a room.
+use Rattle.std.specs.Prelude.{◌≡◌, ℕ, ◌+◌, ◌-◌, ◌*◌, ◌==◌, nat_le, nat_lt, not, if◌then◌else◌, List, [], ◌∷◌, ◌++◌, length, filter, find, take, drop, replicate, slice_index, Option, Some, None, option_map, Result, Ok, Err}
+use Rattle.std.specs.List.{range_with_len}
+use Rattle.fine_model.specs.declared.Header.{Header}
+use Rattle.fine_model.specs.declared.Job.{Job}
+use Rattle.fine_model.specs.declared.Mark.TheVariants as mark
+use Rattle.fine_model.specs.declared.Part.{Part}
+use Rattle.fine_model.specs.declared.law.RoomState.{RoomState}
+use Rattle.fine_model.specs.Merge.{fits_in}
+use Rattle.fine_model.specs.Regions.{place_of}
+use Rattle.fine_model.specs.Boards.{set_of}
+use Rattle.fine_model.specs.Jobs.{job_regions, job_left, held_for, KeepsJob}
+use Rattle.partition_merge.specs.declared.merger.Measure.{Measure}
+use Rattle.epoch_room.specs.Value.{RoomValue}
+use Rattle.epoch_room.specs.Steps.{Does, Shuts, WasShut}
+use Rattle.epoch_room.specs.declared.answers.RoomFault.{RoomFault}
+use Rattle.epoch_room.specs.declared.answers.RoomFault.TheVariants as room_fault
+
+-- the same room, but for the merge that is out and what is free; the disk was not called
+abbrev pub with_job : RoomValue → Option Job → List ℕ → RoomValue
+with_job value job free = record value { room = record value.room { job = job; free = free } }
+
+-- ---- picking
+
+-- a job of two parts that has taken no region
+abbrev pub fresh_job : Part × Part → Job
+fresh_job two = record { older = two.0; newer = two.1; header = None; target = 0; written = 0 }
+
+-- the first two neighbours whose older part begins at an epoch or later
+abbrev pub with_next : Part → List Part → Option (Part × Part)
+with_next older [] = None
+with_next older (newer ∷ parts) = Some (older, newer)
+
+unfoldable pub neighbours_from : ℕ → List Part → Option (Part × Part)
+neighbours_from from [] = None
+neighbours_from from (p ∷ parts) = if nat_le from p.header.range.first then with_next p parts else neighbours_from from parts
+
+-- none of a shut room
+abbrev pub picked : RoomState → ℕ → Option Job
+picked room from = if room.is_shut then None else option_map fresh_job (neighbours_from from room.parts)
+
+-- ---- taking regions
+
+-- how many bytes rows of a measure and their index take
+abbrev pub measured_len : Measure → ℕ
+measured_len measure = measure.area + 14 * measure.nodes
+
+-- the least number of regions, up to eight, in which so many bytes fit
+abbrev pub regions_needed : ℕ → ℕ → Option ℕ
+regions_needed region_len len = find (λ k. fits_in region_len k len) (range_with_len 1 8)
+
+-- a number, where no more are needed than there are
+abbrev pub if_enough : ℕ → Option ℕ → Option ℕ
+if_enough most None = None
+if_enough most (Some k) = if nat_le k most then Some k else None
+
+-- how many free regions merged rows of a measure take: none where too few are free, or no number of regions is enough
+abbrev pub regions_for_job : RoomState → Measure → Option ℕ
+regions_for_job room measure = if_enough (length room.free) (regions_needed room.region_len (measured_len measure))
+
+-- the header of a job's part: rows of a measure over so many regions, the lowest of those that are free
+unfoldable pub header_over : Job → Measure → ℕ → List ℕ → Header
+header_over job measure regions free = record {
+  mark = if regions == 1 then mark.Two else mark.Three;
+  range = record { first = job.older.header.range.first; last = job.newer.header.range.last };
+  rows = measure.rows;
+  nodes = measure.nodes;
+  area = measure.area;
+  regions = regions;
+  more = take (regions - 1) (drop 1 free) ++ replicate (7 - (regions - 1)) 0;
+}
+
+abbrev pub taken_job : Job → Measure → ℕ → List ℕ → Job
+taken_job job measure regions free = record job { header = Some (header_over job measure regions free); target = slice_index free 0 }
+
+-- a job with its regions, or as it was
+abbrev pub job_after : Job → Measure → List ℕ → Option ℕ → Job
+job_after job measure free None = job
+job_after job measure free (Some regions) = taken_job job measure regions free
+
+abbrev pub free_after : List ℕ → Option ℕ → List ℕ
+free_after free None = free
+free_after free (Some regions) = drop regions free
+
+-- ---- giving a job up
+
+-- what is free once a job is given up: its regions too, but for those that a failed call was writing
+abbrev pub free_then : RoomState → List ℕ
+free_then room = set_of (room.free ++ job_left room)
+
+-- ---- writing
+
+abbrev pub written_on : Job → ℕ → Job
+written_on job n = record job { written = job.written + n }
+
+-- the regions in which bytes of a body lie that are written behind those which are there: one or two
+unfoldable pub touched : ℕ → Job → Header → ℕ → List ℕ
+touched region_len job header n =
+    (place_of region_len job.target header job.written).region ∷ (place_of region_len job.target header (job.written + n - 1)).region ∷ []
+
+-- Bytes stand in the job's target behind those that stood there. A failure leaves the job as it was, and what was being written is lost.
+abbrev pub WritesOr : List ℕ → RoomValue → RoomValue → Job → Job → Header → Result (Unit {0}) RoomFault → Type 0
+WritesOr bytes old new job job' header (Ok u) =
+    (job' ≡ written_on job (length bytes)) × Does (record old.room { job = Some (written_on job (length bytes)) }) old.target old new
+    × (held_for new.room.image (written_on job (length bytes)) ≡ option_map (λ held. held ++ bytes) (held_for old.room.image job))
+WritesOr bytes old new job job' header (Err room_fault.Disk) = (job' ≡ job) × Shuts old.room old.target (touched old.room.region_len job header (length bytes)) old new
+WritesOr bytes old new job job' header (Err (room_fault.Shut epoch)) = (job' ≡ job) × WasShut epoch old new
+WritesOr bytes old new job job' header (Err room_fault.NoMemory) = (job' ≡ job) × Does old.room old.target old new × KeepsJob old.room new.room
+
+-- ---- sealing
+
+-- a part in place of the one that a region leads and of the next one
+unfoldable pub replaced : List Part → ℕ → Part → List Part
+replaced [] lead p = []
+replaced (q ∷ parts) lead p = if q.region == lead then p ∷ drop 1 parts else q ∷ replaced parts lead p
+
+-- a part among the retired ones, which ascend by their leads
+abbrev pub retire : Part → List Part → List Part
+retire p parts = filter (λ q. nat_lt q.region p.region) parts ++ p ∷ filter (λ q. nat_lt p.region q.region) parts
+
+unfoldable pub merged_state : RoomState → Job → Header → RoomState
+merged_state room job header = record room {
+  parts = replaced room.parts job.older.region (record { region = job.target; header = header });
+  retired = retire job.newer (retire job.older room.retired);
+  job = None;
+}
+
+-- After a failure all of the job's regions are lost, since its gate may be open; the job stays out. After want of memory the job holds
+-- what it held, and may be sealed again.
+abbrev pub MergesOr : RoomValue → RoomValue → Job → Header → Result (Unit {0}) (RoomFault × Job) → Type 0
+MergesOr old new job header (Ok u) = (new.disk.unsynced ≡ []) × Does (merged_state old.room job header) old.target old new
+MergesOr old new job header (Err e) = (e.1 ≡ job) × refuses e.0
+  where
+    refuses : RoomFault → Type 0
+    refuses room_fault.Disk = Shuts old.room old.target (job_regions (Some job)) old new
+    refuses (room_fault.Shut epoch) = WasShut epoch old new
+    refuses room_fault.NoMemory = Does old.room old.target old new × KeepsJob old.room new.room

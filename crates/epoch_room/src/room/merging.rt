@@ -1,0 +1,219 @@
+//! A merge of two neighbours, by steps: a job is picked, takes its regions, is written block by block, and is sealed, or given up.
+
+ghost use Rattle.std.specs.Prelude.{if◌then◌else◌, ◌≡◌, ◌+◌, ◌*◌, ◌<◌, ◌≤◌, ◌==◌, ◌++◌, [], ◌∷◌, None, Some, IfSome, drop, filter, find, is_some, length, nat_eq, not, option_map};
+ghost use Rattle.std.specs.List.{AllByRecursion, list_any, range_with_len};
+ghost use Rattle.fine_model.specs.Boards.{set_of};
+ghost use Rattle.fine_model.specs.Jobs.{job_left, taken_by};
+ghost use Rattle.fine_model.specs.Merge.{fits_in};
+ghost use Rattle.fine_model.specs.declared.Mark.TheVariants as mark;
+ghost use Rattle.partition_merge.specs.Mergers.{IsCounted};
+ghost use Rattle.epoch_room.specs.Meaning.{Keeps};
+ghost use Rattle.epoch_room.specs.MergeSteps.{free_after, free_then, fresh_job, if_enough, job_after, measured_len, neighbours_from, picked, regions_for_job, regions_needed, taken_job, with_job, with_next};
+
+use super::Room;
+use fine_model::{Header, Job, Mark, Part, Range};
+use log_disk::LogDisk;
+use partition_hold::RegionSet;
+use partition_merge::Measure;
+
+/// A job of two parts that has taken no region.
+fn fresh_job(older: Part, newer: Part) -> Job
+    ensures { result ≡ fresh_job (older, newer) }
+{
+    Job {
+        older,
+        newer,
+        header: None,
+        target: 0,
+        written: 0,
+    }
+}
+
+/// A job of a part and the first of those behind it.
+fn job_with(older: &Part, behind: &[Part]) -> Option<Job>
+    ensures { result ≡ option_map fresh_job (with_next older.now behind.now) }
+{
+    let newer = behind.first()?;
+    Some(fresh_job(*older, *newer))
+}
+
+/// A job of the first two neighbours whose older part begins at an epoch or later; none of a shut room.
+#[tactic(auto, unfolding(crate::specs::MergeSteps::neighbours_from))]
+fn first_job(parts: &[Part], from: u64, is_shut: bool) -> Option<Job>
+    ensures { result ≡ (if is_shut then None else option_map fresh_job (neighbours_from from parts.now)) }
+{
+    if is_shut {
+        return None;
+    }
+    let mut left = parts;
+    while let Some((older, behind)) = left.split_first() {
+        if from <= older.header.range.first {
+            return job_with(older, behind);
+        }
+        left = behind;
+    }
+    None
+}
+
+/// Whether so many bytes of rows and index entries fit a number of regions.
+fn fits_in(region_len: u64, regions: u8, len: u64) -> bool
+    requires low { 1 ≤ regions }
+    requires high { regions ≤ 8 }
+    requires len { len < 68719476736 }
+    requires short { 1 ≤ region_len }
+    requires long { region_len ≤ 67108864 }
+    ensures { result ≡ fits_in region_len regions len }
+{
+    if regions == 1 {
+        41 + len <= region_len
+    } else {
+        70 + len <= region_len + u64::from(regions - 1) * (region_len - 1)
+    }
+}
+
+/// The least number of regions, up to eight, in which so many bytes fit.
+fn regions_needed(region_len: u64, len: u64) -> Option<u8>
+    requires len { len < 68719476736 }
+    requires short { 1 ≤ region_len }
+    requires long { region_len ≤ 67108864 }
+    ensures { result ≡ regions_needed region_len len }
+{
+    (1..9).find(|regions| fits_in(region_len, *regions, len))
+}
+
+/// A number of 32 bits as one of 64.
+fn wide(number: u32) -> u64
+    ensures same { result ≡ number }
+    ensures few { number < 4294967296 }
+{
+    u64::from(number)
+}
+
+/// A number, where no more are needed than there are.
+fn if_enough(needed: Option<u8>, most: u32) -> Option<u8>
+    ensures { result ≡ if_enough most needed }
+{
+    needed.filter(|regions| u32::from(*regions) <= most)
+}
+
+/// The mark of a partition over so many regions.
+fn mark_for(regions: u8) -> Mark
+    ensures { result ≡ (if regions == 1 then mark.Two else mark.Three) }
+{
+    if regions == 1 { Mark::Two } else { Mark::Three }
+}
+
+/// Takes the lowest free regions, of which there are enough, for a job.
+#[tactic(auto, unfolding(crate::specs::MergeSteps::header_over))]
+fn take_regions(free: &mut RegionSet, job: &mut Job, measure: Measure, regions: u8)
+    requires some { 1 ≤ regions }
+    requires most { regions ≤ 8 }
+    requires enough { regions ≤ length free.old }
+    ensures free { free.new ≡ drop regions free.old }
+    ensures job { job.new ≡ taken_job job.old measure regions free.old }
+{
+    let target = free.take_lowest().unwrap_or(0);
+    let mut more = [0; 7];
+    free.take_into(&mut more[..usize::from(regions - 1)]);
+    job.header = Some(Header {
+        mark: mark_for(regions),
+        range: Range {
+            first: job.older.header.range.first,
+            last: job.newer.header.range.last,
+        },
+        rows: measure.rows,
+        nodes: measure.nodes,
+        area: measure.area,
+        regions,
+        more,
+    });
+    job.target = target;
+}
+
+/// Adds a region to the free ones, but for one that is lost.
+fn give_one_back(free: &mut RegionSet, lost: &RegionSet, region: u32)
+    requires small { region < 64 }
+    requires set { set_of free.old ≡ free.old }
+    ensures { free.new ≡ set_of (free.old ++ (if not (list_any (nat_eq region) lost.now) then region ∷ [] else [])) }
+{
+    if !lost.holds(region) {
+        free.insert(region);
+    }
+}
+
+/// Adds regions to the free ones, but for those that are lost.
+fn give_back(free: &mut RegionSet, lost: &RegionSet, regions: &[u32])
+    requires small { AllByRecursion (λ r. r < 64) regions.now }
+    requires set { set_of free.old ≡ free.old }
+    ensures { free.new ≡ set_of (free.old ++ filter (λ r. not (list_any (nat_eq r) lost.now)) regions.now) }
+{
+    for region in regions {
+        give_one_back(free, lost, *region);
+    }
+}
+
+/// Adds the regions of a job to the free ones, but for those that are lost.
+fn free_job(free: &mut RegionSet, lost: &RegionSet, job: &Job)
+    requires few { (header : Header) → job.now.header ≡ Some header → (1 ≤ header.regions) × (header.regions ≤ 8) }
+    requires small { AllByRecursion (λ r. r < 64) (taken_by job.now.target job.now.header) }
+    requires set { set_of free.old ≡ free.old }
+    ensures { free.new ≡ set_of (free.old ++ filter (λ r. not (list_any (nat_eq r) lost.now)) (taken_by job.now.target job.now.header)) }
+{
+    if let Some(header) = &job.header {
+        give_back(free, lost, &[job.target]);
+        give_back(free, lost, &header.more[..usize::from(header.regions - 1)]);
+    }
+}
+
+impl<D: LogDisk> Room<D> {
+    /// A job for the first two neighbours of the chain whose older part begins at an epoch or later. It takes no region, and no memory.
+    ///
+    /// None exactly where there are no such neighbours, or the room is shut. No other merge is out. What was picked is out until
+    /// `merge_seal` or `merge_drop`.
+    pub fn merge_pick(&mut self, from: u64) -> Option<Job>
+        requires no_job { self.old.room.job ≡ None }
+        ensures job { result ≡ picked self.old.room from }
+        ensures untaken { IfSome result (λ job. job.header ≡ None) }
+        ensures room { self.new ≡ with_job self.old (picked self.old.room from) self.old.room.free }
+        ensures keeps { Keeps self.old self.new }
+    {
+        let job = first_job(self.parts.as_slice(), from, self.is_shut);
+        self.job = job;
+        job
+    }
+
+    /// Takes the lowest free regions for merged rows of a measure, as many as their body needs: one, or two to eight of mark Three.
+    /// Nothing is written, and no memory is taken; a shut room has them too.
+    ///
+    /// True exactly where eight regions are enough and as many as are needed are free; else nothing changes.
+    pub fn merge_take(&mut self, job: &mut Job, measure: Measure) -> bool
+        requires out { self.old.room.job ≡ Some job.old }
+        requires untaken { job.old.header ≡ None }
+        requires counted { IsCounted measure }
+        ensures taken { result ≡ is_some (regions_for_job self.old.room measure) }
+        ensures job { job.new ≡ job_after job.old measure self.old.room.free (regions_for_job self.old.room measure) }
+        ensures room { self.new ≡ with_job self.old (Some job.new) (free_after self.old.room.free (regions_for_job self.old.room measure)) }
+        ensures keeps { Keeps self.old self.new }
+    {
+        let _rows = wide(measure.rows);
+        let len = wide(measure.area) + 14 * wide(measure.nodes);
+        let needed = regions_needed(self.disk.region_len(), len);
+        let Some(regions) = if_enough(needed, self.free.len()) else {
+            return false;
+        };
+        take_regions(&mut self.free, job, measure, regions);
+        self.job = Some(*job);
+        true
+    }
+
+    /// Gives a job up, also of a shut room. Its regions are free again, but for those that a failed call was writing, which stay lost;
+    /// nothing else changes. It calls no disk and takes no memory.
+    pub fn merge_drop(&mut self, job: Job)
+        requires out { self.old.room.job ≡ Some job }
+        ensures room { self.new ≡ with_job self.old None (free_then self.old.room) }
+        ensures keeps { Keeps self.old self.new }
+    {
+        free_job(&mut self.free, &self.lost, &job);
+        self.job = None;
+    }
+}

@@ -8,3 +8,4 @@ pub mod Beginning
 pub mod Ending
 pub mod Fresh
 pub mod Rounds
+pub mod Telling

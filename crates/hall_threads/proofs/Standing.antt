@@ -12,7 +12,7 @@ use Rattle.fine_model.specs.History.{Commit, IsLegal}
 use Rattle.fine_model.specs.Becomes.{Becomes, IsStuck}
 use Rattle.fine_model.specs.Room.{IsSealedUpTo}
 use Rattle.fine_model.specs.Jobs.{KeepsJob}
-use Rattle.fine_model.specs.Buckets.{Began}
+use Rattle.fine_model.specs.Buckets.{Began, node_id}
 use Rattle.fine_model.proofs.HistoryLaws.{IsLegal-push}
 use Rattle.fine_hall.specs.declared.law.Beginning.{Beginning}
 use Rattle.fine_hall.specs.declared.pass.Pass.{Pass}
@@ -22,12 +22,9 @@ use Rattle.fine_hall.specs.Passes.{seen, turns, published, last_room, HasPlace}
 use Rattle.fine_hall.specs.Halls.{TakesRoom, MayGiveRoom, MayGive}
 use Rattle.hall_threads.specs.declared.things.DayRoom.{DayRoom}
 use Rattle.hall_threads.specs.declared.things.DayView.{DayView}
-use Rattle.hall_threads.specs.Days.{zero_image, key_bucket, leaf_at, put_entry, board_of, room_state, room_log, StandsFor, view_state, Appends}
+use Rattle.hall_threads.specs.Days.{zero_image, key_bucket, leaf_at, put_entry, board_of, room_state, room_log, StandsFor, day_stands, view_state, Appends}
 use Rattle.hall_threads.proofs.Epochs.{epochs_below, waiting_push, sealed_push, follow_push}
-use Rattle.hall_threads.proofs.Putting.{next_put, leaf_after, others_stay}
-
-abbrev pub day_stands : DayRoom → List Row → ℕ → List Commit → Type 0
-day_stands room first e history = StandsFor room first history
+use Rattle.hall_threads.proofs.Putting.{next_put, leaf_after, on_leaf, others_stay}
 
 four_free : length (free_regions zero_image) ≡ 4
 unfolding zero_image is_free
@@ -89,7 +86,8 @@ module _ (x : Beginning) (p₀ p : Pass DayView) (room : DayRoom) (r : IsRoomFor
     stands_after e first b = let s = r.stands e first b in record {
       none_first = s.none_first;
       kept = a.kept ∙ ((λ i. s.kept i ++ entry ∷ []) ∙ sym (map-append (λ (c : Commit). c.entry) (seen p) (commit ∷ [])));
-      head = others_stay first (seen p) lane (room.places + 1) value epoch 0 refl ∙ s.head;
+      few = let more = a.places in let few = a.few.0 in omega (arith, more, few);
+      others = λ id other. others_stay first (seen p) lane (room.places + 1) value epoch id other ∙ s.others id other;
       leaf = leaf_after first (seen p) lane room.places room.value value epoch s.leaf ∙ (λ i. leaf_at (sym a.places i) (sym value_is i));
     }
 
@@ -104,7 +102,7 @@ module _ (x : Beginning) (p₀ p : Pass DayView) (room : DayRoom) (r : IsRoomFor
     all_below = epochs_below x.room.sealed (seen p) room.sealed r.epochs.follow r.epochs.sealed
 
     legal_after : (e : ℕ) (first : List Row) → Began x.log e first → IsLegal first (seen p) → IsLegal first (seen p ++ commit ∷ [])
-    legal_after e first b legal = let s = r.stands e first b in IsLegal-push first (seen p) commit legal (next_put first (seen p) lane room.places room.value value epoch a.few.0 s.head s.leaf all_below)
+    legal_after e first b legal = let s = r.stands e first b in IsLegal-push first (seen p) commit legal (next_put first (seen p) lane room.places room.value value epoch a.few.0 (s.others (node_id key_bucket 0) (on_leaf 0 refl)) s.leaf all_below)
 
     pub may_give_put : ((e : ℕ) (first : List Row) → Began x.log e first → IsLegal first (seen p)) → ((k : ℕ) → k < places.room → is_in k entry ≡ true → HasPlace p k) → MayGiveRoom room_state room_log day_stands x new (Some entry) epoch t.turn p
     may_give_put legal held = may_give new (Some entry) epoch a.sealed a.places a.faults a.board stands_after epochs_after (record {

@@ -4,6 +4,7 @@
 mod entries;
 mod opening;
 mod round;
+mod showing;
 #[cfg(test)]
 mod tests;
 mod things;
@@ -13,6 +14,7 @@ mod whole_day;
 
 pub use opening::open;
 pub use round::look_up;
+pub use showing::turn_over;
 pub use things::{DayBucket, DayRoom, DayView, Leaf};
 pub use threads::{both, put_times};
 pub use transaction::{DayHall, put, the_bucket};

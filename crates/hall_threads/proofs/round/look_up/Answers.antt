@@ -1,7 +1,8 @@
 use Rattle.std.proofs.Common.{◌∙◌}
 use Rattle.fine_hall.specs.Halls.{begun}
 use Rattle.hall_threads.specs.Days.{room_state, room_log, view_state}
-use Rattle.hall_threads.proofs.Rounds.{job_seen, idle_still, told}
+use Rattle.fine_hall.proofs.Troubles.{sees_law}
+use Rattle.hall_threads.proofs.Rounds.{job_seen, idle_still}
 use Rattle.hall_threads.proofs.round.look_up.Goals as goal
 
 pub returns-clause-pass : goal.returns-clause-pass
@@ -12,7 +13,7 @@ returns-clause-pass c =
     let r = c.refresh.new.pass in
     let read = c.published-published.ensures in
     let looked = c.refresh.ensures in
-    let s = told c.refresh.result x q r looked.answer in (
+    let s = (sees_law view_state).look c.refresh.result x q r looked.answer in (
       (
         looked.pass.0,
         idle_still q r s.1 (idle_still p q read.reads.same_held c.requires.pass.1),

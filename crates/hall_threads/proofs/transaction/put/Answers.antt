@@ -6,9 +6,9 @@ use Rattle.fine_model.specs.declared.Entry.{Entry}
 use Rattle.fine_hall.specs.Halls.{begun, MayGiveRoom}
 use Rattle.fine_hall.specs.Turns.{commits, added, is_in}
 use Rattle.fine_hall.specs.Passes.{known, seen, mine, published, HasPlace}
-use Rattle.hall_threads.specs.Days.{key_bucket, put_entry, put_calls, room_state, room_log, view_state, Appends}
+use Rattle.hall_threads.specs.Days.{key_bucket, put_entry, put_calls, room_state, room_log, day_stands, view_state, Appends}
 use Rattle.hall_threads.proofs.Idle.{near, bucket_had, room_free, room_held, bucket_held, bucket_still, idle_again}
-use Rattle.hall_threads.proofs.Standing.{day_stands, may_give_none, may_give_put, all_below}
+use Rattle.hall_threads.proofs.Standing.{may_give_none, may_give_put, all_below}
 use Rattle.hall_threads.specs.declared.things.DayBucket.{DayBucket}
 use Rattle.hall_threads.proofs.Putting.{leaf_after}
 use Rattle.hall_threads.proofs.Caching.{Stands, stands_put}

@@ -48,3 +48,10 @@ module _ (b : ℕ) (key : b ≡ key_bucket) (h h₁ h₂ : List Bool) (idle : (k
           (λ (nr : k ≢ places.room). set_else h₂ places.room k false nr ∙ (ap (λ l. get_elem? l k) e₂ ∙ (set_else h₁ places.room k true nr ∙ (ap (λ l. get_elem? l k) e₁ ∙ (set_else h b k true ne ∙ idle k le)))))
           (decide k places.room))))
           (decide k b)
+
+-- a pass that held nothing holds nothing once it took the room and gave it back
+pub idle_turn : (h h₁ h₂ : List Bool) → ((k : ℕ) → k ≤ places.room → get_elem? h k ≡ some false) → h₁ ≡ set h places.room true → h₂ ≡ set h₁ places.room false → (k : ℕ) → k ≤ places.room → get_elem? h₂ k ≡ some false
+idle_turn h h₁ h₂ idle e₁ e₂ k le = ap (λ l. get_elem? l k) e₂ ∙ ⊎_elim
+    (λ (is : k ≡ places.room). ap (λ j. get_elem? (set h₁ places.room false) j) is ∙ set_at h₁ places.room true false (ap (λ l. get_elem? l places.room) e₁ ∙ set_at h places.room false true (idle places.room (le_refl places.room))))
+    (λ (ne : k ≢ places.room). set_else h₁ places.room k false ne ∙ (ap (λ l. get_elem? l k) e₁ ∙ (set_else h places.room k true ne ∙ idle k le)))
+    (decide k places.room)

@@ -9,3 +9,4 @@ pub mod Ending
 pub mod Fresh
 pub mod Rounds
 pub mod Telling
+pub mod Shown

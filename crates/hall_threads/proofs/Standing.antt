@@ -33,14 +33,14 @@ four_free = refl
 never_stuck : (room : DayRoom) → IsStuck (room_state room) → ⊥
 never_stuck room s = let few = subst (λ i. length (free_regions i) < 2) (some_same s.image zero_image (sym s.told)) s.few_free in let four = four_free in absurd (omega arith)
 
-day_becomes : (old new : DayRoom) → new.sealed ≡ old.sealed → old.places ≤ new.places → new.faults ≡ old.faults → Becomes (room_state old) (room_state new)
+pub day_becomes : (old new : DayRoom) → old.sealed ≤ new.sealed → old.places ≤ new.places → old.faults ≤ new.faults → Becomes (room_state old) (room_state new)
 day_becomes old new sealed places faults = record {
   region_len = refl;
   regions = refl;
   told = refl;
-  sealed = omega (arith, sealed);
+  sealed = sealed;
   places = places;
-  faults = omega (arith, faults);
+  faults = faults;
   own_faults = le_refl 0;
   shut = λ is. absurd (true≢false (sym is));
   shut_by = λ is. absurd (true≢false (sym is));
@@ -57,7 +57,7 @@ module _ (x : Beginning) (p₀ p : Pass DayView) (room : DayRoom) (r : IsRoomFor
   may_give new entry epoch sealed places faults board stands epochs commits more = record {
     log = r.log;
     stands = stands;
-    becomes = last (λ s. Becomes s (room_state new)) (day_becomes room new sealed more faults);
+    becomes = last (λ s. Becomes s (room_state new)) (day_becomes room new (omega (arith, sealed)) more (omega (arith, faults)));
     places = last (λ (s : RoomState). new.places ≡ places_more s.places entry) places;
     epochs = epochs;
     top = let top = t.top in omega (arith, top, sealed);

@@ -1,5 +1,7 @@
 -- What a view tells is an image of the leaf, and agrees with any history that left the leaf so.
-use Rattle.std.proofs.Common.{◌≡◌, ◌≢◌, ◌⊎◌, inl, inr, ℕ, zero, suc, ◌+◌, ◌<◌, ◌≤◌, ◌==◌, ◌&&◌, Bool, true, false, cond, List, [], ◌∷◌, ◌++◌, Some, refl, sym, ap, ◌∙◌, subst, ⊎_elim, arith, append-nil, eqb-true, ne_eqb, le_refl}
+use Rattle.std.specs.Prelude.{if◌then◌else◌}
+use Rattle.std.proofs.lemmas.Bool.Decides.{eqb_tells}
+use Rattle.std.proofs.Common.{◌≡◌, ◌≢◌, ◌⊎◌, inl, inr, ℕ, zero, suc, ◌+◌, ◌<◌, ◌≤◌, ◌==◌, ◌&&◌, Bool, true, false, cond, List, [], ◌∷◌, ◌++◌, Some, refl, sym, ap, ◌∙◌, subst, ⊎_elim, arith, append-nil, eqb-true, eq-eqb, le_refl}
 use Rattle.fine_model.specs.declared.NodeId.{NodeId}
 use Rattle.fine_model.specs.declared.Row.{Row}
 use Rattle.fine_model.specs.declared.Node.TheVariants as node
@@ -31,7 +33,7 @@ fits version value least most = record {
   head = (λ e. absurd (omega (arith, e)), λ e. absurd (omega (arith, e)));
   version_low = least;
   version_high = most;
-  rec = (omega arith, (((omega arith, omega arith), (omega arith, omega arith)), tt), tt);
+  rec = (omega arith, (((omega arith, omega arith), (omega arith, omega arith)), tt), refl);
 }
 
 is_sealed_region : (version value : ℕ) → 1 ≤ version → version ≤ greatest → IsSealed 80 (leaf_region version value ∷ []) 0 one_range (leaf_row version value ∷ [])
@@ -41,7 +43,7 @@ is_sealed_region version value least most = record {
   of_range = refl;
   of_rows = (refl, refl, refl);
   rows_fit = (fits version value least most, tt);
-  ordered = tt;
+  ordered = refl;
   spelled = ([], spelled version value);
 }
 
@@ -61,8 +63,14 @@ unfolding AreRowsOf
 told_none = record { image = zero_image; is_told = refl; headers = tt; are_rows = refl }
 
 pub tells_leaf : (version value : ℕ) → version ≤ greatest → TellsRowsOf (Some (told_image version value)) 80 (told_parts version value) (told_rows version value)
-tells_leaf zero value most = told_none
-tells_leaf (suc n) value most = told_some (suc n) value (omega arith) most
+tells_leaf version value most = ⊎_elim (λ none. subst P (sym none.0) told_none) (λ some. subst P (sym some.0) (told_some version value (let ne = some.1 in least version ne) most)) (eqb_tells version 0)
+  where
+    P : Bool → Type 0
+    P b = TellsRowsOf (Some (if b then zero_image else leaf_region version value ∷ [])) 80 (if b then [] else leaf_part version value ∷ []) (if b then [] else leaf_row version value ∷ [])
+
+    least : (n : ℕ) → n ≢ 0 → 1 ≤ n
+    least zero ne = absurd (ne refl)
+    least (suc n) ne = omega arith
 
 -- ---- what it agrees with
 
@@ -83,18 +91,29 @@ bool_cases true = inl refl
 bool_cases false = inr refl
 
 here : is_node leaf_id leaf_id ≡ true
-unfolding key_bucket
-here = refl
+here = ap (λ b. b && true) (eq-eqb key_bucket key_bucket refl)
+
+abbrev Leaves : ℕ → Bool → ℕ → Type 0
+Leaves value b n = content (if b then [] else leaf_row n value ∷ []) leaf_id ≡ (node.Leaf (if b then [] else (key, value ∷ []) ∷ []), n)
+
+before_any : (value : ℕ) → Leaves value true 0
+unfolding content replay
+before_any value = refl
+
+after_some : (value version : ℕ) → Leaves value false version
+unfolding content replay step
+after_some value version = ap (λ b. replay (base leaf_id) (cond b (leaf_row version value ∷ []) [])) here
 
 told_leaf : (version value : ℕ) → content (told_rows version value) leaf_id ≡ leaf_at version value
-unfolding content replay step
-told_leaf zero value = refl
-told_leaf (suc n) value = ap (λ b. replay (base leaf_id) (cond b (leaf_row (suc n) value ∷ []) [])) here
+told_leaf version value = ⊎_elim (λ none. subst (λ b. Leaves value b version) (sym none.0) (subst (Leaves value true) (sym none.1) (before_any value))) (λ some. subst (λ b. Leaves value b version) (sym some.0) (after_some value version)) (eqb_tells version 0)
+
+other_cases : (version value : ℕ) (id : NodeId) → is_node id leaf_id ≡ false → (b : Bool) → content (if b then [] else leaf_row version value ∷ []) id ≡ base id
+unfolding content replay
+other_cases version value id other true = refl
+other_cases version value id other false = ap (λ b. replay (base id) (cond b (leaf_row version value ∷ []) [])) other
 
 told_other : (version value : ℕ) (id : NodeId) → is_node id leaf_id ≡ false → content (told_rows version value) id ≡ base id
-unfolding content replay
-told_other zero value id other = refl
-told_other (suc n) value id other = ap (λ b. replay (base id) (cond b (leaf_row (suc n) value ∷ []) [])) other
+told_other version value id other = other_cases version value id other (version == 0)
 
 pub agrees_leaf : (version value : ℕ) (rows : List Row) → content rows leaf_id ≡ leaf_at version value → ((id : NodeId) → is_node id leaf_id ≡ false → content rows id ≡ base id) → Agrees (told_rows version value) rows
 agrees_leaf version value rows leaf others = record {

@@ -194,12 +194,12 @@ IsIdlePass hall p = IsPassOf room_state room_log view_state hall p × HoldsNothi
 
 -- ---- the beginning
 
--- a view of the log at entry, by the number of its eye
+-- a view of the log at entry, by the number of its eye; the first read through the eye 2 fails
 abbrev pub sight_of_log : ℕ → Sight
 sight_of_log eye = record { number = eye; version = 0; value = 0 }
 
 abbrev pub view_of_log : ℕ → ℕ → ℕ → DayView
-view_of_log seat buffer eye = record { seat = seat; buffer = buffer; upto = 0; sight = sight_of_log eye; faults = 0 }
+view_of_log seat buffer eye = record { seat = seat; buffer = buffer; upto = 0; sight = sight_of_log eye; fails = eye == 2; faults = 0 }
 
 abbrev pub first_sights : List (Option Sight)
 first_sights = Some (sight_of_log 1) ∷ Some (sight_of_log 3) ∷ None ∷ Some (sight_of_log 2) ∷ Some (sight_of_log 4) ∷ None ∷ []

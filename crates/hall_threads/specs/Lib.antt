@@ -1,3 +1,4 @@
 pub mod Days
 pub mod Ends
 pub mod Turnover
+pub mod Readings

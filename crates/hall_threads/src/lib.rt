@@ -3,6 +3,7 @@
 
 mod entries;
 mod opening;
+mod reading;
 mod round;
 mod showing;
 #[cfg(test)]

@@ -39,6 +39,7 @@ fn view(seat: u32, buffer: u8, eye: u64) -> DayView
         buffer,
         upto: 0,
         sight: sight(eye),
+        fails: eye == 2,
         faults: 0,
     }
 }
@@ -85,8 +86,8 @@ fn first_room(alloc: Global, most: usize) -> Result<DayRoom, AllocError>
     })
 }
 
-/// A hall of two seats over a log that shows no rows, whose room has memory for so many entries, and its passes. None where there is
-/// no memory.
+/// A hall of two seats over a log that shows no rows, whose room has memory for so many entries, and its passes. The first read through
+/// the front of the seat 2 will fail. None where there is no memory.
 pub fn open(alloc: Global, most: usize) -> Option<(DayHall, Vec<Pass<DayView>>)>
     ensures seats { IfSome result (λ made. (begun room_state room_log view_state made.0).seats ≡ 2) }
     ensures sealed { IfSome result (λ made. (begun room_state room_log view_state made.0).room.sealed ≡ 0) }

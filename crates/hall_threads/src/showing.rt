@@ -69,6 +69,7 @@ fn view_of(room: &DayRoom, seat: u32, buffer: u8) -> DayView
             version: room.places,
             value: room.value,
         },
+        fails: false,
         faults: 0,
     }
 }

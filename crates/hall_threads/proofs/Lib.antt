@@ -10,3 +10,4 @@ pub mod Fresh
 pub mod Rounds
 pub mod Telling
 pub mod Shown
+pub mod Fronts

@@ -1,16 +1,14 @@
 -- How a turn goes on in which what waits is sealed, and shown to both seats.
-use Rattle.std.proofs.Common.{◌≡◌, ◌⊎◌, inl, inr, ⊎_elim, ℕ, zero, suc, ◌+◌, ◌-◌, ◌*◌, ◌<◌, ◌≤◌, ◌==◌, Bool, true, false, List, [], ◌∷◌, ◌++◌, map, set, length, Option, Some, None, option_map, refl, sym, ap, ◌∙◌, subst, arith, append-nil, le_refl, le_trans}
-use Rattle.std.specs.Prelude.{slice_get, slice_set, slice_index, count_by, MatchBool}
-use Rattle.std.proofs.lemmas.List.{map-set, get_or-set_same, get_or-set_other}
+use Rattle.std.proofs.Common.{◌≡◌, ◌⊎◌, inl, inr, ⊎_elim, ℕ, zero, suc, ◌+◌, ◌-◌, ◌*◌, ◌<◌, ◌≤◌, ◌==◌, true, false, List, [], ◌∷◌, ◌++◌, map, set, length, Option, Some, None, option_map, refl, sym, ap, ◌∙◌, subst, arith, append-nil, le_refl}
+use Rattle.std.specs.Prelude.{slice_get, slice_set, slice_index, count_by}
+use Rattle.std.proofs.lemmas.List.{map-set}
 use lib.ListN.{get_elem?, length-map}
 use Rattle.atomic_table.specs.Seated.{TableId}
-use Rattle.atomic_table.proofs.Lists.{set_else}
 use Rattle.fine_places.specs.History as places
 use Rattle.fine_places.proofs.Lists.{set_at}
+use Rattle.fine_model.specs.declared.Entry.{Entry}
 use Rattle.fine_model.specs.declared.Row.{Row}
 use Rattle.fine_model.specs.declared.law.RoomState.{RoomState}
-use Rattle.fine_model.specs.declared.law.ViewState.{ViewState}
-use Rattle.fine_model.specs.declared.law.OpenedEye.{OpenedEye}
 use Rattle.fine_model.specs.Becomes.{Becomes}
 use Rattle.fine_model.specs.Faults.{last_count}
 use Rattle.fine_model.specs.History.{Commit, all_rows, upto}
@@ -27,14 +25,13 @@ use Rattle.fine_hall.specs.declared.turn.Turn.{Turn}
 use Rattle.fine_hall.specs.declared.law.Beginning.{Beginning}
 use Rattle.fine_hall.specs.declared.pass.Pass.{Pass}
 use Rattle.fine_hall.specs.Turns.{added, commits, room_after}
-use Rattle.fine_hall.specs.Laws.{CountsEpochs, IsRoomFor, IsViewFor}
-use Rattle.fine_hall.specs.Passes.{known, reads, turns, own_turns, seen, published, last_room, HasPlace, LacksPlace, IsHolder, IsPass}
-use Rattle.fine_hall.specs.Halls.{TakesRoom, MayGiveRoom, MayPost, Posts, Publishes}
+use Rattle.fine_hall.specs.Laws.{CountsEpochs, IsRoomFor}
+use Rattle.fine_hall.specs.Passes.{known, turns, seen, published, last_room, troubles, LacksPlace, IsHolder, IsPass}
+use Rattle.fine_hall.specs.Halls.{TakesRoom, GivesRoom, MayPost, Posts, Publishes}
 use Rattle.fine_hall.proofs.Since.{since_law}
-use Rattle.fine_hall.proofs.Passing.{one_turn}
+use Rattle.fine_hall.proofs.Troubles.{troubles_law}
 use Rattle.hall_threads.specs.declared.things.DayRoom.{DayRoom}
 use Rattle.hall_threads.specs.declared.things.DayView.{DayView}
-use Rattle.hall_threads.specs.declared.things.Sight.{Sight}
 use Rattle.hall_threads.specs.Days.{room_state, room_log, view_state, day_stands, StandsFor, board_of, eye_of, told_rows, leaf_id}
 use Rattle.hall_threads.specs.Turnover.{Seals, IsViewOf, TakesBack, InTurn, PostsTo, Stays}
 use Rattle.hall_threads.proofs.Epochs.{all_sealed, seals, none_wait}
@@ -211,17 +208,28 @@ published_turn z x epoch p p' room t ok number i s =
 
 -- ---- what stays
 
-pub stays_none : (p : Pass DayView) → Stays p p
-stays_none p = record { held = refl; turns = refl; own = refl }
+module _ (x : Beginning) where
+  pub stays_none : (p : Pass DayView) → Stays x p p
+  stays_none p = record { held = refl; turns = refl; own = refl; troubles = refl }
 
-pub stays_more : (p q r : Pass DayView) → Stays p q → Stays q r → Stays p r
-stays_more p q r s t = record { held = t.held ∙ s.held; turns = t.turns ∙ s.turns; own = t.own ∙ s.own }
+  pub stays_more : (p q r : Pass DayView) → Stays x p q → Stays x q r → Stays x p r
+  stays_more p q r s t = record { held = t.held ∙ s.held; turns = t.turns ∙ s.turns; own = t.own ∙ s.own; troubles = t.troubles ∙ s.troubles }
 
-pub stays_posted : (x : Beginning) (seat : ℕ) (t : TurnNote) (old new : DayRoom) (p p' : Pass DayView) → PostsTo x seat t old new p p' → Stays p p'
-stays_posted x seat t old new p p' s = record { held = s.posts.places.same_held; turns = s.posts.places.same_turns; own = s.posts.places.same_own }
+  pub stays_posted : (seat : ℕ) (t : TurnNote) (old new : DayRoom) (p p' : Pass DayView) → p'.number ≡ p.number → PostsTo x seat t old new p p' → Stays x p p'
+  stays_posted seat t old new p p' number s = record {
+    held = s.posts.places.same_held;
+    turns = s.posts.places.same_turns;
+    own = s.posts.places.same_own;
+    troubles = ((troubles_law view_state x).same p p' number).posts seat t s.view s.back s.posts;
+  }
 
-pub stays_published : (epoch : ℕ) (p p' : Pass DayView) → Publishes epoch p p' → Stays p p'
-stays_published epoch p p' s = record { held = s.same_held; turns = s.same_turns; own = s.same_own }
+  pub stays_published : (epoch : ℕ) (p p' : Pass DayView) → p'.number ≡ p.number → Publishes epoch p p' → Stays x p p'
+  stays_published epoch p p' number s = record { held = s.same_held; turns = s.same_turns; own = s.same_own; troubles = ((troubles_law view_state x).same p p' number).publishes epoch s }
 
-pub stays_same : (p p' : Pass DayView) → p' ≡ p → Stays p p'
-stays_same p p' e = subst (Stays p) (sym e) (stays_none p)
+  pub stays_same : (p p' : Pass DayView) → p' ≡ p → Stays x p p'
+  stays_same p p' e = subst (Stays x p) (sym e) (stays_none p)
+
+  -- ---- the faults of a turn that may end
+
+  pub none_failed : (p p' : Pass DayView) (room : DayRoom) (entry : Option Entry) (epoch : ℕ) (t : TurnNote) → p'.number ≡ p.number → room.faults ≤ (last_room x p).faults + t.in_hand → GivesRoom (room_state room) entry epoch t p p' → troubles view_state x p' ≡ troubles view_state x p
+  none_failed p p' room entry epoch t number exact g = let e = (troubles_law view_state x).turn (room_state room) entry epoch t p p' number g in omega (arith, e, exact)

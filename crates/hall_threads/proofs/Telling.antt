@@ -1,7 +1,7 @@
 -- What a view tells is an image of the leaf, and agrees with any history that left the leaf so.
 use Rattle.std.specs.Prelude.{if◌then◌else◌}
 use Rattle.std.proofs.lemmas.Bool.Decides.{eqb_tells}
-use Rattle.std.proofs.Common.{◌≡◌, ◌≢◌, ◌⊎◌, inl, inr, ℕ, zero, suc, ◌+◌, ◌<◌, ◌≤◌, ◌==◌, ◌&&◌, Bool, true, false, cond, List, [], ◌∷◌, ◌++◌, Some, refl, sym, ap, ◌∙◌, subst, ⊎_elim, arith, append-nil, eqb-true, eq-eqb, le_refl}
+use Rattle.std.proofs.Common.{◌≡◌, ◌≢◌, ◌⊎◌, inl, inr, ℕ, zero, suc, ◌≤◌, ◌==◌, ◌&&◌, Bool, true, false, cond, List, [], ◌∷◌, ◌++◌, Some, refl, sym, ap, ◌∙◌, subst, ⊎_elim, arith, eqb-true, eq-eqb}
 use Rattle.fine_model.specs.declared.NodeId.{NodeId}
 use Rattle.fine_model.specs.declared.Row.{Row}
 use Rattle.fine_model.specs.declared.Node.TheVariants as node
@@ -9,9 +9,8 @@ use Rattle.fine_model.specs.RowBytes.{greatest, row_bytes, rows_bytes, body, Fit
 use Rattle.fine_model.specs.Merge.{nodes_in}
 use Rattle.fine_model.specs.Regions.{header_in, bad_field, header_tests, header_at, header_bytes, partition_bytes, index_bytes, entry_bytes, body_in, body_bytes, HasHeader, IsSealed}
 use Rattle.fine_model.specs.Chain.{AreRowsOf}
-use Rattle.fine_model.specs.Nodes.{Content, base, content, replay, step, is_node, rows_of, Agrees}
+use Rattle.fine_model.specs.Nodes.{base, content, replay, step, is_node, Agrees}
 use Rattle.fine_model.specs.Views.{TellsRowsOf}
-use Rattle.fine_model.specs.Buckets.{node_id}
 use Rattle.hall_threads.specs.Days.{key, key_bucket, zero_image, leaf_at, leaf_id, leaf_row, leaf_part, leaf_region, one_range, told_rows, told_parts, told_image}
 use Rattle.hall_threads.proofs.Idle.{low}
 
@@ -104,7 +103,7 @@ after_some : (value version : ℕ) → Leaves value false version
 unfolding content replay step
 after_some value version = ap (λ b. replay (base leaf_id) (cond b (leaf_row version value ∷ []) [])) here
 
-told_leaf : (version value : ℕ) → content (told_rows version value) leaf_id ≡ leaf_at version value
+pub told_leaf : (version value : ℕ) → content (told_rows version value) leaf_id ≡ leaf_at version value
 told_leaf version value = ⊎_elim (λ none. subst (λ b. Leaves value b version) (sym none.0) (subst (Leaves value true) (sym none.1) (before_any value))) (λ some. subst (λ b. Leaves value b version) (sym some.0) (after_some value version)) (eqb_tells version 0)
 
 other_cases : (version value : ℕ) (id : NodeId) → is_node id leaf_id ≡ false → (b : Bool) → content (if b then [] else leaf_row version value ∷ []) id ≡ base id

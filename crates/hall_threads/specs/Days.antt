@@ -25,7 +25,7 @@ use Rattle.fine_model.specs.History.{Commit, all_rows}
 use Rattle.fine_model.specs.Buckets.{node_id}
 use Rattle.fine_hall.specs.declared.pass.Pass.{Pass}
 use Rattle.fine_hall.specs.Halls.{HallOf, IsPassOf, begun}
-use Rattle.fine_hall.specs.Passes.{HoldsNothing, LacksJob}
+use Rattle.fine_hall.specs.Passes.{HoldsNothing, LacksJob, troubles}
 use Rattle.hall_threads.specs.declared.things.DayRoom.{DayRoom}
 use Rattle.hall_threads.specs.declared.things.DayBucket.{DayBucket}
 use Rattle.hall_threads.specs.declared.things.DayView.{DayView}
@@ -191,6 +191,14 @@ pub record Appends (entry : Entry) (old new : DayRoom) : Type 0 where
 -- a pass of the hall, which holds nothing, and has no job out
 abbrev pub IsIdlePass : {Q : Type 0} → HallOf DayRoom DayBucket DayView Q → Pass DayView → Type 0
 IsIdlePass hall p = IsPassOf room_state room_log view_state hall p × HoldsNothing p × LacksJob (begun room_state room_log view_state hall) p
+
+-- the faults that a pass met so far
+abbrev pub met : {Q : Type 0} → HallOf DayRoom DayBucket DayView Q → Pass DayView → ℕ
+met hall p = troubles view_state (begun room_state room_log view_state hall) p
+
+-- a hall of two seats
+abbrev pub IsForTwo : {Q : Type 0} → HallOf DayRoom DayBucket DayView Q → Type 0
+IsForTwo hall = (begun room_state room_log view_state hall).seats ≡ 2
 
 -- ---- the beginning
 

@@ -2,7 +2,7 @@
 use Rattle.std.specs.Prelude.{◌≡◌, ◌≢◌, ℕ, ◌≤◌, Some}
 use Rattle.fine_model.specs.declared.Node.TheVariants as node
 use Rattle.fine_model.specs.RowBytes.{greatest}
-use Rattle.fine_model.specs.History.{Commit, all_rows, upto}
+use Rattle.fine_model.specs.History.{all_rows, upto}
 use Rattle.fine_model.specs.Nodes.{content}
 use Rattle.fine_hall.specs.declared.pass.Pass.{Pass}
 use Rattle.fine_hall.specs.Passes.{seen, published}

@@ -1,5 +1,5 @@
 -- A turn of the room in which what waits is sealed, and shown to both seats.
-use Rattle.std.specs.Prelude.{◌≡◌, ◌⊎◌, ℕ, ◌+◌, ◌-◌, ◌*◌, ◌<◌, ◌≤◌, List, [], Option, Some, None, slice_set, map}
+use Rattle.std.specs.Prelude.{◌≡◌, ◌⊎◌, ℕ, ◌+◌, ◌-◌, ◌<◌, ◌≤◌, Some, None, slice_set}
 use Rattle.fine_model.specs.declared.law.ViewState.{ViewState}
 use Rattle.fine_model.specs.Faults.{last_count}
 use Rattle.fine_places.specs.History as places
@@ -7,7 +7,7 @@ use Rattle.fine_boxes.specs.declared.model.TurnNote.{TurnNote}
 use Rattle.fine_boxes.specs.Telling.{posting}
 use Rattle.fine_hall.specs.declared.law.Beginning.{Beginning}
 use Rattle.fine_hall.specs.declared.pass.Pass.{Pass}
-use Rattle.fine_hall.specs.Passes.{known, turns, own_turns, last_room, HasPlace, IsHolder}
+use Rattle.fine_hall.specs.Passes.{known, turns, own_turns, last_room, troubles, HasPlace, IsHolder}
 use Rattle.fine_hall.specs.Halls.{MayGiveRoom, Posts}
 use Rattle.hall_threads.specs.declared.things.DayRoom.{DayRoom}
 use Rattle.hall_threads.specs.declared.things.DayView.{DayView}
@@ -50,8 +50,9 @@ pub record PostsTo (x : Beginning) (seat : ℕ) (t : TurnNote) (old new : DayRoo
   pub turn : InTurn x new p' (posting t (seat - 1) view.buffer view back)
   pub same : (new.sealed ≡ old.sealed) × (new.waiting ≡ old.waiting)
 
--- what a pass saw and holds stays
-pub record Stays (p p' : Pass DayView) : Type 0 where
+-- what a pass saw and holds stays, and it met no fault
+pub record Stays (x : Beginning) (p p' : Pass DayView) : Type 0 where
   pub held : (known p').held ≡ (known p).held
   pub turns : turns p' ≡ turns p
   pub own : own_turns p' ≡ own_turns p
+  pub troubles : troubles view_state x p' ≡ troubles view_state x p

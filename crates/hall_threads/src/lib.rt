@@ -14,9 +14,10 @@ mod transaction;
 mod whole_day;
 
 pub use opening::open;
+pub use reading::{Failed, look_through};
 pub use round::look_up;
 pub use showing::turn_over;
-pub use things::{DayBucket, DayRoom, DayView, Leaf};
-pub use threads::{both, put_times};
+pub use things::{DayBucket, DayRoom, DayView, Leaf, Sight};
+pub use threads::{Said, both, put_times};
 pub use transaction::{DayHall, put, the_bucket};
 pub use whole_day::{day, end};

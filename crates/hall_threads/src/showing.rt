@@ -2,7 +2,7 @@
 
 ghost use Rattle.std.specs.Prelude.{◌≡◌, ◌<◌, ◌≤◌, ◌+◌, ◌-◌, ◌*◌, Some, None, IfSome, MatchBool, ⊤, slice_get, vec_len, length};
 ghost use Rattle.fine_boxes.specs.declared.model.TurnNote.{TurnNote};
-ghost use Rattle.fine_hall.specs.Passes.{mine, HasPlace};
+ghost use Rattle.fine_hall.specs.Passes.{mine, troubles};
 ghost use Rattle.fine_hall.specs.Halls.{begun, IsPassOf};
 ghost use Rattle.hall_threads.specs.Days.{room_state, room_log, view_state, IsIdlePass};
 ghost use Rattle.hall_threads.specs.Turnover.{Seals, IsViewOf, TakesBack, InTurn, PostsTo, Stays};
@@ -102,7 +102,13 @@ fn post_to(hall: &DayHall, pass: &mut Pass<DayView>, room: &mut DayRoom, seat: u
     let sight = view.sight;
     let first = 3 * (seat - 1) as usize;
     let old = hall.post(pass, seat, view);
-    take_back(room, first + buffer as usize, sight, first + old.buffer as usize, old.faults);
+    take_back(
+        room,
+        first + buffer as usize,
+        sight,
+        first + old.buffer as usize,
+        old.faults,
+    );
     true
 }
 
@@ -114,7 +120,7 @@ fn show(hall: &DayHall, pass: &mut Pass<DayView>, room: &mut DayRoom) -> bool
     requires turn { (t : TurnNote) × InTurn (begun room_state room_log view_state hall.now) room.old pass.old t }
     ensures pass { IsPassOf room_state room_log view_state hall.now pass.new × (pass.new.number ≡ pass.old.number) }
     ensures turn { (t : TurnNote) × InTurn (begun room_state room_log view_state hall.now) room.new pass.new t }
-    ensures stays { Stays pass.old pass.new }
+    ensures stays { Stays (begun room_state room_log view_state hall.now) pass.old pass.new }
 {
     if !seal(room) {
         return false;
@@ -135,6 +141,7 @@ pub fn turn_over<W: Wait>(rt: &W, hall: &DayHall, pass: &mut Pass<DayView>) -> b
     requires seats { (begun room_state room_log view_state hall.now).seats ≡ 2 }
     ensures pass { IsIdlePass hall.now pass.new × (pass.new.number ≡ pass.old.number) }
     ensures same { mine pass.new ≡ mine pass.old }
+    ensures troubles { troubles view_state (begun room_state room_log view_state hall.now) pass.new ≡ troubles view_state (begun room_state room_log view_state hall.now) pass.old }
 {
     let mut room = hall.take_room(rt, pass);
     let shown = show(hall, pass, &mut room);

@@ -15,3 +15,6 @@ returns-in-Ok-new-clause-passes c = let made = c.in-Ok-new.made in
 
 pub returns-in-Ok-new-clause-sealed : goal.returns-in-Ok-new-clause-sealed
 returns-in-Ok-new-clause-sealed c = ap (λ (x : Beginning). x.room.sealed) c.in-Ok-new.ensures.hall ∙ c.in-Ok-first_room.ensures.counts.0
+
+pub returns-in-Ok-new-clause-faults : goal.returns-in-Ok-new-clause-faults
+returns-in-Ok-new-clause-faults c = ap (λ (x : Beginning). x.room.faults) c.in-Ok-new.ensures.hall ∙ c.in-Ok-first_room.ensures.counts.3

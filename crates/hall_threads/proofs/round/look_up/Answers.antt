@@ -1,7 +1,7 @@
 use Rattle.std.proofs.Common.{◌∙◌}
 use Rattle.fine_hall.specs.Halls.{begun}
 use Rattle.hall_threads.specs.Days.{room_state, room_log, view_state}
-use Rattle.fine_hall.proofs.Troubles.{sees_law}
+use Rattle.fine_hall.proofs.Troubles.{sees_law, troubles_law}
 use Rattle.hall_threads.proofs.Rounds.{job_seen, idle_still}
 use Rattle.hall_threads.proofs.round.look_up.Goals as goal
 
@@ -21,3 +21,11 @@ returns-clause-pass c =
       ),
       looked.pass.1 ∙ read.pass.1,
     )
+
+pub returns-clause-troubles : goal.returns-clause-troubles
+returns-clause-troubles c =
+    let x = begun room_state room_log view_state c.args.hall.now in
+    let law = troubles_law view_state x in
+    let read = c.published-published.ensures in
+    let looked = c.refresh.ensures in
+    (law.same c.published-published.new.pass c.refresh.new.pass looked.pass.1).looks c.refresh.result looked.answer ∙ (law.same c.args.pass.now c.published-published.new.pass read.pass.1).reads read.reads

@@ -1,8 +1,6 @@
 -- A view is posted, and the old middle taken back.
-use Rattle.std.proofs.Common.{◌≡◌, ◌*◌, ℕ, length, subst, sym, ap, ◌∙◌, arith}
 use Rattle.fine_hall.specs.Halls.{begun}
 use Rattle.hall_threads.specs.Days.{room_state, room_log, view_state}
-use Rattle.hall_threads.specs.Turnover.{InTurn}
 use Rattle.hall_threads.proofs.Shown.{may_post, in_range, back_there, posted}
 use Rattle.hall_threads.proofs.showing.post_to.Goals as goal
 

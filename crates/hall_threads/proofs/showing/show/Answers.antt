@@ -3,7 +3,7 @@ use Rattle.std.proofs.Common.{◌≡◌, ◌≤◌, ◌<◌, ◌-◌, ℕ, lengt
 use Rattle.fine_boxes.specs.Telling.{posting}
 use Rattle.fine_hall.specs.Halls.{begun}
 use Rattle.hall_threads.specs.Days.{room_state, room_log, view_state}
-use Rattle.hall_threads.specs.Turnover.{InTurn, Stays}
+use Rattle.hall_threads.specs.Turnover.{InTurn}
 use Rattle.hall_threads.proofs.Shown.{sealed_turn, both_posted, published_turn, stays_more, stays_posted, stays_published, stays_same}
 use Rattle.hall_threads.proofs.showing.show.Goals as goal
 
@@ -23,7 +23,7 @@ returns-then-not-post_to-clause-stays c =
     let t = c.requires.turn in
     let x = begun room_state room_log view_state c.args.hall.now in
     let i = sealed_turn x c.args.pass.now c.args.room.now c.seal.new.room t.0 t.1 c.if-not-seal.ensures in
-    stays_same c.args.pass.now c.post_to.new.pass (c.if-not-post_to.ensures.posts t.0 i).1
+    stays_same x c.args.pass.now c.post_to.new.pass (c.if-not-post_to.ensures.posts t.0 i).1
 
 pub post_to-requires-2-clause-turn : goal.post_to-requires-2-clause-turn
 post_to-requires-2-clause-turn c =
@@ -57,7 +57,7 @@ returns-then-not-post_to-2-clause-stays c =
     let x = begun room_state room_log view_state c.args.hall.now in
     let i = sealed_turn x c.args.pass.now c.args.room.now c.seal.new.room t.0 t.1 c.if-not-seal.ensures in
     let s = c.if-not-post_to.ensures.posts t.0 i in
-    stays_more c.args.pass.now c.post_to.new.pass c.post_to-2.new.pass (stays_posted x 1 t.0 _ _ _ _ s) (stays_same c.post_to.new.pass c.post_to-2.new.pass (c.if-not-post_to-2.ensures.posts _ s.turn).1)
+    stays_more x c.args.pass.now c.post_to.new.pass c.post_to-2.new.pass (stays_posted x 1 t.0 _ _ _ _ c.post_to.ensures.pass.1 s) (stays_same x c.post_to.new.pass c.post_to-2.new.pass (c.if-not-post_to-2.ensures.posts _ s.turn).1)
 
 pub publish-requires-clause-held : goal.publish-requires-clause-held
 publish-requires-clause-held c κs =
@@ -108,6 +108,6 @@ returns-clause-stays c =
     let i = sealed_turn x c.args.pass.now c.args.room.now c.seal.new.room t.0 t.1 c.if-not-seal.ensures in
     let s = c.if-not-post_to.ensures.posts t.0 i in
     let u = c.if-not-post_to-2.ensures.posts _ s.turn in
-    stays_more c.args.pass.now c.post_to-2.new.pass c.publish.new.pass
-    (stays_more c.args.pass.now c.post_to.new.pass c.post_to-2.new.pass (stays_posted x 1 t.0 _ _ _ _ s) (stays_posted x 2 _ _ _ _ _ u))
-    (stays_published c.post_to-2.new.room.sealed c.post_to-2.new.pass c.publish.new.pass c.publish.ensures.publishes)
+    stays_more x c.args.pass.now c.post_to-2.new.pass c.publish.new.pass
+    (stays_more x c.args.pass.now c.post_to.new.pass c.post_to-2.new.pass (stays_posted x 1 t.0 _ _ _ _ c.post_to.ensures.pass.1 s) (stays_posted x 2 _ _ _ _ _ c.post_to-2.ensures.pass.1 u))
+    (stays_published x c.post_to-2.new.room.sealed c.post_to-2.new.pass c.publish.new.pass c.publish.ensures.pass.1 c.publish.ensures.publishes)

@@ -1,14 +1,14 @@
 -- The room is taken, what waits is shown, and the room is given back.
-use Rattle.std.proofs.Common.{◌≡◌, ◌++◌, None, ℕ, refl, sym, ap, ◌∙◌, append-nil, le_refl}
-use lib.ListN.{get_elem?}
+use Rattle.std.proofs.Common.{None, refl, ap, ◌∙◌, append-nil, le_refl}
 use Rattle.fine_places.specs.History as places
 use Rattle.fine_hall.specs.Halls.{begun}
 use Rattle.fine_hall.specs.Passes.{known, mine}
-use Rattle.fine_hall.specs.Turns.{added, commits}
+use Rattle.fine_hall.specs.Turns.{commits}
+use Rattle.fine_hall.proofs.Troubles.{troubles_law}
 use Rattle.hall_threads.specs.Days.{key_bucket, room_state, room_log, view_state}
 use Rattle.hall_threads.proofs.Idle.{idle_turn}
 use Rattle.hall_threads.proofs.Going.{mine_after, no_job}
-use Rattle.hall_threads.proofs.Shown.{begins}
+use Rattle.hall_threads.proofs.Shown.{begins, none_failed}
 use Rattle.hall_threads.proofs.showing.turn_over.Goals as goal
 
 pub show-shown-requires-clause-turn : goal.show-shown-requires-clause-turn
@@ -38,3 +38,10 @@ returns-clause-same g c =
     let gave = c.give_room.ensures.gives t.0 t.1.is_turn in
     mine_after x key_bucket refl (room_state c.show-shown.new.room) None 0 t.0 c.show-shown.new.pass c.give_room.new.pass gave
     ∙ (append-nil (mine c.show-shown.new.pass) ∙ ap commits (c.show-shown.ensures.stays.own ∙ c.take_room-room.ensures.takes.takes.sees.same_own))
+
+pub returns-clause-troubles : goal.returns-clause-troubles
+returns-clause-troubles g c =
+    let x = begun room_state room_log view_state c.args.hall.now in
+    let t = c.show-shown.ensures.turn in
+    none_failed x c.show-shown.new.pass c.give_room.new.pass c.show-shown.new.room None 0 t.0 c.give_room.ensures.pass.1 t.1.exact (c.give_room.ensures.gives t.0 t.1.is_turn)
+    ∙ (c.show-shown.ensures.stays.troubles ∙ ((troubles_law view_state x).same c.args.pass.now c.take_room-room.new.pass c.take_room-room.ensures.pass.1).takes places.room c.take_room-room.ensures.takes.takes)

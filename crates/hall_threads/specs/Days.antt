@@ -1,5 +1,5 @@
 -- A small log: a room that keeps its entries, buckets that cache the one leaf that is written, and views that tell an image of this leaf.
-use Rattle.std.specs.Prelude.{◌≡◌, ℕ, ◌+◌, ◌<◌, ◌==◌, if◌then◌else◌, ◌≤◌, List, [], ◌∷◌, ◌++◌, map, replicate, Option, Some, None, option_map, false}
+use Rattle.std.specs.Prelude.{◌≡◌, ◌⊎◌, ℕ, ◌+◌, ◌<◌, ◌==◌, if◌then◌else◌, ◌≤◌, List, [], ◌∷◌, ◌++◌, map, replicate, Option, Some, None, option_map, false}
 use Rattle.fine_model.specs.declared.Entry.{Entry}
 use Rattle.fine_model.specs.declared.Row.{Row}
 use Rattle.fine_model.specs.declared.Call.{Call}
@@ -162,6 +162,10 @@ bucket_cached b n = cached_leaf b.leaf n
 
 abbrev pub bucket_rests : DayBucket → Type 0
 bucket_rests b = Unit {0}
+
+-- the leaf was evicted, where its last change is of a published epoch
+abbrev pub Evicts : ℕ → DayBucket → DayBucket → Type 0
+Evicts published old new = (new ≡ old) ⊎ ((leaf : Leaf) × (old.leaf ≡ Some leaf) × (leaf.epoch ≤ published) × (new ≡ record { bucket = old.bucket; leaf = None }))
 
 -- ---- views
 

@@ -2,6 +2,7 @@
 #![tactic(auto)]
 
 mod entries;
+mod evicting;
 mod opening;
 mod reading;
 mod round;
@@ -13,6 +14,7 @@ mod threads;
 mod transaction;
 mod whole_day;
 
+pub use evicting::evict;
 pub use opening::open;
 pub use reading::{Failed, look_through};
 pub use round::look_up;

@@ -6,6 +6,7 @@ ghost use Rattle.hall_threads.specs.Days.{key_bucket, put_call, put_calls, IsIdl
 ghost use Rattle.hall_threads.specs.Readings.{TellsLeaf};
 ghost use Rattle.hall_threads.specs.Sayings.{failures, Says};
 
+use crate::evicting::evict;
 use crate::reading::{Failed, look_through};
 use crate::showing::turn_over;
 use crate::things::{DayView, Sight};
@@ -96,7 +97,7 @@ fn failures(sight: &Option<Sight>) -> u64
     }
 }
 
-/// Looks and reads, puts a value so many times, shows what waits to both seats, and looks and reads again.
+/// Looks and reads, puts a value so many times, shows what waits to both seats, evicts the leaf, and looks and reads it again.
 fn put_as<W: Wait>(
     rt: &W,
     alloc: Global,
@@ -114,6 +115,7 @@ fn put_as<W: Wait>(
     let first = glance(hall, &mut pass);
     let done = put_times(rt, alloc, hall, &mut pass, bucket, value, times);
     turn_over(rt, hall, &mut pass);
+    evict(hall, &mut pass, bucket);
     let last = glance(hall, &mut pass);
     let failed = failures(&first) + failures(&last);
     (pass, Said { done, failed, last })

@@ -6,7 +6,7 @@ use Rattle.fine_hall.specs.Passes.{known, mine}
 use Rattle.fine_hall.specs.Turns.{commits}
 use Rattle.fine_hall.proofs.Troubles.{troubles_law}
 use Rattle.hall_threads.specs.Days.{key_bucket, room_state, room_log, view_state}
-use Rattle.hall_threads.proofs.Idle.{idle_turn}
+use Rattle.hall_threads.proofs.Idle.{idle_place}
 use Rattle.hall_threads.proofs.Going.{mine_after, no_job}
 use Rattle.hall_threads.proofs.Shown.{begins, none_failed}
 use Rattle.hall_threads.proofs.showing.turn_over.Goals as goal
@@ -25,7 +25,7 @@ returns-clause-pass g c =
     let taken = c.take_room-room.ensures.takes.takes.held in (
       (
         c.give_room.ensures.pass.0,
-        idle_turn (known c.args.pass.now).held (known c.show-shown.new.pass).held (known c.give_room.new.pass).held c.requires.pass.1 (c.show-shown.ensures.stays.held ∙ taken) gave.held,
+        idle_place places.room (le_refl places.room) (known c.args.pass.now).held (known c.show-shown.new.pass).held (known c.give_room.new.pass).held c.requires.pass.1 (c.show-shown.ensures.stays.held ∙ taken) gave.held,
         no_job x c.show-shown.new.room None 0 t.0 c.show-shown.new.pass c.give_room.new.pass c.give_room.new.pass gave refl,
       ),
       c.give_room.ensures.pass.1 ∙ (c.show-shown.ensures.pass.1 ∙ c.take_room-room.ensures.pass.1),

@@ -19,7 +19,7 @@ use Rattle.fine_hall.specs.Halls.{IsFreshHall, IsFreshView, first_board}
 use Rattle.hall_threads.specs.declared.things.DayRoom.{DayRoom}
 use Rattle.hall_threads.specs.declared.things.DayBucket.{DayBucket}
 use Rattle.hall_threads.specs.declared.things.DayView.{DayView}
-use Rattle.hall_threads.specs.Days.{zero_image, day_log, key_bucket, leaf_at, board_of, room_state, room_log, day_stands, view_state, view_of_log, IsFirstRoom}
+use Rattle.hall_threads.specs.Days.{zero_image, day_log, key_bucket, leaf_at, board_of, room_state, room_log, day_stands, job_of, view_state, view_of_log, IsFirstRoom}
 
 -- ---- the log shows no rows
 
@@ -80,7 +80,7 @@ module _ (room : DayRoom) (r : IsFirstRoom room) (fronts : List DayView) where
     places = r.counts.1;
     none_waits = r.counts.2;
     not_shut = refl;
-    no_job = refl;
+    no_job = ap job_of r.job;
     board = ap board_of r.board ∙ (λ i. first_board (map view_state (sym f i)) (map view_state (sym m i)));
     each_front = each 0 1 2 fronts f;
     each_middle = each 1 3 4 middles m;

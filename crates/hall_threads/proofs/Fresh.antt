@@ -1,5 +1,5 @@
 -- The two passes of a new day.
-use Rattle.std.proofs.Common.{◌≡◌, ℕ, ◌+◌, List, [], ◌∷◌, ◌++◌, length, ap, ◌∙◌, arith, length-append}
+use Rattle.std.proofs.Common.{None, ◌≡◌, ℕ, ◌+◌, List, [], ◌∷◌, ◌++◌, length, ap, ◌∙◌, arith, length-append}
 use Rattle.fine_hall.specs.declared.pass.Pass.{Pass}
 use Rattle.fine_hall.specs.Turns.{room_after, commits, failed_of}
 use Rattle.fine_hall.specs.Passes.{mine, view_of}
@@ -18,10 +18,10 @@ pub record IsFirst {Q : Type 0} (hall : HallOf DayRoom DayBucket DayView Q) (num
   pub none_mine : put_calls (mine p) ≡ []
   pub none_met : met hall p ≡ 0
 
-module _ {Q : Type 0} (hall : HallOf DayRoom DayBucket DayView Q) (fronts : List DayView) (two : (begun room_state room_log view_state hall).seats ≡ 2) where
+module _ {Q : Type 0} (hall : HallOf DayRoom DayBucket DayView Q) (fronts : List DayView) (two : (begun room_state room_log view_state hall).seats ≡ 2) (none : (begun room_state room_log view_state hall).room.job ≡ None) where
   first_of : (i n : ℕ) (p : Pass DayView) → n + i ≡ 2 → HandsOut view_state hall.table.shared.table_id (begun room_state room_log view_state hall) fronts i p → IsFirst hall n p
   first_of i n p sum h = record {
-    idle = (h.is_pass, h.fresh.holds_none, λ one. ap (λ l. (room_after (begun room_state room_log view_state hall).room l).job) h.fresh.seen_none);
+    idle = (h.is_pass, h.fresh.holds_none, λ one. ap (λ l. (room_after (begun room_state room_log view_state hall).room l).job) h.fresh.seen_none ∙ none);
     numbered = let a = h.fresh.numbered in let b = h.number in omega (arith, a, b, sum, two);
     none_mine = ap (λ l. put_calls l) (ap commits h.fresh.mine_none ∙ none_yet);
     none_met =

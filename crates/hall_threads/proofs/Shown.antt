@@ -1,4 +1,5 @@
 -- How a turn goes on in which what waits is sealed, and shown to both seats.
+use Rattle.std.specs.Prelude.{Bool}
 use Rattle.std.proofs.Common.{◌≡◌, ◌⊎◌, inl, inr, ⊎_elim, ℕ, zero, suc, ◌+◌, ◌-◌, ◌*◌, ◌<◌, ◌≤◌, ◌==◌, true, false, List, [], ◌∷◌, ◌++◌, map, set, length, Option, Some, None, option_map, refl, sym, ap, ◌∙◌, subst, arith, append-nil, le_refl}
 use Rattle.std.specs.Prelude.{slice_get, slice_set, slice_index, count_by}
 use Rattle.std.proofs.lemmas.List.{map-set}
@@ -27,15 +28,15 @@ use Rattle.fine_hall.specs.declared.pass.Pass.{Pass}
 use Rattle.fine_hall.specs.Turns.{added, commits, room_after}
 use Rattle.fine_hall.specs.Laws.{CountsEpochs, IsRoomFor}
 use Rattle.fine_hall.specs.Passes.{known, turns, seen, published, last_room, troubles, LacksPlace, IsHolder, IsPass}
-use Rattle.fine_hall.specs.Halls.{TakesRoom, GivesRoom, MayPost, Posts, Publishes}
+use Rattle.fine_hall.specs.Halls.{MayGiveRoom, TakesRoom, GivesRoom, MayPost, Posts, Publishes}
 use Rattle.fine_hall.proofs.Since.{since_law}
 use Rattle.fine_hall.proofs.Troubles.{troubles_law}
 use Rattle.hall_threads.specs.declared.things.DayRoom.{DayRoom}
 use Rattle.hall_threads.specs.declared.things.DayView.{DayView}
-use Rattle.hall_threads.specs.Days.{room_state, room_log, view_state, day_stands, StandsFor, board_of, eye_of, told_rows, leaf_id}
+use Rattle.hall_threads.specs.Days.{room_state, room_log, view_state, day_stands, job_of, StandsFor, board_of, eye_of, told_rows, leaf_id}
 use Rattle.hall_threads.specs.Turnover.{Seals, IsViewOf, TakesBack, InTurn, PostsTo, Stays}
 use Rattle.hall_threads.proofs.Epochs.{all_sealed, seals, none_wait}
-use Rattle.hall_threads.proofs.Standing.{day_becomes, may_give_none}
+use Rattle.hall_threads.proofs.Standing.{day_becomes, may_give, may_give_none}
 use Rattle.hall_threads.proofs.Telling.{tells_leaf, agrees_leaf}
 
 -- ---- lists
@@ -52,7 +53,7 @@ in_range (x ∷ l) (suc k) a e = let h = in_range l k a e in omega (arith, h)
 
 -- ---- a turn goes on
 
-stands_same : (room new : DayRoom) (first : List Row) (history : List Commit) → new.places ≡ room.places → new.value ≡ room.value → new.kept.items ≡ room.kept.items → StandsFor room first history → StandsFor new first history
+pub stands_same : (room new : DayRoom) (first : List Row) (history : List Commit) → new.places ≡ room.places → new.value ≡ room.value → new.kept.items ≡ room.kept.items → StandsFor room first history → StandsFor new first history
 stands_same room new first history places value kept s = record {
   none_first = s.none_first;
   kept = ap (map (λ note. note.value)) kept ∙ s.kept;
@@ -66,8 +67,8 @@ module _ (x : Beginning) (p p' : Pass DayView) (room new : DayRoom) (t t' : Turn
   on P a = subst P (sym same) a
 
   pub goes : room.sealed ≤ new.sealed → new.places ≡ room.places → new.value ≡ room.value → new.kept.items ≡ room.kept.items → room.faults ≤ new.faults → CountsEpochs x (room_state new) (seen p ++ added None 0) → t'.top ≤ new.sealed → board_of new.board.items ≡ t'.board
-      → ((last_room x p).faults + t'.in_hand ≤ new.faults) ⊎ (last_count ≤ new.faults) → new.faults ≤ (last_room x p).faults + t'.in_hand → InTurn x new p' t'
-  goes sealed as_many value kept faults epochs top board counted exact = record {
+      → ((last_room x p).faults + t'.in_hand ≤ new.faults) ⊎ (last_count ≤ new.faults) → new.faults ≤ (last_room x p).faults + t'.in_hand → new.job ≡ room.job → InTurn x new p' t'
+  goes sealed as_many value kept faults epochs top board counted exact job = record {
     held = ap (λ l. get_elem? l places.room) held ∙ i.held;
     is_turn = h;
     may = record {
@@ -78,7 +79,7 @@ module _ (x : Beginning) (p p' : Pass DayView) (room new : DayRoom) (t t' : Turn
       epochs = on (λ l. CountsEpochs x (room_state new) (commits l ++ added None 0)) epochs;
       top = top;
       board = board;
-      job = λ ne. on (λ l. KeepsJob (room_after x.room l) (room_state new)) (let k = i.may.job (λ e. ne (number ∙ e)) in record { job = k.job; held = k.held });
+      job = λ ne. on (λ l. KeepsJob (room_after x.room l) (room_state new)) (let k = i.may.job (λ e. ne (number ∙ e)) in record { job = ap job_of job ∙ k.job; held = k.held });
       counted = on (λ l. ((room_after x.room l).faults + t'.in_hand ≤ new.faults) ⊎ (last_count ≤ new.faults)) counted;
       commits = record {};
     };
@@ -95,11 +96,22 @@ begins x p₀ p room free r t = record {
   exact = let e = ap (λ (s : RoomState). s.faults) r.last in omega (arith, e);
 }
 
+-- in a turn of the seat 1 the room may be given back with another job, or with none
+pub other_job : (x : Beginning) (p₀ p : Pass DayView) (room : DayRoom) (out : Bool) → p.number ≡ 1 → IsRoomFor room_state room_log day_stands x (published p) room (turns p) → (t : TakesRoom view_state x (room_state room) p₀ p)
+    → MayGiveRoom room_state room_log day_stands x (record room { job = out }) None 0 t.turn p
+other_job x p₀ p room out one r t =
+    let h = sym (append-nil (seen p)) in
+    let q = subst (CountsEpochs x (room_state room)) h r.epochs in
+    let new : DayRoom = record room { job = out } in
+    may_give x p₀ p room r t new None 0 (λ ne. absurd (ne one)) refl refl refl refl
+    (λ e first b. stands_same room new first (seen p ++ added None 0) refl refl refl (subst (StandsFor room first) h (r.stands e first b)))
+    (record { follow = q.follow; sealed = q.sealed; waiting = q.waiting }) (record {}) (le_refl room.places)
+
 -- ---- sealing
 
 pub sealed_turn : (x : Beginning) (p : Pass DayView) (room new : DayRoom) (t : TurnNote) → InTurn x room p t → Seals room new → InTurn x new p t
 sealed_turn x p room new t i s = subst (λ r. InTurn x r p t) (sym s.is)
-    (goes x p p room after t t i refl refl refl i.is_turn (omega arith) refl refl refl (le_refl room.faults) epochs (let top = i.may.top in omega (arith, top)) i.may.board i.may.counted i.exact)
+    (goes x p p room after t t i refl refl refl i.is_turn (omega arith) refl refl refl (le_refl room.faults) epochs (let top = i.may.top in omega (arith, top)) i.may.board i.may.counted i.exact refl)
   where
     after : DayRoom
     after = record room { sealed = room.sealed + 1; waiting = 0 }
@@ -177,8 +189,9 @@ module _ (z : TableId) (x : Beginning) (p : Pass DayView) (room : DayRoom) (seat
           (λ low. ⊎_elim (λ was. inl (omega (arith, low, was))) (λ last. inr (let up = b.rises in omega (arith, last, up))) i.may.counted)
           (λ last. inr last)
           b.low)
-          (let high = b.high in let exact = i.exact in omega (arith, high, exact));
-      same = (b.same.0, b.same.2);
+          (let high = b.high in let exact = i.exact in omega (arith, high, exact))
+          b.same.5;
+      same = (b.same.0, b.same.2, b.same.5);
     }
       where
         board : board_of new.board.items ≡ slice_set (slice_set t.board (3 * (seat - 1) + v.buffer) (Some (eye_of v.sight))) (3 * (seat - 1) + back.buffer) None
@@ -201,7 +214,7 @@ pub published_turn : (z : TableId) (x : Beginning) (epoch : ℕ) (p p' : Pass Da
 published_turn z x epoch p p' room t ok number i s =
     let had = ok.holder (ap (λ l. get_elem? l places.room) s.same_held ∙ i.held) in
     let same : had.0 ≡ t = some_of had.0 t (sym had.1.turn ∙ (ap (λ y. y.turn) s.views.reads ∙ i.is_turn.turn)) in
-    goes x p p' room room t t i s.same_held s.same_turns number (subst (IsHolder x p') same had.1) (le_refl room.sealed) refl refl refl (le_refl room.faults) i.may.epochs i.may.top i.may.board i.may.counted i.exact
+    goes x p p' room room t t i s.same_held s.same_turns number (subst (IsHolder x p') same had.1) (le_refl room.sealed) refl refl refl (le_refl room.faults) i.may.epochs i.may.top i.may.board i.may.counted i.exact refl
   where
     some_of : (a b : TurnNote) → Some a ≡ Some b → a ≡ b
     some_of a b e = Rattle.fine_places.proofs.Lists.some_same a b e

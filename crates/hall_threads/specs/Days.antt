@@ -1,5 +1,5 @@
 -- A small log: a room that keeps its entries, buckets that cache the one leaf that is written, and views that tell an image of this leaf.
-use Rattle.std.specs.Prelude.{◌≡◌, ◌⊎◌, ℕ, ◌+◌, ◌<◌, ◌==◌, if◌then◌else◌, ◌≤◌, List, [], ◌∷◌, ◌++◌, map, replicate, Option, Some, None, option_map, false}
+use Rattle.std.specs.Prelude.{◌≡◌, ◌⊎◌, Bool, ℕ, ◌+◌, ◌<◌, ◌==◌, if◌then◌else◌, ◌≤◌, List, [], ◌∷◌, ◌++◌, map, replicate, Option, Some, None, option_map, false}
 use Rattle.fine_model.specs.declared.Entry.{Entry}
 use Rattle.fine_model.specs.declared.Row.{Row}
 use Rattle.fine_model.specs.declared.Call.{Call}
@@ -13,6 +13,7 @@ use Rattle.fine_model.specs.declared.law.RoomState.{RoomState}
 use Rattle.fine_model.specs.declared.law.ViewState.{ViewState}
 use Rattle.fine_model.specs.declared.law.OpenedEye.{OpenedEye}
 use Rattle.fine_model.specs.declared.NodeId.{NodeId}
+use Rattle.fine_model.specs.declared.Job.{Job}
 use Rattle.fine_model.specs.declared.Part.{Part}
 use Rattle.fine_model.specs.declared.Range.{Range}
 use Rattle.fine_model.specs.RowBytes.{greatest}
@@ -108,6 +109,13 @@ eye_of sight = record { number = sight.number; regions = []; told = Some (told_i
 abbrev pub board_of : List (Option Sight) → List (Option OpenedEye)
 board_of sights = map (option_map eye_of) sights
 
+-- the merge job of a day, which has taken no region yet
+abbrev pub day_job : Job
+day_job = record { older = leaf_part 1 0; newer = leaf_part 1 0; header = None; target = 0; written = 0 }
+
+abbrev pub job_of : Bool → Option Job
+job_of out = if out then Some day_job else None
+
 abbrev pub room_state : DayRoom → RoomState
 room_state room = record {
   region_len = 80;
@@ -122,7 +130,7 @@ room_state room = record {
   waiting = room.waiting;
   used = 0;
   board = board_of room.board.items;
-  job = None;
+  job = job_of room.job;
   is_shut = false;
   image = Some zero_image;
   eyes = [];
@@ -189,6 +197,7 @@ pub record Appends (entry : Entry) (old new : DayRoom) : Type 0 where
   pub places : new.places ≡ old.places + 1
   pub waiting : new.waiting ≡ old.waiting + 1
   pub faults : new.faults ≡ old.faults
+  pub job : new.job ≡ old.job
   pub board : new.board.items ≡ old.board.items
   pub kept : map (λ note. note.value) new.kept.items ≡ map (λ note. note.value) old.kept.items ++ entry ∷ []
 
@@ -220,5 +229,6 @@ first_sights = Some (sight_of_log 1) ∷ Some (sight_of_log 3) ∷ None ∷ Some
 pub record IsFirstRoom (room : DayRoom) : Type 0 where
   pub counts : (room.sealed ≡ 0) × (room.places ≡ 0) × (room.waiting ≡ 0) × (room.faults ≡ 0)
   pub value : room.value ≡ 0
+  pub job : room.job ≡ false
   pub board : room.board.items ≡ first_sights
   pub kept : room.kept.items ≡ []

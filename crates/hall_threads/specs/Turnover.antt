@@ -29,7 +29,7 @@ pub record IsViewOf (room : DayRoom) (seat buffer : ℕ) (v : DayView) : Type 0 
 -- the board names a new view and an old one no longer, whose faults were counted, unless the count stands at its last value
 pub record TakesBack (a : ℕ) (sight : Sight) (b faults : ℕ) (old new : DayRoom) : Type 0 where
   pub board : new.board.items ≡ slice_set (slice_set old.board.items a (Some sight)) b None
-  pub same : (new.sealed ≡ old.sealed) × (new.places ≡ old.places) × (new.waiting ≡ old.waiting) × (new.value ≡ old.value) × (new.kept.items ≡ old.kept.items)
+  pub same : (new.sealed ≡ old.sealed) × (new.places ≡ old.places) × (new.waiting ≡ old.waiting) × (new.value ≡ old.value) × (new.kept.items ≡ old.kept.items) × (new.job ≡ old.job)
   pub high : new.faults ≤ old.faults + faults
   pub low : (old.faults + faults ≤ new.faults) ⊎ (last_count ≤ new.faults)
   pub rises : old.faults ≤ new.faults
@@ -48,7 +48,7 @@ pub record PostsTo (x : Beginning) (seat : ℕ) (t : TurnNote) (old new : DayRoo
   pub upto : view.upto ≡ new.sealed
   pub posts : Posts x seat t view back p p'
   pub turn : InTurn x new p' (posting t (seat - 1) view.buffer view back)
-  pub same : (new.sealed ≡ old.sealed) × (new.waiting ≡ old.waiting)
+  pub same : (new.sealed ≡ old.sealed) × (new.waiting ≡ old.waiting) × (new.job ≡ old.job)
 
 -- what a pass saw and holds stays, and it met no fault
 pub record Stays (x : Beginning) (p p' : Pass DayView) : Type 0 where

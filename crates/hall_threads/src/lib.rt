@@ -3,6 +3,7 @@
 
 mod entries;
 mod evicting;
+mod merging;
 mod opening;
 mod reading;
 mod round;
@@ -15,6 +16,7 @@ mod transaction;
 mod whole_day;
 
 pub use evicting::evict;
+pub use merging::merge;
 pub use opening::open;
 pub use reading::{Failed, look_through};
 pub use round::look_up;

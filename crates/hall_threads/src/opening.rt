@@ -82,6 +82,7 @@ fn first_room(alloc: Global, most: usize) -> Result<DayRoom, AllocError>
         value: 0,
         board,
         opened: 4,
+        job: false,
         kept,
     })
 }
@@ -92,6 +93,7 @@ pub fn open(alloc: Global, most: usize) -> Option<(DayHall, Vec<Pass<DayView>>)>
     ensures seats { IfSome result (λ made. (begun room_state room_log view_state made.0).seats ≡ 2) }
     ensures sealed { IfSome result (λ made. (begun room_state room_log view_state made.0).room.sealed ≡ 0) }
     ensures faults { IfSome result (λ made. (begun room_state room_log view_state made.0).room.faults ≡ 0) }
+    ensures no_job { IfSome result (λ made. (begun room_state room_log view_state made.0).room.job ≡ None) }
     ensures count { IfSome result (λ made. length made.1.items ≡ 2) }
     ensures passes { IfSome result (λ made. HandedOut view_state made.0.table.shared.table_id (begun room_state room_log view_state made.0) (view_of_log 1 0 1 ∷ view_of_log 2 0 2 ∷ []) made.1.items) }
 {

@@ -120,6 +120,7 @@ fn show(hall: &DayHall, pass: &mut Pass<DayView>, room: &mut DayRoom) -> bool
     requires turn { (t : TurnNote) × InTurn (begun room_state room_log view_state hall.now) room.old pass.old t }
     ensures pass { IsPassOf room_state room_log view_state hall.now pass.new × (pass.new.number ≡ pass.old.number) }
     ensures turn { (t : TurnNote) × InTurn (begun room_state room_log view_state hall.now) room.new pass.new t }
+    ensures job { room.new.job ≡ room.old.job }
     ensures stays { Stays (begun room_state room_log view_state hall.now) pass.old pass.new }
 {
     if !seal(room) {

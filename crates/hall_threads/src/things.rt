@@ -25,6 +25,8 @@ pub struct DayRoom {
     /// The eyes of the views that are out, three buffers for each seat, and how many were opened.
     pub board: Vec<Option<Sight>>,
     pub opened: u64,
+    /// Whether a merge job is out.
+    pub job: bool,
     pub kept: Vec<Snapshot<Entry>>,
 }
 

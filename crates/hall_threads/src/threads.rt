@@ -7,6 +7,7 @@ ghost use Rattle.hall_threads.specs.Readings.{TellsLeaf};
 ghost use Rattle.hall_threads.specs.Sayings.{failures, Says};
 
 use crate::evicting::evict;
+use crate::merging::merge;
 use crate::reading::{Failed, look_through};
 use crate::showing::turn_over;
 use crate::things::{DayView, Sight};
@@ -121,7 +122,27 @@ fn put_as<W: Wait>(
     (pass, Said { done, failed, last })
 }
 
-/// Both threads at once, each with a pass and a value of its own.
+/// The same by the seat 1, which has a merge job out between two turns first.
+fn merge_and_put<W: Wait>(
+    rt: &W,
+    alloc: Global,
+    hall: &DayHall,
+    mut pass: Pass<DayView>,
+    bucket: u16,
+    value: u8,
+    times: u64,
+) -> (Pass<DayView>, Said)
+    requires pass { IsIdlePass hall.now pass × IsForTwo hall.now }
+    requires first { pass.number ≡ 1 }
+    requires bucket { bucket ≡ key_bucket }
+    ensures pass { IsIdlePass hall.now result.0 × (result.0.number ≡ pass.number) }
+    ensures says { Says hall.now value pass result.0 result.1 }
+{
+    merge(rt, hall, &mut pass);
+    put_as(rt, alloc, hall, pass, bucket, value, times)
+}
+
+/// Both threads at once, each with a pass and a value of its own; the first is the seat 1.
 pub fn both<R: Threads + Wait + Sync>(
     rt: &R,
     alloc: Global,
@@ -131,7 +152,7 @@ pub fn both<R: Threads + Wait + Sync>(
     second: (Pass<DayView>, u8),
     times: u64,
 ) -> ((Pass<DayView>, Said), (Pass<DayView>, Said))
-    requires first { IsIdlePass hall.now first.0 × IsForTwo hall.now }
+    requires first { IsIdlePass hall.now first.0 × IsForTwo hall.now × (first.0.number ≡ 1) }
     requires second { IsIdlePass hall.now second.0 }
     requires bucket { bucket ≡ key_bucket }
     ensures first { IsIdlePass hall.now result.0.0 × (result.0.0.number ≡ first.0.number) × Says hall.now first.1 first.0 result.0.0 result.0.1 }
@@ -142,9 +163,9 @@ pub fn both<R: Threads + Wait + Sync>(
     join(
         rt,
         || -> (Pass<DayView>, Said)
-            requires { IsIdlePass hall.now one × (bucket ≡ key_bucket) × IsForTwo hall.now }
+            requires { IsIdlePass hall.now one × (bucket ≡ key_bucket) × IsForTwo hall.now × (one.number ≡ 1) }
             ensures { IsIdlePass hall.entry.now result.0 × (result.0.number ≡ one.number) × Says hall.entry.now one_value one result.0 result.1 }
-        { put_as(rt, alloc, hall, one, bucket, one_value, times) },
+        { merge_and_put(rt, alloc, hall, one, bucket, one_value, times) },
         || -> (Pass<DayView>, Said)
             requires { IsIdlePass hall.now two × (bucket ≡ key_bucket) × IsForTwo hall.now }
             ensures { IsIdlePass hall.entry.now result.0 × (result.0.number ≡ two.number) × Says hall.entry.now two_value two result.0 result.1 }

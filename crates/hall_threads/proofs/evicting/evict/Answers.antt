@@ -1,15 +1,13 @@
 -- The bucket is taken, loses its leaf where that is published, and is given back.
-use Rattle.std.proofs.Common.{◌≡◌, ◌≤◌, ℕ, sym, ap, ◌∙◌, subst, true, false}
+use Rattle.std.proofs.Common.{sym, ap, ◌∙◌, subst}
 use lib.ListN.{get_elem?}
-use Rattle.fine_places.specs.History as places
 use Rattle.fine_hall.specs.Halls.{begun}
-use Rattle.fine_hall.specs.Passes.{known, published, seen, HasPlace}
+use Rattle.fine_hall.specs.Passes.{known, published, seen}
 use Rattle.fine_hall.specs.Turns.{commits}
 use Rattle.fine_hall.proofs.Troubles.{troubles_law}
-use Rattle.hall_threads.specs.declared.things.DayBucket.{DayBucket}
 use Rattle.hall_threads.specs.Days.{key_bucket, room_state, room_log, view_state}
 use Rattle.hall_threads.proofs.Idle.{near, below, bucket_had, idle_place}
-use Rattle.hall_threads.proofs.Caching.{Stands, stands_evicted}
+use Rattle.hall_threads.proofs.Caching.{stands_evicted}
 use Rattle.hall_threads.proofs.Going.{StandsAt, still, job_stays}
 use Rattle.hall_threads.proofs.Rounds.{job_seen}
 use Rattle.hall_threads.proofs.evicting.evict.Goals as goal

@@ -111,3 +111,26 @@ returns-clause-stays c =
     stays_more x c.args.pass.now c.post_to-2.new.pass c.publish.new.pass
     (stays_more x c.args.pass.now c.post_to.new.pass c.post_to-2.new.pass (stays_posted x 1 t.0 _ _ _ _ c.post_to.ensures.pass.1 s) (stays_posted x 2 _ _ _ _ _ c.post_to-2.ensures.pass.1 u))
     (stays_published x c.post_to-2.new.room.sealed c.post_to-2.new.pass c.publish.new.pass c.publish.ensures.pass.1 c.publish.ensures.publishes)
+
+pub returns-then-not-post_to-clause-job : goal.returns-then-not-post_to-clause-job
+returns-then-not-post_to-clause-job c =
+    let t = c.requires.turn in
+    let x = begun room_state room_log view_state c.args.hall.now in
+    let i = sealed_turn x c.args.pass.now c.args.room.now c.seal.new.room t.0 t.1 c.if-not-seal.ensures in
+    ap (λ r. r.job) (c.if-not-post_to.ensures.posts t.0 i).0 ∙ ap (λ r. r.job) (c.if-not-seal.ensures).is
+
+pub returns-then-not-post_to-2-clause-job : goal.returns-then-not-post_to-2-clause-job
+returns-then-not-post_to-2-clause-job c =
+    let t = c.requires.turn in
+    let x = begun room_state room_log view_state c.args.hall.now in
+    let i = sealed_turn x c.args.pass.now c.args.room.now c.seal.new.room t.0 t.1 c.if-not-seal.ensures in
+    let s = c.if-not-post_to.ensures.posts t.0 i in
+    ap (λ r. r.job) (c.if-not-post_to-2.ensures.posts _ s.turn).0 ∙ (s.same.2 ∙ ap (λ r. r.job) (c.if-not-seal.ensures).is)
+
+pub returns-clause-job : goal.returns-clause-job
+returns-clause-job c =
+    let t = c.requires.turn in
+    let x = begun room_state room_log view_state c.args.hall.now in
+    let i = sealed_turn x c.args.pass.now c.args.room.now c.seal.new.room t.0 t.1 c.if-not-seal.ensures in
+    let s = c.if-not-post_to.ensures.posts t.0 i in
+    (c.if-not-post_to-2.ensures.posts _ s.turn).same.2 ∙ (s.same.2 ∙ ap (λ r. r.job) (c.if-not-seal.ensures).is)

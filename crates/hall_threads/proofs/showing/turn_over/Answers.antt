@@ -1,13 +1,13 @@
 -- The room is taken, what waits is shown, and the room is given back.
-use Rattle.std.proofs.Common.{None, refl, ap, ◌∙◌, append-nil, le_refl}
+use Rattle.std.proofs.Common.{sym, None, refl, ap, ◌∙◌, append-nil, le_refl}
 use Rattle.fine_places.specs.History as places
 use Rattle.fine_hall.specs.Halls.{begun}
 use Rattle.fine_hall.specs.Passes.{known, mine}
 use Rattle.fine_hall.specs.Turns.{commits}
 use Rattle.fine_hall.proofs.Troubles.{troubles_law}
-use Rattle.hall_threads.specs.Days.{key_bucket, room_state, room_log, view_state}
+use Rattle.hall_threads.specs.Days.{key_bucket, job_of, room_state, room_log, view_state}
 use Rattle.hall_threads.proofs.Idle.{idle_place}
-use Rattle.hall_threads.proofs.Going.{mine_after, no_job}
+use Rattle.hall_threads.proofs.Going.{mine_after, no_job, job_found}
 use Rattle.hall_threads.proofs.Shown.{begins, none_failed}
 use Rattle.hall_threads.proofs.showing.turn_over.Goals as goal
 
@@ -26,7 +26,9 @@ returns-clause-pass g c =
       (
         c.give_room.ensures.pass.0,
         idle_place places.room (le_refl places.room) (known c.args.pass.now).held (known c.show-shown.new.pass).held (known c.give_room.new.pass).held c.requires.pass.1 (c.show-shown.ensures.stays.held ∙ taken) gave.held,
-        no_job x c.show-shown.new.room None 0 t.0 c.show-shown.new.pass c.give_room.new.pass c.give_room.new.pass gave refl,
+        no_job x c.show-shown.new.room None 0 t.0 c.show-shown.new.pass c.give_room.new.pass c.give_room.new.pass gave refl
+            (λ one. let was = sym (c.give_room.ensures.pass.1 ∙ (c.show-shown.ensures.pass.1 ∙ c.take_room-room.ensures.pass.1)) ∙ one in
+            ap job_of c.show-shown.ensures.job ∙ (job_found x c.args.pass.now c.take_room-room.new.pass c.take_room-room.result c.take_room-room.ensures.takes was ∙ c.requires.pass.2 was)),
       ),
       c.give_room.ensures.pass.1 ∙ (c.show-shown.ensures.pass.1 ∙ c.take_room-room.ensures.pass.1),
     )

@@ -7,8 +7,9 @@ use Rattle.fine_hall.specs.Halls.{begun, MayGiveRoom}
 use Rattle.fine_hall.specs.Turns.{commits, added, is_in}
 use Rattle.fine_hall.proofs.Troubles.{troubles_law}
 use Rattle.fine_hall.specs.Passes.{known, seen, mine, published, HasPlace}
-use Rattle.hall_threads.specs.Days.{key_bucket, put_entry, put_calls, room_state, room_log, day_stands, view_state, Appends}
+use Rattle.hall_threads.specs.Days.{key_bucket, put_entry, put_calls, room_state, room_log, day_stands, job_of, view_state, Appends}
 use Rattle.hall_threads.proofs.Idle.{near, bucket_had, room_free, room_held, bucket_held, bucket_still, idle_again}
+use Rattle.hall_threads.proofs.Rounds.{job_seen}
 use Rattle.hall_threads.proofs.Shown.{none_failed}
 use Rattle.hall_threads.proofs.Standing.{may_give_none, may_give_put, all_below}
 use Rattle.fine_model.specs.declared.law.RoomState.{RoomState}
@@ -16,7 +17,7 @@ use Rattle.hall_threads.specs.declared.things.DayRoom.{DayRoom}
 use Rattle.hall_threads.specs.declared.things.DayBucket.{DayBucket}
 use Rattle.hall_threads.proofs.Putting.{leaf_after}
 use Rattle.hall_threads.proofs.Caching.{Stands, stands_put}
-use Rattle.hall_threads.proofs.Going.{touched, still, given, mine_after, no_job, job_stays, calls_none, calls_one}
+use Rattle.hall_threads.proofs.Going.{touched, still, given, mine_after, no_job, job_found, job_stays, calls_none, calls_one}
 use Rattle.hall_threads.proofs.transaction.put.Goals as goal
 
 pub take_bucket-requires-clause-free : goal.take_bucket-requires-clause-free
@@ -103,7 +104,10 @@ returns-in_default-clause-pass g c = let p = c.give_bucket.ensures in let t = c.
   (
     p.pass.0,
     idle_again c.args.bucket c.requires.bucket _ _ _ c.requires.pass.1 c.in_ok-content.ensures.takes.held t.takes.held _ (c.give_room.ensures.gives t.turn t.is_turn).held _ p.gives.held,
-    no_job (begun room_state room_log view_state c.args.hall.now) c.append-entry.new.room None 0 t.turn c.take_room-room.new.pass c.give_room.new.pass c.give_bucket.new.pass (c.give_room.ensures.gives t.turn t.is_turn) p.gives.same_turns,
+    no_job (begun room_state room_log view_state c.args.hall.now) c.append-entry.new.room None 0 t.turn c.take_room-room.new.pass c.give_room.new.pass c.give_bucket.new.pass (c.give_room.ensures.gives t.turn t.is_turn) p.gives.same_turns
+        (λ one. let was = sym (p.pass.1 ∙ (c.give_room.ensures.pass.1 ∙ c.take_room-room.ensures.pass.1)) ∙ one in
+        ap job_of (ap (λ (r : DayRoom). r.job) c.in_default.ensures) ∙ (job_found (begun room_state room_log view_state c.args.hall.now) c.take_bucket.new.pass c.take_room-room.new.pass c.take_room-room.result t was
+        ∙ job_seen (begun room_state room_log view_state c.args.hall.now) c.args.pass.now c.take_bucket.new.pass c.in_ok-content.ensures.pass.0.lawful c.in_ok-content.ensures.pass.1 c.in_ok-content.ensures.takes.sees c.requires.pass.2 was)),
   ),
   p.pass.1 ∙ (c.give_room.ensures.pass.1 ∙ (c.take_room-room.ensures.pass.1 ∙ c.in_ok-content.ensures.pass.1)),
 )
@@ -113,7 +117,10 @@ returns-clause-pass g c = let p = c.give_bucket-2.ensures in let t = c.take_room
   (
     p.pass.0,
     idle_again c.args.bucket c.requires.bucket _ _ _ c.requires.pass.1 c.in_ok-content.ensures.takes.held t.takes.held _ (c.give_room-2.ensures.gives t.turn t.is_turn).held _ p.gives.held,
-    no_job (begun room_state room_log view_state c.args.hall.now) c.append-entry.new.room (Some c.in-Some.entry) (c.append-entry.new.room.sealed + 1) t.turn c.take_room-room.new.pass c.give_room-2.new.pass c.give_bucket-2.new.pass (c.give_room-2.ensures.gives t.turn t.is_turn) p.gives.same_turns,
+    no_job (begun room_state room_log view_state c.args.hall.now) c.append-entry.new.room (Some c.in-Some.entry) (c.append-entry.new.room.sealed + 1) t.turn c.take_room-room.new.pass c.give_room-2.new.pass c.give_bucket-2.new.pass (c.give_room-2.ensures.gives t.turn t.is_turn) p.gives.same_turns
+        (λ one. let was = sym (p.pass.1 ∙ (c.give_room-2.ensures.pass.1 ∙ c.take_room-room.ensures.pass.1)) ∙ one in
+        ap job_of (c.in-Some.ensures.1.job) ∙ (job_found (begun room_state room_log view_state c.args.hall.now) c.take_bucket.new.pass c.take_room-room.new.pass c.take_room-room.result t was
+        ∙ job_seen (begun room_state room_log view_state c.args.hall.now) c.args.pass.now c.take_bucket.new.pass c.in_ok-content.ensures.pass.0.lawful c.in_ok-content.ensures.pass.1 c.in_ok-content.ensures.takes.sees c.requires.pass.2 was)),
   ),
   p.pass.1 ∙ (c.give_room-2.ensures.pass.1 ∙ (c.take_room-room.ensures.pass.1 ∙ c.in_ok-content.ensures.pass.1)),
 )

@@ -19,30 +19,32 @@ abbrev fronts : List DayView
 fronts = view_of_log 1 0 1 ∷ view_of_log 2 0 2 ∷ []
 
 pub both-one-requires-clause-first : goal.both-one-requires-clause-first
-both-one-requires-clause-first g c κs within = let o = c.in_ok-hall.ensures in
-    ((of_one c.in_ok-hall.hall fronts o.seats _ _ _ c.in-Some.one c.in-Some-pop.two o.count c.in-Some.ensures.items c.in-Some-pop.ensures.items o.passes).idle, o.seats)
+both-one-requires-clause-first g c κs within =
+    let o = c.in_ok-hall.ensures in
+    let one = of_one c.in_ok-hall.hall fronts o.seats o.no_job _ _ _ c.in-Some.one c.in-Some-pop.two o.count c.in-Some.ensures.items c.in-Some-pop.ensures.items o.passes in
+    (one.idle, o.seats, one.numbered)
 
 pub both-one-requires-clause-second : goal.both-one-requires-clause-second
 both-one-requires-clause-second g c κs within = let o = c.in_ok-hall.ensures in
-    (of_other c.in_ok-hall.hall fronts o.seats _ _ _ c.in-Some.one c.in-Some-pop.two o.count c.in-Some.ensures.items c.in-Some-pop.ensures.items o.passes).idle
+    (of_other c.in_ok-hall.hall fronts o.seats o.no_job _ _ _ c.in-Some.one c.in-Some-pop.two o.count c.in-Some.ensures.items c.in-Some-pop.ensures.items o.passes).idle
 
 pub end-requires-clause-one : goal.end-requires-clause-one
 end-requires-clause-one g c =
     let o = c.in_ok-hall.ensures in
-    let one = of_one c.in_ok-hall.hall fronts o.seats _ _ _ c.in-Some.one c.in-Some-pop.two o.count c.in-Some.ensures.items c.in-Some-pop.ensures.items o.passes in
+    let one = of_one c.in_ok-hall.hall fronts o.seats o.no_job _ _ _ c.in-Some.one c.in-Some-pop.two o.count c.in-Some.ensures.items c.in-Some-pop.ensures.items o.passes in
     (c.both-one.ensures.first.0, c.both-one.ensures.first.1 ∙ one.numbered)
 
 pub end-requires-clause-two : goal.end-requires-clause-two
 end-requires-clause-two g c =
     let o = c.in_ok-hall.ensures in
-    let other = of_other c.in_ok-hall.hall fronts o.seats _ _ _ c.in-Some.one c.in-Some-pop.two o.count c.in-Some.ensures.items c.in-Some-pop.ensures.items o.passes in
+    let other = of_other c.in_ok-hall.hall fronts o.seats o.no_job _ _ _ c.in-Some.one c.in-Some-pop.two o.count c.in-Some.ensures.items c.in-Some-pop.ensures.items o.passes in
     (c.both-one.ensures.second.0, c.both-one.ensures.second.1 ∙ other.numbered)
 
 pub returns : goal.returns
 returns g c =
     let o = c.in_ok-hall.ensures in
-    let one = of_one c.in_ok-hall.hall fronts o.seats _ _ _ c.in-Some.one c.in-Some-pop.two o.count c.in-Some.ensures.items c.in-Some-pop.ensures.items o.passes in
-    let other = of_other c.in_ok-hall.hall fronts o.seats _ _ _ c.in-Some.one c.in-Some-pop.two o.count c.in-Some.ensures.items c.in-Some-pop.ensures.items o.passes in
+    let one = of_one c.in_ok-hall.hall fronts o.seats o.no_job _ _ _ c.in-Some.one c.in-Some-pop.two o.count c.in-Some.ensures.items c.in-Some-pop.ensures.items o.passes in
+    let other = of_other c.in_ok-hall.hall fronts o.seats o.no_job _ _ _ c.in-Some.one c.in-Some-pop.two o.count c.in-Some.ensures.items c.in-Some-pop.ensures.items o.passes in
     let e = c.in_ok-room.ensures in
     let a = c.both-one.result.0.1 in
     let b = c.both-one.result.1.1 in

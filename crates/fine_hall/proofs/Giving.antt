@@ -80,6 +80,7 @@ module _ {R B V : Type 0} (state : R → RoomState) (origin : R → Origin) (sta
         same_turns = ap (λ (u : Known Beginning Turn). u.seen) now_known;
         same_own = ap (λ (u : Known Beginning Turn). first_mine u.shares) now_known;
         same_published = ap (λ (u : Known Beginning Turn). u.published) now_known;
+        found = ap (λ (u : Known Beginning Turn). u.found) now_known;
         views = record { reads = same_reads; front = (front'.0, front'.1); backs = front'.2 };
       }
 
@@ -244,6 +245,7 @@ module _ {R B V : Type 0} (state : R → RoomState) (origin : R → Origin) (sta
             turns_more = ap (λ (u : Known Beginning Turn). u.seen) now_room ∙ ap (λ s. turns p ++ s ∷ []) (known_step ∙ step_is);
             own_more = own_after ∙ ap (λ s. own_turns p ++ s ∷ []) step_is;
             same_published = ap (λ (u : Known Beginning Turn). u.published) now_room;
+            found = ap (λ (u : Known Beginning Turn). u.found) now_room;
             front = front';
             notes = notes';
           }

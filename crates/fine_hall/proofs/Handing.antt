@@ -19,7 +19,7 @@ use Rattle.fine_hall.specs.declared.law.Beginning.{Beginning}
 use Rattle.fine_hall.specs.declared.pass.Pass.{Pass}
 use Rattle.fine_hall.specs.Turns.{commits}
 use Rattle.fine_hall.specs.Laws.{AreTurns, IsViewFor}
-use Rattle.fine_hall.specs.Passes.{PassView, HasTable, first_mine, first_given, view_of, known, reads, turns, own_turns, front_of, HasFront, IsPass}
+use Rattle.fine_hall.specs.Passes.{PassView, HasTable, first_mine, first_given, first_marks, first_looks, view_of, known, reads, turns, own_turns, front_of, HasFront, IsPass}
 use Rattle.fine_hall.specs.Halls.{IsFreshView, IsFreshPass}
 use Rattle.fine_hall.specs.Opening.{HandsOut, HandedOut}
 use Rattle.fine_hall.proofs.Laying.{no_slot}
@@ -169,6 +169,8 @@ module _ {V : Type 0} (view : V → ViewState) (z : TableId) (x : Beginning) (bo
       front_is = is_front;
       front_clean = f.clean;
       none_given = ap first_given notes_is;
+      marked = ap first_marks notes_is;
+      none_looked = ap first_looks notes_is;
       ahead = record {
         shows = subst (IsViewFor x (commits (turns p))) (sym front_here) (subst (λ ts. IsViewFor x (commits ts) (view front)) (sym seen_none) f.shows);
         reaches = subst (λ k. k ≤ (front_of view p).upto) (sym (ap (λ (u : K). u.published) is ∙ s.published)) zero-le;

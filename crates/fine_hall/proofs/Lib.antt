@@ -17,3 +17,4 @@ pub mod SumsClosing
 pub mod SumsMiddles
 pub mod Boarding
 pub mod Leaving
+pub mod Troubles

@@ -1,16 +1,20 @@
 -- Laws of passes and turns that a hall's user needs, each the contract of a function.
-use Rattle.std.specs.Prelude.{List, ◌++◌}
+use Rattle.std.specs.Prelude.{◌≡◌, ℕ, ◌+◌, ◌-◌, Bool, List, ◌++◌, Option, MatchBool}
 use Rattle.atomic_table.specs.Seated.{TableId}
+use Rattle.fine_model.specs.declared.Entry.{Entry}
 use Rattle.fine_model.specs.declared.law.RoomState.{RoomState}
 use Rattle.fine_model.specs.declared.law.ViewState.{ViewState}
 use Rattle.fine_model.specs.Becomes.{Becomes, IsStuck}
+use Rattle.fine_model.specs.Jobs.{KeepsJob}
 use Rattle.fine_places.specs.declared.model.Placed.{Placed}
+use Rattle.fine_boxes.specs.declared.model.TurnNote.{TurnNote}
 use Rattle.fine_hall.specs.declared.turn.Turn.{Turn}
 use Rattle.fine_hall.specs.declared.law.Beginning.{Beginning}
 use Rattle.fine_hall.specs.declared.pass.Pass.{Pass}
 use Rattle.fine_hall.specs.Turns.{RoomsGoOn, room_after}
-use Rattle.fine_hall.specs.Passes.{IsPass}
-use Rattle.fine_hall.specs.Halls.{UsedFront}
+use Rattle.fine_hall.specs.Laws.{AreTurns}
+use Rattle.fine_hall.specs.Passes.{known, turns, last_room, front_of, troubles, IsPass}
+use Rattle.fine_hall.specs.Halls.{SeesMore, KeepsPlaces, KeepsViews, Takes, Gives, GivesRoom, Posts, Refreshes, FindsStale, Publishes, Reads, UsedFront}
 
 module _ {V : Type 0} (view : V → ViewState) where
   -- a pass goes on once its front was read through
@@ -24,3 +28,32 @@ SinceLaw = (before : RoomState) (turns more : List (Placed Turn)) → RoomsGoOn 
 -- a room that was stuck in some turn is stuck at the end
 abbrev pub StuckLaw : Type 0
 StuckLaw = (before : RoomState) (turns more : List (Placed Turn)) → RoomsGoOn before (turns ++ more) → IsStuck (room_after before turns) → IsStuck (room_after before (turns ++ more))
+
+-- ---- what a call does to the troubles of a pass
+
+module _ {V : Type 0} (view : V → ViewState) (x : Beginning) where
+  -- No call of the hall but the end of a turn changes them: a refresh moves the count of the old front to what was given up.
+  pub record SameTroubles (p p' : Pass V) : Type 0 where
+    pub takes : (k : ℕ) → Takes k p p' → troubles view x p' ≡ troubles view x p
+    pub stays : KeepsPlaces p p' → KeepsViews p p' → troubles view x p' ≡ troubles view x p
+    pub gives : (k : ℕ) → Gives k p p' → troubles view x p' ≡ troubles view x p
+    pub reads : Reads p p' → troubles view x p' ≡ troubles view x p
+    pub looks : (b : Bool) → MatchBool b (Refreshes view x p p') (FindsStale p p') → troubles view x p' ≡ troubles view x p
+    pub posts : (seat : ℕ) (t : TurnNote) (new old : ViewState) → Posts x seat t new old p p' → troubles view x p' ≡ troubles view x p
+    pub publishes : (epoch : ℕ) → Publishes epoch p p' → troubles view x p' ≡ troubles view x p
+
+  -- At the end of a turn they rise by what the count of the room rose beyond the counts in the turn's hand, and as the front is read
+  -- through by what its count rose.
+  pub record TroublesLaw : Type 0 where
+    pub same : (p p' : Pass V) → p'.number ≡ p.number → SameTroubles p p'
+    pub turn : (room : RoomState) (entry : Option Entry) (epoch : ℕ) (t : TurnNote) (p p' : Pass V) → p'.number ≡ p.number → GivesRoom room entry epoch t p p'
+        → troubles view x p' ≡ troubles view x p + (room.faults - ((last_room x p).faults + t.in_hand))
+    pub front : (p p' : Pass V) → UsedFront view p p' → troubles view x p' + (front_of view p).faults ≡ troubles view x p + (front_of view p').faults
+
+-- ---- how a pass goes on that sees more
+
+module _ {V : Type 0} (view : V → ViewState) where
+  -- the merge job is left by turns of others, and a look sees more, whatever it finds
+  pub record SeesLaw : Type 0 where
+    pub job : (x : Beginning) (p p' : Pass V) → AreTurns x (turns p') → p.number ≡ 1 → SeesMore p p' → KeepsJob (last_room x p) (last_room x p')
+    pub look : (b : Bool) (x : Beginning) (p p' : Pass V) → MatchBool b (Refreshes view x p p') (FindsStale p p') → SeesMore p p' × ((known p').held ≡ (known p).held)

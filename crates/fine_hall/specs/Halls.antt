@@ -121,6 +121,7 @@ module _ {V : Type 0} where
     pub same_turns : turns p' ≡ turns p
     pub same_own : own_turns p' ≡ own_turns p
     pub same_published : published p' ≡ published p
+    pub found : found_held p' ≡ found_held p
     pub views : KeepsViews p p'
 
   -- The room was given back: the history grew by a turn, which is the pass's own.
@@ -129,6 +130,7 @@ module _ {V : Type 0} where
     pub turns_more : turns p' ≡ turns p ++ record { seat = p.number; item = turn_of entry epoch room t.in_hand } ∷ []
     pub own_more : own_turns p' ≡ own_turns p ++ record { seat = p.number; item = turn_of entry epoch room t.in_hand } ∷ []
     pub same_published : published p' ≡ published p
+    pub found : found_held p' ≡ found_held p
     pub front : (p'.front ≡ p.front) × (p'.buffer ≡ p.buffer)
     pub notes : (reads p').notes ≡ (reads p).notes
 
@@ -275,6 +277,8 @@ pub record IsFreshPass {V : Type 0} (view : V → ViewState) (x : Beginning) (nu
   pub front_is : p.front ≡ Some front
   pub front_clean : (view front).faults ≡ 0
   pub none_given : given_up p ≡ 0
+  pub marked : marks p ≡ record { upto = (view front).upto; seen = [] } ∷ []
+  pub none_looked : looks p ≡ []
   pub ahead : IsAhead view x p
 
 -- ---- the end

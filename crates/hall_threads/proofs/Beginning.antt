@@ -1,13 +1,14 @@
 -- A day begins on a log that shows no rows.
-use Rattle.std.proofs.Common.{◌≡◌, ◌⊎◌, inl, inr, ℕ, zero, suc, List, [], ◌∷◌, ◌++◌, map, length, Some, None, refl, sym, ap, ◌∙◌, subst, ⊎_elim, arith}
+use Rattle.std.proofs.Common.{◌≡◌, ◌⊎◌, inl, inr, ℕ, zero, suc, List, [], ◌∷◌, ◌++◌, map, length, Some, None, refl, sym, ap, ◌∙◌, subst, ⊎_elim, arith, ◌≤◌, zero-le}
 use mathlib.Core.Option.{some, some-injective, some-ne-none}
 use lib.ListN.{get_elem?}
 use Rattle.fine_places.proofs.Lists.{some_same}
 use Rattle.fine_model.specs.declared.Row.{Row}
-use Rattle.fine_model.specs.declared.Node.TheVariants as node
+use Rattle.fine_model.specs.declared.NodeId.{NodeId}
+use Rattle.fine_model.specs.RowBytes.{greatest}
 use Rattle.fine_model.specs.Regions.{header_in}
 use Rattle.fine_model.specs.Chain.{Shows, chain, parts_from, apart, chain_of, taken, AreRowsOf}
-use Rattle.fine_model.specs.Nodes.{content, replay, Agrees}
+use Rattle.fine_model.specs.Nodes.{base, content, replay, Agrees}
 use Rattle.fine_model.specs.History.{all_rows, upto}
 use Rattle.fine_model.specs.Views.{TellsRowsOf}
 use Rattle.fine_model.specs.Buckets.{Began, node_id}
@@ -18,21 +19,20 @@ use Rattle.fine_hall.specs.Halls.{IsFreshHall, IsFreshView, first_board}
 use Rattle.hall_threads.specs.declared.things.DayRoom.{DayRoom}
 use Rattle.hall_threads.specs.declared.things.DayBucket.{DayBucket}
 use Rattle.hall_threads.specs.declared.things.DayView.{DayView}
-use Rattle.hall_threads.specs.Days.{zero_image, day_log, key_bucket, leaf_at, board_of, room_state, room_log, view_state, view_of_log, IsFirstRoom}
-use Rattle.hall_threads.proofs.Standing.{day_stands}
+use Rattle.hall_threads.specs.Days.{zero_image, day_log, key_bucket, leaf_at, board_of, room_state, room_log, day_stands, job_of, view_state, view_of_log, IsFirstRoom}
 
 -- ---- the log shows no rows
 
-pub day_shows : Shows 41 zero_image 0 []
+pub day_shows : Shows 80 zero_image 0 []
 unfolding zero_image chain parts_from header_in apart chain_of taken AreRowsOf
 day_shows = record { parts = []; is_chain = refl; ends = refl; are_rows = refl }
 
 pub none_first : (e : ℕ) (first : List Row) → Began day_log e first → first ≡ []
-none_first e first b = sym (Shows-unique 41 zero_image 0 e [] first day_shows (subst (λ i. Shows 41 i e first) (some_same b.image zero_image (sym b.told)) b.shows)).1
+none_first e first b = sym (Shows-unique 80 zero_image 0 e [] first day_shows (subst (λ i. Shows 80 i e first) (some_same b.image zero_image (sym b.told)) b.shows)).1
 
-empty_head : (first : List Row) → first ≡ [] → content (first ++ []) (node_id key_bucket 0) ≡ (node.Head 1 2 1, 0)
+empty_nodes : (first : List Row) → first ≡ [] → (id : NodeId) → content (first ++ []) id ≡ base id
 unfolding content replay
-empty_head first none = ap (λ (f : List Row). content (f ++ []) (node_id key_bucket 0)) none
+empty_nodes first none id = ap (λ (f : List Row). content (f ++ []) id) none
 
 empty_leaf : (first : List Row) → first ≡ [] → content (first ++ []) (node_id key_bucket 1) ≡ leaf_at 0 0
 unfolding content replay
@@ -40,7 +40,7 @@ empty_leaf first none = ap (λ (f : List Row). content (f ++ []) (node_id key_bu
 
 -- ---- the views
 
-tells : TellsRowsOf (Some zero_image) 41 [] []
+tells : TellsRowsOf (Some zero_image) 80 [] []
 unfolding AreRowsOf
 tells = record { image = zero_image; is_told = refl; headers = tt; are_rows = refl }
 
@@ -73,13 +73,14 @@ module _ (room : DayRoom) (r : IsFirstRoom room) (fronts : List DayView) where
     stands = λ e first b. let none = none_first e first b in record {
       none_first = none;
       kept = ap (map (λ note. note.value)) r.kept;
-      head = empty_head first none;
+      few = subst (λ n. n ≤ greatest) (sym r.counts.1) zero-le;
+      others = λ id other. empty_nodes first none id;
       leaf = empty_leaf first none ∙ (λ i. leaf_at (sym r.counts.1 i) (sym r.value i));
     };
     places = r.counts.1;
     none_waits = r.counts.2;
     not_shut = refl;
-    no_job = refl;
+    no_job = ap job_of r.job;
     board = ap board_of r.board ∙ (λ i. first_board (map view_state (sym f i)) (map view_state (sym m i)));
     each_front = each 0 1 2 fronts f;
     each_middle = each 1 3 4 middles m;

@@ -1,5 +1,5 @@
 -- The bucket of the key goes on standing for the history, with the leaf that an entry leaves.
-use Rattle.std.proofs.Common.{◌≡◌, ◌⊎◌, inl, inr, ℕ, ◌≤◌, ◌==◌, ◌||◌, Bool, true, false, true≢false, List, [], ◌∷◌, ◌++◌, All, Option, Some, None, refl, sym, ap, ◌∙◌, subst, ⊎_elim, le_refl, eqb-true}
+use Rattle.std.proofs.Common.{◌≡◌, ◌⊎◌, inl, inr, ℕ, ◌≤◌, ◌==◌, ◌||◌, Bool, true, false, true≢false, List, [], ◌∷◌, ◌++◌, All, Option, Some, None, refl, sym, ap, ◌∙◌, subst, ⊎_elim, le_refl, le_trans, eqb-true}
 use Rattle.std.specs.Prelude.{if◌then◌else◌}
 use Rattle.std.proofs.lemmas.List.Elements.{All-head, All-tail}
 use Rattle.fine_places.proofs.Lists.{some_same}
@@ -14,7 +14,7 @@ use Rattle.fine_hall.specs.Turns.{committed, in_bucket}
 use Rattle.fine_hall.proofs.Bucket.{same_bucket}
 use Rattle.hall_threads.specs.declared.things.DayBucket.{DayBucket}
 use Rattle.hall_threads.specs.declared.things.Leaf.{Leaf}
-use Rattle.hall_threads.specs.Days.{key_bucket, leaf_at, put_entry, bucket_number, bucket_cached, cached_leaf, bucket_rests}
+use Rattle.hall_threads.specs.Days.{key_bucket, leaf_at, put_entry, bucket_number, bucket_cached, cached_leaf, bucket_rests, Evicts}
 use Rattle.hall_threads.proofs.Putting.{on_leaf}
 
 bool_cases : (b : Bool) → (b ≡ true) ⊎ (b ≡ false)
@@ -70,3 +70,23 @@ module _ (x : Beginning) (q version value lane epoch : ℕ) (old new : DayBucket
       cached n kept one there =
           let same : (leaf_at version value, epoch) ≡ kept = some_same (leaf_at version value, epoch) kept (sym (ap (λ b. if b then Some (leaf_at version value, epoch) else None) one) ∙ there) in
           subst (λ m. IsNodeFor x.log (node_id key_bucket m) kept (h ++ commit ∷ [])) (sym (eqb-true n 1 one)) (at_one kept same)
+
+-- ---- evicting
+
+up_later : (a b : ℕ) (id : NodeId) (history : List Commit) → a ≤ b → IsUpTo a id history → IsUpTo b id history
+up_later a b id [] le up = tt
+up_later a b id (c ∷ history) le up = (λ on. le_trans (up.0 on) le, up_later a b id history le up.1)
+
+-- a bucket without the leaf, whose last change is of a published epoch
+pub stands_evicted : (x : Beginning) (q : ℕ) (old new : DayBucket) (h : List Commit) → Evicts q old new → Stands x q old h → Stands x q new h
+stands_evicted x q old new h (inl same) s = subst (λ b. Stands x q b h) (sym same) s
+stands_evicted x q old new h (inr (leaf, there, old_enough, is)) s = subst (λ b. Stands x q b h) (sym is) (record {
+  number = s.number;
+  settled = record {};
+  nodes = λ n kept at. absurd (none_some kept at);
+  absent = λ n none. ⊎_elim
+      (λ one. subst (λ m. IsUpTo q (node_id key_bucket m) h) (sym (eqb-true n 1 one))
+      (up_later leaf.epoch q (node_id key_bucket 1) h old_enough (s.nodes 1 (leaf_at leaf.version leaf.value, leaf.epoch) (ap (λ o. cached_leaf o 1) there)).epoch))
+      (λ other. s.absent n (no_other old.leaf n other))
+      (bool_cases (n == 1));
+})

@@ -1,13 +1,14 @@
 -- Epochs of a history with a commit of the open epoch more.
-use Rattle.std.proofs.Common.{◌≡◌, ◌⊎◌, inl, inr, ℕ, ◌+◌, ◌≤◌, ◌==◌, true, cond, List, [], ◌∷◌, ◌++◌, All, refl, sym, ap, ◌∙◌, arith}
+use Rattle.std.proofs.Common.{◌≡◌, ◌⊎◌, inl, inr, ℕ, ◌+◌, ◌<◌, ◌≤◌, ◌==◌, true, ne_eqb, cond, List, [], ◌∷◌, ◌++◌, All, refl, sym, ap, ◌∙◌, arith}
 use Rattle.std.specs.Prelude.{count_by}
-use Rattle.std.proofs.lemmas.List.Elements.{All-cons, All-nil, All-weaker}
-use Rattle.std.proofs.lemmas.List.Sums.{sum_by_push}
+use Rattle.std.proofs.lemmas.List.Elements.{All-cons, All-nil, All-weaker, All-head, All-tail}
+use Rattle.std.proofs.lemmas.List.Sums.{sum_by_push, sum_by-cons}
 use Rattle.std.proofs.lemmas.Grind.{flat_map-append}
 use Rattle.std.proofs.lemmas.List.{append-nil}
-use Rattle.fine_model.specs.History.{Commit, all_rows, last_epoch}
+use Rattle.fine_model.specs.History.{Commit, all_rows, last_epoch, upto}
 use Rattle.fine_model.specs.Outcomes.{EpochsGoOn, EpochsFollow}
 use Rattle.fine_model.specs.Room.{IsSealedUpTo}
+use Rattle.fine_model.proofs.HistoryLaws.{upto-last}
 
 pub rows_push : (history : List Commit) (c : Commit) → all_rows (history ++ c ∷ []) ≡ all_rows history ++ c.entry.rows
 rows_push history c = flat_map-append (λ (d : Commit). d.entry.rows) history (c ∷ []) ∙ ap (λ rows. all_rows history ++ rows) (append-nil c.entry.rows)
@@ -58,3 +59,40 @@ pub epochs_below : (e : ℕ) (history : List Commit) (sealed : ℕ) → EpochsFo
 epochs_below e history sealed follow up_to =
     let l = last_sealed e history sealed up_to in
     All-weaker (λ b. b.epoch ≤ last_epoch e history) (λ b. b.epoch ≤ sealed + 1) (λ b h. omega (arith, h, l)) history (all_epochs e history follow)
+
+-- ---- sealing
+
+-- of no epoch above all there are commits
+none_above : (n : ℕ) (history : List Commit) → All (λ c. c.epoch ≤ n) history → count_by (λ (c : Commit). c.epoch == n + 1) history ≡ 0
+none_above n [] all = refl
+none_above n (c ∷ history) all =
+    let h = All-head (λ (c : Commit). c.epoch ≤ n) c history all in
+    let s = sum_by-cons (λ (d : Commit). cond (d.epoch == n + 1) 1 0) c history in
+    let e = ap {B = ℕ} (λ b. cond b 1 0) (ne_eqb c.epoch (n + 1) (λ is. omega (arith, h, is))) in
+    let t = none_above n history (All-tail (λ (c : Commit). c.epoch ≤ n) c history all) in
+    omega (arith, s, e, t)
+
+-- and of the last epoch there is one
+some_last : (n : ℕ) (c : Commit) (history : List Commit) → last_epoch c.epoch history ≡ n → 1 ≤ count_by (λ (d : Commit). d.epoch == n) (c ∷ history)
+some_last n c [] is = let s = sum_by-cons (λ (d : Commit). cond (d.epoch == n) 1 0) c [] in let e = ap {B = ℕ} (λ b. cond b 1 0) (same_is c.epoch n is) in omega (arith, s, e)
+some_last n c (d ∷ history) is = let s = sum_by-cons (λ (d : Commit). cond (d.epoch == n) 1 0) c (d ∷ history) in let t = some_last n d history is in omega (arith, s, t)
+
+-- where none waits, all is sealed
+pub all_sealed : (e : ℕ) (history : List Commit) (sealed : ℕ) → EpochsFollow e history → IsSealedUpTo e history sealed → 0 ≡ count_by (λ (c : Commit). c.epoch == sealed + 1) history → upto history sealed ≡ history
+all_sealed e history sealed follow up_to none = upto-last e sealed history follow (last history up_to none)
+  where
+    last : (history : List Commit) → IsSealedUpTo e history sealed → 0 ≡ count_by (λ (c : Commit). c.epoch == sealed + 1) history → last_epoch e history ≤ sealed
+    last [] is none = omega (arith, is)
+    last (c ∷ history) (inl is) none = omega (arith, is)
+    last (c ∷ history) (inr is) none = let some = some_last (sealed + 1) c history is in absurd (omega (arith, some, none))
+
+-- the open epoch is sealed, in which some entry waits
+pub seals : (e : ℕ) (history : List Commit) (sealed : ℕ) → EpochsFollow e history → IsSealedUpTo e history sealed → 0 < count_by (λ (c : Commit). c.epoch == sealed + 1) history → IsSealedUpTo e history (sealed + 1)
+seals e [] sealed follow is some = absurd (omega (arith, some))
+seals e (c ∷ history) sealed follow (inr is) some = inl is
+seals e (c ∷ history) sealed follow (inl is) some =
+    let none = none_above sealed (c ∷ history) (All-weaker (λ (b : Commit). b.epoch ≤ last_epoch e (c ∷ history)) (λ (b : Commit). b.epoch ≤ sealed) (λ b h. omega (arith, h, is)) (c ∷ history) (all_epochs e (c ∷ history) follow)) in
+    absurd (omega (arith, some, none))
+
+pub none_wait : (e : ℕ) (history : List Commit) (sealed : ℕ) → EpochsFollow e history → IsSealedUpTo e history sealed → 0 ≡ count_by (λ (c : Commit). c.epoch == (sealed + 1) + 1) history
+none_wait e history sealed follow up_to = sym (none_above (sealed + 1) history (epochs_below e history sealed follow up_to))

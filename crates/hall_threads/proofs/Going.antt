@@ -9,13 +9,13 @@ use Rattle.fine_model.specs.Buckets.{IsBucketFor}
 use Rattle.fine_hall.specs.declared.law.Beginning.{Beginning}
 use Rattle.fine_hall.specs.declared.pass.Pass.{Pass}
 use Rattle.fine_hall.specs.Turns.{added, committed, commits, is_in, in_bucket, room_after}
-use Rattle.fine_hall.specs.Passes.{turns, own_turns, seen, mine, published, HasPlace, LacksJob}
-use Rattle.fine_hall.specs.Halls.{SeesMore, GivesRoom}
+use Rattle.fine_hall.specs.Passes.{turns, own_turns, seen, mine, published, last_room, HasPlace, LacksJob}
+use Rattle.fine_hall.specs.Halls.{SeesMore, GivesRoom, TakesRoom}
 use Rattle.fine_hall.proofs.Turning.{commits_one, after_last}
 use Rattle.hall_threads.specs.declared.things.DayRoom.{DayRoom}
 use Rattle.hall_threads.specs.declared.things.DayBucket.{DayBucket}
 use Rattle.hall_threads.specs.declared.things.DayView.{DayView}
-use Rattle.hall_threads.specs.Days.{key_bucket, put_entry, put_calls, room_state, bucket_number, bucket_cached, bucket_rests}
+use Rattle.hall_threads.specs.Days.{key_bucket, put_entry, put_calls, room_state, view_state, job_of, bucket_number, bucket_cached, bucket_rests}
 use Rattle.hall_threads.proofs.Idle.{near}
 use Rattle.hall_threads.proofs.Caching.{Stands, stands_more}
 
@@ -61,10 +61,22 @@ calls_one before after entry epoch is = ap put_calls is ∙ map-append (λ (c : 
 
 -- ---- the job
 
--- a room of a day has no job
-pub no_job : (x : Beginning) (room : DayRoom) (entry : Option Entry) (epoch : ℕ) (t : TurnNote) (p p' p'' : Pass DayView) → GivesRoom (room_state room) entry epoch t p p' → turns p'' ≡ turns p' → LacksJob x p''
-no_job x room entry epoch t p p' p'' g same one =
-    ap (λ l. (room_after x.room l).job) (same ∙ g.turns_more) ∙ ap (λ (r : RoomState). r.job) (after_last x.room (turns p) (record { seat = p.number; item = record { entry = entry; epoch = epoch; room = room_state room; returned = t.in_hand } }))
+-- the seat 1 finds the job as it left it
+pub job_found : (x : Beginning) (p p' : Pass DayView) (room : DayRoom) → TakesRoom view_state x (room_state room) p p' → p.number ≡ 1 → job_of room.job ≡ (last_room x p).job
+job_found x p p' room t one = (t.same_job one).job
+
+-- a room without a job was given back
+pub no_job : (x : Beginning) (room : DayRoom) (entry : Option Entry) (epoch : ℕ) (t : TurnNote) (p p' p'' : Pass DayView) → GivesRoom (room_state room) entry epoch t p p' → turns p'' ≡ turns p' → (p''.number ≡ 1 → job_of room.job ≡ None) → LacksJob x p''
+no_job x room entry epoch t p p' p'' g same none one =
+    ap (λ l. (room_after x.room l).job) (same ∙ g.turns_more) ∙ ap (λ (r : RoomState). r.job) (after_last x.room (turns p) (record { seat = p.number; item = record { entry = entry; epoch = epoch; room = room_state room; returned = t.in_hand } })) ∙ none one
 
 pub job_stays : (x : Beginning) (p p' : Pass DayView) → turns p' ≡ turns p → p'.number ≡ p.number → LacksJob x p → LacksJob x p'
 job_stays x p p' same number lacks one = ap (λ l. (room_after x.room l).job) same ∙ lacks (sym number ∙ one)
+
+pub job_left : (x : Beginning) (room : DayRoom) (entry : Option Entry) (epoch : ℕ) (t : TurnNote) (p p' : Pass DayView) → GivesRoom (room_state room) entry epoch t p p' → (last_room x p').job ≡ job_of room.job
+job_left x room entry epoch t p p' g =
+    ap (λ l. (room_after x.room l).job) g.turns_more ∙ ap (λ (r : RoomState). r.job) (after_last x.room (turns p) (record { seat = p.number; item = record { entry = entry; epoch = epoch; room = room_state room; returned = t.in_hand } }))
+
+pub job_there : (b : Bool) → job_of b ≡ job_of true → b ≡ true
+job_there true e = refl
+job_there false e = absurd cc

@@ -48,3 +48,13 @@ module _ (b : ℕ) (key : b ≡ key_bucket) (h h₁ h₂ : List Bool) (idle : (k
           (λ (nr : k ≢ places.room). set_else h₂ places.room k false nr ∙ (ap (λ l. get_elem? l k) e₂ ∙ (set_else h₁ places.room k true nr ∙ (ap (λ l. get_elem? l k) e₁ ∙ (set_else h b k true ne ∙ idle k le)))))
           (decide k places.room))))
           (decide k b)
+
+-- a pass that held nothing holds nothing once it took a place and gave it back
+pub idle_place : (b : ℕ) → b ≤ places.room → (h h₁ h₂ : List Bool) → ((k : ℕ) → k ≤ places.room → get_elem? h k ≡ some false) → h₁ ≡ set h b true → h₂ ≡ set h₁ b false → (k : ℕ) → k ≤ places.room → get_elem? h₂ k ≡ some false
+idle_place b low h h₁ h₂ idle e₁ e₂ k le = ap (λ l. get_elem? l k) e₂ ∙ ⊎_elim
+    (λ (is : k ≡ b). ap (λ j. get_elem? (set h₁ b false) j) is ∙ set_at h₁ b true false (ap (λ l. get_elem? l b) e₁ ∙ set_at h b false true (idle b low)))
+    (λ (ne : k ≢ b). set_else h₁ b k false ne ∙ (ap (λ l. get_elem? l k) e₁ ∙ (set_else h b k true ne ∙ idle k le)))
+    (decide k b)
+
+pub below : (b : ℕ) → b ≡ key_bucket → b ≤ places.room
+below b key = let lt = near b key in omega arith

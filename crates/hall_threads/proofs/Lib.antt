@@ -8,3 +8,6 @@ pub mod Beginning
 pub mod Ending
 pub mod Fresh
 pub mod Rounds
+pub mod Telling
+pub mod Shown
+pub mod Fronts

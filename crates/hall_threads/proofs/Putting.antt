@@ -77,11 +77,11 @@ on_leaf n other = ap (λ b. (key_bucket == key_bucket) && b) other ∙ and_false
 is_leaf : is_node (node_id key_bucket 1) (node_id key_bucket 1) ≡ true
 is_leaf = ap (λ b. b && true) (eq-eqb key_bucket key_bucket refl)
 
-pub others_stay : (first : List Row) (history : List Commit) (lane version value epoch n : ℕ) → (n == 1) ≡ false
-    → content (first ++ all_rows (history ++ record { entry = put_entry lane key_bucket version value; epoch = epoch } ∷ [])) (node_id key_bucket n) ≡ content (first ++ all_rows history) (node_id key_bucket n)
+pub others_stay : (first : List Row) (history : List Commit) (lane version value epoch : ℕ) (id : NodeId) → is_node id (node_id key_bucket 1) ≡ false
+    → content (first ++ all_rows (history ++ record { entry = put_entry lane key_bucket version value; epoch = epoch } ∷ [])) id ≡ content (first ++ all_rows history) id
 unfolding replay
-others_stay first history lane version value epoch n other = more_content first history (record { entry = put_entry lane key_bucket version value; epoch = epoch }) (node_id key_bucket n)
-    ∙ ap (λ b. replay (content (first ++ all_rows history) (node_id key_bucket n)) (cond b (put_row key_bucket version value ∷ []) [])) (on_leaf n other)
+others_stay first history lane version value epoch id other = more_content first history (record { entry = put_entry lane key_bucket version value; epoch = epoch }) id
+    ∙ ap (λ b. replay (content (first ++ all_rows history) id) (cond b (put_row key_bucket version value ∷ []) [])) other
 
 stepped : (version old value : ℕ) (none : Bool) → step (node.Leaf (leaf_pairs none old), version) (put_row key_bucket (version + 1) value) ≡ (node.Leaf (pair value ∷ []), version + 1)
 unfolding step changed set

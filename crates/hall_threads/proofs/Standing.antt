@@ -1,5 +1,5 @@
 -- What may be given back behind a transaction.
-use Rattle.std.proofs.Common.{◌≡◌, inl, ℕ, ◌+◌, ◌<◌, ◌≤◌, ◌==◌, true, true≢false, List, [], ◌∷◌, ◌++◌, length, All, Option, Some, None, refl, sym, ap, ◌∙◌, subst, arith, append-nil, le_refl}
+use Rattle.std.proofs.Common.{◌≡◌, ◌≢◌, inl, ℕ, ◌+◌, ◌<◌, ◌≤◌, ◌==◌, true, true≢false, List, [], ◌∷◌, ◌++◌, length, All, Option, Some, None, refl, sym, ap, ◌∙◌, subst, arith, append-nil, le_refl}
 use Rattle.std.specs.Prelude.{count_by}
 use Rattle.std.proofs.lemmas.List.{map-append}
 use Rattle.fine_places.proofs.Lists.{some_same}
@@ -12,7 +12,7 @@ use Rattle.fine_model.specs.History.{Commit, IsLegal}
 use Rattle.fine_model.specs.Becomes.{Becomes, IsStuck}
 use Rattle.fine_model.specs.Room.{IsSealedUpTo}
 use Rattle.fine_model.specs.Jobs.{KeepsJob}
-use Rattle.fine_model.specs.Buckets.{Began}
+use Rattle.fine_model.specs.Buckets.{Began, node_id}
 use Rattle.fine_model.proofs.HistoryLaws.{IsLegal-push}
 use Rattle.fine_hall.specs.declared.law.Beginning.{Beginning}
 use Rattle.fine_hall.specs.declared.pass.Pass.{Pass}
@@ -22,12 +22,9 @@ use Rattle.fine_hall.specs.Passes.{seen, turns, published, last_room, HasPlace}
 use Rattle.fine_hall.specs.Halls.{TakesRoom, MayGiveRoom, MayGive}
 use Rattle.hall_threads.specs.declared.things.DayRoom.{DayRoom}
 use Rattle.hall_threads.specs.declared.things.DayView.{DayView}
-use Rattle.hall_threads.specs.Days.{zero_image, key_bucket, leaf_at, put_entry, board_of, room_state, room_log, StandsFor, view_state, Appends}
+use Rattle.hall_threads.specs.Days.{zero_image, key_bucket, leaf_at, put_entry, board_of, room_state, room_log, StandsFor, day_stands, job_of, view_state, Appends}
 use Rattle.hall_threads.proofs.Epochs.{epochs_below, waiting_push, sealed_push, follow_push}
-use Rattle.hall_threads.proofs.Putting.{next_put, leaf_after, others_stay}
-
-abbrev pub day_stands : DayRoom → List Row → ℕ → List Commit → Type 0
-day_stands room first e history = StandsFor room first history
+use Rattle.hall_threads.proofs.Putting.{next_put, leaf_after, on_leaf, others_stay}
 
 four_free : length (free_regions zero_image) ≡ 4
 unfolding zero_image is_free
@@ -36,14 +33,14 @@ four_free = refl
 never_stuck : (room : DayRoom) → IsStuck (room_state room) → ⊥
 never_stuck room s = let few = subst (λ i. length (free_regions i) < 2) (some_same s.image zero_image (sym s.told)) s.few_free in let four = four_free in absurd (omega arith)
 
-day_becomes : (old new : DayRoom) → new.sealed ≡ old.sealed → old.places ≤ new.places → new.faults ≡ old.faults → Becomes (room_state old) (room_state new)
+pub day_becomes : (old new : DayRoom) → old.sealed ≤ new.sealed → old.places ≤ new.places → old.faults ≤ new.faults → Becomes (room_state old) (room_state new)
 day_becomes old new sealed places faults = record {
   region_len = refl;
   regions = refl;
   told = refl;
-  sealed = omega (arith, sealed);
+  sealed = sealed;
   places = places;
-  faults = omega (arith, faults);
+  faults = faults;
   own_faults = le_refl 0;
   shut = λ is. absurd (true≢false (sym is));
   shut_by = λ is. absurd (true≢false (sym is));
@@ -54,18 +51,18 @@ module _ (x : Beginning) (p₀ p : Pass DayView) (room : DayRoom) (r : IsRoomFor
   last : (P : RoomState → Type 0) → P (room_state room) → P (last_room x p)
   last P h = subst P r.last h
 
-  may_give : (new : DayRoom) (entry : Option Entry) (epoch : ℕ) → new.sealed ≡ room.sealed → new.places ≡ places_more room.places entry → new.faults ≡ room.faults → new.board.items ≡ room.board.items
+  pub may_give : (new : DayRoom) (entry : Option Entry) (epoch : ℕ) → (p.number ≢ 1 → new.job ≡ room.job) → new.sealed ≡ room.sealed → new.places ≡ places_more room.places entry → new.faults ≡ room.faults → new.board.items ≡ room.board.items
       → ((e : ℕ) (first : List Row) → Began x.log e first → StandsFor new first (seen p ++ added entry epoch)) → CountsEpochs x (room_state new) (seen p ++ added entry epoch) → MayGive x (room_state new) entry epoch p → room.places ≤ new.places
       → MayGiveRoom room_state room_log day_stands x new entry epoch t.turn p
-  may_give new entry epoch sealed places faults board stands epochs commits more = record {
+  may_give new entry epoch job sealed places faults board stands epochs commits more = record {
     log = r.log;
     stands = stands;
-    becomes = last (λ s. Becomes s (room_state new)) (day_becomes room new sealed more faults);
+    becomes = last (λ s. Becomes s (room_state new)) (day_becomes room new (omega (arith, sealed)) more (omega (arith, faults)));
     places = last (λ (s : RoomState). new.places ≡ places_more s.places entry) places;
     epochs = epochs;
     top = let top = t.top in omega (arith, top, sealed);
     board = ap board_of board ∙ sym t.board;
-    job = λ _. last (λ s. KeepsJob s (room_state new)) (record { job = refl; held = λ j is. refl });
+    job = λ ne. last (λ s. KeepsJob s (room_state new)) (record { job = ap job_of (job ne); held = λ j is. refl });
     counted = inl (last (λ (s : RoomState). s.faults + t.turn.in_hand ≤ new.faults) (let none = t.none_in_hand in omega (arith, none, faults)));
     commits = commits;
   }
@@ -73,7 +70,7 @@ module _ (x : Beginning) (p₀ p : Pass DayView) (room : DayRoom) (r : IsRoomFor
   pub may_give_none : MayGiveRoom room_state room_log day_stands x room None 0 t.turn p
   may_give_none =
       let h = sym (append-nil (seen p)) in
-      may_give room None 0 refl refl refl refl (λ e first b. subst (StandsFor room first) h (r.stands e first b)) (subst (CountsEpochs x (room_state room)) h r.epochs) (record {}) (le_refl room.places)
+      may_give room None 0 (λ _. refl) refl refl refl refl (λ e first b. subst (StandsFor room first) h (r.stands e first b)) (subst (CountsEpochs x (room_state room)) h r.epochs) (record {}) (le_refl room.places)
 
   module _ (new : DayRoom) (lane value : ℕ) (a : Appends (put_entry lane key_bucket (room.places + 1) value) room new) (value_is : new.value ≡ value) where
     abbrev entry : Entry
@@ -89,7 +86,8 @@ module _ (x : Beginning) (p₀ p : Pass DayView) (room : DayRoom) (r : IsRoomFor
     stands_after e first b = let s = r.stands e first b in record {
       none_first = s.none_first;
       kept = a.kept ∙ ((λ i. s.kept i ++ entry ∷ []) ∙ sym (map-append (λ (c : Commit). c.entry) (seen p) (commit ∷ [])));
-      head = others_stay first (seen p) lane (room.places + 1) value epoch 0 refl ∙ s.head;
+      few = let more = a.places in let few = a.few.0 in omega (arith, more, few);
+      others = λ id other. others_stay first (seen p) lane (room.places + 1) value epoch id other ∙ s.others id other;
       leaf = leaf_after first (seen p) lane room.places room.value value epoch s.leaf ∙ (λ i. leaf_at (sym a.places i) (sym value_is i));
     }
 
@@ -104,10 +102,10 @@ module _ (x : Beginning) (p₀ p : Pass DayView) (room : DayRoom) (r : IsRoomFor
     all_below = epochs_below x.room.sealed (seen p) room.sealed r.epochs.follow r.epochs.sealed
 
     legal_after : (e : ℕ) (first : List Row) → Began x.log e first → IsLegal first (seen p) → IsLegal first (seen p ++ commit ∷ [])
-    legal_after e first b legal = let s = r.stands e first b in IsLegal-push first (seen p) commit legal (next_put first (seen p) lane room.places room.value value epoch a.few.0 s.head s.leaf all_below)
+    legal_after e first b legal = let s = r.stands e first b in IsLegal-push first (seen p) commit legal (next_put first (seen p) lane room.places room.value value epoch a.few.0 (s.others (node_id key_bucket 0) (on_leaf 0 refl)) s.leaf all_below)
 
     pub may_give_put : ((e : ℕ) (first : List Row) → Began x.log e first → IsLegal first (seen p)) → ((k : ℕ) → k < places.room → is_in k entry ≡ true → HasPlace p k) → MayGiveRoom room_state room_log day_stands x new (Some entry) epoch t.turn p
-    may_give_put legal held = may_give new (Some entry) epoch a.sealed a.places a.faults a.board stands_after epochs_after (record {
+    may_give_put legal held = may_give new (Some entry) epoch (λ _. a.job) a.sealed a.places a.faults a.board stands_after epochs_after (record {
       open_epoch = ap (λ n. n + 1) (sym a.sealed);
       legal = λ e first b. legal_after e first b (legal e first b);
       touched = held;

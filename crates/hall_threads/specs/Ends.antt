@@ -1,6 +1,9 @@
 -- What the end of a day tells.
-use Rattle.std.specs.Prelude.{◌≡◌, ℕ, ◌<◌, ◌≤◌, List, [], ◌∷◌, ◌++◌, map, length, replicate, All}
+use Rattle.std.specs.Prelude.{◌≡◌, ◌≢◌, ◌⊎◌, ◌+◌, sum_by, IfSome, ℕ, ◌<◌, ◌≤◌, List, [], ◌∷◌, ◌++◌, map, length, replicate, All}
 use Rattle.std.specs.List.{AllByRecursion}
+use Rattle.fine_model.specs.declared.Node.TheVariants as node
+use Rattle.fine_model.specs.RowBytes.{greatest}
+use Rattle.fine_model.specs.Faults.{last_count}
 use Rattle.fine_model.specs.Nodes.{content}
 use Rattle.fine_model.specs.History.{IsLegal, all_rows, upto}
 use Rattle.fine_model.specs.Outcomes.{EpochsFollow}
@@ -12,10 +15,13 @@ use Rattle.fine_boxes.specs.declared.model.Mark.{Mark}
 use Rattle.fine_hall.specs.declared.turn.Turn.{Turn}
 use Rattle.fine_hall.specs.declared.pass.Pass.{Pass}
 use Rattle.fine_hall.specs.Turns.{commits}
-use Rattle.fine_hall.specs.Passes.{turns, own_turns, marks}
+use Rattle.fine_hall.specs.declared.law.Beginning.{Beginning}
+use Rattle.fine_hall.specs.Passes.{turns, own_turns, marks, troubles}
 use Rattle.hall_threads.specs.declared.things.DayRoom.{DayRoom}
 use Rattle.hall_threads.specs.declared.things.DayView.{DayView}
-use Rattle.hall_threads.specs.Days.{key_bucket, leaf_at, put_call, put_calls}
+use Rattle.hall_threads.specs.declared.things.Sight.{Sight}
+use Rattle.hall_threads.specs.declared.threads.Said.{Said}
+use Rattle.hall_threads.specs.Days.{key_bucket, leaf_at, leaf_id, put_call, put_calls, view_state}
 
 -- All turns, each of one of the two seats, make a legal history of the epochs behind 0; the room keeps their entries in this order, and
 -- what they leave of the key is what it knows.
@@ -33,18 +39,36 @@ pub record Saw (all : List (Placed Turn)) (room : DayRoom) (p : Pass DayView) : 
   pub front : (more : List (Placed Turn)) × (all ≡ turns p ++ more)
   pub marks : AllByRecursion (λ (k : Mark Turn). (upto (commits all) k.upto ≡ upto (commits k.seen) k.upto) × (k.upto ≤ room.sealed)) (marks p)
 
+-- The counts of the room and of the views that came back are these faults together; the room's own stands still at its last value.
+pub record Counts (faults : ℕ) (room : DayRoom) : Type 0 where
+  pub views : List DayView
+  pub high : room.faults + sum_by (λ v. v.faults) views ≤ faults
+  pub low : (faults ≤ room.faults + sum_by (λ v. v.faults) views) ⊎ (last_count ≤ room.faults)
+
 -- both passes at the end
-pub record Ends (one two : Pass DayView) (room : DayRoom) : Type 0 where
+pub record Ends (x : Beginning) (one two : Pass DayView) (room : DayRoom) : Type 0 where
   pub all : List (Placed Turn)
   pub whole : IsWhole all room
   pub own_first : own_turns one ≡ by_seat 1 all
   pub own_second : own_turns two ≡ by_seat 2 all
   pub saw_first : Saw all room one
   pub saw_second : Saw all room two
+  pub counts : Counts (x.room.faults + (troubles view_state x one + troubles view_state x two)) room
 
--- There is one list of turns, and in it the transactions of each seat are those that its thread said.
-pub record IsDay (first second a b : ℕ) (room : DayRoom) : Type 0 where
+-- What was read is the leaf that a front of all turns leaves up to some epoch, unless it is broken.
+pub record ReadIn (all : List (Placed Turn)) (sight : Sight) : Type 0 where
+  pub front : List (Placed Turn)
+  pub is_front : (more : List (Placed Turn)) × (all ≡ front ++ more)
+  pub epoch : ℕ
+  pub leaf : sight.version ≤ greatest → (content (all_rows (upto (commits front) epoch)) leaf_id).0 ≢ node.Broken → content (all_rows (upto (commits front) epoch)) leaf_id ≡ leaf_at sight.version sight.value
+
+-- There is one list of turns, and in it the transactions of each seat are those that its thread said, and what it read last. The faults that both
+-- said are all that were counted.
+pub record IsDay (first second : ℕ) (a b : Said) (room : DayRoom) : Type 0 where
   pub all : List (Placed Turn)
   pub whole : IsWhole all room
-  pub of_first : put_calls (commits (by_seat 1 all)) ≡ replicate a (put_call first ∷ [])
-  pub of_second : put_calls (commits (by_seat 2 all)) ≡ replicate b (put_call second ∷ [])
+  pub of_first : put_calls (commits (by_seat 1 all)) ≡ replicate a.done (put_call first ∷ [])
+  pub of_second : put_calls (commits (by_seat 2 all)) ≡ replicate b.done (put_call second ∷ [])
+  pub read_first : IfSome a.last (ReadIn all)
+  pub read_second : IfSome b.last (ReadIn all)
+  pub counts : Counts (a.failed + b.failed) room

@@ -1,2 +1,5 @@
 pub mod Days
 pub mod Ends
+pub mod Turnover
+pub mod Readings
+pub mod Sayings

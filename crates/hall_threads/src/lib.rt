@@ -2,8 +2,12 @@
 #![tactic(auto)]
 
 mod entries;
+mod evicting;
+mod merging;
 mod opening;
+mod reading;
 mod round;
+mod showing;
 #[cfg(test)]
 mod tests;
 mod things;
@@ -11,9 +15,13 @@ mod threads;
 mod transaction;
 mod whole_day;
 
+pub use evicting::evict;
+pub use merging::merge;
 pub use opening::open;
+pub use reading::{Failed, look_through};
 pub use round::look_up;
-pub use things::{DayBucket, DayRoom, DayView, Leaf};
-pub use threads::{both, put_times};
+pub use showing::turn_over;
+pub use things::{DayBucket, DayRoom, DayView, Leaf, Sight};
+pub use threads::{Said, both, put_times};
 pub use transaction::{DayHall, put, the_bucket};
 pub use whole_day::{day, end};

@@ -3,9 +3,9 @@
 ghost use Rattle.std.specs.Prelude.{◌≡◌, ◌∷◌, [], IfOk, IfSome, Some, None, length};
 ghost use Rattle.fine_hall.specs.Halls.{AreFreshBuckets, begun};
 ghost use Rattle.fine_hall.specs.Opening.{HandedOut};
-ghost use Rattle.hall_threads.specs.Days.{bucket_number, bucket_cached, bucket_rests, view_of_log, first_numbers, room_state, room_log, view_state, IsFirstRoom};
+ghost use Rattle.hall_threads.specs.Days.{bucket_number, bucket_cached, bucket_rests, view_of_log, first_sights, sight_of_log, room_state, room_log, view_state, IsFirstRoom};
 
-use crate::things::{DayBucket, DayRoom, DayView};
+use crate::things::{DayBucket, DayRoom, DayView, Sight};
 use crate::transaction::DayHall;
 use fine_hall::{Hall, Pass};
 use std::alloc::{AllocError, Global};
@@ -38,21 +38,32 @@ fn view(seat: u32, buffer: u8, eye: u64) -> DayView
         seat,
         buffer,
         upto: 0,
-        eye,
+        sight: sight(eye),
+        fails: eye == 2,
         faults: 0,
     }
 }
 
+fn sight(number: u64) -> Sight
+    ensures { result ≡ sight_of_log number }
+{
+    Sight {
+        number,
+        version: 0,
+        value: 0,
+    }
+}
+
 /// The board on which the fronts have the eyes 1 and 2, and the middles 3 and 4.
-fn first_board(alloc: Global) -> Result<Vec<Option<u64>>, AllocError>
-    ensures { IfOk result (λ board. board.items ≡ first_numbers) }
+fn first_board(alloc: Global) -> Result<Vec<Option<Sight>>, AllocError>
+    ensures { IfOk result (λ board. board.items ≡ first_sights) }
 {
     let mut board = Vec::with_capacity(alloc, 6)?;
-    board.push_reserved(Some(1));
-    board.push_reserved(Some(3));
+    board.push_reserved(Some(sight(1)));
+    board.push_reserved(Some(sight(3)));
     board.push_reserved(None);
-    board.push_reserved(Some(2));
-    board.push_reserved(Some(4));
+    board.push_reserved(Some(sight(2)));
+    board.push_reserved(Some(sight(4)));
     board.push_reserved(None);
     Ok(board)
 }
@@ -70,15 +81,19 @@ fn first_room(alloc: Global, most: usize) -> Result<DayRoom, AllocError>
         faults: 0,
         value: 0,
         board,
+        opened: 4,
+        job: false,
         kept,
     })
 }
 
-/// A hall of two seats over a log that shows no rows, whose room has memory for so many entries, and its passes. None where there is
-/// no memory.
+/// A hall of two seats over a log that shows no rows, whose room has memory for so many entries, and its passes. The first read through
+/// the front of the seat 2 will fail. None where there is no memory.
 pub fn open(alloc: Global, most: usize) -> Option<(DayHall, Vec<Pass<DayView>>)>
     ensures seats { IfSome result (λ made. (begun room_state room_log view_state made.0).seats ≡ 2) }
     ensures sealed { IfSome result (λ made. (begun room_state room_log view_state made.0).room.sealed ≡ 0) }
+    ensures faults { IfSome result (λ made. (begun room_state room_log view_state made.0).room.faults ≡ 0) }
+    ensures no_job { IfSome result (λ made. (begun room_state room_log view_state made.0).room.job ≡ None) }
     ensures count { IfSome result (λ made. length made.1.items ≡ 2) }
     ensures passes { IfSome result (λ made. HandedOut view_state made.0.table.shared.table_id (begun room_state room_log view_state made.0) (view_of_log 1 0 1 ∷ view_of_log 2 0 2 ∷ []) made.1.items) }
 {

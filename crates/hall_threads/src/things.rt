@@ -5,6 +5,14 @@ ghost use Rattle.hall_threads.specs.Days.{room_state, room_log, StandsFor, bucke
 use fine_model::{BucketLaw, Entry, RoomLaw, ViewLaw};
 use std::snapshot::Snapshot;
 
+/// What a view tells of the leaf of the key, by the number of its eye: so many changes, of which this was the last.
+#[derive(Clone, Copy, Drop)]
+pub struct Sight {
+    pub number: u64,
+    pub version: u64,
+    pub value: u8,
+}
+
 /// The room of a log of four regions of zero bytes. It keeps the entries that it was given, in order, for as many as it has memory.
 #[derive(Drop)]
 pub struct DayRoom {
@@ -14,8 +22,11 @@ pub struct DayRoom {
     pub faults: u64,
     /// The value that was put last.
     pub value: u8,
-    /// The numbers of the eyes of the views that are out, three buffers for each seat.
-    pub board: Vec<Option<u64>>,
+    /// The eyes of the views that are out, three buffers for each seat, and how many were opened.
+    pub board: Vec<Option<Sight>>,
+    pub opened: u64,
+    /// Whether a merge job is out.
+    pub job: bool,
     pub kept: Vec<Snapshot<Entry>>,
 }
 
@@ -50,13 +61,15 @@ impl BucketLaw for DayBucket {
     ghost is_settled = { bucket_rests };
 }
 
-/// A view of the log as it was at entry, by the number of its eye.
+/// A view, by what it tells.
 #[derive(Drop)]
 pub struct DayView {
     pub seat: u32,
     pub buffer: u8,
     pub upto: u64,
-    pub eye: u64,
+    pub sight: Sight,
+    /// Whether the next read fails.
+    pub fails: bool,
     pub faults: u64,
 }
 

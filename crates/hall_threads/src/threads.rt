@@ -1,11 +1,16 @@
 //! Two threads that put values on one hall.
 
-ghost use Rattle.std.specs.Prelude.{◌≡◌, ◌++◌, [], ◌∷◌, if◌then◌else◌, replicate};
+ghost use Rattle.std.specs.Prelude.{◌≡◌, ◌++◌, ◌+◌, [], ◌∷◌, if◌then◌else◌, replicate, IfSome};
 ghost use Rattle.fine_hall.specs.Passes.{mine};
-ghost use Rattle.hall_threads.specs.Days.{key_bucket, put_call, put_calls, IsIdlePass};
+ghost use Rattle.hall_threads.specs.Days.{key_bucket, put_call, put_calls, IsIdlePass, IsForTwo, met};
+ghost use Rattle.hall_threads.specs.Readings.{TellsLeaf};
+ghost use Rattle.hall_threads.specs.Sayings.{failures, Says};
 
-use crate::round::look_up;
-use crate::things::DayView;
+use crate::evicting::evict;
+use crate::merging::merge;
+use crate::reading::{Failed, look_through};
+use crate::showing::turn_over;
+use crate::things::{DayView, Sight};
 use crate::transaction::{DayHall, put};
 use fine_hall::Pass;
 use std::alloc::Global;
@@ -25,6 +30,7 @@ fn put_at_last<W: Wait>(
     requires pass { IsIdlePass hall.now pass.old }
     requires bucket { bucket ≡ key_bucket }
     ensures pass { IsIdlePass hall.now pass.new × (pass.new.number ≡ pass.old.number) }
+    ensures met { met hall.now pass.new ≡ met hall.now pass.old }
     ensures more { put_calls (mine pass.new) ≡ put_calls (mine pass.old) ++ (if result then (put_call value ∷ []) ∷ [] else []) }
 {
     for _ in rt.forever() {
@@ -49,6 +55,7 @@ pub fn put_times<W: Wait>(
     requires pass { IsIdlePass hall.now pass.old }
     requires bucket { bucket ≡ key_bucket }
     ensures pass { IsIdlePass hall.now pass.new × (pass.new.number ≡ pass.old.number) }
+    ensures met { met hall.now pass.new ≡ met hall.now pass.old }
     ensures more { put_calls (mine pass.new) ≡ put_calls (mine pass.old) ++ replicate result (put_call value ∷ []) }
 {
     let mut done = 0;
@@ -60,6 +67,38 @@ pub fn put_times<W: Wait>(
     done
 }
 
+/// What a thread says: how often it put its value, how often a read through its front failed, and what the last read told.
+#[derive(Clone, Copy, Drop)]
+pub struct Said {
+    pub done: u64,
+    pub failed: u64,
+    pub last: Option<Sight>,
+}
+
+/// Looks once at the mailbox, and reads through the front. None where the read failed.
+fn glance(hall: &DayHall, pass: &mut Pass<DayView>) -> Option<Sight>
+    requires pass { IsIdlePass hall.now pass.old }
+    ensures pass { IsIdlePass hall.now pass.new × (pass.new.number ≡ pass.old.number) }
+    ensures same { mine pass.new ≡ mine pass.old }
+    ensures met { met hall.now pass.new ≡ met hall.now pass.old + failures result }
+    ensures told { IfSome result (λ sight. TellsLeaf pass.new sight) }
+{
+    match look_through(hall, pass) {
+        Ok(sight) => Some(sight),
+        Err(Failed) => None,
+    }
+}
+
+fn failures(sight: &Option<Sight>) -> u64
+    ensures { result ≡ failures sight.now }
+{
+    match sight {
+        Some(_) => 0,
+        None => 1,
+    }
+}
+
+/// Looks and reads, puts a value so many times, shows what waits to both seats, evicts the leaf, and looks and reads it again.
 fn put_as<W: Wait>(
     rt: &W,
     alloc: Global,
@@ -68,19 +107,42 @@ fn put_as<W: Wait>(
     bucket: u16,
     value: u8,
     times: u64,
-) -> (Pass<DayView>, u64)
-    requires pass { IsIdlePass hall.now pass }
+) -> (Pass<DayView>, Said)
+    requires pass { IsIdlePass hall.now pass × IsForTwo hall.now }
     requires bucket { bucket ≡ key_bucket }
     ensures pass { IsIdlePass hall.now result.0 × (result.0.number ≡ pass.number) }
-    ensures more { put_calls (mine result.0) ≡ put_calls (mine pass) ++ replicate result.1 (put_call value ∷ []) }
+    ensures says { Says hall.now value pass result.0 result.1 }
 {
-    look_up(hall, &mut pass);
+    let first = glance(hall, &mut pass);
     let done = put_times(rt, alloc, hall, &mut pass, bucket, value, times);
-    look_up(hall, &mut pass);
-    (pass, done)
+    turn_over(rt, hall, &mut pass);
+    evict(hall, &mut pass, bucket);
+    let last = glance(hall, &mut pass);
+    let failed = failures(&first) + failures(&last);
+    (pass, Said { done, failed, last })
 }
 
-/// Both threads at once, each with a pass and a value of its own.
+/// The same by the seat 1, which has a merge job out between two turns first.
+fn merge_and_put<W: Wait>(
+    rt: &W,
+    alloc: Global,
+    hall: &DayHall,
+    mut pass: Pass<DayView>,
+    bucket: u16,
+    value: u8,
+    times: u64,
+) -> (Pass<DayView>, Said)
+    requires pass { IsIdlePass hall.now pass × IsForTwo hall.now }
+    requires first { pass.number ≡ 1 }
+    requires bucket { bucket ≡ key_bucket }
+    ensures pass { IsIdlePass hall.now result.0 × (result.0.number ≡ pass.number) }
+    ensures says { Says hall.now value pass result.0 result.1 }
+{
+    merge(rt, hall, &mut pass);
+    put_as(rt, alloc, hall, pass, bucket, value, times)
+}
+
+/// Both threads at once, each with a pass and a value of its own; the first is the seat 1.
 pub fn both<R: Threads + Wait + Sync>(
     rt: &R,
     alloc: Global,
@@ -89,24 +151,24 @@ pub fn both<R: Threads + Wait + Sync>(
     first: (Pass<DayView>, u8),
     second: (Pass<DayView>, u8),
     times: u64,
-) -> ((Pass<DayView>, u64), (Pass<DayView>, u64))
-    requires first { IsIdlePass hall.now first.0 }
+) -> ((Pass<DayView>, Said), (Pass<DayView>, Said))
+    requires first { IsIdlePass hall.now first.0 × IsForTwo hall.now × (first.0.number ≡ 1) }
     requires second { IsIdlePass hall.now second.0 }
     requires bucket { bucket ≡ key_bucket }
-    ensures first { IsIdlePass hall.now result.0.0 × (result.0.0.number ≡ first.0.number) × (put_calls (mine result.0.0) ≡ put_calls (mine first.0) ++ replicate result.0.1 (put_call first.1 ∷ [])) }
-    ensures second { IsIdlePass hall.now result.1.0 × (result.1.0.number ≡ second.0.number) × (put_calls (mine result.1.0) ≡ put_calls (mine second.0) ++ replicate result.1.1 (put_call second.1 ∷ [])) }
+    ensures first { IsIdlePass hall.now result.0.0 × (result.0.0.number ≡ first.0.number) × Says hall.now first.1 first.0 result.0.0 result.0.1 }
+    ensures second { IsIdlePass hall.now result.1.0 × (result.1.0.number ≡ second.0.number) × Says hall.now second.1 second.0 result.1.0 result.1.1 }
 {
     let (one, one_value) = first;
     let (two, two_value) = second;
     join(
         rt,
-        || -> (Pass<DayView>, u64)
-            requires { IsIdlePass hall.now one × (bucket ≡ key_bucket) }
-            ensures { IsIdlePass hall.entry.now result.0 × (result.0.number ≡ one.number) × (put_calls (mine result.0) ≡ put_calls (mine one) ++ replicate result.1 (put_call one_value ∷ [])) }
-        { put_as(rt, alloc, hall, one, bucket, one_value, times) },
-        || -> (Pass<DayView>, u64)
-            requires { IsIdlePass hall.now two × (bucket ≡ key_bucket) }
-            ensures { IsIdlePass hall.entry.now result.0 × (result.0.number ≡ two.number) × (put_calls (mine result.0) ≡ put_calls (mine two) ++ replicate result.1 (put_call two_value ∷ [])) }
+        || -> (Pass<DayView>, Said)
+            requires { IsIdlePass hall.now one × (bucket ≡ key_bucket) × IsForTwo hall.now × (one.number ≡ 1) }
+            ensures { IsIdlePass hall.entry.now result.0 × (result.0.number ≡ one.number) × Says hall.entry.now one_value one result.0 result.1 }
+        { merge_and_put(rt, alloc, hall, one, bucket, one_value, times) },
+        || -> (Pass<DayView>, Said)
+            requires { IsIdlePass hall.now two × (bucket ≡ key_bucket) × IsForTwo hall.now }
+            ensures { IsIdlePass hall.entry.now result.0 × (result.0.number ≡ two.number) × Says hall.entry.now two_value two result.0 result.1 }
         { put_as(rt, alloc, hall, two, bucket, two_value, times) },
     )
 }

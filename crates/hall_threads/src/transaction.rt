@@ -1,8 +1,9 @@
 //! One transaction.
 
 ghost use Rattle.std.specs.Prelude.{◌≡◌, ◌++◌, [], ◌∷◌, if◌then◌else◌, map, IfOk, OnErr};
-ghost use Rattle.fine_hall.specs.Passes.{mine};
-ghost use Rattle.hall_threads.specs.Days.{key_bucket, put_call, put_calls, IsIdlePass};
+ghost use Rattle.fine_hall.specs.Passes.{mine, troubles};
+ghost use Rattle.hall_threads.specs.Days.{key_bucket, put_call, put_calls, room_state, room_log, view_state, IsIdlePass};
+ghost use Rattle.fine_hall.specs.Halls.{begun};
 
 use crate::entries::append;
 use crate::things::{DayBucket, DayRoom, DayView, Leaf};
@@ -37,6 +38,7 @@ pub fn put<W: Wait>(
     requires pass { IsIdlePass hall.now pass.old }
     requires bucket { bucket ≡ key_bucket }
     ensures pass { IsIdlePass hall.now pass.new × (pass.new.number ≡ pass.old.number) }
+    ensures troubles { troubles view_state (begun room_state room_log view_state hall.now) pass.new ≡ troubles view_state (begun room_state room_log view_state hall.now) pass.old }
     ensures ok { IfOk result (λ done. put_calls (mine pass.new) ≡ put_calls (mine pass.old) ++ (if done then (put_call value ∷ []) ∷ [] else [])) }
     ensures err { OnErr result (mine pass.new ≡ mine pass.old) }
 {

@@ -113,6 +113,7 @@ module _ {V B : Type 0} where
     same_turns = g.same_turns;
     same_own = g.same_own;
     same_published = g.same_published;
+    found = g.found;
     views = g.views;
   }
 
@@ -123,11 +124,12 @@ module _ {V B : Type 0} where
     same_turns = t.same_turns ∙ s.same_turns;
     same_own = t.same_own ∙ s.same_own;
     same_published = t.same_published ∙ s.same_published;
+    found = t.found ∙ s.found;
     views = views_more p q r s.views t.views;
   }
 
   pub releases_none : (a : List (Option B)) (p : Pass V) → Releases a a p p
-  releases_none a p = record { fewer = λ k l. l; room = refl; same_turns = refl; same_own = refl; same_published = refl; views = views_none p }
+  releases_none a p = record { fewer = λ k l. l; room = refl; same_turns = refl; same_own = refl; same_published = refl; found = refl; views = views_none p }
 
 -- ---- what stands
 

@@ -38,6 +38,7 @@ module _ {V B : Type 0} where
     pub same_turns : turns p' ≡ turns p
     pub same_own : own_turns p' ≡ own_turns p
     pub same_published : published p' ≡ published p
+    pub found : found_held p' ≡ found_held p
     pub views : KeepsViews p p'
 
 module _ {V B : Type 0} (bucket : B → ℕ) (cached : B → ℕ → Option (Content × ℕ)) (is_settled : B → Type 0) where

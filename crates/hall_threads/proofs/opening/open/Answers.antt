@@ -2,7 +2,7 @@ use Rattle.std.proofs.Common.{subst, ap, ◌∙◌}
 use Rattle.fine_hall.specs.declared.law.Beginning.{Beginning}
 use Rattle.fine_hall.specs.Halls.{begun}
 use Rattle.fine_hall.specs.Opening.{HandedOut}
-use Rattle.hall_threads.specs.Days.{room_state, room_log, view_state}
+use Rattle.hall_threads.specs.Days.{room_state, room_log, view_state, job_of}
 use Rattle.hall_threads.proofs.Beginning.{fresh_hall}
 use Rattle.hall_threads.proofs.opening.open.Goals as goal
 
@@ -15,3 +15,9 @@ returns-in-Ok-new-clause-passes c = let made = c.in-Ok-new.made in
 
 pub returns-in-Ok-new-clause-sealed : goal.returns-in-Ok-new-clause-sealed
 returns-in-Ok-new-clause-sealed c = ap (λ (x : Beginning). x.room.sealed) c.in-Ok-new.ensures.hall ∙ c.in-Ok-first_room.ensures.counts.0
+
+pub returns-in-Ok-new-clause-faults : goal.returns-in-Ok-new-clause-faults
+returns-in-Ok-new-clause-faults c = ap (λ (x : Beginning). x.room.faults) c.in-Ok-new.ensures.hall ∙ c.in-Ok-first_room.ensures.counts.3
+
+pub returns-in-Ok-new-clause-no_job : goal.returns-in-Ok-new-clause-no_job
+returns-in-Ok-new-clause-no_job c = ap (λ (x : Beginning). x.room.job) c.in-Ok-new.ensures.hall ∙ ap job_of c.in-Ok-first_room.ensures.job

@@ -9,8 +9,8 @@ fronts = view_of_log 1 0 1 ∷ view_of_log 2 0 2 ∷ []
 
 pub tried_by_two-requires-clause-one : goal.tried_by_two-requires-clause-one
 tried_by_two-requires-clause-one c = let o = c.in_ok-hall.ensures in
-    (of_one c.in_ok-hall.hall fronts o.seats _ _ _ c.in-Some.one c.in-Some-pop.two o.count c.in-Some.ensures.items c.in-Some-pop.ensures.items o.passes).idle
+    (of_one c.in_ok-hall.hall fronts o.seats o.no_job _ _ _ c.in-Some.one c.in-Some-pop.two o.count c.in-Some.ensures.items c.in-Some-pop.ensures.items o.passes).idle
 
 pub tried_by_two-requires-clause-two : goal.tried_by_two-requires-clause-two
 tried_by_two-requires-clause-two c = let o = c.in_ok-hall.ensures in
-    (of_other c.in_ok-hall.hall fronts o.seats _ _ _ c.in-Some.one c.in-Some-pop.two o.count c.in-Some.ensures.items c.in-Some-pop.ensures.items o.passes).idle
+    (of_other c.in_ok-hall.hall fronts o.seats o.no_job _ _ _ c.in-Some.one c.in-Some-pop.two o.count c.in-Some.ensures.items c.in-Some-pop.ensures.items o.passes).idle

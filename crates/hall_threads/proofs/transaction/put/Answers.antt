@@ -5,14 +5,19 @@ use Rattle.fine_places.specs.History as places
 use Rattle.fine_model.specs.declared.Entry.{Entry}
 use Rattle.fine_hall.specs.Halls.{begun, MayGiveRoom}
 use Rattle.fine_hall.specs.Turns.{commits, added, is_in}
+use Rattle.fine_hall.proofs.Troubles.{troubles_law}
 use Rattle.fine_hall.specs.Passes.{known, seen, mine, published, HasPlace}
-use Rattle.hall_threads.specs.Days.{key_bucket, put_entry, put_calls, room_state, room_log, view_state, Appends}
+use Rattle.hall_threads.specs.Days.{key_bucket, put_entry, put_calls, room_state, room_log, day_stands, job_of, view_state, Appends}
 use Rattle.hall_threads.proofs.Idle.{near, bucket_had, room_free, room_held, bucket_held, bucket_still, idle_again}
-use Rattle.hall_threads.proofs.Standing.{day_stands, may_give_none, may_give_put, all_below}
+use Rattle.hall_threads.proofs.Rounds.{job_seen}
+use Rattle.hall_threads.proofs.Shown.{none_failed}
+use Rattle.hall_threads.proofs.Standing.{may_give_none, may_give_put, all_below}
+use Rattle.fine_model.specs.declared.law.RoomState.{RoomState}
+use Rattle.hall_threads.specs.declared.things.DayRoom.{DayRoom}
 use Rattle.hall_threads.specs.declared.things.DayBucket.{DayBucket}
 use Rattle.hall_threads.proofs.Putting.{leaf_after}
 use Rattle.hall_threads.proofs.Caching.{Stands, stands_put}
-use Rattle.hall_threads.proofs.Going.{touched, still, given, mine_after, no_job, job_stays, calls_none, calls_one}
+use Rattle.hall_threads.proofs.Going.{touched, still, given, mine_after, no_job, job_found, job_stays, calls_none, calls_one}
 use Rattle.hall_threads.proofs.transaction.put.Goals as goal
 
 pub take_bucket-requires-clause-free : goal.take_bucket-requires-clause-free
@@ -99,7 +104,10 @@ returns-in_default-clause-pass g c = let p = c.give_bucket.ensures in let t = c.
   (
     p.pass.0,
     idle_again c.args.bucket c.requires.bucket _ _ _ c.requires.pass.1 c.in_ok-content.ensures.takes.held t.takes.held _ (c.give_room.ensures.gives t.turn t.is_turn).held _ p.gives.held,
-    no_job (begun room_state room_log view_state c.args.hall.now) c.append-entry.new.room None 0 t.turn c.take_room-room.new.pass c.give_room.new.pass c.give_bucket.new.pass (c.give_room.ensures.gives t.turn t.is_turn) p.gives.same_turns,
+    no_job (begun room_state room_log view_state c.args.hall.now) c.append-entry.new.room None 0 t.turn c.take_room-room.new.pass c.give_room.new.pass c.give_bucket.new.pass (c.give_room.ensures.gives t.turn t.is_turn) p.gives.same_turns
+        (λ one. let was = sym (p.pass.1 ∙ (c.give_room.ensures.pass.1 ∙ c.take_room-room.ensures.pass.1)) ∙ one in
+        ap job_of (ap (λ (r : DayRoom). r.job) c.in_default.ensures) ∙ (job_found (begun room_state room_log view_state c.args.hall.now) c.take_bucket.new.pass c.take_room-room.new.pass c.take_room-room.result t was
+        ∙ job_seen (begun room_state room_log view_state c.args.hall.now) c.args.pass.now c.take_bucket.new.pass c.in_ok-content.ensures.pass.0.lawful c.in_ok-content.ensures.pass.1 c.in_ok-content.ensures.takes.sees c.requires.pass.2 was)),
   ),
   p.pass.1 ∙ (c.give_room.ensures.pass.1 ∙ (c.take_room-room.ensures.pass.1 ∙ c.in_ok-content.ensures.pass.1)),
 )
@@ -109,7 +117,10 @@ returns-clause-pass g c = let p = c.give_bucket-2.ensures in let t = c.take_room
   (
     p.pass.0,
     idle_again c.args.bucket c.requires.bucket _ _ _ c.requires.pass.1 c.in_ok-content.ensures.takes.held t.takes.held _ (c.give_room-2.ensures.gives t.turn t.is_turn).held _ p.gives.held,
-    no_job (begun room_state room_log view_state c.args.hall.now) c.append-entry.new.room (Some c.in-Some.entry) (c.append-entry.new.room.sealed + 1) t.turn c.take_room-room.new.pass c.give_room-2.new.pass c.give_bucket-2.new.pass (c.give_room-2.ensures.gives t.turn t.is_turn) p.gives.same_turns,
+    no_job (begun room_state room_log view_state c.args.hall.now) c.append-entry.new.room (Some c.in-Some.entry) (c.append-entry.new.room.sealed + 1) t.turn c.take_room-room.new.pass c.give_room-2.new.pass c.give_bucket-2.new.pass (c.give_room-2.ensures.gives t.turn t.is_turn) p.gives.same_turns
+        (λ one. let was = sym (p.pass.1 ∙ (c.give_room-2.ensures.pass.1 ∙ c.take_room-room.ensures.pass.1)) ∙ one in
+        ap job_of (c.in-Some.ensures.1.job) ∙ (job_found (begun room_state room_log view_state c.args.hall.now) c.take_bucket.new.pass c.take_room-room.new.pass c.take_room-room.result t was
+        ∙ job_seen (begun room_state room_log view_state c.args.hall.now) c.args.pass.now c.take_bucket.new.pass c.in_ok-content.ensures.pass.0.lawful c.in_ok-content.ensures.pass.1 c.in_ok-content.ensures.takes.sees c.requires.pass.2 was)),
   ),
   p.pass.1 ∙ (c.give_room-2.ensures.pass.1 ∙ (c.take_room-room.ensures.pass.1 ∙ c.in_ok-content.ensures.pass.1)),
 )
@@ -139,3 +150,30 @@ returns-in_err-content-clause-pass g c = let f = c.in_err-content.ensures.confli
   (p.0, λ k le. ap (λ l. get_elem? l k) f.same_held ∙ c.requires.pass.1 k le, job_stays (begun room_state room_log view_state c.args.hall.now) c.args.pass.now c.take_bucket.new.pass f.same_turns p.1 c.requires.pass.2),
   p.1,
 )
+
+pub returns-in_default-clause-troubles : goal.returns-in_default-clause-troubles
+returns-in_default-clause-troubles g c =
+    let x = begun room_state room_log view_state c.args.hall.now in
+    let law = troubles_law view_state x in
+    let t = c.take_room-room.ensures.takes in
+    let last = ap (λ (s : RoomState). s.faults) c.take_room-room.ensures.room.last in
+    let same = ap (λ (r : DayRoom). r.faults) c.in_default.ensures in
+    (law.same c.give_room.new.pass c.give_bucket.new.pass c.give_bucket.ensures.pass.1).gives c.args.bucket c.give_bucket.ensures.gives
+    ∙ (none_failed x c.take_room-room.new.pass c.give_room.new.pass c.append-entry.new.room None 0 t.turn c.give_room.ensures.pass.1 (omega (arith, last, same)) (c.give_room.ensures.gives t.turn t.is_turn)
+    ∙ ((law.same c.take_bucket.new.pass c.take_room-room.new.pass c.take_room-room.ensures.pass.1).takes places.room t.takes ∙ (law.same c.args.pass.now c.take_bucket.new.pass c.in_ok-content.ensures.pass.1).takes c.args.bucket c.in_ok-content.ensures.takes))
+
+pub returns-clause-troubles : goal.returns-clause-troubles
+returns-clause-troubles g c =
+    let x = begun room_state room_log view_state c.args.hall.now in
+    let law = troubles_law view_state x in
+    let t = c.take_room-room.ensures.takes in
+    let last = ap (λ (s : RoomState). s.faults) c.take_room-room.ensures.room.last in
+    let same = c.in-Some.ensures.1.faults in
+    (law.same c.give_room-2.new.pass c.give_bucket-2.new.pass c.give_bucket-2.ensures.pass.1).gives c.args.bucket c.give_bucket-2.ensures.gives
+    ∙ (none_failed x c.take_room-room.new.pass c.give_room-2.new.pass c.append-entry.new.room (Some c.in-Some.entry) (c.append-entry.new.room.sealed + 1) t.turn c.give_room-2.ensures.pass.1 (omega (arith, last, same)) (c.give_room-2.ensures.gives t.turn t.is_turn)
+    ∙ ((law.same c.take_bucket.new.pass c.take_room-room.new.pass c.take_room-room.ensures.pass.1).takes places.room t.takes ∙ (law.same c.args.pass.now c.take_bucket.new.pass c.in_ok-content.ensures.pass.1).takes c.args.bucket c.in_ok-content.ensures.takes))
+
+pub returns-in_err-content-clause-troubles : goal.returns-in_err-content-clause-troubles
+returns-in_err-content-clause-troubles g c =
+    let f = c.in_err-content.ensures.conflict.1 in
+    ((troubles_law view_state (begun room_state room_log view_state c.args.hall.now)).same c.args.pass.now c.take_bucket.new.pass c.in_err-content.ensures.pass.1).stays f.places f.views

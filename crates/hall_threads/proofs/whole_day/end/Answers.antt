@@ -1,5 +1,5 @@
 -- What the hall tells at its end is told of the two passes and of a log without rows.
-use Rattle.std.proofs.Common.{◌≡◌, ◌<◌, ◌≤◌, ◌∷◌, [], ℕ, map, sym, ap, subst, ◌∙◌}
+use Rattle.std.proofs.Common.{◌+◌, sum_by, inl, inr, ⊎_elim, arith, ◌≡◌, ◌<◌, ◌≤◌, ◌∷◌, [], ℕ, map, sym, ap, subst, ◌∙◌}
 use Rattle.std.proofs.lemmas.List.Sorted.{IsPermutation-refl}
 use Rattle.std.specs.Prelude.{IsPermutation, All}
 use Rattle.std.specs.List.{range_with_len}
@@ -10,7 +10,7 @@ use Rattle.fine_model.specs.Outcomes.{EpochsFollow}
 use Rattle.fine_model.specs.Room.{IsSealedUpTo}
 use Rattle.fine_hall.specs.declared.pass.Pass.{Pass}
 use Rattle.fine_hall.specs.Turns.{commits}
-use Rattle.fine_hall.specs.Passes.{HoldsNothing, LacksJob}
+use Rattle.fine_hall.specs.Passes.{HoldsNothing, LacksJob, troubles}
 use Rattle.fine_hall.specs.Halls.{begun, IsPassOf}
 use Rattle.hall_threads.specs.declared.things.DayView.{DayView}
 use Rattle.hall_threads.specs.Days.{room_state, room_log, view_state}
@@ -32,6 +32,9 @@ returns c =
     let e = c.close-room.ensures.closes.2 in
     let stands = e.stood.stands 0 [] day_began in
     let at_one : get_elem? c.in-Ok-pair.passes.items 0 ≡ some c.args.one = ap (λ l. get_elem? l 0) c.in-Ok-pair.ensures in
+    let x = begun room_state room_log view_state c.args.hall in
+    let high = e.high in
+    let summed : sum_by (troubles view_state x) c.in-Ok-pair.passes.items ≡ (0 + troubles view_state x c.args.one) + troubles view_state x c.args.two = ap (sum_by (troubles view_state x)) c.in-Ok-pair.ensures in
     let at_two : get_elem? c.in-Ok-pair.passes.items 1 ≡ some c.args.two = ap (λ l. get_elem? l 1) c.in-Ok-pair.ensures in
     record {
       all = e.all;
@@ -48,4 +51,5 @@ returns c =
       own_second = e.parts 1 c.args.two at_two ∙ ap (λ n. by_seat n e.all) c.requires.two.1;
       saw_first = record { front = e.saw 0 c.args.one at_one; marks = e.marks 0 c.args.one at_one };
       saw_second = record { front = e.saw 1 c.args.two at_two; marks = e.marks 1 c.args.two at_two };
+      counts = record { views = c.close-room.ensures.closes.0; high = omega (arith, summed, high); low = ⊎_elim (λ l. inl (omega (arith, summed, l))) (λ l. inr l) e.low };
     }

@@ -1,0 +1,50 @@
+-- A pass goes on once its front was read through, and what was read is the leaf.
+use Rattle.std.proofs.Common.{◌≡◌, ◌≢◌, ℕ, ◌≤◌, List, [], Some, sym, ap, ◌∙◌, subst}
+use Rattle.fine_places.proofs.Lists.{some_same}
+use Rattle.fine_model.specs.declared.Row.{Row}
+use Rattle.fine_model.specs.RowBytes.{greatest}
+use Rattle.fine_model.specs.Regions.{Image}
+use Rattle.fine_model.specs.Chain.{AreRowsOf}
+use Rattle.fine_model.specs.Nodes.{content}
+use Rattle.fine_model.specs.Views.{counting, TellsRows, TellsRowsOf}
+use Rattle.fine_model.proofs.Unique.{AreRowsOf-unique}
+use Rattle.fine_hall.specs.declared.law.Beginning.{Beginning}
+use Rattle.fine_hall.specs.declared.pass.Pass.{Pass}
+use Rattle.fine_hall.specs.Passes.{known, front_of}
+use Rattle.fine_hall.specs.Halls.{UsedFront, IsAhead}
+use Rattle.fine_hall.specs.Turns.{commits}
+use Rattle.hall_threads.specs.declared.things.DayView.{DayView}
+use Rattle.hall_threads.specs.declared.things.Sight.{Sight}
+use Rattle.hall_threads.specs.Days.{day_log, view_state, leaf_id, told_rows, told_parts, told_image}
+use Rattle.hall_threads.specs.Readings.{IsFront, TellsLeaf}
+use Rattle.hall_threads.proofs.Ending.{day_began}
+use Rattle.hall_threads.proofs.Telling.{tells_leaf, told_leaf}
+
+pub same_known : (p p' : Pass DayView) → UsedFront view_state p p' → known p' ≡ known p
+unfolding known
+same_known p p' u = ap known u.is
+
+-- it tells no other rows
+told_unique : (version value : ℕ) (rows : List Row) → version ≤ greatest → TellsRowsOf (Some (told_image version value)) 80 (told_parts version value) rows → rows ≡ told_rows version value
+told_unique version value rows most t =
+    let own = tells_leaf version value most in
+    AreRowsOf-unique 80 own.image (told_parts version value) rows (told_rows version value)
+    (subst (λ (i : Image). AreRowsOf 80 i (told_parts version value) rows) (some_same t.image own.image (sym t.is_told ∙ own.is_told)) t.are_rows) own.are_rows
+
+module _ (x : Beginning) (log : x.log ≡ day_log) (p p' : Pass DayView) (sight : Sight) (ahead : IsAhead view_state x p) (u : UsedFront view_state p p') (f : IsFront p' sight) where
+  -- the front is as it was, but for its count
+  front_is : view_state f.there ≡ counting (front_of view_state p) (view_state u.after).faults
+  front_is = ap view_state (some_same f.there u.after (sym f.is_there ∙ ap (λ q. q.front) u.is)) ∙ u.same
+
+  sight_told : (rows : List Row) → TellsRows (front_of view_state p) rows → TellsRowsOf (Some (told_image sight.version sight.value)) 80 (told_parts sight.version sight.value) rows
+  sight_told rows t = subst (λ s. TellsRowsOf (Some (told_image s.version s.value)) 80 (told_parts s.version s.value) rows) f.sight_is (subst (λ v. TellsRows v rows) (sym front_is) t)
+
+  pub told_to : TellsLeaf p' sight
+  told_to = record {
+    upto_epoch = (front_of view_state p).upto;
+    reaches = subst (λ k. k.published ≤ (front_of view_state p).upto) (sym (same_known p p' u)) ahead.reaches;
+    leaf = λ most. subst (λ k. (content (Rattle.fine_model.specs.History.all_rows (Rattle.fine_model.specs.History.upto (commits k.seen) (front_of view_state p).upto)) leaf_id).0 ≢ Rattle.fine_model.specs.declared.Node.TheVariants.Broken
+        → content (Rattle.fine_model.specs.History.all_rows (Rattle.fine_model.specs.History.upto (commits k.seen) (front_of view_state p).upto)) leaf_id ≡ Rattle.hall_threads.specs.Days.leaf_at sight.version sight.value) (sym (same_known p p' u))
+        (λ whole. let t = ahead.shows.tells 0 [] (subst (λ l. Rattle.fine_model.specs.Buckets.Began l 0 []) (sym log) day_began) in
+        sym (t.2.same leaf_id whole) ∙ (ap (λ rows. content rows leaf_id) (told_unique sight.version sight.value t.0 most (sight_told t.0 t.1)) ∙ told_leaf sight.version sight.value));
+  }

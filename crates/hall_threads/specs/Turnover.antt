@@ -1,0 +1,58 @@
+-- A turn of the room in which what waits is sealed, and shown to both seats.
+use Rattle.std.specs.Prelude.{◌≡◌, ◌⊎◌, ℕ, ◌+◌, ◌-◌, ◌<◌, ◌≤◌, Some, None, slice_set}
+use Rattle.fine_model.specs.declared.law.ViewState.{ViewState}
+use Rattle.fine_model.specs.Faults.{last_count}
+use Rattle.fine_places.specs.History as places
+use Rattle.fine_boxes.specs.declared.model.TurnNote.{TurnNote}
+use Rattle.fine_boxes.specs.Telling.{posting}
+use Rattle.fine_hall.specs.declared.law.Beginning.{Beginning}
+use Rattle.fine_hall.specs.declared.pass.Pass.{Pass}
+use Rattle.fine_hall.specs.Passes.{known, turns, own_turns, last_room, troubles, HasPlace, IsHolder}
+use Rattle.fine_hall.specs.Halls.{MayGiveRoom, Posts}
+use Rattle.hall_threads.specs.declared.things.DayRoom.{DayRoom}
+use Rattle.hall_threads.specs.declared.things.DayView.{DayView}
+use Rattle.hall_threads.specs.declared.things.Sight.{Sight}
+use Rattle.hall_threads.specs.Days.{room_state, room_log, view_state, day_stands}
+
+-- the open epoch, in which some entry waits, is sealed
+pub record Seals (old new : DayRoom) : Type 0 where
+  pub some_waits : 0 < old.waiting
+  pub is : new ≡ record old { sealed = old.sealed + 1; waiting = 0 }
+
+-- a view of the room as it is
+pub record IsViewOf (room : DayRoom) (seat buffer : ℕ) (v : DayView) : Type 0 where
+  pub place : (v.seat ≡ seat) × (v.buffer ≡ buffer)
+  pub upto : v.upto ≡ room.sealed
+  pub clean : v.faults ≡ 0
+  pub leaf : (v.sight.version ≡ room.places) × (v.sight.value ≡ room.value)
+
+-- the board names a new view and an old one no longer, whose faults were counted, unless the count stands at its last value
+pub record TakesBack (a : ℕ) (sight : Sight) (b faults : ℕ) (old new : DayRoom) : Type 0 where
+  pub board : new.board.items ≡ slice_set (slice_set old.board.items a (Some sight)) b None
+  pub same : (new.sealed ≡ old.sealed) × (new.places ≡ old.places) × (new.waiting ≡ old.waiting) × (new.value ≡ old.value) × (new.kept.items ≡ old.kept.items) × (new.job ≡ old.job)
+  pub high : new.faults ≤ old.faults + faults
+  pub low : (old.faults + faults ≤ new.faults) ⊎ (last_count ≤ new.faults)
+  pub rises : old.faults ≤ new.faults
+
+-- In a turn of the pass, the room may be given back as it is; no call on the disk failed in the turn.
+pub record InTurn (x : Beginning) (room : DayRoom) (p : Pass DayView) (t : TurnNote) : Type 0 where
+  pub held : HasPlace p places.room
+  pub is_turn : IsHolder x p t
+  pub may : MayGiveRoom room_state room_log day_stands x room None 0 t p
+  pub exact : room.faults ≤ (last_room x p).faults + t.in_hand
+
+-- a view of the room was posted to a seat, and the old middle was taken back
+pub record PostsTo (x : Beginning) (seat : ℕ) (t : TurnNote) (old new : DayRoom) (p p' : Pass DayView) : Type 0 where
+  pub view : ViewState
+  pub back : ViewState
+  pub upto : view.upto ≡ new.sealed
+  pub posts : Posts x seat t view back p p'
+  pub turn : InTurn x new p' (posting t (seat - 1) view.buffer view back)
+  pub same : (new.sealed ≡ old.sealed) × (new.waiting ≡ old.waiting) × (new.job ≡ old.job)
+
+-- what a pass saw and holds stays, and it met no fault
+pub record Stays (x : Beginning) (p p' : Pass DayView) : Type 0 where
+  pub held : (known p').held ≡ (known p).held
+  pub turns : turns p' ≡ turns p
+  pub own : own_turns p' ≡ own_turns p
+  pub troubles : troubles view_state x p' ≡ troubles view_state x p

@@ -15,8 +15,8 @@ returns-then-self g c =
     erases_none c.args.region c.args.self.now (Err (erase_fault.Shut c.self.inside.sealed)) whole
     (ap (λ (v : RoomValue). v.room.is_shut) (sym c.self.view_is) ∙ c.if-self.true, ap (λ (v : RoomValue). v.room.sealed) c.self.view_is, refl)
 
-pub names-requires-after_bounds : goal.names-requires-after_bounds
-names-requires-after_bounds g c κs within = lead_small c.args.self.now (subst IsWhole c.self.view_is c.self.invariant.0) c.args.region c.requires.retired
+pub names-requires : goal.names-requires
+names-requires g c = lead_small c.args.self.now (subst IsWhole c.self.view_is c.self.invariant.0) c.args.region c.requires.retired
 
 pub returns-in-Some : goal.returns-in-Some
 returns-in-Some g c =

@@ -164,26 +164,25 @@ fn each_call_that_fails_shuts_the_room(rt: HostRuntime) -> Result<(), Fail> {
     Ok(())
 }
 
+// An epoch more of one entry.
+fn seal_one(room: &mut Room<MemDisk>, alloc: Global) -> Result<(), Fail>
+    ensures { OnOk result (room.new.room.job ≡ room.old.room.job) }
+{
+    commit(room, &put(alloc)?)?;
+    match room.seal() {
+        Ok(_epoch) => Ok(()),
+        Err(_fault) => Err("seal")?,
+    }
+}
+
 // A room of four regions with two sealed epochs.
 fn two_epochs(alloc: Global) -> Result<Room<MemDisk>, Fail>
     ensures { IfOk result (λ room. room.room.job ≡ None) }
 {
     let mut room = new_room(alloc, 4096, MOST)?;
-    for _epoch in 1..3 {
-        commit(&mut room, &put(alloc)?)?;
-        seal(&mut room)?;
-    }
+    seal_one(&mut room, alloc)?;
+    seal_one(&mut room, alloc)?;
     Ok(room)
-}
-
-fn seal(room: &mut Room<MemDisk>) -> Result<(), Fail>
-    requires { 1 ≤ room.old.room.waiting }
-    ensures { room.new.room.job ≡ room.old.room.job }
-{
-    match room.seal() {
-        Ok(_epoch) => Ok(()),
-        Err(_fault) => Err("seal")?,
-    }
 }
 
 fn measure(area: u32) -> Measure
@@ -216,15 +215,10 @@ fn take_and_drop(room: &mut Room<MemDisk>, area: u32) -> Result<(bool, u32, u32)
 #[test]
 fn a_job_takes_regions_and_gives_them_back(rt: HostRuntime) -> Result<(), Fail> {
     let mut room = two_epochs(rt.alloc())?;
-    let table = [
-        (4041, (true, 1, 2)),
-        (4042, (true, 0, 2)),
-        (8107, (true, 0, 2)),
-        (8108, (false, 2, 2)),
-    ];
-    for (area, answer) in table {
-        assert_eq!(rt; take_and_drop(&mut room, area)?, answer);
-    }
+    assert_eq!(rt; take_and_drop(&mut room, 4041)?, (true, 1, 2));
+    assert_eq!(rt; take_and_drop(&mut room, 4042)?, (true, 0, 2));
+    assert_eq!(rt; take_and_drop(&mut room, 8107)?, (true, 0, 2));
+    assert_eq!(rt; take_and_drop(&mut room, 8108)?, (false, 2, 2));
     assert_eq!(rt; room.merge_pick(2), None);
     Ok(())
 }

@@ -18,6 +18,7 @@ pub mod Gates
 pub mod Gathering
 pub mod Histories
 pub mod Holding
+pub mod Joining
 pub mod Kept
 pub mod Led
 pub mod LedParts

@@ -11,3 +11,4 @@ pub mod Views
 pub mod Returns
 pub mod Closing
 pub mod Erasing
+pub mod Laws

@@ -19,6 +19,7 @@ pub mod Gathering
 pub mod Histories
 pub mod Holding
 pub mod JobRegions
+pub mod Joining
 pub mod Kept
 pub mod Led
 pub mod LedParts

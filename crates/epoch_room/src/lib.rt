@@ -5,6 +5,7 @@
 mod answers;
 mod closing;
 mod epoch;
+pub mod laws;
 mod led_parts;
 mod partition;
 mod regions;

@@ -4,7 +4,6 @@ use Rattle.std.specs.Prelude.{filter, fold, flat_map}
 use Rattle.std.specs.List.{AllByRecursion}
 use Rattle.std.specs.List.Sorted.{IsStrictlySortedBy}
 use Rattle.std.specs.Ordering.{ordering_reverse, match_ordering}
-use Rattle.std.specs.declared.snapshot.Snapshot.{Snapshot}
 use Rattle.std.specs.BTreeSet.{insert_key}
 use Rattle.std.proofs.lemmas.List.{map-append}
 use Rattle.std.proofs.lemmas.List.Sums.{fold-append}
@@ -96,8 +95,8 @@ unfolding rows_bytes nodes_in
 kept_empty log bytes nodes rows order =
     let none : length log.nodes.keys ≡ 0 = ap length nodes in
     record {
-      bytes = bytes ∙ sym (ap (λ (kept : List (Snapshot Row)). rows_bytes (map (λ k. k.value) kept)) rows);
-      nodes = nodes ∙ sym (ap (λ (kept : List (Snapshot Row)). nodes_in (map (λ k. k.value) kept)) rows);
+      bytes = bytes ∙ sym (ap rows_bytes rows);
+      nodes = nodes ∙ sym (ap nodes_in rows);
       order = order;
       few = omega (arith, none);
     }
@@ -123,10 +122,3 @@ pub cost_kept : (log : Inside) → IsKept log → length log.bytes.items + 14 * 
 cost_kept log kept =
     let bytes : length log.bytes.items ≡ rows_len (rows_in log) = ap length kept.bytes ∙ rows_long (rows_in log) in
     let nodes : length log.nodes.keys ≡ length (nodes_in (rows_in log)) = ap length kept.nodes in omega (arith, bytes, nodes)
-
--- the rows of one snapshot more
-pub rows_more : (rows old new : List (Snapshot Row)) (kept : Snapshot Row) (row : Row) → old ≡ rows → new ≡ old ++ kept ∷ [] → kept.value ≡ row
-    → map (λ (k : Snapshot Row). k.value) new ≡ map (λ (k : Snapshot Row). k.value) rows ++ row ∷ []
-rows_more rows old new kept row same more is =
-    ap (map (λ (k : Snapshot Row). k.value)) (more ∙ ap (λ xs. xs ++ kept ∷ []) same) ∙ map-append (λ (k : Snapshot Row). k.value) rows (kept ∷ [])
-    ∙ ap (λ r. map (λ (k : Snapshot Row). k.value) rows ++ r ∷ []) is

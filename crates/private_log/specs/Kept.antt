@@ -1,5 +1,5 @@
 -- What a private log keeps.
-use Rattle.std.specs.Prelude.{◌≡◌, ◌*◌, ◌≤◌, List, length, map}
+use Rattle.std.specs.Prelude.{◌≡◌, ◌*◌, ◌≤◌, List, length}
 use Rattle.std.specs.List.Sorted.{IsStrictlySortedBy}
 use Rattle.fine_model.specs.declared.Row.{Row}
 use Rattle.fine_model.specs.RowBytes.{rows_bytes}
@@ -8,7 +8,7 @@ use Rattle.private_log.specs.declared.PrivateLog.TheInside.{Inside}
 
 -- the rows that were pushed
 abbrev pub rows_in : Inside → List Row
-rows_in log = map (λ kept. kept.value) log.rows.items
+rows_in log = log.rows.items
 
 -- The bytes are those of the rows, and the nodes those that the rows name. Each row has 19 bytes or more, so what the rows cost
 -- is below 2 ^ 64.

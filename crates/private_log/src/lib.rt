@@ -5,12 +5,12 @@ ghost use Rattle.std.specs.Prelude.{◌≡◌, [], ◌∷◌, ◌++◌, OnOk, On
 ghost use Rattle.fine_model.specs.RowBytes.{FitsRec, rows_bytes};
 ghost use Rattle.fine_model.specs.Merge.{cost};
 
-use fine_model::{NoMemory, NodeId, Row};
+use fine_model::{Copied, Items, NoMemory, NodeId, Row, Rows};
 use node_record::write_row;
 use std::alloc::Global;
 use std::collections::BTreeSet;
 use std::marker::Model;
-use std::snapshot::Snapshot;
+use std::mem;
 
 #[cfg(test)]
 mod tests;
@@ -18,13 +18,12 @@ mod tests;
 /// What the index entry of a node takes in a partition, in bytes.
 const ENTRY: u64 = 14;
 
-/// The rows that a transaction pushed, in their order. It keeps their bytes and the nodes that they name; of the rows
-/// themselves it keeps what contracts see of them, which takes no bytes.
+/// The rows that a transaction pushed, in their order, with their bytes and the nodes that they name.
 #[derive(Drop)]
 pub struct PrivateLog {
     bytes: Vec<u8>,
     nodes: BTreeSet<NodeId>,
-    rows: Vec<Snapshot<Row>>,
+    rows: Vec<Row>,
 }
 
 impl Model for PrivateLog {
@@ -51,19 +50,29 @@ impl PrivateLog {
         }
     }
 
-    /// Puts a row, whose body is within the format's bounds, behind those that are there. `NoMemory` is the only refusal, and
+    /// Puts a copy of a row, whose body is within the format's bounds, behind those that are there. `NoMemory` is the only refusal, and
     /// leaves the log as it was.
     pub fn push(&mut self, row: &Row) -> Result<(), NoMemory>
         requires { FitsRec row.now.rec }
         ensures ok { OnOk result (self.new ≡ self.old ++ row.now ∷ []) }
         ensures err { OnErr result (self.new ≡ self.old) }
     {
+        let row = row.copy()?;
+        self.keep(row)
+    }
+
+    /// Puts a row behind those that are there, as `push` does, and copies nothing.
+    pub fn keep(&mut self, row: Row) -> Result<(), NoMemory>
+        requires { FitsRec row.rec }
+        ensures ok { OnOk result (self.new ≡ self.old ++ row ∷ []) }
+        ensures err { OnErr result (self.new ≡ self.old) }
+    {
         let before = self.bytes.len();
         self.rows.reserve(1)?;
-        write_row(&mut self.bytes, row)?;
+        write_row(&mut self.bytes, &row)?;
         match self.nodes.insert(row.node) {
             Ok(_is_new) => {
-                self.rows.push_reserved(Snapshot::of(row));
+                self.rows.push_reserved(row);
                 Ok(())
             }
             Err(_refused) => {
@@ -86,6 +95,18 @@ impl PrivateLog {
         ensures { result ≡ cost self.now }
     {
         self.bytes.len() as u64 + ENTRY * self.nodes.len() as u64
+    }
+
+    /// Moves all rows out. It takes no memory.
+    pub fn take_rows(&mut self) -> Rows
+        ensures rows { result ≡ self.old }
+        ensures left { self.new ≡ [] }
+    {
+        let PrivateLog { bytes, nodes, rows } = self;
+        bytes.clear();
+        nodes.clear();
+        let none = Vec::new(*rows.allocator());
+        Items::from_vec(mem::replace(rows, none))
     }
 
     /// Takes all rows off. It takes no memory.

@@ -1,0 +1,2 @@
+//! The draft.
+#![tactic(auto)]

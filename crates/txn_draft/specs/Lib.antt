@@ -1,0 +1,5 @@
+pub mod Drafts
+pub mod Uses
+pub mod Answers
+pub mod Steps
+pub mod Scans

@@ -1,0 +1,129 @@
+-- What a call that was tried says of the draft and of its bucket.
+use Rattle.std.proofs.Common.{◌≡◌, ℕ, ◌≤◌, Bool, true, List, ◌++◌, Result, Ok, Err, refl, sym, ap, subst, ◌∙◌}
+use Rattle.std.specs.Prelude.{OnOk, IfErr}
+use Rattle.std.specs.Option.{option_to_list}
+use Rattle.fine_model.specs.declared.Call.{Call}
+use Rattle.fine_model.specs.declared.FetchFault.{FetchFault}
+use Rattle.fine_model.specs.declared.Row.{Row}
+use Rattle.fine_model.specs.Pushed.{key_of}
+use Rattle.fine_model.specs.Trees.{bucket_of}
+use Rattle.node_cache.specs.Cache.{Cache}
+use Rattle.node_cache.specs.Given.{Finds}
+use Rattle.btree_nodes.specs.declared.fault.TreeFault.{TreeFault}
+use Rattle.btree_nodes.specs.declared.fault.TreeFault.TheVariants.{Source, Unfit, BucketFull, Number, NoMemory}
+use Rattle.btree_nodes.specs.Trees.{Serves, Holds, FitsLog}
+use Rattle.txn_draft.specs.Answers.{AnswersSoundly, LeavesDraft, FailsBy}
+use Rattle.txn_draft.specs.Drafts.{DraftValue, IsAnswered, FitsDraft, Keeps, noted}
+use Rattle.txn_draft.specs.Steps.{Made, IsMade, IsStep, IsTried, wants_memory}
+use Rattle.txn_draft.specs.Uses.{IsUsed, UsedAfter, OnlyLoads}
+use Rattle.txn_draft.proofs.Answered.{answered_more, fits_more}
+use Rattle.txn_draft.proofs.Used.{used_after, only_loads}
+
+-- the log of a refused call is as it was, and so is the draft
+same_draft : (d d' : DraftValue) → d' ≡ record d { rows = d'.rows } → d'.rows ≡ d.rows → d' ≡ d
+same_draft d d' only rows = only ∙ ap (λ rs. record d { rows = rs }) rows
+
+module _ (tells : List Row → Type 0) (finds : Finds) (upper : ℕ) (b b' : Cache) (d d' : DraftValue) (c : Call) (F : FetchFault → Type 0) where
+  abbrev pub step_of : Result Made TreeFault → Type 0
+  step_of r = IsStep {A = Made} tells finds upper b b' d.rows d'.rows c (λ rows. IsMade rows c) F r
+
+  -- a refused step
+  pub tried_fault : (e : TreeFault) → d' ≡ record d { rows = d'.rows } → step_of (Err e) → IsTried tells finds upper b b' d d' c F (Err e)
+  tried_fault (Source f) only s = (s, same_draft d d' only s.change.outcome.1.rows)
+  tried_fault (Unfit id) only s = (s, same_draft d d' only s.change.outcome.1.rows)
+  tried_fault (BucketFull m depth) only s = (s, same_draft d d' only s.change.outcome.3.rows)
+  tried_fault (Number id) only s = (s, same_draft d d' only s.change.outcome.3.rows)
+  tried_fault NoMemory only s = s
+
+  -- memory ran out when the call was to be kept
+  pub tried_lost : (made : Made) → step_of (Ok made) → IsTried tells finds upper b b' d d' c F (Err NoMemory)
+  tried_lost made s = record {
+    change = record { mid = s.change.mid; loaded = s.change.loaded; on_way = s.change.on_way; used = tt; outcome = s.change.outcome.2.pushes.saves };
+    sound = λ rows serves holds is. (s.sound rows serves holds is).1.holds.restores;
+  }
+
+  module _ (d'' : DraftValue) (r : Result (Unit {0}) TreeFault) (failed : d'' ≡ record d' { failed = wants_memory r d'.failed }) (tried : IsTried tells finds upper b b' d d' c F r) where
+    same_rows : d''.rows ≡ d'.rows
+    same_rows = ap (λ x. x.rows) failed
+
+    pub kept_of : OnOk r (Keeps c d d'')
+    kept_of = by r failed tried
+      where
+        by : (r : Result (Unit {0}) TreeFault) → d'' ≡ record d' { failed = wants_memory r d'.failed } → IsTried tells finds upper b b' d d' c F r → OnOk r (Keeps c d d'')
+        by (Ok done) e t = record {
+          reply = t.0.0;
+          wrote = option_to_list t.0.1;
+          own = t.2.change.outcome.2.rows;
+          is = e ∙ t.1 ∙ ap (λ rs. noted (record d { rows = rs }) c t.0.0 (option_to_list t.0.1)) t.2.change.outcome.2.behind;
+        }
+        by (Err fault) e t = tt
+
+    pub left_of : IfErr r (LeavesDraft d d'')
+    left_of = by r failed tried
+      where
+        by : (r : Result (Unit {0}) TreeFault) → d'' ≡ record d' { failed = wants_memory r d'.failed } → IsTried tells finds upper b b' d d' c F r → IfErr r (LeavesDraft d d'')
+        by (Ok done) e t = tt
+        by (Err (Source f)) e t = e ∙ t.1
+        by (Err (Unfit id)) e t = e ∙ t.1
+        by (Err (BucketFull m depth)) e t = e ∙ t.1
+        by (Err (Number id)) e t = e ∙ t.1
+        by (Err NoMemory) e t = ap (λ x. x.failed) e
+
+    pub fits_of : b.bucket ≡ bucket_of (key_of c) → OnOk r (FitsDraft d → FitsDraft d'')
+    fits_of of_key = by r failed tried
+      where
+        by : (r : Result (Unit {0}) TreeFault) → d'' ≡ record d' { failed = wants_memory r d'.failed } → IsTried tells finds upper b b' d d' c F r → OnOk r (FitsDraft d → FitsDraft d'')
+        by (Ok done) e t = λ fits. fits_more t.2.change.outcome.2.rows d d'' c (ap (λ x. x.calls) e ∙ ap (λ x. x.calls) t.1) (ap (λ x. x.rows) e ∙ t.2.change.outcome.2.behind)
+            (subst (λ k. FitsLog k t.2.change.outcome.2.rows) (t.2.change.loaded.bucket ∙ of_key) t.2.change.outcome.2.fits) fits
+        by (Err fault) e t = tt
+
+    step_change : (low : ℕ) (taken : Cache) → IsUsed low taken b d.rows → low ≤ upper → UsedAfter low taken b' d'.rows r
+    step_change low taken u most = by r tried
+      where
+        by : (r : Result (Unit {0}) TreeFault) → IsTried tells finds upper b b' d d' c F r → UsedAfter low taken b' d'.rows r
+        by (Ok done) t = used_after tells finds upper b b' d.rows d'.rows c (λ _ _. Unit {0}) F low taken (Ok t.0) t.2.change u most
+        by (Err (Source f)) t = used_after {A = Made} tells finds upper b b' d.rows d'.rows c (λ _ _. Unit {0}) F low taken (Err (Source f)) t.0.change u most
+        by (Err (Unfit id)) t = used_after {A = Made} tells finds upper b b' d.rows d'.rows c (λ _ _. Unit {0}) F low taken (Err (Unfit id)) t.0.change u most
+        by (Err (BucketFull m depth)) t = used_after {A = Made} tells finds upper b b' d.rows d'.rows c (λ _ _. Unit {0}) F low taken (Err (BucketFull m depth)) t.0.change u most
+        by (Err (Number id)) t = used_after {A = Made} tells finds upper b b' d.rows d'.rows c (λ _ _. Unit {0}) F low taken (Err (Number id)) t.0.change u most
+        by (Err NoMemory) t = used_after {A = Made} tells finds upper b b' d.rows d'.rows c (λ _ _. Unit {0}) F low taken (Err NoMemory) t.change u most
+
+    pub used_of : (low : ℕ) (taken : Cache) → IsUsed low taken b d.rows → low ≤ upper → UsedAfter low taken b' d''.rows r
+    used_of low taken u most = subst (λ rs. UsedAfter low taken b' rs r) (sym same_rows) (step_change low taken u most)
+
+    pub loads_of : OnlyLoads tells finds upper b b' r
+    loads_of = by r tried
+      where
+        by : (r : Result (Unit {0}) TreeFault) → IsTried tells finds upper b b' d d' c F r → OnlyLoads tells finds upper b b' r
+        by (Ok done) t = tt
+        by (Err (Source f)) t = only_loads {A = Made} tells finds upper b b' d.rows d'.rows c (λ _ _. Unit {0}) F (Err (Source f)) t.0.change
+        by (Err (Unfit id)) t = only_loads {A = Made} tells finds upper b b' d.rows d'.rows c (λ _ _. Unit {0}) F (Err (Unfit id)) t.0.change
+        by (Err (BucketFull m depth)) t = only_loads {A = Made} tells finds upper b b' d.rows d'.rows c (λ _ _. Unit {0}) F (Err (BucketFull m depth)) t.0.change
+        by (Err (Number id)) t = only_loads {A = Made} tells finds upper b b' d.rows d'.rows c (λ _ _. Unit {0}) F (Err (Number id)) t.0.change
+        by (Err NoMemory) t = tt
+
+    pub fails_of : IfErr r (FailsBy F)
+    fails_of = by r tried
+      where
+        by : (r : Result (Unit {0}) TreeFault) → IsTried tells finds upper b b' d d' c F r → IfErr r (FailsBy F)
+        by (Ok done) t = tt
+        by (Err (Source f)) t = t.0.change.outcome.0
+        by (Err (Unfit id)) t = tt
+        by (Err (BucketFull m depth)) t = tt
+        by (Err (Number id)) t = tt
+        by (Err NoMemory) t = tt
+
+    pub sound_of : (rows : List Row) → Serves tells b rows → IsAnswered rows d → Holds b rows d.rows → AnswersSoundly rows c d d'' b' r
+    sound_of rows serves a holds = by r failed tried
+      where
+        by : (r : Result (Unit {0}) TreeFault) → d'' ≡ record d' { failed = wants_memory r d'.failed } → IsTried tells finds upper b b' d d' c F r → AnswersSoundly rows c d d'' b' r
+        by (Ok done) e t =
+            let s = t.2.sound rows serves holds a.leaves.has_map.sound in (
+              subst (IsAnswered rows) (sym e) (answered_more rows s.1.own d d' c t.0 a t.1 s.1.behind s.1.is_pushed s.0),
+              subst (Holds b' rows) (sym (ap (λ x. x.rows) e)) s.1.holds,
+            )
+        by (Err (Source f)) e t = (t.0.sound rows serves holds a.leaves.has_map.sound).holds
+        by (Err (Unfit id)) e t = t.0.sound rows serves holds a.leaves.has_map.sound
+        by (Err (BucketFull m depth)) e t = let s = t.0.sound rows serves holds a.leaves.has_map.sound in (s.0, s.1, s.2.holds)
+        by (Err (Number id)) e t = let s = t.0.sound rows serves holds a.leaves.has_map.sound in (s.0, s.1, s.2.holds)
+        by (Err NoMemory) e t = t.sound rows serves holds a.leaves.has_map.sound

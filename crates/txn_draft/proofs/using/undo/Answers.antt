@@ -1,0 +1,11 @@
+use Rattle.std.proofs.Common.{◌≡◌, ℕ, Option, Some, None, ap, sym, ◌∙◌, subst}
+use Rattle.std.specs.Prelude.{IfSome}
+use Rattle.node_cache.specs.declared.cached.Cached.{Cached}
+use Rattle.node_cache.specs.Cache.{cached, before}
+use Rattle.txn_draft.proofs.Rested.{holds_undone, still}
+use Rattle.txn_draft.proofs.using.undo.Goals as goal
+
+pub returns-clause-holds : goal.returns-clause-holds
+returns-clause-holds c = λ rows restores.
+    holds_undone rows c.args.bucket.now c.evict.new.self (ap (λ b. b.bucket) c.evict.ensures.nodes ∙ ap (λ b. b.bucket) c.undo.ensures.nodes) (ap (λ b. b.saved) c.evict.ensures.nodes ∙ ap (λ b. b.saved) c.undo.ensures.nodes)
+    (λ n. still (cached c.undo.new.self n) (before c.args.bucket.now n) (c.undo.ensures.restored n) (cached c.evict.new.self n) (c.evict.ensures.same n)) restores

@@ -23,6 +23,10 @@ use Rattle.txn_draft.proofs.Used.{used_after, only_loads}
 same_draft : (d d' : DraftValue) → d' ≡ record d { rows = d'.rows } → d'.rows ≡ d.rows → d' ≡ d
 same_draft d d' only rows = only ∙ ap (λ rs. record d { rows = rs }) rows
 
+-- whether the draft is failed is set last
+pub failed_is : (d d' : DraftValue) (f : Bool) (r : Result (Unit {0}) TreeFault) → d ≡ d' → f ≡ wants_memory r d.failed → record d { failed = f } ≡ record d' { failed = wants_memory r d'.failed }
+failed_is d d' f r same is = ap {A = Bool} {B = DraftValue} (λ x. record d { failed = x }) is ∙ ap {A = DraftValue} {B = DraftValue} (λ x. record x { failed = wants_memory r x.failed }) same
+
 module _ (tells : List Row → Type 0) (finds : Finds) (upper : ℕ) (b b' : Cache) (d d' : DraftValue) (c : Call) (F : FetchFault → Type 0) where
   abbrev pub step_of : Result Made TreeFault → Type 0
   step_of r = IsStep {A = Made} tells finds upper b b' d.rows d'.rows c (λ rows. IsMade rows c) F r
@@ -34,6 +38,15 @@ module _ (tells : List Row → Type 0) (finds : Finds) (upper : ℕ) (b b' : Cac
   tried_fault (BucketFull m depth) only s = (s, same_draft d d' only s.change.outcome.3.rows)
   tried_fault (Number id) only s = (s, same_draft d d' only s.change.outcome.3.rows)
   tried_fault NoMemory only s = s
+
+  -- a step that was done, and kept
+  pub tried_ok : (done : Unit {0}) (made : Made) (log : List Row) → d' ≡ noted (record d { rows = log }) c made.0 (option_to_list made.1) → IsStep {A = Made} tells finds upper b b' d.rows log c (λ rows. IsMade rows c) F (Ok made) → IsTried tells finds upper b b' d d' c F (Ok done)
+  tried_ok done made log same s =
+      let rows : d'.rows ≡ log = ap (λ x. x.rows) same in (
+        made,
+        same ∙ ap (λ rs. noted (record d { rows = rs }) c made.0 (option_to_list made.1)) (sym rows),
+        subst (λ rs. IsStep {A = Made} tells finds upper b b' d.rows rs c (λ rows. IsMade rows c) F (Ok made)) (sym rows) s,
+      )
 
   -- memory ran out when the call was to be kept
   pub tried_lost : (made : Made) → step_of (Ok made) → IsTried tells finds upper b b' d d' c F (Err NoMemory)
@@ -127,3 +140,7 @@ module _ (tells : List Row → Type 0) (finds : Finds) (upper : ℕ) (b b' : Cac
         by (Err (BucketFull m depth)) e t = let s = t.0.sound rows serves holds a.leaves.has_map.sound in (s.0, s.1, s.2.holds)
         by (Err (Number id)) e t = let s = t.0.sound rows serves holds a.leaves.has_map.sound in (s.0, s.1, s.2.holds)
         by (Err NoMemory) e t = t.sound rows serves holds a.leaves.has_map.sound
+
+-- the draft as its fields tell it
+pub opened : (tells : List Row → Type 0) (finds : Finds) (upper : ℕ) (b b' : Cache) (d₀ d d' : DraftValue) (c : Call) (F : FetchFault → Type 0) (r : Result (Unit {0}) TreeFault) → d₀ ≡ d → IsTried tells finds upper b b' d₀ d' c F r → IsTried tells finds upper b b' d d' c F r
+opened tells finds upper b b' d₀ d d' c F r same = subst (λ x. IsTried tells finds upper b b' x d' c F r) same

@@ -1,6 +1,31 @@
-use Rattle.std.proofs.Common.{refl, ap, ◌∙◌}
-use Rattle.txn_draft.proofs.Tried.{kept_of, left_of, fits_of, used_of, loads_of, fails_of, sound_of}
+use Rattle.std.proofs.Common.{◌≡◌, refl, ap, ◌∙◌}
+use Rattle.fine_model.specs.declared.FetchFault.{FetchFault}
+use Rattle.txn_draft.specs.Drafts.{DraftValue}
+use Rattle.txn_draft.specs.Steps.{wants_memory}
+use Rattle.txn_draft.proofs.Tried.{failed_is, kept_of, left_of, fits_of, used_of, loads_of, fails_of, sound_of}
 use Rattle.txn_draft.proofs.draft.Draft.answer.Goals as goal
 
 pub returns : goal.returns
-returns g c = ?
+returns g c =
+    let tells = g.S.NodeSource.tells c.args.source.now in
+    let finds = g.S.NodeSource.finds c.args.source.now in
+    let upper = g.S.NodeSource.upper c.args.source.now in
+    let b = c.args.bucket.now in
+    let b' = c.try_answer-answer.new.bucket in
+    let d = c.args.self.now in
+    let d' = c.try_answer-answer.new.self in
+    let call = c.args.call.now in
+    let F : FetchFault → Type 0 = λ failed. g.S.NodeSource.fails c.args.source.now failed c.try_answer-answer.new.source in
+    let r = c.try_answer-answer.result in
+    let failed = failed_is _ d' c.failed_after-self-inside.result r c.self.view_is c.failed_after-self-inside.ensures in
+    let tried = c.try_answer-answer.ensures.tried in record {
+      later = c.try_answer-answer.ensures.later;
+      clean = c.try_answer-answer.ensures.clean;
+      kept = kept_of tells finds upper b b' d d' call F _ r failed tried;
+      left = left_of tells finds upper b b' d d' call F _ r failed tried;
+      fits = fits_of tells finds upper b b' d d' call F _ r failed tried c.requires.bucket;
+      used = used_of tells finds upper b b' d d' call F _ r failed tried;
+      loads = loads_of tells finds upper b b' d d' call F _ r failed tried;
+      fails = fails_of tells finds upper b b' d d' call F _ r failed tried;
+      sound = sound_of tells finds upper b b' d d' call F _ r failed tried;
+    }

@@ -1,4 +1,9 @@
-use Rattle.std.proofs.Common.{ap, ◌∙◌, subst, sym}
+use Rattle.std.proofs.Common.{◌≡◌, ℕ, ◌+◌, ◌++◌, ap, ◌∙◌, subst, sym}
+use Rattle.std.specs.Prelude.{take}
+use Rattle.fine_model.specs.Map.{between}
+use Rattle.fine_model.specs.ScanLaws.{IsKept}
+use Rattle.fine_model.specs.Trees.{tree_map}
+use Rattle.txn_draft.specs.Scans.{IsCut}
 use Rattle.txn_draft.proofs.Gathered.{gathered_on}
 use Rattle.txn_draft.proofs.Used.{used_loaded}
 use Rattle.txn_draft.proofs.scanning.RangeScan.gather.Goals as goal
@@ -6,7 +11,10 @@ use Rattle.txn_draft.proofs.scanning.RangeScan.gather.Goals as goal
 pub returns-in-Ok-clause-sound : goal.returns-in-Ok-clause-sound
 returns-in-Ok-clause-sound g c = λ rows log serves holds sound.
     let s = c.in-Ok.ensures.sound rows log serves holds sound in (
-      gathered_on _ _ _ _ _ _ _ _ sound c.requires.next (subst _ c.requires.bucket s.0) (subst _ _ c.cut.ensures),
+      λ kept. subst (λ (n : ℕ). IsKept (rows ++ log) c.args.low.now c.args.high.now c.args.limit (n + 1) c.cut.result) (sym (ap (λ s. s.next) c.self.view_is))
+          (gathered_on (rows ++ log) c.args.low.now c.args.high.now c.args.limit c.args.self.now.next c.args.self.now.pairs c.scan.new.out c.cut.result sound c.requires.next
+              (s.0 ∙ (λ i. ap (λ s. s.pairs) c.self.view_is i ++ take c.args.limit (between c.args.low.now c.args.high.now (tree_map (rows ++ log) (c.requires.bucket i)))))
+              (subst (λ ps. IsCut c.args.limit ps c.cut.result) c.replace-gathered.ensures.value c.cut.ensures) kept),
       s.1,
     )
 

@@ -4,3 +4,4 @@ pub mod Answered
 pub mod Tried
 pub mod Rested
 pub mod Gathered
+pub mod Lawful

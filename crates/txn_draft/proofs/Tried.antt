@@ -15,9 +15,9 @@ use Rattle.btree_nodes.specs.Trees.{Serves, Holds, FitsLog}
 use Rattle.txn_draft.specs.Answers.{AnswersSoundly, LeavesDraft, FailsBy}
 use Rattle.txn_draft.specs.Drafts.{DraftValue, IsAnswered, FitsDraft, Keeps, noted}
 use Rattle.txn_draft.specs.Steps.{Made, IsMade, IsStep, IsTried, wants_memory}
-use Rattle.txn_draft.specs.Uses.{IsUsed, UsedAfter, OnlyLoads}
+use Rattle.txn_draft.specs.Uses.{IsUsed, UsedAfter, OnlyLoads, OnKept}
 use Rattle.txn_draft.proofs.Answered.{answered_more, fits_more}
-use Rattle.txn_draft.proofs.Used.{used_after, only_loads}
+use Rattle.txn_draft.proofs.Used.{used_after, only_loads, served_after}
 
 -- the log of a refused call is as it was, and so is the draft
 same_draft : (d d' : DraftValue) → d' ≡ record d { rows = d'.rows } → d'.rows ≡ d.rows → d' ≡ d
@@ -59,8 +59,8 @@ module _ (tells : List Row → Type 0) (finds : Finds) (upper : ℕ) (b b' : Cac
     same_rows : d''.rows ≡ d'.rows
     same_rows = ap (λ x. x.rows) failed
 
-    pub kept_of : OnOk r (Keeps c d d'')
-    kept_of = by r failed tried
+    pub kept_of : b.bucket ≡ bucket_of (key_of c) → OnOk r (Keeps c d d'')
+    kept_of of_key = by r failed tried
       where
         by : (r : Result (Unit {0}) TreeFault) → d'' ≡ record d' { failed = wants_memory r d'.failed } → IsTried tells finds upper b b' d d' c F r → OnOk r (Keeps c d d'')
         by (Ok done) e t = record {
@@ -68,6 +68,7 @@ module _ (tells : List Row → Type 0) (finds : Finds) (upper : ℕ) (b b' : Cac
           wrote = option_to_list t.0.1;
           own = t.2.change.outcome.2.rows;
           is = e ∙ t.1 ∙ ap (λ rs. noted (record d { rows = rs }) c t.0.0 (option_to_list t.0.1)) t.2.change.outcome.2.behind;
+          fits = subst (λ k. FitsLog k t.2.change.outcome.2.rows) (t.2.change.loaded.bucket ∙ of_key) t.2.change.outcome.2.fits;
         }
         by (Err fault) e t = tt
 
@@ -113,6 +114,17 @@ module _ (tells : List Row → Type 0) (finds : Finds) (upper : ℕ) (b b' : Cac
         by (Err (Unfit id)) t = only_loads {A = Made} tells finds upper b b' d.rows d'.rows c (λ _ _. Unit {0}) F (Err (Unfit id)) t.0.change
         by (Err (BucketFull m depth)) t = only_loads {A = Made} tells finds upper b b' d.rows d'.rows c (λ _ _. Unit {0}) F (Err (BucketFull m depth)) t.0.change
         by (Err (Number id)) t = only_loads {A = Made} tells finds upper b b' d.rows d'.rows c (λ _ _. Unit {0}) F (Err (Number id)) t.0.change
+        by (Err NoMemory) t = tt
+
+    pub serves_of : (tells' : List Row → Type 0) → ((known : List Row) → tells known → tells' known) → (rows : List Row) → Serves tells b rows → OnKept r (Serves tells' b' rows)
+    serves_of tells' on rows serves = by r tried
+      where
+        by : (r : Result (Unit {0}) TreeFault) → IsTried tells finds upper b b' d d' c F r → OnKept r (Serves tells' b' rows)
+        by (Ok done) t = served_after tells tells' on finds upper b b' d.rows d'.rows c (λ _ _. Unit {0}) F rows (Ok t.0) t.2.change serves
+        by (Err (Source f)) t = served_after {A = Made} tells tells' on finds upper b b' d.rows d'.rows c (λ _ _. Unit {0}) F rows (Err (Source f)) t.0.change serves
+        by (Err (Unfit id)) t = served_after {A = Made} tells tells' on finds upper b b' d.rows d'.rows c (λ _ _. Unit {0}) F rows (Err (Unfit id)) t.0.change serves
+        by (Err (BucketFull m depth)) t = served_after {A = Made} tells tells' on finds upper b b' d.rows d'.rows c (λ _ _. Unit {0}) F rows (Err (BucketFull m depth)) t.0.change serves
+        by (Err (Number id)) t = served_after {A = Made} tells tells' on finds upper b b' d.rows d'.rows c (λ _ _. Unit {0}) F rows (Err (Number id)) t.0.change serves
         by (Err NoMemory) t = tt
 
     pub fails_of : IfErr r (FailsBy F)

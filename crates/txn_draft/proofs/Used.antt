@@ -1,11 +1,13 @@
 -- What a change of a tree leaves of a bucket that a transaction took.
-use Rattle.std.proofs.Common.{◌≡◌, ◌⊎◌, ⊎_elim, ℕ, ◌≤◌, nat_eq, ◌||◌, List, ◌++◌, Option, Some, None, is_some, Result, Ok, Err, refl, sym, ap, subst, ◌∙◌}
+use Rattle.std.proofs.Common.{◌≡◌, ◌≢◌, true≢false, ◌⊎◌, ⊎_elim, ℕ, ◌≤◌, nat_eq, ◌||◌, List, ◌++◌, Option, Some, None, is_some, Result, Ok, Err, refl, sym, ap, subst, ◌∙◌}
 use Rattle.std.specs.Prelude.{IfSome, IsSome, unwrap_or}
 use Rattle.std.specs.List.{AllByRecursion}
 use Rattle.std.specs.Map.{lookup}
 use Rattle.fine_model.specs.declared.Call.{Call}
 use Rattle.fine_model.specs.declared.FetchFault.{FetchFault}
 use Rattle.fine_model.specs.declared.Row.{Row}
+use Rattle.fine_model.specs.declared.Node.TheVariants as node
+use Rattle.fine_model.specs.Trees.{nodes_of}
 use Rattle.fine_model.proofs.Order.{all_map}
 use Rattle.fine_model.proofs.Sets.{all_append}
 use Rattle.node_cache.specs.declared.cached.Cached.{Cached}
@@ -14,9 +16,10 @@ use Rattle.node_cache.specs.Given.{Finds, IsCached, IsFetched, IsLoaded}
 use Rattle.btree_nodes.specs.declared.fault.TreeFault.{TreeFault}
 use Rattle.btree_nodes.specs.declared.fault.TreeFault.TheVariants.{Source, Unfit, BucketFull, Number, NoMemory}
 use Rattle.btree_nodes.specs.Changes.{Saves, Pushes, is_named}
+use Rattle.btree_nodes.specs.Trees.{Serves}
 use Rattle.btree_nodes.specs.Calls.{IsAsBefore, Outcome, IsChange}
 use Rattle.btree_nodes.proofs.Loads.{none_or_some}
-use Rattle.txn_draft.specs.Uses.{Undoes, IsUsed, UsedAfter, OnlyLoads}
+use Rattle.txn_draft.specs.Uses.{Undoes, IsUsed, UsedAfter, OnlyLoads, OnKept}
 
 -- what is there before is either the same, or what was loaded
 by_saved : (o : Option (Option Cached)) (m : Option Cached) (Q : Cached → Type 0) → IfSome (unwrap_or o None) Q → IfSome m Q → IfSome (unwrap_or o m) Q
@@ -103,4 +106,39 @@ module _ {A : Type 0} (tells : List Row → Type 0) (finds : Finds) (upper : ℕ
       by (Err (Unfit id)) o = still o.1.nodes
       by (Err (BucketFull m d)) o = still o.3.nodes
       by (Err (Number id)) o = still o.3.nodes
+      by (Err NoMemory) o = tt
+
+-- where nothing that was cached is dropped, a source that served the bucket does so some loads later
+pub served : (tells tells' : List Row → Type 0) (old new : Cache) (rows : List Row) → ((known : List Row) → tells known → tells' known) → new.bucket ≡ old.bucket → ((n : ℕ) → IsCached old n → IsCached new n) → Serves tells old rows → Serves tells' new rows
+served tells tells' old new rows on bucket there serves = record {
+  known = serves.known;
+  is_told = on serves.known serves.is_told;
+  each = λ n none fine. subst (λ k. nodes_of serves.known k n ≡ nodes_of rows k n) (sym bucket)
+      (serves.each n (was_none n none (cached old n) refl) (subst (λ k. (nodes_of rows k n).0 ≢ node.Broken) bucket fine));
+}
+  where
+    was_none : (n : ℕ) → cached new n ≡ None → (o : Option Cached) → cached old n ≡ o → cached old n ≡ None
+    was_none n none None is = is
+    was_none n none (Some kept) is = absurd (true≢false (sym (there n (ap is_some is)) ∙ ap is_some none))
+
+module _ (tells : List Row → Type 0) (finds : Finds) (upper : ℕ) (old mid : Cache) (loaded : IsLoaded tells finds upper old mid) where
+  pub still_there : (n : ℕ) → IsCached old n → IsCached mid n
+  still_there n here = subst (λ (o : Option Cached). IsSome o) (sym (loaded.stays n here)) here
+
+module _ {A : Type 0} (tells tells' : List Row → Type 0) (on : (known : List Row) → tells known → tells' known) (finds : Finds) (upper : ℕ) (old new : Cache) (log log' : List Row) (c : Call) (P : Cache → A → Type 0) (F : FetchFault → Type 0) where
+  pub served_after : (rows : List Row) (r : Result A TreeFault) → IsChange tells finds upper old new log log' c P F r → Serves tells old rows → OnKept r (Serves tells' new rows)
+  served_after rows r h serves = by r h.outcome
+    where
+      at : ((n : ℕ) → IsCached h.mid n → IsCached new n) → new.bucket ≡ h.mid.bucket → Serves tells' new rows
+      at there bucket = served tells tells' old new rows on (bucket ∙ h.loaded.bucket) (λ n here. there n (still_there tells finds upper old h.mid h.loaded n here)) serves
+
+      same : new ≡ h.mid → Serves tells' new rows
+      same is = at (λ n here. subst (λ b. IsCached b n) (sym is) here) (ap (λ b. b.bucket) is)
+
+      by : (r : Result A TreeFault) → Outcome h.mid new log log' c (P h.mid) F r → OnKept r (Serves tells' new rows)
+      by (Ok a) o = at o.2.pushes.kept o.2.pushes.saves.bucket
+      by (Err (Source f)) o = same o.1.nodes
+      by (Err (Unfit id)) o = same o.1.nodes
+      by (Err (BucketFull m d)) o = same o.3.nodes
+      by (Err (Number id)) o = same o.3.nodes
       by (Err NoMemory) o = tt

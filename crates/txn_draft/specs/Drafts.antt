@@ -14,6 +14,7 @@ use Rattle.fine_model.specs.Pushed.{all_pushed, key_of}
 use Rattle.fine_model.specs.RowBytes.{FitsRow}
 use Rattle.fine_model.specs.Store.{replies_to, writes_of}
 use Rattle.fine_model.specs.Trees.{map_of, bucket_of}
+use Rattle.btree_nodes.specs.Trees.{FitsLog}
 
 -- `failed`: a call answered want of memory. The lists say nothing then, and what was done to buckets is to be undone.
 pub record DraftValue : Type 0 where
@@ -53,12 +54,13 @@ pub record FitsDraft (d : DraftValue) : Type 0 where
 abbrev pub noted : DraftValue → Call → Reply → List Write → DraftValue
 noted d c reply wrote = record d { calls = d.calls ++ c ∷ []; replies = d.replies ++ reply ∷ []; writes = d.writes ++ wrote }
 
--- and the rows that it pushed, behind those that were there
+-- and the rows that it pushed, behind those that were there: they fit the format and are of its bucket
 pub record Keeps (c : Call) (old new : DraftValue) : Type 0 where
   pub reply : Reply
   pub wrote : List Write
   pub own : List Row
   pub is : new ≡ noted (record old { rows = old.rows ++ own }) c reply wrote
+  pub fits : FitsLog (bucket_of (key_of c)) own
 
 -- a call is no scan
 abbrev pub is_scan : Call → Bool

@@ -3,3 +3,4 @@ pub mod Uses
 pub mod Answers
 pub mod Steps
 pub mod Scans
+pub mod Laws

@@ -30,3 +30,8 @@ abbrev pub OnlyLoads : {A : Type 0} → (List Row → Type 0) → Finds → ℕ 
 OnlyLoads tells finds upper old new (Ok done) = Unit {0}
 OnlyLoads tells finds upper old new (Err NoMemory) = Unit {0}
 OnlyLoads tells finds upper old new (Err _) = IsLoaded tells finds upper old new
+
+-- with every answer but want of memory
+abbrev pub OnKept : {A : Type 0} → Result A TreeFault → Type 0 → Type 0
+OnKept (Err NoMemory) P = Unit {0}
+OnKept _ P = P

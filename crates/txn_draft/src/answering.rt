@@ -10,7 +10,7 @@ ghost use Rattle.node_cache.specs.Cache.{Cache};
 ghost use Rattle.btree_nodes.specs.Trees.{Serves, Holds};
 ghost use Rattle.btree_nodes.specs.Calls.{OnCleanAnswer};
 ghost use Rattle.txn_draft.specs.Drafts.{IsAnswered, FitsDraft, Keeps, is_scan};
-ghost use Rattle.txn_draft.specs.Uses.{IsUsed, UsedAfter, OnlyLoads};
+ghost use Rattle.txn_draft.specs.Uses.{IsUsed, UsedAfter, OnlyLoads, OnKept};
 ghost use Rattle.txn_draft.specs.Answers.{AnswersSoundly, LeavesDraft, FailsBy};
 ghost use Rattle.txn_draft.specs.Steps.{IsTried, wants_memory};
 
@@ -77,6 +77,7 @@ impl Draft {
         ensures fits { OnOk result (FitsDraft self.old → FitsDraft self.new) }
         ensures used { (low : ℕ) (taken : Cache) → IsUsed low taken bucket.old self.old.rows → low ≤ S.upper source.old → UsedAfter low taken bucket.new self.new.rows result }
         ensures loads { OnlyLoads (S.tells source.old) (S.finds source.old) (S.upper source.old) bucket.old bucket.new result }
+        ensures serves { (rows : List ModelRow) → Serves (S.tells source.old) bucket.old rows → OnKept result (Serves (S.tells source.new) bucket.new rows) }
         ensures fails { IfErr result (FailsBy (λ failed. S.fails source.old failed source.new)) }
         ensures sound { (rows : List ModelRow) → Serves (S.tells source.old) bucket.old rows → IsAnswered rows self.old → Holds bucket.old rows self.old.rows → AnswersSoundly rows call.now self.old self.new bucket.new result }
     {

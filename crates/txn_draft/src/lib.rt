@@ -3,10 +3,12 @@
 
 mod answering;
 mod draft;
+mod laws;
 mod scanning;
 mod step;
 mod using;
 
 pub use draft::Draft;
+pub use laws::{blank_law, bucket_law, next_law};
 pub use scanning::RangeScan;
 pub use using::{settle, undo};

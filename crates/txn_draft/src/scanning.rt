@@ -90,6 +90,7 @@ impl RangeScan {
         ensures loads { IsLoaded (S.tells source.old) (S.finds source.old) (S.upper source.old) bucket.old bucket.new }
         ensures on_walk { LoadsOnWalk bucket.old bucket.new low.now high.now }
         ensures fails { IfErr result (FailsBy (λ failed. S.fails source.old failed source.new)) }
+        ensures serves { (rows : List ModelRow) → Serves (S.tells source.old) bucket.old rows → Serves (S.tells source.new) bucket.new rows }
         ensures used { (low_epoch : ℕ) (taken : Cache) (rows : List ModelRow) → IsUsed low_epoch taken bucket.old rows → low_epoch ≤ S.upper source.old → IsUsed low_epoch taken bucket.new rows }
         ensures sound { (rows log : List ModelRow) → Serves (S.tells source.old) bucket.old rows → Holds bucket.old rows log → IsSound (rows ++ log) → SoundReading rows log bucket.new (λ done. IsKept (rows ++ log) low.now high.now limit self.old.next self.old.pairs → IsKept (rows ++ log) low.now high.now limit self.new.next self.new.pairs) result }
     {

@@ -12,4 +12,4 @@ returns-in-Ok-clause-step g c =
     let key = c.as_slice.result.now in
     same_step _ _ _ _ _ _ _ _ _ (λ rows. IsMade rows (call.Del c.args.key.now)) _ _ (ap call.Del c.as_slice.ensures)
     (done_step _ _ _ _ _ _ _ (call.Del key) _ (λ mid there. there ≡ has (pairs_in mid key) key) (λ rows there. there ≡ has (map_of rows) key) (λ rows. IsMade rows (call.Del c.args.key.now)) c.in-Ok.there _
-        (λ rows is. made_del rows c.args.key.now c.in-Ok.there c.in_ok-write.write c.removed.result c.in_ok-write.ensures c.removed.ensures (is ∙ ap (has (map_of rows)) c.as_slice.ensures)) c.in-Ok.ensures.change c.in-Ok.ensures.sound)
+    (λ rows is. made_del rows c.args.key.now c.in-Ok.there c.in_ok-write.write c.removed.result c.in_ok-write.ensures c.removed.ensures (is ∙ ap (has (map_of rows)) c.as_slice.ensures)) c.in-Ok.ensures.change c.in-Ok.ensures.sound)

@@ -5,3 +5,4 @@ pub mod Tried
 pub mod Rested
 pub mod Gathered
 pub mod Lawful
+pub mod Taken

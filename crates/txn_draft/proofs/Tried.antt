@@ -17,7 +17,7 @@ use Rattle.txn_draft.specs.Drafts.{DraftValue, IsAnswered, FitsDraft, Keeps, not
 use Rattle.txn_draft.specs.Steps.{Made, IsMade, IsStep, IsTried, wants_memory}
 use Rattle.txn_draft.specs.Uses.{IsUsed, UsedAfter, OnlyLoads, OnKept}
 use Rattle.txn_draft.proofs.Answered.{answered_more, fits_more}
-use Rattle.txn_draft.proofs.Used.{used_after, only_loads, served_after}
+use Rattle.txn_draft.proofs.Used.{used_after, same_number, only_loads, served_after}
 
 -- the log of a refused call is as it was, and so is the draft
 same_draft : (d d' : DraftValue) → d' ≡ record d { rows = d'.rows } → d'.rows ≡ d.rows → d' ≡ d
@@ -104,6 +104,17 @@ module _ (tells : List Row → Type 0) (finds : Finds) (upper : ℕ) (b b' : Cac
 
     pub used_of : (low : ℕ) (taken : Cache) → IsUsed low taken b d.rows → low ≤ upper → UsedAfter low taken b' d''.rows r
     used_of low taken u most = subst (λ rs. UsedAfter low taken b' rs r) (sym same_rows) (step_change low taken u most)
+
+    pub number_of : b'.bucket ≡ b.bucket
+    number_of = by r tried
+      where
+        by : (r : Result (Unit {0}) TreeFault) → IsTried tells finds upper b b' d d' c F r → b'.bucket ≡ b.bucket
+        by (Ok done) t = same_number tells finds upper b b' d.rows d'.rows c (λ _ _. Unit {0}) F (Ok t.0) t.2.change
+        by (Err (Source f)) t = same_number {A = Made} tells finds upper b b' d.rows d'.rows c (λ _ _. Unit {0}) F (Err (Source f)) t.0.change
+        by (Err (Unfit id)) t = same_number {A = Made} tells finds upper b b' d.rows d'.rows c (λ _ _. Unit {0}) F (Err (Unfit id)) t.0.change
+        by (Err (BucketFull m depth)) t = same_number {A = Made} tells finds upper b b' d.rows d'.rows c (λ _ _. Unit {0}) F (Err (BucketFull m depth)) t.0.change
+        by (Err (Number id)) t = same_number {A = Made} tells finds upper b b' d.rows d'.rows c (λ _ _. Unit {0}) F (Err (Number id)) t.0.change
+        by (Err NoMemory) t = same_number {A = Made} tells finds upper b b' d.rows d'.rows c (λ _ _. Unit {0}) F (Err NoMemory) t.change
 
     pub loads_of : OnlyLoads tells finds upper b b' r
     loads_of = by r tried

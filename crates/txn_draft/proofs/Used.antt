@@ -94,6 +94,18 @@ module _ {A : Type 0} (tells : List Row → Type 0) (finds : Finds) (upper : ℕ
       by (Err (Number id)) o = used_same low taken h.mid new log log' o.3 at_mid
       by (Err NoMemory) o = undoes_saved low taken h.mid new o at_mid.undoes
 
+  -- the bucket keeps its number
+  pub same_number : (r : Result A TreeFault) → IsChange tells finds upper old new log log' c P F r → new.bucket ≡ old.bucket
+  same_number r h = by r h.outcome ∙ h.loaded.bucket
+    where
+      by : (r : Result A TreeFault) → Outcome h.mid new log log' c (P h.mid) F r → new.bucket ≡ h.mid.bucket
+      by (Ok a) o = o.2.pushes.saves.bucket
+      by (Err (Source f)) o = ap (λ b. b.bucket) o.1.nodes
+      by (Err (Unfit id)) o = ap (λ b. b.bucket) o.1.nodes
+      by (Err (BucketFull m d)) o = ap (λ b. b.bucket) o.3.nodes
+      by (Err (Number id)) o = ap (λ b. b.bucket) o.3.nodes
+      by (Err NoMemory) o = o.bucket
+
   pub only_loads : (r : Result A TreeFault) → IsChange tells finds upper old new log log' c P F r → OnlyLoads tells finds upper old new r
   only_loads r h = by r h.outcome
     where

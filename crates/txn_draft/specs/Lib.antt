@@ -4,3 +4,4 @@ pub mod Answers
 pub mod Steps
 pub mod Scans
 pub mod Laws
+pub mod Twice

@@ -76,6 +76,7 @@ impl Draft {
         ensures left { IfErr result (LeavesDraft self.old self.new) }
         ensures fits { OnOk result (FitsDraft self.old → FitsDraft self.new) }
         ensures used { (low : ℕ) (taken : Cache) → IsUsed low taken bucket.old self.old.rows → low ≤ S.upper source.old → UsedAfter low taken bucket.new self.new.rows result }
+        ensures number { bucket.new.bucket ≡ bucket.old.bucket }
         ensures loads { OnlyLoads (S.tells source.old) (S.finds source.old) (S.upper source.old) bucket.old bucket.new result }
         ensures serves { (rows : List ModelRow) → Serves (S.tells source.old) bucket.old rows → OnKept result (Serves (S.tells source.new) bucket.new rows) }
         ensures fails { IfErr result (FailsBy (λ failed. S.fails source.old failed source.new)) }

@@ -6,6 +6,7 @@ mod draft;
 mod laws;
 mod scanning;
 mod step;
+mod tests;
 mod using;
 
 pub use draft::Draft;

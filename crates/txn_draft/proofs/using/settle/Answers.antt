@@ -11,3 +11,6 @@ returns-clause-holds c = λ rows log holds.
 
 pub returns-clause-kept : goal.returns-clause-kept
 returns-clause-kept c = λ n. subst (λ o. IfSome o (λ kept. c.args.published < kept.epoch → cached c.evict.new.self n ≡ Some kept)) (c.settle.ensures.stamped n) (c.evict.ensures.kept n)
+
+pub returns-clause-number : goal.returns-clause-number
+returns-clause-number c = ap (λ b. b.bucket) c.evict.ensures.nodes ∙ ap (λ b. b.bucket) c.settle.ensures.nodes

@@ -2,7 +2,7 @@ use Rattle.std.proofs.Common.{◌≡◌, refl, ap, ◌∙◌}
 use Rattle.fine_model.specs.declared.FetchFault.{FetchFault}
 use Rattle.txn_draft.specs.Drafts.{DraftValue}
 use Rattle.txn_draft.specs.Steps.{wants_memory}
-use Rattle.txn_draft.proofs.Tried.{failed_is, kept_of, left_of, fits_of, used_of, loads_of, fails_of, serves_of, sound_of}
+use Rattle.txn_draft.proofs.Tried.{failed_is, kept_of, left_of, fits_of, used_of, number_of, loads_of, fails_of, serves_of, sound_of}
 use Rattle.txn_draft.proofs.draft.Draft.answer.Goals as goal
 
 pub returns : goal.returns
@@ -25,6 +25,7 @@ returns g c =
       left = left_of tells finds upper b b' d d' call F _ r failed tried;
       fits = fits_of tells finds upper b b' d d' call F _ r failed tried c.requires.bucket;
       used = used_of tells finds upper b b' d d' call F _ r failed tried;
+      number = number_of tells finds upper b b' d d' call F _ r failed tried;
       loads = loads_of tells finds upper b b' d d' call F _ r failed tried;
       serves = serves_of tells finds upper b b' d d' call F _ r failed tried _ (λ known. g.met.S.NodeSource.later_tells _ _ known c.try_answer-answer.ensures.later);
       fails = fails_of tells finds upper b b' d d' call F _ r failed tried;

@@ -1,0 +1,3 @@
+//! Tests of drafts.
+
+mod twice;

@@ -1,0 +1,52 @@
+//! Two transactions on one bucket: one commits, and then one is taken back, while the source tells neither of them.
+
+ghost use Rattle.std.specs.Prelude.{◌≡◌, ◌<◌, ◌++◌, ℕ, [], ◌∷◌, false, List, Ok, IfOk, IfSome};
+ghost use Rattle.fine_model.specs.declared.Row.{Row as ModelRow};
+ghost use Rattle.fine_model.specs.Bounds.{FitsCall};
+ghost use Rattle.fine_model.specs.Laws.{AreSmall};
+ghost use Rattle.fine_model.specs.Pushed.{key_of, all_pushed};
+ghost use Rattle.fine_model.specs.Store.{replies_to};
+ghost use Rattle.fine_model.specs.Trees.{bucket_of, map_of, IsSound};
+ghost use Rattle.node_cache.specs.Cache.{cached, IsResting};
+ghost use Rattle.btree_nodes.specs.Trees.{Serves, Holds};
+ghost use Rattle.txn_draft.specs.Drafts.{blank, is_scan};
+ghost use Rattle.txn_draft.specs.Answers.{AnswersSoundly};
+ghost use Rattle.txn_draft.specs.Twice.{IsTwice};
+
+use crate::{Draft, settle, undo};
+use btree_nodes::TreeFault;
+use fine_model::{Bytes, Call, Entry, FetchFault, Items, Node, Reply, bucket_of};
+use node_cache::{Bucket, Cached, NodeSource};
+use std::alloc::Global;
+use std::test::*;
+
+/// Commits one call under an epoch, and then takes another one back. All that is cached is of later epochs than what is published, so nothing is
+/// evicted. The second call is answered on what the first one left, which the source does not tell.
+fn commit_and_abort<S: NodeSource>(
+    source: &mut S,
+    bucket: &mut Bucket,
+    first: &mut Draft,
+    second: &mut Draft,
+    call: &Call,
+    next_call: &Call,
+    epoch: u64,
+    published: u64,
+) -> Result<(Entry, Result<(), TreeFault>), TreeFault>
+    requires first { (lane : ℕ) × (turn : ℕ) × (first.old ≡ blank lane turn) }
+    requires second { (lane : ℕ) × (turn : ℕ) × (second.old ≡ blank lane turn) }
+    requires bucket { bucket.old.bucket ≡ bucket_of (key_of call.now) }
+    requires same { bucket.old.bucket ≡ bucket_of (key_of next_call.now) }
+    requires fits { FitsCall call.now × FitsCall next_call.now }
+    requires no_scan { (is_scan call.now ≡ false) × (is_scan next_call.now ≡ false) }
+    requires resting { IsResting bucket.old }
+    requires later { (published < epoch) × (published < S.upper source.old) }
+    requires kept { (n : ℕ) → IfSome (cached bucket.old n) (λ kept. published < kept.epoch) }
+    ensures sound { (rows : List ModelRow) → Serves (S.tells source.old) bucket.old rows → Holds bucket.old rows [] → AreSmall rows → IsSound rows → IfOk result (λ p. IsTwice rows call.now next_call.now p.0 second.old second.new bucket.new p.1) }
+{
+    first.answer(source, bucket, call)?;
+    let entry = first.take_entry();
+    settle(bucket, epoch, published, 0);
+    let answer = second.answer(source, bucket, next_call);
+    undo(bucket, published, 0);
+    Ok((entry, answer))
+}

@@ -153,7 +153,7 @@ fn add<S: NodeSource>(
             let write = sum_of(alloc, key, &reply)?;
             Ok((reply, write))
         }
-        Err(fault) => Err(fault),
+        Err(refused) => Err(refused),
     }
 }
 

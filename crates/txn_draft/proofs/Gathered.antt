@@ -1,18 +1,16 @@
 -- What a scan keeps from bucket to bucket.
-use Rattle.std.proofs.Common.{◌≡◌, ℕ, ◌+◌, ◌<◌, Bool, List, [], ◌∷◌, ◌++◌, ◌⊎◌, ⊎_elim, Ok, None, refl, sym, ap, subst, ◌∙◌, append-nil, nat_cmp, is_lt}
+use Rattle.std.proofs.Common.{◌≡◌, ℕ, ◌+◌, ◌<◌, List, [], ◌++◌, ⊎_elim, Ok, None, refl, sym, ap, subst, ◌∙◌, append-nil}
 use Rattle.std.specs.Prelude.{take}
 use Rattle.std.specs.Cmp.{IsStrictWeakOrder}
-use Rattle.std.specs.Cmp.Lexicographic.{slice_cmp}
 use Rattle.std.proofs.lemmas.Cmp.{nat_list_cmp_total, on_total}
 use Rattle.std.proofs.lemmas.List.MinMax.{ranks_by}
-use Rattle.fine_model.specs.declared.Call.{Call}
 use Rattle.fine_model.specs.declared.Call.TheVariants as call
 use Rattle.fine_model.specs.declared.Reply.TheVariants as reply
 use Rattle.fine_model.specs.declared.Row.{Row}
 use Rattle.fine_model.specs.Map.{Pair, is_below, between}
 use Rattle.fine_model.specs.Pushed.{pushed, push_of, call_push, within_limits}
-use Rattle.fine_model.specs.ScanLaws.{IsKept, IsWholeScan}
-use Rattle.fine_model.specs.Trees.{IsSound, tree_map, map_of}
+use Rattle.fine_model.specs.ScanLaws.{IsKept}
+use Rattle.fine_model.specs.Trees.{IsSound, tree_map}
 use Rattle.fine_model.proofs.KeptPairs.{kept_more, kept_cut, kept_all}
 use Rattle.txn_draft.specs.Drafts.{DraftValue, IsAnswered, noted}
 use Rattle.txn_draft.specs.Scans.{IsFirst, IsCut}

@@ -1,13 +1,12 @@
 -- The laws of drafts.
-use Rattle.std.proofs.Common.{◌≡◌, ◌≢◌, ℕ, nat_eq, Bool, true, false, List, [], ◌∷◌, ◌++◌, ◌≤◌, Option, Some, None, refl, sym, ap, subst, ◌∙◌, append-nil, append_assoc, arith}
-use Rattle.std.specs.Prelude.{IfSome, unwrap_or, filter}
+use Rattle.std.proofs.Common.{◌≡◌, ◌≢◌, ℕ, nat_eq, List, [], ◌∷◌, ◌++◌, ◌≤◌, Option, refl, sym, ap, subst, ◌∙◌, append-nil, append_assoc, arith}
+use Rattle.std.specs.Prelude.{IfSome, unwrap_or}
 use Rattle.std.specs.Map.{lookup}
 use Rattle.std.specs.List.{AllByRecursion}
 use Rattle.fine_model.specs.declared.Row.{Row}
-use Rattle.fine_model.specs.History.{map_at}
 use Rattle.fine_model.specs.Laws.{AreSmall}
-use Rattle.fine_model.specs.Map.{Pair, map_after}
-use Rattle.fine_model.specs.Nodes.{content, replay, rows_of}
+use Rattle.fine_model.specs.Map.{map_after}
+use Rattle.fine_model.specs.Nodes.{replay, rows_of}
 use Rattle.fine_model.specs.Pushed.{all_pushed}
 use Rattle.fine_model.specs.Store.{replies_to, writes_of}
 use Rattle.fine_model.specs.Trees.{IsSound, map_of, nodes_of}
@@ -15,7 +14,7 @@ use Rattle.fine_model.proofs.Legal.{legal_map}
 use Rattle.fine_model.proofs.NodeLaws.{content-append, rows_of-append}
 use Rattle.node_cache.specs.declared.cached.Cached.{Cached}
 use Rattle.node_cache.specs.Cache.{Cache, cached, before}
-use Rattle.btree_nodes.specs.Trees.{Holds, node_at}
+use Rattle.btree_nodes.specs.Trees.{node_at}
 use Rattle.txn_draft.specs.Laws.{BlankLaw, NextLaw, TakenLaw, OthersLaw}
 
 pub blank_law : BlankLaw

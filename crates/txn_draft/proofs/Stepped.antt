@@ -13,14 +13,14 @@ use Rattle.fine_model.specs.declared.Write.TheVariants as write
 use Rattle.fine_model.specs.Map.{get, has}
 use Rattle.fine_model.specs.Store.{answer, value_answer}
 use Rattle.fine_model.specs.Pushed.{pushed, push_of, call_push, within_limits, key_of}
-use Rattle.fine_model.specs.Trees.{map_of, bucket_of, IsSound}
+use Rattle.fine_model.specs.Trees.{map_of, IsSound}
 use Rattle.node_cache.specs.declared.cached.Cached.{Cached}
-use Rattle.node_cache.specs.Cache.{Cache, cached}
+use Rattle.node_cache.specs.Cache.{Cache}
 use Rattle.node_cache.specs.Given.{Finds, IsFetched, IsLoaded}
 use Rattle.btree_nodes.specs.declared.fault.TreeFault.{TreeFault}
 use Rattle.btree_nodes.specs.declared.fault.TreeFault.TheVariants.{Source, Unfit, BucketFull, Number, NoMemory}
 use Rattle.btree_nodes.specs.Trees.{Serves, Holds, LoadsOnWay, AreUsed, way_in}
-use Rattle.btree_nodes.specs.Calls.{Outcome, OnReached, IsChange, IsDone, Answers, IsFound, SoundOutcome, SoundReading}
+use Rattle.btree_nodes.specs.Calls.{IsChange, IsDone, Answers, IsFound, SoundOutcome, SoundReading}
 use Rattle.btree_nodes.proofs.Changed.{saves_itself}
 use Rattle.btree_nodes.proofs.LeafPush.{pushes_none}
 use Rattle.btree_nodes.proofs.Loads.{among_none}

@@ -1,17 +1,15 @@
 -- What a bucket at rest serves once a transaction was settled there, while nothing in it is published.
-use Rattle.std.proofs.Common.{◌≡◌, ◌≢◌, ◌⊎◌, ⊎_elim, ℕ, ◌≤◌, ◌<◌, nat_eq, Bool, true, false, List, [], ◌++◌, Option, Some, None, is_some, option_map, Result, Ok, Err, refl, sym, ap, subst, ◌∙◌, true≢false, arith}
+use Rattle.std.proofs.Common.{◌≡◌, ◌≢◌, ⊎_elim, ℕ, ◌≤◌, ◌<◌, List, ◌++◌, Option, Some, None, is_some, option_map, Result, Ok, Err, refl, sym, ap, subst, ◌∙◌, true≢false, arith}
 use Rattle.std.specs.Prelude.{IfSome, unwrap_or, if◌then◌else◌}
-use Rattle.std.specs.Map.{lookup}
 use Rattle.fine_model.specs.declared.Call.{Call}
 use Rattle.fine_model.specs.declared.Node.TheVariants as node
 use Rattle.fine_model.specs.declared.Row.{Row}
-use Rattle.fine_model.specs.Nodes.{content, replay, rows_of}
+use Rattle.fine_model.specs.Nodes.{replay}
 use Rattle.fine_model.specs.Trees.{nodes_of}
 use Rattle.fine_model.proofs.NodeLaws.{content-append}
 use Rattle.node_cache.specs.declared.cached.Cached.{Cached}
 use Rattle.node_cache.specs.Cache.{Cache, cached, original, before, after}
 use Rattle.node_cache.specs.Entries.{stamped}
-use Rattle.node_cache.specs.Given.{IsCached}
 use Rattle.btree_nodes.specs.declared.fault.TreeFault.{TreeFault}
 use Rattle.btree_nodes.specs.declared.fault.TreeFault.TheVariants.{Source, Unfit, BucketFull, Number, NoMemory}
 use Rattle.btree_nodes.specs.Trees.{Serves, Holds, Restores, node_at}
@@ -19,7 +17,7 @@ use Rattle.btree_nodes.proofs.Loads.{none_or_some}
 use Rattle.txn_draft.specs.Answers.{AnswersSoundly}
 use Rattle.txn_draft.specs.Drafts.{DraftValue, IsAnswered}
 use Rattle.txn_draft.specs.Twice.{AnsweredOr}
-use Rattle.txn_draft.specs.Uses.{Undoes, IsUsed}
+use Rattle.txn_draft.specs.Uses.{IsUsed}
 
 -- after each answer, what undoing restores is what the rows leave
 pub restored : (rows : List Row) (c : Call) (d d' : DraftValue) (b : Cache) (r : Result (Unit {0}) TreeFault) → AnswersSoundly rows c d d' b r → Restores b rows

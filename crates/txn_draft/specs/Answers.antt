@@ -2,7 +2,6 @@
 use Rattle.std.specs.Prelude.{◌≡◌, true, List, ◌++◌, Some, Result, Ok, Err}
 use Rattle.fine_model.specs.declared.Call.{Call}
 use Rattle.fine_model.specs.declared.FetchFault.{FetchFault}
-use Rattle.fine_model.specs.declared.NodeId.{NodeId}
 use Rattle.fine_model.specs.declared.Row.{Row}
 use Rattle.fine_model.specs.declared.Why.TheVariants as why
 use Rattle.fine_model.specs.Pushed.{pushed, push_of, key_of}

@@ -1,5 +1,5 @@
 -- What the laws of drafts say. Each is the contract of a function of its name.
-use Rattle.std.specs.Prelude.{◌≡◌, ◌≢◌, ℕ, ◌≤◌, List, [], ◌++◌, All, Ok}
+use Rattle.std.specs.Prelude.{◌≢◌, ℕ, ◌≤◌, List, [], ◌++◌, All}
 use Rattle.std.specs.List.{AllByRecursion}
 use Rattle.fine_model.specs.declared.Row.{Row}
 use Rattle.fine_model.specs.History.{Commit, IsLegal, IsNext, all_rows}

@@ -1,5 +1,5 @@
 -- One call in a bucket, without the lists of its transaction.
-use Rattle.std.specs.Prelude.{◌≡◌, Bool, true, List, [], ◌∷◌, ◌++◌, Option, Some, None, ℕ, Result, Ok, Err}
+use Rattle.std.specs.Prelude.{◌≡◌, Bool, true, List, ◌++◌, Option, ℕ, Result, Ok, Err}
 use Rattle.std.specs.Option.{option_to_list}
 use Rattle.fine_model.specs.declared.Call.{Call}
 use Rattle.fine_model.specs.declared.FetchFault.{FetchFault}
@@ -11,7 +11,7 @@ use Rattle.fine_model.specs.Trees.{map_of, IsSound}
 use Rattle.node_cache.specs.Cache.{Cache}
 use Rattle.node_cache.specs.Given.{Finds}
 use Rattle.btree_nodes.specs.declared.fault.TreeFault.{TreeFault}
-use Rattle.btree_nodes.specs.declared.fault.TreeFault.TheVariants.{Source, Unfit, BucketFull, Number, NoMemory}
+use Rattle.btree_nodes.specs.declared.fault.TreeFault.TheVariants.{NoMemory}
 use Rattle.btree_nodes.specs.Trees.{Serves, Holds}
 use Rattle.btree_nodes.specs.Calls.{IsChange, SoundOutcome}
 use Rattle.txn_draft.specs.Drafts.{DraftValue, noted}

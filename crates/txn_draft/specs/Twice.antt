@@ -3,7 +3,7 @@ use Rattle.std.specs.Prelude.{◌≡◌, [], ◌∷◌, List, ◌++◌, Result, 
 use Rattle.fine_model.specs.declared.Call.{Call}
 use Rattle.fine_model.specs.declared.Entry.{Entry}
 use Rattle.fine_model.specs.declared.Row.{Row}
-use Rattle.fine_model.specs.Pushed.{all_pushed, pushed}
+use Rattle.fine_model.specs.Pushed.{all_pushed}
 use Rattle.fine_model.specs.Store.{replies_to}
 use Rattle.fine_model.specs.Trees.{map_of}
 use Rattle.node_cache.specs.Cache.{Cache}

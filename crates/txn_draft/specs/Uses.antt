@@ -5,7 +5,7 @@ use Rattle.fine_model.specs.declared.Row.{Row}
 use Rattle.node_cache.specs.Cache.{Cache, cached, before, IsSaved}
 use Rattle.node_cache.specs.Given.{Finds, IsCached, IsLoaded}
 use Rattle.btree_nodes.specs.declared.fault.TreeFault.{TreeFault}
-use Rattle.btree_nodes.specs.declared.fault.TreeFault.TheVariants.{Source, Unfit, BucketFull, Number, NoMemory}
+use Rattle.btree_nodes.specs.declared.fault.TreeFault.TheVariants.{NoMemory}
 
 -- What was cached when the bucket was taken is what undoing restores; every other node that it leaves was loaded from a source whose
 -- upper epoch is low or later.

@@ -6,6 +6,7 @@ mod draft;
 mod laws;
 mod scanning;
 mod step;
+#[cfg(test)]
 mod tests;
 mod using;
 

@@ -1,3 +1,4 @@
 //! Tests of drafts.
 
+mod fresh;
 mod twice;

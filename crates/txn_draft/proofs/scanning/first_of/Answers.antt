@@ -1,5 +1,5 @@
-use Rattle.std.proofs.Common.{rules, ap, ◌∙◌, subst}
-use Rattle.std.specs.Prelude.{take, IsPermutation}
+use Rattle.std.proofs.Common.{rules, ◌∙◌, subst}
+use Rattle.std.specs.Prelude.{IsPermutation}
 use Rattle.std.proofs.lemmas.List.Sorted.{answers_always}
 use Rattle.fine_model.specs.Map.{is_below}
 use Rattle.txn_draft.proofs.Gathered.{pairs_ranked}

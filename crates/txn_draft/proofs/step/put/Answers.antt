@@ -1,5 +1,3 @@
-use Rattle.std.proofs.Common.{◌≡◌}
-use Rattle.fine_model.specs.declared.Call.{Call}
 use Rattle.fine_model.specs.declared.Call.TheVariants as call
 use Rattle.txn_draft.specs.Steps.{IsMade}
 use Rattle.txn_draft.proofs.Stepped.{done_step, made_put, same_step}

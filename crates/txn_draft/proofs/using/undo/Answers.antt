@@ -1,6 +1,5 @@
 use Rattle.std.proofs.Common.{◌≡◌, ◌<◌, Some, ap, ◌∙◌, subst}
 use Rattle.std.specs.Prelude.{IfSome}
-use Rattle.node_cache.specs.declared.cached.Cached.{Cached}
 use Rattle.node_cache.specs.Cache.{cached, before}
 use Rattle.txn_draft.proofs.Rested.{holds_undone, still}
 use Rattle.txn_draft.proofs.using.undo.Goals as goal

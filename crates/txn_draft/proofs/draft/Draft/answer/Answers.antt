@@ -1,7 +1,4 @@
-use Rattle.std.proofs.Common.{◌≡◌, refl, ap, ◌∙◌}
 use Rattle.fine_model.specs.declared.FetchFault.{FetchFault}
-use Rattle.txn_draft.specs.Drafts.{DraftValue}
-use Rattle.txn_draft.specs.Steps.{wants_memory}
 use Rattle.txn_draft.proofs.Tried.{failed_is, kept_of, left_of, fits_of, used_of, number_of, loads_of, fails_of, serves_of, sound_of}
 use Rattle.txn_draft.proofs.draft.Draft.answer.Goals as goal
 

@@ -1,5 +1,4 @@
-use Rattle.std.proofs.Common.{◌≡◌, ℕ, [], append-nil, ap, ◌∙◌, subst, sym}
-use Rattle.fine_model.specs.declared.Call.TheVariants as call
+use Rattle.std.proofs.Common.{ℕ, [], append-nil, ap, ◌∙◌, subst, sym}
 use Rattle.fine_model.specs.declared.Reply.TheVariants as reply
 use Rattle.txn_draft.specs.Drafts.{noted}
 use Rattle.txn_draft.specs.Scans.{IsFirst, limit_of}

@@ -1,7 +1,6 @@
 use Rattle.std.proofs.Common.{refl, Ok, Err}
 use Rattle.fine_model.specs.declared.FetchFault.{FetchFault}
-use Rattle.btree_nodes.specs.declared.fault.TreeFault.TheVariants.{NoMemory}
-use Rattle.txn_draft.proofs.Tried.{tried_ok, tried_fault, tried_lost, opened}
+use Rattle.txn_draft.proofs.Tried.{tried_ok, tried_fault, opened}
 use Rattle.txn_draft.proofs.draft.Draft.try_answer.Goals as goal
 
 pub returns-in_ok-note-in-Ok-clause-tried : goal.returns-in_ok-note-in-Ok-clause-tried

@@ -1,4 +1,4 @@
-use Rattle.std.proofs.Common.{◌≡◌, ℕ, ◌+◌, ◌++◌, ap, ◌∙◌, subst, sym}
+use Rattle.std.proofs.Common.{ℕ, ◌+◌, ◌++◌, ap, ◌∙◌, subst, sym}
 use Rattle.std.specs.Prelude.{take}
 use Rattle.fine_model.specs.Map.{between}
 use Rattle.fine_model.specs.ScanLaws.{IsKept}

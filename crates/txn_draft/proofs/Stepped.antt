@@ -1,0 +1,152 @@
+-- What a call of a tree gives, as a step.
+use Rattle.std.proofs.Common.{◌≡◌, ℕ, Bool, true, false, List, [], ◌∷◌, ◌++◌, Option, Some, None, Result, Ok, Err, refl, sym, ap, subst, ◌∙◌, append-nil}
+use Rattle.std.specs.Prelude.{IfSome, if◌then◌else◌}
+use Rattle.std.specs.Option.{option_to_list}
+use Rattle.fine_model.specs.declared.Call.{Call}
+use Rattle.fine_model.specs.declared.Call.TheVariants as call
+use Rattle.fine_model.specs.declared.FetchFault.{FetchFault}
+use Rattle.fine_model.specs.declared.Row.{Row}
+use Rattle.fine_model.specs.declared.Reply.{Reply}
+use Rattle.fine_model.specs.declared.Reply.TheVariants as reply
+use Rattle.fine_model.specs.declared.Write.{Write}
+use Rattle.fine_model.specs.declared.Write.TheVariants as write
+use Rattle.fine_model.specs.Map.{get, has}
+use Rattle.fine_model.specs.Store.{answer, value_answer}
+use Rattle.fine_model.specs.Pushed.{pushed, push_of, call_push, within_limits, key_of}
+use Rattle.fine_model.specs.Trees.{map_of, IsSound}
+use Rattle.node_cache.specs.declared.cached.Cached.{Cached}
+use Rattle.node_cache.specs.Cache.{Cache}
+use Rattle.node_cache.specs.Given.{Finds, IsFetched, IsLoaded}
+use Rattle.btree_nodes.specs.declared.fault.TreeFault.{TreeFault}
+use Rattle.btree_nodes.specs.declared.fault.TreeFault.TheVariants.{Source, Unfit, BucketFull, Number, NoMemory}
+use Rattle.btree_nodes.specs.Trees.{Serves, Holds, LoadsOnWay, AreUsed, way_in}
+use Rattle.btree_nodes.specs.Calls.{IsChange, IsDone, Answers, IsFound, SoundOutcome, SoundReading}
+use Rattle.btree_nodes.proofs.Changed.{saves_itself}
+use Rattle.btree_nodes.proofs.LeafPush.{pushes_none}
+use Rattle.btree_nodes.proofs.Loads.{among_none}
+use Rattle.btree_nodes.proofs.SoundCalls.{fault_first, reached_fault}
+use Rattle.txn_draft.specs.Steps.{Made, IsMade, IsStep}
+
+-- nothing was loaded
+pub loads_none : (tells : List Row → Type 0) (finds : Finds) (upper : ℕ) (b : Cache) → IsLoaded tells finds upper b b
+loads_none tells finds upper b = record {
+  bucket = refl;
+  saved = refl;
+  stays = λ n here. refl;
+  fetched = λ n none. subst (λ (o : Option Cached). IfSome o (IsFetched tells finds upper b.bucket n)) (sym none) tt;
+}
+
+-- a call that pushes nothing is done
+done_none : (b : Cache) (log : List Row) (key : List ℕ) → IsDone b b log log (call.Get key)
+unfolding call_push within_limits
+done_none b log key = record { rows = []; is_pushed = refl; behind = sym (append-nil log); pushes = pushes_none b; fits = record { fit = tt; here = tt } }
+
+get_pushed : (rows : List Row) (key : List ℕ) → pushed rows (call.Get key) ≡ Ok []
+unfolding push_of call_push within_limits
+get_pushed rows key = refl
+
+module _ (tells : List Row → Type 0) (finds : Finds) (upper : ℕ) (old new : Cache) (log log' : List Row) (c : Call) (F : FetchFault → Type 0) where
+  -- the same fault at another type
+  fault_change : {A B : Type 0} (P : Cache → A → Type 0) (Q : Cache → B → Type 0) (e : TreeFault) → IsChange {A = A} tells finds upper old new log log' c P F (Err e) → IsChange {A = B} tells finds upper old new log log' c Q F (Err e)
+  fault_change P Q (Source f) h = record { mid = h.mid; loaded = h.loaded; on_way = h.on_way; used = tt; outcome = h.outcome }
+  fault_change P Q (Unfit id) h = record { mid = h.mid; loaded = h.loaded; on_way = h.on_way; used = tt; outcome = h.outcome }
+  fault_change P Q (BucketFull m d) h = record { mid = h.mid; loaded = h.loaded; on_way = h.on_way; used = h.used; outcome = h.outcome }
+  fault_change P Q (Number id) h = record { mid = h.mid; loaded = h.loaded; on_way = h.on_way; used = h.used; outcome = h.outcome }
+  fault_change P Q NoMemory h = record { mid = h.mid; loaded = h.loaded; on_way = h.on_way; used = tt; outcome = h.outcome }
+
+  fault_outcome : {A B : Type 0} (rows : List Row) (P : A → Type 0) (Q : B → Type 0) (e : TreeFault) → SoundOutcome {A = A} rows log log' new c P (Err e) → SoundOutcome {A = B} rows log log' new c Q (Err e)
+  fault_outcome rows P Q (Source f) h = h
+  fault_outcome rows P Q (Unfit id) h = h
+  fault_outcome rows P Q (BucketFull m d) h = h
+  fault_outcome rows P Q (Number id) h = h
+  fault_outcome rows P Q NoMemory h = h
+
+  pub fault_step : {A B : Type 0} (P : Cache → A → Type 0) (R : List Row → A → Type 0) (Q : List Row → B → Type 0) (e : TreeFault) → IsChange {A = A} tells finds upper old new log log' c P F (Err e)
+      → ((rows : List Row) → Serves tells old rows → Holds old rows log → IsSound (rows ++ log) → SoundOutcome {A = A} rows log log' new c (R (rows ++ log)) (Err e))
+      → IsStep {A = B} tells finds upper old new log log' c Q F (Err e)
+  fault_step P R Q e change sound = record {
+    change = fault_change P (λ _ _. Unit {0}) e change;
+    sound = λ rows serves holds is. fault_outcome rows (R (rows ++ log)) (Q (rows ++ log)) e (sound rows serves holds is);
+  }
+
+  -- another value in its place
+  pub done_step : {A B : Type 0} (P : Cache → A → Type 0) (R : List Row → A → Type 0) (Q : List Row → B → Type 0) (a : A) (b : B) → ((rows : List Row) → R rows a → Q rows b) → IsChange {A = A} tells finds upper old new log log' c P F (Ok a)
+      → ((rows : List Row) → Serves tells old rows → Holds old rows log → IsSound (rows ++ log) → SoundOutcome {A = A} rows log log' new c (R (rows ++ log)) (Ok a))
+      → IsStep {A = B} tells finds upper old new log log' c Q F (Ok b)
+  done_step P R Q a b on h sound = record {
+    change = record { mid = h.mid; loaded = h.loaded; on_way = h.on_way; used = h.used; outcome = (tt, h.outcome.1, h.outcome.2) };
+    sound = λ rows serves holds is. let s = sound rows serves holds is in (on (rows ++ log) s.0, s.1);
+  }
+
+  -- memory ran out once the call was done
+  pub lost_step : {A B : Type 0} (P : Cache → A → Type 0) (R : List Row → A → Type 0) (Q : List Row → B → Type 0) (a : A) → IsChange {A = A} tells finds upper old new log log' c P F (Ok a)
+      → ((rows : List Row) → Serves tells old rows → Holds old rows log → IsSound (rows ++ log) → SoundOutcome {A = A} rows log log' new c (R (rows ++ log)) (Ok a))
+      → IsStep {A = B} tells finds upper old new log log' c Q F (Err NoMemory)
+  lost_step P R Q a h sound = record {
+    change = record { mid = h.mid; loaded = h.loaded; on_way = h.on_way; used = tt; outcome = h.outcome.2.pushes.saves };
+    sound = λ rows serves holds is. (sound rows serves holds is).1.holds.restores;
+  }
+
+-- nothing was done
+pub no_step : {A : Type 0} (tells : List Row → Type 0) (finds : Finds) (upper : ℕ) (b : Cache) (log : List Row) (c : Call) (Q : List Row → A → Type 0) (F : FetchFault → Type 0) → IsStep {A = A} tells finds upper b b log log c Q F (Err NoMemory)
+no_step tells finds upper b log c Q F = record {
+  change = record { mid = b; loaded = loads_none tells finds upper b; on_way = among_none b b (way_in b (key_of c)) (λ n. refl); used = tt; outcome = saves_itself b b refl };
+  sound = λ rows serves holds is. holds.restores;
+}
+
+-- a key was looked up
+module _ (tells : List Row → Type 0) (finds : Finds) (upper : ℕ) (old new : Cache) (log : List Row) (key : List ℕ) (F : FetchFault → Type 0) (loaded : IsLoaded tells finds upper old new) (on_way : LoadsOnWay old new key) where
+  pub got_step : {B : Type 0} (Q : List Row → B → Type 0) (value : Option (List ℕ)) (b : B) → ((rows : List Row) → value ≡ get (map_of rows) key → Q rows b) → AreUsed old new (way_in new key) → IsFound new key value
+      → ((rows log : List Row) → Serves tells old rows → Holds old rows log → IsSound (rows ++ log) → SoundReading rows log new (λ v. v ≡ get (map_of (rows ++ log)) key) (Ok value))
+      → IsStep {A = B} tells finds upper old new log log (call.Get key) Q F (Ok b)
+  got_step Q value b on used found sound = record {
+    change = record { mid = new; loaded = loaded; on_way = on_way; used = used; outcome = (tt, record { here = found.here; fit = found.fit }, done_none new log key) };
+    sound = λ rows serves holds is. let s = sound rows log serves holds is in (on (rows ++ log) s.0, record { own = []; is_pushed = get_pushed (rows ++ log) key; behind = sym (append-nil log); holds = s.1 });
+  }
+
+  pub missed_step : {B : Type 0} (Q : List Row → B → Type 0) (e : TreeFault) → Answers {A = Option (List ℕ)} new key (IsFound new key) F (Err e)
+      → ((rows log : List Row) → Serves tells old rows → Holds old rows log → IsSound (rows ++ log) → SoundReading {A = Option (List ℕ)} rows log new (λ v. v ≡ get (map_of (rows ++ log)) key) (Err e))
+      → IsStep {A = B} tells finds upper old new log log (call.Get key) Q F (Err e)
+  missed_step {B} Q e answer sound = record {
+    change = record {
+      mid = new;
+      loaded = loaded;
+      on_way = on_way;
+      used = reached_fault B (Option (List ℕ)) new key (IsFound new key) F e (AreUsed old new (way_in new key)) answer;
+      outcome = fault_first {B = B} new log (call.Get key) (IsFound new key) (λ _. Unit {0}) F e answer;
+    };
+    sound = λ rows serves holds is. by rows e (sound rows log serves holds is);
+  }
+    where
+      by : (rows : List Row) (e : TreeFault) → SoundReading {A = Option (List ℕ)} rows log new (λ v. v ≡ get (map_of (rows ++ log)) key) (Err e) → SoundOutcome {A = B} rows log log new (call.Get key) (Q (rows ++ log)) (Err e)
+      by rows (Source f) h = record { same = refl; holds = h }
+      by rows (Unfit id) h = h
+      by rows (BucketFull m d) h = absurd h
+      by rows (Number id) h = absurd h
+      by rows NoMemory h = h.restores
+
+-- ---- the replies and writes
+
+pub made_get : (rows : List Row) (key : List ℕ) (value : Option (List ℕ)) (r : Reply) → r ≡ value_answer value → value ≡ get (map_of rows) key → IsMade rows (call.Get key) (r, None)
+unfolding answer
+made_get rows key value r is e = λ i. ((is ∙ ap value_answer e) i, [])
+
+pub made_put : (rows : List Row) (key value : List ℕ) (w : Write) → w ≡ write.Set key value → IsMade rows (call.Put key value) (reply.Stored, Some w)
+unfolding answer
+made_put rows key value w is = λ i. (reply.Stored, is i ∷ [])
+
+pub made_del : (rows : List Row) (key : List ℕ) (there : Bool) (w : Write) (made : Made) → w ≡ write.Unset key → made ≡ (if there then (reply.Removed, Some w) else (reply.Absent, None)) → there ≡ has (map_of rows) key → IsMade rows (call.Del key) made
+unfolding answer
+made_del rows key there w made is all e =
+    ap (λ (p : Made). (p.0, option_to_list p.1)) all ∙ by there ∙ ap (λ t. if t then (reply.Removed, write.Unset key ∷ []) else (reply.Absent, [])) e
+  where
+    shown : Made → Reply × List Write
+    shown p = (p.0, option_to_list p.1)
+
+    by : (t : Bool) → shown (if t then (reply.Removed, Some w) else (reply.Absent, None)) ≡ (if t then (reply.Removed, write.Unset key ∷ []) else (reply.Absent, []))
+    by true = λ i. (reply.Removed, is i ∷ [])
+    by false = refl
+
+-- a call that is spelled otherwise
+pub same_step : {A : Type 0} (tells : List Row → Type 0) (finds : Finds) (upper : ℕ) (old new : Cache) (log log' : List Row) (c c' : Call) (Q : List Row → A → Type 0) (F : FetchFault → Type 0) (r : Result A TreeFault) → c ≡ c' → IsStep tells finds upper old new log log' c Q F r → IsStep tells finds upper old new log log' c' Q F r
+same_step tells finds upper old new log log' c c' Q F r same = subst (λ k. IsStep tells finds upper old new log log' k Q F r) same

@@ -1,0 +1,5 @@
+use Rattle.txn_draft.proofs.Lawful.{taken_law, others_law}
+use Rattle.txn_draft.proofs.laws.bucket_law.Goals as goal
+
+pub returns : goal.returns
+returns c = record { taken = taken_law; others = others_law }

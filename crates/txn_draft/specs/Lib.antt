@@ -1,0 +1,7 @@
+pub mod Drafts
+pub mod Uses
+pub mod Answers
+pub mod Steps
+pub mod Scans
+pub mod Laws
+pub mod Twice

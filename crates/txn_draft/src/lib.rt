@@ -1,0 +1,16 @@
+//! The core of one transaction: its calls on buckets and a source of nodes, and the entry that it becomes.
+#![tactic(auto)]
+
+mod answering;
+mod draft;
+mod laws;
+mod scanning;
+mod step;
+#[cfg(test)]
+mod tests;
+mod using;
+
+pub use draft::Draft;
+pub use laws::{blank_law, bucket_law, next_law};
+pub use scanning::RangeScan;
+pub use using::{settle, undo};

@@ -1,0 +1,145 @@
+//! Scans over all buckets.
+
+ghost use Rattle.std.specs.Prelude.{◌≡◌, ◌≤◌, ◌<◌, ◌+◌, ◌++◌, ℕ, List, [], false, true, take, OnOk, OnErr, IfErr};
+ghost use Rattle.fine_model.specs.declared.Row.{Row as ModelRow};
+ghost use Rattle.fine_model.specs.declared.Call.TheVariants as call_of;
+ghost use Rattle.fine_model.specs.ScanLaws.{IsKept};
+ghost use Rattle.fine_model.specs.Trees.{IsSound};
+ghost use Rattle.node_cache.specs.Cache.{Cache};
+ghost use Rattle.node_cache.specs.Given.{IsLoaded};
+ghost use Rattle.btree_nodes.specs.Trees.{Serves, Holds, LoadsOnWalk};
+ghost use Rattle.btree_nodes.specs.Calls.{OnCleanAnswer, SoundReading};
+ghost use Rattle.txn_draft.specs.Drafts.{IsAnswered, Keeps, is_scan};
+ghost use Rattle.txn_draft.specs.Uses.{IsUsed};
+ghost use Rattle.txn_draft.specs.Answers.{FailsBy};
+ghost use Rattle.txn_draft.specs.Scans.{IsFirst, IsCut, limit_of};
+
+use crate::draft::Draft;
+use btree_nodes::{TreeFault, scan};
+use fine_model::{Call, Items, NoMemory, Pairs, Reply};
+use node_cache::{Bucket, NodeSource};
+use std::alloc::Global;
+use std::marker::Model;
+use std::mem;
+
+/// The pairs that a scan found in the buckets that it has gone through, with no more than are wanted once it was cut.
+#[derive(Drop)]
+pub struct RangeScan {
+    alloc: Global,
+    pairs: Pairs,
+    next: u16,
+}
+
+impl Model for RangeScan {
+    ghost use Rattle.txn_draft.specs.Scans.{ScanValue};
+
+    ghost Value = { ScanValue };
+
+    ghost view = { λ s. record { pairs = s.pairs; next = s.next } };
+}
+
+/// The first pairs in the byte order of their keys. It takes no memory.
+fn first_of(pairs: Pairs, limit: usize) -> Pairs
+    ensures { IsFirst limit pairs result }
+{
+    let mut sorted = pairs.into_vec();
+    sorted.sort_unstable_by(|a, b| a.0.as_slice().cmp(b.0.as_slice()));
+    sorted.truncate(limit);
+    Items::from_vec(sorted)
+}
+
+/// The same, where twice as many were gathered as are wanted.
+fn cut(pairs: Pairs, limit: usize) -> Pairs
+    ensures { IsCut limit pairs result }
+{
+    if pairs.len() / 2 > limit {
+        first_of(pairs, limit)
+    } else {
+        pairs
+    }
+}
+
+impl RangeScan {
+    /// A scan that has gone through no bucket. It takes no memory.
+    pub fn new(alloc: Global) -> RangeScan
+        ensures { result ≡ record { pairs = []; next = 0 } }
+    {
+        RangeScan {
+            alloc,
+            pairs: Items::new(alloc),
+            next: 0,
+        }
+    }
+
+    /// Gathers the first pairs of a range in the next bucket, copied once, and keeps no more than some twice `limit`. It changes nothing in
+    /// the bucket but what is loaded and the order of last use. With a fault nothing was gathered, and the bucket may be tried again.
+    pub fn gather<S: NodeSource>(
+        &mut self,
+        source: &mut S,
+        bucket: &mut Bucket,
+        low: &[u8],
+        high: &[u8],
+        limit: u32,
+    ) -> Result<(), TreeFault>
+        requires bucket { bucket.old.bucket ≡ self.old.next }
+        requires next { self.old.next < 256 }
+        ensures later { S.later source.old source.new }
+        ensures clean { OnCleanAnswer result (S.clean source.old source.new) }
+        ensures next { OnOk result (self.new.next ≡ self.old.next + 1) }
+        ensures left { IfErr result (λ fault. self.new ≡ self.old) }
+        ensures loads { IsLoaded (S.tells source.old) (S.finds source.old) (S.upper source.old) bucket.old bucket.new }
+        ensures on_walk { LoadsOnWalk bucket.old bucket.new low.now high.now }
+        ensures fails { IfErr result (FailsBy (λ failed. S.fails source.old failed source.new)) }
+        ensures serves { (rows : List ModelRow) → Serves (S.tells source.old) bucket.old rows → Serves (S.tells source.new) bucket.new rows }
+        ensures used { (low_epoch : ℕ) (taken : Cache) (rows : List ModelRow) → IsUsed low_epoch taken bucket.old rows → low_epoch ≤ S.upper source.old → IsUsed low_epoch taken bucket.new rows }
+        ensures sound { (rows log : List ModelRow) → Serves (S.tells source.old) bucket.old rows → Holds bucket.old rows log → IsSound (rows ++ log) → SoundReading rows log bucket.new (λ done. IsKept (rows ++ log) low.now high.now limit self.old.next self.old.pairs → IsKept (rows ++ log) low.now high.now limit self.new.next self.new.pairs) result }
+    {
+        match scan(source, bucket, low, high, limit, &mut self.pairs) {
+            Ok(()) => {
+                let gathered = mem::replace(&mut self.pairs, Items::new(self.alloc));
+                self.pairs = cut(gathered, limit as usize);
+                self.next += 1;
+                Ok(())
+            }
+            Err(fault) => Err(fault),
+        }
+    }
+}
+
+/// How many pairs a scan wants.
+fn limit_of(call: &Call) -> u32
+    ensures { result ≡ limit_of call.now }
+{
+    match call {
+        Call::Scan {
+            low: _,
+            high: _,
+            limit,
+        } => *limit,
+        _ => 0,
+    }
+}
+
+impl Draft {
+    /// Keeps a scan with its reply, once all buckets were gone through: the pairs in the byte order of their keys, cut to the limit, moved.
+    /// After `NoMemory` the draft is failed.
+    pub fn found(&mut self, call: &Call, scan: RangeScan) -> Result<(), NoMemory>
+        requires open { self.old.failed ≡ false }
+        requires scan { is_scan call.now ≡ true }
+        requires all { scan.next ≡ 256 }
+        ensures kept { OnOk result (Keeps call.now self.old self.new) }
+        ensures rows { OnOk result (self.new.rows ≡ self.old.rows) }
+        ensures left { OnErr result (self.new.failed ≡ true) }
+        ensures sound { OnOk result ((rows : List ModelRow) (low high : List ℕ) (limit : ℕ) → call.now ≡ call_of.Scan low high limit → IsAnswered rows self.old → IsKept (rows ++ self.old.rows) low high limit 256 scan.pairs → IsAnswered rows self.new) }
+    {
+        let limit = limit_of(call) as usize;
+        let pairs = first_of(scan.pairs, limit);
+        match self.note(call, Reply::Found { pairs }, None) {
+            Ok(()) => Ok(()),
+            Err(refused) => {
+                self.failed = true;
+                Err(refused)
+            }
+        }
+    }
+}

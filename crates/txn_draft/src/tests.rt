@@ -1,0 +1,4 @@
+//! Tests of drafts.
+
+mod fresh;
+mod twice;

@@ -1,0 +1,102 @@
+//! Two transactions on one bucket: one commits, and then one is taken back, while the source tells neither of them.
+
+ghost use Rattle.std.specs.Prelude.{◌≡◌, ◌<◌, ◌++◌, ℕ, [], ◌∷◌, false, List, Ok, IfOk, IfSome};
+ghost use Rattle.fine_model.specs.declared.Row.{Row as ModelRow};
+ghost use Rattle.fine_model.specs.Bounds.{FitsCall};
+ghost use Rattle.fine_model.specs.Laws.{AreSmall};
+ghost use Rattle.fine_model.specs.Pushed.{key_of};
+ghost use Rattle.fine_model.specs.RowBytes.{FitsKey, FitsValue};
+ghost use Rattle.fine_model.specs.Trees.{bucket_of, IsSound};
+ghost use Rattle.node_cache.specs.Cache.{cached, IsResting};
+ghost use Rattle.btree_nodes.specs.Trees.{Serves, Holds};
+ghost use Rattle.txn_draft.specs.Drafts.{blank, is_scan};
+ghost use Rattle.txn_draft.specs.Twice.{IsTwice};
+
+use super::fresh::Fresh;
+use crate::{Draft, settle, undo};
+use btree_nodes::TreeFault;
+use fine_model::{Bytes, Call, Entry, Items, Reply, bucket_of};
+use node_cache::{Bucket, NodeSource};
+use std::alloc::Global;
+use std::test::*;
+
+/// Commits one call under an epoch, and then takes another one back. All that is cached is of later epochs than what is published, so nothing is
+/// evicted. The second call is answered on what the first one left, which the source does not tell.
+fn commit_and_abort<S: NodeSource>(
+    source: &mut S,
+    bucket: &mut Bucket,
+    first: &mut Draft,
+    second: &mut Draft,
+    call: &Call,
+    next_call: &Call,
+    epoch: u64,
+    published: u64,
+) -> Result<(Entry, Result<(), TreeFault>), TreeFault>
+    requires first { (lane : ℕ) × (turn : ℕ) × (first.old ≡ blank lane turn) }
+    requires second { (lane : ℕ) × (turn : ℕ) × (second.old ≡ blank lane turn) }
+    requires bucket { bucket.old.bucket ≡ bucket_of (key_of call.now) }
+    requires same { bucket.old.bucket ≡ bucket_of (key_of next_call.now) }
+    requires fits { FitsCall call.now × FitsCall next_call.now }
+    requires no_scan { (is_scan call.now ≡ false) × (is_scan next_call.now ≡ false) }
+    requires resting { IsResting bucket.old }
+    requires later { (published < epoch) × (published < S.upper source.old) }
+    requires kept { (n : ℕ) → IfSome (cached bucket.old n) (λ kept. published < kept.epoch) }
+    ensures sound { (rows : List ModelRow) → Serves (S.tells source.old) bucket.old rows → Holds bucket.old rows [] → AreSmall rows → IsSound rows → IfOk result (λ p. IsTwice rows call.now next_call.now p.0 second.old second.new bucket.new p.1) }
+{
+    first.answer(source, bucket, call)?;
+    let entry = first.take_entry();
+    settle(bucket, epoch, published, 0);
+    let answer = second.answer(source, bucket, next_call);
+    undo(bucket, published, 0);
+    Ok((entry, answer))
+}
+
+/// A copy of a text.
+fn text(alloc: Global, text: &[u8]) -> Result<Bytes, Fail>
+    ensures { IfOk result (λ b. b ≡ text.now) }
+{
+    Ok(Items::from_vec(Vec::from_slice(alloc, text).ok().ok_or("memory")?))
+}
+
+/// A call that sets a key.
+fn put(alloc: Global, key: &[u8], value: &[u8]) -> Result<Call, Fail>
+    requires key { FitsKey key.now }
+    requires value { FitsValue value.now }
+    ensures fits { IfOk result FitsCall }
+    ensures no_scan { IfOk result (λ c. is_scan c ≡ false) }
+    ensures key { IfOk result (λ c. key_of c ≡ key.now) }
+{
+    Ok(Call::Put {
+        key: text(alloc, key)?,
+        value: text(alloc, value)?,
+    })
+}
+
+#[test]
+fn the_second_transaction_sees_the_first(rt: HostRuntime) -> Result<(), Fail> {
+    let alloc = rt.alloc();
+    let mut source = Fresh { alloc };
+    let key = b"c";
+    let mut bucket = Bucket::new(alloc, bucket_of(key));
+    let mut first = Draft::new(alloc, 1, 1);
+    let mut second = Draft::new(alloc, 1, 2);
+    let call = put(alloc, key, b"5")?;
+    let done = commit_and_abort(
+        &mut source,
+        &mut bucket,
+        &mut first,
+        &mut second,
+        &call,
+        &call,
+        1,
+        0,
+    );
+    let Ok((entry, Ok(()))) = done else {
+        return Err(Fail::from("refused"));
+    };
+    assert!(rt; matches!(entry.replies.as_slice(), [Reply::Stored]));
+    assert!(rt; entry.rows.len() == 1);
+    assert!(rt; second.log().bytes().len() == 24);
+    assert!(rt; !second.failed());
+    Ok(())
+}

@@ -201,7 +201,7 @@ gcc -O2 -o "$work/calls" "$work/calls.c"
 cd "$speed"
 rt run -- "$work/room.log" > "$work/out.txt" 2>&1 || { cat "$work/out.txt"; exit 1; }
 for place in "$work" "$memory"; do
-  for turn in 1 2 3 4 5 6 7 8; do
+  for turn in $(seq 1 24); do
     rm -f "$place/c.log" "$place/room.log"
     echo "$("$work/calls" "$place/c.log") $(out/room_speed "$place/room.log")"
   done | awk -v place="$([ "$place" = "$work" ] && echo disk || echo memory)" '

@@ -14,6 +14,7 @@ use Rattle.fine_model.proofs.Unstable.{unstable_law}
 use Rattle.node_record.specs.Keys.{IsKeyOf, AreKeysOf, is_key_below}
 use Rattle.node_record.specs.declared.key.RowAt.{RowAt}
 use Rattle.partition_index.specs.Index.{is_rising}
+use Rattle.log_partition.proofs.Keyed.{no_key, as_many}
 use Rattle.epoch_room.specs.Partition.{IsArranged}
 
 keys_total : IsTotalOrder (λ (a b : RowAt). ordering_then (node_cmp a.node b.node) (nat_cmp a.version b.version))
@@ -33,20 +34,11 @@ rising (a ∷ b ∷ rows) sorted =
 
 -- ---- rows by their keys
 
-keys_long : (bytes : List ℕ) (rows : List Row) (keys : List RowAt) → AreKeysOf bytes rows keys → length rows ≡ length keys
-keys_long bytes [] [] are = refl
-keys_long bytes [] (k ∷ ks) are = elim are [ ]
-keys_long bytes (r ∷ rs) [] are = elim are [ ]
-keys_long bytes (r ∷ rs) (k ∷ ks) are = ap suc (keys_long bytes rs ks are.1)
-
 key_at : (bytes : List ℕ) (rows : List Row) (keys : List RowAt) (i : ℕ) (r : Row) (k : RowAt) → AreKeysOf bytes rows keys → i < length rows → IsKeyOf bytes (get_or rows i r) (get_or keys i k)
 key_at bytes [] keys i r k are here = absurd (omega (arith, here))
 key_at bytes (x ∷ rs) [] i r k are here = elim are [ ]
 key_at bytes (x ∷ rs) (y ∷ ks) zero r k are here = are.0
 key_at bytes (x ∷ rs) (y ∷ ks) (suc i) r k are here = key_at bytes rs ks i r k are.1 (omega (arith, here))
-
-abbrev no_key : RowAt
-no_key = record { node = record { bucket = 0; number = 0 }; version = 0; at = 0; len = 0 }
 
 below_alike : (bytes : List ℕ) (r s : Row) (k l : RowAt) → IsKeyOf bytes r k → IsKeyOf bytes s l → is_row_below r s ≡ is_key_below k l
 below_alike bytes r s k l a b i = is_lt (ordering_then (node_cmp (sym a.node i) (sym b.node i)) (nat_cmp (sym a.version i) (sym b.version i)))
@@ -54,7 +46,7 @@ below_alike bytes r s k l a b i = is_lt (ordering_then (node_cmp (sym a.node i) 
 -- rows whose keys are sorted are sorted
 pub rows_sorted : (bytes : List ℕ) (rows : List Row) (keys : List RowAt) → AreKeysOf bytes rows keys → IsSortedBy is_key_below keys → IsSortedBy is_row_below rows
 rows_sorted bytes rows keys are sorted i d low high =
-    let long = keys_long bytes rows keys are in
+    let long = as_many bytes rows keys are in
     below_alike bytes (get_or rows (i + 1) d) (get_or rows i d) (get_or keys (i + 1) no_key) (get_or keys i no_key) (key_at bytes rows keys (i + 1) d no_key are high) (key_at bytes rows keys i d no_key are (omega (arith, high)))
     ∙ sorted i no_key low (omega (arith, long, high))
 

@@ -1,0 +1,65 @@
+-- Two neighbours of the chain in numbers.
+use Rattle.std.specs.Prelude.{ℕ, ◌+◌, ◌-◌, ◌*◌, ◌/◌, ◌==◌, nat_le, nat_lt, min, max, Bool, ◌&&◌, List, Option, Some, None, find}
+use Rattle.fine_model.specs.declared.Part.{Part}
+use Rattle.fine_model.specs.Merge.{fits_in}
+use Rattle.fine_model.specs.Regions.{body_start}
+use Rattle.merge_policy.specs.declared.figures.Measured.{Measured}
+use Rattle.merge_policy.specs.declared.figures.Pair.{Pair}
+use Rattle.merge_policy.specs.declared.figures.Space.{Space}
+
+-- the bytes of a part's rows and index entries, and its length with the header
+abbrev pub body_len : Part → ℕ
+body_len part = part.header.area + 14 * part.header.nodes
+
+abbrev pub part_len : Part → ℕ
+part_len part = body_start part.header.mark + body_len part
+
+-- two neighbours were measured
+abbrev pub is_of : Part → Part → Measured → Bool
+is_of older newer measured =
+    (measured.older == older.header.range.first) && (measured.newer == newer.header.range.first) && (measured.last == newer.header.range.last)
+
+abbrev pub measured_len : Measured → ℕ
+measured_len measured = measured.area + 14 * measured.nodes
+
+-- the least that the merged rows of two neighbours may take: what was measured, or nothing
+abbrev pub len_or_none : Option Measured → ℕ
+len_or_none None = 0
+len_or_none (Some measured) = measured_len measured
+
+abbrev pub least_len : List Measured → Part → Part → ℕ
+least_len known older newer = len_or_none (find (is_of older newer) known)
+
+-- two neighbours in numbers
+unfoldable pub figures : List Measured → Part → Part → Pair
+figures known older newer = record {
+  longer = max (part_len older) (part_len newer);
+  shorter = min (part_len older) (part_len newer);
+  together = body_len older + body_len newer;
+  least = least_len known older newer;
+  regions = older.header.regions + newer.header.regions;
+}
+
+-- so many bytes fit at most so many regions, of which a partition has up to eight
+abbrev pub fits_up_to : ℕ → ℕ → ℕ → Bool
+fits_up_to region_len most len = nat_le 1 most && fits_in region_len (min most 8) len
+
+-- a merged part of so many bytes fits the free regions, and fewer regions than the pair holds
+abbrev pub frees : Space → Pair → ℕ → Bool
+frees space pair len = fits_up_to space.region_len (min space.free (pair.regions - 1)) len
+
+-- the longer part is at most twice the shorter
+abbrev pub is_even : Pair → Bool
+is_even pair = nat_le pair.longer (2 * pair.shorter)
+
+-- how many times the shorter part the longer one is, in parts of 16,777,216
+abbrev pub unevenness : Pair → ℕ
+unevenness pair = (pair.longer * 16777216) / pair.shorter
+
+-- the bytes of a pair's regions that neither part uses
+abbrev pub unused : Space → Pair → ℕ
+unused space pair = space.region_len * pair.regions - (pair.longer + pair.shorter)
+
+-- fewer regions are free than are to be spared
+abbrev pub is_short : Space → Bool
+is_short space = nat_lt space.free space.spare

@@ -1,0 +1,152 @@
+//! The choice between the pairs.
+
+ghost use Rattle.std.specs.Prelude.{◌≡◌, ◌≤◌, ◌++◌, ◌∷◌, [], if◌then◌else◌, true, false, List, IfSome};
+ghost use Rattle.std.specs.List.{AllByRecursion};
+ghost use Rattle.fine_model.specs.declared.Part.{Part as ModelPart};
+ghost use Rattle.merge_policy.specs.declared.figures.Aim.TheVariants as aim;
+ghost use Rattle.merge_policy.specs.Figures.{fits_up_to, is_short, least_len};
+ghost use Rattle.merge_policy.specs.Choices.{IsOlder, Picks, aims_of, neighbours, question, with_next};
+ghost use Rattle.merge_policy.specs.Steps.{BestSoFar, PicksFor, better, choice_of};
+
+use crate::figures::{Aim, Measured, Pair, Space};
+use fine_model::Part;
+
+/// A pair that serves an aim.
+#[derive(Clone, Copy)]
+pub(crate) struct Choice {
+    /// The first epoch of the older part.
+    pub(crate) first: u64,
+    pub(crate) rank: u64,
+}
+
+/// Two neighbours, where they serve an aim.
+fn choice_of(
+    aim: Aim,
+    space: Space,
+    known: &[Measured],
+    older: &Part,
+    newer: &Part,
+) -> Option<Choice>
+    requires short { 1 ≤ space.region_len }
+    requires long { space.region_len ≤ 67108864 }
+    ensures { result ≡ choice_of (question space known.now) aim (older.now, newer.now) }
+{
+    let pair = Pair::new(known, older, newer);
+    if pair.serves(aim, space) {
+        Some(Choice {
+            first: older.header.range.first,
+            rank: pair.rank(aim, space),
+        })
+    } else {
+        None
+    }
+}
+
+/// The better one of a choice and of a newer one.
+fn better(best: Option<Choice>, next: Option<Choice>) -> Option<Choice>
+    ensures { result ≡ better best next }
+{
+    let Some(newer) = next else {
+        return best;
+    };
+    match best {
+        Some(older) if older.rank < newer.rank => Some(older),
+        _ => Some(newer),
+    }
+}
+
+/// The best of the pairs before a part and of the pair that it makes with the first of those behind it.
+fn with_pair(
+    best: Option<Choice>,
+    aim: Aim,
+    space: Space,
+    known: &[Measured],
+    older: &Part,
+    behind: &[Part],
+) -> Option<Choice>
+    requires short { 1 ≤ space.region_len }
+    requires long { space.region_len ≤ 67108864 }
+    ensures { (pairs : List (ModelPart × ModelPart)) → BestSoFar (question space known.now) aim pairs best → BestSoFar (question space known.now) aim (pairs ++ with_next older.now behind.now) result }
+{
+    match behind.first() {
+        Some(newer) => better(best, choice_of(aim, space, known, older, newer)),
+        None => best,
+    }
+}
+
+/// The best pair for an aim, where one serves it.
+fn best_for(aim: Aim, space: Space, known: &[Measured], parts: &[Part]) -> Option<Choice>
+    requires short { 1 ≤ space.region_len }
+    requires long { space.region_len ≤ 67108864 }
+    ensures { BestSoFar (question space known.now) aim (neighbours parts.now) result }
+{
+    let mut best = None;
+    let mut left = parts;
+    while let Some((older, behind)) = left.split_first() {
+        best = with_pair(best, aim, space, known, older, behind);
+        left = behind;
+    }
+    best
+}
+
+/// The first epoch of the best pair for an aim.
+fn first_for(aim: Aim, space: Space, known: &[Measured], parts: &[Part]) -> Option<u64>
+    requires short { 1 ≤ space.region_len }
+    requires long { space.region_len ≤ 67108864 }
+    ensures { PicksFor (question space known.now) aim (neighbours parts.now) result }
+{
+    let best = best_for(aim, space, known, parts)?;
+    Some(best.first)
+}
+
+/// What is merged where few regions are free, even or not.
+fn pick_spare(space: Space, known: &[Measured], parts: &[Part]) -> Option<u64>
+    requires short { 1 ≤ space.region_len }
+    requires long { space.region_len ≤ 67108864 }
+    ensures { Picks (question space known.now) (neighbours parts.now) (if is_short space then aim.Gain ∷ aim.Fit ∷ [] else []) result }
+{
+    if space.free >= space.spare {
+        return None;
+    }
+    match first_for(Aim::Gain, space, known, parts) {
+        Some(first) => Some(first),
+        None => first_for(Aim::Fit, space, known, parts),
+    }
+}
+
+/// What is merged by the aims of a merge.
+fn pick(space: Space, known: &[Measured], parts: &[Part]) -> Option<u64>
+    requires short { 1 ≤ space.region_len }
+    requires long { space.region_len ≤ 67108864 }
+    ensures { Picks (question space known.now) (neighbours parts.now) (aims_of space) result }
+{
+    if !space.is_pressed {
+        return pick_spare(space, known, parts);
+    }
+    match first_for(Aim::Even, space, known, parts) {
+        Some(first) => Some(first),
+        None => pick_spare(space, known, parts),
+    }
+}
+
+/// Which two neighbours of the chain a merge takes next: the first epoch of the older one. It takes no memory.
+///
+/// `parts` is the chain from the oldest part, and `known` has what was measured of pairs that were tried. Lengths and their sums are
+/// bytes. Where the room is pressed, that pair is taken which frees a region whatever its rows come to, and whose longer part is at most
+/// twice the shorter: the most even one, of equal ones the newest. Else, where fewer regions are free than are to be spared, the most
+/// even pair that may free a region as far as was measured, and where there is none, of those that may fit the free regions that with
+/// the most unused bytes.
+///
+/// None where no pair is to be merged; where regions are short, every pair was then measured and is too long for the free regions. Of a
+/// pair that was not measured nothing is known, so it may be answered: measure it, and if it frees nothing, put it into `known` and ask
+/// again.
+pub fn next_merge(parts: &[Part], space: Space, known: &[Measured]) -> Option<u64>
+    requires short { 1 ≤ space.region_len }
+    requires long { space.region_len ≤ 67108864 }
+    ensures policy { Picks (question space known.now) (neighbours parts.now) (aims_of space) result }
+    ensures older { IfSome result (IsOlder parts.now) }
+    ensures at_ease { space.is_pressed ≡ false → is_short space ≡ false → result ≡ None }
+    ensures nothing_fits { is_short space ≡ true → result ≡ None → AllByRecursion (λ two. fits_up_to space.region_len space.free (least_len known.now two.0 two.1) ≡ false) (neighbours parts.now) }
+{
+    pick(space, known, parts)
+}

@@ -1,0 +1,159 @@
+//! What no clause says: which neighbours are taken in some plain cases, and how often a byte is merged.
+
+ghost use Rattle.std.specs.Prelude.{◌≡◌};
+
+use crate::{Measured, Space, next_merge};
+use fine_model::{Header, Mark, Part, Range};
+use std::alloc::{AllocError, Global};
+use std::test::Fail;
+
+const REGION: u64 = 4_194_304;
+
+const REGIONS: u32 = 24;
+
+const EPOCHS: u64 = 5_000;
+
+const EPOCH: u32 = 4_096;
+
+// The regions for so many bytes of rows.
+fn regions_for(area: u32) -> u8 {
+    (1..8u8)
+        .find(|regions| u64::from(area) + 78 <= REGION * u64::from(*regions))
+        .unwrap_or(8)
+}
+
+// A part of so many bytes of rows.
+fn part_of(first: u64, last: u64, area: u32) -> Part {
+    Part {
+        region: 0,
+        header: Header {
+            mark: Mark::Two,
+            range: Range { first, last },
+            rows: 1,
+            nodes: 0,
+            area,
+            regions: regions_for(area),
+            more: [0; 7],
+        },
+    }
+}
+
+// Three parts of an epoch each.
+fn three(areas: [u32; 3]) -> [Part; 3] {
+    [
+        part_of(1, 1, areas[0]),
+        part_of(2, 2, areas[1]),
+        part_of(3, 3, areas[2]),
+    ]
+}
+
+fn space(free: u32, is_pressed: bool, spare: u32) -> Space
+    ensures { result.region_len ≡ 4194304 }
+{
+    Space {
+        region_len: REGION,
+        free,
+        is_pressed,
+        spare,
+    }
+}
+
+// What was measured of the first two of three parts, and of the last two.
+fn measured(older: u64, area: u32) -> Measured {
+    Measured {
+        older,
+        newer: older.saturating_add(1),
+        last: older.saturating_add(1),
+        area,
+        nodes: 0,
+    }
+}
+
+#[test]
+fn even_neighbours_are_taken_while_pressed(rt: HostRuntime) {
+    let cases = [
+        ([1000, 1000, 1000], Some(2)),
+        ([1000, 1001, 1004], Some(1)),
+        ([3000, 1000, 1500], Some(2)),
+        ([9000, 1000, 5000], None),
+        ([4_000_000, 4_000_000, 1000], None),
+    ];
+    for (areas, first) in cases {
+        let parts = three(areas);
+        assert_eq!(rt; next_merge(&parts, space(10, true, 3), &[]), first);
+        assert_eq!(rt; next_merge(&parts, space(10, false, 3), &[]), None);
+    }
+}
+
+#[test]
+fn what_was_measured_counts_where_regions_are_short(rt: HostRuntime) {
+    let parts = three([4_000_000, 3_900_000, 3_000_000]);
+    let known = [measured(1, 7_900_000), measured(2, 6_900_000)];
+    assert_eq!(rt; next_merge(&parts, space(2, true, 3), &[]), Some(1));
+    assert_eq!(rt; next_merge(&parts, space(2, true, 3), &known[..1]), Some(2));
+    assert_eq!(rt; next_merge(&parts, space(2, true, 3), &known), Some(2));
+    assert_eq!(rt; next_merge(&parts, space(1, true, 3), &known), None);
+}
+
+// The regions that are free beside the parts.
+fn space_beside(parts: &[Part], spare: u32) -> Space
+    ensures { result.region_len ≡ 4194304 }
+{
+    let mut free = REGIONS;
+    for part in parts {
+        free = free.saturating_sub(u32::from(part.header.regions));
+    }
+    space(free, free < REGIONS / 2, spare)
+}
+
+// Merges the part that begins at an epoch with the next one, and answers how many bytes that writes.
+fn merge(parts: &mut Vec<Part>, first: u64) -> u64 {
+    let mut next = 0;
+    for i in 1..parts.len() {
+        if parts[i - 1].header.range.first == first {
+            next = i;
+        }
+    }
+    if next == 0 || next >= parts.len() {
+        return 0;
+    }
+    let newer = parts.remove(next);
+    let area = parts[next - 1]
+        .header
+        .area
+        .saturating_add(newer.header.area);
+    parts[next - 1] = part_of(first, newer.header.range.last, area);
+    u64::from(area)
+}
+
+// Merges what is to be merged, and answers how many bytes that writes.
+fn settle(parts: &mut Vec<Part>, spare: u32) -> u64 {
+    let mut written = 0u64;
+    for _ in 0..REGIONS {
+        let Some(first) = next_merge(parts.as_slice(), space_beside(parts.as_slice(), spare), &[])
+        else {
+            break;
+        };
+        written = written.saturating_add(merge(parts, first));
+    }
+    written
+}
+
+// How many bytes are merged, in tenths of those of all epochs, rounded, where each epoch is first a part of its own and nothing folds.
+fn tenths_merged(alloc: Global, spare: u32) -> Result<u64, AllocError> {
+    let mut parts = Vec::new(alloc);
+    let mut written = 0u64;
+    for epoch in 1..EPOCHS + 1 {
+        written = written.saturating_add(settle(&mut parts, spare));
+        parts.push(part_of(epoch, epoch, EPOCH))?;
+    }
+    let bytes = EPOCHS * u64::from(EPOCH);
+    Ok(written.saturating_mul(10).saturating_add(bytes / 2) / bytes)
+}
+
+#[test]
+fn a_byte_is_merged_ten_times_in_five_thousand_epochs(rt: HostRuntime) -> Result<(), Fail> {
+    assert_eq!(rt; tenths_merged(rt.alloc(), 3)?, 99);
+    assert_eq!(rt; tenths_merged(rt.alloc(), 2)?, 99);
+    Ok(())
+}

@@ -12,3 +12,4 @@ pub mod Returns
 pub mod Closing
 pub mod Erasing
 pub mod MergeSteps
+pub mod BodyWrites

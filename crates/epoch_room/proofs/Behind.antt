@@ -89,7 +89,7 @@ keeps_none value whole = record {
   time = continues_none value.disk;
 }
 
-same_beside : (disk : Disk) → SameBeside disk disk
+pub same_beside : (disk : Disk) → SameBeside disk disk
 same_beside disk = record { regions = refl; region_len = refl; eyes = refl; given = refl }
 
 -- an earlier failure, and want of memory before the disk was called

@@ -2,9 +2,11 @@ pub mod Added
 pub mod Appending
 pub mod Arranging
 pub mod Behind
+pub mod BehindGates
 pub mod Beside
 pub mod Boarding
 pub mod Bodies
+pub mod BodyPieces
 pub mod Costs
 pub mod Counting
 pub mod Ending
@@ -38,3 +40,5 @@ pub mod Torn
 pub mod Touching
 pub mod Viewed
 pub mod Viewing
+pub mod Writing
+pub mod Written

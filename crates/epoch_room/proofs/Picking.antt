@@ -20,7 +20,7 @@ use Rattle.fine_model.proofs.Times.{times, times-append}
 use Rattle.partition_index.specs.Parts.{is_counted}
 use Rattle.partition_merge.specs.Mergers.{IsCounted}
 use Rattle.partition_merge.specs.declared.merger.Measure.{Measure}
-use Rattle.epoch_room.specs.MergeSteps.{free_then, fresh_job, header_over, if_enough, measured_len, neighbours_from, picked, regions_for_job, regions_needed, taken_job, with_job, with_next}
+use Rattle.epoch_room.specs.MergeSteps.{free_dropped, fresh_job, header_over, if_enough, measured_len, neighbours_from, picked, regions_for_job, regions_needed, taken_job, with_job, with_next}
 use Rattle.epoch_room.specs.Meaning.{Keeps}
 use Rattle.epoch_room.specs.Value.{RoomValue, all_regions, regions_outside, taken}
 use Rattle.epoch_room.specs.Whole.{AreApart, IsJob, IsTaken, IsWhole}
@@ -285,15 +285,15 @@ module _ (value : RoomValue) (whole : IsWhole value) where
       let d = times-append n (option_to_list value.target) held in
       omega (arith, a, b, c, d)
 
-  pub dropped_whole : IsWhole (with_job value None (free_then value.room))
+  pub dropped_whole : IsWhole (with_job value None (free_dropped value.room))
   dropped_whole =
-      spare_whole value whole None (free_then value.room)
+      spare_whole value whole None (free_dropped value.room)
       (rest_apart value.disk.regions whole.geometry.regions_high (taken value.room value.target) (job_left value.room) _ given whole.apart)
       (freed_outside value.disk.regions whole.geometry.regions_high (taken value.room value.target) (job_left value.room) _ given whole.apart value.room.free whole.free)
       tt
 
-  pub dropped_keeps : Keeps value (with_job value None (free_then value.room))
-  dropped_keeps = spare_keeps value whole None (free_then value.room)
+  pub dropped_keeps : Keeps value (with_job value None (free_dropped value.room))
+  dropped_keeps = spare_keeps value whole None (free_dropped value.room)
 
   pub free_set : set_of value.room.free ≡ value.room.free
   free_set = subst (λ xs. set_of xs ≡ xs) (sym whole.free) (outside_set value.disk.regions (taken value.room value.target) whole.geometry.regions_high)

@@ -54,6 +54,10 @@ DirtiesOnly regions old new = All (λ r. Contains old.unsynced r ⊎ Contains re
 abbrev pub KeepsBeside : List ℕ → Disk → Disk → Type 0
 KeepsBeside regions old new = BothTold (λ a b. (r : ℕ) → list_any (nat_eq r) regions ≡ false → region_of b.bytes r ≡ region_of a.bytes r) old.told new.told
 
+-- a read gives the same but behind the gates of these regions
+abbrev pub ReadsBehind : List ℕ → Disk → Disk → Type 0
+ReadsBehind regions old new = BothTold (λ a b. DiffersBehind regions a.bytes b.bytes) old.told new.told
+
 -- after want of memory the disk is as it was; or all of it is synced, and bytes stand behind the gate of a region
 abbrev pub IsUngated : ℕ → List ℕ → Disk → Disk → Type 0
 IsUngated region bytes old new = (new ≡ old) ⊎ ((new.unsynced ≡ []) × HasBytes (λ image. with_bytes image region 1 bytes) old new)

@@ -13,3 +13,4 @@ pub mod Closing
 pub mod Erasing
 pub mod MergeSteps
 pub mod Laws
+pub mod BodyWrites

@@ -12,7 +12,9 @@ use Rattle.fine_model.specs.Boards.{set_of}
 use Rattle.fine_model.specs.Jobs.{job_regions, job_left, held_for, KeepsJob}
 use Rattle.partition_merge.specs.declared.merger.Measure.{Measure}
 use Rattle.epoch_room.specs.Value.{RoomValue}
+use Rattle.log_disk.specs.Disk.{SameBeside}
 use Rattle.epoch_room.specs.Steps.{Does, Shuts, WasShut}
+use Rattle.epoch_room.specs.Meaning.{Keeps}
 use Rattle.epoch_room.specs.declared.answers.RoomFault.{RoomFault}
 use Rattle.epoch_room.specs.declared.answers.RoomFault.TheVariants as room_fault
 
@@ -85,8 +87,8 @@ free_after free (Some regions) = drop regions free
 -- ---- giving a job up
 
 -- what is free once a job is given up: its regions too, but for those that a failed call was writing
-abbrev pub free_then : RoomState → List ℕ
-free_then room = set_of (room.free ++ job_left room)
+abbrev pub free_dropped : RoomState → List ℕ
+free_dropped room = set_of (room.free ++ job_left room)
 
 -- ---- writing
 
@@ -94,7 +96,7 @@ abbrev pub written_on : Job → ℕ → Job
 written_on job n = record job { written = job.written + n }
 
 -- the regions in which bytes of a body lie that are written behind those which are there: one or two
-unfoldable pub touched : ℕ → Job → Header → ℕ → List ℕ
+abbrev pub touched : ℕ → Job → Header → ℕ → List ℕ
 touched region_len job header n =
     (place_of region_len job.target header job.written).region ∷ (place_of region_len job.target header (job.written + n - 1)).region ∷ []
 
@@ -107,31 +109,10 @@ WritesOr bytes old new job job' header (Err room_fault.Disk) = (job' ≡ job) ×
 WritesOr bytes old new job job' header (Err (room_fault.Shut epoch)) = (job' ≡ job) × WasShut epoch old new
 WritesOr bytes old new job job' header (Err room_fault.NoMemory) = (job' ≡ job) × Does old.room old.target old new × KeepsJob old.room new.room
 
--- ---- sealing
-
--- a part in place of the one that a region leads and of the next one
-unfoldable pub replaced : List Part → ℕ → Part → List Part
-replaced [] lead p = []
-replaced (q ∷ parts) lead p = if q.region == lead then p ∷ drop 1 parts else q ∷ replaced parts lead p
-
--- a part among the retired ones, which ascend by their leads
-abbrev pub retire : Part → List Part → List Part
-retire p parts = filter (λ q. nat_lt q.region p.region) parts ++ p ∷ filter (λ q. nat_lt p.region q.region) parts
-
-unfoldable pub merged_state : RoomState → Job → Header → RoomState
-merged_state room job header = record room {
-  parts = replaced room.parts job.older.region (record { region = job.target; header = header });
-  retired = retire job.newer (retire job.older room.retired);
-  job = None;
-}
-
--- After a failure all of the job's regions are lost, since its gate may be open; the job stays out. After want of memory the job holds
--- what it held, and may be sealed again.
-abbrev pub MergesOr : RoomValue → RoomValue → Job → Header → Result (Unit {0}) (RoomFault × Job) → Type 0
-MergesOr old new job header (Ok u) = (new.disk.unsynced ≡ []) × Does (merged_state old.room job header) old.target old new
-MergesOr old new job header (Err e) = (e.1 ≡ job) × refuses e.0
-  where
-    refuses : RoomFault → Type 0
-    refuses room_fault.Disk = Shuts old.room old.target (job_regions (Some job)) old new
-    refuses (room_fault.Shut epoch) = WasShut epoch old new
-    refuses room_fault.NoMemory = Does old.room old.target old new × KeepsJob old.room new.room
+-- all that writing for a merge does
+pub record WritesJob (bytes : List ℕ) (old new : RoomValue) (job job' : Job) (header : Header) (result : Result (Unit {0}) RoomFault) : Type 0 where
+  pub room : WritesOr bytes old new job job' header result
+  -- the job stays out
+  pub out : new.room.job ≡ Some job'
+  pub beside : SameBeside old.disk new.disk
+  pub keeps : Keeps old new

@@ -3,6 +3,7 @@
 #![tactic(auto)]
 
 mod answers;
+mod body;
 mod closing;
 mod epoch;
 pub mod laws;

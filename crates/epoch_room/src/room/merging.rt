@@ -1,19 +1,25 @@
 //! A merge of two neighbours, by steps: a job is picked, takes its regions, is written block by block, and is sealed, or given up.
 
-ghost use Rattle.std.specs.Prelude.{if◌then◌else◌, ◌≡◌, ◌+◌, ◌*◌, ◌<◌, ◌≤◌, ◌==◌, ◌++◌, [], ◌∷◌, None, Some, IfSome, drop, filter, find, is_some, length, nat_eq, not, option_map};
+ghost use Rattle.std.specs.Prelude.{if◌then◌else◌, ◌≡◌, ◌+◌, ◌*◌, ◌<◌, ◌≤◌, ◌==◌, ◌++◌, [], ◌∷◌, None, Some, IfSome, IsSome, drop, filter, find, is_some, length, nat_eq, not, option_map};
 ghost use Rattle.std.specs.List.{AllByRecursion, list_any, range_with_len};
 ghost use Rattle.fine_model.specs.Boards.{set_of};
+ghost use Rattle.fine_model.specs.Chain.{regions_of};
 ghost use Rattle.fine_model.specs.Jobs.{job_left, taken_by};
 ghost use Rattle.fine_model.specs.Merge.{fits_in};
 ghost use Rattle.fine_model.specs.declared.Mark.TheVariants as mark;
 ghost use Rattle.partition_merge.specs.Mergers.{IsCounted};
+ghost use Rattle.log_disk.specs.Disk.{SameBeside};
+ghost use Rattle.partition_index.specs.Parts.{LiesIn, body_len};
 ghost use Rattle.epoch_room.specs.Meaning.{Keeps};
-ghost use Rattle.epoch_room.specs.MergeSteps.{free_after, free_then, fresh_job, if_enough, job_after, measured_len, neighbours_from, picked, regions_for_job, regions_needed, taken_job, with_job, with_next};
+ghost use Rattle.epoch_room.specs.MergeSteps.{free_after, free_dropped, fresh_job, if_enough, job_after, measured_len, neighbours_from, picked, regions_for_job, regions_needed, taken_job, touched, with_job, with_next, WritesJob, WritesOr};
 
 use super::Room;
+use crate::answers::RoomFault;
+use crate::body::write_body;
 use fine_model::{Header, Job, Mark, Part, Range};
-use log_disk::LogDisk;
+use log_disk::{DiskRefusal, LogDisk};
 use partition_hold::RegionSet;
+use partition_index::place_of;
 use partition_merge::Measure;
 
 /// A job of two parts that has taken no region.
@@ -165,6 +171,20 @@ fn free_job(free: &mut RegionSet, lost: &RegionSet, job: &Job)
     }
 }
 
+/// Adds the one or two regions in which bytes of a job's body lie, which are written behind those that are there.
+fn lose_touched(lost: &mut RegionSet, job: &Job, part: &Part, region_len: u64, len: usize)
+    requires part { part.now.region ≡ job.now.target }
+    requires lies { LiesIn region_len part.now.header }
+    requires some { 1 ≤ len }
+    requires within { job.now.written + len ≤ body_len part.now.header }
+    requires small { AllByRecursion (λ r. r < 64) (regions_of part.now) }
+    ensures { lost.new ≡ set_of (lost.old ++ touched region_len job.now part.now.header len) }
+{
+    let (first, _first_at) = place_of(part, region_len, job.written);
+    let (last, _last_at) = place_of(part, region_len, job.written + (len as u32 - 1));
+    lost.insert_all(&[first, last]);
+}
+
 impl<D: LogDisk> Room<D> {
     /// A job for the first two neighbours of the chain whose older part begins at an epoch or later. It takes no region, and no memory.
     ///
@@ -206,11 +226,67 @@ impl<D: LogDisk> Room<D> {
         true
     }
 
+    /// Writes bytes of the merged part behind those that were written before. They go behind closed gates, by at most two writes.
+    ///
+    /// `bytes` are fewer than a region's, and within the length that the job's header tells. After `Ok` the job counts them, and its target
+    /// holds them. Every refusal leaves the job as it was. `Disk` comes only where the disk failed in this call, and shuts the room: the
+    /// one or two regions in which the bytes lie are lost. `Shut` comes exactly where an earlier call answered `Disk`, and changes nothing.
+    /// After `NoMemory` the room is whole, and the target holds what it held. A crash at any moment of the call leaves an image that
+    /// shows what was sealed before.
+    pub fn merge_write(&mut self, job: &mut Job, bytes: &[u8]) -> Result<(), RoomFault>
+        requires out { self.old.room.job ≡ Some job.old }
+        requires taken { IsSome job.old.header }
+        requires within { IfSome job.old.header (λ header. job.old.written + length bytes.now ≤ body_len header) }
+        requires few { length bytes.now < self.old.room.region_len }
+        ensures room { IfSome job.old.header (λ header. WritesOr bytes.now self.old self.new job.old job.new header result) }
+        ensures out { self.new.room.job ≡ Some job.new }
+        ensures beside { SameBeside self.old.disk self.new.disk }
+        ensures keeps { Keeps self.old self.new }
+    {
+        let Some(header) = job.header else {
+            unreachable!()
+        };
+        self.write_for(job, header, bytes)
+    }
+
+    /// Writes bytes for a job with a header; all that `merge_write` says of it, in one clause.
+    fn write_for(&mut self, job: &mut Job, header: Header, bytes: &[u8]) -> Result<(), RoomFault>
+        requires out { self.old.room.job ≡ Some job.old }
+        requires taken { job.old.header ≡ Some header }
+        requires within { job.old.written + length bytes.now ≤ body_len header }
+        requires few { length bytes.now < self.old.room.region_len }
+        ensures { WritesJob bytes.now self.old self.new job.old job.new header result }
+    {
+        if self.is_shut {
+            return Err(RoomFault::Shut { epoch: self.sealed });
+        }
+        let part = Part {
+            region: job.target,
+            header,
+        };
+        match write_body(&mut self.disk, &part, job.written, bytes) {
+            Ok(()) => {
+                job.written += bytes.len() as u32;
+                self.job = Some(*job);
+                Ok(())
+            }
+            Err(refusal) => match refusal {
+                DiskRefusal::Failed => {
+                    let region_len = self.disk.region_len();
+                    lose_touched(&mut self.lost, job, &part, region_len, bytes.len());
+                    self.is_shut = true;
+                    Err(RoomFault::Disk)
+                }
+                DiskRefusal::NoMemory => Err(RoomFault::NoMemory),
+            },
+        }
+    }
+
     /// Gives a job up, also of a shut room. Its regions are free again, but for those that a failed call was writing, which stay lost;
     /// nothing else changes. It calls no disk and takes no memory.
     pub fn merge_drop(&mut self, job: Job)
         requires out { self.old.room.job ≡ Some job }
-        ensures room { self.new ≡ with_job self.old None (free_then self.old.room) }
+        ensures room { self.new ≡ with_job self.old None (free_dropped self.old.room) }
         ensures keeps { Keeps self.old self.new }
     {
         free_job(&mut self.free, &self.lost, &job);

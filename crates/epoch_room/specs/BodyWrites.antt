@@ -1,0 +1,41 @@
+-- What writing bytes of a part's body does to a disk.
+use Rattle.std.specs.Prelude.{◌≡◌, ℕ, ◌<◌, ◌≤◌, List, length, take, All, IsTrue, IsErrOf, OnOk, Result}
+use Rattle.std.specs.List.{AllByRecursion}
+use Rattle.fine_model.specs.declared.Part.{Part}
+use Rattle.fine_model.specs.Trees.{is_distinct}
+use Rattle.fine_model.specs.Regions.{body_in}
+use Rattle.fine_model.specs.Chain.{regions_of}
+use Rattle.log_disk.specs.Disk.{Disk, BothTold, CountsOwn, IsSound, IsUnseen, SameBeside}
+use Rattle.log_disk.specs.Moments.{ContinuesOn}
+use Rattle.log_disk.specs.declared.refusal.DiskRefusal.{DiskRefusal}
+use Rattle.log_disk.specs.declared.refusal.DiskRefusal.TheVariants as refusal
+use Rattle.partition_index.specs.Parts.{LiesIn}
+use Rattle.partition_index.specs.Placing.{HasBody}
+use Rattle.epoch_room.specs.Gate.{DirtiesOnly, LeavesBehind, ReadsBehind}
+
+-- the regions of a part are of a disk, each once, and no open eye names one of them
+pub record HasPlace (disk : Disk) (p : Part) : Type 0 where
+  pub sound : IsSound disk
+  pub lies : LiesIn disk.region_len p.header
+  pub apart : IsTrue (is_distinct (regions_of p))
+  pub there : AllByRecursion (λ r. r < disk.regions) (regions_of p)
+  pub unseen : All (IsUnseen disk) (regions_of p)
+
+-- the body of a part stays up to an offset
+abbrev pub KeepsFront : Part → ℕ → Disk → Disk → Type 0
+KeepsFront p at old new = BothTold (λ a b. take at (body_in b.bytes p.region p.header) ≡ take at (body_in a.bytes p.region p.header)) old.told new.told
+
+-- Whatever it answers, it touches no other region, and a crash at any moment leaves what it could leave before, torn behind the gates of
+-- the part's regions. Without bytes nothing fails. The bytes before the offset stay where memory ran out; then some of the bytes may be
+-- written.
+pub record WritesBody (p : Part) (at : ℕ) (bytes : List ℕ) (result : Result (Unit {0}) DiskRefusal) (old new : Disk) : Type 0 where
+  pub beside : SameBeside old new
+  pub counts : CountsOwn (IsErrOf result refusal.Failed) old new
+  pub sound : IsSound new
+  pub time : ContinuesOn old new
+  pub dirties : DirtiesOnly (regions_of p) old new
+  pub read : ReadsBehind (regions_of p) old new
+  pub leaves : LeavesBehind (regions_of p) old new
+  pub done : OnOk result (BothTold (λ a b. HasBody p at bytes a.bytes b.bytes) old.told new.told)
+  pub some : IsErrOf result refusal.Failed → 1 ≤ length bytes
+  pub kept : IsErrOf result refusal.NoMemory → KeepsFront p at old new

@@ -1,6 +1,6 @@
 -- What holds behind each answer of erasing all that no view names.
 use Rattle.std.proofs.Common.{◌≡◌, ◌≢◌, ℕ, ◌+◌, ◌^◌, ◌<◌, ◌≤◌, ◌==◌, Bool, true, false, cond, not, ◌||◌, ◌&&◌, List, [], ◌∷◌, ◌++◌, length, map, take, get_or, Ok, Err, Result, None, Some, refl, sym, ap, subst, ◌∙◌, arith, true≢false, append-nil, length-append}
-use Rattle.std.specs.Prelude.{IsErrOf, Option, filter, is_none, is_some, nat_eq}
+use Rattle.std.specs.Prelude.{IfSome, IsErrOf, Option, filter, find, is_none, is_some, nat_eq, nat_le}
 use Rattle.std.specs.List.{AllByRecursion, list_any}
 use Rattle.std.proofs.lemmas.Bool.{or_right}
 use Rattle.std.proofs.lemmas.List.{length-map, map-append, take_more}
@@ -57,6 +57,23 @@ unheld_unnamed board parts = all_map (λ r. is_none (naming_of board r) ≡ true
     none : (o : Option (ℕ × ℕ)) → is_none o ≡ true → o ≡ None
     none None h = refl
     none (Some x) h = absurd (true≢false (sym h))
+
+-- the first lead from a number on leads one of the parts
+pub lead_found : (from : ℕ) (parts : List Part) → IfSome (find (nat_le from) (map (λ p. p.region) parts)) (λ region. list_any (λ p. p.region == region) parts ≡ true)
+lead_found from [] = tt
+lead_found from (p ∷ parts) = by (nat_le from p.region) (lead_found from parts)
+  where
+    itself : (n : ℕ) → (n == n) ≡ true
+    itself n = grind arith
+
+    by : (b : Bool) → IfSome (find (nat_le from) (map (λ p. p.region) parts)) (λ region. list_any (λ p. p.region == region) parts ≡ true)
+        → IfSome (cond b (Some p.region) (find (nat_le from) (map (λ p. p.region) parts))) (λ region. (p.region == region || list_any (λ p. p.region == region) parts) ≡ true)
+    by true rest = ap (λ b. b || list_any (λ q. q.region == p.region) parts) (itself p.region)
+    by false rest = any (find (nat_le from) (map (λ p. p.region) parts)) rest
+      where
+        any : (o : Option ℕ) → IfSome o (λ region. list_any (λ p. p.region == region) parts ≡ true) → IfSome o (λ region. (p.region == region || list_any (λ p. p.region == region) parts) ≡ true)
+        any None h = tt
+        any (Some region) h = or_right (p.region == region) (list_any (λ q. q.region == region) parts) h
 
 -- ---- how many, and what is left
 

@@ -1,12 +1,12 @@
 -- The regions of parts, added to a set.
-use Rattle.std.proofs.Common.{◌≡◌, ℕ, zero, suc, ◌+◌, ◌<◌, Bool, true, false, ◌||◌, List, [], ◌∷◌, ◌++◌, length, take, drop, get_or, refl, sym, ap, subst, ◌∙◌, append_assoc, arith}
+use Rattle.std.proofs.Common.{◌≡◌, ℕ, zero, suc, ◌+◌, ◌<◌, ◌||◌, List, [], ◌∷◌, ◌++◌, length, take, drop, get_or, sym, ap, subst, ◌∙◌, append_assoc, arith}
 use Rattle.std.specs.Prelude.{nat_eq}
 use Rattle.std.specs.List.{AllByRecursion, list_any}
 use Rattle.std.proofs.lemmas.List.{take_more}
 use Rattle.std.proofs.lemmas.List.Elements.{filter-append}
 use Rattle.std.proofs.lemmas.List.Folds.{list_any-append}
 use Rattle.fine_model.specs.declared.Part.{Part}
-use Rattle.fine_model.specs.Boards.{regions_by, set_of}
+use Rattle.fine_model.specs.Boards.{set_of}
 use Rattle.epoch_room.specs.Erasing.{led_by}
 use Rattle.epoch_room.specs.Value.{all_regions}
 use Rattle.epoch_room.proofs.Beside.{regions_together}

@@ -1,6 +1,6 @@
 -- A room of which retired parts are erased.
-use Rattle.std.proofs.Common.{◌≡◌, ◌≢◌, ◌⊎◌, ℕ, zero, suc, ◌+◌, ◌/◌, ◌%◌, ◌<◌, ◌≤◌, ◌==◌, Bool, true, false, cond, not, ◌||◌, List, [], ◌∷◌, ◌++◌, length, map, Some, None, Ok, refl, sym, ap, subst, ◌∙◌, inl, inr, arith, true≢false}
-use Rattle.std.specs.Prelude.{Option, IfSome, All, Any, Contains, IsPermutation, IsTrue, is_some, nat_eq, option_map, option_to_list, slice_index, take}
+use Rattle.std.proofs.Common.{◌≡◌, ◌≢◌, ℕ, zero, suc, ◌+◌, ◌/◌, ◌%◌, ◌<◌, ◌≤◌, ◌==◌, Bool, true, false, cond, not, ◌||◌, List, [], ◌∷◌, ◌++◌, length, map, Some, None, refl, sym, ap, subst, ◌∙◌, inl, inr, arith, true≢false}
+use Rattle.std.specs.Prelude.{Option, IfSome, Any, Contains, IsPermutation, IsTrue, nat_eq, option_map, option_to_list, slice_index, take}
 use Rattle.std.specs.List.{AllByRecursion, list_any}
 use Rattle.std.proofs.lemmas.Bool.{or_parts}
 use Rattle.std.proofs.lemmas.List.Elements.{All-from_recursion, recursion_from_All}
@@ -12,23 +12,21 @@ use Rattle.fine_model.specs.declared.Part.{Part}
 use Rattle.fine_model.specs.declared.Job.{Job}
 use Rattle.fine_model.specs.declared.Row.{Row}
 use Rattle.fine_model.specs.declared.law.OpenedEye.{OpenedEye}
-use Rattle.fine_model.specs.declared.law.RoomState.{RoomState}
 use Rattle.fine_model.specs.Becomes.{Becomes}
 use Rattle.fine_model.specs.Boards.{Buffer, first_from, held_of, named, names_region, naming_of, posted, set_of}
-use Rattle.fine_model.specs.Chain.{chain, regions_of, AreRowsOf, Shows}
-use Rattle.fine_model.specs.History.{Commit, last_epoch, all_rows, upto}
+use Rattle.fine_model.specs.Chain.{regions_of}
+use Rattle.fine_model.specs.History.{Commit, last_epoch}
 use Rattle.fine_model.specs.Headline.{ShowsSome}
-use Rattle.fine_model.specs.Jobs.{KeepsJob, held_for, job_left, job_regions, taken_by}
+use Rattle.fine_model.specs.Jobs.{KeepsJob, held_for, job_left, job_regions}
 use Rattle.fine_model.specs.Regions.{Image, HasHeader, is_sealed, region_of}
 use Rattle.fine_model.specs.Trees.{is_distinct}
-use Rattle.fine_model.specs.Views.{SameSeen}
 use Rattle.fine_model.proofs.Nothing.{all_at, each_there}
 use Rattle.fine_model.proofs.Order.{all_map, filter_all}
 use Rattle.fine_model.proofs.Sets.{all_append, all_filter, all_pass}
 use Rattle.fine_model.proofs.Times.{absent_times, times, times-append, times-none, times_absent}
 use Rattle.partition_hold.proofs.Bits.{among}
 use Rattle.partition_index.specs.Parts.{LiesIn}
-use Rattle.log_disk.specs.Disk.{BothTold, CountsOwn, Disk, HasRisen, IsImageNow, IsImageSince, IsSound, IsToldOf, IsUnseen, OpenEye, Told, clock_of}
+use Rattle.log_disk.specs.Disk.{BothTold, CountsOwn, Disk, HasRisen, IsImageNow, IsToldOf, IsUnseen, OpenEye, Told, clock_of}
 use Rattle.log_disk.specs.Moments.{Continues, IsLeft, LeavesOnly}
 use Rattle.log_disk.proofs.Moments.{now_since, synced_now}
 use Rattle.log_disk.proofs.Steps.{both_weaker}
@@ -36,7 +34,7 @@ use Rattle.log_disk.proofs.Times.{continued_later, continues_then}
 use Rattle.epoch_room.specs.Closing.{DiffersAtGates, IsAtGates, ReadsClosed, TouchesGates, closed_gate}
 use Rattle.epoch_room.specs.Erasing.{led_by, without}
 use Rattle.epoch_room.specs.Meaning.{Keeps, ShownInside, Stands, StandsTold, StandsWhere}
-use Rattle.epoch_room.specs.Value.{Kept, all_regions, on, regions_outside, taken, value_of}
+use Rattle.epoch_room.specs.Value.{Kept, all_regions, regions_outside, taken, value_of}
 use Rattle.epoch_room.specs.Whole.{AreApart, AreOnBoard, HoldsParts, IsJob, IsTaken, IsWhole, NamesWhole}
 use Rattle.epoch_room.proofs.Behind.{all_told, as_told, both_and, some_behind}
 use Rattle.epoch_room.proofs.Beside.{regions_together}

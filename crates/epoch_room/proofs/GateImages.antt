@@ -1,6 +1,6 @@
 -- Images that differ at the gates of retired parts show the same.
-use Rattle.std.proofs.Common.{◌≡◌, ◌≢◌, ◌⊎◌, ℕ, suc, ◌<◌, ◌≤◌, ◌==◌, Bool, true, false, not, ◌||◌, cond, List, [], ◌∷◌, ◌++◌, length, take, drop, set, Some, Ok, refl, sym, ap, subst, ◌∙◌, inl, inr, arith, true≢false}
-use Rattle.std.specs.Prelude.{nat_eq, filter, slice_index}
+use Rattle.std.proofs.Common.{◌≡◌, ◌≢◌, ℕ, suc, ◌<◌, Bool, true, false, ◌||◌, List, [], ◌∷◌, length, drop, set, Ok, refl, sym, ap, subst, ◌∙◌, inl, inr, arith, true≢false}
+use Rattle.std.specs.Prelude.{nat_eq}
 use Rattle.std.specs.List.{AllByRecursion, list_any}
 use Rattle.std.proofs.lemmas.Bool.{cases_eq, eqb-true, or_parts}
 use Rattle.std.proofs.lemmas.List.{length-set, get_or-set_other}
@@ -10,12 +10,12 @@ use Rattle.fine_model.specs.declared.Row.{Row}
 use Rattle.fine_model.specs.declared.Part.{Part}
 use Rattle.fine_model.specs.Regions.{Image, region_of, is_sealed, sealed_gate, HasHeader}
 use Rattle.fine_model.specs.Chain.{AreRowsOf, Shows, chain}
-use Rattle.fine_model.specs.ChainLaws.{DiffersAt, IsFreed}
+use Rattle.fine_model.specs.ChainLaws.{IsFreed}
 use Rattle.fine_model.proofs.Free.{sealed_there}
 use Rattle.fine_model.proofs.Freed.{freed_law}
 use Rattle.fine_model.proofs.Headers.{good}
 use Rattle.log_disk.proofs.Writes.{region_of-set_same}
-use Rattle.epoch_room.specs.Closing.{DiffersAtGates, closed_gate}
+use Rattle.epoch_room.specs.Closing.{DiffersAtGates}
 
 -- what an image shows of the parts of a chain, another one shows too; and its headers, but for those of some regions
 pub record ShowsStill (region_len : ℕ) (leads : List ℕ) (old new : Image) (parts : List Part) : Type 0 where

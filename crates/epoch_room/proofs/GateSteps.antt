@@ -1,14 +1,14 @@
 -- What closing gates leaves, step by step.
-use Rattle.std.proofs.Common.{◌≡◌, ◌≢◌, ◌⊎◌, ℕ, zero, suc, ◌+◌, ◌<◌, ◌≤◌, Bool, true, false, ◌||◌, List, [], ◌∷◌, ◌++◌, length, take, drop, get_or, Some, None, Ok, Err, Result, refl, sym, ap, subst, ◌∙◌, inl, inr, arith, true≢false}
+use Rattle.std.proofs.Common.{◌≡◌, ◌≢◌, ℕ, zero, suc, ◌+◌, ◌<◌, ◌≤◌, false, ◌||◌, List, [], ◌∷◌, ◌++◌, length, take, drop, get_or, Some, None, Ok, Err, Result, refl, sym, ap, subst, ◌∙◌, inl, inr, arith}
 use Rattle.std.specs.Prelude.{Option, IfSome, IsErrOf, nat_eq}
 use Rattle.std.specs.List.{AllByRecursion, list_any}
 use Rattle.std.proofs.lemmas.Bool.{cases_eq, or_parts}
-use Rattle.std.proofs.lemmas.List.{get_or-set_other, take_more}
+use Rattle.std.proofs.lemmas.List.{append-nil, append_assoc, get_or-set_other, take_more}
 use Rattle.std.proofs.lemmas.Option.{unwrap_or-slice_get}
 use Rattle.fine_model.proofs.Order.{all_map}
 use Rattle.fine_model.proofs.Sets.{all_append}
 use Rattle.std.proofs.lemmas.List.Folds.{list_any-append}
-use Rattle.log_disk.specs.Disk.{Image, Told, Disk, region_of, BothTold, CountsOwn, HasRisen, SameOutside, HasGoneOn, HasSynced, IsToldOf, IsSound, IsImageNow, OnlyFails, SameBeside, Syncs, Writes, clock_of, with_bytes, unsynced_too, span_of}
+use Rattle.log_disk.specs.Disk.{Image, Told, Disk, region_of, BothTold, CountsOwn, HasRisen, SameOutside, HasGoneOn, HasSynced, IsToldOf, IsSound, OnlyFails, SameBeside, Syncs, Writes, clock_of, with_bytes, unsynced_too, span_of}
 use Rattle.log_disk.specs.Moments.{LeavesOnly, IsLeft}
 use Rattle.log_disk.proofs.Moments.{leaves_more, leaves_none, leaves_weaker, now_since}
 use Rattle.log_disk.proofs.Calls.{left_write, left_sync}
@@ -18,7 +18,7 @@ use Rattle.log_disk.proofs.Writes.{region_of-set_same}
 use Rattle.log_disk.proofs.Times.{continues_none, continues_sync, continues_then, continues_told, continues_write}
 use Rattle.log_disk.specs.declared.refusal.DiskRefusal.{DiskRefusal}
 use Rattle.log_disk.specs.declared.refusal.DiskRefusal.TheVariants as refusal
-use Rattle.epoch_room.specs.Closing.{BeginsGates, ClosesGates, DiffersAtGates, IsAtGates, LeavesClosing, ReadsButGates, ReadsClosed, TouchesGates, closed_gate}
+use Rattle.epoch_room.specs.Closing.{BeginsGates, ClosesGates, WritesGates, DiffersAtGates, IsAtGates, ReadsButGates, ReadsClosed, TouchesGates, closed_gate}
 
 -- ---- images
 
@@ -43,16 +43,26 @@ differs_more regions region a b c d same = record {
     apart m n h = grind (arith, h)
 
 -- what may differ at some gates may differ at more
-differs_wider : (regions : List ℕ) (region : ℕ) (a b : Image) → DiffersAtGates regions a b → DiffersAtGates (regions ++ region ∷ []) a b
-differs_wider regions region a b d = record {
+differs_wider : (regions more : List ℕ) (a b : Image) → DiffersAtGates regions a b → DiffersAtGates (regions ++ more) a b
+differs_wider regions more a b d = record {
   as_many = d.as_many;
-  others = λ r h. d.others r (or_parts (list_any (nat_eq r) regions) (list_any (nat_eq r) (region ∷ [])) (sym (list_any-append (nat_eq r) regions (region ∷ [])) ∙ h)).0;
+  others = λ r h. d.others r (or_parts (list_any (nat_eq r) regions) (list_any (nat_eq r) more) (sym (list_any-append (nat_eq r) regions more) ∙ h)).0;
   lengths = d.lengths;
   behind = d.behind;
 }
 
 wider_image : (regions : List ℕ) (region : ℕ) (a : Told) (image : Image) → IsAtGates regions a image → IsAtGates (regions ++ region ∷ []) a image
-wider_image regions region a image at = record { was = at.was; is_was = at.is_was; differs = differs_wider regions region at.was image at.differs }
+wider_image regions region a image at = record { was = at.was; is_was = at.is_was; differs = differs_wider regions (region ∷ []) at.was image at.differs }
+
+pub reads_none : (regions : List ℕ) (disk : Disk) → ReadsButGates regions disk disk
+reads_none regions disk = both_same (λ a b. DiffersAtGates regions a.bytes b.bytes) (λ a. differs_none regions a.bytes) disk.told disk.told refl
+
+pub reads_wider : (regions more : List ℕ) (old new : Disk) → ReadsButGates regions old new → ReadsButGates (regions ++ more) old new
+reads_wider regions more old new read =
+    both_weaker (λ a b. DiffersAtGates regions a.bytes b.bytes) (λ a b. DiffersAtGates (regions ++ more) a.bytes b.bytes) (λ a b d. differs_wider regions more a.bytes b.bytes d) old.told new.told read
+
+pub beside_none : (disk : Disk) → SameBeside disk disk
+beside_none disk = record { regions = refl; region_len = refl; eyes = refl; given = refl }
 
 -- ---- one call more
 
@@ -83,10 +93,10 @@ told_synced regions disk a m b run told (inr some) =
 
 pub touches_none : (disk : Disk) → IsSound disk → TouchesGates [] disk disk
 touches_none disk sound = record {
-  beside = record { regions = refl; region_len = refl; eyes = refl; given = refl };
+  beside = beside_none disk;
   sound = sound;
   time = continues_none disk;
-  read = both_same (λ a b. DiffersAtGates [] a.bytes b.bytes) (λ a. differs_none [] a.bytes) disk.told disk.told refl;
+  read = reads_none [] disk;
   leaves = both_same (λ a b. LeavesOnly (IsAtGates [] a) a b) (λ a. told_none [] a) disk.told disk.told refl;
 }
 
@@ -186,9 +196,10 @@ pub record Begun (leads : List ℕ) (k : ℕ) (old new : Disk) : Type 0 where
   pub counts : (new.faults ≡ old.faults) × (new.own_faults ≡ old.own_faults)
   pub closed : ReadsClosed (take k leads) old new
   pub none : k ≡ 0 → new ≡ old
+  pub unsynced : new.unsynced ≡ old.unsynced ++ take k leads
 
 pub begun_none : (leads : List ℕ) (disk : Disk) → IsSound disk → Begun leads 0 disk disk
-begun_none leads disk sound = record { touches = touches_none disk sound; counts = (refl, refl); closed = closed_none disk; none = λ h. refl }
+begun_none leads disk sound = record { touches = touches_none disk sound; counts = (refl, refl); closed = closed_none disk; none = λ h. refl; unsynced = sym (append-nil disk.unsynced) }
 
 abbrev Refusal : Type 0
 Refusal = Result (Unit {0}) DiskRefusal
@@ -198,29 +209,36 @@ module _ (leads : List ℕ) (k : ℕ) (old mid new : Disk) (so_far : Begun leads
     next_touches : TouchesGates (take (k + 1) leads) old new
     next_touches = subst (λ rs. TouchesGates rs old new) (sym (take_more leads k 0 low)) (touches_more (take k leads) old mid new so_far.touches (get_or leads k 0) w)
 
+    next_unsynced : new.unsynced ≡ old.unsynced ++ take (k + 1) leads
+    next_unsynced = w.unsynced ∙ ap (λ rs. rs ++ get_or leads k 0 ∷ []) so_far.unsynced ∙ append_assoc old.unsynced (take k leads) (get_or leads k 0 ∷ []) ∙ ap (λ rs. old.unsynced ++ rs) (sym (take_more leads k 0 low))
+
     pub begun_more : (failed → ⊥) → get_or leads k 0 < mid.regions → Begun leads (k + 1) old new
     begun_more fine there = record {
       touches = next_touches;
       counts = ((w.counts.else_same fine).0 ∙ so_far.counts.0, (w.counts.else_same fine).1 ∙ so_far.counts.1);
       closed = subst (λ rs. ReadsClosed rs old new) (sym (take_more leads k 0 low)) (closed_more (take k leads) (get_or leads k 0) old mid new so_far.touches.sound there so_far.closed (w.written fine));
       none = λ h. absurd (omega (arith, h));
+      unsynced = next_unsynced;
     }
 
-    pub begun_failed : failed → BeginsGates leads (k + 1) (Err refusal.Failed) old new
+    pub begun_failed : failed → WritesGates leads (k + 1) (Err refusal.Failed) old new
     begun_failed f = record {
-      few = omega (arith, low);
-      touches = next_touches;
-      counts = record {
-        faults = λ h. subst (λ n. HasRisen n new.faults) so_far.counts.0 (w.counts.faults f);
-        own_faults = λ h. subst (λ n. HasRisen n new.own_faults) so_far.counts.1 (w.counts.own_faults f);
-        no_lower = (let l = w.counts.no_lower.0 in let e = so_far.counts.0 in omega (arith, l, e), let l = w.counts.no_lower.1 in let e = so_far.counts.1 in omega (arith, l, e));
-        else_same = λ n. absurd (n refl);
+      unsynced = next_unsynced;
+      gates = record {
+        few = omega (arith, low);
+        touches = next_touches;
+        counts = record {
+          faults = λ h. subst (λ n. HasRisen n new.faults) so_far.counts.0 (w.counts.faults f);
+          own_faults = λ h. subst (λ n. HasRisen n new.own_faults) so_far.counts.1 (w.counts.own_faults f);
+          no_lower = (let l = w.counts.no_lower.0 in let e = so_far.counts.0 in omega (arith, l, e), let l = w.counts.no_lower.1 in let e = so_far.counts.1 in omega (arith, l, e));
+          else_same = λ n. absurd (n refl);
+        };
+        all = tt;
+        some = λ h. omega arith;
+        more = λ h. absurd (let e : ◌≡◌ {A = Refusal} (Err refusal.Failed) (Err refusal.NoMemory) = h in cc);
+        closed = λ n. absurd (n refl);
+        none = λ h. absurd (omega (arith, h));
       };
-      all = tt;
-      some = λ h. omega arith;
-      more = λ h. absurd (let e : ◌≡◌ {A = Refusal} (Err refusal.Failed) (Err refusal.NoMemory) = h in cc);
-      closed = λ n. absurd (n refl);
-      none = λ h. absurd (omega (arith, h));
     }
 
   still_counts : (result : Refusal) → (IsErrOf result refusal.Failed → ⊥) → CountsOwn (IsErrOf result refusal.Failed) old mid
@@ -231,28 +249,34 @@ module _ (leads : List ℕ) (k : ℕ) (old mid new : Disk) (so_far : Begun leads
     else_same = λ n. so_far.counts;
   }
 
-  pub begun_memory : k < length leads → new ≡ mid → BeginsGates leads k (Err refusal.NoMemory) old new
-  begun_memory low same = subst (λ (d : Disk). BeginsGates leads k (Err refusal.NoMemory) old d) (sym same) (record {
-    few = omega (arith, low);
-    touches = so_far.touches;
-    counts = still_counts (Err refusal.NoMemory) (λ h. let e : ◌≡◌ {A = Refusal} (Err refusal.NoMemory) (Err refusal.Failed) = h in cc);
-    all = tt;
-    some = λ h. absurd (let e : ◌≡◌ {A = Refusal} (Err refusal.NoMemory) (Err refusal.Failed) = h in cc);
-    more = λ h. low;
-    closed = λ n. so_far.closed;
-    none = so_far.none;
+  pub begun_memory : k < length leads → new ≡ mid → WritesGates leads k (Err refusal.NoMemory) old new
+  begun_memory low same = subst (λ (d : Disk). WritesGates leads k (Err refusal.NoMemory) old d) (sym same) (record {
+    unsynced = so_far.unsynced;
+    gates = record {
+      few = omega (arith, low);
+      touches = so_far.touches;
+      counts = still_counts (Err refusal.NoMemory) (λ h. let e : ◌≡◌ {A = Refusal} (Err refusal.NoMemory) (Err refusal.Failed) = h in cc);
+      all = tt;
+      some = λ h. absurd (let e : ◌≡◌ {A = Refusal} (Err refusal.NoMemory) (Err refusal.Failed) = h in cc);
+      more = λ h. low;
+      closed = λ n. so_far.closed;
+      none = so_far.none;
+    };
   })
 
-pub begun_all : (leads : List ℕ) (k : ℕ) (old new : Disk) → Begun leads k old new → k ≡ length leads → BeginsGates leads (length leads) (Ok tt) old new
-begun_all leads k old new so_far is = subst (λ n. BeginsGates leads n (Ok tt) old new) is (record {
-  few = omega (arith, is);
-  touches = so_far.touches;
-  counts = still_counts leads k old new new so_far (Ok tt) (λ h. let e : ◌≡◌ {A = Refusal} (Ok tt) (Err refusal.Failed) = h in cc);
-  all = is;
-  some = λ h. absurd (let e : ◌≡◌ {A = Refusal} (Ok tt) (Err refusal.Failed) = h in cc);
-  more = λ h. absurd (let e : ◌≡◌ {A = Refusal} (Ok tt) (Err refusal.NoMemory) = h in cc);
-  closed = λ n. so_far.closed;
-  none = so_far.none;
+pub begun_all : (leads : List ℕ) (k : ℕ) (old new : Disk) → Begun leads k old new → k ≡ length leads → WritesGates leads (length leads) (Ok tt) old new
+begun_all leads k old new so_far is = subst (λ n. WritesGates leads n (Ok tt) old new) is (record {
+  unsynced = so_far.unsynced;
+  gates = record {
+    few = omega (arith, is);
+    touches = so_far.touches;
+    counts = still_counts leads k old new new so_far (Ok tt) (λ h. let e : ◌≡◌ {A = Refusal} (Ok tt) (Err refusal.Failed) = h in cc);
+    all = is;
+    some = λ h. absurd (let e : ◌≡◌ {A = Refusal} (Ok tt) (Err refusal.Failed) = h in cc);
+    more = λ h. absurd (let e : ◌≡◌ {A = Refusal} (Ok tt) (Err refusal.NoMemory) = h in cc);
+    closed = λ n. so_far.closed;
+    none = so_far.none;
+  };
 })
 
 -- what holds of each number of a list holds of that at a place
@@ -267,7 +291,10 @@ failed_other r f e = let h : ◌≡◌ {A = Refusal} (Err refusal.Failed) (Err r
 
 -- ---- the sync behind them
 
-module _ (leads : List ℕ) (k : ℕ) (result : Refusal) (old mid new : Disk) (gates : BeginsGates leads k result old mid) (some : k ≡ 0 → ⊥) where
+module _ (leads : List ℕ) (k : ℕ) (result : Refusal) (old mid new : Disk) (writes : WritesGates leads k result old mid) (some : k ≡ 0 → ⊥) where
+  abbrev gates : BeginsGates leads k result old mid
+  gates = writes.gates
+
   pub closes_ok : Syncs mid new → (IsErrOf result refusal.Failed → ⊥) → ClosesGates leads k result old new
   closes_ok s fine = record {
     gates = record {
@@ -286,6 +313,7 @@ module _ (leads : List ℕ) (k : ℕ) (result : Refusal) (old mid new : Disk) (g
       none = λ h. absurd (some h);
     };
     synced = λ n h. s.unsynced;
+    unsynced = λ f. absurd (fine f);
   }
 
   risen_later : (a b c : ℕ) → a ≤ b → HasRisen b c → HasRisen a c
@@ -309,6 +337,7 @@ module _ (leads : List ℕ) (k : ℕ) (result : Refusal) (old mid new : Disk) (g
       none = λ h. absurd (some h);
     };
     synced = λ n h. absurd (n refl);
+    unsynced = λ h. f.unsynced ∙ writes.unsynced;
   }
     where
       above : (n : ℕ) → (n ≡ 0 → ⊥) → 1 ≤ n

@@ -1,24 +1,20 @@
 -- The regions of parts that are erased, and those of the others.
-use Rattle.std.proofs.Common.{◌≡◌, ◌≢◌, ℕ, zero, suc, ◌+◌, ◌<◌, ◌≤◌, ◌==◌, Bool, true, false, cond, not, ◌&&◌, ◌||◌, List, [], ◌∷◌, ◌++◌, length, map, refl, sym, ap, subst, ◌∙◌, inl, inr, arith, true≢false, eq-eqb}
-use Rattle.std.specs.Prelude.{nat_eq, nat_lt, filter, Any, Contains, IsTrue}
+use Rattle.std.proofs.Common.{◌≡◌, ◌≢◌, ℕ, zero, suc, ◌+◌, ◌<◌, ◌≤◌, ◌==◌, Bool, true, false, cond, not, ◌||◌, List, [], ◌∷◌, ◌++◌, map, refl, sym, ap, ◌∙◌, inl, inr, arith, true≢false, eq-eqb}
+use Rattle.std.specs.Prelude.{nat_eq, filter}
 use Rattle.std.specs.List.{AllByRecursion, list_any, range_with_len}
 use Rattle.std.proofs.lemmas.Bool.{cases_lt, eqb-true, or_parts, or_right}
 use Rattle.std.proofs.lemmas.List.Folds.{list_any-append}
-use Rattle.std.proofs.lemmas.List.Elements.{All-contains, All-from_recursion}
 use Rattle.fine_model.specs.declared.Part.{Part}
 use Rattle.fine_model.specs.Boards.{regions_by, set_of}
 use Rattle.fine_model.specs.Chain.{regions_of}
 use Rattle.fine_model.specs.Regions.{continuations}
-use Rattle.fine_model.specs.Trees.{is_distinct}
 use Rattle.fine_model.proofs.Nothing.{all_at}
-use Rattle.fine_model.proofs.Order.{all_map}
-use Rattle.fine_model.proofs.Sets.{all_filter}
 use Rattle.fine_model.proofs.Times.{times, times-append, times-none, times-other, absent_times, times_absent, distinct_times, times_distinct, below_times, times_below}
 use Rattle.epoch_room.specs.Erasing.{led_by, without}
 use Rattle.epoch_room.specs.Value.{all_regions, regions_outside}
 use Rattle.epoch_room.specs.Whole.{AreApart, AreRising}
 use Rattle.epoch_room.proofs.FreeSets.{alike_from}
-use Rattle.epoch_room.proofs.Taken.{any_times, not_true}
+use Rattle.epoch_room.proofs.Taken.{any_times}
 
 -- ---- how often a region stands in them
 

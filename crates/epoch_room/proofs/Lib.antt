@@ -1,4 +1,5 @@
 pub mod Added
+pub mod AllErased
 pub mod Appending
 pub mod Arranging
 pub mod Behind

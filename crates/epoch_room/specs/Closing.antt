@@ -1,5 +1,5 @@
 -- What closing gates does to a disk, and to the images that a crash may leave.
-use Rattle.std.specs.Prelude.{◌≡◌, ℕ, ◌<◌, ◌≤◌, nat_eq, false, List, [], ◌∷◌, length, take, drop, Result, OnOk, IsErrOf}
+use Rattle.std.specs.Prelude.{◌≡◌, ℕ, ◌<◌, ◌≤◌, nat_eq, false, List, [], ◌∷◌, ◌++◌, length, take, drop, Result, OnOk, IsErrOf}
 use Rattle.std.specs.List.{AllByRecursion, list_any}
 use Rattle.log_disk.specs.Disk.{Image, Told, Disk, BothTold, CountsOwn, IsImageNow, IsSound, SameBeside, region_of}
 use Rattle.log_disk.specs.Moments.{ContinuesOn, LeavesOnly}
@@ -52,7 +52,13 @@ pub record BeginsGates (leads : List ℕ) (begun : ℕ) (result : Result (Unit {
   pub closed : (IsErrOf result refusal.Failed → ⊥) → ReadsClosed (take begun leads) old new
   pub none : begun ≡ 0 → new ≡ old
 
--- and then they are durable
+-- the gates that were begun are unsynced, and nothing else is that was not before
+pub record WritesGates (leads : List ℕ) (begun : ℕ) (result : Result (Unit {0}) DiskRefusal) (old new : Disk) : Type 0 where
+  pub gates : BeginsGates leads begun result old new
+  pub unsynced : new.unsynced ≡ old.unsynced ++ take begun leads
+
+-- and then they are durable, if nothing failed
 pub record ClosesGates (leads : List ℕ) (begun : ℕ) (result : Result (Unit {0}) DiskRefusal) (old new : Disk) : Type 0 where
   pub gates : BeginsGates leads begun result old new
   pub synced : (IsErrOf result refusal.Failed → ⊥) → 1 ≤ begun → new.unsynced ≡ []
+  pub unsynced : IsErrOf result refusal.Failed → new.unsynced ≡ old.unsynced ++ take begun leads

@@ -3,7 +3,7 @@
 ghost use Rattle.std.specs.Prelude.{◌≡◌, ◌<◌, ◌≤◌, true, false, IsErrOf};
 ghost use Rattle.std.specs.List.{AllByRecursion};
 ghost use Rattle.log_disk.specs.Disk.{IsSound, IsUnseen};
-ghost use Rattle.epoch_room.specs.Closing.{BeginsGates, ClosesGates};
+ghost use Rattle.epoch_room.specs.Closing.{ClosesGates, WritesGates};
 
 use log_disk::{DiskRefusal, LogDisk};
 
@@ -30,7 +30,7 @@ fn write_gates<D: LogDisk>(disk: &mut D, leads: &[u32]) -> (usize, Result<(), Di
     requires there { AllByRecursion (λ r. r < (D.state disk.old).regions) leads.now }
     requires long { 1 ≤ (D.state disk.old).region_len }
     requires unseen { AllByRecursion (IsUnseen (D.state disk.old)) leads.now }
-    ensures { BeginsGates leads.now result.0 result.1 (D.state disk.old) (D.state disk.new) }
+    ensures { WritesGates leads.now result.0 result.1 (D.state disk.old) (D.state disk.new) }
 {
     for (begun, lead) in leads.iter().enumerate() {
         if let Err(refusal) = disk.write(*lead, 0, &[CLOSED_GATE]) {

@@ -1,15 +1,17 @@
 //! Parts by the regions that lead them.
 
-ghost use Rattle.std.specs.Prelude.{◌≡◌, ◌<◌, [], ◌∷◌, ◌++◌, nat_eq, vec_capacity};
+ghost use Rattle.std.specs.Prelude.{◌≡◌, ◌<◌, [], ◌∷◌, ◌++◌, nat_eq, vec_capacity, OnOk, IfOk};
 ghost use Rattle.std.specs.List.{AllByRecursion, list_any};
 ghost use Rattle.fine_model.specs.Boards.{set_of};
 ghost use Rattle.fine_model.specs.Chain.{regions_of};
-ghost use Rattle.epoch_room.specs.Erasing.{led_by, without};
+ghost use Rattle.epoch_room.specs.Erasing.{led_by, unheld_of, without};
 ghost use Rattle.epoch_room.specs.Value.{all_regions};
 ghost use Rattle.epoch_room.specs.Whole.{HasRegions};
 
-use fine_model::Part;
-use partition_hold::RegionSet;
+use fine_model::{NoMemory, Part};
+use log_disk::LogEye;
+use partition_hold::{Board, RegionSet};
+use std::alloc::Global;
 
 /// Whether a region is one of these.
 fn is_lead(leads: &[u32], region: u32) -> bool
@@ -60,4 +62,36 @@ pub fn keep_others(parts: &mut Vec<Part>, leads: &[u32])
     ensures capacity { vec_capacity parts.new ≡ vec_capacity parts.old }
 {
     parts.retain(|part| !is_lead(leads, part.region));
+}
+
+/// Puts the lead of a part behind others if no view names it.
+fn push_unheld<E: LogEye>(
+    leads: &mut Vec<u32>,
+    board: &Board<E>,
+    part: &Part,
+) -> Result<(), NoMemory>
+    requires small { part.now.region < 64 }
+    ensures { OnOk result (leads.new.items ≡ leads.old.items ++ unheld_of board.now (part.now ∷ [])) }
+{
+    if board.names(part.region).is_some() {
+        return Ok(());
+    }
+    leads.push(part.region)?;
+    Ok(())
+}
+
+/// The leads of the parts that no view names, in their order.
+pub fn unheld_leads<E: LogEye>(
+    alloc: Global,
+    board: &Board<E>,
+    parts: &[Part],
+) -> Result<Vec<u32>, NoMemory>
+    requires small { AllByRecursion (λ p. p.region < 64) parts.now }
+    ensures { IfOk result (λ leads. leads.items ≡ unheld_of board.now parts.now) }
+{
+    let mut leads = Vec::new(alloc);
+    for part in parts {
+        push_unheld(&mut leads, board, part)?;
+    }
+    Ok(leads)
 }

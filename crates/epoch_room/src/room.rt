@@ -1,7 +1,7 @@
 //! The room.
 
-ghost use Rattle.std.specs.Prelude.{◌≡◌, ◌+◌, ◌*◌, ◌≤◌, true, None, length, replicate, IfOk, IfErr, IsSome, OnOk, OnErr};
-ghost use Rattle.std.specs.List.{AllByRecursion, list_all};
+ghost use Rattle.std.specs.Prelude.{◌≡◌, ◌+◌, ◌*◌, ◌≤◌, ◌==◌, true, None, length, replicate, IfOk, IfErr, IfSome, IsSome, OnOk, OnErr};
+ghost use Rattle.std.specs.List.{AllByRecursion, list_all, list_any};
 ghost use Rattle.fine_model.specs.Boards.{empty_of, is_empty};
 ghost use Rattle.fine_model.specs.Becomes.{Becomes};
 ghost use Rattle.fine_model.specs.Jobs.{KeepsJob};
@@ -354,7 +354,8 @@ impl<D: LogDisk> Room<D> {
 
     /// The lowest region from a number on that is the lead of a retired part. None exactly where there is none.
     pub fn retired(&self, from: u32) -> Option<u32>
-        ensures { result ≡ retired_from self.now.room from }
+        ensures lowest { result ≡ retired_from self.now.room from }
+        ensures leads { IfSome result (λ region. list_any (λ p. p.region == region) self.now.room.retired ≡ true) }
     {
         first_lead(self.retired.as_slice(), from)
     }

@@ -1,16 +1,18 @@
 //! Erasing retired parts.
 
-ghost use Rattle.std.specs.Prelude.{◌≡◌, ◌==◌, None, false, true};
+ghost use Rattle.std.specs.Prelude.{◌≡◌, ◌==◌, [], ◌∷◌, None, OnOk, false, true};
 ghost use Rattle.std.specs.List.{AllByRecursion, list_any};
 ghost use Rattle.fine_model.specs.Boards.{naming_of};
 ghost use Rattle.fine_model.specs.Jobs.{KeepsJob};
+ghost use Rattle.log_disk.specs.Disk.{SameBeside};
+ghost use Rattle.epoch_room.specs.Closing.{ReadsButGates};
 ghost use Rattle.epoch_room.specs.Meaning.{Keeps};
-ghost use Rattle.epoch_room.specs.Erasing.{Erases, ErasesLed, ErasesOr};
+ghost use Rattle.epoch_room.specs.Erasing.{Erases, ErasesAll, ErasesAllOr, ErasesLed, ErasesOr, held, unheld};
 
 use super::Room;
-use crate::answers::EraseFault;
+use crate::answers::{EraseFault, RoomFault};
 use crate::closing::{close_gates, has_failed};
-use crate::led_parts::{add_led, keep_others};
+use crate::led_parts::{add_led, keep_others, unheld_leads};
 use log_disk::{DiskRefusal, LogDisk};
 
 impl<D: LogDisk> Room<D> {
@@ -23,6 +25,8 @@ impl<D: LogDisk> Room<D> {
     pub fn erase(&mut self, region: u32) -> Result<(), EraseFault>
         requires retired { list_any (λ p. p.region == region) self.old.room.retired ≡ true }
         ensures room { ErasesOr region self.old self.new result }
+        ensures read { ReadsButGates (region ∷ []) self.old.disk self.new.disk }
+        ensures beside { SameBeside self.old.disk self.new.disk }
         ensures keeps { Keeps self.old self.new }
         ensures job { KeepsJob self.old.room self.new.room }
     {
@@ -45,6 +49,43 @@ impl<D: LogDisk> Room<D> {
             Err(refusal) => match refusal {
                 DiskRefusal::Failed => Err(EraseFault::Disk),
                 DiskRefusal::NoMemory => Err(EraseFault::NoMemory),
+            },
+        }
+    }
+
+    /// Erases each retired part that no view names, with one sync for all, and answers how many. The retired parts that are left are
+    /// those that views name.
+    ///
+    /// `Disk` comes only where the disk failed in this call, and shuts the room: the parts whose gates were begun are no longer retired,
+    /// and their regions are lost. `Shut` comes exactly where an earlier call answered `Disk`, and changes nothing. After `NoMemory` the
+    /// first ones of these parts may be erased, and no other gate was begun. A crash at any moment of the call leaves an image that shows
+    /// what was sealed before.
+    pub fn erase_all(&mut self) -> Result<u32, RoomFault>
+        ensures room { ErasesAllOr self.old self.new result }
+        ensures left { OnOk result (self.new.room.retired ≡ held self.old.room) }
+        ensures read { ReadsButGates (unheld self.old.room) self.old.disk self.new.disk }
+        ensures beside { SameBeside self.old.disk self.new.disk }
+        ensures keeps { Keeps self.old self.new }
+        ensures job { KeepsJob self.old.room self.new.room }
+    {
+        self.erase_unheld()
+    }
+
+    /// Erases all that no view names; all that `erase_all` says of it, in one clause.
+    fn erase_unheld(&mut self) -> Result<u32, RoomFault>
+        ensures { ErasesAll self.old self.new result }
+    {
+        if self.is_shut {
+            return Err(RoomFault::Shut { epoch: self.sealed });
+        }
+        let Ok(leads) = unheld_leads(self.alloc, &self.board, self.retired.as_slice()) else {
+            return Err(RoomFault::NoMemory);
+        };
+        match self.erase_led(leads.as_slice()) {
+            Ok(()) => Ok(leads.len() as u32),
+            Err(refusal) => match refusal {
+                DiskRefusal::Failed => Err(RoomFault::Disk),
+                DiskRefusal::NoMemory => Err(RoomFault::NoMemory),
             },
         }
     }

@@ -1,8 +1,7 @@
-use Rattle.std.proofs.Common.{◌≡◌, ◌<◌, Ok, Err, Result, refl, sym, subst, ap, arith}
-use Rattle.std.specs.Prelude.{IsErrOf, slice_index_or}
-use Rattle.log_disk.specs.Disk.{Disk, IsUnseen, Writes}
+use Rattle.std.proofs.Common.{◌<◌, Err, refl, ap, arith}
+use Rattle.std.specs.Prelude.{slice_index_or}
+use Rattle.log_disk.specs.Disk.{IsUnseen}
 use Rattle.log_disk.specs.declared.refusal.DiskRefusal.{DiskRefusal}
-use Rattle.log_disk.specs.declared.refusal.DiskRefusal.TheVariants as refusal
 use Rattle.epoch_room.proofs.GateSteps.{all_there, begun_all, begun_failed, begun_memory, begun_more, begun_none, failed_other}
 use Rattle.epoch_room.proofs.Gates.{still_unseen}
 use Rattle.epoch_room.proofs.closing.write_gates.Goals as goal

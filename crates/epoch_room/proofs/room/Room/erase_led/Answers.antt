@@ -1,11 +1,10 @@
-use Rattle.std.proofs.Common.{◌≡◌, ℕ, ◌<◌, ◌≤◌, ◌==◌, ◌++◌, List, None, true, false, take, sym, subst, ap, ◌∙◌, arith}
-use Rattle.std.specs.Prelude.{nat_eq, IsErrOf}
+use Rattle.std.proofs.Common.{◌≡◌, ◌<◌, ◌≤◌, ◌==◌, ◌++◌, List, None, true, false, take, sym, subst, ap, ◌∙◌}
 use Rattle.std.specs.List.{AllByRecursion, list_any}
 use Rattle.fine_model.specs.declared.Part.{Part}
 use Rattle.fine_model.specs.Boards.{naming_of, posted, set_of}
 use Rattle.fine_model.specs.Chain.{regions_of}
 use Rattle.log_disk.specs.Disk.{Disk}
-use Rattle.epoch_room.specs.Erasing.{ErasesLed, led_by, without}
+use Rattle.epoch_room.specs.Erasing.{ErasesLed, led_by}
 use Rattle.epoch_room.specs.Value.{RoomValue, Kept, all_regions, value_of}
 use Rattle.epoch_room.specs.Whole.{HasRegions, IsWhole}
 use Rattle.epoch_room.proofs.Counting.{retired_have}

@@ -1,12 +1,10 @@
-use Rattle.std.proofs.Common.{◌≡◌, ◌==◌, Err, Some, None, Result, refl, true, false, sym, subst, ap, ◌∙◌}
-use Rattle.std.specs.Prelude.{Option}
-use Rattle.std.specs.List.{list_any}
+use Rattle.std.proofs.Common.{◌≡◌, Err, None, refl, false, sym, subst, ap, ◌∙◌}
 use Rattle.fine_model.specs.Boards.{naming_of}
 use Rattle.epoch_room.specs.Value.{RoomValue}
 use Rattle.epoch_room.specs.Whole.{IsWhole}
 use Rattle.epoch_room.specs.declared.answers.EraseFault.TheVariants as erase_fault
 use Rattle.epoch_room.proofs.Behind.{is_failed, is_no_memory}
-use Rattle.epoch_room.proofs.Led.{erases_disk, erases_memory, erases_none, erases_ok, lead_small}
+use Rattle.epoch_room.proofs.Led.{erases_disk, erases_memory, erases_none, lead_small}
 use Rattle.epoch_room.proofs.room.Room.erase_part.Goals as goal
 
 pub returns-then-self : goal.returns-then-self

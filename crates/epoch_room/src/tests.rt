@@ -1,8 +1,7 @@
 //! What no clause says: worked numbers and bytes, and each call with ample memory.
 
 ghost use Rattle.std.specs.Prelude.{◌≡◌, ◌%◌, ◌≤◌, [], ◌∷◌, true, None, Some, replicate, IfOk, OnOk};
-ghost use Rattle.std.specs.List.{AllByRecursion, list_all};
-ghost use Rattle.fine_model.specs.Boards.{is_empty};
+ghost use Rattle.std.specs.List.{AllByRecursion};
 ghost use Rattle.fine_model.specs.RowBytes.{FitsRow};
 ghost use Rattle.fine_model.specs.declared.Mark.TheVariants as mark;
 ghost use Rattle.partition_merge.specs.Mergers.{IsCounted};

@@ -1,11 +1,11 @@
 -- Images that differ behind the gates of regions which are in no part show the same.
-use Rattle.std.proofs.Common.{◌≡◌, ◌∙◌, ℕ, zero, suc, ◌+◌, ◌<◌, ◌==◌, Bool, true, false, cond, List, [], ◌∷◌, ◌++◌, length, take, refl, sym, ap, subst, arith}
+use Rattle.std.proofs.Common.{◌≡◌, ◌∙◌, ℕ, suc, ◌+◌, ◌<◌, true, cond, List, [], ◌∷◌, ◌++◌, length, take, refl, sym, ap, subst, arith}
 use Rattle.std.specs.Prelude.{nat_eq, count_by}
 use Rattle.std.specs.List.{AllByRecursion, list_any}
 use Rattle.std.proofs.lemmas.List.Sums.{sum_by-cons}
 use Rattle.fine_model.specs.declared.Part.{Part}
-use Rattle.fine_model.specs.Causes.{AreNeighbours, NoNeighboursFit}
-use Rattle.fine_model.specs.Chain.{free_regions, is_free}
+use Rattle.fine_model.specs.Causes.{NoNeighboursFit}
+use Rattle.fine_model.specs.Chain.{is_free}
 use Rattle.fine_model.specs.ChainLaws.{DiffersBehind, ShowsAlike}
 use Rattle.fine_model.specs.Merge.{FitsFree}
 use Rattle.fine_model.specs.Regions.{HasHeader, Image, is_sealed, region_of}

@@ -1,5 +1,5 @@
 -- Bytes of a body are written in one region, and in two.
-use Rattle.std.proofs.Common.{◌≡◌, ◌≢◌, ◌⊎◌, ℕ, zero, suc, ◌+◌, ◌-◌, ◌*◌, ◌/◌, ◌%◌, ◌<◌, ◌≤◌, ◌||◌, Bool, true, false, List, [], ◌∷◌, ◌++◌, length, take, drop, Some, None, Ok, Err, Result, refl, sym, ap, subst, ◌∙◌, inl, inr, arith, append_assoc, length-append, length-take, eq-eqb, true≢false}
+use Rattle.std.proofs.Common.{◌≡◌, ◌≢◌, ℕ, ◌+◌, ◌-◌, ◌*◌, ◌/◌, ◌%◌, ◌<◌, ◌≤◌, ◌||◌, true, false, List, [], ◌∷◌, ◌++◌, length, take, drop, Some, None, Ok, Err, Result, refl, sym, ap, subst, ◌∙◌, inl, inr, arith, append_assoc, length-append, length-take, true≢false}
 use Rattle.std.specs.Prelude.{Option, IfSome, All, Contains, IsErr, IsErrOf, OnOk, min, nat_eq}
 use Rattle.std.specs.List.{AllByRecursion, list_any}
 use Rattle.std.proofs.lemmas.Bool.{cases_lt}
@@ -15,8 +15,8 @@ use Rattle.fine_model.specs.ChainLaws.{DiffersBehind}
 use Rattle.fine_model.specs.Chain.{regions_of}
 use Rattle.fine_model.specs.Regions.{Image, body_in, body_start, place_of}
 use Rattle.fine_model.proofs.Order.{all_map}
-use Rattle.log_disk.specs.Disk.{Disk, Told, BothTold, CountsOwn, HasGoneOn, HasRisen, IsImageNow, IsSound, IsToldOf, IsUnseen, IsWithin, OpenEye, SameBeside, SameOutside, Writes, clock_of, region_of, span_of, unsynced_too, with_bytes}
-use Rattle.log_disk.specs.Moments.{ContinuesOn, IsLeft, LeavesOnly}
+use Rattle.log_disk.specs.Disk.{Disk, Told, BothTold, HasGoneOn, HasRisen, IsImageNow, IsSound, IsToldOf, IsUnseen, OpenEye, SameOutside, Writes, clock_of, region_of, span_of, unsynced_too, with_bytes}
+use Rattle.log_disk.specs.Moments.{ContinuesOn, LeavesOnly}
 use Rattle.log_disk.specs.declared.refusal.DiskRefusal.{DiskRefusal}
 use Rattle.log_disk.specs.declared.refusal.DiskRefusal.TheVariants as refusal
 use Rattle.log_disk.proofs.Calls.{left_write}
@@ -29,7 +29,7 @@ use Rattle.partition_index.specs.Placing.{HasBody, HasRoomFor}
 use Rattle.partition_index.proofs.BodyPlaces.{body_long, high_place, low_place}
 use Rattle.partition_index.proofs.Placed.{place_named, placed}
 use Rattle.epoch_room.specs.BodyWrites.{HasPlace, KeepsFront, WritesBody}
-use Rattle.epoch_room.specs.Gate.{DirtiesOnly, IsBehind, LeavesBehind, ReadsBehind}
+use Rattle.epoch_room.specs.Gate.{IsBehind, LeavesBehind, ReadsBehind}
 use Rattle.epoch_room.proofs.Freeing.{nat_alike}
 use Rattle.epoch_room.proofs.Gates.{behind}
 use Rattle.epoch_room.proofs.Touching.{dirties_more, dirties_none, dirties_then}

@@ -1,8 +1,7 @@
 -- A room for whose merge bytes are written, behind the gates of the merge's regions.
-use Rattle.std.proofs.Common.{◌≡◌, ◌⊎◌, ℕ, suc, ◌+◌, ◌<◌, ◌≤◌, Bool, true, false, not, ◌&&◌, List, [], ◌∷◌, ◌++◌, length, map, Some, None, Ok, refl, sym, ap, subst, ◌∙◌, inl, inr, arith, true≢false}
-use Rattle.std.specs.Prelude.{Option, IfSome, filter, is_some, nat_eq, option_map, option_to_list}
+use Rattle.std.proofs.Common.{◌≡◌, ℕ, ◌<◌, ◌≤◌, Bool, true, false, List, ◌++◌, length, map, Some, None, Ok, refl, sym, ap, subst, ◌∙◌, inl, inr, arith}
+use Rattle.std.specs.Prelude.{Option, IfSome, nat_eq, option_map}
 use Rattle.std.specs.List.{AllByRecursion, list_any}
-use Rattle.fine_model.specs.declared.Part.{Part}
 use Rattle.fine_model.specs.declared.Job.{Job}
 use Rattle.fine_model.specs.declared.Row.{Row}
 use Rattle.fine_model.specs.Becomes.{Becomes, IsStuck, StaysStuck}
@@ -12,7 +11,7 @@ use Rattle.fine_model.specs.ChainLaws.{DiffersBehind}
 use Rattle.fine_model.specs.History.{Commit, last_epoch}
 use Rattle.fine_model.specs.Headline.{ShowsSome}
 use Rattle.fine_model.specs.Regions.{Image, region_of}
-use Rattle.log_disk.specs.Disk.{BothTold, CountsOwn, Disk, HasRisen, IsImageNow, IsImageSince, IsSound, IsToldOf, SameBeside, Told, clock_of}
+use Rattle.log_disk.specs.Disk.{BothTold, CountsOwn, Disk, HasRisen, IsImageNow, IsSound, IsToldOf, SameBeside, Told, clock_of}
 use Rattle.log_disk.specs.Moments.{Continues, ContinuesOn, IsLeft, LeavesOnly}
 use Rattle.log_disk.proofs.Moments.{now_since}
 use Rattle.log_disk.proofs.Steps.{both_weaker}

@@ -1,6 +1,6 @@
 -- A room behind each answer of writing for its merge.
-use Rattle.std.proofs.Common.{◌≡◌, ◌≢◌, ℕ, suc, ◌+◌, ◌-◌, ◌<◌, ◌≤◌, Bool, true, false, cond, not, ◌&&◌, ◌||◌, List, [], ◌∷◌, ◌++◌, length, take, drop, Some, None, Ok, Err, Result, refl, sym, ap, subst, ◌∙◌, inl, inr, arith, append_assoc, length-append, length-take, eq-eqb, true≢false}
-use Rattle.std.specs.Prelude.{Option, IfSome, IsErrOf, IsTrue, OnOk, filter, nat_eq, option_map, option_to_list}
+use Rattle.std.proofs.Common.{◌≡◌, ℕ, ◌+◌, ◌-◌, ◌<◌, ◌≤◌, Bool, true, false, cond, not, ◌&&◌, List, [], ◌∷◌, ◌++◌, length, take, drop, Some, None, Ok, Err, Result, refl, sym, ap, subst, ◌∙◌, arith, append_assoc, length-append, length-take, true≢false}
+use Rattle.std.specs.Prelude.{Option, IfSome, IsErrOf, OnOk, filter, nat_eq, option_map, option_to_list}
 use Rattle.std.specs.List.{AllByRecursion, list_any}
 use Rattle.std.proofs.lemmas.Bool.{eqb-true}
 use Rattle.std.proofs.lemmas.List.{take_at}
@@ -14,10 +14,10 @@ use Rattle.fine_model.specs.Boards.{set_of}
 use Rattle.fine_model.specs.Chain.{regions_of}
 use Rattle.fine_model.specs.ChainLaws.{part_of}
 use Rattle.fine_model.specs.Jobs.{KeepsJob, held_by, held_for, job_left, job_regions, taken_by}
-use Rattle.fine_model.specs.Regions.{Image, body_in, place_of, region_of}
+use Rattle.fine_model.specs.Regions.{body_in, place_of, region_of}
 use Rattle.fine_model.proofs.Nothing.{all_at, each_there}
 use Rattle.fine_model.proofs.Order.{all_map}
-use Rattle.fine_model.proofs.Times.{absent_times, distinct_times, times, times-append, times-cons, times-none, times_distinct}
+use Rattle.fine_model.proofs.Times.{distinct_times, times, times-append, times-none, times_distinct}
 use Rattle.partition_hold.proofs.Bits.{among, same_regions}
 use Rattle.partition_index.specs.Parts.{LiesIn, body_len}
 use Rattle.partition_index.specs.Placing.{HasBody}
@@ -33,7 +33,6 @@ use Rattle.epoch_room.specs.MergeSteps.{WritesJob, touched, with_job, written_on
 use Rattle.epoch_room.specs.Steps.{Does}
 use Rattle.epoch_room.specs.Value.{Kept, RoomValue, all_regions, on, regions_outside, taken, value_of}
 use Rattle.epoch_room.specs.Whole.{AreApart, IsJob, IsTaken, IsWhole}
-use Rattle.epoch_room.specs.declared.answers.RoomFault.{RoomFault}
 use Rattle.epoch_room.specs.declared.answers.RoomFault.TheVariants as room_fault
 use Rattle.epoch_room.proofs.Behind.{keeps_none, same_beside}
 use Rattle.epoch_room.proofs.Boarding.{AreBeside, unseen}

@@ -1,5 +1,5 @@
 -- What the steps of a merge make of a room.
-use Rattle.std.specs.Prelude.{◌≡◌, ℕ, ◌+◌, ◌-◌, ◌*◌, ◌==◌, nat_le, nat_lt, not, if◌then◌else◌, List, [], ◌∷◌, ◌++◌, length, filter, find, take, drop, replicate, slice_index, Option, Some, None, option_map, Result, Ok, Err}
+use Rattle.std.specs.Prelude.{◌≡◌, ℕ, ◌+◌, ◌-◌, ◌*◌, ◌==◌, nat_le, if◌then◌else◌, List, [], ◌∷◌, ◌++◌, length, find, take, drop, replicate, slice_index, Option, Some, None, option_map, Result, Ok, Err}
 use Rattle.std.specs.List.{range_with_len}
 use Rattle.fine_model.specs.declared.Header.{Header}
 use Rattle.fine_model.specs.declared.Job.{Job}
@@ -9,7 +9,7 @@ use Rattle.fine_model.specs.declared.law.RoomState.{RoomState}
 use Rattle.fine_model.specs.Merge.{fits_in}
 use Rattle.fine_model.specs.Regions.{place_of}
 use Rattle.fine_model.specs.Boards.{set_of}
-use Rattle.fine_model.specs.Jobs.{job_regions, job_left, held_for, KeepsJob}
+use Rattle.fine_model.specs.Jobs.{job_left, held_for, KeepsJob}
 use Rattle.partition_merge.specs.declared.merger.Measure.{Measure}
 use Rattle.epoch_room.specs.Value.{RoomValue}
 use Rattle.log_disk.specs.Disk.{SameBeside}

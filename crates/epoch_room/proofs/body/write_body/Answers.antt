@@ -1,10 +1,9 @@
-use Rattle.std.proofs.Common.{◌≡◌, ℕ, ◌+◌, ◌-◌, ◌<◌, ◌≤◌, ◌++◌, Ok, Err, List, length, length-append, take, refl, sym, subst, ap, ◌∙◌, arith}
+use Rattle.std.proofs.Common.{◌≡◌, ℕ, ◌+◌, ◌-◌, ◌<◌, ◌≤◌, ◌++◌, Ok, length, take, refl, sym, subst, ap, ◌∙◌, arith}
 use Rattle.std.specs.Prelude.{min}
 use Rattle.std.proofs.lemmas.List.{take-append-drop}
-use Rattle.log_disk.specs.Disk.{Disk}
 use Rattle.fine_model.specs.Regions.{place_of}
 use Rattle.partition_index.specs.Parts.{body_len}
-use Rattle.epoch_room.specs.BodyWrites.{HasPlace, WritesBody}
+use Rattle.epoch_room.specs.BodyWrites.{WritesBody}
 use Rattle.epoch_room.proofs.BodyPieces.{body_none, fits_second, pieces, still_place}
 use Rattle.epoch_room.proofs.body.write_body.Goals as goal
 

@@ -1,10 +1,6 @@
-use Rattle.std.proofs.Common.{◌≡◌, ◌≢◌, ◌+◌, ◌<◌, ◌≤◌, Err, Ok, Result, List, ℕ, length, refl, sym, subst, ap, ◌∙◌, arith}
-use Rattle.std.specs.Prelude.{IsErr, IsErrOf, All, Contains}
-use Rattle.log_disk.specs.Disk.{Disk, IsUnseen, Writes}
-use Rattle.log_disk.specs.declared.refusal.DiskRefusal.{DiskRefusal}
-use Rattle.log_disk.specs.declared.refusal.DiskRefusal.TheVariants as refusal
+use Rattle.std.proofs.Common.{◌≡◌, sym, subst, ap, ◌∙◌}
+use Rattle.log_disk.specs.Disk.{IsUnseen}
 use Rattle.fine_model.specs.Regions.{place_of}
-use Rattle.epoch_room.specs.BodyWrites.{WritesBody}
 use Rattle.epoch_room.proofs.BodyPieces.{piece_of, piece_unseen}
 use Rattle.epoch_room.proofs.body.write_piece.Goals as goal
 

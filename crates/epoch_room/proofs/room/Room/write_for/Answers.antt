@@ -1,4 +1,4 @@
-use Rattle.std.proofs.Common.{◌≡◌, ◌+◌, ◌<◌, ◌++◌, Err, Ok, Some, ℕ, length, refl, sym, subst, ap, ◌∙◌, arith, true}
+use Rattle.std.proofs.Common.{◌≡◌, ◌++◌, Err, Ok, Some, length, sym, subst, ap, ◌∙◌, arith, true}
 use Rattle.fine_model.specs.Boards.{set_of}
 use Rattle.epoch_room.specs.MergeSteps.{WritesJob, touched, written_on}
 use Rattle.epoch_room.specs.Value.{Kept, RoomValue, value_of}

@@ -4,13 +4,15 @@ use Rattle.fine_model.specs.declared.Call.{Call}
 use Rattle.fine_model.specs.declared.FetchFault.{FetchFault}
 use Rattle.fine_model.specs.declared.Row.{Row}
 use Rattle.fine_model.specs.declared.Why.TheVariants as why
+use Rattle.fine_model.specs.Map.{Pair}
 use Rattle.fine_model.specs.Pushed.{pushed, push_of, key_of}
+use Rattle.fine_model.specs.Store.{answer}
 use Rattle.fine_model.specs.Trees.{nodes_of, bucket_of}
 use Rattle.node_cache.specs.Cache.{Cache}
 use Rattle.btree_nodes.specs.declared.fault.TreeFault.{TreeFault}
 use Rattle.btree_nodes.specs.declared.fault.TreeFault.TheVariants.{Source, Unfit, BucketFull, Number, NoMemory}
 use Rattle.btree_nodes.specs.Trees.{Holds, Restores, HeadSays, first_over}
-use Rattle.txn_draft.specs.Drafts.{DraftValue, IsAnswered}
+use Rattle.txn_draft.specs.Drafts.{DraftValue, IsAnswered, noted}
 
 -- The answer to one call, on sound rows for which the source serves the bucket. A refusal has its cause; what the bucket holds for the
 -- transaction it still holds, with every answer but want of memory, and then undoing restores it.
@@ -23,6 +25,10 @@ AnswersSoundly rows c old new b (Err (BucketFull next depth)) =
 AnswersSoundly rows c old new b (Err (Number id)) =
     (pushed (rows ++ old.rows) c ≡ Err why.Number) × (first_over (push_of (rows ++ old.rows) c).rows ≡ Some id) × Holds b rows old.rows
 AnswersSoundly rows c old new b (Err NoMemory) = Restores b rows
+
+-- a call is kept behind the others, with the reply and the writes that it has on some pairs
+abbrev pub KeepsBy : List Pair → Call → DraftValue → DraftValue → Type 0
+KeepsBy pairs c old new = new ≡ noted (record old { rows = new.rows }) c (answer pairs c).0 (answer pairs c).1
 
 -- every refusal but want of memory leaves a draft as it was; want of memory leaves it failed
 abbrev pub LeavesDraft : DraftValue → DraftValue → TreeFault → Type 0

@@ -7,11 +7,11 @@ ghost use Rattle.fine_model.specs.Bounds.{FitsCall};
 ghost use Rattle.fine_model.specs.Pushed.{key_of};
 ghost use Rattle.fine_model.specs.Trees.{bucket_of};
 ghost use Rattle.node_cache.specs.Cache.{Cache};
-ghost use Rattle.btree_nodes.specs.Trees.{Serves, Holds};
-ghost use Rattle.btree_nodes.specs.Calls.{OnCleanAnswer};
+ghost use Rattle.btree_nodes.specs.Trees.{Serves, Holds, pairs_in};
+ghost use Rattle.btree_nodes.specs.Calls.{OnCleanAnswer, IsChange};
 ghost use Rattle.txn_draft.specs.Drafts.{IsAnswered, FitsDraft, Keeps, is_scan};
 ghost use Rattle.txn_draft.specs.Uses.{IsUsed, UsedAfter, OnlyLoads, OnKept};
-ghost use Rattle.txn_draft.specs.Answers.{AnswersSoundly, LeavesDraft, FailsBy};
+ghost use Rattle.txn_draft.specs.Answers.{AnswersSoundly, KeepsBy, LeavesDraft, FailsBy};
 ghost use Rattle.txn_draft.specs.Steps.{IsTried, wants_memory};
 
 use crate::draft::Draft;
@@ -72,6 +72,7 @@ impl Draft {
         requires no_scan { is_scan call.now ≡ false }
         ensures later { S.later source.old source.new }
         ensures clean { OnCleanAnswer result (S.clean source.old source.new) }
+        ensures change { IsChange (S.tells source.old) (S.finds source.old) (S.upper source.old) bucket.old bucket.new self.old.rows self.new.rows call.now (λ mid _. KeepsBy (pairs_in mid (key_of call.now)) call.now self.old self.new) (λ failed. S.fails source.old failed source.new) result }
         ensures kept { OnOk result (Keeps call.now self.old self.new) }
         ensures left { IfErr result (LeavesDraft self.old self.new) }
         ensures fits { OnOk result (FitsDraft self.old → FitsDraft self.new) }

@@ -81,8 +81,8 @@ module _ (tells : List Row → Type 0) (finds : Finds) (upper : ℕ) (b b' : Cac
         }
         by (Err fault) e t = tt
 
-    pub left_of : IfErr r (LeavesDraft d d'')
-    left_of = by r failed tried
+    pub left_of : (d'.lane ≡ d.lane) × (d'.turn ≡ d.turn) → IfErr r (LeavesDraft d d'')
+    left_of place = by r failed tried
       where
         by : (r : Result (Unit {0}) TreeFault) → d'' ≡ record d' { failed = wants_memory r d'.failed } → IsTried tells finds upper b b' d d' c F r → IfErr r (LeavesDraft d d'')
         by (Ok done) e t = tt
@@ -90,7 +90,7 @@ module _ (tells : List Row → Type 0) (finds : Finds) (upper : ℕ) (b b' : Cac
         by (Err (Unfit id)) e t = e ∙ t.1
         by (Err (BucketFull m depth)) e t = e ∙ t.1
         by (Err (Number id)) e t = e ∙ t.1
-        by (Err NoMemory) e t = ap (λ x. x.failed) e
+        by (Err NoMemory) e t = (ap (λ x. x.failed) e, ap (λ x. x.lane) e ∙ place.0, ap (λ x. x.turn) e ∙ place.1)
 
     -- on every disk: the tree's change, and the reply and the writes on the pairs of the key's leaf
     pub change_of : IsChange {A = Unit {0}} tells finds upper b b' d.rows d''.rows c (λ mid _. KeepsBy (pairs_in mid (key_of c)) c d d'') F r

@@ -45,6 +45,7 @@ impl Draft {
         requires call { FitsCall call.now }
         ensures later { S.later source.old source.new }
         ensures clean { OnCleanAnswer result (S.clean source.old source.new) }
+        ensures place { (self.new.lane ≡ self.old.lane) × (self.new.turn ≡ self.old.turn) }
         ensures tried { IsTried (S.tells source.old) (S.finds source.old) (S.upper source.old) bucket.old bucket.new self.old self.new call.now (λ failed. S.fails source.old failed source.new) result }
     {
         let alloc = *self.calls.allocator();

@@ -1,9 +1,8 @@
 -- What a scan keeps from bucket to bucket.
-use Rattle.std.proofs.Common.{◌≡◌, ℕ, ◌+◌, ◌*◌, ◌<◌, ◌≤◌, List, length, [], ◌++◌, ⊎_elim, Ok, None, refl, sym, ap, subst, ◌∙◌, append-nil, arith}
+use Rattle.std.proofs.Common.{◌≡◌, ℕ, ◌+◌, ◌<◌, List, [], ◌++◌, ⊎_elim, Ok, None, refl, sym, ap, subst, ◌∙◌, append-nil}
 use Rattle.std.specs.Prelude.{take}
 use Rattle.std.specs.Cmp.{IsStrictWeakOrder}
 use Rattle.std.proofs.lemmas.Cmp.{nat_list_cmp_total, on_total}
-use Rattle.std.proofs.lemmas.List.{length-take}
 use Rattle.std.proofs.lemmas.List.MinMax.{ranks_by}
 use Rattle.fine_model.specs.declared.Call.TheVariants as call
 use Rattle.fine_model.specs.declared.Reply.TheVariants as reply
@@ -40,7 +39,3 @@ found_answered rows low high limit d d' kept first a is_kept is_first same =
     (same ∙ ap (λ rs. noted (record d { rows = rs }) (call.Scan low high limit) (reply.Found first) []) (sym (ap (λ x. x.rows) same)))
     (ap (λ x. x.rows) same ∙ sym (append-nil d.rows)) (scan_pushed (rows ++ d.rows) low high limit)
     (ap (λ pairs. (reply.Found pairs, [])) is_first.is ∙ sym (kept_all (rows ++ d.rows) low high limit kept is_first.found a.leaves.has_map.sound is_kept is_first.sorted).reply)
-
--- the first ones are no more than are wanted
-pub few_first : (limit : ℕ) (pairs first : List Pair) → IsFirst limit pairs first → length first ≤ 2 * limit + 1
-few_first limit pairs first is = subst (λ (ps : List Pair). length ps ≤ 2 * limit + 1) (sym is.is) (omega (arith, length-take limit is.found))

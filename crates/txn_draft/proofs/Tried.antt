@@ -15,7 +15,7 @@ use Rattle.node_cache.specs.Given.{Finds}
 use Rattle.btree_nodes.specs.declared.fault.TreeFault.{TreeFault}
 use Rattle.btree_nodes.specs.declared.fault.TreeFault.TheVariants.{Source, Unfit, BucketFull, Number, NoMemory}
 use Rattle.btree_nodes.specs.Trees.{Serves, Holds, FitsLog, pairs_in}
-use Rattle.btree_nodes.specs.Calls.{IsChange, IsDone}
+use Rattle.btree_nodes.specs.Calls.{IsChange}
 use Rattle.txn_draft.specs.Answers.{AnswersSoundly, KeepsBy, LeavesDraft, FailsBy}
 use Rattle.txn_draft.specs.Drafts.{DraftValue, IsAnswered, FitsDraft, Keeps, noted}
 use Rattle.txn_draft.specs.Steps.{Made, IsMade, IsStep, IsTried, wants_memory}

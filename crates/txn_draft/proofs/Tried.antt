@@ -115,7 +115,7 @@ module _ (tells : List Row → Type 0) (finds : Finds) (upper : ℕ) (b b' : Cac
               used = h.used;
               outcome = (
                 e ∙ t.1 ∙ ap (λ (p : Reply × List Write). noted (record d { rows = d'.rows }) c p.0 p.1) h.outcome.0
-                ∙ ap (λ rs. noted (record d { rows = rs }) c (answer (pairs_in h.mid (key_of c)) c).0 (answer (pairs_in h.mid (key_of c)) c).1) (sym same_rows),
+                    ∙ ap (λ rs. noted (record d { rows = rs }) c (answer (pairs_in h.mid (key_of c)) c).0 (answer (pairs_in h.mid (key_of c)) c).1) (sym same_rows),
                 h.outcome.1,
                 h.outcome.2,
               );

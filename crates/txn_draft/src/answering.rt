@@ -56,10 +56,10 @@ impl Draft {
     }
 
     /// Answers a call that is no scan, in the bucket of its key: the call, its reply, what it writes and the rows that it pushes stand behind
-    /// those of the earlier calls [`kept`].
+    /// those of the earlier calls [`kept`]. They are those of the definitions on the leaf that the key's way leads to [`change`].
     ///
-    /// `Source` has what the source answered, `Unfit` names a node that breaks the rules of a tree, `BucketFull` and `Number` come where the rows
-    /// of the call would pass a limit: with these the draft is as it was, and the bucket but for what was loaded. After `NoMemory` the
+    /// `Source` has what the source answered, `Unfit` names the first node on the way that breaks the rules of a tree, `BucketFull` and `Number`
+    /// come where the rows of the call would pass a limit: with these the draft is as it was, and the bucket but for what was loaded. After `NoMemory` the
     /// draft is failed: the buckets are to be undone, and the draft to be cleared.
     pub fn answer<S: NodeSource>(
         &mut self,

@@ -48,7 +48,7 @@ writes_more m (d ∷ ds) c =
 
 -- an answered draft goes on: the rows of one call more, its reply and its writes
 pub answered_more : (rows own : List Row) (d d' : DraftValue) (c : Call) (made : Made) → IsAnswered rows d → d' ≡ noted (record d { rows = d'.rows }) c made.0 (option_to_list made.1) → d'.rows ≡ d.rows ++ own
-    → pushed (rows ++ d.rows) c ≡ Ok own → IsMade (rows ++ d.rows) c made → IsAnswered rows d'
+    → pushed (rows ++ d.rows) c ≡ Ok own → IsMade (map_of (rows ++ d.rows)) c made → IsAnswered rows d'
 answered_more rows own d d' c made a same behind one right = record {
   replies = ap (λ x. x.replies) same ∙ (λ i. a.replies i ++ reply_is i ∷ []) ∙ sym (replies_more m d.calls c) ∙ ap (replies_to m) (sym calls);
   writes = writes ∙ (λ i. a.writes i ++ wrote_is i) ∙ sym (writes_more m d.calls c) ∙ ap (writes_of m) (sym calls);

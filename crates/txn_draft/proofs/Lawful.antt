@@ -3,19 +3,23 @@ use Rattle.std.proofs.Common.{◌≡◌, ◌≢◌, ℕ, nat_eq, List, [], ◌�
 use Rattle.std.specs.Prelude.{IfSome, unwrap_or}
 use Rattle.std.specs.Map.{lookup}
 use Rattle.std.specs.List.{AllByRecursion}
+use Rattle.fine_model.specs.declared.Node.TheVariants as node
 use Rattle.fine_model.specs.declared.Row.{Row}
 use Rattle.fine_model.specs.Laws.{AreSmall}
 use Rattle.fine_model.specs.Map.{map_after}
-use Rattle.fine_model.specs.Nodes.{replay, rows_of}
+use Rattle.fine_model.specs.Nodes.{Content, replay, rows_of}
 use Rattle.fine_model.specs.Pushed.{all_pushed}
 use Rattle.fine_model.specs.Store.{replies_to, writes_of}
 use Rattle.fine_model.specs.Trees.{IsSound, map_of, nodes_of}
 use Rattle.fine_model.proofs.Legal.{legal_map}
 use Rattle.fine_model.proofs.NodeLaws.{content-append, rows_of-append}
+use Rattle.fine_model.proofs.Order.{all_map}
+use Rattle.fine_model.proofs.Sets.{all_append}
 use Rattle.node_cache.specs.declared.cached.Cached.{Cached}
-use Rattle.node_cache.specs.Cache.{Cache, cached, before}
-use Rattle.btree_nodes.specs.Trees.{node_at}
-use Rattle.txn_draft.specs.Laws.{BlankLaw, NextLaw, TakenLaw, OthersLaw}
+use Rattle.node_cache.specs.Cache.{Cache, cached, before, IsSaved}
+use Rattle.node_cache.specs.Given.{IsCached}
+use Rattle.btree_nodes.specs.Trees.{Serves, node_at}
+use Rattle.txn_draft.specs.Laws.{AreElsewhere, BlankLaw, NextLaw, TakenLaw, OthersLaw, BetweenLaw, RestoredLaw, UsedLaw}
 
 pub blank_law : BlankLaw
 unfolding replies_to writes_of all_pushed map_after
@@ -58,16 +62,45 @@ pub none_here : (b : Cache) (n : ℕ) (own : List Row) → AllByRecursion (λ ro
 none_here b n [] h = refl
 none_here b n (row ∷ rows) h = grind (arith, none_here b n rows h.1, h.0)
 
-pub others_law : OthersLaw
+-- nor do they change it
+beside : (b : Cache) (rows own : List Row) → AreElsewhere b own → (n : ℕ) → nodes_of (rows ++ own) b.bucket n ≡ nodes_of rows b.bucket n
 unfolding replay
+beside b rows own other n = content-append rows own (node_at b n) ∙ still n
+  where
+    still : (n : ℕ) → replay (nodes_of rows b.bucket n) (rows_of (node_at b n) own) ≡ nodes_of rows b.bucket n
+    still n = ap (replay (nodes_of rows b.bucket n)) (none_here b n own other)
+
+pub others_law : OthersLaw
 others_law b rows log own holds other = record {
-  same = λ n here. holds.same n here ∙ sym (after n);
+  same = λ n here. holds.same n here ∙ sym (ap (λ rs. nodes_of rs b.bucket n) (sym (append_assoc rows log own)) ∙ beside b (rows ++ log) own other n);
   others = λ n none. rows_of-append (node_at b n) log own ∙ (λ i. holds.others n none i ++ none_here b n own other i);
   restores = holds.restores;
 }
-  where
-    after : (n : ℕ) → nodes_of (rows ++ (log ++ own)) b.bucket n ≡ nodes_of (rows ++ log) b.bucket n
-    after n = ap (λ rs. nodes_of rs b.bucket n) (sym (append_assoc rows log own)) ∙ content-append (rows ++ log) own (node_at b n) ∙ still n
-      where
-        still : (n : ℕ) → replay (nodes_of (rows ++ log) b.bucket n) (rows_of (node_at b n) own) ≡ nodes_of (rows ++ log) b.bucket n
-        still n = ap (replay (nodes_of (rows ++ log) b.bucket n)) (none_here b n own other)
+
+pub restored_law : RestoredLaw
+restored_law b rows own restores other = record {
+  each = λ n. subst (λ (there : Content). IfSome (before b n) (λ kept. (kept.node, kept.version) ≡ there)) (sym (beside b rows own other n)) (restores.each n);
+}
+
+pub between_law : BetweenLaw
+between_law b rows log own holds other = record {
+  same = λ n here. holds.same n here ∙ content-append rows log (node_at b n) ∙ ap (λ (there : Content). replay there (rows_of (node_at b n) log)) (sym (beside b rows own other n)) ∙ sym (content-append (rows ++ own) log (node_at b n));
+  others = holds.others;
+  restores = restored_law b rows own holds.restores other;
+}
+
+-- a source goes on serving a bucket, whatever it tells
+pub serves_between : (tells : List Row → Type 0) (b : Cache) (rows own : List Row) → Serves tells b rows → AreElsewhere b own → Serves tells b (rows ++ own)
+serves_between tells b rows own serves other = record {
+  known = serves.known;
+  is_told = serves.is_told;
+  each = λ n none fine. serves.each n none (subst (λ (there : Content). there.0 ≢ node.Broken) (beside b rows own other n) fine) ∙ sym (beside b rows own other n);
+}
+
+pub used_law : UsedLaw
+used_law low taken b rows own used other = record {
+  undoes = used.undoes;
+  there = used.there;
+  named = all_append (λ row. row.node.bucket ≡ b.bucket → IsSaved b row.node.number × IsCached b row.node.number) rows own used.named
+      (all_map (λ row. row.node.bucket ≢ b.bucket) (λ row. row.node.bucket ≡ b.bucket → IsSaved b row.node.number × IsCached b row.node.number) (λ row away here. absurd (away here)) own other);
+}

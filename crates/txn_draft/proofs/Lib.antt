@@ -5,4 +5,5 @@ pub mod Tried
 pub mod Rested
 pub mod Gathered
 pub mod Lawful
+pub mod Local
 pub mod Taken

@@ -10,7 +10,7 @@ use Rattle.fine_model.specs.declared.Reply.{Reply}
 use Rattle.fine_model.specs.declared.Reply.TheVariants as reply
 use Rattle.fine_model.specs.declared.Write.{Write}
 use Rattle.fine_model.specs.declared.Write.TheVariants as write
-use Rattle.fine_model.specs.Map.{get, has}
+use Rattle.fine_model.specs.Map.{Pair, get, has}
 use Rattle.fine_model.specs.Store.{answer, value_answer}
 use Rattle.fine_model.specs.Pushed.{pushed, push_of, call_push, within_limits, key_of}
 use Rattle.fine_model.specs.Trees.{map_of, IsSound}
@@ -19,7 +19,7 @@ use Rattle.node_cache.specs.Cache.{Cache}
 use Rattle.node_cache.specs.Given.{Finds, IsFetched, IsLoaded}
 use Rattle.btree_nodes.specs.declared.fault.TreeFault.{TreeFault}
 use Rattle.btree_nodes.specs.declared.fault.TreeFault.TheVariants.{Source, Unfit, BucketFull, Number, NoMemory}
-use Rattle.btree_nodes.specs.Trees.{Serves, Holds, LoadsOnWay, AreUsed, way_in}
+use Rattle.btree_nodes.specs.Trees.{Serves, Holds, LoadsOnWay, AreUsed, way_in, pairs_in}
 use Rattle.btree_nodes.specs.Calls.{IsChange, IsDone, Answers, IsFound, SoundOutcome, SoundReading}
 use Rattle.btree_nodes.proofs.Changed.{saves_itself}
 use Rattle.btree_nodes.proofs.LeafPush.{pushes_none}
@@ -47,7 +47,7 @@ get_pushed rows key = refl
 
 module _ (tells : List Row → Type 0) (finds : Finds) (upper : ℕ) (old new : Cache) (log log' : List Row) (c : Call) (F : FetchFault → Type 0) where
   -- the same fault at another type
-  fault_change : {A B : Type 0} (P : Cache → A → Type 0) (Q : Cache → B → Type 0) (e : TreeFault) → IsChange {A = A} tells finds upper old new log log' c P F (Err e) → IsChange {A = B} tells finds upper old new log log' c Q F (Err e)
+  pub fault_change : {A B : Type 0} (P : Cache → A → Type 0) (Q : Cache → B → Type 0) (e : TreeFault) → IsChange {A = A} tells finds upper old new log log' c P F (Err e) → IsChange {A = B} tells finds upper old new log log' c Q F (Err e)
   fault_change P Q (Source f) h = record { mid = h.mid; loaded = h.loaded; on_way = h.on_way; used = tt; outcome = h.outcome }
   fault_change P Q (Unfit id) h = record { mid = h.mid; loaded = h.loaded; on_way = h.on_way; used = tt; outcome = h.outcome }
   fault_change P Q (BucketFull m d) h = record { mid = h.mid; loaded = h.loaded; on_way = h.on_way; used = h.used; outcome = h.outcome }
@@ -61,25 +61,25 @@ module _ (tells : List Row → Type 0) (finds : Finds) (upper : ℕ) (old new : 
   fault_outcome rows P Q (Number id) h = h
   fault_outcome rows P Q NoMemory h = h
 
-  pub fault_step : {A B : Type 0} (P : Cache → A → Type 0) (R : List Row → A → Type 0) (Q : List Row → B → Type 0) (e : TreeFault) → IsChange {A = A} tells finds upper old new log log' c P F (Err e)
+  pub fault_step : {A B : Type 0} (P : Cache → A → Type 0) (R : List Row → A → Type 0) (Q : List Pair → B → Type 0) (e : TreeFault) → IsChange {A = A} tells finds upper old new log log' c P F (Err e)
       → ((rows : List Row) → Serves tells old rows → Holds old rows log → IsSound (rows ++ log) → SoundOutcome {A = A} rows log log' new c (R (rows ++ log)) (Err e))
       → IsStep {A = B} tells finds upper old new log log' c Q F (Err e)
   fault_step P R Q e change sound = record {
-    change = fault_change P (λ _ _. Unit {0}) e change;
-    sound = λ rows serves holds is. fault_outcome rows (R (rows ++ log)) (Q (rows ++ log)) e (sound rows serves holds is);
+    change = fault_change P (λ mid. Q (pairs_in mid (key_of c))) e change;
+    sound = λ rows serves holds is. fault_outcome rows (R (rows ++ log)) (Q (map_of (rows ++ log))) e (sound rows serves holds is);
   }
 
   -- another value in its place
-  pub done_step : {A B : Type 0} (P : Cache → A → Type 0) (R : List Row → A → Type 0) (Q : List Row → B → Type 0) (a : A) (b : B) → ((rows : List Row) → R rows a → Q rows b) → IsChange {A = A} tells finds upper old new log log' c P F (Ok a)
-      → ((rows : List Row) → Serves tells old rows → Holds old rows log → IsSound (rows ++ log) → SoundOutcome {A = A} rows log log' new c (R (rows ++ log)) (Ok a))
+  pub done_step : {A B : Type 0} (R : List Pair → A → Type 0) (Q : List Pair → B → Type 0) (a : A) (b : B) → ((pairs : List Pair) → R pairs a → Q pairs b) → IsChange {A = A} tells finds upper old new log log' c (λ mid. R (pairs_in mid (key_of c))) F (Ok a)
+      → ((rows : List Row) → Serves tells old rows → Holds old rows log → IsSound (rows ++ log) → SoundOutcome {A = A} rows log log' new c (R (map_of (rows ++ log))) (Ok a))
       → IsStep {A = B} tells finds upper old new log log' c Q F (Ok b)
-  done_step P R Q a b on h sound = record {
-    change = record { mid = h.mid; loaded = h.loaded; on_way = h.on_way; used = h.used; outcome = (tt, h.outcome.1, h.outcome.2) };
-    sound = λ rows serves holds is. let s = sound rows serves holds is in (on (rows ++ log) s.0, s.1);
+  done_step R Q a b on h sound = record {
+    change = record { mid = h.mid; loaded = h.loaded; on_way = h.on_way; used = h.used; outcome = (on (pairs_in h.mid (key_of c)) h.outcome.0, h.outcome.1, h.outcome.2) };
+    sound = λ rows serves holds is. let s = sound rows serves holds is in (on (map_of (rows ++ log)) s.0, s.1);
   }
 
   -- memory ran out once the call was done
-  pub lost_step : {A B : Type 0} (P : Cache → A → Type 0) (R : List Row → A → Type 0) (Q : List Row → B → Type 0) (a : A) → IsChange {A = A} tells finds upper old new log log' c P F (Ok a)
+  pub lost_step : {A B : Type 0} (P : Cache → A → Type 0) (R : List Row → A → Type 0) (Q : List Pair → B → Type 0) (a : A) → IsChange {A = A} tells finds upper old new log log' c P F (Ok a)
       → ((rows : List Row) → Serves tells old rows → Holds old rows log → IsSound (rows ++ log) → SoundOutcome {A = A} rows log log' new c (R (rows ++ log)) (Ok a))
       → IsStep {A = B} tells finds upper old new log log' c Q F (Err NoMemory)
   lost_step P R Q a h sound = record {
@@ -88,7 +88,7 @@ module _ (tells : List Row → Type 0) (finds : Finds) (upper : ℕ) (old new : 
   }
 
 -- nothing was done
-pub no_step : {A : Type 0} (tells : List Row → Type 0) (finds : Finds) (upper : ℕ) (b : Cache) (log : List Row) (c : Call) (Q : List Row → A → Type 0) (F : FetchFault → Type 0) → IsStep {A = A} tells finds upper b b log log c Q F (Err NoMemory)
+pub no_step : {A : Type 0} (tells : List Row → Type 0) (finds : Finds) (upper : ℕ) (b : Cache) (log : List Row) (c : Call) (Q : List Pair → A → Type 0) (F : FetchFault → Type 0) → IsStep {A = A} tells finds upper b b log log c Q F (Err NoMemory)
 no_step tells finds upper b log c Q F = record {
   change = record { mid = b; loaded = loads_none tells finds upper b; on_way = among_none b b (way_in b (key_of c)) (λ n. refl); used = tt; outcome = saves_itself b b refl };
   sound = λ rows serves holds is. holds.restores;
@@ -96,15 +96,15 @@ no_step tells finds upper b log c Q F = record {
 
 -- a key was looked up
 module _ (tells : List Row → Type 0) (finds : Finds) (upper : ℕ) (old new : Cache) (log : List Row) (key : List ℕ) (F : FetchFault → Type 0) (loaded : IsLoaded tells finds upper old new) (on_way : LoadsOnWay old new key) where
-  pub got_step : {B : Type 0} (Q : List Row → B → Type 0) (value : Option (List ℕ)) (b : B) → ((rows : List Row) → value ≡ get (map_of rows) key → Q rows b) → AreUsed old new (way_in new key) → IsFound new key value
+  pub got_step : {B : Type 0} (Q : List Pair → B → Type 0) (value : Option (List ℕ)) (b : B) → ((pairs : List Pair) → value ≡ get pairs key → Q pairs b) → AreUsed old new (way_in new key) → IsFound new key value
       → ((rows log : List Row) → Serves tells old rows → Holds old rows log → IsSound (rows ++ log) → SoundReading rows log new (λ v. v ≡ get (map_of (rows ++ log)) key) (Ok value))
       → IsStep {A = B} tells finds upper old new log log (call.Get key) Q F (Ok b)
   got_step Q value b on used found sound = record {
-    change = record { mid = new; loaded = loaded; on_way = on_way; used = used; outcome = (tt, record { here = found.here; fit = found.fit }, done_none new log key) };
-    sound = λ rows serves holds is. let s = sound rows log serves holds is in (on (rows ++ log) s.0, record { own = []; is_pushed = get_pushed (rows ++ log) key; behind = sym (append-nil log); holds = s.1 });
+    change = record { mid = new; loaded = loaded; on_way = on_way; used = used; outcome = (on (pairs_in new key) found.stands, record { here = found.here; fit = found.fit }, done_none new log key) };
+    sound = λ rows serves holds is. let s = sound rows log serves holds is in (on (map_of (rows ++ log)) s.0, record { own = []; is_pushed = get_pushed (rows ++ log) key; behind = sym (append-nil log); holds = s.1 });
   }
 
-  pub missed_step : {B : Type 0} (Q : List Row → B → Type 0) (e : TreeFault) → Answers {A = Option (List ℕ)} new key (IsFound new key) F (Err e)
+  pub missed_step : {B : Type 0} (Q : List Pair → B → Type 0) (e : TreeFault) → Answers {A = Option (List ℕ)} new key (IsFound new key) F (Err e)
       → ((rows log : List Row) → Serves tells old rows → Holds old rows log → IsSound (rows ++ log) → SoundReading {A = Option (List ℕ)} rows log new (λ v. v ≡ get (map_of (rows ++ log)) key) (Err e))
       → IsStep {A = B} tells finds upper old new log log (call.Get key) Q F (Err e)
   missed_step {B} Q e answer sound = record {
@@ -113,12 +113,12 @@ module _ (tells : List Row → Type 0) (finds : Finds) (upper : ℕ) (old new : 
       loaded = loaded;
       on_way = on_way;
       used = reached_fault B (Option (List ℕ)) new key (IsFound new key) F e (AreUsed old new (way_in new key)) answer;
-      outcome = fault_first {B = B} new log (call.Get key) (IsFound new key) (λ _. Unit {0}) F e answer;
+      outcome = fault_first {B = B} new log (call.Get key) (IsFound new key) (Q (pairs_in new key)) F e answer;
     };
     sound = λ rows serves holds is. by rows e (sound rows log serves holds is);
   }
     where
-      by : (rows : List Row) (e : TreeFault) → SoundReading {A = Option (List ℕ)} rows log new (λ v. v ≡ get (map_of (rows ++ log)) key) (Err e) → SoundOutcome {A = B} rows log log new (call.Get key) (Q (rows ++ log)) (Err e)
+      by : (rows : List Row) (e : TreeFault) → SoundReading {A = Option (List ℕ)} rows log new (λ v. v ≡ get (map_of (rows ++ log)) key) (Err e) → SoundOutcome {A = B} rows log log new (call.Get key) (Q (map_of (rows ++ log))) (Err e)
       by rows (Source f) h = record { same = refl; holds = h }
       by rows (Unfit id) h = h
       by rows (BucketFull m d) h = absurd h
@@ -127,17 +127,17 @@ module _ (tells : List Row → Type 0) (finds : Finds) (upper : ℕ) (old new : 
 
 -- ---- the replies and writes
 
-pub made_get : (rows : List Row) (key : List ℕ) (value : Option (List ℕ)) (r : Reply) → r ≡ value_answer value → value ≡ get (map_of rows) key → IsMade rows (call.Get key) (r, None)
+pub made_get : (pairs : List Pair) (key : List ℕ) (value : Option (List ℕ)) (r : Reply) → r ≡ value_answer value → value ≡ get pairs key → IsMade pairs (call.Get key) (r, None)
 unfolding answer
-made_get rows key value r is e = λ i. ((is ∙ ap value_answer e) i, [])
+made_get pairs key value r is e = λ i. ((is ∙ ap value_answer e) i, [])
 
-pub made_put : (rows : List Row) (key value : List ℕ) (w : Write) → w ≡ write.Set key value → IsMade rows (call.Put key value) (reply.Stored, Some w)
+pub made_put : (pairs : List Pair) (key value : List ℕ) (w : Write) → w ≡ write.Set key value → IsMade pairs (call.Put key value) (reply.Stored, Some w)
 unfolding answer
-made_put rows key value w is = λ i. (reply.Stored, is i ∷ [])
+made_put pairs key value w is = λ i. (reply.Stored, is i ∷ [])
 
-pub made_del : (rows : List Row) (key : List ℕ) (there : Bool) (w : Write) (made : Made) → w ≡ write.Unset key → made ≡ (if there then (reply.Removed, Some w) else (reply.Absent, None)) → there ≡ has (map_of rows) key → IsMade rows (call.Del key) made
+pub made_del : (pairs : List Pair) (key : List ℕ) (there : Bool) (w : Write) (made : Made) → w ≡ write.Unset key → made ≡ (if there then (reply.Removed, Some w) else (reply.Absent, None)) → there ≡ has pairs key → IsMade pairs (call.Del key) made
 unfolding answer
-made_del rows key there w made is all e =
+made_del pairs key there w made is all e =
     ap (λ (p : Made). (p.0, option_to_list p.1)) all ∙ by there ∙ ap (λ t. if t then (reply.Removed, write.Unset key ∷ []) else (reply.Absent, [])) e
   where
     shown : Made → Reply × List Write
@@ -148,5 +148,5 @@ made_del rows key there w made is all e =
     by false = refl
 
 -- a call that is spelled otherwise
-pub same_step : {A : Type 0} (tells : List Row → Type 0) (finds : Finds) (upper : ℕ) (old new : Cache) (log log' : List Row) (c c' : Call) (Q : List Row → A → Type 0) (F : FetchFault → Type 0) (r : Result A TreeFault) → c ≡ c' → IsStep tells finds upper old new log log' c Q F r → IsStep tells finds upper old new log log' c' Q F r
+pub same_step : {A : Type 0} (tells : List Row → Type 0) (finds : Finds) (upper : ℕ) (old new : Cache) (log log' : List Row) (c c' : Call) (Q : List Pair → A → Type 0) (F : FetchFault → Type 0) (r : Result A TreeFault) → c ≡ c' → IsStep tells finds upper old new log log' c Q F r → IsStep tells finds upper old new log log' c' Q F r
 same_step tells finds upper old new log log' c c' Q F r same = subst (λ k. IsStep tells finds upper old new log log' k Q F r) same

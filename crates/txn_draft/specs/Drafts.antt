@@ -62,6 +62,10 @@ pub record Keeps (c : Call) (old new : DraftValue) : Type 0 where
   pub is : new ≡ noted (record old { rows = old.rows ++ own }) c reply wrote
   pub fits : FitsLog (bucket_of (key_of c)) own
 
+-- want of memory leaves a draft failed, with its lane and its number in the script
+abbrev pub IsLost : DraftValue → DraftValue → Type 0
+IsLost old new = (new.failed ≡ true) × (new.lane ≡ old.lane) × (new.turn ≡ old.turn)
+
 -- a call is no scan
 abbrev pub is_scan : Call → Bool
 is_scan (call.Scan low high limit) = true

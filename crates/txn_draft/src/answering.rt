@@ -7,11 +7,11 @@ ghost use Rattle.fine_model.specs.Bounds.{FitsCall};
 ghost use Rattle.fine_model.specs.Pushed.{key_of};
 ghost use Rattle.fine_model.specs.Trees.{bucket_of};
 ghost use Rattle.node_cache.specs.Cache.{Cache};
-ghost use Rattle.btree_nodes.specs.Trees.{Serves, Holds};
-ghost use Rattle.btree_nodes.specs.Calls.{OnCleanAnswer};
+ghost use Rattle.btree_nodes.specs.Trees.{Serves, Holds, pairs_in};
+ghost use Rattle.btree_nodes.specs.Calls.{OnCleanAnswer, IsChange};
 ghost use Rattle.txn_draft.specs.Drafts.{IsAnswered, FitsDraft, Keeps, is_scan};
 ghost use Rattle.txn_draft.specs.Uses.{IsUsed, UsedAfter, OnlyLoads, OnKept};
-ghost use Rattle.txn_draft.specs.Answers.{AnswersSoundly, LeavesDraft, FailsBy};
+ghost use Rattle.txn_draft.specs.Answers.{AnswersSoundly, KeepsBy, LeavesDraft, FailsBy};
 ghost use Rattle.txn_draft.specs.Steps.{IsTried, wants_memory};
 
 use crate::draft::Draft;
@@ -45,6 +45,7 @@ impl Draft {
         requires call { FitsCall call.now }
         ensures later { S.later source.old source.new }
         ensures clean { OnCleanAnswer result (S.clean source.old source.new) }
+        ensures place { (self.new.lane ≡ self.old.lane) × (self.new.turn ≡ self.old.turn) }
         ensures tried { IsTried (S.tells source.old) (S.finds source.old) (S.upper source.old) bucket.old bucket.new self.old self.new call.now (λ failed. S.fails source.old failed source.new) result }
     {
         let alloc = *self.calls.allocator();
@@ -55,10 +56,10 @@ impl Draft {
     }
 
     /// Answers a call that is no scan, in the bucket of its key: the call, its reply, what it writes and the rows that it pushes stand behind
-    /// those of the earlier calls [`kept`].
+    /// those of the earlier calls [`kept`]. They are those of the definitions on the leaf that the key's way leads to [`change`].
     ///
-    /// `Source` has what the source answered, `Unfit` names a node that breaks the rules of a tree, `BucketFull` and `Number` come where the rows
-    /// of the call would pass a limit: with these the draft is as it was, and the bucket but for what was loaded. After `NoMemory` the
+    /// `Source` has what the source answered, `Unfit` names the first node on the way that breaks the rules of a tree, `BucketFull` and `Number`
+    /// come where the rows of the call would pass a limit: with these the draft is as it was, and the bucket but for what was loaded. After `NoMemory` the
     /// draft is failed: the buckets are to be undone, and the draft to be cleared.
     pub fn answer<S: NodeSource>(
         &mut self,
@@ -72,6 +73,7 @@ impl Draft {
         requires no_scan { is_scan call.now ≡ false }
         ensures later { S.later source.old source.new }
         ensures clean { OnCleanAnswer result (S.clean source.old source.new) }
+        ensures change { IsChange (S.tells source.old) (S.finds source.old) (S.upper source.old) bucket.old bucket.new self.old.rows self.new.rows call.now (λ mid _. KeepsBy (pairs_in mid (key_of call.now)) call.now self.old self.new) (λ failed. S.fails source.old failed source.new) result }
         ensures kept { OnOk result (Keeps call.now self.old self.new) }
         ensures left { IfErr result (LeavesDraft self.old self.new) }
         ensures fits { OnOk result (FitsDraft self.old → FitsDraft self.new) }

@@ -105,6 +105,7 @@ impl Draft {
         reply: Reply,
         write: Option<Write>,
     ) -> Result<(), NoMemory>
+        ensures place { (self.new.lane ≡ self.old.lane) × (self.new.turn ≡ self.old.turn) }
         ensures ok { OnOk result (self.new ≡ noted self.old call.now reply (option_to_list write)) }
     {
         self.calls.push(call.copy()?)?;

@@ -1,6 +1,6 @@
 //! Laws of drafts, each the contract of a function that does nothing.
 
-ghost use Rattle.txn_draft.specs.Laws.{BlankLaw, NextLaw, TakenLaw, OthersLaw};
+ghost use Rattle.txn_draft.specs.Laws.{BlankLaw, NextLaw, LocalLaw, TakenLaw, OthersLaw, BetweenLaw, RestoredLaw, UsedLaw};
 
 /// On sound rows, a draft without calls is answered.
 pub fn blank_law()
@@ -12,8 +12,16 @@ pub fn next_law()
     ensures { NextLaw }
 {}
 
-/// A bucket at rest is as it was taken, and rows of other buckets leave what it holds.
+/// An answer depends on the rows in the buckets of its calls alone.
+pub fn local_law()
+    ensures { LocalLaw }
+{}
+
+/// A bucket at rest is as it was taken, and rows of other buckets leave what it holds and what was done to it.
 pub fn bucket_law()
     ensures taken { TakenLaw }
     ensures others { OthersLaw }
+    ensures between { BetweenLaw }
+    ensures restored { RestoredLaw }
+    ensures used { UsedLaw }
 {}

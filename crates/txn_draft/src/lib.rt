@@ -11,6 +11,6 @@ mod tests;
 mod using;
 
 pub use draft::Draft;
-pub use laws::{blank_law, bucket_law, next_law};
+pub use laws::{blank_law, bucket_law, local_law, next_law};
 pub use scanning::RangeScan;
 pub use using::{settle, undo};

@@ -1,6 +1,6 @@
 //! Scans over all buckets.
 
-ghost use Rattle.std.specs.Prelude.{◌≡◌, ◌≤◌, ◌<◌, ◌+◌, ◌++◌, ℕ, List, [], false, true, take, OnOk, OnErr, IfErr};
+ghost use Rattle.std.specs.Prelude.{◌≡◌, ◌≤◌, ◌<◌, ◌+◌, ◌*◌, ◌++◌, ℕ, List, length, [], false, true, take, OnOk, OnErr, IfErr};
 ghost use Rattle.fine_model.specs.declared.Row.{Row as ModelRow};
 ghost use Rattle.fine_model.specs.declared.Call.TheVariants as call_of;
 ghost use Rattle.fine_model.specs.ScanLaws.{IsKept};
@@ -8,11 +8,11 @@ ghost use Rattle.fine_model.specs.Trees.{IsSound};
 ghost use Rattle.node_cache.specs.Cache.{Cache};
 ghost use Rattle.node_cache.specs.Given.{IsLoaded};
 ghost use Rattle.btree_nodes.specs.Trees.{Serves, Holds, LoadsOnWalk};
-ghost use Rattle.btree_nodes.specs.Calls.{OnCleanAnswer, SoundReading};
-ghost use Rattle.txn_draft.specs.Drafts.{IsAnswered, Keeps, is_scan};
+ghost use Rattle.btree_nodes.specs.Calls.{OnCleanAnswer, Reads, IsFirstUnfitBetween, SoundReading};
+ghost use Rattle.txn_draft.specs.Drafts.{IsAnswered, FitsDraft, IsLost, is_scan};
 ghost use Rattle.txn_draft.specs.Uses.{IsUsed};
 ghost use Rattle.txn_draft.specs.Answers.{FailsBy};
-ghost use Rattle.txn_draft.specs.Scans.{IsFirst, IsCut, limit_of};
+ghost use Rattle.txn_draft.specs.Scans.{IsFirst, IsCut, IsGathered, KeepsFound, limit_of};
 
 use crate::draft::Draft;
 use btree_nodes::{TreeFault, scan};
@@ -50,7 +50,8 @@ fn first_of(pairs: Pairs, limit: usize) -> Pairs
 
 /// The same, where twice as many were gathered as are wanted.
 fn cut(pairs: Pairs, limit: usize) -> Pairs
-    ensures { IsCut limit pairs result }
+    ensures cut { IsCut limit pairs result }
+    ensures few { length result ≤ 2 * limit + 1 }
 {
     if pairs.len() / 2 > limit {
         first_of(pairs, limit)
@@ -71,7 +72,7 @@ impl RangeScan {
         }
     }
 
-    /// Gathers the first pairs of a range in the next bucket, copied once, and keeps no more than some twice `limit`. It changes nothing in
+    /// Gathers the first pairs of a range in the next bucket, and keeps no more than some twice `limit` [`few`]. It changes nothing in
     /// the bucket but what is loaded and the order of last use. With a fault nothing was gathered, and the bucket may be tried again.
     pub fn gather<S: NodeSource>(
         &mut self,
@@ -86,6 +87,8 @@ impl RangeScan {
         ensures later { S.later source.old source.new }
         ensures clean { OnCleanAnswer result (S.clean source.old source.new) }
         ensures next { OnOk result (self.new.next ≡ self.old.next + 1) }
+        ensures answer { Reads (λ done. IsGathered bucket.new low.now high.now limit self.old.pairs self.new.pairs) (λ failed. S.fails source.old failed source.new) (IsFirstUnfitBetween bucket.new low.now high.now limit) result }
+        ensures few { OnOk result (length self.new.pairs ≤ 2 * limit + 1) }
         ensures left { IfErr result (λ fault. self.new ≡ self.old) }
         ensures loads { IsLoaded (S.tells source.old) (S.finds source.old) (S.upper source.old) bucket.old bucket.new }
         ensures on_walk { LoadsOnWalk bucket.old bucket.new low.now high.now }
@@ -127,9 +130,10 @@ impl Draft {
         requires open { self.old.failed ≡ false }
         requires scan { is_scan call.now ≡ true }
         requires all { scan.next ≡ 256 }
-        ensures kept { OnOk result (Keeps call.now self.old self.new) }
+        ensures kept { OnOk result (KeepsFound call.now scan.pairs self.old self.new) }
+        ensures fits { OnOk result (FitsDraft self.old → FitsDraft self.new) }
         ensures rows { OnOk result (self.new.rows ≡ self.old.rows) }
-        ensures left { OnErr result (self.new.failed ≡ true) }
+        ensures left { OnErr result (IsLost self.old self.new) }
         ensures sound { OnOk result ((rows : List ModelRow) (low high : List ℕ) (limit : ℕ) → call.now ≡ call_of.Scan low high limit → IsAnswered rows self.old → IsKept (rows ++ self.old.rows) low high limit 256 scan.pairs → IsAnswered rows self.new) }
     {
         let limit = limit_of(call) as usize;

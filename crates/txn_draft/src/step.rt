@@ -73,7 +73,7 @@ fn get<S: NodeSource>(
     requires bucket { bucket.old.bucket ≡ bucket_of key.now }
     ensures later { S.later source.old source.new }
     ensures clean { OnCleanAnswer result (S.clean source.old source.new) }
-    ensures step { IsStep (S.tells source.old) (S.finds source.old) (S.upper source.old) bucket.old bucket.new log.old log.new (call_of.Get key.now) (λ rows. IsMade rows (call_of.Get key.now)) (λ failed. S.fails source.old failed source.new) result }
+    ensures step { IsStep (S.tells source.old) (S.finds source.old) (S.upper source.old) bucket.old bucket.new log.old log.new (call_of.Get key.now) (λ pairs. IsMade pairs (call_of.Get key.now)) (λ failed. S.fails source.old failed source.new) result }
 {
     match find(source, bucket, key.as_slice()) {
         Ok(value) => Ok((reply_of(value), None)),
@@ -94,7 +94,7 @@ fn put<S: NodeSource>(
     requires value { FitsValue value.now }
     ensures later { S.later source.old source.new }
     ensures clean { OnCleanAnswer result (S.clean source.old source.new) }
-    ensures step { IsStep (S.tells source.old) (S.finds source.old) (S.upper source.old) bucket.old bucket.new log.old log.new (call_of.Put key.now value.now) (λ rows. IsMade rows (call_of.Put key.now value.now)) (λ failed. S.fails source.old failed source.new) result }
+    ensures step { IsStep (S.tells source.old) (S.finds source.old) (S.upper source.old) bucket.old bucket.new log.old log.new (call_of.Put key.now value.now) (λ pairs. IsMade pairs (call_of.Put key.now value.now)) (λ failed. S.fails source.old failed source.new) result }
 {
     let write = set_of(key, value)?;
     match insert(alloc, source, bucket, log, key.as_slice(), value.as_slice()) {
@@ -114,7 +114,7 @@ fn del<S: NodeSource>(
     requires key { FitsKey key.now }
     ensures later { S.later source.old source.new }
     ensures clean { OnCleanAnswer result (S.clean source.old source.new) }
-    ensures step { IsStep (S.tells source.old) (S.finds source.old) (S.upper source.old) bucket.old bucket.new log.old log.new (call_of.Del key.now) (λ rows. IsMade rows (call_of.Del key.now)) (λ failed. S.fails source.old failed source.new) result }
+    ensures step { IsStep (S.tells source.old) (S.finds source.old) (S.upper source.old) bucket.old bucket.new log.old log.new (call_of.Del key.now) (λ pairs. IsMade pairs (call_of.Del key.now)) (λ failed. S.fails source.old failed source.new) result }
 {
     let write = unset_of(key)?;
     match remove(alloc, source, bucket, log, key.as_slice()) {
@@ -146,7 +146,7 @@ fn add<S: NodeSource>(
     requires key { FitsKey key.now }
     ensures later { S.later source.old source.new }
     ensures clean { OnCleanAnswer result (S.clean source.old source.new) }
-    ensures step { IsStep (S.tells source.old) (S.finds source.old) (S.upper source.old) bucket.old bucket.new log.old log.new (call_of.Add key.now by) (λ rows. IsMade rows (call_of.Add key.now by)) (λ failed. S.fails source.old failed source.new) result }
+    ensures step { IsStep (S.tells source.old) (S.finds source.old) (S.upper source.old) bucket.old bucket.new log.old log.new (call_of.Add key.now by) (λ pairs. IsMade pairs (call_of.Add key.now by)) (λ failed. S.fails source.old failed source.new) result }
 {
     match add_to(alloc, source, bucket, log, key.as_slice(), by) {
         Ok(reply) => {
@@ -169,7 +169,7 @@ pub fn step<S: NodeSource>(
     requires call { FitsCall call.now }
     ensures later { S.later source.old source.new }
     ensures clean { OnCleanAnswer result (S.clean source.old source.new) }
-    ensures step { IsStep (S.tells source.old) (S.finds source.old) (S.upper source.old) bucket.old bucket.new log.old log.new call.now (λ rows. IsMade rows call.now) (λ failed. S.fails source.old failed source.new) result }
+    ensures step { IsStep (S.tells source.old) (S.finds source.old) (S.upper source.old) bucket.old bucket.new log.old log.new call.now (λ pairs. IsMade pairs call.now) (λ failed. S.fails source.old failed source.new) result }
 {
     match call {
         Call::Get { key } => get(source, bucket, log, key),

@@ -1,5 +1,5 @@
 use Rattle.fine_model.specs.declared.FetchFault.{FetchFault}
-use Rattle.txn_draft.proofs.Tried.{failed_is, kept_of, left_of, fits_of, used_of, number_of, loads_of, fails_of, serves_of, sound_of}
+use Rattle.txn_draft.proofs.Tried.{failed_is, change_of, kept_of, left_of, fits_of, used_of, number_of, loads_of, fails_of, serves_of, sound_of}
 use Rattle.txn_draft.proofs.draft.Draft.answer.Goals as goal
 
 pub returns : goal.returns
@@ -18,8 +18,9 @@ returns g c =
     let tried = c.try_answer-answer.ensures.tried in record {
       later = c.try_answer-answer.ensures.later;
       clean = c.try_answer-answer.ensures.clean;
+      change = change_of tells finds upper b b' d d' call F _ r failed tried;
       kept = kept_of tells finds upper b b' d d' call F _ r failed tried c.requires.bucket;
-      left = left_of tells finds upper b b' d d' call F _ r failed tried;
+      left = left_of tells finds upper b b' d d' call F _ r failed tried c.try_answer-answer.ensures.place;
       fits = fits_of tells finds upper b b' d d' call F _ r failed tried c.requires.bucket;
       used = used_of tells finds upper b b' d d' call F _ r failed tried;
       number = number_of tells finds upper b b' d d' call F _ r failed tried;

@@ -2,6 +2,7 @@ use Rattle.std.proofs.Common.{ℕ, [], append-nil, ap, ◌∙◌, subst, sym}
 use Rattle.fine_model.specs.declared.Reply.TheVariants as reply
 use Rattle.txn_draft.specs.Drafts.{noted}
 use Rattle.txn_draft.specs.Scans.{IsFirst, limit_of}
+use Rattle.txn_draft.proofs.Answered.{fits_more}
 use Rattle.txn_draft.proofs.Gathered.{found_answered}
 use Rattle.txn_draft.proofs.draft.Draft.found.Goals as goal
 
@@ -14,9 +15,14 @@ returns-in-Ok-clause-sound c = λ rows low high limit is a kept.
 
 pub returns-in-Ok-clause-kept : goal.returns-in-Ok-clause-kept
 returns-in-Ok-clause-kept c = record {
-  reply = reply.Found c.first_of-pairs.result;
-  wrote = [];
-  own = [];
-  is = c.in-Ok.ensures.ok ∙ ap (λ rows. noted (record c.args.self.now { rows = rows }) c.args.call.now (reply.Found c.first_of-pairs.result) []) (sym (append-nil c.args.self.now.rows));
-  fits = record { fit = tt; here = tt };
+  first = c.first_of-pairs.result;
+  is_first =
+      subst (λ (n : ℕ). IsFirst n c.args.scan.pairs c.first_of-pairs.result) c.limit_of-limit.ensures
+      (subst (λ pairs. IsFirst c.limit_of-limit.result pairs c.first_of-pairs.result) (ap (λ s. s.pairs) c.scan.view_is) c.first_of-pairs.ensures);
+  is = c.in-Ok.ensures.ok;
 }
+
+pub returns-in-Ok-clause-fits : goal.returns-in-Ok-clause-fits
+returns-in-Ok-clause-fits c = λ fits.
+    fits_more [] c.args.self.now c.note.new.self c.args.call.now (ap (λ d. d.calls) c.in-Ok.ensures.ok) (ap (λ d. d.rows) c.in-Ok.ensures.ok ∙ sym (append-nil c.args.self.now.rows))
+    (record { fit = tt; here = tt }) fits

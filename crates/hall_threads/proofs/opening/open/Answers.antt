@@ -7,7 +7,7 @@ use Rattle.hall_threads.proofs.Beginning.{fresh_hall}
 use Rattle.hall_threads.proofs.opening.open.Goals as goal
 
 pub new-requires-clause-fresh : goal.new-requires-clause-fresh
-new-requires-clause-fresh c κs = fresh_hall c.in-Ok-first_room.room c.in-Ok-first_room.ensures c.in-Ok-views.fronts.items c.in-Ok-views-2.middles.items c.in-Ok-views.ensures c.in-Ok-views-2.ensures
+new-requires-clause-fresh c κs = fresh_hall c.args.seats c.in-Ok-first_room.room c.in-Ok-first_room.ensures c.in-Ok-views.fronts.items c.in-Ok-views-2.middles.items c.in-Ok-views.ensures c.in-Ok-views-2.ensures
 
 pub returns-in-Ok-new-clause-passes : goal.returns-in-Ok-new-clause-passes
 returns-in-Ok-new-clause-passes c = let made = c.in-Ok-new.made in

@@ -18,3 +18,5 @@ pub mod SumsMiddles
 pub mod Boarding
 pub mod Leaving
 pub mod Troubles
+pub mod Handed
+pub mod Loading

@@ -1,10 +1,18 @@
 -- Laws of passes and turns that a hall's user needs, each the contract of a function.
-use Rattle.std.specs.Prelude.{◌≡◌, ℕ, ◌+◌, ◌-◌, Bool, List, ◌++◌, Option, MatchBool}
+use Rattle.std.specs.Prelude.{◌≡◌, ◌≢◌, ℕ, ◌+◌, ◌-◌, Bool, List, ◌∷◌, ◌++◌, length, Option, None, MatchBool}
+use mathlib.Core.Option.{some}
+use lib.ListN.{get_elem?}
 use Rattle.atomic_table.specs.Seated.{TableId}
 use Rattle.fine_model.specs.declared.Entry.{Entry}
+use Rattle.fine_model.specs.declared.Row.{Row}
+use Rattle.fine_model.specs.declared.Node.TheVariants as node
+use Rattle.fine_model.specs.Buckets.{Began, IsBucketFor, node_id}
+use Rattle.fine_model.specs.History.{all_rows}
+use Rattle.fine_model.specs.Nodes.{Content, content}
+use Rattle.fine_model.specs.Views.{TellsRows}
 use Rattle.fine_model.specs.declared.law.RoomState.{RoomState}
 use Rattle.fine_model.specs.declared.law.ViewState.{ViewState}
-use Rattle.fine_model.specs.Becomes.{Becomes, IsStuck}
+use Rattle.fine_model.specs.Becomes.{Becomes, IsStuck, StaysStuck}
 use Rattle.fine_model.specs.Jobs.{KeepsJob}
 use Rattle.fine_places.specs.declared.model.Placed.{Placed}
 use Rattle.fine_boxes.specs.declared.model.TurnNote.{TurnNote}
@@ -13,8 +21,9 @@ use Rattle.fine_hall.specs.declared.law.Beginning.{Beginning}
 use Rattle.fine_hall.specs.declared.pass.Pass.{Pass}
 use Rattle.fine_hall.specs.Turns.{RoomsGoOn, room_after}
 use Rattle.fine_hall.specs.Laws.{AreTurns}
-use Rattle.fine_hall.specs.Passes.{known, turns, last_room, front_of, troubles, IsPass}
-use Rattle.fine_hall.specs.Halls.{SeesMore, KeepsPlaces, KeepsViews, Takes, Gives, GivesRoom, Posts, Refreshes, FindsStale, Publishes, Reads, UsedFront}
+use Rattle.fine_hall.specs.Passes.{known, turns, last_room, front_of, troubles, published, seen, IsPass, HoldsNothing, LacksJob}
+use Rattle.fine_hall.specs.Halls.{SeesMore, KeepsPlaces, KeepsViews, Takes, Gives, GivesRoom, Posts, Refreshes, FindsStale, Publishes, Reads, UsedFront, IsAhead, AreAll}
+use Rattle.fine_hall.specs.Opening.{HandedOut}
 
 module _ {V : Type 0} (view : V → ViewState) where
   -- a pass goes on once its front was read through
@@ -28,6 +37,23 @@ SinceLaw = (before : RoomState) (turns more : List (Placed Turn)) → RoomsGoOn 
 -- a room that was stuck in some turn is stuck at the end
 abbrev pub StuckLaw : Type 0
 StuckLaw = (before : RoomState) (turns more : List (Placed Turn)) → RoomsGoOn before (turns ++ more) → IsStuck (room_after before turns) → IsStuck (room_after before (turns ++ more))
+
+-- a room that was stuck within a turn, and became what was given back at its end, is stuck at the end
+abbrev pub StuckWithin : Type 0
+StuckWithin = (before room : RoomState) (turns : List (Placed Turn)) (t : Placed Turn) (more : List (Placed Turn)) → RoomsGoOn before (turns ++ t ∷ more) → IsStuck room → Becomes room t.item.room
+    → StaysStuck room (room_after before (turns ++ t ∷ more))
+
+-- ---- the passes of a new hall
+
+module _ {V : Type 0} (view : V → ViewState) where
+  -- the passes that a new hall hands out have all numbers, each once
+  abbrev pub HandedLaw : Type 0
+  HandedLaw = (z : TableId) (x : Beginning) (fronts : List V) (passes : List (Pass V)) → length passes ≡ x.seats → HandedOut view z x fronts passes → AreAll x.seats passes
+
+  -- and hold nothing, and have no job out, where none is out at the beginning
+  abbrev pub HandedIdle : Type 0
+  HandedIdle = (z : TableId) (x : Beginning) (fronts : List V) (passes : List (Pass V)) → x.room.job ≡ None → HandedOut view z x fronts passes → (i : ℕ) (p : Pass V) → get_elem? passes i ≡ some p
+      → IsPass view z x p × HoldsNothing p × LacksJob x p
 
 -- ---- what a call does to the troubles of a pass
 
@@ -57,3 +83,13 @@ module _ {V : Type 0} (view : V → ViewState) where
   pub record SeesLaw : Type 0 where
     pub job : (x : Beginning) (p p' : Pass V) → AreTurns x (turns p') → p.number ≡ 1 → SeesMore p p' → KeepsJob (last_room x p) (last_room x p')
     pub look : (b : Bool) (x : Beginning) (p p' : Pass V) → MatchBool b (Refreshes view x p p') (FindsStale p p') → SeesMore p p' × ((known p').held ≡ (known p).held)
+
+-- ---- what a front leaves in a node that a bucket does not cache
+
+-- A node that is absent from a bucket has no row above the published epoch. So a front that shows the history up to that epoch or a later
+-- one tells rows that leave in the node what the whole history leaves in it, unless that is broken.
+abbrev pub LoadLaw : {B V : Type 0} → (B → ℕ) → (B → ℕ → Option (Content × ℕ)) → (B → Type 0) → (V → ViewState) → Type 0
+LoadLaw bucket cached is_settled view =
+    (z : TableId) (x : Beginning) (p : Pass _) (b : _) (k n : ℕ) → IsPass view z x p → IsAhead view x p → IsBucketFor bucket cached is_settled x.log k (published p) b (seen p) → cached b n ≡ None
+    → (e : ℕ) (first : List Row) → Began x.log e first
+    → (rows : List Row) × TellsRows (front_of view p) rows × ((content (first ++ all_rows (seen p)) (node_id k n)).0 ≢ node.Broken → content rows (node_id k n) ≡ content (first ++ all_rows (seen p)) (node_id k n))

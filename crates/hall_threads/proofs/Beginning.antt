@@ -1,5 +1,10 @@
 -- A day begins on a log that shows no rows.
-use Rattle.std.proofs.Common.{◌≡◌, ◌⊎◌, inl, inr, ℕ, zero, suc, List, [], ◌∷◌, ◌++◌, map, length, Some, None, refl, sym, ap, ◌∙◌, subst, ⊎_elim, arith, ◌≤◌, zero-le}
+use Rattle.std.proofs.Common.{◌≡◌, ◌⊎◌, inl, inr, ℕ, zero, suc, ◌+◌, List, [], ◌∷◌, ◌++◌, map, length, Some, None, refl, sym, ap, ◌∙◌, subst, ⊎_elim, arith, ◌≤◌, zero-le}
+use Rattle.std.specs.Prelude.{flat_map}
+use Rattle.std.specs.List.{range_with_len}
+use Rattle.std.proofs.lemmas.List.{append-nil}
+use Rattle.std.proofs.lemmas.List.FromFn.{map-range_with_len_more}
+use Rattle.std.proofs.lemmas.Grind.{flat_map-append}
 use mathlib.Core.Option.{some, some-injective, some-ne-none}
 use lib.ListN.{get_elem?}
 use Rattle.fine_places.proofs.Lists.{some_same}
@@ -19,7 +24,7 @@ use Rattle.fine_hall.specs.Halls.{IsFreshHall, IsFreshView, first_board}
 use Rattle.hall_threads.specs.declared.things.DayRoom.{DayRoom}
 use Rattle.hall_threads.specs.declared.things.DayBucket.{DayBucket}
 use Rattle.hall_threads.specs.declared.things.DayView.{DayView}
-use Rattle.hall_threads.specs.Days.{zero_image, day_log, key_bucket, leaf_at, board_of, room_state, room_log, day_stands, job_of, view_state, view_of_log, IsFirstRoom}
+use Rattle.hall_threads.specs.Days.{zero_image, day_log, key_bucket, leaf_at, board_of, room_state, room_log, day_stands, job_of, view_state, view_of_log, views_of_log, sights_of_seat, sight_of_log, eye_of, IsFirstRoom}
 
 -- ---- the log shows no rows
 
@@ -48,7 +53,19 @@ agrees : (first : List Row) → first ≡ [] → Agrees [] (first ++ all_rows (u
 unfolding upto
 agrees first none = subst (λ (f : List Row). Agrees [] (f ++ [])) (sym none) (record { same = λ id whole. refl })
 
-module _ (room : DayRoom) (r : IsFirstRoom room) (fronts : List DayView) where
+-- ---- the views, and the board that names them
+
+mapped_at : {A : Type 0} (f : ℕ → A) (a n i : ℕ) (v : A) → get_elem? (map f (range_with_len a n)) i ≡ some v → f (a + i) ≡ v
+mapped_at f a zero i v e = absurd (some-ne-none v (sym e))
+mapped_at f a (suc n) zero v e = let none : a + 0 ≡ a = omega arith in ap f none ∙ some-injective (f a) v e
+mapped_at f a (suc n) (suc i) v e = let up : a + suc i ≡ a + 1 + i = omega arith in ap f up ∙ mapped_at f (a + 1) n i v e
+
+boards : (seats a n : ℕ) → board_of (flat_map (sights_of_seat seats) (range_with_len a n))
+    ≡ first_board (map view_state (map (λ (i : ℕ). view_of_log (i + 1) 0 (1 + i)) (range_with_len a n))) (map view_state (map (λ (i : ℕ). view_of_log (i + 1) 1 (seats + 1 + i)) (range_with_len a n)))
+boards seats a zero = refl
+boards seats a (suc n) = ap (λ l. Some (eye_of (sight_of_log (1 + a))) ∷ Some (eye_of (sight_of_log (seats + 1 + a))) ∷ None ∷ l) (boards seats (a + 1) n)
+
+module _ (seats : ℕ) (room : DayRoom) (r : IsFirstRoom seats room) (fronts : List DayView) where
   abbrev x : Beginning
   x = beginning (length fronts) (room_log room) (room_state room) view_state fronts
 
@@ -60,15 +77,14 @@ module _ (room : DayRoom) (r : IsFirstRoom room) (fronts : List DayView) where
     shows = record { region_len = refl; since = let e = r.counts.0 in omega (arith, e); tells = λ e first b. ([], tells, agrees first (none_first e first b)) };
   }
 
-  each : (buffer a b : ℕ) (views : List DayView) → views ≡ view_of_log 1 buffer a ∷ view_of_log 2 buffer b ∷ [] → (i : ℕ) (v : DayView) → get_elem? views i ≡ some v → IsFreshView x (suc i) buffer (view_state v)
-  each buffer a b views is i v at = go i (ap (λ (l : List DayView). get_elem? l i) (sym is) ∙ at)
-    where
-      go : (i : ℕ) → get_elem? (view_of_log 1 buffer a ∷ view_of_log 2 buffer b ∷ []) i ≡ some v → IsFreshView x (suc i) buffer (view_state v)
-      go zero e = subst (λ w. IsFreshView x 1 buffer (view_state w)) (some-injective (view_of_log 1 buffer a) v e) (fresh_view 1 buffer a)
-      go (suc zero) e = subst (λ w. IsFreshView x 2 buffer (view_state w)) (some-injective (view_of_log 2 buffer b) v e) (fresh_view 2 buffer b)
-      go (suc (suc n)) e = absurd (some-ne-none v (sym e))
+  each : (seats buffer eye : ℕ) (views : List DayView) → views ≡ views_of_log seats buffer eye → (i : ℕ) (v : DayView) → get_elem? views i ≡ some v → IsFreshView x (suc i) buffer (view_state v)
+  each seats buffer eye views is i v at =
+      let same = mapped_at (λ (j : ℕ). view_of_log (j + 1) buffer (eye + j)) 0 seats i v (ap (λ (l : List DayView). get_elem? l i) (sym is) ∙ at) in
+      let up : i + 1 ≡ suc i = omega arith in
+      let none : 0 + i ≡ i = omega arith in
+      subst (λ w. IsFreshView x (suc i) buffer (view_state w)) same (subst (λ n. IsFreshView x n buffer (view_state (view_of_log (0 + i + 1) buffer (eye + (0 + i))))) (ap (λ n. n + 1) none ∙ up) (fresh_view (0 + i + 1) buffer (eye + (0 + i))))
 
-  pub fresh_hall : (middles : List DayView) → fronts ≡ view_of_log 1 0 1 ∷ view_of_log 2 0 2 ∷ [] → middles ≡ view_of_log 1 1 3 ∷ view_of_log 2 1 4 ∷ [] → IsFreshHall room_state view_state day_stands x room fronts middles
+  pub fresh_hall : (middles : List DayView) → fronts ≡ views_of_log seats 0 1 → middles ≡ views_of_log seats 1 (seats + 1) → IsFreshHall room_state view_state day_stands x room fronts middles
   fresh_hall middles f m = record {
     stands = λ e first b. let none = none_first e first b in record {
       none_first = none;
@@ -81,9 +97,9 @@ module _ (room : DayRoom) (r : IsFirstRoom room) (fronts : List DayView) where
     none_waits = r.counts.2;
     not_shut = refl;
     no_job = ap job_of r.job;
-    board = ap board_of r.board ∙ (λ i. first_board (map view_state (sym f i)) (map view_state (sym m i)));
-    each_front = each 0 1 2 fronts f;
-    each_middle = each 1 3 4 middles m;
+    board = ap board_of r.board ∙ (boards seats 0 seats ∙ (λ i. first_board (map view_state (sym f i)) (map view_state (sym m i))));
+    each_front = each seats 0 1 fronts f;
+    each_middle = each seats 1 (seats + 1) middles m;
   }
 
 -- ---- the buckets
@@ -102,3 +118,14 @@ next_bucket l l' n long is each k b at = ⊎_elim
     (λ old. each k b old)
     (λ new. (sym (ap (λ (h : DayBucket). h.bucket) new.1) ∙ (sym long ∙ sym new.0), sym (ap (λ (h : DayBucket). h.leaf) new.1)))
     (snoc_at l (record { bucket = n; leaf = None }) b k (ap (λ (m : List DayBucket). get_elem? m k) (sym is) ∙ at))
+
+-- ---- lists that a loop over the seats builds
+
+itself : (l : List ℕ) → map (λ (k : ℕ). k) l ≡ l
+itself [] = refl
+itself (k ∷ ks) = ap (λ l. k ∷ l) (itself ks)
+
+pub flat_range_more : {A : Type 0} (f : ℕ → List A) (n : ℕ) → flat_map f (range_with_len 0 (n + 1)) ≡ flat_map f (range_with_len 0 n) ++ f n
+flat_range_more f n =
+    ap (flat_map f) (sym (itself (range_with_len 0 (n + 1))) ∙ (map-range_with_len_more (λ k. k) 0 n n (omega arith) ∙ ap (λ l. l ++ n ∷ []) (itself (range_with_len 0 n))))
+    ∙ (flat_map-append f (range_with_len 0 n) (n ∷ []) ∙ ap (λ l. flat_map f (range_with_len 0 n) ++ l) (append-nil (f n)))

@@ -1,5 +1,6 @@
 -- A small log: a room that keeps its entries, buckets that cache the one leaf that is written, and views that tell an image of this leaf.
-use Rattle.std.specs.Prelude.{◌≡◌, ◌⊎◌, Bool, ℕ, ◌+◌, ◌<◌, ◌==◌, if◌then◌else◌, ◌≤◌, List, [], ◌∷◌, ◌++◌, map, replicate, Option, Some, None, option_map, false}
+use Rattle.std.specs.Prelude.{◌≡◌, ◌⊎◌, Bool, ℕ, ◌+◌, ◌<◌, ◌==◌, if◌then◌else◌, ◌≤◌, List, [], ◌∷◌, ◌++◌, map, flat_map, replicate, Option, Some, None, option_map, false}
+use Rattle.std.specs.List.{range_with_len}
 use Rattle.fine_model.specs.declared.Entry.{Entry}
 use Rattle.fine_model.specs.declared.Row.{Row}
 use Rattle.fine_model.specs.declared.Call.{Call}
@@ -222,13 +223,21 @@ sight_of_log eye = record { number = eye; version = 0; value = 0 }
 abbrev pub view_of_log : ℕ → ℕ → ℕ → DayView
 view_of_log seat buffer eye = record { seat = seat; buffer = buffer; upto = 0; sight = sight_of_log eye; fails = eye == 2; faults = 0 }
 
-abbrev pub first_sights : List (Option Sight)
-first_sights = Some (sight_of_log 1) ∷ Some (sight_of_log 3) ∷ None ∷ Some (sight_of_log 2) ∷ Some (sight_of_log 4) ∷ None ∷ []
+-- for a buffer of each seat, by the number of the eye of the first one
+abbrev pub views_of_log : ℕ → ℕ → ℕ → List DayView
+views_of_log seats buffer eye = map (λ i. view_of_log (i + 1) buffer (eye + i)) (range_with_len 0 seats)
 
--- a room without entries
-pub record IsFirstRoom (room : DayRoom) : Type 0 where
+abbrev pub sights_of_seat : ℕ → ℕ → List (Option Sight)
+sights_of_seat seats i = Some (sight_of_log (1 + i)) ∷ Some (sight_of_log (seats + 1 + i)) ∷ None ∷ []
+
+-- the fronts have the eyes from 1 on, and the middles those behind
+abbrev pub first_sights : ℕ → List (Option Sight)
+first_sights seats = flat_map (sights_of_seat seats) (range_with_len 0 seats)
+
+-- a room without entries, with a board for so many seats
+pub record IsFirstRoom (seats : ℕ) (room : DayRoom) : Type 0 where
   pub counts : (room.sealed ≡ 0) × (room.places ≡ 0) × (room.waiting ≡ 0) × (room.faults ≡ 0)
   pub value : room.value ≡ 0
   pub job : room.job ≡ false
-  pub board : room.board.items ≡ first_sights
+  pub board : room.board.items ≡ first_sights seats
   pub kept : room.kept.items ≡ []

@@ -1,9 +1,9 @@
-//! The beginning of a day: a hall of two seats.
+//! The beginning of a day: a hall of some seats.
 
-ghost use Rattle.std.specs.Prelude.{◌≡◌, ◌∷◌, [], IfOk, IfSome, Some, None, length};
+ghost use Rattle.std.specs.Prelude.{◌≡◌, ◌≤◌, ◌+◌, IfOk, IfSome, Some, None, length};
 ghost use Rattle.fine_hall.specs.Halls.{AreFreshBuckets, begun};
 ghost use Rattle.fine_hall.specs.Opening.{HandedOut};
-ghost use Rattle.hall_threads.specs.Days.{bucket_number, bucket_cached, bucket_rests, view_of_log, first_sights, sight_of_log, room_state, room_log, view_state, IsFirstRoom};
+ghost use Rattle.hall_threads.specs.Days.{bucket_number, bucket_cached, bucket_rests, view_of_log, views_of_log, first_sights, sight_of_log, room_state, room_log, view_state, IsFirstRoom};
 
 use crate::things::{DayBucket, DayRoom, DayView, Sight};
 use crate::transaction::DayHall;
@@ -21,13 +21,15 @@ fn fresh_buckets(alloc: Global) -> Result<Vec<DayBucket>, AllocError>
     Ok(buckets)
 }
 
-/// Views for a buffer of both seats, by the numbers of their eyes.
-fn views(alloc: Global, buffer: u8, first: u64, second: u64) -> Result<Vec<DayView>, AllocError>
-    ensures { IfOk result (λ views. views.items ≡ view_of_log 1 buffer first ∷ view_of_log 2 buffer second ∷ []) }
+/// Views for a buffer of each seat, by the number of the eye of the first one.
+fn views(alloc: Global, seats: u32, buffer: u8, eye: u64) -> Result<Vec<DayView>, AllocError>
+    requires few { (seats ≤ 18) × (eye ≤ 19) }
+    ensures { IfOk result (λ views. views.items ≡ views_of_log seats buffer eye) }
 {
-    let mut views = Vec::with_capacity(alloc, 2)?;
-    views.push_reserved(view(1, buffer, first));
-    views.push_reserved(view(2, buffer, second));
+    let mut views = Vec::with_capacity(alloc, seats as usize)?;
+    for i in 0..seats {
+        views.push_reserved(view(i + 1, buffer, eye + u64::from(i)));
+    }
     Ok(views)
 }
 
@@ -54,25 +56,27 @@ fn sight(number: u64) -> Sight
     }
 }
 
-/// The board on which the fronts have the eyes 1 and 2, and the middles 3 and 4.
-fn first_board(alloc: Global) -> Result<Vec<Option<Sight>>, AllocError>
-    ensures { IfOk result (λ board. board.items ≡ first_sights) }
+/// The board on which the fronts have the eyes from 1 on, and the middles those behind.
+fn first_board(alloc: Global, seats: u32) -> Result<Vec<Option<Sight>>, AllocError>
+    requires few { seats ≤ 18 }
+    ensures { IfOk result (λ board. board.items ≡ first_sights seats) }
 {
-    let mut board = Vec::with_capacity(alloc, 6)?;
-    board.push_reserved(Some(sight(1)));
-    board.push_reserved(Some(sight(3)));
-    board.push_reserved(None);
-    board.push_reserved(Some(sight(2)));
-    board.push_reserved(Some(sight(4)));
-    board.push_reserved(None);
+    let mut board = Vec::with_capacity(alloc, 3 * seats as usize)?;
+    for i in 0..seats {
+        let eye = 1 + u64::from(i);
+        board.push_reserved(Some(sight(eye)));
+        board.push_reserved(Some(sight(u64::from(seats) + eye)));
+        board.push_reserved(None);
+    }
     Ok(board)
 }
 
-/// A room without entries, with memory for so many.
-fn first_room(alloc: Global, most: usize) -> Result<DayRoom, AllocError>
-    ensures { IfOk result (λ room. IsFirstRoom room) }
+/// A room without entries, with a board for so many seats, and memory for so many entries.
+fn first_room(alloc: Global, seats: u32, most: usize) -> Result<DayRoom, AllocError>
+    requires few { seats ≤ 18 }
+    ensures { IfOk result (λ room. IsFirstRoom seats room) }
 {
-    let board = first_board(alloc)?;
+    let board = first_board(alloc, seats)?;
     let kept = Vec::with_capacity(alloc, most)?;
     Ok(DayRoom {
         sealed: 0,
@@ -81,32 +85,33 @@ fn first_room(alloc: Global, most: usize) -> Result<DayRoom, AllocError>
         faults: 0,
         value: 0,
         board,
-        opened: 4,
+        opened: 2 * u64::from(seats),
         job: false,
         kept,
     })
 }
 
-/// A hall of two seats over a log that shows no rows, whose room has memory for so many entries, and its passes. The first read through
-/// the front of the seat 2 will fail. None where there is no memory.
-pub fn open(alloc: Global, most: usize) -> Option<(DayHall, Vec<Pass<DayView>>)>
-    ensures seats { IfSome result (λ made. (begun room_state room_log view_state made.0).seats ≡ 2) }
+/// A hall of 1 to 18 seats over a log that shows no rows, whose room has memory for so many entries, and its passes. The first read
+/// through the front of the seat 2 will fail. None where there is no memory.
+pub fn open(alloc: Global, seats: u32, most: usize) -> Option<(DayHall, Vec<Pass<DayView>>)>
+    requires seats { (1 ≤ seats) × (seats ≤ 18) }
+    ensures seats { IfSome result (λ made. (begun room_state room_log view_state made.0).seats ≡ seats) }
     ensures sealed { IfSome result (λ made. (begun room_state room_log view_state made.0).room.sealed ≡ 0) }
     ensures faults { IfSome result (λ made. (begun room_state room_log view_state made.0).room.faults ≡ 0) }
     ensures no_job { IfSome result (λ made. (begun room_state room_log view_state made.0).room.job ≡ None) }
-    ensures count { IfSome result (λ made. length made.1.items ≡ 2) }
-    ensures passes { IfSome result (λ made. HandedOut view_state made.0.table.shared.table_id (begun room_state room_log view_state made.0) (view_of_log 1 0 1 ∷ view_of_log 2 0 2 ∷ []) made.1.items) }
+    ensures count { IfSome result (λ made. length made.1.items ≡ seats) }
+    ensures passes { IfSome result (λ made. HandedOut view_state made.0.table.shared.table_id (begun room_state room_log view_state made.0) (views_of_log seats 0 1) made.1.items) }
 {
     let Ok(buckets) = fresh_buckets(alloc) else {
         return None;
     };
-    let Ok(room) = first_room(alloc, most) else {
+    let Ok(room) = first_room(alloc, seats, most) else {
         return None;
     };
-    let Ok(fronts) = views(alloc, 0, 1, 2) else {
+    let Ok(fronts) = views(alloc, seats, 0, 1) else {
         return None;
     };
-    let Ok(middles) = views(alloc, 1, 3, 4) else {
+    let Ok(middles) = views(alloc, seats, 1, u64::from(seats) + 1) else {
         return None;
     };
     match Hall::new(alloc, room, buckets, fronts, middles) {

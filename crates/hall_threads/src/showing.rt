@@ -89,7 +89,7 @@ fn take_back(room: &mut DayRoom, new: usize, sight: Sight, old: usize, faults: u
 /// buffer of the seat, and then nothing changed.
 fn post_to(hall: &DayHall, pass: &mut Pass<DayView>, room: &mut DayRoom, seat: u32) -> bool
     requires pass { IsPassOf room_state room_log view_state hall.now pass.old }
-    requires seat { (1 ≤ seat) × (seat ≤ 2) × ((begun room_state room_log view_state hall.now).seats ≡ 2) }
+    requires seat { (1 ≤ seat) × (seat ≤ (begun room_state room_log view_state hall.now).seats) }
     requires turn { (t : TurnNote) × InTurn (begun room_state room_log view_state hall.now) room.old pass.old t }
     requires none_waits { room.old.waiting ≡ 0 }
     ensures pass { IsPassOf room_state room_log view_state hall.now pass.new × (pass.new.number ≡ pass.old.number) }

@@ -31,7 +31,7 @@ fn tried_by_two(
 }
 
 fn conflict_on_a_new_hall(alloc: Global) -> Option<(Conflict, u16)> {
-    let (hall, mut passes) = open(alloc, 1)?;
+    let (hall, mut passes) = open(alloc, 2, 1)?;
     let Some(mut one) = passes.pop() else {
         return None;
     };

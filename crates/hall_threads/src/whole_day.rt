@@ -65,7 +65,7 @@ pub fn day<R: Threads + Wait + Sync>(
 ) -> Option<(DayRoom, Said, Said)>
     ensures { IfSome result (λ r. IsDay first second r.1 r.2 r.0) }
 {
-    let (hall, mut passes) = open(alloc, most)?;
+    let (hall, mut passes) = open(alloc, 2, most)?;
     let Some(one) = passes.pop() else {
         return None;
     };

@@ -1,5 +1,5 @@
 use Rattle.fine_hall.proofs.laws.stuck_law.Goals as goal
-use Rattle.fine_hall.proofs.Since.{stuck_law}
+use Rattle.fine_hall.proofs.Since.{stuck_law, stuck_within}
 
 pub returns : goal.returns
-returns c = stuck_law
+returns c = record { turn = stuck_law; within = stuck_within }

@@ -1,14 +1,14 @@
 //! What no clause says: worked numbers and bytes, and each call with ample memory.
 
-ghost use Rattle.std.specs.Prelude.{◌≡◌, ◌%◌, ◌≤◌, [], ◌∷◌, true, None, Some, replicate, IfOk, OnOk};
-ghost use Rattle.std.specs.List.{AllByRecursion};
+ghost use Rattle.std.specs.Prelude.{◌≡◌, ◌%◌, ◌≤◌, [], ◌∷◌, true, None, IfOk, OnOk};
+ghost use Rattle.std.specs.List.{AllByRecursion, list_all};
+ghost use Rattle.fine_model.specs.Boards.{is_empty};
 ghost use Rattle.fine_model.specs.RowBytes.{FitsRow};
 ghost use Rattle.fine_model.specs.declared.Mark.TheVariants as mark;
 ghost use Rattle.partition_merge.specs.Mergers.{IsCounted};
 
 use super::{Counts, Fit, Room, RoomFault, Stamp};
-use crate::laws::room_law;
-use fine_model::{Bytes, Items, Job, NodeId, Rec, Row};
+use fine_model::{Bytes, Items, NodeId, Rec, Row};
 use log_disk::{FaultPlan, LogDisk, MemDisk};
 use partition_merge::Measure;
 use private_log::PrivateLog;
@@ -22,7 +22,7 @@ fn new_room(alloc: Global, region_len: u64, stop: u64) -> Result<Room<MemDisk>, 
     requires low { 4096 ≤ region_len }
     requires high { region_len ≤ 67108864 }
     requires whole { region_len % 1024 ≡ 0 }
-    ensures { IfOk result (λ room. (room.room.board ≡ replicate 3 None) × (room.room.job ≡ None)) }
+    ensures { IfOk result (λ room. (list_all is_empty room.room.board ≡ true) × (room.room.job ≡ None)) }
 {
     let mut plan = FaultPlan::none(alloc);
     plan.stop = stop;
@@ -166,7 +166,7 @@ fn each_call_that_fails_shuts_the_room(rt: HostRuntime) -> Result<(), Fail> {
 
 // An epoch more of one entry.
 fn seal_one(room: &mut Room<MemDisk>, alloc: Global) -> Result<(), Fail>
-    ensures { OnOk result ((room.new.room.board ≡ room.old.room.board) × (room.new.room.job ≡ room.old.room.job)) }
+    ensures { OnOk result (room.new.room.job ≡ room.old.room.job) }
 {
     commit(room, &put(alloc)?)?;
     match room.seal() {
@@ -175,11 +175,11 @@ fn seal_one(room: &mut Room<MemDisk>, alloc: Global) -> Result<(), Fail>
     }
 }
 
-// A room of four regions with two sealed epochs, which take eight calls of the disk.
-fn two_epochs(alloc: Global, stop: u64) -> Result<Room<MemDisk>, Fail>
-    ensures { IfOk result (λ room. (room.room.board ≡ replicate 3 None) × (room.room.job ≡ None)) }
+// A room of four regions with two sealed epochs.
+fn two_epochs(alloc: Global) -> Result<Room<MemDisk>, Fail>
+    ensures { IfOk result (λ room. room.room.job ≡ None) }
 {
-    let mut room = new_room(alloc, 4096, stop)?;
+    let mut room = new_room(alloc, 4096, MOST)?;
     seal_one(&mut room, alloc)?;
     seal_one(&mut room, alloc)?;
     Ok(room)
@@ -214,91 +214,11 @@ fn take_and_drop(room: &mut Room<MemDisk>, area: u32) -> Result<(bool, u32, u32)
 
 #[test]
 fn a_job_takes_regions_and_gives_them_back(rt: HostRuntime) -> Result<(), Fail> {
-    let mut room = two_epochs(rt.alloc(), MOST)?;
+    let mut room = two_epochs(rt.alloc())?;
     assert_eq!(rt; take_and_drop(&mut room, 4041)?, (true, 1, 2));
     assert_eq!(rt; take_and_drop(&mut room, 4042)?, (true, 0, 2));
     assert_eq!(rt; take_and_drop(&mut room, 8107)?, (true, 0, 2));
     assert_eq!(rt; take_and_drop(&mut room, 8108)?, (false, 2, 2));
     assert_eq!(rt; room.merge_pick(2), None);
-    Ok(())
-}
-
-// Writes bytes for a job whose body they do not pass.
-fn write(
-    room: &mut Room<MemDisk>,
-    job: &mut Job,
-    bytes: &[u8],
-) -> Result<Result<(), RoomFault>, Fail>
-    requires out { room.old.room.job ≡ Some job.old }
-    ensures { OnOk result (room.new.room.job ≡ Some job.new) }
-{
-    let Some(header) = job.header else {
-        return Err("header")?;
-    };
-    let body = u64::from(header.area) + 14 * u64::from(header.nodes);
-    if u64::from(job.written) + bytes.len() as u64 <= body
-        && (bytes.len() as u64) < room.region_len()
-    {
-        Ok(room.merge_write(job, bytes))
-    } else {
-        Err("length")?
-    }
-}
-
-// What writing four bytes twice answers, how many are written then, and how many regions are free once the job is given up.
-fn write_and_drop(
-    room: &mut Room<MemDisk>,
-) -> Result<(Result<(), RoomFault>, Result<(), RoomFault>, u32, u32), Fail>
-    requires job { room.old.room.job ≡ None }
-{
-    let Some(mut job) = room.merge_pick(1) else {
-        return Err("neighbours")?;
-    };
-    let _taken = room.merge_take(&mut job, measure(100));
-    let first = write(room, &mut job, b"abcd")?;
-    let second = write(room, &mut job, b"efgh")?;
-    let written = job.written;
-    room.merge_drop(job);
-    Ok((first, second, written, room.counts().free))
-}
-
-#[test]
-fn bytes_are_written_until_the_disk_fails(rt: HostRuntime) -> Result<(), Fail> {
-    let shut = Err(RoomFault::Shut { epoch: 2 });
-    let mut room = two_epochs(rt.alloc(), 9)?;
-    assert_eq!(rt;
-        write_and_drop(&mut room)?,
-        (Err(RoomFault::Disk), shut, 0, 1)
-    );
-    let mut room = two_epochs(rt.alloc(), 10)?;
-    assert_eq!(rt;
-        write_and_drop(&mut room)?,
-        (Ok(()), Err(RoomFault::Disk), 4, 1)
-    );
-    let mut room = two_epochs(rt.alloc(), MOST)?;
-    assert_eq!(rt; write_and_drop(&mut room)?, (Ok(()), Ok(()), 8, 2));
-    Ok(())
-}
-
-// Makes a view of the first seat, and takes it back: how many parts it had, and which buffer.
-fn view_and_return(room: &mut Room<MemDisk>) -> Result<(usize, u8), Fail>
-    requires { room.old.room.board ≡ replicate 3 None }
-    ensures { OnOk result (room.new.room.board ≡ replicate 3 None) }
-{
-    room_law();
-    let Ok(view) = room.view_for(1) else {
-        return Err("view")?;
-    };
-    let made = (view.parts().len(), view.buffer());
-    room.take_back(view);
-    Ok(made)
-}
-
-#[test]
-fn a_view_gives_its_buffer_back(rt: HostRuntime) -> Result<(), Fail> {
-    let mut room = two_epochs(rt.alloc(), MOST)?;
-    assert_eq!(rt; view_and_return(&mut room)?, (2, 0));
-    assert_eq!(rt; view_and_return(&mut room)?, (2, 0));
-    assert_eq!(rt; room.erase_all(), Ok(0));
     Ok(())
 }

@@ -1,5 +1,5 @@
 -- Which pair of neighbours an aim picks.
-use Rattle.std.specs.Prelude.{◌≡◌, ℕ, ◌-◌, ◌<◌, ◌≤◌, Bool, true, false, ◌&&◌, ◌⊎◌, if◌then◌else◌, List, [], ◌∷◌, ◌++◌, Option, Some, None}
+use Rattle.std.specs.Prelude.{◌≡◌, ℕ, ◌-◌, ◌<◌, ◌≤◌, max, Bool, true, false, ◌&&◌, ◌⊎◌, if◌then◌else◌, List, [], ◌∷◌, ◌++◌, Option, Some, None}
 use Rattle.std.specs.List.{AllByRecursion}
 use Rattle.fine_model.specs.declared.Part.{Part}
 use Rattle.merge_policy.specs.declared.figures.Aim.{Aim}
@@ -20,7 +20,7 @@ neighbours (part ∷ parts) = with_next part parts ++ neighbours parts
 
 -- a pair serves an aim
 abbrev pub serves : Aim → Space → Pair → Bool
-serves aim.Even space pair = frees space pair pair.together && is_even pair
+serves aim.Even space pair = frees space pair (max pair.together pair.least) && is_even pair
 serves aim.Gain space pair = frees space pair pair.least
 serves aim.Fit space pair = fits_up_to space.region_len space.free pair.least
 

@@ -50,7 +50,7 @@ pub(crate) struct Pair {
 /// Why a pair is merged.
 #[derive(Clone, Copy)]
 pub(crate) enum Aim {
-    /// It frees a region, whatever its rows come to, and its parts are about even.
+    /// It frees a region, whatever its rows come to and as far as was measured, and its parts are about even.
     Even,
     /// It may free a region.
     Gain,
@@ -183,7 +183,9 @@ impl Pair {
         ensures { result ≡ serves aim space self.now }
     {
         match aim {
-            Aim::Even => self.frees(space, self.together) && self.longer <= 2 * self.shorter,
+            Aim::Even => {
+                self.frees(space, self.together.max(self.least)) && self.longer <= 2 * self.shorter
+            }
             Aim::Gain => self.frees(space, self.least),
             Aim::Fit => fits_up_to(space.region_len, space.free, self.least),
         }

@@ -132,14 +132,15 @@ fn pick(space: Space, known: &[Measured], parts: &[Part]) -> Option<u64>
 /// Which two neighbours of the chain a merge takes next: the first epoch of the older one. It takes no memory.
 ///
 /// `parts` is the chain from the oldest part, and `known` has what was measured of pairs that were tried. Lengths and their sums are
-/// bytes. Where the room is pressed, that pair is taken which frees a region whatever its rows come to, and whose longer part is at most
-/// twice the shorter: the most even one, of equal ones the newest. Else, where fewer regions are free than are to be spared, the most
+/// bytes. Where the room is pressed, that pair is taken which frees a region whatever its rows come to, and by what was measured of it, and
+/// whose longer part is at most twice the shorter: the most even one, of equal ones the newest. Else, where fewer regions are free than are to be spared, the most
 /// even pair that may free a region as far as was measured, and where there is none, of those that may fit the free regions that with
 /// the most unused bytes.
 ///
-/// None where no pair is to be merged; where regions are short, every pair was then measured and is too long for the free regions. Of a
-/// pair that was not measured nothing is known, so it may be answered: measure it, and if it frees nothing, put it into `known` and ask
-/// again.
+/// None where no pair is to be merged; where regions are short and one is free, every pair was then measured and is too long for the free
+/// regions. Of a pair that was not measured nothing is known, so it may be answered: measure it, and if it frees nothing, put it into
+/// `known` and ask again. A pair that cannot be merged, as its rows are not in order, goes into `known` with the greatest numbers: it
+/// serves no aim then.
 pub fn next_merge(parts: &[Part], space: Space, known: &[Measured]) -> Option<u64>
     requires short { 1 ≤ space.region_len }
     requires long { space.region_len ≤ 67108864 }

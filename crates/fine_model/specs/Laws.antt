@@ -4,7 +4,7 @@ use Rattle.std.specs.List.{AllByRecursion}
 use Rattle.fine_model.specs.Types.{NodeId, Rec, Row, Call, Range, Mark, Why}
 use Rattle.fine_model.specs.Types.rec
 use Rattle.fine_model.specs.Types.node
-use Rattle.fine_model.specs.RowBytes.{FitsRow, BeginsWithRow}
+use Rattle.fine_model.specs.RowBytes.{most_in_node, FitsRow, BeginsWithRow}
 use Rattle.fine_model.specs.Nodes.{Content, replay, rows_of, content, Agrees}
 use Rattle.fine_model.specs.Map.{Pair, get, set, map_after}
 use Rattle.fine_model.specs.Store.{after_call, writes_of}
@@ -97,8 +97,8 @@ LeafLaw = (rows : List Row) (key : List ℕ) → IsSound rows → get (map_of ro
 
 -- an image has at most 32 pairs or separators, as the format says
 abbrev pub is_small : Rec → Bool
-is_small (rec.LeafImage pairs) = nat_le (length pairs) 32
-is_small (rec.InnerImage seps kids) = nat_le (length seps) 32
+is_small (rec.LeafImage pairs) = nat_le (length pairs) most_in_node
+is_small (rec.InnerImage seps kids) = nat_le (length seps) most_in_node
 is_small _ = true
 
 pub record AreSmall (rows : List Row) : Type 0 where

@@ -1,7 +1,7 @@
 -- What is there may be named by a run; and on sound rows no calls make a node unfit.
-use Rattle.std.proofs.Common.{◌≡◌, ℕ, List, [], ◌∷◌, ◌++◌, refl, sym, ap, subst, ◌∙◌, inl, inr}
+use Rattle.std.proofs.Common.{◌≡◌, ℕ, List, [], ◌∷◌, ◌++◌, refl, sym, subst, inl, inr}
 use Rattle.std.specs.Prelude.{Result, Ok, IsTrue, flat_map, ◌⊎◌}
-use Rattle.fine_model.specs.Types.{NodeId, Row, Call, Damage, Part, ScriptTxn}
+use Rattle.fine_model.specs.Types.{NodeId, Part, ScriptTxn}
 use Rattle.fine_model.specs.Types.damage
 use Rattle.fine_model.specs.Types.node
 use Rattle.fine_model.specs.Nodes.{Content}
@@ -10,9 +10,9 @@ use Rattle.fine_model.specs.Merge.{starts_afresh}
 use Rattle.fine_model.specs.Store.{after_call}
 use Rattle.fine_model.specs.Regions.{Image}
 use Rattle.fine_model.specs.Script.{Refusal}
-use Rattle.fine_model.specs.Trees.{IsSound, nodes_of, map_of}
-use Rattle.fine_model.specs.Laws.{AreSmall, IsPushed}
-use Rattle.fine_model.specs.Damages.{FindsContent, FindsMerged, FindsUnfit, MeetsUnfit, has_image_first, GoOnTo, IsBadOf, IsDamageIn, IsDamageOf, IsUnfitNode, NamesLaw, StaysFit, with_rows}
+use Rattle.fine_model.specs.Trees.{nodes_of, map_of}
+use Rattle.fine_model.specs.Laws.{IsPushed}
+use Rattle.fine_model.specs.Damages.{FindsContent, FindsMerged, FindsUnfit, MeetsUnfit, has_image_first, GoOnTo, NamesLaw, StaysFit, with_rows}
 use Rattle.fine_model.proofs.FoundUnfit.{found_unfit, soundly_fit}
 use Rattle.fine_model.proofs.SetLaw.{pushed_law}
 use Rattle.fine_model.proofs.NodeLaws.{content-append}

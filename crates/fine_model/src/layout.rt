@@ -31,6 +31,7 @@ pub fn fits_in(region_len: u64, regions: u8, len: u64) -> bool
     if regions == 1 {
         BODY_START + len <= region_len
     } else {
-        LONG_BODY_START + len <= region_len + u64::from(regions.saturating_sub(1)) * (region_len - 1)
+        LONG_BODY_START + len
+            <= region_len + u64::from(regions.saturating_sub(1)) * (region_len - 1)
     }
 }

@@ -51,7 +51,13 @@ fn entry_len(rows: &[Row], greatest: Option<NodeId>, node: NodeId) -> u64
     match greatest.cmp(&node) {
         Ordering::Less => INDEX_ENTRY as u64,
         Ordering::Equal => 0,
-        Ordering::Greater => { if is_named(rows, node) { 0 } else { INDEX_ENTRY as u64 } }
+        Ordering::Greater => {
+            if is_named(rows, node) {
+                0
+            } else {
+                INDEX_ENTRY as u64
+            }
+        }
     }
 }
 

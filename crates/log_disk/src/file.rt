@@ -2,7 +2,7 @@
 //!
 //! Contracts name the path by which each file was opened, and the place and length of what it is asked for.
 
-ghost use Rattle.std.specs.Prelude.{◌≡◌, ◌≢◌, ◌⊎◌, ℕ, ◌*◌, ◌<◌, ◌≤◌, ◌+◌, ◌^◌, true, false, List, All, Any, Contains, None, Some, Err, IfSome, IfOk, IfErr, OnOk, OnErr, IsErr, IsErrOf, is_err, if◌then◌else◌, length, string_bytes};
+ghost use Rattle.std.specs.Prelude.{◌≡◌, ◌≢◌, ◌⊎◌, ℕ, ◌*◌, ◌<◌, ◌≤◌, ◌+◌, ◌^◌, true, false, All, Any, Contains, None, Some, Err, IfSome, IfOk, IfErr, OnOk, OnErr, IsErr, IsErrOf, is_err, if◌then◌else◌, length, string_bytes};
 ghost use Rattle.log_disk.specs.declared.file.MakeFault.TheVariants as fault;
 ghost use Rattle.log_disk.specs.declared.file.handle.FileAsk.TheVariants as ask;
 ghost use Rattle.log_disk.specs.MakeFault.{IsWhy};
@@ -162,11 +162,11 @@ fn prepare(file: &mut Handle, whole: u64) -> Result<(), MakeFault>
     ensures path { file.new.notes.path ≡ file.old.notes.path }
 {
     if file.lock().is_err() {
-        return Err(failed(file));
+        return Err(failed(file, whole));
     }
     fill(file, whole)?;
     if file.sync().is_err() {
-        return Err(failed(file));
+        return Err(failed(file, whole));
     }
     Ok(())
 }
@@ -183,11 +183,11 @@ fn fill(file: &mut Handle, whole: u64) -> Result<(), MakeFault>
     ensures path { file.new.notes.path ≡ file.old.notes.path }
 {
     let Ok(found) = file.len() else {
-        return Err(failed(file));
+        return Err(failed(file, whole));
     };
     if found == 0 {
         if file.fill(whole).is_err() {
-            return Err(failed(file));
+            return Err(failed(file, whole));
         }
     } else if found != whole {
         return Err(MakeFault::WrongLength {
@@ -198,10 +198,11 @@ fn fill(file: &mut Handle, whole: u64) -> Result<(), MakeFault>
     Ok(())
 }
 
-// The fault of a file whose last call failed.
-fn failed(file: &Handle) -> MakeFault
+// The fault of a file whose last call failed, and that told no length but 0 or the whole, which is there for contracts.
+fn failed(file: &Handle, _whole: u64) -> MakeFault
     requires failed { file.now.notes.last.value.failed ≡ true }
-    ensures fault { (path : List ℕ) (whole : ℕ) → string_bytes file.now.notes.path.value ≡ path → IfSome file.now.notes.found.value (λ found. (found ≡ 0) ⊎ (found ≡ whole)) → IsWhy path whole result }
+    requires fits { IfSome file.now.notes.found.value (λ found. (found ≡ 0) ⊎ (found ≡ _whole)) }
+    ensures fault { IsWhy (string_bytes file.now.notes.path.value) _whole result }
 {
     MakeFault::Failed {
         notes: Snapshot::of(&file.notes),

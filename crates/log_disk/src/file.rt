@@ -2,7 +2,7 @@
 //!
 //! Contracts name the path by which each file was opened, and the place and length of what it is asked for.
 
-ghost use Rattle.std.specs.Prelude.{◌≡◌, ◌≢◌, ◌⊎◌, ℕ, ◌*◌, ◌<◌, ◌≤◌, ◌+◌, ◌^◌, true, false, All, Any, Contains, None, Some, Err, IfSome, IfOk, IfErr, OnOk, OnErr, IsErr, IsErrOf, is_err, if◌then◌else◌, length, string_bytes};
+ghost use Rattle.std.specs.Prelude.{◌≡◌, ◌≢◌, ◌⊎◌, ◌*◌, ◌<◌, ◌≤◌, ◌+◌, ◌^◌, true, false, All, Any, Contains, None, Some, Err, IfSome, IfOk, IfErr, OnOk, OnErr, IsErr, IsErrOf, is_err, if◌then◌else◌, length, string_bytes};
 ghost use Rattle.log_disk.specs.declared.file.MakeFault.TheVariants as fault;
 ghost use Rattle.log_disk.specs.declared.file.handle.FileAsk.TheVariants as ask;
 ghost use Rattle.log_disk.specs.MakeFault.{IsWhy};

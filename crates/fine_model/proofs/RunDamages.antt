@@ -1,60 +1,35 @@
--- What is there may be named by a run; and on sound rows no calls make a node unfit.
-use Rattle.std.proofs.Common.{◌≡◌, ℕ, List, [], ◌∷◌, ◌++◌, refl, sym, subst, inl, inr}
-use Rattle.std.specs.Prelude.{Result, Ok, IsTrue, flat_map, ◌⊎◌}
-use Rattle.fine_model.specs.Types.{NodeId, Part, ScriptTxn}
+-- What a run may name as damaged; and on sound rows no calls make a node unfit.
+use Rattle.std.proofs.Common.{◌≡◌, ℕ, [], ◌∷◌, ◌++◌, sym, subst, inl, inr}
+use Rattle.std.specs.Prelude.{Ok}
+use Rattle.fine_model.specs.Types.{Call, NodeId}
+use Rattle.fine_model.specs.Types.call
 use Rattle.fine_model.specs.Types.damage
-use Rattle.fine_model.specs.Types.node
 use Rattle.fine_model.specs.Nodes.{Content}
 use Rattle.fine_model.specs.Pushed.{call_push, within_limits, pushed, push_of}
-use Rattle.fine_model.specs.Merge.{starts_afresh}
 use Rattle.fine_model.specs.Store.{after_call}
-use Rattle.fine_model.specs.Regions.{Image}
-use Rattle.fine_model.specs.Script.{Refusal}
 use Rattle.fine_model.specs.Trees.{nodes_of, map_of}
 use Rattle.fine_model.specs.Laws.{IsPushed}
-use Rattle.fine_model.specs.Damages.{FindsContent, FindsMerged, FindsUnfit, MeetsUnfit, has_image_first, GoOnTo, NamesLaw, StaysFit, with_rows}
+use Rattle.fine_model.specs.Damages.{GoOnTo, IsUnfitBy, IsUnfitNode, LooksLaw, NamesLaw, StaysFit, with_rows}
 use Rattle.fine_model.proofs.FoundUnfit.{found_unfit, soundly_fit}
 use Rattle.fine_model.proofs.SetLaw.{pushed_law}
 use Rattle.fine_model.proofs.NodeLaws.{content-append}
 
-found_merged : (region_len : ℕ) (image : Image) (parts : List Part) (id : NodeId) (c : Content) → FindsContent region_len image parts id c → FindsMerged region_len image parts id c
-found_merged region_len image parts id c f = record {
-  skipped = f.skipped;
-  read = f.read;
-  whole = f.whole;
-  each = f.each;
-  why = by f.why;
-  replayed = f.replayed;
-}
-  where
-    by : (f.skipped ≡ []) ⊎ IsTrue (has_image_first f.read) → (f.skipped ≡ []) ⊎ IsTrue (has_image_first f.read) ⊎ IsTrue (starts_afresh (flat_map (λ r. r.1) f.read))
-    by (inl none) = inl none
-    by (inr image) = inr (inl image)
-
--- a run with no call before meets what a reader finds
-meets : (script : Result (List ScriptTxn) Refusal) (region_len : ℕ) (image : Image) (parts : List Part) (id : NodeId) → FindsUnfit region_len image parts id → MeetsUnfit script region_len image parts id
-meets script region_len image parts id f = record {
-  in_bucket = f.in_bucket;
-  nodes = f.nodes;
-  each = λ number. by number (f.each number);
-  calls = [];
-  called = tt;
-  now = f.nodes;
-  goes_on = λ number. refl;
-  itself = inl (found_merged region_len image parts id (f.nodes id.number) f.itself);
-  unfit = f.unfit;
-}
-  where
-    by : (number : ℕ) → FindsContent region_len image parts (record { bucket = id.bucket; number = number }) (f.nodes number) ⊎ (f.nodes number ≡ (node.Broken, 0))
-        → FindsMerged region_len image parts (record { bucket = id.bucket; number = number }) (f.nodes number) ⊎ (f.nodes number ≡ (node.Broken, 0))
-    by number (inl found) = inl (found_merged region_len image parts (record { bucket = id.bucket; number = number }) (f.nodes number) found)
-    by number (inr broken) = inr broken
-
 pub names_law : NamesLaw
-names_law script region_len image parts (damage.Region region at) = (λ h. h, λ h. h)
-names_law script region_len image parts (damage.Gap after region) = (λ h. h, λ h. h)
-names_law script region_len image parts (damage.Overlap region other) = (λ h. h, λ h. h)
-names_law script region_len image parts (damage.Node id) = (λ h. absurd h, λ h. meets script region_len image parts id h)
+names_law script region_len image parts (damage.Region region at) = (λ h. h, λ history h. h)
+names_law script region_len image parts (damage.Gap after region) = (λ h. h, λ history h. h)
+names_law script region_len image parts (damage.Overlap region other) = (λ h. h, λ history h. h)
+names_law script region_len image parts (damage.Node id) = (λ h. absurd h, λ history h. absurd h)
+
+unfit_by : (c : Call) (now : ℕ → Content) (id : NodeId) → IsUnfitBy c now id → IsUnfitNode now id
+unfit_by (call.Get key) now id is = inl (key, is.0, is.1)
+unfit_by (call.Put key value) now id is = inl (key, is.0, is.1)
+unfit_by (call.Del key) now id is = inl (key, is.0, is.1)
+unfit_by (call.Add key by) now id is = inl (key, is.0, is.1)
+unfit_by (call.Scan low high limit) now id is = inr (low, high, is.0, is.1)
+
+pub looks_law : LooksLaw
+looks_law script own now id (inl (txns, txn, c, rest, read, there, are, is)) = unfit_by c now id is
+looks_law script own now id (inr (all, none, low, high, wanted, is)) = inr (low, high, wanted, is)
 
 pub stays_fit : StaysFit
 unfolding push_of

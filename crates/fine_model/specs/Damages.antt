@@ -1,7 +1,8 @@
 -- What status 7 means on any log.
-use Rattle.std.specs.Prelude.{◌≡◌, ◌≢◌, ◌⊎◌, ℕ, ◌-◌, ◌<◌, ◌≤◌, Bool, true, false, IsTrue, List, [], ◌∷◌, ◌++◌, map, flat_map, Option, Some, IsSome, unwrap_or, Result, Ok, Err, Contains}
+use Rattle.std.specs.Prelude.{◌≡◌, ◌≢◌, ◌⊎◌, ℕ, ◌-◌, ◌==◌, ◌<◌, ◌≤◌, Bool, true, false, IsTrue, List, [], ◌∷◌, ◌++◌, filter, map, flat_map, take, Option, None, Some, IsSome, unwrap_or, Result, Ok, Err, Contains}
 use Rattle.std.specs.List.{AllByRecursion, list_any}
-use Rattle.fine_model.specs.Types.{Row, Header, Part, Call, Damage, NodeId, ScriptTxn, Ran}
+use Rattle.fine_model.specs.Types.{Row, Header, Part, Call, Damage, NodeId, RunFault, ScriptTxn, Ran}
+use Rattle.fine_model.specs.Types.call
 use Rattle.fine_model.specs.Types.damage
 use Rattle.fine_model.specs.Types.node
 use Rattle.fine_model.specs.Types.run_fault
@@ -14,10 +15,12 @@ use Rattle.fine_model.specs.Trees.{IsSound, bucket_of, nodes_of}
 use Rattle.fine_model.specs.Paths.{unfit_under, unfit_between}
 use Rattle.fine_model.specs.Regions.{Image, Place, place_of, body_in, HasHeader, HoldsBadItem, IsSealed}
 use Rattle.fine_model.specs.Seek.{RowSpan, entry_at, is_entry, span_at, SpanHolds, IsBadInSpan}
-use Rattle.fine_model.specs.Chain.{chain, Shows}
+use Rattle.fine_model.specs.Chain.{chain, chain_end, Shows}
+use Rattle.fine_model.specs.History.{Commit}
+use Rattle.fine_model.specs.Outcomes.{AreOutcomes, AllRun}
 use Rattle.fine_model.specs.Script.{Refusal}
-use Rattle.fine_model.specs.Report.{damage_line, report}
-use Rattle.fine_model.specs.Headline.{Return, TellsFaults, OneOf}
+use Rattle.fine_model.specs.Report.{all_outcomes, damage_line, fault_line, report}
+use Rattle.fine_model.specs.Headline.{Return, TellsFaults, OneOf, ReasonFor}
 
 -- nothing that an image shows is a sound log
 abbrev pub IsUnsound : ℕ → Image → Type 0
@@ -140,9 +143,21 @@ GoOnTo bucket nodes [] now = (number : ℕ) → now number ≡ nodes number
 GoOnTo bucket nodes (c ∷ cs) now =
     (rows : List Row) × (bucket_of (key_of c) ≡ bucket) × (within_limits (call_push bucket nodes c) ≡ Ok rows) × GoOnTo bucket (with_rows bucket nodes rows) cs now
 
--- a call of a transaction of a script
-abbrev pub IsCalled : Result (List ScriptTxn) Refusal → Call → Type 0
-IsCalled script c = (txns : List ScriptTxn) × (txn : ScriptTxn) × (script ≡ Ok txns) × Contains txns txn × Contains txn.calls c
+-- the calls on a bucket; a scan pushes no rows, wherever it is counted
+abbrev pub calls_on : ℕ → List Call → List Call
+calls_on bucket calls = filter (λ c. bucket_of (key_of c) == bucket) calls
+
+-- a node is the first that is not fit on the path of a call over contents of its bucket, or of a scan of its range, whatever it still wants
+abbrev pub IsUnfitBy : Call → (ℕ → Content) → NodeId → Type 0
+IsUnfitBy (call.Scan low high limit) nodes id = (wanted : ℕ) × (unfit_between id.bucket nodes low high wanted (nodes 0).0 ≡ Some id.number)
+IsUnfitBy c nodes id = (bucket_of (key_of c) ≡ id.bucket) × (unfit_under id.bucket nodes (key_of c) (nodes 0).0 ≡ Some id.number)
+
+-- A look that meets a node unfit: that of a call of a transaction of the script, behind the transaction's calls before it, or, where all is read at
+-- the end, of a scan behind no open transaction.
+abbrev pub LooksAt : Result (List ScriptTxn) Refusal → Type 0 → List Call → (ℕ → Content) → NodeId → Type 0
+LooksAt script reads_all own now id =
+    ((txns : List ScriptTxn) × (txn : ScriptTxn) × (c : Call) × (rest : List Call) × (script ≡ Ok txns) × Contains txns txn × (txn.calls ≡ own ++ c ∷ rest) × IsUnfitBy c now id)
+    ⊎ (reads_all × (own ≡ []) × (low : List ℕ) × (high : List ℕ) × (wanted : ℕ) × (unfit_between id.bucket now low high wanted (now 0).0 ≡ Some id.number))
 
 -- A content that a reader finds in a node by the bytes at entry, whatever neighbours were merged since: beside those of `FindsContent` the replay
 -- of the rows from a part on that need nothing before them, since merging makes an image of such rows.
@@ -155,29 +170,29 @@ pub record FindsMerged (region_len : ℕ) (image : Image) (parts : List Part) (i
   pub replayed : found ≡ replay (base id) (flat_map (λ r. r.1) read)
 
 -- A node that a run of a script meets unfit. Its calls on the bucket went on from contents that are found by the bytes at entry; what is not found
--- counts as broken, and no path goes on behind it. The node itself is found, or the run made it. The calls are those of the transactions
--- that were committed and of the one under way; which of the script's calls, and how they interleave, is not said.
-pub record MeetsUnfit (script : Result (List ScriptTxn) Refusal) (region_len : ℕ) (image : Image) (parts : List Part) (id : NodeId) : Type 0 where
+-- counts as broken, and no path goes on behind it. The node itself is found, or the run made it. The calls are those of the first commits of its
+-- history, by place, and then those of the open transaction before the call that looks.
+pub record MeetsUnfit (script : Result (List ScriptTxn) Refusal) (reads_all : Type 0) (history : List Commit) (region_len : ℕ) (image : Image) (parts : List Part) (id : NodeId) : Type 0 where
   pub in_bucket : id.bucket < buckets
   pub nodes : ℕ → Content
   pub each : (number : ℕ) → FindsMerged region_len image parts (record { bucket = id.bucket; number = number }) (nodes number) ⊎ (nodes number ≡ (node.Broken, 0))
-  pub calls : List Call
-  pub called : AllByRecursion (IsCalled script) calls
+  pub committed : ℕ
+  pub own : List Call
   pub now : ℕ → Content
-  pub goes_on : GoOnTo id.bucket nodes calls now
+  pub goes_on : GoOnTo id.bucket nodes (calls_on id.bucket (flat_map (λ c. c.entry.calls) (take committed history) ++ own)) now
   pub itself : FindsMerged region_len image parts id (nodes id.number) ⊎ ((now id.number).0 ≢ node.Broken)
-  pub unfit : IsUnfitNode now id
+  pub looks : LooksAt script reads_all own now id
 
 -- What may be named as damaged by one who reads whole parts and no tree, as merging does: a bad place of the parts at entry.
 abbrev pub IsBadOf : ℕ → Image → List Part → Damage → Type 0
 IsBadOf region_len image parts (damage.Region region at) = HasBadPlace region_len image parts (record { region = region; at = at })
 IsBadOf region_len image parts _ = ⊥
 
--- What a run of a script may name as damaged. A bad place is one of the parts at entry: a region of the chain keeps its bytes until its part was
+-- What a run of a script may name as damaged, with the history of what it committed before. A bad place is one of the parts at entry: a region of the chain keeps its bytes until its part was
 -- merged, a part that merging finds bad is not merged, and of the parts that a run writes itself, sealed or merged, a reader finds none bad.
-abbrev pub IsDamageIn : Result (List ScriptTxn) Refusal → ℕ → Image → List Part → Damage → Type 0
-IsDamageIn script region_len image parts (damage.Node id) = MeetsUnfit script region_len image parts id
-IsDamageIn script region_len image parts what = IsBadOf region_len image parts what
+abbrev pub IsDamageIn : Result (List ScriptTxn) Refusal → Type 0 → List Commit → ℕ → Image → List Part → Damage → Type 0
+IsDamageIn script reads_all history region_len image parts (damage.Node id) = MeetsUnfit script reads_all history region_len image parts id
+IsDamageIn script reads_all history region_len image parts what = IsBadOf region_len image parts what
 
 -- where the chain is undefined, what the disk tells stays, and nothing is done; with status 7 the chain's damage is printed
 pub record HasNoChain (still_told : Type 0) (what : Damage) (status : ℕ) (written : List ℕ) : Type 0 where
@@ -185,24 +200,61 @@ pub record HasNoChain (still_told : Type 0) (what : Damage) (status : ℕ) (writ
   pub status_is : OneOf (1 ∷ 3 ∷ 4 ∷ 5 ∷ 6 ∷ 7 ∷ []) status
   pub printed : status ≡ 7 → written ≡ damage_line what
 
--- What holds of a command on every log that the disk tells, sound or not, by its bytes at entry. The status is one of the command's. 7 comes on
--- an unsound log alone, and damage is printed that is there, or that the calls of the script make of the nodes that are: its line alone, or
--- behind what the command prints before it (`behind`). On no log a rise of the disk's count of faults is passed over.
-pub record DamagedTheorem (script : Result (List ScriptTxn) Refusal) (region_len : ℕ) (entry : Image) (back : Return) (still_told : Type 0) (statuses : List ℕ) (behind : Damage → List ℕ → Type 0) (status : ℕ) (written : List ℕ) : Type 0 where
-  pub known : OneOf statuses status
+-- What `run` and `gen` are, as far as it matters here: their script, whether they read all at the end, the statuses that they may end with, and what
+-- they print of a run behind these parts with this history and this fault.
+pub record Running : Type 1 where
+  pub script : Result (List ScriptTxn) Refusal
+  pub reads_all : Type 0
+  pub statuses : List ℕ
+  pub prints : List Part → List Commit → Option RunFault → List ℕ → Type 0
+
+-- Damage of which a status 7 tells: the chain's, or damage that is there behind the chain, or that the run's calls made of the nodes that are: its
+-- line alone, where nothing was committed, or what was run, with the line.
+abbrev pub PrintsDamage : Running → ℕ → Image → List ℕ → Type 0
+PrintsDamage r region_len entry written =
+    (what : Damage) × (((chain region_len entry ≡ Err what) × (written ≡ damage_line what))
+    ⊎ ((parts : List Part) × (history : List Commit) × (chain region_len entry ≡ Ok parts) × IsDamageIn r.script r.reads_all history region_len entry parts what
+    × (((history ≡ []) × (written ≡ damage_line what)) ⊎ r.prints parts history (Some (run_fault.Damaged what)) written)))
+
+-- what was run without a fault, behind the chain at entry
+abbrev pub PrintsRun : Running → ℕ → Image → List ℕ → Type 0
+PrintsRun r region_len entry written = (parts : List Part) × (history : List Commit) × (chain region_len entry ≡ Ok parts) × r.prints parts history None written
+
+-- a fault's line alone, or what was run, with the line behind it
+abbrev pub PrintsFaultOf : Running → ℕ → Image → RunFault → List ℕ → Type 0
+PrintsFaultOf r region_len entry fault written =
+    (written ≡ fault_line fault) ⊎ ((parts : List Part) × (history : List Commit) × (chain region_len entry ≡ Ok parts) × r.prints parts history (Some fault) written)
+
+-- What holds of `run` and `gen` on every log that the disk tells, sound or not, by its bytes at entry. The status is one of the command's, and tells
+-- what is printed; 7 comes on an unsound log alone. On no log a rise of the disk's count of faults is passed over.
+pub record DamagedTheorem (r : Running) (region_len : ℕ) (entry : Image) (back : Return) (still_told : Type 0) (status : ℕ) (written : List ℕ) : Type 0 where
+  pub known : OneOf r.statuses status
   pub unsound : status ≡ 7 → IsUnsound region_len entry
-  pub printed : status ≡ 7 → (what : Damage) × IsDamage region_len entry (IsDamageIn script region_len entry) what × ((written ≡ damage_line what) ⊎ behind what written)
+  pub damaged : status ≡ 7 → PrintsDamage r region_len entry written
+  pub done : (status ≡ 0) ⊎ (status ≡ 8) → PrintsRun r region_len entry written
+  pub memory : status ≡ 1 → PrintsFaultOf r region_len entry run_fault.Memory written
+  pub failed : status ≡ 6 → PrintsFaultOf r region_len entry run_fault.Disk written
+  pub refused : (status ≡ 3) ⊎ (status ≡ 4) → ReasonFor status r.script written
   pub no_chain : (what : Damage) → chain region_len entry ≡ Err what → HasNoChain still_told what status written
   pub faults : TellsFaults back status
 
--- the report of a run of this script that damage ended
-abbrev pub EndsDamaged : Result (List ScriptTxn) Refusal → Damage → List ℕ → Type 0
-EndsDamaged script what written = (txns : List ScriptTxn) × (ran : Ran) × (script ≡ Ok txns) × (ran.fault ≡ Some (run_fault.Damaged what)) × (written ≡ report txns ran)
+-- The report of a run of a script: its outcomes have this history, which goes on behind the parts, and with no fault all was run.
+pub record Reports (script : Result (List ScriptTxn) Refusal) (parts : List Part) (history : List Commit) (fault : Option RunFault) (written : List ℕ) : Type 0 where
+  pub txns : List ScriptTxn
+  pub ran : Ran
+  pub read : script ≡ Ok txns
+  pub outcomes : AreOutcomes txns (chain_end parts) (all_outcomes txns ran.outcomes) history
+  pub from_entry : chain_end parts ≤ ran.durable
+  pub fault_is : ran.fault ≡ fault
+  pub all_run : fault ≡ None → AllRun (all_outcomes txns ran.outcomes)
+  pub printed : written ≡ report txns ran
 
 -- a run of the command `run` on every log that the disk tells, sound or not
 abbrev pub RunDamagedTheorem : Result (List ScriptTxn) Refusal → ℕ → Image → Return → Type 0 → ℕ → List ℕ → Type 0
-RunDamagedTheorem script region_len entry back still_told status written =
-    DamagedTheorem script region_len entry back still_told (0 ∷ 1 ∷ 3 ∷ 4 ∷ 5 ∷ 6 ∷ 7 ∷ 8 ∷ []) (EndsDamaged script) status written
+RunDamagedTheorem script region_len entry back still_told status written = DamagedTheorem running region_len entry back still_told status written
+  where
+    running : Running
+    running = record { script = script; reads_all = ⊥; statuses = 0 ∷ 1 ∷ 3 ∷ 4 ∷ 5 ∷ 6 ∷ 7 ∷ 8 ∷ []; prints = Reports script }
 
 -- ---- laws
 
@@ -214,10 +266,15 @@ UnfitLaw =
     → ((number : ℕ) (c : Content) → found number ≡ Some c → FindsContent region_len image parts (record { bucket = id.bucket; number = number }) c)
     → IsSome (found id.number) → IsUnfitNode (λ number. unwrap_or (found number) (node.Broken, 0)) id → FindsUnfit region_len image parts id
 
--- what is there may be named by a run of any script, and a bad place by each who reads
+-- a bad place may be named by each who reads, and by a run of any script
 abbrev pub NamesLaw : Type 0
 NamesLaw = (script : Result (List ScriptTxn) Refusal) (region_len : ℕ) (image : Image) (parts : List Part) (what : Damage)
-    → (IsBadOf region_len image parts what → IsDamageOf region_len image parts what) × (IsDamageOf region_len image parts what → IsDamageIn script region_len image parts what)
+    → (IsBadOf region_len image parts what → IsDamageOf region_len image parts what)
+    × ((history : List Commit) → IsBadOf region_len image parts what → IsDamageIn script ⊥ history region_len image parts what)
+
+-- what a look meets unfit is so on the path of some key, or of some scan
+abbrev pub LooksLaw : Type 0
+LooksLaw = (script : Result (List ScriptTxn) Refusal) (own : List Call) (now : ℕ → Content) (id : NodeId) → LooksAt script (Unit {0}) own now id → IsUnfitNode now id
 
 -- on sound rows no calls make a node unfit
 abbrev pub StaysFit : Type 0

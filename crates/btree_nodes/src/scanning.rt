@@ -14,13 +14,13 @@ ghost use Rattle.btree_nodes.specs.Trees.{Serves, Holds, AreUsed, LoadsAmong};
 ghost use Rattle.btree_nodes.specs.Walks.{visited_from, walk_in, LoadsOnWalk};
 
 use crate::descent::{
-    Step, bound, high_bound, is_above, is_below, is_fit_inner, is_leaf_within, is_up_to, low_bound,
-    reach,
+    Step, bound, high_bound, is_above, is_fit_inner, is_leaf_within, is_up_to, low_bound, reach,
 };
 use crate::fault::TreeFault;
 use crate::tree::head_of;
 use fine_model::{Bytes, Copied, NoMemory, Node, NodeId, Pairs};
 use node_cache::{Bucket, NodeSource};
+use node_record::is_below;
 
 /// Whether a child within these bounds holds keys of a range.
 fn meets(low: &[u8], high: &[u8], child_low: Option<&Bytes>, child_high: Option<&Bytes>) -> bool

@@ -1,17 +1,17 @@
 -- Epochs of histories: with a commit more, those that are sealed, and those that are open.
-use Rattle.std.proofs.Common.{◌≡◌, ◌⊎◌, ℕ, ◌+◌, ◌<◌, ◌≤◌, ◌==◌, Bool, true, false, cond, List, [], ◌∷◌, ◌++◌, length, refl, sym, ap, subst, ◌∙◌, inl, inr, arith, append_assoc, append-nil}
+use Rattle.std.proofs.Common.{◌≡◌, ◌⊎◌, ne_eqb, ℕ, ◌+◌, ◌<◌, ◌≤◌, ◌==◌, Bool, true, false, cond, List, [], ◌∷◌, ◌++◌, length, refl, sym, ap, subst, ◌∙◌, inl, inr, arith, append_assoc, append-nil}
 use Rattle.std.specs.Prelude.{All, filter, nat_le, count_by}
 use Rattle.std.proofs.lemmas.Grind.{flat_map-append}
-use Rattle.std.proofs.lemmas.List.Elements.{All-cons, All-nil, All-weaker, filter-append}
-use Rattle.std.proofs.lemmas.List.Sums.{take_while-cons, sum_by_push}
+use Rattle.std.proofs.lemmas.List.Elements.{All-cons, All-head, All-nil, All-tail, All-weaker, filter-append}
+use Rattle.std.proofs.lemmas.List.Sums.{take_while-cons, sum_by-cons, sum_by_push}
 use Rattle.fine_model.specs.declared.Row.{Row}
 use Rattle.fine_model.specs.History.{Commit, IsLegal, all_rows, upto, last_epoch}
 use Rattle.fine_model.specs.Outcomes.{EpochsGoOn, EpochsFollow}
 use Rattle.fine_model.specs.Room.{IsSealedUpTo}
 use Rattle.fine_model.specs.Trees.{IsSound}
 use Rattle.fine_model.specs.VersionLaws.{VersionsFollow}
-use Rattle.fine_model.specs.Laws.{FollowsOn, EpochsBelow, SplitLaw}
-use Rattle.fine_model.proofs.HistoryLaws.{last_epoch-from}
+use Rattle.fine_model.specs.Laws.{AllUpTo, FollowsOn, EpochsBelow, NoneWaits, SealsOn, SplitLaw}
+use Rattle.fine_model.proofs.HistoryLaws.{last_epoch-from, upto-last}
 
 above_not : (n e : ℕ) → e < n → nat_le n e ≡ false
 above_not n e h = grind (arith, h)
@@ -169,6 +169,43 @@ all_sealed e (c ∷ cs) sealed (inr is) none = let w = waits (sealed + 1) c cs i
 -- where some entry waits, the history is sealed up to one more epoch once it is sealed
 pub sealed_on : (e : ℕ) (history : List Commit) (sealed : ℕ) → EpochsFollow e history → IsSealedUpTo e history sealed → 1 ≤ length (filter (λ c. c.epoch == sealed + 1) history) → IsSealedUpTo e history (sealed + 1)
 sealed_on e history sealed follow is some = sealed_by e (sealed + 1) history (last_open e sealed history follow is some)
+
+-- ---- sealing, by how many commits wait
+
+-- of no epoch above all there are commits
+none_above : (n : ℕ) (history : List Commit) → All (λ c. c.epoch ≤ n) history → count_by (λ (c : Commit). c.epoch == n + 1) history ≡ 0
+none_above n [] all = refl
+none_above n (c ∷ history) all =
+    let h = All-head (λ (c : Commit). c.epoch ≤ n) c history all in
+    let s = sum_by-cons (λ (d : Commit). cond (d.epoch == n + 1) 1 0) c history in
+    let e = ap {B = ℕ} (λ b. cond b 1 0) (ne_eqb c.epoch (n + 1) (λ is. omega (arith, h, is))) in
+    let t = none_above n history (All-tail (λ (c : Commit). c.epoch ≤ n) c history all) in
+    omega (arith, s, e, t)
+
+-- and of the last epoch there is one
+some_last : (n : ℕ) (c : Commit) (history : List Commit) → last_epoch c.epoch history ≡ n → 1 ≤ count_by (λ (d : Commit). d.epoch == n) (c ∷ history)
+some_last n c [] is = let s = sum_by-cons (λ (d : Commit). cond (d.epoch == n) 1 0) c [] in let e = ap {B = ℕ} (λ b. cond b 1 0) (same_is c.epoch n is) in omega (arith, s, e)
+some_last n c (d ∷ history) is = let s = sum_by-cons (λ (d : Commit). cond (d.epoch == n) 1 0) c (d ∷ history) in let t = some_last n d history is in omega (arith, s, t)
+
+-- where none waits, all is sealed
+pub all_upto : AllUpTo
+all_upto e history sealed follow up_to none = upto-last e sealed history follow (last history up_to none)
+  where
+    last : (history : List Commit) → IsSealedUpTo e history sealed → 0 ≡ count_by (λ (c : Commit). c.epoch == sealed + 1) history → last_epoch e history ≤ sealed
+    last [] is none = omega (arith, is)
+    last (c ∷ history) (inl is) none = omega (arith, is)
+    last (c ∷ history) (inr is) none = let some = some_last (sealed + 1) c history is in absurd (omega (arith, some, none))
+
+-- the open epoch is sealed, in which some entry waits
+pub seals : SealsOn
+seals e [] sealed follow is some = absurd (omega (arith, some))
+seals e (c ∷ history) sealed follow (inr is) some = inl is
+seals e (c ∷ history) sealed follow (inl is) some =
+    let none = none_above sealed (c ∷ history) (All-weaker (λ (b : Commit). b.epoch ≤ last_epoch e (c ∷ history)) (λ (b : Commit). b.epoch ≤ sealed) (λ b h. omega (arith, h, is)) (c ∷ history) (all_epochs e (c ∷ history) follow)) in
+    absurd (omega (arith, some, none))
+
+pub none_wait : NoneWaits
+none_wait e history sealed follow up_to = sym (none_above (sealed + 1) history (epochs_below e history sealed follow up_to))
 
 -- what stands as a history is legal
 pub legal_of : (first : List Row) (history : List Commit) → (history ≡ []) ⊎ (IsSound first × IsLegal first history) → IsLegal first history

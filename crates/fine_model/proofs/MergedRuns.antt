@@ -4,18 +4,19 @@ use Rattle.std.specs.Prelude.{flat_map}
 use Rattle.std.specs.List.{AllByRecursion, list_any}
 use Rattle.std.proofs.lemmas.List.{map-append}
 use Rattle.std.proofs.lemmas.List.Folds.{list_any-append}
-use Rattle.std.proofs.lemmas.List.Sums.{sum_by-append}
+use Rattle.std.proofs.lemmas.List.Sums.{fold-append, sum_by-append}
 use Rattle.fine_model.specs.Types.{NodeId, Row}
 use Rattle.fine_model.specs.Types.mark
 use Rattle.fine_model.specs.RowBytes.{row_len, rows_len, FitsRow}
 use Rattle.fine_model.specs.Nodes.{is_node, Agrees}
-use Rattle.fine_model.specs.Merge.{nodes_in, merged}
-use Rattle.fine_model.specs.MergeSteps.{MergedAgrees, merged_run, run_rows, MergedRunLen, MergedRunFits, MergedRunAgrees}
+use Rattle.fine_model.specs.Merge.{is_ordered, nodes_in, merged}
+use Rattle.fine_model.specs.MergeSteps.{MergedAgrees, merged_run, run_rows, MergedRunLen, MergedRunOrder, MergedRunFits, MergedRunAgrees}
 use Rattle.fine_model.proofs.Order.{all_map}
 use Rattle.fine_model.proofs.Sets.{all_append}
 use Rattle.fine_model.proofs.Zip.{all_left, all_right}
 use Rattle.fine_model.proofs.MergedRows.{content-merged}
 use Rattle.fine_model.proofs.MergedLen.{names, nodes_alike, names_merged, merged_len}
+use Rattle.fine_model.proofs.MergedOrder.{merged_order}
 use Rattle.fine_model.proofs.FitMerged.{merged_fits}
 
 pub merged_agrees : MergedAgrees
@@ -72,3 +73,7 @@ merged_run_agrees before first (next ∷ more) after log fits agrees =
     (merged_agrees before first next (flat_map (λ rows. rows) more ++ after) log fits
     (subst (λ rows. Agrees (before ++ rows) log)
     (ap (λ rows. rows ++ after) (regrouped first next more) ∙ append_assoc (first ++ next) (flat_map (λ rows. rows) more) after) agrees)))
+
+pub merged_run_order : MergedRunOrder
+unfolding merged_run
+merged_run_order first more last = ap is_ordered (fold-append merged first more (last ∷ [])) ∙ merged_order (merged_run first more) last

@@ -1,14 +1,19 @@
 -- Laws that follow at once from what stands in other files.
 use Rattle.std.proofs.Common.{◌≡◌, ◌≢◌, ℕ, ◌-◌, ◌≤◌, true, List, [], ◌∷◌, refl, sym, ap, ◌∙◌, subst, arith, le-leb, length}
+use Rattle.std.specs.Prelude.{IsTrue}
 use Rattle.std.specs.List.{AllByRecursion}
-use Rattle.fine_model.specs.Types.{Rec, Node}
+use Rattle.fine_model.specs.Types.{Rec, Row, Node, Part}
 use Rattle.fine_model.specs.Types.rec
 use Rattle.fine_model.specs.Types.node
 use Rattle.fine_model.specs.Map.{get}
-use Rattle.fine_model.specs.RowBytes.{FitsRec}
+use Rattle.fine_model.specs.RowBytes.{FitsRec, FitsRow}
 use Rattle.fine_model.specs.Nodes.{Content}
+use Rattle.fine_model.specs.Regions.{Image}
+use Rattle.fine_model.specs.Chain.{AreRowsOf}
 use Rattle.fine_model.specs.Trees.{whole, nodes_of, reached, numbers_from, tree_numbers, bucket_of}
-use Rattle.fine_model.specs.Laws.{RowLaw, SmallLaw, WholeLaw, LeafLaw, is_small}
+use Rattle.fine_model.specs.Laws.{RowLaw, ShownSmall, SmallLaw, WholeLaw, LeafLaw, is_small}
+use Rattle.fine_model.proofs.Order.{all_map}
+use Rattle.fine_model.proofs.Sets.{all_append}
 use Rattle.fine_model.proofs.Spelling.{row_spelling}
 use Rattle.fine_model.proofs.Buckets.{HasTree, has_tree}
 use Rattle.fine_model.proofs.LocalChange.{tree_here, get_of_leaf, beside_leaf}
@@ -32,6 +37,16 @@ fits_small (rec.Plus key by) fits = refl
 
 pub small_law : SmallLaw
 small_law mark row fits = fits_small row.rec fits.rec
+
+parts_small : (region_len : ℕ) (image : Image) (parts : List Part) (rows : List Row) → AreRowsOf region_len image parts rows → AllByRecursion (λ row. IsTrue (is_small row.rec)) rows
+unfolding AreRowsOf
+parts_small region_len image [] rows are = subst (AllByRecursion (λ row. IsTrue (is_small row.rec))) (sym are) tt
+parts_small region_len image (p ∷ parts) rows (own, more, is, sealed, rest) =
+    let small = all_map (FitsRow sealed.header.mark) (λ row. IsTrue (is_small row.rec)) (λ row fits. small_law sealed.header.mark row fits) own sealed.rows_fit in
+    subst (AllByRecursion (λ row. IsTrue (is_small row.rec))) (sym is) (all_append (λ row. IsTrue (is_small row.rec)) own more small (parts_small region_len image parts more rest))
+
+pub shown_small : ShownSmall
+shown_small region_len image e rows shows = record { each = parts_small region_len image shows.parts rows shows.are_rows }
 
 pub leaf_law : LeafLaw
 leaf_law rows key sound =

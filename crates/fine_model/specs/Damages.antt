@@ -1,12 +1,15 @@
 -- What status 7 means on any log.
-use Rattle.std.specs.Prelude.{◌≡◌, ◌⊎◌, ℕ, ◌-◌, ◌<◌, ◌≤◌, Bool, true, false, IsTrue, List, [], ◌∷◌, ◌++◌, map, flat_map, Option, Some, IsSome, unwrap_or, Result, Ok, Err, Contains}
+use Rattle.std.specs.Prelude.{◌≡◌, ◌≢◌, ◌⊎◌, ℕ, ◌-◌, ◌<◌, ◌≤◌, Bool, true, false, IsTrue, List, [], ◌∷◌, ◌++◌, map, flat_map, Option, Some, IsSome, unwrap_or, Result, Ok, Err, Contains}
 use Rattle.std.specs.List.{AllByRecursion, list_any}
-use Rattle.fine_model.specs.Types.{Row, Header, Part, Damage, NodeId, ScriptTxn, Ran}
+use Rattle.fine_model.specs.Types.{Row, Header, Part, Call, Damage, NodeId, ScriptTxn, Ran}
 use Rattle.fine_model.specs.Types.damage
 use Rattle.fine_model.specs.Types.node
 use Rattle.fine_model.specs.Types.run_fault
 use Rattle.fine_model.specs.Nodes.{Content, base, replay, rows_of}
-use Rattle.fine_model.specs.Merge.{is_image, is_node_below}
+use Rattle.fine_model.specs.Merge.{is_image, is_node_below, starts_afresh}
+use Rattle.fine_model.specs.RowBytes.{buckets}
+use Rattle.fine_model.specs.Pushed.{call_push, key_of, within_limits}
+use Rattle.fine_model.specs.Laws.{AreSmall}
 use Rattle.fine_model.specs.Trees.{IsSound, bucket_of, nodes_of}
 use Rattle.fine_model.specs.Paths.{unfit_under, unfit_between}
 use Rattle.fine_model.specs.Regions.{Image, Place, place_of, body_in, HasHeader, HoldsBadItem, IsSealed}
@@ -125,6 +128,57 @@ IsDamageOf region_len image parts _ = ⊥
 abbrev pub IsDamage : ℕ → Image → (List Part → Damage → Type 0) → Damage → Type 0
 IsDamage region_len entry P what = (chain region_len entry ≡ Err what) ⊎ ((parts : List Part) × (chain region_len entry ≡ Ok parts) × P parts what)
 
+-- ---- what a run meets that makes the log longer
+
+-- the contents of a bucket's nodes after rows
+abbrev pub with_rows : ℕ → (ℕ → Content) → List Row → ℕ → Content
+with_rows bucket nodes rows number = replay (nodes number) (rows_of (record { bucket = bucket; number = number }) rows)
+
+-- contents of a bucket's nodes, and what they are after calls on it in order, each of which pushed its rows
+abbrev pub GoOnTo : ℕ → (ℕ → Content) → List Call → (ℕ → Content) → Type 0
+GoOnTo bucket nodes [] now = (number : ℕ) → now number ≡ nodes number
+GoOnTo bucket nodes (c ∷ cs) now =
+    (rows : List Row) × (bucket_of (key_of c) ≡ bucket) × (within_limits (call_push bucket nodes c) ≡ Ok rows) × GoOnTo bucket (with_rows bucket nodes rows) cs now
+
+-- a call of a transaction of a script
+abbrev pub IsCalled : Result (List ScriptTxn) Refusal → Call → Type 0
+IsCalled script c = (txns : List ScriptTxn) × (txn : ScriptTxn) × (script ≡ Ok txns) × Contains txns txn × Contains txn.calls c
+
+-- A content that a reader finds in a node by the bytes at entry, whatever neighbours were merged since: beside those of `FindsContent` the replay
+-- of the rows from a part on that need nothing before them, since merging makes an image of such rows.
+pub record FindsMerged (region_len : ℕ) (image : Image) (parts : List Part) (id : NodeId) (found : Content) : Type 0 where
+  pub skipped : List Part
+  pub read : List (Part × List Row)
+  pub whole : parts ≡ skipped ++ map (λ r. r.0) read
+  pub each : AllByRecursion (λ r. FindsRows region_len image id r.0 r.1) read
+  pub why : (skipped ≡ []) ⊎ IsTrue (has_image_first read) ⊎ IsTrue (starts_afresh (flat_map (λ r. r.1) read))
+  pub replayed : found ≡ replay (base id) (flat_map (λ r. r.1) read)
+
+-- A node that a run of a script meets unfit. Its calls on the bucket went on from contents that are found by the bytes at entry; what is not found
+-- counts as broken, and no path goes on behind it. The node itself is found, or the run made it. The calls are those of the transactions
+-- that were committed and of the one under way; which of the script's calls, and how they interleave, is not said.
+pub record MeetsUnfit (script : Result (List ScriptTxn) Refusal) (region_len : ℕ) (image : Image) (parts : List Part) (id : NodeId) : Type 0 where
+  pub in_bucket : id.bucket < buckets
+  pub nodes : ℕ → Content
+  pub each : (number : ℕ) → FindsMerged region_len image parts (record { bucket = id.bucket; number = number }) (nodes number) ⊎ (nodes number ≡ (node.Broken, 0))
+  pub calls : List Call
+  pub called : AllByRecursion (IsCalled script) calls
+  pub now : ℕ → Content
+  pub goes_on : GoOnTo id.bucket nodes calls now
+  pub itself : FindsMerged region_len image parts id (nodes id.number) ⊎ ((now id.number).0 ≢ node.Broken)
+  pub unfit : IsUnfitNode now id
+
+-- What may be named as damaged by one who reads whole parts and no tree, as merging does: a bad place of the parts at entry.
+abbrev pub IsBadOf : ℕ → Image → List Part → Damage → Type 0
+IsBadOf region_len image parts (damage.Region region at) = HasBadPlace region_len image parts (record { region = region; at = at })
+IsBadOf region_len image parts _ = ⊥
+
+-- What a run of a script may name as damaged. A bad place is one of the parts at entry: a region of the chain keeps its bytes until its part was
+-- merged, a part that merging finds bad is not merged, and of the parts that a run writes itself, sealed or merged, a reader finds none bad.
+abbrev pub IsDamageIn : Result (List ScriptTxn) Refusal → ℕ → Image → List Part → Damage → Type 0
+IsDamageIn script region_len image parts (damage.Node id) = MeetsUnfit script region_len image parts id
+IsDamageIn script region_len image parts what = IsBadOf region_len image parts what
+
 -- where the chain is undefined, what the disk tells stays, and nothing is done; with status 7 the chain's damage is printed
 pub record HasNoChain (still_told : Type 0) (what : Damage) (status : ℕ) (written : List ℕ) : Type 0 where
   pub disk : still_told
@@ -132,13 +186,12 @@ pub record HasNoChain (still_told : Type 0) (what : Damage) (status : ℕ) (writ
   pub printed : status ≡ 7 → written ≡ damage_line what
 
 -- What holds of a command on every log that the disk tells, sound or not, by its bytes at entry. The status is one of the command's. 7 comes on
--- an unsound log alone, and some damage is printed: its line alone, or behind what the command prints before it (`behind`). Which one it is
--- where the chain is defined is not said: a run that made an unsound log longer may meet damage that was not there. On no log a rise of the
--- disk's count of faults is passed over.
-pub record DamagedTheorem (region_len : ℕ) (entry : Image) (back : Return) (still_told : Type 0) (statuses : List ℕ) (behind : Damage → List ℕ → Type 0) (status : ℕ) (written : List ℕ) : Type 0 where
+-- an unsound log alone, and damage is printed that is there, or that the calls of the script make of the nodes that are: its line alone, or
+-- behind what the command prints before it (`behind`). On no log a rise of the disk's count of faults is passed over.
+pub record DamagedTheorem (script : Result (List ScriptTxn) Refusal) (region_len : ℕ) (entry : Image) (back : Return) (still_told : Type 0) (statuses : List ℕ) (behind : Damage → List ℕ → Type 0) (status : ℕ) (written : List ℕ) : Type 0 where
   pub known : OneOf statuses status
   pub unsound : status ≡ 7 → IsUnsound region_len entry
-  pub printed : status ≡ 7 → (what : Damage) × ((written ≡ damage_line what) ⊎ behind what written)
+  pub printed : status ≡ 7 → (what : Damage) × IsDamage region_len entry (IsDamageIn script region_len entry) what × ((written ≡ damage_line what) ⊎ behind what written)
   pub no_chain : (what : Damage) → chain region_len entry ≡ Err what → HasNoChain still_told what status written
   pub faults : TellsFaults back status
 
@@ -149,7 +202,7 @@ EndsDamaged script what written = (txns : List ScriptTxn) × (ran : Ran) × (scr
 -- a run of the command `run` on every log that the disk tells, sound or not
 abbrev pub RunDamagedTheorem : Result (List ScriptTxn) Refusal → ℕ → Image → Return → Type 0 → ℕ → List ℕ → Type 0
 RunDamagedTheorem script region_len entry back still_told status written =
-    DamagedTheorem region_len entry back still_told (0 ∷ 1 ∷ 3 ∷ 4 ∷ 5 ∷ 6 ∷ 7 ∷ 8 ∷ []) (EndsDamaged script) status written
+    DamagedTheorem script region_len entry back still_told (0 ∷ 1 ∷ 3 ∷ 4 ∷ 5 ∷ 6 ∷ 7 ∷ 8 ∷ []) (EndsDamaged script) status written
 
 -- ---- laws
 
@@ -160,3 +213,13 @@ UnfitLaw =
     (region_len : ℕ) (image : Image) (parts : List Part) (id : NodeId) (found : ℕ → Option Content) → id.bucket < 256
     → ((number : ℕ) (c : Content) → found number ≡ Some c → FindsContent region_len image parts (record { bucket = id.bucket; number = number }) c)
     → IsSome (found id.number) → IsUnfitNode (λ number. unwrap_or (found number) (node.Broken, 0)) id → FindsUnfit region_len image parts id
+
+-- what is there may be named by a run of any script, and a bad place by each who reads
+abbrev pub NamesLaw : Type 0
+NamesLaw = (script : Result (List ScriptTxn) Refusal) (region_len : ℕ) (image : Image) (parts : List Part) (what : Damage)
+    → (IsBadOf region_len image parts what → IsDamageOf region_len image parts what) × (IsDamageOf region_len image parts what → IsDamageIn script region_len image parts what)
+
+-- on sound rows no calls make a node unfit
+abbrev pub StaysFit : Type 0
+StaysFit = (rows : List Row) (id : NodeId) (calls : List Call) (now : ℕ → Content) → id.bucket < buckets → AreSmall rows → IsSound rows
+    → GoOnTo id.bucket (nodes_of rows id.bucket) calls now → IsUnfitNode now id → ⊥

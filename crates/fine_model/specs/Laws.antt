@@ -1,10 +1,10 @@
 -- What the laws of the definitions say. Each is the contract of a function of its name.
-use Rattle.std.specs.Prelude.{◌≡◌, ◌≢◌, ℕ, ◌+◌, ◌<◌, ◌≤◌, ◌==◌, Bool, true, nat_le, IsTrue, List, [], ◌∷◌, ◌++◌, length, filter, All, Some, None, Ok, Err}
+use Rattle.std.specs.Prelude.{◌≡◌, ◌≢◌, ℕ, ◌+◌, ◌<◌, ◌≤◌, ◌==◌, Bool, true, nat_le, IsTrue, List, [], ◌∷◌, ◌++◌, length, filter, count_by, All, Some, None, Ok, Err}
 use Rattle.std.specs.List.{AllByRecursion}
 use Rattle.fine_model.specs.Types.{NodeId, Rec, Row, Call, Range, Mark, Why}
 use Rattle.fine_model.specs.Types.rec
 use Rattle.fine_model.specs.Types.node
-use Rattle.fine_model.specs.RowBytes.{FitsRow, BeginsWithRow}
+use Rattle.fine_model.specs.RowBytes.{most_in_node, FitsRow, BeginsWithRow}
 use Rattle.fine_model.specs.Nodes.{Content, replay, rows_of, content, Agrees}
 use Rattle.fine_model.specs.Map.{Pair, get, set, map_after}
 use Rattle.fine_model.specs.Store.{after_call, writes_of}
@@ -97,8 +97,8 @@ LeafLaw = (rows : List Row) (key : List ℕ) → IsSound rows → get (map_of ro
 
 -- an image has at most 32 pairs or separators, as the format says
 abbrev pub is_small : Rec → Bool
-is_small (rec.LeafImage pairs) = nat_le (length pairs) 32
-is_small (rec.InnerImage seps kids) = nat_le (length seps) 32
+is_small (rec.LeafImage pairs) = nat_le (length pairs) most_in_node
+is_small (rec.InnerImage seps kids) = nat_le (length seps) most_in_node
 is_small _ = true
 
 pub record AreSmall (rows : List Row) : Type 0 where
@@ -107,6 +107,10 @@ pub record AreSmall (rows : List Row) : Type 0 where
 -- a row within the format's bounds is such a row
 abbrev pub SmallLaw : Type 0
 SmallLaw = (mark : Mark) (row : Row) → FitsRow mark row → IsTrue (is_small row.rec)
+
+-- and so are all that an image shows
+abbrev pub ShownSmall : Type 0
+ShownSmall = (region_len : ℕ) (image : Image) (e : ℕ) (rows : List Row) → Shows region_len image e rows → AreSmall rows
 
 -- rows are sound, and have this map
 pub record HasMap (rows : List Row) (m : List Pair) : Type 0 where
@@ -179,3 +183,20 @@ EpochsBelow = (e : ℕ) (history : List Commit) (sealed : ℕ) → EpochsFollow 
 -- a history is what is sealed, and then what is open
 abbrev pub SplitLaw : Type 0
 SplitLaw = (e sealed : ℕ) (history : List Commit) → EpochsFollow e history → IsSealedUpTo e history sealed → upto history sealed ++ filter (λ c. c.epoch == sealed + 1) history ≡ history
+
+-- one commit more waits with one of the open epoch
+abbrev pub WaitsMore : Type 0
+WaitsMore = (history : List Commit) (c : Commit) (n : ℕ) → c.epoch ≡ n → count_by (λ d. d.epoch == n) (history ++ c ∷ []) ≡ count_by (λ d. d.epoch == n) history + 1
+
+-- where some commit waits, a history is sealed up to one epoch more once this is sealed, and none waits behind it
+abbrev pub SealsOn : Type 0
+SealsOn =
+    (e : ℕ) (history : List Commit) (sealed : ℕ) → EpochsFollow e history → IsSealedUpTo e history sealed → 0 < count_by (λ c. c.epoch == sealed + 1) history
+    → IsSealedUpTo e history (sealed + 1)
+
+abbrev pub NoneWaits : Type 0
+NoneWaits = (e : ℕ) (history : List Commit) (sealed : ℕ) → EpochsFollow e history → IsSealedUpTo e history sealed → 0 ≡ count_by (λ c. c.epoch == (sealed + 1) + 1) history
+
+-- where none waits, all of a history is sealed
+abbrev pub AllUpTo : Type 0
+AllUpTo = (e : ℕ) (history : List Commit) (sealed : ℕ) → EpochsFollow e history → IsSealedUpTo e history sealed → 0 ≡ count_by (λ c. c.epoch == sealed + 1) history → upto history sealed ≡ history

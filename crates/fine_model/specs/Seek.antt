@@ -3,7 +3,7 @@ use Rattle.std.specs.Prelude.{◌≡◌, ◌≢◌, ◌⊎◌, ℕ, ◌+◌, ◌
 use Rattle.std.specs.List.{AllByRecursion}
 use Rattle.std.specs.Int.{w16, w32, w64, leading_zeros}
 use Rattle.fine_model.specs.Types.{NodeId, Row, Header}
-use Rattle.fine_model.specs.RowBytes.{rows_bytes, rows_len, FitsRow}
+use Rattle.fine_model.specs.RowBytes.{node_numbers, rows_bytes, rows_len, FitsRow}
 use Rattle.fine_model.specs.Regions.{number_in, row_area}
 
 -- an index entry as its bytes say
@@ -29,7 +29,7 @@ entry_at header body i = entry_of body (entry_place header i)
 -- an entry may stand behind this header
 abbrev pub is_entry : Header → IndexEntry → Bool
 is_entry header e =
-    nat_le e.node.bucket 255 && nat_lt e.node.number 1048576 && nat_lt e.offset header.area
+    nat_le e.node.bucket 255 && nat_lt e.node.number node_numbers && nat_lt e.offset header.area
     && nat_le 1 e.rows && nat_le e.rows header.rows
 
 -- the rows of a node in the row area, from an offset up to an end

@@ -9,6 +9,12 @@ pub const SEALED_GATE: u8 = 0xa7;
 /// Where the body of a partition starts that lies in one region: behind the gate and 40 bytes of header.
 pub const BODY_START: u64 = 41;
 
+/// The bytes of the header of a partition in one region, without the gate.
+pub const HEADER: usize = 40;
+
+/// Where the body of a partition starts in the lead of several regions: behind the gate and 69 bytes of header.
+pub const LONG_BODY_START: u64 = 70;
+
 /// The bytes of the longest header and its gate, which are all that opening reads of a region.
 pub const LONGEST_HEADER: usize = 70;
 
@@ -38,3 +44,8 @@ pub const GREATEST_DEPTH: u8 = 8;
 pub const LONGEST_REGION: u64 = 67_108_864;
 
 pub const MOST_REGIONS: u8 = 8;
+
+/// The least and the most regions of a log.
+pub const LEAST_IN_LOG: u32 = 4;
+
+pub const MOST_IN_LOG: u32 = 64;

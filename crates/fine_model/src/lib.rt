@@ -11,6 +11,7 @@ mod copied;
 pub mod format;
 mod law;
 mod laws;
+mod layout;
 mod list;
 mod numbers;
 #[cfg(test)]
@@ -29,6 +30,7 @@ pub use laws::{
     mark_law, merge_law, merged_law, merged_run_law, pushed_law, range_law, replay_law, row_law,
     scan_law, sealed_law, shown_law, small_law, unfit_law, upto_law, whole_law, whole_map_law,
 };
+pub use layout::{body_start, fits_in};
 pub use list::{Copied, Items, NoMemory};
 pub use numbers::{natural_of, number_of, number_text};
 pub use version_laws::{arranged_law, ordered_law, permuted_law, sort_law, versions_law};

@@ -3,6 +3,7 @@ use Rattle.std.specs.Prelude.{◌≡◌, ℕ, ◌%◌, ◌≤◌, nat_le, if◌t
 use Rattle.std.specs.declared.alloc.Global.{Global}
 use Rattle.fine_model.specs.declared.Options.{Options}
 use Rattle.fine_model.specs.Words.{Command, run, command_of, geometry_of}
+use Rattle.fine_model.specs.RowBytes.{longest_region}
 
 -- the one word `run`
 abbrev pub IsRun : List (String Global) → Type 0
@@ -27,5 +28,5 @@ geometry_in words = option_and_then (λ word. option_and_then long_enough (geome
 -- 4 to 64 regions of 16 KiB to 64 MiB, in whole KiB
 pub record IsGeometry (geometry : ℕ × ℕ) : Type 0 where
   pub regions : (4 ≤ geometry.0) × (geometry.0 ≤ 64)
-  pub region_len : (16384 ≤ geometry.1) × (geometry.1 ≤ 67108864)
+  pub region_len : (16384 ≤ geometry.1) × (geometry.1 ≤ longest_region)
   pub whole_kib : geometry.1 % 1024 ≡ 0

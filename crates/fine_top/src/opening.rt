@@ -6,6 +6,7 @@ ghost use Rattle.log_disk.specs.Disk.{HasRisen, OnlyFails};
 ghost use Rattle.fine_model.specs.Bounds.{FitsScript};
 ghost use Rattle.fine_model.specs.declared.Reason.TheVariants as reason;
 ghost use Rattle.fine_model.specs.declared.RunFault.TheVariants as run_fault;
+ghost use Rattle.fine_model.specs.RowBytes.{longest_region};
 ghost use Rattle.reopen.specs.Opening.{SeesChain};
 ghost use Rattle.fine_top.specs.Ends.{IsReason, MayRun, reason_of};
 ghost use Rattle.fine_top.specs.Opened.{FaultsOpening, IsDamagedLog, IsLoadedFrom, IsOpenedLog, open_fault};
@@ -65,7 +66,7 @@ fn open_fault(fault: OpenFault) -> RunFault
 
 /// Finds the chain of a log.
 fn find_chain<D: LogDisk>(alloc: Global, disk: &mut D) -> Result<Chain, RunFault>
-    requires region_len { (70 ≤ (D.state disk.old).region_len) × ((D.state disk.old).region_len ≤ 67108864) }
+    requires region_len { (70 ≤ (D.state disk.old).region_len) × ((D.state disk.old).region_len ≤ longest_region) }
     ensures ok { IfOk result (SeesChain (D.state disk.old)) }
     ensures err { IfErr result (FaultsOpening (D.state disk.old)) }
     ensures failed { result ≡ Err run_fault.Disk → OnlyFails (D.state disk.old) (D.state disk.new) }
@@ -79,7 +80,7 @@ fn find_chain<D: LogDisk>(alloc: Global, disk: &mut D) -> Result<Chain, RunFault
 
 /// Reads the log of a chain into leaves.
 fn load_chain<D: LogDisk>(alloc: Global, disk: &mut D, chain: &Chain) -> Result<Leaves, RunFault>
-    requires region_len { (70 < (D.state disk.old).region_len) × ((D.state disk.old).region_len ≤ 67108864) }
+    requires region_len { (70 < (D.state disk.old).region_len) × ((D.state disk.old).region_len ≤ longest_region) }
     requires sees { SeesChain (D.state disk.old) chain.now }
     ensures ok { IfOk result (IsLoadedFrom (D.state disk.old)) }
     ensures err { IfErr result (FaultsOpening (D.state disk.old)) }
@@ -96,7 +97,7 @@ fn load_chain<D: LogDisk>(alloc: Global, disk: &mut D, chain: &Chain) -> Result<
 
 /// Opens a log: its chain is found and its rows are read into leaves.
 fn open_log<D: LogDisk>(alloc: Global, disk: &mut D) -> Result<Log, RunFault>
-    requires region_len { (70 < (D.state disk.old).region_len) × ((D.state disk.old).region_len ≤ 67108864) }
+    requires region_len { (70 < (D.state disk.old).region_len) × ((D.state disk.old).region_len ≤ longest_region) }
     ensures ok { IfOk result (OpensLog (D.state disk.old)) }
     ensures err { IfErr result (FaultsOpening (D.state disk.old)) }
     ensures failed { result ≡ Err run_fault.Disk → OnlyFails (D.state disk.old) (D.state disk.new) }
@@ -119,7 +120,7 @@ pub fn open_run<S: Source, D: LogDisk>(
     source: &mut S,
     disk: &mut D,
 ) -> Result<Opened, Reason>
-    requires region_len { (70 < (D.state disk.old).region_len) × ((D.state disk.old).region_len ≤ 67108864) }
+    requires region_len { (70 < (D.state disk.old).region_len) × ((D.state disk.old).region_len ≤ longest_region) }
     ensures ok { IfOk result (OpensRun (IsRun words.now) (S.left source.old) (D.state disk.old)) }
     ensures reason { IfErr result (IsReason (IsRun words.now) (HasRisen (S.faults source.old) (S.faults source.new)) (IsDamagedLog (D.state disk.old)) (S.left source.old)) }
     ensures source_failed { result ≡ Err reason.Source → HasRisen (S.faults source.old) (S.faults source.new) }

@@ -3,6 +3,7 @@
 ghost use Rattle.std.specs.Prelude.{◌≡◌, ◌↔◌, ◌≤◌, ◌%◌, ◌==◌, IfSome, IsSome, IsTrue, length, position};
 ghost use Rattle.std.specs.List.{position_or_len};
 ghost use Rattle.fine_model.specs.Words.{geometry_of};
+ghost use Rattle.fine_model.specs.RowBytes.{longest_region};
 ghost use Rattle.fine_top.specs.Words.{IsGeometry, IsRun, geometry_in};
 
 use fine_model::natural_of;
@@ -44,7 +45,7 @@ fn place_of_x(word: &[u8]) -> usize
 #[tactic(auto, unfolding(fine_model::specs::Words::geometry_of))]
 fn geometry(word: &[u8]) -> Option<(u32, u64)>
     ensures is { result ≡ geometry_of word.now }
-    ensures limits { IfSome result (λ g. (4 ≤ g.0) × (g.0 ≤ 64) × (g.1 ≤ 67108864) × (g.1 % 1024 ≡ 0)) }
+    ensures limits { IfSome result (λ g. (4 ≤ g.0) × (g.0 ≤ 64) × (g.1 ≤ longest_region) × (g.1 % 1024 ≡ 0)) }
 {
     if word == b"default".as_slice() {
         return Some((24, 4_194_304));

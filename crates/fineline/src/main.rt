@@ -73,8 +73,8 @@ fn main(rt: HostRuntime) -> ExitCode {
             );
             ExitCode::from(finish.status)
         }
-        Err(MakeFault::WrongLength { found }) => ended(println!(rt; "length {found}"), REFUSED),
-        Err(MakeFault::Failed) => ended(println!(rt; "disk"), DISK_FAILED),
+        Err(MakeFault::WrongLength { found, .. }) => ended(println!(rt; "length {found}"), REFUSED),
+        Err(MakeFault::Failed { .. }) => ended(println!(rt; "disk"), DISK_FAILED),
         Err(MakeFault::NoMemory) => ExitCode::from(NO_MEMORY),
     }
 }

@@ -9,3 +9,4 @@ pub mod Laws
 pub mod Plan
 pub mod Schedule
 pub mod FileDisk
+pub mod MakeFault

@@ -2,17 +2,18 @@
 //!
 //! Contracts name the path by which each file was opened, and the place and length of what it is asked for.
 
-ghost use Rattle.std.specs.Prelude.{◌≡◌, ◌≢◌, ◌⊎◌, ℕ, ◌*◌, ◌<◌, ◌≤◌, ◌+◌, ◌^◌, true, false, All, Any, Contains, None, Some, Err, IfOk, OnOk, OnErr, IsErr, IsErrOf, is_err, length};
+ghost use Rattle.std.specs.Prelude.{◌≡◌, ◌≢◌, ◌⊎◌, ◌*◌, ◌<◌, ◌≤◌, ◌+◌, ◌^◌, true, false, All, Any, Contains, None, Some, Err, IfSome, IfOk, IfErr, OnOk, OnErr, IsErr, IsErrOf, is_err, if◌then◌else◌, length, string_bytes};
 ghost use Rattle.log_disk.specs.declared.file.MakeFault.TheVariants as fault;
 ghost use Rattle.log_disk.specs.declared.file.handle.FileAsk.TheVariants as ask;
+ghost use Rattle.log_disk.specs.MakeFault.{IsWhy};
 ghost use Rattle.log_disk.specs.Disk.{new_disk, last_count, IsWithin, IsUnseen, Reads, Writes, Syncs, OnlyFails, Opens, Closes, Looks};
 
 use crate::eyes::OpenEyes;
 use crate::faults::Faults;
 use crate::{DiskRefusal, Failed, LogDisk, LogEye};
 use std::alloc::{AllocError, Global};
+use std::fmt;
 use std::fs::{File, Files};
-use std::io;
 use std::marker::Model;
 use std::snapshot::Snapshot;
 use thiserror::Error;
@@ -22,19 +23,34 @@ mod handle;
 mod tests;
 
 use handle::Handle;
-pub use handle::{FileAsk, FileCall};
+pub use handle::{FileAsk, FileCall, FileNotes};
 
-/// Why no disk was made of a file.
-#[derive(Debug, Drop, Error)]
+/// Why no disk was made of a file. The notes are there for contracts and take no memory.
+#[derive(Drop, Error)]
 pub enum MakeFault {
     /// A call on the file failed.
     #[error("a call on the log file failed")]
-    Failed,
+    Failed {
+        notes: Snapshot<FileNotes>,
+    },
     /// The file's length is neither 0 nor that of all regions.
     #[error("the log file has another length")]
-    WrongLength { found: u64 },
+    WrongLength {
+        found: u64,
+        notes: Snapshot<FileNotes>,
+    },
     #[error("memory ran out")]
     NoMemory,
+}
+
+impl fmt::Debug for MakeFault {
+    fn fmt<W: fmt::Write>(&self, f: &mut fmt::Formatter<W>) -> fmt::Result {
+        f.write_str(match self {
+            MakeFault::Failed { .. } => "Failed",
+            MakeFault::WrongLength { .. } => "WrongLength",
+            MakeFault::NoMemory => "NoMemory",
+        })
+    }
 }
 
 impl From<AllocError> for MakeFault {
@@ -42,14 +58,6 @@ impl From<AllocError> for MakeFault {
 
     fn from(_: AllocError) -> Self {
         MakeFault::NoMemory
-    }
-}
-
-impl From<io::Error> for MakeFault {
-    ghost from_gives = { λ _ e. e ≡ fault.Failed };
-
-    fn from(_: io::Error) -> Self {
-        MakeFault::Failed
     }
 }
 
@@ -80,8 +88,8 @@ impl<R: Files<File = File> + Clone + Drop + Send> Model for FileDisk<R> {
     ghost use Rattle.log_disk.specs.Eyes.{eyes_in, numbers_to};
 
     ghost view = { λ d. record {
-      path = string_bytes d.file.path.value;
-      file = file_of d.file;
+      path = string_bytes d.file.notes.path.value;
+      file = file_of d.file.notes;
       disk = record {
         regions = d.regions;
         region_len = d.region_len;
@@ -94,17 +102,17 @@ impl<R: Files<File = File> + Clone + Drop + Send> Model for FileDisk<R> {
       };
     } };
 
-    ghost invariant = { λ d. (d.regions * d.region_len < 2 ^ 63) × AreNumbered (eyes_in d.eyes) (numbers_to d.eyes.given) × (d.file.locked.value ≡ true) × (d.file.path.value ≡ d.path) };
+    ghost invariant = { λ d. (d.regions * d.region_len < 2 ^ 63) × AreNumbered (eyes_in d.eyes) (numbers_to d.eyes.given) × (d.file.notes.locked.value ≡ true) × (d.file.notes.path.value ≡ d.path) };
 }
 
 impl<R: Files<File = File> + Clone + Drop + Send> FileDisk<R> {
     /// Opens the file at a path as a disk of regions, and makes it where there is none. It takes the file's lock, fills an
     /// empty file with zeros, and then syncs it with all that the system offers.
     ///
-    /// `WrongLength` comes exactly where the file's length is neither 0 nor the whole; the file is left as it was. `Failed`
-    /// says that a call on the file failed, as the lock does where another disk, of this or another process, has the file; the
-    /// file may then have been made or filled. No clause gives its cause, since no disk is there yet that could count it.
-    /// `NoMemory` comes before the file is touched.
+    /// `WrongLength` says that the file, under its lock, told a length that is neither 0 nor the whole, and was asked for no
+    /// change until then. Where it told such a length, no disk is made and `Failed` does not come. `Failed` says that the last
+    /// call on the file failed, as the lock does where another disk, of this or another process, has the file; the file may then
+    /// have been made or filled. No clause gives the cause of `NoMemory`.
     pub fn make(
         rt: &R,
         alloc: Global,
@@ -118,14 +126,16 @@ impl<R: Files<File = File> + Clone + Drop + Send> FileDisk<R> {
         ensures locked { IfOk result (λ made. made.file.locked ≡ true) }
         ensures whole { IfOk result (λ made. made.file.len ≡ Some (regions * region_len)) }
         ensures synced { IfOk result (λ made. made.file.last ≡ record { ask = ask.Sync; failed = false }) }
-        ensures wrong_length { (found : ℕ) → result ≡ Err (MakeFault.WrongLength found) → (found ≢ 0) × (found ≢ regions * region_len) }
+        ensures found { IfOk result (λ made. made.file.found ≡ Some (if made.file.changed then 0 else regions * region_len)) }
+        ensures fault { IfErr result (IsWhy path.now (regions * region_len)) }
     {
         let path = String::from_str(alloc, path)?;
         let rt = rt.clone()?;
-        let mut file = Handle::open(&rt, &path, true)?;
-        file.lock()?;
-        fill(&mut file, u64::from(regions) * region_len)?;
-        file.sync()?;
+        let mut file = match Handle::open(&rt, &path, true) {
+            Ok(file) => file,
+            Err(notes) => return Err(MakeFault::Failed { notes }),
+        };
+        prepare(&mut file, u64::from(regions) * region_len)?;
         Ok(FileDisk {
             alloc,
             rt,
@@ -140,21 +150,63 @@ impl<R: Files<File = File> + Clone + Drop + Send> FileDisk<R> {
     }
 }
 
-// Fills an empty file up to the whole of a disk. A file of another length is refused.
-fn fill(file: &mut Handle, whole: u64) -> Result<(), MakeFault>
-    requires { file.old.locked.value ≡ true }
-    ensures whole { OnOk result (file.new.len.value ≡ Some whole) }
-    ensures wrong_length { (found : ℕ) → result ≡ Err (MakeFault.WrongLength found) → (file.new.len.value ≡ Some found) × (found ≢ 0) × (found ≢ whole) }
-    ensures locked { file.new.locked ≡ file.old.locked }
-    ensures path { file.new.path ≡ file.old.path }
+// Takes the lock of a file that was opened, fills an empty one up to the whole of a disk, and syncs it. A file of another
+// length is refused.
+fn prepare(file: &mut Handle, whole: u64) -> Result<(), MakeFault>
+    requires unasked { (file.old.notes.found.value ≡ None) × (file.old.notes.changed.value ≡ false) }
+    ensures locked { OnOk result (file.new.notes.locked.value ≡ true) }
+    ensures whole { OnOk result (file.new.notes.len.value ≡ Some whole) }
+    ensures found { OnOk result (file.new.notes.found.value ≡ Some (if file.new.notes.changed.value then 0 else whole)) }
+    ensures synced { OnOk result (file.new.notes.last.value ≡ record { ask = ask.Sync; failed = false }) }
+    ensures fault { IfErr result (IsWhy (string_bytes file.old.notes.path.value) whole) }
+    ensures path { file.new.notes.path ≡ file.old.notes.path }
 {
-    let found = file.len()?;
-    if found == 0 {
-        file.fill(whole)?;
-    } else if found != whole {
-        return Err(MakeFault::WrongLength { found });
+    if file.lock().is_err() {
+        return Err(failed(file, whole));
+    }
+    fill(file, whole)?;
+    if file.sync().is_err() {
+        return Err(failed(file, whole));
     }
     Ok(())
+}
+
+// Fills an empty file up to the whole of a disk. A file of another length is refused.
+fn fill(file: &mut Handle, whole: u64) -> Result<(), MakeFault>
+    requires locked { file.old.notes.locked.value ≡ true }
+    requires unasked { (file.old.notes.found.value ≡ None) × (file.old.notes.changed.value ≡ false) }
+    ensures whole { OnOk result (file.new.notes.len.value ≡ Some whole) }
+    ensures found { OnOk result (file.new.notes.found.value ≡ Some (if file.new.notes.changed.value then 0 else whole)) }
+    ensures fits { OnOk result (IfSome file.new.notes.found.value (λ found. (found ≡ 0) ⊎ (found ≡ whole))) }
+    ensures fault { IfErr result (IsWhy (string_bytes file.old.notes.path.value) whole) }
+    ensures locked { file.new.notes.locked ≡ file.old.notes.locked }
+    ensures path { file.new.notes.path ≡ file.old.notes.path }
+{
+    let Ok(found) = file.len() else {
+        return Err(failed(file, whole));
+    };
+    if found == 0 {
+        if file.fill(whole).is_err() {
+            return Err(failed(file, whole));
+        }
+    } else if found != whole {
+        return Err(MakeFault::WrongLength {
+            found,
+            notes: Snapshot::of(&file.notes),
+        });
+    }
+    Ok(())
+}
+
+// The fault of a file whose last call failed, and that told no length but 0 or the whole, which is there for contracts.
+fn failed(file: &Handle, _whole: u64) -> MakeFault
+    requires failed { file.now.notes.last.value.failed ≡ true }
+    requires fits { IfSome file.now.notes.found.value (λ found. (found ≡ 0) ⊎ (found ≡ _whole)) }
+    ensures fault { IsWhy (string_bytes file.now.notes.path.value) _whole result }
+{
+    MakeFault::Failed {
+        notes: Snapshot::of(&file.notes),
+    }
 }
 
 // The byte of the file at an offset of a region.
@@ -287,8 +339,8 @@ impl Model for FileEye {
     ghost Value = { EyeAtPath };
 
     ghost view = { λ e. record {
-      path = string_bytes e.file.path.value;
-      file = file_of e.file;
+      path = string_bytes e.file.notes.path.value;
+      file = file_of e.file.notes;
       eye = record {
         number = e.number;
         regions = e.regions.value.items;

@@ -16,7 +16,7 @@ mod refusal;
 #[cfg(test)]
 mod tests;
 
-pub use file::{FileAsk, FileCall, FileDisk, FileEye, MakeFault};
+pub use file::{FileAsk, FileCall, FileDisk, FileEye, FileNotes, MakeFault};
 pub use mem::{FaultPlan, MemDisk, MemEye};
 pub use refusal::{DiskRefusal, Failed, NoMemory};
 

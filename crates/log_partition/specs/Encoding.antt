@@ -5,7 +5,7 @@ use Rattle.fine_model.specs.declared.NodeId.{NodeId}
 use Rattle.fine_model.specs.declared.Range.{Range}
 use Rattle.fine_model.specs.declared.Row.{Row}
 use Rattle.fine_model.specs.declared.Mark.TheVariants as mark
-use Rattle.fine_model.specs.RowBytes.{greatest, FitsRow}
+use Rattle.fine_model.specs.RowBytes.{greatest, FitsRow, longest_region}
 use Rattle.fine_model.specs.Merge.{is_node_below, is_ordered, nodes_in, encoded_len}
 use Rattle.fine_model.specs.Nodes.{is_node}
 use Rattle.fine_model.specs.Regions.{Image, region_of, sealed_gate, header_of, partition_bytes, IsSealed}
@@ -47,7 +47,7 @@ pub record AreRowsAt (region_len : ℕ) (bytes : List ℕ) (keys : List RowAt) (
 pub record HasIndexRoom (len capacity : ℕ) (keys : List RowAt) : Type 0 where
   pub bytes : List ℕ
   pub rows : List Row
-  pub at : AreRowsAt 67108864 bytes keys rows
+  pub at : AreRowsAt longest_region bytes keys rows
   pub room : len + 14 * length (nodes_in rows) ≤ capacity
 
 -- the header and the bytes of a partition of rows
@@ -63,5 +63,5 @@ is_last (Some other) id = is_node other id
 -- behind an open gate the bytes of a partition of rows that ascend strictly are in the grammar, whatever follows them
 abbrev pub EncodeLaw : Type 0
 EncodeLaw =
-    (region_len : ℕ) (range : Range) (rows : List Row) (image : Image) (lead : ℕ) (rest : List ℕ) → region_len ≤ 67108864 → FitsRange range → AllByRecursion (FitsRow mark.Two) rows → IsTrue (is_ordered rows)
+    (region_len : ℕ) (range : Range) (rows : List Row) (image : Image) (lead : ℕ) (rest : List ℕ) → region_len ≤ longest_region → FitsRange range → AllByRecursion (FitsRow mark.Two) rows → IsTrue (is_ordered rows)
     → encoded_len rows ≤ region_len → region_of image lead ≡ (sealed_gate ∷ partition_bytes region_len range rows) ++ rest → IsSealed region_len image lead range rows

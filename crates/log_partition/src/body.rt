@@ -9,6 +9,7 @@ ghost use Rattle.log_partition.specs.Bodies.{body_len, HasRows, NamesBadItem, Na
 
 use crate::fault::DecodeFault;
 use crate::header::field;
+use fine_model::format::INDEX_ENTRY;
 use fine_model::{Header, Items, NoMemory, Row, Rows};
 use node_record::{RowFault, read_row, row_len};
 use partition_index::{IndexEntry, build, entry_bytes};
@@ -93,17 +94,17 @@ fn test_index(
     let nodes = header.nodes as usize;
     let both = nodes.min(entries.len());
     for i in 0..both {
-        let at = header.area + 14 * i as u32;
+        let at = header.area + INDEX_ENTRY as u32 * i as u32;
         if !stands_at(body, at as usize, &entries[i]) {
             return Err(DecodeFault::Bad { at });
         }
     }
     if both < nodes {
-        let at = header.area + 14 * both as u32;
+        let at = header.area + INDEX_ENTRY as u32 * both as u32;
         return Err(DecodeFault::Bad { at });
     }
     if both < entries.len() {
-        let at = header.area + 14 * (nodes - 1) as u32;
+        let at = header.area + INDEX_ENTRY as u32 * (nodes - 1) as u32;
         return Err(DecodeFault::Bad { at });
     }
     Ok(())

@@ -2,7 +2,7 @@
 
 ghost use Rattle.std.specs.Prelude.{◌≡◌, ℕ, ◌+◌, ◌*◌, ◌≤◌, ◌++◌, List, IfOk, if◌then◌else◌, length, vec_len, vec_capacity};
 ghost use Rattle.fine_model.specs.declared.Row.{Row};
-ghost use Rattle.fine_model.specs.RowBytes.{rows_bytes, rows_len};
+ghost use Rattle.fine_model.specs.RowBytes.{rows_bytes, rows_len, longest_region};
 ghost use Rattle.fine_model.specs.Merge.{encoded_len};
 ghost use Rattle.fine_model.specs.Regions.{header_of, index_bytes};
 ghost use Rattle.node_record.specs.Keys.{AreKeysOf};
@@ -10,15 +10,15 @@ ghost use Rattle.log_partition.specs.Bodies.{HaveLengths};
 ghost use Rattle.log_partition.specs.Encoding.{saturated, names, IsGreatestOf, greater, is_last, AreRowsAt, HasIndexRoom, IsEncoded, EncodeLaw};
 
 use crate::write_header::header_bytes;
-use fine_model::format::INDEX_ENTRY;
+use fine_model::format::{BODY_START, INDEX_ENTRY};
 use fine_model::{Header, Mark, NoMemory, NodeId, Range, Row, Rows};
 use node_record::{RowAt, row_len};
 use partition_index::Indexer;
 use std::alloc::Global;
 use std::cmp::Ordering;
 
-/// The bytes of a header of mark `FLP2`.
-const FRONT: usize = 40;
+/// The bytes of a header of mark `FLP2`, which stands between the gate and the body.
+const FRONT: usize = BODY_START as usize - 1;
 
 /// How many bytes rows take as a partition of one region: 41, their lengths, and 14 for each node that they name. A sum above the
 /// greatest number of 64 bits counts as that number.
@@ -30,7 +30,7 @@ pub fn encoded_len(rows: &Rows) -> u64
     ensures { result ≡ saturated (encoded_len rows.now) }
 {
     let rows = rows.as_slice();
-    let mut len: u64 = 41;
+    let mut len = BODY_START;
     let mut greatest: Option<NodeId> = None;
     for (i, row) in rows.iter().enumerate() {
         len = len.saturating_add(entry_len(&rows[..i], greatest, row.node));
@@ -46,12 +46,18 @@ fn entry_len(rows: &[Row], greatest: Option<NodeId>, node: NodeId) -> u64
     ensures { result ≡ (if names node rows.now then 0 else 14) }
 {
     let Some(greatest) = greatest else {
-        return 14;
+        return INDEX_ENTRY as u64;
     };
     match greatest.cmp(&node) {
-        Ordering::Less => 14,
+        Ordering::Less => INDEX_ENTRY as u64,
         Ordering::Equal => 0,
-        Ordering::Greater => { if is_named(rows, node) { 0 } else { 14 } }
+        Ordering::Greater => {
+            if is_named(rows, node) {
+                0
+            } else {
+                INDEX_ENTRY as u64
+            }
+        }
     }
 }
 
@@ -102,7 +108,7 @@ pub fn encode(
     region_len: u64,
 ) -> Result<Partition, NoMemory>
     requires rows { (rows : List Row) × AreRowsAt region_len bytes.now keys.now rows }
-    requires region_len { region_len ≤ 67108864 }
+    requires region_len { region_len ≤ longest_region }
     ensures { (rows : List Row) → AreRowsAt region_len bytes.now keys.now rows → IfOk result (IsEncoded region_len range rows) }
 {
     let header = header_for(range, keys);
@@ -116,8 +122,8 @@ pub fn encode(
 
 /// The header of rows that have these keys.
 fn header_for(range: Range, keys: &[RowAt]) -> Header
-    requires { (bytes : List ℕ) × (rows : List Row) × AreRowsAt 67108864 bytes keys.now rows }
-    ensures { (bytes : List ℕ) (rows : List Row) → AreRowsAt 67108864 bytes keys.now rows → result ≡ header_of range rows }
+    requires { (bytes : List ℕ) × (rows : List Row) × AreRowsAt longest_region bytes keys.now rows }
+    ensures { (bytes : List ℕ) (rows : List Row) → AreRowsAt longest_region bytes keys.now rows → result ≡ header_of range rows }
 {
     let mut last = None;
     let mut nodes = 0;
@@ -172,7 +178,7 @@ fn put_rows(out: &mut Vec<u8>, bytes: &[u8], keys: &[RowAt])
 /// Puts the index of rows, for which there is room, behind what stands there.
 fn put_index(out: Vec<u8>, keys: &[RowAt]) -> Vec<u8>
     requires { HasIndexRoom (vec_len out) (vec_capacity out) keys.now }
-    ensures { (bytes : List ℕ) (rows : List Row) → AreRowsAt 67108864 bytes keys.now rows → result.items ≡ out.items ++ index_bytes rows }
+    ensures { (bytes : List ℕ) (rows : List Row) → AreRowsAt longest_region bytes keys.now rows → result.items ≡ out.items ++ index_bytes rows }
 {
     let mut indexer = Indexer::new(out);
     for key in keys {

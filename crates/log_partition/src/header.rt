@@ -2,19 +2,14 @@
 
 ghost use Rattle.std.specs.Prelude.{◌≡◌, ◌+◌, ◌<◌, ◌≤◌, ◌++◌, ℕ, List, Some, Ok, Err, true, is_some, length, drop, take, if◌then◌else◌};
 ghost use Rattle.std.specs.Int.{w32, w64};
-ghost use Rattle.fine_model.specs.Merge.{fits_in};
 ghost use Rattle.fine_model.specs.Regions.{mark_of, number_in, regions_at, more_at, header_at, header_in, bad_field, entry_test, length_tests};
+ghost use Rattle.fine_model.specs.RowBytes.{longest_region};
 ghost use Rattle.log_partition.specs.declared.fault.HeaderFault.TheVariants as fault;
 ghost use Rattle.log_partition.specs.Headers.{failed, first_bad, read, entry_tests, HeaderLaw};
 
 use crate::fault::HeaderFault;
-use fine_model::{Header, Mark, Range};
-
-/// The first byte of a sealed region.
-const SEALED: u8 = 0xa7;
-
-/// The greatest epoch.
-const GREATEST: u64 = 4_611_686_018_427_387_904;
+use fine_model::format::{GREATEST, INDEX_ENTRY, MOST_REGIONS, SEALED_GATE};
+use fine_model::{Header, Mark, Range, fits_in};
 
 /// The mark that four bytes spell.
 fn mark_of(bytes: [u8; 4]) -> Option<Mark>
@@ -117,20 +112,6 @@ fn header_at(bytes: &[u8], mark: Mark) -> Header
     }
 }
 
-/// Whether so many bytes of rows and index entries fit a number of regions.
-fn fits_in(region_len: u64, regions: u8, len: u64) -> bool
-    requires regions { regions ≤ 8 }
-    requires len { len < 68719476736 }
-    requires region_len { (1 ≤ region_len) × (region_len ≤ 67108864) }
-    ensures { result ≡ fits_in region_len regions len }
-{
-    if regions == 1 {
-        41 + len <= region_len
-    } else {
-        70 + len <= region_len + u64::from(regions.saturating_sub(1)) * (region_len - 1)
-    }
-}
-
 /// The test of an entry behind the lead.
 fn is_entry(header: &Header, i: usize, region: u32, regions: u32) -> bool
     requires { i < 7 }
@@ -161,15 +142,15 @@ fn test_lengths(
     regions: u32,
     region_len: u64,
 ) -> Result<(), HeaderFault>
-    requires { (1 ≤ region_len) × (region_len ≤ 67108864) }
+    requires { (1 ≤ region_len) × (region_len ≤ longest_region) }
     ensures { failed result ≡ first_bad (length_tests region_len regions region header.now header.now.mark) }
 {
-    let len = u64::from(header.area) + 14 * u64::from(header.nodes);
+    let len = u64::from(header.area) + INDEX_ENTRY as u64 * u64::from(header.nodes);
     let alike = (header.area == 0) == (header.rows == 0);
     if header.mark != Mark::Three {
         return sure(fits_in(region_len, 1, len) && alike, 37);
     }
-    sure(2 <= header.regions && header.regions <= 8, 41)?;
+    sure(2 <= header.regions && header.regions <= MOST_REGIONS, 41)?;
     let fits = fits_in(region_len, header.regions, len);
     let fits_fewer = fits_in(region_len, header.regions - 1, len);
     sure(fits && !fits_fewer && alike, 37)?;
@@ -188,7 +169,7 @@ fn test_fields(
     requires long { 70 ≤ length bytes.now }
     requires marked { is_some (mark_of (take 4 (drop 1 bytes.now))) ≡ true }
     requires is { header.now ≡ header_at bytes.now }
-    requires region_len { (1 ≤ region_len) × (region_len ≤ 67108864) }
+    requires region_len { (1 ≤ region_len) × (region_len ≤ longest_region) }
     ensures { failed result ≡ bad_field region_len regions region bytes.now }
 {
     sure(number_u64(bytes, 5) == region_len, 5)?;
@@ -213,11 +194,11 @@ pub fn read_header(
 ) -> Result<Option<Header>, HeaderFault>
     requires long { 70 ≤ length bytes.now }
     requires of_disk { region < regions }
-    requires region_len { (1 ≤ region_len) × (region_len ≤ 67108864) }
+    requires region_len { (1 ≤ region_len) × (region_len ≤ longest_region) }
     ensures is { read result ≡ header_in region_len regions region bytes.now }
     ensures whole { (rest : List ℕ) → header_in region_len regions region (bytes.now ++ rest) ≡ read result }
 {
-    if bytes[0] != SEALED {
+    if bytes[0] != SEALED_GATE {
         return Ok(None);
     }
     let Some(mark) = mark_of(field::<4>(bytes, 1)) else {

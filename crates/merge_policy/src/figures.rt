@@ -1,12 +1,12 @@
 //! What a choice between pairs of neighbours goes by: numbers of the disk, and of a pair.
 
 ghost use Rattle.std.specs.Prelude.{◌≡◌, ◌+◌, ◌*◌, ◌<◌, ◌≤◌, find, option_map};
-ghost use Rattle.fine_model.specs.Merge.{fits_in};
-ghost use Rattle.fine_model.specs.Regions.{body_start};
+ghost use Rattle.fine_model.specs.RowBytes.{longest_region};
 ghost use Rattle.merge_policy.specs.Figures.{figures, fits_up_to, frees, is_of, least_len, part_len, unevenness, unused};
 ghost use Rattle.merge_policy.specs.Choices.{rank, serves};
 
-use fine_model::{Mark, Part};
+use fine_model::format::MOST_REGIONS;
+use fine_model::{Part, body_start, fits_in};
 
 /// The regions of a disk, as far as they matter for merging.
 #[derive(Clone, Copy, Debug)]
@@ -66,18 +66,6 @@ fn body_len(area: u32, nodes: u32) -> u64
     u64::from(area) + 14 * u64::from(nodes)
 }
 
-/// Where the body of a partition of a mark begins.
-fn body_start(mark: Mark) -> u64
-    ensures is { result ≡ body_start mark }
-    ensures few { result ≤ 70 }
-    ensures some { 1 ≤ result }
-{
-    match mark {
-        Mark::One | Mark::Two => 41,
-        Mark::Three => 70,
-    }
-}
-
 /// The length of a part, its header included.
 fn part_len(part: &Part) -> u64
     ensures is { result ≡ part_len part.now }
@@ -87,30 +75,14 @@ fn part_len(part: &Part) -> u64
     body_start(part.header.mark) + body_len(part.header.area, part.header.nodes)
 }
 
-/// Whether so many bytes of rows and index entries fit a number of regions.
-fn fits_in(region_len: u64, regions: u32, len: u64) -> bool
-    requires low { 1 ≤ regions }
-    requires high { regions ≤ 8 }
-    requires len { len < 137438953472 }
-    requires short { 1 ≤ region_len }
-    requires long { region_len ≤ 67108864 }
-    ensures { result ≡ fits_in region_len regions len }
-{
-    if regions == 1 {
-        41 + len <= region_len
-    } else {
-        70 + len <= region_len + u64::from(regions - 1) * (region_len - 1)
-    }
-}
-
 /// Whether so many bytes fit at most so many regions, of which a partition has up to eight.
 fn fits_up_to(region_len: u64, most: u32, len: u64) -> bool
     requires len { len < 137438953472 }
     requires short { 1 ≤ region_len }
-    requires long { region_len ≤ 67108864 }
+    requires long { region_len ≤ longest_region }
     ensures { result ≡ fits_up_to region_len most len }
 {
-    1 <= most && fits_in(region_len, most.min(8), len)
+    1 <= most && fits_in(region_len, most.min(u32::from(MOST_REGIONS)) as u8, len)
 }
 
 /// Whether two neighbours were measured.
@@ -167,7 +139,7 @@ impl Pair {
     fn frees(&self, space: Space, len: u64) -> bool
         requires len { len < 137438953472 }
         requires short { 1 ≤ space.region_len }
-        requires long { space.region_len ≤ 67108864 }
+        requires long { space.region_len ≤ longest_region }
         ensures { result ≡ frees space self.now len }
     {
         let most = space.free.min(self.regions.saturating_sub(1));
@@ -179,7 +151,7 @@ impl Pair {
         requires together { self.now.together < 137438953472 }
         requires least { self.now.least < 68719476736 }
         requires short { 1 ≤ space.region_len }
-        requires long { space.region_len ≤ 67108864 }
+        requires long { space.region_len ≤ longest_region }
         ensures { result ≡ serves aim space self.now }
     {
         match aim {
@@ -197,7 +169,7 @@ impl Pair {
         requires some { 1 ≤ self.now.shorter }
         requires shorter { self.now.shorter < 68719476806 }
         requires regions { self.now.regions ≤ 510 }
-        requires long { space.region_len ≤ 67108864 }
+        requires long { space.region_len ≤ longest_region }
         ensures { result ≡ rank aim space self.now }
     {
         match aim {
@@ -220,7 +192,7 @@ impl Pair {
         requires longer { self.now.longer < 68719476806 }
         requires shorter { self.now.shorter < 68719476806 }
         requires regions { self.now.regions ≤ 510 }
-        requires long { space.region_len ≤ 67108864 }
+        requires long { space.region_len ≤ longest_region }
         ensures { result ≡ unused space self.now }
     {
         (space.region_len * u64::from(self.regions)).saturating_sub(self.longer + self.shorter)

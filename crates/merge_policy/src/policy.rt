@@ -3,6 +3,7 @@
 ghost use Rattle.std.specs.Prelude.{◌≡◌, ◌≤◌, ◌++◌, ◌∷◌, [], if◌then◌else◌, true, false, List, IfSome};
 ghost use Rattle.std.specs.List.{AllByRecursion};
 ghost use Rattle.fine_model.specs.declared.Part.{Part as ModelPart};
+ghost use Rattle.fine_model.specs.RowBytes.{longest_region};
 ghost use Rattle.merge_policy.specs.declared.figures.Aim.TheVariants as aim;
 ghost use Rattle.merge_policy.specs.Figures.{fits_up_to, is_short, least_len};
 ghost use Rattle.merge_policy.specs.Choices.{IsOlder, Picks, aims_of, neighbours, question, with_next};
@@ -28,7 +29,7 @@ fn choice_of(
     newer: &Part,
 ) -> Option<Choice>
     requires short { 1 ≤ space.region_len }
-    requires long { space.region_len ≤ 67108864 }
+    requires long { space.region_len ≤ longest_region }
     ensures { result ≡ choice_of (question space known.now) aim (older.now, newer.now) }
 {
     let pair = Pair::new(known, older, newer);
@@ -65,7 +66,7 @@ fn with_pair(
     behind: &[Part],
 ) -> Option<Choice>
     requires short { 1 ≤ space.region_len }
-    requires long { space.region_len ≤ 67108864 }
+    requires long { space.region_len ≤ longest_region }
     ensures { (pairs : List (ModelPart × ModelPart)) → BestSoFar (question space known.now) aim pairs best → BestSoFar (question space known.now) aim (pairs ++ with_next older.now behind.now) result }
 {
     match behind.first() {
@@ -77,7 +78,7 @@ fn with_pair(
 /// The best pair for an aim, where one serves it.
 fn best_for(aim: Aim, space: Space, known: &[Measured], parts: &[Part]) -> Option<Choice>
     requires short { 1 ≤ space.region_len }
-    requires long { space.region_len ≤ 67108864 }
+    requires long { space.region_len ≤ longest_region }
     ensures { BestSoFar (question space known.now) aim (neighbours parts.now) result }
 {
     let mut best = None;
@@ -92,7 +93,7 @@ fn best_for(aim: Aim, space: Space, known: &[Measured], parts: &[Part]) -> Optio
 /// The first epoch of the best pair for an aim.
 fn first_for(aim: Aim, space: Space, known: &[Measured], parts: &[Part]) -> Option<u64>
     requires short { 1 ≤ space.region_len }
-    requires long { space.region_len ≤ 67108864 }
+    requires long { space.region_len ≤ longest_region }
     ensures { PicksFor (question space known.now) aim (neighbours parts.now) result }
 {
     let best = best_for(aim, space, known, parts)?;
@@ -102,7 +103,7 @@ fn first_for(aim: Aim, space: Space, known: &[Measured], parts: &[Part]) -> Opti
 /// What is merged where few regions are free, even or not.
 fn pick_spare(space: Space, known: &[Measured], parts: &[Part]) -> Option<u64>
     requires short { 1 ≤ space.region_len }
-    requires long { space.region_len ≤ 67108864 }
+    requires long { space.region_len ≤ longest_region }
     ensures { Picks (question space known.now) (neighbours parts.now) (if is_short space then aim.Gain ∷ aim.Fit ∷ [] else []) result }
 {
     if space.free >= space.spare {
@@ -117,7 +118,7 @@ fn pick_spare(space: Space, known: &[Measured], parts: &[Part]) -> Option<u64>
 /// What is merged by the aims of a merge.
 fn pick(space: Space, known: &[Measured], parts: &[Part]) -> Option<u64>
     requires short { 1 ≤ space.region_len }
-    requires long { space.region_len ≤ 67108864 }
+    requires long { space.region_len ≤ longest_region }
     ensures { Picks (question space known.now) (neighbours parts.now) (aims_of space) result }
 {
     if !space.is_pressed {
@@ -143,7 +144,7 @@ fn pick(space: Space, known: &[Measured], parts: &[Part]) -> Option<u64>
 /// serves no aim then.
 pub fn next_merge(parts: &[Part], space: Space, known: &[Measured]) -> Option<u64>
     requires short { 1 ≤ space.region_len }
-    requires long { space.region_len ≤ 67108864 }
+    requires long { space.region_len ≤ longest_region }
     ensures policy { Picks (question space known.now) (neighbours parts.now) (aims_of space) result }
     ensures older { IfSome result (IsOlder parts.now) }
     ensures at_ease { space.is_pressed ≡ false → is_short space ≡ false → result ≡ None }

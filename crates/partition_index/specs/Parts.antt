@@ -9,6 +9,7 @@ use Rattle.fine_model.specs.declared.Part.{Part}
 use Rattle.fine_model.specs.Regions.{region_of, body_in}
 use Rattle.fine_model.specs.Merge.{fits_in}
 use Rattle.fine_model.specs.Chain.{regions_of}
+use Rattle.fine_model.specs.RowBytes.{longest_region}
 
 -- how many bytes the rows and the index of a part have
 abbrev pub body_len : Header → ℕ
@@ -22,7 +23,7 @@ is_counted _ regions = regions == 1
 -- A header whose rows and index lie in its regions, of a length that the disk may have.
 pub record LiesIn (region_len : ℕ) (header : Header) : Type 0 where
   pub large : 70 < region_len
-  pub small : region_len ≤ 67108864
+  pub small : region_len ≤ longest_region
   pub listed : length header.more ≡ 7
   pub counted : IsTrue (is_counted header.mark header.regions)
   pub lies : IsTrue (fits_in region_len header.regions (body_len header))

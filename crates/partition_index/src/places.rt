@@ -2,22 +2,12 @@
 
 ghost use Rattle.std.specs.Prelude.{◌≡◌, ◌+◌, ◌<◌, ◌≤◌, Contains, IsErr, length};
 ghost use Rattle.fine_model.specs.Chain.{regions_of};
-ghost use Rattle.fine_model.specs.Regions.{body_start, place_of};
+ghost use Rattle.fine_model.specs.Regions.{place_of};
 ghost use Rattle.partition_index.specs.Parts.{body_len, LiesIn, IsSeen, LooksAt};
 ghost use Rattle.partition_index.specs.Placing.{PlacedLaw, FrontLaw};
 
-use fine_model::{Mark, Part};
+use fine_model::{Part, body_start};
 use log_disk::{Failed, LogEye};
-
-// Where the body starts in a part's lead.
-fn body_start(mark: Mark) -> u64
-    ensures { result ≡ body_start mark }
-{
-    match mark {
-        Mark::Three => 70,
-        _ => 41,
-    }
-}
 
 /// The region that holds a byte of a part's body, and the byte's place in it.
 #[tactic(auto, unfolding(fine_model::specs::Regions::place_of))]

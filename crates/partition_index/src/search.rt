@@ -12,6 +12,7 @@ ghost use Rattle.partition_index.specs.Search.{Searches, IsEntryAt, IsEndOf, IsS
 
 use crate::entries::{IndexEntry, SeekFault, Span, entry_of};
 use crate::places::read_body;
+use fine_model::format::{BUCKETS, INDEX_ENTRY, NODE_NUMBERS};
 use fine_model::{Header, NodeId, Part};
 use log_disk::LogEye;
 use std::cmp::Ordering;
@@ -20,8 +21,8 @@ use std::cmp::Ordering;
 fn may_stand(header: &Header, entry: &IndexEntry) -> bool
     ensures { result ≡ is_entry header.now (model_of entry.now) }
 {
-    entry.node.bucket <= 255
-        && entry.node.number < 1_048_576
+    entry.node.bucket < BUCKETS
+        && entry.node.number < NODE_NUMBERS
         && entry.offset < header.area
         && 1 <= entry.rows
         && entry.rows <= header.rows
@@ -32,7 +33,7 @@ fn entry_place(header: &Header, i: u32) -> u32
     requires { entry_place header.now i < 4294967296 }
     ensures { result ≡ entry_place header.now i }
 {
-    header.area + 14 * i
+    header.area + INDEX_ENTRY as u32 * i
 }
 
 // The entry of a number, if it may stand there.

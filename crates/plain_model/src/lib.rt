@@ -1,5 +1,5 @@
 //! A plain, slow program beside the definitions: it runs a script on a map in memory, and prints what the definitions say.
-//! It writes no log and has one epoch. Tests of other crates compare with it.
+//! It writes no log and has one epoch.
 #![tactic(auto)]
 
 ghost use Rattle.std.specs.Prelude.{◌≡◌, IfOk};

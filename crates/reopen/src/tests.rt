@@ -4,6 +4,7 @@ ghost use Rattle.std.specs.Prelude.{◌≡◌, ◌<◌, [], IfOk};
 ghost use Rattle.epoch_room.specs.Whole.{IsIdle};
 
 use super::{OpenFault, open_log, read_chain};
+use epoch_room::{EraseFault, Room, RoomFault};
 use fine_model::{Damage, Part};
 use log_disk::{FaultPlan, LogDisk, MemDisk};
 use std::alloc::Global;
@@ -82,7 +83,14 @@ fn sync(disk: MemDisk) -> Result<MemDisk, Fail>
 fn disk_of(alloc: Global, regions: &[Shown; 4]) -> Result<MemDisk, Fail>
     ensures { IfOk result (λ idle. IsIdle idle.disk) }
 {
-    let mut disk = MemDisk::new(alloc, 4, 16384, FaultPlan::none(alloc))?;
+    planned(alloc, regions, FaultPlan::none(alloc))
+}
+
+/// A disk that shows this, whose calls fail by a plan. Filling it takes four writes and a sync, and no read.
+fn planned(alloc: Global, regions: &[Shown; 4], plan: FaultPlan) -> Result<MemDisk, Fail>
+    ensures { IfOk result (λ idle. IsIdle idle.disk) }
+{
+    let mut disk = MemDisk::new(alloc, 4, 16384, plan)?;
     fill(&mut disk, regions)?;
     sync(disk)
 }
@@ -231,6 +239,63 @@ fn tells_what_is_wrong_with_the_chain(rt: HostRuntime) -> Result<(), Fail> {
     ] {
         assert_eq!(rt; found(alloc, &regions)?, Err(Some(damage)));
         assert_eq!(rt; opened(alloc, &regions)?, Err(Some(damage)));
+    }
+    Ok(())
+}
+
+/// What the chain comes to where the read of a number fails: how many parts, or whether it is the disk's fault.
+fn found_with(alloc: Global, failing: u64) -> Result<Result<usize, bool>, Fail> {
+    let mut plan = FaultPlan::none(alloc);
+    plan.reads.push(failing).ok().ok_or("memory")?;
+    let mut disk = planned(alloc, &[Nothing, Epochs(1, 1), Nothing, Epochs(2, 2)], plan)?;
+    match read_chain(alloc, &mut disk) {
+        Ok(chain) => Ok(Ok(chain.parts.len())),
+        Err(fault) => Ok(Err(matches!(fault, OpenFault::Disk))),
+    }
+}
+
+#[test]
+fn reads_each_region_once(rt: HostRuntime) -> Result<(), Fail> {
+    for (failing, found) in [(1, Err(true)), (4, Err(true)), (5, Ok(2))] {
+        assert_eq!(rt; found_with(rt.alloc(), failing)?, found);
+    }
+    Ok(())
+}
+
+/// Erases the first retired part, if there is one.
+fn erase_first(room: &mut Room<MemDisk>) -> Option<Result<(), EraseFault>> {
+    let lead = room.retired(0)?;
+    Some(room.erase(lead))
+}
+
+/// A room with the live parts 2 and 0 and the retired ones 1 and 3, of which a write and a sync fail.
+fn with_retired(alloc: Global, write: u64, sync: u64) -> Result<Room<MemDisk>, Fail> {
+    let regions = [Epochs(3, 3), Epochs(1, 1), Epochs(1, 2), Epochs(2, 2)];
+    let mut plan = FaultPlan::none(alloc);
+    plan.writes.push(write).ok().ok_or("memory")?;
+    plan.syncs.push(sync).ok().ok_or("memory")?;
+    match open_log(alloc, planned(alloc, &regions, plan)?) {
+        Ok(room) => Ok(room),
+        Err((_fault, _disk)) => Err("open")?,
+    }
+}
+
+#[test]
+fn erases_what_is_retired(rt: HostRuntime) -> Result<(), Fail> {
+    let shut = RoomFault::Shut { epoch: 3 };
+    // filling the disk takes four writes and a sync
+    for (write, sync, first, free, rest, all_free) in [
+        (9, 9, Ok(()), 1, Ok(1), 2),
+        (5, 9, Err(EraseFault::Disk), 0, Err(shut), 0),
+        (9, 2, Err(EraseFault::Disk), 0, Err(shut), 0),
+        (6, 9, Ok(()), 1, Err(RoomFault::Disk), 1),
+        (9, 3, Ok(()), 1, Err(RoomFault::Disk), 1),
+    ] {
+        let mut room = with_retired(rt.alloc(), write, sync)?;
+        assert_eq!(rt; erase_first(&mut room), Some(first));
+        assert_eq!(rt; room.counts().free, free);
+        assert_eq!(rt; room.erase_all(), rest);
+        assert_eq!(rt; room.counts().free, all_free);
     }
     Ok(())
 }

@@ -1,9 +1,9 @@
 //! The file of a disk. Each call of the library on it stands here, alone in a function.
 //!
-//! A handle keeps for contracts what its file was asked last and whether that failed, which takes no memory. That the system
+//! A handle keeps notes for contracts of what its file was asked and what it told, which take no memory. That the system
 //! then does what it was asked, and fails only where the device does, no contract can say.
 
-ghost use Rattle.std.specs.Prelude.{◌≡◌, true, false, length, Some, IfOk, OnOk, is_err};
+ghost use Rattle.std.specs.Prelude.{◌≡◌, true, false, length, Some, None, IfOk, IfErr, OnOk, is_err};
 ghost use Rattle.log_disk.specs.declared.file.handle.FileAsk.TheVariants as ask;
 
 use std::fs::{File, Files, OpenOptions};
@@ -30,14 +30,41 @@ pub struct FileCall {
     pub failed: bool,
 }
 
-/// An open file, with the path by which it was opened.
+/// What contracts know of a file: the path by which it was opened, whether its lock is held, its length as it was told last,
+/// its length as it was told or set last, whether it was asked to change, and what it was asked last. Only this module writes them.
+#[derive(Drop)]
+pub struct FileNotes {
+    path: Snapshot<String>,
+    locked: Snapshot<bool>,
+    found: Snapshot<Option<u64>>,
+    len: Snapshot<Option<u64>>,
+    changed: Snapshot<bool>,
+    last: Snapshot<FileCall>,
+}
+
+impl FileNotes {
+    // The file at a path as it is opened.
+    fn opened(path: &String, failed: bool) -> FileNotes
+        ensures path { result.path.value ≡ path.now }
+        ensures fresh { (result.found.value ≡ None) × (result.changed.value ≡ false) }
+        ensures last { result.last.value ≡ record { ask = ask.Open; failed = failed } }
+    {
+        FileNotes {
+            path: Snapshot::of(path),
+            locked: Snapshot::of(&false),
+            found: Snapshot::of(&None),
+            len: Snapshot::of(&None),
+            changed: Snapshot::of(&false),
+            last: Handle::call(FileAsk::Open, failed),
+        }
+    }
+}
+
+/// An open file.
 #[derive(Drop)]
 pub(crate) struct Handle {
     pub(crate) file: File,
-    pub(crate) path: Snapshot<String>,
-    pub(crate) locked: Snapshot<bool>,
-    pub(crate) len: Snapshot<Option<u64>>,
-    pub(crate) last: Snapshot<FileCall>,
+    pub(crate) notes: FileNotes,
 }
 
 impl Handle {
@@ -46,20 +73,23 @@ impl Handle {
         rt: &R,
         path: &String,
         is_own: bool,
-    ) -> io::Result<Handle>
-        ensures path { IfOk result (λ file. file.path.value ≡ path.now) }
-        ensures last { IfOk result (λ file. file.last.value ≡ record { ask = ask.Open; failed = false }) }
+    ) -> Result<Handle, Snapshot<FileNotes>>
+        ensures path { IfOk result (λ file. file.notes.path.value ≡ path.now) }
+        ensures fresh { IfOk result (λ file. (file.notes.found.value ≡ None) × (file.notes.changed.value ≡ false)) }
+        ensures last { IfOk result (λ file. file.notes.last.value ≡ record { ask = ask.Open; failed = false }) }
+        ensures err_path { IfErr result (λ notes. notes.value.path.value ≡ path.now) }
+        ensures err_fresh { IfErr result (λ notes. notes.value.found.value ≡ None) }
+        ensures err_last { IfErr result (λ notes. notes.value.last.value ≡ record { ask = ask.Open; failed = true }) }
     {
         let mut options = OpenOptions::new();
         options.read(true).write(is_own).create(is_own);
-        let file = options.open(rt, path.as_str())?;
-        Ok(Handle {
-            file,
-            path: Snapshot::of(path),
-            locked: Snapshot::of(&false),
-            len: Snapshot::of(&None),
-            last: Handle::call(FileAsk::Open, false),
-        })
+        match options.open(rt, path.as_str()) {
+            Ok(file) => Ok(Handle {
+                file,
+                notes: FileNotes::opened(path, false),
+            }),
+            Err(_) => Err(Snapshot::of(&FileNotes::opened(path, true))),
+        }
     }
 
     /// Opens the file at a path once more, to be read.
@@ -67,92 +97,108 @@ impl Handle {
         &mut self,
         rt: &R,
         path: &String,
-    ) -> io::Result<Handle>
-        ensures opened { IfOk result (λ file. file.path.value ≡ path.now) }
-        ensures last { self.new.last.value ≡ record { ask = ask.Open; failed = is_err result } }
-        ensures locked { self.new.locked ≡ self.old.locked }
-        ensures path { self.new.path ≡ self.old.path }
+    ) -> Result<Handle, Snapshot<FileNotes>>
+        ensures opened { IfOk result (λ file. file.notes.path.value ≡ path.now) }
+        ensures last { self.new.notes.last.value ≡ record { ask = ask.Open; failed = is_err result } }
+        ensures locked { self.new.notes.locked ≡ self.old.notes.locked }
+        ensures path { self.new.notes.path ≡ self.old.notes.path }
     {
         let opened = Handle::open(rt, path, false);
-        self.last = Handle::call(FileAsk::Open, opened.is_err());
+        self.notes.last = Handle::call(FileAsk::Open, opened.is_err());
         opened
     }
 
     /// Takes the exclusive lock, which lasts as long as the handle. It fails where another handle has it, also one of this
     /// process.
     pub(crate) fn lock(&mut self) -> io::Result<()>
-        ensures locked { OnOk result (self.new.locked.value ≡ true) }
-        ensures path { self.new.path ≡ self.old.path }
+        ensures locked { OnOk result (self.new.notes.locked.value ≡ true) }
+        ensures found { self.new.notes.found ≡ self.old.notes.found }
+        ensures changed { self.new.notes.changed ≡ self.old.notes.changed }
+        ensures last { self.new.notes.last.value ≡ record { ask = ask.Lock; failed = is_err result } }
+        ensures path { self.new.notes.path ≡ self.old.notes.path }
     {
         let done = self.file.try_lock();
-        self.last = Handle::call(FileAsk::Lock, done.is_err());
+        self.notes.last = Handle::call(FileAsk::Lock, done.is_err());
         done?;
-        self.locked = Snapshot::of(&true);
+        self.notes.locked = Snapshot::of(&true);
         Ok(())
     }
 
     /// The file's length.
     pub(crate) fn len(&mut self) -> io::Result<u64>
-        ensures len { IfOk result (λ len. self.new.len.value ≡ Some len) }
-        ensures locked { self.new.locked ≡ self.old.locked }
-        ensures path { self.new.path ≡ self.old.path }
+        ensures len { IfOk result (λ len. self.new.notes.len.value ≡ Some len) }
+        ensures found { IfOk result (λ len. self.new.notes.found.value ≡ Some len) }
+        ensures not_found { IfErr result (λ _. self.new.notes.found ≡ self.old.notes.found) }
+        ensures changed { self.new.notes.changed ≡ self.old.notes.changed }
+        ensures last { self.new.notes.last.value ≡ record { ask = ask.Len; failed = is_err result } }
+        ensures locked { self.new.notes.locked ≡ self.old.notes.locked }
+        ensures path { self.new.notes.path ≡ self.old.notes.path }
     {
         let found = self.file.metadata();
-        self.last = Handle::call(FileAsk::Len, found.is_err());
+        self.notes.last = Handle::call(FileAsk::Len, found.is_err());
         let len = found?.len();
-        self.len = Snapshot::of(&Some(len));
+        self.notes.found = Snapshot::of(&Some(len));
+        self.notes.len = Snapshot::of(&Some(len));
         Ok(len)
     }
 
     /// Fills an empty file with zeros up to a length. No other process has the file, and it was found empty last: so no call
     /// cuts or wipes a log.
     pub(crate) fn fill(&mut self, len: u64) -> io::Result<()>
-        requires locked { self.old.locked.value ≡ true }
-        requires is_empty { self.old.len.value ≡ Some 0 }
-        ensures len { OnOk result (self.new.len.value ≡ Some len) }
-        ensures locked { self.new.locked ≡ self.old.locked }
-        ensures path { self.new.path ≡ self.old.path }
+        requires locked { self.old.notes.locked.value ≡ true }
+        requires is_empty { self.old.notes.len.value ≡ Some 0 }
+        ensures len { OnOk result (self.new.notes.len.value ≡ Some len) }
+        ensures found { self.new.notes.found ≡ self.old.notes.found }
+        ensures changed { self.new.notes.changed.value ≡ true }
+        ensures last { self.new.notes.last.value ≡ record { ask = ask.Fill len; failed = is_err result } }
+        ensures locked { self.new.notes.locked ≡ self.old.notes.locked }
+        ensures path { self.new.notes.path ≡ self.old.notes.path }
     {
         let done = self.file.set_len(len);
-        self.last = Handle::call(FileAsk::Fill { len }, done.is_err());
+        self.notes.changed = Snapshot::of(&true);
+        self.notes.last = Handle::call(FileAsk::Fill { len }, done.is_err());
         done?;
-        self.len = Snapshot::of(&Some(len));
+        self.notes.len = Snapshot::of(&Some(len));
         Ok(())
     }
 
     /// Reads the bytes from a place of the file on.
     pub(crate) fn read(&mut self, from: u64, out: &mut [u8]) -> io::Result<()>
-        ensures last { self.new.last.value ≡ record { ask = ask.Read from (length out.old); failed = is_err result } }
-        ensures locked { self.new.locked ≡ self.old.locked }
-        ensures path { self.new.path ≡ self.old.path }
+        ensures last { self.new.notes.last.value ≡ record { ask = ask.Read from (length out.old); failed = is_err result } }
+        ensures locked { self.new.notes.locked ≡ self.old.notes.locked }
+        ensures path { self.new.notes.path ≡ self.old.notes.path }
     {
         let len = out.len();
         let done = self.file.read_exact_at(out, from);
-        self.last = Handle::call(FileAsk::Read { from, len }, done.is_err());
+        self.notes.last = Handle::call(FileAsk::Read { from, len }, done.is_err());
         done
     }
 
     /// Writes bytes from a place of the file on.
     pub(crate) fn write(&mut self, from: u64, bytes: &[u8]) -> io::Result<()>
-        ensures last { self.new.last.value ≡ record { ask = ask.Write from (length bytes.now); failed = is_err result } }
-        ensures locked { self.new.locked ≡ self.old.locked }
-        ensures path { self.new.path ≡ self.old.path }
+        ensures last { self.new.notes.last.value ≡ record { ask = ask.Write from (length bytes.now); failed = is_err result } }
+        ensures changed { self.new.notes.changed.value ≡ true }
+        ensures locked { self.new.notes.locked ≡ self.old.notes.locked }
+        ensures path { self.new.notes.path ≡ self.old.notes.path }
     {
         let len = bytes.len();
         let done = self.file.write_all_at(bytes, from);
-        self.last = Handle::call(FileAsk::Write { from, len }, done.is_err());
+        self.notes.changed = Snapshot::of(&true);
+        self.notes.last = Handle::call(FileAsk::Write { from, len }, done.is_err());
         done
     }
 
     /// Syncs the file with all that the system offers.
     pub(crate) fn sync(&mut self) -> io::Result<()>
-        ensures last { self.new.last.value ≡ record { ask = ask.Sync; failed = is_err result } }
-        ensures len { self.new.len ≡ self.old.len }
-        ensures locked { self.new.locked ≡ self.old.locked }
-        ensures path { self.new.path ≡ self.old.path }
+        ensures last { self.new.notes.last.value ≡ record { ask = ask.Sync; failed = is_err result } }
+        ensures len { self.new.notes.len ≡ self.old.notes.len }
+        ensures found { self.new.notes.found ≡ self.old.notes.found }
+        ensures changed { self.new.notes.changed ≡ self.old.notes.changed }
+        ensures locked { self.new.notes.locked ≡ self.old.notes.locked }
+        ensures path { self.new.notes.path ≡ self.old.notes.path }
     {
         let done = self.file.sync_all();
-        self.last = Handle::call(FileAsk::Sync, done.is_err());
+        self.notes.last = Handle::call(FileAsk::Sync, done.is_err());
         done
     }
 

@@ -69,7 +69,7 @@ fn wrong_length(rt: &HostRuntime, path: &str, region_len: u64) -> Result<Option<
 {
     match FileDisk::make(rt, rt.alloc(), path, 4, region_len) {
         Ok(_) => Ok(None),
-        Err(MakeFault::WrongLength { found }) => Ok(Some(found)),
+        Err(MakeFault::WrongLength { found, .. }) => Ok(Some(found)),
         Err(fault) => Err(fault),
     }
 }
@@ -96,7 +96,7 @@ fn a_file_has_one_disk_at_a_time(rt: HostRuntime) -> Result<(), Fail> {
     for region_len in 8..10u64 {
         let second = FileDisk::make(&rt, alloc, path.as_str(), 4, region_len);
         assert!(rt;
-            matches!(second, Err(MakeFault::Failed)),
+            matches!(second, Err(MakeFault::Failed { .. })),
             "regions of {region_len}"
         );
     }
@@ -110,7 +110,7 @@ fn a_file_has_one_disk_at_a_time(rt: HostRuntime) -> Result<(), Fail> {
 fn no_file_is_made_in_a_missing_folder(rt: HostRuntime) -> Result<(), Fail> {
     let path = fresh_path(&rt, "missing/log")?;
     let absent = FileDisk::make(&rt, rt.alloc(), path.as_str(), 4, 8);
-    assert!(rt; matches!(absent, Err(MakeFault::Failed)));
+    assert!(rt; matches!(absent, Err(MakeFault::Failed { .. })));
     Ok(())
 }
 

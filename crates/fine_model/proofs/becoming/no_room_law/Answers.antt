@@ -1,0 +1,5 @@
+use Rattle.fine_model.proofs.Goings.{stuck_full}
+use Rattle.fine_model.proofs.becoming.no_room_law.Goals as goal
+
+pub returns : goal.returns
+returns c = stuck_full

@@ -1,0 +1,5 @@
+use Rattle.fine_model.proofs.RunDamages.{names_law, stays_fit}
+use Rattle.fine_model.proofs.laws.damage_law.Goals as goal
+
+pub returns : goal.returns
+returns c = record { names = names_law; fit = stays_fit }

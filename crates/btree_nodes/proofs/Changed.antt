@@ -22,6 +22,10 @@ use Rattle.btree_nodes.specs.Changes.{Saves, IsChanged, is_named, Pushes}
 use Rattle.btree_nodes.proofs.Steps.{given_is}
 use Rattle.btree_nodes.proofs.Loads.{same_or_not}
 
+pub of_ok : {A E : Type 0} {P : Type 0} (r : Result A E) → P → OnOk r P
+of_ok (Ok a) p = p
+of_ok (Err e) p = tt
+
 pub on_ok : {A E : Type 0} {P Q : Type 0} (r : Result A E) → (P → Q) → OnOk r P → OnOk r Q
 on_ok (Ok a) f h = f h
 on_ok (Err e) f h = tt

@@ -1,6 +1,7 @@
 pub mod Places
 pub mod Steps
 pub mod Loads
+mod Walked
 pub mod Ways
 pub mod Paths
 pub mod Held

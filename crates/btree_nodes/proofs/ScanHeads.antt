@@ -69,10 +69,11 @@ no_head bucket nodes low high limit (node.Leaf pairs) is = refl
 no_head bucket nodes low high limit (node.Inner seps kids) is = refl
 no_head bucket nodes low high limit node.Broken is = refl
 
-module _ (b : Cache) (low high : List ℕ) (limit root next depth : ℕ) (here : IsCached b 0) (says : SaysHead (given b 0).0 root next depth) where
-  open_head : Opens b.bucket (given b) low high limit root next depth
+module _ (b : Cache) (low high : List ℕ) (limit root next depth : ℕ) (says : SaysHead (given b 0).0 root next depth) where
+  pub open_head : Opens b.bucket (given b) low high limit root next depth
   open_head = (λ i. lt-ltb root next says.below i && le-leb 1 depth says.deep.0 i)
 
+module _ (b : Cache) (low high : List ℕ) (limit root next depth : ℕ) (here : IsCached b 0) (says : SaysHead (given b 0).0 root next depth) where
   from_head : unfit_between b.bucket (given b) low high limit (given b 0).0 ≡ unfit b.bucket (given b) low high limit root next depth
   from_head = ap (unfit_between b.bucket (given b) low high limit) says.is
 
@@ -84,21 +85,21 @@ module _ (b : Cache) (low high : List ℕ) (limit root next depth : ℕ) (here :
   pub found_none : (old : List Pair) → wants b.bucket (given b) low high limit root next depth ≡ false → IsFoundBetween b low high limit old old
   found_none old none = record {
     here = here;
-    fit = from_head ∙ opens_or_not b.bucket (given b) low high limit root next depth open_head none;
+    fit = from_head ∙ opens_or_not b.bucket (given b) low high limit root next depth (open_head b low high limit root next depth says) none;
     behind = sym (append-nil old) ∙ ap (λ (xs : List Pair). old ++ xs) (sym (ap (take limit) pairs_from_head ∙ none_taken low high limit (pairs_met (depth - 1) (given b) low high whole root) none));
   }
 
   pub found_all : (left : ℕ) (old new : List Pair) → wants b.bucket (given b) low high limit root next depth ≡ true → IsScanned b (depth - 1) next low high whole root limit left old new → IsFoundBetween b low high limit old new
   found_all left old new some scan = record {
     here = here;
-    fit = from_head ∙ fit_through b.bucket (given b) low high limit root next depth open_head some left scan.fit;
+    fit = from_head ∙ fit_through b.bucket (given b) low high limit root next depth (open_head b low high limit root next depth says) some left scan.fit;
     behind = scan.taken.is ∙ ap (λ (xs : List Pair). old ++ take limit xs) (sym pairs_from_head);
   }
 
   pub fault_of_scan : (old new : List Pair) (F G : FetchFault → Type 0) → ((f : FetchFault) → F f → G f) → wants b.bucket (given b) low high limit root next depth ≡ true → (e : TreeFault)
       → ScansFrom b (depth - 1) next low high whole root limit old new F (Err e) → OnFault e G (IsFirstUnfitBetween b low high limit) (Unit {0})
   fault_of_scan old new F G on some (Source f) h = on f h
-  fault_of_scan old new F G on some (Unfit id) h = record { of_bucket = h.of_bucket; first = from_head ∙ unfit_at b.bucket (given b) low high limit root next depth open_head some id.number h.first; there = h.there }
+  fault_of_scan old new F G on some (Unfit id) h = record { of_bucket = h.of_bucket; first = from_head ∙ unfit_at b.bucket (given b) low high limit root next depth (open_head b low high limit root next depth says) some id.number h.first; there = h.there }
   fault_of_scan old new F G on some (BucketFull m d) h = h
   fault_of_scan old new F G on some (Number id) h = h
   fault_of_scan old new F G on some NoMemory h = tt

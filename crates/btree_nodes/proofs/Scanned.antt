@@ -235,6 +235,13 @@ module _ (d : Cache) (height next : ℕ) (low high : List ℕ) (at : Step) (plac
     fault_below old new F (Number id) h = h
     fault_below old new F NoMemory h = h
 
+-- no child stands at a place behind all
+pub past_all : (xs : List ℕ) (i : ℕ) → slice_get xs i ≡ None → drop i xs ≡ []
+past_all [] zero e = refl
+past_all [] (suc i) e = refl
+past_all (x ∷ xs) zero e = cc
+past_all (x ∷ xs) (suc i) e = past_all xs i e
+
 module _ (b : Cache) (height next : ℕ) (low high : List ℕ) (at : Step) (place wanted : ℕ) (old : List Pair) where
   pub none_wanted : wanted ≡ 0 → AreScanned b height next low high at place wanted 0 old old
   none_wanted none = subst (λ w. AreScanned b height next low high at place w 0 old old) (sym none) (record {
@@ -249,11 +256,5 @@ module _ (b : Cache) (height next : ℕ) (low high : List ℕ) (at : Step) (plac
         (subst (λ xs. IsTaken wanted wanted old old xs) (sym (between_none low high)) (taken_none wanted old));
   }
     where
-      past : (xs : List ℕ) (i : ℕ) → slice_get xs i ≡ None → drop i xs ≡ []
-      past [] zero e = refl
-      past [] (suc i) e = refl
-      past (x ∷ xs) zero e = cc
-      past (x ∷ xs) (suc i) e = past xs i e
-
       empty : drop place (kids_of (given b at.number).0) ≡ []
-      empty = past (kids_of (given b at.number).0) place none
+      empty = past_all (kids_of (given b at.number).0) place none

@@ -20,7 +20,8 @@ use Rattle.node_cache.specs.Cache.{Cache}
 use Rattle.btree_nodes.specs.declared.fault.TreeFault.{TreeFault}
 use Rattle.btree_nodes.specs.declared.fault.TreeFault.TheVariants.{Source, Unfit, BucketFull, Number, NoMemory}
 use Rattle.node_cache.specs.Given.{Finds, given, IsCached, IsLoaded}
-use Rattle.btree_nodes.specs.Trees.{Serves, Holds, LoadsOnWalk, kids_met, pairs_met, pairs_between}
+use Rattle.btree_nodes.specs.Trees.{Serves, Holds, kids_met, pairs_met, pairs_between}
+use Rattle.btree_nodes.specs.Walks.{LoadsOnWalk}
 use Rattle.btree_nodes.specs.Calls.{Reads, IsFirstUnfitBetween, IsFoundBetween, SoundReading}
 use Rattle.btree_nodes.proofs.OnWalks.{holds_on_walk}
 use Rattle.btree_nodes.proofs.Sound.{cached_of_whole}
@@ -171,7 +172,7 @@ module _ (rows : List Row) (b : Cache) (sound : IsSound rows) (small : b.bucket 
 
 -- what a scan answers on sound rows
 pub scans_soundly : (tells : List Row → Type 0) (finds : Finds) (upper : ℕ) (old new : Cache) (low high : List ℕ) (limit : ℕ) (out out' : List Pair) (F : FetchFault → Type 0) (r : Result (Unit {0}) TreeFault) → old.bucket < 256 → IsLoaded tells finds upper old new
-    → LoadsOnWalk old new low high → Reads (λ done. IsFoundBetween new low high limit out out') F (IsFirstUnfitBetween new low high limit) r
+    → LoadsOnWalk old new low high limit → Reads (λ done. IsFoundBetween new low high limit out out') F (IsFirstUnfitBetween new low high limit) r
     → (rows log : List Row) → Serves tells old rows → Holds old rows log → IsSound (rows ++ log) → SoundReading rows log new (λ done. out' ≡ out ++ take limit (between low high (tree_map (rows ++ log) old.bucket))) r
 scans_soundly tells finds upper old new low high limit out out' F r small loaded on_walk answer rows log serves holds sound = by r answer
   where
@@ -179,7 +180,7 @@ scans_soundly tells finds upper old new low high limit out out' F r small loaded
     small' = subst (λ k. k < 256) (sym loaded.bucket) small
 
     then_holds : Holds new rows log
-    then_holds = holds_on_walk tells finds upper rows log old new low high small sound loaded on_walk serves holds
+    then_holds = holds_on_walk tells finds upper rows log old new low high limit small sound loaded on_walk serves holds
 
     agrees : (n : ℕ) → IsCached new n → (nodes_of (rows ++ log) new.bucket n).0 ≢ node.Broken → given new n ≡ nodes_of (rows ++ log) new.bucket n
     agrees n here fine = then_holds.same n here

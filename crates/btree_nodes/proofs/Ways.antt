@@ -121,7 +121,7 @@ used_first a b nodes key zero number ground first = first
 used_first a b nodes key (suc height) number ground first = absurd (omega arith)
 
 -- one number, and then others
-used_then : (a b c : Cache) (number : ℕ) (rest : List ℕ) → AreUsed a b (number ∷ []) → AreUsed b c rest → AreUsed a c (number ∷ rest)
+pub used_then : (a b c : Cache) (number : ℕ) (rest : List ℕ) → AreUsed a b (number ∷ []) → AreUsed b c rest → AreUsed a c (number ∷ rest)
 used_then a b c number rest first then_rest = then_rest ∙ ap (λ ks. last_used ks rest) first
 
 pub used_step : (a b c : Cache) (key : List ℕ) (height number kid : ℕ) → 0 < height → kid ≡ kid_at (given c number).0 (place_among key (seps_of (given c number).0)) → AreUsed a b (number ∷ [])

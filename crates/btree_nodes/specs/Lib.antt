@@ -2,6 +2,7 @@ pub mod Faults
 pub mod Descent
 pub mod Descends
 pub mod Trees
+pub mod Walks
 pub mod Changes
 pub mod Growths
 pub mod Calls

@@ -12,7 +12,8 @@ use Rattle.btree_nodes.specs.declared.fault.TreeFault.{TreeFault}
 use Rattle.btree_nodes.specs.Faults.{OnFault}
 use Rattle.node_cache.specs.Given.{given, IsCached}
 use Rattle.btree_nodes.specs.Descent.{bound_at, low_of, high_of}
-use Rattle.btree_nodes.specs.Trees.{kids_met, pairs_met, numbers_met}
+use Rattle.btree_nodes.specs.Trees.{kids_met, pairs_met}
+use Rattle.btree_nodes.specs.Walks.{visited_kids, visited_from}
 
 -- a list has more behind
 pub record IsLonger (old new : List Pair) : Type 0 where
@@ -50,10 +51,10 @@ pub record IsChildAt (nodes : ℕ → Content) (at : Step) (place : ℕ) (child 
 abbrev pub rest_bounds : (ℕ → Content) → Step → ℕ → Bounds
 rest_bounds nodes at place = record { low = bound_at nodes (low_of at.number place at.low); high = bound_at nodes at.high }
 
--- the numbers that a scan of these children may meet
-abbrev pub numbers_from : ℕ → (ℕ → Content) → List ℕ → List ℕ → Step → ℕ → List ℕ
-numbers_from height nodes low high at place =
-    kids_met (numbers_met height nodes low high) low high (rest_bounds nodes at place) (drop place (seps_of (nodes at.number).0)) (drop place (kids_of (nodes at.number).0))
+-- the numbers that a scan of these children visits
+abbrev pub visited_of : ℕ → ℕ → (ℕ → Content) → ℕ → List ℕ → List ℕ → Step → ℕ → ℕ → List ℕ
+visited_of height bucket nodes next low high at place wanted =
+    visited_kids (scan_from height bucket nodes next low high) (visited_from height bucket nodes next low high) low high (rest_bounds nodes at place) (drop place (seps_of (nodes at.number).0)) (drop place (kids_of (nodes at.number).0)) wanted
 
 -- the children of a node were scanned from a place on
 pub record AreScanned (b : Cache) (height next : ℕ) (low high : List ℕ) (at : Step) (place wanted left : ℕ) (old new : List Pair) : Type 0 where

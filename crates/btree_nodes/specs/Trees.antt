@@ -84,20 +84,10 @@ pairs_met zero nodes low high bounds number = pairs_of (nodes number).0
 pairs_met (suc height) nodes low high bounds number =
     kids_met (pairs_met height nodes low high) low high bounds (seps_of (nodes number).0) (kids_of (nodes number).0)
 
--- the numbers that are so reached
-unfoldable pub numbers_met : ℕ → (ℕ → Content) → List ℕ → List ℕ → Bounds → ℕ → List ℕ
-numbers_met zero nodes low high bounds number = number ∷ []
-numbers_met (suc height) nodes low high bounds number =
-    number ∷ kids_met (numbers_met height nodes low high) low high bounds (seps_of (nodes number).0) (kids_of (nodes number).0)
-
--- the pairs of a range, and the numbers that a scan of it may meet, from a head down
+-- the pairs of a range, from a head down
 unfoldable pub pairs_between : (ℕ → Content) → List ℕ → List ℕ → Node → List Pair
 pairs_between nodes low high (node.Head root next depth) = between low high (pairs_met (depth - 1) nodes low high whole root)
 pairs_between nodes low high _ = []
-
-abbrev pub numbers_between : (ℕ → Content) → List ℕ → List ℕ → Node → List ℕ
-numbers_between nodes low high (node.Head root next depth) = 0 ∷ numbers_met (depth - 1) nodes low high whole root
-numbers_between nodes low high _ = 0 ∷ []
 
 -- what was loaded is among some numbers
 pub record LoadsAmong (old new : Cache) (numbers : List ℕ) : Type 0 where
@@ -106,10 +96,6 @@ pub record LoadsAmong (old new : Cache) (numbers : List ℕ) : Type 0 where
 -- what was loaded lies on the way to a key
 abbrev pub LoadsOnWay : Cache → Cache → List ℕ → Type 0
 LoadsOnWay old new key = LoadsAmong old new (way_in new key)
-
--- what was loaded is what a scan of a range may meet
-abbrev pub LoadsOnWalk : Cache → Cache → List ℕ → List ℕ → Type 0
-LoadsOnWalk old new low high = LoadsAmong old new (numbers_between (given new) low high (given new 0).0)
 
 -- ---- rows
 

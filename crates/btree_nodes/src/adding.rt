@@ -16,10 +16,9 @@ use crate::change::{next_version, push_row};
 use crate::fault::TreeFault;
 use crate::insertion::put_at;
 use crate::leaf::value_in;
-use crate::removal::bytes_of;
 use crate::tree::{Path, find_leaf};
 use fine_model::{NodeId, Rec, Reply, Row, number_of, number_text};
-use node_cache::{Bucket, NodeSource};
+use node_cache::{Bucket, NodeSource, bytes_of};
 use private_log::PrivateLog;
 use std::alloc::Global;
 

@@ -19,6 +19,7 @@ ghost use Rattle.btree_nodes.specs.Descent.{bound_at, bounds_by, low_of, high_of
 use crate::fault::TreeFault;
 use fine_model::{Bytes, Keys, Kids, Node, NodeId, Pairs, bucket_of};
 use node_cache::{Bucket, NodeSource};
+use node_record::is_below;
 
 /// The place of a separator in a cached node. It is the bound of a subtree.
 #[derive(Clone, Copy, Debug)]
@@ -33,13 +34,6 @@ pub struct Step {
     pub number: u32,
     pub low: Option<Sep>,
     pub high: Option<Sep>,
-}
-
-/// Whether `a` stands before `b` in byte order.
-pub fn is_below(a: &[u8], b: &[u8]) -> bool
-    ensures { result ≡ is_below a.now b.now }
-{
-    a.cmp(b).is_lt()
 }
 
 /// Whether a key lies at a bound or above it.

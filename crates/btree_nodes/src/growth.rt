@@ -11,11 +11,12 @@ ghost use Rattle.node_record.specs.Bounds.{FitsNode};
 ghost use Rattle.node_cache.specs.Given.{given};
 ghost use Rattle.btree_nodes.specs.Growths.{grown_of, split_rows, IsNoInner};
 
-use crate::descent::{is_below, place_among};
+use crate::descent::place_among;
 use crate::leaf::value_of;
-use crate::removal::bytes_of;
+use fine_model::format::MOST_IN_NODE;
 use fine_model::{Bytes, Copied, Items, Keys, Kids, NoMemory, Node, NodeId, Pairs, Rec, Row, Rows};
-use node_cache::Bucket;
+use node_cache::{Bucket, bytes_of};
+use node_record::is_below;
 use std::alloc::Global;
 
 /// Rows that setting a key pushes below a node, the next unused number behind them, and, where the node was split, the separator and
@@ -63,7 +64,8 @@ fn full_leaf<'a>(bucket: &'a Bucket, number: u32, key: &[u8]) -> Option<&'a Pair
     ensures full { MatchOption result ((has (pairs_of (given bucket.now number).0) key.now || nat_lt (length (pairs_of (given bucket.now number).0)) 32) ≡ true) (λ pairs. (pairs.now ≡ pairs_of (given bucket.now number).0) × ((has pairs.now key.now || nat_lt (length pairs.now) 32) ≡ false)) }
 {
     match &bucket.peek(number)?.node {
-        Node::Leaf { pairs } if value_of(pairs, key).is_none() && pairs.len() >= 32 => Some(pairs),
+        Node::Leaf { pairs } if value_of(pairs, key).is_none() && pairs.len() >= MOST_IN_NODE =>
+            Some(pairs),
         _ => None,
     }
 }
@@ -312,7 +314,7 @@ fn grow_inner(
             split: None,
         });
     };
-    if seps.len() < 32 {
+    if seps.len() < MOST_IN_NODE {
         link_whole(of, number, version, rows, next, sep, right)
     } else {
         split_inner(

@@ -1,30 +1,14 @@
 //! Looking into a leaf.
 
-ghost use Rattle.std.specs.Prelude.{◌≡◌, ◌≤◌, IsTrue, IfOk, MatchResult, map, option_copied, length};
+ghost use Rattle.std.specs.Prelude.{◌≡◌, IsTrue, IfOk, map, option_copied};
 ghost use Rattle.fine_model.specs.Map.{get, is_ascending};
 ghost use Rattle.fine_model.specs.Trees.{pairs_of};
 ghost use Rattle.node_record.specs.Bounds.{FitsNode};
-ghost use Rattle.node_record.specs.Places.{StandsAt, BelongsAt};
 ghost use Rattle.node_cache.specs.Given.{given};
 
-use crate::descent::is_below;
 use fine_model::{Bytes, Copied, NoMemory, Node, Pairs};
 use node_cache::Bucket;
-
-/// The place of a pair with the key, or, where there is none, the place where one belongs.
-pub fn find_pair(pairs: &Pairs, key: &[u8]) -> Result<usize, usize>
-    requires { IsTrue (is_ascending (map (λ p. p.0) pairs.now)) }
-    ensures { MatchResult result (λ i. StandsAt (λ p. p.0) key.now pairs.now i) (λ i. BelongsAt (λ p. p.0) key.now pairs.now i) }
-{
-    let i = pairs
-        .as_slice()
-        .partition_point(|pair| is_below(pair.0.as_slice(), key));
-    if i < pairs.len() && !is_below(key, pairs.at(i).0.as_slice()) {
-        Ok(i)
-    } else {
-        Err(i)
-    }
-}
+use node_record::find_pair;
 
 /// The value of a key among pairs in order.
 pub fn value_of<'a>(pairs: &'a Pairs, key: &[u8]) -> Option<&'a Bytes>

@@ -1,6 +1,6 @@
 //! Removing a key from a tree.
 
-ghost use Rattle.std.specs.Prelude.{◌≡◌, ℕ, ◌<◌, ◌≤◌, ◌++◌, [], ◌∷◌, List, IfOk, IfSome, Some, None, is_some};
+ghost use Rattle.std.specs.Prelude.{◌≡◌, ℕ, ◌<◌, ◌≤◌, ◌++◌, [], ◌∷◌, List, IfSome, Some, None, is_some};
 ghost use Rattle.fine_model.specs.declared.Call.TheVariants as call;
 ghost use Rattle.fine_model.specs.declared.Row.{Row as ModelRow};
 ghost use Rattle.fine_model.specs.Map.{has};
@@ -14,17 +14,10 @@ use crate::change::{next_version, push_row};
 use crate::fault::TreeFault;
 use crate::leaf::value_in;
 use crate::tree::{Path, find_leaf};
-use fine_model::{Bytes, Items, NoMemory, NodeId, Rec, Row};
-use node_cache::{Bucket, NodeSource};
+use fine_model::{NodeId, Rec, Row};
+use node_cache::{Bucket, NodeSource, bytes_of};
 use private_log::PrivateLog;
 use std::alloc::Global;
-
-/// The bytes of a slice.
-pub fn bytes_of(alloc: Global, bytes: &[u8]) -> Result<Bytes, NoMemory>
-    ensures { IfOk result (λ copy. copy ≡ bytes.now) }
-{
-    Ok(Items::from_vec(Vec::from_slice(alloc, bytes)?))
-}
 
 /// Removes a key from the leaf in which it belongs. Answers whether it was there.
 fn remove_at(

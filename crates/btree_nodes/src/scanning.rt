@@ -7,19 +7,20 @@ ghost use Rattle.fine_model.specs.Paths.{meets, is_inner, seps_of};
 ghost use Rattle.fine_model.specs.Trees.{kids_of, pairs_of, tree_map, IsSound};
 ghost use Rattle.node_cache.specs.Given.{given, IsCached, IsLoaded};
 ghost use Rattle.btree_nodes.specs.Descent.{bounds_by, low_of, high_of, AreKept};
-ghost use Rattle.btree_nodes.specs.Scans.{IsLonger, IsTaken, IsChildAt, ScansFrom, ScansKids, numbers_from};
+ghost use Rattle.btree_nodes.specs.Scans.{IsLonger, IsTaken, IsChildAt, ScansFrom, ScansKids, visited_of};
 ghost use Rattle.btree_nodes.specs.Calls.{Reads, IsFirstUnfitBetween, IsFoundBetween, OnCleanAnswer, SoundReading};
 ghost use Rattle.btree_nodes.specs.Faults.{OnFault};
-ghost use Rattle.btree_nodes.specs.Trees.{Serves, Holds, numbers_met, LoadsAmong, LoadsOnWalk};
+ghost use Rattle.btree_nodes.specs.Trees.{Serves, Holds, AreUsed, LoadsAmong};
+ghost use Rattle.btree_nodes.specs.Walks.{visited_from, walk_in, LoadsOnWalk};
 
 use crate::descent::{
-    Step, bound, high_bound, is_above, is_below, is_fit_inner, is_leaf_within, is_up_to, low_bound,
-    reach,
+    Step, bound, high_bound, is_above, is_fit_inner, is_leaf_within, is_up_to, low_bound, reach,
 };
 use crate::fault::TreeFault;
 use crate::tree::head_of;
 use fine_model::{Bytes, Copied, NoMemory, Node, NodeId, Pairs};
 use node_cache::{Bucket, NodeSource};
+use node_record::is_below;
 
 /// Whether a child within these bounds holds keys of a range.
 fn meets(low: &[u8], high: &[u8], child_low: Option<&Bytes>, child_high: Option<&Bytes>) -> bool
@@ -175,7 +176,8 @@ fn scan_from<S: NodeSource>(
     ensures later { S.later source.old source.new }
     ensures clean { OnCleanAnswer result (S.clean source.old source.new) }
     ensures loaded { IsLoaded (S.tells source.old) (S.finds source.old) (S.upper source.old) bucket.old bucket.new }
-    ensures on_walk { LoadsAmong bucket.old bucket.new (numbers_met height (given bucket.new) low.now high.now (bounds_by (given bucket.new) at.low at.high) at.number) }
+    ensures on_walk { LoadsAmong bucket.old bucket.new (visited_from height bucket.new.bucket (given bucket.new) next low.now high.now (bounds_by (given bucket.new) at.low at.high) at.number wanted) }
+    ensures used { OnOk result (AreUsed bucket.old bucket.new (visited_from height bucket.new.bucket (given bucket.new) next low.now high.now (bounds_by (given bucket.new) at.low at.high) at.number wanted)) }
     ensures longer { IsLonger out.old out.new }
     ensures way { ScansFrom bucket.new height next low.now high.now (bounds_by (given bucket.new) at.low at.high) at.number wanted out.old out.new (λ failed. S.fails source.old failed source.new) result }
 {
@@ -220,7 +222,8 @@ fn scan_kids<S: NodeSource>(
     ensures later { S.later source.old source.new }
     ensures clean { OnCleanAnswer result (S.clean source.old source.new) }
     ensures loaded { IsLoaded (S.tells source.old) (S.finds source.old) (S.upper source.old) bucket.old bucket.new }
-    ensures on_walk { LoadsAmong bucket.old bucket.new (numbers_from (height - 1) (given bucket.new) low.now high.now at place) }
+    ensures on_walk { LoadsAmong bucket.old bucket.new (visited_of (height - 1) bucket.new.bucket (given bucket.new) next low.now high.now at place wanted) }
+    ensures used { OnOk result (AreUsed bucket.old bucket.new (visited_of (height - 1) bucket.new.bucket (given bucket.new) next low.now high.now at place wanted)) }
     ensures longer { IsLonger out.old out.new }
     ensures way { ScansKids bucket.new (height - 1) next low.now high.now at place wanted out.old out.new (λ failed. S.fails source.old failed source.new) result }
 {
@@ -282,7 +285,8 @@ fn scan_from_head<S: NodeSource>(
     ensures later { S.later source.old source.new }
     ensures clean { OnCleanAnswer result (S.clean source.old source.new) }
     ensures loaded { IsLoaded (S.tells source.old) (S.finds source.old) (S.upper source.old) bucket.old bucket.new }
-    ensures on_walk { LoadsOnWalk bucket.old bucket.new low.now high.now }
+    ensures on_walk { LoadsOnWalk bucket.old bucket.new low.now high.now limit }
+    ensures used { OnOk result (AreUsed bucket.old bucket.new (walk_in bucket.new low.now high.now limit)) }
     ensures longer { IsLonger out.old out.new }
     ensures ok { OnOk result (IsFoundBetween bucket.new low.now high.now limit out.old out.new) }
     ensures err { IfErr result (λ fault. OnFault fault (λ failed. S.fails source.old failed source.new) (IsFirstUnfitBetween bucket.new low.now high.now limit) (Unit {0})) }
@@ -320,7 +324,8 @@ fn scan_tree<S: NodeSource>(
     ensures later { S.later source.old source.new }
     ensures clean { OnCleanAnswer result (S.clean source.old source.new) }
     ensures loaded { IsLoaded (S.tells source.old) (S.finds source.old) (S.upper source.old) bucket.old bucket.new }
-    ensures on_walk { LoadsOnWalk bucket.old bucket.new low.now high.now }
+    ensures on_walk { LoadsOnWalk bucket.old bucket.new low.now high.now limit }
+    ensures used { OnOk result (AreUsed bucket.old bucket.new (walk_in bucket.new low.now high.now limit)) }
     ensures answer { Reads (λ done. IsFoundBetween bucket.new low.now high.now limit out.old out.new) (λ failed. S.fails source.old failed source.new) (IsFirstUnfitBetween bucket.new low.now high.now limit) result }
     ensures same { OnErr result (out.new ≡ out.old) }
 {
@@ -335,10 +340,10 @@ fn scan_tree<S: NodeSource>(
 }
 
 /// Puts copies of the pairs with `low <= key < high` behind those of `out`, in the byte order of their keys, and of these the first
-/// `limit`. It goes from leaf to leaf, from the left, loads the head and then only nodes that may hold keys of the range, and stops
-/// with the last pair that is wanted; where the range is empty or `limit` is 0, it looks at the head alone. It pushes no rows, and
-/// changes nothing but what is loaded and the order of last use; loaded nodes stay. `Unfit` names the first node on its way that breaks
-/// the rules of a tree, each node before its children; on sound rows it never comes. `Source` has what the source answered. With each
+/// `limit`. It visits the head and then, from the left, the nodes that may hold keys of the range, each before its children, up to the
+/// leaf of the last pair that is wanted; where the range is empty or `limit` is 0, the head alone. It loads those that are not cached,
+/// and no others, and with Ok those visited are what was used last, in this order. It changes nothing else. `Unfit` names the first
+/// node on its way that breaks the rules of a tree; on sound rows it never comes. `Source` has what the source answered. With each
 /// fault, `NoMemory` too, `out` is as it was, and what was loaded stays.
 pub fn scan<S: NodeSource>(
     source: &mut S,
@@ -352,7 +357,8 @@ pub fn scan<S: NodeSource>(
     ensures later { S.later source.old source.new }
     ensures clean { OnCleanAnswer result (S.clean source.old source.new) }
     ensures loaded { IsLoaded (S.tells source.old) (S.finds source.old) (S.upper source.old) bucket.old bucket.new }
-    ensures on_walk { LoadsOnWalk bucket.old bucket.new low.now high.now }
+    ensures on_walk { LoadsOnWalk bucket.old bucket.new low.now high.now limit }
+    ensures used { OnOk result (AreUsed bucket.old bucket.new (walk_in bucket.new low.now high.now limit)) }
     ensures answer { Reads (λ done. IsFoundBetween bucket.new low.now high.now limit out.old out.new) (λ failed. S.fails source.old failed source.new) (IsFirstUnfitBetween bucket.new low.now high.now limit) result }
     ensures same { OnErr result (out.new ≡ out.old) }
     ensures sound { (rows log : List ModelRow) → Serves (S.tells source.old) bucket.old rows → Holds bucket.old rows log → IsSound (rows ++ log) → SoundReading rows log bucket.new (λ done. out.new ≡ out.old ++ take limit (between low.now high.now (tree_map (rows ++ log) bucket.old.bucket))) result }

@@ -28,7 +28,7 @@ mod undo;
 
 pub use cached::Cached;
 use original::{Original, keep_whole, restore};
-pub use pairs::find_pair;
+pub use pairs::bytes_of;
 pub use source::NodeSource;
 
 /// The cached nodes of a bucket by number, the least recently used first, and the originals of those that were saved.

@@ -1,41 +1,17 @@
 //! The pairs of a leaf.
 
-ghost use Rattle.std.specs.Prelude.{◌≡◌, ◌<◌, ◌≤◌, ◌||◌, nat_lt, IsTrue, IfOk, IfErr, OnOk, OnErr, Some, option_copied, option_map, MatchResult, is_some, length, map, slice_get};
-ghost use Rattle.fine_model.specs.Map.{get, has, is_ascending, is_below, set, unset};
-ghost use Rattle.node_record.specs.Places.{StandsAt, BelongsAt};
+ghost use Rattle.std.specs.Prelude.{◌≡◌, ◌<◌, ◌≤◌, ◌||◌, nat_lt, IsTrue, IfOk, IfErr, OnOk, OnErr, Some, option_copied, option_map, is_some, length, map, slice_get};
+ghost use Rattle.fine_model.specs.Map.{get, has, is_ascending, set, unset};
 ghost use Rattle.node_cache.specs.Undo.{TakesBack, with_value};
 
 use crate::undo::Step;
+use fine_model::format::MOST_IN_NODE;
 use fine_model::{Bytes, Items, NoMemory, Pairs};
+use node_record::find_pair;
 use std::alloc::Global;
 
-/// The most pairs of a leaf.
-const MOST: usize = 32;
-
-/// Whether `a` stands before `b` in byte order.
-fn is_below(a: &[u8], b: &[u8]) -> bool
-    ensures { result ≡ is_below a.now b.now }
-{
-    a.cmp(b).is_lt()
-}
-
-/// The place of a pair with the key, or, where there is none, the place where one belongs.
-pub fn find_pair(pairs: &Pairs, key: &[u8]) -> Result<usize, usize>
-    requires { IsTrue (is_ascending (map (λ p. p.0) pairs.now)) }
-    ensures { MatchResult result (λ i. StandsAt (λ p. p.0) key.now pairs.now i) (λ i. BelongsAt (λ p. p.0) key.now pairs.now i) }
-{
-    let i = pairs
-        .as_slice()
-        .partition_point(|pair| is_below(pair.0.as_slice(), key));
-    if i < pairs.len() && !is_below(key, pairs.at(i).0.as_slice()) {
-        Ok(i)
-    } else {
-        Err(i)
-    }
-}
-
-/// The bytes of a slice.
-fn bytes_of(alloc: Global, bytes: &[u8]) -> Result<Bytes, NoMemory>
+/// A list of the bytes of a slice. `NoMemory` is the only refusal.
+pub fn bytes_of(alloc: Global, bytes: &[u8]) -> Result<Bytes, NoMemory>
     ensures { IfOk result (λ copy. copy ≡ bytes.now) }
 {
     Ok(Items::from_vec(Vec::from_slice(alloc, bytes)?))
@@ -73,7 +49,7 @@ pub fn set_pair(
             Ok(Some(Step::Replaced { at, value }))
         }
         Err(at) => {
-            if pairs.len() == MOST {
+            if pairs.len() == MOST_IN_NODE {
                 return Ok(None);
             }
             let pair = (bytes_of(alloc, key)?, bytes_of(alloc, value)?);

@@ -10,6 +10,7 @@ ghost use Rattle.node_record.specs.Writing.{Appends};
 pub mod head {
     use crate::fault::RowFault;
     use crate::fields::{byte, child, number_u32, put, sure};
+    use fine_model::format::{GREATEST_DEPTH, NODE_NUMBERS};
     use std::alloc::Global;
 
     #[tactic(auto, unfolding(fine_model::specs::RowBytes::body))]
@@ -42,9 +43,9 @@ pub mod head {
     {
         let (root, at) = child(bytes, start, at)?;
         let (next, at) = number_u32(bytes, start, at)?;
-        sure(2 <= next && next <= 1_048_576, start)?;
+        sure(2 <= next && next <= NODE_NUMBERS, start)?;
         let (depth, at) = byte(bytes, start, at)?;
-        sure(1 <= depth && depth <= 8, start)?;
+        sure(1 <= depth && depth <= GREATEST_DEPTH, start)?;
         Ok(((root, next, depth), at))
     }
 }
@@ -55,6 +56,7 @@ pub mod leaf {
     use crate::fields::{byte, put, put_key, put_value, sure};
     use crate::items::items;
     use crate::places::pairs_ascend;
+    use fine_model::format::MOST_IN_NODE;
     use fine_model::{Bytes, Pairs};
     use std::alloc::Global;
 
@@ -95,7 +97,7 @@ pub mod leaf {
         ensures { Gives (λ x. rec.LeafImage x) bytes.now start result (leaf_at (drop at bytes.now)) }
     {
         let (count, at) = byte(bytes, start, at)?;
-        sure(count <= 32, start)?;
+        sure(count as usize <= MOST_IN_NODE, start)?;
         let (pairs, at) = items::<(Bytes, Bytes)>(alloc, count, bytes, start, at)?;
         sure(pairs_ascend(pairs.as_slice()), start)?;
         Ok((pairs, at))
@@ -108,6 +110,7 @@ pub mod inner {
     use crate::fields::{byte, put, put_key, sure};
     use crate::items::items;
     use crate::places::keys_ascend;
+    use fine_model::format::MOST_IN_NODE;
     use fine_model::{Bytes, Keys, Kids};
     use std::alloc::Global;
 
@@ -150,7 +153,7 @@ pub mod inner {
         ensures { Gives (λ x. rec.InnerImage x.0 x.1) bytes.now start result (inner_at (drop at bytes.now)) }
     {
         let (count, at) = byte(bytes, start, at)?;
-        sure(count <= 32, start)?;
+        sure(count as usize <= MOST_IN_NODE, start)?;
         let (kids, at) = items::<u32>(alloc, count + 1, bytes, start, at)?;
         let (seps, at) = items::<Bytes>(alloc, count, bytes, start, at)?;
         sure(keys_ascend(seps.as_slice()), start)?;

@@ -8,6 +8,7 @@ ghost use Rattle.node_record.specs.Reading.{Gives, text_at, byte_at, number_at, 
 ghost use Rattle.node_record.specs.Writing.{Appends};
 
 use crate::fault::RowFault;
+use fine_model::format::{MOST_IN_KEY, MOST_IN_VALUE, NODE_NUMBERS};
 use fine_model::{Bytes, Items};
 use std::alloc::Global;
 
@@ -138,7 +139,7 @@ pub fn key(alloc: Global, bytes: &[u8], start: usize, at: usize) -> Result<(Byte
     ensures { Gives (λ key. key) bytes.now start result (key_at (drop at bytes.now)) }
 {
     let (len, at) = byte(bytes, start, at)?;
-    sure(1 <= len && len <= 64, start)?;
+    sure(1 <= len && len as usize <= MOST_IN_KEY, start)?;
     text(alloc, bytes, start, at, len as usize)
 }
 
@@ -153,7 +154,7 @@ pub fn value(
     ensures { Gives (λ value. value) bytes.now start result (value_at (drop at bytes.now)) }
 {
     let (len, at) = number_u16(bytes, start, at)?;
-    sure(1 <= len && len <= 256, start)?;
+    sure(1 <= len && len as usize <= MOST_IN_VALUE, start)?;
     text(alloc, bytes, start, at, len as usize)
 }
 
@@ -178,6 +179,6 @@ pub fn child(bytes: &[u8], start: usize, at: usize) -> Result<(u32, usize), RowF
     ensures { Gives (λ child. child) bytes.now start result (child_at (drop at bytes.now)) }
 {
     let (child, at) = number_u32(bytes, start, at)?;
-    sure(1 <= child && child <= 1_048_575, start)?;
+    sure(1 <= child && child < NODE_NUMBERS, start)?;
     Ok((child, at))
 }

@@ -5,6 +5,7 @@ ghost use Rattle.fine_model.specs.declared.Row.{Row};
 ghost use Rattle.node_record.specs.Keys.{IsKeyOf, SortedLaw, StartsAt};
 
 use fine_model::NodeId;
+use fine_model::format::ROW_FRONT;
 
 /// Where a row lies in bytes, and what it is sorted by.
 #[derive(Clone, Copy, Debug, PartialEq, Eq)]
@@ -39,7 +40,7 @@ pub fn front_at(bytes: &[u8], at: u32) -> RowAt
         },
         version: u64::from_be_bytes(part::<8>(bytes, start + 7)),
         at,
-        len: 19 + u32::from_be_bytes(part::<4>(bytes, start + 15)),
+        len: ROW_FRONT as u32 + u32::from_be_bytes(part::<4>(bytes, start + 15)),
     }
 }
 

@@ -6,12 +6,10 @@ ghost use Rattle.fine_model.specs.Nodes.{leaf, linked, added, keys_below};
 ghost use Rattle.fine_model.specs.declared.Node.TheVariants as node;
 ghost use Rattle.node_record.specs.Bounds.{whole_or_broken};
 
-use crate::places::{find_key, find_pair};
+use crate::places::{find_key, find_place};
+use fine_model::format::MOST_IN_NODE;
 use fine_model::{Bytes, Copied, Keys, Kids, NoMemory, Pairs, number_of, number_text};
 use std::alloc::Global;
-
-/// The most entries of a leaf, and the most separators of an inner node.
-const MOST: usize = 32;
 
 /// Sets a pair. Answers whether the pairs are still a leaf; where they are not, they stay as they were.
 #[tactic(auto, unfolding(fine_model::specs::Map::set))]
@@ -21,14 +19,14 @@ pub fn put(pairs: &mut Pairs, key: &Bytes, value: &Bytes) -> Result<bool, NoMemo
     ensures ok { IfOk result (λ whole. whole_or_broken whole (node.Leaf pairs.new) ≡ leaf (set pairs.old key.now value.now)) }
     ensures err { OnErr result (pairs.new ≡ pairs.old) }
 {
-    match find_pair(pairs, key) {
+    match find_place(pairs, key) {
         Ok(i) => {
             let pair = (key.copy()?, value.copy()?);
             let _old = pairs.replace(i, pair);
             Ok(true)
         }
         Err(i) => {
-            if pairs.len() == MOST {
+            if pairs.len() == MOST_IN_NODE {
                 return Ok(false);
             }
             let pair = (key.copy()?, value.copy()?);
@@ -44,7 +42,7 @@ pub fn remove(pairs: &mut Pairs, key: &Bytes)
     requires { IsTrue (is_ascending (map (λ p. p.0) pairs.old)) }
     ensures { pairs.new ≡ unset pairs.old key.now }
 {
-    if let Ok(i) = find_pair(pairs, key) {
+    if let Ok(i) = find_place(pairs, key) {
         let _old = pairs.remove(i);
     }
 }
@@ -54,7 +52,7 @@ pub fn cut_leaf(pairs: &mut Pairs, key: &Bytes)
     requires { IsTrue (is_ascending (map (λ p. p.0) pairs.old)) }
     ensures { pairs.new ≡ pairs_below key.now pairs.old }
 {
-    let i = match find_pair(pairs, key) {
+    let i = match find_place(pairs, key) {
         Ok(i) => i,
         Err(i) => i,
     };
@@ -67,7 +65,7 @@ pub fn add(alloc: Global, pairs: &mut Pairs, key: &Bytes, by: i64) -> Result<boo
     ensures ok { IfOk result (λ whole. whole_or_broken whole (node.Leaf pairs.new) ≡ added pairs.old key.now by (get pairs.old key.now)) }
     ensures err { OnErr result (pairs.new ≡ pairs.old) }
 {
-    let Ok(i) = find_pair(pairs, key) else {
+    let Ok(i) = find_place(pairs, key) else {
         return Ok(false);
     };
     let Some(number) = number_of(pairs.at(i).1.as_slice()) else {
@@ -109,7 +107,7 @@ pub fn link(seps: &mut Keys, kids: &mut Kids, key: &Bytes, child: u32) -> Result
     let Err(i) = find_key(seps, key) else {
         return Ok(false);
     };
-    if seps.len() == MOST {
+    if seps.len() == MOST_IN_NODE {
         return Ok(false);
     }
     let separator = key.copy()?;

@@ -8,10 +8,10 @@ ghost use Rattle.node_record.specs.Places.{StandsAt, BelongsAt};
 use fine_model::{Bytes, Keys, Pairs};
 
 /// Whether `a` stands before `b` in byte order.
-fn is_below(a: &Bytes, b: &Bytes) -> bool
+pub fn is_below(a: &[u8], b: &[u8]) -> bool
     ensures { result ≡ is_below a.now b.now }
 {
-    a.as_slice().cmp(b.as_slice()).is_lt()
+    a.cmp(b).is_lt()
 }
 
 /// Whether the keys of pairs ascend strictly.
@@ -20,7 +20,9 @@ pub fn pairs_ascend(pairs: &[(Bytes, Bytes)]) -> bool
 {
     match pairs {
         [first, rest @ ..] => match rest {
-            [second, ..] => is_below(&first.0, &second.0) && pairs_ascend(rest),
+            [second, ..] => {
+                is_below(first.0.as_slice(), second.0.as_slice()) && pairs_ascend(rest)
+            }
             [] => true,
         },
         [] => true,
@@ -33,7 +35,7 @@ pub fn keys_ascend(keys: &[Bytes]) -> bool
 {
     match keys {
         [first, rest @ ..] => match rest {
-            [second, ..] => is_below(first, second) && keys_ascend(rest),
+            [second, ..] => is_below(first.as_slice(), second.as_slice()) && keys_ascend(rest),
             [] => true,
         },
         [] => true,
@@ -41,18 +43,26 @@ pub fn keys_ascend(keys: &[Bytes]) -> bool
 }
 
 /// The place of a pair with the key, or, where there is none, the place where one belongs.
-pub fn find_pair(pairs: &Pairs, key: &Bytes) -> Result<usize, usize>
+pub fn find_pair(pairs: &Pairs, key: &[u8]) -> Result<usize, usize>
     requires { IsTrue (is_ascending (map (λ p. p.0) pairs.now)) }
     ensures { MatchResult result (λ i. StandsAt (λ p. p.0) key.now pairs.now i) (λ i. BelongsAt (λ p. p.0) key.now pairs.now i) }
 {
     let i = pairs
         .as_slice()
-        .partition_point(|pair| is_below(&pair.0, key));
-    if i < pairs.len() && !is_below(key, &pairs.at(i).0) {
+        .partition_point(|pair| is_below(pair.0.as_slice(), key));
+    if i < pairs.len() && !is_below(key, pairs.at(i).0.as_slice()) {
         Ok(i)
     } else {
         Err(i)
     }
+}
+
+/// The same for a key that is held as a list.
+pub fn find_place(pairs: &Pairs, key: &Bytes) -> Result<usize, usize>
+    requires { IsTrue (is_ascending (map (λ p. p.0) pairs.now)) }
+    ensures { MatchResult result (λ i. StandsAt (λ p. p.0) key.now pairs.now i) (λ i. BelongsAt (λ p. p.0) key.now pairs.now i) }
+{
+    find_pair(pairs, key.as_slice())
 }
 
 /// The place of a key, or, where it is absent, the place where it belongs.
@@ -60,8 +70,10 @@ pub fn find_key(keys: &Keys, key: &Bytes) -> Result<usize, usize>
     requires { IsTrue (is_ascending keys.now) }
     ensures { MatchResult result (λ i. StandsAt (λ k. k) key.now keys.now i) (λ i. BelongsAt (λ k. k) key.now keys.now i) }
 {
-    let i = keys.as_slice().partition_point(|each| is_below(each, key));
-    if i < keys.len() && !is_below(key, keys.at(i)) {
+    let i = keys
+        .as_slice()
+        .partition_point(|each| is_below(each.as_slice(), key.as_slice()));
+    if i < keys.len() && !is_below(key.as_slice(), keys.at(i).as_slice()) {
         Ok(i)
     } else {
         Err(i)

@@ -11,11 +11,9 @@ use crate::bodies::{head, inner, key, leaf, link, pair, plus};
 use crate::fault::RowFault;
 use crate::fields::{byte, number_u16, number_u32, number_u64, put, sure};
 use crate::front::Front;
+use fine_model::format::{BUCKETS, GREATEST, NODE_NUMBERS, ROW_FRONT};
 use fine_model::{Mark, NoMemory, NodeId, Rec, Row};
 use std::alloc::Global;
-
-/// The greatest version.
-const GREATEST: u64 = 4_611_686_018_427_387_904;
 
 /// The kinds of rows, one in each line: its number, its fields, and the form of its body.
 macro_rules! kinds {
@@ -37,7 +35,7 @@ macro_rules! kinds {
 macro_rules! length_of {
     (($rec:expr) $($kind:literal $name:ident { $($field:ident),* } $body:ident;)*) => {
         match $rec {
-            $(Rec::$name { $($field),* } => 19 + $body::len($($field),*),)*
+            $(Rec::$name { $($field),* } => ROW_FRONT as u32 + $body::len($($field),*),)*
         }
     };
 }
@@ -58,7 +56,7 @@ macro_rules! write_to {
     (($out:expr, $row:expr, $len:expr) $($kind:literal $name:ident { $($field:ident),* } $body:ident;)*) => {
         match &$row.rec {
             $(Rec::$name { $($field),* } => {
-                write_front($out, $kind, $row, $len - 19);
+                write_front($out, $kind, $row, $len - ROW_FRONT as u32);
                 $body::write($out, $($field),*);
                 Ok(())
             })*
@@ -126,9 +124,9 @@ fn read_front(bytes: &[u8], start: usize, mark: Mark) -> Result<(Front, usize), 
     let (kind, at) = byte(bytes, start, start)?;
     sure(kind <= last_kind(mark), start)?;
     let (bucket, at) = number_u16(bytes, start, at)?;
-    sure(bucket <= 255, start)?;
+    sure(bucket < BUCKETS, start)?;
     let (number, at) = number_u32(bytes, start, at)?;
-    sure(number <= 1_048_575 && fits_kind(kind, number), start)?;
+    sure(number < NODE_NUMBERS && fits_kind(kind, number), start)?;
     let (version, at) = number_u64(bytes, start, at)?;
     sure(1 <= version && version <= GREATEST, start)?;
     let (len, at) = number_u32(bytes, start, at)?;

@@ -6,11 +6,9 @@ use super::fixtures::{Tree, add, del, put, tree_of};
 use super::splits::{depth_of, put_keys};
 use crate::TreeFault;
 use fine_model::NodeId;
+use fine_model::format::GREATEST;
 use std::alloc::Global;
 use std::test::*;
-
-/// The greatest version.
-const GREATEST: u64 = 4_611_686_018_427_387_904;
 
 /// Puts a row of bucket 64 behind others: kind, bucket, number, version, length of the body, and the body.
 pub fn push(

@@ -1,12 +1,14 @@
 use Rattle.std.proofs.Common.{◌<◌, ◌-◌, sym, ap, subst, ◌∙◌, arith, rules}
 use Rattle.std.proofs.lemmas.Result.{err_from_is_err_and}
 use Rattle.fine_model.specs.Paths.{meets}
+use Rattle.fine_model.specs.Trees.{kids_of}
 use Rattle.node_cache.specs.Given.{given, IsCached}
 use Rattle.btree_nodes.specs.Descent.{bounds_by}
 use Rattle.btree_nodes.specs.Scans.{IsUnfitUnder, IsScanned}
-use Rattle.btree_nodes.proofs.Scanned.{leaf_answer, inner_unfit, kids_answer, inner_stays, none_wanted, none_behind, IsChildOf, child_small, child_stays, child_bounds, scanned_stays, passed_over, scanned_on, fault_below}
+use Rattle.btree_nodes.proofs.Scanned.{leaf_answer, inner_unfit, kids_answer, inner_stays, none_wanted, none_behind, IsChildOf, child_small, child_stays, child_bounds, scanned_stays, passed_over, scanned_on, fault_below, past_all}
+use Rattle.btree_nodes.proofs.Changed.{on_ok, of_ok}
 use Rattle.btree_nodes.proofs.Loads.{loaded_then}
-use Rattle.btree_nodes.proofs.OnWalks.{numbers_first, numbers_step, walk_past, walk_first, walk_on}
+use Rattle.btree_nodes.proofs.OnWalks.{first_among, leaf_used, inner_among, inner_used, none_used, behind_used, past_among, past_used, part_among, on_among, on_used}
 use Rattle.btree_nodes.proofs.Ways.{kept_stays}
 use Rattle.btree_nodes.proofs.scanning.+scan.Goals as goal
 
@@ -104,48 +106,109 @@ scan_kids-returns-clause-loaded g t c =
     loaded_then _ _ _ _ _ _ _ c.scan_from.new.bucket _ (λ rows. g.met.S.NodeSource.later_tells _ _ rows c.scan_from.ensures.later) (λ id found. g.met.S.NodeSource.finds_before _ _ id found c.scan_from.ensures.later) (g.met.S.NodeSource.later_upper _ _ c.scan_from.ensures.later) c.scan_from.ensures.loaded c.scan_kids-2.ensures.loaded
 
 pub scan_from-returns-in_err-reach-clause-on_walk : goal.scan_from-returns-in_err-reach-clause-on_walk
-scan_from-returns-in_err-reach-clause-on_walk g t c = numbers_first _ _ _ _ _ c.args.height _ c.args.at.number c.reach.ensures.among
+scan_from-returns-in_err-reach-clause-on_walk g t c =
+    first_among c.args.low.now c.args.high.now _ c.args.next _ _ c.args.at.number c.args.wanted _ _ c.args.height c.reach.ensures.among
 
 pub scan_from-returns-then-height-eq0-clause-on_walk : goal.scan_from-returns-then-height-eq0-clause-on_walk
-scan_from-returns-then-height-eq0-clause-on_walk g t c = numbers_first _ _ _ _ _ c.args.height _ c.args.at.number c.reach.ensures.among
+scan_from-returns-then-height-eq0-clause-on_walk g t c =
+    first_among c.args.low.now c.args.high.now _ c.args.next _ _ c.args.at.number c.args.wanted _ _ c.args.height c.reach.ensures.among
 
 pub scan_from-returns-then-not-is_inner_within-clause-on_walk : goal.scan_from-returns-then-not-is_inner_within-clause-on_walk
-scan_from-returns-then-not-is_inner_within-clause-on_walk g t c = numbers_first _ _ _ _ _ c.args.height _ c.args.at.number c.reach.ensures.among
+scan_from-returns-then-not-is_inner_within-clause-on_walk g t c =
+    first_among c.args.low.now c.args.high.now _ c.args.next _ _ c.args.at.number c.args.wanted _ _ c.args.height c.reach.ensures.among
+
+pub scan_from-returns-then-height-eq0-clause-used : goal.scan_from-returns-then-height-eq0-clause-used
+scan_from-returns-then-height-eq0-clause-used g t c =
+    let b = c.reach.new.bucket in
+    of_ok c.scan_leaf.result (leaf_used c.args.low.now c.args.high.now b.bucket c.args.next (given b) (bounds_by (given b) c.args.at.low c.args.at.high) c.args.at.number c.args.wanted c.args.bucket.now b c.args.height c.if-height-eq0.true (c.in_ok-reach.ensures).used)
 
 pub scan_from-returns-clause-on_walk : goal.scan_from-returns-clause-on_walk
 scan_from-returns-clause-on_walk g t c =
+    let mid = c.reach.new.bucket in
+    let b = c.scan_kids.new.bucket in
     let above : 0 < c.args.height = omega arith in
-    numbers_step c.args.low.now c.args.high.now c.args.bucket.now c.reach.new.bucket c.scan_kids.new.bucket c.args.height c.args.at above c.reach.ensures.among c.scan_kids.ensures.on_walk
+    let low = kept_stays _ _ _ _ mid c.reach.ensures.loaded c.args.at.low c.requires.low in
+    let high = kept_stays _ _ _ _ mid c.reach.ensures.loaded c.args.at.high c.requires.high in
+    let inner = inner_stays _ _ _ mid b c.scan_kids.ensures.loaded c.args.next c.args.at (c.in_ok-reach.ensures).there low high (sym c.is_inner_within.ensures ∙ c.if-not-is_inner_within.false) in
+    inner_among c.args.low.now c.args.high.now c.args.bucket.now mid b c.args.height c.args.next c.args.at c.args.wanted above inner c.reach.ensures.among c.scan_kids.ensures.on_walk
+
+pub scan_from-returns-clause-used : goal.scan_from-returns-clause-used
+scan_from-returns-clause-used g t c =
+    let mid = c.reach.new.bucket in
+    let b = c.scan_kids.new.bucket in
+    let above : 0 < c.args.height = omega arith in
+    let low = kept_stays _ _ _ _ mid c.reach.ensures.loaded c.args.at.low c.requires.low in
+    let high = kept_stays _ _ _ _ mid c.reach.ensures.loaded c.args.at.high c.requires.high in
+    let inner = inner_stays _ _ _ mid b c.scan_kids.ensures.loaded c.args.next c.args.at (c.in_ok-reach.ensures).there low high (sym c.is_inner_within.ensures ∙ c.if-not-is_inner_within.false) in
+    on_ok c.scan_kids.result (inner_used c.args.low.now c.args.high.now c.args.bucket.now mid b c.args.height c.args.next c.args.at c.args.wanted above inner (c.in_ok-reach.ensures).used) c.scan_kids.ensures.used
+
+pub scan_kids-returns-then-wanted-eq0-clause-used : goal.scan_kids-returns-then-wanted-eq0-clause-used
+scan_kids-returns-then-wanted-eq0-clause-used g t c =
+    none_used c.args.low.now c.args.high.now c.args.bucket.now (c.args.height - 1) c.args.next c.args.at c.args.place c.args.wanted c.if-wanted-eq0.true
+
+pub scan_kids-returns-in_default-clause-used : goal.scan_kids-returns-in_default-clause-used
+scan_kids-returns-in_default-clause-used g t c =
+    behind_used c.args.low.now c.args.high.now c.args.bucket.now (c.args.height - 1) c.args.next c.args.at c.args.place c.args.wanted
+    (past_all (kids_of (given c.args.bucket.now c.args.at.number).0) c.args.place (c.in_default.ensures).child)
 
 pub scan_kids-returns-then-not-child_meets-clause-on_walk : goal.scan_kids-returns-then-not-child_meets-clause-on_walk
 scan_kids-returns-then-not-child_meets-clause-on_walk g t c =
     let b = c.args.bucket.now in
+    let d = c.scan_kids.new.bucket in
     let child = c.in-Some.child in
     let kept = (c.in-Some.ensures).kept in
     let of : IsChildOf b c.args.next c.args.at c.args.place child = record { there = c.requires.there; low = c.requires.low; high = c.requires.high; inner = c.requires.inner; is = (c.in-Some.ensures).child; child_low = kept.0; child_high = kept.1 } in
+    let of_d = child_stays _ _ _ b d c.scan_kids.ensures.loaded c.args.next c.args.at c.args.place child of in
+    let none = ap (meets c.args.low.now c.args.high.now) (child_bounds _ _ _ b d c.scan_kids.ensures.loaded c.args.next c.args.at c.args.place child of) ∙ sym c.child_meets.ensures ∙ c.if-not-child_meets.true in
+    past_among c.args.low.now c.args.high.now d (c.args.height - 1) c.args.next c.args.at c.args.place child of_d c.args.wanted b none c.scan_kids.ensures.on_walk
+
+pub scan_kids-returns-then-not-child_meets-clause-used : goal.scan_kids-returns-then-not-child_meets-clause-used
+scan_kids-returns-then-not-child_meets-clause-used g t c =
+    let b = c.args.bucket.now in
     let d = c.scan_kids.new.bucket in
-    walk_past c.args.low.now c.args.high.now d (c.args.height - 1) c.args.next c.args.at c.args.place child (child_stays _ _ _ b d c.scan_kids.ensures.loaded c.args.next c.args.at c.args.place child of) b c.scan_kids.ensures.on_walk
+    let child = c.in-Some.child in
+    let kept = (c.in-Some.ensures).kept in
+    let of : IsChildOf b c.args.next c.args.at c.args.place child = record { there = c.requires.there; low = c.requires.low; high = c.requires.high; inner = c.requires.inner; is = (c.in-Some.ensures).child; child_low = kept.0; child_high = kept.1 } in
+    let of_d = child_stays _ _ _ b d c.scan_kids.ensures.loaded c.args.next c.args.at c.args.place child of in
+    let none = ap (meets c.args.low.now c.args.high.now) (child_bounds _ _ _ b d c.scan_kids.ensures.loaded c.args.next c.args.at c.args.place child of) ∙ sym c.child_meets.ensures ∙ c.if-not-child_meets.true in
+    on_ok c.scan_kids.result (past_used c.args.low.now c.args.high.now d (c.args.height - 1) c.args.next c.args.at c.args.place child of_d c.args.wanted b none) c.scan_kids.ensures.used
 
 pub scan_kids-returns-in_err-left-clause-on_walk : goal.scan_kids-returns-in_err-left-clause-on_walk
 scan_kids-returns-in_err-left-clause-on_walk g t c =
     let b = c.args.bucket.now in
+    let d = c.scan_from.new.bucket in
     let child = c.in-Some.child in
     let kept = (c.in-Some.ensures).kept in
     let of : IsChildOf b c.args.next c.args.at c.args.place child = record { there = c.requires.there; low = c.requires.low; high = c.requires.high; inner = c.requires.inner; is = (c.in-Some.ensures).child; child_low = kept.0; child_high = kept.1 } in
-    let d = c.scan_from.new.bucket in
     let some = ap (meets c.args.low.now c.args.high.now) (child_bounds _ _ _ b d c.scan_from.ensures.loaded c.args.next c.args.at c.args.place child of) ∙ sym c.child_meets.ensures ∙ c.if-not-child_meets.false in
-    walk_first c.args.low.now c.args.high.now d (c.args.height - 1) c.args.next c.args.at c.args.place child (child_stays _ _ _ b d c.scan_from.ensures.loaded c.args.next c.args.at c.args.place child of) b some c.scan_from.ensures.on_walk
+    part_among c.args.low.now c.args.high.now d (c.args.height - 1) c.args.next c.args.at c.args.place child (child_stays _ _ _ b d c.scan_from.ensures.loaded c.args.next c.args.at c.args.place child of) c.args.wanted some c.if-wanted-eq0.false b c.scan_from.ensures.on_walk
 
 pub scan_kids-returns-clause-on_walk : goal.scan_kids-returns-clause-on_walk
 scan_kids-returns-clause-on_walk g t c =
     let b = c.args.bucket.now in
+    let mid = c.scan_from.new.bucket in
+    let d = c.scan_kids-2.new.bucket in
     let child = c.in-Some.child in
     let kept = (c.in-Some.ensures).kept in
     let of : IsChildOf b c.args.next c.args.at c.args.place child = record { there = c.requires.there; low = c.requires.low; high = c.requires.high; inner = c.requires.inner; is = (c.in-Some.ensures).child; child_low = kept.0; child_high = kept.1 } in
-    let mid = c.scan_from.new.bucket in
-    let d = c.scan_kids-2.new.bucket in
     let of_mid = child_stays _ _ _ b mid c.scan_from.ensures.loaded c.args.next c.args.at c.args.place child of in
     let of_d = child_stays _ _ _ mid d c.scan_kids-2.ensures.loaded c.args.next c.args.at c.args.place child of_mid in
     let bounds = child_bounds _ _ _ mid d c.scan_kids-2.ensures.loaded c.args.next c.args.at c.args.place child of_mid in
     let some = ap (meets c.args.low.now c.args.high.now) (bounds ∙ child_bounds _ _ _ b mid c.scan_from.ensures.loaded c.args.next c.args.at c.args.place child of) ∙ sym c.child_meets.ensures ∙ c.if-not-child_meets.false in
-    walk_on c.args.low.now c.args.high.now d (c.args.height - 1) c.args.next c.args.at c.args.place child of_d _ _ _ b mid c.scan_kids-2.ensures.loaded some bounds c.scan_from.ensures.on_walk c.scan_kids-2.ensures.on_walk
+    on_among c.args.low.now c.args.high.now d (c.args.height - 1) c.args.next c.args.at c.args.place child of_d c.args.wanted some c.if-wanted-eq0.false _ _ _ b mid c.scan_kids-2.ensures.loaded
+    c.in_ok-left.left bounds ((c.in_ok-left.ensures).way).fit c.scan_from.ensures.on_walk c.scan_kids-2.ensures.on_walk
+
+pub scan_kids-returns-clause-used : goal.scan_kids-returns-clause-used
+scan_kids-returns-clause-used g t c =
+    let b = c.args.bucket.now in
+    let mid = c.scan_from.new.bucket in
+    let d = c.scan_kids-2.new.bucket in
+    let child = c.in-Some.child in
+    let kept = (c.in-Some.ensures).kept in
+    let of : IsChildOf b c.args.next c.args.at c.args.place child = record { there = c.requires.there; low = c.requires.low; high = c.requires.high; inner = c.requires.inner; is = (c.in-Some.ensures).child; child_low = kept.0; child_high = kept.1 } in
+    let of_mid = child_stays _ _ _ b mid c.scan_from.ensures.loaded c.args.next c.args.at c.args.place child of in
+    let of_d = child_stays _ _ _ mid d c.scan_kids-2.ensures.loaded c.args.next c.args.at c.args.place child of_mid in
+    let bounds = child_bounds _ _ _ mid d c.scan_kids-2.ensures.loaded c.args.next c.args.at c.args.place child of_mid in
+    let some = ap (meets c.args.low.now c.args.high.now) (bounds ∙ child_bounds _ _ _ b mid c.scan_from.ensures.loaded c.args.next c.args.at c.args.place child of) ∙ sym c.child_meets.ensures ∙ c.if-not-child_meets.false in
+    on_ok c.scan_kids-2.result (on_used c.args.low.now c.args.high.now d (c.args.height - 1) c.args.next c.args.at c.args.place child of_d c.args.wanted some c.if-wanted-eq0.false _ _ _ b mid c.scan_kids-2.ensures.loaded
+    c.in_ok-left.left bounds ((c.in_ok-left.ensures).way).fit (c.in_ok-left.ensures).used) c.scan_kids-2.ensures.used

@@ -7,10 +7,10 @@ use Rattle.node_cache.specs.Undo.{with_value}
 use Rattle.node_cache.proofs.PairSteps.{has_it, has_not, set_value_there, set_within, set_again, set_absent, length-insert_one}
 use Rattle.node_cache.proofs.pairs.set_pair.Goals as goal
 
-pub returns-then-len-eq-MOST-clause-done : goal.returns-then-len-eq-MOST-clause-done
-returns-then-len-eq-MOST-clause-done c =
+pub returns-then-len-eq-MOST_IN_NODE-clause-done : goal.returns-then-len-eq-MOST_IN_NODE-clause-done
+returns-then-len-eq-MOST_IN_NODE-clause-done c =
     let ps = c.args.pairs.now in
-    let full : nat_lt (length ps) 32 ≡ false = le-ltb (length ps) 32 (omega (arith, c.len.ensures, c.if-len-eq-MOST.true)) in
+    let full : nat_lt (length ps) 32 ≡ false = le-ltb (length ps) 32 (omega (arith, c.len.ensures, c.if-len-eq-MOST_IN_NODE.true)) in
     sym (ap (λ b. b || nat_lt (length ps) 32) (has_not ps c.args.key.now c.in-Err.at c.in-Err.ensures) ∙ full)
 
 pub returns-in_ok-value-in-Ok-clause-done : goal.returns-in_ok-value-in-Ok-clause-done

@@ -22,3 +22,4 @@ pub mod Troubles
 pub mod Handed
 pub mod Loading
 pub mod Counting
+pub mod Holding

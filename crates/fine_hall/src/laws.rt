@@ -2,6 +2,7 @@
 
 ghost use Rattle.fine_hall.specs.EngineLaws.{FrontLaw, UsedStays, UsedItself, UsedOn, SinceLaw, SinceTurn, GivesLaw, StuckLaw, StuckWithin, HandedLaw, HandedIdle, LoadLaw, TroublesLaw, SeesLaw};
 ghost use Rattle.fine_hall.specs.EpochLaws.{CountsMore, CountsSealed, CountsStay, CountsAll, EpochsLater, NodesLater, BucketsLater};
+ghost use Rattle.fine_hall.specs.HeldLaws.{RowsElsewhere, HeldStands, BesideStands};
 ghost use Rattle.fine_hall.specs.declared.law.Beginning.{Beginning};
 
 use fine_model::{BucketLaw, ViewLaw};
@@ -64,6 +65,14 @@ pub fn troubles_law<V: ViewLaw>()
 /// sees more where nothing changed, and where it sees more twice.
 pub fn sees_law<V: ViewLaw>()
     ensures law { SeesLaw V.state }
+{}
+
+/// What others commit has no row in a bucket that a pass holds. So the bucket stands once the pass saw more, and also with an entry more
+/// that is not in it.
+pub fn held_law<B: BucketLaw, V: ViewLaw>()
+    ensures rows { RowsElsewhere V.row.Denot }
+    ensures stands { HeldStands B.bucket B.cached B.is_settled V.row.Denot }
+    ensures beside { BesideStands B.bucket B.cached B.is_settled }
 {}
 
 /// What a front that is not behind the published number leaves in each node that a bucket of the hall does not cache is what the whole

@@ -15,8 +15,8 @@ mod turn;
 pub use hall::{Hall, HallTable};
 pub use law::{Beginning, HallLaw, Load, Start};
 pub use laws::{
-    counts_law, front_law, gives_law, handed_law, later_law, load_law, sees_law, since_law,
-    stuck_law, troubles_law,
+    counts_law, front_law, gives_law, handed_law, held_law, later_law, load_law, sees_law,
+    since_law, stuck_law, troubles_law,
 };
 pub use pass::{Conflict, Pass};
 pub use turn::Turn;

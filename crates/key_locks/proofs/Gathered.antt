@@ -9,10 +9,9 @@ use Rattle.fine_hall.specs.declared.law.Beginning.{Beginning}
 use Rattle.fine_hall.specs.declared.pass.Pass.{Pass}
 use Rattle.fine_model.specs.Nodes.{Content}
 use Rattle.fine_model.specs.Buckets.{IsBucketFor}
-use Rattle.fine_model.proofs.Goings.{buckets_on}
 use Rattle.fine_hall.specs.Passes.{known, seen, published, found_held, HasPlace}
 use Rattle.fine_hall.specs.Halls.{Takes, FindsHeld}
-use Rattle.fine_hall.proofs.Bucket.{same_bucket}
+use Rattle.fine_hall.proofs.Holding.{held_stands}
 use Rattle.fine_hall.proofs.Seeing.{sees_itself, sees_on}
 use Rattle.key_locks.specs.Locks.{HasLock, LacksLock, AreLocksOf, AllStand, Gathers, HasAllBelow, StayFrom, StopsAt, StandLaw}
 use Rattle.key_locks.proofs.Held.{near, far, not_both, has_place, get_same, get_else, below_room, views_none, views_more, views_taken}
@@ -24,8 +23,7 @@ module _ {V B : Type 0} (bucket : B → ℕ) (cached : B → ℕ → Option (Con
   -- ---- what is held stands for more
 
   pub stand_on : StandLaw V bucket cached is_settled
-  stand_on x locks p p' are all sees j c low h = buckets_on bucket cached is_settled x.log j (published p) (published p') c (seen p') sees.no_earlier
-      (same_bucket bucket cached is_settled x j (published p) c (seen p) (seen p') (sees.kept j (near j low) (has_place locks p j c low are h)) (all j c low h))
+  stand_on x locks p p' are all sees j c low h = held_stands bucket cached is_settled x p p' j c (near j low) (has_place locks p j c low are h) sees (all j c low h)
 
   module _ (x : Beginning) where
     -- the content of a bucket that was just taken
@@ -82,7 +80,7 @@ module _ {V B : Type 0} (bucket : B → ℕ) (cached : B → ℕ → Option (Con
       stands = λ k d low h. ⊎_elim
           (λ there. ⊎_elim
           (λ before. inl before)
-          (λ here. inr (buckets_on bucket cached is_settled x.log k (published q) (published r) d (seen r) t.sees.no_earlier (same_bucket bucket cached is_settled x k (published q) d (seen q) (seen r) (t.sees.kept k (near k low) (has_place b q k d low mid there)) here)))
+          (λ here. inr (held_stands bucket cached is_settled x q r k d (near k low) (has_place b q k d low mid there) t.sees here))
           (s.stands k d low there))
           (λ here. inr here)
           (t.stands k d low h);

@@ -16,15 +16,15 @@ use Rattle.fine_hall.specs.declared.law.Beginning.{Beginning}
 use Rattle.fine_hall.specs.Turns.{added, commits, is_in, is_some_in, in_bucket, touches_bucket}
 use Rattle.fine_model.specs.Buckets.{IsUpTo, IsBucketFor, node_id}
 
-bool_cases : (b : Bool) → (b ≡ true) ⊎ (b ≡ false)
+pub bool_cases : (b : Bool) → (b ≡ true) ⊎ (b ≡ false)
 bool_cases true = inl refl
 bool_cases false = inr refl
 
-or_right : (a b : Bool) → (a || b) ≡ false → b ≡ false
+pub or_right : (a b : Bool) → (a || b) ≡ false → b ≡ false
 or_right true b e = absurd (true≢false e)
 or_right false b e = e
 
-or_left : (a b : Bool) → (a || b) ≡ false → a ≡ false
+pub or_left : (a b : Bool) → (a || b) ≡ false → a ≡ false
 or_left true b e = absurd (true≢false e)
 or_left false b e = refl
 
@@ -71,7 +71,7 @@ none_on : (id : NodeId) (rows : List Row) → list_any (λ row. row.node.bucket 
 none_on id [] e = refl
 none_on id (row ∷ rows) e = ap (λ b. b || list_any (λ r. is_node id r.node) rows) (not_node id row (or_left (row.node.bucket == id.bucket) _ e)) ∙ none_on id rows (or_right (row.node.bucket == id.bucket) _ e)
 
-no_row_in : (k : ℕ) (entry : Entry) → is_in k entry ≡ false → list_any (λ row. row.node.bucket == k) entry.rows ≡ false
+pub no_row_in : (k : ℕ) (entry : Entry) → is_in k entry ≡ false → list_any (λ row. row.node.bucket == k) entry.rows ≡ false
 unfolding is_in
 no_row_in k entry e = or_right _ (list_any (λ row. row.node.bucket == k) entry.rows) e
 

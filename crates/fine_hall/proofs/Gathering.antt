@@ -1,5 +1,7 @@
 -- How all passes are gathered at the end of a hall, and the slots emptied.
-use Rattle.std.proofs.Common.{◌≡◌, ◌≢◌, ◌⊎◌, ℕ, zero, suc, ◌+◌, ◌-◌, ◌<◌, ◌≤◌, Bool, true, false, get_or, set, min, true≢false, get_or-set_other, List, [], ◌∷◌, ◌++◌, reverse, length, Option, refl, sym, ap, ◌∙◌, subst, inl, inr, ⊎_elim, arith, append_assoc, append-nil, length-append}
+use Rattle.std.proofs.Common.{◌≡◌, ◌≢◌, ◌⊎◌, ℕ, zero, suc, ◌+◌, ◌-◌, ◌<◌, ◌≤◌, Bool, true, false, get_or, set, min, true≢false, get_or-set_other, List, [], ◌∷◌, ◌++◌, reverse, length, Option, refl, sym, ap, ◌∙◌, subst, inl, inr, ⊎_elim, arith, append_assoc, append-nil, length-append, le_refl, le_trans}
+use Rattle.std.specs.Prelude.{max}
+use Rattle.std.proofs.Math.Nat.{le-max_left, le-max_right}
 use Rattle.std.specs.List.{AllByRecursion}
 use Rattle.std.proofs.lemmas.List.{reverse-append}
 use Rattle.std.proofs.lemmas.List.Elements.{filter_map-append}
@@ -18,6 +20,7 @@ use Rattle.fine_places.specs.Telling as telling
 use Rattle.fine_places.proofs.Lists.{decide, all_append}
 use Rattle.fine_boxes.specs.declared.model.Reads.{Reads}
 use Rattle.fine_boxes.specs.Boxes.{both}
+use Rattle.fine_boxes.specs.Lists.{all_map}
 use Rattle.fine_hall.specs.declared.turn.Turn.{Turn}
 use Rattle.fine_hall.specs.declared.law.Beginning.{Beginning}
 use Rattle.fine_hall.specs.declared.law.Load.{Load}
@@ -70,6 +73,7 @@ module _ {V : Type 0} where
     shares = ap (λ (u : Known Beginning Turn). u.shares) (sym (known_is p v e)) ∙ sym (append-nil (known p).shares);
     notes = ap (λ (y : Reads Turn). y.notes) (sym (reads_is p v e)) ∙ sym (append-nil (reads p).notes);
     saw = λ all s f. (saw_turns all p v e s, tt);
+    no_earlier = (subst (λ (u : Known Beginning Turn). u.published ≤ v.places.published) (sym (known_is p v e)) (le_refl v.places.published), tt);
   }
 
   pub gathers_more : (done : List (Pass V)) (p : Pass V) (v w u : PassView) → p.badge.views ≡ w ∷ [] → u ≡ record { places = joined v.places w.places; beside = both v.beside w.beside } → Gathers done v → Gathers (done ++ p ∷ []) u
@@ -78,6 +82,10 @@ module _ {V : Type 0} where
     notes = ap (λ (y : PassView). y.beside.notes) is ∙ ((λ i. g.notes i ++ one.notes i) ∙ sym (flat_map-append (λ (q : Pass V). (reads q).notes) done (p ∷ [])));
     saw = λ all s f. let fs = subst (λ (y : PassView). AllByRecursion (StartsWith all) y.places.fronts) is f in
         all_append (λ q. StartsWith all (turns q)) done (p ∷ []) (g.saw all fs.0 (all_left (StartsWith all) v.places.fronts w.places.fronts fs.1.1).0) (saw_turns all p w e fs.1.0, tt);
+    no_earlier = subst (λ (n : ℕ). AllByRecursion (λ (q : Pass V). (known q).published ≤ n) (done ++ p ∷ [])) (sym (ap (λ (y : PassView). y.places.published) is))
+        (all_append (λ q. (known q).published ≤ max v.places.published w.places.published) done (p ∷ [])
+        (all_map (λ (q : Pass V) le. le_trans le (le-max_left v.places.published w.places.published)) done g.no_earlier)
+        (le_trans one.no_earlier.0 (le-max_right v.places.published w.places.published), tt));
   }
 
   pub fronts_more : (before now next : List V) (done : List (Pass V)) (p : Pass V) → now ≡ before ++ fronts_of done → next ≡ now ++ fronts_of (p ∷ []) → next ≡ before ++ fronts_of (done ++ p ∷ [])

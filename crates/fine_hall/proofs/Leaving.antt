@@ -1,5 +1,5 @@
 -- What is told as a hall ends.
-use Rattle.std.proofs.Common.{◌≡◌, ℕ, suc, ◌+◌, ◌*◌, ◌<◌, ◌≤◌, List, [], ◌∷◌, ◌++◌, reverse, flat_map, map, length, Option, Some, None, refl, sym, ap, ◌∙◌, subst, inl, arith, append_assoc, append-nil, le_refl}
+use Rattle.std.proofs.Common.{◌≡◌, ℕ, suc, ◌+◌, ◌*◌, ◌<◌, ◌≤◌, List, [], ◌∷◌, ◌++◌, reverse, flat_map, map, length, Option, Some, None, refl, sym, ap, ◌∙◌, subst, inl, arith, append_assoc, append-nil, le_refl, le_trans}
 use Rattle.std.specs.Prelude.{IsPermutation}
 use Rattle.std.specs.List.{AllByRecursion, range_with_len}
 use Rattle.std.proofs.lemmas.List.{reverse-reverse, length-map}
@@ -274,6 +274,7 @@ module _ {R B V : Type 0} (state : R → RoomState) (origin : R → Origin) (sta
       all = all;
       lawful = e.lawful;
       published = e.published;
+      no_earlier = of_passes view z x passes done v ok numbers is g (λ p. (known p).published ≤ e.published) (all_map (λ (p : Pass V) le. le_trans le e.no_earlier) done g.no_earlier);
       stood = stands;
       authors = e.authors;
       parts = parts;

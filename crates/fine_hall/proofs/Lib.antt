@@ -17,6 +17,9 @@ pub mod SumsClosing
 pub mod SumsMiddles
 pub mod Boarding
 pub mod Leaving
+pub mod Seeing
 pub mod Troubles
 pub mod Handed
 pub mod Loading
+pub mod Counting
+pub mod Holding

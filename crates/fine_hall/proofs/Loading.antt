@@ -1,4 +1,4 @@
--- What a front leaves in a node of which no row is above the published epoch.
+-- What a front leaves in the nodes of which no row is above the published epoch.
 use Rattle.std.proofs.Common.{◌≡◌, ℕ, suc, ◌<◌, ◌≤◌, nat_le, Bool, true, false, true≢false, ◌||◌, cond, List, [], ◌∷◌, ◌++◌, Option, Some, refl, sym, ap, ◌∙◌, arith}
 use Rattle.std.specs.Prelude.{slice_get, take, All}
 use Rattle.std.specs.List.{list_any}
@@ -68,7 +68,10 @@ same_content p u id first history le legal up =
 
 module _ {B V : Type 0} (bucket : B → ℕ) (cached : B → ℕ → Option (Content × ℕ)) (is_settled : B → Type 0) (view : V → ViewState) where
   pub load_law : LoadLaw bucket cached is_settled view
-  load_law z x p b k n pass ahead stands none e first began =
-      let s = ahead.shows.tells e first began in
-      let same = same_content _ _ (node_id k n) first _ ahead.reaches (pass.lawful.legal e first began) (stands.absent n none) in
-      (s.0, s.1, λ whole. s.2.same (node_id k n) (λ broken. whole (ap (λ (c : Content). c.0) (sym same) ∙ broken)) ∙ same)
+  load_law z x p b k pass ahead stands e first began =
+      let s = ahead.shows.tells e first began in (
+        s.0,
+        s.1,
+        λ n none whole. let same = same_content _ _ (node_id k n) first _ ahead.reaches (pass.lawful.legal e first began) (stands.absent n none) in
+            s.2.same (node_id k n) (λ broken. whole (ap (λ (c : Content). c.0) (sym same) ∙ broken)) ∙ same,
+      )

@@ -185,6 +185,7 @@ module _ {V : Type 0} (view : V → ViewState) (z : TableId) (x : Beginning) (p 
     is_turn = holds_after;
     old_seat = let s = r.place.0 in omega (arith, s, low);
     on_board = r.on_board;
+    within = r.place.1;
     apart = r.apart;
   }
 

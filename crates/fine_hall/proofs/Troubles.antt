@@ -14,6 +14,7 @@ use Rattle.fine_hall.specs.Laws.{AreTurns}
 use Rattle.fine_hall.specs.Passes.{first_given, view_of, known, reads, turns, last_room, given_up, failed, front_of, troubles}
 use Rattle.fine_hall.specs.Halls.{turn_of, SeesMore, Refreshes, FindsStale, UsedFront}
 use Rattle.fine_hall.specs.EngineLaws.{SameTroubles, TroublesLaw, SeesLaw}
+use Rattle.fine_hall.proofs.Seeing.{sees_itself, sees_on}
 use Rattle.fine_hall.proofs.Sums.{failed_of_more, hit}
 use Rattle.fine_hall.proofs.Turning.{keeps_job}
 
@@ -49,6 +50,8 @@ module _ {V : Type 0} (view : V → ViewState) (x : Beginning) where
     same = record {
       takes = λ k t. all_same (failed_seen t.sees) (given_same t.notes) t.front.0;
       stays = λ places views. all_same (failed_same places.same_turns) (given_same (ap (λ y. y.notes) views.reads)) views.front.0;
+      sees = λ s views. all_same (failed_seen s) (given_same (ap (λ y. y.notes) views.reads)) views.front.0;
+      turns_stay = λ still views. all_same (failed_same still) (given_same (ap (λ y. y.notes) views.reads)) views.front.0;
       gives = λ k g. all_same (failed_same g.same_turns) (given_same (ap (λ y. y.notes) g.views.reads)) g.views.front.0;
       reads = λ r. all_same (failed_seen r.sees) (given_same (ap (λ y. y.notes) r.views.reads)) r.views.front.0;
       looks = looked;
@@ -90,4 +93,4 @@ module _ {V : Type 0} (view : V → ViewState) where
   either false x p p' r = (r.sees, r.same_held)
 
   pub sees_law : SeesLaw view
-  sees_law = record { job = seen_job; look = either }
+  sees_law = record { job = seen_job; look = either; itself = sees_itself; on = sees_on }

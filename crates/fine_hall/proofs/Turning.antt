@@ -35,7 +35,7 @@ bool_cases : (b : Bool) → (b ≡ true) ⊎ (b ≡ false)
 bool_cases true = inl refl
 bool_cases false = inr refl
 
-pub nothing_more : (a b : List (Placed Turn)) → a ≡ a ++ b → b ≡ []
+pub nothing_more : {A : Type 0} (a b : List A) → a ≡ a ++ b → b ≡ []
 nothing_more a [] e = refl
 nothing_more a (x ∷ b) e = let n = ap length e ∙ length-append a (x ∷ b) in absurd (omega arith)
 

@@ -20,11 +20,13 @@ module _ {V : Type 0} where
   abbrev pub fronts_of : List (Pass V) → List V
   fronts_of passes = filter_map (λ p. p.front) passes
 
-  -- A seat took over what these passes knew: their numbers and notes, in this order, and what each had seen.
+  -- A seat took over what these passes knew: their numbers and notes, in this order, and what each had seen of the turns and of the
+  -- published number.
   pub record Gathers (passes : List (Pass V)) (v : PassView) : Type 0 where
     pub shares : v.places.shares ≡ flat_map (λ p. (known p).shares) passes
     pub notes : v.beside.notes ≡ flat_map (λ p. (reads p).notes) passes
     pub saw : (all : List (Placed Turn)) → StartsWith all v.places.seen → AllByRecursion (StartsWith all) v.places.fronts → AllByRecursion (λ p. StartsWith all (turns p)) passes
+    pub no_earlier : AllByRecursion (λ p. (known p).published ≤ v.places.published) passes
 
   -- And their fronts came back.
   pub record GathersAll (passes : List (Pass V)) (before after : List V) (v : PassView) : Type 0 where

@@ -179,6 +179,7 @@ module _ {V : Type 0} where
     pub is_turn : IsHolder x p' (posting t (seat - 1) new.buffer new old)
     pub old_seat : old.seat ≡ seat
     pub on_board : slice_get t.board (3 * (seat - 1) + old.buffer) ≡ Some (Some old.eye)
+    pub within : old.buffer < 3
     pub apart : old.buffer ≢ new.buffer
 
   -- The front shows the history so far up to an epoch that is not below the published one.
@@ -295,6 +296,7 @@ pub record Closes {R V : Type 0} (state : R → RoomState) (origin : R → Origi
   pub all : List (Placed Turn)
   pub lawful : AreTurns x all
   pub published : ℕ
+  pub no_earlier : (i : ℕ) (p : Pass V) → get_elem? passes i ≡ some p → (known p).published ≤ published
   pub stood : IsRoomFor state origin stands_for x published room all
   pub authors : All (λ t. (0 < t.seat) × (t.seat ≤ x.seats)) all
   pub parts : (i : ℕ) (p : Pass V) → get_elem? passes i ≡ some p → own_turns p ≡ by_seat p.number all

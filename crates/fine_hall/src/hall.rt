@@ -43,11 +43,10 @@ impl<R: RoomLaw, B: BucketLaw, V: ViewLaw> Hall<R, B, V> {
         (self.table.word_count() - PLACES - 1) as u32
     }
 
-    /// Takes a bucket that the pass does not hold, by one compare-exchange, or says which seat holds it. It never waits, and takes no
-    /// memory.
+    /// Takes a bucket that the pass does not hold, or says which seat holds it. It never waits, and takes no memory.
     ///
-    /// The bucket stands for the whole history so far, which the pass then saw. A conflict comes exactly where the
-    /// compare-exchange of this call found another seat's number, and changes nothing else.
+    /// The bucket stands for the whole history so far, which the pass then saw, and no try found it held. A conflict comes exactly where
+    /// a compare-exchange of this call found another seat's number, the only one that did, and changes nothing else.
     pub fn take_bucket(&self, pass: &mut Pass<V>, bucket: u16) -> Result<B, Conflict>
         requires pass { IsPassOf R.state R.origin V.state self.now pass.old }
         requires free { (bucket < places.room) × LacksPlace pass.old bucket }

@@ -14,6 +14,9 @@ mod turn;
 
 pub use hall::{Hall, HallTable};
 pub use law::{Beginning, HallLaw, Load, Start};
-pub use laws::{front_law, handed_law, load_law, sees_law, since_law, stuck_law, troubles_law};
+pub use laws::{
+    counts_law, front_law, gives_law, handed_law, held_law, later_law, load_law, sees_law,
+    since_law, stuck_law, troubles_law,
+};
 pub use pass::{Conflict, Pass};
 pub use turn::Turn;

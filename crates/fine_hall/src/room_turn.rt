@@ -47,7 +47,7 @@ impl<R: RoomLaw, B: BucketLaw, V: ViewLaw> Hall<R, B, V> {
         }
     }
 
-    /// Takes the room, once no other seat holds it: a turn begins. It may wait, yields between tries, and takes no memory. Nothing says
+    /// Takes the room, once no other seat holds it: a turn begins. It may wait, and takes no memory. Nothing says
     /// that the room is ever had.
     ///
     /// The room stands for the whole history so far, which the pass then saw, and is as it was given back last; its board names the

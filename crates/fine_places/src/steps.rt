@@ -31,8 +31,8 @@ pub type Places<T, X, N, Y, K, L, E> = Table<Option<T>, View<X, N, Y>, K, Rule<L
 /// A seat at the places.
 pub type PlaceSeat<T, X, N, Y> = Seat<Option<T>, View<X, N, Y>>;
 
-/// Takes the thing at a place that the seat does not hold, under one of the seat's numbers, by one compare-exchange. Where
-/// another seat holds the place, the number found is handed back, and nothing changes but that the seat knows it.
+/// Takes the thing at a place that the seat does not hold, under one of the seat's numbers. Where a compare-exchange finds that another
+/// seat holds the place, the number found is handed back, and nothing changes but that the seat knows it.
 pub fn take<T, X, N, Y, K, L: PlaceLaw<T, X, N, Y> + StartLaw<X, K>, E: BesideLaw<T, X, N, Y>>(
     places: &SharedPlaces<T, X, N, Y, K, L, E>,
     seat: &mut PlaceSeat<T, X, N, Y>,

@@ -1,52 +1,29 @@
 -- How buckets are gathered, and that what is held stands for the longer history.
-use Rattle.std.proofs.Common.{inl, inr, ◌≡◌, ◌≢◌, ℕ, ◌+◌, ◌<◌, ◌≤◌, ◌==◌, Bool, true, false, List, [], ◌∷◌, ◌++◌, slice_get, slice_set, Option, Some, None, refl, sym, ap, ◌∙◌, subst, ⊎_elim, arith, append_assoc, append-nil}
-use Rattle.std.proofs.Common.{le_refl, le_trans}
-use Rattle.std.proofs.lemmas.List.Elements.{filter-append}
+use Rattle.std.proofs.Common.{inl, inr, ◌≡◌, ◌≢◌, ℕ, ◌+◌, ◌<◌, ◌≤◌, Bool, true, false, List, ◌++◌, slice_get, slice_set, Option, Some, None, refl, sym, ap, ◌∙◌, subst, ⊎_elim, arith, append-nil}
 use mathlib.Core.Option.{some}
 use lib.ListN.{get_elem?}
-use Rattle.fine_places.specs.declared.model.Placed.{Placed}
 use Rattle.fine_places.specs.History as places
-use Rattle.fine_places.specs.History.{by_seat}
 use Rattle.atomic_table.proofs.Lists.{set_else}
 use Rattle.fine_places.proofs.Lists.{decide}
 use Rattle.fine_hall.specs.declared.law.Beginning.{Beginning}
-use Rattle.fine_hall.specs.declared.turn.Turn.{Turn}
 use Rattle.fine_hall.specs.declared.pass.Pass.{Pass}
 use Rattle.fine_model.specs.Nodes.{Content}
 use Rattle.fine_model.specs.Buckets.{IsBucketFor}
-use Rattle.fine_model.proofs.Goings.{buckets_on}
-use Rattle.fine_hall.specs.Passes.{known, seen, turns, published, found_held, HasPlace}
-use Rattle.fine_hall.specs.Halls.{SeesMore, Takes, FindsHeld}
-use Rattle.fine_hall.proofs.Bucket.{same_bucket}
+use Rattle.fine_hall.specs.Passes.{known, seen, published, found_held, HasPlace}
+use Rattle.fine_hall.specs.Halls.{Takes, FindsHeld}
+use Rattle.fine_hall.proofs.Holding.{held_stands}
+use Rattle.fine_hall.proofs.Seeing.{sees_itself, sees_on}
 use Rattle.key_locks.specs.Locks.{HasLock, LacksLock, AreLocksOf, AllStand, Gathers, HasAllBelow, StayFrom, StopsAt, StandLaw}
 use Rattle.key_locks.proofs.Held.{near, far, not_both, has_place, get_same, get_else, below_room, views_none, views_more, views_taken}
 
 not_held : (held : List Bool) (k : ℕ) → get_elem? held k ≡ some false → get_elem? held k ≡ some true → ⊥
 not_held held k off on = let e : some false ≡ some true = sym off ∙ on in cc
 
--- ---- seeing
-
-module _ {V : Type 0} where
-  pub sees_none : (p : Pass V) → SeesMore p p
-  sees_none p = record { longer = ([], sym (append-nil (turns p)), refl); same_own = refl; kept = λ j low holds. refl; whole = λ holds. refl; no_earlier = le_refl (published p) }
-
-  pub sees_more : (p q r : Pass V) → q.number ≡ p.number → ((k : ℕ) → k < places.room → HasPlace p k → HasPlace q k) → (HasPlace p places.room → HasPlace q places.room) → SeesMore p q → SeesMore q r → SeesMore p r
-  sees_more p q r number still room s t =
-      let m = s.longer in let n = t.longer in
-      record {
-        longer = (m.0 ++ n.0, n.1 ∙ (ap (λ l. l ++ n.0) m.1 ∙ append_assoc (turns p) m.0 n.0), filter-append (λ (u : Placed Turn). u.seat == p.number) m.0 n.0 ∙ (ap (λ l. l ++ by_seat p.number n.0) m.2 ∙ (ap (λ a. by_seat a n.0) (sym number) ∙ n.2)));
-        same_own = t.same_own ∙ s.same_own;
-        kept = λ j low holds. s.kept j low holds ∙ t.kept j low (still j low holds);
-        whole = λ holds. t.whole (room holds) ∙ s.whole holds;
-        no_earlier = le_trans s.no_earlier t.no_earlier;
-      }
-
 module _ {V B : Type 0} (bucket : B → ℕ) (cached : B → ℕ → Option (Content × ℕ)) (is_settled : B → Type 0) where
   -- ---- what is held stands for more
 
   pub stand_on : StandLaw V bucket cached is_settled
-  stand_on x locks p p' are all sees j c low h = buckets_on bucket cached is_settled x.log j (published p) (published p') c (seen p') sees.no_earlier
-      (same_bucket bucket cached is_settled x j (published p) c (seen p) (seen p') (sees.kept j (near j low) (has_place locks p j c low are h)) (all j c low h))
+  stand_on x locks p p' are all sees j c low h = held_stands bucket cached is_settled x p p' j c (near j low) (has_place locks p j c low are h) sees (all j c low h)
 
   module _ (x : Beginning) where
     -- the content of a bucket that was just taken
@@ -68,7 +45,7 @@ module _ {V B : Type 0} (bucket : B → ℕ) (cached : B → ℕ → Option (Con
     -- ---- gathering
 
     pub gathers_none : (locks : List (Option B)) (p : Pass V) → Gathers bucket cached is_settled x.log locks locks p p
-    gathers_none locks p = record { kept = λ k b h. h; stands = λ k b low h. inl h; sees = sees_none p; room = refl; found = refl; views = views_none p }
+    gathers_none locks p = record { kept = λ k b h. h; stands = λ k b low h. inl h; sees = sees_itself p; room = refl; found = refl; views = views_none p }
 
     pub gathers_one : (locks locks' : List (Option B)) (p p' : Pass V) (k : ℕ) (b : B) → k < 256 → LacksLock locks k → locks' ≡ slice_set locks k (Some b) → Takes k p p' → IsBucketFor bucket cached is_settled x.log k (published p') b (seen p')
         → Gathers bucket cached is_settled x.log locks locks' p p'
@@ -91,17 +68,23 @@ module _ {V B : Type 0} (bucket : B → ℕ) (cached : B → ℕ → Option (Con
         (λ a. has_place locks' p' k a.0.0 low are' (g.kept k a.0.0 a.0.1))
         (are k low)
 
+    all_held : (locks locks' : List (Option B)) (p p' : Pass V) → Gathers bucket cached is_settled x.log locks locks' p p' → AreLocksOf locks p → AreLocksOf locks' p' → (k : ℕ) → k ≤ places.room → HasPlace p k → HasPlace p' k
+    all_held locks locks' p p' g are are' k low holds = ⊎_elim
+        (λ (same : k ≡ places.room). subst (HasPlace p') (sym same) (g.room ∙ subst (HasPlace p) same holds))
+        (λ (other : k ≢ places.room). still_holds locks locks' p p' g are are' k (far k (grind (arith, low, other))) holds)
+        (decide k places.room)
+
     pub gathers_more : (a b c : List (Option B)) (p q r : Pass V) → AreLocksOf a p → AreLocksOf b q → q.number ≡ p.number → Gathers bucket cached is_settled x.log a b p q → Gathers bucket cached is_settled x.log b c q r → Gathers bucket cached is_settled x.log a c p r
     gathers_more a b c p q r first mid number s t = record {
       kept = λ k d h. t.kept k d (s.kept k d h);
       stands = λ k d low h. ⊎_elim
           (λ there. ⊎_elim
           (λ before. inl before)
-          (λ here. inr (buckets_on bucket cached is_settled x.log k (published q) (published r) d (seen r) t.sees.no_earlier (same_bucket bucket cached is_settled x k (published q) d (seen q) (seen r) (t.sees.kept k (near k low) (has_place b q k d low mid there)) here)))
+          (λ here. inr (held_stands bucket cached is_settled x q r k d (near k low) (has_place b q k d low mid there) t.sees here))
           (s.stands k d low there))
           (λ here. inr here)
           (t.stands k d low h);
-      sees = sees_more p q r number (λ k low. still_holds a b p q s first mid k (far k low)) (λ holds. s.room ∙ holds) s.sees t.sees;
+      sees = sees_on p q r number (all_held a b p q s first mid) s.sees t.sees;
       room = t.room ∙ s.room;
       found = t.found ∙ s.found;
       views = views_more p q r s.views t.views;

@@ -9,7 +9,7 @@ use Rattle.fine_hall.specs.declared.pass.Pass.{Pass}
 use Rattle.fine_model.specs.Nodes.{Content}
 use Rattle.fine_hall.specs.Turns.{commits}
 use Rattle.fine_model.specs.Buckets.{IsBucketFor}
-use Rattle.fine_hall.specs.Passes.{known, reads, seen, published, HasPlace, LacksPlace}
+use Rattle.fine_hall.specs.Passes.{known, seen, published, HasPlace, LacksPlace}
 use Rattle.fine_hall.specs.Halls.{KeepsPlaces, KeepsViews, Takes, Gives}
 use Rattle.key_locks.specs.Locks.{HasLock, LacksLock, AreLocksOf, AllStand, Releases, HoldLaw}
 

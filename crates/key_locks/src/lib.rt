@@ -96,7 +96,7 @@ impl<B: BucketLaw + Drop> LockSet<B> {
         self.contents[usize::from(bucket)] = Some(content);
     }
 
-    /// Takes a bucket where it is not held yet, by one try.
+    /// Takes a bucket where it is not held yet.
     fn take<R: RoomLaw, V: ViewLaw>(
         &mut self,
         hall: &Hall<R, B, V>,
@@ -122,8 +122,8 @@ impl<B: BucketLaw + Drop> LockSet<B> {
         Ok(())
     }
 
-    /// Takes the bucket of a key of 1 to 64 bytes where it is not held yet, by one try. A conflict comes exactly where this try found
-    /// another seat's number, and leaves the set as it was. It takes no memory.
+    /// Takes the bucket of a key of 1 to 64 bytes where it is not held yet. A conflict comes exactly where a try found another seat's
+    /// number, the only try that did, and leaves the set as it was. It takes no memory.
     ///
     /// Where each content in the set stood for the whole history that the pass saw, it still does.
     pub fn want<R: RoomLaw, V: ViewLaw>(
@@ -143,8 +143,8 @@ impl<B: BucketLaw + Drop> LockSet<B> {
         self.take(hall, pass, bucket_of(key))
     }
 
-    /// Takes all buckets that are not held yet, in ascending order, each by one try. A conflict comes exactly where the last try found
-    /// another seat's number; the buckets below it then stay in the set. It takes no memory.
+    /// Takes all buckets that are not held yet. A conflict at a bucket comes exactly where a try found another seat's number there, the
+    /// only try that found any; all buckets below it are then in the set, and it and those above are as they were. It takes no memory.
     ///
     /// Where each content in the set stood for the whole history that the pass saw, it still does.
     pub fn want_all<R: RoomLaw, V: ViewLaw>(
@@ -194,7 +194,7 @@ impl<B: BucketLaw + Drop> LockSet<B> {
         }
     }
 
-    /// Gives all buckets back, each at most once. It takes no memory.
+    /// Gives all buckets back. It takes no memory.
     ///
     /// Each content stands for the whole history that the pass saw.
     pub fn release_all<R: RoomLaw, V: ViewLaw>(&mut self, hall: &Hall<R, B, V>, pass: &mut Pass<V>)

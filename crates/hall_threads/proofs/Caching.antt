@@ -1,6 +1,7 @@
 -- The bucket of the key goes on standing for the history, with the leaf that an entry leaves.
 use Rattle.std.proofs.Common.{◌≡◌, ◌⊎◌, inl, inr, ℕ, ◌≤◌, ◌==◌, ◌||◌, Bool, true, false, true≢false, List, [], ◌∷◌, ◌++◌, All, Option, Some, None, refl, sym, ap, ◌∙◌, subst, ⊎_elim, le_refl, le_trans, eqb-true}
-use Rattle.std.specs.Prelude.{if◌then◌else◌}
+use Rattle.std.specs.Prelude.{if◌then◌else◌, is_some, not, nat_le, MatchBool, MatchOption}
+use Rattle.std.proofs.lemmas.Bool.Decides.{leb_tells}
 use Rattle.std.proofs.lemmas.List.Elements.{All-head, All-tail}
 use Rattle.fine_places.proofs.Lists.{some_same}
 use Rattle.fine_model.specs.declared.NodeId.{NodeId}
@@ -14,7 +15,7 @@ use Rattle.fine_hall.specs.Turns.{committed, in_bucket}
 use Rattle.fine_hall.proofs.Bucket.{same_bucket}
 use Rattle.hall_threads.specs.declared.things.DayBucket.{DayBucket}
 use Rattle.hall_threads.specs.declared.things.Leaf.{Leaf}
-use Rattle.hall_threads.specs.Days.{key_bucket, leaf_at, put_entry, bucket_number, bucket_cached, cached_leaf, bucket_rests, Evicts}
+use Rattle.hall_threads.specs.Days.{key_bucket, leaf_at, put_entry, leaf_id, bucket_number, bucket_cached, cached_leaf, bucket_rests, Evicts}
 use Rattle.hall_threads.proofs.Putting.{on_leaf}
 
 bool_cases : (b : Bool) → (b ≡ true) ⊎ (b ≡ false)
@@ -79,14 +80,37 @@ up_later a b id (c ∷ history) le up = (λ on. le_trans (up.0 on) le, up_later 
 
 -- a bucket without the leaf, whose last change is of a published epoch
 pub stands_evicted : (x : Beginning) (q : ℕ) (old new : DayBucket) (h : List Commit) → Evicts q old new → Stands x q old h → Stands x q new h
-stands_evicted x q old new h (inl same) s = subst (λ b. Stands x q b h) (sym same) s
-stands_evicted x q old new h (inr (leaf, there, old_enough, is)) s = subst (λ b. Stands x q b h) (sym is) (record {
-  number = s.number;
-  settled = record {};
-  nodes = λ n kept at. absurd (none_some kept at);
-  absent = λ n none. ⊎_elim
-      (λ one. subst (λ m. IsUpTo q (node_id key_bucket m) h) (sym (eqb-true n 1 one))
-      (up_later leaf.epoch q (node_id key_bucket 1) h old_enough (s.nodes 1 (leaf_at leaf.version leaf.value, leaf.epoch) (ap (λ o. cached_leaf o 1) there)).epoch))
-      (λ other. s.absent n (no_other old.leaf n other))
-      (bool_cases (n == 1));
-})
+stands_evicted x q old new h e s = by_leaf old.leaf refl e
+  where
+    gone : (leaf : Leaf) → old.leaf ≡ Some leaf → leaf.epoch ≤ q → new ≡ record { bucket = old.bucket; leaf = None } → Stands x q new h
+    gone leaf there old_enough is = subst (λ b. Stands x q b h) (sym is) (record {
+      number = s.number;
+      settled = record {};
+      nodes = λ n kept at. absurd (none_some kept at);
+      absent = λ n none. ⊎_elim
+          (λ one. subst (λ m. IsUpTo q (node_id key_bucket m) h) (sym (eqb-true n 1 one))
+          (up_later leaf.epoch q (node_id key_bucket 1) h old_enough (s.nodes 1 (leaf_at leaf.version leaf.value, leaf.epoch) (ap (λ o. cached_leaf o 1) there)).epoch))
+          (λ other. s.absent n (no_other old.leaf n other))
+          (bool_cases (n == 1));
+    })
+
+    same : new ≡ old → Stands x q new h
+    same is = subst (λ b. Stands x q b h) (sym is) s
+
+    by_epoch : (leaf : Leaf) → old.leaf ≡ Some leaf → MatchBool (nat_le leaf.epoch q) (new ≡ record { bucket = old.bucket; leaf = None }) (new ≡ old) → Stands x q new h
+    by_epoch leaf there m = ⊎_elim
+        (λ low. gone leaf there low.1 (subst (λ b. MatchBool b (new ≡ record { bucket = old.bucket; leaf = None }) (new ≡ old)) low.0 m))
+        (λ high. same (subst (λ b. MatchBool b (new ≡ record { bucket = old.bucket; leaf = None }) (new ≡ old)) high.0 m))
+        (leb_tells leaf.epoch q)
+
+    by_leaf : (o : Option Leaf) → old.leaf ≡ o → MatchOption o (new ≡ old) (λ leaf. MatchBool (nat_le leaf.epoch q) (new ≡ record { bucket = old.bucket; leaf = None }) (new ≡ old)) → Stands x q new h
+    by_leaf None there m = same m
+    by_leaf (Some leaf) there m = by_epoch leaf there m
+
+-- where no leaf is cached, its last change is of a published epoch
+pub none_cached : (x : Beginning) (q : ℕ) (b : DayBucket) (h : List Commit) (gone : Bool) → is_some b.leaf ≡ not gone → Stands x q b h → gone ≡ true → IsUpTo q leaf_id h
+none_cached x q b h gone is s e = s.absent 1 (ap (λ l. cached_leaf l 1) (none b.leaf (is ∙ ap not e)))
+  where
+    none : (l : Option Leaf) → is_some l ≡ false → l ≡ None
+    none None e = refl
+    none (Some leaf) e = absurd (true≢false e)

@@ -7,8 +7,18 @@ use Rattle.fine_model.specs.declared.Node.TheVariants as node
 use Rattle.fine_model.specs.Nodes.{content, replay}
 use Rattle.fine_model.specs.Trees.{IsSound, IsSubtree, reached, is_distinct, nodes_of}
 use Rattle.fine_model.specs.Buckets.{Began}
-use Rattle.fine_hall.specs.Turns.{commits}
-use Rattle.hall_threads.specs.Days.{zero_image, day_log}
+use Rattle.fine_model.specs.declared.law.RoomState.{RoomState}
+use Rattle.fine_places.specs.declared.model.Placed.{Placed}
+use Rattle.fine_hall.specs.declared.turn.Turn.{Turn}
+use Rattle.fine_hall.specs.declared.law.Beginning.{Beginning}
+use Rattle.fine_hall.specs.declared.pass.Pass.{Pass}
+use Rattle.fine_hall.specs.Turns.{commits, room_after, RoomsGoOn}
+use Rattle.fine_hall.specs.Laws.{AreTurns, IsRoomFor}
+use Rattle.fine_hall.specs.Passes.{turns, last_room}
+use Rattle.fine_hall.proofs.Since.{since_law}
+use Rattle.hall_threads.specs.declared.things.DayRoom.{DayRoom}
+use Rattle.hall_threads.specs.declared.things.DayView.{DayView}
+use Rattle.hall_threads.specs.Days.{zero_image, day_log, room_state, room_log, day_stands}
 use Rattle.hall_threads.proofs.Beginning.{day_shows}
 
 unused : (bucket n : ℕ) → 2 ≤ n → nodes_of [] bucket n ≡ (node.Leaf [], 0)
@@ -47,3 +57,10 @@ two_cases {A} a b l P is pa pb i p at = go i (ap (λ (m : List A). get_elem? m i
     go zero e = subst P (some-injective a p e) pa
     go (suc zero) e = subst P (some-injective b p e) pb
     go (suc (suc n)) e = absurd (some-ne-none p (sym e))
+
+-- no pass saw a later sealed epoch than the room has at the end
+pub saw_sealed : (x : Beginning) (p : Pass DayView) (room : DayRoom) (all : List (Placed Turn)) → AreTurns x all → {n : ℕ} → IsRoomFor room_state room_log day_stands x n room all → (more : List (Placed Turn)) × (all ≡ turns p ++ more) → (last_room x p).sealed ≤ room.sealed
+saw_sealed x p room all lawful stood saw =
+    let up = (since_law x.room (turns p) saw.0 (subst (RoomsGoOn x.room) saw.1 lawful.rooms)).sealed in
+    let is = ap (λ (s : RoomState). s.sealed) (stood.last ∙ ap (room_after x.room) saw.1) in
+    omega (arith, up, is)

@@ -77,14 +77,19 @@ some_last : (n : ℕ) (c : Commit) (history : List Commit) → last_epoch c.epoc
 some_last n c [] is = let s = sum_by-cons (λ (d : Commit). cond (d.epoch == n) 1 0) c [] in let e = ap {B = ℕ} (λ b. cond b 1 0) (same_is c.epoch n is) in omega (arith, s, e)
 some_last n c (d ∷ history) is = let s = sum_by-cons (λ (d : Commit). cond (d.epoch == n) 1 0) c (d ∷ history) in let t = some_last n d history is in omega (arith, s, t)
 
+last_below : (e : ℕ) (history : List Commit) (sealed : ℕ) → IsSealedUpTo e history sealed → 0 ≡ count_by (λ (c : Commit). c.epoch == sealed + 1) history → last_epoch e history ≤ sealed
+last_below e [] sealed is none = omega (arith, is)
+last_below e (c ∷ history) sealed (inl is) none = omega (arith, is)
+last_below e (c ∷ history) sealed (inr is) none = let some = some_last (sealed + 1) c history is in absurd (omega (arith, some, none))
+
 -- where none waits, all is sealed
 pub all_sealed : (e : ℕ) (history : List Commit) (sealed : ℕ) → EpochsFollow e history → IsSealedUpTo e history sealed → 0 ≡ count_by (λ (c : Commit). c.epoch == sealed + 1) history → upto history sealed ≡ history
-all_sealed e history sealed follow up_to none = upto-last e sealed history follow (last history up_to none)
-  where
-    last : (history : List Commit) → IsSealedUpTo e history sealed → 0 ≡ count_by (λ (c : Commit). c.epoch == sealed + 1) history → last_epoch e history ≤ sealed
-    last [] is none = omega (arith, is)
-    last (c ∷ history) (inl is) none = omega (arith, is)
-    last (c ∷ history) (inr is) none = let some = some_last (sealed + 1) c history is in absurd (omega (arith, some, none))
+all_sealed e history sealed follow up_to none = upto-last e sealed history follow (last_below e history sealed up_to none)
+
+pub each_sealed : (e : ℕ) (history : List Commit) (sealed : ℕ) → EpochsFollow e history → IsSealedUpTo e history sealed → 0 ≡ count_by (λ (c : Commit). c.epoch == sealed + 1) history → All (λ b. b.epoch ≤ sealed) history
+each_sealed e history sealed follow up_to none =
+    let l = last_below e history sealed up_to none in
+    All-weaker (λ b. b.epoch ≤ last_epoch e history) (λ b. b.epoch ≤ sealed) (λ b h. omega (arith, h, l)) history (all_epochs e history follow)
 
 -- the open epoch is sealed, in which some entry waits
 pub seals : (e : ℕ) (history : List Commit) (sealed : ℕ) → EpochsFollow e history → IsSealedUpTo e history sealed → 0 < count_by (λ (c : Commit). c.epoch == sealed + 1) history → IsSealedUpTo e history (sealed + 1)

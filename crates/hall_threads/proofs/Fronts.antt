@@ -1,5 +1,5 @@
 -- A pass goes on once its front was read through, and what was read is the leaf.
-use Rattle.std.proofs.Common.{◌≡◌, ◌≢◌, ℕ, ◌≤◌, List, [], Some, sym, ap, ◌∙◌, subst}
+use Rattle.std.proofs.Common.{◌≡◌, ◌≢◌, ℕ, ◌≤◌, List, [], Some, sym, ap, ◌∙◌, subst, arith}
 use Rattle.fine_places.proofs.Lists.{some_same}
 use Rattle.fine_model.specs.declared.Row.{Row}
 use Rattle.fine_model.specs.RowBytes.{greatest}
@@ -10,19 +10,31 @@ use Rattle.fine_model.specs.Views.{counting, TellsRows, TellsRowsOf}
 use Rattle.fine_model.proofs.Unique.{AreRowsOf-unique}
 use Rattle.fine_hall.specs.declared.law.Beginning.{Beginning}
 use Rattle.fine_hall.specs.declared.pass.Pass.{Pass}
-use Rattle.fine_hall.specs.Passes.{known, front_of}
+use Rattle.fine_hall.specs.Passes.{known, view_of, front_of, published, HasFront}
 use Rattle.fine_hall.specs.Halls.{UsedFront, IsAhead}
 use Rattle.fine_hall.specs.Turns.{commits}
 use Rattle.hall_threads.specs.declared.things.DayView.{DayView}
 use Rattle.hall_threads.specs.declared.things.Sight.{Sight}
 use Rattle.hall_threads.specs.Days.{day_log, view_state, leaf_id, told_rows, told_parts, told_image}
-use Rattle.hall_threads.specs.Readings.{IsFront, TellsLeaf}
+use Rattle.hall_threads.specs.Readings.{IsFront, MustFail, TellsLeaf}
 use Rattle.hall_threads.proofs.Ending.{day_began}
 use Rattle.hall_threads.proofs.Telling.{tells_leaf, told_leaf}
 
 pub same_known : (p p' : Pass DayView) → UsedFront view_state p p' → known p' ≡ known p
 unfolding known
 same_known p p' u = ap known u.is
+
+-- where its count is as it was, a read that must fail had to fail before
+pub front_stays : (p p' : Pass DayView) → UsedFront view_state p p' → (front_of view_state p').faults ≡ (front_of view_state p).faults → MustFail (front_of view_state p') → MustFail (front_of view_state p)
+front_stays p p' u same m =
+    let is : front_of view_state p' ≡ counting (front_of view_state p) (view_state u.after).faults = ap (λ q. front_of view_state q) u.is ∙ u.same in
+    (sym (ap (λ v. v.seat) is) ∙ m.0, sym (ap (λ v. v.upto) is) ∙ m.1, sym same ∙ m.2)
+
+pub front_seat : (p : Pass DayView) → HasFront view_state p → (front_of view_state p).seat ≡ p.number
+front_seat p f = ap (λ v. v.seat) (ap (view_of view_state) f.is_there ∙ f.front) ∙ f.place.0
+
+pub none_published : (x : Beginning) (p p' : Pass DayView) → IsAhead view_state x p → UsedFront view_state p p' → (front_of view_state p).upto ≡ 0 → published p' ≡ 0
+none_published x p p' ahead u none = let same = ap (λ k. k.published) (same_known p p' u) in let up = ahead.reaches in omega (arith, same, up, none)
 
 -- it tells no other rows
 told_unique : (version value : ℕ) (rows : List Row) → version ≤ greatest → TellsRowsOf (Some (told_image version value)) 80 (told_parts version value) rows → rows ≡ told_rows version value

@@ -73,9 +73,13 @@ no_job x room entry epoch t p p' p'' g same none one =
 pub job_stays : (x : Beginning) (p p' : Pass DayView) → turns p' ≡ turns p → p'.number ≡ p.number → LacksJob x p → LacksJob x p'
 job_stays x p p' same number lacks one = ap (λ l. (room_after x.room l).job) same ∙ lacks (sym number ∙ one)
 
+-- the room that was given back is the last that the pass saw
+pub last_given : (x : Beginning) (room : RoomState) (entry : Option Entry) (epoch : ℕ) (t : TurnNote) (p p' : Pass DayView) → GivesRoom room entry epoch t p p' → last_room x p' ≡ room
+last_given x room entry epoch t p p' g = ap (room_after x.room) g.turns_more ∙ after_last x.room (turns p) (record { seat = p.number; item = record { entry = entry; epoch = epoch; room = room; returned = t.in_hand } })
+
 pub job_left : (x : Beginning) (room : DayRoom) (entry : Option Entry) (epoch : ℕ) (t : TurnNote) (p p' : Pass DayView) → GivesRoom (room_state room) entry epoch t p p' → (last_room x p').job ≡ job_of room.job
 job_left x room entry epoch t p p' g =
-    ap (λ l. (room_after x.room l).job) g.turns_more ∙ ap (λ (r : RoomState). r.job) (after_last x.room (turns p) (record { seat = p.number; item = record { entry = entry; epoch = epoch; room = room_state room; returned = t.in_hand } }))
+    ap (λ (r : RoomState). r.job) (last_given x (room_state room) entry epoch t p p' g)
 
 pub job_there : (b : Bool) → job_of b ≡ job_of true → b ≡ true
 job_there true e = refl

@@ -11,3 +11,5 @@ pub mod Rounds
 pub mod Telling
 pub mod Shown
 pub mod Fronts
+pub mod Saying
+pub mod Parting

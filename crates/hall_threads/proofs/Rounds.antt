@@ -1,14 +1,17 @@
 -- How a pass goes on through steps that see more.
-use Rattle.std.proofs.Common.{◌≡◌, sym, ap, ◌∙◌}
+use Rattle.std.proofs.Common.{◌≡◌, ◌≤◌, sym, ap, ◌∙◌, subst, le_refl, le_trans, arith}
 use lib.ListN.{get_elem?}
 use Rattle.fine_hall.specs.declared.law.Beginning.{Beginning}
 use Rattle.fine_hall.specs.declared.pass.Pass.{Pass}
 use Rattle.fine_hall.specs.Laws.{AreTurns}
-use Rattle.fine_hall.specs.Passes.{known, turns, HoldsNothing, LacksJob}
+use Rattle.fine_hall.specs.Turns.{RoomsGoOn, room_after}
+use Rattle.fine_hall.specs.Passes.{known, turns, own_turns, published, last_room, HoldsNothing, LacksJob}
 use Rattle.fine_hall.specs.Halls.{SeesMore}
+use Rattle.fine_hall.proofs.Since.{since_law}
 use Rattle.fine_hall.proofs.Troubles.{sees_law}
 use Rattle.hall_threads.specs.declared.things.DayView.{DayView}
 use Rattle.hall_threads.specs.Days.{view_state}
+use Rattle.hall_threads.specs.Readings.{GoesOn}
 
 -- turns of others leave the job of seat 1
 pub job_seen : (x : Beginning) (p p' : Pass DayView) → AreTurns x (turns p') → p'.number ≡ p.number → SeesMore p p' → LacksJob x p → LacksJob x p'
@@ -18,3 +21,23 @@ job_seen x p p' lawful number sees lacks one =
 
 pub idle_still : (p p' : Pass DayView) → (known p').held ≡ (known p).held → HoldsNothing p → HoldsNothing p'
 idle_still p p' same idle k le = ap (λ l. get_elem? l k) same ∙ idle k le
+
+-- ---- what went on
+
+module _ (x : Beginning) where
+  pub goes_seen : (p p' : Pass DayView) → AreTurns x (turns p') → SeesMore p p' → GoesOn x p p'
+  goes_seen p p' lawful s = record {
+    sealed = subst (λ l. (last_room x p).sealed ≤ (room_after x.room l).sealed) (sym s.longer.1) (since_law x.room (turns p) s.longer.0 (subst (RoomsGoOn x.room) s.longer.1 lawful.rooms)).sealed;
+    published = s.no_earlier;
+    own = s.same_own;
+  }
+
+  pub goes_same : (p p' : Pass DayView) → turns p' ≡ turns p → published p' ≡ published p → own_turns p' ≡ own_turns p → GoesOn x p p'
+  goes_same p p' same number own = record {
+    sealed = subst (λ l. (last_room x p).sealed ≤ (room_after x.room l).sealed) (sym same) (le_refl (last_room x p).sealed);
+    published = omega (arith, number);
+    own = own;
+  }
+
+  pub goes_more : (p q r : Pass DayView) → GoesOn x p q → GoesOn x q r → GoesOn x p r
+  goes_more p q r a b = record { sealed = le_trans a.sealed b.sealed; published = le_trans a.published b.published; own = b.own ∙ a.own }

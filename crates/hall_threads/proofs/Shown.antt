@@ -1,7 +1,7 @@
--- How a turn goes on in which what waits is sealed, and shown to both seats.
+-- How a turn goes on in which what waits is sealed, and shown to all seats.
 use Rattle.std.specs.Prelude.{Bool}
-use Rattle.std.proofs.Common.{◌≡◌, ◌⊎◌, inl, inr, ⊎_elim, ℕ, zero, suc, ◌+◌, ◌-◌, ◌*◌, ◌<◌, ◌≤◌, ◌==◌, true, false, List, [], ◌∷◌, ◌++◌, map, set, length, Option, Some, None, option_map, refl, sym, ap, ◌∙◌, subst, arith, append-nil, le_refl}
-use Rattle.std.specs.Prelude.{slice_get, slice_set, slice_index, count_by}
+use Rattle.std.proofs.Common.{◌≡◌, ◌⊎◌, inl, inr, ⊎_elim, ℕ, zero, suc, ◌+◌, ◌-◌, ◌*◌, ◌<◌, ◌≤◌, ◌==◌, true, false, List, [], ◌∷◌, ◌++◌, map, set, length, All, Option, Some, None, option_map, refl, sym, ap, ◌∙◌, subst, arith, append-nil, le_refl}
+use Rattle.std.specs.Prelude.{slice_get, slice_set, slice_index, count_by, MatchBool}
 use Rattle.std.proofs.lemmas.List.{map-set}
 use lib.ListN.{get_elem?, length-map}
 use Rattle.atomic_table.specs.Seated.{TableId}
@@ -34,8 +34,8 @@ use Rattle.fine_hall.proofs.Troubles.{troubles_law}
 use Rattle.hall_threads.specs.declared.things.DayRoom.{DayRoom}
 use Rattle.hall_threads.specs.declared.things.DayView.{DayView}
 use Rattle.hall_threads.specs.Days.{room_state, room_log, view_state, day_stands, job_of, StandsFor, board_of, eye_of, told_rows, leaf_id}
-use Rattle.hall_threads.specs.Turnover.{Seals, IsViewOf, TakesBack, InTurn, PostsTo, Stays}
-use Rattle.hall_threads.proofs.Epochs.{all_sealed, seals, none_wait}
+use Rattle.hall_threads.specs.Turnover.{Seals, IsViewOf, TakesBack, InTurn, PostsTo, PostedBelow, Stays, IsShown, HasNoneToSeal}
+use Rattle.hall_threads.proofs.Epochs.{all_sealed, each_sealed, seals, none_wait}
 use Rattle.hall_threads.proofs.Standing.{day_becomes, may_give, may_give_none}
 use Rattle.hall_threads.proofs.Telling.{tells_leaf, agrees_leaf}
 
@@ -50,6 +50,12 @@ pub in_range : {A : Type 0} (l : List A) (k : ℕ) (a : A) → slice_get l k ≡
 in_range [] k a e = absurd cc
 in_range (x ∷ l) zero a e = omega arith
 in_range (x ∷ l) (suc k) a e = let h = in_range l k a e in omega (arith, h)
+
+get_unmap : {A B : Type 0} (f : A → B) (l : List (Option A)) (k : ℕ) → slice_get (map (option_map f) l) k ≡ Some None → slice_get l k ≡ Some None
+get_unmap f [] k e = absurd cc
+get_unmap f (None ∷ l) zero e = refl
+get_unmap f (Some a ∷ l) zero e = absurd cc
+get_unmap f (o ∷ l) (suc k) e = get_unmap f l k e
 
 -- ---- a turn goes on
 
@@ -124,6 +130,13 @@ sealed_turn x p room new t i s = subst (λ r. InTurn x r p t) (sym s.is)
     }
 
 -- ---- posting
+
+-- the board leaves a buffer of each seat empty
+pub some_empty : (x : Beginning) (p : Pass DayView) (room : DayRoom) (t : TurnNote) → InTurn x room p t → (seat : ℕ) → 1 ≤ seat → seat ≤ x.seats → (b : ℕ) × (b < 3) × (slice_get room.board.items (3 * (seat - 1) + b) ≡ Some None)
+some_empty x p room t i seat least most =
+    let e = i.is_turn.empty (seat - 1) (omega (arith, least, most)) in
+    let b = slice_index t.backs (seat - 1) in
+    (b, e.0, get_unmap eye_of room.board.items (3 * (seat - 1) + b) (ap (λ l. slice_get l (3 * (seat - 1) + b)) i.may.board ∙ e.1))
 
 module _ (z : TableId) (x : Beginning) (p : Pass DayView) (room : DayRoom) (seat buffer : ℕ) (v : DayView) (t : TurnNote) (ok : IsPass view_state z x p) (i : InTurn x room p t) (none : room.waiting ≡ 0) (is : IsViewOf room seat buffer v) where
   nil : seen p ++ added None 0 ≡ seen p
@@ -202,13 +215,26 @@ module _ (z : TableId) (x : Beginning) (p : Pass DayView) (room : DayRoom) (seat
 
 -- ---- publishing
 
--- what was posted to both seats
-pub both_posted : (l : List ℕ) (u v n : ℕ) → 2 ≤ length l → n ≤ u → n ≤ v → (i : ℕ) → i < 2 → n ≤ slice_index (slice_set (slice_set l 0 u) 1 v) i
-both_posted [] u v n long a b i lt = absurd (omega (arith, long))
-both_posted (x ∷ []) u v n long a b i lt = absurd (omega (arith, long))
-both_posted (x ∷ y ∷ l) u v n long a b zero lt = a
-both_posted (x ∷ y ∷ l) u v n long a b (suc zero) lt = b
-both_posted (x ∷ y ∷ l) u v n long a b (suc (suc i)) lt = absurd (omega (arith, lt))
+-- what was posted to one seat more
+posted_more : (l : List ℕ) (k u n : ℕ) → k < length l → n ≤ u → ((i : ℕ) → i < k → n ≤ slice_index l i) → (i : ℕ) → i < k + 1 → n ≤ slice_index (slice_set l k u) i
+posted_more [] k u n long up all i lt = absurd (omega (arith, long))
+posted_more (x ∷ l) zero u n long up all zero lt = up
+posted_more (x ∷ l) zero u n long up all (suc i) lt = absurd (omega (arith, lt))
+posted_more (x ∷ l) (suc k) u n long up all zero lt = all 0 (omega arith)
+posted_more (x ∷ l) (suc k) u n long up all (suc i) lt = posted_more l k u n (omega (arith, long)) up (λ j near. all (suc j) (omega (arith, near))) i (omega (arith, lt))
+
+pub posted_next : (x : Beginning) (i seat : ℕ) → seat ≡ i + 1 → i < x.seats → (old new : DayRoom) (p p' : Pass DayView) (b : PostedBelow x i old p) → PostsTo x seat b.note old new p p' → PostedBelow x (i + 1) new p'
+posted_next x i seat is lt old new p p' b s =
+    let box : seat - 1 ≡ i = omega (arith, is) in
+    let long = b.turn.is_turn.long.1 in
+    let up = s.upto in
+    let same = s.same.0 in
+    record {
+      note = posting b.note (seat - 1) s.view.buffer s.view s.back;
+      turn = s.turn;
+      posted = λ j near. subst (λ k. new.sealed ≤ slice_index (slice_set b.note.posted k s.view.upto) j) (sym box)
+          (posted_more b.note.posted i s.view.upto new.sealed (omega (arith, lt, long)) (omega (arith, up)) (λ k below. let a = b.posted k below in omega (arith, a, same)) j near);
+    }
 
 pub published_turn : (z : TableId) (x : Beginning) (epoch : ℕ) (p p' : Pass DayView) (room : DayRoom) (t : TurnNote) → IsPass view_state z x p' → p'.number ≡ p.number → InTurn x room p t → Publishes epoch p p' → InTurn x room p' t
 published_turn z x epoch p p' room t ok number i s =
@@ -218,6 +244,17 @@ published_turn z x epoch p p' room t ok number i s =
   where
     some_of : (a b : TurnNote) → Some a ≡ Some b → a ≡ b
     some_of a b e = Rattle.fine_places.proofs.Lists.some_same a b e
+
+-- ---- a whole turn
+
+-- what a turn did of the room that it took is what it did of the one that was given back last
+pub shown_turn : (b : Bool) (room new : DayRoom) (last : RoomState) (n m : ℕ) → room_state room ≡ last → m ≡ n → MatchBool b (IsShown (room_state room) (room_state new) n) ((new ≡ room) × HasNoneToSeal (room_state room))
+    → MatchBool b (IsShown last (room_state new) m) ((room_state new ≡ last) × HasNoneToSeal last)
+shown_turn true room new last n m is same s = subst (λ o. IsShown o (room_state new) m) is (subst (IsShown (room_state room) (room_state new)) (sym same) s)
+shown_turn false room new last n m is same s = (ap room_state s.0 ∙ is, subst HasNoneToSeal is s.1)
+
+pub seals_all : (x : Beginning) (room : RoomState) (history : List Commit) → CountsEpochs x room history → room.waiting ≡ 0 → All (λ (c : Commit). c.epoch ≤ room.sealed) history
+seals_all x room history q none = each_sealed x.room.sealed history room.sealed q.follow q.sealed (sym none ∙ q.waiting)
 
 -- ---- what stays
 

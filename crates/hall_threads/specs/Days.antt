@@ -1,5 +1,5 @@
 -- A small log: a room that keeps its entries, buckets that cache the one leaf that is written, and views that tell an image of this leaf.
-use Rattle.std.specs.Prelude.{◌≡◌, ◌⊎◌, Bool, ℕ, ◌+◌, ◌<◌, ◌==◌, if◌then◌else◌, ◌≤◌, List, [], ◌∷◌, ◌++◌, map, flat_map, replicate, Option, Some, None, option_map, false}
+use Rattle.std.specs.Prelude.{◌≡◌, Bool, nat_le, MatchBool, MatchOption, ℕ, ◌+◌, ◌<◌, ◌==◌, if◌then◌else◌, ◌≤◌, List, [], ◌∷◌, ◌++◌, map, flat_map, replicate, Option, Some, None, option_map, false}
 use Rattle.std.specs.List.{range_with_len}
 use Rattle.fine_model.specs.declared.Entry.{Entry}
 use Rattle.fine_model.specs.declared.Row.{Row}
@@ -172,9 +172,9 @@ bucket_cached b n = cached_leaf b.leaf n
 abbrev pub bucket_rests : DayBucket → Type 0
 bucket_rests b = Unit {0}
 
--- the leaf was evicted, where its last change is of a published epoch
+-- the leaf was evicted, just where its last change is of a published epoch
 abbrev pub Evicts : ℕ → DayBucket → DayBucket → Type 0
-Evicts published old new = (new ≡ old) ⊎ ((leaf : Leaf) × (old.leaf ≡ Some leaf) × (leaf.epoch ≤ published) × (new ≡ record { bucket = old.bucket; leaf = None }))
+Evicts published old new = MatchOption old.leaf (new ≡ old) (λ leaf. MatchBool (nat_le leaf.epoch published) (new ≡ record { bucket = old.bucket; leaf = None }) (new ≡ old))
 
 -- ---- views
 
@@ -210,18 +210,14 @@ IsIdlePass hall p = IsPassOf room_state room_log view_state hall p × HoldsNothi
 abbrev pub met : {Q : Type 0} → HallOf DayRoom DayBucket DayView Q → Pass DayView → ℕ
 met hall p = troubles view_state (begun room_state room_log view_state hall) p
 
--- a hall of two seats
-abbrev pub IsForTwo : {Q : Type 0} → HallOf DayRoom DayBucket DayView Q → Type 0
-IsForTwo hall = (begun room_state room_log view_state hall).seats ≡ 2
-
 -- ---- the beginning
 
--- a view of the log at entry, by the number of its eye; the first read through the eye 2 fails
+-- a view of the log at entry, by the number of its eye
 abbrev pub sight_of_log : ℕ → Sight
 sight_of_log eye = record { number = eye; version = 0; value = 0 }
 
 abbrev pub view_of_log : ℕ → ℕ → ℕ → DayView
-view_of_log seat buffer eye = record { seat = seat; buffer = buffer; upto = 0; sight = sight_of_log eye; fails = eye == 2; faults = 0 }
+view_of_log seat buffer eye = record { seat = seat; buffer = buffer; upto = 0; sight = sight_of_log eye; faults = 0 }
 
 -- for a buffer of each seat, by the number of the eye of the first one
 abbrev pub views_of_log : ℕ → ℕ → ℕ → List DayView

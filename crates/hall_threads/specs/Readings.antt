@@ -5,10 +5,22 @@ use Rattle.fine_model.specs.RowBytes.{greatest}
 use Rattle.fine_model.specs.History.{all_rows, upto}
 use Rattle.fine_model.specs.Nodes.{content}
 use Rattle.fine_hall.specs.declared.pass.Pass.{Pass}
-use Rattle.fine_hall.specs.Passes.{seen, published}
+use Rattle.fine_hall.specs.declared.law.Beginning.{Beginning}
+use Rattle.fine_hall.specs.Passes.{own_turns, seen, published, last_room}
+use Rattle.fine_model.specs.declared.law.ViewState.{ViewState}
 use Rattle.hall_threads.specs.declared.things.DayView.{DayView}
 use Rattle.hall_threads.specs.declared.things.Sight.{Sight}
 use Rattle.hall_threads.specs.Days.{leaf_at, leaf_id}
+
+-- a view of the seat 2 that shows nothing of the day, and has not failed yet
+abbrev pub MustFail : ViewState → Type 0
+MustFail v = (v.seat ≡ 2) × (v.upto ≡ 0) × (v.faults ≡ 0)
+
+-- the sealed and the published epoch that the pass saw are no lower, and its own turns are those of before
+pub record GoesOn (x : Beginning) (p p' : Pass DayView) : Type 0 where
+  pub sealed : (last_room x p).sealed ≤ (last_room x p').sealed
+  pub published : published p ≤ published p'
+  pub own : own_turns p' ≡ own_turns p
 
 -- the front of a pass tells this
 pub record IsFront (p : Pass DayView) (sight : Sight) : Type 0 where

@@ -24,4 +24,4 @@ pub use showing::turn_over;
 pub use things::{DayBucket, DayRoom, DayView, Leaf, Sight};
 pub use threads::{Said, both, put_times};
 pub use transaction::{DayHall, put, the_bucket};
-pub use whole_day::{day, end};
+pub use whole_day::{Left, day, end};

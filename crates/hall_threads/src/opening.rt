@@ -41,7 +41,6 @@ fn view(seat: u32, buffer: u8, eye: u64) -> DayView
         buffer,
         upto: 0,
         sight: sight(eye),
-        fails: eye == 2,
         faults: 0,
     }
 }
@@ -91,8 +90,8 @@ fn first_room(alloc: Global, seats: u32, most: usize) -> Result<DayRoom, AllocEr
     })
 }
 
-/// A hall of 1 to 18 seats over a log that shows no rows, whose room has memory for so many entries, and its passes. The first read
-/// through the front of the seat 2 will fail. None where there is no memory.
+/// A hall of 1 to 18 seats over a log that shows no rows, whose room has memory for so many entries, and its passes. None where
+/// there is no memory.
 pub fn open(alloc: Global, seats: u32, most: usize) -> Option<(DayHall, Vec<Pass<DayView>>)>
     requires seats { (1 ≤ seats) × (seats ≤ 18) }
     ensures seats { IfSome result (λ made. (begun room_state room_log view_state made.0).seats ≡ seats) }

@@ -1,9 +1,10 @@
 //! A pass's look at its mailbox, and at the published number.
 
-ghost use Rattle.std.specs.Prelude.{◌≡◌, ◌≤◌, MatchBool};
+ghost use Rattle.std.specs.Prelude.{◌≡◌, ◌≤◌};
 ghost use Rattle.fine_hall.specs.Passes.{mine, front_of, troubles};
 ghost use Rattle.fine_hall.specs.Halls.{begun, IsAhead};
 ghost use Rattle.hall_threads.specs.Days.{room_state, room_log, view_state, IsIdlePass};
+ghost use Rattle.hall_threads.specs.Readings.{GoesOn};
 
 use crate::things::DayView;
 use crate::transaction::DayHall;
@@ -16,6 +17,7 @@ pub fn look_up(hall: &DayHall, pass: &mut Pass<DayView>) -> u64
     ensures pass { IsIdlePass hall.now pass.new × (pass.new.number ≡ pass.old.number) }
     ensures same { mine pass.new ≡ mine pass.old }
     ensures troubles { troubles view_state (begun room_state room_log view_state hall.now) pass.new ≡ troubles view_state (begun room_state room_log view_state hall.now) pass.old }
+    ensures goes_on { GoesOn (begun room_state room_log view_state hall.now) pass.old pass.new }
     ensures ahead { IsAhead view_state (begun room_state room_log view_state hall.now) pass.new }
     ensures reaches { result ≤ (front_of view_state pass.new).upto }
 {

@@ -54,12 +54,12 @@ fn a_held_bucket_names_its_holder(rt: HostRuntime) -> Result<(), Fail> {
 
 #[test]
 fn two_threads_put_and_show_on_one_bucket(rt: HostRuntime) -> Result<(), Fail> {
-    let Some((room, first, second)) = day(&rt, rt.alloc(), 256, 1, 2, 100) else {
+    let Some(day) = day(&rt, rt.alloc(), 256, 1, 2, 100) else {
         return Err("memory")?;
     };
-    assert!(rt; (first.done, second.done) == (100, 100));
-    assert!(rt; (first.failed, second.failed <= 1) == (0, true));
-    assert!(rt; (room.places, room.waiting) == (200, 0));
-    assert!(rt; room.sealed == 1 || room.sealed == 2);
+    assert!(rt; (day.first.done, day.second.done) == (100, 100));
+    assert!(rt; (day.first.failed, day.second.failed <= 1) == (0, true));
+    assert!(rt; (day.room.places, day.room.waiting, day.views.len()) == (200, 0, 4));
+    assert!(rt; day.room.sealed == 1 || day.room.sealed == 2);
     Ok(())
 }

@@ -68,8 +68,6 @@ pub struct DayView {
     pub buffer: u8,
     pub upto: u64,
     pub sight: Sight,
-    /// Whether the next read fails.
-    pub fails: bool,
     pub faults: u64,
 }
 

@@ -1,9 +1,10 @@
 //! Two threads that put values on one hall.
 
-ghost use Rattle.std.specs.Prelude.{◌≡◌, ◌++◌, ◌+◌, [], ◌∷◌, if◌then◌else◌, replicate, IfSome};
-ghost use Rattle.fine_hall.specs.Passes.{mine};
-ghost use Rattle.hall_threads.specs.Days.{key_bucket, put_call, put_calls, IsIdlePass, IsForTwo, met};
-ghost use Rattle.hall_threads.specs.Readings.{TellsLeaf};
+ghost use Rattle.std.specs.Prelude.{◌≡◌, ◌++◌, ◌+◌, [], ◌∷◌, if◌then◌else◌, replicate, MatchOption};
+ghost use Rattle.fine_hall.specs.Passes.{mine, published};
+ghost use Rattle.fine_hall.specs.Halls.{begun};
+ghost use Rattle.hall_threads.specs.Days.{key_bucket, put_call, put_calls, room_state, room_log, view_state, IsIdlePass, met};
+ghost use Rattle.hall_threads.specs.Readings.{GoesOn, TellsLeaf};
 ghost use Rattle.hall_threads.specs.Sayings.{failures, Says};
 
 use crate::evicting::evict;
@@ -67,10 +68,12 @@ pub fn put_times<W: Wait>(
     done
 }
 
-/// What a thread says: how often it put its value, how often a read through its front failed, and what the last read told.
+/// What a thread says: how often it put its value, whether its own turn showed what waited, how often a read through its front failed, and
+/// what the last read told, unless it failed.
 #[derive(Clone, Copy, Drop)]
 pub struct Said {
     pub done: u64,
+    pub shown: bool,
     pub failed: u64,
     pub last: Option<Sight>,
 }
@@ -81,7 +84,8 @@ fn glance(hall: &DayHall, pass: &mut Pass<DayView>) -> Option<Sight>
     ensures pass { IsIdlePass hall.now pass.new × (pass.new.number ≡ pass.old.number) }
     ensures same { mine pass.new ≡ mine pass.old }
     ensures met { met hall.now pass.new ≡ met hall.now pass.old + failures result }
-    ensures told { IfSome result (λ sight. TellsLeaf pass.new sight) }
+    ensures goes_on { GoesOn (begun room_state room_log view_state hall.now) pass.old pass.new }
+    ensures told { MatchOption result ((pass.old.number ≡ 2) × (published pass.new ≡ 0)) (λ sight. TellsLeaf pass.new sight) }
 {
     match look_through(hall, pass) {
         Ok(sight) => Some(sight),
@@ -98,7 +102,7 @@ fn failures(sight: &Option<Sight>) -> u64
     }
 }
 
-/// Looks and reads, puts a value so many times, shows what waits to both seats, evicts the leaf, and looks and reads it again.
+/// Looks and reads, puts a value so many times, shows what waits to all seats, evicts the leaf, and looks and reads it again.
 fn put_as<W: Wait>(
     rt: &W,
     alloc: Global,
@@ -108,18 +112,24 @@ fn put_as<W: Wait>(
     value: u8,
     times: u64,
 ) -> (Pass<DayView>, Said)
-    requires pass { IsIdlePass hall.now pass × IsForTwo hall.now }
+    requires pass { IsIdlePass hall.now pass }
     requires bucket { bucket ≡ key_bucket }
     ensures pass { IsIdlePass hall.now result.0 × (result.0.number ≡ pass.number) }
     ensures says { Says hall.now value pass result.0 result.1 }
 {
     let first = glance(hall, &mut pass);
     let done = put_times(rt, alloc, hall, &mut pass, bucket, value, times);
-    turn_over(rt, hall, &mut pass);
-    evict(hall, &mut pass, bucket);
+    let shown = turn_over(rt, hall, &mut pass);
+    let _evicted = evict(hall, &mut pass, bucket);
     let last = glance(hall, &mut pass);
     let failed = failures(&first) + failures(&last);
-    (pass, Said { done, failed, last })
+    let said = Said {
+        done,
+        shown,
+        failed,
+        last,
+    };
+    (pass, said)
 }
 
 /// The same by the seat 1, which has a merge job out between two turns first.
@@ -132,7 +142,7 @@ fn merge_and_put<W: Wait>(
     value: u8,
     times: u64,
 ) -> (Pass<DayView>, Said)
-    requires pass { IsIdlePass hall.now pass × IsForTwo hall.now }
+    requires pass { IsIdlePass hall.now pass }
     requires first { pass.number ≡ 1 }
     requires bucket { bucket ≡ key_bucket }
     ensures pass { IsIdlePass hall.now result.0 × (result.0.number ≡ pass.number) }
@@ -152,7 +162,7 @@ pub fn both<R: Threads + Wait + Sync>(
     second: (Pass<DayView>, u8),
     times: u64,
 ) -> ((Pass<DayView>, Said), (Pass<DayView>, Said))
-    requires first { IsIdlePass hall.now first.0 × IsForTwo hall.now × (first.0.number ≡ 1) }
+    requires first { IsIdlePass hall.now first.0 × (first.0.number ≡ 1) }
     requires second { IsIdlePass hall.now second.0 }
     requires bucket { bucket ≡ key_bucket }
     ensures first { IsIdlePass hall.now result.0.0 × (result.0.0.number ≡ first.0.number) × Says hall.now first.1 first.0 result.0.0 result.0.1 }
@@ -163,11 +173,11 @@ pub fn both<R: Threads + Wait + Sync>(
     join(
         rt,
         || -> (Pass<DayView>, Said)
-            requires { IsIdlePass hall.now one × (bucket ≡ key_bucket) × IsForTwo hall.now × (one.number ≡ 1) }
+            requires { IsIdlePass hall.now one × (bucket ≡ key_bucket) × (one.number ≡ 1) }
             ensures { IsIdlePass hall.entry.now result.0 × (result.0.number ≡ one.number) × Says hall.entry.now one_value one result.0 result.1 }
         { merge_and_put(rt, alloc, hall, one, bucket, one_value, times) },
         || -> (Pass<DayView>, Said)
-            requires { IsIdlePass hall.now two × (bucket ≡ key_bucket) × IsForTwo hall.now }
+            requires { IsIdlePass hall.now two × (bucket ≡ key_bucket) }
             ensures { IsIdlePass hall.entry.now result.0 × (result.0.number ≡ two.number) × Says hall.entry.now two_value two result.0 result.1 }
         { put_as(rt, alloc, hall, two, bucket, two_value, times) },
     )

@@ -1,9 +1,9 @@
 //! One transaction.
 
-ghost use Rattle.std.specs.Prelude.{◌≡◌, ◌++◌, [], ◌∷◌, if◌then◌else◌, map, IfOk, OnErr};
+ghost use Rattle.std.specs.Prelude.{◌≡◌, ◌++◌, [], ◌∷◌, if◌then◌else◌, map, IfOk, IfErr, OnErr};
 ghost use Rattle.fine_hall.specs.Passes.{mine, troubles};
 ghost use Rattle.hall_threads.specs.Days.{key_bucket, put_call, put_calls, room_state, room_log, view_state, IsIdlePass};
-ghost use Rattle.fine_hall.specs.Halls.{begun};
+ghost use Rattle.fine_hall.specs.Halls.{begun, FindsHeld};
 
 use crate::entries::append;
 use crate::things::{DayBucket, DayRoom, DayView, Leaf};
@@ -41,6 +41,7 @@ pub fn put<W: Wait>(
     ensures troubles { troubles view_state (begun room_state room_log view_state hall.now) pass.new ≡ troubles view_state (begun room_state room_log view_state hall.now) pass.old }
     ensures ok { IfOk result (λ done. put_calls (mine pass.new) ≡ put_calls (mine pass.old) ++ (if done then (put_call value ∷ []) ∷ [] else [])) }
     ensures err { OnErr result (mine pass.new ≡ mine pass.old) }
+    ensures conflict { IfErr result (λ conflict. (conflict.bucket ≡ bucket) × FindsHeld (begun room_state room_log view_state hall.now) bucket conflict.owner pass.old pass.new) }
 {
     let content = hall.take_bucket(pass, bucket)?;
     let mut room = hall.take_room(rt, pass);

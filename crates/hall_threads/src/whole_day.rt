@@ -27,17 +27,23 @@ fn pair(
     Ok(passes)
 }
 
-/// Closes a hall of two seats, whose room began without entries, with both its passes. None where there is no memory.
+/// Closes a hall of two seats, whose room began without entries, with both its passes. The views that were out come back with the room. None
+/// where there is no memory.
 ///
 /// There is one history. It is legal, the room keeps its entries in this order and knows the leaf that they leave, and what each pass
 /// did is its part of it. Each pass saw a front of it, and each view that a refresh gave it shows this history up to the view's epoch. The
-/// counts of faults of the room and of all views are together what the passes met.
-pub fn end(alloc: Global, hall: DayHall, one: Pass<DayView>, two: Pass<DayView>) -> Option<DayRoom>
+/// views are those that the room's board names, and their counts of faults and the room's are together what the passes met.
+pub fn end(
+    alloc: Global,
+    hall: DayHall,
+    one: Pass<DayView>,
+    two: Pass<DayView>,
+) -> Option<(DayRoom, Vec<DayView>)>
     requires seats { (begun room_state room_log view_state hall).seats ≡ 2 }
     requires sealed { (begun room_state room_log view_state hall).room.sealed ≡ 0 }
     requires one { IsIdlePass hall one × (one.number ≡ 1) }
     requires two { IsIdlePass hall two × (two.number ≡ 2) }
-    ensures { IfSome result (λ room. Ends (begun room_state room_log view_state hall) one two room) }
+    ensures { IfSome result (λ r. Ends (begun room_state room_log view_state hall) one two r.0 r.1.items) }
 {
     let Ok(mut views) = Vec::with_capacity(alloc, 4) else {
         return None;
@@ -46,15 +52,25 @@ pub fn end(alloc: Global, hall: DayHall, one: Pass<DayView>, two: Pass<DayView>)
         return None;
     };
     let room = hall.close(passes, &mut views);
-    Some(room)
+    Some((room, views))
+}
+
+/// What a day leaves: the room, the views that were out, and what each thread says.
+#[derive(Drop)]
+pub struct Left {
+    pub room: DayRoom,
+    pub views: Vec<DayView>,
+    pub first: Said,
+    pub second: Said,
 }
 
 /// Opens a hall of two seats, lets two threads put a value each so many times, seal and show what waits, and read it, and closes it.
-/// Answers the room and what each of the threads says; None where there is no memory.
+/// None where there is no memory.
 ///
 /// There is one history: it is legal, it has the transactions of both threads, each as often as it said, and no others, and the room
 /// keeps their entries in this order, and knows the leaf that they leave. What each thread read last is the leaf that a front of this
-/// history leaves. The faults that the threads told are those that the room and the views count.
+/// history leaves, which has all transactions of the thread. No read of the first thread failed, and the faults that the second told are
+/// those that the room and the views count.
 pub fn day<R: Threads + Wait + Sync>(
     rt: &R,
     alloc: Global,
@@ -62,8 +78,8 @@ pub fn day<R: Threads + Wait + Sync>(
     first: u8,
     second: u8,
     times: u64,
-) -> Option<(DayRoom, Said, Said)>
-    ensures { IfSome result (λ r. IsDay first second r.1 r.2 r.0) }
+) -> Option<Left>
+    ensures { IfSome result (λ d. IsDay first second d.first d.second d.room d.views.items) }
 {
     let (hall, mut passes) = open(alloc, 2, most)?;
     let Some(one) = passes.pop() else {
@@ -74,6 +90,11 @@ pub fn day<R: Threads + Wait + Sync>(
     };
     let bucket = the_bucket();
     let ((one, a), (two, b)) = both(rt, alloc, &hall, bucket, (one, first), (two, second), times);
-    let room = end(alloc, hall, one, two)?;
-    Some((room, a, b))
+    let (room, views) = end(alloc, hall, one, two)?;
+    Some(Left {
+        room,
+        views,
+        first: a,
+        second: b,
+    })
 }

@@ -1,6 +1,6 @@
 use Rattle.std.proofs.Common.{◌+◌, ◌++◌, ◌∷◌, [], sym, ap, ◌∙◌, arith, ℕ}
 use Rattle.std.proofs.lemmas.List.FromFn.{map-range_with_len_more}
-use Rattle.hall_threads.specs.Days.{view_of_log, views_of_log}
+use Rattle.hall_threads.specs.Days.{view_of_log}
 use Rattle.hall_threads.proofs.opening.views.Goals as goal
 
 pub loop-i-preserved : goal.loop-i-preserved

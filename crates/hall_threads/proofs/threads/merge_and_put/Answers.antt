@@ -9,5 +9,8 @@ returns-clause-says g c =
     record {
       more = says.more ∙ ap (λ history. put_calls history ++ replicate said.done (put_call c.args.value ∷ [])) c.merge.ensures.same;
       met = says.met ∙ ap (λ n. n + said.failed) c.merge.ensures.met;
+      none_failed = says.none_failed;
       told = says.told;
+      shown = says.shown;
+      sealed = says.sealed;
     }

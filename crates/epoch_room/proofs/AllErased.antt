@@ -15,7 +15,7 @@ use Rattle.fine_model.proofs.Order.{all_map}
 use Rattle.fine_model.proofs.Sets.{all_filter, all_pass}
 use Rattle.log_disk.specs.declared.refusal.DiskRefusal.{DiskRefusal}
 use Rattle.log_disk.specs.declared.refusal.DiskRefusal.TheVariants as refusal
-use Rattle.epoch_room.specs.Closing.{ReadsButGates}
+use Rattle.epoch_room.specs.Closing.{LeavesClosing, ReadsButGates}
 use Rattle.epoch_room.specs.Erasing.{ErasesAll, ErasesAllOr, ErasesLed, erased_state, unheld, unheld_of, without}
 use Rattle.epoch_room.specs.Steps.{Does}
 use Rattle.epoch_room.specs.Value.{RoomValue, all_regions}
@@ -25,7 +25,7 @@ use Rattle.epoch_room.specs.declared.answers.RoomFault.TheVariants as room_fault
 use Rattle.epoch_room.proofs.Behind.{keeps_none}
 use Rattle.epoch_room.proofs.Beside.{filter_few}
 use Rattle.epoch_room.proofs.Counting.{retired_few}
-use Rattle.epoch_room.proofs.GateSteps.{beside_none, reads_none, reads_wider}
+use Rattle.epoch_room.proofs.GateSteps.{beside_none, closing_none, closing_wider, reads_none, reads_wider}
 use Rattle.epoch_room.proofs.Led.{retired_parts_small}
 
 abbrev Answer : Type 0
@@ -135,10 +135,10 @@ without_unheld board parts = each parts (there parts (each_there (map (λ p. p.r
 -- ---- the answers
 
 pub all_none : (value : RoomValue) (fault : RoomFault) → IsWhole value → ErasesAllOr value value (Err fault) → ErasesAll value value (Err fault)
-all_none value fault whole room = record { room = room; left = tt; read = reads_none (unheld value.room) value.disk; beside = beside_none value.disk; keeps = keeps_none value whole; job = job_itself value.room }
+all_none value fault whole room = record { room = room; left = tt; read = reads_none (unheld value.room) value.disk; leaves = closing_none (unheld value.room) value.disk; beside = beside_none value.disk; keeps = keeps_none value whole; job = job_itself value.room }
 
 pub all_memory : (value : RoomValue) → IsWhole value → value.room.is_shut ≡ false → ErasesAll value value (Err room_fault.NoMemory)
-all_memory value whole open_room = all_none value room_fault.NoMemory whole (open_room, ([], unheld value.room, refl, (λ e. refl, λ ne. absurd (ne refl))))
+all_memory value whole open_room = all_none value room_fault.NoMemory whole (open_room, ([], unheld value.room, refl, (λ ne. absurd (ne refl)), (λ e. refl, λ ne. absurd (ne refl))))
 
 module _ (leads : List ℕ) (old new : RoomValue) (result : Answer) (are : leads ≡ unheld old.room) (led' : ErasesLed leads old new result) (open_room : old.room.is_shut ≡ false) where
   led : ErasesLed (unheld old.room) old new result
@@ -146,6 +146,9 @@ module _ (leads : List ℕ) (old new : RoomValue) (result : Answer) (are : leads
 
   reads_all : ReadsButGates (unheld old.room) old.disk new.disk
   reads_all = subst (λ rs. ReadsButGates rs old.disk new.disk) (sym led.are) (reads_wider led.begun led.more old.disk new.disk led.read)
+
+  leaves_all : LeavesClosing (unheld old.room) old.disk new.disk
+  leaves_all = subst (λ rs. LeavesClosing rs old.disk new.disk) (sym led.are) (closing_wider led.begun led.more old.disk new.disk led.leaves)
 
   pub all_ok : (n : ℕ) → n ≡ length leads → result ≡ Ok tt → ErasesAll old new (Ok n)
   all_ok n many is =
@@ -158,6 +161,7 @@ module _ (leads : List ℕ) (old new : RoomValue) (result : Answer) (are : leads
         room = (open_room, many ∙ ap length are, (none, some));
         left = by (unheld old.room) refl none some ∙ without_unheld old.room.board old.room.retired;
         read = reads_all;
+        leaves = leaves_all;
         beside = led.beside;
         keeps = led.keeps;
         job = led.job;
@@ -173,9 +177,9 @@ module _ (leads : List ℕ) (old new : RoomValue) (result : Answer) (are : leads
       by (r ∷ rs) e none some = ap (λ (s : RoomState). s.retired) (some (λ z. let c : ◌≡◌ {A = List ℕ} (r ∷ rs) [] = sym e ∙ z in cc)).1.1.room
 
   pub all_disk : IsErrOf result refusal.Failed → ErasesAll old new (Err room_fault.Disk)
-  all_disk f = record { room = (led.begun, led.more, led.are, led.some f, led.unsynced f, led.shuts f); left = tt; read = reads_all; beside = led.beside; keeps = led.keeps; job = led.job }
+  all_disk f = record { room = (led.begun, led.more, led.are, led.some f, led.unsynced f, led.shuts f); left = tt; read = reads_all; leaves = leaves_all; beside = led.beside; keeps = led.keeps; job = led.job }
 
   pub all_less : IsErrOf result refusal.NoMemory → ErasesAll old new (Err room_fault.NoMemory)
   all_less m =
       let fine : IsErrOf result refusal.Failed → ⊥ = λ f. (let e : ◌≡◌ {A = Answer} (Err refusal.NoMemory) (Err refusal.Failed) = sym m ∙ f in cc) in
-      record { room = (open_room, (led.begun, led.more, led.are, (led.none, λ ne. (led.synced fine ne, led.does fine ne)))); left = tt; read = reads_all; beside = led.beside; keeps = led.keeps; job = led.job }
+      record { room = (open_room, (led.begun, led.more, led.are, (λ ne. led.wanted m), (led.none, λ ne. (led.synced fine ne, led.does fine ne)))); left = tt; read = reads_all; leaves = leaves_all; beside = led.beside; keeps = led.keeps; job = led.job }

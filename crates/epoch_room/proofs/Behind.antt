@@ -39,6 +39,7 @@ use Rattle.epoch_room.proofs.Longer.{range_of}
 use Rattle.epoch_room.proofs.Partitions.{partition_long}
 use Rattle.epoch_room.proofs.OneRegion.{set_one}
 use Rattle.epoch_room.proofs.Torn.{HasOpened}
+use Rattle.epoch_room.proofs.Touching.{beside_told}
 
 -- ---- what is told at entry, before and then
 
@@ -93,8 +94,8 @@ pub same_beside : (disk : Disk) → SameBeside disk disk
 same_beside disk = record { regions = refl; region_len = refl; eyes = refl; given = refl }
 
 -- an earlier failure, and want of memory before the disk was called
-pub seals_none : (value : RoomValue) (result : Result ℕ RoomFault) → IsWhole value → SealsOr value value result → Seals value value result
-seals_none value result whole room = record { room = room; beside = same_beside value.disk; keeps = keeps_none value whole; job = job_itself value.room }
+pub seals_none : (value : RoomValue) (fault : RoomFault) → IsWhole value → SealsOr value value (Err fault) → Seals value value (Err fault)
+seals_none value fault whole room = record { room = room; body = tt; read = beside_told (option_to_list value.target) value.disk value.disk refl; beside = same_beside value.disk; keeps = keeps_none value whole; job = job_itself value.room }
 
 pub does_none : (value : RoomValue) → IsWhole value → value.room.is_shut ≡ false → Does value.room value.target value value
 does_none value whole open_room = (
@@ -155,6 +156,9 @@ module _ (old entry : Disk) (kept : Kept) (whole : IsWhole (value_of old entry k
         on' None (Some b) p s t h = absurd p
         on' (Some a) None p s t h = absurd p
         on' (Some a) (Some b) p s t h = record { told = s; told' = t; left = h; differs = record { as_many = p.0; others = λ r ne. p.1 r (other r region ne) } }
+
+    target_read : KeepsBeside (option_to_list kept.target) old new
+    target_read = subst (λ t. KeepsBeside (option_to_list t) old new) (sym at) read
 
     abbrev eyes_of : Disk → List (ℕ × List ℕ)
     eyes_of disk = map (λ eye. (eye.number, eye.regions)) disk.eyes
@@ -246,6 +250,13 @@ module _ (old entry : Disk) (kept : Kept) (whole : IsWhole (value_of old entry k
               record { faults = (counts.else_same fine).0; own_faults = (counts.else_same fine).1 },
             ),
           );
+          body = record {
+            sorted = sorted;
+            is_arranged = arranged;
+            bytes = subst (λ t. HasBytes (λ image. with_bytes (with_bytes image (unwrap_or t 0) 1 (partition_bytes old.region_len (range_of kept.sealed) sorted)) (unwrap_or t 0) 0 gate) old new) (sym at)
+                (subst (λ bs. HasBytes (λ image. with_bytes (with_bytes image region 1 bs) region 0 gate) old new) spelled written);
+          };
+          read = target_read;
           beside = same;
           keeps = record {
             stands = stands_ok;
@@ -284,6 +295,8 @@ module _ (old entry : Disk) (kept : Kept) (whole : IsWhole (value_of old entry k
           },
           record { faults = counts.faults f; own_faults = counts.own_faults f; no_lower = lower },
         );
+        body = tt;
+        read = target_read;
         beside = same;
         keeps = record {
           stands = stands_shut;
@@ -331,6 +344,8 @@ module _ (old entry : Disk) (kept : Kept) (whole : IsWhole (value_of old entry k
             record { room = refl; target = refl; entry = refl; regions = same.regions; region_len = same.region_len; time = time },
             record { faults = (counts.else_same fine).0; own_faults = (counts.else_same fine).1 },
           );
+          body = tt;
+          read = target_read;
           beside = same;
           keeps = record {
             stands = stands_open;

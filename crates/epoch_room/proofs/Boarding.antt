@@ -1,6 +1,6 @@
 -- The open eyes name regions of parts alone, so what is written beside the parts changes nothing of what they show.
 use Rattle.std.proofs.Common.{◌≡◌, ℕ, zero, suc, Bool, true, false, ◌||◌, List, [], ◌∷◌, ◌++◌, length, map, Some, None, refl, sym, ap, subst, ◌∙◌, arith, true≢false}
-use Rattle.std.specs.Prelude.{Option, nat_eq, option_map, Any, Contains}
+use Rattle.std.specs.Prelude.{Option, nat_eq, slice_get, option_map, Any, Contains}
 use Rattle.std.specs.List.{AllByRecursion, list_any, range_with_len}
 use Rattle.std.proofs.lemmas.Bool.{or_right}
 use Rattle.std.proofs.lemmas.List.Elements.{All-contains, All-from_recursion, recursion_from_All}
@@ -10,7 +10,7 @@ use Rattle.std.proofs.lemmas.Map.Views.{list_any-from_Contains}
 use Rattle.fine_model.specs.declared.Part.{Part}
 use Rattle.fine_model.specs.declared.law.OpenedEye.{OpenedEye}
 use Rattle.fine_model.specs.declared.law.RoomState.{RoomState}
-use Rattle.fine_model.specs.Boards.{regions_by, set_of, posted, named, held_of}
+use Rattle.fine_model.specs.Boards.{Buffer, regions_by, set_of, posted, named, held_of}
 use Rattle.fine_model.specs.Chain.{regions_of}
 use Rattle.fine_model.specs.Regions.{Image, region_of}
 use Rattle.fine_model.specs.Views.{SameSeen}
@@ -19,7 +19,7 @@ use Rattle.fine_model.proofs.Order.{all_map}
 use Rattle.fine_model.proofs.Sets.{all_pass}
 use Rattle.log_disk.specs.Disk.{Told, Disk, OpenEye, BothTold, IsUnseen}
 use Rattle.epoch_room.specs.Value.{all_regions}
-use Rattle.epoch_room.specs.Whole.{AreOnBoard, NamesWhole}
+use Rattle.epoch_room.specs.Whole.{AreOnBoard, BoardShows, NamesWhole}
 use Rattle.epoch_room.proofs.Freeing.{nat_alike}
 
 -- these regions are in none of these parts
@@ -112,3 +112,14 @@ pub still_shows : (regions : List ℕ) (x y : Option Told) (eyes : List OpenedEy
     → AllByRecursion (λ eye. SameSeen eye.regions (option_map (λ (t : Told). t.bytes) x) eye.told) eyes → AllByRecursion (λ eye. SameSeen eye.regions (option_map (λ (t : Told). t.bytes) y) eye.told) eyes
 still_shows regions x y [] alike un all = tt
 still_shows regions x y (eye ∷ eyes) alike un all = (one_shows regions eye.regions x y eye.told alike un.0 all.0, still_shows regions x y eyes alike un.1 all.1)
+
+-- what stands in a buffer is among what is filled
+posted_at : (P : OpenedEye → Type 0) (board : List Buffer) (at : ℕ) (eye : OpenedEye) → AllByRecursion P (posted board) → slice_get board at ≡ Some (Some eye) → P eye
+posted_at P [] at eye all is = absurd cc
+posted_at P (None ∷ board) zero eye all is = absurd (let e : ◌≡◌ {A = Buffer} None (Some eye) = cc in cc)
+posted_at P (Some first ∷ board) zero eye all is = let e : first ≡ eye = cc in subst P e all.0
+posted_at P (None ∷ board) (suc at) eye all is = posted_at P board at eye all is
+posted_at P (Some first ∷ board) (suc at) eye all is = posted_at P board at eye all.1 is
+
+pub board_shows : BoardShows
+board_shows value at eye whole is = posted_at (λ (eye : OpenedEye). SameSeen eye.regions value.room.image eye.told) value.room.board at eye whole.board.shows is

@@ -1,12 +1,12 @@
 -- Bytes of a body are written in one region, and in two.
-use Rattle.std.proofs.Common.{◌≡◌, ◌≢◌, ℕ, ◌+◌, ◌-◌, ◌*◌, ◌/◌, ◌%◌, ◌<◌, ◌≤◌, ◌||◌, true, false, List, [], ◌∷◌, ◌++◌, length, take, drop, Some, None, Ok, Err, Result, refl, sym, ap, subst, ◌∙◌, inl, inr, arith, append_assoc, length-append, length-take, true≢false}
+use Rattle.std.proofs.Common.{◌≡◌, ◌≢◌, ℕ, zero, suc, ◌+◌, ◌-◌, ◌*◌, ◌/◌, ◌%◌, ◌<◌, ◌≤◌, ◌||◌, true, false, List, [], ◌∷◌, ◌++◌, length, take, drop, Some, None, Ok, Err, Result, refl, sym, ap, subst, ◌∙◌, inl, inr, arith, append_assoc, length-append, length-take, true≢false, eq-eqb}
 use Rattle.std.specs.Prelude.{Option, IfSome, All, Contains, IsErr, IsErrOf, OnOk, min, nat_eq}
 use Rattle.std.specs.List.{AllByRecursion, list_any}
-use Rattle.std.proofs.lemmas.Bool.{cases_lt}
+use Rattle.std.proofs.lemmas.Bool.{cases_lt, eqb-true, or_right}
 use Rattle.std.proofs.lemmas.List.{take_at, drop_at, drop-drop, take-take, take-append-drop}
 use Rattle.std.proofs.lemmas.Nat.{div-add-mod', mod-mul-add}
 use Rattle.std.proofs.lemmas.List.Elements.{All-contains, All-from_recursion}
-use Rattle.std.proofs.lemmas.Map.Views.{list_any-from_Contains}
+use Rattle.std.proofs.lemmas.Map.Views.{Contains-from_any, list_any-from_Contains}
 use Rattle.fine_model.specs.declared.Header.{Header}
 use Rattle.fine_model.specs.declared.Mark.{Mark}
 use Rattle.fine_model.specs.declared.Mark.TheVariants as mark
@@ -14,6 +14,7 @@ use Rattle.fine_model.specs.declared.Part.{Part}
 use Rattle.fine_model.specs.ChainLaws.{DiffersBehind}
 use Rattle.fine_model.specs.Chain.{regions_of}
 use Rattle.fine_model.specs.Regions.{Image, body_in, body_start, place_of}
+use Rattle.fine_model.proofs.Nothing.{all_at}
 use Rattle.fine_model.proofs.Order.{all_map}
 use Rattle.log_disk.specs.Disk.{Disk, Told, BothTold, HasGoneOn, HasRisen, IsImageNow, IsSound, IsToldOf, IsUnseen, OpenEye, SameOutside, Writes, clock_of, region_of, span_of, unsynced_too, with_bytes}
 use Rattle.log_disk.specs.Moments.{ContinuesOn, LeavesOnly}
@@ -26,13 +27,13 @@ use Rattle.log_disk.proofs.Steps.{both_same, both_then, both_weaker}
 use Rattle.log_disk.proofs.Times.{continues_none, continues_then, continues_write}
 use Rattle.partition_index.specs.Parts.{LiesIn, body_len}
 use Rattle.partition_index.specs.Placing.{HasBody, HasRoomFor}
-use Rattle.partition_index.proofs.BodyPlaces.{body_long, high_place, low_place}
+use Rattle.partition_index.proofs.BodyPlaces.{body_long, high_place, low_place, place_more}
 use Rattle.partition_index.proofs.Placed.{place_named, placed}
-use Rattle.epoch_room.specs.BodyWrites.{HasPlace, KeepsFront, WritesBody}
-use Rattle.epoch_room.specs.Gate.{IsBehind, LeavesBehind, ReadsBehind}
+use Rattle.epoch_room.specs.BodyWrites.{HasPlace, KeepsFront, WritesBody, lying_in}
+use Rattle.epoch_room.specs.Gate.{DirtiesOnly, IsBehind, LeavesBehind, ReadsBehind}
 use Rattle.epoch_room.proofs.Freeing.{nat_alike}
 use Rattle.epoch_room.proofs.Gates.{behind}
-use Rattle.epoch_room.proofs.Touching.{dirties_more, dirties_none, dirties_then}
+use Rattle.epoch_room.proofs.Touching.{dirties_more, dirties_none, dirties_then, first_is, own_region}
 
 -- ---- images that differ behind the gates of regions
 
@@ -120,9 +121,6 @@ module _ (p : Part) (at : ℕ) (bytes : List ℕ) (old : Disk) (place : HasPlace
   named : Contains (regions_of p) (place_of old.region_len p.region p.header at).region
   named = place_named old.region_len p at place.lies (omega (arith, some, within))
 
-  there : list_any (nat_eq (place_of old.region_len p.region p.header at).region) (regions_of p) ≡ true
-  there = list_any-from_Contains nat_alike _ (regions_of p) named
-
   low : 1 ≤ (place_of old.region_len p.region p.header at).at
   low = elim (cases_lt at (old.region_len - body_start p.header.mark)) [
     | inl l ↦ subst (λ q. 1 ≤ q.at) (sym (low_place old.region_len p.region p.header at l)) (let s = start_low p.header.mark in omega (arith, s))
@@ -156,15 +154,15 @@ module _ (p : Part) (at : ℕ) (bytes : List ℕ) (old : Disk) (place : HasPlace
 
   pub piece_begun : (fits : (place_of old.region_len p.region p.header at).at + length bytes ≤ old.region_len) (new : Disk) (result : Result (Unit {0}) DiskRefusal)
       → Writes (place_of old.region_len p.region p.header at).region (place_of old.region_len p.region p.header at).at bytes (IsErrOf result refusal.Failed) old new
-      → (IsErrOf result refusal.NoMemory → ⊥) → WritesBody p at bytes result old new
+      → (IsErrOf result refusal.NoMemory → ⊥) → WritesBody ((place_of old.region_len p.region p.header at).region ∷ []) p at bytes result old new
   piece_begun fits new result w begun = record {
     beside = w.beside;
     counts = w.counts;
     sound = sound_write w place.sound;
     time = continues_write w;
-    dirties = dirties_more (regions_of p) old new _ named w.unsynced;
-    read = reads_write (regions_of p) _ _ bytes old new there low w;
-    leaves = leaves_behind_write (regions_of p) _ _ bytes old new there low w;
+    dirties = dirties_more (at_region ∷ []) old new at_region (first_is at_region) w.unsynced;
+    read = reads_write (at_region ∷ []) at_region at_byte bytes old new (own_region at_region) low w;
+    leaves = leaves_behind_write (at_region ∷ []) at_region at_byte bytes old new (own_region at_region) low w;
     done = ok result refl;
     some = λ f. some;
     kept = λ e. absurd (begun e);
@@ -175,8 +173,8 @@ module _ (p : Part) (at : ℕ) (bytes : List ℕ) (old : Disk) (place : HasPlace
       ok (Err r) e = tt
 
 -- nothing was written
-pub piece_none : (p : Part) (at : ℕ) (bytes : List ℕ) (old new : Disk) (result : Result (Unit {0}) DiskRefusal) → IsSound old → new ≡ old → IsErrOf result refusal.NoMemory → WritesBody p at bytes result old new
-piece_none p at bytes old new result sound same none = record {
+pub piece_none : (regions : List ℕ) (p : Part) (at : ℕ) (bytes : List ℕ) (old new : Disk) (result : Result (Unit {0}) DiskRefusal) → IsSound old → 1 ≤ length bytes → new ≡ old → IsErrOf result refusal.NoMemory → WritesBody regions p at bytes result old new
+piece_none regions p at bytes old new result sound some same none = record {
   beside = record { regions = ap (λ (d : Disk). d.regions) same; region_len = ap (λ (d : Disk). d.region_len) same; eyes = ap (λ (d : Disk). d.eyes) same; given = ap (λ (d : Disk). d.given) same };
   counts = record {
     faults = λ f. absurd (not_both f);
@@ -186,11 +184,11 @@ piece_none p at bytes old new result sound same none = record {
   };
   sound = subst IsSound (sym same) sound;
   time = subst (ContinuesOn old) (sym same) (continues_none old);
-  dirties = dirties_none (regions_of p) old new (ap (λ (d : Disk). d.unsynced) same);
-  read = reads_none (regions_of p) old new (ap (λ (d : Disk). d.told) same);
-  leaves = leaves_behind_none (regions_of p) old new (ap (λ (d : Disk). d.told) same);
+  dirties = dirties_none regions old new (ap (λ (d : Disk). d.unsynced) same);
+  read = reads_none regions old new (ap (λ (d : Disk). d.told) same);
+  leaves = leaves_behind_none regions old new (ap (λ (d : Disk). d.told) same);
   done = ok result none;
-  some = λ f. absurd (not_both f);
+  some = λ f. some;
   kept = λ e. front_none p at old new (ap (λ (d : Disk). d.told) same);
 }
   where
@@ -223,13 +221,13 @@ as_failed back forth w = record {
 pub piece_of : (p : Part) (at : ℕ) (bytes : List ℕ) (old : Disk) (place : HasPlace old p) (some : 1 ≤ length bytes) (within : at + length bytes ≤ body_len p.header)
     (fits : (place_of old.region_len p.region p.header at).at + length bytes ≤ old.region_len) (new : Disk) (result : Result (Unit {0}) DiskRefusal) (region from : ℕ)
     → region ≡ (place_of old.region_len p.region p.header at).region → from ≡ (place_of old.region_len p.region p.header at).at
-    → (result ≢ Err refusal.NoMemory → Writes region from bytes (IsErr result) old new) → (IsErrOf result refusal.NoMemory → new ≡ old) → WritesBody p at bytes result old new
+    → (result ≢ Err refusal.NoMemory → Writes region from bytes (IsErr result) old new) → (IsErrOf result refusal.NoMemory → new ≡ old) → WritesBody ((place_of old.region_len p.region p.header at).region ∷ []) p at bytes result old new
 piece_of p at bytes old place some within fits new result region from r f begun none = by result begun none
   where
     at_place : {failed : Type 0} → Writes region from bytes failed old new → Writes (place_of old.region_len p.region p.header at).region (place_of old.region_len p.region p.header at).at bytes failed old new
     at_place {failed} w = subst (λ n. Writes n (place_of old.region_len p.region p.header at).at bytes failed old new) r (subst (λ n. Writes region n bytes failed old new) f w)
 
-    by : (s : Result (Unit {0}) DiskRefusal) → (s ≢ Err refusal.NoMemory → Writes region from bytes (IsErr s) old new) → (IsErrOf s refusal.NoMemory → new ≡ old) → WritesBody p at bytes s old new
+    by : (s : Result (Unit {0}) DiskRefusal) → (s ≢ Err refusal.NoMemory → Writes region from bytes (IsErr s) old new) → (IsErrOf s refusal.NoMemory → new ≡ old) → WritesBody ((place_of old.region_len p.region p.header at).region ∷ []) p at bytes s old new
     by (Ok u) b n =
         piece_begun p at bytes old place some within fits new (Ok u)
         (as_failed {F = IsErr {T = Unit {0}} {E = DiskRefusal} (Ok u)} {G = IsErrOf {T = Unit {0}} (Ok u) refusal.Failed} (λ e. absurd (let q : ◌≡◌ {A = Result (Unit {0}) DiskRefusal} (Ok u) (Err refusal.Failed) = e in cc)) (λ e. absurd (true≢false (sym e))) (at_place (b (λ e. cc))))
@@ -237,21 +235,21 @@ piece_of p at bytes old place some within fits new result region from r f begun 
     by (Err refusal.Failed) b n =
         piece_begun p at bytes old place some within fits new (Err refusal.Failed) (as_failed {F = IsErr {T = Unit {0}} {E = DiskRefusal} (Err refusal.Failed)} {G = IsErrOf {T = Unit {0}} (Err refusal.Failed) refusal.Failed} (λ e. refl) (λ e. refl) (at_place (b (λ e. cc))))
         (λ e. let q : ◌≡◌ {A = Result (Unit {0}) DiskRefusal} (Err refusal.Failed) (Err refusal.NoMemory) = e in cc)
-    by (Err refusal.NoMemory) b n = piece_none p at bytes old new (Err refusal.NoMemory) place.sound (n refl) refl
+    by (Err refusal.NoMemory) b n = piece_none ((place_of old.region_len p.region p.header at).region ∷ []) p at bytes old new (Err refusal.NoMemory) place.sound some (n refl) refl
 
 -- ---- no bytes
 
-pub body_none : (p : Part) (at : ℕ) (bytes : List ℕ) (old : Disk) → IsSound old → length bytes ≡ 0 → WritesBody p at bytes (Ok tt) old old
-body_none p at bytes old sound none = record {
+pub body_none : (regions : List ℕ) (p : Part) (at : ℕ) (bytes : List ℕ) (old : Disk) → IsSound old → length bytes ≡ 0 → WritesBody regions p at bytes (Ok tt) old old
+body_none regions p at bytes old sound none = record {
   beside = record { regions = refl; region_len = refl; eyes = refl; given = refl };
   counts = record { faults = λ f. absurd (bad f); own_faults = λ f. absurd (bad f); no_lower = (omega arith, omega arith); else_same = λ f. (refl, refl) };
   sound = sound;
   time = continues_none old;
-  dirties = dirties_none (regions_of p) old old refl;
-  read = reads_none (regions_of p) old old refl;
-  leaves = leaves_behind_none (regions_of p) old old refl;
+  dirties = dirties_none regions old old refl;
+  read = reads_none regions old old refl;
+  leaves = leaves_behind_none regions old old refl;
   done = both_same (λ a b. HasBody p at bytes a.bytes b.bytes) same old.told old.told refl;
-  some = λ f. absurd (bad f);
+  some = λ f. absurd (true≢false (sym f));
   kept = λ e. absurd (let h : ◌≡◌ {A = Result (Unit {0}) DiskRefusal} (Ok tt) (Err refusal.NoMemory) = e in cc);
 }
   where
@@ -271,9 +269,69 @@ body_none p at bytes old sound none = record {
         plain : (n : ℕ) (xs : List ℕ) → take n xs ++ drop (n + 0) xs ≡ xs
         plain n xs = let e : n + 0 ≡ n = omega arith in ap (λ m. take n xs ++ drop m xs) e ∙ take-append-drop n xs
 
+-- ---- more regions
+
+differs_among : (region : ℕ) (regions : List ℕ) → list_any (nat_eq region) regions ≡ true → (old new : Disk) → ReadsBehind (region ∷ []) old new → ReadsBehind regions old new
+differs_among region regions there old new read =
+    both_weaker (λ a b. DiffersBehind (region ∷ []) a.bytes b.bytes) (λ a b. DiffersBehind regions a.bytes b.bytes) (λ a b differs. differs_wider region regions a.bytes b.bytes there differs) old.told new.told read
+
+leaves_among : (region : ℕ) (regions : List ℕ) → list_any (nat_eq region) regions ≡ true → (old new : Disk) → LeavesBehind (region ∷ []) old new → LeavesBehind regions old new
+leaves_among region regions there old new leaves =
+    both_weaker (λ a b. LeavesOnly (IsBehind (region ∷ []) a) a b) (λ a b. LeavesOnly (IsBehind regions a) a b)
+    (λ a b run. leaves_weaker (IsBehind (region ∷ []) a) (IsBehind regions a) a b (λ image is. record { was = is.was; is_was = is.is_was; differs = differs_wider region regions is.was image there is.differs }) run) old.told new.told leaves
+
+dirties_among : (region : ℕ) (regions : List ℕ) → list_any (nat_eq region) regions ≡ true → (old new : Disk) → DirtiesOnly (region ∷ []) old new → DirtiesOnly regions old new
+dirties_among region regions there old new dirties k d h = elim (dirties k d h) [
+  | inl was ↦ inl was
+  | inr own ↦ inr (Contains-from_any (λ x y e. eqb-true x y e) _ regions
+      (all_at (λ q. list_any (nat_eq q) regions ≡ true) _ (region ∷ []) (there, tt) (list_any-from_Contains nat_alike _ (region ∷ []) own)))
+]
+
+-- what was written in one region was written in no other than some among which it is
+pub body_among : {result : Result (Unit {0}) DiskRefusal} (region : ℕ) (regions : List ℕ) → list_any (nat_eq region) regions ≡ true → (p : Part) (at : ℕ) (bytes : List ℕ) (old new : Disk)
+    → WritesBody (region ∷ []) p at bytes result old new → WritesBody regions p at bytes result old new
+body_among region regions there p at bytes old new w = record {
+  beside = w.beside;
+  counts = w.counts;
+  sound = w.sound;
+  time = w.time;
+  dirties = dirties_among region regions there old new w.dirties;
+  read = differs_among region regions there old new w.read;
+  leaves = leaves_among region regions there old new w.leaves;
+  done = w.done;
+  some = w.some;
+  kept = w.kept;
+}
+
+-- ---- where bytes of a body lie
+
+pub first_lies : (region_len lead : ℕ) (header : Header) (at n : ℕ) → 1 ≤ n → list_any (nat_eq (place_of region_len lead header at).region) (lying_in region_len lead header at n) ≡ true
+first_lies region_len lead header at zero some = absurd (omega (arith, some))
+first_lies region_len lead header at (suc n) some = ap (λ b. b || list_any (nat_eq (place_of region_len lead header at).region) ((place_of region_len lead header (at + n)).region ∷ [])) (eq-eqb (place_of region_len lead header at).region (place_of region_len lead header at).region refl)
+
+-- the last bytes, if they do not pass the end of the region in which they begin
+pub last_lies : (region_len lead : ℕ) (header : Header) (at k m : ℕ) → 70 < region_len → 1 ≤ m → (place_of region_len lead header (at + k)).at + m ≤ region_len
+    → list_any (nat_eq (place_of region_len lead header (at + k)).region) (lying_in region_len lead header at (k + m)) ≡ true
+last_lies region_len lead header at k zero large some within = absurd (omega (arith, some))
+last_lies region_len lead header at k (suc m) large some within =
+    subst (λ n. list_any (nat_eq (place_of region_len lead header (at + k)).region) (lying_in region_len lead header at n) ≡ true) (let e : suc (k + m) ≡ k + suc m = omega arith in e)
+    (subst (λ r. list_any (nat_eq r) (lying_in region_len lead header at (suc (k + m))) ≡ true) same (second (place_of region_len lead header at).region (place_of region_len lead header (at + (k + m))).region))
+  where
+    same : (place_of region_len lead header (at + (k + m))).region ≡ (place_of region_len lead header (at + k)).region
+    same = ap (λ n. (place_of region_len lead header n).region) (let e : at + (k + m) ≡ at + k + m = omega arith in e) ∙ ap (λ q. q.region) (place_more region_len lead header (at + k) m large (omega (arith, within)))
+
+    second : (x y : ℕ) → list_any (nat_eq y) (x ∷ y ∷ []) ≡ true
+    second x y = or_right (nat_eq y x) (list_any (nat_eq y) (y ∷ [])) (own_region y)
+
+-- what holds of each region of a part's body holds of those in which bytes of it lie
+pub all_lying : (P : ℕ → Type 0) (region_len lead : ℕ) (header : Header) (at n : ℕ) → at + n ≤ body_len header → ((k : ℕ) → k < body_len header → P (place_of region_len lead header k).region)
+    → AllByRecursion P (lying_in region_len lead header at n)
+all_lying P region_len lead header at zero within each = tt
+all_lying P region_len lead header at (suc n) within each = (each at (omega (arith, within)), (each (at + n) (omega (arith, within)), tt))
+
 -- ---- two pieces
 
-module _ (p : Part) (at : ℕ) (front back : List ℕ) (old mid new : Disk) (place : HasPlace old p) (within : at + length (front ++ back) ≤ body_len p.header) where
+module _ (regions : List ℕ) (p : Part) (at : ℕ) (front back : List ℕ) (old mid new : Disk) (place : HasPlace old p) (within : at + length (front ++ back) ≤ body_len p.header) where
   long : (a : Told) → IsToldOf old a → at + length (front ++ back) ≤ length (body_in a.bytes p.region p.header)
   long a told =
       let l = body_long old.region_len a.bytes p place.lies (all_map (λ r. r < old.regions) (λ r. length (region_of a.bytes r) ≡ old.region_len) told.lengths (regions_of p) place.there) in
@@ -296,7 +354,7 @@ module _ (p : Part) (at : ℕ) (front back : List ℕ) (old mid new : Disk) (pla
       beyond : (xs : List ℕ) → drop (length back) (drop (at + length front) xs) ≡ drop (at + length front + length back) xs
       beyond xs = drop-drop (length back) (at + length front) xs
 
-  pub still_place : {result : Result (Unit {0}) DiskRefusal} → WritesBody p at front result old mid → HasPlace mid p
+  pub still_place : {result : Result (Unit {0}) DiskRefusal} → WritesBody regions p at front result old mid → HasPlace mid p
   still_place first = record {
     sound = first.sound;
     lies = subst (λ n. LiesIn n p.header) (sym first.beside.region_len) place.lies;
@@ -305,7 +363,7 @@ module _ (p : Part) (at : ℕ) (front back : List ℕ) (old mid new : Disk) (pla
     unseen = subst (λ (eyes : List OpenEye). All (λ r. All (λ eye. Contains eye.regions r → ⊥) eyes) (regions_of p)) (sym first.beside.eyes) place.unseen;
   }
 
-  pub pieces : (result : Result (Unit {0}) DiskRefusal) {u : Unit {0}} → WritesBody p at front (Ok u) old mid → WritesBody p (at + length front) back result mid new → WritesBody p at (front ++ back) result old new
+  pub pieces : (result : Result (Unit {0}) DiskRefusal) {u : Unit {0}} → WritesBody regions p at front (Ok u) old mid → WritesBody regions p (at + length front) back result mid new → WritesBody regions p at (front ++ back) result old new
   pieces result {u} first second = record {
     beside = record {
       regions = second.beside.regions ∙ first.beside.regions;
@@ -321,9 +379,9 @@ module _ (p : Part) (at : ℕ) (front back : List ℕ) (old mid new : Disk) (pla
     };
     sound = second.sound;
     time = continues_then old mid new first.time second.time;
-    dirties = dirties_then (regions_of p) old mid new first.dirties second.dirties;
-    read = reads_then (regions_of p) old mid new first.read second.read;
-    leaves = leaves_behind_then (regions_of p) old mid new first.leaves second.leaves;
+    dirties = dirties_then regions old mid new first.dirties second.dirties;
+    read = reads_then regions old mid new first.read second.read;
+    leaves = leaves_behind_then regions old mid new first.leaves second.leaves;
     done = ok result second.done;
     some = λ f. (let l = second.some f in omega (arith, l, length-append front back));
     kept = λ e. front_kept old.told mid.told new.told first.done (second.kept e) place.sound.told;
@@ -398,8 +456,8 @@ next_row region_len lead header at n large end = elim (cases_lt at (region_len -
 
 -- ---- the call's exits
 
-pub refused_body : (p : Part) (at : ℕ) (xs ys : List ℕ) (e : DiskRefusal) (old new : Disk) → length xs ≤ length ys → WritesBody p at xs (Err e) old new → WritesBody p at ys (Err e) old new
-refused_body p at xs ys e old new few w = record {
+pub refused_body : (regions : List ℕ) (p : Part) (at : ℕ) (xs ys : List ℕ) (e : DiskRefusal) (old new : Disk) → length xs ≤ length ys → WritesBody regions p at xs (Err e) old new → WritesBody regions p at ys (Err e) old new
+refused_body regions p at xs ys e old new few w = record {
   beside = w.beside;
   counts = w.counts;
   sound = w.sound;

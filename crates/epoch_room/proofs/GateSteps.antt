@@ -18,7 +18,7 @@ use Rattle.log_disk.proofs.Writes.{region_of-set_same}
 use Rattle.log_disk.proofs.Times.{continues_none, continues_sync, continues_then, continues_told, continues_write}
 use Rattle.log_disk.specs.declared.refusal.DiskRefusal.{DiskRefusal}
 use Rattle.log_disk.specs.declared.refusal.DiskRefusal.TheVariants as refusal
-use Rattle.epoch_room.specs.Closing.{BeginsGates, ClosesGates, WritesGates, DiffersAtGates, IsAtGates, ReadsButGates, ReadsClosed, TouchesGates, closed_gate}
+use Rattle.epoch_room.specs.Closing.{BeginsGates, ClosesGates, WritesGates, DiffersAtGates, IsAtGates, LeavesClosing, ReadsButGates, ReadsClosed, TouchesGates, closed_gate}
 
 -- ---- images
 
@@ -51,8 +51,8 @@ differs_wider regions more a b d = record {
   behind = d.behind;
 }
 
-wider_image : (regions : List ℕ) (region : ℕ) (a : Told) (image : Image) → IsAtGates regions a image → IsAtGates (regions ++ region ∷ []) a image
-wider_image regions region a image at = record { was = at.was; is_was = at.is_was; differs = differs_wider regions (region ∷ []) at.was image at.differs }
+wider_image : (regions more : List ℕ) (a : Told) (image : Image) → IsAtGates regions a image → IsAtGates (regions ++ more) a image
+wider_image regions more a image at = record { was = at.was; is_was = at.is_was; differs = differs_wider regions more at.was image at.differs }
 
 pub reads_none : (regions : List ℕ) (disk : Disk) → ReadsButGates regions disk disk
 reads_none regions disk = both_same (λ a b. DiffersAtGates regions a.bytes b.bytes) (λ a. differs_none regions a.bytes) disk.told disk.told refl
@@ -69,9 +69,17 @@ beside_none disk = record { regions = refl; region_len = refl; eyes = refl; give
 told_none : (regions : List ℕ) (a : Told) → LeavesOnly (IsAtGates regions a) a a
 told_none regions a = leaves_none (IsAtGates regions a) a (λ image now. record { was = image; is_was = now; differs = differs_none regions image })
 
+pub closing_none : (regions : List ℕ) (disk : Disk) → LeavesClosing regions disk disk
+closing_none regions disk = both_same (λ a b. LeavesOnly (IsAtGates regions a) a b) (λ a. told_none regions a) disk.told disk.told refl
+
+pub closing_wider : (regions more : List ℕ) (old new : Disk) → LeavesClosing regions old new → LeavesClosing (regions ++ more) old new
+closing_wider regions more old new leaves =
+    both_weaker (λ a b. LeavesOnly (IsAtGates regions a) a b) (λ a b. LeavesOnly (IsAtGates (regions ++ more) a) a b) (λ a b run. leaves_weaker (IsAtGates regions a) (IsAtGates (regions ++ more) a) a b (λ image at. wider_image regions more a image at) run)
+    old.told new.told leaves
+
 told_written : (regions : List ℕ) (region : ℕ) (a m b : Told) → LeavesOnly (IsAtGates regions a) a m → HasGoneOn m b (unsynced_too m.present (span_of region 0 1)) → LeavesOnly (IsAtGates (regions ++ region ∷ []) a) a b
 told_written regions region a m b run gone =
-    leaves_more (IsAtGates (regions ++ region ∷ []) a) a m b _ (leaves_weaker (IsAtGates regions a) (IsAtGates (regions ++ region ∷ []) a) a m (λ image at. wider_image regions region a image at) run) gone now
+    leaves_more (IsAtGates (regions ++ region ∷ []) a) a m b _ (leaves_weaker (IsAtGates regions a) (IsAtGates (regions ++ region ∷ []) a) a m (λ image at. wider_image regions (region ∷ []) a image at) run) gone now
   where
     earlier : IsLeft (IsAtGates regions a) m
     earlier image now = run.each image (now_since (clock_of a) m image run.later now)
@@ -97,7 +105,7 @@ touches_none disk sound = record {
   sound = sound;
   time = continues_none disk;
   read = reads_none [] disk;
-  leaves = both_same (λ a b. LeavesOnly (IsAtGates [] a) a b) (λ a. told_none [] a) disk.told disk.told refl;
+  leaves = closing_none [] disk;
 }
 
 same_then : (old mid new : Disk) → SameBeside old mid → SameBeside mid new → SameBeside old new

@@ -13,7 +13,7 @@ use Rattle.fine_model.proofs.Order.{all_map}
 use Rattle.log_disk.specs.Disk.{Disk, HasRisen}
 use Rattle.log_disk.specs.declared.refusal.DiskRefusal.{DiskRefusal}
 use Rattle.log_disk.specs.declared.refusal.DiskRefusal.TheVariants as refusal
-use Rattle.epoch_room.specs.Closing.{ClosesGates, ReadsButGates}
+use Rattle.epoch_room.specs.Closing.{ClosesGates, LeavesClosing, ReadsButGates}
 use Rattle.epoch_room.specs.Erasing.{Erases, ErasesLed, ErasesOr, erased_state, led_by, left_state, without}
 use Rattle.epoch_room.specs.Steps.{Does, Shuts}
 use Rattle.epoch_room.specs.declared.answers.EraseFault.{EraseFault}
@@ -25,7 +25,7 @@ use Rattle.epoch_room.proofs.Beside.{regions_together}
 use Rattle.epoch_room.proofs.Counting.{all_back, all_front}
 use Rattle.epoch_room.proofs.FreeSets.{set_below}
 use Rattle.epoch_room.proofs.Taken.{apart_back}
-use Rattle.epoch_room.proofs.GateSteps.{beside_none, reads_none, reads_wider}
+use Rattle.epoch_room.proofs.GateSteps.{beside_none, closing_none, closing_wider, reads_none, reads_wider}
 use Rattle.epoch_room.proofs.Erasing.{NamesNone, erased_job, erased_keeps, erased_whole, lost_now, lost_some, shut_whole}
 
 all_take : {A : Type 0} (P : A → Type 0) (k : ℕ) (xs : List A) → AllByRecursion P xs → AllByRecursion P (take k xs)
@@ -73,6 +73,7 @@ led_none value leads k result old new whole closes is = record {
   unsynced = λ f. absurd (let h = closes.gates.some f in omega (arith, h, is));
   shuts = λ f. absurd (let h = closes.gates.some f in omega (arith, h, is));
   read = reads_none [] value.disk;
+  leaves = closing_none [] value.disk;
   beside = beside_none value.disk;
   keeps = keeps_none value whole;
   job = job_itself value.room;
@@ -134,6 +135,7 @@ module _ (old entry : Disk) (kept : Kept) (whole : IsWhole (value_of old entry k
       unsynced = λ f. absurd (fine f);
       shuts = λ f. absurd (fine f);
       read = closes.gates.touches.read;
+      leaves = closes.gates.touches.leaves;
       beside = closes.gates.touches.beside;
       keeps = erased_keeps old entry kept whole open_room begun are_begun unnamed_begun new closes.gates.touches some_begun (IsErrOf result refusal.Failed) closes.gates.counts (set_of (kept.free ++ led_regions)) kept.lost kept.is_shut (λ h. absurd (true≢false (sym h ∙ open_room)));
       job = erased_job old entry kept whole open_room begun are_begun unnamed_begun new closes.gates.touches some_begun (IsErrOf result refusal.Failed) closes.gates.counts (set_of (kept.free ++ led_regions)) kept.lost kept.is_shut;
@@ -161,6 +163,7 @@ module _ (old entry : Disk) (kept : Kept) (whole : IsWhole (value_of old entry k
       does = λ n ne. absurd (n f);
       unsynced = closes.unsynced;
       read = closes.gates.touches.read;
+      leaves = closes.gates.touches.leaves;
       beside = closes.gates.touches.beside;
       shuts = λ h. (
         open_room,
@@ -232,11 +235,14 @@ none_begun r (x ∷ xs) [] e ne = absurd (ne refl)
 none_begun r (x ∷ xs) (m ∷ more) e ne = absurd (let l = ap length e in let k = length-append xs (m ∷ more) in omega (arith, l, k))
 
 pub erases_none : (region : ℕ) (value : RoomValue) (result : Result (Unit {0}) EraseFault) → IsWhole value → ErasesOr region value value result → Erases region value value result
-erases_none region value result whole room = record { room = room; read = reads_none (region ∷ []) value.disk; beside = beside_none value.disk; keeps = keeps_none value whole; job = job_itself value.room }
+erases_none region value result whole room = record { room = room; read = reads_none (region ∷ []) value.disk; leaves = closing_none (region ∷ []) value.disk; beside = beside_none value.disk; keeps = keeps_none value whole; job = job_itself value.room }
 
 module _ (region : ℕ) (old new : RoomValue) (result : Answer) (led : ErasesLed (region ∷ []) old new result) (unnamed : naming_of old.room.board region ≡ None) where
   read_one : ReadsButGates (region ∷ []) old.disk new.disk
   read_one = subst (λ rs. ReadsButGates rs old.disk new.disk) (sym led.are) (reads_wider led.begun led.more old.disk new.disk led.read)
+
+  leaves_one : LeavesClosing (region ∷ []) old.disk new.disk
+  leaves_one = subst (λ rs. LeavesClosing rs old.disk new.disk) (sym led.are) (closing_wider led.begun led.more old.disk new.disk led.leaves)
 
   pub erases_ok : result ≡ Ok tt → Erases region old new (Ok tt)
   erases_ok is =
@@ -244,14 +250,14 @@ module _ (region : ℕ) (old new : RoomValue) (result : Answer) (led : ErasesLed
       let fine : IsErrOf result refusal.Failed → ⊥ = λ f. (let e : ◌≡◌ {A = Answer} (Ok tt) (Err refusal.Failed) = sym is ∙ f in cc) in
       let begun : led.begun ≡ region ∷ [] = sym (append-nil led.begun) ∙ ap (λ more. led.begun ++ more) (sym all) ∙ sym led.are in
       let ne : led.begun ≢ [] = λ e. (let c : ◌≡◌ {A = List ℕ} (region ∷ []) [] = sym begun ∙ e in cc) in
-      record { room = (unnamed, led.synced fine ne, subst (λ rs. Does (erased_state old.room rs) old.target old new) begun (led.does fine ne)); read = read_one; beside = led.beside; keeps = led.keeps; job = led.job }
+      record { room = (unnamed, led.synced fine ne, subst (λ rs. Does (erased_state old.room rs) old.target old new) begun (led.does fine ne)); read = read_one; leaves = leaves_one; beside = led.beside; keeps = led.keeps; job = led.job }
 
   pub erases_disk : IsErrOf result refusal.Failed → Erases region old new (Err erase_fault.Disk)
   erases_disk f =
       let begun : led.begun ≡ region ∷ [] = first_alone region led.begun led.more led.are (led.some f) in
-      record { room = (unnamed, subst (λ rs. new.disk.unsynced ≡ old.disk.unsynced ++ rs) begun (led.unsynced f), subst (λ rs. Shuts (left_state old.room rs) old.target (all_regions (led_by rs old.room.retired)) old new) begun (led.shuts f)); read = read_one; beside = led.beside; keeps = led.keeps; job = led.job }
+      record { room = (unnamed, subst (λ rs. new.disk.unsynced ≡ old.disk.unsynced ++ rs) begun (led.unsynced f), subst (λ rs. Shuts (left_state old.room rs) old.target (all_regions (led_by rs old.room.retired)) old new) begun (led.shuts f)); read = read_one; leaves = leaves_one; beside = led.beside; keeps = led.keeps; job = led.job }
 
   pub erases_memory : old.room.is_shut ≡ false → IsErrOf result refusal.NoMemory → Erases region old new (Err erase_fault.NoMemory)
   erases_memory open_room m =
       let begun : led.begun ≡ [] = none_begun region led.begun led.more led.are (led.wanted m) in
-      record { room = (open_room, unnamed, led.none begun); read = read_one; beside = led.beside; keeps = led.keeps; job = led.job }
+      record { room = (open_room, unnamed, led.none begun); read = read_one; leaves = leaves_one; beside = led.beside; keeps = led.keeps; job = led.job }

@@ -1,6 +1,6 @@
 -- A room behind each answer of writing for its merge.
 use Rattle.std.proofs.Common.{◌≡◌, ℕ, ◌+◌, ◌-◌, ◌<◌, ◌≤◌, Bool, true, false, cond, not, ◌&&◌, List, [], ◌∷◌, ◌++◌, length, take, drop, Some, None, Ok, Err, Result, refl, sym, ap, subst, ◌∙◌, arith, append_assoc, length-append, length-take, true≢false}
-use Rattle.std.specs.Prelude.{Option, IfSome, IsErrOf, OnOk, filter, nat_eq, option_map, option_to_list}
+use Rattle.std.specs.Prelude.{Option, IfSome, IsErrOf, OnOk, filter, is_err, nat_eq, option_map, option_to_list}
 use Rattle.std.specs.List.{AllByRecursion, list_any}
 use Rattle.std.proofs.lemmas.Bool.{eqb-true}
 use Rattle.std.proofs.lemmas.List.{take_at}
@@ -35,12 +35,14 @@ use Rattle.epoch_room.specs.Value.{Kept, RoomValue, all_regions, on, regions_out
 use Rattle.epoch_room.specs.Whole.{AreApart, IsJob, IsTaken, IsWhole}
 use Rattle.epoch_room.specs.declared.answers.RoomFault.TheVariants as room_fault
 use Rattle.epoch_room.proofs.Behind.{keeps_none, same_beside}
+use Rattle.epoch_room.proofs.BodyPieces.{all_lying, first_lies, leaves_behind_none, reads_none}
 use Rattle.epoch_room.proofs.Boarding.{AreBeside, unseen}
 use Rattle.epoch_room.proofs.Ending.{moved_board, moved_entry, moved_job, moved_lie, moved_whole, risen_since, still_geometry}
 use Rattle.epoch_room.proofs.Freeing.{all_left, job_apart, nat_alike}
 use Rattle.epoch_room.proofs.LedParts.{fewer_apart, set_times}
 use Rattle.epoch_room.proofs.Spare.{spare_whole}
 use Rattle.epoch_room.proofs.Taken.{SameTimes, same_apart, same_outside}
+use Rattle.epoch_room.proofs.Touching.{dirties_none}
 use Rattle.epoch_room.proofs.Writing.{keeps_beside, still_held, written_keeps}
 
 -- what passes a test and what does not stand together as often as all
@@ -116,18 +118,33 @@ module _ (old entry : Disk) (kept : Kept) (whole : IsWhole (value_of old entry k
     unseen = All-from_recursion (IsUnseen old) rs (all_map (λ r. list_any (nat_eq r) rs ≡ true) (IsUnseen old) (λ r there. unseen old (kept.parts ++ kept.retired) r whole.board.of_parts (own_beside r there)) rs (each_there rs));
   }
 
-  module _ (bytes : List ℕ) (within : job.written + length bytes ≤ body_len header) (new : Disk) (result : Result (Unit {0}) DiskRefusal) (run : WritesBody (part_of job.target header) job.written bytes result old new) where
+  module _ (bytes : List ℕ) (within : job.written + length bytes ≤ body_len header) (new : Disk) (result : Result (Unit {0}) DiskRefusal) (run : WritesBody (touched old.region_len job header (length bytes)) (part_of job.target header) job.written bytes result old new) where
+    abbrev ts : List ℕ
+    ts = touched old.region_len job header (length bytes)
+
+    -- the bytes lie in regions of the merge
+    touched_own : AllByRecursion (λ r. list_any (nat_eq r) rs ≡ true) ts
+    touched_own =
+        all_lying (λ r. list_any (nat_eq r) rs ≡ true) old.region_len job.target header job.written (length bytes) within
+        (λ at low. list_any-from_Contains nat_alike _ rs (place_named old.region_len (part_of job.target header) at own_taken.lies low))
+
+    ts_beside : AreBeside ts (kept.parts ++ kept.retired)
+    ts_beside r there = own_beside r (all_at (λ q. list_any (nat_eq q) rs ≡ true) r ts touched_own there)
+
+    ts_below : AllByRecursion (λ r. r < old.regions) ts
+    ts_below = all_map (λ r. list_any (nat_eq r) rs ≡ true) (λ r. r < old.regions) (λ r h. (job_apart (value_of old entry kept) whole none_lost r (in_left r h)).1) ts touched_own
+
     keeps_of : (job' : Option Job) (lost : List ℕ) (shut : Bool) → (shut ≡ true → HasRisen old.own_faults new.own_faults × HasRisen old.faults new.faults)
         → Keeps (value_of old entry kept) (value_of new entry (record kept { job = job'; lost = lost; is_shut = shut }))
     keeps_of job' lost shut risen =
-        written_keeps old new entry kept whole open_room rs own_beside own_below run.beside run.sound run.time (IsErrOf result refusal.Failed) run.counts run.read run.leaves job' lost shut risen
+        written_keeps old new entry kept whole open_room ts ts_beside ts_below run.beside run.sound run.time (IsErrOf result refusal.Failed) run.counts run.read run.leaves job' lost shut risen
 
     -- nothing but the disk is another
     pub moved : IsWhole (value_of new entry kept)
     moved =
-        moved_whole old new entry kept whole run.beside run.sound run.time run.counts.no_lower rs own_beside
-        (keeps_beside old new entry kept whole open_room rs own_beside own_below run.beside run.sound run.time (IsErrOf result refusal.Failed) run.counts run.read run.leaves) open_room run.dirties
-        (still_held old new entry kept whole open_room rs own_beside own_below run.beside run.sound run.time (IsErrOf result refusal.Failed) run.counts run.read run.leaves)
+        moved_whole old new entry kept whole run.beside run.sound run.time run.counts.no_lower ts ts_beside
+        (keeps_beside old new entry kept whole open_room ts ts_beside ts_below run.beside run.sound run.time (IsErrOf result refusal.Failed) run.counts run.read run.leaves) open_room run.dirties
+        (still_held old new entry kept whole open_room ts ts_beside ts_below run.beside run.sound run.time (IsErrOf result refusal.Failed) run.counts run.read run.leaves)
 
     does_of : (job' : Option Job) → (IsErrOf result refusal.Failed → ⊥) → Does (record (value_of old entry kept).room { job = job' }) kept.target (value_of old entry kept) (value_of new entry (record kept { job = job' }))
     does_of job' fine = (
@@ -208,17 +225,7 @@ module _ (old entry : Disk) (kept : Kept) (whole : IsWhole (value_of old entry k
       gone = filter (λ r. list_any (nat_eq r) lost) rs
 
       some : 1 ≤ length bytes
-      some = run.some failed
-
-      -- what is lost is of the merge
-      touched_own : AllByRecursion (λ r. list_any (nat_eq r) rs ≡ true) (touched old.region_len job header (length bytes))
-      touched_own = (
-        named job.written (omega (arith, some, within)),
-        (named (job.written + length bytes - 1) (omega (arith, some, within)), tt),
-      )
-        where
-          named : (at : ℕ) → at < body_len header → list_any (nat_eq (place_of old.region_len job.target header at).region) rs ≡ true
-          named at low = list_any-from_Contains nat_alike _ rs (place_named old.region_len (part_of job.target header) at own_taken.lies low)
+      some = run.some (ap (λ (r : Result (Unit {0}) DiskRefusal). is_err r) failed)
 
       in_lost : (r : ℕ) → r < 64 → list_any (nat_eq r) lost ≡ list_any (nat_eq r) (touched old.region_len job header (length bytes))
       in_lost r low = ap (list_any (nat_eq r)) lost_is ∙ among (λ n. list_any (nat_eq n) (touched old.region_len job header (length bytes))) r low
@@ -242,8 +249,8 @@ module _ (old entry : Disk) (kept : Kept) (whole : IsWhole (value_of old entry k
       pub lost_some : lost ≡ [] → ⊥
       lost_some e =
           let first : ℕ = (place_of old.region_len job.target header job.written).region in
-          let low : first < 64 = all_at (λ r. r < 64) first rs own_small touched_own.0 in
-          let there : list_any (nat_eq first) (touched old.region_len job header (length bytes)) ≡ true = (each_there (touched old.region_len job header (length bytes))).0 in
+          let there : list_any (nat_eq first) (touched old.region_len job header (length bytes)) ≡ true = first_lies old.region_len job.target header job.written (length bytes) some in
+          let low : first < 64 = all_at (λ r. r < 64) first rs own_small (all_at (λ q. list_any (nat_eq q) rs ≡ true) first ts touched_own there) in
           true≢false (sym there ∙ sym (in_lost first low) ∙ ap (list_any (nat_eq first)) e)
 
       abbrev shut : Kept
@@ -269,8 +276,8 @@ module _ (old entry : Disk) (kept : Kept) (whole : IsWhole (value_of old entry k
       pub risen : HasRisen old.own_faults new.own_faults × HasRisen old.faults new.faults
       risen = (run.counts.own_faults failed, run.counts.faults failed)
 
-      read' : KeepsBeside (regions_of (part_of job.target header)) old new
-      read' = keeps_beside old new entry kept whole open_room rs own_beside own_below run.beside run.sound run.time (IsErrOf result refusal.Failed) run.counts run.read run.leaves
+      read' : KeepsBeside ts old new
+      read' = keeps_beside old new entry kept whole open_room ts ts_beside ts_below run.beside run.sound run.time (IsErrOf result refusal.Failed) run.counts run.read run.leaves
 
       pub shut_whole : IsWhole (value_of new entry (record kept { lost = lost; is_shut = true }))
       shut_whole = record {
@@ -279,12 +286,12 @@ module _ (old entry : Disk) (kept : Kept) (whole : IsWhole (value_of old entry k
         of_disk = refl;
         in_chain = whole.in_chain;
         ends = whole.ends;
-        lie = moved_lie old new entry kept whole run.beside run.sound run.time run.counts.no_lower rs own_beside read' (kept.parts ++ kept.retired) whole.lie;
+        lie = moved_lie old new entry kept whole run.beside run.sound run.time run.counts.no_lower ts ts_beside read' (kept.parts ++ kept.retired) whole.lie;
         apart = subst (λ n. AreApart n (taken (value_of new entry shut).room kept.target)) (sym run.beside.regions)
             (same_apart old.regions (taken (value_of old entry kept).room kept.target) (taken (value_of new entry shut).room kept.target) shut_times whole.apart);
         free = whole.free ∙ same_outside old.regions (taken (value_of old entry kept).room kept.target) (taken (value_of new entry shut).room kept.target) shut_times ∙ ap (λ n. regions_outside n (taken (value_of new entry shut).room kept.target)) (sym run.beside.regions);
         rising = whole.rising;
-        board = moved_board old new entry kept whole run.beside run.sound run.time run.counts.no_lower rs own_beside read' shut refl whole.board.of_parts;
+        board = moved_board old new entry kept whole run.beside run.sound run.time run.counts.no_lower ts ts_beside read' shut refl whole.board.of_parts;
         epoch = record {
           none = whole.epoch.none;
           some = λ l. absurd (lost_some l);
@@ -295,8 +302,8 @@ module _ (old entry : Disk) (kept : Kept) (whole : IsWhole (value_of old entry k
           places = whole.epoch.places;
           epoch = whole.epoch.epoch;
         };
-        job = moved_job old new entry kept whole run.beside run.sound run.time run.counts.no_lower rs own_beside read' shut refl refl;
-        entry = moved_entry old new entry kept whole run.beside run.sound run.time run.counts.no_lower rs own_beside read' shut
+        job = moved_job old new entry kept whole run.beside run.sound run.time run.counts.no_lower ts ts_beside read' shut refl refl;
+        entry = moved_entry old new entry kept whole run.beside run.sound run.time run.counts.no_lower ts ts_beside read' shut
             (λ h. (risen_since entry.own_faults old.own_faults new.own_faults whole.entry.no_lower.1 risen.0, risen_since entry.faults old.faults new.faults whole.entry.no_lower.0 risen.1));
         lost = λ h. absurd (let e : true ≡ false = h in cc);
         unsynced = λ l. absurd (lost_some l);
@@ -321,6 +328,10 @@ module _ (old entry : Disk) (kept : Kept) (whole : IsWhole (value_of old entry k
           ),
         );
         out = out;
+        some = λ h e. some;
+        dirties = run.dirties;
+        read = run.read;
+        leaves = run.leaves;
         beside = run.beside;
         keeps = keeps_of kept.job lost true (λ h. risen);
       }
@@ -332,6 +343,10 @@ module _ (old entry : Disk) (kept : Kept) (whole : IsWhole (value_of old entry k
     writes_memory e = record {
       room = (refl, does_of kept.job (λ f. let h : ◌≡◌ {A = Result (Unit {0}) DiskRefusal} (Err refusal.NoMemory) (Err refusal.Failed) = sym e ∙ f in cc), memory_job (run.kept e));
       out = out;
+      some = λ h f. run.some (ap (λ (r : Result (Unit {0}) DiskRefusal). is_err r) e);
+      dirties = run.dirties;
+      read = run.read;
+      leaves = run.leaves;
       beside = run.beside;
       keeps = keeps_of kept.job kept.lost kept.is_shut open_still;
     }
@@ -344,6 +359,10 @@ module _ (old entry : Disk) (kept : Kept) (whole : IsWhole (value_of old entry k
         held_ok (subst (λ (r : Result (Unit {0}) DiskRefusal). OnOk r (BothTold (λ a b. HasBody (part_of job.target header) job.written bytes a.bytes b.bytes) old.told new.told)) e run.done),
       );
       out = refl;
+      some = λ h f. absurd (true≢false (sym f));
+      dirties = run.dirties;
+      read = run.read;
+      leaves = run.leaves;
       beside = run.beside;
       keeps = keeps_of (Some (written_on job (length bytes))) kept.lost kept.is_shut open_still;
     }
@@ -358,4 +377,13 @@ body_fits at n region_len header l within =
 
 -- a room that was shut before
 pub writes_none : (bytes : List ℕ) (value : RoomValue) (job : Job) (header : Header) → IsWhole value → value.room.job ≡ Some job → value.room.is_shut ≡ true → WritesJob bytes value value job job header (Err (room_fault.Shut value.room.sealed))
-writes_none bytes value job header whole out shut = record { room = (refl, (shut, refl, refl)); out = out; beside = same_beside value.disk; keeps = keeps_none value whole }
+writes_none bytes value job header whole out shut = record {
+  room = (refl, (shut, refl, refl));
+  out = out;
+  some = λ open_room e. absurd (true≢false (sym shut ∙ open_room));
+  dirties = dirties_none _ value.disk value.disk refl;
+  read = reads_none _ value.disk value.disk refl;
+  leaves = leaves_behind_none _ value.disk value.disk refl;
+  beside = same_beside value.disk;
+  keeps = keeps_none value whole;
+}

@@ -8,7 +8,7 @@ use Rattle.fine_model.specs.Jobs.{KeepsJob}
 use Rattle.log_disk.specs.Disk.{SameBeside}
 use Rattle.log_disk.specs.declared.refusal.DiskRefusal.{DiskRefusal}
 use Rattle.log_disk.specs.declared.refusal.DiskRefusal.TheVariants as refusal
-use Rattle.epoch_room.specs.Closing.{ReadsButGates}
+use Rattle.epoch_room.specs.Closing.{LeavesClosing, ReadsButGates}
 use Rattle.epoch_room.specs.Value.{RoomValue, all_regions}
 use Rattle.epoch_room.specs.Steps.{Does, Shuts, WasShut}
 use Rattle.epoch_room.specs.Meaning.{Keeps}
@@ -63,6 +63,7 @@ pub record ErasesLed (leads : List ℕ) (old new : RoomValue) (result : Result (
   pub unsynced : IsErrOf result refusal.Failed → new.disk.unsynced ≡ old.disk.unsynced ++ begun
   pub shuts : IsErrOf result refusal.Failed → Shuts (left_state old.room begun) old.target (all_regions (led_by begun old.room.retired)) old new
   pub read : ReadsButGates begun old.disk new.disk
+  pub leaves : LeavesClosing begun old.disk new.disk
   pub beside : SameBeside old.disk new.disk
   pub keeps : Keeps old new
   pub job : KeepsJob old.room new.room
@@ -71,6 +72,7 @@ pub record ErasesLed (leads : List ℕ) (old new : RoomValue) (result : Result (
 pub record Erases (region : ℕ) (old new : RoomValue) (result : Result (Unit {0}) EraseFault) : Type 0 where
   pub room : ErasesOr region old new result
   pub read : ReadsButGates (region ∷ []) old.disk new.disk
+  pub leaves : LeavesClosing (region ∷ []) old.disk new.disk
   pub beside : SameBeside old.disk new.disk
   pub keeps : Keeps old new
   pub job : KeepsJob old.room new.room
@@ -83,7 +85,8 @@ FreesThese leads old new = (leads ≡ [] → new ≡ old) × (leads ≢ [] → (
 abbrev pub held : RoomState → List Part
 held room = filter (λ p. is_some (naming_of room.board p.region)) room.retired
 
--- All gates are written, and then one sync frees all. Where memory runs out, the first ones were erased; where the disk fails, the regions
+-- All gates are written, and then one sync frees all. Where memory runs out, the first ones were erased, but
+-- not all of them; where the disk fails, the regions
 -- of the parts whose gates were begun are lost, and these gates alone are unsynced that were not.
 abbrev pub ErasesAllOr : RoomValue → RoomValue → Result ℕ RoomFault → Type 0
 ErasesAllOr old new (Ok erased) = (old.room.is_shut ≡ false) × (erased ≡ length (unheld old.room)) × FreesThese (unheld old.room) old new
@@ -92,13 +95,14 @@ ErasesAllOr old new (Err room_fault.Disk) =
     × Shuts (left_state old.room begun) old.target (all_regions (led_by begun old.room.retired)) old new
 ErasesAllOr old new (Err (room_fault.Shut epoch)) = WasShut epoch old new
 ErasesAllOr old new (Err room_fault.NoMemory) =
-    (old.room.is_shut ≡ false) × ((begun : List ℕ) × (more : List ℕ) × (unheld old.room ≡ begun ++ more) × FreesThese begun old new)
+    (old.room.is_shut ≡ false) × ((begun : List ℕ) × (more : List ℕ) × (unheld old.room ≡ begun ++ more) × (begun ≢ [] → more ≢ []) × FreesThese begun old new)
 
 -- all that erasing every part does that no view names
 pub record ErasesAll (old new : RoomValue) (result : Result ℕ RoomFault) : Type 0 where
   pub room : ErasesAllOr old new result
   pub left : OnOk result (new.room.retired ≡ held old.room)
   pub read : ReadsButGates (unheld old.room) old.disk new.disk
+  pub leaves : LeavesClosing (unheld old.room) old.disk new.disk
   pub beside : SameBeside old.disk new.disk
   pub keeps : Keeps old new
   pub job : KeepsJob old.room new.room

@@ -11,6 +11,6 @@ pub mod Views
 pub mod Returns
 pub mod Closing
 pub mod Erasing
+pub mod BodyWrites
 pub mod MergeSteps
 pub mod Laws
-pub mod BodyWrites

@@ -1,5 +1,5 @@
 -- What a room stands for.
-use Rattle.std.specs.Prelude.{◌≡◌, ℕ, ◌+◌, ◌==◌, false, List, [], ◌∷◌, ◌++◌, length, filter, Option, Some, None, option_map, Result, ⊤}
+use Rattle.std.specs.Prelude.{◌≡◌, ℕ, ◌+◌, ◌==◌, false, List, [], ◌∷◌, ◌++◌, length, filter, Option, Some, None, option_map, option_to_list, unwrap_or, OnOk, Result, ⊤}
 use Rattle.fine_model.specs.declared.Row.{Row}
 use Rattle.fine_model.specs.declared.law.Origin.{Origin}
 use Rattle.fine_model.specs.declared.law.RoomState.{RoomState}
@@ -7,12 +7,15 @@ use Rattle.fine_model.specs.Trees.{IsSound}
 use Rattle.fine_model.specs.History.{Commit, IsLegal, last_epoch}
 use Rattle.fine_model.specs.Headline.{ShowsSome}
 use Rattle.fine_model.specs.Chain.{Shows}
+use Rattle.fine_model.specs.Regions.{partition_bytes}
 use Rattle.fine_model.specs.Room.{StandsFor}
 use Rattle.fine_model.specs.Becomes.{Becomes}
 use Rattle.fine_model.specs.Jobs.{KeepsJob}
 use Rattle.fine_model.specs.Laws.{AreSmall}
-use Rattle.log_disk.specs.Disk.{Disk, Told, Image, SameBeside, clock_of, IsImageNow, IsImageSince}
+use Rattle.log_disk.specs.Disk.{Disk, Told, Image, SameBeside, clock_of, IsImageNow, IsImageSince, with_bytes}
 use Rattle.log_disk.specs.Moments.{ContinuesOn}
+use Rattle.epoch_room.specs.Gate.{HasBytes, KeepsBeside, gate}
+use Rattle.epoch_room.specs.Partition.{IsArranged}
 use Rattle.epoch_room.specs.Value.{RoomValue}
 use Rattle.epoch_room.specs.Steps.{SealsOr}
 use Rattle.epoch_room.specs.declared.answers.RoomFault.{RoomFault}
@@ -78,9 +81,22 @@ pub record Keeps (old new : RoomValue) : Type 0 where
   pub becomes : Becomes old.room new.room
   pub time : ContinuesOn old.disk new.disk
 
+-- an image with the open epoch as a partition of these rows in its target, sealed
+abbrev pub with_epoch : RoomValue → List Row → Image → Image
+with_epoch value rows image =
+    with_bytes (with_bytes image (unwrap_or value.target 0) 1 (partition_bytes value.room.region_len (record { first = value.room.sealed + 1; last = value.room.sealed + 1 }) rows)) (unwrap_or value.target 0) 0 gate
+
+-- a read gives what it gave, with the open epoch's rows in its target, in the order of node and version
+pub record HoldsEpoch (old new : RoomValue) : Type 0 where
+  pub sorted : List Row
+  pub is_arranged : IsArranged old.room.open_rows sorted
+  pub bytes : HasBytes (with_epoch old sorted) old.disk new.disk
+
 -- all that sealing does
 pub record Seals (old new : RoomValue) (result : Result ℕ RoomFault) : Type 0 where
   pub room : SealsOr old new result
+  pub body : OnOk result (HoldsEpoch old new)
+  pub read : KeepsBeside (option_to_list old.target) old.disk new.disk
   pub beside : SameBeside old.disk new.disk
   pub keeps : Keeps old new
   pub job : KeepsJob old.room new.room

@@ -1,5 +1,5 @@
 -- What the steps of a merge make of a room.
-use Rattle.std.specs.Prelude.{◌≡◌, ℕ, ◌+◌, ◌-◌, ◌*◌, ◌==◌, nat_le, if◌then◌else◌, List, [], ◌∷◌, ◌++◌, length, find, take, drop, replicate, slice_index, Option, Some, None, option_map, Result, Ok, Err}
+use Rattle.std.specs.Prelude.{◌≡◌, ℕ, ◌+◌, ◌-◌, ◌*◌, ◌≤◌, ◌==◌, nat_le, false, if◌then◌else◌, List, [], ◌∷◌, ◌++◌, length, find, take, drop, replicate, slice_index, Option, Some, None, option_map, Result, Ok, Err, IsErr}
 use Rattle.std.specs.List.{range_with_len}
 use Rattle.fine_model.specs.declared.Header.{Header}
 use Rattle.fine_model.specs.declared.Job.{Job}
@@ -7,10 +7,11 @@ use Rattle.fine_model.specs.declared.Mark.TheVariants as mark
 use Rattle.fine_model.specs.declared.Part.{Part}
 use Rattle.fine_model.specs.declared.law.RoomState.{RoomState}
 use Rattle.fine_model.specs.Merge.{fits_in}
-use Rattle.fine_model.specs.Regions.{place_of}
 use Rattle.fine_model.specs.Boards.{set_of}
 use Rattle.fine_model.specs.Jobs.{job_left, held_for, KeepsJob}
 use Rattle.partition_merge.specs.declared.merger.Measure.{Measure}
+use Rattle.epoch_room.specs.BodyWrites.{lying_in}
+use Rattle.epoch_room.specs.Gate.{DirtiesOnly, LeavesBehind, ReadsBehind}
 use Rattle.epoch_room.specs.Value.{RoomValue}
 use Rattle.log_disk.specs.Disk.{SameBeside}
 use Rattle.epoch_room.specs.Steps.{Does, Shuts, WasShut}
@@ -95,10 +96,9 @@ free_dropped room = set_of (room.free ++ job_left room)
 abbrev pub written_on : Job → ℕ → Job
 written_on job n = record job { written = job.written + n }
 
--- the regions in which bytes of a body lie that are written behind those which are there: one or two
+-- the regions in which bytes of a body lie that are written behind those which are there: one or two, and none without bytes
 abbrev pub touched : ℕ → Job → Header → ℕ → List ℕ
-touched region_len job header n =
-    (place_of region_len job.target header job.written).region ∷ (place_of region_len job.target header (job.written + n - 1)).region ∷ []
+touched region_len job header n = lying_in region_len job.target header job.written n
 
 -- Bytes stand in the job's target behind those that stood there. A failure leaves the job as it was, and what was being written is lost.
 abbrev pub WritesOr : List ℕ → RoomValue → RoomValue → Job → Job → Header → Result (Unit {0}) RoomFault → Type 0
@@ -114,5 +114,11 @@ pub record WritesJob (bytes : List ℕ) (old new : RoomValue) (job job' : Job) (
   pub room : WritesOr bytes old new job job' header result
   -- the job stays out
   pub out : new.room.job ≡ Some job'
+  -- without bytes nothing is refused but by a shut room
+  pub some : old.room.is_shut ≡ false → IsErr result → 1 ≤ length bytes
+  -- no other region is touched; a crash leaves what it could leave before, torn behind the gates of these
+  pub dirties : DirtiesOnly (touched old.room.region_len job header (length bytes)) old.disk new.disk
+  pub read : ReadsBehind (touched old.room.region_len job header (length bytes)) old.disk new.disk
+  pub leaves : LeavesBehind (touched old.room.region_len job header (length bytes)) old.disk new.disk
   pub beside : SameBeside old.disk new.disk
   pub keeps : Keeps old new

@@ -156,10 +156,6 @@ pub record IsWhole (value : RoomValue) : Type 0 where
 
 -- ---- laws
 
--- the state of a whole room is that of its disk, whatever it is put on
-abbrev pub OnAgain : Type 0
-OnAgain = (room : RoomState) (a b : Disk) → on (on room a) b ≡ on room b
-
 -- an eye that stands on the board of a whole room tells what a read of the disk gives on its regions
 abbrev pub BoardShows : Type 0
 BoardShows = (value : RoomValue) (at : ℕ) (eye : OpenedEye) → IsWhole value → slice_get value.room.board at ≡ Some (Some eye) → SameSeen eye.regions value.room.image eye.told

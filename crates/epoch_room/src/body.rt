@@ -1,9 +1,9 @@
 //! Bytes of a part's body, written behind the gates of its regions.
 
-ghost use Rattle.std.specs.Prelude.{◌+◌, ◌≤◌, ◌<◌, ◌≡◌, length};
+ghost use Rattle.std.specs.Prelude.{◌+◌, ◌≤◌, ◌<◌, ◌≡◌, [], ◌∷◌, length};
 ghost use Rattle.fine_model.specs.Regions.{place_of};
 ghost use Rattle.partition_index.specs.Parts.{body_len};
-ghost use Rattle.epoch_room.specs.BodyWrites.{HasPlace, WritesBody};
+ghost use Rattle.epoch_room.specs.BodyWrites.{HasPlace, WritesBody, lying_in};
 
 use fine_model::Part;
 use log_disk::{DiskRefusal, LogDisk};
@@ -20,7 +20,7 @@ fn write_piece<D: LogDisk>(
     requires some { 1 ≤ length bytes.now }
     requires within { at + length bytes.now ≤ body_len part.now.header }
     requires in_region { (place_of (D.state disk.old).region_len part.now.region part.now.header at).at + length bytes.now ≤ (D.state disk.old).region_len }
-    ensures { WritesBody part.now at bytes.now result (D.state disk.old) (D.state disk.new) }
+    ensures { WritesBody ((place_of (D.state disk.old).region_len part.now.region part.now.header at).region ∷ []) part.now at bytes.now result (D.state disk.old) (D.state disk.new) }
 {
     let (region, from) = place_of(part, disk.region_len(), at);
     disk.write(region, u64::from(from), bytes)
@@ -36,7 +36,7 @@ pub fn write_body<D: LogDisk>(
     requires place { HasPlace (D.state disk.old) part.now }
     requires within { at + length bytes.now ≤ body_len part.now.header }
     requires few { length bytes.now < (D.state disk.old).region_len }
-    ensures { WritesBody part.now at bytes.now result (D.state disk.old) (D.state disk.new) }
+    ensures { WritesBody (lying_in (D.state disk.old).region_len part.now.region part.now.header at (length bytes.now)) part.now at bytes.now result (D.state disk.old) (D.state disk.new) }
 {
     if bytes.is_empty() {
         return Ok(());

@@ -1,6 +1,6 @@
 //! The room.
 
-ghost use Rattle.std.specs.Prelude.{◌≡◌, ◌+◌, ◌*◌, ◌≤◌, ◌==◌, true, None, length, replicate, IfOk, IfErr, IfSome, IsSome, OnOk, OnErr};
+ghost use Rattle.std.specs.Prelude.{◌≡◌, ◌+◌, ◌*◌, ◌≤◌, ◌==◌, true, None, length, replicate, IfOk, IfErr, IfSome, IsSome, OnOk, OnErr, option_to_list};
 ghost use Rattle.std.specs.List.{AllByRecursion, list_all, list_any};
 ghost use Rattle.fine_model.specs.Boards.{empty_of, is_empty};
 ghost use Rattle.fine_model.specs.Becomes.{Becomes};
@@ -15,7 +15,8 @@ ghost use Rattle.epoch_room.specs.Value.{made};
 ghost use Rattle.epoch_room.specs.Fitting.{fit_of, counts_of, is_pressed};
 ghost use Rattle.epoch_room.specs.Whole.{AreParts, IsIdle, IsWhole};
 ghost use Rattle.epoch_room.specs.Steps.{appended, retired_from, with_state, SealsOr};
-ghost use Rattle.epoch_room.specs.Meaning.{Keeps, Seals, StandsAtFirst, StandsForMore};
+ghost use Rattle.epoch_room.specs.Gate.{KeepsBeside};
+ghost use Rattle.epoch_room.specs.Meaning.{HoldsEpoch, Keeps, Seals, StandsAtFirst, StandsForMore};
 ghost use Rattle.epoch_room.specs.Views.{MakesView, ViewsLog, ViewsOr};
 
 mod board;
@@ -222,7 +223,8 @@ impl<D: LogDisk> Room<D> {
     }
 
     /// Makes the open epoch durable as one partition, and answers its number: writes the partition behind the closed gate of its target,
-    /// syncs, writes the gate, and syncs. Then the part is live, and the next epoch is open.
+    /// syncs, writes the gate, and syncs. Then the part is live, its rows are those of the epoch in the order of node and version, and the
+    /// next epoch is open. Whatever it answers, a read gives the same in all regions but the target.
     ///
     /// After `NoMemory` the epoch is still open and whole. `Disk` comes only where the disk failed in this call, and shuts the room;
     /// `Shut` comes exactly where an earlier call answered `Disk`, and changes nothing. A crash at any moment of the call leaves an
@@ -230,6 +232,8 @@ impl<D: LogDisk> Room<D> {
     pub fn seal(&mut self) -> Result<u64, RoomFault>
         requires waiting { 1 ≤ self.old.room.waiting }
         ensures room { SealsOr self.old self.new result }
+        ensures body { OnOk result (HoldsEpoch self.old self.new) }
+        ensures read { KeepsBeside (option_to_list self.old.target) self.old.disk self.new.disk }
         ensures beside { SameBeside self.old.disk self.new.disk }
         ensures keeps { Keeps self.old self.new }
         ensures job { KeepsJob self.old.room self.new.room }

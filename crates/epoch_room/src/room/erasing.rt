@@ -5,7 +5,7 @@ ghost use Rattle.std.specs.List.{AllByRecursion, list_any};
 ghost use Rattle.fine_model.specs.Boards.{naming_of};
 ghost use Rattle.fine_model.specs.Jobs.{KeepsJob};
 ghost use Rattle.log_disk.specs.Disk.{SameBeside};
-ghost use Rattle.epoch_room.specs.Closing.{ReadsButGates};
+ghost use Rattle.epoch_room.specs.Closing.{LeavesClosing, ReadsButGates};
 ghost use Rattle.epoch_room.specs.Meaning.{Keeps};
 ghost use Rattle.epoch_room.specs.Erasing.{Erases, ErasesAll, ErasesAllOr, ErasesLed, ErasesOr, held, unheld};
 
@@ -26,6 +26,7 @@ impl<D: LogDisk> Room<D> {
         requires retired { list_any (λ p. p.region == region) self.old.room.retired ≡ true }
         ensures room { ErasesOr region self.old self.new result }
         ensures read { ReadsButGates (region ∷ []) self.old.disk self.new.disk }
+        ensures leaves { LeavesClosing (region ∷ []) self.old.disk self.new.disk }
         ensures beside { SameBeside self.old.disk self.new.disk }
         ensures keeps { Keeps self.old self.new }
         ensures job { KeepsJob self.old.room self.new.room }
@@ -64,6 +65,7 @@ impl<D: LogDisk> Room<D> {
         ensures room { ErasesAllOr self.old self.new result }
         ensures left { OnOk result (self.new.room.retired ≡ held self.old.room) }
         ensures read { ReadsButGates (unheld self.old.room) self.old.disk self.new.disk }
+        ensures leaves { LeavesClosing (unheld self.old.room) self.old.disk self.new.disk }
         ensures beside { SameBeside self.old.disk self.new.disk }
         ensures keeps { Keeps self.old self.new }
         ensures job { KeepsJob self.old.room self.new.room }

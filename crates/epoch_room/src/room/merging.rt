@@ -1,6 +1,6 @@
 //! A merge of two neighbours, by steps: a job is picked, takes its regions, is written block by block, and is sealed, or given up.
 
-ghost use Rattle.std.specs.Prelude.{if◌then◌else◌, ◌≡◌, ◌+◌, ◌*◌, ◌<◌, ◌≤◌, ◌==◌, ◌++◌, [], ◌∷◌, None, Some, IfSome, IsSome, drop, filter, find, is_some, length, nat_eq, not, option_map};
+ghost use Rattle.std.specs.Prelude.{if◌then◌else◌, ◌≡◌, ◌+◌, ◌*◌, ◌<◌, ◌≤◌, ◌==◌, ◌++◌, [], ◌∷◌, false, None, Some, IfSome, IsErr, IsSome, drop, filter, find, is_some, length, nat_eq, not, option_map};
 ghost use Rattle.std.specs.List.{AllByRecursion, list_any, range_with_len};
 ghost use Rattle.fine_model.specs.Boards.{set_of};
 ghost use Rattle.fine_model.specs.Chain.{regions_of};
@@ -10,6 +10,7 @@ ghost use Rattle.fine_model.specs.declared.Mark.TheVariants as mark;
 ghost use Rattle.partition_merge.specs.Mergers.{IsCounted};
 ghost use Rattle.log_disk.specs.Disk.{SameBeside};
 ghost use Rattle.partition_index.specs.Parts.{LiesIn, body_len};
+ghost use Rattle.epoch_room.specs.Gate.{DirtiesOnly, LeavesBehind, ReadsBehind};
 ghost use Rattle.epoch_room.specs.Meaning.{Keeps};
 ghost use Rattle.epoch_room.specs.MergeSteps.{free_after, free_dropped, fresh_job, if_enough, job_after, measured_len, neighbours_from, picked, regions_for_job, regions_needed, taken_job, touched, with_job, with_next, WritesJob, WritesOr};
 
@@ -229,8 +230,9 @@ impl<D: LogDisk> Room<D> {
     /// Writes bytes of the merged part behind those that were written before. They go behind closed gates, by at most two writes.
     ///
     /// `bytes` are fewer than a region's, and within the length that the job's header tells. After `Ok` the job counts them, and its target
-    /// holds them. Every refusal leaves the job as it was. `Disk` comes only where the disk failed in this call, and shuts the room: the
-    /// one or two regions in which the bytes lie are lost. `Shut` comes exactly where an earlier call answered `Disk`, and changes nothing.
+    /// holds them. Whatever it answers, nothing is touched but the one or two regions in which the bytes lie, behind their gates; without
+    /// bytes nothing is refused but by a shut room. Every refusal leaves the job as it was. `Disk` comes only where the disk failed in this call, and shuts the room: these
+    /// regions are lost. `Shut` comes exactly where an earlier call answered `Disk`, and changes nothing.
     /// After `NoMemory` the room is whole, and the target holds what it held. A crash at any moment of the call leaves an image that
     /// shows what was sealed before.
     pub fn merge_write(&mut self, job: &mut Job, bytes: &[u8]) -> Result<(), RoomFault>
@@ -240,6 +242,10 @@ impl<D: LogDisk> Room<D> {
         requires few { length bytes.now < self.old.room.region_len }
         ensures room { IfSome job.old.header (λ header. WritesOr bytes.now self.old self.new job.old job.new header result) }
         ensures out { self.new.room.job ≡ Some job.new }
+        ensures some { self.old.room.is_shut ≡ false → IsErr result → 1 ≤ length bytes.now }
+        ensures dirties { IfSome job.old.header (λ header. DirtiesOnly (touched self.old.room.region_len job.old header (length bytes.now)) self.old.disk self.new.disk) }
+        ensures read { IfSome job.old.header (λ header. ReadsBehind (touched self.old.room.region_len job.old header (length bytes.now)) self.old.disk self.new.disk) }
+        ensures leaves { IfSome job.old.header (λ header. LeavesBehind (touched self.old.room.region_len job.old header (length bytes.now)) self.old.disk self.new.disk) }
         ensures beside { SameBeside self.old.disk self.new.disk }
         ensures keeps { Keeps self.old self.new }
     {

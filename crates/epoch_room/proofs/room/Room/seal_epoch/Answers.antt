@@ -23,7 +23,7 @@ use Rattle.epoch_room.proofs.room.Room.seal_epoch.Goals as goal
 pub returns-then-self : goal.returns-then-self
 returns-then-self g c =
     let whole : IsWhole c.args.self.now = subst IsWhole c.self.view_is c.self.invariant.0 in
-    seals_none c.args.self.now (Err (room_fault.Shut c.self.inside.sealed)) whole (ap (λ (v : RoomValue). v.room.is_shut) (sym c.self.view_is) ∙ c.if-self.true, ap (λ (v : RoomValue). v.room.sealed) c.self.view_is, refl)
+    seals_none c.args.self.now (room_fault.Shut c.self.inside.sealed) whole (ap (λ (v : RoomValue). v.room.is_shut) (sym c.self.view_is) ∙ c.if-self.true, ap (λ (v : RoomValue). v.room.sealed) c.self.view_is, refl)
 
 pub returns-in_err-partition : goal.returns-in_err-partition
 returns-in_err-partition g c =
@@ -31,7 +31,7 @@ returns-in_err-partition g c =
     let open_room : c.args.self.now.room.is_shut ≡ false = ap (λ (v : RoomValue). v.room.is_shut) (sym c.self.view_is) ∙ c.if-self.false in
     let p = err_from_is_err_and c.from_residual.result c.from_residual.ensures.1 in
     let e : ◌≡◌ {A = Result ℕ RoomFault} c.from_residual.result (Err room_fault.NoMemory) = cc (p.1, p.2) in
-    subst (λ (r : Result ℕ RoomFault). Seals c.args.self.now c.args.self.now r) (sym e) (seals_none c.args.self.now (Err room_fault.NoMemory) whole (does_none c.args.self.now whole open_room))
+    subst (λ (r : Result ℕ RoomFault). Seals c.args.self.now c.args.self.now r) (sym e) (seals_none c.args.self.now room_fault.NoMemory whole (does_none c.args.self.now whole open_room))
 
 pub returns-in_err-push : goal.returns-in_err-push
 returns-in_err-push g c =
@@ -43,7 +43,7 @@ returns-in_err-push g c =
     let same : c.push.new.self ≡ in'.parts = c.in_err-push.ensures.err in
     let is : value_of (g.D.LogDisk.state in'.disk) (g.D.LogDisk.state in'.entry.value) (record { parts = c.push.new.self; retired = in'.retired.items; free = in'.free; lost = in'.lost; target = in'.target; board = in'.board; job = in'.job; epoch = in'.epoch; sealed = in'.sealed; places = in'.places; is_shut = in'.is_shut }) ≡ c.args.self.now =
     ap (λ (ps : List Part). value_of (g.D.LogDisk.state in'.disk) (g.D.LogDisk.state in'.entry.value) (record { parts = ps; retired = in'.retired.items; free = in'.free; lost = in'.lost; target = in'.target; board = in'.board; job = in'.job; epoch = in'.epoch; sealed = in'.sealed; places = in'.places; is_shut = in'.is_shut })) same ∙ c.self.view_is in
-    subst (λ (r : Result ℕ RoomFault). Seals c.args.self.now (value_of (g.D.LogDisk.state c.self.inside.disk) (g.D.LogDisk.state c.self.inside.entry.value) (record { parts = c.push.new.self; retired = in'.retired.items; free = in'.free; lost = in'.lost; target = in'.target; board = in'.board; job = in'.job; epoch = in'.epoch; sealed = in'.sealed; places = in'.places; is_shut = in'.is_shut })) r) (sym e) (subst (λ (v : RoomValue). Seals c.args.self.now v (Err room_fault.NoMemory)) (sym is) (seals_none c.args.self.now (Err room_fault.NoMemory) whole (does_none c.args.self.now whole open_room)))
+    subst (λ (r : Result ℕ RoomFault). Seals c.args.self.now (value_of (g.D.LogDisk.state c.self.inside.disk) (g.D.LogDisk.state c.self.inside.entry.value) (record { parts = c.push.new.self; retired = in'.retired.items; free = in'.free; lost = in'.lost; target = in'.target; board = in'.board; job = in'.job; epoch = in'.epoch; sealed = in'.sealed; places = in'.places; is_shut = in'.is_shut })) r) (sym e) (subst (λ (v : RoomValue). Seals c.args.self.now v (Err room_fault.NoMemory)) (sym is) (seals_none c.args.self.now room_fault.NoMemory whole (does_none c.args.self.now whole open_room)))
 
 pub seal_region-requires-clause-there : goal.seal_region-requires-clause-there
 seal_region-requires-clause-there g c κs within =

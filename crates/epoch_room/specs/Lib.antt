@@ -14,3 +14,4 @@ pub mod Erasing
 pub mod MergeSteps
 pub mod Laws
 pub mod BodyWrites
+pub mod MergeSealing

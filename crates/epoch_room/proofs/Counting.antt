@@ -55,7 +55,7 @@ module _ (value : RoomValue) (whole : IsWhole value) where
   retired_have = all_back HasRegions value.room.parts value.room.retired both_have
 
   -- all regions of parts are taken, and none twice
-  both_few : length (all_regions value.room.parts) + length (all_regions value.room.retired) ≤ value.disk.regions
+  pub both_few : length (all_regions value.room.parts) + length (all_regions value.room.retired) ≤ value.disk.regions
   both_few =
       omega (
         arith,

@@ -71,25 +71,25 @@ module _ (old entry : Disk) (kept : Kept) (whole : IsWhole (value_of old entry k
   pub none_lost : kept.lost ≡ []
   none_lost = whole.lost open_room
 
-  rs_is : job_regions kept.job ≡ rs
+  pub rs_is : job_regions kept.job ≡ rs
   rs_is = ap job_regions out ∙ ap (taken_by job.target) has
 
-  left_is : job_left (value_of old entry kept).room ≡ rs
+  pub left_is : job_left (value_of old entry kept).room ≡ rs
   left_is = all_left (value_of old entry kept) whole none_lost ∙ rs_is
 
   in_left : (r : ℕ) → list_any (nat_eq r) rs ≡ true → list_any (nat_eq r) (job_left (value_of old entry kept).room) ≡ true
   in_left r h = ap (list_any (nat_eq r)) left_is ∙ h
 
-  own_beside : AreBeside rs (kept.parts ++ kept.retired)
+  pub own_beside : AreBeside rs (kept.parts ++ kept.retired)
   own_beside r there = (job_apart (value_of old entry kept) whole none_lost r (in_left r there)).0
 
-  own_below : AllByRecursion (λ r. r < old.regions) rs
+  pub own_below : AllByRecursion (λ r. r < old.regions) rs
   own_below = all_map (λ r. list_any (nat_eq r) rs ≡ true) (λ r. r < old.regions) (λ r h. (job_apart (value_of old entry kept) whole none_lost r (in_left r h)).1) rs (each_there rs)
 
   abbrev held : List ℕ
   held = all_regions (kept.parts ++ kept.retired)
 
-  own_once : (n : ℕ) → times n rs ≤ 1
+  pub own_once : (n : ℕ) → times n rs ≤ 1
   own_once n =
       let d = distinct_times (taken (value_of old entry kept).room kept.target) whole.apart.distinct n in
       let a = times-append n (option_to_list kept.target) (job_left (value_of old entry kept).room ++ (kept.lost ++ held)) in
@@ -97,13 +97,13 @@ module _ (old entry : Disk) (kept : Kept) (whole : IsWhole (value_of old entry k
       let e = ap (times n) left_is in
       omega (arith, d, a, b, e)
 
-  own_apart : AreApart old.regions rs
+  pub own_apart : AreApart old.regions rs
   own_apart = record { distinct = times_distinct rs own_once; below = own_below }
 
   pub own_small : AllByRecursion (λ r. r < 64) rs
   own_small = all_map (λ r. r < old.regions) (λ r. r < 64) (λ r h. let m = whole.geometry.regions_high in omega (arith, h, m)) rs own_below
 
-  is_job : IsJob (value_of old entry kept).room job
+  pub is_job : IsJob (value_of old entry kept).room job
   is_job = subst (λ j. IfSome j (IsJob (value_of old entry kept).room)) out whole.job
 
   pub own_taken : IsTaken old.region_len job header

@@ -14,3 +14,4 @@ pub mod Erasing
 pub mod BodyWrites
 pub mod MergeSteps
 pub mod Laws
+pub mod MergeSealing

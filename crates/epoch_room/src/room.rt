@@ -21,6 +21,7 @@ ghost use Rattle.epoch_room.specs.Views.{MakesView, ViewsLog, ViewsOr};
 
 mod board;
 mod erasing;
+mod merge_sealing;
 mod merging;
 
 use crate::answers::{Counts, Fit, RoomFault, Stamp};

@@ -11,7 +11,7 @@ use Rattle.fine_hall.specs.Turns.{commits}
 use Rattle.fine_model.specs.Buckets.{IsBucketFor}
 use Rattle.fine_hall.specs.Passes.{known, seen, published, HasPlace, LacksPlace}
 use Rattle.fine_hall.specs.Halls.{KeepsPlaces, KeepsViews, Takes, Gives}
-use Rattle.key_locks.specs.Locks.{HasLock, LacksLock, AreLocksOf, AllStand, Releases, HoldLaw}
+use Rattle.key_locks.specs.Locks.{HasLock, LacksLock, AreLocksOf, AllStand, Releases, HoldLaw, HoldRoomLaw}
 
 pub near : (k : ℕ) → k < 256 → k < places.room
 unfolding places.room
@@ -100,6 +100,9 @@ module _ {V B : Type 0} where
 
   pub held_alike : HoldLaw V B
   held_alike locks p p' all same j lt = let q = same j lt in ⊎_elim (λ x. inl (x.0, q ∙ x.1)) (λ x. inr (x.0, q ∙ x.1)) (all j lt)
+
+  pub held_beside : HoldRoomLaw V B
+  held_beside locks p p' taken all e = held_alike locks p p' all (λ k lt. ap (λ l. get_elem? l k) e ∙ set_else (known p).held places.room k taken (λ is. below_room k lt (sym is)))
 
   pub all_stay : (locks : List (Option B)) (p p' : Pass V) → KeepsPlaces p p' → AreLocksOf locks p → AreLocksOf locks p'
   all_stay locks p p' s all = held_alike locks p p' all (λ k lt. ap (λ l. get_elem? l k) s.same_held)

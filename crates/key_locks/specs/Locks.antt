@@ -1,5 +1,5 @@
 -- The buckets that a set holds, and how it and its pass go on.
-use Rattle.std.specs.Prelude.{◌≡◌, ◌⊎◌, ℕ, ◌<◌, ◌≤◌, List, Option, Some, None, slice_get, slice_set}
+use Rattle.std.specs.Prelude.{◌≡◌, ◌⊎◌, ℕ, ◌<◌, ◌≤◌, Bool, List, Option, Some, None, slice_get, slice_set}
 use lib.ListN.{get_elem?}
 use Rattle.fine_places.specs.History as places
 use Rattle.fine_model.specs.Nodes.{Content}
@@ -87,3 +87,7 @@ StandLaw V {B} bucket cached is_settled =
 -- the set goes with its pass wherever that holds the same buckets
 abbrev pub HoldLaw : Type 0 → Type 0 → Type 0
 HoldLaw V B = (locks : List (Option B)) (p p' : Pass V) → AreLocksOf locks p → ((k : ℕ) → k < 256 → get_elem? (known p').held k ≡ get_elem? (known p).held k) → AreLocksOf locks p'
+
+-- also where it took the room or gave it back
+abbrev pub HoldRoomLaw : Type 0 → Type 0 → Type 0
+HoldRoomLaw V B = (locks : List (Option B)) (p p' : Pass V) (taken : Bool) → AreLocksOf locks p → (known p').held ≡ slice_set (known p).held places.room taken → AreLocksOf locks p'

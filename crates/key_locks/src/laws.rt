@@ -1,6 +1,6 @@
 //! Laws of sets and passes.
 
-ghost use Rattle.key_locks.specs.Locks.{StandLaw, HoldLaw};
+ghost use Rattle.key_locks.specs.Locks.{StandLaw, HoldLaw, HoldRoomLaw};
 
 use fine_model::{BucketLaw, ViewLaw};
 
@@ -10,7 +10,9 @@ pub fn stand_law<B: BucketLaw, V: ViewLaw>()
     ensures { StandLaw V.row.Denot B.bucket B.cached B.is_settled }
 {}
 
-/// A set has the contents of just the buckets that its pass holds, as long as that holds the same.
+/// A set has the contents of just the buckets that its pass holds, as long as that holds the same, and also once the pass took the room
+/// or gave it back.
 pub fn hold_law<B: BucketLaw, V: ViewLaw>()
-    ensures { HoldLaw V.row.Denot B.row.Denot }
+    ensures same { HoldLaw V.row.Denot B.row.Denot }
+    ensures room { HoldRoomLaw V.row.Denot B.row.Denot }
 {}

@@ -1,5 +1,5 @@
 -- A day ends: its passes, and the log at entry.
-use Rattle.std.proofs.Common.{◌≡◌, ℕ, zero, suc, ◌≤◌, List, [], ◌∷◌, ◌++◌, length, refl, sym, ap, ◌∙◌, subst, arith, le_refl, ne_eqb}
+use Rattle.std.proofs.Common.{◌≡◌, ℕ, zero, suc, ◌<◌, ◌≤◌, List, [], ◌∷◌, ◌++◌, length, All, refl, sym, ap, ◌∙◌, subst, arith, le_refl, ne_eqb}
 use Rattle.std.specs.Prelude.{if◌then◌else◌}
 use mathlib.Core.Option.{some, some-injective, some-ne-none}
 use lib.ListN.{get_elem?}
@@ -14,11 +14,15 @@ use Rattle.fine_hall.specs.declared.law.Beginning.{Beginning}
 use Rattle.fine_hall.specs.declared.pass.Pass.{Pass}
 use Rattle.fine_hall.specs.Turns.{commits, room_after, RoomsGoOn}
 use Rattle.fine_hall.specs.Laws.{AreTurns, IsRoomFor}
+use Rattle.fine_hall.specs.Halls.{Closes}
+use Rattle.fine_model.specs.Outcomes.{EpochsFollow}
+use Rattle.fine_model.specs.Room.{IsSealedUpTo}
 use Rattle.fine_hall.specs.Passes.{turns, last_room}
 use Rattle.fine_hall.proofs.Since.{since_law}
 use Rattle.hall_threads.specs.declared.things.DayRoom.{DayRoom}
 use Rattle.hall_threads.specs.declared.things.DayView.{DayView}
-use Rattle.hall_threads.specs.Days.{zero_image, day_log, room_state, room_log, day_stands}
+use Rattle.hall_threads.specs.Days.{zero_image, day_log, room_state, room_log, day_stands, view_state}
+use Rattle.hall_threads.specs.Ends.{IsWhole}
 use Rattle.hall_threads.proofs.Beginning.{day_shows}
 
 unused : (bucket n : ℕ) → 2 ≤ n → nodes_of [] bucket n ≡ (node.Leaf [], 0)
@@ -64,3 +68,18 @@ saw_sealed x p room all lawful stood saw =
     let up = (since_law x.room (turns p) saw.0 (subst (RoomsGoOn x.room) saw.1 lawful.rooms)).sealed in
     let is = ap (λ (s : RoomState). s.sealed) (stood.last ∙ ap (room_after x.room) saw.1) in
     omega (arith, up, is)
+
+-- what the hall tells at its end, of a log without rows
+pub whole_of : (x : Beginning) (passes : List (Pass DayView)) (views : List DayView) (room : DayRoom) {seats : ℕ} → x.log ≡ day_log → x.room.sealed ≡ 0 → x.seats ≡ seats → (e : Closes room_state room_log day_stands view_state x passes views room) → IsWhole seats e.all room
+whole_of x passes views room log sealed many e =
+    let began = subst (λ l. Began l 0 []) (sym log) day_began in
+    let stands = e.stood.stands 0 [] began in
+    record {
+      authors = subst (λ (n : ℕ). All (λ t. (0 < t.seat) × (t.seat ≤ n)) e.all) many e.authors;
+      legal = e.lawful.legal 0 [] began;
+      kept = stands.kept;
+      places = e.stood.places;
+      follow = subst (λ (n : ℕ). EpochsFollow n (commits e.all)) sealed e.stood.epochs.follow;
+      sealed = subst (λ (n : ℕ). IsSealedUpTo n (commits e.all) room.sealed) sealed e.stood.epochs.sealed;
+      leaf = stands.leaf;
+    }

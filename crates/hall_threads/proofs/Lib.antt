@@ -13,3 +13,4 @@ pub mod Shown
 pub mod Fronts
 pub mod Saying
 pub mod Parting
+pub mod Crowds

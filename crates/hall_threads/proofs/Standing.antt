@@ -11,7 +11,8 @@ use Rattle.fine_model.specs.Chain.{free_regions, is_free}
 use Rattle.fine_model.specs.History.{Commit, IsLegal}
 use Rattle.fine_model.specs.Becomes.{Becomes, IsStuck}
 use Rattle.fine_model.specs.Room.{IsSealedUpTo}
-use Rattle.fine_model.specs.Jobs.{KeepsJob}
+use Rattle.fine_model.specs.Regions.{body_in}
+use Rattle.fine_model.specs.Jobs.{KeepsJob, held_for}
 use Rattle.fine_model.specs.Buckets.{Began, node_id}
 use Rattle.fine_model.proofs.HistoryLaws.{IsLegal-push}
 use Rattle.fine_hall.specs.declared.law.Beginning.{Beginning}
@@ -22,13 +23,18 @@ use Rattle.fine_hall.specs.Passes.{seen, turns, published, last_room, HasPlace}
 use Rattle.fine_hall.specs.Halls.{TakesRoom, MayGiveRoom, MayGive}
 use Rattle.hall_threads.specs.declared.things.DayRoom.{DayRoom}
 use Rattle.hall_threads.specs.declared.things.DayView.{DayView}
-use Rattle.hall_threads.specs.Days.{zero_image, key_bucket, leaf_at, put_entry, board_of, room_state, room_log, StandsFor, day_stands, job_of, view_state, Appends}
+use Rattle.hall_threads.specs.Days.{zero_image, key_bucket, leaf_at, put_entry, board_of, room_state, room_log, StandsFor, day_stands, day_job, job_of, view_state, Appends}
 use Rattle.hall_threads.proofs.Epochs.{epochs_below, waiting_push, sealed_push, follow_push}
 use Rattle.hall_threads.proofs.Putting.{next_put, leaf_after, on_leaf, others_stay}
 
 four_free : length (free_regions zero_image) ≡ 4
 unfolding zero_image is_free
 four_free = refl
+
+-- what the target of the day's job holds
+four_held : held_for (Some zero_image) day_job ≡ Some (0 ∷ 0 ∷ 0 ∷ 0 ∷ [])
+unfolding zero_image body_in
+four_held = refl
 
 never_stuck : (room : DayRoom) → IsStuck (room_state room) → ⊥
 never_stuck room s = let few = subst (λ i. length (free_regions i) < 2) (some_same s.image zero_image (sym s.told)) s.few_free in let four = four_free in absurd (omega arith)

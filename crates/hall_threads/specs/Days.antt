@@ -110,9 +110,9 @@ eye_of sight = record { number = sight.number; regions = []; told = Some (told_i
 abbrev pub board_of : List (Option Sight) → List (Option OpenedEye)
 board_of sights = map (option_map eye_of) sights
 
--- the merge job of a day, which has taken no region yet
+-- the merge job of a day, which has taken a region and written four bytes for it
 abbrev pub day_job : Job
-day_job = record { older = leaf_part 1 0; newer = leaf_part 1 0; header = None; target = 0; written = 0 }
+day_job = record { older = leaf_part 1 0; newer = leaf_part 1 0; header = Some ((leaf_part 1 0).header); target = 0; written = 4 }
 
 abbrev pub job_of : Bool → Option Job
 job_of out = if out then Some day_job else None

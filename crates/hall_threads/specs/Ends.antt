@@ -24,10 +24,10 @@ use Rattle.hall_threads.specs.declared.things.Sight.{Sight}
 use Rattle.hall_threads.specs.declared.threads.Said.{Said}
 use Rattle.hall_threads.specs.Days.{key_bucket, leaf_at, leaf_id, put_call, put_calls, room_state, view_state}
 
--- All turns, each of one of the two seats, make a legal history of the epochs behind 0; the room keeps their entries in this order, and
+-- All turns, each of one of so many seats, make a legal history of the epochs behind 0; the room keeps their entries in this order, and
 -- what they leave of the key is what it knows.
-pub record IsWhole (all : List (Placed Turn)) (room : DayRoom) : Type 0 where
-  pub authors : All (λ t. (0 < t.seat) × (t.seat ≤ 2)) all
+pub record IsWhole (seats : ℕ) (all : List (Placed Turn)) (room : DayRoom) : Type 0 where
+  pub authors : All (λ t. (0 < t.seat) × (t.seat ≤ seats)) all
   pub legal : IsLegal [] (commits all)
   pub kept : map (λ note. note.value) room.kept.items ≡ map (λ c. c.entry) (commits all)
   pub places : room.places ≡ length (commits all)
@@ -51,12 +51,18 @@ pub record Counts (faults : ℕ) (room : DayRoom) (views : List DayView) : Type 
 -- both passes at the end
 pub record Ends (x : Beginning) (one two : Pass DayView) (room : DayRoom) (views : List DayView) : Type 0 where
   pub all : List (Placed Turn)
-  pub whole : IsWhole all room
+  pub whole : IsWhole 2 all room
   pub own_first : own_turns one ≡ by_seat 1 all
   pub own_second : own_turns two ≡ by_seat 2 all
   pub saw_first : Saw x all room one
   pub saw_second : Saw x all room two
   pub counts : Counts (x.room.faults + (troubles view_state x one + troubles view_state x two)) room views
+
+-- the passes of so many seats at the end
+pub record EndsAll (seats : ℕ) (room : DayRoom) (views : List DayView) : Type 0 where
+  pub all : List (Placed Turn)
+  pub whole : IsWhole seats all room
+  pub on_board : AreAllOnBoard (room_state room).board (map view_state views)
 
 -- What a seat read is the leaf that a front of all turns leaves up to some epoch, unless it is broken. The front has all turns of the seat, and the
 -- epoch is not below those of its commits, where its own turn showed them.
@@ -79,7 +85,7 @@ pub record SaidIn (all : List (Placed Turn)) (room : DayRoom) (seat value : ℕ)
 -- There is one list of turns, of which each thread said its part. The faults that the second said are all that were counted.
 pub record IsDay (first second : ℕ) (a b : Said) (room : DayRoom) (views : List DayView) : Type 0 where
   pub all : List (Placed Turn)
-  pub whole : IsWhole all room
+  pub whole : IsWhole 2 all room
   pub said_first : SaidIn all room 1 first a
   pub said_second : SaidIn all room 2 second b
   pub counts : Counts b.failed room views

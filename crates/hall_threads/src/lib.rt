@@ -1,6 +1,7 @@
 //! Transactions of several threads on one hall: what the hall's clauses give to who uses it.
 #![tactic(auto)]
 
+mod crowd;
 mod entries;
 mod evicting;
 mod merging;
@@ -15,6 +16,7 @@ mod threads;
 mod transaction;
 mod whole_day;
 
+pub use crowd::{Tally, day_of_many};
 pub use evicting::evict;
 pub use merging::merge;
 pub use opening::open;

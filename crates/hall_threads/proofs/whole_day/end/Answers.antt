@@ -1,21 +1,18 @@
 -- What the hall tells at its end is told of the two passes and of a log without rows.
-use Rattle.std.proofs.Common.{◌+◌, ◌++◌, List, sum_by, inl, inr, ⊎_elim, arith, ◌≡◌, ◌<◌, ◌≤◌, ◌∷◌, [], ℕ, map, sym, ap, subst, ◌∙◌}
+use Rattle.std.proofs.Common.{◌+◌, ◌++◌, List, sum_by, inl, inr, ⊎_elim, arith, ◌≡◌, ◌∷◌, [], map, refl, sym, ap, subst, ◌∙◌}
 use Rattle.std.proofs.lemmas.List.Sorted.{IsPermutation-refl}
-use Rattle.std.specs.Prelude.{IsPermutation, All}
+use Rattle.std.specs.Prelude.{IsPermutation}
 use Rattle.std.specs.List.{range_with_len}
 use mathlib.Core.Option.{some}
 use lib.ListN.{get_elem?}
 use Rattle.fine_places.specs.History.{by_seat}
-use Rattle.fine_model.specs.Outcomes.{EpochsFollow}
-use Rattle.fine_model.specs.Room.{IsSealedUpTo}
 use Rattle.fine_hall.specs.declared.pass.Pass.{Pass}
-use Rattle.fine_hall.specs.Turns.{commits}
 use Rattle.fine_hall.specs.Passes.{HoldsNothing, LacksJob, troubles}
 use Rattle.fine_hall.specs.Halls.{begun, IsPassOf}
 use Rattle.hall_threads.specs.declared.things.DayView.{DayView}
 use Rattle.hall_threads.specs.Days.{room_state, room_log, view_state}
 use Rattle.hall_threads.specs.Ends.{Counts}
-use Rattle.hall_threads.proofs.Ending.{day_began, two_cases, saw_sealed}
+use Rattle.hall_threads.proofs.Ending.{two_cases, saw_sealed, whole_of}
 use Rattle.hall_threads.proofs.whole_day.end.Goals as goal
 
 pub close-room-requires-clause-passes : goal.close-room-requires-clause-passes
@@ -31,7 +28,6 @@ close-room-requires-clause-all c κs =
 pub returns : goal.returns
 returns c =
     let e = c.close-room.ensures.closes.2 in
-    let stands = e.stood.stands 0 [] day_began in
     let at_one : get_elem? c.in-Ok-pair.passes.items 0 ≡ some c.args.one = ap (λ l. get_elem? l 0) c.in-Ok-pair.ensures in
     let x = begun room_state room_log view_state c.args.hall in
     let high = e.high in
@@ -40,15 +36,7 @@ returns c =
     let at_two : get_elem? c.in-Ok-pair.passes.items 1 ≡ some c.args.two = ap (λ l. get_elem? l 1) c.in-Ok-pair.ensures in
     record {
       all = e.all;
-      whole = record {
-        authors = subst (λ (n : ℕ). All (λ t. (0 < t.seat) × (t.seat ≤ n)) e.all) c.requires.seats e.authors;
-        legal = e.lawful.legal 0 [] day_began;
-        kept = stands.kept;
-        places = e.stood.places;
-        follow = subst (λ (n : ℕ). EpochsFollow n (commits e.all)) c.requires.sealed e.stood.epochs.follow;
-        sealed = subst (λ (n : ℕ). IsSealedUpTo n (commits e.all) c.close-room.result.sealed) c.requires.sealed e.stood.epochs.sealed;
-        leaf = stands.leaf;
-      };
+      whole = whole_of x c.in-Ok-pair.passes.items c.close-room.ensures.closes.0 c.close-room.result refl c.requires.sealed c.requires.seats e;
       own_first = e.parts 0 c.args.one at_one ∙ ap (λ n. by_seat n e.all) c.requires.one.1;
       own_second = e.parts 1 c.args.two at_two ∙ ap (λ n. by_seat n e.all) c.requires.two.1;
       saw_first = record { front = e.saw 0 c.args.one at_one; sealed = saw_sealed x c.args.one _ e.all e.lawful e.stood (e.saw 0 c.args.one at_one); marks = e.marks 0 c.args.one at_one };

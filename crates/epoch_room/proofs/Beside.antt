@@ -2,7 +2,7 @@
 use Rattle.std.proofs.Common.{◌≡◌, ℕ, zero, suc, ◌+◌, ◌-◌, ◌<◌, ◌≤◌, Bool, true, false, cond, not, ◌||◌, ◌&&◌, List, [], ◌∷◌, ◌++◌, length, refl, sym, ap, subst, ◌∙◌, arith, length-append, length-take, zero-add, true≢false}
 use Rattle.std.specs.Prelude.{filter, nat_eq, sum_by}
 use Rattle.std.specs.List.{AllByRecursion, list_any, range_with_len, IsDistinct}
-use Rattle.std.proofs.lemmas.Bool.{eqb-true}
+use Rattle.std.proofs.lemmas.Bool.{eqb-true, not-true}
 use Rattle.std.proofs.lemmas.Grind.{flat_map-append}
 use Rattle.std.proofs.lemmas.List.Folds.{list_any-append}
 use Rattle.std.proofs.lemmas.List.FromFn.{length-range_with_len}
@@ -15,7 +15,6 @@ use Rattle.fine_model.proofs.Nothing.{any_none}
 use Rattle.fine_model.proofs.Order.{first_of_both}
 use Rattle.epoch_room.specs.Value.{all_regions, regions_outside}
 use Rattle.epoch_room.specs.Whole.{HasRegions, AreApart}
-use Rattle.epoch_room.proofs.Taken.{not_true}
 
 -- a region is in one of the parts where it is among all their regions
 pub any_region : (r : ℕ) (parts : List Part) → list_any (λ p. list_any (nat_eq r) (regions_of p)) parts ≡ list_any (nat_eq r) (all_regions parts)
@@ -42,7 +41,7 @@ pub distinct_from : (xs : List ℕ) → is_distinct xs ≡ true → IsDistinct n
 unfolding is_distinct IsDistinct
 distinct_from [] h = tt
 distinct_from (x ∷ xs) h =
-    let both = first_of_both (not (list_any (nat_eq x) xs)) (is_distinct xs) h in (any_none (nat_eq x) xs (not_true (list_any (nat_eq x) xs) both.0), distinct_from xs both.1)
+    let both = first_of_both (not (list_any (nat_eq x) xs)) (is_distinct xs) h in (any_none (nat_eq x) xs (not-true (list_any (nat_eq x) xs) both.0), distinct_from xs both.1)
 
 pub at_member : (P : ℕ → Type 0) (xs : List ℕ) (q : ℕ) → AllByRecursion P xs → list_any (nat_eq q) xs ≡ true → P q
 at_member P [] q all h = absurd (true≢false (sym h))

@@ -2,7 +2,7 @@
 use Rattle.std.proofs.Common.{◌≡◌, ◌≢◌, ℕ, zero, suc, ◌+◌, ◌/◌, ◌%◌, ◌<◌, ◌≤◌, ◌==◌, Bool, true, false, cond, not, ◌||◌, List, [], ◌∷◌, ◌++◌, length, map, Some, None, refl, sym, ap, subst, ◌∙◌, inl, inr, arith, true≢false}
 use Rattle.std.specs.Prelude.{Option, IfSome, Any, Contains, IsPermutation, IsTrue, nat_eq, option_map, option_to_list, slice_index, take}
 use Rattle.std.specs.List.{AllByRecursion, list_any}
-use Rattle.std.proofs.lemmas.Bool.{or_parts}
+use Rattle.std.proofs.lemmas.Bool.{false_from_ne_true, not-true, or_parts}
 use Rattle.std.proofs.lemmas.List.Elements.{All-from_recursion, recursion_from_All}
 use Rattle.std.proofs.lemmas.List.Folds.{list_any-append}
 use Rattle.std.proofs.lemmas.List.Sorted.{All-permutation, IsPermutation-sym}
@@ -85,11 +85,7 @@ others_named : (leads : List ℕ) (regions : List ℕ) → AllByRecursion (λ r.
 others_named leads regions none = all_map (λ q. list_any (nat_eq q) regions ≡ true) (λ q. list_any (nat_eq q) leads ≡ false) one regions (each_there regions)
   where
     one : (q : ℕ) → list_any (nat_eq q) regions ≡ true → list_any (nat_eq q) leads ≡ false
-    one q there = by (list_any (nat_eq q) leads) refl
-      where
-        by : (b : Bool) → list_any (nat_eq q) leads ≡ b → list_any (nat_eq q) leads ≡ false
-        by false e = e
-        by true e = absurd (true≢false (sym there ∙ all_at (λ r. list_any (nat_eq r) regions ≡ false) q leads none e))
+    one q there = false_from_ne_true (list_any (nat_eq q) leads) (λ e. true≢false (sym there ∙ all_at (λ r. list_any (nat_eq r) regions ≡ false) q leads none e))
 
 -- ---- names of parts that are left
 
@@ -120,11 +116,7 @@ names_left leads live retired eye none names =
     (λ r any. any_left_of (λ p. Contains (regions_of p) r × AllByRecursion (Contains eye.1) (regions_of p)) leads (λ p h. other p h.1.0) live retired any) eye.1 names
   where
     other : (p : Part) → Contains eye.1 p.region → list_any (nat_eq p.region) leads ≡ false
-    other p there = by (list_any (nat_eq p.region) leads) refl
-      where
-        by : (b : Bool) → list_any (nat_eq p.region) leads ≡ b → list_any (nat_eq p.region) leads ≡ false
-        by false e = e
-        by true e = absurd (true≢false (sym (list_any-from_Contains nat_alike p.region eye.1 there) ∙ all_at (λ r. list_any (nat_eq r) eye.1 ≡ false) p.region leads none e))
+    other p there = false_from_ne_true (list_any (nat_eq p.region) leads) (λ e. true≢false (sym (list_any-from_Contains nat_alike p.region eye.1 there) ∙ all_at (λ r. list_any (nat_eq r) eye.1 ≡ false) p.region leads none e))
 
 -- ---- an image of which some gates were closed
 
@@ -176,11 +168,10 @@ module _ (region_len : ℕ) (leads : List ℕ) (live retired : List Part) (are :
 
       each : (ps : List Part) → ((r : ℕ) → list_any (nat_eq r) leads ≡ true → list_any (λ p. p.region == r) ps ≡ false) → AllByRecursion (λ p. list_any (nat_eq p.region) leads ≡ false) ps
       each [] h = tt
-      each (p ∷ ps) h = (by (list_any (nat_eq p.region) leads) refl, each ps (λ r there. (or_parts (p.region == r) (list_any (λ q. q.region == r) ps) (h r there)).1))
-        where
-          by : (b : Bool) → list_any (nat_eq p.region) leads ≡ b → list_any (nat_eq p.region) leads ≡ false
-          by false e = e
-          by true e = absurd (true≢false (sym (itself p.region) ∙ (or_parts (p.region == p.region) (list_any (λ q. q.region == p.region) ps) (h p.region e)).0))
+      each (p ∷ ps) h = (
+        false_from_ne_true (list_any (nat_eq p.region) leads) (λ e. true≢false (sym (itself p.region) ∙ (or_parts (p.region == p.region) (list_any (λ q. q.region == p.region) ps) (h p.region e)).0)),
+        each ps (λ r there. (or_parts (p.region == r) (list_any (λ q. q.region == r) ps) (h r there)).1),
+      )
 
   -- once all of them are closed, the others are the parts
   pub held_erased : (was image : Image) → HoldsParts region_len was live retired → DiffersAtGates leads was image → AllByRecursion (λ r. take 1 (region_of image r) ≡ closed_gate) leads → HoldsParts region_len image live (without leads retired)
@@ -208,11 +199,7 @@ module _ (region_len : ℕ) (leads : List ℕ) (live retired : List Part) (are :
           ∙ ap (λ b. list_any (λ p. p.region == r) live || b) (sym (lead_left r leads retired e)) ∙ sym (list_any-append (λ p. p.region == r) live (without leads retired))
 
       passes : (ps : List Part) → AllByRecursion (λ p. list_any (nat_eq p.region) leads ≡ false) (without leads ps)
-      passes ps = all_map (λ p. not (list_any (nat_eq p.region) leads) ≡ true) (λ p. list_any (nat_eq p.region) leads ≡ false) (λ p h. no (list_any (nat_eq p.region) leads) h) (without leads ps) (all_pass (λ p. not (list_any (nat_eq p.region) leads)) ps)
-        where
-          no : (b : Bool) → not b ≡ true → b ≡ false
-          no true h = absurd (true≢false (sym h))
-          no false h = refl
+      passes ps = all_map (λ p. not (list_any (nat_eq p.region) leads) ≡ true) (λ p. list_any (nat_eq p.region) leads ≡ false) (λ p h. not-true (list_any (nat_eq p.region) leads) h) (without leads ps) (all_pass (λ p. not (list_any (nat_eq p.region) leads)) ps)
 
       kept : (ps : List Part) → AllByRecursion (λ p. list_any (nat_eq p.region) leads ≡ false) ps → AllByRecursion (λ p. HasHeader region_len was p.region p.header) ps → AllByRecursion (λ p. HasHeader region_len image p.region p.header) ps
       kept [] a b = tt
@@ -256,11 +243,7 @@ module _ (old entry : Disk) (kept : Kept) (whole : IsWhole (value_of old entry k
     leads_beside_live = all_map (λ r. list_any (λ p. p.region == r) kept.retired ≡ true) (λ r. list_any (nat_eq r) (all_regions kept.parts) ≡ false) (λ r h. one r (lead_in r kept.retired h)) leads are
       where
         one : (r : ℕ) → list_any (nat_eq r) (all_regions kept.retired) ≡ true → list_any (nat_eq r) (all_regions kept.parts) ≡ false
-        one r there = by (list_any (nat_eq r) (all_regions kept.parts)) refl
-          where
-            by : (b : Bool) → list_any (nat_eq r) (all_regions kept.parts) ≡ b → list_any (nat_eq r) (all_regions kept.parts) ≡ false
-            by false e = e
-            by true e = absurd (true≢false (sym there ∙ other_list old.regions (all_regions kept.parts) (all_regions kept.retired) r retired_apart e))
+        one r there = false_from_ne_true (list_any (nat_eq r) (all_regions kept.parts)) (λ e. true≢false (sym there ∙ other_list old.regions (all_regions kept.parts) (all_regions kept.retired) r retired_apart e))
 
     module _ (unnamed : NamesNone leads (posted kept.board)) where
       abbrev eyes_of : Disk → List (ℕ × List ℕ)
@@ -373,14 +356,10 @@ module _ (old entry : Disk) (kept : Kept) (whole : IsWhole (value_of old entry k
         job_beside = subst (AllByRecursion (λ r. list_any (nat_eq r) leads ≡ false)) all_job (all_map (λ r. list_any (nat_eq r) held ≡ false) (λ r. list_any (nat_eq r) leads ≡ false) one left job_other)
           where
             one : (r : ℕ) → list_any (nat_eq r) held ≡ false → list_any (nat_eq r) leads ≡ false
-            one r none = by (list_any (nat_eq r) leads) refl
+            one r none = false_from_ne_true (list_any (nat_eq r) leads) (λ e. true≢false (sym (lead_in r kept.retired (all_at (λ q. list_any (λ p. p.region == q) kept.retired ≡ true) r leads are e)) ∙ apart))
               where
                 apart : list_any (nat_eq r) (all_regions kept.retired) ≡ false
                 apart = (or_parts (list_any (nat_eq r) (all_regions kept.parts)) (list_any (nat_eq r) (all_regions kept.retired)) (sym (ap (list_any (nat_eq r)) (regions_together kept.parts kept.retired) ∙ list_any-append (nat_eq r) (all_regions kept.parts) (all_regions kept.retired)) ∙ none)).1
-
-                by : (b : Bool) → list_any (nat_eq r) leads ≡ b → list_any (nat_eq r) leads ≡ false
-                by false e = e
-                by true e = absurd (true≢false (sym (lead_in r kept.retired (all_at (λ q. list_any (λ p. p.region == q) kept.retired ≡ true) r leads are e)) ∙ apart))
 
         -- ---- what the disk tells
 

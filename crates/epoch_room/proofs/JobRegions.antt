@@ -1,22 +1,21 @@
 -- Regions that a merge takes from the free ones, and gives back.
-use Rattle.std.proofs.Common.{◌≡◌, ◌⊎◌, ℕ, zero, suc, ◌+◌, ◌-◌, ◌<◌, ◌≤◌, ◌==◌, Bool, true, false, cond, not, ◌&&◌, ◌||◌, List, [], ◌∷◌, ◌++◌, length, take, drop, Some, None, refl, sym, ap, subst, ◌∙◌, inl, inr, arith, eq-eqb, append_assoc, zero-add, true≢false}
+use Rattle.std.proofs.Common.{◌≡◌, ◌⊎◌, ℕ, zero, suc, ◌+◌, ◌<◌, ◌≤◌, Bool, true, false, cond, not, ◌&&◌, ◌||◌, List, [], ◌∷◌, ◌++◌, length, take, drop, Some, None, refl, sym, ap, ◌∙◌, inl, inr, arith, eq-eqb, append_assoc, zero-add, true≢false}
 use Rattle.std.specs.Prelude.{Option, filter, find, nat_eq, nat_lt}
 use Rattle.std.specs.List.{AllByRecursion, list_any, range_with_len}
-use Rattle.std.proofs.lemmas.Bool.{eqb-true, cases_lt}
+use Rattle.std.proofs.lemmas.Bool.{eqb-true, cases_lt, not-true}
 use Rattle.std.proofs.lemmas.Map.Views.{any-filter_same}
 use Rattle.std.proofs.lemmas.List.Folds.{list_any-append}
-use Rattle.fine_model.specs.Boards.{regions_by, set_of}
-use Rattle.fine_model.specs.Trees.{is_distinct}
+use Rattle.fine_model.specs.Boards.{set_of}
 use Rattle.fine_model.proofs.Nothing.{all_at}
-use Rattle.fine_model.proofs.Order.{all_map, filter_all}
+use Rattle.fine_model.proofs.Order.{all_map}
 use Rattle.fine_model.proofs.Sets.{all_pass}
-use Rattle.fine_model.proofs.Times.{times, times-append, absent_times, times_absent, distinct_times, times_distinct, below_times, times_below}
+use Rattle.fine_model.proofs.Times.{times-append}
 use Rattle.partition_hold.proofs.Bits.{among, same_regions}
 use Rattle.epoch_room.specs.Value.{regions_outside}
 use Rattle.epoch_room.specs.Whole.{AreApart}
 use Rattle.epoch_room.proofs.Beside.{filter_end}
 use Rattle.epoch_room.proofs.FreeSets.{set_below}
-use Rattle.epoch_room.proofs.Taken.{SameTimes, any_times, apart_back, apart_front, apart_more, first_free, left_free, not_true, other_list, same_apart, same_outside}
+use Rattle.epoch_room.proofs.Taken.{SameTimes, any_times, apart_back, apart_more, first_free, left_free, other_list, same_apart, same_outside}
 
 -- ---- the lowest free ones
 
@@ -37,16 +36,11 @@ lowest_taken regions (suc k) (x ∷ xs) some enough apart is =
         let d = times-append n (take k xs) some in
         omega (arith, a, b, c, d)
 
-pub all_taken : {A : Type 0} (P : A → Type 0) (k : ℕ) (xs : List A) → AllByRecursion P xs → AllByRecursion P (take k xs)
-all_taken P zero xs all = tt
-all_taken P (suc k) [] all = tt
-all_taken P (suc k) (x ∷ xs) all = (all.0, all_taken P k xs all.1)
-
 -- a free region is not among those that are taken
 pub outside_all : (regions : ℕ) (some : List ℕ) → AllByRecursion (λ r. list_any (nat_eq r) some ≡ false) (regions_outside regions some)
 unfolding regions_outside
 outside_all regions some =
-    all_map (λ r. not (list_any (nat_eq r) some) ≡ true) (λ r. list_any (nat_eq r) some ≡ false) (λ r h. not_true (list_any (nat_eq r) some) h) (regions_outside regions some) (all_pass (λ r. not (list_any (nat_eq r) some)) (range_with_len 0 regions))
+    all_map (λ r. not (list_any (nat_eq r) some) ≡ true) (λ r. list_any (nat_eq r) some ≡ false) (λ r h. not-true (list_any (nat_eq r) some) h) (regions_outside regions some) (all_pass (λ r. not (list_any (nat_eq r) some)) (range_with_len 0 regions))
 
 -- ---- regions that are free again
 

@@ -1,16 +1,16 @@
 -- What one call keeps and then another one, both keep.
-use Rattle.std.proofs.Common.{◌≡◌, ◌⊎◌, ℕ, zero, suc, ◌+◌, ◌≤◌, List, [], ◌∷◌, ◌++◌, length, drop, Some, None, refl, sym, ap, subst, ◌∙◌, inl, inr, arith, length-append}
+use Rattle.std.proofs.Common.{◌≡◌, ◌⊎◌, ℕ, zero, suc, ◌≤◌, List, [], ◌∷◌, ◌++◌, length, drop, Some, None, refl, sym, ap, subst, ◌∙◌, inl, inr, arith, length-append}
 use Rattle.std.specs.Prelude.{Any, Option, slice_get, slice_set}
 use Rattle.fine_model.specs.declared.Row.{Row}
 use Rattle.fine_model.specs.declared.law.RoomState.{RoomState}
-use Rattle.fine_model.specs.Boards.{Buffer, buffer_at}
+use Rattle.fine_model.specs.Boards.{buffer_at}
 use Rattle.fine_model.specs.History.{Commit, last_epoch}
 use Rattle.fine_model.specs.Headline.{ShowsSome}
 use Rattle.fine_model.proofs.Goings.{becomes_on}
 use Rattle.log_disk.specs.Disk.{BothTold, Image, IsImageAt, IsImageSince, Moment, Told, clock_of}
 use Rattle.log_disk.specs.Moments.{Continues}
 use Rattle.log_disk.proofs.Times.{continued_later, continues_then}
-use Rattle.epoch_room.specs.Meaning.{Keeps, ShownInside, Stands}
+use Rattle.epoch_room.specs.Meaning.{Keeps, ShownInside}
 use Rattle.partition_hold.specs.Views.{ViewValue, opened}
 use Rattle.epoch_room.specs.Returns.{IsPosted}
 use Rattle.epoch_room.specs.Value.{RoomValue}

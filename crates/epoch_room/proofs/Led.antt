@@ -9,6 +9,7 @@ use Rattle.fine_model.specs.Chain.{regions_of}
 use Rattle.fine_model.specs.Jobs.{job_left}
 use Rattle.fine_model.proofs.Goings.{job_itself}
 use Rattle.partition_hold.proofs.Sets.{none_passes}
+use Rattle.fine_model.proofs.Lists.{all_take}
 use Rattle.fine_model.proofs.Order.{all_map}
 use Rattle.log_disk.specs.Disk.{Disk, HasRisen}
 use Rattle.log_disk.specs.declared.refusal.DiskRefusal.{DiskRefusal}
@@ -27,11 +28,6 @@ use Rattle.epoch_room.proofs.FreeSets.{set_below}
 use Rattle.epoch_room.proofs.Taken.{apart_back}
 use Rattle.epoch_room.proofs.GateSteps.{beside_none, closing_none, closing_wider, reads_none, reads_wider}
 use Rattle.epoch_room.proofs.Erasing.{NamesNone, erased_job, erased_keeps, erased_whole, lost_now, lost_some, shut_whole}
-
-all_take : {A : Type 0} (P : A → Type 0) (k : ℕ) (xs : List A) → AllByRecursion P xs → AllByRecursion P (take k xs)
-all_take P zero xs all = tt
-all_take P (suc k) [] all = tt
-all_take P (suc k) (x ∷ xs) all = (all.0, all_take P k xs all.1)
 
 front_some : (k : ℕ) (xs : List ℕ) → (k ≡ 0 → ⊥) → k ≤ length xs → take k xs ≢ []
 front_some zero xs none few e = none refl

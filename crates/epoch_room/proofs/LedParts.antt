@@ -2,7 +2,7 @@
 use Rattle.std.proofs.Common.{◌≡◌, ◌≢◌, ℕ, zero, suc, ◌+◌, ◌<◌, ◌≤◌, ◌==◌, Bool, true, false, cond, not, ◌||◌, List, [], ◌∷◌, ◌++◌, map, refl, sym, ap, ◌∙◌, inl, inr, arith, true≢false, eq-eqb}
 use Rattle.std.specs.Prelude.{nat_eq, filter}
 use Rattle.std.specs.List.{AllByRecursion, list_any, range_with_len}
-use Rattle.std.proofs.lemmas.Bool.{cases_lt, eqb-true, or_parts, or_right}
+use Rattle.std.proofs.lemmas.Bool.{cases_lt, eqb-true, false_from_ne_true, or_parts, or_right}
 use Rattle.std.proofs.lemmas.List.Folds.{list_any-append}
 use Rattle.fine_model.specs.declared.Part.{Part}
 use Rattle.fine_model.specs.Boards.{regions_by, set_of}
@@ -62,11 +62,7 @@ lead_left r leads [] none = refl
 lead_left r leads (p ∷ parts) none = by (list_any (nat_eq p.region) leads) refl (lead_left r leads parts none)
   where
     other : list_any (nat_eq p.region) leads ≡ true → (p.region == r) ≡ false
-    other e = side (p.region == r) refl
-      where
-        side : (b : Bool) → (p.region == r) ≡ b → (p.region == r) ≡ false
-        side false f = f
-        side true f = absurd (true≢false (sym e ∙ ap (λ n. list_any (nat_eq n) leads) (eqb-true p.region r f) ∙ none))
+    other e = false_from_ne_true (p.region == r) (λ f. true≢false (sym e ∙ ap (λ n. list_any (nat_eq n) leads) (eqb-true p.region r f) ∙ none))
 
     by : (b : Bool) → list_any (nat_eq p.region) leads ≡ b → list_any (λ q. q.region == r) (without leads parts) ≡ list_any (λ q. q.region == r) parts
         → list_any (λ q. q.region == r) (cond (not b) (p ∷ without leads parts) (without leads parts)) ≡ ((p.region == r) || list_any (λ q. q.region == r) parts)

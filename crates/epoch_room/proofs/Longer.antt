@@ -1,6 +1,7 @@
 -- What an image shows while a region is sealed.
 use Rattle.std.proofs.Common.{◌≡◌, ◌⊎◌, ℕ, ◌+◌, ◌≤◌, true, false, not, IsTrue, List, [], ◌∷◌, ◌++◌, length, Some, Ok, ap, ◌∙◌, inl, inr, arith, append_assoc}
 use Rattle.std.specs.List.{AllByRecursion}
+use Rattle.std.proofs.lemmas.Bool.{not-true}
 use Rattle.fine_model.specs.declared.Header.{Header}
 use Rattle.fine_model.specs.declared.Part.{Part}
 use Rattle.fine_model.specs.declared.Range.{Range}
@@ -17,7 +18,6 @@ use Rattle.fine_model.proofs.Order.{first_of_both}
 use Rattle.log_partition.specs.Encoding.{FitsRange}
 use Rattle.log_partition.proofs.Sealed.{good_header, sealed_again}
 use Rattle.epoch_room.specs.Partition.{IsArranged}
-use Rattle.epoch_room.proofs.Taken.{not_true}
 use Rattle.epoch_room.proofs.Partitions.{alike, same_header}
 use Rattle.epoch_room.proofs.Torn.{HasClosed, HasOpened}
 
@@ -35,7 +35,7 @@ module _ (region_len region s : ℕ) (parts : List Part) (rows sorted : List Row
     (spelled : bytes ≡ partition_bytes region_len (range_of s) sorted) where
   pub base_closed : is_sealed (region_of base region) ≡ false
   unfolding is_free
-  base_closed = not_true (is_sealed (region_of base region)) (first_of_both (not (is_sealed (region_of base region))) _ free).0
+  base_closed = not-true (is_sealed (region_of base region)) (first_of_both (not (is_sealed (region_of base region))) _ free).0
 
   pub closed_alike : (image : Image) → HasClosed region base image → ShowsAlike region_len base image
   closed_alike image is = closed_law region_len region base image (record { differs = is.differs; free = free; closed = is.closed })

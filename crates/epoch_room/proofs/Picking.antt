@@ -1,11 +1,10 @@
 -- A merge that is picked, that takes its regions, and that is given up.
-use Rattle.std.proofs.Common.{◌≡◌, ℕ, zero, suc, ◌+◌, ◌-◌, ◌*◌, ◌^◌, ◌<◌, ◌≤◌, ◌==◌, Bool, true, false, cond, not, ◌||◌, List, [], ◌∷◌, ◌++◌, length, take, drop, Some, None, refl, sym, ap, subst, ◌∙◌, inl, inr, arith, length-append, length-take}
-use Rattle.std.specs.Prelude.{Option, IfSome, IsTrue, filter, find, nat_eq, nat_le, option_map, option_to_list, replicate, slice_get, slice_index, unwrap_or}
-use Rattle.std.specs.List.{AllByRecursion, list_any, range_with_len}
+use Rattle.std.proofs.Common.{◌≡◌, ℕ, zero, suc, ◌+◌, ◌-◌, ◌^◌, ◌<◌, ◌≤◌, ◌==◌, Bool, true, false, cond, not, List, [], ◌∷◌, ◌++◌, length, take, drop, Some, None, refl, sym, ap, subst, ◌∙◌, arith, length-append, length-take}
+use Rattle.std.specs.Prelude.{Option, IfSome, IsTrue, filter, nat_eq, nat_le, option_map, option_to_list, replicate, slice_get, slice_index, unwrap_or}
+use Rattle.std.specs.List.{AllByRecursion, list_any}
 use Rattle.std.proofs.lemmas.Bool.{or_parts}
 use Rattle.std.proofs.lemmas.List.{length-replicate, drop-replicate, take_at, drop_at}
 use Rattle.std.proofs.lemmas.List.Folds.{list_any-append}
-use Rattle.std.proofs.lemmas.Option.{IfSome_then}
 use Rattle.fine_model.specs.declared.Header.{Header}
 use Rattle.fine_model.specs.declared.Job.{Job}
 use Rattle.fine_model.specs.declared.Mark.{Mark}
@@ -15,6 +14,7 @@ use Rattle.fine_model.specs.ChainLaws.{part_of}
 use Rattle.fine_model.specs.Jobs.{job_left, job_regions, taken_by}
 use Rattle.fine_model.specs.Boards.{set_of}
 use Rattle.fine_model.specs.Merge.{fits_in}
+use Rattle.fine_model.proofs.Lists.{all_take}
 use Rattle.fine_model.proofs.Order.{all_map, filter_all}
 use Rattle.fine_model.proofs.Times.{times, times-append}
 use Rattle.partition_index.specs.Parts.{is_counted}
@@ -25,7 +25,7 @@ use Rattle.epoch_room.specs.Meaning.{Keeps}
 use Rattle.epoch_room.specs.Value.{RoomValue, all_regions, regions_outside, taken}
 use Rattle.epoch_room.specs.Whole.{AreApart, IsJob, IsTaken, IsWhole}
 use Rattle.epoch_room.proofs.Counting.{all_front, all_back, regions_of_header}
-use Rattle.epoch_room.proofs.JobRegions.{all_taken, below_both, found_least, freed_outside, lowest_taken, outside_all, outside_set, rest_apart}
+use Rattle.epoch_room.proofs.JobRegions.{below_both, found_least, freed_outside, lowest_taken, outside_all, outside_set, rest_apart}
 use Rattle.epoch_room.proofs.Spare.{spare_keeps, spare_whole}
 use Rattle.epoch_room.proofs.Taken.{SameTimes, same_apart, same_outside}
 
@@ -209,7 +209,7 @@ module _ (value : RoomValue) (whole : IsWhole value) (job : Job) (measure : Meas
   taken_left =
       ap (filter (λ r. not (list_any (nat_eq r) value.room.lost))) own
       ∙ filter_all (λ r. not (list_any (nat_eq r) value.room.lost)) (take k value.room.free)
-      (all_taken (λ r. not (list_any (nat_eq r) value.room.lost) ≡ true) k value.room.free
+      (all_take (λ r. not (list_any (nat_eq r) value.room.lost) ≡ true) k value.room.free
       (all_map (λ r. list_any (nat_eq r) (taken value.room value.target) ≡ false) (λ r. not (list_any (nat_eq r) value.room.lost) ≡ true) not_lost value.room.free
       (subst (AllByRecursion (λ r. list_any (nat_eq r) (taken value.room value.target) ≡ false)) (sym whole.free) (outside_all value.disk.regions (taken value.room value.target)))))
 

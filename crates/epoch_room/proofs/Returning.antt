@@ -8,7 +8,7 @@ use Rattle.std.proofs.lemmas.List.Sums.{sum_by-cons}
 use Rattle.std.proofs.lemmas.List.Sorted.{Contains-permutation, IsPermutation-append_comm, IsPermutation-append_left, IsPermutation-append_right, IsPermutation-keeps, IsPermutation-refl, IsPermutation-sym, IsPermutation-trans, sum_by-IsPermutation}
 use Rattle.std.proofs.lemmas.Option.{slice_get_within}
 use Rattle.fine_model.specs.declared.law.OpenedEye.{OpenedEye}
-use Rattle.fine_model.specs.Boards.{Buffer, buffer_at, posted, named, held_of, set_of}
+use Rattle.fine_model.specs.Boards.{Buffer, buffer_at, posted, named, held_of}
 use Rattle.fine_model.specs.Jobs.{KeepsJob}
 use Rattle.fine_model.specs.Trees.{is_distinct}
 use Rattle.fine_model.specs.Views.{SameSeen}

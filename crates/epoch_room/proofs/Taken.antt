@@ -2,6 +2,7 @@
 use Rattle.std.proofs.Common.{◌≡◌, ℕ, zero, suc, ◌+◌, ◌<◌, ◌≤◌, Bool, true, false, cond, not, ◌&&◌, ◌||◌, List, [], ◌∷◌, ◌++◌, refl, sym, ap, subst, ◌∙◌, inl, inr, arith, eq-eqb, true≢false}
 use Rattle.std.specs.Prelude.{filter, nat_eq}
 use Rattle.std.specs.List.{AllByRecursion, list_any, range_with_len}
+use Rattle.std.proofs.lemmas.Bool.{not-true}
 use Rattle.std.proofs.lemmas.Bool.Decides.{leb_tells}
 use Rattle.fine_model.specs.Trees.{is_distinct}
 use Rattle.fine_model.proofs.Nothing.{all_at}
@@ -54,10 +55,6 @@ below_range : (a n : ℕ) → AllByRecursion (λ r. r < a + n) (range_with_len a
 below_range a zero = tt
 below_range a (suc n) = (omega arith, all_map (λ r. r < a + 1 + n) (λ r. r < a + suc n) (λ r h. omega (arith, h)) (range_with_len (a + 1) n) (below_range (a + 1) n))
 
-pub not_true : (b : Bool) → not b ≡ true → b ≡ false
-not_true true h = absurd (true≢false (sym h))
-not_true false h = refl
-
 -- the first region that is not taken
 pub record IsFirstFree (regions region : ℕ) (free some : List ℕ) : Type 0 where
   pub there : region < regions
@@ -71,7 +68,7 @@ first_free regions region free some is =
     let low : AllByRecursion (λ r. r < 0 + regions) (region ∷ free) = subst (AllByRecursion (λ r. r < 0 + regions)) (sym is) (all_filter (λ r. r < 0 + regions) p (range_with_len 0 regions) (below_range 0 regions)) in
     let pass : AllByRecursion (λ r. p r ≡ true) (region ∷ free) = subst (AllByRecursion (λ r. p r ≡ true)) (sym is) (all_pass p (range_with_len 0 regions)) in
     let up : AreRising (region ∷ free) = subst AreRising (sym is) (rising_filter p (range_with_len 0 regions) (rising_range 0 regions).1) in
-    record { there = omega (arith, low.0); in_none = not_true (list_any (nat_eq region) some) pass.0; above = up.0 }
+    record { there = omega (arith, low.0); in_none = not-true (list_any (nat_eq region) some) pass.0; above = up.0 }
 
 filter_twice : {A : Type 0} (p q r : A → Bool) → ((x : A) → r x ≡ (p x && q x)) → (xs : List A) → filter r xs ≡ filter q (filter p xs)
 filter_twice p q r both [] = refl
@@ -132,7 +129,7 @@ rising_outside regions some = rising_filter (λ r. not (list_any (nat_eq r) some
 
 pub outside_not : (regions : ℕ) (some : List ℕ) (n : ℕ) → list_any (nat_eq n) (regions_outside regions some) ≡ true → list_any (nat_eq n) some ≡ false
 unfolding regions_outside
-outside_not regions some n there = not_true (list_any (nat_eq n) some) (all_at (λ r. not (list_any (nat_eq r) some) ≡ true) n _ (all_pass (λ r. not (list_any (nat_eq r) some)) (range_with_len 0 regions)) there)
+outside_not regions some n there = not-true (list_any (nat_eq n) some) (all_at (λ r. not (list_any (nat_eq r) some) ≡ true) n _ (all_pass (λ r. not (list_any (nat_eq r) some)) (range_with_len 0 regions)) there)
 
 pub outside_there : (regions : ℕ) (some : List ℕ) (n : ℕ) → list_any (nat_eq n) (regions_outside regions some) ≡ true → n < regions
 unfolding regions_outside

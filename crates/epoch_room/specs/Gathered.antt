@@ -3,7 +3,7 @@ use Rattle.std.specs.Prelude.{◌≡◌, ◌≤◌, List, flat_map, vec_len, vec
 use Rattle.std.specs.List.{AllByRecursion}
 use Rattle.fine_model.specs.declared.Row.{Row}
 use Rattle.fine_model.specs.declared.Mark.TheVariants as mark
-use Rattle.fine_model.specs.RowBytes.{rows_bytes, FitsRow}
+use Rattle.fine_model.specs.RowBytes.{greatest, rows_bytes, FitsRow}
 use Rattle.fine_model.specs.Merge.{cost}
 use Rattle.epoch_room.specs.Epoch.{Open}
 use Rattle.epoch_room.specs.declared.epoch.OpenEpoch.TheInside.{Inside}
@@ -24,4 +24,4 @@ pub record IsGathered (epoch : Inside) : Type 0 where
   pub within : epoch.used ≤ epoch.most
   pub entries : epoch.waiting ≡ vec_len epoch.logs
   pub room : epoch.most ≤ vec_capacity epoch.bytes
-  pub places : 4611686018427387904 ≤ vec_capacity epoch.logs
+  pub places : greatest ≤ vec_capacity epoch.logs

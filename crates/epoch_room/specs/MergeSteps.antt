@@ -6,6 +6,7 @@ use Rattle.fine_model.specs.declared.Job.{Job}
 use Rattle.fine_model.specs.declared.Mark.TheVariants as mark
 use Rattle.fine_model.specs.declared.Part.{Part}
 use Rattle.fine_model.specs.declared.law.RoomState.{RoomState}
+use Rattle.fine_model.specs.RowBytes.{most_regions}
 use Rattle.fine_model.specs.Merge.{fits_in}
 use Rattle.fine_model.specs.Boards.{set_of}
 use Rattle.fine_model.specs.Jobs.{job_left, held_for, KeepsJob}
@@ -50,7 +51,7 @@ measured_len measure = measure.area + 14 * measure.nodes
 
 -- the least number of regions, up to eight, in which so many bytes fit
 abbrev pub regions_needed : ℕ → ℕ → Option ℕ
-regions_needed region_len len = find (λ k. fits_in region_len k len) (range_with_len 1 8)
+regions_needed region_len len = find (λ k. fits_in region_len k len) (range_with_len 1 most_regions)
 
 -- a number, where no more are needed than there are
 abbrev pub if_enough : ℕ → Option ℕ → Option ℕ

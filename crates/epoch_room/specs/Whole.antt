@@ -7,7 +7,7 @@ use Rattle.fine_model.specs.declared.Mark.TheVariants as mark
 use Rattle.fine_model.specs.declared.Part.{Part}
 use Rattle.fine_model.specs.declared.law.OpenedEye.{OpenedEye}
 use Rattle.fine_model.specs.declared.law.RoomState.{RoomState}
-use Rattle.fine_model.specs.RowBytes.{greatest, FitsRow}
+use Rattle.fine_model.specs.RowBytes.{greatest, longest_region, most_in_log, most_regions, FitsRow}
 use Rattle.fine_model.specs.Merge.{cost, fits_in}
 use Rattle.fine_model.specs.Regions.{Image, region_of, is_sealed, HasHeader}
 use Rattle.fine_model.specs.Chain.{chain, chain_end, regions_of}
@@ -22,9 +22,9 @@ use Rattle.epoch_room.specs.Value.{RoomValue, all_regions, regions_outside, take
 -- the limits of a disk: 4 to 64 regions of 4,096 to 67,108,864 bytes, whole KiB
 pub record HasGeometry (disk : Disk) : Type 0 where
   pub regions_low : 4 ≤ disk.regions
-  pub regions_high : disk.regions ≤ 64
+  pub regions_high : disk.regions ≤ most_in_log
   pub len_low : 4096 ≤ disk.region_len
-  pub len_high : disk.region_len ≤ 67108864
+  pub len_high : disk.region_len ≤ longest_region
   pub whole : disk.region_len % 1024 ≡ 0
 
 -- the ranges of parts follow one another from an epoch on
@@ -39,7 +39,7 @@ pub record AreInChain (parts : List Part) : Type 0 where
 -- a part has 1 to 8 regions, and its header seven entries for those behind the lead
 pub record HasRegions (p : Part) : Type 0 where
   pub low : 1 ≤ p.header.regions
-  pub high : p.header.regions ≤ 8
+  pub high : p.header.regions ≤ most_regions
   pub more : length p.header.more ≡ 7
 
 -- regions of a disk, none of them twice

@@ -3,20 +3,18 @@
 ghost use Rattle.std.specs.Prelude.{◌≡◌, ◌+◌, ◌++◌, ◌<◌, ◌≤◌, length, vec_len, vec_capacity, IfOk};
 ghost use Rattle.std.specs.List.{AllByRecursion};
 ghost use Rattle.fine_model.specs.Merge.{cost};
-ghost use Rattle.fine_model.specs.RowBytes.{FitsRow, rows_bytes, rows_len};
+ghost use Rattle.fine_model.specs.RowBytes.{FitsRow, greatest, rows_bytes, rows_len};
 ghost use Rattle.node_record.specs.Keys.{AreKeysOf};
 ghost use Rattle.fine_model.specs.declared.Mark.TheVariants as mark;
 ghost use Rattle.epoch_room.specs.Epoch.{empty, with_entry};
 
 use fine_model::NoMemory;
+use fine_model::format::GREATEST;
 use node_record::{RowAt, front_at};
 use private_log::PrivateLog;
 use std::alloc::Global;
 use std::marker::Model;
 use std::snapshot::Snapshot;
-
-/// The most entries that an epoch can have.
-const MOST: usize = 4_611_686_018_427_387_904;
 
 /// Appends bytes for which there is room.
 fn fill(out: &mut Vec<u8>, bytes: &[u8])
@@ -56,7 +54,7 @@ impl OpenEpoch {
     {
         Ok(OpenEpoch {
             bytes: Vec::with_capacity(alloc, most as usize)?,
-            logs: Vec::with_capacity(alloc, MOST)?,
+            logs: Vec::with_capacity(alloc, GREATEST as usize)?,
             waiting: 0,
             used: 0,
             most,
@@ -77,11 +75,11 @@ impl OpenEpoch {
         self.used
     }
 
-    /// Puts the rows of an entry behind those that are there. It takes no memory.
+    /// Puts the rows of an entry behind those that are there; an epoch has at most 2^62. It takes no memory.
     pub fn add(&mut self, log: &PrivateLog)
         requires rows { AllByRecursion (FitsRow mark.Two) log.now }
         requires within { self.old.used + cost log.now ≤ self.old.most }
-        requires entries { self.old.waiting < 4611686018427387904 }
+        requires entries { self.old.waiting < greatest }
         ensures { self.new ≡ with_entry self.old log.now }
     {
         fill(&mut self.bytes, log.bytes());

@@ -2,6 +2,7 @@
 
 ghost use Rattle.std.specs.Prelude.{◌≡◌, ◌<◌, [], ◌∷◌, ◌++◌, nat_eq, vec_capacity, OnOk, IfOk};
 ghost use Rattle.std.specs.List.{AllByRecursion, list_any};
+ghost use Rattle.fine_model.specs.RowBytes.{most_in_log};
 ghost use Rattle.fine_model.specs.Boards.{set_of};
 ghost use Rattle.fine_model.specs.Chain.{regions_of};
 ghost use Rattle.epoch_room.specs.Erasing.{led_by, unheld_of, without};
@@ -23,7 +24,7 @@ fn is_lead(leads: &[u32], region: u32) -> bool
 /// Adds the regions of a part.
 fn add_part(set: &mut RegionSet, part: &Part)
     requires has { HasRegions part.now }
-    requires small { AllByRecursion (λ region. region < 64) (regions_of part.now) }
+    requires small { AllByRecursion (λ region. region < most_in_log) (regions_of part.now) }
     ensures { set.new ≡ set_of (set.old ++ regions_of part.now) }
 {
     let behind = usize::from(part.header.regions) - 1;
@@ -34,7 +35,7 @@ fn add_part(set: &mut RegionSet, part: &Part)
 /// Adds the regions of a part if one of these regions leads it.
 fn add_if_led(set: &mut RegionSet, leads: &[u32], part: &Part)
     requires has { HasRegions part.now }
-    requires small { AllByRecursion (λ region. region < 64) (regions_of part.now) }
+    requires small { AllByRecursion (λ region. region < most_in_log) (regions_of part.now) }
     requires ordered { set_of set.old ≡ set.old }
     ensures added { set.new ≡ set_of (set.old ++ all_regions (led_by leads.now (part.now ∷ []))) }
     ensures ordered { set_of set.new ≡ set.new }
@@ -47,7 +48,7 @@ fn add_if_led(set: &mut RegionSet, leads: &[u32], part: &Part)
 /// Adds all regions of the parts that these regions lead.
 pub fn add_led(set: &mut RegionSet, leads: &[u32], parts: &[Part])
     requires each { AllByRecursion HasRegions parts.now }
-    requires small { AllByRecursion (λ p. AllByRecursion (λ region. region < 64) (regions_of p)) parts.now }
+    requires small { AllByRecursion (λ p. AllByRecursion (λ region. region < most_in_log) (regions_of p)) parts.now }
     requires ordered { set_of set.old ≡ set.old }
     ensures { set.new ≡ set_of (set.old ++ all_regions (led_by leads.now parts.now)) }
 {
@@ -70,7 +71,7 @@ fn push_unheld<E: LogEye>(
     board: &Board<E>,
     part: &Part,
 ) -> Result<(), NoMemory>
-    requires small { part.now.region < 64 }
+    requires small { part.now.region < most_in_log }
     ensures { OnOk result (leads.new.items ≡ leads.old.items ++ unheld_of board.now (part.now ∷ [])) }
 {
     if board.names(part.region).is_some() {
@@ -86,7 +87,7 @@ pub fn unheld_leads<E: LogEye>(
     board: &Board<E>,
     parts: &[Part],
 ) -> Result<Vec<u32>, NoMemory>
-    requires small { AllByRecursion (λ p. p.region < 64) parts.now }
+    requires small { AllByRecursion (λ p. p.region < most_in_log) parts.now }
     ensures { IfOk result (λ leads. leads.items ≡ unheld_of board.now parts.now) }
 {
     let mut leads = Vec::new(alloc);

@@ -2,6 +2,7 @@
 
 ghost use Rattle.std.specs.Prelude.{◌≤◌, IfOk, IsPermutation, IsSortedBy};
 ghost use Rattle.fine_model.specs.Merge.{encoded_len};
+ghost use Rattle.fine_model.specs.RowBytes.{longest_region};
 ghost use Rattle.node_record.specs.Keys.{is_key_below};
 ghost use Rattle.epoch_room.specs.Partition.{IsPartitionOf};
 
@@ -28,7 +29,7 @@ pub fn as_partition(
     region_len: u64,
 ) -> Result<Partition, NoMemory>
     requires within { encoded_len epoch.now.rows ≤ region_len }
-    requires region_len { region_len ≤ 67108864 }
+    requires region_len { region_len ≤ longest_region }
     ensures { IfOk result (IsPartitionOf region_len range epoch.now.rows) }
 {
     let keys = sorted(epoch.keys(alloc)?);

@@ -2,6 +2,7 @@
 
 ghost use Rattle.std.specs.Prelude.{◌≡◌, ◌<◌, ◌^◌, ◌≤◌, ◌++◌, ◌==◌, not, ◌&&◌, if◌then◌else◌, nat_eq, nat_le, map, find, length, sum_by, take, drop, slice_get, IfOk, OnOk};
 ghost use Rattle.std.specs.List.{AllByRecursion, list_any};
+ghost use Rattle.fine_model.specs.RowBytes.{most_in_log};
 ghost use Rattle.fine_model.specs.Chain.{regions_of, chain_end};
 ghost use Rattle.epoch_room.specs.Fitting.{one_taken};
 ghost use Rattle.epoch_room.specs.Value.{all_regions, regions_outside};
@@ -43,7 +44,7 @@ fn is_beside(live: &[Part], retired: &[Part], region: u32) -> bool
 /// The regions of a disk that are in no part.
 #[tactic(auto, unfolding(crate::specs::Value::regions_outside))]
 pub fn free_regions(regions: u32, live: &[Part], retired: &[Part]) -> RegionSet
-    requires few { regions ≤ 64 }
+    requires few { regions ≤ most_in_log }
     ensures { result ≡ regions_outside regions (all_regions (live.now ++ retired.now)) }
 {
     let mut free = RegionSet::none();

@@ -31,7 +31,7 @@ use crate::regions::{
     all_regions, first_lead, free_regions, has_taken, last_epoch, regions_in, take_target,
 };
 use crate::sealing::seal_region;
-use fine_model::format::{BODY_START, GREATEST};
+use fine_model::format::{BODY_START, GREATEST, MOST_IN_LOG};
 use fine_model::{Copied, Job, NoMemory, Part, Parts, Range, RoomLaw};
 use log_disk::{DiskRefusal, LogDisk};
 use partition_hold::{Board, RegionSet, View};
@@ -39,9 +39,6 @@ use private_log::PrivateLog;
 use std::alloc::Global;
 use std::marker::Model;
 use std::snapshot::Snapshot;
-
-/// The most regions that a disk has, and so the most parts.
-const MOST_REGIONS: usize = 64;
 
 /// How many regions are free before a new epoch takes one: the last one is kept for merging.
 const FREE: u32 = 2;
@@ -71,6 +68,7 @@ pub struct Room<D: LogDisk> {
 
 impl<D: LogDisk> Model for Room<D> {
     ghost use Rattle.std.specs.Prelude.{◌≡◌, ◌+◌, ◌≤◌, vec_capacity};
+    ghost use Rattle.fine_model.specs.RowBytes.{most_in_log};
     ghost use Rattle.epoch_room.specs.Value.{RoomValue, value_of};
     ghost use Rattle.epoch_room.specs.Whole.{IsWhole};
 
@@ -102,7 +100,7 @@ impl<D: LogDisk> Model for Room<D> {
       sealed = r.sealed;
       places = r.places;
       is_shut = r.is_shut;
-    })) × (41 + r.epoch.most ≡ (D.state r.disk).region_len) × (64 ≤ vec_capacity r.retired) };
+    })) × (41 + r.epoch.most ≡ (D.state r.disk).region_len) × (most_in_log ≤ vec_capacity r.retired) };
 }
 
 impl<D: LogDisk> RoomLaw for Room<D> {
@@ -135,7 +133,7 @@ impl<D: LogDisk> Room<D> {
         ensures back { IfErr result (λ e. D.state e.1 ≡ D.state disk) }
     {
         let mut retired = retired.into_vec();
-        let Ok(_reserved) = retired.reserve_exact(MOST_REGIONS) else {
+        let Ok(_reserved) = retired.reserve_exact(MOST_IN_LOG as usize) else {
             return Err((NoMemory, disk));
         };
         let free = free_regions(disk.regions(), parts.as_slice(), retired.as_slice());

@@ -5,7 +5,7 @@ ghost use Rattle.std.specs.List.{AllByRecursion, list_any, range_with_len};
 ghost use Rattle.fine_model.specs.Boards.{set_of};
 ghost use Rattle.fine_model.specs.Chain.{regions_of};
 ghost use Rattle.fine_model.specs.Jobs.{job_left, taken_by};
-ghost use Rattle.fine_model.specs.Merge.{fits_in};
+ghost use Rattle.fine_model.specs.RowBytes.{longest_region, most_in_log, most_regions};
 ghost use Rattle.fine_model.specs.declared.Mark.TheVariants as mark;
 ghost use Rattle.partition_merge.specs.Mergers.{IsCounted};
 ghost use Rattle.log_disk.specs.Disk.{SameBeside};
@@ -17,7 +17,8 @@ ghost use Rattle.epoch_room.specs.MergeSteps.{free_after, free_dropped, fresh_jo
 use super::Room;
 use crate::answers::RoomFault;
 use crate::body::write_body;
-use fine_model::{Header, Job, Mark, Part, Range};
+use fine_model::format::MOST_REGIONS;
+use fine_model::{Header, Job, Mark, Part, Range, fits_in};
 use log_disk::{DiskRefusal, LogDisk};
 use partition_hold::RegionSet;
 use partition_index::place_of;
@@ -62,30 +63,14 @@ fn first_job(parts: &[Part], from: u64, is_shut: bool) -> Option<Job>
     None
 }
 
-/// Whether so many bytes of rows and index entries fit a number of regions.
-fn fits_in(region_len: u64, regions: u8, len: u64) -> bool
-    requires low { 1 ≤ regions }
-    requires high { regions ≤ 8 }
-    requires len { len < 68719476736 }
-    requires short { 1 ≤ region_len }
-    requires long { region_len ≤ 67108864 }
-    ensures { result ≡ fits_in region_len regions len }
-{
-    if regions == 1 {
-        41 + len <= region_len
-    } else {
-        70 + len <= region_len + u64::from(regions - 1) * (region_len - 1)
-    }
-}
-
 /// The least number of regions, up to eight, in which so many bytes fit.
 fn regions_needed(region_len: u64, len: u64) -> Option<u8>
     requires len { len < 68719476736 }
     requires short { 1 ≤ region_len }
-    requires long { region_len ≤ 67108864 }
+    requires long { region_len ≤ longest_region }
     ensures { result ≡ regions_needed region_len len }
 {
-    (1..9).find(|regions| fits_in(region_len, *regions, len))
+    (1..MOST_REGIONS + 1).find(|regions| fits_in(region_len, *regions, len))
 }
 
 /// A number of 32 bits as one of 64.
@@ -114,7 +99,7 @@ fn mark_for(regions: u8) -> Mark
 #[tactic(auto, unfolding(crate::specs::MergeSteps::header_over))]
 fn take_regions(free: &mut RegionSet, job: &mut Job, measure: Measure, regions: u8)
     requires some { 1 ≤ regions }
-    requires most { regions ≤ 8 }
+    requires most { regions ≤ most_regions }
     requires enough { regions ≤ length free.old }
     ensures free { free.new ≡ drop regions free.old }
     ensures job { job.new ≡ taken_job job.old measure regions free.old }
@@ -139,7 +124,7 @@ fn take_regions(free: &mut RegionSet, job: &mut Job, measure: Measure, regions: 
 
 /// Adds a region to the free ones, but for one that is lost.
 fn give_one_back(free: &mut RegionSet, lost: &RegionSet, region: u32)
-    requires small { region < 64 }
+    requires small { region < most_in_log }
     requires set { set_of free.old ≡ free.old }
     ensures { free.new ≡ set_of (free.old ++ (if not (list_any (nat_eq region) lost.now) then region ∷ [] else [])) }
 {
@@ -150,7 +135,7 @@ fn give_one_back(free: &mut RegionSet, lost: &RegionSet, region: u32)
 
 /// Adds regions to the free ones, but for those that are lost.
 fn give_back(free: &mut RegionSet, lost: &RegionSet, regions: &[u32])
-    requires small { AllByRecursion (λ r. r < 64) regions.now }
+    requires small { AllByRecursion (λ r. r < most_in_log) regions.now }
     requires set { set_of free.old ≡ free.old }
     ensures { free.new ≡ set_of (free.old ++ filter (λ r. not (list_any (nat_eq r) lost.now)) regions.now) }
 {
@@ -161,8 +146,8 @@ fn give_back(free: &mut RegionSet, lost: &RegionSet, regions: &[u32])
 
 /// Adds the regions of a job to the free ones, but for those that are lost.
 fn free_job(free: &mut RegionSet, lost: &RegionSet, job: &Job)
-    requires few { (header : Header) → job.now.header ≡ Some header → (1 ≤ header.regions) × (header.regions ≤ 8) }
-    requires small { AllByRecursion (λ r. r < 64) (taken_by job.now.target job.now.header) }
+    requires few { (header : Header) → job.now.header ≡ Some header → (1 ≤ header.regions) × (header.regions ≤ most_regions) }
+    requires small { AllByRecursion (λ r. r < most_in_log) (taken_by job.now.target job.now.header) }
     requires set { set_of free.old ≡ free.old }
     ensures { free.new ≡ set_of (free.old ++ filter (λ r. not (list_any (nat_eq r) lost.now)) (taken_by job.now.target job.now.header)) }
 {
@@ -178,7 +163,7 @@ fn lose_touched(lost: &mut RegionSet, job: &Job, part: &Part, region_len: u64, l
     requires lies { LiesIn region_len part.now.header }
     requires some { 1 ≤ len }
     requires within { job.now.written + len ≤ body_len part.now.header }
-    requires small { AllByRecursion (λ r. r < 64) (regions_of part.now) }
+    requires small { AllByRecursion (λ r. r < most_in_log) (regions_of part.now) }
     ensures { lost.new ≡ set_of (lost.old ++ touched region_len job.now part.now.header len) }
 {
     let (first, _first_at) = place_of(part, region_len, job.written);

@@ -1,5 +1,5 @@
 use Rattle.std.proofs.Common.{◌≡◌, ◌==◌, cond, drop, ◌∙◌, sym, subst, arith, ap}
-use Rattle.std.specs.Prelude.{slice_get, option_to_list}
+use Rattle.std.specs.Prelude.{slice_get}
 use Rattle.fine_model.specs.Becomes.{Becomes}
 use Rattle.fine_model.specs.Jobs.{KeepsJob}
 use Rattle.fine_model.specs.Merge.{cost}

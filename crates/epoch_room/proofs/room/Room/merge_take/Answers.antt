@@ -1,6 +1,4 @@
-use Rattle.std.proofs.Common.{◌≡◌, ◌+◌, ◌*◌, ◌^◌, ◌<◌, List, ℕ, Some, None, drop, length, sym, subst, ap, ◌∙◌, arith}
-use Rattle.std.specs.Prelude.{Option}
-use Rattle.fine_model.specs.declared.Job.{Job}
+use Rattle.std.proofs.Common.{◌≡◌, ◌+◌, ◌*◌, Some, drop, sym, subst, ap, ◌∙◌, arith}
 use Rattle.epoch_room.specs.Meaning.{Keeps}
 use Rattle.epoch_room.specs.MergeSteps.{if_enough, measured_len, regions_for_job, regions_needed, taken_job, with_job}
 use Rattle.epoch_room.specs.Value.{RoomValue, Kept, value_of}

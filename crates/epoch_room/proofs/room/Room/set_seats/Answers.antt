@@ -1,5 +1,5 @@
 use Rattle.std.proofs.Common.{List, ◌≡◌, ◌*◌, sym, subst, ap, ◌∙◌, true, None}
-use Rattle.std.specs.Prelude.{option_to_list, replicate}
+use Rattle.std.specs.Prelude.{replicate}
 use Rattle.std.specs.List.{list_all}
 use Rattle.fine_model.specs.Boards.{Buffer, is_empty}
 use Rattle.epoch_room.specs.Meaning.{Keeps}

@@ -1,8 +1,8 @@
 use Rattle.std.proofs.Common.{◌≡◌, List, Some, None, sym, subst, ap, ◌∙◌}
-use Rattle.std.specs.Prelude.{Any, Option, slice_get, slice_set}
+use Rattle.std.specs.Prelude.{Any, slice_get, slice_set}
 use Rattle.fine_model.specs.Boards.{Buffer, buffer_at}
 use Rattle.log_disk.specs.Disk.{Closes, Eye, OpenEye}
-use Rattle.partition_hold.specs.Views.{ViewValue, opened}
+use Rattle.partition_hold.specs.Views.{opened}
 use Rattle.epoch_room.specs.Meaning.{Keeps}
 use Rattle.epoch_room.specs.Value.{RoomValue, Kept, value_of}
 use Rattle.epoch_room.specs.Whole.{IsWhole}

@@ -1,4 +1,4 @@
-use Rattle.std.proofs.Common.{Bool, ◌≡◌, ◌-◌, ◌++◌, not, take, List, [], ◌∷◌, ℕ, sym, ap, subst, ◌∙◌}
+use Rattle.std.proofs.Common.{Bool, ◌≡◌, ◌-◌, ◌++◌, not, take, [], ◌∷◌, ℕ, sym, ap, subst, ◌∙◌}
 use Rattle.std.specs.Prelude.{filter, nat_eq}
 use Rattle.std.specs.List.{list_any}
 use Rattle.fine_model.specs.Boards.{set_of}

@@ -29,7 +29,7 @@ use Rattle.log_disk.specs.Moments.{Continues, ContinuesOn, IsLeft, LeavesOnly}
 use Rattle.log_disk.proofs.Moments.{now_since, synced_now}
 use Rattle.log_disk.proofs.Times.{continued_later}
 use Rattle.log_disk.proofs.Writes.{same_outside_written}
-use Rattle.epoch_room.specs.Gate.{gate, HasBytes, IsSealing, KeepsBeside, LeavesSealing}
+use Rattle.epoch_room.specs.Gate.{DirtiesOnly, gate, HasBytes, IsSealing, KeepsBeside, LeavesSealing}
 use Rattle.epoch_room.specs.Meaning.{ShownInside, Stands, StandsTold, StandsWhere}
 use Rattle.epoch_room.specs.MergeSealing.{IsWrittenOut, SealsJob, merged_state, replaced, retire}
 use Rattle.epoch_room.specs.Value.{Kept, all_regions, on, regions_outside, taken, value_of}
@@ -354,8 +354,8 @@ module _ (old entry : Disk) (kept : Kept) (whole : IsWhole (value_of old entry k
             none_open = λ h. absurd (true≢false h);
           })) h
 
-      pub seals_disk : SealsJob (value_of old entry kept) (value_of new entry (record kept { lost = lost; is_shut = true })) job header (Err (room_fault.Disk, job))
-      seals_disk = record {
+      pub seals_disk : DirtiesOnly (job.target ∷ []) old new → SealsJob (value_of old entry kept) (value_of new entry (record kept { lost = lost; is_shut = true })) job header (Err (room_fault.Disk, job))
+      seals_disk dirties = record {
         room = (
           refl,
           (
@@ -373,6 +373,7 @@ module _ (old entry : Disk) (kept : Kept) (whole : IsWhole (value_of old entry k
         );
         beside = same;
         read = read;
+        dirties = dirties;
         leaves = leaves;
         keeps = record {
           stands = shut_stands;
@@ -519,10 +520,10 @@ module _ (old entry : Disk) (kept : Kept) (whole : IsWhole (value_of old entry k
             ];
           })) h
 
-      pub seals_ok : (failed → ⊥) → (u : Unit {0})
+      pub seals_ok : (failed → ⊥) → DirtiesOnly (job.target ∷ []) old new → (u : Unit {0})
           → SealsJob (value_of old entry kept) (value_of new entry (record kept { parts = replaced job.older.region (part_of job.target header) kept.parts; retired = retire job.newer (retire job.older kept.retired); job = None })) job header (Ok u)
       unfolding merged_state
-      seals_ok fine u = record {
+      seals_ok fine dirties u = record {
         room = (
           synced,
           (
@@ -534,6 +535,7 @@ module _ (old entry : Disk) (kept : Kept) (whole : IsWhole (value_of old entry k
         );
         beside = same;
         read = read;
+        dirties = dirties;
         leaves = leaves;
         keeps = record {
           stands = merged_stands;

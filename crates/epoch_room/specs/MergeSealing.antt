@@ -13,7 +13,7 @@ use Rattle.fine_model.specs.Regions.{Image, body_bytes, header_bytes}
 use Rattle.fine_model.specs.RowBytes.{rows_len}
 use Rattle.fine_model.specs.Views.{TellsRowsOf}
 use Rattle.log_disk.specs.Disk.{SameBeside}
-use Rattle.epoch_room.specs.Gate.{KeepsBeside, LeavesSealing}
+use Rattle.epoch_room.specs.Gate.{DirtiesOnly, KeepsBeside, LeavesSealing}
 use Rattle.epoch_room.specs.Meaning.{Keeps}
 use Rattle.epoch_room.specs.Steps.{Does, Shuts, WasShut}
 use Rattle.epoch_room.specs.Value.{RoomValue}
@@ -73,5 +73,6 @@ pub record SealsJob (old new : RoomValue) (job : Job) (header : Header) (result 
   pub room : SealsJobOr old new job header result
   pub beside : SameBeside old.disk new.disk
   pub read : KeepsBeside (job.target ∷ []) old.disk new.disk
+  pub dirties : DirtiesOnly (job.target ∷ []) old.disk new.disk
   pub leaves : LeavesSealing job.target (header_bytes old.room.region_len header) old.disk new.disk
   pub keeps : Keeps old new

@@ -8,7 +8,7 @@ ghost use Rattle.fine_model.specs.Jobs.{taken_by};
 ghost use Rattle.fine_model.specs.Regions.{body_start, header_bytes};
 ghost use Rattle.log_disk.specs.Disk.{SameBeside};
 ghost use Rattle.partition_index.specs.Parts.{body_len};
-ghost use Rattle.epoch_room.specs.Gate.{KeepsBeside, LeavesSealing};
+ghost use Rattle.epoch_room.specs.Gate.{DirtiesOnly, KeepsBeside, LeavesSealing};
 ghost use Rattle.epoch_room.specs.Meaning.{Keeps};
 ghost use Rattle.epoch_room.specs.MergeSealing.{IsWrittenOut, SealsJob, SealsJobOr, replaced, retire};
 
@@ -99,6 +99,7 @@ impl<D: LogDisk> Room<D> {
         requires written { IfSome job.header (IsWrittenOut self.old.room job) }
         ensures room { IfSome job.header (λ header. SealsJobOr self.old self.new job header result) }
         ensures read { KeepsBeside (job.target ∷ []) self.old.disk self.new.disk }
+        ensures dirties { DirtiesOnly (job.target ∷ []) self.old.disk self.new.disk }
         ensures leaves { IfSome job.header (λ header. LeavesSealing job.target (header_bytes self.old.room.region_len header) self.old.disk self.new.disk) }
         ensures beside { SameBeside self.old.disk self.new.disk }
         ensures keeps { Keeps self.old self.new }

@@ -375,6 +375,7 @@ module _ (old entry : Disk) (kept : Kept) (whole : IsWhole (value_of old entry k
         read = read;
         dirties = dirties;
         leaves = leaves;
+        bytes = tt;
         keeps = record {
           stands = shut_stands;
           inside = inside;
@@ -537,6 +538,7 @@ module _ (old entry : Disk) (kept : Kept) (whole : IsWhole (value_of old entry k
         read = read;
         dirties = dirties;
         leaves = leaves;
+        bytes = bytes;
         keeps = record {
           stands = merged_stands;
           inside = inside;

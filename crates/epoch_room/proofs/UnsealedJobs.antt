@@ -110,12 +110,14 @@ module _ (old entry : Disk) (kept : Kept) (whole : IsWhole (value_of old entry k
           record { faults = (counts.else_same fine).0; own_faults = (counts.else_same fine).1 },
         ),
         keeps_job,
+        ungated,
       ),
     );
     beside = same;
     read = read;
     dirties = dirties;
     leaves = leaves;
+    bytes = tt;
     keeps = written_keeps old new entry kept whole open_room (job.target ∷ []) beside (lead_there old entry kept whole open_room job out header has written, tt) same sound time failed counts reads untouched kept.job kept.lost kept.is_shut
         (λ h. absurd (true≢false (sym h ∙ open_room)));
   }
@@ -128,6 +130,7 @@ seals_none value job header whole shut = record {
   read = itself value.disk.told;
   dirties = dirties_none (job.target ∷ []) value.disk value.disk refl;
   leaves = sealing_none job.target (header_bytes value.room.region_len header) value.disk value.disk refl;
+  bytes = tt;
   keeps = keeps_none value whole;
 }
   where

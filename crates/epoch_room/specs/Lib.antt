@@ -15,3 +15,4 @@ pub mod MergeSteps
 pub mod Laws
 pub mod BodyWrites
 pub mod MergeSealing
+pub mod Stuck

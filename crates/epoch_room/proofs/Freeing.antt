@@ -27,7 +27,7 @@ use Rattle.epoch_room.proofs.Taken.{rising_outside, outside_there, outside_not, 
 
 -- ---- numbers in a row that pass a test
 
-kept_any : (p : ℕ → Bool) (xs : List ℕ) (n : ℕ) → list_any (nat_eq n) xs ≡ true → p n ≡ true → list_any (nat_eq n) (filter p xs) ≡ true
+pub kept_any : (p : ℕ → Bool) (xs : List ℕ) (n : ℕ) → list_any (nat_eq n) xs ≡ true → p n ≡ true → list_any (nat_eq n) (filter p xs) ≡ true
 kept_any p [] n there passes = there
 kept_any p (x ∷ xs) n there passes = by (p x) refl (nat_eq n x) refl (λ h. kept_any p xs n h passes)
   where
@@ -37,7 +37,7 @@ kept_any p (x ∷ xs) n there passes = by (p x) refl (nat_eq n x) refl (λ h. ke
     by false e true f rest = absurd (let h : x ≡ n = sym (eqb-true n x f) in let t : false ≡ true = sym e ∙ ap p h ∙ passes in cc)
     by false e false f rest = rest (ap (λ b. b || list_any (nat_eq n) xs) (sym f) ∙ there)
 
-in_range : (a n r : ℕ) → a ≤ r → r < a + n → list_any (nat_eq r) (range_with_len a n) ≡ true
+pub in_range : (a n r : ℕ) → a ≤ r → r < a + n → list_any (nat_eq r) (range_with_len a n) ≡ true
 in_range a zero r from below = absurd (omega (arith, from, below))
 in_range a (suc n) r from below = by (nat_eq r a) refl (λ after. in_range (a + 1) n r after (omega (arith, below)))
   where
@@ -61,7 +61,7 @@ nat_alike = record { refl = λ i. eq-eqb i i refl; symm = λ i j. turned i j; co
 pub as_many : (xs ys : List ℕ) → ((n : ℕ) → times n xs ≤ 1) → ((n : ℕ) → list_any (nat_eq n) xs ≡ true → list_any (nat_eq n) ys ≡ true) → length xs ≤ length ys
 as_many xs ys once among = length-le_from_is_member nat_alike xs ys (distinct_from xs (times_distinct xs once)) among
 
-rising_distinct : (xs : List ℕ) → AreRising xs → is_distinct xs ≡ true
+pub rising_distinct : (xs : List ℕ) → AreRising xs → is_distinct xs ≡ true
 unfolding is_distinct
 rising_distinct [] up = refl
 rising_distinct (x ∷ xs) up =

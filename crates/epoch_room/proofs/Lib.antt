@@ -42,6 +42,7 @@ pub mod SealingJobs
 pub mod Seating
 pub mod Spare
 pub mod Standing
+pub mod Stuck
 pub mod Taken
 pub mod Torn
 pub mod Touching

@@ -21,7 +21,7 @@ use Rattle.fine_model.specs.Headline.{ShowsSome}
 use Rattle.fine_model.specs.Jobs.{held_by}
 use Rattle.fine_model.specs.Merge.{merged}
 use Rattle.fine_model.specs.Regions.{Image, body_bytes, body_in, body_start, continuations, header_bytes, header_in, is_sealed, region_of, HasHeader, IsSealed}
-use Rattle.fine_model.specs.Chain.{AreRowsOf, chain, chain_end, is_free, regions_of}
+use Rattle.fine_model.specs.Chain.{AreRowsOf, chain_end, is_free, regions_of}
 use Rattle.fine_model.specs.ChainLaws.{IsReplaced, part_of}
 use Rattle.fine_model.proofs.FitMerged.{merged_fits}
 use Rattle.fine_model.proofs.MergedLen.{merged_len}

@@ -29,7 +29,7 @@ use Rattle.log_disk.specs.Moments.{Continues, ContinuesOn, IsLeft, LeavesOnly}
 use Rattle.log_disk.proofs.Moments.{now_since, synced_now}
 use Rattle.log_disk.proofs.Times.{continued_later}
 use Rattle.log_disk.proofs.Writes.{same_outside_written}
-use Rattle.epoch_room.specs.Gate.{gate, HasBytes, IsSealing, KeepsBeside, LeavesSealing}
+use Rattle.epoch_room.specs.Gate.{DirtiesOnly, gate, HasBytes, IsSealing, KeepsBeside, LeavesSealing}
 use Rattle.epoch_room.specs.Meaning.{ShownInside, Stands, StandsTold, StandsWhere}
 use Rattle.epoch_room.specs.MergeSealing.{IsWrittenOut, SealsJob, merged_state, replaced, retire}
 use Rattle.epoch_room.specs.Value.{Kept, all_regions, on, regions_outside, taken, value_of}
@@ -44,7 +44,7 @@ use Rattle.epoch_room.proofs.Kept.{on_stands}
 use Rattle.epoch_room.proofs.LedParts.{lead_apart, set_times}
 use Rattle.epoch_room.proofs.OpenedOver.{held_replaced, leads_keep, mergeable, now_agrees, now_no_longer, now_rows, over}
 use Rattle.epoch_room.proofs.Retired.{all_moved, any_moved, end_merged, follow_merged, lead_place, merged_moves, regions_many, replaced_is, retire_long, retire_rising, times_moved}
-use Rattle.epoch_room.proofs.SealingJobs.{IsOver, all_free, good, holds_both, is, later_mark, lead_beside, lead_there, long, not_stuck, over_gate, read_is, sealing_shows, written_now}
+use Rattle.epoch_room.proofs.SealingJobs.{IsOver, all_free, good, as_job, holds_both, later_mark, lead_beside, lead_there, long, not_stuck, over_gate, read_is, sealing_shows, written_now}
 use Rattle.epoch_room.proofs.Taken.{SameTimes, same_apart, same_outside}
 use Rattle.epoch_room.proofs.Torn.{HasOpened, sealed_bytes}
 use Rattle.epoch_room.proofs.Written.{left_is, none_lost, own_apart, own_small, own_taken, rs_is}
@@ -57,11 +57,11 @@ module _ (old entry : Disk) (kept : Kept) (whole : IsWhole (value_of old entry k
   abbrev rs : List ℕ
   rs = regions_of (part_of job.target header)
 
-  abbrev pub is' : IsJob (value_of old entry kept).room job
-  is' = is old entry kept whole open_room job out header has written
+  abbrev pub own_job : IsJob (value_of old entry kept).room job
+  own_job = as_job old entry kept whole open_room job out header has written
 
   abbrev pub both : List Part
-  both = is'.before ++ job.older ∷ job.newer ∷ is'.after
+  both = own_job.before ++ job.older ∷ job.newer ∷ own_job.after
 
   -- ---- the parts
 
@@ -86,20 +86,20 @@ module _ (old entry : Disk) (kept : Kept) (whole : IsWhole (value_of old entry k
       omega (arith, d, a, b, c)
 
   -- how often a region stands in the parts: in those before, in both, behind them, and in the retired ones
-  parted : (n : ℕ) → times n held ≡ times n (all_regions is'.before) + (times n (regions_of job.older) + (times n (regions_of job.newer) + times n (all_regions is'.after))) + times n (all_regions kept.retired)
+  parted : (n : ℕ) → times n held ≡ times n (all_regions own_job.before) + (times n (regions_of job.older) + (times n (regions_of job.newer) + times n (all_regions own_job.after))) + times n (all_regions kept.retired)
   parted n =
       let a = ap (times n) (regions_together kept.parts kept.retired) ∙ times-append n (all_regions kept.parts) (all_regions kept.retired) in
-      let b = ap (λ ps. times n (all_regions ps)) is'.neighbours ∙ ap (times n) (regions_together is'.before (job.older ∷ job.newer ∷ is'.after)) ∙ times-append n (all_regions is'.before) (all_regions (job.older ∷ job.newer ∷ is'.after)) in
-      let c = times-append n (regions_of job.older) (all_regions (job.newer ∷ is'.after)) in
-      let d = times-append n (regions_of job.newer) (all_regions is'.after) in
+      let b = ap (λ ps. times n (all_regions ps)) own_job.neighbours ∙ ap (times n) (regions_together own_job.before (job.older ∷ job.newer ∷ own_job.after)) ∙ times-append n (all_regions own_job.before) (all_regions (job.older ∷ job.newer ∷ own_job.after)) in
+      let c = times-append n (regions_of job.older) (all_regions (job.newer ∷ own_job.after)) in
+      let d = times-append n (regions_of job.newer) (all_regions own_job.after) in
       omega (arith, a, b, c, d)
 
   lead_once : (p : Part) → 1 ≤ times p.region (regions_of p)
   lead_once p = let s = times-same p.region (continuations p.header) in omega (arith, s)
 
-  older_apart : AllByRecursion (λ q. q.region ≢ job.older.region) is'.before
-  older_apart = lead_apart job.older.region is'.before
-      (times_absent job.older.region (all_regions is'.before) (let a = parted job.older.region in let b = held_once job.older.region in let c = lead_once job.older in omega (arith, a, b, c)))
+  older_apart : AllByRecursion (λ q. q.region ≢ job.older.region) own_job.before
+  older_apart = lead_apart job.older.region own_job.before
+      (times_absent job.older.region (all_regions own_job.before) (let a = parted job.older.region in let b = held_once job.older.region in let c = lead_once job.older in omega (arith, a, b, c)))
 
   retired_apart : (p : Part) → 1 ≤ times p.region (regions_of job.older) + times p.region (regions_of job.newer) → AllByRecursion (λ q. q.region ≢ p.region) kept.retired
   retired_apart p some = lead_apart p.region kept.retired (times_absent p.region (all_regions kept.retired) (let a = parted p.region in let b = held_once p.region in omega (arith, a, b, some)))
@@ -118,12 +118,12 @@ module _ (old entry : Disk) (kept : Kept) (whole : IsWhole (value_of old entry k
           let d = subst (λ n. 1 ≤ times n (regions_of job.older)) e (lead_once job.older) in
           omega (arith, a, b, c, d)
 
-  pub parts_is : replaced job.older.region (part_of job.target header) kept.parts ≡ is'.before ++ part_of job.target header ∷ is'.after
-  parts_is = ap (replaced job.older.region (part_of job.target header)) is'.neighbours ∙ replaced_is is'.before job.older job.newer is'.after (part_of job.target header) older_apart
+  pub parts_is : replaced job.older.region (part_of job.target header) kept.parts ≡ own_job.before ++ part_of job.target header ∷ own_job.after
+  parts_is = ap (replaced job.older.region (part_of job.target header)) own_job.neighbours ∙ replaced_is own_job.before job.older job.newer own_job.after (part_of job.target header) older_apart
 
   -- the older part is in the chain, and not the last one
   pub older_place : position_or_len (λ q. q.region == job.older.region) kept.parts + 1 < length kept.parts
-  older_place = subst (λ ps. position_or_len (λ q. q.region == job.older.region) ps + 1 < length ps) (sym is'.neighbours) (lead_place is'.before job.older job.newer is'.after)
+  older_place = subst (λ ps. position_or_len (λ q. q.region == job.older.region) ps + 1 < length ps) (sym own_job.neighbours) (lead_place own_job.before job.older job.newer own_job.after)
 
   -- there is room for both among the retired ones
   pub retired_room : length kept.retired + 2 ≤ 64
@@ -131,8 +131,8 @@ module _ (old entry : Disk) (kept : Kept) (whole : IsWhole (value_of old entry k
       let f = both_few (value_of old entry kept) whole in
       let p = regions_many kept.parts in
       let r = regions_many kept.retired in
-      let l = ap length is'.neighbours in
-      let a = length-append is'.before (job.older ∷ job.newer ∷ is'.after) in
+      let l = ap length own_job.neighbours in
+      let a = length-append own_job.before (job.older ∷ job.newer ∷ own_job.after) in
       let g = whole.geometry.regions_high in
       omega (arith, f, p, r, l, a, g)
 
@@ -142,14 +142,14 @@ module _ (old entry : Disk) (kept : Kept) (whole : IsWhole (value_of old entry k
   rising_now : AreRising (map (λ q. q.region) (retire job.newer (retire job.older kept.retired)))
   rising_now = retire_rising job.newer (retire job.older kept.retired) newer_apart (retire_rising job.older kept.retired (retired_apart job.older (let c = lead_once job.older in omega (arith, c))) whole.rising)
 
-  moves_both : IsPermutation (part_of job.target header ∷ (both ++ kept.retired)) ((is'.before ++ part_of job.target header ∷ is'.after) ++ retired_now)
-  moves_both = merged_moves is'.before job.older job.newer is'.after kept.retired (part_of job.target header)
+  moves_both : IsPermutation (part_of job.target header ∷ (both ++ kept.retired)) ((own_job.before ++ part_of job.target header ∷ own_job.after) ++ retired_now)
+  moves_both = merged_moves own_job.before job.older job.newer own_job.after kept.retired (part_of job.target header)
 
   pub moves_now : IsPermutation (part_of job.target header ∷ (both ++ kept.retired)) (parts_now ++ retired_now)
   moves_now = subst (λ ps. IsPermutation (part_of job.target header ∷ (both ++ kept.retired)) (ps ++ retired_now)) (sym parts_is) moves_both
 
   moves : IsPermutation (part_of job.target header ∷ (kept.parts ++ kept.retired)) (parts_now ++ retired_now)
-  moves = subst (λ ps. IsPermutation (part_of job.target header ∷ (ps ++ kept.retired)) (parts_now ++ retired_now)) (sym is'.neighbours) moves_now
+  moves = subst (λ ps. IsPermutation (part_of job.target header ∷ (ps ++ kept.retired)) (parts_now ++ retired_now)) (sym own_job.neighbours) moves_now
 
   first_now : header.range.first ≡ job.older.header.range.first
   first_now = ap (λ r. r.first) (own_taken old entry kept whole open_room job out header has).range
@@ -158,12 +158,12 @@ module _ (old entry : Disk) (kept : Kept) (whole : IsWhole (value_of old entry k
   last_now = ap (λ r. r.last) (own_taken old entry kept whole open_room job out header has).range
 
   same_end : chain_end parts_now ≡ chain_end kept.parts
-  same_end = ap chain_end parts_is ∙ end_merged is'.before job.older job.newer is'.after (part_of job.target header) 0 last_now ∙ ap chain_end (sym is'.neighbours)
+  same_end = ap chain_end parts_is ∙ end_merged own_job.before job.older job.newer own_job.after (part_of job.target header) 0 last_now ∙ ap chain_end (sym own_job.neighbours)
 
   follow_now : FollowOn 1 parts_now
   follow_now =
       subst (FollowOn 1) (sym parts_is)
-      (follow_merged is'.before job.older job.newer is'.after (part_of job.target header) 1 first_now last_now (subst (FollowOn 1) is'.neighbours whole.in_chain.follow))
+      (follow_merged own_job.before job.older job.newer own_job.after (part_of job.target header) 1 first_now last_now (subst (FollowOn 1) own_job.neighbours whole.in_chain.follow))
 
   -- ---- the disk
 
@@ -331,7 +331,7 @@ module _ (old entry : Disk) (kept : Kept) (whole : IsWhole (value_of old entry k
           elim (read_is old entry kept whole open_room job out header has written a r.told r.left r.is_now b.bytes r.differs (r.crashes.each b.bytes (now_since (clock_of a) b b.bytes r.crashes.later r.told'.image))) as (λ _. AreRowsOf old.region_len b.bytes kept.parts rows) [
             | inl alike ↦ alike.rows kept.parts rows are
             | inr o ↦ leads_keep old.region_len a.bytes b.bytes
-                (over old.region_len a.bytes job header has is'.before job.older job.newer is'.after kept.retired (good_at a r.told) (later_mark old entry kept whole open_room job out header has written) (own_taken old entry kept whole open_room job out header has).range
+                (over old.region_len a.bytes job header has own_job.before job.older job.newer own_job.after kept.retired (good_at a r.told) (later_mark old entry kept whole open_room job out header has written) (own_taken old entry kept whole open_room job out header has).range
                 (holds_both old entry kept whole open_room job out header has written a.bytes (r.left a.bytes r.told.image)) (all_free old entry kept whole open_room job out header has written a.bytes r.told.regions (r.left a.bytes r.told.image)) b.bytes o.opened).leads kept.parts rows are
           ]
         where
@@ -354,8 +354,8 @@ module _ (old entry : Disk) (kept : Kept) (whole : IsWhole (value_of old entry k
             none_open = λ h. absurd (true≢false h);
           })) h
 
-      pub seals_disk : SealsJob (value_of old entry kept) (value_of new entry (record kept { lost = lost; is_shut = true })) job header (Err (room_fault.Disk, job))
-      seals_disk = record {
+      pub seals_disk : DirtiesOnly (job.target ∷ []) old new → SealsJob (value_of old entry kept) (value_of new entry (record kept { lost = lost; is_shut = true })) job header (Err (room_fault.Disk, job))
+      seals_disk dirties = record {
         room = (
           refl,
           (
@@ -373,7 +373,9 @@ module _ (old entry : Disk) (kept : Kept) (whole : IsWhole (value_of old entry k
         );
         beside = same;
         read = read;
+        dirties = dirties;
         leaves = leaves;
+        bytes = tt;
         keeps = record {
           stands = shut_stands;
           inside = inside;
@@ -413,7 +415,7 @@ module _ (old entry : Disk) (kept : Kept) (whole : IsWhole (value_of old entry k
               let still : image ≡ b.bytes = synced_now new b b image o.0.told' (inl (synced, refl)) now in
               subst (λ n. HoldsParts n image parts_now retired_now) (sym same.region_len)
               (subst (λ (i : Image). HoldsParts old.region_len i parts_now retired_now) (sym still)
-              (held_replaced old.region_len a.bytes job header has is'.before job.older job.newer is'.after kept.retired (good_of a o.0.told) (later_mark old entry kept whole open_room job out header has written) (own_taken old entry kept whole open_room job out header has).range
+              (held_replaced old.region_len a.bytes job header has own_job.before job.older job.newer own_job.after kept.retired (good_of a o.0.told) (later_mark old entry kept whole open_room job out header has written) (own_taken old entry kept whole open_room job out header has).range
               (holds_both old entry kept whole open_room job out header has written a.bytes (o.0.left a.bytes o.0.told.image)) (all_free old entry kept whole open_room job out header has written a.bytes o.0.told.regions (o.0.left a.bytes o.0.told.image)) b.bytes (is_over a b o).opened
               parts_now retired_now parts_is moves_now))
 
@@ -484,8 +486,8 @@ module _ (old entry : Disk) (kept : Kept) (whole : IsWhole (value_of old entry k
 
       live_now : (a b : Told) → Opens a b → (log : List Row) → HoldsLive (value_of old entry kept).room a.bytes log → HoldsLive (record (value_of old entry kept).room { parts = parts_now; retired = retired_now; job = None }) b.bytes log
       live_now a b o log live =
-          let are = mergeable old.region_len a.bytes job header is'.before job.older job.newer is'.after (written_now old entry kept whole open_room job out header has written a.bytes o.0.is_now) live.rows
-          (subst (λ ps. AreRowsOf old.region_len a.bytes ps live.rows) is'.neighbours live.are_rows) in
+          let are = mergeable old.region_len a.bytes job header own_job.before job.older job.newer own_job.after (written_now old entry kept whole open_room job out header has written a.bytes o.0.is_now) live.rows
+          (subst (λ ps. AreRowsOf old.region_len a.bytes ps live.rows) own_job.neighbours live.are_rows) in
           let over' = is_over a b o in
           let range = (own_taken old entry kept whole open_room job out header has).range in
           let later = later_mark old entry kept whole open_room job out header has written in
@@ -494,9 +496,9 @@ module _ (old entry : Disk) (kept : Kept) (whole : IsWhole (value_of old entry k
           record {
             rows = are.first ++ (merged are.o are.n ++ are.last);
             are_rows = subst (λ ps. AreRowsOf old.region_len b.bytes ps (are.first ++ (merged are.o are.n ++ are.last))) (sym parts_is)
-                (now_rows old.region_len a.bytes job header has is'.before job.older job.newer is'.after kept.retired (good_of a o.0.told) later range holds free b.bytes over'.opened over'.body live.rows are);
-            agrees = now_agrees old.region_len a.bytes job header has is'.before job.older job.newer is'.after kept.retired (good_of a o.0.told) later range holds free b.bytes over'.opened over'.body live.rows are log live.agrees;
-            no_longer = let l = now_no_longer old.region_len a.bytes job header has is'.before job.older job.newer is'.after kept.retired (good_of a o.0.told) later range holds free b.bytes over'.opened over'.body live.rows are in
+                (now_rows old.region_len a.bytes job header has own_job.before job.older job.newer own_job.after kept.retired (good_of a o.0.told) later range holds free b.bytes over'.opened over'.body live.rows are);
+            agrees = now_agrees old.region_len a.bytes job header has own_job.before job.older job.newer own_job.after kept.retired (good_of a o.0.told) later range holds free b.bytes over'.opened over'.body live.rows are log live.agrees;
+            no_longer = let l = now_no_longer old.region_len a.bytes job header has own_job.before job.older job.newer own_job.after kept.retired (good_of a o.0.told) later range holds free b.bytes over'.opened over'.body live.rows are in
                 let m = live.no_longer in omega (arith, l, m);
           }
 
@@ -519,10 +521,10 @@ module _ (old entry : Disk) (kept : Kept) (whole : IsWhole (value_of old entry k
             ];
           })) h
 
-      pub seals_ok : (failed → ⊥) → (u : Unit {0})
+      pub seals_ok : (failed → ⊥) → DirtiesOnly (job.target ∷ []) old new → (u : Unit {0})
           → SealsJob (value_of old entry kept) (value_of new entry (record kept { parts = replaced job.older.region (part_of job.target header) kept.parts; retired = retire job.newer (retire job.older kept.retired); job = None })) job header (Ok u)
       unfolding merged_state
-      seals_ok fine u = record {
+      seals_ok fine dirties u = record {
         room = (
           synced,
           (
@@ -534,7 +536,9 @@ module _ (old entry : Disk) (kept : Kept) (whole : IsWhole (value_of old entry k
         );
         beside = same;
         read = read;
+        dirties = dirties;
         leaves = leaves;
+        bytes = bytes;
         keeps = record {
           stands = merged_stands;
           inside = inside;

@@ -23,7 +23,7 @@ use Rattle.log_disk.specs.Moments.{IsLeft}
 use Rattle.log_partition.specs.Written.{IsGood}
 use Rattle.partition_index.specs.Placing.{HasRoomFor}
 use Rattle.partition_index.proofs.BodyPlaces.{start_small}
-use Rattle.epoch_room.specs.Gate.{IsAtGate, IsSealing, gate}
+use Rattle.epoch_room.specs.Gate.{IsAtGate, IsSealing}
 use Rattle.epoch_room.specs.MergeSealing.{IsWrittenOut, WritesMerged}
 use Rattle.epoch_room.specs.Value.{Kept, value_of}
 use Rattle.epoch_room.specs.Whole.{FollowOn, HasRegions, HoldsParts, IsJob, IsTaken, IsWhole}
@@ -36,7 +36,7 @@ use Rattle.epoch_room.proofs.MergeFits.{first_at, fits_free, second_at}
 use Rattle.epoch_room.proofs.MergedHeaders.{header_long, mark_later, taken_good}
 use Rattle.epoch_room.proofs.OpenedOver.{sealed_body, shown_over}
 use Rattle.epoch_room.proofs.Retired.{follow_range}
-use Rattle.epoch_room.proofs.Taken.{not_true}
+use Rattle.std.proofs.lemmas.Bool.{not-true}
 use Rattle.epoch_room.proofs.Torn.{HasClosed, HasOpened, at_gate, torn_closed}
 use Rattle.epoch_room.proofs.Written.{is_job, own_apart, own_below, own_beside, own_once, own_place, own_taken}
 
@@ -62,8 +62,8 @@ module _ (old entry : Disk) (kept : Kept) (whole : IsWhole (value_of old entry k
   abbrev rs : List ℕ
   rs = regions_of (part_of job.target header)
 
-  abbrev pub is : IsJob (value_of old entry kept).room job
-  is = is_job old entry kept whole open_room job out header has
+  abbrev pub as_job : IsJob (value_of old entry kept).room job
+  as_job = is_job old entry kept whole open_room job out header has
 
   taken : IsTaken old.region_len job header
   taken = own_taken old entry kept whole open_room job out header has
@@ -93,7 +93,7 @@ module _ (old entry : Disk) (kept : Kept) (whole : IsWhole (value_of old entry k
   later_mark = mark_later old.region_len job header taken
 
   ranges : (1 ≤ job.older.header.range.first) × (job.older.header.range.first ≤ job.newer.header.range.last) × (job.newer.header.range.last ≤ greatest)
-  ranges = follow_range is.before job.older job.newer is.after 1 (omega arith) (subst (λ ps. FollowOn 1 ps) is.neighbours whole.in_chain.follow)
+  ranges = follow_range as_job.before job.older job.newer as_job.after 1 (omega arith) (subst (λ ps. FollowOn 1 ps) as_job.neighbours whole.in_chain.follow)
 
   pub good : IsGood old.region_len old.regions job.target header
   good = taken_good old.region_len old.regions job header taken whole.geometry.regions_high has_regions (own_apart old entry kept whole open_room job out header has).distinct below
@@ -103,8 +103,8 @@ module _ (old entry : Disk) (kept : Kept) (whole : IsWhole (value_of old entry k
   Holds image = HoldsParts old.region_len image kept.parts kept.retired
 
   -- the parts of an image, with the two neighbours
-  pub holds_both : (image : Image) → Holds image → HoldsParts old.region_len image (is.before ++ job.older ∷ job.newer ∷ is.after) kept.retired
-  holds_both image holds = subst (λ ps. HoldsParts old.region_len image ps kept.retired) is.neighbours holds
+  pub holds_both : (image : Image) → Holds image → HoldsParts old.region_len image (as_job.before ++ job.older ∷ job.newer ∷ as_job.after) kept.retired
+  holds_both image holds = subst (λ ps. HoldsParts old.region_len image ps kept.retired) as_job.neighbours holds
 
   pub all_free : (image : Image) → length image ≡ old.regions → Holds image → AllByRecursion (λ r. is_free image r ≡ true) rs
   all_free image long holds =
@@ -115,8 +115,8 @@ module _ (old entry : Disk) (kept : Kept) (whole : IsWhole (value_of old entry k
   pub written_now : (image : Image) → (value_of old entry kept).room.image ≡ Some image → (o n : List Row) → AreRowsOf old.region_len image (job.older ∷ []) o → AreRowsOf old.region_len image (job.newer ∷ []) n → WritesMerged image job header o n
   written_now image told o n of_older of_newer =
       let holds = held_now (value_of old entry kept) whole (whole.lost open_room) image told in
-      let both = middle (λ p. HasHeader old.region_len image p.region p.header) is.before job.older job.newer is.after
-      (all_front (λ (p : Part). HasHeader old.region_len image p.region p.header) (is.before ++ job.older ∷ job.newer ∷ is.after) kept.retired (holds_both image holds.1).headers) in
+      let both = middle (λ p. HasHeader old.region_len image p.region p.header) as_job.before job.older job.newer as_job.after
+      (all_front (λ (p : Part). HasHeader old.region_len image p.region p.header) (as_job.before ++ job.older ∷ job.newer ∷ as_job.after) kept.retired (holds_both image holds.1).headers) in
       written o n (record { image = image; is_told = told; headers = (both.0, tt); are_rows = of_older }) (record { image = image; is_told = told; headers = (both.1, tt); are_rows = of_newer })
 
   -- ---- such a room can take something
@@ -124,21 +124,21 @@ module _ (old entry : Disk) (kept : Kept) (whole : IsWhole (value_of old entry k
   pub not_stuck : IsStuck (value_of old entry kept).room → ⊥
   not_stuck s =
       let holds = held_now (value_of old entry kept) whole (whole.lost open_room) s.image s.told in
-      let rows = subst (λ ps. AreRowsOf old.region_len s.image ps s.rows) is.neighbours s.are_rows in
-      let a = rows_split old.region_len s.image is.before (job.older ∷ job.newer ∷ is.after) s.rows rows in
-      let b = rows_split old.region_len s.image (job.older ∷ []) (job.newer ∷ is.after) a.second a.of_back in
-      let c = rows_split old.region_len s.image (job.newer ∷ []) is.after b.second b.of_back in
+      let rows = subst (λ ps. AreRowsOf old.region_len s.image ps s.rows) as_job.neighbours s.are_rows in
+      let a = rows_split old.region_len s.image as_job.before (job.older ∷ job.newer ∷ as_job.after) s.rows rows in
+      let b = rows_split old.region_len s.image (job.older ∷ []) (job.newer ∷ as_job.after) a.second a.of_back in
+      let c = rows_split old.region_len s.image (job.newer ∷ []) as_job.after b.second b.of_back in
       let many = as_many rs (free_regions s.image) (own_once old entry kept whole open_room job out header has) (λ n there.
       let low = all_at (λ q. q < old.regions) n rs below there in
       free_there s.image n (omega (arith, low, holds.0)) (all_at (λ r. is_free s.image r ≡ true) n rs (all_free s.image holds.0 holds.1) there)) in
       let long : length rs ≡ header.regions = let l = length-take (header.regions - 1) header.more in let h = has_regions in omega (arith, l, h.low, h.high, h.more) in
       s.no_merge b.first c.first
       (record {
-        at = length is.before;
+        at = length as_job.before;
         a = job.older;
         b = job.newer;
-        is_a = subst (λ ps. slice_get ps (length is.before) ≡ Some job.older) (sym is.neighbours) (first_at is.before job.older job.newer is.after);
-        is_b = subst (λ ps. slice_get ps (length is.before + 1) ≡ Some job.newer) (sym is.neighbours) (second_at is.before job.older job.newer is.after);
+        is_a = subst (λ ps. slice_get ps (length as_job.before) ≡ Some job.older) (sym as_job.neighbours) (first_at as_job.before job.older job.newer as_job.after);
+        is_b = subst (λ ps. slice_get ps (length as_job.before + 1) ≡ Some job.newer) (sym as_job.neighbours) (second_at as_job.before job.older job.newer as_job.after);
         older_rows = b.of_front;
         newer_rows = c.of_front;
       })
@@ -197,12 +197,12 @@ module _ (old entry : Disk) (kept : Kept) (whole : IsWhole (value_of old entry k
     read_is image differs (inl torn) = inl (alike_closed image (record { differs = differs; closed = (torn_closed job.target torn.was image (shut torn.was torn.is_was) torn.differs).closed }))
       where
         shut : (was : Image) → IsImageNow a was → is_sealed (region_of was job.target) ≡ false
-        shut was now = not_true _ (first_of_both _ _ (lead_free was now)).0
+        shut was now = not-true (first_of_both _ _ (lead_free was now)).0
     read_is image differs (inr at) = at_gate_is image at
 
     over_shows : (image : Image) → IsOver old.region_len job header a.bytes image → (first : List Row) (history : List Commit) (low high : ℕ) → ShowsSome old.region_len first history low high a.bytes → ShowsSome old.region_len first history low high image
     over_shows image over first history low high s =
-        shown_over old.region_len a.bytes job header has is.before job.older job.newer is.after kept.retired (subst (λ n. IsGood old.region_len n job.target header) (sym told.regions) good) later_mark taken.range
+        shown_over old.region_len a.bytes job header has as_job.before job.older job.newer as_job.after kept.retired (subst (λ n. IsGood old.region_len n job.target header) (sym told.regions) good) later_mark taken.range
         (holds_both a.bytes (left a.bytes told.image)) (all_free a.bytes told.regions (left a.bytes told.image)) image over.opened over.body (written_now a.bytes is_now) first history low high s
 
     -- each image shows what one of before showed

@@ -37,13 +37,13 @@ same_outside regions a b same = λ i. filter (λ r. not (any_times r a b (same r
 
 -- ---- the lowest region that is not taken
 
-rising_range : (a n : ℕ) → AllByRecursion (λ r. a ≤ r) (range_with_len a n) × AreRising (range_with_len a n)
+pub rising_range : (a n : ℕ) → AllByRecursion (λ r. a ≤ r) (range_with_len a n) × AreRising (range_with_len a n)
 rising_range a zero = (tt, tt)
 rising_range a (suc n) =
     let rest = rising_range (a + 1) n in
     ((omega arith, all_map (λ r. a + 1 ≤ r) (λ r. a ≤ r) (λ r h. omega (arith, h)) (range_with_len (a + 1) n) rest.0), (all_map (λ r. a + 1 ≤ r) (λ r. a < r) (λ r h. omega (arith, h)) (range_with_len (a + 1) n) rest.0, rest.1))
 
-rising_filter : (p : ℕ → Bool) (xs : List ℕ) → AreRising xs → AreRising (filter p xs)
+pub rising_filter : (p : ℕ → Bool) (xs : List ℕ) → AreRising xs → AreRising (filter p xs)
 rising_filter p [] up = tt
 rising_filter p (x ∷ xs) up = by (p x) (rising_filter p xs up.1)
   where
@@ -51,7 +51,7 @@ rising_filter p (x ∷ xs) up = by (p x) (rising_filter p xs up.1)
     by true rest = (all_filter (λ y. x < y) p xs up.0, rest)
     by false rest = rest
 
-below_range : (a n : ℕ) → AllByRecursion (λ r. r < a + n) (range_with_len a n)
+pub below_range : (a n : ℕ) → AllByRecursion (λ r. r < a + n) (range_with_len a n)
 below_range a zero = tt
 below_range a (suc n) = (omega arith, all_map (λ r. r < a + 1 + n) (λ r. r < a + suc n) (λ r h. omega (arith, h)) (range_with_len (a + 1) n) (below_range (a + 1) n))
 

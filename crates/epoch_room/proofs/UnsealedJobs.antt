@@ -22,6 +22,7 @@ use Rattle.epoch_room.proofs.Ending.{moved_whole}
 use Rattle.epoch_room.proofs.Gates.{behind, sealing_none}
 use Rattle.epoch_room.proofs.MergedHeaders.{header_long}
 use Rattle.epoch_room.proofs.SealingJobs.{lead_beside, lead_there, long, room_for}
+use Rattle.epoch_room.proofs.Touching.{dirties_none}
 use Rattle.epoch_room.proofs.Writing.{still_held, written_keeps}
 use Rattle.epoch_room.proofs.Written.{own_taken}
 
@@ -98,8 +99,8 @@ module _ (old entry : Disk) (kept : Kept) (whole : IsWhole (value_of old entry k
       moved_whole old new entry kept whole same sound time counts.no_lower (job.target ∷ []) beside read open_room dirties
       (still_held old new entry kept whole open_room (job.target ∷ []) beside (lead_there old entry kept whole open_room job out header has written, tt) same sound time failed counts reads untouched)
 
-  pub seals_memory : (failed → ⊥) → SealsJob (value_of old entry kept) (value_of new entry kept) job header (Err (room_fault.NoMemory, job))
-  seals_memory fine = record {
+  pub seals_memory : (failed → ⊥) → DirtiesOnly (job.target ∷ []) old new → SealsJob (value_of old entry kept) (value_of new entry kept) job header (Err (room_fault.NoMemory, job))
+  seals_memory fine dirties = record {
     room = (
       refl,
       (
@@ -109,11 +110,14 @@ module _ (old entry : Disk) (kept : Kept) (whole : IsWhole (value_of old entry k
           record { faults = (counts.else_same fine).0; own_faults = (counts.else_same fine).1 },
         ),
         keeps_job,
+        ungated,
       ),
     );
     beside = same;
     read = read;
+    dirties = dirties;
     leaves = leaves;
+    bytes = tt;
     keeps = written_keeps old new entry kept whole open_room (job.target ∷ []) beside (lead_there old entry kept whole open_room job out header has written, tt) same sound time failed counts reads untouched kept.job kept.lost kept.is_shut
         (λ h. absurd (true≢false (sym h ∙ open_room)));
   }
@@ -124,7 +128,9 @@ seals_none value job header whole shut = record {
   room = (refl, (shut, refl, refl));
   beside = same_beside value.disk;
   read = itself value.disk.told;
+  dirties = dirties_none (job.target ∷ []) value.disk value.disk refl;
   leaves = sealing_none job.target (header_bytes value.room.region_len header) value.disk value.disk refl;
+  bytes = tt;
   keeps = keeps_none value whole;
 }
   where

@@ -15,3 +15,4 @@ pub mod BodyWrites
 pub mod MergeSteps
 pub mod Laws
 pub mod MergeSealing
+pub mod Stuck

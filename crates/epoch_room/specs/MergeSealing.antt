@@ -1,5 +1,5 @@
 -- What sealing a merged part asks, and what it makes of a room.
-use Rattle.std.specs.Prelude.{◌≡◌, ℕ, ◌==◌, nat_lt, List, [], ◌∷◌, length, drop, if◌then◌else◌, IsTrue, None, Some, Result, Ok, Err}
+use Rattle.std.specs.Prelude.{◌≡◌, ℕ, ◌==◌, nat_lt, List, [], ◌∷◌, length, drop, if◌then◌else◌, IsTrue, None, Some, Result, Ok, Err, OnOk}
 use Rattle.std.specs.List.{insert, position_or_len}
 use Rattle.fine_model.specs.declared.Header.{Header}
 use Rattle.fine_model.specs.declared.Job.{Job}
@@ -12,8 +12,8 @@ use Rattle.fine_model.specs.Merge.{merged, is_ordered, nodes_in}
 use Rattle.fine_model.specs.Regions.{Image, body_bytes, header_bytes}
 use Rattle.fine_model.specs.RowBytes.{rows_len}
 use Rattle.fine_model.specs.Views.{TellsRowsOf}
-use Rattle.log_disk.specs.Disk.{SameBeside}
-use Rattle.epoch_room.specs.Gate.{KeepsBeside, LeavesSealing}
+use Rattle.log_disk.specs.Disk.{SameBeside, with_bytes}
+use Rattle.epoch_room.specs.Gate.{gate, DirtiesOnly, HasBytes, IsUngated, KeepsBeside, LeavesSealing}
 use Rattle.epoch_room.specs.Meaning.{Keeps}
 use Rattle.epoch_room.specs.Steps.{Does, Shuts, WasShut}
 use Rattle.epoch_room.specs.Value.{RoomValue}
@@ -57,7 +57,8 @@ merged_state room job header = record room {
 }
 
 -- All is synced, and the new part's body is what was written for the job. After a failure the job is out still, but all of its regions are
--- lost, since its gate may be open. After want of memory the job holds what it held.
+-- lost, since its gate may be open. After want of memory the job holds what it held, and nothing was begun, or all is synced with the header
+-- behind the closed gate.
 abbrev pub SealsJobOr : RoomValue → RoomValue → Job → Header → Result (Unit {0}) (RoomFault × Job) → Type 0
 SealsJobOr old new job header (Ok u) =
     (new.disk.unsynced ≡ []) × Does (merged_state old.room job header) old.target old new × (held_for new.room.image job ≡ held_for old.room.image job)
@@ -66,12 +67,14 @@ SealsJobOr old new job header (Err e) = (e.1 ≡ job) × refuses e.0
     refuses : RoomFault → Type 0
     refuses room_fault.Disk = Shuts old.room old.target (job_regions (Some job)) old new
     refuses (room_fault.Shut epoch) = WasShut epoch old new
-    refuses room_fault.NoMemory = Does old.room old.target old new × KeepsJob old.room new.room
+    refuses room_fault.NoMemory = Does old.room old.target old new × KeepsJob old.room new.room × IsUngated job.target (header_bytes old.room.region_len header) old.disk new.disk
 
 -- all that sealing a job does: it touches the lead alone, torn behind the closed gate, and then at the gate
 pub record SealsJob (old new : RoomValue) (job : Job) (header : Header) (result : Result (Unit {0}) (RoomFault × Job)) : Type 0 where
   pub room : SealsJobOr old new job header result
   pub beside : SameBeside old.disk new.disk
   pub read : KeepsBeside (job.target ∷ []) old.disk new.disk
+  pub dirties : DirtiesOnly (job.target ∷ []) old.disk new.disk
   pub leaves : LeavesSealing job.target (header_bytes old.room.region_len header) old.disk new.disk
+  pub bytes : OnOk result (HasBytes (λ image. with_bytes (with_bytes image job.target 1 (header_bytes old.room.region_len header)) job.target 0 gate) old.disk new.disk)
   pub keeps : Keeps old new

@@ -12,6 +12,7 @@ mod partition;
 mod regions;
 mod room;
 mod sealing;
+pub mod stuck_law;
 #[cfg(test)]
 mod tests;
 

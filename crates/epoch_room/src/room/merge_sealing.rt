@@ -1,14 +1,14 @@
 //! Sealing the merged part: the last step of a merge.
 
-ghost use Rattle.std.specs.Prelude.{◌≡◌, Bool, nat_lt, position, ◌+◌, ◌<◌, ◌≤◌, ◌==◌, [], ◌∷◌, ◌++◌, IfSome, IsSome, Some, length, vec_capacity};
+ghost use Rattle.std.specs.Prelude.{◌≡◌, Bool, nat_lt, position, ◌+◌, ◌<◌, ◌≤◌, ◌==◌, [], ◌∷◌, ◌++◌, IfSome, IsSome, OnOk, Some, length, vec_capacity};
 ghost use Rattle.std.specs.List.{AllByRecursion, position_or_len};
 ghost use Rattle.fine_model.specs.Boards.{set_of};
 ghost use Rattle.fine_model.specs.declared.Part.{Part};
 ghost use Rattle.fine_model.specs.Jobs.{taken_by};
 ghost use Rattle.fine_model.specs.Regions.{body_start, header_bytes};
-ghost use Rattle.log_disk.specs.Disk.{SameBeside};
+ghost use Rattle.log_disk.specs.Disk.{SameBeside, with_bytes};
 ghost use Rattle.partition_index.specs.Parts.{body_len};
-ghost use Rattle.epoch_room.specs.Gate.{KeepsBeside, LeavesSealing};
+ghost use Rattle.epoch_room.specs.Gate.{gate, DirtiesOnly, HasBytes, KeepsBeside, LeavesSealing};
 ghost use Rattle.epoch_room.specs.Meaning.{Keeps};
 ghost use Rattle.epoch_room.specs.MergeSealing.{IsWrittenOut, SealsJob, SealsJobOr, replaced, retire};
 
@@ -89,9 +89,10 @@ impl<D: LogDisk> Room<D> {
     /// the part stands in the chain in place of the two that were merged, which are retired, and no merge is out.
     ///
     /// The body is that of the merged rows of both parts, as far as the disk tells them. Every refusal gives the job back, which is out
-    /// still. `Disk` comes only where the disk failed in this call, and shuts the room: all regions of the job are lost. `Shut` comes
-    /// exactly where an earlier call answered `Disk`, and changes nothing. After `NoMemory` the room is whole, and the job holds what
-    /// it held, so that it may be sealed again. A crash at any moment of the call leaves an image that shows what was sealed before.
+    /// still. `Disk` comes only where the disk failed in this call, and shuts the room: all regions of the job are lost, since its part may
+    /// be sealed beside the two. `Shut` comes exactly where an earlier call answered `Disk`, and changes nothing. After `NoMemory` the room
+    /// is whole, and the job holds what it held, so that it may be sealed again. A crash at any moment of the call leaves an image that
+    /// shows what was sealed before.
     pub fn merge_seal(&mut self, job: Job) -> Result<(), (RoomFault, Job)>
         requires out { self.old.room.job ≡ Some job }
         requires taken { IsSome job.header }
@@ -99,7 +100,9 @@ impl<D: LogDisk> Room<D> {
         requires written { IfSome job.header (IsWrittenOut self.old.room job) }
         ensures room { IfSome job.header (λ header. SealsJobOr self.old self.new job header result) }
         ensures read { KeepsBeside (job.target ∷ []) self.old.disk self.new.disk }
+        ensures dirties { DirtiesOnly (job.target ∷ []) self.old.disk self.new.disk }
         ensures leaves { IfSome job.header (λ header. LeavesSealing job.target (header_bytes self.old.room.region_len header) self.old.disk self.new.disk) }
+        ensures bytes { OnOk result (IfSome job.header (λ header. HasBytes (λ image. with_bytes (with_bytes image job.target 1 (header_bytes self.old.room.region_len header)) job.target 0 gate) self.old.disk self.new.disk)) }
         ensures beside { SameBeside self.old.disk self.new.disk }
         ensures keeps { Keeps self.old self.new }
     {

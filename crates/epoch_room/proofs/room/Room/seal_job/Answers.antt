@@ -197,7 +197,7 @@ returns-in-Ok g c =
     let retired : c.retire-in-Ok.new.parts.items ≡ retire job.newer (retire job.older in'.retired.items) = c.retire-in-Ok.ensures.items ∙ ap (retire job.newer) c.retire.ensures.items in
     subst (λ (v : RoomValue). SealsJob v (value_of new entry (record kept { parts = c.replace_two.new.parts; retired = c.retire-in-Ok.new.parts.items; job = None })) job header (Ok tt)) c.self.view_is
     (subst (λ (v : RoomValue). SealsJob (value_of old entry kept) v job header (Ok tt)) (sym (λ i. value_of new entry (record kept { parts = parts i; retired = retired i; job = None })))
-    (seals_ok old entry kept whole c.if-self.false job out header c.requires.taken written new e.beside e.sound e.time (IsErrOf c.seal_region.result refusal.Failed) e.counts e.read leaves synced bytes (not_failed_ok c.seal_region.result c.in-Ok.is) tt))
+    (seals_ok old entry kept whole c.if-self.false job out header c.requires.taken written new e.beside e.sound e.time (IsErrOf c.seal_region.result refusal.Failed) e.counts e.read leaves synced bytes (not_failed_ok c.seal_region.result c.in-Ok.is) e.dirties tt))
 
 pub returns-in-Failed : goal.returns-in-Failed
 returns-in-Failed g c =
@@ -220,7 +220,7 @@ returns-in-Failed g c =
     let lost : c.lose_job.new.lost ≡ set_of (job_regions (Some job)) =
     c.lose_job.ensures ∙ ap (λ (l : List ℕ). set_of (l ++ taken_by job.target (Some header))) (none_lost old entry kept whole c.if-self.false job out header c.requires.taken) ∙ ap (λ h. set_of (taken_by job.target h)) (sym c.requires.taken) in
     subst (λ (v : RoomValue). SealsJob v (value_of new entry (record kept { lost = c.lose_job.new.lost; is_shut = true })) job header (Err (room_fault.Disk, job))) c.self.view_is
-    (seals_disk old entry kept whole c.if-self.false job out header c.requires.taken written new e.beside e.sound e.time (IsErrOf c.seal_region.result refusal.Failed) e.counts e.read leaves failed c.lose_job.new.lost lost)
+    (seals_disk old entry kept whole c.if-self.false job out header c.requires.taken written new e.beside e.sound e.time (IsErrOf c.seal_region.result refusal.Failed) e.counts e.read leaves failed c.lose_job.new.lost lost e.dirties)
 
 pub returns-in-NoMemory : goal.returns-in-NoMemory
 returns-in-NoMemory g c =
@@ -242,4 +242,4 @@ returns-in-NoMemory g c =
     let none = is_no_memory c.seal_region.result c.in-Err.refusal c.in-Err.is c.in-NoMemory.is in
     let ungated : IsUngated job.target (header_bytes old.region_len header) old new = subst (λ bytes. IsUngated job.target bytes old new) cut (e.no_memory none) in
     subst (λ (v : RoomValue). SealsJob v (value_of new entry kept) job header (Err (room_fault.NoMemory, job))) c.self.view_is
-    (seals_memory old entry kept whole c.if-self.false job out header c.requires.taken written new e.beside e.sound e.time (IsErrOf c.seal_region.result refusal.Failed) e.counts e.read leaves ungated (e.untouched none) (not_failed c.seal_region.result none))
+    (seals_memory old entry kept whole c.if-self.false job out header c.requires.taken written new e.beside e.sound e.time (IsErrOf c.seal_region.result refusal.Failed) e.counts e.read leaves ungated (e.untouched none) (not_failed c.seal_region.result none) e.dirties)

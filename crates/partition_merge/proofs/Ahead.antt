@@ -128,12 +128,17 @@ whole_ahead eye later v w handed a b i none opened ends waiting whole offset =
       offset = offset ∙ i.offset;
     }
 
+-- all rows were made into bytes
+pub all_made : (eye : Eye) (v : BlocksValue) (handed : List ℕ) (a b : List Row) → (i : IsAhead eye v handed a b) → v.is_whole ≡ true → merged a b ≡ i.so_far
+all_made eye v handed a b i whole =
+    let ends = i.none_left whole in
+    let nothing : merged i.left_older i.left_newer ≡ [] = (λ j. merged (ends.0 j) (ends.1 j)) ∙ no_node [] [] refl in
+    i.together ∙ ap (λ xs. i.so_far ++ xs) nothing ∙ append-nil i.so_far
+
 -- all of the body was handed out
 pub all_ahead : (eye : Eye) (v : BlocksValue) (handed : List ℕ) (a b : List Row) → IsAhead eye v handed a b → v.is_whole ≡ true → v.waiting ≡ [] → handed ≡ body_bytes (merged a b)
 all_ahead eye v handed a b i whole none =
-    let ends = i.none_left whole in
-    let nothing : merged i.left_older i.left_newer ≡ [] = (λ j. merged (ends.0 j) (ends.1 j)) ∙ no_node [] [] refl in
-    let all : merged a b ≡ i.so_far = i.together ∙ ap (λ xs. i.so_far ++ xs) nothing ∙ append-nil i.so_far in
+    let all = all_made eye v handed a b i whole in
     sym (append-nil handed) ∙ ap (λ xs. handed ++ xs) (sym none) ∙ i.made ∙ ap (λ t. made_of t i.so_far) whole ∙ sym (ap body_bytes all)
 
 -- what waits goes on to the block

@@ -30,12 +30,12 @@ use Rattle.partition_merge.proofs.Steps.{starts, no_node}
 -- ---- lists of rows
 
 -- what a merger hands out are rows of one node
-own_node : (n : NodeId) (a b rows : List Row) → rows ≡ merged_node (a ++ b) n → AllByRecursion (λ r. r.node ≡ n) rows
+pub own_node : (n : NodeId) (a b rows : List Row) → rows ≡ merged_node (a ++ b) n → AllByRecursion (λ r. r.node ≡ n) rows
 own_node n a b rows is =
     subst (AllByRecursion (λ r. r.node ≡ n)) (sym (is ∙ sym (rows_of-merged n a b)))
     (all_map (λ r. is_node n r.node ≡ true) (λ r. r.node ≡ n) (λ r e. sym (same_node n r.node e)) (rows_of n (merged a b)) (all_pass (λ r. is_node n r.node) (merged a b)))
 
-below_named : (k n : NodeId) (rows : List Row) → AllByRecursion (λ s. is_node_below k s.node ≡ true) rows → names n rows ≡ true → is_node_below k n ≡ true
+pub below_named : (k n : NodeId) (rows : List Row) → AllByRecursion (λ s. is_node_below k s.node ≡ true) rows → names n rows ≡ true → is_node_below k n ≡ true
 below_named k n [] all e = absurd (true≢false (sym e))
 below_named k n (s ∷ rows) all e = by (is_node n s.node) refl e (below_named k n rows all.1)
   where

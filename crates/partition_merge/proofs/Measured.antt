@@ -1,6 +1,7 @@
 -- The numbers of merged rows, as far as they were handed out.
 use Rattle.std.proofs.Common.{◌≡◌, ℕ, suc, ◌+◌, ◌*◌, ◌<◌, ◌≤◌, min, true, false, cond, Bool, ◌&&◌, IsTrue, Some, None, inl, inr, subst, true≢false, List, [], ◌∷◌, ◌++◌, length, map, refl, sym, ap, ◌∙◌, arith, append-nil, append_assoc, length-append}
 use Rattle.std.specs.Prelude.{filter, fold, Option}
+use Rattle.std.specs.List.{AllByRecursion}
 use Rattle.std.proofs.lemmas.List.{length-map}
 use Rattle.std.proofs.lemmas.List.Sums.{sum_by-append}
 use Rattle.std.proofs.lemmas.List.Elements.{filter-append}
@@ -10,11 +11,10 @@ use Rattle.fine_model.specs.declared.Row.{Row}
 use Rattle.fine_model.specs.RowBytes.{row_len, rows_len}
 use Rattle.fine_model.specs.Merge.{is_node_below, is_ordered, with_node, nodes_in, merged}
 use Rattle.fine_model.proofs.MergedLen.{merged_len}
-use Rattle.fine_model.proofs.Sets.{all_append}
+use Rattle.fine_model.proofs.Sets.{all_append, all_pass}
 use Rattle.fine_model.proofs.NodeOrder.{below-asym}
 use Rattle.partition_index.proofs.Opened.{few_rows}
-use Rattle.partition_merge.specs.Merging.{first_node, follows, last_key}
-use Rattle.partition_merge.specs.declared.order.RowKey.{RowKey}
+use Rattle.partition_merge.specs.Merging.{first_node, follows, last_node}
 use Rattle.partition_merge.specs.declared.merger.Measure.{Measure}
 use Rattle.partition_merge.specs.declared.merger.Merger.{Merger}
 use Rattle.fine_model.specs.declared.Part.{Part}
@@ -24,7 +24,8 @@ use Rattle.partition_merge.specs.Mergers.{StandsAt, HandsOut, BlamesRow, older_p
 use Rattle.partition_merge.proofs.Nodes.{rest_of, nodes_first}
 use Rattle.partition_merge.proofs.Steps.{starts, no_node}
 use Rattle.partition_merge.proofs.Taken.{next_parted, next_within}
-use Rattle.partition_merge.proofs.Ascending.{ordered_joined, last_joined}
+use Rattle.partition_merge.proofs.Ascending.{AreOver, ordered_joined, follows_over, last_joined, last_own}
+use Rattle.partition_merge.proofs.Ahead.{own_node}
 
 abbrev greatest : ℕ
 greatest = 4294967295
@@ -34,7 +35,7 @@ abbrev pub most_of : Eye → Merger → List Row → List Row → ℕ
 most_of eye merger older newer = eye.taken + (28 * ((older_part merger).header.nodes + (newer_part merger).header.nodes) + (rows_len older + rows_len newer))
 
 -- what was handed out so far is counted; most is how many bytes may have been taken behind the last node
-pub record Measured (eye : Eye) (pass : Merger) (older newer : List Row) (last : Option RowKey) (measure : Measure) (most : ℕ) : Type 0 where
+pub record Measured (eye : Eye) (pass : Merger) (older newer : List Row) (last : Option NodeId) (measure : Measure) (most : ℕ) : Type 0 where
   pub left_older : List Row
   pub left_newer : List Row
   pub stands : StandsAt eye pass left_older left_newer
@@ -47,9 +48,10 @@ pub record Measured (eye : Eye) (pass : Merger) (older newer : List Row) (last :
   pub all_nodes : length (nodes_in (older ++ newer)) ≡ steps + length (nodes_in (left_older ++ left_newer))
   pub bytes : eye.taken + (28 * both_unread pass + (rows_len left_older + rows_len left_newer)) ≤ most
   pub ordered : measure.ordered ≡ is_ordered out
-  pub last_is : last ≡ last_key out
+  pub last_is : last ≡ last_node out
+  pub over : AreOver last (left_older ++ left_newer)
 
-pub none_measured : (eye : Eye) (pass : Merger) (older newer : List Row) (last : Option RowKey) (measure : Measure) (most : ℕ) → last ≡ None → measure.rows ≡ 0 → measure.nodes ≡ 0 → measure.area ≡ 0 → measure.ordered ≡ true → StandsAt eye pass older newer
+pub none_measured : (eye : Eye) (pass : Merger) (older newer : List Row) (last : Option NodeId) (measure : Measure) (most : ℕ) → last ≡ None → measure.rows ≡ 0 → measure.nodes ≡ 0 → measure.area ≡ 0 → measure.ordered ≡ true → StandsAt eye pass older newer
     → eye.taken + (28 * both_unread pass + (rows_len older + rows_len newer)) ≤ most → Measured eye pass older newer last measure most
 none_measured eye pass older newer last measure most none rows nodes area ordered at bytes = record {
   left_older = older;
@@ -65,6 +67,7 @@ none_measured eye pass older newer last measure most none rows nodes area ordere
   bytes = bytes;
   ordered = ordered;
   last_is = none;
+  over = subst (λ l. AreOver l (older ++ newer)) (sym none) tt;
 }
 
 -- one node less is left
@@ -127,9 +130,9 @@ more_counted measure now rows was some r n a =
       area = (λ e. absurd (omega (arith, e, a, few, some)), λ e. absurd (omega (arith, e, r, some)));
     }
 
-pub more_measured : (eye later : Eye) (pass next : Merger) (older newer rows : List Row) (last behind_key : Option RowKey) (measure now : Measure) (most : ℕ) → (m : Measured eye pass older newer last measure most) → HandsOut later next m.left_older m.left_newer rows
+pub more_measured : (eye later : Eye) (pass next : Merger) (older newer rows : List Row) (last behind_key : Option NodeId) (measure now : Measure) (most : ℕ) → (m : Measured eye pass older newer last measure most) → HandsOut later next m.left_older m.left_newer rows
     → later.taken + 28 * both_unread next ≤ eye.taken + (28 * both_unread pass + next_len m.left_older m.left_newer)
-    → now.rows ≡ min (measure.rows + length rows) greatest → now.nodes ≡ min (measure.nodes + 1) greatest → now.area ≡ min (measure.area + rows_len rows) greatest → now.ordered ≡ (measure.ordered && (follows last rows && is_ordered rows)) → behind_key ≡ last_key rows → 1 ≤ length rows → Measured later next older newer behind_key now most
+    → now.rows ≡ min (measure.rows + length rows) greatest → now.nodes ≡ min (measure.nodes + 1) greatest → now.area ≡ min (measure.area + rows_len rows) greatest → now.ordered ≡ (measure.ordered && (follows last rows && is_ordered rows)) → behind_key ≡ last_node rows → 1 ≤ length rows → Measured later next older newer behind_key now most
 more_measured eye later pass next older newer rows last behind_key measure now most m h ahead r n a o key some = record {
   left_older = behind h.node m.left_older;
   left_newer = behind h.node m.left_newer;
@@ -142,16 +145,24 @@ more_measured eye later pass next older newer rows last behind_key measure now m
   nodes = omega (arith, n, m.nodes);
   all_nodes = omega (arith, m.all_nodes, fewer_nodes h.node m.left_older m.left_newer m.stands.of_older.is_left.ordered m.stands.of_newer.is_left.ordered h.first);
   bytes = omega (arith, m.bytes, ahead, next_parted h.node m.left_older m.left_newer m.stands.of_older.is_left.ordered m.stands.of_newer.is_left.ordered h.first);
-  ordered = o ∙ (λ i. m.ordered i && (follows (m.last_is i) rows && is_ordered rows)) ∙ sym (ordered_joined m.out rows);
+  ordered = o ∙ (λ i. m.ordered i && (up i && is_ordered rows)) ∙ sym (ordered_joined m.out rows (sym (ap (λ l. follows l rows) m.last_is) ∙ up));
   last_is = key ∙ sym (last_joined m.out rows some);
+  over = subst (λ l. AreOver l (behind h.node m.left_older ++ behind h.node m.left_newer)) (sym (key ∙ last_own h.node rows some own))
+      (all_append (λ r. is_node_below h.node r.node ≡ true) (behind h.node m.left_older) (behind h.node m.left_newer) (all_pass (λ r. is_node_below h.node r.node) m.left_older) (all_pass (λ r. is_node_below h.node r.node) m.left_newer));
 }
+  where
+    own : AllByRecursion (λ r. r.node ≡ h.node) rows
+    own = own_node h.node m.left_older m.left_newer rows h.is_merged
+
+    up : follows last rows ≡ true
+    up = follows_over last h.node rows (m.left_older ++ m.left_newer) m.over (starts h.node m.left_older m.left_newer m.stands.of_older.is_left.ordered m.stands.of_newer.is_left.ordered h.first).named own
 
 -- no more was taken than all of both parts
-pub within_most : (eye later : Eye) (pass : Merger) (older newer : List Row) (last : Option RowKey) (measure : Measure) (most : ℕ) → (m : Measured eye pass older newer last measure most)
+pub within_most : (eye later : Eye) (pass : Merger) (older newer : List Row) (last : Option NodeId) (measure : Measure) (most : ℕ) → (m : Measured eye pass older newer last measure most)
     → later.taken ≤ eye.taken + (28 * both_unread pass + next_len m.left_older m.left_newer) → later.taken ≤ most
 within_most eye later pass older newer last measure most m taken = omega (arith, m.bytes, taken, next_within m.left_older m.left_newer m.stands.of_older.is_left.ordered m.stands.of_newer.is_left.ordered)
 
-pub all_measured : (eye : Eye) (pass : Merger) (older newer : List Row) (last : Option RowKey) (measure : Measure) (most : ℕ) → (m : Measured eye pass older newer last measure most) → m.left_older ≡ [] → m.left_newer ≡ [] → rows_len (merged older newer) < 4294967296 → measure ≡ measure_of (merged older newer)
+pub all_measured : (eye : Eye) (pass : Merger) (older newer : List Row) (last : Option NodeId) (measure : Measure) (most : ℕ) → (m : Measured eye pass older newer last measure most) → m.left_older ≡ [] → m.left_newer ≡ [] → rows_len (merged older newer) < 4294967296 → measure ≡ measure_of (merged older newer)
 all_measured eye pass older newer last measure most m none_old none_new small =
     let nothing : merged m.left_older m.left_newer ≡ [] = (λ i. merged (none_old i) (none_new i)) ∙ no_node [] [] refl in
     let all : merged older newer ≡ m.out = m.whole ∙ ap (λ xs. m.out ++ xs) nothing ∙ append-nil m.out in

@@ -1,14 +1,12 @@
 -- Merging rows node by node.
 use Rattle.std.specs.Prelude.{◌≡◌, ◌≢◌, ℕ, ◌+◌, Bool, true, List, [], ◌∷◌, ◌++◌, Option, Some, None, if◌then◌else◌}
 use Rattle.std.specs.List.{AllByRecursion}
-use Rattle.std.specs.Ordering.{nat_cmp, ordering_then, is_lt}
 use Rattle.fine_model.specs.declared.NodeId.{NodeId}
 use Rattle.fine_model.specs.declared.Node.TheVariants as node
 use Rattle.fine_model.specs.declared.Row.{Row}
 use Rattle.fine_model.specs.Nodes.{base, replay, content, is_node}
-use Rattle.fine_model.specs.Merge.{node_cmp, is_node_below, is_row_below, image_of, merged_into}
+use Rattle.fine_model.specs.Merge.{is_node_below, is_row_below, image_of, merged_into}
 use Rattle.fine_model.specs.RowBytes.{FitsRec}
-use Rattle.partition_merge.specs.declared.order.RowKey.{RowKey}
 
 -- rows whose bodies are within the format's bounds
 abbrev pub FitRows : List Row → Type 0
@@ -37,20 +35,17 @@ abbrev pub begins_above : Row → List Row → Bool
 begins_above row [] = true
 begins_above row (next ∷ rows) = is_row_below row next
 
--- by what rows ascend, and the last of them
-abbrev pub key_of : Row → RowKey
-key_of row = record { node = row.node; version = row.version }
+-- the node with which rows end
+abbrev pub last_node : List Row → Option NodeId
+last_node [] = None
+last_node (row ∷ []) = Some row.node
+last_node (row ∷ next ∷ rows) = last_node (next ∷ rows)
 
-abbrev pub last_key : List Row → Option RowKey
-last_key [] = None
-last_key (row ∷ []) = Some (key_of row)
-last_key (row ∷ next ∷ rows) = last_key (next ∷ rows)
-
--- the first of rows is above the key of the row before them, as far as there are both
-abbrev pub follows : Option RowKey → List Row → Bool
+-- the first of rows is of a higher node than the last row before them, as far as there are both
+abbrev pub follows : Option NodeId → List Row → Bool
 follows None rows = true
-follows (Some key) [] = true
-follows (Some key) (row ∷ rows) = is_lt (ordering_then (node_cmp key.node row.node) (nat_cmp key.version row.version))
+follows (Some id) [] = true
+follows (Some id) (row ∷ rows) = is_node_below id row.node
 
 -- what the rows of one node are merged into
 unfoldable pub merged_of : NodeId → List Row → List Row

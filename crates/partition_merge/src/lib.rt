@@ -19,7 +19,7 @@ mod tests;
 pub use blocks::Blocks;
 use fine_model::{Copied, Items, NoMemory, NodeId, Row, Rows};
 use fold::folded;
-pub use laws::merge_law;
+pub use laws::blocks_law;
 pub use merger::{Measure, Merger};
 use std::alloc::Global;
 

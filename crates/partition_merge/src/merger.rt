@@ -12,11 +12,11 @@ ghost use Rattle.partition_index.specs.Parts.{IsSeen, SameEye, CountsFaults};
 ghost use Rattle.partition_index.specs.Index.{AllFrom};
 ghost use Rattle.partition_index.specs.Search.{Searches, TellsRows};
 ghost use Rattle.node_fetch.specs.Fetched.{HasBadRow, HasBadEntry, NoDamage};
-ghost use Rattle.partition_merge.specs.Merging.{FitRows, follows, last_key, node_at_head, merged_of};
+ghost use Rattle.partition_merge.specs.Merging.{FitRows, follows, last_node, node_at_head, merged_of};
 ghost use Rattle.partition_merge.specs.Mergers.{behind, node_kept, nodes_left, IsKept, AreKept, SourceAt, StandsAt, Answers, older_part, newer_part, both_left, unread, both_unread, next_len, most_for, BlamesRow, BlamesEntry, TakesRows, IsJoinOf, at_front, start_of, IsMeasureOf, measure_of, IsCounted};
 
 use crate::fold::folded;
-use crate::order::{RowKey, follows, last_key};
+use crate::order::{follows, last_node};
 use crate::{is_ordered, lower, push_all};
 use fine_model::{FetchFault, Items, NoMemory, NodeId, Part, Rows};
 use log_disk::LogEye;
@@ -155,19 +155,19 @@ pub struct Measure {
 }
 
 impl Measure {
-    /// Counts the merged rows of one node, which come behind a row of the key `last`. A number that is at its greatest stays there.
-    fn add(&mut self, last: &mut Option<RowKey>, rows: &Rows)
+    /// Counts the merged rows of one node, which come behind rows that end with the node `last`. A number that is at its greatest stays there.
+    fn add(&mut self, last: &mut Option<NodeId>, rows: &Rows)
         requires { FitRows rows.now }
         ensures rows { self.new.rows ≡ min (self.old.rows + length rows.now) 4294967295 }
         ensures nodes { self.new.nodes ≡ min (self.old.nodes + 1) 4294967295 }
         ensures area { self.new.area ≡ min (self.old.area + rows_len rows.now) 4294967295 }
         ensures ordered { self.new.ordered ≡ (self.old.ordered && (follows last.old rows.now && is_ordered rows.now)) }
-        ensures last { last.new ≡ last_key rows.now }
+        ensures last { last.new ≡ last_node rows.now }
     {
         let above = follows(*last, rows.as_slice());
         let ordered = is_ordered(rows.as_slice());
         self.ordered = self.ordered && (above && ordered);
-        *last = last_key(rows.as_slice());
+        *last = last_node(rows.as_slice());
         self.nodes = self.nodes.saturating_add(1);
         for row in rows.as_slice() {
             self.rows = self.rows.saturating_add(1);
@@ -266,9 +266,9 @@ impl Merger {
     /// Where the eye tells its bytes, both parts are in the grammar and have their headers, and the merged rows have fewer than 2^32
     /// bytes, the answer is exact. Whatever was read, it is that of lists of rows, one a node, as `next_node` hands them out from the
     /// first node on until none is left: the rows and the bytes of all lists, the number of lists, and whether the rows of all lists
-    /// together are in order, where a number above 2^32 - 1 is told as 2^32 - 1. The three numbers are 0 together, and there are no more
-    /// nodes than rows, and than the headers of both parts say. In the grammar the eye takes at most 28 bytes for each node of each part,
-    /// and the rows of both. The faults are those of `next_node`.
+    /// together are in order with no node in two lists, where a number above 2^32 - 1 is told as 2^32 - 1. The three numbers are 0
+    /// together, and there are no more nodes than rows, and than the headers of both parts say. In the grammar the eye takes at most 28
+    /// bytes for each node of each part, and the rows of both. The faults are those of `next_node`.
     pub fn measure<E: LogEye>(&mut self, alloc: Global, eye: &mut E) -> Result<Measure, FetchFault>
         requires older { IsSeen (E.LogEye.state eye.old) (older_part self.old) }
         requires newer { IsSeen (E.LogEye.state eye.old) (newer_part self.old) }

@@ -192,6 +192,7 @@ impl<E: LogEye> View<E> {
         ensures stays { merger.new ≡ merger.old }
         ensures sums { IfOk result (IsMeasureOf self.old.eye.told (start_of merger.old)) }
         ensures counted { IfOk result IsCounted }
+        ensures few { IfOk result (λ measure. measure.nodes ≤ (older_part merger.old).header.nodes + (newer_part merger.old).header.nodes) }
         ensures counts { CountsFaults (IsErrOf result fetch_fault.Failed) self.old.eye self.new.eye }
         ensures bad_row { (region at : ℕ) → IsErrOf result (fetch_fault.BadRow region at) → BlamesRow self.old.eye.told merger.old (record { region = region; at = at }) }
         ensures bad_index { (region at : ℕ) → IsErrOf result (fetch_fault.BadIndex region at) → BlamesEntry self.old.eye.told merger.old (record { region = region; at = at }) }
@@ -203,8 +204,8 @@ impl<E: LogEye> View<E> {
         merger.measure(self.alloc, &mut self.eye)
     }
 
-    /// The next block of the body of two merged parts of the view. What the blocks say of an eye holds of the view's. The view is as
-    /// before but for its eye's counts.
+    /// The next block of the body of two merged parts of the view. What the blocks say of an eye holds of the view's, so that all blocks are
+    /// taken through one view. The view is as before but for its eye's counts.
     pub fn next_block(&mut self, blocks: &mut Blocks) -> Result<bool, FetchFault>
         requires older { Contains self.old.parts (older_part blocks.old.merger) }
         requires newer { Contains self.old.parts (newer_part blocks.old.merger) }

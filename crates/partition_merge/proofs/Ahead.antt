@@ -30,12 +30,12 @@ use Rattle.partition_merge.proofs.Steps.{starts, no_node}
 -- ---- lists of rows
 
 -- what a merger hands out are rows of one node
-own_node : (n : NodeId) (a b rows : List Row) → rows ≡ merged_node (a ++ b) n → AllByRecursion (λ r. r.node ≡ n) rows
+pub own_node : (n : NodeId) (a b rows : List Row) → rows ≡ merged_node (a ++ b) n → AllByRecursion (λ r. r.node ≡ n) rows
 own_node n a b rows is =
     subst (AllByRecursion (λ r. r.node ≡ n)) (sym (is ∙ sym (rows_of-merged n a b)))
     (all_map (λ r. is_node n r.node ≡ true) (λ r. r.node ≡ n) (λ r e. sym (same_node n r.node e)) (rows_of n (merged a b)) (all_pass (λ r. is_node n r.node) (merged a b)))
 
-below_named : (k n : NodeId) (rows : List Row) → AllByRecursion (λ s. is_node_below k s.node ≡ true) rows → names n rows ≡ true → is_node_below k n ≡ true
+pub below_named : (k n : NodeId) (rows : List Row) → AllByRecursion (λ s. is_node_below k s.node ≡ true) rows → names n rows ≡ true → is_node_below k n ≡ true
 below_named k n [] all e = absurd (true≢false (sym e))
 below_named k n (s ∷ rows) all e = by (is_node n s.node) refl e (below_named k n rows all.1)
   where
@@ -128,12 +128,17 @@ whole_ahead eye later v w handed a b i none opened ends waiting whole offset =
       offset = offset ∙ i.offset;
     }
 
+-- all rows were made into bytes
+pub all_made : (eye : Eye) (v : BlocksValue) (handed : List ℕ) (a b : List Row) → (i : IsAhead eye v handed a b) → v.is_whole ≡ true → merged a b ≡ i.so_far
+all_made eye v handed a b i whole =
+    let ends = i.none_left whole in
+    let nothing : merged i.left_older i.left_newer ≡ [] = (λ j. merged (ends.0 j) (ends.1 j)) ∙ no_node [] [] refl in
+    i.together ∙ ap (λ xs. i.so_far ++ xs) nothing ∙ append-nil i.so_far
+
 -- all of the body was handed out
 pub all_ahead : (eye : Eye) (v : BlocksValue) (handed : List ℕ) (a b : List Row) → IsAhead eye v handed a b → v.is_whole ≡ true → v.waiting ≡ [] → handed ≡ body_bytes (merged a b)
 all_ahead eye v handed a b i whole none =
-    let ends = i.none_left whole in
-    let nothing : merged i.left_older i.left_newer ≡ [] = (λ j. merged (ends.0 j) (ends.1 j)) ∙ no_node [] [] refl in
-    let all : merged a b ≡ i.so_far = i.together ∙ ap (λ xs. i.so_far ++ xs) nothing ∙ append-nil i.so_far in
+    let all = all_made eye v handed a b i whole in
     sym (append-nil handed) ∙ ap (λ xs. handed ++ xs) (sym none) ∙ i.made ∙ ap (λ t. made_of t i.so_far) whole ∙ sym (ap body_bytes all)
 
 -- what waits goes on to the block

@@ -2,7 +2,9 @@ pub mod Folding
 pub mod Nodes
 pub mod Steps
 pub mod Taken
+pub mod Ascending
 pub mod Sources
 pub mod Measured
 pub mod Handed
 pub mod Ahead
+pub mod Lengths

@@ -1,35 +1,31 @@
 -- The numbers of merged rows, as far as they were handed out.
-use Rattle.std.proofs.Common.{◌≡◌, ℕ, suc, ◌+◌, ◌*◌, ◌<◌, ◌≤◌, min, true, false, cond, Bool, ◌&&◌, ◌||◌, IsTrue, Some, None, inl, inr, subst, true≢false, nat_le, List, [], ◌∷◌, ◌++◌, length, map, refl, sym, ap, ◌∙◌, arith, append-nil, append_assoc, length-append}
+use Rattle.std.proofs.Common.{◌≡◌, ℕ, suc, ◌+◌, ◌*◌, ◌<◌, ◌≤◌, min, true, false, cond, Bool, ◌&&◌, IsTrue, Some, None, inl, inr, subst, true≢false, List, [], ◌∷◌, ◌++◌, length, map, refl, sym, ap, ◌∙◌, arith, append-nil, append_assoc, length-append}
 use Rattle.std.specs.Prelude.{filter, fold, Option}
+use Rattle.std.specs.List.{AllByRecursion}
 use Rattle.std.proofs.lemmas.List.{length-map}
 use Rattle.std.proofs.lemmas.List.Sums.{sum_by-append}
 use Rattle.std.proofs.lemmas.List.Elements.{filter-append}
 use Rattle.log_disk.specs.Disk.{Eye}
 use Rattle.fine_model.specs.declared.NodeId.{NodeId}
-use Rattle.fine_model.specs.declared.Rec.{Rec}
 use Rattle.fine_model.specs.declared.Row.{Row}
-use Rattle.fine_model.specs.Nodes.{is_node, rows_of, base, replay}
 use Rattle.fine_model.specs.RowBytes.{row_len, rows_len}
-use Rattle.fine_model.specs.Merge.{is_node_below, is_ordered, with_node, nodes_in, image_of, starts_afresh, merged, merged_node, merged_into}
-use Rattle.fine_model.proofs.NodesIn.{times-nodes_in}
-use Rattle.fine_model.proofs.NodesAscend.{nodes_ascend, same_nodes}
-use Rattle.fine_model.proofs.MergedRows.{rows_of-merged}
-use Rattle.fine_model.proofs.MergedOrder.{merged_order}
-use Rattle.fine_model.proofs.Order.{all_map}
-use Rattle.std.specs.List.{AllByRecursion, list_all}
-use Rattle.fine_model.proofs.Sets.{all_append}
+use Rattle.fine_model.specs.Merge.{is_node_below, is_ordered, with_node, nodes_in, merged}
+use Rattle.fine_model.proofs.MergedLen.{merged_len}
+use Rattle.fine_model.proofs.Sets.{all_append, all_pass}
 use Rattle.fine_model.proofs.NodeOrder.{below-asym}
 use Rattle.partition_index.proofs.Opened.{few_rows}
-use Rattle.partition_merge.specs.Merging.{first_node, merged_of}
+use Rattle.partition_merge.specs.Merging.{first_node, follows, last_node}
 use Rattle.partition_merge.specs.declared.merger.Measure.{Measure}
 use Rattle.partition_merge.specs.declared.merger.Merger.{Merger}
 use Rattle.fine_model.specs.declared.Part.{Part}
 use Rattle.fine_model.specs.Regions.{Image, Place}
 use Rattle.node_fetch.specs.Fetched.{HasBadRow}
 use Rattle.partition_merge.specs.Mergers.{StandsAt, HandsOut, BlamesRow, older_part, newer_part, behind, both_unread, next_len, measure_of, IsCounted}
-use Rattle.partition_merge.proofs.Nodes.{rest_of, names, nodes_first, nodes_over, rows_over, merged_by}
+use Rattle.partition_merge.proofs.Nodes.{rest_of, nodes_first}
 use Rattle.partition_merge.proofs.Steps.{starts, no_node}
 use Rattle.partition_merge.proofs.Taken.{next_parted, next_within}
+use Rattle.partition_merge.proofs.Ascending.{AreOver, ordered_joined, follows_over, last_joined, last_own}
+use Rattle.partition_merge.proofs.Ahead.{own_node}
 
 abbrev greatest : ℕ
 greatest = 4294967295
@@ -39,7 +35,7 @@ abbrev pub most_of : Eye → Merger → List Row → List Row → ℕ
 most_of eye merger older newer = eye.taken + (28 * ((older_part merger).header.nodes + (newer_part merger).header.nodes) + (rows_len older + rows_len newer))
 
 -- what was handed out so far is counted; most is how many bytes may have been taken behind the last node
-pub record Measured (eye : Eye) (pass : Merger) (older newer : List Row) (measure : Measure) (most : ℕ) : Type 0 where
+pub record Measured (eye : Eye) (pass : Merger) (older newer : List Row) (last : Option NodeId) (measure : Measure) (most : ℕ) : Type 0 where
   pub left_older : List Row
   pub left_newer : List Row
   pub stands : StandsAt eye pass left_older left_newer
@@ -51,11 +47,13 @@ pub record Measured (eye : Eye) (pass : Merger) (older newer : List Row) (measur
   pub nodes : measure.nodes ≡ min steps greatest
   pub all_nodes : length (nodes_in (older ++ newer)) ≡ steps + length (nodes_in (left_older ++ left_newer))
   pub bytes : eye.taken + (28 * both_unread pass + (rows_len left_older + rows_len left_newer)) ≤ most
-  pub ordered : (measure.ordered && is_ordered (merged left_older left_newer)) ≡ is_ordered (merged older newer)
+  pub ordered : measure.ordered ≡ is_ordered out
+  pub last_is : last ≡ last_node out
+  pub over : AreOver last (left_older ++ left_newer)
 
-pub none_measured : (eye : Eye) (pass : Merger) (older newer : List Row) (measure : Measure) (most : ℕ) → measure.rows ≡ 0 → measure.nodes ≡ 0 → measure.area ≡ 0 → measure.ordered ≡ true → StandsAt eye pass older newer
-    → eye.taken + (28 * both_unread pass + (rows_len older + rows_len newer)) ≤ most → Measured eye pass older newer measure most
-none_measured eye pass older newer measure most rows nodes area ordered at bytes = record {
+pub none_measured : (eye : Eye) (pass : Merger) (older newer : List Row) (last : Option NodeId) (measure : Measure) (most : ℕ) → last ≡ None → measure.rows ≡ 0 → measure.nodes ≡ 0 → measure.area ≡ 0 → measure.ordered ≡ true → StandsAt eye pass older newer
+    → eye.taken + (28 * both_unread pass + (rows_len older + rows_len newer)) ≤ most → Measured eye pass older newer last measure most
+none_measured eye pass older newer last measure most none rows nodes area ordered at bytes = record {
   left_older = older;
   left_newer = newer;
   stands = at;
@@ -67,7 +65,9 @@ none_measured eye pass older newer measure most rows nodes area ordered at bytes
   nodes = nodes;
   all_nodes = omega arith;
   bytes = bytes;
-  ordered = ap (λ t. t && is_ordered (merged older newer)) ordered;
+  ordered = ordered;
+  last_is = none;
+  over = subst (λ l. AreOver l (older ++ newer)) (sym none) tt;
 }
 
 -- one node less is left
@@ -78,44 +78,7 @@ fewer_nodes n a b a_up b_up first =
     let rest : length (nodes_in (rest_of n (a ++ b))) ≡ length (nodes_in (behind n a ++ behind n b)) = ap (λ xs. length (nodes_in xs)) (filter-append (λ r. is_node_below n r.node) a b) in
     let all = ap length nodes in omega (arith, all, rest)
 
--- ---- merged rows name the nodes that the rows name
-
-some_of : {A : Type 0} → List A → Bool
-some_of [] = false
-some_of (x ∷ xs) = true
-
-names_some : (id : NodeId) (rows : List Row) → names id rows ≡ some_of (rows_of id rows)
-unfolding some_of
-names_some id [] = refl
-names_some id (r ∷ rows) = by (is_node id r.node) (names_some id rows)
-  where
-    by : (t : Bool) → names id rows ≡ some_of (rows_of id rows) → (t || names id rows) ≡ some_of (cond t (r ∷ rows_of id rows) (rows_of id rows))
-    by true rest = refl
-    by false rest = rest
-
-some_merged : (id : NodeId) (own : List Row) → some_of (merged_of id own) ≡ some_of own
-unfolding merged_of merged_into some_of
-some_merged id [] = by (image_of (replay (base id) []).0)
-  where
-    by : (image : Option Rec) → some_of (merged_into id [] (replay (base id) []).1 image) ≡ false
-    by None = refl
-    by (Some image) = refl
-some_merged id (r ∷ own) = by (image_of (replay (base id) (r ∷ own)).0)
-  where
-    choice : (row : Row) (t : Bool) → some_of (cond t (row ∷ []) (r ∷ own)) ≡ true
-    choice row true = refl
-    choice row false = refl
-
-    by : (image : Option Rec) → some_of (merged_into id (r ∷ own) (replay (base id) (r ∷ own)).1 image) ≡ true
-    by None = refl
-    by (Some image) = let row : Row = record { node = id; version = (replay (base id) (r ∷ own)).1; rec = image } in choice row (starts_afresh (r ∷ own) && nat_le (row_len row) (rows_len (r ∷ own)))
-
-merged_nodes : (older newer : List Row) → nodes_in (merged older newer) ≡ nodes_in (older ++ newer)
-merged_nodes older newer = same_nodes (nodes_in (merged older newer)) (nodes_in (older ++ newer)) (nodes_ascend (merged older newer)) (nodes_ascend (older ++ newer)) (λ id. times-nodes_in id (merged older newer) ∙ ap (λ t. cond t (id ∷ []) []) (named id) ∙ sym (times-nodes_in id (older ++ newer)))
-  where
-    named : (id : NodeId) → names id (merged older newer) ≡ names id (older ++ newer)
-    named id =
-        names_some id (merged older newer) ∙ ap some_of (rows_of-merged id older newer ∙ merged_by (older ++ newer) id) ∙ some_merged id (rows_of id (older ++ newer)) ∙ sym (names_some id (older ++ newer))
+-- ---- how many nodes rows name
 
 none_named : length (nodes_in ([] ++ [])) ≡ 0
 unfolding nodes_in
@@ -146,28 +109,10 @@ nodes_few : (rows : List Row) → length (nodes_in rows) ≤ length rows
 unfolding nodes_in
 nodes_few rows = omega (arith, fold_few [] (map (λ r. r.node) rows), length-map rows (λ r. r.node))
 
--- ---- the order of merged rows, node by node
+-- ---- how many nodes are counted
 
-and_assoc : (a b c : Bool) → ((a && b) && c) ≡ (a && (b && c))
-and_assoc true b c = refl
-and_assoc false b c = refl
-
-all_alike : (f g : NodeId → Bool) (ids : List NodeId) → AllByRecursion (λ id. f id ≡ g id) ids → list_all f ids ≡ list_all g ids
-all_alike f g [] same = refl
-all_alike f g (id ∷ ids) same = (λ i. same.0 i && all_alike f g ids same.1 i)
-
--- merged rows are in order where those of the lowest node are, and those of the others
-ordered_next : (n : NodeId) (a b : List Row) → IsTrue (is_ordered a) → IsTrue (is_ordered b) → first_node a b ≡ Some n
-    → is_ordered (merged a b) ≡ (is_ordered (merged_node (a ++ b) n) && is_ordered (merged (behind n a) (behind n b)))
-ordered_next n a b a_up b_up first =
-    let s = starts n a b a_up b_up first in
-    let rest : rest_of n (a ++ b) ≡ behind n a ++ behind n b = filter-append (λ r. is_node_below n r.node) a b in
-    let nodes : nodes_in (a ++ b) ≡ n ∷ nodes_in (rest_of n (a ++ b)) = nodes_first n (a ++ b) (all_append (λ r. is_node_below r.node n ≡ false) a b s.old_from s.new_from) s.named in
-    let each : AllByRecursion (λ id. is_ordered (merged_node (a ++ b) id) ≡ is_ordered (merged_node (rest_of n (a ++ b)) id)) (nodes_in (rest_of n (a ++ b))) = all_map (λ id. is_node_below n id ≡ true) (λ id. is_ordered (merged_node (a ++ b) id) ≡ is_ordered (merged_node (rest_of n (a ++ b)) id))
-    (λ id over. ap is_ordered (merged_by (a ++ b) id ∙ ap (merged_of id) (rows_over n id (a ++ b) over) ∙ sym (merged_by (rest_of n (a ++ b)) id))) (nodes_in (rest_of n (a ++ b))) (nodes_over n (a ++ b)) in
-    merged_order a b ∙ ap (list_all (λ id. is_ordered (merged_node (a ++ b) id))) nodes
-    ∙ ap (λ t. is_ordered (merged_node (a ++ b) n) && t) (all_alike (λ id. is_ordered (merged_node (a ++ b) id)) (λ id. is_ordered (merged_node (rest_of n (a ++ b)) id)) (nodes_in (rest_of n (a ++ b))) each
-    ∙ ap (λ xs. list_all (λ id. is_ordered (merged_node xs id)) (nodes_in xs)) rest ∙ sym (merged_order (behind n a) (behind n b)))
+pub few_more : (nodes more left later most : ℕ) → nodes + left ≤ most → later < left → more ≡ min (nodes + 1) greatest → more + later ≤ most
+few_more nodes more left later most few fewer is = omega (arith, few, fewer, is)
 
 -- ---- numbers that are 0 together
 
@@ -185,10 +130,10 @@ more_counted measure now rows was some r n a =
       area = (λ e. absurd (omega (arith, e, a, few, some)), λ e. absurd (omega (arith, e, r, some)));
     }
 
-pub more_measured : (eye later : Eye) (pass next : Merger) (older newer rows : List Row) (measure now : Measure) (most : ℕ) → (m : Measured eye pass older newer measure most) → HandsOut later next m.left_older m.left_newer rows
+pub more_measured : (eye later : Eye) (pass next : Merger) (older newer rows : List Row) (last behind_key : Option NodeId) (measure now : Measure) (most : ℕ) → (m : Measured eye pass older newer last measure most) → HandsOut later next m.left_older m.left_newer rows
     → later.taken + 28 * both_unread next ≤ eye.taken + (28 * both_unread pass + next_len m.left_older m.left_newer)
-    → now.rows ≡ min (measure.rows + length rows) greatest → now.nodes ≡ min (measure.nodes + 1) greatest → now.area ≡ min (measure.area + rows_len rows) greatest → now.ordered ≡ (measure.ordered && is_ordered rows) → Measured later next older newer now most
-more_measured eye later pass next older newer rows measure now most m h ahead r n a o = record {
+    → now.rows ≡ min (measure.rows + length rows) greatest → now.nodes ≡ min (measure.nodes + 1) greatest → now.area ≡ min (measure.area + rows_len rows) greatest → now.ordered ≡ (measure.ordered && (follows last rows && is_ordered rows)) → behind_key ≡ last_node rows → 1 ≤ length rows → Measured later next older newer behind_key now most
+more_measured eye later pass next older newer rows last behind_key measure now most m h ahead r n a o key some = record {
   left_older = behind h.node m.left_older;
   left_newer = behind h.node m.left_newer;
   stands = h.left;
@@ -200,26 +145,29 @@ more_measured eye later pass next older newer rows measure now most m h ahead r 
   nodes = omega (arith, n, m.nodes);
   all_nodes = omega (arith, m.all_nodes, fewer_nodes h.node m.left_older m.left_newer m.stands.of_older.is_left.ordered m.stands.of_newer.is_left.ordered h.first);
   bytes = omega (arith, m.bytes, ahead, next_parted h.node m.left_older m.left_newer m.stands.of_older.is_left.ordered m.stands.of_newer.is_left.ordered h.first);
-  ordered = ap (λ t. t && is_ordered (merged (behind h.node m.left_older) (behind h.node m.left_newer))) o ∙ and_assoc measure.ordered (is_ordered rows) (is_ordered (merged (behind h.node m.left_older) (behind h.node m.left_newer)))
-      ∙ ap (λ t. measure.ordered && (is_ordered t && is_ordered (merged (behind h.node m.left_older) (behind h.node m.left_newer)))) h.is_merged
-      ∙ ap (λ t. measure.ordered && t) (sym (ordered_next h.node m.left_older m.left_newer m.stands.of_older.is_left.ordered m.stands.of_newer.is_left.ordered h.first)) ∙ m.ordered;
+  ordered = o ∙ (λ i. m.ordered i && (up i && is_ordered rows)) ∙ sym (ordered_joined m.out rows (sym (ap (λ l. follows l rows) m.last_is) ∙ up));
+  last_is = key ∙ sym (last_joined m.out rows some);
+  over = subst (λ l. AreOver l (behind h.node m.left_older ++ behind h.node m.left_newer)) (sym (key ∙ last_own h.node rows some own))
+      (all_append (λ r. is_node_below h.node r.node ≡ true) (behind h.node m.left_older) (behind h.node m.left_newer) (all_pass (λ r. is_node_below h.node r.node) m.left_older) (all_pass (λ r. is_node_below h.node r.node) m.left_newer));
 }
+  where
+    own : AllByRecursion (λ r. r.node ≡ h.node) rows
+    own = own_node h.node m.left_older m.left_newer rows h.is_merged
+
+    up : follows last rows ≡ true
+    up = follows_over last h.node rows (m.left_older ++ m.left_newer) m.over (starts h.node m.left_older m.left_newer m.stands.of_older.is_left.ordered m.stands.of_newer.is_left.ordered h.first).named own
 
 -- no more was taken than all of both parts
-pub within_most : (eye later : Eye) (pass : Merger) (older newer : List Row) (measure : Measure) (most : ℕ) → (m : Measured eye pass older newer measure most)
+pub within_most : (eye later : Eye) (pass : Merger) (older newer : List Row) (last : Option NodeId) (measure : Measure) (most : ℕ) → (m : Measured eye pass older newer last measure most)
     → later.taken ≤ eye.taken + (28 * both_unread pass + next_len m.left_older m.left_newer) → later.taken ≤ most
-within_most eye later pass older newer measure most m taken = omega (arith, m.bytes, taken, next_within m.left_older m.left_newer m.stands.of_older.is_left.ordered m.stands.of_newer.is_left.ordered)
+within_most eye later pass older newer last measure most m taken = omega (arith, m.bytes, taken, next_within m.left_older m.left_newer m.stands.of_older.is_left.ordered m.stands.of_newer.is_left.ordered)
 
-and_true : (a : Bool) → (a && true) ≡ a
-and_true true = refl
-and_true false = refl
-
-pub all_measured : (eye : Eye) (pass : Merger) (older newer : List Row) (measure : Measure) (most : ℕ) → (m : Measured eye pass older newer measure most) → m.left_older ≡ [] → m.left_newer ≡ [] → rows_len (merged older newer) < 4294967296 → measure ≡ measure_of (merged older newer)
-all_measured eye pass older newer measure most m none_old none_new small =
+pub all_measured : (eye : Eye) (pass : Merger) (older newer : List Row) (last : Option NodeId) (measure : Measure) (most : ℕ) → (m : Measured eye pass older newer last measure most) → m.left_older ≡ [] → m.left_newer ≡ [] → rows_len (merged older newer) < 4294967296 → measure ≡ measure_of (merged older newer)
+all_measured eye pass older newer last measure most m none_old none_new small =
     let nothing : merged m.left_older m.left_newer ≡ [] = (λ i. merged (none_old i) (none_new i)) ∙ no_node [] [] refl in
     let all : merged older newer ≡ m.out = m.whole ∙ ap (λ xs. m.out ++ xs) nothing ∙ append-nil m.out in
     let no_nodes : length (nodes_in (m.left_older ++ m.left_newer)) ≡ 0 = (λ i. length (nodes_in (none_old i ++ none_new i))) ∙ none_named in
-    let nodes : length (nodes_in (merged older newer)) ≡ m.steps = ap length (merged_nodes older newer) ∙ omega (arith, m.all_nodes, no_nodes) in
+    let nodes : length (nodes_in (merged older newer)) ≡ m.steps = ap length (merged_len older newer).nodes ∙ omega (arith, m.all_nodes, no_nodes) in
     let bytes : rows_len m.out < 4294967296 = subst (λ xs. rows_len xs < 4294967296) all small in
     let few = few_rows m.out in
     let few_nodes = nodes_few (merged older newer) in
@@ -228,7 +176,7 @@ all_measured eye pass older newer measure most m none_old none_new small =
     let r : measure.rows ≡ length (merged older newer) = omega (arith, m.rows, few, bytes, long) in
     let n : measure.nodes ≡ length (nodes_in (merged older newer)) = omega (arith, m.nodes, nodes, few_nodes, few, bytes, long) in
     let a : measure.area ≡ rows_len (merged older newer) = omega (arith, m.area, bytes, len) in
-    let o : measure.ordered ≡ is_ordered (merged older newer) = sym (and_true measure.ordered) ∙ ap (λ xs. measure.ordered && is_ordered xs) (sym nothing) ∙ m.ordered in
+    let o : measure.ordered ≡ is_ordered (merged older newer) = m.ordered ∙ sym (ap is_ordered all) in
     λ i. record { rows = r i; nodes = n i; area = a i; ordered = o i }
 
 -- what is blamed is told by the parts alone

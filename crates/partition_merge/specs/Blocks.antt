@@ -1,12 +1,14 @@
 -- Merged rows in blocks.
-use Rattle.std.specs.Prelude.{◌≡◌, ℕ, ◌+◌, ◌*◌, ◌<◌, ◌≤◌, Bool, true, false, List, [], ◌++◌}
+use Rattle.std.specs.Prelude.{◌≡◌, ℕ, ◌+◌, ◌*◌, ◌<◌, ◌≤◌, Bool, true, false, List, [], ◌++◌, length}
 use Rattle.std.specs.List.{AllByRecursion}
 use Rattle.log_disk.specs.Disk.{Eye}
 use Rattle.fine_model.specs.declared.Part.{Part}
 use Rattle.fine_model.specs.declared.Row.{Row}
-use Rattle.fine_model.specs.Merge.{is_node_below, merged}
+use Rattle.fine_model.specs.Merge.{is_node_below, merged, cost}
 use Rattle.fine_model.specs.Regions.{body_bytes, index_bytes}
 use Rattle.fine_model.specs.RowBytes.{rows_bytes, rows_len}
+use Rattle.partition_index.specs.Parts.{IsSeen}
+use Rattle.partition_index.specs.Search.{TellsRows}
 use Rattle.partition_merge.specs.declared.merger.Merger.{Merger}
 use Rattle.partition_merge.specs.Mergers.{StandsAt, at_front, both_left, older_part, newer_part}
 
@@ -66,6 +68,14 @@ pub record IsAhead (eye : Eye) (blocks : BlocksValue) (handed : List ℕ) (older
 abbrev pub Gives : Eye → BlocksValue → List ℕ → List Row → List Row → Bool → Type 0
 Gives eye blocks handed older newer true = IsAhead eye blocks (handed ++ blocks.block) older newer
 Gives eye blocks handed older newer false = handed ≡ body_bytes (merged older newer)
+
+-- what was handed out is no longer than the merged rows and an index entry for each of their nodes
+abbrev pub HandedLen : Type 0
+HandedLen = (eye : Eye) (blocks : BlocksValue) (handed : List ℕ) (older newer : List Row) → IsAhead eye blocks handed older newer → length handed ≤ cost (merged older newer)
+
+-- merged rows of two parts that an eye sees and tells have fewer than 2^32 bytes
+abbrev pub MergedSmall : Type 0
+MergedSmall = (eye : Eye) (p q : Part) (older newer : List Row) → IsSeen eye p → IsSeen eye q → TellsRows eye p older → TellsRows eye q newer → rows_len (merged older newer) < 4294967296
 
 -- how many steps are left at most: a node each, and the index
 abbrev pub steps_left : BlocksValue → ℕ

@@ -1,6 +1,6 @@
 -- Where a merger stands, and what it hands out.
-use Rattle.std.specs.Prelude.{◌≡◌, ◌⊎◌, ◌↔◌, ℕ, ◌+◌, ◌-◌, ◌<◌, ◌≤◌, true, List, [], ◌∷◌, ◌++◌, length, min, sum_by, drop, filter, IsTrue, Option, Some, None, option_map}
-use Rattle.std.specs.List.{AllByRecursion, list_all}
+use Rattle.std.specs.Prelude.{◌≡◌, ◌⊎◌, ◌↔◌, ℕ, ◌+◌, ◌-◌, ◌<◌, ◌≤◌, Bool, true, ◌&&◌, List, [], ◌∷◌, ◌++◌, length, min, sum_by, drop, filter, flat_map, IsTrue, Option, Some, None, option_map}
+use Rattle.std.specs.List.{AllByRecursion}
 use Rattle.log_disk.specs.Disk.{Eye}
 use Rattle.fine_model.specs.declared.NodeId.{NodeId}
 use Rattle.fine_model.specs.declared.Part.{Part}
@@ -16,7 +16,7 @@ use Rattle.node_fetch.specs.Fetched.{HoldsRows, HasBadRow, HasBadEntry}
 use Rattle.partition_merge.specs.declared.merger.Measure.{Measure}
 use Rattle.partition_merge.specs.declared.merger.Merger.{Merger}
 use Rattle.partition_merge.specs.declared.merger.Source.{Source}
-use Rattle.partition_merge.specs.Merging.{FitRows, first_node, merged_of}
+use Rattle.partition_merge.specs.Merging.{FitRows, first_node, follows, last_node, merged_of}
 
 -- the rows of the nodes above one
 abbrev pub behind : NodeId → List Row → List Row
@@ -124,15 +124,20 @@ JoinsAll known merger [] = both_left merger ≡ 0
 JoinsAll known merger (rows ∷ later) =
     (next : Merger) × (older_part next ≡ older_part merger) × (newer_part next ≡ newer_part merger) × IsJoinOf known merger next rows × JoinsAll known next later
 
--- A measure is that of what a merger hands out: the rows of all nodes, the nodes, the bytes of the rows, and whether the rows of each node
--- are in order. A number that is above the greatest of 32 bits is told as this one.
+-- each list begins with a higher node than that with which the one before it ends
+abbrev pub are_apart : Option NodeId → List (List Row) → Bool
+are_apart last [] = true
+are_apart last (rows ∷ later) = follows last rows && are_apart (last_node rows) later
+
+-- A measure is that of what a merger hands out: the rows of all nodes, the nodes, the bytes of the rows, and whether all rows together are in
+-- order, with no node in two lists. A number that is above the greatest of 32 bits is told as this one.
 pub record IsMeasureOf (known : Option Image) (merger : Merger) (measure : Measure) : Type 0 where
   pub joins : List (List Row)
   pub all : JoinsAll known merger joins
   pub rows : measure.rows ≡ min (sum_by length joins) 4294967295
   pub nodes : measure.nodes ≡ min (length joins) 4294967295
   pub area : measure.area ≡ min (sum_by rows_len joins) 4294967295
-  pub ordered : measure.ordered ≡ list_all is_ordered joins
+  pub ordered : measure.ordered ≡ (is_ordered (flat_map (λ rows. rows) joins) && are_apart None joins)
 
 -- of some rows, those of the nodes from one on are left
 pub record IsLeft (rows : List Row) (next : ℕ) (left : List Row) : Type 0 where

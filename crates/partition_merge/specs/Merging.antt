@@ -35,6 +35,18 @@ abbrev pub begins_above : Row → List Row → Bool
 begins_above row [] = true
 begins_above row (next ∷ rows) = is_row_below row next
 
+-- the node with which rows end
+abbrev pub last_node : List Row → Option NodeId
+last_node [] = None
+last_node (row ∷ []) = Some row.node
+last_node (row ∷ next ∷ rows) = last_node (next ∷ rows)
+
+-- the first of rows is of a higher node than the last row before them, as far as there are both
+abbrev pub follows : Option NodeId → List Row → Bool
+follows None rows = true
+follows (Some id) [] = true
+follows (Some id) (row ∷ rows) = is_node_below id row.node
+
 -- what the rows of one node are merged into
 unfoldable pub merged_of : NodeId → List Row → List Row
 merged_of id own = merged_into id own (replay (base id) own).1 (image_of (replay (base id) own).0)

@@ -28,7 +28,8 @@ use std::marker::Model;
 use std::mem;
 
 /// The body of two merged parts, block by block: the rows first, and then the index. All memory but that of one node's rows is taken
-/// by `new`.
+/// by `new`. Blocks are used with one eye, from `new` to the last block: what was handed out so far is what this eye tells, and another
+/// one, also of the same regions, is not known to tell the same.
 #[derive(Drop)]
 pub struct Blocks {
     merger: Merger,

@@ -10,13 +10,16 @@ ghost use Rattle.partition_merge.specs.Merging.{FitRows, node_at_head, lower, fi
 
 mod blocks;
 mod fold;
+mod laws;
 mod merger;
+mod order;
 #[cfg(test)]
 mod tests;
 
 pub use blocks::Blocks;
 use fine_model::{Copied, Items, NoMemory, NodeId, Row, Rows};
 use fold::folded;
+pub use laws::blocks_law;
 pub use merger::{Measure, Merger};
 use std::alloc::Global;
 

@@ -12,10 +12,11 @@ ghost use Rattle.partition_index.specs.Parts.{IsSeen, SameEye, CountsFaults};
 ghost use Rattle.partition_index.specs.Index.{AllFrom};
 ghost use Rattle.partition_index.specs.Search.{Searches, TellsRows};
 ghost use Rattle.node_fetch.specs.Fetched.{HasBadRow, HasBadEntry, NoDamage};
-ghost use Rattle.partition_merge.specs.Merging.{FitRows, node_at_head, merged_of};
+ghost use Rattle.partition_merge.specs.Merging.{FitRows, follows, last_node, node_at_head, merged_of};
 ghost use Rattle.partition_merge.specs.Mergers.{behind, node_kept, nodes_left, IsKept, AreKept, SourceAt, StandsAt, Answers, older_part, newer_part, both_left, unread, both_unread, next_len, most_for, BlamesRow, BlamesEntry, TakesRows, IsJoinOf, at_front, start_of, IsMeasureOf, measure_of, IsCounted};
 
 use crate::fold::folded;
+use crate::order::{follows, last_node};
 use crate::{is_ordered, lower, push_all};
 use fine_model::{FetchFault, Items, NoMemory, NodeId, Part, Rows};
 use log_disk::LogEye;
@@ -154,16 +155,19 @@ pub struct Measure {
 }
 
 impl Measure {
-    /// Counts the merged rows of one node. A number that is at its greatest stays there.
-    fn add(&mut self, rows: &Rows)
+    /// Counts the merged rows of one node, which come behind rows that end with the node `last`. A number that is at its greatest stays there.
+    fn add(&mut self, last: &mut Option<NodeId>, rows: &Rows)
         requires { FitRows rows.now }
         ensures rows { self.new.rows ≡ min (self.old.rows + length rows.now) 4294967295 }
         ensures nodes { self.new.nodes ≡ min (self.old.nodes + 1) 4294967295 }
         ensures area { self.new.area ≡ min (self.old.area + rows_len rows.now) 4294967295 }
-        ensures ordered { self.new.ordered ≡ (self.old.ordered && is_ordered rows.now) }
+        ensures ordered { self.new.ordered ≡ (self.old.ordered && (follows last.old rows.now && is_ordered rows.now)) }
+        ensures last { last.new ≡ last_node rows.now }
     {
+        let above = follows(*last, rows.as_slice());
         let ordered = is_ordered(rows.as_slice());
-        self.ordered = self.ordered && ordered;
+        self.ordered = self.ordered && (above && ordered);
+        *last = last_node(rows.as_slice());
         self.nodes = self.nodes.saturating_add(1);
         for row in rows.as_slice() {
             self.rows = self.rows.saturating_add(1);
@@ -261,9 +265,10 @@ impl Merger {
     ///
     /// Where the eye tells its bytes, both parts are in the grammar and have their headers, and the merged rows have fewer than 2^32
     /// bytes, the answer is exact. Whatever was read, it is that of lists of rows, one a node, as `next_node` hands them out from the
-    /// first node on until none is left: the rows and the bytes of all lists, the number of lists, and whether each list is in order,
-    /// where a number above 2^32 - 1 is told as 2^32 - 1. The three numbers are 0 together, and there are no more nodes than rows. In
-    /// the grammar the eye takes at most 28 bytes for each node of each part, and the rows of both. The faults are those of `next_node`.
+    /// first node on until none is left: the rows and the bytes of all lists, the number of lists, and whether the rows of all lists
+    /// together are in order with no node in two lists, where a number above 2^32 - 1 is told as 2^32 - 1. The three numbers are 0
+    /// together, and there are no more nodes than rows, and than the headers of both parts say. In the grammar the eye takes at most 28
+    /// bytes for each node of each part, and the rows of both. The faults are those of `next_node`.
     pub fn measure<E: LogEye>(&mut self, alloc: Global, eye: &mut E) -> Result<Measure, FetchFault>
         requires older { IsSeen (E.LogEye.state eye.old) (older_part self.old) }
         requires newer { IsSeen (E.LogEye.state eye.old) (newer_part self.old) }
@@ -271,6 +276,7 @@ impl Merger {
         ensures stays { self.new ≡ self.old }
         ensures sums { IfOk result (IsMeasureOf (E.LogEye.state eye.old).told (start_of self.old)) }
         ensures counted { IfOk result IsCounted }
+        ensures few { IfOk result (λ measure. measure.nodes ≤ (older_part self.old).header.nodes + (newer_part self.old).header.nodes) }
         ensures same { SameEye (E.LogEye.state eye.old) (E.LogEye.state eye.new) }
         ensures counts { CountsFaults (IsErrOf result fetch_fault.Failed) (E.LogEye.state eye.old) (E.LogEye.state eye.new) }
         ensures bad_row { (region at : ℕ) → IsErrOf result (fetch_fault.BadRow region at) → BlamesRow (E.LogEye.state eye.old).told self.old (record { region = region; at = at }) }
@@ -287,8 +293,9 @@ impl Merger {
             area: 0,
             ordered: true,
         };
+        let mut last = None;
         while let Some(rows) = pass.next_node(alloc, eye)? {
-            measure.add(&rows);
+            measure.add(&mut last, &rows);
         }
         Ok(measure)
     }

@@ -1,4 +1,4 @@
-use Rattle.std.proofs.Common.{◌≡◌, List}
+use Rattle.std.proofs.Common.{◌≡◌, ◌+◌, ◌≤◌, List}
 use Rattle.fine_model.specs.declared.Row.{Row}
 use Rattle.partition_index.specs.Parts.{SameEye}
 use Rattle.partition_index.specs.Search.{TellsRows}
@@ -17,8 +17,9 @@ invariant-loop-rows g l = record {
   region_len : l.pass.region_len ≡ l.self.region_len;
   kept : AreKept (g.E.LogEye.state l.initial.eye).told l.pass;
   amounts : IsCounted l.measure;
-  handed : Handed (g.E.LogEye.state l.initial.eye).told (start_of l.self) l.pass l.measure;
-  counted : (older newer : List Row) → TellsRows (g.E.LogEye.state l.initial.eye) (older_part l.self) older → TellsRows (g.E.LogEye.state l.initial.eye) (newer_part l.self) newer → Measured (g.E.LogEye.state l.eye) l.pass older newer l.measure (most_of (g.E.LogEye.state l.initial.eye) l.self older newer);
+  few : l.measure.nodes + both_left l.pass ≤ (older_part l.self).header.nodes + (newer_part l.self).header.nodes;
+  handed : Handed (g.E.LogEye.state l.initial.eye).told (start_of l.self) l.pass l.last l.measure;
+  counted : (older newer : List Row) → TellsRows (g.E.LogEye.state l.initial.eye) (older_part l.self) older → TellsRows (g.E.LogEye.state l.initial.eye) (newer_part l.self) newer → Measured (g.E.LogEye.state l.eye) l.pass older newer l.last l.measure (most_of (g.E.LogEye.state l.initial.eye) l.self older newer);
 }
 
 abbrev pub decreases-loop-rows : goal.decreases-loop-rows

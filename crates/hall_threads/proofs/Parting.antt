@@ -1,5 +1,5 @@
 -- What a thread says of its day is so in the whole list of turns.
-use Rattle.std.proofs.Common.{◌≡◌, inl, inr, ℕ, ◌≤◌, Bool, true, false, List, [], ◌∷◌, ◌++◌, replicate, All, Option, Some, None, refl, sym, ap, ◌∙◌, subst, ⊎_elim, le_trans, arith}
+use Rattle.std.proofs.Common.{◌≡◌, inl, inr, ℕ, ◌≤◌, Bool, true, false, List, [], ◌∷◌, ◌++◌, replicate, All, Option, Some, None, refl, sym, ap, ◌∙◌, subst, ⊎_elim, le_trans, arith, append_assoc}
 use Rattle.std.specs.Prelude.{MatchOption}
 use Rattle.std.proofs.lemmas.List.Elements.{All-weaker}
 use Rattle.fine_model.specs.declared.Call.{Call}
@@ -19,6 +19,7 @@ use Rattle.hall_threads.specs.declared.threads.Said.{Said}
 use Rattle.hall_threads.specs.Days.{put_call, put_calls, room_state, room_log, view_state}
 use Rattle.hall_threads.specs.Readings.{TellsLeaf}
 use Rattle.hall_threads.specs.Sayings.{Says}
+use Rattle.hall_threads.specs.Turnover.{HasTurn}
 use Rattle.hall_threads.specs.Ends.{Saw, ReadIn, SaidIn}
 use Rattle.hall_threads.proofs.Fresh.{IsFirst}
 
@@ -43,8 +44,21 @@ module _ {Q : Type 0} (hall : HallOf DayRoom DayBucket DayView Q) (all : List (P
     leaf = t.leaf;
   }
 
-  pub said_in : SaidIn all room n value said
+  turn : HasTurn (begun room_state room_log view_state hall).room said.shown n all
+  turn =
+      let h = says.turn in
+      let own : turns p' ≡ (h.before ++ record { seat = n; item = h.turn } ∷ []) ++ h.after = h.is ∙ (λ i. (h.before ++ record { seat = is i; item = h.turn } ∷ []) ++ h.after) in
+      record {
+        before = h.before;
+        turn = h.turn;
+        after = h.after ++ saw.front.0;
+        is = saw.front.1 ∙ (ap (λ l. l ++ saw.front.0) own ∙ append_assoc (h.before ++ record { seat = n; item = h.turn } ∷ []) h.after saw.front.0);
+        did = h.did;
+      }
+
+  pub said_in : SaidIn (begun room_state room_log view_state hall).room all room n value said
   said_in = record {
+    turn = turn;
     did = ap (λ l. put_calls (commits l)) (sym own) ∙ (says.more ∙ ap (λ (l : List (List Call)). l ++ replicate said.done (put_call value ∷ [])) first.none_mine);
     sealed = ⊎_elim
         (λ low. inl (later (last_room (begun room_state room_log view_state hall) p').sealed room.sealed saw.sealed low))

@@ -1,5 +1,5 @@
 -- How a pass goes on through steps that see more.
-use Rattle.std.proofs.Common.{◌≡◌, ◌≤◌, sym, ap, ◌∙◌, subst, le_refl, le_trans, arith}
+use Rattle.std.proofs.Common.{◌≡◌, ◌≤◌, [], ◌++◌, sym, ap, ◌∙◌, subst, append-nil, append_assoc, le_refl, le_trans, arith}
 use lib.ListN.{get_elem?}
 use Rattle.fine_hall.specs.declared.law.Beginning.{Beginning}
 use Rattle.fine_hall.specs.declared.pass.Pass.{Pass}
@@ -27,6 +27,7 @@ idle_still p p' same idle k le = ap (λ l. get_elem? l k) same ∙ idle k le
 module _ (x : Beginning) where
   pub goes_seen : (p p' : Pass DayView) → AreTurns x (turns p') → SeesMore p p' → GoesOn x p p'
   goes_seen p p' lawful s = record {
+    longer = (s.longer.0, s.longer.1);
     sealed = subst (λ l. (last_room x p).sealed ≤ (room_after x.room l).sealed) (sym s.longer.1) (since_law x.room (turns p) s.longer.0 (subst (RoomsGoOn x.room) s.longer.1 lawful.rooms)).sealed;
     published = s.no_earlier;
     own = s.same_own;
@@ -34,10 +35,11 @@ module _ (x : Beginning) where
 
   pub goes_same : (p p' : Pass DayView) → turns p' ≡ turns p → published p' ≡ published p → own_turns p' ≡ own_turns p → GoesOn x p p'
   goes_same p p' same number own = record {
+    longer = ([], same ∙ sym (append-nil (turns p)));
     sealed = subst (λ l. (last_room x p).sealed ≤ (room_after x.room l).sealed) (sym same) (le_refl (last_room x p).sealed);
     published = omega (arith, number);
     own = own;
   }
 
   pub goes_more : (p q r : Pass DayView) → GoesOn x p q → GoesOn x q r → GoesOn x p r
-  goes_more p q r a b = record { sealed = le_trans a.sealed b.sealed; published = le_trans a.published b.published; own = b.own ∙ a.own }
+  goes_more p q r a b = record { longer = (a.longer.0 ++ b.longer.0, b.longer.1 ∙ (ap (λ l. l ++ b.longer.0) a.longer.1 ∙ append_assoc (turns p) a.longer.0 b.longer.0)); sealed = le_trans a.sealed b.sealed; published = le_trans a.published b.published; own = b.own ∙ a.own }

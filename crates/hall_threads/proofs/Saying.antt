@@ -19,7 +19,7 @@ use Rattle.hall_threads.specs.declared.things.DayView.{DayView}
 use Rattle.hall_threads.specs.declared.things.Sight.{Sight}
 use Rattle.hall_threads.specs.Days.{view_state}
 use Rattle.hall_threads.specs.Readings.{GoesOn, TellsLeaf}
-use Rattle.hall_threads.specs.Turnover.{IsShown, HasNoneToSeal, TurnsOver, SealsAll}
+use Rattle.hall_threads.specs.Turnover.{IsShown, SealsOne, HasNoneToSeal, HasTurn, TurnsOver, SealsAll}
 use Rattle.hall_threads.specs.Sayings.{failures}
 
 -- ---- the own part of a history
@@ -84,6 +84,21 @@ module _ (x : Beginning) where
         λ e. (let some = (o.0 e).0 in omega (arith, some, up), later (published q) (published r) up (o.0 e).1),
         ⊎_elim (λ all. inl (later (last_room x q).sealed (last_room x r).sealed sealed all)) (λ full. inr (omega (arith, full, sealed))) o.1,
       )
+
+  did_turn : (b : Bool) (old new : RoomState) (n : ℕ) → MatchBool b (IsShown old new n) ((new ≡ old) × HasNoneToSeal old) → MatchBool b (SealsOne old new) ((new ≡ old) × HasNoneToSeal old)
+  did_turn true old new n s = record { some_waited = s.some_waited; sealed = s.sealed; none_waits = s.none_waits }
+  did_turn false old new n s = s
+
+  pub had_turn : (shown : Bool) (p q r : Pass DayView) → TurnsOver x shown p q → r.number ≡ p.number → GoesOn x q r → HasTurn x.room shown r.number (turns r)
+  had_turn shown p q r t number on =
+      let own : turns q ≡ (turns p ++ t.others) ++ record { seat = r.number; item = t.turn } ∷ [] = t.is_last ∙ (λ i. (turns p ++ t.others) ++ record { seat = sym number i; item = t.turn } ∷ []) in
+      record {
+        before = turns p ++ t.others;
+        turn = t.turn;
+        after = on.longer.0;
+        is = on.longer.1 ∙ ap (λ l. l ++ on.longer.0) own;
+        did = did_turn shown (room_after x.room (turns p ++ t.others)) t.turn.room (published q) t.did;
+      }
 
 -- ---- reads that failed
 

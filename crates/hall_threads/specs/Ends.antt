@@ -14,7 +14,8 @@ use Rattle.fine_places.specs.History.{by_seat}
 use Rattle.fine_boxes.specs.declared.model.Mark.{Mark}
 use Rattle.fine_hall.specs.declared.turn.Turn.{Turn}
 use Rattle.fine_hall.specs.declared.pass.Pass.{Pass}
-use Rattle.fine_hall.specs.Turns.{commits}
+use Rattle.fine_model.specs.declared.law.RoomState.{RoomState}
+use Rattle.fine_hall.specs.Turns.{commits, RoomsGoOn}
 use Rattle.fine_hall.specs.declared.law.Beginning.{Beginning}
 use Rattle.fine_hall.specs.Halls.{AreAllOnBoard}
 use Rattle.fine_hall.specs.Passes.{turns, own_turns, marks, last_room, troubles}
@@ -22,6 +23,7 @@ use Rattle.hall_threads.specs.declared.things.DayRoom.{DayRoom}
 use Rattle.hall_threads.specs.declared.things.DayView.{DayView}
 use Rattle.hall_threads.specs.declared.things.Sight.{Sight}
 use Rattle.hall_threads.specs.declared.threads.Said.{Said}
+use Rattle.hall_threads.specs.Turnover.{HasTurn}
 use Rattle.hall_threads.specs.Days.{key_bucket, leaf_at, leaf_id, put_call, put_calls, room_state, view_state}
 
 -- All turns, each of one of so many seats, make a legal history of the epochs behind 0; the room keeps their entries in this order, and
@@ -54,6 +56,7 @@ pub record Ends (x : Beginning) (one two : Pass DayView) (room : DayRoom) (views
   pub whole : IsWhole 2 all room
   pub own_first : own_turns one ≡ by_seat 1 all
   pub own_second : own_turns two ≡ by_seat 2 all
+  pub goes : RoomsGoOn x.room all
   pub saw_first : Saw x all room one
   pub saw_second : Saw x all room two
   pub counts : Counts (x.room.faults + (troubles view_state x one + troubles view_state x two)) room views
@@ -74,18 +77,21 @@ pub record ReadIn (all : List (Placed Turn)) (seat : ℕ) (shown : Bool) (sight 
   pub reaches : shown ≡ true → All (λ c. c.epoch ≤ epoch) (commits (by_seat seat all))
   pub leaf : sight.version ≤ greatest → (content (all_rows (upto (commits front) epoch)) leaf_id).0 ≢ node.Broken → content (all_rows (upto (commits front) epoch)) leaf_id ≡ leaf_at sight.version sight.value
 
--- The transactions of a seat are those that its thread said, and are sealed, unless the sealed epoch is the greatest. What it read last is the leaf; or this
+-- The transactions of a seat are those that its thread said, it had a turn that showed or not, as it said, and they are sealed, unless the sealed epoch is the greatest. What it read last is the leaf; or this
 -- read failed, which only the seat 2 has, and its own turn showed nothing.
-pub record SaidIn (all : List (Placed Turn)) (room : DayRoom) (seat value : ℕ) (said : Said) : Type 0 where
+pub record SaidIn (began : RoomState) (all : List (Placed Turn)) (room : DayRoom) (seat value : ℕ) (said : Said) : Type 0 where
   pub did : put_calls (commits (by_seat seat all)) ≡ replicate said.done (put_call value ∷ [])
+  pub turn : HasTurn began said.shown seat all
   pub sealed : All (λ c. c.epoch ≤ room.sealed) (commits (by_seat seat all)) ⊎ (greatest ≤ room.sealed)
   pub none_failed : seat ≢ 2 → said.failed ≡ 0
   pub last : MatchOption said.last ((seat ≡ 2) × (said.shown ≡ false) × (1 ≤ said.failed)) (ReadIn all seat said.shown)
 
--- There is one list of turns, of which each thread said its part. The faults that the second said are all that were counted.
+-- There is one list of turns, from a room on, of which each thread said its part. The faults that the second said are all that were counted.
 pub record IsDay (first second : ℕ) (a b : Said) (room : DayRoom) (views : List DayView) : Type 0 where
   pub all : List (Placed Turn)
   pub whole : IsWhole 2 all room
-  pub said_first : SaidIn all room 1 first a
-  pub said_second : SaidIn all room 2 second b
+  pub began : RoomState
+  pub goes : RoomsGoOn began all
+  pub said_first : SaidIn began all room 1 first a
+  pub said_second : SaidIn began all room 2 second b
   pub counts : Counts b.failed room views

@@ -98,3 +98,17 @@ pub record TurnsOver (x : Beginning) (shown : Bool) (p p' : Pass DayView) : Type
 -- where none waits in the room as the pass saw it last, all that it saw is sealed
 abbrev pub SealsAll : Beginning → Pass DayView → Type 0
 SealsAll x p = (last_room x p).waiting ≡ 0 → All (λ c. c.epoch ≤ (last_room x p).sealed) (seen p)
+
+-- one epoch more was sealed, in which some entry waited
+pub record SealsOne (old new : RoomState) : Type 0 where
+  pub some_waited : 0 < old.waiting
+  pub sealed : new.sealed ≡ old.sealed + 1
+  pub none_waits : new.waiting ≡ 0
+
+-- Among these turns is one of the seat in which what waited was sealed; or there was none to seal, and the room is as it was.
+pub record HasTurn (began : RoomState) (shown : Bool) (seat : ℕ) (all : List (Placed Turn)) : Type 0 where
+  pub before : List (Placed Turn)
+  pub turn : Turn
+  pub after : List (Placed Turn)
+  pub is : all ≡ (before ++ record { seat = seat; item = turn } ∷ []) ++ after
+  pub did : MatchBool shown (SealsOne (room_after began before) turn.room) ((turn.room ≡ room_after began before) × HasNoneToSeal (room_after began before))

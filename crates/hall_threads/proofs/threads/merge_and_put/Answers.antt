@@ -11,6 +11,7 @@ returns-clause-says g c =
       met = says.met ∙ ap (λ n. n + said.failed) c.merge.ensures.met;
       none_failed = says.none_failed;
       told = says.told;
+      turn = says.turn;
       shown = says.shown;
       sealed = says.sealed;
     }

@@ -3,7 +3,7 @@ use Rattle.std.proofs.Common.{◌+◌, ◌++◌, ◌∷◌, [], replicate, ap, �
 use Rattle.fine_hall.specs.Halls.{begun}
 use Rattle.hall_threads.specs.Days.{put_call, put_calls, room_state, room_log, view_state}
 use Rattle.hall_threads.proofs.Rounds.{goes_more}
-use Rattle.hall_threads.proofs.Saying.{after_turn, none_failed, last_told}
+use Rattle.hall_threads.proofs.Saying.{after_turn, had_turn, none_failed, last_told}
 use Rattle.hall_threads.proofs.threads.put_as.Goals as goal
 
 pub returns-clause-says : goal.returns-clause-says
@@ -28,7 +28,8 @@ returns-clause-says g c =
     let f₁ = c.failures.ensures in
     let f₂ = c.failures-2.ensures in
     let told = c.glance-last.ensures.told in
-    let after = after_turn x _ c.turn_over-shown.result p₂ p₃ r c.turn_over-shown.ensures.pass.0.0 c.turn_over-shown.ensures.turned c.turn_over-shown.ensures.sealed (goes_more x p₃ p₄ r c.evict-evicted.ensures.goes_on c.glance-last.ensures.goes_on) in
+    let goes = goes_more x p₃ p₄ r c.evict-evicted.ensures.goes_on c.glance-last.ensures.goes_on in
+    let after = after_turn x _ c.turn_over-shown.result p₂ p₃ r c.turn_over-shown.ensures.pass.0.0 c.turn_over-shown.ensures.turned c.turn_over-shown.ensures.sealed goes in
     record {
       more = ap put_calls (c.glance-last.ensures.same ∙ (c.evict-evicted.ensures.same ∙ c.turn_over-shown.ensures.same))
           ∙ (c.put_times-done.ensures.more ∙ ap (λ h. put_calls h ++ replicate c.put_times-done.result (put_call c.args.value ∷ [])) c.glance-first.ensures.same);
@@ -38,6 +39,7 @@ returns-clause-says g c =
           let b = none_failed c.glance-last.result p₄ _ _ (λ e. ne (n₅ ∙ e)) told in
           omega (arith, a, b, f₁, f₂);
       told = last_told c.glance-last.result p₄ r _ c.failures.result n₅ (ap (λ n. c.failures.result + n) f₂) told;
+      turn = had_turn x c.turn_over-shown.result p₂ p₃ r c.turn_over-shown.ensures.turned (n₅ ∙ (n₄ ∙ n₃)) goes;
       shown = after.0;
       sealed = after.1;
     }

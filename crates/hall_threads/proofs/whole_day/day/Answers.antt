@@ -1,7 +1,8 @@
 -- The passes go to the threads and come back, and what they did is one history.
 use Rattle.std.proofs.Common.{List, ◌∷◌, [], subst, arith, ◌∙◌}
 use Rattle.hall_threads.specs.declared.things.DayView.{DayView}
-use Rattle.hall_threads.specs.Days.{view_of_log}
+use Rattle.fine_hall.specs.Halls.{begun}
+use Rattle.hall_threads.specs.Days.{view_of_log, room_state, room_log, view_state}
 use Rattle.hall_threads.specs.Ends.{Counts}
 use Rattle.hall_threads.proofs.Fresh.{of_one, of_other}
 use Rattle.hall_threads.proofs.Parting.{said_in}
@@ -51,6 +52,8 @@ returns g c =
     record {
       all = e.all;
       whole = e.whole;
+      began = (begun room_state room_log view_state hall).room;
+      goes = e.goes;
       said_first = said_in hall e.all c.in_ok-room.room 1 c.args.first c.in-Some.one c.both-one.result.0.0 c.both-one.result.0.1 first.0.0 number one first.2 e.own_first e.saw_first;
       said_second = said_in hall e.all c.in_ok-room.room 2 c.args.second c.in-Some-pop.two c.both-one.result.1.0 c.both-one.result.1.1 second.0.0 (second.1 ∙ other.numbered) other second.2 e.own_second e.saw_second;
       counts = subst (λ n. Counts n c.in_ok-room.room c.in_ok-room.views.items) (omega (arith, met_a, met_b, none_a, none_b, base, failed)) e.counts;

@@ -39,6 +39,7 @@ returns c =
       whole = whole_of x c.in-Ok-pair.passes.items c.close-room.ensures.closes.0 c.close-room.result refl c.requires.sealed c.requires.seats e;
       own_first = e.parts 0 c.args.one at_one ∙ ap (λ n. by_seat n e.all) c.requires.one.1;
       own_second = e.parts 1 c.args.two at_two ∙ ap (λ n. by_seat n e.all) c.requires.two.1;
+      goes = e.lawful.rooms;
       saw_first = record { front = e.saw 0 c.args.one at_one; sealed = saw_sealed x c.args.one _ e.all e.lawful e.stood (e.saw 0 c.args.one at_one); marks = e.marks 0 c.args.one at_one };
       saw_second = record { front = e.saw 1 c.args.two at_two; sealed = saw_sealed x c.args.two _ e.all e.lawful e.stood (e.saw 1 c.args.two at_two); marks = e.marks 1 c.args.two at_two };
       counts = subst (Counts (x.room.faults + (troubles view_state x c.args.one + troubles view_state x c.args.two)) c.close-room.result) (sym came)

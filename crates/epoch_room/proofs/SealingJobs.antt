@@ -197,7 +197,7 @@ module _ (old entry : Disk) (kept : Kept) (whole : IsWhole (value_of old entry k
     read_is image differs (inl torn) = inl (alike_closed image (record { differs = differs; closed = (torn_closed job.target torn.was image (shut torn.was torn.is_was) torn.differs).closed }))
       where
         shut : (was : Image) → IsImageNow a was → is_sealed (region_of was job.target) ≡ false
-        shut was now = not-true (first_of_both _ _ (lead_free was now)).0
+        shut was now = not-true _ (first_of_both _ _ (lead_free was now)).0
     read_is image differs (inr at) = at_gate_is image at
 
     over_shows : (image : Image) → IsOver old.region_len job header a.bytes image → (first : List Row) (history : List Commit) (low high : ℕ) → ShowsSome old.region_len first history low high a.bytes → ShowsSome old.region_len first history low high image

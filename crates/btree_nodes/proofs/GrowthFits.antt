@@ -87,11 +87,6 @@ node_fits b n = subst (λ (c : Content). FitsNode c.0) (sym (given_of b n)) (by 
     by None = tt
     by (Some kept) = kept.fits
 
-all_drop : {A : Type 0} (P : A → Type 0) (n : ℕ) (xs : List A) → AllByRecursion P xs → AllByRecursion P (drop n xs)
-all_drop P zero xs all = all
-all_drop P (suc n) [] all = tt
-all_drop P (suc n) (x ∷ xs) all = all_drop P n xs all.1
-
 item_fits : {A : Type 0} (P : A → Type 0) (n : ℕ) (xs : List A) (p : Parted n xs) → AllByRecursion P xs → P p.item
 item_fits P n xs p all = (all_right P p.front (p.item ∷ p.back) (subst (AllByRecursion P) p.is all)).0
 

@@ -3,6 +3,7 @@ use Rattle.std.proofs.Common.{◌≡◌, ℕ, zero, suc, ◌<◌, ◌≤◌, Boo
 use Rattle.std.specs.Prelude.{filter}
 use Rattle.std.specs.List.{AllByRecursion}
 use Rattle.std.specs.List.Sorted.{IsPartitionedBy, IsPartitionPoint}
+use Rattle.std.proofs.lemmas.Bool.{not-true}
 use Rattle.std.proofs.lemmas.List.Elements.{All-from_recursion}
 use Rattle.fine_model.specs.Map.{is_below}
 use Rattle.fine_model.proofs.Order.{is_below-trans}
@@ -11,10 +12,6 @@ use Rattle.fine_model.proofs.InOrder.{AreUp}
 -- a separator that the key is not below
 abbrev pub is_left : List ℕ → List ℕ → Bool
 is_left key sep = not (is_below key sep)
-
-not_true : (b : Bool) → not b ≡ true → b ≡ false
-not_true true h = absurd (true≢false (sym h))
-not_true false h = refl
 
 -- so many items pass as stand before the place from which on none does
 pub point_filter : {A : Type 0} (p : A → Bool) (xs : List A) (i : ℕ) → i ≤ length xs → IsPartitionPoint (λ x. p x ≡ true) (λ x. p x ≡ false) xs i → length (filter p xs) ≡ i
@@ -34,7 +31,7 @@ left_first key xs up i j d le lt left = by xs i j up le lt left
     one x xs j above lt left = of (is_below key x) refl
       where
         of : (b : Bool) → is_below key x ≡ b → not b ≡ true
-        of true e = absurd (true≢false (sym (is_below-trans key x (get_or xs j d) e (All-from_recursion (λ y. is_below x y ≡ true) xs above j d lt)) ∙ not_true (is_below key (get_or xs j d)) left))
+        of true e = absurd (true≢false (sym (is_below-trans key x (get_or xs j d) e (All-from_recursion (λ y. is_below x y ≡ true) xs above j d lt)) ∙ not-true (is_below key (get_or xs j d)) left))
         of false e = refl
 
     by : (xs : List (List ℕ)) (i j : ℕ) → AreUp (λ k. k) xs → i ≤ j → j < length xs → is_left key (get_or xs j d) ≡ true → is_left key (get_or xs i d) ≡ true

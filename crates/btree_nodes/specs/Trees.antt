@@ -11,7 +11,7 @@ use Rattle.fine_model.specs.Map.{Pair, between}
 use Rattle.fine_model.specs.Nodes.{Content, rows_of}
 use Rattle.fine_model.specs.Paths.{place_among, kid_at, seps_of, meets, unfit_under}
 use Rattle.fine_model.specs.Pushed.{leaf_for, pairs_beside}
-use Rattle.fine_model.specs.RowBytes.{greatest, FitsRow}
+use Rattle.fine_model.specs.RowBytes.{greatest, FitsRow, buckets, greatest_depth, node_numbers}
 use Rattle.fine_model.specs.Trees.{Bounds, whole, kids_of, pairs_of, nodes_of}
 use Rattle.node_cache.specs.Cache.{Cache, cached, before}
 use Rattle.node_cache.specs.Given.{given, IsCached}
@@ -125,19 +125,19 @@ pairs_in b key = pairs_beside (given b) key (given b 0).0
 
 -- what a head says, where its root is below next; nothing is said of any other node
 abbrev pub HeadIs : Node → Option (ℕ × ℕ × ℕ) → Type 0
-HeadIs (node.Head root next depth) (Some h) = (h ≡ (root, next, depth)) × (root < next) × (1 ≤ depth) × (depth ≤ 8) × (next ≤ 1048576)
+HeadIs (node.Head root next depth) (Some h) = (h ≡ (root, next, depth)) × (root < next) × (1 ≤ depth) × (depth ≤ greatest_depth) × (next ≤ node_numbers)
 HeadIs (node.Head root next depth) None = next ≤ root
 HeadIs _ (Some h) = ⊥
 HeadIs _ None = Unit {0}
 
 -- a way from the head down to the leaf in which a key belongs, with all nodes on it fit
 pub record IsPath (b : Cache) (key : List ℕ) (path : Path) : Type 0 where
-  pub bucket : b.bucket < 256
+  pub bucket : b.bucket < buckets
   pub here : IsCached b 0
   pub head : (given b 0).0 ≡ node.Head path.root path.next path.depth
   pub below : path.root < path.next
-  pub deep : (1 ≤ path.depth) × (path.depth ≤ 8)
-  pub small : path.next ≤ 1048576
+  pub deep : (1 ≤ path.depth) × (path.depth ≤ greatest_depth)
+  pub small : path.next ≤ node_numbers
   pub fit : unfit_in b key ≡ None
   pub leaf : path.leaf ≡ leaf_for (path.depth - 1) (given b) key path.root
   pub there : IsCached b path.leaf

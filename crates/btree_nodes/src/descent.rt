@@ -7,7 +7,7 @@ ghost use Rattle.fine_model.specs.declared.Node.TheVariants as node;
 ghost use Rattle.fine_model.specs.Map.{is_below, is_ascending};
 ghost use Rattle.fine_model.specs.Paths.{is_inner, place_among};
 ghost use Rattle.fine_model.specs.Trees.{is_leaf, is_from, is_above, is_up_to, is_key_within, are_separators, bucket_of};
-ghost use Rattle.fine_model.specs.RowBytes.{FitsKey, FitsPair};
+ghost use Rattle.fine_model.specs.RowBytes.{FitsKey, FitsPair, buckets, node_numbers};
 ghost use Rattle.node_record.specs.Bounds.{FitsNode};
 ghost use Rattle.node_cache.specs.Given.{given, IsCached, IsLoaded};
 ghost use Rattle.btree_nodes.specs.Faults.{OnFault};
@@ -219,8 +219,8 @@ pub fn reach<S: NodeSource>(
     bucket: &mut Bucket,
     number: u32,
 ) -> Result<(), TreeFault>
-    requires bucket { bucket.old.bucket < 256 }
-    requires number { number < 1048576 }
+    requires bucket { bucket.old.bucket < buckets }
+    requires number { number < node_numbers }
     ensures later { S.later source.old source.new }
     ensures clean { OnCleanAnswer result (S.clean source.old source.new) }
     ensures loaded { IsLoaded (S.tells source.old) (S.finds source.old) (S.upper source.old) bucket.old bucket.new }
@@ -265,8 +265,8 @@ pub fn descend<S: NodeSource>(
     number: u32,
     height: u8,
 ) -> Result<u32, TreeFault>
-    requires bucket { bucket.old.bucket < 256 }
-    requires next { next ≤ 1048576 }
+    requires bucket { bucket.old.bucket < buckets }
+    requires next { next ≤ node_numbers }
     requires number { number < next }
     requires low { AreKept bucket.old low }
     requires high { AreKept bucket.old high }

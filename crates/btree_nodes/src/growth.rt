@@ -3,7 +3,7 @@
 ghost use Rattle.std.specs.Prelude.{◌≡◌, ℕ, ◌+◌, ◌<◌, ◌≤◌, ◌||◌, nat_lt, true, false, length, drop, slice_get, unwrap_or, [], ◌∷◌, ◌++◌, List, IfOk, IfSome, OnOk, MatchOption};
 ghost use Rattle.fine_model.specs.Map.{has};
 ghost use Rattle.fine_model.specs.Pushed.{row_of, key_at, child_for, split_leaf, split_inner, grown_leaf, grown_inner, growth};
-ghost use Rattle.fine_model.specs.RowBytes.{greatest};
+ghost use Rattle.fine_model.specs.RowBytes.{greatest, most_in_node};
 ghost use Rattle.fine_model.specs.Trees.{pairs_of};
 ghost use Rattle.fine_model.specs.declared.Node.TheVariants as node;
 ghost use Rattle.fine_model.specs.declared.Rec.TheVariants as rec;
@@ -61,7 +61,7 @@ pub fn version_of(bucket: &Bucket, number: u32) -> u64
 /// The pairs of a cached leaf in which a key has no room: it is absent, and there are 32 others.
 #[tactic(auto, unfolding(node_cache::specs::Given::given, fine_model::specs::Map::get))]
 fn full_leaf<'a>(bucket: &'a Bucket, number: u32, key: &[u8]) -> Option<&'a Pairs>
-    ensures full { MatchOption result ((has (pairs_of (given bucket.now number).0) key.now || nat_lt (length (pairs_of (given bucket.now number).0)) 32) ≡ true) (λ pairs. (pairs.now ≡ pairs_of (given bucket.now number).0) × ((has pairs.now key.now || nat_lt (length pairs.now) 32) ≡ false)) }
+    ensures full { MatchOption result ((has (pairs_of (given bucket.now number).0) key.now || nat_lt (length (pairs_of (given bucket.now number).0)) most_in_node) ≡ true) (λ pairs. (pairs.now ≡ pairs_of (given bucket.now number).0) × ((has pairs.now key.now || nat_lt (length pairs.now) most_in_node) ≡ false)) }
 {
     match &bucket.peek(number)?.node {
         Node::Leaf { pairs } if value_of(pairs, key).is_none() && pairs.len() >= MOST_IN_NODE =>

@@ -6,7 +6,7 @@ ghost use Rattle.fine_model.specs.declared.Call.TheVariants as call;
 ghost use Rattle.fine_model.specs.declared.Row.{Row as ModelRow};
 ghost use Rattle.fine_model.specs.declared.Rec.TheVariants as rec;
 ghost use Rattle.fine_model.specs.Pushed.{with_head, within_limits};
-ghost use Rattle.fine_model.specs.RowBytes.{FitsKey, FitsValue, greatest};
+ghost use Rattle.fine_model.specs.RowBytes.{FitsKey, FitsValue, greatest, greatest_depth};
 ghost use Rattle.fine_model.specs.Trees.{bucket_of, IsSound};
 ghost use Rattle.node_cache.specs.Given.{given};
 ghost use Rattle.btree_nodes.specs.Trees.{Serves, Holds, IsPath, first_over};
@@ -54,7 +54,7 @@ fn with_head(
 ) -> Result<Push, NoMemory>
     requires version { version ≤ greatest }
     requires next { below.next ≤ 1048600 }
-    requires depth { path.depth ≤ 8 }
+    requires depth { path.depth ≤ greatest_depth }
     ensures { IfOk result (λ push. pushed_of push ≡ with_head bucket version path.root path.next path.depth below.rows below.next below.split) }
 {
     let Growth { rows, next, split } = below;

@@ -1,10 +1,11 @@
 //! The pairs of a range of keys in a tree, from left to right.
 
-ghost use Rattle.std.specs.Prelude.{◌≡◌, ◌≢◌, ℕ, ◌-◌, ◌<◌, ◌≤◌, ◌++◌, List, length, take, None, OnOk, OnErr, IfOk, IfErr, IfSome, MatchOption, option_copied, slice_get, true, not, ◌&&◌};
+ghost use Rattle.std.specs.Prelude.{◌≡◌, ◌≢◌, ℕ, ◌+◌, ◌-◌, ◌<◌, ◌≤◌, ◌++◌, List, length, take, None, OnOk, OnErr, IfOk, IfErr, IfSome, MatchOption, option_copied, slice_get, true, not, ◌&&◌};
 ghost use Rattle.fine_model.specs.declared.Row.{Row as ModelRow};
 ghost use Rattle.fine_model.specs.Map.{is_below, between};
 ghost use Rattle.fine_model.specs.Paths.{meets, is_inner, seps_of};
 ghost use Rattle.fine_model.specs.Trees.{kids_of, pairs_of, tree_map, IsSound};
+ghost use Rattle.fine_model.specs.RowBytes.{buckets, node_numbers, most_in_node};
 ghost use Rattle.node_cache.specs.Given.{given, IsCached, IsLoaded};
 ghost use Rattle.btree_nodes.specs.Descent.{bounds_by, low_of, high_of, AreKept};
 ghost use Rattle.btree_nodes.specs.Scans.{IsLonger, IsTaken, IsChildAt, ScansFrom, ScansKids, visited_of};
@@ -130,7 +131,7 @@ fn child_at(bucket: &Bucket, at: Step, place: usize) -> Option<Step>
     requires high { AreKept bucket.now at.high }
     ensures child { MatchOption result (slice_get (kids_of (given bucket.now at.number).0) place ≡ None) (λ child. IsChildAt (given bucket.now) at place child) }
     ensures kept { IfSome result (λ child. AreKept bucket.now child.low × AreKept bucket.now child.high) }
-    ensures place { IfSome result (λ _. place ≤ 32) }
+    ensures place { IfSome result (λ _. place ≤ most_in_node) }
 {
     let Node::Inner { seps, kids } = &bucket.peek(at.number)?.node else {
         return None;
@@ -168,8 +169,8 @@ fn scan_from<S: NodeSource>(
     wanted: u32,
     out: &mut Pairs,
 ) -> Result<u32, TreeFault>
-    requires bucket { bucket.old.bucket < 256 }
-    requires next { next ≤ 1048576 }
+    requires bucket { bucket.old.bucket < buckets }
+    requires next { next ≤ node_numbers }
     requires number { at.number < next }
     requires low { AreKept bucket.old at.low }
     requires high { AreKept bucket.old at.high }
@@ -211,10 +212,10 @@ fn scan_kids<S: NodeSource>(
     wanted: u32,
     out: &mut Pairs,
 ) -> Result<u32, TreeFault>
-    requires bucket { bucket.old.bucket < 256 }
-    requires next { next ≤ 1048576 }
+    requires bucket { bucket.old.bucket < buckets }
+    requires next { next ≤ node_numbers }
     requires height { 0 < height }
-    requires place { place ≤ 33 }
+    requires place { place ≤ most_in_node + 1 }
     requires there { IsCached bucket.old at.number }
     requires low { AreKept bucket.old at.low }
     requires high { AreKept bucket.old at.high }
@@ -281,7 +282,7 @@ fn scan_from_head<S: NodeSource>(
     limit: u32,
     out: &mut Pairs,
 ) -> Result<(), TreeFault>
-    requires bucket { bucket.old.bucket < 256 }
+    requires bucket { bucket.old.bucket < buckets }
     ensures later { S.later source.old source.new }
     ensures clean { OnCleanAnswer result (S.clean source.old source.new) }
     ensures loaded { IsLoaded (S.tells source.old) (S.finds source.old) (S.upper source.old) bucket.old bucket.new }
@@ -320,7 +321,7 @@ fn scan_tree<S: NodeSource>(
     limit: u32,
     out: &mut Pairs,
 ) -> Result<(), TreeFault>
-    requires bucket { bucket.old.bucket < 256 }
+    requires bucket { bucket.old.bucket < buckets }
     ensures later { S.later source.old source.new }
     ensures clean { OnCleanAnswer result (S.clean source.old source.new) }
     ensures loaded { IsLoaded (S.tells source.old) (S.finds source.old) (S.upper source.old) bucket.old bucket.new }
@@ -353,7 +354,7 @@ pub fn scan<S: NodeSource>(
     limit: u32,
     out: &mut Pairs,
 ) -> Result<(), TreeFault>
-    requires bucket { bucket.old.bucket < 256 }
+    requires bucket { bucket.old.bucket < buckets }
     ensures later { S.later source.old source.new }
     ensures clean { OnCleanAnswer result (S.clean source.old source.new) }
     ensures loaded { IsLoaded (S.tells source.old) (S.finds source.old) (S.upper source.old) bucket.old bucket.new }

@@ -3,7 +3,7 @@
 ghost use Rattle.std.specs.Prelude.{◌≡◌, ℕ, ◌<◌, ◌≤◌, ◌++◌, List, Option, Some, None, option_copied, OnOk, IfSome, IfOk};
 ghost use Rattle.fine_model.specs.declared.Row.{Row as ModelRow};
 ghost use Rattle.fine_model.specs.Map.{get};
-ghost use Rattle.fine_model.specs.RowBytes.{FitsKey};
+ghost use Rattle.fine_model.specs.RowBytes.{FitsKey, buckets};
 ghost use Rattle.fine_model.specs.Trees.{bucket_of, pairs_of, map_of, IsSound};
 ghost use Rattle.node_record.specs.Bounds.{FitsNode};
 ghost use Rattle.node_cache.specs.Given.{given, IsCached, IsLoaded};
@@ -42,7 +42,7 @@ pub fn find_leaf<S: NodeSource>(
     bucket: &mut Bucket,
     key: &[u8],
 ) -> Result<Path, TreeFault>
-    requires bucket { bucket.old.bucket < 256 }
+    requires bucket { bucket.old.bucket < buckets }
     ensures later { S.later source.old source.new }
     ensures clean { OnCleanAnswer result (S.clean source.old source.new) }
     ensures loaded { IsLoaded (S.tells source.old) (S.finds source.old) (S.upper source.old) bucket.old bucket.new }
@@ -73,7 +73,7 @@ fn look_up<S: NodeSource>(
     bucket: &mut Bucket,
     key: &[u8],
 ) -> Result<Option<Bytes>, TreeFault>
-    requires bucket { bucket.old.bucket < 256 }
+    requires bucket { bucket.old.bucket < buckets }
     ensures later { S.later source.old source.new }
     ensures clean { OnCleanAnswer result (S.clean source.old source.new) }
     ensures loaded { IsLoaded (S.tells source.old) (S.finds source.old) (S.upper source.old) bucket.old bucket.new }

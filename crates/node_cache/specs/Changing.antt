@@ -10,6 +10,7 @@ use Rattle.fine_model.specs.declared.Node.TheVariants as node
 use Rattle.fine_model.specs.declared.Rec.{Rec}
 use Rattle.fine_model.specs.declared.Rec.TheVariants as rec
 use Rattle.fine_model.specs.declared.Row.{Row}
+use Rattle.fine_model.specs.RowBytes.{most_in_node}
 use Rattle.node_cache.specs.declared.cached.Cached.{Cached}
 use Rattle.node_cache.specs.declared.original.Original.{Original}
 use Rattle.node_cache.specs.declared.undo.Step.{Step}
@@ -20,7 +21,7 @@ use Rattle.node_cache.specs.Originals.{noted}
 
 -- a leaf has the key that is set or removed, or has room for the one that is set
 abbrev pub changes_leaf : List Pair → Rec → Bool
-changes_leaf pairs (rec.Put key value) = has pairs key || nat_lt (length pairs) 32
+changes_leaf pairs (rec.Put key value) = has pairs key || nat_lt (length pairs) most_in_node
 changes_leaf pairs (rec.Del key) = has pairs key
 changes_leaf pairs _ = false
 

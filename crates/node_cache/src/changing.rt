@@ -4,7 +4,7 @@ ghost use Rattle.std.specs.Prelude.{◌≡◌, ◌≤◌, IsTrue, IfOk, OnErr, i
 ghost use Rattle.std.specs.Map.{lookup};
 ghost use Rattle.indexmap.specs.IndexMap.{IsUnique};
 ghost use Rattle.fine_model.specs.Map.{is_ascending};
-ghost use Rattle.fine_model.specs.RowBytes.{FitsRec, greatest};
+ghost use Rattle.fine_model.specs.RowBytes.{FitsRec, greatest, most_in_node};
 ghost use Rattle.node_cache.specs.Undo.{TakesBack};
 ghost use Rattle.node_cache.specs.Changing.{changes_pair, changes_leaf, changed_pairs, StepsBack, IsNoted, ChangesPair};
 
@@ -19,11 +19,11 @@ use std::snapshot::Snapshot;
 
 /// Sets or removes a pair of a leaf. Answers what takes this back, or none where nothing is changed.
 fn change_leaf(alloc: Global, pairs: &mut Pairs, change: &Rec) -> Result<Option<Step>, NoMemory>
-    requires few { length pairs.old ≤ 32 }
+    requires few { length pairs.old ≤ most_in_node }
     requires order { IsTrue (is_ascending (map (λ p. p.0) pairs.old)) }
     ensures done { IfOk result (λ step. is_some step ≡ changes_leaf pairs.old change.now) }
     ensures step { IfOk result (λ step. TakesBack step pairs.old pairs.new (changed_pairs pairs.old change.now)) }
-    ensures few { length pairs.new ≤ 32 }
+    ensures few { length pairs.new ≤ most_in_node }
     ensures err { OnErr result (pairs.new ≡ pairs.old) }
 {
     match change {

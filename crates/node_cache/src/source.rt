@@ -5,6 +5,7 @@ ghost use Rattle.fine_model.specs.declared.NodeId.{NodeId};
 ghost use Rattle.fine_model.specs.declared.Row.{Row};
 ghost use Rattle.fine_model.specs.Nodes.{Content};
 ghost use Rattle.fine_model.specs.declared.FetchFault.{FetchFault as Fault};
+ghost use Rattle.fine_model.specs.RowBytes.{buckets, node_numbers};
 ghost use Rattle.node_cache.specs.Given.{Finds, IsCached, IsLoad, SameNodes, OnCleanFault, OnCleanLoad};
 
 use crate::Bucket;
@@ -31,8 +32,8 @@ pub trait NodeSource {
     /// Caches a node that is not cached, as a content that the source finds in it, and exactly what the source's rows leave there, a broken node included.
     /// With a fault, no node is cached that was not before.
     fn load(&mut self, bucket: &mut Bucket, number: u32) -> Result<(), FetchFault>
-        requires bucket { bucket.old.bucket < 256 }
-        requires number { number < 1048576 }
+        requires bucket { bucket.old.bucket < buckets }
+        requires number { number < node_numbers }
         ensures later { later self.old self.new }
         ensures clean { OnCleanLoad result (clean self.old self.new) }
         ensures load { IsLoad (tells self.old) (finds self.old) (upper self.old) number bucket.old bucket.new }

@@ -6,7 +6,7 @@ use Rattle.fine_model.specs.declared.NodeId.{NodeId}
 use Rattle.fine_model.specs.declared.Rec.{Rec}
 use Rattle.fine_model.specs.declared.Rec.TheVariants as rec
 pub use Rattle.fine_model.specs.BoundLaws.{FitsNode}
-use Rattle.fine_model.specs.RowBytes.{greatest}
+use Rattle.fine_model.specs.RowBytes.{greatest, buckets, node_numbers}
 
 -- what keeps nothing of the row but numbers
 abbrev pub takes_no_memory : Rec → Bool
@@ -26,8 +26,8 @@ is_head _ = false
 
 -- a node and a version that an image of this content may have
 pub record MayHave (id : NodeId) (version : ℕ) (content : Node) : Type 0 where
-  pub bucket : id.bucket < 256
-  pub number : id.number < 1048576
+  pub bucket : id.bucket < buckets
+  pub number : id.number < node_numbers
   -- node 0 is the head, and only it
   pub head : (id.number ≡ 0) ↔ IsTrue (is_head content)
   pub version_low : 1 ≤ version

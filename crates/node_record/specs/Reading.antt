@@ -6,7 +6,7 @@ use Rattle.fine_model.specs.declared.Rec.{Rec}
 use Rattle.fine_model.specs.declared.Rec.TheVariants as rec
 use Rattle.fine_model.specs.declared.Row.{Row}
 use Rattle.fine_model.specs.Map.{Pair, is_ascending}
-use Rattle.fine_model.specs.RowBytes.{greatest, last_kind}
+use Rattle.fine_model.specs.RowBytes.{greatest, last_kind, most_in_key, most_in_value, node_numbers, greatest_depth, most_in_node}
 use Rattle.node_record.specs.declared.fault.RowFault.{RowFault}
 use Rattle.node_record.specs.declared.fault.RowFault.TheVariants as fault
 use Rattle.node_record.specs.declared.front.Front.{Front}
@@ -53,12 +53,12 @@ signed_at bytes = do
 
 unfoldable pub key_at : List ℕ → Option (List ℕ × List ℕ)
 key_at bytes = do
-  n ← only (within 1 64) (byte_at bytes)
+  n ← only (within 1 most_in_key) (byte_at bytes)
   text_at n.0 n.1
 
 unfoldable pub value_at : List ℕ → Option (List ℕ × List ℕ)
 value_at bytes = do
-  n ← only (within 1 256) (number_at w16 bytes)
+  n ← only (within 1 most_in_value) (number_at w16 bytes)
   text_at n.0 n.1
 
 unfoldable pub pair_at : List ℕ → Option (Pair × List ℕ)
@@ -83,19 +83,19 @@ items_at one (suc n) bytes = do
 unfoldable pub head_at : List ℕ → Option (Rec × List ℕ)
 head_at bytes = do
   root ← child_at bytes
-  next ← only (within 2 1048576) (number_at w32 root.1)
-  depth ← only (within 1 8) (byte_at next.1)
+  next ← only (within 2 node_numbers) (number_at w32 root.1)
+  depth ← only (within 1 greatest_depth) (byte_at next.1)
   Some (rec.HeadImage root.0 next.0 depth.0, depth.1)
 
 unfoldable pub leaf_at : List ℕ → Option (Rec × List ℕ)
 leaf_at bytes = do
-  n ← only (within 0 32) (byte_at bytes)
+  n ← only (within 0 most_in_node) (byte_at bytes)
   pairs ← only (λ pairs. is_ascending (map (λ p. p.0) pairs)) (items_at pair_at n.0 n.1)
   Some (rec.LeafImage pairs.0, pairs.1)
 
 unfoldable pub inner_at : List ℕ → Option (Rec × List ℕ)
 inner_at bytes = do
-  n ← only (within 0 32) (byte_at bytes)
+  n ← only (within 0 most_in_node) (byte_at bytes)
   kids ← items_at child_at (n.0 + 1) n.1
   seps ← only is_ascending (items_at key_at n.0 kids.1)
   Some (rec.InnerImage seps.0 kids.0, seps.1)

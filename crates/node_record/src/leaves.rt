@@ -4,6 +4,7 @@ ghost use Rattle.std.specs.Prelude.{◌≡◌, ◌≤◌, ◌++◌, ◌∷◌, �
 ghost use Rattle.fine_model.specs.Map.{is_ascending, set, unset, get, pairs_below};
 ghost use Rattle.fine_model.specs.Nodes.{leaf, linked, added, keys_below};
 ghost use Rattle.fine_model.specs.declared.Node.TheVariants as node;
+ghost use Rattle.fine_model.specs.RowBytes.{most_in_node};
 ghost use Rattle.node_record.specs.Bounds.{whole_or_broken};
 
 use crate::places::{find_key, find_place};
@@ -14,7 +15,7 @@ use std::alloc::Global;
 /// Sets a pair. Answers whether the pairs are still a leaf; where they are not, they stay as they were.
 #[tactic(auto, unfolding(fine_model::specs::Map::set))]
 pub fn put(pairs: &mut Pairs, key: &Bytes, value: &Bytes) -> Result<bool, NoMemory>
-    requires few { length pairs.old ≤ 32 }
+    requires few { length pairs.old ≤ most_in_node }
     requires order { IsTrue (is_ascending (map (λ p. p.0) pairs.old)) }
     ensures ok { IfOk result (λ whole. whole_or_broken whole (node.Leaf pairs.new) ≡ leaf (set pairs.old key.now value.now)) }
     ensures err { OnErr result (pairs.new ≡ pairs.old) }
@@ -81,7 +82,7 @@ pub fn add(alloc: Global, pairs: &mut Pairs, key: &Bytes, by: i64) -> Result<boo
 
 /// Keeps the separators below a key, and one child more than these.
 pub fn cut_inner(seps: &mut Keys, kids: &mut Kids, key: &Bytes)
-    requires few { length seps.old ≤ 32 }
+    requires few { length seps.old ≤ most_in_node }
     requires order { IsTrue (is_ascending seps.old) }
     requires kids { length kids.old ≡ length seps.old + 1 }
     ensures seps { seps.new ≡ keys_below key.now seps.old }
@@ -97,7 +98,7 @@ pub fn cut_inner(seps: &mut Keys, kids: &mut Kids, key: &Bytes)
 
 /// Sets a separator, and the child to its right. Answers whether the node is still one; where it is not, it stays as it was.
 pub fn link(seps: &mut Keys, kids: &mut Kids, key: &Bytes, child: u32) -> Result<bool, NoMemory>
-    requires few { length seps.old ≤ 32 }
+    requires few { length seps.old ≤ most_in_node }
     requires order { IsTrue (is_ascending seps.old) }
     requires kids { length kids.old ≡ length seps.old + 1 }
     ensures ok { IfOk result (λ whole. whole_or_broken whole (node.Inner seps.new kids.new) ≡ linked seps.old kids.old key.now child) }

@@ -3,7 +3,7 @@
 ghost use Rattle.std.specs.Prelude.{◌≡◌, ◌≢◌, ◌+◌, ◌≤◌, IsTrue, IfOk, IsOk, OnOk, OnErr, length, map};
 ghost use Rattle.fine_model.specs.Map.{is_ascending};
 ghost use Rattle.fine_model.specs.Nodes.{changed, step, step_node};
-ghost use Rattle.fine_model.specs.RowBytes.{FitsRec, FitsRow};
+ghost use Rattle.fine_model.specs.RowBytes.{FitsRec, FitsRow, most_in_node};
 ghost use Rattle.fine_model.specs.Merge.{image_of};
 ghost use Rattle.fine_model.specs.declared.Mark.{Mark};
 ghost use Rattle.fine_model.specs.declared.Node.TheVariants as variant;
@@ -17,7 +17,7 @@ use std::alloc::Global;
 /// Changes a leaf. Answers whether it is still one; where it is not, nothing is changed.
 #[tactic(auto, unfolding(fine_model::specs::Nodes::changed))]
 fn change_leaf(alloc: Global, pairs: &mut Pairs, change: &Rec) -> Result<bool, NoMemory>
-    requires few { length pairs.old ≤ 32 }
+    requires few { length pairs.old ≤ most_in_node }
     requires order { IsTrue (is_ascending (map (λ p. p.0) pairs.old)) }
     ensures ok { IfOk result (λ whole. whole_or_broken whole (variant.Leaf pairs.new) ≡ changed (variant.Leaf pairs.old) change.now) }
     ensures err { OnErr result (pairs.new ≡ pairs.old) }
@@ -41,7 +41,7 @@ fn change_leaf(alloc: Global, pairs: &mut Pairs, change: &Rec) -> Result<bool, N
 /// Changes an inner node. Answers whether it is still one; where it is not, nothing is changed.
 #[tactic(auto, unfolding(fine_model::specs::Nodes::changed))]
 fn change_inner(seps: &mut Keys, kids: &mut Kids, change: &Rec) -> Result<bool, NoMemory>
-    requires few { length seps.old ≤ 32 }
+    requires few { length seps.old ≤ most_in_node }
     requires order { IsTrue (is_ascending seps.old) }
     requires kids { length kids.old ≡ length seps.old + 1 }
     ensures ok { IfOk result (λ whole. whole_or_broken whole (variant.Inner seps.new kids.new) ≡ changed (variant.Inner seps.old kids.old) change.now) }

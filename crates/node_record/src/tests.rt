@@ -1,4 +1,5 @@
 ghost use Rattle.std.specs.Prelude.{◌≡◌, IfOk};
+ghost use Rattle.node_record.specs.Bounds.{FitsNode};
 
 use super::*;
 use fine_model::{Bytes, Items, Keys, Kids, Mark, Node, NodeId, Pairs, Rec, Row};
@@ -51,6 +52,26 @@ fn kids(alloc: Global, numbers: &[u32]) -> Result<Kids, Fail> {
     Ok(Items::from_vec(Vec::from_slice(alloc, numbers).ok().ok_or("memory")?))
 }
 
+/// What `PUT` sets.
+fn put_of(alloc: Global) -> Result<Rec, Fail> {
+    let key = bytes(alloc, b"a")?;
+    let value = bytes(alloc, b"1")?;
+    Ok(Rec::Put { key, value })
+}
+
+/// The image of a leaf of two pairs.
+fn leaf_image(alloc: Global) -> Result<Rec, Fail> {
+    let pairs = pairs(alloc, &[(b"a", b"2"), (b"b", b"3")])?;
+    Ok(Rec::LeafImage { pairs })
+}
+
+/// The image of an inner node over nodes 1 and 2.
+fn inner_image(alloc: Global) -> Result<Rec, Fail> {
+    let seps = keys(alloc, &[b"BBAaAaAaAa"])?;
+    let kids = kids(alloc, &[1, 2])?;
+    Ok(Rec::InnerImage { seps, kids })
+}
+
 /// Reads a row, and writes it again.
 fn both_ways(rt: &impl Abort, alloc: Global, text: &[u8], row: Row) -> Result<(), Fail> {
     let (read, end) = read_row(alloc, text, 0, Mark::Two).ok().ok_or("no row")?;
@@ -81,82 +102,48 @@ fn keys_are_read_off_the_fronts_of_rows(rt: HostRuntime) -> Result<(), Fail> {
     Ok(())
 }
 
-#[test]
-fn rows_are_read_and_written_byte_by_byte(rt: HostRuntime) -> Result<(), Fail> {
-    let alloc = rt.alloc();
-    let key = bytes(alloc, b"a")?;
-    let value = bytes(alloc, b"1")?;
-    both_ways(&rt, alloc, &PUT, row(97, 1, 1, Rec::Put { key, value }))?;
-    let key = bytes(alloc, b"c")?;
-    both_ways(&rt, alloc, &PLUS, row(99, 1, 2, Rec::Plus { key, by: 2 }))?;
-    let pairs = pairs(alloc, &[(b"a", b"2")])?;
-    both_ways(
-        &rt,
-        alloc,
-        b"\x02\x00\x61\x00\x00\x00\x01\x00\x00\x00\x00\x00\x00\x00\x02\x00\x00\x00\x06\x01\x01a\x00\x012",
-        row(97, 1, 2, Rec::LeafImage { pairs }),
-    )?;
-    let depth = 2;
-    both_ways(
-        &rt,
-        alloc,
-        b"\x01\x00\x40\x00\x00\x00\x00\x00\x00\x00\x00\x00\x00\x00\x01\x00\x00\x00\x09\x00\x00\x00\x03\x00\x00\x00\x04\x02",
-        row(
+/// The row that one of the texts below spells.
+fn spelled(alloc: Global, which: u8) -> Result<Row, Fail> {
+    Ok(match which {
+        1 => row(
             64,
             0,
             1,
             Rec::HeadImage {
                 root: 3,
                 next: 4,
-                depth,
+                depth: 2,
             },
         ),
-    )?;
-    let key = bytes(alloc, b"BBAaAaAaAa")?;
-    both_ways(
-        &rt,
-        alloc,
-        b"\x06\x00\x40\x00\x00\x00\x01\x00\x00\x00\x00\x00\x00\x00\x21\x00\x00\x00\x0b\x0aBBAaAaAaAa",
-        row(64, 1, 33, Rec::CutLeaf { key }),
-    )?;
-    let seps = keys(alloc, &[b"BBAaAaAaAa"])?;
-    let kids = kids(alloc, &[1, 2])?;
-    both_ways(
-        &rt,
-        alloc,
-        b"\x03\x00\x40\x00\x00\x00\x03\x00\x00\x00\x00\x00\x00\x00\x01\x00\x00\x00\x14\x01\x00\x00\x00\x01\x00\x00\x00\x02\x0aBBAaAaAaAa",
-        row(64, 3, 1, Rec::InnerImage { seps, kids }),
-    )
+        2 => row(97, 1, 2, leaf_image(alloc)?),
+        3 => row(64, 3, 1, inner_image(alloc)?),
+        4 => row(97, 1, 1, put_of(alloc)?),
+        6 => {
+            let key = bytes(alloc, b"BBAaAaAaAa")?;
+            row(64, 1, 33, Rec::CutLeaf { key })
+        }
+        _ => {
+            let key = bytes(alloc, b"c")?;
+            row(99, 1, 2, Rec::Plus { key, by: 2 })
+        }
+    })
 }
 
-/// The right half of the first leaf that is split: 16 keys of five pieces, of which the first is `BB`.
 #[test]
-fn an_image_of_sixteen_pairs_has_244_bytes(rt: HostRuntime) -> Result<(), Fail> {
-    let alloc = rt.alloc();
-    let mut text = Vec::new(alloc);
-    let front = b"\x02\x00\x40\x00\x00\x00\x02\x00\x00\x00\x00\x00\x00\x00\x01\x00\x00\x00\xe1\x10";
-    text.extend_from_slice(front).ok().ok_or("memory")?;
-    let mut pairs = Items::new(alloc);
-    let pieces = [b"Aa", b"BB"];
-    for second in pieces {
-        for third in pieces {
-            for fourth in pieces {
-                for fifth in pieces {
-                    let mut key = Vec::from_slice(alloc, b"BB").ok().ok_or("memory")?;
-                    for piece in [second, third, fourth, fifth] {
-                        key.extend_from_slice(piece).ok().ok_or("memory")?;
-                    }
-                    text.push(10).ok().ok_or("memory")?;
-                    text.extend_from_slice(&key).ok().ok_or("memory")?;
-                    text.extend_from_slice(b"\x00\x011").ok().ok_or("memory")?;
-                    let pair = (Items::from_vec(key), bytes(alloc, b"1")?);
-                    pairs.push(pair).ok().ok_or("memory")?;
-                }
-            }
-        }
+fn rows_are_read_and_written_byte_by_byte(rt: HostRuntime) -> Result<(), Fail> {
+    let texts: [&[u8]; 6] = [
+        b"\x01\x00\x40\x00\x00\x00\x00\x00\x00\x00\x00\x00\x00\x00\x01\x00\x00\x00\x09\x00\x00\x00\x03\x00\x00\x00\x04\x02",
+        b"\x02\x00\x61\x00\x00\x00\x01\x00\x00\x00\x00\x00\x00\x00\x02\x00\x00\x00\x0b\x02\x01a\x00\x012\x01b\x00\x013",
+        b"\x03\x00\x40\x00\x00\x00\x03\x00\x00\x00\x00\x00\x00\x00\x01\x00\x00\x00\x14\x01\x00\x00\x00\x01\x00\x00\x00\x02\x0aBBAaAaAaAa",
+        &PUT,
+        b"\x06\x00\x40\x00\x00\x00\x01\x00\x00\x00\x00\x00\x00\x00\x21\x00\x00\x00\x0b\x0aBBAaAaAaAa",
+        &PLUS,
+    ];
+    for text in texts {
+        let kind = text.first().copied().unwrap_or(0);
+        both_ways(&rt, rt.alloc(), text, spelled(rt.alloc(), kind)?)?;
     }
-    assert_eq!(rt; text.len(), 244);
-    both_ways(&rt, alloc, &text, row(64, 2, 1, Rec::LeafImage { pairs }))
+    Ok(())
 }
 
 #[test]
@@ -199,6 +186,20 @@ fn bad_rows_are_told_at_their_start(rt: HostRuntime) {
     }
 }
 
+/// Does to a node what the row says that a text spells.
+fn change(alloc: Global, node: &mut Node, version: &mut u64, text: &[u8]) -> Result<(), Fail>
+    requires { FitsNode node.old }
+    ensures { FitsNode node.new }
+{
+    let Ok((row, _behind)) = read_row(alloc, text, 0, Mark::Two) else {
+        return Err("no row".into());
+    };
+    match apply(alloc, node, version, &row) {
+        Ok(()) => Ok(()),
+        Err(_) => Err("memory".into()),
+    }
+}
+
 #[test]
 fn rows_change_a_node(rt: HostRuntime) -> Result<(), Fail> {
     let alloc = rt.alloc();
@@ -206,23 +207,15 @@ fn rows_change_a_node(rt: HostRuntime) -> Result<(), Fail> {
         pairs: Items::new(alloc),
     };
     let mut version = 0;
-    let (put, _) = read_row(alloc, &PUT, 0, Mark::One).ok().ok_or("no row")?;
-    apply(alloc, &mut node, &mut version, &put)
-        .ok()
-        .ok_or("memory")?;
-    let key = bytes(alloc, b"a")?;
-    let plus = row(97, 1, 2, Rec::Plus { key, by: -43 });
-    apply(alloc, &mut node, &mut version, &plus)
-        .ok()
-        .ok_or("memory")?;
+    change(alloc, &mut node, &mut version, &PUT)?;
+    let plus =
+        b"\x09\x00\x61\x00\x00\x00\x01\x00\x00\x00\x00\x00\x00\x00\x02\x00\x00\x00\x0a\x01a\xff\xff\xff\xff\xff\xff\xff\xd5";
+    change(alloc, &mut node, &mut version, plus)?;
     let pairs = pairs(alloc, &[(b"a", b"-42")])?;
     assert_eq!(rt; node, Node::Leaf { pairs });
     assert_eq!(rt; version, 2);
-    let key = bytes(alloc, b"a")?;
-    let late = row(97, 1, 4, Rec::Del { key });
-    apply(alloc, &mut node, &mut version, &late)
-        .ok()
-        .ok_or("memory")?;
+    let late = b"\x05\x00\x61\x00\x00\x00\x01\x00\x00\x00\x00\x00\x00\x00\x04\x00\x00\x00\x02\x01a";
+    change(alloc, &mut node, &mut version, late)?;
     assert_eq!(rt; node, Node::Broken);
     assert_eq!(rt; version, 4);
     Ok(())

@@ -342,10 +342,10 @@ fn scan_tree<S: NodeSource>(
 
 /// Puts copies of the pairs with `low <= key < high` behind those of `out`, in the byte order of their keys, and of these the first
 /// `limit`. It visits the head and then, from the left, the nodes that may hold keys of the range, each before its children, up to the
-/// leaf of the last pair that is wanted; where the range is empty or `limit` is 0, the head alone. It loads those that are not cached,
-/// and no others, and with Ok those visited are what was used last, in this order. It changes nothing else. `Unfit` names the first
-/// node on its way that breaks the rules of a tree; on sound rows it never comes. `Source` has what the source answered. With each
-/// fault, `NoMemory` too, `out` is as it was, and what was loaded stays.
+/// leaf of the last pair that is wanted; where the range is empty or `limit` is 0, the head alone. It caches those that were not, and
+/// no others, and with Ok those visited are what was used last, in this order. It changes nothing else in the bucket. `Unfit` names the
+/// first node on its way that breaks the rules of a tree; on sound rows it never comes. `Source` has what the source answered. With each
+/// fault, `NoMemory` too, `out` is as it was.
 pub fn scan<S: NodeSource>(
     source: &mut S,
     bucket: &mut Bucket,

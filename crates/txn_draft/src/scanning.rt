@@ -7,8 +7,8 @@ ghost use Rattle.fine_model.specs.ScanLaws.{IsKept};
 ghost use Rattle.fine_model.specs.Trees.{IsSound};
 ghost use Rattle.node_cache.specs.Cache.{Cache};
 ghost use Rattle.node_cache.specs.Given.{IsLoaded};
-ghost use Rattle.btree_nodes.specs.Trees.{Serves, Holds};
-ghost use Rattle.btree_nodes.specs.Walks.{LoadsOnWalk};
+ghost use Rattle.btree_nodes.specs.Trees.{Serves, Holds, AreUsed};
+ghost use Rattle.btree_nodes.specs.Walks.{LoadsOnWalk, walk_in};
 ghost use Rattle.btree_nodes.specs.Calls.{OnCleanAnswer, Reads, IsFirstUnfitBetween, SoundReading};
 ghost use Rattle.txn_draft.specs.Drafts.{IsAnswered, FitsDraft, IsLost, is_scan};
 ghost use Rattle.txn_draft.specs.Uses.{IsUsed};
@@ -93,6 +93,7 @@ impl RangeScan {
         ensures left { IfErr result (λ fault. self.new ≡ self.old) }
         ensures loads { IsLoaded (S.tells source.old) (S.finds source.old) (S.upper source.old) bucket.old bucket.new }
         ensures on_walk { LoadsOnWalk bucket.old bucket.new low.now high.now limit }
+        ensures walked { OnOk result (AreUsed bucket.old bucket.new (walk_in bucket.new low.now high.now limit)) }
         ensures fails { IfErr result (FailsBy (λ failed. S.fails source.old failed source.new)) }
         ensures serves { (rows : List ModelRow) → Serves (S.tells source.old) bucket.old rows → Serves (S.tells source.new) bucket.new rows }
         ensures used { (low_epoch : ℕ) (taken : Cache) (rows : List ModelRow) → IsUsed low_epoch taken bucket.old rows → low_epoch ≤ S.upper source.old → IsUsed low_epoch taken bucket.new rows }

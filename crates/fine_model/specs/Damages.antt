@@ -1,5 +1,5 @@
 -- What status 7 means on any log.
-use Rattle.std.specs.Prelude.{◌≡◌, ◌≢◌, ◌⊎◌, ℕ, ◌-◌, ◌==◌, ◌<◌, ◌≤◌, Bool, true, false, IsTrue, List, [], ◌∷◌, ◌++◌, filter, map, flat_map, take, Option, None, Some, IsSome, unwrap_or, Result, Ok, Err, Contains}
+use Rattle.std.specs.Prelude.{◌≡◌, ◌≢◌, ◌⊎◌, ℕ, ◌-◌, ◌==◌, ◌<◌, ◌≤◌, Bool, true, false, IsTrue, List, [], ◌∷◌, ◌++◌, filter, map, flat_map, take, Option, None, Some, IsSome, unwrap_or, Result, Ok, Err, Contains, slice_get, ◌+◌}
 use Rattle.std.specs.List.{AllByRecursion, list_any}
 use Rattle.fine_model.specs.Types.{Row, Header, Part, Call, Damage, NodeId, RunFault, ScriptTxn, Ran}
 use Rattle.fine_model.specs.Types.call
@@ -16,11 +16,11 @@ use Rattle.fine_model.specs.Paths.{unfit_under, unfit_between}
 use Rattle.fine_model.specs.Regions.{Image, Place, place_of, body_in, HasHeader, HoldsBadItem, IsSealed}
 use Rattle.fine_model.specs.Seek.{RowSpan, entry_at, is_entry, span_at, SpanHolds, IsBadInSpan}
 use Rattle.fine_model.specs.Chain.{chain, chain_end, Shows}
-use Rattle.fine_model.specs.History.{Commit}
+use Rattle.fine_model.specs.History.{Commit, last_epoch}
 use Rattle.fine_model.specs.Outcomes.{AreOutcomes, AllRun}
 use Rattle.fine_model.specs.Script.{Refusal}
 use Rattle.fine_model.specs.Report.{all_outcomes, damage_line, fault_line, report}
-use Rattle.fine_model.specs.Headline.{Return, TellsFaults, OneOf, ReasonFor}
+use Rattle.fine_model.specs.Headline.{Return, TellsFaults, OneOf, HasStatus, IsFrontOf, ReasonFor}
 
 -- nothing that an image shows is a sound log
 abbrev pub IsUnsound : ℕ → Image → Type 0
@@ -152,11 +152,12 @@ abbrev pub IsUnfitBy : Call → (ℕ → Content) → NodeId → Type 0
 IsUnfitBy (call.Scan low high limit) nodes id = (wanted : ℕ) × (unfit_between id.bucket nodes low high wanted (nodes 0).0 ≡ Some id.number)
 IsUnfitBy c nodes id = (bucket_of (key_of c) ≡ id.bucket) × (unfit_under id.bucket nodes (key_of c) (nodes 0).0 ≡ Some id.number)
 
--- A look that meets a node unfit: that of a call of a transaction of the script, behind the transaction's calls before it, or, where all is read at
--- the end, of a scan behind no open transaction.
-abbrev pub LooksAt : Result (List ScriptTxn) Refusal → Type 0 → List Call → (ℕ → Content) → NodeId → Type 0
-LooksAt script reads_all own now id =
-    ((txns : List ScriptTxn) × (txn : ScriptTxn) × (c : Call) × (rest : List Call) × (script ≡ Ok txns) × Contains txns txn × (txn.calls ≡ own ++ c ∷ rest) × IsUnfitBy c now id)
+-- A look that meets a node unfit: that of a call of a transaction of the script which was not committed before, behind the transaction's calls before
+-- it, or, where all is read at the end, of a scan behind no open transaction.
+abbrev pub LooksAt : Result (List ScriptTxn) Refusal → Type 0 → List Commit → List Call → (ℕ → Content) → NodeId → Type 0
+LooksAt script reads_all before own now id =
+    ((txns : List ScriptTxn) × (i : ℕ) × (txn : ScriptTxn) × (c : Call) × (rest : List Call) × (script ≡ Ok txns) × (slice_get txns i ≡ Some txn) × AllByRecursion (λ c. c.entry.turn ≢ i + 1) before
+    × (txn.calls ≡ own ++ c ∷ rest) × IsUnfitBy c now id)
     ⊎ (reads_all × (own ≡ []) × (low : List ℕ) × (high : List ℕ) × (wanted : ℕ) × (unfit_between id.bucket now low high wanted (now 0).0 ≡ Some id.number))
 
 -- A content that a reader finds in a node by the bytes at entry, whatever neighbours were merged since: beside those of `FindsContent` the replay
@@ -181,7 +182,7 @@ pub record MeetsUnfit (script : Result (List ScriptTxn) Refusal) (reads_all : Ty
   pub now : ℕ → Content
   pub goes_on : GoOnTo id.bucket nodes (calls_on id.bucket (flat_map (λ c. c.entry.calls) (take committed history) ++ own)) now
   pub itself : FindsMerged region_len image parts id (nodes id.number) ⊎ ((now id.number).0 ≢ node.Broken)
-  pub looks : LooksAt script reads_all own now id
+  pub looks : LooksAt script reads_all (take committed history) own now id
 
 -- What may be named as damaged by one who reads whole parts and no tree, as merging does: a bad place of the parts at entry.
 abbrev pub IsBadOf : ℕ → Image → List Part → Damage → Type 0
@@ -201,51 +202,66 @@ pub record HasNoChain (still_told : Type 0) (what : Damage) (status : ℕ) (writ
   pub printed : status ≡ 7 → written ≡ damage_line what
 
 -- What `run` and `gen` are, as far as it matters here: their script, whether they read all at the end, the statuses that they may end with, and what
--- they print of a run behind these parts with this history and this fault.
+-- they print, with a status, of a run behind these parts with this history and this fault.
 pub record Running : Type 1 where
   pub script : Result (List ScriptTxn) Refusal
   pub reads_all : Type 0
   pub statuses : List ℕ
-  pub prints : List Part → List Commit → Option RunFault → List ℕ → Type 0
+  pub prints : List Part → List Commit → Option RunFault → ℕ → List ℕ → Type 0
 
 -- Damage of which a status 7 tells: the chain's, or damage that is there behind the chain, or that the run's calls made of the nodes that are: its
--- line alone, where nothing was committed, or what was run, with the line.
-abbrev pub PrintsDamage : Running → ℕ → Image → List ℕ → Type 0
-PrintsDamage r region_len entry written =
+-- line alone, where nothing was committed and the disk's clock stands still, or what was run, with the line.
+abbrev pub PrintsDamage : Running → ℕ → Image → Return → List ℕ → Type 0
+PrintsDamage r region_len entry back written =
     (what : Damage) × (((chain region_len entry ≡ Err what) × (written ≡ damage_line what))
     ⊎ ((parts : List Part) × (history : List Commit) × (chain region_len entry ≡ Ok parts) × IsDamageIn r.script r.reads_all history region_len entry parts what
-    × (((history ≡ []) × (written ≡ damage_line what)) ⊎ r.prints parts history (Some (run_fault.Damaged what)) written)))
+    × (((history ≡ []) × back.still × (written ≡ damage_line what)) ⊎ r.prints parts history (Some (run_fault.Damaged what)) 7 written)))
 
 -- what was run without a fault, behind the chain at entry
-abbrev pub PrintsRun : Running → ℕ → Image → List ℕ → Type 0
-PrintsRun r region_len entry written = (parts : List Part) × (history : List Commit) × (chain region_len entry ≡ Ok parts) × r.prints parts history None written
+abbrev pub PrintsRun : Running → ℕ → Image → ℕ → List ℕ → Type 0
+PrintsRun r region_len entry status written = (parts : List Part) × (history : List Commit) × (chain region_len entry ≡ Ok parts) × r.prints parts history None status written
 
--- a fault's line alone, or what was run, with the line behind it
-abbrev pub PrintsFaultOf : Running → ℕ → Image → RunFault → List ℕ → Type 0
-PrintsFaultOf r region_len entry fault written =
-    (written ≡ fault_line fault) ⊎ ((parts : List Part) × (history : List Commit) × (chain region_len entry ≡ Ok parts) × r.prints parts history (Some fault) written)
+-- a fault's line alone, where the disk's clock stands still, or what was run, with the line behind it
+abbrev pub PrintsFaultOf : Running → ℕ → Image → Return → RunFault → ℕ → List ℕ → Type 0
+PrintsFaultOf r region_len entry back fault status written =
+    (back.still × (written ≡ fault_line fault)) ⊎ ((parts : List Part) × (history : List Commit) × (chain region_len entry ≡ Ok parts) × r.prints parts history (Some fault) status written)
+
+-- a text that one of the other statuses prints
+abbrev pub PrintsWhole : Running → ℕ → Image → Return → List ℕ → Type 0
+PrintsWhole r region_len entry back text =
+    PrintsDamage r region_len entry back text ⊎ PrintsRun r region_len entry 0 text ⊎ PrintsRun r region_len entry 8 text
+    ⊎ PrintsFaultOf r region_len entry back run_fault.Memory 1 text ⊎ PrintsFaultOf r region_len entry back run_fault.Disk 6 text
+    ⊎ ReasonFor 3 r.script text ⊎ ReasonFor 4 r.script text
 
 -- What holds of `run` and `gen` on every log that the disk tells, sound or not, by its bytes at entry. The status is one of the command's, and tells
--- what is printed; 7 comes on an unsound log alone. On no log a rise of the disk's count of faults is passed over.
+-- what is printed; 7 comes on an unsound log alone. On no log a rise of the disk's count of faults is passed over. Of replies nothing is said.
 pub record DamagedTheorem (r : Running) (region_len : ℕ) (entry : Image) (back : Return) (still_told : Type 0) (status : ℕ) (written : List ℕ) : Type 0 where
   pub known : OneOf r.statuses status
   pub unsound : status ≡ 7 → IsUnsound region_len entry
-  pub damaged : status ≡ 7 → PrintsDamage r region_len entry written
-  pub done : (status ≡ 0) ⊎ (status ≡ 8) → PrintsRun r region_len entry written
-  pub memory : status ≡ 1 → PrintsFaultOf r region_len entry run_fault.Memory written
-  pub failed : status ≡ 6 → PrintsFaultOf r region_len entry run_fault.Disk written
+  pub damaged : status ≡ 7 → PrintsDamage r region_len entry back written
+  pub done : (status ≡ 0) ⊎ (status ≡ 8) → PrintsRun r region_len entry status written
+  pub memory : status ≡ 1 → PrintsFaultOf r region_len entry back run_fault.Memory status written
+  pub failed : status ≡ 6 → PrintsFaultOf r region_len entry back run_fault.Disk status written
   pub refused : (status ≡ 3) ⊎ (status ≡ 4) → ReasonFor status r.script written
+  pub cut_short : status ≡ 5 → (text : List ℕ) × PrintsWhole r region_len entry back text × IsFrontOf written text
   pub no_chain : (what : Damage) → chain region_len entry ≡ Err what → HasNoChain still_told what status written
   pub faults : TellsFaults back status
 
+-- What is printed durable is between the chain's end and the history's last epoch, and with no fault it is the last.
+pub record IsDurableFor (parts : List Part) (history : List Commit) (fault : Option RunFault) (durable : ℕ) : Type 0 where
+  pub from_entry : chain_end parts ≤ durable
+  pub to_last : durable ≤ last_epoch (chain_end parts) history
+  pub all : fault ≡ None → durable ≡ last_epoch (chain_end parts) history
+
 -- The report of a run of a script: its outcomes have this history, which goes on behind the parts, and with no fault all was run.
-pub record Reports (script : Result (List ScriptTxn) Refusal) (parts : List Part) (history : List Commit) (fault : Option RunFault) (written : List ℕ) : Type 0 where
+pub record Reports (script : Result (List ScriptTxn) Refusal) (parts : List Part) (history : List Commit) (fault : Option RunFault) (status : ℕ) (written : List ℕ) : Type 0 where
   pub txns : List ScriptTxn
   pub ran : Ran
   pub read : script ≡ Ok txns
   pub outcomes : AreOutcomes txns (chain_end parts) (all_outcomes txns ran.outcomes) history
-  pub from_entry : chain_end parts ≤ ran.durable
+  pub durable : IsDurableFor parts history fault ran.durable
   pub fault_is : ran.fault ≡ fault
+  pub status_is : HasStatus status (all_outcomes txns ran.outcomes) fault
   pub all_run : fault ≡ None → AllRun (all_outcomes txns ran.outcomes)
   pub printed : written ≡ report txns ran
 
@@ -274,7 +290,7 @@ NamesLaw = (script : Result (List ScriptTxn) Refusal) (region_len : ℕ) (image 
 
 -- what a look meets unfit is so on the path of some key, or of some scan
 abbrev pub LooksLaw : Type 0
-LooksLaw = (script : Result (List ScriptTxn) Refusal) (own : List Call) (now : ℕ → Content) (id : NodeId) → LooksAt script (Unit {0}) own now id → IsUnfitNode now id
+LooksLaw = (script : Result (List ScriptTxn) Refusal) (before : List Commit) (own : List Call) (now : ℕ → Content) (id : NodeId) → LooksAt script (Unit {0}) before own now id → IsUnfitNode now id
 
 -- on sound rows no calls make a node unfit
 abbrev pub StaysFit : Type 0

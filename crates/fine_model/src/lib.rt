@@ -18,7 +18,7 @@ mod numbers;
 mod tests;
 mod version_laws;
 
-pub use becoming::{becomes_law, buckets_law, job_law, set_law};
+pub use becoming::{becomes_law, buckets_law, job_law, no_room_law, set_law};
 pub use bound_laws::bounds_law;
 pub use chain_laws::{
     behind_law, chain_law, closed_law, erased_law, free_law, freed_law, own_law, replace_law,
@@ -26,9 +26,10 @@ pub use chain_laws::{
 };
 pub use law::{BucketLaw, OpenedEye, Origin, RoomLaw, RoomState, ViewLaw, ViewState};
 pub use laws::{
-    agreement_law, agrees_law, calls_law, cut_law, fit_law, keys_law, leaf_law, legal_law, map_law,
-    mark_law, merge_law, merged_law, merged_run_law, pushed_law, range_law, replay_law, row_law,
-    scan_law, sealed_law, shown_law, small_law, unfit_law, upto_law, whole_law, whole_map_law,
+    agreement_law, agrees_law, calls_law, cut_law, damage_law, epochs_law, fit_law, fitting_law,
+    keys_law, leaf_law, legal_law, map_law, mark_law, merge_law, merged_law, merged_run_law,
+    pushed_law, range_law, replay_law, row_law, scan_law, sealed_law, shown_law, shown_small_law,
+    small_law, unfit_law, upto_law, waiting_law, whole_law, whole_map_law,
 };
 pub use layout::{body_start, fits_in};
 pub use list::{Copied, Items, NoMemory};

@@ -13,7 +13,7 @@ use Rattle.fine_model.specs.declared.Mark.TheVariants as mark
 use Rattle.fine_model.specs.declared.Part.{Part}
 use Rattle.fine_model.specs.ChainLaws.{DiffersBehind}
 use Rattle.fine_model.specs.Chain.{regions_of}
-use Rattle.fine_model.specs.Regions.{Image, body_in, body_start, place_of}
+use Rattle.fine_model.specs.Regions.{Image, body_in, body_start, place_of, body_len}
 use Rattle.fine_model.proofs.Nothing.{all_at}
 use Rattle.fine_model.proofs.Order.{all_map}
 use Rattle.log_disk.specs.Disk.{Disk, Told, BothTold, HasGoneOn, HasRisen, IsImageNow, IsSound, IsToldOf, IsUnseen, OpenEye, SameOutside, Writes, clock_of, region_of, span_of, unsynced_too, with_bytes}
@@ -25,7 +25,7 @@ use Rattle.log_disk.proofs.Moments.{leaves_more, leaves_none, leaves_then, leave
 use Rattle.log_disk.proofs.Sound.{sound_write}
 use Rattle.log_disk.proofs.Steps.{both_same, both_then, both_weaker}
 use Rattle.log_disk.proofs.Times.{continues_none, continues_then, continues_write}
-use Rattle.partition_index.specs.Parts.{LiesIn, body_len}
+use Rattle.partition_index.specs.Parts.{LiesIn}
 use Rattle.partition_index.specs.Placing.{HasBody, HasRoomFor}
 use Rattle.partition_index.proofs.BodyPlaces.{body_long, high_place, low_place, place_more}
 use Rattle.partition_index.proofs.Placed.{place_named, placed}

@@ -11,8 +11,7 @@ use Rattle.fine_model.specs.declared.Job.{Job}
 use Rattle.fine_model.specs.declared.Part.{Part}
 use Rattle.fine_model.specs.declared.Row.{Row}
 use Rattle.fine_model.specs.Merge.{cost, fits_in, merged, regions_for, FitsFree}
-use Rattle.fine_model.specs.Regions.{Image}
-use Rattle.partition_index.specs.Parts.{body_len}
+use Rattle.fine_model.specs.Regions.{Image, body_len}
 use Rattle.epoch_room.specs.MergeSealing.{WritesMerged}
 use Rattle.epoch_room.specs.Whole.{HasRegions, IsTaken}
 

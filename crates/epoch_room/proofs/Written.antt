@@ -14,12 +14,12 @@ use Rattle.fine_model.specs.Boards.{set_of}
 use Rattle.fine_model.specs.Chain.{regions_of}
 use Rattle.fine_model.specs.ChainLaws.{part_of}
 use Rattle.fine_model.specs.Jobs.{KeepsJob, held_by, held_for, job_left, job_regions, taken_by}
-use Rattle.fine_model.specs.Regions.{body_in, place_of, region_of}
+use Rattle.fine_model.specs.Regions.{body_in, place_of, region_of, body_len}
 use Rattle.fine_model.proofs.Nothing.{all_at, each_there}
 use Rattle.fine_model.proofs.Order.{all_map}
 use Rattle.fine_model.proofs.Times.{distinct_times, times, times-append, times-none, times_distinct}
 use Rattle.partition_hold.proofs.Bits.{among, same_regions}
-use Rattle.partition_index.specs.Parts.{LiesIn, body_len}
+use Rattle.partition_index.specs.Parts.{LiesIn}
 use Rattle.partition_index.specs.Placing.{HasBody}
 use Rattle.partition_index.proofs.BodyPlaces.{body_long, laid}
 use Rattle.partition_index.proofs.Placed.{place_named}

@@ -6,7 +6,7 @@ use Rattle.fine_model.specs.declared.Job.{Job}
 use Rattle.fine_model.specs.declared.Mark.TheVariants as mark
 use Rattle.fine_model.specs.declared.Part.{Part}
 use Rattle.fine_model.specs.declared.law.RoomState.{RoomState}
-use Rattle.fine_model.specs.RowBytes.{most_regions}
+use Rattle.fine_model.specs.RowBytes.{most_regions, index_entry}
 use Rattle.fine_model.specs.Merge.{fits_in}
 use Rattle.fine_model.specs.Boards.{set_of}
 use Rattle.fine_model.specs.Jobs.{job_left, held_for, KeepsJob}
@@ -47,7 +47,7 @@ picked room from = if room.is_shut then None else option_map fresh_job (neighbou
 
 -- how many bytes rows of a measure and their index take
 abbrev pub measured_len : Measure → ℕ
-measured_len measure = measure.area + 14 * measure.nodes
+measured_len measure = measure.area + index_entry * measure.nodes
 
 -- the least number of regions, up to eight, in which so many bytes fit
 abbrev pub regions_needed : ℕ → ℕ → Option ℕ

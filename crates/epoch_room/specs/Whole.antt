@@ -7,14 +7,14 @@ use Rattle.fine_model.specs.declared.Mark.TheVariants as mark
 use Rattle.fine_model.specs.declared.Part.{Part}
 use Rattle.fine_model.specs.declared.law.OpenedEye.{OpenedEye}
 use Rattle.fine_model.specs.declared.law.RoomState.{RoomState}
-use Rattle.fine_model.specs.RowBytes.{greatest, longest_region, most_in_log, most_regions, FitsRow}
+use Rattle.fine_model.specs.RowBytes.{greatest, longest_region, most_in_log, most_regions, FitsRow, short_header}
 use Rattle.fine_model.specs.Merge.{cost, fits_in}
-use Rattle.fine_model.specs.Regions.{Image, region_of, is_sealed, HasHeader}
+use Rattle.fine_model.specs.Regions.{Image, region_of, is_sealed, HasHeader, body_len}
 use Rattle.fine_model.specs.Chain.{chain, chain_end, regions_of}
 use Rattle.fine_model.specs.Trees.{is_distinct}
 use Rattle.fine_model.specs.Boards.{posted, named, held_of}
 use Rattle.fine_model.specs.Views.{SameSeen}
-use Rattle.partition_index.specs.Parts.{LiesIn, body_len}
+use Rattle.partition_index.specs.Parts.{LiesIn}
 use Rattle.log_disk.specs.Disk.{Disk, HasRisen, IsSound}
 use Rattle.log_disk.specs.Moments.{ContinuesOn, IsLeft}
 use Rattle.epoch_room.specs.Value.{RoomValue, all_regions, regions_outside, taken, on}
@@ -119,7 +119,7 @@ pub record IsOpenEpoch (value : RoomValue) : Type 0 where
   pub some : value.room.lost ≡ [] → 1 ≤ value.room.waiting → (region : ℕ) × (value.target ≡ Some region)
   pub fits : AllByRecursion (FitsRow mark.Two) value.room.open_rows
   pub costs : cost value.room.open_rows ≤ value.room.used
-  pub within : 41 + value.room.used ≤ value.room.region_len
+  pub within : short_header + value.room.used ≤ value.room.region_len
   pub entries : value.room.waiting ≤ value.room.places
   pub places : value.room.places ≤ greatest
   pub epoch : 1 ≤ value.room.waiting → value.room.sealed + 1 ≤ greatest

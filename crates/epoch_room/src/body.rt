@@ -1,8 +1,7 @@
 //! Bytes of a part's body, written behind the gates of its regions.
 
 ghost use Rattle.std.specs.Prelude.{◌+◌, ◌≤◌, ◌<◌, ◌≡◌, [], ◌∷◌, length};
-ghost use Rattle.fine_model.specs.Regions.{place_of};
-ghost use Rattle.partition_index.specs.Parts.{body_len};
+ghost use Rattle.fine_model.specs.Regions.{place_of, body_len};
 ghost use Rattle.epoch_room.specs.BodyWrites.{HasPlace, WritesBody, lying_in};
 
 use fine_model::Part;

@@ -6,7 +6,7 @@ ghost use Rattle.fine_model.specs.Boards.{empty_of, is_empty};
 ghost use Rattle.fine_model.specs.Becomes.{Becomes};
 ghost use Rattle.fine_model.specs.Jobs.{KeepsJob};
 ghost use Rattle.fine_model.specs.Merge.{cost};
-ghost use Rattle.fine_model.specs.RowBytes.{FitsRow};
+ghost use Rattle.fine_model.specs.RowBytes.{FitsRow, short_header};
 ghost use Rattle.fine_model.specs.declared.Mark.TheVariants as mark;
 ghost use Rattle.log_disk.specs.Disk.{Disk, SameBeside};
 ghost use Rattle.epoch_room.specs.declared.answers.Fit.TheVariants as fit;
@@ -100,7 +100,7 @@ impl<D: LogDisk> Model for Room<D> {
       sealed = r.sealed;
       places = r.places;
       is_shut = r.is_shut;
-    })) × (41 + r.epoch.most ≡ (D.state r.disk).region_len) × (most_in_log ≤ vec_capacity r.retired) };
+    })) × (short_header + r.epoch.most ≡ (D.state r.disk).region_len) × (most_in_log ≤ vec_capacity r.retired) };
 }
 
 impl<D: LogDisk> RoomLaw for Room<D> {

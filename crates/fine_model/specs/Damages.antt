@@ -104,7 +104,7 @@ IsUnfitNode nodes id =
 -- A node that a reader finds unfit. It found the contents of this node and of those before it on the path, which are fit; what it did not
 -- find counts as broken, and no path goes on behind it.
 pub record FindsUnfit (region_len : ℕ) (image : Image) (parts : List Part) (id : NodeId) : Type 0 where
-  pub in_bucket : id.bucket < 256
+  pub in_bucket : id.bucket < buckets
   pub nodes : ℕ → Content
   pub each : (number : ℕ) → FindsContent region_len image parts (record { bucket = id.bucket; number = number }) (nodes number) ⊎ (nodes number ≡ (node.Broken, 0))
   pub itself : FindsContent region_len image parts id (nodes id.number)
@@ -119,7 +119,7 @@ FoundUnfit =
 
 -- and so on sound rows no node is unfit
 abbrev pub SoundlyFit : Type 0
-SoundlyFit = (rows : List Row) (id : NodeId) → id.bucket < 256 → IsSound rows → IsUnfitNode (nodes_of rows id.bucket) id → ⊥
+SoundlyFit = (rows : List Row) (id : NodeId) → id.bucket < buckets → IsSound rows → IsUnfitNode (nodes_of rows id.bucket) id → ⊥
 
 -- What may be named as damaged where the chain is defined: a bad place of its parts, or a node that is found unfit.
 abbrev pub IsDamageOf : ℕ → Image → List Part → Damage → Type 0

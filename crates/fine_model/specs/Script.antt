@@ -5,6 +5,7 @@ use Rattle.fine_model.specs.Types.{Call, Ending, ScriptTxn}
 use Rattle.fine_model.specs.Types.call
 use Rattle.fine_model.specs.Types.ending
 use Rattle.fine_model.specs.NumberText.{digits_worth, number_of}
+use Rattle.fine_model.specs.RowBytes.{most_in_key, most_in_value}
 
 -- b before the first of the pieces
 abbrev pub onto_first : ℕ → List (List ℕ) → List (List ℕ)
@@ -46,10 +47,10 @@ pub data Line : Type 0 where
   faulty : Line
 
 abbrev pub is_key : List ℕ → Bool
-is_key word = nat_le (length word) 64
+is_key word = nat_le (length word) most_in_key
 
 abbrev pub is_value : List ℕ → Bool
-is_value word = nat_le (length word) 256
+is_value word = nat_le (length word) most_in_value
 
 abbrev pub line_or_faulty : Option Line → Line
 line_or_faulty None = faulty

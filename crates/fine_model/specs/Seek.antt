@@ -3,7 +3,7 @@ use Rattle.std.specs.Prelude.{◌≡◌, ◌≢◌, ◌⊎◌, ℕ, ◌+◌, ◌
 use Rattle.std.specs.List.{AllByRecursion}
 use Rattle.std.specs.Int.{w16, w32, w64, leading_zeros}
 use Rattle.fine_model.specs.Types.{NodeId, Row, Header}
-use Rattle.fine_model.specs.RowBytes.{node_numbers, rows_bytes, rows_len, FitsRow}
+use Rattle.fine_model.specs.RowBytes.{node_numbers, rows_bytes, rows_len, FitsRow, index_entry}
 use Rattle.fine_model.specs.Regions.{number_in, row_area}
 
 -- an index entry as its bytes say
@@ -14,7 +14,7 @@ pub record IndexEntry : Type 0 where
 
 -- where the i-th index entry starts in the body
 abbrev pub entry_place : Header → ℕ → ℕ
-entry_place header i = header.area + 14 * i
+entry_place header i = header.area + index_entry * i
 
 abbrev pub entry_of : List ℕ → ℕ → IndexEntry
 entry_of body at = record {
@@ -86,4 +86,4 @@ abbrev pub binary_digits : ℕ → ℕ
 binary_digits n = 64 - leading_zeros w64 n
 
 abbrev pub most_taken : ℕ → ℕ
-most_taken nodes = 14 * (binary_digits nodes + 1)
+most_taken nodes = index_entry * (binary_digits nodes + 1)

@@ -11,9 +11,9 @@ use Rattle.fine_model.specs.declared.Part.{Part}
 use Rattle.fine_model.specs.RowBytes.{rows_bytes, rows_len}
 use Rattle.fine_model.specs.Merge.{nodes_in}
 use Rattle.fine_model.specs.Chain.{regions_of}
-use Rattle.fine_model.specs.Regions.{Image, Place, region_of, place_of, body_in, index_bytes, row_area, index_area, HasHeader, BeginsWithRows, IsBadItem, HoldsBadItem, IsSealed}
+use Rattle.fine_model.specs.Regions.{Image, Place, region_of, place_of, body_in, index_bytes, row_area, index_area, HasHeader, BeginsWithRows, IsBadItem, HoldsBadItem, IsSealed, body_len}
 use Rattle.fine_model.proofs.Grammar.{rows_long}
-use Rattle.partition_index.specs.Parts.{LiesIn, body_len}
+use Rattle.partition_index.specs.Parts.{LiesIn}
 use Rattle.partition_index.proofs.BodyPlaces.{AreLong, range_of_body}
 use Rattle.log_partition.specs.Bodies.{HasRows}
 use Rattle.leaf_store.specs.Loading.{IsPlaced}

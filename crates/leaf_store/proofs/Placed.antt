@@ -8,10 +8,10 @@ use Rattle.fine_model.specs.declared.Mark.TheVariants as mark
 use Rattle.fine_model.specs.declared.Part.{Part}
 use Rattle.fine_model.specs.Merge.{fits_in}
 use Rattle.fine_model.specs.Chain.{regions_of}
-use Rattle.fine_model.specs.Regions.{Image, region_of, header_at, regions_at, alike, length_tests, header_tests, HasHeader}
+use Rattle.fine_model.specs.Regions.{Image, region_of, header_at, regions_at, alike, length_tests, header_tests, HasHeader, body_len}
 use Rattle.fine_model.proofs.Order.{first_of_both}
 use Rattle.fine_model.proofs.Headers.{Good, good, regions_are, more_are, seven}
-use Rattle.partition_index.specs.Parts.{is_counted, body_len}
+use Rattle.partition_index.specs.Parts.{is_counted}
 use Rattle.leaf_store.specs.Loading.{IsPlaced}
 
 alike_true : (a b : Bool) → alike a b ≡ true → a ≡ true → b ≡ true

@@ -12,10 +12,10 @@ use Rattle.fine_model.specs.declared.Damage.{Damage}
 use Rattle.fine_model.specs.declared.Damage.TheVariants as damage
 use Rattle.fine_model.specs.RowBytes.{rows_len}
 use Rattle.fine_model.specs.Nodes.{Content, content}
-use Rattle.fine_model.specs.Regions.{Image, Place, place_of, body_in, HasHeader, IsBadItem, HoldsBadItem, IsSealed}
+use Rattle.fine_model.specs.Regions.{Image, Place, place_of, body_in, HasHeader, IsBadItem, HoldsBadItem, IsSealed, body_len}
 use Rattle.fine_model.specs.Chain.{regions_of}
 use Rattle.log_partition.specs.Bodies.{HasRows}
-use Rattle.partition_index.specs.Parts.{LiesIn, body_len}
+use Rattle.partition_index.specs.Parts.{LiesIn}
 use Rattle.leaf_store.specs.declared.fault.LoadFault.{LoadFault}
 use Rattle.leaf_store.specs.declared.fault.LoadFault.TheVariants as fault
 use Rattle.leaf_store.specs.Leaves.{sets_in, Holds}

@@ -9,8 +9,7 @@ use Rattle.fine_model.specs.declared.Damage.{Damage}
 use Rattle.fine_model.specs.declared.Damage.TheVariants as damage
 use Rattle.fine_model.specs.RowBytes.{rows_len, FitsRow}
 use Rattle.fine_model.specs.Nodes.{Content, step}
-use Rattle.fine_model.specs.Regions.{Image, Place, place_of, body_in}
-use Rattle.partition_index.specs.Parts.{body_len}
+use Rattle.fine_model.specs.Regions.{Image, Place, place_of, body_in, body_len}
 use Rattle.leaf_store.specs.declared.fault.LoadFault.{LoadFault}
 use Rattle.leaf_store.specs.declared.fault.LoadFault.TheVariants as fault
 use Rattle.leaf_store.specs.Leaves.{sets_in, is_plain, IsStepped, Holds}

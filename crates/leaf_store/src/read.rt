@@ -1,8 +1,8 @@
 //! The rows of a part, read from the disk.
 
 ghost use Rattle.std.specs.Prelude.{◌≡◌, ◌<◌, IfOk, IfErr, IsErr, IsErrOf, length};
-ghost use Rattle.fine_model.specs.Regions.{place_of};
-ghost use Rattle.partition_index.specs.Parts.{LiesIn, body_len};
+ghost use Rattle.fine_model.specs.Regions.{place_of, body_len};
+ghost use Rattle.partition_index.specs.Parts.{LiesIn};
 ghost use Rattle.leaf_store.specs.declared.fault.LoadFault.TheVariants as load;
 ghost use Rattle.leaf_store.specs.Loading.{IsPlaced};
 ghost use Rattle.leaf_store.specs.Reading.{CountsRead, FindsBad, ReadsBody, ReadsPart, damage_at};

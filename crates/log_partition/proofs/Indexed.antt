@@ -6,13 +6,13 @@ use Rattle.std.proofs.lemmas.List.{drop-drop, take_all, take-take, length-map}
 use Rattle.fine_model.specs.declared.Header.{Header}
 use Rattle.fine_model.specs.declared.Row.{Row}
 use Rattle.fine_model.specs.Merge.{nodes_in}
-use Rattle.fine_model.specs.Regions.{index_bytes, index_area, IsBadEntry}
+use Rattle.fine_model.specs.Regions.{index_bytes, index_area, IsBadEntry, body_len}
 use Rattle.fine_model.proofs.Spelling.{split_same}
 use Rattle.partition_index.specs.Entries.{bytes_of, entry_for}
 use Rattle.partition_index.specs.Index.{entries_of}
 use Rattle.partition_index.specs.declared.entries.IndexEntry.{IndexEntry}
 use Rattle.partition_index.proofs.Bytes.{index_is as bytes_are}
-use Rattle.log_partition.specs.Bodies.{body_len, AreTheRows, IsTheIndex}
+use Rattle.log_partition.specs.Bodies.{AreTheRows, IsTheIndex}
 
 -- what an index has behind its end
 abbrev pub no_entry : IndexEntry

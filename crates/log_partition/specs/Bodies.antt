@@ -6,13 +6,9 @@ use Rattle.fine_model.specs.declared.Mark.{Mark}
 use Rattle.fine_model.specs.declared.Row.{Row}
 use Rattle.fine_model.specs.RowBytes.{rows_bytes, rows_len, FitsRow, FitsRec}
 use Rattle.fine_model.specs.Merge.{is_ordered, nodes_in}
-use Rattle.fine_model.specs.Regions.{body_bytes, index_bytes, index_area, BeginsWithRows, IsBadRow, IsBadItem}
+use Rattle.fine_model.specs.Regions.{body_bytes, index_bytes, index_area, BeginsWithRows, IsBadRow, IsBadItem, body_len}
 use Rattle.log_partition.specs.declared.fault.DecodeFault.{DecodeFault}
 use Rattle.log_partition.specs.declared.fault.DecodeFault.TheVariants as fault
-
--- how many bytes the rows and the index of a partition have
-abbrev pub body_len : Header → ℕ
-body_len header = header.area + 14 * header.nodes
 
 -- the rows of a body, in order, with their index
 pub record HasRows (header : Header) (body : List ℕ) (rows : List Row) : Type 0 where

@@ -5,7 +5,7 @@ use Rattle.fine_model.specs.declared.NodeId.{NodeId}
 use Rattle.fine_model.specs.declared.Range.{Range}
 use Rattle.fine_model.specs.declared.Row.{Row}
 use Rattle.fine_model.specs.declared.Mark.TheVariants as mark
-use Rattle.fine_model.specs.RowBytes.{greatest, FitsRow, longest_region}
+use Rattle.fine_model.specs.RowBytes.{greatest, FitsRow, longest_region, index_entry}
 use Rattle.fine_model.specs.Merge.{is_node_below, is_ordered, nodes_in, encoded_len}
 use Rattle.fine_model.specs.Nodes.{is_node}
 use Rattle.fine_model.specs.Regions.{Image, region_of, sealed_gate, header_of, partition_bytes, IsSealed}
@@ -48,7 +48,7 @@ pub record HasIndexRoom (len capacity : ℕ) (keys : List RowAt) : Type 0 where
   pub bytes : List ℕ
   pub rows : List Row
   pub at : AreRowsAt longest_region bytes keys rows
-  pub room : len + 14 * length (nodes_in rows) ≤ capacity
+  pub room : len + index_entry * length (nodes_in rows) ≤ capacity
 
 -- the header and the bytes of a partition of rows
 pub record IsEncoded (region_len : ℕ) (range : Range) (rows : List Row) (partition : Partition) : Type 0 where

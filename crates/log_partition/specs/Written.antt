@@ -4,14 +4,14 @@ use Rattle.std.specs.List.{AllByRecursion, range_with_len}
 use Rattle.fine_model.specs.declared.Header.{Header}
 use Rattle.fine_model.specs.declared.Row.{Row}
 use Rattle.fine_model.specs.declared.Mark.TheVariants as mark
-use Rattle.fine_model.specs.RowBytes.{rows_len, greatest, FitsRow}
+use Rattle.fine_model.specs.RowBytes.{rows_len, greatest, FitsRow, most_in_log}
 use Rattle.fine_model.specs.Merge.{is_ordered, nodes_in, fits_in}
-use Rattle.fine_model.specs.Regions.{Image, region_of, sealed_gate, header_bytes, body_bytes, body_in, header_in, entry_test, IsSealed}
-use Rattle.partition_index.specs.Parts.{LiesIn, body_len}
+use Rattle.fine_model.specs.Regions.{Image, region_of, sealed_gate, header_bytes, body_bytes, body_in, header_in, entry_test, IsSealed, body_len}
+use Rattle.partition_index.specs.Parts.{LiesIn}
 
 -- a header that passes each test which reading makes
 pub record IsGood (region_len regions lead : ℕ) (header : Header) : Type 0 where
-  pub few : regions ≤ 64
+  pub few : regions ≤ most_in_log
   pub range : (1 ≤ header.range.first) × (header.range.first ≤ header.range.last) × (header.range.last ≤ greatest)
   pub counted : (header.rows < 2 ^ 32) × (header.nodes ≤ header.rows) × ((header.nodes ≡ 0) ↔ (header.rows ≡ 0)) × ((header.area ≡ 0) ↔ (header.rows ≡ 0))
   pub lies : LiesIn region_len header

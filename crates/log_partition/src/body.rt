@@ -1,11 +1,12 @@
 //! Bodies, read.
 
 ghost use Rattle.std.specs.Prelude.{◌≡◌, ◌+◌, ◌*◌, ◌<◌, ◌≤◌, ◌++◌, ◌∷◌, [], IsTrue, length, map, take, drop, ◌↔◌, IfOk, IfErr, OnOk, true};
-ghost use Rattle.fine_model.specs.RowBytes.{row_len};
+ghost use Rattle.fine_model.specs.RowBytes.{row_len, index_entry};
 ghost use Rattle.fine_model.specs.Merge.{is_ordered};
+ghost use Rattle.fine_model.specs.Regions.{body_len};
 ghost use Rattle.partition_index.specs.Entries.{bytes_of};
 ghost use Rattle.partition_index.specs.Index.{entries_of};
-ghost use Rattle.log_partition.specs.Bodies.{body_len, HasRows, NamesBadItem, NamesBadRow, AreTheRows, IsTheIndex, HaveLengths};
+ghost use Rattle.log_partition.specs.Bodies.{HasRows, NamesBadItem, NamesBadRow, AreTheRows, IsTheIndex, HaveLengths};
 
 use crate::fault::DecodeFault;
 use crate::header::field;
@@ -70,10 +71,10 @@ pub fn lens_of(alloc: Global, rows: &Rows) -> Result<Vec<u32>, NoMemory>
 
 /// Whether an index entry stands at a place.
 fn stands_at(body: &[u8], at: usize, entry: &IndexEntry) -> bool
-    requires { at + 14 ≤ length body.now }
-    ensures { IsTrue result ↔ (take 14 (drop at body.now) ≡ bytes_of entry.now) }
+    requires { at + index_entry ≤ length body.now }
+    ensures { IsTrue result ↔ (take index_entry (drop at body.now) ≡ bytes_of entry.now) }
 {
-    field::<14>(body, at) == entry_bytes(entry)
+    field::<INDEX_ENTRY>(body, at) == entry_bytes(entry)
 }
 
 /// Compares the index of a body with that of its rows.

@@ -2,7 +2,7 @@
 
 ghost use Rattle.std.specs.Prelude.{◌≡◌, ℕ, ◌+◌, ◌*◌, ◌≤◌, ◌++◌, List, IfOk, if◌then◌else◌, length, vec_len, vec_capacity};
 ghost use Rattle.fine_model.specs.declared.Row.{Row};
-ghost use Rattle.fine_model.specs.RowBytes.{rows_bytes, rows_len, longest_region};
+ghost use Rattle.fine_model.specs.RowBytes.{rows_bytes, rows_len, longest_region, index_entry};
 ghost use Rattle.fine_model.specs.Merge.{encoded_len};
 ghost use Rattle.fine_model.specs.Regions.{header_of, index_bytes};
 ghost use Rattle.node_record.specs.Keys.{AreKeysOf};
@@ -43,7 +43,7 @@ pub fn encoded_len(rows: &Rows) -> u64
 /// How many bytes the index grows by for a row of a node behind these rows, of which the greatest node is given.
 fn entry_len(rows: &[Row], greatest: Option<NodeId>, node: NodeId) -> u64
     requires { IsGreatestOf rows.now greatest }
-    ensures { result ≡ (if names node rows.now then 0 else 14) }
+    ensures { result ≡ (if names node rows.now then 0 else index_entry) }
 {
     let Some(greatest) = greatest else {
         return INDEX_ENTRY as u64;

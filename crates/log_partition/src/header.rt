@@ -3,7 +3,7 @@
 ghost use Rattle.std.specs.Prelude.{◌≡◌, ◌+◌, ◌<◌, ◌≤◌, ◌++◌, ℕ, List, Some, Ok, Err, true, is_some, length, drop, take, if◌then◌else◌};
 ghost use Rattle.std.specs.Int.{w32, w64};
 ghost use Rattle.fine_model.specs.Regions.{mark_of, number_in, regions_at, more_at, header_at, header_in, bad_field, entry_test, length_tests};
-ghost use Rattle.fine_model.specs.RowBytes.{longest_region};
+ghost use Rattle.fine_model.specs.RowBytes.{longest_region, longest_header};
 ghost use Rattle.log_partition.specs.declared.fault.HeaderFault.TheVariants as fault;
 ghost use Rattle.log_partition.specs.Headers.{failed, first_bad, read, entry_tests, HeaderLaw};
 
@@ -63,7 +63,7 @@ fn sure(holds: bool, at: u32) -> Result<(), HeaderFault>
 
 /// The number of regions that a header of a mark spells.
 fn regions_at(bytes: &[u8], mark: Mark) -> u8
-    requires { 70 ≤ length bytes.now }
+    requires { longest_header ≤ length bytes.now }
     ensures { result ≡ regions_at mark bytes.now }
 {
     match mark {
@@ -74,7 +74,7 @@ fn regions_at(bytes: &[u8], mark: Mark) -> u8
 
 /// The regions behind the lead that a header of a mark spells.
 fn more_at(bytes: &[u8], mark: Mark) -> [u32; 7]
-    requires { 70 ≤ length bytes.now }
+    requires { longest_header ≤ length bytes.now }
     ensures { result ≡ more_at mark bytes.now }
 {
     match mark {
@@ -94,7 +94,7 @@ fn more_at(bytes: &[u8], mark: Mark) -> [u32; 7]
 /// The header that bytes of a mark spell.
 #[tactic(auto, unfolding(fine_model::specs::Regions::header_at))]
 fn header_at(bytes: &[u8], mark: Mark) -> Header
-    requires long { 70 ≤ length bytes.now }
+    requires long { longest_header ≤ length bytes.now }
     requires of_mark { mark_of (take 4 (drop 1 bytes.now)) ≡ Some mark }
     ensures { result ≡ header_at bytes.now }
 {
@@ -166,7 +166,7 @@ fn test_fields(
     regions: u32,
     region_len: u64,
 ) -> Result<(), HeaderFault>
-    requires long { 70 ≤ length bytes.now }
+    requires long { longest_header ≤ length bytes.now }
     requires marked { is_some (mark_of (take 4 (drop 1 bytes.now))) ≡ true }
     requires is { header.now ≡ header_at bytes.now }
     requires region_len { (1 ≤ region_len) × (region_len ≤ longest_region) }
@@ -192,7 +192,7 @@ pub fn read_header(
     regions: u32,
     region_len: u64,
 ) -> Result<Option<Header>, HeaderFault>
-    requires long { 70 ≤ length bytes.now }
+    requires long { longest_header ≤ length bytes.now }
     requires of_disk { region < regions }
     requires region_len { (1 ≤ region_len) × (region_len ≤ longest_region) }
     ensures is { read result ≡ header_in region_len regions region bytes.now }

@@ -2,17 +2,15 @@
 use Rattle.std.specs.Prelude.{ℕ, ◌+◌, ◌-◌, ◌*◌, ◌/◌, ◌==◌, nat_le, nat_lt, min, max, Bool, ◌&&◌, List, Option, Some, None, find}
 use Rattle.fine_model.specs.declared.Part.{Part}
 use Rattle.fine_model.specs.Merge.{fits_in}
-use Rattle.fine_model.specs.Regions.{body_start}
+use Rattle.fine_model.specs.Regions.{body_start, body_len}
+use Rattle.fine_model.specs.RowBytes.{index_entry}
 use Rattle.merge_policy.specs.declared.figures.Measured.{Measured}
 use Rattle.merge_policy.specs.declared.figures.Pair.{Pair}
 use Rattle.merge_policy.specs.declared.figures.Space.{Space}
 
--- the bytes of a part's rows and index entries, and its length with the header
-abbrev pub body_len : Part → ℕ
-body_len part = part.header.area + 14 * part.header.nodes
-
+-- the length of a part with its header
 abbrev pub part_len : Part → ℕ
-part_len part = body_start part.header.mark + body_len part
+part_len part = body_start part.header.mark + body_len part.header
 
 -- two neighbours were measured
 abbrev pub is_of : Part → Part → Measured → Bool
@@ -20,7 +18,7 @@ is_of older newer measured =
     (measured.older == older.header.range.first) && (measured.newer == newer.header.range.first) && (measured.last == newer.header.range.last)
 
 abbrev pub measured_len : Measured → ℕ
-measured_len measured = measured.area + 14 * measured.nodes
+measured_len measured = measured.area + index_entry * measured.nodes
 
 -- the least that the merged rows of two neighbours may take: what was measured, or nothing
 abbrev pub len_or_none : Option Measured → ℕ
@@ -35,7 +33,7 @@ unfoldable pub figures : List Measured → Part → Part → Pair
 figures known older newer = record {
   longer = max (part_len older) (part_len newer);
   shorter = min (part_len older) (part_len newer);
-  together = body_len older + body_len newer;
+  together = body_len older.header + body_len newer.header;
   least = least_len known older newer;
   regions = older.header.regions + newer.header.regions;
 }

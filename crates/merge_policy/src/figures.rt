@@ -1,7 +1,7 @@
 //! What a choice between pairs of neighbours goes by: numbers of the disk, and of a pair.
 
 ghost use Rattle.std.specs.Prelude.{◌≡◌, ◌+◌, ◌*◌, ◌<◌, ◌≤◌, find, option_map};
-ghost use Rattle.fine_model.specs.RowBytes.{longest_region};
+ghost use Rattle.fine_model.specs.RowBytes.{longest_region, index_entry};
 ghost use Rattle.merge_policy.specs.Figures.{figures, fits_up_to, frees, is_of, least_len, part_len, unevenness, unused};
 ghost use Rattle.merge_policy.specs.Choices.{rank, serves};
 
@@ -60,7 +60,7 @@ pub(crate) enum Aim {
 
 /// What the rows and the index entries of a partition take, in bytes.
 fn body_len(area: u32, nodes: u32) -> u64
-    ensures is { result ≡ area + 14 * nodes }
+    ensures is { result ≡ area + index_entry * nodes }
     ensures few { result < 68719476736 }
 {
     u64::from(area) + 14 * u64::from(nodes)

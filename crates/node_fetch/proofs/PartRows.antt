@@ -8,11 +8,11 @@ use Rattle.fine_model.specs.declared.Part.{Part}
 use Rattle.fine_model.specs.declared.Row.{Row}
 use Rattle.fine_model.specs.Nodes.{rows_of}
 use Rattle.fine_model.specs.RowBytes.{rows_len}
-use Rattle.fine_model.specs.Regions.{Image, IsSealed}
+use Rattle.fine_model.specs.Regions.{Image, IsSealed, body_len}
 use Rattle.partition_index.specs.declared.entries.Span.{Span}
 use Rattle.partition_index.specs.declared.entries.SeekFault.{SeekFault}
 use Rattle.partition_index.specs.declared.entries.SeekFault.TheVariants as fault
-use Rattle.partition_index.specs.Parts.{SameEye, body_len}
+use Rattle.partition_index.specs.Parts.{SameEye}
 use Rattle.partition_index.specs.Search.{TellsRows, IsSpanOf, IsBadAt, LacksNode, sought, span_for}
 use Rattle.fine_model.specs.declared.FetchFault.{FetchFault}
 use Rattle.node_fetch.specs.Fetched.{HoldsRows, ReadsRows, NoDamage}

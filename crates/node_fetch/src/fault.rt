@@ -2,8 +2,8 @@
 
 ghost use Rattle.std.specs.Prelude.{◌≡◌, ◌<◌};
 ghost use Rattle.fine_model.specs.declared.FetchFault.TheVariants as fetch_fault;
-ghost use Rattle.fine_model.specs.Regions.{place_of};
-ghost use Rattle.partition_index.specs.Parts.{LiesIn, body_len};
+ghost use Rattle.fine_model.specs.Regions.{place_of, body_len};
+ghost use Rattle.partition_index.specs.Parts.{LiesIn};
 ghost use Rattle.node_fetch.specs.Fetched.{row_fault, index_fault};
 
 use fine_model::{FetchFault, Part};

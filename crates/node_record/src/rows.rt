@@ -1,7 +1,7 @@
 //! Rows as bytes.
 
 ghost use Rattle.std.specs.Prelude.{◌≡◌, ◌+◌, ◌≤◌, ◌<◌, ◌++◌, ◌==◌, length, drop, vec_len, vec_capacity, IfOk, IfErr, OnOk, OnErr, if◌then◌else◌};
-ghost use Rattle.fine_model.specs.RowBytes.{FitsRec, row_bytes, row_len, last_kind};
+ghost use Rattle.fine_model.specs.RowBytes.{FitsRec, row_bytes, row_len, last_kind, row_front};
 ghost use Rattle.node_record.specs.declared.fault.RowFault.TheVariants as fault;
 ghost use Rattle.node_record.specs.Reading.{Gives, fits_kind, front_at};
 ghost use Rattle.node_record.specs.Rows.{IsRowAt, IsFault, IsReadAgain};
@@ -77,7 +77,7 @@ pub fn row_len(row: &Row) -> u32
 /// What stands before the body.
 #[tactic(auto, unfolding(crate::specs::Writing::front))]
 fn write_front(out: &mut Vec<u8>, kind: u8, row: &Row, len: u32)
-    requires { vec_len out.old + 19 ≤ vec_capacity out.old }
+    requires { vec_len out.old + row_front ≤ vec_capacity out.old }
     ensures { Appends out.old out.new (front kind row.now len) }
 {
     put(out, &[kind]);

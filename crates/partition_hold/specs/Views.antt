@@ -9,6 +9,7 @@ use Rattle.fine_model.specs.declared.law.ViewState.{ViewState}
 use Rattle.fine_model.specs.Chain.{regions_of}
 use Rattle.fine_model.specs.Boards.{set_of}
 use Rattle.fine_model.specs.Views.{TellsRows, TellsRowsOf}
+use Rattle.fine_model.specs.RowBytes.{most_in_log}
 use Rattle.partition_index.specs.Parts.{IsSeen, SameEye}
 use Rattle.partition_index.specs.Search.{TellsRows as TellsPart}
 use Rattle.node_fetch.specs.Fetched.{TellsParts}
@@ -26,7 +27,7 @@ pub record ViewValue : Type 0 where
 pub record IsView (v : ViewValue) : Type 0 where
   pub seen : AllByRecursion (IsSeen v.eye) v.parts
   pub long : v.region_len ≡ v.eye.region_len
-  pub small : AllByRecursion (λ r. r < 64) v.eye.regions
+  pub small : AllByRecursion (λ r. r < most_in_log) v.eye.regions
   pub place : (1 ≤ v.seat) × (v.buffer < 3)
 
 -- an eye as the board has it

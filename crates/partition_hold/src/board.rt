@@ -4,6 +4,7 @@ ghost use Rattle.std.specs.Prelude.{◌≡◌, ◌+◌, ◌*◌, ◌<◌, ◌≤
 ghost use Rattle.std.specs.List.{AllByRecursion};
 ghost use Rattle.log_disk.specs.Disk.{Eye};
 ghost use Rattle.fine_model.specs.Boards.{Buffer, buffer_at, empty_of, first_from, is_empty, names_region, naming_of};
+ghost use Rattle.fine_model.specs.RowBytes.{most_in_log};
 ghost use Rattle.partition_hold.specs.Boards.{buffers_of, held_of};
 ghost use Rattle.partition_hold.specs.Views.{opened};
 
@@ -47,7 +48,7 @@ impl<E: LogEye> Model for Board<E> {
 
 /// Whether a buffer names a region.
 fn is_naming<E: LogEye>(buffer: &Option<Held<E>>, region: u32) -> bool
-    requires { region < 64 }
+    requires { region < most_in_log }
     ensures { result ≡ names_region region (option_map (held_of E.LogEye.state) buffer.now) }
 {
     match buffer {
@@ -71,7 +72,7 @@ fn first_empty<E: LogEye>(buffers: &[Option<Held<E>>]) -> Option<usize>
 
 /// The first one of some buffers that names a region.
 fn first_naming<E: LogEye>(buffers: &[Option<Held<E>>], region: u32) -> Option<usize>
-    requires { region < 64 }
+    requires { region < most_in_log }
     ensures first { result ≡ first_from (names_region region) 0 (buffers_of E.LogEye.state buffers.now) }
     ensures there { IfSome result (λ at. at < length buffers.now) }
 {
@@ -101,7 +102,7 @@ impl<E: LogEye> Board<E> {
     pub fn post(&mut self, seat: u32, eye: &E, regions: &[u32]) -> u8
         requires seat { 1 ≤ seat }
         requires seats { 3 * seat ≤ length self.old }
-        requires regions { AllByRecursion (λ region. region < 64) regions.now }
+        requires regions { AllByRecursion (λ region. region < most_in_log) regions.now }
         requires of_eye { (E.LogEye.state eye.now).regions ≡ regions.now }
         requires empty { IsSome (empty_of self.old seat) }
         ensures lowest { empty_of self.old seat ≡ Some result }
@@ -130,7 +131,7 @@ impl<E: LogEye> Board<E> {
 
     /// The first seat, and its first buffer, that name a region; None exactly where none does. It takes no memory.
     pub fn names(&self, region: u32) -> Option<(u32, u8)>
-        requires { region < 64 }
+        requires { region < most_in_log }
         ensures { result ≡ naming_of self.now region }
     {
         match first_naming(&self.buffers, region) {

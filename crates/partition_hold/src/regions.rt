@@ -4,6 +4,7 @@ ghost use Rattle.std.specs.Prelude.{◌≡◌, ℕ, ◌<◌, ◌==◌, ◌≤◌
 ghost use Rattle.std.specs.Int.{bit_at};
 ghost use Rattle.std.specs.List.{AllByRecursion, list_any, range_with_len};
 ghost use Rattle.fine_model.specs.Boards.{set_of};
+ghost use Rattle.fine_model.specs.RowBytes.{most_in_log};
 
 use std::marker::Model;
 
@@ -30,8 +31,8 @@ impl Model for RegionSet {
 
 /// The word of some regions.
 fn word_of(regions: &[u32]) -> u64
-    requires { AllByRecursion (λ region. region < 64) regions.now }
-    ensures { (region : ℕ) → region < 64 → (bit_at result region == 1) ≡ list_any (nat_eq region) regions.now }
+    requires { AllByRecursion (λ region. region < most_in_log) regions.now }
+    ensures { (region : ℕ) → region < most_in_log → (bit_at result region == 1) ≡ list_any (nat_eq region) regions.now }
 {
     let mut word = 0;
     for region in regions {
@@ -43,7 +44,7 @@ fn word_of(regions: &[u32]) -> u64
 impl RegionSet {
     /// The set of regions that a list has.
     pub fn of(regions: &[u32]) -> RegionSet
-        requires { AllByRecursion (λ region. region < 64) regions.now }
+        requires { AllByRecursion (λ region. region < most_in_log) regions.now }
         ensures { result ≡ set_of regions.now }
     {
         RegionSet {
@@ -60,7 +61,7 @@ impl RegionSet {
 
     /// All regions below a number.
     pub fn below(regions: u32) -> RegionSet
-        requires { regions ≤ 64 }
+        requires { regions ≤ most_in_log }
         ensures { result ≡ range_with_len 0 regions }
     {
         if regions == MOST {
@@ -73,7 +74,7 @@ impl RegionSet {
 
     /// Adds a region, which may be there.
     pub fn insert(&mut self, region: u32)
-        requires { region < 64 }
+        requires { region < most_in_log }
         ensures { self.new ≡ set_of (self.old ++ region ∷ []) }
     {
         self.bits |= 1 << region;
@@ -81,7 +82,7 @@ impl RegionSet {
 
     /// Adds regions, of which some may be there.
     pub fn insert_all(&mut self, regions: &[u32])
-        requires { AllByRecursion (λ region. region < 64) regions.now }
+        requires { AllByRecursion (λ region. region < most_in_log) regions.now }
         ensures { self.new ≡ set_of (self.old ++ regions.now) }
     {
         self.bits |= word_of(regions);
@@ -89,7 +90,7 @@ impl RegionSet {
 
     /// Takes a region out, which may not be there.
     pub fn remove(&mut self, region: u32)
-        requires { region < 64 }
+        requires { region < most_in_log }
         ensures { self.new ≡ filter (λ r. not (nat_eq r region)) self.old }
     {
         self.bits &= !(1 << region);
@@ -97,7 +98,7 @@ impl RegionSet {
 
     /// Whether a region is there.
     pub fn holds(&self, region: u32) -> bool
-        requires { region < 64 }
+        requires { region < most_in_log }
         ensures { result ≡ list_any (nat_eq region) self.now }
     {
         self.bits >> region & 1 == 1
@@ -106,7 +107,7 @@ impl RegionSet {
     /// The lowest region; None exactly where there is none.
     pub fn lowest(&self) -> Option<u32>
         ensures lowest { result ≡ slice_get self.now 0 }
-        ensures small { IfSome result (λ region. region < 64) }
+        ensures small { IfSome result (λ region. region < most_in_log) }
     {
         if self.bits == 0 {
             return None;
@@ -117,7 +118,7 @@ impl RegionSet {
     /// How many regions there are, at most 64. A set has each of its regions once, in ascending order.
     pub fn len(&self) -> u32
         ensures count { result ≡ length self.now }
-        ensures few { result ≤ 64 }
+        ensures few { result ≤ most_in_log }
         ensures ordered { set_of self.now ≡ self.now }
     {
         self.bits.count_ones()
@@ -126,7 +127,7 @@ impl RegionSet {
     /// Takes the lowest region out; None exactly where there is none.
     pub fn take_lowest(&mut self) -> Option<u32>
         ensures lowest { result ≡ slice_get self.old 0 }
-        ensures small { IfSome result (λ region. region < 64) }
+        ensures small { IfSome result (λ region. region < most_in_log) }
         ensures left { self.new ≡ drop 1 self.old }
     {
         let region = self.lowest()?;

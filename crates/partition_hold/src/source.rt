@@ -1,7 +1,7 @@
 //! A view as the source of the nodes of buckets.
 
 ghost use Rattle.std.specs.Prelude.{◌≡◌, ◌<◌, IfErr, OnErr, OnOk};
-ghost use Rattle.fine_model.specs.RowBytes.{node_numbers};
+ghost use Rattle.fine_model.specs.RowBytes.{node_numbers, buckets};
 ghost use Rattle.node_cache.specs.Given.{IsCached, IsLoad, OnCleanLoad, SameNodes};
 ghost use Rattle.partition_hold.specs.Sources.{Fails, IsClean, IsLater, finds_in, tells_rows};
 
@@ -52,7 +52,7 @@ impl<E: LogEye> NodeSource for View<E> {
     /// `BadRow` and `BadIndex` only with a place that is bad by the bytes that were read, and only where the view tells no rows. A call
     /// that answers anything but `Failed` leaves the count. The view is as before but for its eye's counts.
     fn load(&mut self, bucket: &mut Bucket, number: u32) -> Result<(), FetchFault>
-        requires bucket { bucket.old.bucket < 256 }
+        requires bucket { bucket.old.bucket < buckets }
         requires number { number < node_numbers }
         ensures later { IsLater self.old self.new }
         ensures clean { OnCleanLoad result (IsClean self.old self.new) }

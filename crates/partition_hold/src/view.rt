@@ -8,9 +8,10 @@ ghost use Rattle.fine_model.specs.declared.FetchFault.TheVariants as fetch_fault
 ghost use Rattle.fine_model.specs.BoundLaws.{FitsNode};
 ghost use Rattle.fine_model.specs.Merge.{merged};
 ghost use Rattle.fine_model.specs.Nodes.{content, rows_of};
-ghost use Rattle.fine_model.specs.RowBytes.{greatest, rows_len};
+ghost use Rattle.fine_model.specs.RowBytes.{greatest, rows_len, most_in_log};
 ghost use Rattle.fine_model.specs.Views.{TellsRows};
-ghost use Rattle.partition_index.specs.Parts.{CountsFaults, IsSeen, LooksAt, body_len};
+ghost use Rattle.fine_model.specs.Regions.{body_len};
+ghost use Rattle.partition_index.specs.Parts.{CountsFaults, IsSeen, LooksAt};
 ghost use Rattle.partition_index.specs.Search.{Searches};
 ghost use Rattle.partition_index.specs.Search.{TellsRows as TellsPart};
 ghost use Rattle.node_fetch.specs.Fetched.{HasBadEntry, HasBadRow, IsReplayOf, NoDamage, most_read, most_sought};
@@ -67,7 +68,7 @@ impl<E: LogEye> View<E> {
     ) -> View<E>
         requires seen { AllByRecursion (IsSeen (E.LogEye.state eye)) parts }
         requires region_len { region_len ≡ (E.LogEye.state eye).region_len }
-        requires small { AllByRecursion (λ region. region < 64) (E.LogEye.state eye).regions }
+        requires small { AllByRecursion (λ region. region < most_in_log) (E.LogEye.state eye).regions }
         requires seat { 1 ≤ seat }
         requires buffer { buffer < 3 }
         ensures made { result ≡ record { eye = E.LogEye.state eye; parts = parts; upto = upto; seat = seat; buffer = buffer; region_len = region_len } }

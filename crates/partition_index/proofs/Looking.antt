@@ -7,9 +7,9 @@ use Rattle.std.proofs.lemmas.List.{drop-drop, get_or_default}
 use Rattle.log_disk.specs.Disk.{Eye, Looks, HasRisen, Disk, Told, IsToldOf, IsSound, Opens, BothSee}
 use Rattle.fine_model.specs.declared.Part.{Part}
 use Rattle.fine_model.specs.Chain.{regions_of}
-use Rattle.fine_model.specs.Regions.{Image, region_of, body_in}
+use Rattle.fine_model.specs.Regions.{Image, region_of, body_in, body_len}
 use Rattle.fine_model.specs.Regions.{Place, place_of}
-use Rattle.partition_index.specs.Parts.{SameEye, LooksAt, IsSeen, LiesIn, body_len}
+use Rattle.partition_index.specs.Parts.{SameEye, LooksAt, IsSeen, LiesIn}
 use Rattle.partition_index.proofs.BodyPlaces.{AreLong, range_of_body}
 
 pub seen_same : (old new : Eye) (p : Part) → SameEye old new → IsSeen old p → IsSeen new p

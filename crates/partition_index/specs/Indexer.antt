@@ -4,7 +4,7 @@ use Rattle.std.specs.List.{AllByRecursion}
 use Rattle.fine_model.specs.declared.NodeId.{NodeId}
 use Rattle.fine_model.specs.declared.Row.{Row}
 use Rattle.fine_model.specs.Merge.{is_node_below, nodes_in}
-use Rattle.fine_model.specs.RowBytes.{row_len, rows_len}
+use Rattle.fine_model.specs.RowBytes.{row_len, rows_len, index_entry}
 use Rattle.partition_index.specs.Entries.{bytes_of, entry_for}
 use Rattle.partition_index.specs.Index.{is_rising}
 use Rattle.partition_index.specs.declared.entries.IndexEntry.{IndexEntry}
@@ -50,4 +50,4 @@ pub record HasNext (value : IndexerValue) (node : NodeId) (len : ℕ) : Type 0 w
   pub of_len : row_len row ≡ len
   pub rising : IsTrue (is_rising (rows ++ row ∷ []))
   pub small : rows_len (rows ++ row ∷ []) < 4294967296
-  pub room : length before + 14 * length (nodes_in (rows ++ row ∷ [])) ≤ value.capacity
+  pub room : length before + index_entry * length (nodes_in (rows ++ row ∷ [])) ≤ value.capacity

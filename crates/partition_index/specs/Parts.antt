@@ -6,23 +6,19 @@ use Rattle.fine_model.specs.declared.Header.{Header}
 use Rattle.fine_model.specs.declared.Mark.{Mark}
 use Rattle.fine_model.specs.declared.Mark.TheVariants as mark
 use Rattle.fine_model.specs.declared.Part.{Part}
-use Rattle.fine_model.specs.Regions.{region_of, body_in}
+use Rattle.fine_model.specs.Regions.{region_of, body_in, body_len}
 use Rattle.fine_model.specs.Merge.{fits_in}
 use Rattle.fine_model.specs.Chain.{regions_of}
-use Rattle.fine_model.specs.RowBytes.{longest_region}
-
--- how many bytes the rows and the index of a part have
-abbrev pub body_len : Header → ℕ
-body_len header = header.area + 14 * header.nodes
+use Rattle.fine_model.specs.RowBytes.{longest_region, longest_header, most_regions}
 
 -- the number of a part's regions, by its mark
 abbrev pub is_counted : Mark → ℕ → Bool
-is_counted mark.Three regions = nat_le 2 regions && nat_le regions 8
+is_counted mark.Three regions = nat_le 2 regions && nat_le regions most_regions
 is_counted _ regions = regions == 1
 
 -- A header whose rows and index lie in its regions, of a length that the disk may have.
 pub record LiesIn (region_len : ℕ) (header : Header) : Type 0 where
-  pub large : 70 < region_len
+  pub large : longest_header < region_len
   pub small : region_len ≤ longest_region
   pub listed : length header.more ≡ 7
   pub counted : IsTrue (is_counted header.mark header.regions)

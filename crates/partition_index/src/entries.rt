@@ -31,7 +31,7 @@ pub enum SeekFault {
 
 /// The 14 bytes of an entry.
 #[tactic(auto, unfolding(crate::specs::Entries::bytes_of))]
-pub fn entry_bytes(entry: &IndexEntry) -> [u8; 14]
+pub fn entry_bytes(entry: &IndexEntry) -> [u8; INDEX_ENTRY]
     ensures { result ≡ bytes_of entry.now }
 {
     let [b0, b1] = entry.node.bucket.to_be_bytes();
@@ -42,7 +42,7 @@ pub fn entry_bytes(entry: &IndexEntry) -> [u8; 14]
 }
 
 /// The entry that 14 bytes spell. Nothing is tested.
-pub fn entry_of(bytes: [u8; 14]) -> IndexEntry
+pub fn entry_of(bytes: [u8; INDEX_ENTRY]) -> IndexEntry
     ensures { model_of result ≡ entry_of bytes 0 }
 {
     let [b0, b1, n0, n1, n2, n3, o0, o1, o2, o3, r0, r1, r2, r3] = bytes;

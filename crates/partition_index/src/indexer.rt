@@ -3,7 +3,7 @@
 ghost use Rattle.std.specs.Prelude.{◌≡◌, ℕ, ◌+◌, ◌<◌, ◌≤◌, [], ◌∷◌, ◌++◌, IsTrue, IfSome, List, None, Option, Some, flat_map, length, vec_capacity, vec_len};
 ghost use Rattle.fine_model.specs.declared.Row.{Row};
 ghost use Rattle.fine_model.specs.Regions.{index_bytes};
-ghost use Rattle.fine_model.specs.RowBytes.{row_len};
+ghost use Rattle.fine_model.specs.RowBytes.{row_len, index_entry};
 ghost use Rattle.partition_index.specs.Entries.{bytes_of};
 ghost use Rattle.partition_index.specs.Index.{closed, is_rising, opened};
 ghost use Rattle.partition_index.specs.Indexer.{HasNext, Indexes};
@@ -29,12 +29,12 @@ impl Model for Indexer {
 
     ghost view = { λ indexer. record { bytes = indexer.out.items; capacity = vec_capacity indexer.out; last = indexer.last; offset = indexer.offset } };
 
-    ghost invariant = { λ indexer. IfSome indexer.last (λ e. vec_len indexer.out + 14 ≤ vec_capacity indexer.out) };
+    ghost invariant = { λ indexer. IfSome indexer.last (λ e. vec_len indexer.out + index_entry ≤ vec_capacity indexer.out) };
 }
 
 // Puts the last entry behind the bytes.
 fn close(out: &mut Vec<u8>, last: Option<IndexEntry>)
-    requires { IfSome last (λ e. vec_len out.old + 14 ≤ vec_capacity out.old) }
+    requires { IfSome last (λ e. vec_len out.old + index_entry ≤ vec_capacity out.old) }
     ensures bytes { out.new.items ≡ out.old.items ++ flat_map bytes_of (closed [] last) }
     ensures room { vec_capacity out.old ≤ vec_capacity out.new }
 {
@@ -46,7 +46,7 @@ fn close(out: &mut Vec<u8>, last: Option<IndexEntry>)
 // The last entry after a row more, which starts at an offset. That of another node is put behind the bytes.
 fn next_entry(out: &mut Vec<u8>, last: Option<IndexEntry>, node: NodeId, offset: u32) -> IndexEntry
     requires counted { IfSome last (λ e. e.rows < 4294967295) }
-    requires room { IfSome last (λ e. vec_len out.old + 14 ≤ vec_capacity out.old) }
+    requires room { IfSome last (λ e. vec_len out.old + index_entry ≤ vec_capacity out.old) }
     ensures bytes { out.new.items ≡ out.old.items ++ flat_map bytes_of (opened [] last node offset).0 }
     ensures last { result ≡ (opened [] last node offset).1 }
     ensures room { vec_capacity out.old ≤ vec_capacity out.new }

@@ -2,8 +2,8 @@
 
 ghost use Rattle.std.specs.Prelude.{◌≡◌, ◌+◌, ◌<◌, ◌≤◌, Contains, IsErr, length};
 ghost use Rattle.fine_model.specs.Chain.{regions_of};
-ghost use Rattle.fine_model.specs.Regions.{place_of};
-ghost use Rattle.partition_index.specs.Parts.{body_len, LiesIn, IsSeen, LooksAt};
+ghost use Rattle.fine_model.specs.Regions.{place_of, body_len};
+ghost use Rattle.partition_index.specs.Parts.{LiesIn, IsSeen, LooksAt};
 ghost use Rattle.partition_index.specs.Placing.{PlacedLaw, FrontLaw};
 
 use fine_model::{Part, body_start};

@@ -5,6 +5,7 @@ ghost use Rattle.fine_model.specs.declared.NodeId.{NodeId};
 ghost use Rattle.fine_model.specs.declared.Row.{Row};
 ghost use Rattle.fine_model.specs.Merge.{nodes_in};
 ghost use Rattle.fine_model.specs.Seek.{is_entry, entry_place, most_taken};
+ghost use Rattle.fine_model.specs.RowBytes.{index_entry};
 ghost use Rattle.partition_index.specs.declared.entries.SeekFault.TheVariants as fault;
 ghost use Rattle.partition_index.specs.Entries.{model_of, entry_for};
 ghost use Rattle.partition_index.specs.Parts.{IsSeen};
@@ -46,12 +47,12 @@ fn read_entry<E: LogEye>(
     requires seen { IsSeen (E.LogEye.state eye.old) part.now }
     requires region_len { region_len ≡ (E.LogEye.state eye.old).region_len }
     requires there { i < part.now.header.nodes }
-    ensures eye { Searches (IsErrOf result fault.Failed) 14 (E.LogEye.state eye.old) (E.LogEye.state eye.new) }
+    ensures eye { Searches (IsErrOf result fault.Failed) index_entry (E.LogEye.state eye.old) (E.LogEye.state eye.new) }
     ensures ok { IfOk result (IsEntryAt (E.LogEye.state eye.old).told part.now i) }
     ensures bad { (at : ℕ) → IsErrOf result (fault.BadIndex at) → IsBadAt (E.LogEye.state eye.old).told part.now at }
 {
     let at = entry_place(&part.header, i);
-    let mut bytes = [0; 14];
+    let mut bytes = [0; INDEX_ENTRY];
     if read_body(eye, part, region_len, at, &mut bytes).is_err() {
         return Err(SeekFault::Failed);
     }
@@ -67,7 +68,7 @@ fn end_of<E: LogEye>(eye: &mut E, part: &Part, i: u32, region_len: u64) -> Resul
     requires seen { IsSeen (E.LogEye.state eye.old) part.now }
     requires region_len { region_len ≡ (E.LogEye.state eye.old).region_len }
     requires there { i < part.now.header.nodes }
-    ensures eye { Searches (IsErrOf result fault.Failed) 14 (E.LogEye.state eye.old) (E.LogEye.state eye.new) }
+    ensures eye { Searches (IsErrOf result fault.Failed) index_entry (E.LogEye.state eye.old) (E.LogEye.state eye.new) }
     ensures ok { IfOk result (IsEndOf (E.LogEye.state eye.old).told part.now i) }
     ensures bad { (at : ℕ) → IsErrOf result (fault.BadIndex at) → IsBadAt (E.LogEye.state eye.old).told part.now at }
 {
@@ -90,7 +91,7 @@ fn span_of<E: LogEye>(
     requires region_len { region_len ≡ (E.LogEye.state eye.old).region_len }
     requires there { i < part.now.header.nodes }
     requires entry { IsEntryAt (E.LogEye.state eye.old).told part.now i entry.now }
-    ensures eye { Searches (IsErrOf result fault.Failed) 14 (E.LogEye.state eye.old) (E.LogEye.state eye.new) }
+    ensures eye { Searches (IsErrOf result fault.Failed) index_entry (E.LogEye.state eye.old) (E.LogEye.state eye.new) }
     ensures ok { IfOk result (IsSpanAt (E.LogEye.state eye.old).told part.now i) }
     ensures bad { (at : ℕ) → IsErrOf result (fault.BadIndex at) → IsBadAt (E.LogEye.state eye.old).told part.now at }
 {

@@ -6,7 +6,7 @@ use Rattle.fine_model.specs.declared.Part.{Part}
 use Rattle.fine_model.specs.declared.Row.{Row}
 use Rattle.fine_model.specs.Merge.{is_node_below, merged, cost}
 use Rattle.fine_model.specs.Regions.{body_bytes, index_bytes}
-use Rattle.fine_model.specs.RowBytes.{rows_bytes, rows_len}
+use Rattle.fine_model.specs.RowBytes.{rows_bytes, rows_len, index_entry}
 use Rattle.partition_index.specs.Parts.{IsSeen}
 use Rattle.partition_index.specs.Search.{TellsRows}
 use Rattle.partition_merge.specs.declared.merger.Merger.{Merger}
@@ -90,4 +90,4 @@ pub record HasRoom (merger : Merger) (most block_room at waiting index index_roo
   pub some : 1 ≤ most
   pub block : most ≤ block_room
   pub within : at ≤ waiting
-  pub entries : is_whole ≡ false → index + 14 * both_left merger ≤ index_room
+  pub entries : is_whole ≡ false → index + index_entry * both_left merger ≤ index_room

@@ -8,7 +8,7 @@ ghost use Rattle.fine_model.specs.declared.Row.{Row};
 ghost use Rattle.fine_model.specs.declared.FetchFault.TheVariants as fetch_fault;
 ghost use Rattle.fine_model.specs.Merge.{merged};
 ghost use Rattle.fine_model.specs.Regions.{Image};
-ghost use Rattle.fine_model.specs.RowBytes.{rows_bytes, rows_len};
+ghost use Rattle.fine_model.specs.RowBytes.{rows_bytes, rows_len, index_entry};
 ghost use Rattle.partition_index.specs.Entries.{bytes_of};
 ghost use Rattle.partition_index.specs.Index.{entry_at};
 ghost use Rattle.partition_index.specs.Parts.{CountsFaults, IsSeen, SameEye};
@@ -75,9 +75,9 @@ fn saturated(n: usize) -> u32
 // Puts the entry of a node's rows behind an index, for which there is room.
 fn put_entry(index: &mut Vec<u8>, rows: &[Row], offset: u32)
     requires some { 1 ≤ length rows.now }
-    requires room { vec_len index.old + 14 ≤ vec_capacity index.old }
+    requires room { vec_len index.old + index_entry ≤ vec_capacity index.old }
     ensures bytes { (id : NodeId) → AllByRecursion (λ r. r.node ≡ id) rows.now → length rows.now < 4294967296 → index.new.items ≡ index.old.items ++ bytes_of (entry_at offset id rows.now) }
-    ensures len { vec_len index.new ≡ vec_len index.old + 14 }
+    ensures len { vec_len index.new ≡ vec_len index.old + index_entry }
     ensures capacity { vec_capacity index.old ≤ vec_capacity index.new }
 {
     let entry = IndexEntry {
@@ -109,7 +109,7 @@ impl Blocks {
             block: Vec::with_capacity(alloc, most as usize)?,
             waiting: Vec::new(alloc),
             at: 0,
-            index: Vec::with_capacity(alloc, 14 * nodes)?,
+            index: Vec::with_capacity(alloc, INDEX_ENTRY * nodes)?,
             offset: 0,
             is_whole: false,
         })

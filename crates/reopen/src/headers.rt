@@ -2,7 +2,7 @@
 
 ghost use Rattle.std.specs.Prelude.{◌≡◌, ◌<◌, ◌≤◌, IfOk, IfErr, OnOk, OnErr, Ok, Err};
 ghost use Rattle.std.specs.List.{AllByRecursion};
-ghost use Rattle.fine_model.specs.RowBytes.{longest_region};
+ghost use Rattle.fine_model.specs.RowBytes.{longest_region, longest_header};
 ghost use Rattle.log_disk.specs.Disk.{OnlyFails};
 ghost use Rattle.log_partition.specs.Headers.{read};
 ghost use Rattle.reopen.specs.declared.fault.OpenFault.TheVariants as fault;
@@ -22,7 +22,7 @@ fn see_header<D: LogDisk>(
     region: u32,
 ) -> Result<Result<Option<Header>, HeaderFault>, Failed>
     requires region { region < (D.state disk.old).regions }
-    requires region_len { (70 ≤ (D.state disk.old).region_len) × ((D.state disk.old).region_len ≤ longest_region) }
+    requires region_len { (longest_header ≤ (D.state disk.old).region_len) × ((D.state disk.old).region_len ≤ longest_region) }
     ensures sees { IfOk result (λ answer. SeesHeader (D.state disk.old) region (read answer)) }
     ensures same { OnOk result (D.state disk.new ≡ D.state disk.old) }
     ensures failed { OnErr result (OnlyFails (D.state disk.old) (D.state disk.new)) }
@@ -37,7 +37,7 @@ fn see_header<D: LogDisk>(
 /// Reads the header of a region: none where it is closed.
 fn read_part<D: LogDisk>(disk: &mut D, region: u32) -> Result<Option<Header>, OpenFault>
     requires region { region < (D.state disk.old).regions }
-    requires region_len { (70 ≤ (D.state disk.old).region_len) × ((D.state disk.old).region_len ≤ longest_region) }
+    requires region_len { (longest_header ≤ (D.state disk.old).region_len) × ((D.state disk.old).region_len ≤ longest_region) }
     ensures ok { IfOk result (λ header. SeesHeader (D.state disk.old) region (Ok header)) }
     ensures err { IfErr result (IsBadHeader (D.state disk.old) region) }
     ensures failed { result ≡ Err fault.Disk → OnlyFails (D.state disk.old) (D.state disk.new) }
@@ -62,7 +62,7 @@ fn add_part(parts: &mut Parts, region: u32, header: Option<Header>) -> Result<()
 
 /// Reads the header of each region in ascending order, up to the first that is bad.
 fn read_parts<D: LogDisk>(alloc: Global, disk: &mut D) -> Result<Parts, OpenFault>
-    requires region_len { (70 ≤ (D.state disk.old).region_len) × ((D.state disk.old).region_len ≤ longest_region) }
+    requires region_len { (longest_header ≤ (D.state disk.old).region_len) × ((D.state disk.old).region_len ≤ longest_region) }
     ensures ok { IfOk result (SeesParts (D.state disk.old)) }
     ensures in_time { IfOk result (AllByRecursion EndsInTime) }
     ensures err { IfErr result (TellsDamage (D.state disk.old)) }
@@ -83,7 +83,7 @@ fn read_parts<D: LogDisk>(alloc: Global, disk: &mut D) -> Result<Parts, OpenFaul
 /// region on a tie. `BadRegion`, `Gap` and `Overlap` come exactly where the format has no chain, and tell what it says. `Disk` comes
 /// only where the disk failed. Nothing is written.
 pub fn read_chain<D: LogDisk>(alloc: Global, disk: &mut D) -> Result<Chain, OpenFault>
-    requires region_len { (70 ≤ (D.state disk.old).region_len) × ((D.state disk.old).region_len ≤ longest_region) }
+    requires region_len { (longest_header ≤ (D.state disk.old).region_len) × ((D.state disk.old).region_len ≤ longest_region) }
     ensures ok { IfOk result (SeesChain (D.state disk.old)) }
     ensures err { IfErr result (TellsDamage (D.state disk.old)) }
     ensures failed { result ≡ Err fault.Disk → OnlyFails (D.state disk.old) (D.state disk.new) }

@@ -5,6 +5,7 @@ ghost use Rattle.fine_model.specs.declared.Row.{Row as ModelRow};
 ghost use Rattle.fine_model.specs.declared.Call.TheVariants as call_of;
 ghost use Rattle.fine_model.specs.ScanLaws.{IsKept};
 ghost use Rattle.fine_model.specs.Trees.{IsSound};
+ghost use Rattle.fine_model.specs.RowBytes.{buckets};
 ghost use Rattle.node_cache.specs.Cache.{Cache};
 ghost use Rattle.node_cache.specs.Given.{IsLoaded};
 ghost use Rattle.btree_nodes.specs.Trees.{Serves, Holds, AreUsed};
@@ -84,7 +85,7 @@ impl RangeScan {
         limit: u32,
     ) -> Result<(), TreeFault>
         requires bucket { bucket.old.bucket ≡ self.old.next }
-        requires next { self.old.next < 256 }
+        requires next { self.old.next < buckets }
         ensures later { S.later source.old source.new }
         ensures clean { OnCleanAnswer result (S.clean source.old source.new) }
         ensures next { OnOk result (self.new.next ≡ self.old.next + 1) }
@@ -131,7 +132,7 @@ impl Draft {
     pub fn found(&mut self, call: &Call, scan: RangeScan) -> Result<(), NoMemory>
         requires open { self.old.failed ≡ false }
         requires scan { is_scan call.now ≡ true }
-        requires all { scan.next ≡ 256 }
+        requires all { scan.next ≡ buckets }
         ensures kept { OnOk result (KeepsFound call.now scan.pairs self.old self.new) }
         ensures fits { OnOk result (FitsDraft self.old → FitsDraft self.new) }
         ensures rows { OnOk result (self.new.rows ≡ self.old.rows) }

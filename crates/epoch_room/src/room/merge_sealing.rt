@@ -5,9 +5,9 @@ ghost use Rattle.std.specs.List.{AllByRecursion, position_or_len};
 ghost use Rattle.fine_model.specs.Boards.{set_of};
 ghost use Rattle.fine_model.specs.declared.Part.{Part};
 ghost use Rattle.fine_model.specs.Jobs.{taken_by};
-ghost use Rattle.fine_model.specs.Regions.{body_start, header_bytes};
+ghost use Rattle.fine_model.specs.Regions.{body_start, header_bytes, body_len};
+ghost use Rattle.fine_model.specs.RowBytes.{most_in_log};
 ghost use Rattle.log_disk.specs.Disk.{SameBeside, with_bytes};
-ghost use Rattle.partition_index.specs.Parts.{body_len};
 ghost use Rattle.epoch_room.specs.Gate.{gate, DirtiesOnly, HasBytes, KeepsBeside, LeavesSealing};
 ghost use Rattle.epoch_room.specs.Meaning.{Keeps};
 ghost use Rattle.epoch_room.specs.MergeSealing.{IsWrittenOut, SealsJob, SealsJobOr, replaced, retire};
@@ -77,7 +77,7 @@ fn retire(parts: &mut Vec<Part>, part: Part)
 fn lose_job(lost: &mut RegionSet, job: &Job, header: &Header)
     requires low { 1 ≤ header.now.regions }
     requires high { header.now.regions ≤ 8 }
-    requires small { AllByRecursion (λ r. r < 64) (taken_by job.now.target (Some header.now)) }
+    requires small { AllByRecursion (λ r. r < most_in_log) (taken_by job.now.target (Some header.now)) }
     ensures { lost.new ≡ set_of (lost.old ++ taken_by job.now.target (Some header.now)) }
 {
     lost.insert(job.target);

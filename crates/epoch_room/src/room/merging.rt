@@ -7,9 +7,10 @@ ghost use Rattle.fine_model.specs.Chain.{regions_of};
 ghost use Rattle.fine_model.specs.Jobs.{job_left, taken_by};
 ghost use Rattle.fine_model.specs.RowBytes.{longest_region, most_in_log, most_regions};
 ghost use Rattle.fine_model.specs.declared.Mark.TheVariants as mark;
+ghost use Rattle.fine_model.specs.Regions.{body_len};
 ghost use Rattle.partition_merge.specs.Mergers.{IsCounted};
 ghost use Rattle.log_disk.specs.Disk.{SameBeside};
-ghost use Rattle.partition_index.specs.Parts.{LiesIn, body_len};
+ghost use Rattle.partition_index.specs.Parts.{LiesIn};
 ghost use Rattle.epoch_room.specs.Gate.{DirtiesOnly, LeavesBehind, ReadsBehind};
 ghost use Rattle.epoch_room.specs.Meaning.{Keeps};
 ghost use Rattle.epoch_room.specs.MergeSteps.{free_after, free_dropped, fresh_job, if_enough, job_after, measured_len, neighbours_from, picked, regions_for_job, regions_needed, taken_job, touched, with_job, with_next, WritesJob, WritesOr};
@@ -202,7 +203,7 @@ impl<D: LogDisk> Room<D> {
         ensures keeps { Keeps self.old self.new }
     {
         let _rows = wide(measure.rows);
-        let len = wide(measure.area) + 14 * wide(measure.nodes);
+        let len = wide(measure.area) + wide(INDEX_ENTRY) * wide(measure.nodes);
         let needed = regions_needed(self.disk.region_len(), len);
         let Some(regions) = if_enough(needed, self.free.len()) else {
             return false;

@@ -28,8 +28,8 @@ unfit_by (call.Add key by) now id is = inl (key, is.0, is.1)
 unfit_by (call.Scan low high limit) now id is = inr (low, high, is.0, is.1)
 
 pub looks_law : LooksLaw
-looks_law script before own now id (inl (txns, i, txn, c, rest, read, there, others, are, is)) = unfit_by c now id is
-looks_law script before own now id (inr (all, none, low, high, wanted, is)) = inr (low, high, wanted, is)
+looks_law script history before own now id (inl (txns, i, txn, c, rest, read, there, others, are, is)) = unfit_by c now id is
+looks_law script history before own now id (inr (all, whole, none, low, high, wanted, is)) = inr (low, high, wanted, is)
 
 pub stays_fit : StaysFit
 unfolding push_of

@@ -20,7 +20,7 @@ use Rattle.fine_model.specs.History.{Commit, last_epoch}
 use Rattle.fine_model.specs.Outcomes.{AreOutcomes, AllRun}
 use Rattle.fine_model.specs.Script.{Refusal}
 use Rattle.fine_model.specs.Report.{all_outcomes, damage_line, fault_line, report}
-use Rattle.fine_model.specs.Headline.{Return, TellsFaults, OneOf, HasStatus, IsFrontOf, ReasonFor}
+use Rattle.fine_model.specs.Headline.{Return, DiskRose, TellsFaults, OneOf, HasStatus, IsFrontOf, ReasonFor}
 
 -- nothing that an image shows is a sound log
 abbrev pub IsUnsound : ℕ → Image → Type 0
@@ -152,13 +152,13 @@ abbrev pub IsUnfitBy : Call → (ℕ → Content) → NodeId → Type 0
 IsUnfitBy (call.Scan low high limit) nodes id = (wanted : ℕ) × (unfit_between id.bucket nodes low high wanted (nodes 0).0 ≡ Some id.number)
 IsUnfitBy c nodes id = (bucket_of (key_of c) ≡ id.bucket) × (unfit_under id.bucket nodes (key_of c) (nodes 0).0 ≡ Some id.number)
 
--- A look that meets a node unfit: that of a call of a transaction of the script which was not committed before, behind the transaction's calls before
--- it, or, where all is read at the end, of a scan behind no open transaction.
-abbrev pub LooksAt : Result (List ScriptTxn) Refusal → Type 0 → List Commit → List Call → (ℕ → Content) → NodeId → Type 0
-LooksAt script reads_all before own now id =
-    ((txns : List ScriptTxn) × (i : ℕ) × (txn : ScriptTxn) × (c : Call) × (rest : List Call) × (script ≡ Ok txns) × (slice_get txns i ≡ Some txn) × AllByRecursion (λ c. c.entry.turn ≢ i + 1) before
+-- A look that meets a node unfit: that of a call of a transaction of the script which the history never commits, behind the transaction's calls
+-- before it, or, where all is read at the end, of a scan behind the whole history and no open transaction.
+abbrev pub LooksAt : Result (List ScriptTxn) Refusal → Type 0 → List Commit → List Commit → List Call → (ℕ → Content) → NodeId → Type 0
+LooksAt script reads_all history before own now id =
+    ((txns : List ScriptTxn) × (i : ℕ) × (txn : ScriptTxn) × (c : Call) × (rest : List Call) × (script ≡ Ok txns) × (slice_get txns i ≡ Some txn) × AllByRecursion (λ c. c.entry.turn ≢ i + 1) history
     × (txn.calls ≡ own ++ c ∷ rest) × IsUnfitBy c now id)
-    ⊎ (reads_all × (own ≡ []) × (low : List ℕ) × (high : List ℕ) × (wanted : ℕ) × (unfit_between id.bucket now low high wanted (now 0).0 ≡ Some id.number))
+    ⊎ (reads_all × (before ≡ history) × (own ≡ []) × (low : List ℕ) × (high : List ℕ) × (wanted : ℕ) × (unfit_between id.bucket now low high wanted (now 0).0 ≡ Some id.number))
 
 -- A content that a reader finds in a node by the bytes at entry, whatever neighbours were merged since: beside those of `FindsContent` the replay
 -- of the rows from a part on that need nothing before them, since merging makes an image of such rows.
@@ -182,7 +182,7 @@ pub record MeetsUnfit (script : Result (List ScriptTxn) Refusal) (reads_all : Ty
   pub now : ℕ → Content
   pub goes_on : GoOnTo id.bucket nodes (calls_on id.bucket (flat_map (λ c. c.entry.calls) (take committed history) ++ own)) now
   pub itself : FindsMerged region_len image parts id (nodes id.number) ⊎ ((now id.number).0 ≢ node.Broken)
-  pub looks : LooksAt script reads_all (take committed history) own now id
+  pub looks : LooksAt script reads_all history (take committed history) own now id
 
 -- What may be named as damaged by one who reads whole parts and no tree, as merging does: a bad place of the parts at entry.
 abbrev pub IsBadOf : ℕ → Image → List Part → Damage → Type 0
@@ -226,12 +226,12 @@ abbrev pub PrintsFaultOf : Running → ℕ → Image → Return → RunFault →
 PrintsFaultOf r region_len entry back fault status written =
     (back.still × (written ≡ fault_line fault)) ⊎ ((parts : List Part) × (history : List Commit) × (chain region_len entry ≡ Ok parts) × r.prints parts history (Some fault) status written)
 
--- a text that one of the other statuses prints
+-- a text that one of the other statuses prints, where its cause is there
 abbrev pub PrintsWhole : Running → ℕ → Image → Return → List ℕ → Type 0
 PrintsWhole r region_len entry back text =
     PrintsDamage r region_len entry back text ⊎ PrintsRun r region_len entry 0 text ⊎ PrintsRun r region_len entry 8 text
-    ⊎ PrintsFaultOf r region_len entry back run_fault.Memory 1 text ⊎ PrintsFaultOf r region_len entry back run_fault.Disk 6 text
-    ⊎ ReasonFor 3 r.script text ⊎ ReasonFor 4 r.script text
+    ⊎ PrintsFaultOf r region_len entry back run_fault.Memory 1 text ⊎ (DiskRose back × PrintsFaultOf r region_len entry back run_fault.Disk 6 text)
+    ⊎ ReasonFor 3 r.script text ⊎ (back.source_rose × ReasonFor 4 r.script text)
 
 -- What holds of `run` and `gen` on every log that the disk tells, sound or not, by its bytes at entry. The status is one of the command's, and tells
 -- what is printed; 7 comes on an unsound log alone. On no log a rise of the disk's count of faults is passed over. Of replies nothing is said.
@@ -290,7 +290,9 @@ NamesLaw = (script : Result (List ScriptTxn) Refusal) (region_len : ℕ) (image 
 
 -- what a look meets unfit is so on the path of some key, or of some scan
 abbrev pub LooksLaw : Type 0
-LooksLaw = (script : Result (List ScriptTxn) Refusal) (before : List Commit) (own : List Call) (now : ℕ → Content) (id : NodeId) → LooksAt script (Unit {0}) before own now id → IsUnfitNode now id
+LooksLaw =
+    (script : Result (List ScriptTxn) Refusal) (history before : List Commit) (own : List Call) (now : ℕ → Content) (id : NodeId)
+    → LooksAt script (Unit {0}) history before own now id → IsUnfitNode now id
 
 -- on sound rows no calls make a node unfit
 abbrev pub StaysFit : Type 0

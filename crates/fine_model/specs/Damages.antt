@@ -209,11 +209,11 @@ pub record Running : Type 1 where
   pub statuses : List ℕ
   pub prints : List Part → List Commit → Option RunFault → ℕ → List ℕ → Type 0
 
--- Damage of which a status 7 tells: the chain's, or damage that is there behind the chain, or that the run's calls made of the nodes that are: its
+-- Damage of which a status 7 tells, of a log that is not sound: the chain's, or damage that is there behind the chain, or that the run's calls made of the nodes that are: its
 -- line alone, where nothing was committed and the disk's clock stands still, or what was run, with the line.
 abbrev pub PrintsDamage : Running → ℕ → Image → Return → List ℕ → Type 0
 PrintsDamage r region_len entry back written =
-    (what : Damage) × (((chain region_len entry ≡ Err what) × (written ≡ damage_line what))
+    (what : Damage) × IsUnsound region_len entry × (((chain region_len entry ≡ Err what) × (written ≡ damage_line what))
     ⊎ ((parts : List Part) × (history : List Commit) × (chain region_len entry ≡ Ok parts) × IsDamageIn r.script r.reads_all history region_len entry parts what
     × (((history ≡ []) × back.still × (written ≡ damage_line what)) ⊎ r.prints parts history (Some (run_fault.Damaged what)) 7 written)))
 
@@ -278,7 +278,7 @@ RunDamagedTheorem script region_len entry back still_told status written = Damag
 -- a reader finds unfit.
 abbrev pub UnfitLaw : Type 0
 UnfitLaw =
-    (region_len : ℕ) (image : Image) (parts : List Part) (id : NodeId) (found : ℕ → Option Content) → id.bucket < 256
+    (region_len : ℕ) (image : Image) (parts : List Part) (id : NodeId) (found : ℕ → Option Content) → id.bucket < buckets
     → ((number : ℕ) (c : Content) → found number ≡ Some c → FindsContent region_len image parts (record { bucket = id.bucket; number = number }) c)
     → IsSome (found id.number) → IsUnfitNode (λ number. unwrap_or (found number) (node.Broken, 0)) id → FindsUnfit region_len image parts id
 

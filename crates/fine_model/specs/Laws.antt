@@ -4,7 +4,7 @@ use Rattle.std.specs.List.{AllByRecursion}
 use Rattle.fine_model.specs.Types.{NodeId, Rec, Row, Call, Range, Mark, Why}
 use Rattle.fine_model.specs.Types.rec
 use Rattle.fine_model.specs.Types.node
-use Rattle.fine_model.specs.RowBytes.{most_in_node, FitsRow, BeginsWithRow}
+use Rattle.fine_model.specs.RowBytes.{most_in_node, FitsRow, BeginsWithRow, buckets}
 use Rattle.fine_model.specs.Nodes.{Content, replay, rows_of, content, Agrees}
 use Rattle.fine_model.specs.Map.{Pair, get, set, map_after}
 use Rattle.fine_model.specs.Store.{after_call, writes_of}
@@ -79,7 +79,7 @@ MergeLaw = (before older newer after : List Row) (id : NodeId) → AllByRecursio
 
 -- sound rows leave no node broken that a tree reaches
 abbrev pub WholeLaw : Type 0
-WholeLaw = (rows : List Row) (bucket : ℕ) → IsSound rows → bucket < 256 → AllByRecursion (λ number. (nodes_of rows bucket number).0 ≢ node.Broken) (tree_numbers rows bucket)
+WholeLaw = (rows : List Row) (bucket : ℕ) → IsSound rows → bucket < buckets → AllByRecursion (λ number. (nodes_of rows bucket number).0 ≢ node.Broken) (tree_numbers rows bucket)
 
 -- on sound rows, each node on the path of a key is fit
 abbrev pub FitLaw : Type 0
@@ -87,7 +87,7 @@ FitLaw = (rows : List Row) (key : List ℕ) → IsSound rows → first_unfit row
 
 -- and so is each on the path of a scan
 abbrev pub ScanLaw : Type 0
-ScanLaw = (rows : List Row) (bucket : ℕ) (low high : List ℕ) (limit : ℕ) → IsSound rows → bucket < 256 → first_unfit_between rows bucket low high limit ≡ None
+ScanLaw = (rows : List Row) (bucket : ℕ) (low high : List ℕ) (limit : ℕ) → IsSound rows → bucket < buckets → first_unfit_between rows bucket low high limit ≡ None
 
 -- on sound rows, the map has of a key what the leaf has in which the key belongs
 abbrev pub LeafLaw : Type 0

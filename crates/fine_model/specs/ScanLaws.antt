@@ -4,7 +4,7 @@ use Rattle.std.specs.List.{AllByRecursion, range_with_len}
 use Rattle.fine_model.specs.Types.{Row, Mark}
 use Rattle.fine_model.specs.Types.call
 use Rattle.fine_model.specs.Types.reply
-use Rattle.fine_model.specs.RowBytes.{rows_len, FitsPair, FitsRow}
+use Rattle.fine_model.specs.RowBytes.{rows_len, FitsPair, FitsRow, buckets, most_in_key}
 use Rattle.fine_model.specs.Map.{Pair, is_below, is_ascending, between, from_pairs}
 use Rattle.fine_model.specs.Store.{answer}
 use Rattle.fine_model.specs.Regions.{Image}
@@ -22,7 +22,7 @@ gathered rows low high limit next = flat_map (λ b. take limit (between low high
 -- gathered from all trees of sound rows and put in order, the first pairs are those of the map
 abbrev pub RangeLaw : Type 0
 RangeLaw =
-    (rows : List Row) (low high : List ℕ) (limit : ℕ) (found : List Pair) → IsSound rows → IsPermutation (gathered rows low high limit 256) found → KeysAscend found
+    (rows : List Row) (low high : List ℕ) (limit : ℕ) (found : List Pair) → IsSound rows → IsPermutation (gathered rows low high limit buckets) found → KeysAscend found
     → take limit found ≡ take limit (between low high (map_of rows))
 
 -- pairs that were put in order are the map of them
@@ -57,7 +57,7 @@ KeptFirst = (rows : List Row) (low high : List ℕ) (limit : ℕ) → IsKept row
 
 abbrev pub KeptMore : Type 0
 KeptMore =
-    (rows : List Row) (low high : List ℕ) (limit next : ℕ) (kept : List Pair) → IsSound rows → next < 256 → IsKept rows low high limit next kept
+    (rows : List Row) (low high : List ℕ) (limit next : ℕ) (kept : List Pair) → IsSound rows → next < buckets → IsKept rows low high limit next kept
     → IsKept rows low high limit (next + 1) (kept ++ take limit (between low high (tree_map rows next)))
 
 -- they may be sorted and cut to the first ones at any time
@@ -71,7 +71,7 @@ pub record IsWholeScan (rows : List Row) (low high : List ℕ) (limit : ℕ) (fo
   pub reply : answer (map_of rows) (call.Scan low high limit) ≡ (reply.Found (take limit found), [])
 
 abbrev pub KeptAll : Type 0
-KeptAll = (rows : List Row) (low high : List ℕ) (limit : ℕ) (kept found : List Pair) → IsSound rows → IsKept rows low high limit 256 kept → IsSorted kept found → IsWholeScan rows low high limit found
+KeptAll = (rows : List Row) (low high : List ℕ) (limit : ℕ) (kept found : List Pair) → IsSound rows → IsKept rows low high limit buckets kept → IsSorted kept found → IsWholeScan rows low high limit found
 
 -- ---- keys and values
 
@@ -94,15 +94,15 @@ HaveByteKeys pairs = AllByRecursion (λ p. AreBytes p.0) pairs
 abbrev pub ByteKeys : Type 0
 ByteKeys = (region_len : ℕ) (image : Image) (e : ℕ) (rows : List Row) → AllByRecursion AreBytes image → Shows region_len image e rows → HaveByteKeys (map_of rows)
 
--- A range from the empty key to 65 bytes of 255 holds all pairs whose keys have at most 64 bytes.
+-- A range from the empty key to bytes of 255, one more than a key may have, holds all pairs of the format.
 abbrev pub WholeRange : Type 0
-WholeRange = (pairs : List Pair) → AllByRecursion (λ p. (length p.0 ≤ 64) × AreBytes p.0) pairs → between [] (replicate 65 255) pairs ≡ pairs
+WholeRange = (pairs : List Pair) → AllByRecursion (λ p. (length p.0 ≤ most_in_key) × AreBytes p.0) pairs → between [] (replicate (most_in_key + 1) 255) pairs ≡ pairs
 
 -- and so all pairs of a log that an image of bytes shows
 abbrev pub WholeMap : Type 0
 WholeMap =
     (region_len : ℕ) (image : Image) (e : ℕ) (rows : List Row) → AllByRecursion AreBytes image → Shows region_len image e rows
-    → between [] (replicate 65 255) (map_of rows) ≡ map_of rows
+    → between [] (replicate (most_in_key + 1) 255) (map_of rows) ≡ map_of rows
 
 -- the keys of a map stand in order, each once
 abbrev pub MapAscends : Type 0
@@ -112,4 +112,4 @@ MapAscends = (rows : List Row) → KeysAscend (map_of rows)
 abbrev pub WholeScan : Type 0
 WholeScan =
     (region_len : ℕ) (image : Image) (e : ℕ) (rows : List Row) (limit : ℕ) (kept found : List Pair) → AllByRecursion AreBytes image → Shows region_len image e rows → IsSound rows
-    → length (map_of rows) ≤ limit → IsKept rows [] (replicate 65 255) limit 256 kept → IsSorted kept found → take limit found ≡ map_of rows
+    → length (map_of rows) ≤ limit → IsKept rows [] (replicate (most_in_key + 1) 255) limit buckets kept → IsSorted kept found → take limit found ≡ map_of rows

@@ -1,14 +1,15 @@
--- The trees of the 256 buckets, and the map in their leaves.
+-- The trees of the buckets, and the map in their leaves.
 use Rattle.std.specs.Prelude.{◌≡◌, ℕ, zero, suc, ◌+◌, ◌-◌, ◌*◌, ◌%◌, ◌<◌, ◌≤◌, ◌==◌, Bool, true, false, not, ◌&&◌, IsTrue, nat_eq, List, [], ◌∷◌, map, fold, flat_map, Option, Some, None}
 use Rattle.std.specs.List.{AllByRecursion, range_with_len, list_any, list_all}
 use Rattle.fine_model.specs.Types.{Row, Node}
 use Rattle.fine_model.specs.Types.node
 use Rattle.fine_model.specs.Map.{Pair, is_below, is_ascending, from_pairs}
 use Rattle.fine_model.specs.Nodes.{Content, content}
+use Rattle.fine_model.specs.RowBytes.{buckets}
 
 -- the bucket of a key
 unfoldable pub bucket_of : List ℕ → ℕ
-bucket_of key = fold (λ h byte. (31 * h + byte) % 4294967296) 0 key % 256
+bucket_of key = fold (λ h byte. (31 * h + byte) % 4294967296) 0 key % buckets
 
 -- a key lies at a bound or above it, and below a bound; no bound holds back nothing
 abbrev pub is_from : Option (List ℕ) → List ℕ → Bool
@@ -109,7 +110,7 @@ IsFit rows bucket = IsFitFrom bucket (nodes_of rows bucket) (nodes_of rows bucke
 
 -- all trees are fit
 pub record IsSound (rows : List Row) : Type 0 where
-  pub fit : (bucket : ℕ) → bucket < 256 → IsFit rows bucket
+  pub fit : (bucket : ℕ) → bucket < buckets → IsFit rows bucket
 
 abbrev pub pairs_from : (ℕ → Content) → Node → List Pair
 pairs_from nodes (node.Head root next depth) = pairs_under (depth - 1) nodes root
@@ -129,4 +130,4 @@ tree_map rows bucket = pairs_from (nodes_of rows bucket) (nodes_of rows bucket 0
 
 -- the map of all trees
 unfoldable pub map_of : List Row → List Pair
-map_of rows = from_pairs (flat_map (tree_map rows) (range_with_len 0 256))
+map_of rows = from_pairs (flat_map (tree_map rows) (range_with_len 0 buckets))

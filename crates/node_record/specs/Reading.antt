@@ -1,12 +1,12 @@
 -- Reading from left to right: a field is a value and the bytes behind it, or nothing.
-use Rattle.std.specs.Prelude.{◌≡◌, ℕ, zero, suc, ◌+◌, ◌≤◌, Bool, not, ◌&&◌, ◌==◌, nat_lt, nat_le, if◌then◌else◌, List, [], ◌∷◌, length, map, take, drop, slice_index, Option, Some, None, Result, Ok, Err, ℤ}
+use Rattle.std.specs.Prelude.{◌≡◌, ℕ, zero, suc, ◌+◌, ◌≤◌, Bool, not, ◌&&◌, ◌==◌, nat_lt, nat_le, if◌then◌else◌, List, [], ◌∷◌, length, map, take, drop, slice_index, Option, Some, None, Result, Ok, Err, ℤ, ◌-◌}
 use Rattle.std.specs.Int.{Width, w16, w32, w64, byte_len, from_be_bytes, cast_signed}
 use Rattle.fine_model.specs.declared.Mark.{Mark}
 use Rattle.fine_model.specs.declared.Rec.{Rec}
 use Rattle.fine_model.specs.declared.Rec.TheVariants as rec
 use Rattle.fine_model.specs.declared.Row.{Row}
 use Rattle.fine_model.specs.Map.{Pair, is_ascending}
-use Rattle.fine_model.specs.RowBytes.{greatest, last_kind, most_in_key, most_in_value, node_numbers, greatest_depth, most_in_node}
+use Rattle.fine_model.specs.RowBytes.{greatest, last_kind, most_in_key, most_in_value, node_numbers, greatest_depth, most_in_node, buckets}
 use Rattle.node_record.specs.declared.fault.RowFault.{RowFault}
 use Rattle.node_record.specs.declared.fault.RowFault.TheVariants as fault
 use Rattle.node_record.specs.declared.front.Front.{Front}
@@ -68,7 +68,7 @@ pair_at bytes = do
   Some ((key.0, value.0), value.1)
 
 unfoldable pub child_at : List ℕ → Option (ℕ × List ℕ)
-child_at bytes = only (within 1 1048575) (number_at w32 bytes)
+child_at bytes = only (within 1 (node_numbers - 1)) (number_at w32 bytes)
 
 -- so many fields, one after the other
 unfoldable pub items_at : {A : Type 0} → (List ℕ → Option (A × List ℕ)) → ℕ → List ℕ → Option (List A × List ℕ)
@@ -144,8 +144,8 @@ fits_kind kind number = if kind == 1 then number == 0 else not (number == 0)
 unfoldable pub front_at : Mark → List ℕ → Option (Front × List ℕ)
 front_at mark bytes = do
   kind ← only (λ k. nat_le k (last_kind mark)) (byte_at bytes)
-  bucket ← only (within 0 255) (number_at w16 kind.1)
-  number ← only (λ n. nat_le n 1048575 && fits_kind kind.0 n) (number_at w32 bucket.1)
+  bucket ← only (within 0 (buckets - 1)) (number_at w16 kind.1)
+  number ← only (λ n. nat_le n (node_numbers - 1) && fits_kind kind.0 n) (number_at w32 bucket.1)
   version ← only (within 1 greatest) (number_at w64 number.1)
   len ← number_at w32 version.1
   Some (record { kind = kind.0; node = record { bucket = bucket.0; number = number.0 }; version = version.0; len = len.0 }, len.1)

@@ -121,7 +121,7 @@ pub fn entry_at<E: LogEye>(
     requires seen { IsSeen (E.LogEye.state eye.old) part.now }
     requires region_len { region_len ≡ (E.LogEye.state eye.old).region_len }
     requires there { i < part.now.header.nodes }
-    ensures eye { Searches (IsErrOf result fault.Failed) 28 (E.LogEye.state eye.old) (E.LogEye.state eye.new) }
+    ensures eye { Searches (IsErrOf result fault.Failed) (2 * index_entry) (E.LogEye.state eye.old) (E.LogEye.state eye.new) }
     ensures entry { IfOk result (λ r. IsEntryAt (E.LogEye.state eye.old).told part.now i r.0) }
     ensures span { IfOk result (λ r. IsSpanAt (E.LogEye.state eye.old).told part.now i r.1) }
     ensures bad { (at : ℕ) → IsErrOf result (fault.BadIndex at) → IsBadAt (E.LogEye.state eye.old).told part.now at }

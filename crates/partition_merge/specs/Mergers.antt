@@ -1,5 +1,5 @@
 -- Where a merger stands, and what it hands out.
-use Rattle.std.specs.Prelude.{◌≡◌, ◌⊎◌, ◌↔◌, ℕ, ◌+◌, ◌-◌, ◌<◌, ◌≤◌, Bool, true, ◌&&◌, List, [], ◌∷◌, ◌++◌, length, min, sum_by, drop, filter, flat_map, IsTrue, Option, Some, None, option_map}
+use Rattle.std.specs.Prelude.{◌≡◌, ◌⊎◌, ◌↔◌, ℕ, ◌+◌, ◌-◌, ◌<◌, ◌≤◌, Bool, true, ◌&&◌, List, [], ◌∷◌, ◌++◌, length, min, sum_by, drop, filter, flat_map, IsTrue, Option, Some, None, option_map, ◌*◌}
 use Rattle.std.specs.List.{AllByRecursion}
 use Rattle.log_disk.specs.Disk.{Eye}
 use Rattle.fine_model.specs.declared.NodeId.{NodeId}
@@ -7,7 +7,7 @@ use Rattle.fine_model.specs.declared.Part.{Part}
 use Rattle.fine_model.specs.declared.Row.{Row}
 use Rattle.fine_model.specs.Nodes.{rows_of}
 use Rattle.fine_model.specs.Regions.{Image, Place}
-use Rattle.fine_model.specs.RowBytes.{rows_len}
+use Rattle.fine_model.specs.RowBytes.{rows_len, index_entry}
 use Rattle.fine_model.specs.Merge.{is_node_below, is_ordered, nodes_in, merged_node, merged}
 use Rattle.partition_index.specs.declared.entries.IndexEntry.{IndexEntry}
 use Rattle.partition_index.specs.declared.entries.Span.{Span}
@@ -76,7 +76,7 @@ next_len older newer = own_len (first_node older newer) older newer
 
 -- how many bytes the next node may take
 abbrev pub most_for : Merger → ℕ
-most_for merger = 56 + merger.older.part.header.area + merger.newer.part.header.area
+most_for merger = 4 * index_entry + merger.older.part.header.area + merger.newer.part.header.area
 
 -- a bad row of a node, or a bad entry, in one of the parts
 pub record BlamesRow (known : Option Image) (merger : Merger) (place : Place) : Type 0 where

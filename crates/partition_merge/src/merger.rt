@@ -6,7 +6,7 @@ ghost use Rattle.fine_model.specs.declared.Row.{Row};
 ghost use Rattle.fine_model.specs.declared.FetchFault.TheVariants as fetch_fault;
 ghost use Rattle.fine_model.specs.Nodes.{rows_of};
 ghost use Rattle.fine_model.specs.Regions.{Image};
-ghost use Rattle.fine_model.specs.RowBytes.{rows_len};
+ghost use Rattle.fine_model.specs.RowBytes.{rows_len, index_entry};
 ghost use Rattle.fine_model.specs.Merge.{is_node_below, is_ordered, merged};
 ghost use Rattle.partition_index.specs.Parts.{IsSeen, SameEye, CountsFaults};
 ghost use Rattle.partition_index.specs.Index.{AllFrom};
@@ -55,15 +55,15 @@ impl Source {
         requires seen { IsSeen (E.LogEye.state eye.old) self.old.part }
         requires region_len { region_len ≡ (E.LogEye.state eye.old).region_len }
         requires kept { IsKept (E.LogEye.state eye.old).told self.old }
-        ensures eye { Searches (IsErrOf result fetch_fault.Failed) 28 (E.LogEye.state eye.old) (E.LogEye.state eye.new) }
+        ensures eye { Searches (IsErrOf result fetch_fault.Failed) (2 * index_entry) (E.LogEye.state eye.old) (E.LogEye.state eye.new) }
         ensures part { self.new.part ≡ self.old.part }
         ensures next { self.new.next ≡ self.old.next }
         ensures kept { IsKept (E.LogEye.state eye.old).told self.new }
         ensures head { IfOk result (λ node. node ≡ option_map (λ head. head.0.node) self.new.head) }
         ensures end { result ≡ Ok None → nodes_left self.old ≡ 0 }
         ensures ready { IfOk result (λ node. self.new.head ≡ None → nodes_left self.new ≡ 0) }
-        ensures ahead { IfOk result (λ node. (E.LogEye.state eye.new).taken + 28 * unread self.new ≤ (E.LogEye.state eye.old).taken + 28 * unread self.old) }
-        ensures taken { (E.LogEye.state eye.new).taken ≤ (E.LogEye.state eye.old).taken + 28 * unread self.old }
+        ensures ahead { IfOk result (λ node. (E.LogEye.state eye.new).taken + 2 * index_entry * unread self.new ≤ (E.LogEye.state eye.old).taken + 2 * index_entry * unread self.old) }
+        ensures taken { (E.LogEye.state eye.new).taken ≤ (E.LogEye.state eye.old).taken + 2 * index_entry * unread self.old }
         ensures good_row { (region at : ℕ) → IsErrOf result (fetch_fault.BadRow region at) → ⊥ }
         ensures bad_index { (region at : ℕ) → IsErrOf result (fetch_fault.BadIndex region at) → HasBadEntry (E.LogEye.state eye.old).told region_len self.old.part (record { region = region; at = at }) }
         ensures exact { (left : List Row) → SourceAt (E.LogEye.state eye.old) self.old left → MatchResult result (λ node. node ≡ node_at_head left) NoDamage }

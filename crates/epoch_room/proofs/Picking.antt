@@ -109,6 +109,11 @@ enough_is most (Some n) k is = by (nat_le n most) refl is
     by true e is = let same : n ≡ k = cc in (is, below e same)
     by false e is = absurd (let q : ◌≡◌ {A = Option ℕ} None (Some k) = is in cc)
 
+-- rows that take regions are in order
+ordered_is : (ordered : Bool) (most : ℕ) (needed : Option ℕ) (k : ℕ) → cond ordered (if_enough most needed) None ≡ Some k → if_enough most needed ≡ Some k
+ordered_is true most needed k is = is
+ordered_is false most needed k is = absurd (let e : ◌≡◌ {A = Option ℕ} None (Some k) = is in cc)
+
 own_regions : (k : ℕ) (free : List ℕ) → 1 ≤ k → k ≤ length free → slice_index free 0 ∷ take (k - 1) (take (k - 1) (drop 1 free) ++ replicate (7 - (k - 1)) 0) ≡ take k free
 own_regions zero free low enough = absurd (omega (arith, low))
 own_regions (suc m) [] low enough = absurd (omega (arith, enough))
@@ -181,7 +186,9 @@ header_made job measure k n free behind out m target lowest most enough some is_
 module _ (value : RoomValue) (whole : IsWhole value) (job : Job) (measure : Measure) (out : value.room.job ≡ Some job) (untaken : job.header ≡ None) (counted : IsCounted measure) (few : measure.rows < 2 ^ 32)
     (k : ℕ) (found : regions_for_job value.room measure ≡ Some k) where
   enough : (regions_needed value.room.region_len (measured_len measure) ≡ Some k) × (k ≤ length value.room.free)
-  enough = enough_is (length value.room.free) (regions_needed value.room.region_len (measured_len measure)) k found
+  enough =
+      enough_is (length value.room.free) (regions_needed value.room.region_len (measured_len measure)) k
+      (ordered_is measure.ordered (length value.room.free) (regions_needed value.room.region_len (measured_len measure)) k found)
 
   least : (1 ≤ k) × (k < 1 + 8) × (fits_in value.room.region_len k (measured_len measure) ≡ true) × ((i : ℕ) → 1 ≤ i → i < k → fits_in value.room.region_len i (measured_len measure) ≡ false)
   least = found_least (λ n. fits_in value.room.region_len n (measured_len measure)) 1 8 k enough.0

@@ -74,7 +74,7 @@ abbrev pub KeepsInside : RoomValue → RoomValue → Type 0
 KeepsInside old new =
     (first : List Row) (e : ℕ) (history : List Commit) → Stands old first e history → ShownInside old old.disk.told new.disk.told first e history
 
--- what each call but `append` and `adopt` does to what a room stands for, whatever it answers
+-- what each call but `append` does to what a room stands for, whatever it answers
 pub record Keeps (old new : RoomValue) : Type 0 where
   pub stands : GoesOnStanding old new
   pub inside : KeepsInside old new

@@ -58,9 +58,9 @@ abbrev pub if_enough : ℕ → Option ℕ → Option ℕ
 if_enough most None = None
 if_enough most (Some k) = if nat_le k most then Some k else None
 
--- how many free regions merged rows of a measure take: none where too few are free, or no number of regions is enough
+-- how many free regions merged rows of a measure take: none where they are not in order, too few are free, or no number of regions is enough
 abbrev pub regions_for_job : RoomState → Measure → Option ℕ
-regions_for_job room measure = if_enough (length room.free) (regions_needed room.region_len (measured_len measure))
+regions_for_job room measure = if measure.ordered then if_enough (length room.free) (regions_needed room.region_len (measured_len measure)) else None
 
 -- the header of a job's part: rows of a measure over so many regions, the lowest of those that are free
 unfoldable pub header_over : Job → Measure → ℕ → List ℕ → Header

@@ -15,7 +15,7 @@ ghost use Rattle.epoch_room.specs.MergeSealing.{IsWrittenOut, SealsJob, SealsJob
 use super::Room;
 use crate::answers::RoomFault;
 use crate::sealing::seal_region;
-use fine_model::{Header, Job, Mark, Part, Parts};
+use fine_model::{Header, Job, Mark, Part, Parts, body_start};
 use log_disk::{DiskRefusal, LogDisk};
 use log_partition::header_bytes;
 use partition_hold::RegionSet;
@@ -24,10 +24,7 @@ use partition_hold::RegionSet;
 fn header_len(mark: Mark) -> usize
     ensures { 1 + result ≡ body_start mark }
 {
-    match mark {
-        Mark::Three => 69,
-        _ => 40,
-    }
+    body_start(mark) as usize - 1
 }
 
 /// The place of the part that a region leads.

@@ -89,6 +89,19 @@ fn if_enough(needed: Option<u8>, most: u32) -> Option<u8>
     needed.filter(|regions| u32::from(*regions) <= most)
 }
 
+/// How many of so many free regions merged rows of a measure take; none where they are not in order.
+fn regions_for(measure: Measure, region_len: u64, free: u32) -> Option<u8>
+    requires short { 1 ≤ region_len }
+    requires long { region_len ≤ longest_region }
+    ensures { result ≡ (if measure.ordered then if_enough free (regions_needed region_len (measured_len measure)) else None) }
+{
+    if !measure.ordered {
+        return None;
+    }
+    let len = wide(measure.area) + INDEX_ENTRY as u64 * wide(measure.nodes);
+    if_enough(regions_needed(region_len, len), free)
+}
+
 /// The mark of a partition over so many regions.
 fn mark_for(regions: u8) -> Mark
     ensures { result ≡ (if regions == 1 then mark.Two else mark.Three) }
@@ -192,7 +205,8 @@ impl<D: LogDisk> Room<D> {
     /// Takes the lowest free regions for merged rows of a measure, as many as their body needs: one, or two to eight of mark Three.
     /// Nothing is written, and no memory is taken; a shut room has them too.
     ///
-    /// True exactly where eight regions are enough and as many as are needed are free; else nothing changes.
+    /// True exactly where the measure says that the rows are in order, eight regions are enough, and as many as are needed are free; else
+    /// nothing changes. Rows out of order come of a damaged part alone; a part of them would have an index that finds not all of them.
     pub fn merge_take(&mut self, job: &mut Job, measure: Measure) -> bool
         requires out { self.old.room.job ≡ Some job.old }
         requires untaken { job.old.header ≡ None }
@@ -203,9 +217,7 @@ impl<D: LogDisk> Room<D> {
         ensures keeps { Keeps self.old self.new }
     {
         let _rows = wide(measure.rows);
-        let len = wide(measure.area) + INDEX_ENTRY as u64 * wide(measure.nodes);
-        let needed = regions_needed(self.disk.region_len(), len);
-        let Some(regions) = if_enough(needed, self.free.len()) else {
+        let Some(regions) = regions_for(measure, self.disk.region_len(), self.free.len()) else {
             return false;
         };
         take_regions(&mut self.free, job, measure, regions);

@@ -1,4 +1,5 @@
-use Rattle.std.proofs.Common.{◌≡◌, ◌+◌, ◌*◌, Some, drop, sym, subst, ap, ◌∙◌, arith}
+use Rattle.std.proofs.Common.{◌≡◌, None, Some, drop, sym, subst, ap, ◌∙◌, arith}
+use Rattle.std.specs.Prelude.{if◌then◌else◌}
 use Rattle.epoch_room.specs.Meaning.{Keeps}
 use Rattle.epoch_room.specs.MergeSteps.{if_enough, measured_len, regions_for_job, regions_needed, taken_job, with_job}
 use Rattle.epoch_room.specs.Value.{RoomValue, Kept, value_of}
@@ -20,10 +21,8 @@ invariant_of-self g c =
     let whole : IsWhole (value_of old entry kept) = c.self.invariant.0 in
     let out : in'.job ≡ Some c.args.job.now = ap (λ (v : RoomValue). v.room.job) c.self.view_is ∙ c.requires.out in
     let k = c.in-Some.regions in
-    let needed : c.regions_needed-needed.result ≡ regions_needed old.region_len (measured_len c.args.measure) =
-    c.regions_needed-needed.ensures ∙ (λ i. regions_needed (c.region_len.ensures.region_len i) (c.wide.ensures.same i + 14 * c.wide-2.ensures.same i)) in
     let found : regions_for_job (value_of old entry kept).room c.args.measure ≡ Some k =
-    ap (λ n. if_enough n (regions_needed old.region_len (measured_len c.args.measure))) (sym c.len.ensures.count) ∙ ap (if_enough c.len.result) (sym needed) ∙ sym c.if_enough.ensures ∙ c.in-Some.is in
+    sym (λ i. if c.args.measure.ordered then if_enough (c.len.ensures.count i) (regions_needed (c.region_len.ensures.region_len i) (measured_len c.args.measure)) else None) ∙ sym c.regions_for.ensures ∙ c.in-Some.is in
     let is : value_of old entry (record kept { job = Some c.take_regions.new.job; free = c.take_regions.new.free }) ≡ with_job (value_of old entry kept) (Some (taken_job c.args.job.now c.args.measure k in'.free)) (drop k in'.free) =
     λ i. value_of old entry (record kept { job = Some (c.take_regions.ensures.job i); free = c.take_regions.ensures.free i }) in (
       subst IsWhole (sym is) (taken_whole (value_of old entry kept) whole c.args.job.now c.args.measure out c.requires.untaken c.requires.counted (omega (arith, c.wide-rows.ensures.few)) k found),

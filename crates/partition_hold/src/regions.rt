@@ -6,10 +6,8 @@ ghost use Rattle.std.specs.List.{AllByRecursion, list_any, range_with_len};
 ghost use Rattle.fine_model.specs.Boards.{set_of};
 ghost use Rattle.fine_model.specs.RowBytes.{most_in_log};
 
+use fine_model::format::MOST_IN_LOG;
 use std::marker::Model;
-
-/// The number of regions that a set may have.
-const MOST: u32 = 64;
 
 /// Regions below 64, each once. Contracts see them as the list of the regions, ascending. No call takes memory.
 #[derive(Drop)]
@@ -64,7 +62,7 @@ impl RegionSet {
         requires { regions ≤ most_in_log }
         ensures { result ≡ range_with_len 0 regions }
     {
-        if regions == MOST {
+        if regions == MOST_IN_LOG {
             return RegionSet { bits: u64::MAX };
         }
         RegionSet {

@@ -5,6 +5,7 @@ ghost use Rattle.fine_model.specs.Seek.{entry_of};
 ghost use Rattle.partition_index.specs.Entries.{model_of, bytes_of, EntryLaw};
 
 use fine_model::NodeId;
+use fine_model::format::INDEX_ENTRY;
 
 /// An index entry: a node, the offset of its first row in the row area, and the number of its rows.
 #[derive(Clone, Copy, Debug, PartialEq, Eq)]

@@ -19,6 +19,7 @@ ghost use Rattle.partition_merge.specs.Mergers.{AreKept, BlamesEntry, BlamesRow,
 ghost use Rattle.partition_merge.specs.Merging.{FitRows};
 
 use crate::merger::Merger;
+use fine_model::format::INDEX_ENTRY;
 use fine_model::{FetchFault, NoMemory, Part, Row, Rows};
 use log_disk::LogEye;
 use node_record::write_row;

@@ -5,6 +5,7 @@ ghost use Rattle.std.specs.Prelude.{◌≡◌, [], ◌∷◌, ◌++◌, OnOk, On
 ghost use Rattle.fine_model.specs.RowBytes.{FitsRec, rows_bytes};
 ghost use Rattle.fine_model.specs.Merge.{cost};
 
+use fine_model::format::INDEX_ENTRY;
 use fine_model::{Copied, Items, NoMemory, NodeId, Row, Rows};
 use node_record::write_row;
 use std::alloc::Global;
@@ -14,9 +15,6 @@ use std::mem;
 
 #[cfg(test)]
 mod tests;
-
-/// What the index entry of a node takes in a partition, in bytes.
-const ENTRY: u64 = 14;
 
 /// The rows that a transaction pushed, in their order, with their bytes and the nodes that they name.
 #[derive(Drop)]
@@ -89,12 +87,12 @@ impl PrivateLog {
         self.bytes.as_slice()
     }
 
-    /// What the rows take in a partition beside its header, in bytes: their lengths, and 14 for the index entry of each node that
+    /// What the rows take in a partition beside its header, in bytes: their lengths, and the index entry of each node that
     /// they name. The time that it takes does not depend on the rows.
     pub fn cost(&self) -> u64
         ensures { result ≡ cost self.now }
     {
-        self.bytes.len() as u64 + ENTRY * self.nodes.len() as u64
+        self.bytes.len() as u64 + INDEX_ENTRY as u64 * self.nodes.len() as u64
     }
 
     /// Moves all rows out. It takes no memory.

@@ -6,6 +6,7 @@ ghost use Rattle.fine_model.specs.Script.{words, without_return, meaning, said, 
 ghost use Rattle.script_text.specs.Grammar.{meant, AreRest};
 ghost use Rattle.script_text.specs.Fits.{AreWords, FitsLine};
 
+use fine_model::format::{MOST_IN_KEY, MOST_IN_VALUE};
 use fine_model::{Bytes, Call, Ending, Items, NoMemory, natural_of, number_of};
 use std::alloc::Global;
 
@@ -114,13 +115,13 @@ fn is_word(word: &[u8], name: &[u8]) -> bool
 fn is_key(word: &[u8]) -> bool
     ensures { result ≡ is_key word.now }
 {
-    word.len() <= 64
+    word.len() <= MOST_IN_KEY
 }
 
 fn is_value(word: &[u8]) -> bool
     ensures { result ≡ is_value word.now }
 {
-    word.len() <= 256
+    word.len() <= MOST_IN_VALUE
 }
 
 /// What one word says.

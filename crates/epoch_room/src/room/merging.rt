@@ -18,7 +18,7 @@ ghost use Rattle.epoch_room.specs.MergeSteps.{free_after, free_dropped, fresh_jo
 use super::Room;
 use crate::answers::RoomFault;
 use crate::body::write_body;
-use fine_model::format::MOST_REGIONS;
+use fine_model::format::{INDEX_ENTRY, MOST_REGIONS};
 use fine_model::{Header, Job, Mark, Part, Range, fits_in};
 use log_disk::{DiskRefusal, LogDisk};
 use partition_hold::RegionSet;
@@ -203,7 +203,7 @@ impl<D: LogDisk> Room<D> {
         ensures keeps { Keeps self.old self.new }
     {
         let _rows = wide(measure.rows);
-        let len = wide(measure.area) + wide(INDEX_ENTRY) * wide(measure.nodes);
+        let len = wide(measure.area) + INDEX_ENTRY as u64 * wide(measure.nodes);
         let needed = regions_needed(self.disk.region_len(), len);
         let Some(regions) = if_enough(needed, self.free.len()) else {
             return false;

@@ -1,9 +1,9 @@
 -- What a bucket stands for from one transaction to the next.
-use Rattle.std.proofs.Common.{◌≡◌, ◌≢◌, ◌⊎◌, ⊎_elim, ℕ, suc, nat_le, ◌<◌, ◌≤◌, Bool, true, false, true≢false, ◌||◌, cond, List, [], ◌∷◌, ◌++◌, Option, Some, None, is_some, option_map, refl, sym, ap, subst, ◌∙◌, append_assoc, le_refl, le_trans, arith}
+use Rattle.std.proofs.Common.{◌≡◌, ◌≢◌, ◌⊎◌, ⊎_elim, ℕ, suc, nat_le, ◌<◌, ◌≤◌, ◌==◌, Bool, true, false, true≢false, ◌||◌, cond, List, [], ◌∷◌, ◌++◌, Option, Some, None, is_some, option_map, refl, sym, ap, subst, ◌∙◌, append-nil, append_assoc, le_refl, le_trans, arith}
 use Rattle.std.specs.Prelude.{All, IfSome, if◌then◌else◌, slice_get, take, unwrap_or}
 use Rattle.std.specs.List.{AllByRecursion, list_any}
 use Rattle.std.proofs.lemmas.Bool.Decides.{leb_tells}
-use Rattle.std.proofs.lemmas.List.Elements.{All-head, All-tail}
+use Rattle.std.proofs.lemmas.List.Elements.{All-head, All-tail, filter-append}
 use Rattle.std.proofs.lemmas.List.Sums.{take_while-cons}
 use Rattle.fine_model.specs.declared.Node.TheVariants as node
 use Rattle.fine_model.specs.declared.NodeId.{NodeId}
@@ -15,8 +15,8 @@ use Rattle.fine_model.specs.Nodes.{Content, content, is_node, replay, rows_of}
 use Rattle.fine_model.specs.Trees.{nodes_of}
 use Rattle.fine_model.proofs.Epochs.{rows_push, rows_together}
 use Rattle.fine_model.proofs.NodeLaws.{content-append, rows_of-append}
-use Rattle.fine_model.proofs.Order.{all_map}
-use Rattle.fine_model.proofs.Sets.{all_append}
+use Rattle.fine_model.proofs.Order.{all_map, filter_none}
+use Rattle.fine_model.proofs.Sets.{all_append, all_filter}
 use Rattle.node_cache.specs.declared.cached.Cached.{Cached}
 use Rattle.node_cache.specs.Cache.{Cache, IsResting, IsSaved, after, before, cached, original}
 use Rattle.node_cache.specs.Entries.{stamped}
@@ -26,9 +26,8 @@ use Rattle.btree_nodes.proofs.Loads.{none_or_some}
 use Rattle.btree_nodes.proofs.Steps.{given_is}
 use Rattle.txn_draft.specs.Drafts.{is_here}
 use Rattle.txn_draft.specs.Laws.{AreElsewhere}
-use Rattle.txn_draft.specs.Standing.{BesideLaw, EvictLaw, HoldsLaw, IsLeft, NewLaw, ServesLaw, SettleLaw, StandsFor, UndoLaw, UntouchedLaw}
+use Rattle.txn_draft.specs.Standing.{BesideLaw, EvictLaw, HoldsLaw, IsLeft, NewLaw, SameLaw, ServesLaw, SettleLaw, StandsFor, UndoLaw, UntouchedLaw, commits_in, has_row_in}
 use Rattle.txn_draft.specs.Uses.{IsUsed, Undoes}
-use Rattle.txn_draft.proofs.Lawful.{beside}
 use Rattle.txn_draft.proofs.Rested.{holds_at_rest}
 
 -- ---- rows on a node
@@ -57,10 +56,6 @@ of_row P Q id one (row ∷ rows) all on = by (is_node id row.node) refl (of_row 
     by : (t : Bool) → is_node id row.node ≡ t → (list_any (λ r. is_node id r.node) rows ≡ true → Q) → t || list_any (λ r. is_node id r.node) rows ≡ true → Q
     by true is rest _ = one row (same_id id row.node is) all.0
     by false _ rest there = rest there
-
--- rows of other buckets are on no node of this one
-none_on : (b : Cache) (n : ℕ) (rows : List Row) → AreElsewhere b rows → list_any (λ row. is_node (node_id b.bucket n) row.node) rows ≡ true → ⊥
-none_on b n rows other on = of_row (λ row. row.node.bucket ≢ b.bucket) ⊥ (node_id b.bucket n) (λ row is away. away (ap (λ id. id.bucket) is)) rows other on
 
 -- ---- the rows of a node that none later than an epoch is on
 
@@ -179,26 +174,76 @@ holds_law log k p e b first history began stands = holds_at_rest (first ++ all_r
 pub evict_law : EvictLaw
 evict_law log k p e b new history le stands left = left_stands log k p history e (cached b) b new le stands.number left (at_node log k p history b stands)
 
-pub beside_law : BesideLaw
-beside_law log k p b history more stands other = stands_at log k p (history ++ more) b stands.number stands.settled (λ n. at (cached b n) n (at_node log k p history b stands n))
+module _ (k n : ℕ) where
+  abbrev id : NodeId
+  id = node_id k n
+
+  -- a commit without a row in the bucket has none on a node of it
+  none_here : (c : Commit) → has_row_in k c ≡ false → has_row_on id c ≡ false
+  none_here c none = go c.entry.rows none
+    where
+      go : (rows : List Row) → list_any (λ row. row.node.bucket == k) rows ≡ false → list_any (λ row. is_node id row.node) rows ≡ false
+      go [] e = refl
+      go (row ∷ rows) e = grind (arith, e, go rows)
+
+  rows_in : (history : List Commit) → rows_of id (all_rows (commits_in k history)) ≡ rows_of id (all_rows history)
+  rows_in [] = refl
+  rows_in (c ∷ cs) = by (has_row_in k c) refl (rows_in cs)
+    where
+      by : (t : Bool) → has_row_in k c ≡ t → rows_of id (all_rows (commits_in k cs)) ≡ rows_of id (all_rows cs) → rows_of id (all_rows (cond t (c ∷ commits_in k cs) (commits_in k cs))) ≡ rows_of id (all_rows (c ∷ cs))
+      by true is rest = rows_of-append id c.entry.rows (all_rows (commits_in k cs)) ∙ (ap (λ l. rows_of id c.entry.rows ++ l) rest ∙ sym (rows_of-append id c.entry.rows (all_rows cs)))
+      by false is rest = rest ∙ sym (rows_of-append id c.entry.rows (all_rows cs) ∙ ap (λ l. l ++ rows_of id (all_rows cs)) (no_rows id c.entry.rows (none_here c is)))
+
+  content_in : (first : List Row) (history : List Commit) → content (first ++ all_rows (commits_in k history)) id ≡ content (first ++ all_rows history) id
+  content_in first history =
+      content-append first (all_rows (commits_in k history)) id ∙ (ap (replay (content first id)) (rows_in history) ∙ sym (content-append first (all_rows history) id))
+
+  narrow_up : (e : ℕ) (history : List Commit) → IsUpTo e id history → IsUpTo e id (commits_in k history)
+  narrow_up e history up = all_filter (λ c. has_row_on id c ≡ true → c.epoch ≤ e) (has_row_in k) history up
+
+  widen_up : (e : ℕ) (history : List Commit) → IsUpTo e id (commits_in k history) → IsUpTo e id history
+  widen_up e [] up = tt
+  widen_up e (c ∷ cs) up = by (has_row_in k c) refl up (widen_up e cs)
+    where
+      by : (t : Bool) → has_row_in k c ≡ t → IsUpTo e id (cond t (c ∷ commits_in k cs) (commits_in k cs)) → (IsUpTo e id (commits_in k cs) → IsUpTo e id cs) → IsUpTo e id (c ∷ cs)
+      by true is up rest = (up.0, rest up.1)
+      by false is up rest = (λ on. absurd (true≢false (sym on ∙ none_here c is)), rest up)
+
+  -- what two histories have alike in the bucket is all that a node sees of them
+  same_up : (e : ℕ) (history other : List Commit) → commits_in k other ≡ commits_in k history → IsUpTo e id history → IsUpTo e id other
+  same_up e history other same up = widen_up e other (subst (IsUpTo e id) (sym same) (narrow_up e history up))
+
+  content_same : (first : List Row) (history other : List Commit) → commits_in k other ≡ commits_in k history → content (first ++ all_rows history) id ≡ content (first ++ all_rows other) id
+  content_same first history other same = sym (content_in first history) ∙ (ap (λ cs. content (first ++ all_rows cs) id) (sym same) ∙ content_in first other)
+
+  same_at : (log : Origin) (p : ℕ) (history other : List Commit) (o : Option Cached) → commits_in k other ≡ commits_in k history → AtNode log id p history o → AtNode log id p other o
+  same_at log p history other None same up = same_up p history other same up
+  same_at log p history other (Some kept) same at = record {
+    content = λ e first began. at.content e first began ∙ content_same first history other same;
+    epoch = same_up kept.epoch history other same at.epoch;
+  }
+
+pub same_law : SameLaw
+same_law log k p b history other same stands =
+    stands_at log k p other b stands.number stands.settled (λ n. same_at k n log p history other (cached b n) same (at_node log k p history b stands n))
+
+-- commits without a row in a bucket are none in it
+none_in : (b : Cache) (cs : List Commit) → AllByRecursion (λ c. AreElsewhere b c.entry.rows) cs → commits_in b.bucket cs ≡ []
+none_in b cs other = filter_none (has_row_in b.bucket) cs (all_map (λ c. AreElsewhere b c.entry.rows) (λ c. has_row_in b.bucket c ≡ false) (λ c away. none c.entry.rows away) cs other)
   where
-    elsewhere : (cs : List Commit) → AllByRecursion (λ c. AreElsewhere b c.entry.rows) cs → AreElsewhere b (all_rows cs)
-    elsewhere [] all = tt
-    elsewhere (c ∷ cs) all = all_append (λ row. row.node.bucket ≢ b.bucket) c.entry.rows (all_rows cs) all.0 (elsewhere cs all.1)
+    none : (rows : List Row) → AreElsewhere b rows → list_any (λ row. row.node.bucket == b.bucket) rows ≡ false
+    none [] away = refl
+    none (row ∷ rows) away = by (row.node.bucket == b.bucket) (λ is. grind (arith, is)) (none rows away.1)
+      where
+        by : (t : Bool) → (t ≡ true → row.node.bucket ≡ b.bucket) → list_any (λ r. r.node.bucket == b.bucket) rows ≡ false → t || list_any (λ r. r.node.bucket == b.bucket) rows ≡ false
+        by true is rest = absurd (away.0 (is refl))
+        by false is rest = rest
 
-    longer : (e n : ℕ) → IsUpTo e (node_id k n) history → IsUpTo e (node_id k n) (history ++ more)
-    longer e n up = all_append (λ c. has_row_on (node_id k n) c ≡ true → c.epoch ≤ e) history more up
-        (all_map (λ c. AreElsewhere b c.entry.rows) (λ c. has_row_on (node_id k n) c ≡ true → c.epoch ≤ e)
-        (λ c away on. absurd (none_on b n c.entry.rows away (subst (λ j. has_row_on (node_id j n) c ≡ true) (sym stands.number) on))) more other)
-
-    same : (first : List Row) (n : ℕ) → nodes_of (first ++ all_rows history) k n ≡ nodes_of (first ++ all_rows (history ++ more)) k n
-    same first n =
-        subst (λ j. nodes_of (first ++ all_rows history) j n ≡ nodes_of ((first ++ all_rows history) ++ all_rows more) j n) stands.number (sym (beside b (first ++ all_rows history) (all_rows more) (elsewhere more other) n))
-        ∙ ap (λ rows. nodes_of rows k n) (append_assoc first (all_rows history) (all_rows more) ∙ ap (λ rows. first ++ rows) (sym (rows_together history more)))
-
-    at : (o : Option Cached) (n : ℕ) → AtNode log (node_id k n) p history o → AtNode log (node_id k n) p (history ++ more) o
-    at None n up = longer p n up
-    at (Some kept) n is = record { content = λ e first began. is.content e first began ∙ same first n; epoch = longer kept.epoch n is.epoch }
+pub beside_law : BesideLaw
+beside_law log k p b history more stands other = same_law log k p b history (history ++ more) same stands
+  where
+    same : commits_in k (history ++ more) ≡ commits_in k history
+    same = filter-append (has_row_in k) history more ∙ (ap (λ cs. commits_in k history ++ cs) (subst (λ j. commits_in j more ≡ []) stands.number (none_in b more other)) ∙ append-nil (commits_in k history))
 
 pub untouched_law : UntouchedLaw
 untouched_law d b fits none =

@@ -63,7 +63,7 @@ none_here b n [] h = refl
 none_here b n (row ∷ rows) h = grind (arith, none_here b n rows h.1, h.0)
 
 -- nor do they change it
-pub beside : (b : Cache) (rows own : List Row) → AreElsewhere b own → (n : ℕ) → nodes_of (rows ++ own) b.bucket n ≡ nodes_of rows b.bucket n
+beside : (b : Cache) (rows own : List Row) → AreElsewhere b own → (n : ℕ) → nodes_of (rows ++ own) b.bucket n ≡ nodes_of rows b.bucket n
 unfolding replay
 beside b rows own other n = content-append rows own (node_at b n) ∙ still n
   where

@@ -1,5 +1,5 @@
 -- What a bucket stands for from one transaction to the next. Each law is the contract of a function.
-use Rattle.std.specs.Prelude.{◌≡◌, ℕ, ◌<◌, ◌≤◌, false, List, [], ◌∷◌, ◌++◌, Option, Some, IfSome, All}
+use Rattle.std.specs.Prelude.{◌≡◌, ℕ, ◌<◌, ◌≤◌, ◌==◌, Bool, false, List, [], ◌∷◌, ◌++◌, filter, Option, Some, IfSome, All}
 use Rattle.std.specs.List.{AllByRecursion, list_any}
 use Rattle.fine_model.specs.declared.Row.{Row}
 use Rattle.fine_model.specs.declared.law.Origin.{Origin}
@@ -65,7 +65,19 @@ UndoLaw =
 abbrev pub EvictLaw : Type 0
 EvictLaw = (log : Origin) (k published evicted : ℕ) (b new : Cache) (history : List Commit) → evicted ≤ published → StandsFor log k published b history → IsLeft evicted (cached b) b new → StandsFor log k published new history
 
--- and for the history with commits more that have no row in it
+-- a commit has a row in a bucket
+abbrev pub has_row_in : ℕ → Commit → Bool
+has_row_in k c = list_any (λ row. row.node.bucket == k) c.entry.rows
+
+-- those of a history that have one, in their order
+abbrev pub commits_in : ℕ → List Commit → List Commit
+commits_in k history = filter (has_row_in k) history
+
+-- and for each other history that has the same commits in it, whatever it has in other buckets, and wherever
+abbrev pub SameLaw : Type 0
+SameLaw = (log : Origin) (k published : ℕ) (b : Cache) (history other : List Commit) → commits_in k other ≡ commits_in k history → StandsFor log k published b history → StandsFor log k published b other
+
+-- so for the history with commits more behind it that have no row in it
 abbrev pub BesideLaw : Type 0
 BesideLaw = (log : Origin) (k published : ℕ) (b : Cache) (history more : List Commit) → StandsFor log k published b history → AllByRecursion (λ c. AreElsewhere b c.entry.rows) more → StandsFor log k published b (history ++ more)
 

@@ -4,4 +4,5 @@ pub mod Answers
 pub mod Steps
 pub mod Scans
 pub mod Laws
+pub mod Standing
 pub mod Twice

@@ -5,6 +5,7 @@ mod answering;
 mod draft;
 mod laws;
 mod scanning;
+mod standing;
 mod step;
 #[cfg(test)]
 mod tests;
@@ -13,4 +14,5 @@ mod using;
 pub use draft::Draft;
 pub use laws::{blank_law, bucket_law, local_law, next_law};
 pub use scanning::RangeScan;
+pub use standing::{ends_law, serves_law, stands_law};
 pub use using::{settle, undo};

@@ -1,0 +1,98 @@
+-- From the board and the view to a body that is written out.
+use Rattle.std.proofs.Common.{◌≡◌, ℕ, List, [], ◌∷◌, ◌++◌, Some, None, refl, sym, ap, subst, ◌∙◌}
+use Rattle.std.specs.Prelude.{Option, Contains, option_map}
+use Rattle.std.specs.List.{AllByRecursion}
+use Rattle.std.proofs.lemmas.List.Elements.{All-contains, All-from_recursion}
+use Rattle.fine_model.specs.declared.Header.{Header}
+use Rattle.fine_model.specs.declared.Job.{Job}
+use Rattle.fine_model.specs.declared.Part.{Part}
+use Rattle.fine_model.specs.declared.Row.{Row}
+use Rattle.fine_model.specs.Boards.{buffer_at, set_of}
+use Rattle.fine_model.specs.Chain.{regions_of}
+use Rattle.fine_model.specs.Jobs.{held_by, held_for}
+use Rattle.fine_model.specs.Merge.{merged}
+use Rattle.fine_model.specs.Regions.{Image, body_bytes}
+use Rattle.fine_model.specs.Views.{SameSeen, TellsRowsOf}
+use Rattle.fine_model.proofs.Owning.{tells_alike}
+use Rattle.partition_index.specs.Parts.{IsSeen}
+use Rattle.partition_merge.specs.declared.merger.Measure.{Measure}
+use Rattle.partition_merge.proofs.Lengths.{merged_small}
+use Rattle.partition_hold.specs.Views.{IsView, SameView, ViewValue, opened}
+use Rattle.partition_hold.proofs.ViewLemmas.{view_names, view_part}
+use Rattle.epoch_room.specs.Value.{RoomValue}
+use Rattle.epoch_room.proofs.Boarding.{board_shows}
+use Rattle.room_merges.specs.Merging.{BlocksBegin, BlocksEnd, BlocksGoOn, BodyIsWritten, EyeTells, IsOut, MeasureIsTold, ShownByEye}
+
+pub shown_by_eye : ShownByEye
+shown_by_eye value view p rows out there tells =
+    let shows = board_shows value (buffer_at view.seat view.buffer) (opened view.eye) out.whole out.posted in
+    let named : AllByRecursion (Contains (set_of view.eye.regions)) (regions_of p) =
+    All-contains (λ (q : Part). AllByRecursion (Contains (set_of view.eye.regions)) (regions_of q)) view.parts p (All-from_recursion _ view.parts (view_names view out.is_view)) there in
+    subst (λ n. TellsRowsOf view.eye.told n (p ∷ []) rows) (sym out.region_len)
+    (tells_alike (set_of view.eye.regions) value.room.image view.eye.told value.room.region_len (p ∷ []) rows shows (named, tt) tells)
+
+seen_part : (view : ViewValue) (p : Part) → IsView view → Contains view.parts p → IsSeen view.eye p
+seen_part view p is there = All-contains (IsSeen view.eye) view.parts p (All-from_recursion _ view.parts is.seen) there
+
+pub measure_is_told : MeasureIsTold
+measure_is_told view older newer measure is has_older has_newer exact a b older_told newer_told =
+    let p = view_part view older a is older_told in
+    let q = view_part view newer b is newer_told in
+    exact a b p q (merged_small view.eye older newer a b (seen_part view older is has_older) (seen_part view newer is has_newer) p q)
+
+-- where an eye tells its bytes, so does the disk
+image_told : (regions : List ℕ) (known told : Option Image) (image : Image) → SameSeen regions known told → told ≡ Some image → (shown : Image) × (known ≡ Some shown)
+image_told regions (Some shown) told image same is = (shown, refl)
+image_told regions None None image same is = absurd cc
+image_told regions None (Some other) image same is = absurd same
+
+none_held : (known : Option Image) (shown : Image) (job : Job) → known ≡ Some shown → job.written ≡ 0 → (held : List ℕ) × (held_for known job ≡ Some held) × (held ≡ [])
+none_held known shown job is none = (
+  held_by shown job.target job.written job.header,
+  ap (λ k. held_for k job) is,
+  ap (λ n. held_by shown job.target n job.header) none ∙ by job.header,
+)
+  where
+    by : (header : Option Header) → held_by shown job.target 0 header ≡ []
+    by None = refl
+    by (Some header) = refl
+
+pub blocks_begin : BlocksBegin
+blocks_begin value view blocks job out has_older has_newer none ahead a b older_told newer_told =
+    let p = view_part view job.older a out.is_view older_told in
+    let q = view_part view job.newer b out.is_view newer_told in
+    let small = merged_small view.eye job.older job.newer a b (seen_part view job.older out.is_view has_older) (seen_part view job.newer out.is_view has_newer) p q in
+    let shows = board_shows value (buffer_at view.seat view.buffer) (opened view.eye) out.whole out.posted in
+    let shown = image_told (set_of view.eye.regions) value.room.image view.eye.told older_told.image shows older_told.is_told in
+    let held = none_held value.room.image shown.0 job shown.1 none in
+    ([], ahead view.eye a b p q small, held.1 ∙ ap (λ bytes. Some bytes) held.2)
+
+-- what the eye of a view tells, it told before
+told_before : (view view' : ViewValue) (p : Part) (rows : List Row) → SameView view view' → EyeTells view' p rows → EyeTells view p rows
+told_before view view' p rows same tells =
+    subst (λ n. TellsRowsOf view.eye.told n (p ∷ []) rows) same.region_len (subst (λ told. TellsRowsOf told view'.region_len (p ∷ []) rows) same.eye.told tells)
+
+pub blocks_go_on : BlocksGoOn
+blocks_go_on old new view view' blocks blocks' job job' same older newer gives held between a b older_told newer_told =
+    let was = between a b
+    (told_before view view' job.older a same (subst (λ p. EyeTells view' p a) older older_told))
+    (told_before view view' job.newer b same (subst (λ p. EyeTells view' p b) newer newer_told)) in
+    (was.0 ++ blocks'.block, gives was.0 a b was.1, held ∙ ap (λ h. option_map (λ bytes. bytes ++ blocks'.block) h) was.2)
+
+pub blocks_end : BlocksEnd
+blocks_end value view view' blocks job same ends between a b older_told newer_told =
+    let was = between a b (told_before view view' job.older a same older_told) (told_before view view' job.newer b same newer_told) in
+    was.2 ∙ ap (λ bytes. Some bytes) (ends was.0 a b was.1)
+
+pub body_is_written : BodyIsWritten
+body_is_written value view job header measure out has_older has_newer counts ordered measures holds a b a_told b_told =
+    let older_told = shown_by_eye value view job.older a out has_older a_told in
+    let newer_told = shown_by_eye value view job.newer b out has_newer b_told in
+    let is = measures a b older_told newer_told in
+    record {
+      ordered = sym (ap (λ (m : Measure). m.ordered) is) ∙ ordered;
+      written = subst (λ image. held_for image job ≡ Some (body_bytes (merged a b))) a_told.is_told (holds a b older_told newer_told);
+      rows = counts.rows ∙ ap (λ (m : Measure). m.rows) is;
+      nodes = counts.nodes ∙ ap (λ (m : Measure). m.nodes) is;
+      area = counts.area ∙ ap (λ (m : Measure). m.area) is;
+    }

@@ -1,0 +1,15 @@
+//! Laws of a merge through a view, for those that run one. The function does nothing: what counts is what it ensures.
+
+ghost use Rattle.room_merges.specs.Merging.{BlocksBegin, BlocksEnd, BlocksGoOn, BodyIsWritten, MeasureIsTold, ShownByEye};
+
+/// What a read of the disk tells of a part of a view that stands on the board, the view's eye tells too [`shown`]. So what a measure, the
+/// first block, each block and the end say of all rows that an eye tells, goes along with what the job's target holds [`measured`, `begin`,
+/// `more`, `end`], and in the end is what sealing asks of all rows that a read of the disk tells [`written`].
+pub fn merge_law()
+    ensures shown { ShownByEye }
+    ensures measured { MeasureIsTold }
+    ensures begin { BlocksBegin }
+    ensures more { BlocksGoOn }
+    ensures end { BlocksEnd }
+    ensures written { BodyIsWritten }
+{}

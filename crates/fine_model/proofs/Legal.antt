@@ -4,19 +4,16 @@ use Rattle.std.specs.Prelude.{Result}
 use Rattle.std.proofs.lemmas.Bool.{leb-true}
 use Rattle.std.proofs.lemmas.Grind.{flat_map-append}
 use Rattle.std.proofs.lemmas.List.{take-append-le}
-use Rattle.std.proofs.lemmas.List.Sums.{fold-append, take_while-cons}
-use Rattle.fine_model.specs.Types.{Row, Write, Why}
-use Rattle.fine_model.specs.Map.{Pair, after_write, map_after}
+use Rattle.std.proofs.lemmas.List.Sums.{take_while-cons}
+use Rattle.fine_model.specs.Types.{Row, Why}
+use Rattle.fine_model.specs.Map.{Pair, map_after}
 use Rattle.fine_model.specs.Store.{answer, after_call, writes_of}
 use Rattle.fine_model.specs.Pushed.{pushed, all_pushed, and_then}
 use Rattle.fine_model.specs.Trees.{IsSound, map_of}
 use Rattle.fine_model.specs.History.{Commit, IsNext, IsLegal, all_rows, all_writes, map_at, upto}
 use Rattle.fine_model.specs.Laws.{AreSmall, HasMap, IsPushed, AllPushedLaw, LegalFront, LegalMap, FrontLaw, GrowthLaw}
+use Rattle.fine_model.proofs.HistoryLaws.{map_after-append}
 use Rattle.fine_model.proofs.SetLaw.{pushed_law}
-
-pub map_after-append : (m : List Pair) (a b : List Write) → map_after m (a ++ b) ≡ map_after (map_after m a) b
-unfolding map_after
-map_after-append m a b = fold-append after_write m a b
 
 nothing_more : (rows : List Row) → AreSmall rows → IsSound rows → IsPushed rows [] (map_of rows)
 nothing_more rows small sound = record {

@@ -34,15 +34,12 @@ use Rattle.fine_model.proofs.PushedCalls.{pushed_last, pushed_stops}
 use Rattle.leaf_store.specs.Leaves.{root_leaf, kept, Holds}
 use Rattle.leaf_store.specs.Answers.{Answers, ComesTo, FillsLeaf, PassesVersions}
 use Rattle.leaf_store.specs.Steps.{IsBlank, Gets, Puts, AddsCall, RefusesCall}
+use Rattle.fine_model.proofs.HistoryLaws.{map_after-append}
 use Rattle.leaf_store.proofs.Kept.{kept-blank}
 use Rattle.leaf_store.proofs.Plain.{holds_sound, get_of_map}
 use Rattle.leaf_store.proofs.Puts.{put_pushed, put_passes, plain_small, leaf_is, holds_put}
 
 -- ---- calls in order
-
-map_after-append : (m : List Pair) (a b : List Write) → map_after m (a ++ b) ≡ map_after (map_after m a) b
-unfolding map_after
-map_after-append m a b = fold-append after_write m a b
 
 replies_last : (m : List Pair) (cs : List Call) (c : Call) → replies_to m (cs ++ c ∷ []) ≡ replies_to m cs ++ (answer (map_after m (writes_of m cs)) c).0 ∷ []
 unfolding replies_to writes_of map_after

@@ -21,8 +21,3 @@ unset_ascends pairs new key up is = subst Ascends (sym is) (record {
       (all_pass (λ p. is_below p.0 key) pairs)
       (all_map (λ p. is_below key p.0 ≡ true) (λ p. is_below p.0 key ≡ false) (λ p h. is_below-asym key p.0 h) (pairs_above key pairs) (all_pass (λ p. is_below key p.0) pairs));
 })
-
--- the map after some writes and then others
-pub map_after-append : (m : List Pair) (xs ys : List Write) → map_after m (xs ++ ys) ≡ map_after (map_after m xs) ys
-unfolding map_after
-map_after-append m xs ys = fold-append after_write m xs ys

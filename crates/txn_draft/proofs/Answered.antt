@@ -12,7 +12,7 @@ use Rattle.fine_model.specs.Pushed.{pushed, all_pushed, key_of}
 use Rattle.fine_model.specs.Store.{answer, after_call, replies_to, writes_of}
 use Rattle.fine_model.specs.Trees.{map_of, bucket_of}
 use Rattle.fine_model.proofs.CallLaw.{same_bucket}
-use Rattle.fine_model.proofs.Legal.{map_after-append}
+use Rattle.fine_model.proofs.HistoryLaws.{map_after-append}
 use Rattle.fine_model.proofs.Order.{all_map}
 use Rattle.fine_model.proofs.PushedCalls.{pushed_last}
 use Rattle.fine_model.proofs.SetLaw.{pushed_law}

@@ -6,7 +6,7 @@ ghost use Rattle.fine_model.specs.Boards.{empty_of, is_empty};
 ghost use Rattle.fine_model.specs.Becomes.{Becomes};
 ghost use Rattle.fine_model.specs.Jobs.{KeepsJob};
 ghost use Rattle.fine_model.specs.Merge.{cost};
-ghost use Rattle.fine_model.specs.RowBytes.{FitsRow, short_header};
+ghost use Rattle.fine_model.specs.RowBytes.{FitsRow};
 ghost use Rattle.fine_model.specs.declared.Mark.TheVariants as mark;
 ghost use Rattle.log_disk.specs.Disk.{Disk, SameBeside};
 ghost use Rattle.epoch_room.specs.declared.answers.Fit.TheVariants as fit;
@@ -68,7 +68,7 @@ pub struct Room<D: LogDisk> {
 
 impl<D: LogDisk> Model for Room<D> {
     ghost use Rattle.std.specs.Prelude.{◌≡◌, ◌+◌, ◌≤◌, vec_capacity};
-    ghost use Rattle.fine_model.specs.RowBytes.{most_in_log};
+    ghost use Rattle.fine_model.specs.RowBytes.{most_in_log, short_header};
     ghost use Rattle.epoch_room.specs.Value.{RoomValue, value_of};
     ghost use Rattle.epoch_room.specs.Whole.{IsWhole};
 

@@ -14,11 +14,13 @@ pub record IsOfOtherLength (path : List ℕ) (whole found : ℕ) (notes : FileNo
   pub unchanged : notes.changed.value ≡ false
   pub neither : (found ≢ 0) × (found ≢ whole)
 
--- The last call on the file failed, and the file told no length but 0 or the whole.
+-- The last call on the file failed, and the file told no length but 0 or the whole. If it was asked to change, then under its lock,
+-- and when it had told that it is empty.
 pub record HasFailed (path : List ℕ) (whole : ℕ) (notes : FileNotes) : Type 0 where
   pub at_path : string_bytes notes.path.value ≡ path
   pub failed : notes.last.value.failed ≡ true
   pub fits : IfSome notes.found.value (λ found. (found ≡ 0) ⊎ (found ≡ whole))
+  pub only_filled : notes.changed.value ≡ true → (notes.locked.value ≡ true) × (notes.found.value ≡ Some 0)
 
 abbrev pub IsWhy : List ℕ → ℕ → MakeFault → Type 0
 IsWhy path whole (fault.Failed notes) = HasFailed path whole notes.value

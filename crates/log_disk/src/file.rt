@@ -112,7 +112,7 @@ impl<R: Files<File = File> + Clone + Drop + Send> FileDisk<R> {
     /// `WrongLength` says that the file, under its lock, told a length that is neither 0 nor the whole, and was asked for no
     /// change until then. Where it told such a length, no disk is made and `Failed` does not come. `Failed` says that the last
     /// call on the file failed, as the lock does where another disk, of this or another process, has the file; the file may then
-    /// have been made or filled. No clause gives the cause of `NoMemory`.
+    /// have been made, or filled where it was empty. No clause gives the cause of `NoMemory`.
     pub fn make(
         rt: &R,
         alloc: Global,
@@ -202,6 +202,7 @@ fn fill(file: &mut Handle, whole: u64) -> Result<(), MakeFault>
 fn failed(file: &Handle, _whole: u64) -> MakeFault
     requires failed { file.now.notes.last.value.failed ≡ true }
     requires fits { IfSome file.now.notes.found.value (λ found. (found ≡ 0) ⊎ (found ≡ _whole)) }
+    requires only_filled { file.now.notes.changed.value ≡ true → (file.now.notes.locked.value ≡ true) × (file.now.notes.found.value ≡ Some 0) }
     ensures fault { IsWhy (string_bytes file.now.notes.path.value) _whole result }
 {
     MakeFault::Failed {

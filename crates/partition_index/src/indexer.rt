@@ -23,6 +23,7 @@ pub struct Indexer {
 
 impl Model for Indexer {
     ghost use Rattle.std.specs.Prelude.{◌+◌, ◌≤◌, IfSome, vec_capacity, vec_len};
+    ghost use Rattle.fine_model.specs.RowBytes.{index_entry};
     ghost use Rattle.partition_index.specs.Indexer.{IndexerValue};
 
     ghost Value = { IndexerValue };

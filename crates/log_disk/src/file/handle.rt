@@ -78,7 +78,7 @@ impl Handle {
         ensures fresh { IfOk result (λ file. (file.notes.found.value ≡ None) × (file.notes.changed.value ≡ false)) }
         ensures last { IfOk result (λ file. file.notes.last.value ≡ record { ask = ask.Open; failed = false }) }
         ensures err_path { IfErr result (λ notes. notes.value.path.value ≡ path.now) }
-        ensures err_fresh { IfErr result (λ notes. notes.value.found.value ≡ None) }
+        ensures err_fresh { IfErr result (λ notes. (notes.value.found.value ≡ None) × (notes.value.changed.value ≡ false)) }
         ensures err_last { IfErr result (λ notes. notes.value.last.value ≡ record { ask = ask.Open; failed = true }) }
     {
         let mut options = OpenOptions::new();
@@ -174,8 +174,9 @@ impl Handle {
         done
     }
 
-    /// Writes bytes from a place of the file on.
+    /// Writes bytes from a place of the file on. No other process has the file.
     pub(crate) fn write(&mut self, from: u64, bytes: &[u8]) -> io::Result<()>
+        requires locked { self.old.notes.locked.value ≡ true }
         ensures last { self.new.notes.last.value ≡ record { ask = ask.Write from (length bytes.now); failed = is_err result } }
         ensures changed { self.new.notes.changed.value ≡ true }
         ensures locked { self.new.notes.locked ≡ self.old.notes.locked }

@@ -30,7 +30,7 @@ use Rattle.epoch_room.specs.Meaning.{StandsTold}
 use Rattle.epoch_room.specs.Partition.{IsArranged}
 use Rattle.epoch_room.specs.Value.{on}
 use Rattle.epoch_room.proofs.Arranging.{same_rows, arranged_order}
-use Rattle.epoch_room.proofs.Histories.{rows_together, last_open, none_behind, split_history, follow_split, sealed_by}
+use Rattle.fine_model.proofs.Epochs.{rows_together, last_open, none_behind, split_history, follow_split, sealed_by}
 use Rattle.epoch_room.proofs.Longer.{range_of, base_closed, closed_alike, has_header, longer, own_rows, live_kept}
 use Rattle.epoch_room.proofs.Partitions.{alike}
 use Rattle.epoch_room.proofs.Torn.{HasClosed, HasOpened, torn_closed, at_gate, sealed_bytes}

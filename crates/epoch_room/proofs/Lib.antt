@@ -19,7 +19,6 @@ pub mod GateImages
 pub mod GateSteps
 pub mod Gates
 pub mod Gathering
-pub mod Histories
 pub mod Holding
 pub mod JobRegions
 pub mod Joining

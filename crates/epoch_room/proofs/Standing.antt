@@ -32,7 +32,7 @@ use Rattle.epoch_room.proofs.Ending.{no_parts_unsynced}
 use Rattle.fine_model.specs.Trees.{is_distinct}
 use Rattle.epoch_room.specs.Steps.{appended}
 use Rattle.epoch_room.specs.Meaning.{StandsTold, StandsWhere, Stands, StandsAtFirst, StandsForMore}
-use Rattle.epoch_room.proofs.Histories.{upto_push, last_push, follow_push, sealed_push, open_push, rows_push}
+use Rattle.fine_model.proofs.Epochs.{upto_push, last_push, follow_push, sealed_push, open_push, rows_push}
 
 -- the rows of partitions are small
 small_rows : (region_len : ℕ) (image : Image) (parts : List Part) (rows : List Row) → AreRowsOf region_len image parts rows → AllByRecursion (λ row. IsTrue (is_small row.rec)) rows

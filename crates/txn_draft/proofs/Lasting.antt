@@ -17,6 +17,7 @@ use Rattle.fine_model.proofs.Epochs.{rows_push, rows_together}
 use Rattle.fine_model.proofs.NodeLaws.{content-append, rows_of-append}
 use Rattle.fine_model.proofs.Order.{all_map, filter_none}
 use Rattle.fine_model.proofs.Sets.{all_append, all_filter}
+use Rattle.fine_model.proofs.UpTo.{no_rows, same_content}
 use Rattle.node_cache.specs.declared.cached.Cached.{Cached}
 use Rattle.node_cache.specs.Cache.{Cache, IsResting, IsSaved, after, before, cached, original}
 use Rattle.node_cache.specs.Entries.{stamped}
@@ -56,58 +57,6 @@ of_row P Q id one (row ∷ rows) all on = by (is_node id row.node) refl (of_row 
     by : (t : Bool) → is_node id row.node ≡ t → (list_any (λ r. is_node id r.node) rows ≡ true → Q) → t || list_any (λ r. is_node id r.node) rows ≡ true → Q
     by true is rest _ = one row (same_id id row.node is) all.0
     by false _ rest there = rest there
-
--- ---- the rows of a node that none later than an epoch is on
-
-no_rows : (id : NodeId) (rows : List Row) → list_any (λ row. is_node id row.node) rows ≡ false → rows_of id rows ≡ []
-no_rows id [] e = refl
-no_rows id (row ∷ rows) e = go (is_node id row.node) e (no_rows id rows)
-  where
-    go : (b : Bool) → b || list_any (λ r. is_node id r.node) rows ≡ false → (list_any (λ r. is_node id r.node) rows ≡ false → rows_of id rows ≡ []) → cond b (row ∷ rows_of id rows) (rows_of id rows) ≡ []
-    go true f rest = absurd (true≢false f)
-    go false f rest = rest f
-
-module _ (p u : ℕ) (id : NodeId) (le : p ≤ u) where
-  none_later : (c : Commit) → u < c.epoch → (has_row_on id c ≡ true → c.epoch ≤ p) → has_row_on id c ≡ false
-  none_later c later up = go (has_row_on id c) up
-    where
-      go : (b : Bool) → (b ≡ true → c.epoch ≤ p) → b ≡ false
-      go true f = let m = f refl in absurd (omega (arith, m, le, later))
-      go false f = refl
-
-  rows_both : (c : Commit) (cs : List Commit) → rows_of id (all_rows (c ∷ cs)) ≡ rows_of id c.entry.rows ++ rows_of id (all_rows cs)
-  rows_both c cs = rows_of-append id c.entry.rows (all_rows cs)
-
-  none_behind : (e : ℕ) (history : List Commit) → u < e → ((k : ℕ) (d : Commit) → slice_get history k ≡ Some d → e ≤ d.epoch) → IsUpTo p id history → rows_of id (all_rows history) ≡ []
-  none_behind e [] later each up = refl
-  none_behind e (c ∷ cs) later each up =
-      let at = each 0 c refl in
-      rows_both c cs ∙ (ap (λ l. l ++ rows_of id (all_rows cs)) (no_rows id c.entry.rows (none_later c (omega (arith, at, later)) up.0))
-      ∙ none_behind e cs later (λ k d is. each (suc k) d is) up.1)
-
-  -- where no epoch falls, the front up to a later epoch has them all
-  same_rows : (history : List Commit) → ((k : ℕ) (d : Commit) → slice_get history k ≡ Some d → All (λ b. b.epoch ≤ d.epoch) (take k history)) → IsUpTo p id history
-      → rows_of id (all_rows (upto history u)) ≡ rows_of id (all_rows history)
-  unfolding upto
-  same_rows [] each up = refl
-  same_rows (c ∷ cs) each up = go (nat_le c.epoch u) refl (same_rows cs (λ k d at. All-tail (λ (b : Commit). b.epoch ≤ d.epoch) c (take k cs) (each (suc k) d at)) up.1)
-    where
-      front : upto (c ∷ cs) u ≡ cond (nat_le c.epoch u) (c ∷ upto cs u) []
-      front = take_while-cons (λ d. nat_le d.epoch u) c cs
-
-      go : (b : Bool) → nat_le c.epoch u ≡ b → rows_of id (all_rows (upto cs u)) ≡ rows_of id (all_rows cs) → rows_of id (all_rows (upto (c ∷ cs) u)) ≡ rows_of id (all_rows (c ∷ cs))
-      go true is rest = ap (λ h. rows_of id (all_rows h)) (front ∙ ap (λ b. cond b (c ∷ upto cs u) []) is)
-          ∙ (rows_both c (upto cs u) ∙ (ap (λ l. rows_of id c.entry.rows ++ l) rest ∙ sym (rows_both c cs)))
-      go false is rest =
-          let later : u < c.epoch = grind (arith, is) in
-          ap (λ h. rows_of id (all_rows h)) (front ∙ ap (λ b. cond b (c ∷ upto cs u) []) is)
-          ∙ sym (rows_both c cs ∙ (ap (λ l. l ++ rows_of id (all_rows cs)) (no_rows id c.entry.rows (none_later c later up.0))
-          ∙ none_behind c.epoch cs later (λ k d at. All-head (λ (b : Commit). b.epoch ≤ d.epoch) c (take k cs) (each (suc k) d at)) up.1))
-
-  same_content : (first : List Row) (history : List Commit) → IsLegal first history → IsUpTo p id history → content (first ++ all_rows (upto history u)) id ≡ content (first ++ all_rows history) id
-  same_content first history legal up =
-      content-append first (all_rows (upto history u)) id
-      ∙ (ap (replay (content first id)) (same_rows history (λ k d at. (legal.each k d at).epoch) up) ∙ sym (content-append first (all_rows history) id))
 
 -- ---- a bucket node by node
 
@@ -268,7 +217,7 @@ serves_law tells source log k low upper e taken b own first known history began 
 
     at : (n : ℕ) → cached b n ≡ None → (nodes_of rows k n).0 ≢ node.Broken → nodes_of known k n ≡ nodes_of rows k n
     at n none fine =
-        let same = same_content low upper (node_id k n) le first history legal (absent_then log k low taken history n stands (was_none n none)) in
+        let same = same_content low upper (node_id k n) first history le legal (absent_then log k low taken history n stands (was_none n none)) in
         agrees.same (node_id k n) (λ broken. fine (ap (λ (c : Content). c.0) (sym same) ∙ broken)) ∙ same
 
 module _ (log : Origin) (k low p : ℕ) (taken b : Cache) (history : List Commit) (le : low ≤ p) (stands : StandsFor log k low taken history) (undoes : Undoes low taken b)

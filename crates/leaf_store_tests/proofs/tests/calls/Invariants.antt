@@ -2,7 +2,7 @@ use Rattle.std.proofs.Common.{IsTrue}
 use Rattle.std.specs.List.{AllByRecursion}
 use Rattle.fine_model.specs.Bounds.{FitsCall}
 use Rattle.fine_model.specs.Reach.{is_get_or_put}
-use Rattle.leaf_store.proofs.tests.calls.Given as goal
+use Rattle.leaf_store_tests.proofs.tests.calls.Given as goal
 
 abbrev pub invariant-loop-ask : goal.invariant-loop-ask
 invariant-loop-ask l = record {

@@ -1,5 +1,5 @@
 use Rattle.std.proofs.Common.{◌∙◌}
-use Rattle.leaf_store.proofs.tests.held.Goals as goal
+use Rattle.leaf_store_tests.proofs.tests.held.Goals as goal
 
 pub returns-in-Ok : goal.returns-in-Ok
 returns-in-Ok c =

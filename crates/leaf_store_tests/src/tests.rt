@@ -7,10 +7,10 @@ ghost use Rattle.fine_model.specs.Reach.{is_get_or_put};
 ghost use Rattle.log_disk.specs.Disk.{Disk};
 ghost use Rattle.leaf_store.specs.Loading.{IsPlaced};
 
-use super::*;
 use fine_model::{
     Bytes, Call, Calls, Damage, Header, Items, Mark, NodeId, Part, Parts, Range, Reply,
 };
+use leaf_store::{AnswerFault, Leaves, LoadFault};
 use log_disk::{FaultPlan, LogDisk, MemDisk};
 use std::alloc::Global;
 use std::test::*;

@@ -2,7 +2,7 @@ use Rattle.std.proofs.Common.{◌+◌, ◌<◌, ◌∷◌, [], sym, subst, arith
 use Rattle.fine_model.specs.declared.Header.{Header}
 use Rattle.fine_model.specs.declared.Mark.TheVariants as mark
 use Rattle.partition_index.specs.Parts.{LiesIn}
-use Rattle.leaf_store.proofs.tests.part.Goals as goal
+use Rattle.leaf_store_tests.proofs.tests.part.Goals as goal
 
 pub returns : goal.returns
 returns c =

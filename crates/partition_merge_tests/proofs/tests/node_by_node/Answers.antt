@@ -1,7 +1,7 @@
 use Rattle.std.proofs.Common.{◌∙◌, sym, subst, rules, refl}
 use Rattle.partition_index.specs.Parts.{IsSeen}
 use Rattle.partition_index.proofs.Looking.{seen_same, same_then}
-use Rattle.partition_merge.proofs.tests.node_by_node.Goals as goal
+use Rattle.partition_merge_tests.proofs.tests.node_by_node.Goals as goal
 
 pub loop-all-init : goal.loop-all-init
 loop-all-init g c = record { same = record { number = refl; regions = refl; region_len = refl; told = refl }; older = refl; newer = refl; region_len = refl; kept = c.requires.kept }

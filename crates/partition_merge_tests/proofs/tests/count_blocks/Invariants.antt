@@ -1,7 +1,7 @@
 use Rattle.partition_index.specs.Parts.{SameEye}
 use Rattle.partition_merge.specs.Blocks.{SameBlocks}
 use Rattle.partition_merge.specs.Mergers.{AreKept}
-use Rattle.partition_merge.proofs.tests.count_blocks.Given as goal
+use Rattle.partition_merge_tests.proofs.tests.count_blocks.Given as goal
 
 abbrev pub invariant-loop-count : goal.invariant-loop-count
 invariant-loop-count g l = record {

@@ -7,12 +7,14 @@ ghost use Rattle.partition_index.specs.Parts.{IsSeen};
 ghost use Rattle.partition_merge.specs.Merging.{FitRows};
 ghost use Rattle.partition_merge.specs.Mergers.{AreKept, older_part, newer_part};
 
-use super::*;
-use fine_model::{Bytes, FetchFault, Header, Mark, Part, Range, Rec};
+use fine_model::{
+    Bytes, Copied, FetchFault, Header, Items, Mark, NoMemory, NodeId, Part, Range, Rec, Row, Rows,
+};
 use log_disk::{DiskRefusal, FaultPlan, LogDisk, LogEye, MemDisk, MemEye};
 use node_record::write_row;
 use partition_index::{IndexEntry, entry_bytes};
-use std::alloc::AllocError;
+use partition_merge::{Blocks, Measure, Merger, merge_rows};
+use std::alloc::{AllocError, Global};
 use std::test::*;
 
 fn text(alloc: Global, text: &[u8]) -> Result<Bytes, Fail>
@@ -237,6 +239,13 @@ fn look_at(alloc: Global, older: &Rows, newer: &Rows, fails: u64) -> Result<MemE
         Ok(eye) => Ok(eye),
         Err(_) => Err(Fail::from("memory")),
     }
+}
+
+fn push_all(all: &mut Rows, rows: &[Row]) -> Result<(), NoMemory> {
+    for row in rows {
+        all.push(row.copy()?)?;
+    }
+    Ok(())
 }
 
 /// The rows of all calls together.

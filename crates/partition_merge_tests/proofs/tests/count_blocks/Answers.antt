@@ -2,7 +2,7 @@ use Rattle.std.proofs.Common.{◌∙◌, sym, subst, refl}
 use Rattle.partition_index.specs.Parts.{IsSeen}
 use Rattle.partition_index.proofs.Looking.{seen_same, same_then}
 use Rattle.partition_merge.specs.Mergers.{AreKept}
-use Rattle.partition_merge.proofs.tests.count_blocks.Goals as goal
+use Rattle.partition_merge_tests.proofs.tests.count_blocks.Goals as goal
 
 pub loop-count-init : goal.loop-count-init
 loop-count-init g c = record { eye = record { number = refl; regions = refl; region_len = refl; told = refl }; same = record { older = refl; newer = refl; region_len = refl; most = refl }; kept = c.requires.kept }

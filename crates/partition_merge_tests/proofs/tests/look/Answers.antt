@@ -4,8 +4,8 @@ use Rattle.fine_model.specs.declared.Part.{Part}
 use Rattle.partition_index.specs.Parts.{LiesIn, IsSeen}
 use Rattle.partition_index.proofs.Looking.{seen_opened}
 use Rattle.node_fetch.proofs.Told.{map_told}
-use Rattle.partition_merge.specs.declared.tests.TheConstants.{OLDER, NEWER}
-use Rattle.partition_merge.proofs.tests.look.Goals as goal
+use Rattle.partition_merge_tests.specs.declared.tests.TheConstants.{OLDER, NEWER}
+use Rattle.partition_merge_tests.proofs.tests.look.Goals as goal
 
 old_lies : LiesIn 524288 OLDER.header
 old_lies = record { large = lit< tt; small = lit≤ tt; listed = refl; counted = refl; lies = refl }

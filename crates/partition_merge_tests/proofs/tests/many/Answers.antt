@@ -7,7 +7,7 @@ use Rattle.fine_model.specs.RowBytes.{FitsRec}
 use Rattle.partition_merge.specs.Merging.{FitRows}
 use Rattle.fine_model.proofs.Sets.{all_append}
 use Rattle.fine_model.proofs.Order.{all_map, first_of_both}
-use Rattle.partition_merge.proofs.tests.many.Goals as goal
+use Rattle.partition_merge_tests.proofs.tests.many.Goals as goal
 
 -- a row behind rows that are all below it
 ordered_more : (rows : List Row) (row : Row) → IsTrue (is_ordered rows) → AllByRecursion (λ r. is_row_below r row ≡ true) rows → IsTrue (is_ordered (rows ++ row ∷ []))

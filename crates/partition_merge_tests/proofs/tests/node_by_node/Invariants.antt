@@ -1,7 +1,7 @@
 use Rattle.std.proofs.Common.{◌≡◌}
 use Rattle.partition_index.specs.Parts.{SameEye}
 use Rattle.partition_merge.specs.Mergers.{AreKept, both_left, older_part, newer_part}
-use Rattle.partition_merge.proofs.tests.node_by_node.Given as goal
+use Rattle.partition_merge_tests.proofs.tests.node_by_node.Given as goal
 
 abbrev pub invariant-loop-all : goal.invariant-loop-all
 invariant-loop-all g l = record {

@@ -2,7 +2,7 @@ use Rattle.std.proofs.Common.{◌≡◌, ◌+◌, ◌<◌, IsTrue}
 use Rattle.std.specs.List.{AllByRecursion}
 use Rattle.fine_model.specs.Merge.{is_ordered}
 use Rattle.partition_merge.specs.Merging.{FitRows}
-use Rattle.partition_merge.proofs.tests.many.Given as goal
+use Rattle.partition_merge_tests.proofs.tests.many.Given as goal
 
 abbrev pub invariant-loop-i : goal.invariant-loop-i
 invariant-loop-i l = record {

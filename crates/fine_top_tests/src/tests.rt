@@ -3,8 +3,8 @@
 ghost use Rattle.std.specs.Prelude.{◌≡◌, ◌<◌, ◌≤◌, [], IfOk};
 ghost use Rattle.fine_top.specs.Words.{IsGeometry};
 
-use super::{Finish, fineline, geometry_of};
 use fine_model::NoGate;
+use fine_top::{Finish, fineline, geometry_of};
 use log_disk::{FaultPlan, LogDisk, MemDisk};
 use script_text::{MemSink, MemSource};
 use std::alloc::Global;

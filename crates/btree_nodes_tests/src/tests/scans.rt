@@ -40,6 +40,33 @@ fn next_of(tree: &Tree) -> u32 {
     }
 }
 
+/// Whether a scan between two places finds so many keys from the first place on.
+fn finds(
+    alloc: Global,
+    rows: &[u8],
+    low: u32,
+    high: u32,
+    limit: u32,
+    many: u32,
+) -> Result<bool, Fail> {
+    let mut tree = tree_of(alloc, rows)?;
+    let found = pairs_between(&mut tree, low, high, limit)?;
+    are_keys(alloc, found.as_slice(), low, many)
+}
+
+/// How many nodes a scan between two places loads, and the next unused number that the head then says.
+fn loads_of(
+    alloc: Global,
+    rows: &[u8],
+    low: u32,
+    high: u32,
+    limit: u32,
+) -> Result<(u32, u32), Fail> {
+    let mut tree = tree_of(alloc, rows)?;
+    pairs_between(&mut tree, low, high, limit)?;
+    Ok((tree.source.loads, next_of(&tree)))
+}
+
 #[test]
 fn a_scan_finds_the_first_pairs_of_its_range(rt: HostRuntime) -> Result<(), Fail> {
     let rows = deep_rows(rt.alloc())?;
@@ -56,9 +83,7 @@ fn a_scan_finds_the_first_pairs_of_its_range(rt: HostRuntime) -> Result<(), Fail
         (599, 8000, 9, 1),
         (600, 8000, 9, 0),
     ] {
-        let mut tree = tree_of(rt.alloc(), rows.as_slice())?;
-        let found = pairs_between(&mut tree, low, high, limit)?;
-        let right = are_keys(rt.alloc(), found.as_slice(), low, many)?;
+        let right = finds(rt.alloc(), rows.as_slice(), low, high, limit, many)?;
         assert!(rt; right, "from {low} to {high}, {limit}");
     }
     Ok(())
@@ -75,12 +100,10 @@ fn a_scan_loads_only_what_it_needs(rt: HostRuntime) -> Result<(), Fail> {
         (100, 120, 1, 4),
         (8, 24, 99, 5),
     ] {
-        let mut tree = tree_of(rt.alloc(), rows.as_slice())?;
-        pairs_between(&mut tree, low, high, limit)?;
-        assert_eq!(rt; tree.source.loads, loads, "from {low} to {high}, {limit}");
+        let (found, _next) = loads_of(rt.alloc(), rows.as_slice(), low, high, limit)?;
+        assert_eq!(rt; found, loads, "from {low} to {high}, {limit}");
     }
-    let mut tree = tree_of(rt.alloc(), rows.as_slice())?;
-    pairs_between(&mut tree, 0, 600, 2000)?;
-    assert_eq!(rt; tree.source.loads, next_of(&tree));
+    let (found, next) = loads_of(rt.alloc(), rows.as_slice(), 0, 600, 2000)?;
+    assert_eq!(rt; found, next);
     Ok(())
 }

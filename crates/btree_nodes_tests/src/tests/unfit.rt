@@ -99,13 +99,22 @@ fn count_unfit(tree: &mut Tree, number: u32) -> u32 {
     count
 }
 
+/// How many of the five calls on these rows name this node as unfit, or 0 where one pushes a row.
+fn unfit_on(alloc: Global, lines: &[Line], number: u32) -> Result<u32, Fail> {
+    let mut tree = tree_on(alloc, lines)?;
+    let count = count_unfit(&mut tree, number);
+    Ok(if tree.log.bytes().is_empty() {
+        count
+    } else {
+        0
+    })
+}
+
 #[test]
 fn each_call_names_the_first_unfit_node(rt: HostRuntime) -> Result<(), Fail> {
     let rules = [ROOT, LEAF, INNER, VERSION, CHILD, KEY, BUCKET, SEPARATOR];
     for (rule, (lines, number)) in rules.iter().enumerate() {
-        let mut tree = tree_on(rt.alloc(), lines)?;
-        assert_eq!(rt; count_unfit(&mut tree, *number), 5, "rule {rule}");
-        assert!(rt; tree.log.bytes().is_empty(), "rule {rule}");
+        assert_eq!(rt; unfit_on(rt.alloc(), lines, *number)?, 5, "rule {rule}");
     }
     Ok(())
 }

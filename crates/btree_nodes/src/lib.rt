@@ -10,8 +10,6 @@ mod insertion;
 mod leaf;
 mod removal;
 mod scanning;
-#[cfg(test)]
-mod tests;
 mod tree;
 
 pub use adding::add_to;

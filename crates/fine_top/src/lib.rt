@@ -3,8 +3,6 @@
 
 mod opening;
 mod run;
-#[cfg(test)]
-mod tests;
 mod top;
 mod txn;
 mod words;

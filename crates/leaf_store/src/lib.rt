@@ -16,6 +16,3 @@ pub use answered::Answered;
 pub use changes::Changes;
 pub use fault::{AnswerFault, LoadFault};
 pub use leaves::Leaves;
-
-#[cfg(test)]
-mod tests;

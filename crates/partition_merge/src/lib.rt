@@ -13,8 +13,6 @@ mod fold;
 mod laws;
 mod merger;
 mod order;
-#[cfg(test)]
-mod tests;
 
 pub use blocks::Blocks;
 use fine_model::{Copied, Items, NoMemory, NodeId, Row, Rows};

@@ -1,0 +1,11 @@
+//! Worked calls, and what no clause says.
+
+mod again;
+mod calls;
+mod fixtures;
+mod fresh;
+mod limits;
+mod scans;
+mod splits;
+mod unfit;
+mod worked;

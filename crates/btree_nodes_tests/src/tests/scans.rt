@@ -1,0 +1,109 @@
+//! Scans of a tree of depth 3.
+
+ghost use Rattle.std.specs.Prelude.{IfOk};
+
+use super::fixtures::{Tree, key_at, pairs, tree_of};
+use super::splits::{are_keys, put_keys};
+use fine_model::{Node, Pairs};
+use std::alloc::Global;
+use std::test::*;
+
+/// The rows of a tree of 600 keys of thirteen pieces, each with `1`.
+pub fn deep_rows(alloc: Global) -> Result<Vec<u8>, Fail> {
+    let mut tree = tree_of(alloc, b"")?;
+    if !put_keys(&mut tree, 600, 13, 1, 600)? {
+        return Err("memory".into());
+    }
+    Ok(
+        Vec::from_slice(alloc, tree.log.bytes())
+            .ok()
+            .ok_or("memory")?,
+    )
+}
+
+/// A scan between two places among the keys of thirteen pieces.
+pub fn pairs_between(tree: &mut Tree, low: u32, high: u32, limit: u32) -> Result<Pairs, Fail> {
+    let low = key_at(tree.alloc, low, 13)?;
+    let high = key_at(tree.alloc, high, 13)?;
+    let found = pairs(tree, low.as_slice(), high.as_slice(), limit);
+    Ok(found.ok().ok_or("scan")?)
+}
+
+/// What a cached head says of the next unused number, or 0.
+fn next_of(tree: &Tree) -> u32 {
+    match tree.bucket.peek(0) {
+        Some(kept) => match &kept.node {
+            Node::Head { next, .. } => *next,
+            _ => 0,
+        },
+        None => 0,
+    }
+}
+
+/// Whether a scan between two places finds so many keys from the first place on.
+fn finds(
+    alloc: Global,
+    rows: &[u8],
+    low: u32,
+    high: u32,
+    limit: u32,
+    many: u32,
+) -> Result<bool, Fail> {
+    let mut tree = tree_of(alloc, rows)?;
+    let found = pairs_between(&mut tree, low, high, limit)?;
+    are_keys(alloc, found.as_slice(), low, many)
+}
+
+/// How many nodes a scan between two places loads, and the next unused number that the head then says.
+fn loads_of(
+    alloc: Global,
+    rows: &[u8],
+    low: u32,
+    high: u32,
+    limit: u32,
+) -> Result<(u32, u32), Fail> {
+    let mut tree = tree_of(alloc, rows)?;
+    pairs_between(&mut tree, low, high, limit)?;
+    Ok((tree.source.loads, next_of(&tree)))
+}
+
+#[test]
+fn a_scan_finds_the_first_pairs_of_its_range(rt: HostRuntime) -> Result<(), Fail> {
+    let rows = deep_rows(rt.alloc())?;
+    for (low, high, limit, many) in [
+        (0, 600, 2000, 600),
+        (0, 600, 500, 500),
+        (0, 600, 0, 0),
+        (15, 17, 9, 2),
+        (16, 16, 9, 0),
+        (17, 16, 9, 0),
+        (200, 500, 300, 300),
+        (200, 500, 299, 299),
+        (200, 500, 301, 300),
+        (599, 8000, 9, 1),
+        (600, 8000, 9, 0),
+    ] {
+        let right = finds(rt.alloc(), rows.as_slice(), low, high, limit, many)?;
+        assert!(rt; right, "from {low} to {high}, {limit}");
+    }
+    Ok(())
+}
+
+#[test]
+fn a_scan_loads_only_what_it_needs(rt: HostRuntime) -> Result<(), Fail> {
+    let rows = deep_rows(rt.alloc())?;
+    for (low, high, limit, loads) in [
+        (0, 600, 0, 1),
+        (9, 9, 9, 1),
+        (9, 8, 9, 1),
+        (100, 101, 9, 4),
+        (100, 120, 1, 4),
+        (8, 24, 99, 5),
+    ] {
+        let (found, _next) = loads_of(rt.alloc(), rows.as_slice(), low, high, limit)?;
+        assert_eq!(rt; found, loads, "from {low} to {high}, {limit}");
+    }
+    let (found, next) = loads_of(rt.alloc(), rows.as_slice(), 0, 600, 2000)?;
+    assert_eq!(rt; found, next);
+    Ok(())
+}

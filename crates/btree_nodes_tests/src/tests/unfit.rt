@@ -1,0 +1,209 @@
+//! Trees that break the rules, one for each rule, and sources that fail.
+
+ghost use Rattle.std.specs.Prelude.{IfOk};
+
+use super::fixtures::{Tree, add, del, get, pairs, put, tree_of};
+use super::limits::push;
+use super::scans::deep_rows;
+use btree_nodes::{TreeFault, scan};
+use fine_model::{Bytes, FetchFault, Items, NodeId};
+use std::alloc::Global;
+use std::test::*;
+
+/// The image of an inner node with one separator, over nodes 2 and 3.
+const OVER_2_AND_3: &[u8] = b"\x01\x00\x00\x00\x02\x00\x00\x00\x03\x0aBBAaAaAaAa";
+
+/// A row of bucket 64: kind, number, version and body.
+type Line = (u8, u32, u64, &'static [u8]);
+
+/// The rows of a tree that breaks one rule, and the first node that shows it on the way of the least key.
+type Broken = (&'static [Line], u32);
+
+/// The root is below the next unused number.
+const ROOT: Broken = (&[(1, 0, 1, b"\x00\x00\x00\x05\x00\x00\x00\x05\x01")], 0);
+
+/// Leaves stand at height 0 alone.
+const LEAF: Broken = (&[(1, 0, 1, b"\x00\x00\x00\x01\x00\x00\x00\x04\x02")], 1);
+
+/// Inner nodes stand above height 0.
+const INNER: Broken = (&[(3, 1, 1, OVER_2_AND_3)], 1);
+
+/// Versions follow on each other.
+const VERSION: Broken = (&[(4, 1, 2, b"\x0aAaAaAaAaAa\x00\x011")], 1);
+
+/// Each child is below the next unused number.
+const CHILD: Broken = (
+    &[
+        (1, 0, 1, b"\x00\x00\x00\x01\x00\x00\x00\x03\x02"),
+        (3, 1, 1, OVER_2_AND_3),
+    ],
+    1,
+);
+
+/// Keys lie within the separators beside their leaf.
+const KEY: Broken = (
+    &[
+        (1, 0, 1, b"\x00\x00\x00\x01\x00\x00\x00\x04\x02"),
+        (3, 1, 1, OVER_2_AND_3),
+        (4, 2, 1, b"\x0aBBAaAaAaAa\x00\x011"),
+    ],
+    2,
+);
+
+/// Keys belong to the bucket.
+const BUCKET: Broken = (&[(4, 1, 1, b"\x01a\x00\x011")], 1);
+
+/// Separators lie strictly within those further up.
+const SEPARATOR: Broken = (
+    &[
+        (1, 0, 1, b"\x00\x00\x00\x01\x00\x00\x00\x06\x03"),
+        (3, 1, 1, OVER_2_AND_3),
+        (3, 2, 1, OVER_2_AND_3),
+    ],
+    2,
+);
+
+/// A tree on these rows.
+fn tree_on(alloc: Global, lines: &[Line]) -> Result<Tree, Fail> {
+    let mut rows = Vec::new(alloc);
+    for (kind, number, version, body) in lines {
+        push(&mut rows, *kind, *number, *version, body)?;
+    }
+    tree_of(alloc, rows.as_slice())
+}
+
+/// Whether an answer names this node as unfit.
+fn is_unfit<T: Drop>(answer: &Result<T, TreeFault>, number: u32) -> bool {
+    match answer {
+        Err(TreeFault::Unfit { node }) => *node == NodeId { bucket: 64, number },
+        _ => false,
+    }
+}
+
+/// How many of the five calls on the least key name this node as unfit.
+fn count_unfit(tree: &mut Tree, number: u32) -> u32 {
+    let key = b"AaAaAaAaAa";
+    let all = [
+        is_unfit(&get(tree, key), number),
+        is_unfit(&put(tree, key, b"1"), number),
+        is_unfit(&del(tree, key), number),
+        is_unfit(&add(tree, key, 1), number),
+        is_unfit(&pairs(tree, key, b"C", 9), number),
+    ];
+    let mut count = 0u32;
+    for one in all {
+        if one {
+            count = count.saturating_add(1);
+        }
+    }
+    count
+}
+
+/// How many of the five calls on these rows name this node as unfit, or 0 where one pushes a row.
+fn unfit_on(alloc: Global, lines: &[Line], number: u32) -> Result<u32, Fail> {
+    let mut tree = tree_on(alloc, lines)?;
+    let count = count_unfit(&mut tree, number);
+    Ok(if tree.log.bytes().is_empty() {
+        count
+    } else {
+        0
+    })
+}
+
+#[test]
+fn each_call_names_the_first_unfit_node(rt: HostRuntime) -> Result<(), Fail> {
+    let rules = [ROOT, LEAF, INNER, VERSION, CHILD, KEY, BUCKET, SEPARATOR];
+    for (rule, (lines, number)) in rules.iter().enumerate() {
+        assert_eq!(rt; unfit_on(rt.alloc(), lines, *number)?, 5, "rule {rule}");
+    }
+    Ok(())
+}
+
+/// What became of a call on a source of which a load may fail.
+#[derive(Clone, Copy, PartialEq, Eq)]
+enum Ends {
+    Done,
+    Failed,
+    Otherwise,
+}
+
+fn end_of<T: Drop>(answer: &Result<T, TreeFault>) -> Ends {
+    match answer {
+        Ok(_) => Ends::Done,
+        Err(
+            TreeFault::Source {
+                fault: FetchFault::Failed,
+            },
+        ) => Ends::Failed,
+        Err(_) => Ends::Otherwise,
+    }
+}
+
+/// A scan over some leaves behind a pair that stood there. Where it fails, the pair is all that is there.
+fn scan_behind(tree: &mut Tree, before: (Bytes, Bytes)) -> Ends {
+    if tree.bucket.bucket() > 255 {
+        return Ends::Otherwise;
+    }
+    let mut out = Items::new(tree.alloc);
+    if out.push(before).is_err() {
+        return Ends::Otherwise;
+    }
+    let answer = scan(
+        &mut tree.source,
+        &mut tree.bucket,
+        b"AaAaAaAaAaAaAaAaAaAaAaBBAa",
+        b"C",
+        60,
+        &mut out,
+    );
+    let end = end_of(&answer);
+    let many = if end == Ends::Done { 61 } else { 1 };
+    if out.len() == many {
+        end
+    } else {
+        Ends::Otherwise
+    }
+}
+
+/// One of the five calls.
+fn call(tree: &mut Tree, kind: u32) -> Ends {
+    let key = b"AaAaAaAaAaAaAaAaAaAaAaAaBB";
+    match kind {
+        0 => end_of(&get(tree, key)),
+        1 => end_of(&put(tree, key, b"2")),
+        2 => end_of(&del(tree, key)),
+        3 => end_of(&add(tree, key, 1)),
+        _ => {
+            let before = (Items::new(tree.alloc), Items::new(tree.alloc));
+            scan_behind(tree, before)
+        }
+    }
+}
+
+/// Makes each load of a call fail in turn, until none does. Answers how many loads there were, or 0 where an answer was another.
+fn fail_each_load(alloc: Global, rows: &[u8], kind: u32) -> Result<u32, Fail> {
+    for fails in 1..20u32 {
+        let mut tree = tree_of(alloc, rows)?;
+        tree.source.fails = fails;
+        match call(&mut tree, kind) {
+            Ends::Done => return Ok(tree.source.loads),
+            Ends::Failed if tree.log.bytes().is_empty() && tree.source.loads == fails => {}
+            _ => return Ok(0),
+        }
+    }
+    Ok(0)
+}
+
+#[test]
+fn a_load_that_fails_is_told(rt: HostRuntime) -> Result<(), Fail> {
+    let rows = deep_rows(rt.alloc())?;
+    for kind in 0..4u32 {
+        assert_eq!(rt;
+            fail_each_load(rt.alloc(), rows.as_slice(), kind)?,
+            4,
+            "call {kind}"
+        );
+    }
+    assert_eq!(rt; fail_each_load(rt.alloc(), rows.as_slice(), 4)?, 7);
+    Ok(())
+}

@@ -1,0 +1,419 @@
+//! What no clause says: the printed text of worked scripts, the bytes of the log, and calls that fail.
+
+ghost use Rattle.std.specs.Prelude.{◌≡◌, ◌<◌, ◌≤◌, [], IfOk};
+ghost use Rattle.fine_top.specs.Words.{IsGeometry};
+
+use fine_model::NoGate;
+use fine_top::{Finish, fineline, geometry_of};
+use log_disk::{FaultPlan, LogDisk, MemDisk};
+use script_text::{MemSink, MemSource};
+use std::alloc::Global;
+use std::process::Abort;
+use std::sync::Wait;
+use std::test::Fail;
+use std::thread::Threads;
+
+const ROOM: usize = 8192;
+
+const LENGTH: u64 = 16_384;
+
+const LONG_KEY: &str = "kkkkkkkkkkkkkkkkkkkkkkkkkkkkkkkkkkkkkkkkkkkkkkkkkkkkkkkkkkkkkkkk";
+
+const LONG_VALUE: &str =
+    "vvvvvvvvvvvvvvvvvvvvvvvvvvvvvvvvvvvvvvvvvvvvvvvvvvvvvvvvvvvvvvvvvvvvvvvvvvvvvvvvvvvvvvvvvvvvvvvvvvvvvvvvvvvvvvvvvvvvvvvvvvvvvvvvvvvvvvvvvvvvvvvvvvvvvvvvvvvvvvvvvvvvvvvvvvvvvvvvvvvvvvvvvvvvvvvvvvvvvvvvvvvvvvvvvvvvvvvvvvvvvvvvvvvvvvvvvvvvvvvvvvvvvvvvvvvvvvvv";
+
+const WORDS: &str =
+    "words: run [--group N] [--tries N] [--keep N] \u{7c} dump \u{7c} ranges \u{7c} merge \u{7c} gen START COUNT LANES|";
+
+const THREE: &str = "txn 1|put a 1|commit|txn 1|put b 2|commit|txn 1|put c 3|get a|commit|";
+
+/// What a run of a script on a disk printed, and how it ended.
+#[derive(Drop)]
+struct Printed {
+    text: Vec<u8>,
+    finish: Finish<MemDisk>,
+}
+
+// A new disk of four regions of the least length.
+fn small(alloc: Global, plan: FaultPlan) -> Result<MemDisk, Fail>
+    ensures { IfOk result (λ disk. IsGeometry (disk.disk.regions, disk.disk.region_len) × (disk.disk.unsynced ≡ []) × (disk.disk.eyes ≡ [])) }
+{
+    Ok(MemDisk::new(alloc, 4, LENGTH, plan)?)
+}
+
+// The disk after a crash, which has nothing unsynced.
+fn crash(disk: MemDisk, picks: &[u8]) -> Result<MemDisk, Fail>
+    requires geometry { IsGeometry (disk.disk.regions, disk.disk.region_len) }
+    requires no_eyes { disk.disk.eyes ≡ [] }
+    ensures { IfOk result (λ disk. IsGeometry (disk.disk.regions, disk.disk.region_len) × (disk.disk.unsynced ≡ []) × (disk.disk.eyes ≡ [])) }
+{
+    Ok(disk.crashed(picks)?)
+}
+
+// Runs a script whose lines end at each `|`.
+fn run<R: Threads + Wait + Sync>(
+    rt: &R,
+    alloc: Global,
+    texts: &[&str],
+    script: &str,
+    fails: (Vec<u64>, Vec<u64>),
+    disk: MemDisk,
+) -> Result<Printed, Fail>
+    requires geometry { IsGeometry (disk.disk.regions, disk.disk.region_len) }
+    requires synced { disk.disk.unsynced ≡ [] }
+    requires no_eyes { disk.disk.eyes ≡ [] }
+    ensures { IfOk result (λ printed. IsGeometry (printed.finish.disk.disk.regions, printed.finish.disk.disk.region_len) × (printed.finish.disk.disk.eyes ≡ [])) }
+{
+    let mut words = Vec::new(alloc);
+    for text in texts {
+        words.push(String::from_str(alloc, text)?)?;
+    }
+    let mut bytes = Vec::new(alloc);
+    for byte in script.as_bytes() {
+        bytes.push(if *byte == b'|' { b'\n' } else { *byte })?;
+    }
+    let mut source = MemSource::new(bytes, fails.0);
+    let mut sink = MemSink::new(alloc, ROOM, fails.1)?;
+    let finish = fineline(rt, alloc, &words, &mut source, &mut sink, disk, &NoGate);
+    let mut text = Vec::new(alloc);
+    for byte in sink.bytes() {
+        text.push(if *byte == b'\n' { b'|' } else { *byte })?;
+    }
+    Ok(Printed { text, finish })
+}
+
+// Runs a script on a disk with no call that fails.
+fn run_well<R: Threads + Wait + Sync>(
+    rt: &R,
+    alloc: Global,
+    script: &str,
+    disk: MemDisk,
+) -> Result<Printed, Fail>
+    requires geometry { IsGeometry (disk.disk.regions, disk.disk.region_len) }
+    requires synced { disk.disk.unsynced ≡ [] }
+    requires no_eyes { disk.disk.eyes ≡ [] }
+    ensures { IfOk result (λ printed. IsGeometry (printed.finish.disk.disk.regions, printed.finish.disk.disk.region_len) × (printed.finish.disk.disk.eyes ≡ [])) }
+{
+    let none = (Vec::new(alloc), Vec::new(alloc));
+    run(rt, alloc, &["run"], script, none, disk)
+}
+
+#[test]
+fn scripts_print_their_reports(rt: HostRuntime) -> Result<(), Fail> {
+    let alloc = rt.alloc();
+    let table: [(&[&str], &str, u8, &str); 18] = [
+        (
+            &["run"],
+            "txn 1|put a 1|get a|commit|",
+            0,
+            "txn 1 commit 1 epoch 1|put a|get a = 1|durable 1|",
+        ),
+        (
+            &["run"],
+            "txn 1|put a 1|get a|commit",
+            0,
+            "txn 1 commit 1 epoch 1|put a|get a = 1|durable 1|",
+        ),
+        (
+            &["run"],
+            "txn 1\r|put a 1\r|get a\r|commit\r|",
+            0,
+            "txn 1 commit 1 epoch 1|put a|get a = 1|durable 1|",
+        ),
+        (&["run"], "", 0, "durable 0|"),
+        (
+            &["run"],
+            "txn 1|commit|txn 1|get x|commit|",
+            0,
+            "txn 1 commit 1 epoch 1|txn 2 commit 2 epoch 1|get x none|durable 1|",
+        ),
+        (
+            &["run"],
+            "txn 1|put a none|get a|get b|commit|",
+            0,
+            "txn 1 commit 1 epoch 1|put a|get a = none|get b none|durable 1|",
+        ),
+        (
+            &["run"],
+            "txn 1|put a 1|put a 2|get a|commit|txn 1|put a 3|commit|txn 1|get a|commit|",
+            0,
+            "txn 1 commit 1 epoch 1|put a|put a|get a = 2|txn 2 commit 2 epoch 1|put a|txn 3 commit 3 epoch 1|get a = 3|durable 1|",
+        ),
+        (&["run"], "txn 17|", 3, "script line 1|"),
+        (&["run"], "txn 2|commit|", 3, "script line 1|"),
+        (&["run"], "txn 1|del a|commit|", 3, "script line 2|"),
+        (&["run"], "txn 1|add a 1|commit|", 3, "script line 2|"),
+        (&["run"], "txn 1|scan a b 1|commit|", 3, "script line 2|"),
+        (&["run"], "txn 1|abort|", 3, "script line 2|"),
+        (&["run"], "txn 1|put a 1|", 3, "script line 3|"),
+        (&["run"], "txn 1|put a 1", 3, "script line 3|"),
+        (&[], "", 2, WORDS),
+        (&["run", "run"], "", 2, WORDS),
+        (&["Run"], "", 2, WORDS),
+    ];
+    for (texts, script, status, text) in &table {
+        let disk = small(alloc, FaultPlan::none(alloc))?;
+        let none = (Vec::new(alloc), Vec::new(alloc));
+        let printed = run(&rt, alloc, texts, script, none, disk)?;
+        assert_eq!(rt; printed.finish.status, *status);
+        assert_eq!(rt; printed.text.as_slice(), text.as_bytes());
+    }
+    Ok(())
+}
+
+#[test]
+fn keys_and_values_have_a_length(rt: HostRuntime) -> Result<(), Fail> {
+    let alloc = rt.alloc();
+    let table: [(&str, &str, u8, &str, &str); 3] = [
+        ("", "", 0, "txn 1 commit 1 epoch 1|put ", "|durable 1|"),
+        ("k", "", 3, "script line 2|", ""),
+        ("", "v", 3, "script line 2|", ""),
+    ];
+    for (more_key, more_value, status, before, behind) in &table {
+        let mut script = String::new(alloc);
+        for piece in [
+            "txn 1|put ",
+            LONG_KEY,
+            more_key,
+            " ",
+            LONG_VALUE,
+            more_value,
+            "|commit|",
+        ] {
+            script.push_str(piece)?;
+        }
+        let mut text = String::new(alloc);
+        text.push_str(before)?;
+        if *status == 0 {
+            text.push_str(LONG_KEY)?;
+        }
+        text.push_str(behind)?;
+        let printed = run_well(
+            &rt,
+            alloc,
+            script.as_str(),
+            small(alloc, FaultPlan::none(alloc))?,
+        )?;
+        assert_eq!(rt; printed.finish.status, *status);
+        assert_eq!(rt; printed.text.as_slice(), text.as_str().as_bytes());
+    }
+    Ok(())
+}
+
+#[test]
+fn the_first_epoch_is_a_partition(rt: HostRuntime) -> Result<(), Fail> {
+    let alloc = rt.alloc();
+    let vector: [u8; 79] = [
+        0xa7, 0x46, 0x4c, 0x50, 0x32, 0, 0, 0, 0, 0, 0x40, 0, 0, 0, 0, 0, 0, 0, 0, 0, 1, 0, 0, 0,
+        0, 0, 0, 0, 1, 0, 0, 0, 1, 0, 0, 0, 1, 0, 0, 0, 0x18, 4, 0, 0x61, 0, 0, 0, 1, 0, 0, 0, 0,
+        0, 0, 0, 1, 0, 0, 0, 5, 1, 0x61, 0, 1, 0x31, 0, 0x61, 0, 0, 0, 1, 0, 0, 0, 0, 0, 0, 0, 1,
+    ];
+    let mut words = Vec::new(alloc);
+    words.push(String::from_str(alloc, "-")?)?;
+    words.push(String::from_str(alloc, "4x4096")?)?;
+    assert_eq!(rt; geometry_of(&words), Some((4, 4_194_304)));
+    let disk = MemDisk::new(alloc, 4, 4_194_304, FaultPlan::none(alloc))?;
+    let printed = run_well(&rt, alloc, "txn 1|put a 1|get a|commit|", disk)?;
+    let mut disk = printed.finish.disk;
+    assert_eq!(rt; disk.regions(), 4);
+    assert_eq!(rt; disk.region_len(), 4_194_304);
+    let mut bytes = [0u8; 79];
+    disk.read(0, 0, &mut bytes)?;
+    assert_eq!(rt; bytes, vector);
+    Ok(())
+}
+
+// The first bytes of a region: a partition with no rows, or with the mark 0 a region that is free.
+type Crafted = (u8, u64, u64);
+
+const FREE: Crafted = (0, 0, 0);
+
+// Writes a partition with no rows, or leaves the region free.
+fn craft(disk: &mut MemDisk, region: u32, part: Crafted) -> Result<(), Fail>
+    requires geometry { IsGeometry (disk.old.disk.regions, disk.old.disk.region_len) }
+    requires region { region < disk.old.disk.regions }
+    requires no_eyes { disk.old.disk.eyes ≡ [] }
+    ensures { IsGeometry (disk.new.disk.regions, disk.new.disk.region_len) × (disk.new.disk.eyes ≡ []) × (disk.new.disk.regions ≡ disk.old.disk.regions) }
+{
+    let (mark, first, last) = part;
+    let gate = if mark == 0 { 0 } else { 0xa7 };
+    disk.write(region, 0, &[gate, 0x46, 0x4c, 0x50, mark])?;
+    disk.write(region, 5, &LENGTH.to_be_bytes())?;
+    disk.write(region, 13, &first.to_be_bytes())?;
+    disk.write(region, 21, &last.to_be_bytes())?;
+    Ok(())
+}
+
+#[test]
+fn a_log_reopens_to_its_chain(rt: HostRuntime) -> Result<(), Fail> {
+    let alloc = rt.alloc();
+    let two = b'2';
+    let greatest = 4_611_686_018_427_387_904;
+    let table: [([Crafted; 3], &str, u8, &str); 6] = [
+        ([(two, 1, 2), (two, 1, 3), (two, 1, 6)], "", 0, "durable 6|"),
+        ([(two, 4, 5), FREE, (two, 1, 3)], "", 0, "durable 5|"),
+        (
+            [(two, 1, 3), (two, 2, 5), FREE],
+            "",
+            7,
+            "damaged region 1 over 0|",
+        ),
+        (
+            [(two, 1, 3), (two, 5, 5), FREE],
+            "",
+            7,
+            "damaged region 1 after 3|",
+        ),
+        ([(b'X', 1, 1), FREE, FREE], "", 7, "damaged region 0 at 1|"),
+        (
+            [(two, 1, greatest), FREE, FREE],
+            "txn 1|get x|commit|",
+            8,
+            "txn 1 refused number|durable 4611686018427387904|",
+        ),
+    ];
+    for (parts, script, status, text) in &table {
+        let mut disk = small(alloc, FaultPlan::none(alloc))?;
+        craft(&mut disk, 0, parts[0])?;
+        craft(&mut disk, 1, parts[1])?;
+        craft(&mut disk, 2, parts[2])?;
+        disk.sync()?;
+        let printed = run_well(&rt, alloc, script, crash(disk, &[])?)?;
+        assert_eq!(rt; printed.finish.status, *status);
+        assert_eq!(rt; printed.text.as_slice(), text.as_bytes());
+    }
+    Ok(())
+}
+
+// Runs a script that prints this, with this status, and gives the disk after a crash.
+fn go_on<R: Threads + Wait + Sync + Abort>(
+    rt: &R,
+    alloc: Global,
+    script: &str,
+    status: u8,
+    text: &str,
+    disk: MemDisk,
+) -> Result<MemDisk, Fail>
+    requires geometry { IsGeometry (disk.disk.regions, disk.disk.region_len) }
+    requires synced { disk.disk.unsynced ≡ [] }
+    requires no_eyes { disk.disk.eyes ≡ [] }
+    ensures { IfOk result (λ disk. IsGeometry (disk.disk.regions, disk.disk.region_len) × (disk.disk.unsynced ≡ []) × (disk.disk.eyes ≡ [])) }
+{
+    let printed = run_well(rt, alloc, script, disk)?;
+    assert_eq!(rt; printed.finish.status, status);
+    assert_eq!(rt; printed.text.as_slice(), text.as_bytes());
+    crash(printed.finish.disk, &[])
+}
+
+// The disk with another byte as a region's gate.
+fn with_gate(disk: MemDisk, region: u32, gate: u8) -> Result<MemDisk, Fail>
+    requires geometry { IsGeometry (disk.disk.regions, disk.disk.region_len) }
+    requires region { region < 4 }
+    requires no_eyes { disk.disk.eyes ≡ [] }
+    ensures { IfOk result (λ disk. IsGeometry (disk.disk.regions, disk.disk.region_len) × (disk.disk.unsynced ≡ []) × (disk.disk.eyes ≡ [])) }
+{
+    let mut disk = disk;
+    disk.write(region, 0, &[gate])?;
+    disk.sync()?;
+    crash(disk, &[])
+}
+
+#[test]
+fn a_run_goes_on_where_the_last_one_ended(rt: HostRuntime) -> Result<(), Fail> {
+    let alloc = rt.alloc();
+    let disk = small(alloc, FaultPlan::none(alloc))?;
+    let first = "txn 1 commit 1 epoch 1|put a|durable 1|";
+    let disk = go_on(&rt, alloc, "txn 1|put a 1|commit|", 0, first, disk)?;
+    let second = "txn 1 commit 1 epoch 2|put a|durable 2|";
+    let disk = go_on(&rt, alloc, "txn 1|put a 2|commit|", 0, second, disk)?;
+    let third = "txn 1 commit 1 epoch 3|get a = 2|durable 3|";
+    let disk = go_on(&rt, alloc, "txn 1|get a|commit|", 0, third, disk)?;
+    let disk = go_on(&rt, alloc, "", 0, "durable 3|", disk)?;
+    // Three of the four regions are sealed.
+    let full = "txn 1 refused full|durable 3|";
+    let disk = go_on(&rt, alloc, "txn 1|put b 1|commit|", 8, full, disk)?;
+    // A region whose gate is closed is free again, and its epoch is gone.
+    let disk = with_gate(disk, 2, 0)?;
+    let disk = with_gate(disk, 1, 0x37)?;
+    let again = "txn 1 commit 1 epoch 2|get a = 1|durable 2|";
+    let _disk = go_on(&rt, alloc, "txn 1|get a|commit|", 0, again, disk)?;
+    Ok(())
+}
+
+#[test]
+fn each_call_that_fails_has_its_status(rt: HostRuntime) -> Result<(), Fail> {
+    let alloc = rt.alloc();
+    let script = "txn 1|put a 1|get a|commit|";
+    let done = "txn 1 commit 1 epoch 1|put a|get a = 1|durable 1|";
+    let lost = "txn 1 commit 1 epoch 1|put a|get a = 1|durable 0|disk|";
+    // The number of the call that fails, of the source, of the sink and of the disk.
+    let table: [(u64, u64, u64, u8, &str); 13] = [
+        (1, 0, u64::MAX, 4, "source|"),
+        (2, 0, u64::MAX, 4, "source|"),
+        (3, 0, u64::MAX, 0, done),
+        (0, 1, u64::MAX, 5, ""),
+        (0, 2, u64::MAX, 0, done),
+        (0, 0, 1, 6, "disk|"),
+        (0, 0, 4, 6, "disk|"),
+        (0, 0, 5, 6, lost),
+        (0, 0, 6, 6, lost),
+        (0, 0, 7, 6, lost),
+        (0, 0, 8, 6, lost),
+        (0, 0, 9, 0, done),
+        (0, 1, 5, 5, ""),
+    ];
+    for (take, put, stop, status, text) in &table {
+        let mut fails = (Vec::new(alloc), Vec::new(alloc));
+        fails.0.push(*take)?;
+        fails.1.push(*put)?;
+        let mut plan = FaultPlan::none(alloc);
+        plan.stop = *stop;
+        let printed = run(&rt, alloc, &["run"], script, fails, small(alloc, plan)?)?;
+        assert_eq!(rt; printed.finish.status, *status);
+        assert_eq!(rt; printed.text.as_slice(), text.as_bytes());
+    }
+    // The gate's write alone fails: a crash may leave it, or not.
+    for (pick, text) in [(0xa7, "durable 1|"), (0, "durable 0|")] {
+        let mut plan = FaultPlan::none(alloc);
+        plan.writes.push(2)?;
+        let printed = run_well(&rt, alloc, script, small(alloc, plan)?)?;
+        assert_eq!(rt; printed.finish.status, 6);
+        assert_eq!(rt; printed.text.as_slice(), lost.as_bytes());
+        let printed = run_well(&rt, alloc, "", crash(printed.finish.disk, &[pick])?)?;
+        assert_eq!(rt; printed.text.as_slice(), text.as_bytes());
+    }
+    Ok(())
+}
+
+#[test]
+fn a_crash_at_any_call_leaves_a_prefix(rt: HostRuntime) -> Result<(), Fail> {
+    let alloc = rt.alloc();
+    let reads = "txn 1|get a|get b|get c|commit|";
+    let none = "txn 1 commit 1 epoch 1|get a none|get b none|get c none|durable 1|";
+    let all = "txn 1 commit 1 epoch 2|get a = 1|get b = 2|get c = 3|durable 2|";
+    let picks: [&[u8]; 5] = [
+        &[],
+        &[0xa7],
+        &[0xa7; 200],
+        &[0x37, 0xa7, 0x11],
+        &[0, 1, 2, 3, 4, 5, 6, 7, 8, 9],
+    ];
+    for stop in 0..12 {
+        for pick in &picks {
+            let mut plan = FaultPlan::none(alloc);
+            plan.stop = stop;
+            let first = run_well(&rt, alloc, THREE, small(alloc, plan)?)?;
+            let done = first.finish.status == 0;
+            assert_eq!(rt; done, stop > 8);
+            let opened = run_well(&rt, alloc, "", crash(first.finish.disk, pick)?)?;
+            let sealed = opened.text.as_slice() == b"durable 1|".as_slice();
+            assert!(rt; sealed || (!done && opened.text.as_slice() == b"durable 0|".as_slice()));
+            let again = run_well(&rt, alloc, "", crash(opened.finish.disk, pick)?)?;
+            assert_eq!(rt; again.text.as_slice(), opened.text.as_slice());
+            let read = run_well(&rt, alloc, reads, crash(again.finish.disk, pick)?)?;
+            let text = if sealed { all } else { none };
+            assert_eq!(rt; read.text.as_slice(), text.as_bytes());
+        }
+    }
+    Ok(())
+}

@@ -1,0 +1,28 @@
+use Rattle.std.proofs.Common.{◌∙◌, sym, subst, rules, refl}
+use Rattle.partition_index.specs.Parts.{IsSeen}
+use Rattle.partition_index.proofs.Looking.{seen_same, same_then}
+use Rattle.partition_merge_tests.proofs.tests.node_by_node.Goals as goal
+
+pub loop-all-init : goal.loop-all-init
+loop-all-init g c = record { same = record { number = refl; regions = refl; region_len = refl; told = refl }; older = refl; newer = refl; region_len = refl; kept = c.requires.kept }
+
+pub next_node-requires-clause-older : goal.next_node-requires-clause-older
+next_node-requires-clause-older g c =
+    let i = c.loop-all.invariant in
+    subst (IsSeen (g.E.LogEye.state c.loop-all.eye)) (sym i.older) (seen_same (g.E.LogEye.state c.args.eye.now) (g.E.LogEye.state c.loop-all.eye) _ i.same c.requires.older)
+
+pub next_node-requires-clause-newer : goal.next_node-requires-clause-newer
+next_node-requires-clause-newer g c =
+    let i = c.loop-all.invariant in
+    subst (IsSeen (g.E.LogEye.state c.loop-all.eye)) (sym i.newer) (seen_same (g.E.LogEye.state c.args.eye.now) (g.E.LogEye.state c.loop-all.eye) _ i.same c.requires.newer)
+
+pub loop-all-preserved : goal.loop-all-preserved
+loop-all-preserved g c =
+    let i = c.loop-all.invariant in
+    record {
+      same = same_then (g.E.LogEye.state c.args.eye.now) (g.E.LogEye.state c.loop-all.eye) (g.E.LogEye.state c.next_node.new.eye) i.same c.next_node.ensures.eye.same;
+      older = c.next_node.ensures.older ∙ i.older;
+      newer = c.next_node.ensures.newer ∙ i.newer;
+      region_len = c.next_node.ensures.region_len ∙ i.region_len;
+      kept = search rules;
+    }

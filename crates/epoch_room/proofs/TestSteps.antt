@@ -96,10 +96,11 @@ nothing_asked room job None untold = tt
 nothing_asked room job (Some header) untold = λ older newer a b. absurd (true≢false (sym (ap is_some a.is_told) ∙ untold))
 
 -- sealing a merged part leaves the board
-pub sealed_board : (old new : RoomValue) (job : Job) (header : Option Header) → is_some header ≡ true → IfSome header (λ h. SealsJobOr old new job h (Ok tt)) → new.room.board ≡ old.room.board
+pub sealed_board : (old new : RoomValue) (job : Job) (header : Option Header) (result : Result (Unit {0}) (RoomFault × Job)) (u : Unit {0}) → result ≡ Ok u → is_some header ≡ true
+    → IfSome header (λ h. SealsJobOr old new job h result) → new.room.board ≡ old.room.board
 unfolding merged_state
-sealed_board old new job None some is = absurd (true≢false (sym some))
-sealed_board old new job (Some header) some is = ap (λ (r : RoomState). r.board) is.1.1.room
+sealed_board old new job None result u e some is = absurd (true≢false (sym some))
+sealed_board old new job (Some header) result u e some is = ap (λ (r : RoomState). r.board) (subst (SealsJobOr old new job header) e is).1.1.room
 
 -- ---- erasing, and views
 

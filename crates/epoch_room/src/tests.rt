@@ -222,8 +222,6 @@ fn take_and_drop<D: LogDisk>(
 
 #[test]
 fn a_job_takes_regions_and_gives_them_back(rt: HostRuntime) -> Result<(), Fail> {
-    let mut room = new_room(rt.alloc(), 4096, MOST)?;
-    seal_two(&mut room, rt.alloc())?;
     for (area, ordered, taken, free) in [
         (4041, true, true, 1),
         (4042, true, true, 0),
@@ -231,6 +229,8 @@ fn a_job_takes_regions_and_gives_them_back(rt: HostRuntime) -> Result<(), Fail> 
         (8108, true, false, 2),
         (24, false, false, 2),
     ] {
+        let mut room = new_room(rt.alloc(), 4096, MOST)?;
+        seal_two(&mut room, rt.alloc())?;
         assert_eq!(rt; take_and_drop(&mut room, area, ordered)?, (taken, free, 2));
     }
     Ok(())

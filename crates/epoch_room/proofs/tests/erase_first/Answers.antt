@@ -2,4 +2,4 @@ use Rattle.epoch_room.proofs.TestSteps.{erased_board}
 use Rattle.epoch_room.proofs.tests.erase_first.Goals as goal
 
 pub returns : goal.returns
-returns g c = erased_board c.in-Some.lead _ _ c.erase.result c.erase.ensures.room
+returns g c = erased_board _ _ _ c.erase.result c.erase.ensures.room

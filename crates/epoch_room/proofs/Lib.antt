@@ -43,6 +43,7 @@ pub mod Spare
 pub mod Standing
 pub mod Stuck
 pub mod Taken
+pub mod TestSteps
 pub mod Torn
 pub mod Touching
 pub mod UnsealedJobs

@@ -1,5 +1,5 @@
 -- A new disk has no parts.
-use Rattle.std.proofs.Common.{◌≡◌, ℕ, zero, suc, ◌+◌, false, [], length, Some, Ok, Err, Result, refl, ap}
+use Rattle.std.proofs.Common.{◌≡◌, ℕ, zero, suc, ◌+◌, false, [], length, None, Some, Ok, Err, Result, refl, ap}
 use Rattle.std.specs.Prelude.{replicate}
 use Rattle.fine_model.specs.Regions.{region_of, is_sealed}
 use Rattle.fine_model.specs.Pushed.{and_then}
@@ -41,6 +41,11 @@ new_parts regions len = record {
   rising = tt;
   told = record { is_chain = no_chain regions len; leads = λ r h. zero_region regions len r; headers = tt };
 }
+
+-- nor has one that tells no bytes
+pub untold_parts : (regions len : ℕ) → AreParts (new_disk regions len None) [] []
+unfolding is_distinct
+untold_parts regions len = record { in_chain = record { follow = tt }; apart = record { distinct = refl; below = tt }; lie = tt; rising = tt; told = tt }
 
 -- sealing leaves the board
 pub still_boards : (old new : RoomValue) (result : Result ℕ RoomFault) → SealsOr old new result → new.room.board ≡ old.room.board

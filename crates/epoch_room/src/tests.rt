@@ -1,28 +1,33 @@
-//! What no clause says: worked numbers and bytes, and each call with ample memory.
+//! What no clause says: worked numbers and bytes, each call with ample memory, and a merge on a real file.
 
-ghost use Rattle.std.specs.Prelude.{◌≡◌, ◌%◌, ◌≤◌, [], ◌∷◌, true, None, IfOk, OnOk};
-ghost use Rattle.std.specs.List.{AllByRecursion, list_all};
-ghost use Rattle.fine_model.specs.Boards.{is_empty};
+ghost use Rattle.std.specs.Prelude.{◌≡◌, ◌+◌, ◌*◌, ◌%◌, ◌<◌, ◌≤◌, false, [], ◌∷◌, None, Some, IfOk, IfSome, IsSome, OnOk, is_some};
+ghost use Rattle.std.specs.List.{AllByRecursion};
+ghost use Rattle.fine_model.specs.Regions.{body_len};
 ghost use Rattle.fine_model.specs.RowBytes.{FitsRow};
 ghost use Rattle.fine_model.specs.declared.Mark.TheVariants as mark;
+ghost use Rattle.partition_hold.specs.Views.{SameView, opened};
 ghost use Rattle.partition_merge.specs.Mergers.{IsCounted};
 
-use super::{Counts, Fit, Room, RoomFault, Stamp};
-use fine_model::{Bytes, Items, NodeId, Rec, Row};
-use log_disk::{FaultPlan, LogDisk, MemDisk};
+use super::{Counts, EraseFault, Fit, Room, RoomFault, Stamp};
+use fine_model::{Bytes, Items, Job, Node, NodeId, Rec, Row};
+use log_disk::{FaultPlan, FileDisk, LogDisk, LogEye, MemDisk};
+use partition_hold::View;
 use partition_merge::Measure;
 use private_log::PrivateLog;
 use std::alloc::Global;
+use std::fs;
 use std::test::Fail;
 
 const MOST: u64 = u64::MAX;
+
+// ---- rooms in memory, and epochs
 
 // A room on a new disk of four regions, each of whose calls fails from a number on.
 fn new_room(alloc: Global, region_len: u64, stop: u64) -> Result<Room<MemDisk>, Fail>
     requires low { 4096 ≤ region_len }
     requires high { region_len ≤ 67108864 }
     requires whole { region_len % 1024 ≡ 0 }
-    ensures { IfOk result (λ room. (list_all is_empty room.room.board ≡ true) × (room.room.job ≡ None)) }
+    ensures { IfOk result (λ room. (room.room.board ≡ None ∷ None ∷ None ∷ []) × (room.room.job ≡ None)) }
 {
     let mut plan = FaultPlan::none(alloc);
     plan.stop = stop;
@@ -39,19 +44,18 @@ fn text(alloc: Global, text: &[u8]) -> Result<Bytes, Fail>
     Ok(Items::from_vec(Vec::from_slice(alloc, text).ok().ok_or("memory")?))
 }
 
-// `put a 1`, alone.
+// `put a 1` in a node, alone.
 #[tactic(auto, unfolding(fine_model::specs::RowBytes::body))]
-fn put(alloc: Global) -> Result<PrivateLog, Fail>
+fn put(alloc: Global, number: u32) -> Result<PrivateLog, Fail>
+    requires low { 1 ≤ number }
+    requires high { number < 8 }
     ensures { IfOk result (AllByRecursion (FitsRow mark.Two)) }
 {
     let key = text(alloc, b"a")?;
     let value = text(alloc, b"1")?;
     let mut log = PrivateLog::new(alloc);
     let row = Row {
-        node: NodeId {
-            bucket: 97,
-            number: 1,
-        },
+        node: NodeId { bucket: 97, number },
         version: 1,
         rec: Rec::Put { key, value },
     };
@@ -60,9 +64,10 @@ fn put(alloc: Global) -> Result<PrivateLog, Fail>
 }
 
 #[tactic(auto, unfolding(crate::specs::Steps::appended))]
-fn commit(room: &mut Room<MemDisk>, log: &PrivateLog) -> Result<Stamp, Fail>
+fn commit<D: LogDisk>(room: &mut Room<D>, log: &PrivateLog) -> Result<Stamp, Fail>
     requires { AllByRecursion (FitsRow mark.Two) log.now }
-    ensures { OnOk result ((1 ≤ room.new.room.waiting) × (room.new.room.board ≡ room.old.room.board) × (room.new.room.job ≡ room.old.room.job)) }
+    ensures waits { OnOk result (1 ≤ room.new.room.waiting) }
+    ensures same { (room.new.room.board ≡ room.old.room.board) × (room.new.room.job ≡ room.old.room.job) × (is_some room.new.room.image ≡ is_some room.old.room.image) }
 {
     match room.fit(log.cost()) {
         Fit::Fits => Ok(room.append(log)),
@@ -70,46 +75,55 @@ fn commit(room: &mut Room<MemDisk>, log: &PrivateLog) -> Result<Stamp, Fail>
     }
 }
 
-// Seals, and where that fails, again.
-fn seal_twice(room: &mut Room<MemDisk>) -> (Result<u64, RoomFault>, Option<Result<u64, RoomFault>>)
-    requires { 1 ≤ room.old.room.waiting }
+// An epoch more of one entry, in a node.
+fn seal_one<D: LogDisk>(room: &mut Room<D>, alloc: Global, number: u32) -> Result<(), Fail>
+    requires low { 1 ≤ number }
+    requires high { number < 8 }
+    ensures { OnOk result ((room.new.room.board ≡ room.old.room.board) × (room.new.room.job ≡ room.old.room.job) × (is_some room.new.room.image ≡ is_some room.old.room.image)) }
 {
-    let first = room.seal();
-    match first {
-        Ok(_epoch) => (first, None),
-        Err(_fault) => {
-            let second = room.seal();
-            (first, Some(second))
-        }
+    commit(room, &put(alloc, number)?)?;
+    match room.seal() {
+        Ok(_epoch) => Ok(()),
+        Err(_fault) => Err("seal")?,
     }
 }
 
+// Two epochs more, which take four calls of the disk each.
+fn seal_two<D: LogDisk>(room: &mut Room<D>, alloc: Global) -> Result<(), Fail>
+    ensures { OnOk result ((room.new.room.board ≡ room.old.room.board) × (room.new.room.job ≡ room.old.room.job) × (is_some room.new.room.image ≡ is_some room.old.room.image)) }
+{
+    seal_one(room, alloc, 1)?;
+    seal_one(room, alloc, 2)
+}
+
+// ---- a new room, and its first epoch
+
 #[test]
 fn a_new_room_has_its_regions(rt: HostRuntime) -> Result<(), Fail> {
-    let room = new_room(rt.alloc(), 4096, MOST)?;
-    assert_eq!(rt; room.fit(4055), Fit::Fits);
-    assert_eq!(rt;
-        room.fit(4056),
-        Fit::TooLarge {
-            need: 4097,
-            room: 4096
-        }
-    );
-    assert_eq!(rt;
-        room.counts(),
-        Counts {
-            free: 4,
-            live: 0,
-            retired: 0,
-            sealed: 0,
-            place: 0,
-            waiting: 0
-        }
-    );
-    assert_eq!(rt; room.pressed(), false);
-    assert_eq!(rt; room.region_len(), 4096);
-    assert_eq!(rt; room.retired(0), None);
+    let larger = Fit::TooLarge {
+        need: 4097,
+        room: 4096,
+    };
+    for (cost, fit) in [(4055, Fit::Fits), (4056, larger)] {
+        assert_eq!(rt; new_room(rt.alloc(), 4096, MOST)?.fit(cost), fit);
+    }
     Ok(())
+}
+
+// How a new room's first epoch of one entry is sealed: its stamp, the room in numbers, and the disk's bytes.
+fn first_epoch(alloc: Global) -> Result<(Stamp, Counts, [u8; 79]), Fail> {
+    let mut room = new_room(alloc, 4_194_304, MOST)?;
+    let stamp = commit(&mut room, &put(alloc, 1)?)?;
+    if room.seal().is_err() {
+        return Err("seal")?;
+    }
+    let counts = room.counts();
+    let mut disk = room.into_disk();
+    let mut bytes = [0u8; 79];
+    if disk.regions() > 0 && disk.region_len() >= 79 {
+        let _read = disk.read(0, 0, &mut bytes);
+    }
+    Ok((stamp, counts, bytes))
 }
 
 #[test]
@@ -119,86 +133,80 @@ fn an_epoch_is_a_partition(rt: HostRuntime) -> Result<(), Fail> {
         0, 0, 0, 0, 1, 0, 0, 0, 1, 0, 0, 0, 1, 0, 0, 0, 0x18, 4, 0, 0x61, 0, 0, 0, 1, 0, 0, 0, 0,
         0, 0, 0, 1, 0, 0, 0, 5, 1, 0x61, 0, 1, 0x31, 0, 0x61, 0, 0, 0, 1, 0, 0, 0, 0, 0, 0, 0, 1,
     ];
-    let alloc = rt.alloc();
-    let mut room = new_room(alloc, 4_194_304, MOST)?;
-    assert_eq!(rt;
-        commit(&mut room, &put(alloc)?)?,
-        Stamp { place: 1, epoch: 1 }
-    );
-    assert_eq!(rt; room.seal(), Ok(1));
-    assert_eq!(rt; room.parts().len(), 1);
-    assert_eq!(rt;
-        room.counts(),
-        Counts {
-            free: 3,
-            live: 1,
-            retired: 0,
-            sealed: 1,
-            place: 1,
-            waiting: 0
-        }
-    );
-    let mut disk = room.into_disk();
-    let mut bytes = [0u8; 79];
-    let read = disk.regions() > 0 && disk.region_len() >= 79 && disk.read(0, 0, &mut bytes).is_ok();
-    assert!(rt; read);
+    let counts = Counts {
+        free: 3,
+        live: 1,
+        retired: 0,
+        sealed: 1,
+        place: 1,
+        waiting: 0,
+    };
+    let (stamp, counted, bytes) = first_epoch(rt.alloc())?;
+    assert_eq!(rt; stamp, Stamp { place: 1, epoch: 1 });
+    assert_eq!(rt; counted, counts);
     assert_eq!(rt; bytes, vector);
     Ok(())
 }
 
-#[test]
-fn each_call_that_fails_shuts_the_room(rt: HostRuntime) -> Result<(), Fail> {
-    let alloc = rt.alloc();
-    for stop in 1..6 {
-        let mut room = new_room(alloc, 4096, stop)?;
-        commit(&mut room, &put(alloc)?)?;
-        let (first, second) = seal_twice(&mut room);
-        if stop == 5 {
-            assert_eq!(rt; first, Ok(1));
-        } else {
-            assert_eq!(rt; first, Err(RoomFault::Disk));
-            assert_eq!(rt; second, Some(Err(RoomFault::Shut { epoch: 0 })));
-            assert_eq!(rt; room.fit(0), Fit::Shut { epoch: 0 });
+// Seals, and where that fails, again: what that answers, and whether a row would fit then.
+fn seal_twice(room: &mut Room<MemDisk>) -> (Result<u64, RoomFault>, Result<u64, RoomFault>, Fit)
+    requires { 1 ≤ room.old.room.waiting }
+{
+    let first = room.seal();
+    match first {
+        Ok(_epoch) => (first, first, room.fit(0)),
+        Err(_fault) => {
+            let second = room.seal();
+            (first, second, room.fit(0))
         }
     }
+}
+
+// Seals an epoch of one entry twice, on a disk whose calls fail from a number on.
+fn sealed_twice(
+    alloc: Global,
+    stop: u64,
+) -> Result<(Result<u64, RoomFault>, Result<u64, RoomFault>, Fit), Fail> {
+    let mut room = new_room(alloc, 4096, stop)?;
+    commit(&mut room, &put(alloc, 1)?)?;
+    Ok(seal_twice(&mut room))
+}
+
+#[test]
+fn each_call_that_fails_shuts_the_room(rt: HostRuntime) -> Result<(), Fail> {
+    let failed = (
+        Err(RoomFault::Disk),
+        Err(RoomFault::Shut { epoch: 0 }),
+        Fit::Shut { epoch: 0 },
+    );
+    for stop in 1..5 {
+        assert_eq!(rt; sealed_twice(rt.alloc(), stop)?, failed);
+    }
+    assert_eq!(rt; sealed_twice(rt.alloc(), 5)?, (Ok(1), Ok(1), Fit::Fits));
     Ok(())
 }
 
-// An epoch more of one entry.
-fn seal_one(room: &mut Room<MemDisk>, alloc: Global) -> Result<(), Fail>
-    ensures { OnOk result (room.new.room.job ≡ room.old.room.job) }
-{
-    commit(room, &put(alloc)?)?;
-    match room.seal() {
-        Ok(_epoch) => Ok(()),
-        Err(_fault) => Err("seal")?,
-    }
-}
+// ---- the steps of a merge
 
-// A room of four regions with two sealed epochs.
-fn two_epochs(alloc: Global) -> Result<Room<MemDisk>, Fail>
-    ensures { IfOk result (λ room. room.room.job ≡ None) }
-{
-    let mut room = new_room(alloc, 4096, MOST)?;
-    seal_one(&mut room, alloc)?;
-    seal_one(&mut room, alloc)?;
-    Ok(room)
-}
-
-fn measure(area: u32) -> Measure
+fn measure(area: u32, ordered: bool) -> Measure
     requires { 1 ≤ area }
-    ensures { IsCounted result }
+    ensures counted { IsCounted result }
+    ensures len { result.area + 14 * result.nodes ≡ area + 14 }
 {
     Measure {
         rows: 1,
         nodes: 1,
         area,
-        ordered: true,
+        ordered,
     }
 }
 
 // Whether a job takes its regions, how many are free then, and how many once it is given up.
-fn take_and_drop(room: &mut Room<MemDisk>, area: u32) -> Result<(bool, u32, u32), Fail>
+fn take_and_drop<D: LogDisk>(
+    room: &mut Room<D>,
+    area: u32,
+    ordered: bool,
+) -> Result<(bool, u32, u32), Fail>
     requires job { room.old.room.job ≡ None }
     requires area { 1 ≤ area }
     ensures { OnOk result (room.new.room.job ≡ None) }
@@ -206,7 +214,7 @@ fn take_and_drop(room: &mut Room<MemDisk>, area: u32) -> Result<(bool, u32, u32)
     let Some(mut job) = room.merge_pick(1) else {
         return Err("neighbours")?;
     };
-    let taken = room.merge_take(&mut job, measure(area));
+    let taken = room.merge_take(&mut job, measure(area, ordered));
     let free = room.counts().free;
     room.merge_drop(job);
     Ok((taken, free, room.counts().free))
@@ -214,11 +222,245 @@ fn take_and_drop(room: &mut Room<MemDisk>, area: u32) -> Result<(bool, u32, u32)
 
 #[test]
 fn a_job_takes_regions_and_gives_them_back(rt: HostRuntime) -> Result<(), Fail> {
-    let mut room = two_epochs(rt.alloc())?;
-    assert_eq!(rt; take_and_drop(&mut room, 4041)?, (true, 1, 2));
-    assert_eq!(rt; take_and_drop(&mut room, 4042)?, (true, 0, 2));
-    assert_eq!(rt; take_and_drop(&mut room, 8107)?, (true, 0, 2));
-    assert_eq!(rt; take_and_drop(&mut room, 8108)?, (false, 2, 2));
-    assert_eq!(rt; room.merge_pick(2), None);
+    for (area, ordered, taken, free) in [
+        (4041, true, true, 1),
+        (4042, true, true, 0),
+        (8107, true, true, 0),
+        (8108, true, false, 2),
+        (24, false, false, 2),
+    ] {
+        let mut room = new_room(rt.alloc(), 4096, MOST)?;
+        seal_two(&mut room, rt.alloc())?;
+        assert_eq!(rt; take_and_drop(&mut room, area, ordered)?, (taken, free, 2));
+    }
+    Ok(())
+}
+
+// A job that has taken its regions, for the body of a part of one row.
+fn taken_job<D: LogDisk>(room: &mut Room<D>) -> Result<Job, Fail>
+    requires job { room.old.room.job ≡ None }
+    ensures out { IfOk result (λ job. room.new.room.job ≡ Some job) }
+    ensures taken { IfOk result (λ job. IsSome job.header) }
+    ensures len { IfOk result (λ job. IfSome job.header (λ header. job.written + 38 ≡ body_len header)) }
+    ensures same { (room.new.room.board ≡ room.old.room.board) × (is_some room.new.room.image ≡ is_some room.old.room.image) }
+{
+    let Some(mut job) = room.merge_pick(1) else {
+        return Err("neighbours")?;
+    };
+    if !room.merge_take(&mut job, measure(24, true)) {
+        return Err("regions")?;
+    }
+    Ok(job)
+}
+
+// Writes four bytes for a job.
+fn write_four<D: LogDisk>(room: &mut Room<D>, job: &mut Job) -> Result<(), RoomFault>
+    requires out { room.old.room.job ≡ Some job.old }
+    requires taken { IsSome job.old.header }
+    requires len { IfSome job.old.header (λ header. job.old.written + 4 ≤ body_len header) }
+    ensures out { room.new.room.job ≡ Some job.new }
+    ensures taken { IsSome job.new.header }
+    ensures len { IfSome job.old.header (λ header. job.old.written + 8 ≤ body_len header) → IfSome job.new.header (λ header. job.new.written + 4 ≤ body_len header) }
+{
+    let _whole = room.counts();
+    room.merge_write(job, b"abcd")
+}
+
+// Writes four bytes for a job, twice: what the calls answer, how many bytes the job counts, and how many regions are free once it is
+// given up.
+fn write_twice<D: LogDisk>(
+    room: &mut Room<D>,
+) -> Result<(Result<(), RoomFault>, Result<(), RoomFault>, u32, u32), Fail>
+    requires job { room.old.room.job ≡ None }
+{
+    let mut job = taken_job(room)?;
+    let first = write_four(room, &mut job);
+    let second = write_four(room, &mut job);
+    let written = job.written;
+    room.merge_drop(job);
+    Ok((first, second, written, room.counts().free))
+}
+
+#[test]
+fn a_job_counts_what_was_written(rt: HostRuntime) -> Result<(), Fail> {
+    let (failed, shut) = (Err(RoomFault::Disk), Err(RoomFault::Shut { epoch: 2 }));
+    for (stop, first, second, written, free) in [
+        (9, failed, shut, 0, 1),
+        (10, Ok(()), failed, 4, 1),
+        (MOST, Ok(()), Ok(()), 8, 2),
+    ] {
+        let mut room = new_room(rt.alloc(), 4096, stop)?;
+        seal_two(&mut room, rt.alloc())?;
+        assert_eq!(rt; write_twice(&mut room)?, (first, second, written, free));
+    }
+    Ok(())
+}
+
+// ---- a view across a merge, on a file, which tells no bytes: so the merged part may have other rows than the two, and shows who reads it
+
+// The path of a file of this run, which is not there yet.
+fn fresh_path(rt: &HostRuntime) -> Result<String, Fail> {
+    let temp = std::env::temp_dir(rt)?;
+    let process = std::process::id(rt.process());
+    let path = format!(in rt.alloc(); "{}/epoch_room_{process}", temp.as_str())?;
+    Ok(path)
+}
+
+// A room on a new file of four regions.
+fn file_room(rt: &HostRuntime, path: &str) -> Result<Room<FileDisk<HostRuntime>>, Fail>
+    ensures { IfOk result (λ room. (room.room.board ≡ None ∷ None ∷ None ∷ []) × (room.room.job ≡ None) × (is_some room.room.image ≡ false)) }
+{
+    let alloc = rt.alloc();
+    let disk = FileDisk::make(rt, alloc, path, 4, 4096)?;
+    match Room::make(alloc, disk, Items::new(alloc), Items::new(alloc)) {
+        Ok(room) => Ok(room),
+        Err(_refused) => Err("memory")?,
+    }
+}
+
+// The body of a part of one row, `put a 9` in node 1.
+fn nine() -> [u8; 38] {
+    [
+        4, 0, 0x61, 0, 0, 0, 1, 0, 0, 0, 0, 0, 0, 0, 1, 0, 0, 0, 5, 1, 0x61, 0, 1, 0x39, 0, 0x61,
+        0, 0, 0, 1, 0, 0, 0, 0, 0, 0, 0, 1,
+    ]
+}
+
+// A job whose part is written to its end.
+fn written_job<D: LogDisk>(room: &mut Room<D>) -> Result<Job, Fail>
+    requires job { room.old.room.job ≡ None }
+    ensures out { IfOk result (λ job. room.new.room.job ≡ Some job) }
+    ensures taken { IfOk result (λ job. IsSome job.header) }
+    ensures total { IfOk result (λ job. IfSome job.header (λ header. job.written ≡ body_len header)) }
+    ensures same { OnOk result ((room.new.room.board ≡ room.old.room.board) × (is_some room.new.room.image ≡ is_some room.old.room.image)) }
+{
+    let mut job = taken_job(room)?;
+    let _whole = room.counts();
+    match room.merge_write(&mut job, &nine()) {
+        Ok(()) => Ok(job),
+        Err(_fault) => Err("write")?,
+    }
+}
+
+// Seals the part of a job.
+fn finish<D: LogDisk>(room: &mut Room<D>, job: Job) -> Result<(), Fail>
+    requires out { room.old.room.job ≡ Some job }
+    requires taken { IsSome job.header }
+    requires total { IfSome job.header (λ header. job.written ≡ body_len header) }
+    requires untold { is_some room.old.room.image ≡ false }
+    ensures { OnOk result (room.new.room.board ≡ room.old.room.board) }
+{
+    match room.merge_seal(job) {
+        Ok(()) => Ok(()),
+        Err(_refused) => Err("merge")?,
+    }
+}
+
+// A view for the first seat, which has no other.
+fn view_one<D: LogDisk>(room: &mut Room<D>) -> Result<View<D::Eye>, Fail>
+    requires { room.old.room.board ≡ None ∷ None ∷ None ∷ [] }
+    ensures board { IfOk result (λ view. (view.seat ≡ 1) × (view.buffer ≡ 0) × (room.new.room.board ≡ Some (opened view.eye) ∷ None ∷ None ∷ [])) }
+    ensures same { (room.new.room.job ≡ room.old.room.job) × (is_some room.new.room.image ≡ is_some room.old.room.image) }
+{
+    match room.view_for(1) {
+        Ok(view) => Ok(view),
+        Err(_fault) => Err("view")?,
+    }
+}
+
+// A view of two parts, which are merged after it was made; an epoch is sealed while the merge is out.
+fn merged_under<D: LogDisk>(room: &mut Room<D>, alloc: Global) -> Result<View<D::Eye>, Fail>
+    requires board { room.old.room.board ≡ None ∷ None ∷ None ∷ [] }
+    requires job { room.old.room.job ≡ None }
+    requires untold { is_some room.old.room.image ≡ false }
+    ensures { IfOk result (λ view. (view.seat ≡ 1) × (view.buffer ≡ 0) × (room.new.room.board ≡ Some (opened view.eye) ∷ None ∷ None ∷ [])) }
+{
+    let view = view_one(room)?;
+    let job = written_job(room)?;
+    seal_one(room, alloc, 3)?;
+    finish(room, job)?;
+    Ok(view)
+}
+
+// The first byte of the text of a leaf's first key.
+fn first_byte(node: &Node) -> Option<u8> {
+    let Node::Leaf { pairs } = node else {
+        return None;
+    };
+    let (_key, value) = pairs.as_slice().first()?;
+    value.as_slice().first().copied()
+}
+
+// What a view reads of node 1.
+fn read_one<E: LogEye>(view: &mut View<E>) -> Option<u8>
+    ensures { SameView view.old view.new }
+{
+    let node = NodeId {
+        bucket: 97,
+        number: 1,
+    };
+    match view.fetch(node) {
+        Ok((found, _version)) => first_byte(&found),
+        Err(_fault) => None,
+    }
+}
+
+type Erased = Option<Result<(), EraseFault>>;
+
+// Erases the first retired part, if there is one.
+fn erase_first<D: LogDisk>(room: &mut Room<D>) -> Erased
+    ensures { room.new.room.board ≡ room.old.room.board }
+{
+    let lead = room.retired(0)?;
+    Some(room.erase(lead))
+}
+
+// What a view reads, and whether the first retired part is erased while it is out, and once it came back.
+fn held_until_back<D: LogDisk>(
+    room: &mut Room<D>,
+    mut view: View<D::Eye>,
+) -> (Option<u8>, Erased, Erased)
+    requires place { (view.seat ≡ 1) × (view.buffer ≡ 0) }
+    requires board { room.old.room.board ≡ Some (opened view.eye) ∷ None ∷ None ∷ [] }
+    ensures { room.new.room.board ≡ None ∷ None ∷ None ∷ [] }
+{
+    let held = erase_first(room);
+    let read = read_one(&mut view);
+    room.take_back(view);
+    (read, held, erase_first(room))
+}
+
+// The same of a view that was made before a merge, then what a new view reads, and the room in numbers.
+fn across_a_merge<D: LogDisk>(
+    room: &mut Room<D>,
+    alloc: Global,
+) -> Result<((Option<u8>, Erased, Erased), Option<u8>, Counts), Fail>
+    requires board { room.old.room.board ≡ None ∷ None ∷ None ∷ [] }
+    requires job { room.old.room.job ≡ None }
+    requires untold { is_some room.old.room.image ≡ false }
+{
+    seal_two(room, alloc)?;
+    let view = merged_under(room, alloc)?;
+    let old = held_until_back(room, view);
+    let counts = room.counts();
+    let mut view = view_one(room)?;
+    Ok((old, read_one(&mut view), counts))
+}
+
+#[test]
+fn a_view_from_before_a_merge_reads_and_holds_its_parts(rt: HostRuntime) -> Result<(), Fail> {
+    let path = fresh_path(&rt)?;
+    let counts = Counts {
+        free: 1,
+        live: 2,
+        retired: 1,
+        sealed: 3,
+        place: 3,
+        waiting: 0,
+    };
+    let held = Err(EraseFault::Held { seat: 1, buffer: 0 });
+    let shown = across_a_merge(&mut file_room(&rt, path.as_str())?, rt.alloc())?;
+    assert_eq!(rt; shown, ((Some(b'1'), Some(held), Some(Ok(()))), Some(b'9'), counts));
+    fs::remove_file(&rt, path.as_str())?;
     Ok(())
 }

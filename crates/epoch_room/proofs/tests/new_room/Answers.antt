@@ -1,7 +1,4 @@
 use Rattle.std.proofs.Common.{List, [], sym, ap, subst}
-use Rattle.std.specs.List.{list_all}
-use Rattle.fine_model.specs.Boards.{is_empty}
-use Rattle.epoch_room.specs.Value.{RoomValue}
 use Rattle.fine_model.specs.declared.Part.{Part}
 use Rattle.log_disk.specs.Disk.{Disk}
 use Rattle.log_disk.specs.Plan.{PlannedDisk}
@@ -13,6 +10,3 @@ pub make-requires-clause-parts : goal.make-requires-clause-parts
 make-requires-clause-parts c = λ _.
     subst (λ (ps : List Part). AreParts c.in_ok-disk.disk.disk ps c.new-3.result) (sym c.new-2.ensures)
     (subst (λ (ps : List Part). AreParts c.in_ok-disk.disk.disk [] ps) (sym c.new-3.ensures) (subst (λ (d : Disk). AreParts d [] []) (sym (ap (λ (made : PlannedDisk). made.disk) c.in_ok-disk.ensures)) (new_parts 4 c.args.region_len)))
-
-pub returns-in-Ok : goal.returns-in-Ok
-returns-in-Ok c = (ap (λ (v : RoomValue). list_all is_empty v.room.board) c.in-Ok.ensures.made, ap (λ (v : RoomValue). v.room.job) c.in-Ok.ensures.made)

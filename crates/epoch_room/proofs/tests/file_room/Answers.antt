@@ -1,0 +1,11 @@
+use Rattle.std.proofs.Common.{List, [], sym, ap, subst}
+use Rattle.fine_model.specs.declared.Part.{Part}
+use Rattle.log_disk.specs.Disk.{Disk}
+use Rattle.epoch_room.specs.Whole.{AreParts}
+use Rattle.epoch_room.proofs.NewLog.{untold_parts}
+use Rattle.epoch_room.proofs.tests.file_room.Goals as goal
+
+pub make-requires-2-clause-parts : goal.make-requires-clause-parts
+make-requires-2-clause-parts c = λ _.
+    subst (λ (ps : List Part). AreParts c.in_ok-disk.disk.disk ps c.new-2.result) (sym c.new.ensures)
+    (subst (λ (ps : List Part). AreParts c.in_ok-disk.disk.disk [] ps) (sym c.new-2.ensures) (subst (λ (d : Disk). AreParts d [] []) (sym c.in_ok-disk.ensures.made) (untold_parts 4 4096)))

@@ -28,7 +28,6 @@ pub mod LedParts
 pub mod Longer
 pub mod MergeFits
 pub mod MergedHeaders
-pub mod NewLog
 pub mod OneRegion
 pub mod OpenedOver
 pub mod Partitions
@@ -43,7 +42,6 @@ pub mod Spare
 pub mod Standing
 pub mod Stuck
 pub mod Taken
-pub mod TestSteps
 pub mod Torn
 pub mod Touching
 pub mod UnsealedJobs

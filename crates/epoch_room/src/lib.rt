@@ -13,8 +13,6 @@ mod regions;
 mod room;
 mod sealing;
 pub mod stuck_law;
-#[cfg(test)]
-mod tests;
 
 pub use answers::{Counts, EraseFault, Fit, RoomFault, Stamp};
 pub use room::Room;

@@ -1,7 +1,7 @@
 use Rattle.std.proofs.Common.{ap, ◌∙◌}
 use Rattle.fine_model.specs.declared.law.RoomState.{RoomState}
-use Rattle.epoch_room.proofs.TestSteps.{back_again, still_posted}
-use Rattle.epoch_room.proofs.tests.held_until_back.Goals as goal
+use Rattle.epoch_room_tests.proofs.TestSteps.{back_again, still_posted}
+use Rattle.epoch_room_tests.proofs.tests.held_until_back.Goals as goal
 
 pub take_back-requires-clause-posted : goal.take_back-requires-clause-posted
 take_back-requires-clause-posted g c = still_posted _ c.args.view c.read_one.new c.read_one.ensures c.requires.place (c.erase_first.ensures ∙ c.requires.board)

@@ -1,6 +1,6 @@
 use Rattle.std.proofs.Common.{◌∙◌}
-use Rattle.epoch_room.proofs.NewLog.{still_boards}
-use Rattle.epoch_room.proofs.tests.seal_one.Goals as goal
+use Rattle.epoch_room_tests.proofs.NewLog.{still_boards}
+use Rattle.epoch_room_tests.proofs.tests.seal_one.Goals as goal
 
 pub returns-in-Ok : goal.returns-in-Ok
 returns-in-Ok g c = (

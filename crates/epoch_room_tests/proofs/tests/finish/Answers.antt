@@ -1,7 +1,7 @@
 use Rattle.std.proofs.Common.{sym, subst}
 use Rattle.std.specs.Prelude.{IfSome}
-use Rattle.epoch_room.proofs.TestSteps.{nothing_asked, sealed_board}
-use Rattle.epoch_room.proofs.tests.finish.Goals as goal
+use Rattle.epoch_room_tests.proofs.TestSteps.{nothing_asked, sealed_board}
+use Rattle.epoch_room_tests.proofs.tests.finish.Goals as goal
 
 pub merge_seal-requires-clause-written : goal.merge_seal-requires-clause-written
 merge_seal-requires-clause-written g c = λ _ _. nothing_asked c.args.room.now.room c.args.job c.args.job.header c.requires.untold

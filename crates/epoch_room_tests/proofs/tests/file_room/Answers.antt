@@ -2,8 +2,8 @@ use Rattle.std.proofs.Common.{List, [], sym, ap, subst}
 use Rattle.fine_model.specs.declared.Part.{Part}
 use Rattle.log_disk.specs.Disk.{Disk}
 use Rattle.epoch_room.specs.Whole.{AreParts}
-use Rattle.epoch_room.proofs.NewLog.{untold_parts}
-use Rattle.epoch_room.proofs.tests.file_room.Goals as goal
+use Rattle.epoch_room_tests.proofs.NewLog.{untold_parts}
+use Rattle.epoch_room_tests.proofs.tests.file_room.Goals as goal
 
 pub make-requires-2-clause-parts : goal.make-requires-clause-parts
 make-requires-2-clause-parts c = λ _.

@@ -3,8 +3,8 @@ use Rattle.fine_model.specs.declared.Part.{Part}
 use Rattle.log_disk.specs.Disk.{Disk}
 use Rattle.log_disk.specs.Plan.{PlannedDisk}
 use Rattle.epoch_room.specs.Whole.{AreParts}
-use Rattle.epoch_room.proofs.NewLog.{new_parts}
-use Rattle.epoch_room.proofs.tests.new_room.Goals as goal
+use Rattle.epoch_room_tests.proofs.NewLog.{new_parts}
+use Rattle.epoch_room_tests.proofs.tests.new_room.Goals as goal
 
 pub make-requires-clause-parts : goal.make-requires-clause-parts
 make-requires-clause-parts c = λ _.

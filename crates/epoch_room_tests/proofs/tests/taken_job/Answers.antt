@@ -1,6 +1,6 @@
 use Rattle.std.proofs.Common.{sym, ◌∙◌}
-use Rattle.epoch_room.proofs.TestSteps.{picked_fresh, taken_long}
-use Rattle.epoch_room.proofs.tests.taken_job.Goals as goal
+use Rattle.epoch_room_tests.proofs.TestSteps.{picked_fresh, taken_long}
+use Rattle.epoch_room_tests.proofs.tests.taken_job.Goals as goal
 
 pub returns-clause-len : goal.returns-clause-len
 returns-clause-len g c =

@@ -8,7 +8,7 @@ ghost use Rattle.fine_model.specs.declared.Mark.TheVariants as mark;
 ghost use Rattle.partition_hold.specs.Views.{SameView, opened};
 ghost use Rattle.partition_merge.specs.Mergers.{IsCounted};
 
-use super::{Counts, EraseFault, Fit, Room, RoomFault, Stamp};
+use epoch_room::{Counts, EraseFault, Fit, Room, RoomFault, Stamp};
 use fine_model::{Bytes, Items, Job, Node, NodeId, Rec, Row};
 use log_disk::{FaultPlan, FileDisk, LogDisk, LogEye, MemDisk};
 use partition_hold::View;
@@ -63,7 +63,7 @@ fn put(alloc: Global, number: u32) -> Result<PrivateLog, Fail>
     Ok(log)
 }
 
-#[tactic(auto, unfolding(crate::specs::Steps::appended))]
+#[tactic(auto, unfolding(epoch_room::specs::Steps::appended))]
 fn commit<D: LogDisk>(room: &mut Room<D>, log: &PrivateLog) -> Result<Stamp, Fail>
     requires { AllByRecursion (FitsRow mark.Two) log.now }
     ensures waits { OnOk result (1 ≤ room.new.room.waiting) }
@@ -460,7 +460,10 @@ fn a_view_from_before_a_merge_reads_and_holds_its_parts(rt: HostRuntime) -> Resu
     };
     let held = Err(EraseFault::Held { seat: 1, buffer: 0 });
     let shown = across_a_merge(&mut file_room(&rt, path.as_str())?, rt.alloc())?;
-    assert_eq!(rt; shown, ((Some(b'1'), Some(held), Some(Ok(()))), Some(b'9'), counts));
+    assert_eq!(rt;
+        shown,
+        ((Some(b'1'), Some(held), Some(Ok(()))), Some(b'9'), counts)
+    );
     fs::remove_file(&rt, path.as_str())?;
     Ok(())
 }

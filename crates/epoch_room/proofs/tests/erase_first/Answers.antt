@@ -1,5 +1,0 @@
-use Rattle.epoch_room.proofs.TestSteps.{erased_board}
-use Rattle.epoch_room.proofs.tests.erase_first.Goals as goal
-
-pub returns : goal.returns
-returns g c = erased_board _ _ _ c.erase.result c.erase.ensures.room

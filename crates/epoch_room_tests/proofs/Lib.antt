@@ -1,0 +1,2 @@
+pub mod TestSteps
+pub mod NewLog

@@ -208,9 +208,11 @@ fn take_and_drop<D: LogDisk>(
     ordered: bool,
 ) -> Result<(bool, u32, u32), Fail>
     requires job { room.old.room.job ≡ None }
-    requires area { 1 ≤ area }
     ensures { OnOk result (room.new.room.job ≡ None) }
 {
+    if area == 0 {
+        return Err("no rows")?;
+    }
     let Some(mut job) = room.merge_pick(1) else {
         return Err("neighbours")?;
     };

@@ -2,6 +2,7 @@
 use Rattle.std.proofs.Common.{◌≡◌, ℕ, zero, suc, ◌<◌, List, [], ◌∷◌, map, length, All, None, refl, sym, subst, arith}
 use Rattle.std.specs.Prelude.{get_or, IsPermutation}
 use Rattle.std.specs.List.{range_with_len}
+use Rattle.std.proofs.lemmas.List.Elements.{All-cons, All-head, All-nil, All-tail}
 use mathlib.Core.Option.{some, some-injective, some-ne-none}
 use lib.ListN.{get_elem?}
 use Rattle.fine_hall.specs.declared.pass.Pass.{Pass}
@@ -34,6 +35,11 @@ same_numbers (p ∷ before) (q ∷ after) long each =
     let first = each 0 p (omega arith) in
     let rest = same_numbers before after (omega (arith, long)) (λ i d lt. each (suc i) d (omega (arith, lt))) in
     λ i. first i ∷ rest i
+
+-- what holds of each pass by its number holds of all numbers
+pub all_numbers : (P : Pass DayView → Type 0) (R : ℕ → Type 0) (l : List (Pass DayView)) → ((i : ℕ) (p : Pass DayView) → get_elem? l i ≡ some p → P p → R p.number) → All P l → All R (map (λ (p : Pass DayView). p.number) l)
+all_numbers P R [] each all = All-nil R
+all_numbers P R (p ∷ l) each all = All-cons R p.number (map (λ (q : Pass DayView). q.number) l) (each 0 p refl (All-head P p l all)) (all_numbers P R l (λ i q at. each (suc i) q at) (All-tail P p l all))
 
 module _ {Q : Type 0} (hall : HallOf DayRoom DayBucket DayView Q) (fronts : List DayView) (passes : List (Pass DayView)) (out : HandedOut view_state hall.table.shared.table_id (begun room_state room_log view_state hall) fronts passes) where
   pub all_idle : (begun room_state room_log view_state hall).room.job ≡ None → All (IsIdlePass hall) passes

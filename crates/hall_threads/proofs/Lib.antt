@@ -1,5 +1,4 @@
 pub mod Idle
-pub mod Epochs
 pub mod Putting
 pub mod Standing
 pub mod Caching

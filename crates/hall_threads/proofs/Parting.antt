@@ -1,5 +1,5 @@
 -- What a thread says of its day is so in the whole list of turns.
-use Rattle.std.proofs.Common.{◌≡◌, inl, inr, ℕ, ◌≤◌, Bool, true, false, List, [], ◌∷◌, ◌++◌, replicate, All, Option, Some, None, refl, sym, ap, ◌∙◌, subst, ⊎_elim, le_trans, arith, append_assoc}
+use Rattle.std.proofs.Common.{◌≡◌, inl, inr, ℕ, ◌≤◌, Bool, true, false, List, [], ◌∷◌, ◌++◌, replicate, All, Option, Some, None, refl, sym, ap, ◌∙◌, subst, ⊎_elim, le_trans, arith}
 use Rattle.std.specs.Prelude.{MatchOption}
 use Rattle.std.proofs.lemmas.List.Elements.{All-weaker}
 use Rattle.fine_model.specs.declared.Call.{Call}
@@ -22,6 +22,7 @@ use Rattle.hall_threads.specs.Sayings.{Says}
 use Rattle.hall_threads.specs.Turnover.{HasTurn}
 use Rattle.hall_threads.specs.Ends.{Saw, ReadIn, SaidIn}
 use Rattle.hall_threads.proofs.Fresh.{IsFirst}
+use Rattle.hall_threads.proofs.Saying.{had_on}
 
 not_shown : (b : Bool) → (b ≡ true → ⊥) → b ≡ false
 not_shown true ne = absurd (ne refl)
@@ -45,16 +46,7 @@ module _ {Q : Type 0} (hall : HallOf DayRoom DayBucket DayView Q) (all : List (P
   }
 
   turn : HasTurn (begun room_state room_log view_state hall).room said.shown n all
-  turn =
-      let h = says.turn in
-      let own : turns p' ≡ (h.before ++ record { seat = n; item = h.turn } ∷ []) ++ h.after = h.is ∙ (λ i. (h.before ++ record { seat = is i; item = h.turn } ∷ []) ++ h.after) in
-      record {
-        before = h.before;
-        turn = h.turn;
-        after = h.after ++ saw.front.0;
-        is = saw.front.1 ∙ (ap (λ l. l ++ saw.front.0) own ∙ append_assoc (h.before ++ record { seat = n; item = h.turn } ∷ []) h.after saw.front.0);
-        did = h.did;
-      }
+  turn = had_on (begun room_state room_log view_state hall).room said.shown n (turns p') all (subst (λ m. HasTurn (begun room_state room_log view_state hall).room said.shown m (turns p')) is says.turn) saw.front
 
   pub said_in : SaidIn (begun room_state room_log view_state hall).room all room n value said
   said_in = record {

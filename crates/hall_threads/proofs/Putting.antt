@@ -15,7 +15,7 @@ use Rattle.fine_model.specs.History.{Commit, IsNext, all_rows}
 use Rattle.fine_model.specs.Buckets.{node_id}
 use Rattle.fine_model.proofs.NodeLaws.{content-append}
 use Rattle.hall_threads.specs.Days.{key, key_bucket, leaf_at, put_call, put_row, put_entry}
-use Rattle.hall_threads.proofs.Epochs.{rows_push}
+use Rattle.fine_model.proofs.Epochs.{rows_push}
 
 -- ---- the row
 

@@ -1,5 +1,5 @@
 -- What a thread may say once its own turn is over.
-use Rattle.std.proofs.Common.{◌≡◌, ◌≢◌, ◌⊎◌, inl, inr, ℕ, ◌+◌, ◌<◌, ◌≤◌, ◌==◌, Bool, true, false, true≢false, cond, List, [], ◌∷◌, ◌++◌, All, Option, Some, None, refl, sym, ap, ◌∙◌, subst, ⊎_elim, le_trans, arith}
+use Rattle.std.proofs.Common.{◌≡◌, ◌≢◌, ◌⊎◌, inl, inr, ℕ, ◌+◌, ◌<◌, ◌≤◌, ◌==◌, Bool, true, false, true≢false, cond, List, [], ◌∷◌, ◌++◌, All, Option, Some, None, refl, sym, ap, ◌∙◌, subst, ⊎_elim, le_trans, arith, append_assoc}
 use Rattle.std.specs.Prelude.{MatchBool, MatchOption}
 use Rattle.std.proofs.lemmas.List.Elements.{All-nil, All-cons, All-head, All-tail, All-append, All-weaker}
 use Rattle.atomic_table.specs.Seated.{TableId}
@@ -99,6 +99,16 @@ module _ (x : Beginning) where
         is = on.longer.1 ∙ ap (λ l. l ++ on.longer.0) own;
         did = did_turn shown (room_after x.room (turns p ++ t.others)) t.turn.room (published q) t.did;
       }
+
+-- it is there still once more turns are seen
+pub had_on : (began : RoomState) (shown : Bool) (n : ℕ) (l all : List (Placed Turn)) → HasTurn began shown n l → (more : List (Placed Turn)) × (all ≡ l ++ more) → HasTurn began shown n all
+had_on began shown n l all h saw = record {
+  before = h.before;
+  turn = h.turn;
+  after = h.after ++ saw.0;
+  is = saw.1 ∙ (ap (λ (m : List (Placed Turn)). m ++ saw.0) h.is ∙ append_assoc (h.before ++ record { seat = n; item = h.turn } ∷ []) h.after saw.0);
+  did = h.did;
+}
 
 -- ---- reads that failed
 

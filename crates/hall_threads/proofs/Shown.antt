@@ -1,8 +1,10 @@
 -- How a turn goes on in which what waits is sealed, and shown to all seats.
 use Rattle.std.specs.Prelude.{Bool}
-use Rattle.std.proofs.Common.{◌≡◌, ◌⊎◌, inl, inr, ⊎_elim, ℕ, zero, suc, ◌+◌, ◌-◌, ◌*◌, ◌<◌, ◌≤◌, ◌==◌, true, false, List, [], ◌∷◌, ◌++◌, map, set, length, All, Option, Some, None, option_map, refl, sym, ap, ◌∙◌, subst, arith, append-nil, le_refl}
+use Rattle.std.proofs.Common.{◌≡◌, ◌⊎◌, inl, inr, ⊎_elim, ℕ, zero, suc, ◌+◌, ◌-◌, ◌*◌, ◌<◌, ◌≤◌, ◌==◌, nat_le, cond, eq-eqb, true, false, List, [], ◌∷◌, ◌++◌, map, set, length, All, Option, Some, None, option_map, refl, sym, ap, ◌∙◌, subst, arith, append-nil, le_refl}
 use Rattle.std.specs.Prelude.{slice_get, slice_set, slice_index, count_by, MatchBool}
 use Rattle.std.proofs.lemmas.List.{map-set}
+use Rattle.std.proofs.lemmas.List.Elements.{All-cons, All-head, All-nil, All-tail}
+use Rattle.std.proofs.lemmas.List.Sums.{sum_by-cons}
 use lib.ListN.{get_elem?, length-map}
 use Rattle.atomic_table.specs.Seated.{TableId}
 use Rattle.fine_places.specs.History as places
@@ -35,7 +37,7 @@ use Rattle.hall_threads.specs.declared.things.DayRoom.{DayRoom}
 use Rattle.hall_threads.specs.declared.things.DayView.{DayView}
 use Rattle.hall_threads.specs.Days.{room_state, room_log, view_state, day_stands, job_of, StandsFor, board_of, eye_of, told_rows, leaf_id}
 use Rattle.hall_threads.specs.Turnover.{Seals, IsViewOf, TakesBack, InTurn, PostsTo, PostedBelow, Stays, IsShown, HasNoneToSeal}
-use Rattle.hall_threads.proofs.Epochs.{all_sealed, each_sealed, seals, none_wait}
+use Rattle.fine_model.proofs.Epochs.{all_upto, epochs_below, seals, none_wait}
 use Rattle.hall_threads.proofs.Standing.{day_becomes, may_give, may_give_none}
 use Rattle.hall_threads.proofs.Telling.{tells_leaf, agrees_leaf}
 
@@ -149,7 +151,7 @@ module _ (z : TableId) (x : Beginning) (p : Pass DayView) (room : DayRoom) (seat
   epochs = subst (CountsEpochs x (room_state room)) nil i.may.epochs
 
   all : upto (seen p) v.upto ≡ seen p
-  all = ap (upto (seen p)) is.upto ∙ all_sealed x.room.sealed (seen p) room.sealed epochs.follow epochs.sealed (sym none ∙ epochs.waiting)
+  all = ap (upto (seen p)) is.upto ∙ all_upto x.room.sealed (seen p) room.sealed epochs.follow epochs.sealed (sym none ∙ epochs.waiting)
 
   tells : (e : ℕ) (first : List Row) → Began x.log e first → (rows : List Row) × TellsRows (view_state v) rows × Agrees rows (first ++ all_rows (upto (seen p) v.upto))
   tells e first b =
@@ -253,8 +255,24 @@ pub shown_turn : (b : Bool) (room new : DayRoom) (last : RoomState) (n m : ℕ) 
 shown_turn true room new last n m is same s = subst (λ o. IsShown o (room_state new) m) is (subst (IsShown (room_state room) (room_state new)) (sym same) s)
 shown_turn false room new last n m is same s = (ap room_state s.0 ∙ is, subst HasNoneToSeal is s.1)
 
+-- where none is of the open epoch, and none behind it, each is sealed
+each_sealed : (n : ℕ) (history : List Commit) → All (λ (c : Commit). c.epoch ≤ n + 1) history → 0 ≡ count_by (λ (c : Commit). c.epoch == n + 1) history → All (λ (c : Commit). c.epoch ≤ n) history
+each_sealed n [] below none = All-nil (λ (c : Commit). c.epoch ≤ n)
+each_sealed n (c ∷ history) below none = by (nat_le c.epoch n) refl (λ nil. each_sealed n history (All-tail (λ (d : Commit). d.epoch ≤ n + 1) c history below) nil)
+  where
+    counted : count_by (λ (d : Commit). d.epoch == n + 1) (c ∷ history) ≡ cond (c.epoch == n + 1) 1 0 + count_by (λ (d : Commit). d.epoch == n + 1) history
+    counted = sum_by-cons (λ (d : Commit). cond (d.epoch == n + 1) 1 0) c history
+
+    by : (b : Bool) → nat_le c.epoch n ≡ b → (0 ≡ count_by (λ (d : Commit). d.epoch == n + 1) history → All (λ (d : Commit). d.epoch ≤ n) history) → All (λ (d : Commit). d.epoch ≤ n) (c ∷ history)
+    by true low rest = All-cons (λ (d : Commit). d.epoch ≤ n) c history (grind (arith, low)) (rest (omega (arith, none, counted)))
+    by false high rest =
+        let above : n < c.epoch = grind (arith, high) in
+        let most = All-head (λ (d : Commit). d.epoch ≤ n + 1) c history below in
+        let one = ap {B = ℕ} (λ b. cond b 1 0) (eq-eqb c.epoch (n + 1) (omega (arith, above, most))) in
+        absurd (omega (arith, none, counted, one))
+
 pub seals_all : (x : Beginning) (room : RoomState) (history : List Commit) → CountsEpochs x room history → room.waiting ≡ 0 → All (λ (c : Commit). c.epoch ≤ room.sealed) history
-seals_all x room history q none = each_sealed x.room.sealed history room.sealed q.follow q.sealed (sym none ∙ q.waiting)
+seals_all x room history q none = each_sealed room.sealed history (epochs_below x.room.sealed history room.sealed q.follow q.sealed) (sym none ∙ q.waiting)
 
 -- ---- what stays
 

@@ -1,6 +1,6 @@
 -- What the end of a day tells.
-use Rattle.std.specs.Prelude.{◌≡◌, ◌≢◌, ◌⊎◌, ◌+◌, sum_by, Bool, true, false, ℕ, ◌<◌, ◌≤◌, List, [], ◌∷◌, ◌++◌, map, length, replicate, All, MatchOption}
-use Rattle.std.specs.List.{AllByRecursion}
+use Rattle.std.specs.Prelude.{◌≡◌, ◌≢◌, ◌⊎◌, ◌+◌, sum_by, Bool, true, false, ℕ, ◌<◌, ◌≤◌, List, [], ◌∷◌, ◌++◌, map, length, replicate, All, MatchOption, IsPermutation}
+use Rattle.std.specs.List.{AllByRecursion, range_with_len}
 use Rattle.fine_model.specs.declared.Node.TheVariants as node
 use Rattle.fine_model.specs.RowBytes.{greatest}
 use Rattle.fine_model.specs.Faults.{last_count}
@@ -23,7 +23,7 @@ use Rattle.hall_threads.specs.declared.things.DayRoom.{DayRoom}
 use Rattle.hall_threads.specs.declared.things.DayView.{DayView}
 use Rattle.hall_threads.specs.declared.things.Sight.{Sight}
 use Rattle.hall_threads.specs.declared.threads.Said.{Said}
-use Rattle.hall_threads.specs.Turnover.{HasTurn}
+use Rattle.hall_threads.specs.Turnover.{HasTurn, TakesPart}
 use Rattle.hall_threads.specs.Days.{key_bucket, leaf_at, leaf_id, put_call, put_calls, room_state, view_state}
 
 -- All turns, each of one of so many seats, make a legal history of the epochs behind 0; the room keeps their entries in this order, and
@@ -61,10 +61,16 @@ pub record Ends (x : Beginning) (one two : Pass DayView) (room : DayRoom) (views
   pub saw_second : Saw x all room two
   pub counts : Counts (x.room.faults + (troubles view_state x one + troubles view_state x two)) room views
 
--- the passes of so many seats at the end
-pub record EndsAll (seats : ℕ) (room : DayRoom) (views : List DayView) : Type 0 where
+-- The passes of so many seats at the end. Where there was a round, each seat had a turn of its own, in which what waited was sealed, or
+-- there was none to seal.
+pub record EndsAll (seats times : ℕ) (room : DayRoom) (views : List DayView) : Type 0 where
   pub all : List (Placed Turn)
   pub whole : IsWhole seats all room
+  pub began : RoomState
+  pub goes : RoomsGoOn began all
+  pub numbers : List ℕ
+  pub each_once : IsPermutation numbers (range_with_len 1 seats)
+  pub turned : All (λ n. TakesPart began times n all) numbers
   pub on_board : AreAllOnBoard (room_state room).board (map view_state views)
 
 -- What a seat read is the leaf that a front of all turns leaves up to some epoch, unless it is broken. The front has all turns of the seat, and the

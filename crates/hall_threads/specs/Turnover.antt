@@ -112,3 +112,7 @@ pub record HasTurn (began : RoomState) (shown : Bool) (seat : ℕ) (all : List (
   pub after : List (Placed Turn)
   pub is : all ≡ (before ++ record { seat = seat; item = turn } ∷ []) ++ after
   pub did : MatchBool shown (SealsOne (room_after began before) turn.room) ((turn.room ≡ room_after began before) × HasNoneToSeal (room_after began before))
+
+-- where there was a round, among these turns is one of the seat, in which what waited was sealed, or there was none to seal
+pub record TakesPart (began : RoomState) (times seat : ℕ) (all : List (Placed Turn)) : Type 0 where
+  pub turn : 0 < times → (shown : Bool) × HasTurn began shown seat all

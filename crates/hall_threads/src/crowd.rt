@@ -1,10 +1,13 @@
 //! Many seats at once, each on a thread of its own.
 
 ghost use Rattle.std.specs.Prelude.{◌≡◌, ◌<◌, ◌≤◌, ℕ, IfOk, IfSome, All, slice_index_or, vec_len};
+ghost use Rattle.fine_hall.specs.Halls.{begun};
+ghost use Rattle.fine_hall.specs.Passes.{turns};
 ghost use Rattle.fine_hall.specs.declared.pass.Pass.{Pass};
 ghost use Rattle.hall_threads.specs.declared.things.DayView.{DayView};
-ghost use Rattle.hall_threads.specs.Days.{key_bucket, IsIdlePass};
+ghost use Rattle.hall_threads.specs.Days.{key_bucket, room_state, room_log, view_state, IsIdlePass};
 ghost use Rattle.hall_threads.specs.Ends.{EndsAll};
+ghost use Rattle.hall_threads.specs.Turnover.{TakesPart};
 
 use crate::evicting::evict;
 use crate::opening::open;
@@ -40,6 +43,7 @@ fn round<W: Wait>(
     requires pass { IsIdlePass hall.now pass.old }
     requires bucket { bucket ≡ key_bucket }
     ensures pass { IsIdlePass hall.now pass.new × (pass.new.number ≡ pass.old.number) }
+    ensures turned { TakesPart (begun room_state room_log view_state hall.now).room 1 pass.new.number (turns pass.new) }
 {
     let put = put_times(rt, alloc, hall, pass, bucket, 1, 1);
     tally.puts.fetch_add(put, Ordering::SeqCst);
@@ -62,6 +66,7 @@ fn rounds<W: Wait>(
     requires pass { IsIdlePass hall.now pass }
     requires bucket { bucket ≡ key_bucket }
     ensures pass { IsIdlePass hall.now result × (result.number ≡ pass.number) }
+    ensures turned { TakesPart (begun room_state room_log view_state hall.now).room times result.number (turns result) }
 {
     for _ in 0..times {
         round(rt, alloc, hall, &mut pass, bucket, tally);
@@ -82,12 +87,13 @@ fn at_once<R: Threads + Wait + Sync>(
     requires passes { All (IsIdlePass hall.now) passes.items }
     requires bucket { bucket ≡ key_bucket }
     ensures idle { IfOk result (λ back. All (IsIdlePass hall.now) back.items) }
+    ensures turned { IfOk result (λ back. All (λ p. TakesPart (begun room_state room_log view_state hall.now).room times p.number (turns p)) back.items) }
     ensures numbers { IfOk result (λ back. (i : ℕ) (d : Pass DayView) → i < vec_len passes → (slice_index_or back.items i d).number ≡ (slice_index_or passes.items i d).number) }
     ensures len { IfOk result (λ back. vec_len back ≡ vec_len passes) }
 {
     let work = |pass: Pass<DayView>| -> Pass<DayView>
         requires { IsIdlePass hall.now pass × (bucket ≡ key_bucket) }
-        ensures { IsIdlePass hall.entry.now result × (result.number ≡ pass.number) }
+        ensures { IsIdlePass hall.entry.now result × (result.number ≡ pass.number) × TakesPart (begun room_state room_log view_state hall.entry.now).room times result.number (turns result) }
     { rounds(rt, alloc, hall, pass, bucket, times, tally) };
     thread::map_vec(rt, passes, &work)
 }
@@ -95,7 +101,7 @@ fn at_once<R: Threads + Wait + Sync>(
 /// Opens a hall of 1 to 18 seats, lets each of them do so many rounds on a thread of its own, all at once, and closes it. Answers the room
 /// and all views that were out; None where there is no memory.
 ///
-/// There is one history, of these seats. It is legal, and the room keeps its entries in this order, and knows the leaf that they leave.
+/// There is one history, of these seats, and where there was a round, each of them had a turn of its own. It is legal, and the room keeps its entries in this order, and knows the leaf that they leave.
 /// The views are those that the room's board names. What the tally has is not said.
 pub fn day_of_many<R: Threads + Wait + Sync>(
     rt: &R,
@@ -106,7 +112,7 @@ pub fn day_of_many<R: Threads + Wait + Sync>(
     tally: &Tally,
 ) -> Option<(DayRoom, Vec<DayView>)>
     requires seats { (1 ≤ seats) × (seats ≤ 18) }
-    ensures { IfSome result (λ r. EndsAll seats r.0 r.1.items) }
+    ensures { IfSome result (λ r. EndsAll seats times r.0 r.1.items) }
 {
     let (hall, passes) = open(alloc, seats, most)?;
     let bucket = the_bucket();

@@ -15,9 +15,6 @@ use std::io::{self, Printer, Read, Write};
 use std::marker::Model;
 use std::snapshot::Snapshot;
 
-#[cfg(test)]
-mod tests;
-
 /// The standard input, by its reader. As a source it tells no bytes.
 #[derive(Drop)]
 pub struct StdSource<I: Read> {

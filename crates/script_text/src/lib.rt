@@ -56,6 +56,3 @@ pub trait Sink {
         ensures puts { Puts bytes.now (IsErr result) (written self.old) (written self.new) }
         ensures counts { CountsFault (IsErr result) (faults self.old) (faults self.new) };
 }
-
-#[cfg(test)]
-mod tests;

@@ -1,12 +1,12 @@
 //! Scripts and reports against their texts.
 
-use super::{
-    Failed, MemSink, MemSource, ScriptFault, Sink, Source, StdSink, StdSource, read_script,
-    read_whole_script, write_reason, write_report,
-};
 use fine_model::{
     Bytes, Call, Damage, Ending, Entry, Items, NoMemory, NodeId, Outcome, Ran, Reason, Reply,
     RunFault, Script, ScriptTxn, Why,
+};
+use script_text::{
+    Failed, MemSink, MemSource, ScriptFault, Sink, Source, StdSink, StdSource, read_script,
+    read_whole_script, write_reason, write_report,
 };
 use std::alloc::Global;
 

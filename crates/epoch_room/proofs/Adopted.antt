@@ -1,6 +1,6 @@
 -- A room behind each answer of taking rows in.
-use Rattle.std.proofs.Common.{◌≡◌, ◌≢◌, ◌⊎◌, ℕ, ◌+◌, ◌<◌, ◌≤◌, Bool, true, false, List, [], ◌∷◌, ◌++◌, length, take, drop, map, ◌||◌, eq-eqb, Some, None, Ok, Err, Result, refl, sym, ap, subst, ◌∙◌, inl, inr, arith, true≢false}
-use Rattle.std.specs.Prelude.{Option, IfSome, IsErrOf, IsTrue, OnOk, is_some, nat_eq, option_map, slice_index, unwrap_or, Contains}
+use Rattle.std.proofs.Common.{◌≡◌, ◌⊎◌, ℕ, ◌+◌, ◌<◌, ◌≤◌, true, false, List, [], ◌∷◌, ◌++◌, take, drop, map, ◌||◌, eq-eqb, Some, None, Ok, Err, Result, refl, sym, ap, subst, ◌∙◌, inl, inr, arith, true≢false}
+use Rattle.std.specs.Prelude.{Option, IfSome, IsErrOf, IsTrue, is_some, nat_eq, option_map, slice_index, unwrap_or}
 use Rattle.std.specs.List.{AllByRecursion, list_any}
 use Rattle.std.proofs.lemmas.List.Sums.{sum_by-append}
 use Rattle.fine_model.specs.declared.Part.{Part}
@@ -11,11 +11,9 @@ use Rattle.fine_model.specs.declared.Job.{Job}
 use Rattle.fine_model.specs.declared.law.RoomState.{RoomState}
 use Rattle.fine_model.specs.Becomes.{Becomes}
 use Rattle.fine_model.specs.Boards.{held_of, named, posted, set_of}
-use Rattle.fine_model.specs.Chain.{AreRowsOf, chain_end, regions_of}
+use Rattle.fine_model.specs.Chain.{AreRowsOf, regions_of}
 use Rattle.fine_model.specs.Headline.{ShowsSome}
-use Rattle.fine_model.specs.History.{last_epoch}
-use Rattle.fine_model.specs.Laws.{AreSmall, is_small}
-use Rattle.fine_model.specs.Merge.{regions_for}
+use Rattle.fine_model.specs.Laws.{is_small}
 use Rattle.fine_model.specs.Nodes.{Agrees}
 use Rattle.fine_model.specs.Regions.{Image, IsSealed, continuations, header_bytes}
 use Rattle.fine_model.specs.Room.{SameMembers}
@@ -31,9 +29,8 @@ use Rattle.log_disk.specs.declared.refusal.DiskRefusal.{DiskRefusal}
 use Rattle.log_disk.specs.declared.refusal.DiskRefusal.TheVariants as refusal
 use Rattle.log_disk.proofs.Moments.{now_since, only_now, synced_now}
 use Rattle.log_disk.proofs.Times.{continues_none}
-use Rattle.log_disk.proofs.Writes.{same_outside_written}
-use Rattle.epoch_room.specs.Adopting.{Adoption, AdoptsOr, HoldsRows, ShowsEither, ShownBoth, StandsAfter, StandsForBoth, adopted_state, part_over, taken_for}
-use Rattle.epoch_room.specs.Gate.{gate, IsBehind, KeepsBeside}
+use Rattle.epoch_room.specs.Adopting.{Adoption, AdoptsOr, ShowsEither, adopted_state, part_over, taken_for}
+use Rattle.epoch_room.specs.Gate.{IsBehind, KeepsBeside}
 use Rattle.partition_hold.proofs.Bits.{among}
 use Rattle.partition_index.specs.Parts.{LiesIn}
 use Rattle.epoch_room.specs.Meaning.{Keeps, Stands, StandsTold, StandsWhere}
@@ -42,16 +39,15 @@ use Rattle.epoch_room.specs.Value.{Kept, RoomValue, on, regions_outside, taken, 
 use Rattle.epoch_room.specs.Whole.{AreApart, HoldsParts, IsJob, IsWhole, NamesWhole}
 use Rattle.epoch_room.specs.declared.answers.AdoptFault.{AdoptFault}
 use Rattle.epoch_room.specs.declared.answers.AdoptFault.TheVariants as adopt_fault
-use Rattle.epoch_room.specs.declared.answers.RoomFault.{RoomFault}
 use Rattle.epoch_room.specs.declared.answers.RoomFault.TheVariants as room_fault
 use Rattle.epoch_room.proofs.AdoptedImages.{all_live, gate_either, holds_more, last_same, opened_last, own_rows, shows_both, shows_still}
-use Rattle.epoch_room.proofs.AdoptedParts.{CanAdopt, IsPartFor, adopted_times, lowest, none_lost, none_open, none_waits, not_stuck, own_apart, part_below, part_beside, part_small, shut_times}
+use Rattle.epoch_room.proofs.AdoptedParts.{CanAdopt, IsPartFor, adopted_times, lowest, none_lost, none_open, none_waits, not_stuck, part_below, part_beside, part_small, shut_times}
 use Rattle.epoch_room.proofs.BehindGates.{torn_alike}
-use Rattle.epoch_room.proofs.Behind.{all_told, as_told, both_and, keeps_none, same_beside, some_behind}
+use Rattle.epoch_room.proofs.Behind.{all_told, as_told, both_and, same_beside, some_behind}
 use Rattle.epoch_room.proofs.Boarding.{AreBeside}
 use Rattle.epoch_room.proofs.Counting.{all_back, all_front}
 use Rattle.epoch_room.proofs.Ending.{end_next, follow_next, moved_board, moved_entry, moved_lie, moved_whole, names_more, no_parts_unsynced, risen_since, still_geometry}
-use Rattle.epoch_room.proofs.Standing.{nothing_more, same_log}
+use Rattle.epoch_room.proofs.Standing.{nothing_more}
 use Rattle.epoch_room.proofs.Taken.{same_apart, same_outside}
 use Rattle.epoch_room.proofs.Torn.{HasOpened}
 use Rattle.epoch_room.proofs.Touching.{beside_told}

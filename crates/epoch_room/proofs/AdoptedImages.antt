@@ -1,5 +1,5 @@
 -- What an image shows while rows are sealed that a room takes in.
-use Rattle.std.proofs.Common.{◌≡◌, ◌⊎◌, ℕ, ◌+◌, ◌<◌, ◌≤◌, Bool, true, false, List, [], ◌∷◌, ◌++◌, length, Some, Ok, refl, sym, ap, subst, ◌∙◌, inl, inr, arith}
+use Rattle.std.proofs.Common.{◌≡◌, ◌⊎◌, ℕ, ◌+◌, ◌<◌, ◌≤◌, true, List, [], ◌∷◌, ◌++◌, length, sym, ap, subst, ◌∙◌, arith}
 use Rattle.std.specs.List.{AllByRecursion, list_any}
 use Rattle.std.specs.Prelude.{nat_eq}
 use Rattle.fine_model.specs.declared.Part.{Part}
@@ -8,9 +8,8 @@ use Rattle.fine_model.specs.declared.Row.{Row}
 use Rattle.fine_model.specs.Chain.{AreRowsOf, Shows, is_free, regions_of}
 use Rattle.fine_model.specs.ChainLaws.{IsLonger, ShowsAlike}
 use Rattle.fine_model.specs.Headline.{ShowsSome}
-use Rattle.fine_model.specs.History.{all_rows, upto}
 use Rattle.fine_model.specs.Nodes.{Agrees}
-use Rattle.fine_model.specs.Regions.{HasHeader, Image, IsSealed, body_in, header_bytes, header_in, region_of}
+use Rattle.fine_model.specs.Regions.{HasHeader, Image, IsSealed, header_bytes, header_in, region_of}
 use Rattle.fine_model.proofs.Closed.{closed_law}
 use Rattle.fine_model.proofs.Longer.{seal_law}
 use Rattle.fine_model.proofs.NodeLaws.{Agrees-append}
@@ -25,7 +24,7 @@ use Rattle.partition_index.specs.Placing.{HasRoomFor}
 use Rattle.partition_index.proofs.BodyPlaces.{start_small}
 use Rattle.epoch_room.specs.Gate.{gate}
 use Rattle.epoch_room.specs.RowWrites.{HasBodyOf}
-use Rattle.epoch_room.specs.Value.{Kept, value_of}
+use Rattle.epoch_room.specs.Value.{Kept}
 use Rattle.epoch_room.specs.Whole.{HoldsParts}
 use Rattle.epoch_room.proofs.AdoptedParts.{CanAdopt, IsPartFor, part_below, part_beside, part_distinct}
 use Rattle.epoch_room.proofs.BehindGates.{torn_alike, torn_holds}

@@ -1,6 +1,6 @@
 -- The part that rows become which a room takes in.
-use Rattle.std.proofs.Common.{◌≡◌, ◌⊎◌, ℕ, zero, suc, ◌+◌, ◌-◌, ◌*◌, ◌^◌, ◌<◌, ◌≤◌, ◌==◌, ◌||◌, Bool, true, false, cond, not, List, [], ◌∷◌, ◌++◌, length, take, drop, Some, None, refl, sym, ap, subst, ◌∙◌, inl, inr, arith, eq-eqb, length-append, length-take, true≢false}
-use Rattle.std.specs.Prelude.{Option, if◌then◌else◌, IsTrue, filter, nat_eq, option_to_list, replicate, slice_index}
+use Rattle.std.proofs.Common.{◌≡◌, ℕ, ◌+◌, ◌-◌, ◌<◌, ◌≤◌, ◌==◌, Bool, true, false, cond, not, List, [], ◌∷◌, ◌++◌, length, take, drop, Some, None, refl, sym, ap, subst, ◌∙◌, arith, length-append, length-take}
+use Rattle.std.specs.Prelude.{if◌then◌else◌, IsTrue, filter, nat_eq, option_to_list, replicate}
 use Rattle.std.specs.List.{AllByRecursion, list_any}
 use Rattle.std.proofs.lemmas.List.{drop_at, length-replicate}
 use Rattle.std.proofs.lemmas.Nat.{mul-le}
@@ -15,7 +15,7 @@ use Rattle.fine_model.specs.Boards.{set_of}
 use Rattle.fine_model.specs.Chain.{regions_of}
 use Rattle.fine_model.specs.Jobs.{job_left, job_regions}
 use Rattle.fine_model.specs.Merge.{cost, fits_in, is_ordered, nodes_in, regions_for}
-use Rattle.fine_model.specs.Regions.{body_len, continuations}
+use Rattle.fine_model.specs.Regions.{body_len}
 use Rattle.fine_model.specs.RowBytes.{FitsRow, greatest, rows_len}
 use Rattle.fine_model.specs.Trees.{is_distinct}
 use Rattle.fine_model.proofs.Nothing.{each_there}
@@ -34,7 +34,7 @@ use Rattle.epoch_room.specs.Value.{Kept, all_regions, regions_outside, taken, va
 use Rattle.epoch_room.specs.Whole.{AreApart, HasRegions, IsWhole}
 use Rattle.epoch_room.proofs.Beside.{regions_together}
 use Rattle.epoch_room.proofs.Boarding.{AreBeside, unseen}
-use Rattle.epoch_room.proofs.Counting.{all_front, regions_of_header}
+use Rattle.epoch_room.proofs.Counting.{regions_of_header}
 use Rattle.epoch_room.proofs.Freeing.{free_in_image}
 use Rattle.epoch_room.proofs.JobRegions.{found_least, freed_outside, lowest_taken}
 use Rattle.epoch_room.proofs.LedParts.{fewer_apart, set_times}

@@ -1,6 +1,6 @@
 -- Bytes of a part's body that are written by several calls.
-use Rattle.std.proofs.Common.{◌≡◌, ◌⊎◌, ℕ, zero, suc, ◌+◌, ◌<◌, ◌≤◌, Bool, true, false, List, [], ◌∷◌, ◌++◌, length, Some, None, Ok, Err, Result, refl, sym, ap, subst, ◌∙◌, inl, inr, arith, append_assoc, append-nil, drop, get_or, length-append, true≢false}
-use Rattle.std.specs.Prelude.{Contains, IsErrOf, OnErr, OnOk, flat_map, is_err, nat_eq}
+use Rattle.std.proofs.Common.{◌≡◌, ℕ, zero, suc, ◌+◌, ◌<◌, ◌≤◌, Bool, true, false, List, [], ◌∷◌, ◌++◌, length, Ok, Err, Result, refl, sym, ap, subst, ◌∙◌, inl, inr, arith, append_assoc, append-nil, drop, get_or, length-append, true≢false}
+use Rattle.std.specs.Prelude.{IsErrOf, OnErr, OnOk, flat_map, is_err, nat_eq}
 use Rattle.std.specs.List.{AllByRecursion, list_any}
 use Rattle.std.proofs.lemmas.Bool.{eqb-true}
 use Rattle.std.proofs.lemmas.List.{drop_more}

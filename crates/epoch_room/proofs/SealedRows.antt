@@ -1,16 +1,15 @@
 -- Rows are written behind closed gates, and then the lead is sealed.
-use Rattle.std.proofs.Common.{◌≡◌, ◌⊎◌, ℕ, ◌+◌, ◌<◌, ◌≤◌, ◌||◌, Bool, true, false, List, [], ◌∷◌, ◌++◌, length, drop, Some, None, Ok, Err, Result, refl, sym, ap, subst, ◌∙◌, inl, inr, arith, eq-eqb, length-append, true≢false}
+use Rattle.std.proofs.Common.{◌≡◌, ℕ, ◌+◌, ◌<◌, ◌≤◌, ◌||◌, Bool, true, false, List, [], ◌∷◌, length, drop, Some, None, Ok, Err, Result, refl, sym, ap, subst, ◌∙◌, inl, inr, arith, eq-eqb, length-append}
 use Rattle.std.specs.Prelude.{Option, IfSome, IsErrOf, OnOk, nat_eq}
-use Rattle.std.specs.List.{AllByRecursion, list_any}
+use Rattle.std.specs.List.{list_any}
 use Rattle.fine_model.specs.declared.Part.{Part}
 use Rattle.fine_model.specs.declared.Row.{Row}
 use Rattle.fine_model.specs.Chain.{regions_of}
 use Rattle.fine_model.specs.ChainLaws.{DiffersBehind}
-use Rattle.fine_model.specs.Merge.{nodes_in}
-use Rattle.fine_model.specs.Regions.{Image, body_bytes, body_in, body_len, body_start, continuations, header_bytes, index_bytes, region_of}
-use Rattle.fine_model.specs.RowBytes.{rows_bytes, rows_len}
+use Rattle.fine_model.specs.Regions.{Image, body_bytes, body_in, body_len, continuations, header_bytes, index_bytes, region_of}
+use Rattle.fine_model.specs.RowBytes.{rows_bytes}
 use Rattle.fine_model.proofs.Grammar.{rows_long}
-use Rattle.log_disk.specs.Disk.{BothTold, CountsOwn, Disk, HasRisen, IsImageNow, IsSound, IsToldOf, SameBeside, SameOutside, Told, clock_of, with_bytes}
+use Rattle.log_disk.specs.Disk.{BothTold, CountsOwn, Disk, HasRisen, IsSound, IsToldOf, SameBeside, SameOutside, Told, clock_of, with_bytes}
 use Rattle.log_disk.specs.Moments.{ContinuesOn, LeavesOnly}
 use Rattle.log_disk.specs.declared.refusal.DiskRefusal.{DiskRefusal}
 use Rattle.log_disk.specs.declared.refusal.DiskRefusal.TheVariants as refusal
@@ -23,7 +22,7 @@ use Rattle.partition_index.specs.Placing.{HasBody}
 use Rattle.partition_index.proofs.BodyPlaces.{start_small}
 use Rattle.epoch_room.specs.BodyWrites.{HasPlace}
 use Rattle.epoch_room.specs.Gate.{gate, DirtiesOnly, HasBytes, IsBehind, IsSealing, IsUngated, KeepsBeside, LeavesBehind, LeavesSealing, ReadsBehind}
-use Rattle.epoch_room.specs.RowWrites.{AreCounted, HasBodyOf, HasPart, IsGated, IsSealingRows, SealsRows, WritesRows}
+use Rattle.epoch_room.specs.RowWrites.{AreCounted, HasBodyOf, HasPart, IsSealingRows, SealsRows, WritesRows}
 use Rattle.epoch_room.proofs.Behind.{both_and}
 use Rattle.epoch_room.proofs.BodyPieces.{differs_then, leaves_behind_then, reads_none, reads_then}
 use Rattle.epoch_room.proofs.Gates.{behind}

@@ -6,12 +6,11 @@ use Rattle.fine_model.specs.declared.Range.{Range}
 use Rattle.fine_model.specs.declared.Row.{Row}
 use Rattle.fine_model.specs.declared.law.RoomState.{RoomState}
 use Rattle.fine_model.specs.Becomes.{Becomes}
-use Rattle.fine_model.specs.Boards.{set_of}
 use Rattle.fine_model.specs.Headline.{ShowsSome}
 use Rattle.fine_model.specs.Merge.{encoded_len, nodes_in, regions_for}
 use Rattle.fine_model.specs.Regions.{Image, IsSealed}
 use Rattle.fine_model.specs.RowBytes.{rows_len}
-use Rattle.log_disk.specs.Disk.{Disk, SameBeside, Told, clock_of, IsImageSince}
+use Rattle.log_disk.specs.Disk.{SameBeside, Told, clock_of, IsImageSince}
 use Rattle.log_disk.specs.Moments.{ContinuesOn}
 use Rattle.log_partition.specs.Encoding.{saturated}
 use Rattle.epoch_room.specs.Gate.{KeepsBeside}

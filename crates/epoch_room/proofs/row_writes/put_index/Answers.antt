@@ -1,4 +1,4 @@
-use Rattle.std.proofs.Common.{◌≡◌, ◌≤◌, ◌++◌, List, ℕ, length, take, ap, ◌∙◌, arith}
+use Rattle.std.proofs.Common.{◌++◌, List, ℕ, ap, ◌∙◌, arith}
 use Rattle.std.specs.Prelude.{flat_map}
 use Rattle.std.proofs.lemmas.List.{take_all}
 use Rattle.log_partition.proofs.RowsRead.{rises}

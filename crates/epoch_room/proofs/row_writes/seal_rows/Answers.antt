@@ -1,12 +1,12 @@
-use Rattle.std.proofs.Common.{◌≡◌, ◌+◌, ◌<◌, ◌≤◌, ◌++◌, ◌∷◌, [], Ok, List, ℕ, Result, length, take, sym, subst, ap, ◌∙◌, arith}
+use Rattle.std.proofs.Common.{◌≡◌, ◌<◌, ◌++◌, Ok, List, ℕ, length, take, sym, subst, ap, ◌∙◌, arith}
 use Rattle.std.specs.Prelude.{IsErrOf, OnOk}
 use Rattle.std.proofs.lemmas.Result.{err_from_is_err_and}
 use Rattle.fine_model.specs.Regions.{body_bytes, header_bytes}
-use Rattle.log_disk.specs.Disk.{Disk, with_bytes}
+use Rattle.log_disk.specs.Disk.{with_bytes}
 use Rattle.log_disk.specs.declared.refusal.DiskRefusal.{DiskRefusal}
 use Rattle.log_partition.specs.Headers.{padding}
 use Rattle.epoch_room.specs.Gate.{gate, HasBytes, IsUngated, LeavesSealing}
-use Rattle.epoch_room.specs.RowWrites.{SealsRows, WritesRows}
+use Rattle.epoch_room.specs.RowWrites.{WritesRows}
 use Rattle.epoch_room.proofs.Gates.{still_unseen}
 use Rattle.epoch_room.proofs.MergedHeaders.{header_cut}
 use Rattle.epoch_room.proofs.SealedRows.{header_fits, seals_refused, seals_then}

@@ -1,4 +1,4 @@
-use Rattle.std.proofs.Common.{◌≡◌, ◌+◌, ◌-◌, ◌*◌, ◌<◌, ◌≤◌, ◌++◌, ◌∷◌, [], ℕ, List, Some, None, Ok, Err, Result, true, false, drop, take, refl, sym, subst, ap, ◌∙◌, arith}
+use Rattle.std.proofs.Common.{◌≡◌, ◌+◌, ◌-◌, ◌*◌, ◌≤◌, ◌++◌, ◌∷◌, [], ℕ, Some, Ok, Err, Result, true, drop, take, refl, sym, subst, ap, ◌∙◌, arith}
 use Rattle.std.specs.Prelude.{IsErrOf, OnOk}
 use Rattle.fine_model.specs.declared.Mark.TheVariants as mark
 use Rattle.fine_model.specs.Boards.{set_of}

@@ -1,4 +1,4 @@
-use Rattle.std.proofs.Common.{◌≡◌, ◌∙◌, arith}
+use Rattle.std.proofs.Common.{◌∙◌, arith}
 use Rattle.epoch_room.proofs.AdoptedSizes.{none_needed, some_needed}
 use Rattle.epoch_room.proofs.room.adopting.regions_for.Goals as goal
 

@@ -64,7 +64,7 @@ any_insert P [] y ys any = any_cons P y ys any
 any_insert P (x ∷ xs) y ys (zero, z, low, is, holds) = (zero, z, omega arith, is, holds)
 any_insert P (x ∷ xs) y ys (suc k, z, low, is, holds) = any_cons P x ((xs ++ y ∷ []) ++ ys) (any_insert P xs y ys (k, z, omega (arith, low), is, holds))
 
-names_more : (parts : List Part) (p : Part) (retired : List Part) (eye : ℕ × List ℕ) → NamesWhole (parts ++ retired) eye → NamesWhole ((parts ++ p ∷ []) ++ retired) eye
+pub names_more : (parts : List Part) (p : Part) (retired : List Part) (eye : ℕ × List ℕ) → NamesWhole (parts ++ retired) eye → NamesWhole ((parts ++ p ∷ []) ++ retired) eye
 names_more parts p retired eye names =
     all_map (λ r. Any (λ q. Contains (regions_of q) r × AllByRecursion (Contains eye.1) (regions_of q)) (parts ++ retired)) (λ r. Any (λ q. Contains (regions_of q) r × AllByRecursion (Contains eye.1) (regions_of q)) ((parts ++ p ∷ []) ++ retired))
     (λ r any. any_insert (λ q. Contains (regions_of q) r × AllByRecursion (Contains eye.1) (regions_of q)) parts p retired any) eye.1 names

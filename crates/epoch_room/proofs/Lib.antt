@@ -1,4 +1,8 @@
 pub mod Added
+pub mod Adopted
+pub mod AdoptedImages
+pub mod AdoptedParts
+pub mod AdoptedSizes
 pub mod AllErased
 pub mod Appending
 pub mod Arranging
@@ -25,6 +29,7 @@ pub mod Joining
 pub mod Kept
 pub mod Led
 pub mod LedParts
+pub mod LongBodies
 pub mod Longer
 pub mod MergeFits
 pub mod MergedHeaders
@@ -36,6 +41,7 @@ pub mod Reading
 pub mod Retired
 pub mod Returning
 pub mod SealedJobs
+pub mod SealedRows
 pub mod SealingJobs
 pub mod Seating
 pub mod Spare

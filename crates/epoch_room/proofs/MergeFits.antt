@@ -31,7 +31,7 @@ find_least p a (suc n) k low high passes others = elim (cases_lt a k) as (λ _. 
 is_one : (n : ℕ) → (n == 1) ≡ false → n ≢ 1
 is_one n e is = true≢false (sym (eq-eqb n 1 is) ∙ e)
 
-not_fit : (a b : ℕ) → b < a → nat_le a b ≡ false
+pub not_fit : (a b : ℕ) → b < a → nat_le a b ≡ false
 not_fit a b h = grind (arith, h)
 
 too_long : (a b : ℕ) → nat_le a b ≡ false → b < a

@@ -114,7 +114,7 @@ ordered_is : (ordered : Bool) (most : ℕ) (needed : Option ℕ) (k : ℕ) → c
 ordered_is true most needed k is = is
 ordered_is false most needed k is = absurd (let e : ◌≡◌ {A = Option ℕ} None (Some k) = is in cc)
 
-own_regions : (k : ℕ) (free : List ℕ) → 1 ≤ k → k ≤ length free → slice_index free 0 ∷ take (k - 1) (take (k - 1) (drop 1 free) ++ replicate (7 - (k - 1)) 0) ≡ take k free
+pub own_regions : (k : ℕ) (free : List ℕ) → 1 ≤ k → k ≤ length free → slice_index free 0 ∷ take (k - 1) (take (k - 1) (drop 1 free) ++ replicate (7 - (k - 1)) 0) ≡ take k free
 own_regions zero free low enough = absurd (omega (arith, low))
 own_regions (suc m) [] low enough = absurd (omega (arith, enough))
 own_regions (suc m) (x ∷ xs) low enough =
@@ -122,11 +122,11 @@ own_regions (suc m) (x ∷ xs) low enough =
     ap (λ n. x ∷ take n (take n xs ++ replicate (7 - n) 0)) e
     ∙ ap (λ ys. x ∷ ys) (take_at (take m xs) (replicate (7 - m) 0) m (omega (arith, enough, length-take m xs)))
 
-drop_zeros : (n : ℕ) → AllByRecursion (λ (r : ℕ). r ≡ 0) (replicate n 0)
+pub drop_zeros : (n : ℕ) → AllByRecursion (λ (r : ℕ). r ≡ 0) (replicate n 0)
 drop_zeros zero = tt
 drop_zeros (suc n) = (refl, drop_zeros n)
 
-counted_by : (k : ℕ) → 1 ≤ k → k < 9 → IsTrue (is_counted (cond (k == 1) mark.Two mark.Three) k)
+pub counted_by : (k : ℕ) → 1 ≤ k → k < 9 → IsTrue (is_counted (cond (k == 1) mark.Two mark.Three) k)
 counted_by k low high = by (k == 1) refl
   where
     many : (k == 1) ≡ false → 2 ≤ k

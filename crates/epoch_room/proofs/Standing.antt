@@ -45,11 +45,11 @@ small_rows region_len image (p ∷ parts) rows is =
 same_parts : (a b : List Part) → ◌≡◌ {A = Result (List Part) Damage} (Ok a) (Ok b) → a ≡ b
 same_parts a b e = cc
 
-nothing_more : (rows : List Row) (n : ℕ) → rows ++ all_rows (upto [] n) ≡ rows
+pub nothing_more : (rows : List Row) (n : ℕ) → rows ++ all_rows (upto [] n) ≡ rows
 unfolding upto
 nothing_more rows n = append-nil rows
 
-same_log : (rows : List Row) (n : ℕ) → Agrees rows (rows ++ all_rows (upto [] n))
+pub same_log : (rows : List Row) (n : ℕ) → Agrees rows (rows ++ all_rows (upto [] n))
 same_log rows n = subst (Agrees rows) (sym (nothing_more rows n)) (Agrees-refl rows)
 
 module _ (disk : Disk) (told : Told) (sound : IsToldOf disk told) (nothing : disk.unsynced ≡ []) (no_eyes : disk.eyes ≡ []) (live retired : List Part) (holds : HoldsParts disk.region_len told.bytes live retired) where

@@ -12,7 +12,9 @@ pub mod Returns
 pub mod Closing
 pub mod Erasing
 pub mod BodyWrites
+pub mod RowWrites
 pub mod MergeSteps
 pub mod Laws
 pub mod MergeSealing
 pub mod Stuck
+pub mod Adopting

@@ -22,7 +22,7 @@ fn is_lead(leads: &[u32], region: u32) -> bool
 }
 
 /// Adds the regions of a part.
-fn add_part(set: &mut RegionSet, part: &Part)
+pub fn add_part(set: &mut RegionSet, part: &Part)
     requires has { HasRegions part.now }
     requires small { AllByRecursion (λ region. region < most_in_log) (regions_of part.now) }
     ensures { set.new ≡ set_of (set.old ++ regions_of part.now) }

@@ -11,8 +11,9 @@ mod led_parts;
 mod partition;
 mod regions;
 mod room;
+mod row_writes;
 mod sealing;
 pub mod stuck_law;
 
-pub use answers::{Counts, EraseFault, Fit, RoomFault, Stamp};
+pub use answers::{AdoptFault, Counts, EraseFault, Fit, RoomFault, Stamp};
 pub use room::Room;

@@ -19,6 +19,7 @@ ghost use Rattle.epoch_room.specs.Gate.{KeepsBeside};
 ghost use Rattle.epoch_room.specs.Meaning.{HoldsEpoch, Keeps, Seals, StandsAtFirst, StandsForMore};
 ghost use Rattle.epoch_room.specs.Views.{MakesView, ViewsLog, ViewsOr};
 
+mod adopting;
 mod board;
 mod erasing;
 mod merge_sealing;

@@ -4,12 +4,21 @@
 //! read gives nor in what is unsynced.
 
 ghost use Rattle.std.specs.Prelude.{◌+◌, ◌≡◌, ◌<◌, ◌≤◌, [], ◌∷◌, length, OnOk, IsErrOf};
+ghost use Rattle.fine_model.specs.Regions.{body_start};
 ghost use Rattle.log_disk.specs.Disk.{IsSound, IsUnseen, SameBeside, CountsOwn, with_bytes};
 ghost use Rattle.log_disk.specs.Moments.{ContinuesOn};
 ghost use Rattle.epoch_room.specs.Gate.{LeavesBehind, LeavesNow, LeavesOpening, LeavesSealing, HasBytes, DirtiesOnly, KeepsBeside, IsUngated, gate};
 
 use fine_model::format::SEALED_GATE;
+use fine_model::{Mark, body_start};
 use log_disk::{DiskRefusal, LogDisk};
+
+/// How many bytes a header has behind the gate.
+pub fn header_len(mark: Mark) -> usize
+    ensures { 1 + result ≡ body_start mark }
+{
+    body_start(mark) as usize - 1
+}
 
 /// Opens the gate of a region in which a part was written from byte 1 on: syncs, writes the gate, and syncs.
 ///

@@ -5,7 +5,7 @@ ghost use Rattle.std.specs.List.{AllByRecursion, position_or_len};
 ghost use Rattle.fine_model.specs.Boards.{set_of};
 ghost use Rattle.fine_model.specs.declared.Part.{Part};
 ghost use Rattle.fine_model.specs.Jobs.{taken_by};
-ghost use Rattle.fine_model.specs.Regions.{body_start, header_bytes, body_len};
+ghost use Rattle.fine_model.specs.Regions.{header_bytes, body_len};
 ghost use Rattle.fine_model.specs.RowBytes.{most_in_log};
 ghost use Rattle.log_disk.specs.Disk.{SameBeside, with_bytes};
 ghost use Rattle.epoch_room.specs.Gate.{gate, DirtiesOnly, HasBytes, KeepsBeside, LeavesSealing};
@@ -14,18 +14,11 @@ ghost use Rattle.epoch_room.specs.MergeSealing.{IsWrittenOut, SealsJob, SealsJob
 
 use super::Room;
 use crate::answers::RoomFault;
-use crate::sealing::seal_region;
-use fine_model::{Header, Job, Mark, Part, Parts, body_start};
+use crate::sealing::{header_len, seal_region};
+use fine_model::{Header, Job, Part, Parts};
 use log_disk::{DiskRefusal, LogDisk};
 use log_partition::header_bytes;
 use partition_hold::RegionSet;
-
-/// How many bytes a header has behind the gate.
-fn header_len(mark: Mark) -> usize
-    ensures { 1 + result ≡ body_start mark }
-{
-    body_start(mark) as usize - 1
-}
 
 /// The place of the part that a region leads.
 fn position_of_lead(parts: &[Part], lead: u32) -> Option<usize>

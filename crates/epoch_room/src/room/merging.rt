@@ -65,7 +65,7 @@ fn first_job(parts: &[Part], from: u64, is_shut: bool) -> Option<Job>
 }
 
 /// The least number of regions, up to eight, in which so many bytes fit.
-fn regions_needed(region_len: u64, len: u64) -> Option<u8>
+pub fn regions_needed(region_len: u64, len: u64) -> Option<u8>
     requires len { len < 68719476736 }
     requires short { 1 ≤ region_len }
     requires long { region_len ≤ longest_region }
@@ -103,7 +103,7 @@ fn regions_for(measure: Measure, region_len: u64, free: u32) -> Option<u8>
 }
 
 /// The mark of a partition over so many regions.
-fn mark_for(regions: u8) -> Mark
+pub fn mark_for(regions: u8) -> Mark
     ensures { result ≡ (if regions == 1 then mark.Two else mark.Three) }
 {
     if regions == 1 { Mark::Two } else { Mark::Three }

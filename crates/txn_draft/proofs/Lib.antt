@@ -8,3 +8,4 @@ pub mod Lawful
 pub mod Local
 pub mod Taken
 pub mod Lasting
+pub mod Ended

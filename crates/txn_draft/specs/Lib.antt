@@ -6,3 +6,4 @@ pub mod Scans
 pub mod Laws
 pub mod Standing
 pub mod Twice
+pub mod Once

@@ -59,7 +59,7 @@ fn text(alloc: Global, text: &[u8]) -> Result<Bytes, Fail>
 }
 
 /// A call that sets a key.
-fn put(alloc: Global, key: &[u8], value: &[u8]) -> Result<Call, Fail>
+pub fn put(alloc: Global, key: &[u8], value: &[u8]) -> Result<Call, Fail>
     requires key { FitsKey key.now }
     requires value { FitsValue value.now }
     ensures fits { IfOk result FitsCall }

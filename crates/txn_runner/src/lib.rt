@@ -1,0 +1,8 @@
+//! Running a script on a room: what a run of lanes is, and how its lanes end.
+#![tactic(auto)]
+
+mod ended;
+mod laws;
+
+pub use ended::EndedLanes;
+pub use laws::{behind_law, in_turn_law, ready_law, run_law};

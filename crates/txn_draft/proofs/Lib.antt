@@ -6,6 +6,4 @@ pub mod Rested
 pub mod Gathered
 pub mod Lawful
 pub mod Local
-pub mod Taken
 pub mod Lasting
-pub mod Ended

@@ -5,5 +5,3 @@ pub mod Steps
 pub mod Scans
 pub mod Laws
 pub mod Standing
-pub mod Twice
-pub mod Once

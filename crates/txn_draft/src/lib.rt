@@ -7,8 +7,6 @@ mod laws;
 mod scanning;
 mod standing;
 mod step;
-#[cfg(test)]
-mod tests;
 mod using;
 
 pub use draft::Draft;

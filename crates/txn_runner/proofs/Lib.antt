@@ -1,2 +1,4 @@
+pub mod Few
+pub mod Nothing
 pub mod Runs
 pub mod Turns

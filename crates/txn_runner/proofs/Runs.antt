@@ -29,8 +29,9 @@ use Rattle.fine_model.proofs.Epochs.{legal_of, sealed_from, sealed_least}
 use Rattle.epoch_room.specs.Meaning.{Stands, StandsAtFirst, StandsTold, StandsWhere, origin_of}
 use Rattle.epoch_room.specs.Value.{RoomValue, made}
 use Rattle.epoch_room.specs.Whole.{HoldsParts}
-use Rattle.txn_runner.specs.Law.{BehindLaw, DoneLaw, ReadyLaw, RunLaw, return_of}
+use Rattle.txn_runner.specs.Law.{BehindLaw, DoneLaw, ReadyLaw, RunLaw, StatusLaw, return_of}
 use Rattle.txn_runner.specs.Runs.{IsReady, IsToSeal, OwnRose, RunsLanes}
+use Rattle.txn_runner.proofs.Few.{few_of_one}
 
 -- ---- what a room stands for, where its disk tells its bytes
 
@@ -90,6 +91,10 @@ disk_of status os (Some run_fault.Memory) h e = absurd (omega (arith, h, e))
 disk_of status os (Some run_fault.Disk) h e = refl
 disk_of status os (Some (run_fault.Damaged what)) h e = absurd (omega (arith, h, e))
 
+told_by_status : (status : ℕ) (os : List Outcome) (fault : Option RunFault) → HasStatus status os fault → (fault ≡ Some run_fault.Disk) ⊎ (fault ≡ Some run_fault.Memory) → (status ≡ 1) ⊎ (status ≡ 6)
+told_by_status status os fault has (inl is) = inr (subst (HasStatus status os) is has)
+told_by_status status os fault has (inr is) = inl (subst (HasStatus status os) is has)
+
 not_memory : (fault : Option RunFault) → fault ≡ Some run_fault.Disk → fault ≡ Some run_fault.Memory → ⊥
 not_memory fault a b = let e : ◌≡◌ {A = Option RunFault} (Some run_fault.Disk) (Some run_fault.Memory) = sym a ∙ b in cc
 
@@ -106,10 +111,10 @@ module _ (script : List ScriptTxn) (options : Options) (old new : RoomValue) (ra
   len = ap (λ (x : RoomState). x.region_len) ready.whole.of_disk
 
   len_now : new.room.region_len ≡ old.disk.region_len
-  len_now = ap (λ (x : RoomState). x.region_len) r.whole.of_disk ∙ r.beside.region_len
+  len_now = ap (λ (x : RoomState). x.region_len) r.adds.whole.of_disk ∙ r.adds.beside.region_len
 
   low : old.room.sealed ≤ ran.durable
-  low = subst (λ d. old.room.sealed ≤ d) (sym r.durable) (sealed_from old.room.sealed new.room.sealed r.history r.outcomes.epochs r.sealed)
+  low = subst (λ d. old.room.sealed ≤ d) (sym r.durable) (sealed_from old.room.sealed new.room.sealed r.history r.adds.epochs r.adds.sealed)
 
   -- that log is sound
   module _ (after : Told) (first : List Row) (e : ℕ) (last : new.disk.told ≡ Some after) (shows : Shows old.disk.region_len before.bytes e first) (sound : IsSound first) where
@@ -123,13 +128,13 @@ module _ (script : List ScriptTxn) (options : Options) (old new : RoomValue) (ra
     sealed = (told_of old before before first e [] entry told stands).stands.counts.sealed
 
     again : (t : Told) × (new.entry.told ≡ Some t)
-    again = image_told new.entry before.bytes (ap (λ o. o.image) r.beside.origin ∙ image_of old.entry before entry)
+    again = image_told new.entry before.bytes (ap (λ o. o.image) r.adds.beside.origin ∙ image_of old.entry before entry)
 
     clock : clock_of again.0 ≡ clock_of before
-    clock = sym (clock_is new.entry again.0 again.1) ∙ (ap (λ o. o.clock) r.beside.origin ∙ clock_is old.entry before entry)
+    clock = sym (clock_is new.entry again.0 again.1) ∙ (ap (λ o. o.clock) r.adds.beside.origin ∙ clock_is old.entry before entry)
 
     now : StandsTold new.room again.0 after first e r.history
-    now = told_of new again.0 after first e r.history again.1 last (r.stands first e began stands)
+    now = told_of new again.0 after first e r.history again.1 last (r.adds.stands first e began stands)
 
     every_image : (image : List (List ℕ)) → IsImageSince (clock_of before) after image → ShowsSome old.disk.region_len first r.history e (last_epoch e r.history) image
     every_image image since = subst (λ n. ShowsSome n first r.history e (last_epoch e r.history) image) len_now
@@ -196,7 +201,7 @@ run_law script options old new ran r source output before after first e ready to
     from_entry = subst (λ n. n ≤ ran.durable) (sealed script options old new ran r before ready told after first e last shows sound) (low script options old new ran r before ready told);
   };
   caused = caused script options old new ran r before ready told after first e last shows sound;
-  few_each = r.few_each;
+  few_each = λ one. few_of_one script (all_outcomes script ran.outcomes) old.room.sealed options.group r.history one r.outcomes r.few_each;
   failed = failed script options old new ran r before ready told after first e last shows sound source output;
   all_run = r.all_run;
   all_durable = λ none. durable_to script options old new ran r before ready told after first e last shows sound (inl none);
@@ -217,10 +222,19 @@ behind_law script options old new ran r before parts ready told is_chain =
       outcomes = subst (λ n. AreOutcomes script n (all_outcomes script ran.outcomes) r.history) at r.outcomes;
       durable = record {
         from_entry = subst (λ n. n ≤ ran.durable) at (low script options old new ran r before ready told);
-        to_last = subst (λ n. ran.durable ≤ last_epoch n r.history) at (subst (λ d. d ≤ last_epoch old.room.sealed r.history) (sym r.durable) (sealed_least old.room.sealed new.room.sealed r.history r.sealed));
+        to_last = subst (λ n. ran.durable ≤ last_epoch n r.history) at (subst (λ d. d ≤ last_epoch old.room.sealed r.history) (sym r.durable) (sealed_least old.room.sealed new.room.sealed r.history r.adds.sealed));
         all = λ none. r.all_durable (inl none) ∙ ap (λ n. last_epoch n r.history) at;
       };
       all_run = r.all_run;
       damage = λ what is. subst (λ n. IsDamageIn (Ok script) ⊥ r.history n before.bytes parts what) (len script options old new ran r before ready told)
           (r.damage.is what before parts is told (subst (λ n. chain n before.bytes ≡ Ok parts) (sym (len script options old new ran r before ready told)) is_chain));
+      unsound = λ what is e first shows sound.
+          let began = subst (λ d. Began (origin_of d) e first) ready.at_entry (began_of old.disk before e first told shows sound) in
+          r.fault.unsound what is first e began (ready.stands first e began);
     }
+
+pub status_law : StatusLaw
+status_law script options old new ran r status has = record {
+  disk = λ six. rose old.disk.faults new.disk.faults (r.fault.only_risen (disk_of status (all_outcomes script ran.outcomes) ran.fault has six));
+  told = λ risen. told_by_status status (all_outcomes script ran.outcomes) ran.fault has (r.fault.where_risen (omega (arith, risen)));
+}

@@ -1,15 +1,16 @@
 -- What a run of lanes is in the words of the theorems.
-use Rattle.std.specs.Prelude.{◌≡◌, ◌⊎◌, ℕ, ◌-◌, ◌≤◌, List, Some, Ok, None}
+use Rattle.std.specs.Prelude.{◌≡◌, ◌⊎◌, ℕ, ◌-◌, ◌≤◌, List, [], Option, Some, Ok, None}
 use Rattle.log_disk.specs.Disk.{Disk, Told, IsImageNow, IsImageSince, clock_of}
 use Rattle.fine_model.specs.declared.Damage.{Damage}
 use Rattle.fine_model.specs.declared.Options.{Options}
 use Rattle.fine_model.specs.declared.Part.{Part}
 use Rattle.fine_model.specs.declared.Ran.{Ran}
 use Rattle.fine_model.specs.declared.Row.{Row}
+use Rattle.fine_model.specs.declared.RunFault.{RunFault}
 use Rattle.fine_model.specs.declared.RunFault.TheVariants as run_fault
 use Rattle.fine_model.specs.declared.ScriptTxn.{ScriptTxn}
 use Rattle.fine_model.specs.Chain.{Shows, chain, chain_end}
-use Rattle.fine_model.specs.Damages.{IsDamageIn, IsDurableFor}
+use Rattle.fine_model.specs.Damages.{IsDamageIn, IsDurableFor, IsUnsound}
 use Rattle.fine_model.specs.Faults.{HasRisen, last_count}
 use Rattle.fine_model.specs.Headline.{Start, Return, IsDoneRun, IsRunWith, HasStatus, causes_of}
 use Rattle.fine_model.specs.History.{Commit}
@@ -64,6 +65,7 @@ pub record RunsBehind (script : List ScriptTxn) (region_len : ℕ) (before : Tol
   pub durable : IsDurableFor parts history ran.fault ran.durable
   pub all_run : ran.fault ≡ None → AllRun (all_outcomes script ran.outcomes)
   pub damage : (what : Damage) → ran.fault ≡ Some (run_fault.Damaged what) → IsDamageIn (Ok script) ⊥ history region_len before.bytes parts what
+  pub unsound : (what : Damage) → ran.fault ≡ Some (run_fault.Damaged what) → IsUnsound region_len before.bytes
 
 -- on each log that the disk told at entry
 abbrev pub BehindLaw : Type 0
@@ -71,3 +73,26 @@ BehindLaw =
     (script : List ScriptTxn) (options : Options) (old new : RoomValue) (ran : Ran) (r : RunsLanes script options old new ran)
     (before : Told) (parts : List Part) → IsReady old → old.disk.told ≡ Some before → chain old.disk.region_len before.bytes ≡ Ok parts
     → RunsBehind script old.disk.region_len before parts ran r.history
+
+-- ---- on every disk, whatever it tells
+
+-- What a status tells of the disk's count of faults: 6 comes only where it rose, and where it is greater than it was 6 comes, or 1 before it.
+pub record TellsDisk (old new : Disk) (status : ℕ) : Type 0 where
+  pub disk : status ≡ 6 → (1 ≤ new.faults - old.faults) ⊎ (last_count ≤ new.faults)
+  pub told : 1 ≤ new.faults - old.faults → (status ≡ 1) ⊎ (status ≡ 6)
+
+abbrev pub StatusLaw : Type 0
+StatusLaw =
+    (script : List ScriptTxn) (options : Options) (old new : RoomValue) (ran : Ran) (r : RunsLanes script options old new ran) (status : ℕ)
+    → HasStatus status (all_outcomes script ran.outcomes) ran.fault → TellsDisk old.disk new.disk status
+
+-- ---- what leaves a room as it is
+
+-- nothing is run, since there is nothing, or since memory ran out before the first transaction
+abbrev pub nothing_ran : ℕ → Option RunFault → Ran
+nothing_ran sealed fault = record { outcomes = []; durable = sealed; fault = fault }
+
+abbrev pub NothingLaw : Type 0
+NothingLaw =
+    (script : List ScriptTxn) (options : Options) (room : RoomValue) → IsReady room
+    → RunsLanes script options room room (nothing_ran room.room.sealed (Some run_fault.Memory)) × RunsLanes [] options room room (nothing_ran room.room.sealed None)

@@ -1,12 +1,14 @@
 -- What a run of a script on a room does.
-use Rattle.std.specs.Prelude.{◌≡◌, ◌⊎◌, ℕ, ◌-◌, ◌<◌, ◌≤◌, false, true, List, [], length, Option, Some, None, Ok}
-use Rattle.std.specs.List.{list_all}
+use Rattle.std.specs.Prelude.{◌≡◌, ◌⊎◌, ℕ, ◌+◌, ◌-◌, ◌<◌, ◌≤◌, ◌==◌, ◌&&◌, false, true, List, [], length, count_by, Option, Some, None, Ok}
+use Rattle.std.specs.List.{AllByRecursion, AllZip, list_all}
 use Rattle.log_disk.specs.Disk.{Told}
+use Rattle.fine_model.specs.declared.Call.{Call}
 use Rattle.fine_model.specs.declared.Damage.{Damage}
 use Rattle.fine_model.specs.declared.Options.{Options}
 use Rattle.fine_model.specs.declared.Outcome.{Outcome}
 use Rattle.fine_model.specs.declared.Part.{Part}
 use Rattle.fine_model.specs.declared.Ran.{Ran}
+use Rattle.fine_model.specs.declared.Reply.{Reply}
 use Rattle.fine_model.specs.declared.Row.{Row}
 use Rattle.fine_model.specs.declared.RunFault.{RunFault}
 use Rattle.fine_model.specs.declared.RunFault.TheVariants as run_fault
@@ -18,9 +20,11 @@ use Rattle.fine_model.specs.Chain.{chain}
 use Rattle.fine_model.specs.Damages.{IsDamageIn}
 use Rattle.fine_model.specs.Faults.{HasRisen, last_count}
 use Rattle.fine_model.specs.History.{Commit, last_epoch}
-use Rattle.fine_model.specs.Outcomes.{AllRun, AreOutcomes, AtMostEach, IsOneLane, lanes_not_run}
+use Rattle.fine_model.specs.Map.{Pair}
+use Rattle.fine_model.specs.Outcomes.{AllRun, AreOutcomes, EpochsFollow, lanes_not_run}
 use Rattle.fine_model.specs.Report.{all_outcomes}
 use Rattle.fine_model.specs.Room.{IsSealedUpTo}
+use Rattle.fine_model.specs.Store.{answer}
 use Rattle.epoch_room.specs.Meaning.{Stands, origin_of}
 use Rattle.epoch_room.specs.Value.{RoomValue}
 use Rattle.epoch_room.specs.Whole.{IsWhole}
@@ -51,6 +55,17 @@ pub record LeavesBeside (old new : RoomValue) : Type 0 where
   pub no_job : new.room.job ≡ None
   pub origin : origin_of new.entry ≡ origin_of old.entry
 
+-- What the room has of the history that was added, whoever added it: a place for each commit, epochs that follow on those at entry, up to which one
+-- they are sealed, and as many entries that wait as the history has in the open epoch. On a sound log it stands for this history.
+pub record AddsHistory (old new : RoomValue) (history : List Commit) : Type 0 where
+  pub epochs : EpochsFollow old.room.sealed history
+  pub sealed : IsSealedUpTo old.room.sealed history new.room.sealed
+  pub places : new.room.places ≡ length history
+  pub waiting : new.room.waiting ≡ count_by (λ c. c.epoch == new.room.sealed + 1) history
+  pub stands : OfSound old (λ first e. Stands new first e history)
+  pub whole : IsWhole new
+  pub beside : LeavesBeside old new
+
 -- the disk's own count of faults rose
 abbrev pub OwnRose : RoomValue → RoomValue → Type 0
 OwnRose old new = HasRisen old.disk.own_faults new.disk.own_faults
@@ -74,22 +89,35 @@ pub record NamesDamage (script : List ScriptTxn) (history : List Commit) (old : 
 abbrev pub IsToSeal : RoomValue → RoomValue → Option RunFault → Type 0
 IsToSeal old new fault = (fault ≡ None) ⊎ ((fault ≡ Some run_fault.Memory → ⊥) × (OwnRose old new → ⊥))
 
--- The run. Its outcomes are those of one history, for which the room then stands, and each refusal has its cause. No clause names a thread, an
--- order across lanes, a try or a merge. The list of outcomes is shorter than the script only where memory ran out, and what is missing was not run.
+-- memory ran out before the list of outcomes was had, and nothing was run
+abbrev pub IsNotBegun : Ran → Type 0
+IsNotBegun ran = (ran.fault ≡ Some run_fault.Memory) × (ran.outcomes ≡ [])
+
+-- no epoch of a history has more entries of one lane than these
+abbrev pub AreFewOfLanes : ℕ → List Commit → Type 0
+AreFewOfLanes most history = (lane e : ℕ) → count_by (λ c. (c.entry.lane == lane) && (c.epoch == e)) history ≤ most
+
+-- a reply that the store has to a call, on some map
+abbrev pub IsReplyTo : Call → Reply → Type 0
+IsReplyTo c r = (pairs : List Pair) × (r ≡ (answer pairs c).0)
+
+-- each call of a commit has its reply
+abbrev pub IsReplied : Commit → Type 0
+IsReplied c = AllZip IsReplyTo c.entry.calls c.entry.replies
+
+-- The run. Its outcomes are those of one history, which the room was given, and each refusal has its cause. No clause names a thread, an order
+-- across lanes, a try or a merge. There is an outcome for each transaction, unless memory ran out before the first.
 pub record RunsLanes (script : List ScriptTxn) (options : Options) (old new : RoomValue) (ran : Ran) : Type 0 where
   pub history : List Commit
+  pub adds : AddsHistory old new history
   pub outcomes : AreOutcomes script old.room.sealed (all_outcomes script ran.outcomes) history
-  pub within : length ran.outcomes ≤ length script
-  pub each_told : ¬ (ran.fault ≡ Some run_fault.Memory) → length ran.outcomes ≡ length script
+  pub each_told : (length ran.outcomes ≡ length script) ⊎ IsNotBegun ran
+  pub replied : AllByRecursion IsReplied history
   pub all_run : ran.fault ≡ None → AllRun (all_outcomes script ran.outcomes)
-  pub few_each : IsOneLane script → AtMostEach options.group history
-  pub sealed : IsSealedUpTo old.room.sealed history new.room.sealed
+  pub few_each : AreFewOfLanes options.group history
   pub durable : ran.durable ≡ new.room.sealed
   pub all_durable : IsToSeal old new ran.fault → ran.durable ≡ last_epoch old.room.sealed history
-  pub stands : OfSound old (λ first e. Stands new first e history)
   pub causes : (after : Told) → new.disk.told ≡ Some after
       → OfSound old (λ first e. HaveCauses old.room.region_len first after.bytes script (all_outcomes script ran.outcomes) history ran.durable)
   pub fault : TellsFault script (all_outcomes script ran.outcomes) old new ran.fault
   pub damage : NamesDamage script history old ran.fault
-  pub whole : IsWhole new
-  pub beside : LeavesBeside old new

@@ -1,6 +1,6 @@
 //! Laws of runs, each the contract of a function that does nothing.
 
-ghost use Rattle.txn_runner.specs.Law.{BehindLaw, DoneLaw, ReadyLaw, RunLaw};
+ghost use Rattle.txn_runner.specs.Law.{BehindLaw, DoneLaw, NothingLaw, ReadyLaw, RunLaw, StatusLaw};
 ghost use Rattle.txn_runner.specs.Turns.{InTurnLaw};
 
 /// On a room that was just made of a log a run may begin.
@@ -18,6 +18,16 @@ pub fn run_law()
 /// On each log that the disk told at entry, sound or not, a run of lanes has what a report says beside its text, and names no damage that is not there.
 pub fn behind_law()
     ensures { BehindLaw }
+{}
+
+/// On every disk the status of a run tells of the disk's count of faults: 6 only where it rose, and 6, or 1 before it, where it is greater.
+pub fn status_law()
+    ensures { StatusLaw }
+{}
+
+/// A run of no transaction, and one for which there was no memory to begin, leave the room as it is.
+pub fn nothing_law()
+    ensures { NothingLaw }
 {}
 
 /// Where transactions are run in the order of the script, their outcomes are those of one history: that of their commits, one behind the other.

@@ -13,12 +13,12 @@ use Rattle.btree_nodes.specs.declared.fault.TreeFault.TheVariants.{Source, Unfit
 use Rattle.btree_nodes.specs.Trees.{Holds, Serves}
 use Rattle.txn_draft.specs.Answers.{AnswersSoundly}
 use Rattle.txn_draft.specs.Drafts.{DraftValue, IsAnswered, blank, entry_of}
-use Rattle.txn_draft.specs.Once.{IsReady, IsRun, commit_of}
+use Rattle.txn_draft_tests.specs.Once.{IsReady, IsRun, commit_of}
 use Rattle.txn_draft.specs.Standing.{IsLeft, StandsFor}
 use Rattle.txn_draft.specs.Uses.{IsUsed, Undoes, UsedAfter}
 use Rattle.txn_draft.proofs.Lasting.{holds_law, serves_law, settle_law, undo_law}
 use Rattle.txn_draft.proofs.Lawful.{blank_law, next_law, taken_law}
-use Rattle.txn_draft.proofs.Taken.{restored}
+use Rattle.txn_draft_tests.proofs.Taken.{restored}
 
 -- after each answer, what undoing leaves is known
 undoes_after : {A : Type 0} (low : ℕ) (taken b : Cache) (rows : List Row) (r : Result A TreeFault) → UsedAfter low taken b rows r → Undoes low taken b

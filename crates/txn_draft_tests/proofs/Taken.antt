@@ -16,7 +16,7 @@ use Rattle.btree_nodes.specs.Trees.{Serves, Holds, Restores, node_at}
 use Rattle.btree_nodes.proofs.Loads.{none_or_some}
 use Rattle.txn_draft.specs.Answers.{AnswersSoundly}
 use Rattle.txn_draft.specs.Drafts.{DraftValue, IsAnswered}
-use Rattle.txn_draft.specs.Twice.{AnsweredOr}
+use Rattle.txn_draft_tests.specs.Twice.{AnsweredOr}
 use Rattle.txn_draft.specs.Uses.{IsUsed}
 
 -- after each answer, what undoing restores is what the rows leave

@@ -7,15 +7,15 @@ ghost use Rattle.fine_model.specs.History.{Commit};
 ghost use Rattle.fine_model.specs.Pushed.{key_of};
 ghost use Rattle.fine_model.specs.Trees.{bucket_of};
 ghost use Rattle.txn_draft.specs.Drafts.{blank, is_scan};
-ghost use Rattle.txn_draft.specs.Once.{IsReady, IsRun};
+ghost use Rattle.txn_draft_tests.specs.Once.{IsReady, IsRun};
 
 use super::fresh::Fresh;
 use super::twice::put;
-use crate::{Draft, settle, undo};
 use btree_nodes::TreeFault;
 use fine_model::{Call, Entry, Reply, bucket_of};
 use node_cache::{Bucket, NodeSource};
 use std::test::*;
+use txn_draft::{Draft, settle, undo};
 
 /// Answers one call, and commits it under an epoch or takes it back. The bucket stands for the history with what was committed.
 fn run_once<S: NodeSource>(

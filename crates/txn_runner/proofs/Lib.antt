@@ -1,4 +1,6 @@
+pub mod CutShort
 pub mod Few
 pub mod Nothing
 pub mod Runs
+pub mod Soonest
 pub mod Turns

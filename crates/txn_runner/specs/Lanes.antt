@@ -1,7 +1,12 @@
 -- How the lanes of a run ended.
-use Rattle.std.specs.Prelude.{◌≡◌, ℕ, ◌-◌, ◌≤◌, nat_lt, if◌then◌else◌, List, [], ◌∷◌, fold, replicate, slice_get, unwrap_or, Option, None, Some}
+use Rattle.std.specs.Prelude.{◌≡◌, ◌⊎◌, ℕ, ◌-◌, ◌≤◌, nat_lt, Bool, true, false, if◌then◌else◌, is_some, List, [], ◌∷◌, length, count_by, fold, replicate, slice_get, unwrap_or, Option, None, Some, Contains}
+use Rattle.std.specs.List.{AllByRecursion, range_with_len}
+use Rattle.fine_model.specs.declared.Outcome.{Outcome}
+use Rattle.fine_model.specs.declared.Outcome.TheVariants as outcome
 use Rattle.fine_model.specs.declared.RunFault.{RunFault}
 use Rattle.fine_model.specs.declared.RunFault.TheVariants as run_fault
+use Rattle.fine_model.specs.declared.ScriptTxn.{ScriptTxn}
+use Rattle.fine_model.specs.Outcomes.{AllRun, lanes_not_run}
 
 -- the lanes that a script may name are numbered from 1 on
 abbrev pub most_lanes : ℕ
@@ -31,3 +36,34 @@ sooner a b = if nat_lt (rank b) (rank a) then b else a
 -- of equal ones that of the lowest lane
 unfoldable pub first_fault : List (Option RunFault) → Option RunFault
 first_fault faults = fold sooner None faults
+
+-- it is one of them, if any is told, and none would be told before it
+pub record IsSoonest (faults : List (Option RunFault)) (told : Option RunFault) : Type 0 where
+  pub among : (told ≡ None) ⊎ Contains faults told
+  pub soonest : AllByRecursion (λ fault. rank told ≤ rank fault) faults
+
+-- ---- what ended lanes leave
+
+-- what was not run is of lanes that have ended
+abbrev pub HaveEnded : List ScriptTxn → List Outcome → List (Option RunFault) → Type 0
+HaveEnded script outcomes faults = (i : ℕ) (txn : ScriptTxn) → slice_get script i ≡ Some txn → slice_get outcomes i ≡ Some outcome.NotRun → is_some (fault_of faults txn.lane) ≡ true
+
+abbrev pub is_disk : Option RunFault → Bool
+is_disk (Some run_fault.Disk) = true
+is_disk _ = false
+
+-- how many lanes a failed disk has ended
+abbrev pub lanes_failed : List (Option RunFault) → ℕ
+lanes_failed faults = count_by (λ lane. is_disk (fault_of faults lane)) (range_with_len 1 most_lanes)
+
+-- each fault that ended a lane has P
+abbrev pub EndedBy : (RunFault → Type 0) → List (Option RunFault) → Type 0
+EndedBy P faults = (fault : RunFault) → Contains faults (Some fault) → P fault
+
+-- Where no lane has ended, all was run. Where none has but by a failed disk, no more lanes were cut short than it ended.
+pub record CutShort (script : List ScriptTxn) (outcomes : List Outcome) (faults : List (Option RunFault)) : Type 0 where
+  pub all_run : EndedBy (λ fault. ⊥) faults → AllRun outcomes
+  pub few : EndedBy (λ fault. fault ≡ run_fault.Disk) faults → lanes_not_run script outcomes ≤ lanes_failed faults
+
+abbrev pub CutShortLaw : Type 0
+CutShortLaw = (script : List ScriptTxn) (outcomes : List Outcome) (faults : List (Option RunFault)) → length outcomes ≡ length script → HaveEnded script outcomes faults → CutShort script outcomes faults

@@ -1,7 +1,7 @@
 //! How the lanes of a run ended.
 
 ghost use Rattle.std.specs.Prelude.{◌≡◌, ◌-◌, is_some, slice_set, Some};
-ghost use Rattle.txn_runner.specs.Lanes.{IsLane, fault_of, first_fault, none_ended, rank, sooner};
+ghost use Rattle.txn_runner.specs.Lanes.{IsLane, IsSoonest, fault_of, first_fault, none_ended, rank, sooner};
 
 use fine_model::RunFault;
 use std::marker::Model;
@@ -71,13 +71,22 @@ impl EndedLanes {
         self.faults[usize::from(lane) - 1] = Some(fault);
     }
 
-    /// The fault that a run tells: of those that ended lanes want of memory, or else a failed disk, or else the damage of the lowest lane.
+    /// The soonest of all faults, by going through the lanes.
     #[tactic(auto, unfolding(crate::specs::Lanes::first_fault))]
-    pub fn fault(&self) -> Option<RunFault>
-        ensures first { result ≡ first_fault self.now }
+    fn first(&self) -> Option<RunFault>
+        ensures { result ≡ first_fault self.now }
     {
         self.faults
             .iter()
             .fold(None, |told, fault| sooner(told, *fault))
+    }
+
+    /// The fault that a run tells: of those that ended lanes want of memory, or else a failed disk, or else the damage of the lowest lane. `None` where
+    /// no lane has ended.
+    pub fn fault(&self) -> Option<RunFault>
+        ensures first { result ≡ first_fault self.now }
+        ensures soonest { IsSoonest self.now result }
+    {
+        self.first()
     }
 }

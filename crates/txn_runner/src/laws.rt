@@ -1,5 +1,6 @@
 //! Laws of runs, each the contract of a function that does nothing.
 
+ghost use Rattle.txn_runner.specs.Lanes.{CutShortLaw};
 ghost use Rattle.txn_runner.specs.Law.{BehindLaw, DoneLaw, NothingLaw, ReadyLaw, RunLaw, StatusLaw};
 ghost use Rattle.txn_runner.specs.Turns.{InTurnLaw};
 
@@ -33,4 +34,10 @@ pub fn nothing_law()
 /// Where transactions are run in the order of the script, their outcomes are those of one history: that of their commits, one behind the other.
 pub fn in_turn_law()
     ensures { InTurnLaw }
+{}
+
+/// Where each transaction that was not run is of a lane that has ended: with no lane ended all was run, and where lanes have ended by a failed disk
+/// alone, no more were cut short than it ended.
+pub fn cut_short_law()
+    ensures { CutShortLaw }
 {}

@@ -1,15 +1,14 @@
 -- What lanes that have ended leave.
-use Rattle.std.proofs.Common.{◌≡◌, ℕ, zero, suc, ◌-◌, ◌<◌, ◌≤◌, ◌==◌, ◌&&◌, ◌||◌, not, Bool, true, false, List, [], ◌∷◌, length, Option, Some, None, is_some, cond, refl, sym, ap, ◌∙◌, subst, true≢false, arith}
+use Rattle.std.proofs.Common.{◌≡◌, ℕ, zero, suc, ◌-◌, ◌≤◌, ◌==◌, ◌&&◌, ◌||◌, not, Bool, true, false, List, [], ◌∷◌, length, Option, Some, None, is_some, cond, refl, sym, ap, ◌∙◌, subst, true≢false, arith}
 use Rattle.std.specs.Prelude.{Contains, slice_get, unwrap_or, zip}
 use Rattle.std.specs.List.{list_any, range_with_len}
 use Rattle.std.proofs.lemmas.List.Sums.{sum_by-le-sum_by}
 use Rattle.fine_model.specs.declared.Outcome.{Outcome}
 use Rattle.fine_model.specs.declared.Outcome.TheVariants as outcome
 use Rattle.fine_model.specs.declared.RunFault.{RunFault}
-use Rattle.fine_model.specs.declared.RunFault.TheVariants as run_fault
 use Rattle.fine_model.specs.declared.ScriptTxn.{ScriptTxn}
 use Rattle.fine_model.specs.Outcomes.{AllRun, has_run, lanes_not_run}
-use Rattle.txn_runner.specs.Lanes.{CutShortLaw, EndedBy, HaveEnded, fault_of, is_disk, lanes_failed, most_lanes}
+use Rattle.txn_runner.specs.Lanes.{CutShortLaw, HaveEnded, fault_of, is_disk, most_lanes}
 
 -- ---- faults
 
@@ -23,7 +22,6 @@ by_fault None is then = absurd (true≢false (sym is))
 by_fault (Some fault) is then = then fault refl
 
 -- ---- what was not run
-
 
 is_not_run : (o : Outcome) → not (has_run o) ≡ true → o ≡ outcome.NotRun
 is_not_run (outcome.Committed place epoch entry) is = absurd (true≢false (sym is))
@@ -79,5 +77,5 @@ cut_short_law script outcomes faults same ended = record {
       by_fault (fault_of faults txn.lane) (ended i txn at is) (λ fault by. none fault (there faults (txn.lane - 1) fault by)));
   few = λ by_disk. sum_by-le-sum_by (λ lane. cond (list_any (is_cut lane) (zip script outcomes)) 1 0) (λ lane. cond (is_disk (fault_of faults lane)) 1 0) (range_with_len 1 most_lanes)
       (λ lane. at_most_one (list_any (is_cut lane) (zip script outcomes)) (is_disk (fault_of faults lane)) (λ cut.
-          by_fault (fault_of faults lane) (cut_ended script outcomes faults ended lane cut) (λ fault by. ap is_disk (by ∙ ap Some (by_disk fault (there faults (lane - 1) fault by))))));
+      by_fault (fault_of faults lane) (cut_ended script outcomes faults ended lane cut) (λ fault by. ap is_disk (by ∙ ap Some (by_disk fault (there faults (lane - 1) fault by))))));
 }

@@ -15,7 +15,7 @@ use Rattle.fine_model.specs.declared.Why.{Why}
 use Rattle.fine_model.specs.declared.law.RoomState.{RoomState}
 use Rattle.fine_model.specs.Boards.{held_of, named}
 use Rattle.fine_model.specs.History.{Commit}
-use Rattle.fine_model.specs.Outcomes.{AllRun, AreOutcomes, InLaneOrder, IsCommittedAt, IsOutcomeOf}
+use Rattle.fine_model.specs.Outcomes.{AllRun, AreOutcomes, IsCommittedAt, IsOutcomeOf}
 use Rattle.fine_model.specs.Report.{all_outcomes}
 use Rattle.epoch_room.specs.Value.{RoomValue}
 use Rattle.epoch_room.proofs.Seating.{empty_posted}

@@ -1,5 +1,5 @@
 -- The fault that is told is the soonest of those that there are.
-use Rattle.std.proofs.Common.{◌≡◌, ◌⊎◌, inl, inr, ⊎_elim, ℕ, suc, ◌+◌, ◌<◌, ◌≤◌, nat_lt, Bool, true, false, List, [], ◌∷◌, length, Option, Some, None, refl, sym, ap, ◌∙◌, subst, arith}
+use Rattle.std.proofs.Common.{◌≡◌, ◌⊎◌, inl, inr, ⊎_elim, ℕ, suc, ◌≤◌, nat_lt, Bool, true, false, List, [], ◌∷◌, Option, None, refl, sym, ◌∙◌, arith}
 use Rattle.std.specs.Prelude.{fold, if◌then◌else◌, Contains}
 use Rattle.std.specs.List.{AllByRecursion}
 use Rattle.fine_model.specs.declared.RunFault.{RunFault}

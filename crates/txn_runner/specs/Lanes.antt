@@ -1,5 +1,5 @@
 -- How the lanes of a run ended.
-use Rattle.std.specs.Prelude.{◌≡◌, ◌⊎◌, ℕ, ◌-◌, ◌≤◌, nat_lt, Bool, true, false, if◌then◌else◌, is_some, List, [], ◌∷◌, length, count_by, fold, replicate, slice_get, unwrap_or, Option, None, Some, Contains}
+use Rattle.std.specs.Prelude.{◌≡◌, ◌⊎◌, ℕ, ◌-◌, ◌≤◌, nat_lt, Bool, true, false, if◌then◌else◌, is_some, List, length, count_by, fold, replicate, slice_get, unwrap_or, Option, None, Some, Contains}
 use Rattle.std.specs.List.{AllByRecursion, range_with_len}
 use Rattle.fine_model.specs.declared.Outcome.{Outcome}
 use Rattle.fine_model.specs.declared.Outcome.TheVariants as outcome

@@ -5,4 +5,6 @@ mod ended;
 mod laws;
 
 pub use ended::EndedLanes;
-pub use laws::{behind_law, cut_short_law, in_turn_law, nothing_law, ready_law, run_law, status_law};
+pub use laws::{
+    behind_law, cut_short_law, in_turn_law, nothing_law, ready_law, run_law, status_law,
+};

@@ -1,4 +1,6 @@
+pub mod Caused
 pub mod CutShort
+pub mod Ending
 pub mod Few
 pub mod Nothing
 pub mod Runs

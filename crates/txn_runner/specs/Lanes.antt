@@ -1,5 +1,5 @@
 -- How the lanes of a run ended.
-use Rattle.std.specs.Prelude.{◌≡◌, ◌⊎◌, ℕ, ◌-◌, ◌≤◌, nat_lt, Bool, true, false, if◌then◌else◌, is_some, List, length, count_by, fold, replicate, slice_get, unwrap_or, Option, None, Some, Contains}
+use Rattle.std.specs.Prelude.{◌≡◌, ◌≢◌, ◌⊎◌, ℕ, ◌+◌, ◌-◌, ◌≤◌, nat_lt, Bool, true, false, if◌then◌else◌, is_some, List, length, count_by, fold, replicate, slice_get, unwrap_or, Option, None, Some, Contains}
 use Rattle.std.specs.List.{AllByRecursion, range_with_len}
 use Rattle.fine_model.specs.declared.Outcome.{Outcome}
 use Rattle.fine_model.specs.declared.Outcome.TheVariants as outcome
@@ -55,6 +55,12 @@ is_disk _ = false
 -- how many lanes a failed disk has ended
 abbrev pub lanes_failed : List (Option RunFault) → ℕ
 lanes_failed faults = count_by (λ lane. is_disk (fault_of faults lane)) (range_with_len 1 most_lanes)
+
+-- a lane has ended by a fault, and no other by it: a failed disk has ended at most one more
+pub record EndsLane (old new : List (Option RunFault)) (lane : ℕ) (fault : RunFault) : Type 0 where
+  pub ended : fault_of new lane ≡ Some fault
+  pub others : (other : ℕ) → 1 ≤ other → other ≢ lane → fault_of new other ≡ fault_of old other
+  pub counted : lanes_failed new ≤ lanes_failed old + (if is_disk (Some fault) then 1 else 0)
 
 -- each fault that ended a lane has P
 abbrev pub EndedBy : (RunFault → Type 0) → List (Option RunFault) → Type 0

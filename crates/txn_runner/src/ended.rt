@@ -1,7 +1,7 @@
 //! How the lanes of a run ended.
 
-ghost use Rattle.std.specs.Prelude.{◌≡◌, ◌-◌, is_some, slice_set, Some};
-ghost use Rattle.txn_runner.specs.Lanes.{IsLane, IsSoonest, fault_of, first_fault, none_ended, rank, sooner};
+ghost use Rattle.std.specs.Prelude.{◌≡◌, ◌-◌, is_some, length, slice_set, Some};
+ghost use Rattle.txn_runner.specs.Lanes.{EndsLane, IsLane, IsSoonest, fault_of, first_fault, most_lanes, none_ended, rank, sooner};
 
 use fine_model::RunFault;
 use std::marker::Model;
@@ -63,12 +63,22 @@ impl EndedLanes {
         self.faults[usize::from(lane) - 1].is_some()
     }
 
-    /// Ends a lane by a fault, which takes the place of an earlier one.
-    pub fn end(&mut self, lane: u8, fault: RunFault)
+    /// Sets the fault of a lane.
+    fn set(&mut self, lane: u8, fault: RunFault)
         requires { IsLane lane }
-        ensures { self.new ≡ slice_set self.old (lane - 1) (Some fault) }
+        ensures set { self.new ≡ slice_set self.old (lane - 1) (Some fault) }
+        ensures whole { length self.old ≡ most_lanes }
     {
         self.faults[usize::from(lane) - 1] = Some(fault);
+    }
+
+    /// Ends a lane by a fault, which takes the place of an earlier one. No other lane ends by it.
+    pub fn end(&mut self, lane: u8, fault: RunFault)
+        requires { IsLane lane }
+        ensures set { self.new ≡ slice_set self.old (lane - 1) (Some fault) }
+        ensures ends { EndsLane self.old self.new lane fault }
+    {
+        self.set(lane, fault);
     }
 
     /// The soonest of all faults, by going through the lanes.

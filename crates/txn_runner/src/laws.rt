@@ -2,7 +2,7 @@
 
 ghost use Rattle.txn_runner.specs.Lanes.{CutShortLaw};
 ghost use Rattle.txn_runner.specs.Law.{BehindLaw, DoneLaw, NothingLaw, ReadyLaw, RunLaw, StatusLaw};
-ghost use Rattle.txn_runner.specs.Turns.{InTurnLaw};
+ghost use Rattle.txn_runner.specs.Turns.{CausesLaw, InTurnLaw, StaysRefused};
 
 /// On a room that was just made of a log a run may begin.
 pub fn ready_law()
@@ -40,4 +40,11 @@ pub fn in_turn_law()
 /// alone, no more were cut short than it ended.
 pub fn cut_short_law()
     ensures { CutShortLaw }
+{}
+
+/// What a room refused it would refuse for the same reason as it goes on; and where transactions are run in the order of the script, one that was
+/// refused behind the commits before it has its cause at the end.
+pub fn causes_law()
+    ensures stays { StaysRefused }
+    ensures causes { CausesLaw }
 {}

@@ -7,3 +7,4 @@ pub mod Gathered
 pub mod Lawful
 pub mod Local
 pub mod Lasting
+pub mod Undoing

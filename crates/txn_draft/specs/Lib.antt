@@ -5,3 +5,4 @@ pub mod Steps
 pub mod Scans
 pub mod Laws
 pub mod Standing
+pub mod Undoing

@@ -9,25 +9,15 @@ use Rattle.fine_model.specs.History.{Commit, all_rows}
 use Rattle.fine_model.proofs.Legal.{legal_map}
 use Rattle.node_cache.specs.Cache.{Cache, after, before}
 use Rattle.btree_nodes.specs.declared.fault.TreeFault.{TreeFault}
-use Rattle.btree_nodes.specs.declared.fault.TreeFault.TheVariants.{Source, Unfit, BucketFull, Number, NoMemory}
 use Rattle.btree_nodes.specs.Trees.{Holds, Serves}
 use Rattle.txn_draft.specs.Answers.{AnswersSoundly}
 use Rattle.txn_draft.specs.Drafts.{DraftValue, IsAnswered, blank, entry_of}
 use Rattle.txn_draft_tests.specs.Once.{IsReady, IsRun, commit_of}
 use Rattle.txn_draft.specs.Standing.{IsLeft, StandsFor}
-use Rattle.txn_draft.specs.Uses.{IsUsed, Undoes, UsedAfter}
+use Rattle.txn_draft.specs.Uses.{IsUsed, UsedAfter}
 use Rattle.txn_draft.proofs.Lasting.{holds_law, serves_law, settle_law, undo_law}
 use Rattle.txn_draft.proofs.Lawful.{blank_law, next_law, taken_law}
-use Rattle.txn_draft_tests.proofs.Taken.{restored}
-
--- after each answer, what undoing leaves is known
-undoes_after : {A : Type 0} (low : ℕ) (taken b : Cache) (rows : List Row) (r : Result A TreeFault) → UsedAfter low taken b rows r → Undoes low taken b
-undoes_after low taken b rows (Ok a) u = u.undoes
-undoes_after low taken b rows (Err (Source f)) u = u.undoes
-undoes_after low taken b rows (Err (Unfit id)) u = u.undoes
-undoes_after low taken b rows (Err (BucketFull m d)) u = u.undoes
-undoes_after low taken b rows (Err (Number id)) u = u.undoes
-undoes_after low taken b rows (Err NoMemory) u = u
+use Rattle.txn_draft.proofs.Undoing.{restored, undone}
 
 module _ (log : Origin) (published epoch upper lane turn : ℕ) (tells : List Row → Type 0) (old b new : Cache) (d d' : DraftValue) (c : Call) (history : List Commit) (is_blank : d ≡ blank lane turn) (most : published ≤ upper)
     (ready : IsReady log published epoch tells upper old history) (r : Result (Unit {0}) TreeFault)
@@ -54,7 +44,7 @@ module _ (log : Origin) (published epoch upper lane turn : ℕ) (tells : List Ro
   -- taken back
   pub stands_undone : IsLeft published (before b) b new → StandsFor log old.bucket published new history
   stands_undone left = undo_law log old.bucket published published published old b new history (le_refl published) (le_refl published) ready.stands
-      (undoes_after published old b d'.rows r used_now) (λ e first began. restored (first ++ all_rows history) c d d' b r (answers_now e first began)) left
+      (undone published old b d'.rows r used_now) (λ e first began. restored (first ++ all_rows history) c d d' b r (answers_now e first began)) left
 
   -- committed
   pub run_settled : (entry : Entry) (done : Unit {0}) → r ≡ Ok done → entry ≡ entry_of d' → IsLeft published (after b epoch) b new → IsRun log old.bucket published epoch new history (Ok (Some entry))

@@ -8,7 +8,8 @@ use Rattle.txn_draft.specs.Answers.{AnswersSoundly}
 use Rattle.txn_draft.specs.Drafts.{DraftValue, IsAnswered, blank}
 use Rattle.txn_draft.specs.Uses.{IsUsed}
 use Rattle.txn_draft_tests.specs.Twice.{AnsweredOr}
-use Rattle.txn_draft_tests.proofs.Taken.{restored, answered_or, serves_settled}
+use Rattle.txn_draft.proofs.Undoing.{restored}
+use Rattle.txn_draft_tests.proofs.Taken.{answered_or, serves_settled}
 use Rattle.txn_draft.proofs.Lawful.{blank_law, taken_law}
 use Rattle.txn_draft_tests.proofs.tests.twice.commit_and_abort.Goals as goal
 

@@ -1,11 +1,11 @@
-use Rattle.std.proofs.Common.{◌≡◌, ℕ, List, [], ◌∷◌, ◌++◌, Ok, arith, ap, ◌∙◌, subst, sym}
+use Rattle.std.proofs.Common.{◌≡◌, List, [], ◌∷◌, ◌++◌, Ok, arith, ap, ◌∙◌, subst, sym}
 use Rattle.fine_model.specs.declared.Row.{Row}
 use Rattle.fine_model.specs.Pushed.{all_pushed}
 use Rattle.fine_model.specs.Store.{replies_to}
 use Rattle.fine_model.specs.Trees.{map_of}
 use Rattle.btree_nodes.specs.Trees.{Holds, Serves}
 use Rattle.txn_draft.specs.Answers.{AnswersSoundly}
-use Rattle.txn_draft.specs.Drafts.{DraftValue, IsAnswered, blank}
+use Rattle.txn_draft.specs.Drafts.{IsAnswered, blank}
 use Rattle.txn_draft.specs.Uses.{IsUsed}
 use Rattle.txn_draft_tests.specs.Twice.{AnsweredOr}
 use Rattle.txn_draft.proofs.Undoing.{restored}

@@ -1,19 +1,18 @@
 -- What a bucket stands for from one transaction to the next.
-use Rattle.std.proofs.Common.{◌≡◌, ◌≢◌, ◌⊎◌, ⊎_elim, ℕ, suc, nat_le, ◌<◌, ◌≤◌, ◌==◌, Bool, true, false, true≢false, ◌||◌, cond, List, [], ◌∷◌, ◌++◌, Option, Some, None, is_some, option_map, refl, sym, ap, subst, ◌∙◌, append-nil, append_assoc, le_refl, le_trans, arith}
-use Rattle.std.specs.Prelude.{All, IfSome, if◌then◌else◌, slice_get, take, unwrap_or}
+use Rattle.std.proofs.Common.{◌≡◌, ◌≢◌, ⊎_elim, ℕ, nat_le, ◌<◌, ◌≤◌, ◌==◌, Bool, true, false, true≢false, ◌||◌, cond, List, [], ◌∷◌, ◌++◌, Option, Some, None, is_some, option_map, refl, sym, ap, subst, ◌∙◌, append-nil, append_assoc, le_refl, le_trans, arith}
+use Rattle.std.specs.Prelude.{All, IfSome, if◌then◌else◌, unwrap_or}
 use Rattle.std.specs.List.{AllByRecursion, list_any}
 use Rattle.std.proofs.lemmas.Bool.Decides.{leb_tells}
 use Rattle.std.proofs.lemmas.List.Elements.{All-head, All-tail, filter-append}
-use Rattle.std.proofs.lemmas.List.Sums.{take_while-cons}
 use Rattle.fine_model.specs.declared.Node.TheVariants as node
 use Rattle.fine_model.specs.declared.NodeId.{NodeId}
 use Rattle.fine_model.specs.declared.Row.{Row}
 use Rattle.fine_model.specs.declared.law.Origin.{Origin}
 use Rattle.fine_model.specs.Buckets.{Began, IsNodeFor, IsUpTo, has_row_on, node_id}
-use Rattle.fine_model.specs.History.{Commit, IsLegal, all_rows, upto}
+use Rattle.fine_model.specs.History.{Commit, all_rows}
 use Rattle.fine_model.specs.Nodes.{Content, content, is_node, replay, rows_of}
 use Rattle.fine_model.specs.Trees.{nodes_of}
-use Rattle.fine_model.proofs.Epochs.{rows_push, rows_together}
+use Rattle.fine_model.proofs.Epochs.{rows_push}
 use Rattle.fine_model.proofs.NodeLaws.{content-append, rows_of-append}
 use Rattle.fine_model.proofs.Order.{all_map, filter_none}
 use Rattle.fine_model.proofs.Sets.{all_append, all_filter}

@@ -6,5 +6,5 @@ pub mod Rested
 pub mod Gathered
 pub mod Lawful
 pub mod Local
-pub mod Taken
 pub mod Lasting
+pub mod Undoing

@@ -5,4 +5,4 @@ pub mod Steps
 pub mod Scans
 pub mod Laws
 pub mod Standing
-pub mod Twice
+pub mod Undoing

@@ -1,6 +1,7 @@
 //! Laws of drafts, each the contract of a function that does nothing.
 
 ghost use Rattle.txn_draft.specs.Laws.{BlankLaw, NextLaw, LocalLaw, TakenLaw, OthersLaw, BetweenLaw, RestoredLaw, UsedLaw};
+ghost use Rattle.txn_draft.specs.Undoing.{RestoresLaw, UndoesLaw};
 
 /// On sound rows, a draft without calls is answered.
 pub fn blank_law()
@@ -24,4 +25,10 @@ pub fn bucket_law()
     ensures between { BetweenLaw }
     ensures restored { RestoredLaw }
     ensures used { UsedLaw }
+{}
+
+/// Whatever a call answered, want of memory too, undoing the bucket restores what the rows leave, and what was cached or loaded.
+pub fn undoing_law()
+    ensures restores { RestoresLaw }
+    ensures undoes { UndoesLaw }
 {}

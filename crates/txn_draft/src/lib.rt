@@ -7,12 +7,10 @@ mod laws;
 mod scanning;
 mod standing;
 mod step;
-#[cfg(test)]
-mod tests;
 mod using;
 
 pub use draft::Draft;
-pub use laws::{blank_law, bucket_law, local_law, next_law};
+pub use laws::{blank_law, bucket_law, local_law, next_law, undoing_law};
 pub use scanning::RangeScan;
 pub use standing::{ends_law, serves_law, stands_law};
 pub use using::{settle, undo};

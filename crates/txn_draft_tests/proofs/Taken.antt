@@ -11,23 +11,14 @@ use Rattle.node_cache.specs.declared.cached.Cached.{Cached}
 use Rattle.node_cache.specs.Cache.{Cache, cached, original, before, after}
 use Rattle.node_cache.specs.Entries.{stamped}
 use Rattle.btree_nodes.specs.declared.fault.TreeFault.{TreeFault}
-use Rattle.btree_nodes.specs.declared.fault.TreeFault.TheVariants.{Source, Unfit, BucketFull, Number, NoMemory}
-use Rattle.btree_nodes.specs.Trees.{Serves, Holds, Restores, node_at}
+use Rattle.btree_nodes.specs.Trees.{Serves, Holds, node_at}
 use Rattle.btree_nodes.proofs.Loads.{none_or_some}
 use Rattle.txn_draft.specs.Answers.{AnswersSoundly}
 use Rattle.txn_draft.specs.Drafts.{DraftValue, IsAnswered}
-use Rattle.txn_draft.specs.Twice.{AnsweredOr}
+use Rattle.txn_draft_tests.specs.Twice.{AnsweredOr}
 use Rattle.txn_draft.specs.Uses.{IsUsed}
 
--- after each answer, what undoing restores is what the rows leave
-pub restored : (rows : List Row) (c : Call) (d d' : DraftValue) (b : Cache) (r : Result (Unit {0}) TreeFault) → AnswersSoundly rows c d d' b r → Restores b rows
-restored rows c d d' b (Ok done) h = h.1.restores
-restored rows c d d' b (Err (Source f)) h = h.restores
-restored rows c d d' b (Err (Unfit id)) h = absurd h
-restored rows c d d' b (Err (BucketFull m depth)) h = h.2.restores
-restored rows c d d' b (Err (Number id)) h = h.2.restores
-restored rows c d d' b (Err NoMemory) h = h
-
+-- with Ok the draft is answered
 pub answered_or : (rows : List Row) (c : Call) (d d' : DraftValue) (b : Cache) (r : Result (Unit {0}) TreeFault) → AnswersSoundly rows c d d' b r → AnsweredOr r (IsAnswered rows d')
 answered_or rows c d d' b (Ok done) h = h.0
 answered_or rows c d d' b (Err fault) h = tt

@@ -10,15 +10,15 @@ ghost use Rattle.fine_model.specs.Trees.{bucket_of, IsSound};
 ghost use Rattle.node_cache.specs.Cache.{cached, IsResting};
 ghost use Rattle.btree_nodes.specs.Trees.{Serves, Holds};
 ghost use Rattle.txn_draft.specs.Drafts.{blank, is_scan};
-ghost use Rattle.txn_draft.specs.Twice.{IsTwice};
+ghost use Rattle.txn_draft_tests.specs.Twice.{IsTwice};
 
 use super::fresh::Fresh;
-use crate::{Draft, settle, undo};
 use btree_nodes::TreeFault;
 use fine_model::{Bytes, Call, Entry, Items, Reply, bucket_of};
 use node_cache::{Bucket, NodeSource};
 use std::alloc::Global;
 use std::test::*;
+use txn_draft::{Draft, settle, undo};
 
 /// Commits one call under an epoch, and then takes another one back. All that is cached is of later epochs than what is published, so nothing is
 /// evicted. The second call is answered on what the first one left, which the source does not tell.
@@ -59,7 +59,7 @@ fn text(alloc: Global, text: &[u8]) -> Result<Bytes, Fail>
 }
 
 /// A call that sets a key.
-fn put(alloc: Global, key: &[u8], value: &[u8]) -> Result<Call, Fail>
+pub fn put(alloc: Global, key: &[u8], value: &[u8]) -> Result<Call, Fail>
     requires key { FitsKey key.now }
     requires value { FitsValue value.now }
     ensures fits { IfOk result FitsCall }

@@ -3,7 +3,7 @@ use Rattle.fine_model.specs.Nodes.{base, content, replay}
 use Rattle.fine_model.specs.Trees.{nodes_of}
 use Rattle.node_cache.specs.Cache.{cached}
 use Rattle.node_cache.proofs.Loading.{copied_there, put_loads}
-use Rattle.txn_draft.proofs.tests.fresh.FreshNodeSource.load.Goals as goal
+use Rattle.txn_draft_tests.proofs.tests.fresh.FreshNodeSource.load.Goals as goal
 
 no_rows : (bucket n : ℕ) → nodes_of [] bucket n ≡ base (record { bucket = bucket; number = n })
 unfolding content replay

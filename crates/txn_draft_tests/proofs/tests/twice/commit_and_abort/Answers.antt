@@ -1,16 +1,17 @@
-use Rattle.std.proofs.Common.{◌≡◌, ℕ, List, [], ◌∷◌, ◌++◌, Ok, arith, ap, ◌∙◌, subst, sym}
+use Rattle.std.proofs.Common.{◌≡◌, List, [], ◌∷◌, ◌++◌, Ok, arith, ap, ◌∙◌, subst, sym}
 use Rattle.fine_model.specs.declared.Row.{Row}
 use Rattle.fine_model.specs.Pushed.{all_pushed}
 use Rattle.fine_model.specs.Store.{replies_to}
 use Rattle.fine_model.specs.Trees.{map_of}
 use Rattle.btree_nodes.specs.Trees.{Holds, Serves}
 use Rattle.txn_draft.specs.Answers.{AnswersSoundly}
-use Rattle.txn_draft.specs.Drafts.{DraftValue, IsAnswered, blank}
+use Rattle.txn_draft.specs.Drafts.{IsAnswered, blank}
 use Rattle.txn_draft.specs.Uses.{IsUsed}
-use Rattle.txn_draft.specs.Twice.{AnsweredOr}
-use Rattle.txn_draft.proofs.Taken.{restored, answered_or, serves_settled}
+use Rattle.txn_draft_tests.specs.Twice.{AnsweredOr}
+use Rattle.txn_draft.proofs.Undoing.{restored}
+use Rattle.txn_draft_tests.proofs.Taken.{answered_or, serves_settled}
 use Rattle.txn_draft.proofs.Lawful.{blank_law, taken_law}
-use Rattle.txn_draft.proofs.tests.twice.commit_and_abort.Goals as goal
+use Rattle.txn_draft_tests.proofs.tests.twice.commit_and_abort.Goals as goal
 
 pub answer-answer-requires-clause-bucket : goal.answer-answer-requires-clause-bucket
 answer-answer-requires-clause-bucket g c = c.settle.ensures.number ∙ c.in_ok-answer.ensures.number ∙ c.requires.same

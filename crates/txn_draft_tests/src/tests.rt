@@ -1,4 +1,5 @@
 //! Tests of drafts.
 
 mod fresh;
+mod once;
 mod twice;

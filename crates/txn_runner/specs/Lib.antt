@@ -1,0 +1,4 @@
+pub mod Runs
+pub mod Law
+pub mod Lanes
+pub mod Turns

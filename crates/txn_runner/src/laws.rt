@@ -1,0 +1,50 @@
+//! Laws of runs, each the contract of a function that does nothing.
+
+ghost use Rattle.txn_runner.specs.Lanes.{CutShortLaw};
+ghost use Rattle.txn_runner.specs.Law.{BehindLaw, DoneLaw, NothingLaw, ReadyLaw, RunLaw, StatusLaw};
+ghost use Rattle.txn_runner.specs.Turns.{CausesLaw, InTurnLaw, StaysRefused};
+
+/// On a room that was just made of a log a run may begin.
+pub fn ready_law()
+    ensures { ReadyLaw }
+{}
+
+/// On each sound log that the disk told at entry, a run of lanes is a run in the words of the theorem, with its causes and its fault; and with
+/// status 0, 6 or 8 one that was done.
+pub fn run_law()
+    ensures run { RunLaw }
+    ensures done { DoneLaw }
+{}
+
+/// On each log that the disk told at entry, sound or not, a run of lanes has what a report says beside its text, and names no damage that is not there.
+pub fn behind_law()
+    ensures { BehindLaw }
+{}
+
+/// On every disk the status of a run tells of the disk's count of faults: 6 only where it rose, and 6, or 1 before it, where it is greater.
+pub fn status_law()
+    ensures { StatusLaw }
+{}
+
+/// A run of no transaction, and one for which there was no memory to begin, leave the room as it is.
+pub fn nothing_law()
+    ensures { NothingLaw }
+{}
+
+/// Where transactions are run in the order of the script, their outcomes are those of one history: that of their commits, one behind the other.
+pub fn in_turn_law()
+    ensures { InTurnLaw }
+{}
+
+/// Where each transaction that was not run is of a lane that has ended: with no lane ended all was run, and where lanes have ended by a failed disk
+/// alone, no more were cut short than it ended.
+pub fn cut_short_law()
+    ensures { CutShortLaw }
+{}
+
+/// What a room refused it would refuse for the same reason as it goes on; and where transactions are run in the order of the script, one that was
+/// refused behind the commits before it has its cause at the end.
+pub fn causes_law()
+    ensures stays { StaysRefused }
+    ensures causes { CausesLaw }
+{}

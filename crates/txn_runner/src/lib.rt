@@ -1,0 +1,10 @@
+//! Running a script on a room: what a run of lanes is, and how its lanes end.
+#![tactic(auto)]
+
+mod ended;
+mod laws;
+
+pub use ended::EndedLanes;
+pub use laws::{
+    behind_law, causes_law, cut_short_law, in_turn_law, nothing_law, ready_law, run_law, status_law,
+};

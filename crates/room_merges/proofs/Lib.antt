@@ -1,1 +1,3 @@
 pub mod Chained
+pub mod Working
+pub mod Pairing

@@ -1,1 +1,3 @@
 pub mod Merging
+pub mod Work
+pub mod Pairs

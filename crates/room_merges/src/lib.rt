@@ -2,4 +2,11 @@
 //! view.
 #![tactic(auto)]
 
+mod body;
+mod fault;
 pub mod laws;
+mod pair;
+
+pub use body::write_body;
+pub use fault::MergeFault;
+pub use pair::merge_pair;

@@ -1,3 +1,4 @@
 pub mod Chained
 pub mod Working
 pub mod Pairing
+pub mod Shut

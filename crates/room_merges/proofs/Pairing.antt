@@ -1,5 +1,5 @@
 -- From a job whose body is written to the merge of two neighbours.
-use Rattle.std.proofs.Common.{◌≡◌, ℕ, ◌≤◌, Bool, true, false, List, [], drop, length, Some, None, Ok, Err, refl, sym, ap, subst, ◌∙◌, arith, true≢false}
+use Rattle.std.proofs.Common.{◌≡◌, ℕ, ◌<◌, ◌≤◌, Bool, true, false, List, [], drop, length, Some, None, Ok, Err, refl, sym, ap, subst, ◌∙◌, arith, true≢false}
 use Rattle.std.proofs.lemmas.Bool.{le-leb}
 use Rattle.std.specs.Prelude.{if◌then◌else◌, nat_le, Contains, IsErrOf, OnOk, Option, Result, option_map}
 use Rattle.fine_model.specs.declared.FetchFault.{FetchFault}
@@ -34,9 +34,9 @@ use Rattle.epoch_room.proofs.Joining.{keeps_then}
 use Rattle.room_merges.specs.declared.fault.MergeFault.{MergeFault}
 use Rattle.room_merges.specs.declared.fault.MergeFault.TheVariants as merge_fault
 use Rattle.room_merges.specs.Merging.{HoldsBody, IsOut, Measures, OfTold}
-use Rattle.room_merges.specs.Pairs.{AreTried, IsJobMerged, IsPartSealed, JobOr, Merges, MergesJob, MergesMeasured, MergesNone, MergesPair, OfRead, PartOr, SealsPart, StaysAsIs, WritesPart, header_for, job_for, measure_in}
+use Rattle.room_merges.specs.Pairs.{AreTried, IsJobMerged, IsPartSealed, JobOr, Merges, MergesJob, MergesMeasured, MergesNone, MergesPair, PartOr, SealsPart, StaysAsIs, WritesPart, header_for, job_for, measure_in}
 use Rattle.room_merges.specs.Work.{BlamedBy, FallsShut, Looks, RefusesOr, StaysOpen, WritesAll, same_job}
-use Rattle.room_merges.proofs.Chained.{body_is_written, shown_by_eye, told_before, told_of}
+use Rattle.room_merges.proofs.Chained.{body_is_written, told_before, told_of}
 use Rattle.room_merges.proofs.Working.{blamed, falls_then, looks_refused, looks_sound, looks_then, of_same, refuses_then, stays_itself, stays_then, view_itself}
 
 some_none : {A : Type 0} (x : A) → Some x ≡ None → ⊥
@@ -212,10 +212,10 @@ refused_free job free old new (merge_fault.Room (room_fault.Shut epoch)) none = 
 
 -- a job of two parts takes so many of the free regions, and its part is written and sealed
 module _ (old : RoomValue) (two : Part × Part) (measure : Measure) (regions : ℕ) where
-  job_taken : Job
+  abbrev job_taken : Job
   job_taken = taken_job (fresh_job two) measure regions old.room.free
 
-  room_taken : RoomValue
+  abbrev room_taken : RoomValue
   room_taken = with_job old (Some job_taken) (drop regions old.room.free)
 
   takes : IsWhole old → Keeps old room_taken → StaysOpen (Some job_taken) (drop regions old.room.free) old room_taken
@@ -289,7 +289,7 @@ pub measured_part : (old mid new : RoomValue) (view view' : ViewValue) (job take
     → taken_for ≡ job_after job measure old.room.free (regions_for_job old.room measure) → mid ≡ with_job old (Some taken_for) (free_after old.room.free (regions_for_job old.room measure))
     → taken_for.header ≡ Some header → WritesPart header mid new view view' taken_for job' result → MergesMeasured measure old new view view' (job.older, job.newer) job' result
 measured_part old mid new view view' job taken_for job' header measure regions result whole keeps measured fresh is job_is mid_is has wrote =
-    let two = (job.older, job.newer) in
+    let two : Part × Part = (job.older, job.newer) in
     let job_at : taken_for ≡ job_taken old two measure regions =
     job_is ∙ ap (job_after job measure old.room.free) is ∙ ap (λ (j : Job). taken_job j measure regions old.room.free) fresh in
     let mid_at : mid ≡ room_taken old two measure regions =
@@ -318,9 +318,9 @@ job_measured old new view seen view' two job' measure result same steady read me
 }
 
 pub job_unmeasured : (value : RoomValue) (view view' : ViewValue) (merger : Merger) (job : Job) (fault : FetchFault) → IsOut value view → value.room.job ≡ Some job → Contains view.parts job.older → Contains view.parts job.newer
-    → merger ≡ at_front job.older job.newer view.region_len → SameView view view' → CountsFaults (IsErrOf {Measure} (Err fault) fetch_fault.Failed) view.eye view'.eye
-    → ((region at : ℕ) → IsErrOf {Measure} (Err fault) (fetch_fault.BadRow region at) → BlamesRow view.eye.told merger (record { region = region; at = at }))
-    → ((region at : ℕ) → IsErrOf {Measure} (Err fault) (fetch_fault.BadIndex region at) → BlamesEntry view.eye.told merger (record { region = region; at = at }))
+    → merger ≡ at_front job.older job.newer view.region_len → SameView view view' → CountsFaults (IsErrOf {T = Measure} (Err fault) fetch_fault.Failed) view.eye view'.eye
+    → ((region at : ℕ) → IsErrOf {T = Measure} (Err fault) (fetch_fault.BadRow region at) → BlamesRow view.eye.told merger (record { region = region; at = at }))
+    → ((region at : ℕ) → IsErrOf {T = Measure} (Err fault) (fetch_fault.BadIndex region at) → BlamesEntry view.eye.told merger (record { region = region; at = at }))
     → ((a b : List Row) → TellsPart view.eye (older_part merger) a → TellsPart view.eye (newer_part merger) b → rows_len (merged a b) < 4294967296 → NoDamage fault)
     → MergesJob value value view view' (job.older, job.newer) job (Err (merge_fault.Fetch fault))
 job_unmeasured value view view' merger job fault out is_out has_older has_newer is same counts row entry exact =
@@ -338,7 +338,7 @@ job_unmeasured value view view' merger job fault out is_out has_older has_newer 
           (told_of view job.older job.newer (λ a b. NoDamage fault) out.is_view has_older has_newer
           (λ a b p q. exact a b (subst (λ part. TellsPart view.eye part a) (sym o) p) (subst (λ part. TellsPart view.eye part b) (sym n) q)))),
       );
-      looks = looks_refused {Measure} {Bool} view view' fault same counts;
+      looks = looks_refused {A = Measure} {B = Bool} view view' fault same counts;
     }
 
 -- ---- picking
@@ -440,9 +440,6 @@ module _ (from : ℕ) (old mid : RoomValue) (view : ViewValue) (job : Job) (trie
   same_two : (two : Part × Part) → AreTried from old view two → (job.older, job.newer) ≡ two
   same_two two tried = some_same (job.older, job.newer) two (sym tries.first ∙ tried.first)
 
-  read_told : Contains view.parts job.older → Contains view.parts job.newer → (P : List Row → List Row → Type 0) → OfTold view job.older job.newer P → OfRead old (job.older, job.newer) P
-  read_told older newer P of_told a b a_told b_told = of_told a b (shown_by_eye old view job.older a tries.out older a_told) (shown_by_eye old view job.newer b tries.out newer b_told)
-
   told_back : (view' : ViewValue) → SameView view view' → (P : List Row → List Row → Type 0) → OfTold view' job.older job.newer P → OfTold view job.older job.newer P
   told_back view' same P of_told = of_same view' view job job (view_back view view' same) refl refl P of_told
 
@@ -488,15 +485,14 @@ module _ (from : ℕ) (old mid : RoomValue) (view : ViewValue) (job : Job) (trie
           read = m.read;
           taken = part.taken;
           ordered = part.ordered;
-          measured = read_told older newer (λ a b. m.measure ≡ measure_of (merged a b)) m.measured;
+          measured = m.measured;
           synced = part.synced;
           room = (
             part.room.0,
             record { room = steps.room; target = steps.target; entry = steps.entry; regions = steps.regions; region_len = steps.region_len; time = steps.time },
             part.room.2,
           );
-          body = read_told older newer (λ a b. held_for new.room.image (job_for (job.older, job.newer) m.measure part.regions old.room.free) ≡ Some (body_bytes (merged a b)))
-            (told_back view' m.looks.same (λ a b. held_for new.room.image (job_for (job.older, job.newer) m.measure part.regions old.room.free) ≡ Some (body_bytes (merged a b))) part.body);
+          body = told_back view' m.looks.same (λ a b. held_for new.room.image (job_for (job.older, job.newer) m.measure part.regions old.room.free) ≡ Some (body_bytes (merged a b))) part.body;
           keeps = keeps_then old (with_job old (Some job) old.room.free) new keeps part.keeps;
         };
         looks = done.looks;
@@ -506,13 +502,13 @@ module _ (from : ℕ) (old mid : RoomValue) (view : ViewValue) (job : Job) (trie
   pub pair_unmerged : (new last : RoomValue) (view' : ViewValue) (job' : Job) → Contains view.parts job.older → Contains view.parts job.newer → MergesJob mid new view view' (job.older, job.newer) job' (Ok false) → GivesUp new last → MergesPair from old last view view' (Ok false)
   pair_unmerged new last view' job' older newer done up =
       let m = subst (λ (v : RoomValue). MergesJob v new view view' (job.older, job.newer) job' (Ok false)) tries.is done in
-      let none : OfRead old (job.older, job.newer) (λ a b. FitsFree old.room.region_len (length old.room.free) a b → ⊥) =
-      read_told older newer (λ a b. FitsFree old.room.region_len (length old.room.free) a b → ⊥) (told_back view' m.looks.same (λ a b. FitsFree old.room.region_len (length old.room.free) a b → ⊥) m.job.1) in
+      let none : OfTold view job.older job.newer (λ a b. FitsFree old.room.region_len (length old.room.free) a b → ⊥) =
+      told_back view' m.looks.same (λ a b. FitsFree old.room.region_len (length old.room.free) a b → ⊥) m.job.1 in
       record {
         room = record {
           room = later_open new last job' done.job.0 up;
           read = λ two tried. subst (λ (t : Part × Part). (measure : Measure) × IsMeasureOf view.eye.told (at_front t.0 t.1 view.region_len) measure) (same_two two tried) (m.measure, m.read);
-          none = λ two tried. subst (λ (t : Part × Part). OfRead old t (λ a b. FitsFree old.room.region_len (length old.room.free) a b → ⊥)) (same_two two tried) none;
+          none = λ two tried. subst (λ (t : Part × Part). OfTold view t.0 t.1 (λ a b. FitsFree old.room.region_len (length old.room.free) a b → ⊥)) (same_two two tried) none;
         };
         looks = done.looks;
       }

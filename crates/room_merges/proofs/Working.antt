@@ -1,6 +1,6 @@
 -- The steps of a merge, one after another.
 use Rattle.std.proofs.Common.{◌≡◌, ◌⊎◌, ℕ, ◌+◌, ◌<◌, ◌≤◌, ◌++◌, Bool, true, false, List, [], length, length-append, Some, Ok, Err, refl, sym, ap, subst, ◌∙◌, inl, inr, arith, true≢false}
-use Rattle.std.specs.Prelude.{Contains, IsErrOf, MatchResult, Option, Result, slice_get}
+use Rattle.std.specs.Prelude.{Contains, IfSome, IsErrOf, MatchResult, Option, Result, slice_get}
 use Rattle.fine_model.specs.declared.FetchFault.{FetchFault}
 use Rattle.fine_model.specs.declared.FetchFault.TheVariants as fetch_fault
 use Rattle.fine_model.specs.declared.Header.{Header}
@@ -39,6 +39,10 @@ use Rattle.room_merges.specs.declared.fault.MergeFault.TheVariants as merge_faul
 use Rattle.room_merges.specs.Merging.{CountsBody, EyeTells, HoldsBody, IsOut, OfTold}
 use Rattle.room_merges.specs.Work.{AllOr, BlamedBy, Blames, BlockOr, FallsShut, IsWriting, Looks, NextOr, RefusesOr, StaysOpen, StepsOr, WritesAll, WritesBlock, WritesNext, same_job}
 use Rattle.room_merges.proofs.Chained.{blocks_begin, blocks_end, blocks_go_on, told_before}
+
+-- what holds of a value that is there
+pub some_of : {A : Type 0} (o : Option A) (x : A) (P : A → Type 0) → o ≡ Some x → IfSome o P → P x
+some_of o x P is holds = subst (λ o. IfSome o P) is holds
 
 -- ---- the room
 
@@ -129,8 +133,8 @@ looks_sound v w result same steady none = record {
 }
 
 -- a read was refused
-pub looks_refused : {A B : Type 0} (v w : ViewValue) (fault : FetchFault) → SameView v w → CountsFaults (IsErrOf {A} (Err fault) fetch_fault.Failed) v.eye w.eye
-    → Looks {B} v w (Err (merge_fault.Fetch fault))
+pub looks_refused : {A B : Type 0} (v w : ViewValue) (fault : FetchFault) → SameView v w → CountsFaults (IsErrOf {T = A} (Err fault) fetch_fault.Failed) v.eye w.eye
+    → Looks {A = B} v w (Err (merge_fault.Fetch fault))
 looks_refused v w fault same counts = record {
   same = same;
   counts = record {
@@ -297,14 +301,14 @@ next_written header old new view view' blocks blocks' job job' (Err (merge_fault
 next_written header old new view view' blocks blocks' job job' (Err (merge_fault.Fetch fault)) takes was done = absurd done.wrote
 
 pub next_refused : (header : Header) (value : RoomValue) (view view' : ViewValue) (blocks blocks' : BlocksValue) (job : Job) (fault : FetchFault) → IsWhole value → value.room.job ≡ Some job
-    → SameView view view' → CountsFaults (IsErrOf {Bool} (Err fault) fetch_fault.Failed) view.eye view'.eye
+    → SameView view view' → CountsFaults (IsErrOf {T = Bool} (Err fault) fetch_fault.Failed) view.eye view'.eye
     → ((region at : ℕ) → fault ≡ fetch_fault.BadRow region at → BlamesRow view.eye.told blocks.merger (record { region = region; at = at }))
     → ((region at : ℕ) → fault ≡ fetch_fault.BadIndex region at → BlamesEntry view.eye.told blocks.merger (record { region = region; at = at }))
     → ((handed : List ℕ) (a b : List Row) → IsAhead view.eye blocks handed a b → NoDamage fault)
     → IsWriting value view blocks job → WritesNext header value value view view' blocks' job job (Err (merge_fault.Fetch fault))
 next_refused header value view view' blocks blocks' job fault whole out same counts row entry sound was = record {
   room = stays_itself value (Some job) whole out;
-  looks = looks_refused {Bool} {Progress} view view' fault same counts;
+  looks = looks_refused {A = Bool} {B = Progress} view view' fault same counts;
   same = refl;
   next = blamed view view' blocks.merger job.older job.newer fault same was.region_len was.older was.newer row entry
     (of_same view view' job job same refl refl (λ a b. NoDamage fault) (λ a b older_told newer_told. let before = was.between a b older_told newer_told in sound before.0 a b before.1));
@@ -368,13 +372,13 @@ module _ (header : Header) (old mid new : RoomValue) (view seen view' : ViewValu
 
   pub not_written : (fault : MergeFault) → Writing header old mid view seen blocks job before → WritesNext header mid new seen view' blocks' before job' (Err fault) → WritesAll header old new view view' job job' (Err fault)
   not_written fault so_far next = record {
-    room = one_more (Err fault) so_far next.room;
+    room = one_more {A = Bool} (Err fault) so_far next.room;
     looks = looks_then';
     same = still so_far next.same;
     all = subst (λ p. BlamedBy view' p job.newer fault) (ap (λ (j : Job). j.older) so_far.same) (subst (λ p. BlamedBy view' before.older p fault) (ap (λ (j : Job). j.newer) so_far.same) next.next);
   }
     where
-      looks_then' : Looks {Bool} view view' (Err fault)
+      looks_then' : Looks {A = Bool} view view' (Err fault)
       looks_then' = looks_then view seen view' (Err fault) so_far.unmoved so_far.steady (record { same = next.looks.same; counts = record { rises = λ failed. next.looks.counts.rises cc; no_lower = next.looks.counts.no_lower; else_same = λ none. next.looks.counts.else_same (λ failed. none cc) } })
 
 -- ---- the first block

@@ -7,7 +7,6 @@ use Rattle.fine_model.specs.declared.Row.{Row}
 use Rattle.fine_model.specs.Jobs.{held_for}
 use Rattle.fine_model.specs.Merge.{FitsFree, cost, merged}
 use Rattle.fine_model.specs.Regions.{body_bytes, body_len}
-use Rattle.fine_model.specs.Views.{TellsRowsOf}
 use Rattle.partition_hold.specs.Views.{ViewValue}
 use Rattle.partition_merge.specs.declared.merger.Measure.{Measure}
 use Rattle.partition_merge.specs.Mergers.{IsMeasureOf, at_front, measure_of}
@@ -23,11 +22,6 @@ use Rattle.room_merges.specs.declared.fault.MergeFault.TheVariants as merge_faul
 use Rattle.room_merges.specs.Merging.{Measures, OfTold}
 use Rattle.room_merges.specs.Work.{BlamedBy, FallsShut, Looks, RefusesOr, StaysOpen, same_job}
 
--- so of all rows that a read of the disk tells of two parts
-abbrev pub OfRead : RoomValue → Part × Part → (List Row → List Row → Type 0) → Type 0
-OfRead value two P =
-    (a b : List Row) → TellsRowsOf value.room.image value.room.region_len (two.0 ∷ []) a → TellsRowsOf value.room.image value.room.region_len (two.1 ∷ []) b → P a b
-
 -- the neighbours that are tried: the first two of which the older one begins at an epoch or later, and the view has both
 pub record AreTried (from : ℕ) (value : RoomValue) (view : ViewValue) (two : Part × Part) : Type 0 where
   pub first : neighbours_from from value.room.parts ≡ Some two
@@ -42,7 +36,7 @@ abbrev pub job_for : Part × Part → Measure → ℕ → List ℕ → Job
 job_for two measure regions free = same_job (taken_job (fresh_job two) measure regions free) (measured_len measure)
 
 -- Two neighbours are one part now, over the lowest free regions, as few as its rows need; the two are retired, and all is synced. Its rows
--- are the merged rows of both, in order, where a read of the disk told both.
+-- are the merged rows of both, in order, where the view's eye tells both, as it does where a read of the disk did.
 pub record Merges (from : ℕ) (old new : RoomValue) (view : ViewValue) : Type 0 where
   pub two : Part × Part
   pub tried : AreTried from old view two
@@ -51,10 +45,10 @@ pub record Merges (from : ℕ) (old new : RoomValue) (view : ViewValue) : Type 0
   pub read : IsMeasureOf view.eye.told (at_front two.0 two.1 view.region_len) measure
   pub taken : regions_for_job old.room measure ≡ Some regions
   pub ordered : measure.ordered ≡ true
-  pub measured : OfRead old two (λ a b. measure ≡ measure_of (merged a b))
+  pub measured : Measures view two.0 two.1 measure
   pub synced : new.disk.unsynced ≡ []
   pub room : Does (merged_state (record old.room { free = drop regions old.room.free }) (job_for two measure regions old.room.free) (header_for two measure regions old.room.free)) old.target old new
-  pub body : OfRead old two (λ a b. held_for new.room.image (job_for two measure regions old.room.free) ≡ Some (body_bytes (merged a b)))
+  pub body : OfTold view two.0 two.1 (λ a b. held_for new.room.image (job_for two measure regions old.room.free) ≡ Some (body_bytes (merged a b)))
   pub keeps : Keeps old new
 
 -- the room was open, and is as it was but for what its disk holds
@@ -62,12 +56,12 @@ pub record StaysAsIs (old new : RoomValue) : Type 0 where
   pub opened : old.room.is_shut ≡ false
   pub stays : StaysOpen None old.room.free old new
 
--- Nothing was merged: where the view has the two that would be tried, their measure was read, and where a read of the disk tells both,
--- they do not fit.
+-- Nothing was merged: where the view has the two that would be tried, their measure was read, and where the view's eye tells both, as it
+-- does where a read of the disk did, they do not fit.
 pub record MergesNone (from : ℕ) (old new : RoomValue) (view : ViewValue) : Type 0 where
   pub room : StaysAsIs old new
   pub read : (two : Part × Part) → AreTried from old view two → (measure : Measure) × IsMeasureOf view.eye.told (at_front two.0 two.1 view.region_len) measure
-  pub none : (two : Part × Part) → AreTried from old view two → OfRead old two (λ a b. FitsFree old.room.region_len (length old.room.free) a b → ⊥)
+  pub none : (two : Part × Part) → AreTried from old view two → OfTold view two.0 two.1 (λ a b. FitsFree old.room.region_len (length old.room.free) a b → ⊥)
 
 -- a read through the view was refused; a bad row or entry is one of the two that were tried
 pub record IsFetchRefused (from : ℕ) (old new : RoomValue) (view view' : ViewValue) (fault : MergeFault) : Type 0 where

@@ -110,11 +110,13 @@ fn write_blocks<D: LogDisk>(
 {
     let _counts = room.counts();
     loop {
-        let progress = write_next(room, view, job, header, blocks)?;
-        match progress {
-            Progress::Written => {}
-            Progress::Ended => return Ok(is_whole(job, &header)),
-            Progress::TooLong => return Ok(false),
+        match write_next(room, view, job, header, blocks) {
+            Ok(progress) => match progress {
+                Progress::Written => {}
+                Progress::Ended => return Ok(is_whole(job, &header)),
+                Progress::TooLong => return Ok(false),
+            },
+            Err(fault) => return Err(fault),
         }
     }
 }

@@ -42,14 +42,10 @@ fn shut_at<D: LogDisk>(room: &Room<D>) -> Option<u64>
     ensures shut { (epoch : ℕ) → result ≡ Some epoch → (room.now.room.is_shut ≡ true) × (epoch ≡ room.now.room.sealed) }
     ensures open { result ≡ None → room.now.room.is_shut ≡ false }
 {
-    match room.fit(0) {
-        Fit::Shut { epoch } => Some(epoch),
-        Fit::Fits
-        | Fit::Number { .. }
-        | Fit::TooLarge { .. }
-        | Fit::Full { .. }
-        | Fit::EpochFull { .. } => None,
+    if let Fit::Shut { epoch } = room.fit(0) {
+        return Some(epoch);
     }
+    None
 }
 
 /// Gives a job up.
@@ -112,12 +108,13 @@ fn write_part<D: LogDisk>(
     let _counts = room.counts();
     match write_body(alloc, room, view, job, header) {
         Ok(is_whole) => {
-            if !is_whole {
-                return Ok(false);
-            }
-            match seal_part(room, view, *job, header) {
-                Ok(()) => Ok(true),
-                Err(fault) => Err(MergeFault::Room(fault)),
+            if is_whole {
+                match seal_part(room, view, *job, header) {
+                    Ok(()) => Ok(true),
+                    Err(fault) => Err(MergeFault::Room(fault)),
+                }
+            } else {
+                Ok(false)
             }
         }
         Err(fault) => Err(fault),
@@ -206,21 +203,22 @@ pub fn merge_pair<D: LogDisk>(
     let Some(mut job) = room.merge_pick(from) else {
         return Ok(false);
     };
-    if !has_both(view, &job) {
-        give_up(room, job);
-        return Ok(false);
-    }
-    match merge_job(alloc, room, view, &mut job) {
-        Ok(merged) => {
-            if merged {
-                return Ok(true);
+    if has_both(view, &job) {
+        match merge_job(alloc, room, view, &mut job) {
+            Ok(merged) => {
+                if merged {
+                    return Ok(true);
+                }
+                give_up(room, job);
+                Ok(false)
             }
-            give_up(room, job);
-            Ok(false)
+            Err(fault) => {
+                give_up(room, job);
+                Err(fault)
+            }
         }
-        Err(fault) => {
-            give_up(room, job);
-            Err(fault)
-        }
+    } else {
+        give_up(room, job);
+        Ok(false)
     }
 }

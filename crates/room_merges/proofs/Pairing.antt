@@ -1,7 +1,7 @@
 -- From a job whose body is written to the merge of two neighbours.
 use Rattle.std.proofs.Common.{◌≡◌, ℕ, ◌<◌, ◌≤◌, Bool, true, false, List, [], drop, length, Some, None, Ok, Err, refl, sym, ap, subst, ◌∙◌, arith, true≢false}
 use Rattle.std.proofs.lemmas.Bool.{le-leb}
-use Rattle.std.specs.Prelude.{if◌then◌else◌, nat_le, Contains, IsErrOf, OnOk, Option, Result, option_map}
+use Rattle.std.specs.Prelude.{if◌then◌else◌, nat_le, Contains, IsErrOf, OnOk, is_some, Option, Result, option_map}
 use Rattle.fine_model.specs.declared.FetchFault.{FetchFault}
 use Rattle.fine_model.specs.declared.FetchFault.TheVariants as fetch_fault
 use Rattle.fine_model.specs.declared.Header.{Header}
@@ -25,6 +25,7 @@ use Rattle.partition_merge.specs.Mergers.{BlamesEntry, BlamesRow, IsMeasureOf, a
 use Rattle.epoch_room.specs.Meaning.{Keeps}
 use Rattle.epoch_room.specs.MergeSealing.{IsWrittenOut, SealsJobOr, merged_state}
 use Rattle.epoch_room.specs.MergeSteps.{free_after, free_dropped, fresh_job, header_over, if_enough, job_after, measured_len, neighbours_from, picked, regions_for_job, regions_needed, taken_job, with_job}
+use Rattle.epoch_room.specs.Returns.{IsPosted}
 use Rattle.epoch_room.specs.Steps.{Does, Fails}
 use Rattle.epoch_room.specs.Value.{RoomValue, on, regions_outside, taken}
 use Rattle.epoch_room.specs.Whole.{IsWhole}
@@ -33,20 +34,20 @@ use Rattle.epoch_room.specs.declared.answers.RoomFault.TheVariants as room_fault
 use Rattle.epoch_room.proofs.Joining.{keeps_then}
 use Rattle.room_merges.specs.declared.fault.MergeFault.{MergeFault}
 use Rattle.room_merges.specs.declared.fault.MergeFault.TheVariants as merge_fault
-use Rattle.room_merges.specs.Merging.{HoldsBody, IsOut, Measures, OfTold}
+use Rattle.room_merges.specs.Merging.{EyeTells, HoldsBody, IsOut, Measures, OfTold}
 use Rattle.room_merges.specs.Pairs.{AreTried, IsJobMerged, IsPartSealed, JobOr, Merges, MergesJob, MergesMeasured, MergesNone, MergesPair, PartOr, SealsPart, StaysAsIs, WritesPart, header_for, job_for, measure_in}
 use Rattle.room_merges.specs.Work.{BlamedBy, FallsShut, Looks, RefusesOr, StaysOpen, WritesAll, same_job}
 use Rattle.room_merges.proofs.Chained.{body_is_written, told_before, told_of}
 use Rattle.room_merges.proofs.Working.{blamed, falls_then, looks_refused, looks_sound, looks_then, of_same, refuses_then, stays_itself, stays_then, view_itself}
 
-some_none : {A : Type 0} (x : A) → Some x ≡ None → ⊥
+pub some_none : {A : Type 0} (x : A) → Some x ≡ None → ⊥
 some_none x is = cc
 
-some_same : {A : Type 0} (x y : A) → Some x ≡ Some y → x ≡ y
+pub some_same : {A : Type 0} (x y : A) → Some x ≡ Some y → x ≡ y
 some_same x y is = cc
 
 -- the same view, the other way round
-view_back : (v w : ViewValue) → SameView v w → SameView w v
+pub view_back : (v w : ViewValue) → SameView v w → SameView w v
 view_back v w s = record {
   eye = record { number = sym s.eye.number; regions = sym s.eye.regions; region_len = sym s.eye.region_len; told = sym s.eye.told };
   parts = sym s.parts;
@@ -282,6 +283,60 @@ module _ (old : RoomValue) (two : Part × Part) (measure : Measure) (regions : �
   part_taken new view view' job' (Ok true) whole keeps measured is wrote = sealed_taken new view view' job' keeps is wrote
   part_taken new view view' job' (Ok false) whole keeps measured is wrote = unsealed_taken new view view' job' whole keeps measured wrote
   part_taken new view view' job' (Err fault) whole keeps measured is wrote = refused_taken new view view' job' fault whole keeps wrote
+
+-- regions were taken for a job
+pub record Ready (header : Header) (old mid : RoomValue) (view : ViewValue) (job job' : Job) (measure : Measure) : Type 0 where
+  pub regions : ℕ
+  pub found : regions_for_job old.room measure ≡ Some regions
+  pub out : mid.room.job ≡ Some job'
+  pub opened : mid.room.is_shut ≡ false
+  pub none : job'.written ≡ 0
+  pub older : Contains view.parts job'.older
+  pub newer : Contains view.parts job'.newer
+  pub posted : IsPosted mid.room view
+  pub region_len : view.region_len ≡ mid.room.region_len
+  pub measured : Measures view job'.older job'.newer (measure_in header)
+
+found_some : (found : Option ℕ) → true ≡ is_some found → (k : ℕ) × (found ≡ Some k)
+found_some None is = absurd (true≢false is)
+found_some (Some k) is = (k, refl)
+
+pub found_none : (found : Option ℕ) → false ≡ is_some found → found ≡ None
+found_none None is = refl
+found_none (Some k) is = absurd (true≢false (sym is))
+
+-- a job that took regions has a header
+pub has_header : (job job' : Job) (measure : Measure) (free : List ℕ) (found : Option ℕ) → true ≡ is_some found → job' ≡ job_after job measure free found → job'.header ≡ None → ⊥
+has_header job job' measure free None some is none = true≢false some
+has_header job job' measure free (Some k) some is none = some_none (header_over job measure k free) (sym (ap (λ (j : Job). j.header) is) ∙ none)
+
+pub ready : (old mid : RoomValue) (view : ViewValue) (job job' : Job) (header : Header) (measure : Measure) → true ≡ is_some (regions_for_job old.room measure)
+    → job' ≡ job_after job measure old.room.free (regions_for_job old.room measure) → mid ≡ with_job old (Some job') (free_after old.room.free (regions_for_job old.room measure))
+    → job'.header ≡ Some header → old.room.is_shut ≡ false → job ≡ fresh_job (job.older, job.newer) → Contains view.parts job.older → Contains view.parts job.newer
+    → IsPosted old.room view → view.region_len ≡ old.room.region_len → Measures view job.older job.newer measure → Ready header old mid view job job' measure
+unfolding header_over
+ready old mid view job job' header measure some job_is mid_is has opened fresh older newer posted region_len measured =
+    let k = found_some (regions_for_job old.room measure) some in
+    let is : job' ≡ taken_job job measure k.0 old.room.free = job_is ∙ ap (job_after job measure old.room.free) k.1 in
+    let head : header_over job measure k.0 old.room.free ≡ header = some_same (header_over job measure k.0 old.room.free) header (sym (ap (λ (j : Job). j.header) is) ∙ has) in
+    let o : job'.older ≡ job.older = ap (λ (j : Job). j.older) is in
+    let n : job'.newer ≡ job.newer = ap (λ (j : Job). j.newer) is in
+    let ordered = in_order old.room measure k.0 k.1 in
+    record {
+      regions = k.0;
+      found = k.1;
+      out = ap (λ (v : RoomValue). v.room.job) mid_is;
+      opened = ap (λ (v : RoomValue). v.room.is_shut) mid_is ∙ opened;
+      none = ap (λ (j : Job). j.written) is ∙ ap (λ (j : Job). j.written) fresh;
+      older = subst (Contains view.parts) (sym o) older;
+      newer = subst (Contains view.parts) (sym n) newer;
+      posted = subst (λ (v : RoomValue). IsPosted v.room view) (sym mid_is) posted;
+      region_len = region_len ∙ sym (ap (λ (v : RoomValue). v.room.region_len) mid_is);
+      measured = λ a b older_told newer_told.
+        let same : measure ≡ measure_of (merged a b) = measured a b (subst (λ p. EyeTells view p a) o older_told) (subst (λ p. EyeTells view p b) n newer_told) in
+        let as_header : measure_in (header_over job measure k.0 old.room.free) ≡ measure = λ i. record { rows = measure.rows; nodes = measure.nodes; area = measure.area; ordered = sym ordered i } in
+        ap measure_in (sym head) ∙ as_header ∙ same;
+    }
 
 -- so of any job and room that are these
 pub measured_part : (old mid new : RoomValue) (view view' : ViewValue) (job taken_for job' : Job) (header : Header) (measure : Measure) (regions : ℕ) (result : Result Bool MergeFault)

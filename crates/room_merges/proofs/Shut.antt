@@ -17,22 +17,19 @@ never false false false false epoch sealed place need room free live retired mor
 
 pub shut_epoch : (room : RoomState) (cost epoch : ℕ) → fit_of room cost ≡ fit.Shut epoch → (room.is_shut ≡ true) × (epoch ≡ room.sealed)
 unfolding fit_of
-shut_epoch room cost epoch is = by room.is_shut refl is
+shut_epoch room cost epoch is = by room.is_shut _ (never _ _ _ _ epoch _ _ _ _ _ _ _ _) refl is
   where
-    abbrev rest : Fit
-    rest = fit_of (record room { is_shut = false }) cost
+    same : (m n : ℕ) → fit.Shut m ≡ fit.Shut n → m ≡ n
+    same m n is = cc
 
-    by : (s : Bool) → room.is_shut ≡ s → (if s then fit.Shut room.sealed else rest) ≡ fit.Shut epoch → (room.is_shut ≡ true) × (epoch ≡ room.sealed)
-    by true e is = (e, sym (same room.sealed epoch is))
-      where
-        same : (m n : ℕ) → fit.Shut m ≡ fit.Shut n → m ≡ n
-        same m n is = cc
-    by false e is = absurd (never _ _ _ _ epoch _ _ _ _ _ _ _ _ is)
+    by : (s : Bool) (rest : Fit) → (rest ≡ fit.Shut epoch → ⊥) → room.is_shut ≡ s → (if s then fit.Shut room.sealed else rest) ≡ fit.Shut epoch → (room.is_shut ≡ true) × (epoch ≡ room.sealed)
+    by true rest none e is = (e, sym (same room.sealed epoch is))
+    by false rest none e is = absurd (none is)
 
 pub not_shut : (room : RoomState) (cost : ℕ) → ((epoch : ℕ) → fit_of room cost ≡ fit.Shut epoch → ⊥) → room.is_shut ≡ false
 unfolding fit_of
-not_shut room cost none = by room.is_shut refl
+not_shut room cost none = by room.is_shut _ none refl
   where
-    by : (s : Bool) → room.is_shut ≡ s → room.is_shut ≡ false
-    by true e = absurd (none room.sealed (λ i. if e i then fit.Shut room.sealed else fit_of (record room { is_shut = false }) cost))
-    by false e = e
+    by : (s : Bool) (rest : Fit) → ((epoch : ℕ) → (if s then fit.Shut room.sealed else rest) ≡ fit.Shut epoch → ⊥) → room.is_shut ≡ s → room.is_shut ≡ false
+    by true rest none e = absurd (none room.sealed refl)
+    by false rest none e = e

@@ -2,8 +2,8 @@ use Rattle.std.proofs.Common.{◌≡◌, ◌≤◌, sym, subst, ap, ◌∙◌, a
 use Rattle.room_merges.proofs.Working.{begins, long_regions, none_allocated}
 use Rattle.room_merges.proofs.body.write_body.Goals as goal
 
-pub most_in_block-requires : goal.most_in_block-requires
-most_in_block-requires g c = let long = long_regions c.args.room.now c.counts-counts.ensures.whole in let len = c.region_len-region_len.ensures in omega (arith, long, len)
+pub most_in_block-most-requires : goal.most_in_block-most-requires
+most_in_block-most-requires g c = let long = long_regions c.args.room.now c.counts-counts.ensures.whole in let len = c.region_len-region_len.ensures in omega (arith, long, len)
 
 pub write_blocks-requires-clause-writing : goal.write_blocks-requires-clause-writing
 write_blocks-requires-clause-writing g c κs within =

@@ -1,5 +1,5 @@
 use Rattle.std.proofs.Common.{◌≡◌, Some, sym, ◌∙◌}
-use Rattle.room_merges.proofs.Pairing.{some_same}
+use Rattle.room_merges.proofs.Pairing.{some_none, some_same}
 use Rattle.room_merges.proofs.Shut.{not_shut, shut_epoch}
 use Rattle.room_merges.proofs.pair.shut_at.Goals as goal
 
@@ -9,4 +9,7 @@ returns-in-Shut-clause-shut g c =
     λ epoch same. (is.0, sym (some_same c.in-Shut.epoch epoch same) ∙ is.1)
 
 pub returns : goal.returns
-returns g c = let h = c.in_default in ?
+returns g c = record {
+  shut = λ epoch is. absurd (some_none epoch (sym is));
+  «open» = λ _. not_shut c.args.room.now.room 0 (λ epoch is. c.in_default.not-Shut epoch (c.fit.ensures ∙ is));
+}

@@ -22,7 +22,7 @@ seal_part-requires g c κs within =
     let wrote = subst (λ (r : Result Bool MergeFault). WritesAll c.args.header old mid view view' job job' r) (c.in-Ok.is ∙ ap (λ b. Ok b) c.if-is_whole.true) c.write_body.ensures in
     record {
       out = ap (λ (r : RoomState). r.job) wrote.room.room;
-      open = ap (λ (r : RoomState). r.is_shut) wrote.room.room ∙ c.requires.open;
+      «open» = ap (λ (r : RoomState). r.is_shut) wrote.room.room ∙ c.requires.open;
       taken = ap (λ (j : Job). j.header) wrote.same ∙ c.requires.taken;
       total = wrote.all.1;
       older = subst (λ ps. Contains ps job'.older) (sym wrote.looks.same.parts) (subst (λ (p : Part). Contains view.parts p) (sym (ap (λ (j : Job). j.older) wrote.same)) c.requires.older);

@@ -475,6 +475,24 @@ pub record Tries (from : ℕ) (old mid : RoomValue) (view : ViewValue) (job : Jo
   pub is : mid ≡ with_job old (Some job) old.room.free
   pub keeps : Keeps old mid
 
+pub tries_from : (from : ℕ) (old mid : RoomValue) (view : ViewValue) (job : Job) → old.room.job ≡ None → old.room.is_shut ≡ false → IsOut old view → picked old.room from ≡ Some job
+    → mid ≡ with_job old (picked old.room from) old.room.free → Keeps old mid → Tries from old mid view job
+tries_from from old mid view job none opened out found is keeps = record {
+  none = none;
+  opened = opened;
+  out = out;
+  first = (pick_found old.room from job opened found).0;
+  is = is ∙ ap (λ j. with_job old j old.room.free) found;
+  keeps = keeps;
+}
+
+-- a job that was refused is out
+pub refused_out : (job : Job) (free : List ℕ) (old new : RoomValue) (fault : MergeFault) → RefusesOr (Some job) free old new fault → new.room.job ≡ Some job
+refused_out job free old new (merge_fault.Fetch fault) stays = ap (λ (r : RoomState). r.job) stays.room
+refused_out job free old new (merge_fault.Room room_fault.NoMemory) stays = ap (λ (r : RoomState). r.job) stays.room
+refused_out job free old new (merge_fault.Room room_fault.Disk) falls = ap (λ (r : RoomState). r.job) falls.room
+refused_out job free old new (merge_fault.Room (room_fault.Shut epoch)) none = absurd none
+
 -- a job was given up
 pub record GivesUp (new last : RoomValue) : Type 0 where
   pub is : last ≡ with_job new None (free_dropped new.room)

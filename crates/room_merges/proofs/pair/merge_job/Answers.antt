@@ -16,33 +16,36 @@ use Rattle.room_merges.proofs.Working.{of_same, posted_then}
 use Rattle.room_merges.proofs.pair.merge_job.Goals as goal
 
 pub measure-requires : goal.measure-requires
-measure-requires g c κs within = record {
+measure-requires g c = record {
   older = subst (Contains c.args.view.now.parts) (sym c.new-merger.ensures.older) c.requires.older;
   newer = subst (Contains c.args.view.now.parts) (sym c.new-merger.ensures.newer) c.requires.newer;
   region_len = c.new-merger.ensures.region_len ∙ c.region_len.ensures;
 }
 
-pub merge_measured-requires : goal.merge_measured-requires
-merge_measured-requires g c κs within =
+pub merge_measured-requires-clause-older : goal.merge_measured-requires-clause-older
+merge_measured-requires-clause-older g c κs within = subst (λ ps. Contains ps c.args.job.now.older) (sym c.measure.ensures.same.parts) c.requires.older
+
+pub merge_measured-requires-clause-newer : goal.merge_measured-requires-clause-newer
+merge_measured-requires-clause-newer g c κs within = subst (λ ps. Contains ps c.args.job.now.newer) (sym c.measure.ensures.same.parts) c.requires.newer
+
+pub merge_measured-requires-clause-posted : goal.merge_measured-requires-clause-posted
+merge_measured-requires-clause-posted g c κs within = posted_then c.args.room.now.room c.args.room.now.room c.args.view.now c.measure.new.self refl c.measure.ensures.same c.requires.posted
+
+pub merge_measured-requires-clause-region_len : goal.merge_measured-requires-clause-region_len
+merge_measured-requires-clause-region_len g c κs within = c.measure.ensures.same.region_len ∙ c.requires.region_len
+
+pub merge_measured-requires-clause-counted : goal.merge_measured-requires-clause-counted
+merge_measured-requires-clause-counted g c κs within = c.in-Ok.ensures.counted
+
+pub merge_measured-requires-clause-measured : goal.merge_measured-requires-clause-measured
+merge_measured-requires-clause-measured g c κs within =
     let view = c.args.view.now in
-    let view' = c.measure.new.self in
     let job = c.args.job.now in
-    let same = c.measure.ensures.same in
     let measured : Measures view job.older job.newer c.in-Ok.measure =
     measure_is_told view job.older job.newer c.in-Ok.measure c.parts-parts.ensures.whole c.requires.older c.requires.newer
     (λ a b p q small. subst (λ (r : Result Measure FetchFault). MatchResult r (λ m. m ≡ measure_of (merged a b)) NoDamage) c.in-Ok.is
       (c.measure.ensures.exact a b (subst (λ part. TellsPart view.eye part a) (sym c.new-merger.ensures.older) p) (subst (λ part. TellsPart view.eye part b) (sym c.new-merger.ensures.newer) q) small)) in
-    record {
-      out = c.requires.out;
-      «open» = c.requires.open;
-      fresh = c.requires.fresh;
-      older = subst (λ ps. Contains ps job.older) (sym same.parts) c.requires.older;
-      newer = subst (λ ps. Contains ps job.newer) (sym same.parts) c.requires.newer;
-      posted = posted_then c.args.room.now.room c.args.room.now.room view view' refl same c.requires.posted;
-      region_len = same.region_len ∙ c.requires.region_len;
-      counted = c.in-Ok.ensures.counted;
-      measured = of_same view view' job job same refl refl (λ a b. c.in-Ok.measure ≡ measure_of (merged a b)) measured;
-    }
+    of_same view c.measure.new.self job job c.measure.ensures.same refl refl (λ a b. c.in-Ok.measure ≡ measure_of (merged a b)) measured
 
 pub returns-in-Ok : goal.returns-in-Ok
 returns-in-Ok g c =

@@ -86,8 +86,7 @@ pub blocks_go_on : BlocksGoOn
 blocks_go_on old new view view' blocks blocks' job job' same older newer more gives held between a b older_told newer_told =
     let was = between a b
     (told_before view view' job.older a same (subst (λ p. EyeTells view' p a) older older_told))
-    (told_before view view' job.newer b same (subst (λ p. EyeTells view' p b) newer newer_told)) in
-    (
+    (told_before view view' job.newer b same (subst (λ p. EyeTells view' p b) newer newer_told)) in (
       was.0 ++ blocks'.block,
       gives was.0 a b was.1,
       held ∙ ap (λ h. option_map (λ bytes. bytes ++ blocks'.block) h) was.2,
@@ -100,11 +99,11 @@ body_long rows = omega (arith, length-append (rows_bytes rows) (index_bytes rows
 pub blocks_end : BlocksEnd
 blocks_end value view view' blocks job same ends between = (
   λ a b older_told newer_told.
-    let was = between a b (told_before view view' job.older a same older_told) (told_before view view' job.newer b same newer_told) in
-    was.2 ∙ ap (λ bytes. Some bytes) (ends was.0 a b was.1),
+      let was = between a b (told_before view view' job.older a same older_told) (told_before view view' job.newer b same newer_told) in
+      was.2 ∙ ap (λ bytes. Some bytes) (ends was.0 a b was.1),
   λ a b older_told newer_told.
-    let was = between a b (told_before view view' job.older a same older_told) (told_before view view' job.newer b same newer_told) in
-    sym was.3 ∙ ap length (ends was.0 a b was.1) ∙ body_long (merged a b),
+      let was = between a b (told_before view view' job.older a same older_told) (told_before view view' job.newer b same newer_told) in
+      sym was.3 ∙ ap length (ends was.0 a b was.1) ∙ body_long (merged a b),
 )
 
 pub body_is_written : BodyIsWritten

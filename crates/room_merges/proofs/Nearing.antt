@@ -28,7 +28,7 @@ use Rattle.epoch_room.specs.declared.answers.RoomFault.TheVariants as room_fault
 use Rattle.room_merges.specs.declared.fault.MergeFault.{MergeFault}
 use Rattle.room_merges.specs.declared.fault.MergeFault.TheVariants as merge_fault
 use Rattle.room_merges.specs.Merging.{EyeTells, IsOut, OfTold}
-use Rattle.room_merges.specs.Near.{BlamesTwo, MergesAny, MergesAt, MergesBetween, NoneBetween, OfNeighbours, StandIn, TriesAll, TriesBetween, TriesOr, Unfit}
+use Rattle.room_merges.specs.Near.{BlamesTwo, MergesAny, MergesAt, MergesBetween, NoneBetween, OfNeighbours, StandIn, TriesAll, TriesBetween, TriesOr, Unfit, epochs_end}
 use Rattle.room_merges.specs.Pairs.{AreTried, Merges, MergesPair, PairOr}
 use Rattle.room_merges.specs.Work.{FallsShut, Looks, StaysOpen}
 use Rattle.room_merges.proofs.Chained.{told_before}
@@ -145,7 +145,7 @@ either from n = by (nat_le from n) refl
 
 -- those from an epoch on, and those before it, are all
 all_between : (from next : ℕ) (P : Part → Part → Type 0) (parts : List Part) → 1 ≤ next → FollowOn next parts
-    → OfNeighbours (Between from 18446744073709551615 P) parts → OfNeighbours (Between 1 from P) parts → OfNeighbours P parts
+    → OfNeighbours (Between from epochs_end P) parts → OfNeighbours (Between 1 from P) parts → OfNeighbours P parts
 all_between from next P [] some follow high low = tt
 all_between from next P (p ∷ []) some follow high low = tt
 all_between from next P (p ∷ q ∷ parts) some follow high low =
@@ -264,7 +264,7 @@ module _ (from at : ℕ) (old mid : RoomValue) (view seen : ViewValue) (whole : 
         unmoved = view_later view seen view' so_far.unmoved done.looks.same;
         steady = done.looks.counts.else_same (λ failed. cc) ∙ so_far.steady;
         none = subst (λ n. NoneBetween from n old view) (sym found.2)
-          (more_between from at 1 (Unfit old view) old.room.parts two whole.in_chain.follow (subst (λ ps. neighbours_from at ps ≡ Some two) same_parts found.1) unfit so_far.none);
+            (more_between from at 1 (Unfit old view) old.room.parts two whole.in_chain.follow (subst (λ ps. neighbours_from at ps ≡ Some two) same_parts found.1) unfit so_far.none);
       }
 
   -- none are left
@@ -336,7 +336,7 @@ none_back from until old mid view seen stays same none =
     subst (OfNeighbours (Between from until (Unfit old view))) (ap (λ (r : RoomState). r.parts) stays.room)
     (of_each (Between from until (Unfit mid seen)) (Between from until (Unfit old view)) (λ p q has a b. unfit_back old mid view seen p q stays same (has a b)) mid.room.parts none)
 
-pub any_merged : (from : ℕ) (old new : RoomValue) (view view' : ViewValue) → TriesBetween from 18446744073709551615 old new view view' (Ok true) → TriesAll from old new view view' (Ok true)
+pub any_merged : (from : ℕ) (old new : RoomValue) (view view' : ViewValue) → TriesBetween from epochs_end old new view view' (Ok true) → TriesAll from old new view view' (Ok true)
 any_merged from old new view view' tries = record { room = (tries.room.0, inl (tries.room.1, tries.room.3), tries.room.4); looks = tries.looks }
 
 pub any_refused : (from until : ℕ) (old new : RoomValue) (view view' : ViewValue) (fault : MergeFault) → TriesBetween from until old new view view' (Err fault) → TriesAll from old new view view' (Err fault)
@@ -345,16 +345,16 @@ any_refused from until old new view view' fault tries = record {
   looks = tries.looks;
 }
 
-pub any_more : (from : ℕ) (old mid new : RoomValue) (view seen view' : ViewValue) (result : Result Bool MergeFault) → IsWhole old → TriesBetween from 18446744073709551615 old mid view seen (Ok false)
+pub any_more : (from : ℕ) (old mid new : RoomValue) (view seen view' : ViewValue) (result : Result Bool MergeFault) → IsWhole old → TriesBetween from epochs_end old mid view seen (Ok false)
     → TriesBetween 1 from mid new seen view' result → TriesAll from old new view view' result
 any_more from old mid new view seen view' result whole first second = record {
   room = tries_then (MergesBetween 1 from mid new seen) (MergesAny from old new view) (NoneBetween 1 from mid seen) (OfNeighbours (Unfit old view) old.room.parts) old mid new view seen view' result first.room.0
-    (λ some. (
-      some.0,
-      inr (some.2, first.room.1, none_back 1 some.0 old mid view seen first.room.0 first.looks.same some.3),
-      at_then some.0 old mid new view seen first.room.0 first.looks.same some.4,
-    ))
-    (λ low. all_between from 1 (Unfit old view) old.room.parts (omega arith) whole.in_chain.follow first.room.1 (none_back 1 from old mid view seen first.room.0 first.looks.same low))
-    second.room;
+      (λ some. (
+        some.0,
+        inr (some.2, first.room.1, none_back 1 some.0 old mid view seen first.room.0 first.looks.same some.3),
+        at_then some.0 old mid new view seen first.room.0 first.looks.same some.4,
+      ))
+      (λ low. all_between from 1 (Unfit old view) old.room.parts (omega arith) whole.in_chain.follow first.room.1 (none_back 1 from old mid view seen first.room.0 first.looks.same low))
+      second.room;
   looks = looks_then view seen view' result first.looks.same (first.looks.counts.else_same (λ failed. cc)) second.looks;
 }

@@ -142,7 +142,7 @@ module _ (header : Header) (old mid new : RoomValue) (view view' : ViewValue) (j
           synced = sealed.synced;
           room = subst (λ j. Does (merged_state old.room j header) old.target old new) same (does_later header (same_job job' (body_len header)) (Some job') old mid new whole wrote.room sealed.room);
           body = of_job view' job job' (λ a b. held_for new.room.image (same_job job (body_len header)) ≡ Some (body_bytes (merged a b))) wrote.same
-            (subst (λ j. OfTold view' job'.older job'.newer (λ a b. held_for new.room.image j ≡ Some (body_bytes (merged a b)))) same sealed.body);
+              (subst (λ j. OfTold view' job'.older job'.newer (λ a b. held_for new.room.image j ≡ Some (body_bytes (merged a b)))) same sealed.body);
           keeps = keeps_then old mid new wrote.room.keeps sealed.keeps;
         };
         looks = looks_sound view view' (Ok true) wrote.looks.same (wrote.looks.counts.else_same (λ failed. cc)) (λ failed. cc);
@@ -153,7 +153,7 @@ module _ (header : Header) (old mid new : RoomValue) (view view' : ViewValue) (j
   part_unsealed fault wrote refused = record {
     part = (
       subst (λ free. RefusesOr (Some job') free old new (merge_fault.Room fault)) (ap (λ (r : RoomState). r.free) wrote.room.room)
-        (refuses_then (Some job') (Some job') old.room.free mid.room.free old mid new (merge_fault.Room fault) wrote.room refused),
+          (refuses_then (Some job') (Some job') old.room.free mid.room.free old mid new (merge_fault.Room fault) wrote.room refused),
       tt,
     );
     looks = looks_sound view view' (Err (merge_fault.Room fault)) wrote.looks.same (wrote.looks.counts.else_same (λ failed. cc)) (λ failed. cc);
@@ -199,7 +199,7 @@ none_taken old new view job job' measure whole out measured none job_is room_is 
       job = (
         subst (λ (v : RoomValue). StaysOpen (Some job') v.room.free old v) (sym stays) (subst (λ j. StaysOpen (Some j) old.room.free old old) (sym is) (stays_itself old (Some job) whole out)),
         λ a b older_told newer_told fits.
-          some_none fits.regions (sym (fit_taken old.room a b fits) ∙ ap (regions_for_job old.room) (sym (measured a b older_told newer_told)) ∙ none),
+            some_none fits.regions (sym (fit_taken old.room a b fits) ∙ ap (regions_for_job old.room) (sym (measured a b older_told newer_told)) ∙ none),
       );
       looks = looks_sound view view (Ok false) (view_itself view) refl (λ failed. cc);
     }
@@ -260,8 +260,8 @@ module _ (old : RoomValue) (two : Part × Part) (measure : Measure) (regions : �
         job = (
           subst (λ f. StaysOpen (Some job') f old new) (sym (ap (λ (r : RoomState). r.free) stays.room)) stays,
           λ a b older_told newer_told fits.
-            wrote.part.1 a b older_told newer_told
-            (sym (ap measured_len (measured a b (told_before view view' two.0 a wrote.looks.same older_told) (told_before view view' two.1 b wrote.looks.same newer_told)))),
+              wrote.part.1 a b older_told newer_told
+              (sym (ap measured_len (measured a b (told_before view view' two.0 a wrote.looks.same older_told) (told_before view view' two.1 b wrote.looks.same newer_told)))),
         );
         looks = wrote.looks;
       }
@@ -271,7 +271,7 @@ module _ (old : RoomValue) (two : Part × Part) (measure : Measure) (regions : �
   refused_taken new view view' job' fault whole keeps wrote = record {
     job = (
       refused_free (Some job') (drop regions old.room.free) old new fault
-        (refuses_then (Some job_taken) (Some job') (drop regions old.room.free) (drop regions old.room.free) old room_taken new fault (takes whole keeps) wrote.part.0),
+          (refuses_then (Some job_taken) (Some job') (drop regions old.room.free) (drop regions old.room.free) old room_taken new fault (takes whole keeps) wrote.part.0),
       wrote.part.1,
     );
     looks = wrote.looks;
@@ -333,9 +333,9 @@ ready old mid view job job' header measure some job_is mid_is has opened fresh o
       posted = subst (λ (v : RoomValue). IsPosted v.room view) (sym mid_is) posted;
       region_len = region_len ∙ sym (ap (λ (v : RoomValue). v.room.region_len) mid_is);
       measured = λ a b older_told newer_told.
-        let same : measure ≡ measure_of (merged a b) = measured a b (subst (λ p. EyeTells view p a) o older_told) (subst (λ p. EyeTells view p b) n newer_told) in
-        let as_header : measure_in (header_over job measure k.0 old.room.free) ≡ measure = λ i. record { rows = measure.rows; nodes = measure.nodes; area = measure.area; ordered = sym ordered i } in
-        ap measure_in (sym head) ∙ as_header ∙ same;
+          let same : measure ≡ measure_of (merged a b) = measured a b (subst (λ p. EyeTells view p a) o older_told) (subst (λ p. EyeTells view p b) n newer_told) in
+          let as_header : measure_in (header_over job measure k.0 old.room.free) ≡ measure = λ i. record { rows = measure.rows; nodes = measure.nodes; area = measure.area; ordered = sym ordered i } in
+          ap measure_in (sym head) ∙ as_header ∙ same;
     }
 
 -- so of any job and room that are these
@@ -388,10 +388,10 @@ job_unmeasured value view view' merger job fault out is_out has_older has_newer 
       job = (
         stays_itself value (Some job) out.whole is_out,
         blamed view view' merger job.older job.newer fault same (ap (λ (m : Merger). m.region_len) is) o n
-          (λ region at bad. row region at (ap (λ f. Err f) bad)) (λ region at bad. entry region at (ap (λ f. Err f) bad))
-          (of_same view view' job job same refl refl (λ a b. NoDamage fault)
-          (told_of view job.older job.newer (λ a b. NoDamage fault) out.is_view has_older has_newer
-          (λ a b p q. exact a b (subst (λ part. TellsPart view.eye part a) (sym o) p) (subst (λ part. TellsPart view.eye part b) (sym n) q)))),
+            (λ region at bad. row region at (ap (λ f. Err f) bad)) (λ region at bad. entry region at (ap (λ f. Err f) bad))
+            (of_same view view' job job same refl refl (λ a b. NoDamage fault)
+            (told_of view job.older job.newer (λ a b. NoDamage fault) out.is_view has_older has_newer
+            (λ a b p q. exact a b (subst (λ part. TellsPart view.eye part a) (sym o) p) (subst (λ part. TellsPart view.eye part b) (sym n) q)))),
       );
       looks = looks_refused {A = Measure} {B = Bool} view view' fault same counts;
     }
@@ -434,9 +434,9 @@ stays_given_up : (job : Job) (free : List ℕ) (old mid new : RoomValue) → Sta
     → StaysOpen None (free_dropped mid.room) old new
 stays_given_up job free old mid new first is keeps = record {
   room =
-    ap (λ (v : RoomValue). v.room) is
-    ∙ ap (λ (r : RoomState). record r { job = None; free = free_dropped mid.room }) first.room
-    ∙ ap (λ (d : Disk). on (record old.room { job = None; free = free_dropped mid.room }) d) (sym (ap (λ (v : RoomValue). v.disk) is));
+      ap (λ (v : RoomValue). v.room) is
+      ∙ ap (λ (r : RoomState). record r { job = None; free = free_dropped mid.room }) first.room
+      ∙ ap (λ (d : Disk). on (record old.room { job = None; free = free_dropped mid.room }) d) (sym (ap (λ (v : RoomValue). v.disk) is));
   target = ap (λ (v : RoomValue). v.target) is ∙ first.target;
   entry = ap (λ (v : RoomValue). v.entry) is ∙ first.entry;
   counts = record { faults = ap (λ (v : RoomValue). v.disk.faults) is ∙ first.counts.faults; own_faults = ap (λ (v : RoomValue). v.disk.own_faults) is ∙ first.counts.own_faults };
@@ -447,9 +447,9 @@ falls_given_up : (job : Job) (free : List ℕ) (old mid new : RoomValue) → Fal
     → FallsShut None (free_dropped mid.room) old new
 falls_given_up job free old mid new first is keeps = record {
   room =
-    ap (λ (v : RoomValue). v.room) is
-    ∙ ap (λ (r : RoomState). record r { job = None; free = free_dropped mid.room }) first.room
-    ∙ (λ i. on (record old.room { job = None; free = free_dropped mid.room; lost = sym (ap (λ (v : RoomValue). v.room.lost) is) i; is_shut = true }) (sym (ap (λ (v : RoomValue). v.disk) is) i));
+      ap (λ (v : RoomValue). v.room) is
+      ∙ ap (λ (r : RoomState). record r { job = None; free = free_dropped mid.room }) first.room
+      ∙ (λ i. on (record old.room { job = None; free = free_dropped mid.room; lost = sym (ap (λ (v : RoomValue). v.room.lost) is) i; is_shut = true }) (sym (ap (λ (v : RoomValue). v.disk) is) i));
   target = ap (λ (v : RoomValue). v.target) is ∙ first.target;
   entry = ap (λ (v : RoomValue). v.entry) is ∙ first.entry;
   fails = subst (λ (d : Disk). Fails old.disk d) (sym (ap (λ (v : RoomValue). v.disk) is)) first.fails;
@@ -521,8 +521,8 @@ module _ (from : ℕ) (old mid : RoomValue) (view : ViewValue) (job : Job) (trie
   pair_lacked last lacks up =
       let none : (two : Part × Part) → AreTried from old view two → ⊥ =
       λ two tried. lacks
-        (subst (λ (t : Part × Part). Contains view.parts t.0) (sym (same_two two tried)) tried.older)
-        (subst (λ (t : Part × Part). Contains view.parts t.1) (sym (same_two two tried)) tried.newer) in
+      (subst (λ (t : Part × Part). Contains view.parts t.0) (sym (same_two two tried)) tried.older)
+      (subst (λ (t : Part × Part). Contains view.parts t.1) (sym (same_two two tried)) tried.newer) in
       record {
         room = record {
           room = up_open old mid last job old.room.free tries.none tries.opened tries.out.whole was_picked up;

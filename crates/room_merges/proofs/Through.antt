@@ -41,7 +41,7 @@ use Rattle.epoch_room.proofs.Retired.{lead_place, replaced_two}
 use Rattle.room_merges.specs.declared.fault.MergeFault.{MergeFault}
 use Rattle.room_merges.specs.declared.fault.MergeFault.TheVariants as merge_fault
 use Rattle.room_merges.specs.Merging.{EyeTells, IsOut}
-use Rattle.room_merges.specs.Near.{BlamesTwo, Empties, EmptiesOr, ErasedOr, IsReadRefused, IsShutNow, IsWell, KeepsRest, MergesAny, MergesErased, MergesFirst, MergesNear, MergesThrough, MergesTwo, NearOr, NoneBefore, NoneBetween, NoneFitNow, OfNeighbours, SameOrMerged, StandIn, ThroughOr, TriesAll, Unfit}
+use Rattle.room_merges.specs.Near.{BlamesTwo, Empties, EmptiesOr, ErasedOr, IsReadRefused, IsShutNow, IsWell, KeepsRest, MergesAny, MergesErased, MergesFirst, MergesNear, MergesThrough, MergesTwo, NearOr, NoneBefore, NoneBetween, NoneFitNow, OfNeighbours, SameOrMerged, StandIn, ThroughOr, TriesAll, Unfit, epochs_end}
 use Rattle.room_merges.specs.Pairs.{Merges, header_for, job_for}
 use Rattle.room_merges.specs.Work.{FallsShut, Looks, StaysOpen}
 use Rattle.room_merges.proofs.Chained.{shown_by_eye, told_before}
@@ -330,9 +330,9 @@ module _ (old mid tried new : RoomValue) (view view' : ViewValue) (is : Passes o
   rest_all rest = record {
     job = ap (λ (r : RoomState). r.job) is.back.room.room ∙ rest.job;
     board =
-      ap (λ (r : RoomState). r.board) is.back.room.room
-      ∙ (λ i. slice_set ((rest.board ∙ now_board old mid view is.whole is.all is.views) i) (buffer_at ((is.same.place.0 ∙ is.views.of_seat) i) ((is.same.place.1 ∙ at_first old mid view is.whole is.all is.views) i)) None)
-      ∙ sym (was_board old mid view is.whole is.all is.views);
+        ap (λ (r : RoomState). r.board) is.back.room.room
+        ∙ (λ i. slice_set ((rest.board ∙ now_board old mid view is.whole is.all is.views) i) (buffer_at ((is.same.place.0 ∙ is.views.of_seat) i) ((is.same.place.1 ∙ at_first old mid view is.whole is.all is.views) i)) None)
+        ∙ sym (was_board old mid view is.whole is.all is.views);
     sealed = ap (λ (r : RoomState). r.sealed) is.back.room.room ∙ rest.sealed ∙ ap (λ (r : RoomState). r.sealed) is.views.posts.1.room;
     places = ap (λ (r : RoomState). r.places) is.back.room.room ∙ rest.places ∙ ap (λ (r : RoomState). r.places) is.views.posts.1.room;
     waiting = ap (λ (r : RoomState). r.waiting) is.back.room.room ∙ rest.waiting ∙ ap (λ (r : RoomState). r.waiting) is.views.posts.1.room;
@@ -382,7 +382,7 @@ module _ (old mid tried new : RoomValue) (view view' : ViewValue) (is : Passes o
       let holds = (held_now new is.ends (is.ends.lost open_room) image told).1 in
       let header : HasHeader new.disk.region_len image p.region p.header =
       All-contains (λ (q : Part). HasHeader new.disk.region_len image q.region q.header) (new.room.parts ++ new.room.retired) p (All-from_recursion _ (new.room.parts ++ new.room.retired) holds.headers)
-        (Contains-append_left new.room.parts new.room.retired p there) in
+      (Contains-append_left new.room.parts new.room.retired p there) in
       record { image = image; is_told = told; headers = (subst (λ n. HasHeader n image p.region p.header) (sym (ap (λ (r : RoomState). r.region_len) is.ends.of_disk)) header, tt); are_rows = are }
 
   none_fit : new.room.is_shut ≡ false → StaysOpen None mid.room.free mid tried → OfNeighbours (Unfit mid view) mid.room.parts → NoneFitNow new
@@ -448,7 +448,7 @@ module _ (old mid tried new : RoomValue) (view view' : ViewValue) (is : Passes o
 
   same_before : (from at : ℕ) → NoneBefore from at mid view → NoneBefore from at old view
   same_before from at (inl (low, none)) = inl (low, same_none from at none)
-  same_before from at (inr (high, none, more)) = inr (high, same_none from 18446744073709551615 none, same_none 1 at more)
+  same_before from at (inr (high, none, more)) = inr (high, same_none from epochs_end none, same_none 1 at more)
 
   -- what a read of the disk told of a live part, the view told
   shown_first : (p : Part) (rows : List Row) → Contains old.room.parts p → TellsRowsOf old.room.image old.room.region_len (p ∷ []) rows → EyeTells view p rows
@@ -475,8 +475,8 @@ module _ (old mid tried new : RoomValue) (view view' : ViewValue) (is : Passes o
         rest = rest_all rest;
         through = (
           well_all (ap (λ (r : RoomState). r.is_shut) m.room.1.room ∙ m.room.0)
-            (record { faults = m.room.2.faults ∙ some.stays.counts.faults; own_faults = m.room.2.own_faults ∙ some.stays.counts.own_faults })
-            (looks.counts.else_same (λ failed. cc)),
+              (record { faults = m.room.2.faults ∙ some.stays.counts.faults; own_faults = m.room.2.own_faults ∙ some.stays.counts.own_faults })
+              (looks.counts.else_same (λ failed. cc)),
           record {
             merged = two_from some.mid.room.parts old.room.parts tried.room.parts new.room.parts were (ap (λ (r : RoomState). r.parts) is.back.room.room) (two_merged at some.mid tried some.seen m);
             view = view;
@@ -485,7 +485,7 @@ module _ (old mid tried new : RoomValue) (view view' : ViewValue) (is : Passes o
             first = subst (λ ps. neighbours_from at ps ≡ Some m.two) were m.tried.first;
             before = same_before from at before;
             fits = λ a b a_told b_told.
-              subst (λ n. FitsFree n (length old.room.free) a b) len
+                subst (λ n. FitsFree n (length old.room.free) a b) len
                 (subst (λ (f : List ℕ). FitsFree some.mid.room.region_len (length f) a b) free
                 (taken_fits some.mid.room a b m.measure m.regions m.taken (m.measured a b (told_on some.seen some.same m.two.0 a a_told) (told_on some.seen some.same m.two.1 b b_told))));
           },

@@ -151,20 +151,20 @@ blamed_row : (known known' : Option Image) (m m' : Merger) (place : Place) → k
 blamed_row known known' m m' place told len older newer blames = record {
   node = blames.node;
   is_bad =
-    subst (λ k. HasBadRow k m'.region_len (older_part m') blames.node place ⊎ HasBadRow k m'.region_len (newer_part m') blames.node place) (sym told)
-    (subst (λ n. HasBadRow known n (older_part m') blames.node place ⊎ HasBadRow known n (newer_part m') blames.node place) (sym len)
-    (subst (λ p. HasBadRow known m.region_len p blames.node place ⊎ HasBadRow known m.region_len (newer_part m') blames.node place) (sym older)
-    (subst (λ p. HasBadRow known m.region_len (older_part m) blames.node place ⊎ HasBadRow known m.region_len p blames.node place) (sym newer) blames.is_bad)));
+      subst (λ k. HasBadRow k m'.region_len (older_part m') blames.node place ⊎ HasBadRow k m'.region_len (newer_part m') blames.node place) (sym told)
+      (subst (λ n. HasBadRow known n (older_part m') blames.node place ⊎ HasBadRow known n (newer_part m') blames.node place) (sym len)
+      (subst (λ p. HasBadRow known m.region_len p blames.node place ⊎ HasBadRow known m.region_len (newer_part m') blames.node place) (sym older)
+      (subst (λ p. HasBadRow known m.region_len (older_part m) blames.node place ⊎ HasBadRow known m.region_len p blames.node place) (sym newer) blames.is_bad)));
 }
 
 blamed_entry : (known known' : Option Image) (m m' : Merger) (place : Place) → known' ≡ known → m'.region_len ≡ m.region_len → older_part m' ≡ older_part m → newer_part m' ≡ newer_part m
     → BlamesEntry known m place → BlamesEntry known' m' place
 blamed_entry known known' m m' place told len older newer blames = record {
   is_bad =
-    subst (λ k. HasBadEntry k m'.region_len (older_part m') place ⊎ HasBadEntry k m'.region_len (newer_part m') place) (sym told)
-    (subst (λ n. HasBadEntry known n (older_part m') place ⊎ HasBadEntry known n (newer_part m') place) (sym len)
-    (subst (λ p. HasBadEntry known m.region_len p place ⊎ HasBadEntry known m.region_len (newer_part m') place) (sym older)
-    (subst (λ p. HasBadEntry known m.region_len (older_part m) place ⊎ HasBadEntry known m.region_len p place) (sym newer) blames.is_bad)));
+      subst (λ k. HasBadEntry k m'.region_len (older_part m') place ⊎ HasBadEntry k m'.region_len (newer_part m') place) (sym told)
+      (subst (λ n. HasBadEntry known n (older_part m') place ⊎ HasBadEntry known n (newer_part m') place) (sym len)
+      (subst (λ p. HasBadEntry known m.region_len p place ⊎ HasBadEntry known m.region_len (newer_part m') place) (sym older)
+      (subst (λ p. HasBadEntry known m.region_len (older_part m) place ⊎ HasBadEntry known m.region_len p place) (sym newer) blames.is_bad)));
 }
 
 -- what a merger of two parts blames; where the eye tells both, nothing is damaged
@@ -284,7 +284,7 @@ next_written header old new view view' blocks blocks' job job' (Ok progress.TooL
   looks = looks_sound view view' (Ok progress.TooLong) takes.same takes.steady (λ failed. cc);
   same = done.same;
   next = of_same view view' job job' takes.same (ap (λ (j : Job). j.older) done.same) (ap (λ (j : Job). j.newer) done.same) (λ a b. body_len header < cost (merged a b))
-    (λ a b older_told newer_told.
+      (λ a b older_told newer_told.
       let before = was.between a b older_told newer_told in
       let most = handed_len view'.eye blocks' (before.0 ++ blocks'.block) a b (takes.gives before.0 a b before.1) in
       let over = done.wrote.0 in
@@ -311,7 +311,7 @@ next_refused header value view view' blocks blocks' job fault whole out same cou
   looks = looks_refused {A = Bool} {B = Progress} view view' fault same counts;
   same = refl;
   next = blamed view view' blocks.merger job.older job.newer fault same was.region_len was.older was.newer row entry
-    (of_same view view' job job same refl refl (λ a b. NoDamage fault) (λ a b older_told newer_told. let before = was.between a b older_told newer_told in sound before.0 a b before.1));
+      (of_same view view' job job same refl refl (λ a b. NoDamage fault) (λ a b older_told newer_told. let before = was.between a b older_told newer_told in sound before.0 a b before.1));
 }
 
 -- ---- all blocks

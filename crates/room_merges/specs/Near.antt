@@ -37,6 +37,10 @@ OfNeighbours P [] = ⊤
 OfNeighbours P (p ∷ []) = ⊤
 OfNeighbours P (p ∷ q ∷ parts) = P p q × OfNeighbours P (q ∷ parts)
 
+-- no part begins here or behind
+abbrev pub epochs_end : ℕ
+epochs_end = 18446744073709551615
+
 -- two parts do not fit what is free, where the view's eye tells both
 abbrev pub Unfit : RoomValue → ViewValue → Part → Part → Type 0
 Unfit value view p q = OfTold view p q (λ a b. FitsFree value.room.region_len (length value.room.free) a b → ⊥)
@@ -66,7 +70,7 @@ pub record MergesAt (at : ℕ) (old new : RoomValue) (view : ViewValue) : Type 0
 
 -- none fits of those that are tried before the ones at an epoch: from another epoch on, and then those before it
 abbrev pub NoneBefore : ℕ → ℕ → RoomValue → ViewValue → Type 0
-NoneBefore from at value view = ((from ≤ at) × NoneBetween from at value view) ⊎ ((at < from) × NoneBetween from 18446744073709551615 value view × NoneBetween 1 at value view)
+NoneBefore from at value view = ((from ≤ at) × NoneBetween from at value view) ⊎ ((at < from) × NoneBetween from epochs_end value view × NoneBetween 1 at value view)
 
 -- what was read of two neighbours was refused
 pub record BlamesTwo (value : RoomValue) (view : ViewValue) (fault : FetchFault) : Type 0 where

@@ -44,7 +44,7 @@ merge_measured-requires-clause-measured g c κs within =
     let measured : Measures view job.older job.newer c.in-Ok.measure =
     measure_is_told view job.older job.newer c.in-Ok.measure c.parts-parts.ensures.whole c.requires.older c.requires.newer
     (λ a b p q small. subst (λ (r : Result Measure FetchFault). MatchResult r (λ m. m ≡ measure_of (merged a b)) NoDamage) c.in-Ok.is
-      (c.measure.ensures.exact a b (subst (λ part. TellsPart view.eye part a) (sym c.new-merger.ensures.older) p) (subst (λ part. TellsPart view.eye part b) (sym c.new-merger.ensures.newer) q) small)) in
+    (c.measure.ensures.exact a b (subst (λ part. TellsPart view.eye part a) (sym c.new-merger.ensures.older) p) (subst (λ part. TellsPart view.eye part b) (sym c.new-merger.ensures.newer) q) small)) in
     of_same view c.measure.new.self job job c.measure.ensures.same refl refl (λ a b. c.in-Ok.measure ≡ measure_of (merged a b)) measured
 
 pub returns-in-Ok : goal.returns-in-Ok
@@ -55,7 +55,7 @@ returns-in-Ok g c =
     let measured : Measures view job.older job.newer c.in-Ok.measure =
     measure_is_told view job.older job.newer c.in-Ok.measure c.parts-parts.ensures.whole c.requires.older c.requires.newer
     (λ a b p q small. subst (λ (r : Result Measure FetchFault). MatchResult r (λ m. m ≡ measure_of (merged a b)) NoDamage) c.in-Ok.is
-      (c.measure.ensures.exact a b (subst (λ part. TellsPart view.eye part a) (sym c.new-merger.ensures.older) p) (subst (λ part. TellsPart view.eye part b) (sym c.new-merger.ensures.newer) q) small)) in
+    (c.measure.ensures.exact a b (subst (λ part. TellsPart view.eye part a) (sym c.new-merger.ensures.older) p) (subst (λ part. TellsPart view.eye part b) (sym c.new-merger.ensures.newer) q) small)) in
     job_measured c.args.room.now c.merge_measured.new.room view c.measure.new.self c.merge_measured.new.view (job.older, job.newer) c.merge_measured.new.job c.in-Ok.measure c.merge_measured.result c.measure.ensures.same
     (c.measure.ensures.counts.else_same (λ failed. (let e : ◌≡◌ {A = Result Measure FetchFault} (Ok c.in-Ok.measure) (Err fetch_fault.Failed) = sym c.in-Ok.is ∙ failed in cc)))
     (subst (λ (m : Merger). IsMeasureOf view.eye.told (start_of m) c.in-Ok.measure) is c.in-Ok.ensures.sums) measured c.merge_measured.ensures

@@ -24,9 +24,8 @@ use Rattle.partition_merge.specs.Mergers.{measure_of}
 use Rattle.partition_merge.proofs.Lengths.{merged_small}
 use Rattle.partition_hold.specs.Views.{IsView, SameView, ViewValue, opened}
 use Rattle.partition_hold.proofs.ViewLemmas.{view_names, view_part}
-use Rattle.epoch_room.specs.Value.{RoomValue}
 use Rattle.epoch_room.proofs.Boarding.{board_shows}
-use Rattle.room_merges.specs.Merging.{BlocksBegin, BlocksEnd, BlocksGoOn, BodyIsWritten, EyeTells, IsOut, MeasureIsTold, OfTold, ShownByEye}
+use Rattle.room_merges.specs.Merging.{BlocksBegin, BlocksEnd, BlocksGoOn, BodyIsWritten, EyeTells, MeasureIsTold, OfTold, ShownByEye}
 
 pub shown_by_eye : ShownByEye
 shown_by_eye value view p rows out there tells =

@@ -1,36 +1,20 @@
 -- From the merge of one pair to that of the first neighbours that fit.
-use Rattle.std.proofs.Common.{◌≡◌, ◌⊎◌, ℕ, zero, suc, ◌+◌, ◌<◌, ◌≤◌, ◌==◌, Bool, true, false, cond, List, [], ◌∷◌, ◌++◌, length, set, Some, None, Ok, Err, refl, sym, ap, subst, ◌∙◌, inl, inr, arith, true≢false}
-use Rattle.std.specs.Prelude.{Contains, IfSome, IsErrOf, IsSome, MatchResult, nat_le, filter, is_some, min, Option, OnOk, Result, option_map, slice_get, slice_set}
-use Rattle.std.specs.List.{list_all, position_or_len}
-use Rattle.std.proofs.lemmas.List.Edits.{length-remove}
+use Rattle.std.proofs.Common.{◌≡◌, ◌⊎◌, ℕ, zero, suc, ◌+◌, ◌<◌, ◌≤◌, Bool, true, false, cond, List, [], ◌∷◌, length, Some, None, Ok, Err, refl, sym, ap, subst, ◌∙◌, inl, inr, arith, true≢false}
+use Rattle.std.specs.Prelude.{Contains, nat_le, Option, Result, option_map, slice_get}
 use Rattle.std.proofs.lemmas.List.Elements.{Contains-append_right}
-use Rattle.std.proofs.lemmas.List.{length-set}
-use Rattle.fine_model.specs.declared.FetchFault.{FetchFault}
-use Rattle.fine_model.specs.declared.FetchFault.TheVariants as fetch_fault
 use Rattle.fine_model.specs.declared.Part.{Part}
-use Rattle.fine_model.specs.declared.Row.{Row}
-use Rattle.fine_model.specs.declared.law.OpenedEye.{OpenedEye}
 use Rattle.fine_model.specs.declared.law.RoomState.{RoomState}
-use Rattle.fine_model.specs.Boards.{Buffer, buffer_at, empty_of, first_from, is_empty, names_region, naming_of}
-use Rattle.fine_model.specs.Causes.{AreNeighbours, NoneFit}
 use Rattle.fine_model.specs.Merge.{FitsFree}
-use Rattle.fine_model.specs.RowBytes.{greatest}
-use Rattle.fine_model.specs.Regions.{Image}
-use Rattle.fine_model.specs.Views.{TellsRowsOf}
-use Rattle.log_disk.specs.Disk.{HasRisen}
 use Rattle.partition_hold.specs.Views.{SameView, ViewValue}
-use Rattle.epoch_room.specs.Meaning.{Keeps}
 use Rattle.epoch_room.specs.MergeSteps.{neighbours_from, with_next}
 use Rattle.epoch_room.specs.Value.{RoomValue}
 use Rattle.epoch_room.specs.Whole.{FollowOn, IsWhole}
-use Rattle.epoch_room.specs.declared.answers.RoomFault.{RoomFault}
 use Rattle.epoch_room.specs.declared.answers.RoomFault.TheVariants as room_fault
 use Rattle.room_merges.specs.declared.fault.MergeFault.{MergeFault}
 use Rattle.room_merges.specs.declared.fault.MergeFault.TheVariants as merge_fault
-use Rattle.room_merges.specs.Merging.{EyeTells, IsOut, OfTold}
-use Rattle.room_merges.specs.Near.{BlamesTwo, MergesAny, MergesAt, MergesBetween, NoneBetween, OfNeighbours, StandIn, TriesAll, TriesBetween, TriesOr, Unfit, epochs_end}
-use Rattle.room_merges.specs.Pairs.{AreTried, Merges, MergesPair, PairOr}
-use Rattle.room_merges.specs.Work.{FallsShut, Looks, StaysOpen}
+use Rattle.room_merges.specs.Near.{MergesAny, MergesAt, MergesBetween, NoneBetween, OfNeighbours, StandIn, TriesAll, TriesBetween, TriesOr, Unfit, epochs_end}
+use Rattle.room_merges.specs.Pairs.{AreTried, MergesPair}
+use Rattle.room_merges.specs.Work.{StaysOpen}
 use Rattle.room_merges.proofs.Chained.{told_before}
 use Rattle.room_merges.proofs.Pairing.{some_none, some_same, view_back}
 use Rattle.room_merges.proofs.Working.{falls_then, looks_sound, looks_then, stays_itself, stays_then, view_itself, view_later}

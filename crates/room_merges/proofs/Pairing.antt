@@ -1,5 +1,5 @@
 -- From a job whose body is written to the merge of two neighbours.
-use Rattle.std.proofs.Common.{◌≡◌, ℕ, ◌<◌, ◌≤◌, Bool, true, false, List, [], drop, length, Some, None, Ok, Err, refl, sym, ap, subst, ◌∙◌, arith, true≢false}
+use Rattle.std.proofs.Common.{◌≡◌, ℕ, ◌<◌, ◌≤◌, Bool, true, false, List, drop, length, Some, None, Ok, Err, refl, sym, ap, subst, ◌∙◌, true≢false}
 use Rattle.std.proofs.lemmas.Bool.{le-leb}
 use Rattle.std.specs.Prelude.{if◌then◌else◌, nat_le, Contains, IsErrOf, OnOk, is_some, Option, Result, option_map}
 use Rattle.fine_model.specs.declared.FetchFault.{FetchFault}
@@ -35,8 +35,8 @@ use Rattle.epoch_room.proofs.Joining.{keeps_then}
 use Rattle.room_merges.specs.declared.fault.MergeFault.{MergeFault}
 use Rattle.room_merges.specs.declared.fault.MergeFault.TheVariants as merge_fault
 use Rattle.room_merges.specs.Merging.{EyeTells, HoldsBody, IsOut, Measures, OfTold}
-use Rattle.room_merges.specs.Pairs.{AreTried, IsJobMerged, IsPartSealed, JobOr, Merges, MergesJob, MergesMeasured, MergesNone, MergesPair, PartOr, SealsPart, StaysAsIs, WritesPart, header_for, job_for, measure_in}
-use Rattle.room_merges.specs.Work.{BlamedBy, FallsShut, Looks, RefusesOr, StaysOpen, WritesAll, same_job}
+use Rattle.room_merges.specs.Pairs.{AreTried, IsPartSealed, MergesJob, MergesMeasured, MergesPair, SealsPart, StaysAsIs, WritesPart, header_for, job_for, measure_in}
+use Rattle.room_merges.specs.Work.{FallsShut, RefusesOr, StaysOpen, WritesAll, same_job}
 use Rattle.room_merges.proofs.Chained.{body_is_written, told_before, told_of}
 use Rattle.room_merges.proofs.Working.{blamed, falls_then, looks_refused, looks_sound, looks_then, of_same, refuses_then, stays_itself, stays_then, view_itself}
 

@@ -1,25 +1,22 @@
 -- A view is made, neighbours are merged through it, and it is taken back; before and after, what is retired is erased.
-use Rattle.std.proofs.Common.{◌≡◌, ◌⊎◌, ℕ, ◌+◌, ◌*◌, ◌/◌, ◌%◌, ◌<◌, ◌≤◌, ◌==◌, Bool, true, false, cond, List, [], ◌∷◌, ◌++◌, length, set, Some, None, Ok, Err, refl, sym, ap, subst, ◌∙◌, inl, inr, arith, true≢false}
-use Rattle.std.specs.Prelude.{◌≢◌, if◌then◌else◌, nat_le, Contains, IsErrOf, IsSome, filter, is_some, min, Option, OnOk, Result, option_map, slice_get, slice_set}
-use Rattle.std.specs.List.{list_all, position_or_len, remove}
+use Rattle.std.proofs.Common.{◌≡◌, ℕ, ◌+◌, ◌*◌, ◌/◌, ◌%◌, ◌<◌, ◌≤◌, ◌==◌, Bool, true, false, cond, List, [], ◌∷◌, ◌++◌, length, set, Some, None, Ok, Err, refl, sym, ap, subst, ◌∙◌, inl, inr, arith, true≢false}
+use Rattle.std.specs.Prelude.{if◌then◌else◌, nat_le, Contains, IsSome, filter, is_some, Option, Result, option_map, slice_get, slice_set}
+use Rattle.std.specs.List.{list_all, position_or_len}
 use Rattle.std.proofs.lemmas.List.Edits.{length-remove}
 use Rattle.std.proofs.lemmas.List.{length-set}
 use Rattle.std.proofs.lemmas.List.Elements.{All-contains, All-from_recursion, Contains-append_left}
 use Rattle.std.proofs.lemmas.Option.{get_or_from_slice_get, slice_get_within}
 use Rattle.fine_model.specs.declared.FetchFault.{FetchFault}
-use Rattle.fine_model.specs.declared.FetchFault.TheVariants as fetch_fault
 use Rattle.fine_model.specs.declared.Part.{Part}
 use Rattle.fine_model.specs.declared.Row.{Row}
-use Rattle.fine_model.specs.declared.law.OpenedEye.{OpenedEye}
 use Rattle.fine_model.specs.declared.law.RoomState.{RoomState}
 use Rattle.fine_model.specs.Boards.{Buffer, buffer_at, empty_of, first_from, is_empty, names_region, naming_of}
-use Rattle.fine_model.specs.Causes.{AreNeighbours, NoneFit}
 use Rattle.fine_model.specs.Merge.{FitsFree, cost, is_ordered, merged, regions_for}
 use Rattle.fine_model.specs.Chain.{AreRowsOf}
 use Rattle.fine_model.specs.ChainLaws.{part_of}
 use Rattle.fine_model.specs.Regions.{HasHeader, Image}
 use Rattle.fine_model.specs.Views.{TellsRowsOf}
-use Rattle.log_disk.specs.Disk.{HasRisen, Told}
+use Rattle.log_disk.specs.Disk.{Told}
 use Rattle.partition_merge.specs.declared.merger.Measure.{Measure}
 use Rattle.partition_merge.specs.Mergers.{measure_of}
 use Rattle.partition_hold.specs.Views.{IsView, SameView, ViewValue, opened}
@@ -28,10 +25,10 @@ use Rattle.epoch_room.specs.Meaning.{Keeps}
 use Rattle.epoch_room.specs.MergeSealing.{merged_state, replaced}
 use Rattle.epoch_room.specs.MergeSteps.{header_over, if_enough, neighbours_from, regions_for_job, regions_needed}
 use Rattle.epoch_room.specs.Returns.{IsPosted, TakesBack}
-use Rattle.epoch_room.specs.Steps.{Does, Fails, KeepsCounts, WasShut, shut_state}
+use Rattle.epoch_room.specs.Steps.{KeepsCounts, shut_state}
 use Rattle.epoch_room.specs.Value.{RoomValue, all_regions, on}
 use Rattle.epoch_room.specs.Views.{Views, ViewsOr}
-use Rattle.epoch_room.specs.Whole.{HoldsParts, IsWhole}
+use Rattle.epoch_room.specs.Whole.{IsWhole}
 use Rattle.epoch_room.specs.declared.answers.RoomFault.{RoomFault}
 use Rattle.epoch_room.specs.declared.answers.RoomFault.TheVariants as room_fault
 use Rattle.epoch_room.proofs.Behind.{keeps_none}
@@ -40,8 +37,8 @@ use Rattle.epoch_room.proofs.Joining.{keeps_then}
 use Rattle.epoch_room.proofs.Retired.{lead_place, replaced_two}
 use Rattle.room_merges.specs.declared.fault.MergeFault.{MergeFault}
 use Rattle.room_merges.specs.declared.fault.MergeFault.TheVariants as merge_fault
-use Rattle.room_merges.specs.Merging.{EyeTells, IsOut}
-use Rattle.room_merges.specs.Near.{BlamesTwo, Empties, EmptiesOr, ErasedOr, IsReadRefused, IsShutNow, IsWell, KeepsRest, MergesAny, MergesErased, MergesFirst, MergesNear, MergesThrough, MergesTwo, NearOr, NoneBefore, NoneBetween, NoneFitNow, OfNeighbours, SameOrMerged, StandIn, ThroughOr, TriesAll, Unfit, epochs_end}
+use Rattle.room_merges.specs.Merging.{EyeTells}
+use Rattle.room_merges.specs.Near.{BlamesTwo, Empties, IsReadRefused, IsShutNow, IsWell, KeepsRest, MergesAny, MergesErased, MergesFirst, MergesNear, MergesThrough, MergesTwo, NoneBefore, NoneBetween, NoneFitNow, OfNeighbours, SameOrMerged, StandIn, TriesAll, Unfit, epochs_end}
 use Rattle.room_merges.specs.Pairs.{Merges, header_for, job_for}
 use Rattle.room_merges.specs.Work.{FallsShut, Looks, StaysOpen}
 use Rattle.room_merges.proofs.Chained.{shown_by_eye, told_before}

@@ -1,6 +1,6 @@
 -- The steps of a merge, one after another.
-use Rattle.std.proofs.Common.{◌≡◌, ◌⊎◌, ℕ, ◌+◌, ◌<◌, ◌≤◌, ◌++◌, Bool, true, false, List, [], length, length-append, Some, Ok, Err, refl, sym, ap, subst, ◌∙◌, inl, inr, arith, true≢false}
-use Rattle.std.specs.Prelude.{Contains, IfSome, IsErrOf, MatchResult, Option, Result, slice_get}
+use Rattle.std.proofs.Common.{◌≡◌, ◌⊎◌, ℕ, ◌+◌, ◌<◌, ◌≤◌, ◌++◌, Bool, true, false, List, [], length, length-append, Some, Ok, Err, refl, sym, ap, subst, ◌∙◌, arith, true≢false}
+use Rattle.std.specs.Prelude.{Contains, IfSome, IsErrOf, Option, Result, slice_get}
 use Rattle.fine_model.specs.declared.FetchFault.{FetchFault}
 use Rattle.fine_model.specs.declared.FetchFault.TheVariants as fetch_fault
 use Rattle.fine_model.specs.declared.Header.{Header}
@@ -36,8 +36,8 @@ use Rattle.room_merges.specs.declared.body.Progress.{Progress}
 use Rattle.room_merges.specs.declared.body.Progress.TheVariants as progress
 use Rattle.room_merges.specs.declared.fault.MergeFault.{MergeFault}
 use Rattle.room_merges.specs.declared.fault.MergeFault.TheVariants as merge_fault
-use Rattle.room_merges.specs.Merging.{CountsBody, EyeTells, HoldsBody, IsOut, OfTold}
-use Rattle.room_merges.specs.Work.{AllOr, BlamedBy, Blames, BlockOr, FallsShut, IsWriting, Looks, NextOr, RefusesOr, StaysOpen, StepsOr, WritesAll, WritesBlock, WritesNext, same_job}
+use Rattle.room_merges.specs.Merging.{EyeTells, IsOut, OfTold}
+use Rattle.room_merges.specs.Work.{AllOr, BlamedBy, Blames, FallsShut, IsWriting, Looks, RefusesOr, StaysOpen, StepsOr, WritesAll, WritesBlock, WritesNext, same_job}
 use Rattle.room_merges.proofs.Chained.{blocks_begin, blocks_end, blocks_go_on, told_before}
 
 -- what holds of a value that is there

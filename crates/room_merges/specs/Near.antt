@@ -15,7 +15,6 @@ use Rattle.epoch_room.specs.MergeSealing.{replaced}
 use Rattle.epoch_room.specs.MergeSteps.{neighbours_from}
 use Rattle.epoch_room.specs.Steps.{Fails, KeepsCounts, WasShut}
 use Rattle.epoch_room.specs.Value.{RoomValue}
-use Rattle.epoch_room.specs.declared.answers.RoomFault.{RoomFault}
 use Rattle.epoch_room.specs.declared.answers.RoomFault.TheVariants as room_fault
 use Rattle.room_merges.specs.declared.fault.MergeFault.{MergeFault}
 use Rattle.room_merges.specs.declared.fault.MergeFault.TheVariants as merge_fault

@@ -1,15 +1,14 @@
 -- What merging two neighbours in one call makes of a room.
-use Rattle.std.specs.Prelude.{◌≡◌, ℕ, Bool, true, false, List, [], ◌∷◌, drop, length, Contains, Option, None, Some, Result, Ok, Err, OnOk}
+use Rattle.std.specs.Prelude.{◌≡◌, ℕ, Bool, true, false, List, [], drop, length, Contains, None, Some, Result, Ok, Err, OnOk}
 use Rattle.fine_model.specs.declared.Header.{Header}
 use Rattle.fine_model.specs.declared.Job.{Job}
 use Rattle.fine_model.specs.declared.Part.{Part}
-use Rattle.fine_model.specs.declared.Row.{Row}
 use Rattle.fine_model.specs.Jobs.{held_for}
 use Rattle.fine_model.specs.Merge.{FitsFree, cost, merged}
 use Rattle.fine_model.specs.Regions.{body_bytes, body_len}
 use Rattle.partition_hold.specs.Views.{ViewValue}
 use Rattle.partition_merge.specs.declared.merger.Measure.{Measure}
-use Rattle.partition_merge.specs.Mergers.{IsMeasureOf, at_front, measure_of}
+use Rattle.partition_merge.specs.Mergers.{IsMeasureOf, at_front}
 use Rattle.epoch_room.specs.Meaning.{Keeps}
 use Rattle.epoch_room.specs.MergeSealing.{merged_state}
 use Rattle.epoch_room.specs.MergeSteps.{fresh_job, header_over, measured_len, neighbours_from, regions_for_job, taken_job}

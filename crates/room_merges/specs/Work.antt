@@ -5,7 +5,6 @@ use Rattle.fine_model.specs.declared.FetchFault.TheVariants as fetch_fault
 use Rattle.fine_model.specs.declared.Header.{Header}
 use Rattle.fine_model.specs.declared.Job.{Job}
 use Rattle.fine_model.specs.declared.Part.{Part}
-use Rattle.fine_model.specs.declared.Row.{Row}
 use Rattle.fine_model.specs.Jobs.{held_for}
 use Rattle.fine_model.specs.Merge.{cost, merged}
 use Rattle.fine_model.specs.Regions.{body_len}

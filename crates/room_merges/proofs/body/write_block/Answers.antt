@@ -1,10 +1,6 @@
-use Rattle.std.proofs.Common.{◌≡◌, ◌≤◌, ◌+◌, length, Ok, Err, Result, sym, subst, arith}
-use Rattle.std.specs.Prelude.{IfSome, IsSome, Option}
-use Rattle.fine_model.specs.declared.Header.{Header}
-use Rattle.fine_model.specs.Regions.{body_len}
+use Rattle.std.proofs.Common.{Result, subst, arith}
 use Rattle.epoch_room.specs.MergeSteps.{WritesOr}
 use Rattle.epoch_room.specs.declared.answers.RoomFault.{RoomFault}
-use Rattle.room_merges.proofs.Pairing.{pair_shut}
 use Rattle.room_merges.proofs.Working.{block_refused, block_too_long, block_written, some_of}
 use Rattle.room_merges.proofs.body.write_block.Goals as goal
 

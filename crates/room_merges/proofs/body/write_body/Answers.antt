@@ -1,4 +1,4 @@
-use Rattle.std.proofs.Common.{◌≡◌, ◌≤◌, sym, subst, ap, ◌∙◌, arith}
+use Rattle.std.proofs.Common.{arith}
 use Rattle.room_merges.proofs.Working.{begins, long_regions, none_allocated}
 use Rattle.room_merges.proofs.body.write_body.Goals as goal
 

@@ -1,8 +1,7 @@
-use Rattle.std.proofs.Common.{◌≡◌, ◌++◌, ℕ, List, Bool, true, false, Ok, Err, Result, sym, subst, ap, ◌∙◌}
+use Rattle.std.proofs.Common.{◌≡◌, ℕ, List, Bool, true, false, Ok, Err, Result, sym, subst, ap, ◌∙◌}
 use Rattle.std.specs.Prelude.{IsErrOf, MatchResult}
 use Rattle.fine_model.specs.declared.FetchFault.{FetchFault}
 use Rattle.fine_model.specs.declared.FetchFault.TheVariants as fetch_fault
-use Rattle.fine_model.specs.declared.Row.{Row}
 use Rattle.node_fetch.specs.Fetched.{NoDamage}
 use Rattle.partition_index.specs.Parts.{CountsFaults}
 use Rattle.partition_merge.specs.Blocks.{Gives}

@@ -1,4 +1,4 @@
-use Rattle.std.proofs.Common.{◌≡◌, ℕ, Ok, Err, Result, subst}
+use Rattle.std.proofs.Common.{◌≡◌, ℕ, Result, subst}
 use Rattle.std.specs.Prelude.{OnOk}
 use Rattle.epoch_room.specs.Erasing.{ErasesAllOr, held}
 use Rattle.epoch_room.specs.declared.answers.RoomFault.{RoomFault}

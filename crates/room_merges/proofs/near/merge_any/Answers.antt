@@ -1,4 +1,4 @@
-use Rattle.std.proofs.Common.{◌≡◌, Bool, true, false, Ok, Err, Result, sym, subst, ap, ◌∙◌}
+use Rattle.std.proofs.Common.{Bool, Ok, Result, sym, subst, ap, ◌∙◌}
 use Rattle.fine_model.specs.declared.law.RoomState.{RoomState}
 use Rattle.room_merges.specs.Near.{TriesBetween, epochs_end}
 use Rattle.room_merges.specs.declared.fault.MergeFault.{MergeFault}

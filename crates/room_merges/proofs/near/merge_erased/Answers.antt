@@ -1,4 +1,4 @@
-use Rattle.std.proofs.Common.{◌≡◌, Bool, true, false, Ok, Err, Result, sym, subst, ap, ◌∙◌}
+use Rattle.std.proofs.Common.{◌≡◌, Bool, true, Ok, Result, sym, subst, ap, ◌∙◌}
 use Rattle.std.specs.List.{list_all}
 use Rattle.fine_model.specs.Boards.{is_empty}
 use Rattle.room_merges.specs.Near.{Empties, MergesThrough}

@@ -1,4 +1,4 @@
-use Rattle.std.proofs.Common.{◌≡◌, true, Ok, Err, Result, sym, subst}
+use Rattle.std.proofs.Common.{◌≡◌, true, Result, sym, subst}
 use Rattle.std.specs.List.{list_all}
 use Rattle.fine_model.specs.Boards.{is_empty}
 use Rattle.room_merges.specs.Near.{Empties}

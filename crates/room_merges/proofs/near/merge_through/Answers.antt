@@ -1,4 +1,4 @@
-use Rattle.std.proofs.Common.{◌≡◌, Ok, Err, Result, subst}
+use Rattle.std.proofs.Common.{Result, subst}
 use Rattle.partition_hold.specs.Views.{ViewValue}
 use Rattle.epoch_room.specs.Views.{Views, ViewsOr}
 use Rattle.epoch_room.specs.declared.answers.RoomFault.{RoomFault}

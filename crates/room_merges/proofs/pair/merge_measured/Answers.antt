@@ -1,4 +1,4 @@
-use Rattle.std.proofs.Common.{◌≡◌, sym, ◌∙◌}
+use Rattle.std.proofs.Common.{sym, ◌∙◌}
 use Rattle.epoch_room.specs.MergeSteps.{regions_for_job}
 use Rattle.room_merges.proofs.Pairing.{found_none, has_header, measured_part, none_taken, ready}
 use Rattle.room_merges.proofs.pair.merge_measured.Goals as goal

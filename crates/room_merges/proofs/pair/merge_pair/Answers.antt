@@ -1,6 +1,4 @@
-use Rattle.std.proofs.Common.{◌≡◌, Bool, true, false, Some, None, Ok, Err, Result, refl, sym, subst, ap, ◌∙◌}
-use Rattle.std.specs.Prelude.{Contains, Option}
-use Rattle.fine_model.specs.declared.Job.{Job}
+use Rattle.std.proofs.Common.{◌≡◌, Bool, false, Some, None, Ok, Result, sym, subst, ap, ◌∙◌}
 use Rattle.fine_model.specs.declared.law.RoomState.{RoomState}
 use Rattle.epoch_room.specs.MergeSteps.{picked, with_job}
 use Rattle.epoch_room.specs.Returns.{IsPosted}
@@ -8,7 +6,7 @@ use Rattle.epoch_room.specs.Value.{RoomValue}
 use Rattle.room_merges.specs.Merging.{IsOut}
 use Rattle.room_merges.specs.Pairs.{MergesJob}
 use Rattle.room_merges.specs.declared.fault.MergeFault.{MergeFault}
-use Rattle.room_merges.proofs.Pairing.{GivesUp, Tries, pair_lacked, pair_merged, pair_none, pair_refused, pair_shut, pair_unmerged, pick_found, pick_none, refused_out, tries_from}
+use Rattle.room_merges.proofs.Pairing.{Tries, pair_lacked, pair_merged, pair_none, pair_refused, pair_shut, pair_unmerged, pick_found, pick_none, refused_out, tries_from}
 use Rattle.room_merges.proofs.pair.merge_pair.Goals as goal
 
 pub returns-in-Some : goal.returns-in-Some

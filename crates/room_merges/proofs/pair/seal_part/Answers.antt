@@ -1,4 +1,4 @@
-use Rattle.std.proofs.Common.{◌≡◌, Ok, Err, Result, sym, subst}
+use Rattle.std.proofs.Common.{Result, sym, subst}
 use Rattle.std.specs.Prelude.{IfSome, Option}
 use Rattle.fine_model.specs.declared.Header.{Header}
 use Rattle.fine_model.specs.declared.Job.{Job}

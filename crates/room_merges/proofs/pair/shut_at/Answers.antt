@@ -1,4 +1,4 @@
-use Rattle.std.proofs.Common.{◌≡◌, Some, sym, ◌∙◌}
+use Rattle.std.proofs.Common.{sym, ◌∙◌}
 use Rattle.room_merges.proofs.Pairing.{some_none, some_same}
 use Rattle.room_merges.proofs.Shut.{not_shut, shut_epoch}
 use Rattle.room_merges.proofs.pair.shut_at.Goals as goal

@@ -1,5 +1,5 @@
 -- From the board and the view to a body that is written out.
-use Rattle.std.proofs.Common.{◌≡◌, ℕ, List, [], ◌∷◌, ◌++◌, Some, None, refl, sym, ap, subst, ◌∙◌}
+use Rattle.std.proofs.Common.{◌≡◌, ℕ, ◌<◌, List, [], ◌∷◌, ◌++◌, length, length-append, Some, None, refl, sym, ap, subst, ◌∙◌, arith}
 use Rattle.std.specs.Prelude.{Option, Contains, option_map}
 use Rattle.std.specs.List.{AllByRecursion}
 use Rattle.std.proofs.lemmas.List.Elements.{All-contains, All-from_recursion}
@@ -10,18 +10,22 @@ use Rattle.fine_model.specs.declared.Row.{Row}
 use Rattle.fine_model.specs.Boards.{buffer_at, set_of}
 use Rattle.fine_model.specs.Chain.{regions_of}
 use Rattle.fine_model.specs.Jobs.{held_by, held_for}
-use Rattle.fine_model.specs.Merge.{merged}
-use Rattle.fine_model.specs.Regions.{Image, body_bytes}
+use Rattle.fine_model.specs.Merge.{cost, merged}
+use Rattle.fine_model.proofs.Grammar.{rows_long}
+use Rattle.fine_model.specs.Regions.{Image, body_bytes, index_bytes}
+use Rattle.fine_model.specs.RowBytes.{rows_bytes, rows_len}
 use Rattle.fine_model.specs.Views.{SameSeen, TellsRowsOf}
 use Rattle.fine_model.proofs.Owning.{tells_alike}
+use Rattle.log_partition.proofs.Indexed.{index_long}
 use Rattle.partition_index.specs.Parts.{IsSeen}
+use Rattle.partition_index.specs.Search.{TellsRows as TellsPart}
 use Rattle.partition_merge.specs.declared.merger.Measure.{Measure}
+use Rattle.partition_merge.specs.Mergers.{measure_of}
 use Rattle.partition_merge.proofs.Lengths.{merged_small}
 use Rattle.partition_hold.specs.Views.{IsView, SameView, ViewValue, opened}
 use Rattle.partition_hold.proofs.ViewLemmas.{view_names, view_part}
-use Rattle.epoch_room.specs.Value.{RoomValue}
 use Rattle.epoch_room.proofs.Boarding.{board_shows}
-use Rattle.room_merges.specs.Merging.{BlocksBegin, BlocksEnd, BlocksGoOn, BodyIsWritten, EyeTells, IsOut, MeasureIsTold, ShownByEye}
+use Rattle.room_merges.specs.Merging.{BlocksBegin, BlocksEnd, BlocksGoOn, BodyIsWritten, EyeTells, MeasureIsTold, OfTold, ShownByEye}
 
 pub shown_by_eye : ShownByEye
 shown_by_eye value view p rows out there tells =
@@ -34,11 +38,16 @@ shown_by_eye value view p rows out there tells =
 seen_part : (view : ViewValue) (p : Part) → IsView view → Contains view.parts p → IsSeen view.eye p
 seen_part view p is there = All-contains (IsSeen view.eye) view.parts p (All-from_recursion _ view.parts is.seen) there
 
-pub measure_is_told : MeasureIsTold
-measure_is_told view older newer measure is has_older has_newer exact a b older_told newer_told =
+-- what is exact wherever the eye tells both parts of a view, and their merged rows have fewer than 2^32 bytes
+pub told_of : (view : ViewValue) (older newer : Part) (P : List Row → List Row → Type 0) → IsView view → Contains view.parts older → Contains view.parts newer
+    → ((a b : List Row) → TellsPart view.eye older a → TellsPart view.eye newer b → rows_len (merged a b) < 4294967296 → P a b) → OfTold view older newer P
+told_of view older newer P is has_older has_newer exact a b older_told newer_told =
     let p = view_part view older a is older_told in
     let q = view_part view newer b is newer_told in
     exact a b p q (merged_small view.eye older newer a b (seen_part view older is has_older) (seen_part view newer is has_newer) p q)
+
+pub measure_is_told : MeasureIsTold
+measure_is_told view older newer measure is has_older has_newer exact = told_of view older newer (λ a b. measure ≡ measure_of (merged a b)) is has_older has_newer exact
 
 -- where an eye tells its bytes, so does the disk
 image_told : (regions : List ℕ) (known told : Option Image) (image : Image) → SameSeen regions known told → told ≡ Some image → (shown : Image) × (known ≡ Some shown)
@@ -65,24 +74,36 @@ blocks_begin value view blocks job out has_older has_newer none ahead a b older_
     let shows = board_shows value (buffer_at view.seat view.buffer) (opened view.eye) out.whole out.posted in
     let shown = image_told (set_of view.eye.regions) value.room.image view.eye.told older_told.image shows older_told.is_told in
     let held = none_held value.room.image shown.0 job shown.1 none in
-    ([], ahead view.eye a b p q small, held.1 ∙ ap (λ bytes. Some bytes) held.2)
+    ([], ahead view.eye a b p q small, held.1 ∙ ap (λ bytes. Some bytes) held.2, sym none)
 
 -- what the eye of a view tells, it told before
-told_before : (view view' : ViewValue) (p : Part) (rows : List Row) → SameView view view' → EyeTells view' p rows → EyeTells view p rows
+pub told_before : (view view' : ViewValue) (p : Part) (rows : List Row) → SameView view view' → EyeTells view' p rows → EyeTells view p rows
 told_before view view' p rows same tells =
     subst (λ n. TellsRowsOf view.eye.told n (p ∷ []) rows) same.region_len (subst (λ told. TellsRowsOf told view'.region_len (p ∷ []) rows) same.eye.told tells)
 
 pub blocks_go_on : BlocksGoOn
-blocks_go_on old new view view' blocks blocks' job job' same older newer gives held between a b older_told newer_told =
+blocks_go_on old new view view' blocks blocks' job job' same older newer more gives held between a b older_told newer_told =
     let was = between a b
     (told_before view view' job.older a same (subst (λ p. EyeTells view' p a) older older_told))
-    (told_before view view' job.newer b same (subst (λ p. EyeTells view' p b) newer newer_told)) in
-    (was.0 ++ blocks'.block, gives was.0 a b was.1, held ∙ ap (λ h. option_map (λ bytes. bytes ++ blocks'.block) h) was.2)
+    (told_before view view' job.newer b same (subst (λ p. EyeTells view' p b) newer newer_told)) in (
+      was.0 ++ blocks'.block,
+      gives was.0 a b was.1,
+      held ∙ ap (λ h. option_map (λ bytes. bytes ++ blocks'.block) h) was.2,
+      omega (arith, length-append was.0 blocks'.block, was.3, more),
+    )
+
+body_long : (rows : List Row) → length (body_bytes rows) ≡ cost rows
+body_long rows = omega (arith, length-append (rows_bytes rows) (index_bytes rows), rows_long rows, index_long rows)
 
 pub blocks_end : BlocksEnd
-blocks_end value view view' blocks job same ends between a b older_told newer_told =
-    let was = between a b (told_before view view' job.older a same older_told) (told_before view view' job.newer b same newer_told) in
-    was.2 ∙ ap (λ bytes. Some bytes) (ends was.0 a b was.1)
+blocks_end value view view' blocks job same ends between = (
+  λ a b older_told newer_told.
+      let was = between a b (told_before view view' job.older a same older_told) (told_before view view' job.newer b same newer_told) in
+      was.2 ∙ ap (λ bytes. Some bytes) (ends was.0 a b was.1),
+  λ a b older_told newer_told.
+      let was = between a b (told_before view view' job.older a same older_told) (told_before view view' job.newer b same newer_told) in
+      sym was.3 ∙ ap length (ends was.0 a b was.1) ∙ body_long (merged a b),
+)
 
 pub body_is_written : BodyIsWritten
 body_is_written value view job header measure out has_older has_newer counts ordered measures holds a b a_told b_told =

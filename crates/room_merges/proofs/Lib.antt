@@ -1,1 +1,6 @@
 pub mod Chained
+pub mod Working
+pub mod Pairing
+pub mod Shut
+pub mod Nearing
+pub mod Through

@@ -1,1 +1,4 @@
 pub mod Merging
+pub mod Work
+pub mod Pairs
+pub mod Near

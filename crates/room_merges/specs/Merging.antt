@@ -1,11 +1,11 @@
 -- What is read through a view on the board, and what the room asks of a merged body.
-use Rattle.std.specs.Prelude.{◌≡◌, ℕ, ◌<◌, true, List, [], ◌∷◌, ◌++◌, Contains, Some, option_map}
+use Rattle.std.specs.Prelude.{◌≡◌, ℕ, ◌+◌, ◌<◌, true, List, [], ◌∷◌, ◌++◌, length, Contains, Some, option_map}
 use Rattle.fine_model.specs.declared.Header.{Header}
 use Rattle.fine_model.specs.declared.Job.{Job}
 use Rattle.fine_model.specs.declared.Part.{Part}
 use Rattle.fine_model.specs.declared.Row.{Row}
 use Rattle.fine_model.specs.Jobs.{held_for}
-use Rattle.fine_model.specs.Merge.{merged}
+use Rattle.fine_model.specs.Merge.{cost, merged}
 use Rattle.fine_model.specs.Regions.{body_bytes}
 use Rattle.fine_model.specs.RowBytes.{rows_len}
 use Rattle.fine_model.specs.Views.{TellsRowsOf}
@@ -56,10 +56,10 @@ MeasureIsTold =
 
 -- ---- the blocks
 
--- between two blocks: what was handed out of the body of the merged rows stands in the job's target
+-- between two blocks: what was handed out of the body of the merged rows stands in the job's target, and the job counts it
 abbrev pub IsBetween : RoomValue → ViewValue → BlocksValue → Job → Type 0
 IsBetween value view blocks job =
-    OfTold view job.older job.newer (λ a b. (handed : List ℕ) × IsAhead view.eye blocks handed a b × (held_for value.room.image job ≡ Some handed))
+    OfTold view job.older job.newer (λ a b. (handed : List ℕ) × IsAhead view.eye blocks handed a b × (held_for value.room.image job ≡ Some handed) × (length handed ≡ job.written))
 
 -- the body of the merged rows stands in the job's target
 abbrev pub HoldsBody : RoomValue → ViewValue → Job → Type 0
@@ -73,11 +73,15 @@ BlocksBegin =
     → ((eye : Eye) (a b : List Row) → TellsPart eye job.older a → TellsPart eye job.newer b → rows_len (merged a b) < 4294967296 → IsAhead eye blocks [] a b)
     → IsBetween value view blocks job
 
+-- the job counts as many bytes as the merged rows and their index have
+abbrev pub CountsBody : ViewValue → Job → Type 0
+CountsBody view job = OfTold view job.older job.newer (λ a b. job.written ≡ cost (merged a b))
+
 -- a block that was handed out is written behind those before it
 abbrev pub BlocksGoOn : Type 0
 BlocksGoOn =
     (old new : RoomValue) (view view' : ViewValue) (blocks blocks' : BlocksValue) (job job' : Job) → SameView view view'
-    → job'.older ≡ job.older → job'.newer ≡ job.newer
+    → job'.older ≡ job.older → job'.newer ≡ job.newer → job'.written ≡ job.written + length blocks'.block
     → ((handed : List ℕ) (a b : List Row) → IsAhead view.eye blocks handed a b → IsAhead view'.eye blocks' (handed ++ blocks'.block) a b)
     → held_for new.room.image job' ≡ option_map (λ held. held ++ blocks'.block) (held_for old.room.image job)
     → IsBetween old view blocks job → IsBetween new view' blocks' job'
@@ -87,7 +91,7 @@ abbrev pub BlocksEnd : Type 0
 BlocksEnd =
     (value : RoomValue) (view view' : ViewValue) (blocks : BlocksValue) (job : Job) → SameView view view'
     → ((handed : List ℕ) (a b : List Row) → IsAhead view.eye blocks handed a b → handed ≡ body_bytes (merged a b))
-    → IsBetween value view blocks job → HoldsBody value view' job
+    → IsBetween value view blocks job → HoldsBody value view' job × CountsBody view' job
 
 -- ---- the end
 

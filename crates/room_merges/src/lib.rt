@@ -1,5 +1,14 @@
 //! Merging two neighbours of a room's chain through a view: what the room asks of the merged body follows from what is read through the
-//! view.
+//! view; and merging the first neighbours that fit.
 #![tactic(auto)]
 
+mod body;
+mod fault;
 pub mod laws;
+mod near;
+mod pair;
+
+pub use body::write_body;
+pub use fault::MergeFault;
+pub use near::{merge_near, merge_now};
+pub use pair::merge_pair;

@@ -1,0 +1,636 @@
+-- A view is made, neighbours are merged through it, and it is taken back; before and after, what is retired is erased.
+use Rattle.std.proofs.Common.{◌≡◌, ℕ, ◌+◌, ◌*◌, ◌/◌, ◌%◌, ◌<◌, ◌≤◌, ◌==◌, Bool, true, false, cond, List, [], ◌∷◌, ◌++◌, length, set, Some, None, Ok, Err, refl, sym, ap, subst, ◌∙◌, inl, inr, arith, true≢false}
+use Rattle.std.specs.Prelude.{if◌then◌else◌, nat_le, Contains, IsSome, filter, is_some, Option, Result, option_map, slice_get, slice_set}
+use Rattle.std.specs.List.{list_all, position_or_len}
+use Rattle.std.proofs.lemmas.List.Edits.{length-remove}
+use Rattle.std.proofs.lemmas.List.{length-set}
+use Rattle.std.proofs.lemmas.List.Elements.{All-contains, All-from_recursion, Contains-append_left}
+use Rattle.std.proofs.lemmas.Option.{get_or_from_slice_get, slice_get_within}
+use Rattle.fine_model.specs.declared.FetchFault.{FetchFault}
+use Rattle.fine_model.specs.declared.Part.{Part}
+use Rattle.fine_model.specs.declared.Row.{Row}
+use Rattle.fine_model.specs.declared.law.RoomState.{RoomState}
+use Rattle.fine_model.specs.Boards.{Buffer, buffer_at, empty_of, first_from, is_empty, names_region, naming_of}
+use Rattle.fine_model.specs.Merge.{FitsFree, cost, is_ordered, merged, regions_for}
+use Rattle.fine_model.specs.Chain.{AreRowsOf}
+use Rattle.fine_model.specs.ChainLaws.{part_of}
+use Rattle.fine_model.specs.Regions.{HasHeader, Image}
+use Rattle.fine_model.specs.Views.{TellsRowsOf}
+use Rattle.log_disk.specs.Disk.{Told}
+use Rattle.partition_merge.specs.declared.merger.Measure.{Measure}
+use Rattle.partition_merge.specs.Mergers.{measure_of}
+use Rattle.partition_hold.specs.Views.{IsView, SameView, ViewValue, opened}
+use Rattle.epoch_room.specs.Erasing.{ErasesAllOr, FreesThese, erased_state, held, led_by, left_state, unheld}
+use Rattle.epoch_room.specs.Meaning.{Keeps}
+use Rattle.epoch_room.specs.MergeSealing.{merged_state, replaced}
+use Rattle.epoch_room.specs.MergeSteps.{header_over, if_enough, neighbours_from, regions_for_job, regions_needed}
+use Rattle.epoch_room.specs.Returns.{IsPosted, TakesBack}
+use Rattle.epoch_room.specs.Steps.{KeepsCounts, shut_state}
+use Rattle.epoch_room.specs.Value.{RoomValue, all_regions, on}
+use Rattle.epoch_room.specs.Views.{Views, ViewsOr}
+use Rattle.epoch_room.specs.Whole.{IsWhole}
+use Rattle.epoch_room.specs.declared.answers.RoomFault.{RoomFault}
+use Rattle.epoch_room.specs.declared.answers.RoomFault.TheVariants as room_fault
+use Rattle.epoch_room.proofs.Behind.{keeps_none}
+use Rattle.epoch_room.proofs.Freeing.{held_now}
+use Rattle.epoch_room.proofs.Joining.{keeps_then}
+use Rattle.epoch_room.proofs.Retired.{lead_place, replaced_two}
+use Rattle.room_merges.specs.declared.fault.MergeFault.{MergeFault}
+use Rattle.room_merges.specs.declared.fault.MergeFault.TheVariants as merge_fault
+use Rattle.room_merges.specs.Merging.{EyeTells}
+use Rattle.room_merges.specs.Near.{BlamesTwo, Empties, IsReadRefused, IsShutNow, IsWell, KeepsRest, MergesAny, MergesErased, MergesFirst, MergesNear, MergesThrough, MergesTwo, NoneBefore, NoneBetween, NoneFitNow, OfNeighbours, SameOrMerged, StandIn, TriesAll, Unfit, epochs_end}
+use Rattle.room_merges.specs.Pairs.{Merges, header_for, job_for}
+use Rattle.room_merges.specs.Work.{FallsShut, Looks, StaysOpen}
+use Rattle.room_merges.proofs.Chained.{shown_by_eye, told_before}
+use Rattle.room_merges.proofs.Nearing.{Between, of_at, of_each, stand_in}
+use Rattle.room_merges.proofs.Pairing.{some_none, some_same, view_back}
+use Rattle.room_merges.proofs.Working.{posted_then}
+
+-- ---- what stays
+
+pub rest_itself : (value : RoomValue) → IsWhole value → value.room.job ≡ None → KeepsRest value value
+rest_itself value whole none =
+    record { job = none; board = refl; sealed = refl; places = refl; waiting = refl; open_rows = refl; used = refl; target = refl; entry = refl; keeps = keeps_none value whole }
+
+pub rest_then : (a b c : RoomValue) → KeepsRest a b → KeepsRest b c → KeepsRest a c
+rest_then a b c first second = record {
+  job = second.job;
+  board = second.board ∙ first.board;
+  sealed = second.sealed ∙ first.sealed;
+  places = second.places ∙ first.places;
+  waiting = second.waiting ∙ first.waiting;
+  open_rows = second.open_rows ∙ first.open_rows;
+  used = second.used ∙ first.used;
+  target = second.target ∙ first.target;
+  entry = second.entry ∙ first.entry;
+  keeps = keeps_then a b c first.keeps second.keeps;
+}
+
+rest_stays : (free : List ℕ) (old new : RoomValue) → StaysOpen None free old new → KeepsRest old new
+rest_stays free old new stays = record {
+  job = ap (λ (r : RoomState). r.job) stays.room;
+  board = ap (λ (r : RoomState). r.board) stays.room;
+  sealed = ap (λ (r : RoomState). r.sealed) stays.room;
+  places = ap (λ (r : RoomState). r.places) stays.room;
+  waiting = ap (λ (r : RoomState). r.waiting) stays.room;
+  open_rows = ap (λ (r : RoomState). r.open_rows) stays.room;
+  used = ap (λ (r : RoomState). r.used) stays.room;
+  target = stays.target;
+  entry = stays.entry;
+  keeps = stays.keeps;
+}
+
+rest_falls : (free : List ℕ) (old new : RoomValue) → FallsShut None free old new → KeepsRest old new
+rest_falls free old new falls = record {
+  job = ap (λ (r : RoomState). r.job) falls.room;
+  board = ap (λ (r : RoomState). r.board) falls.room;
+  sealed = ap (λ (r : RoomState). r.sealed) falls.room;
+  places = ap (λ (r : RoomState). r.places) falls.room;
+  waiting = ap (λ (r : RoomState). r.waiting) falls.room;
+  open_rows = ap (λ (r : RoomState). r.open_rows) falls.room;
+  used = ap (λ (r : RoomState). r.used) falls.room;
+  target = falls.target;
+  entry = falls.entry;
+  keeps = falls.keeps;
+}
+
+rest_merges : (from : ℕ) (old new : RoomValue) (view : ViewValue) → Merges from old new view → KeepsRest old new
+unfolding merged_state
+rest_merges from old new view m = record {
+  job = ap (λ (r : RoomState). r.job) m.room.1.room;
+  board = ap (λ (r : RoomState). r.board) m.room.1.room;
+  sealed = ap (λ (r : RoomState). r.sealed) m.room.1.room;
+  places = ap (λ (r : RoomState). r.places) m.room.1.room;
+  waiting = ap (λ (r : RoomState). r.waiting) m.room.1.room;
+  open_rows = ap (λ (r : RoomState). r.open_rows) m.room.1.room;
+  used = ap (λ (r : RoomState). r.used) m.room.1.room;
+  target = m.room.1.target;
+  entry = m.room.1.entry;
+  keeps = m.keeps;
+}
+
+-- ---- the two that were merged
+
+-- one part in place of two is one less
+replaced_less : (parts : List Part) (two : Part × Part) (p : Part) → StandIn parts two → length (replaced two.0.region p parts) + 1 ≡ length parts
+replaced_less parts two p stand =
+    let place : position_or_len (λ q. q.region == two.0.region) parts + 1 < length parts =
+    subst (λ (ps : List Part). position_or_len (λ q. q.region == two.0.region) ps + 1 < length ps) (sym stand.neighbours) (lead_place stand.before two.0 two.1 stand.after) in
+    let long = length-set parts (position_or_len (λ q. q.region == two.0.region) parts) p in
+    let less = length-remove (set parts (position_or_len (λ q. q.region == two.0.region) parts) p) (position_or_len (λ q. q.region == two.0.region) parts + 1) (omega (arith, place, long)) in
+    let is = ap length (replaced_two parts two.0.region p place) in
+    omega (arith, long, less, is)
+
+two_merged : (from : ℕ) (old new : RoomValue) (view : ViewValue) → Merges from old new view → MergesTwo old.room.parts new.room.parts
+unfolding merged_state header_over
+two_merged from old new view m =
+    let stand = stand_in from old.room.parts m.two m.tried.first in
+    let job = job_for m.two m.measure m.regions old.room.free in
+    let p = part_of job.target (header_for m.two m.measure m.regions old.room.free) in
+    let is : new.room.parts ≡ replaced m.two.0.region p old.room.parts = ap (λ (r : RoomState). r.parts) m.room.1.room in
+    let less = replaced_less old.room.parts m.two p stand in
+    let as_long = ap length is in
+    record { two = m.two; stand = stand; part = p; range = refl; is = is; less = omega (arith, less, as_long) }
+
+-- so of the same parts by other names
+two_from : (old old' new new' : List Part) → old ≡ old' → new' ≡ new → MergesTwo old new → MergesTwo old' new'
+two_from old old' new new' was is merges = record {
+  two = merges.two;
+  stand = record { before = merges.stand.before; after = merges.stand.after; neighbours = sym was ∙ merges.stand.neighbours };
+  part = merges.part;
+  range = merges.range;
+  is = is ∙ merges.is ∙ ap (replaced merges.two.0.region merges.part) was;
+  less = (let less = merges.less in let m = ap length was in let n = ap length is in omega (arith, less, m, n));
+}
+
+-- rows for which regions were taken fit what is free
+taken_fits : (room : RoomState) (a b : List Row) (measure : Measure) (regions : ℕ) → regions_for_job room measure ≡ Some regions → measure ≡ measure_of (merged a b) → FitsFree room.region_len (length room.free) a b
+unfolding regions_for
+taken_fits room a b measure regions taken is = by (is_ordered (merged a b)) refl (ap (regions_for_job room) (sym is) ∙ taken)
+  where
+    enough : (o : Option ℕ) → if_enough (length room.free) o ≡ Some regions → (o ≡ Some regions) × (regions ≤ length room.free)
+    enough None e = absurd (some_none regions (sym e))
+    enough (Some k) e = by_test (nat_le k (length room.free)) refl e
+      where
+        by_test : (t : Bool) → nat_le k (length room.free) ≡ t → cond t (Some k) None ≡ Some regions → (Some k ≡ Some regions) × (regions ≤ length room.free)
+        by_test true h e = let same : k ≡ regions = some_same k regions e in (e, (let low : k ≤ length room.free = grind (arith, h) in omega (arith, low, same)))
+        by_test false h e = absurd (some_none regions (sym e))
+
+    by : (o : Bool) → is_ordered (merged a b) ≡ o → (if o then if_enough (length room.free) (regions_needed room.region_len (cost (merged a b))) else None) ≡ Some regions → FitsFree room.region_len (length room.free) a b
+    by true o e = let is_enough = enough (regions_needed room.region_len (cost (merged a b))) e in record { ordered = o; regions = regions; needed = is_enough.0; enough = is_enough.1 }
+    by false o e = absurd (some_none regions (sym e))
+
+-- ---- an empty board
+
+first_empty : (board : List Buffer) → list_all is_empty board ≡ true → 3 ≤ length board → (rest : List Buffer) × (board ≡ None ∷ rest) × (empty_of board 1 ≡ Some 0)
+first_empty [] all long = absurd (omega (arith, long))
+first_empty (Some eye ∷ rest) all long = absurd (true≢false (sym all))
+first_empty (None ∷ rest) all long = (rest, refl, refl)
+
+long_board : (value : RoomValue) → IsWhole value → 3 ≤ length value.room.board
+long_board value whole = let n = whole.board.seats.0 in let low = whole.board.seats.1 in let long = whole.board.seats.3 in omega (arith, low, long)
+
+pub seats_there : (value : RoomValue) → IsWhole value → 3 * 1 ≤ length value.room.board
+seats_there value whole = let long = long_board value whole in omega (arith, long)
+
+pub empty_there : (value : RoomValue) → IsWhole value → list_all is_empty value.room.board ≡ true → IsSome (empty_of value.room.board 1)
+empty_there value whole all = subst (λ (o : Option ℕ). IsSome o) (sym (first_empty value.room.board all (long_board value whole)).2) refl
+
+none_names : (region at : ℕ) (board : List Buffer) → list_all is_empty board ≡ true → first_from (names_region region) at board ≡ None
+none_names region at [] all = refl
+none_names region at (Some eye ∷ rest) all = absurd (true≢false (sym all))
+none_names region at (None ∷ rest) all = none_names region (at + 1) rest all
+
+none_held : (board : List Buffer) (parts : List Part) → list_all is_empty board ≡ true → filter (λ (p : Part). is_some (naming_of board p.region)) parts ≡ []
+none_held board [] all = refl
+none_held board (p ∷ parts) all =
+    ap (λ (o : Option ℕ). cond (is_some {T = ℕ × ℕ} (option_map (λ (at : ℕ). (1 + at / 3, at % 3)) o)) (p ∷ filter (λ (q : Part). is_some (naming_of board q.region)) parts) (filter (λ (q : Part). is_some (naming_of board q.region)) parts)) (none_names p.region 0 board all)
+    ∙ none_held board parts all
+
+-- ---- erasing
+
+erased_rest : (state : RoomState) (old new : RoomValue) → old.room.job ≡ None → state.job ≡ old.room.job → state.board ≡ old.room.board → state.sealed ≡ old.room.sealed → state.places ≡ old.room.places
+    → state.waiting ≡ old.room.waiting → state.open_rows ≡ old.room.open_rows → state.used ≡ old.room.used → new.room ≡ on state new.disk → new.target ≡ old.target → new.entry ≡ old.entry → Keeps old new → KeepsRest old new
+erased_rest state old new none job board sealed places waiting open_rows used is target entry keeps = record {
+  job = ap (λ (r : RoomState). r.job) is ∙ job ∙ none;
+  board = ap (λ (r : RoomState). r.board) is ∙ board;
+  sealed = ap (λ (r : RoomState). r.sealed) is ∙ sealed;
+  places = ap (λ (r : RoomState). r.places) is ∙ places;
+  waiting = ap (λ (r : RoomState). r.waiting) is ∙ waiting;
+  open_rows = ap (λ (r : RoomState). r.open_rows) is ∙ open_rows;
+  used = ap (λ (r : RoomState). r.used) is ∙ used;
+  target = target;
+  entry = entry;
+  keeps = keeps;
+}
+
+cons_none : {A : Type 0} (x : A) (xs : List A) → x ∷ xs ≡ [] → ⊥
+cons_none x xs is = cc
+
+-- what erasing leaves, where nothing failed
+pub record ErasesWell (old new : RoomValue) : Type 0 where
+  pub rest : KeepsRest old new
+  pub parts : new.room.parts ≡ old.room.parts
+  pub well : IsWell old new
+
+erases_none : (value : RoomValue) → IsWhole value → value.room.job ≡ None → value.room.is_shut ≡ false → ErasesWell value value
+erases_none value whole none opened_room =
+    record { rest = rest_itself value whole none; parts = refl; well = record { opened = opened_room; stays = opened_room; counts = record { faults = refl; own_faults = refl } } }
+
+erases_these : (leads : List ℕ) (old new : RoomValue) → IsWhole old → old.room.job ≡ None → old.room.is_shut ≡ false → Keeps old new → FreesThese leads old new → ErasesWell old new
+erases_these [] old new whole none opened_room keeps frees = subst (ErasesWell old) (sym (frees.0 refl)) (erases_none old whole none opened_room)
+erases_these (lead ∷ leads) old new whole none opened_room keeps frees =
+    let does = (frees.1 (cons_none lead leads)).1 in
+    let steps = does.1 in
+    record {
+      rest = erased_rest (erased_state old.room (lead ∷ leads)) old new none refl refl refl refl refl refl refl steps.room steps.target steps.entry keeps;
+      parts = ap (λ (r : RoomState). r.parts) steps.room;
+      well = record { opened = does.0; stays = ap (λ (r : RoomState). r.is_shut) steps.room ∙ opened_room; counts = does.2 };
+    }
+
+module _ (old new : RoomValue) (whole : IsWhole old) (none : old.room.job ≡ None) (all : list_all is_empty old.room.board ≡ true) (keeps : Keeps old new) where
+  pub emptied : (erased : ℕ) (u : Unit {0}) → new.room.retired ≡ held old.room → ErasesAllOr old new (Ok erased) → Empties old new (Ok u)
+  emptied erased u left erases =
+      let is = erases_these (unheld old.room) old new whole none erases.0 keeps erases.2 in
+      record { rest = is.rest; parts = is.parts; empties = (is.well, left ∙ none_held old.room.board old.room.retired all) }
+
+  pub not_emptied : (fault : RoomFault) → ErasesAllOr old new (Err fault) → Empties old new (Err (merge_fault.Room fault))
+  not_emptied room_fault.Disk (begun, more, are, some, unsynced, shuts) =
+      let steps = shuts.1 in
+      record {
+        rest = erased_rest (shut_state (left_state old.room begun) (all_regions (led_by begun old.room.retired))) old new none refl refl refl refl refl refl refl steps.room steps.target steps.entry keeps;
+        parts = ap (λ (r : RoomState). r.parts) steps.room;
+        empties = record { opened = shuts.0; shut = ap (λ (r : RoomState). r.is_shut) steps.room; fails = shuts.2 };
+      }
+  not_emptied (room_fault.Shut epoch) was =
+      record { rest = subst (KeepsRest old) (sym was.2) (rest_itself old whole none); parts = ap (λ (v : RoomValue). v.room.parts) was.2; empties = was }
+  not_emptied room_fault.NoMemory (opened_room, (begun, more, are, some, frees)) =
+      let is = erases_these begun old new whole none opened_room keeps frees in
+      record { rest = is.rest; parts = is.parts; empties = is.well }
+
+-- ---- no view
+
+module _ (old new : RoomValue) (whole : IsWhole old) (none : old.room.job ≡ None) (keeps : Keeps old new) (from : ℕ) where
+  pub no_view : (fault : RoomFault) → ViewsOr old new 1 (Err fault) → MergesThrough from old new (Err (merge_fault.Room fault))
+  no_view room_fault.Disk (shuts, told) =
+      let steps = shuts.1 in
+      record {
+        rest = erased_rest (shut_state old.room []) old new none refl refl refl refl refl refl refl steps.room steps.target steps.entry keeps;
+        through = (record { opened = shuts.0; shut = ap (λ (r : RoomState). r.is_shut) steps.room; fails = shuts.2 }, ap (λ (r : RoomState). r.parts) steps.room);
+      }
+  no_view (room_fault.Shut epoch) was = record { rest = subst (KeepsRest old) (sym was.2) (rest_itself old whole none); through = was }
+  no_view room_fault.NoMemory (opened_room, same) =
+      let is : ErasesWell old new = subst (ErasesWell old) (sym same) (erases_none old whole none opened_room) in
+      record { rest = is.rest; through = (is.well, is.parts) }
+
+-- ---- a view
+
+module _ (old mid : RoomValue) (view : ViewValue) (whole : IsWhole old) (all : list_all is_empty old.room.board ≡ true) (views : Views old mid 1 view) where
+  abbrev rest_of : List Buffer
+  rest_of = (first_empty old.room.board all (long_board old whole)).0
+
+  was_board : old.room.board ≡ None ∷ rest_of
+  was_board = (first_empty old.room.board all (long_board old whole)).1
+
+  at_first : view.buffer ≡ 0
+  at_first = some_same view.buffer 0 (sym views.buffer ∙ (first_empty old.room.board all (long_board old whole)).2)
+
+  now_board : mid.room.board ≡ Some (opened view.eye) ∷ rest_of
+  now_board =
+      ap (λ (r : RoomState). r.board) views.posts.1.room
+      ∙ (λ i. slice_set (was_board i) (buffer_at 1 (at_first i)) (Some (opened view.eye)))
+
+  pub view_posted : IsPosted mid.room view
+  view_posted = ap (λ b. slice_get b (buffer_at view.seat view.buffer)) now_board ∙ (λ i. slice_get (Some (opened view.eye) ∷ rest_of) (buffer_at (views.of_seat i) (at_first i)))
+
+  pub view_len : view.region_len ≡ mid.room.region_len
+  view_len = views.region_len ∙ ap (λ (r : RoomState). r.region_len) whole.of_disk ∙ sym views.posts.1.region_len ∙ sym (ap (λ (r : RoomState). r.region_len) views.posts.1.room)
+
+  pub view_parts : view.parts ≡ mid.room.parts
+  view_parts = views.parts ∙ sym (ap (λ (r : RoomState). r.parts) views.posts.1.room)
+
+  pub view_open : mid.room.is_shut ≡ false
+  view_open = ap (λ (r : RoomState). r.is_shut) views.posts.1.room ∙ views.posts.0
+
+  pub view_no_job : old.room.job ≡ None → mid.room.job ≡ None
+  view_no_job none = ap (λ (r : RoomState). r.job) views.posts.1.room ∙ none
+
+-- ---- a view that was taken back
+
+-- a view was made, something was done through it, and it was taken back
+pub record Passes (old mid tried new : RoomValue) (view view' : ViewValue) : Type 0 where
+  pub none : old.room.job ≡ None
+  pub all : list_all is_empty old.room.board ≡ true
+  pub whole : IsWhole old
+  pub views : Views old mid 1 view
+  pub first : Keeps old mid
+  pub made : IsWhole mid
+  pub made_view : IsView view
+  pub same : SameView view view'
+  pub middle : IsWhole tried
+  pub is_view : IsView view'
+  pub posted : IsPosted tried.room view'
+  pub region_len : view'.region_len ≡ tried.room.region_len
+  pub back : TakesBack tried new view'
+  pub last : Keeps tried new
+  pub ends : IsWhole new
+
+contains_at : (parts : List Part) (at : ℕ) (p : Part) → slice_get parts at ≡ Some p → Contains parts p
+contains_at parts at p is = (at, slice_get_within parts at p is, get_or_from_slice_get parts at p p is)
+
+module _ (old mid tried new : RoomValue) (view view' : ViewValue) (is : Passes old mid tried new view view') where
+  fresh : view.eye.faults ≡ 0
+  fresh = is.views.opens.fresh.0
+
+  -- what is behind, when the board is as it was
+  rest_all : KeepsRest mid tried → KeepsRest old new
+  rest_all rest = record {
+    job = ap (λ (r : RoomState). r.job) is.back.room.room ∙ rest.job;
+    board =
+        ap (λ (r : RoomState). r.board) is.back.room.room
+        ∙ (λ i. slice_set ((rest.board ∙ now_board old mid view is.whole is.all is.views) i) (buffer_at ((is.same.place.0 ∙ is.views.of_seat) i) ((is.same.place.1 ∙ at_first old mid view is.whole is.all is.views) i)) None)
+        ∙ sym (was_board old mid view is.whole is.all is.views);
+    sealed = ap (λ (r : RoomState). r.sealed) is.back.room.room ∙ rest.sealed ∙ ap (λ (r : RoomState). r.sealed) is.views.posts.1.room;
+    places = ap (λ (r : RoomState). r.places) is.back.room.room ∙ rest.places ∙ ap (λ (r : RoomState). r.places) is.views.posts.1.room;
+    waiting = ap (λ (r : RoomState). r.waiting) is.back.room.room ∙ rest.waiting ∙ ap (λ (r : RoomState). r.waiting) is.views.posts.1.room;
+    open_rows = ap (λ (r : RoomState). r.open_rows) is.back.room.room ∙ rest.open_rows ∙ ap (λ (r : RoomState). r.open_rows) is.views.posts.1.room;
+    used = ap (λ (r : RoomState). r.used) is.back.room.room ∙ rest.used ∙ ap (λ (r : RoomState). r.used) is.views.posts.1.room;
+    target = is.back.room.target ∙ rest.target ∙ is.views.posts.1.target;
+    entry = is.back.room.entry ∙ rest.entry ∙ is.views.posts.1.entry;
+    keeps = keeps_then old mid new is.first (keeps_then mid tried new rest.keeps is.last);
+  }
+
+  closed_same : view'.eye.faults ≡ 0 → new.disk.faults ≡ tried.disk.faults
+  closed_same none = let f = is.back.closes.faults in let l = is.back.closes.no_lower in omega (arith, f, l, none)
+
+  well_all : tried.room.is_shut ≡ false → KeepsCounts mid.disk tried.disk → view'.eye.faults ≡ view.eye.faults → IsWell old new
+  well_all open_room counts steady = record {
+    opened = is.views.posts.0;
+    stays = ap (λ (r : RoomState). r.is_shut) is.back.room.room ∙ open_room;
+    counts = record {
+      faults = closed_same (steady ∙ fresh) ∙ counts.faults ∙ is.views.posts.2.faults;
+      own_faults = is.back.closes.others.3 ∙ counts.own_faults ∙ is.views.posts.2.own_faults;
+    };
+  }
+
+  parts_all : tried.room.parts ≡ mid.room.parts → new.room.parts ≡ old.room.parts
+  parts_all same = ap (λ (r : RoomState). r.parts) is.back.room.room ∙ same ∙ ap (λ (r : RoomState). r.parts) is.views.posts.1.room
+
+  retired_all : tried.room.retired ≡ mid.room.retired → new.room.retired ≡ old.room.retired
+  retired_all same = ap (λ (r : RoomState). r.retired) is.back.room.room ∙ same ∙ ap (λ (r : RoomState). r.retired) is.views.posts.1.room
+
+  same_image : new.room.image ≡ tried.room.image
+  same_image =
+      ap (λ (r : RoomState). r.image) is.back.room.room
+      ∙ ap (λ told. option_map (λ (t : Told). t.bytes) told) is.back.closes.told
+      ∙ sym (ap (λ (r : RoomState). r.image) is.middle.of_disk)
+
+  -- what a read of the disk tells of a live part, the view tells
+  shown_all : tried.room.parts ≡ mid.room.parts → (p : Part) (rows : List Row) → Contains new.room.parts p → TellsRowsOf new.room.image new.room.region_len (p ∷ []) rows → EyeTells view' p rows
+  shown_all parts p rows there tells =
+      shown_by_eye tried view' p rows (record { whole = is.middle; is_view = is.is_view; posted = is.posted; region_len = is.region_len })
+      (subst (λ ps. Contains ps p) (parts_all parts ∙ sym is.views.parts ∙ sym is.same.parts) there)
+      (subst (λ image. TellsRowsOf image tried.room.region_len (p ∷ []) rows) same_image (subst (λ n. TellsRowsOf new.room.image n (p ∷ []) rows) is.last.becomes.region_len tells))
+
+  -- the rows of a live part are told with its header
+  tells_live : new.room.is_shut ≡ false → (image : Image) → new.room.image ≡ Some image → (p : Part) (rows : List Row) → Contains new.room.parts p → AreRowsOf new.room.region_len image (p ∷ []) rows
+      → TellsRowsOf new.room.image new.room.region_len (p ∷ []) rows
+  tells_live open_room image told p rows there are =
+      let holds = (held_now new is.ends (is.ends.lost open_room) image told).1 in
+      let header : HasHeader new.disk.region_len image p.region p.header =
+      All-contains (λ (q : Part). HasHeader new.disk.region_len image q.region q.header) (new.room.parts ++ new.room.retired) p (All-from_recursion _ (new.room.parts ++ new.room.retired) holds.headers)
+      (Contains-append_left new.room.parts new.room.retired p there) in
+      record { image = image; is_told = told; headers = (subst (λ n. HasHeader n image p.region p.header) (sym (ap (λ (r : RoomState). r.region_len) is.ends.of_disk)) header, tt); are_rows = are }
+
+  none_fit : new.room.is_shut ≡ false → StaysOpen None mid.room.free mid tried → OfNeighbours (Unfit mid view) mid.room.parts → NoneFitNow new
+  none_fit open_room stays none image told older newer near fits =
+      let parts : tried.room.parts ≡ mid.room.parts = ap (λ (r : RoomState). r.parts) stays.room in
+      let same : new.room.parts ≡ mid.room.parts = ap (λ (r : RoomState). r.parts) is.back.room.room ∙ parts in
+      let free : new.room.free ≡ mid.room.free = ap (λ (r : RoomState). r.free) is.back.room.room ∙ ap (λ (r : RoomState). r.free) stays.room in
+      let len : new.room.region_len ≡ mid.room.region_len = is.last.becomes.region_len ∙ stays.keeps.becomes.region_len in
+      let unfit : Unfit mid view near.a near.b =
+      of_at (Unfit mid view) mid.room.parts near.at near.a near.b none (subst (λ (ps : List Part). slice_get ps near.at ≡ Some near.a) same near.is_a) (subst (λ (ps : List Part). slice_get ps (near.at + 1) ≡ Some near.b) same near.is_b) in
+      let has_a = contains_at new.room.parts near.at near.a near.is_a in
+      let has_b = contains_at new.room.parts (near.at + 1) near.b near.is_b in
+      unfit older newer
+      (told_before view view' near.a older is.same (shown_all parts near.a older has_a (tells_live open_room image told near.a older has_a near.older_rows)))
+      (told_before view view' near.b newer is.same (shown_all parts near.b newer has_b (tells_live open_room image told near.b newer has_b near.newer_rows)))
+      (subst (λ n. FitsFree n (length mid.room.free) older newer) len (subst (λ (f : List ℕ). FitsFree new.room.region_len (length f) older newer) free fits))
+
+  refused_all : (fault : FetchFault) → StaysOpen None mid.room.free mid tried → Looks {A = Bool} view view' (Err (merge_fault.Fetch fault)) → BlamesTwo mid view' fault → IsReadRefused old new fault
+  refused_all fault stays looks blames =
+      let parts : tried.room.parts ≡ mid.room.parts = ap (λ (r : RoomState). r.parts) stays.room in
+      let risen = is.back.closes.faults in
+      let before : mid.disk.faults ≡ old.disk.faults = is.views.posts.2.faults in
+      let between : tried.disk.faults ≡ mid.disk.faults = stays.counts.faults in
+      let start = fresh in
+      record {
+        opened = is.views.posts.0;
+        stays = ap (λ (r : RoomState). r.is_shut) is.back.room.room ∙ ap (λ (r : RoomState). r.is_shut) stays.room ∙ view_open old mid view is.whole is.all is.views;
+        own_faults = is.back.closes.others.3 ∙ stays.counts.own_faults ∙ is.views.posts.2.own_faults;
+        rises = λ failed. (let eye = looks.counts.rises (ap (λ f. Err (merge_fault.Fetch f)) failed) in omega (arith, eye, risen, before, between, start));
+        no_lower = (let low = is.back.closes.no_lower in omega (arith, low, before, between));
+        else_same = λ other. closed_same (looks.counts.else_same (λ failed. other cc) ∙ fresh) ∙ between ∙ before;
+        view = view';
+        shown = shown_all parts;
+        blames = record { two = blames.two; stand = subst (λ ps. StandIn ps blames.two) (sym (ap (λ (r : RoomState). r.parts) is.back.room.room ∙ parts)) blames.stand; blames = blames.blames };
+      }
+
+  shut_all : FallsShut None tried.room.free mid tried → IsShutNow old new
+  shut_all falls =
+      let low = is.back.closes.no_lower in
+      let own = is.back.closes.others.3 in
+      let before = is.views.posts.2.faults in
+      let own_before = is.views.posts.2.own_faults in
+      let rose = falls.fails.faults in
+      let own_rose = falls.fails.own_faults in
+      let not_lower = falls.fails.no_lower.0 in
+      let own_not_lower = falls.fails.no_lower.1 in
+      record {
+        opened = is.views.posts.0;
+        shut = ap (λ (r : RoomState). r.is_shut) is.back.room.room ∙ ap (λ (r : RoomState). r.is_shut) falls.room;
+        fails = record { faults = omega (arith, rose, before, low); own_faults = omega (arith, own_rose, own_before, own); no_lower = (omega (arith, not_lower, before, low), omega (arith, own_not_lower, own_before, own)) };
+      }
+
+  same_unfit : (p q : Part) → Unfit mid view p q → Unfit old view p q
+  same_unfit p q unfit a b a_told b_told fits =
+      unfit a b a_told b_told
+      (subst (λ n. FitsFree n (length mid.room.free) a b) (sym is.first.becomes.region_len)
+      (subst (λ (f : List ℕ). FitsFree old.room.region_len (length f) a b) (sym (ap (λ (r : RoomState). r.free) is.views.posts.1.room)) fits))
+
+  same_none : (from until : ℕ) → NoneBetween from until mid view → NoneBetween from until old view
+  same_none from until none =
+      subst (OfNeighbours (Between from until (Unfit old view))) (ap (λ (r : RoomState). r.parts) is.views.posts.1.room)
+      (of_each (Between from until (Unfit mid view)) (Between from until (Unfit old view)) (λ p q has a b. same_unfit p q (has a b)) mid.room.parts none)
+
+  same_before : (from at : ℕ) → NoneBefore from at mid view → NoneBefore from at old view
+  same_before from at (inl (low, none)) = inl (low, same_none from at none)
+  same_before from at (inr (high, none, more)) = inr (high, same_none from epochs_end none, same_none 1 at more)
+
+  -- what a read of the disk told of a live part, the view told
+  shown_first : (p : Part) (rows : List Row) → Contains old.room.parts p → TellsRowsOf old.room.image old.room.region_len (p ∷ []) rows → EyeTells view p rows
+  shown_first p rows there tells =
+      shown_by_eye mid view p rows (record { whole = is.made; is_view = is.made_view; posted = view_posted old mid view is.whole is.all is.views; region_len = view_len old mid view is.whole is.all is.views })
+      (subst (λ ps. Contains ps p) (sym is.views.parts) there)
+      (subst (λ image. TellsRowsOf image mid.room.region_len (p ∷ []) rows) (sym before_image) (subst (λ n. TellsRowsOf old.room.image n (p ∷ []) rows) (sym is.first.becomes.region_len) tells))
+    where
+      before_image : mid.room.image ≡ old.room.image
+      before_image =
+          ap (λ (r : RoomState). r.image) is.views.posts.1.room
+          ∙ ap (λ told. option_map (λ (t : Told). t.bytes) told) is.views.opens.told
+          ∙ sym (ap (λ (r : RoomState). r.image) is.whole.of_disk)
+
+  merged_all : (from : ℕ) (some : MergesAny from mid tried view) → Looks {A = Bool} view view' (Ok true) → MergesThrough from old new (Ok true)
+  unfolding merged_state two_from two_merged
+  merged_all from (at, before, some) looks =
+      let m = some.merges in
+      let rest = rest_then mid some.mid tried (rest_stays mid.room.free mid some.mid some.stays) (rest_merges at some.mid tried some.seen m) in
+      let were : some.mid.room.parts ≡ old.room.parts = ap (λ (r : RoomState). r.parts) some.stays.room ∙ ap (λ (r : RoomState). r.parts) is.views.posts.1.room in
+      let free : some.mid.room.free ≡ old.room.free = ap (λ (r : RoomState). r.free) some.stays.room ∙ ap (λ (r : RoomState). r.free) is.views.posts.1.room in
+      let len : some.mid.room.region_len ≡ old.room.region_len = some.stays.keeps.becomes.region_len ∙ is.first.becomes.region_len in
+      record {
+        rest = rest_all rest;
+        through = (
+          well_all (ap (λ (r : RoomState). r.is_shut) m.room.1.room ∙ m.room.0)
+              (record { faults = m.room.2.faults ∙ some.stays.counts.faults; own_faults = m.room.2.own_faults ∙ some.stays.counts.own_faults })
+              (looks.counts.else_same (λ failed. cc)),
+          record {
+            merged = two_from some.mid.room.parts old.room.parts tried.room.parts new.room.parts were (ap (λ (r : RoomState). r.parts) is.back.room.room) (two_merged at some.mid tried some.seen m);
+            view = view;
+            shown = shown_first;
+            at = at;
+            first = subst (λ ps. neighbours_from at ps ≡ Some m.two) were m.tried.first;
+            before = same_before from at before;
+            fits = λ a b a_told b_told.
+                subst (λ n. FitsFree n (length old.room.free) a b) len
+                (subst (λ (f : List ℕ). FitsFree some.mid.room.region_len (length f) a b) free
+                (taken_fits some.mid.room a b m.measure m.regions m.taken (m.measured a b (told_on some.seen some.same m.two.0 a a_told) (told_on some.seen some.same m.two.1 b b_told))));
+          },
+        );
+      }
+    where
+      told_on : (seen : ViewValue) → SameView view seen → (p : Part) (rows : List Row) → EyeTells view p rows → EyeTells seen p rows
+      told_on seen same p rows tells = told_before seen view p rows (view_back view seen same) tells
+
+  -- whatever was answered
+  pub passed : (from : ℕ) (result : Result Bool MergeFault) → TriesAll from mid tried view view' result → MergesThrough from old new result
+  passed from (Ok true) tries = merged_all from tries.room tries.looks
+  passed from (Ok false) tries =
+      let stays = tries.room.0 in
+      let open_room : tried.room.is_shut ≡ false = ap (λ (r : RoomState). r.is_shut) stays.room ∙ view_open old mid view is.whole is.all is.views in
+      let well = well_all open_room stays.counts (tries.looks.counts.else_same (λ failed. cc)) in
+      record {
+        rest = rest_all (rest_stays mid.room.free mid tried stays);
+        through = (well, parts_all (ap (λ (r : RoomState). r.parts) stays.room), retired_all (ap (λ (r : RoomState). r.retired) stays.room), none_fit well.stays stays tries.room.1);
+      }
+  passed from (Err (merge_fault.Fetch fault)) tries =
+      let stays = tries.room.0 in
+      record {
+        rest = rest_all (rest_stays mid.room.free mid tried stays);
+        through = (refused_all fault stays tries.looks tries.room.1, parts_all (ap (λ (r : RoomState). r.parts) stays.room), retired_all (ap (λ (r : RoomState). r.retired) stays.room));
+      }
+  passed from (Err (merge_fault.Room room_fault.NoMemory)) tries =
+      let stays = tries.room in
+      let open_room : tried.room.is_shut ≡ false = ap (λ (r : RoomState). r.is_shut) stays.room ∙ view_open old mid view is.whole is.all is.views in
+      record {
+        rest = rest_all (rest_stays mid.room.free mid tried stays);
+        through = (well_all open_room stays.counts (tries.looks.counts.else_same (λ failed. cc)), parts_all (ap (λ (r : RoomState). r.parts) stays.room));
+      }
+  passed from (Err (merge_fault.Room room_fault.Disk)) tries =
+      record { rest = rest_all (rest_falls tried.room.free mid tried tries.room); through = (shut_all tries.room, parts_all (ap (λ (r : RoomState). r.parts) tries.room.room)) }
+  passed from (Err (merge_fault.Room (room_fault.Shut epoch))) tries = absurd tries.room
+
+-- the board of what is left, for taking it back
+module _ (from : ℕ) (mid tried : RoomValue) (view view' : ViewValue) (posted : IsPosted mid.room view) (region_len : view.region_len ≡ mid.room.region_len) where
+  rest_posted : KeepsRest mid tried → SameView view view' → IsPosted tried.room view' × (view'.region_len ≡ tried.room.region_len)
+  rest_posted rest same = (posted_then mid.room tried.room view view' rest.board same posted, same.region_len ∙ region_len ∙ sym rest.keeps.becomes.region_len)
+
+  pub still_posted : (result : Result Bool MergeFault) → TriesAll from mid tried view view' result → IsPosted tried.room view' × (view'.region_len ≡ tried.room.region_len)
+  still_posted (Ok true) tries =
+      let some = tries.room.2 in
+      rest_posted (rest_then mid some.mid tried (rest_stays mid.room.free mid some.mid some.stays) (rest_merges tries.room.0 some.mid tried some.seen some.merges)) tries.looks.same
+  still_posted (Ok false) tries = rest_posted (rest_stays mid.room.free mid tried tries.room.0) tries.looks.same
+  still_posted (Err (merge_fault.Fetch fault)) tries = rest_posted (rest_stays mid.room.free mid tried tries.room.0) tries.looks.same
+  still_posted (Err (merge_fault.Room room_fault.NoMemory)) tries = rest_posted (rest_stays mid.room.free mid tried tries.room) tries.looks.same
+  still_posted (Err (merge_fault.Room room_fault.Disk)) tries = rest_posted (rest_falls tried.room.free mid tried tries.room) tries.looks.same
+  still_posted (Err (merge_fault.Room (room_fault.Shut epoch))) tries = absurd tries.room
+
+-- ---- the whole call
+
+well_then : (a b c : RoomValue) → IsWell a b → IsWell b c → IsWell a c
+well_then a b c first second = record {
+  opened = first.opened;
+  stays = second.stays;
+  counts = record { faults = second.counts.faults ∙ first.counts.faults; own_faults = second.counts.own_faults ∙ first.counts.own_faults };
+}
+
+shut_then : (a b c : RoomValue) → IsWell a b → IsShutNow b c → IsShutNow a c
+shut_then a b c first second =
+    let same = first.counts.faults in
+    let own_same = first.counts.own_faults in
+    let rose = second.fails.faults in
+    let own_rose = second.fails.own_faults in
+    let low = second.fails.no_lower.0 in
+    let own_low = second.fails.no_lower.1 in
+    record {
+      opened = first.opened;
+      shut = second.shut;
+      fails = record { faults = omega (arith, same, rose); own_faults = omega (arith, own_same, own_rose); no_lower = (omega (arith, same, low), omega (arith, own_same, own_low)) };
+    }
+
+refused_then : (a b c : RoomValue) (fault : FetchFault) → IsWell a b → IsReadRefused b c fault → IsReadRefused a c fault
+refused_then a b c fault first second =
+    let same = first.counts.faults in
+    record {
+      opened = first.opened;
+      stays = second.stays;
+      own_faults = second.own_faults ∙ first.counts.own_faults;
+      rises = λ failed. (let rose = second.rises failed in omega (arith, rose, same));
+      no_lower = (let low = second.no_lower in omega (arith, low, same));
+      else_same = λ other. second.else_same other ∙ same;
+      view = second.view;
+      shown = second.shown;
+      blames = second.blames;
+    }
+
+-- ---- from where nothing is retired
+
+module _ (from : ℕ) (old mid : RoomValue) where
+  pub erased_false : MergesThrough from old mid (Ok false) → MergesErased from old mid (Ok false)
+  erased_false t = record { rest = t.rest; erased = t.through }
+
+  pub erased_fault : (fault : MergeFault) → MergesThrough from old mid (Err fault) → MergesErased from old mid (Err fault)
+  erased_fault (merge_fault.Fetch fault) t = record { rest = t.rest; erased = t.through }
+  erased_fault (merge_fault.Room room_fault.NoMemory) t = record { rest = t.rest; erased = (t.through.0, inl t.through.1) }
+  erased_fault (merge_fault.Room room_fault.Disk) t = record { rest = t.rest; erased = (t.through.0, inl t.through.1) }
+  erased_fault (merge_fault.Room (room_fault.Shut epoch)) t = record { rest = t.rest; erased = t.through }
+
+module _ (from : ℕ) (old mid new : RoomValue) (merges : MergesThrough from old mid (Ok true)) where
+  first_from' : new.room.parts ≡ mid.room.parts → MergesFirst from old new.room.parts
+  first_from' same = subst (MergesFirst from old) (sym same) merges.through.1
+
+  pub erased_true : (u : Unit {0}) → Empties mid new (Ok u) → MergesErased from old new (Ok true)
+  erased_true u e = record { rest = rest_then old mid new merges.rest e.rest; erased = (well_then old mid new merges.through.0 e.empties.0, first_from' e.parts, e.empties.1) }
+
+  pub erased_after : (fault : MergeFault) → Empties mid new (Err fault) → MergesErased from old new (Err fault)
+  erased_after (merge_fault.Fetch fault) e = absurd e.empties
+  erased_after (merge_fault.Room room_fault.NoMemory) e =
+      record { rest = rest_then old mid new merges.rest e.rest; erased = (well_then old mid new merges.through.0 e.empties, inr (first_from' e.parts).merged) }
+  erased_after (merge_fault.Room room_fault.Disk) e =
+      record { rest = rest_then old mid new merges.rest e.rest; erased = (shut_then old mid new merges.through.0 e.empties, inr (first_from' e.parts).merged) }
+  erased_after (merge_fault.Room (room_fault.Shut epoch)) e = absurd (true≢false (sym e.empties.0 ∙ merges.through.0.stays))
+
+-- ---- and what was retired before
+
+pub near_refused : (from : ℕ) (old new : RoomValue) (fault : MergeFault) → Empties old new (Err fault) → MergesNear from old new (Err fault)
+near_refused from old new (merge_fault.Fetch fault) e = absurd e.empties
+near_refused from old new (merge_fault.Room room_fault.NoMemory) e = record { rest = e.rest; near = (e.empties, inl e.parts) }
+near_refused from old new (merge_fault.Room room_fault.Disk) e = record { rest = e.rest; near = (e.empties, inl e.parts) }
+near_refused from old new (merge_fault.Room (room_fault.Shut epoch)) e = record { rest = e.rest; near = e.empties }
+
+module _ (from : ℕ) (old mid new : RoomValue) (u : Unit {0}) (first : Empties old mid (Ok u)) where
+  same_or : SameOrMerged mid.room.parts new.room.parts → SameOrMerged old.room.parts new.room.parts
+  same_or (inl same) = inl (same ∙ first.parts)
+  same_or (inr merges) = inr (two_from mid.room.parts old.room.parts new.room.parts new.room.parts first.parts refl merges)
+
+  pub near_then : (result : Result Bool MergeFault) → MergesErased from mid new result → MergesNear from old new result
+  near_then (Ok true) e = record {
+    rest = rest_then old mid new first.rest e.rest;
+    near = (
+      well_then old mid new first.empties.0 e.erased.0,
+      two_from mid.room.parts old.room.parts new.room.parts new.room.parts first.parts refl e.erased.1.merged,
+      e.erased.2,
+      record { erased = mid; erases = first; merges = e.erased.1 },
+    );
+  }
+  near_then (Ok false) e = record {
+    rest = rest_then old mid new first.rest e.rest;
+    near = (well_then old mid new first.empties.0 e.erased.0, e.erased.1 ∙ first.parts, e.erased.2 ∙ first.empties.1, e.erased.3);
+  }
+  near_then (Err (merge_fault.Fetch fault)) e = record {
+    rest = rest_then old mid new first.rest e.rest;
+    near = (refused_then old mid new fault first.empties.0 e.erased.0, e.erased.1 ∙ first.parts, e.erased.2 ∙ first.empties.1);
+  }
+  near_then (Err (merge_fault.Room room_fault.NoMemory)) e = record { rest = rest_then old mid new first.rest e.rest; near = (well_then old mid new first.empties.0 e.erased.0, same_or e.erased.1) }
+  near_then (Err (merge_fault.Room room_fault.Disk)) e = record { rest = rest_then old mid new first.rest e.rest; near = (shut_then old mid new first.empties.0 e.erased.0, same_or e.erased.1) }
+  near_then (Err (merge_fault.Room (room_fault.Shut epoch))) e = absurd (true≢false (sym e.erased.0 ∙ first.empties.0.stays))

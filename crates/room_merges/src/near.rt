@@ -1,0 +1,199 @@
+//! Merging the first neighbours that fit, in one call.
+
+ghost use Rattle.std.specs.Prelude.{◌≡◌, ◌≤◌, None, false, true, option_map};
+ghost use Rattle.std.specs.List.{list_all};
+ghost use Rattle.fine_model.specs.Boards.{is_empty};
+ghost use Rattle.epoch_room.specs.MergeSteps.{neighbours_from, with_next};
+ghost use Rattle.epoch_room.specs.Returns.{IsPosted};
+ghost use Rattle.room_merges.specs.Near.{Empties, MergesErased, MergesNear, MergesThrough, TriesAll, TriesBetween};
+
+use crate::fault::MergeFault;
+use crate::pair::merge_pair;
+use epoch_room::Room;
+use fine_model::Part;
+use log_disk::LogDisk;
+use partition_hold::View;
+use std::alloc::Global;
+
+/// Where the first of some parts begins, if there is one behind another.
+fn epoch_of_next(_older: &Part, behind: &[Part]) -> Option<u64>
+    ensures { result ≡ option_map (λ two. two.1.header.range.first) (with_next _older.now behind.now) }
+{
+    let newer = behind.first()?;
+    Some(newer.header.range.first)
+}
+
+/// Where the newer one begins of the first two neighbours whose older one begins at an epoch or later.
+#[tactic(auto, unfolding(epoch_room::specs::MergeSteps::neighbours_from))]
+fn epoch_behind(parts: &[Part], from: u64) -> Option<u64>
+    ensures { result ≡ option_map (λ two. two.1.header.range.first) (neighbours_from from parts.now) }
+{
+    let mut left = parts;
+    while let Some((older, behind)) = left.split_first() {
+        if from <= older.header.range.first {
+            return epoch_of_next(older, behind);
+        }
+        left = behind;
+    }
+    None
+}
+
+/// Tries the neighbours whose older one begins from an epoch on and before another, in chain order, and merges the first that fit.
+fn merge_between<D: LogDisk>(
+    alloc: Global,
+    room: &mut Room<D>,
+    view: &mut View<D::Eye>,
+    from: u64,
+    until: u64,
+) -> Result<bool, MergeFault>
+    requires no_job { room.old.room.job ≡ None }
+    requires open { room.old.room.is_shut ≡ false }
+    requires posted { IsPosted room.old.room view.old }
+    requires region_len { view.old.region_len ≡ room.old.room.region_len }
+    requires parts { view.old.parts ≡ room.old.room.parts }
+    ensures { TriesBetween from until room.old room.new view.old view.new result }
+{
+    let _counts = room.counts();
+    let mut at = from;
+    while at < until {
+        let Some(next) = epoch_behind(room.parts().as_slice(), at) else {
+            return Ok(false);
+        };
+        match merge_pair(alloc, room, view, at) {
+            Ok(merged) => {
+                if merged {
+                    return Ok(true);
+                }
+            }
+            Err(fault) => return Err(fault),
+        }
+        at = next;
+    }
+    Ok(false)
+}
+
+/// Tries the neighbours whose older one begins at an epoch or later, in chain order, and then those before, and merges the first that fit.
+fn merge_any<D: LogDisk>(
+    alloc: Global,
+    room: &mut Room<D>,
+    view: &mut View<D::Eye>,
+    from: u64,
+) -> Result<bool, MergeFault>
+    requires no_job { room.old.room.job ≡ None }
+    requires open { room.old.room.is_shut ≡ false }
+    requires posted { IsPosted room.old.room view.old }
+    requires region_len { view.old.region_len ≡ room.old.room.region_len }
+    requires parts { view.old.parts ≡ room.old.room.parts }
+    ensures { TriesAll from room.old room.new view.old view.new result }
+{
+    let _counts = room.counts();
+    match merge_between(alloc, room, view, from, u64::MAX) {
+        Ok(merged) => {
+            if merged {
+                Ok(true)
+            } else {
+                merge_between(alloc, room, view, 1, from)
+            }
+        }
+        Err(fault) => Err(fault),
+    }
+}
+
+/// Merges the first neighbours that fit, through a view of its own.
+fn merge_through<D: LogDisk>(
+    alloc: Global,
+    room: &mut Room<D>,
+    from: u64,
+) -> Result<bool, MergeFault>
+    requires no_job { room.old.room.job ≡ None }
+    requires board { list_all is_empty room.old.room.board ≡ true }
+    ensures { MergesThrough from room.old room.new result }
+{
+    let _counts = room.counts();
+    match room.view_for(1) {
+        Ok(mut view) => {
+            let _made = room.counts();
+            let _seen = view.parts();
+            let merged = merge_any(alloc, room, &mut view, from);
+            let _tried = room.counts();
+            let _parts = view.parts();
+            room.take_back(view);
+            let _left = room.counts();
+            merged
+        }
+        Err(fault) => Err(MergeFault::Room(fault)),
+    }
+}
+
+/// Erases all retired parts of a room with no view out.
+fn erase_retired<D: LogDisk>(room: &mut Room<D>) -> Result<(), MergeFault>
+    requires no_job { room.old.room.job ≡ None }
+    requires board { list_all is_empty room.old.room.board ≡ true }
+    ensures { Empties room.old room.new result }
+{
+    let _counts = room.counts();
+    match room.erase_all() {
+        Ok(_erased) => Ok(()),
+        Err(fault) => Err(MergeFault::Room(fault)),
+    }
+}
+
+/// Merges the first neighbours that fit, and erases the two.
+fn merge_erased<D: LogDisk>(
+    alloc: Global,
+    room: &mut Room<D>,
+    from: u64,
+) -> Result<bool, MergeFault>
+    requires no_job { room.old.room.job ≡ None }
+    requires board { list_all is_empty room.old.room.board ≡ true }
+    ensures { MergesErased from room.old room.new result }
+{
+    match merge_through(alloc, room, from) {
+        Ok(merged) => {
+            if merged {
+                match erase_retired(room) {
+                    Ok(()) => Ok(true),
+                    Err(fault) => Err(fault),
+                }
+            } else {
+                Ok(false)
+            }
+        }
+        Err(fault) => Err(fault),
+    }
+}
+
+/// Erases all retired parts, merges the first neighbours of the chain that fit, and erases the two. Tried are first the neighbours of which
+/// the older one begins at an epoch or later, in chain order, and then those before it. No view is out, and no merge, before and after.
+///
+/// True exactly where two were merged: the chain has a part less, and none is retired. False where no neighbours fit what is free, by what
+/// a read of the disk gives; none is retired then either, and the chain is as it was.
+///
+/// `Shut` comes exactly where an earlier call answered `Disk`, and changes nothing. `Disk` comes only where the disk failed in this call,
+/// and shuts the room. After `NoMemory` the room is open; both may come once two were merged, and what was merged or erased before stays
+/// so. A refusal of a read leaves the chain as it was, and nothing retired. A crash at any moment of the call leaves an image that shows
+/// what was sealed before.
+pub fn merge_near<D: LogDisk>(
+    alloc: Global,
+    room: &mut Room<D>,
+    from: u64,
+) -> Result<bool, MergeFault>
+    requires no_job { room.old.room.job ≡ None }
+    requires board { list_all is_empty room.old.room.board ≡ true }
+    ensures { MergesNear from room.old room.new result }
+{
+    let _counts = room.counts();
+    match erase_retired(room) {
+        Ok(()) => merge_erased(alloc, room, from),
+        Err(fault) => Err(fault),
+    }
+}
+
+/// Merges the first neighbours of the chain that fit, as `merge_near` does from the first epoch on.
+pub fn merge_now<D: LogDisk>(alloc: Global, room: &mut Room<D>) -> Result<bool, MergeFault>
+    requires no_job { room.old.room.job ≡ None }
+    requires board { list_all is_empty room.old.room.board ≡ true }
+    ensures { MergesNear 1 room.old room.new result }
+{
+    merge_near(alloc, room, 1)
+}

@@ -1,0 +1,51 @@
+-- A new disk has no parts.
+use Rattle.std.proofs.Common.{◌≡◌, ℕ, zero, suc, ◌+◌, false, [], length, None, Some, Ok, Err, Result, refl, ap}
+use Rattle.std.specs.Prelude.{replicate}
+use Rattle.fine_model.specs.Regions.{region_of, is_sealed}
+use Rattle.fine_model.specs.Pushed.{and_then}
+use Rattle.fine_model.specs.Trees.{is_distinct}
+use Rattle.fine_model.specs.Chain.{parts_from, apart, chain_of, chain, taken}
+use Rattle.log_partition.proofs.Heads.{in_closed}
+use Rattle.log_disk.specs.Disk.{zeros, told_anew, new_disk}
+use Rattle.fine_model.specs.declared.law.RoomState.{RoomState}
+use Rattle.epoch_room.specs.Value.{RoomValue}
+use Rattle.epoch_room.specs.Whole.{AreParts}
+use Rattle.epoch_room.specs.Steps.{SealsOr, sealed_state}
+use Rattle.epoch_room.specs.declared.answers.RoomFault.{RoomFault}
+use Rattle.epoch_room.specs.declared.answers.RoomFault.TheVariants as room_fault
+
+zero_gate : (len : ℕ) → is_sealed (replicate len 0) ≡ false
+zero_gate zero = refl
+zero_gate (suc len) = refl
+
+no_parts : (region_len regions len region k : ℕ) → parts_from region_len regions region (replicate k (replicate len 0)) ≡ Ok []
+unfolding parts_from
+no_parts region_len regions len region zero = refl
+no_parts region_len regions len region (suc k) = rw (in_closed region_len regions region (replicate len 0) (zero_gate len)) (no_parts region_len regions len (region + 1) k)
+
+no_chain : (regions len : ℕ) → chain len (zeros regions len) ≡ Ok []
+unfolding chain apart chain_of taken
+no_chain regions len = ap (λ r. and_then (and_then r apart) chain_of) (no_parts len (length (zeros regions len)) len 0 regions)
+
+zero_region : (k len r : ℕ) → is_sealed (region_of (replicate k (replicate len 0)) r) ≡ false
+zero_region zero len r = refl
+zero_region (suc k) len zero = zero_gate len
+zero_region (suc k) len (suc r) = zero_region k len r
+
+pub new_parts : (regions len : ℕ) → AreParts (new_disk regions len (Some (told_anew (zeros regions len)))) [] []
+unfolding is_distinct
+new_parts regions len = record {
+  in_chain = record { follow = tt };
+  apart = record { distinct = refl; below = tt };
+  lie = tt;
+  rising = tt;
+  told = record { is_chain = no_chain regions len; leads = λ r h. zero_region regions len r; headers = tt };
+}
+
+-- sealing leaves the board
+pub still_boards : (old new : RoomValue) (result : Result ℕ RoomFault) → SealsOr old new result → new.room.board ≡ old.room.board
+unfolding sealed_state
+still_boards old new (Ok epoch) is = ap (λ (r : RoomState). r.board) is.2.1.room
+still_boards old new (Err room_fault.Disk) is = ap (λ (r : RoomState). r.board) is.1.room
+still_boards old new (Err (room_fault.Shut epoch)) is = ap (λ (v : RoomValue). v.room.board) is.2
+still_boards old new (Err room_fault.NoMemory) is = ap (λ (r : RoomState). r.board) is.1.room

@@ -3,4 +3,5 @@ pub mod Working
 pub mod Pairing
 pub mod Shut
 pub mod Nearing
+pub mod Telling
 pub mod Through

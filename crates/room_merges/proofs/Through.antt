@@ -14,12 +14,14 @@ use Rattle.fine_model.specs.Boards.{Buffer, buffer_at, empty_of, first_from, is_
 use Rattle.fine_model.specs.Merge.{FitsFree, cost, is_ordered, merged, regions_for}
 use Rattle.fine_model.specs.Chain.{AreRowsOf}
 use Rattle.fine_model.specs.ChainLaws.{part_of}
-use Rattle.fine_model.specs.Regions.{HasHeader, Image}
+use Rattle.fine_model.specs.Regions.{HasHeader, Image, body_bytes}
+use Rattle.fine_model.specs.Jobs.{held_for}
 use Rattle.fine_model.specs.Views.{TellsRowsOf}
 use Rattle.log_disk.specs.Disk.{Told}
 use Rattle.partition_merge.specs.declared.merger.Measure.{Measure}
 use Rattle.partition_merge.specs.Mergers.{measure_of}
 use Rattle.partition_hold.specs.Views.{IsView, SameView, ViewValue, opened}
+use Rattle.epoch_room.specs.Closing.{ReadsButGates}
 use Rattle.epoch_room.specs.Erasing.{ErasesAllOr, FreesThese, erased_state, held, led_by, left_state, unheld}
 use Rattle.epoch_room.specs.Meaning.{Keeps}
 use Rattle.epoch_room.specs.MergeSealing.{merged_state, replaced}
@@ -37,13 +39,14 @@ use Rattle.epoch_room.proofs.Joining.{keeps_then}
 use Rattle.epoch_room.proofs.Retired.{lead_place, replaced_two}
 use Rattle.room_merges.specs.declared.fault.MergeFault.{MergeFault}
 use Rattle.room_merges.specs.declared.fault.MergeFault.TheVariants as merge_fault
-use Rattle.room_merges.specs.Merging.{EyeTells}
-use Rattle.room_merges.specs.Near.{BlamesTwo, Empties, IsReadRefused, IsShutNow, IsWell, KeepsRest, MergesAny, MergesErased, MergesFirst, MergesNear, MergesThrough, MergesTwo, NoneBefore, NoneBetween, NoneFitNow, OfNeighbours, SameOrMerged, StandIn, TriesAll, Unfit, epochs_end}
+use Rattle.room_merges.specs.Merging.{EyeTells, IsOut, OfTold}
+use Rattle.room_merges.specs.Near.{BlamesTwo, Empties, IsReadRefused, IsShutNow, IsWell, KeepsRest, MergesAny, MergesErased, MergesFirst, MergesNear, MergesThrough, MergesTwo, NoneBefore, NoneBetween, NoneFitNow, OfNeighbours, SameOrMerged, StandIn, TellsStill, TriesAll, Unfit, epochs_end}
 use Rattle.room_merges.specs.Pairs.{Merges, header_for, job_for}
 use Rattle.room_merges.specs.Work.{FallsShut, Looks, StaysOpen}
 use Rattle.room_merges.proofs.Chained.{shown_by_eye, told_before}
 use Rattle.room_merges.proofs.Nearing.{Between, of_at, of_each, stand_in}
 use Rattle.room_merges.proofs.Pairing.{some_none, some_same, view_back}
+use Rattle.room_merges.proofs.Telling.{both_fit, erased_tells, held_image, merged_rows, part_in, tells_itself, tells_same, told_by_disk}
 use Rattle.room_merges.proofs.Working.{posted_then}
 
 -- ---- what stays
@@ -212,10 +215,16 @@ pub record ErasesWell (old new : RoomValue) : Type 0 where
   pub rest : KeepsRest old new
   pub parts : new.room.parts ≡ old.room.parts
   pub well : IsWell old new
+  pub image : new.room.image ≡ option_map (λ (t : Told). t.bytes) new.disk.told
 
 erases_none : (value : RoomValue) → IsWhole value → value.room.job ≡ None → value.room.is_shut ≡ false → ErasesWell value value
 erases_none value whole none opened_room =
-    record { rest = rest_itself value whole none; parts = refl; well = record { opened = opened_room; stays = opened_room; counts = record { faults = refl; own_faults = refl } } }
+    record {
+      rest = rest_itself value whole none;
+      parts = refl;
+      well = record { opened = opened_room; stays = opened_room; counts = record { faults = refl; own_faults = refl } };
+      image = ap (λ (r : RoomState). r.image) whole.of_disk;
+    }
 
 erases_these : (leads : List ℕ) (old new : RoomValue) → IsWhole old → old.room.job ≡ None → old.room.is_shut ≡ false → Keeps old new → FreesThese leads old new → ErasesWell old new
 erases_these [] old new whole none opened_room keeps frees = subst (ErasesWell old) (sym (frees.0 refl)) (erases_none old whole none opened_room)
@@ -226,13 +235,17 @@ erases_these (lead ∷ leads) old new whole none opened_room keeps frees =
       rest = erased_rest (erased_state old.room (lead ∷ leads)) old new none refl refl refl refl refl refl refl steps.room steps.target steps.entry keeps;
       parts = ap (λ (r : RoomState). r.parts) steps.room;
       well = record { opened = does.0; stays = ap (λ (r : RoomState). r.is_shut) steps.room ∙ opened_room; counts = does.2 };
+      image = ap (λ (r : RoomState). r.image) steps.room;
     }
 
-module _ (old new : RoomValue) (whole : IsWhole old) (none : old.room.job ≡ None) (all : list_all is_empty old.room.board ≡ true) (keeps : Keeps old new) where
+module _ (old new : RoomValue) (whole : IsWhole old) (none : old.room.job ≡ None) (all : list_all is_empty old.room.board ≡ true) (keeps : Keeps old new) (read : ReadsButGates (unheld old.room) old.disk new.disk) where
+  told_still : new.room.image ≡ option_map (λ (t : Told). t.bytes) new.disk.told → TellsStill old new
+  told_still image = erased_tells old whole new image keeps.becomes.region_len read
+
   pub emptied : (erased : ℕ) (u : Unit {0}) → new.room.retired ≡ held old.room → ErasesAllOr old new (Ok erased) → Empties old new (Ok u)
   emptied erased u left erases =
       let is = erases_these (unheld old.room) old new whole none erases.0 keeps erases.2 in
-      record { rest = is.rest; parts = is.parts; empties = (is.well, left ∙ none_held old.room.board old.room.retired all) }
+      record { rest = is.rest; parts = is.parts; told = told_still is.image; empties = (is.well, left ∙ none_held old.room.board old.room.retired all) }
 
   pub not_emptied : (fault : RoomFault) → ErasesAllOr old new (Err fault) → Empties old new (Err (merge_fault.Room fault))
   not_emptied room_fault.Disk (begun, more, are, some, unsynced, shuts) =
@@ -240,13 +253,19 @@ module _ (old new : RoomValue) (whole : IsWhole old) (none : old.room.job ≡ No
       record {
         rest = erased_rest (shut_state (left_state old.room begun) (all_regions (led_by begun old.room.retired))) old new none refl refl refl refl refl refl refl steps.room steps.target steps.entry keeps;
         parts = ap (λ (r : RoomState). r.parts) steps.room;
+        told = told_still (ap (λ (r : RoomState). r.image) steps.room);
         empties = record { opened = shuts.0; shut = ap (λ (r : RoomState). r.is_shut) steps.room; fails = shuts.2 };
       }
   not_emptied (room_fault.Shut epoch) was =
-      record { rest = subst (KeepsRest old) (sym was.2) (rest_itself old whole none); parts = ap (λ (v : RoomValue). v.room.parts) was.2; empties = was }
+      record {
+        rest = subst (KeepsRest old) (sym was.2) (rest_itself old whole none);
+        parts = ap (λ (v : RoomValue). v.room.parts) was.2;
+        told = subst (TellsStill old) (sym was.2) (tells_itself old);
+        empties = was;
+      }
   not_emptied room_fault.NoMemory (opened_room, (begun, more, are, some, frees)) =
       let is = erases_these begun old new whole none opened_room keeps frees in
-      record { rest = is.rest; parts = is.parts; empties = is.well }
+      record { rest = is.rest; parts = is.parts; told = told_still is.image; empties = is.well }
 
 -- ---- no view
 
@@ -256,12 +275,15 @@ module _ (old new : RoomValue) (whole : IsWhole old) (none : old.room.job ≡ No
       let steps = shuts.1 in
       record {
         rest = erased_rest (shut_state old.room []) old new none refl refl refl refl refl refl refl steps.room steps.target steps.entry keeps;
+        told =
+            tells_same old new
+            (ap (λ (r : RoomState). r.image) steps.room ∙ ap (λ told. option_map (λ (t : Told). t.bytes) told) told ∙ sym (ap (λ (r : RoomState). r.image) whole.of_disk)) keeps.becomes.region_len;
         through = (record { opened = shuts.0; shut = ap (λ (r : RoomState). r.is_shut) steps.room; fails = shuts.2 }, ap (λ (r : RoomState). r.parts) steps.room);
       }
-  no_view (room_fault.Shut epoch) was = record { rest = subst (KeepsRest old) (sym was.2) (rest_itself old whole none); through = was }
+  no_view (room_fault.Shut epoch) was = record { rest = subst (KeepsRest old) (sym was.2) (rest_itself old whole none); told = subst (TellsStill old) (sym was.2) (tells_itself old); through = was }
   no_view room_fault.NoMemory (opened_room, same) =
       let is : ErasesWell old new = subst (ErasesWell old) (sym same) (erases_none old whole none opened_room) in
-      record { rest = is.rest; through = (is.well, is.parts) }
+      record { rest = is.rest; told = subst (TellsStill old) (sym same) (tells_itself old); through = (is.well, is.parts) }
 
 -- ---- a view
 
@@ -372,15 +394,18 @@ module _ (old mid tried new : RoomValue) (view view' : ViewValue) (is : Passes o
       (subst (λ ps. Contains ps p) (parts_all parts ∙ sym is.views.parts ∙ sym is.same.parts) there)
       (subst (λ image. TellsRowsOf image tried.room.region_len (p ∷ []) rows) same_image (subst (λ n. TellsRowsOf new.room.image n (p ∷ []) rows) is.last.becomes.region_len tells))
 
-  -- the rows of a live part are told with its header
-  tells_live : new.room.is_shut ≡ false → (image : Image) → new.room.image ≡ Some image → (p : Part) (rows : List Row) → Contains new.room.parts p → AreRowsOf new.room.region_len image (p ∷ []) rows
-      → TellsRowsOf new.room.image new.room.region_len (p ∷ []) rows
-  tells_live open_room image told p rows there are =
+  live_header : new.room.is_shut ≡ false → (image : Image) → new.room.image ≡ Some image → (p : Part) → Contains new.room.parts p → HasHeader new.room.region_len image p.region p.header
+  live_header open_room image told p there =
       let holds = (held_now new is.ends (is.ends.lost open_room) image told).1 in
       let header : HasHeader new.disk.region_len image p.region p.header =
       All-contains (λ (q : Part). HasHeader new.disk.region_len image q.region q.header) (new.room.parts ++ new.room.retired) p (All-from_recursion _ (new.room.parts ++ new.room.retired) holds.headers)
       (Contains-append_left new.room.parts new.room.retired p there) in
-      record { image = image; is_told = told; headers = (subst (λ n. HasHeader n image p.region p.header) (sym (ap (λ (r : RoomState). r.region_len) is.ends.of_disk)) header, tt); are_rows = are }
+      subst (λ n. HasHeader n image p.region p.header) (sym (ap (λ (r : RoomState). r.region_len) is.ends.of_disk)) header
+
+  -- the rows of a live part are told with its header
+  tells_live : new.room.is_shut ≡ false → (image : Image) → new.room.image ≡ Some image → (p : Part) (rows : List Row) → Contains new.room.parts p → AreRowsOf new.room.region_len image (p ∷ []) rows
+      → TellsRowsOf new.room.image new.room.region_len (p ∷ []) rows
+  tells_live open_room image told p rows there are = record { image = image; is_told = told; headers = (live_header open_room image told p there, tt); are_rows = are }
 
   none_fit : new.room.is_shut ≡ false → StaysOpen None mid.room.free mid tried → OfNeighbours (Unfit mid view) mid.room.parts → NoneFitNow new
   none_fit open_room stays none image told older newer near fits =
@@ -460,6 +485,31 @@ module _ (old mid tried new : RoomValue) (view view' : ViewValue) (is : Passes o
           ∙ ap (λ told. option_map (λ (t : Told). t.bytes) told) is.views.opens.told
           ∙ sym (ap (λ (r : RoomState). r.image) is.whole.of_disk)
 
+  -- so does a read of the disk once the view is taken back
+  told_all : TellsStill old new
+  told_all p rows there still tells =
+      let seen = told_before view' view p rows (view_back view view' is.same) (shown_first p rows there tells) in
+      let out : IsOut tried view' = record { whole = is.middle; is_view = is.is_view; posted = is.posted; region_len = is.region_len } in
+      subst (λ image. TellsRowsOf image new.room.region_len (p ∷ []) rows) (sym same_image)
+      (subst (λ n. TellsRowsOf tried.room.image n (p ∷ []) rows) (sym is.last.becomes.region_len)
+      (told_by_disk tried view' p rows out (subst (λ ps. Contains ps p) (sym (is.same.parts ∙ is.views.parts)) there) seen))
+
+  -- the new part holds the merged rows
+  merged_told : (at : ℕ) (was : RoomValue) (seen : ViewValue) (m : Merges at was tried seen) → SameView view seen → new.room.is_shut ≡ false
+      → Contains new.room.parts (part_of (job_for m.two m.measure m.regions was.room.free).target (header_for m.two m.measure m.regions was.room.free))
+      → OfTold view m.two.0 m.two.1 (λ a b.
+      TellsRowsOf new.room.image new.room.region_len (part_of (job_for m.two m.measure m.regions was.room.free).target (header_for m.two m.measure m.regions was.room.free) ∷ []) (merged a b))
+  merged_told at was seen m same open_room there a b a_told b_told =
+      let job = job_for m.two m.measure m.regions was.room.free in
+      let p = part_of job.target (header_for m.two m.measure m.regions was.room.free) in
+      let a_seen = told_before seen view m.two.0 a (view_back view seen same) a_told in
+      let b_seen = told_before seen view m.two.1 b (view_back view seen same) b_told in
+      let body = held_image new.room.image job (body_bytes (merged a b)) (ap (λ image. held_for image job) same_image ∙ m.body a b a_seen b_seen) in
+      tells_live open_room body.0 body.1 p (merged a b) there
+      (merged_rows new.room.region_len body.0 m.two m.measure m.regions was.room.free a b
+      (both_fit view.region_len a_told.image m.two.0 a a_told.are_rows) (both_fit view.region_len b_told.image m.two.1 b b_told.are_rows)
+      (m.measured a b a_seen b_seen) m.ordered (live_header open_room body.0 body.1 p there) body.2)
+
   merged_all : (from : ℕ) (some : MergesAny from mid tried view) → Looks {A = Bool} view view' (Ok true) → MergesThrough from old new (Ok true)
   unfolding merged_state two_from two_merged
   merged_all from (at, before, some) looks =
@@ -468,14 +518,17 @@ module _ (old mid tried new : RoomValue) (view view' : ViewValue) (is : Passes o
       let were : some.mid.room.parts ≡ old.room.parts = ap (λ (r : RoomState). r.parts) some.stays.room ∙ ap (λ (r : RoomState). r.parts) is.views.posts.1.room in
       let free : some.mid.room.free ≡ old.room.free = ap (λ (r : RoomState). r.free) some.stays.room ∙ ap (λ (r : RoomState). r.free) is.views.posts.1.room in
       let len : some.mid.room.region_len ≡ old.room.region_len = some.stays.keeps.becomes.region_len ∙ is.first.becomes.region_len in
+      let well =
+      well_all (ap (λ (r : RoomState). r.is_shut) m.room.1.room ∙ m.room.0)
+      (record { faults = m.room.2.faults ∙ some.stays.counts.faults; own_faults = m.room.2.own_faults ∙ some.stays.counts.own_faults }) (looks.counts.else_same (λ failed. cc)) in
+      let two = two_from some.mid.room.parts old.room.parts tried.room.parts new.room.parts were (ap (λ (r : RoomState). r.parts) is.back.room.room) (two_merged at some.mid tried some.seen m) in
       record {
         rest = rest_all rest;
+        told = told_all;
         through = (
-          well_all (ap (λ (r : RoomState). r.is_shut) m.room.1.room ∙ m.room.0)
-              (record { faults = m.room.2.faults ∙ some.stays.counts.faults; own_faults = m.room.2.own_faults ∙ some.stays.counts.own_faults })
-              (looks.counts.else_same (λ failed. cc)),
+          well,
           record {
-            merged = two_from some.mid.room.parts old.room.parts tried.room.parts new.room.parts were (ap (λ (r : RoomState). r.parts) is.back.room.room) (two_merged at some.mid tried some.seen m);
+            merged = two;
             view = view;
             shown = shown_first;
             at = at;
@@ -485,6 +538,7 @@ module _ (old mid tried new : RoomValue) (view view' : ViewValue) (is : Passes o
                 subst (λ n. FitsFree n (length old.room.free) a b) len
                 (subst (λ (f : List ℕ). FitsFree some.mid.room.region_len (length f) a b) free
                 (taken_fits some.mid.room a b m.measure m.regions m.taken (m.measured a b (told_on some.seen some.same m.two.0 a a_told) (told_on some.seen some.same m.two.1 b b_told))));
+            holds = merged_told at some.mid some.seen m some.same well.stays (part_in old.room.parts new.room.parts two);
           },
         );
       }
@@ -501,12 +555,14 @@ module _ (old mid tried new : RoomValue) (view view' : ViewValue) (is : Passes o
       let well = well_all open_room stays.counts (tries.looks.counts.else_same (λ failed. cc)) in
       record {
         rest = rest_all (rest_stays mid.room.free mid tried stays);
+        told = told_all;
         through = (well, parts_all (ap (λ (r : RoomState). r.parts) stays.room), retired_all (ap (λ (r : RoomState). r.retired) stays.room), none_fit well.stays stays tries.room.1);
       }
   passed from (Err (merge_fault.Fetch fault)) tries =
       let stays = tries.room.0 in
       record {
         rest = rest_all (rest_stays mid.room.free mid tried stays);
+        told = told_all;
         through = (refused_all fault stays tries.looks tries.room.1, parts_all (ap (λ (r : RoomState). r.parts) stays.room), retired_all (ap (λ (r : RoomState). r.retired) stays.room));
       }
   passed from (Err (merge_fault.Room room_fault.NoMemory)) tries =
@@ -514,10 +570,11 @@ module _ (old mid tried new : RoomValue) (view view' : ViewValue) (is : Passes o
       let open_room : tried.room.is_shut ≡ false = ap (λ (r : RoomState). r.is_shut) stays.room ∙ view_open old mid view is.whole is.all is.views in
       record {
         rest = rest_all (rest_stays mid.room.free mid tried stays);
+        told = told_all;
         through = (well_all open_room stays.counts (tries.looks.counts.else_same (λ failed. cc)), parts_all (ap (λ (r : RoomState). r.parts) stays.room));
       }
   passed from (Err (merge_fault.Room room_fault.Disk)) tries =
-      record { rest = rest_all (rest_falls tried.room.free mid tried tries.room); through = (shut_all tries.room, parts_all (ap (λ (r : RoomState). r.parts) tries.room.room)) }
+      record { rest = rest_all (rest_falls tried.room.free mid tried tries.room); told = told_all; through = (shut_all tries.room, parts_all (ap (λ (r : RoomState). r.parts) tries.room.room)) }
   passed from (Err (merge_fault.Room (room_fault.Shut epoch))) tries = absurd tries.room
 
 -- the board of what is left, for taking it back
@@ -577,45 +634,72 @@ refused_then a b c fault first second =
 
 module _ (from : ℕ) (old mid : RoomValue) where
   pub erased_false : MergesThrough from old mid (Ok false) → MergesErased from old mid (Ok false)
-  erased_false t = record { rest = t.rest; erased = t.through }
+  erased_false t = record { rest = t.rest; told = t.told; erased = t.through }
 
   pub erased_fault : (fault : MergeFault) → MergesThrough from old mid (Err fault) → MergesErased from old mid (Err fault)
-  erased_fault (merge_fault.Fetch fault) t = record { rest = t.rest; erased = t.through }
-  erased_fault (merge_fault.Room room_fault.NoMemory) t = record { rest = t.rest; erased = (t.through.0, inl t.through.1) }
-  erased_fault (merge_fault.Room room_fault.Disk) t = record { rest = t.rest; erased = (t.through.0, inl t.through.1) }
-  erased_fault (merge_fault.Room (room_fault.Shut epoch)) t = record { rest = t.rest; erased = t.through }
+  erased_fault (merge_fault.Fetch fault) t = record { rest = t.rest; told = t.told; erased = t.through }
+  erased_fault (merge_fault.Room room_fault.NoMemory) t = record { rest = t.rest; told = t.told; erased = (t.through.0, inl t.through.1) }
+  erased_fault (merge_fault.Room room_fault.Disk) t = record { rest = t.rest; told = t.told; erased = (t.through.0, inl t.through.1) }
+  erased_fault (merge_fault.Room (room_fault.Shut epoch)) t = record { rest = t.rest; told = t.told; erased = t.through }
 
 module _ (from : ℕ) (old mid new : RoomValue) (merges : MergesThrough from old mid (Ok true)) where
-  first_from' : new.room.parts ≡ mid.room.parts → MergesFirst from old new.room.parts
-  first_from' same = subst (MergesFirst from old) (sym same) merges.through.1
+  two_still : new.room.parts ≡ mid.room.parts → MergesTwo old.room.parts new.room.parts
+  two_still same = two_from old.room.parts old.room.parts mid.room.parts new.room.parts refl same merges.through.1.merged
+
+  first_from' : new.room.parts ≡ mid.room.parts → TellsStill mid new → MergesFirst from old new
+  unfolding two_from two_still
+  first_from' same told =
+      let f = merges.through.1 in
+      let there = part_in old.room.parts mid.room.parts f.merged in
+      record {
+        merged = two_still same;
+        view = f.view;
+        shown = f.shown;
+        at = f.at;
+        first = f.first;
+        before = f.before;
+        fits = f.fits;
+        holds = λ a b a_told b_told. told f.merged.part (merged a b) there (subst (λ ps. Contains ps f.merged.part) (sym same) there) (f.holds a b a_told b_told);
+      }
+
+  told_both : new.room.parts ≡ mid.room.parts → TellsStill mid new → TellsStill old new
+  told_both same told p rows there still tells =
+      let between = subst (λ ps. Contains ps p) same still in
+      told p rows between still (merges.told p rows there between tells)
 
   pub erased_true : (u : Unit {0}) → Empties mid new (Ok u) → MergesErased from old new (Ok true)
-  erased_true u e = record { rest = rest_then old mid new merges.rest e.rest; erased = (well_then old mid new merges.through.0 e.empties.0, first_from' e.parts, e.empties.1) }
+  erased_true u e = record { rest = rest_then old mid new merges.rest e.rest; told = told_both e.parts e.told; erased = (well_then old mid new merges.through.0 e.empties.0, first_from' e.parts e.told, e.empties.1) }
 
   pub erased_after : (fault : MergeFault) → Empties mid new (Err fault) → MergesErased from old new (Err fault)
   erased_after (merge_fault.Fetch fault) e = absurd e.empties
   erased_after (merge_fault.Room room_fault.NoMemory) e =
-      record { rest = rest_then old mid new merges.rest e.rest; erased = (well_then old mid new merges.through.0 e.empties, inr (first_from' e.parts).merged) }
+      record { rest = rest_then old mid new merges.rest e.rest; told = told_both e.parts e.told; erased = (well_then old mid new merges.through.0 e.empties, inr (two_still e.parts)) }
   erased_after (merge_fault.Room room_fault.Disk) e =
-      record { rest = rest_then old mid new merges.rest e.rest; erased = (shut_then old mid new merges.through.0 e.empties, inr (first_from' e.parts).merged) }
+      record { rest = rest_then old mid new merges.rest e.rest; told = told_both e.parts e.told; erased = (shut_then old mid new merges.through.0 e.empties, inr (two_still e.parts)) }
   erased_after (merge_fault.Room (room_fault.Shut epoch)) e = absurd (true≢false (sym e.empties.0 ∙ merges.through.0.stays))
 
 -- ---- and what was retired before
 
 pub near_refused : (from : ℕ) (old new : RoomValue) (fault : MergeFault) → Empties old new (Err fault) → MergesNear from old new (Err fault)
 near_refused from old new (merge_fault.Fetch fault) e = absurd e.empties
-near_refused from old new (merge_fault.Room room_fault.NoMemory) e = record { rest = e.rest; near = (e.empties, inl e.parts) }
-near_refused from old new (merge_fault.Room room_fault.Disk) e = record { rest = e.rest; near = (e.empties, inl e.parts) }
-near_refused from old new (merge_fault.Room (room_fault.Shut epoch)) e = record { rest = e.rest; near = e.empties }
+near_refused from old new (merge_fault.Room room_fault.NoMemory) e = record { rest = e.rest; told = e.told; near = (e.empties, inl e.parts) }
+near_refused from old new (merge_fault.Room room_fault.Disk) e = record { rest = e.rest; told = e.told; near = (e.empties, inl e.parts) }
+near_refused from old new (merge_fault.Room (room_fault.Shut epoch)) e = record { rest = e.rest; told = e.told; near = e.empties }
 
 module _ (from : ℕ) (old mid new : RoomValue) (u : Unit {0}) (first : Empties old mid (Ok u)) where
   same_or : SameOrMerged mid.room.parts new.room.parts → SameOrMerged old.room.parts new.room.parts
   same_or (inl same) = inl (same ∙ first.parts)
   same_or (inr merges) = inr (two_from mid.room.parts old.room.parts new.room.parts new.room.parts first.parts refl merges)
 
+  told_either : TellsStill mid new → TellsStill old new
+  told_either told p rows there still tells =
+      let between = subst (λ ps. Contains ps p) (sym first.parts) there in
+      told p rows between still (first.told p rows there between tells)
+
   pub near_then : (result : Result Bool MergeFault) → MergesErased from mid new result → MergesNear from old new result
   near_then (Ok true) e = record {
     rest = rest_then old mid new first.rest e.rest;
+    told = told_either e.told;
     near = (
       well_then old mid new first.empties.0 e.erased.0,
       two_from mid.room.parts old.room.parts new.room.parts new.room.parts first.parts refl e.erased.1.merged,
@@ -625,12 +709,14 @@ module _ (from : ℕ) (old mid new : RoomValue) (u : Unit {0}) (first : Empties 
   }
   near_then (Ok false) e = record {
     rest = rest_then old mid new first.rest e.rest;
+    told = told_either e.told;
     near = (well_then old mid new first.empties.0 e.erased.0, e.erased.1 ∙ first.parts, e.erased.2 ∙ first.empties.1, e.erased.3);
   }
   near_then (Err (merge_fault.Fetch fault)) e = record {
     rest = rest_then old mid new first.rest e.rest;
+    told = told_either e.told;
     near = (refused_then old mid new fault first.empties.0 e.erased.0, e.erased.1 ∙ first.parts, e.erased.2 ∙ first.empties.1);
   }
-  near_then (Err (merge_fault.Room room_fault.NoMemory)) e = record { rest = rest_then old mid new first.rest e.rest; near = (well_then old mid new first.empties.0 e.erased.0, same_or e.erased.1) }
-  near_then (Err (merge_fault.Room room_fault.Disk)) e = record { rest = rest_then old mid new first.rest e.rest; near = (shut_then old mid new first.empties.0 e.erased.0, same_or e.erased.1) }
+  near_then (Err (merge_fault.Room room_fault.NoMemory)) e = record { rest = rest_then old mid new first.rest e.rest; told = told_either e.told; near = (well_then old mid new first.empties.0 e.erased.0, same_or e.erased.1) }
+  near_then (Err (merge_fault.Room room_fault.Disk)) e = record { rest = rest_then old mid new first.rest e.rest; told = told_either e.told; near = (shut_then old mid new first.empties.0 e.erased.0, same_or e.erased.1) }
   near_then (Err (merge_fault.Room (room_fault.Shut epoch))) e = absurd (true≢false (sym e.erased.0 ∙ first.empties.0.stays))

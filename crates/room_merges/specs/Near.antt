@@ -5,7 +5,7 @@ use Rattle.fine_model.specs.declared.FetchFault.TheVariants as fetch_fault
 use Rattle.fine_model.specs.declared.Part.{Part}
 use Rattle.fine_model.specs.declared.Row.{Row}
 use Rattle.fine_model.specs.Causes.{NoneFit}
-use Rattle.fine_model.specs.Merge.{FitsFree}
+use Rattle.fine_model.specs.Merge.{FitsFree, merged as rows_of_both}
 use Rattle.fine_model.specs.Regions.{Image}
 use Rattle.fine_model.specs.Views.{TellsRowsOf}
 use Rattle.log_disk.specs.Disk.{HasRisen}
@@ -117,6 +117,12 @@ pub record KeepsRest (old new : RoomValue) : Type 0 where
   pub entry : new.entry ≡ old.entry
   pub keeps : Keeps old new
 
+-- a part that stands in both chains tells what it told, by what a read of the disk gives
+abbrev pub TellsStill : RoomValue → RoomValue → Type 0
+TellsStill old new =
+    (p : Part) (rows : List Row) → Contains old.room.parts p → Contains new.room.parts p
+    → TellsRowsOf old.room.image old.room.region_len (p ∷ []) rows → TellsRowsOf new.room.image new.room.region_len (p ∷ []) rows
+
 -- the room was open and is, and no call on its disk failed, nor a read
 pub record IsWell (old new : RoomValue) : Type 0 where
   pub opened : old.room.is_shut ≡ false
@@ -148,18 +154,20 @@ pub record IsReadRefused (old new : RoomValue) (fault : FetchFault) : Type 0 whe
 
 -- The two that were merged fit what was free, and none before them did, where a view of the chain told them, which told what a read of the
 -- disk did: tried are the neighbours from an epoch on, in chain order, and then those before it.
-pub record MergesFirst (from : ℕ) (old : RoomValue) (new : List Part) : Type 0 where
-  pub merged : MergesTwo old.room.parts new
+pub record MergesFirst (from : ℕ) (old new : RoomValue) : Type 0 where
+  pub merged : MergesTwo old.room.parts new.room.parts
   pub view : ViewValue
   pub shown : (p : Part) (rows : List Row) → Contains old.room.parts p → TellsRowsOf old.room.image old.room.region_len (p ∷ []) rows → EyeTells view p rows
   pub at : ℕ
   pub first : neighbours_from at old.room.parts ≡ Some merged.two
   pub before : NoneBefore from at old view
   pub fits : OfTold view merged.two.0 merged.two.1 (FitsFree old.room.region_len (length old.room.free))
+  -- a read of the disk tells the merged rows of both as those of the new part
+  pub holds : OfTold view merged.two.0 merged.two.1 (λ a b. TellsRowsOf new.room.image new.room.region_len (merged.part ∷ []) (rows_of_both a b))
 
 -- what merging through a view of all live parts does
 abbrev pub ThroughOr : ℕ → RoomValue → RoomValue → Result Bool MergeFault → Type 0
-ThroughOr from old new (Ok true) = IsWell old new × MergesFirst from old new.room.parts
+ThroughOr from old new (Ok true) = IsWell old new × MergesFirst from old new
 ThroughOr from old new (Ok false) = IsWell old new × (new.room.parts ≡ old.room.parts) × (new.room.retired ≡ old.room.retired) × NoneFitNow new
 ThroughOr from old new (Err (merge_fault.Fetch fault)) = IsReadRefused old new fault × (new.room.parts ≡ old.room.parts) × (new.room.retired ≡ old.room.retired)
 ThroughOr from old new (Err (merge_fault.Room room_fault.NoMemory)) = IsWell old new × (new.room.parts ≡ old.room.parts)
@@ -168,6 +176,7 @@ ThroughOr from old new (Err (merge_fault.Room (room_fault.Shut epoch))) = WasShu
 
 pub record MergesThrough (from : ℕ) (old new : RoomValue) (result : Result Bool MergeFault) : Type 0 where
   pub rest : KeepsRest old new
+  pub told : TellsStill old new
   pub through : ThroughOr from old new result
 
 -- what erasing all retired parts of a room with an empty board does
@@ -181,6 +190,7 @@ EmptiesOr old new (Err (merge_fault.Room (room_fault.Shut epoch))) = WasShut epo
 pub record Empties (old new : RoomValue) (result : Result (Unit {0}) MergeFault) : Type 0 where
   pub rest : KeepsRest old new
   pub parts : new.room.parts ≡ old.room.parts
+  pub told : TellsStill old new
   pub empties : EmptiesOr old new result
 
 -- the chain is as it was, or two neighbours are one part
@@ -189,7 +199,7 @@ SameOrMerged old new = (new ≡ old) ⊎ MergesTwo old new
 
 -- what merging the first neighbours that fit does, where nothing is retired
 abbrev pub ErasedOr : ℕ → RoomValue → RoomValue → Result Bool MergeFault → Type 0
-ErasedOr from old new (Ok true) = IsWell old new × MergesFirst from old new.room.parts × (new.room.retired ≡ [])
+ErasedOr from old new (Ok true) = IsWell old new × MergesFirst from old new × (new.room.retired ≡ [])
 ErasedOr from old new (Ok false) = IsWell old new × (new.room.parts ≡ old.room.parts) × (new.room.retired ≡ old.room.retired) × NoneFitNow new
 ErasedOr from old new (Err (merge_fault.Fetch fault)) = IsReadRefused old new fault × (new.room.parts ≡ old.room.parts) × (new.room.retired ≡ old.room.retired)
 ErasedOr from old new (Err (merge_fault.Room room_fault.NoMemory)) = IsWell old new × SameOrMerged old.room.parts new.room.parts
@@ -198,13 +208,14 @@ ErasedOr from old new (Err (merge_fault.Room (room_fault.Shut epoch))) = WasShut
 
 pub record MergesErased (from : ℕ) (old new : RoomValue) (result : Result Bool MergeFault) : Type 0 where
   pub rest : KeepsRest old new
+  pub told : TellsStill old new
   pub erased : ErasedOr from old new result
 
 -- what was retired was erased first, and then the first neighbours that fit were merged
 pub record ErasesAndMerges (from : ℕ) (old new : RoomValue) : Type 0 where
   pub erased : RoomValue
   pub erases : Empties old erased (Ok tt)
-  pub merges : MergesFirst from erased new.room.parts
+  pub merges : MergesFirst from erased new
 
 -- what merging the first neighbours that fit does, by its answer
 abbrev pub NearOr : ℕ → RoomValue → RoomValue → Result Bool MergeFault → Type 0
@@ -217,4 +228,5 @@ NearOr from old new (Err (merge_fault.Room (room_fault.Shut epoch))) = WasShut e
 
 pub record MergesNear (from : ℕ) (old new : RoomValue) (result : Result Bool MergeFault) : Type 0 where
   pub rest : KeepsRest old new
+  pub told : TellsStill old new
   pub near : NearOr from old new result

@@ -171,8 +171,9 @@ fn merge_erased<D: LogDisk>(
 ///
 /// `Shut` comes exactly where an earlier call answered `Disk`, and changes nothing. `Disk` comes only where the disk failed in this call,
 /// and shuts the room. After `NoMemory` the room is open; both may come once two were merged, and what was merged or erased before stays
-/// so. A refusal of a read leaves the chain as it was, and nothing retired. A crash at any moment of the call leaves an image that shows
-/// what was sealed before.
+/// so. A refusal of a read leaves the chain as it was, and nothing retired. Whatever the answer, each part that stays in the chain holds the
+/// rows that it held; and the new part holds the merged rows of the two, where both are in the grammar. A crash at any moment of the call
+/// leaves an image that shows what was sealed before.
 pub fn merge_near<D: LogDisk>(
     alloc: Global,
     room: &mut Room<D>,

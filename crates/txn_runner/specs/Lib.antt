@@ -2,3 +2,4 @@ pub mod Runs
 pub mod Law
 pub mod Lanes
 pub mod Turns
+pub mod SoFar

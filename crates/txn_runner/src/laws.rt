@@ -2,6 +2,7 @@
 
 ghost use Rattle.txn_runner.specs.Lanes.{CutShortLaw};
 ghost use Rattle.txn_runner.specs.Law.{BehindLaw, DoneLaw, NothingLaw, ReadyLaw, RunLaw, StatusLaw};
+ghost use Rattle.txn_runner.specs.SoFar.{FinishedLaw, LaneEndsLaw, NextLaw};
 ghost use Rattle.txn_runner.specs.Turns.{CausesLaw, InTurnLaw, StaysRefused};
 
 /// On a room that was just made of a log a run may begin.
@@ -47,4 +48,15 @@ pub fn cut_short_law()
 pub fn causes_law()
     ensures stays { StaysRefused }
     ensures causes { CausesLaw }
+{}
+
+/// The outcomes so far of a body on one thread: with that of the next transaction they are those of one more, and they stay as a lane ends.
+pub fn so_far_law()
+    ensures next { NextLaw }
+    ensures lane_ends { LaneEndsLaw }
+{}
+
+/// Where the body on one thread has finished, what it leaves is a run.
+pub fn finished_law()
+    ensures { FinishedLaw }
 {}

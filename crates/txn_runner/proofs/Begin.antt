@@ -1,5 +1,5 @@
 -- That the body on one thread begins.
-use Rattle.std.proofs.Common.{◌≡◌, ◌⊎◌, inl, inr, ⊎_elim, ℕ, zero, suc, ◌+◌, ◌-◌, ◌<◌, ◌≤◌, nat_le, false, true, List, [], ◌∷◌, length, refl, sym, ap, ◌∙◌, subst, Option, Some, None, arith}
+use Rattle.std.proofs.Common.{◌≡◌, ◌⊎◌, inl, inr, ⊎_elim, ℕ, zero, suc, ◌+◌, ◌-◌, ◌<◌, ◌≤◌, nat_le, false, true, List, [], length, refl, sym, ap, ◌∙◌, Option, Some, None, arith}
 use Rattle.std.specs.Prelude.{Contains, min, replicate, slice_get}
 use Rattle.std.proofs.lemmas.Bool.Decides.{leb_tells}
 use Rattle.fine_model.specs.declared.Options.{Options}
@@ -16,7 +16,7 @@ use Rattle.epoch_room.specs.Meaning.{origin_of}
 use Rattle.epoch_room.specs.Value.{RoomValue}
 use Rattle.txn_runner.specs.Lanes.{none_ended}
 use Rattle.txn_runner.specs.Runs.{IsReady}
-use Rattle.txn_runner.specs.SoFar.{Serial, SoFar, total}
+use Rattle.txn_runner.specs.SoFar.{SoFar}
 
 abbrev nones : ℕ → List (Option RunFault)
 nones n = replicate n None

@@ -1,12 +1,11 @@
 -- That the body on one thread gives a run.
-use Rattle.std.proofs.Common.{◌≡◌, ◌⊎◌, inl, inr, ⊎_elim, ℕ, zero, suc, ◌+◌, ◌-◌, ◌<◌, ◌≤◌, ◌==◌, min, Bool, true, false, List, [], ◌∷◌, ◌++◌, length, map, refl, sym, ap, ◌∙◌, subst, Option, Some, None, le_refl, arith, slice_index_or}
-use Rattle.std.specs.Prelude.{Contains, IsPermutation, count_by, filter, option_map, take, replicate}
-use Rattle.std.specs.List.{AllByRecursion, AllZip, list_all}
+use Rattle.std.proofs.Common.{◌≡◌, ◌⊎◌, inl, inr, ⊎_elim, ℕ, zero, suc, ◌+◌, ◌-◌, ◌≤◌, ◌==◌, Bool, true, false, List, [], ◌∷◌, ◌++◌, length, map, refl, sym, ap, ◌∙◌, subst, Option, Some, None, le_refl, arith}
+use Rattle.std.specs.Prelude.{Contains, IsPermutation, option_map, take, replicate}
+use Rattle.std.specs.List.{AllByRecursion}
 use Rattle.std.proofs.lemmas.List.{append-nil, take_all, length-map, nil_from_length}
 use Rattle.std.proofs.lemmas.List.Sorted.{length_permutation}
 use Rattle.std.proofs.lemmas.List.Sums.{length-filter}
 use Rattle.log_disk.specs.Disk.{OpenEye, Told}
-use Rattle.fine_model.specs.declared.Damage.{Damage}
 use Rattle.fine_model.specs.declared.Options.{Options}
 use Rattle.fine_model.specs.declared.Outcome.{Outcome}
 use Rattle.fine_model.specs.declared.Outcome.TheVariants as outcome
@@ -16,17 +15,16 @@ use Rattle.fine_model.specs.declared.RunFault.TheVariants as run_fault
 use Rattle.fine_model.specs.declared.ScriptTxn.{ScriptTxn}
 use Rattle.fine_model.specs.declared.law.Origin.{Origin}
 use Rattle.fine_model.specs.declared.law.RoomState.{RoomState}
-use Rattle.fine_model.specs.Boards.{held_of, is_empty, named}
+use Rattle.fine_model.specs.Boards.{held_of, named}
 use Rattle.fine_model.specs.Buckets.{Began}
 use Rattle.fine_model.specs.Causes.{HaveCauses}
 use Rattle.fine_model.specs.Faults.{HasRisen, last_count}
 use Rattle.fine_model.specs.History.{Commit, last_epoch}
-use Rattle.fine_model.specs.Outcomes.{AllRun, AreOutcomes, IsOutcomeOf, lanes_not_run}
+use Rattle.fine_model.specs.Outcomes.{AllRun, AreOutcomes, lanes_not_run}
 use Rattle.fine_model.specs.Report.{all_outcomes}
 use Rattle.fine_model.proofs.Epochs.{all_sealed}
 use Rattle.epoch_room.specs.Meaning.{Stands, StandsTold, origin_of}
 use Rattle.epoch_room.specs.Value.{RoomValue}
-use Rattle.epoch_room.specs.Whole.{IsWhole}
 use Rattle.epoch_room.proofs.Seating.{empty_posted}
 use Rattle.txn_runner.specs.Lanes.{CutShort, HaveEnded, IsSoonest, first_fault, lanes_failed, rank}
 use Rattle.txn_runner.specs.Runs.{IsReady, IsToSeal, OfSound, OwnRose, RunsLanes}

@@ -4,6 +4,7 @@ pub mod CutShort
 pub mod Ending
 pub mod Few
 pub mod Finish
+pub mod Going
 pub mod Nothing
 pub mod Runs
 pub mod Soonest

@@ -1,5 +1,5 @@
 -- Steps of the outcomes so far.
-use Rattle.std.proofs.Common.{◌≡◌, ◌≢◌, ◌⊎◌, inl, inr, ⊎_elim, ℕ, zero, suc, ◌+◌, ◌<◌, ◌≤◌, ◌==◌, Bool, true, false, is_some, List, [], ◌∷◌, ◌++◌, length, refl, sym, ap, ◌∙◌, subst, Option, Some, None, true≢false, arith}
+use Rattle.std.proofs.Common.{◌≡◌, ◌≢◌, ◌⊎◌, inl, inr, ⊎_elim, ℕ, zero, suc, ◌+◌, ◌==◌, Bool, true, false, is_some, List, [], ◌∷◌, ◌++◌, length, refl, sym, ap, ◌∙◌, subst, Option, Some, None, true≢false, arith}
 use Rattle.std.specs.Prelude.{slice_get, take}
 use Rattle.std.specs.List.{AllByRecursion, AllZip}
 use Rattle.std.proofs.lemmas.Option.{slice_get_within}
@@ -7,11 +7,10 @@ use Rattle.fine_model.specs.declared.Outcome.{Outcome}
 use Rattle.fine_model.specs.declared.Outcome.TheVariants as outcome
 use Rattle.fine_model.specs.declared.RunFault.{RunFault}
 use Rattle.fine_model.specs.declared.ScriptTxn.{ScriptTxn}
-use Rattle.fine_model.specs.History.{Commit}
 use Rattle.fine_model.specs.Outcomes.{IsOutcomeOf}
-use Rattle.txn_runner.specs.Lanes.{EndsLane, HaveEnded, fault_of}
+use Rattle.txn_runner.specs.Lanes.{HaveEnded, fault_of}
 use Rattle.txn_runner.specs.Runs.{IsReplied}
-use Rattle.txn_runner.specs.SoFar.{AreSoFar, LaneEndsLaw, NextLaw}
+use Rattle.txn_runner.specs.SoFar.{LaneEndsLaw, NextLaw}
 use Rattle.txn_runner.specs.Turns.{AreNumbered, EndsLanes, commits_of}
 
 -- ---- lists with one item more

@@ -3,3 +3,4 @@ pub mod Law
 pub mod Lanes
 pub mod Turns
 pub mod SoFar
+pub mod Going

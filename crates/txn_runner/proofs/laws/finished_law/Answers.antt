@@ -1,4 +1,3 @@
-use Rattle.txn_runner.proofs.Begin.{begins}
 use Rattle.txn_runner.proofs.Finish.{finished_law}
 use Rattle.txn_runner.proofs.laws.finished_law.Goals as goal
 

@@ -1,8 +1,12 @@
+pub mod Begin
 pub mod Caused
 pub mod CutShort
 pub mod Ending
 pub mod Few
+pub mod Finish
+pub mod Going
 pub mod Nothing
 pub mod Runs
 pub mod Soonest
+pub mod Steps
 pub mod Turns

@@ -35,7 +35,7 @@ use Rattle.txn_runner.proofs.Few.{few_of_one}
 
 -- ---- what a room stands for, where its disk tells its bytes
 
-told_of : (room : RoomValue) (before after : Told) (first : List Row) (e : ℕ) (history : List Commit) → room.entry.told ≡ Some before → room.disk.told ≡ Some after → Stands room first e history → StandsTold room.room before after first e history
+pub told_of : (room : RoomValue) (before after : Told) (first : List Row) (e : ℕ) (history : List Commit) → room.entry.told ≡ Some before → room.disk.told ≡ Some after → Stands room first e history → StandsTold room.room before after first e history
 unfolding Stands
 told_of room before after first e history a b s = subst (λ t. StandsWhere room.room (Some before) t first e history) b (subst (λ t. StandsWhere room.room t room.disk.told first e history) a s)
 
@@ -52,7 +52,7 @@ clock_is : (d : Disk) (t : Told) → d.told ≡ Some t → (origin_of d).clock �
 unfolding origin_of
 clock_is d t e = ap (λ o. (origin_of (record d { told = o })).clock) e
 
-image_told : (d : Disk) (image : List (List ℕ)) → (origin_of d).image ≡ Some image → (t : Told) × (d.told ≡ Some t)
+pub image_told : (d : Disk) (image : List (List ℕ)) → (origin_of d).image ≡ Some image → (t : Told) × (d.told ≡ Some t)
 unfolding origin_of
 image_told d image e = told_by d.told image e
 

@@ -2,3 +2,5 @@ pub mod Runs
 pub mod Law
 pub mod Lanes
 pub mod Turns
+pub mod SoFar
+pub mod Going

@@ -1,7 +1,9 @@
 //! Laws of runs, each the contract of a function that does nothing.
 
+ghost use Rattle.txn_runner.specs.Going.{CommitsLaw, FewEnd, FewLess, FewMore, FewWait, SealsLaw, StaysLaw};
 ghost use Rattle.txn_runner.specs.Lanes.{CutShortLaw};
 ghost use Rattle.txn_runner.specs.Law.{BehindLaw, DoneLaw, NothingLaw, ReadyLaw, RunLaw, StatusLaw};
+ghost use Rattle.txn_runner.specs.SoFar.{FinishedLaw, LaneEndsLaw, NextLaw};
 ghost use Rattle.txn_runner.specs.Turns.{CausesLaw, InTurnLaw, StaysRefused};
 
 /// On a room that was just made of a log a run may begin.
@@ -47,4 +49,30 @@ pub fn cut_short_law()
 pub fn causes_law()
     ensures stays { StaysRefused }
     ensures causes { CausesLaw }
+{}
+
+/// The outcomes so far of a body on one thread: with that of the next transaction they are those of one more, and they stay as a lane ends.
+pub fn so_far_law()
+    ensures next { NextLaw }
+    ensures lane_ends { LaneEndsLaw }
+{}
+
+/// The room of a body on one thread goes on: by calls that add and seal nothing, by an entry more, and by a seal, whatever it answers.
+pub fn going_law()
+    ensures stays { StaysLaw }
+    ensures commits { CommitsLaw }
+    ensures seals { SealsLaw }
+{}
+
+/// How few entries of a lane wait: as some entries wait, as a lane that goes on commits, as one ends with a commit, and as one ends without.
+pub fn few_law()
+    ensures wait { FewWait }
+    ensures more { FewMore }
+    ensures end { FewEnd }
+    ensures less { FewLess }
+{}
+
+/// Where the body on one thread has finished, what it leaves is a run.
+pub fn finished_law()
+    ensures { FinishedLaw }
 {}

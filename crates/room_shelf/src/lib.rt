@@ -1,0 +1,8 @@
+//! The view through which one thread loads nodes from a room.
+#![tactic(auto)]
+
+mod laws;
+mod shelf;
+
+pub use laws::shelf_law;
+pub use shelf::{rest, view_of};

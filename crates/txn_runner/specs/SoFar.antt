@@ -1,0 +1,149 @@
+-- The body on one thread, after some transactions, and at its end.
+use Rattle.std.specs.Prelude.{◌≡◌, ◌≢◌, ◌⊎◌, ℕ, ◌+◌, ◌-◌, ◌<◌, ◌≤◌, ◌==◌, ◌&&◌, min, Bool, true, false, is_some, List, [], ◌∷◌, ◌++◌, length, take, replicate, count_by, slice_get, Option, Some, None, Ok, Contains}
+use Rattle.std.specs.List.{AllByRecursion, AllZip, list_all}
+use Rattle.log_disk.specs.Disk.{Told}
+use Rattle.fine_model.specs.declared.Damage.{Damage}
+use Rattle.fine_model.specs.declared.Options.{Options}
+use Rattle.fine_model.specs.declared.Outcome.{Outcome}
+use Rattle.fine_model.specs.declared.Outcome.TheVariants as outcome
+use Rattle.fine_model.specs.declared.Part.{Part}
+use Rattle.fine_model.specs.declared.RunFault.{RunFault}
+use Rattle.fine_model.specs.declared.RunFault.TheVariants as run_fault
+use Rattle.fine_model.specs.declared.ScriptTxn.{ScriptTxn}
+use Rattle.fine_model.specs.declared.law.Origin.{Origin}
+use Rattle.fine_model.specs.declared.law.RoomState.{RoomState}
+use Rattle.fine_model.specs.declared.law.ViewState.{ViewState}
+use Rattle.fine_model.specs.Becomes.{Becomes, IsStuck}
+use Rattle.fine_model.specs.Boards.{is_empty, buffer_at, posted}
+use Rattle.fine_model.specs.Chain.{chain}
+use Rattle.fine_model.specs.Damages.{IsDamageIn}
+use Rattle.fine_model.specs.Faults.{HasRisen, last_count}
+use Rattle.fine_model.specs.History.{Commit}
+use Rattle.fine_model.specs.Outcomes.{EpochsFollow, IsOutcomeOf}
+use Rattle.fine_model.specs.Room.{IsSealedUpTo}
+use Rattle.epoch_room.specs.Meaning.{Stands, origin_of}
+use Rattle.epoch_room.specs.Value.{RoomValue}
+use Rattle.epoch_room.specs.Whole.{IsWhole}
+use Rattle.txn_runner.specs.Lanes.{EndsLane, HaveEnded, IsLane, fault_of, first_fault, lanes_failed, most_lanes}
+use Rattle.txn_runner.specs.Runs.{AreFewOfLanes, IsReady, IsReplied, OfSound, OwnRose, RunsLanes}
+use Rattle.txn_runner.specs.Turns.{AreNumbered, AreRefused, EndsLanes, commits_of}
+
+-- ---- the outcomes
+
+-- one for each transaction so far, in the order of the script; a lane that did not run one has ended
+pub record AreSoFar (script : List ScriptTxn) (i : ℕ) (done : List Outcome) (ended : List (Option RunFault)) : Type 0 where
+  pub count : length done ≡ i
+  pub each : AllZip IsOutcomeOf (take i script) done
+  pub numbered : AreNumbered 0 0 done
+  pub last_ones : EndsLanes (take i script) done
+  pub ends : HaveEnded (take i script) done ended
+  pub replied : AllByRecursion IsReplied (commits_of done)
+
+-- The outcome of the next transaction: it is not run exactly where its lane has ended, and one that was committed has the next place and turn.
+pub record ComesNext (done : List Outcome) (ended : List (Option RunFault)) (txn : ScriptTxn) (next : Outcome) : Type 0 where
+  pub is : IsOutcomeOf txn next
+  pub number : AreNumbered (length done) (length (commits_of done)) (next ∷ [])
+  pub runs : ((next ≡ outcome.NotRun) × (is_some (fault_of ended txn.lane) ≡ true)) ⊎ ((next ≢ outcome.NotRun) × (fault_of ended txn.lane ≡ None))
+  pub replied : AllByRecursion IsReplied (commits_of (next ∷ []))
+
+abbrev pub NextLaw : Type 0
+NextLaw =
+    (script : List ScriptTxn) (i : ℕ) (done : List Outcome) (ended : List (Option RunFault)) (txn : ScriptTxn) (next : Outcome) → AreSoFar script i done ended → slice_get script i ≡ Some txn → ComesNext done ended txn next
+    → AreSoFar script (i + 1) (done ++ next ∷ []) ended
+
+-- the outcomes so far stay as a lane ends
+abbrev pub LaneEndsLaw : Type 0
+LaneEndsLaw =
+    (script : List ScriptTxn) (i : ℕ) (done : List Outcome) (ended after : List (Option RunFault)) (lane : ℕ) (fault : RunFault) → ((j : ℕ) (txn : ScriptTxn) → slice_get script j ≡ Some txn → 1 ≤ txn.lane)
+    → EndsLane ended after lane fault → AreSoFar script i done ended → AreSoFar script i done after
+
+-- ---- the room
+
+-- it goes on from the entry, with these commits
+pub record GoesOn (entry room : RoomValue) (history : List Commit) : Type 0 where
+  pub regions : room.disk.regions ≡ entry.disk.regions
+  pub region_len : room.disk.region_len ≡ entry.disk.region_len
+  pub origin : origin_of room.entry ≡ origin_of entry.entry
+  pub no_job : room.room.job ≡ None
+  pub whole : IsWhole room
+  pub epochs : EpochsFollow entry.room.sealed history
+  pub sealed : IsSealedUpTo entry.room.sealed history room.room.sealed
+  pub places : room.room.places ≡ length history
+  pub waiting : room.room.waiting ≡ count_by (λ c. c.epoch == room.room.sealed + 1) history
+  pub stands : OfSound entry (λ first e. Stands room first e history)
+  pub becomes : Becomes entry.room room.room
+
+-- the board has the view that is out, which shows all that is sealed, and nothing else
+abbrev pub IsShelfWith : RoomState → Option ViewState → Type 0
+IsShelfWith room None = list_all is_empty room.board ≡ true
+IsShelfWith room (Some v) =
+    (v.seat ≡ 1) × (v.upto ≡ room.sealed) × (v.parts ≡ room.parts) × (v.region_len ≡ room.region_len) × (slice_get room.board (buffer_at v.seat v.buffer) ≡ Some (Some v.eye)) × (posted room.board ≡ v.eye ∷ [])
+
+-- no epoch has more entries of a lane than a group, and a lane that goes on has fewer in the open one
+pub record AreFewSoFar (group sealed : ℕ) (ended : List (Option RunFault)) (history : List Commit) : Type 0 where
+  pub most : AreFewOfLanes group history
+  pub open_epoch : (lane : ℕ) → IsLane lane → fault_of ended lane ≡ None → count_by (λ c. (c.entry.lane == lane) && (c.epoch == sealed + 1)) history < group
+
+-- ---- faults
+
+-- the count of all faults, that of the view that is out included
+abbrev pub count_of : Option ViewState → ℕ
+count_of None = 0
+count_of (Some v) = v.faults
+
+abbrev pub total : RoomValue → Option ViewState → ℕ
+total room view = min (room.disk.faults + count_of view) last_count
+
+-- What some faults tell, of which those in `ended` ended lanes, where the count of all faults is this: each lane that a failed disk ended has a failed
+-- call, unless the disk's own count rose; a count that rose, and a room that is shut, are told by a fault; damage is there, and on an unsound log alone.
+pub record AreTold (script : List ScriptTxn) (entry room : RoomValue) (count : ℕ) (ended told : List (Option RunFault)) (history : List Commit) : Type 0 where
+  pub lanes : length ended ≡ most_lanes
+  pub all : (fault : RunFault) → Contains ended (Some fault) → Contains told (Some fault)
+  pub failed : OwnRose entry room ⊎ (lanes_failed ended + entry.disk.faults ≤ count) ⊎ (last_count ≤ count)
+  pub only_risen : Contains told (Some run_fault.Disk) → HasRisen entry.disk.faults count
+  pub where_risen : entry.disk.faults < count → Contains told (Some run_fault.Disk) ⊎ Contains told (Some run_fault.Memory)
+  pub shut : room.room.is_shut ≡ true → Contains told (Some run_fault.Disk) ⊎ Contains told (Some run_fault.Memory)
+  pub unsound : (what : Damage) → Contains told (Some (run_fault.Damaged what)) → OfSound entry (λ first e. ⊥)
+  pub names : (what : Damage) (before : Told) (parts : List Part) → Contains told (Some (run_fault.Damaged what)) → entry.disk.told ≡ Some before → chain entry.room.region_len before.bytes ≡ Ok parts
+      → IsDamageIn (Ok script) ⊥ history entry.room.region_len before.bytes parts what
+
+-- ---- all of it
+
+-- the room, the view that is out for loading, the buckets, the flag that the log is stuck, how each lane ended, and the outcomes
+pub record Serial (B : Type 0) : Type 0 where
+  pub room : RoomValue
+  pub view : Option ViewState
+  pub buckets : List B
+  pub full : Bool
+  pub ended : List (Option RunFault)
+  pub outcomes : List Outcome
+
+-- after i transactions
+module _ {B : Type 0} (stands_for : Origin → ℕ → ℕ → B → List Commit → Type 0) where
+  pub record SoFar (script : List ScriptTxn) (options : Options) (i : ℕ) (entry : RoomValue) (s : Serial B) : Type 0 where
+    pub done : List Outcome
+    pub outcomes_are : s.outcomes ≡ done ++ replicate (length script - i) outcome.NotRun
+    pub so_far : AreSoFar script i done s.ended
+    pub goes_on : GoesOn entry s.room (commits_of done)
+    pub few : AreFewSoFar options.group s.room.room.sealed s.ended (commits_of done)
+    pub told : AreTold script entry s.room (total s.room s.view) s.ended s.ended (commits_of done)
+    pub refused : OfSound entry (λ first e. AreRefused script done s.room.room first)
+    pub stuck : s.full ≡ true → OfSound entry (λ first e. IsStuck s.room.room)
+    pub shelf : IsShelfWith s.room.room s.view
+    pub buckets : (length s.buckets ≡ 256) × ((k : ℕ) (b : B) → slice_get s.buckets k ≡ Some b → stands_for (origin_of entry.entry) k s.room.room.sealed b (commits_of done))
+
+-- At the end: the view was taken back, and what waited was sealed, unless the room is shut; `told` has the fault of this last seal too.
+pub record Finished (script : List ScriptTxn) (options : Options) (entry room : RoomValue) (done : List Outcome) (ended told : List (Option RunFault)) : Type 0 where
+  pub so_far : AreSoFar script (length script) done ended
+  pub goes_on : GoesOn entry room (commits_of done)
+  pub few : AreFewOfLanes options.group (commits_of done)
+  pub tells : AreTold script entry room room.disk.faults ended told (commits_of done)
+  pub refused : OfSound entry (λ first e. AreRefused script done room.room first)
+  pub board : list_all is_empty room.room.board ≡ true
+  pub sealed : room.room.is_shut ≡ false → ¬ Contains told (Some run_fault.Memory) → room.room.waiting ≡ 0
+
+-- then it was a run
+abbrev pub FinishedLaw : Type 0
+FinishedLaw =
+    (script : List ScriptTxn) (options : Options) (entry room : RoomValue) (done : List Outcome) (ended told : List (Option RunFault)) → IsReady entry → Finished script options entry room done ended told
+    → RunsLanes script options entry room (record { outcomes = done; durable = room.room.sealed; fault = first_fault told })

@@ -2,6 +2,7 @@
 
 ghost use Rattle.damage_laws.specs.Goings.{GoesOnLaw, LoadLaw, MoreLaw};
 ghost use Rattle.damage_laws.specs.Looks.{KeyLaw, LookLaw, ScanLaw};
+ghost use Rattle.damage_laws.specs.Made.{JoinedLaw, KeptLaw, MergedLaw, SealedLaw};
 ghost use Rattle.damage_laws.specs.Places.{BodyLaw, EntryLaw, FoundLaw, PlaceLaw, RowLaw};
 
 /// What a fetch blames of the parts that are there now is a bad place of a part at entry, where each of them is one of these, with the
@@ -28,4 +29,13 @@ pub fn going_law()
     ensures goes_on { GoesOnLaw }
     ensures load { LoadLaw }
     ensures more { MoreLaw }
+{}
+
+/// What is found of a node in parts that are kept, or were sealed or merged since, is what is found by the parts at entry, gone on by the rows that
+/// were sealed since; or what these rows leave by themselves.
+pub fn made_law()
+    ensures kept { KeptLaw }
+    ensures sealed { SealedLaw }
+    ensures joined { JoinedLaw }
+    ensures merged { MergedLaw }
 {}

@@ -1,0 +1,5 @@
+pub mod Kept
+pub mod SameUnfit
+pub mod SamePushes
+pub mod Opened
+pub mod MergedFinds

@@ -1,0 +1,5 @@
+use Rattle.damage_laws.proofs.MergedFinds.{kept_law, sealed_law, joined_law, merged_law}
+use Rattle.damage_laws.proofs.laws.made_law.Goals as goal
+
+pub returns : goal.returns
+returns c = record { kept = kept_law; sealed = sealed_law; joined = joined_law; merged = merged_law }

@@ -1,0 +1,4 @@
+pub mod Places
+pub mod Looks
+pub mod Goings
+pub mod Made

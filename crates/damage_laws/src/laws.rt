@@ -1,0 +1,41 @@
+//! Laws of damage that a run meets, each the contract of a function that does nothing.
+
+ghost use Rattle.damage_laws.specs.Goings.{GoesOnLaw, LoadLaw, MoreLaw};
+ghost use Rattle.damage_laws.specs.Looks.{KeyLaw, LookLaw, ScanLaw};
+ghost use Rattle.damage_laws.specs.Made.{JoinedLaw, KeptLaw, MergedLaw, SealedLaw};
+ghost use Rattle.damage_laws.specs.Places.{BodyLaw, EntryLaw, FoundLaw, PlaceLaw, RowLaw};
+
+/// What a fetch blames of the parts that are there now is a bad place of a part at entry, where each of them is one of these, with the
+/// bytes that it had, or is in the grammar. What is found in a part that is kept so is what is found by the bytes at entry.
+pub fn place_law()
+    ensures body { BodyLaw }
+    ensures place { PlaceLaw }
+    ensures found { FoundLaw }
+    ensures row { RowLaw }
+    ensures entry { EntryLaw }
+{}
+
+/// What a call of a tree names as unfit is unfit by this call over what the bucket gives, and so over all contents which are what the bucket
+/// gives, where it gives any.
+pub fn look_law()
+    ensures key { KeyLaw }
+    ensures scan { ScanLaw }
+    ensures look { LookLaw }
+{}
+
+/// Calls on a bucket, each on a way that was fit, go on from contents of its nodes, and go on so from contents that have more nodes: a node that is loaded
+/// later lay off all ways so far.
+pub fn going_law()
+    ensures goes_on { GoesOnLaw }
+    ensures load { LoadLaw }
+    ensures more { MoreLaw }
+{}
+
+/// What is found of a node in parts that are kept, or were sealed or merged since, is what is found by the parts at entry, gone on by the rows that
+/// were sealed since; or what these rows leave by themselves.
+pub fn made_law()
+    ensures kept { KeptLaw }
+    ensures sealed { SealedLaw }
+    ensures joined { JoinedLaw }
+    ensures merged { MergedLaw }
+{}

@@ -1,0 +1,6 @@
+//! From what fetches and tree calls tell of damage to what a run may name, in the words of the theorem.
+#![tactic(auto)]
+
+mod laws;
+
+pub use laws::{going_law, look_law, made_law, place_law};

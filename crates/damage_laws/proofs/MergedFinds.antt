@@ -169,10 +169,10 @@ module _ (region_len : ℕ) (entry : Image) (id : NodeId) where
   module _ (parts : List Part) (sealed : List (List Row)) (found : Content) (back : List Item) (leaves : found ≡ replay (base id) (flat back)) where
     by_since : IsReady back → IsSince sealed back → FoundOn region_len entry parts id sealed found
     by_since (inl image) l = inr (inl (λ c.
-      leaves ∙ ap (replay (base id)) l.rows
-      ∙ forgets (base id) (replay c (rows_of id (all_of l.before))) (rows_of id (all_of l.last)) (ap has_image (sym l.rows) ∙ image_in back image)
-      ∙ sym (replay-append c (rows_of id (all_of l.before)) (rows_of id (all_of l.last)))
-      ∙ ap (replay c) (sym (rows_of-append id (all_of l.before) (all_of l.last)) ∙ ap (rows_of id) (sym (all_of-append l.before l.last) ∙ ap all_of (sym l.whole)))))
+        leaves ∙ ap (replay (base id)) l.rows
+        ∙ forgets (base id) (replay c (rows_of id (all_of l.before))) (rows_of id (all_of l.last)) (ap has_image (sym l.rows) ∙ image_in back image)
+        ∙ sym (replay-append c (rows_of id (all_of l.before)) (rows_of id (all_of l.last)))
+        ∙ ap (replay c) (sym (rows_of-append id (all_of l.before) (all_of l.last)) ∙ ap (rows_of id) (sym (all_of-append l.before l.last) ∙ ap all_of (sym l.whole)))))
     by_since (inr fresh) l = inr (inr (l.before, l.last, l.whole, ap starts_afresh (sym l.rows) ∙ fresh, leaves ∙ ap (replay (base id)) l.rows))
 
     by_parts : (f : IsFrom parts sealed back) → (f.skipped ≡ []) ⊎ IsTrue (has_image_first f.read) ⊎ IsTrue (starts_afresh (flat_map (λ r. r.1) f.read)) → FoundOn region_len entry parts id sealed found

@@ -218,6 +218,6 @@ more_law bucket nodes (d ∷ ds) rows own c (first, others, is, of_d, pushed_d, 
   pushed_d,
   fit_d,
   more_law bucket (with_rows bucket nodes first) ds others own c goes of_bucket
-  (subst (λ ns. within_limits (call_push bucket ns c) ≡ Ok own) (sym (with_both bucket nodes first others rows is)) pushed)
-  (subst (λ ns. IsOnWay bucket ns c) (sym (with_both bucket nodes first others rows is)) fit),
+      (subst (λ ns. within_limits (call_push bucket ns c) ≡ Ok own) (sym (with_both bucket nodes first others rows is)) pushed)
+      (subst (λ ns. IsOnWay bucket ns c) (sym (with_both bucket nodes first others rows is)) fit),
 )

@@ -40,7 +40,7 @@ use Rattle.epoch_room.proofs.Retired.{lead_place, replaced_two}
 use Rattle.room_merges.specs.declared.fault.MergeFault.{MergeFault}
 use Rattle.room_merges.specs.declared.fault.MergeFault.TheVariants as merge_fault
 use Rattle.room_merges.specs.Merging.{EyeTells, IsOut, OfTold}
-use Rattle.room_merges.specs.Near.{BlamesTwo, Empties, IsReadRefused, IsShutNow, IsWell, KeepsRest, MergesAny, MergesErased, MergesFirst, MergesNear, MergesThrough, MergesTwo, NoneBefore, NoneBetween, NoneFitNow, OfNeighbours, SameOrMerged, StandIn, TellsStill, TriesAll, Unfit, epochs_end}
+use Rattle.room_merges.specs.Near.{BlamesTwo, Empties, IsReadRefused, IsShutNow, IsWell, KeepsRest, MergesAny, MergesErased, MergesFirst, MergesNear, MergesThrough, MergesTwo, NoneBefore, NoneBetween, NoneFitNow, OfNeighbours, SameOrErased, SameOrFirst, StandIn, TellsStill, TriesAll, Unfit, epochs_end}
 use Rattle.room_merges.specs.Pairs.{Merges, header_for, job_for}
 use Rattle.room_merges.specs.Work.{FallsShut, Looks, StaysOpen}
 use Rattle.room_merges.proofs.Chained.{shown_by_eye, told_before}
@@ -673,9 +673,9 @@ module _ (from : ℕ) (old mid new : RoomValue) (merges : MergesThrough from old
   pub erased_after : (fault : MergeFault) → Empties mid new (Err fault) → MergesErased from old new (Err fault)
   erased_after (merge_fault.Fetch fault) e = absurd e.empties
   erased_after (merge_fault.Room room_fault.NoMemory) e =
-      record { rest = rest_then old mid new merges.rest e.rest; told = told_both e.parts e.told; erased = (well_then old mid new merges.through.0 e.empties, inr (two_still e.parts)) }
+      record { rest = rest_then old mid new merges.rest e.rest; told = told_both e.parts e.told; erased = (well_then old mid new merges.through.0 e.empties, inr (first_from' e.parts e.told)) }
   erased_after (merge_fault.Room room_fault.Disk) e =
-      record { rest = rest_then old mid new merges.rest e.rest; told = told_both e.parts e.told; erased = (shut_then old mid new merges.through.0 e.empties, inr (two_still e.parts)) }
+      record { rest = rest_then old mid new merges.rest e.rest; told = told_both e.parts e.told; erased = (shut_then old mid new merges.through.0 e.empties, inr (first_from' e.parts e.told)) }
   erased_after (merge_fault.Room (room_fault.Shut epoch)) e = absurd (true≢false (sym e.empties.0 ∙ merges.through.0.stays))
 
 -- ---- and what was retired before
@@ -687,9 +687,9 @@ near_refused from old new (merge_fault.Room room_fault.Disk) e = record { rest =
 near_refused from old new (merge_fault.Room (room_fault.Shut epoch)) e = record { rest = e.rest; told = e.told; near = e.empties }
 
 module _ (from : ℕ) (old mid new : RoomValue) (u : Unit {0}) (first : Empties old mid (Ok u)) where
-  same_or : SameOrMerged mid.room.parts new.room.parts → SameOrMerged old.room.parts new.room.parts
+  same_or : SameOrFirst from mid new → SameOrErased from old new
   same_or (inl same) = inl (same ∙ first.parts)
-  same_or (inr merges) = inr (two_from mid.room.parts old.room.parts new.room.parts new.room.parts first.parts refl merges)
+  same_or (inr merges) = inr (two_from mid.room.parts old.room.parts new.room.parts new.room.parts first.parts refl merges.merged, record { erased = mid; erases = first; merges = merges })
 
   told_either : TellsStill mid new → TellsStill old new
   told_either told p rows there still tells =

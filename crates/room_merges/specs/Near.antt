@@ -193,17 +193,17 @@ pub record Empties (old new : RoomValue) (result : Result (Unit {0}) MergeFault)
   pub told : TellsStill old new
   pub empties : EmptiesOr old new result
 
--- the chain is as it was, or two neighbours are one part
-abbrev pub SameOrMerged : List Part → List Part → Type 0
-SameOrMerged old new = (new ≡ old) ⊎ MergesTwo old new
+-- the chain is as it was, or the first neighbours that fit were merged
+abbrev pub SameOrFirst : ℕ → RoomValue → RoomValue → Type 0
+SameOrFirst from old new = (new.room.parts ≡ old.room.parts) ⊎ MergesFirst from old new
 
 -- what merging the first neighbours that fit does, where nothing is retired
 abbrev pub ErasedOr : ℕ → RoomValue → RoomValue → Result Bool MergeFault → Type 0
 ErasedOr from old new (Ok true) = IsWell old new × MergesFirst from old new × (new.room.retired ≡ [])
 ErasedOr from old new (Ok false) = IsWell old new × (new.room.parts ≡ old.room.parts) × (new.room.retired ≡ old.room.retired) × NoneFitNow new
 ErasedOr from old new (Err (merge_fault.Fetch fault)) = IsReadRefused old new fault × (new.room.parts ≡ old.room.parts) × (new.room.retired ≡ old.room.retired)
-ErasedOr from old new (Err (merge_fault.Room room_fault.NoMemory)) = IsWell old new × SameOrMerged old.room.parts new.room.parts
-ErasedOr from old new (Err (merge_fault.Room room_fault.Disk)) = IsShutNow old new × SameOrMerged old.room.parts new.room.parts
+ErasedOr from old new (Err (merge_fault.Room room_fault.NoMemory)) = IsWell old new × SameOrFirst from old new
+ErasedOr from old new (Err (merge_fault.Room room_fault.Disk)) = IsShutNow old new × SameOrFirst from old new
 ErasedOr from old new (Err (merge_fault.Room (room_fault.Shut epoch))) = WasShut epoch old new
 
 pub record MergesErased (from : ℕ) (old new : RoomValue) (result : Result Bool MergeFault) : Type 0 where
@@ -217,13 +217,17 @@ pub record ErasesAndMerges (from : ℕ) (old new : RoomValue) : Type 0 where
   pub erases : Empties old erased (Ok tt)
   pub merges : MergesFirst from erased new
 
+-- the chain is as it was, or what was retired was erased, and then the first neighbours that fit were merged
+abbrev pub SameOrErased : ℕ → RoomValue → RoomValue → Type 0
+SameOrErased from old new = (new.room.parts ≡ old.room.parts) ⊎ (MergesTwo old.room.parts new.room.parts × ErasesAndMerges from old new)
+
 -- what merging the first neighbours that fit does, by its answer
 abbrev pub NearOr : ℕ → RoomValue → RoomValue → Result Bool MergeFault → Type 0
 NearOr from old new (Ok true) = IsWell old new × MergesTwo old.room.parts new.room.parts × (new.room.retired ≡ []) × ErasesAndMerges from old new
 NearOr from old new (Ok false) = IsWell old new × (new.room.parts ≡ old.room.parts) × (new.room.retired ≡ []) × NoneFitNow new
 NearOr from old new (Err (merge_fault.Fetch fault)) = IsReadRefused old new fault × (new.room.parts ≡ old.room.parts) × (new.room.retired ≡ [])
-NearOr from old new (Err (merge_fault.Room room_fault.NoMemory)) = IsWell old new × SameOrMerged old.room.parts new.room.parts
-NearOr from old new (Err (merge_fault.Room room_fault.Disk)) = IsShutNow old new × SameOrMerged old.room.parts new.room.parts
+NearOr from old new (Err (merge_fault.Room room_fault.NoMemory)) = IsWell old new × SameOrErased from old new
+NearOr from old new (Err (merge_fault.Room room_fault.Disk)) = IsShutNow old new × SameOrErased from old new
 NearOr from old new (Err (merge_fault.Room (room_fault.Shut epoch))) = WasShut epoch old new
 
 pub record MergesNear (from : ℕ) (old new : RoomValue) (result : Result Bool MergeFault) : Type 0 where

@@ -24,7 +24,7 @@ old_at [] x (suc i) y is = none_at y is
 old_at (z ∷ xs) x zero y is = inl is
 old_at (z ∷ xs) x (suc i) y is = ⊎_elim (λ h. inl h) (λ h. inr (ap (λ n. suc n) h.0, h.1)) (old_at xs x i y is)
 
-kept : {A : Type 0} (xs : List A) (x : A) (i : ℕ) (y : A) → slice_get xs i ≡ Some y → slice_get (xs ++ x ∷ []) i ≡ Some y
+pub kept : {A : Type 0} (xs : List A) (x : A) (i : ℕ) (y : A) → slice_get xs i ≡ Some y → slice_get (xs ++ x ∷ []) i ≡ Some y
 kept [] x i y is = none_at y is
 kept (z ∷ xs) x zero y is = is
 kept (z ∷ xs) x (suc i) y is = kept xs x i y is

@@ -94,10 +94,11 @@ count_of (Some v) = v.faults
 abbrev pub total : RoomValue → Option ViewState → ℕ
 total room view = min (room.disk.faults + count_of view) last_count
 
--- What some faults tell, of which those in `ended` ended lanes, where the count of all faults is this: each lane that a failed disk ended has a failed
+-- What some faults tell, of which those in `ended` ended lanes, behind these transactions, where the count of all faults is this: each lane that a failed disk ended has a failed
 -- call, unless the disk's own count rose; a count that rose, and a room that is shut, are told by a fault; damage is there, and on an unsound log alone.
 pub record AreTold (script : List ScriptTxn) (entry room : RoomValue) (count : ℕ) (ended told : List (Option RunFault)) (history : List Commit) : Type 0 where
   pub lanes : length ended ≡ most_lanes
+  pub low : min entry.disk.faults last_count ≤ count
   pub all : (fault : RunFault) → Contains ended (Some fault) → Contains told (Some fault)
   pub failed : OwnRose entry room ⊎ (lanes_failed ended + entry.disk.faults ≤ count) ⊎ (last_count ≤ count)
   pub only_risen : Contains told (Some run_fault.Disk) → HasRisen entry.disk.faults count
@@ -126,7 +127,7 @@ module _ {B : Type 0} (stands_for : Origin → ℕ → ℕ → B → List Commit
     pub so_far : AreSoFar script i done s.ended
     pub goes_on : GoesOn entry s.room (commits_of done)
     pub few : AreFewSoFar options.group s.room.room.sealed s.ended (commits_of done)
-    pub told : AreTold script entry s.room (total s.room s.view) s.ended s.ended (commits_of done)
+    pub told : AreTold (take i script) entry s.room (total s.room s.view) s.ended s.ended (commits_of done)
     pub refused : OfSound entry (λ first e. AreRefused script done s.room.room first)
     pub stuck : s.full ≡ true → OfSound entry (λ first e. IsStuck s.room.room)
     pub shelf : IsShelfWith s.room.room s.view

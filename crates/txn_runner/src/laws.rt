@@ -4,6 +4,7 @@ ghost use Rattle.txn_runner.specs.Going.{CommitsLaw, FewEnd, FewLess, FewMore, F
 ghost use Rattle.txn_runner.specs.Lanes.{CutShortLaw};
 ghost use Rattle.txn_runner.specs.Law.{BehindLaw, DoneLaw, NothingLaw, ReadyLaw, RunLaw, StatusLaw};
 ghost use Rattle.txn_runner.specs.SoFar.{FinishedLaw, LaneEndsLaw, NextLaw};
+ghost use Rattle.txn_runner.specs.Told.{DamageStays, MoreBeside, MoreByLane, ToldMore, ToldNext, ToldStays};
 ghost use Rattle.txn_runner.specs.Turns.{CausesLaw, InTurnLaw, StaysRefused};
 
 /// On a room that was just made of a log a run may begin.
@@ -70,6 +71,17 @@ pub fn few_law()
     ensures more { FewMore }
     ensures end { FewEnd }
     ensures less { FewLess }
+{}
+
+/// What faults tell (`AreTold`): where no call failed, all stays as it was told; with a fault more, whether it ends a lane or is told beside those of
+/// lanes; and behind the next transaction, where what was named as damaged is so too.
+pub fn told_law()
+    ensures stays { ToldStays }
+    ensures more { ToldMore }
+    ensures by_lane { MoreByLane }
+    ensures beside { MoreBeside }
+    ensures next { ToldNext }
+    ensures damage { DamageStays }
 {}
 
 /// Where the body on one thread has finished, what it leaves is a run.

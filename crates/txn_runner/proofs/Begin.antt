@@ -76,6 +76,6 @@ module _ {B : Type 0} (stands_for : Origin → ℕ → ℕ → B → List Commit
     };
     refused = λ first e began stands. record { each = λ i txn word is_txn is. nothing_at i (outcome.Refused word) is };
     stuck = λ is. absurd (let e : false ≡ true = is in cc);
-    shelf = ready.board;
+    view = ready.board;
     buckets = (all, each);
   }

@@ -32,6 +32,9 @@ nothing_at i o is = absurd (let e : ◌≡◌ {A = Option Outcome} None (Some o)
 at_least : (a m : ℕ) → (0 + a ≤ min (a + 0) m) ⊎ (m ≤ min (a + 0) m)
 at_least a m = ⊎_elim (λ (is : (nat_le a m ≡ true) × (a ≤ m)). let le = is.1 in inl (omega (arith, le))) (λ (is : (nat_le a m ≡ false) × (m < a)). let le = is.1 in inr (omega (arith, le))) (leb_tells a m)
 
+none_out : (a m : ℕ) → min a m ≤ min (a + 0) m
+none_out a m = grind arith
+
 module _ {B : Type 0} (stands_for : Origin → ℕ → ℕ → B → List Commit → Type 0) (script : List ScriptTxn) (options : Options) (entry : RoomValue) (buckets : List B) (ready : IsReady entry) (group : 1 ≤ options.group)
     (all : length buckets ≡ 256) (each : (k : ℕ) (b : B) → slice_get buckets k ≡ Some b → stands_for (origin_of entry.entry) k entry.room.sealed b []) where
   pub begins : SoFar stands_for script options 0 entry (record { room = entry; view = None; buckets = buckets; full = false; ended = none_ended; outcomes = replicate (length script) outcome.NotRun })
@@ -62,6 +65,7 @@ module _ {B : Type 0} (stands_for : Origin → ℕ → ℕ → B → List Commit
     few = record { most = λ lane e. omega arith; open_epoch = λ lane is none. omega (arith, group) };
     told = record {
       lanes = refl;
+      low = none_out entry.disk.faults last_count;
       all = λ fault there. there;
       failed = inr (at_least entry.disk.faults last_count);
       only_risen = λ there. absurd (only_none 16 run_fault.Disk there);
@@ -72,6 +76,6 @@ module _ {B : Type 0} (stands_for : Origin → ℕ → ℕ → B → List Commit
     };
     refused = λ first e began stands. record { each = λ i txn word is_txn is. nothing_at i (outcome.Refused word) is };
     stuck = λ is. absurd (let e : false ≡ true = is in cc);
-    shelf = ready.board;
+    view = ready.board;
     buckets = (all, each);
   }

@@ -1,24 +1,29 @@
 -- Steps of the room on one thread.
 use Rattle.std.proofs.Common.{◌≡◌, ◌≢◌, ℕ, ◌+◌, ◌<◌, ◌≤◌, ◌==◌, ◌&&◌, cond, Bool, true, false, List, [], ◌∷◌, ◌++◌, length, Option, Some, None, Ok, Err, refl, sym, ap, ◌∙◌, subst, arith}
-use Rattle.std.specs.Prelude.{Result, count_by}
+use Rattle.std.specs.Prelude.{Result, count_by, option_map}
 use Rattle.std.proofs.lemmas.List.Sums.{sum_by-cons, sum_by_push}
 use Rattle.fine_model.specs.declared.RunFault.{RunFault}
+use Rattle.fine_model.specs.declared.law.Origin.{Origin}
 use Rattle.fine_model.specs.declared.law.RoomState.{RoomState}
-use Rattle.fine_model.specs.Becomes.{Becomes}
+use Rattle.fine_model.specs.Becomes.{Becomes, IsStuck}
 use Rattle.fine_model.specs.History.{Commit}
 use Rattle.fine_model.specs.Outcomes.{EpochsFollow}
 use Rattle.fine_model.specs.Room.{IsSealedUpTo}
 use Rattle.fine_model.proofs.Epochs.{follows_on, none_wait, seals, waiting_push}
 use Rattle.fine_model.proofs.Goings.{becomes_on}
+use Rattle.log_disk.specs.Disk.{BothTold, Told}
+use Rattle.log_disk.specs.Moments.{Continues}
 use Rattle.epoch_room.specs.Meaning.{Keeps, origin_of}
 use Rattle.epoch_room.specs.Steps.{SealsOr, Steps, appended, sealed_state}
 use Rattle.epoch_room.specs.Value.{RoomValue}
 use Rattle.epoch_room.specs.Whole.{IsWhole}
 use Rattle.epoch_room.specs.declared.answers.RoomFault.{RoomFault}
 use Rattle.epoch_room.specs.declared.answers.RoomFault.TheVariants as room_fault
-use Rattle.txn_runner.specs.Going.{CommitsLaw, FewEnd, FewLess, FewMore, FewWait, SealsLaw, StaysLaw}
+use Rattle.epoch_room.proofs.Stuck.{stuck_law}
+use Rattle.txn_runner.specs.Going.{CommitsLaw, FewEnd, FewLess, FewMore, FewWait, FullLaw, LaterLaw, SealsLaw, StaysLaw}
 use Rattle.txn_runner.specs.Lanes.{EndsLane, IsLane, fault_of}
 use Rattle.txn_runner.specs.SoFar.{GoesOn}
+use Rattle.txn_runner.proofs.Runs.{image_told, told_of}
 
 -- ---- the room
 
@@ -28,6 +33,17 @@ module _ (old new : RoomValue) (whole : IsWhole old) (whole_new : IsWhole new) (
 
   len_same : new.disk.region_len ≡ old.disk.region_len
   len_same = sym (ap (λ (r : RoomState). r.region_len) whole_new.of_disk) ∙ becomes.region_len ∙ ap (λ (r : RoomState). r.region_len) whole.of_disk
+
+pub later_law : LaterLaw
+later_law old new out view l = record {
+  entry = l.entry;
+  job = ap (λ (r : RoomState). r.job) l.room;
+  sealed = ap (λ (r : RoomState). r.sealed) l.room;
+  places = ap (λ (r : RoomState). r.places) l.room;
+  waiting = ap (λ (r : RoomState). r.waiting) l.room;
+  stands = l.stands;
+  becomes = l.becomes;
+}
 
 pub stays_law : StaysLaw
 stays_law entry old new history g whole s = record {
@@ -149,6 +165,30 @@ module _ (entry old new : RoomValue) (history : List Commit) (g : GoesOn entry o
 
 pub seals_law : SealsLaw
 seals_law entry old new history result g whole some s keeps job = by entry old new history g whole some keeps job result s
+
+-- ---- a log that is stuck
+
+pub full_law : FullLaw
+full_law entry room history g lost none_waits none_retired few none_fit first e began stands = by room.disk.told refl
+  where
+    again : (before : Told) × (room.entry.told ≡ Some before)
+    again = image_told room.entry began.image (ap (λ (o : Origin). o.image) g.origin ∙ began.told)
+
+    by : (t : Option Told) → room.disk.told ≡ t → IsStuck room.room
+    by None is = absurd (subst (λ t. BothTold Continues (Some again.0) t) is (subst (λ t. BothTold Continues t room.disk.told) again.1 g.whole.entry.time))
+    by (Some after) is =
+        let s = told_of room again.0 after first e history again.1 is (g.stands first e began stands) in
+        let image : room.room.image ≡ Some after.bytes = ap (λ (x : RoomState). x.image) g.whole.of_disk ∙ ap (option_map (λ (t : Told). t.bytes)) is in
+        stuck_law room after.bytes s.stands.live.rows g.whole (record {
+          none_lost = lost;
+          told = image;
+          are_rows = s.stands.live.are_rows;
+          none_waits = none_waits;
+          none_retired = none_retired;
+          no_job = g.no_job;
+          few_free = few;
+          no_merge = none_fit after.bytes image;
+        })
 
 -- ---- how few entries of a lane wait
 

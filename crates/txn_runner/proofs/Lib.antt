@@ -9,4 +9,5 @@ pub mod Nothing
 pub mod Runs
 pub mod Soonest
 pub mod Steps
+pub mod Tellings
 pub mod Turns

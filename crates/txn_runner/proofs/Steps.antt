@@ -1,17 +1,21 @@
 -- Steps of the outcomes so far.
-use Rattle.std.proofs.Common.{◌≡◌, ◌≢◌, ◌⊎◌, inl, inr, ⊎_elim, ℕ, zero, suc, ◌+◌, ◌==◌, Bool, true, false, is_some, List, [], ◌∷◌, ◌++◌, length, refl, sym, ap, ◌∙◌, subst, Option, Some, None, true≢false, arith}
-use Rattle.std.specs.Prelude.{slice_get, take}
+use Rattle.std.proofs.Common.{◌≡◌, ◌≢◌, ◌⊎◌, inl, inr, ⊎_elim, ℕ, zero, suc, ◌+◌, ◌≤◌, ◌==◌, Bool, true, false, is_some, List, [], ◌∷◌, ◌++◌, length, refl, sym, ap, ◌∙◌, subst, Option, Some, None, true≢false, le_refl, ◌-◌, arith}
+use Rattle.std.specs.Prelude.{replicate, slice_get, slice_set, take}
+use Rattle.std.proofs.lemmas.List.{take_all}
 use Rattle.std.specs.List.{AllByRecursion, AllZip}
 use Rattle.std.proofs.lemmas.Option.{slice_get_within}
 use Rattle.fine_model.specs.declared.Outcome.{Outcome}
 use Rattle.fine_model.specs.declared.Outcome.TheVariants as outcome
 use Rattle.fine_model.specs.declared.RunFault.{RunFault}
 use Rattle.fine_model.specs.declared.ScriptTxn.{ScriptTxn}
+use Rattle.fine_model.specs.declared.Why.{Why}
+use Rattle.fine_model.specs.History.{all_rows}
 use Rattle.fine_model.specs.Outcomes.{IsOutcomeOf}
 use Rattle.txn_runner.specs.Lanes.{HaveEnded, fault_of}
 use Rattle.txn_runner.specs.Runs.{IsReplied}
-use Rattle.txn_runner.specs.SoFar.{LaneEndsLaw, NextLaw}
-use Rattle.txn_runner.specs.Turns.{AreNumbered, EndsLanes, commits_of}
+use Rattle.txn_runner.specs.SoFar.{LaneEndsLaw, NextLaw, RefusedNext, SetsLaw}
+use Rattle.txn_runner.specs.Turns.{AreNumbered, EndsLanes, RefusesBehind, commits_of}
+use Rattle.txn_runner.proofs.Caused.{stays_refused}
 
 -- ---- lists with one item more
 
@@ -24,7 +28,7 @@ old_at [] x (suc i) y is = none_at y is
 old_at (z ∷ xs) x zero y is = inl is
 old_at (z ∷ xs) x (suc i) y is = ⊎_elim (λ h. inl h) (λ h. inr (ap (λ n. suc n) h.0, h.1)) (old_at xs x i y is)
 
-kept : {A : Type 0} (xs : List A) (x : A) (i : ℕ) (y : A) → slice_get xs i ≡ Some y → slice_get (xs ++ x ∷ []) i ≡ Some y
+pub kept : {A : Type 0} (xs : List A) (x : A) (i : ℕ) (y : A) → slice_get xs i ≡ Some y → slice_get (xs ++ x ∷ []) i ≡ Some y
 kept [] x i y is = none_at y is
 kept (z ∷ xs) x zero y is = is
 kept (z ∷ xs) x (suc i) y is = kept xs x i y is
@@ -161,3 +165,33 @@ lane_ends_law script i done ended after lane fault low ends s = record {
     by : (j : ℕ) (t : ScriptTxn) → slice_get (take i script) j ≡ Some t → slice_get done j ≡ Some outcome.NotRun → (b : Bool) → (t.lane == lane) ≡ b → is_some (fault_of after t.lane) ≡ true
     by j t is_t is true here = ap is_some (ap (fault_of after) (same t.lane lane here) ∙ ends.ended)
     by j t is_t is false here = ap is_some (ends.others t.lane (low j t (untaken i script j t is_t)) (λ e. other t.lane lane here e)) ∙ s.ends j t is_t is
+
+-- ---- the list of outcomes, and those that were refused
+
+set_next : {A : Type 0} (xs : List A) (y : A) (ys : List A) (x : A) → slice_set (xs ++ y ∷ ys) (length xs) x ≡ (xs ++ x ∷ []) ++ ys
+set_next [] y ys x = refl
+set_next (z ∷ xs) y ys x = ap (λ zs. z ∷ zs) (set_next xs y ys x)
+
+pub sets_law : SetsLaw
+sets_law many done next low =
+    let one : many - length done ≡ suc (many - (length done + 1)) = omega (arith, low) in
+    ap (λ n. slice_set (done ++ replicate n outcome.NotRun) (length done) next) one ∙ set_next done outcome.NotRun (replicate (many - (length done + 1)) outcome.NotRun) next
+
+front : {A : Type 0} (i : ℕ) (xs ys : List A) → i ≤ length xs → take i (xs ++ ys) ≡ take i xs
+front zero xs ys low = refl
+front (suc i) [] ys low = absurd (omega (arith, low))
+front (suc i) (x ∷ xs) ys low = ap (λ zs. x ∷ zs) (front i xs ys (omega (arith, low)))
+
+pub refused_next : RefusedNext
+refused_next script done txn next old new first at becomes low here s = record { each = λ i t word is_t is. by i t word is_t (old_at done next i (outcome.Refused word) is) }
+  where
+    by : (i : ℕ) (t : ScriptTxn) (word : Why) → slice_get script i ≡ Some t → (slice_get done i ≡ Some (outcome.Refused word)) ⊎ ((i ≡ length done) × (next ≡ outcome.Refused word))
+        → RefusesBehind new (first ++ all_rows (commits_of (take i (done ++ next ∷ [])))) t.calls word
+    by i t word is_t (inl is) =
+        let w = slice_get_within done i (outcome.Refused word) is in
+        subst (λ os. RefusesBehind new (first ++ all_rows (commits_of os)) t.calls word) (sym (front i done (next ∷ []) (omega (arith, w))))
+        (stays_refused old new (first ++ all_rows (commits_of (take i done))) t.calls word becomes low (s.each i t word is_t is))
+    by i t word is_t (inr (e, is)) =
+        let same : txn ≡ t = (let x : Some txn ≡ Some t = sym at ∙ ap (slice_get script) (sym e) ∙ is_t in cc) in
+        let all : take i (done ++ next ∷ []) ≡ done = ap (λ n. take n (done ++ next ∷ [])) e ∙ front (length done) done (next ∷ []) (le_refl (length done)) ∙ take_all (length done) done (le_refl (length done)) in
+        subst (λ os. RefusesBehind new (first ++ all_rows (commits_of os)) t.calls word) (sym all) (subst (λ (x : ScriptTxn). RefusesBehind new (first ++ all_rows (commits_of done)) x.calls word) same (here word is))

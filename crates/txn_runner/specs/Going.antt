@@ -1,13 +1,17 @@
 -- Steps of the room on one thread: calls that add and seal nothing, an entry more, and a seal.
-use Rattle.std.specs.Prelude.{◌≡◌, ℕ, ◌+◌, ◌<◌, ◌≤◌, ◌==◌, List, [], ◌∷◌, ◌++◌, count_by, Option, None, Result}
+use Rattle.std.specs.Prelude.{◌≡◌, ℕ, ◌+◌, ◌<◌, ◌≤◌, ◌==◌, List, [], ◌∷◌, ◌++◌, count_by, length, Option, None, Some, Result}
 use Rattle.fine_model.specs.declared.RunFault.{RunFault}
-use Rattle.fine_model.specs.Becomes.{Becomes}
+use Rattle.fine_model.specs.Becomes.{Becomes, IsStuck}
+use Rattle.fine_model.specs.Causes.{NoneFit}
 use Rattle.fine_model.specs.History.{Commit, IsLegal}
+use Rattle.fine_model.specs.Regions.{Image}
 use Rattle.epoch_room.specs.Meaning.{GoesOnStanding, Keeps, StandsForMore}
 use Rattle.epoch_room.specs.Steps.{SealsOr, appended}
 use Rattle.epoch_room.specs.Value.{RoomValue}
 use Rattle.epoch_room.specs.Whole.{IsWhole}
 use Rattle.epoch_room.specs.declared.answers.RoomFault.{RoomFault}
+use Rattle.partition_hold.specs.Views.{ViewValue}
+use Rattle.room_shelf.specs.Shelves.{IsLater, shelf}
 use Rattle.txn_runner.specs.Lanes.{EndsLane, IsLane, fault_of}
 use Rattle.txn_runner.specs.Runs.{AreFewOfLanes, OfSound}
 use Rattle.txn_runner.specs.SoFar.{AreFewSoFar, GoesOn}
@@ -21,6 +25,10 @@ pub record StaysOn (old new : RoomValue) : Type 0 where
   pub waiting : new.room.waiting ≡ old.room.waiting
   pub stands : GoesOnStanding old new
   pub becomes : Becomes old.room new.room
+
+-- as by what is done with the view for loading
+abbrev pub LaterLaw : Type 0
+LaterLaw = (old new : RoomValue) (out view : Option ViewValue) → IsLater (shelf old out) (shelf new view) → StaysOn old new
 
 abbrev pub StaysLaw : Type 0
 StaysLaw = (entry old new : RoomValue) (history : List Commit) → GoesOn entry old history → IsWhole new → StaysOn old new → GoesOn entry new history
@@ -41,6 +49,12 @@ abbrev pub SealsLaw : Type 0
 SealsLaw =
     (entry old new : RoomValue) (history : List Commit) (result : Result ℕ RoomFault) → GoesOn entry old history → IsWhole new → 1 ≤ old.room.waiting → SealsOr old new result → Keeps old new → new.room.job ≡ old.room.job
     → GoesOn entry new history
+
+-- Where nothing waits or is retired, fewer than two regions are free and no two neighbours fit these, the log is stuck: so after a merge that found none that fit.
+abbrev pub FullLaw : Type 0
+FullLaw =
+    (entry room : RoomValue) (history : List Commit) → GoesOn entry room history → room.room.lost ≡ [] → room.room.waiting ≡ 0 → room.room.retired ≡ [] → length room.room.free < 2
+    → ((image : Image) → room.room.image ≡ Some image → NoneFit room.room.region_len image room.room.parts (length room.room.free)) → OfSound entry (λ first e. IsStuck room.room)
 
 -- ---- how few entries of a lane wait
 

@@ -4,3 +4,4 @@ pub mod Lanes
 pub mod Turns
 pub mod SoFar
 pub mod Going
+pub mod Told

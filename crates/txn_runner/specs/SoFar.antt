@@ -1,5 +1,5 @@
 -- The body on one thread, after some transactions, and at its end.
-use Rattle.std.specs.Prelude.{◌≡◌, ◌≢◌, ◌⊎◌, ℕ, ◌+◌, ◌-◌, ◌<◌, ◌≤◌, ◌==◌, ◌&&◌, min, Bool, true, false, is_some, List, [], ◌∷◌, ◌++◌, length, take, replicate, count_by, slice_get, Option, Some, None, Ok, Contains}
+use Rattle.std.specs.Prelude.{◌≡◌, ◌≢◌, ◌⊎◌, ℕ, ◌+◌, ◌-◌, ◌<◌, ◌≤◌, ◌==◌, ◌&&◌, min, Bool, true, false, is_some, List, [], ◌∷◌, ◌++◌, length, take, replicate, count_by, slice_get, slice_set, Option, Some, None, Ok, Contains}
 use Rattle.std.specs.List.{AllByRecursion, AllZip, list_all}
 use Rattle.log_disk.specs.Disk.{Told}
 use Rattle.fine_model.specs.declared.Damage.{Damage}
@@ -7,26 +7,30 @@ use Rattle.fine_model.specs.declared.Options.{Options}
 use Rattle.fine_model.specs.declared.Outcome.{Outcome}
 use Rattle.fine_model.specs.declared.Outcome.TheVariants as outcome
 use Rattle.fine_model.specs.declared.Part.{Part}
+use Rattle.fine_model.specs.declared.Row.{Row}
 use Rattle.fine_model.specs.declared.RunFault.{RunFault}
 use Rattle.fine_model.specs.declared.RunFault.TheVariants as run_fault
 use Rattle.fine_model.specs.declared.ScriptTxn.{ScriptTxn}
+use Rattle.fine_model.specs.declared.Why.{Why}
 use Rattle.fine_model.specs.declared.law.Origin.{Origin}
 use Rattle.fine_model.specs.declared.law.RoomState.{RoomState}
-use Rattle.fine_model.specs.declared.law.ViewState.{ViewState}
 use Rattle.fine_model.specs.Becomes.{Becomes, IsStuck}
-use Rattle.fine_model.specs.Boards.{is_empty, buffer_at, posted}
+use Rattle.fine_model.specs.Boards.{is_empty}
 use Rattle.fine_model.specs.Chain.{chain}
 use Rattle.fine_model.specs.Damages.{IsDamageIn}
 use Rattle.fine_model.specs.Faults.{HasRisen, last_count}
-use Rattle.fine_model.specs.History.{Commit}
+use Rattle.fine_model.specs.History.{Commit, all_rows}
 use Rattle.fine_model.specs.Outcomes.{EpochsFollow, IsOutcomeOf}
 use Rattle.fine_model.specs.Room.{IsSealedUpTo}
+use Rattle.fine_model.specs.RowBytes.{greatest}
 use Rattle.epoch_room.specs.Meaning.{Stands, origin_of}
 use Rattle.epoch_room.specs.Value.{RoomValue}
 use Rattle.epoch_room.specs.Whole.{IsWhole}
+use Rattle.partition_hold.specs.Views.{ViewValue}
+use Rattle.room_shelf.specs.Shelves.{IsShelf, shelf, total}
 use Rattle.txn_runner.specs.Lanes.{EndsLane, HaveEnded, IsLane, fault_of, first_fault, lanes_failed, most_lanes}
 use Rattle.txn_runner.specs.Runs.{AreFewOfLanes, IsReady, IsReplied, OfSound, OwnRose, RunsLanes}
-use Rattle.txn_runner.specs.Turns.{AreNumbered, AreRefused, EndsLanes, commits_of}
+use Rattle.txn_runner.specs.Turns.{AreNumbered, AreRefused, EndsLanes, RefusesBehind, commits_of}
 
 -- ---- the outcomes
 
@@ -51,6 +55,18 @@ NextLaw =
     (script : List ScriptTxn) (i : ℕ) (done : List Outcome) (ended : List (Option RunFault)) (txn : ScriptTxn) (next : Outcome) → AreSoFar script i done ended → slice_get script i ≡ Some txn → ComesNext done ended txn next
     → AreSoFar script (i + 1) (done ++ next ∷ []) ended
 
+-- the list of all outcomes, that of the next one set
+abbrev pub SetsLaw : Type 0
+SetsLaw =
+    (many : ℕ) (done : List Outcome) (next : Outcome) → length done < many
+    → slice_set (done ++ replicate (many - length done) outcome.NotRun) (length done) next ≡ (done ++ next ∷ []) ++ replicate (many - (length done + 1)) outcome.NotRun
+
+-- why transactions were refused is so as the room goes on, with the next one
+abbrev pub RefusedNext : Type 0
+RefusedNext =
+    (script : List ScriptTxn) (done : List Outcome) (txn : ScriptTxn) (next : Outcome) (old new : RoomState) (first : List Row) → slice_get script (length done) ≡ Some txn → Becomes old new → new.sealed ≤ greatest
+    → ((word : Why) → next ≡ outcome.Refused word → RefusesBehind new (first ++ all_rows (commits_of done)) txn.calls word) → AreRefused script done old first → AreRefused script (done ++ next ∷ []) new first
+
 -- the outcomes so far stay as a lane ends
 abbrev pub LaneEndsLaw : Type 0
 LaneEndsLaw =
@@ -73,12 +89,6 @@ pub record GoesOn (entry room : RoomValue) (history : List Commit) : Type 0 wher
   pub stands : OfSound entry (λ first e. Stands room first e history)
   pub becomes : Becomes entry.room room.room
 
--- the board has the view that is out, which shows all that is sealed, and nothing else
-abbrev pub IsShelfWith : RoomState → Option ViewState → Type 0
-IsShelfWith room None = list_all is_empty room.board ≡ true
-IsShelfWith room (Some v) =
-    (v.seat ≡ 1) × (v.upto ≡ room.sealed) × (v.parts ≡ room.parts) × (v.region_len ≡ room.region_len) × (slice_get room.board (buffer_at v.seat v.buffer) ≡ Some (Some v.eye)) × (posted room.board ≡ v.eye ∷ [])
-
 -- no epoch has more entries of a lane than a group, and a lane that goes on has fewer in the open one
 pub record AreFewSoFar (group sealed : ℕ) (ended : List (Option RunFault)) (history : List Commit) : Type 0 where
   pub most : AreFewOfLanes group history
@@ -86,18 +96,11 @@ pub record AreFewSoFar (group sealed : ℕ) (ended : List (Option RunFault)) (hi
 
 -- ---- faults
 
--- the count of all faults, that of the view that is out included
-abbrev pub count_of : Option ViewState → ℕ
-count_of None = 0
-count_of (Some v) = v.faults
-
-abbrev pub total : RoomValue → Option ViewState → ℕ
-total room view = min (room.disk.faults + count_of view) last_count
-
--- What some faults tell, of which those in `ended` ended lanes, where the count of all faults is this: each lane that a failed disk ended has a failed
+-- What some faults tell, of which those in `ended` ended lanes, behind these transactions, where the count of all faults is this: each lane that a failed disk ended has a failed
 -- call, unless the disk's own count rose; a count that rose, and a room that is shut, are told by a fault; damage is there, and on an unsound log alone.
 pub record AreTold (script : List ScriptTxn) (entry room : RoomValue) (count : ℕ) (ended told : List (Option RunFault)) (history : List Commit) : Type 0 where
   pub lanes : length ended ≡ most_lanes
+  pub low : min entry.disk.faults last_count ≤ count
   pub all : (fault : RunFault) → Contains ended (Some fault) → Contains told (Some fault)
   pub failed : OwnRose entry room ⊎ (lanes_failed ended + entry.disk.faults ≤ count) ⊎ (last_count ≤ count)
   pub only_risen : Contains told (Some run_fault.Disk) → HasRisen entry.disk.faults count
@@ -112,7 +115,7 @@ pub record AreTold (script : List ScriptTxn) (entry room : RoomValue) (count : �
 -- the room, the view that is out for loading, the buckets, the flag that the log is stuck, how each lane ended, and the outcomes
 pub record Serial (B : Type 0) : Type 0 where
   pub room : RoomValue
-  pub view : Option ViewState
+  pub view : Option ViewValue
   pub buckets : List B
   pub full : Bool
   pub ended : List (Option RunFault)
@@ -126,10 +129,10 @@ module _ {B : Type 0} (stands_for : Origin → ℕ → ℕ → B → List Commit
     pub so_far : AreSoFar script i done s.ended
     pub goes_on : GoesOn entry s.room (commits_of done)
     pub few : AreFewSoFar options.group s.room.room.sealed s.ended (commits_of done)
-    pub told : AreTold script entry s.room (total s.room s.view) s.ended s.ended (commits_of done)
+    pub told : AreTold (take i script) entry s.room (total (shelf s.room s.view)) s.ended s.ended (commits_of done)
     pub refused : OfSound entry (λ first e. AreRefused script done s.room.room first)
     pub stuck : s.full ≡ true → OfSound entry (λ first e. IsStuck s.room.room)
-    pub shelf : IsShelfWith s.room.room s.view
+    pub view : IsShelf s.room.room s.view
     pub buckets : (length s.buckets ≡ 256) × ((k : ℕ) (b : B) → slice_get s.buckets k ≡ Some b → stands_for (origin_of entry.entry) k s.room.room.sealed b (commits_of done))
 
 -- At the end: the view was taken back, and what waited was sealed, unless the room is shut; `told` has the fault of this last seal too.

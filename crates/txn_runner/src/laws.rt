@@ -1,9 +1,10 @@
 //! Laws of runs, each the contract of a function that does nothing.
 
-ghost use Rattle.txn_runner.specs.Going.{CommitsLaw, FewEnd, FewLess, FewMore, FewWait, SealsLaw, StaysLaw};
+ghost use Rattle.txn_runner.specs.Going.{CommitsLaw, FewEnd, FewLess, FewMore, FewWait, FullLaw, LaterLaw, SealsLaw, StaysLaw};
 ghost use Rattle.txn_runner.specs.Lanes.{CutShortLaw};
 ghost use Rattle.txn_runner.specs.Law.{BehindLaw, DoneLaw, NothingLaw, ReadyLaw, RunLaw, StatusLaw};
-ghost use Rattle.txn_runner.specs.SoFar.{FinishedLaw, LaneEndsLaw, NextLaw};
+ghost use Rattle.txn_runner.specs.SoFar.{FinishedLaw, LaneEndsLaw, NextLaw, RefusedNext, SetsLaw};
+ghost use Rattle.txn_runner.specs.Told.{DamageStays, MoreBeside, MoreByLane, ToldMore, ToldNext, ToldStays};
 ghost use Rattle.txn_runner.specs.Turns.{CausesLaw, InTurnLaw, StaysRefused};
 
 /// On a room that was just made of a log a run may begin.
@@ -51,17 +52,23 @@ pub fn causes_law()
     ensures causes { CausesLaw }
 {}
 
-/// The outcomes so far of a body on one thread: with that of the next transaction they are those of one more, and they stay as a lane ends.
+/// The outcomes so far of a body on one thread: with that of the next transaction, which is set in the list of all, they are those of one more, each that
+/// was refused has its cause still, and they stay as a lane ends.
 pub fn so_far_law()
     ensures next { NextLaw }
+    ensures sets { SetsLaw }
+    ensures refused { RefusedNext }
     ensures lane_ends { LaneEndsLaw }
 {}
 
-/// The room of a body on one thread goes on: by calls that add and seal nothing, by an entry more, and by a seal, whatever it answers.
+/// The room of a body on one thread goes on: by calls that add and seal nothing, by an entry more, and by a seal, whatever it answers. Where it takes
+/// nothing any more, its log is stuck.
 pub fn going_law()
+    ensures later { LaterLaw }
     ensures stays { StaysLaw }
     ensures commits { CommitsLaw }
     ensures seals { SealsLaw }
+    ensures full { FullLaw }
 {}
 
 /// How few entries of a lane wait: as some entries wait, as a lane that goes on commits, as one ends with a commit, and as one ends without.
@@ -70,6 +77,17 @@ pub fn few_law()
     ensures more { FewMore }
     ensures end { FewEnd }
     ensures less { FewLess }
+{}
+
+/// What faults tell (`AreTold`): where no call failed, all stays as it was told; with a fault more, whether it ends a lane or is told beside those of
+/// lanes; and behind the next transaction, where what was named as damaged is so too.
+pub fn told_law()
+    ensures stays { ToldStays }
+    ensures more { ToldMore }
+    ensures by_lane { MoreByLane }
+    ensures beside { MoreBeside }
+    ensures next { ToldNext }
+    ensures damage { DamageStays }
 {}
 
 /// Where the body on one thread has finished, what it leaves is a run.

@@ -1,0 +1,72 @@
+-- What faults of the body on one thread tell, step by step.
+use Rattle.std.specs.Prelude.{◌≡◌, ◌⊎◌, ℕ, ◌+◌, ◌-◌, ◌≤◌, min, true, if◌then◌else◌, List, [], ◌∷◌, ◌++◌, length, slice_set, Option, Some, None, Ok, Contains}
+use Rattle.std.specs.List.{AllByRecursion}
+use Rattle.log_disk.specs.Disk.{Told}
+use Rattle.fine_model.specs.declared.Damage.{Damage}
+use Rattle.fine_model.specs.declared.Part.{Part}
+use Rattle.fine_model.specs.declared.RunFault.{RunFault}
+use Rattle.fine_model.specs.declared.RunFault.TheVariants as run_fault
+use Rattle.fine_model.specs.declared.ScriptTxn.{ScriptTxn}
+use Rattle.fine_model.specs.Chain.{chain}
+use Rattle.fine_model.specs.Damages.{IsDamageIn}
+use Rattle.fine_model.specs.Faults.{HasRisen, last_count}
+use Rattle.fine_model.specs.History.{Commit}
+use Rattle.epoch_room.specs.Value.{RoomValue}
+use Rattle.txn_runner.specs.Lanes.{IsLane, fault_of, is_disk, lanes_failed, most_lanes}
+use Rattle.txn_runner.specs.Runs.{IsReady, OfSound}
+use Rattle.txn_runner.specs.SoFar.{AreTold, GoesOn}
+
+-- one fault more is told, and no other
+pub record TellsMore (old new : List (Option RunFault)) (fault : RunFault) : Type 0 where
+  pub there : Contains new (Some fault)
+  pub stays : (other : RunFault) → Contains old (Some other) → Contains new (Some other)
+  pub only : (other : RunFault) → Contains new (Some other) → Contains old (Some other) ⊎ (other ≡ fault)
+
+-- so it is as a lane ends that had not, and as a fault is told beside those of lanes
+abbrev pub MoreByLane : Type 0
+MoreByLane = (ended : List (Option RunFault)) (lane : ℕ) (fault : RunFault) → length ended ≡ most_lanes → IsLane lane → fault_of ended lane ≡ None → TellsMore ended (slice_set ended (lane - 1) (Some fault)) fault
+
+abbrev pub MoreBeside : Type 0
+MoreBeside = (told : List (Option RunFault)) (fault : RunFault) → TellsMore told (Some fault ∷ told) fault
+
+-- where no call failed, all stays as it was told
+abbrev pub ToldStays : Type 0
+ToldStays =
+    (script : List ScriptTxn) (entry old new : RoomValue) (count now : ℕ) (ended told : List (Option RunFault)) (history : List Commit) → now ≡ count → old.disk.own_faults ≤ new.disk.own_faults → new.room.is_shut ≡ old.room.is_shut
+    → AreTold script entry old count ended told history → AreTold script entry new now ended told history
+
+-- What a fault that is told now has as its cause: a failed disk that the count of all faults rose, or that the room is shut; want of memory none; damage that no call failed, and
+-- that it is there, on an unsound log.
+abbrev pub HasCause : List ScriptTxn → RoomValue → RoomValue → RoomValue → ℕ → ℕ → List Commit → RunFault → Type 0
+HasCause script entry old new count now history run_fault.Disk = HasRisen count now ⊎ (new.room.is_shut ≡ true)
+HasCause script entry old new count now history run_fault.Memory = Unit {0}
+HasCause script entry old new count now history (run_fault.Damaged what) =
+    (now ≡ count) × (new.room.is_shut ≡ old.room.is_shut) × OfSound entry (λ first e. ⊥)
+    × ((before : Told) (parts : List Part) → entry.disk.told ≡ Some before → chain entry.room.region_len before.bytes ≡ Ok parts → IsDamageIn (Ok script) ⊥ history entry.room.region_len before.bytes parts what)
+
+-- a fault more, which may have ended a lane
+pub record ToldOne (script : List ScriptTxn) (entry old new : RoomValue) (count now : ℕ) (ended after told more : List (Option RunFault)) (history : List Commit) (fault : RunFault) : Type 0 where
+  pub goes_on : GoesOn entry new history
+  pub cause : HasCause script entry old new count now history fault
+  pub adds : TellsMore told more fault
+  pub lanes : length after ≡ most_lanes
+  pub counted : lanes_failed after ≤ lanes_failed ended + (if is_disk (Some fault) then 1 else 0)
+  pub all : (other : RunFault) → Contains after (Some other) → Contains more (Some other)
+  pub no_lower : (count ≤ now) × (old.disk.own_faults ≤ new.disk.own_faults)
+  pub is_total : min new.disk.faults last_count ≤ now
+
+abbrev pub ToldMore : Type 0
+ToldMore =
+    (script : List ScriptTxn) (entry old new : RoomValue) (count now : ℕ) (ended after told more : List (Option RunFault)) (history : List Commit) (fault : RunFault) → IsReady entry
+    → AreTold script entry old count ended told history → ToldOne script entry old new count now ended after told more history fault → AreTold script entry new now after more history
+
+-- what was named as damaged behind some transactions is so behind the next one, whether it was committed or not
+abbrev pub DamageStays : Type 0
+DamageStays =
+    (script : List ScriptTxn) (txn : ScriptTxn) (history more : List Commit) (region_len : ℕ) (image : List (List ℕ)) (parts : List Part) (what : Damage) → AllByRecursion (λ c. c.entry.turn ≡ length script + 1) more
+    → IsDamageIn (Ok script) ⊥ history region_len image parts what → IsDamageIn (Ok (script ++ txn ∷ [])) ⊥ (history ++ more) region_len image parts what
+
+abbrev pub ToldNext : Type 0
+ToldNext =
+    (script : List ScriptTxn) (txn : ScriptTxn) (entry room : RoomValue) (count : ℕ) (ended told : List (Option RunFault)) (history more : List Commit) → AllByRecursion (λ c. c.entry.turn ≡ length script + 1) more
+    → AreTold script entry room count ended told history → AreTold (script ++ txn ∷ []) entry room count ended told (history ++ more)

@@ -132,7 +132,7 @@ module _ (bucket : ℕ) (a b : ℕ → Content) (extends : Extends a b) where
     add_same by pairs (write.Set k text ∷ ws) = λ i. if has pairs key then leaf_same (rec.Plus key by) i else set_same text i
     add_same by pairs (write.Unset k ∷ ws) = refl
 
-  push_same : (c : Call) → IsOnWay bucket a c → call_push bucket b c ≡ call_push bucket a c
+  pub push_same : (c : Call) → IsOnWay bucket a c → call_push bucket b c ≡ call_push bucket a c
   unfolding call_push
   push_same (call.Get key) fit = refl
   push_same (call.Put key value) fit = set_same key (head_of bucket a key fit) value
@@ -143,12 +143,12 @@ module _ (bucket : ℕ) (a b : ℕ → Content) (extends : Extends a b) where
       ∙ add_same key h by (pairs_beside a key (a 0).0) (answer (pairs_beside a key (a 0).0) (call.Add key by)).1
   push_same (call.Scan low high limit) fit = refl
 
-  on_way : (c : Call) → IsOnWay bucket a c → IsOnWay bucket b c
-  on_way (call.Get key) fit = fit_same key (head_of bucket a key fit)
-  on_way (call.Put key value) fit = fit_same key (head_of bucket a key fit)
-  on_way (call.Del key) fit = fit_same key (head_of bucket a key fit)
-  on_way (call.Add key by) fit = fit_same key (head_of bucket a key fit)
-  on_way (call.Scan low high limit) fit = tt
+  pub still_on_way : (c : Call) → IsOnWay bucket a c → IsOnWay bucket b c
+  still_on_way (call.Get key) fit = fit_same key (head_of bucket a key fit)
+  still_on_way (call.Put key value) fit = fit_same key (head_of bucket a key fit)
+  still_on_way (call.Del key) fit = fit_same key (head_of bucket a key fit)
+  still_on_way (call.Add key by) fit = fit_same key (head_of bucket a key fit)
+  still_on_way (call.Scan low high limit) fit = tt
 
   -- what has all nodes that are not broken has them behind rows too
   extends_on : (rows : List Row) → Extends (with_rows bucket a rows) (with_rows bucket b rows)
@@ -173,13 +173,13 @@ load_law bucket some more (c ∷ cs) rows extends (own, others, is, of_bucket, p
   is,
   of_bucket,
   ap within_limits (push_same bucket some more extends c fit) ∙ pushed,
-  on_way bucket some more extends c fit,
+  still_on_way bucket some more extends c fit,
   load_law bucket (with_rows bucket some own) (with_rows bucket more own) cs others (extends_on bucket some more extends own) goes,
 )
 
 -- ---- what calls go on to
 
-with_both : (bucket : ℕ) (nodes : ℕ → Content) (own more rows : List Row) → rows ≡ own ++ more → ◌≡◌ {A = ℕ → Content} (with_rows bucket (with_rows bucket nodes own) more) (with_rows bucket nodes rows)
+pub with_both : (bucket : ℕ) (nodes : ℕ → Content) (own more rows : List Row) → rows ≡ own ++ more → ◌≡◌ {A = ℕ → Content} (with_rows bucket (with_rows bucket nodes own) more) (with_rows bucket nodes rows)
 with_both bucket nodes own more rows is = λ i number. each number i
   where
     each : (number : ℕ) → with_rows bucket (with_rows bucket nodes own) more number ≡ with_rows bucket nodes rows number

@@ -1,6 +1,7 @@
 -- What the parts that are there now were made of, and what is found in them by the bytes at entry. Each law is the contract of a function.
 use Rattle.std.specs.Prelude.{◌≡◌, ◌⊎◌, ℕ, IsTrue, List, [], ◌∷◌, ◌++◌, map, flat_map}
 use Rattle.std.specs.List.{AllByRecursion}
+use Rattle.log_disk.specs.Disk.{Eye}
 use Rattle.fine_model.specs.declared.NodeId.{NodeId}
 use Rattle.fine_model.specs.declared.Part.{Part}
 use Rattle.fine_model.specs.declared.Row.{Row}
@@ -9,6 +10,8 @@ use Rattle.fine_model.specs.Merge.{image_of, merged, merged_into, starts_afresh}
 use Rattle.fine_model.specs.Nodes.{Content, base, replay, rows_of}
 use Rattle.fine_model.specs.Regions.{Image, HasHeader, IsSealed}
 use Rattle.fine_model.specs.VersionLaws.{HaveSameRows}
+use Rattle.partition_index.specs.Parts.{IsSeen}
+use Rattle.partition_index.specs.Search.{TellsRows}
 use Rattle.damage_laws.specs.Places.{IsUnchanged}
 
 -- a part at entry, or rows that were sealed since
@@ -67,6 +70,13 @@ SealedLaw =
 -- of each node, rows are those that a part has which was made so
 abbrev pub AreRowsAs : ℕ → Image → Made → List Row → Type 0
 AreRowsAs region_len entry m rows = (id : NodeId) → HasRows region_len entry id m (rows_of id rows)
+
+-- so a part that is unchanged, where an eye tells it in the grammar with these rows, and so rows that were sealed
+abbrev pub KeptRowsLaw : Type 0
+KeptRowsLaw = (eye : Eye) (entry : Image) (p : Part) (rows : List Row) → IsSeen eye p → (t : TellsRows eye p rows) → IsUnchanged eye.region_len entry t.image p → AreRowsAs eye.region_len entry (one (at_entry p)) rows
+
+abbrev pub SealedRowsLaw : Type 0
+SealedRowsLaw = (region_len : ℕ) (entry : Image) (own rows : List Row) → HaveSameRows own rows → AreRowsAs region_len entry (one (since own)) rows
 
 -- one that was merged of two lists of such rows has what they are merged into
 abbrev pub JoinedLaw : Type 0

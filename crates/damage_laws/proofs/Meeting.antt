@@ -15,6 +15,7 @@ use Rattle.fine_model.specs.Pushed.{call_push, key_of, within_limits}
 use Rattle.fine_model.specs.Regions.{Image}
 use Rattle.fine_model.specs.RowBytes.{buckets}
 use Rattle.fine_model.specs.Script.{Refusal}
+use Rattle.fine_model.proofs.NodeLaws.{rows_of-append}
 use Rattle.node_cache.specs.declared.cached.Cached.{Cached}
 use Rattle.node_cache.specs.Cache.{Cache, cached}
 use Rattle.node_cache.specs.Given.{IsCached, given}
@@ -24,7 +25,9 @@ use Rattle.btree_nodes.proofs.OnWays.{given_none}
 use Rattle.btree_nodes.proofs.Sound.{cached_of_whole}
 use Rattle.damage_laws.specs.Goings.{Extends, GoBy, IsOnWay}
 use Rattle.damage_laws.specs.Looks.{IsOfKey, IsPartOf}
-use Rattle.damage_laws.specs.Meets.{CallLaw, FewerLaw, GivesOn, LoadedLaw, LoadsOne, MeetsLaw, NewLaw}
+use Rattle.damage_laws.specs.Meets.{BeginsAnew, CallLaw, FewerLaw, FreshLaw, GivesOn, LoadedLaw, LoadsFrom, LoadsOne, MeetsLaw, NewLaw, SameLaw}
+use Rattle.damage_laws.specs.Made.{FoundOn, all_of}
+use Rattle.damage_laws.proofs.MergedFinds.{all_of-append}
 use Rattle.damage_laws.proofs.SamePushes.{goes_on_law, load_law, more_law, push_same, still_on_way, with_both}
 use Rattle.damage_laws.proofs.SameUnfit.{look_law, of_scan}
 
@@ -142,6 +145,40 @@ loaded_law region_len entry parts old new calls rows number g broken l =
         by : (t : Bool) → (n == number) ≡ t → given new n ≡ replay (chosen n t) own
         by true e = subst (λ k. given new k ≡ with_rows old.bucket (λ m. l.content) rows k) (sym (eqb-true n number e)) l.gives
         by false e = let o = l.others n (λ same. true≢false (sym (eq-eqb n number same) ∙ e)) here in o.0 ∙ g.gives n o.1
+
+pub same_law : SameLaw
+same_law region_len entry parts old new calls rows g l = build region_len entry parts new old.bucket calls rows g.nodes l.bucket g.found g.goes (λ n here. by n (l.each n here))
+  where
+    by : (n : ℕ) → (given new n ≡ given old n × IsCached old n) ⊎ (given new n ≡ with_rows old.bucket g.nodes rows n) → given new n ≡ with_rows old.bucket g.nodes rows n
+    by n (inl stays) = stays.0 ∙ g.gives n stays.1
+    by n (inr same) = same
+
+pub fresh_law : FreshLaw
+fresh_law region_len entry parts old new calls rows number g broken l = by l.found
+  where
+    id : NodeId
+    id = record { bucket = old.bucket; number = number }
+
+    by : FoundOn region_len entry parts id l.sealed (given new number) → GivesOn region_len entry parts new calls rows ⊎ BeginsAnew old new rows number
+    by (inl (content, is_found, leaves)) = inl (loaded_law region_len entry parts old new calls rows number g broken (record {
+      bucket = l.bucket;
+      others = l.others;
+      content = content;
+      is_found = is_found;
+      gives = leaves ∙ ap (replay content) l.all_sealed;
+    }))
+    by (inr (inl leaves)) = inl (same_law region_len entry parts old new calls rows g (record { bucket = l.bucket; each = λ n here. each n here (n == number) refl }))
+      where
+        each : (n : ℕ) → IsCached new n → (t : Bool) → (n == number) ≡ t → (given new n ≡ given old n × IsCached old n) ⊎ (given new n ≡ with_rows old.bucket g.nodes rows n)
+        each n here true e = inr (subst (λ k. given new k ≡ with_rows old.bucket g.nodes rows k) (sym (eqb-true n number e)) (leaves (g.nodes number) ∙ ap (replay (g.nodes number)) l.all_sealed))
+        each n here false e = inl (l.others n (λ same. true≢false (sym (eq-eqb n number same) ∙ e)) here)
+    by (inr (inr (front, back, whole, afresh, leaves))) = inr (record {
+      front = rows_of id (all_of front);
+      back = rows_of id (all_of back);
+      own = sym l.all_sealed ∙ ap (λ lists. rows_of id (all_of lists)) whole ∙ ap (rows_of id) (all_of-append front back) ∙ rows_of-append id (all_of front) (all_of back);
+      afresh = afresh;
+      leaves = leaves;
+    })
 
 pub meets_law : (reads_all : Type 0) → MeetsLaw reads_all
 meets_law reads_all script history region_len entry parts b committed own rows id g low of_bucket here itself looks = record {

@@ -1,5 +1,5 @@
 -- A bucket that a run of calls uses, by the bytes at entry, and the node that it meets unfit. Each law is the contract of a function.
-use Rattle.std.specs.Prelude.{◌≡◌, ◌≢◌, ◌⊎◌, ℕ, ◌<◌, List, [], ◌∷◌, ◌++◌, Result, take, flat_map}
+use Rattle.std.specs.Prelude.{◌≡◌, ◌≢◌, ◌⊎◌, ℕ, ◌<◌, List, [], ◌∷◌, ◌++◌, Result, IsTrue, take, flat_map}
 use Rattle.fine_model.specs.declared.Call.{Call}
 use Rattle.fine_model.specs.declared.Node.TheVariants as node
 use Rattle.fine_model.specs.declared.NodeId.{NodeId}
@@ -8,7 +8,8 @@ use Rattle.fine_model.specs.declared.Row.{Row}
 use Rattle.fine_model.specs.declared.ScriptTxn.{ScriptTxn}
 use Rattle.fine_model.specs.Damages.{FindsMerged, LooksAt, MeetsUnfit, calls_on, with_rows}
 use Rattle.fine_model.specs.History.{Commit}
-use Rattle.fine_model.specs.Nodes.{Content}
+use Rattle.fine_model.specs.Merge.{starts_afresh}
+use Rattle.fine_model.specs.Nodes.{Content, base, replay, rows_of}
 use Rattle.fine_model.specs.Pushed.{key_of}
 use Rattle.fine_model.specs.Regions.{Image}
 use Rattle.fine_model.specs.RowBytes.{buckets}
@@ -20,6 +21,7 @@ use Rattle.btree_nodes.specs.Calls.{IsDone, IsReached}
 use Rattle.btree_nodes.specs.Trees.{node_at}
 use Rattle.damage_laws.specs.Goings.{GoBy}
 use Rattle.damage_laws.specs.Looks.{IsOfKey}
+use Rattle.damage_laws.specs.Made.{FoundOn, all_of}
 
 -- What a bucket gives are contents that are found by the bytes at entry, gone on by calls on the bucket and the rows that they pushed. What was not
 -- found counts as broken.
@@ -62,6 +64,38 @@ abbrev pub LoadedLaw : Type 0
 LoadedLaw =
     (region_len : ℕ) (entry : Image) (parts : List Part) (old new : Cache) (calls : List Call) (rows : List Row) (number : ℕ) (g : GivesOn region_len entry parts old calls rows) → (g.nodes number).0 ≡ node.Broken
     → LoadsOne region_len entry parts old new rows number → GivesOn region_len entry parts new calls rows
+
+-- What was loaded is what was there already: the bucket gives what it gave.
+pub record LoadsSame (old new : Cache) (all : ℕ → Content) : Type 0 where
+  pub bucket : new.bucket ≡ old.bucket
+  pub each : (n : ℕ) → IsCached new n → (given new n ≡ given old n × IsCached old n) ⊎ (given new n ≡ all n)
+
+abbrev pub SameLaw : Type 0
+SameLaw =
+    (region_len : ℕ) (entry : Image) (parts : List Part) (old new : Cache) (calls : List Call) (rows : List Row) (g : GivesOn region_len entry parts old calls rows)
+    → LoadsSame old new (with_rows old.bucket g.nodes rows) → GivesOn region_len entry parts new calls rows
+
+-- A node was loaded as it was found in parts that were kept, or sealed or merged since, which hold all of the bucket's rows of it.
+pub record LoadsFrom (region_len : ℕ) (entry : Image) (parts : List Part) (old new : Cache) (rows : List Row) (number : ℕ) : Type 0 where
+  pub bucket : new.bucket ≡ old.bucket
+  pub others : (n : ℕ) → n ≢ number → IsCached new n → given new n ≡ given old n × IsCached old n
+  pub sealed : List (List Row)
+  pub all_sealed : rows_of (node_at old number) (all_of sealed) ≡ rows_of (node_at old number) rows
+  pub found : FoundOn region_len entry parts (node_at old number) sealed (given new number)
+
+-- some of the last of the bucket's rows of a node begin with its first version, and leave what was loaded
+pub record BeginsAnew (old new : Cache) (rows : List Row) (number : ℕ) : Type 0 where
+  pub front : List Row
+  pub back : List Row
+  pub own : rows_of (node_at old number) rows ≡ front ++ back
+  pub afresh : IsTrue (starts_afresh back)
+  pub leaves : given new number ≡ replay (base (node_at old number)) back
+
+-- Where no content was found of the node before, or a broken one, the bucket gives what it gave with the content that is found now from the start.
+abbrev pub FreshLaw : Type 0
+FreshLaw =
+    (region_len : ℕ) (entry : Image) (parts : List Part) (old new : Cache) (calls : List Call) (rows : List Row) (number : ℕ) (g : GivesOn region_len entry parts old calls rows) → (g.nodes number).0 ≡ node.Broken
+    → LoadsFrom region_len entry parts old new rows number → GivesOn region_len entry parts new calls rows ⊎ BeginsAnew old new rows number
 
 -- ---- the node that is unfit
 

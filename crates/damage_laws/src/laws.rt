@@ -2,8 +2,8 @@
 
 ghost use Rattle.damage_laws.specs.Goings.{GoesOnLaw, LoadLaw, MoreLaw};
 ghost use Rattle.damage_laws.specs.Looks.{KeyLaw, LookLaw, ScanLaw};
-ghost use Rattle.damage_laws.specs.Made.{JoinedLaw, KeptLaw, KeptRowsLaw, MergedLaw, SealedLaw, SealedRowsLaw};
-ghost use Rattle.damage_laws.specs.Meets.{CallLaw, FewerLaw, LoadedLaw, MeetsLaw, NewLaw};
+ghost use Rattle.damage_laws.specs.Made.{FetchLaw, JoinedLaw, KeptLaw, KeptRowsLaw, MergedLaw, SealedLaw, SealedRowsLaw};
+ghost use Rattle.damage_laws.specs.Meets.{CallLaw, FewerLaw, FreshLaw, LoadedLaw, MeetsLaw, NewLaw, SameLaw};
 ghost use Rattle.damage_laws.specs.Places.{BodyLaw, EntryLaw, FoundLaw, PlaceLaw, RowLaw};
 
 /// What a fetch blames of the parts that are there now is a bad place of a part at entry, where each of them is one of these, with the
@@ -41,6 +41,7 @@ pub fn made_law()
     ensures sealed_rows { SealedRowsLaw }
     ensures joined { JoinedLaw }
     ensures merged { MergedLaw }
+    ensures fetch { FetchLaw }
 {}
 
 /// What a bucket gives is what is found by the bytes at entry, gone on by calls: so it is of a new bucket, behind a call more, with fewer nodes cached, and
@@ -51,6 +52,8 @@ pub fn meets_law()
     ensures call { CallLaw }
     ensures fewer { FewerLaw }
     ensures loaded { LoadedLaw }
+    ensures same { SameLaw }
+    ensures fresh { FreshLaw }
     ensures meets { MeetsLaw ⊥ }
     ensures meets_all { MeetsLaw (Unit {0}) }
 {}

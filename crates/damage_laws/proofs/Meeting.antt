@@ -1,31 +1,27 @@
 -- What a bucket gives, by the bytes at entry, from call to call, and the node that is unfit.
-use Rattle.std.proofs.Common.{◌≡◌, ◌≢◌, ◌⊎◌, inl, inr, ℕ, ◌<◌, ◌==◌, eqb-true, eq-eqb, Bool, true, false, cond, List, [], ◌∷◌, ◌++◌, Option, Some, None, is_some, Ok, refl, sym, ap, subst, ◌∙◌, true≢false}
-use Rattle.std.specs.Prelude.{Result, IsSome, flat_map, take}
+use Rattle.std.proofs.Common.{◌≡◌, ◌≢◌, ◌⊎◌, inl, inr, ℕ, ◌<◌, ◌==◌, eqb-true, eq-eqb, Bool, true, false, cond, List, [], ◌∷◌, ◌++◌, Option, Some, None, is_some, refl, sym, ap, subst, ◌∙◌, true≢false}
+use Rattle.std.specs.Prelude.{flat_map, take}
 use Rattle.fine_model.specs.declared.Call.{Call}
 use Rattle.fine_model.specs.declared.Call.TheVariants as call
 use Rattle.fine_model.specs.declared.Node.TheVariants as node
 use Rattle.fine_model.specs.declared.NodeId.{NodeId}
 use Rattle.fine_model.specs.declared.Part.{Part}
 use Rattle.fine_model.specs.declared.Row.{Row}
-use Rattle.fine_model.specs.declared.ScriptTxn.{ScriptTxn}
 use Rattle.fine_model.specs.Damages.{FindsMerged, GoOnTo, LooksAt, calls_on, with_rows}
-use Rattle.fine_model.specs.History.{Commit}
 use Rattle.fine_model.specs.Nodes.{Content, replay, rows_of}
-use Rattle.fine_model.specs.Pushed.{call_push, key_of, within_limits}
+use Rattle.fine_model.specs.Pushed.{key_of, within_limits}
 use Rattle.fine_model.specs.Regions.{Image}
 use Rattle.fine_model.specs.RowBytes.{buckets}
-use Rattle.fine_model.specs.Script.{Refusal}
 use Rattle.fine_model.proofs.NodeLaws.{rows_of-append}
 use Rattle.node_cache.specs.declared.cached.Cached.{Cached}
 use Rattle.node_cache.specs.Cache.{Cache, cached}
 use Rattle.node_cache.specs.Given.{IsCached, given}
-use Rattle.btree_nodes.specs.Calls.{IsDone, IsReached}
 use Rattle.btree_nodes.specs.Trees.{unfit_in}
 use Rattle.btree_nodes.proofs.OnWays.{given_none}
 use Rattle.btree_nodes.proofs.Sound.{cached_of_whole}
 use Rattle.damage_laws.specs.Goings.{Extends, GoBy, IsOnWay}
 use Rattle.damage_laws.specs.Looks.{IsOfKey, IsPartOf}
-use Rattle.damage_laws.specs.Meets.{BeginsAnew, CallLaw, FewerLaw, FreshLaw, GivesOn, LoadedLaw, LoadsFrom, LoadsOne, MeetsLaw, NewLaw, SameLaw}
+use Rattle.damage_laws.specs.Meets.{BeginsAnew, CallLaw, FewerLaw, FreshLaw, GivesOn, LoadedLaw, MeetsLaw, NewLaw, SameLaw}
 use Rattle.damage_laws.specs.Made.{FoundOn, all_of}
 use Rattle.damage_laws.proofs.MergedFinds.{all_of-append}
 use Rattle.damage_laws.proofs.SamePushes.{goes_on_law, load_law, more_law, push_same, still_on_way, with_both}

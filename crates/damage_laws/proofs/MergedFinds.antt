@@ -1,25 +1,25 @@
 -- What is found of a node by the parts that are there now, by the bytes at entry.
-use Rattle.std.proofs.Common.{◌≡◌, ◌⊎◌, inl, inr, ℕ, Bool, true, false, List, [], ◌∷◌, ◌++◌, map, refl, sym, ap, subst, ◌∙◌, true≢false, ◌||◌, append_assoc}
+use Rattle.std.proofs.Common.{◌≡◌, ◌⊎◌, inl, inr, ℕ, true, List, [], ◌∷◌, ◌++◌, map, refl, sym, ap, subst, ◌∙◌, true≢false, ◌||◌, append_assoc}
 use Rattle.std.specs.Prelude.{flat_map, IsTrue}
 use Rattle.std.proofs.lemmas.Grind.{flat_map-append}
 use Rattle.std.proofs.lemmas.List.{map-append}
 use Rattle.std.proofs.lemmas.List.Folds.{list_any-append}
-use Rattle.std.specs.List.{AllByRecursion, list_any}
+use Rattle.std.specs.List.{AllByRecursion}
 use Rattle.fine_model.proofs.MergedRows.{rows_of-merged}
 use Rattle.fine_model.proofs.NodeLaws.{replay-append, rows_of-append}
 use Rattle.fine_model.proofs.Zip.{all_right}
 use Rattle.fine_model.specs.declared.NodeId.{NodeId}
 use Rattle.fine_model.specs.declared.Part.{Part}
 use Rattle.fine_model.specs.declared.Row.{Row}
-use Rattle.fine_model.specs.Damages.{FindsContent, FindsMerged, FindsRows, has_image_first}
+use Rattle.fine_model.specs.Damages.{FindsContent, FindsRows, has_image_first}
 use Rattle.fine_model.specs.Merge.{is_image, merged, merged_node, starts_afresh}
 use Rattle.fine_model.specs.Nodes.{Content, base, content, replay, rows_of}
 use Rattle.fine_model.specs.Regions.{Image}
 use Rattle.node_fetch.proofs.Blames as blames
 use Rattle.node_fetch.proofs.Parts.{forgets}
-use Rattle.damage_laws.specs.Made.{AreMadeOf, FetchLaw, FindsIn, FoundOn, HasRows, IsMadeOf, JoinedLaw, KeptLaw, Made, MergedLaw, SealedLaw, Source, all_of, at_entry, joined, merged_rows, one, since, sources}
+use Rattle.damage_laws.specs.Made.{AreMadeOf, FetchLaw, FindsIn, FoundOn, IsMadeOf, JoinedLaw, KeptLaw, Made, MergedLaw, SealedLaw, Source, all_of, at_entry, merged_rows, since, sources}
 use Rattle.damage_laws.proofs.Kept.{found_law}
-use Rattle.damage_laws.proofs.Opened.{IsFound, IsReady, Item, LeftBy, Opens, flat, flat-append, has_image, image_first, opens_both, opens_made, opens_nothing}
+use Rattle.damage_laws.proofs.Opened.{IsFound, IsReady, Item, LeftBy, Opens, flat, has_image, image_first, opens_both, opens_made, opens_nothing}
 
 pub kept_law : KeptLaw
 kept_law region_len entry now p u = record { each = λ id rows f. found_law region_len entry now p id rows u f }
@@ -170,10 +170,10 @@ module _ (region_len : ℕ) (entry : Image) (id : NodeId) where
   module _ (parts : List Part) (sealed : List (List Row)) (found : Content) (back : List Item) (leaves : found ≡ replay (base id) (flat back)) where
     by_since : IsReady back → IsSince sealed back → FoundOn region_len entry parts id sealed found
     by_since (inl image) l = inr (inl (λ c.
-      leaves ∙ ap (replay (base id)) l.rows
-      ∙ forgets (base id) (replay c (rows_of id (all_of l.before))) (rows_of id (all_of l.last)) (ap has_image (sym l.rows) ∙ image_in back image)
-      ∙ sym (replay-append c (rows_of id (all_of l.before)) (rows_of id (all_of l.last)))
-      ∙ ap (replay c) (sym (rows_of-append id (all_of l.before) (all_of l.last)) ∙ ap (rows_of id) (sym (all_of-append l.before l.last) ∙ ap all_of (sym l.whole)))))
+        leaves ∙ ap (replay (base id)) l.rows
+        ∙ forgets (base id) (replay c (rows_of id (all_of l.before))) (rows_of id (all_of l.last)) (ap has_image (sym l.rows) ∙ image_in back image)
+        ∙ sym (replay-append c (rows_of id (all_of l.before)) (rows_of id (all_of l.last)))
+        ∙ ap (replay c) (sym (rows_of-append id (all_of l.before) (all_of l.last)) ∙ ap (rows_of id) (sym (all_of-append l.before l.last) ∙ ap all_of (sym l.whole)))))
     by_since (inr fresh) l = inr (inr (l.before, l.last, l.whole, ap starts_afresh (sym l.rows) ∙ fresh, leaves ∙ ap (replay (base id)) l.rows))
 
     by_parts : (f : IsFrom parts sealed back) → (f.skipped ≡ []) ⊎ IsTrue (has_image_first f.read) ⊎ IsTrue (starts_afresh (flat_map (λ r. r.1) f.read)) → FoundOn region_len entry parts id sealed found

@@ -1,5 +1,5 @@
 -- Calls push the same rows by contents that have all nodes on their ways.
-use Rattle.std.proofs.Common.{◌≡◌, ◌≢◌, ◌⊎◌, inl, inr, ℕ, zero, suc, ◌+◌, ◌-◌, nat_lt, nat_le, Bool, true, false, cond, ◌&&◌, if◌then◌else◌, List, [], ◌∷◌, ◌++◌, Option, Some, None, is_some, refl, sym, ap, subst, ◌∙◌, true≢false, append_assoc, append-nil}
+use Rattle.std.proofs.Common.{◌≡◌, ◌≢◌, ◌⊎◌, inl, inr, ℕ, zero, suc, ◌+◌, ◌-◌, nat_lt, nat_le, true, cond, ◌&&◌, if◌then◌else◌, List, [], ◌∷◌, ◌++◌, Option, Some, None, is_some, refl, sym, ap, subst, ◌∙◌, true≢false, append_assoc, append-nil}
 use Rattle.std.specs.Prelude.{ℤ, Ok}
 use Rattle.fine_model.specs.declared.Call.{Call}
 use Rattle.fine_model.specs.declared.Call.TheVariants as call
@@ -15,13 +15,13 @@ use Rattle.fine_model.specs.Damages.{GoOnTo, with_rows}
 use Rattle.fine_model.specs.Map.{Pair, has}
 use Rattle.fine_model.specs.Nodes.{Content, replay, rows_of}
 use Rattle.fine_model.specs.Paths.{bounds_at, is_inner, kid_at, place_among, seps_of, unfit_from, unfit_under}
-use Rattle.fine_model.specs.Pushed.{Push, add_push, call_push, child_for, grown_inner, grown_leaf, growth, key_of, leaf_for, leaf_push, nothing_pushed, pairs_beside, row_of, set_push, with_head, within_limits}
+use Rattle.fine_model.specs.Pushed.{Push, add_push, call_push, child_for, grown_inner, grown_leaf, growth, leaf_for, leaf_push, nothing_pushed, pairs_beside, row_of, set_push, with_head, within_limits}
 use Rattle.fine_model.specs.Store.{answer}
-use Rattle.fine_model.specs.Trees.{Bounds, bucket_of, is_leaf, pairs_of, whole}
+use Rattle.fine_model.specs.Trees.{Bounds, is_leaf, pairs_of, whole}
 use Rattle.fine_model.proofs.NodeLaws.{broken_or_not, replay-append, replay_broken, rows_of-append}
 use Rattle.btree_nodes.proofs.Sound.{inner_whole, leaf_whole, passed}
 use Rattle.btree_nodes.proofs.Ways.{child_is}
-use Rattle.damage_laws.specs.Goings.{Extends, GoBy, GoesOnLaw, IsOnWay, LoadLaw, MoreLaw}
+use Rattle.damage_laws.specs.Goings.{Extends, GoesOnLaw, IsOnWay, LoadLaw, MoreLaw}
 
 some_none : {A : Type 0} {x : A} → Some x ≡ None → ⊥
 some_none e = true≢false (ap is_some e)
@@ -218,6 +218,6 @@ more_law bucket nodes (d ∷ ds) rows own c (first, others, is, of_d, pushed_d, 
   pushed_d,
   fit_d,
   more_law bucket (with_rows bucket nodes first) ds others own c goes of_bucket
-  (subst (λ ns. within_limits (call_push bucket ns c) ≡ Ok own) (sym (with_both bucket nodes first others rows is)) pushed)
-  (subst (λ ns. IsOnWay bucket ns c) (sym (with_both bucket nodes first others rows is)) fit),
+      (subst (λ ns. within_limits (call_push bucket ns c) ≡ Ok own) (sym (with_both bucket nodes first others rows is)) pushed)
+      (subst (λ ns. IsOnWay bucket ns c) (sym (with_both bucket nodes first others rows is)) fit),
 )

@@ -1,16 +1,14 @@
 -- Parts that are kept have the bytes that they had at entry.
 use Rattle.std.proofs.Common.{◌≡◌, ◌⊎◌, inl, inr, ℕ, List, [], ◌∷◌, ◌++◌, drop, Option, Some, Ok, Err, refl, sym, ap, ◌∙◌, subst}
-use Rattle.std.specs.Prelude.{Result, Any, Contains, flat_map}
+use Rattle.std.specs.Prelude.{Result, Contains, flat_map}
 use Rattle.std.specs.List.{AllByRecursion}
 use Rattle.std.proofs.lemmas.List.Elements.{All-contains, All-from_recursion}
 use Rattle.log_disk.specs.Disk.{Eye}
 use Rattle.fine_model.specs.declared.Header.{Header}
-use Rattle.fine_model.specs.declared.NodeId.{NodeId}
 use Rattle.fine_model.specs.declared.Part.{Part}
-use Rattle.fine_model.specs.declared.Row.{Row}
 use Rattle.fine_model.specs.Chain.{regions_of}
-use Rattle.fine_model.specs.Damages.{HasBadPlace, HasBadRowInSpan, HasBadSpan, HasEntryWith, IsBadPlace, LacksEntry}
-use Rattle.fine_model.specs.Regions.{HasHeader, HoldsBadItem, Image, IsBadItem, IsSealed, Place, body_in, body_start, continuations, place_of, region_of}
+use Rattle.fine_model.specs.Damages.{HasBadPlace, HasEntryWith, IsBadPlace, LacksEntry}
+use Rattle.fine_model.specs.Regions.{HasHeader, HoldsBadItem, Image, IsBadItem, Place, body_in, body_start, continuations, place_of, region_of}
 use Rattle.fine_model.specs.Seek.{IsBadInSpan, entry_at, span_at}
 use Rattle.fine_model.proofs.Owning.{own_law}
 use Rattle.node_fetch.specs.Fetched.{HasBadEntry, HasBadRow}

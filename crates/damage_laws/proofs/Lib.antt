@@ -3,3 +3,5 @@ pub mod SameUnfit
 pub mod SamePushes
 pub mod Opened
 pub mod MergedFinds
+pub mod GoodFinds
+pub mod Meeting

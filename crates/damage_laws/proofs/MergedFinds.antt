@@ -1,24 +1,25 @@
 -- What is found of a node by the parts that are there now, by the bytes at entry.
-use Rattle.std.proofs.Common.{◌≡◌, ◌⊎◌, inl, inr, ℕ, Bool, true, false, List, [], ◌∷◌, ◌++◌, map, refl, sym, ap, subst, ◌∙◌, true≢false, ◌||◌, append_assoc}
+use Rattle.std.proofs.Common.{◌≡◌, ◌⊎◌, inl, inr, ℕ, true, List, [], ◌∷◌, ◌++◌, map, refl, sym, ap, subst, ◌∙◌, true≢false, ◌||◌, append_assoc}
 use Rattle.std.specs.Prelude.{flat_map, IsTrue}
 use Rattle.std.proofs.lemmas.Grind.{flat_map-append}
 use Rattle.std.proofs.lemmas.List.{map-append}
 use Rattle.std.proofs.lemmas.List.Folds.{list_any-append}
-use Rattle.std.specs.List.{AllByRecursion, list_any}
+use Rattle.std.specs.List.{AllByRecursion}
 use Rattle.fine_model.proofs.MergedRows.{rows_of-merged}
 use Rattle.fine_model.proofs.NodeLaws.{replay-append, rows_of-append}
 use Rattle.fine_model.proofs.Zip.{all_right}
 use Rattle.fine_model.specs.declared.NodeId.{NodeId}
 use Rattle.fine_model.specs.declared.Part.{Part}
 use Rattle.fine_model.specs.declared.Row.{Row}
-use Rattle.fine_model.specs.Damages.{FindsContent, FindsMerged, FindsRows, has_image_first}
+use Rattle.fine_model.specs.Damages.{FindsContent, FindsRows, has_image_first}
 use Rattle.fine_model.specs.Merge.{is_image, merged, merged_node, starts_afresh}
 use Rattle.fine_model.specs.Nodes.{Content, base, content, replay, rows_of}
 use Rattle.fine_model.specs.Regions.{Image}
+use Rattle.node_fetch.proofs.Blames as blames
 use Rattle.node_fetch.proofs.Parts.{forgets}
-use Rattle.damage_laws.specs.Made.{AreMadeOf, FindsIn, FoundOn, HasRows, IsMadeOf, JoinedLaw, KeptLaw, Made, MergedLaw, SealedLaw, Source, all_of, at_entry, joined, merged_rows, one, since, sources}
+use Rattle.damage_laws.specs.Made.{AreMadeOf, FetchLaw, FindsIn, FoundOn, IsMadeOf, JoinedLaw, KeptLaw, Made, MergedLaw, SealedLaw, Source, all_of, at_entry, merged_rows, since, sources}
 use Rattle.damage_laws.proofs.Kept.{found_law}
-use Rattle.damage_laws.proofs.Opened.{IsFound, IsReady, Item, LeftBy, Opens, flat, flat-append, has_image, image_first, opens_both, opens_made, opens_nothing}
+use Rattle.damage_laws.proofs.Opened.{IsFound, IsReady, Item, LeftBy, Opens, flat, has_image, image_first, opens_both, opens_made, opens_nothing}
 
 pub kept_law : KeptLaw
 kept_law region_len entry now p u = record { each = λ id rows f. found_law region_len entry now p id rows u f }
@@ -46,7 +47,7 @@ tail_same x y xs ys e = cc
 not_empty : {A : Type 0} (x : A) (xs : List A) → x ∷ xs ≡ [] → ⊥
 not_empty x xs e = cc
 
-all_of-append : (a b : List (List Row)) → all_of (a ++ b) ≡ all_of a ++ all_of b
+pub all_of-append : (a b : List (List Row)) → all_of (a ++ b) ≡ all_of a ++ all_of b
 all_of-append a b = flat_map-append (λ (rows : List Row). rows) a b
 
 -- ---- the parts that were read
@@ -239,3 +240,6 @@ module _ (region_len : ℕ) (entry : Image) (id : NodeId) where
 
 pub merged_law : MergedLaw
 merged_law region_len entry now parts present sealed id found made finds = by_why region_len entry id now parts present sealed found made finds finds.why
+
+pub fetch_law : FetchLaw
+fetch_law eye entry now parts present sealed id found told made read = merged_law eye.region_len entry now parts present sealed id found made (blames.found_law eye now present id found told read)

@@ -1,5 +1,5 @@
 -- Calls push the same rows by contents that have all nodes on their ways.
-use Rattle.std.proofs.Common.{◌≡◌, ◌≢◌, ◌⊎◌, inl, inr, ℕ, zero, suc, ◌+◌, ◌-◌, nat_lt, nat_le, Bool, true, false, cond, ◌&&◌, if◌then◌else◌, List, [], ◌∷◌, ◌++◌, Option, Some, None, is_some, refl, sym, ap, subst, ◌∙◌, true≢false, append_assoc, append-nil}
+use Rattle.std.proofs.Common.{◌≡◌, ◌≢◌, ◌⊎◌, inl, inr, ℕ, zero, suc, ◌+◌, ◌-◌, nat_lt, nat_le, true, cond, ◌&&◌, if◌then◌else◌, List, [], ◌∷◌, ◌++◌, Option, Some, None, is_some, refl, sym, ap, subst, ◌∙◌, true≢false, append_assoc, append-nil}
 use Rattle.std.specs.Prelude.{ℤ, Ok}
 use Rattle.fine_model.specs.declared.Call.{Call}
 use Rattle.fine_model.specs.declared.Call.TheVariants as call
@@ -15,13 +15,13 @@ use Rattle.fine_model.specs.Damages.{GoOnTo, with_rows}
 use Rattle.fine_model.specs.Map.{Pair, has}
 use Rattle.fine_model.specs.Nodes.{Content, replay, rows_of}
 use Rattle.fine_model.specs.Paths.{bounds_at, is_inner, kid_at, place_among, seps_of, unfit_from, unfit_under}
-use Rattle.fine_model.specs.Pushed.{Push, add_push, call_push, child_for, grown_inner, grown_leaf, growth, key_of, leaf_for, leaf_push, nothing_pushed, pairs_beside, row_of, set_push, with_head, within_limits}
+use Rattle.fine_model.specs.Pushed.{Push, add_push, call_push, child_for, grown_inner, grown_leaf, growth, leaf_for, leaf_push, nothing_pushed, pairs_beside, row_of, set_push, with_head, within_limits}
 use Rattle.fine_model.specs.Store.{answer}
-use Rattle.fine_model.specs.Trees.{Bounds, bucket_of, is_leaf, pairs_of, whole}
+use Rattle.fine_model.specs.Trees.{Bounds, is_leaf, pairs_of, whole}
 use Rattle.fine_model.proofs.NodeLaws.{broken_or_not, replay-append, replay_broken, rows_of-append}
 use Rattle.btree_nodes.proofs.Sound.{inner_whole, leaf_whole, passed}
 use Rattle.btree_nodes.proofs.Ways.{child_is}
-use Rattle.damage_laws.specs.Goings.{Extends, GoBy, GoesOnLaw, IsOnWay, LoadLaw, MoreLaw}
+use Rattle.damage_laws.specs.Goings.{Extends, GoesOnLaw, IsOnWay, LoadLaw, MoreLaw}
 
 some_none : {A : Type 0} {x : A} → Some x ≡ None → ⊥
 some_none e = true≢false (ap is_some e)
@@ -132,7 +132,7 @@ module _ (bucket : ℕ) (a b : ℕ → Content) (extends : Extends a b) where
     add_same by pairs (write.Set k text ∷ ws) = λ i. if has pairs key then leaf_same (rec.Plus key by) i else set_same text i
     add_same by pairs (write.Unset k ∷ ws) = refl
 
-  push_same : (c : Call) → IsOnWay bucket a c → call_push bucket b c ≡ call_push bucket a c
+  pub push_same : (c : Call) → IsOnWay bucket a c → call_push bucket b c ≡ call_push bucket a c
   unfolding call_push
   push_same (call.Get key) fit = refl
   push_same (call.Put key value) fit = set_same key (head_of bucket a key fit) value
@@ -143,12 +143,12 @@ module _ (bucket : ℕ) (a b : ℕ → Content) (extends : Extends a b) where
       ∙ add_same key h by (pairs_beside a key (a 0).0) (answer (pairs_beside a key (a 0).0) (call.Add key by)).1
   push_same (call.Scan low high limit) fit = refl
 
-  on_way : (c : Call) → IsOnWay bucket a c → IsOnWay bucket b c
-  on_way (call.Get key) fit = fit_same key (head_of bucket a key fit)
-  on_way (call.Put key value) fit = fit_same key (head_of bucket a key fit)
-  on_way (call.Del key) fit = fit_same key (head_of bucket a key fit)
-  on_way (call.Add key by) fit = fit_same key (head_of bucket a key fit)
-  on_way (call.Scan low high limit) fit = tt
+  pub still_on_way : (c : Call) → IsOnWay bucket a c → IsOnWay bucket b c
+  still_on_way (call.Get key) fit = fit_same key (head_of bucket a key fit)
+  still_on_way (call.Put key value) fit = fit_same key (head_of bucket a key fit)
+  still_on_way (call.Del key) fit = fit_same key (head_of bucket a key fit)
+  still_on_way (call.Add key by) fit = fit_same key (head_of bucket a key fit)
+  still_on_way (call.Scan low high limit) fit = tt
 
   -- what has all nodes that are not broken has them behind rows too
   extends_on : (rows : List Row) → Extends (with_rows bucket a rows) (with_rows bucket b rows)
@@ -173,13 +173,13 @@ load_law bucket some more (c ∷ cs) rows extends (own, others, is, of_bucket, p
   is,
   of_bucket,
   ap within_limits (push_same bucket some more extends c fit) ∙ pushed,
-  on_way bucket some more extends c fit,
+  still_on_way bucket some more extends c fit,
   load_law bucket (with_rows bucket some own) (with_rows bucket more own) cs others (extends_on bucket some more extends own) goes,
 )
 
 -- ---- what calls go on to
 
-with_both : (bucket : ℕ) (nodes : ℕ → Content) (own more rows : List Row) → rows ≡ own ++ more → ◌≡◌ {A = ℕ → Content} (with_rows bucket (with_rows bucket nodes own) more) (with_rows bucket nodes rows)
+pub with_both : (bucket : ℕ) (nodes : ℕ → Content) (own more rows : List Row) → rows ≡ own ++ more → ◌≡◌ {A = ℕ → Content} (with_rows bucket (with_rows bucket nodes own) more) (with_rows bucket nodes rows)
 with_both bucket nodes own more rows is = λ i number. each number i
   where
     each : (number : ℕ) → with_rows bucket (with_rows bucket nodes own) more number ≡ with_rows bucket nodes rows number

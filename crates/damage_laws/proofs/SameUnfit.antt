@@ -5,10 +5,9 @@ use Rattle.std.specs.Prelude.{Result, Ok, Err}
 use Rattle.fine_model.specs.declared.Call.TheVariants as call
 use Rattle.fine_model.specs.declared.Node.{Node}
 use Rattle.fine_model.specs.declared.Node.TheVariants as node
-use Rattle.fine_model.specs.declared.NodeId.{NodeId}
 use Rattle.fine_model.specs.Map.{is_below, between}
 use Rattle.fine_model.specs.Nodes.{Content}
-use Rattle.fine_model.specs.Trees.{Bounds, whole, is_leaf, kids_of, pairs_of, bucket_of}
+use Rattle.fine_model.specs.Trees.{Bounds, whole, is_leaf, kids_of, pairs_of}
 use Rattle.fine_model.specs.Paths.{is_inner, place_among, bounds_at, seps_of, kid_at, unfit_from, unfit_under, meets, scan_kids, scan_from, unfit_between}
 use Rattle.node_cache.specs.Given.{given}
 use Rattle.damage_laws.specs.Looks.{KeyLaw, LookLaw, ScanLaw}

@@ -2,3 +2,4 @@ pub mod Places
 pub mod Looks
 pub mod Goings
 pub mod Made
+pub mod Meets

@@ -1,6 +1,7 @@
 -- What the parts that are there now were made of, and what is found in them by the bytes at entry. Each law is the contract of a function.
-use Rattle.std.specs.Prelude.{◌≡◌, ◌⊎◌, ℕ, IsTrue, List, [], ◌∷◌, ◌++◌, map, flat_map}
+use Rattle.std.specs.Prelude.{◌≡◌, ◌⊎◌, ℕ, IsTrue, List, [], ◌∷◌, ◌++◌, map, flat_map, Some}
 use Rattle.std.specs.List.{AllByRecursion}
+use Rattle.log_disk.specs.Disk.{Eye}
 use Rattle.fine_model.specs.declared.NodeId.{NodeId}
 use Rattle.fine_model.specs.declared.Part.{Part}
 use Rattle.fine_model.specs.declared.Row.{Row}
@@ -9,6 +10,9 @@ use Rattle.fine_model.specs.Merge.{image_of, merged, merged_into, starts_afresh}
 use Rattle.fine_model.specs.Nodes.{Content, base, replay, rows_of}
 use Rattle.fine_model.specs.Regions.{Image, HasHeader, IsSealed}
 use Rattle.fine_model.specs.VersionLaws.{HaveSameRows}
+use Rattle.node_fetch.specs.Fetched.{IsReplayOf}
+use Rattle.partition_index.specs.Parts.{IsSeen}
+use Rattle.partition_index.specs.Search.{TellsRows}
 use Rattle.damage_laws.specs.Places.{IsUnchanged}
 
 -- a part at entry, or rows that were sealed since
@@ -68,6 +72,13 @@ SealedLaw =
 abbrev pub AreRowsAs : ℕ → Image → Made → List Row → Type 0
 AreRowsAs region_len entry m rows = (id : NodeId) → HasRows region_len entry id m (rows_of id rows)
 
+-- so a part that is unchanged, where an eye tells it in the grammar with these rows, and so rows that were sealed
+abbrev pub KeptRowsLaw : Type 0
+KeptRowsLaw = (eye : Eye) (entry : Image) (p : Part) (rows : List Row) → IsSeen eye p → (t : TellsRows eye p rows) → IsUnchanged eye.region_len entry t.image p → AreRowsAs eye.region_len entry (one (at_entry p)) rows
+
+abbrev pub SealedRowsLaw : Type 0
+SealedRowsLaw = (region_len : ℕ) (entry : Image) (own rows : List Row) → HaveSameRows own rows → AreRowsAs region_len entry (one (since own)) rows
+
 -- one that was merged of two lists of such rows has what they are merged into
 abbrev pub JoinedLaw : Type 0
 JoinedLaw =
@@ -89,8 +100,14 @@ FoundOn region_len entry parts id sealed found =
     ⊎ ((c : Content) → found ≡ replay c (rows_of id (all_of sealed)))
     ⊎ ((front back : List (List Row)) × (sealed ≡ front ++ back) × IsTrue (starts_afresh (rows_of id (all_of back))) × (found ≡ replay (base id) (rows_of id (all_of back))))
 
--- What is found of a node by such parts.
+-- what is found of a node by such parts
 abbrev pub MergedLaw : Type 0
 MergedLaw =
     (region_len : ℕ) (entry now : Image) (parts present : List Part) (sealed : List (List Row)) (id : NodeId) (found : Content) → AreMadeOf region_len entry now parts sealed present
     → FindsContent region_len now present id found → FoundOn region_len entry parts id sealed found
+
+-- and by an eye that tells their bytes
+abbrev pub FetchLaw : Type 0
+FetchLaw =
+    (eye : Eye) (entry now : Image) (parts present : List Part) (sealed : List (List Row)) (id : NodeId) (found : Content) → eye.told ≡ Some now → AreMadeOf eye.region_len entry now parts sealed present
+    → IsReplayOf eye present id found → FoundOn eye.region_len entry parts id sealed found

@@ -2,7 +2,8 @@
 
 ghost use Rattle.damage_laws.specs.Goings.{GoesOnLaw, LoadLaw, MoreLaw};
 ghost use Rattle.damage_laws.specs.Looks.{KeyLaw, LookLaw, ScanLaw};
-ghost use Rattle.damage_laws.specs.Made.{JoinedLaw, KeptLaw, MergedLaw, SealedLaw};
+ghost use Rattle.damage_laws.specs.Made.{FetchLaw, JoinedLaw, KeptLaw, KeptRowsLaw, MergedLaw, SealedLaw, SealedRowsLaw};
+ghost use Rattle.damage_laws.specs.Meets.{CallLaw, FewerLaw, FreshLaw, LoadedLaw, MeetsLaw, NewLaw, SameLaw};
 ghost use Rattle.damage_laws.specs.Places.{BodyLaw, EntryLaw, FoundLaw, PlaceLaw, RowLaw};
 
 /// What a fetch blames of the parts that are there now is a bad place of a part at entry, where each of them is one of these, with the
@@ -36,6 +37,23 @@ pub fn going_law()
 pub fn made_law()
     ensures kept { KeptLaw }
     ensures sealed { SealedLaw }
+    ensures kept_rows { KeptRowsLaw }
+    ensures sealed_rows { SealedRowsLaw }
     ensures joined { JoinedLaw }
     ensures merged { MergedLaw }
+    ensures fetch { FetchLaw }
+{}
+
+/// What a bucket gives is what is found by the bytes at entry, gone on by calls: so it is of a new bucket, behind a call more, with fewer nodes cached, and
+/// once a node was loaded of which nothing was found before. A node that a look then names as unfit is one that the run meets unfit, whether the run reads all at
+/// its end or not.
+pub fn meets_law()
+    ensures new { NewLaw }
+    ensures call { CallLaw }
+    ensures fewer { FewerLaw }
+    ensures loaded { LoadedLaw }
+    ensures same { SameLaw }
+    ensures fresh { FreshLaw }
+    ensures meets { MeetsLaw ⊥ }
+    ensures meets_all { MeetsLaw (Unit {0}) }
 {}

@@ -1,5 +1,5 @@
 -- Loads through a view that is out, and what the live parts tell.
-use Rattle.std.proofs.Common.{◌≡◌, ◌∙◌, inl, ℕ, ◌+◌, ◌≤◌, min, true, List, Option, Some, None, sym, ap, subst, arith}
+use Rattle.std.proofs.Common.{◌≡◌, ◌∙◌, inl, ℕ, ◌+◌, ◌≤◌, true, List, Option, Some, None, sym, ap, subst, arith}
 use Rattle.std.specs.Prelude.{Any, Contains, IfSome, option_map, slice_get, slice_set}
 use Rattle.std.specs.List.{AllByRecursion, list_all}
 use Rattle.fine_model.specs.declared.FetchFault.{FetchFault}
@@ -9,7 +9,7 @@ use Rattle.fine_model.specs.declared.Row.{Row}
 use Rattle.fine_model.specs.declared.law.RoomState.{RoomState}
 use Rattle.fine_model.specs.Boards.{buffer_at, is_empty, set_of}
 use Rattle.fine_model.specs.Chain.{regions_of}
-use Rattle.fine_model.specs.Faults.{HasRisen, last_count}
+use Rattle.fine_model.specs.Faults.{HasRisen}
 use Rattle.fine_model.specs.Regions.{HasHeader, Image}
 use Rattle.fine_model.specs.Views.{SameSeen, TellsRowsOf}
 use Rattle.fine_model.proofs.Owning.{tells_alike}
@@ -37,10 +37,7 @@ tells_law room view rows out sees told =
 
 -- ---- loads
 
-more : (d a b m : ℕ) → a ≤ b → min (d + a) m ≤ min (d + b) m
-more d a b m low = grind (arith, low)
-
-rises : (d a b : ℕ) → HasRisen a b → HasRisen (min (d + a) last_count) (min (d + b) last_count)
+rises : (d a b : ℕ) → HasRisen a b → HasRisen (d + a) (d + b)
 rises d a b r = grind (arith, r)
 
 risen : (a b c : ℕ) → a ≤ b → HasRisen b c → HasRisen a c
@@ -76,7 +73,7 @@ module _ (old : RoomValue) (out : Option ViewValue) (new : RoomValue) (view read
   }
 
   grows : total (shelf new (Some view)) ≤ total (shelf new (Some read))
-  grows = more new.disk.faults view.eye.faults read.eye.faults last_count later.no_lower
+  grows = let low = later.no_lower in omega (arith, low)
 
   is_later : IsLater (shelf old out) (shelf new (Some read))
   is_later = record {
@@ -88,11 +85,10 @@ module _ (old : RoomValue) (out : Option ViewValue) (new : RoomValue) (view read
     region_len = has.later.region_len;
     stands = has.later.stands;
     becomes = has.later.becomes;
-    no_lower = let a = has.later.no_lower in let b = grows in omega (arith, a, b);
   }
 
   clean : source.IsClean view read → IsClean (shelf old out) (shelf new (Some read))
-  clean same = record { count = ap (λ n. min (new.disk.faults + n) last_count) same ∙ has.clean.count; own = has.clean.own; shut = has.clean.shut }
+  clean same = record { count = ap (λ n. new.disk.faults + n) same ∙ has.clean.count; own = has.clean.own; shut = has.clean.shut }
 
   -- what is said of the view's parts is said of the live parts as the shelf was
   image_same : new.room.image ≡ old.room.image
@@ -118,7 +114,7 @@ module _ (old : RoomValue) (out : Option ViewValue) (new : RoomValue) (view read
       (tells_alike sees_old.regions old.room.image view.eye.told old.room.region_len old.room.parts rows sees_old.same sees_old.named told))
 
   fails : (fault : FetchFault) → source.Fails view fault read → Fails (shelf old out) fault (shelf new (Some read))
-  fails fetch_fault.Failed f = inl (risen (total (shelf old out)) (total (shelf new (Some view))) (total (shelf new (Some read))) has.later.no_lower (rises new.disk.faults view.eye.faults read.eye.faults f))
+  fails fetch_fault.Failed f = inl (risen (total (shelf old out)) (total (shelf new (Some view))) (total (shelf new (Some read))) (let e = has.clean.count in omega (arith, e)) (rises new.disk.faults view.eye.faults read.eye.faults f))
   fails (fetch_fault.BadRow region at) f = (
     tells_none f.0,
     (
@@ -148,6 +144,9 @@ reads_law old out new view read has later = record {
   is_out = is_out old out new view read has later;
   sees = sees old out new view read has later;
   later = is_later old out new view read has later;
+  no_lower = let e = has.clean.count in let g = grows old out new view read has later in omega (arith, e, g);
+  own = has.clean.own;
+  shut = has.clean.shut;
   fails = fails old out new view read has later;
 }
 

@@ -1,11 +1,10 @@
 -- A view that is out, or was made, and one that is taken back.
-use Rattle.std.proofs.Common.{◌≡◌, ◌∙◌, ℕ, zero, suc, ◌+◌, min, true, List, [], ◌∷◌, Option, Some, None, refl, sym, ap, subst, arith, true≢false}
+use Rattle.std.proofs.Common.{◌≡◌, ◌∙◌, ℕ, zero, suc, true, List, [], ◌∷◌, Option, Some, None, refl, sym, ap, subst, arith, true≢false}
 use Rattle.std.specs.Prelude.{Contains, option_map, slice_get, slice_set}
 use Rattle.std.specs.List.{AllByRecursion, list_all}
 use Rattle.fine_model.specs.declared.law.RoomState.{RoomState}
 use Rattle.fine_model.specs.Boards.{Buffer, buffer_at, is_empty, set_of}
 use Rattle.fine_model.specs.Chain.{regions_of}
-use Rattle.fine_model.specs.Faults.{last_count}
 use Rattle.log_disk.specs.Disk.{Disk, Told}
 use Rattle.partition_hold.specs.Views.{IsView, ViewValue, opened}
 use Rattle.partition_hold.proofs.ViewLemmas.{view_names}
@@ -63,7 +62,7 @@ sees_of room view whole is_view out = record {
 }
 
 later_itself : (s : ShelfValue) → IsLater s s
-later_itself s = record { room = refl; target = refl; entry = refl; told = refl; regions = refl; region_len = refl; stands = λ first e history h. h; becomes = becomes_itself s.room.room; no_lower = omega arith }
+later_itself s = record { room = refl; target = refl; entry = refl; told = refl; regions = refl; region_len = refl; stands = λ first e history h. h; becomes = becomes_itself s.room.room }
 
 pub still_out : (room : RoomValue) (out : Option ViewValue) (view : ViewValue) → out ≡ Some view → IsShelf room.room out → IsWhole room → IsView view → HasView room out room view
 still_out room out view is on_shelf whole is_view = subst (λ o. HasView room o room view) (sym is) (record {
@@ -75,9 +74,6 @@ still_out room out view is on_shelf whole is_view = subst (λ o. HasView room o 
   where
     there : IsOut room.room view
     there = subst (IsShelf room.room) is on_shelf
-
-count_same : (a b c : ℕ) → b ≡ a → c ≡ 0 → min (b + c) last_count ≡ min (a + 0) last_count
-count_same a b c same none = let e : b + c ≡ a + 0 = omega (arith, same, none) in ap (λ n. min n last_count) e
 
 pub made_out : (old : RoomValue) (out : Option ViewValue) (new : RoomValue) (view : ViewValue) → out ≡ None → IsShelf old.room out → IsWhole old → IsWhole new → IsView view → Views old new 1 view → Keeps old new → HasView old out new view
 made_out old out new view is on_shelf whole whole_new is_view v keeps = subst (λ o. HasView old o new view) (sym is) (record {
@@ -92,7 +88,6 @@ made_out old out new view is on_shelf whole whole_new is_view v keeps = subst (�
     region_len = v.posts.1.region_len;
     stands = keeps.stands;
     becomes = keeps.becomes;
-    no_lower = let e = count in omega (arith, e);
   };
   clean = record { count = count; own = v.posts.2.own_faults; shut = ap (λ (r : RoomState). r.is_shut) v.posts.1.room };
 })
@@ -107,7 +102,7 @@ made_out old out new view is on_shelf whole whole_new is_view v keeps = subst (�
     same = same_log old.room (slice_set old.room.board (buffer_at 1 view.buffer) (Some (opened view.eye))) old.disk new.disk new.room whole.of_disk v.opens.told v.opens.others.0 v.opens.others.1 v.posts.1.room
 
     count : total (shelf new (Some view)) ≡ total (shelf old None)
-    count = count_same old.disk.faults new.disk.faults view.eye.faults v.opens.others.3 v.opens.fresh.0
+    count = let a = v.opens.others.3 in let b = v.opens.fresh.0 in omega (arith, a, b)
 
     there : IsOut new.room view
     there = record {

@@ -59,13 +59,13 @@ pub record SeesLive (room : RoomState) (eye : Eye) : Type 0 where
 
 -- ---- what loads change
 
--- the count of all faults, that of the view that is out included, which goes to the disk's as the view is taken back
+-- the count of all faults, that of the view that is out included, which is added to the disk's as the view is taken back
 abbrev pub count_of : Option ViewValue → ℕ
 count_of None = 0
 count_of (Some view) = view.eye.faults
 
 abbrev pub total : ShelfValue → ℕ
-total s = min (s.room.disk.faults + count_of s.view) last_count
+total s = s.room.disk.faults + count_of s.view
 
 -- the board, the eyes and the counts of another state, and whether it was shut
 abbrev pub seen_as : RoomState → RoomState → RoomState
@@ -81,7 +81,6 @@ pub record IsLater (old new : ShelfValue) : Type 0 where
   pub region_len : new.room.disk.region_len ≡ old.room.disk.region_len
   pub stands : GoesOnStanding old.room new.room
   pub becomes : Becomes old.room.room new.room.room
-  pub no_lower : total old ≤ total new
 
 -- and none of these loads failed
 pub record IsClean (old new : ShelfValue) : Type 0 where
@@ -127,16 +126,23 @@ pub record LacksView (old : RoomValue) (out : Option ViewValue) (new : RoomValue
   pub board : list_all is_empty new.room.board ≡ true
   pub later : IsLater (shelf old out) (shelf new None)
   pub why : WhyNone fault old new
+  pub no_lower : total (shelf old out) ≤ total (shelf new None)
 
 abbrev pub ViewOr : RoomValue → Option ViewValue → RoomValue → Result ViewValue FetchFault → Type 0
 ViewOr old out new (Ok view) = HasView old out new view
 ViewOr old out new (Err fault) = LacksView old out new fault
 
+-- a count as it is, or as it stands still at its last value
+abbrev pub IsCountOf : ℕ → ℕ → Type 0
+IsCountOf count now = (now ≡ count) ⊎ (now ≡ min count last_count)
+
 -- the view was taken back, if one was out, which changes nothing else
 pub record Rests (old : RoomValue) (out : Option ViewValue) (new : RoomValue) : Type 0 where
   pub board : list_all is_empty new.room.board ≡ true
   pub later : IsLater (shelf old out) (shelf new None)
-  pub clean : IsClean (shelf old out) (shelf new None)
+  pub count : IsCountOf (total (shelf old out)) new.disk.faults
+  pub own : new.disk.own_faults ≡ old.disk.own_faults
+  pub shut : new.room.is_shut ≡ old.room.is_shut
 
 -- ---- laws
 
@@ -146,6 +152,9 @@ pub record ReadsOn (old : RoomValue) (out : Option ViewValue) (new : RoomValue) 
   pub is_out : IsOut new.room read
   pub sees : SeesLive new.room read.eye
   pub later : IsLater (shelf old out) (shelf new (Some read))
+  pub no_lower : total (shelf old out) ≤ total (shelf new (Some read))
+  pub own : new.disk.own_faults ≡ old.disk.own_faults
+  pub shut : new.room.is_shut ≡ old.room.is_shut
   pub fails : (fault : FetchFault) → source.Fails view fault read → Fails (shelf old out) fault (shelf new (Some read))
 
 abbrev pub ReadsLaw : Type 0

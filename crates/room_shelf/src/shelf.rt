@@ -39,7 +39,7 @@ pub fn view_of<D: LogDisk>(
     }
 }
 
-/// Takes the view back, if one is out. The count of its failed reads goes to the disk's, and nothing else is changed, so that the room may be written.
+/// Takes the view back, if one is out. The count of its failed reads is added to the disk's, and nothing else is changed, so that the room may be written.
 pub fn rest<D: LogDisk>(room: &mut Room<D>, out: Option<View<D::Eye>>)
     requires shelf { IsShelf room.old.room out }
     ensures { Rests room.old out room.new }

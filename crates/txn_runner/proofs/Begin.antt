@@ -1,7 +1,6 @@
 -- That the body on one thread begins.
-use Rattle.std.proofs.Common.{◌≡◌, ◌⊎◌, inl, inr, ⊎_elim, ℕ, zero, suc, ◌+◌, ◌-◌, ◌<◌, ◌≤◌, nat_le, false, true, List, [], length, refl, sym, ap, ◌∙◌, Option, Some, None, arith}
+use Rattle.std.proofs.Common.{◌≡◌, inl, inr, ℕ, zero, suc, ◌+◌, ◌-◌, ◌≤◌, false, true, List, [], length, refl, sym, ap, ◌∙◌, Option, Some, None, arith}
 use Rattle.std.specs.Prelude.{Contains, min, replicate, slice_get}
-use Rattle.std.proofs.lemmas.Bool.Decides.{leb_tells}
 use Rattle.fine_model.specs.declared.Options.{Options}
 use Rattle.fine_model.specs.declared.Outcome.{Outcome}
 use Rattle.fine_model.specs.declared.Outcome.TheVariants as outcome
@@ -29,10 +28,10 @@ only_none (suc n) x (suc k, within, is) = only_none n x (k, omega (arith, within
 nothing_at : {P : Type 0} (i : ℕ) (o : Outcome) → slice_get [] i ≡ Some o → P
 nothing_at i o is = absurd (let e : ◌≡◌ {A = Option Outcome} None (Some o) = is in cc)
 
-at_least : (a m : ℕ) → (0 + a ≤ min (a + 0) m) ⊎ (m ≤ min (a + 0) m)
-at_least a m = ⊎_elim (λ (is : (nat_le a m ≡ true) × (a ≤ m)). let le = is.1 in inl (omega (arith, le))) (λ (is : (nat_le a m ≡ false) × (m < a)). let le = is.1 in inr (omega (arith, le))) (leb_tells a m)
+at_least : (a : ℕ) → 0 + a ≤ a + 0
+at_least a = omega arith
 
-none_out : (a m : ℕ) → min a m ≤ min (a + 0) m
+none_out : (a m : ℕ) → min a m ≤ a + 0
 none_out a m = grind arith
 
 module _ {B : Type 0} (stands_for : Origin → ℕ → ℕ → B → List Commit → Type 0) (script : List ScriptTxn) (options : Options) (entry : RoomValue) (buckets : List B) (ready : IsReady entry) (group : 1 ≤ options.group)
@@ -67,7 +66,7 @@ module _ {B : Type 0} (stands_for : Origin → ℕ → ℕ → B → List Commit
       lanes = refl;
       low = none_out entry.disk.faults last_count;
       all = λ fault there. there;
-      failed = inr (at_least entry.disk.faults last_count);
+      failed = inr (inl (at_least entry.disk.faults));
       only_risen = λ there. absurd (only_none 16 run_fault.Disk there);
       where_risen = λ risen. absurd (omega (arith, risen));
       shut = λ is. absurd (let e : false ≡ true = sym ready.not_shut ∙ is in cc);

@@ -8,6 +8,7 @@ pub mod Going
 pub mod Nothing
 pub mod Runs
 pub mod Soonest
+pub mod Stepping
 pub mod Steps
 pub mod Tellings
 pub mod Turns

@@ -41,7 +41,7 @@ long : {A : Type 0} (xs : List A) (x : A) → length (xs ++ x ∷ []) ≡ length
 long [] x = omega arith
 long (z ∷ xs) x = let h = long xs x in omega (arith, h)
 
-take_next : {A : Type 0} (i : ℕ) (xs : List A) (x : A) → slice_get xs i ≡ Some x → take (suc i) xs ≡ take i xs ++ x ∷ []
+pub take_next : {A : Type 0} (i : ℕ) (xs : List A) (x : A) → slice_get xs i ≡ Some x → take (suc i) xs ≡ take i xs ++ x ∷ []
 take_next i [] x is = none_at x is
 take_next zero (z ∷ xs) x is = let e : ◌≡◌ {A = Option _} (Some z) (Some x) = is in let same : z ≡ x = cc in ap (λ y. y ∷ []) same
 take_next (suc i) (z ∷ xs) x is = ap (λ ys. z ∷ ys) (take_next i xs x is)

@@ -19,6 +19,7 @@ use Rattle.fine_model.specs.Nodes.{Content}
 use Rattle.fine_model.proofs.Sets.{all_append}
 use Rattle.epoch_room.specs.Meaning.{origin_of}
 use Rattle.epoch_room.specs.Value.{RoomValue}
+use Rattle.room_shelf.specs.Shelves.{IsCountOf}
 use Rattle.txn_runner.specs.Lanes.{lanes_failed}
 use Rattle.txn_runner.specs.Runs.{IsReady, OwnRose}
 use Rattle.txn_runner.specs.SoFar.{AreTold, GoesOn}
@@ -80,14 +81,38 @@ more_by_lane ended lane fault long is none = record {
 own_later : (a b c : ℕ) → HasRisen a b → b ≤ c → HasRisen a c
 own_later a b c r low = grind (arith, r, low)
 
+still_low : (e count now : ℕ) → IsCountOf count now → min e last_count ≤ count → min e last_count ≤ now
+still_low e count now (inl same) low = omega (arith, same, low)
+still_low e count now (inr same) low = grind (arith, same, low)
+
+still_risen : (e count now : ℕ) → IsCountOf count now → HasRisen e count → HasRisen e now
+still_risen e count now (inl same) r = subst (HasRisen e) (sym same) r
+still_risen e count now (inr same) r = grind (arith, same, r)
+
+was_higher : (e count now : ℕ) → IsCountOf count now → e < now → e < count
+was_higher e count now (inl same) high = omega (arith, same, high)
+was_higher e count now (inr same) high = grind (arith, same, high)
+
+still_few : (few count now : ℕ) → IsCountOf count now → few ≤ count → (few ≤ now) ⊎ (last_count ≤ now)
+still_few few count now (inl same) low = inl (omega (arith, same, low))
+still_few few count now (inr same) low = by (nat_le count last_count) refl
+  where
+    by : (t : Bool) → nat_le count last_count ≡ t → (few ≤ now) ⊎ (last_count ≤ now)
+    by true h = inl (grind (arith, same, low, h))
+    by false h = inr (grind (arith, same, h))
+
+still_last : (count now : ℕ) → IsCountOf count now → last_count ≤ count → last_count ≤ now
+still_last count now (inl same) high = omega (arith, same, high)
+still_last count now (inr same) high = grind (arith, same, high)
+
 pub told_stays : ToldStays
 told_stays script entry old new count now ended told history same own shut t = record {
   lanes = t.lanes;
-  low = subst (λ n. min entry.disk.faults last_count ≤ n) (sym same) t.low;
+  low = still_low entry.disk.faults count now same t.low;
   all = t.all;
   failed = by t.failed;
-  only_risen = λ there. subst (HasRisen entry.disk.faults) (sym same) (t.only_risen there);
-  where_risen = λ risen. t.where_risen (subst (λ n. entry.disk.faults < n) same risen);
+  only_risen = λ there. still_risen entry.disk.faults count now same (t.only_risen there);
+  where_risen = λ risen. t.where_risen (was_higher entry.disk.faults count now same risen);
   shut = λ is. t.shut (sym shut ∙ is);
   unsound = t.unsound;
   names = t.names;
@@ -95,8 +120,8 @@ told_stays script entry old new count now ended told history same own shut t = r
   where
     by : OwnRose entry old ⊎ (lanes_failed ended + entry.disk.faults ≤ count) ⊎ (last_count ≤ count) → OwnRose entry new ⊎ (lanes_failed ended + entry.disk.faults ≤ now) ⊎ (last_count ≤ now)
     by (inl rose) = inl (own_later entry.disk.own_faults old.disk.own_faults new.disk.own_faults rose own)
-    by (inr (inl few)) = inr (inl (omega (arith, few, same)))
-    by (inr (inr high)) = inr (inr (omega (arith, high, same)))
+    by (inr (inl few)) = inr (still_few (lanes_failed ended + entry.disk.faults) count now same few)
+    by (inr (inr high)) = inr (inr (still_last count now same high))
 
 -- ---- a fault more
 

@@ -28,7 +28,7 @@ use Rattle.epoch_room.specs.Value.{RoomValue}
 use Rattle.epoch_room.specs.Whole.{IsWhole}
 use Rattle.partition_hold.specs.Views.{ViewValue}
 use Rattle.room_shelf.specs.Shelves.{IsShelf, shelf, total}
-use Rattle.txn_runner.specs.Lanes.{EndsLane, HaveEnded, IsLane, fault_of, first_fault, lanes_failed, most_lanes}
+use Rattle.txn_runner.specs.Lanes.{EndsLane, HaveEnded, IsLane, fault_of, first_fault, lanes_failed, most_lanes, none_ended}
 use Rattle.txn_runner.specs.Runs.{AreFewOfLanes, IsReady, IsReplied, OfSound, OwnRose, RunsLanes}
 use Rattle.txn_runner.specs.Turns.{AreNumbered, AreRefused, EndsLanes, RefusesBehind, commits_of}
 
@@ -135,6 +135,45 @@ module _ {B : Type 0} (stands_for : Origin → ℕ → ℕ → B → List Commit
     pub view : IsShelf s.room.room s.view
     pub buckets : (length s.buckets ≡ 256) × ((k : ℕ) (b : B) → slice_get s.buckets k ≡ Some b → stands_for (origin_of entry.entry) k s.room.room.sealed b (commits_of done))
 
+  -- The step of a transaction, behind the outcomes of those before it: the lanes that have ended are those behind it, and what holds of the room, the
+  -- faults and the buckets holds with its commit, if it has one.
+  pub record IsStep (script : List ScriptTxn) (options : Options) (i : ℕ) (entry : RoomValue) (done : List Outcome) (txn : ScriptTxn) (next : Outcome) (old new : Serial B) : Type 0 where
+    pub outcomes : new.outcomes ≡ slice_set old.outcomes i next
+    pub so_far : AreSoFar script i done new.ended
+    pub comes : ComesNext done new.ended txn next
+    pub goes_on : GoesOn entry new.room (commits_of done ++ commits_of (next ∷ []))
+    pub few : AreFewSoFar options.group new.room.room.sealed new.ended (commits_of done ++ commits_of (next ∷ []))
+    pub told : AreTold (take i script ++ txn ∷ []) entry new.room (total (shelf new.room new.view)) new.ended new.ended (commits_of done ++ commits_of (next ∷ []))
+    pub becomes : Becomes old.room.room new.room.room
+    pub most : new.room.room.sealed ≤ greatest
+    pub refused : (word : Why) → next ≡ outcome.Refused word → OfSound entry (λ first e. RefusesBehind new.room.room (first ++ all_rows (commits_of done)) txn.calls word)
+    pub stuck : new.full ≡ true → (old.full ≡ true) ⊎ OfSound entry (λ first e. IsStuck new.room.room)
+    pub view : IsShelf new.room.room new.view
+    pub buckets : (length new.buckets ≡ 256)
+        × ((k : ℕ) (b : B) → slice_get new.buckets k ≡ Some b → stands_for (origin_of entry.entry) k new.room.room.sealed b (commits_of done ++ commits_of (next ∷ [])))
+
+  -- on a room that is ready, with buckets that stand for no history, the body begins
+  abbrev pub BeginsLaw : Type 0
+  BeginsLaw =
+      (script : List ScriptTxn) (options : Options) (entry : RoomValue) (buckets : List B) → IsReady entry → 1 ≤ options.group → length buckets ≡ 256
+      → ((k : ℕ) (b : B) → slice_get buckets k ≡ Some b → stands_for (origin_of entry.entry) k entry.room.sealed b [])
+      → SoFar script options 0 entry (record { room = entry; view = None; buckets = buckets; full = false; ended = none_ended; outcomes = replicate (length script) outcome.NotRun })
+
+  -- the step of the next transaction keeps what holds of it
+  abbrev pub StepsLaw : Type 0
+  StepsLaw =
+      (script : List ScriptTxn) (options : Options) (entry : RoomValue) (i : ℕ) (txn : ScriptTxn) (next : Outcome) (old new : Serial B) (s : SoFar script options i entry old) → slice_get script i ≡ Some txn
+      → IsStep script options i entry s.done txn next old new → SoFar script options (i + 1) entry new
+
+-- what is done behind the last transaction: the view is taken back, and what waits is sealed, unless the room is shut
+pub record IsEnd (script : List ScriptTxn) (entry old room : RoomValue) (done : List Outcome) (ended told : List (Option RunFault)) : Type 0 where
+  pub goes_on : GoesOn entry room (commits_of done)
+  pub tells : AreTold script entry room room.disk.faults ended told (commits_of done)
+  pub becomes : Becomes old.room room.room
+  pub most : room.room.sealed ≤ greatest
+  pub board : list_all is_empty room.room.board ≡ true
+  pub sealed : room.room.is_shut ≡ false → ¬ Contains told (Some run_fault.Memory) → room.room.waiting ≡ 0
+
 -- At the end: the view was taken back, and what waited was sealed, unless the room is shut; `told` has the fault of this last seal too.
 pub record Finished (script : List ScriptTxn) (options : Options) (entry room : RoomValue) (done : List Outcome) (ended told : List (Option RunFault)) : Type 0 where
   pub so_far : AreSoFar script (length script) done ended
@@ -144,6 +183,13 @@ pub record Finished (script : List ScriptTxn) (options : Options) (entry room : 
   pub refused : OfSound entry (λ first e. AreRefused script done room.room first)
   pub board : list_all is_empty room.room.board ≡ true
   pub sealed : room.room.is_shut ≡ false → ¬ Contains told (Some run_fault.Memory) → room.room.waiting ≡ 0
+
+-- so it has where these are done
+module _ {B : Type 0} (stands_for : Origin → ℕ → ℕ → B → List Commit → Type 0) where
+  abbrev pub EndsLaw : Type 0
+  EndsLaw =
+      (script : List ScriptTxn) (options : Options) (entry : RoomValue) (s : Serial B) (room : RoomValue) (told : List (Option RunFault)) (so_far : SoFar stands_for script options (length script) entry s)
+      → IsEnd script entry s.room room so_far.done s.ended told → Finished script options entry room so_far.done s.ended told
 
 -- then it was a run
 abbrev pub FinishedLaw : Type 0

@@ -12,6 +12,7 @@ use Rattle.fine_model.specs.Damages.{IsDamageIn}
 use Rattle.fine_model.specs.Faults.{HasRisen, last_count}
 use Rattle.fine_model.specs.History.{Commit}
 use Rattle.epoch_room.specs.Value.{RoomValue}
+use Rattle.room_shelf.specs.Shelves.{IsCountOf}
 use Rattle.txn_runner.specs.Lanes.{IsLane, fault_of, is_disk, lanes_failed, most_lanes}
 use Rattle.txn_runner.specs.Runs.{IsReady, OfSound}
 use Rattle.txn_runner.specs.SoFar.{AreTold, GoesOn}
@@ -29,10 +30,10 @@ MoreByLane = (ended : List (Option RunFault)) (lane : ℕ) (fault : RunFault) �
 abbrev pub MoreBeside : Type 0
 MoreBeside = (told : List (Option RunFault)) (fault : RunFault) → TellsMore told (Some fault ∷ told) fault
 
--- where no call failed, all stays as it was told
+-- where no call failed, all stays as it was told, also as the count of the view that is taken back is added to the disk's
 abbrev pub ToldStays : Type 0
 ToldStays =
-    (script : List ScriptTxn) (entry old new : RoomValue) (count now : ℕ) (ended told : List (Option RunFault)) (history : List Commit) → now ≡ count → old.disk.own_faults ≤ new.disk.own_faults → new.room.is_shut ≡ old.room.is_shut
+    (script : List ScriptTxn) (entry old new : RoomValue) (count now : ℕ) (ended told : List (Option RunFault)) (history : List Commit) → IsCountOf count now → old.disk.own_faults ≤ new.disk.own_faults → new.room.is_shut ≡ old.room.is_shut
     → AreTold script entry old count ended told history → AreTold script entry new now ended told history
 
 -- What a fault that is told now has as its cause: a failed disk that the count of all faults rose, or that the room is shut; want of memory none; damage that no call failed, and

@@ -1,11 +1,14 @@
 //! Laws of runs, each the contract of a function that does nothing.
 
+ghost use Rattle.fine_model.specs.Buckets.{IsBucketFor};
 ghost use Rattle.txn_runner.specs.Going.{CommitsLaw, FewEnd, FewLess, FewMore, FewWait, FullLaw, LaterLaw, SealsLaw, StaysLaw};
 ghost use Rattle.txn_runner.specs.Lanes.{CutShortLaw};
 ghost use Rattle.txn_runner.specs.Law.{BehindLaw, DoneLaw, NothingLaw, ReadyLaw, RunLaw, StatusLaw};
-ghost use Rattle.txn_runner.specs.SoFar.{FinishedLaw, LaneEndsLaw, NextLaw, RefusedNext, SetsLaw};
+ghost use Rattle.txn_runner.specs.SoFar.{BeginsLaw, EndsLaw, FinishedLaw, LaneEndsLaw, NextLaw, RefusedNext, SetsLaw, StepsLaw};
 ghost use Rattle.txn_runner.specs.Told.{DamageStays, MoreBeside, MoreByLane, ToldMore, ToldNext, ToldStays};
 ghost use Rattle.txn_runner.specs.Turns.{CausesLaw, InTurnLaw, StaysRefused};
+
+use fine_model::BucketLaw;
 
 /// On a room that was just made of a log a run may begin.
 pub fn ready_law()
@@ -88,6 +91,14 @@ pub fn told_law()
     ensures beside { MoreBeside }
     ensures next { ToldNext }
     ensures damage { DamageStays }
+{}
+
+/// The body on one thread, with buckets of any kind: it begins on a room that is ready, the step of each transaction keeps what holds of it, and it has
+/// finished where the view was taken back behind the last one, and what waited was sealed.
+pub fn body_law<B: BucketLaw>()
+    ensures begins { BeginsLaw (IsBucketFor B.bucket B.cached B.is_settled) }
+    ensures steps { StepsLaw (IsBucketFor B.bucket B.cached B.is_settled) }
+    ensures ends { EndsLaw (IsBucketFor B.bucket B.cached B.is_settled) }
 {}
 
 /// Where the body on one thread has finished, what it leaves is a run.

@@ -1,6 +1,7 @@
 -- What a bucket gives, by the bytes at entry, from call to call, and the node that is unfit.
-use Rattle.std.proofs.Common.{◌≡◌, ◌≢◌, ◌⊎◌, inl, inr, ℕ, ◌<◌, ◌==◌, eqb-true, eq-eqb, Bool, true, false, cond, List, [], ◌∷◌, ◌++◌, Option, Some, None, is_some, refl, sym, ap, subst, ◌∙◌, true≢false}
-use Rattle.std.specs.Prelude.{flat_map, take}
+use Rattle.std.proofs.Common.{◌≡◌, ◌≢◌, ◌⊎◌, inl, inr, ℕ, ◌<◌, ◌==◌, eqb-true, eq-eqb, Bool, true, false, cond, List, [], ◌∷◌, ◌++◌, Option, Some, None, is_some, refl, sym, ap, subst, ◌∙◌, true≢false, append_assoc, append-nil, nat_eq}
+use Rattle.std.specs.Map.{lookup}
+use Rattle.std.specs.Prelude.{flat_map, take, IfSome, IsSome, unwrap_or, option_map}
 use Rattle.fine_model.specs.declared.Call.{Call}
 use Rattle.fine_model.specs.declared.Call.TheVariants as call
 use Rattle.fine_model.specs.declared.Node.TheVariants as node
@@ -14,7 +15,7 @@ use Rattle.fine_model.specs.Regions.{Image}
 use Rattle.fine_model.specs.RowBytes.{buckets}
 use Rattle.fine_model.proofs.NodeLaws.{rows_of-append}
 use Rattle.node_cache.specs.declared.cached.Cached.{Cached}
-use Rattle.node_cache.specs.Cache.{Cache, cached}
+use Rattle.node_cache.specs.Cache.{Cache, before, cached, original}
 use Rattle.node_cache.specs.Given.{IsCached, given}
 use Rattle.btree_nodes.specs.Trees.{unfit_in}
 use Rattle.btree_nodes.proofs.OnWays.{given_none}
@@ -23,6 +24,7 @@ use Rattle.damage_laws.specs.Goings.{Extends, GoBy, IsOnWay}
 use Rattle.damage_laws.specs.Looks.{IsOfKey, IsPartOf}
 use Rattle.damage_laws.specs.Meets.{BeginsAnew, CallLaw, FewerLaw, FreshLaw, GivesOn, LoadedLaw, MeetsLaw, NewLaw, SameLaw}
 use Rattle.damage_laws.specs.Made.{FoundOn, all_of}
+use Rattle.damage_laws.specs.OpenTxns.{AbsentLaw, BeginLaw, IsOpenOn, LoadsAbsent, OwnLaw, UndoneLaw}
 use Rattle.damage_laws.proofs.MergedFinds.{all_of-append}
 use Rattle.damage_laws.proofs.SamePushes.{goes_on_law, load_law, more_law, push_same, still_on_way, with_both}
 use Rattle.damage_laws.proofs.SameUnfit.{look_law, of_scan}
@@ -108,37 +110,36 @@ pub fewer_law : FewerLaw
 fewer_law region_len entry parts old new calls rows g f =
     build region_len entry parts new old.bucket calls rows g.nodes f.bucket g.found g.goes (λ n here. (f.same n here).0 ∙ g.gives n (f.same n here).1)
 
+-- contents with that of one number
+abbrev with_content : (number : ℕ) (content : Content) → (ℕ → Content) → ℕ → Content
+with_content number content nodes n = cond (n == number) content (nodes n)
+
+with_extends : (number : ℕ) (content : Content) (nodes : ℕ → Content) → (nodes number).0 ≡ node.Broken → Extends nodes (with_content number content nodes)
+with_extends number content nodes broken n fine = by (n == number) refl
+  where
+    by : (t : Bool) → (n == number) ≡ t → cond t content (nodes n) ≡ nodes n
+    by true e = absurd (fine (ap (λ k. (nodes k).0) (eqb-true n number e) ∙ broken))
+    by false e = refl
+
 pub loaded_law : LoadedLaw
 loaded_law region_len entry parts old new calls rows number g broken l =
-    build region_len entry parts new old.bucket calls rows nodes l.bucket found (load_law old.bucket g.nodes nodes calls rows ext g.goes) gives
+    build region_len entry parts new old.bucket calls rows (with_content number l.content g.nodes) l.bucket found
+    (load_law old.bucket g.nodes (with_content number l.content g.nodes) calls rows (with_extends number l.content g.nodes broken) g.goes) gives
   where
-    chosen : ℕ → Bool → Content
-    chosen n same = cond same l.content (g.nodes n)
-
-    nodes : ℕ → Content
-    nodes n = chosen n (n == number)
-
-    found : IsFoundIn region_len entry parts old.bucket nodes
+    found : IsFoundIn region_len entry parts old.bucket (with_content number l.content g.nodes)
     found n = by (n == number) refl
       where
-        by : (t : Bool) → (n == number) ≡ t → FindsMerged region_len entry parts (record { bucket = old.bucket; number = n }) (chosen n t) ⊎ (chosen n t ≡ (node.Broken, 0))
+        by : (t : Bool) → (n == number) ≡ t → FindsMerged region_len entry parts (record { bucket = old.bucket; number = n }) (cond t l.content (g.nodes n)) ⊎ (cond t l.content (g.nodes n) ≡ (node.Broken, 0))
         by true e = inl (subst (λ k. FindsMerged region_len entry parts (record { bucket = old.bucket; number = k }) l.content) (sym (eqb-true n number e)) l.is_found)
         by false e = g.found n
 
-    ext : Extends g.nodes nodes
-    ext n fine = by (n == number) refl
-      where
-        by : (t : Bool) → (n == number) ≡ t → chosen n t ≡ g.nodes n
-        by true e = absurd (fine (ap (λ k. (g.nodes k).0) (eqb-true n number e) ∙ broken))
-        by false e = refl
-
-    gives : (n : ℕ) → IsCached new n → given new n ≡ with_rows old.bucket nodes rows n
+    gives : (n : ℕ) → IsCached new n → given new n ≡ with_rows old.bucket (with_content number l.content g.nodes) rows n
     gives n here = by (n == number) refl
       where
         own : List Row
         own = rows_of (record { bucket = old.bucket; number = n }) rows
 
-        by : (t : Bool) → (n == number) ≡ t → given new n ≡ replay (chosen n t) own
+        by : (t : Bool) → (n == number) ≡ t → given new n ≡ replay (cond t l.content (g.nodes n)) own
         by true e = subst (λ k. given new k ≡ with_rows old.bucket (λ m. l.content) rows k) (sym (eqb-true n number e)) l.gives
         by false e = let o = l.others n (λ same. true≢false (sym (eq-eqb n number same) ∙ e)) here in o.0 ∙ g.gives n o.1
 
@@ -203,3 +204,117 @@ meets_law reads_all script history region_len entry parts b committed own rows i
     over : LooksAt script reads_all history (take committed history) own (given b) id → LooksAt script reads_all history (take committed history) own now id
     over (inl (txns, i, txn, c, rest, read, there, others, are, is)) = inl (txns, i, txn, c, rest, read, there, others, are, look_law c (given b) now id part (g.gives id.number here) is)
     over (inr (all, whole, none, first, last, wanted, is)) = inr (all, whole, none, first, last, wanted, of_scan id.bucket (given b) now id.number part (g.gives id.number here) first last wanted is)
+
+-- ---- an open transaction
+
+given_some : (b : Cache) (n : ℕ) (kept : Cached) → cached b n ≡ Some kept → given b n ≡ (kept.node, kept.version)
+unfolding given
+given_some b n kept e = ap (λ o. unwrap_or (option_map (λ k. (k.node, k.version)) o) (node.Broken, 0)) e
+
+given_same : (a b : Cache) (n : ℕ) → cached a n ≡ cached b n → given a n ≡ given b n
+unfolding given
+given_same a b n e = ap (λ o. unwrap_or (option_map (λ k. (k.node, k.version)) o) (node.Broken, 0)) e
+
+regrouped : (region_len : ℕ) (entry : Image) (parts : List Part) (b : Cache) (calls calls' : List Call) (rows rows' : List Row) → calls ≡ calls' → rows ≡ rows' → GivesOn region_len entry parts b calls rows → GivesOn region_len entry parts b calls' rows'
+regrouped region_len entry parts b calls calls' rows rows' same same' g =
+    build region_len entry parts b b.bucket calls' rows' g.nodes refl g.found (subst (λ cs. GoBy b.bucket g.nodes cs rows') same (subst (GoBy b.bucket g.nodes calls) same' g.goes))
+    (λ n here. g.gives n here ∙ ap (λ rs. with_rows b.bucket g.nodes rs n) same')
+
+pub begin_law : BeginLaw
+unfolding regrouped build
+begin_law region_len entry parts b calls rows g resting = record {
+  gives = regrouped region_len entry parts b calls (calls ++ []) rows (rows ++ []) (sym (append-nil calls)) (sym (append-nil rows)) g;
+  front = g.goes;
+  others = λ n none. refl;
+  restores = λ n. subst (λ o. IfSome o (λ kept. (kept.node, kept.version) ≡ with_rows b.bucket g.nodes rows n)) (sym (at_rest n)) (each n (cached b n) refl);
+}
+  where
+    at_rest : (n : ℕ) → before b n ≡ cached b n
+    at_rest n = ap (λ saved. unwrap_or (lookup (nat_eq n) saved) (cached b n)) resting
+
+    each : (n : ℕ) (o : Option Cached) → cached b n ≡ o → IfSome o (λ kept. (kept.node, kept.version) ≡ with_rows b.bucket g.nodes rows n)
+    each n None e = tt
+    each n (Some kept) e = sym (given_some b n kept e) ∙ g.gives n (ap is_some e)
+
+pub own_law : OwnLaw
+unfolding regrouped build call_law
+own_law region_len entry parts mid new calls own rows log earlier after c i of_key of_bucket reached d = record {
+  gives = regrouped region_len entry parts new ((calls ++ own) ++ c ∷ []) (calls ++ (own ++ c ∷ [])) ((rows ++ log) ++ d.rows) (rows ++ (log ++ d.rows)) (append_assoc calls own (c ∷ [])) (append_assoc rows log d.rows)
+      (call_law region_len entry parts mid new (calls ++ own) (rows ++ log) earlier after c i.gives of_key of_bucket reached d);
+  front = subst (λ k. GoBy k i.gives.nodes calls rows) (sym bucket) i.front;
+  others = λ n none. subst (λ k. rows_of (record { bucket = k; number = n }) (log ++ d.rows) ≡ []) (sym bucket) (rows_of-append (record { bucket = mid.bucket; number = n }) log d.rows ∙ (λ j. i.others n (was_none n none) j ++ no_own n none j));
+  restores = λ n. subst (λ o. IfSome o (λ kept. (kept.node, kept.version) ≡ with_rows new.bucket i.gives.nodes rows n)) (sym (let p = d.pushes in let s = p.saves in s.before n))
+      (subst (λ k. IfSome (before mid n) (λ kept. (kept.node, kept.version) ≡ with_rows k i.gives.nodes rows n)) (sym bucket) (i.restores n));
+}
+  where
+    bucket : new.bucket ≡ mid.bucket
+    bucket = let p = d.pushes in let s = p.saves in s.bucket
+
+    no_own : (n : ℕ) → cached new n ≡ None → rows_of (record { bucket = mid.bucket; number = n }) d.rows ≡ []
+    no_own n none = let p = d.pushes in p.others n none
+
+    was_none : (n : ℕ) → cached new n ≡ None → cached mid n ≡ None
+    was_none n none = by (is_cached mid n)
+      where
+        by : IsCached mid n ⊎ (cached mid n ≡ None) → cached mid n ≡ None
+        by (inl here) = let p = d.pushes in absurd (true≢false (sym (p.kept n here) ∙ ap is_some none))
+        by (inr e) = e
+
+pub undone_law : UndoneLaw
+undone_law region_len entry parts b new calls own rows log i bucket left =
+    build region_len entry parts new b.bucket calls rows i.gives.nodes bucket i.gives.found i.front (λ n here. by n (cached new n) refl here (left n))
+  where
+    of_restored : (n : ℕ) (kept : Cached) → before b n ≡ Some kept → (kept.node, kept.version) ≡ with_rows b.bucket i.gives.nodes rows n
+    of_restored n kept e = subst (λ o. IfSome o (λ kept. (kept.node, kept.version) ≡ with_rows b.bucket i.gives.nodes rows n)) e (i.restores n)
+
+    by : (n : ℕ) (o : Option Cached) → cached new n ≡ o → IsSome o → IfSome o (λ kept. before b n ≡ Some kept) → given new n ≡ with_rows b.bucket i.gives.nodes rows n
+    by n None e none was = absurd (true≢false (sym none))
+    by n (Some kept) e some was = given_some new n kept e ∙ of_restored n kept was
+
+pub absent_law : AbsentLaw
+unfolding loaded_law build
+absent_law region_len entry parts old new calls own rows log number content i broken l is_found is = record {
+  gives = loaded_law region_len entry parts old new (calls ++ own) (rows ++ log) number i.gives broken (record {
+    bucket = l.bucket;
+    others = λ n other here. (given_same new old n (l.others n other), sym (ap is_some (l.others n other)) ∙ here);
+    content = content;
+    is_found = is_found;
+    gives = is ∙ ap (replay content) (sym (rows_of-append id rows log ∙ ap (λ xs. rows_of id rows ++ xs) (i.others number l.absent) ∙ append-nil (rows_of id rows)));
+  });
+  front = subst (λ k. GoBy k all calls rows) (sym l.bucket) (load_law old.bucket i.gives.nodes all calls rows (with_extends number content i.gives.nodes broken) i.front);
+  others = λ n none. subst (λ k. rows_of (record { bucket = k; number = n }) log ≡ []) (sym l.bucket) (was_none n (n == number) refl none);
+  restores = λ n. subst (λ k. IfSome (before new n) (λ kept. (kept.node, kept.version) ≡ with_rows k all rows n)) (sym l.bucket) (restored n (n == number) refl);
+}
+  where
+    id : NodeId
+    id = record { bucket = old.bucket; number = number }
+
+    all : ℕ → Content
+    all = with_content number content i.gives.nodes
+
+    was_none : (n : ℕ) (t : Bool) → (n == number) ≡ t → cached new n ≡ None → rows_of (record { bucket = old.bucket; number = n }) log ≡ []
+    was_none n true e none = i.others n (subst (λ k. cached old k ≡ None) (sym (eqb-true n number e)) l.absent)
+    was_none n false e none = i.others n (sym (l.others n (λ same. true≢false (sym (eq-eqb n number same) ∙ e))) ∙ none)
+
+    -- what is restored of the node is what was loaded
+    loaded : (o : Option Cached) → cached new number ≡ o → IfSome o (λ kept. (kept.node, kept.version) ≡ with_rows old.bucket (λ n. content) rows number)
+    loaded None e = tt
+    loaded (Some kept) e = sym (given_some new number kept e) ∙ is
+
+    restored : (n : ℕ) (t : Bool) → (n == number) ≡ t → IfSome (before new n) (λ kept. (kept.node, kept.version) ≡ with_rows old.bucket all rows n)
+    restored n true e =
+        subst (λ o. IfSome o (λ kept. (kept.node, kept.version) ≡ with_rows old.bucket all rows n))
+        (sym (ap (λ k. before new k) (eqb-true n number e) ∙ ap (λ saved. unwrap_or (lookup (nat_eq number) saved) (cached new number)) l.saved ∙ ap (λ o. unwrap_or o (cached new number)) l.unsaved))
+        (same_in n (cached new number) (ap (λ t. cond t content (i.gives.nodes n)) e) (eqb-true n number e) (loaded (cached new number) refl))
+      where
+        same_in : (n : ℕ) (o : Option Cached) → all n ≡ content → n ≡ number → IfSome o (λ kept. (kept.node, kept.version) ≡ with_rows old.bucket (λ n. content) rows number) → IfSome o (λ kept. (kept.node, kept.version) ≡ with_rows old.bucket all rows n)
+        same_in n None of_all same h = tt
+        same_in n (Some kept) of_all same h = h ∙ sym (ap (λ c. replay c (rows_of (record { bucket = old.bucket; number = n }) rows)) of_all ∙ ap (λ k. replay content (rows_of (record { bucket = old.bucket; number = k }) rows)) same)
+    restored n false e =
+        subst (λ o. IfSome o (λ kept. (kept.node, kept.version) ≡ with_rows old.bucket all rows n))
+        (sym (ap (λ saved. unwrap_or (lookup (nat_eq n) saved) (cached new n)) l.saved ∙ ap (λ o. unwrap_or (original old n) o) (l.others n (λ same. true≢false (sym (eq-eqb n number same) ∙ e)))))
+        (stays (before old n) (ap (λ t. cond t content (i.gives.nodes n)) e) (i.restores n))
+      where
+        stays : (o : Option Cached) → all n ≡ i.gives.nodes n → IfSome o (λ kept. (kept.node, kept.version) ≡ with_rows old.bucket i.gives.nodes rows n) → IfSome o (λ kept. (kept.node, kept.version) ≡ with_rows old.bucket all rows n)
+        stays None of_all h = tt
+        stays (Some kept) of_all h = h ∙ sym (ap (λ c. replay c (rows_of (record { bucket = old.bucket; number = n }) rows)) of_all)

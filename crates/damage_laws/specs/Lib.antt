@@ -3,3 +3,4 @@ pub mod Looks
 pub mod Goings
 pub mod Made
 pub mod Meets
+pub mod OpenTxns

@@ -4,6 +4,7 @@ ghost use Rattle.damage_laws.specs.Goings.{GoesOnLaw, LoadLaw, MoreLaw};
 ghost use Rattle.damage_laws.specs.Looks.{KeyLaw, LookLaw, ScanLaw};
 ghost use Rattle.damage_laws.specs.Made.{FetchLaw, JoinedLaw, KeptLaw, KeptRowsLaw, MergedLaw, SealedLaw, SealedRowsLaw};
 ghost use Rattle.damage_laws.specs.Meets.{CallLaw, FewerLaw, FreshLaw, LoadedLaw, MeetsLaw, NewLaw, SameLaw};
+ghost use Rattle.damage_laws.specs.OpenTxns.{AbsentLaw, BeginLaw, OwnLaw, UndoneLaw};
 ghost use Rattle.damage_laws.specs.Places.{BodyLaw, EntryLaw, FoundLaw, PlaceLaw, RowLaw};
 
 /// What a fetch blames of the parts that are there now is a bad place of a part at entry, where each of them is one of these, with the
@@ -56,4 +57,13 @@ pub fn meets_law()
     ensures fresh { FreshLaw }
     ensures meets { MeetsLaw ⊥ }
     ensures meets_all { MeetsLaw (Unit {0}) }
+{}
+
+/// The same of a bucket that an open transaction uses: at its start, behind a call more, and once a node was loaded that was neither cached nor saved.
+/// Undone, the bucket gives what the committed calls leave.
+pub fn open_law()
+    ensures begin { BeginLaw }
+    ensures own { OwnLaw }
+    ensures absent { AbsentLaw }
+    ensures undone { UndoneLaw }
 {}

@@ -5,3 +5,4 @@ pub mod Opened
 pub mod MergedFinds
 pub mod GoodFinds
 pub mod Meeting
+pub mod FoundAgain

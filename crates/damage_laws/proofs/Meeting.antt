@@ -24,7 +24,7 @@ use Rattle.damage_laws.specs.Goings.{Extends, GoBy, IsOnWay}
 use Rattle.damage_laws.specs.Looks.{IsOfKey, IsPartOf}
 use Rattle.damage_laws.specs.Meets.{BeginsAnew, CallLaw, FewerLaw, FreshLaw, GivesOn, LoadedLaw, MeetsLaw, NewLaw, SameLaw}
 use Rattle.damage_laws.specs.Made.{FoundOn, all_of}
-use Rattle.damage_laws.specs.OpenTxns.{AbsentLaw, BeginLaw, IsOpenOn, LoadsAbsent, OwnLaw, UndoneLaw}
+use Rattle.damage_laws.specs.OpenTxns.{AbsentLaw, BeginLaw, OwnLaw, UndoneLaw}
 use Rattle.damage_laws.proofs.MergedFinds.{all_of-append}
 use Rattle.damage_laws.proofs.SamePushes.{goes_on_law, load_law, more_law, push_same, still_on_way, with_both}
 use Rattle.damage_laws.proofs.SameUnfit.{look_law, of_scan}

@@ -4,3 +4,4 @@ pub mod Goings
 pub mod Made
 pub mod Meets
 pub mod OpenTxns
+pub mod Again

@@ -1,5 +1,6 @@
 //! Laws of damage that a run meets, each the contract of a function that does nothing.
 
+ghost use Rattle.damage_laws.specs.Again.{AgainLaw, GoodOnce, KeptOnce};
 ghost use Rattle.damage_laws.specs.Goings.{GoesOnLaw, LoadLaw, MoreLaw};
 ghost use Rattle.damage_laws.specs.Looks.{KeyLaw, LookLaw, ScanLaw};
 ghost use Rattle.damage_laws.specs.Made.{FetchLaw, JoinedLaw, KeptLaw, KeptRowsLaw, MergedLaw, SealedLaw, SealedRowsLaw};
@@ -66,4 +67,12 @@ pub fn open_law()
     ensures own { OwnLaw }
     ensures absent { AbsentLaw }
     ensures undone { UndoneLaw }
+{}
+
+/// In a part in the grammar one list of rows is found of a node, at most, and so in one that is unchanged, where it was so at entry. Where it is so of all parts, a content that was found and is not broken is found
+/// again, whatever neighbours were merged since.
+pub fn again_law()
+    ensures good { GoodOnce }
+    ensures kept { KeptOnce }
+    ensures again { AgainLaw }
 {}

@@ -3,4 +3,4 @@
 
 mod laws;
 
-pub use laws::{going_law, look_law, made_law, meets_law, open_law, place_law};
+pub use laws::{again_law, going_law, look_law, made_law, meets_law, open_law, place_law};

@@ -1,0 +1,184 @@
+-- A content that was found is found again, where each part has one list of rows at most.
+use Rattle.std.proofs.Common.{◌≡◌, ◌≢◌, ◌⊎◌, inl, inr, ℕ, true, ◌||◌, List, [], ◌∷◌, ◌++◌, map, refl, sym, ap, subst, ◌∙◌, true≢false, arith}
+use Rattle.std.specs.Prelude.{IsTrue, flat_map}
+use Rattle.std.specs.List.{AllByRecursion, list_any}
+use Rattle.std.proofs.lemmas.Grind.{flat_map-append}
+use Rattle.std.proofs.lemmas.List.Folds.{list_any-append}
+use Rattle.fine_model.specs.declared.Mark.{Mark}
+use Rattle.fine_model.specs.declared.Node.TheVariants as node
+use Rattle.fine_model.specs.declared.NodeId.{NodeId}
+use Rattle.fine_model.specs.declared.Part.{Part}
+use Rattle.fine_model.specs.declared.Row.{Row}
+use Rattle.fine_model.specs.Damages.{FindsContent, FindsMerged, FindsRows, HasEntryWith, LacksEntry, has_image_first}
+use Rattle.fine_model.specs.Merge.{is_image, starts_afresh}
+use Rattle.fine_model.specs.Nodes.{Content, base, replay, step}
+use Rattle.fine_model.specs.Regions.{Image, body_in}
+use Rattle.fine_model.specs.RowBytes.{FitsRow}
+use Rattle.fine_model.proofs.MergeLaws.{IsBase, fresh_rows}
+use Rattle.fine_model.proofs.NodeLaws.{replay-append}
+use Rattle.fine_model.proofs.Zip.{all_left, all_right}
+use Rattle.node_fetch.proofs.Parts.{forgets}
+use Rattle.damage_laws.specs.Again.{AgainLaw, GoodOnce, IsDetermined, KeptOnce}
+use Rattle.damage_laws.proofs.Kept.{found_law}
+
+pub good_law : GoodOnce
+good_law region_len image id p rows has sealed = λ a b f g. f.exact rows has sealed ∙ sym (g.exact rows has sealed)
+
+pub kept_law : KeptOnce
+kept_law region_len entry now id p u one = λ a b f g. one a b (found_law region_len entry now p id a u f) (found_law region_len entry now p id b u g)
+
+head_same : {A : Type 0} (x y : A) (xs ys : List A) → x ∷ xs ≡ y ∷ ys → x ≡ y
+head_same x y xs ys e = cc
+
+tail_same : {A : Type 0} (x y : A) (xs ys : List A) → x ∷ xs ≡ y ∷ ys → xs ≡ ys
+tail_same x y xs ys e = cc
+
+not_empty : {A : Type 0} (x : A) (xs : List A) → x ∷ xs ≡ [] → ⊥
+not_empty x xs e = cc
+
+-- of two fronts of a list one is a front of the other
+record IsLonger (front front' back back' : List Part) : Type 0 where
+  mid : List Part
+  front_is : front ≡ front' ++ mid
+  back_is : back' ≡ mid ++ back
+
+cut_twice : (front front' back back' : List Part) → front ++ back ≡ front' ++ back' → IsLonger front front' back back' ⊎ IsLonger front' front back' back
+cut_twice [] front' back back' e = inr (record { mid = front'; front_is = refl; back_is = e })
+cut_twice (p ∷ front) [] back back' e = inl (record { mid = p ∷ front; front_is = refl; back_is = sym e })
+cut_twice (p ∷ front) (q ∷ front') back back' e = by (head_same p q (front ++ back) (front' ++ back') e) (cut_twice front front' back back' (tail_same p q (front ++ back) (front' ++ back') e))
+  where
+    by : p ≡ q → IsLonger front front' back back' ⊎ IsLonger front' front back' back → IsLonger (p ∷ front) (q ∷ front') back back' ⊎ IsLonger (q ∷ front') (p ∷ front) back' back
+    by same (inl l) = inl (record { mid = l.mid; front_is = λ i. same i ∷ l.front_is i; back_is = l.back_is })
+    by same (inr l) = inr (record { mid = l.mid; front_is = λ i. sym same i ∷ l.front_is i; back_is = l.back_is })
+
+nothing_more : (front front' back back' : List Part) → front ≡ [] → (l : IsLonger front front' back back') → l.mid ≡ []
+nothing_more front front' back back' none l = by front' l.mid (sym l.front_is ∙ none)
+  where
+    by : (xs mid : List Part) → xs ++ mid ≡ [] → mid ≡ []
+    by [] mid e = e
+    by (x ∷ xs) mid e = absurd (not_empty x (xs ++ mid) e)
+
+module _ (region_len : ℕ) (image : Image) (id : NodeId) where
+  -- what was read, cut behind some of its parts
+  record IsCutRead (read : List (Part × List Row)) (front back : List Part) : Type 0 where
+    first : List (Part × List Row)
+    rest : List (Part × List Row)
+    whole : read ≡ first ++ rest
+    of_front : map (λ r. r.0) first ≡ front
+    of_back : map (λ r. r.0) rest ≡ back
+
+  cut_read : (front back : List Part) (read : List (Part × List Row)) → map (λ r. r.0) read ≡ front ++ back → IsCutRead read front back
+  cut_read [] back read e = record { first = []; rest = read; whole = refl; of_front = refl; of_back = e }
+  cut_read (p ∷ front) back [] e = absurd (not_empty p (front ++ back) (sym e))
+  cut_read (p ∷ front) back (r ∷ read) e = let c = cut_read front back read (tail_same r.0 p (map (λ r. r.0) read) (front ++ back) e) in record {
+    first = r ∷ c.first;
+    rest = c.rest;
+    whole = ap (λ xs. r ∷ xs) c.whole;
+    of_front = λ i. head_same r.0 p (map (λ r. r.0) read) (front ++ back) e i ∷ c.of_front i;
+    of_back = c.of_back;
+  }
+
+  same_rows : (parts : List Part) (a b : List (Part × List Row)) → AllByRecursion (IsDetermined region_len image id) parts → map (λ r. r.0) a ≡ parts → map (λ r. r.0) b ≡ parts
+      → AllByRecursion (λ r. FindsRows region_len image id r.0 r.1) a → AllByRecursion (λ r. FindsRows region_len image id r.0 r.1) b → flat_map (λ r. r.1) a ≡ flat_map (λ r. r.1) b
+  same_rows [] [] [] one e e' found found' = refl
+  same_rows [] (r ∷ a) b one e e' found found' = absurd (not_empty r.0 (map (λ r. r.0) a) e)
+  same_rows [] [] (s ∷ b) one e e' found found' = absurd (not_empty s.0 (map (λ r. r.0) b) e')
+  same_rows (p ∷ parts) [] b one e e' found found' = absurd (not_empty p parts (sym e))
+  same_rows (p ∷ parts) (r ∷ a) [] one e e' found found' = absurd (not_empty p parts (sym e'))
+  same_rows (p ∷ parts) (r ∷ a) (s ∷ b) one e e' found found' =
+      let of_r : FindsRows region_len image id p r.1 = subst (λ q. FindsRows region_len image id q r.1) (head_same r.0 p (map (λ r. r.0) a) parts e) found.0 in
+      let of_s : FindsRows region_len image id p s.1 = subst (λ q. FindsRows region_len image id q s.1) (head_same s.0 p (map (λ r. r.0) b) parts e') found'.0 in
+      let here = one.0 r.1 s.1 of_r of_s in
+      let behind = same_rows parts a b one.1 (tail_same r.0 p (map (λ r. r.0) a) parts e) (tail_same s.0 p (map (λ r. r.0) b) parts e') found.1 found'.1 in
+      λ i. here i ++ behind i
+
+  -- rows that are found have versions from 1 on
+  numbered : (mark : Mark) (rows : List Row) → AllByRecursion (FitsRow mark) rows → AllByRecursion (λ row. row.version ≢ 0) rows
+  numbered mark [] fit = tt
+  numbered mark (row ∷ rows) fit = ((λ none. let f = fit.0 in let low = f.version_low in absurd (omega (arith, low, none))), numbered mark rows fit.1)
+
+  found_numbered : (p : Part) (rows : List Row) → FindsRows region_len image id p rows → AllByRecursion (λ row. row.version ≢ 0) rows
+  found_numbered p rows f = by f.found
+    where
+      by : ((rows ≡ []) × LacksEntry p.header (body_in image p.region p.header) id) ⊎ HasEntryWith p.header (body_in image p.region p.header) id rows → AllByRecursion (λ row. row.version ≢ 0) rows
+      by (inl none) = subst (AllByRecursion (λ row. row.version ≢ 0)) (sym none.0) tt
+      by (inr e) = let h = e.holds in let b = h.begins in numbered p.header.mark rows b.fit
+
+  based : (rows : List Row) (c : Content) → AllByRecursion (λ row. row.version ≢ 0) rows → IsBase id c → IsBase id (replay c rows)
+  unfolding replay step
+  based [] c versions from = from
+  based (row ∷ rows) c versions from = based rows (step c row) versions.1 (inr versions.0)
+
+  all_based : (read : List (Part × List Row)) (c : Content) → AllByRecursion (λ r. FindsRows region_len image id r.0 r.1) read → IsBase id c → IsBase id (replay c (flat_map (λ r. r.1) read))
+  unfolding replay
+  all_based [] c found from = from
+  all_based (r ∷ read) c found from =
+      subst (IsBase id) (sym (replay-append c r.1 (flat_map (λ r. r.1) read))) (all_based read (replay c r.1) found.1 (based r.1 c (found_numbered r.0 r.1 found.0) from))
+
+  first_read : (read : List (Part × List Row)) → has_image_first read ≡ true → list_any (λ row. is_image row.rec) (flat_map (λ r. r.1) read) ≡ true
+  first_read [] image = absurd (true≢false (sym image))
+  first_read (r ∷ read) image = list_any-append (λ row. is_image row.rec) r.1 (flat_map (λ r. r.1) read) ∙ ap (λ b. b || list_any (λ row. is_image row.rec) (flat_map (λ r. r.1) read)) image
+
+  module _ (parts : List Part) (one : AllByRecursion (IsDetermined region_len image id) parts) where
+    -- more was read the second time: what was read before begins with all parts, or forgets what stands before it
+    longer : (skipped skipped' : List Part) (read read' : List (Part × List Row)) → parts ≡ skipped ++ map (λ r. r.0) read → AllByRecursion (λ r. FindsRows region_len image id r.0 r.1) read
+        → AllByRecursion (λ r. FindsRows region_len image id r.0 r.1) read' → (l : IsLonger skipped skipped' (map (λ r. r.0) read) (map (λ r. r.0) read'))
+        → ((rest : List Row) (first : List (Part × List Row)) → flat_map (λ r. r.1) read ≡ rest → AllByRecursion (λ r. FindsRows region_len image id r.0 r.1) first → (first ≡ []) ⊎ (l.mid ≡ [] → ⊥)
+        → replay (base id) (flat_map (λ r. r.1) read') ≡ replay (replay (base id) (flat_map (λ r. r.1) first)) rest → replay (replay (base id) (flat_map (λ r. r.1) first)) rest ≡ replay (base id) rest)
+        → replay (base id) (flat_map (λ r. r.1) read') ≡ replay (base id) (flat_map (λ r. r.1) read)
+    longer skipped skipped' read read' whole found found' l forgotten =
+        laid_out
+        ∙ forgotten (flat_map (λ r. r.1) read) c.first refl (all_left (λ r. FindsRows region_len image id r.0 r.1) c.first c.rest all) (none_or c.first l.mid c.of_front) laid_out
+      where
+        c : IsCutRead read' l.mid (map (λ r. r.0) read)
+        c = cut_read l.mid (map (λ r. r.0) read) read' l.back_is
+
+        all : AllByRecursion (λ r. FindsRows region_len image id r.0 r.1) (c.first ++ c.rest)
+        all = subst (AllByRecursion (λ r. FindsRows region_len image id r.0 r.1)) c.whole found'
+
+        same : flat_map (λ r. r.1) read ≡ flat_map (λ r. r.1) c.rest
+        same = same_rows (map (λ r. r.0) read) read c.rest (all_right (IsDetermined region_len image id) skipped (map (λ r. r.0) read) (subst (AllByRecursion (IsDetermined region_len image id)) whole one)) refl c.of_back
+            found (all_right (λ r. FindsRows region_len image id r.0 r.1) c.first c.rest all)
+
+        laid_out : replay (base id) (flat_map (λ r. r.1) read') ≡ replay (replay (base id) (flat_map (λ r. r.1) c.first)) (flat_map (λ r. r.1) read)
+        laid_out =
+            ap (λ rs. replay (base id) (flat_map (λ r. r.1) rs)) c.whole
+            ∙ ap (replay (base id)) (flat_map-append (λ (r : Part × List Row). r.1) c.first c.rest)
+            ∙ replay-append (base id) (flat_map (λ r. r.1) c.first) (flat_map (λ r. r.1) c.rest)
+            ∙ ap (replay (replay (base id) (flat_map (λ r. r.1) c.first))) (sym same)
+
+        none_or : (first : List (Part × List Row)) (mid : List Part) → map (λ r. r.0) first ≡ mid → (first ≡ []) ⊎ (mid ≡ [] → ⊥)
+        none_or [] mid e = inl refl
+        none_or (r ∷ first) mid e = inr (λ none. not_empty r.0 (map (λ r. r.0) first) (e ∙ none))
+
+    again : (found other : Content) → FindsContent region_len image parts id found → found.0 ≢ node.Broken → FindsMerged region_len image parts id other → other ≡ found
+    unfolding replay
+    again found other f fine g = by (cut_twice f.skipped g.skipped (map (λ r. r.0) f.read) (map (λ r. r.0) g.read) (sym f.whole ∙ g.whole))
+      where
+        by_first : (l : IsLonger f.skipped g.skipped (map (λ r. r.0) f.read) (map (λ r. r.0) g.read)) → (rest : List Row) (first : List (Part × List Row)) → flat_map (λ r. r.1) f.read ≡ rest
+            → (f.skipped ≡ []) ⊎ IsTrue (has_image_first f.read) → (first ≡ []) ⊎ (l.mid ≡ [] → ⊥) → replay (replay (base id) (flat_map (λ r. r.1) first)) rest ≡ replay (base id) rest
+        by_first l rest first is why (inl none) = ap (λ rs. replay (replay (base id) (flat_map (λ r. r.1) rs)) rest) none
+        by_first l rest first is (inl none) (inr some) = absurd (some (nothing_more f.skipped g.skipped (map (λ r. r.0) f.read) (map (λ r. r.0) g.read) none l))
+        by_first l rest first is (inr image) (inr some) = forgets (replay (base id) (flat_map (λ r. r.1) first)) (base id) rest (subst (λ xs. list_any (λ row. is_image row.rec) xs ≡ true) is (first_read f.read image))
+
+        whole_again : (rest : List Row) (first : List (Part × List Row)) → (replay (replay (base id) (flat_map (λ r. r.1) first)) rest ≡ replay (base id) rest) ⊎ ((replay (replay (base id) (flat_map (λ r. r.1) first)) rest).0 ≡ node.Broken)
+            → ((replay (replay (base id) (flat_map (λ r. r.1) first)) rest).0 ≢ node.Broken) → replay (replay (base id) (flat_map (λ r. r.1) first)) rest ≡ replay (base id) rest
+        whole_again rest first (inl same) whole = same
+        whole_again rest first (inr broken) whole = absurd (whole broken)
+
+        by_second : (l : IsLonger g.skipped f.skipped (map (λ r. r.0) g.read) (map (λ r. r.0) f.read)) → (rest : List Row) (first : List (Part × List Row)) → flat_map (λ r. r.1) g.read ≡ rest
+            → AllByRecursion (λ r. FindsRows region_len image id r.0 r.1) first → (g.skipped ≡ []) ⊎ IsTrue (has_image_first g.read) ⊎ IsTrue (starts_afresh (flat_map (λ r. r.1) g.read)) → (first ≡ []) ⊎ (l.mid ≡ [] → ⊥)
+            → replay (base id) (flat_map (λ r. r.1) f.read) ≡ replay (replay (base id) (flat_map (λ r. r.1) first)) rest → replay (replay (base id) (flat_map (λ r. r.1) first)) rest ≡ replay (base id) rest
+        by_second l rest first is of_first why (inl none) laid_out = ap (λ rs. replay (replay (base id) (flat_map (λ r. r.1) rs)) rest) none
+        by_second l rest first is of_first (inl none) (inr some) laid_out = absurd (some (nothing_more g.skipped f.skipped (map (λ r. r.0) g.read) (map (λ r. r.0) f.read) none l))
+        by_second l rest first is of_first (inr (inl image)) (inr some) laid_out = forgets (replay (base id) (flat_map (λ r. r.1) first)) (base id) rest (subst (λ xs. list_any (λ row. is_image row.rec) xs ≡ true) is (first_read g.read image))
+        by_second l rest first is of_first (inr (inr fresh)) (inr some) laid_out =
+            whole_again rest first (fresh_rows id rest (replay (base id) (flat_map (λ r. r.1) first)) (subst (λ xs. starts_afresh xs ≡ true) is fresh) (all_based first (base id) of_first (inl refl)))
+            (λ broken. fine (ap (λ c. c.0) (f.replayed ∙ laid_out) ∙ broken))
+
+        by : IsLonger f.skipped g.skipped (map (λ r. r.0) f.read) (map (λ r. r.0) g.read) ⊎ IsLonger g.skipped f.skipped (map (λ r. r.0) g.read) (map (λ r. r.0) f.read) → other ≡ found
+        by (inl l) = g.replayed ∙ longer f.skipped g.skipped f.read g.read f.whole f.each g.each l (λ rest first is of_first some laid_out. by_first l rest first is f.why some) ∙ sym f.replayed
+        by (inr l) = g.replayed ∙ sym (longer g.skipped f.skipped g.read f.read g.whole g.each f.each l (λ rest first is of_first some laid_out. by_second l rest first is of_first g.why some laid_out)) ∙ sym f.replayed
+
+pub again_law : AgainLaw
+again_law region_len image parts id found content one f fine g = again region_len image id parts one found content f fine g

@@ -5,3 +5,4 @@ pub mod Turns
 pub mod SoFar
 pub mod Going
 pub mod Told
+pub mod Reading

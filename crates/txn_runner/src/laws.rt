@@ -4,6 +4,7 @@ ghost use Rattle.fine_model.specs.Buckets.{IsBucketFor};
 ghost use Rattle.txn_runner.specs.Going.{CommitsLaw, FewEnd, FewLess, FewMore, FewWait, FullLaw, LaterLaw, SealsLaw, StaysLaw};
 ghost use Rattle.txn_runner.specs.Lanes.{CutShortLaw};
 ghost use Rattle.txn_runner.specs.Law.{BehindLaw, DoneLaw, NothingLaw, ReadyLaw, RunLaw, StatusLaw};
+ghost use Rattle.txn_runner.specs.Reading.{SeesLaw, UnsoundLaw};
 ghost use Rattle.txn_runner.specs.SoFar.{BeginsLaw, EndsLaw, FinishedLaw, LaneEndsLaw, NextLaw, RefusedNext, SetsLaw, StepsLaw};
 ghost use Rattle.txn_runner.specs.Told.{DamageStays, MoreBeside, MoreByLane, ToldMore, ToldNext, ToldStays};
 ghost use Rattle.txn_runner.specs.Turns.{CausesLaw, InTurnLaw, StaysRefused};
@@ -80,6 +81,12 @@ pub fn few_law()
     ensures more { FewMore }
     ensures end { FewEnd }
     ensures less { FewLess }
+{}
+
+/// What is read through the view that is out: on a sound log its rows agree with the commits up to its epoch, and no load names damage.
+pub fn reading_law()
+    ensures sees { SeesLaw }
+    ensures unsound { UnsoundLaw }
 {}
 
 /// What faults tell (`AreTold`): where no call failed, all stays as it was told; with a fault more, whether it ends a lane or is told beside those of

@@ -104,12 +104,12 @@ module _ (region_len : ℕ) (image : Image) (id : NodeId) where
       by (inl none) = subst (AllByRecursion (λ row. row.version ≢ 0)) (sym none.0) tt
       by (inr e) = let h = e.holds in let b = h.begins in numbered p.header.mark rows b.fit
 
-  based : (rows : List Row) (c : Content) → AllByRecursion (λ row. row.version ≢ 0) rows → IsBase id c → IsBase id (replay c rows)
+  pub based : (rows : List Row) (c : Content) → AllByRecursion (λ row. row.version ≢ 0) rows → IsBase id c → IsBase id (replay c rows)
   unfolding replay step
   based [] c versions from = from
   based (row ∷ rows) c versions from = based rows (step c row) versions.1 (inr versions.0)
 
-  all_based : (read : List (Part × List Row)) (c : Content) → AllByRecursion (λ r. FindsRows region_len image id r.0 r.1) read → IsBase id c → IsBase id (replay c (flat_map (λ r. r.1) read))
+  pub all_based : (read : List (Part × List Row)) (c : Content) → AllByRecursion (λ r. FindsRows region_len image id r.0 r.1) read → IsBase id c → IsBase id (replay c (flat_map (λ r. r.1) read))
   unfolding replay
   all_based [] c found from = from
   all_based (r ∷ read) c found from =

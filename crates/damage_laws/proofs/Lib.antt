@@ -6,3 +6,4 @@ pub mod MergedFinds
 pub mod GoodFinds
 pub mod Meeting
 pub mod FoundAgain
+pub mod Anew

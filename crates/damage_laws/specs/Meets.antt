@@ -1,5 +1,6 @@
 -- A bucket that a run of calls uses, by the bytes at entry, and the node that it meets unfit. Each law is the contract of a function.
 use Rattle.std.specs.Prelude.{◌≡◌, ◌≢◌, ◌⊎◌, ℕ, ◌<◌, List, [], ◌∷◌, ◌++◌, Result, IsTrue, take, flat_map}
+use Rattle.std.specs.List.{AllByRecursion}
 use Rattle.fine_model.specs.declared.Call.{Call}
 use Rattle.fine_model.specs.declared.Node.TheVariants as node
 use Rattle.fine_model.specs.declared.NodeId.{NodeId}
@@ -96,6 +97,12 @@ abbrev pub FreshLaw : Type 0
 FreshLaw =
     (region_len : ℕ) (entry : Image) (parts : List Part) (old new : Cache) (calls : List Call) (rows : List Row) (number : ℕ) (g : GivesOn region_len entry parts old calls rows) → (g.nodes number).0 ≡ node.Broken
     → LoadsFrom region_len entry parts old new rows number → GivesOn region_len entry parts new calls rows ⊎ BeginsAnew old new rows number
+
+-- Then what was loaded is what was there, unless that is broken: the bucket's rows have versions from 1 on.
+abbrev pub AnewLaw : Type 0
+AnewLaw =
+    (region_len : ℕ) (entry : Image) (parts : List Part) (old new : Cache) (calls : List Call) (rows : List Row) (number : ℕ) (g : GivesOn region_len entry parts old calls rows) → AllByRecursion (λ row. row.version ≢ 0) rows
+    → (with_rows old.bucket g.nodes rows number).0 ≢ node.Broken → BeginsAnew old new rows number → given new number ≡ with_rows old.bucket g.nodes rows number
 
 -- ---- the node that is unfit
 

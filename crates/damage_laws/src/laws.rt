@@ -4,7 +4,7 @@ ghost use Rattle.damage_laws.specs.Again.{AgainLaw, GoodOnce, KeptOnce};
 ghost use Rattle.damage_laws.specs.Goings.{GoesOnLaw, LoadLaw, MoreLaw};
 ghost use Rattle.damage_laws.specs.Looks.{KeyLaw, LookLaw, ScanLaw};
 ghost use Rattle.damage_laws.specs.Made.{FetchLaw, JoinedLaw, KeptLaw, KeptRowsLaw, MergedLaw, SealedLaw, SealedRowsLaw};
-ghost use Rattle.damage_laws.specs.Meets.{CallLaw, FewerLaw, FreshLaw, LoadedLaw, MeetsLaw, NewLaw, SameLaw};
+ghost use Rattle.damage_laws.specs.Meets.{AnewLaw, CallLaw, FewerLaw, FreshLaw, LoadedLaw, MeetsLaw, NewLaw, SameLaw};
 ghost use Rattle.damage_laws.specs.OpenTxns.{AbsentLaw, BeginLaw, OwnLaw, UndoneLaw};
 ghost use Rattle.damage_laws.specs.Places.{BodyLaw, EntryLaw, FoundLaw, PlaceLaw, RowLaw};
 
@@ -56,6 +56,7 @@ pub fn meets_law()
     ensures loaded { LoadedLaw }
     ensures same { SameLaw }
     ensures fresh { FreshLaw }
+    ensures anew { AnewLaw }
     ensures meets { MeetsLaw ⊥ }
     ensures meets_all { MeetsLaw (Unit {0}) }
 {}

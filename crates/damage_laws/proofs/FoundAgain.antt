@@ -18,7 +18,7 @@ use Rattle.fine_model.proofs.MergeLaws.{IsBase, fresh_rows}
 use Rattle.fine_model.proofs.NodeLaws.{replay-append}
 use Rattle.fine_model.proofs.Zip.{all_left, all_right}
 use Rattle.node_fetch.proofs.Parts.{forgets}
-use Rattle.damage_laws.specs.Again.{AgainLaw, GoodOnce, IsDetermined, KeptOnce}
+use Rattle.damage_laws.specs.Again.{AgainLaw, BothLaw, GoodOnce, IsDetermined, KeptOnce}
 use Rattle.damage_laws.proofs.Kept.{found_law}
 
 pub good_law : GoodOnce
@@ -179,6 +179,35 @@ module _ (region_len : ℕ) (image : Image) (id : NodeId) where
         by : IsLonger f.skipped g.skipped (map (λ r. r.0) f.read) (map (λ r. r.0) g.read) ⊎ IsLonger g.skipped f.skipped (map (λ r. r.0) g.read) (map (λ r. r.0) f.read) → other ≡ found
         by (inl l) = g.replayed ∙ longer f.skipped g.skipped f.read g.read f.whole f.each g.each l (λ rest first is of_first some laid_out. by_first l rest first is f.why some) ∙ sym f.replayed
         by (inr l) = g.replayed ∙ sym (longer g.skipped f.skipped g.read f.read g.whole g.each f.each l (λ rest first is of_first some laid_out. by_second l rest first is of_first g.why some laid_out)) ∙ sym f.replayed
+
+-- Of two that were found, and are not broken, the one by which more parts were read is the other.
+module _ (region_len : ℕ) (image : Image) (id : NodeId) (parts : List Part) (one : AllByRecursion (IsDetermined region_len image id) parts) (found other : Content) (f : FindsMerged region_len image parts id found) (g : FindsMerged region_len image parts id other) (fine : found.0 ≢ node.Broken) where
+  less_read : IsLonger g.skipped f.skipped (map (λ r. r.0) g.read) (map (λ r. r.0) f.read) → other ≡ found
+  unfolding replay
+  less_read l = g.replayed ∙ sym (longer region_len image id parts one g.skipped f.skipped g.read f.read g.whole g.each f.each l (λ rest first is of_first some laid_out. by rest first is of_first g.why some laid_out)) ∙ sym f.replayed
+    where
+      of_fresh : (rest : List Row) (first : List (Part × List Row)) → (replay (replay (base id) (flat_map (λ r. r.1) first)) rest ≡ replay (base id) rest) ⊎ ((replay (replay (base id) (flat_map (λ r. r.1) first)) rest).0 ≡ node.Broken)
+          → ((replay (replay (base id) (flat_map (λ r. r.1) first)) rest).0 ≢ node.Broken) → replay (replay (base id) (flat_map (λ r. r.1) first)) rest ≡ replay (base id) rest
+      of_fresh rest first (inl same) whole = same
+      of_fresh rest first (inr broken) whole = absurd (whole broken)
+
+      by : (rest : List Row) (first : List (Part × List Row)) → flat_map (λ r. r.1) g.read ≡ rest → AllByRecursion (λ r. FindsRows region_len image id r.0 r.1) first
+          → (g.skipped ≡ []) ⊎ IsTrue (has_image_first g.read) ⊎ IsTrue (starts_afresh (flat_map (λ r. r.1) g.read)) → (first ≡ []) ⊎ (l.mid ≡ [] → ⊥)
+          → replay (base id) (flat_map (λ r. r.1) f.read) ≡ replay (replay (base id) (flat_map (λ r. r.1) first)) rest → replay (replay (base id) (flat_map (λ r. r.1) first)) rest ≡ replay (base id) rest
+      by rest first is of_first why (inl none) laid_out = ap (λ rs. replay (replay (base id) (flat_map (λ r. r.1) rs)) rest) none
+      by rest first is of_first (inl none) (inr some) laid_out = absurd (some (nothing_more g.skipped f.skipped (map (λ r. r.0) g.read) (map (λ r. r.0) f.read) none l))
+      by rest first is of_first (inr (inl image_first)) (inr some) laid_out =
+          forgets (replay (base id) (flat_map (λ r. r.1) first)) (base id) rest (subst (λ xs. list_any (λ row. is_image row.rec) xs ≡ true) is (first_read region_len image id g.read image_first))
+      by rest first is of_first (inr (inr fresh)) (inr some) laid_out =
+          of_fresh rest first (fresh_rows id rest (replay (base id) (flat_map (λ r. r.1) first)) (subst (λ xs. starts_afresh xs ≡ true) is fresh) (all_based region_len image id first (base id) of_first (inl refl)))
+          (λ broken. fine (ap (λ c. c.0) (f.replayed ∙ laid_out) ∙ broken))
+
+pub both_law : BothLaw
+both_law region_len image parts id found other one f fine g fine' = by (cut_twice f.skipped g.skipped (map (λ r. r.0) f.read) (map (λ r. r.0) g.read) (sym f.whole ∙ g.whole))
+  where
+    by : IsLonger f.skipped g.skipped (map (λ r. r.0) f.read) (map (λ r. r.0) g.read) ⊎ IsLonger g.skipped f.skipped (map (λ r. r.0) g.read) (map (λ r. r.0) f.read) → other ≡ found
+    by (inl l) = sym (less_read region_len image id parts one other found g f fine' l)
+    by (inr l) = less_read region_len image id parts one found other f g fine l
 
 pub again_law : AgainLaw
 again_law region_len image parts id found content one f fine g = again region_len image id parts one found content f fine g

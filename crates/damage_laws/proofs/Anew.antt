@@ -5,9 +5,7 @@ use Rattle.fine_model.specs.declared.Node.TheVariants as node
 use Rattle.fine_model.specs.declared.NodeId.{NodeId}
 use Rattle.fine_model.specs.declared.Row.{Row}
 use Rattle.fine_model.specs.Damages.{FindsMerged, with_rows}
-use Rattle.fine_model.specs.Merge.{starts_afresh}
 use Rattle.fine_model.specs.Nodes.{Content, base, is_node, replay, rows_of, step}
-use Rattle.fine_model.specs.Regions.{Image}
 use Rattle.fine_model.proofs.MergeLaws.{IsBase, fresh_rows}
 use Rattle.fine_model.proofs.NodeLaws.{broken_or_not, replay-append, replay_broken, rows_of-append}
 use Rattle.fine_model.proofs.Sets.{all_filter}

@@ -9,7 +9,7 @@ use Rattle.fine_model.specs.declared.Node.TheVariants as node
 use Rattle.fine_model.specs.declared.NodeId.{NodeId}
 use Rattle.fine_model.specs.declared.Part.{Part}
 use Rattle.fine_model.specs.declared.Row.{Row}
-use Rattle.fine_model.specs.Damages.{FindsContent, FindsMerged, FindsRows, HasEntryWith, LacksEntry, has_image_first}
+use Rattle.fine_model.specs.Damages.{FindsMerged, FindsRows, HasEntryWith, LacksEntry, has_image_first}
 use Rattle.fine_model.specs.Merge.{is_image, starts_afresh}
 use Rattle.fine_model.specs.Nodes.{Content, base, replay, step}
 use Rattle.fine_model.specs.Regions.{Image, body_in}
@@ -151,35 +151,6 @@ module _ (region_len : ℕ) (image : Image) (id : NodeId) where
         none_or [] mid e = inl refl
         none_or (r ∷ first) mid e = inr (λ none. not_empty r.0 (map (λ r. r.0) first) (e ∙ none))
 
-    again : (found other : Content) → FindsContent region_len image parts id found → found.0 ≢ node.Broken → FindsMerged region_len image parts id other → other ≡ found
-    unfolding replay
-    again found other f fine g = by (cut_twice f.skipped g.skipped (map (λ r. r.0) f.read) (map (λ r. r.0) g.read) (sym f.whole ∙ g.whole))
-      where
-        by_first : (l : IsLonger f.skipped g.skipped (map (λ r. r.0) f.read) (map (λ r. r.0) g.read)) → (rest : List Row) (first : List (Part × List Row)) → flat_map (λ r. r.1) f.read ≡ rest
-            → (f.skipped ≡ []) ⊎ IsTrue (has_image_first f.read) → (first ≡ []) ⊎ (l.mid ≡ [] → ⊥) → replay (replay (base id) (flat_map (λ r. r.1) first)) rest ≡ replay (base id) rest
-        by_first l rest first is why (inl none) = ap (λ rs. replay (replay (base id) (flat_map (λ r. r.1) rs)) rest) none
-        by_first l rest first is (inl none) (inr some) = absurd (some (nothing_more f.skipped g.skipped (map (λ r. r.0) f.read) (map (λ r. r.0) g.read) none l))
-        by_first l rest first is (inr image) (inr some) = forgets (replay (base id) (flat_map (λ r. r.1) first)) (base id) rest (subst (λ xs. list_any (λ row. is_image row.rec) xs ≡ true) is (first_read f.read image))
-
-        whole_again : (rest : List Row) (first : List (Part × List Row)) → (replay (replay (base id) (flat_map (λ r. r.1) first)) rest ≡ replay (base id) rest) ⊎ ((replay (replay (base id) (flat_map (λ r. r.1) first)) rest).0 ≡ node.Broken)
-            → ((replay (replay (base id) (flat_map (λ r. r.1) first)) rest).0 ≢ node.Broken) → replay (replay (base id) (flat_map (λ r. r.1) first)) rest ≡ replay (base id) rest
-        whole_again rest first (inl same) whole = same
-        whole_again rest first (inr broken) whole = absurd (whole broken)
-
-        by_second : (l : IsLonger g.skipped f.skipped (map (λ r. r.0) g.read) (map (λ r. r.0) f.read)) → (rest : List Row) (first : List (Part × List Row)) → flat_map (λ r. r.1) g.read ≡ rest
-            → AllByRecursion (λ r. FindsRows region_len image id r.0 r.1) first → (g.skipped ≡ []) ⊎ IsTrue (has_image_first g.read) ⊎ IsTrue (starts_afresh (flat_map (λ r. r.1) g.read)) → (first ≡ []) ⊎ (l.mid ≡ [] → ⊥)
-            → replay (base id) (flat_map (λ r. r.1) f.read) ≡ replay (replay (base id) (flat_map (λ r. r.1) first)) rest → replay (replay (base id) (flat_map (λ r. r.1) first)) rest ≡ replay (base id) rest
-        by_second l rest first is of_first why (inl none) laid_out = ap (λ rs. replay (replay (base id) (flat_map (λ r. r.1) rs)) rest) none
-        by_second l rest first is of_first (inl none) (inr some) laid_out = absurd (some (nothing_more g.skipped f.skipped (map (λ r. r.0) g.read) (map (λ r. r.0) f.read) none l))
-        by_second l rest first is of_first (inr (inl image)) (inr some) laid_out = forgets (replay (base id) (flat_map (λ r. r.1) first)) (base id) rest (subst (λ xs. list_any (λ row. is_image row.rec) xs ≡ true) is (first_read g.read image))
-        by_second l rest first is of_first (inr (inr fresh)) (inr some) laid_out =
-            whole_again rest first (fresh_rows id rest (replay (base id) (flat_map (λ r. r.1) first)) (subst (λ xs. starts_afresh xs ≡ true) is fresh) (all_based first (base id) of_first (inl refl)))
-            (λ broken. fine (ap (λ c. c.0) (f.replayed ∙ laid_out) ∙ broken))
-
-        by : IsLonger f.skipped g.skipped (map (λ r. r.0) f.read) (map (λ r. r.0) g.read) ⊎ IsLonger g.skipped f.skipped (map (λ r. r.0) g.read) (map (λ r. r.0) f.read) → other ≡ found
-        by (inl l) = g.replayed ∙ longer f.skipped g.skipped f.read g.read f.whole f.each g.each l (λ rest first is of_first some laid_out. by_first l rest first is f.why some) ∙ sym f.replayed
-        by (inr l) = g.replayed ∙ sym (longer g.skipped f.skipped g.read f.read g.whole g.each f.each l (λ rest first is of_first some laid_out. by_second l rest first is of_first g.why some laid_out)) ∙ sym f.replayed
-
 -- Of two that were found, and are not broken, the one by which more parts were read is the other.
 module _ (region_len : ℕ) (image : Image) (id : NodeId) (parts : List Part) (one : AllByRecursion (IsDetermined region_len image id) parts) (found other : Content) (f : FindsMerged region_len image parts id found) (g : FindsMerged region_len image parts id other) (fine : found.0 ≢ node.Broken) where
   less_read : IsLonger g.skipped f.skipped (map (λ r. r.0) g.read) (map (λ r. r.0) f.read) → other ≡ found
@@ -210,4 +181,20 @@ both_law region_len image parts id found other one f fine g fine' = by (cut_twic
     by (inr l) = less_read region_len image id parts one found other f g fine l
 
 pub again_law : AgainLaw
-again_law region_len image parts id found content one f fine g = again region_len image id parts one found content f fine g
+unfolding replay
+again_law region_len image parts id found other one f fine g = by (cut_twice f.skipped g.skipped (map (λ r. r.0) f.read) (map (λ r. r.0) g.read) (sym f.whole ∙ g.whole))
+  where
+    by_first : (l : IsLonger f.skipped g.skipped (map (λ r. r.0) f.read) (map (λ r. r.0) g.read)) → (rest : List Row) (first : List (Part × List Row)) → flat_map (λ r. r.1) f.read ≡ rest
+        → (f.skipped ≡ []) ⊎ IsTrue (has_image_first f.read) → (first ≡ []) ⊎ (l.mid ≡ [] → ⊥) → replay (replay (base id) (flat_map (λ r. r.1) first)) rest ≡ replay (base id) rest
+    by_first l rest first is why (inl none) = ap (λ rs. replay (replay (base id) (flat_map (λ r. r.1) rs)) rest) none
+    by_first l rest first is (inl none) (inr some) = absurd (some (nothing_more f.skipped g.skipped (map (λ r. r.0) f.read) (map (λ r. r.0) g.read) none l))
+    by_first l rest first is (inr image_first) (inr some) =
+        forgets (replay (base id) (flat_map (λ r. r.1) first)) (base id) rest (subst (λ xs. list_any (λ row. is_image row.rec) xs ≡ true) is (first_read region_len image id f.read image_first))
+
+    either : (f.skipped ≡ []) ⊎ IsTrue (has_image_first f.read) → (f.skipped ≡ []) ⊎ IsTrue (has_image_first f.read) ⊎ IsTrue (starts_afresh (flat_map (λ r. r.1) f.read))
+    either (inl none) = inl none
+    either (inr image_first) = inr (inl image_first)
+
+    by : IsLonger f.skipped g.skipped (map (λ r. r.0) f.read) (map (λ r. r.0) g.read) ⊎ IsLonger g.skipped f.skipped (map (λ r. r.0) g.read) (map (λ r. r.0) f.read) → other ≡ found
+    by (inl l) = g.replayed ∙ longer region_len image id parts one f.skipped g.skipped f.read g.read f.whole f.each g.each l (λ rest first is of_first some laid_out. by_first l rest first is f.why some) ∙ sym f.replayed
+    by (inr l) = less_read region_len image id parts one found other (record { skipped = f.skipped; read = f.read; whole = f.whole; each = f.each; why = either f.why; replayed = f.replayed }) g fine l

@@ -27,7 +27,8 @@ use Rattle.damage_laws.specs.Made.{FoundOn, all_of}
 use Rattle.damage_laws.specs.OpenTxns.{AbsentLaw, BeginLaw, OwnLaw, UndoneLaw}
 use Rattle.damage_laws.proofs.MergedFinds.{all_of-append}
 use Rattle.damage_laws.proofs.SamePushes.{goes_on_law, load_law, more_law, push_same, still_on_way, with_both}
-use Rattle.damage_laws.proofs.SameUnfit.{look_law, of_scan}
+use Rattle.fine_model.proofs.FoundUnfit.{of_scan}
+use Rattle.damage_laws.proofs.SameUnfit.{look_law}
 
 nothing_cached : (k n : ℕ) → IsCached (record { bucket = k; nodes = []; saved = [] }) n → ⊥
 nothing_cached k n here = true≢false (sym here)

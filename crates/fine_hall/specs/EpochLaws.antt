@@ -34,6 +34,7 @@ CountsAll = (x : Beginning) (room : RoomState) (history : List Commit) → Count
 
 -- ---- no epoch of the history was sealed as it began
 
+-- no epoch of the history was sealed as the hall began, and what follows for nodes and buckets
 abbrev pub EpochsLater : Type 0
 EpochsLater = (before : RoomState) (turns : List (Placed Turn)) → RoomsGoOn before turns → All (λ c. before.sealed < c.epoch) (commits turns)
 

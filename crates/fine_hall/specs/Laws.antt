@@ -65,6 +65,7 @@ pub record IsViewFor (x : Beginning) (history : List Commit) (v : ViewState) : T
   pub since : x.room.sealed ≤ v.upto
   pub tells : (e : ℕ) (first : List Row) → Began x.log e first → (rows : List Row) × TellsRows v rows × Agrees rows (first ++ all_rows (upto history v.upto))
 
+-- so of the commits of turns
 abbrev pub ShowsTurns : Beginning → List (Placed Turn) → ViewState → Type 0
 ShowsTurns x turns v = IsViewFor x (commits turns) v
 
@@ -73,6 +74,7 @@ abbrev pub IsAboveEpoch : ℕ → ℕ → Option Entry → Type 0
 IsAboveEpoch u epoch None = ⊤
 IsAboveEpoch u epoch (Some entry) = u < epoch
 
+-- so of the turn with its own epoch
 abbrev pub IsAbove : ℕ → Turn → Type 0
 IsAbove u t = IsAboveEpoch u t.epoch t.entry
 
@@ -97,23 +99,28 @@ abbrev pub in_hand_of : Option TurnNote → ℕ
 in_hand_of None = 0
 in_hand_of (Some t) = t.in_hand
 
+-- the turn that a load adds to the history: one of a room alone
 abbrev pub adds : {R B V : Type 0} → (R → RoomState) → Reads Turn → Load R B V → Option Turn
 adds state y (load.Room room entry epoch backs) = Some (record { entry = option_map (λ note. note.value) entry; epoch = epoch; room = state room; returned = in_hand_of y.turn })
 adds state y (load.Bucket b) = None
 adds state y (load.View v) = None
 
+-- the view in a load
 abbrev pub view_in : {R B V : Type 0} → (V → ViewState) → Load R B V → Option ViewState
 view_in view (load.View v) = Some (view v)
 view_in view _ = None
 
+-- the board of the room in a load
 abbrev pub board_in : {R B V : Type 0} → (R → RoomState) → Load R B V → List (Option OpenedEye)
 board_in state (load.Room room entry epoch backs) = (state room).board
 board_in state _ = []
 
+-- the sealed epoch of the room in a load
 abbrev pub sealed_in : {R B V : Type 0} → (R → RoomState) → Load R B V → ℕ
 sealed_in state (load.Room room entry epoch backs) = (state room).sealed
 sealed_in state _ = 0
 
+-- the backs that the holder of a room keeps
 abbrev pub backs_in : {R B V : Type 0} → Load R B V → List ℕ
 backs_in (load.Room room entry epoch backs) = backs
 backs_in _ = []

@@ -36,7 +36,7 @@ module _ (bucket : ℕ) (a b : ℕ → Content) (n : ℕ) (each : (number : ℕ)
       by each true is = each (bounds_at bounds (seps_of (b number).0) (place_among key (seps_of (b number).0))) (kid_at (b number).0 (place_among key (seps_of (b number).0))) is
       by each false is = is
 
-  under : (key : List ℕ) → unfit_under bucket a key (a 0).0 ≡ Some n → unfit_under bucket b key (b 0).0 ≡ Some n
+  pub under : (key : List ℕ) → unfit_under bucket a key (a 0).0 ≡ Some n → unfit_under bucket b key (b 0).0 ≡ Some n
   unfolding unfit_under
   under key is = by (b 0).0 (subst (λ c. f c ≡ Some n) (found 0 f refl is) is)
     where
@@ -122,7 +122,7 @@ module _ (bucket : ℕ) (a b : ℕ → Content) (n : ℕ) (each : (number : ℕ)
       by follows true is = over_kids low high (scan_from height bucket a next low high) (scan_from height bucket b next low high) follows bounds (seps_of (b number).0) (kids_of (b number).0) wanted r goes is
       by follows false is = is
 
-  of_scan : (low high : List ℕ) (limit : ℕ) → unfit_between bucket a low high limit (a 0).0 ≡ Some n → unfit_between bucket b low high limit (b 0).0 ≡ Some n
+  pub of_scan : (low high : List ℕ) (limit : ℕ) → unfit_between bucket a low high limit (a 0).0 ≡ Some n → unfit_between bucket b low high limit (b 0).0 ≡ Some n
   unfolding unfit_between
   of_scan low high limit is = by (b 0).0 (subst (λ c. f c ≡ Some n) (found 0 f refl is) is)
     where

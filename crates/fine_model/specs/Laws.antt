@@ -24,6 +24,7 @@ use Rattle.fine_model.specs.Chain.{Shows}
 abbrev pub SetSame : Type 0
 SetSame = (m : List Pair) (key value : List ℕ) → get (set m key value) key ≡ Some value
 
+-- the other keys keep what they have
 abbrev pub SetOther : Type 0
 SetOther = (m : List Pair) (key other value : List ℕ) → key ≢ other → get (set m key value) other ≡ get m other
 
@@ -48,6 +49,7 @@ SealedLaw = (region_len : ℕ) (image : Image) (lead region at : ℕ) (range : R
 abbrev pub ReplayLaw : Type 0
 ReplayLaw = (c : Content) (a b : List Row) → replay c (a ++ b) ≡ replay (replay c a) b
 
+-- the same of each node of a log
 abbrev pub ContentLaw : Type 0
 ContentLaw = (a b : List Row) (id : NodeId) → content (a ++ b) id ≡ replay (content a id) (rows_of id b)
 
@@ -55,9 +57,11 @@ ContentLaw = (a b : List Row) (id : NodeId) → content (a ++ b) id ≡ replay (
 abbrev pub AgreesItself : Type 0
 AgreesItself = (rows : List Row) → Agrees rows rows
 
+-- agreement is transitive
 abbrev pub AgreesOn : Type 0
 AgreesOn = (a b c : List Row) → Agrees c b → Agrees b a → Agrees c a
 
+-- agreement stays with the same rows behind both
 abbrev pub AgreesBehind : Type 0
 AgreesBehind = (new old rows : List Row) → Agrees new old → Agrees (new ++ rows) (old ++ rows)
 
@@ -66,6 +70,7 @@ pub record IsSameLog (new old : List Row) : Type 0 where
   pub sound : IsSound new
   pub map : map_of new ≡ map_of old
 
+-- what agrees with sound rows is sound, and has their map
 abbrev pub AgreementLaw : Type 0
 AgreementLaw = (new old : List Row) → Agrees new old → IsSound old → IsSameLog new old
 
@@ -101,6 +106,7 @@ is_small (rec.LeafImage pairs) = nat_le (length pairs) most_in_node
 is_small (rec.InnerImage seps kids) = nat_le (length seps) most_in_node
 is_small _ = true
 
+-- no image among the rows has more than 32 pairs or separators
 pub record AreSmall (rows : List Row) : Type 0 where
   pub each : AllByRecursion (λ row. IsTrue (is_small row.rec)) rows
 
@@ -161,6 +167,7 @@ WholeHistoryLaw = (e last : ℕ) (history : List Commit) → EpochsFollow e hist
 abbrev pub LegalFront : Type 0
 LegalFront = (first : List Row) (before after : List Commit) → IsLegal first (before ++ after) → IsLegal first before
 
+-- a legal history stays legal with one more commit that may follow
 abbrev pub LegalNext : Type 0
 LegalNext = (first : List Row) (history : List Commit) (c : Commit) → IsLegal first history → IsNext first history c → IsLegal first (history ++ c ∷ [])
 

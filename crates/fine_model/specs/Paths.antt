@@ -30,10 +30,12 @@ bounds_at bounds seps (suc i) = record { low = slice_get seps i; high = or_else 
     or_else None b = b
     or_else (Some a) b = Some a
 
+-- the separators of an inner node
 abbrev pub seps_of : Node → List (List ℕ)
 seps_of (node.Inner seps kids) = seps
 seps_of _ = []
 
+-- the child at a place
 abbrev pub kid_at : Node → ℕ → ℕ
 kid_at (node.Inner seps kids) i = slice_index kids i
 kid_at _ i = 0
@@ -46,6 +48,7 @@ unfit_from (suc height) bucket nodes next key bounds number =
     then unfit_from height bucket nodes next key (bounds_at bounds (seps_of (nodes number).0) (place_among key (seps_of (nodes number).0))) (kid_at (nodes number).0 (place_among key (seps_of (nodes number).0)))
     else Some number
 
+-- the first number on a key's path that is not fit, from the head on
 unfoldable pub unfit_under : ℕ → (ℕ → Content) → List ℕ → Node → Option ℕ
 unfit_under bucket nodes key (node.Head root next depth) =
     if nat_lt root next && nat_le 1 depth then unfit_from (depth - 1) bucket nodes next key whole root else Some 0

@@ -6,15 +6,18 @@ use Rattle.fine_model.specs.Types.call
 use Rattle.fine_model.specs.Types.ending
 use Rattle.fine_model.specs.Script.{Reading, Refusal, script_within}
 
+-- the call sets a key
 abbrev pub is_put : Call → Bool
 is_put (call.Put key value) = true
 is_put _ = false
 
+-- the call reads or sets a key
 abbrev pub is_get_or_put : Call → Bool
 is_get_or_put (call.Get key) = true
 is_get_or_put (call.Put key value) = true
 is_get_or_put _ = false
 
+-- the ending is a commit
 abbrev pub is_commit : Ending → Bool
 is_commit ending.Commit = true
 is_commit ending.Abort = false
@@ -23,13 +26,16 @@ is_commit ending.Abort = false
 abbrev pub is_simple : ℕ → List Call → Bool
 is_simple lane calls = (lane == 1) && list_all is_get_or_put calls
 
+-- such a transaction, which commits
 abbrev pub is_simple_txn : ScriptTxn → Bool
 is_simple_txn txn = is_simple txn.lane txn.calls && is_commit txn.ending
 
+-- such calls so far, where a transaction is open
 abbrev pub is_simple_start : Option (ℕ × List Call) → Bool
 is_simple_start None = true
 is_simple_start (Some t) = is_simple t.0 t.1
 
+-- 1 where a transaction is open, and else 0
 abbrev pub begun : Option (ℕ × List Call) → ℕ
 begun None = 0
 begun (Some t) = 1

@@ -17,6 +17,7 @@ use Rattle.fine_model.specs.Chain.{chain_end}
 abbrev pub line : List (List ℕ) → List ℕ
 line words = join_with_byte 32 words ++ 10 ∷ []
 
+-- the line of a pair
 abbrev pub pair_line : Pair → List ℕ
 pair_line pair = line (codes "pair" ∷ pair.0 ∷ codes "=" ∷ pair.1 ∷ [])
 
@@ -34,6 +35,7 @@ reply_lines (call.Scan low high limit) (reply.Found pairs) =
     line (codes "scan" ∷ low ∷ high ∷ decimal (length pairs) ∷ []) ++ flat_map pair_line pairs
 reply_lines _ _ = []
 
+-- the word for a refusal
 abbrev pub why_word : Why → List ℕ
 why_word why.Large = codes "large"
 why_word why.Bucket = codes "bucket"
@@ -49,17 +51,20 @@ txn_lines turn outcome.Aborted = line (codes "txn" ∷ decimal turn ∷ codes "a
 txn_lines turn (outcome.Refused why) = line (codes "txn" ∷ decimal turn ∷ codes "refused" ∷ why_word why ∷ [])
 txn_lines turn outcome.NotRun = line (codes "txn" ∷ decimal turn ∷ codes "none" ∷ [])
 
+-- the line of a damage
 abbrev pub damage_line : Damage → List ℕ
 damage_line (damage.Region region at) = line (codes "damaged" ∷ codes "region" ∷ decimal region ∷ codes "at" ∷ decimal at ∷ [])
 damage_line (damage.Gap after region) = line (codes "damaged" ∷ codes "region" ∷ decimal region ∷ codes "after" ∷ decimal after ∷ [])
 damage_line (damage.Overlap region other) = line (codes "damaged" ∷ codes "region" ∷ decimal region ∷ codes "over" ∷ decimal other ∷ [])
 damage_line (damage.Node id) = line (codes "damaged" ∷ codes "node" ∷ decimal id.bucket ∷ decimal id.number ∷ [])
 
+-- the line of a fault
 abbrev pub fault_line : RunFault → List ℕ
 fault_line run_fault.Memory = line (codes "memory" ∷ [])
 fault_line run_fault.Disk = line (codes "disk" ∷ [])
 fault_line (run_fault.Damaged what) = damage_line what
 
+-- the line of a fault, or no line
 unfoldable pub fault_lines : Option RunFault → List ℕ
 fault_lines None = []
 fault_lines (Some fault) = fault_line fault
@@ -82,6 +87,7 @@ dump m = flat_map pair_line m ++ line (codes "pairs" ∷ decimal (length m) ∷ 
 abbrev pub part_line : Part → List ℕ
 part_line p = line (codes "range" ∷ decimal p.header.range.first ∷ decimal p.header.range.last ∷ codes "region" ∷ decimal p.region ∷ codes "rows" ∷ decimal p.header.rows ∷ [])
 
+-- the parts of a chain and its end
 unfoldable pub ranges : List Part → List ℕ
 ranges chain = flat_map part_line chain ++ line (codes "end" ∷ decimal (chain_end chain) ∷ [])
 
@@ -89,9 +95,11 @@ ranges chain = flat_map part_line chain ++ line (codes "end" ∷ decimal (chain_
 abbrev pub words_line : List ℕ
 words_line = codes "words: run [--group N] [--tries N] [--keep N] | dump | ranges | merge | gen START COUNT LANES" ++ 10 ∷ []
 
+-- the line for a script that is refused at a line
 abbrev pub script_line : ℕ → List ℕ
 script_line n = line (codes "script" ∷ codes "line" ∷ decimal n ∷ [])
 
+-- the line for a source that failed
 abbrev pub source_line : List ℕ
 source_line = line (codes "source" ∷ [])
 

@@ -46,12 +46,15 @@ pub data Line : Type 0 where
   ends : Ending → Line
   faulty : Line
 
+-- a word is short enough for a key
 abbrev pub is_key : List ℕ → Bool
 is_key word = nat_le (length word) most_in_key
 
+-- a word is short enough for a value
 abbrev pub is_value : List ℕ → Bool
 is_value word = nat_le (length word) most_in_value
 
+-- a line, or else a faulty one
 abbrev pub line_or_faulty : Option Line → Line
 line_or_faulty None = faulty
 line_or_faulty (Some line) = line
@@ -60,6 +63,7 @@ line_or_faulty (Some line) = line
 abbrev pub by_word : List ℕ → List (List ℕ × Line) → Line
 by_word word cases = line_or_faulty (option_map (λ c. c.1) (find (λ c. bytes_eq c.0 word) cases))
 
+-- a line where a test holds, and else a faulty one
 abbrev pub when : Bool → Line → Line
 when test line = if test then line else faulty
 
@@ -83,6 +87,7 @@ is_comment [] = false
 is_comment ([] ∷ ws) = false
 is_comment ((b ∷ bs) ∷ ws) = b == 35
 
+-- a byte from space to tilde
 abbrev pub is_printable : ℕ → Bool
 is_printable b = nat_le 32 b && nat_le b 126
 

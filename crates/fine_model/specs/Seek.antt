@@ -16,6 +16,7 @@ pub record IndexEntry : Type 0 where
 abbrev pub entry_place : Header → ℕ → ℕ
 entry_place header i = header.area + index_entry * i
 
+-- the index entry at a place
 abbrev pub entry_of : List ℕ → ℕ → IndexEntry
 entry_of body at = record {
   node = record { bucket = number_in w16 at body; number = number_in w32 (at + 2) body };
@@ -23,6 +24,7 @@ entry_of body at = record {
   rows = number_in w32 (at + 10) body;
 }
 
+-- the i-th index entry
 abbrev pub entry_at : Header → List ℕ → ℕ → IndexEntry
 entry_at header body i = entry_of body (entry_place header i)
 
@@ -57,6 +59,7 @@ span_at header body i =
     else Err (entry_place header (i + 1)))
     else Err (entry_place header i)
 
+-- the bytes of a span
 abbrev pub span_bytes : Header → List ℕ → RowSpan → List ℕ
 span_bytes header body span = take (span.end - span.at) (drop span.at (row_area header body))
 
@@ -85,5 +88,6 @@ pub record IsBadInSpan (header : Header) (body : List ℕ) (span : RowSpan) (id 
 abbrev pub binary_digits : ℕ → ℕ
 binary_digits n = 64 - leading_zeros w64 n
 
+-- how many bytes one look into an index may take
 abbrev pub most_taken : ℕ → ℕ
 most_taken nodes = index_entry * (binary_digits nodes + 1)

@@ -16,10 +16,12 @@ abbrev pub is_from : Option (List ℕ) → List ℕ → Bool
 is_from None key = true
 is_from (Some low) key = not (is_below key low)
 
+-- a key lies above a low bound
 abbrev pub is_above : Option (List ℕ) → List ℕ → Bool
 is_above None key = true
 is_above (Some low) key = is_below low key
 
+-- a key lies below a high bound
 abbrev pub is_up_to : Option (List ℕ) → List ℕ → Bool
 is_up_to None key = true
 is_up_to (Some high) key = is_below key high
@@ -29,6 +31,7 @@ pub record Bounds : Type 0 where
   pub low : Option (List ℕ)
   pub high : Option (List ℕ)
 
+-- no bounds
 abbrev pub whole : Bounds
 whole = record { low = None; high = None }
 
@@ -64,10 +67,12 @@ unfoldable pub IsSubtree : ℕ → ℕ → (ℕ → Content) → Bounds → ℕ 
 IsSubtree zero bucket nodes bounds number = IsTrue (is_leaf bucket bounds (nodes number).0)
 IsSubtree (suc height) bucket nodes bounds number = IsInner (IsSubtree height bucket nodes) bounds (nodes number).0
 
+-- the children of an inner node
 abbrev pub kids_of : Node → List ℕ
 kids_of (node.Inner seps kids) = kids
 kids_of _ = []
 
+-- the pairs of a leaf
 abbrev pub pairs_of : Node → List Pair
 pairs_of (node.Leaf pairs) = pairs
 pairs_of _ = []
@@ -96,6 +101,7 @@ pub record IsTree (bucket : ℕ) (nodes : ℕ → Content) (root next depth : �
   pub below : AllByRecursion (λ number. number < next) (reached (depth - 1) nodes root)
   pub unused : (number : ℕ) → next ≤ number → nodes number ≡ (node.Leaf [], 0)
 
+-- the tree is fit as this head says; no other content is a head
 abbrev pub IsFitFrom : ℕ → (ℕ → Content) → Node → Type 0
 IsFitFrom bucket nodes (node.Head root next depth) = IsTree bucket nodes root next depth
 IsFitFrom bucket nodes _ = ⊥
@@ -112,6 +118,7 @@ IsFit rows bucket = IsFitFrom bucket (nodes_of rows bucket) (nodes_of rows bucke
 pub record IsSound (rows : List Row) : Type 0 where
   pub fit : (bucket : ℕ) → bucket < buckets → IsFit rows bucket
 
+-- the pairs of a tree, as its head says
 abbrev pub pairs_from : (ℕ → Content) → Node → List Pair
 pairs_from nodes (node.Head root next depth) = pairs_under (depth - 1) nodes root
 pairs_from nodes _ = []
@@ -121,6 +128,7 @@ abbrev pub numbers_from : (ℕ → Content) → Node → List ℕ
 numbers_from nodes (node.Head root next depth) = 0 ∷ reached (depth - 1) nodes root
 numbers_from nodes _ = []
 
+-- the numbers that the tree of a bucket reaches, its head among them
 unfoldable pub tree_numbers : List Row → ℕ → List ℕ
 tree_numbers rows bucket = numbers_from (nodes_of rows bucket) (nodes_of rows bucket 0).0
 

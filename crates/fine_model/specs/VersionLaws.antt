@@ -23,6 +23,7 @@ VersionsFollow before (row ∷ rows) = (row.version ≡ (content before row.node
 abbrev pub PushedVersions : Type 0
 PushedVersions = (rows new : List Row) (calls : List Call) → AreSmall rows → IsSound rows → all_pushed rows calls ≡ Ok new → VersionsFollow rows new
 
+-- and so do those of all rows of a legal history
 abbrev pub LegalVersions : Type 0
 LegalVersions = (first : List Row) (history : List Commit) → AreSmall first → IsSound first → IsLegal first history → VersionsFollow first (all_rows history)
 
@@ -35,6 +36,7 @@ FollowParts = (before a b : List Row) → VersionsFollow before (a ++ b) → Ver
 
 -- ---- rows arranged by node
 
+-- a row's node stands before another's
 abbrev pub is_lower : Row → Row → Bool
 is_lower a b = is_node_below a.node b.node
 

@@ -9,8 +9,6 @@ mod opening;
 mod reading;
 mod round;
 mod showing;
-#[cfg(test)]
-mod tests;
 mod things;
 mod threads;
 mod transaction;

@@ -6,6 +6,7 @@ use Rattle.std.specs.List.{AllByRecursion, IsDistinct}
 abbrev pub Image : Type 0
 Image = List (List ℕ)
 
+-- the bytes of a region
 abbrev pub region_of : Image → ℕ → List ℕ
 region_of image region = unwrap_or (slice_get image region) []
 
@@ -15,6 +16,7 @@ pub record Span : Type 0 where
   pub from : ℕ
   pub end : ℕ
 
+-- a byte of a region lies in a range
 abbrev pub IsInSpan : ℕ → ℕ → Span → Type 0
 IsInSpan region at span = (span.region ≡ region) × (span.from ≤ at) × (at < span.end)
 
@@ -73,6 +75,7 @@ clock_of told = length told.past
 abbrev pub IsImageNow : Told → Image → Type 0
 IsImageNow told image = IsImageAt told.present image
 
+-- an image that a crash might have left at some moment from a clock value on
 abbrev pub IsImageSince : ℕ → Told → Image → Type 0
 IsImageSince clock told image = Any (λ moment. IsImageAt moment image) (drop clock (told.past ++ told.present ∷ []))
 
@@ -97,6 +100,7 @@ pub record SameOutside (region from end : ℕ) (old new : Image) : Type 0 where
   pub before : take from (region_of new region) ≡ take from (region_of old region)
   pub after : drop end (region_of new region) ≡ drop end (region_of old region)
 
+-- so many bytes of a region from a place on
 abbrev pub span_of : ℕ → ℕ → ℕ → Span
 span_of region at len = record { region = region; from = at; end = at + len }
 
@@ -104,6 +108,7 @@ span_of region at len = record { region = region; from = at; end = at + len }
 abbrev pub HasGoneOn : Told → Told → Moment → Type 0
 HasGoneOn old new moment = (new.past ≡ old.past ++ old.present ∷ []) × (new.present ≡ moment)
 
+-- a moment with one more range that no sync has confirmed
 abbrev pub unsynced_too : Moment → Span → Moment
 unsynced_too moment span = record { synced = moment.synced; unsynced = moment.unsynced ++ span ∷ [] }
 
@@ -128,9 +133,11 @@ pub record CountsOwn (failed : Type 0) (old new : Disk) : Type 0 where
   pub no_lower : (old.faults ≤ new.faults) × (old.own_faults ≤ new.own_faults)
   pub else_same : (failed → ⊥) → (new.faults ≡ old.faults) × (new.own_faults ≡ old.own_faults)
 
+-- a range lies in a region of the disk
 abbrev pub IsWithin : Disk → ℕ → ℕ → ℕ → Type 0
 IsWithin disk region at len = (region < disk.regions) × (at + len ≤ disk.region_len)
 
+-- no open eye sees a region
 abbrev pub IsUnseen : Disk → ℕ → Type 0
 IsUnseen disk region = All (λ eye. Contains eye.regions region → ⊥) disk.eyes
 
@@ -160,6 +167,7 @@ zeros regions region_len = replicate regions (replicate region_len 0)
 abbrev pub told_anew : Image → Told
 told_anew image = record { bytes = image; past = []; present = record { synced = image; unsynced = [] } }
 
+-- a disk of so many regions with nothing unsynced, no eye and no fault
 abbrev pub new_disk : ℕ → ℕ → Option Told → Disk
 new_disk regions region_len told = record { regions = regions; region_len = region_len; told = told; unsynced = []; eyes = []; given = []; faults = 0; own_faults = 0 }
 
@@ -185,6 +193,7 @@ abbrev pub HasSynced : Disk → Told → Told → Type 0
 HasSynced old a b = ((old.unsynced ≡ []) × (b ≡ a))
     ⊎ ((old.unsynced ≢ []) × (b.bytes ≡ a.bytes) × HasGoneOn a b (record { synced = a.bytes; unsynced = [] }))
 
+-- a sync that succeeded leaves nothing unsynced
 pub record Syncs (old new : Disk) : Type 0 where
   pub unsynced : new.unsynced ≡ []
   pub beside : SameBeside old new

@@ -16,6 +16,3 @@ pub use encoding::{Partition, encode, encode_law, encoded_len};
 pub use fault::{DecodeFault, HeaderFault};
 pub use header::{header_law, read_header};
 pub use write_header::{header_bytes, written_law};
-
-#[cfg(test)]
-mod tests;

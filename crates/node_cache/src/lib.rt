@@ -22,8 +22,6 @@ mod changing;
 mod original;
 mod pairs;
 mod source;
-#[cfg(test)]
-mod tests;
 mod undo;
 
 pub use cached::Cached;

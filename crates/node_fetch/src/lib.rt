@@ -12,6 +12,3 @@ pub use laws::damage_law;
 pub use rebuild::fetch;
 pub use replay::{base, replayed};
 pub use span::read_span;
-
-#[cfg(test)]
-mod tests;

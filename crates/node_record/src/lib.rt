@@ -20,6 +20,3 @@ pub use key::{RowAt, front_at, sorted_law};
 pub use places::{find_pair, is_below};
 pub use replay::{apply, image_of};
 pub use rows::{read_row, row_len, write_row};
-
-#[cfg(test)]
-mod tests;

@@ -9,6 +9,3 @@ mod view;
 pub use board::Board;
 pub use regions::RegionSet;
 pub use view::{View, view_law};
-
-#[cfg(test)]
-mod tests;

@@ -9,8 +9,6 @@ mod entries;
 mod indexer;
 mod places;
 mod search;
-#[cfg(test)]
-mod tests;
 
 pub use built::{build, index_law};
 pub use entries::{IndexEntry, SeekFault, Span, entry_bytes, entry_law, entry_of};

@@ -28,13 +28,16 @@ pub record IsEntryOf (known : Option Image) (source : Source) (head : IndexEntry
   pub entry : IsEntryAt known source.part source.next head.0
   pub span : IsSpanAt known source.part source.next head.1
 
+-- so of what may be kept
 abbrev pub KeepsHead : Option Image → Source → Option (IndexEntry × Span) → Type 0
 KeepsHead known source None = Unit {0}
 KeepsHead known source (Some head) = IsEntryOf known source head
 
+-- so of a source
 abbrev pub IsKept : Option Image → Source → Type 0
 IsKept known source = KeepsHead known source source.head
 
+-- so of both sources of a merger
 abbrev pub AreKept : Option Image → Merger → Type 0
 AreKept known merger = IsKept known merger.older × IsKept known merger.newer
 
@@ -46,9 +49,11 @@ node_kept head = option_map (λ h. h.0.node) head
 abbrev pub nodes_left : Source → ℕ
 nodes_left source = source.part.header.nodes - source.next
 
+-- how many nodes are left of both parts
 abbrev pub both_left : Merger → ℕ
 both_left merger = nodes_left merger.older + nodes_left merger.newer
 
+-- the parts of a merger
 abbrev pub older_part : Merger → Part
 older_part merger = merger.older.part
 
@@ -60,6 +65,7 @@ abbrev pub kept_count : Option (IndexEntry × Span) → ℕ
 kept_count None = 0
 kept_count (Some head) = 1
 
+-- so of a source, and of both
 abbrev pub unread : Source → ℕ
 unread source = nodes_left source - kept_count source.head
 
@@ -71,6 +77,7 @@ abbrev pub own_len : Option NodeId → List Row → List Row → ℕ
 own_len None older newer = 0
 own_len (Some id) older newer = rows_len (rows_of id older) + rows_len (rows_of id newer)
 
+-- so of the first node that two lists have
 abbrev pub next_len : List Row → List Row → ℕ
 next_len older newer = own_len (first_node older newer) older newer
 
@@ -83,6 +90,7 @@ pub record BlamesRow (known : Option Image) (merger : Merger) (place : Place) : 
   pub node : NodeId
   pub is_bad : HasBadRow known merger.region_len (older_part merger) node place ⊎ HasBadRow known merger.region_len (newer_part merger) node place
 
+-- a bad entry in one of the parts
 pub record BlamesEntry (known : Option Image) (merger : Merger) (place : Place) : Type 0 where
   pub is_bad : HasBadEntry known merger.region_len (older_part merger) place ⊎ HasBadEntry known merger.region_len (newer_part merger) place
 
@@ -115,6 +123,7 @@ at_front older newer region_len = record {
   region_len = region_len;
 }
 
+-- a merger of the same parts as another, at their front
 abbrev pub start_of : Merger → Merger
 start_of merger = at_front (older_part merger) (newer_part merger) merger.region_len
 
@@ -152,6 +161,7 @@ pub record SourceAt (eye : Eye) (source : Source) (left : List Row) : Type 0 whe
   pub tells : TellsRows eye source.part rows
   pub is_left : IsLeft rows source.next left
 
+-- so of both sources of a merger
 pub record StandsAt (eye : Eye) (merger : Merger) (older newer : List Row) : Type 0 where
   pub of_older : SourceAt eye merger.older older
   pub of_newer : SourceAt eye merger.newer newer

@@ -12,10 +12,12 @@ use Rattle.fine_model.specs.RowBytes.{FitsRec}
 abbrev pub FitRows : List Row → Type 0
 FitRows rows = AllByRecursion (λ row. FitsRec row.rec) rows
 
+-- the node of the first row
 abbrev pub node_at_head : List Row → Option NodeId
 node_at_head [] = None
 node_at_head (row ∷ rows) = Some row.node
 
+-- the lower of two nodes, where there is one
 abbrev pub lower : Option NodeId → Option NodeId → Option NodeId
 lower None b = b
 lower (Some a) None = Some a
@@ -51,6 +53,7 @@ follows (Some id) (row ∷ rows) = is_node_below id row.node
 unfoldable pub merged_of : NodeId → List Row → List Row
 merged_of id own = merged_into id own (replay (base id) own).1 (image_of (replay (base id) own).0)
 
+-- one row where there is one, and else these
 abbrev pub one_or : Option Row → List Row → List Row
 one_or None rows = rows
 one_or (Some row) rows = row ∷ []

@@ -5,8 +5,6 @@ mod chain;
 mod fault;
 mod headers;
 mod open;
-#[cfg(test)]
-mod tests;
 
 pub use chain::Chain;
 pub use fault::OpenFault;

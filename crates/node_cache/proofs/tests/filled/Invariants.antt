@@ -1,5 +1,0 @@
-use Rattle.std.proofs.Common.{◌≡◌, []}
-use Rattle.node_cache.proofs.tests.filled.Given as goal
-
-abbrev pub invariant-loop-number : goal.invariant-loop-number
-invariant-loop-number l = l.bucket.saved ≡ []

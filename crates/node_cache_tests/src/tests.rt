@@ -1,0 +1,267 @@
+ghost use Rattle.std.specs.Prelude.{◌≡◌, ◌≤◌, [], IfOk, length};
+ghost use Rattle.fine_model.specs.RowBytes.{greatest};
+
+use fine_model::{Bytes, Items, Node, NodeId, Pairs, Rec, Row};
+use node_cache::{Bucket, Cached};
+use std::alloc::Global;
+use std::test::*;
+
+/// An empty leaf of this version, last changed in this epoch.
+fn leaf(alloc: Global, version: u64, epoch: u64) -> Cached
+    requires { version ≤ greatest }
+{
+    Cached {
+        node: Node::Leaf {
+            pairs: Items::new(alloc),
+        },
+        version,
+        epoch,
+    }
+}
+
+/// The version that is cached of a number, or 0.
+fn version_of(bucket: &Bucket, number: u32) -> u64 {
+    match bucket.peek(number) {
+        Some(kept) => kept.version,
+        None => 0,
+    }
+}
+
+/// A bucket with nodes 1 to `count` of the epochs 1 to `count`.
+fn filled(alloc: Global, count: u32) -> Result<Bucket, Fail>
+    ensures { IfOk result (λ b. b.saved ≡ []) }
+{
+    let mut bucket = Bucket::new(alloc, 64);
+    for number in 1..=count {
+        let kept = leaf(alloc, 1, u64::from(number));
+        bucket.put(number, kept).ok().ok_or("memory")?;
+    }
+    Ok(bucket)
+}
+
+#[test]
+fn an_uncached_number_is_none(rt: HostRuntime) -> Result<(), Fail> {
+    let mut bucket = Bucket::new(rt.alloc(), 97);
+    assert_eq!(rt; bucket.bucket(), 97);
+    assert!(rt; bucket.get(1).is_none());
+    bucket.put(1, leaf(rt.alloc(), 7, 3)).ok().ok_or("memory")?;
+    assert!(rt; bucket.get(1).is_some());
+    assert!(rt; bucket.get(2).is_none());
+    Ok(())
+}
+
+#[test]
+fn evict_keeps_the_open_epoch_and_the_last_used(rt: HostRuntime) -> Result<(), Fail> {
+    let mut bucket = filled(rt.alloc(), 41)?;
+    assert!(rt; bucket.touch(1));
+    bucket.evict(40, 8);
+    let mut left = 0u32;
+    for number in 0..50u32 {
+        if bucket.peek(number).is_some() {
+            left = left.saturating_add(1);
+        }
+    }
+    assert_eq!(rt; left, 9);
+    assert!(rt; bucket.peek(41).is_some());
+    assert!(rt; bucket.peek(1).is_some());
+    assert!(rt; bucket.peek(33).is_none());
+    assert!(rt; bucket.peek(34).is_some());
+    Ok(())
+}
+
+/// Gives a cached node a version, where memory allows it.
+fn set_version(bucket: &mut Bucket, number: u32, version: u64) -> Result<(), Fail>
+    requires { version ≤ greatest }
+{
+    bucket.save(number).ok().ok_or("memory")?;
+    if bucket.touch(number) {
+        let kept = bucket.get_mut(number).ok().ok_or("memory")?;
+        kept.version = version;
+    }
+    Ok(())
+}
+
+#[test]
+fn undo_restores_what_was_saved(rt: HostRuntime) -> Result<(), Fail> {
+    let alloc = rt.alloc();
+    let mut bucket = filled(alloc, 2)?;
+    bucket.save(3).ok().ok_or("memory")?;
+    bucket.put(3, leaf(alloc, 5, 9)).ok().ok_or("memory")?;
+    set_version(&mut bucket, 1, 4)?;
+    bucket.save(1).ok().ok_or("memory")?;
+    assert_eq!(rt; version_of(&bucket, 1), 4);
+    bucket.undo();
+    assert_eq!(rt; version_of(&bucket, 1), 1);
+    assert_eq!(rt; version_of(&bucket, 2), 1);
+    assert!(rt; bucket.peek(3).is_none());
+    Ok(())
+}
+
+#[test]
+fn settle_stamps_what_was_saved(rt: HostRuntime) -> Result<(), Fail> {
+    let mut bucket = filled(rt.alloc(), 2)?;
+    bucket.save(1).ok().ok_or("memory")?;
+    bucket.settle(9);
+    bucket.undo();
+    bucket.evict(8, 0);
+    assert_eq!(rt; bucket.len(), 1);
+    assert!(rt; bucket.peek(1).is_some());
+    assert!(rt; bucket.peek(2).is_none());
+    Ok(())
+}
+
+/// A text of one byte.
+fn text(alloc: Global, byte: u8) -> Result<Bytes, Fail>
+    ensures { IfOk result (λ text. length text ≡ 1) }
+{
+    let mut text = Items::new(alloc);
+    text.push(byte).ok().ok_or("memory")?;
+    Ok(text)
+}
+
+/// Sets a key of node 1 to a value, or removes it, by the row of this version. Answers whether that was done.
+fn change(
+    bucket: &mut Bucket,
+    alloc: Global,
+    version: u64,
+    key: u8,
+    value: Option<u8>,
+) -> Result<bool, Fail>
+    requires { version ≤ greatest }
+{
+    let key = text(alloc, key)?;
+    let rec = match value {
+        Some(value) => Rec::Put {
+            key,
+            value: text(alloc, value)?,
+        },
+        None => Rec::Del { key },
+    };
+    let row = Row {
+        node: NodeId {
+            bucket: 64,
+            number: 1,
+        },
+        version,
+        rec,
+    };
+    Ok(bucket.change_pair(&row).ok().ok_or("memory")?)
+}
+
+/// The value of a key in node 1, or 0.
+fn value_of(bucket: &Bucket, key: u8) -> u8 {
+    let Some(kept) = bucket.peek(1) else {
+        return 0;
+    };
+    let Node::Leaf { pairs } = &kept.node else {
+        return 0;
+    };
+    for pair in pairs.as_slice() {
+        if pair.0.as_slice().first() == Some(&key) {
+            return pair.1.as_slice().first().copied().unwrap_or(0);
+        }
+    }
+    0
+}
+
+/// A bucket whose node 1 is a leaf of version 3 with 10 to 1 and 20 to 2.
+fn with_pairs(alloc: Global) -> Result<Bucket, Fail> {
+    let mut bucket = filled(alloc, 1)?;
+    change(&mut bucket, alloc, 2, 10, Some(1))?;
+    change(&mut bucket, alloc, 3, 20, Some(2))?;
+    bucket.settle(5);
+    Ok(bucket)
+}
+
+/// Whether node 1 has these values of 10, 15 and 20, and this version.
+fn has(bucket: &Bucket, values: [u8; 3], version: u64) -> bool {
+    [
+        value_of(bucket, 10),
+        value_of(bucket, 15),
+        value_of(bucket, 20),
+    ] == values
+        && version_of(bucket, 1) == version
+}
+
+/// Does rows to node 1, by the version, the key and the value of each. Answers the versions of those that were not done.
+fn change_all(
+    bucket: &mut Bucket,
+    alloc: Global,
+    rows: &[(u8, u8, Option<u8>)],
+) -> Result<Vec<u8>, Fail> {
+    let mut refused = Vec::new(alloc);
+    for (version, key, value) in rows {
+        if !change(bucket, alloc, u64::from(*version), *key, *value)? {
+            refused.push(*version).ok().ok_or("memory")?;
+        }
+    }
+    Ok(refused)
+}
+
+#[test]
+fn changes_of_pairs_are_done_and_taken_back(rt: HostRuntime) -> Result<(), Fail> {
+    let alloc = rt.alloc();
+    let mut bucket = with_pairs(alloc)?;
+    let rows = [
+        (4, 10, Some(7)),
+        // not the next version
+        (9, 15, Some(4)),
+        (5, 20, None),
+        // no such key
+        (6, 20, None),
+        (6, 15, Some(4)),
+        (7, 20, Some(9)),
+    ];
+    let refused = change_all(&mut bucket, alloc, &rows)?;
+    assert!(rt; refused.as_slice() == [9u8, 6].as_slice());
+    assert!(rt; has(&bucket, [7, 4, 9], 7));
+    bucket.undo();
+    assert!(rt; has(&bucket, [1, 0, 2], 3));
+    Ok(())
+}
+
+/// A bucket whose node 1 is a leaf with the keys 1 to 32, which were set since it was saved.
+fn full(alloc: Global) -> Result<Bucket, Fail> {
+    let mut bucket = filled(alloc, 1)?;
+    for key in 1..=32u8 {
+        change(&mut bucket, alloc, u64::from(key) + 1, key, Some(1))?;
+    }
+    Ok(bucket)
+}
+
+#[test]
+fn a_full_leaf_takes_no_other_key(rt: HostRuntime) -> Result<(), Fail> {
+    let alloc = rt.alloc();
+    let mut bucket = full(alloc)?;
+    assert!(rt; !change(&mut bucket, alloc, 34, 33, Some(1))?);
+    assert!(rt; change(&mut bucket, alloc, 34, 32, Some(2))?);
+    assert_eq!(rt; value_of(&bucket, 32), 2);
+    bucket.undo();
+    assert_eq!(rt; value_of(&bucket, 32), 0);
+    assert_eq!(rt; version_of(&bucket, 1), 1);
+    Ok(())
+}
+
+#[test]
+fn a_changed_node_is_changed_in_any_way_and_taken_back(rt: HostRuntime) -> Result<(), Fail> {
+    let alloc = rt.alloc();
+    let mut bucket = with_pairs(alloc)?;
+    change(&mut bucket, alloc, 4, 10, None)?;
+    set_version(&mut bucket, 1, 9)?;
+    change(&mut bucket, alloc, 10, 15, Some(4))?;
+    assert!(rt; has(&bucket, [0, 4, 2], 10));
+    bucket.undo();
+    assert!(rt; has(&bucket, [1, 0, 2], 3));
+    Ok(())
+}
+
+#[test]
+fn a_changed_node_is_put_in_place_of_and_taken_back(rt: HostRuntime) -> Result<(), Fail> {
+    let alloc = rt.alloc();
+    let mut bucket = with_pairs(alloc)?;
+    change(&mut bucket, alloc, 4, 10, None)?;
+    bucket.put(1, leaf(alloc, 1, 1)).ok().ok_or("memory")?;
+    bucket.undo();
+    assert!(rt; has(&bucket, [1, 0, 2], 3));
+    Ok(())
+}

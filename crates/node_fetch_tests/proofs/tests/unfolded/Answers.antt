@@ -1,0 +1,28 @@
+use Rattle.std.proofs.Common.{◌≡◌, ◌∷◌, [], sym, subst, rules, refl, lit<, lit≤}
+use Rattle.std.specs.List.{AllByRecursion}
+use Rattle.partition_index.specs.Parts.{IsSeen}
+use Rattle.node_fetch_tests.specs.declared.tests.TheConstants.{FIRST, WITH_ANOTHER, OF_ANOTHER, SEVERAL, PLAIN, LAST}
+use Rattle.node_fetch_tests.proofs.tests.unfolded.Goals as goal
+
+pub fetch-requires-clause-seen : goal.fetch-requires-clause-seen
+fetch-requires-clause-seen c =
+    let parts : c.from_vec.result ≡ FIRST ∷ WITH_ANOTHER ∷ OF_ANOTHER ∷ SEVERAL ∷ PLAIN ∷ LAST ∷ [] = search rules in
+    subst (AllByRecursion (IsSeen _)) (sym parts) (
+      record { named = ((0, lit< tt, refl), tt); long = tt; lies = record { large = lit< tt; small = lit≤ tt; listed = refl; counted = refl; lies = refl } },
+      (
+        record { named = ((1, lit< tt, refl), tt); long = tt; lies = record { large = lit< tt; small = lit≤ tt; listed = refl; counted = refl; lies = refl } },
+        (
+          record { named = ((2, lit< tt, refl), tt); long = tt; lies = record { large = lit< tt; small = lit≤ tt; listed = refl; counted = refl; lies = refl } },
+          (
+            record { named = ((3, lit< tt, refl), ((4, lit< tt, refl), tt)); long = tt; lies = record { large = lit< tt; small = lit≤ tt; listed = refl; counted = refl; lies = refl } },
+            (
+              record { named = ((5, lit< tt, refl), tt); long = tt; lies = record { large = lit< tt; small = lit≤ tt; listed = refl; counted = refl; lies = refl } },
+              (
+                record { named = ((6, lit< tt, refl), tt); long = tt; lies = record { large = lit< tt; small = lit≤ tt; listed = refl; counted = refl; lies = refl } },
+                tt,
+              ),
+            ),
+          ),
+        ),
+      ),
+    )

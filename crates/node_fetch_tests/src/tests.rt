@@ -1,0 +1,549 @@
+//! What no clause says: fetching from bytes that were laid out by hand, through an eye of which a read may fail.
+
+ghost use Rattle.std.specs.Prelude.{◌≡◌, ◌<◌, [], ◌∷◌, None, IfOk};
+ghost use Rattle.fine_model.specs.declared.FetchFault.TheVariants as fetch_fault;
+ghost use Rattle.fine_model.specs.RowBytes.{FitsRec};
+ghost use Rattle.log_disk.specs.Disk.{Eye};
+
+use fine_model::{
+    Bytes, FetchFault, Header, Items, Mark, Node, NodeId, Part, Parts, Range, Rec, Row,
+};
+use log_disk::{Failed, LogEye};
+use node_fetch::fetch;
+use node_record::write_row;
+use partition_index::{IndexEntry, entry_bytes};
+use std::alloc::Global;
+use std::test::*;
+
+const LEN: u64 = 16_384;
+
+/// An eye on ten regions, of which the read of one number fails.
+#[derive(Drop)]
+struct Eye {
+    regions: Vec<Vec<u8>>,
+    reads: u64,
+    fails: u64,
+    faults: u64,
+    taken: u64,
+}
+
+impl LogEye for Eye {
+    ghost state = { λ eye. record { number = 0; regions = 0 ∷ 1 ∷ 2 ∷ 3 ∷ 4 ∷ 5 ∷ 6 ∷ 7 ∷ 8 ∷ 9 ∷ []; region_len = 16384; told = None; faults = eye.faults; taken = eye.taken } };
+
+    fn number(&self) -> u64 {
+        0
+    }
+
+    fn read(&mut self, region: u32, at: u64, out: &mut [u8]) -> Result<(), Failed> {
+        self.taken = self.taken.saturating_add(out.len() as u64);
+        self.reads = self.reads.saturating_add(1);
+        if self.reads == self.fails {
+            self.faults = self.faults.saturating_add(1);
+            return Err(Failed);
+        }
+        if let Some(bytes) = self.regions.get(region as usize) {
+            for i in 0..out.len() {
+                out[i] = bytes.get(at as usize + i).copied().unwrap_or(0);
+            }
+        }
+        Ok(())
+    }
+}
+
+// A put has 24 bytes, and an image of one pair 25.
+const FIRST: Part = Part {
+    region: 0,
+    header: Header {
+        mark: Mark::One,
+        range: Range { first: 1, last: 1 },
+        rows: 1,
+        nodes: 1,
+        area: 24,
+        regions: 1,
+        more: [0; 7],
+    },
+};
+
+const WITH_ANOTHER: Part = Part {
+    region: 1,
+    header: Header {
+        mark: Mark::Two,
+        range: Range { first: 1, last: 1 },
+        rows: 2,
+        nodes: 2,
+        area: 48,
+        regions: 1,
+        more: [0; 7],
+    },
+};
+
+const OF_ANOTHER: Part = Part {
+    region: 2,
+    header: Header {
+        mark: Mark::Two,
+        range: Range { first: 1, last: 1 },
+        rows: 1,
+        nodes: 1,
+        area: 24,
+        regions: 1,
+        more: [0; 7],
+    },
+};
+
+const SEVERAL: Part = Part {
+    region: 3,
+    header: Header {
+        mark: Mark::Three,
+        range: Range { first: 1, last: 1 },
+        rows: 700,
+        nodes: 1,
+        area: 16800,
+        regions: 2,
+        more: [4, 0, 0, 0, 0, 0, 0],
+    },
+};
+
+const FOLDED: Part = Part {
+    region: 5,
+    header: Header {
+        mark: Mark::Two,
+        range: Range { first: 1, last: 1 },
+        rows: 2,
+        nodes: 1,
+        area: 49,
+        regions: 1,
+        more: [0; 7],
+    },
+};
+
+/// As the part with the image, but with a put in its place.
+const PLAIN: Part = Part {
+    region: 5,
+    header: Header {
+        mark: Mark::Two,
+        range: Range { first: 1, last: 1 },
+        rows: 2,
+        nodes: 1,
+        area: 48,
+        regions: 1,
+        more: [0; 7],
+    },
+};
+
+const LAST: Part = Part {
+    region: 6,
+    header: Header {
+        mark: Mark::Two,
+        range: Range { first: 1, last: 1 },
+        rows: 1,
+        nodes: 1,
+        area: 24,
+        regions: 1,
+        more: [0; 7],
+    },
+};
+
+const THOUSAND: Part = Part {
+    region: 7,
+    header: Header {
+        mark: Mark::Three,
+        range: Range { first: 1, last: 1 },
+        rows: 1000,
+        nodes: 1000,
+        area: 24000,
+        regions: 3,
+        more: [8, 9, 0, 0, 0, 0, 0],
+    },
+};
+
+fn node(number: u32) -> NodeId {
+    NodeId { bucket: 97, number }
+}
+
+fn text(alloc: Global, text: &[u8; 1]) -> Result<Bytes, Fail>
+    ensures { IfOk result (λ bytes. bytes ≡ text.now) }
+{
+    Ok(Items::from_vec(Vec::from_slice(alloc, text).ok().ok_or("memory")?))
+}
+
+fn put(alloc: Global, number: u32, version: u64) -> Result<Row, Fail>
+    ensures { IfOk result (λ row. FitsRec row.rec) }
+{
+    let key = text(alloc, b"a")?;
+    let value = text(alloc, b"1")?;
+    Ok(Row {
+        node: node(number),
+        version,
+        rec: Rec::Put { key, value },
+    })
+}
+
+fn image(alloc: Global, number: u32, version: u64) -> Result<Row, Fail>
+    ensures { IfOk result (λ row. FitsRec row.rec) }
+{
+    let pair = (text(alloc, b"a")?, text(alloc, b"1")?);
+    let mut pairs = Items::new(alloc);
+    pairs.push(pair).ok().ok_or("memory")?;
+    Ok(Row {
+        node: node(number),
+        version,
+        rec: Rec::LeafImage { pairs },
+    })
+}
+
+/// The bytes of puts of a node, whose versions follow.
+fn puts(
+    alloc: Global,
+    out: &mut Vec<u8>,
+    number: u32,
+    version: u32,
+    count: u32,
+) -> Result<(), Fail> {
+    for i in 0..count {
+        let row = put(alloc, number, u64::from(version) + u64::from(i))?;
+        write_row(out, &row).ok().ok_or("memory")?;
+    }
+    Ok(())
+}
+
+fn entry(out: &mut Vec<u8>, number: u32, offset: u32, rows: u32) -> Result<(), Fail> {
+    let bytes = entry_bytes(&IndexEntry {
+        node: node(number),
+        offset,
+        rows,
+    });
+    out.extend_from_slice(&bytes).ok().ok_or("memory")?;
+    Ok(())
+}
+
+/// Lays a body out over regions, from a place of the first one on.
+fn lay(alloc: Global, regions: &mut Vec<Vec<u8>>, start: usize, body: &[u8]) -> Result<(), Fail> {
+    let mut region = Vec::new(alloc);
+    for _ in 0..start {
+        region.push(0).ok().ok_or("memory")?;
+    }
+    for byte in body {
+        if region.len() == 16_384 {
+            regions.push(region).ok().ok_or("memory")?;
+            region = vec![in alloc; 0; 1].ok().ok_or("memory")?;
+        }
+        region.push(*byte).ok().ok_or("memory")?;
+    }
+    regions.push(region).ok().ok_or("memory")?;
+    Ok(())
+}
+
+/// Puts of one node in the next region.
+fn lay_puts(
+    alloc: Global,
+    regions: &mut Vec<Vec<u8>>,
+    start: usize,
+    version: u32,
+    count: u32,
+) -> Result<(), Fail> {
+    let mut body = Vec::new(alloc);
+    puts(alloc, &mut body, 1, version, count)?;
+    entry(&mut body, 1, 0, count)?;
+    lay(alloc, regions, start, &body)
+}
+
+/// The node's rows, and then one of node 2, with entries as they are given.
+fn lay_two(
+    alloc: Global,
+    regions: &mut Vec<Vec<u8>>,
+    entries: [(u32, u32, u32); 2],
+) -> Result<(), Fail> {
+    let mut body = Vec::new(alloc);
+    puts(alloc, &mut body, 1, 2, 1)?;
+    puts(alloc, &mut body, 2, 1, 1)?;
+    for (number, offset, rows) in entries {
+        entry(&mut body, number, offset, rows)?;
+    }
+    lay(alloc, regions, 41, &body)
+}
+
+/// A part of node 2 alone.
+fn lay_other(alloc: Global, regions: &mut Vec<Vec<u8>>) -> Result<(), Fail> {
+    let mut body = Vec::new(alloc);
+    puts(alloc, &mut body, 2, 2, 1)?;
+    entry(&mut body, 2, 0, 1)?;
+    lay(alloc, regions, 41, &body)
+}
+
+/// An image of the node, and a put.
+fn lay_folded(alloc: Global, regions: &mut Vec<Vec<u8>>) -> Result<(), Fail> {
+    let mut body = Vec::new(alloc);
+    let image = image(alloc, 1, 703)?;
+    write_row(&mut body, &image).ok().ok_or("memory")?;
+    puts(alloc, &mut body, 1, 704, 1)?;
+    entry(&mut body, 1, 0, 2)?;
+    lay(alloc, regions, 41, &body)
+}
+
+/// A thousand nodes of one put each, over three regions.
+fn lay_thousand(alloc: Global, regions: &mut Vec<Vec<u8>>) -> Result<(), Fail> {
+    let mut body = Vec::new(alloc);
+    for i in 0..1000 {
+        puts(alloc, &mut body, i + 1, 1, 1)?;
+    }
+    for i in 0..1000 {
+        entry(&mut body, i + 1, 24 * i, 1)?;
+    }
+    lay(alloc, regions, 70, &body)
+}
+
+/// The regions of the first four parts.
+fn lay_first(alloc: Global) -> Result<Vec<Vec<u8>>, Fail> {
+    let mut regions = Vec::new(alloc);
+    lay_puts(alloc, &mut regions, 41, 1, 1)?;
+    lay_two(alloc, &mut regions, [(1, 0, 1), (2, 24, 1)])?;
+    lay_other(alloc, &mut regions)?;
+    lay_puts(alloc, &mut regions, 70, 3, 700)?;
+    Ok(regions)
+}
+
+/// An eye on all parts, with the image or with puts alone, of which a read fails.
+fn look(alloc: Global, folded: bool, fails: u64) -> Result<Eye, Fail> {
+    let mut regions = lay_first(alloc)?;
+    if folded {
+        lay_folded(alloc, &mut regions)?;
+    } else {
+        lay_puts(alloc, &mut regions, 41, 703, 2)?;
+    }
+    lay_puts(alloc, &mut regions, 41, 705, 1)?;
+    Ok(eye_on(regions, fails))
+}
+
+fn eye_on(regions: Vec<Vec<u8>>, fails: u64) -> Eye {
+    Eye {
+        regions,
+        reads: 0,
+        fails,
+        faults: 0,
+        taken: 0,
+    }
+}
+
+/// The leaf in which all puts leave the node.
+fn leaf(alloc: Global) -> Result<Node, Fail> {
+    let pair = (text(alloc, b"a")?, text(alloc, b"1")?);
+    let mut pairs = Items::new(alloc);
+    pairs.push(pair).ok().ok_or("memory")?;
+    Ok(Node::Leaf { pairs })
+}
+
+/// Two entries, and the fault of a fetch of node 1 (false for a bad entry) with its place.
+#[test]
+fn damage_is_told_at_its_place(rt: HostRuntime) -> Result<(), Fail> {
+    let alloc = rt.alloc();
+    let table: [([(u32, u32, u32); 2], (bool, u32)); 5] = [
+        ([(1, 0, 2), (2, 24, 1)], (true, 65)),
+        ([(1, 0, 1), (2, 30, 1)], (true, 65)),
+        ([(0, 0, 1), (1, 24, 1)], (true, 65)),
+        ([(1, 24, 1), (2, 24, 1)], (false, 89)),
+        ([(1, 0, 1), (2, 48, 1)], (false, 103)),
+    ];
+    let parts: Parts = Items::from_vec(Vec::from_slice(
+        alloc,
+        &[Part {
+            region: 0,
+            ..WITH_ANOTHER
+        }],
+    )?);
+    for (entries, (row, place)) in table {
+        let mut regions = Vec::new(alloc);
+        lay_two(alloc, &mut regions, entries)?;
+        let mut eye = eye_on(regions, 0);
+        let told = match fetch(alloc, &mut eye, &parts, node(1), LEN) {
+            Err(FetchFault::BadRow { region, at }) => (true, region, at),
+            Err(FetchFault::BadIndex { region, at }) => (false, region, at),
+            _ => (true, 0, 0),
+        };
+        assert_eq!(&rt; told, (row, 0, place));
+    }
+    Ok(())
+}
+
+/// A part of two puts of node 1, over whose rows other bytes are laid from a place on.
+fn fetch_over(alloc: Global, at: usize, bytes: &[u8]) -> Result<(bool, u32), Fail>
+    requires { at < 48 }
+{
+    let mut region = vec![in alloc; 0; 41].ok().ok_or("memory")?;
+    puts(alloc, &mut region, 1, 703, 2)?;
+    for (i, byte) in bytes.iter().enumerate() {
+        if let Some(there) = region.get_mut(41 + at + i) {
+            *there ^= byte;
+        }
+    }
+    entry(&mut region, 1, 0, 2)?;
+    told_of_one(alloc, region)
+}
+
+/// Whether a fetch of node 1 from the bytes of region 5 met a bad row, and where.
+fn told_of_one(alloc: Global, region: Vec<u8>) -> Result<(bool, u32), Fail> {
+    let mut regions = Vec::new(alloc);
+    for _ in 0..5 {
+        regions.push(Vec::new(alloc)).ok().ok_or("memory")?;
+    }
+    regions.push(region).ok().ok_or("memory")?;
+    let mut eye = eye_on(regions, 0);
+    Ok(match plain(alloc, &mut eye) {
+        Err(FetchFault::BadRow { region: 5, at }) => (true, at),
+        Ok(_) => (false, 0),
+        Err(_) => (true, 0),
+    })
+}
+
+/// Node 1 from the part with two puts alone.
+fn plain(alloc: Global, eye: &mut Eye) -> Result<(Node, u64), FetchFault> {
+    let Ok(parts) = Vec::from_slice(alloc, &[PLAIN]) else {
+        return Err(FetchFault::NoMemory);
+    };
+    fetch(alloc, eye, &Items::from_vec(parts), node(1), LEN)
+}
+
+/// A bit is flipped in each byte of two puts: in versions, keys and values it makes another row, and elsewhere a bad one.
+#[test]
+fn a_flipped_bit_of_a_span_is_told_at_its_row(rt: HostRuntime) -> Result<(), Fail> {
+    let alloc = rt.alloc();
+    for at in 0..48u32 {
+        let told = fetch_over(alloc, at as usize, &[1])?;
+        let good = matches!(at % 24, 7..=14 | 20 | 23);
+        let wanted = if good {
+            (false, 0)
+        } else {
+            (true, 41 + at / 24 * 24)
+        };
+        assert_eq!(&rt; told, wanted, "at {at}");
+    }
+    Ok(())
+}
+
+/// Random bytes in a span are no row, from the first row on or from the second one on.
+#[test]
+fn random_bytes_in_a_span_are_told(rt: HostRuntime) -> Result<(), Fail> {
+    let alloc = rt.alloc();
+    let mut state = 7u64;
+    for turn in 0..100u32 {
+        let mut bytes = [0; 24];
+        for i in 0..24 {
+            state = state
+                .wrapping_mul(6364136223846793005)
+                .wrapping_add(1442695040888963407);
+            bytes[i] = (state >> 56) as u8;
+        }
+        let row = turn % 2;
+        let told = fetch_over(alloc, 24 * row as usize, &bytes)?;
+        assert_eq!(&rt; told, (true, 41 + 24 * row), "turn {turn}");
+    }
+    Ok(())
+}
+
+/// A node from the parts, all of them with puts alone.
+fn unfolded(alloc: Global, eye: &mut Eye, number: u32) -> Result<(Node, u64), FetchFault> {
+    let parts = [FIRST, WITH_ANOTHER, OF_ANOTHER, SEVERAL, PLAIN, LAST];
+    let Ok(parts) = Vec::from_slice(alloc, &parts) else {
+        return Err(FetchFault::NoMemory);
+    };
+    fetch(alloc, eye, &Items::from_vec(parts), node(number), LEN)
+}
+
+/// A node from the parts, of which one begins with an image.
+fn folded(alloc: Global, eye: &mut Eye, number: u32) -> Result<(Node, u64), FetchFault> {
+    let parts = [FIRST, WITH_ANOTHER, OF_ANOTHER, SEVERAL, FOLDED, LAST];
+    let Ok(parts) = Vec::from_slice(alloc, &parts) else {
+        return Err(FetchFault::NoMemory);
+    };
+    fetch(alloc, eye, &Items::from_vec(parts), node(number), LEN)
+}
+
+/// A node among a thousand.
+fn among(alloc: Global, eye: &mut Eye, number: u32) -> Result<(Node, u64), FetchFault> {
+    let Ok(parts) = Vec::from_slice(alloc, &[THOUSAND]) else {
+        return Err(FetchFault::NoMemory);
+    };
+    fetch(alloc, eye, &Items::from_vec(parts), node(number), LEN)
+}
+
+/// Rows in five parts of all three marks, and a part that has none of the node: with an image, those before it are not read.
+#[test]
+fn rows_of_five_parts_are_replayed(rt: HostRuntime) -> Result<(), Fail> {
+    let alloc = rt.alloc();
+    // whether there is an image, and how many bytes are taken
+    let newest = 14 + 24;
+    let table = [
+        (true, newest + 14 + 49),
+        (
+            false,
+            newest + 14 + 48 + 14 + 16_800 + 14 + 3 * 14 + 24 + 14 + 24,
+        ),
+    ];
+    for (with_image, taken) in table {
+        let mut eye = look(alloc, with_image, 0)?;
+        let found = if with_image {
+            folded(alloc, &mut eye, 1)
+        } else {
+            unfolded(alloc, &mut eye, 1)
+        };
+        assert_eq!(&rt; found.ok(), Some((leaf(alloc)?, 705)));
+        assert_eq!(&rt; eye.taken, taken);
+    }
+    Ok(())
+}
+
+/// A node that no part has is as it began, a leaf or a head, and no row is read for it.
+#[test]
+fn an_absent_node_is_as_it_began(rt: HostRuntime) -> Result<(), Fail> {
+    let alloc = rt.alloc();
+    let mut eye = look(alloc, true, 0)?;
+    let pairs = Items::new(alloc);
+    assert_eq!(&rt;
+        folded(alloc, &mut eye, 3).ok(),
+        Some((Node::Leaf { pairs }, 0))
+    );
+    let head = Node::Head {
+        root: 1,
+        next: 2,
+        depth: 1,
+    };
+    assert_eq!(&rt; folded(alloc, &mut eye, 0).ok(), Some((head, 0)));
+    assert_eq!(&rt; eye.taken, 14 * (6 + 7));
+    Ok(())
+}
+
+/// Each of the reads fails in turn, until none does.
+#[test]
+fn a_failed_read_is_told(rt: HostRuntime) -> Result<(), Fail> {
+    let alloc = rt.alloc();
+    let mut failures = 0u64;
+    for fails in 1..40u64 {
+        let mut eye = look(alloc, false, fails)?;
+        let failed = matches!(unfolded(alloc, &mut eye, 1), Err(FetchFault::Failed));
+        assert_eq!(&rt; failed, fails <= eye.reads);
+        assert_eq!(&rt; eye.faults, u64::from(failed));
+        failures = failures.saturating_add(u64::from(failed));
+    }
+    assert!(&rt; failures < 39);
+    Ok(())
+}
+
+/// Among a thousand nodes a fetch takes at most eleven entries and the node's row.
+#[test]
+fn few_bytes_are_taken_among_a_thousand_nodes(rt: HostRuntime) -> Result<(), Fail> {
+    let alloc = rt.alloc();
+    let mut regions = Vec::new(alloc);
+    for _ in 0..7 {
+        regions.push(Vec::new(alloc))?;
+    }
+    lay_thousand(alloc, &mut regions)?;
+    let mut eye = eye_on(regions, 0);
+    for number in 1..1002u32 {
+        let before = eye.taken;
+        let version = among(alloc, &mut eye, number)
+            .map(|found| found.1)
+            .unwrap_or(9);
+        assert_eq!(&rt; version, u64::from(number <= 1000));
+        assert!(&rt; eye.taken.saturating_sub(before) <= 154 + 24);
+    }
+    Ok(())
+}

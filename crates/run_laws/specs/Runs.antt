@@ -1,0 +1,139 @@
+-- What a run of a script on a room does.
+use Rattle.std.specs.Prelude.{◌≡◌, ◌⊎◌, ℕ, ◌+◌, ◌-◌, ◌<◌, ◌≤◌, ◌==◌, ◌&&◌, false, true, List, [], length, count_by, Option, Some, None, Ok}
+use Rattle.std.specs.List.{AllByRecursion, AllZip, list_all}
+use Rattle.log_disk.specs.Disk.{Told}
+use Rattle.fine_model.specs.declared.Call.{Call}
+use Rattle.fine_model.specs.declared.Damage.{Damage}
+use Rattle.fine_model.specs.declared.Options.{Options}
+use Rattle.fine_model.specs.declared.Outcome.{Outcome}
+use Rattle.fine_model.specs.declared.Part.{Part}
+use Rattle.fine_model.specs.declared.Ran.{Ran}
+use Rattle.fine_model.specs.declared.Reply.{Reply}
+use Rattle.fine_model.specs.declared.Row.{Row}
+use Rattle.fine_model.specs.declared.RunFault.{RunFault}
+use Rattle.fine_model.specs.declared.RunFault.TheVariants as run_fault
+use Rattle.fine_model.specs.declared.ScriptTxn.{ScriptTxn}
+use Rattle.fine_model.specs.Boards.{is_empty}
+use Rattle.fine_model.specs.Buckets.{Began}
+use Rattle.fine_model.specs.Causes.{HaveCauses}
+use Rattle.fine_model.specs.Chain.{chain}
+use Rattle.fine_model.specs.Damages.{IsDamageIn}
+use Rattle.fine_model.specs.Faults.{HasRisen, last_count}
+use Rattle.fine_model.specs.History.{Commit, last_epoch}
+use Rattle.fine_model.specs.Map.{Pair}
+use Rattle.fine_model.specs.Outcomes.{AllRun, AreOutcomes, EpochsFollow, lanes_not_run}
+use Rattle.fine_model.specs.Report.{all_outcomes}
+use Rattle.fine_model.specs.Room.{IsSealedUpTo}
+use Rattle.fine_model.specs.Store.{answer}
+use Rattle.epoch_room.specs.Meaning.{Stands, origin_of}
+use Rattle.epoch_room.specs.Value.{RoomValue}
+use Rattle.epoch_room.specs.Whole.{IsWhole}
+
+-- P of the rows and the last epoch of each sound log that the disk told at entry, and for which the room stands with no history
+abbrev pub OfSound : RoomValue → (List Row → ℕ → Type 0) → Type 0
+OfSound room P = (first : List Row) (e : ℕ) → Began (origin_of room.entry) e first → Stands room first e [] → P first e
+
+-- A room on which a run may begin: its disk is as it was when the room was made, nothing waits and nothing is out, and it stands for what its
+-- log showed at entry.
+pub record IsReady (room : RoomValue) : Type 0 where
+  pub whole : IsWhole room
+  pub at_entry : room.disk ≡ room.entry
+  pub not_shut : room.room.is_shut ≡ false
+  pub board : list_all is_empty room.room.board ≡ true
+  pub no_job : room.room.job ≡ None
+  pub no_place : room.room.places ≡ 0
+  pub none_waits : room.room.waiting ≡ 0
+  pub stands : (first : List Row) (e : ℕ) → Began (origin_of room.entry) e first → Stands room first e []
+
+-- What a run leaves beside what it means: the geometry, no eye, no view and no merge that is out, and a room of the same log at entry. A hall of
+-- threads keeps no more of the entry than its origin.
+pub record LeavesBeside (old new : RoomValue) : Type 0 where
+  pub regions : new.disk.regions ≡ old.disk.regions
+  pub region_len : new.disk.region_len ≡ old.disk.region_len
+  pub no_eyes : new.disk.eyes ≡ []
+  pub board : list_all is_empty new.room.board ≡ true
+  pub no_job : new.room.job ≡ None
+  pub origin : origin_of new.entry ≡ origin_of old.entry
+
+-- What the room has of the history that was added, whoever added it: a place for each commit, epochs that follow on those at entry, up to which one
+-- they are sealed, and as many entries that wait as the history has in the open epoch. On a sound log it stands for this history.
+pub record AddsHistory (old new : RoomValue) (history : List Commit) : Type 0 where
+  pub epochs : EpochsFollow old.room.sealed history
+  pub sealed : IsSealedUpTo old.room.sealed history new.room.sealed
+  pub places : new.room.places ≡ length history
+  pub waiting : new.room.waiting ≡ count_by (λ c. c.epoch == new.room.sealed + 1) history
+  pub stands : OfSound old (λ first e. Stands new first e history)
+  pub whole : IsWhole new
+  pub beside : LeavesBeside old new
+
+-- the disk's own count of faults rose
+abbrev pub OwnRose : RoomValue → RoomValue → Type 0
+OwnRose old new = HasRisen old.disk.own_faults new.disk.own_faults
+
+-- How the fault of a run is told. A failed disk is told only where its count rose, and where the count is greater than it was, unless memory ran out too.
+-- Damage comes on an unsound log alone. Without a failure of the disk's own, each lane that was cut short has a failed call.
+pub record TellsFault (script : List ScriptTxn) (outcomes : List Outcome) (old new : RoomValue) (fault : Option RunFault) : Type 0 where
+  pub only_risen : fault ≡ Some run_fault.Disk → HasRisen old.disk.faults new.disk.faults
+  pub where_risen : old.disk.faults < new.disk.faults → (fault ≡ Some run_fault.Disk) ⊎ (fault ≡ Some run_fault.Memory)
+  pub no_lower : (old.disk.faults ≤ new.disk.faults) × (old.disk.own_faults ≤ new.disk.own_faults)
+  pub unsound : (what : Damage) → fault ≡ Some (run_fault.Damaged what) → OfSound old (λ first e. ⊥)
+  pub one_each : fault ≡ Some run_fault.Disk → ¬ OwnRose old new
+      → OfSound old (λ first e. (lanes_not_run script outcomes ≤ new.disk.faults - old.disk.faults) ⊎ (last_count ≤ new.disk.faults))
+
+-- what may be named as damaged, behind some transactions with their commits
+abbrev pub Names : Type 1
+Names = List ScriptTxn → List Commit → Damage → Type 0
+
+-- anything, where nothing is asked of it
+abbrev pub any_damage : Names
+any_damage script history what = Unit {0}
+
+-- what is damaged by the bytes at entry, on any log that the disk told then
+abbrev pub IsDamageAt : RoomValue → Names
+IsDamageAt old script history what = (before : Told) (parts : List Part) → old.disk.told ≡ Some before → chain old.room.region_len before.bytes ≡ Ok parts
+    → IsDamageIn (Ok script) ⊥ history old.room.region_len before.bytes parts what
+
+-- a run that is to leave all its commits durable: no fault ended it, or one that was neither want of memory nor a failure of the disk's own
+abbrev pub IsToSeal : RoomValue → RoomValue → Option RunFault → Type 0
+IsToSeal old new fault = (fault ≡ None) ⊎ ((fault ≡ Some run_fault.Memory → ⊥) × (OwnRose old new → ⊥))
+
+-- memory ran out before the list of outcomes was had, and nothing was run
+abbrev pub IsNotBegun : Ran → Type 0
+IsNotBegun ran = (ran.fault ≡ Some run_fault.Memory) × (ran.outcomes ≡ [])
+
+-- no epoch of a history has more entries of one lane than these
+abbrev pub AreFewOfLanes : ℕ → List Commit → Type 0
+AreFewOfLanes most history = (lane e : ℕ) → count_by (λ c. (c.entry.lane == lane) && (c.epoch == e)) history ≤ most
+
+-- a reply that the store has to a call, on some map
+abbrev pub IsReplyTo : Call → Reply → Type 0
+IsReplyTo c r = (pairs : List Pair) × (r ≡ (answer pairs c).0)
+
+-- each call of a commit has its reply
+abbrev pub IsReplied : Commit → Type 0
+IsReplied c = AllZip IsReplyTo c.entry.calls c.entry.replies
+
+-- The run, but for the words of damage. Its outcomes are those of one history, which the room was given, and each refusal has its cause. No clause names a
+-- thread, an order across lanes, a try or a merge. There is an outcome for each transaction, unless memory ran out before the first.
+pub record RunsScript (script : List ScriptTxn) (options : Options) (old new : RoomValue) (ran : Ran) : Type 0 where
+  pub history : List Commit
+  pub adds : AddsHistory old new history
+  pub outcomes : AreOutcomes script old.room.sealed (all_outcomes script ran.outcomes) history
+  pub each_told : (length ran.outcomes ≡ length script) ⊎ IsNotBegun ran
+  pub replied : AllByRecursion IsReplied history
+  pub all_run : ran.fault ≡ None → AllRun (all_outcomes script ran.outcomes)
+  pub few_each : AreFewOfLanes options.group history
+  pub durable : ran.durable ≡ new.room.sealed
+  pub all_durable : IsToSeal old new ran.fault → ran.durable ≡ last_epoch old.room.sealed history
+  pub causes : (after : Told) → new.disk.told ≡ Some after
+      → OfSound old (λ first e. HaveCauses old.room.region_len first after.bytes script (all_outcomes script ran.outcomes) history ran.durable)
+  pub fault : TellsFault script (all_outcomes script ran.outcomes) old new ran.fault
+
+-- with the damage that it names in these words, with the history that it committed
+pub record RunsBy (names : Names) (script : List ScriptTxn) (options : Options) (old new : RoomValue) (ran : Ran) : Type 0 where
+  pub run : RunsScript script options old new ran
+  pub damage : (what : Damage) → ran.fault ≡ Some (run_fault.Damaged what) → names script run.history what
+
+-- the run, with the damage that the bytes at entry have
+abbrev pub RunsLanes : List ScriptTxn → Options → RoomValue → RoomValue → Ran → Type 0
+RunsLanes script options old new ran = RunsBy (IsDamageAt old) script options old new ran

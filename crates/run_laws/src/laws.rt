@@ -1,0 +1,138 @@
+//! Laws of runs, each the contract of a function that does nothing.
+
+ghost use Rattle.std.specs.Prelude.{List, ℕ};
+ghost use Rattle.fine_model.specs.declared.Damage.{Damage};
+ghost use Rattle.fine_model.specs.declared.ScriptTxn.{ScriptTxn};
+ghost use Rattle.fine_model.specs.declared.law.Origin.{Origin};
+ghost use Rattle.fine_model.specs.History.{Commit};
+ghost use Rattle.run_laws.specs.Going.{CommitsLaw, FewEnd, FewLess, FewMore, FewWait, FullLaw, LaterLaw, SealsLaw, StaysLaw};
+ghost use Rattle.run_laws.specs.Lanes.{CutShortLaw};
+ghost use Rattle.run_laws.specs.Law.{BehindLaw, DoneLaw, NothingLaw, ReadyLaw, RunLaw, StatusLaw};
+ghost use Rattle.run_laws.specs.Reading.{LegalLaw, SeesLaw, UnsoundLaw};
+ghost use Rattle.run_laws.specs.SoFar.{BeginsLaw, EndsLaw, FinishedLaw, LaneEndsLaw, NextLaw, RefusedNext, SetsLaw, StepsLaw};
+ghost use Rattle.run_laws.specs.Told.{DamageLasts, DamageStays, MoreBeside, MoreByLane, NamedMore, NamedNext, ToldMore, ToldStays};
+ghost use Rattle.run_laws.specs.Turns.{CausesLaw, InTurnLaw, StaysRefused};
+
+/// The buckets of a body together: that they stand for a history on a log, while an epoch is published.
+pub trait BucketsLaw {
+    ghost stand_for: { Origin → ℕ → Self → List Commit → Type 0 };
+}
+
+/// Words of damage: what may be named as damaged, behind some transactions with their commits.
+pub trait NamesLaw {
+    ghost names: { List ScriptTxn → List Commit → Damage → Type 0 };
+}
+
+/// On a room that was just made of a log a run may begin.
+pub fn ready_law()
+    ensures { ReadyLaw }
+{}
+
+/// On each sound log that the disk told at entry, a run of lanes is a run in the words of the theorem, with its causes and its fault; and with
+/// status 0, 6 or 8 one that was done.
+pub fn run_law()
+    ensures run { RunLaw }
+    ensures done { DoneLaw }
+{}
+
+/// On each log that the disk told at entry, sound or not, a run of lanes has what a report says beside its text, and names no damage that is not there.
+pub fn behind_law()
+    ensures { BehindLaw }
+{}
+
+/// On every disk the status of a run tells of the disk's count of faults: 6 only where it rose, and 6, or 1 before it, where it is greater.
+pub fn status_law()
+    ensures { StatusLaw }
+{}
+
+/// A run of no transaction, and one for which there was no memory to begin, leave the room as it is.
+pub fn nothing_law()
+    ensures { NothingLaw }
+{}
+
+/// Where transactions are run in the order of the script, their outcomes are those of one history: that of their commits, one behind the other.
+pub fn in_turn_law()
+    ensures { InTurnLaw }
+{}
+
+/// Where each transaction that was not run is of a lane that has ended: with no lane ended all was run, and where lanes have ended by a failed disk
+/// alone, no more were cut short than it ended.
+pub fn cut_short_law()
+    ensures { CutShortLaw }
+{}
+
+/// What a room refused it would refuse for the same reason as it goes on; and where transactions are run in the order of the script, one that was
+/// refused behind the commits before it has its cause at the end.
+pub fn causes_law()
+    ensures stays { StaysRefused }
+    ensures causes { CausesLaw }
+{}
+
+/// The outcomes so far of a body on one thread: with that of the next transaction, which is set in the list of all, they are those of one more, each that
+/// was refused has its cause still, and they stay as a lane ends.
+pub fn so_far_law()
+    ensures next { NextLaw }
+    ensures sets { SetsLaw }
+    ensures refused { RefusedNext }
+    ensures lane_ends { LaneEndsLaw }
+{}
+
+/// The room of a body on one thread goes on: by calls that add and seal nothing, by an entry more, and by a seal, whatever it answers. Where it takes
+/// nothing any more, its log is stuck.
+pub fn going_law()
+    ensures later { LaterLaw }
+    ensures stays { StaysLaw }
+    ensures commits { CommitsLaw }
+    ensures seals { SealsLaw }
+    ensures full { FullLaw }
+{}
+
+/// How few entries of a lane wait: as some entries wait, as a lane that goes on commits, as one ends with a commit, and as one ends without.
+pub fn few_law()
+    ensures wait { FewWait }
+    ensures more { FewMore }
+    ensures end { FewEnd }
+    ensures less { FewLess }
+{}
+
+/// What is read through the view that is out: on a sound log its rows agree with the commits up to its epoch, the commits are legal, and no load names
+/// damage.
+pub fn reading_law()
+    ensures sees { SeesLaw }
+    ensures legal { LegalLaw }
+    ensures unsound { UnsoundLaw }
+{}
+
+/// What faults tell (`AreTold`): where no call failed, all stays as it was told; so it does with a fault more, whether it ends a lane or is told beside
+/// those of lanes.
+pub fn told_law()
+    ensures stays { ToldStays }
+    ensures more { ToldMore }
+    ensures by_lane { MoreByLane }
+    ensures beside { MoreBeside }
+{}
+
+/// What faults name as damaged (`AreNamed`), in any words: with a fault more, and, where the words last, behind the next transaction.
+pub fn named_law<N: NamesLaw>()
+    ensures more { NamedMore N.names }
+    ensures next { NamedNext N.names }
+{}
+
+/// The words of damage by the bytes at entry last.
+pub fn damage_law()
+    ensures stays { DamageStays }
+    ensures lasts { DamageLasts }
+{}
+
+/// The body on one thread, with buckets of any kind, and with damage in any words: it begins on a room that is ready, the step of each transaction keeps what holds of it, and it has
+/// finished where the view was taken back behind the last one, and what waited was sealed.
+pub fn body_law<B: BucketsLaw, N: NamesLaw>()
+    ensures begins { BeginsLaw B.stand_for N.names }
+    ensures steps { StepsLaw B.stand_for N.names }
+    ensures ends { EndsLaw B.stand_for N.names }
+{}
+
+/// Where the body on one thread has finished, what it leaves is a run, with damage in the same words.
+pub fn finished_law<N: NamesLaw>()
+    ensures { FinishedLaw N.names }
+{}

@@ -1,5 +1,0 @@
-use Rattle.txn_runner.proofs.Going.{few_end, few_less, few_more, few_wait}
-use Rattle.txn_runner.proofs.laws.few_law.Goals as goal
-
-pub returns : goal.returns
-returns c = record { wait = few_wait; more = few_more; end = few_end; less = few_less }

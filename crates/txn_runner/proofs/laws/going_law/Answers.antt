@@ -1,5 +1,0 @@
-use Rattle.txn_runner.proofs.Going.{commits_law, full_law, later_law, seals_law, stays_law}
-use Rattle.txn_runner.proofs.laws.going_law.Goals as goal
-
-pub returns : goal.returns
-returns c = record { later = later_law; stays = stays_law; commits = commits_law; seals = seals_law; full = full_law }

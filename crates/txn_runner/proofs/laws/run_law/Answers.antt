@@ -1,5 +1,0 @@
-use Rattle.txn_runner.proofs.Runs.{done_law, run_law}
-use Rattle.txn_runner.proofs.laws.run_law.Goals as goal
-
-pub returns : goal.returns
-returns c = record { run = run_law; done = done_law }

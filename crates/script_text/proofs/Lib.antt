@@ -13,3 +13,5 @@ pub mod Telling
 pub mod NoFeedReplies
 pub mod NoFeedScripts
 pub mod NoFeedRuns
+pub mod Summing
+pub mod Making

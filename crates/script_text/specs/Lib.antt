@@ -10,3 +10,5 @@ pub mod Reads
 pub mod Turns
 pub mod Fits
 pub mod Marks
+pub mod Summaries
+pub mod Generating

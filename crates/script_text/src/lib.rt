@@ -6,9 +6,11 @@ ghost use Rattle.fine_model.specs.Faults.{CountsFault};
 ghost use Rattle.script_text.specs.Streams.{Takes, Puts};
 
 mod console;
+mod generating;
 mod grammar;
 mod line;
 mod lines;
+mod listing;
 mod memory;
 mod page;
 mod reach;
@@ -16,12 +18,16 @@ mod read;
 mod reading;
 mod report;
 mod report_law;
+mod summary;
 
 pub use console::{StdSink, StdSource};
+pub use generating::generate;
+pub use listing::{write_dump, write_ranges};
 pub use memory::{MemSink, MemSource};
 pub use read::{ScriptFault, read_script, read_whole_script};
 pub use report::{write_reason, write_report};
 pub use report_law::text_law;
+pub use summary::{GeneratedRun, write_summary};
 
 /// A call of a source or of a sink failed.
 #[derive(Clone, Copy, Debug, PartialEq, Eq)]

@@ -35,7 +35,7 @@ fn say_pair<K: Sink>(page: &mut Page, sink: &mut K, pair: &(Bytes, Bytes))
 }
 
 /// Says the lines of pairs.
-fn say_pairs<K: Sink>(page: &mut Page, sink: &mut K, pairs: &[(Bytes, Bytes)])
+pub(crate) fn say_pairs<K: Sink>(page: &mut Page, sink: &mut K, pairs: &[(Bytes, Bytes)])
     ensures { Sends (flat_map pair_line pairs.now) (desk (K.written sink.old) (K.faults sink.old) page.old) (desk (K.written sink.new) (K.faults sink.new) page.new) }
 {
     for pair in pairs {
@@ -260,7 +260,7 @@ fn say_damage<K: Sink>(page: &mut Page, sink: &mut K, what: &Damage)
 }
 
 /// Says the line of a fault.
-fn say_fault<K: Sink>(page: &mut Page, sink: &mut K, fault: &RunFault)
+pub(crate) fn say_fault<K: Sink>(page: &mut Page, sink: &mut K, fault: &RunFault)
     ensures { Sends (fault_line fault.now) (desk (K.written sink.old) (K.faults sink.old) page.old) (desk (K.written sink.new) (K.faults sink.new) page.new) }
 {
     match fault {

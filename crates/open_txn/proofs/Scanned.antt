@@ -1,0 +1,204 @@
+-- A scan from bucket to bucket.
+use Rattle.std.proofs.Common.{◌≡◌, ⊎_elim, ℕ, ◌≤◌, true, false, List, [], ◌∷◌, ◌++◌, slice_get, slice_set, take, Some, Result, Ok, Err, sym, ap, ◌∙◌, subst, le_refl, inr, refl}
+use Rattle.std.specs.Prelude.{All, IfErr, OnOk}
+use Rattle.std.proofs.lemmas.List.{take-take}
+use Rattle.std.proofs.lemmas.List.Elements.{All-append, All-nil, All-take, filter_passes, recursion_from_All}
+use Rattle.std.proofs.lemmas.List.Sorted.{All-permutation}
+use Rattle.fine_model.specs.declared.Call.{Call}
+use Rattle.fine_model.specs.declared.Call.TheVariants as call
+use Rattle.fine_model.specs.declared.FetchFault.{FetchFault}
+use Rattle.fine_model.specs.declared.Node.{Node}
+use Rattle.fine_model.specs.declared.Node.TheVariants as node
+use Rattle.fine_model.specs.declared.NodeId.{NodeId}
+use Rattle.fine_model.specs.declared.Reply.TheVariants as reply
+use Rattle.fine_model.specs.declared.Row.{Row}
+use Rattle.fine_model.specs.Map.{Pair, between}
+use Rattle.fine_model.specs.Nodes.{Content}
+use Rattle.fine_model.specs.ScanLaws.{IsKept}
+use Rattle.fine_model.specs.Store.{answer}
+use Rattle.fine_model.specs.Trees.{IsSound}
+use Rattle.fine_model.proofs.KeptPairs.{kept_first}
+use Rattle.fine_model.proofs.Order.{filter_all}
+use Rattle.node_cache.specs.Cache.{Cache}
+use Rattle.node_cache.specs.Given.{given}
+use Rattle.btree_nodes.specs.declared.fault.TreeFault.{TreeFault}
+use Rattle.btree_nodes.specs.declared.fault.TreeFault.TheVariants.{Source, Unfit, BucketFull, Number, NoMemory}
+use Rattle.btree_nodes.specs.Calls.{Reads, SoundReading}
+use Rattle.btree_nodes.specs.Faults.{OnFault}
+use Rattle.btree_nodes.specs.Trees.{Holds, Serves, pairs_between}
+use Rattle.txn_draft.specs.Drafts.{DraftValue, FitsDraft, IsAnswered}
+use Rattle.txn_draft.specs.Scans.{IsFirst, IsGathered, KeepsFound, ScanValue}
+use Rattle.txn_draft.specs.Uses.{IsUsed}
+use Rattle.open_txn.specs.Buckets.{BucketsValue, HoldAll, ServeAll}
+use Rattle.open_txn.specs.Opened.{HasCause, HasReply, UseAll}
+use Rattle.open_txn.specs.Steps.{Advances, Gathers, Halts, Refuses, is_inside}
+use Rattle.open_txn.proofs.Advanced.{each_now, err_of, ok_of, still_served, use_one}
+
+-- ---- pairs within a range
+
+module _ (low high : List ℕ) where
+  abbrev AllInside : List Pair → Type 0
+  AllInside pairs = All (λ p. is_inside low high p ≡ true) pairs
+
+  inside_between : (nodes : ℕ → Content) (head : Node) → AllInside (pairs_between nodes low high head)
+  unfolding pairs_between between
+  inside_between nodes (node.Head root next depth) = filter_passes (is_inside low high) _
+  inside_between nodes (node.Leaf pairs) = All-nil (λ p. is_inside low high p ≡ true)
+  inside_between nodes (node.Inner seps kids) = All-nil (λ p. is_inside low high p ≡ true)
+  inside_between nodes node.Broken = All-nil (λ p. is_inside low high p ≡ true)
+
+  inside_first : (limit : ℕ) (pairs first : List Pair) → IsFirst limit pairs first → AllInside pairs → AllInside first
+  inside_first limit pairs first is all =
+      subst AllInside (sym is.is) (All-take (λ p. is_inside low high p ≡ true) limit is.found (All-permutation (λ p. is_inside low high p ≡ true) pairs is.found is.sorted.permuted all))
+
+  inside_gathered : (b : Cache) (limit : ℕ) (old new : List Pair) → IsGathered b low high limit old new → AllInside old → AllInside new
+  inside_gathered b limit old new g all = ⊎_elim (λ (same : new ≡ g.longer). subst AllInside (sym same) longer) (λ (first : IsFirst limit g.longer new). inside_first limit g.longer new first longer) g.cut
+    where
+      longer : AllInside g.longer
+      longer = subst AllInside (sym g.found.behind) (All-append (λ p. is_inside low high p ≡ true) old (take limit (pairs_between (given b) low high (given b 0).0)) all
+          (All-take (λ p. is_inside low high p ≡ true) limit (pairs_between (given b) low high (given b 0).0) (inside_between (given b) (given b 0).0)))
+
+  -- what a scan found is the store's reply on a map that has these pairs alone
+  found_reply : (limit : ℕ) (pairs first : List Pair) → IsFirst limit pairs first → AllInside pairs → HasReply (call.Scan low high limit) (reply.Found first)
+  unfolding answer between
+  found_reply limit pairs first is all = (
+    first,
+    ap reply.Found (is.is ∙ sym (take-take limit limit is.found (le_refl limit)) ∙ ap (take limit) (sym is.is)
+        ∙ ap (take limit) (sym (filter_all (is_inside low high) first (recursion_from_All (λ p. is_inside low high p ≡ true) first (inside_first limit pairs first is all))))),
+  )
+
+-- ---- one bucket
+
+module _ (tells tells' : List Row → Type 0) (upper k : ℕ) (v v' : BucketsValue) (b b' : Cache) (there : slice_get v.buckets k ≡ Some b) (buckets : v'.buckets ≡ slice_set v.buckets k b') (flags : v'.touched ≡ slice_set v.touched k true)
+    (later : (rows : List Row) → tells rows → tells' rows) (low high : List ℕ) (limit : ℕ) (s s' : ScanValue) (r : Result (Unit {0}) TreeFault)
+    (used : (least : ℕ) (taken : Cache) (rows : List Row) → IsUsed least taken b rows → least ≤ upper → IsUsed least taken b' rows) (serves : (rows : List Row) → Serves tells b rows → Serves tells' b' rows)
+    (sound : (rows log : List Row) → Serves tells b rows → Holds b rows log → IsSound (rows ++ log)
+    → SoundReading rows log b' (λ (done : Unit {0}). IsKept (rows ++ log) low high limit s.next s.pairs → IsKept (rows ++ log) low high limit s'.next s'.pairs) r) where
+  uses : (least : ℕ) (taken : BucketsValue) (rows : List Row) → UseAll least taken v rows → least ≤ upper → UseAll least taken v' rows
+  uses least taken rows all most = use_one k v v' b b' there buckets flags least taken rows rows all (λ t u. used least t rows u most) (λ j t y ne is u. u)
+
+  others_hold : (rows log : List Row) → HoldAll rows log v → Holds b' rows log → HoldAll rows log v'
+  others_hold rows log all here = each_now k v v' b b' there buckets flags (λ j y. Holds y rows log) here (λ j y ne is. all j y is)
+
+  pub gathered_in : (done : Unit {0}) → r ≡ Ok done → IsGathered b' low high limit s.pairs s'.pairs → Gathers tells tells' upper v v' low high limit s s'
+  gathered_in done ok g = record {
+    inside = inside_gathered low high b' limit s.pairs s'.pairs g;
+    uses = uses;
+    serves = λ rows all. each_now k v v' b b' there buckets flags (λ j y. Serves tells' y rows) (serves rows (all k b there)) (λ j y ne is. still_served tells tells' y rows later (all j y is));
+    holds = λ rows log served all fine. others_hold rows log all (now rows log served all fine).1;
+    kept = λ rows log served all fine. (now rows log served all fine).0;
+  }
+    where
+      now : (rows log : List Row) → ServeAll tells rows v → HoldAll rows log v → IsSound (rows ++ log)
+          → (IsKept (rows ++ log) low high limit s.next s.pairs → IsKept (rows ++ log) low high limit s'.next s'.pairs) × Holds b' rows log
+      now rows log served all fine = subst (λ (x : Result (Unit {0}) TreeFault). SoundReading rows log b' (λ (done : Unit {0}). IsKept (rows ++ log) low high limit s.next s.pairs → IsKept (rows ++ log) low high limit s'.next s'.pairs) x) ok
+          (sound rows log (served k b there) (all k b there) fine)
+
+  pub halted_in : (fault : TreeFault) → r ≡ Err fault → Halts tells upper v v' fault
+  halted_in fault err = record {
+    uses = uses;
+    holds = λ rows log served all fine. others_hold rows log all (holds_of rows log fault (now rows log served all fine));
+    cause = λ rows log served all fine. cause_of rows log fault (now rows log served all fine);
+  }
+    where
+      holds_of : (rows log : List Row) (f : TreeFault) → OnFault f (λ _. Holds b' rows log) (λ _. ⊥) (Holds b' rows log) → Holds b' rows log
+      holds_of rows log (Source f) h = h
+      holds_of rows log (Unfit id) h = absurd h
+      holds_of rows log (BucketFull next depth) h = absurd h
+      holds_of rows log (Number id) h = absurd h
+      holds_of rows log NoMemory h = h
+
+      cause_of : (rows log : List Row) (f : TreeFault) → OnFault f (λ _. Holds b' rows log) (λ _. ⊥) (Holds b' rows log) → OnFault f (λ _. Unit {0}) (λ _. ⊥) (Unit {0})
+      cause_of rows log (Source f) h = tt
+      cause_of rows log (Unfit id) h = h
+      cause_of rows log (BucketFull next depth) h = h
+      cause_of rows log (Number id) h = h
+      cause_of rows log NoMemory h = tt
+
+      now : (rows log : List Row) → ServeAll tells rows v → HoldAll rows log v → IsSound (rows ++ log) → OnFault fault (λ _. Holds b' rows log) (λ _. ⊥) (Holds b' rows log)
+      now rows log served all fine = subst (λ (x : Result (Unit {0}) TreeFault). SoundReading rows log b' (λ (done : Unit {0}). IsKept (rows ++ log) low high limit s.next s.pairs → IsKept (rows ++ log) low high limit s'.next s'.pairs) x) err
+          (sound rows log (served k b there) (all k b there) fine)
+
+  pub gathers_in : (F : FetchFault → Type 0) (U : NodeId → Type 0) → Reads (λ (done : Unit {0}). IsGathered b' low high limit s.pairs s'.pairs) F U r → OnOk r (Gathers tells tells' upper v v' low high limit s s')
+  gathers_in F U reads = ok_of (Gathers tells tells' upper v v' low high limit s s') r
+      (λ done ok. gathered_in done ok (subst (λ (x : Result (Unit {0}) TreeFault). Reads (λ (done : Unit {0}). IsGathered b' low high limit s.pairs s'.pairs) F U x) ok reads))
+
+  pub halts_in : IfErr r (Halts tells upper v v')
+  halts_in = err_of (Halts tells upper v v') r halted_in
+
+-- ---- one bucket behind another
+
+pub gathers_none : (tells : List Row → Type 0) (upper : ℕ) (v : BucketsValue) (low high : List ℕ) (limit : ℕ) (s : ScanValue) → Gathers tells tells upper v v low high limit s s
+gathers_none tells upper v low high limit s = record {
+  inside = λ all. all;
+  uses = λ least taken rows all most. all;
+  serves = λ rows all. all;
+  holds = λ rows log served all fine. all;
+  kept = λ rows log served all fine kept. kept;
+}
+
+module _ (tells mid tells' : List Row → Type 0) (upper : ℕ) (a b : BucketsValue) (low high : List ℕ) (limit : ℕ) (s s' : ScanValue) (one : Gathers tells mid upper a b low high limit s s') where
+  pub gathers_on : (c : BucketsValue) (s'' : ScanValue) → Gathers mid tells' upper b c low high limit s' s'' → Gathers tells tells' upper a c low high limit s s''
+  gathers_on c s'' two = record {
+    inside = λ all. two.inside (one.inside all);
+    uses = λ least taken rows all most. two.uses least taken rows (one.uses least taken rows all most) most;
+    serves = λ rows all. two.serves rows (one.serves rows all);
+    holds = λ rows log served all fine. two.holds rows log (one.serves rows served) (one.holds rows log served all fine) fine;
+    kept = λ rows log served all fine kept. two.kept rows log (one.serves rows served) (one.holds rows log served all fine) fine (one.kept rows log served all fine kept);
+  }
+
+  pub halts_on : (c : BucketsValue) (fault : TreeFault) → Halts mid upper b c fault → Halts tells upper a c fault
+  halts_on c fault two = record {
+    uses = λ least taken rows all most. two.uses least taken rows (one.uses least taken rows all most) most;
+    holds = λ rows log served all fine. two.holds rows log (one.serves rows served) (one.holds rows log served all fine) fine;
+    cause = λ rows log served all fine. two.cause rows log (one.serves rows served) (one.holds rows log served all fine) fine;
+  }
+
+-- ---- the whole scan
+
+module _ (tells tells' : List Row → Type 0) (upper : ℕ) (v v' : BucketsValue) (d : DraftValue) (low high : List ℕ) (limit : ℕ) where
+  pub scan_found : (d' : DraftValue) (s : ScanValue) → d.failed ≡ false → s.next ≡ 256 → Gathers tells tells' upper v v' low high limit (record { pairs = []; next = 0 }) s → KeepsFound (call.Scan low high limit) s.pairs d d'
+      → (FitsDraft d → FitsDraft d') → d'.rows ≡ d.rows → ((rows : List Row) → IsAnswered rows d → IsKept (rows ++ d.rows) low high limit 256 s.pairs → IsAnswered rows d') → Advances tells tells' upper v v' d d' (call.Scan low high limit ∷ [])
+  scan_found d' s was next g keeps fits rows_same answers = record {
+    not_failed = ap (λ x. x.failed) keeps.is ∙ was;
+    behind = ap (λ x. x.calls) keeps.is;
+    replied = record {
+      replies = reply.Found keeps.first ∷ [];
+      behind = ap (λ x. x.replies) keeps.is;
+      each = (found_reply low high limit s.pairs keeps.first keeps.is_first (g.inside (All-nil (λ p. is_inside low high p ≡ true))), tt);
+    };
+    fits = fits;
+    uses = λ least taken all most. subst (UseAll least taken v') (sym rows_same) (g.uses least taken d.rows all most);
+    served = λ rows all. record {
+      serves = g.serves rows all.serves;
+      holds = subst (λ log. HoldAll rows log v') (sym rows_same) (g.holds rows d.rows all.serves all.holds all.answered.leaves.has_map.sound);
+      answered = answers rows all.answered (subst (λ (n : ℕ). IsKept (rows ++ d.rows) low high limit n s.pairs) next
+          (g.kept rows d.rows all.serves all.holds all.answered.leaves.has_map.sound (kept_first (rows ++ d.rows) low high limit)));
+    };
+    touches = λ k on. inr refl;
+  }
+
+  -- a fault of one bucket refuses it
+  pub scan_halted : (fault : TreeFault) (more : List Call) → Halts tells upper v v' fault → Refuses tells upper v v' d (call.Scan low high limit ∷ more) fault
+  scan_halted fault more h = record {
+    undoes = λ least taken all most. let u = h.uses least taken d.rows all most in record { each = λ k t b is_t is_b. (u.each k t b is_t is_b).undoes; untouched = u.untouched };
+    restores = λ rows all k b is. (h.holds rows d.rows all.serves all.holds all.answered.leaves.has_map.sound k b is).restores;
+    cause = λ rows all. cause_of rows fault (h.cause rows d.rows all.serves all.holds all.answered.leaves.has_map.sound);
+    touches = λ k on. inr refl;
+  }
+    where
+      cause_of : (rows : List Row) (f : TreeFault) → OnFault f (λ _. Unit {0}) (λ _. ⊥) (Unit {0}) → HasCause rows (d.calls ++ call.Scan low high limit ∷ more) f
+      cause_of rows (Source f) h = tt
+      cause_of rows (Unfit id) h = h
+      cause_of rows (BucketFull next depth) h = absurd h
+      cause_of rows (Number id) h = absurd h
+      cause_of rows NoMemory h = tt
+
+  -- and so does want of memory behind all of them
+  pub scan_lost : (s : ScanValue) (more : List Call) → Gathers tells tells' upper v v' low high limit (record { pairs = []; next = 0 }) s → Refuses tells upper v v' d (call.Scan low high limit ∷ more) NoMemory
+  scan_lost s more g = record {
+    undoes = λ least taken all most. let u = g.uses least taken d.rows all most in record { each = λ k t b is_t is_b. (u.each k t b is_t is_b).undoes; untouched = u.untouched };
+    restores = λ rows all k b is. (g.holds rows d.rows all.serves all.holds all.answered.leaves.has_map.sound k b is).restores;
+    cause = λ rows all. tt;
+    touches = λ k on. inr refl;
+  }

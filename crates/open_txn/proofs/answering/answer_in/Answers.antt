@@ -1,0 +1,44 @@
+use Rattle.std.proofs.Common.{◌≡◌, ◌∙◌, ◌<◌, ap, arith, length, refl, slice_get, Some, sym}
+use Rattle.std.proofs.lemmas.Option.{slice_get-get_or}
+use Rattle.fine_model.specs.declared.FetchFault.{FetchFault}
+use Rattle.open_txn.proofs.Advanced.{advances_in, place_of, refuses_in, still_are}
+use Rattle.open_txn.proofs.answering.answer_in.Goals as goal
+
+pub answer-requires-clause-bucket : goal.answer-requires-clause-bucket
+answer-requires-clause-bucket g c =
+    let at = c.from-at.result in
+    let low : at < length c.buckets.inside.buckets.items = omega (arith, c.from-at.ensures, c.bucket_for.ensures.range, c.buckets.invariant.many) in
+    c.buckets.invariant.numbered at c.index_mut-bucket.result.now (slice_get-get_or c.buckets.inside.buckets.items at _ low ∙ ap Some (sym c.index_mut-bucket.ensures.value)) ∙ c.from-at.ensures ∙ c.bucket_for.ensures.value
+
+pub invariant_of-buckets : goal.invariant_of-buckets
+invariant_of-buckets g c =
+    let at = c.from-at.result in
+    let low : at < length c.buckets.inside.buckets.items = omega (arith, c.from-at.ensures, c.bucket_for.ensures.range, c.buckets.invariant.many) in
+    still_are at (record { buckets = c.buckets.inside.buckets.items; touched = c.buckets.inside.touched.items }) c.index_mut-bucket.result.now c.answer.new.bucket c.buckets.invariant
+    (slice_get-get_or c.buckets.inside.buckets.items at _ low ∙ ap Some (sym c.index_mut-bucket.ensures.value)) c.answer.ensures.number
+
+pub returns : goal.returns
+returns g c =
+    let at = c.from-at.result in
+    let low : at < length c.buckets.inside.buckets.items = omega (arith, c.from-at.ensures, c.bucket_for.ensures.range, c.buckets.invariant.many) in
+    let b = c.index_mut-bucket.result.now in
+    let there : slice_get c.buckets.inside.buckets.items at ≡ Some b = slice_get-get_or c.buckets.inside.buckets.items at _ low ∙ ap Some (sym c.index_mut-bucket.ensures.value) in
+    let of_key = c.from-at.ensures ∙ c.bucket_for.ensures.value in
+    let tells = g.S.NodeSource.tells c.args.source.now in
+    let finds = g.S.NodeSource.finds c.args.source.now in
+    let tells' = g.S.NodeSource.tells c.answer.new.source in
+    let upper = g.S.NodeSource.upper c.args.source.now in
+    let F : FetchFault → Type 0 = λ failed. g.S.NodeSource.fails c.args.source.now failed c.answer.new.source in
+    record {
+      later = c.answer.ensures.later;
+      clean = c.answer.ensures.clean;
+      fails = c.answer.ensures.fails;
+      place = place_of c.args.draft.now c.answer.new.self c.args.call.now c.answer.result c.answer.ensures.kept c.answer.ensures.left;
+      advances = rw (← c.buckets.view_is)
+          (advances_in tells tells' upper at _ _ b c.answer.new.bucket c.args.draft.now c.answer.new.self c.args.call.now c.buckets.invariant there refl refl of_key
+          (λ rows. g.met.S.NodeSource.later_tells _ _ rows c.answer.ensures.later) c.answer.result c.answer.ensures.used c.answer.ensures.sound
+          finds F c.requires.open c.answer.ensures.kept c.answer.ensures.change c.answer.ensures.fits c.answer.ensures.serves);
+      refuses = rw (← c.buckets.view_is)
+          (refuses_in tells tells' upper at _ _ b c.answer.new.bucket c.args.draft.now c.answer.new.self c.args.call.now c.buckets.invariant there refl refl of_key
+          (λ rows. g.met.S.NodeSource.later_tells _ _ rows c.answer.ensures.later) c.answer.result c.answer.ensures.used c.answer.ensures.sound);
+    }

@@ -1,0 +1,7 @@
+use Rattle.node_cache.specs.Cache.{before, undone, evicted}
+use Rattle.txn_draft.specs.Standing.{IsLeft}
+use Rattle.open_txn.specs.Endings.{EndEach}
+use Rattle.open_txn.proofs.ending.undo_touched.Given as goal
+
+abbrev pub invariant-loop-at : goal.invariant-loop-at
+invariant-loop-at l = EndEach (λ b. evicted l.published l.keep (undone b)) (λ b new. IsLeft l.published (before b) b new) l.at l.touched l.initial.buckets l.buckets

@@ -1,0 +1,51 @@
+use Rattle.std.proofs.Common.{◌≡◌, ◌∙◌, ℕ, Err, arith, subst}
+use Rattle.open_txn.specs.Steps.{Gathers, Halts}
+use Rattle.open_txn.proofs.Advanced.{clean_from, fails_from}
+use Rattle.open_txn.proofs.Scanned.{gathers_none, gathers_on, halts_on}
+use Rattle.open_txn.proofs.scanning.gather_all.Goals as goal
+
+pub loop-at-init : goal.loop-at-init
+loop-at-init g c = (
+  g.met.S.NodeSource.later_itself _,
+  g.met.S.NodeSource.clean_itself _,
+  c.requires.next,
+  gathers_none (g.S.NodeSource.tells c.args.source.now) (g.S.NodeSource.upper c.args.source.now) c.args.buckets.now c.args.low.now c.args.high.now c.args.limit c.args.scan.now,
+)
+
+pub loop-at-preserved : goal.loop-at-preserved
+loop-at-preserved g c =
+    let inv = c.loop-at.invariant in
+    let tells = g.S.NodeSource.tells c.args.source.now in
+    let mid = g.S.NodeSource.tells c.loop-at.source in
+    let tells' = g.S.NodeSource.tells c.gather_in.new.source in
+    let upper = g.S.NodeSource.upper c.args.source.now in (
+      g.met.S.NodeSource.later_on _ _ _ inv.0 c.in_default.ensures.later,
+      g.met.S.NodeSource.clean_on _ _ _ inv.1 c.in_default.ensures.clean,
+      c.in_default.ensures.next,
+      gathers_on tells mid tells' upper c.args.buckets.now c.loop-at.buckets c.args.low.now c.args.high.now c.args.limit c.args.scan.now c.loop-at.scan inv.3 c.gather_in.new.buckets c.gather_in.new.scan
+          (subst (λ (u : ℕ). Gathers mid tells' u c.loop-at.buckets c.gather_in.new.buckets c.args.low.now c.args.high.now c.args.limit c.loop-at.scan c.gather_in.new.scan) (g.met.S.NodeSource.later_upper _ _ inv.0) c.in_default.ensures.gathers),
+    )
+
+pub returns : goal.returns
+returns g c =
+    let inv = c.loop-at.invariant in
+    let all : c.loop-at.at ≡ 256 = omega (arith, c.loop-at-test.false, c.loop-at.auto.at-end) in
+    record { later = inv.0; clean = inv.1; fails = tt; next = inv.2 ∙ all; gathers = inv.3; halts = tt }
+
+pub returns-in-Err : goal.returns-in-Err
+returns-in-Err g c =
+    let inv = c.loop-at.invariant in
+    let tells = g.S.NodeSource.tells c.args.source.now in
+    let mid = g.S.NodeSource.tells c.loop-at.source in
+    let tells' = g.S.NodeSource.tells c.gather_in.new.source in
+    let upper = g.S.NodeSource.upper c.args.source.now in
+    let now = c.gather_in.new.source in
+    record {
+      later = g.met.S.NodeSource.later_on _ _ _ inv.0 c.gather_in.ensures.later;
+      clean = clean_from {A = Unit {0}} (g.S.NodeSource.clean c.loop-at.source now) (g.S.NodeSource.clean c.args.source.now now) (Err c.in-Err.fault) (λ h. g.met.S.NodeSource.clean_on _ _ _ inv.1 h) c.in-Err.ensures.clean;
+      fails = fails_from (λ failed. g.S.NodeSource.fails c.loop-at.source failed now) (λ failed. g.S.NodeSource.fails c.args.source.now failed now) c.in-Err.fault (λ failed h. g.met.S.NodeSource.fails_earlier _ _ _ failed inv.0 h) c.in-Err.ensures.fails;
+      next = tt;
+      gathers = tt;
+      halts = halts_on tells mid tells' upper c.args.buckets.now c.loop-at.buckets c.args.low.now c.args.high.now c.args.limit c.args.scan.now c.loop-at.scan inv.3 c.gather_in.new.buckets c.in-Err.fault
+          (subst (λ (u : ℕ). Halts mid u c.loop-at.buckets c.gather_in.new.buckets c.in-Err.fault) (g.met.S.NodeSource.later_upper _ _ inv.0) c.in-Err.ensures.halts);
+    }

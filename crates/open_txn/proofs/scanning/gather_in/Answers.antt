@@ -1,0 +1,39 @@
+use Rattle.std.proofs.Common.{◌≡◌, ◌∙◌, ◌+◌, ◌<◌, ℕ, ap, arith, length, refl, slice_get, Some, subst, sym}
+use Rattle.std.specs.Prelude.{OnOk}
+use Rattle.std.proofs.lemmas.Option.{slice_get-get_or}
+use Rattle.fine_model.specs.declared.FetchFault.{FetchFault}
+use Rattle.btree_nodes.specs.Calls.{IsFirstUnfitBetween}
+use Rattle.open_txn.proofs.Scanned.{gathers_in, halts_in}
+use Rattle.open_txn.proofs.scanning.gather_in.Goals as goal
+
+pub gather-requires-clause-bucket : goal.gather-requires-clause-bucket
+gather-requires-clause-bucket g c =
+    let at = c.args.at in
+    let low : at < length c.buckets.inside.buckets.items = omega (arith, c.requires.at, c.buckets.invariant.many) in
+    c.buckets.invariant.numbered at c.index_mut-bucket.result.now (slice_get-get_or c.buckets.inside.buckets.items at _ low ∙ ap Some (sym c.index_mut-bucket.ensures.value)) ∙ sym c.requires.next
+
+pub gather-requires-clause-next : goal.gather-requires-clause-next
+gather-requires-clause-next g c = subst (λ (n : ℕ). n < 256) (sym c.requires.next) c.requires.at
+
+pub returns : goal.returns
+returns g c =
+    let at = c.args.at in
+    let low : at < length c.buckets.inside.buckets.items = omega (arith, c.requires.at, c.buckets.invariant.many) in
+    let b = c.index_mut-bucket.result.now in
+    let there : slice_get c.buckets.inside.buckets.items at ≡ Some b = slice_get-get_or c.buckets.inside.buckets.items at _ low ∙ ap Some (sym c.index_mut-bucket.ensures.value) in
+    let tells = g.S.NodeSource.tells c.args.source.now in
+    let tells' = g.S.NodeSource.tells c.gather.new.source in
+    let upper = g.S.NodeSource.upper c.args.source.now in
+    let F : FetchFault → Type 0 = λ failed. g.S.NodeSource.fails c.args.source.now failed c.gather.new.source in
+    record {
+      later = c.gather.ensures.later;
+      clean = c.gather.ensures.clean;
+      fails = c.gather.ensures.fails;
+      next = subst (λ (n : ℕ). OnOk c.gather.result (c.gather.new.self.next ≡ n + 1)) c.requires.next c.gather.ensures.next;
+      gathers = rw (← c.buckets.view_is)
+          (gathers_in tells tells' upper at _ _ b c.gather.new.bucket there refl refl (λ rows. g.met.S.NodeSource.later_tells _ _ rows c.gather.ensures.later) c.args.low.now c.args.high.now c.args.limit
+          c.args.scan.now c.gather.new.self c.gather.result c.gather.ensures.used c.gather.ensures.serves c.gather.ensures.sound F (IsFirstUnfitBetween c.gather.new.bucket c.args.low.now c.args.high.now c.args.limit) c.gather.ensures.answer);
+      halts = rw (← c.buckets.view_is)
+          (halts_in tells tells' upper at _ _ b c.gather.new.bucket there refl refl (λ rows. g.met.S.NodeSource.later_tells _ _ rows c.gather.ensures.later) c.args.low.now c.args.high.now c.args.limit
+          c.args.scan.now c.gather.new.self c.gather.result c.gather.ensures.used c.gather.ensures.serves c.gather.ensures.sound);
+    }

@@ -1,0 +1,5 @@
+pub mod Buckets
+pub mod Codes
+pub mod Endings
+pub mod Opened
+pub mod Steps

@@ -1,0 +1,139 @@
+//! All calls of a transaction.
+
+ghost use Rattle.std.specs.Prelude.{◌≡◌, ◌<◌, ℕ, List, [], ◌∷◌, false, IfErr, OnOk};
+ghost use Rattle.std.specs.List.{AllByRecursion};
+ghost use Rattle.fine_model.specs.declared.Call.{Call as ModelCall};
+ghost use Rattle.fine_model.specs.declared.law.Origin.{Origin};
+ghost use Rattle.fine_model.specs.Bounds.{FitsCall};
+ghost use Rattle.fine_model.specs.History.{Commit};
+ghost use Rattle.fine_model.specs.Pushed.{key_of};
+ghost use Rattle.fine_model.specs.Trees.{bucket_of};
+ghost use Rattle.btree_nodes.specs.Calls.{OnCleanAnswer};
+ghost use Rattle.txn_draft.specs.Drafts.{blank, is_scan};
+ghost use Rattle.txn_draft.specs.Answers.{FailsBy};
+ghost use Rattle.open_txn.specs.Opened.{AnswersCalls, IsOpen, IsReady, IsRefusal, TouchesOf};
+ghost use Rattle.open_txn.specs.Steps.{Advances, Refuses};
+
+use crate::buckets::Buckets;
+use crate::scanning::scan_all;
+use btree_nodes::TreeFault;
+use fine_model::{Call, bucket_of};
+use node_cache::NodeSource;
+use txn_draft::Draft;
+
+/// The bucket of a call's key; that of a scan is of its low bound.
+fn bucket_for(call: &Call) -> u16
+    requires { FitsCall call.now }
+    ensures value { result ≡ bucket_of (key_of call.now) }
+    ensures range { result < 256 }
+{
+    match call {
+        Call::Get { key } => bucket_of(key.as_slice()),
+        Call::Put { key, value: _ } => bucket_of(key.as_slice()),
+        Call::Del { key } => bucket_of(key.as_slice()),
+        Call::Add { key, by: _ } => bucket_of(key.as_slice()),
+        Call::Scan {
+            low,
+            high: _,
+            limit: _,
+        } => bucket_of(low.as_slice()),
+    }
+}
+
+/// Answers a call that is no scan in the bucket of its key, which is touched then.
+fn answer_in<S: NodeSource>(
+    source: &mut S,
+    buckets: &mut Buckets,
+    draft: &mut Draft,
+    call: &Call,
+) -> Result<(), TreeFault>
+    requires open { draft.old.failed ≡ false }
+    requires call { FitsCall call.now }
+    requires no_scan { is_scan call.now ≡ false }
+    ensures later { S.later source.old source.new }
+    ensures clean { OnCleanAnswer result (S.clean source.old source.new) }
+    ensures fails { IfErr result (FailsBy (λ failed. S.fails source.old failed source.new)) }
+    ensures place { (draft.new.lane ≡ draft.old.lane) × (draft.new.turn ≡ draft.old.turn) }
+    ensures advances { OnOk result (Advances (S.tells source.old) (S.tells source.new) (S.upper source.old) buckets.old buckets.new draft.old draft.new (call.now ∷ [])) }
+    ensures refuses { IfErr result (λ fault. (more : List ModelCall) → Refuses (S.tells source.old) (S.upper source.old) buckets.old buckets.new draft.old (call.now ∷ more) fault) }
+{
+    let at = usize::from(bucket_for(call));
+    buckets.touched[at] = true;
+    let bucket = &mut buckets.buckets[at];
+    draft.answer(source, bucket, call)
+}
+
+/// Answers a call, in the bucket of its key, or in all of them where it is a scan.
+fn answer_one<S: NodeSource>(
+    source: &mut S,
+    buckets: &mut Buckets,
+    draft: &mut Draft,
+    call: &Call,
+) -> Result<(), TreeFault>
+    requires open { draft.old.failed ≡ false }
+    requires call { FitsCall call.now }
+    ensures later { S.later source.old source.new }
+    ensures clean { OnCleanAnswer result (S.clean source.old source.new) }
+    ensures fails { IfErr result (FailsBy (λ failed. S.fails source.old failed source.new)) }
+    ensures place { (draft.new.lane ≡ draft.old.lane) × (draft.new.turn ≡ draft.old.turn) }
+    ensures advances { OnOk result (Advances (S.tells source.old) (S.tells source.new) (S.upper source.old) buckets.old buckets.new draft.old draft.new (call.now ∷ [])) }
+    ensures refuses { IfErr result (λ fault. (more : List ModelCall) → Refuses (S.tells source.old) (S.upper source.old) buckets.old buckets.new draft.old (call.now ∷ more) fault) }
+{
+    match call {
+        Call::Scan { low, high, limit } => {
+            let (low, high) = (low.as_slice(), high.as_slice());
+            scan_all(source, buckets, draft, call, low, high, *limit)
+        }
+        _ => answer_in(source, buckets, draft, call),
+    }
+}
+
+/// The same of all calls in order, up to the first refusal.
+fn answer_each<S: NodeSource>(
+    source: &mut S,
+    buckets: &mut Buckets,
+    draft: &mut Draft,
+    calls: &[Call],
+) -> Result<(), TreeFault>
+    requires open { draft.old.failed ≡ false }
+    requires calls { AllByRecursion FitsCall calls.now }
+    ensures later { S.later source.old source.new }
+    ensures clean { OnCleanAnswer result (S.clean source.old source.new) }
+    ensures fails { IfErr result (FailsBy (λ failed. S.fails source.old failed source.new)) }
+    ensures place { (draft.new.lane ≡ draft.old.lane) × (draft.new.turn ≡ draft.old.turn) }
+    ensures advances { OnOk result (Advances (S.tells source.old) (S.tells source.new) (S.upper source.old) buckets.old buckets.new draft.old draft.new calls.now) }
+    ensures refuses { IfErr result (Refuses (S.tells source.old) (S.upper source.old) buckets.old buckets.new draft.old calls.now) }
+{
+    for call in calls {
+        if let Err(fault) = answer_one(source, buckets, draft, call) {
+            return Err(fault);
+        }
+    }
+    Ok(())
+}
+
+/// Answers all calls of a transaction in order, each in the bucket of its key, a scan in all of them. The draft then has the calls with their replies and
+/// rows [`answered`]; no bucket is touched but those of the calls [`touches`]. Where the buckets stood for a history which the source tells, they hold it
+/// with these rows [`open`].
+///
+/// With a refusal no later call is answered, and the buckets are to be undone and the draft to be cleared [`refused`]. `Source` has what the source answered
+/// [`fails`]. On a sound log, `BucketFull` and `Number` come only where the definitions refuse the calls for this reason, and no node is `Unfit`.
+pub fn answer_all<S: NodeSource>(
+    source: &mut S,
+    buckets: &mut Buckets,
+    draft: &mut Draft,
+    calls: &[Call],
+) -> Result<(), TreeFault>
+    requires blank { draft.old ≡ blank draft.old.lane draft.old.turn }
+    requires calls { AllByRecursion FitsCall calls.now }
+    ensures later { S.later source.old source.new }
+    ensures clean { OnCleanAnswer result (S.clean source.old source.new) }
+    ensures fails { IfErr result (FailsBy (λ failed. S.fails source.old failed source.new)) }
+    ensures place { (draft.new.lane ≡ draft.old.lane) × (draft.new.turn ≡ draft.old.turn) }
+    ensures touches { TouchesOf calls.now buckets.old buckets.new }
+    ensures answered { OnOk result (AnswersCalls calls.now draft.new) }
+    ensures open { OnOk result ((log : Origin) (low : ℕ) (history : List Commit) → IsReady (S.tells source.old) (S.upper source.old) log low buckets.old history → IsOpen log low history buckets.old buckets.new draft.new) }
+    ensures refused { IfErr result (λ fault. (log : Origin) (low : ℕ) (history : List Commit) → IsReady (S.tells source.old) (S.upper source.old) log low buckets.old history → IsRefusal log low history buckets.old buckets.new calls.now fault) }
+{
+    answer_each(source, buckets, draft, calls)
+}

@@ -1,0 +1,4 @@
+//! Tests of open transactions.
+
+mod fresh;
+mod run;

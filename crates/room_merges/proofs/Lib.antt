@@ -5,3 +5,4 @@ pub mod Shut
 pub mod Nearing
 pub mod Telling
 pub mod Through
+pub mod Erased

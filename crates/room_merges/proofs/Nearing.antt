@@ -1,23 +1,26 @@
 -- From the merge of one pair to that of the first neighbours that fit.
 use Rattle.std.proofs.Common.{◌≡◌, ◌⊎◌, ℕ, zero, suc, ◌+◌, ◌<◌, ◌≤◌, Bool, true, false, cond, List, [], ◌∷◌, length, Some, None, Ok, Err, refl, sym, ap, subst, ◌∙◌, inl, inr, arith, true≢false}
-use Rattle.std.specs.Prelude.{Contains, nat_le, Option, Result, option_map, slice_get}
+use Rattle.std.specs.Prelude.{if◌then◌else◌, Contains, nat_le, Option, Result, option_map, slice_get}
 use Rattle.std.proofs.lemmas.List.Elements.{Contains-append_right}
+use Rattle.fine_model.specs.declared.FetchFault.{FetchFault}
 use Rattle.fine_model.specs.declared.Part.{Part}
 use Rattle.fine_model.specs.declared.law.RoomState.{RoomState}
 use Rattle.fine_model.specs.Merge.{FitsFree}
 use Rattle.partition_hold.specs.Views.{SameView, ViewValue}
-use Rattle.epoch_room.specs.MergeSteps.{neighbours_from, with_next}
+use Rattle.partition_merge.specs.declared.merger.Measure.{Measure}
+use Rattle.partition_merge.specs.Mergers.{IsMeasureOf, at_front}
+use Rattle.epoch_room.specs.MergeSteps.{fresh_job, if_enough, measured_len, neighbours_from, regions_for_job, regions_needed, taken_job, with_next}
 use Rattle.epoch_room.specs.Value.{RoomValue}
 use Rattle.epoch_room.specs.Whole.{FollowOn, IsWhole}
 use Rattle.epoch_room.specs.declared.answers.RoomFault.TheVariants as room_fault
 use Rattle.room_merges.specs.declared.fault.MergeFault.{MergeFault}
 use Rattle.room_merges.specs.declared.fault.MergeFault.TheVariants as merge_fault
-use Rattle.room_merges.specs.Near.{MergesAny, MergesAt, MergesBetween, NoneBetween, OfNeighbours, StandIn, TriesAll, TriesBetween, TriesOr, Unfit, epochs_end}
-use Rattle.room_merges.specs.Pairs.{AreTried, MergesPair}
-use Rattle.room_merges.specs.Work.{StaysOpen}
+use Rattle.room_merges.specs.Near.{BlamedAny, BlamedAt, BlamedBetween, FirstBetween, FirstOf, InVain, LosesAny, LosesBetween, MergesAny, MergesAt, MergesBetween, NoneBefore, NoneBetween, OfNeighbours, StandIn, TriesAll, TriesBetween, TriesOr, epochs_end}
+use Rattle.room_merges.specs.Pairs.{AreTried, IsRefused, LosesPart, MergesPair}
+use Rattle.room_merges.specs.Work.{LosesFor, StaysOpen, same_job}
 use Rattle.room_merges.proofs.Chained.{told_before}
-use Rattle.room_merges.proofs.Pairing.{some_none, some_same, view_back}
-use Rattle.room_merges.proofs.Working.{falls_then, looks_sound, looks_then, stays_itself, stays_then, view_itself, view_later}
+use Rattle.room_merges.proofs.Pairing.{some_none, some_same}
+use Rattle.room_merges.proofs.Working.{falls_then, looks_sound, looks_then, stays_itself, stays_then, view_back, view_itself, view_later}
 
 -- ---- the neighbours of a chain
 
@@ -146,12 +149,64 @@ all_between from next P (p ∷ q ∷ parts) some follow high low =
 
 -- ---- trying
 
--- what does not fit later did not fit before
-unfit_back : (old mid : RoomValue) (view seen : ViewValue) (p q : Part) → StaysOpen None old.room.free old mid → SameView view seen → Unfit mid seen p q → Unfit old view p q
-unfit_back old mid view seen p q stays same unfit a b a_told b_told fits =
-    unfit a b (told_before seen view p a (view_back view seen same) a_told) (told_before seen view q b (view_back view seen same) b_told)
-    (subst (λ n. FitsFree n (length mid.room.free) a b) (sym stays.keeps.becomes.region_len)
-    (subst (λ f. FitsFree old.room.region_len (length f) a b) (sym (ap (λ (r : RoomState). r.free) stays.room)) fits))
+-- regions are taken for the same rows where as many are free
+pub regions_same : (a b : RoomState) (measure : Measure) → b.region_len ≡ a.region_len → b.free ≡ a.free → regions_for_job b measure ≡ regions_for_job a measure
+regions_same a b measure len free = λ i. if measure.ordered then if_enough (length (free i)) (regions_needed (len i) (measured_len measure)) else None
+
+-- what was read through a view is the same through it as it was before
+pub read_back : (view seen : ViewValue) (p q : Part) (measure : Measure) → SameView view seen → IsMeasureOf seen.eye.told (at_front p q seen.region_len) measure → IsMeasureOf view.eye.told (at_front p q view.region_len) measure
+read_back view seen p q measure same read =
+    subst (λ told. IsMeasureOf told (at_front p q view.region_len) measure) same.eye.told (subst (λ n. IsMeasureOf seen.eye.told (at_front p q n) measure) same.region_len read)
+
+-- what is tried in vain in one room is so in another one where as much is free, and through the view as it was before
+pub vain_on : (a b : RoomValue) (view seen : ViewValue) (p q : Part) → b.room.region_len ≡ a.room.region_len → b.room.free ≡ a.room.free → SameView view seen → InVain b seen p q → InVain a view p q
+vain_on a b view seen p q len free same vain = record {
+  passed = (vain.passed.0, read_back view seen p q vain.passed.0 same vain.passed.1, why vain.passed.2);
+  unfit = λ x y x_told y_told fits.
+      vain.unfit x y (told_before seen view p x (view_back view seen same) x_told) (told_before seen view q y (view_back view seen same) y_told)
+      (subst (λ n. FitsFree n (length b.room.free) x y) (sym len) (subst (λ (f : List ℕ). FitsFree a.room.region_len (length f) x y) (sym free) fits));
+}
+  where
+    why : IsRefused b.room seen p q vain.passed.0 → IsRefused a.room view p q vain.passed.0
+    why (inl none) = inl (sym (regions_same a.room b.room vain.passed.0 len free) ∙ none)
+    why (inr untold) = inr (λ x y x_told y_told. untold x y (told_before seen view p x (view_back view seen same) x_told) (told_before seen view q y (view_back view seen same) y_told))
+
+-- so of what is tried between two epochs, and before one
+module _ (a b : RoomValue) (view seen : ViewValue) (parts : b.room.parts ≡ a.room.parts) (len : b.room.region_len ≡ a.room.region_len) (free : b.room.free ≡ a.room.free) (same : SameView view seen) where
+  pub all_on : OfNeighbours (InVain b seen) b.room.parts → OfNeighbours (InVain a view) a.room.parts
+  all_on none = subst (OfNeighbours (InVain a view)) parts (of_each (InVain b seen) (InVain a view) (λ p q vain. vain_on a b view seen p q len free same vain) b.room.parts none)
+
+  pub none_on : (from until : ℕ) → NoneBetween from until b seen → NoneBetween from until a view
+  none_on from until none =
+      subst (OfNeighbours (Between from until (InVain a view))) parts
+      (of_each (Between from until (InVain b seen)) (Between from until (InVain a view)) (λ p q has low high. vain_on a b view seen p q len free same (has low high)) b.room.parts none)
+
+  pub before_on : (from at : ℕ) → NoneBefore from at b seen → NoneBefore from at a view
+  before_on from at (inl (low, none)) = inl (low, none_on from at none)
+  before_on from at (inr (high, none, more)) = inr (high, none_on from epochs_end none, none_on 1 at more)
+
+  -- and of a part that the disk failed to write
+  pub loses_on : (at : ℕ) (c d : RoomValue) → c.room.lost ≡ d.room.lost → LosesPart at b d seen → LosesPart at a c view
+  loses_on at c d lost loses =
+      let two = loses.two in
+      let taken = loses.taken in
+      record {
+        two = two;
+        tried = record {
+          first = subst (λ ps. neighbours_from at ps ≡ Some two) parts loses.tried.first;
+          older = subst (λ ps. Contains ps two.0) same.parts loses.tried.older;
+          newer = subst (λ ps. Contains ps two.1) same.parts loses.tried.newer;
+        };
+        measure = loses.measure;
+        read = read_back view seen two.0 two.1 loses.measure same loses.read;
+        job = loses.job;
+        taken = record {
+          regions = taken.regions;
+          taken = sym (regions_same a.room b.room loses.measure len free) ∙ taken.taken;
+          same = taken.same ∙ ap (λ f. same_job (taken_job (fresh_job two) loses.measure taken.regions f) loses.job.written) free;
+        };
+        lost = subst (λ l. LosesFor a.room.region_len (Some loses.job) l) (sym lost) (subst (λ n. LosesFor n (Some loses.job) d.room.lost) len loses.lost);
+      }
 
 open_then : (a b c : RoomValue) → StaysOpen None a.room.free a b → StaysOpen None b.room.free b c → StaysOpen None a.room.free a c
 open_then a b c first second = stays_then None None a.room.free a.room.free a b c first (subst (λ f. StaysOpen None f b c) (ap (λ (r : RoomState). r.free) first.room) second)
@@ -170,7 +225,7 @@ none_tried from value view whole none = record {
   room = stays_itself value None whole none;
   unmoved = view_itself view;
   steady = refl;
-  none = empty_between from from (Unfit value view) value.room.parts (omega arith);
+  none = empty_between from from (InVain value view) value.room.parts (omega arith);
 }
 
 mapped_some : (found : Option (Part × Part)) (next : ℕ) → Some next ≡ option_map (λ (two : Part × Part). two.1.header.range.first) found → (two : Part × Part) × (found ≡ Some two) × (next ≡ two.1.header.range.first)
@@ -241,14 +296,16 @@ module _ (from at : ℕ) (old mid : RoomValue) (view seen : ViewValue) (whole : 
   more_tried new view' next is done =
       let found = mapped_some (neighbours_from at mid.room.parts) next is in
       let two = found.0 in
-      let unfit : Unfit old view two.0 two.1 = unfit_back old mid view seen two.0 two.1 so_far.room so_far.unmoved (done.room.none two (tried_here two found.1)) in
+      let tried = tried_here two found.1 in
+      let vain : InVain old view two.0 two.1 =
+      vain_on old mid view seen two.0 two.1 so_far.room.keeps.becomes.region_len same_free so_far.unmoved (record { passed = done.room.read two tried; unfit = done.room.none two tried }) in
       record {
         low = (let low = so_far.low in let less = tried_less next is in omega (arith, low, less));
         room = stays_on new done.room.room.stays;
         unmoved = view_later view seen view' so_far.unmoved done.looks.same;
         steady = done.looks.counts.else_same (λ failed. cc) ∙ so_far.steady;
         none = subst (λ n. NoneBetween from n old view) (sym found.2)
-            (more_between from at 1 (Unfit old view) old.room.parts two whole.in_chain.follow (subst (λ ps. neighbours_from at ps ≡ Some two) same_parts found.1) unfit so_far.none);
+            (more_between from at 1 (InVain old view) old.room.parts two whole.in_chain.follow (subst (λ ps. neighbours_from at ps ≡ Some two) same_parts found.1) vain so_far.none);
       }
 
   -- none are left
@@ -256,14 +313,14 @@ module _ (from at : ℕ) (old mid : RoomValue) (view seen : ViewValue) (whole : 
   none_left until is = record {
     room = (
       so_far.room,
-      last_between from at until (Unfit old view) old.room.parts (subst (λ ps. neighbours_from at ps ≡ None) same_parts (mapped_none (neighbours_from at mid.room.parts) is)) so_far.none,
+      last_between from at until (InVain old view) old.room.parts (subst (λ ps. neighbours_from at ps ≡ None) same_parts (mapped_none (neighbours_from at mid.room.parts) is)) so_far.none,
     );
     looks = looks_sound view seen (Ok false) so_far.unmoved so_far.steady (λ failed. cc);
   }
 
   pub none_more : (until : ℕ) → until ≤ at → TriesBetween from until old mid view seen (Ok false)
   none_more until less = record {
-    room = (so_far.room, less_between from at until (Unfit old view) old.room.parts less so_far.none);
+    room = (so_far.room, less_between from at until (InVain old view) old.room.parts less so_far.none);
     looks = looks_sound view seen (Ok false) so_far.unmoved so_far.steady (λ failed. cc);
   }
 
@@ -275,70 +332,99 @@ module _ (from at : ℕ) (old mid : RoomValue) (view seen : ViewValue) (whole : 
   }
 
   -- something was refused
-  pub try_refused : (until : ℕ) (new : RoomValue) (view' : ViewValue) (fault : MergeFault) → MergesPair at mid new seen view' (Err fault) → TriesBetween from until old new view view' (Err fault)
-  try_refused until new view' (merge_fault.Fetch fault) done = record {
-    room = (stays_on new done.room.room.stays, record { two = done.room.two; stand = subst (λ ps. StandIn ps done.room.two) same_parts (stand_in at mid.room.parts done.room.two done.room.tried.first); blames = done.room.blames });
+  pub try_refused : (until : ℕ) (new : RoomValue) (view' : ViewValue) (fault : MergeFault) → at < until → MergesPair at mid new seen view' (Err fault) → TriesBetween from until old new view view' (Err fault)
+  try_refused until new view' (merge_fault.Fetch fault) less done = record {
+    room = (
+      stays_on new done.room.room.stays,
+      record { two = done.room.two; stand = subst (λ ps. StandIn ps done.room.two) same_parts (stand_in at mid.room.parts done.room.two done.room.tried.first); blames = done.room.blames },
+      (
+        at,
+        so_far.low,
+        less,
+        so_far.none,
+        record { two = done.room.two; first = subst (λ ps. neighbours_from at ps ≡ Some done.room.two) same_parts done.room.tried.first; blames = done.room.blames },
+      ),
+    );
     looks = looks_then view seen view' (Err (merge_fault.Fetch fault)) so_far.unmoved so_far.steady done.looks;
   }
-  try_refused until new view' (merge_fault.Room room_fault.NoMemory) done = record {
+  try_refused until new view' (merge_fault.Room room_fault.NoMemory) less done = record {
     room = stays_on new done.room.stays;
     looks = looks_then view seen view' (Err (merge_fault.Room room_fault.NoMemory)) so_far.unmoved so_far.steady done.looks;
   }
-  try_refused until new view' (merge_fault.Room room_fault.Disk) done = record {
-    room = falls_then None None old.room.free new.room.free old mid new so_far.room done.room.1;
+  try_refused until new view' (merge_fault.Room room_fault.Disk) less done = record {
+    room = (
+      falls_then None None old.room.free new.room.free old mid new so_far.room done.room.1,
+      (at, so_far.low, less, so_far.none, loses_on old mid view seen same_parts so_far.room.keeps.becomes.region_len same_free so_far.unmoved at new new refl done.room.2),
+    );
     looks = looks_then view seen view' (Err (merge_fault.Room room_fault.Disk)) so_far.unmoved so_far.steady done.looks;
   }
-  try_refused until new view' (merge_fault.Room (room_fault.Shut epoch)) done = absurd (true≢false (sym done.room.0 ∙ ap (λ (r : RoomState). r.is_shut) so_far.room.room ∙ opened))
+  try_refused until new view' (merge_fault.Room (room_fault.Shut epoch)) less done = absurd (true≢false (sym done.room.0 ∙ ap (λ (r : RoomState). r.is_shut) so_far.room.room ∙ opened))
 
 -- ---- those from an epoch on, and then those before
 
-tries_refused : (S T N M : Type 0) (old new : RoomValue) (view view' : ViewValue) (fault : MergeFault) → TriesOr S N old new view view' (Err fault) → TriesOr T M old new view view' (Err fault)
-tries_refused S T N M old new view view' (merge_fault.Fetch fault) tries = tries
-tries_refused S T N M old new view view' (merge_fault.Room room_fault.NoMemory) tries = tries
-tries_refused S T N M old new view view' (merge_fault.Room room_fault.Disk) tries = tries
-tries_refused S T N M old new view view' (merge_fault.Room (room_fault.Shut epoch)) tries = tries
+tries_refused : (S T N M L K : Type 0) (B C : FetchFault → Type 0) (old new : RoomValue) (view view' : ViewValue) (fault : MergeFault) → ((f : FetchFault) → B f → C f) → (L → K)
+    → TriesOr S N B L old new view view' (Err fault) → TriesOr T M C K old new view view' (Err fault)
+tries_refused S T N M L K B C old new view view' (merge_fault.Fetch fault) blames loses tries = (tries.0, tries.1, blames fault tries.2)
+tries_refused S T N M L K B C old new view view' (merge_fault.Room room_fault.NoMemory) blames loses tries = tries
+tries_refused S T N M L K B C old new view view' (merge_fault.Room room_fault.Disk) blames loses tries = (tries.0, loses tries.1)
+tries_refused S T N M L K B C old new view view' (merge_fault.Room (room_fault.Shut epoch)) blames loses tries = tries
 
-tries_then : (S T N M : Type 0) (old mid new : RoomValue) (view seen view' : ViewValue) (result : Result Bool MergeFault) → StaysOpen None old.room.free old mid → (S → T) → (N → M)
-    → TriesOr S N mid new seen view' result → TriesOr T M old new view view' result
-tries_then S T N M old mid new view seen view' (Ok true) stays some none tries = some tries
-tries_then S T N M old mid new view seen view' (Ok false) stays some none tries = (open_then old mid new stays tries.0, none tries.1)
-tries_then S T N M old mid new view seen view' (Err (merge_fault.Fetch fault)) stays some none tries = (
+tries_then : (S T N M L K : Type 0) (B C : FetchFault → Type 0) (old mid new : RoomValue) (view seen view' : ViewValue) (result : Result Bool MergeFault) → StaysOpen None old.room.free old mid
+    → (S → T) → (N → M) → ((f : FetchFault) → B f → C f) → (L → K) → TriesOr S N B L mid new seen view' result → TriesOr T M C K old new view view' result
+tries_then S T N M L K B C old mid new view seen view' (Ok true) stays some none blames loses tries = some tries
+tries_then S T N M L K B C old mid new view seen view' (Ok false) stays some none blames loses tries = (open_then old mid new stays tries.0, none tries.1)
+tries_then S T N M L K B C old mid new view seen view' (Err (merge_fault.Fetch fault)) stays some none blames loses tries = (
   open_then old mid new stays tries.0,
   record { two = tries.1.two; stand = subst (λ ps. StandIn ps tries.1.two) (ap (λ (r : RoomState). r.parts) stays.room) tries.1.stand; blames = tries.1.blames },
+  blames fault tries.2,
 )
-tries_then S T N M old mid new view seen view' (Err (merge_fault.Room room_fault.NoMemory)) stays some none tries = open_then old mid new stays tries
-tries_then S T N M old mid new view seen view' (Err (merge_fault.Room room_fault.Disk)) stays some none tries = falls_then None None old.room.free new.room.free old mid new stays tries
-tries_then S T N M old mid new view seen view' (Err (merge_fault.Room (room_fault.Shut epoch))) stays some none tries = tries
+tries_then S T N M L K B C old mid new view seen view' (Err (merge_fault.Room room_fault.NoMemory)) stays some none blames loses tries = open_then old mid new stays tries
+tries_then S T N M L K B C old mid new view seen view' (Err (merge_fault.Room room_fault.Disk)) stays some none blames loses tries =
+    (falls_then None None old.room.free new.room.free old mid new stays tries.0, loses tries.1)
+tries_then S T N M L K B C old mid new view seen view' (Err (merge_fault.Room (room_fault.Shut epoch))) stays some none blames loses tries = tries
 
 at_then : (at : ℕ) (old mid new : RoomValue) (view seen : ViewValue) → StaysOpen None old.room.free old mid → SameView view seen → MergesAt at mid new seen → MergesAt at old new view
 at_then at old mid new view seen stays same merges =
     record { mid = merges.mid; seen = merges.seen; stays = open_then old mid merges.mid stays merges.stays; same = view_later view seen merges.seen same merges.same; merges = merges.merges }
 
--- none fits later of some is none fits before of them
-none_back : (from until : ℕ) (old mid : RoomValue) (view seen : ViewValue) → StaysOpen None old.room.free old mid → SameView view seen → NoneBetween from until mid seen → NoneBetween from until old view
-none_back from until old mid view seen stays same none =
-    subst (OfNeighbours (Between from until (Unfit old view))) (ap (λ (r : RoomState). r.parts) stays.room)
-    (of_each (Between from until (Unfit mid seen)) (Between from until (Unfit old view)) (λ p q has a b. unfit_back old mid view seen p q stays same (has a b)) mid.room.parts none)
+-- the first between an epoch and the end is the first of all
+first_high : (from : ℕ) (old : RoomValue) (view : ViewValue) (P : ℕ → Type 0) → FirstBetween from epochs_end old view P → FirstOf from old view P
+first_high from old view P (at, low, less, none, found) = (at, inl (low, none), found)
 
 pub any_merged : (from : ℕ) (old new : RoomValue) (view view' : ViewValue) → TriesBetween from epochs_end old new view view' (Ok true) → TriesAll from old new view view' (Ok true)
-any_merged from old new view view' tries = record { room = (tries.room.0, inl (tries.room.1, tries.room.3), tries.room.4); looks = tries.looks }
+any_merged from old new view view' tries = record { room = first_high from old view (λ at. MergesAt at old new view) tries.room; looks = tries.looks }
 
-pub any_refused : (from until : ℕ) (old new : RoomValue) (view view' : ViewValue) (fault : MergeFault) → TriesBetween from until old new view view' (Err fault) → TriesAll from old new view view' (Err fault)
-any_refused from until old new view view' fault tries = record {
-  room = tries_refused (MergesBetween from until old new view) (MergesAny from old new view) (NoneBetween from until old view) (OfNeighbours (Unfit old view) old.room.parts) old new view view' fault tries.room;
+pub any_refused : (from : ℕ) (old new : RoomValue) (view view' : ViewValue) (fault : MergeFault) → TriesBetween from epochs_end old new view view' (Err fault) → TriesAll from old new view view' (Err fault)
+any_refused from old new view view' fault tries = record {
+  room = tries_refused (MergesBetween from epochs_end old new view) (MergesAny from old new view) (NoneBetween from epochs_end old view) (OfNeighbours (InVain old view) old.room.parts) (LosesBetween from epochs_end old new view)
+      (LosesAny from old new view) (BlamedBetween from epochs_end old view view') (BlamedAny from old view view') old new view view' fault (λ f. first_high from old view (λ at. BlamedAt at old view' f))
+      (first_high from old view (λ at. LosesPart at old new view)) tries.room;
   looks = tries.looks;
 }
 
-pub any_more : (from : ℕ) (old mid new : RoomValue) (view seen view' : ViewValue) (result : Result Bool MergeFault) → IsWhole old → TriesBetween from epochs_end old mid view seen (Ok false)
-    → TriesBetween 1 from mid new seen view' result → TriesAll from old new view view' result
-any_more from old mid new view seen view' result whole first second = record {
-  room = tries_then (MergesBetween 1 from mid new seen) (MergesAny from old new view) (NoneBetween 1 from mid seen) (OfNeighbours (Unfit old view) old.room.parts) old mid new view seen view' result first.room.0
-      (λ some. (
-        some.0,
-        inr (some.2, first.room.1, none_back 1 some.0 old mid view seen first.room.0 first.looks.same some.3),
-        at_then some.0 old mid new view seen first.room.0 first.looks.same some.4,
-      ))
-      (λ low. all_between from 1 (Unfit old view) old.room.parts (omega arith) whole.in_chain.follow first.room.1 (none_back 1 from old mid view seen first.room.0 first.looks.same low))
-      second.room;
-  looks = looks_then view seen view' result first.looks.same (first.looks.counts.else_same (λ failed. cc)) second.looks;
-}
+module _ (from : ℕ) (old mid : RoomValue) (view seen : ViewValue) (whole : IsWhole old) (first : TriesBetween from epochs_end old mid view seen (Ok false)) where
+  parts_on : mid.room.parts ≡ old.room.parts
+  parts_on = ap (λ (r : RoomState). r.parts) first.room.0.room
+
+  len_on : mid.room.region_len ≡ old.room.region_len
+  len_on = first.room.0.keeps.becomes.region_len
+
+  free_on : mid.room.free ≡ old.room.free
+  free_on = ap (λ (r : RoomState). r.free) first.room.0.room
+
+  -- the first before an epoch is the first of all, where those from this epoch on are tried in vain
+  first_low : (P Q : ℕ → Type 0) → ((at : ℕ) → P at → Q at) → FirstBetween 1 from mid seen P → FirstOf from old view Q
+  first_low P Q leads (at, low, less, none, found) = (at, inr (less, first.room.1, none_on old mid view seen parts_on len_on free_on first.looks.same 1 at none), leads at found)
+
+  pub any_more : (new : RoomValue) (view' : ViewValue) (result : Result Bool MergeFault) → TriesBetween 1 from mid new seen view' result → TriesAll from old new view view' result
+  any_more new view' result second = record {
+    room = tries_then (MergesBetween 1 from mid new seen) (MergesAny from old new view) (NoneBetween 1 from mid seen) (OfNeighbours (InVain old view) old.room.parts) (LosesBetween 1 from mid new seen) (LosesAny from old new view)
+        (BlamedBetween 1 from mid seen view') (BlamedAny from old view view') old mid new view seen view' result first.room.0
+        (first_low (λ at. MergesAt at mid new seen) (λ at. MergesAt at old new view) (λ at some. at_then at old mid new view seen first.room.0 first.looks.same some))
+        (λ low. all_between from 1 (InVain old view) old.room.parts (omega arith) whole.in_chain.follow first.room.1 (none_on old mid view seen parts_on len_on free_on first.looks.same 1 from low))
+        (λ f. first_low (λ at. BlamedAt at mid view' f) (λ at. BlamedAt at old view' f)
+        (λ at blamed. record { two = blamed.two; first = subst (λ ps. neighbours_from at ps ≡ Some blamed.two) parts_on blamed.first; blames = blamed.blames }))
+        (first_low (λ at. LosesPart at mid new seen) (λ at. LosesPart at old new view) (λ at loses. loses_on old mid view seen parts_on len_on free_on first.looks.same at new new refl loses))
+        second.room;
+    looks = looks_then view seen view' result first.looks.same (first.looks.counts.else_same (λ failed. cc)) second.looks;
+  }

@@ -1,5 +1,5 @@
 -- From a job whose body is written to the merge of two neighbours.
-use Rattle.std.proofs.Common.{◌≡◌, ℕ, ◌<◌, ◌≤◌, Bool, true, false, List, drop, length, Some, None, Ok, Err, refl, sym, ap, subst, ◌∙◌, true≢false}
+use Rattle.std.proofs.Common.{◌≡◌, ℕ, ◌<◌, ◌≤◌, Bool, true, false, List, drop, length, Some, None, Ok, Err, inl, inr, refl, sym, ap, subst, ◌∙◌, true≢false}
 use Rattle.std.proofs.lemmas.Bool.{le-leb}
 use Rattle.std.specs.Prelude.{if◌then◌else◌, nat_le, Contains, IsErrOf, OnOk, is_some, Option, Result, option_map}
 use Rattle.fine_model.specs.declared.FetchFault.{FetchFault}
@@ -35,26 +35,16 @@ use Rattle.epoch_room.proofs.Joining.{keeps_then}
 use Rattle.room_merges.specs.declared.fault.MergeFault.{MergeFault}
 use Rattle.room_merges.specs.declared.fault.MergeFault.TheVariants as merge_fault
 use Rattle.room_merges.specs.Merging.{EyeTells, HoldsBody, IsOut, Measures, OfTold}
-use Rattle.room_merges.specs.Pairs.{AreTried, IsPartSealed, MergesJob, MergesMeasured, MergesPair, SealsPart, StaysAsIs, WritesPart, header_for, job_for, measure_in}
-use Rattle.room_merges.specs.Work.{FallsShut, RefusesOr, StaysOpen, WritesAll, same_job}
+use Rattle.room_merges.specs.Pairs.{AreTried, IsPartSealed, IsPassedOver, IsRefused, LosesPart, MergesJob, MergesMeasured, MergesPair, SealsPart, StaysAsIs, WritesPart, header_for, job_for, measure_in}
+use Rattle.room_merges.specs.Work.{FallsShut, LosesFor, RefusesOr, StaysOpen, WritesAll, same_job}
 use Rattle.room_merges.proofs.Chained.{body_is_written, told_before, told_of}
-use Rattle.room_merges.proofs.Working.{blamed, falls_then, looks_refused, looks_sound, looks_then, of_same, refuses_then, stays_itself, stays_then, view_itself}
+use Rattle.room_merges.proofs.Working.{all_lost, blamed, falls_then, looks_refused, looks_sound, looks_then, of_same, refuses_then, stays_itself, stays_then, view_back, view_itself}
 
 pub some_none : {A : Type 0} (x : A) → Some x ≡ None → ⊥
 some_none x is = cc
 
 pub some_same : {A : Type 0} (x y : A) → Some x ≡ Some y → x ≡ y
 some_same x y is = cc
-
--- the same view, the other way round
-pub view_back : (v w : ViewValue) → SameView v w → SameView w v
-view_back v w s = record {
-  eye = record { number = sym s.eye.number; regions = sym s.eye.regions; region_len = sym s.eye.region_len; told = sym s.eye.told };
-  parts = sym s.parts;
-  upto = sym s.upto;
-  place = (sym s.place.0, sym s.place.1);
-  region_len = sym s.region_len;
-}
 
 -- what an eye tells of the parts of a job, of which more was written
 of_job : (view : ViewValue) (job job' : Job) (P : List Row → List Row → Type 0) → job' ≡ same_job job job'.written → OfTold view job'.older job'.newer P → OfTold view job.older job.newer P
@@ -87,6 +77,7 @@ seal_refused header old new view job room_fault.Disk back out open_room keeps (i
   target = steps.target;
   entry = steps.entry;
   fails = fails;
+  loses = all_lost new.room.region_len job new.room.lost (ap (λ (r : RoomState). r.lost) steps.room);
   keeps = keeps;
 }
 seal_refused header old new view job (room_fault.Shut epoch) back out open_room keeps (is, (was_shut, which, same)) = absurd (true≢false (sym was_shut ∙ open_room))
@@ -145,6 +136,7 @@ module _ (header : Header) (old mid new : RoomValue) (view view' : ViewValue) (j
               (subst (λ j. OfTold view' job'.older job'.newer (λ a b. held_for new.room.image j ≡ Some (body_bytes (merged a b)))) same sealed.body);
           keeps = keeps_then old mid new wrote.room.keeps sealed.keeps;
         };
+        same = wrote.same;
         looks = looks_sound view view' (Ok true) wrote.looks.same (wrote.looks.counts.else_same (λ failed. cc)) (λ failed. cc);
       }
 
@@ -156,16 +148,17 @@ module _ (header : Header) (old mid new : RoomValue) (view view' : ViewValue) (j
           (refuses_then (Some job') (Some job') old.room.free mid.room.free old mid new (merge_fault.Room fault) wrote.room refused),
       tt,
     );
+    same = wrote.same;
     looks = looks_sound view view' (Err (merge_fault.Room fault)) wrote.looks.same (wrote.looks.counts.else_same (λ failed. cc)) (λ failed. cc);
   }
 
   -- the merged rows have not as many bytes as the header says
   pub part_unwritten : WritesAll header old new view view' job job' (Ok false) → WritesPart header old new view view' job job' (Ok false)
-  part_unwritten wrote = record { part = (wrote.room, of_job view' job job' (λ a b. cost (merged a b) ≡ body_len header → ⊥) wrote.same wrote.all); looks = wrote.looks }
+  part_unwritten wrote = record { part = (wrote.room, of_job view' job job' (λ a b. cost (merged a b) ≡ body_len header → ⊥) wrote.same wrote.all); same = wrote.same; looks = wrote.looks }
 
   -- writing was refused
   pub part_refused : (fault : MergeFault) → WritesAll header old new view view' job job' (Err fault) → WritesPart header old new view view' job job' (Err fault)
-  part_refused fault wrote = record { part = (wrote.room, wrote.all); looks = wrote.looks }
+  part_refused fault wrote = record { part = (wrote.room, wrote.all); same = wrote.same; looks = wrote.looks }
 
 -- ---- taking regions
 
@@ -200,6 +193,7 @@ none_taken old new view job job' measure whole out measured none job_is room_is 
         subst (λ (v : RoomValue). StaysOpen (Some job') v.room.free old v) (sym stays) (subst (λ j. StaysOpen (Some j) old.room.free old old) (sym is) (stays_itself old (Some job) whole out)),
         λ a b older_told newer_told fits.
             some_none fits.regions (sym (fit_taken old.room a b fits) ∙ ap (regions_for_job old.room) (sym (measured a b older_told newer_told)) ∙ none),
+        inl none,
       );
       looks = looks_sound view view (Ok false) (view_itself view) refl (λ failed. cc);
     }
@@ -256,23 +250,27 @@ module _ (old : RoomValue) (two : Part × Part) (measure : Measure) (regions : �
   unfolding header_over
   unsealed_taken new view view' job' whole keeps measured wrote =
       let stays = stays_then (Some job_taken) (Some job') (drop regions old.room.free) (drop regions old.room.free) old room_taken new (takes whole keeps) wrote.part.0 in
+      let untold : OfTold view' two.0 two.1 (λ a b. ⊥) =
+      λ a b older_told newer_told.
+      wrote.part.1 a b older_told newer_told
+      (sym (ap measured_len (measured a b (told_before view view' two.0 a wrote.looks.same older_told) (told_before view view' two.1 b wrote.looks.same newer_told)))) in
       record {
         job = (
           subst (λ f. StaysOpen (Some job') f old new) (sym (ap (λ (r : RoomState). r.free) stays.room)) stays,
-          λ a b older_told newer_told fits.
-              wrote.part.1 a b older_told newer_told
-              (sym (ap measured_len (measured a b (told_before view view' two.0 a wrote.looks.same older_told) (told_before view view' two.1 b wrote.looks.same newer_told)))),
+          λ a b older_told newer_told fits. untold a b older_told newer_told,
+          inr untold,
         );
         looks = wrote.looks;
       }
 
-  refused_taken : (new : RoomValue) (view view' : ViewValue) (job' : Job) (fault : MergeFault) → IsWhole old → Keeps old room_taken
+  refused_taken : (new : RoomValue) (view view' : ViewValue) (job' : Job) (fault : MergeFault) → IsWhole old → Keeps old room_taken → regions_for_job old.room measure ≡ Some regions
       → WritesPart (header_for two measure regions old.room.free) room_taken new view view' job_taken job' (Err fault) → MergesMeasured measure old new view view' two job' (Err fault)
-  refused_taken new view view' job' fault whole keeps wrote = record {
+  refused_taken new view view' job' fault whole keeps is wrote = record {
     job = (
       refused_free (Some job') (drop regions old.room.free) old new fault
           (refuses_then (Some job_taken) (Some job') (drop regions old.room.free) (drop regions old.room.free) old room_taken new fault (takes whole keeps) wrote.part.0),
       wrote.part.1,
+      λ disk. record { regions = regions; taken = is; same = wrote.same },
     );
     looks = wrote.looks;
   }
@@ -282,7 +280,7 @@ module _ (old : RoomValue) (two : Part × Part) (measure : Measure) (regions : �
       → MergesMeasured measure old new view view' two job' result
   part_taken new view view' job' (Ok true) whole keeps measured is wrote = sealed_taken new view view' job' keeps is wrote
   part_taken new view view' job' (Ok false) whole keeps measured is wrote = unsealed_taken new view view' job' whole keeps measured wrote
-  part_taken new view view' job' (Err fault) whole keeps measured is wrote = refused_taken new view view' job' fault whole keeps wrote
+  part_taken new view view' job' (Err fault) whole keeps measured is wrote = refused_taken new view view' job' fault whole keeps is wrote
 
 -- regions were taken for a job
 pub record Ready (header : Header) (old mid : RoomValue) (view : ViewValue) (job job' : Job) (measure : Measure) : Type 0 where
@@ -368,6 +366,7 @@ job_measured old new view seen view' two job' measure result same steady read me
   measure = measure;
   read = on_ok result read;
   measured = on_ok result measured;
+  read_before = λ _. read;
   job = done.job;
   looks = looks_then view seen view' result same steady done.looks;
 }
@@ -385,6 +384,7 @@ job_unmeasured value view view' merger job fault out is_out has_older has_newer 
       measure = record { rows = 0; nodes = 0; area = 0; ordered = true };
       read = tt;
       measured = tt;
+      read_before = λ failed. absurd (let e : ◌≡◌ {A = Result Bool MergeFault} (Err (merge_fault.Fetch fault)) (Err (merge_fault.Room room_fault.Disk)) = failed in cc);
       job = (
         stays_itself value (Some job) out.whole is_out,
         blamed view view' merger job.older job.newer fault same (ap (λ (m : Merger). m.region_len) is) o n
@@ -392,6 +392,7 @@ job_unmeasured value view view' merger job fault out is_out has_older has_newer 
             (of_same view view' job job same refl refl (λ a b. NoDamage fault)
             (told_of view job.older job.newer (λ a b. NoDamage fault) out.is_view has_older has_newer
             (λ a b p q. exact a b (subst (λ part. TellsPart view.eye part a) (sym o) p) (subst (λ part. TellsPart view.eye part b) (sym n) q)))),
+        λ disk. absurd (let e : ◌≡◌ {A = MergeFault} (merge_fault.Fetch fault) (merge_fault.Room room_fault.Disk) = disk in cc),
       );
       looks = looks_refused {A = Measure} {B = Bool} view view' fault same counts;
     }
@@ -453,6 +454,7 @@ falls_given_up job free old mid new first is keeps = record {
   target = ap (λ (v : RoomValue). v.target) is ∙ first.target;
   entry = ap (λ (v : RoomValue). v.entry) is ∙ first.entry;
   fails = subst (λ (d : Disk). Fails old.disk d) (sym (ap (λ (v : RoomValue). v.disk) is)) first.fails;
+  loses = tt;
   keeps = keeps_then old mid new first.keeps keeps;
 }
 
@@ -580,11 +582,15 @@ module _ (from : ℕ) (old mid : RoomValue) (view : ViewValue) (job : Job) (trie
       record {
         room = record {
           room = later_open new last job' done.job.0 up;
-          read = λ two tried. subst (λ (t : Part × Part). (measure : Measure) × IsMeasureOf view.eye.told (at_front t.0 t.1 view.region_len) measure) (same_two two tried) (m.measure, m.read);
+          read = λ two tried. subst (λ (t : Part × Part). IsPassedOver old view t.0 t.1) (same_two two tried) (m.measure, m.read, why m.measure m.job.2);
           none = λ two tried. subst (λ (t : Part × Part). OfTold view t.0 t.1 (λ a b. FitsFree old.room.region_len (length old.room.free) a b → ⊥)) (same_two two tried) none;
         };
         looks = done.looks;
       }
+    where
+      why : (measure : Measure) → IsRefused old.room view' job.older job.newer measure → IsRefused old.room view job.older job.newer measure
+      why measure (inl none) = inl none
+      why measure (inr untold) = inr (told_back view' done.looks.same (λ a b. ⊥) untold)
 
   -- that was refused
   pub pair_refused : (new last : RoomValue) (view' : ViewValue) (job' : Job) (fault : MergeFault) → Contains view.parts job.older → Contains view.parts job.newer → MergesJob mid new view view' (job.older, job.newer) job' (Err fault) → GivesUp new last
@@ -594,7 +600,26 @@ module _ (from : ℕ) (old mid : RoomValue) (view : ViewValue) (job : Job) (trie
     looks = done.looks;
   }
   pair_refused new last view' job' (merge_fault.Room room_fault.NoMemory) older newer done up = record { room = later_open new last job' done.job.0 up; looks = done.looks }
-  pair_refused new last view' job' (merge_fault.Room room_fault.Disk) older newer done up = record { room = (tries.opened, later_shut new last job' done.job.0 up); looks = done.looks }
+  pair_refused new last view' job' (merge_fault.Room room_fault.Disk) older newer done up = record {
+    room = (tries.opened, later_shut new last job' done.job.0 up, lost_part);
+    looks = done.looks;
+  }
+    where
+      lost_part : LosesPart from old last view
+      lost_part =
+          let m = subst (λ (v : RoomValue). MergesJob v new view view' (job.older, job.newer) job' (Err (merge_fault.Room room_fault.Disk))) tries.is done in
+          let taken = m.job.2 refl in
+          let falls = done.job.0 in
+          let len : new.room.region_len ≡ old.room.region_len = falls.keeps.becomes.region_len ∙ ap (λ (v : RoomValue). v.room.region_len) tries.is in
+          record {
+            two = (job.older, job.newer);
+            tried = record { first = tries.first; older = older; newer = newer };
+            measure = m.measure;
+            read = m.read_before refl;
+            job = job';
+            taken = record { regions = taken.regions; taken = taken.taken; same = taken.same };
+            lost = subst (λ l. LosesFor old.room.region_len (Some job') l) (sym (ap (λ (v : RoomValue). v.room.lost) up.is)) (subst (λ n. LosesFor n (Some job') new.room.lost) len falls.loses);
+          }
   pair_refused new last view' job' (merge_fault.Room (room_fault.Shut epoch)) older newer done up = absurd done.job.0
 
 -- ---- no neighbours, and a shut room

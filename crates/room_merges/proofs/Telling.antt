@@ -65,6 +65,24 @@ told_by_disk value view p rows out there tells =
     subst (λ n. TellsRowsOf value.room.image n (p ∷ []) rows) out.region_len
     (tells_alike (set_of view.eye.regions) view.eye.told value.room.image view.region_len (p ∷ []) rows (seen_back (set_of view.eye.regions) value.room.image view.eye.told shows) (named, tt) tells)
 
+-- what is the same in some regions is so in those among them
+seen_within : (regions some : List ℕ) (a b : Option Image) → AllByRecursion (Contains regions) some → SameSeen regions a b → SameSeen some a b
+seen_within regions some None None named same = tt
+seen_within regions some None (Some b) named same = absurd same
+seen_within regions some (Some a) None named same = absurd same
+seen_within regions some (Some a) (Some b) named same = record {
+  as_many = same.as_many;
+  same = all_map (Contains regions) (λ r. region_of b r ≡ region_of a r)
+      (λ r there. All-contains (λ n. region_of b n ≡ region_of a n) regions r (All-from_recursion (λ n. region_of b n ≡ region_of a n) regions same.same) there) some named;
+}
+
+-- the eye of a view that is out gives of each of its parts what a read of the disk does
+pub seen_by : (value : RoomValue) (view : ViewValue) (p : Part) → IsOut value view → Contains view.parts p → SameSeen (regions_of p) value.room.image view.eye.told
+seen_by value view p out there =
+    seen_within (set_of view.eye.regions) (regions_of p) value.room.image view.eye.told
+    (All-contains (λ (q : Part). AllByRecursion (Contains (set_of view.eye.regions)) (regions_of q)) view.parts p (All-from_recursion _ view.parts (view_names view out.is_view)) there)
+    (board_shows value (buffer_at view.seat view.buffer) (opened view.eye) out.whole out.posted)
+
 -- ---- where the disk gives the same
 
 pub tells_itself : (value : RoomValue) → TellsStill value value

@@ -1,5 +1,5 @@
--- A view is made, neighbours are merged through it, and it is taken back; before and after, what is retired is erased.
-use Rattle.std.proofs.Common.{◌≡◌, ℕ, ◌+◌, ◌*◌, ◌/◌, ◌%◌, ◌<◌, ◌≤◌, ◌==◌, Bool, true, false, cond, List, [], ◌∷◌, ◌++◌, length, set, Some, None, Ok, Err, refl, sym, ap, subst, ◌∙◌, inl, inr, arith, true≢false}
+-- A view is made, neighbours are merged through it, and it is taken back; what is retired is erased.
+use Rattle.std.proofs.Common.{◌≡◌, ℕ, ◌+◌, ◌*◌, ◌/◌, ◌%◌, ◌<◌, ◌≤◌, ◌==◌, Bool, true, false, cond, List, [], ◌∷◌, ◌++◌, drop, length, set, Some, None, Ok, Err, refl, sym, ap, subst, ◌∙◌, inl, inr, arith, true≢false}
 use Rattle.std.specs.Prelude.{if◌then◌else◌, nat_le, Contains, IsSome, filter, is_some, Option, Result, option_map, slice_get, slice_set}
 use Rattle.std.specs.List.{list_all, position_or_len}
 use Rattle.std.proofs.lemmas.List.Edits.{length-remove}
@@ -10,13 +10,13 @@ use Rattle.fine_model.specs.declared.FetchFault.{FetchFault}
 use Rattle.fine_model.specs.declared.Part.{Part}
 use Rattle.fine_model.specs.declared.Row.{Row}
 use Rattle.fine_model.specs.declared.law.RoomState.{RoomState}
-use Rattle.fine_model.specs.Boards.{Buffer, buffer_at, empty_of, first_from, is_empty, names_region, naming_of}
+use Rattle.fine_model.specs.Boards.{Buffer, buffer_at, empty_of, first_from, is_empty, names_region, naming_of, regions_by, set_of}
 use Rattle.fine_model.specs.Merge.{FitsFree, cost, is_ordered, merged, regions_for}
-use Rattle.fine_model.specs.Chain.{AreRowsOf}
+use Rattle.fine_model.specs.Chain.{AreRowsOf, regions_of}
 use Rattle.fine_model.specs.ChainLaws.{part_of}
 use Rattle.fine_model.specs.Regions.{HasHeader, Image, body_bytes}
 use Rattle.fine_model.specs.Jobs.{held_for}
-use Rattle.fine_model.specs.Views.{TellsRowsOf}
+use Rattle.fine_model.specs.Views.{SameSeen, TellsRowsOf}
 use Rattle.log_disk.specs.Disk.{Told}
 use Rattle.partition_merge.specs.declared.merger.Measure.{Measure}
 use Rattle.partition_merge.specs.Mergers.{measure_of}
@@ -24,7 +24,7 @@ use Rattle.partition_hold.specs.Views.{IsView, SameView, ViewValue, opened}
 use Rattle.epoch_room.specs.Closing.{ReadsButGates}
 use Rattle.epoch_room.specs.Erasing.{ErasesAllOr, FreesThese, erased_state, held, led_by, left_state, unheld}
 use Rattle.epoch_room.specs.Meaning.{Keeps}
-use Rattle.epoch_room.specs.MergeSealing.{merged_state, replaced}
+use Rattle.epoch_room.specs.MergeSealing.{merged_state, replaced, retire}
 use Rattle.epoch_room.specs.MergeSteps.{header_over, if_enough, neighbours_from, regions_for_job, regions_needed}
 use Rattle.epoch_room.specs.Returns.{IsPosted, TakesBack}
 use Rattle.epoch_room.specs.Steps.{KeepsCounts, shut_state}
@@ -40,14 +40,14 @@ use Rattle.epoch_room.proofs.Retired.{lead_place, replaced_two}
 use Rattle.room_merges.specs.declared.fault.MergeFault.{MergeFault}
 use Rattle.room_merges.specs.declared.fault.MergeFault.TheVariants as merge_fault
 use Rattle.room_merges.specs.Merging.{EyeTells, IsOut, OfTold}
-use Rattle.room_merges.specs.Near.{BlamesTwo, Empties, IsReadRefused, IsShutNow, IsWell, KeepsRest, MergesAny, MergesErased, MergesFirst, MergesNear, MergesThrough, MergesTwo, NoneBefore, NoneBetween, NoneFitNow, OfNeighbours, SameOrErased, SameOrFirst, StandIn, TellsStill, TriesAll, Unfit, epochs_end}
+use Rattle.room_merges.specs.Near.{AllInVain, BlamedAny, BlamedFirst, BlamesTwo, Empties, InVain, IsReadRefused, IsShutNow, IsViewOf, IsWell, KeepsRest, LosesAny, LosesFirst, MergesAny, MergesThrough, MergesTwo, NoneBefore, NoneFitNow, OfNeighbours, StandIn, TellsStill, TriesAll, Unfit}
 use Rattle.room_merges.specs.Pairs.{Merges, header_for, job_for}
 use Rattle.room_merges.specs.Work.{FallsShut, Looks, StaysOpen}
 use Rattle.room_merges.proofs.Chained.{shown_by_eye, told_before}
-use Rattle.room_merges.proofs.Nearing.{Between, of_at, of_each, stand_in}
-use Rattle.room_merges.proofs.Pairing.{some_none, some_same, view_back}
-use Rattle.room_merges.proofs.Telling.{both_fit, erased_tells, held_image, merged_rows, part_in, tells_itself, tells_same, told_by_disk}
-use Rattle.room_merges.proofs.Working.{posted_then}
+use Rattle.room_merges.proofs.Nearing.{all_on, before_on, loses_on, of_at, of_each, read_back, regions_same, stand_in}
+use Rattle.room_merges.proofs.Pairing.{some_none, some_same}
+use Rattle.room_merges.proofs.Telling.{both_fit, erased_tells, held_image, merged_rows, part_in, seen_by, tells_itself, tells_same, told_by_disk}
+use Rattle.room_merges.proofs.Working.{blames_back, posted_then, view_back, view_itself}
 
 -- ---- what stays
 
@@ -136,7 +136,7 @@ two_merged from old new view m =
     record { two = m.two; stand = stand; part = p; range = refl; is = is; less = omega (arith, less, as_long) }
 
 -- so of the same parts by other names
-two_from : (old old' new new' : List Part) → old ≡ old' → new' ≡ new → MergesTwo old new → MergesTwo old' new'
+unfoldable pub two_from : (old old' new new' : List Part) → old ≡ old' → new' ≡ new → MergesTwo old new → MergesTwo old' new'
 two_from old old' new new' was is merges = record {
   two = merges.two;
   stand = record { before = merges.stand.before; after = merges.stand.after; neighbours = sym was ∙ merges.stand.neighbours };
@@ -245,7 +245,7 @@ module _ (old new : RoomValue) (whole : IsWhole old) (none : old.room.job ≡ No
   pub emptied : (erased : ℕ) (u : Unit {0}) → new.room.retired ≡ held old.room → ErasesAllOr old new (Ok erased) → Empties old new (Ok u)
   emptied erased u left erases =
       let is = erases_these (unheld old.room) old new whole none erases.0 keeps erases.2 in
-      record { rest = is.rest; parts = is.parts; told = told_still is.image; empties = (is.well, left ∙ none_held old.room.board old.room.retired all) }
+      record { rest = is.rest; parts = is.parts; told = told_still is.image; empties = (is.well, left ∙ none_held old.room.board old.room.retired all); all = (erased, erases) }
 
   pub not_emptied : (fault : RoomFault) → ErasesAllOr old new (Err fault) → Empties old new (Err (merge_fault.Room fault))
   not_emptied room_fault.Disk (begun, more, are, some, unsynced, shuts) =
@@ -255,6 +255,7 @@ module _ (old new : RoomValue) (whole : IsWhole old) (none : old.room.job ≡ No
         parts = ap (λ (r : RoomState). r.parts) steps.room;
         told = told_still (ap (λ (r : RoomState). r.image) steps.room);
         empties = record { opened = shuts.0; shut = ap (λ (r : RoomState). r.is_shut) steps.room; fails = shuts.2 };
+        all = (begun, more, are, some, unsynced, shuts);
       }
   not_emptied (room_fault.Shut epoch) was =
       record {
@@ -262,12 +263,17 @@ module _ (old new : RoomValue) (whole : IsWhole old) (none : old.room.job ≡ No
         parts = ap (λ (v : RoomValue). v.room.parts) was.2;
         told = subst (TellsStill old) (sym was.2) (tells_itself old);
         empties = was;
+        all = was;
       }
   not_emptied room_fault.NoMemory (opened_room, (begun, more, are, some, frees)) =
       let is = erases_these begun old new whole none opened_room keeps frees in
-      record { rest = is.rest; parts = is.parts; told = told_still is.image; empties = is.well }
+      record { rest = is.rest; parts = is.parts; told = told_still is.image; empties = is.well; all = (opened_room, (begun, more, are, some, frees)) }
 
 -- ---- no view
+
+none_lost : set_of [] ≡ []
+unfolding regions_by
+none_lost = refl
 
 module _ (old new : RoomValue) (whole : IsWhole old) (none : old.room.job ≡ None) (keeps : Keeps old new) (from : ℕ) where
   pub no_view : (fault : RoomFault) → ViewsOr old new 1 (Err fault) → MergesThrough from old new (Err (merge_fault.Room fault))
@@ -278,12 +284,16 @@ module _ (old new : RoomValue) (whole : IsWhole old) (none : old.room.job ≡ No
         told =
             tells_same old new
             (ap (λ (r : RoomState). r.image) steps.room ∙ ap (λ told. option_map (λ (t : Told). t.bytes) told) told ∙ sym (ap (λ (r : RoomState). r.image) whole.of_disk)) keeps.becomes.region_len;
-        through = (record { opened = shuts.0; shut = ap (λ (r : RoomState). r.is_shut) steps.room; fails = shuts.2 }, ap (λ (r : RoomState). r.parts) steps.room);
+        through = (
+          record { opened = shuts.0; shut = ap (λ (r : RoomState). r.is_shut) steps.room; fails = shuts.2 },
+          ap (λ (r : RoomState). r.parts) steps.room,
+          (ap (λ (r : RoomState). r.retired) steps.room, inl (ap (λ (r : RoomState). r.lost) steps.room ∙ none_lost)),
+        );
       }
   no_view (room_fault.Shut epoch) was = record { rest = subst (KeepsRest old) (sym was.2) (rest_itself old whole none); told = subst (TellsStill old) (sym was.2) (tells_itself old); through = was }
   no_view room_fault.NoMemory (opened_room, same) =
       let is : ErasesWell old new = subst (ErasesWell old) (sym same) (erases_none old whole none opened_room) in
-      record { rest = is.rest; told = subst (TellsStill old) (sym same) (tells_itself old); through = (is.well, is.parts) }
+      record { rest = is.rest; told = subst (TellsStill old) (sym same) (tells_itself old); through = (is.well, is.parts, (ap (λ (v : RoomValue). v.room.retired) same, ap (λ (v : RoomValue). v.room.free) same)) }
 
 -- ---- a view
 
@@ -381,11 +391,20 @@ module _ (old mid tried new : RoomValue) (view view' : ViewValue) (is : Passes o
   retired_all : tried.room.retired ≡ mid.room.retired → new.room.retired ≡ old.room.retired
   retired_all same = ap (λ (r : RoomState). r.retired) is.back.room.room ∙ same ∙ ap (λ (r : RoomState). r.retired) is.views.posts.1.room
 
+  free_all : tried.room.free ≡ mid.room.free → new.room.free ≡ old.room.free
+  free_all same = ap (λ (r : RoomState). r.free) is.back.room.room ∙ same ∙ ap (λ (r : RoomState). r.free) is.views.posts.1.room
+
   same_image : new.room.image ≡ tried.room.image
   same_image =
       ap (λ (r : RoomState). r.image) is.back.room.room
       ∙ ap (λ told. option_map (λ (t : Told). t.bytes) told) is.back.closes.told
       ∙ sym (ap (λ (r : RoomState). r.image) is.middle.of_disk)
+
+  before_image : mid.room.image ≡ old.room.image
+  before_image =
+      ap (λ (r : RoomState). r.image) is.views.posts.1.room
+      ∙ ap (λ told. option_map (λ (t : Told). t.bytes) told) is.views.opens.told
+      ∙ sym (ap (λ (r : RoomState). r.image) is.whole.of_disk)
 
   -- what a read of the disk tells of a live part, the view tells
   shown_all : tried.room.parts ≡ mid.room.parts → (p : Part) (rows : List Row) → Contains new.room.parts p → TellsRowsOf new.room.image new.room.region_len (p ∷ []) rows → EyeTells view' p rows
@@ -393,6 +412,31 @@ module _ (old mid tried new : RoomValue) (view view' : ViewValue) (is : Passes o
       shown_by_eye tried view' p rows (record { whole = is.middle; is_view = is.is_view; posted = is.posted; region_len = is.region_len })
       (subst (λ ps. Contains ps p) (parts_all parts ∙ sym is.views.parts ∙ sym is.same.parts) there)
       (subst (λ image. TellsRowsOf image tried.room.region_len (p ∷ []) rows) same_image (subst (λ n. TellsRowsOf new.room.image n (p ∷ []) rows) is.last.becomes.region_len tells))
+
+  -- the view is of the chain as it stood before, and as it stands behind, where nothing was merged
+  of_chain_first : IsViewOf old view
+  of_chain_first = record { parts = is.views.parts; region_len = is.views.region_len; sees = sees }
+    where
+      sees : (p : Part) → Contains old.room.parts p → SameSeen (regions_of p) old.room.image view.eye.told
+      sees p there =
+          subst (λ image. SameSeen (regions_of p) image view.eye.told) before_image
+          (seen_by mid view p
+          (record { whole = is.made; is_view = is.made_view; posted = view_posted old mid view is.whole is.all is.views; region_len = view_len old mid view is.whole is.all is.views })
+          (subst (λ ps. Contains ps p) (sym is.views.parts) there))
+
+  of_chain_last : tried.room.parts ≡ mid.room.parts → IsViewOf new view
+  of_chain_last same = record {
+    parts = is.views.parts ∙ sym (parts_all same);
+    region_len = sym is.same.region_len ∙ is.region_len ∙ sym is.last.becomes.region_len;
+    sees = sees;
+  }
+    where
+      sees : (p : Part) → Contains new.room.parts p → SameSeen (regions_of p) new.room.image view.eye.told
+      sees p there =
+          subst (λ told. SameSeen (regions_of p) new.room.image told) is.same.eye.told
+          (subst (λ image. SameSeen (regions_of p) image view'.eye.told) (sym same_image)
+          (seen_by tried view' p (record { whole = is.middle; is_view = is.is_view; posted = is.posted; region_len = is.region_len })
+          (subst (λ ps. Contains ps p) (parts_all same ∙ sym is.views.parts ∙ sym is.same.parts) there)))
 
   live_header : new.room.is_shut ≡ false → (image : Image) → new.room.image ≡ Some image → (p : Part) → Contains new.room.parts p → HasHeader new.room.region_len image p.region p.header
   live_header open_room image told p there =
@@ -407,8 +451,9 @@ module _ (old mid tried new : RoomValue) (view view' : ViewValue) (is : Passes o
       → TellsRowsOf new.room.image new.room.region_len (p ∷ []) rows
   tells_live open_room image told p rows there are = record { image = image; is_told = told; headers = (live_header open_room image told p there, tt); are_rows = are }
 
-  none_fit : new.room.is_shut ≡ false → StaysOpen None mid.room.free mid tried → OfNeighbours (Unfit mid view) mid.room.parts → NoneFitNow new
-  none_fit open_room stays none image told older newer near fits =
+  none_fit : new.room.is_shut ≡ false → StaysOpen None mid.room.free mid tried → OfNeighbours (InVain mid view) mid.room.parts → NoneFitNow new
+  none_fit open_room stays vain image told older newer near fits =
+      let none : OfNeighbours (Unfit mid view) mid.room.parts = of_each (InVain mid view) (Unfit mid view) (λ p q in_vain. in_vain.unfit) mid.room.parts vain in
       let parts : tried.room.parts ≡ mid.room.parts = ap (λ (r : RoomState). r.parts) stays.room in
       let same : new.room.parts ≡ mid.room.parts = ap (λ (r : RoomState). r.parts) is.back.room.room ∙ parts in
       let free : new.room.free ≡ mid.room.free = ap (λ (r : RoomState). r.free) is.back.room.room ∙ ap (λ (r : RoomState). r.free) stays.room in
@@ -457,20 +502,60 @@ module _ (old mid tried new : RoomValue) (view view' : ViewValue) (is : Passes o
         fails = record { faults = omega (arith, rose, before, low); own_faults = omega (arith, own_rose, own_before, own); no_lower = (omega (arith, not_lower, before, low), omega (arith, own_not_lower, own_before, own)) };
       }
 
-  same_unfit : (p q : Part) → Unfit mid view p q → Unfit old view p q
-  same_unfit p q unfit a b a_told b_told fits =
-      unfit a b a_told b_told
-      (subst (λ n. FitsFree n (length mid.room.free) a b) (sym is.first.becomes.region_len)
-      (subst (λ (f : List ℕ). FitsFree old.room.region_len (length f) a b) (sym (ap (λ (r : RoomState). r.free) is.views.posts.1.room)) fits))
+  -- what the room before tells of parts and of what is free
+  parts_first : mid.room.parts ≡ old.room.parts
+  parts_first = ap (λ (r : RoomState). r.parts) is.views.posts.1.room
 
-  same_none : (from until : ℕ) → NoneBetween from until mid view → NoneBetween from until old view
-  same_none from until none =
-      subst (OfNeighbours (Between from until (Unfit old view))) (ap (λ (r : RoomState). r.parts) is.views.posts.1.room)
-      (of_each (Between from until (Unfit mid view)) (Between from until (Unfit old view)) (λ p q has a b. same_unfit p q (has a b)) mid.room.parts none)
+  free_first : mid.room.free ≡ old.room.free
+  free_first = ap (λ (r : RoomState). r.free) is.views.posts.1.room
 
   same_before : (from at : ℕ) → NoneBefore from at mid view → NoneBefore from at old view
-  same_before from at (inl (low, none)) = inl (low, same_none from at none)
-  same_before from at (inr (high, none, more)) = inr (high, same_none from epochs_end none, same_none 1 at more)
+  same_before from at before = before_on old mid view view parts_first is.first.becomes.region_len free_first (view_itself view) from at before
+
+  len_last : StaysOpen None mid.room.free mid tried → new.room.region_len ≡ mid.room.region_len
+  len_last stays = is.last.becomes.region_len ∙ stays.keeps.becomes.region_len
+
+  parts_last : StaysOpen None mid.room.free mid tried → new.room.parts ≡ mid.room.parts
+  parts_last stays = ap (λ (r : RoomState). r.parts) is.back.room.room ∙ ap (λ (r : RoomState). r.parts) stays.room
+
+  free_last : StaysOpen None mid.room.free mid tried → new.room.free ≡ mid.room.free
+  free_last stays = ap (λ (r : RoomState). r.free) is.back.room.room ∙ ap (λ (r : RoomState). r.free) stays.room
+
+  -- all neighbours were tried in vain
+  all_in_vain : StaysOpen None mid.room.free mid tried → OfNeighbours (InVain mid view) mid.room.parts → AllInVain new
+  all_in_vain stays none = record {
+    view = view;
+    of_chain = of_chain_last (ap (λ (r : RoomState). r.parts) stays.room);
+    none = all_on new mid view view (sym (parts_last stays)) (sym (len_last stays)) (sym (free_last stays)) (view_itself view) none;
+  }
+
+  -- or one was refused
+  blamed_first : (from : ℕ) (fault : FetchFault) → StaysOpen None mid.room.free mid tried → BlamedAny from mid view view' fault → BlamedFirst from new fault
+  blamed_first from fault stays (at, before, blamed) = record {
+    view = view;
+    of_chain = of_chain_last (ap (λ (r : RoomState). r.parts) stays.room);
+    blamed = (
+      at,
+      before_on new mid view view (sym (parts_last stays)) (sym (len_last stays)) (sym (free_last stays)) (view_itself view) from at before,
+      record {
+        two = blamed.two;
+        first = subst (λ ps. neighbours_from at ps ≡ Some blamed.two) (sym (parts_last stays)) blamed.first;
+        blames = blames_back view view' blamed.two.0 blamed.two.1 (merge_fault.Fetch fault) is.same blamed.blames;
+      },
+    );
+  }
+
+  -- or its part could not be written
+  loses_first : (from : ℕ) → LosesAny from mid tried view → LosesFirst from old new
+  loses_first from (at, before, loses) = record {
+    view = view;
+    of_chain = of_chain_first;
+    loses = (
+      at,
+      same_before from at before,
+      loses_on old mid view view parts_first is.first.becomes.region_len free_first (view_itself view) at new tried (ap (λ (r : RoomState). r.lost) is.back.room.room) loses,
+    );
+  }
 
   -- what a read of the disk told of a live part, the view told
   shown_first : (p : Part) (rows : List Row) → Contains old.room.parts p → TellsRowsOf old.room.image old.room.region_len (p ∷ []) rows → EyeTells view p rows
@@ -478,12 +563,6 @@ module _ (old mid tried new : RoomValue) (view view' : ViewValue) (is : Passes o
       shown_by_eye mid view p rows (record { whole = is.made; is_view = is.made_view; posted = view_posted old mid view is.whole is.all is.views; region_len = view_len old mid view is.whole is.all is.views })
       (subst (λ ps. Contains ps p) (sym is.views.parts) there)
       (subst (λ image. TellsRowsOf image mid.room.region_len (p ∷ []) rows) (sym before_image) (subst (λ n. TellsRowsOf old.room.image n (p ∷ []) rows) (sym is.first.becomes.region_len) tells))
-    where
-      before_image : mid.room.image ≡ old.room.image
-      before_image =
-          ap (λ (r : RoomState). r.image) is.views.posts.1.room
-          ∙ ap (λ told. option_map (λ (t : Told). t.bytes) told) is.views.opens.told
-          ∙ sym (ap (λ (r : RoomState). r.image) is.whole.of_disk)
 
   -- so does a read of the disk once the view is taken back
   told_all : TellsStill old new
@@ -522,23 +601,38 @@ module _ (old mid tried new : RoomValue) (view view' : ViewValue) (is : Passes o
       well_all (ap (λ (r : RoomState). r.is_shut) m.room.1.room ∙ m.room.0)
       (record { faults = m.room.2.faults ∙ some.stays.counts.faults; own_faults = m.room.2.own_faults ∙ some.stays.counts.own_faults }) (looks.counts.else_same (λ failed. cc)) in
       let two = two_from some.mid.room.parts old.room.parts tried.room.parts new.room.parts were (ap (λ (r : RoomState). r.parts) is.back.room.room) (two_merged at some.mid tried some.seen m) in
+      let retired : some.mid.room.retired ≡ old.room.retired = ap (λ (r : RoomState). r.retired) some.stays.room ∙ ap (λ (r : RoomState). r.retired) is.views.posts.1.room in
+      let back = is.back.room.room in
       record {
         rest = rest_all rest;
         told = told_all;
         through = (
           well,
           record {
-            merged = two;
-            view = view;
-            shown = shown_first;
-            at = at;
-            first = subst (λ ps. neighbours_from at ps ≡ Some m.two) were m.tried.first;
-            before = same_before from at before;
-            fits = λ a b a_told b_told.
-                subst (λ n. FitsFree n (length old.room.free) a b) len
-                (subst (λ (f : List ℕ). FitsFree some.mid.room.region_len (length f) a b) free
-                (taken_fits some.mid.room a b m.measure m.regions m.taken (m.measured a b (told_on some.seen some.same m.two.0 a a_told) (told_on some.seen some.same m.two.1 b b_told))));
-            holds = merged_told at some.mid some.seen m some.same well.stays (part_in old.room.parts new.room.parts two);
+            first = record {
+              merged = two;
+              view = view;
+              shown = shown_first;
+              at = at;
+              first = subst (λ ps. neighbours_from at ps ≡ Some m.two) were m.tried.first;
+              before = same_before from at before;
+              fits = λ a b a_told b_told.
+                  subst (λ n. FitsFree n (length old.room.free) a b) len
+                  (subst (λ (f : List ℕ). FitsFree some.mid.room.region_len (length f) a b) free
+                  (taken_fits some.mid.room a b m.measure m.regions m.taken (m.measured a b (told_on some.seen some.same m.two.0 a a_told) (told_on some.seen some.same m.two.1 b b_told))));
+              holds = merged_told at some.mid some.seen m some.same well.stays (part_in old.room.parts new.room.parts two);
+              of_chain = of_chain_first;
+              measure = m.measure;
+              read = read_back view some.seen m.two.0 m.two.1 m.measure some.same m.read;
+              ordered = m.ordered;
+              regions = m.regions;
+              taken = sym (regions_same old.room some.mid.room m.measure len free) ∙ m.taken;
+              placed = ap (λ f. part_of (job_for m.two m.measure m.regions f).target (header_for m.two m.measure m.regions f)) free;
+              done = new;
+              free = ap (λ (r : RoomState). r.free) back ∙ ap (λ (r : RoomState). r.free) m.room.1.room ∙ ap (drop m.regions) free;
+              retired = ap (λ (r : RoomState). r.retired) back ∙ ap (λ (r : RoomState). r.retired) m.room.1.room ∙ ap (λ ps. retire m.two.1 (retire m.two.0 ps)) retired;
+            };
+            is_done = refl;
           },
         );
       }
@@ -556,14 +650,14 @@ module _ (old mid tried new : RoomValue) (view view' : ViewValue) (is : Passes o
       record {
         rest = rest_all (rest_stays mid.room.free mid tried stays);
         told = told_all;
-        through = (well, parts_all (ap (λ (r : RoomState). r.parts) stays.room), retired_all (ap (λ (r : RoomState). r.retired) stays.room), none_fit well.stays stays tries.room.1);
+        through = (well, parts_all (ap (λ (r : RoomState). r.parts) stays.room), retired_all (ap (λ (r : RoomState). r.retired) stays.room), none_fit well.stays stays tries.room.1, all_in_vain stays tries.room.1);
       }
   passed from (Err (merge_fault.Fetch fault)) tries =
       let stays = tries.room.0 in
       record {
         rest = rest_all (rest_stays mid.room.free mid tried stays);
         told = told_all;
-        through = (refused_all fault stays tries.looks tries.room.1, parts_all (ap (λ (r : RoomState). r.parts) stays.room), retired_all (ap (λ (r : RoomState). r.retired) stays.room));
+        through = (refused_all fault stays tries.looks tries.room.1, parts_all (ap (λ (r : RoomState). r.parts) stays.room), retired_all (ap (λ (r : RoomState). r.retired) stays.room), blamed_first from fault stays tries.room.2);
       }
   passed from (Err (merge_fault.Room room_fault.NoMemory)) tries =
       let stays = tries.room in
@@ -571,10 +665,23 @@ module _ (old mid tried new : RoomValue) (view view' : ViewValue) (is : Passes o
       record {
         rest = rest_all (rest_stays mid.room.free mid tried stays);
         told = told_all;
-        through = (well_all open_room stays.counts (tries.looks.counts.else_same (λ failed. cc)), parts_all (ap (λ (r : RoomState). r.parts) stays.room));
+        through = (
+          well_all open_room stays.counts (tries.looks.counts.else_same (λ failed. cc)),
+          parts_all (ap (λ (r : RoomState). r.parts) stays.room),
+          (retired_all (ap (λ (r : RoomState). r.retired) stays.room), free_all (ap (λ (r : RoomState). r.free) stays.room)),
+        );
       }
   passed from (Err (merge_fault.Room room_fault.Disk)) tries =
-      record { rest = rest_all (rest_falls tried.room.free mid tried tries.room); told = told_all; through = (shut_all tries.room, parts_all (ap (λ (r : RoomState). r.parts) tries.room.room)) }
+      let falls = tries.room.0 in
+      record {
+        rest = rest_all (rest_falls tried.room.free mid tried falls);
+        told = told_all;
+        through = (
+          shut_all falls,
+          parts_all (ap (λ (r : RoomState). r.parts) falls.room),
+          (retired_all (ap (λ (r : RoomState). r.retired) falls.room), inr (loses_first from tries.room.1)),
+        );
+      }
   passed from (Err (merge_fault.Room (room_fault.Shut epoch))) tries = absurd tries.room
 
 -- the board of what is left, for taking it back
@@ -589,134 +696,5 @@ module _ (from : ℕ) (mid tried : RoomValue) (view view' : ViewValue) (posted :
   still_posted (Ok false) tries = rest_posted (rest_stays mid.room.free mid tried tries.room.0) tries.looks.same
   still_posted (Err (merge_fault.Fetch fault)) tries = rest_posted (rest_stays mid.room.free mid tried tries.room.0) tries.looks.same
   still_posted (Err (merge_fault.Room room_fault.NoMemory)) tries = rest_posted (rest_stays mid.room.free mid tried tries.room) tries.looks.same
-  still_posted (Err (merge_fault.Room room_fault.Disk)) tries = rest_posted (rest_falls tried.room.free mid tried tries.room) tries.looks.same
+  still_posted (Err (merge_fault.Room room_fault.Disk)) tries = rest_posted (rest_falls tried.room.free mid tried tries.room.0) tries.looks.same
   still_posted (Err (merge_fault.Room (room_fault.Shut epoch))) tries = absurd tries.room
-
--- ---- the whole call
-
-well_then : (a b c : RoomValue) → IsWell a b → IsWell b c → IsWell a c
-well_then a b c first second = record {
-  opened = first.opened;
-  stays = second.stays;
-  counts = record { faults = second.counts.faults ∙ first.counts.faults; own_faults = second.counts.own_faults ∙ first.counts.own_faults };
-}
-
-shut_then : (a b c : RoomValue) → IsWell a b → IsShutNow b c → IsShutNow a c
-shut_then a b c first second =
-    let same = first.counts.faults in
-    let own_same = first.counts.own_faults in
-    let rose = second.fails.faults in
-    let own_rose = second.fails.own_faults in
-    let low = second.fails.no_lower.0 in
-    let own_low = second.fails.no_lower.1 in
-    record {
-      opened = first.opened;
-      shut = second.shut;
-      fails = record { faults = omega (arith, same, rose); own_faults = omega (arith, own_same, own_rose); no_lower = (omega (arith, same, low), omega (arith, own_same, own_low)) };
-    }
-
-refused_then : (a b c : RoomValue) (fault : FetchFault) → IsWell a b → IsReadRefused b c fault → IsReadRefused a c fault
-refused_then a b c fault first second =
-    let same = first.counts.faults in
-    record {
-      opened = first.opened;
-      stays = second.stays;
-      own_faults = second.own_faults ∙ first.counts.own_faults;
-      rises = λ failed. (let rose = second.rises failed in omega (arith, rose, same));
-      no_lower = (let low = second.no_lower in omega (arith, low, same));
-      else_same = λ other. second.else_same other ∙ same;
-      view = second.view;
-      shown = second.shown;
-      blames = second.blames;
-    }
-
--- ---- from where nothing is retired
-
-module _ (from : ℕ) (old mid : RoomValue) where
-  pub erased_false : MergesThrough from old mid (Ok false) → MergesErased from old mid (Ok false)
-  erased_false t = record { rest = t.rest; told = t.told; erased = t.through }
-
-  pub erased_fault : (fault : MergeFault) → MergesThrough from old mid (Err fault) → MergesErased from old mid (Err fault)
-  erased_fault (merge_fault.Fetch fault) t = record { rest = t.rest; told = t.told; erased = t.through }
-  erased_fault (merge_fault.Room room_fault.NoMemory) t = record { rest = t.rest; told = t.told; erased = (t.through.0, inl t.through.1) }
-  erased_fault (merge_fault.Room room_fault.Disk) t = record { rest = t.rest; told = t.told; erased = (t.through.0, inl t.through.1) }
-  erased_fault (merge_fault.Room (room_fault.Shut epoch)) t = record { rest = t.rest; told = t.told; erased = t.through }
-
-module _ (from : ℕ) (old mid new : RoomValue) (merges : MergesThrough from old mid (Ok true)) where
-  two_still : new.room.parts ≡ mid.room.parts → MergesTwo old.room.parts new.room.parts
-  two_still same = two_from old.room.parts old.room.parts mid.room.parts new.room.parts refl same merges.through.1.merged
-
-  first_from' : new.room.parts ≡ mid.room.parts → TellsStill mid new → MergesFirst from old new
-  unfolding two_from two_still
-  first_from' same told =
-      let f = merges.through.1 in
-      let there = part_in old.room.parts mid.room.parts f.merged in
-      record {
-        merged = two_still same;
-        view = f.view;
-        shown = f.shown;
-        at = f.at;
-        first = f.first;
-        before = f.before;
-        fits = f.fits;
-        holds = λ a b a_told b_told. told f.merged.part (merged a b) there (subst (λ ps. Contains ps f.merged.part) (sym same) there) (f.holds a b a_told b_told);
-      }
-
-  told_both : new.room.parts ≡ mid.room.parts → TellsStill mid new → TellsStill old new
-  told_both same told p rows there still tells =
-      let between = subst (λ ps. Contains ps p) same still in
-      told p rows between still (merges.told p rows there between tells)
-
-  pub erased_true : (u : Unit {0}) → Empties mid new (Ok u) → MergesErased from old new (Ok true)
-  erased_true u e = record { rest = rest_then old mid new merges.rest e.rest; told = told_both e.parts e.told; erased = (well_then old mid new merges.through.0 e.empties.0, first_from' e.parts e.told, e.empties.1) }
-
-  pub erased_after : (fault : MergeFault) → Empties mid new (Err fault) → MergesErased from old new (Err fault)
-  erased_after (merge_fault.Fetch fault) e = absurd e.empties
-  erased_after (merge_fault.Room room_fault.NoMemory) e =
-      record { rest = rest_then old mid new merges.rest e.rest; told = told_both e.parts e.told; erased = (well_then old mid new merges.through.0 e.empties, inr (first_from' e.parts e.told)) }
-  erased_after (merge_fault.Room room_fault.Disk) e =
-      record { rest = rest_then old mid new merges.rest e.rest; told = told_both e.parts e.told; erased = (shut_then old mid new merges.through.0 e.empties, inr (first_from' e.parts e.told)) }
-  erased_after (merge_fault.Room (room_fault.Shut epoch)) e = absurd (true≢false (sym e.empties.0 ∙ merges.through.0.stays))
-
--- ---- and what was retired before
-
-pub near_refused : (from : ℕ) (old new : RoomValue) (fault : MergeFault) → Empties old new (Err fault) → MergesNear from old new (Err fault)
-near_refused from old new (merge_fault.Fetch fault) e = absurd e.empties
-near_refused from old new (merge_fault.Room room_fault.NoMemory) e = record { rest = e.rest; told = e.told; near = (e.empties, inl e.parts) }
-near_refused from old new (merge_fault.Room room_fault.Disk) e = record { rest = e.rest; told = e.told; near = (e.empties, inl e.parts) }
-near_refused from old new (merge_fault.Room (room_fault.Shut epoch)) e = record { rest = e.rest; told = e.told; near = e.empties }
-
-module _ (from : ℕ) (old mid new : RoomValue) (u : Unit {0}) (first : Empties old mid (Ok u)) where
-  same_or : SameOrFirst from mid new → SameOrErased from old new
-  same_or (inl same) = inl (same ∙ first.parts)
-  same_or (inr merges) = inr (two_from mid.room.parts old.room.parts new.room.parts new.room.parts first.parts refl merges.merged, record { erased = mid; erases = first; merges = merges })
-
-  told_either : TellsStill mid new → TellsStill old new
-  told_either told p rows there still tells =
-      let between = subst (λ ps. Contains ps p) (sym first.parts) there in
-      told p rows between still (first.told p rows there between tells)
-
-  pub near_then : (result : Result Bool MergeFault) → MergesErased from mid new result → MergesNear from old new result
-  near_then (Ok true) e = record {
-    rest = rest_then old mid new first.rest e.rest;
-    told = told_either e.told;
-    near = (
-      well_then old mid new first.empties.0 e.erased.0,
-      two_from mid.room.parts old.room.parts new.room.parts new.room.parts first.parts refl e.erased.1.merged,
-      e.erased.2,
-      record { erased = mid; erases = first; merges = e.erased.1 },
-    );
-  }
-  near_then (Ok false) e = record {
-    rest = rest_then old mid new first.rest e.rest;
-    told = told_either e.told;
-    near = (well_then old mid new first.empties.0 e.erased.0, e.erased.1 ∙ first.parts, e.erased.2 ∙ first.empties.1, e.erased.3);
-  }
-  near_then (Err (merge_fault.Fetch fault)) e = record {
-    rest = rest_then old mid new first.rest e.rest;
-    told = told_either e.told;
-    near = (refused_then old mid new fault first.empties.0 e.erased.0, e.erased.1 ∙ first.parts, e.erased.2 ∙ first.empties.1);
-  }
-  near_then (Err (merge_fault.Room room_fault.NoMemory)) e = record { rest = rest_then old mid new first.rest e.rest; told = told_either e.told; near = (well_then old mid new first.empties.0 e.erased.0, same_or e.erased.1) }
-  near_then (Err (merge_fault.Room room_fault.Disk)) e = record { rest = rest_then old mid new first.rest e.rest; told = told_either e.told; near = (shut_then old mid new first.empties.0 e.erased.0, same_or e.erased.1) }
-  near_then (Err (merge_fault.Room (room_fault.Shut epoch))) e = absurd (true≢false (sym e.erased.0 ∙ first.empties.0.stays))

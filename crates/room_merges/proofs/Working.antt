@@ -1,5 +1,5 @@
 -- The steps of a merge, one after another.
-use Rattle.std.proofs.Common.{◌≡◌, ◌⊎◌, ℕ, ◌+◌, ◌<◌, ◌≤◌, ◌++◌, Bool, true, false, List, [], length, length-append, Some, Ok, Err, refl, sym, ap, subst, ◌∙◌, arith, true≢false}
+use Rattle.std.proofs.Common.{◌≡◌, ◌⊎◌, ℕ, ◌+◌, ◌<◌, ◌≤◌, ◌++◌, Bool, true, false, List, [], length, length-append, None, Some, Ok, Err, inl, inr, refl, sym, ap, subst, ◌∙◌, arith, true≢false}
 use Rattle.std.specs.Prelude.{Contains, IfSome, IsErrOf, Option, Result, slice_get}
 use Rattle.fine_model.specs.declared.FetchFault.{FetchFault}
 use Rattle.fine_model.specs.declared.FetchFault.TheVariants as fetch_fault
@@ -10,7 +10,7 @@ use Rattle.fine_model.specs.declared.Row.{Row}
 use Rattle.fine_model.specs.declared.law.OpenedEye.{OpenedEye}
 use Rattle.fine_model.specs.declared.law.RoomState.{RoomState}
 use Rattle.fine_model.specs.Boards.{Buffer, buffer_at, set_of}
-use Rattle.fine_model.specs.Jobs.{held_for}
+use Rattle.fine_model.specs.Jobs.{held_for, job_regions}
 use Rattle.fine_model.specs.Merge.{cost, merged}
 use Rattle.fine_model.specs.Regions.{Image, Place, body_len}
 use Rattle.fine_model.specs.RowBytes.{rows_len}
@@ -24,7 +24,7 @@ use Rattle.partition_merge.specs.Blocks.{BlocksValue, Gives, IsAhead, IsAtStart,
 use Rattle.partition_merge.specs.Mergers.{AreKept, BlamesEntry, BlamesRow, at_front, newer_part, older_part}
 use Rattle.partition_merge.proofs.Lengths.{handed_len}
 use Rattle.epoch_room.specs.Meaning.{Keeps}
-use Rattle.epoch_room.specs.MergeSteps.{WritesOr}
+use Rattle.epoch_room.specs.MergeSteps.{WritesOr, touched}
 use Rattle.epoch_room.specs.Returns.{IsPosted}
 use Rattle.epoch_room.specs.Value.{RoomValue, on}
 use Rattle.epoch_room.specs.Whole.{IsWhole}
@@ -37,7 +37,7 @@ use Rattle.room_merges.specs.declared.body.Progress.TheVariants as progress
 use Rattle.room_merges.specs.declared.fault.MergeFault.{MergeFault}
 use Rattle.room_merges.specs.declared.fault.MergeFault.TheVariants as merge_fault
 use Rattle.room_merges.specs.Merging.{EyeTells, IsOut, OfTold}
-use Rattle.room_merges.specs.Work.{AllOr, BlamedBy, Blames, FallsShut, IsWriting, Looks, RefusesOr, StaysOpen, StepsOr, WritesAll, WritesBlock, WritesNext, same_job}
+use Rattle.room_merges.specs.Work.{AllOr, BlamedBy, Blames, FallsShut, IsLosing, IsWriting, Looks, LosesFor, RefusesOr, StaysOpen, StepsOr, WritesAll, WritesBlock, WritesNext, same_job}
 use Rattle.room_merges.proofs.Chained.{blocks_begin, blocks_end, blocks_go_on, told_before}
 
 -- what holds of a value that is there
@@ -74,8 +74,17 @@ falls_then j k f g a b c first second = record {
     own_faults = subst (λ n. HasRisen n c.disk.own_faults) first.counts.own_faults second.fails.own_faults;
     no_lower = (subst (λ n. n ≤ c.disk.faults) first.counts.faults second.fails.no_lower.0, subst (λ n. n ≤ c.disk.own_faults) first.counts.own_faults second.fails.no_lower.1);
   };
+  loses = second.loses;
   keeps = keeps_then a b c first.keeps second.keeps;
 }
+
+-- all regions of a job are lost
+pub all_lost : (region_len : ℕ) (job : Job) (lost : List ℕ) → lost ≡ set_of (job_regions (Some job)) → LosesFor region_len (Some job) lost
+all_lost region_len job lost is = by job.header
+  where
+    by : (o : Option Header) → IfSome o (IsLosing region_len job lost)
+    by None = tt
+    by (Some header) = inr is
 
 pub refuses_then : (j k : Option Job) (f g : List ℕ) (a b c : RoomValue) (fault : MergeFault) → StaysOpen j f a b → RefusesOr k g b c fault → RefusesOr k g a c fault
 refuses_then j k f g a b c (merge_fault.Fetch fault) first second = stays_then j k f g a b c first second
@@ -100,6 +109,16 @@ view_later u v w f s = record {
 
 pub view_itself : (v : ViewValue) → SameView v v
 view_itself v = record { eye = record { number = refl; regions = refl; region_len = refl; told = refl }; parts = refl; upto = refl; place = (refl, refl); region_len = refl }
+
+-- the same view, the other way round
+pub view_back : (v w : ViewValue) → SameView v w → SameView w v
+view_back v w s = record {
+  eye = record { number = sym s.eye.number; regions = sym s.eye.regions; region_len = sym s.eye.region_len; told = sym s.eye.told };
+  parts = sym s.parts;
+  upto = sym s.upto;
+  place = (sym s.place.0, sym s.place.1);
+  region_len = sym s.region_len;
+}
 
 same_opened : (v w : ViewValue) → SameView v w → opened w.eye ≡ opened v.eye
 same_opened v w same = λ i. record { number = same.eye.number i; regions = set_of (same.eye.regions i); told = same.eye.told i }
@@ -167,6 +186,20 @@ blamed_entry known known' m m' place told len older newer blames = record {
       (subst (λ p. HasBadEntry known m.region_len (older_part m) place ⊎ HasBadEntry known m.region_len p place) (sym newer) blames.is_bad)));
 }
 
+-- so of the view as it was before
+pub blames_back : (view view' : ViewValue) (older newer : Part) (fault : MergeFault) → SameView view view' → BlamedBy view' older newer fault → BlamedBy view older newer fault
+blames_back view view' older newer (merge_fault.Room fault) same blames = tt
+blames_back view view' older newer (merge_fault.Fetch fetch_fault.Failed) same blames = tt
+blames_back view view' older newer (merge_fault.Fetch (fetch_fault.BadRow region at)) same blames = (
+  blamed_row view'.eye.told view.eye.told (at_front older newer view'.region_len) (at_front older newer view.region_len) (record { region = region; at = at }) (sym same.eye.told) (sym same.region_len) refl refl blames.0,
+  λ a b older_told newer_told. blames.1 a b (told_before view' view older a (view_back view view' same) older_told) (told_before view' view newer b (view_back view view' same) newer_told),
+)
+blames_back view view' older newer (merge_fault.Fetch (fetch_fault.BadIndex region at)) same blames = (
+  blamed_entry view'.eye.told view.eye.told (at_front older newer view'.region_len) (at_front older newer view.region_len) (record { region = region; at = at }) (sym same.eye.told) (sym same.region_len) refl refl blames.0,
+  λ a b older_told newer_told. blames.1 a b (told_before view' view older a (view_back view view' same) older_told) (told_before view' view newer b (view_back view view' same) newer_told),
+)
+blames_back view view' older newer (merge_fault.Fetch fetch_fault.NoMemory) same blames = tt
+
 -- what a merger of two parts blames; where the eye tells both, nothing is damaged
 pub blamed : (view view' : ViewValue) (m : Merger) (older newer : Part) (fault : FetchFault) → SameView view view' → m.region_len ≡ view.region_len → older_part m ≡ older → newer_part m ≡ newer
     → ((region at : ℕ) → fault ≡ fetch_fault.BadRow region at → BlamesRow view.eye.told m (record { region = region; at = at }))
@@ -207,21 +240,26 @@ block_written header block old new job job' u fits keeps (is, (opened_room, step
   );
 }
 
-pub block_refused : (header : Header) (block : List ℕ) (old new : RoomValue) (job job' : Job) (fault : RoomFault) → old.room.job ≡ Some job → old.room.is_shut ≡ false → Keeps old new
+pub block_refused : (header : Header) (block : List ℕ) (old new : RoomValue) (job job' : Job) (fault : RoomFault) → old.room.job ≡ Some job → old.room.is_shut ≡ false → job.header ≡ Some header
+    → 1 ≤ length block → Keeps old new
     → WritesOr block old new job job' header (Err fault) → WritesBlock header block old new job job' (Err (merge_fault.Room fault))
-block_refused header block old new job job' room_fault.Disk out open_room keeps (is, (opened_room, steps, fails)) = record {
+block_refused header block old new job job' room_fault.Disk out open_room taken some keeps (is, (opened_room, steps, fails)) = record {
   room = record {
     room = steps.room ∙ (λ i. on (record old.room { job = (out ∙ ap (λ (j : Job). Some j) (sym is)) i; lost = sym (ap (λ (r : RoomState). r.lost) steps.room) i; is_shut = true }) new.disk);
     target = steps.target;
     entry = steps.entry;
     fails = fails;
+    loses =
+        subst (λ (j : Job). LosesFor new.room.region_len (Some j) new.room.lost) (sym is)
+        (subst (λ (o : Option Header). IfSome o (IsLosing new.room.region_len job new.room.lost)) (sym taken)
+        (inl (length block, some, ap (λ (r : RoomState). r.lost) steps.room ∙ ap (λ n. set_of (touched n job header (length block))) (sym keeps.becomes.region_len))));
     keeps = keeps;
   };
   same = is ∙ ap (same_job job) (sym (ap (λ (j : Job). j.written) is));
   wrote = is;
 }
-block_refused header block old new job job' (room_fault.Shut epoch) out open_room keeps (is, (was_shut, which, same)) = absurd (true≢false (sym was_shut ∙ open_room))
-block_refused header block old new job job' room_fault.NoMemory out open_room keeps (is, (opened_room, steps, counts), kept) = record {
+block_refused header block old new job job' (room_fault.Shut epoch) out open_room taken some keeps (is, (was_shut, which, same)) = absurd (true≢false (sym was_shut ∙ open_room))
+block_refused header block old new job job' room_fault.NoMemory out open_room taken some keeps (is, (opened_room, steps, counts), kept) = record {
   room = record {
     room = steps.room ∙ ap (λ (j : Option Job). on (record old.room { job = j }) new.disk) (out ∙ ap (λ (j : Job). Some j) (sym is));
     target = steps.target;

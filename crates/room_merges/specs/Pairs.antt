@@ -1,8 +1,9 @@
 -- What merging two neighbours in one call makes of a room.
-use Rattle.std.specs.Prelude.{◌≡◌, ℕ, Bool, true, false, List, [], drop, length, Contains, None, Some, Result, Ok, Err, OnOk}
+use Rattle.std.specs.Prelude.{◌≡◌, ◌⊎◌, ℕ, Bool, true, false, List, [], drop, length, Contains, None, Some, Result, Ok, Err, IsErrOf, OnOk}
 use Rattle.fine_model.specs.declared.Header.{Header}
 use Rattle.fine_model.specs.declared.Job.{Job}
 use Rattle.fine_model.specs.declared.Part.{Part}
+use Rattle.fine_model.specs.declared.law.RoomState.{RoomState}
 use Rattle.fine_model.specs.Jobs.{held_for}
 use Rattle.fine_model.specs.Merge.{FitsFree, cost, merged}
 use Rattle.fine_model.specs.Regions.{body_bytes, body_len}
@@ -19,7 +20,7 @@ use Rattle.epoch_room.specs.declared.answers.RoomFault.TheVariants as room_fault
 use Rattle.room_merges.specs.declared.fault.MergeFault.{MergeFault}
 use Rattle.room_merges.specs.declared.fault.MergeFault.TheVariants as merge_fault
 use Rattle.room_merges.specs.Merging.{Measures, OfTold}
-use Rattle.room_merges.specs.Work.{BlamedBy, FallsShut, Looks, RefusesOr, StaysOpen, same_job}
+use Rattle.room_merges.specs.Work.{BlamedBy, FallsShut, Looks, LosesFor, RefusesOr, StaysOpen, same_job}
 
 -- the neighbours that are tried: the first two of which the older one begins at an epoch or later, and the view has both
 pub record AreTried (from : ℕ) (value : RoomValue) (view : ViewValue) (two : Part × Part) : Type 0 where
@@ -55,11 +56,20 @@ pub record StaysAsIs (old new : RoomValue) : Type 0 where
   pub opened : old.room.is_shut ≡ false
   pub stays : StaysOpen None old.room.free old new
 
+-- Why no regions stay taken for two parts of which a measure was read: none are taken for rows of this measure, which are out of order, or
+-- need more than are free; or what was read again was not as long as it was measured, as never where the view's eye tells both.
+abbrev pub IsRefused : RoomState → ViewValue → Part → Part → Measure → Type 0
+IsRefused room view p q measure = (regions_for_job room measure ≡ None) ⊎ OfTold view p q (λ a b. ⊥)
+
+-- two parts were passed over: a measure of them was read
+abbrev pub IsPassedOver : RoomValue → ViewValue → Part → Part → Type 0
+IsPassedOver value view p q = (measure : Measure) × IsMeasureOf view.eye.told (at_front p q view.region_len) measure × IsRefused value.room view p q measure
+
 -- Nothing was merged: where the view has the two that would be tried, their measure was read, and where the view's eye tells both, as it
 -- does where a read of the disk did, they do not fit.
 pub record MergesNone (from : ℕ) (old new : RoomValue) (view : ViewValue) : Type 0 where
   pub room : StaysAsIs old new
-  pub read : (two : Part × Part) → AreTried from old view two → (measure : Measure) × IsMeasureOf view.eye.told (at_front two.0 two.1 view.region_len) measure
+  pub read : (two : Part × Part) → AreTried from old view two → IsPassedOver old view two.0 two.1
   pub none : (two : Part × Part) → AreTried from old view two → OfTold view two.0 two.1 (λ a b. FitsFree old.room.region_len (length old.room.free) a b → ⊥)
 
 -- a read through the view was refused; a bad row or entry is one of the two that were tried
@@ -69,13 +79,30 @@ pub record IsFetchRefused (from : ℕ) (old new : RoomValue) (view view' : ViewV
   pub tried : AreTried from old view two
   pub blames : BlamedBy view' two.0 two.1 fault
 
+-- a job that took regions for rows of a measure of two parts, of which some may be written
+pub record IsTakenFor (room : RoomState) (measure : Measure) (two : Part × Part) (job : Job) : Type 0 where
+  pub regions : ℕ
+  pub taken : regions_for_job room measure ≡ Some regions
+  pub same : job ≡ same_job (taken_job (fresh_job two) measure regions room.free) job.written
+
+-- The disk failed while the part of two neighbours was written or sealed: of the lowest free regions, which were taken for it, those are
+-- lost that the failed call was writing.
+pub record LosesPart (from : ℕ) (old new : RoomValue) (view : ViewValue) : Type 0 where
+  pub two : Part × Part
+  pub tried : AreTried from old view two
+  pub measure : Measure
+  pub read : IsMeasureOf view.eye.told (at_front two.0 two.1 view.region_len) measure
+  pub job : Job
+  pub taken : IsTakenFor old.room measure two job
+  pub lost : LosesFor old.room.region_len (Some job) new.room.lost
+
 -- what a merge of two neighbours does, by its answer
 abbrev pub PairOr : ℕ → RoomValue → RoomValue → ViewValue → ViewValue → Result Bool MergeFault → Type 0
 PairOr from old new view view' (Ok true) = Merges from old new view
 PairOr from old new view view' (Ok false) = MergesNone from old new view
 PairOr from old new view view' (Err (merge_fault.Fetch fault)) = IsFetchRefused from old new view view' (merge_fault.Fetch fault)
 PairOr from old new view view' (Err (merge_fault.Room room_fault.NoMemory)) = StaysAsIs old new
-PairOr from old new view view' (Err (merge_fault.Room room_fault.Disk)) = (old.room.is_shut ≡ false) × FallsShut None new.room.free old new
+PairOr from old new view view' (Err (merge_fault.Room room_fault.Disk)) = (old.room.is_shut ≡ false) × FallsShut None new.room.free old new × LosesPart from old new view
 PairOr from old new view view' (Err (merge_fault.Room (room_fault.Shut epoch))) = WasShut epoch old new
 
 -- what a merge of two neighbours does
@@ -109,6 +136,7 @@ PartOr header old new view' job job' (Err fault) = RefusesOr (Some job') old.roo
 -- what writing and sealing the part of a job does
 pub record WritesPart (header : Header) (old new : RoomValue) (view view' : ViewValue) (job job' : Job) (result : Result Bool MergeFault) : Type 0 where
   pub part : PartOr header old new view' job job' result
+  pub same : job' ≡ same_job job job'.written
   pub looks : Looks view view' result
 
 -- a job of two parts took regions for merged rows of a measure, and what that made of the room
@@ -124,8 +152,9 @@ pub record IsJobMerged (measure : Measure) (old new : RoomValue) (view' : ViewVa
 abbrev pub JobOr : Measure → RoomValue → RoomValue → ViewValue → Part × Part → Job → Result Bool MergeFault → Type 0
 JobOr measure old new view' two job' (Ok true) = IsJobMerged measure old new view' two
 JobOr measure old new view' two job' (Ok false) =
-    StaysOpen (Some job') new.room.free old new × OfTold view' two.0 two.1 (λ a b. FitsFree old.room.region_len (length old.room.free) a b → ⊥)
-JobOr measure old new view' two job' (Err fault) = RefusesOr (Some job') new.room.free old new fault × BlamedBy view' two.0 two.1 fault
+    StaysOpen (Some job') new.room.free old new × OfTold view' two.0 two.1 (λ a b. FitsFree old.room.region_len (length old.room.free) a b → ⊥) × IsRefused old.room view' two.0 two.1 measure
+JobOr measure old new view' two job' (Err fault) =
+    RefusesOr (Some job') new.room.free old new fault × BlamedBy view' two.0 two.1 fault × (fault ≡ merge_fault.Room room_fault.Disk → IsTakenFor old.room measure two job')
 
 -- what a job of two parts that was measured does
 pub record MergesMeasured (measure : Measure) (old new : RoomValue) (view view' : ViewValue) (two : Part × Part) (job' : Job) (result : Result Bool MergeFault) : Type 0 where
@@ -137,5 +166,7 @@ pub record MergesJob (old new : RoomValue) (view view' : ViewValue) (two : Part 
   pub measure : Measure
   pub read : OnOk result (IsMeasureOf view.eye.told (at_front two.0 two.1 view.region_len) measure)
   pub measured : OnOk result (Measures view two.0 two.1 measure)
+  -- nothing is written before the measure is read
+  pub read_before : IsErrOf result (merge_fault.Room room_fault.Disk) → IsMeasureOf view.eye.told (at_front two.0 two.1 view.region_len) measure
   pub job : JobOr measure old new view' two job' result
   pub looks : Looks view view' result

@@ -1,11 +1,12 @@
 -- What the steps of a merge make of a room, of its view and of its job.
-use Rattle.std.specs.Prelude.{◌≡◌, ℕ, ◌+◌, ◌<◌, ◌≤◌, ◌++◌, Bool, true, false, List, length, option_map, Option, Some, Result, Ok, Err, IsErrOf, ⊤}
+use Rattle.std.specs.Prelude.{◌≡◌, ◌⊎◌, ℕ, ◌+◌, ◌<◌, ◌≤◌, ◌++◌, Bool, true, false, List, length, option_map, Option, None, Some, IfSome, Result, Ok, Err, IsErrOf, ⊤}
 use Rattle.fine_model.specs.declared.FetchFault.{FetchFault}
 use Rattle.fine_model.specs.declared.FetchFault.TheVariants as fetch_fault
 use Rattle.fine_model.specs.declared.Header.{Header}
 use Rattle.fine_model.specs.declared.Job.{Job}
 use Rattle.fine_model.specs.declared.Part.{Part}
-use Rattle.fine_model.specs.Jobs.{held_for}
+use Rattle.fine_model.specs.Boards.{set_of}
+use Rattle.fine_model.specs.Jobs.{held_for, job_regions}
 use Rattle.fine_model.specs.Merge.{cost, merged}
 use Rattle.fine_model.specs.Regions.{body_len}
 use Rattle.partition_index.specs.Parts.{CountsFaults}
@@ -13,6 +14,7 @@ use Rattle.partition_hold.specs.Views.{SameView, ViewValue}
 use Rattle.partition_merge.specs.Blocks.{BlocksValue}
 use Rattle.partition_merge.specs.Mergers.{AreKept, BlamesEntry, BlamesRow, at_front, newer_part, older_part}
 use Rattle.epoch_room.specs.Meaning.{Keeps}
+use Rattle.epoch_room.specs.MergeSteps.{touched}
 use Rattle.epoch_room.specs.Steps.{Fails, KeepsCounts}
 use Rattle.epoch_room.specs.Value.{RoomValue, on}
 use Rattle.epoch_room.specs.declared.answers.RoomFault.TheVariants as room_fault
@@ -32,12 +34,23 @@ pub record StaysOpen (job : Option Job) (free : List ℕ) (old new : RoomValue) 
   pub counts : KeepsCounts old.disk new.disk
   pub keeps : Keeps old new
 
+-- What a failed call was writing for a job is lost: the one or two regions in which a block of its body lies, behind the bytes that were
+-- written before; or all of the job's, where its part was being sealed.
+abbrev pub IsLosing : ℕ → Job → List ℕ → Header → Type 0
+IsLosing region_len job lost header = ((n : ℕ) × (1 ≤ n) × (lost ≡ set_of (touched region_len job header n))) ⊎ (lost ≡ set_of (job_regions (Some job)))
+
+-- so of the job that is out, if there is one
+abbrev pub LosesFor : ℕ → Option Job → List ℕ → Type 0
+LosesFor region_len None lost = ⊤
+LosesFor region_len (Some job) lost = IfSome job.header (IsLosing region_len job lost)
+
 -- the disk failed, and the room is shut: as it was, but for the job, for what is free and what is lost, and for what its disk holds
 pub record FallsShut (job : Option Job) (free : List ℕ) (old new : RoomValue) : Type 0 where
   pub room : new.room ≡ on (record old.room { job = job; free = free; lost = new.room.lost; is_shut = true }) new.disk
   pub target : new.target ≡ old.target
   pub entry : new.entry ≡ old.entry
   pub fails : Fails old.disk new.disk
+  pub loses : LosesFor new.room.region_len job new.room.lost
   pub keeps : Keeps old new
 
 -- what a step that is refused makes of an open room

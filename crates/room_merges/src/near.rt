@@ -166,14 +166,16 @@ fn merge_erased<D: LogDisk>(
 /// Erases all retired parts, merges the first neighbours of the chain that fit, and erases the two. Tried are first the neighbours of which
 /// the older one begins at an epoch or later, in chain order, and then those before it. No view is out, and no merge, before and after.
 ///
-/// True exactly where two were merged: the chain has a part less, and none is retired; where both are in the grammar, the new part holds
-/// their merged rows. False where no neighbours fit what is free, by what a read of the disk gives; none is retired then either, and the
-/// chain is as it was. Whatever the answer, each part that stays in the chain holds the rows that it held.
+/// True exactly where two were merged: the chain has a part less, over the lowest regions that were free, and none is retired; where both
+/// are in the grammar, the new part holds their merged rows. False where no neighbours fit what is free, by what a read of the disk gives;
+/// none is retired then either, and the chain is as it was. Of each two that are passed over a measure was read. Whatever the answer, each
+/// part that stays in the chain holds the rows that it held.
 ///
 /// `Shut` comes exactly where an earlier call answered `Disk`, and changes nothing. `Disk` comes only where the disk failed in this call,
-/// and shuts the room. After `NoMemory` the room is open; both may come once two were merged, and what was merged or erased before stays
-/// so. A refusal of a read leaves the chain as it was, and nothing retired. A crash at any moment of the call leaves an image that shows
-/// what was sealed before.
+/// and shuts the room: the regions are lost that the failed call was writing, of retired parts that were being erased, or of the new part.
+/// After `NoMemory` the room is open; both may come once two were merged, and what was merged or erased before stays so. A refusal of a
+/// read leaves the chain as it was, and nothing retired; no neighbours that are tried before fit. A crash at any moment of the call leaves
+/// an image that shows what was sealed before.
 pub fn merge_near<D: LogDisk>(
     alloc: Global,
     room: &mut Room<D>,

@@ -179,9 +179,11 @@ fn merge_job<D: LogDisk>(
 /// both: measures their merged rows, takes regions, writes and seals the merged part, and retires the two. No merge is out, before and after.
 ///
 /// True exactly where they were merged. False where there are no such neighbours, the view has not both, their rows are not in order, or
-/// more regions are needed than are free; then the room is as it was, but for what free regions hold. No other two are tried.
+/// more regions are needed than are free, by a measure that was read; then the room is as it was, but for what free regions hold. No other
+/// two are tried.
 ///
-/// `Disk` comes only where the disk failed in this call, and shuts the room; the chain is as it was. `Shut` comes exactly where an earlier
+/// `Disk` comes only where the disk failed in this call, and shuts the room; the chain is as it was, and of the lowest free regions, which
+/// were taken, those are lost that the failed call was writing. `Shut` comes exactly where an earlier
 /// call answered `Disk`, and changes nothing. After `NoMemory` and each refusal of a read the room is open, and as after false. A crash
 /// at any moment of the call leaves an image that shows what was sealed before.
 pub fn merge_pair<D: LogDisk>(

@@ -1,98 +1,31 @@
 //! What no clause says: whole chains that are merged in memory, each call with ample memory.
 
-ghost use Rattle.std.specs.Prelude.{◌≡◌, ◌<◌, ◌≤◌, [], ◌∷◌, None, IfOk, OnOk};
-ghost use Rattle.std.specs.List.{AllByRecursion};
-ghost use Rattle.fine_model.specs.RowBytes.{FitsRow};
-ghost use Rattle.fine_model.specs.declared.Mark.TheVariants as mark;
+ghost use Rattle.std.specs.Prelude.{◌≡◌, [], ◌∷◌, None, IfOk, OnOk};
 
-use epoch_room::{Fit, Room};
-use fine_model::{Bytes, Items, NodeId, Part, Rec, Row};
+use crate::fixtures::{new_room, seal_some};
+use epoch_room::Room;
+use fine_model::Part;
 use log_disk::{FaultPlan, MemDisk};
-use private_log::PrivateLog;
 use room_merges::{merge_near, merge_now};
 use std::alloc::Global;
 use std::test::Fail;
-
-// A room on a new disk of eight regions.
-fn new_room(alloc: Global) -> Result<Room<MemDisk>, Fail>
-    ensures { IfOk result (λ room. (room.room.board ≡ None ∷ None ∷ None ∷ []) × (room.room.job ≡ None)) }
-{
-    let disk = MemDisk::new(alloc, 8, 4096, FaultPlan::none(alloc))?;
-    match Room::make(alloc, disk, Items::new(alloc), Items::new(alloc)) {
-        Ok(room) => Ok(room),
-        Err(_refused) => Err("memory")?,
-    }
-}
-
-fn text(alloc: Global, text: &[u8]) -> Result<Bytes, Fail>
-    ensures { IfOk result (λ b. b ≡ text.now) }
-{
-    Ok(Items::from_vec(Vec::from_slice(alloc, text).ok().ok_or("memory")?))
-}
-
-// `put a 1` in a node, alone.
-#[tactic(auto, unfolding(fine_model::specs::RowBytes::body))]
-fn put(alloc: Global, number: u32) -> Result<PrivateLog, Fail>
-    requires low { 1 ≤ number }
-    requires high { number < 8 }
-    ensures { IfOk result (AllByRecursion (FitsRow mark.Two)) }
-{
-    let key = text(alloc, b"a")?;
-    let value = text(alloc, b"1")?;
-    let mut log = PrivateLog::new(alloc);
-    let row = Row {
-        node: NodeId { bucket: 97, number },
-        version: 1,
-        rec: Rec::Put { key, value },
-    };
-    log.push(&row).ok().ok_or("memory")?;
-    Ok(log)
-}
-
-#[tactic(auto, unfolding(epoch_room::specs::Steps::appended))]
-fn commit(room: &mut Room<MemDisk>, log: &PrivateLog) -> Result<(), Fail>
-    requires { AllByRecursion (FitsRow mark.Two) log.now }
-    ensures waits { OnOk result (1 ≤ room.new.room.waiting) }
-    ensures same { (room.new.room.board ≡ room.old.room.board) × (room.new.room.job ≡ room.old.room.job) }
-{
-    match room.fit(log.cost()) {
-        Fit::Fits => {
-            let _stamp = room.append(log);
-            Ok(())
-        }
-        _ => Err("fit")?,
-    }
-}
-
-// An epoch more of one entry, in a node.
-fn seal_one(room: &mut Room<MemDisk>, alloc: Global, number: u32) -> Result<(), Fail>
-    requires low { 1 ≤ number }
-    requires high { number < 8 }
-    ensures { OnOk result ((room.new.room.board ≡ room.old.room.board) × (room.new.room.job ≡ room.old.room.job)) }
-{
-    commit(room, &put(alloc, number)?)?;
-    match room.seal() {
-        Ok(_epoch) => Ok(()),
-        Err(_fault) => Err("seal")?,
-    }
-}
 
 // Five epochs more of one entry each, in five nodes.
 fn seal_five(room: &mut Room<MemDisk>, alloc: Global) -> Result<(), Fail>
     ensures { OnOk result ((room.new.room.board ≡ room.old.room.board) × (room.new.room.job ≡ room.old.room.job)) }
 {
-    seal_one(room, alloc, 1)?;
-    seal_one(room, alloc, 2)?;
-    seal_one(room, alloc, 3)?;
-    seal_one(room, alloc, 4)?;
-    seal_one(room, alloc, 5)
+    seal_some(room, alloc, 1, 1, 1)?;
+    seal_some(room, alloc, 2, 1, 1)?;
+    seal_some(room, alloc, 3, 1, 1)?;
+    seal_some(room, alloc, 4, 1, 1)?;
+    seal_some(room, alloc, 5, 1, 1)
 }
 
 // A room of five parts, of one row each.
 fn five_parts(alloc: Global) -> Result<Room<MemDisk>, Fail>
     ensures { IfOk result (λ room. (room.room.board ≡ None ∷ None ∷ None ∷ []) × (room.room.job ≡ None)) }
 {
-    let mut room = new_room(alloc)?;
+    let mut room = new_room(alloc, FaultPlan::none(alloc))?;
     seal_five(&mut room, alloc)?;
     Ok(room)
 }

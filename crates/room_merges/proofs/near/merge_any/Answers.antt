@@ -43,11 +43,11 @@ merge_between-requires-else-merged-clause-parts g c κs within =
 
 pub returns-else-merged : goal.returns-else-merged
 returns-else-merged g c =
-    any_more c.args.from c.args.room.now c.merge_between.new.room c.merge_between-else-merged.new.room c.args.view.now c.merge_between.new.view c.merge_between-else-merged.new.view c.merge_between-else-merged.result c.counts-counts.ensures.whole
+    any_more c.args.from c.args.room.now c.merge_between.new.room c.args.view.now c.merge_between.new.view c.counts-counts.ensures.whole
     (subst (λ (r : Result Bool MergeFault). TriesBetween c.args.from epochs_end c.args.room.now c.merge_between.new.room c.args.view.now c.merge_between.new.view r) (c.in-Ok.is ∙ ap (λ b. Ok b) c.if-merged.false) c.merge_between.ensures)
-    c.merge_between-else-merged.ensures
+    c.merge_between-else-merged.new.room c.merge_between-else-merged.new.view c.merge_between-else-merged.result c.merge_between-else-merged.ensures
 
 pub returns-in-Err : goal.returns-in-Err
 returns-in-Err g c =
-    any_refused c.args.from epochs_end c.args.room.now c.merge_between.new.room c.args.view.now c.merge_between.new.view c.in-Err.fault
+    any_refused c.args.from c.args.room.now c.merge_between.new.room c.args.view.now c.merge_between.new.view c.in-Err.fault
     (subst (λ (r : Result Bool MergeFault). TriesBetween c.args.from epochs_end c.args.room.now c.merge_between.new.room c.args.view.now c.merge_between.new.view r) c.in-Err.is c.merge_between.ensures)

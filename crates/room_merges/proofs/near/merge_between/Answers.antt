@@ -33,7 +33,7 @@ returns-then-merged g c =
 
 pub returns-in-Err : goal.returns-in-Err
 returns-in-Err g c =
-    try_refused c.args.from c.loop-at.at c.args.room.now c.loop-at.room c.args.view.now c.loop-at.view c.counts-counts.ensures.whole c.requires.open c.requires.parts c.loop-at.invariant c.args.until c.merge_pair.new.room c.merge_pair.new.view c.in-Err.fault
+    try_refused c.args.from c.loop-at.at c.args.room.now c.loop-at.room c.args.view.now c.loop-at.view c.counts-counts.ensures.whole c.requires.open c.requires.parts c.loop-at.invariant c.args.until c.merge_pair.new.room c.merge_pair.new.view c.in-Err.fault c.loop-at-test.true
     (subst (λ (r : Result Bool MergeFault). MergesPair c.loop-at.at c.loop-at.room c.merge_pair.new.room c.loop-at.view c.merge_pair.new.view r) c.in-Err.is c.merge_pair.ensures)
 
 pub loop-at-preserved : goal.loop-at-preserved

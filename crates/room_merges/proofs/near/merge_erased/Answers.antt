@@ -3,7 +3,7 @@ use Rattle.std.specs.List.{list_all}
 use Rattle.fine_model.specs.Boards.{is_empty}
 use Rattle.room_merges.specs.Near.{Empties, MergesThrough}
 use Rattle.room_merges.specs.declared.fault.MergeFault.{MergeFault}
-use Rattle.room_merges.proofs.Through.{erased_after, erased_false, erased_fault, erased_true}
+use Rattle.room_merges.proofs.Erased.{erased_after, erased_false, erased_fault, erased_true}
 use Rattle.room_merges.proofs.near.merge_erased.Goals as goal
 
 pub erase_retired-requires-clause-no_job : goal.erase_retired-requires-clause-no_job

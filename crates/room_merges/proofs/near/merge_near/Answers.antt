@@ -3,7 +3,7 @@ use Rattle.std.specs.List.{list_all}
 use Rattle.fine_model.specs.Boards.{is_empty}
 use Rattle.room_merges.specs.Near.{Empties}
 use Rattle.room_merges.specs.declared.fault.MergeFault.{MergeFault}
-use Rattle.room_merges.proofs.Through.{near_refused, near_then}
+use Rattle.room_merges.proofs.Erased.{near_refused, near_then}
 use Rattle.room_merges.proofs.near.merge_near.Goals as goal
 
 pub merge_erased-requires-clause-no_job : goal.merge_erased-requires-clause-no_job

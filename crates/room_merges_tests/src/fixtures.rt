@@ -1,0 +1,135 @@
+//! Rooms in memory, and epochs of a few rows.
+
+ghost use Rattle.std.specs.Prelude.{◌≡◌, ◌<◌, ◌≤◌, [], ◌∷◌, length, None, IfOk, OnOk};
+ghost use Rattle.std.specs.List.{AllByRecursion};
+ghost use Rattle.fine_model.specs.RowBytes.{FitsRow};
+ghost use Rattle.fine_model.specs.declared.Mark.TheVariants as mark;
+
+use epoch_room::{Fit, Room};
+use fine_model::{Bytes, Items, NodeId, Rec, Row};
+use log_disk::{FaultPlan, MemDisk};
+use private_log::PrivateLog;
+use std::alloc::Global;
+use std::test::Fail;
+
+// A room on a new disk of eight regions, whose calls fail by a plan.
+pub fn new_room(alloc: Global, plan: FaultPlan) -> Result<Room<MemDisk>, Fail>
+    ensures { IfOk result (λ room. (room.room.board ≡ None ∷ None ∷ None ∷ []) × (room.room.job ≡ None)) }
+{
+    let disk = MemDisk::new(alloc, 8, 4096, plan)?;
+    match Room::make(alloc, disk, Items::new(alloc), Items::new(alloc)) {
+        Ok(room) => Ok(room),
+        Err(_refused) => Err("memory")?,
+    }
+}
+
+// A plan by which each call of the disk fails from a number on.
+pub fn stop_at(alloc: Global, stop: u64) -> FaultPlan {
+    let mut plan = FaultPlan::none(alloc);
+    plan.stop = stop;
+    plan
+}
+
+fn text(alloc: Global, text: &[u8]) -> Result<Bytes, Fail>
+    ensures { IfOk result (λ b. b ≡ text.now) }
+{
+    Ok(Items::from_vec(Vec::from_slice(alloc, text).ok().ok_or("memory")?))
+}
+
+// A value of so many bytes.
+fn value(alloc: Global, len: usize) -> Result<Bytes, Fail>
+    requires some { 1 ≤ len }
+    requires few { len ≤ 256 }
+    ensures some { IfOk result (λ b. 1 ≤ length b) }
+    ensures few { IfOk result (λ b. length b ≤ 256) }
+{
+    Ok(Items::from_vec(vec![in alloc; b'v'; len].ok().ok_or("memory")?))
+}
+
+// Puts at the key `a` in a node a value of so many bytes.
+#[tactic(auto, unfolding(fine_model::specs::RowBytes::body))]
+fn put(log: &mut PrivateLog, alloc: Global, number: u32, len: usize) -> Result<(), Fail>
+    requires low { 1 ≤ number }
+    requires high { number < 100 }
+    requires some { 1 ≤ len }
+    requires few { len ≤ 256 }
+    requires fit { AllByRecursion (FitsRow mark.Two) log.old }
+    ensures { OnOk result (AllByRecursion (FitsRow mark.Two) log.new) }
+{
+    let row = Row {
+        node: NodeId { bucket: 97, number },
+        version: 1,
+        rec: Rec::Put {
+            key: text(alloc, b"a")?,
+            value: value(alloc, len)?,
+        },
+    };
+    match log.push(&row) {
+        Ok(()) => Ok(()),
+        Err(_refused) => Err("memory")?,
+    }
+}
+
+// So in each of so many nodes, from a number on.
+fn put_some(alloc: Global, from: u32, nodes: u32, len: usize) -> Result<PrivateLog, Fail>
+    requires low { 1 ≤ from }
+    requires high { from < 50 }
+    requires nodes { nodes < 50 }
+    requires some { 1 ≤ len }
+    requires few { len ≤ 256 }
+    ensures { IfOk result (AllByRecursion (FitsRow mark.Two)) }
+{
+    let mut log = PrivateLog::new(alloc);
+    let end = from + nodes;
+    let mut number = from;
+    while number < end {
+        put(&mut log, alloc, number, len)?;
+        number += 1;
+    }
+    Ok(log)
+}
+
+#[tactic(auto, unfolding(epoch_room::specs::Steps::appended))]
+fn commit(room: &mut Room<MemDisk>, log: &PrivateLog) -> Result<(), Fail>
+    requires { AllByRecursion (FitsRow mark.Two) log.now }
+    ensures waits { OnOk result (1 ≤ room.new.room.waiting) }
+    ensures same { (room.new.room.board ≡ room.old.room.board) × (room.new.room.job ≡ room.old.room.job) }
+{
+    match room.fit(log.cost()) {
+        Fit::Fits => {
+            let _stamp = room.append(log);
+            Ok(())
+        }
+        _ => Err("fit")?,
+    }
+}
+
+// An epoch more of one entry, of these rows.
+fn seal_log(room: &mut Room<MemDisk>, log: &PrivateLog) -> Result<(), Fail>
+    requires { AllByRecursion (FitsRow mark.Two) log.now }
+    ensures { OnOk result ((room.new.room.board ≡ room.old.room.board) × (room.new.room.job ≡ room.old.room.job)) }
+{
+    commit(room, log)?;
+    match room.seal() {
+        Ok(_epoch) => Ok(()),
+        Err(_fault) => Err("seal")?,
+    }
+}
+
+// An epoch more of one entry, which puts values of so many bytes in so many nodes, from a number on.
+pub fn seal_some(
+    room: &mut Room<MemDisk>,
+    alloc: Global,
+    from: u32,
+    nodes: u32,
+    len: usize,
+) -> Result<(), Fail>
+    requires low { 1 ≤ from }
+    requires high { from < 50 }
+    requires nodes { nodes < 50 }
+    requires some { 1 ≤ len }
+    requires few { len ≤ 256 }
+    ensures { OnOk result ((room.new.room.board ≡ room.old.room.board) × (room.new.room.job ≡ room.old.room.job)) }
+{
+    seal_log(room, &put_some(alloc, from, nodes, len)?)
+}

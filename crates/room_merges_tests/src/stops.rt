@@ -1,0 +1,221 @@
+//! Merges whose calls of the disk fail, and what a crash leaves of them.
+
+ghost use Rattle.std.specs.Prelude.{◌≡◌, [], ◌∷◌, None, IfOk};
+ghost use Rattle.epoch_room.specs.Whole.{IsIdle};
+
+use crate::fixtures::{new_room, seal_some, stop_at};
+use epoch_room::{Room, RoomFault};
+use fine_model::{FetchFault, Node, NodeId};
+use log_disk::{FaultPlan, LogEye, MemDisk};
+use partition_hold::View;
+use reopen::open_log;
+use room_merges::{MergeFault, merge_now};
+use std::alloc::Global;
+use std::test::Fail;
+
+// What a merge answers.
+#[derive(Clone, Copy, Debug, PartialEq, Eq)]
+enum Answer {
+    Merged,
+    NoneFit,
+    Read,
+    Disk,
+    Shut,
+    Other,
+}
+
+use Answer::{Disk, Merged, NoneFit, Other, Read, Shut};
+
+fn answer_of(answer: Result<bool, MergeFault>) -> Answer {
+    match answer {
+        Ok(merged) => { if merged { Merged } else { NoneFit } }
+        Err(fault) => match fault {
+            MergeFault::Fetch(FetchFault::Failed) => Read,
+            MergeFault::Room(RoomFault::Disk) => Disk,
+            MergeFault::Room(RoomFault::Shut { epoch: _ }) => Shut,
+            _ => Other,
+        },
+    }
+}
+
+fn merge(room: &mut Room<MemDisk>, alloc: Global) -> Answer
+    requires board { room.old.room.board ≡ None ∷ None ∷ None ∷ [] }
+    requires job { room.old.room.job ≡ None }
+    ensures board { room.new.room.board ≡ None ∷ None ∷ None ∷ [] }
+    ensures job { room.new.room.job ≡ None }
+{
+    answer_of(merge_now(alloc, room))
+}
+
+// Three merges of a room, one after another.
+fn merge_thrice(room: &mut Room<MemDisk>, alloc: Global) -> [Answer; 3]
+    requires board { room.old.room.board ≡ None ∷ None ∷ None ∷ [] }
+    requires job { room.old.room.job ≡ None }
+    ensures board { room.new.room.board ≡ None ∷ None ∷ None ∷ [] }
+    ensures job { room.new.room.job ≡ None }
+{
+    let first = merge(room, alloc);
+    let second = merge(room, alloc);
+    [first, second, merge(room, alloc)]
+}
+
+// ---- calls that fail
+
+// A room of two parts of one row, which take four calls of the disk each.
+fn two_parts(alloc: Global, plan: FaultPlan) -> Result<Room<MemDisk>, Fail>
+    ensures { IfOk result (λ room. (room.room.board ≡ None ∷ None ∷ None ∷ []) × (room.room.job ≡ None)) }
+{
+    let mut room = new_room(alloc, plan)?;
+    seal_some(&mut room, alloc, 1, 1, 1)?;
+    seal_some(&mut room, alloc, 2, 1, 1)?;
+    Ok(room)
+}
+
+fn merged_with(alloc: Global, plan: FaultPlan) -> Result<[Answer; 3], Fail> {
+    let mut room = two_parts(alloc, plan)?;
+    Ok(merge_thrice(&mut room, alloc))
+}
+
+#[test]
+fn each_call_that_fails_is_told(rt: HostRuntime) -> Result<(), Fail> {
+    let alloc = rt.alloc();
+    // the view's eye, the body, the header and the gate and a sync of each, and two gates and a sync to erase the two
+    for stop in 9..18 {
+        assert_eq!(rt;
+            merged_with(alloc, stop_at(alloc, stop))?,
+            [Disk, Shut, Shut]
+        );
+    }
+    assert_eq!(rt;
+        merged_with(alloc, stop_at(alloc, 18))?,
+        [Merged, Disk, Shut]
+    );
+    assert_eq!(rt;
+        merged_with(alloc, FaultPlan::none(alloc))?,
+        [Merged, NoneFit, NoneFit]
+    );
+    Ok(())
+}
+
+// A plan by which one read of the first eye fails.
+fn failing_read(alloc: Global, read: u64) -> Result<FaultPlan, Fail> {
+    let mut plan = FaultPlan::none(alloc);
+    plan.eye_reads.push((1, read)).ok().ok_or("memory")?;
+    Ok(plan)
+}
+
+#[test]
+fn a_read_that_fails_leaves_the_room_open(rt: HostRuntime) -> Result<(), Fail> {
+    let alloc = rt.alloc();
+    // the index and the rows of two parts, to measure them and to merge them
+    for read in 1..9 {
+        assert_eq!(rt;
+            merged_with(alloc, failing_read(alloc, read)?)?,
+            [Read, Merged, NoneFit]
+        );
+    }
+    assert_eq!(rt;
+        merged_with(alloc, failing_read(alloc, 9)?)?,
+        [Merged, NoneFit, NoneFit]
+    );
+    Ok(())
+}
+
+// ---- crashes
+
+// A room of three parts of eight rows each, which take twelve calls of the disk. Each row has 279 bytes, so that the merged rows of two
+// parts need two regions.
+fn three_parts(alloc: Global, plan: FaultPlan) -> Result<Room<MemDisk>, Fail>
+    ensures { IfOk result (λ room. (room.room.board ≡ None ∷ None ∷ None ∷ []) × (room.room.job ≡ None)) }
+{
+    let mut room = new_room(alloc, plan)?;
+    seal_some(&mut room, alloc, 1, 8, 256)?;
+    seal_some(&mut room, alloc, 9, 8, 256)?;
+    seal_some(&mut room, alloc, 17, 8, 256)?;
+    Ok(room)
+}
+
+// The disk of a room as a crash leaves it, where all that was not synced has one byte; as the last sync left it without such bytes.
+fn crash(alloc: Global, room: Room<MemDisk>, byte: u8, len: usize) -> Result<MemDisk, Fail>
+    requires board { room.room.board ≡ None ∷ None ∷ None ∷ [] }
+    requires job { room.room.job ≡ None }
+    ensures { IfOk result (λ disk. IsIdle disk.disk) }
+{
+    let picks = vec![in alloc; byte; len].ok().ok_or("memory")?;
+    let disk = room.into_disk();
+    match disk.crashed(picks.as_slice()) {
+        Ok(disk) => Ok(disk),
+        Err(_refused) => Err("memory")?,
+    }
+}
+
+// Whether a node is a leaf of one pair.
+fn has_pair(node: &Node) -> bool {
+    let Node::Leaf { pairs } = node else {
+        return false;
+    };
+    pairs.len() == 1
+}
+
+// Whether a view shows a value in a node.
+fn shows<E: LogEye>(view: &mut View<E>, number: u32) -> bool {
+    match view.fetch(NodeId { bucket: 97, number }) {
+        Ok((found, _version)) => has_pair(&found),
+        Err(_fault) => false,
+    }
+}
+
+// Whether a room shows the rows of all three parts.
+fn shows_all(room: &mut Room<MemDisk>) -> Result<bool, Fail>
+    requires { room.old.room.board ≡ None ∷ None ∷ None ∷ [] }
+{
+    let Ok(mut view) = room.view_for(1) else {
+        return Err("view")?;
+    };
+    for number in 1..25 {
+        if !shows(&mut view, number) {
+            return Ok(false);
+        }
+    }
+    Ok(true)
+}
+
+// The last epoch of a log, and whether it shows the rows of all three parts.
+fn reopened(alloc: Global, disk: MemDisk) -> Result<(u64, bool), Fail>
+    requires { IsIdle disk.disk }
+{
+    match open_log(alloc, disk) {
+        Ok(mut room) => {
+            let sealed = room.counts().sealed;
+            Ok((sealed, shows_all(&mut room)?))
+        }
+        Err(_refused) => Err("open")?,
+    }
+}
+
+// What merging three parts answers where the calls fail from a number on, and what a crash then leaves of them.
+fn stopped(
+    alloc: Global,
+    stop: u64,
+    byte: u8,
+    len: usize,
+) -> Result<([Answer; 3], (u64, bool)), Fail> {
+    let mut room = three_parts(alloc, stop_at(alloc, stop))?;
+    let answers = merge_thrice(&mut room, alloc);
+    let disk = crash(alloc, room, byte, len)?;
+    Ok((answers, reopened(alloc, disk)?))
+}
+
+#[test]
+fn a_merge_that_is_stopped_loses_no_row(rt: HostRuntime) -> Result<(), Fail> {
+    // what was not synced is as it was; or each gate that was being written is open, or closed, behind which other bytes stand
+    for (byte, len) in [(0, 0), (0xa7, 8192), (0, 8192)] {
+        for stop in [13, 14] {
+            assert_eq!(rt;
+                stopped(rt.alloc(), stop, byte, len)?,
+                ([Disk, Shut, Shut], (3, true))
+            );
+        }
+    }
+    Ok(())
+}

@@ -1,0 +1,6 @@
+pub mod Facts
+pub mod Fitting
+pub mod Merges
+pub mod Rooms
+pub mod Seals
+pub mod Telling

@@ -1,0 +1,308 @@
+-- Merging neighbours between transactions.
+use Rattle.std.proofs.Common.{◌≡◌, ◌∙◌, ℕ, zero, suc, ◌≤◌, Bool, true, false, List, [], ◌∷◌, length, inl, inr, Option, Some, None, Ok, Err, refl, sym, ap, subst, arith, append-nil}
+use Rattle.std.specs.Prelude.{◌⊎◌, Contains, nat_le}
+use Rattle.std.specs.List.{AllByRecursion, list_all}
+use Rattle.std.proofs.lemmas.List.Elements.{Contains-append_right}
+use Rattle.fine_model.specs.declared.Damage.TheVariants as damage
+use Rattle.fine_model.specs.declared.FetchFault.{FetchFault}
+use Rattle.fine_model.specs.declared.FetchFault.TheVariants as fetch_fault
+use Rattle.fine_model.specs.declared.Part.{Part}
+use Rattle.fine_model.specs.declared.Row.{Row}
+use Rattle.fine_model.specs.declared.RunFault.{RunFault}
+use Rattle.fine_model.specs.declared.law.RoomState.{RoomState}
+use Rattle.fine_model.specs.Boards.{Buffer, is_empty}
+use Rattle.fine_model.specs.Chain.{AreRowsOf}
+use Rattle.fine_model.specs.History.{Commit}
+use Rattle.fine_model.specs.Regions.{HasHeader, Image}
+use Rattle.fine_model.specs.Views.{TellsRowsOf}
+use Rattle.epoch_room.specs.Fitting.{counts_of, is_pressed}
+use Rattle.epoch_room.specs.Value.{RoomValue}
+use Rattle.epoch_room.specs.Whole.{IsWhole}
+use Rattle.epoch_room.specs.declared.answers.Counts.{Counts}
+use Rattle.epoch_room.specs.declared.answers.RoomFault.TheVariants as room_fault
+use Rattle.merge_policy.specs.Choices.{Picks, aims_of, neighbours, question}
+use Rattle.merge_policy.specs.declared.figures.Space.{Space}
+use Rattle.room_merges.specs.declared.fault.MergeFault.{MergeFault}
+use Rattle.room_merges.specs.declared.fault.MergeFault.TheVariants as merge_fault
+use Rattle.room_merges.specs.Near.{IsReadRefused, KeepsRest, MergesNear}
+use Rattle.room_merges.specs.Merging.{OfTold}
+use Rattle.room_shelf.specs.Shelves.{IsShelf, ShelfValue, TellsNone, shelf}
+use Rattle.run_laws.specs.Going.{StaysOn}
+use Rattle.run_laws.specs.Runs.{OfSound}
+use Rattle.run_laws.specs.SoFar.{GoesOn}
+use Rattle.run_laws.proofs.Readings.{unsound_law}
+use Rattle.room_steps.specs.Laws.{MergesStay}
+use Rattle.room_steps.specs.Merging.{FreeOr, Frees, IsMerging, IsTidying, MergesOne, of_merge}
+use Rattle.room_steps.specs.Steps.{FaultOf, IsNamed, IsWell, Leaves, NamesPlace, NoneFailed, Tidies, Unsealed, space_of}
+use Rattle.room_steps.proofs.Facts.{Rested, failed_on, fault_on, has_failed, leaves_itself, leaves_on, leaves_staying, none_failed_itself, unsealed_itself, unsealed_on, was_shut, well_counts, well_on}
+
+-- ---- the rows of one part
+
+own_rows : (region_len : ℕ) (image : Image) (parts : List Part) (p : Part) (rows : List Row) → AllByRecursion (λ q. HasHeader region_len image q.region q.header) parts → AreRowsOf region_len image parts rows → Contains parts p
+    → (own : List Row) × HasHeader region_len image p.region p.header × AreRowsOf region_len image (p ∷ []) own
+unfolding AreRowsOf
+own_rows region_len image [] p rows headers are (k, within, is) = absurd (omega (arith, within))
+own_rows region_len image (q ∷ parts) p rows headers are (zero, within, is) = (
+  are.0,
+  subst (λ (z : Part). HasHeader region_len image z.region z.header) is headers.0,
+  subst (λ z. AreRowsOf region_len image (z ∷ []) are.0) is (are.0, [], sym (append-nil are.0), are.3, refl),
+)
+own_rows region_len image (q ∷ parts) p rows headers are (suc k, within, is) = own_rows region_len image parts p are.1 headers.1 are.4 (k, omega (arith, within), is)
+
+own_told : (told : Option Image) (region_len : ℕ) (parts : List Part) (p : Part) (rows : List Row) → TellsRowsOf told region_len parts rows → Contains parts p → (own : List Row) × TellsRowsOf told region_len (p ∷ []) own
+own_told told region_len parts p rows t there =
+    let own = own_rows region_len t.image parts p rows t.headers t.are_rows there in
+    (own.0, record { image = t.image; is_told = t.is_told; headers = (own.1, tt); are_rows = own.2 })
+
+-- ---- what a read was refused for
+
+-- the live parts tell no rows, where a read of two of them was refused that would not have been of told ones
+tells_none : (before new : RoomValue) (fault : FetchFault) (refused : IsReadRefused before new fault) → OfTold refused.view refused.blames.two.0 refused.blames.two.1 (λ a b. ⊥) → TellsNone (shelf new None)
+tells_none before new fault refused none rows tells =
+    let a = own_told new.room.image new.room.region_len new.room.parts refused.blames.two.0 rows tells older in
+    let b = own_told new.room.image new.room.region_len new.room.parts refused.blames.two.1 rows tells newer in
+    none a.0 b.0 (refused.shown refused.blames.two.0 a.0 older a.1) (refused.shown refused.blames.two.1 b.0 newer b.1)
+  where
+    older : Contains new.room.parts refused.blames.two.0
+    older =
+        subst (λ ps. Contains ps refused.blames.two.0) (sym refused.blames.stand.neighbours)
+        (Contains-append_right refused.blames.stand.before (refused.blames.two.0 ∷ refused.blames.two.1 ∷ refused.blames.stand.after) refused.blames.two.0 (0, omega arith, refl))
+
+    newer : Contains new.room.parts refused.blames.two.1
+    newer =
+        subst (λ ps. Contains ps refused.blames.two.1) (sym refused.blames.stand.neighbours)
+        (Contains-append_right refused.blames.stand.before (refused.blames.two.0 ∷ refused.blames.two.1 ∷ refused.blames.stand.after) refused.blames.two.1 (1, omega arith, refl))
+
+unsound : (before new : RoomValue) (fault : FetchFault) (refused : IsReadRefused before new fault) → OfTold refused.view refused.blames.two.0 refused.blames.two.1 (λ a b. ⊥)
+    → (entry : RoomValue) (history : List Commit) → GoesOn entry new history → OfSound entry (λ first e. ⊥)
+unsound before new fault refused none entry history g = unsound_law entry new None history g refused.stays (tells_none before new fault refused none)
+
+bad_row : (before new : RoomValue) (region at : ℕ) → IsReadRefused before new (fetch_fault.BadRow region at) → NamesPlace new (damage.Region region at)
+bad_row before new region at refused = record {
+  region = region;
+  at = at;
+  is = refl;
+  fault = fetch_fault.BadRow region at;
+  of_read = inl refl;
+  before = before;
+  refused = refused;
+  unsound = unsound before new (fetch_fault.BadRow region at) refused refused.blames.blames.1;
+}
+
+bad_index : (before new : RoomValue) (region at : ℕ) → IsReadRefused before new (fetch_fault.BadIndex region at) → NamesPlace new (damage.Region region at)
+bad_index before new region at refused = record {
+  region = region;
+  at = at;
+  is = refl;
+  fault = fetch_fault.BadIndex region at;
+  of_read = inr refl;
+  before = before;
+  refused = refused;
+  unsound = unsound before new (fetch_fault.BadIndex region at) refused refused.blames.blames.1;
+}
+
+-- ---- one merge
+
+pub merges_stay : MergesStay
+merges_stay old new none k = record {
+  entry = k.entry;
+  job = k.job ∙ sym none;
+  sealed = k.sealed;
+  places = k.places;
+  waiting = k.waiting;
+  stands = k.keeps.stands;
+  becomes = k.keeps.becomes;
+}
+
+module _ (old mid new : ShelfValue) (r : Rested old mid) (none : new.view ≡ None) (whole : IsWhole new.room) where
+  stays : KeepsRest mid.room new.room → StaysOn mid.room new.room
+  stays k = merges_stay mid.room new.room r.leaves.no_job k
+
+  merge_leaves : KeepsRest mid.room new.room → Leaves old new
+  merge_leaves k =
+      leaves_on old mid new r.leaves
+      (leaves_staying mid new (stays k) r.leaves.no_job (subst (λ v. IsShelf new.room.room v) (sym none) (subst (λ (board : List Buffer). list_all is_empty board ≡ true) (sym k.board) r.board)) whole)
+
+  merge_unsealed : KeepsRest mid.room new.room → Unsealed old.room.room new.room.room
+  merge_unsealed k = unsealed_on old.room.room mid.room.room new.room.room r.unsealed (record { sealed = k.sealed; waiting = k.waiting })
+
+  -- a read was refused, and no call failed
+  refused_well : (fault : FetchFault) → IsReadRefused mid.room new.room fault → (fault ≡ fetch_fault.Failed → ⊥) → IsWell old new
+  refused_well fault refused not_failed =
+      well_on old mid new r.none_failed (well_counts mid new r.none none (record { faults = refused.else_same not_failed; own_faults = refused.own_faults }) refused.opened refused.stays)
+
+  pub merged_one : (from : ℕ) (merged : Bool) → MergesNear from mid.room new.room (Ok merged) → MergesOne old new (Ok merged)
+  merged_one from true m = record {
+    leaves = merge_leaves m.rest;
+    unsealed = merge_unsealed m.rest;
+    merge = (
+      well_on old mid new r.none_failed (well_counts mid new r.none none m.near.0.counts m.near.0.opened m.near.0.stays),
+      m.near.1.less ∙ ap length r.parts,
+    );
+  }
+  merged_one from false m = record {
+    leaves = merge_leaves m.rest;
+    unsealed = merge_unsealed m.rest;
+    merge = (
+      well_on old mid new r.none_failed (well_counts mid new r.none none m.near.0.counts m.near.0.opened m.near.0.stays),
+      record { none_retired = m.near.2; none_fit = m.near.3 },
+    );
+  }
+
+  pub merge_refused : (from : ℕ) (fault : MergeFault) → MergesNear from mid.room new.room (Err fault) → (new.room ≡ mid.room → new ≡ mid) → MergesOne old new (Err (of_merge fault))
+  merge_refused from (merge_fault.Room room_fault.Disk) m same = record {
+    leaves = merge_leaves m.rest;
+    unsealed = merge_unsealed m.rest;
+    merge = inr (failed_on old mid new r.none_failed (has_failed mid new r.none none m.near.0.fails.faults m.near.0.fails.no_lower.0 m.near.0.fails.no_lower.1));
+  }
+  merge_refused from (merge_fault.Room (room_fault.Shut epoch)) m same = record {
+    leaves = merge_leaves m.rest;
+    unsealed = merge_unsealed m.rest;
+    merge = inl (was_shut old mid new r m.near.0 (same m.near.2));
+  }
+  merge_refused from (merge_fault.Room room_fault.NoMemory) m same = record {
+    leaves = merge_leaves m.rest;
+    unsealed = merge_unsealed m.rest;
+    merge = well_on old mid new r.none_failed (well_counts mid new r.none none m.near.0.counts m.near.0.opened m.near.0.stays);
+  }
+  merge_refused from (merge_fault.Fetch fetch_fault.Failed) m same = record {
+    leaves = merge_leaves m.rest;
+    unsealed = merge_unsealed m.rest;
+    merge = inr (failed_on old mid new r.none_failed (has_failed mid new r.none none (m.near.0.rises refl) m.near.0.no_lower (let e = m.near.0.own_faults in omega (arith, e))));
+  }
+  merge_refused from (merge_fault.Fetch (fetch_fault.BadRow region at)) m same = record {
+    leaves = merge_leaves m.rest;
+    unsealed = merge_unsealed m.rest;
+    merge = (refused_well (fetch_fault.BadRow region at) m.near.0 (λ e. absurd (let x = e in cc)), bad_row mid.room new.room region at m.near.0);
+  }
+  merge_refused from (merge_fault.Fetch (fetch_fault.BadIndex region at)) m same = record {
+    leaves = merge_leaves m.rest;
+    unsealed = merge_unsealed m.rest;
+    merge = (refused_well (fetch_fault.BadIndex region at) m.near.0 (λ e. absurd (let x = e in cc)), bad_index mid.room new.room region at m.near.0);
+  }
+  merge_refused from (merge_fault.Fetch fetch_fault.NoMemory) m same = record {
+    leaves = merge_leaves m.rest;
+    unsealed = merge_unsealed m.rest;
+    merge = refused_well fetch_fault.NoMemory m.near.0 (λ e. absurd (let x = e in cc));
+  }
+
+-- ---- the policy
+
+pub counts_free : (room : RoomState) → (counts_of room).free ≡ length room.free
+unfolding counts_of
+counts_free room = refl
+
+pub named_by : (room : RoomState) (parts : List Part) (region_len : ℕ) (counts : Counts) (pressed : Bool) (answer : Option ℕ) → region_len ≡ room.region_len → counts ≡ counts_of room → pressed ≡ is_pressed room → parts ≡ room.parts
+    → Picks (question (record { region_len = region_len; free = counts.free; is_pressed = pressed; spare = 2 }) []) (neighbours parts) (aims_of (record { region_len = region_len; free = counts.free; is_pressed = pressed; spare = 2 })) answer
+    → IsNamed room answer
+named_by room parts region_len counts pressed answer len count press same h =
+    subst (λ x. Picks (question x []) (neighbours room.parts) (aims_of x) answer) space
+    (subst (λ ps. Picks (question (record { region_len = region_len; free = counts.free; is_pressed = pressed; spare = 2 }) []) (neighbours ps) (aims_of (record { region_len = region_len; free = counts.free; is_pressed = pressed; spare = 2 })) answer) same h)
+  where
+    free : counts.free ≡ length room.free
+    free = ap (λ (c : Counts). c.free) count ∙ counts_free room
+
+    space : ◌≡◌ {A = Space} (record { region_len = region_len; free = counts.free; is_pressed = pressed; spare = 2 }) (space_of room)
+    space = λ i. record { region_len = len i; free = free i; is_pressed = press i; spare = 2 }
+
+-- ---- merging on
+
+pub merging_itself : (s : ShelfValue) → IsShelf s.room.room s.view → IsWhole s.room → s.room.room.job ≡ None → IsMerging s s
+merging_itself s on_shelf whole none = record { leaves = leaves_itself s on_shelf whole none; unsealed = unsealed_itself s.room.room; so_far = inl refl }
+
+module _ (a b c : ShelfValue) (p : IsMerging a b) where
+  well_after : IsWell b c → IsWell a c
+  well_after w = by p.so_far
+    where
+      by : (b ≡ a) ⊎ IsWell a b → IsWell a c
+      by (inl same) = subst (λ s. IsWell s c) same w
+      by (inr before) = well_on a b c before.none_failed w
+
+  fault_after : (fault : RunFault) → FaultOf b c fault → FaultOf a c fault
+  fault_after fault f = by p.so_far
+    where
+      by : (b ≡ a) ⊎ IsWell a b → FaultOf a c fault
+      by (inl same) = subst (λ s. FaultOf s c fault) same f
+      by (inr before) = fault_on a b c fault before f
+
+  pub merging_on : MergesOne b c (Ok true) → IsMerging a c
+  merging_on m = record {
+    leaves = leaves_on a b c p.leaves m.leaves;
+    unsealed = unsealed_on a.room.room b.room.room c.room.room p.unsealed m.unsealed;
+    so_far = inr (well_after m.merge.0);
+  }
+
+pub none_failed_after : (a b : ShelfValue) → IsMerging a b → NoneFailed a b
+none_failed_after a b p = by p.so_far
+  where
+    by : (b ≡ a) ⊎ IsWell a b → NoneFailed a b
+    by (inl same) = subst (λ s. NoneFailed a s) (sym same) (none_failed_itself a)
+    by (inr w) = w.none_failed
+
+-- ---- as the policy names the neighbours
+
+pub tidying_itself : (s : ShelfValue) → IsShelf s.room.room s.view → IsWhole s.room → s.room.room.job ≡ None → IsTidying s s
+tidying_itself s on_shelf whole none = record { merging = merging_itself s on_shelf whole none; called = inl refl }
+
+module _ (a b : ShelfValue) (p : IsTidying a b) where
+  named_before : (from : ℕ) → IsNamed b.room.room (Some from) → (from : ℕ) × IsNamed a.room.room (Some from)
+  named_before from named = by p.called
+    where
+      by : (b ≡ a) ⊎ ((from : ℕ) × IsNamed a.room.room (Some from)) → (from : ℕ) × IsNamed a.room.room (Some from)
+      by (inl same) = (from, subst (λ (s : ShelfValue). IsNamed s.room.room (Some from)) same named)
+      by (inr before) = before
+
+  pub tidying_on : (c : ShelfValue) (from : ℕ) → IsNamed b.room.room (Some from) → MergesOne b c (Ok true) → IsTidying a c
+  tidying_on c from named m = record { merging = merging_on a b c p.merging m; called = inr (named_before from named) }
+
+  -- the policy names no more neighbours
+  pub tidied : IsNamed b.room.room None → Tidies a b (Ok tt)
+  tidied none = record { leaves = p.merging.leaves; unsealed = p.merging.unsealed; called = p.called; tidy = (none_failed_after a b p.merging, inl none) }
+
+  -- it names some, and none fit
+  pub none_fitted : (c : ShelfValue) (from : ℕ) → IsNamed b.room.room (Some from) → MergesOne b c (Ok false) → Tidies a c (Ok tt)
+  none_fitted c from named m = record {
+    leaves = leaves_on a b c p.merging.leaves m.leaves;
+    unsealed = unsealed_on a.room.room b.room.room c.room.room p.merging.unsealed m.unsealed;
+    called = inr (named_before from named);
+    tidy = ((well_after a b c p.merging m.merge.0).none_failed, inr m.merge.1);
+  }
+
+  pub tidy_failed : (c : ShelfValue) (from : ℕ) (fault : RunFault) → IsNamed b.room.room (Some from) → MergesOne b c (Err fault) → Tidies a c (Err fault)
+  tidy_failed c from fault named m = record {
+    leaves = leaves_on a b c p.merging.leaves m.leaves;
+    unsealed = unsealed_on a.room.room b.room.room c.room.room p.merging.unsealed m.unsealed;
+    called = inr (named_before from named);
+    tidy = fault_after a b c p.merging fault m.merge;
+  }
+
+-- ---- until a region is free
+
+module _ (a b : ShelfValue) (p : IsMerging a b) where
+  well_so_far : a.room.room.is_shut ≡ false → IsWell a b
+  well_so_far opened = by p.so_far
+    where
+      by : (b ≡ a) ⊎ IsWell a b → IsWell a b
+      by (inl same) = subst (λ s. IsWell a s) (sym same) (record { none_failed = none_failed_itself a; opened = opened })
+      by (inr w) = w
+
+  pub freed : a.room.room.is_shut ≡ false → 2 ≤ length b.room.room.free → Frees a b (Ok true)
+  freed opened free = record { leaves = p.leaves; unsealed = p.unsealed; free = (well_so_far opened, free) }
+
+  pub none_freed : (c : ShelfValue) (t : Bool) → nat_le 2 (length c.room.room.free) ≡ t → MergesOne b c (Ok false) → Frees a c (Ok t)
+  none_freed c t is m = record {
+    leaves = leaves_on a b c p.leaves m.leaves;
+    unsealed = unsealed_on a.room.room b.room.room c.room.room p.unsealed m.unsealed;
+    free = by t is;
+  }
+    where
+      by : (t : Bool) → nat_le 2 (length c.room.room.free) ≡ t → FreeOr a c (Ok t)
+      by true e = (well_after a b c p m.merge.0, grind (arith, e))
+      by false e = (well_after a b c p m.merge.0, grind (arith, e), m.merge.1)
+
+  pub free_failed : (c : ShelfValue) (fault : RunFault) → MergesOne b c (Err fault) → Frees a c (Err fault)
+  free_failed c fault m = record {
+    leaves = leaves_on a b c p.leaves m.leaves;
+    unsealed = unsealed_on a.room.room b.room.room c.room.room p.unsealed m.unsealed;
+    free = fault_after a b c p fault m.merge;
+  }

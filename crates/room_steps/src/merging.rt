@@ -1,0 +1,133 @@
+//! Merging neighbours between transactions.
+
+ghost use Rattle.std.specs.Prelude.{◌≡◌, ◌<◌, ◌≤◌, None, false};
+ghost use Rattle.room_shelf.specs.Shelves.{IsShelf, shelf};
+ghost use Rattle.room_steps.specs.Merging.{Frees, MergesOne, of_fetch, of_merge};
+ghost use Rattle.room_steps.specs.Steps.{IsNamed, Tidies};
+
+use crate::sealing::{of_room, take_view};
+use epoch_room::Room;
+use fine_model::{Damage, FetchFault, RunFault};
+use log_disk::LogDisk;
+use merge_policy::{Space, next_merge};
+use partition_hold::View;
+use room_merges::{MergeFault, merge_near};
+use std::alloc::Global;
+
+/// How many free regions a new epoch asks for. As many are spared by merging.
+const SPARE: u32 = 2;
+
+/// The fault that a run tells. A bad row or index entry is damage of its region.
+fn of_fetch(fault: FetchFault) -> RunFault
+    ensures { result ≡ of_fetch fault }
+{
+    match fault {
+        FetchFault::Failed => RunFault::Disk,
+        FetchFault::BadRow { region, at } => RunFault::Damaged {
+            what: Damage::Region { region, at },
+        },
+        FetchFault::BadIndex { region, at } => RunFault::Damaged {
+            what: Damage::Region { region, at },
+        },
+        FetchFault::NoMemory => RunFault::Memory,
+    }
+}
+
+fn of_merge(fault: MergeFault) -> RunFault
+    ensures { result ≡ of_merge fault }
+{
+    match fault {
+        MergeFault::Room(fault) => of_room(fault),
+        MergeFault::Fetch(fault) => of_fetch(fault),
+    }
+}
+
+/// Where the older one begins of the two neighbours that the policy merges next, if it merges any. Nothing is measured before.
+fn named<D: LogDisk>(room: &Room<D>) -> Option<u64>
+    ensures { IsNamed room.now.room result }
+{
+    let counts = room.counts();
+    let space = Space {
+        region_len: room.region_len(),
+        free: counts.free,
+        is_pressed: room.pressed(),
+        spare: SPARE,
+    };
+    next_merge(room.parts().as_slice(), space, &[])
+}
+
+/// Takes the view back, if one is out, and merges the first neighbours that fit, of those from an epoch on and then of those before.
+fn merge_one<D: LogDisk>(
+    alloc: Global,
+    room: &mut Room<D>,
+    out: &mut Option<View<D::Eye>>,
+    from: u64,
+) -> Result<bool, RunFault>
+    requires shelf { IsShelf room.old.room out.old }
+    requires no_job { room.old.room.job ≡ None }
+    ensures { MergesOne (shelf room.old out.old) (shelf room.new out.new) result }
+{
+    let _counts = room.counts();
+    take_view(room, out);
+    let _rested = room.counts();
+    let merged = merge_near(alloc, room, from);
+    let _merged = room.counts();
+    match merged {
+        Ok(merged) => Ok(merged),
+        Err(fault) => Err(of_merge(fault)),
+    }
+}
+
+/// Merges neighbours as long as the policy names some and some fit, as is done behind a seal. Where it names none the call changes nothing, and the view
+/// stays out. Nothing is sealed or added, and all that waits still waits.
+///
+/// `Disk` comes only where the disk or a read failed in this call, or where the room was shut before. After `Memory` and `Damaged` the room is open, and no
+/// call failed. `Damaged` names a row or an index entry of a live part that is bad by what was read. With each fault, neighbours that were merged before stay so.
+pub fn tidy<D: LogDisk>(
+    alloc: Global,
+    room: &mut Room<D>,
+    out: &mut Option<View<D::Eye>>,
+) -> Result<(), RunFault>
+    requires shelf { IsShelf room.old.room out.old }
+    requires no_job { room.old.room.job ≡ None }
+    ensures { Tidies (shelf room.old out.old) (shelf room.new out.new) result }
+{
+    let _counts = room.counts();
+    while let Some(from) = named(room) {
+        match merge_one(alloc, room, out, from) {
+            Ok(merged) => {
+                if !merged {
+                    return Ok(());
+                }
+            }
+            Err(fault) => return Err(fault),
+        }
+    }
+    Ok(())
+}
+
+/// Merges neighbours until a region is free for a new epoch: true, or false where none fit any more.
+pub(crate) fn free_region<D: LogDisk>(
+    alloc: Global,
+    room: &mut Room<D>,
+    out: &mut Option<View<D::Eye>>,
+) -> Result<bool, RunFault>
+    requires shelf { IsShelf room.old.room out.old }
+    requires no_job { room.old.room.job ≡ None }
+    requires opened { room.old.room.is_shut ≡ false }
+    ensures { Frees (shelf room.old out.old) (shelf room.new out.new) result }
+{
+    let _counts = room.counts();
+    while room.counts().free < SPARE {
+        let from = named(room).unwrap_or(1);
+        match merge_one(alloc, room, out, from) {
+            Ok(merged) => {
+                if !merged {
+                    return Ok(SPARE <= room.counts().free);
+                }
+            }
+            Err(fault) => return Err(fault),
+        }
+    }
+    Ok(true)
+}

@@ -1,0 +1,129 @@
+-- What each call leaves at its exits, from what the calls in it said. A runner is opened before its parts are used: `inside` is what it holds.
+use Rattle.std.proofs.Common.{◌≡◌, ℕ, zero, suc, ◌+◌, ◌≤◌, List, [], length, refl, sym, ap, ◌∙◌, subst, Option, Some, None, Ok, Err, arith}
+use Rattle.std.specs.Prelude.{Result}
+use Rattle.fine_model.specs.declared.Entry.{Entry}
+use Rattle.fine_model.specs.declared.Options.{Options}
+use Rattle.fine_model.specs.declared.Outcome.{Outcome}
+use Rattle.fine_model.specs.declared.Outcome.TheVariants as outcome
+use Rattle.fine_model.specs.declared.Row.{Row}
+use Rattle.fine_model.specs.declared.RunFault.{RunFault}
+use Rattle.fine_model.specs.declared.RunFault.TheVariants as run_fault
+use Rattle.fine_model.specs.declared.ScriptTxn.{ScriptTxn}
+use Rattle.fine_model.specs.declared.law.RoomState.{RoomState}
+use Rattle.fine_model.specs.Becomes.{Becomes}
+use Rattle.txn_draft.specs.Drafts.{DraftValue, entry_of}
+use Rattle.partition_hold.specs.Views.{ViewValue}
+use Rattle.epoch_room.specs.Fitting.{counts_of}
+use Rattle.epoch_room.specs.Meaning.{StandsForMore}
+use Rattle.epoch_room.specs.Steps.{appended}
+use Rattle.epoch_room.specs.Value.{RoomValue}
+use Rattle.epoch_room.specs.Whole.{IsWhole}
+use Rattle.epoch_room.specs.declared.answers.Counts.{Counts}
+use Rattle.epoch_room.specs.declared.answers.Stamp.{Stamp}
+use Rattle.room_shelf.specs.Shelves.{Rests, shelf}
+use Rattle.open_txn.specs.Buckets.{BucketsValue}
+use Rattle.open_txn.specs.Opened.{SettlesAll, UndoesAll}
+use Rattle.room_steps.specs.Steps.{SealsWaiting, Tidies}
+use Rattle.run_laws.specs.Lanes.{first_fault, with_last}
+use Rattle.run_laws.specs.Runs.{IsReady, RunsBy, any_damage}
+use Rattle.run_laws.specs.Turns.{commits_of}
+use Rattle.txn_runner.specs.Body.{RunnerValue, RunsSoFar, body}
+use Rattle.txn_runner.specs.Steps.{Appends, Closes, IsClosed, SealsAll, TakesBack}
+use Rattle.txn_runner.proofs.Looping as looping
+use Rattle.txn_runner.proofs.Seals as seals
+
+-- ---- the numbers of a room
+
+pub sealed_of : (k : Counts) (r : RoomState) → k ≡ counts_of r → k.sealed ≡ r.sealed
+unfolding counts_of
+sealed_of k r is = ap (λ (x : Counts). x.sealed) is
+
+pub waiting_of : (k : Counts) (r : RoomState) → k ≡ counts_of r → k.waiting ≡ r.waiting
+unfolding counts_of
+waiting_of k r is = ap (λ (x : Counts). x.waiting) is
+
+pub some_wait : (k : Counts) (r : RoomState) → k ≡ counts_of r → (k.waiting ≡ 0 → ⊥) → 1 ≤ r.waiting
+some_wait k r is some = by k.waiting refl
+  where
+    by : (n : ℕ) → k.waiting ≡ n → 1 ≤ r.waiting
+    by zero e = absurd (some e)
+    by (suc n) e = let w = waiting_of k r is in omega (arith, e, w)
+
+module _ (inside old : RunnerValue) (is : inside ≡ old) where
+  -- a runner with another room and another view
+  abbrev moved : RoomValue → Option ViewValue → RunnerValue
+  moved room view = record { room = room; view = view; full = inside.full; ended = inside.ended }
+
+  pub take_back : (before after : BucketsValue) (k : Counts) → k ≡ counts_of inside.room.room → IsWhole inside.room → UndoesAll k.sealed before after → TakesBack (body old before) (body old after)
+  take_back before after k counts whole undoes = subst (λ v. TakesBack (body v before) (body v after)) is
+      (record { buckets = subst (λ n. UndoesAll n before after) (sealed_of k inside.room.room counts) undoes; rest = refl; whole = whole })
+
+  pub append : (d : DraftValue) (rows : List Row) → rows ≡ d.rows → (before after : BucketsValue) (k : Counts) → k ≡ counts_of inside.room.room → (stamp : Stamp) → stamp ≡ record { place = inside.room.room.places + 1; epoch = inside.room.room.sealed + 1 }
+      → (room : RoomValue) → room ≡ appended inside.room rows → StandsForMore inside.room room rows → Becomes inside.room.room room.room → IsWhole room → (entry : Entry) → entry ≡ entry_of d → SettlesAll stamp.epoch k.sealed before after
+      → Appends d (body old before) (body (moved room inside.view) after) (outcome.Committed stamp.place stamp.epoch entry)
+  append d rows same before after k counts stamp stamped room appends stands becomes whole entry is_entry settles =
+      subst (λ v. Appends d (body v before) (body (moved room inside.view) after) (outcome.Committed stamp.place stamp.epoch entry)) is (record {
+        is = ap (λ (s : Stamp). outcome.Committed s.place s.epoch entry) stamped ∙ ap (λ e. outcome.Committed (inside.room.room.places + 1) (inside.room.room.sealed + 1) e) is_entry;
+        room = appends ∙ ap (appended inside.room) same;
+        stands = subst (StandsForMore inside.room room) same stands;
+        becomes = becomes;
+        whole = whole;
+        buckets = subst (λ n. SettlesAll n inside.room.room.sealed before after) (ap (λ (s : Stamp). s.epoch) stamped) (subst (λ n. SettlesAll stamp.epoch n before after) (sealed_of k inside.room.room counts) settles);
+        rest = refl;
+      })
+
+  -- ---- seals
+
+  pub seals_then : (buckets : BucketsValue) (first : Result ℕ RunFault) (epoch : ℕ) → first ≡ Ok epoch → (mid : RoomValue) (mid_view : Option ViewValue) → SealsWaiting (shelf inside.room inside.view) (shelf mid mid_view) first
+      → (result : Result (Unit {0}) RunFault) (room : RoomValue) (view : Option ViewValue) → Tidies (shelf mid mid_view) (shelf room view) result → SealsAll (body old buckets) (body (moved room view) buckets) result
+  seals_then buckets first epoch ok mid mid_view s result room view d = subst (λ v. SealsAll (body v buckets) (body (moved room view) buckets) result) is
+      (seals.is_sealed (body inside buckets) mid mid_view room view epoch result (subst (SealsWaiting (shelf inside.room inside.view) (shelf mid mid_view)) ok s) d)
+
+  pub seals_not : (buckets : BucketsValue) (first : Result ℕ RunFault) (fault : RunFault) → first ≡ Err fault → (room : RoomValue) (view : Option ViewValue) → SealsWaiting (shelf inside.room inside.view) (shelf room view) first
+      → SealsAll (body old buckets) (body (moved room view) buckets) (Err fault)
+  seals_not buckets first fault err room view s = subst (λ v. SealsAll (body v buckets) (body (moved room view) buckets) (Err fault)) is
+      (seals.not_sealed (body inside buckets) room view fault (subst (SealsWaiting (shelf inside.room inside.view) (shelf room view)) err s))
+
+  -- ---- the end
+
+  pub rests : (buckets : BucketsValue) (k : Counts) → k ≡ counts_of inside.room.room → k.waiting ≡ 0 → (out : Option ViewValue) → out ≡ inside.view → (room : RoomValue) (view : Option ViewValue) → view ≡ None → IsWhole room → Rests inside.room out room
+      → Closes (body old buckets) (body (moved room view) buckets) None
+  rests buckets k counts none out taken room view empty whole r = subst (λ v. Closes (body v buckets) (body (moved room view) buckets) None) is
+      (subst (λ x. Closes (body inside buckets) (body (moved room x) buckets) None) (sym empty)
+      (seals.rests (body inside buckets) room (sym (waiting_of k inside.room.room counts) ∙ none) whole (subst (λ x. Rests inside.room x room) taken r)))
+
+  pub closes : (buckets : BucketsValue) (first : Result ℕ RunFault) (epoch : ℕ) → first ≡ Ok epoch → (last : Option RunFault) → last ≡ None → (room : RoomValue) (view : Option ViewValue) → SealsWaiting (shelf inside.room inside.view) (shelf room view) first
+      → Closes (body old buckets) (body (moved room view) buckets) last
+  closes buckets first epoch ok last none room view s = subst (λ v. Closes (body v buckets) (body (moved room view) buckets) last) is
+      (subst (Closes (body inside buckets) (body (moved room view) buckets)) (sym none) (seals.closes (body inside buckets) room epoch view (subst (SealsWaiting (shelf inside.room inside.view) (shelf room view)) ok s)))
+
+  pub closes_not : (buckets : BucketsValue) (first : Result ℕ RunFault) (fault : RunFault) → first ≡ Err fault → (last : Option RunFault) → last ≡ Some fault → (room : RoomValue) (view : Option ViewValue) → SealsWaiting (shelf inside.room inside.view) (shelf room view) first
+      → Closes (body old buckets) (body (moved room view) buckets) last
+  closes_not buckets first fault err last some room view s = subst (λ v. Closes (body v buckets) (body (moved room view) buckets) last) is
+      (subst (Closes (body inside buckets) (body (moved room view) buckets)) (sym some) (seals.not_closed (body inside buckets) room fault view (subst (SealsWaiting (shelf inside.room inside.view) (shelf room view)) err s)))
+
+-- what a run gives behind the last transaction
+pub finish : (old new inside : RunnerValue) → inside ≡ new → (last : Option RunFault) → ((buckets : BucketsValue) → Closes (body old buckets) (body new buckets) last) → (outcomes : List Outcome) (k : Counts) → k ≡ counts_of inside.room.room
+    → (fault : Option RunFault) → fault ≡ first_fault (with_last inside.ended last) → (script : List ScriptTxn) (options : Options) (entry : RoomValue) (buckets : BucketsValue) → IsReady entry
+    → RunsSoFar script options (length script) entry (body old buckets) outcomes → RunsBy any_damage script options entry inside.room (record { outcomes = outcomes; durable = k.sealed; fault = fault })
+finish old new inside is last closes outcomes k counts fault told script options entry buckets ready s =
+    looping.finishes script options entry (body old buckets) outcomes s ready (body inside buckets) last (subst (λ v. IsClosed entry (body old buckets) (body v buckets) (commits_of s.done) last) (sym is) closed)
+    (record { outcomes = outcomes; durable = k.sealed; fault = fault })
+    (ap (λ n. record { outcomes = outcomes; durable = n; fault = fault }) (sealed_of k inside.room.room counts)
+    ∙ ap (λ f. record { outcomes = outcomes; durable = inside.room.room.sealed; fault = f }) (told ∙ ap (λ ended. first_fault (with_last ended last)) (ap (λ (v : RunnerValue). v.ended) is ∙ closed.ended)))
+  where
+    closed : IsClosed entry (body old buckets) (body new buckets) (commits_of s.done) last
+    closed = closes buckets entry (commits_of s.done) ready (record { room = s.goes_on; stuck = s.stuck; view = s.view }) s.told
+
+-- the room keeps the disk as it was made
+pub finish_entry : (old new inside : RunnerValue) → inside ≡ new → (last : Option RunFault) → ((buckets : BucketsValue) → Closes (body old buckets) (body new buckets) last) → (outcomes : List Outcome)
+    → (script : List ScriptTxn) (options : Options) (entry : RoomValue) (buckets : BucketsValue) → IsReady entry → RunsSoFar script options (length script) entry (body old buckets) outcomes → inside.room.entry ≡ entry.entry
+finish_entry old new inside is last closes outcomes script options entry buckets ready s =
+    let closed : IsClosed entry (body old buckets) (body new buckets) (commits_of s.done) last = closes buckets entry (commits_of s.done) ready (record { room = s.goes_on; stuck = s.stuck; view = s.view }) s.told in
+    ap (λ (v : RunnerValue). v.room.entry) is ∙ closed.goes_on.same_entry
+
+-- and where there was no memory to begin
+pub not_begun : (room : RoomValue) → IsReady room → (outcomes : List Outcome) → outcomes ≡ [] → (k : Counts) → k ≡ counts_of room.room → (script : List ScriptTxn) (options : Options)
+    → RunsBy any_damage script options room room (record { outcomes = outcomes; durable = k.sealed; fault = Some run_fault.Memory })
+not_begun room ready outcomes none k counts script options = looping.not_begun script options room (record { outcomes = outcomes; durable = k.sealed; fault = Some run_fault.Memory }) ready
+    (ap (λ os. record { outcomes = os; durable = k.sealed; fault = Some run_fault.Memory }) none ∙ ap (λ n. record { outcomes = []; durable = n; fault = Some run_fault.Memory }) (sealed_of k room.room counts))

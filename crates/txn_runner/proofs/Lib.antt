@@ -1,0 +1,11 @@
+pub mod Answering
+pub mod Calls
+pub mod Commits
+pub mod Exits
+pub mod Looping
+pub mod Making
+pub mod Running
+pub mod Seals
+pub mod Steady
+pub mod Trying
+pub mod Txns

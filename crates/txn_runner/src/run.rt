@@ -1,0 +1,133 @@
+//! The run of a script: its transactions, one after another.
+
+ghost use Rattle.std.specs.Prelude.{◌≡◌, ◌≤◌, List, length, None, replicate, IfOk};
+ghost use Rattle.fine_model.specs.declared.Options.{Options as Limits};
+ghost use Rattle.fine_model.specs.declared.Outcome.TheVariants as outcome;
+ghost use Rattle.fine_model.specs.declared.ScriptTxn.{ScriptTxn};
+ghost use Rattle.fine_model.specs.Bounds.{FitsScript};
+ghost use Rattle.epoch_room.specs.Value.{RoomValue};
+ghost use Rattle.open_txn.specs.Buckets.{BucketsValue};
+ghost use Rattle.room_shelf.specs.Shelves.{IsShelf};
+ghost use Rattle.run_laws.specs.Runs.{IsReady, RunsBy, any_damage};
+ghost use Rattle.txn_runner.specs.Body.{RunsSoFar, body};
+
+use crate::runner::Runner;
+use epoch_room::Room;
+use fine_model::{Gate, Items, NoMemory, Options, Outcome, Outcomes, Ran, RunFault, Script};
+use log_disk::LogDisk;
+use open_txn::Buckets;
+use run_laws::EndedLanes;
+use std::alloc::Global;
+
+/// The outcomes of transactions of which none was run yet.
+fn none_run(alloc: Global, count: usize) -> Result<Outcomes, NoMemory>
+    ensures { IfOk result (λ outcomes. outcomes ≡ replicate count outcome.NotRun) }
+{
+    let mut outcomes = Items::new(alloc);
+    for _ in 0..count {
+        outcomes.push(Outcome::NotRun)?;
+    }
+    Ok(outcomes)
+}
+
+/// What a run gives for which there was no memory to begin.
+fn not_begun<D: LogDisk>(alloc: Global, room: Room<D>) -> (Ran, Room<D>)
+    requires ready { IsReady room }
+    ensures run { (script : List ScriptTxn) (options : Limits) → RunsBy any_damage script options room result.1 result.0 }
+    ensures entry { result.1.entry ≡ room.entry }
+{
+    let durable = room.counts().sealed;
+    let ran = Ran {
+        outcomes: Items::new(alloc),
+        durable,
+        fault: Some(RunFault::Memory),
+    };
+    (ran, room)
+}
+
+/// Runs the transactions in the order of the script, each lane up to its first fault.
+fn run_txns<D: LogDisk, G: Gate>(
+    alloc: Global,
+    runner: &mut Runner<D>,
+    buckets: &mut Buckets,
+    script: &Script,
+    gate: &G,
+    options: &Options,
+    outcomes: &mut Outcomes,
+)
+    requires ready { IsReady runner.old.room }
+    requires script { FitsScript script.now }
+    requires group { 1 ≤ options.now.group }
+    requires begins { RunsSoFar script.now options.now 0 runner.old.room (body runner.old buckets.old) outcomes.old }
+    ensures { RunsSoFar script.now options.now (length script.now) runner.old.room (body runner.new buckets.new) outcomes.new }
+{
+    for i in 0..script.len() {
+        let outcome = runner.run_txn(alloc, buckets, gate, options, i as u32 + 1, script.at(i));
+        outcomes.replace(i, outcome);
+    }
+}
+
+/// What a run gives behind its last transaction: the view is taken back, and what waits is sealed.
+fn finish<D: LogDisk, G: Gate>(
+    mut runner: Runner<D>,
+    gate: &G,
+    outcomes: Outcomes,
+) -> (Ran, Room<D>)
+    requires shelf { IsShelf runner.room.room runner.view }
+    requires no_job { runner.room.room.job ≡ None }
+    ensures run { (script : List ScriptTxn) (options : Limits) (entry : RoomValue) (buckets : BucketsValue) → IsReady entry → RunsSoFar script options (length script) entry (body runner buckets) outcomes → RunsBy any_damage script options entry result.1 result.0 }
+    ensures entry { (script : List ScriptTxn) (options : Limits) (entry : RoomValue) (buckets : BucketsValue) → IsReady entry → RunsSoFar script options (length script) entry (body runner buckets) outcomes → result.1.entry ≡ entry.entry }
+{
+    let last = runner.close(gate);
+    let ran = Ran {
+        outcomes,
+        durable: runner.room.counts().sealed,
+        fault: runner.ended.fault_with(last),
+    };
+    (ran, runner.room)
+}
+
+/// Runs a script on a room, on one thread: the transactions in the order of the script, each lane up to its first fault.
+///
+/// A transaction that the script commits is committed at the next place, in the open epoch, or refused. An epoch is sealed once as many entries wait as a group has, where
+/// the rows of a transaction do not fit it any more, and at the end. A fault ends its lane: of want of memory, a failed disk and damage the soonest is told. The gate is called by the one seat as
+/// each transaction of a lane that goes on begins and ends, and behind each seal; no point of a merge is called. `tries` is not used on one thread.
+///
+/// On return the room is whole, no view of it is out, and its disk went on from the one that it was made on. On a sound log that the disk told it stands for all that was committed, and each refusal has
+/// its cause. Nothing is said of what is named as damaged, but that no sound log was told at entry then.
+pub fn run_lanes<D: LogDisk, G: Gate>(
+    alloc: Global,
+    room: Room<D>,
+    script: &Script,
+    gate: &G,
+    options: &Options,
+) -> (Ran, Room<D>)
+    requires ready { IsReady room }
+    requires script { FitsScript script.now }
+    requires group { 1 ≤ options.now.group }
+    ensures run { RunsBy any_damage script.now options.now room result.1 result.0 }
+    ensures entry { result.1.entry ≡ room.entry }
+{
+    let Ok(mut outcomes) = none_run(alloc, script.len()) else {
+        return not_begun(alloc, room);
+    };
+    let Ok(mut buckets) = Buckets::new(alloc) else {
+        return not_begun(alloc, room);
+    };
+    let mut runner = Runner {
+        room,
+        view: None,
+        full: false,
+        ended: EndedLanes::none(),
+    };
+    run_txns(
+        alloc,
+        &mut runner,
+        &mut buckets,
+        script,
+        gate,
+        options,
+        &mut outcomes,
+    );
+    finish(runner, gate, outcomes)
+}

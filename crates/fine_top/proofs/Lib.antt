@@ -1,11 +1,4 @@
-pub mod Outcomes
-pub mod Following
-pub mod Theorem
-pub mod Refused
-pub mod Caused
-pub mod Txns
-pub mod Runs
-pub mod Found
-pub mod RunOf
-pub mod Taken
+pub mod Chainless
 pub mod Commanded
+pub mod Running
+pub mod Theorem

@@ -1,9 +1,8 @@
 -- The theorem of a run, from how the call ended.
-use Rattle.std.proofs.Common.{◌≡◌, ◌⊎◌, inl, inr, ℕ, ◌-◌, ◌<◌, ◌≤◌, ◌==◌, leb, List, [], ◌∷◌, ◌++◌, length, take, drop, refl, sym, ap, ◌∙◌, subst, Option, Some, None, Ok, arith, take-append-drop, Bool, true, false, cond, append-nil}
-use Rattle.std.specs.Prelude.{IfSome}
+use Rattle.std.proofs.Common.{◌≡◌, ◌⊎◌, inl, inr, ℕ, zero, suc, ◌-◌, ◌<◌, ◌≤◌, leb, List, [], ◌∷◌, ◌++◌, length, replicate, take, drop, refl, sym, ap, ◌∙◌, subst, Option, Some, None, Ok, arith, take-append-drop, Bool, true, false, cond, ◌||◌, append-nil}
+use Rattle.std.specs.Prelude.{IfSome, slice_get}
 use Rattle.std.specs.List.{list_any}
 use Rattle.std.proofs.lemmas.Bool.Decides.{leb_tells}
-use Rattle.std.proofs.lemmas.List.Sums.{count_by-le-length}
 use Rattle.log_disk.specs.Disk.{Disk, Told, last_count, HasRisen, IsToldOf, IsSound as IsSoundDisk, IsImageNow, IsImageSince, clock_of}
 use Rattle.log_disk.proofs.Steps.{all_synced}
 use Rattle.log_disk.proofs.Moments.{only_now}
@@ -11,6 +10,8 @@ use Rattle.log_disk.proofs.Times.{continues_told}
 use Rattle.log_disk.specs.Disk.{BothTold}
 use Rattle.log_disk.specs.Moments.{Continues, ContinuesOn}
 use Rattle.fine_model.specs.declared.Options.{Options}
+use Rattle.fine_model.specs.declared.Outcome.{Outcome}
+use Rattle.fine_model.specs.declared.Outcome.TheVariants as outcome
 use Rattle.fine_model.specs.declared.Row.{Row}
 use Rattle.fine_model.specs.declared.ScriptTxn.{ScriptTxn}
 use Rattle.fine_model.specs.declared.RunFault.{RunFault}
@@ -19,26 +20,24 @@ use Rattle.fine_model.specs.declared.Damage.{Damage}
 use Rattle.fine_model.specs.declared.Reason.{Reason}
 use Rattle.fine_model.specs.declared.Reason.TheVariants as reason
 use Rattle.fine_model.specs.declared.Ran.{Ran}
-use Rattle.fine_model.specs.Outcomes.{is_refused}
+use Rattle.fine_model.specs.Outcomes.{AreOutcomes, is_refused}
 use Rattle.fine_model.specs.Nodes.{Agrees}
-use Rattle.fine_model.specs.History.{Commit, all_rows, upto, last_epoch}
+use Rattle.fine_model.specs.History.{Commit, all_rows, upto}
 use Rattle.fine_model.specs.Trees.{IsSound}
 use Rattle.fine_model.specs.Regions.{Image}
 use Rattle.fine_model.specs.Chain.{Shows}
-use Rattle.fine_model.specs.Outcomes.{AreOutcomes}
-use Rattle.fine_model.specs.Headline.{Start, Return, DiskRose, TellsFaults, FailsSound, OneOf, RunDone, RunTheorem, IsRunWith, IsComplete, ShowsSome, KeepsEvery, KeepsUpTo, HasStatus, RunCutShort, MayEnd, NothingRun, IsFrontOf, ReasonFor}
+use Rattle.fine_model.specs.Headline.{Start, Return, DiskRose, TellsFaults, FailsSound, OneOf, RunDone, RunTheorem, IsDoneRun, IsRunWith, IsComplete, ShowsSome, KeepsEvery, KeepsUpTo, HasStatus, RunCutShort, MayEnd, NothingRun, IsFrontOf, ReasonFor, causes_of}
 use Rattle.fine_model.specs.Words.{Command}
 use Rattle.fine_model.specs.Commands.{WordsTheorem}
-use Rattle.leaf_store.specs.Leaves.{IsPlain, LeavesWhole}
-use Rattle.fine_top.specs.Words.{SpellsRun}
-use Rattle.fine_model.specs.Reach.{reached_script_of}
+use Rattle.fine_model.specs.Script.{script_of}
 use Rattle.fine_model.specs.Report.{all_outcomes, reason_bytes, words_line, fault_line, report}
 use Rattle.script_text.specs.Streams.{Puts, behind}
-use Rattle.fine_top.specs.Ends.{Ended, early, ran, text_of, status_of, run_status, IsRunOn, IsRunOf, IsRunOfTold, IsReason, EndsEarly, MayRun, IsEnd, Ends, RunsWell, RefusesWords, causes_on, return_of, start_on, OfTold, IsRefused}
+use Rattle.run_laws.specs.Law.{return_of, start_of}
+use Rattle.run_laws.proofs.Nothing.{are_none, none_told, not_refused}
+use Rattle.fine_top.specs.Words.{SpellsRun}
+use Rattle.fine_top.specs.Ends.{Ended, early, ran, text_of, status_of, run_status, IsRunOn, IsRunOf, IsReason, EndsEarly, MayRun, IsEnd, Ends, RunsWell, RefusesWords, start_on, OfTold, IsRefused}
+use Rattle.fine_top.specs.Opened.{IsUnsoundLog}
 use Rattle.fine_model.proofs.NodeLaws.{Agrees-refl}
-use Rattle.fine_model.specs.Outcomes.{AllRun}
-use Rattle.fine_top.proofs.Outcomes.{are_outcomes}
-use Rattle.fine_top.proofs.Caused.{no_causes}
 
 -- ---- what was written
 
@@ -50,6 +49,23 @@ wrote_front : (text : List ℕ) (failed : Type 0) (was now : Option (List ℕ)) 
     → (written : List ℕ) × (now ≡ Some (first ++ written)) × IsFrontOf written text
 wrote_front text failed was now first p is =
     let q = p.part in (take q.0 text, q.1 ∙ ap (λ o. behind o (take q.0 text)) is, (drop q.0 text, sym (take-append-drop q.0 text)))
+
+-- ---- outcomes that are not told
+
+none_refused : (n : ℕ) → list_any is_refused (replicate n outcome.NotRun) ≡ false
+none_refused zero = refl
+none_refused (suc n) = none_refused n
+
+refused_behind : (outcomes : List Outcome) (n : ℕ) → list_any is_refused (outcomes ++ replicate n outcome.NotRun) ≡ list_any is_refused outcomes
+refused_behind [] n = none_refused n
+refused_behind (o ∷ outcomes) n = ap (λ b. is_refused o || b) (refused_behind outcomes n)
+
+-- the status is that of all outcomes too
+status_all : (script : List ScriptTxn) (outcomes : List Outcome) (fault : Option RunFault) (status : ℕ) → HasStatus status outcomes fault → HasStatus status (all_outcomes script outcomes) fault
+status_all script outcomes None status is = subst (λ b. status ≡ cond {A = ℕ} b 8 0) (sym (refused_behind outcomes (length script - length outcomes))) is
+status_all script outcomes (Some run_fault.Memory) status is = is
+status_all script outcomes (Some run_fault.Disk) status is = is
+status_all script outcomes (Some (run_fault.Damaged what)) status is = is
 
 -- ---- a disk that was left as it was
 
@@ -89,15 +105,21 @@ risen_by before now risen = by (leb_tells last_count now)
     by (inl at) = inr at.1
     by (inr below) = inl (let low = below.1 in omega (arith, risen, low))
 
-module _ (words source_rose opened : Type 0) (damaged : Damage → Type 0) (left : Option (List ℕ)) (old new : Disk) (status : ℕ) (was now : Option (List ℕ)) where
-  module _ (output_rose : Type 0) (counts : CountsByStatus source_rose output_rose old new status) (are_words : words) (group : ℕ) (enough : 64 ≤ group) (bytes first : List ℕ) (before after : Told) (e : ℕ) (rows : List Row) (left_is : left ≡ Some bytes) (was_is : was ≡ Some first) (old_is : old.told ≡ Some before)
+module _ (words opened : Type 0) (source output : ℕ × ℕ) (damaged : Damage → Type 0) (left : Option (List ℕ)) (old new : Disk) (status : ℕ) (was now : Option (List ℕ)) where
+  abbrev source_rose : Type 0
+  source_rose = HasRisen source.0 source.1
+
+  abbrev output_rose : Type 0
+  output_rose = HasRisen output.0 output.1
+
+  module _ (counts : CountsByStatus source_rose output_rose old new status) (are_words : words) (group : ℕ) (enough : group ≡ 64) (bytes first : List ℕ) (before after : Told) (e : ℕ) (rows : List Row) (left_is : left ≡ Some bytes) (was_is : was ≡ Some first) (old_is : old.told ≡ Some before)
       (new_is : new.told ≡ Some after) (shows : Shows old.region_len before.bytes e rows) (sound : IsSound rows) (whole : (what : Damage) → damaged what → ⊥) (is_told : IsToldOf old before)
       (synced : old.unsynced ≡ []) where
     abbrev start : Start
     start = start_on old bytes e rows
 
     abbrev back : Return
-    back = return_of old new source_rose output_rose before after
+    back = return_of old new source output before after
 
     faults : TellsFaults back status
     faults = record {
@@ -111,7 +133,7 @@ module _ (words source_rose opened : Type 0) (damaged : Damage → Type 0) (left
     since = IsImageSince (clock_of before) after
 
     abbrev Theorem : List ℕ → Type 0
-    Theorem written = RunTheorem (causes_on start after) start group since (IsImageNow after) back (new ≡ old) status written
+    Theorem written = RunTheorem (causes_of start back) start group since (IsImageNow after) back (new ≡ old) status written
 
     abbrev Result_ : Type 0
     Result_ = (written : List ℕ) × (now ≡ Some (first ++ written)) × Theorem written
@@ -152,7 +174,7 @@ module _ (words source_rose opened : Type 0) (damaged : Damage → Type 0) (left
         by (inr (inr (inr (inr (inr (inr none)))))) = absurd none
 
     -- each status has one part of the theorem
-    cut : (written : List ℕ) → (status ≡ 1) ⊎ (status ≡ 5) → NothingRun start since back status written ⊎ RunCutShort (causes_on start after) start group since (IsImageNow after) back status written → Theorem written
+    cut : (written : List ℕ) → (status ≡ 1) ⊎ (status ≡ 5) → NothingRun start since back status written ⊎ RunCutShort (causes_of start back) start group since (IsImageNow after) back status written → Theorem written
     cut written one front = record {
       done = λ d. absurd (grind (arith, one, d));
       cut_short = λ c. front;
@@ -166,7 +188,7 @@ module _ (words source_rose opened : Type 0) (damaged : Damage → Type 0) (left
         by (inl is) = inr (inl is)
         by (inr is) = inr (inr (inr (inl is)))
 
-    refuses : (written : List ℕ) → (one : (status ≡ 3) ⊎ (status ≡ 4)) → ReasonFor status (reached_script_of bytes) written → new ≡ old → Theorem written
+    refuses : (written : List ℕ) → (one : (status ≡ 3) ⊎ (status ≡ 4)) → ReasonFor status (script_of bytes) written → new ≡ old → Theorem written
     refuses written one because same = record {
       done = λ d. absurd (grind (arith, one, d));
       cut_short = λ d. absurd (grind (arith, one, d));
@@ -176,13 +198,13 @@ module _ (words source_rose opened : Type 0) (damaged : Damage → Type 0) (left
       complete = complete (λ script read. by script read because);
     }
       where
-        by : (script : List ScriptTxn) → reached_script_of bytes ≡ Ok script → ReasonFor status (reached_script_of bytes) written → OneOf (0 ∷ 1 ∷ 4 ∷ 5 ∷ 6 ∷ 8 ∷ []) status
+        by : (script : List ScriptTxn) → script_of bytes ≡ Ok script → ReasonFor status (script_of bytes) written → OneOf (0 ∷ 1 ∷ 4 ∷ 5 ∷ 6 ∷ 8 ∷ []) status
         by script read (inl (is, n, inl many, text)) = absurd cc
         by script read (inl (is, n, inr (inl long), text)) = absurd cc
         by script read (inl (is, n, inr (inr bad), text)) = absurd cc
         by script read (inr (is, text)) = inr (inr (inl is))
 
-    does : (written : List ℕ) → (status ≡ 0) ⊎ (status ≡ 6) ⊎ (status ≡ 8) → RunDone (causes_on start after) start group since (IsImageNow after) back status written → Theorem written
+    does : (written : List ℕ) → (status ≡ 0) ⊎ (status ≡ 6) ⊎ (status ≡ 8) → RunDone (causes_of start back) start group since (IsImageNow after) back status written → Theorem written
     does written one d = record {
       done = λ x. d;
       cut_short = λ x. absurd (grind (arith, one, x));
@@ -204,7 +226,7 @@ module _ (words source_rose opened : Type 0) (damaged : Damage → Type 0) (left
 
     -- where nothing is run, the outcomes are those of no history
     no_outcomes : (script : List ScriptTxn) → AreOutcomes script e (all_outcomes script []) []
-    no_outcomes script = are_outcomes script e [] (record { front = []; back = script; whole = refl; each = tt }) tt tt tt
+    no_outcomes script = subst (λ os. AreOutcomes script e os []) (none_told script) (are_none script e)
 
     early_disk : (en : EndsEarly (reason.Fault run_fault.Disk) old new) (why : IsReason words source_rose damaged left (reason.Fault run_fault.Disk)) (written : List ℕ) → written ≡ reason_bytes (reason.Fault run_fault.Disk) → status ≡ 6 → Theorem written
     unfolding reason_bytes
@@ -226,7 +248,7 @@ module _ (words source_rose opened : Type 0) (damaged : Damage → Type 0) (left
               on_return = on_return (reason.Fault run_fault.Disk) en why;
               from_entry = omega arith;
             };
-            caused = no_causes old.region_len e rows after.bytes spells.0 (length spells.0 - 0) [] e;
+            caused = record { each = λ i txn word is_txn is_refused. absurd (not_refused (length spells.0) i word (subst (λ os. slice_get os i ≡ Some (outcome.Refused word)) (sym (none_told spells.0)) is_refused)) };
             few_each = λ one e. omega arith;
             failed = λ fault is. failed_by fault is (disk_rose (counts.faults tt));
             all_run = λ none. absurd (let x : ◌≡◌ {A = Option RunFault} (Some run_fault.Disk) None = none in cc);
@@ -268,66 +290,45 @@ module _ (words source_rose opened : Type 0) (damaged : Damage → Type 0) (left
     -- ---- a run
 
     module _ (script : List ScriptTxn) (r : Ran) (may : MayRun words opened left script) (is_run : IsRunOf old new script r) where
-      read : reached_script_of bytes ≡ Ok script
+      read : script_of bytes ≡ Ok script
       read = may.spelled bytes left_is
 
-      told_of : (a b : Option Told) → a ≡ Some before → b ≡ Some after → IsRunOfTold old.region_len a b script r → IsRunOfTold old.region_len (Some before) (Some after) script r
-      told_of a b e1 e2 h = subst (λ x. IsRunOfTold old.region_len x (Some after) script r) e1 (subst (λ x. IsRunOfTold old.region_len a x script r) e2 h)
+      on : IsRunOn old new before after script r is_run.history e rows
+      on = is_run.told before after e rows old_is new_is shows sound
 
-      on : IsRunOn old.region_len before after script r e rows
-      on = told_of old.told new.told old_is new_is is_run.told e rows shows sound
+      same_start : start_of script old e rows ≡ start
+      same_start = λ i. record { script = sym read i; region_len = old.region_len; e = e; rows = rows }
 
-      failed_by : (fault : RunFault) → r.fault ≡ Some fault → FailsSound back fault
-      failed_by run_fault.Memory is = tt
-      failed_by run_fault.Disk is = disk_rose (is_run.failed is).0
-      failed_by (run_fault.Damaged what) is = is_run.no_damage what is
+      run : IsRunWith (causes_of start back) start group since (IsImageNow after) back script r is_run.history
+      run = subst (λ g. IsRunWith (causes_of start back) start g since (IsImageNow after) back script r is_run.history) (sym enough)
+          (subst (λ (s : Start). IsRunWith (causes_of s back) s 64 since (IsImageNow after) back script r is_run.history) same_start (on.run source output))
 
-      run : IsRunWith (causes_on start after) start group since (IsImageNow after) back script r on.history
-      run = record {
-        run = let x = on.run in record { one_history = x.one_history; legal = x.legal; every_image = x.every_image; on_return = x.on_return; from_entry = x.from_entry };
-        caused = on.causes;
-        few_each = λ one e. let few = on.few in let c = count_by-le-length (λ (c : Commit). c.epoch == e) on.history in omega (arith, few, c, enough);
-        failed = failed_by;
-        all_run = is_run.all_run;
-        all_durable = on.all_durable;
-      }
+      short : (written : List ℕ) → IsFrontOf written (report script r) → (status ≡ 1 → (written ≡ report script r) × (r.fault ≡ Some run_fault.Memory)) → RunCutShort (causes_of start back) start group since (IsImageNow after) back status written
+      short written front all = record { script = script; ran = r; history = is_run.history; read = read; run = run; printed = front; whole = all }
 
-      short : (written : List ℕ) → IsFrontOf written (report script r) → (status ≡ 1 → (written ≡ report script r) × (r.fault ≡ Some run_fault.Memory)) → RunCutShort (causes_on start after) start group since (IsImageNow after) back status written
-      short written front all = record { script = script; ran = r; history = on.history; read = read; run = run; printed = front; whole = all }
-
-      done : (written : List ℕ) → written ≡ report script r → HasStatus status r.outcomes r.fault → (¬ ((status ≡ 6) × HasRisen old.own_faults new.own_faults) → r.durable ≡ last_epoch e on.history)
-          → ((status ≡ 0) ⊎ (status ≡ 8) → AllRun (all_outcomes script r.outcomes))
-          → (status ≡ 6 → HasRisen old.own_faults new.own_faults) → RunDone (causes_on start after) start group since (IsImageNow after) back status written
-      done written text has durable all own = record {
+      done : (written : List ℕ) → written ≡ report script r → HasStatus status r.outcomes r.fault → (status ≡ 0) ⊎ (status ≡ 6) ⊎ (status ≡ 8) → RunDone (causes_of start back) start group since (IsImageNow after) back status written
+      done written text has one = record {
         script = script;
         ran = r;
-        history = on.history;
+        history = is_run.history;
         read = read;
         run = run;
         printed = inl (text, has);
-        done = record {
-          all_run = all;
-          all_durable = durable;
-          one_each = λ six none. absurd (none (own six));
-        };
+        done = subst (λ (s : Start). IsDoneRun s back status script (all_outcomes script r.outcomes) r.durable is_run.history) same_start (on.done source output status (status_all script r.outcomes r.fault status has) one);
       }
 
       ran_whole : (written : List ℕ) → written ≡ report script r → (f : Option RunFault) → r.fault ≡ f → status ≡ run_status r.outcomes f → Theorem written
       ran_whole written text None fine is =
-          does written (by (list_any is_refused r.outcomes) is)
-          (done written text (subst (HasStatus status r.outcomes) (sym fine) is) (λ h. on.all_durable fine) (λ h. is_run.all_run fine) (λ six. absurd (not_six (list_any is_refused r.outcomes) (sym is ∙ six))))
+          let one = by (list_any is_refused r.outcomes) is in
+          does written one (done written text (subst (HasStatus status r.outcomes) (sym fine) is) one)
         where
-          not_six : (b : Bool) → cond {A = ℕ} b 8 0 ≡ 6 → ⊥
-          not_six true h = omega (arith, h)
-          not_six false h = omega (arith, h)
-
           by : (b : Bool) → status ≡ cond {A = ℕ} b 8 0 → (status ≡ 0) ⊎ (status ≡ 6) ⊎ (status ≡ 8)
           by true h = inr (inr h)
           by false h = inl h
       ran_whole written text (Some run_fault.Memory) fine is = cut written (inl is) (inr (short written ([], sym text ∙ sym (append-nil written)) (λ one. (text, fine))))
       ran_whole written text (Some run_fault.Disk) fine is =
-          does written (inr (inl is)) (done written text (subst (HasStatus status r.outcomes) (sym fine) is) (λ h. absurd (h (is, (is_run.failed fine).1))) (λ h. absurd (grind (arith, is, h))) (λ six. (is_run.failed fine).1))
-      ran_whole written text (Some (run_fault.Damaged what)) fine is = absurd (is_run.no_damage what fine)
+          does written (inr (inl is)) (done written text (subst (HasStatus status r.outcomes) (sym fine) is) (inr (inl is)))
+      ran_whole written text (Some (run_fault.Damaged what)) fine is = absurd (is_run.unsound what fine before old_is e rows shows sound)
 
     -- ---- the whole
 
@@ -386,7 +387,7 @@ module _ (words source_rose opened : Type 0) (damaged : Damage → Type 0) (left
       by : (f : Option RunFault) → r.fault ≡ f → run_status r.outcomes f ≡ 6 → HasRisen old.faults new.faults
       by None fault h = absurd (other (list_any is_refused r.outcomes) h)
       by (Some run_fault.Memory) fault h = absurd (omega (arith, h))
-      by (Some run_fault.Disk) fault h = (end.1.failed fault).0
+      by (Some run_fault.Disk) fault h = end.1.only_risen fault
       by (Some (run_fault.Damaged what)) fault h = absurd (omega (arith, h))
 
   same_count : new ≡ old → old.faults < new.faults → ⊥
@@ -399,16 +400,14 @@ module _ (words source_rose opened : Type 0) (damaged : Damage → Type 0) (left
   told_end (early (reason.Fault run_fault.Memory)) end rose = inl refl
   told_end (early (reason.Fault run_fault.Disk)) end rose = inr refl
   told_end (early (reason.Fault (run_fault.Damaged what))) end rose = absurd (same_count (end.1.same (λ x. cc)) rose)
-  told_end (ran script r) end rose = by r.fault refl
+  told_end (ran script r) end rose = by (end.1.where_risen rose)
     where
-      by : (f : Option RunFault) → r.fault ≡ f → (run_status r.outcomes f ≡ 1) ⊎ (run_status r.outcomes f ≡ 6)
-      by None fault = let e = (end.1.not_failed fault).0 in absurd (omega (arith, e, rose))
-      by (Some run_fault.Memory) fault = inl refl
-      by (Some run_fault.Disk) fault = inr refl
-      by (Some (run_fault.Damaged what)) fault = absurd (end.1.no_damage what fault)
+      by : (r.fault ≡ Some run_fault.Disk) ⊎ (r.fault ≡ Some run_fault.Memory) → (run_status r.outcomes r.fault ≡ 1) ⊎ (run_status r.outcomes r.fault ≡ 6)
+      by (inl fault) = inr (ap (run_status r.outcomes) fault)
+      by (inr fault) = inl (ap (run_status r.outcomes) fault)
 
-  counts_of : (output_rose : Type 0) → (status ≡ 4 → source_rose) → (status ≡ 5 → output_rose) → Ends words source_rose opened damaged left old new status was now → CountsByStatus source_rose output_rose old new status
-  counts_of output_rose source output en = record { source = source; output = output; disk = λ six. disk en.status_is six; told = λ rose. told en.status_is (told_end en.ended en.is_end rose) }
+  counts_of : (status ≡ 4 → source_rose) → (status ≡ 5 → output_rose) → Ends words source_rose opened damaged left old new status was now → CountsByStatus source_rose output_rose old new status
+  counts_of source_failed output_failed en = record { source = source_failed; output = output_failed; disk = λ six. disk en.status_is six; told = λ rose. told en.status_is (told_end en.ended en.is_end rose) }
     where
       disk : (status ≡ 5) ⊎ (status ≡ status_of en.ended) → status ≡ 6 → HasRisen old.faults new.faults
       disk (inl failed) six = absurd (omega (arith, failed, six))
@@ -444,15 +443,15 @@ module _ (words source_rose opened : Type 0) (damaged : Damage → Type 0) (left
       by (Some a) None at here both = absurd both
 
   -- how a call ended tells that it ran well
-  pub runs_well : (command : Option Command) (output_rose : Type 0) → (status ≡ 4 → source_rose) → (status ≡ 5 → output_rose) → IsSoundDisk old → old.unsynced ≡ []
+  pub runs_well : (command : Option Command) → (status ≡ 4 → source_rose) → (status ≡ 5 → output_rose) → IsSoundDisk old → old.unsynced ≡ []
       → ((options : Options) → words → SpellsRun command options → options.group ≡ 64)
-      → ((before : Told) (e : ℕ) (rows : List Row) → old.told ≡ Some before → Shows old.region_len before.bytes e rows → IsPlain rows → LeavesWhole rows → (what : Damage) → damaged what → ⊥)
-      → Ends words source_rose opened damaged left old new status was now → RunsWell words command left source_rose output_rose old new status was now
-  runs_well command output_rose source output is_sound synced grouped undamaged en = record {
-    holds = λ options bytes first before e rows are_words spelled left_is was_is old_is shows sound plain unbroken.
+      → ((before : Told) (e : ℕ) (rows : List Row) → old.told ≡ Some before → Shows old.region_len before.bytes e rows → (what : Damage) → damaged what → ⊥)
+      → Ends words source_rose opened damaged left old new status was now → RunsWell words command left source output old new status was now
+  runs_well command source_failed output_failed is_sound synced grouped undamaged en = record {
+    holds = λ options bytes first before e rows are_words spelled left_is was_is old_is shows sound.
         let after = told_on_return before old_is (goes_on en) in
-        let h = holds output_rose (counts_of output_rose source output en) are_words options.group (omega (arith, grouped options are_words spelled)) bytes first before after.0 e rows left_is was_is old_is after.1 shows sound
-        (undamaged before e rows old_is shows plain unbroken) (is_told old.told before old_is is_sound.told) synced en in
+        let h = holds (counts_of source_failed output_failed en) are_words options.group (grouped options are_words spelled) bytes first before after.0 e rows left_is was_is old_is after.1 shows sound
+        (undamaged before e rows old_is shows) (is_told old.told before old_is is_sound.told) synced en in
         (after.0, after.1, h.0, h.1, h.2);
   }
     where
@@ -473,8 +472,8 @@ module _ (words source_rose opened : Type 0) (damaged : Damage → Type 0) (left
   unfolding text_of reason_bytes
   words_text d is = (ap text_of is, ap status_of is)
 
-  pub refuses_words : (output_rose : Type 0) → (status ≡ 5 → output_rose) → Ends words source_rose opened damaged left old new status was now → RefusesWords words output_rose old new status was now
-  refuses_words output_rose output en = record { holds = λ other first was_is. let w = words_end en.ended en.is_end other in by first was_is (words_text en.ended w.0) w.1 en.status_is }
+  pub refuses_words : (status ≡ 5 → output_rose) → Ends words source_rose opened damaged left old new status was now → RefusesWords words output_rose old new status was now
+  refuses_words output_failed en = record { holds = λ other first was_is. let w = words_end en.ended en.is_end other in by first was_is (words_text en.ended w.0) w.1 en.status_is }
     where
       by : (first : List ℕ) → was ≡ Some first → (text_of en.ended ≡ words_line) × (status_of en.ended ≡ 2) → new ≡ old → (status ≡ 5) ⊎ (status ≡ status_of en.ended)
           → (written : List ℕ) × (now ≡ Some (first ++ written)) × WordsTheorem output_rose (new ≡ old) status written
@@ -487,7 +486,7 @@ module _ (words source_rose opened : Type 0) (damaged : Damage → Type 0) (left
               words = λ h. absurd (omega (arith, failed, h));
               memory = λ h. absurd (omega (arith, failed, h));
               cut_short = λ h. inl (subst (IsFrontOf w.0) text w.2);
-              output = output;
+              output = output_failed;
               others = inr (inr (inl failed));
             },
           )
@@ -501,7 +500,7 @@ module _ (words source_rose opened : Type 0) (damaged : Damage → Type 0) (left
               words = λ h. text;
               memory = λ h. absurd (omega (arith, is, h));
               cut_short = λ h. absurd (omega (arith, is, h));
-              output = output;
+              output = output_failed;
               others = inr (inl is);
             },
           )
@@ -532,3 +531,30 @@ module _ (words source_rose opened : Type 0) (damaged : Damage → Type 0) (left
       by : (status ≡ 5) ⊎ (status ≡ status_of en.ended) → OfTold left IsRefused
       by (inl failed) = absurd (omega (arith, failed, three))
       by (inr fine) = of_refused en.ended en.is_end (sym fine ∙ three)
+
+  -- status 7 comes for a log that is not sound
+  of_damaged : ((what : Damage) → damaged what → IsUnsoundLog old) → (d : Ended) → IsEnd words source_rose opened damaged left old new d → status_of d ≡ 7 → IsUnsoundLog old
+  of_damaged bad (early reason.Words) end is = absurd (omega (arith, is))
+  of_damaged bad (early (reason.Script n)) end is = absurd (omega (arith, is))
+  of_damaged bad (early reason.Source) end is = absurd (omega (arith, is))
+  of_damaged bad (early (reason.Fault run_fault.Memory)) end is = absurd (omega (arith, is))
+  of_damaged bad (early (reason.Fault run_fault.Disk)) end is = absurd (omega (arith, is))
+  of_damaged bad (early (reason.Fault (run_fault.Damaged what))) end is = bad what end.0.2
+  of_damaged bad (ran script r) end is = by r.fault refl is
+    where
+      other : (b : Bool) → cond {A = ℕ} b 8 0 ≡ 7 → ⊥
+      other true h = omega (arith, h)
+      other false h = omega (arith, h)
+
+      by : (f : Option RunFault) → r.fault ≡ f → run_status r.outcomes f ≡ 7 → IsUnsoundLog old
+      by None fault h = absurd (other (list_any is_refused r.outcomes) h)
+      by (Some run_fault.Memory) fault h = absurd (omega (arith, h))
+      by (Some run_fault.Disk) fault h = absurd (omega (arith, h))
+      by (Some (run_fault.Damaged what)) fault h = end.1.unsound what fault
+
+  pub damaged_log : ((what : Damage) → damaged what → IsUnsoundLog old) → Ends words source_rose opened damaged left old new status was now → status ≡ 7 → IsUnsoundLog old
+  damaged_log bad en seven = by en.status_is
+    where
+      by : (status ≡ 5) ⊎ (status ≡ status_of en.ended) → IsUnsoundLog old
+      by (inl failed) = absurd (omega (arith, failed, seven))
+      by (inr fine) = of_damaged bad en.ended en.is_end (sym fine ∙ seven)

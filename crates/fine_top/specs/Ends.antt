@@ -1,7 +1,7 @@
 -- How a call of the program ends, and what it prints then.
-use Rattle.std.specs.Prelude.{◌≡◌, ◌⊎◌, ℕ, ◌-◌, ◌≤◌, length, List, ◌++◌, if◌then◌else◌, Option, Some, None, Ok, ⊤}
-use Rattle.std.specs.List.{list_any}
-use Rattle.log_disk.specs.Disk.{Disk, Told, last_count, HasRisen, SameBeside, OnlyFails, IsImageNow, IsImageSince, clock_of}
+use Rattle.std.specs.Prelude.{◌≡◌, ◌⊎◌, ℕ, ◌<◌, List, [], ◌++◌, if◌then◌else◌, Option, Some, None, Ok}
+use Rattle.std.specs.List.{AllByRecursion, list_any}
+use Rattle.log_disk.specs.Disk.{Disk, Told, HasRisen, OnlyFails, IsImageNow, IsImageSince, clock_of}
 use Rattle.log_disk.specs.Moments.{ContinuesOn}
 use Rattle.fine_model.specs.declared.Options.{Options}
 use Rattle.fine_model.specs.declared.Row.{Row}
@@ -13,18 +13,23 @@ use Rattle.fine_model.specs.declared.Damage.{Damage}
 use Rattle.fine_model.specs.declared.Reason.{Reason}
 use Rattle.fine_model.specs.declared.Reason.TheVariants as reason
 use Rattle.fine_model.specs.declared.Ran.{Ran}
-use Rattle.fine_model.specs.Outcomes.{AllRun, is_refused}
-use Rattle.fine_model.specs.History.{Commit, last_epoch}
+use Rattle.fine_model.specs.declared.Part.{Part}
+use Rattle.fine_model.specs.Damages.{IsDurableFor}
+use Rattle.fine_model.specs.Outcomes.{AllRun, AreOutcomes, is_refused}
+use Rattle.fine_model.specs.History.{Commit}
 use Rattle.fine_model.specs.Trees.{IsSound}
-use Rattle.fine_model.specs.Chain.{Shows}
-use Rattle.fine_model.specs.Headline.{Start, Return, Causes, IsRun, IsRefusedAt, RunTheorem}
+use Rattle.fine_model.specs.Chain.{Shows, chain_end}
+use Rattle.fine_model.specs.Headline.{Start, HasStatus, IsDoneRun, IsRunWith, IsRefusedAt, RunTheorem, causes_of}
 use Rattle.fine_model.specs.Words.{Command}
 use Rattle.fine_model.specs.Commands.{WordsTheorem}
-use Rattle.fine_model.specs.Reach.{reached_script_of}
+use Rattle.fine_model.specs.Script.{script_of}
 use Rattle.fine_model.specs.Report.{all_outcomes, reason_bytes, report}
-use Rattle.leaf_store.specs.Leaves.{IsPlain, LeavesWhole}
-use Rattle.fine_top.specs.Refusals.{HaveCauses}
-use Rattle.fine_top.specs.Words.{SpellsRun}
+use Rattle.reopen.specs.declared.chain.Chain.{Chain}
+use Rattle.reopen.specs.Opening.{SeesChain}
+use Rattle.run_laws.specs.Law.{return_of, start_of}
+use Rattle.run_laws.specs.Runs.{AreFewOfLanes, IsReplied}
+use Rattle.fine_top.specs.Opened.{IsUnsoundLog}
+use Rattle.fine_top.specs.Words.{SpellsRun, default_options}
 use Rattle.script_text.specs.Streams.{Puts}
 use Rattle.script_text.specs.declared.read.ScriptFault.{ScriptFault}
 use Rattle.script_text.specs.declared.read.ScriptFault.TheVariants as fault
@@ -74,39 +79,53 @@ OfTold left P = (bytes : List ℕ) → left ≡ Some bytes → P bytes
 
 -- the bytes spell a script that is taken
 abbrev pub SpellsScript : List ℕ → Type 0
-SpellsScript bytes = (script : List ScriptTxn) × (reached_script_of bytes ≡ Ok script)
+SpellsScript bytes = (script : List ScriptTxn) × (script_of bytes ≡ Ok script)
 
 -- the first refusal of the script that they spell stands at line n
 abbrev pub IsRefusedIn : ℕ → List ℕ → Type 0
-IsRefusedIn n bytes = IsRefusedAt n (reached_script_of bytes)
+IsRefusedIn n bytes = IsRefusedAt n (script_of bytes)
 
 -- ---- what a run was
 
--- What a run on a log that shows epoch e and these rows gave: its outcomes are those of one history, which every image keeps as far
--- as it is durable; where no fault ended it, all of it is.
-pub record IsRunOn (region_len : ℕ) (before after : Told) (script : List ScriptTxn) (ran : Ran) (e : ℕ) (rows : List Row) : Type 0 where
-  pub history : List Commit
-  pub run : IsRun (record { script = Ok script; region_len = region_len; e = e; rows = rows }) (IsImageSince (clock_of before) after) (IsImageNow after) script (all_outcomes script ran.outcomes) ran.durable history
-  pub all_durable : ran.fault ≡ None → ran.durable ≡ last_epoch e history
-  pub causes : HaveCauses region_len e rows after.bytes script (all_outcomes script ran.outcomes) history ran.durable
-  pub few : length history ≤ 64
+-- What a run with this history is on a log that shows epoch e and these rows: the history is legal, every image keeps it as far as it is durable, each refusal has its cause, and a fault that
+-- ended it too. Nothing of it depends on the counts of the source and of the output.
+pub record IsRunOn (old new : Disk) (before after : Told) (script : List ScriptTxn) (ran : Ran) (history : List Commit) (e : ℕ) (rows : List Row) : Type 0 where
+  pub run : (source output : ℕ × ℕ)
+      → IsRunWith (causes_of (start_of script old e rows) (return_of old new source output before after)) (start_of script old e rows) default_options.group
+      (IsImageSince (clock_of before) after) (IsImageNow after) (return_of old new source output before after) script ran history
+  -- with status 0, 6 or 8 it was done
+  pub done : (source output : ℕ × ℕ) (status : ℕ) → HasStatus status (all_outcomes script ran.outcomes) ran.fault → (status ≡ 0) ⊎ (status ≡ 6) ⊎ (status ≡ 8)
+      → IsDoneRun (start_of script old e rows) (return_of old new source output before after) status script (all_outcomes script ran.outcomes) ran.durable history
 
--- what it was on every sound log that the disk showed, where it tells its bytes
-abbrev pub IsRunOfTold : ℕ → Option Told → Option Told → List ScriptTxn → Ran → Type 0
-IsRunOfTold region_len (Some before) (Some after) script r =
-    (e : ℕ) (rows : List Row) → Shows region_len before.bytes e rows → IsSound rows → IsRunOn region_len before after script r e rows
-IsRunOfTold region_len _ _ script r = ⊤
-
--- a run between two states of the disk
-pub record IsRunOf (old new : Disk) (script : List ScriptTxn) (ran : Ran) : Type 0 where
-  pub beside : SameBeside old new
-  pub time : ContinuesOn old new
-  pub no_damage : (what : Damage) → ran.fault ≡ Some (run_fault.Damaged what) → ⊥
-  pub failed : ran.fault ≡ Some run_fault.Disk → HasRisen old.faults new.faults × HasRisen old.own_faults new.own_faults
-  pub not_failed : ran.fault ≡ None → (new.faults ≡ old.faults) × (new.own_faults ≡ old.own_faults)
+-- What a run with this history is on every disk, whatever it tells, behind the parts of the log at entry: the outcomes are those of the history, whose epochs go on from the chain's; each call of a
+-- commit has a reply that the store has on some map; no epoch has more entries of a lane than a group; and what is durable is one of its epochs, the last one where no fault came.
+pub record IsRunBehind (parts : List Part) (script : List ScriptTxn) (ran : Ran) (history : List Commit) : Type 0 where
+  pub outcomes : AreOutcomes script (chain_end parts) (all_outcomes script ran.outcomes) history
+  pub replied : AllByRecursion IsReplied history
+  pub few_each : AreFewOfLanes default_options.group history
+  pub durable : IsDurableFor parts history ran.fault ran.durable
   pub all_run : ran.fault ≡ None → AllRun (all_outcomes script ran.outcomes)
-  pub no_lower : (old.faults ≤ new.faults) × (old.own_faults ≤ new.own_faults)
-  pub told : IsRunOfTold old.region_len old.told new.told script ran
+
+-- what a run leaves beside the log: the geometry, and no eye that is open
+pub record LeavesBeside (old new : Disk) : Type 0 where
+  pub regions : new.regions ≡ old.regions
+  pub region_len : new.region_len ≡ old.region_len
+  pub no_eyes : new.eyes ≡ []
+
+-- A run between two states of the disk, behind the chain that was found, by one history; on each sound log that the disk told it is a run on this log. Whatever it tells: a failed disk is told only
+-- where its count rose, and where that is greater than it was, a failed disk or want of memory; damage only on a log that is not sound.
+pub record IsRunOf (old new : Disk) (script : List ScriptTxn) (ran : Ran) : Type 0 where
+  pub found : Chain
+  pub sees : SeesChain old found
+  pub history : List Commit
+  pub behind : IsRunBehind found.parts script ran history
+  pub beside : LeavesBeside old new
+  pub time : ContinuesOn old new
+  pub only_risen : ran.fault ≡ Some run_fault.Disk → HasRisen old.faults new.faults
+  pub where_risen : old.faults < new.faults → (ran.fault ≡ Some run_fault.Disk) ⊎ (ran.fault ≡ Some run_fault.Memory)
+  pub unsound : (what : Damage) → ran.fault ≡ Some (run_fault.Damaged what) → IsUnsoundLog old
+  pub told : (before after : Told) (e : ℕ) (rows : List Row) → old.told ≡ Some before → new.told ≡ Some after → Shows old.region_len before.bytes e rows → IsSound rows
+      → IsRunOn old new before after script ran history e rows
 
 -- ---- how a call ended
 
@@ -128,7 +147,7 @@ pub record EndsEarly (r : Reason) (old new : Disk) : Type 0 where
 -- a script may be run: the words are those of the command, it is what the bytes spell, and the log was opened
 pub record MayRun (words opened : Type 0) (left : Option (List ℕ)) (script : List ScriptTxn) : Type 0 where
   pub are_words : words
-  pub spelled : OfTold left (λ bytes. reached_script_of bytes ≡ Ok script)
+  pub spelled : OfTold left (λ bytes. script_of bytes ≡ Ok script)
   pub is_opened : opened
 
 abbrev pub IsEnd : Type 0 → Type 0 → Type 0 → (Damage → Type 0) → Option (List ℕ) → Disk → Disk → Ended → Type 0
@@ -148,36 +167,20 @@ pub record Ends (words source_rose opened : Type 0) (damaged : Damage → Type 0
 abbrev pub IsRefused : List ℕ → Type 0
 IsRefused bytes = (n : ℕ) × IsRefusedIn n bytes
 
--- the causes of refusals on a log that showed an epoch and rows, by what the disk shows on return
-abbrev pub causes_on : Start → Told → Causes
-causes_on start after = HaveCauses start.region_len start.e start.rows after.bytes
-
--- what is known on return
-abbrev pub return_of : Disk → Disk → Type 0 → Type 0 → Told → Told → Return
-return_of old new source_rose output_rose before after = record {
-  image = after.bytes;
-  rise = new.faults - old.faults;
-  at_last = last_count ≤ new.faults;
-  own_rose = HasRisen old.own_faults new.own_faults;
-  source_rose = source_rose;
-  output_rose = output_rose;
-  still = clock_of after ≡ clock_of before;
-}
-
 -- what is known at entry
 abbrev pub start_on : Disk → List ℕ → ℕ → List Row → Start
-start_on old bytes e rows = record { script = reached_script_of bytes; region_len = old.region_len; e = e; rows = rows }
+start_on old bytes e rows = record { script = script_of bytes; region_len = old.region_len; e = e; rows = rows }
 
 -- What other words give, where the output is told.
 pub record RefusesWords (words output_rose : Type 0) (old new : Disk) (status : ℕ) (was now : Option (List ℕ)) : Type 0 where
   pub holds : (words → ⊥) → (first : List ℕ) → was ≡ Some first → (written : List ℕ) × (now ≡ Some (first ++ written)) × WordsTheorem output_rose (new ≡ old) status written
 
 -- The theorem of a run, where the words are those of the command `run` with these options, script, output and disk are told, and the log is
--- sound. The disk then tells its bytes on return too. For now `words` says that they are the one word `run`, and the log is one that the store
--- of root leaves takes.
-pub record RunsWell (words : Type 0) (command : Option Command) (left : Option (List ℕ)) (source_rose output_rose : Type 0) (old new : Disk) (status : ℕ) (was now : Option (List ℕ)) : Type 0 where
+-- sound. The disk then tells its bytes on return too. For now `words` says that they are the one word `run`. Of the source and of the output the counts of
+-- faults before and after are known.
+pub record RunsWell (words : Type 0) (command : Option Command) (left : Option (List ℕ)) (source output : ℕ × ℕ) (old new : Disk) (status : ℕ) (was now : Option (List ℕ)) : Type 0 where
   pub holds : (options : Options) (bytes first : List ℕ) (before : Told) (e : ℕ) (rows : List Row) → words → SpellsRun command options → left ≡ Some bytes → was ≡ Some first → old.told ≡ Some before
-      → Shows old.region_len before.bytes e rows → IsSound rows → IsPlain rows → LeavesWhole rows
+      → Shows old.region_len before.bytes e rows → IsSound rows
       → (after : Told) × (new.told ≡ Some after) × (written : List ℕ) × (now ≡ Some (first ++ written))
-      × RunTheorem (causes_on (start_on old bytes e rows) after) (start_on old bytes e rows) options.group (IsImageSince (clock_of before) after) (IsImageNow after)
-      (return_of old new source_rose output_rose before after) (new ≡ old) status written
+      × RunTheorem (causes_of (start_on old bytes e rows) (return_of old new source output before after)) (start_on old bytes e rows) options.group (IsImageSince (clock_of before) after) (IsImageNow after)
+      (return_of old new source output before after) (new ≡ old) status written

@@ -1,31 +1,21 @@
 -- What a run begins with, and how it ends from there.
-use Rattle.std.specs.Prelude.{◌≡◌, ◌⊎◌, ℕ, ◌≤◌, List, length, Option, IsTrue}
-use Rattle.std.specs.List.{AllByRecursion}
+use Rattle.std.specs.Prelude.{◌≡◌, ◌⊎◌, ℕ, List, Option}
 use Rattle.log_disk.specs.Disk.{Disk}
 use Rattle.fine_model.specs.declared.ScriptTxn.{ScriptTxn}
 use Rattle.fine_model.specs.declared.RunFault.TheVariants as run_fault
 use Rattle.fine_model.specs.declared.Reason.TheVariants as reason
 use Rattle.fine_model.specs.Bounds.{FitsScript}
-use Rattle.fine_model.specs.Reach.{is_simple_txn}
 use Rattle.script_text.specs.Streams.{Puts}
 use Rattle.reopen.specs.Opening.{SeesChain}
-use Rattle.fine_top.specs.declared.opening.Log.{Log}
 use Rattle.fine_top.specs.declared.opening.Opened.{Opened}
 use Rattle.fine_top.specs.Ends.{Ended, early, ran, text_of, status_of, MayRun, IsRunOf}
-use Rattle.fine_top.specs.Opened.{IsLoadedFrom, IsOpenedLog}
+use Rattle.fine_top.specs.Opened.{IsOpenedLog}
 
--- the log that a disk shows was opened
-pub record OpensLog (disk : Disk) (log : Log) : Type 0 where
-  pub sees : SeesChain disk log.chain
-  pub loaded : IsLoadedFrom disk log.leaves
-
--- a script may be run, and the log that it runs on was opened
+-- a script may be run, and the chain of the log that it runs on was found
 pub record OpensRun (words : Type 0) (left : Option (List ℕ)) (disk : Disk) (opened : Opened) : Type 0 where
   pub may_run : MayRun words (IsOpenedLog disk) left opened.script
-  pub log : OpensLog disk opened.log
+  pub sees : SeesChain disk opened.chain
   pub fits : FitsScript opened.script
-  pub reach : AllByRecursion (λ t. IsTrue (is_simple_txn t)) opened.script
-  pub few : length opened.script ≤ 64
 
 -- an end of a run of this script: want of memory before anything was run, or a run
 abbrev pub IsEndOfRun : List ScriptTxn → Disk → Disk → Ended → Type 0

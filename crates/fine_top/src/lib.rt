@@ -2,9 +2,7 @@
 #![tactic(auto)]
 
 mod opening;
-mod run;
 mod top;
-mod txn;
 mod words;
 
 pub use top::{Finish, fineline};

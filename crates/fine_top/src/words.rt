@@ -1,20 +1,16 @@
 //! The words of a command, and of a geometry.
 
-ghost use Rattle.std.specs.Prelude.{◌≡◌, ◌↔◌, ◌≤◌, ◌%◌, ◌==◌, IfSome, IsSome, IsTrue, length, position};
+ghost use Rattle.std.specs.Prelude.{◌≡◌, ◌↔◌, ◌≤◌, ◌==◌, IfSome, IsSome, IsTrue, length, position};
 ghost use Rattle.std.specs.List.{position_or_len};
 ghost use Rattle.fine_model.specs.Words.{geometry_of};
-ghost use Rattle.fine_model.specs.RowBytes.{longest_region};
-ghost use Rattle.fine_top.specs.Words.{IsGeometry, IsRun, geometry_in};
+ghost use Rattle.fine_top.specs.Words.{IsGeometry, IsRun, default_options, geometry_in};
 
-use fine_model::natural_of;
+use fine_model::{Options, natural_of};
 
 /// The least and the greatest length of a region that a word may spell, in KiB.
 const LEAST_KIB: u32 = 4;
 
 const MOST_KIB: u32 = 65_536;
-
-/// The least length of a region that is taken for now: one epoch fits a region of this length.
-const LEAST_LENGTH: u64 = 16_384;
 
 /// Whether the words are the one word `run`.
 pub fn is_run(words: &[String]) -> bool
@@ -45,7 +41,7 @@ fn place_of_x(word: &[u8]) -> usize
 #[tactic(auto, unfolding(fine_model::specs::Words::geometry_of))]
 fn geometry(word: &[u8]) -> Option<(u32, u64)>
     ensures is { result ≡ geometry_of word.now }
-    ensures limits { IfSome result (λ g. (4 ≤ g.0) × (g.0 ≤ 64) × (g.1 ≤ longest_region) × (g.1 % 1024 ≡ 0)) }
+    ensures limits { IfSome result IsGeometry }
 {
     if word == b"default".as_slice() {
         return Some((24, 4_194_304));
@@ -57,16 +53,23 @@ fn geometry(word: &[u8]) -> Option<(u32, u64)>
 }
 
 /// The geometry that the second word spells, as the number of regions and their length in bytes: `default` for 24 regions of
-/// 4 MiB, or `NxK` for N regions of K KiB, with N from 4 to 64 and K from 16 to 65,536. None exactly where there is no second
+/// 4 MiB, or `NxK` for N regions of K KiB, with N from 4 to 64 and K from 4 to 65,536. None exactly where there is no second
 /// word or it spells no geometry.
 pub fn geometry_of(words: &[String]) -> Option<(u32, u64)>
     ensures is { result ≡ geometry_in words.now }
     ensures limits { IfSome result IsGeometry }
     ensures words { IsSome result → 2 ≤ length words.now }
 {
-    let geometry = geometry(words.get(1)?.as_str().as_bytes())?;
-    if geometry.1 < LEAST_LENGTH {
-        return None;
+    geometry(words.get(1)?.as_str().as_bytes())
+}
+
+/// The options of the command `run` where none is given.
+pub fn default_options() -> Options
+    ensures { result ≡ default_options }
+{
+    Options {
+        group: 64,
+        tries: 100,
+        keep: 64,
     }
-    Some(geometry)
 }

@@ -101,7 +101,7 @@ fn run_well<R: Threads + Wait + Sync>(
 #[test]
 fn scripts_print_their_reports(rt: HostRuntime) -> Result<(), Fail> {
     let alloc = rt.alloc();
-    let table: [(&[&str], &str, u8, &str); 18] = [
+    let table: [(&[&str], &str, u8, &str); 17] = [
         (
             &["run"],
             "txn 1|put a 1|get a|commit|",
@@ -140,11 +140,25 @@ fn scripts_print_their_reports(rt: HostRuntime) -> Result<(), Fail> {
             "txn 1 commit 1 epoch 1|put a|put a|get a = 2|txn 2 commit 2 epoch 1|put a|txn 3 commit 3 epoch 1|get a = 3|durable 1|",
         ),
         (&["run"], "txn 17|", 3, "script line 1|"),
-        (&["run"], "txn 2|commit|", 3, "script line 1|"),
-        (&["run"], "txn 1|del a|commit|", 3, "script line 2|"),
-        (&["run"], "txn 1|add a 1|commit|", 3, "script line 2|"),
-        (&["run"], "txn 1|scan a b 1|commit|", 3, "script line 2|"),
-        (&["run"], "txn 1|abort|", 3, "script line 2|"),
+        (
+            &["run"],
+            "txn 2|commit|",
+            0,
+            "txn 1 commit 1 epoch 1|durable 1|",
+        ),
+        (&["run"], "txn 1|abort|", 0, "txn 1 abort|durable 0|"),
+        (
+            &["run"],
+            "txn 1|del a|add a 1|scan a b 1|commit|",
+            0,
+            "txn 1 commit 1 epoch 1|del a none|add a = 1|scan a b 1|pair a = 1|durable 1|",
+        ),
+        (
+            &["run"],
+            "txn 1|put a 1|commit|txn 2|put a 2|add c 5|abort|txn 16|get a|del a|scan a z 9|commit|",
+            0,
+            "txn 1 commit 1 epoch 1|put a|txn 2 abort|txn 3 commit 2 epoch 1|get a = 1|del a|scan a z 0|durable 1|",
+        ),
         (&["run"], "txn 1|put a 1|", 3, "script line 3|"),
         (&["run"], "txn 1|put a 1", 3, "script line 3|"),
         (&[], "", 2, WORDS),
@@ -305,19 +319,6 @@ fn go_on<R: Threads + Wait + Sync + Abort>(
     crash(printed.finish.disk, &[])
 }
 
-// The disk with another byte as a region's gate.
-fn with_gate(disk: MemDisk, region: u32, gate: u8) -> Result<MemDisk, Fail>
-    requires geometry { IsGeometry (disk.disk.regions, disk.disk.region_len) }
-    requires region { region < 4 }
-    requires no_eyes { disk.disk.eyes ≡ [] }
-    ensures { IfOk result (λ disk. IsGeometry (disk.disk.regions, disk.disk.region_len) × (disk.disk.unsynced ≡ []) × (disk.disk.eyes ≡ [])) }
-{
-    let mut disk = disk;
-    disk.write(region, 0, &[gate])?;
-    disk.sync()?;
-    crash(disk, &[])
-}
-
 #[test]
 fn a_run_goes_on_where_the_last_one_ended(rt: HostRuntime) -> Result<(), Fail> {
     let alloc = rt.alloc();
@@ -329,14 +330,11 @@ fn a_run_goes_on_where_the_last_one_ended(rt: HostRuntime) -> Result<(), Fail> {
     let third = "txn 1 commit 1 epoch 3|get a = 2|durable 3|";
     let disk = go_on(&rt, alloc, "txn 1|get a|commit|", 0, third, disk)?;
     let disk = go_on(&rt, alloc, "", 0, "durable 3|", disk)?;
-    // Three of the four regions are sealed.
-    let full = "txn 1 refused full|durable 3|";
-    let disk = go_on(&rt, alloc, "txn 1|put b 1|commit|", 8, full, disk)?;
-    // A region whose gate is closed is free again, and its epoch is gone.
-    let disk = with_gate(disk, 2, 0)?;
-    let disk = with_gate(disk, 1, 0x37)?;
-    let again = "txn 1 commit 1 epoch 2|get a = 1|durable 2|";
-    let _disk = go_on(&rt, alloc, "txn 1|get a|commit|", 0, again, disk)?;
+    // Three of the four regions are sealed: two of them are merged.
+    let fourth = "txn 1 commit 1 epoch 4|put b|durable 4|";
+    let disk = go_on(&rt, alloc, "txn 1|put b 1|commit|", 0, fourth, disk)?;
+    let last = "txn 1 commit 1 epoch 5|get a = 2|get b = 1|durable 5|";
+    let _disk = go_on(&rt, alloc, "txn 1|get a|get b|commit|", 0, last, disk)?;
     Ok(())
 }
 
@@ -345,9 +343,10 @@ fn each_call_that_fails_has_its_status(rt: HostRuntime) -> Result<(), Fail> {
     let alloc = rt.alloc();
     let script = "txn 1|put a 1|get a|commit|";
     let done = "txn 1 commit 1 epoch 1|put a|get a = 1|durable 1|";
+    let none = "txn 1 none|durable 0|disk|";
     let lost = "txn 1 commit 1 epoch 1|put a|get a = 1|durable 0|disk|";
     // The number of the call that fails, of the source, of the sink and of the disk.
-    let table: [(u64, u64, u64, u8, &str); 13] = [
+    let table: [(u64, u64, u64, u8, &str); 14] = [
         (1, 0, u64::MAX, 4, "source|"),
         (2, 0, u64::MAX, 4, "source|"),
         (3, 0, u64::MAX, 0, done),
@@ -355,12 +354,14 @@ fn each_call_that_fails_has_its_status(rt: HostRuntime) -> Result<(), Fail> {
         (0, 2, u64::MAX, 0, done),
         (0, 0, 1, 6, "disk|"),
         (0, 0, 4, 6, "disk|"),
-        (0, 0, 5, 6, lost),
+        // the eye of the view, and then the two writes and syncs of a seal
+        (0, 0, 5, 6, none),
         (0, 0, 6, 6, lost),
         (0, 0, 7, 6, lost),
         (0, 0, 8, 6, lost),
-        (0, 0, 9, 0, done),
-        (0, 1, 5, 5, ""),
+        (0, 0, 9, 6, lost),
+        (0, 0, 10, 0, done),
+        (0, 1, 6, 5, ""),
     ];
     for (take, put, stop, status, text) in &table {
         let mut fails = (Vec::new(alloc), Vec::new(alloc));
@@ -404,7 +405,7 @@ fn a_crash_at_any_call_leaves_a_prefix(rt: HostRuntime) -> Result<(), Fail> {
             plan.stop = stop;
             let first = run_well(&rt, alloc, THREE, small(alloc, plan)?)?;
             let done = first.finish.status == 0;
-            assert_eq!(rt; done, stop > 8);
+            assert_eq!(rt; done, stop > 9);
             let opened = run_well(&rt, alloc, "", crash(first.finish.disk, pick)?)?;
             let sealed = opened.text.as_slice() == b"durable 1|".as_slice();
             assert!(rt; sealed || (!done && opened.text.as_slice() == b"durable 0|".as_slice()));

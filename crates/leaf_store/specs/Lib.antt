@@ -1,5 +1,0 @@
-pub mod Leaves
-pub mod Answers
-pub mod Steps
-pub mod Loading
-pub mod Reading

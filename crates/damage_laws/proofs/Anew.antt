@@ -56,7 +56,7 @@ anew_law region_len entry parts old new calls rows number g versions whole b =
 -- ---- a node that is loaded again
 
 pub reload_law : ReloadLaw
-reload_law region_len entry parts old new calls rows number g one versions whole fine l = same_law region_len entry parts old new calls rows g (record { bucket = l.bucket; each = λ n here. each n here (n == number) refl })
+reload_law region_len entry parts old new calls rows number g versions whole fine l = same_law region_len entry parts old new calls rows g (record { bucket = l.bucket; each = λ n here. each n here (n == number) refl })
   where
     id : NodeId
     id = record { bucket = old.bucket; number = number }
@@ -79,7 +79,7 @@ reload_law region_len entry parts old new calls rows number g one versions whole
         → FindsMerged region_len entry parts id c ⊎ (c ≡ (node.Broken, 0)) → replay again own ≡ replay c own
     both again of_again left (inl broken) is found = of_whole again c broken left
     both again of_again left (inr not_again) (inl broken) found = sym (of_whole c again broken whole)
-    both again of_again left (inr not_again) (inr not_c) (inl found) = ap (λ x. replay x own) (both_law region_len entry parts id c again one found not_c of_again not_again)
+    both again of_again left (inr not_again) (inr not_c) (inl found) = ap (λ x. replay x own) (both_law region_len entry parts id c again found not_c of_again not_again)
     both again of_again left (inr not_again) (inr not_c) (inr none) = absurd (not_c (ap (λ x. x.0) none))
 
     loaded : FoundOn region_len entry parts id l.sealed (given new number) → given new number ≡ replay c own

@@ -1,6 +1,6 @@
--- A content that was found is found again, where each part has one list of rows at most.
-use Rattle.std.proofs.Common.{◌≡◌, ◌≢◌, ◌⊎◌, inl, inr, ℕ, true, ◌||◌, List, [], ◌∷◌, ◌++◌, map, refl, sym, ap, subst, ◌∙◌, true≢false, arith}
-use Rattle.std.specs.Prelude.{IsTrue, flat_map}
+-- In each part one list of rows is found, so that a content that was found is found again.
+use Rattle.std.proofs.Common.{◌≡◌, ◌≢◌, ◌⊎◌, inl, inr, ℕ, true, ◌||◌, List, [], ◌∷◌, ◌++◌, map, Option, Some, None, Ok, refl, sym, ap, subst, ◌∙◌, true≢false, arith}
+use Rattle.std.specs.Prelude.{IsTrue, Result, flat_map}
 use Rattle.std.specs.List.{AllByRecursion, list_any}
 use Rattle.std.proofs.lemmas.Grind.{flat_map-append}
 use Rattle.std.proofs.lemmas.List.Folds.{list_any-append}
@@ -9,23 +9,50 @@ use Rattle.fine_model.specs.declared.Node.TheVariants as node
 use Rattle.fine_model.specs.declared.NodeId.{NodeId}
 use Rattle.fine_model.specs.declared.Part.{Part}
 use Rattle.fine_model.specs.declared.Row.{Row}
+use Rattle.fine_model.specs.declared.Header.{Header}
 use Rattle.fine_model.specs.Damages.{FindsMerged, FindsRows, HasEntryWith, LacksEntry, has_image_first}
 use Rattle.fine_model.specs.Merge.{is_image, starts_afresh}
 use Rattle.fine_model.specs.Nodes.{Content, base, replay, step}
 use Rattle.fine_model.specs.Regions.{Image, body_in}
-use Rattle.fine_model.specs.RowBytes.{FitsRow}
+use Rattle.fine_model.specs.RowBytes.{FitsRow, row_bytes, rows_bytes}
+use Rattle.fine_model.specs.Seek.{RowSpan, SpanHolds, span_at}
 use Rattle.fine_model.proofs.MergeLaws.{IsBase, fresh_rows}
 use Rattle.fine_model.proofs.NodeLaws.{replay-append}
+use Rattle.fine_model.proofs.Spelling.{flat_spelling, row_spelling}
 use Rattle.fine_model.proofs.Zip.{all_left, all_right}
 use Rattle.node_fetch.proofs.Parts.{forgets}
-use Rattle.damage_laws.specs.Again.{AgainLaw, BothLaw, GoodOnce, IsDetermined, KeptOnce}
-use Rattle.damage_laws.proofs.Kept.{found_law}
+use Rattle.damage_laws.specs.Again.{AgainLaw, BothLaw, OnceLaw}
 
-pub good_law : GoodOnce
-good_law region_len image id p rows has sealed = λ a b f g. f.exact rows has sealed ∙ sym (g.exact rows has sealed)
+-- a span holds one list of rows at most
+span_once : (header : Header) (body : List ℕ) (span : RowSpan) (id : NodeId) (a b : List Row) → SpanHolds header body span id a → SpanHolds header body span id b → a ≡ b
+unfolding rows_bytes
+span_once header body span id a b h k =
+    let f = h.begins in
+    let g = k.begins in
+    let both = flat_spelling row_bytes (FitsRow header.mark) (row_spelling header.mark) a b [] [] (h.all ∙ sym k.all) f.fit g.fit (sym f.spelled ∙ g.spelled) in both.0
 
-pub kept_law : KeptOnce
-kept_law region_len entry now id p u one = λ a b f g. one a b (found_law region_len entry now p id a u f) (found_law region_len entry now p id b u g)
+-- and the search comes to one entry
+entry_once : (header : Header) (body : List ℕ) (id : NodeId) (a b : List Row) → HasEntryWith header body id a → HasEntryWith header body id b → a ≡ b
+entry_once header body id a b h k =
+    let entries : ◌≡◌ {A = Result (Option ℕ) ℕ} (Ok (Some h.entry)) (Ok (Some k.entry)) = sym h.sought ∙ k.sought in
+    let same : h.entry ≡ k.entry = cc in
+    let spans : ◌≡◌ {A = Result RowSpan ℕ} (Ok h.span) (Ok k.span) = sym h.is_span ∙ ap (span_at header body) same ∙ k.is_span in
+    let span : h.span ≡ k.span = cc in span_once header body k.span id a b (subst (λ s. SpanHolds header body s id a) span h.holds) k.holds
+
+pub once_law : OnceLaw
+once_law region_len image id p a b f g = by f.found g.found
+  where
+    body : List ℕ
+    body = body_in image p.region p.header
+
+    never : (rows : List Row) → LacksEntry p.header body id → HasEntryWith p.header body id rows → ⊥
+    never rows l h = let clash : ◌≡◌ {A = Result (Option ℕ) ℕ} (Ok None) (Ok (Some h.entry)) = sym l.sought ∙ h.sought in cc
+
+    by : ((a ≡ []) × LacksEntry p.header body id) ⊎ HasEntryWith p.header body id a → ((b ≡ []) × LacksEntry p.header body id) ⊎ HasEntryWith p.header body id b → a ≡ b
+    by (inl x) (inl y) = x.0 ∙ sym y.0
+    by (inl x) (inr k) = absurd (never b x.1 k)
+    by (inr h) (inl y) = absurd (never a y.1 h)
+    by (inr h) (inr k) = entry_once p.header body id a b h k
 
 head_same : {A : Type 0} (x y : A) (xs ys : List A) → x ∷ xs ≡ y ∷ ys → x ≡ y
 head_same x y xs ys e = cc
@@ -78,18 +105,18 @@ module _ (region_len : ℕ) (image : Image) (id : NodeId) where
     of_back = c.of_back;
   }
 
-  same_rows : (parts : List Part) (a b : List (Part × List Row)) → AllByRecursion (IsDetermined region_len image id) parts → map (λ r. r.0) a ≡ parts → map (λ r. r.0) b ≡ parts
+  same_rows : (parts : List Part) (a b : List (Part × List Row)) → map (λ r. r.0) a ≡ parts → map (λ r. r.0) b ≡ parts
       → AllByRecursion (λ r. FindsRows region_len image id r.0 r.1) a → AllByRecursion (λ r. FindsRows region_len image id r.0 r.1) b → flat_map (λ r. r.1) a ≡ flat_map (λ r. r.1) b
-  same_rows [] [] [] one e e' found found' = refl
-  same_rows [] (r ∷ a) b one e e' found found' = absurd (not_empty r.0 (map (λ r. r.0) a) e)
-  same_rows [] [] (s ∷ b) one e e' found found' = absurd (not_empty s.0 (map (λ r. r.0) b) e')
-  same_rows (p ∷ parts) [] b one e e' found found' = absurd (not_empty p parts (sym e))
-  same_rows (p ∷ parts) (r ∷ a) [] one e e' found found' = absurd (not_empty p parts (sym e'))
-  same_rows (p ∷ parts) (r ∷ a) (s ∷ b) one e e' found found' =
+  same_rows [] [] [] e e' found found' = refl
+  same_rows [] (r ∷ a) b e e' found found' = absurd (not_empty r.0 (map (λ r. r.0) a) e)
+  same_rows [] [] (s ∷ b) e e' found found' = absurd (not_empty s.0 (map (λ r. r.0) b) e')
+  same_rows (p ∷ parts) [] b e e' found found' = absurd (not_empty p parts (sym e))
+  same_rows (p ∷ parts) (r ∷ a) [] e e' found found' = absurd (not_empty p parts (sym e'))
+  same_rows (p ∷ parts) (r ∷ a) (s ∷ b) e e' found found' =
       let of_r : FindsRows region_len image id p r.1 = subst (λ q. FindsRows region_len image id q r.1) (head_same r.0 p (map (λ r. r.0) a) parts e) found.0 in
       let of_s : FindsRows region_len image id p s.1 = subst (λ q. FindsRows region_len image id q s.1) (head_same s.0 p (map (λ r. r.0) b) parts e') found'.0 in
-      let here = one.0 r.1 s.1 of_r of_s in
-      let behind = same_rows parts a b one.1 (tail_same r.0 p (map (λ r. r.0) a) parts e) (tail_same s.0 p (map (λ r. r.0) b) parts e') found.1 found'.1 in
+      let here = once_law region_len image id p r.1 s.1 of_r of_s in
+      let behind = same_rows parts a b (tail_same r.0 p (map (λ r. r.0) a) parts e) (tail_same s.0 p (map (λ r. r.0) b) parts e') found.1 found'.1 in
       λ i. here i ++ behind i
 
   -- rows that are found have versions from 1 on
@@ -119,7 +146,7 @@ module _ (region_len : ℕ) (image : Image) (id : NodeId) where
   first_read [] image = absurd (true≢false (sym image))
   first_read (r ∷ read) image = list_any-append (λ row. is_image row.rec) r.1 (flat_map (λ r. r.1) read) ∙ ap (λ b. b || list_any (λ row. is_image row.rec) (flat_map (λ r. r.1) read)) image
 
-  module _ (parts : List Part) (one : AllByRecursion (IsDetermined region_len image id) parts) where
+  module _ (parts : List Part) where
     -- more was read the second time: what was read before begins with all parts, or forgets what stands before it
     longer : (skipped skipped' : List Part) (read read' : List (Part × List Row)) → parts ≡ skipped ++ map (λ r. r.0) read → AllByRecursion (λ r. FindsRows region_len image id r.0 r.1) read
         → AllByRecursion (λ r. FindsRows region_len image id r.0 r.1) read' → (l : IsLonger skipped skipped' (map (λ r. r.0) read) (map (λ r. r.0) read'))
@@ -137,7 +164,7 @@ module _ (region_len : ℕ) (image : Image) (id : NodeId) where
         all = subst (AllByRecursion (λ r. FindsRows region_len image id r.0 r.1)) c.whole found'
 
         same : flat_map (λ r. r.1) read ≡ flat_map (λ r. r.1) c.rest
-        same = same_rows (map (λ r. r.0) read) read c.rest (all_right (IsDetermined region_len image id) skipped (map (λ r. r.0) read) (subst (AllByRecursion (IsDetermined region_len image id)) whole one)) refl c.of_back
+        same = same_rows (map (λ r. r.0) read) read c.rest refl c.of_back
             found (all_right (λ r. FindsRows region_len image id r.0 r.1) c.first c.rest all)
 
         laid_out : replay (base id) (flat_map (λ r. r.1) read') ≡ replay (replay (base id) (flat_map (λ r. r.1) c.first)) (flat_map (λ r. r.1) read)
@@ -152,10 +179,10 @@ module _ (region_len : ℕ) (image : Image) (id : NodeId) where
         none_or (r ∷ first) mid e = inr (λ none. not_empty r.0 (map (λ r. r.0) first) (e ∙ none))
 
 -- Of two that were found, and are not broken, the one by which more parts were read is the other.
-module _ (region_len : ℕ) (image : Image) (id : NodeId) (parts : List Part) (one : AllByRecursion (IsDetermined region_len image id) parts) (found other : Content) (f : FindsMerged region_len image parts id found) (g : FindsMerged region_len image parts id other) (fine : found.0 ≢ node.Broken) where
+module _ (region_len : ℕ) (image : Image) (id : NodeId) (parts : List Part) (found other : Content) (f : FindsMerged region_len image parts id found) (g : FindsMerged region_len image parts id other) (fine : found.0 ≢ node.Broken) where
   less_read : IsLonger g.skipped f.skipped (map (λ r. r.0) g.read) (map (λ r. r.0) f.read) → other ≡ found
   unfolding replay
-  less_read l = g.replayed ∙ sym (longer region_len image id parts one g.skipped f.skipped g.read f.read g.whole g.each f.each l (λ rest first is of_first some laid_out. by rest first is of_first g.why some laid_out)) ∙ sym f.replayed
+  less_read l = g.replayed ∙ sym (longer region_len image id parts g.skipped f.skipped g.read f.read g.whole g.each f.each l (λ rest first is of_first some laid_out. by rest first is of_first g.why some laid_out)) ∙ sym f.replayed
     where
       of_fresh : (rest : List Row) (first : List (Part × List Row)) → (replay (replay (base id) (flat_map (λ r. r.1) first)) rest ≡ replay (base id) rest) ⊎ ((replay (replay (base id) (flat_map (λ r. r.1) first)) rest).0 ≡ node.Broken)
           → ((replay (replay (base id) (flat_map (λ r. r.1) first)) rest).0 ≢ node.Broken) → replay (replay (base id) (flat_map (λ r. r.1) first)) rest ≡ replay (base id) rest
@@ -174,15 +201,15 @@ module _ (region_len : ℕ) (image : Image) (id : NodeId) (parts : List Part) (o
           (λ broken. fine (ap (λ c. c.0) (f.replayed ∙ laid_out) ∙ broken))
 
 pub both_law : BothLaw
-both_law region_len image parts id found other one f fine g fine' = by (cut_twice f.skipped g.skipped (map (λ r. r.0) f.read) (map (λ r. r.0) g.read) (sym f.whole ∙ g.whole))
+both_law region_len image parts id found other f fine g fine' = by (cut_twice f.skipped g.skipped (map (λ r. r.0) f.read) (map (λ r. r.0) g.read) (sym f.whole ∙ g.whole))
   where
     by : IsLonger f.skipped g.skipped (map (λ r. r.0) f.read) (map (λ r. r.0) g.read) ⊎ IsLonger g.skipped f.skipped (map (λ r. r.0) g.read) (map (λ r. r.0) f.read) → other ≡ found
-    by (inl l) = sym (less_read region_len image id parts one other found g f fine' l)
-    by (inr l) = less_read region_len image id parts one found other f g fine l
+    by (inl l) = sym (less_read region_len image id parts other found g f fine' l)
+    by (inr l) = less_read region_len image id parts found other f g fine l
 
 pub again_law : AgainLaw
 unfolding replay
-again_law region_len image parts id found other one f fine g = by (cut_twice f.skipped g.skipped (map (λ r. r.0) f.read) (map (λ r. r.0) g.read) (sym f.whole ∙ g.whole))
+again_law region_len image parts id found other f fine g = by (cut_twice f.skipped g.skipped (map (λ r. r.0) f.read) (map (λ r. r.0) g.read) (sym f.whole ∙ g.whole))
   where
     by_first : (l : IsLonger f.skipped g.skipped (map (λ r. r.0) f.read) (map (λ r. r.0) g.read)) → (rest : List Row) (first : List (Part × List Row)) → flat_map (λ r. r.1) f.read ≡ rest
         → (f.skipped ≡ []) ⊎ IsTrue (has_image_first f.read) → (first ≡ []) ⊎ (l.mid ≡ [] → ⊥) → replay (replay (base id) (flat_map (λ r. r.1) first)) rest ≡ replay (base id) rest
@@ -196,5 +223,5 @@ again_law region_len image parts id found other one f fine g = by (cut_twice f.s
     either (inr image_first) = inr (inl image_first)
 
     by : IsLonger f.skipped g.skipped (map (λ r. r.0) f.read) (map (λ r. r.0) g.read) ⊎ IsLonger g.skipped f.skipped (map (λ r. r.0) g.read) (map (λ r. r.0) f.read) → other ≡ found
-    by (inl l) = g.replayed ∙ longer region_len image id parts one f.skipped g.skipped f.read g.read f.whole f.each g.each l (λ rest first is of_first some laid_out. by_first l rest first is f.why some) ∙ sym f.replayed
-    by (inr l) = less_read region_len image id parts one found other (record { skipped = f.skipped; read = f.read; whole = f.whole; each = f.each; why = either f.why; replayed = f.replayed }) g fine l
+    by (inl l) = g.replayed ∙ longer region_len image id parts f.skipped g.skipped f.read g.read f.whole f.each g.each l (λ rest first is of_first some laid_out. by_first l rest first is f.why some) ∙ sym f.replayed
+    by (inr l) = less_read region_len image id parts found other (record { skipped = f.skipped; read = f.read; whole = f.whole; each = f.each; why = either f.why; replayed = f.replayed }) g fine l

@@ -21,7 +21,8 @@ use Rattle.partition_index.specs.Search.{TellsRows, span_for}
 use Rattle.partition_index.proofs.Exact.{holds_rows}
 use Rattle.partition_index.proofs.InGrammar.{HoldsRows, entry_is, entry_stands, span_is}
 use Rattle.partition_index.proofs.InSpan.{own_in_span}
-use Rattle.partition_index.proofs.Sorted.{Stands}
+use Rattle.partition_index.proofs.Halving.{AreAround, around_sought}
+use Rattle.partition_index.proofs.Sorted.{Stands, ascend_at}
 use Rattle.damage_laws.specs.Made.{KeptRowsLaw, SealedRowsLaw}
 use Rattle.damage_laws.proofs.Kept.{found_law}
 
@@ -109,8 +110,44 @@ module _ (eye : Eye) (p : Part) (rows : List Row) (id : NodeId) (seen : IsSeen e
   entry_node : (i : ℕ) → i < length (nodes_in rows) → (entry_at p.header body i).node ≡ get_or (nodes_in rows) i id
   entry_node i low = let there : i < p.header.nodes = omega (arith, low, held.nodes) in ap (λ e. e.node) (entry_is p.header body rows held i id there)
 
+  -- the entries below and above the node's own, or its place
+  below_at : (i j : ℕ) → i < j → j < length (nodes_in rows) → is_node_below (get_or (nodes_in rows) i id) (get_or (nodes_in rows) j id) ≡ true
+  below_at i j low there = ascend_at (nodes_in rows) i j id (nodes_ascend rows) low there
+
+  around_own : (s : Stands id (nodes_in rows)) → AreAround p.header body id s.at 1
+  around_own s = record {
+    good = λ i here. entry_good i (omega (arith, here, held.nodes));
+    below = λ i low here.
+        (let there : i < length (nodes_in rows) = omega (arith, here, held.nodes) in
+        ap (λ n. is_node_below n id) (entry_node i there) ∙ subst (λ n. is_node_below (get_or (nodes_in rows) i id) n ≡ true) (s.is id) (below_at i s.at low s.there));
+    at = λ i low high. let same : i ≡ s.at = omega (arith, low, high) in ap (λ k. (entry_at p.header body k).node) same ∙ entry_node s.at s.there ∙ s.is id;
+    above = λ i low here.
+        (let there : i < length (nodes_in rows) = omega (arith, here, held.nodes) in
+        ap (is_node_below id) (entry_node i there) ∙ subst (λ n. is_node_below n (get_or (nodes_in rows) i id) ≡ true) (s.is id) (below_at s.at i (omega (arith, low)) there));
+  }
+
+  around_none : (s : IsPlaced id (nodes_in rows)) → AreAround p.header body id s.number 0
+  around_none s = record {
+    good = λ i here. entry_good i (omega (arith, here, held.nodes));
+    below = λ i low here. let there : i < length (nodes_in rows) = omega (arith, here, held.nodes) in ap (λ n. is_node_below n id) (entry_node i there) ∙ by_before i low s.before (cases_lt i (s.number - 1));
+    at = λ i low high. absurd (omega (arith, low, high));
+    above = λ i low here. let there : i < length (nodes_in rows) = omega (arith, here, held.nodes) in ap (is_node_below id) (entry_node i there) ∙ by_behind i (omega (arith, low)) there s.behind (cases_lt s.number i);
+  }
+    where
+      by_before : (i : ℕ) → i < s.number → (s.number ≡ 0) ⊎ (is_node_below (get_or (nodes_in rows) (s.number - 1) id) id ≡ true) → (i < s.number - 1) ⊎ (s.number - 1 ≤ i) → is_node_below (get_or (nodes_in rows) i id) id ≡ true
+      by_before i low (inl none) rest = absurd (omega (arith, low, none))
+      by_before i low (inr below) (inl lower) =
+          below-trans (get_or (nodes_in rows) i id) (get_or (nodes_in rows) (s.number - 1) id) id (below_at i (s.number - 1) lower (omega (arith, lower, s.within))) below
+      by_before i low (inr below) (inr last) = let same : s.number - 1 ≡ i = omega (arith, low, last) in subst (λ k. is_node_below (get_or (nodes_in rows) k id) id ≡ true) same below
+
+      by_behind : (i : ℕ) → s.number ≤ i → i < length (nodes_in rows) → (s.number ≡ length (nodes_in rows)) ⊎ (is_node_below id (get_or (nodes_in rows) s.number id) ≡ true) → (s.number < i) ⊎ (i ≤ s.number)
+          → is_node_below id (get_or (nodes_in rows) i id) ≡ true
+      by_behind i low there (inl end) rest = absurd (omega (arith, low, there, end))
+      by_behind i low there (inr above) (inl higher) = below-trans id (get_or (nodes_in rows) s.number id) (get_or (nodes_in rows) i id) above (below_at s.number i higher there)
+      by_behind i low there (inr above) (inr first) = let same : s.number ≡ i = omega (arith, low, first) in subst (λ k. is_node_below id (get_or (nodes_in rows) k id) ≡ true) same above
+
   lacks : IsPlaced id (nodes_in rows) → LacksEntry p.header body id
-  lacks s = record { number = s.number; within = omega (arith, s.within, held.nodes); before = by_before (cases_lt 0 s.number) s.before; behind = by_behind (cases_lt s.number (length (nodes_in rows))) s.behind }
+  lacks s = record { number = s.number; within = omega (arith, s.within, held.nodes); before = by_before (cases_lt 0 s.number) s.before; behind = by_behind (cases_lt s.number (length (nodes_in rows))) s.behind; sought = around_sought p.header body id s.number 0 (around_none s) (omega arith) (omega (arith, s.within, held.nodes)) }
     where
       by_before : (0 < s.number) ⊎ (s.number ≤ 0) → (s.number ≡ 0) ⊎ (is_node_below (get_or (nodes_in rows) (s.number - 1) id) id ≡ true)
           → (s.number ≡ 0) ⊎ ((is_entry p.header (entry_at p.header body (s.number - 1)) ≡ true) × (is_node_below (entry_at p.header body (s.number - 1)).node id ≡ true))
@@ -134,6 +171,7 @@ module _ (eye : Eye) (p : Part) (rows : List Row) (id : NodeId) (seen : IsSeen e
     span = row_span_of (span_for rows id);
     is_span = span_is p.header body rows held s.at id there ∙ ap (λ n. Ok (row_span_of (span_for rows n))) (s.is id);
     holds = own_in_span eye p rows id seen t;
+    sought = around_sought p.header body id s.at 1 (around_own s) (omega arith) (omega (arith, there));
   }
 
   pub good_finds : FindsRows eye.region_len t.image id p (rows_of id rows)

@@ -8,40 +8,30 @@ use Rattle.fine_model.specs.declared.Part.{Part}
 use Rattle.fine_model.specs.declared.Row.{Row}
 use Rattle.fine_model.specs.Damages.{FindsContent, FindsMerged, FindsRows, with_rows}
 use Rattle.fine_model.specs.Nodes.{Content}
-use Rattle.fine_model.specs.Regions.{Image, HasHeader, IsSealed}
+use Rattle.fine_model.specs.Regions.{Image}
 use Rattle.node_cache.specs.Cache.{Cache}
 use Rattle.node_cache.specs.Given.{given}
-use Rattle.btree_nodes.specs.Trees.{node_at}
 use Rattle.damage_laws.specs.Meets.{GivesOn, LoadsFrom}
-use Rattle.damage_laws.specs.Places.{IsUnchanged}
 
--- one list of rows is found of a node in a part, at most
-abbrev pub IsDetermined : ℕ → Image → NodeId → Part → Type 0
-IsDetermined region_len image id p = (rows rows' : List Row) → FindsRows region_len image id p rows → FindsRows region_len image id p rows' → rows ≡ rows'
+-- One list of rows is found of a node in a part, at most, whatever its bytes are.
+abbrev pub OnceLaw : Type 0
+OnceLaw = (region_len : ℕ) (image : Image) (id : NodeId) (p : Part) (rows rows' : List Row) → FindsRows region_len image id p rows → FindsRows region_len image id p rows' → rows ≡ rows'
 
--- so it is of a part in the grammar
-abbrev pub GoodOnce : Type 0
-GoodOnce = (region_len : ℕ) (image : Image) (id : NodeId) (p : Part) (rows : List Row) → HasHeader region_len image p.region p.header → IsSealed region_len image p.region p.header.range rows → IsDetermined region_len image id p
-
--- and of a part that is unchanged, where it was so at entry
-abbrev pub KeptOnce : Type 0
-KeptOnce = (region_len : ℕ) (entry now : Image) (id : NodeId) (p : Part) → IsUnchanged region_len entry now p → IsDetermined region_len entry id p → IsDetermined region_len now id p
-
--- Where it is so of all parts, a content that was found and is not broken is found again, whatever neighbours were merged since.
+-- So a content that was found and is not broken is found again, whatever neighbours were merged since.
 abbrev pub AgainLaw : Type 0
 AgainLaw =
-    (region_len : ℕ) (image : Image) (parts : List Part) (id : NodeId) (found again : Content) → AllByRecursion (IsDetermined region_len image id) parts
+    (region_len : ℕ) (image : Image) (parts : List Part) (id : NodeId) (found again : Content)
     → FindsContent region_len image parts id found → found.0 ≢ node.Broken → FindsMerged region_len image parts id again → again ≡ found
 
 -- and two contents that were found so, and are not broken, are the same
 abbrev pub BothLaw : Type 0
 BothLaw =
-    (region_len : ℕ) (image : Image) (parts : List Part) (id : NodeId) (found other : Content) → AllByRecursion (IsDetermined region_len image id) parts
+    (region_len : ℕ) (image : Image) (parts : List Part) (id : NodeId) (found other : Content)
     → FindsMerged region_len image parts id found → found.0 ≢ node.Broken → FindsMerged region_len image parts id other → other.0 ≢ node.Broken → other ≡ found
 
 -- So a node that is loaded again is what it was, where neither is broken: the bucket gives what it gave.
 abbrev pub ReloadLaw : Type 0
 ReloadLaw =
     (region_len : ℕ) (entry : Image) (parts : List Part) (old new : Cache) (calls : List Call) (rows : List Row) (number : ℕ) (g : GivesOn region_len entry parts old calls rows)
-    → AllByRecursion (IsDetermined region_len entry (node_at old number)) parts → AllByRecursion (λ row. row.version ≢ 0) rows → (with_rows old.bucket g.nodes rows number).0 ≢ node.Broken → (given new number).0 ≢ node.Broken
+    → AllByRecursion (λ row. row.version ≢ 0) rows → (with_rows old.bucket g.nodes rows number).0 ≢ node.Broken → (given new number).0 ≢ node.Broken
     → LoadsFrom region_len entry parts old new rows number → GivesOn region_len entry parts new calls rows

@@ -1,6 +1,6 @@
 //! Laws of damage that a run meets, each the contract of a function that does nothing.
 
-ghost use Rattle.damage_laws.specs.Again.{AgainLaw, BothLaw, GoodOnce, KeptOnce, ReloadLaw};
+ghost use Rattle.damage_laws.specs.Again.{AgainLaw, BothLaw, OnceLaw, ReloadLaw};
 ghost use Rattle.damage_laws.specs.Goings.{GoesOnLaw, LoadLaw, MoreLaw};
 ghost use Rattle.damage_laws.specs.Looks.{KeyLaw, LookLaw, ScanLaw};
 ghost use Rattle.damage_laws.specs.Made.{FetchLaw, JoinedLaw, KeptLaw, KeptRowsLaw, MergedLaw, SealedLaw, SealedRowsLaw};
@@ -70,11 +70,10 @@ pub fn open_law()
     ensures undone { UndoneLaw }
 {}
 
-/// In a part in the grammar one list of rows is found of a node, at most, and so in one that is unchanged, where it was so at entry. Where it is so of all parts, a content that was found and is not broken is found
-/// again, whatever neighbours were merged since; and a node that a bucket loads again is what it was, where neither is broken.
+/// One list of rows is found of a node in a part, at most, be the part in the grammar or not. So a content that was found and is not broken is found again, whatever
+/// neighbours were merged since; and a node that a bucket loads again is what it was, where neither is broken.
 pub fn again_law()
-    ensures good { GoodOnce }
-    ensures kept { KeptOnce }
+    ensures once { OnceLaw }
     ensures again { AgainLaw }
     ensures both { BothLaw }
     ensures reload { ReloadLaw }

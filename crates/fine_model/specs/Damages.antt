@@ -14,7 +14,7 @@ use Rattle.fine_model.specs.Laws.{AreSmall}
 use Rattle.fine_model.specs.Trees.{IsSound, bucket_of, nodes_of}
 use Rattle.fine_model.specs.Paths.{unfit_under, unfit_between}
 use Rattle.fine_model.specs.Regions.{Image, Place, place_of, body_in, HasHeader, HoldsBadItem, IsSealed}
-use Rattle.fine_model.specs.Seek.{RowSpan, entry_at, is_entry, span_at, SpanHolds, IsBadInSpan}
+use Rattle.fine_model.specs.Seek.{RowSpan, entry_at, is_entry, sought_entry, span_at, SpanHolds, IsBadInSpan}
 use Rattle.fine_model.specs.Chain.{chain, chain_end, Shows}
 use Rattle.fine_model.specs.History.{Commit, last_epoch}
 use Rattle.fine_model.specs.Outcomes.{AreOutcomes, AllRun}
@@ -58,14 +58,15 @@ HasBadPlace region_len image parts place = (p : Part) × Contains parts p × IsB
 -- ---- nodes
 
 -- An index without a node, as a search sees it: there is a number before whose entry one stands that names a lower node, and whose own
--- entry names a higher one, as far as there are entries.
+-- entry names a higher one, as far as there are entries. The search comes to none.
 pub record LacksEntry (header : Header) (body : List ℕ) (id : NodeId) : Type 0 where
   pub number : ℕ
   pub within : number ≤ header.nodes
   pub before : (number ≡ 0) ⊎ ((is_entry header (entry_at header body (number - 1)) ≡ true) × (is_node_below (entry_at header body (number - 1)).node id ≡ true))
   pub behind : (number ≡ header.nodes) ⊎ ((is_entry header (entry_at header body number) ≡ true) × (is_node_below id (entry_at header body number).node ≡ true))
+  pub sought : sought_entry header body id ≡ Ok None
 
--- the span of an entry that names a node is exactly these rows of it
+-- the span of the entry to which a search for a node comes, and which names it, is exactly these rows of it
 pub record HasEntryWith (header : Header) (body : List ℕ) (id : NodeId) (rows : List Row) : Type 0 where
   pub entry : ℕ
   pub there : entry < header.nodes
@@ -73,9 +74,10 @@ pub record HasEntryWith (header : Header) (body : List ℕ) (id : NodeId) (rows 
   pub span : RowSpan
   pub is_span : span_at header body entry ≡ Ok span
   pub holds : SpanHolds header body span id rows
+  pub sought : sought_entry header body id ≡ Ok (Some entry)
 
--- The rows of a node that a reader finds in a part: none, or those of an entry's span; in the grammar they are the node's rows there,
--- whatever other parts are.
+-- The rows of a node that a reader finds in a part: none, or those of an entry's span, as the search in its index decides, so that one list of rows is found at most; in
+-- the grammar they are the node's rows there, whatever other parts are.
 pub record FindsRows (region_len : ℕ) (image : Image) (id : NodeId) (p : Part) (rows : List Row) : Type 0 where
   pub found : ((rows ≡ []) × LacksEntry p.header (body_in image p.region p.header) id) ⊎ HasEntryWith p.header (body_in image p.region p.header) id rows
   pub exact : (own : List Row) → HasHeader region_len image p.region p.header → IsSealed region_len image p.region p.header.range own → rows ≡ rows_of id own

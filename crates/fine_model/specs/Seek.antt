@@ -1,8 +1,9 @@
 -- What a look into the index and a fetch of one node find, also in regions that are not in the grammar.
-use Rattle.std.specs.Prelude.{◌≡◌, ◌≢◌, ◌⊎◌, ℕ, ◌+◌, ◌-◌, ◌*◌, ◌<◌, ◌≤◌, nat_le, nat_lt, Bool, true, ◌&&◌, if◌then◌else◌, List, [], ◌∷◌, ◌++◌, length, take, drop, Result, Ok, Err}
+use Rattle.std.specs.Prelude.{◌≡◌, ◌≢◌, ◌⊎◌, ℕ, ◌+◌, ◌-◌, ◌*◌, ◌/◌, ◌<◌, ◌≤◌, zero, suc, nat_le, nat_lt, Bool, true, ◌&&◌, if◌then◌else◌, List, [], ◌∷◌, ◌++◌, length, take, drop, Option, None, Some, Result, Ok, Err}
 use Rattle.std.specs.List.{AllByRecursion}
 use Rattle.std.specs.Int.{w16, w32, w64, leading_zeros}
 use Rattle.fine_model.specs.Types.{NodeId, Row, Header}
+use Rattle.fine_model.specs.Merge.{is_node_below}
 use Rattle.fine_model.specs.RowBytes.{node_numbers, rows_bytes, rows_len, FitsRow, index_entry}
 use Rattle.fine_model.specs.Regions.{number_in, row_area}
 
@@ -58,6 +59,33 @@ span_at header body i =
     else Err (entry_place header i))
     else Err (entry_place header (i + 1)))
     else Err (entry_place header i)
+
+-- the number in the middle of two
+abbrev pub middle_of : ℕ → ℕ → ℕ
+middle_of low high = low + (high - low) / 2
+
+-- What a search by halves comes to by the i-th entry: this one is bad, or it names a lower node, and the search goes on above it, or a higher one, and it goes on
+-- below, or it is the one that was sought.
+abbrev pub turn_at : Header → List ℕ → NodeId → ℕ → Result (Option ℕ) ℕ → Result (Option ℕ) ℕ → Result (Option ℕ) ℕ
+turn_at header body id i above below =
+    if is_entry header (entry_at header body i)
+    then (if is_node_below (entry_at header body i).node id then above
+    else (if is_node_below id (entry_at header body i).node then below
+    else Ok (Some i)))
+    else Err (entry_place header i)
+
+-- the same from the middle of the numbers from one up to another, in so many turns at most
+unfoldable pub entry_between : ℕ → Header → List ℕ → NodeId → ℕ → ℕ → Result (Option ℕ) ℕ
+entry_between zero header body id low high = Ok None
+entry_between (suc turns) header body id low high =
+    if nat_lt low high
+    then turn_at header body id (middle_of low high) (entry_between turns header body id (middle_of low high + 1) high) (entry_between turns header body id low (middle_of low high))
+    else Ok None
+
+-- The number of the entry of a node that a look into an index finds, none, or the place in the body of the bad entry that it meets. In the grammar the order of the nodes
+-- decides this; in other bytes, where a node may be named by some entries and yet miss where it ought to stand, the way of the search alone does, so that the way is told here.
+abbrev pub sought_entry : Header → List ℕ → NodeId → Result (Option ℕ) ℕ
+sought_entry header body id = entry_between header.nodes header body id 0 header.nodes
 
 -- the bytes of a span
 abbrev pub span_bytes : Header → List ℕ → RowSpan → List ℕ

@@ -26,7 +26,7 @@ use Rattle.partition_index.specs.declared.entries.IndexEntry.{IndexEntry}
 use Rattle.partition_index.specs.declared.entries.Span.{Span}
 use Rattle.partition_index.specs.Entries.{row_span_of}
 use Rattle.partition_index.specs.Parts.{IsSeen}
-use Rattle.partition_index.specs.Search.{IsEntryAt, IsSpanOf, LacksNode, span_for}
+use Rattle.partition_index.specs.Search.{IsEntryAt, IsSoughtSpan, LacksNode, span_for}
 use Rattle.partition_index.proofs.Exact.{holds_rows}
 use Rattle.partition_index.proofs.InGrammar.{entry_is, span_is}
 use Rattle.partition_index.proofs.InSpan.{own_in_span}
@@ -45,7 +45,7 @@ module _ (image : Image) (p : Part) (id : NodeId) where
   body = body_in image p.region p.header
 
   lacks : LacksNode (Some image) p id → LacksEntry p.header body id
-  lacks l = record { number = l.number; within = l.within; before = before l.before; behind = behind l.behind }
+  lacks l = record { number = l.number; within = l.within; before = before l.before; behind = behind l.behind; sought = l.sought }
     where
       before : (l.number ≡ 0) ⊎ ((entry : IndexEntry) × IsEntryAt (Some image) p (l.number - 1) entry × (is_node_below entry.node id ≡ true))
           → (l.number ≡ 0) ⊎ ((is_entry p.header (entry_at p.header body (l.number - 1)) ≡ true) × (is_node_below (entry_at p.header body (l.number - 1)).node id ≡ true))
@@ -57,14 +57,15 @@ module _ (image : Image) (p : Part) (id : NodeId) where
       behind (inl none) = inl none
       behind (inr (entry, at, high)) = inr (subst (λ m. is_entry p.header m ≡ true) (sym at.told) at.sound, subst (λ m. is_node_below id m.node ≡ true) (sym at.told) high)
 
-  has_entry : (span : Span) (rows : List Row) → IsSpanOf (Some image) p id span → HoldsRows (Some image) p id span rows → HasEntryWith p.header body id rows
+  has_entry : (span : Span) (rows : List Row) → IsSoughtSpan (Some image) p id span → HoldsRows (Some image) p id span rows → HasEntryWith p.header body id rows
   has_entry span rows is h = record {
-    entry = is.entry;
-    there = is.there;
-    names = is.names;
+    entry = is.is_span.entry;
+    there = is.is_span.there;
+    names = is.is_span.names;
     span = row_span_of span;
-    is_span = is.is_span.told;
+    is_span = is.is_span.is_span.told;
     holds = subst (λ b. SpanHolds p.header b (row_span_of span) id rows) h.is_body h.holds;
+    sought = is.sought;
   }
 
   finds : (eye : Eye) (rows : List Row) → eye.told ≡ Some image → ReadsRows eye id p rows → FindsRows eye.region_len image id p rows
@@ -73,9 +74,9 @@ module _ (image : Image) (p : Part) (id : NodeId) where
     exact = λ own has sealed. r.exact own (record { image = image; told = told; sealed = sealed; of_part = same_header eye.region_len image p own sealed has });
   }
     where
-      by : ((rows ≡ []) × LacksNode eye.told p id) ⊎ ((span : Span) × IsSpanOf eye.told p id span × HoldsRows eye.told p id span rows) → ((rows ≡ []) × LacksEntry p.header body id) ⊎ HasEntryWith p.header body id rows
+      by : ((rows ≡ []) × LacksNode eye.told p id) ⊎ ((span : Span) × IsSoughtSpan eye.told p id span × HoldsRows eye.told p id span rows) → ((rows ≡ []) × LacksEntry p.header body id) ⊎ HasEntryWith p.header body id rows
       by (inl (none, l)) = inl (none, lacks (subst (λ k. LacksNode k p id) told l))
-      by (inr (span, is, h)) = inr (has_entry span rows (subst (λ k. IsSpanOf k p id span) told is) (subst (λ k. HoldsRows k p id span rows) told h))
+      by (inr (span, is, h)) = inr (has_entry span rows (subst (λ k. IsSoughtSpan k p id span) told is) (subst (λ k. HoldsRows k p id span rows) told h))
 
 pub found_law : FoundLaw
 found_law eye image parts id found told r = record {

@@ -13,7 +13,7 @@ use Rattle.partition_index.specs.declared.entries.Span.{Span}
 use Rattle.partition_index.specs.declared.entries.SeekFault.{SeekFault}
 use Rattle.partition_index.specs.declared.entries.SeekFault.TheVariants as fault
 use Rattle.partition_index.specs.Parts.{SameEye}
-use Rattle.partition_index.specs.Search.{TellsRows, IsSpanOf, IsBadAt, LacksNode, sought, span_for}
+use Rattle.partition_index.specs.Search.{TellsRows, IsSoughtSpan, IsBadAt, LacksNode, sought, span_for}
 use Rattle.fine_model.specs.declared.FetchFault.{FetchFault}
 use Rattle.node_fetch.specs.Fetched.{HoldsRows, ReadsRows, NoDamage}
 
@@ -60,7 +60,7 @@ pub span_taken : (old mid new most : ℕ) (rows : List Row) (id : NodeId) (span 
 span_taken old mid new most rows id span is a b = omega (arith, a, b, ap (λ s. s.end) is, ap (λ s. s.at) is)
 
 -- the rows that a span holds are what is read of a part
-pub read_found : (r : Result (List Row) FetchFault) (eye now : Eye) (id : NodeId) (p : Part) (span : Span) → SameEye eye now → IsSpanOf eye.told p id span → IfOk r (HoldsRows now.told p id span)
+pub read_found : (r : Result (List Row) FetchFault) (eye now : Eye) (id : NodeId) (p : Part) (span : Span) → SameEye eye now → IsSoughtSpan eye.told p id span → IfOk r (HoldsRows now.told p id span)
     → ((own : List Row) → TellsRows eye p own → MatchResult r (λ rows. rows ≡ rows_of id own) NoDamage) → IfOk r (ReadsRows eye id p)
 read_found (Ok rows) eye now id p span same is h exact = record { read = inr (span, is, subst (λ known. HoldsRows known p id span rows) same.told h); exact = exact }
 read_found (Err e) eye now id p span same is h exact = tt
@@ -68,6 +68,6 @@ read_found (Err e) eye now id p span same is h exact = tt
 -- what was read through an eye that is the same but for its counts
 pub reads_same : (old new : Eye) (id : NodeId) (p : Part) (rows : List Row) → SameEye old new → ReadsRows new id p rows → ReadsRows old id p rows
 reads_same old new id p rows same r = record {
-  read = subst (λ (known : Option Image). ((rows ≡ []) × LacksNode known p id) ⊎ ((span : Span) × IsSpanOf known p id span × HoldsRows known p id span rows)) same.told r.read;
+  read = subst (λ (known : Option Image). ((rows ≡ []) × LacksNode known p id) ⊎ ((span : Span) × IsSoughtSpan known p id span × HoldsRows known p id span rows)) same.told r.read;
   exact = λ own t. r.exact own (tells_same old new p own same t);
 }

@@ -15,7 +15,7 @@ use Rattle.fine_model.specs.RowBytes.{rows_len}
 use Rattle.fine_model.specs.Seek.{SpanHolds, IsBadInSpan, most_taken}
 use Rattle.partition_index.specs.declared.entries.Span.{Span}
 use Rattle.partition_index.specs.Entries.{row_span_of}
-use Rattle.partition_index.specs.Search.{IfTold, IsSpanOf, IsBadAt, LacksNode, TellsRows}
+use Rattle.partition_index.specs.Search.{IfTold, IsSpanOf, IsSoughtSpan, IsBadAt, LacksNode, TellsRows}
 
 abbrev pub row_fault : Place → FetchFault
 row_fault place = fault.BadRow place.region place.at
@@ -55,10 +55,10 @@ pub record HasBadRow (known : Option Image) (region_len : ℕ) (part : Part) (id
   pub is_span : IsSpanOf known part id span
   pub is_bad : IsBadRowOf known region_len part id span place
 
--- What was read of a node's rows in a part: none, where its index has no entry of the node, or those of the span that an entry of the
--- node gives. Where the eye tells the part in the grammar, they are the node's rows there, whatever other parts are.
+-- What was read of a node's rows in a part: none, where the search in its index comes to no entry of the node, or those of the span of the entry
+-- to which it comes. Where the eye tells the part in the grammar, they are the node's rows there, whatever other parts are.
 pub record ReadsRows (eye : Eye) (id : NodeId) (part : Part) (rows : List Row) : Type 0 where
-  pub read : ((rows ≡ []) × LacksNode eye.told part id) ⊎ ((span : Span) × IsSpanOf eye.told part id span × HoldsRows eye.told part id span rows)
+  pub read : ((rows ≡ []) × LacksNode eye.told part id) ⊎ ((span : Span) × IsSoughtSpan eye.told part id span × HoldsRows eye.told part id span rows)
   pub exact : (own : List Row) → TellsRows eye part own → rows ≡ rows_of id own
 
 -- A content is the replay of what was read of parts: of all of them, or of those from one with an image of the node on.

@@ -12,7 +12,7 @@ use Rattle.partition_index.specs.Entries.{model_of}
 use Rattle.partition_index.specs.Parts.{LooksAt}
 use Rattle.std.proofs.lemmas.Bool.{lt-ltb, le-ltb}
 use Rattle.std.proofs.lemmas.Bool.Decides.{nat_tests}
-use Rattle.partition_index.specs.Search.{IfTold, IsEntryAt, IsEndOf, IsSpanAt, IsBadAt}
+use Rattle.partition_index.specs.Search.{IfTold, IsEntryAt, IsNoEntryAt, IsEndOf, IsSpanAt, IsBadAt}
 use Rattle.fine_model.specs.Seek.{IndexEntry as ModelEntry}
 use Rattle.partition_index.specs.declared.entries.IndexEntry.{IndexEntry}
 use Rattle.partition_index.proofs.Looking.{each_told, told_as, range_is}
@@ -113,16 +113,45 @@ span_some known p i end entry e f some =
           ∙ λ k. Ok (record { at = (is k).offset; end = ends.1 k; rows = (is k).rows }));
     }
 
+pub empty_span : (known : Option Image) (p : Part) (i at end : ℕ) (entry : IndexEntry) → at ≡ entry_place p.header i → IsEntryAt known p i entry → IsEndOf known p i end → end ≤ entry.offset
+    → IfTold known p (λ body. span_at p.header body i ≡ Err at)
+empty_span known p i at end entry place e f none =
+    each_told (λ image. span_at p.header (body_in image p.region p.header) i ≡ Err at) known
+    (λ image t.
+    let body : List ℕ = body_in image p.region p.header in
+    let is : entry_at p.header body i ≡ model_of entry = told_as (λ j. entry_at p.header (body_in j p.region p.header) i ≡ model_of entry) known image t e.told in
+    let ends : (is_followed p.header body i ≡ true) × (span_end p.header body i ≡ end) = told_as (λ j. (is_followed p.header (body_in j p.region p.header) i ≡ true) × (span_end p.header (body_in j p.region p.header) i ≡ end)) known image t f.told in
+    let more : nat_lt (entry_at p.header body i).offset (span_end p.header body i) ≡ false = ap (λ x. nat_lt x.offset (span_end p.header body i)) is ∙ ap (nat_lt entry.offset) ends.1 ∙ le-ltb entry.offset end none in
+    span_empty p.header body i (ap (is_entry p.header) is ∙ e.sound) ends.0 more ∙ ap Err (sym place))
+
 pub span_none : (known : Option Image) (p : Part) (i at end : ℕ) (entry : IndexEntry) → i < p.header.nodes → at ≡ entry_place p.header i → IsEntryAt known p i entry → IsEndOf known p i end → end ≤ entry.offset → IsBadAt known p at
 span_none known p i at end entry there place e f none = record {
   entry = i;
   there = there;
   place = place;
   told = each_told (λ image. (j : ℕ) × (j < p.header.nodes) × (span_at p.header (body_in image p.region p.header) j ≡ Err at)) known
-      (λ image t.
-      let body : List ℕ = body_in image p.region p.header in
-      let is : entry_at p.header body i ≡ model_of entry = told_as (λ j. entry_at p.header (body_in j p.region p.header) i ≡ model_of entry) known image t e.told in
-      let ends : (is_followed p.header body i ≡ true) × (span_end p.header body i ≡ end) = told_as (λ j. (is_followed p.header (body_in j p.region p.header) i ≡ true) × (span_end p.header (body_in j p.region p.header) i ≡ end)) known image t f.told in
-      let more : nat_lt (entry_at p.header body i).offset (span_end p.header body i) ≡ false = ap (λ x. nat_lt x.offset (span_end p.header body i)) is ∙ ap (nat_lt entry.offset) ends.1 ∙ le-ltb entry.offset end none in
-      (i, there, span_empty p.header body i (ap (is_entry p.header) is ∙ e.sound) ends.0 more ∙ ap Err (sym place)));
+      (λ image t. (i, there, told_as (λ j. span_at p.header (body_in j p.region p.header) i ≡ Err at) known image t (empty_span known p i at end entry place e f none)));
+}
+
+-- the span of an entry behind which none stands
+pub span_unfollowed : (header : Header) (body : List ℕ) (i : ℕ) → is_entry header (entry_at header body i) ≡ true → is_followed header body i ≡ false → span_at header body i ≡ Err (entry_place header (i + 1))
+unfolding span_at
+span_unfollowed header body i a b = rw (a, b) refl
+
+pub bad_next : (known : Option Image) (p : Part) (i at : ℕ) (entry : IndexEntry) → i + 1 < p.header.nodes → IsEntryAt known p i entry → IsNoEntryAt known p (i + 1) at → IfTold known p (λ body. span_at p.header body i ≡ Err at)
+bad_next known p i at entry more e n =
+    each_told (λ image. span_at p.header (body_in image p.region p.header) i ≡ Err at) known
+    (λ image t.
+    let body : List ℕ = body_in image p.region p.header in
+    let is : entry_at p.header body i ≡ model_of entry = told_as (λ j. entry_at p.header (body_in j p.region p.header) i ≡ model_of entry) known image t e.told in
+    let none : is_entry p.header (entry_at p.header body (i + 1)) ≡ false = told_as (λ j. is_entry p.header (entry_at p.header (body_in j p.region p.header) (i + 1)) ≡ false) known image t n.told in
+    let test : nat_lt (i + 1) p.header.nodes ≡ true = lt-ltb (i + 1) p.header.nodes more in
+    span_unfollowed p.header body i (ap (is_entry p.header) is ∙ e.sound) (rw test none) ∙ ap Err (sym n.place))
+
+-- what was read is none
+pub no_entry : (known : Option Image) (p : Part) (at i : ℕ) (entry : IndexEntry) → at ≡ entry_place p.header i → is_entry p.header (model_of entry) ≡ false → IfTold known p (λ body. entry_at p.header body i ≡ model_of entry) → IsNoEntryAt known p i at
+no_entry known p at i entry place none told = record {
+  place = place;
+  told = each_told (λ image. is_entry p.header (entry_at p.header (body_in image p.region p.header) i) ≡ false) known
+      (λ image t. ap (is_entry p.header) (told_as (λ j. entry_at p.header (body_in j p.region p.header) i ≡ model_of entry) known image t told) ∙ none);
 }

@@ -6,6 +6,7 @@ pub mod Entry
 pub mod Sorted
 pub mod InGrammar
 pub mod Narrowed
+pub mod Halving
 pub mod Exact
 pub mod RowOrder
 pub mod InSpan

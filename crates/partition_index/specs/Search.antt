@@ -1,5 +1,5 @@
 -- What a search in an index does and finds.
-use Rattle.std.specs.Prelude.{◌≡◌, ◌⊎◌, ℕ, ◌+◌, ◌-◌, ◌<◌, ◌≤◌, ◌==◌, List, true, length, Option, Some, None, IfSome, if◌then◌else◌, Ok, Err}
+use Rattle.std.specs.Prelude.{◌≡◌, ◌⊎◌, ℕ, ◌+◌, ◌-◌, ◌<◌, ◌≤◌, ◌==◌, List, true, false, length, Option, Some, None, IfSome, if◌then◌else◌, Ok, Err}
 use Rattle.log_disk.specs.Disk.{Eye}
 use Rattle.fine_model.specs.declared.NodeId.{NodeId}
 use Rattle.fine_model.specs.declared.Part.{Part}
@@ -8,7 +8,7 @@ use Rattle.fine_model.specs.Merge.{is_node_below}
 use Rattle.fine_model.specs.Nodes.{rows_of}
 use Rattle.fine_model.specs.RowBytes.{rows_len}
 use Rattle.fine_model.specs.Regions.{Image, body_in, IsSealed}
-use Rattle.fine_model.specs.Seek.{entry_place, entry_at, is_entry, span_at, span_end, is_followed}
+use Rattle.fine_model.specs.Seek.{entry_place, entry_at, is_entry, sought_entry, span_at, span_end, is_followed}
 use Rattle.partition_index.specs.declared.entries.IndexEntry.{IndexEntry}
 use Rattle.partition_index.specs.declared.entries.Span.{Span}
 use Rattle.partition_index.specs.Entries.{model_of, row_span_of, entry_for}
@@ -29,6 +29,11 @@ pub record IsEntryAt (known : Option Image) (part : Part) (i : ℕ) (entry : Ind
   pub sound : is_entry part.header (model_of entry) ≡ true
   pub told : IfTold known part (λ body. entry_at part.header body i ≡ model_of entry)
 
+-- what stands at the place of an entry, by its number, is none
+pub record IsNoEntryAt (known : Option Image) (part : Part) (i at : ℕ) : Type 0 where
+  pub place : at ≡ entry_place part.header i
+  pub told : IfTold known part (λ body. is_entry part.header (entry_at part.header body i) ≡ false)
+
 -- the end of an entry's span
 pub record IsEndOf (known : Option Image) (part : Part) (i end : ℕ) : Type 0 where
   pub within : end ≤ part.header.area
@@ -48,13 +53,24 @@ pub record IsSpanOf (known : Option Image) (part : Part) (id : NodeId) (span : S
   pub names : IfTold known part (λ body. (entry_at part.header body entry).node ≡ id)
   pub is_span : IsSpanAt known part entry span
 
--- No entry of a node: there is a number before whose entry one stands that names a lower node, and whose own entry names a higher one,
+-- the span of a node to which a search comes
+pub record IsSoughtSpan (known : Option Image) (part : Part) (id : NodeId) (span : Span) : Type 0 where
+  pub is_span : IsSpanOf known part id span
+  pub sought : IfTold known part (λ body. sought_entry part.header body id ≡ Ok (Some is_span.entry))
+
+-- No entry of a node, as a search comes to none: there is a number before whose entry one stands that names a lower node, and whose own entry names a higher one,
 -- as far as there are entries. Each of the two may stand there.
 pub record LacksNode (known : Option Image) (part : Part) (id : NodeId) : Type 0 where
   pub number : ℕ
   pub within : number ≤ part.header.nodes
   pub before : (number ≡ 0) ⊎ ((entry : IndexEntry) × IsEntryAt known part (number - 1) entry × (is_node_below entry.node id ≡ true))
   pub behind : (number ≡ part.header.nodes) ⊎ ((entry : IndexEntry) × IsEntryAt known part number entry × (is_node_below id entry.node ≡ true))
+  pub sought : IfTold known part (λ body. sought_entry part.header body id ≡ Ok None)
+
+-- the search for a node meets a bad entry at a place of the body, or the span of the entry to which it comes is bad
+abbrev pub MeetsBad : Option Image → Part → NodeId → ℕ → Type 0
+MeetsBad known part id at =
+    IfTold known part (λ body. (sought_entry part.header body id ≡ Err at) ⊎ ((i : ℕ) × (sought_entry part.header body id ≡ Ok (Some i)) × (span_at part.header body i ≡ Err at)))
 
 -- a place of the body at which a bad entry starts, by the bytes of it and of the one before it
 pub record IsBadAt (known : Option Image) (part : Part) (at : ℕ) : Type 0 where

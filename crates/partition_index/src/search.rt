@@ -4,12 +4,12 @@ ghost use Rattle.std.specs.Prelude.{◌≡◌, ◌⊎◌, ℕ, ◌+◌, ◌*◌,
 ghost use Rattle.fine_model.specs.declared.NodeId.{NodeId};
 ghost use Rattle.fine_model.specs.declared.Row.{Row};
 ghost use Rattle.fine_model.specs.Merge.{nodes_in};
-ghost use Rattle.fine_model.specs.Seek.{is_entry, entry_place, most_taken};
+ghost use Rattle.fine_model.specs.Seek.{is_entry, entry_place, most_taken, span_at};
 ghost use Rattle.fine_model.specs.RowBytes.{index_entry};
 ghost use Rattle.partition_index.specs.declared.entries.SeekFault.TheVariants as fault;
 ghost use Rattle.partition_index.specs.Entries.{model_of, entry_for};
 ghost use Rattle.partition_index.specs.Parts.{IsSeen};
-ghost use Rattle.partition_index.specs.Search.{Searches, IsEntryAt, IsEndOf, IsSpanAt, IsSpanOf, IsBadAt, LacksNode, TellsRows, span_for, sought};
+ghost use Rattle.partition_index.specs.Search.{Searches, IfTold, IsEntryAt, IsNoEntryAt, IsEndOf, IsSpanAt, IsSoughtSpan, IsBadAt, LacksNode, MeetsBad, TellsRows, span_for, sought};
 
 use crate::entries::{IndexEntry, SeekFault, Span, entry_of};
 use crate::places::read_body;
@@ -50,6 +50,7 @@ fn read_entry<E: LogEye>(
     ensures eye { Searches (IsErrOf result fault.Failed) index_entry (E.LogEye.state eye.old) (E.LogEye.state eye.new) }
     ensures ok { IfOk result (IsEntryAt (E.LogEye.state eye.old).told part.now i) }
     ensures bad { (at : ℕ) → IsErrOf result (fault.BadIndex at) → IsBadAt (E.LogEye.state eye.old).told part.now at }
+    ensures none { (at : ℕ) → IsErrOf result (fault.BadIndex at) → IsNoEntryAt (E.LogEye.state eye.old).told part.now i at }
 {
     let at = entry_place(&part.header, i);
     let mut bytes = [0; INDEX_ENTRY];
@@ -71,6 +72,7 @@ fn end_of<E: LogEye>(eye: &mut E, part: &Part, i: u32, region_len: u64) -> Resul
     ensures eye { Searches (IsErrOf result fault.Failed) index_entry (E.LogEye.state eye.old) (E.LogEye.state eye.new) }
     ensures ok { IfOk result (IsEndOf (E.LogEye.state eye.old).told part.now i) }
     ensures bad { (at : ℕ) → IsErrOf result (fault.BadIndex at) → IsBadAt (E.LogEye.state eye.old).told part.now at }
+    ensures next { (at : ℕ) → IsErrOf result (fault.BadIndex at) → (i + 1 < part.now.header.nodes) × IsNoEntryAt (E.LogEye.state eye.old).told part.now (i + 1) at }
 {
     if i + 1 < part.header.nodes {
         let next = read_entry(eye, part, i + 1, region_len)?;
@@ -94,6 +96,7 @@ fn span_of<E: LogEye>(
     ensures eye { Searches (IsErrOf result fault.Failed) index_entry (E.LogEye.state eye.old) (E.LogEye.state eye.new) }
     ensures ok { IfOk result (IsSpanAt (E.LogEye.state eye.old).told part.now i) }
     ensures bad { (at : ℕ) → IsErrOf result (fault.BadIndex at) → IsBadAt (E.LogEye.state eye.old).told part.now at }
+    ensures none { (at : ℕ) → IsErrOf result (fault.BadIndex at) → IfTold (E.LogEye.state eye.old).told part.now (λ body. span_at part.now.header body i ≡ Err at) }
 {
     let end = end_of(eye, part, i, region_len)?;
     if end <= entry.offset {
@@ -135,9 +138,9 @@ pub fn entry_at<E: LogEye>(
 
 /// The span of a node's rows, or None where the index has no entry of it.
 ///
-/// The index is searched by halves, one entry at a time. In a region in the grammar the answer is exact. On other bytes a span is
-/// that of an entry which names the node, and None comes only where an entry of a lower node and one of a higher node follow each
-/// other, or stand at the ends of the index, by the bytes read in this call. `Failed` comes only where the eye's count of faults rose in this call. `BadIndex` comes
+/// The index is searched by halves, one entry at a time. In a region in the grammar the answer is exact. On other bytes it is decided by the
+/// bytes too, where the eye tells them: it is by the entry to which `sought_entry` comes. A span is that of an entry which names the node, and None comes only
+/// where an entry of a lower node and one of a higher node follow each other, or stand at the ends of the index, by the bytes read in this call. `Failed` comes only where the eye's count of faults rose in this call. `BadIndex` comes
 /// only where, by the bytes read in this call, the entry at that offset of the body is none, or the span of the one sought is
 /// empty. No memory is taken.
 pub fn seek<E: LogEye>(
@@ -149,9 +152,10 @@ pub fn seek<E: LogEye>(
     requires seen { IsSeen (E.LogEye.state eye.old) part.now }
     requires region_len { region_len ≡ (E.LogEye.state eye.old).region_len }
     ensures eye { Searches (IsErrOf result fault.Failed) (most_taken part.now.header.nodes) (E.LogEye.state eye.old) (E.LogEye.state eye.new) }
-    ensures span { IfOk result (λ found. IfSome found (IsSpanOf (E.LogEye.state eye.old).told part.now node)) }
+    ensures span { IfOk result (λ found. IfSome found (IsSoughtSpan (E.LogEye.state eye.old).told part.now node)) }
     ensures none { result ≡ Ok None → LacksNode (E.LogEye.state eye.old).told part.now node }
     ensures bad { (at : ℕ) → IsErrOf result (fault.BadIndex at) → IsBadAt (E.LogEye.state eye.old).told part.now at }
+    ensures meets { (at : ℕ) → IsErrOf result (fault.BadIndex at) → MeetsBad (E.LogEye.state eye.old).told part.now node at }
     ensures exact { (rows : List Row) → TellsRows (E.LogEye.state eye.old) part.now rows
         → (result ≡ Err fault.Failed) ⊎ (result ≡ Ok (sought rows node)) }
 {

@@ -1,13 +1,17 @@
-use Rattle.std.proofs.Common.{◌≡◌, ◌⊎◌, ℕ, true, ◌∙◌, ◌+◌, ◌-◌, ◌*◌, ◌/◌, ◌<◌, sym, ap, subst, inl, inr, Ok, Err, Some, rules, arith, get_or}
+use Rattle.std.proofs.Common.{refl, ◌≡◌, ◌⊎◌, ℕ, true, ◌∙◌, ◌+◌, ◌-◌, ◌*◌, ◌/◌, ◌<◌, sym, ap, subst, inl, inr, Ok, Err, Some, rules, arith, get_or}
 use Rattle.fine_model.specs.Merge.{nodes_in, is_node_below}
-use Rattle.std.specs.Prelude.{Option}
+use Rattle.std.specs.Prelude.{Option, Result}
 use Rattle.fine_model.specs.Regions.{Image}
 use Rattle.partition_index.specs.declared.entries.IndexEntry.{IndexEntry}
-use Rattle.partition_index.specs.Search.{IsBadAt, IsSpanAt, IsEntryAt, sought}
+use Rattle.partition_index.specs.declared.entries.SeekFault.{SeekFault}
+use Rattle.partition_index.specs.declared.entries.SeekFault.TheVariants as fault
+use Rattle.partition_index.specs.declared.entries.Span.{Span}
+use Rattle.partition_index.specs.Search.{IfTold, IsBadAt, IsNoEntryAt, IsSpanAt, IsEntryAt, sought}
 use Rattle.partition_index.proofs.Looking.{seen_same, same_then}
-use Rattle.partition_index.proofs.Exact.{only_failed, entry_exact, span_exact, there_in}
-use Rattle.fine_model.specs.Seek.{binary_digits}
+use Rattle.partition_index.proofs.Exact.{holds_rows, only_failed, entry_exact, span_exact, there_in}
+use Rattle.fine_model.specs.Seek.{binary_digits, middle_of, span_at}
 use Rattle.fine_model.proofs.NodesIn.{exact_nodes}
+use Rattle.partition_index.proofs.Halving.{all_left, comes_to, comes_to_bad, comes_to_none, goes_down, goes_up, meets_none, named}
 use Rattle.partition_index.proofs.Narrowed.{spend, less_below, greater_above, narrow_up, narrow_down, narrowed_none, sought_some}
 use Rattle.partition_index.proofs.search.seek.Goals as goal
 
@@ -38,6 +42,7 @@ loop-low-preserved-in-Less g c =
       taken = spend (14 * binary_digits p.header.nodes) (state c.args.eye.now).taken (state l.eye).taken (state c.read_entry.new.eye).taken (l.high - l.low) (l.high - (middle + 1)) (omega arith) (omega arith) (omega arith) l.invariant.taken read.eye.taken;
       before = inr (c.in_ok-entry.entry, subst (λ i. IsEntryAt (state c.args.eye.now).told p i c.in_ok-entry.entry) (back middle) (subst (λ known. IsEntryAt known p middle c.in_ok-entry.entry) l.invariant.same.told read.ok), less_below c.in_ok-entry.entry.node c.args.node c.in-Less.ensures);
       behind = l.invariant.behind;
+      left = goes_up (state c.args.eye.now).told p c.args.node l.low l.high c.loop-low-test.true l.invariant.left c.in_ok-entry.entry (subst (λ known. IsEntryAt known p middle c.in_ok-entry.entry) l.invariant.same.told read.ok) (less_below c.in_ok-entry.entry.node c.args.node c.in-Less.ensures);
       narrowed = λ rows t.
           (let entry = entry_exact (state c.args.eye.now) p rows middle c.in_ok-entry.entry c.args.node c.requires.seen t there (subst (λ known. IsEntryAt known p middle c.in_ok-entry.entry) l.invariant.same.told read.ok) in
           narrow_up rows c.args.node l.low l.high middle c.args.node (l.invariant.narrowed rows t) (omega arith) (there_in (state c.args.eye.now) p rows middle c.requires.seen t there)
@@ -60,6 +65,7 @@ loop-low-preserved g c =
       taken = spend (14 * binary_digits p.header.nodes) (state c.args.eye.now).taken (state l.eye).taken (state c.read_entry.new.eye).taken (l.high - l.low) (middle - l.low) (omega arith) (omega arith) (omega arith) l.invariant.taken read.eye.taken;
       before = l.invariant.before;
       behind = inr (c.in_ok-entry.entry, subst (λ known. IsEntryAt known p middle c.in_ok-entry.entry) l.invariant.same.told read.ok, greater_above c.in_ok-entry.entry.node c.args.node c.in-Greater.ensures);
+      left = goes_down (state c.args.eye.now).told p c.args.node l.low l.high c.loop-low-test.true l.invariant.left c.in_ok-entry.entry (subst (λ known. IsEntryAt known p middle c.in_ok-entry.entry) l.invariant.same.told read.ok) (greater_above c.in_ok-entry.entry.node c.args.node c.in-Greater.ensures);
       narrowed = λ rows t.
           (let entry = entry_exact (state c.args.eye.now) p rows middle c.in_ok-entry.entry c.args.node c.requires.seen t there (subst (λ known. IsEntryAt known p middle c.in_ok-entry.entry) l.invariant.same.told read.ok) in
           narrow_down rows c.args.node l.low l.high middle c.args.node (l.invariant.narrowed rows t) (there_in (state c.args.eye.now) p rows middle c.requires.seen t there)
@@ -106,4 +112,62 @@ returns-clause-none g c e =
       within = omega (arith, l.invariant.order, l.invariant.within);
       before = l.invariant.before;
       behind = subst (λ i. (i ≡ c.args.part.now.header.nodes) ⊎ ((entry : IndexEntry) × IsEntryAt known c.args.part.now i entry × (is_node_below c.args.node entry.node ≡ true))) met l.invariant.behind;
+      sought = comes_to_none known c.args.part.now c.args.node l.low l.high c.loop-low-test.false l.invariant.left;
+    }
+
+pub returns-in_err-entry-clause-meets : goal.returns-in_err-entry-clause-meets
+returns-in_err-entry-clause-meets g c at is =
+    let known = (g.E.LogEye.state c.args.eye.now).told in
+    let p = c.args.part.now in
+    let l = c.loop-low in
+    let same : c.from_residual.result ≡ Err c.in_err-entry.field-0.0 = search rules in
+    let err : ◌≡◌ {A = Result (Option Span) SeekFault} (Err c.in_err-entry.field-0.0) (Err (fault.BadIndex at)) = sym same ∙ is in
+    let bad : c.in_err-entry.field-0.0 ≡ fault.BadIndex at = cc in
+    meets_none known p c.args.node l.low l.high c.loop-low-test.true l.invariant.left at (subst (λ known. IsNoEntryAt known p (middle_of l.low l.high) at) l.invariant.same.told (c.in_err-entry.ensures.none at (ap Err bad)))
+
+pub returns-in_err-span-in-Equal-clause-meets : goal.returns-in_err-span-in-Equal-clause-meets
+returns-in_err-span-in-Equal-clause-meets g c at is =
+    let state = g.E.LogEye.state in
+    let p = c.args.part.now in
+    let l = c.loop-low in
+    let middle = l.low + (l.high - l.low) / 2 in
+    let same : c.from_residual-in_err-span-in-Equal.result ≡ Err c.in_err-span-in-Equal.field-0.0 = search rules in
+    let err : ◌≡◌ {A = Result (Option Span) SeekFault} (Err c.in_err-span-in-Equal.field-0.0) (Err (fault.BadIndex at)) = sym same ∙ is in
+    let bad : c.in_err-span-in-Equal.field-0.0 ≡ fault.BadIndex at = cc in
+    comes_to_bad (state c.args.eye.now).told p c.args.node l.low l.high c.loop-low-test.true l.invariant.left c.in_ok-entry.entry (subst (λ known. IsEntryAt known p middle c.in_ok-entry.entry) l.invariant.same.told c.in_ok-entry.ensures.ok) at
+    (exact_nodes c.in_ok-entry.entry.node c.args.node (sym c.in-Equal.ensures))
+    (subst (λ known. IfTold known p (λ body. span_at p.header body middle ≡ Err at)) (c.read_entry.ensures.eye.same.told ∙ l.invariant.same.told) (c.in_err-span-in-Equal.ensures.none at (ap Err bad)))
+
+pub returns-in-Equal-clause-span : goal.returns-in-Equal-clause-span
+returns-in-Equal-clause-span g c =
+    let known : Option Image = (g.E.LogEye.state c.args.eye.now).told in
+    let p = c.args.part.now in
+    let l = c.loop-low in
+    let middle = l.low + (l.high - l.low) / 2 in
+    let entry = subst (λ known. IsEntryAt known p middle c.in_ok-entry.entry) l.invariant.same.told c.in_ok-entry.ensures.ok in
+    let same = exact_nodes c.in_ok-entry.entry.node c.args.node (sym c.in-Equal.ensures) in
+    record {
+      is_span = record {
+        entry = middle;
+        there = omega (arith, l.invariant.within);
+        names = named known p c.args.node middle c.in_ok-entry.entry entry same;
+        is_span = subst (λ known. IsSpanAt known p middle c.in_ok-span-in-Equal.span) (c.read_entry.ensures.eye.same.told ∙ l.invariant.same.told) c.in_ok-span-in-Equal.ensures.ok;
+      };
+      sought = comes_to known p c.args.node l.low l.high c.loop-low-test.true l.invariant.left c.in_ok-entry.entry entry same;
+    }
+
+pub loop-low-init : goal.loop-low-init
+loop-low-init g c =
+    let eye = g.E.LogEye.state c.args.eye.now in
+    let p = c.args.part.now in
+    let none : p.header.nodes - 0 ≡ p.header.nodes = omega arith in record {
+      order = omega arith;
+      within = omega arith;
+      same = record { number = refl; regions = refl; region_len = refl; told = refl };
+      steady = refl;
+      taken = omega (arith, ap binary_digits none);
+      before = inl refl;
+      behind = inl refl;
+      left = all_left eye.told p c.args.node;
+      narrowed = λ rows t. record { below = λ k d low there. absurd (omega (arith, low)); above = λ k d high there. absurd (omega (arith, high, there, (holds_rows eye p rows c.requires.seen t).nodes)) };
     }

@@ -308,12 +308,12 @@ fn fresh_path(rt: &HostRuntime) -> Result<String, Fail> {
     Ok(path)
 }
 
-// A room on a new file of four regions.
+// A room on a new file of five regions.
 fn file_room(rt: &HostRuntime, path: &str) -> Result<Room<FileDisk<HostRuntime>>, Fail>
     ensures { IfOk result (λ room. (room.room.board ≡ None ∷ None ∷ None ∷ []) × (room.room.job ≡ None) × (is_some room.room.image ≡ false)) }
 {
     let alloc = rt.alloc();
-    let disk = FileDisk::make(rt, alloc, path, 4, 4096)?;
+    let disk = FileDisk::make(rt, alloc, path, 5, 4096)?;
     match Room::make(alloc, disk, Items::new(alloc), Items::new(alloc)) {
         Ok(room) => Ok(room),
         Err(_refused) => Err("memory")?,
@@ -370,7 +370,7 @@ fn view_one<D: LogDisk>(room: &mut Room<D>) -> Result<View<D::Eye>, Fail>
     }
 }
 
-// A view of two parts, which are merged after it was made; an epoch is sealed while the merge is out.
+// A view of two parts, which are merged after it was made; two epochs are sealed while the merge is out.
 fn merged_under<D: LogDisk>(room: &mut Room<D>, alloc: Global) -> Result<View<D::Eye>, Fail>
     requires board { room.old.room.board ≡ None ∷ None ∷ None ∷ [] }
     requires job { room.old.room.job ≡ None }
@@ -380,6 +380,7 @@ fn merged_under<D: LogDisk>(room: &mut Room<D>, alloc: Global) -> Result<View<D:
     let view = view_one(room)?;
     let job = written_job(room)?;
     seal_one(room, alloc, 3)?;
+    seal_one(room, alloc, 4)?;
     finish(room, job)?;
     Ok(view)
 }
@@ -454,10 +455,10 @@ fn a_view_from_before_a_merge_reads_and_holds_its_parts(rt: HostRuntime) -> Resu
     let path = fresh_path(&rt)?;
     let counts = Counts {
         free: 1,
-        live: 2,
+        live: 3,
         retired: 1,
-        sealed: 3,
-        place: 3,
+        sealed: 4,
+        place: 4,
         waiting: 0,
     };
     let held = Err(EraseFault::Held { seat: 1, buffer: 0 });

@@ -8,7 +8,9 @@ use Rattle.epoch_room.specs.declared.answers.RoomFault.{RoomFault}
 use Rattle.epoch_room.specs.declared.answers.RoomFault.TheVariants as room_fault
 use Rattle.room_merges.specs.declared.fault.MergeFault.{MergeFault}
 use Rattle.room_merges.specs.declared.fault.MergeFault.TheVariants as merge_fault
+use Rattle.room_merges.specs.Live.{KeepsLive}
 use Rattle.room_merges.specs.Near.{AllErased, ComesTo, Empties, IsReadRefused, IsShutNow, IsWell, MergesAndErases, MergesErased, MergesFirst, MergesNear, MergesThrough, MergesTwo, SameOrErased, SameOrFirst, StopsOr, TellsStill}
+use Rattle.room_merges.proofs.Living.{live_then}
 use Rattle.room_merges.proofs.Telling.{part_in}
 use Rattle.room_merges.proofs.Through.{rest_then, two_from}
 
@@ -54,13 +56,13 @@ refused_then a b c fault first second =
 
 module _ (from : ℕ) (old mid : RoomValue) where
   pub erased_false : MergesThrough from old mid (Ok false) → MergesErased from old mid (Ok false)
-  erased_false t = record { rest = t.rest; told = t.told; erased = t.through }
+  erased_false t = record { rest = t.rest; told = t.told; live = t.live; erased = t.through }
 
   pub erased_fault : (fault : MergeFault) → MergesThrough from old mid (Err fault) → MergesErased from old mid (Err fault)
-  erased_fault (merge_fault.Fetch fault) t = record { rest = t.rest; told = t.told; erased = t.through }
-  erased_fault (merge_fault.Room room_fault.NoMemory) t = record { rest = t.rest; told = t.told; erased = (t.through.0, inl t.through.1, inl t.through.2) }
-  erased_fault (merge_fault.Room room_fault.Disk) t = record { rest = t.rest; told = t.told; erased = (t.through.0, inl t.through.1, inl t.through.2) }
-  erased_fault (merge_fault.Room (room_fault.Shut epoch)) t = record { rest = t.rest; told = t.told; erased = t.through }
+  erased_fault (merge_fault.Fetch fault) t = record { rest = t.rest; told = t.told; live = t.live; erased = t.through }
+  erased_fault (merge_fault.Room room_fault.NoMemory) t = record { rest = t.rest; told = t.told; live = t.live; erased = (t.through.0, inl t.through.1, inl t.through.2) }
+  erased_fault (merge_fault.Room room_fault.Disk) t = record { rest = t.rest; told = t.told; live = t.live; erased = (t.through.0, inl t.through.1, inl t.through.2) }
+  erased_fault (merge_fault.Room (room_fault.Shut epoch)) t = record { rest = t.rest; told = t.told; live = t.live; erased = t.through }
 
 module _ (from : ℕ) (old mid new : RoomValue) (merges : MergesThrough from old mid (Ok true)) where
   two_still : new.room.parts ≡ mid.room.parts → MergesTwo old.room.parts new.room.parts
@@ -102,24 +104,27 @@ module _ (from : ℕ) (old mid new : RoomValue) (merges : MergesThrough from old
       let between = subst (λ ps. Contains ps p) same still in
       told p rows between still (merges.told p rows there between tells)
 
+  live_both : new.room.parts ≡ mid.room.parts → KeepsLive mid new → KeepsLive old new
+  live_both same live = live_then old mid new (λ p there still. subst (λ ps. Contains ps p) same still) merges.live live
+
   pub erased_true : (u : Unit {0}) → Empties mid new (Ok u) → MergesErased from old new (Ok true)
-  erased_true u e = record { rest = rest_then old mid new merges.rest e.rest; told = told_both e.parts e.told; erased = (well_then old mid new merges.through.0 e.empties.0, and_erases (Ok u) e, e.empties.1) }
+  erased_true u e = record { rest = rest_then old mid new merges.rest e.rest; told = told_both e.parts e.told; live = live_both e.parts e.live; erased = (well_then old mid new merges.through.0 e.empties.0, and_erases (Ok u) e, e.empties.1) }
 
   pub erased_after : (fault : MergeFault) → Empties mid new (Err fault) → MergesErased from old new (Err fault)
   erased_after (merge_fault.Fetch fault) e = absurd e.empties
   erased_after (merge_fault.Room room_fault.NoMemory) e =
-      record { rest = rest_then old mid new merges.rest e.rest; told = told_both e.parts e.told; erased = (well_then old mid new merges.through.0 e.empties, inr (first_from' e.parts e.told), inr (and_erases (Err (merge_fault.Room room_fault.NoMemory)) e)) }
+      record { rest = rest_then old mid new merges.rest e.rest; told = told_both e.parts e.told; live = live_both e.parts e.live; erased = (well_then old mid new merges.through.0 e.empties, inr (first_from' e.parts e.told), inr (and_erases (Err (merge_fault.Room room_fault.NoMemory)) e)) }
   erased_after (merge_fault.Room room_fault.Disk) e =
-      record { rest = rest_then old mid new merges.rest e.rest; told = told_both e.parts e.told; erased = (shut_then old mid new merges.through.0 e.empties, inr (first_from' e.parts e.told), inr (and_erases (Err (merge_fault.Room room_fault.Disk)) e)) }
+      record { rest = rest_then old mid new merges.rest e.rest; told = told_both e.parts e.told; live = live_both e.parts e.live; erased = (shut_then old mid new merges.through.0 e.empties, inr (first_from' e.parts e.told), inr (and_erases (Err (merge_fault.Room room_fault.Disk)) e)) }
   erased_after (merge_fault.Room (room_fault.Shut epoch)) e = absurd (true≢false (sym e.empties.0 ∙ merges.through.0.stays))
 
 -- ---- and what was retired before
 
 pub near_refused : (from : ℕ) (old new : RoomValue) (fault : MergeFault) → Empties old new (Err fault) → MergesNear from old new (Err fault)
 near_refused from old new (merge_fault.Fetch fault) e = absurd e.empties
-near_refused from old new (merge_fault.Room room_fault.NoMemory) e = record { rest = e.rest; told = e.told; near = (e.empties, inl e.parts, inl e.all) }
-near_refused from old new (merge_fault.Room room_fault.Disk) e = record { rest = e.rest; told = e.told; near = (e.empties, inl e.parts, inl e.all) }
-near_refused from old new (merge_fault.Room (room_fault.Shut epoch)) e = record { rest = e.rest; told = e.told; near = e.empties }
+near_refused from old new (merge_fault.Room room_fault.NoMemory) e = record { rest = e.rest; told = e.told; live = e.live; near = (e.empties, inl e.parts, inl e.all) }
+near_refused from old new (merge_fault.Room room_fault.Disk) e = record { rest = e.rest; told = e.told; live = e.live; near = (e.empties, inl e.parts, inl e.all) }
+near_refused from old new (merge_fault.Room (room_fault.Shut epoch)) e = record { rest = e.rest; told = e.told; live = e.live; near = e.empties }
 
 module _ (from : ℕ) (old mid new : RoomValue) (u : Unit {0}) (first : Empties old mid (Ok u)) where
   same_or : SameOrFirst from mid new → SameOrErased from old new
@@ -134,10 +139,14 @@ module _ (from : ℕ) (old mid new : RoomValue) (u : Unit {0}) (first : Empties 
       let between = subst (λ ps. Contains ps p) (sym first.parts) there in
       told p rows between still (first.told p rows there between tells)
 
+  live_either : KeepsLive mid new → KeepsLive old new
+  live_either live = live_then old mid new (λ p there still. subst (λ ps. Contains ps p) (sym first.parts) there) first.live live
+
   pub near_then : (result : Result Bool MergeFault) → MergesErased from mid new result → MergesNear from old new result
   near_then (Ok true) e = record {
     rest = rest_then old mid new first.rest e.rest;
     told = told_either e.told;
+    live = live_either e.live;
     near = (
       well_then old mid new first.empties.0 e.erased.0,
       two_from mid.room.parts old.room.parts new.room.parts new.room.parts first.parts refl e.erased.1.first.merged,
@@ -149,13 +158,15 @@ module _ (from : ℕ) (old mid new : RoomValue) (u : Unit {0}) (first : Empties 
   near_then (Ok false) e = record {
     rest = rest_then old mid new first.rest e.rest;
     told = told_either e.told;
+    live = live_either e.live;
     near = (well_then old mid new first.empties.0 e.erased.0, e.erased.1 ∙ first.parts, e.erased.2 ∙ first.empties.1, e.erased.3, e.erased.4);
   }
   near_then (Err (merge_fault.Fetch fault)) e = record {
     rest = rest_then old mid new first.rest e.rest;
     told = told_either e.told;
+    live = live_either e.live;
     near = (refused_then old mid new fault first.empties.0 e.erased.0, e.erased.1 ∙ first.parts, e.erased.2 ∙ first.empties.1, e.erased.3);
   }
-  near_then (Err (merge_fault.Room room_fault.NoMemory)) e = record { rest = rest_then old mid new first.rest e.rest; told = told_either e.told; near = (well_then old mid new first.empties.0 e.erased.0, same_or e.erased.1, comes_to room_fault.NoMemory e.erased.2) }
-  near_then (Err (merge_fault.Room room_fault.Disk)) e = record { rest = rest_then old mid new first.rest e.rest; told = told_either e.told; near = (shut_then old mid new first.empties.0 e.erased.0, same_or e.erased.1, comes_to room_fault.Disk e.erased.2) }
+  near_then (Err (merge_fault.Room room_fault.NoMemory)) e = record { rest = rest_then old mid new first.rest e.rest; told = told_either e.told; live = live_either e.live; near = (well_then old mid new first.empties.0 e.erased.0, same_or e.erased.1, comes_to room_fault.NoMemory e.erased.2) }
+  near_then (Err (merge_fault.Room room_fault.Disk)) e = record { rest = rest_then old mid new first.rest e.rest; told = told_either e.told; live = live_either e.live; near = (shut_then old mid new first.empties.0 e.erased.0, same_or e.erased.1, comes_to room_fault.Disk e.erased.2) }
   near_then (Err (merge_fault.Room (room_fault.Shut epoch))) e = absurd (true≢false (sym e.erased.0 ∙ first.empties.0.stays))

@@ -4,5 +4,6 @@ pub mod Pairing
 pub mod Shut
 pub mod Nearing
 pub mod Telling
+pub mod Living
 pub mod Through
 pub mod Erased

@@ -46,7 +46,7 @@ use Rattle.room_merges.specs.Pairs.{header_for, job_for}
 
 -- ---- through a view
 
-seen_back : (regions : List ℕ) (a b : Option Image) → SameSeen regions a b → SameSeen regions b a
+pub seen_back : (regions : List ℕ) (a b : Option Image) → SameSeen regions a b → SameSeen regions b a
 seen_back regions None None same = tt
 seen_back regions None (Some b) same = absurd same
 seen_back regions (Some a) None same = absurd same
@@ -66,7 +66,7 @@ told_by_disk value view p rows out there tells =
     (tells_alike (set_of view.eye.regions) view.eye.told value.room.image view.region_len (p ∷ []) rows (seen_back (set_of view.eye.regions) value.room.image view.eye.told shows) (named, tt) tells)
 
 -- what is the same in some regions is so in those among them
-seen_within : (regions some : List ℕ) (a b : Option Image) → AllByRecursion (Contains regions) some → SameSeen regions a b → SameSeen some a b
+pub seen_within : (regions some : List ℕ) (a b : Option Image) → AllByRecursion (Contains regions) some → SameSeen regions a b → SameSeen some a b
 seen_within regions some None None named same = tt
 seen_within regions some None (Some b) named same = absurd same
 seen_within regions some (Some a) None named same = absurd same
@@ -111,12 +111,12 @@ module _ (value : RoomValue) (whole : IsWhole value) where
       let leads = all_at (λ n. list_any (λ (p : Part). p.region == n) value.room.retired ≡ true) r (unheld value.room) (unheld_lead value.room.board value.room.retired) e in
       true≢false (sym (lead_in r value.room.retired leads) ∙ other_list value.disk.regions live (all_regions value.room.retired) r live_apart there))
 
-  live_same : (old new : Option Told) → BothTold (λ a b. DiffersAtGates (unheld value.room) a.bytes b.bytes) old new
+  pub live_shown : (old new : Option Told) → BothTold (λ a b. DiffersAtGates (unheld value.room) a.bytes b.bytes) old new
       → SameSeen live (option_map (λ (t : Told). t.bytes) old) (option_map (λ (t : Told). t.bytes) new)
-  live_same None None differs = tt
-  live_same None (Some b) differs = absurd differs
-  live_same (Some a) None differs = absurd differs
-  live_same (Some a) (Some b) differs = record {
+  live_shown None None differs = tt
+  live_shown None (Some b) differs = absurd differs
+  live_shown (Some a) None differs = absurd differs
+  live_shown (Some a) (Some b) differs = record {
     as_many = differs.as_many;
     same = all_map (λ r. list_any (nat_eq r) live ≡ true) (λ r. region_of b.bytes r ≡ region_of a.bytes r) (λ r there. differs.others r (live_unheld r there)) live (each_there live);
   }
@@ -126,7 +126,7 @@ module _ (value : RoomValue) (whole : IsWhole value) where
       subst (λ n. TellsRowsOf new.room.image n (p ∷ []) rows) (sym len)
       (tells_alike live value.room.image new.room.image value.room.region_len (p ∷ []) rows
       (subst (λ told. SameSeen live told new.room.image) (sym (ap (λ (r : RoomState). r.image) whole.of_disk))
-      (subst (λ told. SameSeen live (option_map (λ (t : Told). t.bytes) value.disk.told) told) (sym image) (live_same value.disk.told new.disk.told read)))
+      (subst (λ told. SameSeen live (option_map (λ (t : Told). t.bytes) value.disk.told) told) (sym image) (live_shown value.disk.told new.disk.told read)))
       (All-contains (λ (q : Part). AllByRecursion (Contains live) (regions_of q)) value.room.parts p (All-from_recursion _ value.room.parts (all_parts value.room.parts)) there, tt) tells)
 
 -- ---- the merged part

@@ -37,16 +37,19 @@ use Rattle.epoch_room.proofs.Behind.{keeps_none}
 use Rattle.epoch_room.proofs.Freeing.{held_now}
 use Rattle.epoch_room.proofs.Joining.{keeps_then}
 use Rattle.epoch_room.proofs.Retired.{lead_place, replaced_two}
+use Rattle.epoch_room.proofs.Boarding.{board_shows}
 use Rattle.room_merges.specs.declared.fault.MergeFault.{MergeFault}
 use Rattle.room_merges.specs.declared.fault.MergeFault.TheVariants as merge_fault
+use Rattle.room_merges.specs.Live.{KeepsLive}
 use Rattle.room_merges.specs.Merging.{EyeTells, IsOut, OfTold}
 use Rattle.room_merges.specs.Near.{AllInVain, BlamedAny, BlamedFirst, BlamesTwo, Empties, InVain, IsReadRefused, IsShutNow, IsViewOf, IsWell, KeepsRest, LosesAny, LosesFirst, MergesAny, MergesThrough, MergesTwo, NoneBefore, NoneFitNow, OfNeighbours, StandIn, TellsStill, TriesAll, Unfit}
 use Rattle.room_merges.specs.Pairs.{Merges, header_for, job_for}
 use Rattle.room_merges.specs.Work.{FallsShut, Looks, StaysOpen}
 use Rattle.room_merges.proofs.Chained.{shown_by_eye, told_before}
+use Rattle.room_merges.proofs.Living.{erased_live, live_itself, live_same, seen_then}
 use Rattle.room_merges.proofs.Nearing.{all_on, before_on, loses_on, of_at, of_each, read_back, regions_same, stand_in}
 use Rattle.room_merges.proofs.Pairing.{some_none, some_same}
-use Rattle.room_merges.proofs.Telling.{both_fit, erased_tells, held_image, merged_rows, part_in, seen_by, tells_itself, tells_same, told_by_disk}
+use Rattle.room_merges.proofs.Telling.{both_fit, erased_tells, held_image, merged_rows, part_in, seen_back, seen_by, seen_within, tells_itself, tells_same, told_by_disk}
 use Rattle.room_merges.proofs.Working.{blames_back, posted_then, view_back, view_itself}
 
 -- ---- what stays
@@ -242,10 +245,13 @@ module _ (old new : RoomValue) (whole : IsWhole old) (none : old.room.job ≡ No
   told_still : new.room.image ≡ option_map (λ (t : Told). t.bytes) new.disk.told → TellsStill old new
   told_still image = erased_tells old whole new image keeps.becomes.region_len read
 
+  live_still : new.room.image ≡ option_map (λ (t : Told). t.bytes) new.disk.told → KeepsLive old new
+  live_still image = erased_live old whole new image read
+
   pub emptied : (erased : ℕ) (u : Unit {0}) → new.room.retired ≡ held old.room → ErasesAllOr old new (Ok erased) → Empties old new (Ok u)
   emptied erased u left erases =
       let is = erases_these (unheld old.room) old new whole none erases.0 keeps erases.2 in
-      record { rest = is.rest; parts = is.parts; told = told_still is.image; empties = (is.well, left ∙ none_held old.room.board old.room.retired all); all = (erased, erases) }
+      record { rest = is.rest; parts = is.parts; told = told_still is.image; live = live_still is.image; empties = (is.well, left ∙ none_held old.room.board old.room.retired all); all = (erased, erases) }
 
   pub not_emptied : (fault : RoomFault) → ErasesAllOr old new (Err fault) → Empties old new (Err (merge_fault.Room fault))
   not_emptied room_fault.Disk (begun, more, are, some, unsynced, shuts) =
@@ -254,6 +260,7 @@ module _ (old new : RoomValue) (whole : IsWhole old) (none : old.room.job ≡ No
         rest = erased_rest (shut_state (left_state old.room begun) (all_regions (led_by begun old.room.retired))) old new none refl refl refl refl refl refl refl steps.room steps.target steps.entry keeps;
         parts = ap (λ (r : RoomState). r.parts) steps.room;
         told = told_still (ap (λ (r : RoomState). r.image) steps.room);
+        live = live_still (ap (λ (r : RoomState). r.image) steps.room);
         empties = record { opened = shuts.0; shut = ap (λ (r : RoomState). r.is_shut) steps.room; fails = shuts.2 };
         all = (begun, more, are, some, unsynced, shuts);
       }
@@ -262,12 +269,13 @@ module _ (old new : RoomValue) (whole : IsWhole old) (none : old.room.job ≡ No
         rest = subst (KeepsRest old) (sym was.2) (rest_itself old whole none);
         parts = ap (λ (v : RoomValue). v.room.parts) was.2;
         told = subst (TellsStill old) (sym was.2) (tells_itself old);
+        live = subst (KeepsLive old) (sym was.2) (live_itself old);
         empties = was;
         all = was;
       }
   not_emptied room_fault.NoMemory (opened_room, (begun, more, are, some, frees)) =
       let is = erases_these begun old new whole none opened_room keeps frees in
-      record { rest = is.rest; parts = is.parts; told = told_still is.image; empties = is.well; all = (opened_room, (begun, more, are, some, frees)) }
+      record { rest = is.rest; parts = is.parts; told = told_still is.image; live = live_still is.image; empties = is.well; all = (opened_room, (begun, more, are, some, frees)) }
 
 -- ---- no view
 
@@ -284,16 +292,19 @@ module _ (old new : RoomValue) (whole : IsWhole old) (none : old.room.job ≡ No
         told =
             tells_same old new
             (ap (λ (r : RoomState). r.image) steps.room ∙ ap (λ told. option_map (λ (t : Told). t.bytes) told) told ∙ sym (ap (λ (r : RoomState). r.image) whole.of_disk)) keeps.becomes.region_len;
+        live =
+            live_same old new
+            (ap (λ (r : RoomState). r.image) steps.room ∙ ap (λ told. option_map (λ (t : Told). t.bytes) told) told ∙ sym (ap (λ (r : RoomState). r.image) whole.of_disk));
         through = (
           record { opened = shuts.0; shut = ap (λ (r : RoomState). r.is_shut) steps.room; fails = shuts.2 },
           ap (λ (r : RoomState). r.parts) steps.room,
           (ap (λ (r : RoomState). r.retired) steps.room, inl (ap (λ (r : RoomState). r.lost) steps.room ∙ none_lost)),
         );
       }
-  no_view (room_fault.Shut epoch) was = record { rest = subst (KeepsRest old) (sym was.2) (rest_itself old whole none); told = subst (TellsStill old) (sym was.2) (tells_itself old); through = was }
+  no_view (room_fault.Shut epoch) was = record { rest = subst (KeepsRest old) (sym was.2) (rest_itself old whole none); told = subst (TellsStill old) (sym was.2) (tells_itself old); live = subst (KeepsLive old) (sym was.2) (live_itself old); through = was }
   no_view room_fault.NoMemory (opened_room, same) =
       let is : ErasesWell old new = subst (ErasesWell old) (sym same) (erases_none old whole none opened_room) in
-      record { rest = is.rest; told = subst (TellsStill old) (sym same) (tells_itself old); through = (is.well, is.parts, (ap (λ (v : RoomValue). v.room.retired) same, ap (λ (v : RoomValue). v.room.free) same)) }
+      record { rest = is.rest; told = subst (TellsStill old) (sym same) (tells_itself old); live = subst (KeepsLive old) (sym same) (live_itself old); through = (is.well, is.parts, (ap (λ (v : RoomValue). v.room.retired) same, ap (λ (v : RoomValue). v.room.free) same)) }
 
 -- ---- a view
 
@@ -415,7 +426,7 @@ module _ (old mid tried new : RoomValue) (view view' : ViewValue) (is : Passes o
 
   -- the view is of the chain as it stood before, and as it stands behind, where nothing was merged
   of_chain_first : IsViewOf old view
-  of_chain_first = record { parts = is.views.parts; region_len = is.views.region_len; sees = sees }
+  of_chain_first = record { is_view = is.made_view; parts = is.views.parts; region_len = is.views.region_len; sees = sees }
     where
       sees : (p : Part) → Contains old.room.parts p → SameSeen (regions_of p) old.room.image view.eye.told
       sees p there =
@@ -426,6 +437,7 @@ module _ (old mid tried new : RoomValue) (view view' : ViewValue) (is : Passes o
 
   of_chain_last : tried.room.parts ≡ mid.room.parts → IsViewOf new view
   of_chain_last same = record {
+    is_view = is.made_view;
     parts = is.views.parts ∙ sym (parts_all same);
     region_len = sym is.same.region_len ∙ is.region_len ∙ sym is.last.becomes.region_len;
     sees = sees;
@@ -573,6 +585,34 @@ module _ (old mid tried new : RoomValue) (view view' : ViewValue) (is : Passes o
       (subst (λ n. TellsRowsOf tried.room.image n (p ∷ []) rows) (sym is.last.becomes.region_len)
       (told_by_disk tried view' p rows out (subst (λ ps. Contains ps p) (sym (is.same.parts ∙ is.views.parts)) there) seen))
 
+  -- and gives of it the bytes that it gave
+  live_all : KeepsLive old new
+  live_all = record {
+    told = from_view [] (seen_within (set_of view.eye.regions) [] mid.room.image view.eye.told tt shown_before) (seen_within (set_of view'.eye.regions) [] tried.room.image view'.eye.told tt shown_behind);
+    each = λ p there still.
+        from_view (regions_of p) (seen_by mid view p out_before (subst (λ ps. Contains ps p) (sym is.views.parts) there))
+        (seen_by tried view' p out_behind (subst (λ ps. Contains ps p) (sym (is.same.parts ∙ is.views.parts)) there));
+  }
+    where
+      out_before : IsOut mid view
+      out_before = record { whole = is.made; is_view = is.made_view; posted = view_posted old mid view is.whole is.all is.views; region_len = view_len old mid view is.whole is.all is.views }
+
+      out_behind : IsOut tried view'
+      out_behind = record { whole = is.middle; is_view = is.is_view; posted = is.posted; region_len = is.region_len }
+
+      shown_before : SameSeen (set_of view.eye.regions) mid.room.image view.eye.told
+      shown_before = board_shows mid (buffer_at view.seat view.buffer) (opened view.eye) out_before.whole out_before.posted
+
+      shown_behind : SameSeen (set_of view'.eye.regions) tried.room.image view'.eye.told
+      shown_behind = board_shows tried (buffer_at view'.seat view'.buffer) (opened view'.eye) out_behind.whole out_behind.posted
+
+      -- what the eye told all the time, a read told before and tells behind
+      from_view : (regions : List ℕ) → SameSeen regions mid.room.image view.eye.told → SameSeen regions tried.room.image view'.eye.told → SameSeen regions old.room.image new.room.image
+      from_view regions first last =
+          subst (SameSeen regions old.room.image) (sym same_image)
+          (subst (λ image. SameSeen regions image tried.room.image) before_image
+          (seen_then regions mid.room.image view.eye.told tried.room.image first (seen_back regions tried.room.image view.eye.told (subst (SameSeen regions tried.room.image) is.same.eye.told last))))
+
   -- the new part holds the merged rows
   merged_told : (at : ℕ) (was : RoomValue) (seen : ViewValue) (m : Merges at was tried seen) → SameView view seen → new.room.is_shut ≡ false
       → Contains new.room.parts (part_of (job_for m.two m.measure m.regions was.room.free).target (header_for m.two m.measure m.regions was.room.free))
@@ -606,6 +646,7 @@ module _ (old mid tried new : RoomValue) (view view' : ViewValue) (is : Passes o
       record {
         rest = rest_all rest;
         told = told_all;
+        live = live_all;
         through = (
           well,
           record {
@@ -650,6 +691,7 @@ module _ (old mid tried new : RoomValue) (view view' : ViewValue) (is : Passes o
       record {
         rest = rest_all (rest_stays mid.room.free mid tried stays);
         told = told_all;
+        live = live_all;
         through = (well, parts_all (ap (λ (r : RoomState). r.parts) stays.room), retired_all (ap (λ (r : RoomState). r.retired) stays.room), none_fit well.stays stays tries.room.1, all_in_vain stays tries.room.1);
       }
   passed from (Err (merge_fault.Fetch fault)) tries =
@@ -657,6 +699,7 @@ module _ (old mid tried new : RoomValue) (view view' : ViewValue) (is : Passes o
       record {
         rest = rest_all (rest_stays mid.room.free mid tried stays);
         told = told_all;
+        live = live_all;
         through = (refused_all fault stays tries.looks tries.room.1, parts_all (ap (λ (r : RoomState). r.parts) stays.room), retired_all (ap (λ (r : RoomState). r.retired) stays.room), blamed_first from fault stays tries.room.2);
       }
   passed from (Err (merge_fault.Room room_fault.NoMemory)) tries =
@@ -665,6 +708,7 @@ module _ (old mid tried new : RoomValue) (view view' : ViewValue) (is : Passes o
       record {
         rest = rest_all (rest_stays mid.room.free mid tried stays);
         told = told_all;
+        live = live_all;
         through = (
           well_all open_room stays.counts (tries.looks.counts.else_same (λ failed. cc)),
           parts_all (ap (λ (r : RoomState). r.parts) stays.room),
@@ -676,6 +720,7 @@ module _ (old mid tried new : RoomValue) (view view' : ViewValue) (is : Passes o
       record {
         rest = rest_all (rest_falls tried.room.free mid tried falls);
         told = told_all;
+        live = live_all;
         through = (
           shut_all falls,
           parts_all (ap (λ (r : RoomState). r.parts) falls.room),

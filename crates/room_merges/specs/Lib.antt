@@ -1,4 +1,5 @@
 pub mod Merging
 pub mod Work
 pub mod Pairs
+pub mod Live
 pub mod Near

@@ -11,7 +11,7 @@ use Rattle.fine_model.specs.Merge.{FitsFree, merged as rows_of_both}
 use Rattle.fine_model.specs.Regions.{Image}
 use Rattle.fine_model.specs.Views.{SameSeen, TellsRowsOf}
 use Rattle.log_disk.specs.Disk.{HasRisen}
-use Rattle.partition_hold.specs.Views.{SameView, ViewValue}
+use Rattle.partition_hold.specs.Views.{IsView, SameView, ViewValue}
 use Rattle.partition_merge.specs.declared.merger.Measure.{Measure}
 use Rattle.partition_merge.specs.Mergers.{IsMeasureOf, at_front}
 use Rattle.epoch_room.specs.Erasing.{ErasesAllOr}
@@ -24,6 +24,7 @@ use Rattle.epoch_room.specs.declared.answers.RoomFault.{RoomFault}
 use Rattle.epoch_room.specs.declared.answers.RoomFault.TheVariants as room_fault
 use Rattle.room_merges.specs.declared.fault.MergeFault.{MergeFault}
 use Rattle.room_merges.specs.declared.fault.MergeFault.TheVariants as merge_fault
+use Rattle.room_merges.specs.Live.{KeepsLive}
 use Rattle.room_merges.specs.Merging.{EyeTells, OfTold}
 use Rattle.room_merges.specs.Pairs.{IsPassedOver, LosesPart, Merges, header_for, job_for}
 use Rattle.room_merges.specs.Work.{BlamedBy, FallsShut, Looks, StaysOpen}
@@ -178,6 +179,7 @@ NoneFitNow value = (image : Image) → value.room.image ≡ Some image → NoneF
 
 -- A view has all live parts of a room, and its eye tells of each what a read of the disk gives: no bytes where the disk tells none.
 pub record IsViewOf (value : RoomValue) (view : ViewValue) : Type 0 where
+  pub is_view : IsView view
   pub parts : view.parts ≡ value.room.parts
   pub region_len : view.region_len ≡ value.room.region_len
   pub sees : (p : Part) → Contains value.room.parts p → SameSeen (regions_of p) value.room.image view.eye.told
@@ -265,6 +267,7 @@ ThroughOr from old new (Err (merge_fault.Room (room_fault.Shut epoch))) = WasShu
 pub record MergesThrough (from : ℕ) (old new : RoomValue) (result : Result Bool MergeFault) : Type 0 where
   pub rest : KeepsRest old new
   pub told : TellsStill old new
+  pub live : KeepsLive old new
   pub through : ThroughOr from old new result
 
 -- what erasing all retired parts of a room with an empty board does
@@ -285,6 +288,7 @@ pub record Empties (old new : RoomValue) (result : Result (Unit {0}) MergeFault)
   pub rest : KeepsRest old new
   pub parts : new.room.parts ≡ old.room.parts
   pub told : TellsStill old new
+  pub live : KeepsLive old new
   pub empties : EmptiesOr old new result
   pub all : AllErased old new result
 
@@ -314,6 +318,7 @@ ErasedOr from old new (Err (merge_fault.Room (room_fault.Shut epoch))) = WasShut
 pub record MergesErased (from : ℕ) (old new : RoomValue) (result : Result Bool MergeFault) : Type 0 where
   pub rest : KeepsRest old new
   pub told : TellsStill old new
+  pub live : KeepsLive old new
   pub erased : ErasedOr from old new result
 
 -- what was retired was erased first, and then the first neighbours that fit were merged
@@ -356,4 +361,5 @@ NearOr from old new (Err (merge_fault.Room (room_fault.Shut epoch))) = WasShut e
 pub record MergesNear (from : ℕ) (old new : RoomValue) (result : Result Bool MergeFault) : Type 0 where
   pub rest : KeepsRest old new
   pub told : TellsStill old new
+  pub live : KeepsLive old new
   pub near : NearOr from old new result

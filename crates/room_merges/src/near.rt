@@ -169,7 +169,7 @@ fn merge_erased<D: LogDisk>(
 /// True exactly where two were merged: the chain has a part less, over the lowest regions that were free, and none is retired; where both
 /// are in the grammar, the new part holds their merged rows. False where no neighbours fit what is free, by what a read of the disk gives;
 /// none is retired then either, and the chain is as it was. Of each two that are passed over a measure was read. Whatever the answer, each
-/// part that stays in the chain holds the rows that it held.
+/// part that stays in the chain has the bytes that it had, in the grammar or not, by what a read of the disk gives.
 ///
 /// `Shut` comes exactly where an earlier call answered `Disk`, and changes nothing. `Disk` comes only where the disk failed in this call,
 /// and shuts the room: the regions are lost that the failed call was writing, of retired parts that were being erased, or of the new part.

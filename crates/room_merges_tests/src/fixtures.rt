@@ -14,7 +14,7 @@ use std::test::Fail;
 
 // A room on a new disk of eight regions, whose calls fail by a plan.
 pub fn new_room(alloc: Global, plan: FaultPlan) -> Result<Room<MemDisk>, Fail>
-    ensures { IfOk result (λ room. (room.room.board ≡ None ∷ None ∷ None ∷ []) × (room.room.job ≡ None)) }
+    ensures { IfOk result (λ room. (room.room.board ≡ None ∷ None ∷ None ∷ []) × (room.room.job ≡ None) × (room.room.places ≡ 0)) }
 {
     let disk = MemDisk::new(alloc, 8, 4096, plan)?;
     match Room::make(alloc, disk, Items::new(alloc), Items::new(alloc)) {
@@ -46,8 +46,24 @@ fn value(alloc: Global, len: usize) -> Result<Bytes, Fail>
     Ok(Items::from_vec(vec![in alloc; b'v'; len].ok().ok_or("memory")?))
 }
 
-// Puts at the key `a` in a node a value of so many bytes.
+// A row that puts at the key `a` in a node a value of so many bytes.
 #[tactic(auto, unfolding(fine_model::specs::RowBytes::body))]
+pub fn row_of(alloc: Global, number: u32, len: usize) -> Result<Row, Fail>
+    requires low { 1 ≤ number }
+    requires high { number < 100 }
+    requires some { 1 ≤ len }
+    requires few { len ≤ 256 }
+    ensures { IfOk result (FitsRow mark.Two) }
+{
+    let key = text(alloc, b"a")?;
+    let value = value(alloc, len)?;
+    Ok(Row {
+        node: NodeId { bucket: 97, number },
+        version: 1,
+        rec: Rec::Put { key, value },
+    })
+}
+
 fn put(log: &mut PrivateLog, alloc: Global, number: u32, len: usize) -> Result<(), Fail>
     requires low { 1 ≤ number }
     requires high { number < 100 }
@@ -56,15 +72,7 @@ fn put(log: &mut PrivateLog, alloc: Global, number: u32, len: usize) -> Result<(
     requires fit { AllByRecursion (FitsRow mark.Two) log.old }
     ensures { OnOk result (AllByRecursion (FitsRow mark.Two) log.new) }
 {
-    let row = Row {
-        node: NodeId { bucket: 97, number },
-        version: 1,
-        rec: Rec::Put {
-            key: text(alloc, b"a")?,
-            value: value(alloc, len)?,
-        },
-    };
-    match log.push(&row) {
+    match log.push(&row_of(alloc, number, len)?) {
         Ok(()) => Ok(()),
         Err(_refused) => Err("memory")?,
     }

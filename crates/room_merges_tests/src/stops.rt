@@ -136,7 +136,7 @@ fn three_parts(alloc: Global, plan: FaultPlan) -> Result<Room<MemDisk>, Fail>
 }
 
 // The disk of a room as a crash leaves it, where all that was not synced has one byte; as the last sync left it without such bytes.
-fn crash(alloc: Global, room: Room<MemDisk>, byte: u8, len: usize) -> Result<MemDisk, Fail>
+pub fn crash(alloc: Global, room: Room<MemDisk>, byte: u8, len: usize) -> Result<MemDisk, Fail>
     requires board { room.room.board ≡ None ∷ None ∷ None ∷ [] }
     requires job { room.room.job ≡ None }
     ensures { IfOk result (λ disk. IsIdle disk.disk) }
@@ -181,7 +181,7 @@ fn shows_all(room: &mut Room<MemDisk>) -> Result<bool, Fail>
 }
 
 // The last epoch of a log, and whether it shows the rows of all three parts.
-fn reopened(alloc: Global, disk: MemDisk) -> Result<(u64, bool), Fail>
+pub fn reopened(alloc: Global, disk: MemDisk) -> Result<(u64, bool), Fail>
     requires { IsIdle disk.disk }
 {
     match open_log(alloc, disk) {
@@ -206,15 +206,26 @@ fn stopped(
     Ok((answers, reopened(alloc, disk)?))
 }
 
+// What three merges of three parts answer, where the calls fail from a number on. The first merge takes eleven calls, the second eleven, and
+// the third one, for the view's eye.
+fn answers_at(stop: u64) -> [Answer; 3] {
+    if stop < 24 {
+        return [Disk, Shut, Shut];
+    }
+    if stop < 35 {
+        return [Merged, Disk, Shut];
+    }
+    [Merged, Merged, if stop == 35 { Disk } else { NoneFit }]
+}
+
 #[test]
 fn a_merge_that_is_stopped_loses_no_row(rt: HostRuntime) -> Result<(), Fail> {
     // what was not synced is as it was; or each gate that was being written is open, or closed, behind which other bytes stand
     for (byte, len) in [(0, 0), (0xa7, 8192), (0, 8192)] {
-        for stop in [13, 14] {
-            assert_eq!(rt;
-                stopped(rt.alloc(), stop, byte, len)?,
-                ([Disk, Shut, Shut], (3, true))
-            );
+        for stop in 13..37 {
+            let (answers, shown) = stopped(rt.alloc(), stop, byte, len)?;
+            assert_eq!(rt; answers, answers_at(stop));
+            assert_eq!(rt; shown, (3, true));
         }
     }
     Ok(())

@@ -7,6 +7,11 @@ use Rattle.fine_model.specs.Types.ending
 use Rattle.fine_model.specs.NumberText.{digits_worth, number_of}
 use Rattle.fine_model.specs.RowBytes.{most_in_key, most_in_value}
 
+-- the ending is a commit
+abbrev pub is_commit : Ending → Bool
+is_commit ending.Commit = true
+is_commit ending.Abort = false
+
 -- b before the first of the pieces
 abbrev pub onto_first : ℕ → List (List ℕ) → List (List ℕ)
 onto_first b [] = (b ∷ []) ∷ []
@@ -132,32 +137,23 @@ pub data Refusal : Type 0 where
   too_long : ℕ → Refusal
   bad_line : ℕ → Refusal
 
--- what was read, where the scripts that are taken reach so far
-abbrev pub within_reach : (Reading → Bool) → Option Reading → Option Reading
-within_reach reach None = None
-within_reach reach (Some r) = if reach r then Some r else None
-
 -- The lines from line n on, behind what was read before; the end of the input counts as one line more. A line is bad where it
--- may not stand, or where what was read with it is out of reach.
-unfoldable pub script_from : (Reading → Bool) → ℕ → Reading → List (List ℕ) → Result (List ScriptTxn) Refusal
-script_from reach n r [] = at_end r.open_txn
+-- may not stand.
+unfoldable pub script_from : ℕ → Reading → List (List ℕ) → Result (List ScriptTxn) Refusal
+script_from n r [] = at_end r.open_txn
   where
     at_end : Option (ℕ × List Call) → Result (List ScriptTxn) Refusal
     at_end None = Ok r.done
     at_end (Some t) = Err (bad_line n)
-script_from reach n r (line ∷ rest) =
+script_from n r (line ∷ rest) =
     if nat_lt 1000000 n then Err (many n)
     else (if nat_lt 512 (length line) then Err (too_long n)
-    else go_on (within_reach reach (line_added r (meaning line))) (λ s. script_from reach (n + 1) s rest))
+    else go_on (line_added r (meaning line)) (λ s. script_from (n + 1) s rest))
   where
     go_on : Option Reading → (Reading → Result (List ScriptTxn) Refusal) → Result (List ScriptTxn) Refusal
     go_on None next = Err (bad_line n)
     go_on (Some s) next = next s
 
--- the script that bytes spell within a reach, or its first refusal
-abbrev pub script_within : (Reading → Bool) → List ℕ → Result (List ScriptTxn) Refusal
-script_within reach bytes = script_from reach 1 (record { done = []; open_txn = None }) (lines bytes)
-
 -- the script that bytes spell, or its first refusal
 unfoldable pub script_of : List ℕ → Result (List ScriptTxn) Refusal
-script_of bytes = script_within (λ r. true) bytes
+script_of bytes = script_from 1 (record { done = []; open_txn = None }) (lines bytes)

@@ -15,7 +15,7 @@ use crate::words::is_run;
 use fine_model::{Damage, Reason, RunFault, Script};
 use log_disk::LogDisk;
 use reopen::{Chain, OpenFault, read_chain};
-use script_text::{ScriptFault, Source, read_whole_script};
+use script_text::{ScriptFault, Source, read_script};
 use std::alloc::Global;
 
 /// A script that may be run, and the chain of the log that it runs on.
@@ -85,7 +85,7 @@ pub fn open_run<S: Source, D: LogDisk>(
     if !is_run(words) {
         return Err(Reason::Words);
     }
-    let script = match read_whole_script(alloc, source) {
+    let script = match read_script(alloc, source) {
         Ok(script) => script,
         Err(fault) => return Err(reason_of(fault)),
     };

@@ -10,7 +10,7 @@ use Rattle.fine_model.specs.declared.Ran.{Ran}
 use Rattle.fine_model.specs.declared.Reason.TheVariants as reason
 use Rattle.fine_model.specs.declared.ScriptTxn.{ScriptTxn}
 use Rattle.fine_model.specs.Map.{Pair, map_after}
-use Rattle.fine_model.specs.Reach.{is_commit}
+use Rattle.fine_model.specs.Script.{is_commit}
 use Rattle.fine_model.specs.Report.{report, reason_bytes}
 use Rattle.fine_model.specs.Script.{Refusal, many, too_long, bad_line, script_of}
 use Rattle.fine_model.specs.Store.{replies_to, writes_of}

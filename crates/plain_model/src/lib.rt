@@ -17,7 +17,7 @@ use crate::run::run_script;
 use crate::text::{Rest, Text};
 pub use calls::{Replied, answer_call, answer_calls};
 use fine_model::{NoMemory, Reason, Script};
-use script_text::{ScriptFault, read_whole_script, write_reason, write_report};
+use script_text::{ScriptFault, read_script, write_reason, write_report};
 use std::alloc::Global;
 pub use store::{pairs_between, put_pair, remove_pair, value_of};
 
@@ -53,7 +53,7 @@ pub fn run_plain(alloc: Global, script: &[u8]) -> Result<Vec<u8>, NoMemory>
     ensures { IfOk result (λ text. text.items ≡ plain_output script.now) }
 {
     let mut source = Rest { bytes: script };
-    match read_whole_script(alloc, &mut source) {
+    match read_script(alloc, &mut source) {
         Ok(script) => print_run(alloc, &script),
         Err(ScriptFault::Many { line }) => print_refusal(alloc, line),
         Err(ScriptFault::TooLong { line }) => print_refusal(alloc, line),

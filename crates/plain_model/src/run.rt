@@ -3,7 +3,7 @@
 ghost use Rattle.std.specs.Prelude.{◌≡◌, ◌≤◌, ◌+◌, [], length, IfOk, OnOk};
 ghost use Rattle.std.specs.List.{list_any};
 ghost use Rattle.fine_model.specs.Bounds.{FitsScript};
-ghost use Rattle.fine_model.specs.Reach.{is_commit};
+ghost use Rattle.fine_model.specs.Script.{is_commit};
 ghost use Rattle.plain_model.specs.Place.{Ascends};
 ghost use Rattle.plain_model.specs.Plain.{entry_on, outcome_at, map_behind, place_behind, outcomes_on, last_epoch, plain_run};
 

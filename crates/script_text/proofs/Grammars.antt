@@ -1,7 +1,7 @@
 -- Lines and scripts, by the grammar.
 use Rattle.std.proofs.Common.{◌≡◌, ◌≢◌, ℕ, ◌+◌, ◌<◌, ◌≤◌, ◌==◌, nat_lt, if◌then◌else◌, Bool, true, false, List, [], ◌∷◌, ◌++◌, length, Some, None, Err, refl, ap, ◌∙◌, arith}
 use Rattle.std.proofs.lemmas.Bool.Decides.{nat_tests}
-use Rattle.fine_model.specs.Script.{lines, onto_first, script_from, Reading, within_reach, line_added, meaning, many, too_long, bad_line}
+use Rattle.fine_model.specs.Script.{lines, onto_first, script_from, Reading, line_added, meaning, many, too_long, bad_line}
 
 abbrev pub AreLetters : List ℕ → Type 0
 AreLetters [] = Unit {0}
@@ -48,33 +48,33 @@ lines_last [] h p = absurd (omega arith)
 lines_last (b ∷ []) h p = line_letter b [] h.0
 lines_last (b ∷ c ∷ bs) h p = line_letter b (c ∷ bs) h.0 ∙ ap (onto_first b) (lines_last (c ∷ bs) h.1 (omega arith))
 
-pub script_step : (reach : Reading → Bool) (n : ℕ) (r s : Reading) (line : List ℕ) (more : List (List ℕ)) → n ≤ 1000000 → length line ≤ 512
-    → within_reach reach (line_added r (meaning line)) ≡ Some s → script_from reach n r (line ∷ more) ≡ script_from reach (n + 1) s more
+pub script_step : (n : ℕ) (r s : Reading) (line : List ℕ) (more : List (List ℕ)) → n ≤ 1000000 → length line ≤ 512
+    → line_added r (meaning line) ≡ Some s → script_from n r (line ∷ more) ≡ script_from (n + 1) s more
 unfolding script_from
-script_step reach n r s line more l k e =
+script_step n r s line more l k e =
     let few : nat_lt 1000000 n ≡ false = grind (arith, nat_tests) in
     let short : nat_lt 512 (length line) ≡ false = grind (arith, nat_tests) in
     rw (few, short, e) refl
 
-pub script_bad : (reach : Reading → Bool) (n : ℕ) (r : Reading) (line : List ℕ) (more : List (List ℕ)) → n ≤ 1000000 → length line ≤ 512
-    → within_reach reach (line_added r (meaning line)) ≡ None → script_from reach n r (line ∷ more) ≡ Err (bad_line n)
+pub script_bad : (n : ℕ) (r : Reading) (line : List ℕ) (more : List (List ℕ)) → n ≤ 1000000 → length line ≤ 512
+    → line_added r (meaning line) ≡ None → script_from n r (line ∷ more) ≡ Err (bad_line n)
 unfolding script_from
-script_bad reach n r line more l k e =
+script_bad n r line more l k e =
     let few : nat_lt 1000000 n ≡ false = grind (arith, nat_tests) in
     let short : nat_lt 512 (length line) ≡ false = grind (arith, nat_tests) in
     rw (few, short, e) refl
 
-pub script_long : (reach : Reading → Bool) (n : ℕ) (r : Reading) (line : List ℕ) (more : List (List ℕ)) → n ≤ 1000000 → 512 < length line
-    → script_from reach n r (line ∷ more) ≡ Err (too_long n)
+pub script_long : (n : ℕ) (r : Reading) (line : List ℕ) (more : List (List ℕ)) → n ≤ 1000000 → 512 < length line
+    → script_from n r (line ∷ more) ≡ Err (too_long n)
 unfolding script_from
-script_long reach n r line more l k =
+script_long n r line more l k =
     let few : nat_lt 1000000 n ≡ false = grind (arith, nat_tests) in
     let long : nat_lt 512 (length line) ≡ true = grind (arith, nat_tests) in
     rw (few, long) refl
 
-pub script_many : (reach : Reading → Bool) (n : ℕ) (r : Reading) (line : List ℕ) (more : List (List ℕ)) → 1000000 < n
-    → script_from reach n r (line ∷ more) ≡ Err (many n)
+pub script_many : (n : ℕ) (r : Reading) (line : List ℕ) (more : List (List ℕ)) → 1000000 < n
+    → script_from n r (line ∷ more) ≡ Err (many n)
 unfolding script_from
-script_many reach n r line more l =
+script_many n r line more l =
     let much : nat_lt 1000000 n ≡ true = grind (arith, nat_tests) in
     rw much refl

@@ -7,7 +7,6 @@ pub mod Wording
 pub mod Aheading
 pub mod Grammars
 pub mod Following
-pub mod Reaching
 pub mod Feeds
 pub mod Telling
 pub mod NoFeedReplies

@@ -9,7 +9,7 @@ use Rattle.fine_model.specs.declared.Call.TheVariants as call
 use Rattle.fine_model.specs.declared.Ending.TheVariants as ending
 use Rattle.fine_model.specs.declared.ScriptTxn.{ScriptTxn}
 use Rattle.fine_model.specs.NumberText.{number_of}
-use Rattle.fine_model.specs.Script.{lines, onto_first, without_return, pieces, words, natural_of, Line, skipped, begins, calls, ends, faulty, is_key, is_value, line_or_faulty, by_word, when, said, is_comment, is_printable, meaning, Reading, line_added, within_reach, script_from, script_of}
+use Rattle.fine_model.specs.Script.{lines, onto_first, without_return, pieces, words, natural_of, Line, skipped, begins, calls, ends, faulty, is_key, is_value, line_or_faulty, by_word, when, said, is_comment, is_printable, meaning, Reading, line_added, script_from, script_of}
 use Rattle.fine_model.proofs.Sets.{all_append, all_filter}
 use Rattle.script_text.specs.Marks.{HasNoFeed, CallHasNoFeed}
 use Rattle.script_text.proofs.Grammars.{script_step, script_bad, script_long, script_many}
@@ -161,31 +161,27 @@ added_all done (Some t) (ends how) s read h e =
 abbrev pub IsPlainScript : List ScriptTxn → Type 0
 IsPlainScript script = AllByRecursion TxnHasNoFeed script × (length script ≤ 100000)
 
-within_whole : (o : Option Reading) (s : Reading) → within_reach (λ r. true) o ≡ Some s → o ≡ Some s
-within_whole None s e = absurd cc
-within_whole (Some r) s e = e
-
 ended_all : (n : ℕ) (done : List ScriptTxn) (open_txn : Option (ℕ × List Call)) (script : List ScriptTxn) → IsReading (record { done = done; open_txn = open_txn })
-    → script_from (λ r. true) n (record { done = done; open_txn = open_txn }) [] ≡ Ok script → IsPlainScript script
+    → script_from n (record { done = done; open_txn = open_txn }) [] ≡ Ok script → IsPlainScript script
 unfolding script_from
 ended_all n done None script read e = let same : done ≡ script = cc in subst IsPlainScript same (read.done, read.few)
 ended_all n done (Some t) script read e = absurd cc
 
 script_from_all : (n : ℕ) (r : Reading) (ls : List (List ℕ)) (script : List ScriptTxn) → IsReading r → AllByRecursion HasNoFeed ls
-    → script_from (λ r. true) n r ls ≡ Ok script → IsPlainScript script
+    → script_from n r ls ≡ Ok script → IsPlainScript script
 script_from_all n r [] script read all e = ended_all n r.done r.open_txn script read e
 script_from_all n r (line ∷ rest) script read all e =
-    by (nat_lt 1000000 n) (nat_lt 512 (length line)) (within_reach (λ r. true) (line_added r (meaning line))) refl refl refl
+    by (nat_lt 1000000 n) (nat_lt 512 (length line)) (line_added r (meaning line)) refl refl refl
     (λ s read' e'. script_from_all (n + 1) s rest script read' all.1 e')
   where
-    by : (t u : Bool) (o : Option Reading) → nat_lt 1000000 n ≡ t → nat_lt 512 (length line) ≡ u → within_reach (λ r. true) (line_added r (meaning line)) ≡ o
-        → ((s : Reading) → IsReading s → script_from (λ r. true) (n + 1) s rest ≡ Ok script → IsPlainScript script) → IsPlainScript script
-    by true u o p q is next = absurd (let bad = script_many (λ r. true) n r line rest (grind (arith, nat_tests)) in cc)
-    by false true o p q is next = absurd (let bad = script_long (λ r. true) n r line rest (grind (arith, nat_tests)) (grind (arith, nat_tests)) in cc)
-    by false false None p q is next = absurd (let bad = script_bad (λ r. true) n r line rest (grind (arith, nat_tests)) (grind (arith, nat_tests)) is in cc)
+    by : (t u : Bool) (o : Option Reading) → nat_lt 1000000 n ≡ t → nat_lt 512 (length line) ≡ u → line_added r (meaning line) ≡ o
+        → ((s : Reading) → IsReading s → script_from (n + 1) s rest ≡ Ok script → IsPlainScript script) → IsPlainScript script
+    by true u o p q is next = absurd (let bad = script_many n r line rest (grind (arith, nat_tests)) in cc)
+    by false true o p q is next = absurd (let bad = script_long n r line rest (grind (arith, nat_tests)) (grind (arith, nat_tests)) in cc)
+    by false false None p q is next = absurd (let bad = script_bad n r line rest (grind (arith, nat_tests)) (grind (arith, nat_tests)) is in cc)
     by false false (Some s) p q is next =
-        let step = script_step (λ r. true) n r s line rest (grind (arith, nat_tests)) (grind (arith, nat_tests)) is in
-        next s (added_all r.done r.open_txn (meaning line) s read (meaning_all line all.0) (within_whole _ s is)) (sym step ∙ e)
+        let step = script_step n r s line rest (grind (arith, nat_tests)) (grind (arith, nat_tests)) is in
+        next s (added_all r.done r.open_txn (meaning line) s read (meaning_all line all.0) is) (sym step ∙ e)
 
 -- a script that bytes spell has at most so many transactions, and no line feed in its calls
 pub script_all : (bytes : List ℕ) (script : List ScriptTxn) → script_of bytes ≡ Ok script → IsPlainScript script

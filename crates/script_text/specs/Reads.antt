@@ -2,7 +2,6 @@
 use Rattle.std.specs.Prelude.{◌≡◌, ℕ, ◌≤◌, List, Result, Err, ⊤}
 use Rattle.fine_model.specs.declared.ScriptTxn.{ScriptTxn}
 use Rattle.fine_model.specs.Script.{Refusal, many, too_long, bad_line, script_of}
-use Rattle.fine_model.specs.Reach.{reached_script_of}
 use Rattle.script_text.specs.declared.read.ScriptFault.{ScriptFault}
 use Rattle.script_text.specs.declared.read.ScriptFault.TheVariants as script_fault
 
@@ -16,11 +15,7 @@ IsRefusal script_fault.NoMemory read = ⊤
 
 -- a fault is the first refusal of these bytes, where it is one
 abbrev pub IsRefused : ScriptFault → List ℕ → Type 0
-IsRefused fault bytes = IsRefusal fault (reached_script_of bytes)
-
--- a fault is the first refusal of these bytes by the whole grammar, where it is one
-abbrev pub IsRefusedByAll : ScriptFault → List ℕ → Type 0
-IsRefusedByAll fault bytes = IsRefusal fault (script_of bytes)
+IsRefused fault bytes = IsRefusal fault (script_of bytes)
 
 -- lines are numbered from 1
 abbrev pub HasLine : ScriptFault → Type 0

@@ -1,9 +1,8 @@
 -- One line of a script after another.
 use Rattle.std.specs.Prelude.{◌≡◌, ℕ, ◌+◌, ◌≤◌, List, [], Option, Some, IfSome}
-use Rattle.fine_model.specs.Script.{Reading, script_within}
-use Rattle.script_text.specs.Reading.{reach_of, Follows}
+use Rattle.fine_model.specs.Script.{Reading, script_of}
+use Rattle.script_text.specs.Reading.{Follows}
 use Rattle.script_text.specs.Reads.{IsRefusal}
-use Rattle.script_text.specs.declared.reach.Reach.{Reach}
 use Rattle.script_text.specs.declared.read.ScriptFault.{ScriptFault}
 use Rattle.script_text.specs.declared.read.Turn.{Turn}
 use Rattle.script_text.specs.declared.read.Turn.TheVariants as turn
@@ -19,10 +18,10 @@ IsAtEnd turn.More n ahead = Unit {0}
 IsAtEnd (turn.Ended line) n ahead = (n ≤ line) × (line ≤ n + 1) × IfSome ahead (λ rest. rest ≡ [])
 
 -- a line was read, and what is ahead is read from there
-pub record Goes (within : Reach) (t : Turn) (n : ℕ) (old new : Option (List ℕ)) (r s : Reading) : Type 0 where
-  pub follows : (start : Option (List ℕ)) → Follows within start old n r → Follows within start new (next_number t n) s
+pub record Goes (t : Turn) (n : ℕ) (old new : Option (List ℕ)) (r s : Reading) : Type 0 where
+  pub follows : (start : Option (List ℕ)) → Follows start old n r → Follows start new (next_number t n) s
   pub end : IsAtEnd t n new
 
 -- a line was refused
-pub record Refuses (within : Reach) (fault : ScriptFault) (n : ℕ) (old : Option (List ℕ)) (r : Reading) : Type 0 where
-  pub refused : (start : Option (List ℕ)) → Follows within start old n r → (bytes : List ℕ) → start ≡ Some bytes → IsRefusal fault (script_within (reach_of within) bytes)
+pub record Refuses (fault : ScriptFault) (n : ℕ) (old : Option (List ℕ)) (r : Reading) : Type 0 where
+  pub refused : (start : Option (List ℕ)) → Follows start old n r → (bytes : List ℕ) → start ≡ Some bytes → IsRefusal fault (script_of bytes)

@@ -2,23 +2,20 @@
 
 ghost use Rattle.std.specs.Prelude.{◌≡◌, ℕ, true, ◌+◌, ◌≤◌, List, [], Some, None, Ok, Err, IfOk, IfErr, OnOk, MatchResult, IsErrOf};
 ghost use Rattle.fine_model.specs.Faults.{CountsFault};
-ghost use Rattle.fine_model.specs.Script.{meaning, script_from, script_within, script_of, bad_line};
-ghost use Rattle.fine_model.specs.Reach.{IsTaken, reached_script_of};
+ghost use Rattle.fine_model.specs.Script.{meaning, script_from, script_of, bad_line};
 ghost use Rattle.script_text.specs.declared.read.ScriptFault.TheVariants as script_fault;
 ghost use Rattle.script_text.specs.Streams.{before};
-ghost use Rattle.script_text.specs.Reading.{reading_of, reach_of, Steps, IsRead};
-ghost use Rattle.script_text.specs.Grammar.{meant};
-ghost use Rattle.script_text.specs.Reads.{IsRefusal, IsRefused, IsRefusedByAll, HasLine};
+ghost use Rattle.script_text.specs.Reading.{reading_of, Adds};
+ghost use Rattle.script_text.specs.Reads.{IsRefused, HasLine};
 ghost use Rattle.script_text.specs.Turns.{Goes, Refuses};
 ghost use Rattle.script_text.specs.Fits.{FitsReading};
 ghost use Rattle.fine_model.specs.Bounds.{FitsScript};
 
-use super::grammar::{SaidLine, parse_line};
+use super::grammar::parse_line;
 use super::lines::{Chunk, LineBytes, LineEnd, next_line};
-use super::reach::{Reach, is_within};
 use super::reading::Progress;
 use super::{Failed, Source};
-use fine_model::{Call, NoMemory, Script};
+use fine_model::{NoMemory, Script};
 use std::alloc::Global;
 use thiserror::Error;
 
@@ -55,44 +52,24 @@ impl From<Failed> for ScriptFault {
     }
 }
 
-/// Whether a line says a read.
-fn is_read(said: &SaidLine) -> bool
-    ensures { result ≡ true → IsRead (meant said.now) }
-{
-    match said {
-        SaidLine::Calls { call } => matches!(call, Call::Get { .. }),
-        _ => false,
-    }
-}
-
-/// Whether a line stood where it was added, and is within reach there. What says nothing needs no test, nor
-/// does a read.
+/// Adds a line, if it may stand where it does.
 #[tactic(auto, unfolding(fine_model::specs::Script::line_added))]
-fn step(alloc: Global, reach: Reach, progress: &mut Progress, line: &[u8]) -> Result<bool, NoMemory>
-    requires reached { reach_of reach (reading_of progress.old) ≡ true }
+fn step(alloc: Global, progress: &mut Progress, line: &[u8]) -> Result<bool, NoMemory>
     requires fits { FitsReading (reading_of progress.old) }
-    ensures steps { IfOk result (λ stands. Steps reach stands (meaning line.now) (reading_of progress.old) (reading_of progress.new)) }
-    ensures reached { IfOk result (λ stands. stands ≡ true → reach_of reach (reading_of progress.new) ≡ true) }
+    ensures adds { IfOk result (λ added. Adds added (meaning line.now) (reading_of progress.old) (reading_of progress.new)) }
     ensures fits { OnOk result (FitsReading (reading_of progress.new)) }
 {
     let said = parse_line(alloc, line)?;
-    if matches!(&said, SaidLine::Skipped) {
-        return Ok(true);
-    }
-    let reads = is_read(&said);
-    let stands = progress.add(alloc, said)?;
-    Ok(stands && (reads || is_within(reach, progress)))
+    progress.add(alloc, said)
 }
 
 /// The script that was read, where the input ends at a line.
 #[tactic(auto, unfolding(fine_model::specs::Script::script_from))]
-fn finish(reach: Reach, progress: Progress, line: u32) -> Result<Script, ScriptFault>
+fn finish(progress: Progress, line: u32) -> Result<Script, ScriptFault>
     requires fits { FitsReading (reading_of progress) }
-    requires reached { reach_of reach (reading_of progress) ≡ true }
     ensures fits { IfOk result FitsScript }
-    ensures reached { IfOk result (λ script. reach_of reach (record { done = script; open_txn = None }) ≡ true) }
-    ensures ok { IfOk result (λ script. script_from (reach_of reach) line (reading_of progress) [] ≡ Ok script) }
-    ensures err { IfErr result (λ fault. (fault ≡ ScriptFault.Bad line) × (script_from (reach_of reach) line (reading_of progress) [] ≡ Err (bad_line line))) }
+    ensures ok { IfOk result (λ script. script_from line (reading_of progress) [] ≡ Ok script) }
+    ensures err { IfErr result (λ fault. (fault ≡ ScriptFault.Bad line) × (script_from line (reading_of progress) [] ≡ Err (bad_line line))) }
 {
     match progress.open_txn {
         None => Ok(progress.done),
@@ -110,7 +87,6 @@ enum Turn {
 /// Reads a line of the input by its number.
 fn read_line<S: Source>(
     alloc: Global,
-    reach: Reach,
     chunk: &mut Chunk,
     source: &mut S,
     progress: &mut Progress,
@@ -119,19 +95,17 @@ fn read_line<S: Source>(
 ) -> Result<Turn, ScriptFault>
     requires first { 1 ≤ number }
     requires last { number ≤ 1000000 }
-    requires reached { reach_of reach (reading_of progress.old) ≡ true }
     requires fits { FitsReading (reading_of progress.old) }
     ensures fits { OnOk result (FitsReading (reading_of progress.new)) }
-    ensures ok { IfOk result (λ turn. Goes reach turn number (before chunk.old (S.left source.old)) (before chunk.new (S.left source.new)) (reading_of progress.old) (reading_of progress.new)) }
-    ensures err { IfErr result (λ fault. Refuses reach fault number (before chunk.old (S.left source.old)) (reading_of progress.old)) }
-    ensures reached { OnOk result (reach_of reach (reading_of progress.new) ≡ true) }
+    ensures ok { IfOk result (λ turn. Goes turn number (before chunk.old (S.left source.old)) (before chunk.new (S.left source.new)) (reading_of progress.old) (reading_of progress.new)) }
+    ensures err { IfErr result (λ fault. Refuses fault number (before chunk.old (S.left source.old)) (reading_of progress.old)) }
     ensures line { IfErr result HasLine }
     ensures counts { CountsFault (IsErrOf result ScriptFault.Read) (S.faults source.old) (S.faults source.new) }
 {
     match next_line(chunk, source, line)? {
         LineEnd::TooLong => Err(ScriptFault::TooLong { line: number }),
         LineEnd::Feed => {
-            if !step(alloc, reach, progress, line.as_slice())? {
+            if !step(alloc, progress, line.as_slice())? {
                 return Err(ScriptFault::Bad { line: number });
             }
             Ok(Turn::More)
@@ -140,7 +114,7 @@ fn read_line<S: Source>(
             if line.as_slice().is_empty() {
                 return Ok(Turn::Ended { line: number });
             }
-            if !step(alloc, reach, progress, line.as_slice())? {
+            if !step(alloc, progress, line.as_slice())? {
                 return Err(ScriptFault::Bad { line: number });
             }
             Ok(Turn::Ended { line: number + 1 })
@@ -148,70 +122,31 @@ fn read_line<S: Source>(
     }
 }
 
-/// Reads a script within a reach.
-fn read_within<S: Source>(
-    alloc: Global,
-    reach: Reach,
-    source: &mut S,
-) -> Result<Script, ScriptFault>
-    ensures script { IfOk result (λ script. (bytes : List ℕ) → S.left source.old ≡ Some bytes → script_within (reach_of reach) bytes ≡ Ok script) }
+/// Reads a script to the end of a source, which may have up to 1,000,000 lines of 512 bytes. A source that has more is read up to line
+/// 1,000,001, and one with a longer line up to this line's 513th byte. A refusal names the first line that is not of the grammar, too
+/// long or one too many. Of a source that was refused, what is left is not told.
+#[tactic(auto, unfolding(fine_model::specs::Script::script_of))]
+pub fn read_script<S: Source>(alloc: Global, source: &mut S) -> Result<Script, ScriptFault>
+    ensures script { IfOk result (λ script. (bytes : List ℕ) → S.left source.old ≡ Some bytes → script_of bytes ≡ Ok script) }
     ensures end { OnOk result ((bytes : List ℕ) → S.left source.old ≡ Some bytes → S.left source.new ≡ Some []) }
-    ensures refused { IfErr result (λ fault. (bytes : List ℕ) → S.left source.old ≡ Some bytes → IsRefusal fault (script_within (reach_of reach) bytes)) }
+    ensures refused { IfErr result (λ fault. (bytes : List ℕ) → S.left source.old ≡ Some bytes → IsRefused fault bytes) }
     ensures line { IfErr result HasLine }
     ensures fits { IfOk result FitsScript }
-    ensures reached { IfOk result (λ script. reach_of reach (record { done = script; open_txn = None }) ≡ true) }
     ensures counts { CountsFault (IsErrOf result ScriptFault.Read) (S.faults source.old) (S.faults source.new) }
 {
     let mut chunk = Chunk::new();
     let mut line = LineBytes::new();
     let mut progress = Progress::new(alloc);
     for number in 1..=MOST_LINES {
-        let turn = read_line(
-            alloc,
-            reach,
-            &mut chunk,
-            source,
-            &mut progress,
-            &mut line,
-            number,
-        )?;
+        let turn = read_line(alloc, &mut chunk, source, &mut progress, &mut line, number)?;
         if let Turn::Ended { line } = turn {
-            return finish(reach, progress, line);
+            return finish(progress, line);
         }
     }
     match chunk.next(source)? {
-        None => finish(reach, progress, MOST_LINES + 1),
+        None => finish(progress, MOST_LINES + 1),
         Some(_) => Err(ScriptFault::Many {
             line: MOST_LINES + 1,
         }),
     }
-}
-
-/// Reads a script to the end of a source. It ends at line 1,000,001 or at a line's 513th byte at the latest. A line that goes
-/// beyond what the program takes today is bad.
-#[tactic(auto, unfolding(fine_model::specs::Reach::reached_script_of))]
-pub fn read_script<S: Source>(alloc: Global, source: &mut S) -> Result<Script, ScriptFault>
-    ensures script { IfOk result (λ script. (bytes : List ℕ) → S.left source.old ≡ Some bytes → reached_script_of bytes ≡ Ok script) }
-    ensures end { OnOk result ((bytes : List ℕ) → S.left source.old ≡ Some bytes → S.left source.new ≡ Some []) }
-    ensures refused { IfErr result (λ fault. (bytes : List ℕ) → S.left source.old ≡ Some bytes → IsRefused fault bytes) }
-    ensures line { IfErr result HasLine }
-    ensures fits { IfOk result FitsScript }
-    ensures reach { IfOk result IsTaken }
-    ensures counts { CountsFault (IsErrOf result ScriptFault.Read) (S.faults source.old) (S.faults source.new) }
-{
-    read_within(alloc, Reach::FirstPath, source)
-}
-
-/// Reads a script to the end of a source, by the whole grammar: with calls and transactions beyond those that the program
-/// takes today. It ends at line 1,000,001 or at a line's 513th byte at the latest.
-#[tactic(auto, unfolding(fine_model::specs::Script::script_of))]
-pub fn read_whole_script<S: Source>(alloc: Global, source: &mut S) -> Result<Script, ScriptFault>
-    ensures script { IfOk result (λ script. (bytes : List ℕ) → S.left source.old ≡ Some bytes → script_of bytes ≡ Ok script) }
-    ensures end { OnOk result ((bytes : List ℕ) → S.left source.old ≡ Some bytes → S.left source.new ≡ Some []) }
-    ensures refused { IfErr result (λ fault. (bytes : List ℕ) → S.left source.old ≡ Some bytes → IsRefusedByAll fault bytes) }
-    ensures line { IfErr result HasLine }
-    ensures fits { IfOk result FitsScript }
-    ensures counts { CountsFault (IsErrOf result ScriptFault.Read) (S.faults source.old) (S.faults source.new) }
-{
-    read_within(alloc, Reach::Whole, source)
 }

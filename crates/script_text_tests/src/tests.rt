@@ -6,7 +6,7 @@ use fine_model::{
 };
 use script_text::{
     Failed, MemSink, MemSource, ScriptFault, Sink, Source, StdSink, StdSource, read_script,
-    read_whole_script, write_reason, write_report,
+    write_reason, write_report,
 };
 use std::alloc::Global;
 
@@ -66,28 +66,9 @@ fn reads_what_the_grammar_takes(rt: HostRuntime) -> Result<(), NoMemory> {
     Ok(())
 }
 
-#[test]
-fn refuses_what_is_out_of_reach(rt: HostRuntime) -> Result<(), NoMemory> {
-    let alloc = rt.alloc();
-    let table = [
-        ("txn 1\ncommit\ntxn 2\n", 3),
-        ("txn 2\n", 1),
-        ("txn 1\ndel a\n", 2),
-        ("txn 1\nadd a 1\n", 2),
-        ("txn 1\nscan a b 1\n", 2),
-        ("txn 1\nabort\n", 2),
-    ];
-    for (text, line) in table {
-        let mut source = source_of(alloc, text)?;
-        assert_eq!(rt; read(alloc, &mut source), ("bad", line));
-    }
-    Ok(())
-}
-
-/// The lane of the last transaction that is read by the whole grammar, and the number of its calls; or 0 and the line that
-/// is bad.
+/// The lane of the last transaction that is read, and the number of its calls; or 0 and the line that is bad.
 fn last_read<S: Source>(alloc: Global, source: &mut S) -> (u32, usize) {
-    match read_whole_script(alloc, source) {
+    match read_script(alloc, source) {
         Ok(script) => match script.as_slice().last() {
             Some(txn) => (u32::from(txn.lane), txn.calls.len()),
             None => (0, 0),
@@ -98,7 +79,7 @@ fn last_read<S: Source>(alloc: Global, source: &mut S) -> (u32, usize) {
 }
 
 #[test]
-fn the_whole_grammar_reaches_further(rt: HostRuntime) -> Result<(), NoMemory> {
+fn reads_every_lane_and_call(rt: HostRuntime) -> Result<(), NoMemory> {
     let alloc = rt.alloc();
     let table = [
         ("txn 1\ncommit\ntxn 16\nabort\n", (16, 0)),
@@ -127,16 +108,8 @@ fn reads_up_to_its_limits(rt: HostRuntime) -> Result<(), NoMemory> {
         (("#", "x", 512, ""), "long", 1),
         (("", "\n", 1_000_000, ""), "ok", 0),
         (("", "\n", 1_000_000, "\n"), "many", 1_000_001),
-        (("txn 1\n", "put a 1\n", 32, "commit\n"), "ok", 0),
-        (("txn 1\n", "put a 1\n", 33, "commit\n"), "bad", 34),
-        (
-            ("", "txn 1\nput a 1\ncommit\n", 32, "txn 1\nget a\ncommit\n"),
-            "ok",
-            0,
-        ),
-        (("", "txn 1\nput a 1\ncommit\n", 33, ""), "bad", 98),
-        (("", "txn 1\ncommit\n", 64, ""), "ok", 0),
-        (("", "txn 1\ncommit\n", 65, ""), "bad", 129),
+        (("", "txn 1\ncommit\n", 100_000, ""), "ok", 0),
+        (("", "txn 1\ncommit\n", 100_000, "txn 1\n"), "bad", 200_001),
         (("txn 1\n", "get a\n", 10_000, "commit\n"), "ok", 0),
         (("txn 1\n", "get a\n", 10_001, "commit\n"), "bad", 10_002),
     ];

@@ -1,0 +1,10 @@
+pub mod Printed
+pub mod Ranges
+pub mod Origins
+pub mod Stepping
+pub mod Merges
+pub mod Blamed
+pub mod Live
+pub mod Logs
+pub mod MergeTheorem
+pub mod AnyTheorem

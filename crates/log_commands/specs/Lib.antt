@@ -1,0 +1,4 @@
+pub mod Ends
+pub mod Found
+pub mod Merged
+pub mod Origins

@@ -1,4 +1,9 @@
 pub mod Chainless
-pub mod Commanded
-pub mod Running
+pub mod Between
 pub mod Theorem
+pub mod Durable
+pub mod Counting
+pub mod Listing
+pub mod Generated
+pub mod Unread
+pub mod Complete

@@ -1,5 +1,5 @@
 -- The theorem of a run, from how the call ended.
-use Rattle.std.proofs.Common.{◌≡◌, ◌⊎◌, inl, inr, ℕ, zero, suc, ◌-◌, ◌<◌, ◌≤◌, leb, List, [], ◌∷◌, ◌++◌, length, replicate, take, drop, refl, sym, ap, ◌∙◌, subst, Option, Some, None, Ok, arith, take-append-drop, Bool, true, false, cond, ◌||◌, append-nil}
+use Rattle.std.proofs.Common.{◌≡◌, ◌⊎◌, inl, inr, ℕ, zero, suc, ◌-◌, ◌<◌, ◌≤◌, leb, List, [], ◌∷◌, ◌++◌, length, replicate, take, drop, refl, sym, ap, ◌∙◌, subst, Option, Some, None, Ok, Err, arith, take-append-drop, Bool, true, false, cond, ◌||◌, append-nil}
 use Rattle.std.specs.Prelude.{IfSome, slice_get}
 use Rattle.std.specs.List.{list_any}
 use Rattle.std.proofs.lemmas.Bool.Decides.{leb_tells}
@@ -27,25 +27,24 @@ use Rattle.fine_model.specs.Trees.{IsSound}
 use Rattle.fine_model.specs.Regions.{Image}
 use Rattle.fine_model.specs.Chain.{Shows}
 use Rattle.fine_model.specs.Headline.{Start, Return, DiskRose, TellsFaults, FailsSound, OneOf, RunDone, RunTheorem, IsDoneRun, IsRunWith, IsComplete, ShowsSome, KeepsEvery, KeepsUpTo, HasStatus, RunCutShort, MayEnd, NothingRun, IsFrontOf, ReasonFor, causes_of}
-use Rattle.fine_model.specs.Words.{Command}
-use Rattle.fine_model.specs.Commands.{WordsTheorem}
 use Rattle.fine_model.specs.Script.{script_of}
-use Rattle.fine_model.specs.Report.{all_outcomes, reason_bytes, words_line, fault_line, report}
+use Rattle.fine_model.specs.Report.{all_outcomes, reason_bytes, fault_line, report}
 use Rattle.script_text.specs.Streams.{Puts, behind}
 use Rattle.run_laws.specs.Law.{return_of, start_of}
 use Rattle.run_laws.proofs.Nothing.{are_none, none_told, not_refused}
-use Rattle.fine_top.specs.Words.{SpellsRun}
-use Rattle.fine_top.specs.Ends.{Ended, early, ran, text_of, status_of, run_status, IsRunOn, IsRunOf, IsReason, EndsEarly, MayRun, IsEnd, Ends, RunsWell, RefusesWords, start_on, OfTold, IsRefused}
-use Rattle.fine_top.specs.Opened.{IsUnsoundLog}
+use Rattle.log_commands.specs.Found.{SeesLog}
+use Rattle.fine_top.specs.Running.{Ended, early, ran, text_of, status_of, run_status, IsRunOn, IsRunOf, IsReason, EndsEarly, MayRun, IsEnd, IsEndOfRun, Ends, EndsRunOf, RunsWell, start_on, OfTold, IsRefused}
+use Rattle.fine_top.specs.Opened.{IsOpenedLog, IsUnsoundLog}
+use Rattle.fine_top.proofs.Chainless.{shows_none, unsound}
 use Rattle.fine_model.proofs.NodeLaws.{Agrees-refl}
 
 -- ---- what was written
 
 -- some first bytes of a text, or all of it
-wrote_all : (text : List ℕ) (failed : Type 0) (was now : Option (List ℕ)) (first : List ℕ) → Puts text failed was now → (failed → ⊥) → was ≡ Some first → now ≡ Some (first ++ text)
+pub wrote_all : (text : List ℕ) (failed : Type 0) (was now : Option (List ℕ)) (first : List ℕ) → Puts text failed was now → (failed → ⊥) → was ≡ Some first → now ≡ Some (first ++ text)
 wrote_all text failed was now first p fine is = p.whole fine ∙ ap (λ o. behind o text) is
 
-wrote_front : (text : List ℕ) (failed : Type 0) (was now : Option (List ℕ)) (first : List ℕ) → Puts text failed was now → was ≡ Some first
+pub wrote_front : (text : List ℕ) (failed : Type 0) (was now : Option (List ℕ)) (first : List ℕ) → Puts text failed was now → was ≡ Some first
     → (written : List ℕ) × (now ≡ Some (first ++ written)) × IsFrontOf written text
 wrote_front text failed was now first p is =
     let q = p.part in (take q.0 text, q.1 ∙ ap (λ o. behind o (take q.0 text)) is, (drop q.0 text, sym (take-append-drop q.0 text)))
@@ -61,7 +60,7 @@ refused_behind [] n = none_refused n
 refused_behind (o ∷ outcomes) n = ap (λ b. is_refused o || b) (refused_behind outcomes n)
 
 -- the status is that of all outcomes too
-status_all : (script : List ScriptTxn) (outcomes : List Outcome) (fault : Option RunFault) (status : ℕ) → HasStatus status outcomes fault → HasStatus status (all_outcomes script outcomes) fault
+pub status_all : (script : List ScriptTxn) (outcomes : List Outcome) (fault : Option RunFault) (status : ℕ) → HasStatus status outcomes fault → HasStatus status (all_outcomes script outcomes) fault
 status_all script outcomes None status is = subst (λ b. status ≡ cond {A = ℕ} b 8 0) (sym (refused_behind outcomes (length script - length outcomes))) is
 status_all script outcomes (Some run_fault.Memory) status is = is
 status_all script outcomes (Some run_fault.Disk) status is = is
@@ -74,7 +73,7 @@ module _ (old : Disk) (before : Told) (e : ℕ) (rows : List Row) (shows : Shows
   unfolding upto
   none_upto n = refl
 
-  shows_entry : (image : Image) → IsImageNow before image → ShowsSome old.region_len rows [] e e image
+  pub shows_entry : (image : Image) → IsImageNow before image → ShowsSome old.region_len rows [] e e image
   shows_entry image now =
       let same : image ≡ before.bytes = all_synced old before image is_told synced now in
       record {
@@ -86,7 +85,7 @@ module _ (old : Disk) (before : Told) (e : ℕ) (rows : List Row) (shows : Shows
         agrees = subst (Agrees rows) (sym (ap (λ xs. rows ++ xs) (none_upto e) ∙ append-nil rows)) (Agrees-refl rows);
       }
 
-  keeps_entry : (image : Image) → IsImageSince (clock_of before) before image → ShowsSome old.region_len rows [] e e image
+  pub keeps_entry : (image : Image) → IsImageSince (clock_of before) before image → ShowsSome old.region_len rows [] e e image
   keeps_entry image since = shows_entry image (only_now before image since)
 
 -- ---- the theorem
@@ -98,22 +97,22 @@ record CountsByStatus (source_rose output_rose : Type 0) (old new : Disk) (statu
   disk : status ≡ 6 → HasRisen old.faults new.faults
   told : old.faults < new.faults → (status ≡ 1) ⊎ (status ≡ 5) ⊎ (status ≡ 6)
 
-risen_by : (before now : ℕ) → HasRisen before now → (1 ≤ now - before) ⊎ (last_count ≤ now)
+pub risen_by : (before now : ℕ) → HasRisen before now → (1 ≤ now - before) ⊎ (last_count ≤ now)
 risen_by before now risen = by (leb_tells last_count now)
   where
     by : ((leb last_count now ≡ true) × (last_count ≤ now)) ⊎ ((leb last_count now ≡ false) × (now < last_count)) → (1 ≤ now - before) ⊎ (last_count ≤ now)
     by (inl at) = inr at.1
     by (inr below) = inl (let low = below.1 in omega (arith, risen, low))
 
-module _ (words opened : Type 0) (source output : ℕ × ℕ) (damaged : Damage → Type 0) (left : Option (List ℕ)) (old new : Disk) (status : ℕ) (was now : Option (List ℕ)) where
+module _ (options : Options) (source output : ℕ × ℕ) (left : Option (List ℕ)) (old new : Disk) (status : ℕ) (was now : Option (List ℕ)) where
   abbrev source_rose : Type 0
   source_rose = HasRisen source.0 source.1
 
   abbrev output_rose : Type 0
   output_rose = HasRisen output.0 output.1
 
-  module _ (counts : CountsByStatus source_rose output_rose old new status) (are_words : words) (group : ℕ) (enough : group ≡ 64) (bytes first : List ℕ) (before after : Told) (e : ℕ) (rows : List Row) (left_is : left ≡ Some bytes) (was_is : was ≡ Some first) (old_is : old.told ≡ Some before)
-      (new_is : new.told ≡ Some after) (shows : Shows old.region_len before.bytes e rows) (sound : IsSound rows) (whole : (what : Damage) → damaged what → ⊥) (is_told : IsToldOf old before)
+  module _ (counts : CountsByStatus source_rose output_rose old new status) (bytes first : List ℕ) (before after : Told) (e : ℕ) (rows : List Row) (left_is : left ≡ Some bytes) (was_is : was ≡ Some first) (old_is : old.told ≡ Some before)
+      (new_is : new.told ≡ Some after) (shows : Shows old.region_len before.bytes e rows) (sound : IsSound rows) (whole : (what : Damage) → SeesLog old (Err what) → ⊥) (is_told : IsToldOf old before)
       (synced : old.unsynced ≡ []) where
     abbrev start : Start
     start = start_on old bytes e rows
@@ -133,7 +132,7 @@ module _ (words opened : Type 0) (source output : ℕ × ℕ) (damaged : Damage 
     since = IsImageSince (clock_of before) after
 
     abbrev Theorem : List ℕ → Type 0
-    Theorem written = RunTheorem (causes_of start back) start group since (IsImageNow after) back (new ≡ old) status written
+    Theorem written = RunTheorem (causes_of start back) start options.group since (IsImageNow after) back (new ≡ old) status written
 
     abbrev Result_ : Type 0
     Result_ = (written : List ℕ) × (now ≡ Some (first ++ written)) × Theorem written
@@ -147,7 +146,7 @@ module _ (words opened : Type 0) (source output : ℕ × ℕ) (damaged : Damage 
     same_told (reason.Script n) en = ap (λ d. d.told) (en.same (λ x. cc))
     same_told reason.Source en = ap (λ d. d.told) (en.same (λ x. cc))
 
-    module _ (r : Reason) (en : EndsEarly r old new) (why : IsReason words source_rose damaged left r) where
+    module _ (r : Reason) (en : EndsEarly r old new) (why : IsReason source_rose left old r) where
       same_after : after ≡ before
       same_after = let c : ◌≡◌ {A = Option Told} (Some after) (Some before) = sym new_is ∙ same_told r en ∙ old_is in cc
 
@@ -174,7 +173,7 @@ module _ (words opened : Type 0) (source output : ℕ × ℕ) (damaged : Damage 
         by (inr (inr (inr (inr (inr (inr none)))))) = absurd none
 
     -- each status has one part of the theorem
-    cut : (written : List ℕ) → (status ≡ 1) ⊎ (status ≡ 5) → NothingRun start since back status written ⊎ RunCutShort (causes_of start back) start group since (IsImageNow after) back status written → Theorem written
+    cut : (written : List ℕ) → (status ≡ 1) ⊎ (status ≡ 5) → NothingRun start since back status written ⊎ RunCutShort (causes_of start back) start options.group since (IsImageNow after) back status written → Theorem written
     cut written one front = record {
       done = λ d. absurd (grind (arith, one, d));
       cut_short = λ c. front;
@@ -204,7 +203,7 @@ module _ (words opened : Type 0) (source output : ℕ × ℕ) (damaged : Damage 
         by script read (inl (is, n, inr (inr bad), text)) = absurd cc
         by script read (inr (is, text)) = inr (inr (inl is))
 
-    does : (written : List ℕ) → (status ≡ 0) ⊎ (status ≡ 6) ⊎ (status ≡ 8) → RunDone (causes_of start back) start group since (IsImageNow after) back status written → Theorem written
+    does : (written : List ℕ) → (status ≡ 0) ⊎ (status ≡ 6) ⊎ (status ≡ 8) → RunDone (causes_of start back) start options.group since (IsImageNow after) back status written → Theorem written
     does written one d = record {
       done = λ x. d;
       cut_short = λ x. absurd (grind (arith, one, x));
@@ -228,10 +227,10 @@ module _ (words opened : Type 0) (source output : ℕ × ℕ) (damaged : Damage 
     no_outcomes : (script : List ScriptTxn) → AreOutcomes script e (all_outcomes script []) []
     no_outcomes script = subst (λ os. AreOutcomes script e os []) (none_told script) (are_none script e)
 
-    early_disk : (en : EndsEarly (reason.Fault run_fault.Disk) old new) (why : IsReason words source_rose damaged left (reason.Fault run_fault.Disk)) (written : List ℕ) → written ≡ reason_bytes (reason.Fault run_fault.Disk) → status ≡ 6 → Theorem written
+    early_disk : (en : EndsEarly (reason.Fault run_fault.Disk) old new) (why : IsReason source_rose left old (reason.Fault run_fault.Disk)) (written : List ℕ) → written ≡ reason_bytes (reason.Fault run_fault.Disk) → status ≡ 6 → Theorem written
     unfolding reason_bytes
     early_disk en why written text is =
-        let spells = why.1 bytes left_is in
+        let spells = why bytes left_is in
         let nothing_done : Ran = record { outcomes = []; durable = e; fault = Some run_fault.Disk } in
         let counts = (en.failed refl).counts in
         let own_rose = counts.own_faults tt in
@@ -268,45 +267,44 @@ module _ (words opened : Type 0) (source output : ℕ × ℕ) (damaged : Damage 
         failed_by (run_fault.Damaged what) is rose = absurd cc
 
     -- why it ended
-    may_end : (r : Reason) (en : EndsEarly r old new) → IsReason words source_rose damaged left r → MayEnd start back r
-    may_end reason.Words en why = absurd (why are_words)
-    may_end (reason.Script n) en why = why.1 bytes left_is
-    may_end reason.Source en why = why.1
+    may_end : (r : Reason) (en : EndsEarly r old new) → IsReason source_rose left old r → MayEnd start back r
+    may_end reason.Words en why = absurd why
+    may_end (reason.Script n) en why = why bytes left_is
+    may_end reason.Source en why = why
     may_end (reason.Fault run_fault.Memory) en why = tt
     may_end (reason.Fault run_fault.Disk) en why = disk_rose ((en.failed refl).counts.faults tt)
-    may_end (reason.Fault (run_fault.Damaged what)) en why = absurd (whole what why.2)
+    may_end (reason.Fault (run_fault.Damaged what)) en why = absurd (whole what why.1)
 
     -- an early end whose text was written
-    early_whole : (r : Reason) (en : EndsEarly r old new) (why : IsReason words source_rose damaged left r) (written : List ℕ) → written ≡ reason_bytes r → status ≡ status_of (early r) → Theorem written
+    early_whole : (r : Reason) (en : EndsEarly r old new) (why : IsReason source_rose left old r) (written : List ℕ) → written ≡ reason_bytes r → status ≡ status_of (early r) → Theorem written
     unfolding reason_bytes
-    early_whole reason.Words en why written text is = absurd (why are_words)
-    early_whole (reason.Script n) en why written text is = refuses written (inl is) (inl (is, n, why.1 bytes left_is, text)) (en.same (λ x. cc))
+    early_whole reason.Words en why written text is = absurd why
+    early_whole (reason.Script n) en why written text is = refuses written (inl is) (inl (is, n, why bytes left_is, text)) (en.same (λ x. cc))
     early_whole reason.Source en why written text is = refuses written (inr is) (inr (is, text)) (en.same (λ x. cc))
     early_whole (reason.Fault run_fault.Memory) en why written text is =
         cut written (inl is) (inl (nothing (reason.Fault run_fault.Memory) en why written tt ([], sym text ∙ sym (append-nil written)) (λ one. text)))
     early_whole (reason.Fault run_fault.Disk) en why written text is = early_disk en why written text is
-    early_whole (reason.Fault (run_fault.Damaged what)) en why written text is = absurd (whole what why.2)
+    early_whole (reason.Fault (run_fault.Damaged what)) en why written text is = absurd (whole what why.1)
 
     -- ---- a run
 
-    module _ (script : List ScriptTxn) (r : Ran) (may : MayRun words opened left script) (is_run : IsRunOf old new script r) where
+    module _ (script : List ScriptTxn) (r : Ran) (may : MayRun left script) (is_run : IsRunOf options old new script r) where
       read : script_of bytes ≡ Ok script
-      read = may.spelled bytes left_is
+      read = may bytes left_is
 
-      on : IsRunOn old new before after script r is_run.history e rows
+      on : IsRunOn options old new before after script r is_run.history e rows
       on = is_run.told before after e rows old_is new_is shows sound
 
       same_start : start_of script old e rows ≡ start
       same_start = λ i. record { script = sym read i; region_len = old.region_len; e = e; rows = rows }
 
-      run : IsRunWith (causes_of start back) start group since (IsImageNow after) back script r is_run.history
-      run = subst (λ g. IsRunWith (causes_of start back) start g since (IsImageNow after) back script r is_run.history) (sym enough)
-          (subst (λ (s : Start). IsRunWith (causes_of s back) s 64 since (IsImageNow after) back script r is_run.history) same_start (on.run source output))
+      run : IsRunWith (causes_of start back) start options.group since (IsImageNow after) back script r is_run.history
+      run = subst (λ (s : Start). IsRunWith (causes_of s back) s options.group since (IsImageNow after) back script r is_run.history) same_start (on.run source output)
 
-      short : (written : List ℕ) → IsFrontOf written (report script r) → (status ≡ 1 → (written ≡ report script r) × (r.fault ≡ Some run_fault.Memory)) → RunCutShort (causes_of start back) start group since (IsImageNow after) back status written
+      short : (written : List ℕ) → IsFrontOf written (report script r) → (status ≡ 1 → (written ≡ report script r) × (r.fault ≡ Some run_fault.Memory)) → RunCutShort (causes_of start back) start options.group since (IsImageNow after) back status written
       short written front all = record { script = script; ran = r; history = is_run.history; read = read; run = run; printed = front; whole = all }
 
-      done : (written : List ℕ) → written ≡ report script r → HasStatus status r.outcomes r.fault → (status ≡ 0) ⊎ (status ≡ 6) ⊎ (status ≡ 8) → RunDone (causes_of start back) start group since (IsImageNow after) back status written
+      done : (written : List ℕ) → written ≡ report script r → HasStatus status r.outcomes r.fault → (status ≡ 0) ⊎ (status ≡ 6) ⊎ (status ≡ 8) → RunDone (causes_of start back) start options.group since (IsImageNow after) back status written
       done written text has one = record {
         script = script;
         ran = r;
@@ -351,17 +349,17 @@ module _ (words opened : Type 0) (source output : ℕ × ℕ) (damaged : Damage 
         by (Some run_fault.Disk) h = omega (arith, h)
         by (Some (run_fault.Damaged what)) h = omega (arith, h)
 
-    whole_text : (d : Ended) → IsEnd words source_rose opened damaged left old new d → (written : List ℕ) → written ≡ text_of d → status ≡ status_of d → Theorem written
+    whole_text : (d : Ended) → IsEnd options source_rose left old new d → (written : List ℕ) → written ≡ text_of d → status ≡ status_of d → Theorem written
     unfolding text_of
     whole_text (early r) end written text is = early_whole r end.1 end.0 written text is
     whole_text (ran script r) end written text is = ran_whole script r end.0 end.1 written text r.fault refl is
 
-    front_text : (d : Ended) → IsEnd words source_rose opened damaged left old new d → (written : List ℕ) → IsFrontOf written (text_of d) → status ≡ 5 → Theorem written
+    front_text : (d : Ended) → IsEnd options source_rose left old new d → (written : List ℕ) → IsFrontOf written (text_of d) → status ≡ 5 → Theorem written
     unfolding text_of
     front_text (early r) end written front is = cut written (inr is) (inl (nothing r end.1 end.0 written (may_end r end.1 end.0) front (λ one. absurd (omega (arith, is, one)))))
     front_text (ran script r) end written front is = cut written (inr is) (inr (short script r end.0 end.1 written front (λ one. absurd (omega (arith, is, one)))))
 
-    holds : Ends words source_rose opened damaged left old new status was now → Result_
+    holds : Ends options source_rose left old new status was now → Result_
     holds en = by en.status_is
       where
         by : (status ≡ 5) ⊎ (status ≡ status_of en.ended) → Result_
@@ -371,7 +369,7 @@ module _ (words opened : Type 0) (source output : ℕ × ℕ) (damaged : Damage 
 
   -- ---- the disk's count
 
-  failed_end : (d : Ended) → IsEnd words source_rose opened damaged left old new d → status_of d ≡ 6 → HasRisen old.faults new.faults
+  failed_end : (d : Ended) → IsEnd options source_rose left old new d → status_of d ≡ 6 → HasRisen old.faults new.faults
   failed_end (early reason.Words) end is = absurd (omega (arith, is))
   failed_end (early (reason.Script n)) end is = absurd (omega (arith, is))
   failed_end (early reason.Source) end is = absurd (omega (arith, is))
@@ -393,7 +391,7 @@ module _ (words opened : Type 0) (source output : ℕ × ℕ) (damaged : Damage 
   same_count : new ≡ old → old.faults < new.faults → ⊥
   same_count same rose = let e = ap (λ (d : Disk). d.faults) same in omega (arith, e, rose)
 
-  told_end : (d : Ended) → IsEnd words source_rose opened damaged left old new d → old.faults < new.faults → (status_of d ≡ 1) ⊎ (status_of d ≡ 6)
+  told_end : (d : Ended) → IsEnd options source_rose left old new d → old.faults < new.faults → (status_of d ≡ 1) ⊎ (status_of d ≡ 6)
   told_end (early reason.Words) end rose = absurd (same_count (end.1.same (λ x. cc)) rose)
   told_end (early (reason.Script n)) end rose = absurd (same_count (end.1.same (λ x. cc)) rose)
   told_end (early reason.Source) end rose = absurd (same_count (end.1.same (λ x. cc)) rose)
@@ -406,7 +404,7 @@ module _ (words opened : Type 0) (source output : ℕ × ℕ) (damaged : Damage 
       by (inl fault) = inr (ap (run_status r.outcomes) fault)
       by (inr fault) = inl (ap (run_status r.outcomes) fault)
 
-  counts_of : (status ≡ 4 → source_rose) → (status ≡ 5 → output_rose) → Ends words source_rose opened damaged left old new status was now → CountsByStatus source_rose output_rose old new status
+  counts_of : (status ≡ 4 → source_rose) → (status ≡ 5 → output_rose) → Ends options source_rose left old new status was now → CountsByStatus source_rose output_rose old new status
   counts_of source_failed output_failed en = record { source = source_failed; output = output_failed; disk = λ six. disk en.status_is six; told = λ rose. told en.status_is (told_end en.ended en.is_end rose) }
     where
       disk : (status ≡ 5) ⊎ (status ≡ status_of en.ended) → status ≡ 6 → HasRisen old.faults new.faults
@@ -419,7 +417,7 @@ module _ (words opened : Type 0) (source output : ℕ × ℕ) (damaged : Damage 
       told (inr fine) (inr six) = inr (inr (fine ∙ six))
 
   -- a disk that tells its bytes at entry tells them on return
-  pub goes_on : Ends words source_rose opened damaged left old new status was now → ContinuesOn old new
+  pub goes_on : Ends options source_rose left old new status was now → ContinuesOn old new
   goes_on en = by en.ended en.is_end
     where
       early_on : (r : Reason) → EndsEarly r old new → ContinuesOn old new
@@ -430,7 +428,7 @@ module _ (words opened : Type 0) (source output : ℕ × ℕ) (damaged : Damage 
       early_on (reason.Script n) en = continues_told old new (ap (λ d. d.told) (en.same (λ x. cc)))
       early_on reason.Source en = continues_told old new (ap (λ d. d.told) (en.same (λ x. cc)))
 
-      by : (d : Ended) → IsEnd words source_rose opened damaged left old new d → ContinuesOn old new
+      by : (d : Ended) → IsEnd options source_rose left old new d → ContinuesOn old new
       by (early r) end = early_on r end.1
       by (ran script r) end = end.1.time
 
@@ -443,72 +441,22 @@ module _ (words opened : Type 0) (source output : ℕ × ℕ) (damaged : Damage 
       by (Some a) None at here both = absurd both
 
   -- how a call ended tells that it ran well
-  pub runs_well : (command : Option Command) → (status ≡ 4 → source_rose) → (status ≡ 5 → output_rose) → IsSoundDisk old → old.unsynced ≡ []
-      → ((options : Options) → words → SpellsRun command options → options.group ≡ 64)
-      → ((before : Told) (e : ℕ) (rows : List Row) → old.told ≡ Some before → Shows old.region_len before.bytes e rows → (what : Damage) → damaged what → ⊥)
-      → Ends words source_rose opened damaged left old new status was now → RunsWell words command left source output old new status was now
-  runs_well command source_failed output_failed is_sound synced grouped undamaged en = record {
-    holds = λ options bytes first before e rows are_words spelled left_is was_is old_is shows sound.
+  pub runs_well : (status ≡ 4 → source_rose) → (status ≡ 5 → output_rose) → IsSoundDisk old → old.unsynced ≡ [] → Ends options source_rose left old new status was now → RunsWell options left source output old new status was now
+  runs_well source_failed output_failed is_sound synced en = record {
+    holds = λ bytes first before e rows left_is was_is old_is shows sound.
         let after = told_on_return before old_is (goes_on en) in
-        let h = holds (counts_of source_failed output_failed en) are_words options.group (grouped options are_words spelled) bytes first before after.0 e rows left_is was_is old_is after.1 shows sound
-        (undamaged before e rows old_is shows) (is_told old.told before old_is is_sound.told) synced en in
+        let h = holds (counts_of source_failed output_failed en) bytes first before after.0 e rows left_is was_is old_is after.1 shows sound
+        (λ what none. shows_none old what before e rows none old_is shows) (is_told old.told before old_is is_sound.told) synced en in
         (after.0, after.1, h.0, h.1, h.2);
   }
     where
       is_told : (t : Option Told) (b : Told) → t ≡ Some b → IfSome t (IsToldOf old) → IsToldOf old b
       is_told t b is h = subst (λ o. IfSome o (IsToldOf old)) is h
 
-  -- other words end a call at once
-  words_end : (d : Ended) → IsEnd words source_rose opened damaged left old new d → (words → ⊥) → (d ≡ early reason.Words) × (new ≡ old)
-  words_end (early reason.Words) end other = (refl, end.1.same (λ x. cc))
-  words_end (early (reason.Script n)) end other = absurd (other end.0.0)
-  words_end (early reason.Source) end other = absurd (other end.0.0)
-  words_end (early (reason.Fault run_fault.Memory)) end other = absurd (other end.0)
-  words_end (early (reason.Fault run_fault.Disk)) end other = absurd (other end.0.0)
-  words_end (early (reason.Fault (run_fault.Damaged what))) end other = absurd (other end.0.0)
-  words_end (ran script r) end other = absurd (other end.0.are_words)
-
-  words_text : (d : Ended) → d ≡ early reason.Words → (text_of d ≡ words_line) × (status_of d ≡ 2)
-  unfolding text_of reason_bytes
-  words_text d is = (ap text_of is, ap status_of is)
-
-  pub refuses_words : (status ≡ 5 → output_rose) → Ends words source_rose opened damaged left old new status was now → RefusesWords words output_rose old new status was now
-  refuses_words output_failed en = record { holds = λ other first was_is. let w = words_end en.ended en.is_end other in by first was_is (words_text en.ended w.0) w.1 en.status_is }
-    where
-      by : (first : List ℕ) → was ≡ Some first → (text_of en.ended ≡ words_line) × (status_of en.ended ≡ 2) → new ≡ old → (status ≡ 5) ⊎ (status ≡ status_of en.ended)
-          → (written : List ℕ) × (now ≡ Some (first ++ written)) × WordsTheorem output_rose (new ≡ old) status written
-      by first was_is (text, two) same (inl failed) =
-          let w = wrote_front (text_of en.ended) (status ≡ 5) was now first en.printed was_is in (
-            w.0,
-            w.1,
-            record {
-              disk = same;
-              words = λ h. absurd (omega (arith, failed, h));
-              memory = λ h. absurd (omega (arith, failed, h));
-              cut_short = λ h. inl (subst (IsFrontOf w.0) text w.2);
-              output = output_failed;
-              others = inr (inr (inl failed));
-            },
-          )
-      by first was_is (text, two) same (inr fine) =
-          let is : status ≡ 2 = fine ∙ two in
-          let whole = wrote_all (text_of en.ended) (status ≡ 5) was now first en.printed (λ failed. omega (arith, is, failed)) was_is in (
-            text_of en.ended,
-            whole,
-            record {
-              disk = same;
-              words = λ h. text;
-              memory = λ h. absurd (omega (arith, is, h));
-              cut_short = λ h. absurd (omega (arith, is, h));
-              output = output_failed;
-              others = inr (inl is);
-            },
-          )
-
   -- status 3 comes for a script that is refused
-  of_refused : (d : Ended) → IsEnd words source_rose opened damaged left old new d → status_of d ≡ 3 → OfTold left IsRefused
+  of_refused : (d : Ended) → IsEnd options source_rose left old new d → status_of d ≡ 3 → OfTold left IsRefused
   of_refused (early reason.Words) end is = absurd (omega (arith, is))
-  of_refused (early (reason.Script n)) end is = λ bytes left_is. (n, end.0.1 bytes left_is)
+  of_refused (early (reason.Script n)) end is = λ bytes left_is. (n, end.0 bytes left_is)
   of_refused (early reason.Source) end is = absurd (omega (arith, is))
   of_refused (early (reason.Fault run_fault.Memory)) end is = absurd (omega (arith, is))
   of_refused (early (reason.Fault run_fault.Disk)) end is = absurd (omega (arith, is))
@@ -525,7 +473,7 @@ module _ (words opened : Type 0) (source output : ℕ × ℕ) (damaged : Damage 
       by (Some run_fault.Disk) h = omega (arith, h)
       by (Some (run_fault.Damaged what)) h = omega (arith, h)
 
-  pub refused_script : Ends words source_rose opened damaged left old new status was now → status ≡ 3 → OfTold left IsRefused
+  pub refused_script : Ends options source_rose left old new status was now → status ≡ 3 → OfTold left IsRefused
   refused_script en three = by en.status_is
     where
       by : (status ≡ 5) ⊎ (status ≡ status_of en.ended) → OfTold left IsRefused
@@ -533,14 +481,14 @@ module _ (words opened : Type 0) (source output : ℕ × ℕ) (damaged : Damage 
       by (inr fine) = of_refused en.ended en.is_end (sym fine ∙ three)
 
   -- status 7 comes for a log that is not sound
-  of_damaged : ((what : Damage) → damaged what → IsUnsoundLog old) → (d : Ended) → IsEnd words source_rose opened damaged left old new d → status_of d ≡ 7 → IsUnsoundLog old
-  of_damaged bad (early reason.Words) end is = absurd (omega (arith, is))
-  of_damaged bad (early (reason.Script n)) end is = absurd (omega (arith, is))
-  of_damaged bad (early reason.Source) end is = absurd (omega (arith, is))
-  of_damaged bad (early (reason.Fault run_fault.Memory)) end is = absurd (omega (arith, is))
-  of_damaged bad (early (reason.Fault run_fault.Disk)) end is = absurd (omega (arith, is))
-  of_damaged bad (early (reason.Fault (run_fault.Damaged what))) end is = bad what end.0.2
-  of_damaged bad (ran script r) end is = by r.fault refl is
+  of_damaged : (d : Ended) → IsEnd options source_rose left old new d → status_of d ≡ 7 → IsUnsoundLog old
+  of_damaged (early reason.Words) end is = absurd (omega (arith, is))
+  of_damaged (early (reason.Script n)) end is = absurd (omega (arith, is))
+  of_damaged (early reason.Source) end is = absurd (omega (arith, is))
+  of_damaged (early (reason.Fault run_fault.Memory)) end is = absurd (omega (arith, is))
+  of_damaged (early (reason.Fault run_fault.Disk)) end is = absurd (omega (arith, is))
+  of_damaged (early (reason.Fault (run_fault.Damaged what))) end is = unsound old what end.0.1
+  of_damaged (ran script r) end is = by r.fault refl is
     where
       other : (b : Bool) → cond {A = ℕ} b 8 0 ≡ 7 → ⊥
       other true h = omega (arith, h)
@@ -552,9 +500,37 @@ module _ (words opened : Type 0) (source output : ℕ × ℕ) (damaged : Damage 
       by (Some run_fault.Disk) fault h = absurd (omega (arith, h))
       by (Some (run_fault.Damaged what)) fault h = end.1.unsound what fault
 
-  pub damaged_log : ((what : Damage) → damaged what → IsUnsoundLog old) → Ends words source_rose opened damaged left old new status was now → status ≡ 7 → IsUnsoundLog old
-  damaged_log bad en seven = by en.status_is
+  pub damaged_log : Ends options source_rose left old new status was now → status ≡ 7 → IsUnsoundLog old
+  damaged_log en seven = by en.status_is
     where
       by : (status ≡ 5) ⊎ (status ≡ status_of en.ended) → IsUnsoundLog old
       by (inl failed) = absurd (omega (arith, failed, seven))
-      by (inr fine) = of_damaged bad en.ended en.is_end (sym fine ∙ seven)
+      by (inr fine) = of_damaged en.ended en.is_end (sym fine ∙ seven)
+
+  -- with status 0 and 8 the chain was found
+  of_opened : (d : Ended) → IsEnd options source_rose left old new d → OneOf (0 ∷ 8 ∷ []) (status_of d) → IsOpenedLog old
+  of_opened (early reason.Words) end ok = absurd (grind (arith, ok))
+  of_opened (early (reason.Script n)) end ok = absurd (grind (arith, ok))
+  of_opened (early reason.Source) end ok = absurd (grind (arith, ok))
+  of_opened (early (reason.Fault run_fault.Memory)) end ok = absurd (grind (arith, ok))
+  of_opened (early (reason.Fault run_fault.Disk)) end ok = absurd (grind (arith, ok))
+  of_opened (early (reason.Fault (run_fault.Damaged what))) end ok = absurd (grind (arith, ok))
+  of_opened (ran script r) end ok = (end.1.found.parts, record { image = end.1.sees.image; is_seen = end.1.sees.is_seen; is = end.1.sees.is_chain })
+
+  pub opened_log : Ends options source_rose left old new status was now → OneOf (0 ∷ 8 ∷ []) status → IsOpenedLog old
+  opened_log en ok = by en.status_is
+    where
+      by : (status ≡ 5) ⊎ (status ≡ status_of en.ended) → IsOpenedLog old
+      by (inl failed) = absurd (grind (arith, failed, ok))
+      by (inr fine) = of_opened en.ended en.is_end (subst (OneOf (0 ∷ 8 ∷ [])) fine ok)
+
+-- how a call ended whose script was run, or for which there was no memory
+pub ends_run : (options : Options) (source_rose : Type 0) (left : Option (List ℕ)) (script : List ScriptTxn) (old mid new : Disk) (status : ℕ) (was now : Option (List ℕ)) → mid ≡ old → MayRun left script → EndsRunOf options script mid new status was now
+    → Ends options source_rose left old new status was now
+ends_run options source_rose left script old mid new status was now same may run =
+    let r = subst (λ (d : Disk). EndsRunOf options script d new status was now) same run in
+    record { ended = r.ended; is_end = by r.ended r.is_end; status_is = r.status_is; printed = r.printed }
+  where
+    by : (d : Ended) → IsEndOfRun options script old new d → IsEnd options source_rose left old new d
+    by (early r) end = (subst (IsReason source_rose left old) (sym end.0) tt, record { failed = λ disk. absurd (let x : reason.Fault run_fault.Memory ≡ reason.Fault run_fault.Disk = sym end.0 ∙ disk in cc); same = λ x. end.1 })
+    by (ran its r) end = (subst (MayRun left) (sym end.0) may, subst (λ s. IsRunOf options old new s r) (sym end.0) end.1)

@@ -1,4 +1,4 @@
-pub mod Words
 pub mod Opened
-pub mod Opening
-pub mod Ends
+pub mod Running
+pub mod Generating
+pub mod Commands

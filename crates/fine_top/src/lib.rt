@@ -1,9 +1,12 @@
-//! The store as one call: from the bytes of a script to the bytes of a report, over a log on a disk.
+//! The store as one call: five commands, from words and the bytes of a script to what is printed, over a log on a disk.
 #![tactic(auto)]
 
+mod generating;
 mod opening;
+mod printing;
+mod running;
 mod top;
-mod words;
 
-pub use top::{Finish, fineline};
-pub use words::geometry_of;
+pub use command_words::geometry_of;
+pub use log_commands::Finish;
+pub use top::fineline;

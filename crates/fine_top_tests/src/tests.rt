@@ -1,7 +1,7 @@
 //! What no clause says: the printed text of worked scripts, the bytes of the log, and calls that fail.
 
 ghost use Rattle.std.specs.Prelude.{◌≡◌, ◌<◌, ◌≤◌, [], IfOk};
-ghost use Rattle.fine_top.specs.Words.{IsGeometry};
+ghost use Rattle.command_words.specs.Words.{IsGeometry};
 
 use fine_model::NoGate;
 use fine_top::{Finish, fineline, geometry_of};
@@ -415,6 +415,96 @@ fn a_crash_at_any_call_leaves_a_prefix(rt: HostRuntime) -> Result<(), Fail> {
             let text = if sealed { all } else { none };
             assert_eq!(rt; read.text.as_slice(), text.as_bytes());
         }
+    }
+    Ok(())
+}
+
+// Does a command that prints this, with this status, and gives the disk after a crash.
+fn obey<R: Threads + Wait + Sync + Abort>(
+    rt: &R,
+    alloc: Global,
+    texts: &[&str],
+    script: &str,
+    text: &str,
+    disk: MemDisk,
+) -> Result<MemDisk, Fail>
+    requires geometry { IsGeometry (disk.disk.regions, disk.disk.region_len) }
+    requires synced { disk.disk.unsynced ≡ [] }
+    requires no_eyes { disk.disk.eyes ≡ [] }
+    ensures { IfOk result (λ disk. IsGeometry (disk.disk.regions, disk.disk.region_len) × (disk.disk.unsynced ≡ []) × (disk.disk.eyes ≡ [])) }
+{
+    let none = (Vec::new(alloc), Vec::new(alloc));
+    let printed = run(rt, alloc, texts, script, none, disk)?;
+    assert_eq!(rt; printed.finish.status, 0);
+    assert_eq!(rt; printed.text.as_slice(), text.as_bytes());
+    crash(printed.finish.disk, &[])
+}
+
+#[test]
+fn commands_go_on_from_one_another(rt: HostRuntime) -> Result<(), Fail> {
+    let alloc = rt.alloc();
+    let table: [(&[&str], &str, &str); 7] = [
+        (
+            &["run", "--group", "1"],
+            "txn 1|put a 1|commit|txn 1|put b 2|commit|",
+            "txn 1 commit 1 epoch 1|put a|txn 2 commit 2 epoch 2|put b|durable 2|",
+        ),
+        (
+            &["ranges"],
+            "",
+            "range 1 1 region 0 rows 1|range 2 2 region 1 rows 1|end 2|",
+        ),
+        (&["dump"], "", "pair a = 1|pair b = 2|pairs 2|"),
+        (&["merge"], "", "range 1 2 region 2 rows 2|end 2|"),
+        (&["ranges"], "", "range 1 2 region 2 rows 2|end 2|"),
+        (&["dump"], "", "pair a = 1|pair b = 2|pairs 2|"),
+        (
+            &["gen", "7", "1", "1"],
+            "",
+            "gen 7 1 1|commits 1|aborts 0|refused 0|none 0|keys 3|sum 2|durable all|",
+        ),
+    ];
+    let mut disk = small(alloc, FaultPlan::none(alloc))?;
+    for (texts, script, text) in &table {
+        disk = obey(&rt, alloc, texts, script, text, disk)?;
+    }
+    Ok(())
+}
+
+#[test]
+fn words_and_failing_calls_have_their_status(rt: HostRuntime) -> Result<(), Fail> {
+    let alloc = rt.alloc();
+    // The words, the numbers of the calls of the sink and of the disk that fail, the status and the text.
+    let table: [(&[&str], u64, u64, u8, &str); 14] = [
+        (&["fly"], 0, u64::MAX, 2, WORDS),
+        (&["gen", "7", "5", "17"], 0, u64::MAX, 2, WORDS),
+        (&["run", "--group", "0"], 0, u64::MAX, 2, WORDS),
+        (&["dump", "a"], 0, u64::MAX, 2, WORDS),
+        (&["fly"], 1, u64::MAX, 5, ""),
+        (&["run", "--group=1", "--"], 0, u64::MAX, 0, "durable 0|"),
+        (&["dump"], 0, u64::MAX, 0, "pairs 0|"),
+        (&["ranges"], 0, u64::MAX, 0, "end 0|"),
+        (&["merge"], 0, u64::MAX, 0, "end 0|"),
+        (
+            &["gen", "7", "0", "1"],
+            0,
+            u64::MAX,
+            0,
+            "gen 7 0 1|commits 0|aborts 0|refused 0|none 0|keys 0|sum 0|durable all|",
+        ),
+        (&["dump"], 0, 1, 6, "disk|"),
+        (&["ranges"], 1, u64::MAX, 5, ""),
+        (&["merge"], 0, 4, 6, "disk|"),
+        (&["gen", "7", "1", "1"], 0, 1, 6, "disk|"),
+    ];
+    for (texts, put, stop, status, text) in &table {
+        let mut fails = (Vec::new(alloc), Vec::new(alloc));
+        fails.1.push(*put)?;
+        let mut plan = FaultPlan::none(alloc);
+        plan.stop = *stop;
+        let printed = run(&rt, alloc, texts, "", fails, small(alloc, plan)?)?;
+        assert_eq!(rt; printed.finish.status, *status);
+        assert_eq!(rt; printed.text.as_slice(), text.as_bytes());
     }
     Ok(())
 }

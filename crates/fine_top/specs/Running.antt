@@ -1,5 +1,5 @@
--- How a call of the program ends, and what it prints then.
-use Rattle.std.specs.Prelude.{◌≡◌, ◌⊎◌, ℕ, ◌<◌, List, [], ◌++◌, if◌then◌else◌, Option, Some, None, Ok}
+-- How a call of the command `run` ends, and what it prints then.
+use Rattle.std.specs.Prelude.{◌≡◌, ◌⊎◌, ℕ, ◌<◌, List, [], ◌++◌, if◌then◌else◌, Option, Some, None, Ok, Err}
 use Rattle.std.specs.List.{AllByRecursion, list_any}
 use Rattle.log_disk.specs.Disk.{Disk, Told, HasRisen, OnlyFails, IsImageNow, IsImageSince, clock_of}
 use Rattle.log_disk.specs.Moments.{ContinuesOn}
@@ -14,22 +14,26 @@ use Rattle.fine_model.specs.declared.Reason.{Reason}
 use Rattle.fine_model.specs.declared.Reason.TheVariants as reason
 use Rattle.fine_model.specs.declared.Ran.{Ran}
 use Rattle.fine_model.specs.declared.Part.{Part}
+use Rattle.fine_model.specs.Bounds.{FitsScript}
 use Rattle.fine_model.specs.Damages.{IsDurableFor}
 use Rattle.fine_model.specs.Outcomes.{AllRun, AreOutcomes, is_refused}
 use Rattle.fine_model.specs.History.{Commit}
 use Rattle.fine_model.specs.Trees.{IsSound}
 use Rattle.fine_model.specs.Chain.{Shows, chain_end}
 use Rattle.fine_model.specs.Headline.{Start, HasStatus, IsDoneRun, IsRunWith, IsRefusedAt, RunTheorem, causes_of}
-use Rattle.fine_model.specs.Words.{Command}
-use Rattle.fine_model.specs.Commands.{WordsTheorem}
 use Rattle.fine_model.specs.Script.{script_of}
 use Rattle.fine_model.specs.Report.{all_outcomes, reason_bytes, report}
 use Rattle.reopen.specs.declared.chain.Chain.{Chain}
 use Rattle.reopen.specs.Opening.{SeesChain}
+use Rattle.log_commands.specs.Ends.{fault_status}
+use Rattle.log_commands.specs.Found.{SeesLog}
 use Rattle.run_laws.specs.Law.{return_of, start_of}
-use Rattle.run_laws.specs.Runs.{AreFewOfLanes, IsReplied}
+use Rattle.run_laws.specs.Runs.{AreFewOfLanes, IsReplied, RunsScript}
+use Rattle.epoch_room.specs.Meaning.{StandsAtFirst}
+use Rattle.epoch_room.specs.Value.{RoomValue, made}
+use Rattle.epoch_room.specs.Whole.{IsWhole}
+use Rattle.fine_top.specs.declared.opening.Opened.{Opened}
 use Rattle.fine_top.specs.Opened.{IsUnsoundLog}
-use Rattle.fine_top.specs.Words.{SpellsRun, default_options}
 use Rattle.script_text.specs.Streams.{Puts}
 use Rattle.script_text.specs.declared.read.ScriptFault.{ScriptFault}
 use Rattle.script_text.specs.declared.read.ScriptFault.TheVariants as fault
@@ -43,11 +47,6 @@ pub data Ended : Type 0 where
 unfoldable pub text_of : Ended → List ℕ
 text_of (early r) = reason_bytes r
 text_of (ran script r) = report script r
-
-abbrev pub fault_status : RunFault → ℕ
-fault_status run_fault.Memory = 1
-fault_status run_fault.Disk = 6
-fault_status (run_fault.Damaged what) = 7
 
 -- the status of a run: that of its fault, or whether a transaction was refused
 abbrev pub run_status : List Outcome → Option RunFault → ℕ
@@ -85,13 +84,17 @@ SpellsScript bytes = (script : List ScriptTxn) × (script_of bytes ≡ Ok script
 abbrev pub IsRefusedIn : ℕ → List ℕ → Type 0
 IsRefusedIn n bytes = IsRefusedAt n (script_of bytes)
 
+-- the grammar refuses the script
+abbrev pub IsRefused : List ℕ → Type 0
+IsRefused bytes = (n : ℕ) × IsRefusedIn n bytes
+
 -- ---- what a run was
 
 -- What a run with this history is on a log that shows epoch e and these rows: the history is legal, every image keeps it as far as it is durable, each refusal has its cause, and a fault that
 -- ended it too. Nothing of it depends on the counts of the source and of the output.
-pub record IsRunOn (old new : Disk) (before after : Told) (script : List ScriptTxn) (ran : Ran) (history : List Commit) (e : ℕ) (rows : List Row) : Type 0 where
+pub record IsRunOn (options : Options) (old new : Disk) (before after : Told) (script : List ScriptTxn) (ran : Ran) (history : List Commit) (e : ℕ) (rows : List Row) : Type 0 where
   pub run : (source output : ℕ × ℕ)
-      → IsRunWith (causes_of (start_of script old e rows) (return_of old new source output before after)) (start_of script old e rows) default_options.group
+      → IsRunWith (causes_of (start_of script old e rows) (return_of old new source output before after)) (start_of script old e rows) options.group
       (IsImageSince (clock_of before) after) (IsImageNow after) (return_of old new source output before after) script ran history
   -- with status 0, 6 or 8 it was done
   pub done : (source output : ℕ × ℕ) (status : ℕ) → HasStatus status (all_outcomes script ran.outcomes) ran.fault → (status ≡ 0) ⊎ (status ≡ 6) ⊎ (status ≡ 8)
@@ -99,14 +102,14 @@ pub record IsRunOn (old new : Disk) (before after : Told) (script : List ScriptT
 
 -- What a run with this history is on every disk, whatever it tells, behind the parts of the log at entry: the outcomes are those of the history, whose epochs go on from the chain's; each call of a
 -- commit has a reply that the store has on some map; no epoch has more entries of a lane than a group; and what is durable is one of its epochs, the last one where no fault came.
-pub record IsRunBehind (parts : List Part) (script : List ScriptTxn) (ran : Ran) (history : List Commit) : Type 0 where
+pub record IsRunBehind (options : Options) (parts : List Part) (script : List ScriptTxn) (ran : Ran) (history : List Commit) : Type 0 where
   pub outcomes : AreOutcomes script (chain_end parts) (all_outcomes script ran.outcomes) history
   pub replied : AllByRecursion IsReplied history
-  pub few_each : AreFewOfLanes default_options.group history
+  pub few_each : AreFewOfLanes options.group history
   pub durable : IsDurableFor parts history ran.fault ran.durable
   pub all_run : ran.fault ≡ None → AllRun (all_outcomes script ran.outcomes)
 
--- what a run leaves beside the log: the geometry, and no eye that is open
+-- what a command leaves beside the log: the geometry, and no eye that is open
 pub record LeavesBeside (old new : Disk) : Type 0 where
   pub regions : new.regions ≡ old.regions
   pub region_len : new.region_len ≡ old.region_len
@@ -114,72 +117,87 @@ pub record LeavesBeside (old new : Disk) : Type 0 where
 
 -- A run between two states of the disk, behind the chain that was found, by one history; on each sound log that the disk told it is a run on this log. Whatever it tells: a failed disk is told only
 -- where its count rose, and where that is greater than it was, a failed disk or want of memory; damage only on a log that is not sound.
-pub record IsRunOf (old new : Disk) (script : List ScriptTxn) (ran : Ran) : Type 0 where
+pub record IsRunOf (options : Options) (old new : Disk) (script : List ScriptTxn) (ran : Ran) : Type 0 where
   pub found : Chain
   pub sees : SeesChain old found
   pub history : List Commit
-  pub behind : IsRunBehind found.parts script ran history
+  pub behind : IsRunBehind options found.parts script ran history
   pub beside : LeavesBeside old new
   pub time : ContinuesOn old new
   pub only_risen : ran.fault ≡ Some run_fault.Disk → HasRisen old.faults new.faults
   pub where_risen : old.faults < new.faults → (ran.fault ≡ Some run_fault.Disk) ⊎ (ran.fault ≡ Some run_fault.Memory)
   pub unsound : (what : Damage) → ran.fault ≡ Some (run_fault.Damaged what) → IsUnsoundLog old
   pub told : (before after : Told) (e : ℕ) (rows : List Row) → old.told ≡ Some before → new.told ≡ Some after → Shows old.region_len before.bytes e rows → IsSound rows
-      → IsRunOn old new before after script ran history e rows
+      → IsRunOn options old new before after script ran history e rows
 
 -- ---- how a call ended
 
--- why a call ends before anything is run: `words` says that they are those of the command, `source_rose` that the source's count of faults
--- rose, `damaged` what is wrong with the log, and `left` are the script's bytes
-abbrev pub IsReason : Type 0 → Type 0 → (Damage → Type 0) → Option (List ℕ) → Reason → Type 0
-IsReason words source_rose damaged left reason.Words = words → ⊥
-IsReason words source_rose damaged left (reason.Script n) = words × OfTold left (IsRefusedIn n)
-IsReason words source_rose damaged left reason.Source = words × source_rose
-IsReason words source_rose damaged left (reason.Fault run_fault.Memory) = words
-IsReason words source_rose damaged left (reason.Fault run_fault.Disk) = words × OfTold left SpellsScript
-IsReason words source_rose damaged left (reason.Fault (run_fault.Damaged what)) = words × OfTold left SpellsScript × damaged what
+-- why a call ends before anything is run: `source_rose` says that the source's count of faults rose, `left` are the script's bytes, `disk` is the log at entry
+abbrev pub IsReason : Type 0 → Option (List ℕ) → Disk → Reason → Type 0
+IsReason source_rose left disk reason.Words = ⊥
+IsReason source_rose left disk (reason.Script n) = OfTold left (IsRefusedIn n)
+IsReason source_rose left disk reason.Source = source_rose
+IsReason source_rose left disk (reason.Fault run_fault.Memory) = Unit {0}
+IsReason source_rose left disk (reason.Fault run_fault.Disk) = OfTold left SpellsScript
+IsReason source_rose left disk (reason.Fault (run_fault.Damaged what)) = OfTold left SpellsScript × SeesLog disk (Err what)
 
 -- what an early end leaves of the disk: everything, but for the count of a call that failed
 pub record EndsEarly (r : Reason) (old new : Disk) : Type 0 where
   pub failed : r ≡ reason.Fault run_fault.Disk → OnlyFails old new
   pub same : (r ≡ reason.Fault run_fault.Disk → ⊥) → new ≡ old
 
--- a script may be run: the words are those of the command, it is what the bytes spell, and the log was opened
-pub record MayRun (words opened : Type 0) (left : Option (List ℕ)) (script : List ScriptTxn) : Type 0 where
-  pub are_words : words
-  pub spelled : OfTold left (λ bytes. script_of bytes ≡ Ok script)
-  pub is_opened : opened
+-- a script may be run: it is what the bytes spell
+abbrev pub MayRun : Option (List ℕ) → List ScriptTxn → Type 0
+MayRun left script = OfTold left (λ bytes. script_of bytes ≡ Ok script)
 
-abbrev pub IsEnd : Type 0 → Type 0 → Type 0 → (Damage → Type 0) → Option (List ℕ) → Disk → Disk → Ended → Type 0
-IsEnd words source_rose opened damaged left old new (early r) = IsReason words source_rose damaged left r × EndsEarly r old new
-IsEnd words source_rose opened damaged left old new (ran script r) = MayRun words opened left script × IsRunOf old new script r
+abbrev pub IsEnd : Options → Type 0 → Option (List ℕ) → Disk → Disk → Ended → Type 0
+IsEnd options source_rose left old new (early r) = IsReason source_rose left old r × EndsEarly r old new
+IsEnd options source_rose left old new (ran script r) = MayRun left script × IsRunOf options old new script r
 
 -- How a call ended: its whole text was written and the status is the end's, or the output failed and the status is 5.
-pub record Ends (words source_rose opened : Type 0) (damaged : Damage → Type 0) (left : Option (List ℕ)) (old new : Disk) (status : ℕ) (was now : Option (List ℕ)) : Type 0 where
+pub record Ends (options : Options) (source_rose : Type 0) (left : Option (List ℕ)) (old new : Disk) (status : ℕ) (was now : Option (List ℕ)) : Type 0 where
   pub ended : Ended
-  pub is_end : IsEnd words source_rose opened damaged left old new ended
+  pub is_end : IsEnd options source_rose left old new ended
   pub status_is : (status ≡ 5) ⊎ (status ≡ status_of ended)
   pub printed : Puts (text_of ended) (status ≡ 5) was now
 
--- ---- words of clauses
+-- ---- the steps of the call
 
--- the grammar refuses the script
-abbrev pub IsRefused : List ℕ → Type 0
-IsRefused bytes = (n : ℕ) × IsRefusedIn n bytes
+-- A script was run on the room of a chain that was found, which stood for what the disk showed then.
+pub record RunsFrom (options : Options) (script : List ScriptTxn) (disk : Disk) (found : Chain) (ran : Ran) (room : RoomValue) : Type 0 where
+  pub whole : IsWhole (made disk found.parts found.retired)
+  pub stood : StandsAtFirst (made disk found.parts found.retired) disk.told
+  pub runs : RunsScript script options (made disk found.parts found.retired) room ran
+  pub entry : room.entry ≡ disk
+
+-- a script may be run, and the chain of the log that it runs on was found
+pub record OpensRun (left : Option (List ℕ)) (disk : Disk) (opened : Opened) : Type 0 where
+  pub spelled : MayRun left opened.script
+  pub sees : SeesChain disk opened.chain
+  pub fits : FitsScript opened.script
+
+-- an end of a run of this script: want of memory before anything was run, or a run
+abbrev pub IsEndOfRun : Options → List ScriptTxn → Disk → Disk → Ended → Type 0
+IsEndOfRun options script old new (early r) = (r ≡ reason.Fault run_fault.Memory) × (new ≡ old)
+IsEndOfRun options script old new (ran its r) = (its ≡ script) × IsRunOf options old new script r
+
+-- how a run of this script ended, and what was printed
+pub record EndsRunOf (options : Options) (script : List ScriptTxn) (old new : Disk) (status : ℕ) (was now : Option (List ℕ)) : Type 0 where
+  pub ended : Ended
+  pub is_end : IsEndOfRun options script old new ended
+  pub status_is : (status ≡ 5) ⊎ (status ≡ status_of ended)
+  pub printed : Puts (text_of ended) (status ≡ 5) was now
+
+-- ---- the theorem
 
 -- what is known at entry
 abbrev pub start_on : Disk → List ℕ → ℕ → List Row → Start
 start_on old bytes e rows = record { script = script_of bytes; region_len = old.region_len; e = e; rows = rows }
 
--- What other words give, where the output is told.
-pub record RefusesWords (words output_rose : Type 0) (old new : Disk) (status : ℕ) (was now : Option (List ℕ)) : Type 0 where
-  pub holds : (words → ⊥) → (first : List ℕ) → was ≡ Some first → (written : List ℕ) × (now ≡ Some (first ++ written)) × WordsTheorem output_rose (new ≡ old) status written
-
--- The theorem of a run, where the words are those of the command `run` with these options, script, output and disk are told, and the log is
--- sound. The disk then tells its bytes on return too. For now `words` says that they are the one word `run`. Of the source and of the output the counts of
--- faults before and after are known.
-pub record RunsWell (words : Type 0) (command : Option Command) (left : Option (List ℕ)) (source output : ℕ × ℕ) (old new : Disk) (status : ℕ) (was now : Option (List ℕ)) : Type 0 where
-  pub holds : (options : Options) (bytes first : List ℕ) (before : Told) (e : ℕ) (rows : List Row) → words → SpellsRun command options → left ≡ Some bytes → was ≡ Some first → old.told ≡ Some before
+-- The theorem of a run with these options, where script, output and disk are told, and the log is sound. The disk then tells its bytes on return too. Of the source and
+-- of the output the counts of faults before and after are known.
+pub record RunsWell (options : Options) (left : Option (List ℕ)) (source output : ℕ × ℕ) (old new : Disk) (status : ℕ) (was now : Option (List ℕ)) : Type 0 where
+  pub holds : (bytes first : List ℕ) (before : Told) (e : ℕ) (rows : List Row) → left ≡ Some bytes → was ≡ Some first → old.told ≡ Some before
       → Shows old.region_len before.bytes e rows → IsSound rows
       → (after : Told) × (new.told ≡ Some after) × (written : List ℕ) × (now ≡ Some (first ++ written))
       × RunTheorem (causes_of (start_on old bytes e rows) (return_of old new source output before after)) (start_on old bytes e rows) options.group (IsImageSince (clock_of before) after) (IsImageNow after)

@@ -1,0 +1,214 @@
+-- What `ranges` and `merge` leave, from how they ended.
+use Rattle.std.proofs.Common.{◌≡◌, ◌⊎◌, inl, inr, ℕ, ◌<◌, List, [], ◌∷◌, option_map, ap, ◌∙◌, sym, subst, Option, Some, Result, Ok, Err, arith}
+use Rattle.log_disk.specs.Disk.{Disk, HasRisen, OnlyFails}
+use Rattle.fine_model.specs.declared.Part.{Part}
+use Rattle.fine_model.specs.declared.RunFault.{RunFault}
+use Rattle.fine_model.specs.declared.RunFault.TheVariants as run_fault
+use Rattle.fine_model.specs.Headline.{OneOf}
+use Rattle.fine_model.specs.Map.{Pair}
+use Rattle.fine_model.specs.declared.Options.{Options}
+use Rattle.fine_model.specs.Words.{Command, dump, gen, merge, ranges, run}
+use Rattle.command_words.specs.Words.{meant}
+use Rattle.command_words.specs.declared.command.Command.{Command as ReadCommand}
+use Rattle.log_disk.specs.Moments.{ContinuesOn}
+use Rattle.map_reader.specs.Dumps.{DumpsAny, DumpsWell, Ends as EndsDump, FindsDump, IsUnsoundLog as DumpUnsound, LeavesBeside as DumpBeside, status_of as dump_status}
+use Rattle.fine_top.specs.Generating.{Ends as EndsGen, GensWell, Numbers}
+use Rattle.log_disk.proofs.Times.{continues_told}
+use Rattle.log_commands.specs.Ends.{Ends, MergesAnyWell, MergesWell, RangesWell, status_of}
+use Rattle.log_commands.specs.Found.{FindsChain}
+use Rattle.log_commands.specs.Merged.{KeepsLog, MergesLog, ShowsNone}
+use Rattle.fine_top.specs.Commands.{Does, IsReading, Seen, seen}
+use Rattle.fine_top.specs.Opened.{IsOpenedLog, IsUnsoundLog}
+use Rattle.fine_top.specs.Running.{Ends as EndsRun, IsRefused, LeavesBeside, OfTold, RunsWell}
+use Rattle.fine_top.proofs.Chainless.{unsound}
+
+-- ---- the chain alone
+
+pub finds_beside : (old new : Disk) → old.eyes ≡ [] → (found : Result (List Part) RunFault) → FindsChain old new found → LeavesBeside old new
+finds_beside old new none (Ok parts) f = record { regions = ap (λ (d : Disk). d.regions) f.0; region_len = ap (λ (d : Disk). d.region_len) f.0; no_eyes = ap (λ (d : Disk). d.eyes) f.0 ∙ none }
+finds_beside old new none (Err run_fault.Memory) f = record { regions = ap (λ (d : Disk). d.regions) f; region_len = ap (λ (d : Disk). d.region_len) f; no_eyes = ap (λ (d : Disk). d.eyes) f ∙ none }
+finds_beside old new none (Err run_fault.Disk) f = record { regions = f.beside.regions; region_len = f.beside.region_len; no_eyes = f.beside.eyes ∙ none }
+finds_beside old new none (Err (run_fault.Damaged what)) f = record { regions = ap (λ (d : Disk). d.regions) f.0; region_len = ap (λ (d : Disk). d.region_len) f.0; no_eyes = ap (λ (d : Disk). d.eyes) f.0 ∙ none }
+
+pub finds_unsound : (old new : Disk) (found : Result (List Part) RunFault) → FindsChain old new found → status_of found ≡ 7 → IsUnsoundLog old
+finds_unsound old new (Ok parts) f is = absurd (omega (arith, is))
+finds_unsound old new (Err run_fault.Memory) f is = absurd (omega (arith, is))
+finds_unsound old new (Err run_fault.Disk) f is = absurd (omega (arith, is))
+finds_unsound old new (Err (run_fault.Damaged what)) f is = unsound old what f.1
+
+pub finds_opened : (old new : Disk) (found : Result (List Part) RunFault) → FindsChain old new found → status_of found ≡ 0 → IsOpenedLog old
+finds_opened old new (Ok parts) f is = (parts, f.1)
+finds_opened old new (Err run_fault.Memory) f is = absurd (omega (arith, is))
+finds_opened old new (Err run_fault.Disk) f is = absurd (omega (arith, is))
+finds_opened old new (Err (run_fault.Damaged what)) f is = absurd (omega (arith, is))
+
+-- ---- the pairs
+
+dump_opened : (old new : Disk) (found : Result (List Pair) RunFault) → FindsDump old new found → dump_status found ≡ 0 → IsOpenedLog old
+dump_opened old new (Ok pairs) (inl reads) is = (reads.opens.found.parts, record { image = reads.opens.sees.image; is_seen = reads.opens.sees.is_seen; is = reads.opens.sees.is_chain })
+dump_opened old new (Ok pairs) (inr none) is = absurd none
+dump_opened old new (Err run_fault.Memory) f is = absurd (omega (arith, is))
+dump_opened old new (Err run_fault.Disk) f is = absurd (omega (arith, is))
+dump_opened old new (Err (run_fault.Damaged what)) f is = absurd (omega (arith, is))
+
+-- ---- with merging
+
+merged_opened : (old new : Disk) (found : Result (List Part) RunFault) → MergesLog old new found → status_of found ≡ 0 → IsOpenedLog old
+merged_opened old new (Ok parts) m is = (m.merges.before, m.merges.was)
+merged_opened old new (Err run_fault.Memory) m is = absurd (omega (arith, is))
+merged_opened old new (Err run_fault.Disk) m is = absurd (omega (arith, is))
+merged_opened old new (Err (run_fault.Damaged what)) m is = absurd (omega (arith, is))
+
+-- ---- both
+
+module _ (left : Option (List ℕ)) (source output : ℕ × ℕ) (old new : Disk) (status : ℕ) (was now : Option (List ℕ)) (output_failed : status ≡ 5 → HasRisen output.0 output.1) (known : OneOf (0 ∷ 1 ∷ 5 ∷ 6 ∷ 7 ∷ []) status)
+    (disk_told : old.faults < new.faults → OneOf (5 ∷ 6 ∷ []) status) where
+  told : old.faults < new.faults → OneOf (1 ∷ 5 ∷ 6 ∷ []) status
+  told rose = inr (disk_told rose)
+
+  pub ranges_does : old.eyes ≡ [] → (ends : Ends (FindsChain old new) status was now) → RangesWell output old new status was now → (status ≡ 6 → OnlyFails old new) → new.told ≡ old.told → Does (Some ranges) (seen left source output old new status was now)
+  ranges_does none ends well failed still = record {
+    leaves = record {
+      status_is = known;
+      source_failed = λ four. absurd (grind (arith, known, four));
+      output_failed = output_failed;
+      disk_failed = λ six. (failed six).counts.faults tt;
+      disk_told = told;
+      damaged = λ seven. by_seven ends.status_is seven;
+      opened = λ ok. by_zero ends.status_is ok;
+      untouched = λ early. absurd (grind (arith, known, early));
+      beside = finds_beside old new none ends.found ends.is_found;
+      time = continues_told old new still;
+      still = λ c is reads. still;
+    };
+    own = record { ends = ends; ranges = well };
+  }
+    where
+      by_seven : (status ≡ 5) ⊎ (status ≡ status_of ends.found) → status ≡ 7 → IsUnsoundLog old
+      by_seven (inl five) seven = absurd (omega (arith, five, seven))
+      by_seven (inr is) seven = finds_unsound old new ends.found ends.is_found (sym is ∙ seven)
+
+      by_zero : (status ≡ 5) ⊎ (status ≡ status_of ends.found) → OneOf (0 ∷ 8 ∷ []) status → IsOpenedLog old
+      by_zero (inl five) ok = absurd (grind (arith, five, ok))
+      by_zero (inr is) (inl zero) = finds_opened old new ends.found ends.is_found (sym is ∙ zero)
+      by_zero (inr is) (inr (inl eight)) = absurd (grind (arith, known, eight))
+      by_zero (inr is) (inr (inr none)) = absurd none
+
+  pub merge_does : (ends : Ends (MergesLog old new) status was now) → MergesWell output old new status was now → MergesAnyWell output old new status was now → (status ≡ 6 → HasRisen old.faults new.faults) → (status ≡ 7 → ShowsNone old) → KeepsLog old new
+      → Does (Some merge) (seen left source output old new status was now)
+  merge_does ends well any failed shows_none keeps = record {
+    leaves = record {
+      status_is = known;
+      source_failed = λ four. absurd (grind (arith, known, four));
+      output_failed = output_failed;
+      disk_failed = failed;
+      disk_told = told;
+      damaged = λ seven before is e rows shows sound. shows_none seven before e rows is shows;
+      opened = λ ok. by_zero ends.status_is ok;
+      untouched = λ early. absurd (grind (arith, known, early));
+      beside = record { regions = keeps.regions; region_len = keeps.region_len; no_eyes = keeps.no_eyes };
+      time = keeps.time;
+      still = λ c is reads. absurd (not_reading c is reads);
+    };
+    own = record { ends = ends; merge = well; any = any };
+  }
+    where
+      by_zero : (status ≡ 5) ⊎ (status ≡ status_of ends.found) → OneOf (0 ∷ 8 ∷ []) status → IsOpenedLog old
+      by_zero (inl five) ok = absurd (grind (arith, five, ok))
+      by_zero (inr is) (inl zero) = merged_opened old new ends.found ends.is_found (sym is ∙ zero)
+      by_zero (inr is) (inr (inl eight)) = absurd (grind (arith, known, eight))
+      by_zero (inr is) (inr (inr none)) = absurd none
+
+      not_reading : (c : Command) → ◌≡◌ {A = Option Command} (Some merge) (Some c) → IsReading c → ⊥
+      not_reading c is reads = let same : merge ≡ c = cc in subst IsReading (sym same) reads
+
+-- ---- reading all pairs
+
+module _ (left : Option (List ℕ)) (source output : ℕ × ℕ) (old new : Disk) (status : ℕ) (was now : Option (List ℕ)) (output_failed : status ≡ 5 → HasRisen output.0 output.1) (known : OneOf (0 ∷ 1 ∷ 5 ∷ 6 ∷ 7 ∷ []) status) where
+  pub dump_does : (ends : EndsDump old new status was now) → DumpsWell output old new status was now → DumpsAny output old new status was now → (status ≡ 6 → HasRisen old.faults new.faults) → (old.faults < new.faults → OneOf (1 ∷ 5 ∷ 6 ∷ []) status)
+      → (status ≡ 7 → DumpUnsound old) → new.told ≡ old.told → DumpBeside old new → Does (Some dump) (seen left source output old new status was now)
+  dump_does ends well any failed told unsound still beside = record {
+    leaves = record {
+      status_is = known;
+      source_failed = λ four. absurd (grind (arith, known, four));
+      output_failed = output_failed;
+      disk_failed = failed;
+      disk_told = told;
+      damaged = unsound;
+      opened = λ ok. by_zero ends.prints.status_is ok;
+      untouched = λ early. absurd (grind (arith, known, early));
+      beside = record { regions = beside.regions; region_len = beside.region_len; no_eyes = beside.no_eyes };
+      time = continues_told old new still;
+      still = λ c is reads. still;
+    };
+    own = record { ends = ends; dump = well; any = any };
+  }
+    where
+      by_zero : (status ≡ 5) ⊎ (status ≡ dump_status ends.found) → OneOf (0 ∷ 8 ∷ []) status → IsOpenedLog old
+      by_zero (inl five) ok = absurd (grind (arith, five, ok))
+      by_zero (inr is) (inl zero) = dump_opened old new ends.found ends.is_found (sym is ∙ zero)
+      by_zero (inr is) (inr (inl eight)) = absurd (grind (arith, known, eight))
+      by_zero (inr is) (inr (inr none)) = absurd none
+
+-- ---- a generated run
+
+module _ (n : Numbers) (left : Option (List ℕ)) (source output : ℕ × ℕ) (old new : Disk) (status : ℕ) (was now : Option (List ℕ)) (output_failed : status ≡ 5 → HasRisen output.0 output.1) (known : OneOf (0 ∷ 1 ∷ 5 ∷ 6 ∷ 7 ∷ 8 ∷ []) status) where
+  pub gen_does : EndsGen n old new status was now → GensWell n output old new status was now → (status ≡ 6 → HasRisen old.faults new.faults) → (old.faults < new.faults → OneOf (1 ∷ 5 ∷ 6 ∷ []) status)
+      → (status ≡ 7 → IsUnsoundLog old) → (OneOf (0 ∷ 8 ∷ []) status → IsOpenedLog old) → LeavesBeside old new → ContinuesOn old new → Does (Some (gen n.start n.count n.lanes)) (seen left source output old new status was now)
+  gen_does ends well failed told unsound opened beside time = record {
+    leaves = record {
+      status_is = known;
+      source_failed = λ four. absurd (grind (arith, known, four));
+      output_failed = output_failed;
+      disk_failed = failed;
+      disk_told = told;
+      damaged = unsound;
+      opened = opened;
+      untouched = λ early. absurd (grind (arith, known, early));
+      beside = beside;
+      time = time;
+      still = λ c is reads. absurd (not_reading c is reads);
+    };
+    own = record { ends = ends; gen = well };
+  }
+    where
+      not_reading : (c : Command) → ◌≡◌ {A = Option Command} (Some (gen n.start n.count n.lanes)) (Some c) → IsReading c → ⊥
+      not_reading c is reads = let same : gen n.start n.count n.lanes ≡ c = cc in subst IsReading (sym same) reads
+
+-- ---- a run
+
+module _ (options : Options) (left : Option (List ℕ)) (source output : ℕ × ℕ) (old new : Disk) (status : ℕ) (was now : Option (List ℕ)) (known : OneOf (0 ∷ 1 ∷ 3 ∷ 4 ∷ 5 ∷ 6 ∷ 7 ∷ 8 ∷ []) status) where
+  pub run_does : EndsRun options (HasRisen source.0 source.1) left old new status was now → RunsWell options left source output old new status was now → (status ≡ 3 → OfTold left IsRefused) → OfTold left (λ bytes. IsRefused bytes → OneOf (1 ∷ 3 ∷ 4 ∷ 5 ∷ []) status)
+      → (status ≡ 7 → IsUnsoundLog old) → (OneOf (0 ∷ 8 ∷ []) status → IsOpenedLog old) → (status ≡ 4 → HasRisen source.0 source.1) → (status ≡ 5 → HasRisen output.0 output.1) → (status ≡ 6 → HasRisen old.faults new.faults)
+      → (old.faults < new.faults → OneOf (1 ∷ 5 ∷ 6 ∷ []) status) → (OneOf (3 ∷ 4 ∷ []) status → new ≡ old) → LeavesBeside old new → ContinuesOn old new → Does (Some (run options)) (seen left source output old new status was now)
+  run_does ends well script refused unsound opened source_failed output_failed failed told untouched beside time = record {
+    leaves = record {
+      status_is = known;
+      source_failed = source_failed;
+      output_failed = output_failed;
+      disk_failed = failed;
+      disk_told = told;
+      damaged = unsound;
+      opened = opened;
+      untouched = λ early. by early;
+      beside = beside;
+      time = time;
+      still = λ c is reads. absurd (not_reading c is reads);
+    };
+    own = record { ends = ends; run = well; script = script; refused = refused };
+  }
+    where
+      by : OneOf (2 ∷ 3 ∷ 4 ∷ []) status → new ≡ old
+      by (inl two) = absurd (grind (arith, known, two))
+      by (inr rest) = untouched rest
+
+      not_reading : (c : Command) → ◌≡◌ {A = Option Command} (Some (run options)) (Some c) → IsReading c → ⊥
+      not_reading c is reads = let same : run options ≡ c = cc in subst IsReading (sym same) reads
+
+-- ---- the command that was read
+
+pub as_meant : (command expected : ReadCommand) (s : Seen) → command ≡ expected → Does (Some (meant expected)) s → Does (Some (meant command)) s
+as_meant command expected s is d = subst (λ c. Does (Some (meant c)) s) (sym is) d
+
+pub as_read : (found expected : Option ReadCommand) (command : Option Command) (s : Seen) → option_map meant found ≡ command → found ≡ expected → Does (option_map meant expected) s → Does command s
+as_read found expected command s of is d = subst (λ k. Does k s) (ap (option_map meant) (sym is) ∙ of) d

@@ -1,0 +1,127 @@
+#!/bin/sh
+# Prints what a load of 100,000 transactions costs, each with one `put` of a key of 12 bytes and a value of 100, in groups of 64 and of 1, beside a C
+# program that writes and syncs as many epochs of as many bytes: transactions a second, processor microseconds a transaction (all, reading
+# alone, and reading with printing alone), bytes written for each byte that is put (the report among them), resident memory, and the ratio of times. Then the time to the first `get` on
+# the log that is left, with as many transactions and with a tenth of them.
+#
+# Reading alone is a script whose last line is refused; reading with printing is one whose transactions are all aborted and put nothing. `sh bench/load.sh 10000` makes
+# a smaller load. It is no test. The program is proved before it is built.
+set -e
+top=$(cd "$(dirname "$0")/.." && pwd)
+count=${1:-100000}
+work=$(mktemp -d)
+trap 'rm -rf "$work"' EXIT
+cd "$top/crates/fineline"
+printf '' | rt run -- "$work/none" default run > "$work/build" 2>&1 || { cat "$work/build"; exit 1; }
+fineline="$PWD/out/fineline"
+
+cat > "$work/timed.c" <<'EOF'
+/* Runs a program on an input, and prints: wall and processor microseconds, resident kilobytes, bytes written by calls. */
+#include <fcntl.h>
+#include <stdio.h>
+#include <stdlib.h>
+#include <sys/resource.h>
+#include <sys/wait.h>
+#include <time.h>
+#include <unistd.h>
+
+static long now(void) {
+    struct timespec t;
+    clock_gettime(CLOCK_MONOTONIC, &t);
+    return t.tv_sec * 1000000L + t.tv_nsec / 1000;
+}
+
+static long written(pid_t child) {
+    char path[64], line[128];
+    long bytes = 0;
+    snprintf(path, sizeof path, "/proc/%d/io", (int)child);
+    FILE *io = fopen(path, "r");
+    while (io && fgets(line, sizeof line, io)) sscanf(line, "wchar: %ld", &bytes);
+    if (io) fclose(io);
+    return bytes;
+}
+
+int main(int argc, char **argv) {
+    long start = now();
+    pid_t child = fork();
+    if (child == 0) {
+        if (!freopen(argv[1], "r", stdin) || !freopen(argv[2], "w", stdout)) _exit(99);
+        execv(argv[3], argv + 3);
+        _exit(99);
+    }
+    siginfo_t info;
+    waitid(P_PID, child, &info, WEXITED | WNOWAIT);
+    long spent = now() - start, bytes = written(child);
+    struct rusage use;
+    int status;
+    wait4(child, &status, 0, &use);
+    long cpu = use.ru_utime.tv_sec * 1000000L + use.ru_utime.tv_usec;
+    printf("%ld %ld %ld %ld %d\n", spent, cpu, use.ru_maxrss, bytes, WEXITSTATUS(status));
+    return 0;
+}
+EOF
+gcc -O2 -o "$work/timed" "$work/timed.c"
+
+cat > "$work/plain.c" <<'EOF'
+/* Writes epochs of so many bytes: the body, a sync, the gate, a sync. */
+#include <fcntl.h>
+#include <stdlib.h>
+#include <unistd.h>
+
+int main(int argc, char **argv) {
+    long epochs = atol(argv[2]), len = atol(argv[3]);
+    char *bytes = calloc(1, len);
+    int fd = open(argv[1], O_RDWR | O_CREAT, 0666);
+    if (fd < 0 || !bytes) return 1;
+    for (long e = 0; e < epochs; e++) {
+        long at = (e % 24) * 4194304;
+        if (pwrite(fd, bytes, len, at + 1) != len || fsync(fd)) return 1;
+        if (pwrite(fd, bytes, 1, at) != 1 || fsync(fd)) return 1;
+    }
+    return 0;
+}
+EOF
+gcc -O2 -o "$work/plain" "$work/plain.c"
+
+# script NAME COUNT CALLS ENDING LAST: a script of so many transactions, with a last line.
+script() {
+  awk -v count="$2" -v put="$3" -v ending="$4" -v last="$5" 'BEGIN {
+    value = sprintf("%100s", ""); gsub(/ /, "v", value)
+    for (i = 0; i < count; i++) {
+      print "txn 1"
+      if (put) printf "put k%011d %s\n", (i * 7919) % count, value
+      print ending
+    }
+    if (last != "") print last
+  }' > "$work/$1"
+}
+script load "$count" 1 commit ""
+script tenth $((count / 10)) 1 commit ""
+script refused "$count" 1 commit "no line"
+script aborted "$count" 0 abort ""
+printf 'txn 1\nget k00000000000\ncommit\n' > "$work/one"
+
+timed() { "$work/timed" "$@" > "$work/timing"; read -r wall cpu resident bytes status < "$work/timing"; }
+of() { awk -v a="$1" -v b="$2" 'BEGIN { printf "%.2f", a / b }'; }
+
+for group in 64 1; do
+  epochs=$((count / group))
+  rm -f "$work/log"
+  timed "$work/refused" "$work/out" "$fineline" "$work/log" default run --group $group
+  reading=$cpu
+  timed "$work/aborted" "$work/out" "$fineline" "$work/log" default run --group $group
+  printing=$cpu
+  timed "$work/load" "$work/out" "$fineline" "$work/log" default run --group $group
+  run_wall=$wall run_cpu=$cpu run_resident=$resident run_bytes=$bytes run_status=$status
+  # a row has 19 + 1 + 12 + 2 + 100 bytes, an epoch an index entry for each leaf besides, of which there is at least one
+  timed /dev/null /dev/null "$work/plain" "$work/plain_log" $epochs $((40 + group * 134 + 14))
+  echo "group $group, status $run_status: $(of $((count * 1000)) $((run_wall / 1000))) transactions a second, $(of $run_wall $wall) of the C program's time"
+  echo "  processor microseconds a transaction: $(of $run_cpu $count) in all; reading $(of $reading $count); reading and printing without a call $(of $printing $count)"
+  echo "  bytes written for each byte put: $(of $run_bytes $((count * 112))); resident memory $((run_resident / 1024)) MiB"
+  timed "$work/one" "$work/out" "$fineline" "$work/log" default run
+  echo "  a first get behind all of them: $(of $wall 1000) ms"
+  rm -f "$work/log"
+  timed "$work/tenth" "$work/out" "$fineline" "$work/log" default run --group $group
+  timed "$work/one" "$work/out" "$fineline" "$work/log" default run
+  echo "  behind a tenth of them: $(of $wall 1000) ms"
+done

@@ -3,16 +3,14 @@ use Rattle.std.proofs.Common.{◌≡◌, ℕ, ◌+◌, ◌<◌, ◌≤◌, true,
 use Rattle.std.specs.Prelude.{slice_range, nat_lt}
 use Rattle.std.specs.Int.{from_be_bytes, w16, w32}
 use Rattle.std.proofs.lemmas.List.{drop-take, take-take, drop-drop}
-use Rattle.log_disk.specs.Disk.{Eye}
 use Rattle.fine_model.specs.declared.Header.{Header}
 use Rattle.fine_model.specs.declared.Part.{Part}
 use Rattle.fine_model.specs.Regions.{Image, body_in}
 use Rattle.fine_model.specs.Seek.{entry_of, entry_at, entry_place, is_entry, span_at, span_end, is_followed}
 use Rattle.partition_index.specs.Entries.{model_of}
-use Rattle.partition_index.specs.Parts.{LooksAt}
 use Rattle.std.proofs.lemmas.Bool.{lt-ltb, le-ltb}
 use Rattle.std.proofs.lemmas.Bool.Decides.{nat_tests}
-use Rattle.partition_index.specs.Search.{IfTold, IsEntryAt, IsNoEntryAt, IsEndOf, IsSpanAt, IsBadAt}
+use Rattle.partition_index.specs.Search.{IfTold, IsRangeAt, IsEntryAt, IsNoEntryAt, IsEndOf, IsSpanAt, IsBadAt}
 use Rattle.fine_model.specs.Seek.{IndexEntry as ModelEntry}
 use Rattle.partition_index.specs.declared.entries.IndexEntry.{IndexEntry}
 use Rattle.partition_index.proofs.Looking.{each_told, told_as, range_is}
@@ -34,16 +32,17 @@ entry_from body at =
       rows = from_be_bytes w32 (d i);
     }
 
--- what was read is the entry, where the eye tells its bytes
-pub told_entry : (old new : Eye) (p : Part) (at i : ℕ) (out : List ℕ) (entry : IndexEntry) (failed : Type 0) → LooksAt p at out failed old new → (failed → ⊥) → at ≡ entry_place p.header i → length out ≡ 14
-    → model_of entry ≡ entry_of out 0 → IfTold old.told p (λ body. entry_at p.header body i ≡ model_of entry)
-told_entry old new p at i out entry failed look is place long spelled =
-    each_told (λ image. entry_at p.header (body_in image p.region p.header) i ≡ model_of entry) old.told
+-- what bytes spell is the entry, where they are told at its place
+pub told_entry : (known : Option Image) (p : Part) (i : ℕ) (bytes : List ℕ) (entry : IndexEntry) → IsRangeAt known p (entry_place p.header i) bytes → length bytes ≡ 14 → model_of entry ≡ entry_of bytes 0
+    → IfTold known p (λ body. entry_at p.header body i ≡ model_of entry)
+told_entry known p i bytes entry range long spelled =
+    each_told (λ image. entry_at p.header (body_in image p.region p.header) i ≡ model_of entry) known
     (λ image t.
     let body : List ℕ = body_in image p.region p.header in
-    let read : out ≡ slice_range body at (at + length out) = told_as (λ j. out ≡ slice_range (body_in j p.region p.header) at (at + length out)) old.told image t (look.bytes is) in
-    let bytes : out ≡ take 14 (drop (entry_place p.header i) body) = read ∙ range_is body at (at + length out) 14 (ap (λ n. at + n) long) ∙ ap (λ n. take 14 (drop n body)) place in
-    entry_from body (entry_place p.header i) ∙ sym (ap (λ xs. entry_of xs 0) bytes) ∙ sym spelled)
+    let at : ℕ = entry_place p.header i in
+    let read : bytes ≡ slice_range body at (at + length bytes) = told_as (λ j. bytes ≡ slice_range (body_in j p.region p.header) at (at + length bytes)) known image t range in
+    let is : bytes ≡ take 14 (drop at body) = read ∙ range_is body at (at + length bytes) 14 (ap (λ n. at + n) long) in
+    entry_from body at ∙ sym (ap (λ xs. entry_of xs 0) is) ∙ sym spelled)
 
 -- what a span is, by the tests
 pub span_bad : (header : Header) (body : List ℕ) (i : ℕ) → is_entry header (entry_at header body i) ≡ false → span_at header body i ≡ Err (entry_place header i)

@@ -1,5 +1,5 @@
 -- What a search in an index does and finds.
-use Rattle.std.specs.Prelude.{◌≡◌, ◌⊎◌, ℕ, ◌+◌, ◌-◌, ◌<◌, ◌≤◌, ◌==◌, List, true, false, length, Option, Some, None, IfSome, if◌then◌else◌, Ok, Err}
+use Rattle.std.specs.Prelude.{◌≡◌, ◌⊎◌, ℕ, ◌+◌, ◌-◌, ◌<◌, ◌≤◌, ◌==◌, List, true, false, length, slice_range, Option, Some, None, IfSome, if◌then◌else◌, Ok, Err}
 use Rattle.log_disk.specs.Disk.{Eye}
 use Rattle.fine_model.specs.declared.NodeId.{NodeId}
 use Rattle.fine_model.specs.declared.Part.{Part}
@@ -23,6 +23,10 @@ pub record Searches (failed : Type 0) (most : ℕ) (old new : Eye) : Type 0 wher
 -- P of the body of a part, where an eye tells its bytes
 abbrev pub IfTold : Option Image → Part → (List ℕ → Type 0) → Type 0
 IfTold told part P = IfSome told (λ image. P (body_in image part.region part.header))
+
+-- bytes are those of a part's body from an offset on, where an eye tells them
+abbrev pub IsRangeAt : Option Image → Part → ℕ → List ℕ → Type 0
+IsRangeAt known part at bytes = IfTold known part (λ body. bytes ≡ slice_range body at (at + length bytes))
 
 -- an entry of the index, by its number; it may stand there
 pub record IsEntryAt (known : Option Image) (part : Part) (i : ℕ) (entry : IndexEntry) : Type 0 where

@@ -14,4 +14,4 @@ pub use built::{build, index_law};
 pub use entries::{IndexEntry, SeekFault, Span, entry_bytes, entry_law, entry_of};
 pub use indexer::Indexer;
 pub use places::{place_of, placed_law, read_body};
-pub use search::{entry_at, seek};
+pub use search::{entry_at, entry_in, entry_place, seek, span_in};

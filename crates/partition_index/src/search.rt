@@ -1,15 +1,16 @@
 //! The search for a node in the index of a part, through an eye.
 
-ghost use Rattle.std.specs.Prelude.{◌≡◌, ◌⊎◌, ℕ, ◌+◌, ◌*◌, ◌<◌, IfOk, IfErr, IfSome, IsErrOf, List, None, Some, Ok, Err, slice_get};
+ghost use Rattle.std.specs.Prelude.{◌≡◌, ◌⊎◌, ℕ, ◌+◌, ◌*◌, ◌<◌, IfOk, IfErr, IfSome, IsErrOf, List, Option, None, Some, Ok, Err, slice_get};
 ghost use Rattle.fine_model.specs.declared.NodeId.{NodeId};
 ghost use Rattle.fine_model.specs.declared.Row.{Row};
 ghost use Rattle.fine_model.specs.Merge.{nodes_in};
+ghost use Rattle.fine_model.specs.Regions.{Image, body_len};
 ghost use Rattle.fine_model.specs.Seek.{is_entry, entry_place, most_taken, span_at};
 ghost use Rattle.fine_model.specs.RowBytes.{index_entry};
 ghost use Rattle.partition_index.specs.declared.entries.SeekFault.TheVariants as fault;
 ghost use Rattle.partition_index.specs.Entries.{model_of, entry_for};
 ghost use Rattle.partition_index.specs.Parts.{IsSeen};
-ghost use Rattle.partition_index.specs.Search.{Searches, IfTold, IsEntryAt, IsNoEntryAt, IsEndOf, IsSpanAt, IsSoughtSpan, IsBadAt, LacksNode, MeetsBad, TellsRows, span_for, sought};
+ghost use Rattle.partition_index.specs.Search.{Searches, IfTold, IsEntryAt, IsNoEntryAt, IsEndOf, IsRangeAt, IsSpanAt, IsSoughtSpan, IsBadAt, LacksNode, MeetsBad, TellsRows, span_for, sought};
 
 use crate::entries::{IndexEntry, SeekFault, Span, entry_of};
 use crate::places::read_body;
@@ -29,12 +30,35 @@ fn may_stand(header: &Header, entry: &IndexEntry) -> bool
         && entry.rows <= header.rows
 }
 
-// The place in the body of an entry.
-fn entry_place(header: &Header, i: u32) -> u32
+/// The offset in a part's body of an entry of its index, by the entry's number.
+pub fn entry_place(header: &Header, i: u32) -> u32
     requires { entry_place header.now i < 4294967296 }
     ensures { result ≡ entry_place header.now i }
 {
     header.area + INDEX_ENTRY as u32 * i
+}
+
+/// The entry that bytes spell, by its number, if it may stand there.
+///
+/// Where the bytes are those of the body at the entry's place, so is the entry. `BadIndex` is the only fault, and comes with that
+/// place, only where no entry with these bytes may stand there. Nothing is read, and no memory is taken.
+pub fn entry_in(part: &Part, i: u32, bytes: [u8; INDEX_ENTRY]) -> Result<IndexEntry, SeekFault>
+    requires there { i < part.now.header.nodes }
+    requires small { body_len part.now.header < 4294967296 }
+    ensures unread { IsErrOf result fault.Failed → ⊥ }
+    ensures ok { (known : Option Image) → IsRangeAt known part.now (entry_place part.now.header i) bytes → IfOk result (IsEntryAt known part.now i) }
+    ensures bad { (known : Option Image) → IsRangeAt known part.now (entry_place part.now.header i) bytes
+        → (at : ℕ) → IsErrOf result (fault.BadIndex at) → IsBadAt known part.now at }
+    ensures none { (known : Option Image) → IsRangeAt known part.now (entry_place part.now.header i) bytes
+        → (at : ℕ) → IsErrOf result (fault.BadIndex at) → IsNoEntryAt known part.now i at }
+{
+    let entry = entry_of(bytes);
+    if !may_stand(&part.header, &entry) {
+        return Err(SeekFault::BadIndex {
+            at: entry_place(&part.header, i),
+        });
+    }
+    Ok(entry)
 }
 
 // The entry of a number, if it may stand there.
@@ -57,11 +81,7 @@ fn read_entry<E: LogEye>(
     if read_body(eye, part, region_len, at, &mut bytes).is_err() {
         return Err(SeekFault::Failed);
     }
-    let entry = entry_of(bytes);
-    if !may_stand(&part.header, &entry) {
-        return Err(SeekFault::BadIndex { at });
-    }
-    Ok(entry)
+    entry_in(part, i, bytes)
 }
 
 // The end of the span of an entry: the offset of the next one, or the end of the rows.
@@ -79,6 +99,33 @@ fn end_of<E: LogEye>(eye: &mut E, part: &Part, i: u32, region_len: u64) -> Resul
         return Ok(next.offset);
     }
     Ok(part.header.area)
+}
+
+/// The span of an entry, by its number, from the end that the next entry or the row area gives.
+///
+/// It goes from the entry's offset to this end. `BadIndex` is the only fault, and comes with the entry's place, only where the span
+/// is empty. Nothing is read, and no memory is taken.
+pub fn span_in(part: &Part, i: u32, entry: &IndexEntry, end: u32) -> Result<Span, SeekFault>
+    requires there { i < part.now.header.nodes }
+    requires small { body_len part.now.header < 4294967296 }
+    ensures unread { IsErrOf result fault.Failed → ⊥ }
+    ensures lies { IfOk result (λ span. (span.at ≡ entry.now.offset) × (span.end ≡ end)) }
+    ensures ok { (known : Option Image) → IsEntryAt known part.now i entry.now → IsEndOf known part.now i end → IfOk result (IsSpanAt known part.now i) }
+    ensures bad { (known : Option Image) → IsEntryAt known part.now i entry.now → IsEndOf known part.now i end
+        → (at : ℕ) → IsErrOf result (fault.BadIndex at) → IsBadAt known part.now at }
+    ensures none { (known : Option Image) → IsEntryAt known part.now i entry.now → IsEndOf known part.now i end
+        → (at : ℕ) → IsErrOf result (fault.BadIndex at) → IfTold known part.now (λ body. span_at part.now.header body i ≡ Err at) }
+{
+    if end <= entry.offset {
+        return Err(SeekFault::BadIndex {
+            at: entry_place(&part.header, i),
+        });
+    }
+    Ok(Span {
+        at: entry.offset,
+        end,
+        rows: entry.rows,
+    })
 }
 
 // The span of an entry.
@@ -99,16 +146,7 @@ fn span_of<E: LogEye>(
     ensures none { (at : ℕ) → IsErrOf result (fault.BadIndex at) → IfTold (E.LogEye.state eye.old).told part.now (λ body. span_at part.now.header body i ≡ Err at) }
 {
     let end = end_of(eye, part, i, region_len)?;
-    if end <= entry.offset {
-        return Err(SeekFault::BadIndex {
-            at: entry_place(&part.header, i),
-        });
-    }
-    Ok(Span {
-        at: entry.offset,
-        end,
-        rows: entry.rows,
-    })
+    span_in(part, i, entry, end)
 }
 
 /// An entry of a part's index, by its number, and its span.

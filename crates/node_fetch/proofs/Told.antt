@@ -12,7 +12,7 @@ use Rattle.fine_model.specs.Seek.{SpanHolds, IsBadInSpan, span_bytes}
 use Rattle.partition_index.specs.declared.entries.Span.{Span}
 use Rattle.partition_index.specs.Entries.{row_span_of}
 use Rattle.partition_index.specs.Parts.{IsSeen}
-use Rattle.partition_index.specs.Search.{IfTold, TellsRows, span_for}
+use Rattle.partition_index.specs.Search.{IfTold, IsRangeAt, TellsRows, span_for}
 use Rattle.partition_index.proofs.Looking.{range_is, told_as}
 use Rattle.partition_index.proofs.InSpan.{own_in_span}
 use Rattle.node_fetch.specs.Fetched.{IsBodyOf, HoldsRows}
@@ -35,10 +35,10 @@ range_in_area body at end area n long order within =
     ∙ sym (ap (λ m. take (end - at) (drop at (take m body))) whole ∙ ap (take (end - at)) (drop-take at (area - at) body) ∙ take_less (end - at) (area - at) (drop at body) (omega arith))
 
 module _ (known : Option Image) (p : Part) (span : Span) (bytes : List ℕ) where
-  abbrev pub AreRead : Type 0
+  abbrev AreRead : Type 0
   AreRead = IfTold known p (λ body. bytes ≡ span_bytes p.header body (row_span_of span))
 
-  pub are_read : length bytes ≡ span.end - span.at → span.at ≤ span.end → span.end ≤ p.header.area → IfSome known (λ image. bytes ≡ slice_range (body_in image p.region p.header) span.at (span.at + length bytes)) → AreRead
+  are_read : length bytes ≡ span.end - span.at → span.at ≤ span.end → span.end ≤ p.header.area → IfSome known (λ image. bytes ≡ slice_range (body_in image p.region p.header) span.at (span.at + length bytes)) → AreRead
   are_read long order within =
       map_told (λ image. bytes ≡ slice_range (body_in image p.region p.header) span.at (span.at + length bytes)) (λ image. bytes ≡ span_bytes p.header (body_in image p.region p.header) (row_span_of span)) known
       (λ image is. is ∙ range_in_area (body_in image p.region p.header) span.at span.end p.header.area (length bytes) long order within)
@@ -49,7 +49,7 @@ module _ (known : Option Image) (p : Part) (span : Span) (bytes : List ℕ) wher
     pub is_body : IsBodyOf known p body
     pub is_read : bytes ≡ span_bytes p.header body (row_span_of span)
 
-pub body_read : (known : Option Image) (p : Part) (span : Span) (bytes : List ℕ) → AreRead known p span bytes → length bytes ≡ span.end - span.at → span.at ≤ span.end → span.end ≤ p.header.area → IsRead known p span bytes
+body_read : (known : Option Image) (p : Part) (span : Span) (bytes : List ℕ) → AreRead known p span bytes → length bytes ≡ span.end - span.at → span.at ≤ span.end → span.end ≤ p.header.area → IsRead known p span bytes
 body_read None p span bytes are long order within = record { body = zeros ++ bytes; is_body = tt; is_read = sym there }
   where
     zeros : List ℕ
@@ -66,6 +66,10 @@ body_read None p span bytes are long order within = record { body = zeros ++ byt
         ap (λ xs. take (span.end - span.at) (drop span.at xs)) all ∙ ap (take (span.end - span.at)) (drop_at zeros bytes span.at front)
         ∙ take_all (span.end - span.at) bytes (omega (arith, long))
 body_read (Some image) p span bytes are long order within = record { body = body_in image p.region p.header; is_body = refl; is_read = are }
+
+-- so where they are told at the span's offset
+pub range_read : (known : Option Image) (p : Part) (span : Span) (bytes : List ℕ) → IsRangeAt known p span.at bytes → length bytes ≡ span.end - span.at → span.at ≤ span.end → span.end ≤ p.header.area → IsRead known p span bytes
+range_read known p span bytes range long order within = body_read known p span bytes (are_read known p span bytes long order within range) long order within
 
 -- the body that was read is the one that an eye tells
 body_as_told : (known : Option Image) (p : Part) (image : Image) (body : List ℕ) → known ≡ Some image → IsBodyOf known p body → body ≡ body_in image p.region p.header

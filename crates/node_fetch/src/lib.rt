@@ -11,4 +11,4 @@ pub use fault::bad_index;
 pub use laws::damage_law;
 pub use rebuild::fetch;
 pub use replay::{base, replayed};
-pub use span::read_span;
+pub use span::{read_span, rows_of_span};

@@ -1,15 +1,15 @@
 //! The rows of one node in one part.
 
-ghost use Rattle.std.specs.Prelude.{◌≡◌, ℕ, ◌+◌, ◌-◌, ◌≤◌, ◌<◌, IfOk, IfErr, IsErrOf, MatchResult, List, length};
+ghost use Rattle.std.specs.Prelude.{◌≡◌, ℕ, ◌+◌, ◌-◌, ◌≤◌, ◌<◌, IfOk, IfErr, IsErrOf, MatchResult, List, Option, length};
 ghost use Rattle.std.specs.List.{AllByRecursion};
+ghost use Rattle.log_disk.specs.Disk.{Eye};
 ghost use Rattle.fine_model.specs.declared.Row.{Row};
 ghost use Rattle.fine_model.specs.declared.FetchFault.TheVariants as fetch_fault;
 ghost use Rattle.fine_model.specs.Nodes.{rows_of};
+ghost use Rattle.fine_model.specs.Regions.{Image};
 ghost use Rattle.fine_model.specs.RowBytes.{FitsRow};
-ghost use Rattle.fine_model.specs.Seek.{span_bytes};
-ghost use Rattle.partition_index.specs.Entries.{row_span_of};
-ghost use Rattle.partition_index.specs.Parts.{IsSeen};
-ghost use Rattle.partition_index.specs.Search.{Searches, IfTold, TellsRows, span_for};
+ghost use Rattle.partition_index.specs.Parts.{IsSeen, LiesIn};
+ghost use Rattle.partition_index.specs.Search.{Searches, IsRangeAt, TellsRows, span_for};
 ghost use Rattle.node_fetch.specs.Spans.{ReadsAll, StopsAt};
 ghost use Rattle.node_fetch.specs.Fetched.{HoldsRows, IsBadRowOf, NoDamage};
 
@@ -43,7 +43,7 @@ fn read_bytes<E: LogEye>(
     requires within { span.now.end ≤ part.now.header.area }
     ensures eye { Searches (IsErrOf result fetch_fault.Failed) (span.now.end - span.now.at) (E.LogEye.state eye.old) (E.LogEye.state eye.new) }
     ensures long { IfOk result (λ bytes. length bytes.items ≡ span.now.end - span.now.at) }
-    ensures read { IfOk result (λ bytes. IfTold (E.LogEye.state eye.old).told part.now (λ body. bytes.items ≡ span_bytes part.now.header body (row_span_of span.now))) }
+    ensures read { IfOk result (λ bytes. IsRangeAt (E.LogEye.state eye.old).told part.now span.now.at bytes.items) }
     ensures err { IfErr result NoDamage }
 {
     let mut bytes = zeros(alloc, span.end - span.at)?;
@@ -84,6 +84,41 @@ fn rows_in(
     Ok(rows)
 }
 
+/// The rows of a node that the bytes of a span spell, as its index entry gives it.
+///
+/// By these bytes the span is exactly these rows: all of the node, as many as the entry counts, up to the span's end. Where they are the
+/// node's span in a region in the grammar, the rows are the node's rows there. `BadRow` comes only where, by these bytes, the place
+/// that it names has no row of the node that ends within the span while the entry counts one there, or has bytes behind the last row.
+/// Want of memory is the only other fault. Nothing is read.
+pub fn rows_of_span(
+    alloc: Global,
+    part: &Part,
+    node: NodeId,
+    span: Span,
+    region_len: u64,
+    bytes: &[u8],
+) -> Result<Rows, FetchFault>
+    requires lies { LiesIn region_len part.now.header }
+    requires some { 1 ≤ part.now.header.nodes }
+    requires order { span.at ≤ span.end }
+    requires within { span.end ≤ part.now.header.area }
+    requires long { length bytes.now ≡ span.end - span.at }
+    ensures fit { IfOk result (AllByRecursion (FitsRow part.now.header.mark)) }
+    ensures holds { (known : Option Image) → IsRangeAt known part.now span.at bytes.now → IfOk result (HoldsRows known part.now node span) }
+    ensures unread { IsErrOf result fetch_fault.Failed → ⊥ }
+    ensures bad_row { (known : Option Image) → IsRangeAt known part.now span.at bytes.now → (region at : ℕ) → IsErrOf result (fetch_fault.BadRow region at)
+        → IsBadRowOf known region_len part.now node span (record { region = region; at = at }) }
+    ensures good_index { (region at : ℕ) → IsErrOf result (fetch_fault.BadIndex region at) → ⊥ }
+    ensures exact { (eye : Eye) (rows : List Row) → IsSeen eye part.now → IsRangeAt eye.told part.now span.at bytes.now → TellsRows eye part.now rows → span ≡ span_for rows node
+        → MatchResult result (λ own. own ≡ rows_of node rows) NoDamage }
+{
+    match rows_in(alloc, bytes, node, span.rows, part.header.mark) {
+        Ok(rows) => Ok(rows),
+        Err(RowFault::Bad { at }) => Err(bad_row(part, region_len, span.at + at as u32)),
+        Err(RowFault::NoMemory) => Err(FetchFault::NoMemory),
+    }
+}
+
 /// Reads the rows of a node from the span that its index entry gives.
 ///
 /// By the bytes that were read, which are the disk's where the eye tells them, the span is exactly these rows: all of the node,
@@ -114,9 +149,5 @@ pub fn read_span<E: LogEye>(
         → MatchResult result (λ own. own ≡ rows_of node rows) NoDamage }
 {
     let bytes = read_bytes(alloc, eye, part, &span, region_len)?;
-    match rows_in(alloc, &bytes, node, span.rows, part.header.mark) {
-        Ok(rows) => Ok(rows),
-        Err(RowFault::Bad { at }) => Err(bad_row(part, region_len, span.at + at as u32)),
-        Err(RowFault::NoMemory) => Err(FetchFault::NoMemory),
-    }
+    rows_of_span(alloc, part, node, span, region_len, &bytes)
 }

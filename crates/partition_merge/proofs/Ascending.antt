@@ -1,6 +1,6 @@
 -- The order of rows from one list to the next.
 use Rattle.std.proofs.Common.{◌≡◌, suc, ◌-◌, ◌≤◌, Bool, true, false, ◌&&◌, List, [], ◌∷◌, ◌++◌, length, Some, None, refl, sym, ap, ◌∙◌, subst, arith}
-use Rattle.std.specs.Prelude.{Option, flat_map, slice_get}
+use Rattle.std.specs.Prelude.{Option, slice_get}
 use Rattle.std.specs.List.{AllByRecursion}
 use Rattle.std.specs.Ordering.{nat_cmp, ordering_then, is_lt}
 use Rattle.std.proofs.lemmas.Grind.{flat_map-append}
@@ -11,7 +11,7 @@ use Rattle.fine_model.specs.declared.Row.{Row}
 use Rattle.fine_model.specs.Merge.{node_cmp, is_node_below, is_row_below, is_ordered}
 use Rattle.fine_model.proofs.Order.{less}
 use Rattle.partition_merge.specs.Merging.{follows, last_node}
-use Rattle.partition_merge.specs.Mergers.{are_apart}
+use Rattle.partition_merge.specs.Mergers.{all_of, are_apart}
 use Rattle.partition_merge.proofs.Nodes.{names}
 use Rattle.partition_merge.proofs.Ahead.{below_named}
 
@@ -64,10 +64,6 @@ follows_over (Some id) n [] left over named own = refl
 follows_over (Some id) n (r ∷ rows) left over named own = subst (λ k. is_node_below id k ≡ true) (sym own.0) (below_named id n left over named)
 
 -- ---- lists of rows
-
--- all rows of some lists
-abbrev pub all_of : List (List Row) → List Row
-all_of joins = flat_map (λ rows. rows) joins
 
 pub all_pushed : (joins : List (List Row)) (rows : List Row) → all_of (joins ++ rows ∷ []) ≡ all_of joins ++ rows
 all_pushed joins rows = flat_map-append (λ (xs : List Row). xs) joins (rows ∷ []) ∙ ap (λ xs. all_of joins ++ xs) (append-nil rows)

@@ -1,13 +1,14 @@
 -- When the image of a node stands for its rows.
-use Rattle.std.proofs.Common.{◌≡◌, ℕ, ◌+◌, ◌-◌, ◌<◌, ◌≤◌, Bool, true, false, cond, ◌&&◌, List, [], ◌∷◌, ◌++◌, Some, None, refl, sym, ap, ◌∙◌, arith, nat_le}
+use Rattle.std.proofs.Common.{◌≡◌, ℕ, ◌+◌, ◌-◌, ◌<◌, ◌≤◌, Bool, true, false, cond, ◌&&◌, List, [], ◌∷◌, ◌++◌, Some, None, refl, sym, ap, ◌∙◌, arith, nat_le, true≢false}
 use Rattle.std.specs.Prelude.{Option}
 use Rattle.std.proofs.lemmas.List.Sums.{sum_by-append}
 use Rattle.fine_model.specs.declared.NodeId.{NodeId}
 use Rattle.fine_model.specs.declared.Rec.{Rec}
+use Rattle.fine_model.specs.declared.Rec.TheVariants as rec
 use Rattle.fine_model.specs.declared.Row.{Row}
 use Rattle.fine_model.specs.RowBytes.{row_len, rows_len}
-use Rattle.fine_model.specs.Nodes.{Content, base, replay}
-use Rattle.fine_model.specs.Merge.{image_of, starts_afresh, merged_into}
+use Rattle.fine_model.specs.Nodes.{Content, base, replay, step, step_node}
+use Rattle.fine_model.specs.Merge.{image_of, is_image, starts_afresh, merged_into}
 use Rattle.std.proofs.lemmas.Bool.{lt-leb, le-leb}
 use Rattle.fine_model.proofs.NodeLaws.{replay-append}
 use Rattle.partition_merge.specs.Merging.{merged_of}
@@ -78,3 +79,28 @@ fold_row id own c row e is same version fresh shorter = fold_to id own c row.rec
   where
     made : record { node = id; version = c.1; rec = row.rec } ≡ row
     made = λ k. record { node = sym same k; version = sym version k; rec = row.rec }
+
+-- the image of an image is the same change
+image_kept : (change : Rec) (c : Content) (version : ℕ) → is_image change ≡ true → image_of (step_node c version change) ≡ Some change
+image_kept (rec.HeadImage root next depth) c version e = refl
+image_kept (rec.LeafImage pairs) c version e = refl
+image_kept (rec.InnerImage seps kids) c version e = refl
+image_kept (rec.Put key value) c version e = absurd (true≢false (sym e))
+image_kept (rec.Del key) c version e = absurd (true≢false (sym e))
+image_kept (rec.CutLeaf key) c version e = absurd (true≢false (sym e))
+image_kept (rec.Plus key by) c version e = absurd (true≢false (sym e))
+image_kept (rec.CutInner key) c version e = absurd (true≢false (sym e))
+image_kept (rec.Link key child) c version e = absurd (true≢false (sym e))
+
+-- one image of the node stands for itself, folded or not
+pub stay_image : (id : NodeId) (row : Row) → row.node ≡ id → is_image row.rec ≡ true → merged_of id (row ∷ []) ≡ row ∷ []
+unfolding merged_into step replay
+stay_image id row same image =
+    as_replayed id (row ∷ []) _ refl ∙ ap (merged_into id (row ∷ []) row.version) (image_kept row.rec (base id) row.version image) ∙ by (starts_afresh (row ∷ []) && nat_le (row_len made) (rows_len (row ∷ [])))
+  where
+    made : Row
+    made = record { node = id; version = row.version; rec = row.rec }
+
+    by : (t : Bool) → cond t (made ∷ []) (row ∷ []) ≡ row ∷ []
+    by true = λ k. record { node = sym same k; version = row.version; rec = row.rec } ∷ []
+    by false = refl

@@ -10,8 +10,8 @@ use Rattle.fine_model.specs.Merge.{is_ordered}
 use Rattle.partition_merge.specs.declared.merger.Measure.{Measure}
 use Rattle.partition_merge.specs.declared.merger.Merger.{Merger}
 use Rattle.partition_merge.specs.Merging.{follows, last_node}
-use Rattle.partition_merge.specs.Mergers.{both_left, older_part, newer_part, IsJoinOf, JoinsAll, IsMeasureOf, are_apart}
-use Rattle.partition_merge.proofs.Ascending.{all_of, all_pushed, in_order, last_joined, last_of, last_pushed}
+use Rattle.partition_merge.specs.Mergers.{all_of, both_left, older_part, newer_part, IsJoinOf, JoinsAll, IsMeasureOf, are_apart}
+use Rattle.partition_merge.proofs.Ascending.{all_pushed, in_order, last_joined, last_of, last_pushed}
 
 abbrev greatest : ℕ
 greatest = 4294967295

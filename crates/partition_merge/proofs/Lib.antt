@@ -8,3 +8,8 @@ pub mod Measured
 pub mod Handed
 pub mod Ahead
 pub mod Lengths
+pub mod Joining
+pub mod Streams
+pub mod ToldJoins
+pub mod JoinedBody
+pub mod JoinedFinds

@@ -1,5 +1,5 @@
 -- The numbers of merged rows, as far as they were handed out.
-use Rattle.std.proofs.Common.{◌≡◌, ℕ, suc, ◌+◌, ◌*◌, ◌<◌, ◌≤◌, min, true, false, cond, Bool, ◌&&◌, IsTrue, Some, None, inl, inr, subst, true≢false, List, [], ◌∷◌, ◌++◌, length, map, refl, sym, ap, ◌∙◌, arith, append-nil, append_assoc, length-append}
+use Rattle.std.proofs.Common.{◌≡◌, ℕ, suc, ◌+◌, ◌<◌, ◌≤◌, min, true, false, cond, Bool, ◌&&◌, IsTrue, Some, None, inl, inr, subst, true≢false, List, [], ◌∷◌, ◌++◌, length, map, refl, sym, ap, ◌∙◌, arith, append-nil, append_assoc, length-append}
 use Rattle.std.specs.Prelude.{filter, fold, Option}
 use Rattle.std.specs.List.{AllByRecursion}
 use Rattle.std.proofs.lemmas.List.{length-map}
@@ -20,22 +20,17 @@ use Rattle.partition_merge.specs.declared.merger.Merger.{Merger}
 use Rattle.fine_model.specs.declared.Part.{Part}
 use Rattle.fine_model.specs.Regions.{Image, Place}
 use Rattle.node_fetch.specs.Fetched.{HasBadRow}
-use Rattle.partition_merge.specs.Mergers.{StandsAt, HandsOut, BlamesRow, older_part, newer_part, behind, both_unread, next_len, measure_of, IsCounted}
+use Rattle.partition_merge.specs.Mergers.{StandsAt, HandsOut, BlamesRow, older_part, newer_part, behind, measure_of, IsCounted}
 use Rattle.partition_merge.proofs.Nodes.{rest_of, nodes_first}
 use Rattle.partition_merge.proofs.Steps.{starts, no_node}
-use Rattle.partition_merge.proofs.Taken.{next_parted, next_within}
 use Rattle.partition_merge.proofs.Ascending.{AreOver, ordered_joined, follows_over, last_joined, last_own}
 use Rattle.partition_merge.proofs.Ahead.{own_node}
 
 abbrev greatest : ℕ
 greatest = 4294967295
 
--- how many bytes measuring may take
-abbrev pub most_of : Eye → Merger → List Row → List Row → ℕ
-most_of eye merger older newer = eye.taken + (28 * ((older_part merger).header.nodes + (newer_part merger).header.nodes) + (rows_len older + rows_len newer))
-
--- what was handed out so far is counted; most is how many bytes may have been taken behind the last node
-pub record Measured (eye : Eye) (pass : Merger) (older newer : List Row) (last : Option NodeId) (measure : Measure) (most : ℕ) : Type 0 where
+-- what was handed out so far is counted
+pub record Measured (eye : Eye) (pass : Merger) (older newer : List Row) (last : Option NodeId) (measure : Measure) : Type 0 where
   pub left_older : List Row
   pub left_newer : List Row
   pub stands : StandsAt eye pass left_older left_newer
@@ -46,14 +41,13 @@ pub record Measured (eye : Eye) (pass : Merger) (older newer : List Row) (last :
   pub steps : ℕ
   pub nodes : measure.nodes ≡ min steps greatest
   pub all_nodes : length (nodes_in (older ++ newer)) ≡ steps + length (nodes_in (left_older ++ left_newer))
-  pub bytes : eye.taken + (28 * both_unread pass + (rows_len left_older + rows_len left_newer)) ≤ most
   pub ordered : measure.ordered ≡ is_ordered out
   pub last_is : last ≡ last_node out
   pub over : AreOver last (left_older ++ left_newer)
 
-pub none_measured : (eye : Eye) (pass : Merger) (older newer : List Row) (last : Option NodeId) (measure : Measure) (most : ℕ) → last ≡ None → measure.rows ≡ 0 → measure.nodes ≡ 0 → measure.area ≡ 0 → measure.ordered ≡ true → StandsAt eye pass older newer
-    → eye.taken + (28 * both_unread pass + (rows_len older + rows_len newer)) ≤ most → Measured eye pass older newer last measure most
-none_measured eye pass older newer last measure most none rows nodes area ordered at bytes = record {
+pub none_measured : (eye : Eye) (pass : Merger) (older newer : List Row) (last : Option NodeId) (measure : Measure) → last ≡ None → measure.rows ≡ 0 → measure.nodes ≡ 0 → measure.area ≡ 0 → measure.ordered ≡ true → StandsAt eye pass older newer
+    → Measured eye pass older newer last measure
+none_measured eye pass older newer last measure none rows nodes area ordered at = record {
   left_older = older;
   left_newer = newer;
   stands = at;
@@ -64,7 +58,6 @@ none_measured eye pass older newer last measure most none rows nodes area ordere
   steps = 0;
   nodes = nodes;
   all_nodes = omega arith;
-  bytes = bytes;
   ordered = ordered;
   last_is = none;
   over = subst (λ l. AreOver l (older ++ newer)) (sym none) tt;
@@ -130,10 +123,9 @@ more_counted measure now rows was some r n a =
       area = (λ e. absurd (omega (arith, e, a, few, some)), λ e. absurd (omega (arith, e, r, some)));
     }
 
-pub more_measured : (eye later : Eye) (pass next : Merger) (older newer rows : List Row) (last behind_key : Option NodeId) (measure now : Measure) (most : ℕ) → (m : Measured eye pass older newer last measure most) → HandsOut later next m.left_older m.left_newer rows
-    → later.taken + 28 * both_unread next ≤ eye.taken + (28 * both_unread pass + next_len m.left_older m.left_newer)
-    → now.rows ≡ min (measure.rows + length rows) greatest → now.nodes ≡ min (measure.nodes + 1) greatest → now.area ≡ min (measure.area + rows_len rows) greatest → now.ordered ≡ (measure.ordered && (follows last rows && is_ordered rows)) → behind_key ≡ last_node rows → 1 ≤ length rows → Measured later next older newer behind_key now most
-more_measured eye later pass next older newer rows last behind_key measure now most m h ahead r n a o key some = record {
+pub more_measured : (eye later : Eye) (pass next : Merger) (older newer rows : List Row) (last behind_key : Option NodeId) (measure now : Measure) → (m : Measured eye pass older newer last measure) → HandsOut later next m.left_older m.left_newer rows
+    → now.rows ≡ min (measure.rows + length rows) greatest → now.nodes ≡ min (measure.nodes + 1) greatest → now.area ≡ min (measure.area + rows_len rows) greatest → now.ordered ≡ (measure.ordered && (follows last rows && is_ordered rows)) → behind_key ≡ last_node rows → 1 ≤ length rows → Measured later next older newer behind_key now
+more_measured eye later pass next older newer rows last behind_key measure now m h r n a o key some = record {
   left_older = behind h.node m.left_older;
   left_newer = behind h.node m.left_newer;
   stands = h.left;
@@ -144,7 +136,6 @@ more_measured eye later pass next older newer rows last behind_key measure now m
   steps = m.steps + 1;
   nodes = omega (arith, n, m.nodes);
   all_nodes = omega (arith, m.all_nodes, fewer_nodes h.node m.left_older m.left_newer m.stands.of_older.is_left.ordered m.stands.of_newer.is_left.ordered h.first);
-  bytes = omega (arith, m.bytes, ahead, next_parted h.node m.left_older m.left_newer m.stands.of_older.is_left.ordered m.stands.of_newer.is_left.ordered h.first);
   ordered = o ∙ (λ i. m.ordered i && (up i && is_ordered rows)) ∙ sym (ordered_joined m.out rows (sym (ap (λ l. follows l rows) m.last_is) ∙ up));
   last_is = key ∙ sym (last_joined m.out rows some);
   over = subst (λ l. AreOver l (behind h.node m.left_older ++ behind h.node m.left_newer)) (sym (key ∙ last_own h.node rows some own))
@@ -157,13 +148,8 @@ more_measured eye later pass next older newer rows last behind_key measure now m
     up : follows last rows ≡ true
     up = follows_over last h.node rows (m.left_older ++ m.left_newer) m.over (starts h.node m.left_older m.left_newer m.stands.of_older.is_left.ordered m.stands.of_newer.is_left.ordered h.first).named own
 
--- no more was taken than all of both parts
-pub within_most : (eye later : Eye) (pass : Merger) (older newer : List Row) (last : Option NodeId) (measure : Measure) (most : ℕ) → (m : Measured eye pass older newer last measure most)
-    → later.taken ≤ eye.taken + (28 * both_unread pass + next_len m.left_older m.left_newer) → later.taken ≤ most
-within_most eye later pass older newer last measure most m taken = omega (arith, m.bytes, taken, next_within m.left_older m.left_newer m.stands.of_older.is_left.ordered m.stands.of_newer.is_left.ordered)
-
-pub all_measured : (eye : Eye) (pass : Merger) (older newer : List Row) (last : Option NodeId) (measure : Measure) (most : ℕ) → (m : Measured eye pass older newer last measure most) → m.left_older ≡ [] → m.left_newer ≡ [] → rows_len (merged older newer) < 4294967296 → measure ≡ measure_of (merged older newer)
-all_measured eye pass older newer last measure most m none_old none_new small =
+pub all_measured : (eye : Eye) (pass : Merger) (older newer : List Row) (last : Option NodeId) (measure : Measure) → (m : Measured eye pass older newer last measure) → m.left_older ≡ [] → m.left_newer ≡ [] → rows_len (merged older newer) < 4294967296 → measure ≡ measure_of (merged older newer)
+all_measured eye pass older newer last measure m none_old none_new small =
     let nothing : merged m.left_older m.left_newer ≡ [] = (λ i. merged (none_old i) (none_new i)) ∙ no_node [] [] refl in
     let all : merged older newer ≡ m.out = m.whole ∙ ap (λ xs. m.out ++ xs) nothing ∙ append-nil m.out in
     let no_nodes : length (nodes_in (m.left_older ++ m.left_newer)) ≡ 0 = (λ i. length (nodes_in (none_old i ++ none_new i))) ∙ none_named in

@@ -192,29 +192,42 @@ pub err_clause : {A : Type 0} (r : Result A FetchFault) (f : FetchFault) (P : A 
 err_clause r f P is h = subst (λ x. MatchResult x P NoDamage) (sym is) h
 
 -- the rows of the next entry's span are taken
-pub taken_of : (r : Result (List Row) FetchFault) (known : Option Image) (id : NodeId) (before after : Source) (span : Span) → IsSpanAt known before.part before.next span → IfOk r (HoldsRows known before.part id span)
-    → nodes_left after + 1 ≡ nodes_left before → IfOk r (TakesRows known id before after)
-taken_of (Ok rows) known id before after span is holds one = inr (span, is, holds, one)
-taken_of (Err e) known id before after span is holds one = tt
+pub taken_of : (r : Result (List Row) FetchFault) (known : Option Image) (id : NodeId) (before after : Source) (entry : IndexEntry) (span : Span) → before.next < before.part.header.nodes → IsEntryAt known before.part before.next entry → entry.node ≡ id
+    → IsSpanAt known before.part before.next span → IfOk r (HoldsRows known before.part id span) → after.next ≡ before.next + 1 → nodes_left after + 1 ≡ nodes_left before → IfOk r (TakesRows known id before after)
+unfolding TakesRows
+taken_of (Ok rows) known id before after entry span there is names is_span holds moves one = inr (record { there = there; entry = entry; is_entry = is; names = names; span = span; is_span = is_span; holds = holds; moves = moves; one_less = one })
+taken_of (Err e) known id before after entry span there is names is_span holds moves one = tt
 
 -- what was taken since an entry was kept was taken since before
-pub takes_as : (known now : Option Image) (p q after : Source) (id : NodeId) (rows : List Row) → now ≡ known → q.part ≡ p.part → q.next ≡ p.next → TakesRows now id q after rows → TakesRows known id p after rows
-takes_as known now p q after id rows told part next (inl none) =
-    inl (
-      none.0,
-      none.1 ∙ (λ i. (part i).header.nodes - next i),
-      elim none.2 as (λ _. IsPast known id p) [
-        | inl end ↦ inl (sym (λ i. (part i).header.nodes - next i) ∙ end)
-        | inr above ↦ inr (above.0, subst (λ k. IsEntryAt k p.part p.next above.0) told (subst (λ x. IsEntryAt now x p.next above.0) part (subst (λ n. IsEntryAt now q.part n above.0) next above.1)), above.2)
-      ],
-    )
-takes_as known now p q after id rows told part next (inr some) =
-    inr (
-      some.0,
-      subst (λ k. IsSpanAt k p.part p.next some.0) told (subst (λ x. IsSpanAt now x p.next some.0) part (subst (λ n. IsSpanAt now q.part n some.0) next some.1)),
-      subst (λ k. HoldsRows k p.part id some.0 rows) told (subst (λ x. HoldsRows now x id some.0 rows) part some.2),
-      some.3 ∙ (λ i. (part i).header.nodes - next i),
-    )
+module _ (known now : Option Image) (p q after : Source) (id : NodeId) (rows : List Row) (told : now ≡ known) (part : q.part ≡ p.part) (next : q.next ≡ p.next) where
+  as_many : nodes_left q ≡ nodes_left p
+  as_many i = (part i).header.nodes - next i
+
+  entry_as : (entry : IndexEntry) → IsEntryAt now q.part q.next entry → IsEntryAt known p.part p.next entry
+  entry_as entry is = subst (λ k. IsEntryAt k p.part p.next entry) told (subst (λ x. IsEntryAt now x p.next entry) part (subst (λ n. IsEntryAt now q.part n entry) next is))
+
+  pub takes_as : TakesRows now id q after rows → TakesRows known id p after rows
+  unfolding TakesRows
+  takes_as (inl none) = inl (record {
+    none = none.none;
+    past = elim none.past as (λ _. IsPast known id p) [
+      | inl end ↦ inl (sym as_many ∙ end)
+      | inr above ↦ inr (above.0, entry_as above.0 above.1, above.2)
+    ];
+    stays = none.stays ∙ next;
+    as_many = none.as_many ∙ as_many;
+  })
+  takes_as (inr some) = inr (record {
+    there = (let there = some.there in let many = ap (λ (part : Part). part.header.nodes) part in omega (arith, there, many, next));
+    entry = some.entry;
+    is_entry = entry_as some.entry some.is_entry;
+    names = some.names;
+    span = some.span;
+    is_span = subst (λ k. IsSpanAt k p.part p.next some.span) told (subst (λ x. IsSpanAt now x p.next some.span) part (subst (λ n. IsSpanAt now q.part n some.span) next some.is_span));
+    holds = subst (λ k. HoldsRows k p.part id some.span rows) told (subst (λ x. HoldsRows now x id some.span rows) part some.holds);
+    moves = some.moves ∙ ap (λ n. n + 1) next;
+    one_less = some.one_less ∙ as_many;
+  })
 
 -- where no node is the lower one, nothing is left
 pub none_first : (a b : Option NodeId) → lower a b ≡ None → (a ≡ None) × (b ≡ None)

@@ -16,6 +16,7 @@ use Rattle.node_fetch.specs.Fetched.{HoldsRows, HasBadRow, HasBadEntry}
 use Rattle.partition_merge.specs.declared.merger.Measure.{Measure}
 use Rattle.partition_merge.specs.declared.merger.Merger.{Merger}
 use Rattle.partition_merge.specs.declared.merger.Source.{Source}
+use Rattle.partition_merge.specs.Windows.{HoldsAhead, nothing_ahead}
 use Rattle.partition_merge.specs.Merging.{FitRows, first_node, follows, last_node, merged_of}
 
 -- the rows of the nodes above one
@@ -33,9 +34,9 @@ abbrev pub KeepsHead : Option Image → Source → Option (IndexEntry × Span) �
 KeepsHead known source None = Unit {0}
 KeepsHead known source (Some head) = IsEntryOf known source head
 
--- so of a source
+-- so of a source, and what was read ahead of its part
 abbrev pub IsKept : Option Image → Source → Type 0
-IsKept known source = KeepsHead known source source.head
+IsKept known source = KeepsHead known source source.head × HoldsAhead known source.part source.ahead
 
 -- so of both sources of a merger
 abbrev pub AreKept : Option Image → Merger → Type 0
@@ -99,14 +100,30 @@ abbrev pub IsPast : Option Image → NodeId → Source → Type 0
 IsPast known id source =
     (nodes_left source ≡ 0) ⊎ ((entry : IndexEntry) × IsEntryAt known source.part source.next entry × (is_node_below id entry.node ≡ true))
 
--- What was read of a part: nothing where it has no rows of the node, and no node less is left; or the rows of the next entry's span,
--- and one node less is left.
-abbrev pub TakesRows : Option Image → NodeId → Source → Source → List Row → Type 0
-TakesRows known id before after rows =
-    ((rows ≡ []) × (nodes_left after ≡ nodes_left before) × IsPast known id before)
-    ⊎ ((span : Span) × IsSpanAt known before.part before.next span × HoldsRows known before.part id span rows × (nodes_left after + 1 ≡ nodes_left before))
+-- Nothing is read of a part that has no rows of the node, and no node less is left.
+pub record PassesOver (known : Option Image) (id : NodeId) (before after : Source) (rows : List Row) : Type 0 where
+  pub none : rows ≡ []
+  pub past : IsPast known id before
+  pub stays : after.next ≡ before.next
+  pub as_many : nodes_left after ≡ nodes_left before
 
--- Rows are what the rows of one node are merged into, as they were read of both parts.
+-- The rows of the next entry's span are read, which names the node, and one node less is left.
+pub record TakesSpan (known : Option Image) (id : NodeId) (before after : Source) (rows : List Row) : Type 0 where
+  pub there : before.next < before.part.header.nodes
+  pub entry : IndexEntry
+  pub is_entry : IsEntryAt known before.part before.next entry
+  pub names : entry.node ≡ id
+  pub span : Span
+  pub is_span : IsSpanAt known before.part before.next span
+  pub holds : HoldsRows known before.part id span rows
+  pub moves : after.next ≡ before.next + 1
+  pub one_less : nodes_left after + 1 ≡ nodes_left before
+
+-- what was read of a part for a node
+unfoldable pub TakesRows : Option Image → NodeId → Source → Source → List Row → Type 0
+TakesRows known id before after rows = PassesOver known id before after rows ⊎ TakesSpan known id before after rows
+
+-- Rows, of which there are some, are what the rows of one node are merged into, as they were read of both parts.
 pub record IsJoinOf (known : Option Image) (before after : Merger) (rows : List Row) : Type 0 where
   pub node : NodeId
   pub older : List Row
@@ -114,12 +131,17 @@ pub record IsJoinOf (known : Option Image) (before after : Merger) (rows : List 
   pub of_older : TakesRows known node before.older after.older older
   pub of_newer : TakesRows known node before.newer after.newer newer
   pub joined : rows ≡ merged_of node (older ++ newer)
+  pub some : 1 ≤ length rows
+
+-- a source of which nothing was read
+abbrev pub start_at : Part → Source
+start_at part = record { part = part; next = 0; head = None; ahead = nothing_ahead }
 
 -- a merger of two parts that has read nothing, and one of the same parts as another's
 abbrev pub at_front : Part → Part → ℕ → Merger
 at_front older newer region_len = record {
-  older = record { part = older; next = 0; head = None };
-  newer = record { part = newer; next = 0; head = None };
+  older = start_at older;
+  newer = start_at newer;
   region_len = region_len;
 }
 
@@ -132,6 +154,10 @@ abbrev pub JoinsAll : Option Image → Merger → List (List Row) → Type 0
 JoinsAll known merger [] = both_left merger ≡ 0
 JoinsAll known merger (rows ∷ later) =
     (next : Merger) × (older_part next ≡ older_part merger) × (newer_part next ≡ newer_part merger) × IsJoinOf known merger next rows × JoinsAll known next later
+
+-- all rows of some lists
+abbrev pub all_of : List (List Row) → List Row
+all_of joins = flat_map (λ rows. rows) joins
 
 -- each list begins with a higher node than that with which the one before it ends
 abbrev pub are_apart : Option NodeId → List (List Row) → Bool

@@ -1,13 +1,13 @@
 //! The body of two merged parts, in blocks.
 
-ghost use Rattle.std.specs.Prelude.{◌≡◌, ◌⊎◌, ℕ, ◌+◌, ◌-◌, ◌<◌, ◌≤◌, [], ◌∷◌, ◌++◌, ◌==◌, not, nat_le, nat_lt, false, true, IfOk, IsErrOf, List, MatchResult, Ok, OnErr, OnOk, Option, drop, length, min, take, vec_capacity, vec_len};
+ghost use Rattle.std.specs.Prelude.{◌≡◌, ◌⊎◌, ℕ, ◌+◌, ◌-◌, ◌<◌, ◌≤◌, [], ◌∷◌, ◌++◌, ◌==◌, not, nat_le, nat_lt, false, true, IfOk, IsErrOf, List, MatchResult, Ok, OnErr, OnOk, Option, Some, drop, length, min, take, vec_capacity, vec_len};
 ghost use Rattle.std.specs.List.{AllByRecursion};
 ghost use Rattle.log_disk.specs.Disk.{Eye};
 ghost use Rattle.fine_model.specs.declared.NodeId.{NodeId};
 ghost use Rattle.fine_model.specs.declared.Row.{Row};
 ghost use Rattle.fine_model.specs.declared.FetchFault.TheVariants as fetch_fault;
 ghost use Rattle.fine_model.specs.Merge.{merged};
-ghost use Rattle.fine_model.specs.Regions.{Image};
+ghost use Rattle.fine_model.specs.Regions.{Image, body_len};
 ghost use Rattle.fine_model.specs.RowBytes.{rows_bytes, rows_len, index_entry};
 ghost use Rattle.partition_index.specs.Entries.{bytes_of};
 ghost use Rattle.partition_index.specs.Index.{entry_at};
@@ -15,10 +15,13 @@ ghost use Rattle.partition_index.specs.Parts.{CountsFaults, IsSeen, SameEye};
 ghost use Rattle.partition_index.specs.Search.{TellsRows};
 ghost use Rattle.node_fetch.specs.Fetched.{NoDamage};
 ghost use Rattle.partition_merge.specs.Blocks.{Gives, IsAhead, IsAtStart, SameBlocks, steps_left};
-ghost use Rattle.partition_merge.specs.Mergers.{AreKept, BlamesEntry, BlamesRow, newer_part, older_part};
+ghost use Rattle.partition_merge.specs.Joined.{GivesJoined, IsJoined};
+ghost use Rattle.partition_merge.specs.Mergers.{AreKept, BlamesEntry, BlamesRow, at_front, newer_part, older_part};
 ghost use Rattle.partition_merge.specs.Merging.{FitRows};
+ghost use Rattle.partition_merge.specs.Streams.{AreInOrder, both_bytes_left};
+ghost use Rattle.partition_merge.specs.declared.merger.Merger.{Merger};
 
-use crate::merger::Merger;
+use crate::pass::Pass;
 use fine_model::format::INDEX_ENTRY;
 use fine_model::{FetchFault, NoMemory, Part, Row, Rows};
 use log_disk::LogEye;
@@ -29,11 +32,11 @@ use std::marker::Model;
 use std::mem;
 
 /// The body of two merged parts, block by block: the rows first, and then the index. All memory but that of one node's rows is taken
-/// by `new`. Blocks are used with one eye, from `new` to the last block: what was handed out so far is what this eye tells, and another
+/// by `new`: the block, the index, and at most 64 KiB for the rows and 32 KiB for the index of each part, which are read in blocks. Blocks are used with one eye, from `new` to the last block: what was handed out so far is what this eye tells, and another
 /// one, also of the same regions, is not known to tell the same.
 #[derive(Drop)]
 pub struct Blocks {
-    merger: Merger,
+    merger: Pass,
     most: usize,
     block: Vec<u8>,
     waiting: Vec<u8>,
@@ -102,10 +105,13 @@ impl Blocks {
         ensures made { IfOk result (IsAtStart older newer region_len most) }
         ensures kept { IfOk result (λ blocks. (known : Option Image) → AreKept known blocks.merger) }
         ensures ahead { IfOk result (λ blocks. (eye : Eye) (a b : List Row) → TellsRows eye older a → TellsRows eye newer b → rows_len (merged a b) < 4294967296 → IsAhead eye blocks [] a b) }
+        ensures joined { IfOk result (λ blocks. (known : Option Image) → IsJoined known (at_front older newer region_len) blocks []) }
+        ensures order { IfOk result (λ blocks. (image : Image) → AreInOrder image blocks.merger) }
+        ensures unread { IfOk result (λ blocks. both_bytes_left blocks.merger ≡ body_len older.header + body_len newer.header) }
     {
         let nodes = older.header.nodes as usize + newer.header.nodes as usize;
         Ok(Blocks {
-            merger: Merger::new(older, newer, region_len),
+            merger: Pass::new(alloc, older, newer, region_len)?,
             most: most as usize,
             block: Vec::with_capacity(alloc, most as usize)?,
             waiting: Vec::new(alloc),
@@ -166,6 +172,12 @@ impl Blocks {
         ensures bad_row { (region at : ℕ) → IsErrOf result (fetch_fault.BadRow region at) → BlamesRow (E.LogEye.state eye.old).told self.old.merger (record { region = region; at = at }) }
         ensures bad_index { (region at : ℕ) → IsErrOf result (fetch_fault.BadIndex region at) → BlamesEntry (E.LogEye.state eye.old).told self.old.merger (record { region = region; at = at }) }
         ensures exact { (handed : List ℕ) (a b : List Row) → IsAhead (E.LogEye.state eye.old) self.old handed a b → MatchResult result (λ more. IsAhead (E.LogEye.state eye.new) self.new handed a b) NoDamage }
+        ensures joined { (start : Merger) (handed : List ℕ) → IsJoined (E.LogEye.state eye.old).told start self.old handed → IfOk result (λ more. IsJoined (E.LogEye.state eye.old).told start self.new handed) }
+        ensures order { (image : Image) → (E.LogEye.state eye.old).told ≡ Some image → AreInOrder image self.old.merger → IfOk result (λ more. AreInOrder image self.new.merger) }
+        ensures once { (image : Image) → (E.LogEye.state eye.old).told ≡ Some image → AreInOrder image self.old.merger
+            → IfOk result (λ more. (E.LogEye.state eye.new).taken + both_bytes_left self.new.merger ≤ (E.LogEye.state eye.old).taken + both_bytes_left self.old.merger) }
+        ensures taken { (image : Image) → (E.LogEye.state eye.old).told ≡ Some image → AreInOrder image self.old.merger
+            → (E.LogEye.state eye.new).taken ≤ (E.LogEye.state eye.old).taken + both_bytes_left self.old.merger }
     {
         if self.at < self.waiting.len() {
             return Ok(true);
@@ -193,7 +205,8 @@ impl Blocks {
     ///
     /// Where the eye tells its bytes, both parts are in the grammar and have their headers, and the merged rows have fewer than 2^32
     /// bytes, all blocks together are the body of the merged rows. Whatever was read, a block has at least one byte and at most as many as
-    /// `new` was told, and each but the last has as many. The faults are those of `Merger::next_node`; after a refusal the blocks are given up.
+    /// `new` was told, and each but the last has as many. Where the eye tells its bytes, each byte of both bodies is taken once at most
+    /// by all calls. The faults are those of `Merger::next_node`; after a refusal the blocks are given up.
     pub fn next<E: LogEye>(&mut self, alloc: Global, eye: &mut E) -> Result<bool, FetchFault>
         requires older { IsSeen (E.LogEye.state eye.old) (older_part self.old.merger) }
         requires newer { IsSeen (E.LogEye.state eye.old) (newer_part self.old.merger) }
@@ -209,6 +222,12 @@ impl Blocks {
         ensures bad_row { (region at : ℕ) → IsErrOf result (fetch_fault.BadRow region at) → BlamesRow (E.LogEye.state eye.old).told self.old.merger (record { region = region; at = at }) }
         ensures bad_index { (region at : ℕ) → IsErrOf result (fetch_fault.BadIndex region at) → BlamesEntry (E.LogEye.state eye.old).told self.old.merger (record { region = region; at = at }) }
         ensures exact { (handed : List ℕ) (a b : List Row) → IsAhead (E.LogEye.state eye.old) self.old handed a b → MatchResult result (Gives (E.LogEye.state eye.new) self.new handed a b) NoDamage }
+        ensures joined { (start : Merger) (handed : List ℕ) → IsJoined (E.LogEye.state eye.old).told start self.old handed → IfOk result (GivesJoined (E.LogEye.state eye.old).told start self.new handed) }
+        ensures order { (image : Image) → (E.LogEye.state eye.old).told ≡ Some image → AreInOrder image self.old.merger → IfOk result (λ more. AreInOrder image self.new.merger) }
+        ensures once { (image : Image) → (E.LogEye.state eye.old).told ≡ Some image → AreInOrder image self.old.merger
+            → IfOk result (λ more. (E.LogEye.state eye.new).taken + both_bytes_left self.new.merger ≤ (E.LogEye.state eye.old).taken + both_bytes_left self.old.merger) }
+        ensures taken { (image : Image) → (E.LogEye.state eye.old).told ≡ Some image → AreInOrder image self.old.merger
+            → (E.LogEye.state eye.new).taken ≤ (E.LogEye.state eye.old).taken + both_bytes_left self.old.merger }
     {
         self.clear();
         let mut more = true;

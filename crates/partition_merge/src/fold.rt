@@ -1,7 +1,7 @@
 //! The image of a node, where it may stand for the node's rows.
 
-ghost use Rattle.std.specs.Prelude.{◌≡◌, ◌-◌, ◌++◌, IfOk, IfSome};
-ghost use Rattle.fine_model.specs.Merge.{starts_afresh};
+ghost use Rattle.std.specs.Prelude.{◌≡◌, ◌-◌, [], ◌∷◌, ◌++◌, true, IfOk, IfSome};
+ghost use Rattle.fine_model.specs.Merge.{is_image, starts_afresh};
 ghost use Rattle.fine_model.specs.RowBytes.{FitsRec, rows_len};
 ghost use Rattle.partition_merge.specs.Merging.{FitRows, merged_of, one_or};
 
@@ -10,6 +10,16 @@ use node_fetch::{base, replayed};
 use node_record::{image_of, row_len};
 use std::alloc::Global;
 
+/// Whether a change is the image of a node.
+fn is_image(change: &Rec) -> bool
+    ensures { result ≡ is_image change.now }
+{
+    match change {
+        Rec::HeadImage { .. } | Rec::LeafImage { .. } | Rec::InnerImage { .. } => true,
+        _ => false,
+    }
+}
+
 /// Whether rows need nothing before them.
 fn starts_afresh(older: &[Row], newer: &[Row]) -> bool
     ensures { result ≡ starts_afresh (older.now ++ newer.now) }
@@ -17,9 +27,36 @@ fn starts_afresh(older: &[Row], newer: &[Row]) -> bool
     let Some(row) = older.first().or(newer.first()) else {
         return false;
     };
-    match &row.rec {
-        Rec::HeadImage { .. } | Rec::LeafImage { .. } | Rec::InnerImage { .. } => true,
-        _ => row.version == 1,
+    is_image(&row.rec) || row.version == 1
+}
+
+/// The row of both lists, where there is one and no more.
+fn only_row<'a>(older: &'a [Row], newer: &'a [Row]) -> Option<&'a Row>
+    ensures { IfSome result (λ row. older.now ++ newer.now ≡ row.now ∷ []) }
+{
+    if older.len() + newer.len() != 1 {
+        return None;
+    }
+    older.first().or(newer.first())
+}
+
+/// Whether a row is the image of a node, which stands for itself, so that nothing is to be folded.
+fn is_image_of(node: NodeId, row: &Row) -> bool
+    ensures { result ≡ true → merged_of node (row.now ∷ []) ≡ row.now ∷ [] }
+{
+    if row.node != node {
+        return false;
+    }
+    is_image(&row.rec)
+}
+
+/// Whether all rows are one image of a node.
+fn is_one_image(node: NodeId, older: &[Row], newer: &[Row]) -> bool
+    ensures { result ≡ true → merged_of node (older.now ++ newer.now) ≡ older.now ++ newer.now }
+{
+    match only_row(older, newer) {
+        Some(row) => is_image_of(node, row),
+        None => false,
     }
 }
 
@@ -48,6 +85,9 @@ pub fn folded(
     ensures fit { IfOk result (λ image. IfSome image (λ row. FitsRec row.rec)) }
 {
     if !starts_afresh(older, newer) {
+        return Ok(None);
+    }
+    if is_one_image(node, older, newer) {
         return Ok(None);
     }
     let between = replayed(alloc, base(alloc, node), older)?;

@@ -13,11 +13,15 @@ mod fold;
 mod laws;
 mod merger;
 mod order;
+mod pass;
+mod reader;
+mod through;
+mod window;
 
 pub use blocks::Blocks;
 use fine_model::{Copied, Items, NoMemory, NodeId, Row, Rows};
 use fold::folded;
-pub use laws::blocks_law;
+pub use laws::{blocks_law, joins_law};
 pub use merger::{Measure, Merger};
 use std::alloc::Global;
 

@@ -1,11 +1,11 @@
 //! Merging two parts node by node, through an eye.
 
-ghost use Rattle.std.specs.Prelude.{◌≡◌, ℕ, ◌+◌, ◌-◌, ◌*◌, ◌<◌, ◌≤◌, ◌++◌, ◌&&◌, false, IfOk, IfSome, IsErrOf, MatchResult, OnErr, List, length, min, Option, Some, None, Ok, option_map};
+ghost use Rattle.std.specs.Prelude.{◌≡◌, ℕ, ◌+◌, ◌-◌, ◌*◌, ◌<◌, ◌≤◌, ◌++◌, ◌&&◌, false, IfOk, IfSome, IsErrOf, MatchResult, OnErr, OnOk, List, length, min, Option, Some, None, Ok, option_map};
 ghost use Rattle.log_disk.specs.Disk.{Eye};
 ghost use Rattle.fine_model.specs.declared.Row.{Row};
 ghost use Rattle.fine_model.specs.declared.FetchFault.TheVariants as fetch_fault;
 ghost use Rattle.fine_model.specs.Nodes.{rows_of};
-ghost use Rattle.fine_model.specs.Regions.{Image};
+ghost use Rattle.fine_model.specs.Regions.{Image, body_len};
 ghost use Rattle.fine_model.specs.RowBytes.{rows_len, index_entry};
 ghost use Rattle.fine_model.specs.Merge.{is_node_below, is_ordered, merged};
 ghost use Rattle.partition_index.specs.Parts.{IsSeen, SameEye, CountsFaults};
@@ -13,11 +13,14 @@ ghost use Rattle.partition_index.specs.Index.{AllFrom};
 ghost use Rattle.partition_index.specs.Search.{Searches, TellsRows};
 ghost use Rattle.node_fetch.specs.Fetched.{HasBadRow, HasBadEntry, NoDamage};
 ghost use Rattle.partition_merge.specs.Merging.{FitRows, follows, last_node, node_at_head, merged_of};
+ghost use Rattle.partition_merge.specs.Windows.{nothing_ahead};
 ghost use Rattle.partition_merge.specs.Mergers.{behind, node_kept, nodes_left, IsKept, AreKept, SourceAt, StandsAt, Answers, older_part, newer_part, both_left, unread, both_unread, next_len, most_for, BlamesRow, BlamesEntry, TakesRows, IsJoinOf, at_front, start_of, IsMeasureOf, measure_of, IsCounted};
 
 use crate::fold::folded;
 use crate::order::{follows, last_node};
-use crate::{is_ordered, lower, push_all};
+use crate::pass::Pass;
+use crate::window::Unread;
+use crate::{is_ordered, lower};
 use fine_model::{FetchFault, Items, NoMemory, NodeId, Part, Rows};
 use log_disk::LogEye;
 use node_fetch::{bad_index, read_span};
@@ -25,24 +28,28 @@ use node_record::row_len;
 use partition_index::{IndexEntry, SeekFault, Span, entry_at};
 use std::alloc::Global;
 
-/// Where reading a part stands: behind so many of its index entries. The next one is kept once it was read, with its span.
+/// Where reading a part stands: behind so many of its index entries. The next one is kept once it was read, with its span. A source by
+/// itself reads nothing ahead.
 #[derive(Clone, Copy)]
-struct Source {
-    part: Part,
-    next: u32,
-    head: Option<(IndexEntry, Span)>,
+pub(crate) struct Source {
+    pub(crate) part: Part,
+    pub(crate) next: u32,
+    pub(crate) head: Option<(IndexEntry, Span)>,
+    ahead: Unread,
 }
 
 impl Source {
-    fn at_start(part: Part) -> Source
+    pub(crate) fn at_start(part: Part) -> Source
         ensures part { result.part ≡ part }
         ensures next { result.next ≡ 0 }
         ensures head { result.head ≡ None }
+        ensures ahead { result.ahead ≡ nothing_ahead }
     {
         Source {
             part,
             next: 0,
             head: None,
+            ahead: Unread,
         }
     }
 
@@ -127,8 +134,23 @@ impl Source {
     }
 }
 
+/// Moves rows behind others.
+fn append(rows: &mut Rows, more: Rows) -> Result<(), NoMemory>
+    ensures { OnOk result (rows.new ≡ rows.old ++ more) }
+{
+    for row in more.into_vec() {
+        rows.push(row)?;
+    }
+    Ok(())
+}
+
 /// What the rows of a node in both parts are merged into.
-fn joined(alloc: Global, node: NodeId, older: Rows, newer: Rows) -> Result<Rows, NoMemory>
+pub(crate) fn joined(
+    alloc: Global,
+    node: NodeId,
+    older: Rows,
+    newer: Rows,
+) -> Result<Rows, NoMemory>
     requires older { FitRows older }
     requires newer { FitRows newer }
     ensures merged { IfOk result (λ rows. rows ≡ merged_of node (older ++ newer)) }
@@ -139,8 +161,11 @@ fn joined(alloc: Global, node: NodeId, older: Rows, newer: Rows) -> Result<Rows,
         rows.push(image)?;
         return Ok(rows);
     }
+    if older.as_slice().is_empty() {
+        return Ok(newer);
+    }
     let mut rows = older;
-    push_all(&mut rows, newer.as_slice())?;
+    append(&mut rows, newer)?;
     Ok(rows)
 }
 
@@ -267,8 +292,9 @@ impl Merger {
     /// bytes, the answer is exact. Whatever was read, it is that of lists of rows, one a node, as `next_node` hands them out from the
     /// first node on until none is left: the rows and the bytes of all lists, the number of lists, and whether the rows of all lists
     /// together are in order with no node in two lists, where a number above 2^32 - 1 is told as 2^32 - 1. The three numbers are 0
-    /// together, and there are no more nodes than rows, and than the headers of both parts say. In the grammar the eye takes at most 28
-    /// bytes for each node of each part, and the rows of both. The faults are those of `next_node`.
+    /// together, and there are no more nodes than rows, and than the headers of both parts say. Both parts are read in blocks, for which
+    /// memory is taken at the start: where the eye tells its bytes, in the grammar or not, it takes each byte of both bodies at most once.
+    /// The faults are those of `next_node`.
     pub fn measure<E: LogEye>(&mut self, alloc: Global, eye: &mut E) -> Result<Measure, FetchFault>
         requires older { IsSeen (E.LogEye.state eye.old) (older_part self.old) }
         requires newer { IsSeen (E.LogEye.state eye.old) (newer_part self.old) }
@@ -283,10 +309,15 @@ impl Merger {
         ensures bad_index { (region at : ℕ) → IsErrOf result (fetch_fault.BadIndex region at) → BlamesEntry (E.LogEye.state eye.old).told self.old (record { region = region; at = at }) }
         ensures exact { (older newer : List Row) → TellsRows (E.LogEye.state eye.old) (older_part self.old) older → TellsRows (E.LogEye.state eye.old) (newer_part self.old) newer
             → rows_len (merged older newer) < 4294967296 → MatchResult result (λ measure. measure ≡ measure_of (merged older newer)) NoDamage }
+        ensures once { (image : Image) → (E.LogEye.state eye.old).told ≡ Some image
+            → (E.LogEye.state eye.new).taken ≤ (E.LogEye.state eye.old).taken + (body_len (older_part self.old).header + body_len (newer_part self.old).header) }
         ensures taken { (older newer : List Row) → TellsRows (E.LogEye.state eye.old) (older_part self.old) older → TellsRows (E.LogEye.state eye.old) (newer_part self.old) newer
             → (E.LogEye.state eye.new).taken ≤ (E.LogEye.state eye.old).taken + (28 * ((older_part self.old).header.nodes + (newer_part self.old).header.nodes) + (rows_len older + rows_len newer)) }
     {
-        let mut pass = Merger::new(self.older.part, self.newer.part, self.region_len);
+        let Ok(mut pass) = Pass::new(alloc, self.older.part, self.newer.part, self.region_len)
+        else {
+            return Err(FetchFault::NoMemory);
+        };
         let mut measure = Measure {
             rows: 0,
             nodes: 0,

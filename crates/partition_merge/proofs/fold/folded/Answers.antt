@@ -7,6 +7,9 @@ use Rattle.partition_merge.proofs.fold.folded.Goals as goal
 pub returns-then-not-starts_afresh-clause-image : goal.returns-then-not-starts_afresh-clause-image
 returns-then-not-starts_afresh-clause-image c = stay_stale c.args.node (c.args.older.now ++ c.args.newer.now) (sym c.starts_afresh.ensures ∙ c.if-not-starts_afresh.true)
 
+pub returns-then-is_one_image-clause-image : goal.returns-then-is_one_image-clause-image
+returns-then-is_one_image-clause-image c = c.is_one_image.ensures c.if-is_one_image.true
+
 pub returns-in-Broken-clause-image : goal.returns-in-Broken-clause-image
 returns-in-Broken-clause-image c =
     stay_broken c.args.node (c.args.older.now ++ c.args.newer.now) _

@@ -1,10 +1,13 @@
-use Rattle.std.proofs.Common.{◌≡◌, ◌∙◌, ◌≤◌, ◌++◌, ◌==◌, [], length, false, true, Ok, Err, sym, ap, subst, rules, refl, true≢false, inl, inr}
+use Rattle.std.proofs.Common.{◌≡◌, ◌∙◌, ◌≤◌, ◌++◌, ◌==◌, [], length, false, true, Ok, Err, sym, ap, subst, arith, rules, refl, true≢false, inl, inr}
 use Rattle.fine_model.specs.declared.FetchFault.TheVariants as fault
 use Rattle.partition_index.specs.Parts.{IsSeen}
 use Rattle.partition_index.proofs.Looking.{seen_same, same_then}
 use Rattle.partition_merge.specs.Mergers.{AreKept}
 use Rattle.partition_merge.specs.Blocks.{BlocksValue, SameBlocks}
 use Rattle.partition_merge.proofs.Ahead.{cleared_ahead, filled_ahead, filled_ended, filled_few, filled_same, at_most, full_not_empty, gives, step_falls}
+use Rattle.partition_merge.specs.Joined.{IsJoined}
+use Rattle.partition_merge.specs.Streams.{AreInOrder, both_bytes_left}
+use Rattle.partition_merge.proofs.Joining.{cleared_joined, filled_joined, gives_joined}
 use Rattle.partition_merge.proofs.Measured.{blames_row}
 use Rattle.partition_merge.proofs.Sources.{err_clause}
 use Rattle.partition_merge.proofs.blocks.Blocks.next.Goals.{then-loop-more-test+else-not-is_full, else-loop-more-test}
@@ -20,6 +23,9 @@ loop-more-init g c = record {
   some = search rules;
   ended = λ e. absurd (true≢false e);
   ahead = λ handed a b i. cleared_ahead (g.E.LogEye.state c.args.eye.now) c.args.self.now c.clear.new.self handed a b c.clear.ensures.cleared i;
+  joined = λ start handed i. cleared_joined (g.E.LogEye.state c.args.eye.now).told start c.args.self.now c.clear.new.self handed c.clear.ensures.cleared i;
+  order = λ image told order. subst (AreInOrder image) (sym (ap (λ (v : BlocksValue). v.merger) c.clear.ensures.cleared)) order;
+  bytes = λ image told order. (let same = ap (λ (v : BlocksValue). both_bytes_left v.merger) c.clear.ensures.cleared in omega (arith, same));
 }
 
 pub supply-requires-clause-older : goal.supply-requires-clause-older
@@ -74,6 +80,17 @@ loop-more-preserved g c =
       ahead = λ handed a b ahead.
           filled_ahead (g.E.LogEye.state c.supply.new.eye) c.supply.new.self c.fill.new.self c.loop-more.self.block handed a b _ c.fill.ensures c.supply.ensures.block
           (c.in_ok-more.ensures.exact (handed ++ c.loop-more.self.block) a b (i.ahead handed a b ahead));
+      joined = λ start handed joined.
+          let known = (g.E.LogEye.state c.args.eye.now).told in
+          let before = subst (λ k. IsJoined k start c.loop-more.self (handed ++ c.loop-more.self.block)) (sym i.eye.told) (i.joined start handed joined) in
+          let supplied = subst (λ k. IsJoined k start c.supply.new.self (handed ++ c.loop-more.self.block)) i.eye.told (c.in_ok-more.ensures.joined start (handed ++ c.loop-more.self.block) before) in
+          filled_joined known start c.supply.new.self c.fill.new.self c.loop-more.self.block handed _ c.fill.ensures c.supply.ensures.block supplied;
+      order = λ image told order.
+          subst (AreInOrder image) (sym (ap (λ (v : BlocksValue). v.merger) c.fill.ensures)) (c.in_ok-more.ensures.order image (i.eye.told ∙ told) (i.order image told order));
+      bytes = λ image told order.
+          (let so_far = i.bytes image told order in
+          let more = c.in_ok-more.ensures.once image (i.eye.told ∙ told) (i.order image told order) in
+          let same = ap (λ (v : BlocksValue). both_bytes_left v.merger) c.fill.ensures in omega (arith, so_far, more, same));
     }
 
 pub returns-clause-exact : goal.returns-clause-exact
@@ -93,3 +110,22 @@ returns-clause-full g c =
       | then-loop-more-test+else-not-is_full w ↦ inl (at_most c.loop-more.self.most (length c.loop-more.self.block) w.is_full.result i.most w.is_full.ensures (search rules))
       | else-loop-more-test w ↦ inr (i.ended w.loop-more-test.false)
     ]
+
+pub returns-clause-joined : goal.returns-clause-joined
+returns-clause-joined g c start handed joined =
+    let i = c.loop-more.invariant in
+    let is : c.is_empty.result ≡ (length c.loop-more.self.block == 0) = search rules in
+    let ended : c.is_empty.result ≡ true → (c.loop-more.self.waiting ≡ []) × (c.loop-more.self.is_whole ≡ true) = λ e. elim c.loop-more-test.branch [
+      | then-loop-more-test+else-not-is_full w ↦ absurd (full_not_empty c.loop-more.self.most (length c.loop-more.self.block) w.is_full.result c.is_empty.result i.some w.is_full.ensures (search rules) is e)
+      | else-loop-more-test w ↦ i.ended w.loop-more-test.false
+    ] in
+    gives_joined (g.E.LogEye.state c.args.eye.now).told start c.loop-more.self handed c.is_empty.result (i.joined start handed joined) is ended
+
+pub returns-in_err-more-clause-taken : goal.returns-in_err-more-clause-taken
+returns-in_err-more-clause-taken g c image told order =
+    let i = c.loop-more.invariant in
+    let so_far = i.bytes image told order in
+    let most = c.supply.ensures.taken image (i.eye.told ∙ told) (i.order image told order) in omega (arith, so_far, most)
+
+pub returns-clause-taken : goal.returns-clause-taken
+returns-clause-taken g c image told order = let so_far = c.loop-more.invariant.bytes image told order in omega (arith, so_far)

@@ -147,6 +147,8 @@ returns-in-Ok-clause-read g c = record {
   of_older = takes_as _ _ c.args.self.now.older c.peek.new.self c.take.new.self c.in-Some.node c.in_ok-older-2.older (c.peek-2.ensures.eye.same.told ∙ c.peek.ensures.eye.same.told) c.peek.ensures.part c.peek.ensures.next c.in_ok-older-2.ensures.read;
   of_newer = takes_as _ _ c.args.self.now.newer c.peek-2.new.self c.take-2.new.self c.in-Some.node c.in_ok-newer-2.newer (c.take.ensures.eye.same.told ∙ c.peek-2.ensures.eye.same.told ∙ c.peek.ensures.eye.same.told) c.peek-2.ensures.part c.peek-2.ensures.next c.in_ok-newer-2.ensures.read;
   joined = c.in-Ok.ensures.merged;
+  some = some_joined c.in-Some.node c.in_ok-older.older c.in_ok-newer.newer c.peek.new.self.head c.peek-2.new.self.head c.in_ok-older-2.older c.in_ok-newer-2.newer c.in-Ok.rows (sym c.lower.ensures ∙ c.in-Some.is)
+      c.in_ok-older.ensures.head c.in_ok-newer.ensures.head c.in_ok-older-2.ensures.some c.in_ok-newer-2.ensures.some c.in-Ok.ensures.merged;
 }
 
 pub take-requires-clause-lowest : goal.take-requires-clause-lowest

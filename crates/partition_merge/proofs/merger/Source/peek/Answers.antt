@@ -9,7 +9,7 @@ pub returns-in-Some-clause-exact : goal.returns-in-Some-clause-exact
 returns-in-Some-clause-exact g c left at =
     let eye = g.E.LogEye.state c.args.eye.now in
     let s = c.args.self.now in
-    let kept : IsEntryOf eye.told s (c.in-Some.entry, c.in-Some.field-0-1) = subst (KeepsHead eye.told s) c.in-Some.is c.requires.kept in
+    let kept : IsEntryOf eye.told s (c.in-Some.entry, c.in-Some.field-0-1) = subst (KeepsHead eye.told s) c.in-Some.is c.requires.kept.0 in
     peeked eye s.part s.next at.rows left c.in-Some.entry c.requires.seen at.tells at.is_left kept.there kept.entry
 
 pub returns-then-self-clause-exact : goal.returns-then-self-clause-exact

@@ -1,7 +1,7 @@
 use Rattle.std.proofs.Common.{◌≡◌, ◌∙◌, ◌+◌, None, Some, sym, ap, subst, arith, refl, inl}
 use Rattle.partition_index.proofs.Exact.{nodes_small}
 use Rattle.fine_model.specs.RowBytes.{rows_len}
-use Rattle.partition_merge.specs.Mergers.{IsEntryOf, KeepsHead, SourceAt, behind, kept_count}
+use Rattle.partition_merge.specs.Mergers.{IsEntryOf, KeepsHead, SourceAt, TakesRows, behind, kept_count}
 use Rattle.partition_merge.proofs.Sources.{none_of_node, other_node, same_at_head, span_kept, step_left, own_left, fit_read, source_later, nodes_differ, nodes_same, taken_of, past_entry, some_read, Lowest}
 use Rattle.partition_merge.specs.declared.merger.Source.{Source}
 use Rattle.partition_merge.proofs.merger.Source.take.Goals as goal
@@ -21,7 +21,7 @@ pub overflow_add-self : goal.overflow_add-self
 overflow_add-self g c =
     let eye = g.E.LogEye.state c.args.eye.now in
     let s = c.args.self.now in
-    let kept : IsEntryOf eye.told s (c.in-Some.entry, c.in-Some.span) = subst (KeepsHead eye.told s) c.in-Some.is c.requires.kept in
+    let kept : IsEntryOf eye.told s (c.in-Some.entry, c.in-Some.span) = subst (KeepsHead eye.told s) c.in-Some.is c.requires.kept.0 in
     let there = kept.there in
     let most = nodes_small eye.region_len s.part.header c.requires.seen.lies in omega arith
 
@@ -32,7 +32,7 @@ pub returns-clause-exact : goal.returns-clause-exact
 returns-clause-exact g c left at from kept =
     let eye = g.E.LogEye.state c.args.eye.now in
     let s = c.args.self.now in
-    let k : IsEntryOf eye.told s (c.in-Some.entry, c.in-Some.span) = subst (KeepsHead eye.told s) c.in-Some.is c.requires.kept in
+    let k : IsEntryOf eye.told s (c.in-Some.entry, c.in-Some.span) = subst (KeepsHead eye.told s) c.in-Some.is c.requires.kept.0 in
     let same : c.in-Some.entry.node ≡ c.args.node = nodes_same c.in-Some.entry.node c.args.node c.if-ne.ensures in
     let step = step_left at.rows s.next left c.args.node at.is_left (same_at_head s.head c.in-Some.entry c.in-Some.span left c.args.node c.in-Some.is kept same) in
     own_left c.read_span.result at.rows left c.args.node step.0
@@ -53,7 +53,7 @@ pub returns-clause-taken : goal.returns-clause-taken
 returns-clause-taken g c left at from kept =
     let eye = g.E.LogEye.state c.args.eye.now in
     let s = c.args.self.now in
-    let k : IsEntryOf eye.told s (c.in-Some.entry, c.in-Some.span) = subst (KeepsHead eye.told s) c.in-Some.is c.requires.kept in
+    let k : IsEntryOf eye.told s (c.in-Some.entry, c.in-Some.span) = subst (KeepsHead eye.told s) c.in-Some.is c.requires.kept.0 in
     let same : c.in-Some.entry.node ≡ c.args.node = nodes_same c.in-Some.entry.node c.args.node c.if-ne.ensures in
     let step = step_left at.rows s.next left c.args.node at.is_left (same_at_head s.head c.in-Some.entry c.in-Some.span left c.args.node c.in-Some.is kept same) in
     let is = span_kept eye s.part s.next at.rows c.in-Some.entry c.in-Some.span c.args.node c.requires.seen at.tells k.there k.entry k.span same in
@@ -63,22 +63,28 @@ pub returns-clause-read : goal.returns-clause-read
 returns-clause-read g c =
     let eye = g.E.LogEye.state c.args.eye.now in
     let s = c.args.self.now in
-    let k : IsEntryOf eye.told s (c.in-Some.entry, c.in-Some.span) = subst (KeepsHead eye.told s) c.in-Some.is c.requires.kept in
+    let k : IsEntryOf eye.told s (c.in-Some.entry, c.in-Some.span) = subst (KeepsHead eye.told s) c.in-Some.is c.requires.kept.0 in
     let there = k.there in
-    let after : Source = record { part = s.part; next = s.next + 1; head = None } in
-    taken_of c.read_span.result eye.told c.args.node s after c.in-Some.span k.span c.read_span.ensures.holds (omega (arith, there))
+    let after : Source = record { part = s.part; next = s.next + 1; head = None; ahead = s.ahead } in
+    let same : c.in-Some.entry.node ≡ c.args.node = nodes_same c.in-Some.entry.node c.args.node c.if-ne.ensures in
+    taken_of c.read_span.result eye.told c.args.node s after c.in-Some.entry c.in-Some.span there k.entry same k.span c.read_span.ensures.holds refl (omega (arith, there))
 
 pub returns-then-ne-clause-read : goal.returns-then-ne-clause-read
+unfolding TakesRows
 returns-then-ne-clause-read g c =
     let eye = g.E.LogEye.state c.args.eye.now in
     let s = c.args.self.now in
-    let k : IsEntryOf eye.told s (c.in-Some.entry, c.in-Some.span) = subst (KeepsHead eye.told s) c.in-Some.is c.requires.kept in
+    let k : IsEntryOf eye.told s (c.in-Some.entry, c.in-Some.span) = subst (KeepsHead eye.told s) c.in-Some.is c.requires.kept.0 in
     let lowest : Lowest c.args.node (Some (c.in-Some.entry, c.in-Some.span)) = subst (Lowest c.args.node) c.in-Some.is c.requires.lowest in
-    inl (c.new-then-ne.ensures, refl, past_entry eye.told s c.in-Some.entry c.args.node k.entry lowest (nodes_differ c.in-Some.entry.node c.args.node c.if-ne.ensures))
+    inl (record { none = c.new-then-ne.ensures; past = past_entry eye.told s c.in-Some.entry c.args.node k.entry lowest (nodes_differ c.in-Some.entry.node c.args.node c.if-ne.ensures); stays = refl; as_many = refl })
 
 pub returns-clause-some : goal.returns-clause-some
 returns-clause-some g c =
     let eye = g.E.LogEye.state c.args.eye.now in
     let s = c.args.self.now in
-    let k : IsEntryOf eye.told s (c.in-Some.entry, c.in-Some.span) = subst (KeepsHead eye.told s) c.in-Some.is c.requires.kept in
+    let k : IsEntryOf eye.told s (c.in-Some.entry, c.in-Some.span) = subst (KeepsHead eye.told s) c.in-Some.is c.requires.kept.0 in
     some_read c.read_span.result eye.told s.part c.args.node c.in-Some.span _ (let n = k.span in n.counted.0) c.read_span.ensures.holds
+
+pub returns-in_default-clause-read : goal.returns-in_default-clause-read
+unfolding TakesRows
+returns-in_default-clause-read g c = inl (record { none = c.new.ensures; past = inl (c.requires.ready c.in_default.is); stays = refl; as_many = refl })

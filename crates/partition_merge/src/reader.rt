@@ -1,0 +1,154 @@
+//! Reading a part from front to back, its entries and its rows in blocks.
+
+ghost use Rattle.std.specs.Prelude.{◌≡◌, ◌⊎◌, ℕ, ◌+◌, ◌-◌, ◌*◌, ◌<◌, ◌≤◌, false, IfOk, IfSome, IsErrOf, List, MatchResult, None, Ok, OnErr, Option, Some, length, option_map};
+ghost use Rattle.fine_model.specs.declared.FetchFault.TheVariants as fetch_fault;
+ghost use Rattle.fine_model.specs.declared.Row.{Row};
+ghost use Rattle.fine_model.specs.Merge.{is_node_below};
+ghost use Rattle.fine_model.specs.Nodes.{rows_of};
+ghost use Rattle.fine_model.specs.Regions.{Image};
+ghost use Rattle.partition_index.specs.Index.{AllFrom};
+ghost use Rattle.partition_index.specs.Parts.{CountsFaults, IsSeen, SameEye};
+ghost use Rattle.node_fetch.specs.Fetched.{HasBadEntry, HasBadRow, NoDamage};
+ghost use Rattle.partition_merge.specs.Merging.{FitRows, node_at_head};
+ghost use Rattle.partition_merge.specs.Mergers.{behind, node_kept, nodes_left, IsKept, SourceAt, TakesRows, start_at};
+ghost use Rattle.partition_merge.specs.Streams.{IsInOrder, bytes_left};
+
+use crate::merger::Source;
+use crate::through::{read_head, read_rows};
+use crate::window::Window;
+use fine_model::format::INDEX_ENTRY;
+use fine_model::{FetchFault, Items, NoMemory, NodeId, Part, Rows};
+use log_disk::LogEye;
+use std::alloc::Global;
+use std::marker::Model;
+
+/// How many bytes of rows, and of the index, are read at once where no more are asked for. With a block of 64 KiB that is written, the
+/// windows of two parts take 256 KiB.
+const ROWS_BLOCK: u32 = 65_536;
+
+const INDEX_BLOCK: u32 = 32_768;
+
+/// A source that is read ahead: the rows and the index of its part each through a window. Contracts see the source with what was read
+/// ahead of its part.
+#[derive(Drop)]
+pub(crate) struct Reader {
+    source: Source,
+    rows: Window,
+    index: Window,
+}
+
+impl Model for Reader {
+    ghost use Rattle.partition_merge.specs.declared.merger.Source.{Source};
+
+    ghost Value = { Source };
+
+    ghost view = { λ r. record { part = r.source.part; next = r.source.next; head = r.source.head; ahead = record { rows = r.rows; index = r.index } } };
+}
+
+impl Reader {
+    /// A reader at the first node of a part. All memory but that for spans of more than half a block is taken here.
+    pub(crate) fn new(alloc: Global, part: Part) -> Result<Reader, NoMemory>
+        ensures { IfOk result (λ reader. reader ≡ start_at part) }
+    {
+        let index_len = part.header.nodes.saturating_mul(INDEX_ENTRY as u32);
+        Ok(Reader {
+            source: Source::at_start(part),
+            rows: Window::new(alloc, part.header.area, ROWS_BLOCK)?,
+            index: Window::new(alloc, index_len, INDEX_BLOCK)?,
+        })
+    }
+
+    /// The next node of the part, which stays the next one.
+    pub(crate) fn peek<E: LogEye>(
+        &mut self,
+        eye: &mut E,
+        region_len: u64,
+    ) -> Result<Option<NodeId>, FetchFault>
+        requires seen { IsSeen (E.LogEye.state eye.old) self.old.part }
+        requires region_len { region_len ≡ (E.LogEye.state eye.old).region_len }
+        requires kept { IsKept (E.LogEye.state eye.old).told self.old }
+        ensures same { SameEye (E.LogEye.state eye.old) (E.LogEye.state eye.new) }
+        ensures counts { CountsFaults (IsErrOf result fetch_fault.Failed) (E.LogEye.state eye.old) (E.LogEye.state eye.new) }
+        ensures part { self.new.part ≡ self.old.part }
+        ensures next { self.new.next ≡ self.old.next }
+        ensures kept { IsKept (E.LogEye.state eye.old).told self.new }
+        ensures head { IfOk result (λ node. node ≡ option_map (λ head. head.0.node) self.new.head) }
+        ensures end { result ≡ Ok None → nodes_left self.old ≡ 0 }
+        ensures ended { result ≡ Ok None → self.new ≡ self.old }
+        ensures ready { IfOk result (λ node. self.new.head ≡ None → nodes_left self.new ≡ 0) }
+        ensures good_row { (region at : ℕ) → IsErrOf result (fetch_fault.BadRow region at) → ⊥ }
+        ensures bad_index { (region at : ℕ) → IsErrOf result (fetch_fault.BadIndex region at) → HasBadEntry (E.LogEye.state eye.old).told region_len self.old.part (record { region = region; at = at }) }
+        ensures exact { (left : List Row) → SourceAt (E.LogEye.state eye.old) self.old left → MatchResult result (λ node. node ≡ node_at_head left) NoDamage }
+        ensures order { (image : Image) → IsInOrder image self.old → IfOk result (λ node. IsInOrder image self.new) }
+        ensures ahead { (image : Image) → IsInOrder image self.old → IfOk result (λ node. (E.LogEye.state eye.new).taken + bytes_left self.new ≤ (E.LogEye.state eye.old).taken + bytes_left self.old) }
+        ensures taken { (image : Image) → IsInOrder image self.old → (E.LogEye.state eye.new).taken ≤ (E.LogEye.state eye.old).taken + bytes_left self.old }
+    {
+        if let Some((entry, _)) = self.source.head {
+            return Ok(Some(entry.node));
+        }
+        if self.source.next >= self.source.part.header.nodes {
+            return Ok(None);
+        }
+        let (entry, span) = read_head(
+            &mut self.index,
+            eye,
+            &self.source.part,
+            self.source.next,
+            region_len,
+        )?;
+        self.source.head = Some((entry, span));
+        Ok(Some(entry.node))
+    }
+
+    /// The rows of a node, if it is the next one, which is left behind then, also where they are refused.
+    pub(crate) fn take<E: LogEye>(
+        &mut self,
+        alloc: Global,
+        eye: &mut E,
+        node: NodeId,
+        region_len: u64,
+    ) -> Result<Rows, FetchFault>
+        requires seen { IsSeen (E.LogEye.state eye.old) self.old.part }
+        requires region_len { region_len ≡ (E.LogEye.state eye.old).region_len }
+        requires kept { IsKept (E.LogEye.state eye.old).told self.old }
+        requires ready { self.old.head ≡ None → nodes_left self.old ≡ 0 }
+        requires lowest { IfSome self.old.head (λ head. is_node_below head.0.node node ≡ false) }
+        ensures same { SameEye (E.LogEye.state eye.old) (E.LogEye.state eye.new) }
+        ensures counts { CountsFaults (IsErrOf result fetch_fault.Failed) (E.LogEye.state eye.old) (E.LogEye.state eye.new) }
+        ensures part { self.new.part ≡ self.old.part }
+        ensures kept { IsKept (E.LogEye.state eye.old).told self.new }
+        ensures fit { IfOk result FitRows }
+        ensures read { IfOk result (TakesRows (E.LogEye.state eye.old).told node self.old self.new) }
+        ensures some { IfOk result (λ rows. node_kept self.old.head ≡ Some node → 1 ≤ length rows) }
+        ensures no_more { nodes_left self.new ≤ nodes_left self.old }
+        ensures fewer { node_kept self.old.head ≡ Some node → nodes_left self.new < nodes_left self.old }
+        ensures bad_row { (region at : ℕ) → IsErrOf result (fetch_fault.BadRow region at) → HasBadRow (E.LogEye.state eye.old).told region_len self.old.part node (record { region = region; at = at }) }
+        ensures good_index { (region at : ℕ) → IsErrOf result (fetch_fault.BadIndex region at) → ⊥ }
+        ensures exact { (left : List Row) → SourceAt (E.LogEye.state eye.old) self.old left → AllFrom node left → node_kept self.old.head ≡ node_at_head left
+            → MatchResult result (λ own. own ≡ rows_of node left) NoDamage }
+        ensures left { (left : List Row) → SourceAt (E.LogEye.state eye.old) self.old left → AllFrom node left → node_kept self.old.head ≡ node_at_head left
+            → SourceAt (E.LogEye.state eye.new) self.new (behind node left) }
+        ensures order { (image : Image) → (E.LogEye.state eye.old).told ≡ Some image → IsInOrder image self.old → IfOk result (λ rows. IsInOrder image self.new) }
+        ensures ahead { (image : Image) → (E.LogEye.state eye.old).told ≡ Some image → IsInOrder image self.old
+            → IfOk result (λ rows. (E.LogEye.state eye.new).taken + bytes_left self.new ≤ (E.LogEye.state eye.old).taken + bytes_left self.old) }
+        ensures taken { (image : Image) → (E.LogEye.state eye.old).told ≡ Some image → IsInOrder image self.old → (E.LogEye.state eye.new).taken ≤ (E.LogEye.state eye.old).taken + bytes_left self.old }
+    {
+        let Some((entry, span)) = self.source.head else {
+            return Ok(Items::new(alloc));
+        };
+        if entry.node != node {
+            return Ok(Items::new(alloc));
+        }
+        self.source.head = None;
+        self.source.next += 1;
+        read_rows(
+            alloc,
+            &mut self.rows,
+            eye,
+            &self.source.part,
+            node,
+            span,
+            region_len,
+        )
+    }
+}

@@ -1,0 +1,163 @@
+//! Entries and rows of a part that are read through windows on its body.
+
+ghost use Rattle.std.specs.Prelude.{◌≡◌, ℕ, ◌+◌, ◌-◌, ◌*◌, ◌<◌, ◌≤◌, IfOk, IsErrOf, List, MatchResult, OnOk};
+ghost use Rattle.std.specs.List.{AllByRecursion};
+ghost use Rattle.fine_model.specs.declared.FetchFault.TheVariants as fetch_fault;
+ghost use Rattle.fine_model.specs.declared.Row.{Row};
+ghost use Rattle.fine_model.specs.Nodes.{rows_of};
+ghost use Rattle.fine_model.specs.Regions.{body_len};
+ghost use Rattle.fine_model.specs.RowBytes.{FitsRow, index_entry};
+ghost use Rattle.fine_model.specs.Seek.{entry_place};
+ghost use Rattle.partition_index.specs.Parts.{CountsFaults, IsSeen, SameEye};
+ghost use Rattle.partition_index.specs.Search.{IsEndOf, IsEntryAt, IsSpanAt, TellsRows, span_for};
+ghost use Rattle.node_fetch.specs.Fetched.{HasBadEntry, HoldsRows, IsBadRowOf, NoDamage};
+ghost use Rattle.partition_merge.specs.Windows.{HoldsWindow, index_left, rows_left};
+
+use crate::window::Window;
+use fine_model::format::INDEX_ENTRY;
+use fine_model::{FetchFault, NodeId, Part, Rows};
+use log_disk::LogEye;
+use node_fetch::{bad_index, rows_of_span};
+use partition_index::{IndexEntry, SeekFault, Span, entry_in, entry_place, span_in};
+use std::alloc::Global;
+
+// An entry of a part's index, by its number.
+fn read_entry<E: LogEye>(
+    index: &mut Window,
+    eye: &mut E,
+    part: &Part,
+    i: u32,
+    region_len: u64,
+) -> Result<IndexEntry, FetchFault>
+    requires seen { IsSeen (E.LogEye.state eye.old) part.now }
+    requires region_len { region_len ≡ (E.LogEye.state eye.old).region_len }
+    requires there { i < part.now.header.nodes }
+    requires holds { HoldsWindow (E.LogEye.state eye.old).told part.now (body_len part.now.header) index.old }
+    ensures same { SameEye (E.LogEye.state eye.old) (E.LogEye.state eye.new) }
+    ensures counts { CountsFaults (IsErrOf result fetch_fault.Failed) (E.LogEye.state eye.old) (E.LogEye.state eye.new) }
+    ensures holds { HoldsWindow (E.LogEye.state eye.old).told part.now (body_len part.now.header) index.new }
+    ensures ok { IfOk result (IsEntryAt (E.LogEye.state eye.old).told part.now i) }
+    ensures good_row { (region at : ℕ) → IsErrOf result (fetch_fault.BadRow region at) → ⊥ }
+    ensures bad_index { (region at : ℕ) → IsErrOf result (fetch_fault.BadIndex region at) → HasBadEntry (E.LogEye.state eye.old).told region_len part.now (record { region = region; at = at }) }
+    ensures order { index.old.from ≤ entry_place part.now.header i → OnOk result (index.new.from ≤ entry_place part.now.header i) }
+    ensures ahead { index.old.from ≤ entry_place part.now.header i
+        → OnOk result ((E.LogEye.state eye.new).taken + index_left part.now index.new ≤ (E.LogEye.state eye.old).taken + index_left part.now index.old) }
+    ensures taken { index.old.from ≤ entry_place part.now.header i → (E.LogEye.state eye.new).taken ≤ (E.LogEye.state eye.old).taken + index_left part.now index.old }
+{
+    let at = entry_place(&part.header, i);
+    let len = INDEX_ENTRY as u32;
+    let end = part.header.area + len * part.header.nodes;
+    index.reach(eye, part, region_len, at, len, end)?;
+    let mut bytes = [0; INDEX_ENTRY];
+    bytes.copy_from_slice(index.range(at, len));
+    match entry_in(part, i, bytes) {
+        Ok(entry) => Ok(entry),
+        Err(SeekFault::Failed) => Err(FetchFault::Failed),
+        Err(SeekFault::BadIndex { at }) => Err(bad_index(part, region_len, at)),
+    }
+}
+
+// The end of the span of an entry: the offset of the next one, or the end of the rows.
+fn end_of<E: LogEye>(
+    index: &mut Window,
+    eye: &mut E,
+    part: &Part,
+    i: u32,
+    region_len: u64,
+) -> Result<u32, FetchFault>
+    requires seen { IsSeen (E.LogEye.state eye.old) part.now }
+    requires region_len { region_len ≡ (E.LogEye.state eye.old).region_len }
+    requires there { i < part.now.header.nodes }
+    requires holds { HoldsWindow (E.LogEye.state eye.old).told part.now (body_len part.now.header) index.old }
+    ensures same { SameEye (E.LogEye.state eye.old) (E.LogEye.state eye.new) }
+    ensures counts { CountsFaults (IsErrOf result fetch_fault.Failed) (E.LogEye.state eye.old) (E.LogEye.state eye.new) }
+    ensures holds { HoldsWindow (E.LogEye.state eye.old).told part.now (body_len part.now.header) index.new }
+    ensures ok { IfOk result (IsEndOf (E.LogEye.state eye.old).told part.now i) }
+    ensures good_row { (region at : ℕ) → IsErrOf result (fetch_fault.BadRow region at) → ⊥ }
+    ensures bad_index { (region at : ℕ) → IsErrOf result (fetch_fault.BadIndex region at) → HasBadEntry (E.LogEye.state eye.old).told region_len part.now (record { region = region; at = at }) }
+    ensures order { index.old.from ≤ entry_place part.now.header i → OnOk result (index.new.from ≤ entry_place part.now.header (i + 1)) }
+    ensures ahead { index.old.from ≤ entry_place part.now.header i
+        → OnOk result ((E.LogEye.state eye.new).taken + index_left part.now index.new ≤ (E.LogEye.state eye.old).taken + index_left part.now index.old) }
+    ensures taken { index.old.from ≤ entry_place part.now.header i → (E.LogEye.state eye.new).taken ≤ (E.LogEye.state eye.old).taken + index_left part.now index.old }
+{
+    if i + 1 < part.header.nodes {
+        let next = read_entry(index, eye, part, i + 1, region_len)?;
+        return Ok(next.offset);
+    }
+    Ok(part.header.area)
+}
+
+/// An entry of a part's index, by its number, and its span, through a window on the index.
+///
+/// `BadIndex` comes only with the place of an entry, which is bad by the bytes that the eye tells. Where entries are asked for in their
+/// order, each is read once.
+pub(crate) fn read_head<E: LogEye>(
+    index: &mut Window,
+    eye: &mut E,
+    part: &Part,
+    i: u32,
+    region_len: u64,
+) -> Result<(IndexEntry, Span), FetchFault>
+    requires seen { IsSeen (E.LogEye.state eye.old) part.now }
+    requires region_len { region_len ≡ (E.LogEye.state eye.old).region_len }
+    requires there { i < part.now.header.nodes }
+    requires holds { HoldsWindow (E.LogEye.state eye.old).told part.now (body_len part.now.header) index.old }
+    ensures same { SameEye (E.LogEye.state eye.old) (E.LogEye.state eye.new) }
+    ensures counts { CountsFaults (IsErrOf result fetch_fault.Failed) (E.LogEye.state eye.old) (E.LogEye.state eye.new) }
+    ensures holds { HoldsWindow (E.LogEye.state eye.old).told part.now (body_len part.now.header) index.new }
+    ensures entry { IfOk result (λ r. IsEntryAt (E.LogEye.state eye.old).told part.now i r.0) }
+    ensures span { IfOk result (λ r. IsSpanAt (E.LogEye.state eye.old).told part.now i r.1) }
+    ensures good_row { (region at : ℕ) → IsErrOf result (fetch_fault.BadRow region at) → ⊥ }
+    ensures bad_index { (region at : ℕ) → IsErrOf result (fetch_fault.BadIndex region at) → HasBadEntry (E.LogEye.state eye.old).told region_len part.now (record { region = region; at = at }) }
+    ensures order { index.old.from ≤ entry_place part.now.header i → OnOk result (index.new.from ≤ entry_place part.now.header (i + 1)) }
+    ensures ahead { index.old.from ≤ entry_place part.now.header i
+        → OnOk result ((E.LogEye.state eye.new).taken + index_left part.now index.new ≤ (E.LogEye.state eye.old).taken + index_left part.now index.old) }
+    ensures taken { index.old.from ≤ entry_place part.now.header i → (E.LogEye.state eye.new).taken ≤ (E.LogEye.state eye.old).taken + index_left part.now index.old }
+{
+    let entry = read_entry(index, eye, part, i, region_len)?;
+    let end = end_of(index, eye, part, i, region_len)?;
+    match span_in(part, i, &entry, end) {
+        Ok(span) => Ok((entry, span)),
+        Err(SeekFault::Failed) => Err(FetchFault::Failed),
+        Err(SeekFault::BadIndex { at }) => Err(bad_index(part, region_len, at)),
+    }
+}
+
+/// The rows of a node, from the span that its index entry gives, through a window on the rows.
+///
+/// They are as `read_span` of `node_fetch` reads them. Where spans are asked for in their order, each byte is read once.
+pub(crate) fn read_rows<E: LogEye>(
+    alloc: Global,
+    rows: &mut Window,
+    eye: &mut E,
+    part: &Part,
+    node: NodeId,
+    span: Span,
+    region_len: u64,
+) -> Result<Rows, FetchFault>
+    requires seen { IsSeen (E.LogEye.state eye.old) part.now }
+    requires region_len { region_len ≡ (E.LogEye.state eye.old).region_len }
+    requires some { 1 ≤ part.now.header.nodes }
+    requires order { span.at ≤ span.end }
+    requires within { span.end ≤ part.now.header.area }
+    requires window { HoldsWindow (E.LogEye.state eye.old).told part.now part.now.header.area rows.old }
+    ensures same { SameEye (E.LogEye.state eye.old) (E.LogEye.state eye.new) }
+    ensures counts { CountsFaults (IsErrOf result fetch_fault.Failed) (E.LogEye.state eye.old) (E.LogEye.state eye.new) }
+    ensures window { HoldsWindow (E.LogEye.state eye.old).told part.now part.now.header.area rows.new }
+    ensures fit { IfOk result (AllByRecursion (FitsRow part.now.header.mark)) }
+    ensures holds { IfOk result (HoldsRows (E.LogEye.state eye.old).told part.now node span) }
+    ensures bad_row { (region at : ℕ) → IsErrOf result (fetch_fault.BadRow region at)
+        → IsBadRowOf (E.LogEye.state eye.old).told region_len part.now node span (record { region = region; at = at }) }
+    ensures good_index { (region at : ℕ) → IsErrOf result (fetch_fault.BadIndex region at) → ⊥ }
+    ensures exact { (own : List Row) → TellsRows (E.LogEye.state eye.old) part.now own → span ≡ span_for own node
+        → MatchResult result (λ found. found ≡ rows_of node own) NoDamage }
+    ensures order { rows.old.from ≤ span.at → OnOk result (rows.new.from ≤ span.at) }
+    ensures ahead { rows.old.from ≤ span.at
+        → OnOk result ((E.LogEye.state eye.new).taken + rows_left part.now rows.new ≤ (E.LogEye.state eye.old).taken + rows_left part.now rows.old) }
+    ensures taken { rows.old.from ≤ span.at → (E.LogEye.state eye.new).taken ≤ (E.LogEye.state eye.old).taken + rows_left part.now rows.old }
+{
+    let len = span.end - span.at;
+    rows.reach(eye, part, region_len, span.at, len, part.header.area)?;
+    let bytes = rows.range(span.at, len);
+    rows_of_span(alloc, part, node, span, region_len, bytes)
+}

@@ -1,0 +1,208 @@
+//! Windows on the body of a part, through which it is read in blocks.
+
+ghost use Rattle.std.specs.Prelude.{◌≡◌, ℕ, ◌+◌, ◌-◌, ◌*◌, ◌<◌, ◌≤◌, false, true, IfErr, IfOk, IsErr, IsErrOf, List, OnErr, OnOk, Option, [], drop, length, max, take, vec_len};
+ghost use Rattle.fine_model.specs.declared.FetchFault.TheVariants as fetch_fault;
+ghost use Rattle.fine_model.specs.declared.Part.{Part};
+ghost use Rattle.fine_model.specs.Regions.{Image, body_len};
+ghost use Rattle.partition_index.specs.Parts.{CountsFaults, IsSeen, LooksAt, SameEye};
+ghost use Rattle.partition_index.specs.Search.{IsRangeAt};
+ghost use Rattle.node_fetch.specs.Fetched.{NoDamage};
+ghost use Rattle.partition_merge.specs.Windows.{HoldsWindow, no_window, window_end};
+
+use fine_model::{FetchFault, NoMemory, Part};
+use log_disk::{Failed, LogEye};
+use partition_index::read_body;
+use std::alloc::Global;
+use std::marker::Model;
+
+/// What was read ahead of a part that is not read through windows: nothing. It takes no bytes, and stands where contracts of such a part
+/// and of one that is have the same form.
+#[derive(Clone, Copy)]
+pub(crate) struct Unread;
+
+impl Model for Unread {
+    ghost use Rattle.partition_merge.specs.Windows.{AheadValue, nothing_ahead};
+
+    ghost Value = { AheadValue };
+
+    ghost view = { λ _. nothing_ahead };
+
+    ghost inverse = { λ _. record {} };
+}
+
+// Drops the first bytes. Those behind them have room in their place.
+fn drop_front(bytes: &mut Vec<u8>, passed: usize)
+    requires within { passed ≤ vec_len bytes.old }
+    requires room { vec_len bytes.old ≤ passed + passed }
+    ensures { bytes.new.items ≡ drop passed bytes.old.items }
+{
+    let kept = bytes.len() - passed;
+    let (front, back) = bytes.split_at_mut(passed);
+    front[..kept].copy_from_slice(back);
+    bytes.truncate(kept);
+}
+
+// Reads into a slice behind its first bytes.
+fn read_behind<E: LogEye>(
+    eye: &mut E,
+    part: &Part,
+    region_len: u64,
+    at: u32,
+    bytes: &mut [u8],
+    kept: usize,
+) -> Result<(), Failed>
+    requires seen { IsSeen (E.LogEye.state eye.old) part.now }
+    requires region_len { region_len ≡ (E.LogEye.state eye.old).region_len }
+    requires kept { kept ≤ length bytes.old }
+    requires within { at + (length bytes.old - kept) ≤ body_len part.now.header }
+    ensures front { take kept bytes.new ≡ take kept bytes.old }
+    ensures len { length bytes.new ≡ length bytes.old }
+    ensures looks { LooksAt part.now at (drop kept bytes.new) (IsErr result) (E.LogEye.state eye.old) (E.LogEye.state eye.new) }
+{
+    let (_, behind) = bytes.split_at_mut(kept);
+    read_body(eye, part, region_len, at, behind)
+}
+
+/// A window on the body of a part: bytes of it from an offset on.
+#[derive(Drop)]
+pub(crate) struct Window {
+    from: u32,
+    block: u32,
+    bytes: Vec<u8>,
+}
+
+impl Model for Window {
+    ghost use Rattle.partition_merge.specs.Windows.{WindowValue};
+
+    ghost Value = { WindowValue };
+
+    ghost view = { λ w. record { from = w.from; bytes = w.bytes.items } };
+}
+
+impl Window {
+    /// A window with no bytes, through which `len` bytes are read in blocks. It has room for a block, or for all of them.
+    pub(crate) fn new(alloc: Global, len: u32, block: u32) -> Result<Window, NoMemory>
+        ensures { IfOk result (λ window. window ≡ no_window) }
+    {
+        Ok(Window {
+            from: 0,
+            block,
+            bytes: Vec::with_capacity(alloc, len.min(block) as usize)?,
+        })
+    }
+
+    // Whether the bytes of a range stand in the window.
+    fn has(&self, at: u32, len: u32) -> bool
+        requires small { window_end self.now < 4294967296 }
+        requires within { at + len < 4294967296 }
+        ensures has { result ≡ true → (self.now.from ≤ at) × (at + len ≤ window_end self.now) }
+        ensures lacks { result ≡ false → self.now.from ≤ at → window_end self.now < at + len }
+    {
+        self.from <= at && at + len <= self.from + self.bytes.len() as u32
+    }
+
+    // Leaves out the bytes before an offset, if those behind it have room in their place, or all of them, if the offset is not within.
+    fn leave(&mut self, at: u32)
+        requires small { window_end self.old < 4294967296 }
+        ensures from { self.new.from ≤ at }
+        ensures reaches { at ≤ window_end self.new }
+        ensures behind { self.old.from ≤ at → window_end self.new ≡ max (window_end self.old) at }
+        ensures before { at < self.old.from → window_end self.new ≡ at }
+        ensures range { (known : Option Image) (part : Part) → IsRangeAt known part self.old.from self.old.bytes → IsRangeAt known part self.new.from self.new.bytes }
+    {
+        let end = self.from + self.bytes.len() as u32;
+        if at < self.from || end < at {
+            self.bytes.clear();
+            self.from = at;
+            return;
+        }
+        let passed = (at - self.from) as usize;
+        let kept = self.bytes.len() - passed;
+        if passed < kept {
+            return;
+        }
+        drop_front(&mut self.bytes, passed);
+        self.from = at;
+    }
+
+    // Reads on behind the window, until it has so many bytes. After a fault it has those that it had.
+    fn extend<E: LogEye>(
+        &mut self,
+        eye: &mut E,
+        part: &Part,
+        region_len: u64,
+        len: u32,
+    ) -> Result<(), FetchFault>
+        requires seen { IsSeen (E.LogEye.state eye.old) part.now }
+        requires region_len { region_len ≡ (E.LogEye.state eye.old).region_len }
+        requires longer { length self.old.bytes ≤ len }
+        requires within { self.old.from + len ≤ body_len part.now.header }
+        ensures same { SameEye (E.LogEye.state eye.old) (E.LogEye.state eye.new) }
+        ensures counts { CountsFaults (IsErrOf result fetch_fault.Failed) (E.LogEye.state eye.old) (E.LogEye.state eye.new) }
+        ensures fault { IfErr result NoDamage }
+        ensures from { self.new.from ≡ self.old.from }
+        ensures long { OnOk result (length self.new.bytes ≡ len) }
+        ensures few { length self.new.bytes ≤ len }
+        ensures kept { OnErr result (self.new ≡ self.old) }
+        ensures range { IsRangeAt (E.LogEye.state eye.old).told part.now self.old.from self.old.bytes → IsRangeAt (E.LogEye.state eye.old).told part.now self.new.from self.new.bytes }
+        ensures taken { (E.LogEye.state eye.new).taken ≤ (E.LogEye.state eye.old).taken + (len - length self.old.bytes) }
+    {
+        let kept = self.bytes.len();
+        if self.bytes.resize(len as usize, 0).is_err() {
+            return Err(FetchFault::NoMemory);
+        }
+        let at = self.from + kept as u32;
+        if read_behind(eye, part, region_len, at, &mut self.bytes, kept).is_err() {
+            self.bytes.truncate(kept);
+            return Err(FetchFault::Failed);
+        }
+        Ok(())
+    }
+
+    /// Sees that a range of the body stands in the window. Where it does not, more is read behind what is still asked for: a block, but
+    /// nothing behind `end`.
+    ///
+    /// Ranges that ascend have each byte read once. `Failed` comes only where the eye's count of faults rose in this call; `NoMemory` only
+    /// where the range is longer than half a block.
+    pub(crate) fn reach<E: LogEye>(
+        &mut self,
+        eye: &mut E,
+        part: &Part,
+        region_len: u64,
+        at: u32,
+        len: u32,
+        end: u32,
+    ) -> Result<(), FetchFault>
+        requires seen { IsSeen (E.LogEye.state eye.old) part.now }
+        requires region_len { region_len ≡ (E.LogEye.state eye.old).region_len }
+        requires within { at + len ≤ end }
+        requires end { end ≤ body_len part.now.header }
+        requires holds { HoldsWindow (E.LogEye.state eye.old).told part.now end self.old }
+        ensures same { SameEye (E.LogEye.state eye.old) (E.LogEye.state eye.new) }
+        ensures counts { CountsFaults (IsErrOf result fetch_fault.Failed) (E.LogEye.state eye.old) (E.LogEye.state eye.new) }
+        ensures fault { IfErr result NoDamage }
+        ensures holds { HoldsWindow (E.LogEye.state eye.old).told part.now end self.new }
+        ensures reached { OnOk result ((self.new.from ≤ at) × (at + len ≤ window_end self.new)) }
+        ensures ahead { self.old.from ≤ at → OnOk result ((E.LogEye.state eye.new).taken + max (window_end self.old) at ≤ (E.LogEye.state eye.old).taken + window_end self.new) }
+        ensures taken { self.old.from ≤ at → (E.LogEye.state eye.new).taken ≤ (E.LogEye.state eye.old).taken + (end - max (window_end self.old) at) }
+    {
+        if self.has(at, len) {
+            return Ok(());
+        }
+        self.leave(at);
+        let need = (at - self.from) + len;
+        let most = need.max(self.block).min(end - self.from);
+        self.extend(eye, part, region_len, most)
+    }
+
+    /// The bytes of a range that stands in the window.
+    pub(crate) fn range(&self, at: u32, len: u32) -> &[u8]
+        requires reached { (self.now.from ≤ at) × (at + len ≤ window_end self.now) }
+        requires small { window_end self.now < 4294967296 }
+        ensures long { length result.now ≡ len }
+        ensures range { (known : Option Image) (part : Part) → IsRangeAt known part self.now.from self.now.bytes → IsRangeAt known part at result.now }
+    {
+        let from = (at - self.from) as usize;
+        &self.bytes[from..from + len as usize]
+    }
+}

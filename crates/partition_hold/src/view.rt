@@ -16,6 +16,8 @@ ghost use Rattle.partition_index.specs.Search.{Searches};
 ghost use Rattle.partition_index.specs.Search.{TellsRows as TellsPart};
 ghost use Rattle.node_fetch.specs.Fetched.{HasBadEntry, HasBadRow, IsReplayOf, NoDamage, most_read, most_sought};
 ghost use Rattle.partition_merge.specs.Blocks.{Gives, IsAhead, SameBlocks};
+ghost use Rattle.partition_merge.specs.Joined.{GivesJoined, IsJoined};
+ghost use Rattle.partition_merge.specs.declared.merger.Merger.{Merger};
 ghost use Rattle.partition_merge.specs.Mergers.{Answers, AreKept, BlamesEntry, BlamesRow, IsCounted, IsJoinOf, IsMeasureOf, StandsAt, both_left, both_unread, measure_of, most_for, newer_part, next_len, older_part, start_of};
 ghost use Rattle.partition_merge.specs.Merging.{FitRows};
 ghost use Rattle.partition_hold.specs.Views.{IsView, ViewValue, SameView, ViewNames, ViewTells, ViewTellsEach, ViewTellsPart, state_of};
@@ -222,6 +224,7 @@ impl<E: LogEye> View<E> {
         ensures bad_row { (region at : ℕ) → IsErrOf result (fetch_fault.BadRow region at) → BlamesRow self.old.eye.told blocks.old.merger (record { region = region; at = at }) }
         ensures bad_index { (region at : ℕ) → IsErrOf result (fetch_fault.BadIndex region at) → BlamesEntry self.old.eye.told blocks.old.merger (record { region = region; at = at }) }
         ensures exact { (handed : List ℕ) (a b : List Row) → IsAhead self.old.eye blocks.old handed a b → MatchResult result (Gives self.new.eye blocks.new handed a b) NoDamage }
+        ensures joined { (start : Merger) (handed : List ℕ) → IsJoined self.old.eye.told start blocks.old handed → IfOk result (GivesJoined self.old.eye.told start blocks.new handed) }
     {
         blocks.next(self.alloc, &mut self.eye)
     }

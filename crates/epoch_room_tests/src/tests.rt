@@ -470,3 +470,62 @@ fn a_view_from_before_a_merge_reads_and_holds_its_parts(rt: HostRuntime) -> Resu
     fs::remove_file(&rt, path.as_str())?;
     Ok(())
 }
+
+// ---- a board of several seats
+
+// A view for the first of two seats, whose buffers are all empty.
+fn view_first<D: LogDisk>(room: &mut Room<D>) -> Result<View<D::Eye>, Fail>
+    requires { room.old.room.board ≡ None ∷ None ∷ None ∷ None ∷ None ∷ None ∷ [] }
+    ensures { IfOk result (λ view. (view.seat ≡ 1) × (view.buffer ≡ 0) × (room.new.room.board ≡ Some (opened view.eye) ∷ None ∷ None ∷ None ∷ None ∷ None ∷ [])) }
+{
+    match room.view_for(1) {
+        Ok(view) => Ok(view),
+        Err(_fault) => Err("view")?,
+    }
+}
+
+// A view for the second of two seats, while the first one has one.
+fn view_second<D: LogDisk>(room: &mut Room<D>, first: &View<D::Eye>) -> Result<View<D::Eye>, Fail>
+    requires { room.old.room.board ≡ Some (opened first.now.eye) ∷ None ∷ None ∷ None ∷ None ∷ None ∷ [] }
+    ensures { IfOk result (λ view. (view.seat ≡ 2) × (view.buffer ≡ 0) × (room.new.room.board ≡ Some (opened first.now.eye) ∷ None ∷ None ∷ Some (opened view.eye) ∷ None ∷ None ∷ [])) }
+{
+    match room.view_for(2) {
+        Ok(view) => Ok(view),
+        Err(_fault) => Err("view")?,
+    }
+}
+
+// Takes both views back, the second one first.
+fn take_both_back<D: LogDisk>(room: &mut Room<D>, first: View<D::Eye>, second: View<D::Eye>)
+    requires first { (first.seat ≡ 1) × (first.buffer ≡ 0) }
+    requires second { (second.seat ≡ 2) × (second.buffer ≡ 0) }
+    requires board { room.old.room.board ≡ Some (opened first.eye) ∷ None ∷ None ∷ Some (opened second.eye) ∷ None ∷ None ∷ [] }
+    ensures { room.new.room.board ≡ None ∷ None ∷ None ∷ None ∷ None ∷ None ∷ [] }
+{
+    room.take_back(second);
+    room.take_back(first);
+}
+
+// The seats and buffers of a view for each of two seats; once both came back, the board is that of a third seat too.
+fn two_seats<D: LogDisk>(room: &mut Room<D>) -> Result<[(u32, u8); 2], Fail>
+    requires { room.old.room.board ≡ None ∷ None ∷ None ∷ [] }
+{
+    room.set_seats(2).ok().ok_or("seats")?;
+    let first = view_first(room)?;
+    let second = view_second(room, &first)?;
+    let places = [
+        (first.seat(), first.buffer()),
+        (second.seat(), second.buffer()),
+    ];
+    take_both_back(room, first, second);
+    room.set_seats(3).ok().ok_or("seats")?;
+    Ok(places)
+}
+
+#[test]
+fn each_seat_has_buffers_of_its_own(rt: HostRuntime) -> Result<(), Fail> {
+    let mut room = new_room(rt.alloc(), 4096, MOST)?;
+    seal_two(&mut room, rt.alloc())?;
+    assert_eq!(rt; two_seats(&mut room)?, [(1, 0), (2, 0)]);
+    Ok(())
+}

@@ -20,12 +20,14 @@ use Rattle.log_partition.proofs.Indexed.{index_long}
 use Rattle.partition_index.specs.Parts.{IsSeen}
 use Rattle.partition_index.specs.Search.{TellsRows as TellsPart}
 use Rattle.partition_merge.specs.declared.merger.Measure.{Measure}
-use Rattle.partition_merge.specs.Mergers.{measure_of}
+use Rattle.partition_merge.specs.declared.merger.Merger.{Merger}
+use Rattle.partition_merge.specs.Joined.{IsJoined, IsJoinedBody}
+use Rattle.partition_merge.specs.Mergers.{at_front, measure_of}
 use Rattle.partition_merge.proofs.Lengths.{merged_small}
 use Rattle.partition_hold.specs.Views.{IsView, SameView, ViewValue, opened}
 use Rattle.partition_hold.proofs.ViewLemmas.{view_names, view_part}
 use Rattle.epoch_room.proofs.Boarding.{board_shows}
-use Rattle.room_merges.specs.Merging.{BlocksBegin, BlocksEnd, BlocksGoOn, BodyIsWritten, EyeTells, MeasureIsTold, OfTold, ShownByEye}
+use Rattle.room_merges.specs.Merging.{BlocksBegin, BlocksEnd, BlocksGoOn, BodyIsWritten, EyeTells, JoiningBegins, JoiningEnds, JoiningGoesOn, MeasureIsTold, OfTold, ShownByEye, merger_of}
 
 pub shown_by_eye : ShownByEye
 shown_by_eye value view p rows out there tells =
@@ -104,6 +106,37 @@ blocks_end value view view' blocks job same ends between = (
       let was = between a b (told_before view view' job.older a same older_told) (told_before view view' job.newer b same newer_told) in
       sym was.3 ∙ ap length (ends was.0 a b was.1) ∙ body_long (merged a b),
 )
+
+-- ---- whatever is read
+
+pub joining_begins : JoiningBegins
+joining_begins value view blocks job region_len out none len joined image told =
+    let shows = board_shows value (buffer_at view.seat view.buffer) (opened view.eye) out.whole out.posted in
+    let shown = image_told (set_of view.eye.regions) value.room.image view.eye.told image shows told in
+    let held = none_held value.room.image shown.0 job shown.1 none in
+    ([], subst (λ n. IsJoined (Some image) (at_front job.older job.newer n) blocks []) len (joined (Some image)), (held.1 ∙ ap (λ bytes. Some bytes) held.2, sym none))
+
+pub joining_goes_on : JoiningGoesOn
+joining_goes_on old new view view' blocks blocks' job job' same older newer more gives held joining image told =
+    let before : view.eye.told ≡ Some image = sym same.eye.told ∙ told in
+    let was = joining image before in
+    let start : merger_of view job ≡ merger_of view' job' = λ i. at_front (sym older i) (sym newer i) (sym same.region_len i) in
+    let next : IsJoined (Some image) (merger_of view job) blocks' (was.0 ++ blocks'.block) =
+    subst (λ known. IsJoined known (merger_of view job) blocks' (was.0 ++ blocks'.block)) before
+    (gives (merger_of view job) was.0 (subst (λ known. IsJoined known (merger_of view job) blocks was.0) (sym before) was.1)) in (
+      was.0 ++ blocks'.block,
+      subst (λ m. IsJoined (Some image) m blocks' (was.0 ++ blocks'.block)) start next,
+      (held ∙ ap (λ h. option_map (λ bytes. bytes ++ blocks'.block) h) was.2.0, (let long = was.2.1 in omega (arith, length-append was.0 blocks'.block, long, more))),
+    )
+
+pub joining_ends : JoiningEnds
+joining_ends value view view' blocks job same ends joining image told =
+    let before : view.eye.told ≡ Some image = sym same.eye.told ∙ told in
+    let was = joining image before in
+    let start : merger_of view job ≡ merger_of view' job = λ i. at_front job.older job.newer (sym same.region_len i) in
+    let all : IsJoinedBody (Some image) (merger_of view job) was.0 =
+    subst (λ known. IsJoinedBody known (merger_of view job) was.0) before (ends (merger_of view job) was.0 (subst (λ known. IsJoined known (merger_of view job) blocks was.0) (sym before) was.1)) in
+    (was.0, subst (λ m. IsJoinedBody (Some image) m was.0) start all, was.2)
 
 pub body_is_written : BodyIsWritten
 body_is_written value view job header measure out has_older has_newer counts ordered measures holds a b a_told b_told =

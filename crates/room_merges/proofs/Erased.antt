@@ -82,6 +82,9 @@ module _ (from : ℕ) (old mid new : RoomValue) (merges : MergesThrough from old
         before = f.before;
         fits = f.fits;
         holds = λ a b a_told b_told. told f.merged.part (merged a b) there (subst (λ ps. Contains ps f.merged.part) (sym same) there) (f.holds a b a_told b_told);
+        tells = λ image is.
+            let t = f.tells image is in
+            record { rows = t.rows; told = told f.merged.part t.rows there (subst (λ ps. Contains ps f.merged.part) (sym same) there) t.told; each = t.each };
         of_chain = f.of_chain;
         measure = f.measure;
         read = f.read;

@@ -21,7 +21,9 @@ use Rattle.partition_index.specs.Search.{TellsRows as TellsPart}
 use Rattle.partition_hold.specs.Views.{SameView, ViewValue}
 use Rattle.partition_merge.specs.declared.merger.Measure.{Measure}
 use Rattle.partition_merge.specs.declared.merger.Merger.{Merger}
+use Rattle.partition_merge.specs.Joined.{IsJoinedBody}
 use Rattle.partition_merge.specs.Mergers.{BlamesEntry, BlamesRow, IsMeasureOf, at_front, measure_of, newer_part, older_part}
+use Rattle.partition_merge.proofs.JoinedFinds.{measured_law}
 use Rattle.epoch_room.specs.Meaning.{Keeps}
 use Rattle.epoch_room.specs.MergeSealing.{IsWrittenOut, SealsJobOr, merged_state}
 use Rattle.epoch_room.specs.MergeSteps.{free_after, free_dropped, fresh_job, header_over, if_enough, job_after, measured_len, neighbours_from, picked, regions_for_job, regions_needed, taken_job, with_job}
@@ -34,7 +36,7 @@ use Rattle.epoch_room.specs.declared.answers.RoomFault.TheVariants as room_fault
 use Rattle.epoch_room.proofs.Joining.{keeps_then}
 use Rattle.room_merges.specs.declared.fault.MergeFault.{MergeFault}
 use Rattle.room_merges.specs.declared.fault.MergeFault.TheVariants as merge_fault
-use Rattle.room_merges.specs.Merging.{EyeTells, HoldsBody, IsOut, Measures, OfTold}
+use Rattle.room_merges.specs.Merging.{EyeTells, HoldsBody, HoldsJoined, IsOut, Measures, OfTold}
 use Rattle.room_merges.specs.Pairs.{AreTried, IsPartSealed, IsPassedOver, IsRefused, LosesPart, MergesJob, MergesMeasured, MergesPair, SealsPart, StaysAsIs, WritesPart, header_for, job_for, measure_in}
 use Rattle.room_merges.specs.Work.{FallsShut, LosesFor, RefusesOr, StaysOpen, WritesAll, same_job}
 use Rattle.room_merges.proofs.Chained.{body_is_written, told_before, told_of}
@@ -57,18 +59,19 @@ of_job view job job' P same of_told =
 full : (job : Job) (header : Header) → job.written ≡ body_len header → job ≡ same_job job (body_len header)
 full job header total = ap (same_job job) total
 
-part_sealed : (header : Header) (old new : RoomValue) (view : ViewValue) (job : Job) (u : Unit {0}) → job.written ≡ body_len header → Keeps old new → HoldsBody old view job
+part_sealed : (header : Header) (old new : RoomValue) (view : ViewValue) (job : Job) (u : Unit {0}) → job.written ≡ body_len header → Keeps old new → HoldsBody old view job → HoldsJoined old view job
     → SealsJobOr old new job header (Ok u) → IsPartSealed header old new view job
-part_sealed header old new view job u total keeps holds (synced, does, held) = record {
+part_sealed header old new view job u total keeps holds joined (synced, does, held) = record {
   synced = synced;
   room = subst (λ j. Does (merged_state old.room j header) old.target old new) (full job header total) does;
   body = λ a b older_told newer_told. ap (held_for new.room.image) (sym (full job header total)) ∙ held ∙ holds a b older_told newer_told;
+  joined = λ image told. let was = joined image told in (was.0, was.1, (ap (held_for new.room.image) (sym (full job header total)) ∙ held ∙ was.2.0, was.2.1 ∙ total));
   keeps = keeps;
 }
 
-pub seals : (header : Header) (old new : RoomValue) (view : ViewValue) (job : Job) (u : Unit {0}) → job.header ≡ Some header → job.written ≡ body_len header → Keeps old new → HoldsBody old view job
+pub seals : (header : Header) (old new : RoomValue) (view : ViewValue) (job : Job) (u : Unit {0}) → job.header ≡ Some header → job.written ≡ body_len header → Keeps old new → HoldsBody old view job → HoldsJoined old view job
     → SealsJobOr old new job header (Ok u) → SealsPart header old new view job (Ok u)
-seals header old new view job u taken total keeps holds sealed = part_sealed header old new view job u total keeps holds sealed
+seals header old new view job u taken total keeps holds joined sealed = part_sealed header old new view job u total keeps holds joined sealed
 
 pub seal_refused : (header : Header) (old new : RoomValue) (view : ViewValue) (job : Job) (fault : RoomFault) (back : Job) → old.room.job ≡ Some job → old.room.is_shut ≡ false → Keeps old new
     → SealsJobOr old new job header (Err (fault, back)) → SealsPart header old new view job (Err fault)
@@ -134,6 +137,7 @@ module _ (header : Header) (old mid new : RoomValue) (view view' : ViewValue) (j
           room = subst (λ j. Does (merged_state old.room j header) old.target old new) same (does_later header (same_job job' (body_len header)) (Some job') old mid new whole wrote.room sealed.room);
           body = of_job view' job job' (λ a b. held_for new.room.image (same_job job (body_len header)) ≡ Some (body_bytes (merged a b))) wrote.same
               (subst (λ j. OfTold view' job'.older job'.newer (λ a b. held_for new.room.image j ≡ Some (body_bytes (merged a b)))) same sealed.body);
+          joined = subst (HoldsJoined new view') same sealed.joined;
           keeps = keeps_then old mid new wrote.room.keeps sealed.keeps;
         };
         same = wrote.same;
@@ -240,6 +244,7 @@ module _ (old : RoomValue) (two : Part × Part) (measure : Measure) (regions : �
             part.room.2,
           );
           body = part.body;
+          joined = part.joined;
           keeps = keeps_then old room_taken new keeps part.keeps;
         };
         looks = wrote.looks;
@@ -568,6 +573,11 @@ module _ (from : ℕ) (old mid : RoomValue) (view : ViewValue) (job : Job) (trie
             part.room.2,
           );
           body = told_back view' m.looks.same (λ a b. held_for new.room.image (job_for (job.older, job.newer) m.measure part.regions old.room.free) ≡ Some (body_bytes (merged a b))) part.body;
+          joined = λ image told.
+              let was = part.joined image (m.looks.same.eye.told ∙ told) in
+              let read : IsMeasureOf (Some image) (at_front job.older job.newer view.region_len) m.measure = subst (λ known. IsMeasureOf known (at_front job.older job.newer view.region_len) m.measure) told m.read in
+              let body : IsJoinedBody (Some image) (at_front job.older job.newer view.region_len) was.0 = subst (λ n. IsJoinedBody (Some image) (at_front job.older job.newer n) was.0) m.looks.same.region_len was.1 in
+              (was.0, measured_law image job.older job.newer view.region_len m.measure was.0 read part.ordered body was.2.1, was.2.0);
           keeps = keeps_then old (with_job old (Some job) old.room.free) new keeps part.keeps;
         };
         looks = done.looks;

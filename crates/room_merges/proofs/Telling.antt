@@ -171,20 +171,21 @@ both_fit region_len image p rows is =
       subst (AllByRecursion (FitsRow mark.Three)) same (all_map (FitsRow m) (FitsRow mark.Three) (λ row fits. (mark_fits m row fits).1) is.0 is.3.rows_fit),
     )
 
-module _ (region_len : ℕ) (image : Image) (two : Part × Part) (measure : Measure) (regions : ℕ) (free : List ℕ) (a b : List Row) where
+module _ (region_len : ℕ) (image : Image) (two : Part × Part) (measure : Measure) (regions : ℕ) (free : List ℕ) where
   abbrev job : Job
   job = job_for two measure regions free
 
   abbrev part : Part
   part = part_of job.target (header_for two measure regions free)
 
-  pub merged_rows : FitsBoth a → FitsBoth b → measure ≡ measure_of (merged a b) → measure.ordered ≡ true → HasHeader region_len image part.region part.header
-      → held_by image job.target job.written job.header ≡ body_bytes (merged a b) → AreRowsOf region_len image (part ∷ []) (merged a b)
+  -- rows in order that were measured, and whose body the job holds
+  pub measured_rows : (rows : List Row) → FitsBoth rows → measure ≡ measure_of rows → measure.ordered ≡ true → HasHeader region_len image part.region part.header
+      → held_by image job.target job.written job.header ≡ body_bytes rows → AreRowsOf region_len image (part ∷ []) rows
   unfolding AreRowsOf header_over
-  merged_rows fit_a fit_b is ordered has held = (
-    merged a b,
+  measured_rows rows fit is ordered has held = (
+    rows,
     [],
-    sym (append-nil (merged a b)),
+    sym (append-nil rows),
     record {
       header = part.header;
       has_header = has;
@@ -200,6 +201,14 @@ module _ (region_len : ℕ) (image : Image) (two : Part × Part) (measure : Meas
     refl,
   )
     where
-      by : (t : Bool) → AllByRecursion (FitsRow (cond t mark.Two mark.Three)) (merged a b)
-      by true = merged_fits mark.Two a b (all_append (FitsRow mark.Two) a b fit_a.0 fit_b.0)
-      by false = merged_fits mark.Three a b (all_append (FitsRow mark.Three) a b fit_a.1 fit_b.1)
+      by : (t : Bool) → AllByRecursion (FitsRow (cond t mark.Two mark.Three)) rows
+      by true = fit.0
+      by false = fit.1
+
+module _ (region_len : ℕ) (image : Image) (two : Part × Part) (measure : Measure) (regions : ℕ) (free : List ℕ) (a b : List Row) where
+  pub merged_rows : FitsBoth a → FitsBoth b → measure ≡ measure_of (merged a b) → measure.ordered ≡ true → HasHeader region_len image (part region_len image two measure regions free).region (part region_len image two measure regions free).header
+      → held_by image (job region_len image two measure regions free).target (job region_len image two measure regions free).written (job region_len image two measure regions free).header ≡ body_bytes (merged a b)
+      → AreRowsOf region_len image (part region_len image two measure regions free ∷ []) (merged a b)
+  merged_rows fit_a fit_b is ordered has held =
+      measured_rows region_len image two measure regions free (merged a b)
+      (merged_fits mark.Two a b (all_append (FitsRow mark.Two) a b fit_a.0 fit_b.0), merged_fits mark.Three a b (all_append (FitsRow mark.Three) a b fit_a.1 fit_b.1)) is ordered has held

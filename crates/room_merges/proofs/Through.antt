@@ -41,15 +41,15 @@ use Rattle.epoch_room.proofs.Boarding.{board_shows}
 use Rattle.room_merges.specs.declared.fault.MergeFault.{MergeFault}
 use Rattle.room_merges.specs.declared.fault.MergeFault.TheVariants as merge_fault
 use Rattle.room_merges.specs.Live.{KeepsLive}
-use Rattle.room_merges.specs.Merging.{EyeTells, IsOut, OfTold}
-use Rattle.room_merges.specs.Near.{AllInVain, BlamedAny, BlamedFirst, BlamesTwo, Empties, InVain, IsReadRefused, IsShutNow, IsViewOf, IsWell, KeepsRest, LosesAny, LosesFirst, MergesAny, MergesThrough, MergesTwo, NoneBefore, NoneFitNow, OfNeighbours, StandIn, TellsStill, TriesAll, Unfit}
+use Rattle.room_merges.specs.Merging.{EyeTells, IsOut, OfBytes, OfTold}
+use Rattle.room_merges.specs.Near.{AllInVain, BlamedAny, BlamedFirst, BlamesTwo, Empties, InVain, IsReadRefused, IsShutNow, IsViewOf, IsWell, KeepsRest, LosesAny, LosesFirst, MergesAny, MergesThrough, MergesTwo, NoneBefore, NoneFitNow, OfNeighbours, StandIn, TellsJoined, TellsStill, TriesAll, Unfit}
 use Rattle.room_merges.specs.Pairs.{Merges, header_for, job_for}
 use Rattle.room_merges.specs.Work.{FallsShut, Looks, StaysOpen}
 use Rattle.room_merges.proofs.Chained.{shown_by_eye, told_before}
 use Rattle.room_merges.proofs.Living.{erased_live, live_itself, live_same, seen_then}
 use Rattle.room_merges.proofs.Nearing.{all_on, before_on, loses_on, of_at, of_each, read_back, regions_same, stand_in}
 use Rattle.room_merges.proofs.Pairing.{some_none, some_same}
-use Rattle.room_merges.proofs.Telling.{both_fit, erased_tells, held_image, merged_rows, part_in, seen_back, seen_by, seen_within, tells_itself, tells_same, told_by_disk}
+use Rattle.room_merges.proofs.Telling.{both_fit, erased_tells, held_image, measured_rows, merged_rows, part_in, seen_back, seen_by, seen_within, tells_itself, tells_same, told_by_disk}
 use Rattle.room_merges.proofs.Working.{blames_back, posted_then, view_back, view_itself}
 
 -- ---- what stays
@@ -629,6 +629,23 @@ module _ (old mid tried new : RoomValue) (view view' : ViewValue) (is : Passes o
       (both_fit view.region_len a_told.image m.two.0 a a_told.are_rows) (both_fit view.region_len b_told.image m.two.1 b b_told.are_rows)
       (m.measured a b a_seen b_seen) m.ordered (live_header open_room body.0 body.1 p there) body.2)
 
+  -- of any two, the rows that were read and merged
+  joined_told : (at : ℕ) (was : RoomValue) (seen : ViewValue) (m : Merges at was tried seen) → SameView view seen → new.room.is_shut ≡ false
+      → Contains new.room.parts (part_of (job_for m.two m.measure m.regions was.room.free).target (header_for m.two m.measure m.regions was.room.free))
+      → OfBytes view (λ image. TellsJoined new image m.two (part_of (job_for m.two m.measure m.regions was.room.free).target (header_for m.two m.measure m.regions was.room.free)))
+  joined_told at was seen m same open_room there image told =
+      let job = job_for m.two m.measure m.regions was.room.free in
+      let p = part_of job.target (header_for m.two m.measure m.regions was.room.free) in
+      let joined = m.joined image (same.eye.told ∙ told) in
+      let b = joined.1 in
+      let body = held_image new.room.image job (body_bytes b.rows) (ap (λ image. held_for image job) same_image ∙ joined.2 ∙ ap (λ bytes. Some bytes) b.body) in
+      record {
+        rows = b.rows;
+        told = tells_live open_room body.0 body.1 p b.rows there
+            (measured_rows new.room.region_len body.0 m.two m.measure m.regions was.room.free b.rows b.fit b.measured m.ordered (live_header open_room body.0 body.1 p there) body.2);
+        each = b.each;
+      }
+
   merged_all : (from : ℕ) (some : MergesAny from mid tried view) → Looks {A = Bool} view view' (Ok true) → MergesThrough from old new (Ok true)
   unfolding merged_state two_from two_merged
   merged_all from (at, before, some) looks =
@@ -662,6 +679,7 @@ module _ (old mid tried new : RoomValue) (view view' : ViewValue) (is : Passes o
                   (subst (λ (f : List ℕ). FitsFree some.mid.room.region_len (length f) a b) free
                   (taken_fits some.mid.room a b m.measure m.regions m.taken (m.measured a b (told_on some.seen some.same m.two.0 a a_told) (told_on some.seen some.same m.two.1 b b_told))));
               holds = merged_told at some.mid some.seen m some.same well.stays (part_in old.room.parts new.room.parts two);
+              tells = joined_told at some.mid some.seen m some.same well.stays (part_in old.room.parts new.room.parts two);
               of_chain = of_chain_first;
               measure = m.measure;
               read = read_back view some.seen m.two.0 m.two.1 m.measure some.same m.read;

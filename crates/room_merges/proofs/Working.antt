@@ -21,6 +21,7 @@ use Rattle.partition_index.specs.Parts.{CountsFaults}
 use Rattle.partition_index.specs.Search.{TellsRows as TellsPart}
 use Rattle.partition_merge.specs.declared.merger.Merger.{Merger}
 use Rattle.partition_merge.specs.Blocks.{BlocksValue, Gives, IsAhead, IsAtStart, SameBlocks}
+use Rattle.partition_merge.specs.Joined.{GivesJoined, IsJoined}
 use Rattle.partition_merge.specs.Mergers.{AreKept, BlamesEntry, BlamesRow, at_front, newer_part, older_part}
 use Rattle.partition_merge.proofs.Lengths.{handed_len}
 use Rattle.epoch_room.specs.Meaning.{Keeps}
@@ -38,7 +39,7 @@ use Rattle.room_merges.specs.declared.fault.MergeFault.{MergeFault}
 use Rattle.room_merges.specs.declared.fault.MergeFault.TheVariants as merge_fault
 use Rattle.room_merges.specs.Merging.{EyeTells, IsOut, OfTold}
 use Rattle.room_merges.specs.Work.{AllOr, BlamedBy, Blames, FallsShut, IsLosing, IsWriting, Looks, LosesFor, RefusesOr, StaysOpen, StepsOr, WritesAll, WritesBlock, WritesNext, same_job}
-use Rattle.room_merges.proofs.Chained.{blocks_begin, blocks_end, blocks_go_on, told_before}
+use Rattle.room_merges.proofs.Chained.{blocks_begin, blocks_end, blocks_go_on, joining_begins, joining_ends, joining_goes_on, told_before}
 
 -- what holds of a value that is there
 pub some_of : {A : Type 0} (o : Option A) (x : A) (P : A → Type 0) → o ≡ Some x → IfSome o P → P x
@@ -281,12 +282,13 @@ module _ (view view' : ViewValue) (job job' : Job) (same : SameView view view') 
 
 pub next_ended : (header : Header) (value : RoomValue) (view view' : ViewValue) (blocks blocks' : BlocksValue) (job : Job) → IsWhole value → value.room.job ≡ Some job
     → SameView view view' → view'.eye.faults ≡ view.eye.faults → ((handed : List ℕ) (a b : List Row) → IsAhead view.eye blocks handed a b → Gives view'.eye blocks' handed a b false)
+    → ((start : Merger) (handed : List ℕ) → IsJoined view.eye.told start blocks handed → GivesJoined view.eye.told start blocks' handed false)
     → IsWriting value view blocks job → WritesNext header value value view view' blocks' job job (Ok progress.Ended)
-next_ended header value view view' blocks blocks' job whole out same steady ends was = record {
+next_ended header value view view' blocks blocks' job whole out same steady ends joined was = record {
   room = stays_itself value (Some job) whole out;
   looks = looks_sound view view' (Ok progress.Ended) same steady (λ failed. cc);
   same = refl;
-  next = blocks_end value view view' blocks job same ends was.between;
+  next = let body = blocks_end value view view' blocks job same ends was.between in (body.0, body.1, joining_ends value view view' blocks job same joined was.joining);
 }
 
 -- a block was taken through the view, and no read failed
@@ -297,6 +299,7 @@ pub record Takes (view view' : ViewValue) (blocks blocks' : BlocksValue) : Type 
   pub kept : AreKept view.eye.told blocks'.merger
   pub some : 1 ≤ length blocks'.block
   pub gives : (handed : List ℕ) (a b : List Row) → IsAhead view.eye blocks handed a b → IsAhead view'.eye blocks' (handed ++ blocks'.block) a b
+  pub joined : (start : Merger) (handed : List ℕ) → IsJoined view.eye.told start blocks handed → IsJoined view.eye.told start blocks' (handed ++ blocks'.block)
 
 pub next_written : (header : Header) (old new : RoomValue) (view view' : ViewValue) (blocks blocks' : BlocksValue) (job job' : Job) (result : Result Progress MergeFault) → Takes view view' blocks blocks'
     → IsWriting old view blocks job → WritesBlock header blocks'.block old new job job' result → WritesNext header old new view view' blocks' job job' result
@@ -314,6 +317,7 @@ next_written header old new view view' blocks blocks' job job' (Ok progress.Writ
       few = (let most = takes.alike.most in let few = was.few in let len = done.room.keeps.becomes.region_len in omega (arith, most, few, len));
       kept = subst (λ told. AreKept told blocks'.merger) (sym takes.same.eye.told) takes.kept;
       between = blocks_go_on old new view view' blocks blocks' job job' takes.same (ap (λ (j : Job). j.older) done.same) (ap (λ (j : Job). j.newer) done.same) done.wrote.0 takes.gives done.wrote.2 was.between;
+      joining = joining_goes_on old new view view' blocks blocks' job job' takes.same (ap (λ (j : Job). j.older) done.same) (ap (λ (j : Job). j.newer) done.same) done.wrote.0 takes.joined done.wrote.2 was.joining;
     },
   );
 }
@@ -397,7 +401,7 @@ module _ (header : Header) (old mid new : RoomValue) (view seen view' : ViewValu
   }
     where
       by : (is_whole : Bool) → (is_whole ≡ true → job'.written ≡ body_len header) → (is_whole ≡ false → job'.written ≡ body_len header → ⊥) → AllOr header new view' job job' (Ok is_whole)
-      by true total less = (next.next.0, total refl)
+      by true total less = (next.next.0, total refl, next.next.2)
       by false total less = λ a b older_told newer_told is. less refl (next.next.1 a b older_told newer_told ∙ is)
 
   pub too_long : Writing header old mid view seen blocks job before → WritesNext header mid new seen view' blocks' before job' (Ok progress.TooLong) → WritesAll header old new view view' job job' (Ok false)
@@ -428,14 +432,15 @@ long_regions value whole = (let low = whole.geometry.len_low in let len = ap (λ
 pub begins : (value : RoomValue) (view : ViewValue) (blocks : BlocksValue) (job : Job) (region_len most : ℕ) → IsOut value view → Contains view.parts job.older → Contains view.parts job.newer
     → job.written ≡ 0 → region_len ≡ value.room.region_len → most < region_len → IsAtStart job.older job.newer region_len most blocks → ((known : Option Image) → AreKept known blocks.merger)
     → ((eye : Eye) (a b : List Row) → TellsPart eye job.older a → TellsPart eye job.newer b → rows_len (merged a b) < 4294967296 → IsAhead eye blocks [] a b)
-    → IsWriting value view blocks job
-begins value view blocks job region_len most out has_older has_newer none is_len few at kept ahead = record {
+    → ((known : Option Image) → IsJoined known (at_front job.older job.newer region_len) blocks []) → IsWriting value view blocks job
+begins value view blocks job region_len most out has_older has_newer none is_len few at kept ahead joined = record {
   older = ap older_part at.merger;
   newer = ap newer_part at.merger;
   region_len = ap (λ (m : Merger). m.region_len) at.merger ∙ is_len ∙ sym out.region_len;
   few = (let most_is = at.most_is in omega (arith, most_is, few, is_len));
   kept = kept view.eye.told;
   between = blocks_begin value view blocks job out has_older has_newer none ahead;
+  joining = joining_begins value view blocks job region_len out none (is_len ∙ sym out.region_len) joined;
 }
 
 pub none_allocated : (header : Header) (value : RoomValue) (view : ViewValue) (job : Job) → IsWhole value → value.room.job ≡ Some job → WritesAll header value value view view job job (Err (merge_fault.Room room_fault.NoMemory))

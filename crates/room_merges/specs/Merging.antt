@@ -1,19 +1,21 @@
 -- What is read through a view on the board, and what the room asks of a merged body.
-use Rattle.std.specs.Prelude.{◌≡◌, ℕ, ◌+◌, ◌<◌, true, List, [], ◌∷◌, ◌++◌, length, Contains, Some, option_map}
+use Rattle.std.specs.Prelude.{◌≡◌, ℕ, ◌+◌, ◌<◌, true, List, [], ◌∷◌, ◌++◌, length, Contains, Option, Some, option_map}
 use Rattle.fine_model.specs.declared.Header.{Header}
 use Rattle.fine_model.specs.declared.Job.{Job}
 use Rattle.fine_model.specs.declared.Part.{Part}
 use Rattle.fine_model.specs.declared.Row.{Row}
 use Rattle.fine_model.specs.Jobs.{held_for}
 use Rattle.fine_model.specs.Merge.{cost, merged}
-use Rattle.fine_model.specs.Regions.{body_bytes}
+use Rattle.fine_model.specs.Regions.{Image, body_bytes}
 use Rattle.fine_model.specs.RowBytes.{rows_len}
 use Rattle.fine_model.specs.Views.{TellsRowsOf}
 use Rattle.log_disk.specs.Disk.{Eye}
 use Rattle.partition_index.specs.Search.{TellsRows as TellsPart}
 use Rattle.partition_merge.specs.declared.merger.Measure.{Measure}
+use Rattle.partition_merge.specs.declared.merger.Merger.{Merger}
 use Rattle.partition_merge.specs.Blocks.{BlocksValue, IsAhead}
-use Rattle.partition_merge.specs.Mergers.{measure_of}
+use Rattle.partition_merge.specs.Joined.{IsJoined, IsJoinedBody}
+use Rattle.partition_merge.specs.Mergers.{at_front, measure_of}
 use Rattle.partition_hold.specs.Views.{IsView, SameView, ViewValue}
 use Rattle.epoch_room.specs.MergeSealing.{IsWrittenOut}
 use Rattle.epoch_room.specs.Returns.{IsPosted}
@@ -34,6 +36,10 @@ EyeTells view p rows = TellsRowsOf view.eye.told view.region_len (p ∷ []) rows
 -- so of all rows that the view's eye tells of two parts
 abbrev pub OfTold : ViewValue → Part → Part → (List Row → List Row → Type 0) → Type 0
 OfTold view older newer P = (a b : List Row) → EyeTells view older a → EyeTells view newer b → P a b
+
+-- so of the bytes that the view's eye tells, in the grammar or not
+abbrev pub OfBytes : ViewValue → (Image → Type 0) → Type 0
+OfBytes view P = (image : Image) → view.eye.told ≡ Some image → P image
 
 -- what a read of the disk tells of a part of a view that is out, its eye tells too
 abbrev pub ShownByEye : Type 0
@@ -92,6 +98,44 @@ BlocksEnd =
     (value : RoomValue) (view view' : ViewValue) (blocks : BlocksValue) (job : Job) → SameView view view'
     → ((handed : List ℕ) (a b : List Row) → IsAhead view.eye blocks handed a b → handed ≡ body_bytes (merged a b))
     → IsBetween value view blocks job → HoldsBody value view' job × CountsBody view' job
+
+-- ---- the blocks, whatever is read
+
+-- a merger of the parts of a job, at their front, as the view reads them
+abbrev pub merger_of : ViewValue → Job → Merger
+merger_of view job = at_front job.older job.newer view.region_len
+
+-- bytes stand in the job's target, and the job counts them
+abbrev pub StandsIn : RoomValue → Job → List ℕ → Type 0
+StandsIn value job bytes = (held_for value.room.image job ≡ Some bytes) × (length bytes ≡ job.written)
+
+-- between two blocks: what was handed out stands in the job's target, made of the lists of rows that were joined so far
+abbrev pub IsJoining : RoomValue → ViewValue → BlocksValue → Job → Type 0
+IsJoining value view blocks job = OfBytes view (λ image. (handed : List ℕ) × IsJoined (Some image) (merger_of view job) blocks handed × StandsIn value job handed)
+
+-- the body of all joined lists of rows stands in the job's target
+abbrev pub HoldsJoined : RoomValue → ViewValue → Job → Type 0
+HoldsJoined value view job = OfBytes view (λ image. (bytes : List ℕ) × IsJoinedBody (Some image) (merger_of view job) bytes × StandsIn value job bytes)
+
+-- as it begins, goes on with a block, and ends
+abbrev pub JoiningBegins : Type 0
+JoiningBegins =
+    (value : RoomValue) (view : ViewValue) (blocks : BlocksValue) (job : Job) (region_len : ℕ) → IsOut value view → job.written ≡ 0 → region_len ≡ view.region_len
+    → ((known : Option Image) → IsJoined known (at_front job.older job.newer region_len) blocks []) → IsJoining value view blocks job
+
+abbrev pub JoiningGoesOn : Type 0
+JoiningGoesOn =
+    (old new : RoomValue) (view view' : ViewValue) (blocks blocks' : BlocksValue) (job job' : Job) → SameView view view'
+    → job'.older ≡ job.older → job'.newer ≡ job.newer → job'.written ≡ job.written + length blocks'.block
+    → ((start : Merger) (handed : List ℕ) → IsJoined view.eye.told start blocks handed → IsJoined view.eye.told start blocks' (handed ++ blocks'.block))
+    → held_for new.room.image job' ≡ option_map (λ held. held ++ blocks'.block) (held_for old.room.image job)
+    → IsJoining old view blocks job → IsJoining new view' blocks' job'
+
+abbrev pub JoiningEnds : Type 0
+JoiningEnds =
+    (value : RoomValue) (view view' : ViewValue) (blocks : BlocksValue) (job : Job) → SameView view view'
+    → ((start : Merger) (handed : List ℕ) → IsJoined view.eye.told start blocks handed → IsJoinedBody view.eye.told start handed)
+    → IsJoining value view blocks job → HoldsJoined value view' job
 
 -- ---- the end
 

@@ -2,17 +2,20 @@
 use Rattle.std.specs.Prelude.{◌≡◌, ◌⊎◌, ℕ, ◌+◌, ◌<◌, ◌≤◌, Bool, true, false, List, [], ◌∷◌, ◌++◌, drop, length, Contains, None, Some, Result, Ok, Err, ⊤}
 use Rattle.fine_model.specs.declared.FetchFault.{FetchFault}
 use Rattle.fine_model.specs.declared.FetchFault.TheVariants as fetch_fault
+use Rattle.fine_model.specs.declared.NodeId.{NodeId}
 use Rattle.fine_model.specs.declared.Part.{Part}
 use Rattle.fine_model.specs.declared.Row.{Row}
 use Rattle.fine_model.specs.Causes.{NoneFit}
 use Rattle.fine_model.specs.Chain.{regions_of}
 use Rattle.fine_model.specs.ChainLaws.{part_of}
 use Rattle.fine_model.specs.Merge.{FitsFree, merged as rows_of_both}
+use Rattle.fine_model.specs.Nodes.{rows_of}
 use Rattle.fine_model.specs.Regions.{Image}
 use Rattle.fine_model.specs.Views.{SameSeen, TellsRowsOf}
 use Rattle.log_disk.specs.Disk.{HasRisen}
 use Rattle.partition_hold.specs.Views.{IsView, SameView, ViewValue}
 use Rattle.partition_merge.specs.declared.merger.Measure.{Measure}
+use Rattle.partition_merge.specs.Joined.{IsMergedOf}
 use Rattle.partition_merge.specs.Mergers.{IsMeasureOf, at_front}
 use Rattle.epoch_room.specs.Erasing.{ErasesAllOr}
 use Rattle.epoch_room.specs.Meaning.{Keeps}
@@ -25,7 +28,7 @@ use Rattle.epoch_room.specs.declared.answers.RoomFault.TheVariants as room_fault
 use Rattle.room_merges.specs.declared.fault.MergeFault.{MergeFault}
 use Rattle.room_merges.specs.declared.fault.MergeFault.TheVariants as merge_fault
 use Rattle.room_merges.specs.Live.{KeepsLive}
-use Rattle.room_merges.specs.Merging.{EyeTells, OfTold}
+use Rattle.room_merges.specs.Merging.{EyeTells, OfBytes, OfTold}
 use Rattle.room_merges.specs.Pairs.{IsPassedOver, LosesPart, Merges, header_for, job_for}
 use Rattle.room_merges.specs.Work.{BlamedBy, FallsShut, Looks, StaysOpen}
 
@@ -209,6 +212,12 @@ pub record IsReadRefused (old new : RoomValue) (fault : FetchFault) : Type 0 whe
   pub shown : (p : Part) (rows : List Row) → Contains new.room.parts p → TellsRowsOf new.room.image new.room.region_len (p ∷ []) rows → EyeTells view p rows
   pub blames : BlamesTwo new view fault
 
+-- A read of the disk tells rows of a part, of each node those into which the rows are merged that a look for it finds in two parts.
+pub record TellsJoined (value : RoomValue) (image : Image) (two : Part × Part) (p : Part) : Type 0 where
+  pub rows : List Row
+  pub told : TellsRowsOf value.room.image value.room.region_len (p ∷ []) rows
+  pub each : (id : NodeId) → IsMergedOf image two.0 two.1 id (rows_of id rows)
+
 -- The two that were merged fit what was free, and none before them did, where a view of the chain told them, which told what a read of the
 -- disk did: tried are the neighbours from an epoch on, in chain order, and then those before it.
 pub record MergesFirst (from : ℕ) (old new : RoomValue) : Type 0 where
@@ -221,6 +230,8 @@ pub record MergesFirst (from : ℕ) (old new : RoomValue) : Type 0 where
   pub fits : OfTold view merged.two.0 merged.two.1 (FitsFree old.room.region_len (length old.room.free))
   -- a read of the disk tells the merged rows of both as those of the new part
   pub holds : OfTold view merged.two.0 merged.two.1 (λ a b. TellsRowsOf new.room.image new.room.region_len (merged.part ∷ []) (rows_of_both a b))
+  -- So of any two, in the grammar or not, where a read of the disk tells bytes: the new part tells rows, of each node those that are found in both, merged.
+  pub tells : OfBytes view (λ image. TellsJoined new image merged.two merged.part)
   -- Of any two, in the grammar or not: a measure of them was read, and the new part has it in its header and lies over the lowest free
   -- regions, as few as it needs.
   pub of_chain : IsViewOf old view

@@ -6,9 +6,10 @@ use Rattle.fine_model.specs.declared.Part.{Part}
 use Rattle.fine_model.specs.declared.law.RoomState.{RoomState}
 use Rattle.fine_model.specs.Jobs.{held_for}
 use Rattle.fine_model.specs.Merge.{FitsFree, cost, merged}
-use Rattle.fine_model.specs.Regions.{body_bytes, body_len}
+use Rattle.fine_model.specs.Regions.{Image, body_bytes, body_len}
 use Rattle.partition_hold.specs.Views.{ViewValue}
 use Rattle.partition_merge.specs.declared.merger.Measure.{Measure}
+use Rattle.partition_merge.specs.Joined.{IsBodyMeasured}
 use Rattle.partition_merge.specs.Mergers.{IsMeasureOf, at_front}
 use Rattle.epoch_room.specs.Meaning.{Keeps}
 use Rattle.epoch_room.specs.MergeSealing.{merged_state}
@@ -19,7 +20,7 @@ use Rattle.epoch_room.specs.declared.answers.RoomFault.{RoomFault}
 use Rattle.epoch_room.specs.declared.answers.RoomFault.TheVariants as room_fault
 use Rattle.room_merges.specs.declared.fault.MergeFault.{MergeFault}
 use Rattle.room_merges.specs.declared.fault.MergeFault.TheVariants as merge_fault
-use Rattle.room_merges.specs.Merging.{Measures, OfTold}
+use Rattle.room_merges.specs.Merging.{HoldsJoined, Measures, OfBytes, OfTold}
 use Rattle.room_merges.specs.Work.{BlamedBy, FallsShut, Looks, LosesFor, RefusesOr, StaysOpen, same_job}
 
 -- the neighbours that are tried: the first two of which the older one begins at an epoch or later, and the view has both
@@ -35,6 +36,10 @@ header_for two measure regions free = header_over (fresh_job two) measure region
 abbrev pub job_for : Part × Part → Measure → ℕ → List ℕ → Job
 job_for two measure regions free = same_job (taken_job (fresh_job two) measure regions free) (measured_len measure)
 
+-- the body of rows in order, which a measure counts, stands in a job's target; they were read of two parts and merged
+abbrev pub HoldsMeasured : RoomValue → Job → Image → Part × Part → Measure → Type 0
+HoldsMeasured value job image two measure = (bytes : List ℕ) × IsBodyMeasured image two.0 two.1 measure bytes × (held_for value.room.image job ≡ Some bytes)
+
 -- Two neighbours are one part now, over the lowest free regions, as few as its rows need; the two are retired, and all is synced. Its rows
 -- are the merged rows of both, in order, where the view's eye tells both, as it does where a read of the disk did.
 pub record Merges (from : ℕ) (old new : RoomValue) (view : ViewValue) : Type 0 where
@@ -49,6 +54,8 @@ pub record Merges (from : ℕ) (old new : RoomValue) (view : ViewValue) : Type 0
   pub synced : new.disk.unsynced ≡ []
   pub room : Does (merged_state (record old.room { free = drop regions old.room.free }) (job_for two measure regions old.room.free) (header_for two measure regions old.room.free)) old.target old new
   pub body : OfTold view two.0 two.1 (λ a b. held_for new.room.image (job_for two measure regions old.room.free) ≡ Some (body_bytes (merged a b)))
+  -- of any two, in the grammar or not: the body is that of rows in order, which were measured, of each node those that are found in both, merged
+  pub joined : OfBytes view (λ image. HoldsMeasured new (job_for two measure regions old.room.free) image two measure)
   pub keeps : Keeps old new
 
 -- the room was open, and is as it was but for what its disk holds
@@ -121,6 +128,7 @@ pub record IsPartSealed (header : Header) (old new : RoomValue) (view' : ViewVal
   pub synced : new.disk.unsynced ≡ []
   pub room : Does (merged_state old.room (same_job job (body_len header)) header) old.target old new
   pub body : OfTold view' job.older job.newer (λ a b. held_for new.room.image (same_job job (body_len header)) ≡ Some (body_bytes (merged a b)))
+  pub joined : HoldsJoined new view' (same_job job (body_len header))
   pub keeps : Keeps old new
 
 -- what sealing a job whose body is written does
@@ -147,6 +155,7 @@ pub record IsJobMerged (measure : Measure) (old new : RoomValue) (view' : ViewVa
   pub synced : new.disk.unsynced ≡ []
   pub room : Does (merged_state (record old.room { free = drop regions old.room.free }) (job_for two measure regions old.room.free) (header_for two measure regions old.room.free)) old.target old new
   pub body : OfTold view' two.0 two.1 (λ a b. held_for new.room.image (job_for two measure regions old.room.free) ≡ Some (body_bytes (merged a b)))
+  pub joined : HoldsJoined new view' (job_for two measure regions old.room.free)
   pub keeps : Keeps old new
 
 abbrev pub JobOr : Measure → RoomValue → RoomValue → ViewValue → Part × Part → Job → Result Bool MergeFault → Type 0

@@ -18,7 +18,7 @@ use Rattle.epoch_room.specs.MergeSteps.{touched}
 use Rattle.epoch_room.specs.Steps.{Fails, KeepsCounts}
 use Rattle.epoch_room.specs.Value.{RoomValue, on}
 use Rattle.epoch_room.specs.declared.answers.RoomFault.TheVariants as room_fault
-use Rattle.room_merges.specs.Merging.{CountsBody, HoldsBody, IsBetween, OfTold}
+use Rattle.room_merges.specs.Merging.{CountsBody, HoldsBody, HoldsJoined, IsBetween, IsJoining, OfTold}
 use Rattle.room_merges.specs.declared.body.Progress.{Progress}
 use Rattle.room_merges.specs.declared.body.Progress.TheVariants as progress
 use Rattle.room_merges.specs.declared.fault.MergeFault.{MergeFault}
@@ -99,6 +99,7 @@ pub record IsWriting (room : RoomValue) (view : ViewValue) (blocks : BlocksValue
   pub few : blocks.most < room.room.region_len
   pub kept : AreKept view.eye.told blocks.merger
   pub between : IsBetween room view blocks job
+  pub joining : IsJoining room view blocks job
 
 -- a block stands in the job's target behind those before it; or the body has no room for it, and nothing was written
 abbrev pub BlockOr : Header → List ℕ → RoomValue → RoomValue → Job → Job → Result Progress MergeFault → Type 0
@@ -119,7 +120,7 @@ pub record WritesBlock (header : Header) (block : List ℕ) (old new : RoomValue
 -- a block more; or all of them, and the merged rows have as many bytes as were written; or merged rows that are longer than the header says
 abbrev pub NextOr : Header → RoomValue → ViewValue → BlocksValue → Job → Job → Result Progress MergeFault → Type 0
 NextOr header new view' blocks' job job' (Ok progress.Written) = (job.written < job'.written) × (job'.written ≤ body_len header) × IsWriting new view' blocks' job'
-NextOr header new view' blocks' job job' (Ok progress.Ended) = HoldsBody new view' job' × CountsBody view' job'
+NextOr header new view' blocks' job job' (Ok progress.Ended) = HoldsBody new view' job' × CountsBody view' job' × HoldsJoined new view' job'
 NextOr header new view' blocks' job job' (Ok progress.TooLong) = OfTold view' job'.older job'.newer (λ a b. body_len header < cost (merged a b))
 NextOr header new view' blocks' job job' (Err fault) = BlamedBy view' job.older job.newer fault
 
@@ -132,7 +133,7 @@ pub record WritesNext (header : Header) (old new : RoomValue) (view view' : View
 
 -- the whole body, as long as the header says; or the merged rows have not as many bytes as the header says
 abbrev pub AllOr : Header → RoomValue → ViewValue → Job → Job → Result Bool MergeFault → Type 0
-AllOr header new view' job job' (Ok true) = HoldsBody new view' job' × (job'.written ≡ body_len header)
+AllOr header new view' job job' (Ok true) = HoldsBody new view' job' × (job'.written ≡ body_len header) × HoldsJoined new view' job'
 AllOr header new view' job job' (Ok false) = OfTold view' job'.older job'.newer (λ a b. cost (merged a b) ≡ body_len header → ⊥)
 AllOr header new view' job job' (Err fault) = BlamedBy view' job.older job.newer fault
 

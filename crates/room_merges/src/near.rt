@@ -167,7 +167,8 @@ fn merge_erased<D: LogDisk>(
 /// the older one begins at an epoch or later, in chain order, and then those before it. No view is out, and no merge, before and after.
 ///
 /// True exactly where two were merged: the chain has a part less, over the lowest regions that were free, and none is retired; where both
-/// are in the grammar, the new part holds their merged rows. False where no neighbours fit what is free, by what a read of the disk gives;
+/// are in the grammar, the new part holds their merged rows. On a disk that tells its bytes the new part is in the grammar, be the two in it
+/// or not, and has of each node the rows into which those are merged that a look for it finds in both. False where no neighbours fit what is free, by what a read of the disk gives;
 /// none is retired then either, and the chain is as it was. Of each two that are passed over a measure was read. Whatever the answer, each
 /// part that stays in the chain has the bytes that it had, in the grammar or not, by what a read of the disk gives.
 ///

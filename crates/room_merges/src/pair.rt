@@ -7,7 +7,7 @@ ghost use Rattle.epoch_room.specs.MergeSteps.{free_dropped, fresh_job, with_job}
 ghost use Rattle.epoch_room.specs.Whole.{IsWhole};
 ghost use Rattle.epoch_room.specs.Returns.{IsPosted};
 ghost use Rattle.partition_merge.specs.Mergers.{IsCounted};
-ghost use Rattle.room_merges.specs.Merging.{HoldsBody, Measures};
+ghost use Rattle.room_merges.specs.Merging.{HoldsBody, HoldsJoined, Measures};
 ghost use Rattle.room_merges.specs.Pairs.{MergesJob, MergesMeasured, MergesPair, SealsPart, WritesPart, measure_in};
 
 use crate::body::write_body;
@@ -76,6 +76,7 @@ fn seal_part<D: LogDisk>(
     requires region_len { view.now.region_len ≡ room.old.room.region_len }
     requires measured { Measures view.now job.older job.newer (measure_in header) }
     requires body { HoldsBody room.old view.now job }
+    requires joined { HoldsJoined room.old view.now job }
     ensures { SealsPart header room.old room.new view.now job result }
 {
     let _counts = room.counts();

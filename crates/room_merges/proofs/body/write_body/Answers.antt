@@ -9,7 +9,7 @@ pub write_blocks-requires-clause-writing : goal.write_blocks-requires-clause-wri
 write_blocks-requires-clause-writing g c κs within =
     begins c.args.room.now c.args.view.now c.in-Ok.blocks c.args.job.now c.region_len-region_len.result c.most_in_block-most.result
     (record { whole = c.counts-counts.ensures.whole; is_view = c.parts-parts.ensures.whole; posted = c.requires.posted; region_len = c.requires.region_len })
-    c.requires.older c.requires.newer c.requires.none c.region_len-region_len.ensures c.most_in_block-most.ensures.few c.in-Ok.ensures.made c.in-Ok.ensures.kept c.in-Ok.ensures.ahead
+    c.requires.older c.requires.newer c.requires.none c.region_len-region_len.ensures c.most_in_block-most.ensures.few c.in-Ok.ensures.made c.in-Ok.ensures.kept c.in-Ok.ensures.ahead c.in-Ok.ensures.joined
 
 pub returns-in-Ok : goal.returns-in-Ok
 returns-in-Ok g c = c.write_blocks.ensures

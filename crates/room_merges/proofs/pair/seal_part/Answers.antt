@@ -16,7 +16,7 @@ merge_seal-requires-clause-written g c κs within =
 
 pub returns-in-Ok : goal.returns-in-Ok
 returns-in-Ok g c =
-    seals c.args.header c.args.room.now c.merge_seal.new.self c.args.view.now c.args.job tt c.requires.taken c.requires.total c.merge_seal.ensures.keeps c.requires.body
+    seals c.args.header c.args.room.now c.merge_seal.new.self c.args.view.now c.args.job tt c.requires.taken c.requires.total c.merge_seal.ensures.keeps c.requires.body c.requires.joined
     (subst (λ (r : Result (Unit {0}) (RoomFault × Job)). SealsJobOr c.args.room.now c.merge_seal.new.self c.args.job c.args.header r) c.in-Ok.is
     (some_of c.args.job.header c.args.header (λ header. SealsJobOr c.args.room.now c.merge_seal.new.self c.args.job header c.merge_seal.result) c.requires.taken c.merge_seal.ensures.room))
 

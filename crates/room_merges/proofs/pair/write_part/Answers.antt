@@ -71,6 +71,12 @@ seal_part-requires-clause-body g c κs within =
     subst (λ (r : Result Bool MergeFault). WritesAll c.args.header c.args.room.now c.write_body.new.room c.args.view.now c.write_body.new.view c.args.job.now c.write_body.new.job r) (c.in-Ok.is ∙ ap (λ b. Ok b) c.if-is_whole.true) c.write_body.ensures in
     wrote.all.0
 
+pub seal_part-requires-clause-joined : goal.seal_part-requires-clause-joined
+seal_part-requires-clause-joined g c κs within =
+    let wrote =
+    subst (λ (r : Result Bool MergeFault). WritesAll c.args.header c.args.room.now c.write_body.new.room c.args.view.now c.write_body.new.view c.args.job.now c.write_body.new.job r) (c.in-Ok.is ∙ ap (λ b. Ok b) c.if-is_whole.true) c.write_body.ensures in
+    wrote.all.2
+
 pub returns-in-Ok-seal_part : goal.returns-in-Ok-seal_part
 returns-in-Ok-seal_part g c =
     let wrote = subst (λ (r : Result Bool MergeFault). WritesAll c.args.header c.args.room.now c.write_body.new.room c.args.view.now c.write_body.new.view c.args.job.now c.write_body.new.job r) (c.in-Ok.is ∙ ap (λ b. Ok b) c.if-is_whole.true) c.write_body.ensures in

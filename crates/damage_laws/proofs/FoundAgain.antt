@@ -21,6 +21,7 @@ use Rattle.fine_model.proofs.NodeLaws.{replay-append}
 use Rattle.fine_model.proofs.Spelling.{flat_spelling, row_spelling}
 use Rattle.fine_model.proofs.Zip.{all_left, all_right}
 use Rattle.node_fetch.proofs.Parts.{forgets}
+use Rattle.partition_merge.specs.Joined.{IsFoundIn}
 use Rattle.damage_laws.specs.Again.{AgainLaw, BothLaw, OnceLaw}
 
 -- a span holds one list of rows at most
@@ -39,8 +40,9 @@ entry_once header body id a b h k =
     let spans : ◌≡◌ {A = Result RowSpan ℕ} (Ok h.span) (Ok k.span) = sym h.is_span ∙ ap (span_at header body) same ∙ k.is_span in
     let span : h.span ≡ k.span = cc in span_once header body k.span id a b (subst (λ s. SpanHolds header body s id a) span h.holds) k.holds
 
-pub once_law : OnceLaw
-once_law region_len image id p a b f g = by f.found g.found
+-- a look for a node in a part finds one list of rows
+pub looked_once : (image : Image) (id : NodeId) (p : Part) (a b : List Row) → IsFoundIn image p id a → IsFoundIn image p id b → a ≡ b
+looked_once image id p a b f g = by f g
   where
     body : List ℕ
     body = body_in image p.region p.header
@@ -53,6 +55,9 @@ once_law region_len image id p a b f g = by f.found g.found
     by (inl x) (inr k) = absurd (never b x.1 k)
     by (inr h) (inl y) = absurd (never a y.1 h)
     by (inr h) (inr k) = entry_once p.header body id a b h k
+
+pub once_law : OnceLaw
+once_law region_len image id p a b f g = looked_once image id p a b f.found g.found
 
 head_same : {A : Type 0} (x y : A) (xs ys : List A) → x ∷ xs ≡ y ∷ ys → x ≡ y
 head_same x y xs ys e = cc

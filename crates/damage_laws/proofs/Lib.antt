@@ -1,4 +1,12 @@
+pub mod Counted
+pub mod Firm
+pub mod Joins
 pub mod Kept
+pub mod Loads
+pub mod Rising
+pub mod RowsGoOn
+pub mod RowsRise
+pub mod WayApart
 pub mod SameUnfit
 pub mod SamePushes
 pub mod Opened
@@ -6,4 +14,5 @@ pub mod MergedFinds
 pub mod GoodFinds
 pub mod Meeting
 pub mod FoundAgain
+pub mod AllFirm
 pub mod Anew

@@ -49,7 +49,7 @@ module _ (region_len : ℕ) (entry : Image) (parts : List Part) where
   abbrev IsFoundIn : ℕ → (ℕ → Content) → Type 0
   IsFoundIn k nodes = (number : ℕ) → FindsMerged region_len entry parts (record { bucket = k; number = number }) (nodes number) ⊎ (nodes number ≡ (node.Broken, 0))
 
-  build : (new : Cache) (k : ℕ) (calls : List Call) (rows : List Row) (nodes : ℕ → Content) → new.bucket ≡ k → IsFoundIn k nodes → GoBy k nodes calls rows → ((n : ℕ) → IsCached new n → given new n ≡ with_rows k nodes rows n)
+  unfoldable pub build : (new : Cache) (k : ℕ) (calls : List Call) (rows : List Row) (nodes : ℕ → Content) → new.bucket ≡ k → IsFoundIn k nodes → GoBy k nodes calls rows → ((n : ℕ) → IsCached new n → given new n ≡ with_rows k nodes rows n)
       → GivesOn region_len entry parts new calls rows
   build new k calls rows nodes same found goes gives = record {
     nodes = nodes;
@@ -208,11 +208,11 @@ meets_law reads_all script history region_len entry parts b committed own rows i
 
 -- ---- an open transaction
 
-given_some : (b : Cache) (n : ℕ) (kept : Cached) → cached b n ≡ Some kept → given b n ≡ (kept.node, kept.version)
+pub given_some : (b : Cache) (n : ℕ) (kept : Cached) → cached b n ≡ Some kept → given b n ≡ (kept.node, kept.version)
 unfolding given
 given_some b n kept e = ap (λ o. unwrap_or (option_map (λ k. (k.node, k.version)) o) (node.Broken, 0)) e
 
-given_same : (a b : Cache) (n : ℕ) → cached a n ≡ cached b n → given a n ≡ given b n
+pub given_same : (a b : Cache) (n : ℕ) → cached a n ≡ cached b n → given a n ≡ given b n
 unfolding given
 given_same a b n e = ap (λ o. unwrap_or (option_map (λ k. (k.node, k.version)) o) (node.Broken, 0)) e
 

@@ -11,12 +11,13 @@ use Rattle.fine_model.proofs.Zip.{all_right}
 use Rattle.fine_model.specs.declared.NodeId.{NodeId}
 use Rattle.fine_model.specs.declared.Part.{Part}
 use Rattle.fine_model.specs.declared.Row.{Row}
-use Rattle.fine_model.specs.Damages.{FindsContent, FindsRows, has_image_first}
+use Rattle.fine_model.specs.Damages.{FindsContent, FindsMerged, FindsRows, has_image_first}
 use Rattle.fine_model.specs.Merge.{is_image, merged, merged_node, starts_afresh}
 use Rattle.fine_model.specs.Nodes.{Content, base, content, replay, rows_of}
 use Rattle.fine_model.specs.Regions.{Image}
 use Rattle.node_fetch.proofs.Blames as blames
 use Rattle.node_fetch.proofs.Parts.{forgets}
+use Rattle.damage_laws.specs.Firm.{MergedAgainLaw}
 use Rattle.damage_laws.specs.Made.{AreMadeOf, FetchLaw, FindsIn, FoundOn, IsMadeOf, JoinedLaw, KeptLaw, Made, MergedLaw, SealedLaw, Source, all_of, at_entry, merged_rows, since, sources}
 use Rattle.damage_laws.proofs.Kept.{found_law}
 use Rattle.damage_laws.proofs.Opened.{IsFound, IsReady, Item, LeftBy, Opens, flat, has_image, image_first, opens_both, opens_made, opens_nothing}
@@ -203,7 +204,7 @@ module _ (region_len : ℕ) (entry : Image) (id : NodeId) where
     by_either ready (inl f) = by_from f ready
     by_either ready (inr l) = by_since ready l
 
-  module _ (now : Image) (parts present : List Part) (sealed : List (List Row)) (found : Content) (m : AreMadeOf region_len entry now parts sealed present) (f : FindsContent region_len now present id found) where
+  module _ (now : Image) (parts present : List Part) (sealed : List (List Row)) (found : Content) (m : AreMadeOf region_len entry now parts sealed present) (f : FindsMerged region_len now present id found) where
     cut : IsCut m.made f.skipped (map (λ r. r.0) f.read)
     cut = cut_at f.skipped (map (λ r. r.0) f.read) m.made (sym f.whole ∙ m.are)
 
@@ -234,12 +235,30 @@ module _ (region_len : ℕ) (entry : Image) (id : NodeId) where
     first_read [] image = absurd (true≢false (sym image))
     first_read (r ∷ read) image = list_any-append (λ row. is_image row.rec) r.1 (flat_map (λ r. r.1) read) ∙ ap (λ b. b || has_image (flat_map (λ r. r.1) read)) image
 
-    by_why : (f.skipped ≡ []) ⊎ IsTrue (has_image_first f.read) → FoundOn region_len entry parts id sealed found
+    -- rows that need nothing before them leave what all that they go back to leaves, or the last of it
+    by_fresh : starts_afresh (flat_map (λ r. r.1) f.read) ≡ true → (replay (base id) (flat_map (λ r. r.1) f.read) ≡ replay (base id) (flat opened.items)) ⊎ LeftBy id opened.items (replay (base id) (flat_map (λ r. r.1) f.read))
+        → FoundOn region_len entry parts id sealed found
+    by_fresh fresh (inr l) = by_left l
+    by_fresh fresh (inl same) = by_left (record { front = []; back = opened.items; whole = refl; ready = inr (opened.fresh fresh); leaves = same })
+
+    by_why : (f.skipped ≡ []) ⊎ IsTrue (has_image_first f.read) ⊎ IsTrue (starts_afresh (flat_map (λ r. r.1) f.read)) → FoundOn region_len entry parts id sealed found
     by_why (inl none) = by_all none (opened.takes (base id))
-    by_why (inr image) = by_left (opened.images (first_read f.read image) (base id))
+    by_why (inr (inl image)) = by_left (opened.images (first_read f.read image) (base id))
+    by_why (inr (inr fresh)) = by_fresh fresh (opened.takes (base id))
+
+pub merged_again_law : MergedAgainLaw
+merged_again_law region_len was now before present sealed id found made finds = by_why region_len was id now before present sealed found made finds finds.why
+
+-- what a reader of parts finds is found whatever neighbours are merged
+pub as_merged : (region_len : ℕ) (image : Image) (parts : List Part) (id : NodeId) (found : Content) → FindsContent region_len image parts id found → FindsMerged region_len image parts id found
+as_merged region_len image parts id found f = record { skipped = f.skipped; read = f.read; whole = f.whole; each = f.each; why = either f.why; replayed = f.replayed }
+  where
+    either : (f.skipped ≡ []) ⊎ IsTrue (has_image_first f.read) → (f.skipped ≡ []) ⊎ IsTrue (has_image_first f.read) ⊎ IsTrue (starts_afresh (flat_map (λ r. r.1) f.read))
+    either (inl none) = inl none
+    either (inr image_first) = inr (inl image_first)
 
 pub merged_law : MergedLaw
-merged_law region_len entry now parts present sealed id found made finds = by_why region_len entry id now parts present sealed found made finds finds.why
+merged_law region_len entry now parts present sealed id found made finds = merged_again_law region_len entry now parts present sealed id found made (as_merged region_len now present id found finds)
 
 pub fetch_law : FetchLaw
 fetch_law eye entry now parts present sealed id found told made read = merged_law eye.region_len entry now parts present sealed id found made (blames.found_law eye now present id found told read)

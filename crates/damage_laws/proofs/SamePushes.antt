@@ -27,15 +27,15 @@ some_none : {A : Type 0} {x : A} → Some x ≡ None → ⊥
 some_none e = true≢false (ap is_some e)
 
 -- a head from which all nodes on the way of a key are fit
-record FitHead (bucket : ℕ) (nodes : ℕ → Content) (key : List ℕ) : Type 0 where
-  root : ℕ
-  next : ℕ
-  depth : ℕ
-  is : (nodes 0).0 ≡ node.Head root next depth
-  test : (nat_lt root next && nat_le 1 depth) ≡ true
-  fit : unfit_from (depth - 1) bucket nodes next key whole root ≡ None
+pub record FitHead (bucket : ℕ) (nodes : ℕ → Content) (key : List ℕ) : Type 0 where
+  pub root : ℕ
+  pub next : ℕ
+  pub depth : ℕ
+  pub is : (nodes 0).0 ≡ node.Head root next depth
+  pub test : (nat_lt root next && nat_le 1 depth) ≡ true
+  pub fit : unfit_from (depth - 1) bucket nodes next key whole root ≡ None
 
-head_of : (bucket : ℕ) (nodes : ℕ → Content) (key : List ℕ) → unfit_under bucket nodes key (nodes 0).0 ≡ None → FitHead bucket nodes key
+pub head_of : (bucket : ℕ) (nodes : ℕ → Content) (key : List ℕ) → unfit_under bucket nodes key (nodes 0).0 ≡ None → FitHead bucket nodes key
 unfolding unfit_under
 head_of bucket nodes key fit = by (nodes 0).0 refl fit
   where

@@ -1,6 +1,6 @@
 -- A node that is unfit by a call over contents of which each is another's or is not there is so over all of them: `FoundUnfit` of the model, where the
 -- call stays the same.
-use Rattle.std.proofs.Common.{◌≡◌, ◌∙◌, ℕ, List, Option, Some, subst, sym}
+use Rattle.std.proofs.Common.{◌≡◌, ◌∙◌, Some, subst, sym}
 use Rattle.fine_model.specs.declared.Call.TheVariants as call
 use Rattle.fine_model.specs.Paths.{unfit_under, unfit_between}
 use Rattle.fine_model.proofs.FoundUnfit.{under, of_scan}

@@ -5,3 +5,4 @@ pub mod Made
 pub mod Meets
 pub mod OpenTxns
 pub mod Again
+pub mod Firm

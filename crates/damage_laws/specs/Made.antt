@@ -13,6 +13,7 @@ use Rattle.fine_model.specs.VersionLaws.{HaveSameRows}
 use Rattle.node_fetch.specs.Fetched.{IsReplayOf}
 use Rattle.partition_index.specs.Parts.{IsSeen}
 use Rattle.partition_index.specs.Search.{TellsRows}
+use Rattle.partition_merge.specs.Joined.{IsFoundIn, IsMergedOf}
 use Rattle.damage_laws.specs.Places.{IsUnchanged}
 
 -- a part at entry, or rows that were sealed since
@@ -85,6 +86,18 @@ JoinedLaw =
     (region_len : ℕ) (entry now : Image) (p : Part) (a b : Made) (older newer : List Row) → HasHeader region_len now p.region p.header
     → IsSealed region_len now p.region p.header.range (merged older newer) → AreRowsAs region_len entry a older → AreRowsAs region_len entry b newer
     → IsMadeOf region_len entry now (joined a b) p × AreRowsAs region_len entry (joined a b) (merged older newer)
+
+-- What a look for a node finds in a part that an eye sees, in the grammar or not, is found.
+abbrev pub LookedUpLaw : Type 0
+LookedUpLaw = (eye : Eye) (image : Image) (p : Part) (id : NodeId) (rows : List Row) → IsSeen eye p → eye.told ≡ Some image → IsFoundIn image p id rows → FindsRows eye.region_len image id p rows
+
+-- A part that was merged of two, in the grammar or not, which an eye sees, is made of both: each node's rows are those that a look finds in them, merged.
+abbrev pub JoinsLaw : Type 0
+JoinsLaw =
+    (eye : Eye) (entry was now : Image) (a b : Made) (older newer p : Part) (rows : List Row) → IsSeen eye older → IsSeen eye newer → eye.told ≡ Some was
+    → IsMadeOf eye.region_len entry was a older → IsMadeOf eye.region_len entry was b newer
+    → HasHeader eye.region_len now p.region p.header → IsSealed eye.region_len now p.region p.header.range rows → ((id : NodeId) → IsMergedOf was older newer id (rows_of id rows))
+    → IsMadeOf eye.region_len entry now (joined a b) p
 
 -- ---- all parts
 

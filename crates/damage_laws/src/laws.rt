@@ -1,11 +1,12 @@
 //! Laws of damage that a run meets, each the contract of a function that does nothing.
 
 ghost use Rattle.damage_laws.specs.Again.{AgainLaw, BothLaw, OnceLaw, ReloadLaw};
+ghost use Rattle.damage_laws.specs.Firm.{CountedLaw, CreatedFirmLaw, FetchAllLaw, FirmFetchLaw, FirmLaw, FirstFetchLaw, FoundAllLaw, KeptFirmLaw, MergedAgainLaw, MergedAllLaw, RowsCountLaw, RowsGoFromLaw, SealedAllLaw, SealedFirmLaw};
 ghost use Rattle.damage_laws.specs.Goings.{GoesOnLaw, LoadLaw, MoreLaw};
 ghost use Rattle.damage_laws.specs.Looks.{KeyLaw, LookLaw, ScanLaw};
-ghost use Rattle.damage_laws.specs.Made.{FetchLaw, JoinedLaw, KeptLaw, KeptRowsLaw, MergedLaw, SealedLaw, SealedRowsLaw};
+ghost use Rattle.damage_laws.specs.Made.{FetchLaw, JoinedLaw, JoinsLaw, KeptLaw, KeptRowsLaw, LookedUpLaw, MergedLaw, SealedLaw, SealedRowsLaw};
 ghost use Rattle.damage_laws.specs.Meets.{AnewLaw, CallLaw, FewerLaw, FreshLaw, LoadedLaw, MeetsLaw, NewLaw, SameLaw};
-ghost use Rattle.damage_laws.specs.OpenTxns.{AbsentLaw, BeginLaw, OwnLaw, UndoneLaw};
+ghost use Rattle.damage_laws.specs.OpenTxns.{AbsentLaw, BeginLaw, OwnLaw, SeveralLaw, UndoneLaw};
 ghost use Rattle.damage_laws.specs.Places.{BodyLaw, EntryLaw, FoundLaw, PlaceLaw, RowLaw};
 
 /// What a fetch blames of the parts that are there now is a bad place of a part at entry, where each of them is one of these, with the
@@ -42,6 +43,8 @@ pub fn made_law()
     ensures kept_rows { KeptRowsLaw }
     ensures sealed_rows { SealedRowsLaw }
     ensures joined { JoinedLaw }
+    ensures looked_up { LookedUpLaw }
+    ensures joins { JoinsLaw }
     ensures merged { MergedLaw }
     ensures fetch { FetchLaw }
 {}
@@ -61,12 +64,13 @@ pub fn meets_law()
     ensures meets_all { MeetsLaw (Unit {0}) }
 {}
 
-/// The same of a bucket that an open transaction uses: at its start, behind a call more, and once a node was loaded that was neither cached nor saved.
+/// The same of a bucket that an open transaction uses: at its start, behind a call more, and once nodes were loaded that were neither cached nor saved.
 /// Undone, the bucket gives what the committed calls leave.
 pub fn open_law()
     ensures begin { BeginLaw }
     ensures own { OwnLaw }
     ensures absent { AbsentLaw }
+    ensures several { SeveralLaw }
     ensures undone { UndoneLaw }
 {}
 
@@ -77,4 +81,29 @@ pub fn again_law()
     ensures again { AgainLaw }
     ensures both { BothLaw }
     ensures reload { ReloadLaw }
+{}
+
+/// A content that was found of a node and is not broken is the only one that each later look finds, gone on by the rows of it that are sealed since: as neighbours are merged, and
+/// as rows are sealed that a run pushed. So it is of a node whose rows begin with an image. A fetch finds it, and else, of a node without rows since, what is found by the
+/// bytes at entry.
+pub fn firm_law()
+    ensures firm { FirmLaw }
+    ensures merged { MergedAgainLaw }
+    ensures kept { KeptFirmLaw }
+    ensures sealed { SealedFirmLaw }
+    ensures created { CreatedFirmLaw }
+    ensures fetch { FirmFetchLaw }
+    ensures first { FirstFetchLaw }
+    ensures rows { RowsGoFromLaw }
+    ensures count { RowsCountLaw }
+    ensures counted { CountedLaw }
+{}
+
+/// The same of all nodes of a bucket that are known, with the rows that calls on it pushed: it stays as neighbours are merged, as an epoch is sealed, and with contents that
+/// were found. Then a fetch finds what the rows leave, or a content for the first time, by the bytes at entry.
+pub fn all_firm_law()
+    ensures merged { MergedAllLaw }
+    ensures sealed { SealedAllLaw }
+    ensures found { FoundAllLaw }
+    ensures fetch { FetchAllLaw }
 {}

@@ -3,4 +3,7 @@
 
 mod laws;
 
-pub use laws::{again_law, going_law, look_law, made_law, meets_law, open_law, place_law};
+pub use laws::{
+    again_law, all_firm_law, firm_law, going_law, look_law, made_law, meets_law, open_law,
+    place_law,
+};

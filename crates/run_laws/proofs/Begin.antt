@@ -62,6 +62,14 @@ module _ {B : Type 0} (stands_for : Origin → ℕ → B → List Commit → Typ
       becomes = becomes_itself entry.room;
     };
     few = record { most = λ lane e. omega arith; open_epoch = λ lane is none. omega (arith, group) };
+    in_need = λ lane all. record {
+      so_far = record {
+        each = λ e next above is. absurd (let x : ◌≡◌ {A = Option Commit} None (Some next) = is in cc);
+        used = (ready.whole.epoch.none ready.none_waits).2;
+        no_region = λ is. absurd (let e : false ≡ true = is in cc);
+      };
+      ends = λ none waits above. absurd (omega (arith, above));
+    };
     told = record {
       lanes = refl;
       low = none_out entry.disk.faults last_count;

@@ -199,6 +199,7 @@ module _ (names : Names) (script : List ScriptTxn) (options : Options) (entry ro
     replied = f.so_far.replied;
     all_run = λ none. subst AllRun (sym as_told) (cut.all_run (λ x there. none_told none x (f.tells.all x there)));
     few_each = f.few;
+    in_need = f.in_need;
     durable = refl;
     all_durable = all_sealed_if;
     causes = λ after last first e began stands. subst (λ os. HaveCauses entry.room.region_len first after.bytes script os history room.room.sealed) (sym as_told) (caused after last first e began stands);

@@ -3,7 +3,6 @@ use Rattle.std.proofs.Common.{◌≡◌, ◌≢◌, ℕ, ◌+◌, ◌<◌, ◌�
 use Rattle.std.specs.Prelude.{Result, count_by, option_map}
 use Rattle.std.proofs.lemmas.List.Sums.{sum_by-cons, sum_by_push}
 use Rattle.fine_model.specs.declared.RunFault.{RunFault}
-use Rattle.fine_model.specs.declared.law.Origin.{Origin}
 use Rattle.fine_model.specs.declared.law.RoomState.{RoomState}
 use Rattle.fine_model.specs.Becomes.{Becomes, IsStuck}
 use Rattle.fine_model.specs.History.{Commit}

@@ -5,6 +5,7 @@ pub mod Ending
 pub mod Few
 pub mod Finish
 pub mod Going
+pub mod Needs
 pub mod Nothing
 pub mod Readings
 pub mod Runs

@@ -99,6 +99,7 @@ module _ (script : List ScriptTxn) (options : Options) (room : RoomValue) (ready
     replied = tt;
     all_run = all_run;
     few_each = λ lane e. omega arith;
+    in_need = λ one e next above is. absurd (let x : ◌≡◌ {A = Option Commit} None (Some next) = is in cc);
     durable = refl;
     all_durable = λ to. refl;
     causes = λ after is first e began stands. record { each = λ i txn word is_txn is_refused. absurd (not_refused (length script) i word (subst (λ os. slice_get os i ≡ Some (outcome.Refused word)) (sym (none_told script)) is_refused)) };

@@ -1,7 +1,6 @@
 -- What the body on one thread reads through the view that is out.
 use Rattle.std.proofs.Common.{◌≡◌, ◌∙◌, ℕ, false, List, [], ◌++◌, Option, Some, None, refl, sym, ap, subst}
 use Rattle.fine_model.specs.declared.Row.{Row}
-use Rattle.fine_model.specs.declared.law.Origin.{Origin}
 use Rattle.fine_model.specs.Buckets.{Began}
 use Rattle.fine_model.specs.History.{Commit, IsLegal, all_rows, upto}
 use Rattle.fine_model.specs.Nodes.{Agrees}

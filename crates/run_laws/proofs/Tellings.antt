@@ -11,7 +11,6 @@ use Rattle.fine_model.specs.declared.Part.{Part}
 use Rattle.fine_model.specs.declared.RunFault.{RunFault}
 use Rattle.fine_model.specs.declared.RunFault.TheVariants as run_fault
 use Rattle.fine_model.specs.declared.ScriptTxn.{ScriptTxn}
-use Rattle.fine_model.specs.declared.law.Origin.{Origin}
 use Rattle.fine_model.specs.Damages.{GoOnTo, IsDamageIn, LooksAt, calls_on}
 use Rattle.fine_model.specs.Faults.{HasRisen, last_count}
 use Rattle.fine_model.specs.History.{Commit}

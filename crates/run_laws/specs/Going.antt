@@ -1,5 +1,5 @@
 -- Steps of the room on one thread: calls that add and seal nothing, an entry more, and a seal.
-use Rattle.std.specs.Prelude.{◌≡◌, ℕ, ◌+◌, ◌<◌, ◌≤◌, ◌==◌, List, [], ◌∷◌, ◌++◌, count_by, length, Option, None, Some, Result}
+use Rattle.std.specs.Prelude.{◌≡◌, ℕ, ◌+◌, ◌<◌, ◌≤◌, ◌==◌, Bool, true, false, List, [], ◌∷◌, ◌++◌, count_by, length, Option, None, Some, Result}
 use Rattle.fine_model.specs.declared.RunFault.{RunFault}
 use Rattle.fine_model.specs.Becomes.{Becomes, IsStuck}
 use Rattle.fine_model.specs.Causes.{NoneFit}
@@ -13,6 +13,7 @@ use Rattle.epoch_room.specs.declared.answers.RoomFault.{RoomFault}
 use Rattle.partition_hold.specs.Views.{ViewValue}
 use Rattle.room_shelf.specs.Shelves.{IsLater, shelf}
 use Rattle.run_laws.specs.Lanes.{EndsLane, IsLane, fault_of}
+use Rattle.run_laws.specs.Needs.{EndsInNeed, HadNeed, HasNoRegion, IsInNeed, IsSealed, Unsealed}
 use Rattle.run_laws.specs.Runs.{AreFewOfLanes, OfSound}
 use Rattle.run_laws.specs.SoFar.{AreFewSoFar, GoesOn}
 
@@ -78,3 +79,33 @@ FewEnd =
 abbrev pub FewLess : Type 0
 FewLess =
     (group sealed : ℕ) (ended after : List (Option RunFault)) (history : List Commit) (lane : ℕ) (fault : RunFault) → AreFewSoFar group sealed ended history → EndsLane ended after lane fault → AreFewSoFar group sealed after history
+
+-- ---- what epochs were sealed for
+
+-- a full log has no region
+abbrev pub KeepsFull : Bool → RoomValue → Type 0
+KeepsFull full room = full ≡ true → HasNoRegion room.room
+
+-- where nothing was sealed, and where what waits was
+abbrev pub NeedStays : Type 0
+NeedStays = (group : ℕ) (entry old new : RoomValue) (full full' : Bool) (history : List Commit) → IsInNeed group entry old full history → Unsealed old.room new.room → KeepsFull full' new → IsInNeed group entry new full' history
+
+abbrev pub NeedSealed : Type 0
+NeedSealed =
+    (group : ℕ) (entry old new : RoomValue) (full full' : Bool) (history : List Commit) → IsInNeed group entry old full history → IsSealed old.room new.room → GoesOn entry new history → KeepsFull full' new
+    → IsInNeed group entry new full' history
+
+abbrev pub NeedStill : Type 0
+NeedStill =
+    (group : ℕ) (entry old new : RoomValue) (full full' : Bool) (history : List Commit) → EndsInNeed group entry old full history → Unsealed old.room new.room → (full ≡ true → full' ≡ true) → EndsInNeed group entry new full' history
+
+-- with a commit more, which is of an open epoch, or of one behind that was sealed in need
+abbrev pub NeedCommits : Type 0
+NeedCommits =
+    (group : ℕ) (entry old new : RoomValue) (full : Bool) (history : List Commit) (c : Commit) → IsInNeed group entry old full history → GoesOn entry old history → new ≡ appended old c.entry.rows → c.epoch ≡ old.room.sealed + 1 → full ≡ false
+    → (old.room.waiting ≡ 0 → entry.room.sealed < old.room.sealed → HadNeed entry.room.region_len group history old.room.sealed c) → IsInNeed group entry new full (history ++ c ∷ [])
+
+-- as a full group was sealed, it ends so
+abbrev pub NeedEnds : Type 0
+NeedEnds =
+    (group : ℕ) (entry old new : RoomValue) (full : Bool) (history : List Commit) → GoesOn entry old history → group ≤ old.room.waiting → IsSealed old.room new.room → EndsInNeed group entry new full history

@@ -1,6 +1,7 @@
 pub mod Runs
 pub mod Law
 pub mod Lanes
+pub mod Needs
 pub mod Turns
 pub mod SoFar
 pub mod Going

@@ -21,13 +21,14 @@ use Rattle.fine_model.specs.Damages.{IsDamageIn}
 use Rattle.fine_model.specs.Faults.{HasRisen, last_count}
 use Rattle.fine_model.specs.History.{Commit, last_epoch}
 use Rattle.fine_model.specs.Map.{Pair}
-use Rattle.fine_model.specs.Outcomes.{AllRun, AreOutcomes, EpochsFollow, lanes_not_run}
+use Rattle.fine_model.specs.Outcomes.{AllRun, AreOutcomes, EpochsFollow, IsOneLane, lanes_not_run}
 use Rattle.fine_model.specs.Report.{all_outcomes}
 use Rattle.fine_model.specs.Room.{IsSealedUpTo}
 use Rattle.fine_model.specs.Store.{answer}
 use Rattle.epoch_room.specs.Meaning.{Stands, origin_of}
 use Rattle.epoch_room.specs.Value.{RoomValue}
 use Rattle.epoch_room.specs.Whole.{IsWhole}
+use Rattle.run_laws.specs.Needs.{AreSealedInNeed}
 
 -- P of the rows and the last epoch of each sound log that the disk told at entry, and for which the room stands with no history
 abbrev pub OfSound : RoomValue → (List Row → ℕ → Type 0) → Type 0
@@ -123,6 +124,8 @@ pub record RunsScript (script : List ScriptTxn) (options : Options) (old new : R
   pub replied : AllByRecursion IsReplied history
   pub all_run : ran.fault ≡ None → AllRun (all_outcomes script ran.outcomes)
   pub few_each : AreFewOfLanes options.group history
+  -- one lane alone has no epoch sealed before a group is full, unless the rows of its next entry did not fit
+  pub in_need : IsOneLane script → AreSealedInNeed old.room.region_len options.group old.room.sealed history
   pub durable : ran.durable ≡ new.room.sealed
   pub all_durable : IsToSeal old new ran.fault → ran.durable ≡ last_epoch old.room.sealed history
   pub causes : (after : Told) → new.disk.told ≡ Some after

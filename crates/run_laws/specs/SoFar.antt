@@ -16,7 +16,7 @@ use Rattle.fine_model.specs.Becomes.{Becomes, IsStuck}
 use Rattle.fine_model.specs.Boards.{is_empty}
 use Rattle.fine_model.specs.Faults.{HasRisen, last_count}
 use Rattle.fine_model.specs.History.{Commit, all_rows}
-use Rattle.fine_model.specs.Outcomes.{EpochsFollow, IsOutcomeOf}
+use Rattle.fine_model.specs.Outcomes.{EpochsFollow, IsOneLane, IsOutcomeOf}
 use Rattle.fine_model.specs.Room.{IsSealedUpTo}
 use Rattle.fine_model.specs.RowBytes.{greatest}
 use Rattle.epoch_room.specs.Meaning.{Stands, origin_of}
@@ -25,6 +25,7 @@ use Rattle.epoch_room.specs.Whole.{IsWhole}
 use Rattle.partition_hold.specs.Views.{ViewValue}
 use Rattle.room_shelf.specs.Shelves.{IsShelf, shelf, total}
 use Rattle.run_laws.specs.Lanes.{EndsLane, HaveEnded, IsLane, fault_of, first_fault, lanes_failed, most_lanes, none_ended}
+use Rattle.run_laws.specs.Needs.{AreSealedInNeed, RunsInNeed}
 use Rattle.run_laws.specs.Runs.{AreFewOfLanes, IsReady, IsReplied, Names, OfSound, OwnRose, RunsBy}
 use Rattle.run_laws.specs.Turns.{AreNumbered, AreRefused, EndsLanes, RefusesBehind, commits_of}
 
@@ -127,6 +128,7 @@ module _ {B : Type 0} (stands_for : Origin → ℕ → B → List Commit → Typ
     pub so_far : AreSoFar script i done s.ended
     pub goes_on : GoesOn entry s.room (commits_of done)
     pub few : AreFewSoFar options.group s.room.room.sealed s.ended (commits_of done)
+    pub in_need : (lane : ℕ) → AllByRecursion (λ txn. txn.lane ≡ lane) script → RunsInNeed options.group lane entry s.room s.full s.ended (commits_of done)
     pub told : AreTold entry s.room (total (shelf s.room s.view)) s.ended s.ended
     pub named : AreNamed names (take i script) s.ended (commits_of done)
     pub refused : OfSound entry (λ first e. AreRefused script done s.room.room first)
@@ -141,6 +143,7 @@ module _ {B : Type 0} (stands_for : Origin → ℕ → B → List Commit → Typ
     pub so_far : AreSoFar script (i + 1) (done ++ next ∷ []) new.ended
     pub goes_on : GoesOn entry new.room (commits_of done ++ commits_of (next ∷ []))
     pub few : AreFewSoFar options.group new.room.room.sealed new.ended (commits_of done ++ commits_of (next ∷ []))
+    pub in_need : RunsInNeed options.group txn.lane entry old.room old.full old.ended (commits_of done) → RunsInNeed options.group txn.lane entry new.room new.full new.ended (commits_of done ++ commits_of (next ∷ []))
     pub told : AreTold entry new.room (total (shelf new.room new.view)) new.ended new.ended
     pub named : AreNamed names (take i script ++ txn ∷ []) new.ended (commits_of done ++ commits_of (next ∷ []))
     pub becomes : Becomes old.room.room new.room.room
@@ -177,6 +180,7 @@ pub record Finished (names : Names) (script : List ScriptTxn) (options : Options
   pub so_far : AreSoFar script (length script) done ended
   pub goes_on : GoesOn entry room (commits_of done)
   pub few : AreFewOfLanes options.group (commits_of done)
+  pub in_need : IsOneLane script → AreSealedInNeed entry.room.region_len options.group entry.room.sealed (commits_of done)
   pub tells : AreTold entry room room.disk.faults ended told
   pub named : AreNamed names script told (commits_of done)
   pub refused : OfSound entry (λ first e. AreRefused script done room.room first)

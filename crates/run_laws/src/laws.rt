@@ -5,7 +5,7 @@ ghost use Rattle.fine_model.specs.declared.Damage.{Damage};
 ghost use Rattle.fine_model.specs.declared.ScriptTxn.{ScriptTxn};
 ghost use Rattle.fine_model.specs.declared.law.Origin.{Origin};
 ghost use Rattle.fine_model.specs.History.{Commit};
-ghost use Rattle.run_laws.specs.Going.{CommitsLaw, FewEnd, FewLess, FewMore, FewWait, FullLaw, LaterLaw, SealsLaw, StaysLaw};
+ghost use Rattle.run_laws.specs.Going.{CommitsLaw, FewEnd, FewLess, FewMore, FewWait, FullLaw, LaterLaw, NeedCommits, NeedEnds, NeedSealed, NeedStays, NeedStill, SealsLaw, StaysLaw};
 ghost use Rattle.run_laws.specs.Lanes.{CutShortLaw};
 ghost use Rattle.run_laws.specs.Law.{BehindLaw, DoneLaw, NothingLaw, ReadyLaw, RunLaw, StatusLaw};
 ghost use Rattle.run_laws.specs.Reading.{LegalLaw, SeesLaw, UnsoundLaw};
@@ -93,6 +93,16 @@ pub fn few_law()
     ensures more { FewMore }
     ensures end { FewEnd }
     ensures less { FewLess }
+{}
+
+/// What epochs were sealed for, as one lane runs: it stays where nothing is sealed, as what waits is sealed, and with a commit more; and as a full group is
+/// sealed, it ends so.
+pub fn need_law()
+    ensures stays { NeedStays }
+    ensures still { NeedStill }
+    ensures sealed { NeedSealed }
+    ensures commits { NeedCommits }
+    ensures ends { NeedEnds }
 {}
 
 /// What is read through the view that is out: on a sound log its rows agree with the commits up to its epoch, the commits are legal, and no load names

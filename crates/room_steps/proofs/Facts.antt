@@ -15,7 +15,8 @@ use Rattle.room_shelf.specs.Shelves.{IsCountOf, IsShelf, ShelfValue, count_of, t
 use Rattle.run_laws.specs.Going.{StaysOn}
 use Rattle.run_laws.proofs.Going.{later_law, stays_law}
 use Rattle.room_steps.specs.Merging.{TakesView}
-use Rattle.room_steps.specs.Steps.{FaultOf, HasFailed, IsSealed, IsWell, Leaves, NoneFailed, Unsealed, WasShut}
+use Rattle.run_laws.specs.Needs.{IsSealed, Unsealed}
+use Rattle.room_steps.specs.Steps.{FaultOf, HasFailed, IsWell, Leaves, NoneFailed, WasShut}
 
 -- ---- what is left
 
@@ -57,10 +58,10 @@ leaves_staying old new stays none on_shelf whole = record {
 }
 
 pub unsealed_itself : (room : RoomState) → Unsealed room room
-unsealed_itself room = record { sealed = refl; waiting = refl }
+unsealed_itself room = record { sealed = refl; waiting = refl; used = refl }
 
 pub unsealed_on : (a b c : RoomState) → Unsealed a b → Unsealed b c → Unsealed a c
-unsealed_on a b c p q = record { sealed = q.sealed ∙ p.sealed; waiting = q.waiting ∙ p.waiting }
+unsealed_on a b c p q = record { sealed = q.sealed ∙ p.sealed; waiting = q.waiting ∙ p.waiting; used = q.used ∙ p.used }
 
 pub sealed_on : (a b c : RoomState) → IsSealed a b → Unsealed b c → IsSealed a c
 sealed_on a b c p q = record { some = p.some; sealed = q.sealed ∙ p.sealed; waiting = q.waiting ∙ p.waiting }
@@ -141,7 +142,7 @@ pub record Rested (old new : ShelfValue) : Type 0 where
 pub rested : (old new : ShelfValue) → TakesView old new → IsShelf old.room.room old.view → old.room.room.job ≡ None → IsWhole new.room → Rested old new
 rested old new t on_shelf none whole = record {
   leaves = leaves_staying old new stays none (subst (λ v. IsShelf new.room.room v) (sym t.none) t.rests.board) whole;
-  unsealed = record { sealed = stays.sealed; waiting = stays.waiting };
+  unsealed = record { sealed = stays.sealed; waiting = stays.waiting; used = ap (λ (r : RoomState). r.used) t.rests.later.room };
   none_failed = record { count = subst (IsCountOf (total old)) (sym (total_none new t.none)) t.rests.count; own = t.rests.own; shut = t.rests.shut };
   none = t.none;
   board = t.rests.board;

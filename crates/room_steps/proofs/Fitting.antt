@@ -10,7 +10,8 @@ use Rattle.epoch_room.specs.declared.answers.Fit.{Fit}
 use Rattle.epoch_room.specs.declared.answers.Fit.TheVariants as fit
 use Rattle.epoch_room.proofs.Counting.{sealed_most}
 use Rattle.room_steps.specs.Merging.{is_epoch_full}
-use Rattle.room_steps.specs.Steps.{HasNoRegion, IsSpent}
+use Rattle.run_laws.specs.Needs.{HasNoRegion}
+use Rattle.room_steps.specs.Steps.{IsSpent}
 
 -- the tests that led to an answer
 pub record Alone (room : RoomState) (cost : ℕ) : Type 0 where
@@ -19,7 +20,7 @@ pub record Alone (room : RoomState) (cost : ℕ) : Type 0 where
   pub alone : nat_lt room.region_len (need_alone cost) ≡ false
 
 abbrev pub Tests : RoomState → ℕ → Fit → Type 0
-Tests room cost fit.Fits = Alone room cost
+Tests room cost fit.Fits = Alone room cost × (is_full room ≡ false)
 Tests room cost (fit.Shut epoch) = room.is_shut ≡ true
 Tests room cost (fit.Number epoch place) = (room.is_shut ≡ false) × (is_spent room ≡ true)
 Tests room cost (fit.TooLarge need most) = (room.is_shut ≡ false) × (nat_lt room.region_len (need_alone cost) ≡ true)
@@ -41,7 +42,7 @@ tests room cost =
     by false false true d e pa pb pc pd pe v w x y z tv tw tx ty tz = tx (pa, pc)
     by false false false true e pa pb pc pd pe v w x y z tv tw tx ty tz = ty (record { opened = pa; left = pb; alone = pc }, pd)
     by false false false false true pa pb pc pd pe v w x y z tv tw tx ty tz = tz (record { opened = pa; left = pb; alone = pc }, pe)
-    by false false false false false pa pb pc pd pe v w x y z tv tw tx ty tz = record { opened = pa; left = pb; alone = pc }
+    by false false false false false pa pb pc pd pe v w x y z tv tw tx ty tz = (record { opened = pa; left = pb; alone = pc }, pd)
 
 pub tests_of : (room : RoomState) (cost : ℕ) (f : Fit) → fit_of room cost ≡ f → Tests room cost f
 tests_of room cost f is = subst (Tests room cost) is (tests room cost)
@@ -80,6 +81,37 @@ both waiting free h = by (waiting == 0) (nat_lt free 2) refl refl h
 pub no_region : (room : RoomState) → room.job ≡ None → is_full room ≡ true → HasNoRegion room
 no_region room none full =
     let h = both room.waiting (length room.free + one_taken room.job) full in record { none_waits = h.0; few_free = (let l = h.1 in omega (arith, l)) }
+
+-- where there is none, no rows fit
+pub none_fit : (room : RoomState) (cost : ℕ) → room.job ≡ None → HasNoRegion room → fit_of room cost ≡ fit.Fits → ⊥
+none_fit room cost none h fits = true≢false (sym full ∙ (tests_of room cost fit.Fits fits).1)
+  where
+    zero_is : (n : ℕ) → n ≡ 0 → (n == 0) ≡ true
+    zero_is n e = grind (arith, e)
+
+    few_is : (n k : ℕ) → n < 2 → k ≡ 0 → nat_lt (n + k) 2 ≡ true
+    few_is n k low e = grind (arith, low, e)
+
+    full : is_full room ≡ true
+    full = ap (λ b. b && nat_lt (length room.free + one_taken room.job) 2) (zero_is room.waiting h.none_waits) ∙ few_is (length room.free) (one_taken room.job) h.few_free (ap one_taken none)
+
+-- where numbers are left, the last epoch is not sealed yet
+pub not_last : (room : RoomState) → is_spent room ≡ false → room.sealed ≡ greatest → ⊥
+not_last room left last = by (nat_lt greatest (room.sealed + 1)) refl left
+  where
+    above : (n : ℕ) → n ≡ greatest → nat_lt greatest (n + 1) ≡ false → ⊥
+    above n e h = grind (arith, e, h)
+
+    by : (b : Bool) → nat_lt greatest (room.sealed + 1) ≡ b → (b || nat_le greatest room.places) ≡ false → ⊥
+    by true e h = true≢false h
+    by false e h = above room.sealed last e
+
+-- the rows leave too little of the region of what waits
+pub is_long : (room : RoomState) (cost : ℕ) → nat_lt room.region_len (need_in_epoch room cost) ≡ true → room.region_len < short_header + room.used + cost
+is_long room cost h = by room.region_len room.used cost h
+  where
+    by : (len used cost : ℕ) → nat_lt len (min (short_header + used + cost) 18446744073709551615) ≡ true → len < short_header + used + cost
+    by len used cost h = grind (arith, h)
 
 -- ---- where nothing waits
 

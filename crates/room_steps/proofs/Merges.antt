@@ -33,7 +33,8 @@ use Rattle.run_laws.specs.SoFar.{GoesOn}
 use Rattle.run_laws.proofs.Readings.{unsound_law}
 use Rattle.room_steps.specs.Laws.{MergesStay}
 use Rattle.room_steps.specs.Merging.{FreeOr, Frees, IsMerging, IsTidying, MergesOne, of_merge}
-use Rattle.room_steps.specs.Steps.{FaultOf, IsNamed, IsWell, Leaves, NamesPlace, NoneFailed, Tidies, Unsealed, space_of}
+use Rattle.run_laws.specs.Needs.{Unsealed}
+use Rattle.room_steps.specs.Steps.{FaultOf, IsNamed, IsWell, Leaves, NamesPlace, NoneFailed, Tidies, space_of}
 use Rattle.room_steps.proofs.Facts.{Rested, failed_on, fault_on, has_failed, leaves_itself, leaves_on, leaves_staying, none_failed_itself, unsealed_itself, unsealed_on, was_shut, well_counts, well_on}
 
 -- ---- the rows of one part
@@ -124,7 +125,7 @@ module _ (old mid new : ShelfValue) (r : Rested old mid) (none : new.view ≡ No
       (leaves_staying mid new (stays k) r.leaves.no_job (subst (λ v. IsShelf new.room.room v) (sym none) (subst (λ (board : List Buffer). list_all is_empty board ≡ true) (sym k.board) r.board)) whole)
 
   merge_unsealed : KeepsRest mid.room new.room → Unsealed old.room.room new.room.room
-  merge_unsealed k = unsealed_on old.room.room mid.room.room new.room.room r.unsealed (record { sealed = k.sealed; waiting = k.waiting })
+  merge_unsealed k = unsealed_on old.room.room mid.room.room new.room.room r.unsealed (record { sealed = k.sealed; waiting = k.waiting; used = k.used })
 
   -- a read was refused, and no call failed
   refused_well : (fault : FetchFault) → IsReadRefused mid.room new.room fault → (fault ≡ fetch_fault.Failed → ⊥) → IsWell old new

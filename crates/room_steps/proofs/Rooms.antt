@@ -13,7 +13,8 @@ use Rattle.epoch_room.specs.declared.answers.Fit.TheVariants as fit
 use Rattle.room_shelf.specs.Shelves.{IsShelf, ShelfValue}
 use Rattle.run_laws.proofs.Going.{full_law}
 use Rattle.room_steps.specs.Merging.{FindsRegion, FindsRoom, Frees, SealsAndTidies, SealsIfFull, is_epoch_full}
-use Rattle.room_steps.specs.Steps.{ByFit, HasNoRegion, IsFull, IsSealed, IsWell, MakesOr, MakesRoom, NoneMerge, SealsWaiting, Tidies}
+use Rattle.run_laws.specs.Needs.{HasNoRegion, IsSealed}
+use Rattle.room_steps.specs.Steps.{ByFit, IsFull, IsWell, MakesOr, MakesRoom, NoneMerge, SealsWaiting, Tidies}
 use Rattle.room_steps.proofs.Facts.{fault_on, leaves_itself, leaves_on, none_failed_itself, none_failed_on, sealed_on, unsealed_itself, well_on}
 use Rattle.room_steps.proofs.Fitting.{Alone, all_fits, alone_fits, alone_still, by_epoch, enough_free, in_epoch_fits, is_large, is_spent_by, no_region, not_by_epoch, tests_of}
 
@@ -102,7 +103,7 @@ module _ (cost : ℕ) (s : ShelfValue) (on_shelf : IsShelf s.room.room s.view) (
   well opened = record { none_failed = none_failed_itself s; opened = opened }
 
   pub fits_at_once : fit_of s.room.room cost ≡ fit.Fits → FindsRoom cost s s full full (Ok None)
-  fits_at_once is = at_once fit.Fits (Ok None) is (refl, refl) (well (tests_of s.room.room cost fit.Fits is).opened, is, refl)
+  fits_at_once is = at_once fit.Fits (Ok None) is (refl, refl) (well (tests_of s.room.room cost fit.Fits is).0.opened, is, refl)
 
   pub shut_at_once : (epoch : ℕ) → fit_of s.room.room cost ≡ fit.Shut epoch → FindsRoom cost s s full full (Err run_fault.Disk)
   shut_at_once epoch is = at_once (fit.Shut epoch) (Err run_fault.Disk) is (refl, refl) (inl (record { shut = tests_of s.room.room cost (fit.Shut epoch) is; same = refl }), refl)

@@ -15,7 +15,8 @@ use Rattle.epoch_room.proofs.Counting.{sealed_most}
 use Rattle.room_shelf.specs.Shelves.{IsShelf, ShelfValue}
 use Rattle.run_laws.proofs.Going.{seals_law}
 use Rattle.room_steps.specs.Merging.{of_room}
-use Rattle.room_steps.specs.Steps.{Leaves, SealsWaiting, Unsealed}
+use Rattle.run_laws.specs.Needs.{Unsealed}
+use Rattle.room_steps.specs.Steps.{Leaves, SealsWaiting}
 use Rattle.room_steps.proofs.Facts.{Rested, has_failed, leaves_on, on_sealed, unsealed_on, was_shut, well_counts, well_on, failed_on}
 
 sealed_board : (value : RoomValue) → (sealed_state value).board ≡ value.room.board
@@ -82,8 +83,8 @@ module _ (old mid new : ShelfValue) (r : Rested old mid) (some : 1 ≤ old.room.
       number : new.room.room.sealed ≡ mid.room.room.sealed + 1
       number = ap (λ (x : RoomState). x.sealed) s.2.1.room ∙ sealed_number mid.room
 
-  stays : new.room.room.sealed ≡ mid.room.room.sealed → new.room.room.waiting ≡ mid.room.room.waiting → Unsealed old.room.room new.room.room
-  stays sealed waiting = unsealed_on old.room.room mid.room.room new.room.room r.unsealed (record { sealed = sealed; waiting = waiting })
+  stays : Unsealed mid.room.room new.room.room → Unsealed old.room.room new.room.room
+  stays u = unsealed_on old.room.room mid.room.room new.room.room r.unsealed u
 
   pub sealed_err : (fault : RoomFault) → RoomSealsOr mid.room new.room (Err fault) → (new.room ≡ mid.room → new ≡ mid) → SealsWaiting old new (Err (of_room fault))
   sealed_err room_fault.Disk s same = record {
@@ -91,7 +92,7 @@ module _ (old mid new : ShelfValue) (r : Rested old mid) (some : 1 ≤ old.room.
     rested = none;
     seals = (
       inr (failed_on old mid new r.none_failed (has_failed mid new r.none none s.2.faults s.2.no_lower.0 s.2.no_lower.1)),
-      stays (ap (λ (x : RoomState). x.sealed) s.1.room) (ap (λ (x : RoomState). x.waiting) s.1.room),
+      stays (record { sealed = ap (λ (x : RoomState). x.sealed) s.1.room; waiting = ap (λ (x : RoomState). x.waiting) s.1.room; used = ap (λ (x : RoomState). x.used) s.1.room }),
       ap (λ (x : RoomState). x.is_shut) s.1.room,
     );
   }
@@ -100,7 +101,7 @@ module _ (old mid new : ShelfValue) (r : Rested old mid) (some : 1 ≤ old.room.
     rested = none;
     seals = (
       inl (was_shut old mid new r s.0 (same s.2)),
-      stays (ap (λ (v : RoomValue). v.room.sealed) s.2) (ap (λ (v : RoomValue). v.room.waiting) s.2),
+      stays (record { sealed = ap (λ (v : RoomValue). v.room.sealed) s.2; waiting = ap (λ (v : RoomValue). v.room.waiting) s.2; used = ap (λ (v : RoomValue). v.room.used) s.2 }),
       ap (λ (v : RoomValue). v.room.is_shut) s.2 ∙ s.0,
     );
   }
@@ -109,6 +110,6 @@ module _ (old mid new : ShelfValue) (r : Rested old mid) (some : 1 ≤ old.room.
     rested = none;
     seals = (
       well_on old mid new r.none_failed (well_counts mid new r.none none s.2 s.0 (ap (λ (x : RoomState). x.is_shut) s.1.room ∙ s.0)),
-      stays (ap (λ (x : RoomState). x.sealed) s.1.room) (ap (λ (x : RoomState). x.waiting) s.1.room),
+      stays (record { sealed = ap (λ (x : RoomState). x.sealed) s.1.room; waiting = ap (λ (x : RoomState). x.waiting) s.1.room; used = ap (λ (x : RoomState). x.used) s.1.room }),
     );
   }

@@ -15,7 +15,8 @@ use Rattle.epoch_room.specs.declared.answers.RoomFault.TheVariants as room_fault
 use Rattle.room_merges.specs.declared.fault.MergeFault.{MergeFault}
 use Rattle.room_merges.specs.declared.fault.MergeFault.TheVariants as merge_fault
 use Rattle.room_shelf.specs.Shelves.{Rests, ShelfValue}
-use Rattle.room_steps.specs.Steps.{FaultOf, HasNoRegion, IsFull, IsNamed, IsSealed, IsWell, Leaves, MakesRoom, NoneMerge, Unsealed}
+use Rattle.run_laws.specs.Needs.{HasNoRegion, IsSealed, Unsealed}
+use Rattle.room_steps.specs.Steps.{FaultOf, IsFull, IsNamed, IsWell, Leaves, MakesRoom, NoneMerge}
 
 -- the view was taken back, if one was out, and else nothing was done
 pub record TakesView (old new : ShelfValue) : Type 0 where

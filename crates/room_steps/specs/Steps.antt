@@ -22,6 +22,7 @@ use Rattle.merge_policy.specs.declared.figures.Space.{Space}
 use Rattle.merge_policy.specs.Choices.{Picks, aims_of, neighbours, question}
 use Rattle.room_merges.specs.Near.{IsReadRefused, NoneFitNow}
 use Rattle.room_shelf.specs.Shelves.{IsCountOf, IsShelf, ShelfValue, total}
+use Rattle.run_laws.specs.Needs.{HasNoRegion, IsSealed, Unsealed}
 use Rattle.run_laws.specs.Runs.{OfSound}
 use Rattle.run_laws.specs.SoFar.{GoesOn}
 
@@ -37,17 +38,6 @@ pub record Leaves (old new : ShelfValue) : Type 0 where
   pub most : new.room.room.sealed ≤ greatest
   pub becomes : Becomes old.room.room new.room.room
   pub goes_on : (entry : RoomValue) (history : List Commit) → GoesOn entry old.room history → GoesOn entry new.room history
-
--- nothing was sealed, and as many entries wait
-pub record Unsealed (old new : RoomState) : Type 0 where
-  pub sealed : new.sealed ≡ old.sealed
-  pub waiting : new.waiting ≡ old.waiting
-
--- what waited is sealed as the next epoch, and nothing waits
-pub record IsSealed (old new : RoomState) : Type 0 where
-  pub some : 1 ≤ old.waiting
-  pub sealed : new.sealed ≡ old.sealed + 1
-  pub waiting : new.waiting ≡ 0
 
 -- ---- faults
 
@@ -139,11 +129,6 @@ pub record Tidies (old new : ShelfValue) (result : Result (Unit {0}) RunFault) :
 -- no number is left: of epochs, or of places
 abbrev pub IsSpent : RoomState → Type 0
 IsSpent room = (room.sealed ≡ greatest) ⊎ (room.places ≡ greatest)
-
--- nothing waits, and a new epoch would take the last free region
-pub record HasNoRegion (room : RoomState) : Type 0 where
-  pub none_waits : room.waiting ≡ 0
-  pub few_free : length room.free < 2
 
 -- Besides, nothing can be merged. Where a sound log was told at entry, it is stuck: it takes nothing any more.
 pub record IsFull (room : RoomValue) : Type 0 where

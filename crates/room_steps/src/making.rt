@@ -4,7 +4,8 @@ ghost use Rattle.std.specs.Prelude.{◌≡◌, ◌<◌, ◌≤◌, None, false};
 ghost use Rattle.epoch_room.specs.Fitting.{fit_of};
 ghost use Rattle.room_shelf.specs.Shelves.{IsShelf, shelf};
 ghost use Rattle.room_steps.specs.Merging.{FindsRegion, FindsRoom, SealsAndTidies, SealsIfFull, is_epoch_full};
-ghost use Rattle.room_steps.specs.Steps.{HasNoRegion, MakesRoom};
+ghost use Rattle.run_laws.specs.Needs.{HasNoRegion};
+ghost use Rattle.room_steps.specs.Steps.{MakesRoom};
 
 use crate::merging::{free_region, tidy};
 use crate::sealing::seal_waiting;

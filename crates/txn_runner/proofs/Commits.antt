@@ -1,5 +1,5 @@
 -- What a commit leaves, and what is left where it is refused.
-use Rattle.std.proofs.Common.{◌≡◌, ◌⊎◌, inl, inr, ⊎_elim, ℕ, ◌+◌, ◌<◌, ◌≤◌, List, [], ◌∷◌, ◌++◌, length, refl, sym, ap, ◌∙◌, subst, Option, Some, None, Ok, Err, arith}
+use Rattle.std.proofs.Common.{◌≡◌, inl, inr, ⊎_elim, ℕ, ◌+◌, ◌<◌, ◌≤◌, List, [], ◌∷◌, ◌++◌, length, refl, sym, ap, ◌∙◌, subst, Option, Some, None, Ok, Err, arith}
 use Rattle.std.specs.Prelude.{All, Result}
 use Rattle.fine_model.specs.declared.Outcome.{Outcome}
 use Rattle.fine_model.specs.declared.Outcome.TheVariants as outcome
@@ -24,6 +24,7 @@ use Rattle.open_txn.specs.Buckets.{BucketsValue}
 use Rattle.open_txn.specs.Opened.{AbortLaw, FollowsLaw, IsOpen, IsToUndo}
 use Rattle.room_steps.specs.Steps.{MakesOr}
 use Rattle.run_laws.specs.Going.{Commits}
+use Rattle.run_laws.specs.Needs.{EndsInNeed, IsInNeed}
 use Rattle.run_laws.specs.Runs.{IsReady, OfSound}
 use Rattle.run_laws.specs.SoFar.{AreFewSoFar, AreTold, GoesOn}
 use Rattle.run_laws.specs.Turns.{RefusesBehind}
@@ -31,8 +32,9 @@ use Rattle.run_laws.proofs.Going.{commits_law}
 use Rattle.run_laws.proofs.Readings.{legal_law}
 use Rattle.run_laws.proofs.Tellings.{told_stays}
 use Rattle.txn_runner.specs.Body.{Body, Goes, IsGoing, Stand, count_of, shelf_of}
-use Rattle.txn_runner.specs.Steps.{Appends, IsEndOf, Leaves, LeavesFault, LeavesWell, MakesPlace, TakesBack, TellsWith, TriesToCommit}
+use Rattle.txn_runner.specs.Steps.{Appends, IsEndOf, Leaves, LeavesFault, LeavesWell, MakesPlace, TakesBack, TellsWith, TriesToCommit, WasInNeed}
 use Rattle.txn_runner.proofs.Making as making
+use Rattle.txn_runner.proofs.Needs as needs
 use Rattle.txn_runner.proofs.Steady.{same_history}
 
 -- ---- what is left of a body with an entry more
@@ -132,11 +134,14 @@ module _ (abort : AbortLaw) (follows : FollowsLaw) (group : ℕ) (old made : Bod
         let grew = m.makes.leaves.becomes.sealed in
         a.buckets (origin_of entry.entry) low new.room.room.sealed history taken d c open_made refl refl below (omega (arith, same, grew, since)) (omega (arith, same))
 
+    in_need_new : WasInNeed group entry old history → WasInNeed group entry new (history ++ c ∷ [])
+    in_need_new n = needs.committed group entry history (cost d.rows) old made (Ok None) m g.goes.room n.0 m.makes.makes new c refl a.room (ap (λ (b : Body). b.full) a.rest) refl n.1
+
     place : made.room.room.places + 1 ≡ length history + 1
     place = let p = goes_made.room.places in omega (arith, p)
 
     pub committed : LeavesWell group entry old new history (c ∷ []) × IsEndOf entry history d new (outcome.Committed (made.room.room.places + 1) (made.room.room.sealed + 1) (entry_of d))
-    committed = (record { leaves = leaves_new; stand = stand_new; told = told_new }, (place, (let e = sealed in omega (arith, e)), refl))
+    committed = (record { leaves = leaves_new; stand = stand_new; in_need = in_need_new; told = told_new }, (place, (let e = sealed in omega (arith, e)), refl))
 
   pub commits_it : MakesPlace (cost d.rows) old made (Ok None) → (new : Body) (next : Outcome) → Appends d made new next → TriesToCommit group old new d (Ok next)
   commits_it m new next a = subst (λ o. TriesToCommit group old new d (Ok o)) (sym a.is) (λ entry history low taken ready g since open_now. committed m new next a entry history low taken ready g since open_now)
@@ -171,6 +176,17 @@ module _ (abort : AbortLaw) (follows : FollowsLaw) (group : ℕ) (old made : Bod
     leaves_back : Leaves group entry old new history []
     leaves_back = subst (λ b. Leaves group entry old b history []) (sym back.rest) (leaves_with new.buckets)
 
+    full_same : new.full ≡ made.full
+    full_same = ap (λ (b : Body). b.full) back.rest
+
+    in_need_back : WasInNeed group entry old history → IsInNeed group entry new.room new.full history
+    in_need_back n = subst (λ full. IsInNeed group entry new.room full history) (sym full_same) (subst (λ (r : RoomValue). IsInNeed group entry r made.full history) (sym room_same)
+        (needs.made_in_need group entry history (cost d.rows) old made result m g.goes.room n.0))
+
+    ends_back : made.room.room.places < greatest → (word : Why) → MakesOr (cost d.rows) (shelf_of old) (shelf_of made) old.full made.full (Ok (Some word)) → WasInNeed group entry old history → EndsInNeed group entry new.room new.full history
+    ends_back some_place word makes n = subst (λ full. EndsInNeed group entry new.room full history) (sym full_same) (subst (λ (r : RoomValue). EndsInNeed group entry r made.full history) (sym room_same)
+        (needs.refused_ends group entry history (cost d.rows) old made result m g.goes.room n.0 word makes some_place n.1))
+
     -- for a reason that the definitions have too
     reason : made.room.room.places < greatest → (word : Why) → MakesOr (cost d.rows) (shelf_of old) (shelf_of made) old.full made.full (Ok (Some word))
         → OfSound entry (λ first e. RefusesBehind made.room.room (first ++ all_rows history) d.calls word)
@@ -185,6 +201,7 @@ module _ (abort : AbortLaw) (follows : FollowsLaw) (group : ℕ) (old made : Bod
       record {
         leaves = leaves_back;
         stand = same_history (Stand entry new) history stand_back;
+        in_need = λ n. same_history (WasInNeed group entry new) history (in_need_back n, ends_back (let p = m.makes.leaves.places in omega (arith, p, some_place)) word makes n);
         told = subst (λ (b : Body). AreTold entry b.room (count_of b) b.ended b.ended) (sym back.rest) (making.told group (cost d.rows) old made some result m entry history ready g (Some word) makes);
       },
       subst (λ (r : RoomValue). OfSound entry (λ first e. RefusesBehind r.room (first ++ all_rows history) d.calls word)) (sym room_same)
@@ -198,6 +215,7 @@ module _ (abort : AbortLaw) (follows : FollowsLaw) (group : ℕ) (old made : Bod
     failed fault is = record {
       leaves = leaves_back;
       stand = stand_back;
+      in_need = in_need_back;
       told = subst (λ (b : Body). TellsWith entry b fault) (sym back.rest)
           (making.told_fault group (cost d.rows) old made some result m entry history ready g fault (subst (MakesOr (cost d.rows) (shelf_of old) (shelf_of made) old.full made.full) is m.makes.makes));
     }

@@ -4,6 +4,7 @@ pub mod Commits
 pub mod Exits
 pub mod Looping
 pub mod Making
+pub mod Needs
 pub mod Running
 pub mod Seals
 pub mod Steady

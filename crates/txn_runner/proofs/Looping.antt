@@ -80,6 +80,7 @@ module _ (script : List ScriptTxn) (options : Options) (entry : RoomValue) where
       so_far = comes_on fits txn next new.ended at r.comes;
       goes_on = r.between.going.goes.room;
       few = r.between.going.few;
+      in_need = r.in_need;
       told = r.between.going.told;
       named = λ what there. tt;
       becomes = r.becomes;

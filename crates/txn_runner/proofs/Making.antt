@@ -12,7 +12,8 @@ use Rattle.epoch_room.specs.declared.answers.Fit.{Fit}
 use Rattle.epoch_room.specs.declared.answers.Fit.TheVariants as fit
 use Rattle.room_shelf.specs.Shelves.{ShelfValue, total}
 use Rattle.room_steps.specs.Laws.{TellsNow}
-use Rattle.room_steps.specs.Steps.{ByFit, IsSealed, MakesOr, NoneFailed, Unsealed}
+use Rattle.room_steps.specs.Steps.{ByFit, MakesOr, NoneFailed}
+use Rattle.run_laws.specs.Needs.{IsSealed, Unsealed}
 use Rattle.run_laws.specs.Runs.{IsReady, OfSound}
 use Rattle.run_laws.specs.SoFar.{AreFewSoFar, AreTold}
 use Rattle.txn_runner.specs.Body.{Body, Goes, IsGoing, count_of, shelf_of}
@@ -22,9 +23,9 @@ use Rattle.room_steps.proofs.Telling.{told_still, told_with}
 
 -- what waited was sealed, or it still waits
 unsealed : (old new : ShelfValue) → new ≡ old → Unsealed old.room.room new.room.room
-unsealed old new same = record { sealed = ap (λ (s : ShelfValue). s.room.room.sealed) same; waiting = ap (λ (s : ShelfValue). s.room.room.waiting) same }
+unsealed old new same = record { sealed = ap (λ (s : ShelfValue). s.room.room.sealed) same; waiting = ap (λ (s : ShelfValue). s.room.room.waiting) same; used = ap (λ (s : ShelfValue). s.room.room.used) same }
 
-sealed_or : (full : Bool) (old new : ShelfValue) (result : Result (Option Why) RunFault) (f : Fit) → ByFit full old new result f → Unsealed old.room.room new.room.room ⊎ IsSealed old.room.room new.room.room
+pub sealed_or : (full : Bool) (old new : ShelfValue) (result : Result (Option Why) RunFault) (f : Fit) → ByFit full old new result f → Unsealed old.room.room new.room.room ⊎ IsSealed old.room.room new.room.room
 sealed_or full old new result fit.Fits by = inl (unsealed old new by.0)
 sealed_or full old new result (fit.Shut epoch) by = inl (unsealed old new by.0)
 sealed_or full old new result (fit.Number epoch place) by = inl (unsealed old new by.0)

@@ -16,6 +16,7 @@ use Rattle.epoch_room.specs.Value.{RoomValue}
 use Rattle.epoch_room.proofs.Counting.{sealed_most}
 use Rattle.room_steps.specs.Laws.{TellsNow}
 use Rattle.run_laws.specs.Lanes.{EndsLane, IsLane, fault_of, most_lanes}
+use Rattle.run_laws.specs.Needs.{IsInNeed, IsSealed, RunsInNeed, Unsealed}
 use Rattle.run_laws.specs.Runs.{AreFewOfLanes, IsReady, OfSound}
 use Rattle.run_laws.specs.SoFar.{AreFewSoFar, AreTold, ComesNext}
 use Rattle.run_laws.specs.Told.{TellsMore}
@@ -24,7 +25,8 @@ use Rattle.run_laws.proofs.Caused.{stays_refused}
 use Rattle.run_laws.proofs.Going.{few_end, few_less, few_more, few_wait}
 use Rattle.run_laws.proofs.Tellings.{more_by_lane}
 use Rattle.txn_runner.specs.Body.{Body, Goes, IsBetween, Stand, count_of}
-use Rattle.txn_runner.specs.Steps.{BehindTxns, EndsBy, EndsGroup, IsTried, LeavesFault, LeavesWell, RunsTxn, SealsAll, SealsOn, Tries}
+use Rattle.txn_runner.specs.Steps.{BehindTxns, EndsBy, EndsGroup, IsTried, LeavesFault, LeavesWell, RunsTxn, SealsAll, SealsOn, Tries, WasInNeed}
+use Rattle.txn_runner.proofs.Needs as needs
 use Rattle.txn_runner.proofs.Steady.{few_none, same_history}
 
 -- a lane has ended by a fault, of which it is told
@@ -49,6 +51,7 @@ module _ (group turn : ℕ) (some : 1 ≤ group) (txn : ScriptTxn) (is_lane : Is
     between = same_history (IsBetween group entry old) (commits_of done) b;
     becomes = becomes_itself old.room.room;
     comes = inl (refl, record { is = tt; number = tt; runs = inl (refl, is_ended); replied = tt });
+    in_need = λ n. same_history (RunsInNeed group txn.lane entry old.room old.full old.ended) (commits_of done) n;
     refused = λ word (e : outcome.NotRun ≡ outcome.Refused word). absurd (let x = e in cc);
   }
 
@@ -88,6 +91,9 @@ module _ (group turn : ℕ) (some : 1 ≤ group) (txn : ScriptTxn) (is_lane : Is
       comes_old : ComesNext done old.ended txn next
       comes_old = record { is = tried.is; number = tried.number; runs = inr (tried.ran, none); replied = tried.replied }
 
+      in_need_mid : RunsInNeed group txn.lane entry old.room old.full old.ended history → WasInNeed group entry mid (history ++ more)
+      in_need_mid n = well.in_need (n.so_far, n.ends none)
+
       -- the group is not full
       waits : mid.room.room.waiting < group → RunsTxn group entry done txn next old mid
       waits few = record {
@@ -97,6 +103,7 @@ module _ (group turn : ℕ) (some : 1 ≤ group) (txn : ScriptTxn) (is_lane : Is
         };
         becomes = well.leaves.becomes;
         comes = inl (well.leaves.ended, comes_mid);
+        in_need = λ n. let w = in_need_mid n in record { so_far = w.0; ends = λ goes. w.1 };
         refused = tried.refused;
       }
 
@@ -104,18 +111,22 @@ module _ (group turn : ℕ) (some : 1 ≤ group) (txn : ScriptTxn) (is_lane : Is
       refused_new becomes top word is first e began stands = stays_refused mid.room.room new.room.room (first ++ all_rows history) txn.calls word becomes top (tried.refused word is first e began stands)
 
       -- it was sealed
-      sealed : SealsAll mid new (Ok tt) → RunsTxn group entry done txn next old new
-      sealed seals =
+      sealed : group ≤ mid.room.room.waiting → SealsAll mid new (Ok tt) → RunsTxn group entry done txn next old new
+      sealed full seals =
           let s = seals entry (history ++ more) ready well.leaves.goes well.told well.stand in
           record {
-            between = record { going = record { goes = s.0.goes; few = few_none group entry new.room new.ended (history ++ more) some s.0.goes.room s.2 most; told = s.1 }; stand = s.0.stand };
+            between = record { going = record { goes = s.0.goes; few = few_none group entry new.room new.ended (history ++ more) some s.0.goes.room s.2.waiting most; told = s.1 }; stand = s.0.stand };
             becomes = becomes_on old.room.room mid.room.room new.room.room well.leaves.becomes s.0.becomes;
             comes = inl (s.0.ended ∙ well.leaves.ended, subst (λ ended. ComesNext done ended txn next) (sym s.0.ended) comes_mid);
+            in_need = λ n. let w = in_need_mid n in record {
+              so_far = needs.sealed_or_not group entry (history ++ more) mid new s.0 w.0 s.2.some (inr s.2);
+              ends = λ goes. needs.group_ends group entry (history ++ more) mid new s.0 w.0 s.2.some well.leaves.goes.room full s.2;
+            };
             refused = refused_new s.0.becomes (sealed_most new.room s.0.goes.room.whole);
           }
 
       -- or a fault ended the lane
-      module _ (last : Body) (fault : RunFault) (e : EndsBy mid last new txn.lane fault) where
+      module _ (full : group ≤ mid.room.room.waiting) (last : Body) (fault : RunFault) (e : EndsBy mid last new txn.lane fault) where
         on : SealsOn entry mid last (history ++ more)
         on = (e.seals entry (history ++ more) ready well.leaves.goes well.told well.stand).0
 
@@ -138,13 +149,16 @@ module _ (group turn : ℕ) (some : 1 ≤ group) (txn : ScriptTxn) (is_lane : Is
         few_by_end (outcome.Refused word) all = same_history (AreFewSoFar group mid.room.room.sealed new.ended) history (few_less group mid.room.room.sealed mid.ended new.ended history txn.lane fault well.leaves.few ends)
         few_by_end outcome.NotRun all = same_history (AreFewSoFar group mid.room.room.sealed new.ended) history (few_less group mid.room.room.sealed mid.ended new.ended history txn.lane fault well.leaves.few ends)
 
-        few_last : (last.room.room.sealed ≡ mid.room.room.sealed) ⊎ (last.room.room.waiting ≡ 0) → AreFewSoFar group last.room.room.sealed new.ended (history ++ more)
-        few_last (inl same) = subst (λ n. AreFewSoFar group n new.ended (history ++ more)) (sym same) (few_by_end next tried.committed)
-        few_last (inr nothing) = few_less group last.room.room.sealed last.ended new.ended (history ++ more) txn.lane fault (few_none group entry last.room last.ended (history ++ more) some on.goes.room nothing most) e.ends
+        sealed_or_not : Unsealed mid.room.room last.room.room ⊎ IsSealed mid.room.room last.room.room
+        sealed_or_not = (e.seals entry (history ++ more) ready well.leaves.goes well.told well.stand).2
+
+        few_last : Unsealed mid.room.room last.room.room ⊎ IsSealed mid.room.room last.room.room → AreFewSoFar group last.room.room.sealed new.ended (history ++ more)
+        few_last (inl same) = subst (λ n. AreFewSoFar group n new.ended (history ++ more)) (sym same.sealed) (few_by_end next tried.committed)
+        few_last (inr s) = few_less group last.room.room.sealed last.ended new.ended (history ++ more) txn.lane fault (few_none group entry last.room last.ended (history ++ more) some on.goes.room s.waiting most) e.ends
 
         between_last : IsBetween group entry (record last { ended = new.ended }) (history ++ more)
         between_last = record {
-          going = record { goes = ended_with last new.ended entry (history ++ more) on.goes; few = few_last (e.seals entry (history ++ more) ready well.leaves.goes well.told well.stand).2; told = told_last };
+          going = record { goes = ended_with last new.ended entry (history ++ more) on.goes; few = few_last sealed_or_not; told = told_last };
           stand = on.stand;
         }
 
@@ -159,13 +173,18 @@ module _ (group turn : ℕ) (some : 1 ≤ group) (txn : ScriptTxn) (is_lane : Is
           between = subst (λ x. IsBetween group entry x (history ++ more)) (sym e.rest) between_last;
           becomes = becomes_on old.room.room mid.room.room new.room.room well.leaves.becomes becomes_new;
           comes = inr (fault, subst (λ ended. EndsLane ended new.ended txn.lane fault) well.leaves.ended ends, inl comes_old);
+          in_need = λ n. record {
+            so_far = subst (λ (x : Body). IsInNeed group entry x.room x.full (history ++ more)) (sym e.rest)
+                (needs.sealed_or_not group entry (history ++ more) mid last on (in_need_mid n).0 (omega (arith, some, full)) sealed_or_not);
+            ends = λ goes. absurd (let x : ◌≡◌ {A = Option RunFault} (Some fault) None = sym e.ends.ended ∙ goes in cc);
+          };
           refused = refused_new becomes_new (subst (λ (r : RoomValue). r.room.sealed ≤ greatest) room_same (sealed_most last.room on.goes.room.whole));
         }
 
       by_group : EndsGroup group mid new txn.lane → RunsTxn group entry done txn next old new
       by_group (inl (same, few)) = subst (RunsTxn group entry done txn next old) (sym same) (waits few)
-      by_group (inr (inl seals)) = sealed seals
-      by_group (inr (inr (last, fault, e))) = failed last fault e
+      by_group (inr (full, inl seals)) = sealed full seals
+      by_group (inr (full, inr (last, fault, e))) = failed full last fault e
 
     pub ran : (next : Outcome) → Tries group old mid txn turn (Ok next) → (new : Body) → EndsGroup group mid new txn.lane → BehindTxns group turn old (λ entry done. RunsTxn group entry done txn next old new)
     ran next tries new ends entry done ready b at = by_group next tries new entry done ready b at ends
@@ -185,6 +204,10 @@ module _ (group turn : ℕ) (some : 1 ≤ group) (txn : ScriptTxn) (is_lane : Is
       });
       becomes = subst (λ (r : RoomValue). Becomes old.room.room r.room) (sym (ap (λ (x : Body). x.room) rest)) left.leaves.becomes;
       comes = inr (fault, subst (λ x. EndsLane x new.ended txn.lane fault) left.leaves.ended ends, inr (record { is = tt; number = tt; runs = inl (refl, ap is_some ends.ended); replied = tt }));
+      in_need = λ n. same_history (RunsInNeed group txn.lane entry new.room new.full new.ended) (commits_of done) (record {
+        so_far = subst (λ (x : Body). IsInNeed group entry x.room x.full (commits_of done)) (sym rest) (left.in_need (n.so_far, n.ends none));
+        ends = λ goes. absurd (let x : ◌≡◌ {A = Option RunFault} (Some fault) None = sym ends.ended ∙ goes in cc);
+      });
       refused = λ word (e : outcome.NotRun ≡ outcome.Refused word). absurd (let x = e in cc);
     }
       where

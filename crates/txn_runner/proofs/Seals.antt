@@ -14,6 +14,7 @@ use Rattle.room_steps.specs.Laws.{TellsNow}
 use Rattle.room_steps.specs.Steps as steps
 use Rattle.room_steps.specs.Steps.{SealsWaiting, Tidies}
 use Rattle.run_laws.specs.Lanes.{with_last}
+use Rattle.run_laws.specs.Needs.{Unsealed}
 use Rattle.run_laws.specs.Runs.{IsReady}
 use Rattle.run_laws.specs.SoFar.{AreTold}
 use Rattle.run_laws.specs.Told.{TellsMore}
@@ -22,6 +23,7 @@ use Rattle.run_laws.proofs.Tellings.{more_beside, told_stays}
 use Rattle.txn_runner.specs.Body.{Body, Goes, Stand, count_of, shelf_of}
 use Rattle.txn_runner.specs.Steps.{Closes, SealsAll, SealsGroup, SealsOn}
 use Rattle.txn_runner.proofs.Steady.{stand_later}
+use Rattle.room_steps.proofs.Facts.{sealed_on}
 use Rattle.room_steps.proofs.Telling.{told_still, told_with}
 
 -- a body with another room and another view
@@ -36,12 +38,12 @@ goes_by entry old room view history l g = record {
 }
 
 on_by : (entry : RoomValue) (old : Body) (room : RoomValue) (view : Option ViewValue) (history : List Commit) → steps.Leaves (shelf_of old) (shelf room view) → Goes entry old history → Stand entry old history → SealsOn entry old (moved old room view) history
-on_by entry old room view history l g s = record { goes = goes_by entry old room view history l g; stand = stand_later entry old (moved old room view) history s refl l.becomes.sealed; becomes = l.becomes; ended = refl }
+on_by entry old room view history l g s = record { goes = goes_by entry old room view history l g; stand = stand_later entry old (moved old room view) history s refl l.becomes.sealed; becomes = l.becomes; full = refl; ended = refl }
 
 -- a fault of a seal comes with nothing sealed
-seal_fault : (old new : ShelfValue) (fault : RunFault) → steps.SealsOr old new (Err fault) → steps.FaultOf old new fault × (new.room.room.sealed ≡ old.room.room.sealed)
-seal_fault old new run_fault.Disk s = (s.0, s.1.sealed)
-seal_fault old new run_fault.Memory s = (s.0, s.1.sealed)
+seal_fault : (old new : ShelfValue) (fault : RunFault) → steps.SealsOr old new (Err fault) → steps.FaultOf old new fault × Unsealed old.room.room new.room.room
+seal_fault old new run_fault.Disk s = (s.0, s.1)
+seal_fault old new run_fault.Memory s = (s.0, s.1)
 seal_fault old new (run_fault.Damaged what) s = absurd s
 
 -- ---- the seal of a group
@@ -63,14 +65,14 @@ module _ (old : Body) (mid : RoomValue) (mid_view : Option ViewValue) (room : Ro
 
   both : steps.Leaves (shelf mid mid_view) (shelf room view) → SealsOn entry old (moved old room view) history
   both l = let second = on_by entry (moved old mid mid_view) room view history l first.goes first.stand in
-      record { goes = second.goes; stand = second.stand; becomes = becomes_on old.room.room mid.room room.room first.becomes second.becomes; ended = refl }
+      record { goes = second.goes; stand = second.stand; becomes = becomes_on old.room.room mid.room room.room first.becomes second.becomes; full = refl; ended = refl }
 
   tidied : (result : Result (Unit {0}) RunFault) → Tidies (shelf mid mid_view) (shelf room view) result → SealsGroup old (moved old room view) result entry history
-  tidied (Ok u) d = (both d.leaves, told_still (shelf mid mid_view) (shelf room view) entry old.ended old.ended d.tidy.0 told_mid, d.unsealed.waiting ∙ s.seals.1.waiting)
+  tidied (Ok u) d = (both d.leaves, told_still (shelf mid mid_view) (shelf room view) entry old.ended old.ended d.tidy.0 told_mid, sealed_on old.room.room mid.room room.room s.seals.1 d.unsealed)
   tidied (Err fault) d = (
     both d.leaves,
     λ after more now. told_with (shelf mid mid_view) (shelf room view) entry history old.ended after old.ended more fault ready (d.leaves.goes_on entry history first.goes.room) d.tidy now told_mid,
-    inr (d.unsealed.waiting ∙ s.seals.1.waiting),
+    inr (sealed_on old.room.room mid.room room.room s.seals.1 d.unsealed),
   )
 
 pub is_sealed : (old : Body) (mid : RoomValue) (mid_view : Option ViewValue) (room : RoomValue) (view : Option ViewValue) (epoch : ℕ) (result : Result (Unit {0}) RunFault) → SealsWaiting (shelf_of old) (shelf mid mid_view) (Ok epoch)

@@ -1,5 +1,5 @@
 -- What steps of the room leave of a body that goes on.
-use Rattle.std.proofs.Common.{◌≡◌, ◌⊎◌, inl, inr, ℕ, ◌+◌, ◌≤◌, List, [], ◌++◌, sym, subst, Option, arith}
+use Rattle.std.proofs.Common.{◌≡◌, ◌⊎◌, inl, inr, ℕ, ◌≤◌, List, [], ◌++◌, sym, subst, Option, arith}
 use Rattle.std.proofs.lemmas.List.{append-nil}
 use Rattle.fine_model.specs.declared.RunFault.{RunFault}
 use Rattle.fine_model.specs.History.{Commit}
@@ -8,7 +8,7 @@ use Rattle.node_cache.specs.Cache.{Cache, IsResting, kept_at}
 use Rattle.epoch_room.specs.Meaning.{origin_of}
 use Rattle.epoch_room.specs.Value.{RoomValue}
 use Rattle.open_txn.specs.Buckets.{BucketsValue, StandAll}
-use Rattle.room_steps.specs.Steps.{IsSealed, Unsealed}
+use Rattle.run_laws.specs.Needs.{IsSealed, Unsealed}
 use Rattle.run_laws.specs.Runs.{AreFewOfLanes}
 use Rattle.run_laws.specs.SoFar.{AreFewSoFar, GoesOn}
 use Rattle.run_laws.proofs.Going.{few_wait}

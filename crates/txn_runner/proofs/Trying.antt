@@ -21,8 +21,9 @@ use Rattle.run_laws.specs.Runs.{IsReady, IsReplyTo, OfSound}
 use Rattle.run_laws.specs.SoFar.{AreTold}
 use Rattle.run_laws.specs.Turns.{RefusesBehind, commits_of}
 use Rattle.txn_runner.specs.Body.{Body, Goes, IsBetween, IsGoing, Stand, count_of}
-use Rattle.txn_runner.specs.Steps.{Answers, IsEndOf, IsTried, Leaves, LeavesWell, Reads, TakesBack, Tries, TriesToCommit, refused_as}
+use Rattle.txn_runner.specs.Steps.{Answers, IsEndOf, IsTried, Leaves, LeavesWell, Reads, TakesBack, Tries, TriesToCommit, WasInNeed, refused_as}
 use Rattle.txn_runner.proofs.Answering.{few_later, goes_later, told_later}
+use Rattle.txn_runner.proofs.Needs as needs
 use Rattle.txn_runner.proofs.Steady.{same_history}
 
 -- what reading leaves
@@ -38,7 +39,7 @@ reads_leave group entry old new history b r = record {
 
 pub fails_reading : (group : ℕ) (old new : Body) (d : DraftValue) (txn : ScriptTxn) (turn : ℕ) (fault : RunFault) → Answers group old new d txn.calls (Err fault) → Tries group old new txn turn (Err fault)
 fails_reading group old new d txn turn fault a entry done ready b at =
-    let left = a.1 entry (commits_of done) ready b in record { leaves = reads_leave group entry old new (commits_of done) b a.0; stand = left.0; told = left.1 }
+    let left = a.1 entry (commits_of done) ready b in record { leaves = reads_leave group entry old new (commits_of done) b a.0; stand = left.0; in_need = λ n. (needs.read group entry (commits_of done) old new a.0 n).0; told = left.1 }
 
 aborted_is : (entry : RoomValue) (done : List Outcome) (txn : ScriptTxn) (new : Body) → txn.ending ≡ ending.Abort → IsTried entry done txn outcome.Aborted new
 aborted_is entry done txn new is = record {
@@ -73,6 +74,7 @@ refuses_reading group old new d txn turn word a entry done ready b at =
       subst (LeavesWell group entry old new (commits_of done)) (sym (none_committed txn.ending word)) (record {
         leaves = reads_leave group entry old new (commits_of done) b a.0;
         stand = same_history (Stand entry new) (commits_of done) left.0;
+        in_need = λ n. same_history (WasInNeed group entry new) (commits_of done) (needs.read group entry (commits_of done) old new a.0 n);
         told = told_later entry old new (commits_of done) b.going.goes b.going.told a.0 a.1;
       }),
       tried_as entry done txn word new txn.ending refl left.1,
@@ -102,6 +104,8 @@ module _ (abort : AbortLaw) (group : ℕ) (old mid : Body) (d : DraftValue) (txn
           ended = left.ended;
         });
         stand = same_history (Stand entry new) (commits_of done) stand;
+        in_need = λ n. same_history (WasInNeed group entry new) (commits_of done)
+            (subst (λ x. WasInNeed group entry x (commits_of done)) (sym back.rest) (let kept = needs.read group entry (commits_of done) old mid a.0 n in (kept.0, kept.1)));
         told = subst (λ (x : Body). AreTold entry x.room (count_of x) x.ended x.ended) (sym back.rest) (going entry (commits_of done) b).told;
       },
       aborted_is entry done txn new is,
@@ -146,8 +150,8 @@ module _ (abort : AbortLaw) (group : ℕ) (old mid : Body) (d : DraftValue) (txn
     commits (Ok next) t = λ entry done ready b at.
         let low : old.room.room.sealed ≤ mid.room.room.sealed = (let s = sealed in omega (arith, s)) in
         let ends = t entry (commits_of done) old.room.room.sealed old.buckets ready (going entry (commits_of done) b) low (a.3 entry (commits_of done) ready b) in
-        (record { leaves = later entry (commits_of done) (commits_of (next ∷ [])) ends.0.leaves; stand = ends.0.stand; told = ends.0.told }, tried entry done next at ends.1)
+        (record { leaves = later entry (commits_of done) (commits_of (next ∷ [])) ends.0.leaves; stand = ends.0.stand; in_need = λ n. ends.0.in_need (needs.read group entry (commits_of done) old mid a.0 n); told = ends.0.told }, tried entry done next at ends.1)
     commits (Err fault) t = λ entry done ready b at.
         let low : old.room.room.sealed ≤ mid.room.room.sealed = (let s = sealed in omega (arith, s)) in
         let ends = t entry (commits_of done) old.room.room.sealed old.buckets ready (going entry (commits_of done) b) low (a.3 entry (commits_of done) ready b) in
-        record { leaves = later entry (commits_of done) [] ends.leaves; stand = ends.stand; told = ends.told }
+        record { leaves = later entry (commits_of done) [] ends.leaves; stand = ends.stand; in_need = λ n. ends.in_need (needs.read group entry (commits_of done) old mid a.0 n); told = ends.told }

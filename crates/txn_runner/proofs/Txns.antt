@@ -88,23 +88,34 @@ module _ (group turn : ℕ) (some : 1 ≤ group) (txn : ScriptTxn) (is_lane : Is
       (subst (λ (v : RunnerValue). EndsLane v.ended ended txn.lane fault) is ends)
       (subst (λ (v : RunnerValue). ended ≡ slice_set v.ended (txn.lane - 1) (Some fault)) is set)
 
--- a group is not full, or its seal failed and ended the lane
+-- a group is not full
 pub not_full : (inside old : RunnerValue) → inside ≡ old → (group lane : ℕ) (buckets : BucketsValue) (waiting : ℕ) → waiting ≡ inside.room.room.waiting → (n : ℕ) → n ≡ group → waiting < n → EndsGroup group (body old buckets) (body old buckets) lane
 not_full inside old is group lane buckets waiting counted n same few = inl (refl, (let e = ap (λ (v : RunnerValue). v.room.room.waiting) is in omega (arith, e, counted, same, few)))
 
+-- a full group was sealed, or its seal failed and ended the lane
+pub full_group : (inside old : RunnerValue) → inside ≡ old → (group waiting : ℕ) → waiting ≡ inside.room.room.waiting → (n : ℕ) → n ≡ group → n ≤ waiting → group ≤ old.room.room.waiting
+full_group inside old is group waiting counted n same full = let e = ap (λ (v : RunnerValue). v.room.room.waiting) is in omega (arith, e, counted, same, full)
+
+pub group_sealed : (group : ℕ) (old sealed : RunnerValue) → group ≤ old.room.room.waiting → (lane : ℕ) (buckets : BucketsValue) (result : Result (Unit {0}) RunFault)
+    → ((buckets : BucketsValue) → SealsAll (body old buckets) (body sealed buckets) result) → (u : Unit {0}) → result ≡ Ok u → EndsGroup group (body old buckets) (body sealed buckets) lane
+group_sealed group old sealed full lane buckets result seals u ok = inr (full, inl (subst (SealsAll (body old buckets) (body sealed buckets)) ok (seals buckets)))
+
 pub group_failed : (old sealed : RunnerValue) (buckets : BucketsValue) (result : Result (Unit {0}) RunFault) → ((buckets : BucketsValue) → SealsAll (body old buckets) (body sealed buckets) result) → (fault : RunFault) → result ≡ Err fault
-    → (inside : RunnerValue) → inside ≡ sealed → (group lane : ℕ) (ended : List (Option RunFault)) → ended ≡ slice_set inside.ended (lane - 1) (Some fault) → EndsLane inside.ended ended lane fault
+    → (inside : RunnerValue) → inside ≡ sealed → (group lane : ℕ) → group ≤ old.room.room.waiting → (ended : List (Option RunFault)) → ended ≡ slice_set inside.ended (lane - 1) (Some fault) → EndsLane inside.ended ended lane fault
     → EndsGroup group (body old buckets) (body (record { room = inside.room; view = inside.view; full = inside.full; ended = ended }) buckets) lane
-group_failed old sealed buckets result seals fault err inside is group lane ended set ends = inr (inr (
-  body sealed buckets,
-  fault,
-  record {
-    seals = subst (SealsAll (body old buckets) (body sealed buckets)) err (seals buckets);
-    ends = subst (λ (v : RunnerValue). EndsLane v.ended ended lane fault) is ends;
-    set = subst (λ (v : RunnerValue). ended ≡ slice_set v.ended (lane - 1) (Some fault)) is set;
-    rest = ap (λ (v : RunnerValue). body (record { room = v.room; view = v.view; full = v.full; ended = ended }) buckets) is;
-  },
-))
+group_failed old sealed buckets result seals fault err inside is group lane full ended set ends = inr (
+  full,
+  inr (
+    body sealed buckets,
+    fault,
+    record {
+      seals = subst (SealsAll (body old buckets) (body sealed buckets)) err (seals buckets);
+      ends = subst (λ (v : RunnerValue). EndsLane v.ended ended lane fault) is ends;
+      set = subst (λ (v : RunnerValue). ended ≡ slice_set v.ended (lane - 1) (Some fault)) is set;
+      rest = ap (λ (v : RunnerValue). body (record { room = v.room; view = v.view; full = v.full; ended = ended }) buckets) is;
+    },
+  ),
+)
 
 -- where the group is full some wait
 pub enough : (inside old : RunnerValue) → inside ≡ old → (waiting : ℕ) → waiting ≡ inside.room.room.waiting → (n group : ℕ) → n ≡ group → 1 ≤ group → n ≤ waiting → 1 ≤ old.room.room.waiting

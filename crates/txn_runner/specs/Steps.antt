@@ -32,6 +32,7 @@ use Rattle.open_txn.specs.Opened.{AnswersCalls, IsOpen, SettlesAll, UndoesAll}
 use Rattle.room_steps.specs.Laws.{TellsNow}
 use Rattle.room_steps.specs.Steps.{MakesRoom}
 use Rattle.run_laws.specs.Lanes.{EndsLane, with_last}
+use Rattle.run_laws.specs.Needs.{EndsInNeed, IsInNeed, IsSealed, RunsInNeed, Unsealed}
 use Rattle.run_laws.specs.Runs.{IsReady, IsReplied, OfSound}
 use Rattle.run_laws.specs.SoFar.{AreFewSoFar, AreTold, ComesNext, GoesOn}
 use Rattle.run_laws.specs.Turns.{AreNumbered, RefusesBehind, commits_of}
@@ -99,6 +100,10 @@ Answers group old new d calls (Err fault) = Reads old new × Behind group old (�
 
 -- ---- a commit
 
+-- what epochs were sealed for, as it is while a lane goes on
+abbrev pub WasInNeed : ℕ → RoomValue → Body → List Commit → Type 0
+WasInNeed group entry b history = IsInNeed group entry b.room b.full history × EndsInNeed group entry b.room b.full history
+
 -- What a step leaves behind a history, with what it committed: the lanes that have ended are those of before, and few entries waited without the commit.
 pub record Leaves (group : ℕ) (entry : RoomValue) (old new : Body) (history more : List Commit) : Type 0 where
   pub goes : Goes entry new (history ++ more)
@@ -110,12 +115,14 @@ pub record Leaves (group : ℕ) (entry : RoomValue) (old new : Body) (history mo
 pub record LeavesWell (group : ℕ) (entry : RoomValue) (old new : Body) (history more : List Commit) : Type 0 where
   pub leaves : Leaves group entry old new history more
   pub stand : Stand entry new (history ++ more)
+  pub in_need : WasInNeed group entry old history → WasInNeed group entry new (history ++ more)
   pub told : AreTold entry new.room (count_of new) new.ended new.ended
 
 -- nothing of it is left, and a fault is to end its lane
 pub record LeavesFault (group : ℕ) (entry : RoomValue) (old new : Body) (history : List Commit) (fault : RunFault) : Type 0 where
   pub leaves : Leaves group entry old new history []
   pub stand : Stand entry new history
+  pub in_need : WasInNeed group entry old history → IsInNeed group entry new.room new.full history
   pub told : TellsWith entry new fault
 
 -- room is made for rows of a cost, or not: only the room with its view, and the flag, are others
@@ -176,12 +183,13 @@ pub record SealsOn (entry : RoomValue) (old new : Body) (history : List Commit) 
   pub goes : Goes entry new history
   pub stand : Stand entry new history
   pub becomes : Becomes old.room.room new.room.room
+  pub full : new.full ≡ old.full
   pub ended : new.ended ≡ old.ended
 
--- Nothing waits then. With a fault nothing was sealed, or it came behind the seal, and nothing waits.
+-- What waited was sealed. With a fault nothing was, or it came behind the seal.
 abbrev pub SealsGroup : Body → Body → Result (Unit {0}) RunFault → RoomValue → List Commit → Type 0
-SealsGroup old new (Ok u) entry history = SealsOn entry old new history × AreTold entry new.room (count_of new) new.ended new.ended × (new.room.room.waiting ≡ 0)
-SealsGroup old new (Err fault) entry history = SealsOn entry old new history × TellsWith entry new fault × ((new.room.room.sealed ≡ old.room.room.sealed) ⊎ (new.room.room.waiting ≡ 0))
+SealsGroup old new (Ok u) entry history = SealsOn entry old new history × AreTold entry new.room (count_of new) new.ended new.ended × IsSealed old.room.room new.room.room
+SealsGroup old new (Err fault) entry history = SealsOn entry old new history × TellsWith entry new fault × (Unsealed old.room.room new.room.room ⊎ IsSealed old.room.room new.room.room)
 
 -- for each entry and history behind which the body goes on
 abbrev pub SealsAll : Body → Body → Result (Unit {0}) RunFault → Type 0
@@ -194,9 +202,10 @@ pub record EndsBy (old sealed new : Body) (lane : ℕ) (fault : RunFault) : Type
   pub set : new.ended ≡ slice_set sealed.ended (lane - 1) (Some fault)
   pub rest : new ≡ record sealed { ended = new.ended }
 
--- the group is not full yet, or was sealed
+-- The group is not full yet, or it is, and was sealed.
 abbrev pub EndsGroup : ℕ → Body → Body → ℕ → Type 0
-EndsGroup group old new lane = ((new ≡ old) × (old.room.room.waiting < group)) ⊎ SealsAll old new (Ok tt) ⊎ ((sealed : Body) × (fault : RunFault) × EndsBy old sealed new lane fault)
+EndsGroup group old new lane =
+    ((new ≡ old) × (old.room.room.waiting < group)) ⊎ ((group ≤ old.room.room.waiting) × (SealsAll old new (Ok tt) ⊎ ((sealed : Body) × (fault : RunFault) × EndsBy old sealed new lane fault)))
 
 -- ---- all of a transaction
 
@@ -210,6 +219,8 @@ pub record RunsTxn (group : ℕ) (entry : RoomValue) (done : List Outcome) (txn 
   pub between : IsBetween group entry new (commits_of done ++ commits_of (next ∷ []))
   pub becomes : Becomes old.room.room new.room.room
   pub comes : Comes done old.ended new.ended txn next
+  -- what waits is sealed for a full group, and where the rows of this transaction do not fit its region, and for nothing else
+  pub in_need : RunsInNeed group txn.lane entry old.room old.full old.ended (commits_of done) → RunsInNeed group txn.lane entry new.room new.full new.ended (commits_of done ++ commits_of (next ∷ []))
   pub refused : (word : Why) → next ≡ outcome.Refused word → OfSound entry (λ first e. RefusesBehind new.room.room (first ++ all_rows (commits_of done)) txn.calls word)
 
 -- ---- the end

@@ -6,16 +6,14 @@ use Rattle.fine_model.specs.declared.Part.{Part}
 use Rattle.fine_model.specs.declared.RunFault.{RunFault}
 use Rattle.fine_model.specs.declared.RunFault.TheVariants as run_fault
 use Rattle.fine_model.specs.Chain.{chain, chain_end}
-use Rattle.fine_model.specs.Commands.{MergeDamagedTheorem, PrintsOnce}
+use Rattle.fine_model.specs.Commands.{PrintsOnce}
 use Rattle.fine_model.specs.Damages.{IsBadOf, IsDamage, IsUnsound}
-use Rattle.fine_model.specs.Headline.{IsFrontOf, MayFail, Return}
-use Rattle.fine_model.specs.Regions.{Image}
-use Rattle.fine_model.specs.Report.{fault_line, ranges}
+use Rattle.fine_model.specs.Headline.{MayFail, Return}
+use Rattle.fine_model.specs.Report.{ranges}
 use Rattle.run_laws.specs.Law.{return_of}
-use Rattle.log_commands.specs.Ends.{Ends, MergesAny, MergesAnyWell}
+use Rattle.log_commands.specs.Ends.{Ends, MergesAnyWell}
 use Rattle.log_commands.specs.Found.{IsUntouched, SeesLog}
 use Rattle.log_commands.specs.Merged.{IsDamaged, MergesLog}
-use Rattle.log_commands.specs.Origins.{IsBadMade, MayName}
 use Rattle.log_commands.proofs.MergeTheorem.{damaged, keeps_log, none_rose, told_after}
 use Rattle.log_commands.proofs.Printed.{printed, risen_by}
 use Rattle.log_commands.proofs.Ranges.{told_chain}
@@ -35,7 +33,7 @@ module _ (old new : Disk) (status : ℕ) (was now : Option (List ℕ)) (ends : E
     back = return_of old new source output before after
 
     abbrev Named : Damage → Type 0
-    Named = IsDamage old.region_len before.bytes (MayName old.region_len before.bytes after.bytes)
+    Named = IsDamage old.region_len before.bytes (IsBadOf old.region_len before.bytes)
 
     abbrev Text : List ℕ → Type 0
     Text text = (before_parts after_parts : List Part) × (chain old.region_len before.bytes ≡ Ok before_parts) × (chain old.region_len after.bytes ≡ Ok after_parts) × (chain_end after_parts ≡ chain_end before_parts) × (text ≡ ranges after_parts)
@@ -80,43 +78,3 @@ module _ (old new : Disk) (status : ℕ) (was now : Option (List ℕ)) (ends : E
           record { no_chain = no_chain source first before was_is old_is; unsound = unsound source first before was_is old_is; printed = t.2 },
         );
   }
-
--- ---- the theorem of all logs
-
--- of damage that may be printed, and that is there, where another may be
-more_named : (ret : Return) (P Q : Damage → Type 0) (whole : List ℕ → Type 0) (status : ℕ) (written : List ℕ) → ((what : Damage) → P what → Q what) → PrintsOnce ret P whole status written → PrintsOnce ret Q whole status written
-more_named ret P Q whole status written more p = record {
-  done = p.done;
-  memory = p.memory;
-  failed = p.failed;
-  damaged = λ seven. let d = p.damaged seven in (d.0, more d.0 d.1, d.2);
-  cut_short = λ five. by (p.cut_short five);
-  others = p.others;
-  faults = p.faults;
-}
-  where
-    fails : (fault : RunFault) → MayFail ret P fault → MayFail ret Q fault
-    fails run_fault.Memory m = tt
-    fails run_fault.Disk m = m
-    fails (run_fault.Damaged what) m = more what m
-
-    by : ((text : List ℕ) × whole text × IsFrontOf written text) ⊎ ((fault : RunFault) × MayFail ret P fault × IsFrontOf written (fault_line fault))
-        → ((text : List ℕ) × whole text × IsFrontOf written text) ⊎ ((fault : RunFault) × MayFail ret Q fault × IsFrontOf written (fault_line fault))
-    by (inl text) = inl text
-    by (inr (fault, may, front)) = inr (fault, fails fault may, front)
-
--- where no part that merging made is bad
-pub damaged_theorem : (region_len : ℕ) (entry : Image) (ret : Return) (still_told : Type 0) (status : ℕ) (written : List ℕ)
-    → ((parts : List Part) (what : Damage) → chain region_len entry ≡ Ok parts → IsBadMade region_len entry ret.image parts what → ⊥)
-    → MergesAny region_len entry ret still_told status written → MergeDamagedTheorem region_len entry ret still_told status written
-damaged_theorem region_len entry ret still_told status written none m = record {
-  no_chain = m.no_chain;
-  unsound = m.unsound;
-  printed = more_named ret (IsDamage region_len entry (MayName region_len entry ret.image)) (IsDamage region_len entry (IsBadOf region_len entry))
-      (λ text. (before after : List Part) × (chain region_len entry ≡ Ok before) × (chain region_len ret.image ≡ Ok after) × (chain_end after ≡ chain_end before) × (text ≡ ranges after)) status written more m.printed;
-}
-  where
-    more : (what : Damage) → IsDamage region_len entry (MayName region_len entry ret.image) what → IsDamage region_len entry (IsBadOf region_len entry) what
-    more what (inl is) = inl is
-    more what (inr (parts, is, inl bad)) = inr (parts, is, bad)
-    more what (inr (parts, is, inr made)) = absurd (none parts what is made)

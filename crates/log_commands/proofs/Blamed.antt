@@ -13,7 +13,7 @@ use Rattle.fine_model.specs.declared.Part.{Part}
 use Rattle.fine_model.specs.declared.Row.{Row}
 use Rattle.fine_model.specs.Chain.{AreRowsOf, regions_of}
 use Rattle.fine_model.specs.ChainLaws.{SameIn}
-use Rattle.fine_model.specs.Damages.{HasBadPlace}
+use Rattle.fine_model.specs.Damages.{HasBadPlace, IsBadOf}
 use Rattle.fine_model.specs.Regions.{HasHeader, Image, Place, region_of}
 use Rattle.fine_model.specs.Views.{SameSeen, TellsRowsOf}
 use Rattle.fine_model.proofs.Owning.{own_law}
@@ -32,7 +32,7 @@ use Rattle.room_merges.specs.declared.fault.MergeFault.TheVariants as merge_faul
 use Rattle.room_merges.proofs.Living.{seen_then}
 use Rattle.room_merges.proofs.Nearing.{stand_in}
 use Rattle.log_commands.specs.Merged.{NamesPlace}
-use Rattle.log_commands.specs.Origins.{AreFrom, ComesFrom, MayName}
+use Rattle.log_commands.specs.Origins.{AreFrom, ComesFrom}
 use Rattle.log_commands.proofs.Origins.{from_part, part_alike}
 
 -- ---- one part that an eye sees
@@ -97,27 +97,15 @@ module _ (region_len : ℕ) (entry now : Image) (before : List Part) (new : Room
     none_good : (rows : List Row) → TellsRowsOf (Some now) region_len (p ∷ []) rows → ⊥
     none_good rows tells = never_blamed eye p place rows seen (subst (λ n. TellsRowsOf eye.told n (p ∷ []) rows) (sym eye_len) (part_alike region_len (Some now) eye.told p rows shown tells)) bad
 
-    named : MayName region_len entry now before (damage.Region place.region place.at)
+    named : IsBadOf region_len entry before (damage.Region place.region place.at)
     named = by (from_part region_len (Some entry) (Some now) before new.room.parts p from there)
       where
-        by : (front own rest : List Part) × (before ≡ front ++ (own ++ rest)) × ComesFrom region_len (Some entry) (Some now) own p → MayName region_len entry now before (damage.Region place.region place.at)
+        by : (front own rest : List Part) × (before ≡ front ++ (own ++ rest)) × ComesFrom region_len (Some entry) (Some now) own p → IsBadOf region_len entry before (damage.Region place.region place.at)
         by (front, own, rest, is, inl stays) =
             let among : Contains before p =
             subst (λ ps. Contains ps p) (sym (is ∙ ap (λ ps. front ++ (ps ++ rest)) stays.0)) (Contains-append_right front (p ∷ rest) p (0, omega arith, refl)) in
-            inl (bad_in entry before among (header_back region_len entry now p stays.1 (header_of_live p there)) (seen_then (regions_of p) (Some entry) (Some now) eye.told stays.1 shown))
-        by (front, own, rest, is, inr made) = inr (record {
-          after = new.room.parts;
-          is_chain = held.is_chain;
-          part = p;
-          there = there;
-          front = front;
-          own = own;
-          rest = rest;
-          neighbours = is;
-          made = made;
-          none_good = λ rows tells. let m = made.good rows tells in none_good m.0 m.1;
-          is_bad = bad_in now (p ∷ []) (0, omega arith, refl) (header_of_live p there) shown;
-        })
+            bad_in entry before among (header_back region_len entry now p stays.1 (header_of_live p there)) (seen_then (regions_of p) (Some entry) (Some now) eye.told stays.1 shown)
+        by (front, own, rest, is, inr made) = let m = made.good entry refl in absurd (none_good m.0 m.1)
 
   older_in : (two : Part × Part) → StandIn new.room.parts two → Contains new.room.parts two.0
   older_in two stand = subst (λ ps. Contains ps two.0) (sym stand.neighbours) (Contains-append_right stand.before (two.0 ∷ two.1 ∷ stand.after) two.0 (0, omega arith, refl))
@@ -145,7 +133,7 @@ module _ (region_len : ℕ) (entry now : Image) (before : List Part) (new : Room
     stand = stand_in names.blamed.blamed.0 new.room.parts two names.blamed.blamed.2.first
 
     abbrev Named : Type 0
-    Named = MayName region_len entry now before (damage.Region names.region names.at)
+    Named = IsBadOf region_len entry before (damage.Region names.region names.at)
 
     of_part : (p : Part) → Contains new.room.parts p → IsBlamed view.eye p place → Named
     of_part p there bad =
@@ -171,5 +159,5 @@ module _ (region_len : ℕ) (entry now : Image) (before : List Part) (new : Room
     by_read (inl row) = of_row (subst (λ (f : FetchFault). BlamedBy view two.0 two.1 (merge_fault.Fetch f)) row names.blamed.blamed.2.blames).0
     by_read (inr index) = of_entry (subst (λ (f : FetchFault). BlamedBy view two.0 two.1 (merge_fault.Fetch f)) index names.blamed.blamed.2.blames).0
 
-    pub may_name : MayName region_len entry now before what
-    may_name = subst (MayName region_len entry now before) (sym names.is) (by_read names.of_read)
+    pub may_name : IsBadOf region_len entry before what
+    may_name = subst (IsBadOf region_len entry before) (sym names.is) (by_read names.of_read)

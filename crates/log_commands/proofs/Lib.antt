@@ -8,3 +8,4 @@ pub mod Live
 pub mod Logs
 pub mod MergeTheorem
 pub mod AnyTheorem
+pub mod JoinedMade

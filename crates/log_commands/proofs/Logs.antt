@@ -1,8 +1,9 @@
 -- What merging leaves of a disk: where its log was not opened, and behind the room that was made on it.
 use Rattle.std.proofs.Common.{◌≡◌, ◌∙◌, ℕ, true, List, [], length, map, inl, inr, Option, Some, None, Result, Ok, Err, refl, sym, ap, subst, arith}
-use Rattle.std.specs.Prelude.{IsPermutation, IfSome, option_map}
+use Rattle.std.specs.Prelude.{Contains, IsPermutation, IfSome, option_map}
 use Rattle.std.specs.List.{list_all}
 use Rattle.std.proofs.lemmas.List.{length-map, nil_from_length}
+use Rattle.std.proofs.lemmas.List.Elements.{All-contains, All-from_recursion}
 use Rattle.std.proofs.lemmas.List.Sorted.{length_permutation}
 use Rattle.log_disk.specs.Disk.{BothTold, Disk, IsImageSince, IsSound as IsSoundDisk, IsToldOf, OnlyFails, OpenEye, Told, clock_of}
 use Rattle.log_disk.specs.Moments.{Continues, ContinuesOn}
@@ -17,10 +18,14 @@ use Rattle.fine_model.specs.declared.RunFault.{RunFault}
 use Rattle.fine_model.specs.declared.RunFault.TheVariants as run_fault
 use Rattle.fine_model.specs.declared.law.RoomState.{RoomState}
 use Rattle.fine_model.specs.Boards.{held_of, is_empty, named}
-use Rattle.fine_model.specs.Chain.{Shows, chain}
+use Rattle.fine_model.specs.Chain.{Shows, chain, regions_of}
 use Rattle.fine_model.specs.Nodes.{Agrees}
 use Rattle.fine_model.specs.Regions.{Image}
+use Rattle.fine_model.proofs.ChainFacts.{Fact, facts}
 use Rattle.fine_model.proofs.NodeLaws.{Agrees-refl}
+use Rattle.fine_model.proofs.ReadChain.{ReadChain, read_chain}
+use Rattle.damage_laws.specs.Made.{AreMadeOf}
+use Rattle.damage_laws.specs.Places.{IsUnchanged}
 use Rattle.epoch_room.specs.Meaning.{Stands, StandsAtFirst}
 use Rattle.epoch_room.specs.Steps.{KeepsCounts}
 use Rattle.epoch_room.specs.Value.{RoomValue, made}
@@ -36,7 +41,10 @@ use Rattle.log_commands.specs.Ends.{Ends}
 use Rattle.log_commands.specs.Found.{SeesLog, open_fault}
 use Rattle.log_commands.specs.Merged.{EndsRoom, GoesOn, HasFailed, KeepsLog, MergesAll, MergesLog, MergesOr, found_in, image_of}
 use Rattle.log_commands.specs.Origins.{AreFrom}
+use Rattle.room_merges.proofs.Living.{seen_itself}
 use Rattle.log_commands.proofs.Blamed.{may_name}
+use Rattle.log_commands.proofs.JoinedMade.{own_made}
+use Rattle.log_commands.proofs.Ranges.{told_chain}
 use Rattle.log_commands.proofs.Live.{merged_log}
 
 same_some : (a b : Told) (o : Option Told) → o ≡ Some a → o ≡ Some b → b ≡ a
@@ -99,6 +107,17 @@ module _ (old new : Disk) (idle : IsIdle old) (sound : IsSoundDisk old) where
 
 -- ---- a room that was made on the disk
 
+-- the parts of a chain have their headers, so they are unchanged
+chain_headers : (region_len : ℕ) (image : Image) (parts : List Part) → chain region_len image ≡ Ok parts → (p : Part) → Contains parts p → IsUnchanged region_len image image p
+chain_headers region_len image parts is p there =
+    let fact = All-contains (Fact region_len image all) parts p (All-from_recursion (Fact region_len image all) parts (facts region_len image parts c)) there in record { header = fact.has; same = seen_itself (regions_of p) (Some image) }
+  where
+    c : ReadChain region_len image parts
+    c = read_chain region_len image parts is
+
+    all : List Part
+    all = c.all
+
 -- no eye is open on the disk of a room with an empty board
 no_eyes : (room : RoomValue) → IsWhole room → list_all is_empty room.room.board ≡ true → room.disk.eyes ≡ []
 no_eyes room whole board = nil_from_length room.disk.eyes (sym (long room.disk.eyes) ∙ none)
@@ -149,6 +168,16 @@ module _ (old : Disk) (room : RoomValue) (opens : OpensRoom old room) (first : S
       subst (λ (o : Option Image). AreFrom old.region_len o (Some last.bytes) opens.found.parts new.room.parts) (ap (option_map (λ (t : Told). t.bytes)) is_first)
       (subst (λ (o : Option Image). AreFrom old.region_len (image_of old) o opens.found.parts new.room.parts) (ap (option_map (λ (t : Told). t.bytes)) is_last) from)
 
+  -- and are made of them
+  made_of : (first last : Told) → old.told ≡ Some first → new.disk.told ≡ Some last → AreMadeOf old.region_len first.bytes last.bytes opens.found.parts [] new.room.parts
+  made_of first last is_first is_last =
+      let at_first : room.room.image ≡ Some first.bytes = of_made (λ (r : RoomValue). r.room.image) ∙ ap (option_map (λ (t : Told). t.bytes)) is_first in
+      let at_last : new.room.image ≡ Some last.bytes = image_is ∙ ap (option_map (λ (t : Told). t.bytes)) is_last in
+      let start : AreMadeOf room.room.region_len first.bytes first.bytes opens.found.parts [] room.room.parts =
+      subst (λ (r : RoomValue). AreMadeOf r.room.region_len first.bytes first.bytes opens.found.parts [] r.room.parts) (sym opens.is_made)
+      (own_made old.region_len first.bytes opens.found.parts (chain_headers old.region_len first.bytes opens.found.parts (told_chain old (Ok opens.found.parts) first is_first was))) in
+      subst (λ n. AreMadeOf n first.bytes last.bytes opens.found.parts [] new.room.parts) first_len (goes.makes first.bytes first.bytes last.bytes opens.found.parts [] at_first at_last start)
+
   module _ (before : Told) (e : ℕ) (rows : List Row) (is_before : old.told ≡ Some before) (shows : Shows old.region_len before.bytes e rows) where
     stands : Stands new rows e []
     stands =
@@ -188,6 +217,7 @@ module _ (old : Disk) (room : RoomValue) (opens : OpensRoom old room) (first : S
     was = was;
     ends = sym goes.whole.ends ∙ goes.sealed ∙ of_made (λ (r : RoomValue). r.room.sealed);
     from = from;
+    made = made_of;
     room = new;
     whole = goes.whole;
     of_disk = refl;

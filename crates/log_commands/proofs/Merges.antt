@@ -1,5 +1,5 @@
 -- What merging once, and merging on, leave of a room.
-use Rattle.std.proofs.Common.{◌≡◌, ◌∙◌, ℕ, zero, suc, true, false, List, [], ◌∷◌, inl, inr, Option, None, Ok, Err, refl, sym, subst, arith, append-nil, true≢false}
+use Rattle.std.proofs.Common.{◌≡◌, ◌∙◌, ℕ, zero, suc, true, false, List, [], ◌∷◌, inl, inr, Option, None, Some, Ok, Err, refl, sym, subst, arith, append-nil, true≢false}
 use Rattle.std.specs.Prelude.{Bool, Contains, Result}
 use Rattle.std.specs.List.{AllByRecursion, list_all}
 use Rattle.std.proofs.lemmas.List.Elements.{Contains-append_right}
@@ -14,6 +14,7 @@ use Rattle.fine_model.specs.Boards.{Buffer, is_empty}
 use Rattle.fine_model.specs.Chain.{AreRowsOf, regions_of}
 use Rattle.fine_model.specs.Regions.{HasHeader, Image}
 use Rattle.fine_model.specs.Views.{TellsRowsOf}
+use Rattle.damage_laws.specs.Made.{AreMadeOf}
 use Rattle.epoch_room.specs.Value.{RoomValue}
 use Rattle.epoch_room.specs.Whole.{IsWhole}
 use Rattle.epoch_room.specs.declared.answers.RoomFault.TheVariants as room_fault
@@ -24,8 +25,8 @@ use Rattle.room_merges.specs.Near.{IsReadRefused, MergesNear}
 use Rattle.room_merges.proofs.Living.{seen_itself, seen_then}
 use Rattle.room_steps.specs.Merging.{of_merge}
 use Rattle.log_commands.specs.Origins.{AreFrom}
-use Rattle.log_commands.proofs.Origins.{from_same, from_then}
-use Rattle.log_commands.proofs.Stepping.{live_from, same_length}
+use Rattle.log_commands.proofs.Origins.{from_same, from_then, told_then}
+use Rattle.log_commands.proofs.Stepping.{live_from, live_makes, same_length}
 use Rattle.log_commands.specs.Merged.{FaultOf, GoesOn, IsMerging, IsWell, MergesAll, MergesOnce}
 
 -- ---- the rows of one part
@@ -60,7 +61,8 @@ module _ (old new : RoomValue) (opened : old.room.is_shut ≡ false) (board : li
     waiting = k.waiting;
     stands = k.keeps.stands;
     told = m.live.told;
-    from = live_from old new was whole opened result m;
+    from = live_from old new was whole 1 opened result m;
+    makes = live_makes old new was whole 1 opened result m;
   }
 
   -- the live parts tell no rows, where a read of two of them was refused that would not have been of told ones
@@ -144,6 +146,10 @@ goes_on a b c p q = record {
   told = seen_then [] a.room.image b.room.image c.room.image p.told q.told;
   from = from_then a.room.region_len a.room.image b.room.image c.room.image p.told a.room.parts b.room.parts c.room.parts p.from
       (subst (λ n. AreFrom n b.room.image c.room.image b.room.parts c.room.parts) p.region_len q.from);
+  makes = λ entry first last parts sealed is_first is_last made.
+      let mid = told_then a.room.image b.room.image first p.told is_first in
+      let between = p.makes entry first mid.0 parts sealed is_first mid.1 made in
+      subst (λ n. AreMadeOf n entry last parts sealed c.room.parts) p.region_len (q.makes entry mid.0 last parts sealed mid.1 is_last (subst (λ n. AreMadeOf n entry mid.0 parts sealed b.room.parts) (sym p.region_len) between));
 }
 
 well_on : (a b c : RoomValue) → IsWell a b → IsWell b c → IsWell a c
@@ -170,6 +176,9 @@ merging_itself room whole no_job board opened = record {
     stands = λ first e history s. s;
     told = seen_itself [] room.room.image;
     from = from_same room.room.region_len room.room.image room.room.image room.room.parts (λ p there. seen_itself (regions_of p) room.room.image);
+    makes = λ entry first last parts sealed is_first is_last made.
+        let same : first ≡ last = (let both : ◌≡◌ {A = Option Image} (Some first) (Some last) = sym is_first ∙ is_last in cc) in
+        subst (λ image. AreMadeOf room.room.region_len entry image parts sealed room.room.parts) same made;
   };
   well = record { counts = record { faults = refl; own_faults = refl }; opened = opened };
 }

@@ -1,56 +1,30 @@
 -- Parts that come from those of an earlier chain: where none was merged, where two neighbours were, and from one chain to the next.
 use Rattle.std.proofs.Common.{◌≡◌, ◌∙◌, ℕ, zero, suc, ◌≤◌, List, [], ◌∷◌, ◌++◌, length, inl, inr, Option, Some, None, refl, sym, ap, subst, arith, append-nil, append_assoc, length-append}
 use Rattle.std.specs.Prelude.{Contains, fold}
-use Rattle.std.specs.List.{AllByRecursion}
 use Rattle.std.proofs.lemmas.List.Elements.{Contains-append_right}
 use Rattle.std.proofs.lemmas.List.Sums.{fold-append}
 use Rattle.fine_model.specs.declared.Part.{Part}
 use Rattle.fine_model.specs.declared.Row.{Row}
-use Rattle.fine_model.specs.Chain.{AreRowsOf, chain_end, regions_of}
-use Rattle.fine_model.specs.Regions.{HasHeader, Image}
+use Rattle.fine_model.specs.Chain.{chain_end, regions_of}
+use Rattle.fine_model.specs.Regions.{Image}
 use Rattle.fine_model.specs.Views.{SameSeen, TellsRowsOf}
 use Rattle.fine_model.proofs.Owning.{tells_alike}
-use Rattle.fine_model.proofs.Replaced.{rows_join, rows_split}
-use Rattle.fine_model.proofs.Sets.{all_append}
-use Rattle.epoch_room.proofs.Counting.{all_back, all_front}
 use Rattle.epoch_room.proofs.Viewing.{all_parts}
 use Rattle.room_merges.proofs.Living.{seen_then}
 use Rattle.log_commands.specs.Origins.{AreFrom, ComesFrom, IsMadeOf, chain_start}
 
-same_image : (told : Option Image) (a b : Image) → told ≡ Some a → told ≡ Some b → a ≡ b
-same_image told a b is_a is_b = let e : ◌≡◌ {A = Option Image} (Some a) (Some b) = sym is_a ∙ is_b in cc
-
 -- ---- what is told of parts
-
-module _ (told : Option Image) (region_len : ℕ) where
-  pub tells_both : (front back : List Part) (a b : List Row) → TellsRowsOf told region_len front a → TellsRowsOf told region_len back b → TellsRowsOf told region_len (front ++ back) (a ++ b)
-  tells_both front back a b x y =
-      let same : y.image ≡ x.image = same_image told y.image x.image y.is_told x.is_told in record {
-        image = x.image;
-        is_told = x.is_told;
-        headers = all_append (λ (p : Part). HasHeader region_len x.image p.region p.header) front back x.headers (subst (λ (i : Image). AllByRecursion (λ p. HasHeader region_len i p.region p.header) back) same y.headers);
-        are_rows = rows_join region_len x.image front back a b x.are_rows (subst (λ (i : Image). AreRowsOf region_len i back b) same y.are_rows);
-      }
-
-  pub tells_parts : (front back : List Part) (rows : List Row) → TellsRowsOf told region_len (front ++ back) rows
-      → ((a : List Row) × TellsRowsOf told region_len front a) × ((b : List Row) × TellsRowsOf told region_len back b)
-  tells_parts front back rows t =
-      let s = rows_split region_len t.image front back rows t.are_rows in (
-        (s.first, record { image = t.image; is_told = t.is_told; headers = all_front (λ (p : Part). HasHeader region_len t.image p.region p.header) front back t.headers; are_rows = s.of_front }),
-        (s.second, record { image = t.image; is_told = t.is_told; headers = all_back (λ (p : Part). HasHeader region_len t.image p.region p.header) front back t.headers; are_rows = s.of_back }),
-      )
 
 -- a part that has the bytes that it had tells what it told
 pub part_alike : (region_len : ℕ) (was now : Option Image) (p : Part) (rows : List Row) → SameSeen (regions_of p) was now → TellsRowsOf was region_len (p ∷ []) rows → TellsRowsOf now region_len (p ∷ []) rows
 part_alike region_len was now p rows same tells =
     tells_alike (regions_of p ++ []) was now region_len (p ∷ []) rows (subst (λ rs. SameSeen rs was now) (sym (append-nil (regions_of p))) same) (all_parts (p ∷ [])) tells
 
--- where the disk tells its bytes still, it tells no part's rows of no parts
-none_told : (region_len : ℕ) (was now : Option Image) → SameSeen [] was now → (image : Image) → was ≡ Some image → TellsRowsOf now region_len [] []
-unfolding AreRowsOf
-none_told region_len (Some was) (Some now) same image is = record { image = now; is_told = refl; headers = tt; are_rows = refl }
-none_told region_len (Some was) None same image is = absurd same
-none_told region_len None now same image is = absurd (let x = is in cc)
+-- where the disk told its bytes, it tells some still
+pub told_then : (was now : Option Image) (image : Image) → SameSeen [] was now → was ≡ Some image → (other : Image) × (now ≡ Some other)
+told_then (Some was) (Some now) image same is = (now, refl)
+told_then (Some was) None image same is = absurd same
+told_then None now image same is = absurd (let x = is in cc)
 
 -- ---- no merge, and one
 
@@ -105,18 +79,6 @@ module _ (region_len : ℕ) (was now : Option Image) where
   pub from_end : (a b : List Part) → AreFrom region_len was now a b → chain_end b ≡ chain_end a
   from_end a b from = end_from 0 a b from
 
-  pub from_told : (a b : List Part) (rows : List Row) → SameSeen [] was now → AreFrom region_len was now a b → TellsRowsOf was region_len a rows → (found : List Row) × TellsRowsOf now region_len b found
-  from_told a [] rows same none tells = ([], none_told region_len was now same tells.image tells.is_told)
-  from_told a (p ∷ b) rows same (own, rest, is, comes, later) tells =
-      let both = tells_parts was region_len own rest rows (subst (λ ps. TellsRowsOf was region_len ps rows) is tells) in
-      let first = by comes both.0.0 both.0.1 in
-      let more = from_told rest b both.1.0 same later both.1.1 in
-      (first.0 ++ more.0, tells_both now region_len (p ∷ []) b first.0 more.0 first.1 more.1)
-    where
-      by : ComesFrom region_len was now own p → (own_rows : List Row) → TellsRowsOf was region_len own own_rows → (found : List Row) × TellsRowsOf now region_len (p ∷ []) found
-      by (inl stays) own_rows t = (own_rows, part_alike region_len was now p own_rows stays.1 (subst (λ ps. TellsRowsOf was region_len ps own_rows) stays.0 t))
-      by (inr made) own_rows t = made.good own_rows t
-
   pub from_parts : (front back a : List Part) → AreFrom region_len was now a (front ++ back) → (x y : List Part) × (a ≡ x ++ y) × AreFrom region_len was now x front × AreFrom region_len was now y back
   from_parts [] back a from = ([], a, refl, refl, from)
   from_parts (p ∷ front) back a (own, rest, is, comes, later) =
@@ -148,13 +110,13 @@ module _ (region_len : ℕ) (was mid now : Option Image) (same : SameSeen [] was
             several = made.several;
             first = made.first;
             last = made.last;
-            good = λ rows tells. let m = made.good rows tells in (m.0, part_alike region_len mid now p m.0 stays.1 m.1);
+            good = λ image is. let m = made.good image is in (m.0, part_alike region_len mid now p m.0 stays.1 m.1);
           })
   comes_then a own p from (inr made) = inr (record {
     several = let l = from_long region_len was mid a own from in let s = made.several in omega (arith, l, s);
     first = made.first ∙ from_start region_len was mid a own from;
     last = made.last ∙ from_end region_len was mid a own from;
-    good = λ rows tells. let t = from_told region_len was mid a own rows same from tells in made.good t.0 t.1;
+    good = λ image is. let shown = told_then was mid image same is in made.good shown.0 shown.1;
   })
 
   pub from_then : (a b c : List Part) → AreFrom region_len was mid a b → AreFrom region_len mid now b c → AreFrom region_len was now a c

@@ -1,20 +1,15 @@
 -- How a command that prints one text ends, and its theorems where the disk tells its bytes and the output what was written.
 use Rattle.std.specs.Prelude.{◌≡◌, ◌⊎◌, ℕ, List, [], ◌++◌, Option, Some, Result, Ok, Err}
 use Rattle.log_disk.specs.Disk.{Disk, Told, IsImageSince, clock_of}
-use Rattle.fine_model.specs.declared.Damage.{Damage}
 use Rattle.fine_model.specs.declared.Part.{Part}
 use Rattle.fine_model.specs.declared.Row.{Row}
 use Rattle.fine_model.specs.declared.RunFault.{RunFault}
 use Rattle.fine_model.specs.declared.RunFault.TheVariants as run_fault
-use Rattle.fine_model.specs.Chain.{Shows, chain, chain_end}
-use Rattle.fine_model.specs.Commands.{MergeTheorem, PrintsOnce, RangesTheorem}
-use Rattle.fine_model.specs.Damages.{IsDamage, IsUnsound}
-use Rattle.fine_model.specs.Headline.{Return}
-use Rattle.fine_model.specs.Regions.{Image}
+use Rattle.fine_model.specs.Chain.{Shows}
+use Rattle.fine_model.specs.Commands.{MergeDamagedTheorem, MergeTheorem, RangesTheorem}
 use Rattle.fine_model.specs.Report.{fault_line, ranges}
 use Rattle.run_laws.specs.Law.{return_of, start_of}
 use Rattle.script_text.specs.Streams.{Puts}
-use Rattle.log_commands.specs.Origins.{MayName}
 
 -- the text of what was found: the chain's, or the line of a fault
 abbrev pub text_of : Result (List Part) RunFault → List ℕ
@@ -46,20 +41,11 @@ pub record RangesWell (output : ℕ × ℕ) (old new : Disk) (status : ℕ) (was
       → (after : Told) × (new.told ≡ Some after) × (written : List ℕ) × (now ≡ Some (first ++ written))
       × RangesTheorem old.region_len before.bytes (return_of old new source output before after) (new.told ≡ old.told) status written
 
--- `merge` on every log that the disk tells: it prints the chain on return, which ends where that at entry does, or damage of which `MayName` holds; where the chain
--- is undefined this is the chain's, and what the disk tells stays. It is `MergeDamagedTheorem`, but that a part which merging made of such that
--- were not in the grammar may be named too.
-pub record MergesAny (region_len : ℕ) (entry : Image) (back : Return) (still_told : Type 0) (status : ℕ) (written : List ℕ) : Type 0 where
-  pub no_chain : (what : Damage) → chain region_len entry ≡ Err what → still_told
-  pub unsound : status ≡ 7 → IsUnsound region_len entry
-  pub printed : PrintsOnce back (IsDamage region_len entry (MayName region_len entry back.image))
-      (λ text. (before after : List Part) × (chain region_len entry ≡ Ok before) × (chain region_len back.image ≡ Ok after) × (chain_end after ≡ chain_end before) × (text ≡ ranges after)) status written
-
--- so on every log that the disk told at entry
+-- The theorem of `merge` on every log that the disk told at entry, in the grammar or not.
 pub record MergesAnyWell (output : ℕ × ℕ) (old new : Disk) (status : ℕ) (was now : Option (List ℕ)) : Type 0 where
   pub holds : (source : ℕ × ℕ) (first : List ℕ) (before : Told) → was ≡ Some first → old.told ≡ Some before
       → (after : Told) × (new.told ≡ Some after) × (written : List ℕ) × (now ≡ Some (first ++ written))
-      × MergesAny old.region_len before.bytes (return_of old new source output before after) (new.told ≡ old.told) status written
+      × MergeDamagedTheorem old.region_len before.bytes (return_of old new source output before after) (new.told ≡ old.told) status written
 
 -- The theorem of `merge`, on every log that the disk told at entry and that shows rows, sound or not.
 pub record MergesWell (output : ℕ × ℕ) (old new : Disk) (status : ℕ) (was now : Option (List ℕ)) : Type 0 where

@@ -14,9 +14,11 @@ use Rattle.fine_model.specs.declared.RunFault.TheVariants as run_fault
 use Rattle.fine_model.specs.Boards.{is_empty}
 use Rattle.fine_model.specs.Causes.{NoNeighboursFit}
 use Rattle.fine_model.specs.Chain.{Shows, chain, chain_end}
+use Rattle.fine_model.specs.Damages.{IsBadOf}
 use Rattle.fine_model.specs.Nodes.{Agrees}
 use Rattle.fine_model.specs.Regions.{Image, is_sealed}
 use Rattle.fine_model.specs.Views.{SameSeen, TellsRowsOf}
+use Rattle.damage_laws.specs.Made.{AreMadeOf}
 use Rattle.epoch_room.specs.Meaning.{GoesOnStanding}
 use Rattle.epoch_room.specs.Steps.{KeepsCounts}
 use Rattle.epoch_room.specs.Value.{RoomValue}
@@ -25,9 +27,15 @@ use Rattle.room_merges.specs.Near.{AllInVain, BlamedFirst, NoneFitNow}
 use Rattle.script_text.specs.Streams.{Puts}
 use Rattle.log_commands.specs.Ends.{status_of, text_of}
 use Rattle.log_commands.specs.Found.{IsUntouched, SeesLog}
-use Rattle.log_commands.specs.Origins.{AreFrom, MayName}
+use Rattle.log_commands.specs.Origins.{AreFrom}
 
 -- ---- a room
+
+-- What the live parts were made of by the bytes of an earlier moment, that the live parts behind are made of, in the grammar or not: each that was merged of what its two were.
+abbrev pub MakesOf : RoomValue → RoomValue → Type 0
+MakesOf old new =
+    (entry first last : Image) (parts : List Part) (sealed : List (List Row)) → old.room.image ≡ Some first → new.room.image ≡ Some last
+    → AreMadeOf old.room.region_len entry first parts sealed old.room.parts → AreMadeOf old.room.region_len entry last parts sealed new.room.parts
 
 -- What each merge leaves, whatever it answers: nothing is out, nothing was added or sealed, the room stands for what it stood for, and its live parts
 -- come from those that it had.
@@ -42,6 +50,7 @@ pub record GoesOn (old new : RoomValue) : Type 0 where
   pub stands : GoesOnStanding old new
   pub told : SameSeen [] old.room.image new.room.image
   pub from : AreFrom old.room.region_len old.room.image new.room.image old.room.parts new.room.parts
+  pub makes : MakesOf old new
 
 -- no call failed, and the room is open
 pub record IsWell (old new : RoomValue) : Type 0 where
@@ -130,6 +139,8 @@ pub record IsMerged (old new : Disk) (parts : List Part) : Type 0 where
   pub was : SeesLog old (Ok before)
   pub ends : chain_end parts ≡ chain_end before
   pub from : AreFrom old.region_len (image_of old) (image_of new) before parts
+  -- of each node a look finds in them the rows into which those are merged that one finds in the parts at entry
+  pub made : (first last : Told) → old.told ≡ Some first → new.told ≡ Some last → AreMadeOf old.region_len first.bytes last.bytes before [] parts
   pub room : RoomValue
   pub whole : IsWhole room
   pub of_disk : room.disk ≡ new
@@ -143,7 +154,7 @@ abbrev pub ShowsNone : Disk → Type 0
 ShowsNone disk = (before : Told) (e : ℕ) (rows : List Row) → disk.told ≡ Some before → Shows disk.region_len before.bytes e rows → ⊥
 
 -- Merging named a bad place: one of two neighbours of the chain on return, as read. No log that shows rows was told at entry, and where the disk tells its bytes the place is bad by
--- them.
+-- those at entry: a part that merging made is good.
 pub record IsBadPlace (old new : Disk) (what : Damage) : Type 0 where
   pub before : List Part
   pub was : SeesLog old (Ok before)
@@ -151,7 +162,7 @@ pub record IsBadPlace (old new : Disk) (what : Damage) : Type 0 where
   pub of_disk : room.disk ≡ new
   pub names : NamesPlace room what
   pub shows_none : ShowsNone old
-  pub told : (first last : Told) → old.told ≡ Some first → new.told ≡ Some last → MayName old.region_len first.bytes last.bytes before what
+  pub told : (first last : Told) → old.told ≡ Some first → new.told ≡ Some last → IsBadOf old.region_len first.bytes before what
 
 -- the chain is damaged, and the disk is as it was; or the chain was found, and a bad place of its parts
 abbrev pub IsDamaged : Disk → Disk → Damage → Type 0

@@ -28,7 +28,7 @@ fn printed(
 #[test]
 fn logs_are_listed(rt: HostRuntime) -> Result<(), Fail> {
     let alloc = rt.alloc();
-    let table: [(Command, [Shown; 5], u8, &str); 9] = [
+    let table: [(Command, [Shown; 5], u8, &str); 10] = [
         (Ranges, [Free; 5], 0, "end 0|"),
         (Merge, [Free; 5], 0, "end 0|"),
         (
@@ -70,6 +70,13 @@ fn logs_are_listed(rt: HostRuntime) -> Result<(), Fail> {
             [Miscounted(1), Epoch(2), Epoch(3), Free, Free],
             0,
             "range 1 3 region 0 rows 1|end 3|",
+        ),
+        // behind such a merge a place of a part at entry is named
+        (
+            Merge,
+            [Miscounted(1), Epoch(2), BadRow(3), Free, Free],
+            7,
+            "damaged region 2 at 41|",
         ),
     ];
     for (command, parts, status, text) in &table {

@@ -11,6 +11,7 @@ use Rattle.fine_model.specs.Buckets.{Began}
 use Rattle.fine_model.specs.Chain.{Shows, chain_end}
 use Rattle.fine_model.specs.Trees.{IsSound}
 use Rattle.fine_model.specs.History.{last_epoch}
+use Rattle.fine_model.specs.Room.{IsSealedUpTo}
 use Rattle.fine_model.proofs.Epochs.{sealed_from, sealed_least}
 use Rattle.epoch_room.specs.Meaning.{StandsAtFirst, origin_of}
 use Rattle.epoch_room.specs.Value.{RoomValue, made}
@@ -26,16 +27,18 @@ module _ (disk : Disk) (live retired : List Part) (whole : IsWhole (made disk li
   ready = ready_law disk live retired whole stands
 
   module _ (new : RoomValue) (script : List ScriptTxn) (options : Options) (ran : Ran) (r : RunsScript script options (made disk live retired) new ran) (entry : new.entry ≡ disk) where
-    pub behind_of : IsRunBehind options live script ran r.history
+    pub behind_of : IsRunBehind options disk.region_len live script ran r.history
     behind_of = record {
       outcomes = r.outcomes;
       replied = r.replied;
       few_each = r.few_each;
+      in_need = r.in_need;
       durable = record {
         from_entry = subst (λ d. chain_end live ≤ d) (sym r.durable) (sealed_from (chain_end live) new.room.sealed r.history r.adds.epochs r.adds.sealed);
         to_last = subst (λ d. d ≤ last_epoch (chain_end live) r.history) (sym r.durable) (sealed_least (chain_end live) new.room.sealed r.history r.adds.sealed);
         all = λ none. r.all_durable (inl none);
       };
+      all_but_last = subst (IsSealedUpTo (chain_end live) r.history) (sym r.durable) r.adds.sealed;
       all_run = r.all_run;
     }
 
@@ -45,7 +48,7 @@ module _ (disk : Disk) (live retired : List Part) (whole : IsWhole (made disk li
       found = found;
       sees = sees;
       history = r.history;
-      behind = subst (λ parts. IsRunBehind options parts script ran r.history) (sym are) behind_of;
+      behind = subst (λ parts. IsRunBehind options disk.region_len parts script ran r.history) (sym are) behind_of;
       beside = record { regions = r.adds.beside.regions; region_len = r.adds.beside.region_len; no_eyes = r.adds.beside.no_eyes };
       time = subst (λ (d : Disk). ContinuesOn d new.disk) entry r.adds.whole.entry.time;
       only_risen = r.fault.only_risen;

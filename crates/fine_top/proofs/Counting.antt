@@ -261,7 +261,7 @@ module _ (n : Numbers) (script : List ScriptTxn) (same : script ≡ script_by n)
       chain = chain;
       sees = sees;
       history = history;
-      behind = subst (λ s. IsRunBehind default_options chain.parts s ran history) script_is (behind_of disk chain.parts chain.retired r.whole r.stood room script default_options ran r.runs r.entry);
+      behind = subst (λ s. IsRunBehind default_options disk.region_len chain.parts s ran history) script_is (behind_of disk chain.parts chain.retired r.whole r.stood room script default_options ran r.runs r.entry);
       durable_is = all_durable (made disk chain.parts chain.retired).room.sealed room.room.sealed room.room.waiting history r.runs.adds.epochs r.runs.adds.sealed r.runs.adds.waiting ∙ ap (are_durable history) (sym r.runs.durable);
       fault_is = fault_is;
       beside = beside;

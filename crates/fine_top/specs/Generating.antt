@@ -87,7 +87,7 @@ pub record IsCounted (n : Numbers) (old new : Disk) (ran : Ran) (all_durable : B
   pub chain : Chain
   pub sees : SeesChain old chain
   pub history : List Commit
-  pub behind : IsRunBehind default_options chain.parts (script_by n) ran history
+  pub behind : IsRunBehind default_options old.region_len chain.parts (script_by n) ran history
   pub durable_is : all_durable ≡ are_durable history ran.durable
   pub fault_is : (fault : RunFault) → ran.fault ≡ Some fault → found ≡ Err fault
   pub beside : LeavesBeside old new

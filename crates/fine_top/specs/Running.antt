@@ -16,10 +16,11 @@ use Rattle.fine_model.specs.declared.Ran.{Ran}
 use Rattle.fine_model.specs.declared.Part.{Part}
 use Rattle.fine_model.specs.Bounds.{FitsScript}
 use Rattle.fine_model.specs.Damages.{IsDurableFor}
-use Rattle.fine_model.specs.Outcomes.{AllRun, AreOutcomes, is_refused}
+use Rattle.fine_model.specs.Outcomes.{AllRun, AreOutcomes, IsOneLane, is_refused}
 use Rattle.fine_model.specs.History.{Commit}
 use Rattle.fine_model.specs.Trees.{IsSound}
 use Rattle.fine_model.specs.Chain.{Shows, chain_end}
+use Rattle.fine_model.specs.Room.{IsSealedUpTo}
 use Rattle.fine_model.specs.Headline.{Start, HasStatus, IsDoneRun, IsRunWith, IsRefusedAt, RunTheorem, causes_of}
 use Rattle.fine_model.specs.Script.{script_of}
 use Rattle.fine_model.specs.Report.{all_outcomes, reason_bytes, report}
@@ -28,6 +29,7 @@ use Rattle.reopen.specs.Opening.{SeesChain}
 use Rattle.log_commands.specs.Ends.{fault_status}
 use Rattle.log_commands.specs.Found.{SeesLog}
 use Rattle.run_laws.specs.Law.{return_of, start_of}
+use Rattle.run_laws.specs.Needs.{AreSealedInNeed}
 use Rattle.run_laws.specs.Runs.{AreFewOfLanes, IsReplied, RunsScript}
 use Rattle.epoch_room.specs.Meaning.{StandsAtFirst}
 use Rattle.epoch_room.specs.Value.{RoomValue, made}
@@ -101,12 +103,15 @@ pub record IsRunOn (options : Options) (old new : Disk) (before after : Told) (s
       → IsDoneRun (start_of script old e rows) (return_of old new source output before after) status script (all_outcomes script ran.outcomes) ran.durable history
 
 -- What a run with this history is on every disk, whatever it tells, behind the parts of the log at entry: the outcomes are those of the history, whose epochs go on from the chain's; each call of a
--- commit has a reply that the store has on some map; no epoch has more entries of a lane than a group; and what is durable is one of its epochs, the last one where no fault came.
-pub record IsRunBehind (options : Options) (parts : List Part) (script : List ScriptTxn) (ran : Ran) (history : List Commit) : Type 0 where
+-- commit has a reply that the store has on some map; no epoch has more entries of a lane than a group; where all transactions are of one lane, an epoch that another one follows has a group of entries, or the
+-- rows of the next entry did not fit it; and what is durable is all of the history, or all but its last epoch, and all of it where no fault came.
+pub record IsRunBehind (options : Options) (region_len : ℕ) (parts : List Part) (script : List ScriptTxn) (ran : Ran) (history : List Commit) : Type 0 where
   pub outcomes : AreOutcomes script (chain_end parts) (all_outcomes script ran.outcomes) history
   pub replied : AllByRecursion IsReplied history
   pub few_each : AreFewOfLanes options.group history
+  pub in_need : IsOneLane script → AreSealedInNeed region_len options.group (chain_end parts) history
   pub durable : IsDurableFor parts history ran.fault ran.durable
+  pub all_but_last : IsSealedUpTo (chain_end parts) history ran.durable
   pub all_run : ran.fault ≡ None → AllRun (all_outcomes script ran.outcomes)
 
 -- what a command leaves beside the log: the geometry, and no eye that is open
@@ -121,7 +126,7 @@ pub record IsRunOf (options : Options) (old new : Disk) (script : List ScriptTxn
   pub found : Chain
   pub sees : SeesChain old found
   pub history : List Commit
-  pub behind : IsRunBehind options found.parts script ran history
+  pub behind : IsRunBehind options old.region_len found.parts script ran history
   pub beside : LeavesBeside old new
   pub time : ContinuesOn old new
   pub only_risen : ran.fault ≡ Some run_fault.Disk → HasRisen old.faults new.faults

@@ -13,6 +13,8 @@ use std::sync::Wait;
 use std::test::Fail;
 use std::thread::Threads;
 
+mod worked;
+
 const ROOM: usize = 8192;
 
 const LENGTH: u64 = 16_384;
@@ -101,7 +103,7 @@ fn run_well<R: Threads + Wait + Sync>(
 #[test]
 fn scripts_print_their_reports(rt: HostRuntime) -> Result<(), Fail> {
     let alloc = rt.alloc();
-    let table: [(&[&str], &str, u8, &str); 17] = [
+    let table: [(&[&str], &str, u8, &str); 22] = [
         (
             &["run"],
             "txn 1|put a 1|get a|commit|",
@@ -158,6 +160,36 @@ fn scripts_print_their_reports(rt: HostRuntime) -> Result<(), Fail> {
             "txn 1|put a 1|commit|txn 2|put a 2|add c 5|abort|txn 16|get a|del a|scan a z 9|commit|",
             0,
             "txn 1 commit 1 epoch 1|put a|txn 2 abort|txn 3 commit 2 epoch 1|get a = 1|del a|scan a z 0|durable 1|",
+        ),
+        (
+            &["run"],
+            "txn 1|put a 1|commit|txn 1|put a 2|abort|txn 1|get a|commit|",
+            0,
+            "txn 1 commit 1 epoch 1|put a|txn 2 abort|txn 3 commit 2 epoch 1|get a = 1|durable 1|",
+        ),
+        (
+            &["run"],
+            "txn 1|del b|put b 5|del b|del b|put b 6|get b|commit|",
+            0,
+            "txn 1 commit 1 epoch 1|del b none|put b|del b|del b none|put b|get b = 6|durable 1|",
+        ),
+        (
+            &["run"],
+            "txn 1|add c 5|put t x|add t 1|put m 9223372036854775807|add m 1|get m|add m -9223372036854775808|commit|",
+            0,
+            "txn 1 commit 1 epoch 1|add c = 5|put t|add t text|put m|add m range|get m = 9223372036854775807|add m = -1|durable 1|",
+        ),
+        (
+            &["run"],
+            "txn 1|put b 2|put aa 1|put a 0|scan a a 5|scan a z 0|scan a c 10|commit|",
+            0,
+            "txn 1 commit 1 epoch 1|put b|put aa|put a|scan a a 0|scan a z 0|scan a c 3|pair a = 0|pair aa = 1|pair b = 2|durable 1|",
+        ),
+        (
+            &["run"],
+            "txn 1|put acct:alice 100|put acct:bob 50|commit|txn 1|add acct:alice -30|add acct:bob 30|commit|txn 1|scan acct: acct; 10|commit|",
+            0,
+            "txn 1 commit 1 epoch 1|put acct:alice|put acct:bob|txn 2 commit 2 epoch 1|add acct:alice = 70|add acct:bob = 80|txn 3 commit 3 epoch 1|scan acct: acct; 2|pair acct:alice = 70|pair acct:bob = 80|durable 1|",
         ),
         (&["run"], "txn 1|put a 1|", 3, "script line 3|"),
         (&["run"], "txn 1|put a 1", 3, "script line 3|"),

@@ -1,0 +1,30 @@
+-- A pass that held nothing before a turn holds nothing after it, and has no merge out.
+use Rattle.std.proofs.Common.{◌≡◌, ◌∙◌, ◌++◌, None, ap, sym}
+use lib.ListN.{get_elem?}
+use Rattle.fine_model.specs.declared.law.RoomState.{RoomState}
+use Rattle.fine_model.specs.Jobs.{KeepsJob}
+use Rattle.fine_hall.specs.declared.law.Beginning.{Beginning}
+use Rattle.fine_hall.specs.Turns.{room_after}
+use Rattle.fine_hall.specs.Passes.{known, turns, HoldsNothing, LacksJob}
+use Rattle.fine_hall.specs.Halls.{turn_of}
+use Rattle.fine_hall.proofs.Turning.{after_last}
+use Rattle.hall_rooms.specs.Rooms.{RoomPass}
+use Rattle.hall_rooms.specs.Turning.{SealsIdle, SettlesIdle, TakesTurn}
+use Rattle.hall_rooms.specs.Merging.{MergesIdle}
+
+idle : (x : Beginning) (found room : RoomState) (p p' : RoomPass) → p'.number ≡ p.number → TakesTurn x found None 0 room p p' → KeepsJob found room → (known p').held ≡ (known p).held → HoldsNothing p → LacksJob x p → HoldsNothing p' × LacksJob x p'
+idle x found room p p' number t job held nothing lacks = (
+  λ k low. ap (λ l. get_elem? l k) held ∙ nothing k low,
+  λ one.
+      let was = sym number ∙ one in
+      ap (λ ts. (room_after x.room ts).job) t.turns_more ∙ (ap (λ (r : RoomState). r.job) (after_last x.room (turns p ++ t.others) (record { seat = p.number; item = turn_of None 0 room t.returned })) ∙ (job.job ∙ ((t.found_job was).job ∙ lacks was))),
+)
+
+pub seals_idle : SealsIdle
+seals_idle r x p p' number s nothing lacks = idle x s.found s.room p p' number s.turn s.job s.same_held nothing lacks
+
+pub settles_idle : SettlesIdle
+settles_idle r x p p' number s nothing lacks = idle x s.found s.room p p' number s.turn s.job s.same_held nothing lacks
+
+pub merges_idle : MergesIdle
+merges_idle from r x p p' number s nothing lacks = idle x s.found.room s.room.room p p' number s.turn s.job s.same_held nothing lacks

@@ -1,0 +1,11 @@
+pub mod Viewing
+pub mod Naming
+pub mod Ended
+pub mod Crossing
+pub mod Turned
+pub mod Posted
+pub mod Shown
+pub mod Erased
+pub mod Fresh
+pub mod Idle
+pub mod Merged

@@ -1,0 +1,290 @@
+-- A turn in which two neighbours are merged.
+use Rattle.std.proofs.Common.{◌≡◌, inl, inr, ⊎_elim, ℕ, ◌≤◌, Bool, true, false, true≢false, List, [], ◌∷◌, drop, length, Option, Some, None, Result, Ok, Err, refl, sym, ap, ◌∙◌, subst, arith}
+use Rattle.std.specs.Prelude.{Contains, slice_get, slice_set}
+use Rattle.fine_model.specs.declared.FetchFault.TheVariants as fetch_fault
+use Rattle.fine_model.specs.declared.Job.{Job}
+use Rattle.fine_model.specs.declared.law.RoomState.{RoomState}
+use Rattle.fine_model.specs.Boards.{Buffer, buffer_at}
+use Rattle.fine_model.specs.ChainLaws.{part_of}
+use Rattle.fine_model.specs.Faults.{HasRisen}
+use Rattle.fine_model.specs.Jobs.{KeepsJob}
+use Rattle.fine_model.specs.Merge.{FitsFree}
+use Rattle.fine_model.specs.Views.{TellsRowsOf}
+use Rattle.partition_hold.specs.Views.{IsView, SameView, ViewValue, opened, state_of}
+use Rattle.epoch_room.specs.Meaning.{Keeps, Stands}
+use Rattle.epoch_room.specs.MergeSealing.{merged_state, replaced, retire}
+use Rattle.epoch_room.specs.MergeSteps.{neighbours_from, regions_for_job}
+use Rattle.epoch_room.specs.Returns.{IsPosted}
+use Rattle.epoch_room.specs.Value.{RoomValue}
+use Rattle.epoch_room.specs.Whole.{IsWhole}
+use Rattle.epoch_room.specs.declared.answers.RoomFault.{RoomFault}
+use Rattle.epoch_room.specs.declared.answers.RoomFault.TheVariants as room_fault
+use Rattle.epoch_room.proofs.Behind.{keeps_none}
+use Rattle.epoch_room.proofs.Joining.{keeps_then}
+use Rattle.epoch_room.proofs.Viewing.{empty_is}
+use Rattle.room_merges.specs.declared.fault.MergeFault.{MergeFault}
+use Rattle.room_merges.specs.declared.fault.MergeFault.TheVariants as merge_fault
+use Rattle.room_merges.specs.Merging.{IsOut}
+use Rattle.room_merges.specs.Pairs.{MergesNone, MergesPair, PairOr, header_for, job_for}
+use Rattle.room_merges.specs.Work.{Looks}
+use Rattle.room_merges.proofs.Chained.{shown_by_eye}
+use Rattle.room_merges.proofs.Nearing.{has_newer, has_older, stand_in}
+use Rattle.room_merges.proofs.Working.{posted_then}
+use Rattle.fine_places.specs.History as places
+use Rattle.fine_hall.specs.declared.law.Beginning.{Beginning}
+use Rattle.fine_hall.specs.Laws.{IsRoomFor}
+use Rattle.fine_hall.specs.Passes.{published, turns, LacksJob, LacksPlace}
+use Rattle.fine_hall.specs.Halls.{GivesRoom, TakesRoom}
+use Rattle.hall_rooms.specs.Rooms.{RoomPass, room_state, room_log}
+use Rattle.hall_rooms.specs.Boards.{TakesBackAll}
+use Rattle.hall_rooms.specs.Views.{MakesView, MakesViewOr}
+use Rattle.hall_rooms.specs.Steps.{InTurn, IsCleanTurn, Rises}
+use Rattle.hall_rooms.specs.Turning.{MeetsNone, MeetsSome}
+use Rattle.hall_rooms.specs.Merging.{Failing, FirstTwoUnfit, LeavesBoard, MergesThroughOr, MergesTwoOr, SameChain}
+use Rattle.hall_rooms.proofs.Naming.{set_back, set_there}
+use Rattle.hall_rooms.proofs.Shown.{meets_none, meets_some}
+use Rattle.hall_rooms.proofs.Turned.{epochs_stay, goes, risen, rises, some_failed, stays_none}
+
+-- ---- a view that is made for it
+
+-- the view stands on the board of the room on which it was made, and is out
+module _ (old made : RoomValue) (view : ViewValue) (m : MakesView old made 1 view) where
+  was_empty : slice_get old.room.board (buffer_at 1 view.buffer) ≡ Some None
+  was_empty = empty_is old.room.board 1 view.buffer m.buffer
+
+  pub posted_there : IsPosted made.room view
+  posted_there =
+      ap (λ n. slice_get made.room.board (buffer_at n view.buffer)) m.of_seat
+      ∙ (ap (λ l. slice_get l (buffer_at 1 view.buffer)) m.board ∙ set_there old.room.board (buffer_at 1 view.buffer) None (Some (opened view.eye)) was_empty)
+
+  made_open : made.room.is_shut ≡ false
+  made_open = ap (λ (r : RoomState). r.is_shut) m.room ∙ m.not_shut
+
+  made_len : view.region_len ≡ made.room.region_len
+  made_len = m.region_len ∙ sym (ap (λ (r : RoomState). r.region_len) m.room)
+
+  -- once it is taken back, the board is as it was
+  emptied : (seen : ViewValue) → SameView view seen → (board : List Buffer) → board ≡ made.room.board → slice_set board (buffer_at seen.seat seen.buffer) None ≡ old.room.board
+  emptied seen same board is =
+      (λ i. slice_set ((is ∙ m.board) i) (buffer_at ((same.place.0 ∙ m.of_seat) i) (same.place.1 i)) None)
+      ∙ set_back old.room.board (buffer_at 1 view.buffer) None (Some (opened view.eye)) was_empty
+
+-- ---- what a merge of two neighbours leaves
+
+from_state : (state : RoomState) (old new : RoomValue) → new.room ≡ state → state.job ≡ None → state.places ≡ old.room.places → state.board ≡ old.room.board → state.sealed ≡ old.room.sealed → state.waiting ≡ old.room.waiting
+    → new.entry ≡ old.entry → Keeps old new → LeavesBoard old new
+from_state state old new is job as_many board sealed waiting entry keeps = record {
+  entry = entry;
+  keeps = keeps;
+  no_job = ap (λ (r : RoomState). r.job) is ∙ job;
+  places = ap (λ (r : RoomState). r.places) is ∙ as_many;
+  board = ap (λ (r : RoomState). r.board) is ∙ board;
+  epochs = (ap (λ (r : RoomState). r.sealed) is ∙ sealed, ap (λ (r : RoomState). r.waiting) is ∙ waiting);
+}
+
+pub pair_leaves : (from : ℕ) (made tried : RoomValue) (view seen : ViewValue) → made.room.is_shut ≡ false → (r : Result Bool MergeFault) → PairOr from made tried view seen r → LeavesBoard made tried
+unfolding merged_state
+pair_leaves from made tried view seen unshut (Ok true) m = from_state _ made tried m.room.1.room refl refl refl refl refl m.room.1.entry m.keeps
+pair_leaves from made tried view seen unshut (Ok false) m = let s = m.room.stays in from_state _ made tried s.room refl refl refl refl refl s.entry s.keeps
+pair_leaves from made tried view seen unshut (Err (merge_fault.Fetch fault)) m = let s = m.room.stays in from_state _ made tried s.room refl refl refl refl refl s.entry s.keeps
+pair_leaves from made tried view seen unshut (Err (merge_fault.Room room_fault.NoMemory)) m = let s = m.stays in from_state _ made tried s.room refl refl refl refl refl s.entry s.keeps
+pair_leaves from made tried view seen unshut (Err (merge_fault.Room room_fault.Disk)) m = let s = m.1 in from_state _ made tried s.room refl refl refl refl refl s.entry s.keeps
+pair_leaves from made tried view seen unshut (Err (merge_fault.Room (room_fault.Shut epoch))) m = absurd (true≢false (sym m.0 ∙ unshut))
+
+-- no call of the disk failed
+as_often : (state : RoomState) (old new : RoomValue) → IsWhole old → new.room ≡ state → state.faults ≡ new.disk.faults → new.disk.faults ≡ old.disk.faults → new.room.faults ≡ old.room.faults
+as_often state old new whole is count same = ap (λ (r : RoomState). r.faults) is ∙ (count ∙ (same ∙ sym (ap (λ (r : RoomState). r.faults) whole.of_disk)))
+
+-- some did
+more_often : (state : RoomState) (old new : RoomValue) → IsWhole old → new.room ≡ state → state.faults ≡ new.disk.faults → HasRisen old.disk.faults new.disk.faults → Rises old.room new.room
+more_often state old new whole is count up =
+    rises old new (subst (λ n. HasRisen n new.room.faults) (sym (ap (λ (r : RoomState). r.faults) whole.of_disk)) (subst (HasRisen old.disk.faults) (sym (ap (λ (r : RoomState). r.faults) is ∙ count)) up))
+
+-- ---- the view was made, two were tried, and it was taken back
+
+module _ (from : ℕ) (old made tried new : RoomValue) (view seen : ViewValue) (makes : MakesView old made 1 view) (whole : IsWhole made) (back : TakesBackAll seen.eye.faults tried new) where
+  made_faults : made.room.faults ≡ old.room.faults
+  made_faults = ap (λ (r : RoomState). r.faults) makes.room
+
+  -- ---- faults
+
+  steady : seen.eye.faults ≡ view.eye.faults → tried.room.faults ≡ made.room.faults → new.room.faults ≤ old.room.faults
+  steady same none = let h = back.high in let c = makes.clean in let f = made_faults in omega (arith, h, c, f, same, none)
+
+  read_failed : HasRisen view.eye.faults seen.eye.faults → made.room.faults ≤ tried.room.faults → Rises old.room new.room
+  read_failed up least = ⊎_elim
+      (λ more. ⊎_elim (λ low. inl (let f = made_faults in omega (arith, more, low, f, least))) (λ last. inr last) back.low)
+      (λ full. ⊎_elim (λ low. inr (omega (arith, full, low))) (λ last. inr last) back.low)
+      (risen view.eye.faults seen.eye.faults up)
+
+  call_failed : Rises made.room tried.room → Rises old.room new.room
+  call_failed up = let least = back.keeps.becomes.faults in let f = made_faults in ⊎_elim (λ more. inl (omega (arith, more, least, f))) (λ last. inr (omega (arith, last, least))) up
+
+  pub counted : (r : Result Bool MergeFault) → PairOr from made tried view seen r → Looks view seen r → Failing r (Rises old.room new.room) (new.room.faults ≤ old.room.faults)
+  counted (Ok true) m looks = steady (looks.counts.else_same (λ e. cc)) (as_often _ made tried whole m.room.1.room refl m.room.2.faults)
+  counted (Ok false) m looks = steady (looks.counts.else_same (λ e. cc)) (as_often _ made tried whole m.room.stays.room refl m.room.stays.counts.faults)
+  counted (Err (merge_fault.Fetch fetch_fault.Failed)) m looks = read_failed (looks.counts.rises refl) m.room.stays.keeps.becomes.faults
+  counted (Err (merge_fault.Fetch (fetch_fault.BadRow region at))) m looks = steady (looks.counts.else_same (λ e. cc)) (as_often _ made tried whole m.room.stays.room refl m.room.stays.counts.faults)
+  counted (Err (merge_fault.Fetch (fetch_fault.BadIndex region at))) m looks = steady (looks.counts.else_same (λ e. cc)) (as_often _ made tried whole m.room.stays.room refl m.room.stays.counts.faults)
+  counted (Err (merge_fault.Fetch fetch_fault.NoMemory)) m looks = steady (looks.counts.else_same (λ e. cc)) (as_often _ made tried whole m.room.stays.room refl m.room.stays.counts.faults)
+  counted (Err (merge_fault.Room room_fault.NoMemory)) m looks = steady (looks.counts.else_same (λ e. cc)) (as_often _ made tried whole m.stays.room refl m.stays.counts.faults)
+  counted (Err (merge_fault.Room room_fault.Disk)) m looks = call_failed (more_often _ made tried whole m.1.room refl m.1.fails.faults)
+  counted (Err (merge_fault.Room (room_fault.Shut epoch))) m looks = absurd (true≢false (sym m.0 ∙ made_open old made view makes))
+
+  -- ---- the whole step
+
+  pub leaves : SameView view seen → LeavesBoard made tried → new.room.board ≡ slice_set tried.room.board (buffer_at seen.seat seen.buffer) None → LeavesBoard old new
+  leaves same l board = record {
+    entry = back.entry ∙ (l.entry ∙ makes.leaves.entry);
+    keeps = keeps_then old made new makes.leaves.keeps (keeps_then made tried new l.keeps back.keeps);
+    no_job = ap (λ (r : RoomState). r.job) back.room ∙ l.no_job;
+    places = ap (λ (r : RoomState). r.places) back.room ∙ (l.places ∙ ap (λ (r : RoomState). r.places) makes.room);
+    board = board ∙ emptied old made view makes seen same tried.room.board l.board;
+    epochs = (
+      ap (λ (r : RoomState). r.sealed) back.room ∙ (l.epochs.0 ∙ ap (λ (r : RoomState). r.sealed) makes.room),
+      ap (λ (r : RoomState). r.waiting) back.room ∙ (l.epochs.1 ∙ ap (λ (r : RoomState). r.waiting) makes.room),
+    );
+  }
+
+  open_still : tried.room.is_shut ≡ false → (old.room.is_shut ≡ false) × (new.room.is_shut ≡ false)
+  open_still unshut = (makes.not_shut, ap (λ (r : RoomState). r.is_shut) back.room ∙ unshut)
+
+  same_chain : (state : RoomState) → tried.room ≡ state → state.parts ≡ made.room.parts → state.retired ≡ made.room.retired → state.free ≡ made.room.free → state.lost ≡ made.room.lost → SameChain old.room new.room
+  same_chain state is parts retired free lost = record {
+    parts = ap (λ (r : RoomState). r.parts) back.room ∙ (ap (λ (r : RoomState). r.parts) is ∙ (parts ∙ ap (λ (r : RoomState). r.parts) makes.room));
+    retired = ap (λ (r : RoomState). r.retired) back.room ∙ (ap (λ (r : RoomState). r.retired) is ∙ (retired ∙ ap (λ (r : RoomState). r.retired) makes.room));
+    free = (
+      ap (λ (r : RoomState). r.free) back.room ∙ (ap (λ (r : RoomState). r.free) is ∙ (free ∙ ap (λ (r : RoomState). r.free) makes.room)),
+      ap (λ (r : RoomState). r.lost) back.room ∙ (ap (λ (r : RoomState). r.lost) is ∙ (lost ∙ ap (λ (r : RoomState). r.lost) makes.room)),
+    );
+  }
+
+  unfit : IsView view → MergesNone from made tried view → FirstTwoUnfit from old.room
+  unfit is_view m two a b near older newer fits =
+      let out : IsOut made view = record { whole = whole; is_view = is_view; posted = posted_there old made view makes; region_len = made_len old made view makes } in
+      let stand = stand_in from old.room.parts two near in
+      let has_a = subst (λ ps. Contains ps two.0) (sym makes.parts) (has_older old.room.parts two stand) in
+      let has_b = subst (λ ps. Contains ps two.1) (sym makes.parts) (has_newer old.room.parts two stand) in
+      m.none two (record { first = subst (λ (s : RoomState). neighbours_from from s.parts ≡ Some two) (sym makes.room) near; older = has_a; newer = has_b }) a b
+      (shown_by_eye made view two.0 a out has_a (subst (λ (s : RoomState). TellsRowsOf s.image s.region_len (two.0 ∷ []) a) (sym makes.room) older))
+      (shown_by_eye made view two.1 b out has_b (subst (λ (s : RoomState). TellsRowsOf s.image s.region_len (two.1 ∷ []) b) (sym makes.room) newer))
+      (subst (λ (s : RoomState). FitsFree s.region_len (length s.free) a b) (sym makes.room) fits)
+
+  pub merges : IsView view → (r : Result Bool MergeFault) → PairOr from made tried view seen r → MergesTwoOr from old.room new.room r
+  unfolding merged_state
+  merges is_view (Ok true) m = (
+    open_still (ap (λ (r : RoomState). r.is_shut) m.room.1.room ∙ m.room.0),
+    record {
+      two = m.two;
+      first = subst (λ (s : RoomState). neighbours_from from s.parts ≡ Some m.two) makes.room m.tried.first;
+      measure = m.measure;
+      ordered = m.ordered;
+      regions = m.regions;
+      taken = subst (λ (s : RoomState). regions_for_job s m.measure ≡ Some m.regions) makes.room m.taken;
+      parts =
+          ap (λ (r : RoomState). r.parts) back.room
+          ∙ (ap (λ (r : RoomState). r.parts) m.room.1.room
+          ∙ ap (λ (s : RoomState). replaced m.two.0.region (part_of (job_for m.two m.measure m.regions s.free).target (header_for m.two m.measure m.regions s.free)) s.parts) makes.room);
+      retired = ap (λ (r : RoomState). r.retired) back.room ∙ (ap (λ (r : RoomState). r.retired) m.room.1.room ∙ ap (λ (s : RoomState). retire m.two.1 (retire m.two.0 s.retired)) makes.room);
+      free = ap (λ (r : RoomState). r.free) back.room ∙ (ap (λ (r : RoomState). r.free) m.room.1.room ∙ ap (λ (s : RoomState). drop m.regions s.free) makes.room);
+    },
+  )
+  merges is_view (Ok false) m = let s = m.room.stays in (open_still (ap (λ (r : RoomState). r.is_shut) s.room ∙ m.room.opened), same_chain _ s.room refl refl refl refl, unfit is_view m)
+  merges is_view (Err (merge_fault.Fetch fault)) m = let s = m.room.stays in (open_still (ap (λ (r : RoomState). r.is_shut) s.room ∙ m.room.opened), same_chain _ s.room refl refl refl refl)
+  merges is_view (Err (merge_fault.Room room_fault.NoMemory)) m = let s = m.stays in (open_still (ap (λ (r : RoomState). r.is_shut) s.room ∙ m.opened), same_chain _ s.room refl refl refl refl)
+  merges is_view (Err (merge_fault.Room room_fault.Disk)) m = let s = m.1 in (
+    makes.not_shut,
+    ap (λ (r : RoomState). r.is_shut) back.room ∙ ap (λ (r : RoomState). r.is_shut) s.room,
+    ap (λ (r : RoomState). r.parts) back.room ∙ (ap (λ (r : RoomState). r.parts) s.room ∙ ap (λ (r : RoomState). r.parts) makes.room),
+    ap (λ (r : RoomState). r.retired) back.room ∙ (ap (λ (r : RoomState). r.retired) s.room ∙ ap (λ (r : RoomState). r.retired) makes.room),
+  )
+  merges is_view (Err (merge_fault.Room (room_fault.Shut epoch))) m = absurd (true≢false (sym m.0 ∙ made_open old made view makes))
+
+  pub through : IsView view → (r : Result Bool MergeFault) → MergesPair from made tried view seen r → new.room.board ≡ slice_set tried.room.board (buffer_at seen.seat seen.buffer) None → MergesThroughOr from old new r
+  through is_view r m board = record {
+    leaves = leaves m.looks.same (pair_leaves from made tried view seen (made_open old made view makes) r m.room) board;
+    how = inl (record { made = made; view = view; makes = makes; tried = tried; seen = seen; tries = m; back = back });
+    merges = merges is_view r m.room;
+    counted = counted r m.room m.looks;
+  }
+
+-- the view is posted still, once two were tried through it
+pub still_there : (from : ℕ) (old made tried : RoomValue) (view seen : ViewValue) → MakesView old made 1 view → (r : Result Bool MergeFault) → MergesPair from made tried view seen r → IsPosted tried.room seen
+still_there from old made tried view seen makes r m =
+    posted_then made.room tried.room view seen (pair_leaves from made tried view seen (made_open old made view makes) r m.room).board m.looks.same (posted_there old made view makes)
+
+-- ---- no view could be made
+
+stays_board : (room : RoomValue) → IsWhole room → room.room.job ≡ None → LeavesBoard room room
+stays_board room whole none = record { entry = refl; keeps = keeps_none room whole; no_job = none; places = refl; board = refl; epochs = (refl, refl) }
+
+pub no_view : (from : ℕ) (old new : RoomValue) → IsWhole old → old.room.job ≡ None → (fault : RoomFault) → MakesViewOr old new 1 (Err fault) → MergesThroughOr from old new (Err (merge_fault.Room fault))
+no_view from old new whole none room_fault.Disk m = record {
+  leaves = record {
+    entry = m.leaves.entry;
+    keeps = m.leaves.keeps;
+    no_job = ap (λ (r : RoomState). r.job) m.room ∙ none;
+    places = ap (λ (r : RoomState). r.places) m.room;
+    board = m.board;
+    epochs = (ap (λ (r : RoomState). r.sealed) m.room, ap (λ (r : RoomState). r.waiting) m.room);
+  };
+  how = inr (record { fault = room_fault.Disk; is = refl; why = m });
+  merges = (m.was_open, m.is_shut, ap (λ (r : RoomState). r.parts) m.room, ap (λ (r : RoomState). r.retired) m.room);
+  counted = rises old new m.faults;
+}
+no_view from old new whole none (room_fault.Shut epoch) m = record {
+  leaves = subst (LeavesBoard old) (sym m.2) (stays_board old whole none);
+  how = inr (record { fault = room_fault.Shut epoch; is = refl; why = m });
+  merges = (m.0, m.1, ap (λ (v : RoomValue). v.room) m.2);
+  counted = let e = ap (λ (v : RoomValue). v.room.faults) m.2 in omega (arith, e);
+}
+no_view from old new whole none room_fault.NoMemory m = record {
+  leaves = subst (LeavesBoard old) (sym m.1) (stays_board old whole none);
+  how = inr (record { fault = room_fault.NoMemory; is = refl; why = m });
+  merges = (
+    (m.0, ap (λ (v : RoomValue). v.room.is_shut) m.1 ∙ m.0),
+    record {
+      parts = ap (λ (v : RoomValue). v.room.parts) m.1;
+      retired = ap (λ (v : RoomValue). v.room.retired) m.1;
+      free = (ap (λ (v : RoomValue). v.room.free) m.1, ap (λ (v : RoomValue). v.room.lost) m.1);
+    },
+  );
+  counted = let e = ap (λ (v : RoomValue). v.room.faults) m.1 in omega (arith, e);
+}
+
+-- ---- the turn
+
+pub no_jobs : (a b : RoomState) → a.job ≡ None → b.job ≡ None → KeepsJob a b
+no_jobs a b none still = record { job = still ∙ sym none; held = λ j is. absurd (let e : ◌≡◌ {A = Option Job} None (Some j) = sym none ∙ is in cc) }
+
+-- the merge of the seat 1 is not out as its pass takes the room
+pub none_out : (x : Beginning) (room : RoomState) (p q : RoomPass) → TakesRoom state_of x room p q → p.number ≡ 1 → LacksJob x p → room.job ≡ None
+none_out x room p q taken one lacks = (taken.same_job one).job ∙ lacks one
+
+-- whatever merging answers, the room may be given back
+pub may_merge : (x : Beginning) (from : ℕ) (old new : RoomValue) (p : RoomPass) (c : IsCleanTurn x old p) (r : Result Bool MergeFault) → old.room.job ≡ None → MergesThroughOr from old new r → InTurn x new p c.note
+may_merge x from old new p c r none m =
+    let l = m.leaves in
+    let i = c.turn in
+    let up = l.keeps.becomes.faults in
+    goes x p p old new c.note c.note i refl refl refl i.is_turn l.keeps (no_jobs old.room new.room none l.no_job) l.entry l.places (epochs_stay x p old new c.note i l.epochs) (let a = i.may.top in let b = l.keeps.becomes.sealed in omega (arith, a, b))
+    (l.board ∙ i.may.board)
+    (⊎_elim (λ low. inl (omega (arith, low, up))) (λ last. inr (omega (arith, last, up))) i.may.counted)
+
+module _ (x : Beginning) (found new : RoomValue) (p q r : RoomPass) (first : q.number ≡ p.number) (third : r.number ≡ q.number) (free : LacksPlace p places.room)
+    (taken : TakesRoom state_of x found.room p q) (stands : IsRoomFor room_state room_log Stands x (published q) found (turns q)) (c : IsCleanTurn x found q) (gave : GivesRoom new.room None 0 c.note q r) where
+  met_some : Rises found.room new.room → MeetsSome x p r
+  met_some up = meets_some x found new p q q r first refl third free taken stands (stays_none q) c.note gave (some_failed x q found new c.note c.turn up)
+
+  met_none : new.room.faults ≤ found.room.faults → MeetsNone x p r
+  met_none least = meets_none x found new p q q r first refl third free taken stands (stays_none q) c.note gave (let n = c.none_failed in omega (arith, n, least))
+
+  pub meets : (answer : Result Bool MergeFault) → Failing answer (Rises found.room new.room) (new.room.faults ≤ found.room.faults) → Failing answer (MeetsSome x p r) (MeetsNone x p r)
+  meets (Ok merged) least = met_none least
+  meets (Err (merge_fault.Fetch fetch_fault.Failed)) up = met_some up
+  meets (Err (merge_fault.Fetch (fetch_fault.BadRow region at))) least = met_none least
+  meets (Err (merge_fault.Fetch (fetch_fault.BadIndex region at))) least = met_none least
+  meets (Err (merge_fault.Fetch fetch_fault.NoMemory)) least = met_none least
+  meets (Err (merge_fault.Room room_fault.Disk)) up = met_some up
+  meets (Err (merge_fault.Room room_fault.NoMemory)) least = met_none least
+  meets (Err (merge_fault.Room (room_fault.Shut epoch))) least = met_none least

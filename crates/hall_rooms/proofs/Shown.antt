@@ -1,0 +1,179 @@
+-- What waits is sealed, posted to all seats and published, in a turn, and the turn ends.
+use Rattle.std.proofs.Common.{◌≡◌, ◌⊎◌, inl, inr, ⊎_elim, ℕ, suc, zero, ◌+◌, ◌-◌, ◌<◌, ◌≤◌, true, false, true≢false, List, [], ◌∷◌, ◌++◌, set, None, Ok, Err, refl, sym, ap, ◌∙◌, subst, arith}
+use Rattle.std.specs.Prelude.{Result, slice_set}
+use mathlib.Core.Option.{some, some-injective}
+use lib.ListN.{get_elem?}
+use Rattle.atomic_table.specs.Seated.{TableId}
+use Rattle.fine_model.specs.declared.law.RoomState.{RoomState}
+use Rattle.fine_model.specs.Faults.{last_count}
+use Rattle.fine_model.specs.Jobs.{KeepsJob}
+use Rattle.fine_model.proofs.Goings.{job_itself}
+use Rattle.partition_hold.specs.Views.{state_of}
+use Rattle.epoch_room.specs.Meaning.{Stands}
+use Rattle.epoch_room.specs.Value.{RoomValue}
+use Rattle.epoch_room.specs.Whole.{IsWhole}
+use Rattle.epoch_room.specs.declared.answers.RoomFault.{RoomFault}
+use Rattle.epoch_room.specs.declared.answers.RoomFault.TheVariants as room_fault
+use Rattle.epoch_room.proofs.Behind.{keeps_none}
+use Rattle.fine_places.specs.History as places
+use Rattle.fine_places.specs.History.{by_seat}
+use Rattle.fine_boxes.specs.Lists.{some_same}
+use Rattle.fine_boxes.specs.declared.model.TurnNote.{TurnNote}
+use Rattle.fine_hall.specs.declared.law.Beginning.{Beginning}
+use Rattle.fine_hall.specs.Turns.{commits, failed_of, in_bucket, room_after}
+use Rattle.fine_hall.specs.Laws.{IsRoomFor}
+use Rattle.fine_hall.specs.Passes.{first_given, known, turns, published, troubles, last_room, view_of, LacksPlace, IsHolder, IsPass}
+use Rattle.fine_hall.specs.Halls.{turn_of, GivesRoom, Publishes, TakesRoom}
+use Rattle.fine_hall.proofs.Since.{gives_law}
+use Rattle.fine_hall.proofs.Troubles.{troubles_law}
+use Rattle.hall_rooms.specs.Rooms.{RoomPass, room_state, room_log}
+use Rattle.hall_rooms.specs.Turning.{MeetsNone, MeetsSome, NewView, SealsTurn, TakesTurn}
+use Rattle.hall_rooms.specs.Steps.{InTurn, IsCleanTurn, NoneFailed, PostsEachOr, SealsWaitingOr, ShowsOr, Stays}
+use Rattle.hall_rooms.proofs.Turned.{epochs_sealed, epochs_stay, goes, some_failed, stepped}
+
+-- ---- sealing
+
+pub sealed_clean : (x : Beginning) (p : RoomPass) (old mid : RoomValue) → IsCleanTurn x old p → SealsWaitingOr old mid (Ok tt) → IsCleanTurn x mid p
+sealed_clean x p old mid c s = record {
+  note = c.note;
+  turn = stepped x p old mid c.note c.turn s.0 (epochs_sealed x p old mid c.note c.turn s.1);
+  none_failed = let n = c.none_failed in let e = s.1.faults in omega (arith, n, e);
+}
+
+pub seal_fails : (x : Beginning) (p : RoomPass) (old mid : RoomValue) (fault : RoomFault) → IsCleanTurn x old p → SealsWaitingOr old mid (Err fault) → ShowsOr x old mid p (Err fault)
+seal_fails x p old mid room_fault.Disk c s = (
+  record { note = c.note; turn = stepped x p old mid c.note c.turn s.0 (epochs_stay x p old mid c.note c.turn s.1); some_failed = some_failed x p old mid c.note c.turn s.4 },
+  s.2,
+  s.3,
+)
+seal_fails x p old mid (room_fault.Shut epoch) c s = (subst (λ r. IsCleanTurn x r p) (sym s.2) c, s.0, s.1, s.2)
+seal_fails x p old mid room_fault.NoMemory c s = (
+  record { note = c.note; turn = stepped x p old mid c.note c.turn s.0 (epochs_stay x p old mid c.note c.turn s.1); none_failed = let n = c.none_failed in let e = s.3 in omega (arith, n, e) },
+  s.2,
+)
+
+pub job_sealed : (old mid : RoomValue) (fault : RoomFault) → SealsWaitingOr old mid (Err fault) → KeepsJob old.room mid.room
+job_sealed old mid room_fault.Disk s = s.0.job
+job_sealed old mid (room_fault.Shut epoch) s = subst (λ (r : RoomValue). KeepsJob old.room r.room) (sym s.2) (job_itself old.room)
+job_sealed old mid room_fault.NoMemory s = s.0.job
+
+-- ---- posting
+
+pub post_fails : (x : Beginning) (old mid new : RoomValue) (p' : RoomPass) (fault : RoomFault) → SealsWaitingOr old mid (Ok tt) → PostsEachOr x mid new p' (Err fault) → ShowsOr x old new p' (Err fault)
+post_fails x old mid new p' room_fault.Disk s e = (e.0, sym s.1.is_shut ∙ e.1, e.2)
+post_fails x old mid new p' (room_fault.Shut epoch) s e = by old.room.waiting refl
+  where
+    same : mid ≡ old → ShowsOr x old new p' (Err (room_fault.Shut epoch))
+    same is = (e.0, sym s.1.is_shut ∙ e.1, e.2 ∙ ap (λ (r : RoomValue). r.room.sealed) is, e.3 ∙ is)
+
+    by : (n : ℕ) → old.room.waiting ≡ n → ShowsOr x old new p' (Err (room_fault.Shut epoch))
+    by zero is = same (s.2 is)
+    by (suc n) is = absurd (true≢false (sym (sym s.1.is_shut ∙ e.1) ∙ s.3 (λ none. absurd (omega (arith, is, none)))))
+post_fails x old mid new p' room_fault.NoMemory s e = (e.0, e.1)
+
+-- ---- publishing
+
+module _ (x : Beginning) (new : RoomValue) (p' p'' : RoomPass) (z : TableId) (ok : IsPass state_of z x p'') (number : p''.number ≡ p'.number) (whole : IsWhole new) (epoch : ℕ) (s : Publishes epoch p' p'') where
+  pub published_turn : (t : TurnNote) → InTurn x new p' t → InTurn x new p'' t
+  published_turn t i =
+      let had = ok.holder (ap (λ l. get_elem? l places.room) s.same_held ∙ i.held) in
+      let same : had.0 ≡ t = some_same had.0 t (sym had.1.turn ∙ (ap (λ y. y.turn) s.views.reads ∙ i.is_turn.turn)) in
+      goes x p' p'' new new t t i s.same_held s.same_turns number (subst (IsHolder x p'') same had.1) (keeps_none new whole) (job_itself new.room) refl refl i.may.epochs i.may.top i.may.board i.may.counted
+
+  pub shown : (old mid : RoomValue) → SealsWaitingOr old mid (Ok tt) → PostsEachOr x mid new p' (Ok tt) → epoch ≡ new.room.sealed → ShowsOr x old new p'' (Ok epoch)
+  shown old mid sealed posts is =
+      let b = posts.0 in (
+        record {
+          note = b.note;
+          turn = published_turn b.note b.turn;
+          none_failed = let n = b.none_failed in let l = ap (λ ts. (room_after x.room ts).faults) s.same_turns in omega (arith, n, l);
+        },
+        is,
+        s.now,
+        record {
+          none_waits = ap (λ (r : RoomState). r.waiting) b.same ∙ sealed.1.none_waits;
+          sealed = ap (λ (r : RoomState). r.sealed) b.same ∙ sealed.1.sealed;
+          not_shut = posts.1;
+          retired = ap (λ (r : RoomState). r.retired) b.same ∙ sealed.1.retired;
+          free = (ap (λ (r : RoomState). r.free) b.same ∙ sealed.1.free.0, ap (λ (r : RoomState). r.lost) b.same ∙ sealed.1.free.1);
+          posted = λ seat least most. subst (λ g. NewView g new.room.parts new.room.board seat) sealed.0.given (b.posted seat least most);
+        },
+      )
+
+pub stays_published : (epoch : ℕ) (p p' : RoomPass) → published p ≤ epoch → Publishes epoch p p' → Stays p p'
+stays_published epoch p p' later s = record {
+  held = s.same_held;
+  turns = s.same_turns;
+  own = s.same_own;
+  no_earlier = let e = s.now in omega (arith, later, e);
+  front = s.views.front;
+  given_up = ap (λ y. first_given y.notes) s.views.reads;
+}
+
+-- ---- the end of a turn
+
+-- whatever showing answers, the room may be given back
+pub in_turn : (x : Beginning) (old new : RoomValue) (p' : RoomPass) (r : Result ℕ RoomFault) → ShowsOr x old new p' r → (t : TurnNote) × InTurn x new p' t
+in_turn x old new p' (Ok epoch) s = (s.0.note, s.0.turn)
+in_turn x old new p' (Err room_fault.Disk) s = (s.0.note, s.0.turn)
+in_turn x old new p' (Err (room_fault.Shut epoch)) s = (s.0.note, s.0.turn)
+in_turn x old new p' (Err room_fault.NoMemory) s = (s.0.note, s.0.turn)
+
+-- a place that was taken and given back is as it was
+held_back : {A : Type 0} (l : List A) (k : ℕ) (a b : A) → get_elem? l k ≡ some a → set (set l k b) k a ≡ l
+held_back [] k a b e = refl
+held_back (x ∷ l) zero a b e = ap (λ y. y ∷ l) (sym (some-injective x a e))
+held_back (x ∷ l) (suc k) a b e = ap (λ m. x ∷ m) (held_back l k a b e)
+
+module _ (x : Beginning) (found new : RoomValue) (p p₁ q r : RoomPass) (first : p₁.number ≡ p.number) (second : q.number ≡ p₁.number) (third : r.number ≡ q.number) (free : LacksPlace p places.room)
+    (taken : TakesRoom state_of x found.room p p₁) (stands : IsRoomFor room_state room_log Stands x (published p₁) found (turns p₁)) (stays : Stays p₁ q) (t : TurnNote) (gave : GivesRoom new.room None 0 t q r) where
+  turns_are : turns q ≡ turns p ++ taken.takes.sees.longer.0
+  turns_are = stays.turns ∙ taken.takes.sees.longer.1
+
+  number : q.number ≡ p.number
+  number = second ∙ first
+
+  pub turn_taken : TakesTurn x found.room None 0 new.room p r
+  turn_taken = record {
+    others = taken.takes.sees.longer.0;
+    not_own = taken.takes.sees.longer.2;
+    kept = λ j near has. taken.takes.sees.kept j near has ∙ ap (λ ts. in_bucket j (commits ts)) taken.takes.sees.longer.1;
+    found_is = stands.last ∙ ap (room_after x.room) taken.takes.sees.longer.1;
+    found_job = taken.same_job;
+    returned = t.in_hand;
+    turns_more = gave.turns_more ∙ (λ i. turns_are i ++ record { seat = number i; item = turn_of None 0 new.room t.in_hand } ∷ []);
+    own_more = gave.own_more ∙ (λ i. (stays.own ∙ taken.takes.sees.same_own) i ++ record { seat = number i; item = turn_of None 0 new.room t.in_hand } ∷ []);
+    no_earlier = let a = taken.takes.sees.no_earlier in let b = stays.no_earlier in let c = gave.same_published in omega (arith, a, b, c);
+    front = (gave.front.0 ∙ (stays.front.0 ∙ taken.takes.front.0), gave.front.1 ∙ (stays.front.1 ∙ taken.takes.front.1));
+    given_same = ap first_given gave.notes ∙ (stays.given_up ∙ ap first_given taken.takes.notes);
+  }
+
+  pub held_same : (known r).held ≡ (known p).held
+  held_same = gave.held ∙ (ap (λ l. slice_set l places.room false) (stays.held ∙ taken.takes.held) ∙ held_back (known p).held places.room false true free)
+
+  pub last_is : last_room x r ≡ new.room
+  last_is = (gives_law x new.room None 0 t q r gave).last
+
+  met : troubles state_of x q ≡ troubles state_of x p
+  met =
+      (λ i. (failed_of (second i) x.room (stays.turns i) + stays.given_up i) + (view_of state_of (stays.front.0 i)).faults)
+      ∙ ((troubles_law state_of x).same p p₁ first).takes places.room taken.takes
+
+  ended : troubles state_of x r ≡ troubles state_of x q + (new.room.faults - ((last_room x q).faults + t.in_hand))
+  ended = (troubles_law state_of x).turn new.room None 0 t q r third gave
+
+  pub meets_none : NoneFailed x new q t → MeetsNone x p r
+  meets_none n = let e = ended in let m = met in omega (arith, e, m, n)
+
+  pub meets_some : ((last_room x q).faults + t.in_hand < new.room.faults) ⊎ (last_count ≤ new.room.faults) → MeetsSome x p r
+  meets_some s = ⊎_elim (λ up. inl (let e = ended in let m = met in omega (arith, e, m, up))) (λ last. inr (subst (λ (s : RoomState). last_count ≤ s.faults) (sym last_is) last)) s
+
+-- what a turn of showing did, once the room was given back
+module _ (x : Beginning) (found new : RoomValue) (p p₁ q r : RoomPass) (first : p₁.number ≡ p.number) (second : q.number ≡ p₁.number) (third : r.number ≡ q.number) (free : LacksPlace p places.room)
+    (taken : TakesRoom state_of x found.room p p₁) (stands : IsRoomFor room_state room_log Stands x (published p₁) found (turns p₁)) (stays : Stays p₁ q) where
+  pub seals_turn : (answer : Result ℕ RoomFault) (s : ShowsOr x found new q answer) → GivesRoom new.room None 0 (in_turn x found new q answer s).0 q r → SealsTurn x found.room new.room p r answer
+  unfolding in_turn
+  seals_turn (Ok epoch) s gave = (s.1, gave.same_published ∙ s.2, s.3, meets_none x found new p p₁ q r first second third free taken stands stays s.0.note gave s.0.none_failed)
+  seals_turn (Err room_fault.Disk) s gave = (s.1, s.2, meets_some x found new p p₁ q r first second third free taken stands stays s.0.note gave s.0.some_failed)
+  seals_turn (Err (room_fault.Shut epoch)) s gave = (s.1, s.2, ap (λ (v : RoomValue). v.room) s.3, meets_none x found new p p₁ q r first second third free taken stands stays s.0.note gave s.0.none_failed)
+  seals_turn (Err room_fault.NoMemory) s gave = (s.1, meets_none x found new p p₁ q r first second third free taken stands stays s.0.note gave s.0.none_failed)

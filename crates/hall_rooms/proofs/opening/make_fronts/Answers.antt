@@ -1,0 +1,74 @@
+-- A front is made for each seat.
+use Rattle.std.proofs.Common.{◌≡◌, ◌+◌, ◌∷◌, [], Err, arith, length, reverse, ap, subst, sym, ◌∙◌, length-append}
+use Rattle.std.specs.Prelude.{IsSome, Result}
+use Rattle.std.proofs.lemmas.Result.{err_from_is_err_and}
+use Rattle.fine_model.specs.Boards.{empty_of}
+use Rattle.epoch_room.specs.declared.answers.RoomFault.{RoomFault}
+use Rattle.hall_rooms.specs.Opening.{MakesFronts, MakesFrontsOr}
+use Rattle.hall_rooms.specs.Views.{MakesView}
+use Rattle.hall_rooms.proofs.Fresh.{front_empty, front_long, fronts_next, fronts_none, lacks_view}
+use Rattle.hall_rooms.proofs.opening.make_fronts.Goals as goal
+
+pub loop-i-init : goal.loop-i-init
+loop-i-init g c =
+    let none = c.requires.fronts.0 in
+    let long : length c.args.fronts.now.items ≡ 0 = ap length none in
+    let ok = c.args.fronts.now.ok in
+    record {
+      made = subst (MakesFronts c.args.room.now c.args.room.now c.args.seats) (sym none) (fronts_none c.args.room.now c.args.seats c.counts-whole.ensures.whole c.requires.board);
+      long = long;
+      count = omega (arith, ok, long);
+      spare = c.requires.fronts.1;
+    }
+
+pub make_view-requires-clause-seats : goal.make_view-requires-clause-seats
+make_view-requires-clause-seats g c κs within =
+    let i = c.loop-i.invariant in
+    let long = i.long in
+    let test = c.loop-i-test.true in
+    let h = front_long c.args.room.now c.loop-i.room c.args.seats c.loop-i.fronts.items i.made (omega (arith, long, test)) in
+    omega (arith, h, long)
+
+pub make_view-requires-clause-empty : goal.make_view-requires-clause-empty
+make_view-requires-clause-empty g c κs within =
+    let i = c.loop-i.invariant in
+    let long = i.long in
+    let test = c.loop-i-test.true in
+    subst (λ n. IsSome (empty_of c.loop-i.room.room.board (n + 1))) long (front_empty c.args.room.now c.loop-i.room c.args.seats c.loop-i.fronts.items i.made (omega (arith, long, test)))
+
+pub loop-i-preserved : goal.loop-i-preserved
+loop-i-preserved g c =
+    let i = c.loop-i.invariant in
+    let long = i.long in
+    let test = c.loop-i-test.true in
+    let v = c.in_ok-make_view.field-0 in
+    let p = c.push_reserved.ensures in
+    let m = subst (λ n. MakesView c.loop-i.room c.make_view.new.room (n + 1) v) (sym long) c.in_ok-make_view.ensures in
+    let more = ap length p.items ∙ length-append c.loop-i.fronts.items (v ∷ []) in
+    let len = p.len in
+    let count = i.count in
+    let spare = i.spare in
+    let capacity = p.capacity in
+    record {
+      made = subst (MakesFronts c.args.room.now c.make_view.new.room c.args.seats) (sym p.items) (fronts_next c.args.room.now c.loop-i.room c.args.seats c.loop-i.fronts.items i.made (omega (arith, long, test)) c.make_view.new.room c.requires.stands v m);
+      long = omega (arith, more, long);
+      count = omega (arith, len, count);
+      spare = omega (arith, spare, capacity);
+    }
+
+pub returns-in_err-make_view : goal.returns-in_err-make_view
+returns-in_err-make_view g c =
+    let i = c.loop-i.invariant in
+    let fault = c.in_err-make_view.field-0.0 in
+    let p = err_from_is_err_and c.from_residual.result c.from_residual.ensures.1 in
+    let e : ◌≡◌ {A = Result (Unit {0}) RoomFault} c.from_residual.result (Err fault) = cc (p.1, p.2) in
+    subst (MakesFrontsOr c.args.room.now c.make_view.new.room c.args.seats c.loop-i.fronts.items) (sym e)
+    (lacks_view c.args.room.now c.loop-i.room c.make_view.new.room (reverse c.loop-i.fronts.items) (c.loop-i.i + 1) fault i.made.out i.made.same c.in_err-make_view.ensures)
+
+pub returns : goal.returns
+returns g c =
+    let i = c.loop-i.invariant in
+    let long = i.long in
+    let low = c.loop-i-test.false in
+    let high = c.loop-i.auto.i-end in
+    (omega (arith, long, low, high), i.made)

@@ -1,0 +1,80 @@
+-- A middle is made for each seat.
+use Rattle.std.proofs.Common.{◌≡◌, ◌++◌, ◌+◌, ◌∷◌, [], Err, arith, length, reverse, ap, subst, sym, ◌∙◌, length-append}
+use Rattle.std.specs.Prelude.{IsSome, Result}
+use Rattle.std.proofs.lemmas.Result.{err_from_is_err_and}
+use Rattle.fine_model.specs.Boards.{empty_of}
+use Rattle.epoch_room.specs.declared.answers.RoomFault.{RoomFault}
+use Rattle.hall_rooms.specs.Opening.{MakesMiddles, MakesMiddlesOr}
+use Rattle.hall_rooms.specs.Views.{MakesView}
+use Rattle.hall_rooms.proofs.Fresh.{lacks_view, middle_empty, middle_long, middles_next, middles_none}
+use Rattle.hall_rooms.proofs.opening.make_middles.Goals as goal
+
+pub loop-i-init : goal.loop-i-init
+loop-i-init g c =
+    let none = c.requires.middles.0 in
+    let long : length c.args.middles.now.items ≡ 0 = ap length none in
+    let ok = c.args.middles.now.ok in
+    record {
+      made = λ old fronts alone many f. subst (MakesMiddles old c.args.room.now fronts) (sym none) (middles_none old c.args.room.now c.args.seats fronts many f);
+      long = long;
+      count = omega (arith, ok, long);
+      spare = c.requires.middles.1;
+    }
+
+pub make_view-requires-clause-seats : goal.make_view-requires-clause-seats
+make_view-requires-clause-seats g c κs within =
+    let i = c.loop-i.invariant in
+    let f = c.requires.fronts in
+    let many = f.3 in
+    let long = i.long in
+    let test = c.loop-i-test.true in
+    let h = middle_long f.0 c.loop-i.room f.1 c.loop-i.middles.items (i.made f.0 f.1 f.2 f.3 f.4) (omega (arith, long, test, many)) in
+    omega (arith, h, long)
+
+pub make_view-requires-clause-empty : goal.make_view-requires-clause-empty
+make_view-requires-clause-empty g c κs within =
+    let i = c.loop-i.invariant in
+    let f = c.requires.fronts in
+    let many = f.3 in
+    let long = i.long in
+    let test = c.loop-i-test.true in
+    subst (λ n. IsSome (empty_of c.loop-i.room.room.board (n + 1))) long (middle_empty f.0 c.loop-i.room f.1 c.loop-i.middles.items (i.made f.0 f.1 f.2 f.3 f.4) (omega (arith, long, test, many)))
+
+pub loop-i-preserved : goal.loop-i-preserved
+loop-i-preserved g c =
+    let i = c.loop-i.invariant in
+    let long = i.long in
+    let test = c.loop-i-test.true in
+    let v = c.in_ok-make_view.field-0 in
+    let p = c.push_reserved.ensures in
+    let m = subst (λ n. MakesView c.loop-i.room c.make_view.new.room (n + 1) v) (sym long) c.in_ok-make_view.ensures in
+    let more = ap length p.items ∙ length-append c.loop-i.middles.items (v ∷ []) in
+    let len = p.len in
+    let count = i.count in
+    let spare = i.spare in
+    let capacity = p.capacity in
+    record {
+      made = λ old fronts alone many f. subst (MakesMiddles old c.make_view.new.room fronts) (sym p.items)
+          (middles_next old c.loop-i.room fronts c.loop-i.middles.items (i.made old fronts alone many f) (omega (arith, long, test, many)) c.make_view.new.room alone v m);
+      long = omega (arith, more, long);
+      count = omega (arith, len, count);
+      spare = omega (arith, spare, capacity);
+    }
+
+pub returns-in_err-make_view : goal.returns-in_err-make_view
+returns-in_err-make_view g c old fronts alone many f =
+    let i = c.loop-i.invariant in
+    let b = i.made old fronts alone many f in
+    let fault = c.in_err-make_view.field-0.0 in
+    let p = err_from_is_err_and c.from_residual.result c.from_residual.ensures.1 in
+    let e : ◌≡◌ {A = Result (Unit {0}) RoomFault} c.from_residual.result (Err fault) = cc (p.1, p.2) in
+    subst (MakesMiddlesOr old c.make_view.new.room c.args.seats fronts c.loop-i.middles.items) (sym e)
+    (lacks_view old c.loop-i.room c.make_view.new.room (reverse c.loop-i.middles.items ++ reverse fronts) (c.loop-i.i + 1) fault b.out b.same c.in_err-make_view.ensures)
+
+pub returns : goal.returns
+returns g c old fronts alone many f =
+    let i = c.loop-i.invariant in
+    let long = i.long in
+    let low = c.loop-i-test.false in
+    let high = c.loop-i.auto.i-end in
+    (omega (arith, long, low, high), i.made old fronts alone many f)

@@ -1,0 +1,152 @@
+-- The steps within a turn of the room.
+use Rattle.std.specs.Prelude.{◌≡◌, ◌⊎◌, ℕ, ◌+◌, ◌-◌, ◌<◌, ◌≤◌, ◌==◌, if◌then◌else◌, true, false, List, [], ◌∷◌, ◌++◌, Contains, None, Result, Ok, Err, slice_index}
+use Rattle.fine_model.specs.declared.law.RoomState.{RoomState}
+use Rattle.fine_model.specs.declared.law.ViewState.{ViewState}
+use Rattle.fine_model.specs.Boards.{set_of}
+use Rattle.fine_model.specs.Faults.{last_count}
+use Rattle.fine_model.specs.Jobs.{KeepsJob}
+use Rattle.epoch_room.specs.Meaning.{Keeps, Stands}
+use Rattle.epoch_room.specs.Value.{RoomValue, all_regions}
+use Rattle.epoch_room.specs.declared.answers.RoomFault.{RoomFault}
+use Rattle.epoch_room.specs.declared.answers.RoomFault.TheVariants as room_fault
+use Rattle.fine_places.specs.History as places
+use Rattle.fine_boxes.specs.declared.model.TurnNote.{TurnNote}
+use Rattle.fine_boxes.specs.Telling.{posting}
+use Rattle.fine_hall.specs.declared.law.Beginning.{Beginning}
+use Rattle.fine_hall.specs.Passes.{known, turns, own_turns, published, given_up, last_room, HasPlace, IsHolder}
+use Rattle.fine_hall.specs.Halls.{MayGiveRoom, Posts}
+use Rattle.hall_rooms.specs.Rooms.{RoomPass, room_state, room_log}
+use Rattle.hall_rooms.specs.Turning.{ErasesUnheld, NewView, SealedAndPosted}
+
+-- ---- a turn
+
+-- in a turn of the pass, the room may be given back as it is
+pub record InTurn (x : Beginning) (room : RoomValue) (p : RoomPass) (t : TurnNote) : Type 0 where
+  pub held : HasPlace p places.room
+  pub is_turn : IsHolder x p t
+  pub may : MayGiveRoom room_state room_log Stands x room None 0 t p
+
+-- no call of the turn failed
+abbrev pub NoneFailed : Beginning → RoomValue → RoomPass → TurnNote → Type 0
+NoneFailed x room p t = room.room.faults ≤ (last_room x p).faults + t.in_hand
+
+-- some call of the turn failed
+abbrev pub SomeFailed : Beginning → RoomValue → RoomPass → TurnNote → Type 0
+SomeFailed x room p t = ((last_room x p).faults + t.in_hand < room.room.faults) ⊎ (last_count ≤ room.room.faults)
+
+pub record IsCleanTurn (x : Beginning) (room : RoomValue) (p : RoomPass) : Type 0 where
+  pub note : TurnNote
+  pub turn : InTurn x room p note
+  pub none_failed : NoneFailed x room p note
+
+pub record IsFailedTurn (x : Beginning) (room : RoomValue) (p : RoomPass) : Type 0 where
+  pub note : TurnNote
+  pub turn : InTurn x room p note
+  pub some_failed : SomeFailed x room p note
+
+-- what a pass saw and holds stays, and so do its front and what it gave up
+pub record Stays (p p' : RoomPass) : Type 0 where
+  pub held : (known p').held ≡ (known p).held
+  pub turns : turns p' ≡ turns p
+  pub own : own_turns p' ≡ own_turns p
+  pub no_earlier : published p ≤ published p'
+  pub front : (p'.front ≡ p.front) × (p'.buffer ≡ p.buffer)
+  pub given_up : given_up p' ≡ given_up p
+
+-- ---- sealing
+
+-- what every step leaves that posts no view
+pub record LeavesViews (old new : RoomValue) : Type 0 where
+  pub entry : new.entry ≡ old.entry
+  pub keeps : Keeps old new
+  pub job : KeepsJob old.room new.room
+  pub places : new.room.places ≡ old.room.places
+  pub board : new.room.board ≡ old.room.board
+  pub given : new.room.given ≡ old.room.given
+
+-- the count of all faults has risen, or stands at its last value
+abbrev pub Rises : RoomState → RoomState → Type 0
+Rises old new = (old.faults < new.faults) ⊎ (last_count ≤ new.faults)
+
+-- what waited is sealed
+pub record IsSealed (old new : RoomState) : Type 0 where
+  pub none_waits : new.waiting ≡ 0
+  pub sealed : new.sealed ≡ (if old.waiting == 0 then old.sealed else old.sealed + 1)
+  pub is_shut : new.is_shut ≡ old.is_shut
+  pub retired : new.retired ≡ old.retired
+  pub free : (new.free ≡ old.free) × (new.lost ≡ old.lost)
+  pub faults : new.faults ≡ old.faults
+
+-- the epoch is open as it was
+abbrev pub SameEpochs : RoomState → RoomState → Type 0
+SameEpochs old new = (new.sealed ≡ old.sealed) × (new.waiting ≡ old.waiting)
+
+abbrev pub SealsWaitingOr : RoomValue → RoomValue → Result (Unit {0}) RoomFault → Type 0
+SealsWaitingOr old new (Ok done) = LeavesViews old new × IsSealed old.room new.room × (old.room.waiting ≡ 0 → new ≡ old) × ((old.room.waiting ≡ 0 → ⊥) → old.room.is_shut ≡ false)
+SealsWaitingOr old new (Err room_fault.Disk) = LeavesViews old new × SameEpochs old.room new.room × (old.room.is_shut ≡ false) × (new.room.is_shut ≡ true) × Rises old.room new.room
+SealsWaitingOr old new (Err (room_fault.Shut epoch)) = (old.room.is_shut ≡ true) × (epoch ≡ old.room.sealed) × (new ≡ old)
+SealsWaitingOr old new (Err room_fault.NoMemory) = LeavesViews old new × SameEpochs old.room new.room × (new.room.is_shut ≡ false) × (new.room.faults ≡ old.room.faults)
+
+-- ---- posting
+
+-- a state with the board, the eyes and the count of all faults of another
+abbrev pub with_posted : RoomState → RoomState → RoomState
+with_posted room other = record room { board = other.board; eyes = other.eyes; given = other.given; faults = other.faults }
+
+-- a new view was posted to a seat, and the old middle was taken back
+pub record PostsTo (x : Beginning) (seat : ℕ) (t : TurnNote) (old new : RoomValue) (p p' : RoomPass) : Type 0 where
+  pub view : ViewState
+  pub back : ViewState
+  pub within : view.buffer < 3
+  pub upto : view.upto ≡ new.room.sealed
+  pub of_parts : view.eye.regions ≡ set_of (all_regions old.room.parts)
+  pub is_new : Contains old.room.given view.eye.number → ⊥
+  pub posts : Posts x seat t view back p p'
+  pub turn : InTurn x new p' (posting t (seat - 1) view.buffer view back)
+  pub room : new.room ≡ with_posted old.room new.room
+  pub given : new.room.given ≡ old.room.given ++ view.eye.number ∷ []
+  pub counted : new.room.faults ≤ old.room.faults + back.faults
+
+-- no view could be made for it
+abbrev pub LacksView : RoomValue → RoomValue → RoomFault → Type 0
+LacksView old new room_fault.Disk = (old.room.is_shut ≡ false) × (new.room.is_shut ≡ true) × Rises old.room new.room × KeepsJob old.room new.room
+LacksView old new (room_fault.Shut epoch) = (old.room.is_shut ≡ true) × (epoch ≡ old.room.sealed) × (new ≡ old)
+LacksView old new room_fault.NoMemory = (old.room.is_shut ≡ false) × (new ≡ old)
+
+abbrev pub PostsOr : Beginning → ℕ → TurnNote → RoomValue → RoomValue → RoomPass → RoomPass → Result (Unit {0}) RoomFault → Type 0
+PostsOr x seat t old new p p' (Ok done) = PostsTo x seat t old new p p' × (old.room.is_shut ≡ false)
+PostsOr x seat t old new p p' (Err fault) = (p' ≡ p) × InTurn x new p t × LacksView old new fault
+
+-- In a turn of the pass in which no call failed, a view of all live parts was posted to each seat up to one.
+pub record PostedBelow (x : Beginning) (seats : ℕ) (found : RoomState) (room : RoomValue) (p : RoomPass) : Type 0 where
+  pub note : TurnNote
+  pub turn : InTurn x room p note
+  pub none_failed : NoneFailed x room p note
+  pub same : room.room ≡ with_posted found room.room
+  pub given : (more : List ℕ) × (room.room.given ≡ found.given ++ more)
+  pub upto : (i : ℕ) → i < seats → room.room.sealed ≤ slice_index note.posted i
+  pub posted : (seat : ℕ) → 1 ≤ seat → seat ≤ seats → NewView found.given room.room.parts room.room.board seat
+
+-- how a loop over the seats ends
+abbrev pub PostsEachOr : Beginning → RoomValue → RoomValue → RoomPass → Result (Unit {0}) RoomFault → Type 0
+PostsEachOr x old new p' (Ok done) = PostedBelow x x.seats old.room new p' × (new.room.is_shut ≡ false)
+PostsEachOr x old new p' (Err room_fault.Disk) = IsFailedTurn x new p' × (old.room.is_shut ≡ false) × (new.room.is_shut ≡ true)
+PostsEachOr x old new p' (Err (room_fault.Shut epoch)) = IsCleanTurn x new p' × (old.room.is_shut ≡ true) × (epoch ≡ old.room.sealed) × (new ≡ old)
+PostsEachOr x old new p' (Err room_fault.NoMemory) = IsCleanTurn x new p' × (new.room.is_shut ≡ false)
+
+-- ---- sealing, posting and publishing
+
+abbrev pub ShowsOr : Beginning → RoomValue → RoomValue → RoomPass → Result ℕ RoomFault → Type 0
+ShowsOr x old new p' (Ok epoch) = IsCleanTurn x new p' × (epoch ≡ new.room.sealed) × (published p' ≡ epoch) × SealedAndPosted old.room new.room x.seats
+ShowsOr x old new p' (Err room_fault.Disk) = IsFailedTurn x new p' × (old.room.is_shut ≡ false) × (new.room.is_shut ≡ true)
+ShowsOr x old new p' (Err (room_fault.Shut epoch)) = IsCleanTurn x new p' × (old.room.is_shut ≡ true) × (epoch ≡ old.room.sealed) × (new ≡ old)
+ShowsOr x old new p' (Err room_fault.NoMemory) = IsCleanTurn x new p' × (new.room.is_shut ≡ false)
+
+-- ---- erasing
+
+-- what every answer leaves: the epochs are as they were, and no view comes or goes
+abbrev pub ErasesOr : RoomValue → RoomValue → Result ℕ RoomFault → Type 0
+ErasesOr old new (Ok erased) = LeavesViews old new × SameEpochs old.room new.room × (old.room.is_shut ≡ false) × (new.room.is_shut ≡ false) × ErasesUnheld old.room new.room erased × (new.room.faults ≡ old.room.faults)
+ErasesOr old new (Err room_fault.Disk) = LeavesViews old new × SameEpochs old.room new.room × (old.room.is_shut ≡ false) × (new.room.is_shut ≡ true) × Rises old.room new.room
+ErasesOr old new (Err (room_fault.Shut epoch)) = (old.room.is_shut ≡ true) × (epoch ≡ old.room.sealed) × (new ≡ old)
+ErasesOr old new (Err room_fault.NoMemory) = LeavesViews old new × SameEpochs old.room new.room × (new.room.is_shut ≡ false) × (new.room.faults ≡ old.room.faults)

@@ -1,0 +1,118 @@
+-- What a turn of a pass does to the room.
+use Rattle.std.specs.Prelude.{◌≡◌, ◌≢◌, ◌⊎◌, ℕ, ◌+◌, ◌<◌, ◌≤◌, ◌==◌, if◌then◌else◌, true, false, List, [], ◌∷◌, ◌++◌, length, Contains, Option, Some, None, Result, Ok, Err, slice_get}
+use Rattle.fine_model.specs.declared.Entry.{Entry}
+use Rattle.fine_model.specs.declared.Part.{Part}
+use Rattle.fine_model.specs.declared.law.OpenedEye.{OpenedEye}
+use Rattle.fine_model.specs.declared.law.RoomState.{RoomState}
+use Rattle.fine_model.specs.Boards.{Buffer, buffer_at, set_of}
+use Rattle.fine_model.specs.Faults.{last_count}
+use Rattle.fine_model.specs.Jobs.{KeepsJob}
+use Rattle.partition_hold.specs.Views.{state_of}
+use Rattle.epoch_room.specs.Value.{all_regions}
+use Rattle.epoch_room.specs.Erasing.{held, led_by, unheld}
+use Rattle.epoch_room.specs.declared.answers.RoomFault.{RoomFault}
+use Rattle.epoch_room.specs.declared.answers.RoomFault.TheVariants as room_fault
+use Rattle.fine_places.specs.History as places
+use Rattle.fine_places.specs.History.{by_seat}
+use Rattle.fine_places.specs.declared.model.Placed.{Placed}
+use Rattle.fine_hall.specs.declared.law.Beginning.{Beginning}
+use Rattle.fine_hall.specs.declared.turn.Turn.{Turn}
+use Rattle.fine_hall.specs.Turns.{commits, in_bucket, room_after}
+use Rattle.fine_hall.specs.Passes.{turns, own_turns, seen, known, published, given_up, troubles, last_room, HasPlace, HoldsNothing, LacksJob}
+use Rattle.fine_hall.specs.Halls.{turn_of}
+use Rattle.hall_rooms.specs.Rooms.{RoomPass}
+
+-- One turn: the pass saw the turns of others since, of which none is in a bucket that it holds, and then its own, which found the room so, and
+-- gave it back so.
+pub record TakesTurn (x : Beginning) (found : RoomState) (entry : Option Entry) (epoch : ℕ) (room : RoomState) (p p' : RoomPass) : Type 0 where
+  pub others : List (Placed Turn)
+  pub not_own : by_seat p.number others ≡ []
+  pub kept : (j : ℕ) → j < places.room → HasPlace p j → in_bucket j (seen p) ≡ in_bucket j (commits (turns p ++ others))
+  pub found_is : found ≡ room_after x.room (turns p ++ others)
+  -- the merge of the seat 1 is left by the turns of others
+  pub found_job : p.number ≡ 1 → KeepsJob (last_room x p) found
+  pub returned : ℕ
+  pub turns_more : turns p' ≡ (turns p ++ others) ++ record { seat = p.number; item = turn_of entry epoch room returned } ∷ []
+  pub own_more : own_turns p' ≡ own_turns p ++ record { seat = p.number; item = turn_of entry epoch room returned } ∷ []
+  pub no_earlier : published p ≤ published p'
+  pub front : (p'.front ≡ p.front) × (p'.buffer ≡ p.buffer)
+  pub given_same : given_up p' ≡ given_up p
+
+-- the pass met no fault, or one more at least, unless the count of the room stands at its last value
+abbrev pub MeetsNone : Beginning → RoomPass → RoomPass → Type 0
+MeetsNone x p p' = troubles state_of x p' ≡ troubles state_of x p
+
+abbrev pub MeetsSome : Beginning → RoomPass → RoomPass → Type 0
+MeetsSome x p p' = (troubles state_of x p < troubles state_of x p') ⊎ (last_count ≤ (last_room x p').faults)
+
+-- ---- sealing and posting
+
+-- the board names a view of all these parts in a buffer of the seat, whose eye has none of these numbers
+pub record NewView (given : List ℕ) (parts : List Part) (board : List Buffer) (seat : ℕ) : Type 0 where
+  pub buffer : ℕ
+  pub within : buffer < 3
+  pub eye : OpenedEye
+  pub on_board : slice_get board (buffer_at seat buffer) ≡ Some (Some eye)
+  pub of_parts : eye.regions ≡ set_of (all_regions parts)
+  pub is_new : Contains given eye.number → ⊥
+
+-- What waited is sealed, as one epoch more, and each seat has a new view of all live parts. What is retired, free or lost is as it was.
+pub record SealedAndPosted (found room : RoomState) (seats : ℕ) : Type 0 where
+  pub none_waits : room.waiting ≡ 0
+  pub sealed : room.sealed ≡ (if found.waiting == 0 then found.sealed else found.sealed + 1)
+  pub not_shut : room.is_shut ≡ false
+  pub retired : room.retired ≡ found.retired
+  pub free : (room.free ≡ found.free) × (room.lost ≡ found.lost)
+  pub posted : (seat : ℕ) → 1 ≤ seat → seat ≤ seats → NewView found.given room.parts room.board seat
+
+abbrev pub SealsTurn : Beginning → RoomState → RoomState → RoomPass → RoomPass → Result ℕ RoomFault → Type 0
+SealsTurn x found room p p' (Ok epoch) = (epoch ≡ room.sealed) × (published p' ≡ epoch) × SealedAndPosted found room x.seats × MeetsNone x p p'
+SealsTurn x found room p p' (Err room_fault.Disk) = (found.is_shut ≡ false) × (room.is_shut ≡ true) × MeetsSome x p p'
+SealsTurn x found room p p' (Err (room_fault.Shut epoch)) = (found.is_shut ≡ true) × (epoch ≡ found.sealed) × (room ≡ found) × MeetsNone x p p'
+SealsTurn x found room p p' (Err room_fault.NoMemory) = (room.is_shut ≡ false) × MeetsNone x p p'
+
+-- one turn without an entry, in which what waits is sealed, posted and published
+pub record SealsAndPosts (x : Beginning) (p p' : RoomPass) (r : Result ℕ RoomFault) : Type 0 where
+  pub found : RoomState
+  pub room : RoomState
+  pub turn : TakesTurn x found None 0 room p p'
+  pub same_held : (known p').held ≡ (known p).held
+  pub job : KeepsJob found room
+  pub seals : SealsTurn x found room p p' r
+
+-- ---- erasing
+
+-- The retired parts that no view names were erased, so many, and their regions are free; nothing else changed.
+pub record ErasesUnheld (found room : RoomState) (erased : ℕ) : Type 0 where
+  pub count : erased ≡ length (unheld found)
+  pub left : room.retired ≡ held found
+  pub none : unheld found ≡ [] → room ≡ found
+  pub freed : unheld found ≢ [] → room.free ≡ set_of (found.free ++ all_regions (led_by (unheld found) found.retired))
+  pub same : room ≡ record found { retired = room.retired; free = room.free; image = room.image }
+
+abbrev pub SettlesTurn : Beginning → RoomState → RoomState → RoomPass → RoomPass → Result ℕ RoomFault → Type 0
+SettlesTurn x found room p p' (Ok erased) = (room.is_shut ≡ false) × ErasesUnheld found room erased × MeetsNone x p p'
+SettlesTurn x found room p p' (Err room_fault.Disk) = (found.is_shut ≡ false) × (room.is_shut ≡ true) × MeetsSome x p p'
+SettlesTurn x found room p p' (Err (room_fault.Shut epoch)) = (found.is_shut ≡ true) × (epoch ≡ found.sealed) × (room ≡ found) × MeetsNone x p p'
+SettlesTurn x found room p p' (Err room_fault.NoMemory) = (room.is_shut ≡ false) × MeetsNone x p p'
+
+-- one turn without an entry, in which each retired part is erased that no view names
+pub record SettlesViews (x : Beginning) (p p' : RoomPass) (r : Result ℕ RoomFault) : Type 0 where
+  pub found : RoomState
+  pub room : RoomState
+  pub turn : TakesTurn x found None 0 room p p'
+  pub same_held : (known p').held ≡ (known p).held
+  pub job : KeepsJob found room
+  pub settles : SettlesTurn x found room p p' r
+
+-- ---- laws
+
+-- A pass that holds nothing and has no merge out is such a pass after a turn that seals, and after one that erases.
+abbrev pub StaysIdle : (Beginning → RoomPass → RoomPass → Type 0) → Type 0
+StaysIdle did = (x : Beginning) (p p' : RoomPass) → p'.number ≡ p.number → did x p p' → HoldsNothing p → LacksJob x p → HoldsNothing p' × LacksJob x p'
+
+abbrev pub SealsIdle : Type 0
+SealsIdle = (r : Result ℕ RoomFault) → StaysIdle (λ x p p'. SealsAndPosts x p p' r)
+
+abbrev pub SettlesIdle : Type 0
+SettlesIdle = (r : Result ℕ RoomFault) → StaysIdle (λ x p p'. SettlesViews x p p' r)

@@ -1,0 +1,17 @@
+//! Rooms, buckets and views of a store on a hall: how it begins and ends, and the turns of the room that belong to no transaction.
+#![tactic(auto)]
+
+mod closing;
+mod laws;
+mod merging;
+mod opening;
+mod settling;
+mod showing;
+mod views;
+
+pub use closing::close_hall;
+pub use laws::idle_law;
+pub use merging::merge_two;
+pub use opening::{Opened, RoomHall, open_hall};
+pub use settling::settle_views;
+pub use showing::seal_and_post;

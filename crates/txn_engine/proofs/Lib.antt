@@ -1,0 +1,10 @@
+pub mod Held
+pub mod Open
+pub mod Ending
+pub mod Answering
+pub mod Scanning
+pub mod Taking
+pub mod Calling
+pub mod Releasing
+pub mod Committing
+pub mod Idle

@@ -1,0 +1,171 @@
+-- A scan from bucket to bucket, through a view.
+use Rattle.std.proofs.Common.{◌≡◌, ◌≢◌, ⊎_elim, ℕ, ◌+◌, ◌<◌, ◌≤◌, true, false, nat_le, List, [], ◌++◌, slice_get, slice_set, Option, Some, Result, Ok, Err, inl, inr, refl, sym, ap, ◌∙◌, subst, arith}
+use Rattle.std.specs.Prelude.{OnOk, IfErr}
+use Rattle.std.proofs.lemmas.Bool.Decides.{leb_tells}
+use Rattle.fine_model.specs.declared.Call.{Call}
+use Rattle.fine_model.specs.declared.Row.{Row}
+use Rattle.fine_model.specs.ScanLaws.{IsKept}
+use Rattle.fine_model.specs.Trees.{IsSound}
+use Rattle.fine_model.proofs.KeptPairs.{kept_first}
+use Rattle.node_cache.specs.Cache.{Cache}
+use Rattle.btree_nodes.specs.declared.fault.TreeFault.{TreeFault}
+use Rattle.btree_nodes.specs.declared.fault.TreeFault.TheVariants.{Source, Unfit, BucketFull, Number, NoMemory}
+use Rattle.btree_nodes.specs.Calls.{SoundReading}
+use Rattle.btree_nodes.specs.Faults.{OnFault}
+use Rattle.btree_nodes.specs.Trees.{Holds, Serves}
+use Rattle.txn_draft.specs.Drafts.{DraftValue, FitsDraft, IsAnswered, IsLost}
+use Rattle.txn_draft.specs.Scans.{KeepsFound, ScanValue}
+use Rattle.txn_draft.specs.Uses.{IsUsed}
+use Rattle.open_txn.proofs.Advanced.{still_served}
+use Rattle.partition_hold.specs.SourceLaws.{later_tells}
+use Rattle.partition_hold.specs.Sources.{IsLater, tells_rows}
+use Rattle.partition_hold.specs.Views.{ViewValue}
+use Rattle.key_locks.specs.Locks.{HasLock}
+use Rattle.key_locks.proofs.Held.{get_same, get_else}
+use Rattle.txn_engine.specs.Steps.{AreRead, AreServed, GathersIn, GathersMore, GathersOr, IsRead, ScansIn}
+use Rattle.txn_engine.specs.Txns.{HasAll}
+use Rattle.txn_engine.proofs.Open.{one_content}
+use Rattle.txn_engine.proofs.Ending.{less_or_at}
+
+-- ---- one bucket
+
+module _ (v v' : ViewValue) (k : ℕ) (near : k < 256) (locks : List (Option Cache)) (b b' : Cache) (there : HasLock locks k b) (low high : List ℕ) (limit : ℕ) (s s' : ScanValue)
+    (used : (least : ℕ) (taken : Cache) (rows : List Row) → IsUsed least taken b rows → least ≤ v.upto → IsUsed least taken b' rows) (serves : (rows : List Row) → Serves (tells_rows v) b rows → Serves (tells_rows v') b' rows) where
+  abbrev Kept : List Row → List Row → Type 0
+  Kept rows log = IsKept (rows ++ log) low high limit s.next s.pairs → IsKept (rows ++ log) low high limit s'.next s'.pairs
+
+  abbrev Sound : Result (Unit {0}) TreeFault → Type 0
+  Sound r = (rows log : List Row) → Serves (tells_rows v) b rows → Holds b rows log → IsSound (rows ++ log) → SoundReading rows log b' (λ (done : Unit {0}). Kept rows log) r
+
+  holds_of : (rows log : List Row) (fault : TreeFault) → OnFault fault (λ _. Holds b' rows log) (λ _. ⊥) (Holds b' rows log) → Holds b' rows log
+  holds_of rows log (Source f) h = h
+  holds_of rows log (Unfit id) h = absurd h
+  holds_of rows log (BucketFull next depth) h = absurd h
+  holds_of rows log (Number id) h = absurd h
+  holds_of rows log NoMemory h = h
+
+  cause_of : (rows log : List Row) (fault : TreeFault) → OnFault fault (λ _. Holds b' rows log) (λ _. ⊥) (Holds b' rows log) → OnFault fault (λ _. Unit {0}) (λ _. ⊥) (Unit {0})
+  cause_of rows log (Source f) h = tt
+  cause_of rows log (Unfit id) h = h
+  cause_of rows log (BucketFull next depth) h = h
+  cause_of rows log (Number id) h = h
+  cause_of rows log NoMemory h = tt
+
+  pub gathered_in : (r : Result (Unit {0}) TreeFault) → Sound r → GathersIn v v' k locks (slice_set locks k (Some b')) low high limit s s' r
+  gathered_in (Ok done) sound = record {
+    old = b;
+    new = b';
+    there = there;
+    locks_are = refl;
+    read = record { used = used; serves = serves; holds = λ rows log served holds fine. (sound rows log served holds fine).1 };
+    more = λ rows log served kept. (sound rows log (served.serves k b near there) (served.holds k b near there) served.sound).0 kept;
+    cause = tt;
+  }
+  gathered_in (Err fault) sound = record {
+    old = b;
+    new = b';
+    there = there;
+    locks_are = refl;
+    read = record { used = used; serves = serves; holds = λ rows log served holds fine. holds_of rows log fault (sound rows log served holds fine) };
+    more = tt;
+    cause = λ rows log served. cause_of rows log fault (sound rows log (served.serves k b near there) (served.holds k b near there) served.sound);
+  }
+
+-- ---- one bucket behind another
+
+-- a view tells later what it told
+served_later : (v v' : ViewValue) (b : Cache) (rows : List Row) → IsLater v v' → Serves (tells_rows v) b rows → Serves (tells_rows v') b rows
+served_later v v' b rows later s = still_served (tells_rows v) (tells_rows v') b rows (λ known. later_tells v v' known later) s
+
+read_itself : (v v' : ViewValue) (b : Cache) → IsLater v v' → IsRead v v' b b
+read_itself v v' b later = record { used = λ least taken rows u le. u; serves = λ rows s. served_later v v' b rows later s; holds = λ rows log served holds fine. holds }
+
+read_later : (u v w : ViewValue) (b b' : Cache) → IsLater v w → IsRead u v b b' → IsRead u w b b'
+read_later u v w b b' later r = record { used = r.used; serves = λ rows s. served_later v w b' rows later (r.serves rows s); holds = r.holds }
+
+read_before : (u v w : ViewValue) (b b' : Cache) → IsLater u v → IsRead v w b b' → IsRead u w b b'
+read_before u v w b b' later r = record {
+  used = λ least taken rows used le. r.used least taken rows used (subst (λ n. least ≤ n) (sym later.same.upto) le);
+  serves = λ rows s. r.serves rows (served_later u v b rows later s);
+  holds = λ rows log served holds fine. r.holds rows log (served_later u v b rows later served) holds fine;
+}
+
+pub read_none : (v : ViewValue) (locks : List (Option Cache)) → AreRead 0 v v locks locks
+read_none v locks = record { below = λ k b low h. absurd (omega arith); above = λ k le. refl }
+
+-- all of them, where the others were not read
+pub read_all : (n : ℕ) (v v' : ViewValue) (locks locks' : List (Option Cache)) → IsLater v v' → AreRead n v v' locks locks' → (k : ℕ) (b : Cache) → HasLock locks k b → (b' : Cache) × HasLock locks' k b' × IsRead v v' b b'
+read_all n v v' locks locks' later r k b h = ⊎_elim
+    (λ (high : (nat_le n k ≡ true) × (n ≤ k)). (b, r.above k high.1 ∙ h, read_itself v v' b later))
+    (λ (low : (nat_le n k ≡ false) × (k < n)). r.below k b low.1 h)
+    (leb_tells n k)
+
+module _ (u v : ViewValue) (at : ℕ) (locks mid : List (Option Cache)) (later : IsLater u v) (so_far : AreRead at u v locks mid) (all : HasAll locks) where
+  -- what was served and held still is
+  pub served_on : (rows log : List Row) → AreServed u rows log locks → AreServed v rows log mid
+  served_on rows log s = record {
+    serves = λ k b low h. let w = was k b low h in w.2.serves rows (s.serves k w.0 low w.1);
+    holds = λ k b low h. let w = was k b low h in w.2.holds rows log (s.serves k w.0 low w.1) (s.holds k w.0 low w.1) s.sound;
+    sound = s.sound;
+  }
+    where
+      was : (k : ℕ) (b : Cache) → k < 256 → HasLock mid k b → (a : Cache) × HasLock locks k a × IsRead u v a b
+      was k b low h =
+          let a = all k low in
+          let now = read_all at u v locks mid later so_far k a.0 a.1 in
+          (a.0, a.1, subst (IsRead u v a.0) (one_content mid k now.0 b now.1 h) now.2)
+
+  pub has_here : at < 256 → (b : Cache) × HasLock mid at b × (b.bucket ≡ at)
+  has_here low = let a = all at low in (a.0, so_far.above at (omega arith) ∙ a.1, a.2)
+
+  module _ (w : ViewValue) (near : at < 256) (locks' : List (Option Cache)) (low high : List ℕ) (limit : ℕ) (s₀ s s' : ScanValue) (r : Result (Unit {0}) TreeFault) (next : IsLater v w) (one : GathersIn v w at mid locks' low high limit s s' r) where
+    other : (k : ℕ) → k ≢ at → slice_get locks' k ≡ slice_get mid k
+    other k ne = ap (λ l. slice_get l k) one.locks_are ∙ get_else mid at k (Some one.new) ne
+
+    here : (b : Cache) → HasLock locks at b → (b' : Cache) × HasLock locks' at b' × IsRead u w b b'
+    here b h =
+        let same : one.old ≡ b = one_content mid at one.old b one.there (so_far.above at (omega arith) ∙ h) in (
+          one.new,
+          ap (λ l. slice_get l at) one.locks_are ∙ get_same mid at (Some one.old) (Some one.new) one.there,
+          read_before u v w b one.new later (subst (λ x. IsRead v w x one.new) same one.read),
+        )
+
+    pub read_more : AreRead (at + 1) u w locks locks'
+    read_more = record {
+      below = λ k b lt h. ⊎_elim
+          (λ (less : k < at). let now = so_far.below k b less h in (now.0, other k (λ e. omega (arith, less, e)) ∙ now.1, read_later u v w b now.0 next now.2))
+          (λ (is : k ≡ at). subst (λ j. (b' : Cache) × HasLock locks' j b' × IsRead u w b b') (sym is) (here b (subst (λ j. HasLock locks j b) is h)))
+          (less_or_at k at lt);
+      above = λ k le. other k (λ e. omega (arith, le, e)) ∙ so_far.above k (omega (arith, le));
+    }
+
+    pub gathered_more : (done : Unit {0}) → r ≡ Ok done → GathersMore u locks low high limit s₀ s → GathersMore u locks low high limit s₀ s'
+    gathered_more done is before rows log served kept = subst (λ x. OnOk x (GathersMore v mid low high limit s s')) is one.more rows log (served_on rows log served) (before rows log served kept)
+
+    pub gathered_cause : (fault : TreeFault) → r ≡ Err fault → (rows log : List Row) → AreServed u rows log locks → OnFault fault (λ _. Unit {0}) (λ _. ⊥) (Unit {0})
+    gathered_cause fault is rows log served = subst (λ x. IfErr x (λ fault. (rows log : List Row) → AreServed v rows log mid → OnFault fault (λ _. Unit {0}) (λ _. ⊥) (Unit {0}))) is one.cause rows log (served_on rows log served)
+
+-- a set all of which was read
+pub read_to_end : (n : ℕ) (v v' : ViewValue) (locks locks' : List (Option Cache)) → n ≤ 256 → IsLater v v' → AreRead n v v' locks locks' → AreRead 256 v v' locks locks'
+read_to_end n v v' locks locks' le later r = record { below = λ k b low h. read_all n v v' locks locks' later r k b h; above = λ k high. r.above k (omega (arith, le, high)) }
+
+-- ---- the whole scan
+
+module _ (v v' : ViewValue) (locks locks' : List (Option Cache)) (d d' : DraftValue) (c : Call) (low high : List ℕ) (limit : ℕ) (s₀ s : ScanValue) where
+  pub scan_found : s₀ ≡ record { pairs = []; next = 0 } → GathersOr v v' locks locks' low high limit s₀ s (Ok tt) → KeepsFound c s.pairs d d' → (FitsDraft d → FitsDraft d')
+      → ((rows : List Row) → IsAnswered rows d → IsKept (rows ++ d.rows) low high limit 256 s.pairs → IsAnswered rows d') → ScansIn v v' locks locks' d d' c (Ok tt)
+  scan_found first g keeps fits answers = record {
+    read = λ k b near h. g.read.below k b near h;
+    kept = (s.pairs, keeps);
+    fits = fits;
+    answered = λ rows served a. answers rows a (subst (λ n. IsKept (rows ++ d.rows) low high limit n s.pairs) g.next
+        (g.more rows d.rows served (subst (λ (x : ScanValue). IsKept (rows ++ d.rows) low high limit x.next x.pairs) (sym first) (kept_first (rows ++ d.rows) low high limit))));
+    left = tt;
+    cause = tt;
+  }
+
+  pub scan_lost : GathersOr v v' locks locks' low high limit s₀ s (Ok tt) → IsLost d d' → ScansIn v v' locks locks' d d' c (Err NoMemory)
+  scan_lost g lost = record { read = λ k b near h. g.read.below k b near h; kept = tt; fits = tt; answered = tt; left = inr (refl, lost); cause = λ rows log served. tt }
+
+pub scan_halted : (v v' : ViewValue) (locks locks' : List (Option Cache)) (d : DraftValue) (c : Call) (low high : List ℕ) (limit : ℕ) (s₀ s : ScanValue) (fault : TreeFault) → GathersOr v v' locks locks' low high limit s₀ s (Err fault) → ScansIn v v' locks locks' d d c (Err fault)
+scan_halted v v' locks locks' d c low high limit s₀ s fault g = record { read = λ k b near h. g.read.below k b near h; kept = tt; fits = tt; answered = tt; left = inl refl; cause = g.cause }

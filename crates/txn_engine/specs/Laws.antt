@@ -1,0 +1,45 @@
+-- Laws of open transactions.
+use Rattle.std.specs.Prelude.{◌≡◌, ℕ, ◌<◌, ◌++◌, true, List}
+use Rattle.std.specs.List.{list_any}
+use lib.ListN.{get_elem?}
+use Rattle.fine_model.specs.declared.Row.{Row}
+use Rattle.fine_model.specs.Buckets.{Began}
+use Rattle.fine_model.specs.History.{all_rows}
+use Rattle.txn_draft.specs.Drafts.{DraftValue, IsAnswered, blank, is_here}
+use Rattle.epoch_room.specs.declared.answers.Fit.{Fit}
+use Rattle.epoch_room.specs.declared.answers.Stamp.{Stamp}
+use Rattle.fine_hall.specs.declared.law.Beginning.{Beginning}
+use Rattle.fine_hall.specs.Laws.{AreTurns}
+use Rattle.fine_places.specs.History as places
+use Rattle.fine_hall.specs.Passes.{known, turns, seen, HasPlace, LacksPlace, HoldsNothing, LacksJob}
+use Rattle.fine_hall.specs.Halls.{SeesMore}
+use Rattle.hall_rooms.specs.Rooms.{RoomPass}
+use Rattle.txn_engine.specs.declared.txn.Txn.{Txn}
+use Rattle.txn_engine.specs.Txns.{Aborts, Commits, HoldsNone, IsOpenTxn, IsRefused}
+
+-- What a draft answered on all that a pass saw is its answer on what the pass sees more, where the pass holds the buckets of its calls.
+abbrev pub LocalLaw : Type 0
+LocalLaw =
+    (x : Beginning) (p p' : RoomPass) (d : DraftValue) (e : ℕ) (first : List Row) → SeesMore p p' → AreTurns x (turns p) → AreTurns x (turns p') → Began x.log e first
+    → ((k : ℕ) → k < 256 → list_any (is_here k) d.calls ≡ true → HasPlace p k) → IsAnswered (first ++ all_rows (seen p)) d → IsAnswered (first ++ all_rows (seen p')) d
+
+-- a new transaction is open on a pass that holds no bucket
+abbrev pub BeginsLaw : Type 0
+BeginsLaw =
+    (x : Beginning) (t : Txn) (p : RoomPass) (lane turn : ℕ) → t.draft ≡ blank lane turn → HoldsNone t.locks → AreTurns x (turns p) → ((k : ℕ) → k < 256 → LacksPlace p k) → IsOpenTxn x t p
+
+-- an open one is open on all that the pass sees more, where that holds the same buckets
+abbrev pub SeenLaw : Type 0
+SeenLaw =
+    (x : Beginning) (t : Txn) (p p' : RoomPass) → SeesMore p p' → AreTurns x (turns p) → AreTurns x (turns p') → ((k : ℕ) → k < 256 → get_elem? (known p').held k ≡ get_elem? (known p).held k) → IsOpenTxn x t p → IsOpenTxn x t p'
+
+-- ---- what a pass has out
+
+abbrev pub CommitsIdle : Type 0
+CommitsIdle = (x : Beginning) (t t' : Txn) (p p' : RoomPass) (stamp : Stamp) → p'.number ≡ p.number → Commits x t t' p p' stamp → LacksJob x p → HoldsNothing p' × LacksJob x p'
+
+abbrev pub RefusedJob : Type 0
+RefusedJob = (x : Beginning) (t t' : Txn) (p p' : RoomPass) (cause : Fit) → p'.number ≡ p.number → IsRefused x t t' p p' cause → LacksJob x p → LacksJob x p'
+
+abbrev pub AbortsIdle : Type 0
+AbortsIdle = (x : Beginning) (t t' : Txn) (p p' : RoomPass) → p'.number ≡ p.number → AreTurns x (turns p') → Aborts x t t' p p' → LacksPlace p places.room → LacksJob x p → HoldsNothing p' × LacksJob x p'

@@ -1,0 +1,5 @@
+pub mod Txns
+pub mod Steps
+pub mod Faults
+pub mod Turns
+pub mod Laws

@@ -1,0 +1,185 @@
+-- An open transaction on a hall, and what its calls make of it and of its pass.
+use Rattle.std.specs.Prelude.{◌≡◌, ◌≢◌, ◌⊎◌, ℕ, ◌+◌, ◌<◌, ◌≤◌, true, false, List, [], ◌∷◌, ◌++◌, length, slice_get, Option, Some, None, Result, Ok, Err}
+use Rattle.std.specs.List.{list_any}
+use lib.ListN.{get_elem?}
+use Rattle.fine_model.specs.declared.Call.{Call}
+use Rattle.fine_model.specs.declared.Row.{Row}
+use Rattle.fine_model.specs.declared.Why.{Why}
+use Rattle.fine_model.specs.declared.Why.TheVariants as why
+use Rattle.fine_model.specs.declared.law.Origin.{Origin}
+use Rattle.fine_model.specs.declared.law.RoomState.{RoomState}
+use Rattle.fine_model.specs.Buckets.{Began}
+use Rattle.fine_model.specs.Faults.{last_count}
+use Rattle.fine_model.specs.History.{Commit, all_rows}
+use Rattle.fine_model.specs.Jobs.{KeepsJob}
+use Rattle.fine_model.specs.Map.{Pair}
+use Rattle.fine_model.specs.Merge.{cost}
+use Rattle.fine_model.specs.Pushed.{all_pushed}
+use Rattle.node_cache.specs.Cache.{Cache}
+use Rattle.btree_nodes.specs.Trees.{Holds, Restores}
+use Rattle.txn_draft.specs.Drafts.{DraftValue, IsAnswered, FitsDraft, IsLost, Keeps, blank, entry_of, is_here, is_scan}
+use Rattle.txn_draft.specs.Scans.{KeepsFound}
+use Rattle.txn_draft.specs.Standing.{StandsFor}
+use Rattle.txn_draft.specs.Uses.{IsUsed, Undoes}
+use Rattle.partition_hold.specs.Views.{state_of}
+use Rattle.epoch_room.specs.Fitting.{fit_of}
+use Rattle.epoch_room.specs.Steps.{appended}
+use Rattle.epoch_room.specs.Value.{RoomValue}
+use Rattle.epoch_room.specs.declared.answers.Fit.{Fit}
+use Rattle.epoch_room.specs.declared.answers.Fit.TheVariants as fit
+use Rattle.epoch_room.specs.declared.answers.Stamp.{Stamp}
+use Rattle.fine_places.specs.History as places
+use Rattle.fine_hall.specs.declared.law.Beginning.{Beginning}
+use Rattle.fine_hall.specs.Passes.{known, seen, published, found_held, front_of, troubles, HasPlace, LacksPlace, HoldsNothing}
+use Rattle.fine_hall.specs.Halls.{SeesMore}
+use Rattle.key_locks.specs.Locks.{HasLock, LacksLock, AreLocksOf}
+use Rattle.txn_engine.specs.declared.txn.Committed.{Committed}
+use Rattle.txn_engine.specs.declared.txn.Txn.{Txn}
+use Rattle.txn_engine.specs.declared.txn.TxnFault.{TxnFault}
+use Rattle.txn_engine.specs.declared.txn.TxnFault.TheVariants as fault
+use Rattle.hall_rooms.specs.Rooms.{RoomPass}
+use Rattle.hall_rooms.specs.Turning.{TakesTurn, MeetsNone}
+
+-- ---- what is open
+
+-- A bucket that the transaction holds: taken while the epoch `low` was published, it stood for the whole history, and none of what was
+-- committed since is in it. Undoing leaves what the history leaves; unless memory ran out, it holds what the history and then the draft leave.
+pub record IsHeld (log : Origin) (published : ℕ) (history : List Commit) (d : DraftValue) (k : ℕ) (b : Cache) : Type 0 where
+  pub taken : Cache
+  pub low : ℕ
+  pub reached : low ≤ published
+  pub stood : StandsFor log k low taken history
+  pub undoes : Undoes low taken b
+  pub restores : (e : ℕ) (first : List Row) → Began log e first → Restores b (first ++ all_rows history)
+  pub used : d.failed ≡ false → IsUsed low taken b d.rows
+  pub holds : d.failed ≡ false → (e : ℕ) (first : List Row) → Began log e first → Holds b (first ++ all_rows history) d.rows
+
+-- The calls that were answered are in buckets that the transaction holds, and are answered on the whole history.
+pub record IsAnsweredOn (log : Origin) (history : List Commit) (d : DraftValue) (locks : List (Option Cache)) : Type 0 where
+  pub fits : FitsDraft d
+  pub here : (k : ℕ) → k < 256 → LacksLock locks k → list_any (is_here k) d.calls ≡ false
+  pub answered : (e : ℕ) (first : List Row) → Began log e first → IsAnswered (first ++ all_rows history) d
+
+-- A draft is open on a history, with the buckets that it holds. After want of memory only what was taken is known, and that undoing restores it.
+pub record IsOpenOn (log : Origin) (published : ℕ) (history : List Commit) (d : DraftValue) (locks : List (Option Cache)) : Type 0 where
+  pub held : (k : ℕ) (b : Cache) → k < 256 → HasLock locks k b → IsHeld log published history d k b
+  pub answers : d.failed ≡ false → IsAnsweredOn log history d locks
+
+-- An open transaction of a pass: it holds just the buckets that the pass holds, and is open on all that the pass saw.
+pub record IsOpenTxn (x : Beginning) (t : Txn) (p : RoomPass) : Type 0 where
+  pub locks : AreLocksOf t.locks p
+  pub open_on : IsOpenOn x.log (published p) (seen p) t.draft t.locks
+
+abbrev pub HoldsNone : List (Option Cache) → Type 0
+HoldsNone locks = (k : ℕ) → k < 256 → LacksLock locks k
+
+-- nothing is left of the transaction but its lane and number
+abbrev pub IsBlank : Txn → Txn → Type 0
+IsBlank t t' = (t'.draft ≡ blank t.draft.lane t.draft.turn) × HoldsNone t'.locks
+
+-- ---- a call
+
+-- each bucket of a set is in the place of its number
+abbrev pub AreNumbered : List (Option Cache) → Type 0
+AreNumbered locks = (k : ℕ) (b : Cache) → k < 256 → HasLock locks k b → b.bucket ≡ k
+
+-- a set has all buckets, each in the place of its number
+abbrev pub HasAll : List (Option Cache) → Type 0
+HasAll locks = (k : ℕ) → k < 256 → (b : Cache) × HasLock locks k b × (b.bucket ≡ k)
+
+-- The pass saw more, holds what it held and the room where it did, and what it met did not fall.
+pub record SeesCall (x : Beginning) (p p' : RoomPass) : Type 0 where
+  pub sees : SeesMore p p'
+  pub held : (k : ℕ) → k < 256 → HasPlace p k → HasPlace p' k
+  pub room : get_elem? (known p').held places.room ≡ get_elem? (known p).held places.room
+  pub no_fewer : troubles state_of x p ≤ troubles state_of x p'
+
+-- the one try of this call that found a place held
+pub record FoundLast (x : Beginning) (bucket owner : ℕ) (p p' : RoomPass) : Type 0 where
+  pub tried : found_held p' ≡ found_held p ++ record { place = bucket; owner = owner } ∷ []
+  pub another : (0 < owner) × (owner ≤ x.seats) × (owner ≢ p.number)
+
+-- the buckets of a call are in a set
+abbrev pub HasBuckets : Call → List (Option Cache) → Type 0
+HasBuckets c locks = (k : ℕ) → k < 256 → is_here k c ≡ true → (b : Cache) × HasLock locks k b
+
+-- no try of the call found a place held, the buckets of the call are held, and the others are as they were
+pub record TakesBuckets (c : Call) (t t' : Txn) (p p' : RoomPass) : Type 0 where
+  pub all : HasBuckets c t'.locks
+  pub others : (k : ℕ) → k < 256 → is_here k c ≡ false → slice_get t'.locks k ≡ slice_get t.locks k
+  pub found : found_held p' ≡ found_held p
+
+-- the call stands behind the others, with its reply, its writes and its rows
+pub record KeepsCall (c : Call) (d d' : DraftValue) : Type 0 where
+  pub one : is_scan c ≡ false → Keeps c d d'
+  pub scan : is_scan c ≡ true → (pairs : List Pair) × KeepsFound c pairs d d'
+
+-- the draft is as it was, and no read failed
+abbrev pub IsLeft : Beginning → Txn → Txn → RoomPass → RoomPass → Type 0
+IsLeft x t t' p p' = (t'.draft ≡ t.draft) × MeetsNone x p p'
+
+-- a read failed: what the pass met has risen, or the count of its front stands at its last value
+abbrev pub MeetsRead : Beginning → RoomPass → RoomPass → Type 0
+MeetsRead x p p' = (troubles state_of x p < troubles state_of x p') ⊎ (last_count ≤ (front_of state_of p').faults)
+
+-- the log at entry was not told, or not sound
+abbrev pub NotBegan : Beginning → Type 0
+NotBegan x = (e : ℕ) (first : List Row) → Began x.log e first → ⊥
+
+-- behind the history that the pass saw, the definitions refuse the calls for this reason
+abbrev pub Refuses : Beginning → Txn → Call → RoomPass → Why → Type 0
+Refuses x t c p cause = (e : ℕ) (first : List Row) → Began x.log e first → all_pushed (first ++ all_rows (seen p)) (t.draft.calls ++ c ∷ []) ≡ Err cause
+
+-- How a call is answered. A conflict leaves the draft, and the whole transaction where the call is no scan; want of memory leaves the draft, or a
+-- failed one.
+abbrev pub CallsOr : Beginning → Call → Txn → Txn → RoomPass → RoomPass → Result (Unit {0}) TxnFault → Type 0
+CallsOr x c t t' p p' (Ok done) = KeepsCall c t.draft t'.draft × TakesBuckets c t t' p p' × MeetsNone x p p'
+CallsOr x c t t' p p' (Err (fault.Conflict bucket owner)) =
+    IsLeft x t t' p p' × (is_here bucket c ≡ true) × LacksLock t.locks bucket × FoundLast x bucket owner p p' × (is_scan c ≡ false → t'.locks ≡ t.locks)
+CallsOr x c t t' p p' (Err fault.Disk) = (t'.draft ≡ t.draft) × TakesBuckets c t t' p p' × MeetsRead x p p'
+CallsOr x c t t' p p' (Err (fault.BadRow region at)) = IsLeft x t t' p p' × TakesBuckets c t t' p p' × NotBegan x
+CallsOr x c t t' p p' (Err (fault.BadIndex region at)) = IsLeft x t t' p p' × TakesBuckets c t t' p p' × NotBegan x
+CallsOr x c t t' p p' (Err (fault.Unfit id)) = IsLeft x t t' p p' × TakesBuckets c t t' p p' × NotBegan x
+CallsOr x c t t' p p' (Err (fault.BucketFull next depth)) = IsLeft x t t' p p' × TakesBuckets c t t' p p' × Refuses x t c p' why.Bucket
+CallsOr x c t t' p p' (Err (fault.Number id)) = IsLeft x t t' p p' × TakesBuckets c t t' p p' × Refuses x t c p' why.Number
+CallsOr x c t t' p p' (Err fault.NoMemory) = (IsLost t.draft t'.draft ⊎ (t'.draft ≡ t.draft)) × TakesBuckets c t t' p p'
+
+-- ---- the ends
+
+-- The entry was committed in one turn, at the end of what the pass then saw, and all buckets were given back.
+pub record Commits (x : Beginning) (t t' : Txn) (p p' : RoomPass) (stamp : Stamp) : Type 0 where
+  pub found : RoomState
+  pub room : RoomState
+  pub turn : TakesTurn x found (Some (entry_of t.draft)) stamp.epoch room p p'
+  pub fits : fit_of found (cost t.draft.rows) ≡ fit.Fits
+  pub appends : (value : RoomValue) × (value.room ≡ found) × (room ≡ (appended value t.draft.rows).room)
+  pub job : KeepsJob found room
+  pub epoch : stamp.epoch ≡ found.sealed + 1
+  pub place : stamp.place ≡ length (seen p')
+  pub blank_now : IsBlank t t'
+  pub nothing : HoldsNothing p'
+  pub meets : MeetsNone x p p'
+
+-- The room had no place for it, by its own numbers; it was given back as it was, and the transaction is as it was.
+pub record IsRefused (x : Beginning) (t t' : Txn) (p p' : RoomPass) (cause : Fit) : Type 0 where
+  pub room : RoomState
+  pub turn : TakesTurn x room None 0 room p p'
+  pub is_cause : fit_of room (cost t.draft.rows) ≡ cause
+  pub not_fits : cause ≢ fit.Fits
+  pub same : t' ≡ t
+  pub held : (known p').held ≡ (known p).held
+  pub meets : MeetsNone x p p'
+
+abbrev pub CommitsOr : Beginning → Txn → Txn → RoomPass → RoomPass → Result Committed Fit → Type 0
+CommitsOr x t t' p p' (Ok done) = Commits x t t' p p' done.stamp × (done.entry ≡ entry_of t.draft)
+CommitsOr x t t' p p' (Err cause) = IsRefused x t t' p p' cause
+
+-- All was taken back, and all buckets were given back; the pass had no turn.
+pub record Aborts (x : Beginning) (t t' : Txn) (p p' : RoomPass) : Type 0 where
+  pub blank_now : IsBlank t t'
+  pub nothing : (k : ℕ) → k < 256 → LacksPlace p' k
+  pub room : get_elem? (known p').held places.room ≡ get_elem? (known p).held places.room
+  pub sees : SeesMore p p'
+  pub found : found_held p' ≡ found_held p
+  pub front : (p'.front ≡ p.front) × (p'.buffer ≡ p.buffer)
+  pub meets : MeetsNone x p p'

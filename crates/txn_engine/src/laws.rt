@@ -1,0 +1,22 @@
+//! Laws of open transactions, each the contract of a function that does nothing.
+
+ghost use Rattle.txn_engine.specs.Laws.{AbortsIdle, BeginsLaw, CommitsIdle, LocalLaw, RefusedJob, SeenLaw};
+
+/// A new transaction is open on a pass that holds no bucket, and an open one stays so once the pass saw more and holds the same buckets.
+pub fn open_law()
+    ensures begins { BeginsLaw }
+    ensures seen { SeenLaw }
+{}
+
+/// What a transaction answered stays its answer while others commit in buckets that its pass does not hold.
+pub fn local_law()
+    ensures { LocalLaw }
+{}
+
+/// A pass that has no merge out has none after a commit, a refused commit or an abort; after a commit it holds nothing, and after an abort too where it
+/// did not hold the room.
+pub fn idle_law()
+    ensures commits { CommitsIdle }
+    ensures refused { RefusedJob }
+    ensures aborts { AbortsIdle }
+{}

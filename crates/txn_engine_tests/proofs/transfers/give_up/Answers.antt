@@ -1,0 +1,9 @@
+use Rattle.hall_rooms.specs.Rooms.{beginning_of}
+use Rattle.txn_engine.proofs.Idle.{aborts_idle}
+use Rattle.txn_engine_tests.proofs.transfers.give_up.Goals as goal
+
+pub returns : goal.returns
+returns g c =
+    let e = c.abort.ensures in
+    let i = aborts_idle (beginning_of c.args.hall.now) c.args.txn.now c.abort.new.self c.args.pass.now c.abort.new.pass e.pass.1 e.pass.0.lawful e.aborts c.requires.idle.0 c.requires.idle.1 in
+    record { idle = ((e.pass.0, i.0, i.1), e.pass.1) }

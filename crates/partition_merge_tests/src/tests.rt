@@ -286,8 +286,8 @@ fn count_blocks<E: LogEye>(
     Ok((1_000, bytes))
 }
 
-/// Five thousand nodes are in both parts, which have ten thousand each. Measuring leaves the merger at the first node, and what all
-/// calls hand out then is what merging the lists gives.
+/// Five thousand nodes are in both parts, which have ten thousand each. Measuring takes each byte of both once, and leaves the merger at
+/// the first node, and what all calls hand out then is what merging the lists gives.
 #[test]
 fn parts_are_merged_node_by_node(rt: HostRuntime) -> Result<(), Fail> {
     let alloc = rt.alloc();
@@ -302,7 +302,7 @@ fn parts_are_merged_node_by_node(rt: HostRuntime) -> Result<(), Fail> {
         ordered: true,
     };
     assert_eq!(&rt; merger.measure(alloc, &mut eye).ok(), Some(measure));
-    assert_eq!(&rt; eye.taken(), 28 * 20_000 - 2 * 14 + 480_000);
+    assert_eq!(&rt; eye.taken(), 14 * 20_000 + 480_000);
     let whole = merged(alloc, &older, &newer)?;
     assert_eq!(&rt; node_by_node(alloc, &mut eye, merger).ok(), Some(whole));
     Ok(())

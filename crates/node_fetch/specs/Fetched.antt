@@ -30,6 +30,13 @@ NoDamage (fault.BadRow region at) = ⊥
 NoDamage (fault.BadIndex region at) = ⊥
 NoDamage fault.NoMemory = Unit {0}
 
+-- a fault that blames a row
+abbrev pub IsRowFault : FetchFault → Type 0
+IsRowFault fault.Failed = ⊥
+IsRowFault (fault.BadRow region at) = Unit {0}
+IsRowFault (fault.BadIndex region at) = ⊥
+IsRowFault fault.NoMemory = ⊥
+
 -- a body of a part as it was read, which is the one that the eye tells, where it tells its bytes
 abbrev pub IsBodyOf : Option Image → Part → List ℕ → Type 0
 IsBodyOf known part body = IfTold known part (λ told. body ≡ told)

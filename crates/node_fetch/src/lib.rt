@@ -2,13 +2,15 @@
 #![tactic(auto)]
 
 mod fault;
+mod frames;
 mod laws;
 mod rebuild;
 mod replay;
 mod span;
 
 pub use fault::bad_index;
+pub use frames::Frames;
 pub use laws::damage_law;
 pub use rebuild::fetch;
-pub use replay::{base, replayed};
-pub use span::{read_span, rows_of_span};
+pub use replay::{base, replayed, replayed_moved};
+pub use span::{frames_of_span, read_span, rows_of_span};

@@ -14,7 +14,7 @@ ghost use Rattle.partition_index.specs.Search.{Searches, TellsRows};
 ghost use Rattle.node_fetch.specs.Fetched.{ReadsRows, IsReplayOf, HasBadRow, HasBadEntry, NoDamage, TellsParts, most_sought, most_read};
 
 use crate::fault::bad_index;
-use crate::replay::{base, replayed};
+use crate::replay::{base, replayed_moved};
 use crate::span::read_span;
 use fine_model::{FetchFault, Items, Node, NodeId, Part, Parts, Rec, Row, Rows};
 use log_disk::LogEye;
@@ -59,16 +59,16 @@ fn part_rows<E: LogEye>(
     read_span(alloc, eye, part, node, span, region_len)
 }
 
-/// A node after rows.
-fn after(alloc: Global, before: (Node, u64), rows: &Rows) -> Result<(Node, u64), FetchFault>
+/// A node after rows, which are given up.
+fn after(alloc: Global, before: (Node, u64), rows: Rows) -> Result<(Node, u64), FetchFault>
     requires node { FitsNode before.0 }
-    requires rows { AllByRecursion (λ row. FitsRec row.rec) rows.now }
-    ensures replay { IfOk result (λ after. after ≡ replay before rows.now) }
+    requires rows { AllByRecursion (λ row. FitsRec row.rec) rows }
+    ensures replay { IfOk result (λ after. after ≡ replay before rows) }
     ensures fits { IfOk result (λ after. FitsNode after.0) }
-    ensures version { before.1 ≤ greatest → AllByRecursion (λ row. row.version ≤ greatest) rows.now → IfOk result (λ after. after.1 ≤ greatest) }
+    ensures version { before.1 ≤ greatest → AllByRecursion (λ row. row.version ≤ greatest) rows → IfOk result (λ after. after.1 ≤ greatest) }
     ensures err { IfErr result (λ e. e ≡ fetch_fault.NoMemory) }
 {
-    replayed(alloc, before, rows.as_slice()).map_err(|_| FetchFault::NoMemory)
+    replayed_moved(alloc, before, rows).map_err(|_| FetchFault::NoMemory)
 }
 
 /// The node as some parts leave it: the newest part is probed first, and those before it only where it has no image of the node.
@@ -96,10 +96,10 @@ fn rebuilt<E: LogEye>(
     };
     let rows = part_rows(alloc, eye, newest, node, region_len)?;
     if has_image(rows.as_slice()) {
-        return after(alloc, base(alloc, node), &rows);
+        return after(alloc, base(alloc, node), rows);
     }
     let before = rebuilt(alloc, eye, older, node, region_len)?;
-    after(alloc, before, &rows)
+    after(alloc, before, rows)
 }
 
 /// The content and the version of a node that its rows in the parts leave, in the order of the parts.

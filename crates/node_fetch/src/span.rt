@@ -1,6 +1,6 @@
 //! The rows of one node in one part.
 
-ghost use Rattle.std.specs.Prelude.{◌≡◌, ℕ, ◌+◌, ◌-◌, ◌≤◌, ◌<◌, IfOk, IfErr, IsErrOf, MatchResult, List, Option, length};
+ghost use Rattle.std.specs.Prelude.{◌≡◌, ℕ, ◌+◌, ◌-◌, ◌≤◌, ◌<◌, IfOk, IfErr, IsOk, IsErrOf, MatchResult, List, Option, length};
 ghost use Rattle.std.specs.List.{AllByRecursion};
 ghost use Rattle.log_disk.specs.Disk.{Eye};
 ghost use Rattle.fine_model.specs.declared.Row.{Row};
@@ -10,13 +10,14 @@ ghost use Rattle.fine_model.specs.Regions.{Image};
 ghost use Rattle.fine_model.specs.RowBytes.{FitsRow};
 ghost use Rattle.partition_index.specs.Parts.{IsSeen, LiesIn};
 ghost use Rattle.partition_index.specs.Search.{Searches, IsRangeAt, TellsRows, span_for};
-ghost use Rattle.node_fetch.specs.Spans.{ReadsAll, StopsAt};
-ghost use Rattle.node_fetch.specs.Fetched.{HoldsRows, IsBadRowOf, NoDamage};
+ghost use Rattle.node_fetch.specs.Spans.{ReadsAll, StopsAt, IsStop, FramesAll};
+ghost use Rattle.node_fetch.specs.Fetched.{HoldsRows, IsBadRowOf, IsRowFault, NoDamage};
 
 use crate::fault::bad_row;
+use crate::frames::{Frames, with_frame};
 use fine_model::{FetchFault, Items, Mark, NodeId, Part, Rows};
 use log_disk::LogEye;
-use node_record::{RowFault, read_row};
+use node_record::{RowFault, frame_at, read_row};
 use partition_index::{Span, read_body};
 use std::alloc::Global;
 
@@ -84,12 +85,37 @@ fn rows_in(
     Ok(rows)
 }
 
+/// Finds so many rows of a node in bytes, and answers what their frames tell. It takes no memory. The fault is the place where none
+/// stands, or where bytes are left behind the last one.
+fn frames_in(bytes: &[u8], node: NodeId, count: u32, mark: Mark) -> Result<Option<Frames>, usize>
+    ensures found { IfOk result (FramesAll mark bytes.now node count) }
+    ensures bad { IfErr result (IsStop mark bytes.now node count) }
+{
+    let mut frames = None;
+    let mut at = 0;
+    for _ in 0..count {
+        let frame = match frame_at(bytes, at, mark) {
+            Ok(frame) => frame,
+            Err(_) => return Err(at),
+        };
+        if frame.node != node {
+            return Err(at);
+        }
+        frames = Some(with_frame(frames, frame));
+        at = frame.end;
+    }
+    if at < bytes.len() {
+        return Err(at);
+    }
+    Ok(frames)
+}
+
 /// The rows of a node that the bytes of a span spell, as its index entry gives it.
 ///
 /// By these bytes the span is exactly these rows: all of the node, as many as the entry counts, up to the span's end. Where they are the
 /// node's span in a region in the grammar, the rows are the node's rows there. `BadRow` comes only where, by these bytes, the place
 /// that it names has no row of the node that ends within the span while the entry counts one there, or has bytes behind the last row.
-/// Want of memory is the only other fault. Nothing is read.
+/// Want of memory is the only other fault, and the only one where the bytes spell such rows. Nothing is read.
 pub fn rows_of_span(
     alloc: Global,
     part: &Part,
@@ -105,6 +131,7 @@ pub fn rows_of_span(
     requires long { length bytes.now ≡ span.end - span.at }
     ensures fit { IfOk result (AllByRecursion (FitsRow part.now.header.mark)) }
     ensures holds { (known : Option Image) → IsRangeAt known part.now span.at bytes.now → IfOk result (HoldsRows known part.now node span) }
+    ensures again { (own : List Row) → ReadsAll part.now.header.mark bytes.now node span.rows own → MatchResult result (λ rows. rows ≡ own) (λ e. e ≡ fetch_fault.NoMemory) }
     ensures unread { IsErrOf result fetch_fault.Failed → ⊥ }
     ensures bad_row { (known : Option Image) → IsRangeAt known part.now span.at bytes.now → (region at : ℕ) → IsErrOf result (fetch_fault.BadRow region at)
         → IsBadRowOf known region_len part.now node span (record { region = region; at = at }) }
@@ -116,6 +143,38 @@ pub fn rows_of_span(
         Ok(rows) => Ok(rows),
         Err(RowFault::Bad { at }) => Err(bad_row(part, region_len, span.at + at as u32)),
         Err(RowFault::NoMemory) => Err(FetchFault::NoMemory),
+    }
+}
+
+/// What the frames of the rows tell that the bytes of a span spell, each of which was found: the frame of the first, the version of
+/// the last, and whether the rows are in order. It takes no memory.
+///
+/// It is refused where `rows_of_span` is, but never for want of memory: `BadRow` is the only fault. What holds of the rows of
+/// `rows_of_span` holds of the rows that the bytes spell. There is nothing to tell where the entry counts no row.
+pub fn frames_of_span(
+    part: &Part,
+    node: NodeId,
+    span: Span,
+    region_len: u64,
+    bytes: &[u8],
+) -> Result<Option<Frames>, FetchFault>
+    requires lies { LiesIn region_len part.now.header }
+    requires some { 1 ≤ part.now.header.nodes }
+    requires order { span.at ≤ span.end }
+    requires within { span.end ≤ part.now.header.area }
+    requires long { length bytes.now ≡ span.end - span.at }
+    ensures found { IfOk result (FramesAll part.now.header.mark bytes.now node span.rows) }
+    ensures holds { (known : Option Image) → IsRangeAt known part.now span.at bytes.now → (own : List Row) → ReadsAll part.now.header.mark bytes.now node span.rows own
+        → HoldsRows known part.now node span own }
+    ensures bad { IfErr result IsRowFault }
+    ensures bad_row { (known : Option Image) → IsRangeAt known part.now span.at bytes.now → (region at : ℕ) → IsErrOf result (fetch_fault.BadRow region at)
+        → IsBadRowOf known region_len part.now node span (record { region = region; at = at }) }
+    ensures exact { (eye : Eye) (rows : List Row) → IsSeen eye part.now → IsRangeAt eye.told part.now span.at bytes.now → TellsRows eye part.now rows → span ≡ span_for rows node
+        → IsOk result × ((own : List Row) → ReadsAll part.now.header.mark bytes.now node span.rows own → own ≡ rows_of node rows) }
+{
+    match frames_in(bytes, node, span.rows, part.header.mark) {
+        Ok(frames) => Ok(frames),
+        Err(at) => Err(bad_row(part, region_len, span.at + at as u32)),
     }
 }
 

@@ -8,3 +8,4 @@ pub mod Readers
 pub mod RowsRead
 pub mod RowLaws
 pub mod Fronts
+pub mod Passing

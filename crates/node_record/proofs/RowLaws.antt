@@ -193,7 +193,7 @@ passed : {A : Type 0} (b : Bool) (x y : A) → cond b (Some x) None ≡ Some y �
 passed true x y e = (refl, cc)
 passed false x y e = absurd cc
 
-abbrev row_of : Front → Rec → Row
+abbrev pub row_of : Front → Rec → Row
 row_of front r = record { node = front.node; version = front.version; rec = r }
 
 abbrev joined : Front × List ℕ → Option (Row × List ℕ)

@@ -55,7 +55,7 @@ module _ (one : List ℕ → Option (ℕ × List ℕ)) (f : ℕ → List ℕ) (P
       let last : ℕ × List ℕ → Option (List ℕ × List ℕ) = λ n. text_at n.0 n.1 in
       ap (λ (t : List ℕ). one t >>= last) (append_assoc (f (length text)) text rest) ∙ ap (λ (r : Option (ℕ × List ℕ)). r >>= last) (is.again (length text) (text ++ rest) fits) ∙ text_again text rest (length text) refl
 
-key_reader : IsReader key_at key_bytes FitsKey
+pub key_reader : IsReader key_at key_bytes FitsKey
 unfolding key_at
 key_reader = record {
   takes = λ bytes key rest fits e. behind_takes (λ bytes. only (within 1 64) (byte_at bytes)) (λ n. n ∷ []) (λ n. (1 ≤ n) × (n ≤ 64)) len_reader bytes key rest fits e;
@@ -69,7 +69,7 @@ value_reader = record {
   again = λ value rest fits. behind_again (λ bytes. only (within 1 256) (number_at w16 bytes)) (to_be_bytes w16) (λ n. (1 ≤ n) × (n ≤ 256)) value_len_reader value rest fits;
 }
 
-row_pair_reader : IsReader pair_at pair_bytes FitsPair
+pub row_pair_reader : IsReader pair_at pair_bytes FitsPair
 unfolding pair_at
 row_pair_reader = pair_reader key_at key_bytes FitsKey value_at value_bytes FitsValue key_reader value_reader
 

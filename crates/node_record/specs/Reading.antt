@@ -25,6 +25,20 @@ abbrev pub Gives : {X Y : Type 0} → (X → Y) → List ℕ → ℕ → Result 
 Gives view bytes start (Ok x) read = (x.1 ≤ length bytes) × (read ≡ Some (view x.0, drop x.1 bytes))
 Gives view bytes start (Err e) read = Fails start e read
 
+-- The same of a function that takes no memory.
+abbrev pub Finds : {X Y : Type 0} → (X → Y) → List ℕ → ℕ → Result (X × ℕ) RowFault → Option (Y × List ℕ) → Type 0
+Finds view bytes start (Ok x) read = (x.1 ≤ length bytes) × (read ≡ Some (view x.0, drop x.1 bytes))
+Finds view bytes start (Err e) read = (e ≡ fault.Bad start) × (read ≡ None)
+
+-- what stands behind what is read
+abbrev pub behind : {Y : Type 0} → Option (Y × List ℕ) → Option (List ℕ)
+behind read = read >>= λ x. Some x.1
+
+-- A function that takes no memory returned the place behind what reading the bytes gives, and not its value.
+abbrev pub Passes : List ℕ → ℕ → Result ℕ RowFault → Option (List ℕ) → Type 0
+Passes bytes start (Ok end) rest = (end ≤ length bytes) × (rest ≡ Some (drop end bytes))
+Passes bytes start (Err e) rest = (e ≡ fault.Bad start) × (rest ≡ None)
+
 -- a field that passes a test
 abbrev pub only : {A : Type 0} → (A → Bool) → Option (A × List ℕ) → Option (A × List ℕ)
 only test read = read >>= λ x. if test x.0 then Some x else None
@@ -77,6 +91,10 @@ items_at one (suc n) bytes = do
   first ← one bytes
   others ← items_at one n first.1
   Some (first.0 ∷ others.0, others.1)
+
+-- so many fields, the keys of which ascend from a key
+abbrev pub ascending_at : {A : Type 0} → (List A → List (List ℕ)) → (List ℕ → Option (A × List ℕ)) → List ℕ → ℕ → List ℕ → Option (List A × List ℕ)
+ascending_at keys one before n bytes = only (λ xs. is_ascending (before ∷ keys xs)) (items_at one n bytes)
 
 -- ---- bodies
 

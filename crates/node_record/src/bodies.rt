@@ -1,9 +1,10 @@
 //! The bodies of rows: how long each is, how it is written, and how it is read.
 
-ghost use Rattle.std.specs.Prelude.{◌≡◌, ◌+◌, ◌≤◌, length, drop, vec_len, vec_capacity};
+ghost use Rattle.std.specs.Prelude.{◌≡◌, ℕ, List, ◌+◌, ◌≤◌, length, drop, vec_len, vec_capacity};
+ghost use Rattle.fine_model.specs.declared.Rec.{Rec};
 ghost use Rattle.fine_model.specs.declared.Rec.TheVariants as rec;
 ghost use Rattle.fine_model.specs.RowBytes.{FitsKey, FitsRec, body, key_bytes};
-ghost use Rattle.node_record.specs.Reading.{Gives, head_at, leaf_at, inner_at, put_at, key_at, link_at, plus_at};
+ghost use Rattle.node_record.specs.Reading.{Gives, Finds, Passes, behind, head_at, leaf_at, inner_at, put_at, key_at, keyed_at, link_at, plus_at};
 ghost use Rattle.node_record.specs.Writing.{Appends};
 
 /// Root, next number and depth.
@@ -32,6 +33,18 @@ pub mod head {
     }
 
     #[tactic(auto, unfolding(crate::specs::Reading::head_at))]
+    fn fields(bytes: &[u8], start: usize, at: usize) -> Result<((u32, u32, u8), usize), RowFault>
+        requires { at ≤ length bytes.now }
+        ensures { Finds (λ x. rec.HeadImage x.0 x.1 x.2) bytes.now start result (head_at (drop at bytes.now)) }
+    {
+        let (root, at) = child(bytes, start, at)?;
+        let (next, at) = number_u32(bytes, start, at)?;
+        sure(2 <= next && next <= NODE_NUMBERS, start)?;
+        let (depth, at) = byte(bytes, start, at)?;
+        sure(1 <= depth && depth <= GREATEST_DEPTH, start)?;
+        Ok(((root, next, depth), at))
+    }
+
     pub fn read(
         _alloc: Global,
         bytes: &[u8],
@@ -41,12 +54,17 @@ pub mod head {
         requires { at ≤ length bytes.now }
         ensures { Gives (λ x. rec.HeadImage x.0 x.1 x.2) bytes.now start result (head_at (drop at bytes.now)) }
     {
-        let (root, at) = child(bytes, start, at)?;
-        let (next, at) = number_u32(bytes, start, at)?;
-        sure(2 <= next && next <= NODE_NUMBERS, start)?;
-        let (depth, at) = byte(bytes, start, at)?;
-        sure(1 <= depth && depth <= GREATEST_DEPTH, start)?;
-        Ok(((root, next, depth), at))
+        fields(bytes, start, at)
+    }
+
+    /// The place behind it.
+    #[tactic(auto, unfolding(crate::specs::Reading::head_at))]
+    pub fn end(bytes: &[u8], start: usize, at: usize) -> Result<usize, RowFault>
+        requires { at ≤ length bytes.now }
+        ensures { Passes bytes.now start result (behind (head_at (drop at bytes.now))) }
+    {
+        let (_, end) = fields(bytes, start, at)?;
+        Ok(end)
     }
 }
 
@@ -54,7 +72,7 @@ pub mod head {
 pub mod leaf {
     use crate::fault::RowFault;
     use crate::fields::{byte, put, put_key, put_value, sure};
-    use crate::items::items;
+    use crate::items::{items, pairs_end};
     use crate::places::pairs_ascend;
     use fine_model::format::MOST_IN_NODE;
     use fine_model::{Bytes, Pairs};
@@ -102,13 +120,24 @@ pub mod leaf {
         sure(pairs_ascend(pairs.as_slice()), start)?;
         Ok((pairs, at))
     }
+
+    /// The place behind it.
+    #[tactic(auto, unfolding(crate::specs::Reading::leaf_at))]
+    pub fn end(bytes: &[u8], start: usize, at: usize) -> Result<usize, RowFault>
+        requires { at ≤ length bytes.now }
+        ensures { Passes bytes.now start result (behind (leaf_at (drop at bytes.now))) }
+    {
+        let (count, at) = byte(bytes, start, at)?;
+        sure(count as usize <= MOST_IN_NODE, start)?;
+        pairs_end(bytes, start, at, count, &[])
+    }
 }
 
 /// The number of the separators, the children, and the separators.
 pub mod inner {
     use crate::fault::RowFault;
     use crate::fields::{byte, put, put_key, sure};
-    use crate::items::items;
+    use crate::items::{children_end, items, keys_end};
     use crate::places::keys_ascend;
     use fine_model::format::MOST_IN_NODE;
     use fine_model::{Bytes, Keys, Kids};
@@ -159,12 +188,24 @@ pub mod inner {
         sure(keys_ascend(seps.as_slice()), start)?;
         Ok(((seps, kids), at))
     }
+
+    /// The place behind it.
+    #[tactic(auto, unfolding(crate::specs::Reading::inner_at))]
+    pub fn end(bytes: &[u8], start: usize, at: usize) -> Result<usize, RowFault>
+        requires { at ≤ length bytes.now }
+        ensures { Passes bytes.now start result (behind (inner_at (drop at bytes.now))) }
+    {
+        let (count, at) = byte(bytes, start, at)?;
+        sure(count as usize <= MOST_IN_NODE, start)?;
+        let at = children_end(bytes, start, at, count + 1)?;
+        keys_end(bytes, start, at, count, &[])
+    }
 }
 
 /// A key and a value.
 pub mod pair {
     use crate::fault::RowFault;
-    use crate::fields::{pair, put_key, put_value};
+    use crate::fields::{pair, pair_in, put_key, put_value};
     use fine_model::Bytes;
     use std::alloc::Global;
 
@@ -199,12 +240,22 @@ pub mod pair {
     {
         pair(alloc, bytes, start, at)
     }
+
+    /// The place behind it.
+    #[tactic(auto, unfolding(crate::specs::Reading::put_at))]
+    pub fn end(bytes: &[u8], start: usize, at: usize) -> Result<usize, RowFault>
+        requires { at ≤ length bytes.now }
+        ensures { Passes bytes.now start result (behind (put_at (drop at bytes.now))) }
+    {
+        let (_, end) = pair_in(bytes, start, at)?;
+        Ok(end)
+    }
 }
 
 /// A key.
 pub mod key {
     use crate::fault::RowFault;
-    use crate::fields::{key, put_key};
+    use crate::fields::{key, key_in, put_key};
     use fine_model::Bytes;
     use std::alloc::Global;
 
@@ -235,12 +286,22 @@ pub mod key {
     {
         key(alloc, bytes, start, at)
     }
+
+    /// The place behind it.
+    #[tactic(auto, unfolding(crate::specs::Reading::keyed_at))]
+    pub fn end(bytes: &[u8], start: usize, at: usize) -> Result<usize, RowFault>
+        requires { at ≤ length bytes.now }
+        ensures { (make : List ℕ → Rec) → Passes bytes.now start result (behind (keyed_at make (drop at bytes.now))) }
+    {
+        let (_, end) = key_in(bytes, start, at)?;
+        Ok(end)
+    }
 }
 
 /// A separator and the child to its right.
 pub mod link {
     use crate::fault::RowFault;
-    use crate::fields::{child, key, put, put_key};
+    use crate::fields::{child, key, key_in, put, put_key};
     use fine_model::Bytes;
     use std::alloc::Global;
 
@@ -277,12 +338,23 @@ pub mod link {
         let (child, at) = child(bytes, start, at)?;
         Ok(((key, child), at))
     }
+
+    /// The place behind it.
+    #[tactic(auto, unfolding(crate::specs::Reading::link_at))]
+    pub fn end(bytes: &[u8], start: usize, at: usize) -> Result<usize, RowFault>
+        requires { at ≤ length bytes.now }
+        ensures { Passes bytes.now start result (behind (link_at (drop at bytes.now))) }
+    {
+        let (_, at) = key_in(bytes, start, at)?;
+        let (_, end) = child(bytes, start, at)?;
+        Ok(end)
+    }
 }
 
 /// A key and what is added to its number.
 pub mod plus {
     use crate::fault::RowFault;
-    use crate::fields::{key, number_i64, put, put_key};
+    use crate::fields::{key, key_in, number_i64, put, put_key};
     use fine_model::Bytes;
     use std::alloc::Global;
 
@@ -318,5 +390,16 @@ pub mod plus {
         let (key, at) = key(alloc, bytes, start, at)?;
         let (by, at) = number_i64(bytes, start, at)?;
         Ok(((key, by), at))
+    }
+
+    /// The place behind it.
+    #[tactic(auto, unfolding(crate::specs::Reading::plus_at))]
+    pub fn end(bytes: &[u8], start: usize, at: usize) -> Result<usize, RowFault>
+        requires { at ≤ length bytes.now }
+        ensures { Passes bytes.now start result (behind (plus_at (drop at bytes.now))) }
+    {
+        let (_, at) = key_in(bytes, start, at)?;
+        let (_, end) = number_i64(bytes, start, at)?;
+        Ok(end)
     }
 }

@@ -1,16 +1,16 @@
 //! The fields of which rows are made.
 
-ghost use Rattle.std.specs.Prelude.{◌≡◌, ◌+◌, ◌≤◌, ◌∷◌, [], length, drop, option_map, vec_len, vec_capacity, if◌then◌else◌};
+ghost use Rattle.std.specs.Prelude.{◌≡◌, ◌+◌, ◌≤◌, ◌∷◌, [], length, drop, option_map, IfOk, vec_len, vec_capacity, if◌then◌else◌};
 ghost use Rattle.std.specs.Int.{to_be_bytes, w16, w32, w64};
 ghost use Rattle.fine_model.specs.RowBytes.{FitsKey, FitsValue, key_bytes, value_bytes};
 ghost use Rattle.node_record.specs.declared.fault.RowFault.TheVariants as fault;
-ghost use Rattle.node_record.specs.Reading.{Gives, text_at, byte_at, number_at, signed_at, key_at, value_at, pair_at, child_at};
+ghost use Rattle.node_record.specs.Reading.{Gives, Finds, text_at, byte_at, number_at, signed_at, key_at, value_at, pair_at, child_at};
 ghost use Rattle.node_record.specs.Writing.{Appends};
 
 use crate::fault::RowFault;
 use fine_model::format::{MOST_IN_KEY, MOST_IN_VALUE, NODE_NUMBERS};
 use fine_model::{Bytes, Items};
-use std::alloc::Global;
+use std::alloc::{AllocError, Global};
 
 /// Appends bytes for which there is room.
 pub fn put(out: &mut Vec<u8>, bytes: &[u8])
@@ -63,7 +63,7 @@ pub fn sure(holds: bool, start: usize) -> Result<(), RowFault>
 #[tactic(auto, unfolding(crate::specs::Reading::byte_at))]
 pub fn byte(bytes: &[u8], start: usize, at: usize) -> Result<(u8, usize), RowFault>
     requires { at ≤ length bytes.now }
-    ensures { Gives (λ n. n) bytes.now start result (byte_at (drop at bytes.now)) }
+    ensures { Finds (λ n. n) bytes.now start result (byte_at (drop at bytes.now)) }
 {
     match field::<1>(bytes, at) {
         Some(text) => Ok((text[0], at + 1)),
@@ -74,7 +74,7 @@ pub fn byte(bytes: &[u8], start: usize, at: usize) -> Result<(u8, usize), RowFau
 #[tactic(auto, unfolding(crate::specs::Reading::number_at))]
 pub fn number_u16(bytes: &[u8], start: usize, at: usize) -> Result<(u16, usize), RowFault>
     requires { at ≤ length bytes.now }
-    ensures { Gives (λ n. n) bytes.now start result (number_at w16 (drop at bytes.now)) }
+    ensures { Finds (λ n. n) bytes.now start result (number_at w16 (drop at bytes.now)) }
 {
     match field::<2>(bytes, at) {
         Some(text) => Ok((u16::from_be_bytes(text), at + 2)),
@@ -85,7 +85,7 @@ pub fn number_u16(bytes: &[u8], start: usize, at: usize) -> Result<(u16, usize),
 #[tactic(auto, unfolding(crate::specs::Reading::number_at))]
 pub fn number_u32(bytes: &[u8], start: usize, at: usize) -> Result<(u32, usize), RowFault>
     requires { at ≤ length bytes.now }
-    ensures { Gives (λ n. n) bytes.now start result (number_at w32 (drop at bytes.now)) }
+    ensures { Finds (λ n. n) bytes.now start result (number_at w32 (drop at bytes.now)) }
 {
     match field::<4>(bytes, at) {
         Some(text) => Ok((u32::from_be_bytes(text), at + 4)),
@@ -96,7 +96,7 @@ pub fn number_u32(bytes: &[u8], start: usize, at: usize) -> Result<(u32, usize),
 #[tactic(auto, unfolding(crate::specs::Reading::number_at))]
 pub fn number_u64(bytes: &[u8], start: usize, at: usize) -> Result<(u64, usize), RowFault>
     requires { at ≤ length bytes.now }
-    ensures { Gives (λ n. n) bytes.now start result (number_at w64 (drop at bytes.now)) }
+    ensures { Finds (λ n. n) bytes.now start result (number_at w64 (drop at bytes.now)) }
 {
     match field::<8>(bytes, at) {
         Some(text) => Ok((u64::from_be_bytes(text), at + 8)),
@@ -108,7 +108,7 @@ pub fn number_u64(bytes: &[u8], start: usize, at: usize) -> Result<(u64, usize),
 #[tactic(auto, unfolding(crate::specs::Reading::signed_at, crate::specs::Reading::number_at))]
 pub fn number_i64(bytes: &[u8], start: usize, at: usize) -> Result<(i64, usize), RowFault>
     requires { at ≤ length bytes.now }
-    ensures { Gives (λ n. n) bytes.now start result (signed_at (drop at bytes.now)) }
+    ensures { Finds (λ n. n) bytes.now start result (signed_at (drop at bytes.now)) }
 {
     match field::<8>(bytes, at) {
         Some(text) => Ok((i64::from_be_bytes(text), at + 8)),
@@ -116,49 +116,63 @@ pub fn number_i64(bytes: &[u8], start: usize, at: usize) -> Result<(i64, usize),
     }
 }
 
-/// So many bytes.
-fn text(
-    alloc: Global,
-    bytes: &[u8],
-    start: usize,
-    at: usize,
-    len: usize,
-) -> Result<(Bytes, usize), RowFault>
+/// So many bytes, as they stand there.
+fn text_in(bytes: &[u8], start: usize, at: usize, len: usize) -> Result<(&[u8], usize), RowFault>
     requires { at ≤ length bytes.now }
-    ensures { Gives (λ text. text) bytes.now start result (text_at len (drop at bytes.now)) }
+    ensures { Finds (λ text. text.now) bytes.now start result (text_at len (drop at bytes.now)) }
 {
     sure(len <= bytes.len() - at, start)?;
     let end = at + len;
-    let text = Vec::from_slice(alloc, &bytes[at..end])?;
-    Ok((Items::from_vec(text), end))
+    Ok((&bytes[at..end], end))
 }
 
+/// A key, as it stands there.
 #[tactic(auto, unfolding(crate::specs::Reading::key_at))]
+pub fn key_in(bytes: &[u8], start: usize, at: usize) -> Result<(&[u8], usize), RowFault>
+    requires { at ≤ length bytes.now }
+    ensures { Finds (λ key. key.now) bytes.now start result (key_at (drop at bytes.now)) }
+{
+    let (len, at) = byte(bytes, start, at)?;
+    sure(1 <= len && len as usize <= MOST_IN_KEY, start)?;
+    text_in(bytes, start, at, len as usize)
+}
+
+#[tactic(auto, unfolding(crate::specs::Reading::value_at))]
+fn value_in(bytes: &[u8], start: usize, at: usize) -> Result<(&[u8], usize), RowFault>
+    requires { at ≤ length bytes.now }
+    ensures { Finds (λ value. value.now) bytes.now start result (value_at (drop at bytes.now)) }
+{
+    let (len, at) = number_u16(bytes, start, at)?;
+    sure(1 <= len && len as usize <= MOST_IN_VALUE, start)?;
+    text_in(bytes, start, at, len as usize)
+}
+
+/// A key and a value, as they stand there.
+#[tactic(auto, unfolding(crate::specs::Reading::pair_at))]
+pub fn pair_in(bytes: &[u8], start: usize, at: usize) -> Result<((&[u8], &[u8]), usize), RowFault>
+    requires { at ≤ length bytes.now }
+    ensures { Finds (λ pair. (pair.0.now, pair.1.now)) bytes.now start result (pair_at (drop at bytes.now)) }
+{
+    let (key, at) = key_in(bytes, start, at)?;
+    let (value, at) = value_in(bytes, start, at)?;
+    Ok(((key, value), at))
+}
+
+/// A copy of bytes.
+fn copy(alloc: Global, text: &[u8]) -> Result<Bytes, AllocError>
+    ensures { IfOk result (λ copy. copy ≡ text.now) }
+{
+    Ok(Items::from_vec(Vec::from_slice(alloc, text)?))
+}
+
 pub fn key(alloc: Global, bytes: &[u8], start: usize, at: usize) -> Result<(Bytes, usize), RowFault>
     requires { at ≤ length bytes.now }
     ensures { Gives (λ key. key) bytes.now start result (key_at (drop at bytes.now)) }
 {
-    let (len, at) = byte(bytes, start, at)?;
-    sure(1 <= len && len as usize <= MOST_IN_KEY, start)?;
-    text(alloc, bytes, start, at, len as usize)
+    let (key, at) = key_in(bytes, start, at)?;
+    Ok((copy(alloc, key)?, at))
 }
 
-#[tactic(auto, unfolding(crate::specs::Reading::value_at))]
-pub fn value(
-    alloc: Global,
-    bytes: &[u8],
-    start: usize,
-    at: usize,
-) -> Result<(Bytes, usize), RowFault>
-    requires { at ≤ length bytes.now }
-    ensures { Gives (λ value. value) bytes.now start result (value_at (drop at bytes.now)) }
-{
-    let (len, at) = number_u16(bytes, start, at)?;
-    sure(1 <= len && len as usize <= MOST_IN_VALUE, start)?;
-    text(alloc, bytes, start, at, len as usize)
-}
-
-#[tactic(auto, unfolding(crate::specs::Reading::pair_at))]
 pub fn pair(
     alloc: Global,
     bytes: &[u8],
@@ -168,15 +182,14 @@ pub fn pair(
     requires { at ≤ length bytes.now }
     ensures { Gives (λ pair. pair) bytes.now start result (pair_at (drop at bytes.now)) }
 {
-    let (key, at) = key(alloc, bytes, start, at)?;
-    let (value, at) = value(alloc, bytes, start, at)?;
-    Ok(((key, value), at))
+    let ((key, value), at) = pair_in(bytes, start, at)?;
+    Ok(((copy(alloc, key)?, copy(alloc, value)?), at))
 }
 
 #[tactic(auto, unfolding(crate::specs::Reading::child_at))]
 pub fn child(bytes: &[u8], start: usize, at: usize) -> Result<(u32, usize), RowFault>
     requires { at ≤ length bytes.now }
-    ensures { Gives (λ child. child) bytes.now start result (child_at (drop at bytes.now)) }
+    ensures { Finds (λ child. child) bytes.now start result (child_at (drop at bytes.now)) }
 {
     let (child, at) = number_u32(bytes, start, at)?;
     sure(1 <= child && child < NODE_NUMBERS, start)?;

@@ -1,10 +1,11 @@
 //! Fields that stand one after the other.
 
-ghost use Rattle.std.specs.Prelude.{◌≡◌, ℕ, ◌≤◌, List, Option, length, drop};
-ghost use Rattle.node_record.specs.Reading.{Gives, key_at, pair_at, child_at, items_at};
+ghost use Rattle.std.specs.Prelude.{◌≡◌, ℕ, ◌≤◌, List, Option, length, drop, map};
+ghost use Rattle.node_record.specs.Reading.{Gives, Passes, behind, ascending_at, key_at, pair_at, child_at, items_at};
 
 use crate::fault::RowFault;
-use crate::fields::{child, key, pair};
+use crate::fields::{child, key, key_in, pair, pair_in, sure};
+use crate::places::is_below;
 use fine_model::{Bytes, Items};
 use std::alloc::Global;
 
@@ -78,4 +79,57 @@ pub fn items<T: Field + Drop>(
         end = after;
     }
     Ok((items, end))
+}
+
+/// The place behind so many pairs, whose keys ascend from the key before them.
+#[tactic(auto, unfolding(crate::specs::Reading::items_at))]
+pub fn pairs_end(
+    bytes: &[u8],
+    start: usize,
+    at: usize,
+    count: u8,
+    before: &[u8],
+) -> Result<usize, RowFault>
+    requires { at ≤ length bytes.now }
+    ensures { Passes bytes.now start result (behind (ascending_at (map (λ p. p.0)) pair_at before.now count (drop at bytes.now))) }
+{
+    if count == 0 {
+        return Ok(at);
+    }
+    let ((key, _), at) = pair_in(bytes, start, at)?;
+    sure(is_below(before, key), start)?;
+    pairs_end(bytes, start, at, count - 1, key)
+}
+
+/// The place behind so many keys, which ascend from the key before them.
+#[tactic(auto, unfolding(crate::specs::Reading::items_at))]
+pub fn keys_end(
+    bytes: &[u8],
+    start: usize,
+    at: usize,
+    count: u8,
+    before: &[u8],
+) -> Result<usize, RowFault>
+    requires { at ≤ length bytes.now }
+    ensures { Passes bytes.now start result (behind (ascending_at (λ keys. keys) key_at before.now count (drop at bytes.now))) }
+{
+    if count == 0 {
+        return Ok(at);
+    }
+    let (key, at) = key_in(bytes, start, at)?;
+    sure(is_below(before, key), start)?;
+    keys_end(bytes, start, at, count - 1, key)
+}
+
+/// The place behind so many children.
+#[tactic(auto, unfolding(crate::specs::Reading::items_at))]
+pub fn children_end(bytes: &[u8], start: usize, at: usize, count: u8) -> Result<usize, RowFault>
+    requires { at ≤ length bytes.now }
+    ensures { Passes bytes.now start result (behind (items_at child_at count (drop at bytes.now))) }
+{
+    if count == 0 {
+        return Ok(at);
+    }
+    let (_, at) = child(bytes, start, at)?;
+    children_end(bytes, start, at, count - 1)
 }

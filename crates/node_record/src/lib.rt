@@ -7,6 +7,7 @@
 mod bodies;
 mod fault;
 mod fields;
+mod frames;
 mod front;
 mod items;
 mod key;
@@ -16,6 +17,7 @@ mod replay;
 mod rows;
 
 pub use fault::RowFault;
+pub use frames::{Frame, frame_at};
 pub use key::{RowAt, front_at, sorted_law};
 pub use places::{find_pair, is_below};
 pub use replay::{apply, image_of};

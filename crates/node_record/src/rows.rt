@@ -3,7 +3,7 @@
 ghost use Rattle.std.specs.Prelude.{◌≡◌, ◌+◌, ◌≤◌, ◌<◌, ◌++◌, ◌==◌, length, drop, vec_len, vec_capacity, IfOk, IfErr, OnOk, OnErr, if◌then◌else◌};
 ghost use Rattle.fine_model.specs.RowBytes.{FitsRec, row_bytes, row_len, last_kind, row_front};
 ghost use Rattle.node_record.specs.declared.fault.RowFault.TheVariants as fault;
-ghost use Rattle.node_record.specs.Reading.{Gives, fits_kind, front_at};
+ghost use Rattle.node_record.specs.Reading.{Finds, Passes, behind, body_at, fits_kind, front_at};
 ghost use Rattle.node_record.specs.Rows.{IsRowAt, IsFault, IsReadAgain};
 ghost use Rattle.node_record.specs.Writing.{Appends, front};
 
@@ -48,6 +48,15 @@ macro_rules! read_by {
                 whole($front, Rec::$name { $($field),* }, $at, $start, end)
             })*
             _ => Err(RowFault::Bad { at: $at }),
+        }
+    };
+}
+
+macro_rules! end_of {
+    (($kind:expr, $bytes:expr, $start:expr, $at:expr) $($number:literal $name:ident { $($field:ident),* } $body:ident;)*) => {
+        match $kind {
+            $($number => $body::end($bytes, $start, $at),)*
+            _ => Err(RowFault::Bad { at: $start }),
         }
     };
 }
@@ -117,9 +126,9 @@ fn fits_kind(kind: u8, number: u32) -> bool
 
 /// What stands before the body of a row.
 #[tactic(auto, unfolding(crate::specs::Reading::front_at))]
-fn read_front(bytes: &[u8], start: usize, mark: Mark) -> Result<(Front, usize), RowFault>
+pub fn read_front(bytes: &[u8], start: usize, mark: Mark) -> Result<(Front, usize), RowFault>
     requires { start ≤ length bytes.now }
-    ensures { Gives (λ front. front) bytes.now start result (front_at mark (drop start bytes.now)) }
+    ensures { Finds (λ front. front) bytes.now start result (front_at mark (drop start bytes.now)) }
 {
     let (kind, at) = byte(bytes, start, start)?;
     sure(kind <= last_kind(mark), start)?;
@@ -142,6 +151,22 @@ fn read_front(bytes: &[u8], start: usize, mark: Mark) -> Result<(Front, usize), 
     ))
 }
 
+/// The place behind the body of a kind that stands at `at`, in a row that starts at `start`.
+#[tactic(auto, unfolding(crate::specs::Reading::body_at))]
+pub fn body_end(kind: u8, bytes: &[u8], start: usize, at: usize) -> Result<usize, RowFault>
+    requires { at ≤ length bytes.now }
+    ensures { Passes bytes.now start result (behind (body_at kind (drop at bytes.now))) }
+{
+    kinds!(end_of(kind, bytes, start, at))
+}
+
+/// Whether a body has the length that its front says.
+pub fn is_whole(front: Front, body: usize, end: usize) -> bool
+    ensures { result ≡ (end == body + front.len) }
+{
+    body <= end && end - body == front.len as usize
+}
+
 /// A row whose body has the length that its front says.
 fn whole(
     front: Front,
@@ -152,7 +177,7 @@ fn whole(
 ) -> Result<(Row, usize), RowFault>
     ensures { result ≡ (if end == body + front.len then Ok (record { node = front.node; version = front.version; rec = rec }, end) else Err (fault.Bad start)) }
 {
-    sure(body <= end && end - body == front.len as usize, start)?;
+    sure(is_whole(front, body, end), start)?;
     Ok((
         Row {
             node: front.node,

@@ -2,7 +2,9 @@ ghost use Rattle.std.specs.Prelude.{◌≡◌, IfOk};
 ghost use Rattle.node_record.specs.Bounds.{FitsNode};
 
 use fine_model::{Bytes, Items, Keys, Kids, Mark, Node, NodeId, Pairs, Rec, Row};
-use node_record::{RowAt, RowFault, apply, front_at, image_of, read_row, row_len, write_row};
+use node_record::{
+    RowAt, RowFault, apply, frame_at, front_at, image_of, read_row, row_len, write_row,
+};
 use std::alloc::Global;
 use std::process::Abort;
 use std::test::*;
@@ -14,6 +16,10 @@ const PUT: [u8; 24] =
 /// Adds 2 to the number of the key `c`.
 const PLUS: [u8; 29] =
     *b"\x09\x00\x63\x00\x00\x00\x01\x00\x00\x00\x00\x00\x00\x00\x02\x00\x00\x00\x0a\x01c\x00\x00\x00\x00\x00\x00\x00\x02";
+
+/// The image of a leaf of the pairs `a 2` and `b 3`.
+const LEAF: [u8; 30] =
+    *b"\x02\x00\x61\x00\x00\x00\x01\x00\x00\x00\x00\x00\x00\x00\x02\x00\x00\x00\x0b\x02\x01a\x00\x012\x01b\x00\x013";
 
 fn bytes(alloc: Global, text: &[u8]) -> Result<Bytes, Fail>
     ensures { IfOk result (λ b. b ≡ text.now) }
@@ -84,6 +90,19 @@ fn both_ways(rt: &impl Abort, alloc: Global, text: &[u8], row: Row) -> Result<()
     Ok(())
 }
 
+/// Finds the frame of a row that ends where its text does.
+fn framed(rt: &impl Abort, text: &[u8], row: &Row) -> Result<(), Fail> {
+    let frame = frame_at(text, 0, Mark::Two).ok().ok_or("no frame")?;
+    assert_eq!(rt; (frame.node, frame.version), (row.node, row.version));
+    assert_eq!(rt; frame.end, text.len());
+    let is_image = matches!(
+        row.rec,
+        Rec::HeadImage { .. } | Rec::LeafImage { .. } | Rec::InnerImage { .. }
+    );
+    assert_eq!(rt; frame.is_image, is_image);
+    Ok(())
+}
+
 /// The key of the row with which a text begins.
 fn key_of(alloc: Global, text: &[u8]) -> Result<RowAt, Fail> {
     match read_row(alloc, text, 0, Mark::Two) {
@@ -133,7 +152,7 @@ fn spelled(alloc: Global, which: u8) -> Result<Row, Fail> {
 fn rows_are_read_and_written_byte_by_byte(rt: HostRuntime) -> Result<(), Fail> {
     let texts: [&[u8]; 6] = [
         b"\x01\x00\x40\x00\x00\x00\x00\x00\x00\x00\x00\x00\x00\x00\x01\x00\x00\x00\x09\x00\x00\x00\x03\x00\x00\x00\x04\x02",
-        b"\x02\x00\x61\x00\x00\x00\x01\x00\x00\x00\x00\x00\x00\x00\x02\x00\x00\x00\x0b\x02\x01a\x00\x012\x01b\x00\x013",
+        &LEAF,
         b"\x03\x00\x40\x00\x00\x00\x03\x00\x00\x00\x00\x00\x00\x00\x01\x00\x00\x00\x14\x01\x00\x00\x00\x01\x00\x00\x00\x02\x0aBBAaAaAaAa",
         &PUT,
         b"\x06\x00\x40\x00\x00\x00\x01\x00\x00\x00\x00\x00\x00\x00\x21\x00\x00\x00\x0b\x0aBBAaAaAaAa",
@@ -141,6 +160,7 @@ fn rows_are_read_and_written_byte_by_byte(rt: HostRuntime) -> Result<(), Fail> {
     ];
     for text in texts {
         let kind = text.first().copied().unwrap_or(0);
+        framed(&rt, text, &spelled(rt.alloc(), kind)?)?;
         both_ways(&rt, rt.alloc(), text, spelled(rt.alloc(), kind)?)?;
     }
     Ok(())
@@ -183,6 +203,59 @@ fn bad_rows_are_told_at_their_start(rt: HostRuntime) {
     for at in 0..24 {
         let read = read_row(alloc, &PUT[..at], at, Mark::Two);
         assert!(rt; matches!(read, Err(RowFault::Bad { at: place }) if place == at));
+    }
+}
+
+/// The leaf's image with one byte changed.
+fn changed_leaf(at: usize, byte: u8) -> [u8; 30] {
+    let mut row = LEAF;
+    if let Some(place) = row.get_mut(at) {
+        *place = byte;
+    }
+    row
+}
+
+/// Where the row ends with which a text begins, as it is read and as it is framed.
+fn ends_of(alloc: Global, text: &[u8]) -> (Option<usize>, Option<usize>) {
+    let read = match read_row(alloc, text, 0, Mark::Two) {
+        Ok((_row, end)) => Some(end),
+        Err(_) => None,
+    };
+    let framed = match frame_at(text, 0, Mark::Two) {
+        Ok(frame) => Some(frame.end),
+        Err(_) => None,
+    };
+    (read, framed)
+}
+
+#[test]
+fn frames_are_refused_where_rows_are(rt: HostRuntime) {
+    let alloc = rt.alloc();
+    // the numbers of pairs, then the lengths and keys of the first pair and of the second
+    for (at, byte) in [
+        (19, 1),
+        (19, 3),
+        (19, 33),
+        (20, 0),
+        (20, 65),
+        (21, 98),
+        (22, 1),
+        (23, 0),
+        (25, 2),
+        (26, 97),
+        (28, 2),
+    ] {
+        let ends = ends_of(alloc, &changed_leaf(at, byte));
+        assert_eq!(rt; ends, (None, None), "{byte} at {at}");
+    }
+    for at in 0..30 {
+        for byte in [0, 2, 97, 255] {
+            let (read, framed) = ends_of(alloc, &changed_leaf(at, byte));
+            assert_eq!(rt; framed, read, "{byte} at {at}");
+        }
+    }
+    for len in 0..30 {
+        assert_eq!(rt; ends_of(alloc, &LEAF[..len]), (None, None), "{len}");
     }
 }
 

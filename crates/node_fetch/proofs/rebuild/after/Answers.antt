@@ -6,5 +6,5 @@ use Rattle.node_fetch.proofs.rebuild.after.Goals as goal
 
 pub returns-clause-version : goal.returns-clause-version
 returns-clause-version c low all =
-    let exact : IfOk c.map_err.result (λ after. after ≡ replay c.args.before c.args.rows.now) = search rules in
-    version_low c.map_err.result c.args.before c.args.rows.now exact low all
+    let exact : IfOk c.map_err.result (λ after. after ≡ replay c.args.before c.args.rows) = search rules in
+    version_low c.map_err.result c.args.before c.args.rows exact low all

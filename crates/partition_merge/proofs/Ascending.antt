@@ -1,6 +1,6 @@
 -- The order of rows from one list to the next.
-use Rattle.std.proofs.Common.{◌≡◌, suc, ◌-◌, ◌≤◌, Bool, true, false, ◌&&◌, List, [], ◌∷◌, ◌++◌, length, Some, None, refl, sym, ap, ◌∙◌, subst, arith}
-use Rattle.std.specs.Prelude.{Option, slice_get}
+use Rattle.std.proofs.Common.{◌≡◌, ◌≤◌, Bool, true, false, ◌&&◌, List, [], ◌∷◌, ◌++◌, length, Some, None, refl, sym, ap, ◌∙◌, subst, arith}
+use Rattle.std.specs.Prelude.{Option}
 use Rattle.std.specs.List.{AllByRecursion}
 use Rattle.std.specs.Ordering.{nat_cmp, ordering_then, is_lt}
 use Rattle.std.proofs.lemmas.Grind.{flat_map-append}
@@ -33,17 +33,6 @@ last_joined [] rows some = refl
 last_joined (a ∷ []) [] some = absurd (omega (arith, some))
 last_joined (a ∷ []) (b ∷ rows) some = refl
 last_joined (a ∷ b ∷ front) rows some = last_joined (b ∷ front) rows some
-
--- the node of the last row by its place
-pub last_is : (rows : List Row) (row : Row) → slice_get rows (length rows - 1) ≡ Some row → last_node rows ≡ Some row.node
-last_is [] row e = absurd (cc)
-last_is (a ∷ []) row e = ap (λ (r : Row). Some r.node) (some_same a row e)
-  where
-    some_same : (a b : Row) → ◌≡◌ {A = Option Row} (Some a) (Some b) → a ≡ b
-    some_same a b e = cc
-last_is (a ∷ b ∷ rows) row e =
-    let k : length (a ∷ b ∷ rows) - 1 ≡ suc (length (b ∷ rows) - 1) = omega arith in
-    last_is (b ∷ rows) row (sym (ap (slice_get (a ∷ b ∷ rows)) k) ∙ e)
 
 -- the last one of rows of a node
 pub last_own : (n : NodeId) (rows : List Row) → 1 ≤ length rows → AllByRecursion (λ r. r.node ≡ n) rows → last_node rows ≡ Some n

@@ -13,3 +13,5 @@ pub mod Streams
 pub mod ToldJoins
 pub mod JoinedBody
 pub mod JoinedFinds
+pub mod Pieces
+pub mod Found

@@ -38,7 +38,7 @@ use Rattle.partition_merge.specs.Mergers.{IsLeft, SourceAt, StandsAt, HandsOut, 
 use Rattle.partition_merge.proofs.Nodes.{rest_of, merged_all, nodes_first, nodes_over, rows_over, merged_by, lowest_first}
 use Rattle.partition_merge.proofs.Steps.{starts, split_run, from_head, named_head}
 
-inside : (a b : NodeId) → ◌≡◌ {A = Option NodeId} (Some a) (Some b) → a ≡ b
+pub inside : (a b : NodeId) → ◌≡◌ {A = Option NodeId} (Some a) (Some b) → a ≡ b
 inside a b e = cc
 
 -- rows begin with the lowest of their nodes
@@ -68,7 +68,7 @@ head_none rows i [] l past = refl
 head_none rows i (r ∷ left) l past =
     let e : ◌≡◌ {A = List NodeId} (r.node ∷ nodes_in (rest_of r.node (r ∷ left))) [] = sym (first_of r left l.ordered) ∙ l.nodes ∙ drop_of_length-le (nodes_in rows) past in absurd (cc)
 
-none_at_head : (left : List Row) → node_at_head left ≡ None → left ≡ []
+pub none_at_head : (left : List Row) → node_at_head left ≡ None → left ≡ []
 none_at_head [] e = refl
 none_at_head (r ∷ left) e = absurd (cc)
 
@@ -369,12 +369,24 @@ merged_some id own some = by (image_of (replay (base id) own).0)
     by None = some
     by (Some image) = choice (record { node = id; version = (replay (base id) own).1; rec = image }) _
 
+-- one of two lists has rows
+pub some_both : (id : NodeId) (a b : Option NodeId) (old new : Option (IndexEntry × Span)) (older newer : List Row) → lower a b ≡ Some id → a ≡ node_kept old → b ≡ node_kept new → (node_kept old ≡ Some id → 1 ≤ length older) → (node_kept new ≡ Some id → 1 ≤ length newer)
+    → 1 ≤ length (older ++ newer)
+some_both id a b old new older newer e ak bk os ns = elim (is_lower a b id e).one as (λ _. 1 ≤ length (older ++ newer)) [
+  | inl first ↦ let s = os (sym ak ∙ first) in omega (arith, s, length-append older newer)
+  | inr second ↦ let s = ns (sym bk ∙ second) in omega (arith, s, length-append older newer)
+]
+
+-- one part has a node less
+pub fewer_both : (id : NodeId) (a b : Option NodeId) (old new : Option (IndexEntry × Span)) (m n k l : ℕ) → lower a b ≡ Some id → a ≡ node_kept old → b ≡ node_kept new → (node_kept old ≡ Some id → k < m) → (node_kept new ≡ Some id → l < n)
+    → k ≤ m → l ≤ n → k + l < m + n
+fewer_both id a b old new m n k l e ak bk os ns km ln = elim (is_lower a b id e).one as (λ _. k + l < m + n) [
+  | inl first ↦ let s = os (sym ak ∙ first) in omega (arith, s, ln)
+  | inr second ↦ let s = ns (sym bk ∙ second) in omega (arith, s, km)
+]
+
 -- rows of which one list has some are merged into some
 pub some_joined : (id : NodeId) (a b : Option NodeId) (old new : Option (IndexEntry × Span)) (older newer rows : List Row) → lower a b ≡ Some id → a ≡ node_kept old → b ≡ node_kept new → (node_kept old ≡ Some id → 1 ≤ length older) → (node_kept new ≡ Some id → 1 ≤ length newer)
     → rows ≡ merged_of id (older ++ newer) → 1 ≤ length rows
 some_joined id a b old new older newer rows e ak bk os ns joined =
-    let both : 1 ≤ length (older ++ newer) = elim (is_lower a b id e).one as (λ _. 1 ≤ length (older ++ newer)) [
-      | inl first ↦ let s = os (sym ak ∙ first) in omega (arith, s, length-append older newer)
-      | inr second ↦ let s = ns (sym bk ∙ second) in omega (arith, s, length-append older newer)
-    ] in
-    subst (λ xs. 1 ≤ length xs) (sym joined) (merged_some id (older ++ newer) both)
+    subst (λ xs. 1 ≤ length xs) (sym joined) (merged_some id (older ++ newer) (some_both id a b old new older newer e ak bk os ns))

@@ -1,31 +1,28 @@
 //! The body of two merged parts, in blocks.
 
-ghost use Rattle.std.specs.Prelude.{◌≡◌, ◌⊎◌, ℕ, ◌+◌, ◌-◌, ◌<◌, ◌≤◌, [], ◌∷◌, ◌++◌, ◌==◌, not, nat_le, nat_lt, false, true, IfOk, IsErrOf, List, MatchResult, Ok, OnErr, OnOk, Option, Some, drop, length, min, take, vec_capacity, vec_len};
-ghost use Rattle.std.specs.List.{AllByRecursion};
+ghost use Rattle.std.specs.Prelude.{◌≡◌, ◌⊎◌, ℕ, ◌+◌, ◌-◌, ◌<◌, ◌≤◌, [], ◌++◌, not, nat_le, false, true, IfOk, IsErrOf, List, MatchResult, Ok, Option, Some, drop, length, min, take, vec_capacity, vec_len};
 ghost use Rattle.log_disk.specs.Disk.{Eye};
-ghost use Rattle.fine_model.specs.declared.NodeId.{NodeId};
 ghost use Rattle.fine_model.specs.declared.Row.{Row};
 ghost use Rattle.fine_model.specs.declared.FetchFault.TheVariants as fetch_fault;
 ghost use Rattle.fine_model.specs.Merge.{merged};
 ghost use Rattle.fine_model.specs.Regions.{Image, body_len};
-ghost use Rattle.fine_model.specs.RowBytes.{rows_bytes, rows_len, index_entry};
+ghost use Rattle.fine_model.specs.RowBytes.{rows_len, index_entry};
 ghost use Rattle.partition_index.specs.Entries.{bytes_of};
-ghost use Rattle.partition_index.specs.Index.{entry_at};
 ghost use Rattle.partition_index.specs.Parts.{CountsFaults, IsSeen, SameEye};
 ghost use Rattle.partition_index.specs.Search.{TellsRows};
 ghost use Rattle.node_fetch.specs.Fetched.{NoDamage};
 ghost use Rattle.partition_merge.specs.Blocks.{Gives, IsAhead, IsAtStart, SameBlocks, steps_left};
 ghost use Rattle.partition_merge.specs.Joined.{GivesJoined, IsJoined};
 ghost use Rattle.partition_merge.specs.Mergers.{AreKept, BlamesEntry, BlamesRow, at_front, newer_part, older_part};
-ghost use Rattle.partition_merge.specs.Merging.{FitRows};
+ghost use Rattle.partition_merge.specs.Pieces.{tallied};
 ghost use Rattle.partition_merge.specs.Streams.{AreInOrder, both_bytes_left};
 ghost use Rattle.partition_merge.specs.declared.merger.Merger.{Merger};
 
 use crate::pass::Pass;
+use crate::piece::Tally;
 use fine_model::format::INDEX_ENTRY;
-use fine_model::{FetchFault, NoMemory, Part, Row, Rows};
+use fine_model::{FetchFault, NoMemory, Part};
 use log_disk::LogEye;
-use node_record::write_row;
 use partition_index::{IndexEntry, entry_bytes};
 use std::alloc::Global;
 use std::marker::Model;
@@ -57,18 +54,6 @@ impl Model for Blocks {
     ghost invariant = { λ b. HasRoom b.merger b.most (vec_capacity b.block) b.at (vec_len b.waiting) (vec_len b.index) (vec_capacity b.index) b.is_whole };
 }
 
-// Appends the bytes of rows. After `NoMemory` what is there is not told.
-#[tactic(auto, unfolding(fine_model::specs::RowBytes::rows_bytes))]
-fn spell(out: &mut Vec<u8>, rows: &[Row]) -> Result<(), NoMemory>
-    requires { FitRows rows.now }
-    ensures { OnOk result (out.new.items ≡ out.old.items ++ rows_bytes rows.now) }
-{
-    for row in rows {
-        write_row(out, row)?;
-    }
-    Ok(())
-}
-
 // A number, or the greatest of 32 bits where it is above that.
 fn saturated(n: usize) -> u32
     ensures { result ≡ min n 4294967295 }
@@ -77,17 +62,16 @@ fn saturated(n: usize) -> u32
 }
 
 // Puts the entry of a node's rows behind an index, for which there is room.
-fn put_entry(index: &mut Vec<u8>, rows: &[Row], offset: u32)
-    requires some { 1 ≤ length rows.now }
+fn put_entry(index: &mut Vec<u8>, tally: Tally, offset: u32)
     requires room { vec_len index.old + index_entry ≤ vec_capacity index.old }
-    ensures bytes { (id : NodeId) → AllByRecursion (λ r. r.node ≡ id) rows.now → length rows.now < 4294967296 → index.new.items ≡ index.old.items ++ bytes_of (entry_at offset id rows.now) }
+    ensures bytes { index.new.items ≡ index.old.items ++ bytes_of (tallied tally offset) }
     ensures len { vec_len index.new ≡ vec_len index.old + index_entry }
     ensures capacity { vec_capacity index.old ≤ vec_capacity index.new }
 {
     let entry = IndexEntry {
-        node: rows[0].node,
+        node: tally.node,
         offset,
-        rows: saturated(rows.len()),
+        rows: tally.rows,
     };
     let _room = index.extend_from_slice(&entry_bytes(&entry));
 }
@@ -185,7 +169,7 @@ impl Blocks {
         if self.is_whole {
             return Ok(false);
         }
-        let Some(rows) = self.merger.next_node(alloc, eye)? else {
+        let Some(found) = self.merger.next_node(alloc, eye)? else {
             mem::swap(&mut self.waiting, &mut self.index);
             self.at = 0;
             self.is_whole = true;
@@ -193,10 +177,10 @@ impl Blocks {
         };
         self.waiting.clear();
         self.at = 0;
-        if spell(&mut self.waiting, rows.as_slice()).is_err() {
+        if self.merger.spell(&mut self.waiting, &found.merged).is_err() {
             return Err(FetchFault::NoMemory);
         }
-        put_entry(&mut self.index, rows.as_slice(), self.offset);
+        put_entry(&mut self.index, found.tally, self.offset);
         self.offset = self.offset.saturating_add(saturated(self.waiting.len()));
         Ok(true)
     }

@@ -1,12 +1,12 @@
 //! The image of a node, where it may stand for the node's rows.
 
-ghost use Rattle.std.specs.Prelude.{◌≡◌, ◌-◌, [], ◌∷◌, ◌++◌, true, IfOk, IfSome};
-ghost use Rattle.fine_model.specs.Merge.{is_image, starts_afresh};
+ghost use Rattle.std.specs.Prelude.{◌≡◌, ◌-◌, [], ◌∷◌, ◌++◌, min, true, IfOk, IfSome};
+ghost use Rattle.fine_model.specs.Merge.{image_of, is_image, starts_afresh};
 ghost use Rattle.fine_model.specs.RowBytes.{FitsRec, rows_len};
 ghost use Rattle.partition_merge.specs.Merging.{FitRows, merged_of, one_or};
 
-use fine_model::{NoMemory, Node, NodeId, Rec, Row};
-use node_fetch::{base, replayed};
+use fine_model::{NoMemory, Node, NodeId, Rec, Row, Rows};
+use node_fetch::{base, replayed, replayed_moved};
 use node_record::{image_of, row_len};
 use std::alloc::Global;
 
@@ -97,6 +97,47 @@ pub fn folded(
     }
     let image = image_of(alloc, node, version, &content)?;
     if excess(excess(row_len(&image), older), newer) > 0 {
+        return Ok(None);
+    }
+    Ok(Some(image))
+}
+
+/// The image of a node's content, which is moved. A broken one has none.
+fn rec_of(content: Node) -> Option<Rec>
+    ensures { result ≡ image_of content }
+{
+    match content {
+        Node::Head { root, next, depth } => Some(Rec::HeadImage { root, next, depth }),
+        Node::Leaf { pairs } => Some(Rec::LeafImage { pairs }),
+        Node::Inner { seps, kids } => Some(Rec::InnerImage { seps, kids }),
+        Node::Broken => None,
+    }
+}
+
+/// The same as `folded`, of rows that are given up, and that have so many bytes: what images hold is not copied.
+pub(crate) fn folded_moved(
+    alloc: Global,
+    node: NodeId,
+    older: Rows,
+    newer: Rows,
+    len: u32,
+) -> Result<Option<Row>, NoMemory>
+    requires older { FitRows older }
+    requires newer { FitRows newer }
+    requires len { len ≡ min (rows_len (older ++ newer)) 4294967295 }
+    ensures image { IfOk result (λ image. merged_of node (older ++ newer) ≡ one_or image (older ++ newer)) }
+    ensures fit { IfOk result (λ image. IfSome image (λ row. FitsRec row.rec)) }
+{
+    if !starts_afresh(older.as_slice(), newer.as_slice()) {
+        return Ok(None);
+    }
+    let between = replayed_moved(alloc, base(alloc, node), older)?;
+    let (content, version) = replayed_moved(alloc, between, newer)?;
+    let Some(rec) = rec_of(content) else {
+        return Ok(None);
+    };
+    let image = Row { node, version, rec };
+    if row_len(&image) > len {
         return Ok(None);
     }
     Ok(Some(image))

@@ -14,6 +14,7 @@ mod laws;
 mod merger;
 mod order;
 mod pass;
+mod piece;
 mod reader;
 mod through;
 mod window;

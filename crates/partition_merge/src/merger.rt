@@ -7,24 +7,25 @@ ghost use Rattle.fine_model.specs.declared.FetchFault.TheVariants as fetch_fault
 ghost use Rattle.fine_model.specs.Nodes.{rows_of};
 ghost use Rattle.fine_model.specs.Regions.{Image, body_len};
 ghost use Rattle.fine_model.specs.RowBytes.{rows_len, index_entry};
-ghost use Rattle.fine_model.specs.Merge.{is_node_below, is_ordered, merged};
+ghost use Rattle.fine_model.specs.Merge.{is_node_below, merged};
 ghost use Rattle.partition_index.specs.Parts.{IsSeen, SameEye, CountsFaults};
 ghost use Rattle.partition_index.specs.Index.{AllFrom};
 ghost use Rattle.partition_index.specs.Search.{Searches, TellsRows};
 ghost use Rattle.node_fetch.specs.Fetched.{HasBadRow, HasBadEntry, NoDamage};
-ghost use Rattle.partition_merge.specs.Merging.{FitRows, follows, last_node, node_at_head, merged_of};
+ghost use Rattle.partition_merge.specs.Merging.{FitRows, node_at_head, merged_of};
+ghost use Rattle.partition_merge.specs.Pieces.{is_above};
 ghost use Rattle.partition_merge.specs.Windows.{nothing_ahead};
 ghost use Rattle.partition_merge.specs.Mergers.{behind, node_kept, nodes_left, IsKept, AreKept, SourceAt, StandsAt, Answers, older_part, newer_part, both_left, unread, both_unread, next_len, most_for, BlamesRow, BlamesEntry, TakesRows, IsJoinOf, at_front, start_of, IsMeasureOf, measure_of, IsCounted};
 
 use crate::fold::folded;
-use crate::order::{follows, last_node};
+use crate::lower;
+use crate::order::is_above;
 use crate::pass::Pass;
+use crate::piece::Tally;
 use crate::window::Unread;
-use crate::{is_ordered, lower};
 use fine_model::{FetchFault, Items, NoMemory, NodeId, Part, Rows};
 use log_disk::LogEye;
 use node_fetch::{bad_index, read_span};
-use node_record::row_len;
 use partition_index::{IndexEntry, SeekFault, Span, entry_at};
 use std::alloc::Global;
 
@@ -181,23 +182,19 @@ pub struct Measure {
 
 impl Measure {
     /// Counts the merged rows of one node, which come behind rows that end with the node `last`. A number that is at its greatest stays there.
-    fn add(&mut self, last: &mut Option<NodeId>, rows: &Rows)
-        requires { FitRows rows.now }
-        ensures rows { self.new.rows ≡ min (self.old.rows + length rows.now) 4294967295 }
+    fn add(&mut self, last: &mut Option<NodeId>, tally: Tally)
+        ensures rows { self.new.rows ≡ min (self.old.rows + tally.rows) 4294967295 }
         ensures nodes { self.new.nodes ≡ min (self.old.nodes + 1) 4294967295 }
-        ensures area { self.new.area ≡ min (self.old.area + rows_len rows.now) 4294967295 }
-        ensures ordered { self.new.ordered ≡ (self.old.ordered && (follows last.old rows.now && is_ordered rows.now)) }
-        ensures last { last.new ≡ last_node rows.now }
+        ensures area { self.new.area ≡ min (self.old.area + tally.area) 4294967295 }
+        ensures ordered { self.new.ordered ≡ (self.old.ordered && (is_above last.old tally.node && tally.ordered)) }
+        ensures last { last.new ≡ Some tally.node }
     {
-        let above = follows(*last, rows.as_slice());
-        let ordered = is_ordered(rows.as_slice());
-        self.ordered = self.ordered && (above && ordered);
-        *last = last_node(rows.as_slice());
+        let above = is_above(*last, tally.node);
+        self.ordered = self.ordered && (above && tally.ordered);
+        *last = Some(tally.node);
         self.nodes = self.nodes.saturating_add(1);
-        for row in rows.as_slice() {
-            self.rows = self.rows.saturating_add(1);
-            self.area = self.area.saturating_add(row_len(row));
-        }
+        self.rows = self.rows.saturating_add(tally.rows);
+        self.area = self.area.saturating_add(tally.area);
     }
 }
 
@@ -325,8 +322,8 @@ impl Merger {
             ordered: true,
         };
         let mut last = None;
-        while let Some(rows) = pass.next_node(alloc, eye)? {
-            measure.add(&mut last, &rows);
+        while let Some(found) = pass.next_node(alloc, eye)? {
+            measure.add(&mut last, found.into_tally());
         }
         Ok(measure)
     }

@@ -1,26 +1,16 @@
 //! The order of nodes from one list of rows to the next.
 
 ghost use Rattle.std.specs.Prelude.{◌≡◌};
-ghost use Rattle.partition_merge.specs.Merging.{follows, last_node};
+ghost use Rattle.partition_merge.specs.Pieces.{is_above};
 
-use fine_model::{NodeId, Row};
+use fine_model::NodeId;
 
-/// The node of the last of rows, if there is one.
-pub fn last_node(rows: &[Row]) -> Option<NodeId>
-    ensures { result ≡ last_node rows.now }
+/// Whether a node is above the one before it, if there is one.
+pub(crate) fn is_above(last: Option<NodeId>, node: NodeId) -> bool
+    ensures { result ≡ is_above last node }
 {
-    match rows.last() {
-        Some(row) => Some(row.node),
-        None => None,
-    }
-}
-
-/// Whether the first of rows is of a higher node than the last row before them, as far as there are both.
-pub fn follows(last: Option<NodeId>, rows: &[Row]) -> bool
-    ensures { result ≡ follows last rows.now }
-{
-    match (last, rows.first()) {
-        (Some(node), Some(row)) => node.cmp(&row.node).is_lt(),
-        _ => true,
+    match last {
+        Some(last) => last.cmp(&node).is_lt(),
+        None => true,
     }
 }

@@ -1,20 +1,24 @@
 //! Going over two parts node by node, in blocks.
 
-ghost use Rattle.std.specs.Prelude.{◌≡◌, ℕ, ◌+◌, ◌<◌, ◌≤◌, IfOk, IfSome, IsErrOf, List, MatchResult, None, Ok, Option, Some, length};
+ghost use Rattle.std.specs.Prelude.{◌≡◌, ℕ, ◌+◌, ◌<◌, ◌≤◌, ◌++◌, IfOk, IfSome, IsErrOf, List, MatchResult, None, Ok, OnOk, Option, Some, length};
 ghost use Rattle.fine_model.specs.declared.FetchFault.TheVariants as fetch_fault;
 ghost use Rattle.fine_model.specs.declared.Row.{Row};
 ghost use Rattle.fine_model.specs.Regions.{Image};
-ghost use Rattle.partition_index.specs.Parts.{CountsFaults, IsSeen, SameEye};
+ghost use Rattle.fine_model.specs.RowBytes.{FitsRec};
+ghost use Rattle.partition_index.specs.Parts.{CountsFaults, IsSeen, LiesIn, SameEye};
 ghost use Rattle.node_fetch.specs.Fetched.{NoDamage};
-ghost use Rattle.partition_merge.specs.Merging.{FitRows};
-ghost use Rattle.partition_merge.specs.Mergers.{Answers, AreKept, BlamesEntry, BlamesRow, IsJoinOf, StandsAt, at_front, both_left, newer_part, older_part};
+ghost use Rattle.partition_merge.specs.Merging.{merged_of, one_or};
+ghost use Rattle.partition_merge.specs.Mergers.{AreKept, BlamesEntry, BlamesRow, StandsAt, at_front, both_left, newer_part, older_part};
+ghost use Rattle.partition_merge.specs.Pieces.{CanSpell, EndsAt, HandsOver, HasRows, HoldsIn, IsMergedFrom, merged_bytes};
 ghost use Rattle.partition_merge.specs.Streams.{AreInOrder, both_bytes_left};
 
+use crate::fold::folded_moved;
 use crate::lower;
-use crate::merger::joined;
+use crate::piece::{Found, Merged, Piece, Tally, both_len, may_fold};
 use crate::reader::Reader;
-use fine_model::{FetchFault, NoMemory, Part, Rows};
+use fine_model::{FetchFault, NoMemory, NodeId, Part, Row};
 use log_disk::LogEye;
+use node_record::write_row;
 use std::alloc::Global;
 use std::marker::Model;
 
@@ -52,15 +56,66 @@ impl Pass {
         })
     }
 
-    /// The merged rows of the next node, as `Merger::next_node` gives them, or None where no node is left of both parts. After a refusal
-    /// the pass is given up: it may stand behind the node in one part.
+    // The image that stands for the rows of a node in both windows, where one does.
+    fn image(
+        &self,
+        alloc: Global,
+        node: NodeId,
+        older: Option<Piece>,
+        newer: Option<Piece>,
+    ) -> Result<Option<Row>, NoMemory>
+        requires older_lies { LiesIn self.now.region_len (older_part self.now).header }
+        requires newer_lies { LiesIn self.now.region_len (newer_part self.now).header }
+        requires older { HasRows self.now.older node older }
+        requires newer { HasRows self.now.newer node newer }
+        ensures image { (a b : List Row) → HoldsIn self.now.older node older a → HoldsIn self.now.newer node newer b → IfOk result (λ image. merged_of node (a ++ b) ≡ one_or image (a ++ b)) }
+        ensures fit { IfOk result (λ image. IfSome image (λ row. FitsRec row.rec)) }
+    {
+        if !may_fold(older, newer) {
+            return Ok(None);
+        }
+        let len = both_len(older, newer);
+        let older = self.older.rows(alloc, node, older, self.region_len)?;
+        let newer = self.newer.rows(alloc, node, newer, self.region_len)?;
+        folded_moved(alloc, node, older, newer, len)
+    }
+
+    // What the rows of a node in both windows are merged into. They stay there but where an image stands for them.
+    fn merged(
+        &self,
+        alloc: Global,
+        node: NodeId,
+        older: Option<Piece>,
+        newer: Option<Piece>,
+    ) -> Result<Found, NoMemory>
+        requires older_lies { LiesIn self.now.region_len (older_part self.now).header }
+        requires newer_lies { LiesIn self.now.region_len (newer_part self.now).header }
+        requires older { HasRows self.now.older node older }
+        requires newer { HasRows self.now.newer node newer }
+        ensures { (a b : List Row) → HoldsIn self.now.older node older a → HoldsIn self.now.newer node newer b → 1 ≤ length (a ++ b) → IfOk result (IsMergedFrom self.now node (a ++ b)) }
+    {
+        let Some(image) = self.image(alloc, node, older, newer)? else {
+            return Ok(Found {
+                tally: Tally::of_both(node, older, newer),
+                merged: Merged::Both { older, newer },
+            });
+        };
+        Ok(Found {
+            tally: Tally::of_image(node, &image),
+            merged: Merged::Image(image),
+        })
+    }
+
+    /// The merged rows of the next node, as `Merger::next_node` gives them, or None where no node is left of both parts. They stay where they
+    /// were read, and are not decoded, but where an image stands for them, or might. After a refusal the pass is given up: it may stand
+    /// behind the node in one part.
     ///
     /// Where the eye tells its bytes, each byte of the two parts is taken once at most.
     pub(crate) fn next_node<E: LogEye>(
         &mut self,
         alloc: Global,
         eye: &mut E,
-    ) -> Result<Option<Rows>, FetchFault>
+    ) -> Result<Option<Found>, FetchFault>
         requires older { IsSeen (E.LogEye.state eye.old) (older_part self.old) }
         requires newer { IsSeen (E.LogEye.state eye.old) (newer_part self.old) }
         requires region_len { self.old.region_len ≡ (E.LogEye.state eye.old).region_len }
@@ -71,16 +126,14 @@ impl Pass {
         ensures newer { newer_part self.new ≡ newer_part self.old }
         ensures region_len { self.new.region_len ≡ self.old.region_len }
         ensures kept { AreKept (E.LogEye.state eye.old).told self.new }
-        ensures fit { IfOk result (λ found. IfSome found FitRows) }
-        ensures some { IfOk result (λ found. IfSome found (λ rows. 1 ≤ length rows)) }
-        ensures read { IfOk result (λ found. IfSome found (IsJoinOf (E.LogEye.state eye.old).told self.old self.new)) }
+        ensures found { IfOk result (λ found. IfSome found (HandsOver (E.LogEye.state eye.old) (E.LogEye.state eye.new) self.old self.new)) }
         ensures end { result ≡ Ok None → both_left self.old ≡ 0 }
         ensures ended { result ≡ Ok None → self.new ≡ self.old }
         ensures no_more { both_left self.new ≤ both_left self.old }
-        ensures fewer { IfOk result (λ found. IfSome found (λ rows. both_left self.new < both_left self.old)) }
+        ensures fewer { IfOk result (λ found. IfSome found (λ _. both_left self.new < both_left self.old)) }
         ensures bad_row { (region at : ℕ) → IsErrOf result (fetch_fault.BadRow region at) → BlamesRow (E.LogEye.state eye.old).told self.old (record { region = region; at = at }) }
         ensures bad_index { (region at : ℕ) → IsErrOf result (fetch_fault.BadIndex region at) → BlamesEntry (E.LogEye.state eye.old).told self.old (record { region = region; at = at }) }
-        ensures exact { (older newer : List Row) → StandsAt (E.LogEye.state eye.old) self.old older newer → MatchResult result (Answers (E.LogEye.state eye.new) self.new older newer) NoDamage }
+        ensures exact { (older newer : List Row) → StandsAt (E.LogEye.state eye.old) self.old older newer → MatchResult result (EndsAt (E.LogEye.state eye.new) self.new older newer) NoDamage }
         ensures order { (image : Image) → (E.LogEye.state eye.old).told ≡ Some image → AreInOrder image self.old → IfOk result (λ found. AreInOrder image self.new) }
         ensures ahead { (image : Image) → (E.LogEye.state eye.old).told ≡ Some image → AreInOrder image self.old
             → IfOk result (λ found. (E.LogEye.state eye.new).taken + both_bytes_left self.new ≤ (E.LogEye.state eye.old).taken + both_bytes_left self.old) }
@@ -92,11 +145,25 @@ impl Pass {
         let Some(node) = lower(older, newer) else {
             return Ok(None);
         };
-        let older = self.older.take(alloc, eye, node, self.region_len)?;
-        let newer = self.newer.take(alloc, eye, node, self.region_len)?;
-        let Ok(rows) = joined(alloc, node, older, newer) else {
+        let older = self.older.take(eye, node, self.region_len)?;
+        let newer = self.newer.take(eye, node, self.region_len)?;
+        let Ok(found) = self.merged(alloc, node, older, newer) else {
             return Err(FetchFault::NoMemory);
         };
-        Ok(Some(rows))
+        Ok(Some(found))
+    }
+
+    /// Appends the bytes of merged rows that were found last. After `NoMemory` what is there is not told.
+    pub(crate) fn spell(&self, out: &mut Vec<u8>, merged: &Merged) -> Result<(), NoMemory>
+        requires { CanSpell self.now merged.now }
+        ensures { OnOk result (out.new.items ≡ out.old.items ++ merged_bytes self.now merged.now) }
+    {
+        match merged {
+            Merged::Image(row) => write_row(out, row),
+            Merged::Both { older, newer } => {
+                self.older.spell(out, *older)?;
+                self.newer.spell(out, *newer)
+            }
+        }
     }
 }

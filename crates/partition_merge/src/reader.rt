@@ -1,24 +1,27 @@
 //! Reading a part from front to back, its entries and its rows in blocks.
 
-ghost use Rattle.std.specs.Prelude.{◌≡◌, ◌⊎◌, ℕ, ◌+◌, ◌-◌, ◌*◌, ◌<◌, ◌≤◌, false, IfOk, IfSome, IsErrOf, List, MatchResult, None, Ok, OnErr, Option, Some, length, option_map};
+ghost use Rattle.std.specs.Prelude.{◌≡◌, ℕ, ◌+◌, ◌-◌, ◌<◌, ◌≤◌, ◌++◌, false, IfErr, IfOk, IfSome, IsErrOf, List, MatchResult, None, Ok, OnOk, Option, Some, length, option_map};
 ghost use Rattle.fine_model.specs.declared.FetchFault.TheVariants as fetch_fault;
 ghost use Rattle.fine_model.specs.declared.Row.{Row};
 ghost use Rattle.fine_model.specs.Merge.{is_node_below};
-ghost use Rattle.fine_model.specs.Nodes.{rows_of};
 ghost use Rattle.fine_model.specs.Regions.{Image};
 ghost use Rattle.partition_index.specs.Index.{AllFrom};
-ghost use Rattle.partition_index.specs.Parts.{CountsFaults, IsSeen, SameEye};
+ghost use Rattle.partition_index.specs.Parts.{CountsFaults, IsSeen, LiesIn, SameEye};
 ghost use Rattle.node_fetch.specs.Fetched.{HasBadEntry, HasBadRow, NoDamage};
 ghost use Rattle.partition_merge.specs.Merging.{FitRows, node_at_head};
-ghost use Rattle.partition_merge.specs.Mergers.{behind, node_kept, nodes_left, IsKept, SourceAt, TakesRows, start_at};
+ghost use Rattle.partition_merge.specs.Mergers.{behind, node_kept, nodes_left, IsKept, SourceAt, start_at};
+ghost use Rattle.partition_merge.specs.Pieces.{HasRows, HoldsIn, IsTaken, LiesWithin, StandsIn, bytes_at, piece_bytes};
 ghost use Rattle.partition_merge.specs.Streams.{IsInOrder, bytes_left};
 
 use crate::merger::Source;
-use crate::through::{read_head, read_rows};
+use crate::piece::Piece;
+use crate::through::{find_rows, read_head};
 use crate::window::Window;
 use fine_model::format::INDEX_ENTRY;
 use fine_model::{FetchFault, Items, NoMemory, NodeId, Part, Rows};
 use log_disk::LogEye;
+use node_fetch::rows_of_span;
+use partition_index::Span;
 use std::alloc::Global;
 use std::marker::Model;
 
@@ -100,14 +103,14 @@ impl Reader {
         Ok(Some(entry.node))
     }
 
-    /// The rows of a node, if it is the next one, which is left behind then, also where they are refused.
+    /// The rows of a node, if it is the next one, which is left behind then, also where they are refused. They stay in the window until more is
+    /// taken; none are told where the node is not the next one.
     pub(crate) fn take<E: LogEye>(
         &mut self,
-        alloc: Global,
         eye: &mut E,
         node: NodeId,
         region_len: u64,
-    ) -> Result<Rows, FetchFault>
+    ) -> Result<Option<Piece>, FetchFault>
         requires seen { IsSeen (E.LogEye.state eye.old) self.old.part }
         requires region_len { region_len ≡ (E.LogEye.state eye.old).region_len }
         requires kept { IsKept (E.LogEye.state eye.old).told self.old }
@@ -117,32 +120,28 @@ impl Reader {
         ensures counts { CountsFaults (IsErrOf result fetch_fault.Failed) (E.LogEye.state eye.old) (E.LogEye.state eye.new) }
         ensures part { self.new.part ≡ self.old.part }
         ensures kept { IsKept (E.LogEye.state eye.old).told self.new }
-        ensures fit { IfOk result FitRows }
-        ensures read { IfOk result (TakesRows (E.LogEye.state eye.old).told node self.old self.new) }
-        ensures some { IfOk result (λ rows. node_kept self.old.head ≡ Some node → 1 ≤ length rows) }
+        ensures taken_is { IfOk result (IsTaken (E.LogEye.state eye.old) node self.old self.new) }
         ensures no_more { nodes_left self.new ≤ nodes_left self.old }
         ensures fewer { node_kept self.old.head ≡ Some node → nodes_left self.new < nodes_left self.old }
         ensures bad_row { (region at : ℕ) → IsErrOf result (fetch_fault.BadRow region at) → HasBadRow (E.LogEye.state eye.old).told region_len self.old.part node (record { region = region; at = at }) }
         ensures good_index { (region at : ℕ) → IsErrOf result (fetch_fault.BadIndex region at) → ⊥ }
-        ensures exact { (left : List Row) → SourceAt (E.LogEye.state eye.old) self.old left → AllFrom node left → node_kept self.old.head ≡ node_at_head left
-            → MatchResult result (λ own. own ≡ rows_of node left) NoDamage }
+        ensures exact { (left : List Row) → SourceAt (E.LogEye.state eye.old) self.old left → AllFrom node left → node_kept self.old.head ≡ node_at_head left → IfErr result NoDamage }
         ensures left { (left : List Row) → SourceAt (E.LogEye.state eye.old) self.old left → AllFrom node left → node_kept self.old.head ≡ node_at_head left
             → SourceAt (E.LogEye.state eye.new) self.new (behind node left) }
-        ensures order { (image : Image) → (E.LogEye.state eye.old).told ≡ Some image → IsInOrder image self.old → IfOk result (λ rows. IsInOrder image self.new) }
+        ensures order { (image : Image) → (E.LogEye.state eye.old).told ≡ Some image → IsInOrder image self.old → IfOk result (λ piece. IsInOrder image self.new) }
         ensures ahead { (image : Image) → (E.LogEye.state eye.old).told ≡ Some image → IsInOrder image self.old
-            → IfOk result (λ rows. (E.LogEye.state eye.new).taken + bytes_left self.new ≤ (E.LogEye.state eye.old).taken + bytes_left self.old) }
+            → IfOk result (λ piece. (E.LogEye.state eye.new).taken + bytes_left self.new ≤ (E.LogEye.state eye.old).taken + bytes_left self.old) }
         ensures taken { (image : Image) → (E.LogEye.state eye.old).told ≡ Some image → IsInOrder image self.old → (E.LogEye.state eye.new).taken ≤ (E.LogEye.state eye.old).taken + bytes_left self.old }
     {
         let Some((entry, span)) = self.source.head else {
-            return Ok(Items::new(alloc));
+            return Ok(None);
         };
         if entry.node != node {
-            return Ok(Items::new(alloc));
+            return Ok(None);
         }
         self.source.head = None;
         self.source.next += 1;
-        read_rows(
-            alloc,
+        find_rows(
             &mut self.rows,
             eye,
             &self.source.part,
@@ -150,5 +149,57 @@ impl Reader {
             span,
             region_len,
         )
+    }
+
+    /// The bytes of rows that stand in the window.
+    pub(crate) fn bytes(&self, span: Span) -> &[u8]
+        requires { LiesWithin self.now.ahead.rows span }
+        ensures long { length result.now ≡ span.end - span.at }
+        ensures bytes { result.now ≡ bytes_at self.now.ahead.rows span }
+    {
+        self.rows.range(span.at, span.end - span.at)
+    }
+
+    /// The rows that stand in the window, decoded.
+    pub(crate) fn rows(
+        &self,
+        alloc: Global,
+        node: NodeId,
+        piece: Option<Piece>,
+        region_len: u64,
+    ) -> Result<Rows, NoMemory>
+        requires lies { LiesIn region_len self.now.part.header }
+        requires there { HasRows self.now node piece }
+        ensures rows { (own : List Row) → HoldsIn self.now node piece own → IfOk result (λ rows. rows ≡ own) }
+        ensures fit { IfOk result FitRows }
+    {
+        let Some(piece) = piece else {
+            return Ok(Items::new(alloc));
+        };
+        let bytes = self.bytes(piece.span);
+        match rows_of_span(
+            alloc,
+            &self.source.part,
+            node,
+            piece.span,
+            region_len,
+            bytes,
+        ) {
+            Ok(rows) => Ok(rows),
+            // These bytes spell rows, so nothing but memory was wanting.
+            Err(_) => Err(NoMemory),
+        }
+    }
+
+    /// Appends the bytes of rows that stand in the window.
+    pub(crate) fn spell(&self, out: &mut Vec<u8>, piece: Option<Piece>) -> Result<(), NoMemory>
+        requires { StandsIn self.now.ahead.rows piece }
+        ensures { OnOk result (out.new.items ≡ out.old.items ++ piece_bytes self.now.ahead.rows piece) }
+    {
+        let Some(piece) = piece else {
+            return Ok(());
+        };
+        out.extend_from_slice(self.bytes(piece.span))?;
+        Ok(())
     }
 }

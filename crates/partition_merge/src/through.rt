@@ -1,25 +1,23 @@
 //! Entries and rows of a part that are read through windows on its body.
 
-ghost use Rattle.std.specs.Prelude.{◌≡◌, ℕ, ◌+◌, ◌-◌, ◌*◌, ◌<◌, ◌≤◌, IfOk, IsErrOf, List, MatchResult, OnOk};
-ghost use Rattle.std.specs.List.{AllByRecursion};
+ghost use Rattle.std.specs.Prelude.{◌≡◌, ℕ, ◌+◌, ◌-◌, ◌*◌, ◌<◌, ◌≤◌, IfErr, IfOk, IsErrOf, List, OnOk};
 ghost use Rattle.fine_model.specs.declared.FetchFault.TheVariants as fetch_fault;
 ghost use Rattle.fine_model.specs.declared.Row.{Row};
-ghost use Rattle.fine_model.specs.Nodes.{rows_of};
 ghost use Rattle.fine_model.specs.Regions.{body_len};
-ghost use Rattle.fine_model.specs.RowBytes.{FitsRow, index_entry};
 ghost use Rattle.fine_model.specs.Seek.{entry_place};
 ghost use Rattle.partition_index.specs.Parts.{CountsFaults, IsSeen, SameEye};
 ghost use Rattle.partition_index.specs.Search.{IsEndOf, IsEntryAt, IsSpanAt, TellsRows, span_for};
-ghost use Rattle.node_fetch.specs.Fetched.{HasBadEntry, HoldsRows, IsBadRowOf, NoDamage};
+ghost use Rattle.node_fetch.specs.Fetched.{HasBadEntry, IsBadRowOf, NoDamage};
+ghost use Rattle.partition_merge.specs.Pieces.{FindsRows};
 ghost use Rattle.partition_merge.specs.Windows.{HoldsWindow, index_left, rows_left};
 
+use crate::piece::{Piece, is_put};
 use crate::window::Window;
 use fine_model::format::INDEX_ENTRY;
-use fine_model::{FetchFault, NodeId, Part, Rows};
+use fine_model::{FetchFault, NodeId, Part};
 use log_disk::LogEye;
-use node_fetch::{bad_index, rows_of_span};
+use node_fetch::{bad_index, frames_of_span};
 use partition_index::{IndexEntry, SeekFault, Span, entry_in, entry_place, span_in};
-use std::alloc::Global;
 
 // An entry of a part's index, by its number.
 fn read_entry<E: LogEye>(
@@ -123,18 +121,18 @@ pub(crate) fn read_head<E: LogEye>(
     }
 }
 
-/// The rows of a node, from the span that its index entry gives, through a window on the rows.
+/// The rows of a node, from the span that its index entry gives, through a window on the rows, in which they stay.
 ///
-/// They are as `read_span` of `node_fetch` reads them. Where spans are asked for in their order, each byte is read once.
-pub(crate) fn read_rows<E: LogEye>(
-    alloc: Global,
+/// They are as `read_span` of `node_fetch` reads them, and so are the faults but for want of memory. Where spans are asked for in their
+/// order, each byte is read once.
+pub(crate) fn find_rows<E: LogEye>(
     rows: &mut Window,
     eye: &mut E,
     part: &Part,
     node: NodeId,
     span: Span,
     region_len: u64,
-) -> Result<Rows, FetchFault>
+) -> Result<Option<Piece>, FetchFault>
     requires seen { IsSeen (E.LogEye.state eye.old) part.now }
     requires region_len { region_len ≡ (E.LogEye.state eye.old).region_len }
     requires some { 1 ≤ part.now.header.nodes }
@@ -144,13 +142,12 @@ pub(crate) fn read_rows<E: LogEye>(
     ensures same { SameEye (E.LogEye.state eye.old) (E.LogEye.state eye.new) }
     ensures counts { CountsFaults (IsErrOf result fetch_fault.Failed) (E.LogEye.state eye.old) (E.LogEye.state eye.new) }
     ensures window { HoldsWindow (E.LogEye.state eye.old).told part.now part.now.header.area rows.new }
-    ensures fit { IfOk result (AllByRecursion (FitsRow part.now.header.mark)) }
-    ensures holds { IfOk result (HoldsRows (E.LogEye.state eye.old).told part.now node span) }
+    ensures found { IfOk result (FindsRows (E.LogEye.state eye.old).told part.now node span rows.new) }
     ensures bad_row { (region at : ℕ) → IsErrOf result (fetch_fault.BadRow region at)
         → IsBadRowOf (E.LogEye.state eye.old).told region_len part.now node span (record { region = region; at = at }) }
     ensures good_index { (region at : ℕ) → IsErrOf result (fetch_fault.BadIndex region at) → ⊥ }
     ensures exact { (own : List Row) → TellsRows (E.LogEye.state eye.old) part.now own → span ≡ span_for own node
-        → MatchResult result (λ found. found ≡ rows_of node own) NoDamage }
+        → IfErr result NoDamage }
     ensures order { rows.old.from ≤ span.at → OnOk result (rows.new.from ≤ span.at) }
     ensures ahead { rows.old.from ≤ span.at
         → OnOk result ((E.LogEye.state eye.new).taken + rows_left part.now rows.new ≤ (E.LogEye.state eye.old).taken + rows_left part.now rows.old) }
@@ -159,5 +156,13 @@ pub(crate) fn read_rows<E: LogEye>(
     let len = span.end - span.at;
     rows.reach(eye, part, region_len, span.at, len, part.header.area)?;
     let bytes = rows.range(span.at, len);
-    rows_of_span(alloc, part, node, span, region_len, bytes)
+    match frames_of_span(part, node, span, region_len, bytes)? {
+        Some(frames) => Ok(Some(Piece {
+            span,
+            len,
+            frames,
+            is_put: is_put(bytes),
+        })),
+        None => Ok(None),
+    }
 }

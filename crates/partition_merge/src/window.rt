@@ -198,8 +198,8 @@ impl Window {
     /// The bytes of a range that stands in the window.
     pub(crate) fn range(&self, at: u32, len: u32) -> &[u8]
         requires reached { (self.now.from ≤ at) × (at + len ≤ window_end self.now) }
-        requires small { window_end self.now < 4294967296 }
         ensures long { length result.now ≡ len }
+        ensures bytes { result.now ≡ take len (drop (at - self.now.from) self.now.bytes) }
         ensures range { (known : Option Image) (part : Part) → IsRangeAt known part self.now.from self.now.bytes → IsRangeAt known part at result.now }
     {
         let from = (at - self.from) as usize;

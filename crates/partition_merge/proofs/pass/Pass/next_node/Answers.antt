@@ -1,10 +1,12 @@
-use Rattle.std.proofs.Common.{◌≡◌, ◌∙◌, Err, sym, ap, subst, arith, rules, refl}
+use Rattle.std.proofs.Common.{◌≡◌, ◌∙◌, ◌++◌, Err, sym, ap, subst, arith, rules, refl}
+use Rattle.fine_model.specs.declared.Part.{Part}
 use Rattle.partition_index.specs.Parts.{IsSeen}
 use Rattle.partition_index.proofs.Looking.{seen_same, same_then}
 use Rattle.partition_merge.specs.declared.merger.Merger.{Merger}
-use Rattle.partition_merge.specs.Mergers.{StandsAt, newer_part, older_part}
+use Rattle.partition_merge.specs.Merging.{merged_of}
+use Rattle.partition_merge.specs.Mergers.{StandsAt, both_left, newer_part, nodes_left, older_part}
 use Rattle.partition_merge.specs.Streams.{AreInOrder, both_bytes_left}
-use Rattle.partition_merge.proofs.Sources.{err_clause, source_peeked, peeked_both, none_peeked, takes_as, handed_out, first_lowest, second_lowest, some_joined}
+use Rattle.partition_merge.proofs.Sources.{err_clause, fewer_both, source_peeked, peeked_both, none_peeked, takes_as, handed_out, first_lowest, second_lowest, some_both}
 use Rattle.partition_merge.proofs.pass.Pass.next_node.Goals as goal
 
 pub returns-in_err-older-clause-exact : goal.returns-in_err-older-clause-exact
@@ -78,35 +80,54 @@ returns-in_default-clause-exact g c older newer at =
       },
     )
 
-pub returns-clause-exact : goal.returns-clause-exact
-returns-clause-exact g c older newer at =
-    let here : StandsAt (g.E.LogEye.state c.args.eye.now) (record { older = c.self.inside.older; newer = c.self.inside.newer; region_len = c.self.inside.region_len }) older newer = subst (λ (m : Merger). StandsAt (g.E.LogEye.state c.args.eye.now) m older newer) (sym c.self.view_is) at in
-    let later = source_peeked (g.E.LogEye.state c.args.eye.now) (g.E.LogEye.state c.peek.new.eye) c.self.inside.newer c.self.inside.newer newer c.peek.ensures.same refl refl here.of_newer in
-    let p = peeked_both (g.E.LogEye.state c.args.eye.now) (g.E.LogEye.state c.peek.new.eye) (g.E.LogEye.state c.peek-2.new.eye) (record { older = c.self.inside.older; newer = c.self.inside.newer; region_len = c.self.inside.region_len }) c.peek.new.self c.peek-2.new.self older newer c.in-Some.node c.in_ok-older.older c.in_ok-newer.newer here
-    c.peek.ensures.same c.peek-2.ensures.same c.peek.ensures.part c.peek.ensures.next c.peek-2.ensures.part c.peek-2.ensures.next c.in_ok-older.ensures.head c.in_ok-newer.ensures.head
-    (c.in_ok-older.ensures.exact older here.of_older) (c.in_ok-newer.ensures.exact newer later) (sym c.lower.ensures ∙ c.in-Some.is) in
-    let new_at = source_peeked (g.E.LogEye.state c.peek-2.new.eye) (g.E.LogEye.state c.take.new.eye) c.peek-2.new.self c.peek-2.new.self newer c.take.ensures.same refl refl p.of_newer in
-    let old_behind = source_peeked (g.E.LogEye.state c.take.new.eye) (g.E.LogEye.state c.take-2.new.eye) c.take.new.self c.take.new.self _ c.take-2.ensures.same refl refl (c.take.ensures.left older p.of_older p.old_from p.old_kept) in
-    handed_out (g.E.LogEye.state c.take-2.new.eye) _ older newer c.in-Ok.rows c.in_ok-older-2.older c.in_ok-newer-2.newer c.in-Some.node here.of_older.is_left.ordered here.of_newer.is_left.ordered p.first
-    (c.in_ok-older-2.ensures.exact older p.of_older p.old_from p.old_kept) (c.in_ok-newer-2.ensures.exact newer new_at p.new_from p.new_kept) c.in-Ok.ensures.merged
-    old_behind (c.take-2.ensures.left newer new_at p.new_from p.new_kept)
+pub merged-requires-clause-older : goal.merged-requires-clause-older
+merged-requires-clause-older g c = let t = c.in_ok-older-2.ensures.taken_is in record { rows = t.rows; holds = t.holds }
 
-pub returns-clause-some : goal.returns-clause-some
-returns-clause-some g c =
-    some_joined c.in-Some.node c.in_ok-older.older c.in_ok-newer.newer c.peek.new.self.head c.peek-2.new.self.head c.in_ok-older-2.older c.in_ok-newer-2.newer c.in-Ok.rows (sym c.lower.ensures ∙ c.in-Some.is)
-    c.in_ok-older.ensures.head c.in_ok-newer.ensures.head c.in_ok-older-2.ensures.some c.in_ok-newer-2.ensures.some c.in-Ok.ensures.merged
+pub merged-requires-clause-newer : goal.merged-requires-clause-newer
+merged-requires-clause-newer g c = let t = c.in_ok-newer-2.ensures.taken_is in record { rows = t.rows; holds = t.holds }
 
-pub returns-clause-read : goal.returns-clause-read
-returns-clause-read g c = record {
-  node = c.in-Some.node;
-  older = c.in_ok-older-2.older;
-  newer = c.in_ok-newer-2.newer;
-  of_older = takes_as _ _ c.args.self.now.older c.peek.new.self c.take.new.self c.in-Some.node c.in_ok-older-2.older (c.peek-2.ensures.same.told ∙ c.peek.ensures.same.told) (c.peek.ensures.part ∙ ap (λ (m : Merger). m.older.part) c.self.view_is) (c.peek.ensures.next ∙ ap (λ (m : Merger). m.older.next) c.self.view_is) c.in_ok-older-2.ensures.read;
-  of_newer = takes_as _ _ c.args.self.now.newer c.peek-2.new.self c.take-2.new.self c.in-Some.node c.in_ok-newer-2.newer (c.take.ensures.same.told ∙ c.peek-2.ensures.same.told ∙ c.peek.ensures.same.told) (c.peek-2.ensures.part ∙ ap (λ (m : Merger). m.newer.part) c.self.view_is) (c.peek-2.ensures.next ∙ ap (λ (m : Merger). m.newer.next) c.self.view_is) c.in_ok-newer-2.ensures.read;
-  joined = c.in-Ok.ensures.merged;
-  some = some_joined c.in-Some.node c.in_ok-older.older c.in_ok-newer.newer c.peek.new.self.head c.peek-2.new.self.head c.in_ok-older-2.older c.in_ok-newer-2.newer c.in-Ok.rows (sym c.lower.ensures ∙ c.in-Some.is)
-      c.in_ok-older.ensures.head c.in_ok-newer.ensures.head c.in_ok-older-2.ensures.some c.in_ok-newer-2.ensures.some c.in-Ok.ensures.merged;
-}
+pub returns-clause-found : goal.returns-clause-found
+returns-clause-found g c =
+    let t = c.in_ok-older-2.ensures.taken_is in
+    let u = c.in_ok-newer-2.ensures.taken_is in
+    let first = sym c.lower.ensures ∙ c.in-Some.is in
+    let both = some_both c.in-Some.node c.in_ok-older.older c.in_ok-newer.newer c.peek.new.self.head c.peek-2.new.self.head t.rows u.rows first c.in_ok-older.ensures.head c.in_ok-newer.ensures.head t.some u.some in
+    let m = c.in-Ok.ensures t.rows u.rows t.holds u.holds both in
+    record {
+      rows = merged_of c.in-Some.node (t.rows ++ u.rows);
+      tally = m.tally;
+      can_spell = m.can_spell;
+      spelled = m.spelled;
+      read = record {
+        node = c.in-Some.node;
+        older = t.rows;
+        newer = u.rows;
+        of_older = takes_as _ _ c.args.self.now.older c.peek.new.self c.take.new.self c.in-Some.node t.rows (c.peek-2.ensures.same.told ∙ c.peek.ensures.same.told) (c.peek.ensures.part ∙ ap (λ (m : Merger). m.older.part) c.self.view_is) (c.peek.ensures.next ∙ ap (λ (m : Merger). m.older.next) c.self.view_is) t.read;
+        of_newer = takes_as _ _ c.args.self.now.newer c.peek-2.new.self c.take-2.new.self c.in-Some.node u.rows (c.take.ensures.same.told ∙ c.peek-2.ensures.same.told ∙ c.peek.ensures.same.told) (c.peek-2.ensures.part ∙ ap (λ (m : Merger). m.newer.part) c.self.view_is) (c.peek-2.ensures.next ∙ ap (λ (m : Merger). m.newer.next) c.self.view_is) u.read;
+        joined = refl;
+        some = m.tally.some;
+      };
+      exact = λ older newer at.
+          let here : StandsAt (g.E.LogEye.state c.args.eye.now) (record { older = c.self.inside.older; newer = c.self.inside.newer; region_len = c.self.inside.region_len }) older newer = subst (λ (m : Merger). StandsAt (g.E.LogEye.state c.args.eye.now) m older newer) (sym c.self.view_is) at in
+          let later = source_peeked (g.E.LogEye.state c.args.eye.now) (g.E.LogEye.state c.peek.new.eye) c.self.inside.newer c.self.inside.newer newer c.peek.ensures.same refl refl here.of_newer in
+          let p = peeked_both (g.E.LogEye.state c.args.eye.now) (g.E.LogEye.state c.peek.new.eye) (g.E.LogEye.state c.peek-2.new.eye) (record { older = c.self.inside.older; newer = c.self.inside.newer; region_len = c.self.inside.region_len }) c.peek.new.self c.peek-2.new.self older newer c.in-Some.node c.in_ok-older.older c.in_ok-newer.newer here
+          c.peek.ensures.same c.peek-2.ensures.same c.peek.ensures.part c.peek.ensures.next c.peek-2.ensures.part c.peek-2.ensures.next c.in_ok-older.ensures.head c.in_ok-newer.ensures.head
+          (c.in_ok-older.ensures.exact older here.of_older) (c.in_ok-newer.ensures.exact newer later) first in
+          let new_at = source_peeked (g.E.LogEye.state c.peek-2.new.eye) (g.E.LogEye.state c.take.new.eye) c.peek-2.new.self c.peek-2.new.self newer c.take.ensures.same refl refl p.of_newer in
+          let old_behind = source_peeked (g.E.LogEye.state c.take.new.eye) (g.E.LogEye.state c.take-2.new.eye) c.take.new.self c.take.new.self _ c.take-2.ensures.same refl refl (c.take.ensures.left older p.of_older p.old_from p.old_kept) in
+          handed_out (g.E.LogEye.state c.take-2.new.eye) _ older newer (merged_of c.in-Some.node (t.rows ++ u.rows)) t.rows u.rows c.in-Some.node here.of_older.is_left.ordered here.of_newer.is_left.ordered p.first
+          (t.exact older p.of_older p.old_from p.old_kept) (u.exact newer new_at p.new_from p.new_kept) refl
+          old_behind (c.take-2.ensures.left newer new_at p.new_from p.new_kept);
+    }
+
+pub returns-clause-fewer : goal.returns-clause-fewer
+returns-clause-fewer g c =
+    let was = ap both_left c.self.view_is in
+    let old_part = ap (λ (p : Part). p.header.nodes) c.peek.ensures.part in
+    let new_part = ap (λ (p : Part). p.header.nodes) c.peek-2.ensures.part in
+    let less = fewer_both c.in-Some.node c.in_ok-older.older c.in_ok-newer.newer c.peek.new.self.head c.peek-2.new.self.head (nodes_left c.peek.new.self) (nodes_left c.peek-2.new.self) (nodes_left c.take.new.self) (nodes_left c.take-2.new.self)
+    (sym c.lower.ensures ∙ c.in-Some.is) c.in_ok-older.ensures.head c.in_ok-newer.ensures.head c.take.ensures.fewer c.take-2.ensures.fewer c.take.ensures.no_more c.take-2.ensures.no_more in
+    omega (arith, less, was, old_part, new_part, c.peek.ensures.next, c.peek-2.ensures.next)
 
 pub returns-in_default-clause-order : goal.returns-in_default-clause-order
 returns-in_default-clause-order g c image told before =
@@ -132,8 +153,8 @@ returns-clause-ahead g c image told before =
     let newer_taken = c.in_ok-newer-2.ensures.ahead image (c.take.ensures.same.told ∙ seen) (c.in_ok-newer.ensures.order image order.newer) in
     omega (arith, bytes, older_peeked, newer_peeked, older_taken, newer_taken)
 
-pub returns-in_default-joined-clause-taken : goal.returns-in_default-joined-clause-taken
-returns-in_default-joined-clause-taken g c image told before =
+pub returns-in_default-merged-clause-taken : goal.returns-in_default-merged-clause-taken
+returns-in_default-merged-clause-taken g c image told before =
     let order = subst (AreInOrder image) (sym c.self.view_is) before in
     let bytes = ap both_bytes_left c.self.view_is in
     let seen = c.peek-2.ensures.same.told ∙ c.peek.ensures.same.told ∙ told in

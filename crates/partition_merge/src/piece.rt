@@ -1,0 +1,165 @@
+//! Rows of one node that stay where they were read, in the windows of two parts, and what is told of them.
+
+ghost use Rattle.std.specs.Prelude.{◌≡◌, ◌≤◌, true};
+ghost use Rattle.fine_model.specs.RowBytes.{FitsRec, row_len};
+ghost use Rattle.partition_merge.specs.Pieces.{begins_with_put, both_ascend, both_len, may_fold, may_fold_from, piece_len, piece_rows, tally_of};
+
+use fine_model::{NodeId, Row};
+use node_fetch::Frames;
+use node_record::row_len;
+use partition_index::Span;
+
+/// Rows of one node in the window on the rows of a part: where they stand, how many bytes they have, what their frames tell, and whether
+/// the first of them puts a pair.
+#[derive(Clone, Copy)]
+pub(crate) struct Piece {
+    pub(crate) span: Span,
+    pub(crate) len: u32,
+    pub(crate) frames: Frames,
+    pub(crate) is_put: bool,
+}
+
+/// A node, the number of its rows and of their bytes, and whether the rows are in order. A number that is above the greatest of 32 bits is told
+/// as this one.
+#[derive(Clone, Copy)]
+pub(crate) struct Tally {
+    pub(crate) node: NodeId,
+    pub(crate) rows: u32,
+    pub(crate) area: u32,
+    pub(crate) ordered: bool,
+}
+
+/// What the rows of a node in two parts are merged into: an image, or the older rows and then the newer ones, which stand in the windows.
+#[derive(Drop)]
+pub(crate) enum Merged {
+    Image(Row),
+    Both {
+        older: Option<Piece>,
+        newer: Option<Piece>,
+    },
+}
+
+/// The merged rows of a node, and what is told of them.
+#[derive(Drop)]
+pub(crate) struct Found {
+    pub(crate) tally: Tally,
+    pub(crate) merged: Merged,
+}
+
+/// The kind of a row that puts a pair, which is the first byte of the row.
+const PUT: u8 = 4;
+
+/// Whether bytes begin with the kind of a row that puts a pair.
+pub(crate) fn is_put(bytes: &[u8]) -> bool
+    ensures { result ≡ begins_with_put bytes.now }
+{
+    match bytes.first() {
+        Some(kind) => *kind == PUT,
+        None => false,
+    }
+}
+
+/// The number of rows of a piece, if there is one.
+fn rows_in(piece: Option<Piece>) -> u32
+    ensures { result ≡ piece_rows piece }
+{
+    match piece {
+        Some(piece) => piece.span.rows,
+        None => 0,
+    }
+}
+
+/// The number of bytes of a piece, if there is one.
+fn len_of(piece: Option<Piece>) -> u32
+    ensures { result ≡ piece_len piece }
+{
+    match piece {
+        Some(piece) => piece.len,
+        None => 0,
+    }
+}
+
+/// The number of bytes of an older piece and of a newer one, or the greatest of 32 bits where it is above that.
+pub(crate) fn both_len(older: Option<Piece>, newer: Option<Piece>) -> u32
+    ensures { result ≡ both_len older newer }
+{
+    len_of(older).saturating_add(len_of(newer))
+}
+
+/// Whether the rows of an older piece and those of a newer one behind them are in order.
+fn both_ascend(older: Option<Piece>, newer: Option<Piece>) -> bool
+    ensures { result ≡ both_ascend older newer }
+{
+    match (older, newer) {
+        (Some(older), Some(newer)) => {
+            let apart = older.frames.last < newer.frames.first.version;
+            older.frames.ascend && newer.frames.ascend && apart
+        }
+        (Some(piece), None) | (None, Some(piece)) => piece.frames.ascend,
+        (None, None) => true,
+    }
+}
+
+/// Whether an image may stand for so many rows that begin with a piece. They begin with an image or with version 1, and are no single row
+/// for which no other one stands: an image stands for itself, and that of one pair is longer than the row that puts it.
+fn may_fold_from(count: u32, piece: Piece) -> bool
+    ensures { result ≡ may_fold_from count piece }
+{
+    let first = piece.frames.first;
+    let afresh = first.is_image || first.version == 1;
+    let stays = first.is_image || piece.is_put;
+    afresh && !(count == 1 && stays)
+}
+
+/// Whether an image may stand for the rows of an older piece and of a newer one. Where it may not, the rows stay as they are.
+pub(crate) fn may_fold(older: Option<Piece>, newer: Option<Piece>) -> bool
+    ensures { result ≡ may_fold older newer }
+{
+    match (older, newer) {
+        (Some(first), more) => {
+            may_fold_from(first.span.rows.saturating_add(rows_in(more)), first)
+        }
+        (None, Some(first)) => may_fold_from(first.span.rows, first),
+        (None, None) => false,
+    }
+}
+
+impl Tally {
+    /// That of the rows of an older piece and of a newer one behind them.
+    pub(crate) fn of_both(node: NodeId, older: Option<Piece>, newer: Option<Piece>) -> Tally
+        ensures { result ≡ tally_of node older newer }
+    {
+        Tally {
+            node,
+            rows: rows_in(older).saturating_add(rows_in(newer)),
+            area: both_len(older, newer),
+            ordered: both_ascend(older, newer),
+        }
+    }
+
+    /// That of an image.
+    pub(crate) fn of_image(node: NodeId, image: &Row) -> Tally
+        requires { FitsRec image.now.rec }
+        ensures node { result.node ≡ node }
+        ensures rows { result.rows ≡ 1 }
+        ensures area { result.area ≡ row_len image.now }
+        ensures most { result.area ≤ 10356 }
+        ensures ordered { result.ordered ≡ true }
+    {
+        Tally {
+            node,
+            rows: 1,
+            area: row_len(image),
+            ordered: true,
+        }
+    }
+}
+
+impl Found {
+    /// What is told of the rows, which are let go.
+    pub(crate) fn into_tally(self) -> Tally
+        ensures { result ≡ self.tally }
+    {
+        self.tally
+    }
+}

@@ -46,6 +46,7 @@ pub mod SealingJobs
 pub mod Seating
 pub mod Spare
 pub mod Standing
+pub mod Clear
 pub mod Stuck
 pub mod Taken
 pub mod Torn

@@ -338,6 +338,40 @@ module _ (old mid : RoomValue) (view : ViewValue) (whole : IsWhole old) (all : l
   pub view_no_job : old.room.job ≡ None → mid.room.job ≡ None
   view_no_job none = ap (λ (r : RoomState). r.job) views.posts.1.room ∙ none
 
+-- ---- what a whole room tells of its live parts
+
+contains_at : (parts : List Part) (at : ℕ) (p : Part) → slice_get parts at ≡ Some p → Contains parts p
+contains_at parts at p is = (at, slice_get_within parts at p is, get_or_from_slice_get parts at p p is)
+
+module _ (new : RoomValue) (whole : IsWhole new) (open_room : new.room.is_shut ≡ false) where
+  live_header : (image : Image) → new.room.image ≡ Some image → (p : Part) → Contains new.room.parts p → HasHeader new.room.region_len image p.region p.header
+  live_header image told p there =
+      let holds = (held_now new whole (whole.lost open_room) image told).1 in
+      let header : HasHeader new.disk.region_len image p.region p.header =
+      All-contains (λ (q : Part). HasHeader new.disk.region_len image q.region q.header) (new.room.parts ++ new.room.retired) p (All-from_recursion _ (new.room.parts ++ new.room.retired) holds.headers)
+      (Contains-append_left new.room.parts new.room.retired p there) in
+      subst (λ n. HasHeader n image p.region p.header) (sym (ap (λ (r : RoomState). r.region_len) whole.of_disk)) header
+
+  -- the rows of a live part are told with its header
+  tells_live : (image : Image) → new.room.image ≡ Some image → (p : Part) (rows : List Row) → Contains new.room.parts p → AreRowsOf new.room.region_len image (p ∷ []) rows
+      → TellsRowsOf new.room.image new.room.region_len (p ∷ []) rows
+  tells_live image told p rows there are = record { image = image; is_told = told; headers = (live_header image told p there, tt); are_rows = are }
+
+-- No neighbours fit, where all were tried in vain through a view that tells of each live part what a read of the disk does.
+pub none_fits : (new mid : RoomValue) (view : ViewValue) → IsWhole new → new.room.is_shut ≡ false → new.room.parts ≡ mid.room.parts → new.room.free ≡ mid.room.free → new.room.region_len ≡ mid.room.region_len
+    → ((p : Part) (rows : List Row) → Contains new.room.parts p → TellsRowsOf new.room.image new.room.region_len (p ∷ []) rows → EyeTells view p rows)
+    → OfNeighbours (InVain mid view) mid.room.parts → NoneFitNow new
+none_fits new mid view whole open_room same free len shown vain image told older newer near fits =
+    let none : OfNeighbours (Unfit mid view) mid.room.parts = of_each (InVain mid view) (Unfit mid view) (λ p q in_vain. in_vain.unfit) mid.room.parts vain in
+    let unfit : Unfit mid view near.a near.b =
+    of_at (Unfit mid view) mid.room.parts near.at near.a near.b none (subst (λ (ps : List Part). slice_get ps near.at ≡ Some near.a) same near.is_a) (subst (λ (ps : List Part). slice_get ps (near.at + 1) ≡ Some near.b) same near.is_b) in
+    let has_a = contains_at new.room.parts near.at near.a near.is_a in
+    let has_b = contains_at new.room.parts (near.at + 1) near.b near.is_b in
+    unfit older newer
+    (shown near.a older has_a (tells_live new whole open_room image told near.a older has_a near.older_rows))
+    (shown near.b newer has_b (tells_live new whole open_room image told near.b newer has_b near.newer_rows))
+    (subst (λ n. FitsFree n (length mid.room.free) older newer) len (subst (λ (f : List ℕ). FitsFree new.room.region_len (length f) older newer) free fits))
+
 -- ---- a view that was taken back
 
 -- a view was made, something was done through it, and it was taken back
@@ -357,9 +391,6 @@ pub record Passes (old mid tried new : RoomValue) (view view' : ViewValue) : Typ
   pub back : TakesBack tried new view'
   pub last : Keeps tried new
   pub ends : IsWhole new
-
-contains_at : (parts : List Part) (at : ℕ) (p : Part) → slice_get parts at ≡ Some p → Contains parts p
-contains_at parts at p is = (at, slice_get_within parts at p is, get_or_from_slice_get parts at p p is)
 
 module _ (old mid tried new : RoomValue) (view view' : ViewValue) (is : Passes old mid tried new view view') where
   fresh : view.eye.faults ≡ 0
@@ -450,34 +481,12 @@ module _ (old mid tried new : RoomValue) (view view' : ViewValue) (is : Passes o
           (seen_by tried view' p (record { whole = is.middle; is_view = is.is_view; posted = is.posted; region_len = is.region_len })
           (subst (λ ps. Contains ps p) (parts_all same ∙ sym is.views.parts ∙ sym is.same.parts) there)))
 
-  live_header : new.room.is_shut ≡ false → (image : Image) → new.room.image ≡ Some image → (p : Part) → Contains new.room.parts p → HasHeader new.room.region_len image p.region p.header
-  live_header open_room image told p there =
-      let holds = (held_now new is.ends (is.ends.lost open_room) image told).1 in
-      let header : HasHeader new.disk.region_len image p.region p.header =
-      All-contains (λ (q : Part). HasHeader new.disk.region_len image q.region q.header) (new.room.parts ++ new.room.retired) p (All-from_recursion _ (new.room.parts ++ new.room.retired) holds.headers)
-      (Contains-append_left new.room.parts new.room.retired p there) in
-      subst (λ n. HasHeader n image p.region p.header) (sym (ap (λ (r : RoomState). r.region_len) is.ends.of_disk)) header
-
-  -- the rows of a live part are told with its header
-  tells_live : new.room.is_shut ≡ false → (image : Image) → new.room.image ≡ Some image → (p : Part) (rows : List Row) → Contains new.room.parts p → AreRowsOf new.room.region_len image (p ∷ []) rows
-      → TellsRowsOf new.room.image new.room.region_len (p ∷ []) rows
-  tells_live open_room image told p rows there are = record { image = image; is_told = told; headers = (live_header open_room image told p there, tt); are_rows = are }
-
   none_fit : new.room.is_shut ≡ false → StaysOpen None mid.room.free mid tried → OfNeighbours (InVain mid view) mid.room.parts → NoneFitNow new
-  none_fit open_room stays vain image told older newer near fits =
-      let none : OfNeighbours (Unfit mid view) mid.room.parts = of_each (InVain mid view) (Unfit mid view) (λ p q in_vain. in_vain.unfit) mid.room.parts vain in
+  none_fit open_room stays vain =
       let parts : tried.room.parts ≡ mid.room.parts = ap (λ (r : RoomState). r.parts) stays.room in
-      let same : new.room.parts ≡ mid.room.parts = ap (λ (r : RoomState). r.parts) is.back.room.room ∙ parts in
-      let free : new.room.free ≡ mid.room.free = ap (λ (r : RoomState). r.free) is.back.room.room ∙ ap (λ (r : RoomState). r.free) stays.room in
-      let len : new.room.region_len ≡ mid.room.region_len = is.last.becomes.region_len ∙ stays.keeps.becomes.region_len in
-      let unfit : Unfit mid view near.a near.b =
-      of_at (Unfit mid view) mid.room.parts near.at near.a near.b none (subst (λ (ps : List Part). slice_get ps near.at ≡ Some near.a) same near.is_a) (subst (λ (ps : List Part). slice_get ps (near.at + 1) ≡ Some near.b) same near.is_b) in
-      let has_a = contains_at new.room.parts near.at near.a near.is_a in
-      let has_b = contains_at new.room.parts (near.at + 1) near.b near.is_b in
-      unfit older newer
-      (told_before view view' near.a older is.same (shown_all parts near.a older has_a (tells_live open_room image told near.a older has_a near.older_rows)))
-      (told_before view view' near.b newer is.same (shown_all parts near.b newer has_b (tells_live open_room image told near.b newer has_b near.newer_rows)))
-      (subst (λ n. FitsFree n (length mid.room.free) older newer) len (subst (λ (f : List ℕ). FitsFree new.room.region_len (length f) older newer) free fits))
+      none_fits new mid view is.ends open_room (ap (λ (r : RoomState). r.parts) is.back.room.room ∙ parts)
+      (ap (λ (r : RoomState). r.free) is.back.room.room ∙ ap (λ (r : RoomState). r.free) stays.room) (is.last.becomes.region_len ∙ stays.keeps.becomes.region_len)
+      (λ p rows there tells. told_before view view' p rows is.same (shown_all parts p rows there tells)) vain
 
   refused_all : (fault : FetchFault) → StaysOpen None mid.room.free mid tried → Looks {A = Bool} view view' (Err (merge_fault.Fetch fault)) → BlamesTwo mid view' fault → IsReadRefused old new fault
   refused_all fault stays looks blames =
@@ -624,10 +633,10 @@ module _ (old mid tried new : RoomValue) (view view' : ViewValue) (is : Passes o
       let a_seen = told_before seen view m.two.0 a (view_back view seen same) a_told in
       let b_seen = told_before seen view m.two.1 b (view_back view seen same) b_told in
       let body = held_image new.room.image job (body_bytes (merged a b)) (ap (λ image. held_for image job) same_image ∙ m.body a b a_seen b_seen) in
-      tells_live open_room body.0 body.1 p (merged a b) there
+      tells_live new is.ends open_room body.0 body.1 p (merged a b) there
       (merged_rows new.room.region_len body.0 m.two m.measure m.regions was.room.free a b
       (both_fit view.region_len a_told.image m.two.0 a a_told.are_rows) (both_fit view.region_len b_told.image m.two.1 b b_told.are_rows)
-      (m.measured a b a_seen b_seen) m.ordered (live_header open_room body.0 body.1 p there) body.2)
+      (m.measured a b a_seen b_seen) m.ordered (live_header new is.ends open_room body.0 body.1 p there) body.2)
 
   -- of any two, the rows that were read and merged
   joined_told : (at : ℕ) (was : RoomValue) (seen : ViewValue) (m : Merges at was tried seen) → SameView view seen → new.room.is_shut ≡ false
@@ -641,8 +650,8 @@ module _ (old mid tried new : RoomValue) (view view' : ViewValue) (is : Passes o
       let body = held_image new.room.image job (body_bytes b.rows) (ap (λ image. held_for image job) same_image ∙ joined.2 ∙ ap (λ bytes. Some bytes) b.body) in
       record {
         rows = b.rows;
-        told = tells_live open_room body.0 body.1 p b.rows there
-            (measured_rows new.room.region_len body.0 m.two m.measure m.regions was.room.free b.rows b.fit b.measured m.ordered (live_header open_room body.0 body.1 p there) body.2);
+        told = tells_live new is.ends open_room body.0 body.1 p b.rows there
+            (measured_rows new.room.region_len body.0 m.two m.measure m.regions was.room.free b.rows b.fit b.measured m.ordered (live_header new is.ends open_room body.0 body.1 p there) body.2);
         each = b.each;
       }
 
@@ -747,17 +756,21 @@ module _ (old mid tried new : RoomValue) (view view' : ViewValue) (is : Passes o
       }
   passed from (Err (merge_fault.Room (room_fault.Shut epoch))) tries = absurd tries.room
 
--- the board of what is left, for taking it back
-module _ (from : ℕ) (mid tried : RoomValue) (view view' : ViewValue) (posted : IsPosted mid.room view) (region_len : view.region_len ≡ mid.room.region_len) where
-  rest_posted : KeepsRest mid tried → SameView view view' → IsPosted tried.room view' × (view'.region_len ≡ tried.room.region_len)
-  rest_posted rest same = (posted_then mid.room tried.room view view' rest.board same posted, same.region_len ∙ region_len ∙ sym rest.keeps.becomes.region_len)
+-- what every answer leaves as it was
+pub tries_rest : (from : ℕ) (mid tried : RoomValue) (view view' : ViewValue) (result : Result Bool MergeFault) → TriesAll from mid tried view view' result → KeepsRest mid tried
+tries_rest from mid tried view view' (Ok true) tries =
+    let some = tries.room.2 in
+    rest_then mid some.mid tried (rest_stays mid.room.free mid some.mid some.stays) (rest_merges tries.room.0 some.mid tried some.seen some.merges)
+tries_rest from mid tried view view' (Ok false) tries = rest_stays mid.room.free mid tried tries.room.0
+tries_rest from mid tried view view' (Err (merge_fault.Fetch fault)) tries = rest_stays mid.room.free mid tried tries.room.0
+tries_rest from mid tried view view' (Err (merge_fault.Room room_fault.NoMemory)) tries = rest_stays mid.room.free mid tried tries.room
+tries_rest from mid tried view view' (Err (merge_fault.Room room_fault.Disk)) tries = rest_falls tried.room.free mid tried tries.room.0
+tries_rest from mid tried view view' (Err (merge_fault.Room (room_fault.Shut epoch))) tries = absurd tries.room
 
-  pub still_posted : (result : Result Bool MergeFault) → TriesAll from mid tried view view' result → IsPosted tried.room view' × (view'.region_len ≡ tried.room.region_len)
-  still_posted (Ok true) tries =
-      let some = tries.room.2 in
-      rest_posted (rest_then mid some.mid tried (rest_stays mid.room.free mid some.mid some.stays) (rest_merges tries.room.0 some.mid tried some.seen some.merges)) tries.looks.same
-  still_posted (Ok false) tries = rest_posted (rest_stays mid.room.free mid tried tries.room.0) tries.looks.same
-  still_posted (Err (merge_fault.Fetch fault)) tries = rest_posted (rest_stays mid.room.free mid tried tries.room.0) tries.looks.same
-  still_posted (Err (merge_fault.Room room_fault.NoMemory)) tries = rest_posted (rest_stays mid.room.free mid tried tries.room) tries.looks.same
-  still_posted (Err (merge_fault.Room room_fault.Disk)) tries = rest_posted (rest_falls tried.room.free mid tried tries.room.0) tries.looks.same
-  still_posted (Err (merge_fault.Room (room_fault.Shut epoch))) tries = absurd tries.room
+-- the board of what is left, for taking it back
+pub still_posted : (from : ℕ) (mid tried : RoomValue) (view view' : ViewValue) → IsPosted mid.room view → view.region_len ≡ mid.room.region_len → (result : Result Bool MergeFault) → TriesAll from mid tried view view' result
+    → IsPosted tried.room view' × (view'.region_len ≡ tried.room.region_len)
+still_posted from mid tried view view' posted region_len result tries =
+    let rest = tries_rest from mid tried view view' result tries in
+    let same = tries.looks.same in
+    (posted_then mid.room tried.room view view' rest.board same posted, same.region_len ∙ region_len ∙ sym rest.keeps.becomes.region_len)

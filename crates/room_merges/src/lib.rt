@@ -10,5 +10,5 @@ mod pair;
 
 pub use body::write_body;
 pub use fault::MergeFault;
-pub use near::{merge_near, merge_now};
+pub use near::{merge_any, merge_near, merge_now};
 pub use pair::merge_pair;

@@ -72,8 +72,15 @@ fn merge_between<D: LogDisk>(
     Ok(false)
 }
 
-/// Tries the neighbours whose older one begins at an epoch or later, in chain order, and then those before, and merges the first that fit.
-fn merge_any<D: LogDisk>(
+/// Merges the first neighbours that fit, through a view of all live parts that is out, while others may be out too: tried are first the
+/// neighbours of which the older one begins at an epoch or later, in chain order, and then those before it. No merge is out before and after.
+///
+/// True exactly where two were merged: they are one part over the lowest free regions, by a measure of them that was read, and they are retired.
+/// False where a measure of all neighbours was read through the view, and none of them fits what is free, by what the view's eye tells; then the
+/// chain, and what is retired and free, is as it was. So it is after `NoMemory`, and after each refusal of a read, which blames the first two
+/// that were not tried in vain. `Disk` comes only where the disk failed in this call, and shuts the room; of the lowest free regions those are
+/// lost that the failed call was writing. `Shut` never comes.
+pub fn merge_any<D: LogDisk>(
     alloc: Global,
     room: &mut Room<D>,
     view: &mut View<D::Eye>,

@@ -22,6 +22,7 @@ use Rattle.fine_model.specs.Report.{all_outcomes, fault_line}
 use Rattle.fine_model.specs.Trees.{IsSound}
 use Rattle.log_commands.specs.Ends.{fault_status}
 use Rattle.log_commands.specs.Found.{FindsChain}
+use Rattle.log_commands.proofs.Printed.{risen_by, wrote_all, wrote_front}
 use Rattle.run_laws.specs.Law.{return_of, start_of}
 use Rattle.run_laws.proofs.Nothing.{are_none, none_told, not_refused}
 use Rattle.script_text.specs.Streams.{Puts}
@@ -31,7 +32,7 @@ use Rattle.fine_top.specs.Running.{LeavesBeside}
 use Rattle.fine_top.proofs.Chainless.{shows_none}
 use Rattle.fine_top.proofs.Durable.{no_lane_cut}
 use Rattle.fine_top.proofs.Listing.{finds_beside, finds_unsound}
-use Rattle.fine_top.proofs.Theorem.{keeps_entry, risen_by, shows_entry, status_all, wrote_all, wrote_front}
+use Rattle.fine_top.proofs.Theorem.{keeps_entry, shows_entry, status_all}
 
 -- a status is one of a fault, or of a run that was done
 done_status : (outcomes : List Outcome) (status : ℕ) → HasStatus status outcomes None → (status ≡ 0) ⊎ (status ≡ 8)

@@ -11,7 +11,7 @@ use Rattle.fine_model.specs.Words.{Command, dump, gen, merge, ranges, run}
 use Rattle.command_words.specs.Words.{meant}
 use Rattle.command_words.specs.declared.command.Command.{Command as ReadCommand}
 use Rattle.log_disk.specs.Moments.{ContinuesOn}
-use Rattle.map_reader.specs.Dumps.{DumpsAny, DumpsWell, Ends as EndsDump, FindsDump, IsUnsoundLog as DumpUnsound, LeavesBeside as DumpBeside, status_of as dump_status}
+use Rattle.map_reader.specs.Dumps.{DumpsAny, DumpsWell, Ends as EndsDump, FindsDump, IsUnsoundLog as DumpUnsound, LeavesBeside as DumpBeside}
 use Rattle.fine_top.specs.Generating.{Ends as EndsGen, GensWell, Numbers}
 use Rattle.log_disk.proofs.Times.{continues_told}
 use Rattle.log_commands.specs.Ends.{Ends, MergesAnyWell, MergesWell, RangesWell, status_of}
@@ -44,7 +44,7 @@ finds_opened old new (Err (run_fault.Damaged what)) f is = absurd (omega (arith,
 
 -- ---- the pairs
 
-dump_opened : (old new : Disk) (found : Result (List Pair) RunFault) → FindsDump old new found → dump_status found ≡ 0 → IsOpenedLog old
+dump_opened : (old new : Disk) (found : Result (List Pair) RunFault) → FindsDump old new found → status_of found ≡ 0 → IsOpenedLog old
 dump_opened old new (Ok pairs) (inl reads) is = (reads.opens.found.parts, record { image = reads.opens.sees.image; is_seen = reads.opens.sees.is_seen; is = reads.opens.sees.is_chain })
 dump_opened old new (Ok pairs) (inr none) is = absurd none
 dump_opened old new (Err run_fault.Memory) f is = absurd (omega (arith, is))
@@ -144,7 +144,7 @@ module _ (left : Option (List ℕ)) (source output : ℕ × ℕ) (old new : Disk
     own = record { ends = ends; dump = well; any = any };
   }
     where
-      by_zero : (status ≡ 5) ⊎ (status ≡ dump_status ends.found) → OneOf (0 ∷ 8 ∷ []) status → IsOpenedLog old
+      by_zero : (status ≡ 5) ⊎ (status ≡ status_of ends.found) → OneOf (0 ∷ 8 ∷ []) status → IsOpenedLog old
       by_zero (inl five) ok = absurd (grind (arith, five, ok))
       by_zero (inr is) (inl zero) = dump_opened old new ends.found ends.is_found (sym is ∙ zero)
       by_zero (inr is) (inr (inl eight)) = absurd (grind (arith, known, eight))

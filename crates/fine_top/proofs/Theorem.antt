@@ -1,9 +1,8 @@
 -- The theorem of a run, from how the call ended.
-use Rattle.std.proofs.Common.{◌≡◌, ◌⊎◌, inl, inr, ℕ, zero, suc, ◌-◌, ◌<◌, ◌≤◌, leb, List, [], ◌∷◌, ◌++◌, length, replicate, take, drop, refl, sym, ap, ◌∙◌, subst, Option, Some, None, Ok, Err, arith, take-append-drop, Bool, true, false, cond, ◌||◌, append-nil}
+use Rattle.std.proofs.Common.{◌≡◌, ◌⊎◌, inl, inr, ℕ, zero, suc, ◌-◌, ◌<◌, List, [], ◌∷◌, ◌++◌, length, replicate, refl, sym, ap, ◌∙◌, subst, Option, Some, None, Ok, Err, arith, Bool, true, false, cond, ◌||◌, append-nil}
 use Rattle.std.specs.Prelude.{IfSome, slice_get}
 use Rattle.std.specs.List.{list_any}
-use Rattle.std.proofs.lemmas.Bool.Decides.{leb_tells}
-use Rattle.log_disk.specs.Disk.{Disk, Told, last_count, HasRisen, IsToldOf, IsSound as IsSoundDisk, IsImageNow, IsImageSince, clock_of}
+use Rattle.log_disk.specs.Disk.{Disk, Told, HasRisen, IsToldOf, IsSound as IsSoundDisk, IsImageNow, IsImageSince, clock_of}
 use Rattle.log_disk.proofs.Steps.{all_synced}
 use Rattle.log_disk.proofs.Moments.{only_now}
 use Rattle.log_disk.proofs.Times.{continues_told}
@@ -29,25 +28,14 @@ use Rattle.fine_model.specs.Chain.{Shows}
 use Rattle.fine_model.specs.Headline.{Start, Return, DiskRose, TellsFaults, FailsSound, OneOf, RunDone, RunTheorem, IsDoneRun, IsRunWith, IsComplete, ShowsSome, KeepsEvery, KeepsUpTo, HasStatus, RunCutShort, MayEnd, NothingRun, IsFrontOf, ReasonFor, causes_of}
 use Rattle.fine_model.specs.Script.{script_of}
 use Rattle.fine_model.specs.Report.{all_outcomes, reason_bytes, fault_line, report}
-use Rattle.script_text.specs.Streams.{Puts, behind}
 use Rattle.run_laws.specs.Law.{return_of, start_of}
 use Rattle.run_laws.proofs.Nothing.{are_none, none_told, not_refused}
 use Rattle.log_commands.specs.Found.{SeesLog}
+use Rattle.log_commands.proofs.Printed.{risen_by, wrote_all, wrote_front}
 use Rattle.fine_top.specs.Running.{Ended, early, ran, text_of, status_of, run_status, IsRunOn, IsRunOf, IsReason, EndsEarly, MayRun, IsEnd, IsEndOfRun, Ends, EndsRunOf, RunsWell, start_on, OfTold, IsRefused}
 use Rattle.fine_top.specs.Opened.{IsOpenedLog, IsUnsoundLog}
 use Rattle.fine_top.proofs.Chainless.{shows_none, unsound}
 use Rattle.fine_model.proofs.NodeLaws.{Agrees-refl}
-
--- ---- what was written
-
--- some first bytes of a text, or all of it
-pub wrote_all : (text : List ℕ) (failed : Type 0) (was now : Option (List ℕ)) (first : List ℕ) → Puts text failed was now → (failed → ⊥) → was ≡ Some first → now ≡ Some (first ++ text)
-wrote_all text failed was now first p fine is = p.whole fine ∙ ap (λ o. behind o text) is
-
-pub wrote_front : (text : List ℕ) (failed : Type 0) (was now : Option (List ℕ)) (first : List ℕ) → Puts text failed was now → was ≡ Some first
-    → (written : List ℕ) × (now ≡ Some (first ++ written)) × IsFrontOf written text
-wrote_front text failed was now first p is =
-    let q = p.part in (take q.0 text, q.1 ∙ ap (λ o. behind o (take q.0 text)) is, (drop q.0 text, sym (take-append-drop q.0 text)))
 
 -- ---- outcomes that are not told
 
@@ -96,13 +84,6 @@ record CountsByStatus (source_rose output_rose : Type 0) (old new : Disk) (statu
   output : status ≡ 5 → output_rose
   disk : status ≡ 6 → HasRisen old.faults new.faults
   told : old.faults < new.faults → (status ≡ 1) ⊎ (status ≡ 5) ⊎ (status ≡ 6)
-
-pub risen_by : (before now : ℕ) → HasRisen before now → (1 ≤ now - before) ⊎ (last_count ≤ now)
-risen_by before now risen = by (leb_tells last_count now)
-  where
-    by : ((leb last_count now ≡ true) × (last_count ≤ now)) ⊎ ((leb last_count now ≡ false) × (now < last_count)) → (1 ≤ now - before) ⊎ (last_count ≤ now)
-    by (inl at) = inr at.1
-    by (inr below) = inl (let low = below.1 in omega (arith, risen, low))
 
 module _ (options : Options) (source output : ℕ × ℕ) (left : Option (List ℕ)) (old new : Disk) (status : ℕ) (was now : Option (List ℕ)) where
   abbrev source_rose : Type 0

@@ -25,7 +25,8 @@ use Rattle.map_reader.proofs.Dumped.{dumps_any, dumps_well}
 use Rattle.fine_top.specs.Generating.{Ends as EndsGen, Numbers, numbers, early as gen_early, text_of as gen_text}
 use Rattle.fine_top.specs.Running.{Ends, early, text_of}
 use Rattle.fine_top.proofs.Generated.{gens_well}
-use Rattle.fine_top.proofs.Theorem.{runs_well, wrote_all, wrote_front}
+use Rattle.fine_top.proofs.Theorem.{runs_well}
+use Rattle.log_commands.proofs.Printed.{wrote_all, wrote_front}
 
 module _ (left : Option (List ℕ)) (source output : ℕ × ℕ) (disk : Disk) (status : ℕ) (was now : Option (List ℕ)) (no_eyes : disk.eyes ≡ []) (output_failed : status ≡ 5 → HasRisen output.0 output.1) where
   -- the disk is as it was

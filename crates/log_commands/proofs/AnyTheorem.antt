@@ -64,8 +64,8 @@ module _ (old new : Disk) (status : ℕ) (was now : Option (List ℕ)) (ends : E
 
     text : (written : List ℕ) × (now ≡ Some (first ++ written)) × PrintsOnce back Named Text status written
     text =
-        printed back Named Text (MergesLog old new) status was now first was_is of_text of_fault
-        (λ parts m r. none_rose old new m.merges.counts r) (λ what m r. none_rose old new m.merges.0 r) rose ends
+        printed (List Part) ranges back Named Text (MergesLog old new) status was now first was_is of_text of_fault
+        (λ parts m r. none_rose old new m.merges.counts r) (λ what m r. none_rose old new m.merges.0 r) rose ends.found ends.is_found ends.status_is ends.printed
 
   pub merges_any : MergesAnyWell output old new status was now
   merges_any = record {

@@ -8,4 +8,3 @@ pub mod Live
 pub mod Logs
 pub mod MergeTheorem
 pub mod AnyTheorem
-pub mod JoinedMade

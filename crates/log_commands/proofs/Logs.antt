@@ -37,13 +37,13 @@ use Rattle.reopen.specs.declared.fault.OpenFault.{OpenFault}
 use Rattle.reopen.specs.declared.fault.OpenFault.TheVariants as fault
 use Rattle.room_shelf.proofs.Loading.{log_law}
 use Rattle.run_laws.proofs.Runs.{told_of}
+use Rattle.room_steps.proofs.JoinedMade.{own_made}
 use Rattle.log_commands.specs.Ends.{Ends}
 use Rattle.log_commands.specs.Found.{SeesLog, open_fault}
 use Rattle.log_commands.specs.Merged.{EndsRoom, GoesOn, HasFailed, KeepsLog, MergesAll, MergesLog, MergesOr, found_in, image_of}
 use Rattle.log_commands.specs.Origins.{AreFrom}
 use Rattle.room_merges.proofs.Living.{seen_itself}
 use Rattle.log_commands.proofs.Blamed.{may_name}
-use Rattle.log_commands.proofs.JoinedMade.{own_made}
 use Rattle.log_commands.proofs.Ranges.{told_chain}
 use Rattle.log_commands.proofs.Live.{merged_log}
 

@@ -99,8 +99,8 @@ module _ (old new : Disk) (status : ℕ) (was now : Option (List ℕ)) (ends : E
 
       text : (written : List ℕ) × (now ≡ Some (first ++ written)) × PrintsText (return_of old new source output before after) (ranges parts) status written
       text =
-          printed (return_of old new source output before after) (λ what. ⊥) (λ text. text ≡ ranges parts) (MergesLog old new) status was now first was_is (λ ps m. ap ranges (same_parts ps m.merges)) of_fault
-          (λ ps m r. none_rose old new m.merges.counts r) (λ what m r. none_rose old new m.merges.0 r) rose ends
+          printed (List Part) ranges (return_of old new source output before after) (λ what. ⊥) (λ text. text ≡ ranges parts) (MergesLog old new) status was now first was_is (λ ps m. ap ranges (same_parts ps m.merges)) of_fault
+          (λ ps m r. none_rose old new m.merges.counts r) (λ what m r. none_rose old new m.merges.0 r) rose ends.found ends.is_found ends.status_is ends.printed
 
       all_live : status ≡ 0 → count_by is_sealed after.bytes ≡ length parts
       all_live zero_is =

@@ -1,51 +1,29 @@
 -- What merging once, and merging on, leave of a room.
-use Rattle.std.proofs.Common.{◌≡◌, ◌∙◌, ℕ, zero, suc, true, false, List, [], ◌∷◌, inl, inr, Option, None, Some, Ok, Err, refl, sym, subst, arith, append-nil, true≢false}
-use Rattle.std.specs.Prelude.{Bool, Contains, Result}
-use Rattle.std.specs.List.{AllByRecursion, list_all}
-use Rattle.std.proofs.lemmas.List.Elements.{Contains-append_right}
+use Rattle.std.proofs.Common.{◌≡◌, ◌∙◌, true, false, List, [], inl, inr, None, Ok, Err, refl, sym, subst, arith, true≢false}
+use Rattle.std.specs.Prelude.{Bool, Result}
+use Rattle.std.specs.List.{list_all}
 use Rattle.log_disk.specs.Disk.{HasRisen}
 use Rattle.fine_model.specs.declared.FetchFault.{FetchFault}
 use Rattle.fine_model.specs.declared.FetchFault.TheVariants as fetch_fault
-use Rattle.fine_model.specs.declared.Part.{Part}
-use Rattle.fine_model.specs.declared.Row.{Row}
 use Rattle.fine_model.specs.declared.RunFault.{RunFault}
 use Rattle.fine_model.specs.declared.RunFault.TheVariants as run_fault
 use Rattle.fine_model.specs.Boards.{Buffer, is_empty}
-use Rattle.fine_model.specs.Chain.{AreRowsOf, regions_of}
-use Rattle.fine_model.specs.Regions.{HasHeader, Image}
-use Rattle.fine_model.specs.Views.{TellsRowsOf}
-use Rattle.damage_laws.specs.Made.{AreMadeOf}
+use Rattle.fine_model.specs.Chain.{regions_of}
 use Rattle.epoch_room.specs.Value.{RoomValue}
 use Rattle.epoch_room.specs.Whole.{IsWhole}
 use Rattle.epoch_room.specs.declared.answers.RoomFault.TheVariants as room_fault
 use Rattle.room_merges.specs.declared.fault.MergeFault.{MergeFault}
 use Rattle.room_merges.specs.declared.fault.MergeFault.TheVariants as merge_fault
-use Rattle.room_merges.specs.Merging.{OfTold}
 use Rattle.room_merges.specs.Near.{IsReadRefused, MergesNear}
 use Rattle.room_merges.proofs.Living.{seen_itself, seen_then}
 use Rattle.room_steps.specs.Merging.{of_merge}
+use Rattle.room_steps.proofs.MadeOn.{makes_on}
+use Rattle.room_steps.proofs.Merges.{tells_none}
+use Rattle.room_steps.proofs.Stepping.{makes_same, near_lives, same_length, told_then}
 use Rattle.log_commands.specs.Origins.{AreFrom}
-use Rattle.log_commands.proofs.Origins.{from_same, from_then, told_then}
-use Rattle.log_commands.proofs.Stepping.{live_from, live_makes, same_length}
+use Rattle.log_commands.proofs.Origins.{from_same, from_then}
+use Rattle.log_commands.proofs.Stepping.{live_from}
 use Rattle.log_commands.specs.Merged.{FaultOf, GoesOn, IsMerging, IsWell, MergesAll, MergesOnce}
-
--- ---- the rows of one part
-
-own_rows : (region_len : ℕ) (image : Image) (parts : List Part) (p : Part) (rows : List Row) → AllByRecursion (λ q. HasHeader region_len image q.region q.header) parts → AreRowsOf region_len image parts rows → Contains parts p
-    → (own : List Row) × HasHeader region_len image p.region p.header × AreRowsOf region_len image (p ∷ []) own
-unfolding AreRowsOf
-own_rows region_len image [] p rows headers are (k, within, is) = absurd (omega (arith, within))
-own_rows region_len image (q ∷ parts) p rows headers are (zero, within, is) = (
-  are.0,
-  subst (λ (z : Part). HasHeader region_len image z.region z.header) is headers.0,
-  subst (λ z. AreRowsOf region_len image (z ∷ []) are.0) is (are.0, [], sym (append-nil are.0), are.3, refl),
-)
-own_rows region_len image (q ∷ parts) p rows headers are (suc k, within, is) = own_rows region_len image parts p are.1 headers.1 are.4 (k, omega (arith, within), is)
-
-own_told : (told : Option Image) (region_len : ℕ) (parts : List Part) (p : Part) (rows : List Row) → TellsRowsOf told region_len parts rows → Contains parts p → (own : List Row) × TellsRowsOf told region_len (p ∷ []) own
-own_told told region_len parts p rows t there =
-    let own = own_rows region_len t.image parts p rows t.headers t.are_rows there in
-    (own.0, record { image = t.image; is_told = t.is_told; headers = (own.1, tt); are_rows = own.2 })
 
 -- ---- one merge
 
@@ -62,26 +40,8 @@ module _ (old new : RoomValue) (opened : old.room.is_shut ≡ false) (board : li
     stands = k.keeps.stands;
     told = m.live.told;
     from = live_from old new was whole 1 opened result m;
-    makes = live_makes old new was whole 1 opened result m;
+    makes = (near_lives old new was whole 1 result m).makes;
   }
-
-  -- the live parts tell no rows, where a read of two of them was refused that would not have been of told ones
-  tells_none : (fault : FetchFault) (refused : IsReadRefused old new fault) → OfTold refused.view refused.blames.two.0 refused.blames.two.1 (λ a b. ⊥)
-      → (rows : List Row) → TellsRowsOf new.room.image new.room.region_len new.room.parts rows → ⊥
-  tells_none fault refused none rows tells =
-      let a = own_told new.room.image new.room.region_len new.room.parts refused.blames.two.0 rows tells older in
-      let b = own_told new.room.image new.room.region_len new.room.parts refused.blames.two.1 rows tells newer in
-      none a.0 b.0 (refused.shown refused.blames.two.0 a.0 older a.1) (refused.shown refused.blames.two.1 b.0 newer b.1)
-    where
-      older : Contains new.room.parts refused.blames.two.0
-      older =
-          subst (λ ps. Contains ps refused.blames.two.0) (sym refused.blames.stand.neighbours)
-          (Contains-append_right refused.blames.stand.before (refused.blames.two.0 ∷ refused.blames.two.1 ∷ refused.blames.stand.after) refused.blames.two.0 (0, omega arith, refl))
-
-      newer : Contains new.room.parts refused.blames.two.1
-      newer =
-          subst (λ ps. Contains ps refused.blames.two.1) (sym refused.blames.stand.neighbours)
-          (Contains-append_right refused.blames.stand.before (refused.blames.two.0 ∷ refused.blames.two.1 ∷ refused.blames.stand.after) refused.blames.two.1 (1, omega arith, refl))
 
   -- a read was refused, and no call failed
   refused_well : (fault : FetchFault) → IsReadRefused old new fault → (fault ≡ fetch_fault.Failed → ⊥) → IsWell old new
@@ -110,7 +70,7 @@ module _ (old new : RoomValue) (opened : old.room.is_shut ≡ false) (board : li
         fault = fetch_fault.BadRow region at;
         of_read = inl refl;
         blamed = m.near.3;
-        none_told = tells_none (fetch_fault.BadRow region at) m.near.0 m.near.0.blames.blames.1;
+        none_told = tells_none old new (fetch_fault.BadRow region at) m.near.0 m.near.0.blames.blames.1;
       },
     );
   }
@@ -125,7 +85,7 @@ module _ (old new : RoomValue) (opened : old.room.is_shut ≡ false) (board : li
         fault = fetch_fault.BadIndex region at;
         of_read = inr refl;
         blamed = m.near.3;
-        none_told = tells_none (fetch_fault.BadIndex region at) m.near.0 m.near.0.blames.blames.1;
+        none_told = tells_none old new (fetch_fault.BadIndex region at) m.near.0 m.near.0.blames.blames.1;
       },
     );
   }
@@ -146,10 +106,7 @@ goes_on a b c p q = record {
   told = seen_then [] a.room.image b.room.image c.room.image p.told q.told;
   from = from_then a.room.region_len a.room.image b.room.image c.room.image p.told a.room.parts b.room.parts c.room.parts p.from
       (subst (λ n. AreFrom n b.room.image c.room.image b.room.parts c.room.parts) p.region_len q.from);
-  makes = λ entry first last parts sealed is_first is_last made.
-      let mid = told_then a.room.image b.room.image first p.told is_first in
-      let between = p.makes entry first mid.0 parts sealed is_first mid.1 made in
-      subst (λ n. AreMadeOf n entry last parts sealed c.room.parts) p.region_len (q.makes entry mid.0 last parts sealed mid.1 is_last (subst (λ n. AreMadeOf n entry mid.0 parts sealed b.room.parts) (sym p.region_len) between));
+  makes = makes_on a b c [] [] p.region_len (λ first is_first. told_then a.room.image b.room.image first p.told is_first) p.makes q.makes;
 }
 
 well_on : (a b c : RoomValue) → IsWell a b → IsWell b c → IsWell a c
@@ -176,9 +133,7 @@ merging_itself room whole no_job board opened = record {
     stands = λ first e history s. s;
     told = seen_itself [] room.room.image;
     from = from_same room.room.region_len room.room.image room.room.image room.room.parts (λ p there. seen_itself (regions_of p) room.room.image);
-    makes = λ entry first last parts sealed is_first is_last made.
-        let same : first ≡ last = (let both : ◌≡◌ {A = Option Image} (Some first) (Some last) = sym is_first ∙ is_last in cc) in
-        subst (λ image. AreMadeOf room.room.region_len entry image parts sealed room.room.parts) same made;
+    makes = makes_same room room refl refl;
   };
   well = record { counts = record { faults = refl; own_faults = refl }; opened = opened };
 }

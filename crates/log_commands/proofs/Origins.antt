@@ -1,5 +1,5 @@
 -- Parts that come from those of an earlier chain: where none was merged, where two neighbours were, and from one chain to the next.
-use Rattle.std.proofs.Common.{◌≡◌, ◌∙◌, ℕ, zero, suc, ◌≤◌, List, [], ◌∷◌, ◌++◌, length, inl, inr, Option, Some, None, refl, sym, ap, subst, arith, append-nil, append_assoc, length-append}
+use Rattle.std.proofs.Common.{◌≡◌, ◌∙◌, ℕ, zero, suc, ◌≤◌, List, [], ◌∷◌, ◌++◌, length, inl, inr, Option, refl, sym, ap, subst, arith, append-nil, append_assoc, length-append}
 use Rattle.std.specs.Prelude.{Contains, fold}
 use Rattle.std.proofs.lemmas.List.Elements.{Contains-append_right}
 use Rattle.std.proofs.lemmas.List.Sums.{fold-append}
@@ -11,6 +11,7 @@ use Rattle.fine_model.specs.Views.{SameSeen, TellsRowsOf}
 use Rattle.fine_model.proofs.Owning.{tells_alike}
 use Rattle.epoch_room.proofs.Viewing.{all_parts}
 use Rattle.room_merges.proofs.Living.{seen_then}
+use Rattle.room_steps.proofs.Stepping.{told_then}
 use Rattle.log_commands.specs.Origins.{AreFrom, ComesFrom, IsMadeOf, chain_start}
 
 -- ---- what is told of parts
@@ -19,12 +20,6 @@ use Rattle.log_commands.specs.Origins.{AreFrom, ComesFrom, IsMadeOf, chain_start
 pub part_alike : (region_len : ℕ) (was now : Option Image) (p : Part) (rows : List Row) → SameSeen (regions_of p) was now → TellsRowsOf was region_len (p ∷ []) rows → TellsRowsOf now region_len (p ∷ []) rows
 part_alike region_len was now p rows same tells =
     tells_alike (regions_of p ++ []) was now region_len (p ∷ []) rows (subst (λ rs. SameSeen rs was now) (sym (append-nil (regions_of p))) same) (all_parts (p ∷ [])) tells
-
--- where the disk told its bytes, it tells some still
-pub told_then : (was now : Option Image) (image : Image) → SameSeen [] was now → was ≡ Some image → (other : Image) × (now ≡ Some other)
-told_then (Some was) (Some now) image same is = (now, refl)
-told_then (Some was) None image same is = absurd same
-told_then None now image same is = absurd (let x = is in cc)
 
 -- ---- no merge, and one
 

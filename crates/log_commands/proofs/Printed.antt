@@ -3,19 +3,18 @@ use Rattle.std.proofs.Common.{◌≡◌, ◌⊎◌, inl, inr, ℕ, ◌-◌, ◌<
 use Rattle.std.proofs.lemmas.Bool.Decides.{leb_tells}
 use Rattle.log_disk.specs.Disk.{HasRisen, last_count}
 use Rattle.fine_model.specs.declared.Damage.{Damage}
-use Rattle.fine_model.specs.declared.Part.{Part}
 use Rattle.fine_model.specs.declared.RunFault.{RunFault}
 use Rattle.fine_model.specs.declared.RunFault.TheVariants as run_fault
 use Rattle.fine_model.specs.Commands.{PrintsOnce}
 use Rattle.fine_model.specs.Headline.{IsFrontOf, MayFail, Return}
-use Rattle.fine_model.specs.Report.{fault_line, ranges}
+use Rattle.fine_model.specs.Report.{fault_line}
 use Rattle.script_text.specs.Streams.{Puts, behind}
-use Rattle.log_commands.specs.Ends.{Ends, status_of, text_of}
+use Rattle.log_commands.specs.Ends.{status_of, text_by}
 
-wrote_all : (text : List ℕ) (failed : Type 0) (was now : Option (List ℕ)) (first : List ℕ) → Puts text failed was now → (failed → ⊥) → was ≡ Some first → now ≡ Some (first ++ text)
+pub wrote_all : (text : List ℕ) (failed : Type 0) (was now : Option (List ℕ)) (first : List ℕ) → Puts text failed was now → (failed → ⊥) → was ≡ Some first → now ≡ Some (first ++ text)
 wrote_all text failed was now first p fine is = p.whole fine ∙ ap (λ o. behind o text) is
 
-wrote_front : (text : List ℕ) (failed : Type 0) (was now : Option (List ℕ)) (first : List ℕ) → Puts text failed was now → was ≡ Some first
+pub wrote_front : (text : List ℕ) (failed : Type 0) (was now : Option (List ℕ)) (first : List ℕ) → Puts text failed was now → was ≡ Some first
     → (written : List ℕ) × (now ≡ Some (first ++ written)) × IsFrontOf written text
 wrote_front text failed was now first p is =
     let q = p.part in (take q.0 text, q.1 ∙ ap (λ o. behind o (take q.0 text)) is, (drop q.0 text, sym (take-append-drop q.0 text)))
@@ -28,20 +27,20 @@ risen_by before now risen = by (leb_tells last_count now)
     by (inl at) = inr at.1
     by (inr below) = inl (let low = below.1 in omega (arith, risen, low))
 
-module _ (back : Return) (P : Damage → Type 0) (whole : List ℕ → Type 0) (IsFound : Result (List Part) RunFault → Type 0) (status : ℕ) (was now : Option (List ℕ)) (first : List ℕ) (was_is : was ≡ Some first)
-    (of_text : (parts : List Part) → IsFound (Ok parts) → whole (ranges parts)) (of_fault : (fault : RunFault) → IsFound (Err fault) → MayFail back P fault)
-    (no_rise : (parts : List Part) → IsFound (Ok parts) → 1 ≤ back.rise → ⊥) (no_rise_damaged : (what : Damage) → IsFound (Err (run_fault.Damaged what)) → 1 ≤ back.rise → ⊥) (rose : status ≡ 5 → back.output_rose) where
+module _ (Found : Type 0) (text : Found → List ℕ) (back : Return) (P : Damage → Type 0) (whole : List ℕ → Type 0) (IsFound : Result Found RunFault → Type 0) (status : ℕ) (was now : Option (List ℕ)) (first : List ℕ) (was_is : was ≡ Some first)
+    (of_text : (found : Found) → IsFound (Ok found) → whole (text found)) (of_fault : (fault : RunFault) → IsFound (Err fault) → MayFail back P fault)
+    (no_rise : (found : Found) → IsFound (Ok found) → 1 ≤ back.rise → ⊥) (no_rise_damaged : (what : Damage) → IsFound (Err (run_fault.Damaged what)) → 1 ≤ back.rise → ⊥) (rose : status ≡ 5 → back.output_rose) where
   abbrev Printed : Type 0
   Printed = (written : List ℕ) × (now ≡ Some (first ++ written)) × PrintsOnce back P whole status written
 
-  front : (written : List ℕ) (found : Result (List Part) RunFault) → IsFound found → IsFrontOf written (text_of found)
-      → ((text : List ℕ) × whole text × IsFrontOf written text) ⊎ ((fault : RunFault) × MayFail back P fault × IsFrontOf written (fault_line fault))
-  front written (Ok parts) is f = inl (ranges parts, of_text parts is, f)
+  front : (written : List ℕ) (found : Result Found RunFault) → IsFound found → IsFrontOf written (text_by text found)
+      → ((all : List ℕ) × whole all × IsFrontOf written all) ⊎ ((fault : RunFault) × MayFail back P fault × IsFrontOf written (fault_line fault))
+  front written (Ok own) is f = inl (text own, of_text own is, f)
   front written (Err fault) is f = inr (fault, of_fault fault is, f)
 
-  cut : (found : Result (List Part) RunFault) → IsFound found → Puts (text_of found) (status ≡ 5) was now → status ≡ 5 → Printed
+  cut : (found : Result Found RunFault) → IsFound found → Puts (text_by text found) (status ≡ 5) was now → status ≡ 5 → Printed
   cut found is p five =
-      let w = wrote_front (text_of found) (status ≡ 5) was now first p was_is in (
+      let w = wrote_front (text_by text found) (status ≡ 5) was now first p was_is in (
         w.0,
         w.1,
         record {
@@ -55,18 +54,18 @@ module _ (back : Return) (P : Damage → Type 0) (whole : List ℕ → Type 0) (
         },
       )
 
-  all : (found : Result (List Part) RunFault) → IsFound found → Puts (text_of found) (status ≡ 5) was now → status ≡ status_of found → Printed
-  all (Ok parts) is p s = (
-    ranges parts,
-    wrote_all (ranges parts) (status ≡ 5) was now first p (λ e. omega (arith, e, s)) was_is,
+  all : (found : Result Found RunFault) → IsFound found → Puts (text_by text found) (status ≡ 5) was now → status ≡ status_of found → Printed
+  all (Ok own) is p s = (
+    text own,
+    wrote_all (text own) (status ≡ 5) was now first p (λ e. omega (arith, e, s)) was_is,
     record {
-      done = λ e. of_text parts is;
+      done = λ e. of_text own is;
       memory = λ e. absurd (omega (arith, e, s));
       failed = λ e. absurd (omega (arith, e, s));
       damaged = λ e. absurd (omega (arith, e, s));
       cut_short = λ e. absurd (omega (arith, e, s));
       others = inl s;
-      faults = record { source = λ e. absurd (omega (arith, e, s)); output = rose; disk = λ e. absurd (omega (arith, e, s)); told = λ r. absurd (no_rise parts is r) };
+      faults = record { source = λ e. absurd (omega (arith, e, s)); output = rose; disk = λ e. absurd (omega (arith, e, s)); told = λ r. absurd (no_rise own is r) };
     },
   )
   all (Err run_fault.Memory) is p s = (
@@ -109,9 +108,6 @@ module _ (back : Return) (P : Damage → Type 0) (whole : List ℕ → Type 0) (
     },
   )
 
-  pub printed : Ends IsFound status was now → Printed
-  printed ends = by ends.status_is
-    where
-      by : (status ≡ 5) ⊎ (status ≡ status_of ends.found) → Printed
-      by (inl five) = cut ends.found ends.is_found ends.printed five
-      by (inr s) = all ends.found ends.is_found ends.printed s
+  pub printed : (found : Result Found RunFault) → IsFound found → (status ≡ 5) ⊎ (status ≡ status_of found) → Puts (text_by text found) (status ≡ 5) was now → Printed
+  printed found is (inl five) puts = cut found is puts five
+  printed found is (inr s) puts = all found is puts s

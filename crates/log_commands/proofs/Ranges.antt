@@ -41,9 +41,9 @@ pub ranges_well : (output : ℕ × ℕ) (old new : Disk) (status : ℕ) (was now
 ranges_well output old new status was now rose ends = record {
   holds = λ source first before was_is old_is.
       let still : new.told ≡ old.told = same_told old new ends.found ends.is_found in
-      let p = printed (return_of old new source output before before) (λ what. chain old.region_len before.bytes ≡ Err what)
+      let p = printed (List Part) ranges (return_of old new source output before before) (λ what. chain old.region_len before.bytes ≡ Err what)
       (λ text. (parts : List Part) × (chain old.region_len before.bytes ≡ Ok parts) × (text ≡ ranges parts)) (FindsChain old new) status was now first was_is
-      (λ parts f. (parts, told_chain old (Ok parts) before old_is f.1, refl)) (of_fault source before old_is) (λ parts f r. none_rose old new f.0 r) (λ what f r. none_rose old new f.0 r) rose ends in
+      (λ parts f. (parts, told_chain old (Ok parts) before old_is f.1, refl)) (of_fault source before old_is) (λ parts f r. none_rose old new f.0 r) (λ what f r. none_rose old new f.0 r) rose ends.found ends.is_found ends.status_is ends.printed in
       (before, still ∙ old_is, p.0, p.1, record { disk = still; printed = p.2 });
 }
   where

@@ -1,92 +1,27 @@
--- What one merge makes of the live parts of a room.
-use Rattle.std.proofs.Common.{◌≡◌, ◌∙◌, ℕ, ◌≤◌, true, false, List, [], ◌∷◌, ◌++◌, inl, inr, Some, Ok, Err, refl, sym, ap, subst, arith, append-nil, true≢false}
-use Rattle.std.specs.Prelude.{Bool, Contains, Option, Result, option_to_list}
-use Rattle.std.specs.List.{AllByRecursion}
-use Rattle.std.proofs.lemmas.List.Elements.{All-contains, All-from_recursion, Contains-append_left, Contains-append_right}
-use Rattle.log_disk.specs.Disk.{Disk}
+-- Where the live parts of a room come from behind one merge.
+use Rattle.std.proofs.Common.{◌≡◌, ◌∙◌, ℕ, true, false, List, [], ◌∷◌, ◌++◌, inl, inr, Ok, Err, sym, ap, subst, arith, true≢false}
+use Rattle.std.specs.Prelude.{Bool, Contains, Result}
 use Rattle.fine_model.specs.declared.Part.{Part}
-use Rattle.fine_model.specs.declared.Row.{Row}
-use Rattle.fine_model.specs.declared.law.RoomState.{RoomState}
-use Rattle.fine_model.specs.Chain.{AreRowsOf, regions_of}
-use Rattle.fine_model.specs.Jobs.{job_left}
-use Rattle.fine_model.specs.Regions.{HasHeader, Image, IsSealed, continuations}
-use Rattle.fine_model.specs.Views.{SameSeen, TellsRowsOf}
-use Rattle.fine_model.proofs.Times.{distinct_times, times, times-append, times-same, times_absent}
-use Rattle.partition_index.specs.Parts.{IsSeen}
-use Rattle.damage_laws.specs.Made.{AreMadeOf, IsMadeOf as IsMade, joined}
-use Rattle.damage_laws.specs.Places.{IsUnchanged}
-use Rattle.damage_laws.proofs.Joins.{joins}
-use Rattle.epoch_room.specs.MergeSealing.{replaced}
-use Rattle.epoch_room.specs.Value.{RoomValue, all_regions, taken}
+use Rattle.fine_model.specs.Views.{TellsRowsOf}
+use Rattle.epoch_room.specs.Value.{RoomValue}
 use Rattle.epoch_room.specs.Whole.{IsWhole}
 use Rattle.epoch_room.specs.declared.answers.RoomFault.TheVariants as room_fault
-use Rattle.epoch_room.proofs.Beside.{regions_together}
-use Rattle.epoch_room.proofs.Freeing.{held_now}
-use Rattle.epoch_room.proofs.LedParts.{lead_apart}
-use Rattle.epoch_room.proofs.Retired.{replaced_is}
-use Rattle.room_merges.proofs.Living.{seen_then}
-use Rattle.room_merges.proofs.Telling.{seen_within}
 use Rattle.room_merges.specs.declared.fault.MergeFault.{MergeFault}
 use Rattle.room_merges.specs.declared.fault.MergeFault.TheVariants as merge_fault
 use Rattle.room_merges.specs.Live.{KeepsLive}
 use Rattle.room_merges.specs.Near.{Empties, KeepsRest, MergesFirst, MergesNear, SameOrErased}
-use Rattle.log_commands.specs.Merged.{MakesOf}
+use Rattle.room_steps.proofs.Stepping.{in_back, in_front, parts_are, parts_were, same_length, shown, stays}
 use Rattle.log_commands.specs.Origins.{AreFrom, IsMadeOf}
-use Rattle.log_commands.proofs.JoinedMade.{merge_made, none_made, still_made}
-use Rattle.log_commands.proofs.Origins.{from_merge, from_same, told_then}
+use Rattle.log_commands.proofs.Origins.{from_merge, from_same}
 
 module _ (old new : RoomValue) (was : IsWhole old) (whole : IsWhole new) where
-  -- the regions have the length that they had
-  pub same_length : KeepsRest old new → new.room.region_len ≡ old.room.region_len
-  same_length k =
-      ap (λ (r : RoomState). r.region_len) whole.of_disk ∙ sym whole.entry.region_len ∙ ap (λ (d : Disk). d.region_len) k.entry ∙ was.entry.region_len ∙ sym (ap (λ (r : RoomState). r.region_len) was.of_disk)
-
   abbrev AllFrom : Type 0
   AllFrom = AreFrom old.room.region_len old.room.image new.room.image old.room.parts new.room.parts
-
-  -- a live part has its header, and where it has the bytes that it had it is unchanged
-  module _ (opened : old.room.is_shut ≡ false) (first : Image) (is_first : old.room.image ≡ Some first) where
-    header_of : (p : Part) → Contains old.room.parts p → HasHeader old.room.region_len first p.region p.header
-    header_of p there =
-        let holds = (held_now old was (was.lost opened) first is_first).1 in
-        subst (λ n. HasHeader n first p.region p.header) (sym (ap (λ (r : RoomState). r.region_len) was.of_disk))
-        (All-contains (λ (q : Part). HasHeader old.disk.region_len first q.region q.header) (old.room.parts ++ old.room.retired) p (All-from_recursion _ (old.room.parts ++ old.room.retired) holds.headers)
-        (Contains-append_left old.room.parts old.room.retired p there))
-
-    unchanged : (last : Image) (told : Option Image) (p : Part) → told ≡ Some last → Contains old.room.parts p → SameSeen (regions_of p) old.room.image told → IsUnchanged old.room.region_len first last p
-    unchanged last told p is_last there same =
-        record { header = header_of p there; same = subst (λ o. SameSeen (regions_of p) (Some first) o) is_last (subst (λ o. SameSeen (regions_of p) o told) is_first same) }
-
-  still : old.room.is_shut ≡ false → KeepsLive old new → new.room.parts ≡ old.room.parts → MakesOf old new
-  still opened live same entry first last parts sealed is_first is_last made =
-      subst (AreMadeOf old.room.region_len entry last parts sealed) (sym same)
-      (none_made old.room.region_len entry first last parts sealed old.room.parts
-      (λ p there. unchanged opened first is_first last new.room.image p is_last there (live.each p there (subst (λ ps. Contains ps p) (sym same) there))) made)
 
   stayed : KeepsLive old new → new.room.parts ≡ old.room.parts → AllFrom
   stayed live same =
       subst (AreFrom old.room.region_len old.room.image new.room.image old.room.parts) (sym same)
       (from_same old.room.region_len old.room.image new.room.image old.room.parts (λ p there. live.each p there (subst (λ ps. Contains ps p) (sym same) there)))
-
-  held_once : (n : ℕ) → times n (all_regions (old.room.parts ++ old.room.retired)) ≤ 1
-  held_once n =
-      let held = all_regions (old.room.parts ++ old.room.retired) in
-      let d = distinct_times (taken old.room old.target) was.apart.distinct n in
-      let a = times-append n (option_to_list old.target) (job_left old.room ++ (old.room.lost ++ held)) in
-      let b = times-append n (job_left old.room) (old.room.lost ++ held) in
-      let c = times-append n old.room.lost held in
-      omega (arith, d, a, b, c)
-
-  -- the lead of the older of two neighbours leads no part before it
-  older_apart : (before : List Part) (older newer : Part) (after : List Part) → old.room.parts ≡ before ++ older ∷ newer ∷ after → AllByRecursion (λ q. q.region ≡ older.region → ⊥) before
-  older_apart before older newer after is =
-      lead_apart older.region before (times_absent older.region (all_regions before)
-      (let h = held_once older.region in
-      let a = ap (times older.region) (regions_together old.room.parts old.room.retired) ∙ times-append older.region (all_regions old.room.parts) (all_regions old.room.retired) in
-      let b = ap (λ ps. times older.region (all_regions ps)) is ∙ ap (times older.region) (regions_together before (older ∷ newer ∷ after)) ∙ times-append older.region (all_regions before) (all_regions (older ∷ newer ∷ after)) in
-      let c = times-append older.region (regions_of older) (all_regions (newer ∷ after)) in
-      let s = times-same older.region (continuations older.header) in
-      omega (arith, h, a, b, c, s)))
 
   module _ (from : ℕ) (k : KeepsRest old new) (live : KeepsLive old new) (erased : RoomValue) (e : Empties old erased (Ok tt)) (f : MergesFirst from erased new) where
     abbrev older : Part
@@ -101,91 +36,24 @@ module _ (old new : RoomValue) (was : IsWhole old) (whole : IsWhole new) where
     abbrev after : List Part
     after = f.merged.stand.after
 
-    parts_were : old.room.parts ≡ before ++ older ∷ newer ∷ after
-    parts_were = sym e.parts ∙ f.merged.stand.neighbours
-
-    parts_are : new.room.parts ≡ before ++ f.merged.part ∷ after
-    parts_are = f.merged.is ∙ ap (replaced older.region f.merged.part) f.merged.stand.neighbours ∙ replaced_is before older newer after f.merged.part (older_apart before older newer after parts_were)
-
-    stays : (p : Part) → Contains (before ++ older ∷ newer ∷ after) p → Contains (before ++ f.merged.part ∷ after) p → SameSeen (regions_of p) old.room.image new.room.image
-    stays p there still = live.each p (subst (λ ps. Contains ps p) (sym parts_were) there) (subst (λ ps. Contains ps p) (sym parts_are) still)
-
-    in_front : (p : Part) (more : List Part) → Contains before p → Contains (before ++ more) p
-    in_front p more there = Contains-append_left before more p there
-
-    in_back : (p : Part) (front : List Part) (more : List Part) → Contains after p → Contains (front ++ (more ++ after)) p
-    in_back p front more there = Contains-append_right front (more ++ after) p (Contains-append_right more after p there)
-
-    -- where a read of the disk told bytes, the eye of the view tells some
-    shown : (image : Image) → old.room.image ≡ Some image → (other : Image) × (f.view.eye.told ≡ Some other)
-    shown image is =
-        let mid = told_then old.room.image erased.room.image image e.live.told is in
-        let there = subst (λ ps. Contains ps older) (sym f.merged.stand.neighbours) (Contains-append_right before (older ∷ newer ∷ after) older (0, omega arith, refl)) in
-        told_then erased.room.image f.view.eye.told mid.0 (seen_within (regions_of older) [] erased.room.image f.view.eye.told tt (f.of_chain.sees older there)) mid.1
-
     made : IsMadeOf old.room.region_len old.room.image new.room.image (older ∷ newer ∷ []) f.merged.part
     made = record {
       several = omega arith;
       first = ap (λ r. r.first) f.merged.range;
       last = ap (λ r. r.last) f.merged.range;
       good = λ image is.
-          let eye = shown image is in
+          let eye = shown old new was whole from k live erased e f image is in
           let joined = f.tells eye.0 eye.1 in
-          (joined.rows, subst (λ n. TellsRowsOf new.room.image n (f.merged.part ∷ []) joined.rows) (same_length k) joined.told);
+          (joined.rows, subst (λ n. TellsRowsOf new.room.image n (f.merged.part ∷ []) joined.rows) (same_length old new was whole k) joined.told);
     }
 
     merged_two : AllFrom
     merged_two =
-        subst (λ ps. AreFrom old.room.region_len old.room.image new.room.image ps new.room.parts) (sym parts_were)
-        (subst (AreFrom old.room.region_len old.room.image new.room.image (before ++ older ∷ newer ∷ after)) (sym parts_are)
+        subst (λ ps. AreFrom old.room.region_len old.room.image new.room.image ps new.room.parts) (sym (parts_were old new was whole from k live erased e f))
+        (subst (AreFrom old.room.region_len old.room.image new.room.image (before ++ older ∷ newer ∷ after)) (sym (parts_are old new was whole from k live erased e f))
         (from_merge old.room.region_len old.room.image new.room.image before older newer f.merged.part after
-        (λ p there. stays p (in_front p (older ∷ newer ∷ after) there) (in_front p (f.merged.part ∷ after) there))
-        (λ p there. stays p (in_back p before (older ∷ newer ∷ []) there) (in_back p before (f.merged.part ∷ []) there)) made))
-
-    -- one of the two is seen through the view, with the bytes that it had
-    module _ (opened : old.room.is_shut ≡ false) (first : Image) (is_first : old.room.image ≡ Some first) (seen : Image) (is_seen : f.view.eye.told ≡ Some seen) (p : Part) (there : Contains (before ++ older ∷ newer ∷ after) p) where
-      among : Contains old.room.parts p
-      among = subst (λ ps. Contains ps p) (sym parts_were) there
-
-      erased_there : Contains erased.room.parts p
-      erased_there = subst (λ ps. Contains ps p) (sym e.parts) among
-
-      sees : IsSeen f.view.eye p
-      sees = All-contains (IsSeen f.view.eye) f.view.parts p (All-from_recursion (IsSeen f.view.eye) f.view.parts f.of_chain.is_view.seen) (subst (λ ps. Contains ps p) (sym f.of_chain.parts) erased_there)
-
-      seen_same : IsUnchanged old.room.region_len first seen p
-      seen_same = unchanged opened first is_first seen f.view.eye.told p is_seen among (seen_then (regions_of p) old.room.image erased.room.image f.view.eye.told (e.live.each p among erased_there) (f.of_chain.sees p erased_there))
-
-    eye_len : f.view.eye.region_len ≡ old.room.region_len
-    eye_len = sym f.of_chain.is_view.long ∙ f.of_chain.region_len ∙ e.rest.keeps.becomes.region_len
-
-    makes_two : old.room.is_shut ≡ false → MakesOf old new
-    unfolding AreRowsOf
-    makes_two opened entry first last parts sealed is_first is_last were =
-        let eye = shown first is_first in
-        let t = f.tells eye.0 eye.1 in
-        let image : t.told.image ≡ last = (let both : ◌≡◌ {A = Option Image} (Some t.told.image) (Some last) = sym t.told.is_told ∙ is_last in cc) in
-        let n = same_length k in
-        let all : t.told.are_rows.0 ≡ t.rows = sym (t.told.are_rows.2 ∙ ap (λ xs. t.told.are_rows.0 ++ xs) t.told.are_rows.4 ∙ append-nil t.told.are_rows.0) in
-        let p = f.merged.part in
-        let stays_at : (q : Part) → Contains (before ++ older ∷ newer ∷ after) q → Contains (before ++ p ∷ after) q → IsUnchanged old.room.region_len first last q =
-        λ q there still. unchanged opened first is_first last new.room.image q is_last (subst (λ ps. Contains ps q) (sym parts_were) there) (stays q there still) in
-        subst (AreMadeOf old.room.region_len entry last parts sealed) (sym parts_are)
-        (merge_made old.room.region_len entry first last parts sealed before older newer p after
-        (λ q there. stays_at q (in_front q (older ∷ newer ∷ after) there) (in_front q (p ∷ after) there))
-        (λ q there. stays_at q (in_back q before (older ∷ newer ∷ []) there) (in_back q before (p ∷ []) there))
-        (λ a b of_a of_b.
-        let at : Contains (before ++ older ∷ newer ∷ after) older = Contains-append_right before (older ∷ newer ∷ after) older (0, omega arith, refl) in
-        let next : Contains (before ++ older ∷ newer ∷ after) newer = Contains-append_right before (older ∷ newer ∷ after) newer (1, omega arith, refl) in
-        let len = sym eye_len in
-        subst (λ m. IsMade m entry last (joined a b) p) eye_len
-        (joins f.view.eye entry eye.0 last a b older newer p t.rows (sees opened first is_first eye.0 eye.1 older at) (sees opened first is_first eye.0 eye.1 newer next) eye.1
-        (subst (λ m. IsMade m entry eye.0 a older) len (still_made old.room.region_len entry first eye.0 a older (seen_same opened first is_first eye.0 eye.1 older at) of_a))
-        (subst (λ m. IsMade m entry eye.0 b newer) len (still_made old.room.region_len entry first eye.0 b newer (seen_same opened first is_first eye.0 eye.1 newer next) of_b))
-        (subst (λ m. HasHeader m last p.region p.header) (n ∙ len) (subst (λ i. HasHeader new.room.region_len i p.region p.header) image t.told.headers.0))
-        (subst (λ m. IsSealed m last p.region p.header.range t.rows) (n ∙ len) (subst (λ i. IsSealed new.room.region_len i p.region p.header.range t.rows) image (subst (λ rows. IsSealed new.room.region_len t.told.image p.region p.header.range rows) all t.told.are_rows.3)))
-        t.each))
-        (subst (AreMadeOf old.room.region_len entry first parts sealed) parts_were were))
+        (λ p there. stays old new was whole from k live erased e f p (in_front old new was whole from k live erased e f p (older ∷ newer ∷ after) there) (in_front old new was whole from k live erased e f p (f.merged.part ∷ after) there))
+        (λ p there. stays old new was whole from k live erased e f p (in_back old new was whole from k live erased e f p before (older ∷ newer ∷ []) there) (in_back old new was whole from k live erased e f p before (f.merged.part ∷ []) there)) made))
 
   erased_or : (from : ℕ) → KeepsRest old new → KeepsLive old new → SameOrErased from old new → AllFrom
   erased_or from k live (inl same) = stayed live same
@@ -199,16 +67,3 @@ module _ (old new : RoomValue) (was : IsWhole old) (whole : IsWhole new) where
   live_from from opened (Err (merge_fault.Room room_fault.NoMemory)) m = erased_or from m.rest m.live m.near.1
   live_from from opened (Err (merge_fault.Room room_fault.Disk)) m = erased_or from m.rest m.live m.near.1
   live_from from opened (Err (merge_fault.Room (room_fault.Shut epoch))) m = absurd (true≢false (sym m.near.0 ∙ opened))
-
-  makes_or : (from : ℕ) → old.room.is_shut ≡ false → KeepsRest old new → KeepsLive old new → SameOrErased from old new → MakesOf old new
-  makes_or from opened k live (inl same) = still opened live same
-  makes_or from opened k live (inr merged) = makes_two from k live merged.1.erased merged.1.erases merged.1.merges opened
-
-  -- what they are made of
-  pub live_makes : (from : ℕ) → old.room.is_shut ≡ false → (result : Result Bool MergeFault) → MergesNear from old new result → MakesOf old new
-  live_makes from opened (Ok true) m = makes_two from m.rest m.live m.near.3.erased m.near.3.erases m.near.3.merges opened
-  live_makes from opened (Ok false) m = still opened m.live m.near.1
-  live_makes from opened (Err (merge_fault.Fetch fault)) m = still opened m.live m.near.1
-  live_makes from opened (Err (merge_fault.Room room_fault.NoMemory)) m = makes_or from opened m.rest m.live m.near.1
-  live_makes from opened (Err (merge_fault.Room room_fault.Disk)) m = makes_or from opened m.rest m.live m.near.1
-  live_makes from opened (Err (merge_fault.Room (room_fault.Shut epoch))) m = absurd (true≢false (sym m.near.0 ∙ opened))

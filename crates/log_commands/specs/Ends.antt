@@ -11,10 +11,13 @@ use Rattle.fine_model.specs.Report.{fault_line, ranges}
 use Rattle.run_laws.specs.Law.{return_of, start_of}
 use Rattle.script_text.specs.Streams.{Puts}
 
--- the text of what was found: the chain's, or the line of a fault
+-- the text of what was found: its own, or the line of a fault
+abbrev pub text_by : {A : Type 0} → (A → List ℕ) → Result A RunFault → List ℕ
+text_by text (Ok found) = text found
+text_by text (Err fault) = fault_line fault
+
 abbrev pub text_of : Result (List Part) RunFault → List ℕ
-text_of (Ok parts) = ranges parts
-text_of (Err fault) = fault_line fault
+text_of found = text_by ranges found
 
 abbrev pub fault_status : RunFault → ℕ
 fault_status run_fault.Memory = 1
@@ -22,8 +25,8 @@ fault_status run_fault.Disk = 6
 fault_status (run_fault.Damaged what) = 7
 
 -- the status of what was found, where its text was written
-abbrev pub status_of : Result (List Part) RunFault → ℕ
-status_of (Ok parts) = 0
+abbrev pub status_of : {A : Type 0} → Result A RunFault → ℕ
+status_of (Ok found) = 0
 status_of (Err fault) = fault_status fault
 
 -- How a command ended, by what it is to have found a chain or a fault: the whole text was written and the status is that of what was found, or the output

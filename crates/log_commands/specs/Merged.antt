@@ -24,18 +24,13 @@ use Rattle.epoch_room.specs.Steps.{KeepsCounts}
 use Rattle.epoch_room.specs.Value.{RoomValue}
 use Rattle.epoch_room.specs.Whole.{IsWhole}
 use Rattle.room_merges.specs.Near.{AllInVain, BlamedFirst, NoneFitNow}
+use Rattle.room_steps.specs.Made.{MakesWith}
 use Rattle.script_text.specs.Streams.{Puts}
 use Rattle.log_commands.specs.Ends.{status_of, text_of}
 use Rattle.log_commands.specs.Found.{IsUntouched, SeesLog}
 use Rattle.log_commands.specs.Origins.{AreFrom}
 
 -- ---- a room
-
--- What the live parts were made of by the bytes of an earlier moment, that the live parts behind are made of, in the grammar or not: each that was merged of what its two were.
-abbrev pub MakesOf : RoomValue → RoomValue → Type 0
-MakesOf old new =
-    (entry first last : Image) (parts : List Part) (sealed : List (List Row)) → old.room.image ≡ Some first → new.room.image ≡ Some last
-    → AreMadeOf old.room.region_len entry first parts sealed old.room.parts → AreMadeOf old.room.region_len entry last parts sealed new.room.parts
 
 -- What each merge leaves, whatever it answers: nothing is out, nothing was added or sealed, the room stands for what it stood for, and its live parts
 -- come from those that it had.
@@ -50,7 +45,7 @@ pub record GoesOn (old new : RoomValue) : Type 0 where
   pub stands : GoesOnStanding old new
   pub told : SameSeen [] old.room.image new.room.image
   pub from : AreFrom old.room.region_len old.room.image new.room.image old.room.parts new.room.parts
-  pub makes : MakesOf old new
+  pub makes : MakesWith [] old new
 
 -- no call failed, and the room is open
 pub record IsWell (old new : RoomValue) : Type 0 where

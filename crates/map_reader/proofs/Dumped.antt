@@ -1,11 +1,10 @@
 -- What `dump` printed and left, from how it ended.
-use Rattle.std.proofs.Common.{◌≡◌, ◌⊎◌, inl, inr, ℕ, ◌-◌, ◌<◌, ◌≤◌, leb, true, false, List, [], ◌∷◌, ◌++◌, take, drop, length, map, Option, Some, Result, Ok, Err, refl, sym, ap, subst, ◌∙◌, arith, take-append-drop, true≢false}
+use Rattle.std.proofs.Common.{◌≡◌, ◌⊎◌, inl, inr, ℕ, ◌-◌, ◌<◌, ◌≤◌, true, false, List, [], ◌∷◌, length, map, Option, Some, Result, Ok, Err, refl, sym, ap, subst, ◌∙◌, arith, true≢false}
 use Rattle.std.specs.Prelude.{IfSome, IsPermutation}
 use Rattle.std.specs.List.{list_all}
-use Rattle.std.proofs.lemmas.Bool.Decides.{leb_tells}
 use Rattle.std.proofs.lemmas.List.{length-map, nil_from_length}
 use Rattle.std.proofs.lemmas.List.Sorted.{length_permutation}
-use Rattle.log_disk.specs.Disk.{Disk, HasRisen, OnlyFails, OpenEye, Told, last_count}
+use Rattle.log_disk.specs.Disk.{Disk, HasRisen, OnlyFails, OpenEye, Told}
 use Rattle.fine_model.specs.declared.Damage.{Damage}
 use Rattle.fine_model.specs.declared.Damage.TheVariants as damage
 use Rattle.fine_model.specs.declared.Part.{Part}
@@ -15,11 +14,11 @@ use Rattle.fine_model.specs.declared.RunFault.TheVariants as run_fault
 use Rattle.fine_model.specs.declared.law.RoomState.{RoomState}
 use Rattle.fine_model.specs.Boards.{held_of, is_empty, named}
 use Rattle.fine_model.specs.Chain.{Shows, chain}
-use Rattle.fine_model.specs.Commands.{FindsPairs, PrintsOnce}
+use Rattle.fine_model.specs.Commands.{FindsPairs}
 use Rattle.fine_model.specs.Damages.{IsDamage, IsDamageOf, IsUnsound}
-use Rattle.fine_model.specs.Headline.{IsFrontOf, MayFail, OneOf, Return}
+use Rattle.fine_model.specs.Headline.{MayFail, OneOf}
 use Rattle.fine_model.specs.Map.{Pair}
-use Rattle.fine_model.specs.Report.{dump, fault_line}
+use Rattle.fine_model.specs.Report.{dump}
 use Rattle.fine_model.specs.Trees.{map_of}
 use Rattle.epoch_room.specs.Value.{RoomValue}
 use Rattle.epoch_room.specs.Whole.{IsIdle, IsWhole}
@@ -30,116 +29,11 @@ use Rattle.reopen.specs.declared.fault.OpenFault.{OpenFault}
 use Rattle.reopen.specs.declared.fault.OpenFault.TheVariants as fault
 use Rattle.room_shelf.specs.Shelves.{IsCountOf}
 use Rattle.run_laws.specs.Law.{return_of}
-use Rattle.script_text.specs.Streams.{Puts, behind}
+use Rattle.log_commands.specs.Ends.{status_of}
 use Rattle.log_commands.specs.Found.{open_fault}
-use Rattle.map_reader.specs.Dumps.{DumpsAny, DumpsWell, Ends, EndsRoom, FindsDump, HasNoChain, IsUnsoundLog, LeavesBeside, Prints, ReadsLog, status_of, text_of}
+use Rattle.log_commands.proofs.Printed.{printed, risen_by}
+use Rattle.map_reader.specs.Dumps.{DumpsAny, DumpsWell, Ends, EndsRoom, FindsDump, HasNoChain, IsUnsoundLog, LeavesBeside, Prints, ReadsLog}
 use Rattle.map_reader.proofs.Found.{finds_pairs, is_chain, is_damage, shown_told, shows_none}
-
--- ---- texts
-
-wrote_all : (text : List ℕ) (failed : Type 0) (was now : Option (List ℕ)) (first : List ℕ) → Puts text failed was now → (failed → ⊥) → was ≡ Some first → now ≡ Some (first ++ text)
-wrote_all text failed was now first p fine is = p.whole fine ∙ ap (λ o. behind o text) is
-
-wrote_front : (text : List ℕ) (failed : Type 0) (was now : Option (List ℕ)) (first : List ℕ) → Puts text failed was now → was ≡ Some first
-    → (written : List ℕ) × (now ≡ Some (first ++ written)) × IsFrontOf written text
-wrote_front text failed was now first p is =
-    let q = p.part in (take q.0 text, q.1 ∙ ap (λ o. behind o (take q.0 text)) is, (drop q.0 text, sym (take-append-drop q.0 text)))
-
--- a count that has risen is greater, or stands at its last value
-risen_by : (before now : ℕ) → HasRisen before now → (1 ≤ now - before) ⊎ (last_count ≤ now)
-risen_by before now risen = by (leb_tells last_count now)
-  where
-    by : ((leb last_count now ≡ true) × (last_count ≤ now)) ⊎ ((leb last_count now ≡ false) × (now < last_count)) → (1 ≤ now - before) ⊎ (last_count ≤ now)
-    by (inl at) = inr at.1
-    by (inr below) = inl (let low = below.1 in omega (arith, risen, low))
-
-module _ (back : Return) (P : Damage → Type 0) (whole : List ℕ → Type 0) (IsFound : Result (List Pair) RunFault → Type 0) (status : ℕ) (was now : Option (List ℕ)) (first : List ℕ) (was_is : was ≡ Some first)
-    (of_text : (pairs : List Pair) → IsFound (Ok pairs) → whole (dump pairs)) (of_fault : (fault : RunFault) → IsFound (Err fault) → MayFail back P fault)
-    (no_rise : (pairs : List Pair) → IsFound (Ok pairs) → 1 ≤ back.rise → ⊥) (no_rise_damaged : (what : Damage) → IsFound (Err (run_fault.Damaged what)) → 1 ≤ back.rise → ⊥) (rose : status ≡ 5 → back.output_rose) where
-  abbrev Printed : Type 0
-  Printed = (written : List ℕ) × (now ≡ Some (first ++ written)) × PrintsOnce back P whole status written
-
-  front : (written : List ℕ) (found : Result (List Pair) RunFault) → IsFound found → IsFrontOf written (text_of found)
-      → ((text : List ℕ) × whole text × IsFrontOf written text) ⊎ ((fault : RunFault) × MayFail back P fault × IsFrontOf written (fault_line fault))
-  front written (Ok pairs) is f = inl (dump pairs, of_text pairs is, f)
-  front written (Err fault) is f = inr (fault, of_fault fault is, f)
-
-  cut : (found : Result (List Pair) RunFault) → IsFound found → Puts (text_of found) (status ≡ 5) was now → status ≡ 5 → Printed
-  cut found is p five =
-      let w = wrote_front (text_of found) (status ≡ 5) was now first p was_is in (
-        w.0,
-        w.1,
-        record {
-          done = λ e. absurd (omega (arith, e, five));
-          memory = λ e. absurd (omega (arith, e, five));
-          failed = λ e. absurd (omega (arith, e, five));
-          damaged = λ e. absurd (omega (arith, e, five));
-          cut_short = λ e. front w.0 found is w.2;
-          others = inr (inr (inl five));
-          faults = record { source = λ e. absurd (omega (arith, e, five)); output = rose; disk = λ e. absurd (omega (arith, e, five)); told = λ r. inr (inl five) };
-        },
-      )
-
-  all : (found : Result (List Pair) RunFault) → IsFound found → Puts (text_of found) (status ≡ 5) was now → status ≡ status_of found → Printed
-  all (Ok pairs) is p s = (
-    dump pairs,
-    wrote_all (dump pairs) (status ≡ 5) was now first p (λ e. omega (arith, e, s)) was_is,
-    record {
-      done = λ e. of_text pairs is;
-      memory = λ e. absurd (omega (arith, e, s));
-      failed = λ e. absurd (omega (arith, e, s));
-      damaged = λ e. absurd (omega (arith, e, s));
-      cut_short = λ e. absurd (omega (arith, e, s));
-      others = inl s;
-      faults = record { source = λ e. absurd (omega (arith, e, s)); output = rose; disk = λ e. absurd (omega (arith, e, s)); told = λ r. absurd (no_rise pairs is r) };
-    },
-  )
-  all (Err run_fault.Memory) is p s = (
-    fault_line run_fault.Memory,
-    wrote_all (fault_line run_fault.Memory) (status ≡ 5) was now first p (λ e. omega (arith, e, s)) was_is,
-    record {
-      done = λ e. absurd (omega (arith, e, s));
-      memory = λ e. refl;
-      failed = λ e. absurd (omega (arith, e, s));
-      damaged = λ e. absurd (omega (arith, e, s));
-      cut_short = λ e. absurd (omega (arith, e, s));
-      others = inr (inl s);
-      faults = record { source = λ e. absurd (omega (arith, e, s)); output = rose; disk = λ e. absurd (omega (arith, e, s)); told = λ r. inl s };
-    },
-  )
-  all (Err run_fault.Disk) is p s = (
-    fault_line run_fault.Disk,
-    wrote_all (fault_line run_fault.Disk) (status ≡ 5) was now first p (λ e. omega (arith, e, s)) was_is,
-    record {
-      done = λ e. absurd (omega (arith, e, s));
-      memory = λ e. absurd (omega (arith, e, s));
-      failed = λ e. refl;
-      damaged = λ e. absurd (omega (arith, e, s));
-      cut_short = λ e. absurd (omega (arith, e, s));
-      others = inr (inr (inr (inl s)));
-      faults = record { source = λ e. absurd (omega (arith, e, s)); output = rose; disk = λ e. of_fault run_fault.Disk is; told = λ r. inr (inr s) };
-    },
-  )
-  all (Err (run_fault.Damaged what)) is p s = (
-    fault_line (run_fault.Damaged what),
-    wrote_all (fault_line (run_fault.Damaged what)) (status ≡ 5) was now first p (λ e. omega (arith, e, s)) was_is,
-    record {
-      done = λ e. absurd (omega (arith, e, s));
-      memory = λ e. absurd (omega (arith, e, s));
-      failed = λ e. absurd (omega (arith, e, s));
-      damaged = λ e. (what, of_fault (run_fault.Damaged what) is, refl);
-      cut_short = λ e. absurd (omega (arith, e, s));
-      others = inr (inr (inr (inr (inl s))));
-      faults = record { source = λ e. absurd (omega (arith, e, s)); output = rose; disk = λ e. absurd (omega (arith, e, s)); told = λ r. absurd (no_rise_damaged what is r) };
-    },
-  )
-
-  printed : (found : Result (List Pair) RunFault) → IsFound found → Prints found status was now → Printed
-  printed found is prints = by prints.status_is
-    where
-      by : (status ≡ 5) ⊎ (status ≡ status_of found) → Printed
-      by (inl five) = cut found is prints.puts five
-      by (inr s) = all found is prints.puts s
 
 -- ---- the disk, whatever was found
 
@@ -225,10 +119,10 @@ pub dumps_well : (output : ℕ × ℕ) (old new : Disk) (status : ℕ) (was now 
 dumps_well output old new status was now rose ends = record {
   holds = λ source first before e rows was_is is_before shows sound.
       let same = still old new ends.found ends.is_found in
-      let p = printed (return_of old new source output before before) (λ what. ⊥) (λ text. text ≡ dump (map_of rows)) (FindsDump old new) status was now first was_is
+      let p = printed (List Pair) dump (return_of old new source output before before) (λ what. ⊥) (λ text. text ≡ dump (map_of rows)) (FindsDump old new) status was now first was_is
       (λ pairs f. sound_text old new before is_before e rows shows pairs f)
       (λ fault f. fault_may old new before is_before source output (λ what. ⊥) (λ what h. unsound old new before is_before what h e rows shows sound) fault f)
-      (λ pairs f r. none_rose old new pairs f r) (λ what f r. none_rose_damaged old new what f r) rose ends.found ends.is_found ends.prints in
+      (λ pairs f r. none_rose old new pairs f r) (λ what f r. none_rose_damaged old new what f r) rose ends.found ends.is_found ends.prints.status_is ends.prints.puts in
       (before, same ∙ is_before, p.0, p.1, record { disk = same; printed = p.2 });
 }
 
@@ -251,10 +145,10 @@ pub dumps_any : (output : ℕ × ℕ) (old new : Disk) (status : ℕ) (was now :
 dumps_any output old new status was now rose ends = record {
   holds = λ source first before was_is is_before.
       let same = still old new ends.found ends.is_found in
-      let p = printed (return_of old new source output before before) (IsDamage old.region_len before.bytes (IsDamageOf old.region_len before.bytes)) (AnyText old new before is_before) (FindsDump old new) status was now first was_is
+      let p = printed (List Pair) dump (return_of old new source output before before) (IsDamage old.region_len before.bytes (IsDamageOf old.region_len before.bytes)) (AnyText old new before is_before) (FindsDump old new) status was now first was_is
       (λ pairs f. any_text old new before is_before pairs f)
       (λ fault f. fault_may old new before is_before source output (IsDamage old.region_len before.bytes (IsDamageOf old.region_len before.bytes)) (λ what h. any_damage old new before is_before what h) fault f)
-      (λ pairs f r. none_rose old new pairs f r) (λ what f r. none_rose_damaged old new what f r) rose ends.found ends.is_found ends.prints in
+      (λ pairs f r. none_rose old new pairs f r) (λ what f r. none_rose_damaged old new what f r) rose ends.found ends.is_found ends.prints.status_is ends.prints.puts in
       (before, same ∙ is_before, p.0, p.1, record { disk = same; unsound = λ seven. unsound_log old new status was now ends seven before is_before; printed = p.2 });
 }
 

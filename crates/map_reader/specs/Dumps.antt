@@ -10,7 +10,7 @@ use Rattle.fine_model.specs.Commands.{DumpDamagedTheorem, DumpTheorem}
 use Rattle.fine_model.specs.Damages.{IsUnsound}
 use Rattle.fine_model.specs.Map.{Pair}
 use Rattle.fine_model.specs.Regions.{Image}
-use Rattle.fine_model.specs.Report.{dump, fault_line}
+use Rattle.fine_model.specs.Report.{dump}
 use Rattle.fine_model.specs.Trees.{IsSound}
 use Rattle.run_laws.specs.Law.{return_of, start_of}
 use Rattle.reopen.specs.Opening.{IsSeen, OpensRoom}
@@ -18,7 +18,7 @@ use Rattle.script_text.specs.Streams.{Puts}
 use Rattle.epoch_room.specs.Meaning.{StandsAtFirst}
 use Rattle.epoch_room.specs.Value.{RoomValue}
 use Rattle.epoch_room.specs.Whole.{IsWhole}
-use Rattle.log_commands.specs.Ends.{fault_status}
+use Rattle.log_commands.specs.Ends.{status_of, text_by}
 use Rattle.map_reader.specs.Maps.{AnswersRows, ReadsMap, tells_room}
 
 -- ---- what was found
@@ -55,13 +55,7 @@ FindsDump old new found = ReadsLog old new found ⊎ FailsOpening old new found
 
 -- the text of what was found: the pairs', or the line of a fault
 abbrev pub text_of : Result (List Pair) RunFault → List ℕ
-text_of (Ok pairs) = dump pairs
-text_of (Err fault) = fault_line fault
-
--- the status of what was found, where its text was written
-abbrev pub status_of : Result (List Pair) RunFault → ℕ
-status_of (Ok pairs) = 0
-status_of (Err fault) = fault_status fault
+text_of found = text_by dump found
 
 -- What was found was printed: the whole text was written and the status is its own, or the output failed, a first part of the text was written, and the status is 5.
 pub record Prints (found : Result (List Pair) RunFault) (status : ℕ) (was now : Option (List ℕ)) : Type 0 where

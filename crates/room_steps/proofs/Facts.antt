@@ -14,9 +14,11 @@ use Rattle.epoch_room.proofs.Counting.{sealed_most}
 use Rattle.room_shelf.specs.Shelves.{IsCountOf, IsShelf, ShelfValue, count_of, total}
 use Rattle.run_laws.specs.Going.{StaysOn}
 use Rattle.run_laws.proofs.Going.{later_law, stays_law}
+use Rattle.room_steps.specs.Made.{MadeOn}
 use Rattle.room_steps.specs.Merging.{TakesView}
 use Rattle.run_laws.specs.Needs.{IsSealed, Unsealed}
 use Rattle.room_steps.specs.Steps.{FaultOf, HasFailed, IsWell, Leaves, NoneFailed, WasShut}
+use Rattle.room_steps.proofs.MadeOn.{made_itself, made_on, made_same}
 
 -- ---- what is left
 
@@ -30,6 +32,7 @@ leaves_itself s on_shelf whole none = record {
   most = sealed_most s.room whole;
   becomes = becomes_itself s.room.room;
   goes_on = λ entry history g. g;
+  made = made_itself s.room;
 }
 
 pub leaves_on : (a b c : ShelfValue) → Leaves a b → Leaves b c → Leaves a c
@@ -42,11 +45,12 @@ leaves_on a b c p q = record {
   most = q.most;
   becomes = becomes_on a.room.room b.room.room c.room.room p.becomes q.becomes;
   goes_on = λ entry history g. q.goes_on entry history (p.goes_on entry history g);
+  made = made_on a.room b.room c.room p.becomes.region_len p.becomes.told p.made q.made;
 }
 
 -- where nothing was added or sealed
-pub leaves_staying : (old new : ShelfValue) → StaysOn old.room new.room → old.room.room.job ≡ None → IsShelf new.room.room new.view → IsWhole new.room → Leaves old new
-leaves_staying old new stays none on_shelf whole = record {
+pub leaves_staying : (old new : ShelfValue) → StaysOn old.room new.room → MadeOn old.room new.room → old.room.room.job ≡ None → IsShelf new.room.room new.view → IsWhole new.room → Leaves old new
+leaves_staying old new stays made none on_shelf whole = record {
   shelf = on_shelf;
   whole = whole;
   no_job = stays.job ∙ none;
@@ -55,6 +59,7 @@ leaves_staying old new stays none on_shelf whole = record {
   most = sealed_most new.room whole;
   becomes = stays.becomes;
   goes_on = λ entry history g. stays_law entry old.room new.room history g whole stays;
+  made = made;
 }
 
 pub unsealed_itself : (room : RoomState) → Unsealed room room
@@ -141,7 +146,7 @@ pub record Rested (old new : ShelfValue) : Type 0 where
 
 pub rested : (old new : ShelfValue) → TakesView old new → IsShelf old.room.room old.view → old.room.room.job ≡ None → IsWhole new.room → Rested old new
 rested old new t on_shelf none whole = record {
-  leaves = leaves_staying old new stays none (subst (λ v. IsShelf new.room.room v) (sym t.none) t.rests.board) whole;
+  leaves = leaves_staying old new stays seen none (subst (λ v. IsShelf new.room.room v) (sym t.none) t.rests.board) whole;
   unsealed = record { sealed = stays.sealed; waiting = stays.waiting; used = ap (λ (r : RoomState). r.used) t.rests.later.room };
   none_failed = record { count = subst (IsCountOf (total old)) (sym (total_none new t.none)) t.rests.count; own = t.rests.own; shut = t.rests.shut };
   none = t.none;
@@ -152,6 +157,10 @@ rested old new t on_shelf none whole = record {
   where
     stays : StaysOn old.room new.room
     stays = later_law old.room new.room old.view None t.rests.later
+
+    seen : MadeOn old.room new.room
+    seen =
+        made_same old.room new.room (ap (λ (r : RoomState). r.open_rows) t.rests.later.room) (ap (λ (r : RoomState). r.image) t.rests.later.room) (ap (λ (r : RoomState). r.parts) t.rests.later.room)
 
 -- a room that was shut is as it was
 pub was_shut : (old mid new : ShelfValue) → Rested old mid → mid.room.room.is_shut ≡ true → new ≡ mid → WasShut old new

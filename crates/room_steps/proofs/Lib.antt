@@ -4,3 +4,7 @@ pub mod Merges
 pub mod Rooms
 pub mod Seals
 pub mod Telling
+pub mod JoinedMade
+pub mod Stepping
+pub mod MadeOn
+pub mod SealedMade

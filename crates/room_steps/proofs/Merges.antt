@@ -1,6 +1,6 @@
 -- Merging neighbours between transactions.
 use Rattle.std.proofs.Common.{◌≡◌, ◌∙◌, ℕ, zero, suc, ◌≤◌, Bool, true, false, List, [], ◌∷◌, length, inl, inr, Option, Some, None, Ok, Err, refl, sym, ap, subst, arith, append-nil}
-use Rattle.std.specs.Prelude.{◌⊎◌, Contains, nat_le}
+use Rattle.std.specs.Prelude.{◌⊎◌, Contains, Result, nat_le}
 use Rattle.std.specs.List.{AllByRecursion, list_all}
 use Rattle.std.proofs.lemmas.List.Elements.{Contains-append_right}
 use Rattle.fine_model.specs.declared.Damage.TheVariants as damage
@@ -35,6 +35,8 @@ use Rattle.room_steps.specs.Laws.{MergesStay}
 use Rattle.room_steps.specs.Merging.{FreeOr, Frees, IsMerging, IsTidying, MergesOne, of_merge}
 use Rattle.run_laws.specs.Needs.{Unsealed}
 use Rattle.room_steps.specs.Steps.{FaultOf, IsNamed, IsWell, Leaves, NamesPlace, NoneFailed, Tidies, space_of}
+use Rattle.room_steps.proofs.MadeOn.{made_none}
+use Rattle.room_steps.proofs.Stepping.{near_lives}
 use Rattle.room_steps.proofs.Facts.{Rested, failed_on, fault_on, has_failed, leaves_itself, leaves_on, leaves_staying, none_failed_itself, unsealed_itself, unsealed_on, was_shut, well_counts, well_on}
 
 -- ---- the rows of one part
@@ -58,7 +60,7 @@ own_told told region_len parts p rows t there =
 -- ---- what a read was refused for
 
 -- the live parts tell no rows, where a read of two of them was refused that would not have been of told ones
-tells_none : (before new : RoomValue) (fault : FetchFault) (refused : IsReadRefused before new fault) → OfTold refused.view refused.blames.two.0 refused.blames.two.1 (λ a b. ⊥) → TellsNone (shelf new None)
+pub tells_none : (before new : RoomValue) (fault : FetchFault) (refused : IsReadRefused before new fault) → OfTold refused.view refused.blames.two.0 refused.blames.two.1 (λ a b. ⊥) → TellsNone (shelf new None)
 tells_none before new fault refused none rows tells =
     let a = own_told new.room.image new.room.region_len new.room.parts refused.blames.two.0 rows tells older in
     let b = own_told new.room.image new.room.region_len new.room.parts refused.blames.two.1 rows tells newer in
@@ -119,10 +121,11 @@ module _ (old mid new : ShelfValue) (r : Rested old mid) (none : new.view ≡ No
   stays : KeepsRest mid.room new.room → StaysOn mid.room new.room
   stays k = merges_stay mid.room new.room r.leaves.no_job k
 
-  merge_leaves : KeepsRest mid.room new.room → Leaves old new
-  merge_leaves k =
+  merge_leaves : (from : ℕ) (result : Result Bool MergeFault) → MergesNear from mid.room new.room result → Leaves old new
+  merge_leaves from result m =
+      let k = m.rest in
       leaves_on old mid new r.leaves
-      (leaves_staying mid new (stays k) r.leaves.no_job (subst (λ v. IsShelf new.room.room v) (sym none) (subst (λ (board : List Buffer). list_all is_empty board ≡ true) (sym k.board) r.board)) whole)
+      (leaves_staying mid new (stays k) (made_none mid.room new.room k.open_rows (near_lives mid.room new.room r.leaves.whole whole from result m)) r.leaves.no_job (subst (λ v. IsShelf new.room.room v) (sym none) (subst (λ (board : List Buffer). list_all is_empty board ≡ true) (sym k.board) r.board)) whole)
 
   merge_unsealed : KeepsRest mid.room new.room → Unsealed old.room.room new.room.room
   merge_unsealed k = unsealed_on old.room.room mid.room.room new.room.room r.unsealed (record { sealed = k.sealed; waiting = k.waiting; used = k.used })
@@ -134,7 +137,7 @@ module _ (old mid new : ShelfValue) (r : Rested old mid) (none : new.view ≡ No
 
   pub merged_one : (from : ℕ) (merged : Bool) → MergesNear from mid.room new.room (Ok merged) → MergesOne old new (Ok merged)
   merged_one from true m = record {
-    leaves = merge_leaves m.rest;
+    leaves = merge_leaves from _ m;
     unsealed = merge_unsealed m.rest;
     merge = (
       well_on old mid new r.none_failed (well_counts mid new r.none none m.near.0.counts m.near.0.opened m.near.0.stays),
@@ -142,7 +145,7 @@ module _ (old mid new : ShelfValue) (r : Rested old mid) (none : new.view ≡ No
     );
   }
   merged_one from false m = record {
-    leaves = merge_leaves m.rest;
+    leaves = merge_leaves from _ m;
     unsealed = merge_unsealed m.rest;
     merge = (
       well_on old mid new r.none_failed (well_counts mid new r.none none m.near.0.counts m.near.0.opened m.near.0.stays),
@@ -152,37 +155,37 @@ module _ (old mid new : ShelfValue) (r : Rested old mid) (none : new.view ≡ No
 
   pub merge_refused : (from : ℕ) (fault : MergeFault) → MergesNear from mid.room new.room (Err fault) → (new.room ≡ mid.room → new ≡ mid) → MergesOne old new (Err (of_merge fault))
   merge_refused from (merge_fault.Room room_fault.Disk) m same = record {
-    leaves = merge_leaves m.rest;
+    leaves = merge_leaves from _ m;
     unsealed = merge_unsealed m.rest;
     merge = inr (failed_on old mid new r.none_failed (has_failed mid new r.none none m.near.0.fails.faults m.near.0.fails.no_lower.0 m.near.0.fails.no_lower.1));
   }
   merge_refused from (merge_fault.Room (room_fault.Shut epoch)) m same = record {
-    leaves = merge_leaves m.rest;
+    leaves = merge_leaves from _ m;
     unsealed = merge_unsealed m.rest;
     merge = inl (was_shut old mid new r m.near.0 (same m.near.2));
   }
   merge_refused from (merge_fault.Room room_fault.NoMemory) m same = record {
-    leaves = merge_leaves m.rest;
+    leaves = merge_leaves from _ m;
     unsealed = merge_unsealed m.rest;
     merge = well_on old mid new r.none_failed (well_counts mid new r.none none m.near.0.counts m.near.0.opened m.near.0.stays);
   }
   merge_refused from (merge_fault.Fetch fetch_fault.Failed) m same = record {
-    leaves = merge_leaves m.rest;
+    leaves = merge_leaves from _ m;
     unsealed = merge_unsealed m.rest;
     merge = inr (failed_on old mid new r.none_failed (has_failed mid new r.none none (m.near.0.rises refl) m.near.0.no_lower (let e = m.near.0.own_faults in omega (arith, e))));
   }
   merge_refused from (merge_fault.Fetch (fetch_fault.BadRow region at)) m same = record {
-    leaves = merge_leaves m.rest;
+    leaves = merge_leaves from _ m;
     unsealed = merge_unsealed m.rest;
     merge = (refused_well (fetch_fault.BadRow region at) m.near.0 (λ e. absurd (let x = e in cc)), bad_row mid.room new.room region at m.near.0);
   }
   merge_refused from (merge_fault.Fetch (fetch_fault.BadIndex region at)) m same = record {
-    leaves = merge_leaves m.rest;
+    leaves = merge_leaves from _ m;
     unsealed = merge_unsealed m.rest;
     merge = (refused_well (fetch_fault.BadIndex region at) m.near.0 (λ e. absurd (let x = e in cc)), bad_index mid.room new.room region at m.near.0);
   }
   merge_refused from (merge_fault.Fetch fetch_fault.NoMemory) m same = record {
-    leaves = merge_leaves m.rest;
+    leaves = merge_leaves from _ m;
     unsealed = merge_unsealed m.rest;
     merge = refused_well fetch_fault.NoMemory m.near.0 (λ e. absurd (let x = e in cc));
   }

@@ -1,11 +1,12 @@
 -- Sealing what waits.
 use Rattle.std.proofs.Common.{◌≡◌, ◌∙◌, ℕ, ◌+◌, ◌≤◌, true, List, inl, inr, None, Ok, Err, refl, sym, ap, subst}
-use Rattle.std.specs.Prelude.{Result}
+use Rattle.std.specs.Prelude.{OnOk, Result, option_to_list}
 use Rattle.std.specs.List.{list_all}
 use Rattle.fine_model.specs.declared.law.RoomState.{RoomState}
 use Rattle.fine_model.specs.Boards.{Buffer, is_empty}
 use Rattle.fine_model.specs.Jobs.{KeepsJob}
-use Rattle.epoch_room.specs.Meaning.{Keeps}
+use Rattle.epoch_room.specs.Gate.{KeepsBeside}
+use Rattle.epoch_room.specs.Meaning.{HoldsEpoch, Keeps}
 use Rattle.epoch_room.specs.Steps.{SealsOr as RoomSealsOr, sealed_state}
 use Rattle.epoch_room.specs.Value.{RoomValue}
 use Rattle.epoch_room.specs.Whole.{IsWhole}
@@ -14,7 +15,10 @@ use Rattle.epoch_room.specs.declared.answers.RoomFault.TheVariants as room_fault
 use Rattle.epoch_room.proofs.Counting.{sealed_most}
 use Rattle.room_shelf.specs.Shelves.{IsShelf, ShelfValue}
 use Rattle.run_laws.proofs.Going.{seals_law}
+use Rattle.room_steps.specs.Made.{MadeOn}
 use Rattle.room_steps.specs.Merging.{of_room}
+use Rattle.room_steps.proofs.MadeOn.{made_same}
+use Rattle.room_steps.proofs.SealedMade.{kept_made, seal_made}
 use Rattle.run_laws.specs.Needs.{Unsealed}
 use Rattle.room_steps.specs.Steps.{Leaves, SealsWaiting}
 use Rattle.room_steps.proofs.Facts.{Rested, has_failed, leaves_on, on_sealed, unsealed_on, was_shut, well_counts, well_on, failed_on}
@@ -52,12 +56,23 @@ beside old new (Err (room_fault.Shut epoch)) s =
     let same = s.2 in record { board = ap (λ (v : RoomValue). v.room.board) same; entry = ap (λ (v : RoomValue). v.entry) same; places = ap (λ (v : RoomValue). v.room.places) same }
 beside old new (Err room_fault.NoMemory) s = let steps = s.1 in record { board = ap (λ (r : RoomState). r.board) steps.room; entry = steps.entry; places = ap (λ (r : RoomState). r.places) steps.room }
 
-module _ (old mid new : ShelfValue) (r : Rested old mid) (some : 1 ≤ old.room.room.waiting) (none : new.view ≡ None) (whole : IsWhole new.room) (keeps : Keeps mid.room new.room) (job : KeepsJob mid.room.room new.room.room) where
+module _ (old mid new : ShelfValue) (r : Rested old mid) (some : 1 ≤ old.room.room.waiting) (none : new.view ≡ None) (whole : IsWhole new.room) (keeps : Keeps mid.room new.room) (job : KeepsJob mid.room.room new.room.room)
+    (read : KeepsBeside (option_to_list mid.room.target) mid.room.disk new.room.disk) where
   some_wait : 1 ≤ mid.room.room.waiting
   some_wait = subst (λ n. 1 ≤ n) (sym r.unsealed.waiting) some
 
-  seal_leaves : (result : Result ℕ RoomFault) → RoomSealsOr mid.room new.room result → Leaves mid new
-  seal_leaves result s =
+  -- what the live parts are made of
+  makes : (result : Result ℕ RoomFault) → RoomSealsOr mid.room new.room result → OnOk result (HoldsEpoch mid.room new.room) → MadeOn mid.room new.room
+  makes (Ok epoch) s holds = seal_made mid.room new.room r.leaves.whole whole some_wait epoch s read holds
+  makes (Err room_fault.Disk) s holds =
+      kept_made mid.room new.room r.leaves.whole whole s.0 s.1.regions read (ap (λ (x : RoomState). x.open_rows) s.1.room) (ap (λ (x : RoomState). x.parts) s.1.room)
+  makes (Err (room_fault.Shut epoch)) s holds =
+      made_same mid.room new.room (ap (λ (v : RoomValue). v.room.open_rows) s.2) (ap (λ (v : RoomValue). v.room.image) s.2) (ap (λ (v : RoomValue). v.room.parts) s.2)
+  makes (Err room_fault.NoMemory) s holds =
+      kept_made mid.room new.room r.leaves.whole whole s.0 s.1.regions read (ap (λ (x : RoomState). x.open_rows) s.1.room) (ap (λ (x : RoomState). x.parts) s.1.room)
+
+  seal_leaves : (result : Result ℕ RoomFault) → RoomSealsOr mid.room new.room result → OnOk result (HoldsEpoch mid.room new.room) → Leaves mid new
+  seal_leaves result s holds =
       let b = beside mid.room new.room result s in record {
         shelf = subst (λ v. IsShelf new.room.room v) (sym none) (subst (λ (board : List Buffer). list_all is_empty board ≡ true) (sym b.board) r.board);
         whole = whole;
@@ -67,11 +82,12 @@ module _ (old mid new : ShelfValue) (r : Rested old mid) (some : 1 ≤ old.room.
         most = sealed_most new.room whole;
         becomes = keeps.becomes;
         goes_on = λ entry history g. seals_law entry mid.room new.room history result g whole some_wait s keeps job.job;
+        made = makes result s holds;
       }
 
-  pub sealed_ok : (epoch : ℕ) → RoomSealsOr mid.room new.room (Ok epoch) → SealsWaiting old new (Ok epoch)
-  sealed_ok epoch s = record {
-    leaves = leaves_on old mid new r.leaves (seal_leaves (Ok epoch) s);
+  pub sealed_ok : (epoch : ℕ) → RoomSealsOr mid.room new.room (Ok epoch) → HoldsEpoch mid.room new.room → SealsWaiting old new (Ok epoch)
+  sealed_ok epoch s holds = record {
+    leaves = leaves_on old mid new r.leaves (seal_leaves (Ok epoch) s holds);
     rested = none;
     seals = (
       well_on old mid new r.none_failed (well_counts mid new r.none none s.2.2 s.2.0 (ap (λ (x : RoomState). x.is_shut) s.2.1.room ∙ sealed_shut mid.room ∙ s.2.0)),
@@ -88,7 +104,7 @@ module _ (old mid new : ShelfValue) (r : Rested old mid) (some : 1 ≤ old.room.
 
   pub sealed_err : (fault : RoomFault) → RoomSealsOr mid.room new.room (Err fault) → (new.room ≡ mid.room → new ≡ mid) → SealsWaiting old new (Err (of_room fault))
   sealed_err room_fault.Disk s same = record {
-    leaves = leaves_on old mid new r.leaves (seal_leaves (Err room_fault.Disk) s);
+    leaves = leaves_on old mid new r.leaves (seal_leaves (Err room_fault.Disk) s tt);
     rested = none;
     seals = (
       inr (failed_on old mid new r.none_failed (has_failed mid new r.none none s.2.faults s.2.no_lower.0 s.2.no_lower.1)),
@@ -97,7 +113,7 @@ module _ (old mid new : ShelfValue) (r : Rested old mid) (some : 1 ≤ old.room.
     );
   }
   sealed_err (room_fault.Shut epoch) s same = record {
-    leaves = leaves_on old mid new r.leaves (seal_leaves (Err (room_fault.Shut epoch)) s);
+    leaves = leaves_on old mid new r.leaves (seal_leaves (Err (room_fault.Shut epoch)) s tt);
     rested = none;
     seals = (
       inl (was_shut old mid new r s.0 (same s.2)),
@@ -106,7 +122,7 @@ module _ (old mid new : ShelfValue) (r : Rested old mid) (some : 1 ≤ old.room.
     );
   }
   sealed_err room_fault.NoMemory s same = record {
-    leaves = leaves_on old mid new r.leaves (seal_leaves (Err room_fault.NoMemory) s);
+    leaves = leaves_on old mid new r.leaves (seal_leaves (Err room_fault.NoMemory) s tt);
     rested = none;
     seals = (
       well_on old mid new r.none_failed (well_counts mid new r.none none s.2 s.0 (ap (λ (x : RoomState). x.is_shut) s.1.room ∙ s.0)),

@@ -1,3 +1,4 @@
 pub mod Steps
 pub mod Merging
 pub mod Laws
+pub mod Made

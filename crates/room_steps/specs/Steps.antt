@@ -25,10 +25,11 @@ use Rattle.room_shelf.specs.Shelves.{IsCountOf, IsShelf, ShelfValue, total}
 use Rattle.run_laws.specs.Needs.{HasNoRegion, IsSealed, Unsealed}
 use Rattle.run_laws.specs.Runs.{OfSound}
 use Rattle.run_laws.specs.SoFar.{GoesOn}
+use Rattle.room_steps.specs.Made.{MadeOn}
 
 -- ---- what each step leaves, whatever it answers
 
--- At most the view is out, and no merge is. No entry was added, and the run goes on with all that was committed.
+-- At most the view is out, and no merge is. No entry was added, and the run goes on with all that was committed. The live parts are made of those that were, and of the epochs that were sealed.
 pub record Leaves (old new : ShelfValue) : Type 0 where
   pub shelf : IsShelf new.room.room new.view
   pub whole : IsWhole new.room
@@ -38,6 +39,7 @@ pub record Leaves (old new : ShelfValue) : Type 0 where
   pub most : new.room.room.sealed ≤ greatest
   pub becomes : Becomes old.room.room new.room.room
   pub goes_on : (entry : RoomValue) (history : List Commit) → GoesOn entry old.room history → GoesOn entry new.room history
+  pub made : MadeOn old.room new.room
 
 -- ---- faults
 

@@ -4,11 +4,16 @@ use Rattle.fine_model.specs.declared.RunFault.{RunFault}
 use Rattle.epoch_room.specs.declared.answers.Counts.{Counts}
 use Rattle.room_shelf.specs.Shelves.{shelf}
 use Rattle.room_steps.specs.Merging.{MergesOne}
-use Rattle.room_steps.proofs.Merges.{counts_free, free_failed, freed, merging_itself, none_freed}
+use Rattle.room_steps.proofs.Merges.{counts_free, free_failed, freed, merging_itself, merging_on, none_freed}
 use Rattle.room_steps.proofs.merging.free_region.Goals as goal
 
 pub loop-alloc-init : goal.loop-alloc-init
 loop-alloc-init g c = merging_itself (shelf c.args.room.now c.args.out.now) c.requires.shelf c.counts-counts.ensures.whole c.requires.no_job
+
+pub loop-alloc-preserved : goal.loop-alloc-preserved
+loop-alloc-preserved g c =
+    merging_on (shelf c.args.room.now c.args.out.now) (shelf c.loop-alloc.room c.loop-alloc.out) (shelf c.merge_one.new.room c.merge_one.new.out) c.loop-alloc.invariant
+    (subst (λ (r : Result Bool RunFault). MergesOne (shelf c.loop-alloc.room c.loop-alloc.out) (shelf c.merge_one.new.room c.merge_one.new.out) r) (c.in-Ok.is ∙ ap (λ b. Ok b) c.if-not-merged.false) c.merge_one.ensures)
 
 pub returns-then-not-merged : goal.returns-then-not-merged
 returns-then-not-merged g c =

@@ -1,4 +1,6 @@
 use Rattle.std.proofs.Common.{ℕ, Err, Result, ap, subst, sym}
+use Rattle.std.specs.Prelude.{OnOk}
+use Rattle.epoch_room.specs.Meaning.{HoldsEpoch}
 use Rattle.fine_model.specs.declared.RunFault.{RunFault}
 use Rattle.epoch_room.specs.Steps.{SealsOr}
 use Rattle.epoch_room.specs.declared.answers.RoomFault.{RoomFault}
@@ -13,8 +15,9 @@ returns-in-Ok g c =
     let old = shelf c.args.room.now c.args.out.now in
     let mid = shelf c.take_view.new.room c.take_view.new.out in
     sealed_ok old mid (shelf c.seal-sealed.new.self c.take_view.new.out) (rested old mid c.take_view.ensures c.requires.shelf c.requires.no_job c.counts-rested.ensures.whole) c.requires.waiting c.take_view.ensures.none
-    c.counts-sealed.ensures.whole c.seal-sealed.ensures.keeps c.seal-sealed.ensures.job c.in-Ok.epoch
+    c.counts-sealed.ensures.whole c.seal-sealed.ensures.keeps c.seal-sealed.ensures.job c.seal-sealed.ensures.read c.in-Ok.epoch
     (subst (λ (r : Result ℕ RoomFault). SealsOr c.take_view.new.room c.seal-sealed.new.self r) c.in-Ok.is c.seal-sealed.ensures.room)
+    (subst (λ (r : Result ℕ RoomFault). OnOk r (HoldsEpoch c.take_view.new.room c.seal-sealed.new.self)) c.in-Ok.is c.seal-sealed.ensures.body)
 
 pub returns-in-Err : goal.returns-in-Err
 returns-in-Err g c =
@@ -23,6 +26,6 @@ returns-in-Err g c =
     let new = shelf c.seal-sealed.new.self c.take_view.new.out in
     subst (λ (f : RunFault). SealsWaiting old new (Err f)) (sym c.of_room.ensures)
     (sealed_err old mid new (rested old mid c.take_view.ensures c.requires.shelf c.requires.no_job c.counts-rested.ensures.whole) c.requires.waiting c.take_view.ensures.none c.counts-sealed.ensures.whole
-    c.seal-sealed.ensures.keeps c.seal-sealed.ensures.job c.in-Err.fault
+    c.seal-sealed.ensures.keeps c.seal-sealed.ensures.job c.seal-sealed.ensures.read c.in-Err.fault
     (subst (λ (r : Result ℕ RoomFault). SealsOr c.take_view.new.room c.seal-sealed.new.self r) c.in-Err.is c.seal-sealed.ensures.room)
     (λ e. ap (λ v. shelf v c.take_view.new.out) e))

@@ -1,5 +1,5 @@
 -- What the parts behind a merge are made of, by the bytes of an earlier moment.
-use Rattle.std.proofs.Common.{◌≡◌, ◌∙◌, ℕ, List, [], ◌∷◌, ◌++◌, map, refl, sym, ap, subst, arith, append_assoc}
+use Rattle.std.proofs.Common.{◌≡◌, ◌⊎◌, ◌∙◌, inl, inr, ℕ, List, [], ◌∷◌, ◌++◌, map, refl, sym, ap, subst, arith, append_assoc}
 use Rattle.std.specs.Prelude.{Contains, flat_map}
 use Rattle.std.specs.List.{AllByRecursion}
 use Rattle.std.proofs.lemmas.Grind.{flat_map-append}
@@ -7,9 +7,11 @@ use Rattle.std.proofs.lemmas.List.{map-append}
 use Rattle.std.proofs.lemmas.List.Elements.{Contains-append_right}
 use Rattle.fine_model.specs.declared.Part.{Part}
 use Rattle.fine_model.specs.declared.Row.{Row}
-use Rattle.fine_model.specs.Regions.{Image}
+use Rattle.fine_model.specs.Chain.{regions_of}
+use Rattle.fine_model.specs.Regions.{Image, region_of}
+use Rattle.fine_model.proofs.Owning.{own_law}
 use Rattle.damage_laws.specs.Made.{AreMadeOf, IsMadeOf, Made, Source, at_entry, joined, one, sources}
-use Rattle.damage_laws.specs.Places.{IsUnchanged}
+use Rattle.damage_laws.specs.Places.{AreKeptOrGood, IsGood, IsKept, IsUnchanged}
 use Rattle.damage_laws.proofs.Kept.{found_law}
 use Rattle.damage_laws.proofs.MergedFinds.{kept_law}
 
@@ -25,6 +27,41 @@ all_still region_len entry first last (m ∷ made) same all = (
   still_made region_len entry first last m.0 m.1 (same m.1 (0, omega arith, refl)) all.0,
   all_still region_len entry first last made (λ p there. same p (Contains-append_right (m.1 ∷ []) (map (λ m. m.1) made) p there)) all.1,
 )
+
+-- one that was kept, or is in the grammar, is so still
+still_good : (region_len : ℕ) (entry first last : Image) (parts : List Part) (p : Part) → IsUnchanged region_len first last p → IsKept region_len entry first parts p ⊎ IsGood region_len first p → IsKept region_len entry last parts p ⊎ IsGood region_len last p
+still_good region_len entry first last parts p u (inl kept) = inl (record {
+  there = kept.there;
+  unchanged = record { header = kept.unchanged.header; same = record { as_many = u.same.as_many ∙ kept.unchanged.same.as_many; same = both (regions_of p) kept.unchanged.same.same u.same.same } };
+})
+  where
+    both : (rs : List ℕ) → AllByRecursion (λ r. region_of first r ≡ region_of entry r) rs → AllByRecursion (λ r. region_of last r ≡ region_of first r) rs → AllByRecursion (λ r. region_of last r ≡ region_of entry r) rs
+    both [] a b = tt
+    both (r ∷ rs) a b = (b.0 ∙ a.0, both rs a.1 b.1)
+still_good region_len entry first last parts p u (inr good) =
+    let alike = own_law region_len first last p u.same u.header in inr (record { header = alike.header good.header; rows = good.rows; sealed = alike.rows good.rows good.sealed })
+
+pub all_good : (region_len : ℕ) (entry first last : Image) (parts present : List Part) → ((p : Part) → Contains present p → IsUnchanged region_len first last p) → AreKeptOrGood region_len entry first parts present
+    → AreKeptOrGood region_len entry last parts present
+all_good region_len entry first last parts [] same all = tt
+all_good region_len entry first last parts (p ∷ present) same all = (
+  still_good region_len entry first last parts p (same p (0, omega arith, refl)) all.0,
+  all_good region_len entry first last parts present (λ q there. same q (Contains-append_right (p ∷ []) present q there)) all.1,
+)
+
+-- two neighbours are one part that is in the grammar, and the others have the bytes that they had
+pub merge_good : (region_len : ℕ) (entry first last : Image) (parts before : List Part) (older newer p : Part) (after : List Part) → ((q : Part) → Contains before q → IsUnchanged region_len first last q)
+    → ((q : Part) → Contains after q → IsUnchanged region_len first last q) → IsGood region_len last p → AreKeptOrGood region_len entry first parts (before ++ older ∷ newer ∷ after) → AreKeptOrGood region_len entry last parts (before ++ p ∷ after)
+merge_good region_len entry first last parts [] older newer p after of_before of_after good all = (inr good, all_good region_len entry first last parts after of_after all.1.1)
+merge_good region_len entry first last parts (q ∷ before) older newer p after of_before of_after good all = (
+  still_good region_len entry first last parts q (of_before q (0, omega arith, refl)) all.0,
+  merge_good region_len entry first last parts before older newer p after (λ r there. of_before r (Contains-append_right (q ∷ []) before r there)) of_after good all.1,
+)
+
+-- one part more, which is in the grammar
+pub seal_good : (region_len : ℕ) (entry last : Image) (parts present : List Part) (p : Part) → IsGood region_len last p → AreKeptOrGood region_len entry last parts present → AreKeptOrGood region_len entry last parts (present ++ p ∷ [])
+seal_good region_len entry last parts [] p good all = (inr good, tt)
+seal_good region_len entry last parts (q ∷ present) p good all = (all.0, seal_good region_len entry last parts present p good all.1)
 
 -- ---- two that were merged
 

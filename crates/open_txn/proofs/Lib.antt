@@ -5,3 +5,6 @@ pub mod Opening
 pub mod Places
 pub mod Scanned
 pub mod Standing
+pub mod TraceLaws
+pub mod Traced
+pub mod WalkedThrough

@@ -1,5 +1,5 @@
 -- What the buckets stand for before the first transaction, and at the end of each.
-use Rattle.std.proofs.Common.{◌≡◌, ℕ, zero, suc, ◌<◌, ◌≤◌, Bool, true, false, List, [], ◌∷◌, ◌++◌, length, map, Option, Some, None, is_some, slice_get, nat_eq, refl, sym, ap, ◌∙◌, subst, arith}
+use Rattle.std.proofs.Common.{◌≡◌, ℕ, zero, suc, ◌<◌, ◌≤◌, Bool, true, false, List, [], ◌∷◌, ◌++◌, length, map, Option, Some, None, is_some, slice_get, nat_eq, refl, sym, ap, ◌∙◌, subst, arith, ◌⊎◌, inl, inr}
 use Rattle.std.specs.Prelude.{IfSome, All, if◌then◌else◌, option_map, unwrap_or}
 use Rattle.std.specs.List.{range_with_len}
 use Rattle.std.specs.Map.{lookup}
@@ -17,7 +17,7 @@ use Rattle.txn_draft.specs.Uses.{IsUsed}
 use Rattle.txn_draft.proofs.Lasting.{new_law, settle_law, undo_law}
 use Rattle.open_txn.specs.Buckets.{AreBuckets, BucketsValue, StandAll, new_bucket, none_touched}
 use Rattle.open_txn.specs.Endings.{EndEach}
-use Rattle.open_txn.specs.Opened.{EndsTouched, SettlesAll, UndoesAll}
+use Rattle.open_txn.specs.Opened.{EndsTouched, LeavesEach, SettlesAll, UndoesAll}
 
 -- ---- new buckets
 
@@ -110,6 +110,18 @@ module _ (f : Cache → Cache) (Left : Cache → Cache → Type 0) (v v' : Bucke
       same : (t : Bool) (b : Cache) → (if t then f b else b).bucket ≡ b.bucket
       same true b = number b
       same false b = refl
+
+  -- what is left of each bucket that was touched
+  pub left_each : (e : ℕ) (was : Cache → ℕ → Option Cached) → ((b z : Cache) → Left b z → IsLeft e (was b) b z) → LeavesEach e was v v'
+  left_each e was is_left k b is = let t = like v.buckets v.touched k b is (whole.many ∙ sym whole.flags) in by t.0 t.1
+    where
+      within : k < length v.buckets
+      within = slice_get_within v.buckets k b is
+
+      by : (t : Bool) → slice_get v.touched k ≡ Some t
+          → (z : Cache) × (slice_get v'.buckets k ≡ Some z) × (((slice_get v.touched k ≡ Some true) × IsLeft e (was b) b z) ⊎ ((slice_get v.touched k ≡ Some false) × (z ≡ b)))
+      by true flag = (f b, ended.each k b true within is flag, inl (flag, is_left b (f b) (ended.left k b within is flag)))
+      by false flag = (b, ended.each k b false within is flag, inr (flag, refl))
 
   -- what is left of a bucket, where one that is not touched rests
   left_of : (e : ℕ) (was : Cache → ℕ → Option Cached) (k : ℕ) (y : Cache) (w : WasAt f v k y) → ((b z : Cache) → Left b z → IsLeft e (was b) b z) → ((b : Cache) → IsResting b → (n : ℕ) → was b n ≡ cached b n)

@@ -16,6 +16,10 @@ pub record BucketsValue : Type 0 where
 abbrev pub EachBucket : (ℕ → Cache → Type 0) → BucketsValue → Type 0
 EachBucket P v = (k : ℕ) (b : Cache) → slice_get v.buckets k ≡ Some b → P k b
 
+-- P of each bucket before and behind, by its place; none is lost
+abbrev pub EachPair : (ℕ → Cache → Cache → Type 0) → BucketsValue → BucketsValue → Type 0
+EachPair P old new = (k : ℕ) (b : Cache) → slice_get old.buckets k ≡ Some b → (b' : Cache) × (slice_get new.buckets k ≡ Some b') × P k b b'
+
 -- there are 256, each at the place of its number, and of each it is known whether it was touched
 pub record AreBuckets (v : BucketsValue) : Type 0 where
   pub many : length v.buckets ≡ 256

@@ -3,3 +3,4 @@ pub mod Codes
 pub mod Endings
 pub mod Opened
 pub mod Steps
+pub mod Traces

@@ -1,5 +1,5 @@
 -- What an open transaction makes of the buckets, and what its end leaves.
-use Rattle.std.specs.Prelude.{◌≡◌, ℕ, ◌≤◌, Bool, false, if◌then◌else◌, List, [], ◌∷◌, ◌++◌, slice_get, All, Some, Err, ◌⊎◌, true}
+use Rattle.std.specs.Prelude.{◌≡◌, ℕ, ◌≤◌, Bool, false, if◌then◌else◌, List, [], ◌∷◌, ◌++◌, slice_get, All, Option, Some, Err, ◌⊎◌, true}
 use Rattle.std.specs.List.{AllZip, list_any}
 use Rattle.fine_model.specs.declared.Call.{Call}
 use Rattle.fine_model.specs.declared.Reply.{Reply}
@@ -12,12 +12,14 @@ use Rattle.fine_model.specs.Map.{Pair}
 use Rattle.fine_model.specs.Nodes.{Agrees}
 use Rattle.fine_model.specs.Pushed.{all_pushed}
 use Rattle.fine_model.specs.Store.{answer}
+use Rattle.node_cache.specs.declared.cached.Cached.{Cached}
 use Rattle.node_cache.specs.Cache.{Cache}
 use Rattle.btree_nodes.specs.declared.fault.TreeFault.{TreeFault}
 use Rattle.btree_nodes.specs.declared.fault.TreeFault.TheVariants.{Source, Unfit, BucketFull, Number, NoMemory}
 use Rattle.txn_draft.specs.Drafts.{DraftValue, FitsDraft, IsAnswered, entry_of, is_here}
+use Rattle.txn_draft.specs.Standing.{IsLeft}
 use Rattle.txn_draft.specs.Uses.{IsUsed, Undoes}
-use Rattle.open_txn.specs.Buckets.{BucketsValue, HoldAll, RestoreAll, StandAll, none_touched}
+use Rattle.open_txn.specs.Buckets.{BucketsValue, EachPair, HoldAll, RestoreAll, StandAll, none_touched}
 
 -- ---- before its calls
 
@@ -103,6 +105,11 @@ pub record AnswersCalls (calls : List Call) (d : DraftValue) : Type 0 where
 pub record EndsTouched (f : Cache → Cache) (old new : BucketsValue) : Type 0 where
   pub each : (k : ℕ) (b : Cache) (t : Bool) → slice_get old.buckets k ≡ Some b → slice_get old.touched k ≡ Some t → slice_get new.buckets k ≡ Some (if t then f b else b)
   pub untouched : new.touched ≡ none_touched
+
+-- Each bucket that was touched is left with what it was once it ended so, but for nodes that were evicted; each other one is as it was.
+abbrev pub LeavesEach : ℕ → (Cache → ℕ → Option Cached) → BucketsValue → BucketsValue → Type 0
+LeavesEach evicted was old new =
+    EachPair (λ k b b'. ((slice_get old.touched k ≡ Some true) × IsLeft evicted (was b) b b') ⊎ ((slice_get old.touched k ≡ Some false) × (b' ≡ b))) old new
 
 -- settled under the epoch of a commit of the draft's rows, the buckets stand for the history with this commit
 abbrev pub SettlesAll : ℕ → ℕ → BucketsValue → BucketsValue → Type 0

@@ -13,6 +13,7 @@ ghost use Rattle.txn_draft.specs.Drafts.{blank, is_scan};
 ghost use Rattle.txn_draft.specs.Answers.{FailsBy};
 ghost use Rattle.open_txn.specs.Opened.{AnswersCalls, IsOpen, IsReady, IsRefusal, TouchesOf};
 ghost use Rattle.open_txn.specs.Steps.{Advances, Refuses};
+ghost use Rattle.open_txn.specs.Traces.{AddsDone, AllDone, StopsAt};
 
 use crate::buckets::Buckets;
 use crate::scanning::scan_all;
@@ -56,6 +57,8 @@ fn answer_in<S: NodeSource>(
     ensures place { (draft.new.lane ≡ draft.old.lane) × (draft.new.turn ≡ draft.old.turn) }
     ensures advances { OnOk result (Advances (S.tells source.old) (S.tells source.new) (S.upper source.old) buckets.old buckets.new draft.old draft.new (call.now ∷ [])) }
     ensures refuses { IfErr result (λ fault. (more : List ModelCall) → Refuses (S.tells source.old) (S.upper source.old) buckets.old buckets.new draft.old (call.now ∷ more) fault) }
+    ensures does { OnOk result (AddsDone (S.tells source.old) (S.finds source.old) (S.upper source.old) (call.now ∷ []) draft.old.rows draft.new.rows buckets.old buckets.new) }
+    ensures stops { IfErr result (λ fault. (more : List ModelCall) → StopsAt (S.tells source.old) (S.finds source.old) (S.upper source.old) (call.now ∷ more) fault buckets.old buckets.new) }
 {
     let at = usize::from(bucket_for(call));
     buckets.touched[at] = true;
@@ -78,6 +81,8 @@ fn answer_one<S: NodeSource>(
     ensures place { (draft.new.lane ≡ draft.old.lane) × (draft.new.turn ≡ draft.old.turn) }
     ensures advances { OnOk result (Advances (S.tells source.old) (S.tells source.new) (S.upper source.old) buckets.old buckets.new draft.old draft.new (call.now ∷ [])) }
     ensures refuses { IfErr result (λ fault. (more : List ModelCall) → Refuses (S.tells source.old) (S.upper source.old) buckets.old buckets.new draft.old (call.now ∷ more) fault) }
+    ensures does { OnOk result (AddsDone (S.tells source.old) (S.finds source.old) (S.upper source.old) (call.now ∷ []) draft.old.rows draft.new.rows buckets.old buckets.new) }
+    ensures stops { IfErr result (λ fault. (more : List ModelCall) → StopsAt (S.tells source.old) (S.finds source.old) (S.upper source.old) (call.now ∷ more) fault buckets.old buckets.new) }
 {
     match call {
         Call::Scan { low, high, limit } => {
@@ -103,6 +108,8 @@ fn answer_each<S: NodeSource>(
     ensures place { (draft.new.lane ≡ draft.old.lane) × (draft.new.turn ≡ draft.old.turn) }
     ensures advances { OnOk result (Advances (S.tells source.old) (S.tells source.new) (S.upper source.old) buckets.old buckets.new draft.old draft.new calls.now) }
     ensures refuses { IfErr result (Refuses (S.tells source.old) (S.upper source.old) buckets.old buckets.new draft.old calls.now) }
+    ensures does { OnOk result (AddsDone (S.tells source.old) (S.finds source.old) (S.upper source.old) calls.now draft.old.rows draft.new.rows buckets.old buckets.new) }
+    ensures stops { IfErr result (λ fault. StopsAt (S.tells source.old) (S.finds source.old) (S.upper source.old) calls.now fault buckets.old buckets.new) }
 {
     for call in calls {
         if let Err(fault) = answer_one(source, buckets, draft, call) {
@@ -116,8 +123,12 @@ fn answer_each<S: NodeSource>(
 /// rows [`answered`]; no bucket is touched but those of the calls [`touches`]. Where the buckets stood for a history which the source tells, they hold it
 /// with these rows [`open`].
 ///
+/// On every disk, each call did in each bucket what it does there: it loaded nodes on its way, each as the source finds it, and pushed its rows on what the bucket then
+/// gave [`done`].
+///
 /// With a refusal no later call is answered, and the buckets are to be undone and the draft to be cleared [`refused`]. `Source` has what the source answered
-/// [`fails`]. On a sound log, `BucketFull` and `Number` come only where the definitions refuse the calls for this reason, and no node is `Unfit`.
+/// [`fails`]. On a sound log, `BucketFull` and `Number` come only where the definitions refuse the calls for this reason, and no node is `Unfit`. On every disk the calls
+/// before the refused one were done, and `Unfit` names the first node on its way that is not fit, as its bucket gives it [`stopped`].
 pub fn answer_all<S: NodeSource>(
     source: &mut S,
     buckets: &mut Buckets,
@@ -134,6 +145,8 @@ pub fn answer_all<S: NodeSource>(
     ensures answered { OnOk result (AnswersCalls calls.now draft.new) }
     ensures open { OnOk result ((log : Origin) (low : ℕ) (history : List Commit) → IsReady (S.tells source.old) (S.upper source.old) log low buckets.old history → IsOpen log low history buckets.old buckets.new draft.new) }
     ensures refused { IfErr result (λ fault. (log : Origin) (low : ℕ) (history : List Commit) → IsReady (S.tells source.old) (S.upper source.old) log low buckets.old history → IsRefusal log low history buckets.old buckets.new calls.now fault) }
+    ensures done { OnOk result (AllDone (S.tells source.old) (S.finds source.old) (S.upper source.old) calls.now draft.new.rows buckets.old buckets.new) }
+    ensures stopped { IfErr result (λ fault. StopsAt (S.tells source.old) (S.finds source.old) (S.upper source.old) calls.now fault buckets.old buckets.new) }
 {
     answer_each(source, buckets, draft, calls)
 }

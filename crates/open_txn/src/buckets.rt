@@ -53,9 +53,9 @@ fn no_flags(alloc: Global) -> Result<Vec<bool>, NoMemory>
 }
 
 impl Buckets {
-    ghost use Rattle.node_cache.specs.Cache.{settled, undone, evicted};
+    ghost use Rattle.node_cache.specs.Cache.{after, before, settled, undone, evicted};
     ghost use Rattle.open_txn.specs.Buckets.{AreBuckets, StandAll};
-    ghost use Rattle.open_txn.specs.Opened.{EndsTouched, SettlesAll, UndoesAll};
+    ghost use Rattle.open_txn.specs.Opened.{EndsTouched, LeavesEach, SettlesAll, UndoesAll};
 
     /// Buckets that cache nothing and of which none is touched. They stand for the history that has not begun, on any log, whatever is published.
     /// `NoMemory` is the only refusal.
@@ -79,22 +79,24 @@ impl Buckets {
     }
 
     /// Keeps what was done to the buckets that were touched, under the epoch of the transaction's commit, and evicts from these what is published, but for
-    /// `keep` nodes of each [`ends`]. The others stay, and none is touched then. Where all calls of a transaction were answered on buckets that stood
+    /// `keep` nodes of each [`ends`, `left`]. The others stay, and none is touched then. Where all calls of a transaction were answered on buckets that stood
     /// for a history, they stand for it with the commit [`stands`]. It takes no memory.
     pub fn settle(&mut self, epoch: u64, published: u64, keep: usize)
         ensures whole { AreBuckets self.new }
         ensures ends { EndsTouched (λ b. evicted published keep (settled epoch b)) self.old self.new }
+        ensures left { LeavesEach published (λ b. after b epoch) self.old self.new }
         ensures stands { SettlesAll epoch published self.old self.new }
     {
         settle_touched(&mut self.buckets, &self.touched, epoch, published, keep);
         self.touched.fill(false);
     }
 
-    /// Takes back what was done to the buckets that were touched, and evicts as `settle` does [`ends`]. The others stay, and none is touched then. They
+    /// Takes back what was done to the buckets that were touched, and evicts as `settle` does [`ends`, `left`]. The others stay, and none is touched then. They
     /// stand for the history as before the transaction [`stands`]. It takes no memory.
     pub fn undo(&mut self, published: u64, keep: usize)
         ensures whole { AreBuckets self.new }
         ensures ends { EndsTouched (λ b. evicted published keep (undone b)) self.old self.new }
+        ensures left { LeavesEach published before self.old self.new }
         ensures stands { UndoesAll published self.old self.new }
     {
         undo_touched(&mut self.buckets, &self.touched, published, keep);

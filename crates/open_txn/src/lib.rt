@@ -9,4 +9,4 @@ mod scanning;
 
 pub use answering::answer_all;
 pub use buckets::Buckets;
-pub use laws::{abort_law, follows_law};
+pub use laws::{abort_law, follows_law, traces_law};

@@ -6,6 +6,7 @@ ghost use Rattle.fine_model.specs.declared.Call.TheVariants as call_of;
 ghost use Rattle.btree_nodes.specs.Calls.{OnCleanAnswer};
 ghost use Rattle.txn_draft.specs.Answers.{FailsBy};
 ghost use Rattle.open_txn.specs.Steps.{Advances, Gathers, Halts, Refuses};
+ghost use Rattle.open_txn.specs.Traces.{AddsDone, CutsOff, CutsOffAt, ScansAll, ScansAt, StopsAt};
 
 use crate::buckets::{BUCKETS, Buckets};
 use btree_nodes::TreeFault;
@@ -31,6 +32,8 @@ fn gather_in<S: NodeSource>(
     ensures next { OnOk result (scan.new.next ≡ at + 1) }
     ensures gathers { OnOk result (Gathers (S.tells source.old) (S.tells source.new) (S.upper source.old) buckets.old buckets.new low.now high.now limit scan.old scan.new) }
     ensures halts { IfErr result (Halts (S.tells source.old) (S.upper source.old) buckets.old buckets.new) }
+    ensures scans { OnOk result (ScansAt (S.tells source.old) (S.finds source.old) (S.upper source.old) at low.now high.now limit buckets.old buckets.new) }
+    ensures cut_off { IfErr result (λ fault. CutsOffAt (S.tells source.old) (S.finds source.old) (S.upper source.old) at low.now high.now limit fault buckets.old buckets.new) }
 {
     buckets.touched[at] = true;
     let bucket = &mut buckets.buckets[at];
@@ -53,6 +56,8 @@ fn gather_all<S: NodeSource>(
     ensures next { OnOk result (scan.new.next ≡ 256) }
     ensures gathers { OnOk result (Gathers (S.tells source.old) (S.tells source.new) (S.upper source.old) buckets.old buckets.new low.now high.now limit scan.old scan.new) }
     ensures halts { IfErr result (Halts (S.tells source.old) (S.upper source.old) buckets.old buckets.new) }
+    ensures scans { OnOk result (ScansAll (S.tells source.old) (S.finds source.old) (S.upper source.old) low.now high.now limit buckets.old buckets.new) }
+    ensures cut_off { IfErr result (λ fault. CutsOff (S.tells source.old) (S.finds source.old) (S.upper source.old) low.now high.now limit fault buckets.old buckets.new) }
 {
     for at in 0..BUCKETS {
         if let Err(fault) = gather_in(source, buckets, scan, at, low, high, limit) {
@@ -80,6 +85,8 @@ pub fn scan_all<S: NodeSource>(
     ensures place { (draft.new.lane ≡ draft.old.lane) × (draft.new.turn ≡ draft.old.turn) }
     ensures advances { OnOk result (Advances (S.tells source.old) (S.tells source.new) (S.upper source.old) buckets.old buckets.new draft.old draft.new (call.now ∷ [])) }
     ensures refuses { IfErr result (λ fault. (more : List ModelCall) → Refuses (S.tells source.old) (S.upper source.old) buckets.old buckets.new draft.old (call.now ∷ more) fault) }
+    ensures does { OnOk result (AddsDone (S.tells source.old) (S.finds source.old) (S.upper source.old) (call.now ∷ []) draft.old.rows draft.new.rows buckets.old buckets.new) }
+    ensures stops { IfErr result (λ fault. (more : List ModelCall) → StopsAt (S.tells source.old) (S.finds source.old) (S.upper source.old) (call.now ∷ more) fault buckets.old buckets.new) }
 {
     let mut scan = RangeScan::new(*buckets.buckets.allocator());
     if let Err(fault) = gather_all(source, buckets, &mut scan, low, high, limit) {

@@ -1,6 +1,6 @@
 //! The draft of an entry.
 
-ghost use Rattle.std.specs.Prelude.{◌≡◌, false, [], ◌∷◌, ◌++◌, OnOk};
+ghost use Rattle.std.specs.Prelude.{◌≡◌, true, false, [], ◌∷◌, ◌++◌, OnOk};
 ghost use Rattle.std.specs.Option.{option_to_list};
 ghost use Rattle.fine_model.specs.Merge.{cost};
 
@@ -54,6 +54,20 @@ impl Draft {
         ensures { result ≡ self.now.failed }
     {
         self.failed
+    }
+
+    /// Gives the draft up as after a call that answered want of memory, as one does whose buckets could not be read for that. It takes no memory.
+    pub fn fail(&mut self)
+        ensures { self.new ≡ record self.old { failed = true } }
+    {
+        self.failed = true;
+    }
+
+    /// The replies to the calls that were answered, in their order. Of a draft that failed they say nothing.
+    pub fn replies(&self) -> &[Reply]
+        ensures { result.now ≡ self.now.replies }
+    {
+        &self.replies
     }
 
     /// The rows so far, with their bytes.

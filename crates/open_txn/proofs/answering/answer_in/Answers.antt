@@ -1,7 +1,9 @@
-use Rattle.std.proofs.Common.{◌≡◌, ◌∙◌, ◌<◌, ap, arith, length, refl, slice_get, Some, sym}
+use Rattle.std.proofs.Common.{◌≡◌, ◌∙◌, ◌<◌, ap, arith, length, refl, slice_get, slice_set, true, Some, sym}
 use Rattle.std.proofs.lemmas.Option.{slice_get-get_or}
 use Rattle.fine_model.specs.declared.FetchFault.{FetchFault}
+use Rattle.open_txn.specs.Buckets.{BucketsValue}
 use Rattle.open_txn.proofs.Advanced.{advances_in, place_of, refuses_in, still_are}
+use Rattle.open_txn.proofs.Traced.{does_in, stops_in}
 use Rattle.open_txn.proofs.answering.answer_in.Goals as goal
 
 pub answer-requires-clause-bucket : goal.answer-requires-clause-bucket
@@ -24,6 +26,9 @@ returns g c =
     let b = c.index_mut-bucket.result.now in
     let there : slice_get c.buckets.inside.buckets.items at ≡ Some b = slice_get-get_or c.buckets.inside.buckets.items at _ low ∙ ap Some (sym c.index_mut-bucket.ensures.value) in
     let of_key = c.from-at.ensures ∙ c.bucket_for.ensures.value in
+    let low' : at < 256 = omega (arith, c.from-at.ensures, c.bucket_for.ensures.range) in
+    let v : BucketsValue = record { buckets = c.buckets.inside.buckets.items; touched = c.buckets.inside.touched.items } in
+    let v' : BucketsValue = record { buckets = slice_set v.buckets at c.answer.new.bucket; touched = slice_set v.touched at true } in
     let tells = g.S.NodeSource.tells c.args.source.now in
     let finds = g.S.NodeSource.finds c.args.source.now in
     let tells' = g.S.NodeSource.tells c.answer.new.source in
@@ -41,4 +46,8 @@ returns g c =
       refuses = rw (← c.buckets.view_is)
           (refuses_in tells tells' upper at _ _ b c.answer.new.bucket c.args.draft.now c.answer.new.self c.args.call.now c.buckets.invariant there refl refl of_key
           (λ rows. g.met.S.NodeSource.later_tells _ _ rows c.answer.ensures.later) c.answer.result c.answer.ensures.used c.answer.ensures.sound);
+      does = rw (← c.buckets.view_is)
+          (does_in tells finds upper at v v' b c.answer.new.bucket c.args.draft.now c.answer.new.self c.args.call.now c.buckets.invariant there refl of_key low' c.requires.no_scan F c.answer.result c.answer.ensures.change);
+      stops = rw (← c.buckets.view_is)
+          (stops_in tells finds upper at v v' b c.answer.new.bucket c.args.draft.now c.answer.new.self c.args.call.now c.buckets.invariant there refl of_key low' c.requires.no_scan F c.answer.result c.answer.ensures.change);
     }

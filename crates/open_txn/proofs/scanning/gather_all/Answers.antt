@@ -2,6 +2,7 @@ use Rattle.std.proofs.Common.{◌≡◌, ◌∙◌, ℕ, Err, arith, subst}
 use Rattle.open_txn.specs.Steps.{Gathers, Halts}
 use Rattle.open_txn.proofs.Advanced.{clean_from, fails_from}
 use Rattle.open_txn.proofs.Scanned.{gathers_none, gathers_on, halts_on}
+use Rattle.open_txn.proofs.WalkedThrough.{below_all, below_none, below_on, cut_on}
 use Rattle.open_txn.proofs.scanning.gather_all.Goals as goal
 
 pub loop-at-init : goal.loop-at-init
@@ -10,6 +11,7 @@ loop-at-init g c = (
   g.met.S.NodeSource.clean_itself _,
   c.requires.next,
   gathers_none (g.S.NodeSource.tells c.args.source.now) (g.S.NodeSource.upper c.args.source.now) c.args.buckets.now c.args.low.now c.args.high.now c.args.limit c.args.scan.now,
+  below_none (g.S.NodeSource.tells c.args.source.now) (g.S.NodeSource.finds c.args.source.now) (g.S.NodeSource.upper c.args.source.now) c.args.low.now c.args.high.now c.args.limit c.args.buckets.now,
 )
 
 pub loop-at-preserved : goal.loop-at-preserved
@@ -24,13 +26,24 @@ loop-at-preserved g c =
       c.in_default.ensures.next,
       gathers_on tells mid tells' upper c.args.buckets.now c.loop-at.buckets c.args.low.now c.args.high.now c.args.limit c.args.scan.now c.loop-at.scan inv.3 c.gather_in.new.buckets c.gather_in.new.scan
           (subst (λ (u : ℕ). Gathers mid tells' u c.loop-at.buckets c.gather_in.new.buckets c.args.low.now c.args.high.now c.args.limit c.loop-at.scan c.gather_in.new.scan) (g.met.S.NodeSource.later_upper _ _ inv.0) c.in_default.ensures.gathers),
+      below_on tells mid (g.S.NodeSource.finds c.args.source.now) (g.S.NodeSource.finds c.loop-at.source) upper (g.S.NodeSource.upper c.loop-at.source) (λ rows. g.met.S.NodeSource.later_tells _ _ rows inv.0) (λ id found. g.met.S.NodeSource.finds_before _ _ id found inv.0) (g.met.S.NodeSource.later_upper _ _ inv.0)
+          c.loop-at.at c.args.low.now c.args.high.now c.args.limit c.args.buckets.now c.loop-at.buckets c.gather_in.new.buckets inv.4 c.in_default.ensures.scans,
     )
 
 pub returns : goal.returns
 returns g c =
     let inv = c.loop-at.invariant in
     let all : c.loop-at.at ≡ 256 = omega (arith, c.loop-at-test.false, c.loop-at.auto.at-end) in
-    record { later = inv.0; clean = inv.1; fails = tt; next = inv.2 ∙ all; gathers = inv.3; halts = tt }
+    record {
+      later = inv.0;
+      clean = inv.1;
+      fails = tt;
+      next = inv.2 ∙ all;
+      gathers = inv.3;
+      halts = tt;
+      cut_off = tt;
+      scans = below_all (g.S.NodeSource.tells c.args.source.now) (g.S.NodeSource.finds c.args.source.now) (g.S.NodeSource.upper c.args.source.now) c.loop-at.at c.args.low.now c.args.high.now c.args.limit c.args.buckets.now c.loop-at.buckets all inv.4;
+    }
 
 pub returns-in-Err : goal.returns-in-Err
 returns-in-Err g c =
@@ -48,4 +61,7 @@ returns-in-Err g c =
       gathers = tt;
       halts = halts_on tells mid tells' upper c.args.buckets.now c.loop-at.buckets c.args.low.now c.args.high.now c.args.limit c.args.scan.now c.loop-at.scan inv.3 c.gather_in.new.buckets c.in-Err.fault
           (subst (λ (u : ℕ). Halts mid u c.loop-at.buckets c.gather_in.new.buckets c.in-Err.fault) (g.met.S.NodeSource.later_upper _ _ inv.0) c.in-Err.ensures.halts);
+      scans = tt;
+      cut_off = cut_on tells mid (g.S.NodeSource.finds c.args.source.now) (g.S.NodeSource.finds c.loop-at.source) upper (g.S.NodeSource.upper c.loop-at.source) (λ rows. g.met.S.NodeSource.later_tells _ _ rows inv.0) (λ id found. g.met.S.NodeSource.finds_before _ _ id found inv.0) (g.met.S.NodeSource.later_upper _ _ inv.0)
+          c.loop-at.at c.args.low.now c.args.high.now c.args.limit c.args.buckets.now c.loop-at.buckets c.gather_in.new.buckets inv.4 c.in-Err.fault c.loop-at-test.true c.in-Err.ensures.cut_off;
     }

@@ -1,9 +1,11 @@
-use Rattle.std.proofs.Common.{◌≡◌, ◌∙◌, ◌+◌, ◌<◌, ℕ, ap, arith, length, refl, slice_get, Some, subst, sym}
+use Rattle.std.proofs.Common.{◌≡◌, ◌∙◌, ◌+◌, ◌<◌, ℕ, ap, arith, length, refl, slice_get, slice_set, true, Some, subst, sym}
 use Rattle.std.specs.Prelude.{OnOk}
 use Rattle.std.proofs.lemmas.Option.{slice_get-get_or}
 use Rattle.fine_model.specs.declared.FetchFault.{FetchFault}
 use Rattle.btree_nodes.specs.Calls.{IsFirstUnfitBetween}
+use Rattle.open_txn.specs.Buckets.{BucketsValue}
 use Rattle.open_txn.proofs.Scanned.{gathers_in, halts_in}
+use Rattle.open_txn.proofs.WalkedThrough.{cuts_off_at, scans_at}
 use Rattle.open_txn.proofs.scanning.gather_in.Goals as goal
 
 pub gather-requires-clause-bucket : goal.gather-requires-clause-bucket
@@ -21,8 +23,11 @@ returns g c =
     let low : at < length c.buckets.inside.buckets.items = omega (arith, c.requires.at, c.buckets.invariant.many) in
     let b = c.index_mut-bucket.result.now in
     let there : slice_get c.buckets.inside.buckets.items at ≡ Some b = slice_get-get_or c.buckets.inside.buckets.items at _ low ∙ ap Some (sym c.index_mut-bucket.ensures.value) in
+    let v : BucketsValue = record { buckets = c.buckets.inside.buckets.items; touched = c.buckets.inside.touched.items } in
+    let v' : BucketsValue = record { buckets = slice_set v.buckets at c.gather.new.bucket; touched = slice_set v.touched at true } in
     let tells = g.S.NodeSource.tells c.args.source.now in
     let tells' = g.S.NodeSource.tells c.gather.new.source in
+    let finds = g.S.NodeSource.finds c.args.source.now in
     let upper = g.S.NodeSource.upper c.args.source.now in
     let F : FetchFault → Type 0 = λ failed. g.S.NodeSource.fails c.args.source.now failed c.gather.new.source in
     record {
@@ -36,4 +41,8 @@ returns g c =
       halts = rw (← c.buckets.view_is)
           (halts_in tells tells' upper at _ _ b c.gather.new.bucket there refl refl (λ rows. g.met.S.NodeSource.later_tells _ _ rows c.gather.ensures.later) c.args.low.now c.args.high.now c.args.limit
           c.args.scan.now c.gather.new.self c.gather.result c.gather.ensures.used c.gather.ensures.serves c.gather.ensures.sound);
+      scans = rw (← c.buckets.view_is) (scans_at tells finds upper at v v' b c.gather.new.bucket c.buckets.invariant there refl c.args.low.now c.args.high.now c.args.limit c.args.scan.now.pairs c.gather.new.self.pairs F c.gather.result
+          c.gather.ensures.loads c.gather.ensures.on_walk c.gather.ensures.answer);
+      cut_off = rw (← c.buckets.view_is) (cuts_off_at tells finds upper at v v' b c.gather.new.bucket c.buckets.invariant there refl c.args.low.now c.args.high.now c.args.limit c.args.scan.now.pairs c.gather.new.self.pairs F c.gather.result
+          c.gather.ensures.loads c.gather.ensures.on_walk c.gather.ensures.answer);
     }

@@ -6,7 +6,7 @@ use Rattle.node_cache.specs.Cache.{Cache, before, undone, evicted}
 use Rattle.txn_draft.specs.Standing.{IsLeft}
 use Rattle.open_txn.specs.Buckets.{BucketsValue, none_touched}
 use Rattle.open_txn.specs.Endings.{EndEach}
-use Rattle.open_txn.proofs.Standing.{ended_are, ended_touched, undo_stands}
+use Rattle.open_txn.proofs.Standing.{ended_are, ended_touched, left_each, undo_stands}
 use Rattle.open_txn.proofs.buckets.Buckets.undo.Goals as goal
 
 flags : (c : goal.After-fill) → c.fill.new.self.items ≡ none_touched
@@ -31,6 +31,9 @@ returns-clause-stands c = rw (← c.self.view_is) (undo_stands (λ b. evicted c.
 
 pub returns-clause-ends : goal.returns-clause-ends
 returns-clause-ends c = rw (← c.self.view_is) (ended_touched (λ b. evicted c.args.published c.args.keep (undone b)) (λ b new. IsLeft c.args.published (before b) b new) (old c) (new c) c.self.invariant (ended c) (flags c))
+
+pub returns-clause-left : goal.returns-clause-left
+returns-clause-left c = rw (← c.self.view_is) (left_each (λ b. evicted c.args.published c.args.keep (undone b)) (λ b new. IsLeft c.args.published (before b) b new) (old c) (new c) c.self.invariant (ended c) (flags c) c.args.published before (λ b z left. left))
 
 pub returns-clause-whole : goal.returns-clause-whole
 returns-clause-whole c = ended_are (λ b. evicted c.args.published c.args.keep (undone b)) (λ b new. IsLeft c.args.published (before b) b new) (old c) (new c) c.self.invariant (ended c) (flags c) (λ b. refl)

@@ -16,6 +16,7 @@ use Rattle.node_cache.specs.Cache.{Cache, before, cached, original}
 use Rattle.node_cache.specs.Given.{IsCached, given}
 use Rattle.damage_laws.specs.Goings.{Extends, GoBy}
 use Rattle.damage_laws.specs.OpenTxns.{IsFirstFound, IsOpenOn, LoadsSome, OpensOn, SeveralLaw}
+use Rattle.damage_laws.specs.Stays.{LoadsFromFirst, LoadsLaw}
 use Rattle.damage_laws.proofs.Meeting.{build, given_same, given_some}
 use Rattle.damage_laws.proofs.SamePushes.{load_law}
 
@@ -50,7 +51,7 @@ module _ (region_len : ℕ) (entry : Image) (parts : List Part) (old new : Cache
     gives : IsCached new n → given new n ≡ replay c (rows_of (id n) (rows ++ log))
     restores : IfSome (before new n) (λ kept. (kept.node, kept.version) ≡ replay c (rows_of (id n) rows))
     others : cached new n ≡ None → rows_of (id n) log ≡ []
-    was : (c ≡ nodes n) ⊎ (IsCached new n × (first : IsFirstFound region_len entry parts old new rows nodes n) × (c ≡ first.1))
+    was : (c ≡ nodes n) ⊎ ((cached old n ≡ None) × IsCached new n × (first : IsFirstFound region_len entry parts old new rows nodes n) × (c ≡ first.1))
 
   -- where the node is cached as it was
   before_same : (n : ℕ) → cached new n ≡ cached old n → before new n ≡ before old n
@@ -68,7 +69,7 @@ module _ (region_len : ℕ) (entry : Image) (parts : List Part) (old new : Cache
     before_loaded = ap (λ saved. unwrap_or (lookup (nat_eq n) saved) (cached new n)) l.saved ∙ ap (λ o. unwrap_or o (cached new n)) (l.unsaved n e (ap is_some f)) ∙ f
 
     loaded : (c : Content) → given new n ≡ replay c (rows_of (id n) rows) → ((nodes n).0 ≢ node.Broken → c ≡ nodes n) → FindsMerged region_len entry parts (id n) c ⊎ (c ≡ (node.Broken, 0))
-        → (c ≡ nodes n) ⊎ (IsCached new n × (first : IsFirstFound region_len entry parts old new rows nodes n) × (c ≡ first.1)) → IsFrom n c
+        → (c ≡ nodes n) ⊎ ((cached old n ≡ None) × IsCached new n × (first : IsFirstFound region_len entry parts old new rows nodes n) × (c ≡ first.1)) → IsFrom n c
     loaded c is extends found was = record {
       extends = extends;
       found = found;
@@ -79,7 +80,7 @@ module _ (region_len : ℕ) (entry : Image) (parts : List Part) (old new : Cache
     }
 
     by_load : (h : IsFirstFound region_len entry parts old new rows nodes n ⊎ (given new n ≡ with_rows old.bucket nodes rows n)) → IsFrom n (first_or n h)
-    by_load (inl first) = loaded first.1 first.3 (λ fine. absurd (fine first.0)) (inl first.2) (inr (ap is_some f, first, refl))
+    by_load (inl first) = loaded first.1 first.3 (λ fine. absurd (fine first.0)) (inl first.2) (inr (e, ap is_some f, first, refl))
     by_load (inr same) = loaded (nodes n) same (λ fine. refl) (i.gives.found n) (inl refl)
 
   from : (n : ℕ) (o : Option Cached) (e : cached old n ≡ o) (q : Option Cached) (f : cached new n ≡ q) → IsFrom n (pick n o e q f)
@@ -122,7 +123,19 @@ module _ (region_len : ℕ) (entry : Image) (parts : List Part) (old new : Cache
 
   pub several : OpensOn region_len entry parts old new calls own rows log nodes
   unfolding opened build
-  several = record { opened = opened; from = λ n. (at n).was }
+  several = record { opened = opened; from = λ n. by n (at n).was }
+    where
+      by : (n : ℕ) → (all n ≡ nodes n) ⊎ ((cached old n ≡ None) × IsCached new n × (first : IsFirstFound region_len entry parts old new rows nodes n) × (all n ≡ first.1))
+          → (all n ≡ nodes n) ⊎ (IsCached new n × (first : IsFirstFound region_len entry parts old new rows nodes n) × (all n ≡ first.1))
+      by n (inl same) = inl same
+      by n (inr h) = inr (h.1, h.2, h.3)
+
+  pub from_first : LoadsFromFirst region_len entry parts old new calls own rows log nodes
+  unfolding opened build
+  from_first = record { opened = opened; from = λ n. (at n).was }
+
+pub loads_law : LoadsLaw
+loads_law region_len entry parts old new calls own rows log i l = from_first region_len entry parts old new calls own rows log i l
 
 pub several_law : SeveralLaw
 several_law region_len entry parts old new calls own rows log i l = several region_len entry parts old new calls own rows log i l

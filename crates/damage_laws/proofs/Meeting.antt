@@ -1,5 +1,5 @@
 -- What a bucket gives, by the bytes at entry, from call to call, and the node that is unfit.
-use Rattle.std.proofs.Common.{◌≡◌, ◌≢◌, ◌⊎◌, inl, inr, ℕ, ◌<◌, ◌==◌, eqb-true, eq-eqb, Bool, true, false, cond, List, [], ◌∷◌, ◌++◌, Option, Some, None, is_some, refl, sym, ap, subst, ◌∙◌, true≢false, append_assoc, append-nil, nat_eq}
+use Rattle.std.proofs.Common.{◌≡◌, ◌≢◌, ◌⊎◌, inl, inr, ℕ, ◌<◌, ◌==◌, eqb-true, eq-eqb, Bool, true, false, cond, List, [], ◌∷◌, ◌++◌, Option, Some, None, is_some, refl, sym, ap, subst, ◌∙◌, true≢false, append_assoc, append-nil, nat_eq, Ok}
 use Rattle.std.specs.Map.{lookup}
 use Rattle.std.specs.Prelude.{flat_map, take, IfSome, IsSome, unwrap_or, option_map}
 use Rattle.fine_model.specs.declared.Call.{Call}
@@ -10,7 +10,8 @@ use Rattle.fine_model.specs.declared.Part.{Part}
 use Rattle.fine_model.specs.declared.Row.{Row}
 use Rattle.fine_model.specs.Damages.{FindsMerged, GoOnTo, LooksAt, calls_on, with_rows}
 use Rattle.fine_model.specs.Nodes.{Content, replay, rows_of}
-use Rattle.fine_model.specs.Pushed.{key_of, within_limits}
+use Rattle.fine_model.specs.Pushed.{call_push, key_of, within_limits}
+use Rattle.fine_model.specs.Trees.{bucket_of}
 use Rattle.fine_model.specs.Regions.{Image}
 use Rattle.fine_model.specs.RowBytes.{buckets}
 use Rattle.fine_model.proofs.NodeLaws.{rows_of-append}
@@ -25,6 +26,7 @@ use Rattle.damage_laws.specs.Looks.{IsOfKey, IsPartOf}
 use Rattle.damage_laws.specs.Meets.{BeginsAnew, CallLaw, FewerLaw, FreshLaw, GivesOn, LoadedLaw, MeetsLaw, NewLaw, SameLaw}
 use Rattle.damage_laws.specs.Made.{FoundOn, all_of}
 use Rattle.damage_laws.specs.OpenTxns.{AbsentLaw, BeginLaw, OwnLaw, UndoneLaw}
+use Rattle.damage_laws.specs.Stays.{BeginsLaw, CallsLaw, LeavesLaw, ScansLaw, UndoesLaw}
 use Rattle.damage_laws.proofs.MergedFinds.{all_of-append}
 use Rattle.damage_laws.proofs.SamePushes.{goes_on_law, load_law, more_law, push_same, still_on_way, with_both}
 use Rattle.fine_model.proofs.FoundUnfit.{of_scan}
@@ -319,3 +321,47 @@ absent_law region_len entry parts old new calls own rows log number content i br
         stays : (o : Option Cached) → all n ≡ i.gives.nodes n → IfSome o (λ kept. (kept.node, kept.version) ≡ with_rows old.bucket i.gives.nodes rows n) → IfSome o (λ kept. (kept.node, kept.version) ≡ with_rows old.bucket all rows n)
         stays None of_all h = tt
         stays (Some kept) of_all h = h ∙ sym (ap (λ c. replay c (rows_of (record { bucket = old.bucket; number = n }) rows)) of_all)
+
+-- ---- the contents that it goes on from
+
+pub begins_law : BeginsLaw
+unfolding begin_law regrouped build
+begins_law region_len entry parts b calls rows g resting = record { opened = begin_law region_len entry parts b calls rows g resting; from = refl }
+
+pub calls_law : CallsLaw
+unfolding own_law regrouped build call_law
+calls_law region_len entry parts mid new calls own rows log earlier after c i of_key of_bucket reached d = record { opened = own_law region_len entry parts mid new calls own rows log earlier after c i of_key of_bucket reached d; from = refl }
+
+pub undoes_law : UndoesLaw
+unfolding undone_law build
+undoes_law region_len entry parts b new calls own rows log i bucket left = record { gives = undone_law region_len entry parts b new calls own rows log i bucket left; from = refl }
+
+pub leaves_law : LeavesLaw
+unfolding fewer_law build
+leaves_law region_len entry parts old new calls rows g f = record { gives = fewer_law region_len entry parts old new calls rows g f; from = refl }
+
+no_rows : (bucket : ℕ) (nodes : ℕ → Content) (low high : List ℕ) (limit : ℕ) → within_limits (call_push bucket nodes (call.Scan low high limit)) ≡ Ok []
+unfolding call_push within_limits
+no_rows bucket nodes low high limit = refl
+
+pub scans_law : ScansLaw
+scans_law region_len entry parts b calls own rows log low high limit i of_bucket = record {
+  opened = record {
+    gives = record { nodes = i.gives.nodes; found = i.gives.found; goes = goes; gives = i.gives.gives };
+    front = i.front;
+    others = i.others;
+    restores = i.restores;
+  };
+  from = refl;
+}
+  where
+    scan : Call
+    scan = call.Scan low high limit
+
+    of_low : bucket_of (key_of scan) ≡ b.bucket
+    of_low = of_bucket
+
+    goes : GoBy b.bucket i.gives.nodes (calls ++ (own ++ scan ∷ [])) (rows ++ log)
+    goes = subst (λ cs. GoBy b.bucket i.gives.nodes cs (rows ++ log)) (append_assoc calls own (scan ∷ []))
+        (subst (GoBy b.bucket i.gives.nodes ((calls ++ own) ++ scan ∷ [])) (append-nil (rows ++ log))
+        (more_law b.bucket i.gives.nodes (calls ++ own) (rows ++ log) [] scan i.gives.goes of_low (no_rows b.bucket (with_rows b.bucket i.gives.nodes (rows ++ log)) low high limit) tt))

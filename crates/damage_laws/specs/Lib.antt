@@ -1,4 +1,5 @@
 pub mod Places
+pub mod Stays
 pub mod Looks
 pub mod Goings
 pub mod Made

@@ -8,6 +8,7 @@ ghost use Rattle.damage_laws.specs.Made.{FetchLaw, JoinedLaw, JoinsLaw, KeptLaw,
 ghost use Rattle.damage_laws.specs.Meets.{AnewLaw, CallLaw, FewerLaw, FreshLaw, LoadedLaw, MeetsLaw, NewLaw, SameLaw};
 ghost use Rattle.damage_laws.specs.OpenTxns.{AbsentLaw, BeginLaw, OwnLaw, SeveralLaw, UndoneLaw};
 ghost use Rattle.damage_laws.specs.Places.{BodyLaw, EntryLaw, FoundLaw, PlaceLaw, RowLaw};
+ghost use Rattle.damage_laws.specs.Stays.{BeginsLaw, CallsLaw, LeavesLaw, LoadsLaw, ScansLaw, UndoesLaw};
 
 /// What a fetch blames of the parts that are there now is a bad place of a part at entry, where each of them is one of these, with the
 /// bytes that it had, or is in the grammar. What is found in a part that is kept so is what is found by the bytes at entry.
@@ -106,4 +107,15 @@ pub fn all_firm_law()
     ensures sealed { SealedAllLaw }
     ensures found { FoundAllLaw }
     ensures fetch { FetchAllLaw }
+{}
+
+/// The contents that a bucket goes on from stay the same from step to step, but for nodes that are found for the first time: at the start of a transaction, behind a call of a key and
+/// a scan, with nodes loaded, and undone, but for nodes that are no longer cached. So what is firm of them stays so.
+pub fn stays_law()
+    ensures begins { BeginsLaw }
+    ensures calls { CallsLaw }
+    ensures scans { ScansLaw }
+    ensures loads { LoadsLaw }
+    ensures undoes { UndoesLaw }
+    ensures leaves { LeavesLaw }
 {}

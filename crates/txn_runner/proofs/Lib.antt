@@ -2,9 +2,13 @@ pub mod Answering
 pub mod Calls
 pub mod Commits
 pub mod Exits
+pub mod FirmOn
+pub mod Following
 pub mod Looping
 pub mod Making
 pub mod Needs
+pub mod Opening
+pub mod Placing
 pub mod Running
 pub mod Seals
 pub mod Steady

@@ -1,2 +1,4 @@
 pub mod Body
+pub mod Follows
+pub mod Opening
 pub mod Steps

@@ -3,10 +3,12 @@
 
 mod committing;
 mod faults;
+mod laws;
 mod reading;
 mod run;
 mod runner;
 mod sealing;
 mod txn;
 
+pub use laws::{follows_law, opens_law, places_law};
 pub use run::run_lanes;

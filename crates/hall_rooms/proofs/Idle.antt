@@ -7,10 +7,13 @@ use Rattle.fine_hall.specs.declared.law.Beginning.{Beginning}
 use Rattle.fine_hall.specs.Turns.{room_after}
 use Rattle.fine_hall.specs.Passes.{known, turns, HoldsNothing, LacksJob}
 use Rattle.fine_hall.specs.Halls.{turn_of}
+use Rattle.fine_hall.proofs.Troubles.{sees_law}
 use Rattle.fine_hall.proofs.Turning.{after_last}
+use Rattle.partition_hold.specs.Views.{state_of}
 use Rattle.hall_rooms.specs.Rooms.{RoomPass}
 use Rattle.hall_rooms.specs.Turning.{SealsIdle, SettlesIdle, TakesTurn}
 use Rattle.hall_rooms.specs.Merging.{MergesIdle}
+use Rattle.hall_rooms.specs.Making.{MakesIdle, RenewsIdle}
 
 idle : (x : Beginning) (found room : RoomState) (p p' : RoomPass) → p'.number ≡ p.number → TakesTurn x found None 0 room p p' → KeepsJob found room → (known p').held ≡ (known p).held → HoldsNothing p → LacksJob x p → HoldsNothing p' × LacksJob x p'
 idle x found room p p' number t job held nothing lacks = (
@@ -28,3 +31,15 @@ settles_idle r x p p' number s nothing lacks = idle x s.found s.room p p' number
 
 pub merges_idle : MergesIdle
 merges_idle from r x p p' number s nothing lacks = idle x s.found.room s.room.room p p' number s.turn s.job s.same_held nothing lacks
+
+pub makes_idle : MakesIdle
+makes_idle x from r p p' number s nothing lacks = (
+  λ k low. ap (λ l. get_elem? l k) s.turn.same_held ∙ nothing k low,
+  λ one. ap (λ ts. (room_after x.room ts).job) s.turn.turns_more ∙ (ap (λ (r : RoomState). r.job) (after_last x.room (turns p ++ s.turn.others) (record { seat = p.number; item = turn_of None 0 s.room.room s.turn.returned })) ∙ s.no_job.1),
+)
+
+pub renews_idle : RenewsIdle
+renews_idle x p p' lawful r nothing lacks = (
+  λ k low. ap (λ l. get_elem? l k) r.same_held ∙ nothing k low,
+  λ one. let was = sym r.number ∙ one in ((sees_law state_of).job x p p' lawful was r.sees).job ∙ lacks was,
+)

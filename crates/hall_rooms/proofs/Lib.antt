@@ -9,3 +9,8 @@ pub mod Erased
 pub mod Fresh
 pub mod Idle
 pub mod Merged
+pub mod Renewing
+pub mod Clearing
+pub mod Made
+pub mod Telling
+pub mod Filled

@@ -1,5 +1,5 @@
--- A turn in which two neighbours are merged.
-use Rattle.std.proofs.Common.{◌≡◌, inl, inr, ⊎_elim, ℕ, ◌≤◌, Bool, true, false, true≢false, List, [], ◌∷◌, drop, length, Option, Some, None, Result, Ok, Err, refl, sym, ap, ◌∙◌, subst, arith}
+-- A turn in which the first neighbours that fit are merged.
+use Rattle.std.proofs.Common.{◌≡◌, inl, inr, ⊎_elim, ℕ, ◌≤◌, Bool, true, false, List, [], ◌∷◌, drop, Option, Some, None, Result, Ok, Err, refl, sym, ap, ◌∙◌, subst, arith}
 use Rattle.std.specs.Prelude.{Contains, slice_get, slice_set}
 use Rattle.fine_model.specs.declared.FetchFault.TheVariants as fetch_fault
 use Rattle.fine_model.specs.declared.Job.{Job}
@@ -8,12 +8,13 @@ use Rattle.fine_model.specs.Boards.{Buffer, buffer_at}
 use Rattle.fine_model.specs.ChainLaws.{part_of}
 use Rattle.fine_model.specs.Faults.{HasRisen}
 use Rattle.fine_model.specs.Jobs.{KeepsJob}
-use Rattle.fine_model.specs.Merge.{FitsFree}
 use Rattle.fine_model.specs.Views.{TellsRowsOf}
+use Rattle.fine_model.specs.declared.Part.{Part}
+use Rattle.fine_model.specs.declared.Row.{Row}
 use Rattle.partition_hold.specs.Views.{IsView, SameView, ViewValue, opened, state_of}
-use Rattle.epoch_room.specs.Meaning.{Keeps, Stands}
+use Rattle.epoch_room.specs.Meaning.{Stands}
 use Rattle.epoch_room.specs.MergeSealing.{merged_state, replaced, retire}
-use Rattle.epoch_room.specs.MergeSteps.{neighbours_from, regions_for_job}
+use Rattle.epoch_room.specs.MergeSteps.{neighbours_from}
 use Rattle.epoch_room.specs.Returns.{IsPosted}
 use Rattle.epoch_room.specs.Value.{RoomValue}
 use Rattle.epoch_room.specs.Whole.{IsWhole}
@@ -24,12 +25,12 @@ use Rattle.epoch_room.proofs.Joining.{keeps_then}
 use Rattle.epoch_room.proofs.Viewing.{empty_is}
 use Rattle.room_merges.specs.declared.fault.MergeFault.{MergeFault}
 use Rattle.room_merges.specs.declared.fault.MergeFault.TheVariants as merge_fault
-use Rattle.room_merges.specs.Merging.{IsOut}
-use Rattle.room_merges.specs.Pairs.{MergesNone, MergesPair, PairOr, header_for, job_for}
-use Rattle.room_merges.specs.Work.{Looks}
-use Rattle.room_merges.proofs.Chained.{shown_by_eye}
-use Rattle.room_merges.proofs.Nearing.{has_newer, has_older, stand_in}
-use Rattle.room_merges.proofs.Working.{posted_then}
+use Rattle.room_merges.specs.Merging.{EyeTells, IsOut}
+use Rattle.room_merges.specs.Near.{NoneFitNow, TriesAll}
+use Rattle.room_merges.specs.Pairs.{header_for, job_for}
+use Rattle.room_merges.proofs.Chained.{shown_by_eye, told_before}
+use Rattle.room_merges.proofs.Nearing.{regions_same}
+use Rattle.room_merges.proofs.Through.{none_fits, still_posted, tries_rest}
 use Rattle.fine_places.specs.History as places
 use Rattle.fine_hall.specs.declared.law.Beginning.{Beginning}
 use Rattle.fine_hall.specs.Laws.{IsRoomFor}
@@ -40,7 +41,7 @@ use Rattle.hall_rooms.specs.Boards.{TakesBackAll}
 use Rattle.hall_rooms.specs.Views.{MakesView, MakesViewOr}
 use Rattle.hall_rooms.specs.Steps.{InTurn, IsCleanTurn, Rises}
 use Rattle.hall_rooms.specs.Turning.{MeetsNone, MeetsSome}
-use Rattle.hall_rooms.specs.Merging.{Failing, FirstTwoUnfit, LeavesBoard, MergesThroughOr, MergesTwoOr, SameChain}
+use Rattle.hall_rooms.specs.Merging.{Failing, LeavesBoard, MergesNext, MergesNextOr, MergesThroughOr, SameChain}
 use Rattle.hall_rooms.proofs.Naming.{set_back, set_there}
 use Rattle.hall_rooms.proofs.Shown.{meets_none, meets_some}
 use Rattle.hall_rooms.proofs.Turned.{epochs_stay, goes, risen, rises, some_failed, stays_none}
@@ -57,10 +58,10 @@ module _ (old made : RoomValue) (view : ViewValue) (m : MakesView old made 1 vie
       ap (λ n. slice_get made.room.board (buffer_at n view.buffer)) m.of_seat
       ∙ (ap (λ l. slice_get l (buffer_at 1 view.buffer)) m.board ∙ set_there old.room.board (buffer_at 1 view.buffer) None (Some (opened view.eye)) was_empty)
 
-  made_open : made.room.is_shut ≡ false
+  pub made_open : made.room.is_shut ≡ false
   made_open = ap (λ (r : RoomState). r.is_shut) m.room ∙ m.not_shut
 
-  made_len : view.region_len ≡ made.room.region_len
+  pub made_len : view.region_len ≡ made.room.region_len
   made_len = m.region_len ∙ sym (ap (λ (r : RoomState). r.region_len) m.room)
 
   -- once it is taken back, the board is as it was
@@ -69,27 +70,12 @@ module _ (old made : RoomValue) (view : ViewValue) (m : MakesView old made 1 vie
       (λ i. slice_set ((is ∙ m.board) i) (buffer_at ((same.place.0 ∙ m.of_seat) i) (same.place.1 i)) None)
       ∙ set_back old.room.board (buffer_at 1 view.buffer) None (Some (opened view.eye)) was_empty
 
--- ---- what a merge of two neighbours leaves
+-- ---- what merging neighbours leaves
 
-from_state : (state : RoomState) (old new : RoomValue) → new.room ≡ state → state.job ≡ None → state.places ≡ old.room.places → state.board ≡ old.room.board → state.sealed ≡ old.room.sealed → state.waiting ≡ old.room.waiting
-    → new.entry ≡ old.entry → Keeps old new → LeavesBoard old new
-from_state state old new is job as_many board sealed waiting entry keeps = record {
-  entry = entry;
-  keeps = keeps;
-  no_job = ap (λ (r : RoomState). r.job) is ∙ job;
-  places = ap (λ (r : RoomState). r.places) is ∙ as_many;
-  board = ap (λ (r : RoomState). r.board) is ∙ board;
-  epochs = (ap (λ (r : RoomState). r.sealed) is ∙ sealed, ap (λ (r : RoomState). r.waiting) is ∙ waiting);
-}
-
-pub pair_leaves : (from : ℕ) (made tried : RoomValue) (view seen : ViewValue) → made.room.is_shut ≡ false → (r : Result Bool MergeFault) → PairOr from made tried view seen r → LeavesBoard made tried
-unfolding merged_state
-pair_leaves from made tried view seen unshut (Ok true) m = from_state _ made tried m.room.1.room refl refl refl refl refl m.room.1.entry m.keeps
-pair_leaves from made tried view seen unshut (Ok false) m = let s = m.room.stays in from_state _ made tried s.room refl refl refl refl refl s.entry s.keeps
-pair_leaves from made tried view seen unshut (Err (merge_fault.Fetch fault)) m = let s = m.room.stays in from_state _ made tried s.room refl refl refl refl refl s.entry s.keeps
-pair_leaves from made tried view seen unshut (Err (merge_fault.Room room_fault.NoMemory)) m = let s = m.stays in from_state _ made tried s.room refl refl refl refl refl s.entry s.keeps
-pair_leaves from made tried view seen unshut (Err (merge_fault.Room room_fault.Disk)) m = let s = m.1 in from_state _ made tried s.room refl refl refl refl refl s.entry s.keeps
-pair_leaves from made tried view seen unshut (Err (merge_fault.Room (room_fault.Shut epoch))) m = absurd (true≢false (sym m.0 ∙ unshut))
+pub any_leaves : (from : ℕ) (made tried : RoomValue) (view seen : ViewValue) (r : Result Bool MergeFault) → TriesAll from made tried view seen r → LeavesBoard made tried
+any_leaves from made tried view seen r tries =
+    let s = tries_rest from made tried view seen r tries in
+    record { entry = s.entry; keeps = s.keeps; no_job = s.job; places = s.places; board = s.board; epochs = (s.sealed, s.waiting) }
 
 -- no call of the disk failed
 as_often : (state : RoomState) (old new : RoomValue) → IsWhole old → new.room ≡ state → state.faults ≡ new.disk.faults → new.disk.faults ≡ old.disk.faults → new.room.faults ≡ old.room.faults
@@ -100,7 +86,7 @@ more_often : (state : RoomState) (old new : RoomValue) → IsWhole old → new.r
 more_often state old new whole is count up =
     rises old new (subst (λ n. HasRisen n new.room.faults) (sym (ap (λ (r : RoomState). r.faults) whole.of_disk)) (subst (HasRisen old.disk.faults) (sym (ap (λ (r : RoomState). r.faults) is ∙ count)) up))
 
--- ---- the view was made, two were tried, and it was taken back
+-- ---- the view was made, neighbours were tried, and it was taken back
 
 module _ (from : ℕ) (old made tried new : RoomValue) (view seen : ViewValue) (makes : MakesView old made 1 view) (whole : IsWhole made) (back : TakesBackAll seen.eye.faults tried new) where
   made_faults : made.room.faults ≡ old.room.faults
@@ -120,16 +106,16 @@ module _ (from : ℕ) (old made tried new : RoomValue) (view seen : ViewValue) (
   call_failed : Rises made.room tried.room → Rises old.room new.room
   call_failed up = let least = back.keeps.becomes.faults in let f = made_faults in ⊎_elim (λ more. inl (omega (arith, more, least, f))) (λ last. inr (omega (arith, last, least))) up
 
-  pub counted : (r : Result Bool MergeFault) → PairOr from made tried view seen r → Looks view seen r → Failing r (Rises old.room new.room) (new.room.faults ≤ old.room.faults)
-  counted (Ok true) m looks = steady (looks.counts.else_same (λ e. cc)) (as_often _ made tried whole m.room.1.room refl m.room.2.faults)
-  counted (Ok false) m looks = steady (looks.counts.else_same (λ e. cc)) (as_often _ made tried whole m.room.stays.room refl m.room.stays.counts.faults)
-  counted (Err (merge_fault.Fetch fetch_fault.Failed)) m looks = read_failed (looks.counts.rises refl) m.room.stays.keeps.becomes.faults
-  counted (Err (merge_fault.Fetch (fetch_fault.BadRow region at))) m looks = steady (looks.counts.else_same (λ e. cc)) (as_often _ made tried whole m.room.stays.room refl m.room.stays.counts.faults)
-  counted (Err (merge_fault.Fetch (fetch_fault.BadIndex region at))) m looks = steady (looks.counts.else_same (λ e. cc)) (as_often _ made tried whole m.room.stays.room refl m.room.stays.counts.faults)
-  counted (Err (merge_fault.Fetch fetch_fault.NoMemory)) m looks = steady (looks.counts.else_same (λ e. cc)) (as_often _ made tried whole m.room.stays.room refl m.room.stays.counts.faults)
-  counted (Err (merge_fault.Room room_fault.NoMemory)) m looks = steady (looks.counts.else_same (λ e. cc)) (as_often _ made tried whole m.stays.room refl m.stays.counts.faults)
-  counted (Err (merge_fault.Room room_fault.Disk)) m looks = call_failed (more_often _ made tried whole m.1.room refl m.1.fails.faults)
-  counted (Err (merge_fault.Room (room_fault.Shut epoch))) m looks = absurd (true≢false (sym m.0 ∙ made_open old made view makes))
+  pub counted : (r : Result Bool MergeFault) → TriesAll from made tried view seen r → Failing r (Rises old.room new.room) (new.room.faults ≤ old.room.faults)
+  counted (Ok true) t = let m = t.room.2 in steady (t.looks.counts.else_same (λ e. cc)) (as_often _ made tried whole m.merges.room.1.room refl (m.merges.room.2.faults ∙ m.stays.counts.faults))
+  counted (Ok false) t = steady (t.looks.counts.else_same (λ e. cc)) (as_often _ made tried whole t.room.0.room refl t.room.0.counts.faults)
+  counted (Err (merge_fault.Fetch fetch_fault.Failed)) t = read_failed (t.looks.counts.rises refl) t.room.0.keeps.becomes.faults
+  counted (Err (merge_fault.Fetch (fetch_fault.BadRow region at))) t = steady (t.looks.counts.else_same (λ e. cc)) (as_often _ made tried whole t.room.0.room refl t.room.0.counts.faults)
+  counted (Err (merge_fault.Fetch (fetch_fault.BadIndex region at))) t = steady (t.looks.counts.else_same (λ e. cc)) (as_often _ made tried whole t.room.0.room refl t.room.0.counts.faults)
+  counted (Err (merge_fault.Fetch fetch_fault.NoMemory)) t = steady (t.looks.counts.else_same (λ e. cc)) (as_often _ made tried whole t.room.0.room refl t.room.0.counts.faults)
+  counted (Err (merge_fault.Room room_fault.NoMemory)) t = steady (t.looks.counts.else_same (λ e. cc)) (as_often _ made tried whole t.room.room refl t.room.counts.faults)
+  counted (Err (merge_fault.Room room_fault.Disk)) t = call_failed (more_often _ made tried whole t.room.0.room refl t.room.0.fails.faults)
+  counted (Err (merge_fault.Room (room_fault.Shut epoch))) t = absurd t.room
 
   -- ---- the whole step
 
@@ -159,59 +145,83 @@ module _ (from : ℕ) (old made tried new : RoomValue) (view seen : ViewValue) (
     );
   }
 
-  unfit : IsView view → MergesNone from made tried view → FirstTwoUnfit from old.room
-  unfit is_view m two a b near older newer fits =
-      let out : IsOut made view = record { whole = whole; is_view = is_view; posted = posted_there old made view makes; region_len = made_len old made view makes } in
-      let stand = stand_in from old.room.parts two near in
-      let has_a = subst (λ ps. Contains ps two.0) (sym makes.parts) (has_older old.room.parts two stand) in
-      let has_b = subst (λ ps. Contains ps two.1) (sym makes.parts) (has_newer old.room.parts two stand) in
-      m.none two (record { first = subst (λ (s : RoomState). neighbours_from from s.parts ≡ Some two) (sym makes.room) near; older = has_a; newer = has_b }) a b
-      (shown_by_eye made view two.0 a out has_a (subst (λ (s : RoomState). TellsRowsOf s.image s.region_len (two.0 ∷ []) a) (sym makes.room) older))
-      (shown_by_eye made view two.1 b out has_b (subst (λ (s : RoomState). TellsRowsOf s.image s.region_len (two.1 ∷ []) b) (sym makes.room) newer))
-      (subst (λ (s : RoomState). FitsFree s.region_len (length s.free) a b) (sym makes.room) fits)
+  -- ---- what a read of the disk gives, the view told
 
-  pub merges : IsView view → (r : Result Bool MergeFault) → PairOr from made tried view seen r → MergesTwoOr from old.room new.room r
+  parts_seen : tried.room.parts ≡ made.room.parts → SameView view seen → new.room.parts ≡ seen.parts
+  parts_seen parts same = ap (λ (r : RoomState). r.parts) back.room ∙ (parts ∙ (ap (λ (r : RoomState). r.parts) makes.room ∙ (sym makes.parts ∙ sym same.parts)))
+
+  shown : IsWhole tried → IsView seen → (r : Result Bool MergeFault) → TriesAll from made tried view seen r → tried.room.parts ≡ made.room.parts
+      → (p : Part) (rows : List Row) → Contains new.room.parts p → TellsRowsOf new.room.image new.room.region_len (p ∷ []) rows → EyeTells view p rows
+  shown middle is_view r t parts p rows there tells =
+      let still = still_posted from made tried view seen (posted_there old made view makes) (made_len old made view makes) r t in
+      let out : IsOut tried seen = record { whole = middle; is_view = is_view; posted = still.0; region_len = still.1 } in
+      told_before view seen p rows t.looks.same
+      (shown_by_eye tried seen p rows out (subst (λ ps. Contains ps p) (parts_seen parts t.looks.same) there)
+      (subst (λ (s : RoomState). TellsRowsOf s.image s.region_len (p ∷ []) rows) back.room tells))
+
+  none_fit : IsWhole tried → IsWhole new → IsView seen → TriesAll from made tried view seen (Ok false) → NoneFitNow new
+  none_fit middle last is_view t =
+      let s = t.room.0 in
+      none_fits new made view last (ap (λ (r : RoomState). r.is_shut) back.room ∙ (ap (λ (r : RoomState). r.is_shut) s.room ∙ made_open old made view makes))
+      (ap (λ (r : RoomState). r.parts) back.room ∙ ap (λ (r : RoomState). r.parts) s.room) (ap (λ (r : RoomState). r.free) back.room ∙ ap (λ (r : RoomState). r.free) s.room)
+      (ap (λ (r : RoomState). r.region_len) back.room ∙ s.keeps.becomes.region_len) (shown middle is_view (Ok false) t (ap (λ (r : RoomState). r.parts) s.room)) t.room.1
+
+  -- ---- two were merged
+
+  next_two : TriesAll from made tried view seen (Ok true) → MergesNext old.room new.room
   unfolding merged_state
-  merges is_view (Ok true) m = (
-    open_still (ap (λ (r : RoomState). r.is_shut) m.room.1.room ∙ m.room.0),
-    record {
-      two = m.two;
-      first = subst (λ (s : RoomState). neighbours_from from s.parts ≡ Some m.two) makes.room m.tried.first;
-      measure = m.measure;
-      ordered = m.ordered;
-      regions = m.regions;
-      taken = subst (λ (s : RoomState). regions_for_job s m.measure ≡ Some m.regions) makes.room m.taken;
-      parts =
-          ap (λ (r : RoomState). r.parts) back.room
-          ∙ (ap (λ (r : RoomState). r.parts) m.room.1.room
-          ∙ ap (λ (s : RoomState). replaced m.two.0.region (part_of (job_for m.two m.measure m.regions s.free).target (header_for m.two m.measure m.regions s.free)) s.parts) makes.room);
-      retired = ap (λ (r : RoomState). r.retired) back.room ∙ (ap (λ (r : RoomState). r.retired) m.room.1.room ∙ ap (λ (s : RoomState). retire m.two.1 (retire m.two.0 s.retired)) makes.room);
-      free = ap (λ (r : RoomState). r.free) back.room ∙ (ap (λ (r : RoomState). r.free) m.room.1.room ∙ ap (λ (s : RoomState). drop m.regions s.free) makes.room);
-    },
-  )
-  merges is_view (Ok false) m = let s = m.room.stays in (open_still (ap (λ (r : RoomState). r.is_shut) s.room ∙ m.room.opened), same_chain _ s.room refl refl refl refl, unfit is_view m)
-  merges is_view (Err (merge_fault.Fetch fault)) m = let s = m.room.stays in (open_still (ap (λ (r : RoomState). r.is_shut) s.room ∙ m.room.opened), same_chain _ s.room refl refl refl refl)
-  merges is_view (Err (merge_fault.Room room_fault.NoMemory)) m = let s = m.stays in (open_still (ap (λ (r : RoomState). r.is_shut) s.room ∙ m.opened), same_chain _ s.room refl refl refl refl)
-  merges is_view (Err (merge_fault.Room room_fault.Disk)) m = let s = m.1 in (
+  next_two t =
+      let some = t.room.2 in
+      let m = some.merges in
+      let were : some.mid.room.parts ≡ old.room.parts = ap (λ (r : RoomState). r.parts) some.stays.room ∙ ap (λ (r : RoomState). r.parts) makes.room in
+      let free : some.mid.room.free ≡ old.room.free = ap (λ (r : RoomState). r.free) some.stays.room ∙ ap (λ (r : RoomState). r.free) makes.room in
+      let gone : some.mid.room.retired ≡ old.room.retired = ap (λ (r : RoomState). r.retired) some.stays.room ∙ ap (λ (r : RoomState). r.retired) makes.room in
+      let len : some.mid.room.region_len ≡ old.room.region_len = some.stays.keeps.becomes.region_len ∙ ap (λ (r : RoomState). r.region_len) makes.room in
+      record {
+        two = m.two;
+        at = t.room.0;
+        first = subst (λ ps. neighbours_from t.room.0 ps ≡ Some m.two) were m.tried.first;
+        measure = m.measure;
+        ordered = m.ordered;
+        regions = m.regions;
+        taken = sym (regions_same old.room some.mid.room m.measure len free) ∙ m.taken;
+        parts =
+            ap (λ (r : RoomState). r.parts) back.room
+            ∙ (ap (λ (r : RoomState). r.parts) m.room.1.room
+            ∙ (λ i. replaced m.two.0.region (part_of (job_for m.two m.measure m.regions (free i)).target (header_for m.two m.measure m.regions (free i))) (were i)));
+        retired = ap (λ (r : RoomState). r.retired) back.room ∙ (ap (λ (r : RoomState). r.retired) m.room.1.room ∙ ap (λ ps. retire m.two.1 (retire m.two.0 ps)) gone);
+        free = ap (λ (r : RoomState). r.free) back.room ∙ (ap (λ (r : RoomState). r.free) m.room.1.room ∙ ap (drop m.regions) free);
+      }
+
+  -- ---- whatever was answered
+
+  merges : IsWhole tried → IsWhole new → IsView seen → (r : Result Bool MergeFault) → TriesAll from made tried view seen r → MergesNextOr old new r
+  unfolding merged_state
+  merges middle last is_view (Ok true) t = let m = t.room.2.merges in (open_still (ap (λ (r : RoomState). r.is_shut) m.room.1.room ∙ m.room.0), next_two t)
+  merges middle last is_view (Ok false) t =
+      let s = t.room.0 in
+      (open_still (ap (λ (r : RoomState). r.is_shut) s.room ∙ made_open old made view makes), same_chain _ s.room refl refl refl refl, none_fit middle last is_view t)
+  merges middle last is_view (Err (merge_fault.Fetch fault)) t = let s = t.room.0 in (open_still (ap (λ (r : RoomState). r.is_shut) s.room ∙ made_open old made view makes), same_chain _ s.room refl refl refl refl)
+  merges middle last is_view (Err (merge_fault.Room room_fault.NoMemory)) t = let s = t.room in (open_still (ap (λ (r : RoomState). r.is_shut) s.room ∙ made_open old made view makes), same_chain _ s.room refl refl refl refl)
+  merges middle last is_view (Err (merge_fault.Room room_fault.Disk)) t = let s = t.room.0 in (
     makes.not_shut,
     ap (λ (r : RoomState). r.is_shut) back.room ∙ ap (λ (r : RoomState). r.is_shut) s.room,
     ap (λ (r : RoomState). r.parts) back.room ∙ (ap (λ (r : RoomState). r.parts) s.room ∙ ap (λ (r : RoomState). r.parts) makes.room),
     ap (λ (r : RoomState). r.retired) back.room ∙ (ap (λ (r : RoomState). r.retired) s.room ∙ ap (λ (r : RoomState). r.retired) makes.room),
   )
-  merges is_view (Err (merge_fault.Room (room_fault.Shut epoch))) m = absurd (true≢false (sym m.0 ∙ made_open old made view makes))
+  merges middle last is_view (Err (merge_fault.Room (room_fault.Shut epoch))) t = absurd t.room
 
-  pub through : IsView view → (r : Result Bool MergeFault) → MergesPair from made tried view seen r → new.room.board ≡ slice_set tried.room.board (buffer_at seen.seat seen.buffer) None → MergesThroughOr from old new r
-  through is_view r m board = record {
-    leaves = leaves m.looks.same (pair_leaves from made tried view seen (made_open old made view makes) r m.room) board;
-    how = inl (record { made = made; view = view; makes = makes; tried = tried; seen = seen; tries = m; back = back });
-    merges = merges is_view r m.room;
-    counted = counted r m.room m.looks;
+  pub through : IsWhole tried → IsWhole new → IsView seen → (r : Result Bool MergeFault) → TriesAll from made tried view seen r → new.room.board ≡ slice_set tried.room.board (buffer_at seen.seat seen.buffer) None → MergesThroughOr from old new r
+  through middle last is_view r t board = record {
+    leaves = leaves t.looks.same (any_leaves from made tried view seen r t) board;
+    how = inl (record { made = made; view = view; makes = makes; tried = tried; seen = seen; tries = t; back = back });
+    merges = merges middle last is_view r t;
+    counted = counted r t;
   }
 
--- the view is posted still, once two were tried through it
-pub still_there : (from : ℕ) (old made tried : RoomValue) (view seen : ViewValue) → MakesView old made 1 view → (r : Result Bool MergeFault) → MergesPair from made tried view seen r → IsPosted tried.room seen
-still_there from old made tried view seen makes r m =
-    posted_then made.room tried.room view seen (pair_leaves from made tried view seen (made_open old made view makes) r m.room).board m.looks.same (posted_there old made view makes)
+-- the view is posted still, once neighbours were tried through it
+pub still_there : (from : ℕ) (old made tried : RoomValue) (view seen : ViewValue) → MakesView old made 1 view → (r : Result Bool MergeFault) → TriesAll from made tried view seen r → IsPosted tried.room seen
+still_there from old made tried view seen makes r t = (still_posted from made tried view seen (posted_there old made view makes) (made_len old made view makes) r t).0
 
 -- ---- no view could be made
 
@@ -235,7 +245,7 @@ no_view from old new whole none room_fault.Disk m = record {
 no_view from old new whole none (room_fault.Shut epoch) m = record {
   leaves = subst (LeavesBoard old) (sym m.2) (stays_board old whole none);
   how = inr (record { fault = room_fault.Shut epoch; is = refl; why = m });
-  merges = (m.0, m.1, ap (λ (v : RoomValue). v.room) m.2);
+  merges = (m.0, m.1, m.2);
   counted = let e = ap (λ (v : RoomValue). v.room.faults) m.2 in omega (arith, e);
 }
 no_view from old new whole none room_fault.NoMemory m = record {

@@ -91,6 +91,9 @@ module _ (x : Beginning) (new : RoomValue) (p' p'' : RoomPass) (z : TableId) (ok
         is,
         s.now,
         record {
+          opened = sym sealed.1.is_shut ∙ (sym (ap (λ (r : RoomState). r.is_shut) b.same) ∙ posts.1);
+          parts = λ none. ap (λ (r : RoomState). r.parts) b.same ∙ ap (λ (v : RoomValue). v.room.parts) (sealed.2 none);
+          epoch = λ some. let e = sealed.1.epoch some in (e.0, ap (λ (r : RoomState). r.parts) b.same ∙ e.1, e.2);
           none_waits = ap (λ (r : RoomState). r.waiting) b.same ∙ sealed.1.none_waits;
           sealed = ap (λ (r : RoomState). r.sealed) b.same ∙ sealed.1.sealed;
           not_shut = posts.1;
@@ -120,7 +123,7 @@ in_turn x old new p' (Err (room_fault.Shut epoch)) s = (s.0.note, s.0.turn)
 in_turn x old new p' (Err room_fault.NoMemory) s = (s.0.note, s.0.turn)
 
 -- a place that was taken and given back is as it was
-held_back : {A : Type 0} (l : List A) (k : ℕ) (a b : A) → get_elem? l k ≡ some a → set (set l k b) k a ≡ l
+pub held_back : {A : Type 0} (l : List A) (k : ℕ) (a b : A) → get_elem? l k ≡ some a → set (set l k b) k a ≡ l
 held_back [] k a b e = refl
 held_back (x ∷ l) zero a b e = ap (λ y. y ∷ l) (sym (some-injective x a e))
 held_back (x ∷ l) (suc k) a b e = ap (λ m. x ∷ m) (held_back l k a b e)

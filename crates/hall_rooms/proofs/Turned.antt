@@ -127,6 +127,7 @@ module _ (old new : RoomValue) (whole : IsWhole old) (waits : old.room.waiting �
     },
     record {
       none_waits = ap (λ (r : RoomState). r.waiting) s.2.1.room;
+      epoch = λ some. (next_part old, ap (λ (r : RoomState). r.parts) s.2.1.room, refl);
       sealed = ap (λ (r : RoomState). r.sealed) s.2.1.room ∙ sym (ap (λ b. if b then old.room.sealed else old.room.sealed + 1) (ne_eqb old.room.waiting 0 waits));
       is_shut = ap (λ (r : RoomState). r.is_shut) s.2.1.room;
       retired = ap (λ (r : RoomState). r.retired) s.2.1.room;
@@ -182,6 +183,7 @@ none_sealed room whole none = (
   record {
     none_waits = none;
     sealed = sym (ap (λ n. if n == 0 then room.room.sealed else room.room.sealed + 1) none);
+    epoch = λ some. absurd (some none);
     is_shut = refl;
     retired = refl;
     free = (refl, refl);

@@ -6,3 +6,4 @@ pub mod Closing
 pub mod Turning
 pub mod Steps
 pub mod Merging
+pub mod Making

@@ -1,13 +1,10 @@
--- A turn of a pass in which two neighbours are merged.
-use Rattle.std.specs.Prelude.{◌≡◌, ◌⊎◌, ℕ, ◌≤◌, Bool, true, false, List, [], ◌∷◌, length, drop, None, Some, Result, Ok, Err}
+-- A turn of a pass in which the first neighbours that fit are merged.
+use Rattle.std.specs.Prelude.{◌≡◌, ◌⊎◌, ℕ, ◌≤◌, Bool, true, false, drop, None, Some, Result, Ok, Err}
 use Rattle.fine_model.specs.declared.FetchFault.TheVariants as fetch_fault
 use Rattle.fine_model.specs.declared.Part.{Part}
-use Rattle.fine_model.specs.declared.Row.{Row}
 use Rattle.fine_model.specs.declared.law.RoomState.{RoomState}
 use Rattle.fine_model.specs.ChainLaws.{part_of}
 use Rattle.fine_model.specs.Jobs.{KeepsJob}
-use Rattle.fine_model.specs.Merge.{FitsFree}
-use Rattle.fine_model.specs.Views.{TellsRowsOf}
 use Rattle.partition_hold.specs.Views.{ViewValue}
 use Rattle.partition_merge.specs.declared.merger.Measure.{Measure}
 use Rattle.epoch_room.specs.Meaning.{Keeps}
@@ -18,7 +15,8 @@ use Rattle.epoch_room.specs.declared.answers.RoomFault.{RoomFault}
 use Rattle.epoch_room.specs.declared.answers.RoomFault.TheVariants as room_fault
 use Rattle.room_merges.specs.declared.fault.MergeFault.{MergeFault}
 use Rattle.room_merges.specs.declared.fault.MergeFault.TheVariants as merge_fault
-use Rattle.room_merges.specs.Pairs.{MergesPair, header_for, job_for}
+use Rattle.room_merges.specs.Near.{NoneFitNow, TriesAll}
+use Rattle.room_merges.specs.Pairs.{header_for, job_for}
 use Rattle.fine_hall.specs.declared.law.Beginning.{Beginning}
 use Rattle.fine_hall.specs.Passes.{known}
 use Rattle.hall_rooms.specs.Rooms.{RoomPass}
@@ -29,14 +27,14 @@ use Rattle.hall_rooms.specs.Turning.{MeetsNone, MeetsSome, StaysIdle, TakesTurn}
 
 -- ---- the step
 
--- A view of all live parts was made for the seat 1, two neighbours were tried through it, and it was taken back.
+-- A view of all live parts was made for the seat 1, neighbours were tried through it, and it was taken back.
 pub record TriesThrough (from : ℕ) (old new : RoomValue) (r : Result Bool MergeFault) : Type 0 where
   pub made : RoomValue
   pub view : ViewValue
   pub makes : MakesView old made 1 view
   pub tried : RoomValue
   pub seen : ViewValue
-  pub tries : MergesPair from made tried view seen r
+  pub tries : TriesAll from made tried view seen r
   pub back : TakesBackAll seen.eye.faults tried new
 
 -- no view could be made
@@ -45,11 +43,12 @@ pub record LacksOwnView (old new : RoomValue) (r : Result Bool MergeFault) : Typ
   pub is : r ≡ Err (merge_fault.Room fault)
   pub why : MakesViewOr old new 1 (Err fault)
 
--- The first two neighbours of which the older one begins at an epoch or later are one part, of a measure of their merged rows, over the
+-- Two neighbours, the first of which the older one begins at some epoch or later, are one part, of a measure of their merged rows, over the
 -- lowest free regions, as few as it needs; the two are retired.
-pub record MergesFirstTwo (from : ℕ) (old new : RoomState) : Type 0 where
+pub record MergesNext (old new : RoomState) : Type 0 where
   pub two : Part × Part
-  pub first : neighbours_from from old.parts ≡ Some two
+  pub at : ℕ
+  pub first : neighbours_from at old.parts ≡ Some two
   pub measure : Measure
   pub ordered : measure.ordered ≡ true
   pub regions : ℕ
@@ -64,26 +63,18 @@ pub record SameChain (old new : RoomState) : Type 0 where
   pub retired : new.retired ≡ old.retired
   pub free : (new.free ≡ old.free) × (new.lost ≡ old.lost)
 
--- The first two neighbours of which the older one begins at an epoch or later, if there are two, do not fit what is free, by what a read of
--- the disk gives.
-abbrev pub FirstTwoUnfit : ℕ → RoomState → Type 0
-FirstTwoUnfit from room =
-    (two : Part × Part) (a b : List Row) → neighbours_from from room.parts ≡ Some two
-    → TellsRowsOf room.image room.region_len (two.0 ∷ []) a → TellsRowsOf room.image room.region_len (two.1 ∷ []) b
-    → FitsFree room.region_len (length room.free) a b → ⊥
-
 -- the room was open, and is
 abbrev pub StaysUnshut : RoomState → RoomState → Type 0
 StaysUnshut old new = (old.is_shut ≡ false) × (new.is_shut ≡ false)
 
--- what merging two neighbours does to the state of a room, by its answer
-abbrev pub MergesTwoOr : ℕ → RoomState → RoomState → Result Bool MergeFault → Type 0
-MergesTwoOr from old new (Ok true) = StaysUnshut old new × MergesFirstTwo from old new
-MergesTwoOr from old new (Ok false) = StaysUnshut old new × SameChain old new × FirstTwoUnfit from old
-MergesTwoOr from old new (Err (merge_fault.Fetch fault)) = StaysUnshut old new × SameChain old new
-MergesTwoOr from old new (Err (merge_fault.Room room_fault.NoMemory)) = StaysUnshut old new × SameChain old new
-MergesTwoOr from old new (Err (merge_fault.Room room_fault.Disk)) = (old.is_shut ≡ false) × (new.is_shut ≡ true) × (new.parts ≡ old.parts) × (new.retired ≡ old.retired)
-MergesTwoOr from old new (Err (merge_fault.Room (room_fault.Shut epoch))) = (old.is_shut ≡ true) × (epoch ≡ old.sealed) × (new ≡ old)
+-- What merging the first neighbours that fit does to a room, by its answer. False: no two fit what is free, by what a read of the disk gives.
+abbrev pub MergesNextOr : RoomValue → RoomValue → Result Bool MergeFault → Type 0
+MergesNextOr old new (Ok true) = StaysUnshut old.room new.room × MergesNext old.room new.room
+MergesNextOr old new (Ok false) = StaysUnshut old.room new.room × SameChain old.room new.room × NoneFitNow new
+MergesNextOr old new (Err (merge_fault.Fetch fault)) = StaysUnshut old.room new.room × SameChain old.room new.room
+MergesNextOr old new (Err (merge_fault.Room room_fault.NoMemory)) = StaysUnshut old.room new.room × SameChain old.room new.room
+MergesNextOr old new (Err (merge_fault.Room room_fault.Disk)) = (old.room.is_shut ≡ false) × (new.room.is_shut ≡ true) × (new.room.parts ≡ old.room.parts) × (new.room.retired ≡ old.room.retired)
+MergesNextOr old new (Err (merge_fault.Room (room_fault.Shut epoch))) = (old.room.is_shut ≡ true) × (epoch ≡ old.room.sealed) × (new ≡ old)
 
 -- the answers with which a call of the disk failed, or a read
 abbrev pub Failing : Result Bool MergeFault → Type 0 → Type 0 → Type 0
@@ -105,16 +96,17 @@ pub record LeavesBoard (old new : RoomValue) : Type 0 where
   pub board : new.room.board ≡ old.room.board
   pub epochs : SameEpochs old.room new.room
 
--- what merging two neighbours through a view of its own does
+-- what merging neighbours through a view of its own does
 pub record MergesThroughOr (from : ℕ) (old new : RoomValue) (r : Result Bool MergeFault) : Type 0 where
   pub leaves : LeavesBoard old new
   pub how : TriesThrough from old new r ⊎ LacksOwnView old new r
-  pub merges : MergesTwoOr from old.room new.room r
+  pub merges : MergesNextOr old new r
   pub counted : Failing r (Rises old.room new.room) (new.room.faults ≤ old.room.faults)
 
 -- ---- the turn
 
--- One turn without an entry, in which the first two neighbours of which the older one begins at an epoch or later are merged, if they fit.
+-- One turn without an entry, in which the first neighbours that fit are merged: tried are those of which the older one begins at an epoch or later, in
+-- chain order, and then those before it.
 pub record MergesInTurn (x : Beginning) (from : ℕ) (p p' : RoomPass) (r : Result Bool MergeFault) : Type 0 where
   pub found : RoomValue
   pub room : RoomValue
@@ -123,7 +115,7 @@ pub record MergesInTurn (x : Beginning) (from : ℕ) (p p' : RoomPass) (r : Resu
   pub job : KeepsJob found.room room.room
   pub how : TriesThrough from found room r ⊎ LacksOwnView found room r
   pub leaves : LeavesBoard found room
-  pub merges : MergesTwoOr from found.room room.room r
+  pub merges : MergesNextOr found room r
   pub meets : Failing r (MeetsSome x p p') (MeetsNone x p p')
 
 -- A pass that holds nothing and has no merge out is such a pass after a turn that merges.

@@ -16,7 +16,7 @@ use Rattle.fine_hall.specs.declared.law.Beginning.{Beginning}
 use Rattle.fine_hall.specs.Passes.{known, turns, own_turns, published, given_up, last_room, HasPlace, IsHolder}
 use Rattle.fine_hall.specs.Halls.{MayGiveRoom, Posts}
 use Rattle.hall_rooms.specs.Rooms.{RoomPass, room_state, room_log}
-use Rattle.hall_rooms.specs.Turning.{ErasesUnheld, NewView, SealedAndPosted}
+use Rattle.hall_rooms.specs.Turning.{AddsEpoch, ErasesUnheld, NewView, SealedAndPosted}
 
 -- ---- a turn
 
@@ -72,6 +72,7 @@ Rises old new = (old.faults < new.faults) ⊎ (last_count ≤ new.faults)
 pub record IsSealed (old new : RoomState) : Type 0 where
   pub none_waits : new.waiting ≡ 0
   pub sealed : new.sealed ≡ (if old.waiting == 0 then old.sealed else old.sealed + 1)
+  pub epoch : (old.waiting ≡ 0 → ⊥) → AddsEpoch old new
   pub is_shut : new.is_shut ≡ old.is_shut
   pub retired : new.retired ≡ old.retired
   pub free : (new.free ≡ old.free) × (new.lost ≡ old.lost)

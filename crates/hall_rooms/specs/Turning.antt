@@ -56,8 +56,16 @@ pub record NewView (given : List ℕ) (parts : List Part) (board : List Buffer) 
   pub of_parts : eye.regions ≡ set_of (all_regions parts)
   pub is_new : Contains given eye.number → ⊥
 
--- What waited is sealed, as one epoch more, and each seat has a new view of all live parts. What is retired, free or lost is as it was.
+-- the chain has one part more, of the epoch behind the last sealed one
+abbrev pub AddsEpoch : RoomState → RoomState → Type 0
+AddsEpoch old new = (p : Part) × (new.parts ≡ old.parts ++ p ∷ []) × (p.header.range ≡ record { first = old.sealed + 1; last = old.sealed + 1 })
+
+-- What waited is sealed, as one epoch more, and each seat has a new view of all live parts. What is retired, free or lost is as it was, and so is
+-- the chain where nothing waited.
 pub record SealedAndPosted (found room : RoomState) (seats : ℕ) : Type 0 where
+  pub opened : found.is_shut ≡ false
+  pub parts : found.waiting ≡ 0 → room.parts ≡ found.parts
+  pub epoch : (found.waiting ≡ 0 → ⊥) → AddsEpoch found room
   pub none_waits : room.waiting ≡ 0
   pub sealed : room.sealed ≡ (if found.waiting == 0 then found.sealed else found.sealed + 1)
   pub not_shut : room.is_shut ≡ false

@@ -3,6 +3,7 @@
 
 mod closing;
 mod laws;
+mod making;
 mod merging;
 mod opening;
 mod settling;
@@ -10,8 +11,9 @@ mod showing;
 mod views;
 
 pub use closing::close_hall;
-pub use laws::idle_law;
-pub use merging::merge_two;
+pub use laws::{idle_law, space_law};
+pub use making::{Space, make_room, try_room};
+pub use merging::merge_next;
 pub use opening::{Opened, RoomHall, open_hall};
 pub use settling::settle_views;
 pub use showing::seal_and_post;

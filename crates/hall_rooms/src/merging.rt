@@ -1,4 +1,4 @@
-//! A turn of the room in which two neighbours are merged.
+//! A turn of the room in which the first neighbours that fit are merged.
 
 ghost use Rattle.std.specs.Prelude.{◌≡◌, ◌≤◌, None, IsSome, length};
 ghost use Rattle.fine_model.specs.Boards.{empty_of};
@@ -13,13 +13,12 @@ use epoch_room::Room;
 use fine_hall::Pass;
 use log_disk::LogDisk;
 use partition_hold::View;
-use room_merges::{MergeFault, merge_pair};
+use room_merges::{MergeFault, merge_any};
 use std::alloc::Global;
 use std::sync::Wait;
 
-/// Merges the first two neighbours of which the older one begins at an epoch or later, through a view that is made for it, in an empty buffer of the
-/// seat 1.
-fn merge_through<D: LogDisk>(
+/// Merges the first neighbours that fit, through a view that is made for it, in an empty buffer of the seat 1.
+pub(crate) fn merge_through<D: LogDisk>(
     alloc: Global,
     room: &mut Room<D>,
     from: u64,
@@ -34,24 +33,27 @@ fn merge_through<D: LogDisk>(
         Ok(mut view) => {
             let _made = room.counts();
             let _seen = view.parts();
-            let merged = merge_pair(alloc, room, &mut view, from);
+            let merged = merge_any(alloc, room, &mut view, from);
             let _tried = room.counts();
+            let _parts = view.parts();
             take_back(room, view);
+            let _left = room.counts();
             merged
         }
         Err(fault) => Err(MergeFault::Room(fault)),
     }
 }
 
-/// Merges the first two neighbours of the chain of which the older one begins at an epoch or later, through a view of all live parts that is made for it
-/// and taken back: one turn without an entry. The pass is that of the seat 1, and has no merge out. It may wait for the room.
+/// Merges the first neighbours of the chain that fit, through a view of all live parts that is made for it and taken back: one turn without an entry.
+/// Tried are first the neighbours of which the older one begins at an epoch or later, in chain order, and then those before it. The pass is that of the
+/// seat 1, and has no merge out. It may wait for the room.
 ///
-/// True exactly where they were merged; the two are retired, and their regions are free once no view names them, by `settle_views`. False where there are
-/// no such two, or they do not fit what is free; then the chain is as it was.
+/// True exactly where two were merged; they are retired, and their regions are free once no view names them, by `settle_views`. False where no two
+/// neighbours fit what is free, by what a read of the disk gives; then the chain is as it was.
 ///
 /// `Disk` comes only where the disk failed in this call, and the room is shut; `Shut` exactly where it was shut before, and the turn leaves it as it was.
 /// After these, `NoMemory` and each refusal of a read the chain is as it was.
-pub fn merge_two<D: LogDisk, W: Wait>(
+pub fn merge_next<D: LogDisk, W: Wait>(
     rt: &W,
     alloc: Global,
     hall: &RoomHall<D>,

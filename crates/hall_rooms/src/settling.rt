@@ -15,7 +15,7 @@ use partition_hold::View;
 use std::sync::Wait;
 
 /// Erases each retired part that no view names.
-fn erase_unheld<D: LogDisk>(room: &mut Room<D>) -> Result<u32, RoomFault>
+pub(crate) fn erase_unheld<D: LogDisk>(room: &mut Room<D>) -> Result<u32, RoomFault>
     ensures { ErasesOr room.old room.new result }
 {
     let _whole = room.counts();

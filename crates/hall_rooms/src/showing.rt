@@ -74,7 +74,7 @@ fn post_to_each<D: LogDisk>(
 }
 
 /// Seals what waits, posts a view of it to each seat, and publishes it.
-fn show<D: LogDisk>(
+pub(crate) fn show<D: LogDisk>(
     hall: &RoomHall<D>,
     pass: &mut Pass<View<D::Eye>>,
     room: &mut Room<D>,

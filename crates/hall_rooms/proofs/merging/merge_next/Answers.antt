@@ -7,7 +7,7 @@ use Rattle.hall_rooms.proofs.Merged.{may_merge, meets, no_jobs, none_out}
 use Rattle.hall_rooms.proofs.Posted.{some_empty}
 use Rattle.hall_rooms.proofs.Shown.{held_same, turn_taken}
 use Rattle.hall_rooms.proofs.Turned.{begins, stays_none}
-use Rattle.hall_rooms.proofs.merging.merge_two.Goals as goal
+use Rattle.hall_rooms.proofs.merging.merge_next.Goals as goal
 
 pub take_room-room-requires-send-R : goal.take_room-room-requires-send-R
 take_room-room-requires-send-R g c κs within = let d = c.type_bounds.send-D in search (sendable, room_send) depth 20

@@ -1,0 +1,136 @@
+-- Rounds of sealing, posting, looking and erasing, until nothing is retired.
+use Rattle.std.proofs.Common.{◌≡◌, ◌≢◌, ◌⊎◌, inl, inr, ⊎_elim, ℕ, ◌+◌, ◌==◌, Bool, true, false, cond, true≢false, List, [], ◌∷◌, ◌++◌, filter, Some, None, Result, Ok, Err, refl, sym, ap, ◌∙◌, subst, arith, append-nil}
+use Rattle.std.specs.Prelude.{if◌then◌else◌, find, is_some, map, nat_le, not, nat_eq, option_to_list}
+use Rattle.std.specs.List.{list_any}
+use Rattle.std.proofs.lemmas.Bool.Decides.{leb_tells}
+use Rattle.fine_model.specs.declared.Part.{Part}
+use Rattle.fine_model.specs.declared.law.RoomState.{RoomState}
+use Rattle.fine_model.specs.Jobs.{KeepsJob, job_regions}
+use Rattle.partition_hold.specs.Views.{state_of}
+use Rattle.epoch_room.specs.Steps.{retired_from}
+use Rattle.epoch_room.specs.Value.{RoomValue, all_regions, regions_outside}
+use Rattle.epoch_room.specs.Whole.{IsWhole}
+use Rattle.epoch_room.specs.declared.answers.RoomFault.{RoomFault}
+use Rattle.epoch_room.specs.declared.answers.RoomFault.TheVariants as room_fault
+use Rattle.fine_hall.specs.declared.law.Beginning.{Beginning}
+use Rattle.fine_hall.specs.Halls.{IsAhead}
+use Rattle.hall_rooms.specs.Rooms.{RoomPass}
+use Rattle.hall_rooms.specs.Steps.{IsCleanTurn, ShowsOr}
+use Rattle.hall_rooms.specs.Turning.{SealedAndPosted}
+use Rattle.hall_rooms.specs.Making.{AllAhead, ClearsOr, ErasesAndLooks, IsCleared, RoundOr, SealsAll, Stops}
+use Rattle.hall_rooms.proofs.Erased.{job_kept, may_settle}
+use Rattle.hall_rooms.proofs.Turned.{some_failed}
+
+-- ---- what is retired
+
+zero_below : (n : ℕ) → nat_le 0 n ≡ true
+zero_below n = ⊎_elim (λ h. h.0) (λ h. let lt = h.1 in absurd (omega (arith, lt))) (leb_tells 0 n)
+
+-- some part is led by a region from 0 on
+some_lead : (p : Part) (l : List Part) → is_some (find (nat_le 0) (map (λ (q : Part). q.region) (p ∷ l))) ≡ true
+some_lead p l = ap (λ b. is_some {T = ℕ} (cond b (Some p.region) (find (nat_le 0) (map (λ (q : Part). q.region) l)))) (zero_below p.region)
+
+pub some_retired : (room : RoomState) → is_some (retired_from room 0) ≡ true → room.retired ≢ []
+some_retired room some is = true≢false (sym some ∙ ap (λ ps. is_some (find (nat_le 0) (map (λ (q : Part). q.region) ps))) is)
+
+pub not_retired : (room : RoomState) → is_some (retired_from room 0) ≡ false → room.retired ≡ []
+not_retired room none = by room.retired refl
+  where
+    by : (l : List Part) → room.retired ≡ l → room.retired ≡ []
+    by [] is = is
+    by (p ∷ l) is = absurd (true≢false (sym (some_lead p l) ∙ (ap (λ ps. is_some (find (nat_le 0) (map (λ (q : Part). q.region) ps))) (sym is) ∙ none)))
+
+-- ---- a room that is cleared
+
+pub is_cleared : (room : RoomValue) → IsWhole room → room.room.is_shut ≡ false → room.room.waiting ≡ 0 → room.room.retired ≡ [] → room.room.job ≡ None → IsCleared room
+is_cleared room whole not_shut none_waits none_retired no_job = record {
+  whole = whole;
+  not_shut = not_shut;
+  none_waits = none_waits;
+  none_retired = none_retired;
+  no_job = no_job;
+  all_free =
+      whole.free
+      ∙ (λ i. regions_outside (sym (ap (λ (r : RoomState). r.regions) whole.of_disk) i)
+      (option_to_list ((whole.epoch.none none_waits).0 i)
+      ++ (filter (λ r. not (list_any (nat_eq r) room.room.lost)) (job_regions (no_job i)) ++ (whole.lost not_shut i ++ all_regions (room.room.parts ++ none_retired i)))))
+      ∙ ap (λ ps. regions_outside room.room.regions (all_regions ps)) (append-nil room.room.parts);
+}
+
+-- ---- sealing, and sealing again
+
+pub seals_then : (a b c : RoomState) → SealsAll a b → SealsAll b c → SealsAll a c
+seals_then a b c s t = record {
+  opened = s.opened;
+  none_waits = t.none_waits;
+  sealed = t.sealed ∙ (ap (λ n. if n == 0 then b.sealed else b.sealed + 1) s.none_waits ∙ s.sealed);
+  not_shut = t.not_shut;
+  parts = λ none. t.parts s.none_waits ∙ s.parts none;
+  epoch = λ some. let e = s.epoch some in (e.0, t.parts s.none_waits ∙ e.1, e.2);
+}
+
+-- what was done so far: nothing, or what waited was sealed
+abbrev pub SoFar : RoomValue → RoomValue → Type 0
+SoFar old new = (new ≡ old) ⊎ SealsAll old.room new.room
+
+pub so_far_then : (old mid new : RoomValue) → SoFar old mid → SealsAll mid.room new.room → SealsAll old.room new.room
+so_far_then old mid new so_far s = ⊎_elim (λ is. subst (λ (v : RoomValue). SealsAll v.room new.room) is s) (λ was. seals_then old.room mid.room new.room was s) so_far
+
+pub stops_then : (old mid new : RoomValue) → SoFar old mid → (fault : RoomFault) → Stops mid new fault → Stops old new fault
+stops_then old mid new (inl is) fault s = subst (λ v. Stops v new fault) is s
+stops_then old mid new (inr was) room_fault.Disk s = (was.opened, s.1)
+stops_then old mid new (inr was) (room_fault.Shut epoch) s = absurd (true≢false (sym s.0 ∙ was.not_shut))
+stops_then old mid new (inr was) room_fault.NoMemory s = s
+
+-- ---- one round
+
+module _ (x : Beginning) (old mid new : RoomValue) (others : List RoomPass) where
+  -- showing came to no end
+  pub show_fails : (p' : RoomPass) (fault : RoomFault) → ShowsOr x old new p' (Err fault) → RoundOr x old new p' others (Err fault)
+  show_fails p' room_fault.Disk s = (s.0, (s.1, s.2))
+  show_fails p' (room_fault.Shut epoch) s = (s.0, (s.1, s.2, s.3))
+  show_fails p' room_fault.NoMemory s = (s.0, s.1)
+
+  module _ (p' : RoomPass) (seats : ℕ) (posted : SealedAndPosted old.room mid.room seats) (c : IsCleanTurn x mid p') where
+    -- and erasing
+    pub round_goes : IsAhead state_of x p' → AllAhead x others → (r : Result Bool RoomFault) → ErasesAndLooks mid new r → RoundOr x old new p' others r
+    round_goes ahead all (Ok done) (erased, e, none) = (
+      record { note = c.note; turn = may_settle x mid new p' c (Ok erased) e; none_failed = let n = c.none_failed in let f = e.5 in omega (arith, n, f) },
+      record {
+        opened = posted.opened;
+        none_waits = e.1.1 ∙ posted.none_waits;
+        sealed = e.1.0 ∙ posted.sealed;
+        not_shut = e.3;
+        parts = λ idle. ap (λ (r : RoomState). r.parts) e.4.same ∙ posted.parts idle;
+        epoch = λ some. let p = posted.epoch some in (p.0, ap (λ (r : RoomState). r.parts) e.4.same ∙ p.1, p.2);
+      },
+      ahead,
+      all,
+      none,
+    )
+    round_goes ahead all (Err room_fault.Disk) e = (record { note = c.note; turn = may_settle x mid new p' c (Err room_fault.Disk) e; some_failed = some_failed x p' mid new c.note c.turn e.4 }, (posted.opened, e.3))
+    round_goes ahead all (Err (room_fault.Shut epoch)) e = absurd (true≢false (sym e.0 ∙ posted.not_shut))
+    round_goes ahead all (Err room_fault.NoMemory) e =
+        (record { note = c.note; turn = may_settle x mid new p' c (Err room_fault.NoMemory) e; none_failed = let n = c.none_failed in let f = e.3 in omega (arith, n, f) }, e.2)
+
+-- erasing keeps the merge that is out
+pub looks_job : (old new : RoomValue) (r : Result Bool RoomFault) → ErasesAndLooks old new r → KeepsJob old.room new.room
+looks_job old new (Ok done) (erased, e, none) = job_kept old new (Ok erased) e
+looks_job old new (Err fault) e = job_kept old new (Err fault) e
+
+pub job_stays : (a b : RoomState) → KeepsJob a b → a.job ≡ None → b.job ≡ None
+job_stays a b keeps none = keeps.job ∙ none
+
+-- ---- until nothing is retired
+
+module _ (x : Beginning) (old mid new : RoomValue) (so_far : SoFar old mid) (p' : RoomPass) (others : List RoomPass) where
+  pub cleared : RoundOr x mid new p' others (Ok true) → IsWhole new → new.room.job ≡ None → ClearsOr x old new p' others (Ok tt)
+  cleared r whole none =
+      let seals = so_far_then old mid new so_far r.1 in
+      (r.0, record { seals = seals; cleared = is_cleared new whole seals.not_shut seals.none_waits (r.4 refl) none }, r.2, r.3)
+
+  pub round_fails : (fault : RoomFault) → RoundOr x mid new p' others (Err fault) → ClearsOr x old new p' others (Err fault)
+  round_fails fault r = (r.0, stops_then old mid new so_far fault r.1)
+
+  pub round_more : RoundOr x mid new p' others (Ok false) → SoFar old new
+  round_more r = inr (so_far_then old mid new so_far r.1)

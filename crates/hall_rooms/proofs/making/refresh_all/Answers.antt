@@ -1,0 +1,24 @@
+-- The pass of a turn and others look at their mailboxes.
+use denote.Param.Send.{sendable}
+use Rattle.hall_rooms.specs.Rooms.{beginning_of}
+use Rattle.hall_rooms.proofs.Crossing.{bucket_send, room_send}
+use Rattle.hall_rooms.proofs.Renewing.{looked, looked_clean, looks_on, same_turn}
+use Rattle.hall_rooms.proofs.making.refresh_all.Goals as goal
+
+pub refresh-requires-send-R : goal.refresh-requires-send-R
+refresh-requires-send-R g c κs within = let d = c.type_bounds.send-D in search (sendable, room_send) depth 20
+
+pub refresh-requires-send-B : goal.refresh-requires-send-B
+refresh-requires-send-B g c κs within = search (sendable, bucket_send) depth 20
+
+pub returns-clause-goes : goal.returns-clause-goes
+returns-clause-goes g c =
+    let x = beginning_of c.args.hall.now in
+    looks_on x c.args.pass.now c.refresh.new.pass c.requires.turn.turn.held (looked x c.refresh.result c.args.pass.now c.refresh.new.pass c.refresh.ensures.pass.1 c.refresh.ensures.answer)
+
+pub returns-clause-turn : goal.returns-clause-turn
+returns-clause-turn g c =
+    let x = beginning_of c.args.hall.now in
+    let p = c.args.pass.now in
+    let q = c.refresh.new.pass in
+    looked_clean x _ p q c.refresh.ensures.pass.0 c.args.room.now c.counts-whole.ensures.whole (looked x c.refresh.result p q c.refresh.ensures.pass.1 c.refresh.ensures.answer) (same_turn x c.refresh.result p q c.refresh.ensures.answer) c.requires.turn

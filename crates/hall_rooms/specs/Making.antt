@@ -1,0 +1,226 @@
+-- Making room with the passes of a hall, in one turn of the seat 1.
+use Rattle.std.specs.Prelude.{◌≡◌, ◌≢◌, ◌⊎◌, ℕ, ◌+◌, ◌<◌, ◌≤◌, ◌==◌, if◌then◌else◌, Bool, true, false, List, [], ◌∷◌, ◌++◌, length, None, Result, Ok, Err}
+use mathlib.Core.Option.{some}
+use lib.ListN.{get_elem?}
+use Rattle.fine_model.specs.declared.Row.{Row}
+use Rattle.fine_model.specs.declared.law.RoomState.{RoomState}
+use Rattle.fine_model.specs.Becomes.{IsStuck}
+use Rattle.fine_model.specs.Buckets.{Began}
+use Rattle.fine_model.specs.Jobs.{KeepsJob}
+use Rattle.partition_hold.specs.Views.{state_of}
+use Rattle.epoch_room.specs.Meaning.{Stands}
+use Rattle.epoch_room.specs.Value.{RoomValue, all_regions, regions_outside}
+use Rattle.epoch_room.specs.Whole.{IsWhole}
+use Rattle.epoch_room.specs.declared.answers.RoomFault.{RoomFault}
+use Rattle.epoch_room.specs.declared.answers.RoomFault.TheVariants as room_fault
+use Rattle.room_merges.specs.declared.fault.MergeFault.{MergeFault}
+use Rattle.room_merges.specs.declared.fault.MergeFault.TheVariants as merge_fault
+use Rattle.fine_places.specs.History as places
+use Rattle.fine_places.specs.History.{by_seat}
+use Rattle.fine_places.specs.declared.model.Placed.{Placed}
+use Rattle.fine_hall.specs.declared.law.Beginning.{Beginning}
+use Rattle.fine_hall.specs.declared.turn.Turn.{Turn}
+use Rattle.fine_hall.specs.Turns.{commits, in_bucket, room_after}
+use Rattle.fine_hall.specs.Laws.{AreTurns}
+use Rattle.fine_hall.specs.Passes.{turns, own_turns, seen, known, published, last_room, HasPlace, HoldsNothing, LacksJob}
+use Rattle.fine_hall.specs.Halls.{turn_of, IsAhead, SeesMore}
+use Rattle.hall_rooms.specs.declared.making.Space.{Space}
+use Rattle.hall_rooms.specs.declared.making.Space.TheVariants as space
+use Rattle.hall_rooms.specs.Rooms.{RoomPass, room_log}
+use Rattle.hall_rooms.specs.Steps.{ErasesOr, IsCleanTurn, IsFailedTurn}
+use Rattle.hall_rooms.specs.Turning.{AddsEpoch, MeetsNone, MeetsSome}
+use Rattle.hall_rooms.specs.Merging.{Failing, MergesThroughOr}
+
+-- ---- the fronts of passes
+
+-- The pass looked at its mailbox, or is as it was: it saw more, holds what it held, and met no fault.
+pub record Renews (x : Beginning) (p p' : RoomPass) : Type 0 where
+  pub number : p'.number ≡ p.number
+  pub sees : SeesMore p p'
+  pub same_held : (known p').held ≡ (known p).held
+  pub meets : MeetsNone x p p'
+
+-- So it is of each of some passes below a place, whose front shows the history so far up to an epoch that is not below the published one; the
+-- others are as they were.
+pub record RenewsBelow (x : Beginning) (upto : ℕ) (old new : List RoomPass) : Type 0 where
+  pub many : length new ≡ length old
+  pub each : (i : ℕ) (p : RoomPass) → i < upto → get_elem? old i ≡ some p → (p' : RoomPass) × (get_elem? new i ≡ some p') × Renews x p p' × IsAhead state_of x p'
+  pub rest : (i : ℕ) (p : RoomPass) → upto ≤ i → get_elem? old i ≡ some p → get_elem? new i ≡ some p
+
+-- each of some passes looked at its mailbox, or is as it was
+pub record RenewsEach (x : Beginning) (old new : List RoomPass) : Type 0 where
+  pub many : length new ≡ length old
+  pub each : (i : ℕ) (p : RoomPass) → get_elem? old i ≡ some p → (p' : RoomPass) × (get_elem? new i ≡ some p') × Renews x p p'
+
+-- their fronts show the history so far up to an epoch that is not below the published one
+abbrev pub AllAhead : Beginning → List RoomPass → Type 0
+AllAhead x passes = (i : ℕ) (p : RoomPass) → get_elem? passes i ≡ some p → IsAhead state_of x p
+
+-- In a turn of the pass: what it saw and holds stays, and it met no fault. Its front may be another.
+pub record TurnsOn (x : Beginning) (p p' : RoomPass) : Type 0 where
+  pub held : (known p').held ≡ (known p).held
+  pub turns : turns p' ≡ turns p
+  pub own : own_turns p' ≡ own_turns p
+  pub no_earlier : published p ≤ published p'
+  pub meets : MeetsNone x p p'
+
+-- ---- clearing
+
+-- Nothing waits, nothing is retired, and each region that is of no live part is free.
+pub record IsCleared (room : RoomValue) : Type 0 where
+  pub whole : IsWhole room
+  pub not_shut : room.room.is_shut ≡ false
+  pub none_waits : room.room.waiting ≡ 0
+  pub none_retired : room.room.retired ≡ []
+  pub no_job : room.room.job ≡ None
+  pub all_free : room.room.free ≡ regions_outside room.room.regions (all_regions room.room.parts)
+
+-- What waited is sealed, as one epoch more, which the chain has as its last part; else the chain is as it was.
+pub record SealsAll (old new : RoomState) : Type 0 where
+  pub opened : old.is_shut ≡ false
+  pub none_waits : new.waiting ≡ 0
+  pub sealed : new.sealed ≡ (if old.waiting == 0 then old.sealed else old.sealed + 1)
+  pub not_shut : new.is_shut ≡ false
+  pub parts : old.waiting ≡ 0 → new.parts ≡ old.parts
+  pub epoch : (old.waiting ≡ 0 → ⊥) → AddsEpoch old new
+
+-- So it is, and all that was retired is erased.
+pub record Clears (old new : RoomValue) : Type 0 where
+  pub seals : SealsAll old.room new.room
+  pub cleared : IsCleared new
+
+-- sealing, posting and erasing came to no end
+abbrev pub Stops : RoomValue → RoomValue → RoomFault → Type 0
+Stops old new room_fault.Disk = (old.room.is_shut ≡ false) × (new.room.is_shut ≡ true)
+Stops old new (room_fault.Shut epoch) = (old.room.is_shut ≡ true) × (epoch ≡ old.room.sealed) × (new ≡ old)
+Stops old new room_fault.NoMemory = new.room.is_shut ≡ false
+
+-- how a turn goes on behind such a fault
+abbrev pub GoesOnAfter : Beginning → RoomValue → RoomPass → RoomFault → Type 0
+GoesOnAfter x room p room_fault.Disk = IsFailedTurn x room p
+GoesOnAfter x room p (room_fault.Shut epoch) = IsCleanTurn x room p
+GoesOnAfter x room p room_fault.NoMemory = IsCleanTurn x room p
+
+-- what no view names is erased, and it is told whether nothing is retired
+abbrev pub ErasesAndLooks : RoomValue → RoomValue → Result Bool RoomFault → Type 0
+ErasesAndLooks old new (Ok done) = (erased : ℕ) × ErasesOr old new (Ok erased) × (done ≡ true → new.room.retired ≡ [])
+ErasesAndLooks old new (Err fault) = ErasesOr old new (Err fault)
+
+-- one round: what waited is sealed, views are posted to all seats and taken, and what no view names is erased
+abbrev pub RoundOr : Beginning → RoomValue → RoomValue → RoomPass → List RoomPass → Result Bool RoomFault → Type 0
+RoundOr x old new p' others (Ok done) = IsCleanTurn x new p' × SealsAll old.room new.room × IsAhead state_of x p' × AllAhead x others × (done ≡ true → new.room.retired ≡ [])
+RoundOr x old new p' others (Err fault) = GoesOnAfter x new p' fault × Stops old new fault
+
+-- rounds until nothing is retired
+abbrev pub ClearsOr : Beginning → RoomValue → RoomValue → RoomPass → List RoomPass → Result (Unit {0}) RoomFault → Type 0
+ClearsOr x old new p' others (Ok done) = IsCleanTurn x new p' × Clears old new × IsAhead state_of x p' × AllAhead x others
+ClearsOr x old new p' others (Err fault) = GoesOnAfter x new p' fault × Stops old new fault
+
+-- ---- merging what was cleared
+
+-- two were merged, and what they were is erased
+pub record MergesAndClears (from : ℕ) (old new : RoomValue) : Type 0 where
+  pub merged : RoomValue
+  pub merges : MergesThroughOr from old merged (Ok true)
+  pub clears : Clears merged new
+
+-- all neighbours were tried in vain, and nothing is retired still
+pub record TriesInVain (from : ℕ) (old new : RoomValue) : Type 0 where
+  pub tries : MergesThroughOr from old new (Ok false)
+  pub cleared : IsCleared new
+
+-- it stopped in merging, or in clearing behind it
+abbrev pub StopsMerging : ℕ → RoomValue → RoomValue → RoomFault → Type 0
+StopsMerging from old new fault = MergesThroughOr from old new (Err (merge_fault.Room fault)) ⊎ ((merged : RoomValue) × MergesThroughOr from old merged (Ok true) × Stops merged new fault)
+
+-- a room in which two were merged is cleared
+abbrev pub ClearsMergedOr : RoomValue → RoomValue → Result Bool MergeFault → Type 0
+ClearsMergedOr old new (Ok done) = Clears old new × (done ≡ true)
+ClearsMergedOr old new (Err (merge_fault.Fetch fault)) = ⊥
+ClearsMergedOr old new (Err (merge_fault.Room fault)) = Stops old new fault
+
+-- two were merged, or none fit, and the answer is as it was told
+abbrev pub MergesClearedOr : ℕ → Bool → RoomValue → RoomValue → Result Bool MergeFault → Type 0
+MergesClearedOr from had old new (Ok done) = (MergesAndClears from old new × (done ≡ true)) ⊎ (TriesInVain from old new × (done ≡ had))
+MergesClearedOr from had old new (Err (merge_fault.Fetch fault)) = MergesThroughOr from old new (Err (merge_fault.Fetch fault))
+MergesClearedOr from had old new (Err (merge_fault.Room fault)) = StopsMerging from old new fault
+
+-- how a turn goes on behind each answer: some call of it failed, or none
+abbrev pub GoesOn : Beginning → RoomValue → RoomPass → Result Bool MergeFault → Type 0
+GoesOn x room p r = Failing r (IsFailedTurn x room p) (IsCleanTurn x room p)
+
+-- ---- making room
+
+-- P of the room once it was cleared
+pub record OnceCleared (found : RoomValue) (P : RoomValue → Type 0) : Type 0 where
+  pub cleared : RoomValue
+  pub clears : Clears found cleared
+  pub is : P cleared
+
+-- Something was retired, which is erased, and no two neighbours fit; or two were merged. False: nothing was retired and no two fit. It
+-- stopped before the room was cleared, or behind that.
+abbrev pub MakesOr : ℕ → RoomValue → RoomValue → Result Bool MergeFault → Type 0
+MakesOr from found room (Ok true) =
+    OnceCleared found (λ cleared. MergesAndClears from cleared room) ⊎ ((found.room.retired ≢ []) × OnceCleared found (λ cleared. TriesInVain from cleared room))
+MakesOr from found room (Ok false) = (found.room.retired ≡ []) × OnceCleared found (λ cleared. TriesInVain from cleared room)
+MakesOr from found room (Err (merge_fault.Fetch fault)) = OnceCleared found (λ cleared. MergesThroughOr from cleared room (Err (merge_fault.Fetch fault)))
+MakesOr from found room (Err (merge_fault.Room room_fault.Disk)) =
+    (found.room.is_shut ≡ false) × (room.room.is_shut ≡ true) × (Stops found room room_fault.Disk ⊎ OnceCleared found (λ cleared. StopsMerging from cleared room room_fault.Disk))
+MakesOr from found room (Err (merge_fault.Room (room_fault.Shut epoch))) = (found.room.is_shut ≡ true) × (epoch ≡ found.room.sealed) × (room ≡ found)
+MakesOr from found room (Err (merge_fault.Room room_fault.NoMemory)) =
+    (room.room.is_shut ≡ false) × (Stops found room room_fault.NoMemory ⊎ OnceCleared found (λ cleared. StopsMerging from cleared room room_fault.NoMemory))
+
+-- ---- the turn
+
+-- One turn without an entry: the pass saw the turns of others since, of which none is in a bucket that it holds, and then its own, which found
+-- the room so, and gave it back so. Its front may be another.
+pub record AddsTurn (x : Beginning) (found room : RoomState) (p p' : RoomPass) : Type 0 where
+  pub others : List (Placed Turn)
+  pub not_own : by_seat p.number others ≡ []
+  pub kept : (j : ℕ) → j < places.room → HasPlace p j → in_bucket j (seen p) ≡ in_bucket j (commits (turns p ++ others))
+  pub found_is : found ≡ room_after x.room (turns p ++ others)
+  -- the merge of the seat 1 is left by the turns of others
+  pub found_job : p.number ≡ 1 → KeepsJob (last_room x p) found
+  pub returned : ℕ
+  pub turns_more : turns p' ≡ (turns p ++ others) ++ record { seat = p.number; item = turn_of None 0 room returned } ∷ []
+  pub own_more : own_turns p' ≡ own_turns p ++ record { seat = p.number; item = turn_of None 0 room returned } ∷ []
+  pub no_earlier : published p ≤ published p'
+  pub same_held : (known p').held ≡ (known p).held
+
+-- room was made in a turn of a pass, with the other passes of the hall
+pub record MakesRoom (x : Beginning) (from : ℕ) (p p' : RoomPass) (r : Result Bool MergeFault) : Type 0 where
+  pub found : RoomValue
+  pub room : RoomValue
+  pub turn : AddsTurn x found.room room.room p p'
+  pub no_job : (found.room.job ≡ None) × (room.room.job ≡ None)
+  -- it is the room of this log, and stands for the history that the pass then saw
+  pub log : room_log room ≡ x.log
+  pub stands : (e : ℕ) (first : List Row) → Began x.log e first → Stands room first e (seen p')
+  pub makes : MakesOr from found room r
+  pub meets : Failing r (MeetsSome x p p') (MeetsNone x p p')
+
+-- what making room came to, by what is free then
+abbrev pub TellsSpace : RoomState → Result Bool MergeFault → Result Space MergeFault → Type 0
+TellsSpace room (Ok true) r = r ≡ Ok space.Made
+TellsSpace room (Ok false) r = ((r ≡ Ok space.Stuck) × (length room.free < 2)) ⊎ ((r ≡ Ok space.Enough) × (2 ≤ length room.free))
+TellsSpace room (Err fault) r = r ≡ Err fault
+
+-- so in a turn of a pass, with the other passes of the hall
+pub record TriesRoom (x : Beginning) (from : ℕ) (p p' : RoomPass) (r : Result Space MergeFault) : Type 0 where
+  pub made : Result Bool MergeFault
+  pub makes : MakesRoom x from p p' made
+  pub tells : TellsSpace makes.room.room made r
+
+-- ---- laws
+
+-- Where the log at entry was told and sound, a room that is told to be stuck is so at the end of the turn: the log can take nothing any more.
+abbrev pub StuckThen : Type 0
+StuckThen = (x : Beginning) (from : ℕ) (p p' : RoomPass) → TriesRoom x from p p' (Ok space.Stuck) → (e : ℕ) (first : List Row) → Began x.log e first → IsStuck (last_room x p')
+
+-- A pass that holds nothing and has no merge out is such a pass after its turn.
+abbrev pub MakesIdle : Type 0
+MakesIdle = (x : Beginning) (from : ℕ) (r : Result Bool MergeFault) (p p' : RoomPass) → p'.number ≡ p.number → MakesRoom x from p p' r → HoldsNothing p → LacksJob x p → HoldsNothing p' × LacksJob x p'
+
+-- and so is another once it looked
+abbrev pub RenewsIdle : Type 0
+RenewsIdle = (x : Beginning) (p p' : RoomPass) → AreTurns x (turns p') → Renews x p p' → HoldsNothing p → LacksJob x p → HoldsNothing p' × LacksJob x p'

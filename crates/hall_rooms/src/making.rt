@@ -1,0 +1,346 @@
+//! A turn of the room in which room is made with all passes of a hall.
+
+ghost use Rattle.std.specs.Prelude.{◌≡◌, ◌<◌, ◌≤◌, ℕ, None, IfOk, false, map, true};
+ghost use mathlib.Core.Option.{some};
+ghost use lib.ListN.{get_elem?};
+ghost use Rattle.fine_model.specs.Jobs.{KeepsJob};
+ghost use Rattle.partition_hold.specs.Views.{state_of};
+ghost use Rattle.fine_places.specs.History as places;
+ghost use Rattle.fine_hall.specs.Passes.{LacksJob, LacksPlace};
+ghost use Rattle.fine_hall.specs.Halls.{IsAhead};
+ghost use Rattle.hall_rooms.specs.Rooms.{RoomPass, IsRoomPass, beginning_of};
+ghost use Rattle.hall_rooms.specs.declared.making.Space.TheVariants as space;
+ghost use Rattle.hall_rooms.specs.Steps.{IsCleanTurn};
+ghost use Rattle.hall_rooms.specs.Making.{AllAhead, ClearsMergedOr, ClearsOr, ErasesAndLooks, GoesOn, IsCleared, MakesOr, MakesRoom, MergesClearedOr, RenewsEach, RoundOr, TellsSpace, TriesRoom, TurnsOn};
+
+use crate::merging::merge_through;
+use crate::opening::RoomHall;
+use crate::settling::erase_unheld;
+use crate::showing::show;
+use epoch_room::{Room, RoomFault};
+use fine_hall::Pass;
+use log_disk::LogDisk;
+use partition_hold::View;
+use room_merges::MergeFault;
+use std::alloc::Global;
+use std::sync::Wait;
+
+/// Each of some passes looks once at its mailbox.
+fn refresh_each<D: LogDisk>(hall: &RoomHall<D>, passes: &mut [Pass<View<D::Eye>>])
+    requires passes { (i : ℕ) (p : RoomPass) → get_elem? passes.old i ≡ some p → IsRoomPass hall.now p }
+    ensures passes { (i : ℕ) (p : RoomPass) → get_elem? passes.new i ≡ some p → IsRoomPass hall.now p }
+    ensures renews { RenewsEach (beginning_of hall.now) passes.old passes.new }
+    ensures ahead { AllAhead (beginning_of hall.now) passes.new }
+{
+    for at in 0..passes.len() {
+        hall.refresh(&mut passes[at]);
+    }
+}
+
+/// The pass of a turn and the others look once at their mailboxes.
+fn refresh_all<D: LogDisk>(
+    hall: &RoomHall<D>,
+    pass: &mut Pass<View<D::Eye>>,
+    others: &mut [Pass<View<D::Eye>>],
+    room: &Room<D>,
+)
+    requires pass { IsRoomPass hall.now pass.old }
+    requires others { (i : ℕ) (p : RoomPass) → get_elem? others.old i ≡ some p → IsRoomPass hall.now p }
+    requires turn { IsCleanTurn (beginning_of hall.now) room.now pass.old }
+    ensures pass { IsRoomPass hall.now pass.new × (pass.new.number ≡ pass.old.number) }
+    ensures others { (i : ℕ) (p : RoomPass) → get_elem? others.new i ≡ some p → IsRoomPass hall.now p }
+    ensures goes { TurnsOn (beginning_of hall.now) pass.old pass.new }
+    ensures renews { RenewsEach (beginning_of hall.now) others.old others.new }
+    ensures turn { IsCleanTurn (beginning_of hall.now) room.now pass.new }
+    ensures ahead { IsAhead state_of (beginning_of hall.now) pass.new × AllAhead (beginning_of hall.now) others.new }
+{
+    let _whole = room.counts();
+    hall.refresh(pass);
+    refresh_each(hall, others);
+}
+
+/// Erases what no view names, and answers whether nothing is retired.
+fn erase_and_look<D: LogDisk>(room: &mut Room<D>) -> Result<bool, RoomFault>
+    ensures { ErasesAndLooks room.old room.new result }
+{
+    match erase_unheld(room) {
+        Ok(_erased) => Ok(room.retired(0).is_none()),
+        Err(fault) => Err(fault),
+    }
+}
+
+/// Seals what waits, posts a view of it to each seat, which the passes take, and erases what no view names. Answers whether nothing is retired.
+fn renew_and_erase<D: LogDisk>(
+    hall: &RoomHall<D>,
+    pass: &mut Pass<View<D::Eye>>,
+    others: &mut [Pass<View<D::Eye>>],
+    room: &mut Room<D>,
+) -> Result<bool, RoomFault>
+    requires pass { IsRoomPass hall.now pass.old }
+    requires others { (i : ℕ) (p : RoomPass) → get_elem? others.old i ≡ some p → IsRoomPass hall.now p }
+    requires turn { IsCleanTurn (beginning_of hall.now) room.old pass.old }
+    ensures pass { IsRoomPass hall.now pass.new × (pass.new.number ≡ pass.old.number) }
+    ensures others { (i : ℕ) (p : RoomPass) → get_elem? others.new i ≡ some p → IsRoomPass hall.now p }
+    ensures goes { TurnsOn (beginning_of hall.now) pass.old pass.new }
+    ensures renews { RenewsEach (beginning_of hall.now) others.old others.new }
+    ensures job { KeepsJob room.old.room room.new.room }
+    ensures round { RoundOr (beginning_of hall.now) room.old room.new pass.new others.new result }
+{
+    match show(hall, pass, room) {
+        Ok(_epoch) => {
+            refresh_all(hall, pass, others, room);
+            erase_and_look(room)
+        }
+        Err(fault) => Err(fault),
+    }
+}
+
+/// Seals what waits, and renews the views of all passes and erases what none names until nothing is retired.
+fn clear<D: LogDisk, W: Wait>(
+    rt: &W,
+    hall: &RoomHall<D>,
+    pass: &mut Pass<View<D::Eye>>,
+    others: &mut [Pass<View<D::Eye>>],
+    room: &mut Room<D>,
+) -> Result<(), RoomFault>
+    requires pass { IsRoomPass hall.now pass.old }
+    requires others { (i : ℕ) (p : RoomPass) → get_elem? others.old i ≡ some p → IsRoomPass hall.now p }
+    requires turn { IsCleanTurn (beginning_of hall.now) room.old pass.old }
+    requires no_job { room.old.room.job ≡ None }
+    ensures pass { IsRoomPass hall.now pass.new × (pass.new.number ≡ pass.old.number) }
+    ensures others { (i : ℕ) (p : RoomPass) → get_elem? others.new i ≡ some p → IsRoomPass hall.now p }
+    ensures goes { TurnsOn (beginning_of hall.now) pass.old pass.new }
+    ensures renews { RenewsEach (beginning_of hall.now) others.old others.new }
+    ensures no_job { room.new.room.job ≡ None }
+    ensures clears { ClearsOr (beginning_of hall.now) room.old room.new pass.new others.new result }
+{
+    for _ in rt.forever() {
+        match renew_and_erase(hall, pass, others, room) {
+            Ok(is_done) => {
+                if is_done {
+                    let _whole = room.counts();
+                    return Ok(());
+                }
+            }
+            Err(fault) => return Err(fault),
+        }
+    }
+    unreachable!()
+}
+
+/// Clears a room in which two were merged.
+fn clear_merged<D: LogDisk, W: Wait>(
+    rt: &W,
+    hall: &RoomHall<D>,
+    pass: &mut Pass<View<D::Eye>>,
+    others: &mut [Pass<View<D::Eye>>],
+    room: &mut Room<D>,
+) -> Result<bool, MergeFault>
+    requires pass { IsRoomPass hall.now pass.old }
+    requires others { (i : ℕ) (p : RoomPass) → get_elem? others.old i ≡ some p → IsRoomPass hall.now p }
+    requires turn { IsCleanTurn (beginning_of hall.now) room.old pass.old }
+    requires no_job { room.old.room.job ≡ None }
+    ensures pass { IsRoomPass hall.now pass.new × (pass.new.number ≡ pass.old.number) }
+    ensures others { (i : ℕ) (p : RoomPass) → get_elem? others.new i ≡ some p → IsRoomPass hall.now p }
+    ensures goes { TurnsOn (beginning_of hall.now) pass.old pass.new }
+    ensures renews { RenewsEach (beginning_of hall.now) others.old others.new }
+    ensures no_job { room.new.room.job ≡ None }
+    ensures turn { GoesOn (beginning_of hall.now) room.new pass.new result }
+    ensures ahead { IfOk result (λ made. IsAhead state_of (beginning_of hall.now) pass.new × AllAhead (beginning_of hall.now) others.new) }
+    ensures clears { ClearsMergedOr room.old room.new result }
+{
+    match clear(rt, hall, pass, others, room) {
+        Ok(()) => Ok(true),
+        Err(fault) => Err(MergeFault::Room(fault)),
+    }
+}
+
+/// Merges the first neighbours that fit, in a room that was cleared, and clears it again where two were merged. Where none fit, the answer is as it
+/// is told.
+fn merge_cleared<D: LogDisk, W: Wait>(
+    rt: &W,
+    alloc: Global,
+    hall: &RoomHall<D>,
+    pass: &mut Pass<View<D::Eye>>,
+    others: &mut [Pass<View<D::Eye>>],
+    room: &mut Room<D>,
+    from: u64,
+    had_retired: bool,
+) -> Result<bool, MergeFault>
+    requires pass { IsRoomPass hall.now pass.old }
+    requires others { (i : ℕ) (p : RoomPass) → get_elem? others.old i ≡ some p → IsRoomPass hall.now p }
+    requires turn { IsCleanTurn (beginning_of hall.now) room.old pass.old }
+    requires cleared { IsCleared room.old }
+    requires ahead { IsAhead state_of (beginning_of hall.now) pass.old × AllAhead (beginning_of hall.now) others.old }
+    ensures pass { IsRoomPass hall.now pass.new × (pass.new.number ≡ pass.old.number) }
+    ensures others { (i : ℕ) (p : RoomPass) → get_elem? others.new i ≡ some p → IsRoomPass hall.now p }
+    ensures goes { TurnsOn (beginning_of hall.now) pass.old pass.new }
+    ensures renews { RenewsEach (beginning_of hall.now) others.old others.new }
+    ensures no_job { room.new.room.job ≡ None }
+    ensures turn { GoesOn (beginning_of hall.now) room.new pass.new result }
+    ensures ahead { IfOk result (λ made. IsAhead state_of (beginning_of hall.now) pass.new × AllAhead (beginning_of hall.now) others.new) }
+    ensures merges { MergesClearedOr from had_retired room.old room.new result }
+{
+    match merge_through(alloc, room, from) {
+        Ok(merged) => {
+            let _whole = room.counts();
+            if !merged {
+                return Ok(had_retired);
+            }
+            clear_merged(rt, hall, pass, others, room)
+        }
+        Err(fault) => Err(fault),
+    }
+}
+
+/// Clears the room, merges the first neighbours that fit, and clears it again where two were merged. Answers whether something was retired or two
+/// were merged.
+fn clear_and_merge<D: LogDisk, W: Wait>(
+    rt: &W,
+    alloc: Global,
+    hall: &RoomHall<D>,
+    pass: &mut Pass<View<D::Eye>>,
+    others: &mut [Pass<View<D::Eye>>],
+    room: &mut Room<D>,
+    from: u64,
+) -> Result<bool, MergeFault>
+    requires pass { IsRoomPass hall.now pass.old }
+    requires others { (i : ℕ) (p : RoomPass) → get_elem? others.old i ≡ some p → IsRoomPass hall.now p }
+    requires turn { IsCleanTurn (beginning_of hall.now) room.old pass.old }
+    requires no_job { room.old.room.job ≡ None }
+    ensures pass { IsRoomPass hall.now pass.new × (pass.new.number ≡ pass.old.number) }
+    ensures others { (i : ℕ) (p : RoomPass) → get_elem? others.new i ≡ some p → IsRoomPass hall.now p }
+    ensures goes { TurnsOn (beginning_of hall.now) pass.old pass.new }
+    ensures renews { RenewsEach (beginning_of hall.now) others.old others.new }
+    ensures no_job { room.new.room.job ≡ None }
+    ensures turn { GoesOn (beginning_of hall.now) room.new pass.new result }
+    ensures ahead { IfOk result (λ made. IsAhead state_of (beginning_of hall.now) pass.new × AllAhead (beginning_of hall.now) others.new) }
+    ensures makes { MakesOr from room.old room.new result }
+{
+    let had_retired = room.retired(0).is_some();
+    match clear(rt, hall, pass, others, room) {
+        Ok(()) => merge_cleared(rt, alloc, hall, pass, others, room, from, had_retired),
+        Err(fault) => Err(MergeFault::Room(fault)),
+    }
+}
+
+/// What making room came to.
+#[derive(Clone, Copy, Debug, PartialEq, Eq)]
+pub enum Space {
+    /// Something that was retired is erased, or two parts were merged.
+    Made,
+    /// Nothing was retired, no two neighbours fit, and two regions or more are free.
+    Enough,
+    /// Nothing was retired, no two neighbours fit, and fewer than two regions are free.
+    Stuck,
+}
+
+/// Tells what making room came to, by what is free then.
+fn tell_space<D: LogDisk>(
+    room: &Room<D>,
+    made: Result<bool, MergeFault>,
+) -> Result<Space, MergeFault>
+    ensures { TellsSpace room.now.room made result }
+{
+    match made {
+        Ok(made) => Ok(space_of(made, room.counts().free)),
+        Err(fault) => Err(fault),
+    }
+}
+
+/// What making room came to, with so many regions free.
+fn space_of(made: bool, free: u32) -> Space
+    ensures made { made ≡ true → result ≡ space.Made }
+    ensures stuck { made ≡ false → free < 2 → result ≡ space.Stuck }
+    ensures enough { made ≡ false → 2 ≤ free → result ≡ space.Enough }
+{
+    if made {
+        Space::Made
+    } else if free < 2 {
+        Space::Stuck
+    } else {
+        Space::Enough
+    }
+}
+
+/// Makes room in the log of a hall, with all its passes: the one of the seat 1, which has no merge out, and the others. It is one turn of the
+/// first, without an entry. What waits is sealed; each seat is posted a view of all live parts, which its pass takes, until no view names what is
+/// retired, and that is erased; then the first neighbours that fit are merged, through a view that is made for it, and in the same way the two
+/// are erased. Tried are first the neighbours of which the older one begins at an epoch or later, in chain order, and then those before it.
+///
+/// After each answer that is Ok nothing waits, nothing is retired, no merge is out, and each region that is of no live part is free. `Made` where two
+/// were merged, or something was retired and no two fit. `Enough` and `Stuck` exactly where nothing was retired and no two neighbours fit what is
+/// free, by what a read of the disk gives: `Stuck` with fewer than two free regions, in the same turn.
+///
+/// `Disk` comes only where the disk failed in this call, and the room is shut; `Shut` exactly where it was shut before, and the turn leaves it as it
+/// was. After `NoMemory` it is open. After a refusal of a read it is cleared, and the chain is as it was then. After `Disk` and `NoMemory` two may
+/// have been merged, and be retired still.
+///
+/// It may wait for the room, and it goes on until nothing is retired. With all passes of the hall here two rounds of views are enough, since no other
+/// view is out then, which no clause says; where one is missing it waits until that one looked at its mailbox.
+pub fn try_room<D: LogDisk, W: Wait>(
+    rt: &W,
+    alloc: Global,
+    hall: &RoomHall<D>,
+    pass: &mut Pass<View<D::Eye>>,
+    others: &mut [Pass<View<D::Eye>>],
+    from: u64,
+) -> Result<Space, MergeFault>
+    requires pass { IsRoomPass hall.now pass.old }
+    requires others { (i : ℕ) (p : RoomPass) → get_elem? others.old i ≡ some p → IsRoomPass hall.now p }
+    requires free { LacksPlace pass.old places.room }
+    requires first { pass.old.number ≡ 1 }
+    requires no_job { LacksJob (beginning_of hall.now) pass.old }
+    ensures pass { IsRoomPass hall.now pass.new × (pass.new.number ≡ pass.old.number) }
+    ensures others { (i : ℕ) (p : RoomPass) → get_elem? others.new i ≡ some p → IsRoomPass hall.now p }
+    ensures numbers { map (λ p. p.number) others.new ≡ map (λ p. p.number) others.old }
+    ensures renews { RenewsEach (beginning_of hall.now) others.old others.new }
+    ensures ahead { IfOk result (λ made. IsAhead state_of (beginning_of hall.now) pass.new × AllAhead (beginning_of hall.now) others.new) }
+    ensures tries { TriesRoom (beginning_of hall.now) from pass.old pass.new result }
+{
+    let mut room = hall.take_room(rt, pass);
+    let made = clear_and_merge(rt, alloc, hall, pass, others, &mut room, from);
+    let space = tell_space(&room, made);
+    hall.give_room(pass, room, None, 0);
+    space
+}
+
+/// Whether room was made.
+fn is_made(found: Space) -> bool
+    ensures made { found ≡ space.Made → result ≡ true }
+    ensures enough { found ≡ space.Enough → result ≡ false }
+    ensures stuck { found ≡ space.Stuck → result ≡ false }
+{
+    match found {
+        Space::Made => true,
+        Space::Enough | Space::Stuck => false,
+    }
+}
+
+/// Makes room in the log of a hall, with all its passes, as `try_room` does. True where two were merged, or something was retired, which is erased;
+/// false exactly where nothing was retired and no two neighbours fit what is free, by what a read of the disk gives.
+pub fn make_room<D: LogDisk, W: Wait>(
+    rt: &W,
+    alloc: Global,
+    hall: &RoomHall<D>,
+    pass: &mut Pass<View<D::Eye>>,
+    others: &mut [Pass<View<D::Eye>>],
+    from: u64,
+) -> Result<bool, MergeFault>
+    requires pass { IsRoomPass hall.now pass.old }
+    requires others { (i : ℕ) (p : RoomPass) → get_elem? others.old i ≡ some p → IsRoomPass hall.now p }
+    requires free { LacksPlace pass.old places.room }
+    requires first { pass.old.number ≡ 1 }
+    requires no_job { LacksJob (beginning_of hall.now) pass.old }
+    ensures pass { IsRoomPass hall.now pass.new × (pass.new.number ≡ pass.old.number) }
+    ensures others { (i : ℕ) (p : RoomPass) → get_elem? others.new i ≡ some p → IsRoomPass hall.now p }
+    ensures numbers { map (λ p. p.number) others.new ≡ map (λ p. p.number) others.old }
+    ensures renews { RenewsEach (beginning_of hall.now) others.old others.new }
+    ensures ahead { IfOk result (λ made. IsAhead state_of (beginning_of hall.now) pass.new × AllAhead (beginning_of hall.now) others.new) }
+    ensures makes { MakesRoom (beginning_of hall.now) from pass.old pass.new result }
+{
+    match try_room(rt, alloc, hall, pass, others, from) {
+        Ok(found) => Ok(is_made(found)),
+        Err(fault) => Err(fault),
+    }
+}

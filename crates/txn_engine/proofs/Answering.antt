@@ -51,7 +51,7 @@ scan_here j (call.Del key) scans = absurd (true≢false (sym scans))
 scan_here j (call.Add key by) scans = absurd (true≢false (sym scans))
 scan_here j (call.Scan low high limit) scans = refl
 
-either : (b : Bool) → (b ≡ true) ⊎ (b ≡ false)
+pub either : (b : Bool) → (b ≡ true) ⊎ (b ≡ false)
 either true = inl refl
 either false = inr refl
 
@@ -77,7 +77,7 @@ with_draft log number history d d' k b rows ok h = record {
 }
 
 -- a draft that is lost holds what undoing restores
-lost_held : (log : Origin) (number : ℕ) (history : List Commit) (d d' : DraftValue) (k : ℕ) (b b' : Cache) → IsLost d d' → (h : IsHeld log number history d k b) → Undoes h.low h.taken b' → ((e : ℕ) (first : List Row) → Began log e first → Restores b' (first ++ all_rows history))
+pub lost_held : (log : Origin) (number : ℕ) (history : List Commit) (d d' : DraftValue) (k : ℕ) (b b' : Cache) → IsLost d d' → (h : IsHeld log number history d k b) → Undoes h.low h.taken b' → ((e : ℕ) (first : List Row) → Began log e first → Restores b' (first ++ all_rows history))
     → IsHeld log number history d' k b'
 lost_held log number history d d' k b b' lost h undoes restores = record {
   taken = h.taken;

@@ -1,5 +1,5 @@
 -- A call, from its buckets to its answer.
-use Rattle.std.proofs.Common.{◌≡◌, ◌≢◌, ◌⊎◌, Bool, ⊎_elim, ℕ, ◌+◌, ◌<◌, ◌≤◌, true, false, nat_le, List, ◌∷◌, [], ◌++◌, Result, Ok, Err, inl, inr, sym, ap, ◌∙◌, subst, arith}
+use Rattle.std.proofs.Common.{◌≡◌, ◌≢◌, ◌⊎◌, Bool, ⊎_elim, ℕ, ◌+◌, ◌<◌, ◌≤◌, true, false, nat_le, List, ◌∷◌, [], ◌++◌, Result, Ok, Err, inl, inr, refl, sym, ap, ◌∙◌, subst, arith}
 use Rattle.std.specs.Prelude.{IfErr}
 use Rattle.std.proofs.lemmas.Bool.Decides.{leb_tells}
 use mathlib.Core.Option.{some}
@@ -27,7 +27,7 @@ use Rattle.btree_nodes.specs.declared.fault.TreeFault.{TreeFault}
 use Rattle.btree_nodes.specs.declared.fault.TreeFault.TheVariants.{Source, Unfit, BucketFull, Number, NoMemory}
 use Rattle.btree_nodes.specs.Calls.{OnCleanAnswer}
 use Rattle.txn_draft.specs.Answers.{FailsBy}
-use Rattle.txn_draft.specs.Drafts.{IsLost}
+use Rattle.txn_draft.specs.Drafts.{DraftValue, IsLost}
 use Rattle.partition_hold.specs.Sources.{Fails, IsClean}
 use Rattle.partition_hold.specs.Views.{state_of}
 use Rattle.fine_hall.specs.declared.law.Beginning.{Beginning}
@@ -41,12 +41,13 @@ use Rattle.fine_hall.proofs.Seeing.{sees_on}
 use Rattle.fine_hall.proofs.Troubles.{troubles_law}
 use Rattle.key_locks.specs.Locks.{HasLock, LacksLock, AreLocksOf}
 use Rattle.txn_engine.specs.declared.txn.Txn.{Txn}
-use Rattle.txn_engine.specs.Faults.{fault_of}
+use Rattle.txn_engine.specs.declared.txn.TxnFault.TheVariants as fault
+use Rattle.txn_engine.specs.Faults.{after_fault, fault_of}
 use Rattle.hall_rooms.specs.Rooms.{RoomPass}
 use Rattle.hall_rooms.specs.Turning.{MeetsNone}
 use Rattle.txn_engine.specs.Steps.{IsRefusedFor, IsShown, ReadsOr}
 use Rattle.txn_engine.specs.Turns.{ReadsFront, StaysOpen}
-use Rattle.txn_engine.specs.Txns.{CallsOr, IsOpenOn, IsOpenTxn, KeepsCall, MeetsRead, Refuses, SeesCall, TakesBuckets}
+use Rattle.txn_engine.specs.Txns.{CallsOr, IsOpenOn, IsOpenTxn, KeepsCall, MeetsRead, Refuses, SeesCall, TakesBuckets, WantsMemory}
 
 -- ---- the front
 
@@ -182,21 +183,29 @@ module _ (z : TableId) (x : Beginning) (c : Call) (t t₂ t₃ : Txn) (p p₂ p�
       let clean : IsClean f.before f.after = subst (λ y. OnCleanAnswer y (IsClean f.before f.after)) is f.clean in
       (subst (λ d. KeepsCall c d t₃.draft) stays.draft reads, takes_after, meets_after clean)
 
-  pub answer_err : (fault : TreeFault) → r ≡ Err fault → CallsOr x c t t₃ p p₃ (Err (fault_of fault))
+  -- the draft is given up where memory ran out
+  lost_after : (t₂.draft.lane ≡ t₃.draft.lane) × (t₂.draft.turn ≡ t₃.draft.turn) → WantsMemory c t (after_fault fault.NoMemory t₃) p p₃
+  lost_after same = record {
+    lost = (refl, sym same.0 ∙ ap (λ (d : DraftValue). d.lane) stays.draft, sym same.1 ∙ ap (λ (d : DraftValue). d.turn) stays.draft);
+    takes = λ _. let now = takes_after in record { all = now.all; others = now.others; found = now.found };
+  }
+
+  pub answer_err : (fault : TreeFault) → r ≡ Err fault → CallsOr x c t (after_fault (fault_of fault) t₃) p p₃ (Err (fault_of fault))
   answer_err fault is = by fault (subst (ReadsOr x.log (seen p₂) c t₂.draft t₃.draft) is both.1) (subst (λ y. OnCleanAnswer y (IsClean f.before f.after)) is f.clean) (subst (λ y. IfErr y (FailsBy (λ failed. Fails f.before failed f.after))) is f.fails)
     where
-      source : (failed : FetchFault) → t₃.draft ≡ t₂.draft → OnCleanFault failed (IsClean f.before f.after) → Fails f.before failed f.after → CallsOr x c t t₃ p p₃ (Err (fault_of (Source failed)))
+      like : t₃.draft ≡ t₂.draft → (t₂.draft.lane ≡ t₃.draft.lane) × (t₂.draft.turn ≡ t₃.draft.turn)
+      like same = (ap (λ (d : DraftValue). d.lane) (sym same), ap (λ (d : DraftValue). d.turn) (sym same))
+
+      source : (failed : FetchFault) → t₃.draft ≡ t₂.draft → OnCleanFault failed (IsClean f.before f.after) → Fails f.before failed f.after → CallsOr x c t (after_fault (fault_of (Source failed)) t₃) p p₃ (Err (fault_of (Source failed)))
       source fetch_fault.Failed same clean fails = (same_draft same, takes_after, reads_after fails)
       source (fetch_fault.BadRow region at) same clean fails = ((same_draft same, meets_after clean), takes_after, λ e first began. let told = shown.tells e first began in fails.0 told.0 told.1)
       source (fetch_fault.BadIndex region at) same clean fails = ((same_draft same, meets_after clean), takes_after, λ e first began. let told = shown.tells e first began in fails.0 told.0 told.1)
-      source fetch_fault.NoMemory same clean fails = (inr (same_draft same), takes_after)
+      source fetch_fault.NoMemory same clean fails = lost_after (like same)
 
-      by : (fault : TreeFault) → ReadsOr x.log (seen p₂) c t₂.draft t₃.draft (Err fault) → OnCleanAnswer {A = Unit {0}} (Err fault) (IsClean f.before f.after) → FailsBy (λ failed. Fails f.before failed f.after) fault → CallsOr x c t t₃ p p₃ (Err (fault_of fault))
+      by : (fault : TreeFault) → ReadsOr x.log (seen p₂) c t₂.draft t₃.draft (Err fault) → OnCleanAnswer {A = Unit {0}} (Err fault) (IsClean f.before f.after) → FailsBy (λ failed. Fails f.before failed f.after) fault
+          → CallsOr x c t (after_fault (fault_of fault) t₃) p p₃ (Err (fault_of fault))
       by (Source failed) same clean fails = source failed same clean fails
       by (Unfit id) h clean fails = ((same_draft h.0, meets_after clean), takes_after, h.1)
       by (BucketFull next depth) h clean fails = ((same_draft h.0, meets_after clean), takes_after, refuses_after why.Bucket h.1)
       by (Number id) h clean fails = ((same_draft h.0, meets_after clean), takes_after, refuses_after why.Number h.1)
-      by NoMemory h clean fails = (
-        ⊎_elim (λ (lost : IsLost t₂.draft t₃.draft). inl (subst (λ d. IsLost d t₃.draft) stays.draft lost)) (λ (same : t₃.draft ≡ t₂.draft). inr (same_draft same)) h,
-        takes_after,
-      )
+      by NoMemory h clean fails = lost_after (⊎_elim (λ (lost : IsLost t₂.draft t₃.draft). (sym lost.1, sym lost.2)) like h)

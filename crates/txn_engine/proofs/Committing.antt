@@ -27,7 +27,6 @@ use Rattle.epoch_room.specs.Fitting.{fit_of}
 use Rattle.epoch_room.specs.Meaning.{Stands, StandsForMore, origin_of}
 use Rattle.epoch_room.specs.Steps.{appended}
 use Rattle.epoch_room.specs.Value.{RoomValue}
-use Rattle.epoch_room.specs.declared.answers.Fit.{Fit}
 use Rattle.epoch_room.specs.declared.answers.Fit.TheVariants as fit
 use Rattle.epoch_room.specs.declared.answers.Stamp.{Stamp}
 use Rattle.fine_hall.specs.declared.law.Beginning.{Beginning}
@@ -41,7 +40,9 @@ use Rattle.fine_hall.proofs.Troubles.{sees_law, troubles_law}
 use Rattle.fine_hall.proofs.Turning.{commits_one}
 use Rattle.key_locks.specs.Locks.{LacksLock, HasLock, AreLocksOf, Releases}
 use Rattle.key_locks.proofs.Held.{far, held_beside, lacks_place}
+use Rattle.txn_engine.specs.declared.txn.CommitFault.{CommitFault}
 use Rattle.txn_engine.specs.declared.txn.Txn.{Txn}
+use Rattle.txn_engine.specs.Faults.{refusal_of}
 use Rattle.hall_rooms.specs.Rooms.{RoomPass, room_log, room_state}
 use Rattle.hall_rooms.specs.Turning.{MeetsNone, TakesTurn}
 use Rattle.txn_engine.specs.Txns.{Commits, HoldsNone, IsAnsweredOn, IsOpenOn, IsOpenTxn, IsRefused}
@@ -183,12 +184,11 @@ module _ (x : Beginning) (t : Txn) (p p₀ p₁ : RoomPass) (number₀ : p₀.nu
     open_on = subst (λ n. IsOpenOn x.log n (seen p₂) t.draft t.locks) (sym g.same_published) (subst (λ h. IsOpenOn x.log (published p₁) h t.draft t.locks) (nil ∙ sym (seen_then None 0 r.room p₂ number₂ g)) open₁);
   }
 
-  pub refused : (p₂ : RoomPass) → p₂.number ≡ p₁.number → GivesRoom r.room None 0 k.turn p₁ p₂ → (cause : Fit) → cause ≡ fit_of r.room (cost t.draft.rows) → (cause ≡ fit.Fits → ⊥) → IsRefused x t t p p₂ cause
-  refused p₂ number₂ g cause is not = record {
+  pub refused : (p₂ : RoomPass) → p₂.number ≡ p₁.number → GivesRoom r.room None 0 k.turn p₁ p₂ → (cause : CommitFault) → fit_of r.room (cost t.draft.rows) ≡ refusal_of cause → IsRefused x t t p p₂ cause
+  refused p₂ number₂ g cause is = record {
     room = r.room;
     turn = the_turn None 0 r.room p₂ number₂ g;
-    is_cause = sym is;
-    not_fits = not;
+    is_cause = is;
     same = refl;
     held = g.held ∙ (ap (λ l. set l places.room false) (k.takes.held ∙ ap (λ l. set l places.room true) read.same_held) ∙ set_back (known p).held places.room free);
     meets = meets_none None 0 r.room p₂ number₂ g refl;

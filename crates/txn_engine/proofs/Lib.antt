@@ -4,6 +4,7 @@ pub mod Ending
 pub mod Answering
 pub mod Scanning
 pub mod Taking
+pub mod Failing
 pub mod Calling
 pub mod Releasing
 pub mod Committing

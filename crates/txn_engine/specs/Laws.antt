@@ -1,12 +1,11 @@
 -- Laws of open transactions.
-use Rattle.std.specs.Prelude.{◌≡◌, ℕ, ◌<◌, ◌++◌, true, List}
+use Rattle.std.specs.Prelude.{◌≡◌, ℕ, ◌<◌, ◌++◌, true, false, List}
 use Rattle.std.specs.List.{list_any}
 use lib.ListN.{get_elem?}
 use Rattle.fine_model.specs.declared.Row.{Row}
 use Rattle.fine_model.specs.Buckets.{Began}
 use Rattle.fine_model.specs.History.{all_rows}
 use Rattle.txn_draft.specs.Drafts.{DraftValue, IsAnswered, blank, is_here}
-use Rattle.epoch_room.specs.declared.answers.Fit.{Fit}
 use Rattle.epoch_room.specs.declared.answers.Stamp.{Stamp}
 use Rattle.fine_hall.specs.declared.law.Beginning.{Beginning}
 use Rattle.fine_hall.specs.Laws.{AreTurns}
@@ -14,14 +13,19 @@ use Rattle.fine_places.specs.History as places
 use Rattle.fine_hall.specs.Passes.{known, turns, seen, HasPlace, LacksPlace, HoldsNothing, LacksJob}
 use Rattle.fine_hall.specs.Halls.{SeesMore}
 use Rattle.hall_rooms.specs.Rooms.{RoomPass}
+use Rattle.txn_engine.specs.declared.txn.CommitFault.{CommitFault}
 use Rattle.txn_engine.specs.declared.txn.Txn.{Txn}
-use Rattle.txn_engine.specs.Txns.{Aborts, Commits, HoldsNone, IsOpenTxn, IsRefused}
+use Rattle.txn_engine.specs.Txns.{Aborts, AreReplies, Commits, HoldsNone, IsOpenTxn, IsRefused}
 
 -- What a draft answered on all that a pass saw is its answer on what the pass sees more, where the pass holds the buckets of its calls.
 abbrev pub LocalLaw : Type 0
 LocalLaw =
     (x : Beginning) (p p' : RoomPass) (d : DraftValue) (e : ℕ) (first : List Row) → SeesMore p p' → AreTurns x (turns p) → AreTurns x (turns p') → Began x.log e first
     → ((k : ℕ) → k < 256 → list_any (is_here k) d.calls ≡ true → HasPlace p k) → IsAnswered (first ++ all_rows (seen p)) d → IsAnswered (first ++ all_rows (seen p')) d
+
+-- The replies of an open transaction that is not failed are the store's to its calls, on all that its pass saw.
+abbrev pub RepliesLaw : Type 0
+RepliesLaw = (x : Beginning) (t : Txn) (p : RoomPass) → IsOpenTxn x t p → t.draft.failed ≡ false → AreReplies x t p
 
 -- a new transaction is open on a pass that holds no bucket
 abbrev pub BeginsLaw : Type 0
@@ -39,7 +43,7 @@ abbrev pub CommitsIdle : Type 0
 CommitsIdle = (x : Beginning) (t t' : Txn) (p p' : RoomPass) (stamp : Stamp) → p'.number ≡ p.number → Commits x t t' p p' stamp → LacksJob x p → HoldsNothing p' × LacksJob x p'
 
 abbrev pub RefusedJob : Type 0
-RefusedJob = (x : Beginning) (t t' : Txn) (p p' : RoomPass) (cause : Fit) → p'.number ≡ p.number → IsRefused x t t' p p' cause → LacksJob x p → LacksJob x p'
+RefusedJob = (x : Beginning) (t t' : Txn) (p p' : RoomPass) (cause : CommitFault) → p'.number ≡ p.number → IsRefused x t t' p p' cause → LacksJob x p → LacksJob x p'
 
 abbrev pub AbortsIdle : Type 0
 AbortsIdle = (x : Beginning) (t t' : Txn) (p p' : RoomPass) → p'.number ≡ p.number → AreTurns x (turns p') → Aborts x t t' p p' → LacksPlace p places.room → LacksJob x p → HoldsNothing p' × LacksJob x p'

@@ -1,5 +1,5 @@
 -- An open transaction on a hall, and what its calls make of it and of its pass.
-use Rattle.std.specs.Prelude.{◌≡◌, ◌≢◌, ◌⊎◌, ℕ, ◌+◌, ◌<◌, ◌≤◌, true, false, List, [], ◌∷◌, ◌++◌, length, slice_get, Option, Some, None, Result, Ok, Err}
+use Rattle.std.specs.Prelude.{◌≡◌, ◌≢◌, ◌⊎◌, ℕ, ◌+◌, ◌<◌, ◌≤◌, Bool, true, false, List, [], ◌∷◌, ◌++◌, length, slice_get, Option, Some, None, Result, Ok, Err}
 use Rattle.std.specs.List.{list_any}
 use lib.ListN.{get_elem?}
 use Rattle.fine_model.specs.declared.Call.{Call}
@@ -15,6 +15,8 @@ use Rattle.fine_model.specs.Jobs.{KeepsJob}
 use Rattle.fine_model.specs.Map.{Pair}
 use Rattle.fine_model.specs.Merge.{cost}
 use Rattle.fine_model.specs.Pushed.{all_pushed}
+use Rattle.fine_model.specs.Store.{replies_to}
+use Rattle.fine_model.specs.Trees.{map_of}
 use Rattle.node_cache.specs.Cache.{Cache}
 use Rattle.btree_nodes.specs.Trees.{Holds, Restores}
 use Rattle.txn_draft.specs.Drafts.{DraftValue, IsAnswered, FitsDraft, IsLost, Keeps, blank, entry_of, is_here, is_scan}
@@ -25,7 +27,6 @@ use Rattle.partition_hold.specs.Views.{state_of}
 use Rattle.epoch_room.specs.Fitting.{fit_of}
 use Rattle.epoch_room.specs.Steps.{appended}
 use Rattle.epoch_room.specs.Value.{RoomValue}
-use Rattle.epoch_room.specs.declared.answers.Fit.{Fit}
 use Rattle.epoch_room.specs.declared.answers.Fit.TheVariants as fit
 use Rattle.epoch_room.specs.declared.answers.Stamp.{Stamp}
 use Rattle.fine_places.specs.History as places
@@ -37,6 +38,8 @@ use Rattle.txn_engine.specs.declared.txn.Committed.{Committed}
 use Rattle.txn_engine.specs.declared.txn.Txn.{Txn}
 use Rattle.txn_engine.specs.declared.txn.TxnFault.{TxnFault}
 use Rattle.txn_engine.specs.declared.txn.TxnFault.TheVariants as fault
+use Rattle.txn_engine.specs.declared.txn.CommitFault.{CommitFault}
+use Rattle.txn_engine.specs.Faults.{refusal_of}
 use Rattle.hall_rooms.specs.Rooms.{RoomPass}
 use Rattle.hall_rooms.specs.Turning.{TakesTurn, MeetsNone}
 
@@ -72,6 +75,10 @@ pub record IsOpenTxn (x : Beginning) (t : Txn) (p : RoomPass) : Type 0 where
 
 abbrev pub HoldsNone : List (Option Cache) → Type 0
 HoldsNone locks = (k : ℕ) → k < 256 → LacksLock locks k
+
+-- the replies of an open transaction that is not failed are the store's to its calls, on all that the pass saw
+abbrev pub AreReplies : Beginning → Txn → RoomPass → Type 0
+AreReplies x t p = (e : ℕ) (first : List Row) → Began x.log e first → t.draft.replies ≡ replies_to (map_of (first ++ all_rows (seen p))) t.draft.calls
 
 -- nothing is left of the transaction but its lane and number
 abbrev pub IsBlank : Txn → Txn → Type 0
@@ -130,8 +137,21 @@ NotBegan x = (e : ℕ) (first : List Row) → Began x.log e first → ⊥
 abbrev pub Refuses : Beginning → Txn → Call → RoomPass → Why → Type 0
 Refuses x t c p cause = (e : ℕ) (first : List Row) → Began x.log e first → all_pushed (first ++ all_rows (seen p)) (t.draft.calls ++ c ∷ []) ≡ Err cause
 
--- How a call is answered. A conflict leaves the draft, and the whole transaction where the call is no scan; want of memory leaves the draft, or a
--- failed one.
+-- Memory ran out: the draft is failed, with its lane and number. Unless it was failed before, the call's buckets were taken.
+pub record WantsMemory (c : Call) (t t' : Txn) (p p' : RoomPass) : Type 0 where
+  pub lost : IsLost t.draft t'.draft
+  pub takes : t.draft.failed ≡ false → TakesBuckets c t t' p p'
+
+-- memory had run out before, and nothing changed
+abbrev pub StaysFailed : Txn → Txn → RoomPass → RoomPass → Result (Unit {0}) TxnFault → Type 0
+StaysFailed t t' p p' r = (r ≡ Err fault.NoMemory) × (t' ≡ t) × (p' ≡ p)
+
+-- a call answered want of memory
+abbrev pub wants_memory : Result (Unit {0}) TxnFault → Bool
+wants_memory (Err fault.NoMemory) = true
+wants_memory _ = false
+
+-- How a call is answered. A conflict leaves the draft, and the whole transaction where the call is no scan; want of memory leaves a failed draft.
 abbrev pub CallsOr : Beginning → Call → Txn → Txn → RoomPass → RoomPass → Result (Unit {0}) TxnFault → Type 0
 CallsOr x c t t' p p' (Ok done) = KeepsCall c t.draft t'.draft × TakesBuckets c t t' p p' × MeetsNone x p p'
 CallsOr x c t t' p p' (Err (fault.Conflict bucket owner)) =
@@ -142,7 +162,7 @@ CallsOr x c t t' p p' (Err (fault.BadIndex region at)) = IsLeft x t t' p p' × T
 CallsOr x c t t' p p' (Err (fault.Unfit id)) = IsLeft x t t' p p' × TakesBuckets c t t' p p' × NotBegan x
 CallsOr x c t t' p p' (Err (fault.BucketFull next depth)) = IsLeft x t t' p p' × TakesBuckets c t t' p p' × Refuses x t c p' why.Bucket
 CallsOr x c t t' p p' (Err (fault.Number id)) = IsLeft x t t' p p' × TakesBuckets c t t' p p' × Refuses x t c p' why.Number
-CallsOr x c t t' p p' (Err fault.NoMemory) = (IsLost t.draft t'.draft ⊎ (t'.draft ≡ t.draft)) × TakesBuckets c t t' p p'
+CallsOr x c t t' p p' (Err fault.NoMemory) = WantsMemory c t t' p p'
 
 -- ---- the ends
 
@@ -161,16 +181,15 @@ pub record Commits (x : Beginning) (t t' : Txn) (p p' : RoomPass) (stamp : Stamp
   pub meets : MeetsNone x p p'
 
 -- The room had no place for it, by its own numbers; it was given back as it was, and the transaction is as it was.
-pub record IsRefused (x : Beginning) (t t' : Txn) (p p' : RoomPass) (cause : Fit) : Type 0 where
+pub record IsRefused (x : Beginning) (t t' : Txn) (p p' : RoomPass) (cause : CommitFault) : Type 0 where
   pub room : RoomState
   pub turn : TakesTurn x room None 0 room p p'
-  pub is_cause : fit_of room (cost t.draft.rows) ≡ cause
-  pub not_fits : cause ≢ fit.Fits
+  pub is_cause : fit_of room (cost t.draft.rows) ≡ refusal_of cause
   pub same : t' ≡ t
   pub held : (known p').held ≡ (known p).held
   pub meets : MeetsNone x p p'
 
-abbrev pub CommitsOr : Beginning → Txn → Txn → RoomPass → RoomPass → Result Committed Fit → Type 0
+abbrev pub CommitsOr : Beginning → Txn → Txn → RoomPass → RoomPass → Result Committed CommitFault → Type 0
 CommitsOr x t t' p p' (Ok done) = Commits x t t' p p' done.stamp × (done.entry ≡ entry_of t.draft)
 CommitsOr x t t' p p' (Err cause) = IsRefused x t t' p p' cause
 

@@ -8,9 +8,9 @@ ghost use Rattle.fine_hall.specs.Halls.{IsAhead};
 ghost use Rattle.node_cache.specs.Cache.{Cache};
 ghost use Rattle.key_locks.specs.Locks.{AreLocksOf, HasLock, LacksLock};
 ghost use Rattle.hall_rooms.specs.Rooms.{IsRoomPass, beginning_of};
-ghost use Rattle.txn_engine.specs.Txns.{CallsOr, HasBuckets, IsOpenTxn, SeesCall};
+ghost use Rattle.txn_engine.specs.Txns.{CallsOr, HasBuckets, IsOpenTxn, SeesCall, StaysFailed, wants_memory};
 ghost use Rattle.txn_engine.specs.Turns.{LocksOr, ReadsFront, TakesOr};
-ghost use Rattle.txn_engine.specs.Faults.{fault_of, source_fault};
+ghost use Rattle.txn_engine.specs.Faults.{after_fault, fault_of, source_fault};
 
 use crate::reads::{key_of, read};
 use crate::txn::{Txn, TxnFault};
@@ -154,13 +154,28 @@ impl Txn {
         )
     }
 
+    /// A fault of a tree as one of a transaction, which is given up where memory ran out.
+    fn refused(&mut self, fault: TreeFault) -> TxnFault
+        ensures fault { result ≡ fault_of fault }
+        ensures after { self.new ≡ after_fault result self.old }
+    {
+        match as_fault(fault) {
+            TxnFault::NoMemory => {
+                self.draft.fail();
+                TxnFault::NoMemory
+            }
+            fault => fault,
+        }
+    }
+
     /// Answers a call: takes its buckets, looks once at the pass's mailbox, and reads what is not cached through the pass's front. It takes no turn, and waits
     /// for nobody.
     ///
     /// The call then stands behind the others, answered on all that the pass saw [`answer`, `open`]. `Conflict` names the first bucket of the call that another
     /// seat was found to hold, and leaves the draft; the pass keeps what it took. `Disk` comes only where a read through the front failed. `BadRow`,
     /// `BadIndex` and `Unfit` do not come where the log at entry was told and sound; there `BucketFull` and `Number` come only where the definitions refuse
-    /// the call for this reason. After `NoMemory` the transaction may be failed, and is then to be aborted; after each other refusal it may be tried again.
+    /// the call for this reason. After each of these it may be tried again. `NoMemory` leaves the transaction failed, and no other answer does [`failed`]: each
+    /// later call answers it too, and changes nothing, until the transaction is aborted.
     pub fn call<D: LogDisk>(
         &mut self,
         hall: &RoomHall<D>,
@@ -168,13 +183,18 @@ impl Txn {
         call: &Call,
     ) -> Result<(), TxnFault>
         requires pass { IsRoomPass hall.now pass.old }
-        requires open { IsOpenTxn (beginning_of hall.now) self.old pass.old × (self.old.draft.failed ≡ false) }
+        requires open { IsOpenTxn (beginning_of hall.now) self.old pass.old }
         requires call { FitsCall call.now }
         ensures pass { IsRoomPass hall.now pass.new × (pass.new.number ≡ pass.old.number) }
         ensures open { IsOpenTxn (beginning_of hall.now) self.new pass.new }
+        ensures failed { self.new.draft.failed ≡ wants_memory result }
+        ensures gone { self.old.draft.failed ≡ true → StaysFailed self.old self.new pass.old pass.new result }
         ensures sees { SeesCall (beginning_of hall.now) pass.old pass.new }
         ensures answer { CallsOr (beginning_of hall.now) call.now self.old self.new pass.old pass.new result }
     {
+        if self.draft.failed() {
+            return Err(TxnFault::NoMemory);
+        }
         if let Err(conflict) = self.take_for(hall, pass, call) {
             return Err(TxnFault::Conflict {
                 bucket: conflict.bucket,
@@ -183,7 +203,7 @@ impl Txn {
         }
         match self.read_for(hall, pass, call) {
             Ok(()) => Ok(()),
-            Err(fault) => Err(as_fault(fault)),
+            Err(fault) => Err(self.refused(fault)),
         }
     }
 }

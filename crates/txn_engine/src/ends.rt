@@ -1,13 +1,15 @@
 //! The ends of a transaction.
 
-ghost use Rattle.std.specs.Prelude.{◌≡◌, false};
+ghost use Rattle.std.specs.Prelude.{◌≡◌, false, MatchOption};
+ghost use Rattle.epoch_room.specs.declared.answers.Fit.TheVariants as fit;
 ghost use Rattle.fine_places.specs.History as places;
 ghost use Rattle.fine_hall.specs.Passes.{LacksPlace};
 ghost use Rattle.hall_rooms.specs.Rooms.{IsRoomPass, beginning_of};
+ghost use Rattle.txn_engine.specs.Faults.{refusal_of};
 ghost use Rattle.txn_engine.specs.Txns.{Aborts, CommitsOr, IsOpenTxn};
 
 use crate::sets::{settle_all, undo_all};
-use crate::txn::{Committed, Txn};
+use crate::txn::{CommitFault, Committed, Txn};
 use epoch_room::Fit;
 use fine_hall::Pass;
 use hall_rooms::RoomHall;
@@ -15,19 +17,41 @@ use log_disk::LogDisk;
 use partition_hold::View;
 use std::sync::Wait;
 
+/// Why the room takes no rows, where it takes none.
+fn refusal(answer: Fit) -> Option<CommitFault>
+    ensures { MatchOption result (answer ≡ fit.Fits) (λ cause. answer ≡ refusal_of cause) }
+{
+    match answer {
+        Fit::Fits => None,
+        Fit::Shut { epoch } => Some(CommitFault::Shut { epoch }),
+        Fit::Number { epoch, place } => Some(CommitFault::Number { epoch, place }),
+        Fit::TooLarge { need, room } => Some(CommitFault::TooLarge { need, room }),
+        Fit::Full {
+            free,
+            live,
+            retired,
+        } => Some(CommitFault::Full {
+            free,
+            live,
+            retired,
+        }),
+        Fit::EpochFull { need, room } => Some(CommitFault::EpochFull { need, room }),
+    }
+}
+
 impl Txn {
     /// Commits in one turn of the room, as one entry of the open epoch, gives all buckets back, and hands the entry out. It may wait for the room, and takes no
     /// memory.
     ///
-    /// What was done to the buckets is kept under the entry's epoch, and what is published is evicted, but for `keep` nodes of each bucket. A refusal is that
-    /// of the numbers of the room, which is given back as it was found; the transaction is as it was.
+    /// What was done to the buckets is kept under the entry's epoch, and what is published is evicted, but for `keep` nodes of each bucket. A refusal is the
+    /// first that the numbers of the room give, which is handed back as it was found; the transaction is as it was.
     pub fn commit<D: LogDisk, W: Wait>(
         &mut self,
         rt: &W,
         hall: &RoomHall<D>,
         pass: &mut Pass<View<D::Eye>>,
         keep: usize,
-    ) -> Result<Committed, Fit>
+    ) -> Result<Committed, CommitFault>
         requires pass { IsRoomPass hall.now pass.old }
         requires free { LacksPlace pass.old places.room }
         requires open { IsOpenTxn (beginning_of hall.now) self.old pass.old × (self.old.draft.failed ≡ false) }
@@ -37,8 +61,8 @@ impl Txn {
     {
         let published = hall.published(pass);
         let mut room = hall.take_room(rt, pass);
-        match room.fit(self.draft.cost()) {
-            Fit::Fits => {
+        match refusal(room.fit(self.draft.cost())) {
+            None => {
                 let stamp = room.append(self.draft.log());
                 let entry = self.draft.take_entry();
                 hall.give_room(pass, room, Some(&entry), stamp.epoch);
@@ -46,7 +70,7 @@ impl Txn {
                 self.locks.release_all(hall, pass);
                 Ok(Committed { stamp, entry })
             }
-            cause => {
+            Some(cause) => {
                 hall.give_room(pass, room, None, 0);
                 Err(cause)
             }

@@ -9,5 +9,9 @@ mod scans;
 mod sets;
 mod txn;
 
-pub use laws::{idle_law, local_law, open_law};
-pub use txn::{Committed, Txn, TxnFault};
+pub use hall_rooms::{
+    Opened, RoomHall, Space, close_hall, make_room, merge_next, open_hall, seal_and_post,
+    settle_views, try_room,
+};
+pub use laws::{idle_law, local_law, open_law, replies_law};
+pub use txn::{CommitFault, Committed, Txn, TxnFault};

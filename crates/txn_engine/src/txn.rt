@@ -5,7 +5,7 @@ ghost use Rattle.txn_draft.specs.Drafts.{blank};
 ghost use Rattle.txn_engine.specs.Txns.{HoldsNone};
 
 use epoch_room::Stamp;
-use fine_model::{Entry, NoMemory, NodeId};
+use fine_model::{Entry, NoMemory, NodeId, Reply};
 use key_locks::LockSet;
 use node_cache::Bucket;
 use std::alloc::Global;
@@ -43,7 +43,23 @@ pub enum TxnFault {
     BucketFull { next: u32, depth: u8 },
     /// A version of this node would pass its limit.
     Number { node: NodeId },
+    /// Memory ran out, in this call or in one before it. The transaction can only be aborted.
     NoMemory,
+}
+
+/// Why a commit was refused: the first reason of these that holds, by the numbers of the room.
+#[derive(Clone, Copy, Debug, PartialEq, Eq)]
+pub enum CommitFault {
+    /// An earlier call failed on the device. `epoch` is the last sealed one.
+    Shut { epoch: u64 },
+    /// The number of the open epoch, or of places, is at its limit. `place` is the last place given, or 0.
+    Number { epoch: u64, place: u64 },
+    /// The rows alone need more bytes than a region has.
+    TooLarge { need: u64, room: u64 },
+    /// A new epoch would leave no free region. The numbers are of regions, continuations included.
+    Full { free: u32, live: u32, retired: u32 },
+    /// The open epoch would need more bytes than a region has. Once it is sealed the rows may fit.
+    EpochFull { need: u64, room: u64 },
 }
 
 impl Txn {
@@ -59,10 +75,18 @@ impl Txn {
         })
     }
 
-    /// Whether memory ran out in a call, so that the transaction can only be aborted.
+    /// Whether a call since the beginning, or since the last commit or abort, answered `NoMemory`. The transaction can then only be aborted.
     pub fn failed(&self) -> bool
         ensures { result ≡ self.now.draft.failed }
     {
         self.draft.failed()
+    }
+
+    /// The replies to the calls that were answered since the beginning, or since the last commit or abort, in their order. Where the transaction is not
+    /// failed they are the store's, on all that its pass saw (`replies_law`); after want of memory they say nothing.
+    pub fn replies(&self) -> &[Reply]
+        ensures { result.now ≡ self.now.draft.replies }
+    {
+        self.draft.replies()
     }
 }

@@ -1,18 +1,42 @@
--- A pass after a call, and after a commit that was refused.
-use Rattle.std.proofs.Common.{◌≡◌, ◌∙◌, ap, sym}
+-- A pass in the midst of a transaction, after a call, and after a commit that was refused.
+use Rattle.std.proofs.Common.{◌≡◌, ℕ, ◌<◌, ◌≤◌, ◌∙◌, ap, sym, arith, le_refl}
 use lib.ListN.{get_elem?}
 use Rattle.fine_places.specs.History as places
-use Rattle.partition_hold.specs.Views.{state_of}
-use Rattle.fine_hall.specs.declared.law.Beginning.{Beginning}
-use Rattle.fine_hall.specs.Laws.{AreTurns}
-use Rattle.fine_hall.specs.Passes.{turns}
+use Rattle.node_cache.specs.Cache.{Cache}
+use Rattle.partition_hold.specs.Views.{ViewValue, state_of}
+use Rattle.epoch_room.specs.Value.{RoomValue}
+use Rattle.fine_hall.specs.Halls.{HallOf}
 use Rattle.fine_hall.proofs.Troubles.{sees_law}
-use Rattle.hall_rooms.specs.Rooms.{RoomPass}
-use Rattle.txn_engine.specs.Txns.{SeesCall}
-use Rattle.txn_engine_tests.specs.Going.{GoesOn}
+use Rattle.hall_rooms.specs.Rooms.{IsRoomPass, RoomPass, beginning_of}
+use Rattle.txn_engine.specs.declared.txn.CommitFault.{CommitFault}
+use Rattle.txn_engine.specs.declared.txn.Txn.{Txn}
+use Rattle.txn_engine.specs.Txns.{IsOpenTxn, IsRefused, SeesCall}
+use Rattle.key_locks.proofs.Held.{near}
+use Rattle.txn_engine.proofs.Idle.{begins_law, refused_job}
+use Rattle.txn_engine_tests.specs.Going.{IsAtRest, IsFree, IsGoing}
 
-pub called : (x : Beginning) (p p' : RoomPass) → AreTurns x (turns p') → p'.number ≡ p.number → SeesCall x p p' → GoesOn x p p'
-called x p p' lawful number s = record {
-  room = λ free. s.room ∙ free;
-  job = λ lacks one. let was = sym number ∙ one in ((sees_law state_of).job x p p' lawful was s.sees).job ∙ lacks was;
+module _ {Q : Type 0} (hall : HallOf RoomValue Cache ViewValue Q) (t t' : Txn) (p p' : RoomPass) where
+  pub going_on : IsGoing hall t p → IsRoomPass hall p' → p'.number ≡ p.number → SeesCall (beginning_of hall) p p' → IsOpenTxn (beginning_of hall) t' p' → IsGoing hall t' p'
+  going_on g pass number s o = record {
+    pass = pass;
+    is_open = o;
+    room = s.room ∙ g.room;
+    job = λ one. let was = sym number ∙ one in ((sees_law state_of).job (beginning_of hall) p p' pass.lawful was s.sees).job ∙ g.job was;
+  }
+
+  pub refused_goes : (cause : CommitFault) → IsGoing hall t p → IsRoomPass hall p' → p'.number ≡ p.number → IsRefused (beginning_of hall) t t' p p' cause → IsOpenTxn (beginning_of hall) t' p' → IsGoing hall t' p'
+  refused_goes cause g pass number r o = record {
+    pass = pass;
+    is_open = o;
+    room = ap (λ l. get_elem? l places.room) r.held ∙ g.room;
+    job = refused_job (beginning_of hall) t t' p p' cause number r g.job;
+  }
+
+-- a transaction that holds nothing begins with an idle pass
+pub goes : {Q : Type 0} (hall : HallOf RoomValue Cache ViewValue Q) (t : Txn) (p : RoomPass) → IsAtRest hall p → IsFree t → IsGoing hall t p
+goes hall t p rest free = let idle = rest.idle in record {
+  pass = idle.0;
+  is_open = begins_law (beginning_of hall) t p free.lane free.turn free.is_blank free.none idle.0.lawful (λ k low. let lt = near k low in idle.1 k (omega (arith, lt)));
+  room = idle.1 places.room (le_refl places.room);
+  job = idle.2;
 }

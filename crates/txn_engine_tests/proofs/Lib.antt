@@ -1,1 +1,3 @@
 pub mod Gone
+pub mod NewLog
+pub mod Begun

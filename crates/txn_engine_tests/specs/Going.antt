@@ -1,10 +1,30 @@
--- How a pass goes on that had no turn.
+-- A transaction that holds nothing, and a pass in the midst of one.
+use Rattle.std.specs.Prelude.{◌≡◌, ℕ}
 use Rattle.fine_places.specs.History as places
-use Rattle.fine_hall.specs.declared.law.Beginning.{Beginning}
+use Rattle.node_cache.specs.Cache.{Cache}
+use Rattle.partition_hold.specs.Views.{ViewValue}
+use Rattle.epoch_room.specs.Value.{RoomValue}
+use Rattle.txn_draft.specs.Drafts.{blank}
+use Rattle.fine_hall.specs.Halls.{HallOf}
 use Rattle.fine_hall.specs.Passes.{LacksJob, LacksPlace}
-use Rattle.hall_rooms.specs.Rooms.{RoomPass}
+use Rattle.hall_rooms.specs.Rooms.{IsIdle, IsRoomPass, RoomPass, beginning_of}
+use Rattle.txn_engine.specs.Txns.{HoldsNone, IsOpenTxn}
+use Rattle.txn_engine.specs.declared.txn.Txn.{Txn}
 
--- it lacks the room and a merge where it did
-pub record GoesOn (x : Beginning) (p p' : RoomPass) : Type 0 where
-  pub room : LacksPlace p places.room → LacksPlace p' places.room
-  pub job : LacksJob x p → LacksJob x p'
+-- nothing was answered, and no bucket is held
+pub record IsFree (t : Txn) : Type 0 where
+  pub lane : ℕ
+  pub turn : ℕ
+  pub is_blank : t.draft ≡ blank lane turn
+  pub none : HoldsNone t.locks
+
+-- a pass of a hall that holds nothing, and has no merge out
+pub record IsAtRest {Q : Type 0} (hall : HallOf RoomValue Cache ViewValue Q) (p : RoomPass) : Type 0 where
+  pub idle : IsIdle hall p
+
+-- its transaction is open, and it holds neither the room nor a merge
+pub record IsGoing {Q : Type 0} (hall : HallOf RoomValue Cache ViewValue Q) (t : Txn) (p : RoomPass) : Type 0 where
+  pub pass : IsRoomPass hall p
+  pub is_open : IsOpenTxn (beginning_of hall) t p
+  pub room : LacksPlace p places.room
+  pub job : LacksJob (beginning_of hall) p

@@ -1,116 +1,198 @@
-//! Transactions of two calls, as transfers between two accounts are, each with a pass that is idle before and after.
+//! Transactions of several calls, as transfers between two accounts are, each with a pass that is idle before and after.
 
-ghost use Rattle.std.specs.Prelude.{◌≡◌, true, false};
+ghost use Rattle.std.specs.Prelude.{◌≡◌, false, IfSome};
+ghost use Rattle.std.specs.List.{AllByRecursion};
 ghost use Rattle.fine_model.specs.Bounds.{FitsCall};
-ghost use Rattle.fine_places.specs.History as places;
-ghost use Rattle.fine_hall.specs.Passes.{LacksPlace, LacksJob};
-ghost use Rattle.hall_rooms.specs.Rooms.{IsIdle, IsRoomPass, beginning_of};
-ghost use Rattle.txn_engine.specs.Txns.{IsOpenTxn};
-ghost use Rattle.txn_engine_tests.specs.Going.{GoesOn};
+ghost use Rattle.txn_engine_tests.specs.Going.{IsAtRest, IsFree, IsGoing};
 
+use crate::accounts::{balance_of, get_of, put_of};
 use fine_hall::Pass;
 use fine_model::Call;
-use hall_rooms::RoomHall;
 use log_disk::LogDisk;
 use partition_hold::View;
 use std::alloc::Global;
 use std::sync::Wait;
-use txn_engine::Txn;
+use txn_engine::{CommitFault, Committed, RoomHall, Txn, TxnFault};
 
-/// Answers a call; true where the transaction goes on.
+/// How a transaction ended.
+#[derive(Drop)]
+pub enum Ended {
+    Committed(Committed),
+    /// A call was refused, and all was taken back.
+    Refused(TxnFault),
+    /// The room had no place, and all was taken back.
+    NoPlace(CommitFault),
+}
+
+/// A transaction that holds nothing. None where there is no memory.
+pub fn fresh(alloc: Global, lane: u8) -> Option<Txn>
+    ensures { IfSome result IsFree }
+{
+    match Txn::new(alloc, lane, 1) {
+        Ok(txn) => Some(txn),
+        Err(_refused) => None,
+    }
+}
+
+/// Answers a call, for which there was memory or not.
 fn answer<D: LogDisk>(
     txn: &mut Txn,
     hall: &RoomHall<D>,
     pass: &mut Pass<View<D::Eye>>,
-    call: &Call,
-) -> bool
-    requires pass { IsRoomPass hall.now pass.old }
-    requires open { IsOpenTxn (beginning_of hall.now) txn.old pass.old × (txn.old.draft.failed ≡ false) }
-    requires call { FitsCall call.now }
-    ensures pass { IsRoomPass hall.now pass.new × (pass.new.number ≡ pass.old.number) }
-    ensures open { IsOpenTxn (beginning_of hall.now) txn.new pass.new }
-    ensures goes_on { GoesOn (beginning_of hall.now) pass.old pass.new }
-    ensures going { result ≡ true → txn.new.draft.failed ≡ false }
+    asked: Option<Call>,
+) -> Result<(), TxnFault>
+    requires going { IsGoing hall.now txn.old pass.old }
+    requires asked { IfSome asked FitsCall }
+    ensures going { IsGoing hall.now txn.new pass.new × (pass.new.number ≡ pass.old.number) }
 {
-    let answered = txn.call(hall, pass, call).is_ok();
-    if txn.failed() {
-        return false;
+    match asked {
+        Some(asked) => txn.call(hall, pass, &asked),
+        None => Err(TxnFault::NoMemory),
     }
-    answered
 }
 
-/// Answers two calls.
-fn answer_both<D: LogDisk>(
+/// Answers calls one after another, up to the first refusal.
+fn answer_all<D: LogDisk>(
     txn: &mut Txn,
     hall: &RoomHall<D>,
     pass: &mut Pass<View<D::Eye>>,
-    one: &Call,
-    two: &Call,
-) -> bool
-    requires pass { IsRoomPass hall.now pass.old }
-    requires open { IsOpenTxn (beginning_of hall.now) txn.old pass.old × (txn.old.draft.failed ≡ false) }
-    requires calls { FitsCall one.now × FitsCall two.now }
-    ensures pass { IsRoomPass hall.now pass.new × (pass.new.number ≡ pass.old.number) }
-    ensures open { IsOpenTxn (beginning_of hall.now) txn.new pass.new }
-    ensures goes_on { GoesOn (beginning_of hall.now) pass.old pass.new }
-    ensures going { result ≡ true → txn.new.draft.failed ≡ false }
+    calls: &[Call],
+) -> Result<(), TxnFault>
+    requires going { IsGoing hall.now txn.old pass.old }
+    requires calls { AllByRecursion FitsCall calls.now }
+    ensures going { IsGoing hall.now txn.new pass.new × (pass.new.number ≡ pass.old.number) }
 {
-    if !answer(txn, hall, pass, one) {
-        return false;
-    }
-    answer(txn, hall, pass, two)
-}
-
-/// Takes all back.
-fn give_up<D: LogDisk>(txn: &mut Txn, hall: &RoomHall<D>, pass: &mut Pass<View<D::Eye>>)
-    requires pass { IsRoomPass hall.now pass.old }
-    requires open { IsOpenTxn (beginning_of hall.now) txn.old pass.old }
-    requires idle { LacksPlace pass.old places.room × LacksJob (beginning_of hall.now) pass.old }
-    ensures idle { IsIdle hall.now pass.new × (pass.new.number ≡ pass.old.number) }
-{
-    txn.abort(hall, pass, 4);
-}
-
-/// Commits, or takes all back; true where it is committed.
-fn commit<D: LogDisk, W: Wait>(
-    rt: &W,
-    txn: &mut Txn,
-    hall: &RoomHall<D>,
-    pass: &mut Pass<View<D::Eye>>,
-) -> bool
-    requires pass { IsRoomPass hall.now pass.old }
-    requires open { IsOpenTxn (beginning_of hall.now) txn.old pass.old × (txn.old.draft.failed ≡ false) }
-    requires idle { LacksPlace pass.old places.room × LacksJob (beginning_of hall.now) pass.old }
-    ensures idle { IsIdle hall.now pass.new × (pass.new.number ≡ pass.old.number) }
-{
-    match txn.commit(rt, hall, pass, 4) {
-        Ok(_done) => true,
-        Err(_cause) => {
-            give_up(txn, hall, pass);
-            false
+    match calls {
+        [] => Ok(()),
+        [call, rest @ ..] => {
+            txn.call(hall, pass, call)?;
+            answer_all(txn, hall, pass, rest)
         }
     }
 }
 
-/// One transaction of two calls: whether it was committed, or None where there was no memory for it.
+/// Takes all back.
+pub fn give_up<D: LogDisk>(
+    txn: &mut Txn,
+    hall: &RoomHall<D>,
+    pass: &mut Pass<View<D::Eye>>,
+    keep: usize,
+)
+    requires going { IsGoing hall.now txn.old pass.old }
+    ensures idle { IsAtRest hall.now pass.new × (pass.new.number ≡ pass.old.number) }
+    ensures free { IsFree txn.new }
+{
+    txn.abort(hall, pass, keep);
+}
+
+/// Commits, or takes all back.
+pub fn commit<D: LogDisk, W: Wait>(
+    rt: &W,
+    txn: &mut Txn,
+    hall: &RoomHall<D>,
+    pass: &mut Pass<View<D::Eye>>,
+    keep: usize,
+) -> Ended
+    requires going { IsGoing hall.now txn.old pass.old }
+    ensures idle { IsAtRest hall.now pass.new × (pass.new.number ≡ pass.old.number) }
+    ensures free { IsFree txn.new }
+{
+    if txn.failed() {
+        give_up(txn, hall, pass, keep);
+        return Ended::Refused(TxnFault::NoMemory);
+    }
+    match txn.commit(rt, hall, pass, keep) {
+        Ok(done) => Ended::Committed(done),
+        Err(cause) => {
+            give_up(txn, hall, pass, keep);
+            Ended::NoPlace(cause)
+        }
+    }
+}
+
+/// One transaction of these calls.
+pub fn run<D: LogDisk, W: Wait>(
+    rt: &W,
+    txn: &mut Txn,
+    hall: &RoomHall<D>,
+    pass: &mut Pass<View<D::Eye>>,
+    calls: &[Call],
+    keep: usize,
+) -> Ended
+    requires idle { IsAtRest hall.now pass.old }
+    requires free { IsFree txn.old }
+    requires calls { AllByRecursion FitsCall calls.now }
+    ensures idle { IsAtRest hall.now pass.new × (pass.new.number ≡ pass.old.number) }
+    ensures free { IsFree txn.new }
+{
+    match answer_all(txn, hall, pass, calls) {
+        Ok(()) => commit(rt, txn, hall, pass, keep),
+        Err(fault) => {
+            give_up(txn, hall, pass, keep);
+            Ended::Refused(fault)
+        }
+    }
+}
+
+/// Reads two balances.
+fn read_two<D: LogDisk>(
+    alloc: Global,
+    txn: &mut Txn,
+    hall: &RoomHall<D>,
+    pass: &mut Pass<View<D::Eye>>,
+    from: u8,
+    to: u8,
+) -> Result<(u8, u8), TxnFault>
+    requires going { IsGoing hall.now txn.old pass.old }
+    ensures going { IsGoing hall.now txn.new pass.new × (pass.new.number ≡ pass.old.number) }
+{
+    answer(txn, hall, pass, get_of(alloc, from))?;
+    answer(txn, hall, pass, get_of(alloc, to))?;
+    let replies = txn.replies();
+    Ok((balance_of(replies.first()), balance_of(replies.get(1))))
+}
+
+/// Moves 1 from an account to another one, where it has 1 and the other has room for it.
+fn move_one<D: LogDisk>(
+    alloc: Global,
+    txn: &mut Txn,
+    hall: &RoomHall<D>,
+    pass: &mut Pass<View<D::Eye>>,
+    from: u8,
+    to: u8,
+) -> Result<(), TxnFault>
+    requires going { IsGoing hall.now txn.old pass.old }
+    ensures going { IsGoing hall.now txn.new pass.new × (pass.new.number ≡ pass.old.number) }
+{
+    let (left, right) = read_two(alloc, txn, hall, pass, from, to)?;
+    if left == 0 || right == u8::MAX {
+        return Ok(());
+    }
+    answer(txn, hall, pass, put_of(alloc, from, left - 1))?;
+    answer(txn, hall, pass, put_of(alloc, to, right + 1))
+}
+
+/// A transfer of 1 from an account to another one, in one transaction that reads both balances before it puts. It moves nothing where the one has nothing, or
+/// the other has no room.
 pub fn transfer<D: LogDisk, W: Wait>(
     rt: &W,
     alloc: Global,
+    txn: &mut Txn,
     hall: &RoomHall<D>,
     pass: &mut Pass<View<D::Eye>>,
-    one: &Call,
-    two: &Call,
-) -> Option<bool>
-    requires idle { IsIdle hall.now pass.old }
-    requires calls { FitsCall one.now × FitsCall two.now }
-    ensures idle { IsIdle hall.now pass.new × (pass.new.number ≡ pass.old.number) }
+    from: u8,
+    to: u8,
+) -> Ended
+    requires idle { IsAtRest hall.now pass.old }
+    requires free { IsFree txn.old }
+    ensures idle { IsAtRest hall.now pass.new × (pass.new.number ≡ pass.old.number) }
+    ensures free { IsFree txn.new }
 {
-    let Ok(mut txn) = Txn::new(alloc, 1, 1) else {
-        return None;
-    };
-    if answer_both(&mut txn, hall, pass, one, two) {
-        return Some(commit(rt, &mut txn, hall, pass));
+    match move_one(alloc, txn, hall, pass, from, to) {
+        Ok(()) => commit(rt, txn, hall, pass, 0),
+        Err(fault) => {
+            give_up(txn, hall, pass, 0);
+            Ended::Refused(fault)
+        }
     }
-    give_up(&mut txn, hall, pass);
-    Some(false)
 }

@@ -1,19 +1,23 @@
-use Rattle.std.proofs.Common.{◌∙◌, ap}
-use lib.ListN.{get_elem?}
-use Rattle.fine_places.specs.History as places
+use Rattle.std.proofs.Common.{sym, ◌∙◌}
 use Rattle.hall_rooms.specs.Rooms.{beginning_of}
-use Rattle.txn_engine.proofs.Idle.{commits_idle, refused_job}
+use Rattle.txn_engine.proofs.Idle.{commits_idle}
+use Rattle.txn_engine_tests.proofs.Gone.{refused_goes}
 use Rattle.txn_engine_tests.proofs.transfers.commit.Goals as goal
+
+pub commit-requires-clause-open : goal.commit-requires-clause-open
+commit-requires-clause-open g c κs within = (c.requires.going.is_open, sym c.failed.ensures ∙ c.if-failed.false)
 
 pub returns-in-Ok : goal.returns-in-Ok
 returns-in-Ok g c =
     let e = c.in-Ok.ensures in
-    let i = commits_idle (beginning_of c.args.hall.now) c.args.txn.now c.commit.new.self c.args.pass.now c.commit.new.pass c.in-Ok._done.stamp e.pass.1 e.commits.0 c.requires.idle.1 in
-    record { idle = ((e.pass.0, i.0, i.1), e.pass.1) }
+    let t = c.args.txn.now in
+    let i = commits_idle (beginning_of c.args.hall.now) t c.commit.new.self c.args.pass.now c.commit.new.pass c.in-Ok.done.stamp e.pass.1 e.commits.0 c.requires.going.job in
+    record {
+      idle = (record { idle = (e.pass.0, i.0, i.1) }, e.pass.1);
+      free = record { lane = t.draft.lane; turn = t.draft.turn; is_blank = e.commits.0.blank_now.0; none = e.commits.0.blank_now.1 };
+    }
 
-pub give_up-requires-clause-idle : goal.give_up-requires-clause-idle
-give_up-requires-clause-idle g c κs within =
-    let e = c.in-Err.ensures in (
-      ap (λ l. get_elem? l places.room) e.commits.held ∙ c.requires.idle.0,
-      refused_job (beginning_of c.args.hall.now) c.args.txn.now c.commit.new.self c.args.pass.now c.commit.new.pass c.in-Err._cause e.pass.1 e.commits c.requires.idle.1,
-    )
+pub give_up-requires-in-Err-clause-going : goal.give_up-requires-in-Err-clause-going
+give_up-requires-in-Err-clause-going g c κs within =
+    let e = c.in-Err.ensures in
+    refused_goes c.args.hall.now c.args.txn.now c.commit.new.self c.args.pass.now c.commit.new.pass c.in-Err.cause c.requires.going e.pass.0 e.pass.1 e.commits e.«open»

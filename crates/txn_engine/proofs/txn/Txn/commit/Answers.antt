@@ -36,11 +36,11 @@ give_room-requires-send-B g c κs within = search (sendable, bucket_send) depth 
 pub give_room-requires-send-R : goal.give_room-requires-send-R
 give_room-requires-send-R g c κs within = let d = c.type_bounds.send-D in search (sendable, room_send) depth 20
 
-pub give_room-requires-in_default-send-B : goal.give_room-requires-in_default-send-B
-give_room-requires-in_default-send-B g c κs within = search (sendable, bucket_send) depth 20
+pub give_room-requires-in-Some-send-B : goal.give_room-requires-in-Some-send-B
+give_room-requires-in-Some-send-B g c κs within = search (sendable, bucket_send) depth 20
 
-pub give_room-requires-in_default-send-R : goal.give_room-requires-in_default-send-R
-give_room-requires-in_default-send-R g c κs within = let d = c.type_bounds.send-D in search (sendable, room_send) depth 20
+pub give_room-requires-in-Some-send-R : goal.give_room-requires-in-Some-send-R
+give_room-requires-in-Some-send-R g c κs within = let d = c.type_bounds.send-D in search (sendable, room_send) depth 20
 
 pub release_all-requires-send-B : goal.release_all-requires-send-B
 release_all-requires-send-B g c κs within = search (sendable, bucket_send) depth 20
@@ -54,8 +54,8 @@ take_room-room-requires-clause-free g c κs within = free_read c.args.pass.now c
 pub give_room-requires-clause-held : goal.give_room-requires-clause-held
 give_room-requires-clause-held g c κs within = held_room (beginning_of c.args.hall.now) c.args.self.now c.args.pass.now c.published-published.new.pass c.take_room-room.new.pass c.published-published.ensures.pass.1 c.take_room-room.ensures.pass.1 c.published-published.ensures.reads c.requires.pass.lawful c.published-published.ensures.pass.0.lawful c.take_room-room.ensures.pass.0.lawful c.requires.open.0 c.requires.free c.take_room-room.result c.take_room-room.ensures.takes c.take_room-room.ensures.room
 
-pub give_room-requires-in_default-clause-held : goal.give_room-requires-in_default-clause-held
-give_room-requires-in_default-clause-held g c κs within = held_room (beginning_of c.args.hall.now) c.args.self.now c.args.pass.now c.published-published.new.pass c.take_room-room.new.pass c.published-published.ensures.pass.1 c.take_room-room.ensures.pass.1 c.published-published.ensures.reads c.requires.pass.lawful c.published-published.ensures.pass.0.lawful c.take_room-room.ensures.pass.0.lawful c.requires.open.0 c.requires.free c.take_room-room.result c.take_room-room.ensures.takes c.take_room-room.ensures.room
+pub give_room-requires-in-Some-clause-held : goal.give_room-requires-in-Some-clause-held
+give_room-requires-in-Some-clause-held g c κs within = held_room (beginning_of c.args.hall.now) c.args.self.now c.args.pass.now c.published-published.new.pass c.take_room-room.new.pass c.published-published.ensures.pass.1 c.take_room-room.ensures.pass.1 c.published-published.ensures.reads c.requires.pass.lawful c.published-published.ensures.pass.0.lawful c.take_room-room.ensures.pass.0.lawful c.requires.open.0 c.requires.free c.take_room-room.result c.take_room-room.ensures.takes c.take_room-room.ensures.room
 
 pub give_room-requires-clause-room : goal.give_room-requires-clause-room
 give_room-requires-clause-room g c κs within =
@@ -96,31 +96,31 @@ release_all-requires-clause-stands g c κs within =
     (record { entry = entry_of t.draft; epoch = c.take_room-room.result.room.sealed + 1 }) c.requires.open.1 refl (epochs (beginning_of c.args.hall.now) c.args.self.now c.args.pass.now c.published-published.new.pass c.take_room-room.new.pass c.published-published.ensures.pass.1 c.take_room-room.ensures.pass.1 c.published-published.ensures.reads c.requires.pass.lawful c.published-published.ensures.pass.0.lawful c.take_room-room.ensures.pass.0.lawful c.requires.open.0 c.requires.free c.take_room-room.result c.take_room-room.ensures.takes c.take_room-room.ensures.room c.requires.open.1 c.append-stamp.new.self (c.append-stamp.ensures.room ∙ ap (appended c.take_room-room.result) c.log.ensures) (subst (StandsForMore c.take_room-room.result c.append-stamp.new.self) c.log.ensures c.append-stamp.ensures.stands) c.append-stamp.ensures.becomes c.append-stamp.ensures.job)
     (subst (λ n. EachBecomes (λ b. evicted c.published-published.result c.args.keep (settled c.append-stamp.result.epoch b)) (λ b new. IsLeft c.published-published.result (after b n) b new) t.locks c.settle_all.new.locks) stamped c.settle_all.ensures))
 
-pub returns-in-Fits-clause-open : goal.returns-in-Fits-clause-open
-returns-in-Fits-clause-open g c =
+pub returns-in-None-clause-open : goal.returns-in-None-clause-open
+returns-in-None-clause-open g c =
     let e = c.release_all.ensures in
     open_blank (beginning_of c.args.hall.now) _ c.release_all.new.pass c.args.self.now.draft.lane c.args.self.now.draft.turn c.take_entry-entry.ensures.left e.pass.0.lawful e.pass.2 e.none
 
-pub returns-in-Fits-clause-commits : goal.returns-in-Fits-clause-commits
-returns-in-Fits-clause-commits g c =
+pub returns-in-None-clause-commits : goal.returns-in-None-clause-commits
+returns-in-None-clause-commits g c =
     let k = c.take_room-room.ensures.takes in
     let p = c.take_room-room.new.pass in
     let e = c.release_all.ensures in
     let stamped = ap (λ (s : Stamp). s.epoch) c.append-stamp.ensures.stamp in
     let given = subst (λ (e : Entry). GivesRoom c.append-stamp.new.self.room (Some e) (c.take_room-room.result.room.sealed + 1) k.turn p c.give_room.new.pass) c.take_entry-entry.ensures.entry
     (subst (λ n. GivesRoom c.append-stamp.new.self.room (Some c.take_entry-entry.result) n k.turn p c.give_room.new.pass) stamped (c.give_room.ensures.gives k.turn k.is_turn)) in (
-      committed (beginning_of c.args.hall.now) c.args.self.now c.args.pass.now c.published-published.new.pass c.take_room-room.new.pass c.published-published.ensures.pass.1 c.take_room-room.ensures.pass.1 c.published-published.ensures.reads c.requires.pass.lawful c.published-published.ensures.pass.0.lawful c.take_room-room.ensures.pass.0.lawful c.requires.open.0 c.requires.free c.take_room-room.result c.take_room-room.ensures.takes c.take_room-room.ensures.room c.requires.open.1 c.append-stamp.new.self (c.append-stamp.ensures.room ∙ ap (appended c.take_room-room.result) c.log.ensures) (subst (StandsForMore c.take_room-room.result c.append-stamp.new.self) c.log.ensures c.append-stamp.ensures.stands) c.append-stamp.ensures.becomes c.append-stamp.ensures.job c.give_room.new.pass c.give_room.ensures.pass.1 given (ap (fit_of c.take_room-room.result.room) (sym c.cost.ensures) ∙ (sym c.fit.ensures ∙ c.in-Fits.is)) _ c.release_all.new.pass c.settle_all.new.locks c.append-stamp.result e.pass.1
+      committed (beginning_of c.args.hall.now) c.args.self.now c.args.pass.now c.published-published.new.pass c.take_room-room.new.pass c.published-published.ensures.pass.1 c.take_room-room.ensures.pass.1 c.published-published.ensures.reads c.requires.pass.lawful c.published-published.ensures.pass.0.lawful c.take_room-room.ensures.pass.0.lawful c.requires.open.0 c.requires.free c.take_room-room.result c.take_room-room.ensures.takes c.take_room-room.ensures.room c.requires.open.1 c.append-stamp.new.self (c.append-stamp.ensures.room ∙ ap (appended c.take_room-room.result) c.log.ensures) (subst (StandsForMore c.take_room-room.result c.append-stamp.new.self) c.log.ensures c.append-stamp.ensures.stands) c.append-stamp.ensures.becomes c.append-stamp.ensures.job c.give_room.new.pass c.give_room.ensures.pass.1 given (ap (fit_of c.take_room-room.result.room) (sym c.cost.ensures) ∙ (sym c.fit.ensures ∙ c.in-None.ensures)) _ c.release_all.new.pass c.settle_all.new.locks c.append-stamp.result e.pass.1
           c.append-stamp.ensures.stamp c.take_entry-entry.ensures.left e.pass.2 e.none e.releases,
       c.take_entry-entry.ensures.entry,
     )
 
-pub returns-in_default : goal.returns-in_default
-returns-in_default g c =
+pub returns-in-Some : goal.returns-in-Some
+returns-in-Some g c =
     let k = c.take_room-room.ensures.takes in
-    let e = c.give_room-in_default.ensures in
+    let e = c.give_room-in-Some.ensures in
     let given = e.gives k.turn k.is_turn in
     record {
       pass = (e.pass.0, e.pass.1 ∙ (c.take_room-room.ensures.pass.1 ∙ c.published-published.ensures.pass.1));
-      «open» = open_refused (beginning_of c.args.hall.now) c.args.self.now c.args.pass.now c.published-published.new.pass c.take_room-room.new.pass c.published-published.ensures.pass.1 c.take_room-room.ensures.pass.1 c.published-published.ensures.reads c.requires.pass.lawful c.published-published.ensures.pass.0.lawful c.take_room-room.ensures.pass.0.lawful c.requires.open.0 c.requires.free c.take_room-room.result c.take_room-room.ensures.takes c.take_room-room.ensures.room c.give_room-in_default.new.pass e.pass.1 given;
-      commits = refused (beginning_of c.args.hall.now) c.args.self.now c.args.pass.now c.published-published.new.pass c.take_room-room.new.pass c.published-published.ensures.pass.1 c.take_room-room.ensures.pass.1 c.published-published.ensures.reads c.requires.pass.lawful c.published-published.ensures.pass.0.lawful c.take_room-room.ensures.pass.0.lawful c.requires.open.0 c.requires.free c.take_room-room.result c.take_room-room.ensures.takes c.take_room-room.ensures.room c.give_room-in_default.new.pass e.pass.1 given c.fit.result (c.fit.ensures ∙ ap (fit_of c.take_room-room.result.room) c.cost.ensures) c.in_default.not-Fits;
+      «open» = open_refused (beginning_of c.args.hall.now) c.args.self.now c.args.pass.now c.published-published.new.pass c.take_room-room.new.pass c.published-published.ensures.pass.1 c.take_room-room.ensures.pass.1 c.published-published.ensures.reads c.requires.pass.lawful c.published-published.ensures.pass.0.lawful c.take_room-room.ensures.pass.0.lawful c.requires.open.0 c.requires.free c.take_room-room.result c.take_room-room.ensures.takes c.take_room-room.ensures.room c.give_room-in-Some.new.pass e.pass.1 given;
+      commits = refused (beginning_of c.args.hall.now) c.args.self.now c.args.pass.now c.published-published.new.pass c.take_room-room.new.pass c.published-published.ensures.pass.1 c.take_room-room.ensures.pass.1 c.published-published.ensures.reads c.requires.pass.lawful c.published-published.ensures.pass.0.lawful c.take_room-room.ensures.pass.0.lawful c.requires.open.0 c.requires.free c.take_room-room.result c.take_room-room.ensures.takes c.take_room-room.ensures.room c.give_room-in-Some.new.pass e.pass.1 given c.in-Some.cause (ap (fit_of c.take_room-room.result.room) (sym c.cost.ensures) ∙ (sym c.fit.ensures ∙ c.in-Some.ensures));
     }

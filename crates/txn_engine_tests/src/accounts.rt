@@ -1,0 +1,78 @@
+//! Calls on accounts, whose keys and balances are of one byte each.
+
+ghost use Rattle.std.specs.Prelude.{◌≡◌, [], ◌∷◌, IfSome};
+ghost use Rattle.fine_model.specs.Bounds.{FitsCall};
+
+use fine_model::{Bytes, Call, Items, Reply};
+use std::alloc::Global;
+
+/// The lowest account of a scan, and the first one that is not in it.
+const FIRST: u8 = 1;
+
+const END: u8 = 255;
+
+fn byte(alloc: Global, byte: u8) -> Option<Bytes>
+    ensures { IfSome result (λ bytes. bytes ≡ byte ∷ []) }
+{
+    match Vec::from_slice(alloc, &[byte]) {
+        Ok(bytes) => Some(Items::from_vec(bytes)),
+        Err(_refused) => None,
+    }
+}
+
+/// Asks for a balance.
+pub fn get_of(alloc: Global, account: u8) -> Option<Call>
+    ensures { IfSome result FitsCall }
+{
+    Some(Call::Get {
+        key: byte(alloc, account)?,
+    })
+}
+
+/// Sets a balance.
+pub fn put_of(alloc: Global, account: u8, balance: u8) -> Option<Call>
+    ensures { IfSome result FitsCall }
+{
+    Some(Call::Put {
+        key: byte(alloc, account)?,
+        value: byte(alloc, balance)?,
+    })
+}
+
+/// Asks for all accounts from 1 to 254.
+pub fn scan_of(alloc: Global) -> Option<Call>
+    ensures { IfSome result FitsCall }
+{
+    Some(Call::Scan {
+        low: byte(alloc, FIRST)?,
+        high: byte(alloc, END)?,
+        limit: 1000,
+    })
+}
+
+fn first_byte(bytes: &Bytes) -> u8 {
+    match bytes.as_slice().first() {
+        Some(byte) => *byte,
+        None => 0,
+    }
+}
+
+/// The balance that a reply tells, or 0.
+pub fn balance_of(reply: Option<&Reply>) -> u8 {
+    match reply {
+        Some(Reply::Value { value }) => first_byte(value),
+        _ => 0,
+    }
+}
+
+/// The sum of all balances that a reply tells, or 0.
+pub fn sum_of(reply: Option<&Reply>) -> u64 {
+    let Some(Reply::Found { pairs }) = reply else {
+        return 0;
+    };
+    let mut sum: u64 = 0;
+    for (_key, value) in pairs.as_slice() {
+        sum = sum.saturating_add(u64::from(first_byte(value)));
+    }
+    sum
+}

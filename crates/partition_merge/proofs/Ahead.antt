@@ -67,10 +67,10 @@ at_start eye v a b stands small waiting index offset whole = record {
 abbrev pub HasEntry : List ℕ → List ℕ → ℕ → List Row → Type 0
 HasEntry old new offset rows = (id : NodeId) → AllByRecursion (λ r. r.node ≡ id) rows → length rows < 4294967296 → new ≡ old ++ bytes_of (entry_at offset id rows)
 
-pub more_ahead : (eye later : Eye) (v w : BlocksValue) (handed : List ℕ) (a b rows : List Row) (i : IsAhead eye v handed a b) → v.waiting ≡ [] → v.is_whole ≡ false → HandsOut later w.merger i.left_older i.left_newer rows
-    → 1 ≤ length rows → w.waiting ≡ rows_bytes rows → w.is_whole ≡ false → HasEntry v.index w.index v.offset rows → w.offset ≡ min (v.offset + min (length (rows_bytes rows)) 4294967295) 4294967295
-    → IsAhead later w handed a b
-more_ahead eye later v w handed a b rows i none opened h some waiting opened_still entry offset =
+pub more_ahead : (eye later : Eye) (v w : BlocksValue) (handed after : List ℕ) (a b rows : List Row) (i : IsAhead eye v handed a b) → v.waiting ≡ [] → v.is_whole ≡ false → HandsOut later w.merger i.left_older i.left_newer rows
+    → 1 ≤ length rows → after ++ w.waiting ≡ handed ++ rows_bytes rows → w.is_whole ≡ false → HasEntry v.index w.index v.offset rows → w.offset ≡ min (v.offset + min (length (rows_bytes rows)) 4294967295) 4294967295
+    → IsAhead later w after a b
+more_ahead eye later v w handed after a b rows i none opened h some spelled opened_still entry offset =
     let n = h.node in
     let lo = i.left_older in
     let ln = i.left_newer in
@@ -100,7 +100,7 @@ more_ahead eye later v w handed a b rows i none opened h some waiting opened_sti
           (λ r all. subst (AllByRecursion (λ s. is_node_below r.node s.node ≡ true)) rest (all_filter (λ s. is_node_below r.node s.node ≡ true) (λ s. is_node_below n s.node) (lo ++ ln) all)) i.so_far i.below)
           (all_map (λ r. r.node ≡ n) (λ r. AllByRecursion (λ s. is_node_below r.node s.node ≡ true) left)
           (λ r same. subst (λ k. AllByRecursion (λ s. is_node_below k s.node ≡ true) left) (sym same) (subst (AllByRecursion (λ s. is_node_below n s.node ≡ true)) rest (all_pass (λ s. is_node_below n s.node) (lo ++ ln)))) rows own);
-      made = ap (λ xs. handed ++ xs) waiting ∙ ap (λ xs. xs ++ rows_bytes rows) made ∙ sym (rows_bytes-append i.so_far rows) ∙ sym (ap (λ t. made_of t (i.so_far ++ rows)) opened_still);
+      made = spelled ∙ ap (λ xs. xs ++ rows_bytes rows) made ∙ sym (rows_bytes-append i.so_far rows) ∙ sym (ap (λ t. made_of t (i.so_far ++ rows)) opened_still);
       none_left = λ e. absurd (true≢false (sym e ∙ opened_still));
       index = λ e.
           entry n own (omega (arith, bytes, few_rows rows)) ∙ ap (λ xs. xs ++ bytes_of (entry_at v.offset n rows)) (i.index opened)
@@ -199,25 +199,27 @@ filled_ended v w n is ended = (ap (λ (x : BlocksValue). x.waiting) is ∙ ap (d
 
 -- ---- what a step leaves
 
-falls : (s t m l k w : ℕ) (more : Bool) → l < m → k ≡ l + min (m - l) w → t ≤ s → (more ≡ true → (1 ≤ w) ⊎ (t < s)) → t * (m + 1) + (m - k) + cond more 1 0 < s * (m + 1) + (m - l) + 1
-falls s t m l k w false room is fewer moves = let all : t * (m + 1) ≤ s * (m + 1) = mul-le t (m + 1) s (m + 1) fewer (omega arith) in omega (arith, all, is, room)
-falls s t m l k w true room is fewer moves = by (moves refl)
+falls : (s t m l n k w : ℕ) (more : Bool) → l < m → l ≤ n → n ≤ m → k ≡ n + min (m - n) w → t ≤ s → (more ≡ true → (1 ≤ w) ⊎ (t < s)) → t * (m + 1) + (m - k) + cond more 1 0 < s * (m + 1) + (m - l) + 1
+falls s t m l n k w false room longer within is fewer moves = let all : t * (m + 1) ≤ s * (m + 1) = mul-le t (m + 1) s (m + 1) fewer (omega arith) in omega (arith, all, is, room, longer, within)
+falls s t m l n k w true room longer within is fewer moves = by (moves refl)
   where
     by : (1 ≤ w) ⊎ (t < s) → t * (m + 1) + (m - k) + 1 < s * (m + 1) + (m - l) + 1
-    by (inl some) = let all : t * (m + 1) ≤ s * (m + 1) = mul-le t (m + 1) s (m + 1) fewer (omega arith) in omega (arith, all, is, room, some)
+    by (inl some) = let all : t * (m + 1) ≤ s * (m + 1) = mul-le t (m + 1) s (m + 1) fewer (omega arith) in omega (arith, all, is, room, longer, within, some)
     by (inr less) =
         let all : (t + 1) * (m + 1) ≤ s * (m + 1) = mul-le (t + 1) (m + 1) s (m + 1) (omega (arith, less)) (omega arith) in
-        let one : (t + 1) * (m + 1) ≡ t * (m + 1) + (m + 1) = omega arith in omega (arith, all, one, is, room)
+        let one : (t + 1) * (m + 1) ≡ t * (m + 1) + (m + 1) = omega arith in omega (arith, all, one, is, room, longer, within)
 
-pub step_falls : (u v w : BlocksValue) (was more full : Bool) → was ≡ true → full ≡ nat_le u.most (length u.block) → full ≡ false → v.block ≡ u.block → v.most ≡ u.most → steps_left v ≤ steps_left u → (more ≡ true → (1 ≤ length v.waiting) ⊎ (steps_left v < steps_left u))
-    → w ≡ filled v (v.most - length v.block) → steps_left w * (w.most + 1) + (w.most - length w.block) + cond more 1 0 < steps_left u * (u.most + 1) + (u.most - length u.block) + cond was 1 0
-step_falls u v w was more full goes test room block most fewer moves is =
+pub step_falls : (u v w : BlocksValue) (was more full : Bool) → was ≡ true → full ≡ nat_le u.most (length u.block) → full ≡ false → length u.block ≤ length v.block → length v.block ≤ v.most → v.most ≡ u.most → steps_left v ≤ steps_left u
+    → (more ≡ true → (1 ≤ length v.waiting) ⊎ (steps_left v < steps_left u)) → w ≡ filled v (v.most - length v.block)
+    → steps_left w * (w.most + 1) + (w.most - length w.block) + cond more 1 0 < steps_left u * (u.most + 1) + (u.most - length u.block) + cond was 1 0
+step_falls u v w was more full goes test room longer few most fewer moves is =
     let below : length u.block < u.most = not_full (nat_le u.most (length u.block)) refl (sym test ∙ room) in
     let len : length w.block ≡ length v.block + min (v.most - length v.block) (length v.waiting) = ap (λ (x : BlocksValue). length x.block) is ∙ length-append v.block (take (v.most - length v.block) v.waiting) ∙ ap (λ n. length v.block + n) (length-take (v.most - length v.block) v.waiting) in
-    let at : length w.block ≡ length u.block + min (u.most - length u.block) (length v.waiting) = len ∙ (λ i. length (block i) + min (most i - length (block i)) (length v.waiting)) in
+    let at : length w.block ≡ length v.block + min (u.most - length v.block) (length v.waiting) = len ∙ (λ i. length v.block + min (most i - length v.block) (length v.waiting)) in
+    let within : length v.block ≤ u.most = omega (arith, few, most) in
     let same : w.most ≡ u.most = ap (λ (x : BlocksValue). x.most) is ∙ most in
     let steps : steps_left w ≡ steps_left v = ap steps_left is in
-    let less = falls (steps_left u) (steps_left v) u.most (length u.block) (length w.block) (length v.waiting) more below at fewer moves in
+    let less = falls (steps_left u) (steps_left v) u.most (length u.block) (length v.block) (length w.block) (length v.waiting) more below longer within at fewer moves in
     subst (λ t. steps_left w * (w.most + 1) + (w.most - length w.block) + cond more 1 0 < steps_left u * (u.most + 1) + (u.most - length u.block) + cond t 1 0) (sym goes)
     (subst (λ n. n * (w.most + 1) + (w.most - length w.block) + cond more 1 0 < steps_left u * (u.most + 1) + (u.most - length u.block) + 1) (sym steps)
     (subst (λ n. steps_left v * (n + 1) + (n - length w.block) + cond more 1 0 < steps_left u * (u.most + 1) + (u.most - length u.block) + 1) (sym same) less))

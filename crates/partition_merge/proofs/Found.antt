@@ -31,7 +31,7 @@ use Rattle.partition_merge.proofs.Sources.{Lowest, inside, none_at_head, none_of
 
 -- a source behind its next node, with a window on the rows
 abbrev pub behind_node : Source → WindowValue → Source
-behind_node s rows = record { part = s.part; next = s.next + 1; head = None; ahead = record { rows = rows; index = s.ahead.index } }
+behind_node s rows = record { part = s.part; next = s.next + 1; head = None; ahead = record { rows = rows; index = s.ahead.index; next = s.ahead.next } }
 
 module _ (eye : Eye) (id : NodeId) (s : Source) where
   -- no node is left

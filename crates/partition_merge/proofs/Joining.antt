@@ -92,11 +92,11 @@ module _ (known : Option Image) (start : Merger) where
 
   -- ---- the rows of a node more
 
-  pub more_joined : (v w : BlocksValue) (handed : List ℕ) (rows : List Row) → IsJoined known start v handed → v.waiting ≡ [] → v.is_whole ≡ false
+  pub more_joined : (v w : BlocksValue) (handed after : List ℕ) (rows : List Row) → IsJoined known start v handed → v.waiting ≡ [] → v.is_whole ≡ false
       → older_part w.merger ≡ older_part v.merger → newer_part w.merger ≡ newer_part v.merger → IsJoinOf known v.merger w.merger rows
-      → w.waiting ≡ rows_bytes rows → w.is_whole ≡ false → HasEntry v.index w.index v.offset rows → length w.index ≡ length v.index + index_entry
-      → w.offset ≡ min (v.offset + min (length (rows_bytes rows)) 4294967295) 4294967295 → IsJoined known start w handed
-  more_joined v w handed rows i none opened older newer join waiting opened_still entry longer offset =
+      → after ++ w.waiting ≡ handed ++ rows_bytes rows → w.is_whole ≡ false → HasEntry v.index w.index v.offset rows → length w.index ≡ length v.index + index_entry
+      → w.offset ≡ min (v.offset + min (length (rows_bytes rows)) 4294967295) 4294967295 → IsJoined known start w after
+  more_joined v w handed after rows i none opened older newer join spelled opened_still entry longer offset =
       let own = join_own known v.merger w.merger rows join in
       let len : rows_len (all_of (i.joins ++ rows ∷ [])) ≡ rows_len (all_of i.joins) + rows_len rows = ap rows_len (all_pushed i.joins rows) ∙ sum_by-append row_len (all_of i.joins) rows in
       let count : length (i.joins ++ rows ∷ []) ≡ length i.joins + 1 = length-append i.joins (rows ∷ []) in
@@ -118,7 +118,7 @@ module _ (known : Option Image) (start : Merger) where
               ∙ ap (λ n. index_from 0 i.joins ++ entry_of n rows) (let e : rows_len (all_of i.joins) ≡ 0 + rows_len (all_of i.joins) = omega arith in e)
               ∙ sym (index_pushed 0 i.joins rows);
         };
-        made = ap (λ xs. handed ++ xs) waiting ∙ ap (λ xs. xs ++ rows_bytes rows) (handed_is v handed i none opened) ∙ sym (rows_bytes-append (all_of i.joins) rows)
+        made = spelled ∙ ap (λ xs. xs ++ rows_bytes rows) (handed_is v handed i none opened) ∙ sym (rows_bytes-append (all_of i.joins) rows)
             ∙ ap rows_bytes (sym (all_pushed i.joins rows)) ∙ sym (append-nil (rows_bytes (all_of (i.joins ++ rows ∷ [])))) ∙ ap (λ t. rows_bytes (all_of (i.joins ++ rows ∷ [])) ++ index_out t w.index) (sym opened_still);
         own_index = λ e. refl;
         offset = omega (arith, offset, at, len, rows_long rows);

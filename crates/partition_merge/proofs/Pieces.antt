@@ -24,7 +24,7 @@ use Rattle.partition_merge.specs.declared.piece.Found.{Found}
 use Rattle.partition_merge.specs.declared.piece.Merged.TheVariants as merged
 use Rattle.partition_merge.specs.declared.piece.Piece.{Piece}
 use Rattle.partition_merge.specs.Merging.{merged_of}
-use Rattle.partition_merge.specs.Pieces.{CanSpell, Holds, HoldsIn, IsMergedFrom, IsPieceOf, IsTallyOf, StandsIn, begins_with_put, both_ascend, both_len, bytes_at, may_fold, may_fold_from, merged_bytes, piece_bytes, piece_len, piece_rows, tally_of}
+use Rattle.partition_merge.specs.Pieces.{CanSpell, Holds, HoldsIn, IsMergedFrom, IsPieceOf, IsTallyOf, StandsIn, begins_with_put, both_ascend, both_len, bytes_at, may_fold, may_fold_from, merged_bytes, piece_len, piece_rows, span_bytes, span_of, tally_of}
 use Rattle.partition_merge.specs.Windows.{WindowValue}
 use Rattle.partition_merge.proofs.Joining.{merged_own}
 use Rattle.partition_merge.proofs.Folding.{stay_broken, stay_image, stay_short, stay_stale}
@@ -106,16 +106,16 @@ all_spelled part bytes id count rows r =
     let none : drop (length bytes) bytes ≡ [] = nil_from_length (drop (length bytes) bytes) (omega (arith, length-drop (length bytes) bytes)) in
     r.so_far.spelled ∙ ap (λ xs. rows_bytes rows ++ xs) none ∙ append-nil (rows_bytes rows)
 
-pub piece_spelled : (part : Part) (window : WindowValue) (id : NodeId) (piece : Option Piece) (rows : List Row) → Holds part window id piece rows → piece_bytes window piece ≡ rows_bytes rows
+pub piece_spelled : (part : Part) (window : WindowValue) (id : NodeId) (piece : Option Piece) (rows : List Row) → Holds part window id piece rows → span_bytes window (span_of piece) ≡ rows_bytes rows
 unfolding rows_bytes
 piece_spelled part window id None rows h = sym (ap rows_bytes h)
 piece_spelled part window id (Some piece) rows h = all_spelled part (bytes_at window piece.span) id piece.span.rows rows h.reads
 
-pub piece_stands : (part : Part) (window : WindowValue) (id : NodeId) (piece : Option Piece) (rows : List Row) → Holds part window id piece rows → StandsIn window piece
+pub piece_stands : (part : Part) (window : WindowValue) (id : NodeId) (piece : Option Piece) (rows : List Row) → Holds part window id piece rows → StandsIn window (span_of piece)
 piece_stands part window id None rows h = tt
 piece_stands part window id (Some piece) rows h = h.lies
 
-pub both_spelled : (p q : Part) (v w : WindowValue) (id : NodeId) (older newer : Option Piece) (a b : List Row) → Holds p v id older a → Holds q w id newer b → piece_bytes v older ++ piece_bytes w newer ≡ rows_bytes (a ++ b)
+pub both_spelled : (p q : Part) (v w : WindowValue) (id : NodeId) (older newer : Option Piece) (a b : List Row) → Holds p v id older a → Holds q w id newer b → span_bytes v (span_of older) ++ span_bytes w (span_of newer) ≡ rows_bytes (a ++ b)
 both_spelled p q v w id older newer a b h k = (λ i. piece_spelled p v id older a h i ++ piece_spelled q w id newer b k i) ∙ sym (rows_bytes-append a b)
 
 -- ---- which rows stay
@@ -236,7 +236,7 @@ both_tallied p q v w id older newer a b h k some = record {
 
 -- where no image stands for rows, they stay in both windows
 pub both_found : (m : Merger) (id : NodeId) (older newer : Option Piece) (a b : List Row) (found : Found) → HoldsIn m.older id older a → HoldsIn m.newer id newer b → 1 ≤ length (a ++ b) → merged_of id (a ++ b) ≡ a ++ b
-    → found.tally ≡ tally_of id older newer → found.merged ≡ merged.Both older newer → IsMergedFrom m id (a ++ b) found
+    → found.tally ≡ tally_of id older newer → found.merged ≡ merged.Both (span_of older) (span_of newer) → IsMergedFrom m id (a ++ b) found
 both_found m id older newer a b found h k some stays tally is =
     let p = m.older.part in
     let q = m.newer.part in

@@ -145,7 +145,7 @@ module _ (image : Image) (known : Option Image) (source : Source) (entry : Index
 
   -- once they were read, those of the next one are not
   pub order_taken : (rows : WindowValue) → source.head ≡ Some (entry, span) → IsInOrder image source → rows.from ≤ span.at
-      → IsInOrder image (record { part = source.part; next = source.next + 1; head = None; ahead = record { rows = rows; index = source.ahead.index } })
+      → IsInOrder image (record { part = source.part; next = source.next + 1; head = None; ahead = record { rows = rows; index = source.ahead.index; next = source.ahead.next } })
   order_taken rows head order low = record {
     index = (let one : kept_count source.head ≡ 1 = ap kept_count head in let index = order.index in omega (arith, one, index));
     rows = λ more.
@@ -162,6 +162,7 @@ kept_start known part = (
   record {
     rows = record { within = omega arith; range = empty_range known part };
     index = record { within = omega arith; range = empty_range known part };
+    next = tt;
   },
 )
   where

@@ -1,5 +1,5 @@
 -- Rows of one node that stay where they were read: in the windows on the rows of two parts.
-use Rattle.std.specs.Prelude.{◌≡◌, ℕ, ◌+◌, ◌-◌, ◌≤◌, ◌==◌, nat_lt, not, Bool, true, false, ◌&&◌, ◌||◌, List, [], ◌∷◌, ◌++◌, length, min, take, drop, Option, Some, None}
+use Rattle.std.specs.Prelude.{◌≡◌, ℕ, ◌+◌, ◌-◌, ◌≤◌, ◌==◌, nat_lt, not, Bool, true, false, ◌&&◌, ◌||◌, List, [], ◌∷◌, ◌++◌, length, min, take, drop, Option, Some, None, option_map}
 use Rattle.std.specs.List.{AllByRecursion}
 use Rattle.log_disk.specs.Disk.{Eye}
 use Rattle.fine_model.specs.declared.NodeId.{NodeId}
@@ -66,15 +66,19 @@ pub record HasRows (source : Source) (id : NodeId) (piece : Option Piece) : Type
   pub rows : List Row
   pub holds : HoldsIn source id piece rows
 
--- the bytes of what stands in a window
-abbrev pub piece_bytes : WindowValue → Option Piece → List ℕ
-piece_bytes window None = []
-piece_bytes window (Some piece) = bytes_at window piece.span
+-- the span of a piece, if there is one
+abbrev pub span_of : Option Piece → Option Span
+span_of piece = option_map (λ p. p.span) piece
+
+-- the bytes of a span in a window, if there is one
+abbrev pub span_bytes : WindowValue → Option Span → List ℕ
+span_bytes window None = []
+span_bytes window (Some span) = bytes_at window span
 
 -- it lies there
-abbrev pub StandsIn : WindowValue → Option Piece → Type 0
+abbrev pub StandsIn : WindowValue → Option Span → Type 0
 StandsIn window None = Unit {0}
-StandsIn window (Some piece) = LiesWithin window piece.span
+StandsIn window (Some span) = LiesWithin window span
 
 -- ---- what pieces tell
 
@@ -137,7 +141,7 @@ tallied tally offset = record { node = tally.node; offset = offset; rows = tally
 -- the bytes of merged rows: those of the image, or those that stand in both windows
 abbrev pub merged_bytes : Merger → Merged → List ℕ
 merged_bytes merger (merged.Image row) = row_bytes row
-merged_bytes merger (merged.Both older newer) = piece_bytes merger.older.ahead.rows older ++ piece_bytes merger.newer.ahead.rows newer
+merged_bytes merger (merged.Both older newer) = span_bytes merger.older.ahead.rows older ++ span_bytes merger.newer.ahead.rows newer
 
 -- they can be spelled
 abbrev pub CanSpell : Merger → Merged → Type 0

@@ -1,6 +1,6 @@
 //! The body of two merged parts, in blocks.
 
-ghost use Rattle.std.specs.Prelude.{◌≡◌, ◌⊎◌, ℕ, ◌+◌, ◌-◌, ◌<◌, ◌≤◌, [], ◌++◌, not, nat_le, false, true, IfOk, IsErrOf, List, MatchResult, Ok, Option, Some, drop, length, min, take, vec_capacity, vec_len};
+ghost use Rattle.std.specs.Prelude.{◌≡◌, ◌⊎◌, ℕ, ◌+◌, ◌-◌, ◌<◌, ◌≤◌, [], ◌++◌, not, nat_le, false, true, IfOk, IsErrOf, List, MatchResult, Ok, OnOk, Option, Some, drop, length, min, take, vec_capacity, vec_len};
 ghost use Rattle.log_disk.specs.Disk.{Eye};
 ghost use Rattle.fine_model.specs.declared.Row.{Row};
 ghost use Rattle.fine_model.specs.declared.FetchFault.TheVariants as fetch_fault;
@@ -14,12 +14,12 @@ ghost use Rattle.node_fetch.specs.Fetched.{NoDamage};
 ghost use Rattle.partition_merge.specs.Blocks.{Gives, IsAhead, IsAtStart, SameBlocks, steps_left};
 ghost use Rattle.partition_merge.specs.Joined.{GivesJoined, IsJoined};
 ghost use Rattle.partition_merge.specs.Mergers.{AreKept, BlamesEntry, BlamesRow, at_front, newer_part, older_part};
-ghost use Rattle.partition_merge.specs.Pieces.{tallied};
+ghost use Rattle.partition_merge.specs.Pieces.{CanSpell, merged_bytes, tallied};
 ghost use Rattle.partition_merge.specs.Streams.{AreInOrder, both_bytes_left};
 ghost use Rattle.partition_merge.specs.declared.merger.Merger.{Merger};
 
 use crate::pass::Pass;
-use crate::piece::Tally;
+use crate::piece::{Merged, Tally};
 use fine_model::format::INDEX_ENTRY;
 use fine_model::{FetchFault, NoMemory, Part};
 use log_disk::LogEye;
@@ -29,12 +29,12 @@ use std::marker::Model;
 use std::mem;
 
 /// The body of two merged parts, block by block: the rows first, and then the index. All memory but that of one node's rows is taken
-/// by `new`: the block, the index, and at most 64 KiB for the rows and 32 KiB for the index of each part, which are read in blocks. Blocks are used with one eye, from `new` to the last block: what was handed out so far is what this eye tells, and another
+/// by `new`: the block, the index, and at most 40 KiB for the rows and 8 KiB for the index of each part, which are read in blocks. Blocks are used with one eye, from `new` to the last block: what was handed out so far is what this eye tells, and another
 /// one, also of the same regions, is not known to tell the same.
 #[derive(Drop)]
 pub struct Blocks {
     merger: Pass,
-    most: usize,
+    most: u32,
     block: Vec<u8>,
     waiting: Vec<u8>,
     at: usize,
@@ -54,13 +54,6 @@ impl Model for Blocks {
     ghost invariant = { λ b. HasRoom b.merger b.most (vec_capacity b.block) b.at (vec_len b.waiting) (vec_len b.index) (vec_capacity b.index) b.is_whole };
 }
 
-// A number, or the greatest of 32 bits where it is above that.
-fn saturated(n: usize) -> u32
-    ensures { result ≡ min n 4294967295 }
-{
-    u32::try_from(n).unwrap_or(u32::MAX)
-}
-
 // Puts the entry of a node's rows behind an index, for which there is room.
 fn put_entry(index: &mut Vec<u8>, tally: Tally, offset: u32)
     requires room { vec_len index.old + index_entry ≤ vec_capacity index.old }
@@ -74,6 +67,36 @@ fn put_entry(index: &mut Vec<u8>, tally: Tally, offset: u32)
         rows: tally.rows,
     };
     let _room = index.extend_from_slice(&entry_bytes(&entry));
+}
+
+// Spells merged rows that were found last, of so many bytes: behind a block, if they stand in the windows and the block has room for them and
+// more, and else where bytes wait.
+fn put_rows(
+    pass: &Pass,
+    merged: &Merged,
+    area: u32,
+    most: u32,
+    block: &mut Vec<u8>,
+    waiting: &mut Vec<u8>,
+) -> Result<(), NoMemory>
+    requires none { waiting.old.items ≡ [] }
+    requires few { vec_len block.old ≤ most }
+    requires room { most ≤ vec_capacity block.old }
+    requires can_spell { CanSpell pass.now merged.now }
+    requires area { area ≡ min (length (merged_bytes pass.now merged.now)) 4294967295 }
+    ensures spelled { OnOk result (block.new.items ++ waiting.new.items ≡ block.old.items ++ merged_bytes pass.now merged.now) }
+    ensures longer { vec_len block.old ≤ vec_len block.new }
+    ensures few { vec_len block.new ≤ most }
+    ensures room { vec_capacity block.old ≤ vec_capacity block.new }
+{
+    let room = most - block.len() as u32;
+    if let Merged::Both { older, newer } = merged {
+        if area < room {
+            pass.put(block, *older, *newer);
+            return Ok(());
+        }
+    }
+    pass.spell(waiting, merged)
 }
 
 impl Blocks {
@@ -96,7 +119,7 @@ impl Blocks {
         let nodes = older.header.nodes as usize + newer.header.nodes as usize;
         Ok(Blocks {
             merger: Pass::new(alloc, older, newer, region_len)?,
-            most: most as usize,
+            most,
             block: Vec::with_capacity(alloc, most as usize)?,
             waiting: Vec::new(alloc),
             at: 0,
@@ -117,7 +140,7 @@ impl Blocks {
     fn is_full(&self) -> bool
         ensures { result ≡ nat_le self.now.most (length self.now.block) }
     {
-        self.most <= self.block.len()
+        self.most as usize <= self.block.len()
     }
 
     // Empties the block.
@@ -134,19 +157,22 @@ impl Blocks {
         ensures { self.new ≡ record self.old { block = self.old.block ++ take (self.old.most - length self.old.block) self.old.waiting; waiting = drop (self.old.most - length self.old.block) self.old.waiting } }
     {
         let left = &self.waiting[self.at..];
-        let count = left.len().min(self.most - self.block.len());
+        let count = left.len().min(self.most as usize - self.block.len());
         let _room = self.block.extend_from_slice(&left[..count]);
         self.at += count;
     }
 
-    // Sees that bytes wait: the rows of the next node, and behind the last node the index. False where nothing is left.
+    // Sees that the block goes on, or that bytes wait: the rows of the next node, and behind the last node the index. False where nothing is
+    // left.
     fn supply<E: LogEye>(&mut self, alloc: Global, eye: &mut E) -> Result<bool, FetchFault>
         requires older { IsSeen (E.LogEye.state eye.old) (older_part self.old.merger) }
         requires newer { IsSeen (E.LogEye.state eye.old) (newer_part self.old.merger) }
         requires region_len { self.old.merger.region_len ≡ (E.LogEye.state eye.old).region_len }
         requires kept { AreKept (E.LogEye.state eye.old).told self.old.merger }
+        requires few { length self.old.block ≤ self.old.most }
         ensures same { SameBlocks self.old self.new }
-        ensures block { self.new.block ≡ self.old.block }
+        ensures longer { length self.old.block ≤ length self.new.block }
+        ensures few { length self.new.block ≤ self.new.most }
         ensures eye { SameEye (E.LogEye.state eye.old) (E.LogEye.state eye.new) }
         ensures counts { CountsFaults (IsErrOf result fetch_fault.Failed) (E.LogEye.state eye.old) (E.LogEye.state eye.new) }
         ensures kept { AreKept (E.LogEye.state eye.old).told self.new.merger }
@@ -155,8 +181,10 @@ impl Blocks {
         ensures end { result ≡ Ok false → (self.new.waiting ≡ []) × (self.new.is_whole ≡ true) }
         ensures bad_row { (region at : ℕ) → IsErrOf result (fetch_fault.BadRow region at) → BlamesRow (E.LogEye.state eye.old).told self.old.merger (record { region = region; at = at }) }
         ensures bad_index { (region at : ℕ) → IsErrOf result (fetch_fault.BadIndex region at) → BlamesEntry (E.LogEye.state eye.old).told self.old.merger (record { region = region; at = at }) }
-        ensures exact { (handed : List ℕ) (a b : List Row) → IsAhead (E.LogEye.state eye.old) self.old handed a b → MatchResult result (λ more. IsAhead (E.LogEye.state eye.new) self.new handed a b) NoDamage }
-        ensures joined { (start : Merger) (handed : List ℕ) → IsJoined (E.LogEye.state eye.old).told start self.old handed → IfOk result (λ more. IsJoined (E.LogEye.state eye.old).told start self.new handed) }
+        ensures exact { (handed : List ℕ) (a b : List Row) → IsAhead (E.LogEye.state eye.old) self.old (handed ++ self.old.block) a b
+            → MatchResult result (λ more. IsAhead (E.LogEye.state eye.new) self.new (handed ++ self.new.block) a b) NoDamage }
+        ensures joined { (start : Merger) (handed : List ℕ) → IsJoined (E.LogEye.state eye.old).told start self.old (handed ++ self.old.block)
+            → IfOk result (λ more. IsJoined (E.LogEye.state eye.old).told start self.new (handed ++ self.new.block)) }
         ensures order { (image : Image) → (E.LogEye.state eye.old).told ≡ Some image → AreInOrder image self.old.merger → IfOk result (λ more. AreInOrder image self.new.merger) }
         ensures once { (image : Image) → (E.LogEye.state eye.old).told ≡ Some image → AreInOrder image self.old.merger
             → IfOk result (λ more. (E.LogEye.state eye.new).taken + both_bytes_left self.new.merger ≤ (E.LogEye.state eye.old).taken + both_bytes_left self.old.merger) }
@@ -177,11 +205,19 @@ impl Blocks {
         };
         self.waiting.clear();
         self.at = 0;
-        if self.merger.spell(&mut self.waiting, &found.merged).is_err() {
+        let put = put_rows(
+            &self.merger,
+            &found.merged,
+            found.tally.area,
+            self.most,
+            &mut self.block,
+            &mut self.waiting,
+        );
+        if put.is_err() {
             return Err(FetchFault::NoMemory);
         }
         put_entry(&mut self.index, found.tally, self.offset);
-        self.offset = self.offset.saturating_add(saturated(self.waiting.len()));
+        self.offset = self.offset.saturating_add(found.tally.area);
         Ok(true)
     }
 

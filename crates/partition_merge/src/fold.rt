@@ -115,6 +115,7 @@ fn rec_of(content: Node) -> Option<Rec>
 }
 
 /// The same as `folded`, of rows that are given up, and that have so many bytes: what images hold is not copied.
+#[inline(never)]
 pub(crate) fn folded_moved(
     alloc: Global,
     node: NodeId,

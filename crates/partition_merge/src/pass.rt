@@ -1,6 +1,6 @@
 //! Going over two parts node by node, in blocks.
 
-ghost use Rattle.std.specs.Prelude.{◌≡◌, ℕ, ◌+◌, ◌<◌, ◌≤◌, ◌++◌, IfOk, IfSome, IsErrOf, List, MatchResult, None, Ok, OnOk, Option, Some, length};
+ghost use Rattle.std.specs.Prelude.{◌≡◌, ℕ, ◌+◌, ◌<◌, ◌≤◌, ◌++◌, IfOk, IfSome, IsErrOf, List, MatchResult, None, Ok, OnOk, Option, Some, length, vec_capacity, vec_len};
 ghost use Rattle.fine_model.specs.declared.FetchFault.TheVariants as fetch_fault;
 ghost use Rattle.fine_model.specs.declared.Row.{Row};
 ghost use Rattle.fine_model.specs.Regions.{Image};
@@ -9,16 +9,17 @@ ghost use Rattle.partition_index.specs.Parts.{CountsFaults, IsSeen, LiesIn, Same
 ghost use Rattle.node_fetch.specs.Fetched.{NoDamage};
 ghost use Rattle.partition_merge.specs.Merging.{merged_of, one_or};
 ghost use Rattle.partition_merge.specs.Mergers.{AreKept, BlamesEntry, BlamesRow, StandsAt, at_front, both_left, newer_part, older_part};
-ghost use Rattle.partition_merge.specs.Pieces.{CanSpell, EndsAt, HandsOver, HasRows, HoldsIn, IsMergedFrom, merged_bytes};
+ghost use Rattle.partition_merge.specs.Pieces.{CanSpell, EndsAt, HandsOver, HasRows, HoldsIn, IsMergedFrom, StandsIn, merged_bytes, span_bytes};
 ghost use Rattle.partition_merge.specs.Streams.{AreInOrder, both_bytes_left};
 
 use crate::fold::folded_moved;
 use crate::lower;
-use crate::piece::{Found, Merged, Piece, Tally, both_len, may_fold};
+use crate::piece::{Found, Merged, Piece, Tally, both_len, may_fold, span_of};
 use crate::reader::Reader;
 use fine_model::{FetchFault, NoMemory, NodeId, Part, Row};
 use log_disk::LogEye;
 use node_record::write_row;
+use partition_index::Span;
 use std::alloc::Global;
 use std::marker::Model;
 
@@ -57,47 +58,52 @@ impl Pass {
     }
 
     // The image that stands for the rows of a node in both windows, where one does.
+    #[inline(always)]
     fn image(
         &self,
         alloc: Global,
         node: NodeId,
-        older: Option<Piece>,
-        newer: Option<Piece>,
+        older: &Option<Piece>,
+        newer: &Option<Piece>,
     ) -> Result<Option<Row>, NoMemory>
         requires older_lies { LiesIn self.now.region_len (older_part self.now).header }
         requires newer_lies { LiesIn self.now.region_len (newer_part self.now).header }
-        requires older { HasRows self.now.older node older }
-        requires newer { HasRows self.now.newer node newer }
-        ensures image { (a b : List Row) → HoldsIn self.now.older node older a → HoldsIn self.now.newer node newer b → IfOk result (λ image. merged_of node (a ++ b) ≡ one_or image (a ++ b)) }
+        requires older { HasRows self.now.older node older.now }
+        requires newer { HasRows self.now.newer node newer.now }
+        ensures image { (a b : List Row) → HoldsIn self.now.older node older.now a → HoldsIn self.now.newer node newer.now b → IfOk result (λ image. merged_of node (a ++ b) ≡ one_or image (a ++ b)) }
         ensures fit { IfOk result (λ image. IfSome image (λ row. FitsRec row.rec)) }
     {
         if !may_fold(older, newer) {
             return Ok(None);
         }
         let len = both_len(older, newer);
-        let older = self.older.rows(alloc, node, older, self.region_len)?;
-        let newer = self.newer.rows(alloc, node, newer, self.region_len)?;
+        let older = self.older.rows(alloc, node, *older, self.region_len)?;
+        let newer = self.newer.rows(alloc, node, *newer, self.region_len)?;
         folded_moved(alloc, node, older, newer, len)
     }
 
     // What the rows of a node in both windows are merged into. They stay there but where an image stands for them.
+    #[inline(always)]
     fn merged(
         &self,
         alloc: Global,
         node: NodeId,
-        older: Option<Piece>,
-        newer: Option<Piece>,
+        older: &Option<Piece>,
+        newer: &Option<Piece>,
     ) -> Result<Found, NoMemory>
         requires older_lies { LiesIn self.now.region_len (older_part self.now).header }
         requires newer_lies { LiesIn self.now.region_len (newer_part self.now).header }
-        requires older { HasRows self.now.older node older }
-        requires newer { HasRows self.now.newer node newer }
-        ensures { (a b : List Row) → HoldsIn self.now.older node older a → HoldsIn self.now.newer node newer b → 1 ≤ length (a ++ b) → IfOk result (IsMergedFrom self.now node (a ++ b)) }
+        requires older { HasRows self.now.older node older.now }
+        requires newer { HasRows self.now.newer node newer.now }
+        ensures { (a b : List Row) → HoldsIn self.now.older node older.now a → HoldsIn self.now.newer node newer.now b → 1 ≤ length (a ++ b) → IfOk result (IsMergedFrom self.now node (a ++ b)) }
     {
         let Some(image) = self.image(alloc, node, older, newer)? else {
             return Ok(Found {
                 tally: Tally::of_both(node, older, newer),
-                merged: Merged::Both { older, newer },
+                merged: Merged::Both {
+                    older: span_of(older),
+                    newer: span_of(newer),
+                },
             });
         };
         Ok(Found {
@@ -147,10 +153,22 @@ impl Pass {
         };
         let older = self.older.take(eye, node, self.region_len)?;
         let newer = self.newer.take(eye, node, self.region_len)?;
-        let Ok(found) = self.merged(alloc, node, older, newer) else {
+        let Ok(found) = self.merged(alloc, node, &older, &newer) else {
             return Err(FetchFault::NoMemory);
         };
         Ok(Some(found))
+    }
+
+    /// Appends the bytes of rows of both windows, for which there is room.
+    pub(crate) fn put(&self, out: &mut Vec<u8>, older: Option<Span>, newer: Option<Span>)
+        requires older { StandsIn self.now.older.ahead.rows older }
+        requires newer { StandsIn self.now.newer.ahead.rows newer }
+        requires room { vec_len out.old + length (span_bytes self.now.older.ahead.rows older ++ span_bytes self.now.newer.ahead.rows newer) ≤ vec_capacity out.old }
+        ensures bytes { out.new.items ≡ out.old.items ++ (span_bytes self.now.older.ahead.rows older ++ span_bytes self.now.newer.ahead.rows newer) }
+        ensures capacity { vec_capacity out.old ≤ vec_capacity out.new }
+    {
+        self.older.put(out, older);
+        self.newer.put(out, newer);
     }
 
     /// Appends the bytes of merged rows that were found last. After `NoMemory` what is there is not told.

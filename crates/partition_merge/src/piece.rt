@@ -2,7 +2,7 @@
 
 ghost use Rattle.std.specs.Prelude.{◌≡◌, ◌≤◌, true};
 ghost use Rattle.fine_model.specs.RowBytes.{FitsRec, row_len};
-ghost use Rattle.partition_merge.specs.Pieces.{begins_with_put, both_ascend, both_len, may_fold, may_fold_from, piece_len, piece_rows, tally_of};
+ghost use Rattle.partition_merge.specs.Pieces.{begins_with_put, both_ascend, both_len, may_fold, may_fold_from, piece_len, piece_rows, span_of, tally_of};
 
 use fine_model::{NodeId, Row};
 use node_fetch::Frames;
@@ -34,8 +34,8 @@ pub(crate) struct Tally {
 pub(crate) enum Merged {
     Image(Row),
     Both {
-        older: Option<Piece>,
-        newer: Option<Piece>,
+        older: Option<Span>,
+        newer: Option<Span>,
     },
 }
 
@@ -59,9 +59,19 @@ pub(crate) fn is_put(bytes: &[u8]) -> bool
     }
 }
 
+/// The span of a piece, if there is one.
+pub(crate) fn span_of(piece: &Option<Piece>) -> Option<Span>
+    ensures { result ≡ span_of piece.now }
+{
+    match piece {
+        Some(piece) => Some(piece.span),
+        None => None,
+    }
+}
+
 /// The number of rows of a piece, if there is one.
-fn rows_in(piece: Option<Piece>) -> u32
-    ensures { result ≡ piece_rows piece }
+fn rows_in(piece: &Option<Piece>) -> u32
+    ensures { result ≡ piece_rows piece.now }
 {
     match piece {
         Some(piece) => piece.span.rows,
@@ -70,8 +80,8 @@ fn rows_in(piece: Option<Piece>) -> u32
 }
 
 /// The number of bytes of a piece, if there is one.
-fn len_of(piece: Option<Piece>) -> u32
-    ensures { result ≡ piece_len piece }
+fn len_of(piece: &Option<Piece>) -> u32
+    ensures { result ≡ piece_len piece.now }
 {
     match piece {
         Some(piece) => piece.len,
@@ -80,15 +90,15 @@ fn len_of(piece: Option<Piece>) -> u32
 }
 
 /// The number of bytes of an older piece and of a newer one, or the greatest of 32 bits where it is above that.
-pub(crate) fn both_len(older: Option<Piece>, newer: Option<Piece>) -> u32
-    ensures { result ≡ both_len older newer }
+pub(crate) fn both_len(older: &Option<Piece>, newer: &Option<Piece>) -> u32
+    ensures { result ≡ both_len older.now newer.now }
 {
     len_of(older).saturating_add(len_of(newer))
 }
 
 /// Whether the rows of an older piece and those of a newer one behind them are in order.
-fn both_ascend(older: Option<Piece>, newer: Option<Piece>) -> bool
-    ensures { result ≡ both_ascend older newer }
+fn both_ascend(older: &Option<Piece>, newer: &Option<Piece>) -> bool
+    ensures { result ≡ both_ascend older.now newer.now }
 {
     match (older, newer) {
         (Some(older), Some(newer)) => {
@@ -102,18 +112,18 @@ fn both_ascend(older: Option<Piece>, newer: Option<Piece>) -> bool
 
 /// Whether an image may stand for so many rows that begin with a piece. They begin with an image or with version 1, and are no single row
 /// for which no other one stands: an image stands for itself, and that of one pair is longer than the row that puts it.
-fn may_fold_from(count: u32, piece: Piece) -> bool
-    ensures { result ≡ may_fold_from count piece }
+fn may_fold_from(count: u32, piece: &Piece) -> bool
+    ensures { result ≡ may_fold_from count piece.now }
 {
-    let first = piece.frames.first;
+    let first = &piece.frames.first;
     let afresh = first.is_image || first.version == 1;
     let stays = first.is_image || piece.is_put;
     afresh && !(count == 1 && stays)
 }
 
 /// Whether an image may stand for the rows of an older piece and of a newer one. Where it may not, the rows stay as they are.
-pub(crate) fn may_fold(older: Option<Piece>, newer: Option<Piece>) -> bool
-    ensures { result ≡ may_fold older newer }
+pub(crate) fn may_fold(older: &Option<Piece>, newer: &Option<Piece>) -> bool
+    ensures { result ≡ may_fold older.now newer.now }
 {
     match (older, newer) {
         (Some(first), more) => {
@@ -126,8 +136,8 @@ pub(crate) fn may_fold(older: Option<Piece>, newer: Option<Piece>) -> bool
 
 impl Tally {
     /// That of the rows of an older piece and of a newer one behind them.
-    pub(crate) fn of_both(node: NodeId, older: Option<Piece>, newer: Option<Piece>) -> Tally
-        ensures { result ≡ tally_of node older newer }
+    pub(crate) fn of_both(node: NodeId, older: &Option<Piece>, newer: &Option<Piece>) -> Tally
+        ensures { result ≡ tally_of node older.now newer.now }
     {
         Tally {
             node,

@@ -1,6 +1,6 @@
 //! Reading a part from front to back, its entries and its rows in blocks.
 
-ghost use Rattle.std.specs.Prelude.{◌≡◌, ℕ, ◌+◌, ◌-◌, ◌<◌, ◌≤◌, ◌++◌, false, IfErr, IfOk, IfSome, IsErrOf, List, MatchResult, None, Ok, OnOk, Option, Some, length, option_map};
+ghost use Rattle.std.specs.Prelude.{◌≡◌, ℕ, ◌+◌, ◌-◌, ◌<◌, ◌≤◌, ◌++◌, false, IfErr, IfOk, IfSome, IsErrOf, List, MatchResult, None, Ok, OnOk, Option, Some, length, option_map, vec_capacity, vec_len};
 ghost use Rattle.fine_model.specs.declared.FetchFault.TheVariants as fetch_fault;
 ghost use Rattle.fine_model.specs.declared.Row.{Row};
 ghost use Rattle.fine_model.specs.Merge.{is_node_below};
@@ -10,12 +10,12 @@ ghost use Rattle.partition_index.specs.Parts.{CountsFaults, IsSeen, LiesIn, Same
 ghost use Rattle.node_fetch.specs.Fetched.{HasBadEntry, HasBadRow, NoDamage};
 ghost use Rattle.partition_merge.specs.Merging.{FitRows, node_at_head};
 ghost use Rattle.partition_merge.specs.Mergers.{behind, node_kept, nodes_left, IsKept, SourceAt, start_at};
-ghost use Rattle.partition_merge.specs.Pieces.{HasRows, HoldsIn, IsTaken, LiesWithin, StandsIn, bytes_at, piece_bytes};
+ghost use Rattle.partition_merge.specs.Pieces.{HasRows, HoldsIn, IsTaken, LiesWithin, StandsIn, bytes_at, span_bytes};
 ghost use Rattle.partition_merge.specs.Streams.{IsInOrder, bytes_left};
 
 use crate::merger::Source;
 use crate::piece::Piece;
-use crate::through::{find_rows, read_head};
+use crate::through::{NumberedEntry, find_rows, read_head};
 use crate::window::Window;
 use fine_model::format::INDEX_ENTRY;
 use fine_model::{FetchFault, Items, NoMemory, NodeId, Part, Rows};
@@ -26,18 +26,19 @@ use std::alloc::Global;
 use std::marker::Model;
 
 /// How many bytes of rows, and of the index, are read at once where no more are asked for. With a block of 64 KiB that is written, the
-/// windows of two parts take 256 KiB.
-const ROWS_BLOCK: u32 = 65_536;
+/// windows of two parts take 160 KiB.
+const ROWS_BLOCK: u32 = 40_960;
 
-const INDEX_BLOCK: u32 = 32_768;
+const INDEX_BLOCK: u32 = 8_192;
 
-/// A source that is read ahead: the rows and the index of its part each through a window. Contracts see the source with what was read
-/// ahead of its part.
+/// A source that is read ahead: the rows and the index of its part each through a window, and of the index one entry, which the end of the span
+/// before it was told by. Contracts see the source with what was read ahead of its part.
 #[derive(Drop)]
 pub(crate) struct Reader {
     source: Source,
     rows: Window,
     index: Window,
+    next: Option<NumberedEntry>,
 }
 
 impl Model for Reader {
@@ -45,7 +46,7 @@ impl Model for Reader {
 
     ghost Value = { Source };
 
-    ghost view = { λ r. record { part = r.source.part; next = r.source.next; head = r.source.head; ahead = record { rows = r.rows; index = r.index } } };
+    ghost view = { λ r. record { part = r.source.part; next = r.source.next; head = r.source.head; ahead = record { rows = r.rows; index = r.index; next = r.next } } };
 }
 
 impl Reader {
@@ -58,10 +59,12 @@ impl Reader {
             source: Source::at_start(part),
             rows: Window::new(alloc, part.header.area, ROWS_BLOCK)?,
             index: Window::new(alloc, index_len, INDEX_BLOCK)?,
+            next: None,
         })
     }
 
     /// The next node of the part, which stays the next one.
+    #[inline(always)]
     pub(crate) fn peek<E: LogEye>(
         &mut self,
         eye: &mut E,
@@ -94,6 +97,7 @@ impl Reader {
         }
         let (entry, span) = read_head(
             &mut self.index,
+            &mut self.next,
             eye,
             &self.source.part,
             self.source.next,
@@ -105,6 +109,7 @@ impl Reader {
 
     /// The rows of a node, if it is the next one, which is left behind then, also where they are refused. They stay in the window until more is
     /// taken; none are told where the node is not the next one.
+    #[inline(always)]
     pub(crate) fn take<E: LogEye>(
         &mut self,
         eye: &mut E,
@@ -161,6 +166,7 @@ impl Reader {
     }
 
     /// The rows that stand in the window, decoded.
+    #[inline(never)]
     pub(crate) fn rows(
         &self,
         alloc: Global,
@@ -191,15 +197,28 @@ impl Reader {
         }
     }
 
-    /// Appends the bytes of rows that stand in the window.
-    pub(crate) fn spell(&self, out: &mut Vec<u8>, piece: Option<Piece>) -> Result<(), NoMemory>
-        requires { StandsIn self.now.ahead.rows piece }
-        ensures { OnOk result (out.new.items ≡ out.old.items ++ piece_bytes self.now.ahead.rows piece) }
+    /// Appends the bytes of rows that stand in the window, for which there is room.
+    pub(crate) fn put(&self, out: &mut Vec<u8>, span: Option<Span>)
+        requires stands { StandsIn self.now.ahead.rows span }
+        requires room { vec_len out.old + length (span_bytes self.now.ahead.rows span) ≤ vec_capacity out.old }
+        ensures bytes { out.new.items ≡ out.old.items ++ span_bytes self.now.ahead.rows span }
+        ensures len { vec_len out.new ≡ vec_len out.old + length (span_bytes self.now.ahead.rows span) }
+        ensures capacity { vec_capacity out.old ≤ vec_capacity out.new }
     {
-        let Some(piece) = piece else {
+        if let Some(span) = span {
+            let _room = out.extend_from_slice(self.bytes(span));
+        }
+    }
+
+    /// Appends the bytes of rows that stand in the window.
+    pub(crate) fn spell(&self, out: &mut Vec<u8>, span: Option<Span>) -> Result<(), NoMemory>
+        requires { StandsIn self.now.ahead.rows span }
+        ensures { OnOk result (out.new.items ≡ out.old.items ++ span_bytes self.now.ahead.rows span) }
+    {
+        let Some(span) = span else {
             return Ok(());
         };
-        out.extend_from_slice(self.bytes(piece.span))?;
+        out.extend_from_slice(self.bytes(span))?;
         Ok(())
     }
 }

@@ -1,6 +1,6 @@
 //! Entries and rows of a part that are read through windows on its body.
 
-ghost use Rattle.std.specs.Prelude.{◌≡◌, ℕ, ◌+◌, ◌-◌, ◌*◌, ◌<◌, ◌≤◌, IfErr, IfOk, IsErrOf, List, OnOk};
+ghost use Rattle.std.specs.Prelude.{◌≡◌, ℕ, ◌+◌, ◌-◌, ◌*◌, ◌<◌, ◌≤◌, IfErr, IfOk, IfSome, IsErrOf, List, Option, OnOk};
 ghost use Rattle.fine_model.specs.declared.FetchFault.TheVariants as fetch_fault;
 ghost use Rattle.fine_model.specs.declared.Row.{Row};
 ghost use Rattle.fine_model.specs.Regions.{body_len};
@@ -18,6 +18,13 @@ use fine_model::{FetchFault, NodeId, Part};
 use log_disk::LogEye;
 use node_fetch::{bad_index, frames_of_span};
 use partition_index::{IndexEntry, SeekFault, Span, entry_in, entry_place, span_in};
+
+/// An entry of an index that was read before it is asked for, and its number.
+#[derive(Clone, Copy)]
+pub(crate) struct NumberedEntry {
+    pub(crate) number: u32,
+    pub(crate) entry: IndexEntry,
+}
 
 // An entry of a part's index, by its number.
 fn read_entry<E: LogEye>(
@@ -55,9 +62,43 @@ fn read_entry<E: LogEye>(
     }
 }
 
-// The end of the span of an entry: the offset of the next one, or the end of the rows.
+// An entry of a part's index, by its number: the one that was read before, if it has this number.
+fn next_entry<E: LogEye>(
+    index: &mut Window,
+    next: Option<NumberedEntry>,
+    eye: &mut E,
+    part: &Part,
+    i: u32,
+    region_len: u64,
+) -> Result<IndexEntry, FetchFault>
+    requires seen { IsSeen (E.LogEye.state eye.old) part.now }
+    requires region_len { region_len ≡ (E.LogEye.state eye.old).region_len }
+    requires there { i < part.now.header.nodes }
+    requires holds { HoldsWindow (E.LogEye.state eye.old).told part.now (body_len part.now.header) index.old }
+    requires next { IfSome next (λ n. IsEntryAt (E.LogEye.state eye.old).told part.now n.number n.entry) }
+    ensures same { SameEye (E.LogEye.state eye.old) (E.LogEye.state eye.new) }
+    ensures counts { CountsFaults (IsErrOf result fetch_fault.Failed) (E.LogEye.state eye.old) (E.LogEye.state eye.new) }
+    ensures holds { HoldsWindow (E.LogEye.state eye.old).told part.now (body_len part.now.header) index.new }
+    ensures ok { IfOk result (IsEntryAt (E.LogEye.state eye.old).told part.now i) }
+    ensures good_row { (region at : ℕ) → IsErrOf result (fetch_fault.BadRow region at) → ⊥ }
+    ensures bad_index { (region at : ℕ) → IsErrOf result (fetch_fault.BadIndex region at) → HasBadEntry (E.LogEye.state eye.old).told region_len part.now (record { region = region; at = at }) }
+    ensures order { index.old.from ≤ entry_place part.now.header i → OnOk result (index.new.from ≤ entry_place part.now.header i) }
+    ensures ahead { index.old.from ≤ entry_place part.now.header i
+        → OnOk result ((E.LogEye.state eye.new).taken + index_left part.now index.new ≤ (E.LogEye.state eye.old).taken + index_left part.now index.old) }
+    ensures taken { index.old.from ≤ entry_place part.now.header i → (E.LogEye.state eye.new).taken ≤ (E.LogEye.state eye.old).taken + index_left part.now index.old }
+{
+    if let Some(next) = next {
+        if next.number == i {
+            return Ok(next.entry);
+        }
+    }
+    read_entry(index, eye, part, i, region_len)
+}
+
+// The end of the span of an entry: the offset of the next one, which is kept, or the end of the rows.
 fn end_of<E: LogEye>(
     index: &mut Window,
+    next: &mut Option<NumberedEntry>,
     eye: &mut E,
     part: &Part,
     i: u32,
@@ -67,9 +108,11 @@ fn end_of<E: LogEye>(
     requires region_len { region_len ≡ (E.LogEye.state eye.old).region_len }
     requires there { i < part.now.header.nodes }
     requires holds { HoldsWindow (E.LogEye.state eye.old).told part.now (body_len part.now.header) index.old }
+    requires next { IfSome next.old (λ n. IsEntryAt (E.LogEye.state eye.old).told part.now n.number n.entry) }
     ensures same { SameEye (E.LogEye.state eye.old) (E.LogEye.state eye.new) }
     ensures counts { CountsFaults (IsErrOf result fetch_fault.Failed) (E.LogEye.state eye.old) (E.LogEye.state eye.new) }
     ensures holds { HoldsWindow (E.LogEye.state eye.old).told part.now (body_len part.now.header) index.new }
+    ensures next { IfSome next.new (λ n. IsEntryAt (E.LogEye.state eye.old).told part.now n.number n.entry) }
     ensures ok { IfOk result (IsEndOf (E.LogEye.state eye.old).told part.now i) }
     ensures good_row { (region at : ℕ) → IsErrOf result (fetch_fault.BadRow region at) → ⊥ }
     ensures bad_index { (region at : ℕ) → IsErrOf result (fetch_fault.BadIndex region at) → HasBadEntry (E.LogEye.state eye.old).told region_len part.now (record { region = region; at = at }) }
@@ -79,8 +122,12 @@ fn end_of<E: LogEye>(
     ensures taken { index.old.from ≤ entry_place part.now.header i → (E.LogEye.state eye.new).taken ≤ (E.LogEye.state eye.old).taken + index_left part.now index.old }
 {
     if i + 1 < part.header.nodes {
-        let next = read_entry(index, eye, part, i + 1, region_len)?;
-        return Ok(next.offset);
+        let entry = read_entry(index, eye, part, i + 1, region_len)?;
+        *next = Some(NumberedEntry {
+            number: i + 1,
+            entry,
+        });
+        return Ok(entry.offset);
     }
     Ok(part.header.area)
 }
@@ -91,6 +138,7 @@ fn end_of<E: LogEye>(
 /// order, each is read once.
 pub(crate) fn read_head<E: LogEye>(
     index: &mut Window,
+    next: &mut Option<NumberedEntry>,
     eye: &mut E,
     part: &Part,
     i: u32,
@@ -100,9 +148,11 @@ pub(crate) fn read_head<E: LogEye>(
     requires region_len { region_len ≡ (E.LogEye.state eye.old).region_len }
     requires there { i < part.now.header.nodes }
     requires holds { HoldsWindow (E.LogEye.state eye.old).told part.now (body_len part.now.header) index.old }
+    requires next { IfSome next.old (λ n. IsEntryAt (E.LogEye.state eye.old).told part.now n.number n.entry) }
     ensures same { SameEye (E.LogEye.state eye.old) (E.LogEye.state eye.new) }
     ensures counts { CountsFaults (IsErrOf result fetch_fault.Failed) (E.LogEye.state eye.old) (E.LogEye.state eye.new) }
     ensures holds { HoldsWindow (E.LogEye.state eye.old).told part.now (body_len part.now.header) index.new }
+    ensures next { IfSome next.new (λ n. IsEntryAt (E.LogEye.state eye.old).told part.now n.number n.entry) }
     ensures entry { IfOk result (λ r. IsEntryAt (E.LogEye.state eye.old).told part.now i r.0) }
     ensures span { IfOk result (λ r. IsSpanAt (E.LogEye.state eye.old).told part.now i r.1) }
     ensures good_row { (region at : ℕ) → IsErrOf result (fetch_fault.BadRow region at) → ⊥ }
@@ -112,8 +162,8 @@ pub(crate) fn read_head<E: LogEye>(
         → OnOk result ((E.LogEye.state eye.new).taken + index_left part.now index.new ≤ (E.LogEye.state eye.old).taken + index_left part.now index.old) }
     ensures taken { index.old.from ≤ entry_place part.now.header i → (E.LogEye.state eye.new).taken ≤ (E.LogEye.state eye.old).taken + index_left part.now index.old }
 {
-    let entry = read_entry(index, eye, part, i, region_len)?;
-    let end = end_of(index, eye, part, i, region_len)?;
+    let entry = next_entry(index, *next, eye, part, i, region_len)?;
+    let end = end_of(index, next, eye, part, i, region_len)?;
     match span_in(part, i, &entry, end) {
         Ok(span) => Ok((entry, span)),
         Err(SeekFault::Failed) => Err(FetchFault::Failed),

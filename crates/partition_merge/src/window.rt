@@ -102,6 +102,7 @@ impl Window {
     }
 
     // Leaves out the bytes before an offset, if those behind it have room in their place, or all of them, if the offset is not within.
+    #[cold]
     fn leave(&mut self, at: u32)
         requires small { window_end self.old < 4294967296 }
         ensures from { self.new.from ≤ at }
@@ -126,6 +127,7 @@ impl Window {
     }
 
     // Reads on behind the window, until it has so many bytes. After a fault it has those that it had.
+    #[cold]
     fn extend<E: LogEye>(
         &mut self,
         eye: &mut E,
@@ -164,6 +166,7 @@ impl Window {
     ///
     /// Ranges that ascend have each byte read once. `Failed` comes only where the eye's count of faults rose in this call; `NoMemory` only
     /// where the range is longer than half a block.
+    #[inline(always)]
     pub(crate) fn reach<E: LogEye>(
         &mut self,
         eye: &mut E,
@@ -196,6 +199,7 @@ impl Window {
     }
 
     /// The bytes of a range that stands in the window.
+    #[inline(always)]
     pub(crate) fn range(&self, at: u32, len: u32) -> &[u8]
         requires reached { (self.now.from ≤ at) × (at + len ≤ window_end self.now) }
         ensures long { length result.now ≡ len }

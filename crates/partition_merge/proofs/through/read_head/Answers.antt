@@ -6,7 +6,7 @@ use Rattle.partition_merge.proofs.Streams.{body_small}
 use Rattle.partition_merge.proofs.through.read_head.Goals as goal
 
 pub end_of-requires-clause-seen : goal.end_of-requires-clause-seen
-end_of-requires-clause-seen g c = seen_same (g.E.LogEye.state c.args.eye.now) (g.E.LogEye.state c.read_entry.new.eye) c.args.part.now c.read_entry.ensures.same c.requires.seen
+end_of-requires-clause-seen g c = seen_same (g.E.LogEye.state c.args.eye.now) (g.E.LogEye.state c.next_entry.new.eye) c.args.part.now c.next_entry.ensures.same c.requires.seen
 
 pub span_in-requires-clause-small : goal.span_in-requires-clause-small
 span_in-requires-clause-small g c = body_small _ c.args.part.now.header c.requires.seen.lies
@@ -16,5 +16,5 @@ bad_index-requires-clause-within g c =
     let known = (g.E.LogEye.state c.args.eye.now).told in
     let p = c.args.part.now in
     let at = c.in-Err-BadIndex.at in
-    let end : IsEndOf known p c.args.i c.in_ok-end.end = subst (λ k. IsEndOf k p c.args.i c.in_ok-end.end) c.read_entry.ensures.same.told c.in_ok-end.ensures.ok in
+    let end : IsEndOf known p c.args.i c.in_ok-end.end = subst (λ k. IsEndOf k p c.args.i c.in_ok-end.end) c.next_entry.ensures.same.told c.in_ok-end.ensures.ok in
     rw c.in-Err-BadIndex.field-0-is (bad_within known p at (c.in-Err-BadIndex.ensures.bad known c.in_ok-entry.ensures.ok end at (ap Err c.in-Err-BadIndex.field-0-is)))

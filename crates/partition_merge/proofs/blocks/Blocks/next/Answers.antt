@@ -1,4 +1,5 @@
 use Rattle.std.proofs.Common.{◌≡◌, ◌∙◌, ◌≤◌, ◌++◌, ◌==◌, [], length, false, true, Ok, Err, sym, ap, subst, arith, rules, refl, true≢false, inl, inr}
+use Rattle.std.proofs.lemmas.Result.{err_from_is_err_and}
 use Rattle.fine_model.specs.declared.FetchFault.TheVariants as fault
 use Rattle.partition_index.specs.Parts.{IsSeen}
 use Rattle.partition_index.proofs.Looking.{seen_same, same_then}
@@ -49,13 +50,14 @@ returns-in_err-more-clause-bad_row g c region at e =
 pub returns-in_err-more-clause-exact : goal.returns-in_err-more-clause-exact
 returns-in_err-more-clause-exact g c handed a b ahead =
     let i = c.loop-more.invariant in
-    let same : c.from_residual.result ≡ Err c.in_err-more.field-0.0 = search rules in
-    err_clause c.from_residual.result c.in_err-more.field-0.0 _ same (c.in_err-more.ensures.exact (handed ++ c.loop-more.self.block) a b (i.ahead handed a b ahead))
+    let is = err_from_is_err_and c.from_residual.result c.from_residual.ensures.1 in
+    let same : c.from_residual.result ≡ Err c.in_err-more.field-0.0 = is.1 ∙ ap Err is.2 in
+    err_clause c.from_residual.result c.in_err-more.field-0.0 _ same (c.in_err-more.ensures.exact handed a b (i.ahead handed a b ahead))
 
 pub loop-more-smaller : goal.loop-more-smaller
 loop-more-smaller g c =
     let full : c.is_full.result ≡ false = search rules in
-    step_falls c.loop-more.self c.supply.new.self c.fill.new.self c.loop-more.more c.in_ok-more.more c.is_full.result c.loop-more-test.true c.is_full.ensures full c.supply.ensures.block c.supply.ensures.same.most c.supply.ensures.no_more (λ e. c.in_ok-more.ensures.moves (ap Ok e)) c.fill.ensures
+    step_falls c.loop-more.self c.supply.new.self c.fill.new.self c.loop-more.more c.in_ok-more.more c.is_full.result c.loop-more-test.true c.is_full.ensures full c.supply.ensures.longer c.supply.ensures.few c.supply.ensures.same.most c.supply.ensures.no_more (λ e. c.in_ok-more.ensures.moves (ap Ok e)) c.fill.ensures
 
 pub loop-more-preserved : goal.loop-more-preserved
 loop-more-preserved g c =
@@ -67,8 +69,7 @@ loop-more-preserved g c =
       region_len = c.supply.ensures.same.region_len ∙ i.same.region_len;
       most = c.supply.ensures.same.most ∙ i.same.most;
     } in
-    let few : length c.supply.new.self.block ≤ c.supply.new.self.most = search rules in
-    let room = filled_few c.supply.new.self c.fill.new.self c.loop-more.self.most few c.supply.ensures.same.most c.fill.ensures in
+    let room = filled_few c.supply.new.self c.fill.new.self c.loop-more.self.most c.supply.ensures.few c.supply.ensures.same.most c.fill.ensures in
     record {
       same = filled_same c.args.self.now c.supply.new.self c.fill.new.self _ whole c.fill.ensures;
       eye = same_then (g.E.LogEye.state c.args.eye.now) (g.E.LogEye.state c.loop-more.eye) (g.E.LogEye.state c.supply.new.eye) i.eye c.supply.ensures.eye;
@@ -78,13 +79,13 @@ loop-more-preserved g c =
       some = subst (λ n. 1 ≤ n) (sym room.1) i.some;
       ended = λ e. filled_ended c.supply.new.self c.fill.new.self _ c.fill.ensures (c.in_ok-more.ensures.end (ap Ok e));
       ahead = λ handed a b ahead.
-          filled_ahead (g.E.LogEye.state c.supply.new.eye) c.supply.new.self c.fill.new.self c.loop-more.self.block handed a b _ c.fill.ensures c.supply.ensures.block
-          (c.in_ok-more.ensures.exact (handed ++ c.loop-more.self.block) a b (i.ahead handed a b ahead));
+          filled_ahead (g.E.LogEye.state c.supply.new.eye) c.supply.new.self c.fill.new.self c.supply.new.self.block handed a b _ c.fill.ensures refl
+          (c.in_ok-more.ensures.exact handed a b (i.ahead handed a b ahead));
       joined = λ start handed joined.
           let known = (g.E.LogEye.state c.args.eye.now).told in
           let before = subst (λ k. IsJoined k start c.loop-more.self (handed ++ c.loop-more.self.block)) (sym i.eye.told) (i.joined start handed joined) in
-          let supplied = subst (λ k. IsJoined k start c.supply.new.self (handed ++ c.loop-more.self.block)) i.eye.told (c.in_ok-more.ensures.joined start (handed ++ c.loop-more.self.block) before) in
-          filled_joined known start c.supply.new.self c.fill.new.self c.loop-more.self.block handed _ c.fill.ensures c.supply.ensures.block supplied;
+          let supplied = subst (λ k. IsJoined k start c.supply.new.self (handed ++ c.supply.new.self.block)) i.eye.told (c.in_ok-more.ensures.joined start handed before) in
+          filled_joined known start c.supply.new.self c.fill.new.self c.supply.new.self.block handed _ c.fill.ensures refl supplied;
       order = λ image told order.
           subst (AreInOrder image) (sym (ap (λ (v : BlocksValue). v.merger) c.fill.ensures)) (c.in_ok-more.ensures.order image (i.eye.told ∙ told) (i.order image told order));
       bytes = λ image told order.

@@ -1,8 +1,9 @@
-use Rattle.std.proofs.Common.{◌≡◌, ◌∙◌, ◌+◌, ◌++◌, ℕ, [], length, min, Ok, Err, Some, None, sym, ap, subst, arith, rules, refl}
+use Rattle.std.proofs.Common.{◌≡◌, ◌∙◌, ◌+◌, ◌++◌, ℕ, List, append_assoc, length, min, Ok, Err, Some, None, sym, ap, subst, arith, rules, refl}
 use Rattle.std.specs.Prelude.{IfSome}
 use Rattle.std.specs.Global.{Vec}
 use Rattle.std.proofs.lemmas.List.{drop_all}
 use Rattle.fine_model.specs.RowBytes.{rows_bytes, index_entry}
+use Rattle.fine_model.proofs.Grammar.{rows_long}
 use Rattle.partition_merge.specs.Blocks.{BlocksValue, IsAhead}
 use Rattle.partition_merge.specs.Joined.{IsJoined}
 use Rattle.partition_merge.specs.Pieces.{EndsAt, HandsOver, merged_bytes}
@@ -15,54 +16,62 @@ use Rattle.partition_merge.proofs.blocks.Blocks.supply.Goals as goal
 
 pub returns-in_err-found-clause-exact : goal.returns-in_err-found-clause-exact
 returns-in_err-found-clause-exact g c handed a b ahead =
-    let i = subst (λ (v : BlocksValue). IsAhead (g.E.LogEye.state c.args.eye.now) v handed a b) (sym c.self.view_is) ahead in
+    let i = subst (λ (v : BlocksValue). IsAhead (g.E.LogEye.state c.args.eye.now) v (handed ++ v.block) a b) (sym c.self.view_is) ahead in
     let same : c.from_residual.result ≡ Err c.in_err-found.field-0.0 = search rules in
     err_clause c.from_residual.result c.in_err-found.field-0.0 _ same (c.in_err-found.ensures.exact i.left_older i.left_newer i.stands)
 
 pub returns-in_default-clause-exact : goal.returns-in_default-clause-exact
 returns-in_default-clause-exact g c handed a b ahead =
     let later = g.E.LogEye.state c.next_node.new.eye in
-    let i = subst (λ (v : BlocksValue). IsAhead (g.E.LogEye.state c.args.eye.now) v handed a b) (sym c.self.view_is) ahead in
+    let i = subst (λ (v : BlocksValue). IsAhead (g.E.LogEye.state c.args.eye.now) v (handed ++ v.block) a b) (sym c.self.view_is) ahead in
     let ends : EndsAt later c.next_node.new.self i.left_older i.left_newer None = subst (EndsAt later c.next_node.new.self i.left_older i.left_newer) c.in_default.is (c.in_ok-found.ensures.exact i.left_older i.left_newer i.stands) in
-    whole_ahead (g.E.LogEye.state c.args.eye.now) later _ _ handed a b i (drop_all c.self.inside.at c.self.inside.waiting.items (omega (arith, c.if-self-len.false, c.len.ensures))) c.if-self.false ends (ap (λ (v : Vec ℕ). v.items) c.swap.ensures.x_after) refl refl
+    whole_ahead (g.E.LogEye.state c.args.eye.now) later _ _ (handed ++ c.self.inside.block.items) a b i (drop_all c.self.inside.at c.self.inside.waiting.items (omega (arith, c.if-self-len.false, c.len.ensures))) c.if-self.false ends (ap (λ (v : Vec ℕ). v.items) c.swap.ensures.x_after) refl refl
 
 pub returns-clause-exact : goal.returns-clause-exact
 returns-clause-exact g c handed a b ahead =
     let later = g.E.LogEye.state c.next_node.new.eye in
-    let i = subst (λ (v : BlocksValue). IsAhead (g.E.LogEye.state c.args.eye.now) v handed a b) (sym c.self.view_is) ahead in
-    let spelled : c.spell.new.out.items ≡ c.clear.new.self.items ++ merged_bytes c.next_node.new.self c.in-Some.found.merged = ok_holds c.spell.result _ (sym c.is_err.ensures.value ∙ c.if-is_err.false) c.spell.ensures in
+    let i = subst (λ (v : BlocksValue). IsAhead (g.E.LogEye.state c.args.eye.now) v (handed ++ v.block) a b) (sym c.self.view_is) ahead in
     let h : HandsOver (g.E.LogEye.state c.args.eye.now) (g.E.LogEye.state c.next_node.new.eye) c.self.inside.merger c.next_node.new.self c.in-Some.found =
     let found : IfSome (Some c.in-Some.found) (HandsOver (g.E.LogEye.state c.args.eye.now) (g.E.LogEye.state c.next_node.new.eye) c.self.inside.merger c.next_node.new.self) =
     subst (λ found. IfSome found (HandsOver (g.E.LogEye.state c.args.eye.now) (g.E.LogEye.state c.next_node.new.eye) c.self.inside.merger c.next_node.new.self)) c.in-Some.is c.in_ok-found.ensures.found in found in
-    let clear : c.clear.new.self.items ≡ [] = c.clear.ensures.items in
-    let waiting : c.spell.new.out.items ≡ rows_bytes h.rows = spelled ∙ ap (λ xs. xs ++ merged_bytes c.next_node.new.self c.in-Some.found.merged) clear ∙ h.spelled in
+    let before : List ℕ = handed ++ c.self.inside.block.items in
+    let after : List ℕ = handed ++ c.put_rows-put.new.block.items in
+    let put : c.put_rows-put.new.block.items ++ c.put_rows-put.new.waiting.items ≡ c.self.inside.block.items ++ merged_bytes c.next_node.new.self c.in-Some.found.merged =
+    ok_holds c.put_rows-put.result _ (sym c.is_err.ensures.value ∙ c.if-is_err.false) c.put_rows-put.ensures.spelled in
+    let spelled : after ++ c.put_rows-put.new.waiting.items ≡ before ++ rows_bytes h.rows =
+    append_assoc handed c.put_rows-put.new.block.items c.put_rows-put.new.waiting.items ∙ ap (λ xs. handed ++ xs) put ∙ ap (λ xs. handed ++ (c.self.inside.block.items ++ xs)) h.spelled
+    ∙ sym (append_assoc handed c.self.inside.block.items (rows_bytes h.rows)) in
     let entry : HasEntry c.self.inside.index.items c.put_entry.new.index.items c.self.inside.offset h.rows = has_entry c.self.inside.index.items c.put_entry.new.index.items c.self.inside.offset h.rows c.in-Some.found.tally h.tally c.put_entry.ensures.bytes in
-    let offset : c.saturating_add-self-inside.result ≡ min (c.self.inside.offset + min (length (rows_bytes h.rows)) 4294967295) 4294967295 = omega (arith, c.saturating_add-self-inside.ensures, c.saturated.ensures, c.len-2.ensures, ap length waiting) in
-    more_ahead (g.E.LogEye.state c.args.eye.now) later _ _ handed a b h.rows i (drop_all c.self.inside.at c.self.inside.waiting.items (omega (arith, c.if-self-len.false, c.len.ensures))) c.if-self.false (h.exact i.left_older i.left_newer i.stands) h.tally.some waiting c.if-self.false entry offset
+    let offset : c.saturating_add-self-inside.result ≡ min (c.self.inside.offset + min (length (rows_bytes h.rows)) 4294967295) 4294967295 = omega (arith, c.saturating_add-self-inside.ensures, h.tally.area, rows_long h.rows) in
+    more_ahead (g.E.LogEye.state c.args.eye.now) later _ _ before after a b h.rows i (drop_all c.self.inside.at c.self.inside.waiting.items (omega (arith, c.if-self-len.false, c.len.ensures))) c.if-self.false (h.exact i.left_older i.left_newer i.stands) h.tally.some spelled c.if-self.false entry offset
 
 pub returns-in_default-clause-joined : goal.returns-in_default-clause-joined
 returns-in_default-clause-joined g c start handed joined =
     let known = (g.E.LogEye.state c.args.eye.now).told in
-    let i = subst (λ (v : BlocksValue). IsJoined known start v handed) (sym c.self.view_is) joined in
+    let i = subst (λ (v : BlocksValue). IsJoined known start v (handed ++ v.block)) (sym c.self.view_is) joined in
     let none : c.in_ok-found.field-0 ≡ None = search rules in
-    whole_joined known start _ _ handed i (drop_all c.self.inside.at c.self.inside.waiting.items (omega (arith, c.if-self-len.false, c.len.ensures))) c.if-self.false
+    whole_joined known start _ _ (handed ++ c.self.inside.block.items) i (drop_all c.self.inside.at c.self.inside.waiting.items (omega (arith, c.if-self-len.false, c.len.ensures))) c.if-self.false
     (c.in_ok-found.ensures.ended (ap Ok none)) (c.in_ok-found.ensures.end (ap Ok none)) (ap (λ (v : Vec ℕ). v.items) c.swap.ensures.x_after) refl refl
 
 pub returns-clause-joined : goal.returns-clause-joined
 returns-clause-joined g c start handed joined =
     let known = (g.E.LogEye.state c.args.eye.now).told in
-    let i = subst (λ (v : BlocksValue). IsJoined known start v handed) (sym c.self.view_is) joined in
-    let spelled : c.spell.new.out.items ≡ c.clear.new.self.items ++ merged_bytes c.next_node.new.self c.in-Some.found.merged = ok_holds c.spell.result _ (sym c.is_err.ensures.value ∙ c.if-is_err.false) c.spell.ensures in
+    let i = subst (λ (v : BlocksValue). IsJoined known start v (handed ++ v.block)) (sym c.self.view_is) joined in
     let h : HandsOver (g.E.LogEye.state c.args.eye.now) (g.E.LogEye.state c.next_node.new.eye) c.self.inside.merger c.next_node.new.self c.in-Some.found =
     let found : IfSome (Some c.in-Some.found) (HandsOver (g.E.LogEye.state c.args.eye.now) (g.E.LogEye.state c.next_node.new.eye) c.self.inside.merger c.next_node.new.self) =
     subst (λ found. IfSome found (HandsOver (g.E.LogEye.state c.args.eye.now) (g.E.LogEye.state c.next_node.new.eye) c.self.inside.merger c.next_node.new.self)) c.in-Some.is c.in_ok-found.ensures.found in found in
-    let clear : c.clear.new.self.items ≡ [] = c.clear.ensures.items in
-    let waiting : c.spell.new.out.items ≡ rows_bytes h.rows = spelled ∙ ap (λ xs. xs ++ merged_bytes c.next_node.new.self c.in-Some.found.merged) clear ∙ h.spelled in
+    let before : List ℕ = handed ++ c.self.inside.block.items in
+    let after : List ℕ = handed ++ c.put_rows-put.new.block.items in
+    let put : c.put_rows-put.new.block.items ++ c.put_rows-put.new.waiting.items ≡ c.self.inside.block.items ++ merged_bytes c.next_node.new.self c.in-Some.found.merged =
+    ok_holds c.put_rows-put.result _ (sym c.is_err.ensures.value ∙ c.if-is_err.false) c.put_rows-put.ensures.spelled in
+    let spelled : after ++ c.put_rows-put.new.waiting.items ≡ before ++ rows_bytes h.rows =
+    append_assoc handed c.put_rows-put.new.block.items c.put_rows-put.new.waiting.items ∙ ap (λ xs. handed ++ xs) put ∙ ap (λ xs. handed ++ (c.self.inside.block.items ++ xs)) h.spelled
+    ∙ sym (append_assoc handed c.self.inside.block.items (rows_bytes h.rows)) in
     let entry : HasEntry c.self.inside.index.items c.put_entry.new.index.items c.self.inside.offset h.rows = has_entry c.self.inside.index.items c.put_entry.new.index.items c.self.inside.offset h.rows c.in-Some.found.tally h.tally c.put_entry.ensures.bytes in
-    let offset : c.saturating_add-self-inside.result ≡ min (c.self.inside.offset + min (length (rows_bytes h.rows)) 4294967295) 4294967295 = omega (arith, c.saturating_add-self-inside.ensures, c.saturated.ensures, c.len-2.ensures, ap length waiting) in
+    let offset : c.saturating_add-self-inside.result ≡ min (c.self.inside.offset + min (length (rows_bytes h.rows)) 4294967295) 4294967295 = omega (arith, c.saturating_add-self-inside.ensures, h.tally.area, rows_long h.rows) in
     let longer : length c.put_entry.new.index.items ≡ length c.self.inside.index.items + index_entry = search rules in
-    more_joined known start _ _ handed h.rows i (drop_all c.self.inside.at c.self.inside.waiting.items (omega (arith, c.if-self-len.false, c.len.ensures))) c.if-self.false
-    c.next_node.ensures.older c.next_node.ensures.newer h.read waiting c.if-self.false entry longer offset
+    more_joined known start _ _ before after h.rows i (drop_all c.self.inside.at c.self.inside.waiting.items (omega (arith, c.if-self-len.false, c.len.ensures))) c.if-self.false
+    c.next_node.ensures.older c.next_node.ensures.newer h.read spelled c.if-self.false entry longer offset
 
 pub returns-in_default-clause-order : goal.returns-in_default-clause-order
 returns-in_default-clause-order g c image told order = c.in_ok-found.ensures.order image told (subst (λ (v : BlocksValue). AreInOrder image v.merger) (sym c.self.view_is) order)
@@ -94,3 +103,10 @@ pub returns-clause-taken : goal.returns-clause-taken
 returns-clause-taken g c image told order =
     let most = c.next_node.ensures.taken image told (subst (λ (v : BlocksValue). AreInOrder image v.merger) (sym c.self.view_is) order) in
     let same = ap (λ (v : BlocksValue). both_bytes_left v.merger) c.self.view_is in omega (arith, most, same)
+
+pub put_rows-put-requires-clause-area : goal.put_rows-put-requires-clause-area
+put_rows-put-requires-clause-area g c =
+    let h : HandsOver (g.E.LogEye.state c.args.eye.now) (g.E.LogEye.state c.next_node.new.eye) c.self.inside.merger c.next_node.new.self c.in-Some.found =
+    let found : IfSome (Some c.in-Some.found) (HandsOver (g.E.LogEye.state c.args.eye.now) (g.E.LogEye.state c.next_node.new.eye) c.self.inside.merger c.next_node.new.self) =
+    subst (λ found. IfSome found (HandsOver (g.E.LogEye.state c.args.eye.now) (g.E.LogEye.state c.next_node.new.eye) c.self.inside.merger c.next_node.new.self)) c.in-Some.is c.in_ok-found.ensures.found in found in
+    omega (arith, h.tally.area, ap length h.spelled, rows_long h.rows)

@@ -1,6 +1,7 @@
 use Rattle.std.proofs.Common.{◌≡◌, ◌++◌, ◌∷◌, [], refl, ap, ◌∙◌, subst, arith}
 use Rattle.std.specs.Prelude.{IfSome}
 use Rattle.fine_model.specs.RowBytes.{FitsRec}
+use Rattle.partition_merge.specs.declared.piece.Merged.TheVariants as merged
 use Rattle.partition_merge.specs.Merging.{merged_of, one_or}
 use Rattle.partition_merge.proofs.Pieces.{both_found, image_found}
 use Rattle.partition_merge.proofs.pass.Pass.merged.Goals as goal
@@ -8,11 +9,11 @@ use Rattle.partition_merge.proofs.pass.Pass.merged.Goals as goal
 pub returns-in_default : goal.returns-in_default
 returns-in_default c a b h k some =
     let stays : merged_of c.args.node (a ++ b) ≡ a ++ b = c.in_ok-image.ensures.image a b h k ∙ ap (λ image. one_or image (a ++ b)) c.in_default.is in
-    both_found c.args.self.now c.args.node c.args.older c.args.newer a b _ h k some stays c.of_both.ensures refl
+    both_found c.args.self.now c.args.node c.args.older.now c.args.newer.now a b _ h k some stays c.of_both.ensures (λ i. merged.Both (c.span_of.ensures i) (c.span_of-in_default.ensures i))
 
 pub returns : goal.returns
 returns c a b h k some =
     let joined : merged_of c.args.node (a ++ b) ≡ c.in-Some.image ∷ [] = c.in_ok-image.ensures.image a b h k ∙ ap (λ image. one_or image (a ++ b)) c.in-Some.is in
     let fits : FitsRec c.in-Some.image.rec = subst (λ image. IfSome image (λ row. FitsRec row.rec)) c.in-Some.is c.in_ok-image.ensures.fit in
     let short = c.of_image.ensures.most in
-    image_found c.args.self.now c.args.node c.args.older c.args.newer a b c.in-Some.image _ h k joined fits (omega (arith, short, c.of_image.ensures.area)) c.of_image.ensures.node c.of_image.ensures.rows c.of_image.ensures.area c.of_image.ensures.ordered refl
+    image_found c.args.self.now c.args.node c.args.older.now c.args.newer.now a b c.in-Some.image _ h k joined fits (omega (arith, short, c.of_image.ensures.area)) c.of_image.ensures.node c.of_image.ensures.rows c.of_image.ensures.area c.of_image.ensures.ordered refl

@@ -1,5 +1,5 @@
 use Rattle.std.proofs.Common.{◌≡◌, ◌+◌, ◌≤◌, List, None, Some, sym, subst, arith, refl}
-use Rattle.std.specs.Prelude.{IfErr, IfOk}
+use Rattle.std.specs.Prelude.{IfErr, IfOk, Option}
 use Rattle.fine_model.specs.declared.Row.{Row}
 use Rattle.fine_model.specs.Regions.{Image}
 use Rattle.partition_index.specs.Index.{AllFrom}
@@ -7,6 +7,7 @@ use Rattle.partition_index.specs.Parts.{IsSeen}
 use Rattle.partition_index.proofs.Exact.{nodes_small}
 use Rattle.node_fetch.specs.Fetched.{NoDamage}
 use Rattle.partition_merge.specs.declared.merger.Source.{Source}
+use Rattle.partition_merge.specs.declared.through.NumberedEntry.{NumberedEntry}
 use Rattle.partition_merge.specs.Merging.{node_at_head}
 use Rattle.partition_merge.specs.Mergers.{IsEntryOf, KeepsHead, SourceAt, behind, node_kept, nodes_left}
 use Rattle.partition_merge.specs.Pieces.{IsTaken}
@@ -17,14 +18,14 @@ use Rattle.partition_merge.proofs.Sources.{Lowest, nodes_differ, nodes_same, non
 use Rattle.partition_merge.proofs.Streams.{begins_behind, if_ok, order_taken}
 use Rattle.partition_merge.proofs.reader.Reader.take.Goals as goal
 
-abbrev with_windows : Source → WindowValue → WindowValue → Source
-with_windows s rows index = record { part = s.part; next = s.next; head = s.head; ahead = record { rows = rows; index = index } }
+abbrev with_ahead : Source → WindowValue → WindowValue → Option NumberedEntry → Source
+with_ahead s rows index next = record { part = s.part; next = s.next; head = s.head; ahead = record { rows = rows; index = index; next = next } }
 
 pub returns-in_default-clause-taken_is : goal.returns-in_default-clause-taken_is
 returns-in_default-clause-taken_is g c =
     let eye = g.E.LogEye.state c.args.eye.now in
     let ready = subst (λ (s : Source). s.head ≡ None → nodes_left s ≡ 0) (sym c.self.view_is) c.requires.ready in
-    subst (λ (s : Source). IsTaken eye c.args.node s s None) c.self.view_is (none_taken eye c.args.node (with_windows c.self.inside.source c.self.inside.rows c.self.inside.index) c.in_default.is ready)
+    subst (λ (s : Source). IsTaken eye c.args.node s s None) c.self.view_is (none_taken eye c.args.node (with_ahead c.self.inside.source c.self.inside.rows c.self.inside.index c.self.inside.next) c.in_default.is ready)
 
 pub returns-then-ne-clause-taken_is : goal.returns-then-ne-clause-taken_is
 returns-then-ne-clause-taken_is g c =
@@ -33,7 +34,7 @@ returns-then-ne-clause-taken_is g c =
     let k : IsEntryOf eye.told _ (c.in-Some.entry, c.in-Some.span) = subst (KeepsHead eye.told _) c.in-Some.is kept in
     let lowest : Lowest c.args.node (Some (c.in-Some.entry, c.in-Some.span)) = subst (Lowest c.args.node) c.in-Some.is (subst (λ (s : Source). Lowest c.args.node s.head) (sym c.self.view_is) c.requires.lowest) in
     subst (λ (s : Source). IsTaken eye c.args.node s s None) c.self.view_is
-    (other_taken eye c.args.node (with_windows c.self.inside.source c.self.inside.rows c.self.inside.index) c.in-Some.entry c.in-Some.span c.in-Some.is k lowest (nodes_differ c.in-Some.entry.node c.args.node c.if-ne.ensures))
+    (other_taken eye c.args.node (with_ahead c.self.inside.source c.self.inside.rows c.self.inside.index c.self.inside.next) c.in-Some.entry c.in-Some.span c.in-Some.is k lowest (nodes_differ c.in-Some.entry.node c.args.node c.if-ne.ensures))
 
 pub returns-then-ne-clause-left : goal.returns-then-ne-clause-left
 returns-then-ne-clause-left g c =
@@ -58,7 +59,7 @@ returns-clause-taken_is g c =
     let k : IsEntryOf eye.told _ (c.in-Some.entry, c.in-Some.span) = subst (KeepsHead eye.told _) c.in-Some.is kept in
     let seen = subst (λ (s : Source). IsSeen eye s.part) (sym c.self.view_is) c.requires.seen in
     let there = k.there in
-    let before = with_windows c.self.inside.source c.self.inside.rows c.self.inside.index in
+    let before = with_ahead c.self.inside.source c.self.inside.rows c.self.inside.index c.self.inside.next in
     let same : c.in-Some.entry.node ≡ c.args.node = nodes_same c.in-Some.entry.node c.args.node c.if-ne.ensures in
     subst (λ (s : Source). IfOk c.find_rows.result (IsTaken eye c.args.node s (behind_node before c.find_rows.new.rows))) c.self.view_is
     (span_taken eye c.args.node before c.find_rows.result c.find_rows.new.rows c.in-Some.entry c.in-Some.span seen c.in-Some.is k same (omega (arith, there)) c.find_rows.ensures.found)
@@ -77,7 +78,7 @@ returns-clause-exact g c =
 pub returns-clause-left : goal.returns-clause-left
 returns-clause-left g c =
     let eye = g.E.LogEye.state c.args.eye.now in
-    let before = with_windows c.self.inside.source c.self.inside.rows c.self.inside.index in
+    let before = with_ahead c.self.inside.source c.self.inside.rows c.self.inside.index c.self.inside.next in
     let after = behind_node before c.find_rows.new.rows in
     let s = c.self.inside.source in
     let same : c.in-Some.entry.node ≡ c.args.node = nodes_same c.in-Some.entry.node c.args.node c.if-ne.ensures in
@@ -88,7 +89,7 @@ returns-clause-left g c =
 
 pub returns-clause-order : goal.returns-clause-order
 returns-clause-order g c =
-    let before = with_windows c.self.inside.source c.self.inside.rows c.self.inside.index in
+    let before = with_ahead c.self.inside.source c.self.inside.rows c.self.inside.index c.self.inside.next in
     let after = behind_node before c.find_rows.new.rows in
     let known = (g.E.LogEye.state c.args.eye.now).told in
     let kept = subst (λ (s : Source). KeepsHead known s s.head) (sym c.self.view_is) c.requires.kept.0 in
@@ -100,7 +101,7 @@ returns-clause-order g c =
 
 pub returns-clause-ahead : goal.returns-clause-ahead
 returns-clause-ahead g c =
-    let before = with_windows c.self.inside.source c.self.inside.rows c.self.inside.index in
+    let before = with_ahead c.self.inside.source c.self.inside.rows c.self.inside.index c.self.inside.next in
     let after = behind_node before c.find_rows.new.rows in
     let known = (g.E.LogEye.state c.args.eye.now).told in
     let kept = subst (λ (s : Source). KeepsHead known s s.head) (sym c.self.view_is) c.requires.kept.0 in

@@ -4,6 +4,10 @@ pub mod Joins
 pub mod Kept
 pub mod Loads
 pub mod Rising
+pub mod Takes
+pub mod Unbroken
+pub mod FoundSmall
+pub mod There
 pub mod RowsGoOn
 pub mod RowsRise
 pub mod WayApart

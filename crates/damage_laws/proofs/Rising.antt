@@ -100,7 +100,7 @@ module _ (bucket : ℕ) (nodes : ℕ → Content) (next : ℕ) (key : List ℕ) 
       by true e = (subst (λ n. version ≡ lowest n + 1) (sym (ap (λ (i : NodeId). i.number) (same_node (id m) (id k) e))) up, tt)
       by false e = tt
 
-  abbrev split_rows : ℕ → ℕ → Rec → Rec → Rec → Bool → List Row
+  abbrev pub split_rows : ℕ → ℕ → Rec → Rec → Rec → Bool → List Row
   split_rows number right image cut into test =
       row_of bucket right 1 image ∷ row_of bucket number ((nodes number).1 + 1) cut ∷ (if test then row_of bucket number ((nodes number).1 + 2) into else row_of bucket right 2 into) ∷ []
 
@@ -136,7 +136,7 @@ module _ (bucket : ℕ) (nodes : ℕ → Content) (next : ℕ) (key : List ℕ) 
           tt
 
   -- they name these two alone
-  split_names : (P : ℕ → Type 0) (number right : ℕ) (image cut into : Rec) (test : Bool) → P number → P right → AllByRecursion (λ row. P row.node.number) (split_rows number right image cut into test)
+  pub split_names : (P : ℕ → Type 0) (number right : ℕ) (image cut into : Rec) (test : Bool) → P number → P right → AllByRecursion (λ row. P row.node.number) (split_rows number right image cut into test)
   split_names P number right image cut into true p q = (q, (p, (p, tt)))
   split_names P number right image cut into false p q = (q, (p, (q, tt)))
 
@@ -199,7 +199,7 @@ module _ (bucket : ℕ) (nodes : ℕ → Content) (next : ℕ) (key : List ℕ) 
     named_low k (inr new) = new.1
 
     -- the new node is not named yet
-    right_absent : rows_of (id below.next) below.rows ≡ []
+    pub right_absent : rows_of (id below.next) below.rows ≡ []
     right_absent = not_named below.next below.rows (all_map (λ row. Named height (kid bucket nodes next key number) below.next row.node.number) (λ row. row.node.number ≢ below.next) (λ row h same. let l = named_low row.node.number h in omega (arith, l, same)) below.rows g.named)
 
     -- and the node itself is not below, where that was split
@@ -211,7 +211,7 @@ module _ (bucket : ℕ) (nodes : ℕ → Content) (next : ℕ) (key : List ℕ) 
           by [] e big = big
           by (s ∷ ss) e big = apart bucket nodes next key height bounds number s ss (ap seps_of e) way visit
 
-      own_absent : rows_of (id number) below.rows ≡ []
+      pub own_absent : rows_of (id number) below.rows ≡ []
       own_absent = not_named number below.rows (all_map (λ row. Named height (kid bucket nodes next key number) below.next row.node.number) (λ row. row.node.number ≢ number)
           (λ row h same. ⊎_elim (λ visit. not_below (subst (Visits bucket nodes next key height (kid bucket nodes next key number)) same visit)) (λ (new : (next ≤ row.node.number) × (row.node.number < below.next)). let n = new.0 in omega (arith, n, same, low)) h) below.rows g.named)
 

@@ -58,7 +58,7 @@ module _ (bucket : ℕ) (nodes : ℕ → Content) where
     all : AllByRecursion (λ row. row.node.number < next') rows
 
   module _ (key : List ℕ) (h : FitHead bucket nodes key) where
-    root_low : h.root < h.next
+    pub root_low : h.root < h.next
     root_low = (let t = (and_parts (nat_lt h.root h.next) (nat_le 1 h.depth) h.test).0 in by h.root h.next t)
       where
         by : (a b : ℕ) → nat_lt a b ≡ true → a < b
@@ -101,11 +101,11 @@ module _ (bucket : ℕ) (nodes : ℕ → Content) where
       all_low : (top : ℕ) → g.next ≤ top → AllByRecursion (λ row. row.node.number < top) g.rows
       all_low top up = all_map (λ row. Named bucket nodes h.next key (h.depth - 1) h.root g.next row.node.number) (λ row. row.node.number < top) (λ row n. let l = named_low row.node.number n in omega (arith, l, up)) g.rows w.named
 
-      zero_absent : rows_of (id bucket nodes h.next key 0) g.rows ≡ []
+      pub zero_absent : rows_of (id bucket nodes h.next key 0) g.rows ≡ []
       zero_absent = not_named bucket nodes h.next key 0 g.rows (all_map (λ row. Named bucket nodes h.next key (h.depth - 1) h.root g.next row.node.number) (λ row. row.node.number ≢ 0)
           (λ row n same. ⊎_elim (λ visit. not_head (h.depth - 1) whole h.root h.fit (subst IsVisited same visit)) (λ (new : (h.next ≤ row.node.number) × (row.node.number < g.next)). let a = new.0 in let r = root_low in omega (arith, a, same, r)) n) g.rows w.named)
 
-      right_absent : rows_of (id bucket nodes h.next key g.next) g.rows ≡ []
+      pub right_absent : rows_of (id bucket nodes h.next key g.next) g.rows ≡ []
       right_absent = not_named bucket nodes h.next key g.next g.rows (all_map (λ row. Named bucket nodes h.next key (h.depth - 1) h.root g.next row.node.number) (λ row. row.node.number ≢ g.next)
           (λ row n same. let l = named_low row.node.number n in omega (arith, l, same)) g.rows w.named)
 

@@ -9,19 +9,19 @@ use Rattle.fine_model.specs.Map.{is_ascending, is_below}
 use Rattle.fine_model.specs.Nodes.{Content}
 use Rattle.fine_model.specs.Paths.{bounds_at, is_inner, kid_at, place_among, seps_of, unfit_from}
 use Rattle.fine_model.specs.Trees.{Bounds, are_separators, is_above, is_leaf, is_up_to}
-use Rattle.fine_model.proofs.Order.{is_below-self, is_below-trans}
+use Rattle.fine_model.proofs.Order.{is_below-asym, is_below-self, is_below-trans}
 use Rattle.fine_model.proofs.Small.{length-filter_le}
 use Rattle.btree_nodes.proofs.Sound.{passed}
 
 -- ---- separators and bounds
 
 -- separators ascend within bounds
-Fit : Bounds → List (List ℕ) → Type 0
+pub Fit : Bounds → List (List ℕ) → Type 0
 Fit bounds [] = Unit {0}
 Fit bounds (s ∷ seps) = (is_above bounds.low s ≡ true) × (is_up_to bounds.high s ≡ true) × Fit (record { low = Some s; high = bounds.high }) seps
 
 -- a key lies outside of bounds
-abbrev Outside : Bounds → List ℕ → Type 0
+abbrev pub Outside : Bounds → List ℕ → Type 0
 Outside bounds x = (is_above bounds.low x ≡ false) ⊎ (is_up_to bounds.high x ≡ false)
 
 abbrev pub IsIn : List ℕ → List (List ℕ) → Type 0
@@ -111,6 +111,47 @@ not_among bounds (s ∷ seps) x fit (inl low) (inl same) = true≢false (sym (ap
 not_among bounds (s ∷ seps) x fit (inr high) (inl same) = true≢false (sym (ap (is_up_to bounds.high) same ∙ fit.1) ∙ high)
 not_among bounds (s ∷ seps) x fit out (inr there) = not_among (record { low = Some s; high = bounds.high }) seps x fit.2 (outside_next bounds s x fit.0 out) there
 
+-- each separator is outside of the bounds between two of them
+pub in_outside : (bounds : Bounds) (seps : List (List ℕ)) (i : ℕ) (x : List ℕ) → i ≤ length seps → Fit bounds seps → IsIn x seps → Outside (bounds_at bounds seps i) x
+unfolding Fit
+in_outside bounds [] i x h fit there = absurd there
+in_outside bounds (s ∷ seps) zero x h fit (inl same) = inr (ap (λ k. is_below k s) same ∙ is_below-self s)
+in_outside bounds (s ∷ seps) zero x h fit (inr there) = inr (by (is_below s x) refl)
+  where
+    by : (t : Bool) → is_below s x ≡ t → is_below x s ≡ false
+    by true e = is_below-asym s x e
+    by false e = absurd (not_among (record { low = Some s; high = bounds.high }) seps x fit.2 (inl e) there)
+in_outside bounds (s ∷ []) (suc zero) x h fit (inl same) = inl (ap (is_below s) same ∙ is_below-self s)
+in_outside bounds (s ∷ []) (suc zero) x h fit (inr there) = absurd there
+in_outside bounds (s ∷ t ∷ seps) (suc zero) x h fit (inl same) = inl (ap (is_below s) same ∙ is_below-self s)
+in_outside bounds (s ∷ t ∷ seps) (suc zero) x h fit (inr there) = in_outside (record { low = Some s; high = bounds.high }) (t ∷ seps) zero x (omega arith) fit.2 there
+in_outside bounds (s ∷ seps) (suc (suc i)) x h fit (inl same) = outside_at (record { low = Some s; high = bounds.high }) seps (suc i) x (omega (arith, h)) fit.2 (inl (ap (is_below s) same ∙ is_below-self s))
+in_outside bounds (s ∷ seps) (suc (suc i)) x h fit (inr there) = in_outside (record { low = Some s; high = bounds.high }) seps (suc i) x (omega (arith, h)) fit.2 there
+
+-- a key lies strictly within bounds
+abbrev pub IsInside : Bounds → List ℕ → Type 0
+IsInside bounds x = (is_above bounds.low x ≡ true) × (is_up_to bounds.high x ≡ true)
+
+-- so what is inside between two of them is none of them,
+pub none_between : (bounds : Bounds) (seps : List (List ℕ)) (i : ℕ) (x : List ℕ) → i ≤ length seps → Fit bounds seps → IsInside (bounds_at bounds seps i) x → IsIn x seps → ⊥
+none_between bounds seps i x h fit inside there = by (in_outside bounds seps i x h fit there)
+  where
+    by : Outside (bounds_at bounds seps i) x → ⊥
+    by (inl e) = true≢false (sym inside.0 ∙ e)
+    by (inr e) = true≢false (sym inside.1 ∙ e)
+
+-- and each of them is inside the bounds of all
+pub among_inside : (bounds : Bounds) (seps : List (List ℕ)) (x : List ℕ) → Fit bounds seps → IsIn x seps → IsInside bounds x
+among_inside bounds seps x fit there = (above (is_above bounds.low x) refl, below (is_up_to bounds.high x) refl)
+  where
+    above : (t : Bool) → is_above bounds.low x ≡ t → is_above bounds.low x ≡ true
+    above true e = e
+    above false e = absurd (not_among bounds seps x fit (inl e) there)
+
+    below : (t : Bool) → is_up_to bounds.high x ≡ t → is_up_to bounds.high x ≡ true
+    below true e = e
+    below false e = absurd (not_among bounds seps x fit (inr e) there)
+
 -- ---- a way
 
 module _ (bucket : ℕ) (nodes : ℕ → Content) (next : ℕ) (key : List ℕ) where
@@ -136,10 +177,10 @@ module _ (bucket : ℕ) (nodes : ℕ → Content) (next : ℕ) (key : List ℕ) 
   unfolding unfit_from
   at_inner height bounds number way = passed (is_inner bounds next (nodes number).0) (unfit_from height bucket nodes next key (bounds_below bounds number) (kid number)) number way
 
-  few : (seps : List (List ℕ)) → place_among key seps ≤ length seps
+  pub few : (seps : List (List ℕ)) → place_among key seps ≤ length seps
   few seps = length-filter_le (λ sep. not (is_below key sep)) seps
 
-  inner_fit : (bounds : Bounds) (n : Node) → is_inner bounds next n ≡ true → Fit bounds (seps_of n)
+  pub inner_fit : (bounds : Bounds) (n : Node) → is_inner bounds next n ≡ true → Fit bounds (seps_of n)
   inner_fit bounds (node.Inner seps kids) inner =
       let both = and_parts (are_separators bounds seps && (length kids == length seps + 1)) (list_all (λ k. nat_lt k next) kids) inner in
       let parts = and_parts (are_separators bounds seps) (length kids == length seps + 1) both.0 in

@@ -7,3 +7,5 @@ pub mod Meets
 pub mod OpenTxns
 pub mod Again
 pub mod Firm
+pub mod Unbroken
+pub mod There

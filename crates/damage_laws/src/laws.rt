@@ -9,6 +9,8 @@ ghost use Rattle.damage_laws.specs.Meets.{AnewLaw, CallLaw, FewerLaw, FreshLaw, 
 ghost use Rattle.damage_laws.specs.OpenTxns.{AbsentLaw, BeginLaw, OwnLaw, SeveralLaw, UndoneLaw};
 ghost use Rattle.damage_laws.specs.Places.{BodyLaw, EntryLaw, FoundLaw, PlaceLaw, RowLaw};
 ghost use Rattle.damage_laws.specs.Stays.{BeginsLaw, CallsLaw, LeavesLaw, LoadsLaw, ScansLaw, UndoesLaw};
+ghost use Rattle.damage_laws.specs.There.{CallThereLaw, GivesThereLaw, LoadsThereLaw, NewThereLaw, SettledThereLaw, UndoneThereLaw};
+ghost use Rattle.damage_laws.specs.Unbroken.{FetchedSomeLaw, FoundSmallLaw, FoundSomeLaw, GivesFoundLaw, GivesUnbrokenLaw, UnbrokenLaw};
 
 /// What a fetch blames of the parts that are there now is a bad place of a part at entry, where each of them is one of these, with the
 /// bytes that it had, or is in the grammar. What is found in a part that is kept so is what is found by the bytes at entry.
@@ -118,4 +120,26 @@ pub fn stays_law()
     ensures loads { LoadsLaw }
     ensures undoes { UndoesLaw }
     ensures leaves { LeavesLaw }
+{}
+
+/// Rows that calls push on ways that were fit leave no node broken that they name, where no leaf and no inner node is larger than the format allows; so it is of all contents that are
+/// found, whatever the bytes are. A cached node that is not given as one that was not found was found by the bytes at entry, or is not broken.
+pub fn unbroken_law()
+    ensures small { FoundSmallLaw }
+    ensures some { FoundSomeLaw }
+    ensures fetched { FetchedSomeLaw }
+    ensures rows { UnbrokenLaw }
+    ensures gives { GivesUnbrokenLaw }
+    ensures found { GivesFoundLaw }
+{}
+
+/// No node that a bucket caches is what stands for one that was not found, and none is restored as that: so it is of a new bucket, with nodes loaded that are found, behind a call of a key, and
+/// once a transaction was taken back or settled. So each node that the bucket gives was found by the bytes at entry, or is not broken.
+pub fn there_law()
+    ensures new { NewThereLaw }
+    ensures loads { LoadsThereLaw }
+    ensures call { CallThereLaw }
+    ensures undone { UndoneThereLaw }
+    ensures settled { SettledThereLaw }
+    ensures gives { GivesThereLaw }
 {}

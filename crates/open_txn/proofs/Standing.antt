@@ -30,7 +30,7 @@ module _ (v : BucketsValue) (buckets : v.buckets ≡ map new_bucket (range_with_
   many : length v.buckets ≡ 256
   many = ap length buckets ∙ length-map (range_with_len 0 256) new_bucket ∙ length-range_with_len 0 256
 
-  is_new : (k : ℕ) (b : Cache) → slice_get v.buckets k ≡ Some b → b ≡ new_bucket k
+  pub is_new : (k : ℕ) (b : Cache) → slice_get v.buckets k ≡ Some b → b ≡ new_bucket k
   is_new k b is = new_at k b (ap (λ l. slice_get l k) (sym buckets) ∙ is)
 
   pub new_are : AreBuckets v

@@ -30,6 +30,10 @@ pub record AreBuckets (v : BucketsValue) : Type 0 where
 abbrev pub new_bucket : ℕ → Cache
 new_bucket k = record { bucket = k; nodes = []; saved = [] }
 
+-- buckets that cache nothing
+abbrev pub AreNew : BucketsValue → Type 0
+AreNew v = EachBucket (λ k c. c ≡ new_bucket k) v
+
 -- no bucket is touched
 abbrev pub none_touched : List Bool
 none_touched = replicate 256 false

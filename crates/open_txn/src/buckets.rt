@@ -54,13 +54,14 @@ fn no_flags(alloc: Global) -> Result<Vec<bool>, NoMemory>
 
 impl Buckets {
     ghost use Rattle.node_cache.specs.Cache.{after, before, settled, undone, evicted};
-    ghost use Rattle.open_txn.specs.Buckets.{AreBuckets, StandAll};
+    ghost use Rattle.open_txn.specs.Buckets.{AreBuckets, AreNew, StandAll};
     ghost use Rattle.open_txn.specs.Opened.{EndsTouched, LeavesEach, SettlesAll, UndoesAll};
 
-    /// Buckets that cache nothing and of which none is touched. They stand for the history that has not begun, on any log, whatever is published.
+    /// Buckets that cache nothing [`new`] and of which none is touched. They stand for the history that has not begun, on any log, whatever is published [`stand`].
     /// `NoMemory` is the only refusal.
     pub fn new(alloc: Global) -> Result<Buckets, NoMemory>
         ensures whole { IfOk result AreBuckets }
+        ensures new { IfOk result AreNew }
         ensures stand { IfOk result (λ made. (log : Origin) (published : ℕ) → StandAll log published made []) }
     {
         Ok(Buckets {

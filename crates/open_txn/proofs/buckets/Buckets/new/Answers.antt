@@ -1,4 +1,4 @@
-use Rattle.open_txn.proofs.Standing.{new_are, new_stand}
+use Rattle.open_txn.proofs.Standing.{is_new, new_are, new_stand}
 use Rattle.open_txn.proofs.buckets.Buckets.new.Goals as goal
 
 pub invariant_of-result : goal.invariant_of-result
@@ -9,3 +9,6 @@ returns-clause-whole c = new_are _ c.in_ok-new_buckets.ensures c.in_ok-no_flags.
 
 pub returns-clause-stand : goal.returns-clause-stand
 returns-clause-stand c = new_stand _ c.in_ok-new_buckets.ensures c.in_ok-no_flags.ensures
+
+pub returns-clause-new : goal.returns-clause-new
+returns-clause-new c = is_new _ c.in_ok-new_buckets.ensures c.in_ok-no_flags.ensures

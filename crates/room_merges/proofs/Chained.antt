@@ -27,7 +27,7 @@ use Rattle.partition_merge.proofs.Lengths.{merged_small}
 use Rattle.partition_hold.specs.Views.{IsView, SameView, ViewValue, opened}
 use Rattle.partition_hold.proofs.ViewLemmas.{view_names, view_part}
 use Rattle.epoch_room.proofs.Boarding.{board_shows}
-use Rattle.room_merges.specs.Merging.{BlocksBegin, BlocksEnd, BlocksGoOn, BodyIsWritten, EyeTells, JoiningBegins, JoiningEnds, JoiningGoesOn, MeasureIsTold, OfTold, ShownByEye, merger_of}
+use Rattle.room_merges.specs.Merging.{BlocksBegin, BlocksEnd, BlocksGoOn, BodyIsWritten, EyeTells, JoiningBegins, JoiningEnds, JoiningGoesOn, JoiningLasts, MeasureIsTold, OfTold, ShownByEye, WritingLasts, merger_of}
 
 pub shown_by_eye : ShownByEye
 shown_by_eye value view p rows out there tells =
@@ -137,6 +137,23 @@ joining_ends value view view' blocks job same ends joining image told =
     let all : IsJoinedBody (Some image) (merger_of view job) was.0 =
     subst (λ known. IsJoinedBody known (merger_of view job) was.0) before (ends (merger_of view job) was.0 (subst (λ known. IsJoined known (merger_of view job) blocks was.0) (sym before) was.1)) in
     (was.0, subst (λ m. IsJoinedBody (Some image) m was.0) start all, was.2)
+
+-- ---- while others have turns
+
+pub writing_lasts : WritingLasts
+writing_lasts = (
+  λ view blocks job old new out keeps between a b older_told newer_told.
+      let was = between a b older_told newer_told in (was.0, was.1, keeps.held job out ∙ was.2, was.3),
+  λ view job old new out keeps holds a b older_told newer_told. keeps.held job out ∙ holds a b older_told newer_told,
+)
+
+pub joining_lasts : JoiningLasts
+joining_lasts = (
+  λ view blocks job old new out keeps joining image told.
+      let was = joining image told in (was.0, was.1, (keeps.held job out ∙ was.2.0, was.2.1)),
+  λ view job old new out keeps joined image told.
+      let was = joined image told in (was.0, was.1, (keeps.held job out ∙ was.2.0, was.2.1)),
+)
 
 pub body_is_written : BodyIsWritten
 body_is_written value view job header measure out has_older has_newer counts ordered measures holds a b a_told b_told =

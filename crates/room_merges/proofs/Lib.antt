@@ -7,3 +7,4 @@ pub mod Telling
 pub mod Living
 pub mod Through
 pub mod Erased
+pub mod PartRows

@@ -38,8 +38,8 @@ use Rattle.room_merges.specs.declared.body.Progress.TheVariants as progress
 use Rattle.room_merges.specs.declared.fault.MergeFault.{MergeFault}
 use Rattle.room_merges.specs.declared.fault.MergeFault.TheVariants as merge_fault
 use Rattle.room_merges.specs.Merging.{EyeTells, IsOut, OfTold}
-use Rattle.room_merges.specs.Work.{AllOr, BlamedBy, Blames, FallsShut, IsLosing, IsWriting, Looks, LosesFor, RefusesOr, StaysOpen, StepsOr, WritesAll, WritesBlock, WritesNext, same_job}
-use Rattle.room_merges.proofs.Chained.{blocks_begin, blocks_end, blocks_go_on, joining_begins, joining_ends, joining_goes_on, told_before}
+use Rattle.room_merges.specs.Work.{AllOr, BlamedBy, Blames, FallsShut, IsLosing, IsWriting, Looks, LosesFor, RefusesOr, StaysOpen, StepsOr, TurnsLast, WritesAll, WritesBlock, WritesNext, same_job}
+use Rattle.room_merges.proofs.Chained.{blocks_begin, blocks_end, blocks_go_on, joining_begins, joining_ends, joining_goes_on, joining_lasts, told_before, writing_lasts}
 
 -- what holds of a value that is there
 pub some_of : {A : Type 0} (o : Option A) (x : A) (P : A → Type 0) → o ≡ Some x → IfSome o P → P x
@@ -121,7 +121,7 @@ view_back v w s = record {
   region_len = sym s.region_len;
 }
 
-same_opened : (v w : ViewValue) → SameView v w → opened w.eye ≡ opened v.eye
+pub same_opened : (v w : ViewValue) → SameView v w → opened w.eye ≡ opened v.eye
 same_opened v w same = λ i. record { number = same.eye.number i; regions = set_of (same.eye.regions i); told = same.eye.told i }
 
 -- the view stays on the board, whatever else a step does
@@ -289,6 +289,7 @@ next_ended header value view view' blocks blocks' job whole out same steady ends
   looks = looks_sound view view' (Ok progress.Ended) same steady (λ failed. cc);
   same = refl;
   next = let body = blocks_end value view view' blocks job same ends was.between in (body.0, body.1, joining_ends value view view' blocks job same joined was.joining);
+  left = (refl, refl);
 }
 
 -- a block was taken through the view, and no read failed
@@ -320,6 +321,7 @@ next_written header old new view view' blocks blocks' job job' (Ok progress.Writ
       joining = joining_goes_on old new view view' blocks blocks' job job' takes.same (ap (λ (j : Job). j.older) done.same) (ap (λ (j : Job). j.newer) done.same) done.wrote.0 takes.joined done.wrote.2 was.joining;
     },
   );
+  left = tt;
 }
 next_written header old new view view' blocks blocks' job job' (Ok progress.TooLong) takes was done = record {
   room = done.room;
@@ -332,6 +334,7 @@ next_written header old new view view' blocks blocks' job job' (Ok progress.TooL
       let over = done.wrote.0 in
       let counted = before.3 in
       omega (arith, most, over, counted, length-append before.0 blocks'.block));
+  left = (done.wrote.1, done.wrote.2);
 }
 next_written header old new view view' blocks blocks' job job' (Ok progress.Ended) takes was done = absurd done.wrote
 next_written header old new view view' blocks blocks' job job' (Err (merge_fault.Room fault)) takes was done = record {
@@ -339,6 +342,7 @@ next_written header old new view view' blocks blocks' job job' (Err (merge_fault
   looks = looks_sound view view' (Err (merge_fault.Room fault)) takes.same takes.steady (λ failed. cc);
   same = done.same;
   next = tt;
+  left = done.wrote;
 }
 next_written header old new view view' blocks blocks' job job' (Err (merge_fault.Fetch fault)) takes was done = absurd done.wrote
 
@@ -354,6 +358,20 @@ next_refused header value view view' blocks blocks' job fault whole out same cou
   same = refl;
   next = blamed view view' blocks.merger job.older job.newer fault same was.region_len was.older was.newer row entry
       (of_same view view' job job same refl refl (λ a b. NoDamage fault) (λ a b older_told newer_told. let before = was.between a b older_told newer_told in sound before.0 a b before.1));
+  left = refl;
+}
+
+-- ---- while others have turns
+
+pub turns_last : TurnsLast
+turns_last view blocks job old new len out keeps was = record {
+  older = was.older;
+  newer = was.newer;
+  region_len = was.region_len;
+  few = (let few = was.few in omega (arith, few, len));
+  kept = was.kept;
+  between = writing_lasts.0 view blocks job old new out keeps was.between;
+  joining = joining_lasts.0 view blocks job old new out keeps was.joining;
 }
 
 -- ---- all blocks

@@ -4,7 +4,7 @@ use Rattle.fine_model.specs.declared.Header.{Header}
 use Rattle.fine_model.specs.declared.Job.{Job}
 use Rattle.fine_model.specs.declared.Part.{Part}
 use Rattle.fine_model.specs.declared.Row.{Row}
-use Rattle.fine_model.specs.Jobs.{held_for}
+use Rattle.fine_model.specs.Jobs.{KeepsJob, held_for}
 use Rattle.fine_model.specs.Merge.{cost, merged}
 use Rattle.fine_model.specs.Regions.{Image, body_bytes}
 use Rattle.fine_model.specs.RowBytes.{rows_len}
@@ -136,6 +136,24 @@ JoiningEnds =
     (value : RoomValue) (view view' : ViewValue) (blocks : BlocksValue) (job : Job) → SameView view view'
     → ((start : Merger) (handed : List ℕ) → IsJoined view.eye.told start blocks handed → IsJoinedBody view.eye.told start handed)
     → IsJoining value view blocks job → HoldsJoined value view' job
+
+-- ---- while others have turns
+
+-- what is said of a room, and of a job that is out of it, lasts as long as the calls on the room are not the merger's
+abbrev pub LastsFor : Job → (RoomValue → Type 0) → Type 0
+LastsFor job P = (old new : RoomValue) → old.room.job ≡ Some job → KeepsJob old.room new.room → P old → P new
+
+-- between two blocks, and once the whole body stands in the job's target
+abbrev pub WritingLasts : Type 0
+WritingLasts =
+    ((view : ViewValue) (blocks : BlocksValue) (job : Job) → LastsFor job (λ value. IsBetween value view blocks job))
+    × ((view : ViewValue) (job : Job) → LastsFor job (λ value. HoldsBody value view job))
+
+-- and so, whatever is read
+abbrev pub JoiningLasts : Type 0
+JoiningLasts =
+    ((view : ViewValue) (blocks : BlocksValue) (job : Job) → LastsFor job (λ value. IsJoining value view blocks job))
+    × ((view : ViewValue) (job : Job) → LastsFor job (λ value. HoldsJoined value view job))
 
 -- ---- the end
 

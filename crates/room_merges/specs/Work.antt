@@ -6,7 +6,7 @@ use Rattle.fine_model.specs.declared.Header.{Header}
 use Rattle.fine_model.specs.declared.Job.{Job}
 use Rattle.fine_model.specs.declared.Part.{Part}
 use Rattle.fine_model.specs.Boards.{set_of}
-use Rattle.fine_model.specs.Jobs.{held_for, job_regions}
+use Rattle.fine_model.specs.Jobs.{KeepsJob, held_for, job_regions}
 use Rattle.fine_model.specs.Merge.{cost, merged}
 use Rattle.fine_model.specs.Regions.{body_len}
 use Rattle.partition_index.specs.Parts.{CountsFaults}
@@ -101,6 +101,12 @@ pub record IsWriting (room : RoomValue) (view : ViewValue) (blocks : BlocksValue
   pub between : IsBetween room view blocks job
   pub joining : IsJoining room view blocks job
 
+-- so it is while others have turns, who leave the length of a region
+abbrev pub TurnsLast : Type 0
+TurnsLast =
+    (view : ViewValue) (blocks : BlocksValue) (job : Job) (old new : RoomValue) → new.room.region_len ≡ old.room.region_len → old.room.job ≡ Some job → KeepsJob old.room new.room
+    → IsWriting old view blocks job → IsWriting new view blocks job
+
 -- a block stands in the job's target behind those before it; or the body has no room for it, and nothing was written
 abbrev pub BlockOr : Header → List ℕ → RoomValue → RoomValue → Job → Job → Result Progress MergeFault → Type 0
 BlockOr header block old new job job' (Ok progress.Written) =
@@ -124,12 +130,20 @@ NextOr header new view' blocks' job job' (Ok progress.Ended) = HoldsBody new vie
 NextOr header new view' blocks' job job' (Ok progress.TooLong) = OfTold view' job'.older job'.newer (λ a b. body_len header < cost (merged a b))
 NextOr header new view' blocks' job job' (Err fault) = BlamedBy view' job.older job.newer fault
 
+-- what a turn leaves that writes no block: all of it at the end, and where a block is too long; after a refusal the job counts what it counted
+abbrev pub LeftOr : RoomValue → RoomValue → Job → Job → Result Progress MergeFault → Type 0
+LeftOr old new job job' (Ok progress.Written) = ⊤
+LeftOr old new job job' (Ok progress.Ended) = (job' ≡ job) × (new ≡ old)
+LeftOr old new job job' (Ok progress.TooLong) = (job' ≡ job) × (new ≡ old)
+LeftOr old new job job' (Err fault) = job' ≡ job
+
 -- what one turn of writing does
 pub record WritesNext (header : Header) (old new : RoomValue) (view view' : ViewValue) (blocks' : BlocksValue) (job job' : Job) (result : Result Progress MergeFault) : Type 0 where
   pub room : StepsOr (Some job') old.room.free old new result
   pub looks : Looks view view' result
   pub same : job' ≡ same_job job job'.written
   pub next : NextOr header new view' blocks' job job' result
+  pub left : LeftOr old new job job' result
 
 -- the whole body, as long as the header says; or the merged rows have not as many bytes as the header says
 abbrev pub AllOr : Header → RoomValue → ViewValue → Job → Job → Result Bool MergeFault → Type 0

@@ -15,12 +15,12 @@ use partition_merge::Blocks;
 use std::alloc::Global;
 
 /// How far the body of a job is written.
-enum Progress {
+pub enum Progress {
     /// A block more.
     Written,
     /// All blocks were written before.
     Ended,
-    /// The next block is longer than what is left of the body.
+    /// The next block is longer than what is left of the body, and was not written.
     TooLong,
 }
 
@@ -62,8 +62,17 @@ fn write_block<D: LogDisk>(
     }
 }
 
-/// Takes the next block through the view and writes it.
-fn write_next<D: LogDisk>(
+/// Takes the next block of a job's body through the view and writes it: one turn of a merger that gives the room up between two blocks.
+///
+/// `header` is that with which the job took its regions, and `blocks` are those of its two parts, which begin as `Blocks::new` makes them, in blocks shorter than a
+/// region; what is asked of them lasts while others have turns at the room, by `merge_law`, unless the room was shut in one, as `Room::fit` tells. `Written`: the job
+/// counts the block, no more bytes than the header says are written, and the same may be called again. `Ended`: all blocks were written before, and nothing is written now;
+/// where the eye tells both parts, the target holds the body of the merged rows, which may have fewer bytes than the header says. `TooLong`: where it does, they have more;
+/// nothing was written.
+///
+/// A fault of a read leaves the room open, and blames one of the two parts. `Disk` shuts the room, and alone does so; what the failed call was writing is lost.
+/// `NoMemory` leaves it open. After each the job counts what it counted, and `blocks` are not to be used any more.
+pub fn write_next<D: LogDisk>(
     room: &mut Room<D>,
     view: &mut View<D::Eye>,
     job: &mut Job,

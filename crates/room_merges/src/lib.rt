@@ -8,7 +8,7 @@ pub mod laws;
 mod near;
 mod pair;
 
-pub use body::write_body;
+pub use body::{Progress, write_body, write_next};
 pub use fault::MergeFault;
 pub use near::{merge_any, merge_near, merge_now};
 pub use pair::merge_pair;

@@ -1,2 +1,3 @@
 pub mod Adopted
 pub mod NewLog
+pub mod Turned

@@ -4,6 +4,7 @@ ghost use Rattle.std.specs.Prelude.{◌≡◌, ◌<◌, ◌≤◌, [], ◌∷◌
 ghost use Rattle.std.specs.List.{AllByRecursion};
 ghost use Rattle.fine_model.specs.RowBytes.{FitsRow};
 ghost use Rattle.fine_model.specs.declared.Mark.TheVariants as mark;
+ghost use Rattle.room_merges_tests.specs.Turns.{HadTurns};
 
 use epoch_room::{Fit, Room};
 use fine_model::{Bytes, Items, NodeId, Rec, Row};
@@ -102,6 +103,7 @@ fn commit(room: &mut Room<MemDisk>, log: &PrivateLog) -> Result<(), Fail>
     requires { AllByRecursion (FitsRow mark.Two) log.now }
     ensures waits { OnOk result (1 ≤ room.new.room.waiting) }
     ensures same { (room.new.room.board ≡ room.old.room.board) × (room.new.room.job ≡ room.old.room.job) }
+    ensures turns { OnOk result (HadTurns room.old room.new) }
 {
     match room.fit(log.cost()) {
         Fit::Fits => {
@@ -115,7 +117,8 @@ fn commit(room: &mut Room<MemDisk>, log: &PrivateLog) -> Result<(), Fail>
 // An epoch more of one entry, of these rows.
 fn seal_log(room: &mut Room<MemDisk>, log: &PrivateLog) -> Result<(), Fail>
     requires { AllByRecursion (FitsRow mark.Two) log.now }
-    ensures { OnOk result ((room.new.room.board ≡ room.old.room.board) × (room.new.room.job ≡ room.old.room.job)) }
+    ensures same { OnOk result ((room.new.room.board ≡ room.old.room.board) × (room.new.room.job ≡ room.old.room.job)) }
+    ensures turns { OnOk result (HadTurns room.old room.new) }
 {
     commit(room, log)?;
     match room.seal() {
@@ -137,7 +140,8 @@ pub fn seal_some(
     requires nodes { nodes < 50 }
     requires some { 1 ≤ len }
     requires few { len ≤ 256 }
-    ensures { OnOk result ((room.new.room.board ≡ room.old.room.board) × (room.new.room.job ≡ room.old.room.job)) }
+    ensures same { OnOk result ((room.new.room.board ≡ room.old.room.board) × (room.new.room.job ≡ room.old.room.job)) }
+    ensures turns { OnOk result (HadTurns room.old room.new) }
 {
     seal_log(room, &put_some(alloc, from, nodes, len)?)
 }

@@ -9,3 +9,5 @@ mod fixtures;
 mod stops;
 #[cfg(test)]
 mod tests;
+#[cfg(test)]
+mod turns;

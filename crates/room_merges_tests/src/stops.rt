@@ -125,7 +125,7 @@ fn a_read_that_fails_leaves_the_room_open(rt: HostRuntime) -> Result<(), Fail> {
 
 // A room of three parts of eight rows each, which take twelve calls of the disk. Each row has 279 bytes, so that the merged rows of two
 // parts need two regions.
-fn three_parts(alloc: Global, plan: FaultPlan) -> Result<Room<MemDisk>, Fail>
+pub fn three_parts(alloc: Global, plan: FaultPlan) -> Result<Room<MemDisk>, Fail>
     ensures { IfOk result (λ room. (room.room.board ≡ None ∷ None ∷ None ∷ []) × (room.room.job ≡ None)) }
 {
     let mut room = new_room(alloc, plan)?;
@@ -166,7 +166,7 @@ fn shows<E: LogEye>(view: &mut View<E>, number: u32) -> bool {
 }
 
 // Whether a room shows the rows of all three parts.
-fn shows_all(room: &mut Room<MemDisk>) -> Result<bool, Fail>
+pub fn shows_all(room: &mut Room<MemDisk>) -> Result<bool, Fail>
     requires { room.old.room.board ≡ None ∷ None ∷ None ∷ [] }
 {
     let Ok(mut view) = room.view_for(1) else {

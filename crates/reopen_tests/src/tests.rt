@@ -262,6 +262,15 @@ fn reads_each_region_once(rt: HostRuntime) -> Result<(), Fail> {
     Ok(())
 }
 
+#[test]
+fn what_stands_behind_a_header_does_not_matter(rt: HostRuntime) -> Result<(), Fail> {
+    for at in 70..79 {
+        let regions = [Flipped(at, 0x55), Epochs(2, 2), Nothing, Nothing];
+        assert_eq!(rt; found(rt.alloc(), &regions)?, Ok((*b"01  ", *b"    ")));
+    }
+    Ok(())
+}
+
 /// Erases the first retired part, if there is one.
 fn erase_first(room: &mut Room<MemDisk>) -> Option<Result<(), EraseFault>> {
     let lead = room.retired(0)?;

@@ -1,20 +1,15 @@
 -- Merging neighbours between transactions.
-use Rattle.std.proofs.Common.{◌≡◌, ◌∙◌, ℕ, zero, suc, ◌≤◌, Bool, true, false, List, [], ◌∷◌, length, inl, inr, Option, Some, None, Ok, Err, refl, sym, ap, subst, arith, append-nil}
-use Rattle.std.specs.Prelude.{◌⊎◌, Contains, Result, nat_le}
-use Rattle.std.specs.List.{AllByRecursion, list_all}
-use Rattle.std.proofs.lemmas.List.Elements.{Contains-append_right}
+use Rattle.std.proofs.Common.{◌≡◌, ◌∙◌, ℕ, ◌≤◌, Bool, true, false, List, [], ◌∷◌, length, inl, inr, Option, Some, None, Ok, Err, refl, sym, ap, subst, arith}
+use Rattle.std.specs.Prelude.{◌⊎◌, Result, nat_le}
+use Rattle.std.specs.List.{list_all}
 use Rattle.fine_model.specs.declared.Damage.TheVariants as damage
 use Rattle.fine_model.specs.declared.FetchFault.{FetchFault}
 use Rattle.fine_model.specs.declared.FetchFault.TheVariants as fetch_fault
 use Rattle.fine_model.specs.declared.Part.{Part}
-use Rattle.fine_model.specs.declared.Row.{Row}
 use Rattle.fine_model.specs.declared.RunFault.{RunFault}
 use Rattle.fine_model.specs.declared.law.RoomState.{RoomState}
 use Rattle.fine_model.specs.Boards.{Buffer, is_empty}
-use Rattle.fine_model.specs.Chain.{AreRowsOf}
 use Rattle.fine_model.specs.History.{Commit}
-use Rattle.fine_model.specs.Regions.{HasHeader, Image}
-use Rattle.fine_model.specs.Views.{TellsRowsOf}
 use Rattle.epoch_room.specs.Fitting.{counts_of, is_pressed}
 use Rattle.epoch_room.specs.Value.{RoomValue}
 use Rattle.epoch_room.specs.Whole.{IsWhole}
@@ -24,8 +19,10 @@ use Rattle.merge_policy.specs.Choices.{Picks, aims_of, neighbours, question}
 use Rattle.merge_policy.specs.declared.figures.Space.{Space}
 use Rattle.room_merges.specs.declared.fault.MergeFault.{MergeFault}
 use Rattle.room_merges.specs.declared.fault.MergeFault.TheVariants as merge_fault
-use Rattle.room_merges.specs.Near.{IsReadRefused, KeepsRest, MergesNear}
+use Rattle.room_merges.specs.Near.{BlamedFirst, IsReadRefused, KeepsRest, MergesNear}
 use Rattle.room_merges.specs.Merging.{OfTold}
+use Rattle.room_merges.proofs.Nearing.{has_newer, has_older}
+use Rattle.room_merges.proofs.PartRows.{own_told}
 use Rattle.room_shelf.specs.Shelves.{IsShelf, ShelfValue, TellsNone, shelf}
 use Rattle.run_laws.specs.Going.{StaysOn}
 use Rattle.run_laws.specs.Runs.{OfSound}
@@ -39,49 +36,24 @@ use Rattle.room_steps.proofs.MadeOn.{made_none}
 use Rattle.room_steps.proofs.Stepping.{near_lives}
 use Rattle.room_steps.proofs.Facts.{Rested, failed_on, fault_on, has_failed, leaves_itself, leaves_on, leaves_staying, none_failed_itself, unsealed_itself, unsealed_on, was_shut, well_counts, well_on}
 
--- ---- the rows of one part
-
-own_rows : (region_len : ℕ) (image : Image) (parts : List Part) (p : Part) (rows : List Row) → AllByRecursion (λ q. HasHeader region_len image q.region q.header) parts → AreRowsOf region_len image parts rows → Contains parts p
-    → (own : List Row) × HasHeader region_len image p.region p.header × AreRowsOf region_len image (p ∷ []) own
-unfolding AreRowsOf
-own_rows region_len image [] p rows headers are (k, within, is) = absurd (omega (arith, within))
-own_rows region_len image (q ∷ parts) p rows headers are (zero, within, is) = (
-  are.0,
-  subst (λ (z : Part). HasHeader region_len image z.region z.header) is headers.0,
-  subst (λ z. AreRowsOf region_len image (z ∷ []) are.0) is (are.0, [], sym (append-nil are.0), are.3, refl),
-)
-own_rows region_len image (q ∷ parts) p rows headers are (suc k, within, is) = own_rows region_len image parts p are.1 headers.1 are.4 (k, omega (arith, within), is)
-
-own_told : (told : Option Image) (region_len : ℕ) (parts : List Part) (p : Part) (rows : List Row) → TellsRowsOf told region_len parts rows → Contains parts p → (own : List Row) × TellsRowsOf told region_len (p ∷ []) own
-own_told told region_len parts p rows t there =
-    let own = own_rows region_len t.image parts p rows t.headers t.are_rows there in
-    (own.0, record { image = t.image; is_told = t.is_told; headers = (own.1, tt); are_rows = own.2 })
-
 -- ---- what a read was refused for
 
 -- the live parts tell no rows, where a read of two of them was refused that would not have been of told ones
 pub tells_none : (before new : RoomValue) (fault : FetchFault) (refused : IsReadRefused before new fault) → OfTold refused.view refused.blames.two.0 refused.blames.two.1 (λ a b. ⊥) → TellsNone (shelf new None)
 tells_none before new fault refused none rows tells =
-    let a = own_told new.room.image new.room.region_len new.room.parts refused.blames.two.0 rows tells older in
-    let b = own_told new.room.image new.room.region_len new.room.parts refused.blames.two.1 rows tells newer in
-    none a.0 b.0 (refused.shown refused.blames.two.0 a.0 older a.1) (refused.shown refused.blames.two.1 b.0 newer b.1)
-  where
-    older : Contains new.room.parts refused.blames.two.0
-    older =
-        subst (λ ps. Contains ps refused.blames.two.0) (sym refused.blames.stand.neighbours)
-        (Contains-append_right refused.blames.stand.before (refused.blames.two.0 ∷ refused.blames.two.1 ∷ refused.blames.stand.after) refused.blames.two.0 (0, omega arith, refl))
-
-    newer : Contains new.room.parts refused.blames.two.1
-    newer =
-        subst (λ ps. Contains ps refused.blames.two.1) (sym refused.blames.stand.neighbours)
-        (Contains-append_right refused.blames.stand.before (refused.blames.two.0 ∷ refused.blames.two.1 ∷ refused.blames.stand.after) refused.blames.two.1 (1, omega arith, refl))
+    let two = refused.blames.two in
+    let older = has_older new.room.parts two refused.blames.stand in
+    let newer = has_newer new.room.parts two refused.blames.stand in
+    let a = own_told new.room.image new.room.region_len new.room.parts two.0 rows tells older in
+    let b = own_told new.room.image new.room.region_len new.room.parts two.1 rows tells newer in
+    none a.0 b.0 (refused.shown two.0 a.0 older a.1) (refused.shown two.1 b.0 newer b.1)
 
 unsound : (before new : RoomValue) (fault : FetchFault) (refused : IsReadRefused before new fault) → OfTold refused.view refused.blames.two.0 refused.blames.two.1 (λ a b. ⊥)
     → (entry : RoomValue) (history : List Commit) → GoesOn entry new history → OfSound entry (λ first e. ⊥)
 unsound before new fault refused none entry history g = unsound_law entry new None history g refused.stays (tells_none before new fault refused none)
 
-bad_row : (before new : RoomValue) (region at : ℕ) → IsReadRefused before new (fetch_fault.BadRow region at) → NamesPlace new (damage.Region region at)
-bad_row before new region at refused = record {
+bad_row : (before new : RoomValue) (from region at : ℕ) → IsReadRefused before new (fetch_fault.BadRow region at) → BlamedFirst from new (fetch_fault.BadRow region at) → NamesPlace new (damage.Region region at)
+bad_row before new from region at refused blamed = record {
   region = region;
   at = at;
   is = refl;
@@ -89,11 +61,13 @@ bad_row before new region at refused = record {
   of_read = inl refl;
   before = before;
   refused = refused;
+  from = from;
+  blamed = blamed;
   unsound = unsound before new (fetch_fault.BadRow region at) refused refused.blames.blames.1;
 }
 
-bad_index : (before new : RoomValue) (region at : ℕ) → IsReadRefused before new (fetch_fault.BadIndex region at) → NamesPlace new (damage.Region region at)
-bad_index before new region at refused = record {
+bad_index : (before new : RoomValue) (from region at : ℕ) → IsReadRefused before new (fetch_fault.BadIndex region at) → BlamedFirst from new (fetch_fault.BadIndex region at) → NamesPlace new (damage.Region region at)
+bad_index before new from region at refused blamed = record {
   region = region;
   at = at;
   is = refl;
@@ -101,6 +75,8 @@ bad_index before new region at refused = record {
   of_read = inr refl;
   before = before;
   refused = refused;
+  from = from;
+  blamed = blamed;
   unsound = unsound before new (fetch_fault.BadIndex region at) refused refused.blames.blames.1;
 }
 
@@ -177,12 +153,12 @@ module _ (old mid new : ShelfValue) (r : Rested old mid) (none : new.view ≡ No
   merge_refused from (merge_fault.Fetch (fetch_fault.BadRow region at)) m same = record {
     leaves = merge_leaves from _ m;
     unsealed = merge_unsealed m.rest;
-    merge = (refused_well (fetch_fault.BadRow region at) m.near.0 (λ e. absurd (let x = e in cc)), bad_row mid.room new.room region at m.near.0);
+    merge = (refused_well (fetch_fault.BadRow region at) m.near.0 (λ e. absurd (let x = e in cc)), bad_row mid.room new.room from region at m.near.0 m.near.3);
   }
   merge_refused from (merge_fault.Fetch (fetch_fault.BadIndex region at)) m same = record {
     leaves = merge_leaves from _ m;
     unsealed = merge_unsealed m.rest;
-    merge = (refused_well (fetch_fault.BadIndex region at) m.near.0 (λ e. absurd (let x = e in cc)), bad_index mid.room new.room region at m.near.0);
+    merge = (refused_well (fetch_fault.BadIndex region at) m.near.0 (λ e. absurd (let x = e in cc)), bad_index mid.room new.room from region at m.near.0 m.near.3);
   }
   merge_refused from (merge_fault.Fetch fetch_fault.NoMemory) m same = record {
     leaves = merge_leaves from _ m;

@@ -20,7 +20,7 @@ use Rattle.epoch_room.specs.declared.answers.Fit.{Fit}
 use Rattle.epoch_room.specs.declared.answers.Fit.TheVariants as fit
 use Rattle.merge_policy.specs.declared.figures.Space.{Space}
 use Rattle.merge_policy.specs.Choices.{Picks, aims_of, neighbours, question}
-use Rattle.room_merges.specs.Near.{IsReadRefused, NoneFitNow}
+use Rattle.room_merges.specs.Near.{BlamedFirst, IsReadRefused, NoneFitNow}
 use Rattle.room_shelf.specs.Shelves.{IsCountOf, IsShelf, ShelfValue, total}
 use Rattle.run_laws.specs.Needs.{HasNoRegion, IsSealed, Unsealed}
 use Rattle.run_laws.specs.Runs.{OfSound}
@@ -67,7 +67,7 @@ pub record IsWell (old new : ShelfValue) : Type 0 where
   pub opened : new.room.room.is_shut ≡ false
 
 -- A place of the log is bad: a row or an index entry of two neighbours of the chain, by what was read through a view that told what a read of the disk does.
--- So no sound log was told at entry.
+-- So no sound log was told at entry. Those two are the first that were not tried in vain, through a view of the chain, from an epoch on.
 pub record NamesPlace (new : RoomValue) (what : Damage) : Type 0 where
   pub region : ℕ
   pub at : ℕ
@@ -76,6 +76,8 @@ pub record NamesPlace (new : RoomValue) (what : Damage) : Type 0 where
   pub of_read : (fault ≡ fetch_fault.BadRow region at) ⊎ (fault ≡ fetch_fault.BadIndex region at)
   pub before : RoomValue
   pub refused : IsReadRefused before new fault
+  pub from : ℕ
+  pub blamed : BlamedFirst from new fault
   pub unsound : (entry : RoomValue) (history : List Commit) → GoesOn entry new history → OfSound entry (λ first e. ⊥)
 
 -- how a fault came

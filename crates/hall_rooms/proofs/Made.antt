@@ -18,7 +18,7 @@ use Rattle.room_merges.specs.declared.fault.MergeFault.TheVariants as merge_faul
 use Rattle.fine_places.specs.History as places
 use Rattle.fine_boxes.specs.declared.model.TurnNote.{TurnNote}
 use Rattle.fine_hall.specs.declared.law.Beginning.{Beginning}
-use Rattle.fine_hall.specs.Turns.{commits, in_bucket, room_after}
+use Rattle.fine_hall.specs.Turns.{added, commits, in_bucket, room_after}
 use Rattle.fine_hall.specs.Laws.{IsRoomFor, IsViewFor}
 use Rattle.fine_hall.specs.Passes.{front_of, known, seen, turns, published, troubles, last_room, view_of, LacksPlace}
 use Rattle.fine_hall.specs.Halls.{turn_of, GivesRoom, IsAhead, TakesRoom}
@@ -26,11 +26,11 @@ use Rattle.fine_hall.proofs.Since.{gives_law}
 use Rattle.fine_hall.proofs.Troubles.{troubles_law}
 use Rattle.hall_rooms.specs.Rooms.{RoomPass, room_state, room_log}
 use Rattle.hall_rooms.specs.Steps.{InTurn, IsCleanTurn, IsFailedTurn, NoneFailed, Rises}
-use Rattle.hall_rooms.specs.Turning.{MeetsNone, MeetsSome}
-use Rattle.hall_rooms.specs.Merging.{Failing, MergesThroughOr}
+use Rattle.hall_rooms.specs.Turning.{MeetsNone, MeetsSome, NotBegan}
+use Rattle.hall_rooms.specs.Merging.{Failing, MergesThroughOr, OnDamage, StandsForNone}
 use Rattle.hall_rooms.specs.Making.{AddsTurn, Clears, ClearsMergedOr, GoesOn, GoesOnAfter, IsCleared, MakesOr, MergesAndClears, MergesClearedOr, OnceCleared, Stops, TriesInVain, TurnsOn}
 use Rattle.hall_rooms.proofs.Clearing.{is_cleared, not_retired, some_retired}
-use Rattle.hall_rooms.proofs.Merged.{may_merge}
+use Rattle.hall_rooms.proofs.Merged.{may_merge, not_begun, on_damage}
 use Rattle.hall_rooms.proofs.Shown.{held_back}
 use Rattle.hall_rooms.proofs.Turned.{some_failed}
 
@@ -99,6 +99,16 @@ module _ (from : ℕ) (had : Bool) (old new : RoomValue) where
   merged_clears merged m (Ok done) c = inl (record { merged = merged; merges = m; clears = c.0 }, c.1)
   merged_clears merged m (Err (merge_fault.Fetch fault)) c = absurd c
   merged_clears merged m (Err (merge_fault.Room fault)) c = inr (merged, m, c)
+
+-- clearing names no place
+pub clears_unread : (P : Type 0) (merged new : RoomValue) (r : Result Bool MergeFault) → ClearsMergedOr merged new r → OnDamage r P
+clears_unread P merged new (Ok done) c = tt
+clears_unread P merged new (Err (merge_fault.Fetch fault)) c = absurd c
+clears_unread P merged new (Err (merge_fault.Room fault)) c = tt
+
+-- a bad place is one of a log that did not begin
+pub merge_damage : (x : Beginning) (from : ℕ) (old new : RoomValue) (p : RoomPass) (c : IsCleanTurn x old p) (r : Result Bool MergeFault) → MergesThroughOr from old new r → OnDamage r (NotBegan x)
+merge_damage x from old new p c r m = on_damage r (StandsForNone old) (NotBegan x) (not_begun x old (seen p ++ added None 0) c.turn.may.log c.turn.may.stands) m.damage
 
 -- ---- making room
 

@@ -5,8 +5,10 @@ use Rattle.fine_model.specs.declared.FetchFault.TheVariants as fetch_fault
 use Rattle.fine_model.specs.declared.Job.{Job}
 use Rattle.fine_model.specs.declared.law.RoomState.{RoomState}
 use Rattle.fine_model.specs.Boards.{Buffer, buffer_at}
+use Rattle.fine_model.specs.Buckets.{Began}
 use Rattle.fine_model.specs.ChainLaws.{part_of}
 use Rattle.fine_model.specs.Faults.{HasRisen}
+use Rattle.fine_model.specs.History.{Commit}
 use Rattle.fine_model.specs.Jobs.{KeepsJob}
 use Rattle.fine_model.specs.Views.{TellsRowsOf}
 use Rattle.fine_model.specs.declared.Part.{Part}
@@ -25,12 +27,14 @@ use Rattle.epoch_room.proofs.Joining.{keeps_then}
 use Rattle.epoch_room.proofs.Viewing.{empty_is}
 use Rattle.room_merges.specs.declared.fault.MergeFault.{MergeFault}
 use Rattle.room_merges.specs.declared.fault.MergeFault.TheVariants as merge_fault
-use Rattle.room_merges.specs.Merging.{EyeTells, IsOut}
-use Rattle.room_merges.specs.Near.{NoneFitNow, TriesAll}
+use Rattle.room_merges.specs.Merging.{EyeTells, IsOut, OfTold}
+use Rattle.room_merges.specs.Near.{NoneFitNow, StandIn, TriesAll}
 use Rattle.room_merges.specs.Pairs.{header_for, job_for}
 use Rattle.room_merges.proofs.Chained.{shown_by_eye, told_before}
-use Rattle.room_merges.proofs.Nearing.{regions_same}
+use Rattle.room_merges.proofs.Nearing.{has_newer, has_older, regions_same}
+use Rattle.room_merges.proofs.PartRows.{own_told}
 use Rattle.room_merges.proofs.Through.{none_fits, still_posted, tries_rest}
+use Rattle.room_merges.proofs.Working.{view_back}
 use Rattle.fine_places.specs.History as places
 use Rattle.fine_hall.specs.declared.law.Beginning.{Beginning}
 use Rattle.fine_hall.specs.Laws.{IsRoomFor}
@@ -40,8 +44,8 @@ use Rattle.hall_rooms.specs.Rooms.{RoomPass, room_state, room_log}
 use Rattle.hall_rooms.specs.Boards.{TakesBackAll}
 use Rattle.hall_rooms.specs.Views.{MakesView, MakesViewOr}
 use Rattle.hall_rooms.specs.Steps.{InTurn, IsCleanTurn, Rises}
-use Rattle.hall_rooms.specs.Turning.{MeetsNone, MeetsSome}
-use Rattle.hall_rooms.specs.Merging.{Failing, LeavesBoard, MergesNext, MergesNextOr, MergesThroughOr, SameChain}
+use Rattle.hall_rooms.specs.Turning.{MeetsNone, MeetsSome, NotBegan}
+use Rattle.hall_rooms.specs.Merging.{Failing, LeavesBoard, MergesNext, MergesNextOr, MergesThroughOr, OnDamage, SameChain, StandsForNone}
 use Rattle.hall_rooms.proofs.Naming.{set_back, set_there}
 use Rattle.hall_rooms.proofs.Shown.{meets_none, meets_some}
 use Rattle.hall_rooms.proofs.Turned.{epochs_stay, goes, risen, rises, some_failed, stays_none}
@@ -166,6 +170,29 @@ module _ (from : ℕ) (old made tried new : RoomValue) (view seen : ViewValue) (
       (ap (λ (r : RoomState). r.parts) back.room ∙ ap (λ (r : RoomState). r.parts) s.room) (ap (λ (r : RoomState). r.free) back.room ∙ ap (λ (r : RoomState). r.free) s.room)
       (ap (λ (r : RoomState). r.region_len) back.room ∙ s.keeps.becomes.region_len) (shown middle is_view (Ok false) t (ap (λ (r : RoomState). r.parts) s.room)) t.room.1
 
+  -- ---- damage
+
+  -- the view tells both of two neighbours, where the log at entry was told and sound
+  not_both : (two : Part × Part) → StandIn made.room.parts two → OfTold view two.0 two.1 (λ a b. ⊥) → StandsForNone old
+  not_both two stand none e rows history began stands =
+      let told = makes.tells e rows history began stands in
+      let are : view.parts ≡ made.room.parts = makes.parts ∙ sym (ap (λ (r : RoomState). r.parts) makes.room) in
+      let a = own_told view.eye.told view.region_len view.parts two.0 told.0 told.1 (subst (λ ps. Contains ps two.0) (sym are) (has_older made.room.parts two stand)) in
+      let b = own_told view.eye.told view.region_len view.parts two.1 told.0 told.1 (subst (λ ps. Contains ps two.1) (sym are) (has_newer made.room.parts two stand)) in
+      none a.0 b.0 a.1 b.1
+
+  damaged : SameView view seen → (two : Part × Part) → StandIn made.room.parts two → OfTold seen two.0 two.1 (λ a b. ⊥) → StandsForNone old
+  damaged same two stand none =
+      not_both two stand (λ a b older newer. none a b (told_before seen view two.0 a (view_back view seen same) older) (told_before seen view two.1 b (view_back view seen same) newer))
+
+  damage : (r : Result Bool MergeFault) → TriesAll from made tried view seen r → OnDamage r (StandsForNone old)
+  damage (Ok merged) t = tt
+  damage (Err (merge_fault.Fetch fetch_fault.Failed)) t = tt
+  damage (Err (merge_fault.Fetch (fetch_fault.BadRow region at))) t = let b = t.room.1 in damaged t.looks.same b.two b.stand b.blames.1
+  damage (Err (merge_fault.Fetch (fetch_fault.BadIndex region at))) t = let b = t.room.1 in damaged t.looks.same b.two b.stand b.blames.1
+  damage (Err (merge_fault.Fetch fetch_fault.NoMemory)) t = tt
+  damage (Err (merge_fault.Room fault)) t = tt
+
   -- ---- two were merged
 
   next_two : TriesAll from made tried view seen (Ok true) → MergesNext old.room new.room
@@ -216,6 +243,7 @@ module _ (from : ℕ) (old made tried new : RoomValue) (view seen : ViewValue) (
     leaves = leaves t.looks.same (any_leaves from made tried view seen r t) board;
     how = inl (record { made = made; view = view; makes = makes; tried = tried; seen = seen; tries = t; back = back });
     merges = merges middle last is_view r t;
+    damage = damage r t;
     counted = counted r t;
   }
 
@@ -240,12 +268,14 @@ no_view from old new whole none room_fault.Disk m = record {
   };
   how = inr (record { fault = room_fault.Disk; is = refl; why = m });
   merges = (m.was_open, m.is_shut, ap (λ (r : RoomState). r.parts) m.room, ap (λ (r : RoomState). r.retired) m.room);
+  damage = tt;
   counted = rises old new m.faults;
 }
 no_view from old new whole none (room_fault.Shut epoch) m = record {
   leaves = subst (LeavesBoard old) (sym m.2) (stays_board old whole none);
   how = inr (record { fault = room_fault.Shut epoch; is = refl; why = m });
   merges = (m.0, m.1, m.2);
+  damage = tt;
   counted = let e = ap (λ (v : RoomValue). v.room.faults) m.2 in omega (arith, e);
 }
 no_view from old new whole none room_fault.NoMemory m = record {
@@ -259,8 +289,23 @@ no_view from old new whole none room_fault.NoMemory m = record {
       free = (ap (λ (v : RoomValue). v.room.free) m.1, ap (λ (v : RoomValue). v.room.lost) m.1);
     },
   );
+  damage = tt;
   counted = let e = ap (λ (v : RoomValue). v.room.faults) m.1 in omega (arith, e);
 }
+
+-- ---- damage in a turn
+
+pub on_damage : (r : Result Bool MergeFault) (P Q : Type 0) → (P → Q) → OnDamage r P → OnDamage r Q
+on_damage (Ok merged) P Q to d = tt
+on_damage (Err (merge_fault.Fetch fetch_fault.Failed)) P Q to d = tt
+on_damage (Err (merge_fault.Fetch (fetch_fault.BadRow region at))) P Q to d = to d
+on_damage (Err (merge_fault.Fetch (fetch_fault.BadIndex region at))) P Q to d = to d
+on_damage (Err (merge_fault.Fetch fetch_fault.NoMemory)) P Q to d = tt
+on_damage (Err (merge_fault.Room fault)) P Q to d = tt
+
+-- a room of a log that began stands for a history of it
+pub not_begun : (x : Beginning) (value : RoomValue) (history : List Commit) → room_log value ≡ x.log → ((e : ℕ) (first : List Row) → Began x.log e first → Stands value first e history) → StandsForNone value → NotBegan x
+not_begun x value history log stands none e first b = none e first history (subst (λ o. Began o e first) (sym log) b) (stands e first b)
 
 -- ---- the turn
 

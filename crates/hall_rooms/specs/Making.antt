@@ -28,8 +28,8 @@ use Rattle.hall_rooms.specs.declared.making.Space.{Space}
 use Rattle.hall_rooms.specs.declared.making.Space.TheVariants as space
 use Rattle.hall_rooms.specs.Rooms.{RoomPass, room_log}
 use Rattle.hall_rooms.specs.Steps.{ErasesOr, IsCleanTurn, IsFailedTurn}
-use Rattle.hall_rooms.specs.Turning.{AddsEpoch, MeetsNone, MeetsSome}
-use Rattle.hall_rooms.specs.Merging.{Failing, MergesThroughOr}
+use Rattle.hall_rooms.specs.Turning.{AddsEpoch, MeetsNone, MeetsSome, NotBegan}
+use Rattle.hall_rooms.specs.Merging.{Failing, MergesThroughOr, OnDamage}
 
 -- ---- the fronts of passes
 
@@ -197,6 +197,7 @@ pub record MakesRoom (x : Beginning) (from : ℕ) (p p' : RoomPass) (r : Result 
   pub log : room_log room ≡ x.log
   pub stands : (e : ℕ) (first : List Row) → Began x.log e first → Stands room first e (seen p')
   pub makes : MakesOr from found room r
+  pub damage : OnDamage r (NotBegan x)
   pub meets : Failing r (MeetsSome x p p') (MeetsNone x p p')
 
 -- what making room came to, by what is free then

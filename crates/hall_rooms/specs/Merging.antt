@@ -1,13 +1,16 @@
 -- A turn of a pass in which the first neighbours that fit are merged.
-use Rattle.std.specs.Prelude.{◌≡◌, ◌⊎◌, ℕ, ◌≤◌, Bool, true, false, drop, None, Some, Result, Ok, Err}
+use Rattle.std.specs.Prelude.{◌≡◌, ◌⊎◌, ℕ, ◌≤◌, Bool, true, false, List, drop, None, Some, Result, Ok, Err, ⊤}
 use Rattle.fine_model.specs.declared.FetchFault.TheVariants as fetch_fault
 use Rattle.fine_model.specs.declared.Part.{Part}
+use Rattle.fine_model.specs.declared.Row.{Row}
 use Rattle.fine_model.specs.declared.law.RoomState.{RoomState}
+use Rattle.fine_model.specs.Buckets.{Began}
 use Rattle.fine_model.specs.ChainLaws.{part_of}
+use Rattle.fine_model.specs.History.{Commit}
 use Rattle.fine_model.specs.Jobs.{KeepsJob}
 use Rattle.partition_hold.specs.Views.{ViewValue}
 use Rattle.partition_merge.specs.declared.merger.Measure.{Measure}
-use Rattle.epoch_room.specs.Meaning.{Keeps}
+use Rattle.epoch_room.specs.Meaning.{Keeps, Stands, origin_of}
 use Rattle.epoch_room.specs.MergeSealing.{replaced, retire}
 use Rattle.epoch_room.specs.MergeSteps.{neighbours_from, regions_for_job}
 use Rattle.epoch_room.specs.Value.{RoomValue}
@@ -23,7 +26,7 @@ use Rattle.hall_rooms.specs.Rooms.{RoomPass}
 use Rattle.hall_rooms.specs.Boards.{TakesBackAll}
 use Rattle.hall_rooms.specs.Views.{MakesView, MakesViewOr}
 use Rattle.hall_rooms.specs.Steps.{Rises, SameEpochs}
-use Rattle.hall_rooms.specs.Turning.{MeetsNone, MeetsSome, StaysIdle, TakesTurn}
+use Rattle.hall_rooms.specs.Turning.{MeetsNone, MeetsSome, NotBegan, StaysIdle, TakesTurn}
 
 -- ---- the step
 
@@ -87,6 +90,16 @@ Failing (Err (merge_fault.Room room_fault.Disk)) failed none = failed
 Failing (Err (merge_fault.Room room_fault.NoMemory)) failed none = none
 Failing (Err (merge_fault.Room (room_fault.Shut epoch))) failed none = none
 
+-- the answers that name a bad place
+abbrev pub OnDamage : Result Bool MergeFault → Type 0 → Type 0
+OnDamage (Err (merge_fault.Fetch (fetch_fault.BadRow region at))) P = P
+OnDamage (Err (merge_fault.Fetch (fetch_fault.BadIndex region at))) P = P
+OnDamage _ P = ⊤
+
+-- the log at entry was not told or not sound, or the room stands for no history of it
+abbrev pub StandsForNone : RoomValue → Type 0
+StandsForNone value = (e : ℕ) (first : List Row) (history : List Commit) → Began (origin_of value.entry) e first → Stands value first e history → ⊥
+
 -- what every answer leaves: no merge is out, no view comes or goes, and the epochs are as they were
 pub record LeavesBoard (old new : RoomValue) : Type 0 where
   pub entry : new.entry ≡ old.entry
@@ -101,6 +114,7 @@ pub record MergesThroughOr (from : ℕ) (old new : RoomValue) (r : Result Bool M
   pub leaves : LeavesBoard old new
   pub how : TriesThrough from old new r ⊎ LacksOwnView old new r
   pub merges : MergesNextOr old new r
+  pub damage : OnDamage r (StandsForNone old)
   pub counted : Failing r (Rises old.room new.room) (new.room.faults ≤ old.room.faults)
 
 -- ---- the turn
@@ -116,6 +130,7 @@ pub record MergesInTurn (x : Beginning) (from : ℕ) (p p' : RoomPass) (r : Resu
   pub how : TriesThrough from found room r ⊎ LacksOwnView found room r
   pub leaves : LeavesBoard found room
   pub merges : MergesNextOr found room r
+  pub damage : OnDamage r (NotBegan x)
   pub meets : Failing r (MeetsSome x p p') (MeetsNone x p p')
 
 -- A pass that holds nothing and has no merge out is such a pass after a turn that merges.

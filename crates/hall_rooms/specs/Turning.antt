@@ -2,9 +2,11 @@
 use Rattle.std.specs.Prelude.{◌≡◌, ◌≢◌, ◌⊎◌, ℕ, ◌+◌, ◌<◌, ◌≤◌, ◌==◌, if◌then◌else◌, true, false, List, [], ◌∷◌, ◌++◌, length, Contains, Option, Some, None, Result, Ok, Err, slice_get}
 use Rattle.fine_model.specs.declared.Entry.{Entry}
 use Rattle.fine_model.specs.declared.Part.{Part}
+use Rattle.fine_model.specs.declared.Row.{Row}
 use Rattle.fine_model.specs.declared.law.OpenedEye.{OpenedEye}
 use Rattle.fine_model.specs.declared.law.RoomState.{RoomState}
 use Rattle.fine_model.specs.Boards.{Buffer, buffer_at, set_of}
+use Rattle.fine_model.specs.Buckets.{Began}
 use Rattle.fine_model.specs.Faults.{last_count}
 use Rattle.fine_model.specs.Jobs.{KeepsJob}
 use Rattle.partition_hold.specs.Views.{state_of}
@@ -44,6 +46,10 @@ MeetsNone x p p' = troubles state_of x p' ≡ troubles state_of x p
 
 abbrev pub MeetsSome : Beginning → RoomPass → RoomPass → Type 0
 MeetsSome x p p' = (troubles state_of x p < troubles state_of x p') ⊎ (last_count ≤ (last_room x p').faults)
+
+-- the log at entry was not told, or not sound
+abbrev pub NotBegan : Beginning → Type 0
+NotBegan x = (e : ℕ) (first : List Row) → Began x.log e first → ⊥
 
 -- ---- sealing and posting
 

@@ -11,6 +11,8 @@ ghost use Rattle.fine_hall.specs.Halls.{IsAhead};
 ghost use Rattle.hall_rooms.specs.Rooms.{RoomPass, IsRoomPass, beginning_of};
 ghost use Rattle.hall_rooms.specs.declared.making.Space.TheVariants as space;
 ghost use Rattle.hall_rooms.specs.Steps.{IsCleanTurn};
+ghost use Rattle.hall_rooms.specs.Merging.{OnDamage};
+ghost use Rattle.hall_rooms.specs.Turning.{NotBegan};
 ghost use Rattle.hall_rooms.specs.Making.{AllAhead, ClearsMergedOr, ClearsOr, ErasesAndLooks, GoesOn, IsCleared, MakesOr, MakesRoom, MergesClearedOr, RenewsEach, RoundOr, TellsSpace, TriesRoom, TurnsOn};
 
 use crate::merging::merge_through;
@@ -180,6 +182,7 @@ fn merge_cleared<D: LogDisk, W: Wait>(
     ensures turn { GoesOn (beginning_of hall.now) room.new pass.new result }
     ensures ahead { IfOk result (λ made. IsAhead state_of (beginning_of hall.now) pass.new × AllAhead (beginning_of hall.now) others.new) }
     ensures merges { MergesClearedOr from had_retired room.old room.new result }
+    ensures damage { OnDamage result (NotBegan (beginning_of hall.now)) }
 {
     match merge_through(alloc, room, from) {
         Ok(merged) => {
@@ -216,6 +219,7 @@ fn clear_and_merge<D: LogDisk, W: Wait>(
     ensures turn { GoesOn (beginning_of hall.now) room.new pass.new result }
     ensures ahead { IfOk result (λ made. IsAhead state_of (beginning_of hall.now) pass.new × AllAhead (beginning_of hall.now) others.new) }
     ensures makes { MakesOr from room.old room.new result }
+    ensures damage { OnDamage result (NotBegan (beginning_of hall.now)) }
 {
     let had_retired = room.retired(0).is_some();
     match clear(rt, hall, pass, others, room) {
@@ -273,8 +277,8 @@ fn space_of(made: bool, free: u32) -> Space
 /// free, by what a read of the disk gives: `Stuck` with fewer than two free regions, in the same turn.
 ///
 /// `Disk` comes only where the disk failed in this call, and the room is shut; `Shut` exactly where it was shut before, and the turn leaves it as it
-/// was. After `NoMemory` it is open. After a refusal of a read it is cleared, and the chain is as it was then. After `Disk` and `NoMemory` two may
-/// have been merged, and be retired still.
+/// was. After `NoMemory` it is open. After a refusal of a read it is cleared, and the chain is as it was then; a bad place is named only where the log at
+/// entry was not told, or not sound. After `Disk` and `NoMemory` two may have been merged, and be retired still.
 ///
 /// It may wait for the room, and it goes on until nothing is retired. With all passes of the hall here two rounds of views are enough, since no other
 /// view is out then, which no clause says; where one is missing it waits until that one looked at its mailbox.

@@ -52,7 +52,7 @@ pub(crate) fn merge_through<D: LogDisk>(
 /// neighbours fit what is free, by what a read of the disk gives; then the chain is as it was.
 ///
 /// `Disk` comes only where the disk failed in this call, and the room is shut; `Shut` exactly where it was shut before, and the turn leaves it as it was.
-/// After these, `NoMemory` and each refusal of a read the chain is as it was.
+/// After these, `NoMemory` and each refusal of a read the chain is as it was. A bad place is named only where the log at entry was not told, or not sound.
 pub fn merge_next<D: LogDisk, W: Wait>(
     rt: &W,
     alloc: Global,

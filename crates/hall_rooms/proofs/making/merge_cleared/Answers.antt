@@ -2,7 +2,8 @@
 use Rattle.std.proofs.Common.{Ok, Err, arith, subst}
 use Rattle.hall_rooms.specs.Rooms.{beginning_of}
 use Rattle.hall_rooms.specs.Merging.{MergesThroughOr}
-use Rattle.hall_rooms.proofs.Made.{goes_merged, in_vain, merge_fails, merged_clears}
+use Rattle.hall_rooms.specs.Turning.{NotBegan}
+use Rattle.hall_rooms.proofs.Made.{clears_unread, goes_merged, in_vain, merge_damage, merge_fails, merged_clears}
 use Rattle.hall_rooms.proofs.Posted.{board_long, some_empty}
 use Rattle.hall_rooms.proofs.Renewing.{each_none, turns_none}
 use Rattle.hall_rooms.proofs.making.merge_cleared.Goals as goal
@@ -63,3 +64,10 @@ returns-in-Err-clause-turn g c =
 
 pub returns-in-Err-clause-merges : goal.returns-in-Err-clause-merges
 returns-in-Err-clause-merges g c = merge_fails c.args.from c.args.had_retired c.args.room.now c.merge_through.new.room c.in-Err.fault c.in-Err.ensures
+
+pub returns-else-not-merged-clause-damage : goal.returns-else-not-merged-clause-damage
+returns-else-not-merged-clause-damage g c = clears_unread (NotBegan (beginning_of c.args.hall.now)) c.merge_through.new.room c.clear_merged.new.room c.clear_merged.result c.clear_merged.ensures.clears
+
+pub returns-in-Err-clause-damage : goal.returns-in-Err-clause-damage
+returns-in-Err-clause-damage g c =
+    merge_damage (beginning_of c.args.hall.now) c.args.from c.args.room.now c.merge_through.new.room c.args.pass.now c.requires.turn (Err c.in-Err.fault) c.in-Err.ensures

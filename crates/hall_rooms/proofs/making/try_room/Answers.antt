@@ -76,6 +76,7 @@ returns-clause-tries g c =
         log = t.1.may.log;
         stands = seen_stands x new q r t.0 t.1 gave;
         makes = m.makes;
+        damage = m.damage;
         meets = makes_meet x found new p p₁ q r e.pass.1 m.pass.1 c.give_room.ensures.pass.1 c.requires.free e.takes e.room m.goes c.clear_and_merge-made.result m.turn gave;
       };
       tells = c.tell_space-space.ensures;

@@ -3,7 +3,11 @@ use denote.Param.Send.{sendable}
 use Rattle.std.proofs.Common.{refl, arith}
 use Rattle.hall_rooms.specs.Rooms.{beginning_of}
 use Rattle.hall_rooms.proofs.Crossing.{bucket_send, room_send}
-use Rattle.hall_rooms.proofs.Merged.{may_merge, meets, no_jobs, none_out}
+use Rattle.fine_hall.specs.Passes.{turns}
+use Rattle.fine_hall.specs.Turns.{commits}
+use Rattle.hall_rooms.specs.Merging.{StandsForNone}
+use Rattle.hall_rooms.specs.Turning.{NotBegan}
+use Rattle.hall_rooms.proofs.Merged.{may_merge, meets, no_jobs, none_out, not_begun, on_damage}
 use Rattle.hall_rooms.proofs.Posted.{some_empty}
 use Rattle.hall_rooms.proofs.Shown.{held_same, turn_taken}
 use Rattle.hall_rooms.proofs.Turned.{begins, stays_none}
@@ -65,5 +69,6 @@ returns-clause-merges g c =
       how = m.how;
       leaves = m.leaves;
       merges = m.merges;
+      damage = on_damage c.merge_through-merged.result (StandsForNone found) (NotBegan x) (not_begun x found (commits (turns q)) e.room.log e.room.stands) m.damage;
       meets = meets x found new p q r e.pass.1 c.give_room.ensures.pass.1 c.requires.free e.takes e.room b gave c.merge_through-merged.result m.counted;
     }

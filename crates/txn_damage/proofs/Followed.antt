@@ -30,16 +30,28 @@ use Rattle.damage_laws.specs.Looks.{IsOfKey}
 use Rattle.damage_laws.specs.Meets.{GivesOn, IsFewer}
 use Rattle.damage_laws.specs.OpenTxns.{IsFirstFound, LoadsSome}
 use Rattle.damage_laws.specs.Stays.{IsOpenFrom, LoadsFromFirst}
+use Rattle.damage_laws.specs.There.{AreThere, IsThere}
 use Rattle.damage_laws.proofs.AllFirm.{fetch_all}
 use Rattle.damage_laws.proofs.Firm.{firm_fetch, firm_law}
+use Rattle.damage_laws.proofs.FoundSmall.{fetched_some, gives_found}
 use Rattle.damage_laws.proofs.Loads.{loads_law}
 use Rattle.damage_laws.proofs.Meeting.{begins_law, calls_law, given_some, leaves_law, meets_law, scans_law, undoes_law}
 use Rattle.damage_laws.proofs.SameUnfit.{key_law, scan_law}
+use Rattle.damage_laws.proofs.There.{call_there, gives_there, loads_there, new_there, settled_there, undone_there}
 use Rattle.damage_laws.specs.Goings.{GoBy}
 use Rattle.open_txn.specs.Traces.{Changes, DoAll, Does, Looks, OnlyLoaded}
 use Rattle.open_txn.proofs.TraceLaws.{load_keeps, number_law, push_keeps, refused_law, rest_keeps}
 use Rattle.open_txn.proofs.Traced.{one_call}
-use Rattle.txn_damage.specs.Following.{AbortsLaw, BeginsLaw, CallsLaw, FindsBy, HasAbsentSealed, IsLeftOr, IsOpen, LoadedLaw, NamesLaw, Rests, Sees, SettlesLaw, UndoesLaw}
+use Rattle.txn_damage.specs.Following.{AbortsLaw, BeginsLaw, CallsLaw, FindsBy, HasAbsentSealed, IsLeftOr, IsOpen, LoadedLaw, NamesLaw, NewLaw, Rests, Sees, SettlesLaw, UndoesLaw}
+
+pub new_rests : NewLaw
+new_rests eye entry now parts present k = record {
+  gives = record { nodes = λ n. (node.Broken, 0); found = λ n. inr refl; goes = refl; gives = λ n here. absurd (true≢false (sym here)) };
+  firm = λ n known. absurd (⊎_elim (λ fine. fine refl) (λ some. some refl) known);
+  resting = refl;
+  there = new_there k;
+  absent = λ n none. (refl, refl);
+}
 
 pub begins : BeginsLaw
 begins eye entry now parts present sealed b calls done rows r =
@@ -47,6 +59,7 @@ begins eye entry now parts present sealed b calls done rows r =
       opened = o.opened;
       firm = subst (λ ns. AreFirm eye.region_len now present b.bucket ns done) (sym o.from) r.firm;
       saved = rest_keeps b r.resting;
+      there = r.there;
       absent = r.absent;
     }
 
@@ -133,11 +146,19 @@ module _ (eye : Eye) (entry now : Image) (parts present : List Part) (sealed : L
         of None e = e
         of (Some kept) e = absurd (true≢false (sym (ap is_some (l.stays n (ap is_some e)) ∙ ap is_some e) ∙ ap is_some none))
 
+    there_then : AreThere new
+    there_then = loads_there b new o.there (record { saved = l.saved; stays = l.stays; loads = λ n none. of n (cached new n) (l.fetched n none) })
+      where
+        of : (n : ℕ) (q : Option Cached) → IfSome q (IsFetched tells finds upper b.bucket n) → IfSome q IsThere
+        of n None h = tt
+        of n (Some kept) h = fetched_some eye present (id n) (kept.node, kept.version) (found_by (id n) (kept.node, kept.version) h.found)
+
     pub loaded : IsOpen eye entry now parts present sealed new calls own done rows log
     loaded = record {
       opened = then_open.opened;
       firm = subst (λ k. AreFirm eye.region_len now present k later done) (sym l.bucket) still_firm;
       saved = load_keeps tells finds upper b new l o.saved;
+      there = there_then;
       absent = λ n none. subst (λ k. AbsentIn k n) (sym l.bucket) (o.absent n (none_before n none));
     }
 
@@ -148,6 +169,7 @@ module _ (eye : Eye) (entry now : Image) (parts present : List Part) (sealed : L
     opened = next.opened;
     firm = subst (λ k. AreFirm eye.region_len now present k next.opened.gives.nodes done) (sym bucket) (subst (λ ns. AreFirm eye.region_len now present h.mid.bucket ns done) (sym next.from) mid.firm);
     saved = push_keeps h.mid new h.done.rows h.done.pushes mid.saved;
+    there = call_there h.mid new [] pushed c mid.there h.done;
     absent = λ n none. subst (λ k. AbsentIn k n) (sym bucket) (mid.absent n (none_before_push n none));
   })
     where
@@ -198,6 +220,7 @@ module _ (eye : Eye) (entry now : Image) (parts present : List Part) (sealed : L
           opened = next.opened;
           firm = subst (λ ns. AreFirm eye.region_len now present new.bucket ns done) (sym next.from) behind.firm;
           saved = behind.saved;
+          there = behind.there;
           absent = behind.absent;
         }
 
@@ -267,6 +290,7 @@ settles eye entry now parts present sealed epoch evicted b new calls own done ro
       gives = g.gives;
       firm = subst (λ k. AreFirm eye.region_len now present k g.gives.nodes done) (sym fewer.bucket) (subst (λ ns. AreFirm eye.region_len now present b.bucket ns done) (sym g.from) o.firm);
       resting = rests_then evicted (after b epoch) b new left;
+      there = settled_there b new o.there fewer (rests_then evicted (after b epoch) b new left);
       absent = absent;
     }
 
@@ -291,6 +315,7 @@ undone_from eye entry now parts present sealed mid new calls own done rows log o
       gives = g.gives;
       firm = subst (λ k. AreFirm eye.region_len now present k g.gives.nodes done) (sym bucket) (subst (λ ns. AreFirm eye.region_len now present mid.bucket ns done) (sym g.from) o.firm);
       resting = resting;
+      there = undone_there mid new o.there left resting;
       absent = absent;
     }
 
@@ -322,7 +347,7 @@ names_at tells finds upper s script history eye entry now parts present sealed b
   loaded = h.mid;
   open_then = mid;
   there = unfit.1;
-  meets = λ found. meets_law ⊥ (Ok script) history eye.region_len entry parts h.mid committed earlier (rows ++ log) id gives (subst (λ (n : ℕ). n < buckets) (sym h.loaded.bucket) small) (at ∙ sym h.loaded.bucket) unfit.1 found
+  meets = meets_law ⊥ (Ok script) history eye.region_len entry parts h.mid committed earlier (rows ++ log) id gives (subst (λ (n : ℕ). n < buckets) (sym h.loaded.bucket) small) (at ∙ sym h.loaded.bucket) unfit.1 found
       (inl (script, run.place, run.txn, c, run.rest, refl, run.there, run.none, run.calls, unfit.0));
 }
   where
@@ -337,6 +362,10 @@ names_at tells finds upper s script history eye entry now parts present sealed b
 
     unfit : IsUnfitBy c (given h.mid) id × IsCached h.mid id.number
     unfit = unfit_by c h.mid id (h.named at)
+
+    found : FindsMerged eye.region_len entry parts id (mid.opened.gives.nodes id.number) ⊎ ((given h.mid id.number).0 ≢ node.Broken)
+    found = subst (λ k. FindsMerged eye.region_len entry parts (record { bucket = k; number = id.number }) (mid.opened.gives.nodes id.number) ⊎ ((given h.mid id.number).0 ≢ node.Broken)) (sym (at ∙ sym h.loaded.bucket))
+        (gives_found eye.region_len entry parts h.mid (calls_on b.bucket before_it ++ calls_on b.bucket earlier) (rows ++ log) id.number mid.opened.gives unfit.1 (gives_there h.mid id.number mid.there unfit.1))
 
     together : calls_on b.bucket before_it ++ calls_on b.bucket earlier ≡ calls_on h.mid.bucket (before_it ++ earlier)
     together = sym (filter-append (λ x. bucket_of (key_of x) == b.bucket) before_it earlier) ∙ ap (λ k. calls_on k (before_it ++ earlier)) (sym h.loaded.bucket)

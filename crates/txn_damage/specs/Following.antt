@@ -3,19 +3,18 @@ use Rattle.std.specs.Prelude.{◌≡◌, ◌≢◌, ◌⊎◌, ℕ, ◌+◌, ◌
 use Rattle.std.specs.List.{AllByRecursion}
 use Rattle.log_disk.specs.Disk.{Eye}
 use Rattle.fine_model.specs.declared.Call.{Call}
-use Rattle.fine_model.specs.declared.Node.TheVariants as node
 use Rattle.fine_model.specs.declared.NodeId.{NodeId}
 use Rattle.fine_model.specs.declared.Part.{Part}
 use Rattle.fine_model.specs.declared.Row.{Row}
 use Rattle.fine_model.specs.declared.ScriptTxn.{ScriptTxn}
-use Rattle.fine_model.specs.Damages.{FindsMerged, MeetsUnfit, calls_on}
+use Rattle.fine_model.specs.Damages.{MeetsUnfit, calls_on}
 use Rattle.fine_model.specs.History.{Commit}
 use Rattle.fine_model.specs.Nodes.{Content, rows_of}
 use Rattle.fine_model.specs.Regions.{Image}
 use Rattle.fine_model.specs.RowBytes.{buckets}
 use Rattle.node_cache.specs.declared.cached.Cached.{Cached}
 use Rattle.node_cache.specs.Cache.{Cache, IsResting, IsSaved, after, before, cached}
-use Rattle.node_cache.specs.Given.{Finds, IsCached, IsLoaded, given}
+use Rattle.node_cache.specs.Given.{Finds, IsCached, IsLoaded}
 use Rattle.node_fetch.specs.Fetched.{IsReplayOf}
 use Rattle.btree_nodes.specs.declared.fault.TreeFault.{TreeFault}
 use Rattle.btree_nodes.specs.declared.fault.TreeFault.TheVariants as fault_of
@@ -24,7 +23,9 @@ use Rattle.damage_laws.specs.Firm.{AreFirm}
 use Rattle.damage_laws.specs.Made.{AreMadeOf, all_of}
 use Rattle.damage_laws.specs.Meets.{GivesOn}
 use Rattle.damage_laws.specs.OpenTxns.{IsOpenOn}
+use Rattle.damage_laws.specs.There.{AreThere}
 use Rattle.txn_draft.specs.Standing.{IsLeft}
+use Rattle.open_txn.specs.Buckets.{new_bucket}
 use Rattle.open_txn.specs.Traces.{DoAll, Refused}
 
 -- An eye tells its bytes, by which it sees parts that are made of those at entry and of what was sealed since.
@@ -42,11 +43,12 @@ HasAbsentSealed sealed b done rows =
     (n : ℕ) → cached b n ≡ None → (rows_of (node_at b n) rows ≡ rows_of (node_at b n) done) × (rows_of (node_at b n) (all_of sealed) ≡ rows_of (node_at b n) done)
 
 -- Between transactions: a bucket gives what is found by the bytes at entry, gone on by the committed calls with their rows. What is known of that is firm, as those of the rows leave
--- it that are sealed (`done`).
+-- it that are sealed (`done`). No node that it caches stands for one that was not found.
 pub record Rests (eye : Eye) (entry now : Image) (parts present : List Part) (sealed : List (List Row)) (b : Cache) (calls : List Call) (done rows : List Row) : Type 0 where
   pub gives : GivesOn eye.region_len entry parts b calls rows
   pub firm : AreFirm eye.region_len now present b.bucket gives.nodes done
   pub resting : IsResting b
+  pub there : AreThere b
   pub absent : HasAbsentSealed sealed b done rows
 
 -- In an open transaction: the same, gone on by the transaction's calls too. Each node that is saved is cached.
@@ -54,7 +56,12 @@ pub record IsOpen (eye : Eye) (entry now : Image) (parts present : List Part) (s
   pub opened : IsOpenOn eye.region_len entry parts b calls rows own log
   pub firm : AreFirm eye.region_len now present b.bucket opened.gives.nodes done
   pub saved : (n : ℕ) → IsSaved b n → IsCached b n
+  pub there : AreThere b
   pub absent : HasAbsentSealed sealed b done rows
+
+-- so does a bucket that caches nothing, before any call
+abbrev pub NewLaw : Type 0
+NewLaw = (eye : Eye) (entry now : Image) (parts present : List Part) (k : ℕ) → Rests eye entry now parts present [] (new_bucket k) [] [] []
 
 -- at its start
 abbrev pub BeginsLaw : Type 0
@@ -111,12 +118,12 @@ pub record IsRun (script : List ScriptTxn) (history : List Commit) (before : Lis
   pub none : AllByRecursion (λ d. d.entry.turn ≢ place + 1) history
   pub calls : txn.calls ≡ before ++ c ∷ rest
 
--- A refused call names a node of the bucket. It is cached behind the loads; and if it was found at entry or is not broken, the run meets it unfit.
+-- A refused call names a node of the bucket: it is cached behind the loads, and the run meets it unfit.
 pub record Names (script : List ScriptTxn) (history : List Commit) (eye : Eye) (entry now : Image) (parts present : List Part) (sealed : List (List Row)) (b : Cache) (calls own : List Call) (done rows log : List Row) (id : NodeId) : Type 0 where
   pub loaded : Cache
   pub open_then : IsOpen eye entry now parts present sealed loaded calls own done rows log
   pub there : IsCached loaded id.number
-  pub meets : FindsMerged eye.region_len entry parts id (open_then.opened.gives.nodes id.number) ⊎ ((given loaded id.number).0 ≢ node.Broken) → MeetsUnfit (Ok script) ⊥ history eye.region_len entry parts id
+  pub meets : MeetsUnfit (Ok script) ⊥ history eye.region_len entry parts id
 
 abbrev pub NamesLaw : {S : Type 0} → (S → List Row → Type 0) → (S → Finds) → (S → ℕ) → Type 0
 NamesLaw tells finds upper =

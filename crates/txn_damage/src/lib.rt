@@ -3,4 +3,4 @@
 
 mod laws;
 
-pub use laws::txn_law;
+pub use laws::{damage_law, txn_law};

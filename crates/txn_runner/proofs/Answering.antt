@@ -1,15 +1,18 @@
 -- What answering the calls of a transaction leaves.
-use Rattle.std.proofs.Common.{◌≡◌, inl, inr, ℕ, ◌+◌, ◌≤◌, min, List, [], ◌++◌, sym, ap, ◌∙◌, subst, Option, Some, None, Ok, Err, arith}
+use Rattle.std.proofs.Common.{◌≡◌, refl, inl, inr, ℕ, ◌+◌, ◌≤◌, min, List, [], ◌++◌, sym, ap, ◌∙◌, subst, Option, Some, None, Ok, Err, arith}
 use Rattle.std.specs.Prelude.{if◌then◌else◌}
 use Rattle.fine_model.specs.declared.Call.{Call}
+use Rattle.fine_model.specs.declared.Damage.TheVariants as damage
 use Rattle.fine_model.specs.declared.FetchFault.{FetchFault}
 use Rattle.fine_model.specs.declared.FetchFault.TheVariants as fetch_fault
+use Rattle.fine_model.specs.declared.NodeId.{NodeId}
 use Rattle.fine_model.specs.declared.Row.{Row}
 use Rattle.fine_model.specs.declared.RunFault.{RunFault}
 use Rattle.fine_model.specs.declared.RunFault.TheVariants as run_fault
 use Rattle.fine_model.specs.declared.Why.TheVariants as why
 use Rattle.fine_model.specs.declared.law.RoomState.{RoomState}
 use Rattle.fine_model.specs.Buckets.{Began}
+use Rattle.fine_model.specs.Damages.{IsDamageIn}
 use Rattle.fine_model.specs.Faults.{last_count}
 use Rattle.fine_model.specs.History.{Commit, all_rows, upto}
 use Rattle.fine_model.specs.Nodes.{Agrees}
@@ -19,7 +22,7 @@ use Rattle.btree_nodes.specs.declared.fault.TreeFault.TheVariants.{BucketFull, N
 use Rattle.txn_draft.specs.Answers.{FailsBy}
 use Rattle.txn_draft.specs.Drafts.{DraftValue}
 use Rattle.partition_hold.specs.Sources as source
-use Rattle.partition_hold.specs.Sources.{tells_rows}
+use Rattle.partition_hold.specs.Sources.{finds_in, tells_rows}
 use Rattle.partition_hold.specs.Views.{ViewValue}
 use Rattle.epoch_room.specs.Meaning.{Stands, origin_of}
 use Rattle.epoch_room.specs.Value.{RoomValue}
@@ -29,9 +32,10 @@ use Rattle.room_shelf.proofs.Loading.{reads_law}
 use Rattle.open_txn.specs.Buckets.{BucketsValue, StandAll}
 use Rattle.open_txn.specs.Opened as opened
 use Rattle.open_txn.specs.Opened.{AnswersCalls, IsOpen, IsRefusal, TellsHistory}
+use Rattle.open_txn.specs.Traces.{AllDone, StopsAt}
 use Rattle.room_steps.specs.Laws.{TellsNow}
 use Rattle.run_laws.specs.Lanes.{is_disk, lanes_failed}
-use Rattle.run_laws.specs.Runs.{IsReady, OfSound}
+use Rattle.run_laws.specs.Runs.{IsDamageAt, IsReady, OfSound}
 use Rattle.run_laws.specs.SoFar.{AreFewSoFar, AreTold, GoesOn}
 use Rattle.run_laws.specs.Told.{HasCause}
 use Rattle.run_laws.specs.Turns.{RefusesBehind}
@@ -39,7 +43,13 @@ use Rattle.run_laws.proofs.Going.{later_law, stays_law}
 use Rattle.run_laws.proofs.Readings.{legal_law, sees_law, unsound_law}
 use Rattle.run_laws.proofs.Tellings.{told_more, told_stays}
 use Rattle.txn_runner.specs.Body.{Body, Goes, Stand, count_of, shelf_of}
+use Rattle.txn_runner.specs.Follows.{Follows, IsSameLog, NamesAt}
+use Rattle.txn_runner.specs.Named.{Blames, BlamesCalls, IsNext}
+use Rattle.txn_runner.specs.Opening.{IsRead}
 use Rattle.txn_runner.specs.Steps.{Answers, Looks, Reads, TakesBack, TellsWith, of_fetch, of_tree}
+use Rattle.txn_runner.proofs.Following as following
+use Rattle.txn_runner.proofs.Keeping.{blames_calls, load_bad, names_it, none_named, of_told, room_len}
+use Rattle.txn_runner.proofs.Opening as opening
 
 -- ---- what loads leave
 
@@ -69,9 +79,21 @@ pub told_later : (entry : RoomValue) (old new : Body) (history : List Commit) �
 told_later entry old new history g t r clean = subst (λ ended. AreTold entry new.room (count_of new) ended ended) (sym r.ended)
     (told_stays entry old.room new.room (count_of old) (count_of new) old.ended old.ended (inl clean.count) (own_low old new g.room.whole r.whole r.later) clean.shut t)
 
+-- the same log, with the same open epoch
+same_log : (old new : Body) → IsLater (shelf_of old) (shelf_of new) → IsSameLog old.room.room new.room.room
+same_log old new l = record {
+  image = ap (λ (r : RoomState). r.image) l.room;
+  parts = ap (λ (r : RoomState). r.parts) l.room;
+  open_rows = ap (λ (r : RoomState). r.open_rows) l.room;
+  sealed = ap (λ (r : RoomState). r.sealed) l.room;
+}
+
 -- the buckets too, where they are the same
 pub stand_later : (entry : RoomValue) (old new : Body) (history : List Commit) → Stand entry old history → IsLater (shelf_of old) (shelf_of new) → new.buckets ≡ old.buckets → Stand entry new history
-stand_later entry old new history s l same = subst (λ n. StandAll (origin_of entry.entry) n new.buckets history) (sym (sealed_same old new l)) (subst (λ b. StandAll (origin_of entry.entry) old.room.room.sealed b history) (sym same) s)
+stand_later entry old new history s l same = record {
+  all = subst (λ n. StandAll (origin_of entry.entry) n new.buckets history) (sym (sealed_same old new l)) (subst (λ b. StandAll (origin_of entry.entry) old.room.room.sealed b history) (sym same) s.all);
+  follows = subst (λ b. Follows (origin_of entry.entry) new.room.room b history) (sym same) (following.same (origin_of entry.entry) old.room.room new.room.room old.buckets history (same_log old new l) s.follows);
+}
 
 -- a fault is told, by its cause
 total_least : (a b : ℕ) → min a last_count ≤ a + b
@@ -102,8 +124,14 @@ no_view_cause entry old room fetch_fault.NoMemory l = tt
 no_view_cause entry old room (fetch_fault.BadRow region at) l = absurd l.why
 no_view_cause entry old room (fetch_fault.BadIndex region at) l = absurd l.why
 
+no_view_blames : (entry : RoomValue) (old : Body) (room : RoomValue) (fault : FetchFault) → LacksView old.room old.view room fault → Blames entry (of_fetch fault)
+no_view_blames entry old room fetch_fault.Failed l = none_named entry run_fault.Disk (λ what e. let x : run_fault.Disk ≡ run_fault.Damaged what = e in cc)
+no_view_blames entry old room fetch_fault.NoMemory l = none_named entry run_fault.Memory (λ what e. let x : run_fault.Memory ≡ run_fault.Damaged what = e in cc)
+no_view_blames entry old room (fetch_fault.BadRow region at) l = absurd l.why
+no_view_blames entry old room (fetch_fault.BadIndex region at) l = absurd l.why
+
 pub lacks_view : (group : ℕ) (old new : Body) (d : DraftValue) (calls : List Call) (fault : FetchFault) → Looks old new (Err fault) → Answers group old new d calls (Err (of_fetch fault))
-lacks_view group old new d calls fault l = (reads, λ entry history ready b. (stand_later entry old new history b.stand reads.later buckets, told_with entry old new history (of_fetch fault) ready b.going.goes b.going.told reads low (cause entry)))
+lacks_view group old new d calls fault l = (reads, λ entry history ready b. (stand_later entry old new history b.stand reads.later buckets, told_with entry old new history (of_fetch fault) ready b.going.goes b.going.told reads low (cause entry), blames_calls entry history calls (of_fetch fault) (no_view_blames entry old new.room fault l.room)))
   where
     none : new.view ≡ None
     none = ap (λ (x : Body). x.view) l.rest
@@ -164,27 +192,49 @@ module _ (old mid : Body) (view read : ViewValue) (looks : Looks old mid (Ok vie
   -- the buckets, which stand for the history up to what is sealed
   is_ready : (entry : RoomValue) (history : List Commit) → IsReady entry → Goes entry old history → Stand entry old history → opened.IsReady (tells_rows view) view.upto (origin_of entry.entry) old.room.room.sealed mid.buckets history
   is_ready entry history ready g stand = record {
-    stand = subst (λ b. StandAll (origin_of entry.entry) old.room.room.sealed b history) (sym was) stand;
+    stand = subst (λ b. StandAll (origin_of entry.entry) old.room.room.sealed b history) (sym was) stand.all;
     most = let e : view.upto ≡ old.room.room.sealed = looks.room.is_out.upto ∙ ap (λ (r : RoomState). r.sealed) looks.room.later.room in omega (arith, e);
     told = tells entry history ready g;
   }
+
+  -- the body with the view in its place
+  abbrev looked : Body
+  looked = record mid { view = Some view }
+
+  -- what the calls find, by the bytes at entry too
+  is_read : (entry : RoomValue) (history : List Commit) → IsReady entry → Goes entry old history → Stand entry old history → IsRead (origin_of entry.entry) mid.room view mid.buckets history
+  is_read entry history ready g stand = record {
+    whole = looks.whole;
+    is_out = looks.room.is_out;
+    sees = looks.room.sees;
+    region_len = room_len entry mid.room history ready (room_on entry old looked history g.room looks.whole looks.room.later);
+    stand = stand_now.all;
+    follows = stand_now.follows;
+  }
+    where
+      stand_now : Stand entry looked history
+      stand_now = stand_later entry old looked history stand looks.room.later was
 
   module _ (now : BucketsValue) (d : DraftValue) (calls : List Call) where
     -- all were answered
     pub answered : (group : ℕ) → source.IsClean view read → AnswersCalls calls d
         → ((log : _) (low : ℕ) (history : List Commit) → opened.IsReady (tells_rows view) view.upto log low mid.buckets history → IsOpen log low history mid.buckets now d)
-        → Answers group old (with_buckets now) d calls (Ok None)
-    answered group clean answers open_now = (
+        → AllDone (tells_rows view) (finds_in view) view.upto calls d.rows mid.buckets now → Answers group old (with_buckets now) d calls (Ok None)
+    answered group clean answers open_now done = (
       reads_with now,
       clean_with clean,
       answers,
-      λ entry history ready b. subst (λ taken. IsOpen (origin_of entry.entry) old.room.room.sealed history taken now d) was
-          (open_now (origin_of entry.entry) old.room.room.sealed history (is_ready entry history ready b.going.goes b.stand)),
+      λ entry history ready b. (
+        subst (λ taken. IsOpen (origin_of entry.entry) old.room.room.sealed history taken now d) was
+            (open_now (origin_of entry.entry) old.room.room.sealed history (is_ready entry history ready b.going.goes b.stand)),
+        opening.answers (origin_of entry.entry) mid.room view mid.buckets now history calls d.rows (is_read entry history ready b.going.goes b.stand) done,
+      ),
     )
 
     -- one was refused, and what was done is taken back
     module _ (new : Body) (back : TakesBack (with_buckets now) new) (fault : TreeFault)
-        (refused : (log : _) (low : ℕ) (history : List Commit) → opened.IsReady (tells_rows view) view.upto log low mid.buckets history → IsRefusal log low history mid.buckets now calls fault) where
+        (refused : (log : _) (low : ℕ) (history : List Commit) → opened.IsReady (tells_rows view) view.upto log low mid.buckets history → IsRefusal log low history mid.buckets now calls fault)
+        (stopped : StopsAt (tells_rows view) (finds_in view) view.upto calls fault mid.buckets now) where
       as_read : new ≡ with_buckets new.buckets
       as_read = back.rest
 
@@ -200,12 +250,20 @@ module _ (old mid : Body) (view read : ViewValue) (looks : Looks old mid (Ok vie
       refusal : (entry : RoomValue) (history : List Commit) → IsReady entry → Goes entry old history → Stand entry old history → IsRefusal (origin_of entry.entry) old.room.room.sealed history mid.buckets now calls fault
       refusal entry history ready g stand = refused (origin_of entry.entry) old.room.room.sealed history (is_ready entry history ready g stand)
 
-      stand_back : (entry : RoomValue) (history : List Commit) → IsReady entry → Goes entry old history → Stand entry old history → Stand entry new history
-      stand_back entry history ready g stand =
+      all_back : (entry : RoomValue) (history : List Commit) → IsReady entry → Goes entry old history → Stand entry old history → StandAll (origin_of entry.entry) new.room.room.sealed new.buckets history
+      all_back entry history ready g stand =
           let same = sealed_same old new reads_back.later in
           let low : old.room.room.sealed ≤ new.room.room.sealed = omega (arith, same) in
           let evicts : mid.room.room.sealed ≤ new.room.room.sealed = let e = ap (λ (x : RoomValue). x.room.sealed) room_is in omega (arith, e) in
           back.buckets (origin_of entry.entry) old.room.room.sealed new.room.room.sealed history mid.buckets (refusal entry history ready g stand).to_undo low evicts
+
+      stand_back : (entry : RoomValue) (history : List Commit) → IsReady entry → Goes entry old history → Stand entry old history → Stand entry new history
+      stand_back entry history ready g stand = record {
+        all = all_back entry history ready g stand;
+        follows = subst (λ (r : RoomValue). Follows (origin_of entry.entry) r.room new.buckets history) (sym room_is)
+            (opening.refuses (origin_of entry.entry) mid.room view mid.buckets now new.buckets history calls fault mid.room.room.sealed (is_read entry history ready g stand) stopped back.left
+            (subst (λ (r : RoomValue). StandAll (origin_of entry.entry) r.room.sealed new.buckets history) room_is (all_back entry history ready g stand)));
+      }
 
       -- for a reason that the definitions have
       by_reason : (group : ℕ) (word : _) → source.IsClean view read → ((entry : RoomValue) (history : List Commit) → IsReady entry → Goes entry old history → Stand entry old history
@@ -218,10 +276,10 @@ module _ (old mid : Body) (view read : ViewValue) (looks : Looks old mid (Ok vie
 
       -- by a fault
       by_fault : (group : ℕ) (told : RunFault) → ((entry : RoomValue) (history : List Commit) → IsReady entry → Goes entry old history → Stand entry old history → HasCause entry old.room new.room (count_of old) (count_of new) told)
-          → Answers group old new d calls (Err told)
-      by_fault group told cause = (
+          → ((entry : RoomValue) (history : List Commit) → IsReady entry → Goes entry old history → Stand entry old history → BlamesCalls entry history calls told) → Answers group old new d calls (Err told)
+      by_fault group told cause blames = (
         reads_back,
-        λ entry history ready b. (stand_back entry history ready b.going.goes b.stand, told_with entry old new history told ready b.going.goes b.going.told reads_back low (cause entry history ready b.going.goes b.stand)),
+        λ entry history ready b. (stand_back entry history ready b.going.goes b.stand, told_with entry old new history told ready b.going.goes b.going.told reads_back low (cause entry history ready b.going.goes b.stand), blames entry history ready b.going.goes b.stand),
       )
         where
           low : count_of old ≤ count_of new
@@ -229,8 +287,9 @@ module _ (old mid : Body) (view read : ViewValue) (looks : Looks old mid (Ok vie
 
       -- damage, which no failed call told
       by_damage : (group : ℕ) (what : _) → source.IsClean view read → ((entry : RoomValue) (history : List Commit) → IsReady entry → Goes entry old history → Stand entry old history → OfSound entry (λ first e. ⊥))
-          → Answers group old new d calls (Err (run_fault.Damaged what))
-      by_damage group what clean unsound = by_fault group (run_fault.Damaged what) (λ entry history ready g stand. (is_clean.count, is_clean.shut, unsound entry history ready g stand))
+          → ((entry : RoomValue) (history : List Commit) → IsReady entry → Goes entry old history → Stand entry old history → BlamesCalls entry history calls (run_fault.Damaged what)) → Answers group old new d calls (Err (run_fault.Damaged what))
+      by_damage group what clean unsound blames = by_fault group (run_fault.Damaged what) (λ entry history ready g stand. (is_clean.count, is_clean.shut, unsound entry history ready g stand))
+          blames
         where
           is_clean : IsClean (shelf_of old) (shelf_of new)
           is_clean = subst (IsClean (shelf_of old)) (sym shelf_is) (clean_with clean)
@@ -238,20 +297,41 @@ module _ (old mid : Body) (view read : ViewValue) (looks : Looks old mid (Ok vie
       bad : TellsNone (shelf_of old) → (entry : RoomValue) (history : List Commit) → Goes entry old history → OfSound entry (λ first e. ⊥)
       bad none entry history g = unsound_law entry old.room old.view history g.room (sym on_shelf.shut ∙ on_shelf.is_out.opened) none
 
+      -- a place that a load names
+      place : (failed : FetchFault) (region at : ℕ) → NamesAt failed region at → source.Fails view failed read → (entry : RoomValue) (history : List Commit) → IsReady entry → Goes entry old history → Stand entry old history
+          → BlamesCalls entry history calls (run_fault.Damaged (damage.Region region at))
+      place failed region at names fails entry history ready g stand = blames_calls entry history calls (run_fault.Damaged (damage.Region region at)) (names_it entry (damage.Region region at) (load_bad entry old.room old.buckets history ready g.room stand.follows (sym on_shelf.shut ∙ on_shelf.is_out.opened) (shelf_of old) (shelf mid.room (Some read)) failed region at refl names
+          (on_shelf.fails failed fails)))
+
+      -- a node that a call names
+      node : (id : NodeId) → StopsAt (tells_rows view) (finds_in view) view.upto calls (Unfit id) mid.buckets now → (entry : RoomValue) (history : List Commit) → IsReady entry → Goes entry old history → Stand entry old history
+          → BlamesCalls entry history calls (run_fault.Damaged (damage.Node id))
+      node id stops entry history ready g stand script next what is = subst (IsDamageAt entry script history) (let x : run_fault.Damaged (damage.Node id) ≡ run_fault.Damaged what = is in let y : damage.Node id ≡ what = cc in y)
+          (of_told entry mid.room history ready (room_on entry old looked history g.room looks.whole looks.room.later) (λ n image parts. IsDamageIn (Ok script) ⊥ history n image parts (damage.Node id))
+          (opening.names (origin_of entry.entry) mid.room view mid.buckets now history calls id script next.place next.txn (is_read entry history ready g stand) stops next.there next.never next.of_txn))
+
+      no_disk : (entry : RoomValue) (history : List Commit) → BlamesCalls entry history calls run_fault.Disk
+      no_disk entry history = blames_calls entry history calls run_fault.Disk (none_named entry run_fault.Disk (λ what e. let x : run_fault.Disk ≡ run_fault.Damaged what = e in cc))
+
+      no_memory : (entry : RoomValue) (history : List Commit) → BlamesCalls entry history calls run_fault.Memory
+      no_memory entry history = blames_calls entry history calls run_fault.Memory (none_named entry run_fault.Memory (λ what e. let x : run_fault.Memory ≡ run_fault.Damaged what = e in cc))
+
       pub takes_back : (group : ℕ) → OnCleanAnswer {A = Unit {0}} (Err fault) (source.IsClean view read) → FailsBy (λ failed. source.Fails view failed read) fault → Answers group old new d calls (of_tree fault)
-      takes_back = by fault refused
+      takes_back = by fault refused stopped
         where
-          by : (f : TreeFault) → ((log : _) (low : ℕ) (history : List Commit) → opened.IsReady (tells_rows view) view.upto log low mid.buckets history → IsRefusal log low history mid.buckets now calls f) → (group : ℕ)
-              → OnCleanAnswer {A = Unit {0}} (Err f) (source.IsClean view read) → FailsBy (λ failed. source.Fails view failed read) f → Answers group old new d calls (of_tree f)
-          by (BucketFull next depth) refuses group clean fails = by_reason group why.Bucket clean (λ entry history ready g stand first e began stands.
+          by : (f : TreeFault) → ((log : _) (low : ℕ) (history : List Commit) → opened.IsReady (tells_rows view) view.upto log low mid.buckets history → IsRefusal log low history mid.buckets now calls f)
+              → StopsAt (tells_rows view) (finds_in view) view.upto calls f mid.buckets now → (group : ℕ) → OnCleanAnswer {A = Unit {0}} (Err f) (source.IsClean view read) → FailsBy (λ failed. source.Fails view failed read) f → Answers group old new d calls (of_tree f)
+          by (BucketFull next depth) refuses stops group clean fails = by_reason group why.Bucket clean (λ entry history ready g stand first e began stands.
               (refuses (origin_of entry.entry) old.room.room.sealed history (is_ready entry history ready g stand)).cause e first began)
-          by (Number id) refuses group clean fails = by_reason group why.Number clean (λ entry history ready g stand first e began stands.
+          by (Number id) refuses stops group clean fails = by_reason group why.Number clean (λ entry history ready g stand first e began stands.
               inl ((refuses (origin_of entry.entry) old.room.room.sealed history (is_ready entry history ready g stand)).cause e first began))
-          by (Unfit id) refuses group clean fails = by_damage group _ clean (λ entry history ready g stand first e began stands.
-              (refuses (origin_of entry.entry) old.room.room.sealed history (is_ready entry history ready g stand)).cause e first began)
-          by NoMemory refuses group clean fails = by_fault group run_fault.Memory (λ entry history ready g stand. tt)
-          by (Source fetch_fault.NoMemory) refuses group clean fails = by_fault group run_fault.Memory (λ entry history ready g stand. tt)
-          by (Source fetch_fault.Failed) refuses group clean fails = by_fault group run_fault.Disk (λ entry history ready g stand.
-              subst (λ s. Fails (shelf_of old) fetch_fault.Failed s) (sym shelf_is) (on_shelf.fails fetch_fault.Failed fails))
-          by (Source (fetch_fault.BadRow region at)) refuses group clean fails = by_damage group _ clean (λ entry history ready g stand. bad (on_shelf.fails (fetch_fault.BadRow region at) fails).0 entry history g)
-          by (Source (fetch_fault.BadIndex region at)) refuses group clean fails = by_damage group _ clean (λ entry history ready g stand. bad (on_shelf.fails (fetch_fault.BadIndex region at) fails).0 entry history g)
+          by (Unfit id) refuses stops group clean fails = by_damage group (damage.Node id) clean (λ entry history ready g stand first e began stands.
+              (refuses (origin_of entry.entry) old.room.room.sealed history (is_ready entry history ready g stand)).cause e first began) (node id stops)
+          by NoMemory refuses stops group clean fails = by_fault group run_fault.Memory (λ entry history ready g stand. tt) (λ entry history ready g stand. no_memory entry history)
+          by (Source fetch_fault.NoMemory) refuses stops group clean fails = by_fault group run_fault.Memory (λ entry history ready g stand. tt) (λ entry history ready g stand. no_memory entry history)
+          by (Source fetch_fault.Failed) refuses stops group clean fails = by_fault group run_fault.Disk (λ entry history ready g stand.
+              subst (λ s. Fails (shelf_of old) fetch_fault.Failed s) (sym shelf_is) (on_shelf.fails fetch_fault.Failed fails)) (λ entry history ready g stand. no_disk entry history)
+          by (Source (fetch_fault.BadRow region at)) refuses stops group clean fails = by_damage group (damage.Region region at) clean (λ entry history ready g stand. bad (on_shelf.fails (fetch_fault.BadRow region at) fails).0 entry history g)
+              (place (fetch_fault.BadRow region at) region at (inl refl) fails)
+          by (Source (fetch_fault.BadIndex region at)) refuses stops group clean fails = by_damage group (damage.Region region at) clean (λ entry history ready g stand. bad (on_shelf.fails (fetch_fault.BadIndex region at) fails).0 entry history g)
+              (place (fetch_fault.BadIndex region at) region at (inr refl) fails)

@@ -17,7 +17,7 @@ use Rattle.btree_nodes.specs.declared.fault.TreeFault.{TreeFault}
 use Rattle.txn_draft.specs.Answers.{FailsBy}
 use Rattle.txn_draft.specs.Drafts.{DraftValue}
 use Rattle.partition_hold.specs.Sources as source
-use Rattle.partition_hold.specs.Sources.{tells_rows}
+use Rattle.partition_hold.specs.Sources.{finds_in, tells_rows}
 use Rattle.partition_hold.specs.Views.{ViewValue}
 use Rattle.epoch_room.specs.Fitting.{fit_of}
 use Rattle.epoch_room.specs.Steps.{appended}
@@ -27,6 +27,7 @@ use Rattle.room_shelf.specs.Shelves.{IsShelf}
 use Rattle.open_txn.specs.Buckets.{BucketsValue}
 use Rattle.open_txn.specs.Opened as opened
 use Rattle.open_txn.specs.Opened.{AnswersCalls, IsOpen, IsRefusal}
+use Rattle.open_txn.specs.Traces.{AllDone, StopsAt}
 use Rattle.open_txn.proofs.Ended.{abort_law, follows_law}
 use Rattle.txn_runner.specs.Body.{Body, IsHeld, RunnerValue, body}
 use Rattle.txn_runner.specs.Steps.{Answers, Appends, Looks, MakesPlace, TakesBack, TriesToCommit, of_fetch, of_tree}
@@ -51,24 +52,26 @@ module _ (old looked : RunnerValue) (looking : Result ViewValue FetchFault) (loo
 
     pub answers : (u : Unit {0}) → answer ≡ Ok u → OnOk answer (AnswersCalls calls d)
         → OnOk answer ((log : Origin) (low : ℕ) (history : List Commit) → opened.IsReady (tells_rows view) view.upto log low before history → IsOpen log low history before now d)
-        → (group : ℕ) → Answers group (body old before) (body again now) d calls (Ok None)
-    answers u is_ok all open_now group = subst (λ (v : RunnerValue). Answers group (body old before) (body (record { room = v.room; view = Some read; full = v.full; ended = v.ended }) now) d calls (Ok None)) (sym is)
+        → OnOk answer (AllDone (tells_rows view) (finds_in view) view.upto calls d.rows before now) → (group : ℕ) → Answers group (body old before) (body again now) d calls (Ok None)
+    answers u is_ok all open_now done group = subst (λ (v : RunnerValue). Answers group (body old before) (body (record { room = v.room; view = Some read; full = v.full; ended = v.ended }) now) d calls (Ok None)) (sym is)
         (answering.answered (body old before) (body looked before) view read looks_ok later now d calls group
         (subst (λ (a : Result (Unit {0}) TreeFault). OnCleanAnswer a (source.IsClean view read)) is_ok clean)
         (subst (λ (a : Result (Unit {0}) TreeFault). OnOk a (AnswersCalls calls d)) is_ok all)
         (subst (λ (a : Result (Unit {0}) TreeFault).
-        OnOk a ((log : Origin) (low : ℕ) (history : List Commit) → opened.IsReady (tells_rows view) view.upto log low before history → IsOpen log low history before now d)) is_ok open_now))
+        OnOk a ((log : Origin) (low : ℕ) (history : List Commit) → opened.IsReady (tells_rows view) view.upto log low before history → IsOpen log low history before now d)) is_ok open_now)
+        (subst (λ (a : Result (Unit {0}) TreeFault). OnOk a (AllDone (tells_rows view) (finds_in view) view.upto calls d.rows before now)) is_ok done))
 
     pub refuses : (fault : TreeFault) → answer ≡ Err fault → IfErr answer (FailsBy (λ failed. source.Fails view failed read))
         → IfErr answer (λ f. (log : Origin) (low : ℕ) (history : List Commit) → opened.IsReady (tells_rows view) view.upto log low before history → IsRefusal log low history before now calls f)
-        → (new : BucketsValue) → TakesBack (body again now) (body again new) → (told : Result (Option Why) RunFault) → told ≡ of_tree fault → (group : ℕ) → Answers group (body old before) (body again new) d calls told
-    refuses fault is_err fails refused new back told is_told group = subst (Answers group (body old before) (body again new) d calls) (sym is_told)
+        → IfErr answer (λ f. StopsAt (tells_rows view) (finds_in view) view.upto calls f before now) → (new : BucketsValue) → TakesBack (body again now) (body again new) → (told : Result (Option Why) RunFault) → told ≡ of_tree fault → (group : ℕ) → Answers group (body old before) (body again new) d calls told
+    refuses fault is_err fails refused stopped new back told is_told group = subst (Answers group (body old before) (body again new) d calls) (sym is_told)
         (subst (λ (v : RunnerValue).
         TakesBack (body (record { room = v.room; view = Some read; full = v.full; ended = v.ended }) now) (body (record { room = v.room; view = Some read; full = v.full; ended = v.ended }) new)
         → Answers group (body old before) (body (record { room = v.room; view = Some read; full = v.full; ended = v.ended }) new) d calls (of_tree fault)) (sym is)
         (λ taken. answering.takes_back (body old before) (body looked before) view read looks_ok later now d calls (body (record { room = looked.room; view = Some read; full = looked.full; ended = looked.ended }) new) taken fault
         (subst (λ (a : Result (Unit {0}) TreeFault).
         IfErr a (λ f. (log : Origin) (low : ℕ) (history : List Commit) → opened.IsReady (tells_rows view) view.upto log low before history → IsRefusal log low history before now calls f)) is_err refused)
+        (subst (λ (a : Result (Unit {0}) TreeFault). IfErr a (λ f. StopsAt (tells_rows view) (finds_in view) view.upto calls f before now)) is_err stopped)
         group
         (subst (λ (a : Result (Unit {0}) TreeFault). OnCleanAnswer a (source.IsClean view read)) is_err clean)
         (subst (λ (a : Result (Unit {0}) TreeFault). IfErr a (FailsBy (λ failed. source.Fails view failed read))) is_err fails)) back)

@@ -20,7 +20,7 @@ use Rattle.epoch_room.specs.Steps.{appended}
 use Rattle.epoch_room.specs.Value.{RoomValue}
 use Rattle.room_shelf.specs.Shelves.{IsShelf, ShelfValue}
 use Rattle.room_shelf.specs.Shelves.{count_of as count_seen}
-use Rattle.open_txn.specs.Buckets.{BucketsValue}
+use Rattle.open_txn.specs.Buckets.{BucketsValue, StandAll}
 use Rattle.open_txn.specs.Opened.{AbortLaw, FollowsLaw, IsOpen, IsToUndo}
 use Rattle.room_steps.specs.Steps.{MakesOr}
 use Rattle.run_laws.specs.Going.{Commits}
@@ -32,9 +32,13 @@ use Rattle.run_laws.proofs.Going.{commits_law}
 use Rattle.run_laws.proofs.Readings.{legal_law}
 use Rattle.run_laws.proofs.Tellings.{told_stays}
 use Rattle.txn_runner.specs.Body.{Body, Goes, IsGoing, Stand, count_of, shelf_of}
+use Rattle.txn_runner.specs.Follows.{Follows}
+use Rattle.txn_runner.specs.Opening.{Opens}
 use Rattle.txn_runner.specs.Steps.{Appends, IsEndOf, Leaves, LeavesFault, LeavesWell, MakesPlace, TakesBack, TellsWith, TriesToCommit, WasInNeed}
+use Rattle.txn_runner.proofs.Keeping.{blames_calls, opens_on, step_blames, taken_back}
 use Rattle.txn_runner.proofs.Making as making
 use Rattle.txn_runner.proofs.Needs as needs
+use Rattle.txn_runner.proofs.Opening as opening
 use Rattle.txn_runner.proofs.Steady.{same_history}
 
 -- ---- what is left of a body with an entry more
@@ -60,7 +64,8 @@ module _ (abort : AbortLaw) (follows : FollowsLaw) (group : ℕ) (old made : Bod
   -- ---- it is committed
 
   module _ (m : MakesPlace (cost d.rows) old made (Ok None)) (new : Body) (next : Outcome) (a : Appends d made new next) (entry : RoomValue) (history : List Commit) (low : ℕ) (taken : BucketsValue)
-      (ready : IsReady entry) (g : IsGoing group entry old history) (since : low ≤ old.room.room.sealed) (open_now : IsOpen (origin_of entry.entry) low history taken old.buckets d) where
+      (ready : IsReady entry) (g : IsGoing group entry old history) (since : low ≤ old.room.room.sealed) (open_now : IsOpen (origin_of entry.entry) low history taken old.buckets d)
+      (opens : Opens (origin_of entry.entry) old.room.room old.buckets history d.calls d.rows) where
     abbrev c : Commit
     c = record { entry = entry_of d; epoch = made.room.room.sealed + 1 }
 
@@ -128,11 +133,22 @@ module _ (abort : AbortLaw) (follows : FollowsLaw) (group : ℕ) (old made : Bod
     leaves_new : Leaves group entry old new history (c ∷ [])
     leaves_new = record { goes = goes_new; few = few_new; becomes = becomes_on old.room.room made.room.room new.room.room m.makes.leaves.becomes a.becomes; ended = ended_made ∙ ap (λ (b : Body). b.ended) m.rest }
 
-    stand_new : Stand entry new (history ++ c ∷ [])
-    stand_new =
+    all_new : StandAll (origin_of entry.entry) new.room.room.sealed new.buckets (history ++ c ∷ [])
+    all_new =
         let same = sealed in
         let grew = m.makes.leaves.becomes.sealed in
         a.buckets (origin_of entry.entry) low new.room.room.sealed history taken d c open_made refl refl below (omega (arith, same, grew, since)) (omega (arith, same))
+
+    opens_made : Opens (origin_of entry.entry) made.room.room made.buckets history d.calls d.rows
+    opens_made = opens_on (cost d.rows) entry old made (Ok None) history d.calls d.rows ready g.goes.room m opens
+
+    stand_new : Stand entry new (history ++ c ∷ [])
+    stand_new = record {
+      all = all_new;
+      follows = subst (λ (r : RoomValue). Follows (origin_of entry.entry) r.room new.buckets (history ++ c ∷ [])) (sym a.room)
+          (opening.commits (origin_of entry.entry) made.room made.buckets new.buckets history c (made.room.room.sealed + 1) made.room.room.sealed opens_made a.left refl
+          (subst (λ n. StandAll (origin_of entry.entry) n new.buckets (history ++ c ∷ [])) sealed all_new));
+    }
 
     in_need_new : WasInNeed group entry old history → WasInNeed group entry new (history ++ c ∷ [])
     in_need_new n = needs.committed group entry history (cost d.rows) old made (Ok None) m g.goes.room n.0 m.makes.makes new c refl a.room (ap (λ (b : Body). b.full) a.rest) refl n.1
@@ -144,23 +160,33 @@ module _ (abort : AbortLaw) (follows : FollowsLaw) (group : ℕ) (old made : Bod
     committed = (record { leaves = leaves_new; stand = stand_new; in_need = in_need_new; told = told_new }, (place, (let e = sealed in omega (arith, e)), refl))
 
   pub commits_it : MakesPlace (cost d.rows) old made (Ok None) → (new : Body) (next : Outcome) → Appends d made new next → TriesToCommit group old new d (Ok next)
-  commits_it m new next a = subst (λ o. TriesToCommit group old new d (Ok o)) (sym a.is) (λ entry history low taken ready g since open_now. committed m new next a entry history low taken ready g since open_now)
+  commits_it m new next a = subst (λ o. TriesToCommit group old new d (Ok o)) (sym a.is) (λ entry history low taken ready g since open_now opens. committed m new next a entry history low taken ready g since open_now opens)
 
   -- ---- it is taken back
 
   module _ (result : Result (Option Why) RunFault) (m : MakesPlace (cost d.rows) old made result) (new : Body) (back : TakesBack made new) (entry : RoomValue) (history : List Commit) (low : ℕ) (taken : BucketsValue)
-      (ready : IsReady entry) (g : IsGoing group entry old history) (since : low ≤ old.room.room.sealed) (open_now : IsOpen (origin_of entry.entry) low history taken old.buckets d) where
+      (ready : IsReady entry) (g : IsGoing group entry old history) (since : low ≤ old.room.room.sealed) (open_now : IsOpen (origin_of entry.entry) low history taken old.buckets d)
+      (opens : Opens (origin_of entry.entry) old.room.room old.buckets history d.calls d.rows) where
     to_undo : IsToUndo (origin_of entry.entry) low history taken made.buckets
     to_undo = subst (IsToUndo (origin_of entry.entry) low history taken) (sym (ap (λ (b : Body). b.buckets) m.rest)) (abort (origin_of entry.entry) low history taken old.buckets d open_now)
 
     room_same : new.room ≡ made.room
     room_same = ap (λ (b : Body). b.room) back.rest
 
-    stand_back : Stand entry new history
-    stand_back =
+    all_back : StandAll (origin_of entry.entry) new.room.room.sealed new.buckets history
+    all_back =
         let same = ap (λ (r : RoomValue). r.room.sealed) room_same in
         let grew = m.makes.leaves.becomes.sealed in
         back.buckets (origin_of entry.entry) low new.room.room.sealed history taken to_undo (omega (arith, same, grew, since)) (omega (arith, same))
+
+    stand_back : Stand entry new history
+    stand_back = taken_back entry made new history d.calls d.rows back (opens_on (cost d.rows) entry old made result history d.calls d.rows ready g.goes.room m opens) all_back
+
+    follows_made : Follows (origin_of entry.entry) made.room.room new.buckets history
+    follows_made = subst (λ (r : RoomValue). Follows (origin_of entry.entry) r.room new.buckets history) room_same stand_back.follows
+
+    goes_then : Goes entry made history
+    goes_then = making.goes group (cost d.rows) old made some result m entry history ready g
 
     leaves_made : Leaves group entry old made history []
     leaves_made = making.leaves group (cost d.rows) old made some result m entry history ready g
@@ -194,7 +220,7 @@ module _ (abort : AbortLaw) (follows : FollowsLaw) (group : ℕ) (old made : Bod
         (d.rows, (open_now.answered e first began).is_pushed, let r = is.1 in let same = ap (λ (s : ShelfValue). s.room.room.region_len) is.0 in omega (arith, r, same))
     reason some_place why.Number is first e began stands = ⊎_elim (λ spent. inr spent) (λ spent. absurd (omega (arith, spent, some_place))) is.1
     reason some_place why.Bucket is first e began stands = absurd is
-    reason some_place why.Full is first e began stands = (making.goes group (cost d.rows) old made some result m entry history ready g).stuck is.3 first e began stands
+    reason some_place why.Full is first e began stands = goes_then.stuck is.3 first e began stands
 
     pub refused : old.room.room.places < greatest → (word : Why) → result ≡ Ok (Some word) → LeavesWell group entry old new history [] × IsEndOf entry history d new (outcome.Refused word)
     refused some_place word is = (
@@ -211,17 +237,21 @@ module _ (abort : AbortLaw) (follows : FollowsLaw) (group : ℕ) (old made : Bod
         makes : MakesOr (cost d.rows) (shelf_of old) (shelf_of made) old.full made.full (Ok (Some word))
         makes = subst (MakesOr (cost d.rows) (shelf_of old) (shelf_of made) old.full made.full) is m.makes.makes
 
-    pub failed : (fault : RunFault) → result ≡ Err fault → LeavesFault group entry old new history fault
+    pub failed : (fault : RunFault) → result ≡ Err fault → LeavesFault group entry old new history d.calls fault
     failed fault is = record {
       leaves = leaves_back;
       stand = stand_back;
       in_need = in_need_back;
       told = subst (λ (b : Body). TellsWith entry b fault) (sym back.rest)
-          (making.told_fault group (cost d.rows) old made some result m entry history ready g fault (subst (MakesOr (cost d.rows) (shelf_of old) (shelf_of made) old.full made.full) is m.makes.makes));
+          (making.told_fault group (cost d.rows) old made some result m entry history ready g fault makes);
+      blames = blames_calls entry history d.calls fault (step_blames entry (shelf_of old) (shelf_of made) new.buckets history ready goes_then.room follows_made fault makes.0);
     }
+      where
+        makes : MakesOr (cost d.rows) (shelf_of old) (shelf_of made) old.full made.full (Err fault)
+        makes = subst (MakesOr (cost d.rows) (shelf_of old) (shelf_of made) old.full made.full) is m.makes.makes
 
   pub refuses_it : old.room.room.places < greatest → (word : Why) → MakesPlace (cost d.rows) old made (Ok (Some word)) → (new : Body) → TakesBack made new → TriesToCommit group old new d (Ok (outcome.Refused word))
-  refuses_it some_place word m new back entry history low taken ready g since open_now = refused (Ok (Some word)) m new back entry history low taken ready g since open_now some_place word refl
+  refuses_it some_place word m new back entry history low taken ready g since open_now opens = refused (Ok (Some word)) m new back entry history low taken ready g since open_now opens some_place word refl
 
   pub fails_it : (fault : RunFault) → MakesPlace (cost d.rows) old made (Err fault) → (new : Body) → TakesBack made new → TriesToCommit group old new d (Err fault)
-  fails_it fault m new back entry history low taken ready g since open_now = failed (Err fault) m new back entry history low taken ready g since open_now fault refl
+  fails_it fault m new back entry history low taken ready g since open_now opens = failed (Err fault) m new back entry history low taken ready g since open_now opens fault refl

@@ -11,6 +11,7 @@ use Rattle.fine_model.specs.declared.RunFault.TheVariants as run_fault
 use Rattle.fine_model.specs.declared.ScriptTxn.{ScriptTxn}
 use Rattle.fine_model.specs.declared.law.RoomState.{RoomState}
 use Rattle.fine_model.specs.Becomes.{Becomes}
+use Rattle.node_cache.specs.Cache.{after as settled_under, before as as_before}
 use Rattle.txn_draft.specs.Drafts.{DraftValue, entry_of}
 use Rattle.partition_hold.specs.Views.{ViewValue}
 use Rattle.epoch_room.specs.Fitting.{counts_of}
@@ -22,10 +23,10 @@ use Rattle.epoch_room.specs.declared.answers.Counts.{Counts}
 use Rattle.epoch_room.specs.declared.answers.Stamp.{Stamp}
 use Rattle.room_shelf.specs.Shelves.{Rests, shelf}
 use Rattle.open_txn.specs.Buckets.{BucketsValue}
-use Rattle.open_txn.specs.Opened.{SettlesAll, UndoesAll}
+use Rattle.open_txn.specs.Opened.{LeavesEach, SettlesAll, UndoesAll}
 use Rattle.room_steps.specs.Steps.{SealsWaiting, Tidies}
 use Rattle.run_laws.specs.Lanes.{first_fault, with_last}
-use Rattle.run_laws.specs.Runs.{IsReady, RunsBy, any_damage}
+use Rattle.run_laws.specs.Runs.{IsReady, RunsLanes}
 use Rattle.run_laws.specs.Turns.{commits_of}
 use Rattle.txn_runner.specs.Body.{RunnerValue, RunsSoFar, body}
 use Rattle.txn_runner.specs.Steps.{Appends, Closes, IsClosed, SealsAll, TakesBack}
@@ -54,14 +55,15 @@ module _ (inside old : RunnerValue) (is : inside ≡ old) where
   abbrev moved : RoomValue → Option ViewValue → RunnerValue
   moved room view = record { room = room; view = view; full = inside.full; ended = inside.ended }
 
-  pub take_back : (before after : BucketsValue) (k : Counts) → k ≡ counts_of inside.room.room → IsWhole inside.room → UndoesAll k.sealed before after → TakesBack (body old before) (body old after)
-  take_back before after k counts whole undoes = subst (λ v. TakesBack (body v before) (body v after)) is
-      (record { buckets = subst (λ n. UndoesAll n before after) (sealed_of k inside.room.room counts) undoes; rest = refl; whole = whole })
+  pub take_back : (before after : BucketsValue) (k : Counts) → k ≡ counts_of inside.room.room → IsWhole inside.room → UndoesAll k.sealed before after → LeavesEach k.sealed as_before before after → TakesBack (body old before) (body old after)
+  take_back before after k counts whole undoes left = subst (λ v. TakesBack (body v before) (body v after)) is
+      (record { buckets = subst (λ n. UndoesAll n before after) (sealed_of k inside.room.room counts) undoes; left = subst (λ n. LeavesEach n as_before before after) (sealed_of k inside.room.room counts) left; rest = refl; whole = whole })
 
   pub append : (d : DraftValue) (rows : List Row) → rows ≡ d.rows → (before after : BucketsValue) (k : Counts) → k ≡ counts_of inside.room.room → (stamp : Stamp) → stamp ≡ record { place = inside.room.room.places + 1; epoch = inside.room.room.sealed + 1 }
       → (room : RoomValue) → room ≡ appended inside.room rows → StandsForMore inside.room room rows → Becomes inside.room.room room.room → IsWhole room → (entry : Entry) → entry ≡ entry_of d → SettlesAll stamp.epoch k.sealed before after
+      → LeavesEach k.sealed (λ b. settled_under b stamp.epoch) before after
       → Appends d (body old before) (body (moved room inside.view) after) (outcome.Committed stamp.place stamp.epoch entry)
-  append d rows same before after k counts stamp stamped room appends stands becomes whole entry is_entry settles =
+  append d rows same before after k counts stamp stamped room appends stands becomes whole entry is_entry settles left =
       subst (λ v. Appends d (body v before) (body (moved room inside.view) after) (outcome.Committed stamp.place stamp.epoch entry)) is (record {
         is = ap (λ (s : Stamp). outcome.Committed s.place s.epoch entry) stamped ∙ ap (λ e. outcome.Committed (inside.room.room.places + 1) (inside.room.room.sealed + 1) e) is_entry;
         room = appends ∙ ap (appended inside.room) same;
@@ -69,6 +71,8 @@ module _ (inside old : RunnerValue) (is : inside ≡ old) where
         becomes = becomes;
         whole = whole;
         buckets = subst (λ n. SettlesAll n inside.room.room.sealed before after) (ap (λ (s : Stamp). s.epoch) stamped) (subst (λ n. SettlesAll stamp.epoch n before after) (sealed_of k inside.room.room counts) settles);
+        left = subst (λ n. LeavesEach inside.room.room.sealed (λ b. settled_under b n) before after) (ap (λ (s : Stamp). s.epoch) stamped)
+            (subst (λ n. LeavesEach n (λ b. settled_under b stamp.epoch) before after) (sealed_of k inside.room.room counts) left);
         rest = refl;
       })
 
@@ -105,7 +109,7 @@ module _ (inside old : RunnerValue) (is : inside ≡ old) where
 -- what a run gives behind the last transaction
 pub finish : (old new inside : RunnerValue) → inside ≡ new → (last : Option RunFault) → ((buckets : BucketsValue) → Closes (body old buckets) (body new buckets) last) → (outcomes : List Outcome) (k : Counts) → k ≡ counts_of inside.room.room
     → (fault : Option RunFault) → fault ≡ first_fault (with_last inside.ended last) → (script : List ScriptTxn) (options : Options) (entry : RoomValue) (buckets : BucketsValue) → IsReady entry
-    → RunsSoFar script options (length script) entry (body old buckets) outcomes → RunsBy any_damage script options entry inside.room (record { outcomes = outcomes; durable = k.sealed; fault = fault })
+    → RunsSoFar script options (length script) entry (body old buckets) outcomes → RunsLanes script options entry inside.room (record { outcomes = outcomes; durable = k.sealed; fault = fault })
 finish old new inside is last closes outcomes k counts fault told script options entry buckets ready s =
     looping.finishes script options entry (body old buckets) outcomes s ready (body inside buckets) last (subst (λ v. IsClosed entry (body old buckets) (body v buckets) (commits_of s.done) last) (sym is) closed)
     (record { outcomes = outcomes; durable = k.sealed; fault = fault })
@@ -124,6 +128,6 @@ finish_entry old new inside is last closes outcomes script options entry buckets
 
 -- and where there was no memory to begin
 pub not_begun : (room : RoomValue) → IsReady room → (outcomes : List Outcome) → outcomes ≡ [] → (k : Counts) → k ≡ counts_of room.room → (script : List ScriptTxn) (options : Options)
-    → RunsBy any_damage script options room room (record { outcomes = outcomes; durable = k.sealed; fault = Some run_fault.Memory })
+    → RunsLanes script options room room (record { outcomes = outcomes; durable = k.sealed; fault = Some run_fault.Memory })
 not_begun room ready outcomes none k counts script options = looping.not_begun script options room (record { outcomes = outcomes; durable = k.sealed; fault = Some run_fault.Memory }) ready
     (ap (λ os. record { outcomes = os; durable = k.sealed; fault = Some run_fault.Memory }) none ∙ ap (λ n. record { outcomes = []; durable = n; fault = Some run_fault.Memory }) (sealed_of k room.room counts))

@@ -26,6 +26,7 @@ use Rattle.damage_laws.specs.Goings.{GoBy}
 use Rattle.damage_laws.specs.Made.{AreMadeOf, IsMadeOf, Made, all_of, at_entry, one, sources}
 use Rattle.damage_laws.specs.Places.{AreKeptOrGood}
 use Rattle.damage_laws.proofs.MergedFinds.{all_of-append}
+use Rattle.damage_laws.proofs.There.{new_there}
 use Rattle.epoch_room.specs.Meaning.{origin_of}
 use Rattle.epoch_room.specs.Value.{RoomValue}
 use Rattle.epoch_room.specs.Whole.{HoldsParts, IsWhole}
@@ -105,6 +106,7 @@ new_goes : (region_len : ℕ) (image : Image) (parts : List Part) (k : ℕ) → 
 new_goes region_len image parts k = record {
   gives = record { nodes = λ n. (node.Broken, 0); found = λ n. inr refl; goes = refl; gives = λ n here. absurd (let x = here in cc) };
   firm = λ n known. absurd (⊎_elim (λ fine. fine refl) (λ some. some refl) known);
+  there = new_there k;
 }
 
 pub begins : BeginsLaw
@@ -249,6 +251,7 @@ step log old new buckets history published was_whole whole len m sealed_or stand
   each = λ k c at. record {
     gives = (a.each k c at).gives;
     firm = step_firm log.region_len old new a.sealed was now c.bucket (a.each k c at).gives.nodes (calls_in c.bucket history) history len m lives is_was is_now a.follows.rows (a.each k c at).gives.goes (a.each k c at).firm;
+    there = (a.each k c at).there;
   };
 }
   where

@@ -4,8 +4,10 @@ pub mod Commits
 pub mod Exits
 pub mod FirmOn
 pub mod Following
+pub mod Keeping
 pub mod Looping
 pub mod Making
+pub mod Naming
 pub mod Needs
 pub mod Opening
 pub mod Placing

@@ -17,7 +17,7 @@ use Rattle.fine_model.specs.declared.law.RoomState.{RoomState}
 use Rattle.fine_model.specs.Buckets.{IsUpTo, has_row_on, node_id}
 use Rattle.fine_model.specs.Chain.{chain, regions_of}
 use Rattle.fine_model.specs.ChainLaws.{SameIn}
-use Rattle.fine_model.specs.Damages.{calls_on}
+use Rattle.fine_model.specs.Damages.{MeetsUnfit, calls_on}
 use Rattle.fine_model.specs.History.{Commit, all_rows}
 use Rattle.fine_model.specs.Nodes.{Content, is_node, rows_of}
 use Rattle.fine_model.specs.Pushed.{key_of}
@@ -52,7 +52,7 @@ use Rattle.open_txn.specs.Traces.{AllDone, DoAll, Refused, StopsAt, rows_in}
 use Rattle.open_txn.proofs.TraceLaws.{number_law}
 use Rattle.run_laws.specs.Needs.{IsSealed, Unsealed}
 use Rattle.txn_runner.specs.Follows.{AllFollow, GoesIn, RoomFollows, calls_in}
-use Rattle.txn_runner.specs.Opening.{AllOpen, AnswersLaw, BucketAt, CommitsLaw, GivesUpLaw, IsRead, MeetsOr, NodeLaw, OpenStepLaw, OpensIn, RefusesLaw, blind}
+use Rattle.txn_runner.specs.Opening.{AllOpen, AnswersLaw, BucketAt, CommitsLaw, GivesUpLaw, IsRead, NodeLaw, OpenStepLaw, OpensIn, RefusesLaw, blind}
 use Rattle.txn_runner.proofs.Following.{all_split, bucket_at, counts_by, made_itself, nothing_behind, own_rows, rows_in-append, step_firm, step_room}
 use Rattle.txn_runner.proofs.Placing as placing
 
@@ -90,7 +90,7 @@ module _ (eye : Eye) (entry now : Image) (parts present : List Part) (sealed : L
   OpenFor e = IsOpen e entry now parts present sealed b calls own done rows log
 
   unseen : (region_len : ℕ) → eye.region_len ≡ region_len → IsOpen eye entry now parts present sealed b calls own done rows log → IsOpen (blind region_len) entry now parts present sealed b calls own done rows log
-  unseen region_len e o = subst (λ n. IsOpen (blind n) entry now parts present sealed b calls own done rows log) e (record { opened = o.opened; firm = o.firm; saved = o.saved; absent = o.absent })
+  unseen region_len e o = subst (λ n. IsOpen (blind n) entry now parts present sealed b calls own done rows log) e (record { opened = o.opened; firm = o.firm; saved = o.saved; absent = o.absent; there = o.there })
 
 rests_by : (eye : Eye) (region_len : ℕ) (entry now : Image) (parts present : List Part) (sealed : List (List Row)) (history : List Commit) (c : Cache) → eye.region_len ≡ region_len → IsResting c
     → HasAbsentSealed sealed c (rows_in c.bucket (all_of sealed)) (rows_in c.bucket (all_rows history)) → GoesIn region_len entry now parts present sealed c history
@@ -98,14 +98,14 @@ rests_by : (eye : Eye) (region_len : ℕ) (entry now : Image) (parts present : L
 rests_by eye region_len entry now parts present sealed history c e resting absent g = of (subst (λ n. GoesIn n entry now parts present sealed c history) (sym e) g)
   where
     of : GoesIn eye.region_len entry now parts present sealed c history → Rests eye entry now parts present sealed c (calls_in c.bucket history) (rows_in c.bucket (all_of sealed)) (rows_in c.bucket (all_rows history))
-    of h = record { gives = h.gives; firm = h.firm; resting = resting; absent = absent }
+    of h = record { gives = h.gives; firm = h.firm; resting = resting; absent = absent; there = h.there }
 
 goes_by : (eye : Eye) (region_len : ℕ) (entry now : Image) (parts present : List Part) (sealed : List (List Row)) (history : List Commit) (c : Cache) (k : ℕ) → eye.region_len ≡ region_len → c.bucket ≡ k
     → Rests eye entry now parts present sealed c (calls_in k history) (rows_in k (all_of sealed)) (rows_in k (all_rows history)) → GoesIn region_len entry now parts present sealed c history
 goes_by eye region_len entry now parts present sealed history c k e number r = subst (λ n. GoesIn n entry now parts present sealed c history) e (of (subst (λ b. Rests eye entry now parts present sealed c (calls_in b history) (rows_in b (all_of sealed)) (rows_in b (all_rows history))) (sym number) r))
   where
     of : Rests eye entry now parts present sealed c (calls_in c.bucket history) (rows_in c.bucket (all_of sealed)) (rows_in c.bucket (all_rows history)) → GoesIn eye.region_len entry now parts present sealed c history
-    of h = record { gives = h.gives; firm = h.firm }
+    of h = record { gives = h.gives; firm = h.firm; there = h.there }
 
 -- ---- what an end leaves
 
@@ -177,7 +177,7 @@ module _ (log : Origin) (room : RoomValue) (view : ViewValue) (taken : BucketsVa
       → IsOpen view.eye entry shown.image parts room.room.parts a.sealed c (calls_in c.bucket history) [] (rows_in c.bucket (all_of a.sealed)) (rows_in c.bucket (all_rows history)) []
   opens k c at = followed.begins view.eye entry shown.image parts room.room.parts a.sealed c (calls_in c.bucket history) (rows_in c.bucket (all_of a.sealed)) (rows_in c.bucket (all_rows history))
       (rests_by view.eye log.region_len entry shown.image parts room.room.parts a.sealed history c len (r.stand.each k c at).settled (absent_of log.region_len entry now parts a.sealed room.room history a.follows log k c (r.stand.each k c at))
-      (record { gives = (a.each k c at).gives; firm = merged_all log.region_len now shown.image room.room.parts room.room.parts c.bucket (a.each k c at).gives.nodes (rows_in c.bucket (all_of a.sealed)) there_made (a.each k c at).firm }))
+      (record { gives = (a.each k c at).gives; firm = merged_all log.region_len now shown.image room.room.parts room.room.parts c.bucket (a.each k c at).gives.nodes (rows_in c.bucket (all_of a.sealed)) there_made (a.each k c at).firm; there = (a.each k c at).there }))
 
   -- behind some of them
   opens_on : (k : ℕ) (c c' : Cache) (calls : List Call) (rows : List Row) → slice_get taken.buckets k ≡ Some c → DoAll (tells_rows view) (finds_in view) view.upto calls rows c c'
@@ -193,7 +193,7 @@ module _ (log : Origin) (room : RoomValue) (view : ViewValue) (taken : BucketsVa
   as_read c calls own done rows log' o = of (unseen view.eye entry shown.image parts room.room.parts a.sealed c calls own done rows log' log.region_len len o)
     where
       of : IsOpen (blind log.region_len) entry shown.image parts room.room.parts a.sealed c calls own done rows log' → IsOpen (blind log.region_len) entry now parts room.room.parts a.sealed c calls own done rows log'
-      of h = record { opened = h.opened; firm = merged_all log.region_len shown.image now room.room.parts room.room.parts c.bucket h.opened.gives.nodes done back_made h.firm; saved = h.saved; absent = h.absent }
+      of h = record { opened = h.opened; firm = merged_all log.region_len shown.image now room.room.parts room.room.parts c.bucket h.opened.gives.nodes done back_made h.firm; saved = h.saved; absent = h.absent; there = h.there }
 
   module _ (opened : BucketsValue) (calls : List Call) (rows : List Row) (done : AllDone (tells_rows view) (finds_in view) view.upto calls rows taken opened) where
     open_at : (k : ℕ) → k < 256 → BucketAt (λ c. OpensIn log.region_len entry now parts room.room.parts a.sealed c history calls rows) opened k
@@ -235,17 +235,17 @@ module _ (log : Origin) (room : RoomValue) (view : ViewValue) (taken : BucketsVa
             of c b number' rests = as_now (goes_by view.eye log.region_len entry shown.image parts room.room.parts a.sealed history c' c.bucket len number' rests)
               where
                 as_now : GoesIn log.region_len entry shown.image parts room.room.parts a.sealed c' history → GoesIn log.region_len entry now parts room.room.parts a.sealed c' history
-                as_now g = record { gives = g.gives; firm = merged_all log.region_len shown.image now room.room.parts room.room.parts c'.bucket g.gives.nodes (rows_in c'.bucket (all_of a.sealed)) back_made g.firm }
+                as_now g = record { gives = g.gives; firm = merged_all log.region_len shown.image now room.room.parts room.room.parts c'.bucket g.gives.nodes (rows_in c'.bucket (all_of a.sealed)) back_made g.firm; there = g.there }
 
     all_undone : AllFollow log.region_len entry now parts room.room new history
     all_undone = record { sealed = a.sealed; follows = a.follows; each = goes_at }
 
   module _ (stopped : BucketsValue) (calls : List Call) (id : NodeId) (script : List ScriptTxn) (place : ℕ) (txn : ScriptTxn) (s : StopsAt (tells_rows view) (finds_in view) view.upto calls (Unfit id) taken stopped) (there : slice_get script place ≡ Some txn)
       (never : AllByRecursion (λ c. c.entry.turn ≢ place + 1) history) (of_txn : txn.calls ≡ calls) where
-    names_node : MeetsOr script history log.region_len entry parts id
+    names_node : MeetsUnfit (Ok script) ⊥ history log.region_len entry parts id
     names_node = by (bucket_at log room.room.sealed taken history r.stand id.bucket s.named)
       where
-        by : (c : Cache) × (slice_get taken.buckets id.bucket ≡ Some c) × (c.bucket ≡ id.bucket) → MeetsOr script history log.region_len entry parts id
+        by : (c : Cache) × (slice_get taken.buckets id.bucket ≡ Some c) × (c.bucket ≡ id.bucket) → MeetsUnfit (Ok script) ⊥ history log.region_len entry parts id
         by (c, at, number) = of_names mid (followed.names_at tells_rows finds_in (λ (v : ViewValue). v.upto) view script history view.eye entry shown.image parts room.room.parts a.sealed mid d.0 (length history) s.done (rows_in c.bucket (all_of a.sealed))
             (rows_in c.bucket (all_rows history)) (rows_in id.bucket s.rows) s.refused id sees found_by open_mid d.2.2 (subst (λ n. n < 256) (sym (same ∙ number)) s.named) (sym (same ∙ number))
             (record { place = place; txn = txn; rest = s.rest; there = there; none = never; calls = of_txn ∙ s.order }))
@@ -267,8 +267,8 @@ module _ (log : Origin) (room : RoomValue) (view : ViewValue) (taken : BucketsVa
                 (opens_on id.bucket c mid s.done (rows_in id.bucket s.rows) at d.2.1))
 
             of_names : (b : Cache) → Names script history view.eye entry shown.image parts room.room.parts a.sealed b (calls_on b.bucket (flat_map (λ e. e.entry.calls) (take (length history) history))) (calls_on b.bucket s.done) (rows_in c.bucket (all_of a.sealed))
-                (rows_in c.bucket (all_rows history)) (rows_in id.bucket s.rows) id → MeetsOr script history log.region_len entry parts id
-            of_names b n = subst (λ m. MeetsOr script history m entry parts id) len (record { loaded = n.loaded; content = n.open_then.opened.gives.nodes id.number; there = n.there; meets = n.meets })
+                (rows_in c.bucket (all_rows history)) (rows_in id.bucket s.rows) id → MeetsUnfit (Ok script) ⊥ history log.region_len entry parts id
+            of_names b n = subst (λ m. MeetsUnfit (Ok script) ⊥ history m entry parts id) len n.meets
 
 pub answers : AnswersLaw
 answers log room view taken opened history calls rows r done entry now parts is_log is_chain is_now = all_open log room view taken history r entry now parts is_log is_chain is_now opened calls rows done
@@ -304,6 +304,7 @@ module _ (log : Origin) (old new : RoomValue) (buckets : BucketsValue) (history 
       opened = open_now.opened;
       firm = step_firm log.region_len old new o.sealed was now c.bucket open_now.opened.gives.nodes (calls_in c.bucket history) history len m lives is_was is_now o.follows.rows open_now.opened.front open_now.firm;
       saved = open_now.saved;
+      there = open_now.there;
       absent = λ n none. absent_by (o.sealed ++ m.more) new.room.open_rows history c.bucket n then_follows.rows
           (nothing_behind (rows_of (node_id c.bucket n) (all_of m.more)) (rows_of (node_id c.bucket n) new.room.open_rows)
           (sym (rows_of-append (node_id c.bucket n) (all_of m.more) new.room.open_rows) ∙ ap (rows_of (node_id c.bucket n)) m.rows ∙ none_waits o.sealed old.room.open_rows history c.bucket n o.follows.rows (open_now.absent n none).0));

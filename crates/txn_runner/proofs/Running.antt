@@ -26,6 +26,7 @@ use Rattle.run_laws.proofs.Going.{few_end, few_less, few_more, few_wait}
 use Rattle.run_laws.proofs.Tellings.{more_by_lane}
 use Rattle.txn_runner.specs.Body.{Body, Goes, IsBetween, Stand, count_of}
 use Rattle.txn_runner.specs.Steps.{BehindTxns, EndsBy, EndsGroup, IsTried, LeavesFault, LeavesWell, RunsTxn, SealsAll, SealsOn, Tries, WasInNeed}
+use Rattle.txn_runner.proofs.Naming.{names_bad, names_calls, names_on}
 use Rattle.txn_runner.proofs.Needs as needs
 use Rattle.txn_runner.proofs.Steady.{few_none, same_history}
 
@@ -43,6 +44,9 @@ tells_now ended after lane fault long is_lane none ends set = record {
 ended_with : (b : Body) (ended : List (Option RunFault)) (entry : RoomValue) (history : List Commit) → Goes entry b history → Goes entry (record b { ended = ended }) history
 ended_with b ended entry history g = record { room = g.room; stuck = g.stuck; view = g.view }
 
+stand_with : (b : Body) (ended : List (Option RunFault)) (entry : RoomValue) (history : List Commit) → Stand entry b history → Stand entry (record b { ended = ended }) history
+stand_with b ended entry history s = record { all = s.all; follows = s.follows }
+
 module _ (group turn : ℕ) (some : 1 ≤ group) (txn : ScriptTxn) (is_lane : IsLane txn.lane) (old : Body) where
   -- ---- its lane had ended
 
@@ -51,6 +55,7 @@ module _ (group turn : ℕ) (some : 1 ≤ group) (txn : ScriptTxn) (is_lane : Is
     between = same_history (IsBetween group entry old) (commits_of done) b;
     becomes = becomes_itself old.room.room;
     comes = inl (refl, record { is = tt; number = tt; runs = inl (refl, is_ended); replied = tt });
+    names = names_on entry done txn outcome.NotRun tt old.ended old.ended refl;
     in_need = λ n. same_history (RunsInNeed group txn.lane entry old.room old.full old.ended) (commits_of done) n;
     refused = λ word (e : outcome.NotRun ≡ outcome.Refused word). absurd (let x = e in cc);
   }
@@ -103,6 +108,7 @@ module _ (group turn : ℕ) (some : 1 ≤ group) (txn : ScriptTxn) (is_lane : Is
         };
         becomes = well.leaves.becomes;
         comes = inl (well.leaves.ended, comes_mid);
+        names = names_on entry done txn next tried.number old.ended mid.ended well.leaves.ended;
         in_need = λ n. let w = in_need_mid n in record { so_far = w.0; ends = λ goes. w.1 };
         refused = tried.refused;
       }
@@ -118,6 +124,7 @@ module _ (group turn : ℕ) (some : 1 ≤ group) (txn : ScriptTxn) (is_lane : Is
             between = record { going = record { goes = s.0.goes; few = few_none group entry new.room new.ended (history ++ more) some s.0.goes.room s.2.waiting most; told = s.1 }; stand = s.0.stand };
             becomes = becomes_on old.room.room mid.room.room new.room.room well.leaves.becomes s.0.becomes;
             comes = inl (s.0.ended ∙ well.leaves.ended, subst (λ ended. ComesNext done ended txn next) (sym s.0.ended) comes_mid);
+            names = names_on entry done txn next tried.number old.ended new.ended (s.0.ended ∙ well.leaves.ended);
             in_need = λ n. let w = in_need_mid n in record {
               so_far = needs.sealed_or_not group entry (history ++ more) mid new s.0 w.0 s.2.some (inr s.2);
               ends = λ goes. needs.group_ends group entry (history ++ more) mid new s.0 w.0 s.2.some well.leaves.goes.room full s.2;
@@ -159,7 +166,7 @@ module _ (group turn : ℕ) (some : 1 ≤ group) (txn : ScriptTxn) (is_lane : Is
         between_last : IsBetween group entry (record last { ended = new.ended }) (history ++ more)
         between_last = record {
           going = record { goes = ended_with last new.ended entry (history ++ more) on.goes; few = few_last sealed_or_not; told = told_last };
-          stand = on.stand;
+          stand = stand_with last new.ended entry (history ++ more) on.stand;
         }
 
         room_same : last.room ≡ new.room
@@ -173,6 +180,9 @@ module _ (group turn : ℕ) (some : 1 ≤ group) (txn : ScriptTxn) (is_lane : Is
           between = subst (λ x. IsBetween group entry x (history ++ more)) (sym e.rest) between_last;
           becomes = becomes_on old.room.room mid.room.room new.room.room well.leaves.becomes becomes_new;
           comes = inr (fault, subst (λ ended. EndsLane ended new.ended txn.lane fault) well.leaves.ended ends, inl comes_old);
+          names = names_bad entry done txn next tried.number old.ended new.ended fault
+              (subst (λ ended. TellsMore ended new.ended fault) (on.ended ∙ well.leaves.ended) (tells_now last.ended new.ended txn.lane fault long is_lane none_last e.ends e.set).adds)
+              (e.seals entry (history ++ more) ready well.leaves.goes well.told well.stand).3;
           in_need = λ n. record {
             so_far = subst (λ (x : Body). IsInNeed group entry x.room x.full (history ++ more)) (sym e.rest)
                 (needs.sealed_or_not group entry (history ++ more) mid last on (in_need_mid n).0 (omega (arith, some, full)) sealed_or_not);
@@ -200,10 +210,12 @@ module _ (group turn : ℕ) (some : 1 ≤ group) (txn : ScriptTxn) (is_lane : Is
           few = same_history (AreFewSoFar group mid.room.room.sealed new.ended) (commits_of done) (few_less group mid.room.room.sealed mid.ended new.ended (commits_of done) txn.lane fault left.leaves.few ends);
           told = left.told new.ended new.ended (tells_now mid.ended new.ended txn.lane fault (ap length left.leaves.ended ∙ b.going.told.lanes) is_lane none_mid ends set);
         };
-        stand = same_history (Stand entry mid) (commits_of done) left.stand;
+        stand = stand_with mid new.ended entry (commits_of done ++ []) (same_history (Stand entry mid) (commits_of done) left.stand);
       });
       becomes = subst (λ (r : RoomValue). Becomes old.room.room r.room) (sym (ap (λ (x : Body). x.room) rest)) left.leaves.becomes;
       comes = inr (fault, subst (λ x. EndsLane x new.ended txn.lane fault) left.leaves.ended ends, inr (record { is = tt; number = tt; runs = inl (refl, ap is_some ends.ended); replied = tt }));
+      names = names_calls entry done txn old.ended new.ended fault
+          (subst (λ x. TellsMore x new.ended fault) left.leaves.ended (tells_now mid.ended new.ended txn.lane fault (ap length left.leaves.ended ∙ b.going.told.lanes) is_lane none_mid ends set).adds) left.blames;
       in_need = λ n. same_history (RunsInNeed group txn.lane entry new.room new.full new.ended) (commits_of done) (record {
         so_far = subst (λ (x : Body). IsInNeed group entry x.room x.full (commits_of done)) (sym rest) (left.in_need (n.so_far, n.ends none));
         ends = λ goes. absurd (let x : ◌≡◌ {A = Option RunFault} (Some fault) None = sym ends.ended ∙ goes in cc);
@@ -211,7 +223,7 @@ module _ (group turn : ℕ) (some : 1 ≤ group) (txn : ScriptTxn) (is_lane : Is
       refused = λ word (e : outcome.NotRun ≡ outcome.Refused word). absurd (let x = e in cc);
     }
       where
-        left : LeavesFault group entry old mid (commits_of done) fault
+        left : LeavesFault group entry old mid (commits_of done) txn.calls fault
         left = tries entry done ready b at
 
         none_mid : fault_of mid.ended txn.lane ≡ None

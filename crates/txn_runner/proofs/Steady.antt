@@ -12,20 +12,17 @@ use Rattle.run_laws.specs.Needs.{IsSealed, Unsealed}
 use Rattle.run_laws.specs.Runs.{AreFewOfLanes}
 use Rattle.run_laws.specs.SoFar.{AreFewSoFar, GoesOn}
 use Rattle.run_laws.proofs.Going.{few_wait}
-use Rattle.txn_runner.specs.Body.{Body, Goes, Stand}
+use Rattle.txn_runner.specs.Body.{Body, Goes}
 
 -- ---- the buckets
 
 -- they stand for a history while a later epoch is published
-stand_on : (entry : RoomValue) (p q : ℕ) (b : BucketsValue) (history : List Commit) → p ≤ q → StandAll (origin_of entry.entry) p b history → StandAll (origin_of entry.entry) q b history
+pub stand_on : (entry : RoomValue) (p q : ℕ) (b : BucketsValue) (history : List Commit) → p ≤ q → StandAll (origin_of entry.entry) p b history → StandAll (origin_of entry.entry) q b history
 stand_on entry p q b history low s = record {
   many = s.many;
   untouched = s.untouched;
   each = λ k c is. buckets_on (λ (x : Cache). x.bucket) kept_at IsResting (origin_of entry.entry) k p q c history low (s.each k c is);
 }
-
-pub stand_later : (entry : RoomValue) (old new : Body) (history : List Commit) → Stand entry old history → new.buckets ≡ old.buckets → old.room.room.sealed ≤ new.room.room.sealed → Stand entry new history
-stand_later entry old new history s same low = subst (λ b. StandAll (origin_of entry.entry) new.room.room.sealed b history) (sym same) (stand_on entry old.room.room.sealed new.room.room.sealed old.buckets history low s)
 
 -- the rest goes on with any buckets
 pub with_buckets : (entry : RoomValue) (b : Body) (buckets : BucketsValue) (history : List Commit) → Goes entry b history → Goes entry (record b { buckets = buckets }) history

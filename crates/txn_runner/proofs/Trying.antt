@@ -21,8 +21,11 @@ use Rattle.run_laws.specs.Runs.{IsReady, IsReplyTo, OfSound}
 use Rattle.run_laws.specs.SoFar.{AreTold}
 use Rattle.run_laws.specs.Turns.{RefusesBehind, commits_of}
 use Rattle.txn_runner.specs.Body.{Body, Goes, IsBetween, IsGoing, Stand, count_of}
+use Rattle.txn_runner.specs.Named.{BlamesCalls}
+use Rattle.txn_runner.specs.Opening.{Opens}
 use Rattle.txn_runner.specs.Steps.{Answers, IsEndOf, IsTried, Leaves, LeavesWell, Reads, TakesBack, Tries, TriesToCommit, WasInNeed, refused_as}
 use Rattle.txn_runner.proofs.Answering.{few_later, goes_later, told_later}
+use Rattle.txn_runner.proofs.Keeping.{taken_back}
 use Rattle.txn_runner.proofs.Needs as needs
 use Rattle.txn_runner.proofs.Steady.{same_history}
 
@@ -39,7 +42,7 @@ reads_leave group entry old new history b r = record {
 
 pub fails_reading : (group : ℕ) (old new : Body) (d : DraftValue) (txn : ScriptTxn) (turn : ℕ) (fault : RunFault) → Answers group old new d txn.calls (Err fault) → Tries group old new txn turn (Err fault)
 fails_reading group old new d txn turn fault a entry done ready b at =
-    let left = a.1 entry (commits_of done) ready b in record { leaves = reads_leave group entry old new (commits_of done) b a.0; stand = left.0; in_need = λ n. (needs.read group entry (commits_of done) old new a.0 n).0; told = left.1 }
+    let left = a.1 entry (commits_of done) ready b in record { leaves = reads_leave group entry old new (commits_of done) b a.0; stand = left.0; in_need = λ n. (needs.read group entry (commits_of done) old new a.0 n).0; told = left.1; blames = left.2 }
 
 aborted_is : (entry : RoomValue) (done : List Outcome) (txn : ScriptTxn) (new : Body) → txn.ending ≡ ending.Abort → IsTried entry done txn outcome.Aborted new
 aborted_is entry done txn new is = record {
@@ -89,6 +92,10 @@ module _ (abort : AbortLaw) (group : ℕ) (old mid : Body) (d : DraftValue) (txn
   sealed : mid.room.room.sealed ≡ old.room.room.sealed
   sealed = ap (λ (r : RoomState). r.sealed) a.0.later.room
 
+  -- it is open by the bytes at entry too, with the draft's calls
+  opens : (entry : RoomValue) (history : List Commit) → IsReady entry → IsBetween group entry old history → Opens (origin_of entry.entry) mid.room.room mid.buckets history d.calls d.rows
+  opens entry history ready b = subst (λ calls. Opens (origin_of entry.entry) mid.room.room mid.buckets history calls d.rows) (sym a.2.same) (a.3 entry history ready b).1
+
   -- the script aborts it
   module _ (back : TakesBack mid new) (is : txn.ending ≡ ending.Abort) where
     room_same : new.room ≡ mid.room
@@ -115,13 +122,14 @@ module _ (abort : AbortLaw) (group : ℕ) (old mid : Body) (d : DraftValue) (txn
         left = reads_leave group entry old mid (commits_of done) b a.0
 
         to_undo : IsToUndo (origin_of entry.entry) old.room.room.sealed (commits_of done) old.buckets mid.buckets
-        to_undo = abort (origin_of entry.entry) old.room.room.sealed (commits_of done) old.buckets mid.buckets d (a.3 entry (commits_of done) ready b)
+        to_undo = abort (origin_of entry.entry) old.room.room.sealed (commits_of done) old.buckets mid.buckets d (a.3 entry (commits_of done) ready b).0
 
         stand : Stand entry new (commits_of done)
         stand =
             let same = ap (λ (r : RoomValue). r.room.sealed) room_same in
             let mids = sealed in
-            back.buckets (origin_of entry.entry) old.room.room.sealed new.room.room.sealed (commits_of done) old.buckets to_undo (omega (arith, same, mids)) (omega (arith, same))
+            taken_back entry mid new (commits_of done) txn.calls d.rows back (a.3 entry (commits_of done) ready b).1
+            (back.buckets (origin_of entry.entry) old.room.room.sealed new.room.room.sealed (commits_of done) old.buckets to_undo (omega (arith, same, mids)) (omega (arith, same)))
 
     pub aborts : Tries group old new txn turn (Ok outcome.Aborted)
     aborts entry done ready b at = aborted entry done ready b
@@ -149,9 +157,9 @@ module _ (abort : AbortLaw) (group : ℕ) (old mid : Body) (d : DraftValue) (txn
     pub commits : (result : Result Outcome RunFault) → TriesToCommit group mid new d result → Tries group old new txn turn result
     commits (Ok next) t = λ entry done ready b at.
         let low : old.room.room.sealed ≤ mid.room.room.sealed = (let s = sealed in omega (arith, s)) in
-        let ends = t entry (commits_of done) old.room.room.sealed old.buckets ready (going entry (commits_of done) b) low (a.3 entry (commits_of done) ready b) in
+        let ends = t entry (commits_of done) old.room.room.sealed old.buckets ready (going entry (commits_of done) b) low (a.3 entry (commits_of done) ready b).0 (opens entry (commits_of done) ready b) in
         (record { leaves = later entry (commits_of done) (commits_of (next ∷ [])) ends.0.leaves; stand = ends.0.stand; in_need = λ n. ends.0.in_need (needs.read group entry (commits_of done) old mid a.0 n); told = ends.0.told }, tried entry done next at ends.1)
     commits (Err fault) t = λ entry done ready b at.
         let low : old.room.room.sealed ≤ mid.room.room.sealed = (let s = sealed in omega (arith, s)) in
-        let ends = t entry (commits_of done) old.room.room.sealed old.buckets ready (going entry (commits_of done) b) low (a.3 entry (commits_of done) ready b) in
-        record { leaves = later entry (commits_of done) [] ends.leaves; stand = ends.stand; in_need = λ n. ends.in_need (needs.read group entry (commits_of done) old mid a.0 n); told = ends.told }
+        let ends = t entry (commits_of done) old.room.room.sealed old.buckets ready (going entry (commits_of done) b) low (a.3 entry (commits_of done) ready b).0 (opens entry (commits_of done) ready b) in
+        record { leaves = later entry (commits_of done) [] ends.leaves; stand = ends.stand; in_need = λ n. ends.in_need (needs.read group entry (commits_of done) old mid a.0 n); told = ends.told; blames = subst (λ calls. BlamesCalls entry (commits_of done) calls fault) a.2.same ends.blames }

@@ -1,5 +1,5 @@
 -- What a transaction leaves at its exits, from what the calls in it said.
-use Rattle.std.proofs.Common.{◌≡◌, inl, inr, ℕ, ◌-◌, ◌<◌, ◌≤◌, false, List, refl, sym, ap, ◌∙◌, subst, Option, Some, None, Ok, Err, arith}
+use Rattle.std.proofs.Common.{◌≡◌, inl, inr, ℕ, ◌-◌, ◌<◌, ◌≤◌, Bool, true, false, is_some, List, refl, sym, ap, ◌∙◌, subst, Option, Some, None, Ok, Err, arith}
 use Rattle.std.specs.Prelude.{Result, slice_set}
 use Rattle.std.specs.List.{AllByRecursion}
 use Rattle.fine_model.specs.declared.Call.{Call}
@@ -87,6 +87,11 @@ module _ (group turn : ℕ) (some : 1 ≤ group) (txn : ScriptTxn) (is_lane : Is
       (ap (λ (v : RunnerValue). body (record { room = v.room; view = v.view; full = v.full; ended = ended }) between) is)
       (subst (λ (v : RunnerValue). EndsLane v.ended ended txn.lane fault) is ends)
       (subst (λ (v : RunnerValue). ended ≡ slice_set v.ended (txn.lane - 1) (Some fault)) is set)
+
+-- its lane had ended
+pub not_run : (group turn : ℕ) → 1 ≤ group → (txn : ScriptTxn) → IsLane txn.lane → (inside old : RunnerValue) → inside ≡ old → (buckets : BucketsValue) (has : Bool) → has ≡ is_some (fault_of inside.ended txn.lane) → has ≡ true
+    → BehindTxns group turn (body old buckets) (λ entry done. RunsTxn group entry done txn outcome.NotRun (body old buckets) (body old buckets))
+not_run group turn some txn is_lane inside old is buckets has told ended = running.not_run group turn some txn is_lane (body old buckets) (sym (ap (λ (v : RunnerValue). is_some (fault_of v.ended txn.lane)) is) ∙ sym told ∙ ended)
 
 -- a group is not full
 pub not_full : (inside old : RunnerValue) → inside ≡ old → (group lane : ℕ) (buckets : BucketsValue) (waiting : ℕ) → waiting ≡ inside.room.room.waiting → (n : ℕ) → n ≡ group → waiting < n → EndsGroup group (body old buckets) (body old buckets) lane

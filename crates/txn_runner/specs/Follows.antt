@@ -20,13 +20,14 @@ use Rattle.damage_laws.specs.Firm.{AreFirm}
 use Rattle.damage_laws.specs.Made.{AreMadeOf, all_of}
 use Rattle.damage_laws.specs.Meets.{GivesOn}
 use Rattle.damage_laws.specs.Places.{AreKeptOrGood}
+use Rattle.damage_laws.specs.There.{AreThere}
 use Rattle.epoch_room.specs.Meaning.{origin_of}
 use Rattle.epoch_room.specs.Value.{RoomValue}
 use Rattle.epoch_room.specs.Whole.{IsWhole}
 use Rattle.room_merges.specs.Near.{BlamedFirst}
 use Rattle.room_shelf.specs.Shelves.{Fails, ShelfValue}
 use Rattle.room_steps.specs.Made.{AreCounted, MadeOn}
-use Rattle.open_txn.specs.Buckets.{BucketsValue, EachBucket, StandAll, new_bucket}
+use Rattle.open_txn.specs.Buckets.{AreNew, BucketsValue, EachBucket, StandAll}
 use Rattle.open_txn.specs.Traces.{rows_in}
 use Rattle.run_laws.specs.Needs.{IsSealed, Unsealed}
 use Rattle.run_laws.specs.Runs.{IsReady}
@@ -37,10 +38,12 @@ calls_in k history = calls_on k (flat_map (λ c. c.entry.calls) history)
 
 -- ---- between transactions
 
--- A bucket gives what is found by the bytes at entry, gone on by the calls of a history with their rows; and what is known of that is firm, as those of these rows leave it that are sealed.
+-- A bucket gives what is found by the bytes at entry, gone on by the calls of a history with their rows; what is known of that is firm, as those of these rows leave it that are sealed; and no node
+-- that it caches is what stands for one that was not found.
 pub record GoesIn (region_len : ℕ) (before now : Image) (parts present : List Part) (sealed : List (List Row)) (c : Cache) (history : List Commit) : Type 0 where
   pub gives : GivesOn region_len before parts c (calls_in c.bucket history) (rows_in c.bucket (all_rows history))
   pub firm : AreFirm region_len now present c.bucket gives.nodes (rows_in c.bucket (all_of sealed))
+  pub there : AreThere c
 
 -- The rows of a history are those that were sealed since, list by list, and then the open ones; of a node without a row above the last sealed epoch none is open. The live parts are made of those at entry and of what was
 -- sealed since; each is one of those at entry, with its bytes, or in the grammar.
@@ -62,10 +65,6 @@ OfToldLog log room P = (before now : Image) (parts : List Part) → log.image �
 
 abbrev pub Follows : Origin → RoomState → BucketsValue → List Commit → Type 0
 Follows log room buckets history = OfToldLog log room (λ before now parts. AllFollow log.region_len before now parts room buckets history)
-
--- buckets that cache nothing
-abbrev pub AreNew : BucketsValue → Type 0
-AreNew v = EachBucket (λ k c. c ≡ new_bucket k) v
 
 -- so it begins
 abbrev pub BeginsLaw : Type 0

@@ -1,4 +1,5 @@
 pub mod Body
 pub mod Follows
+pub mod Named
 pub mod Opening
 pub mod Steps

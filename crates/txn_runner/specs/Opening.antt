@@ -3,19 +3,16 @@ use Rattle.std.specs.Prelude.{◌≡◌, ◌≢◌, ◌⊎◌, ℕ, ◌+◌, ◌
 use Rattle.std.specs.List.{AllByRecursion}
 use Rattle.log_disk.specs.Disk.{Eye}
 use Rattle.fine_model.specs.declared.Call.{Call}
-use Rattle.fine_model.specs.declared.Node.TheVariants as node
 use Rattle.fine_model.specs.declared.NodeId.{NodeId}
 use Rattle.fine_model.specs.declared.Part.{Part}
 use Rattle.fine_model.specs.declared.Row.{Row}
 use Rattle.fine_model.specs.declared.ScriptTxn.{ScriptTxn}
 use Rattle.fine_model.specs.declared.law.Origin.{Origin}
 use Rattle.fine_model.specs.declared.law.RoomState.{RoomState}
-use Rattle.fine_model.specs.Damages.{FindsMerged, MeetsUnfit, calls_on}
+use Rattle.fine_model.specs.Damages.{MeetsUnfit, calls_on}
 use Rattle.fine_model.specs.History.{Commit, all_rows}
-use Rattle.fine_model.specs.Nodes.{Content}
 use Rattle.fine_model.specs.Regions.{Image}
 use Rattle.node_cache.specs.Cache.{Cache, after, before}
-use Rattle.node_cache.specs.Given.{IsCached, given}
 use Rattle.btree_nodes.specs.declared.fault.TreeFault.{TreeFault}
 use Rattle.btree_nodes.specs.declared.fault.TreeFault.TheVariants.{Unfit}
 use Rattle.damage_laws.specs.Made.{all_of}
@@ -97,16 +94,9 @@ CommitsLaw =
 
 -- ---- the node that is named
 
--- Of a node that a refused call names: it is cached behind some loads, with a content that the bucket went on from. If that was found at entry, or the node is not broken, the run meets it unfit.
-pub record MeetsOr (script : List ScriptTxn) (history : List Commit) (region_len : ℕ) (entry : Image) (parts : List Part) (id : NodeId) : Type 0 where
-  pub loaded : Cache
-  pub content : Content
-  pub there : IsCached loaded id.number
-  pub meets : FindsMerged region_len entry parts id content ⊎ ((given loaded id.number).0 ≢ node.Broken) → MeetsUnfit (Ok script) ⊥ history region_len entry parts id
-
--- where the transaction stands in a script and was never committed
+-- A node that a refused call names is one that the run meets unfit, where the transaction stands in a script and was never committed.
 abbrev pub NodeLaw : Type 0
 NodeLaw =
     (log : Origin) (room : RoomValue) (view : ViewValue) (taken stopped : BucketsValue) (history : List Commit) (calls : List Call) (id : NodeId) (script : List ScriptTxn) (place : ℕ) (txn : ScriptTxn) → IsRead log room view taken history
     → StopsAt (tells_rows view) (finds_in view) view.upto calls (Unfit id) taken stopped → slice_get script place ≡ Some txn → AllByRecursion (λ c. c.entry.turn ≢ place + 1) history → txn.calls ≡ calls
-    → OfToldLog log room.room (λ entry now parts. MeetsOr script history log.region_len entry parts id)
+    → OfToldLog log room.room (λ entry now parts. MeetsUnfit (Ok script) ⊥ history log.region_len entry parts id)

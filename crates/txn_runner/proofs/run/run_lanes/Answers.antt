@@ -8,7 +8,7 @@ pub returns-in_default-new : goal.returns-in_default-new
 returns-in_default-new g c = record { run = c.not_begun-in_default-new.ensures.run c.args.script.now c.args.options.now; entry = c.not_begun-in_default-new.ensures.entry }
 
 pub run_txns-requires-clause-begins : goal.run_txns-requires-clause-begins
-run_txns-requires-clause-begins g c κs within = begins_with c.args.script.now c.args.options.now c.args.room c.in-Ok-new.buckets c.requires.ready c.requires.group c.in-Ok-new.ensures.stand c.none.result c.none.ensures c.len.result c.len.ensures
+run_txns-requires-clause-begins g c κs within = begins_with c.args.script.now c.args.options.now c.args.room c.in-Ok-new.buckets c.requires.ready c.requires.group c.in-Ok-new.ensures.stand c.in-Ok-new.ensures.new c.none.result c.none.ensures c.len.result c.len.ensures
     c.in-Ok.outcomes c.in-Ok.ensures
 
 pub returns : goal.returns

@@ -5,6 +5,8 @@ use Rattle.std.specs.List.{AllByRecursion, list_any}
 use Rattle.fine_places.proofs.Lists.{decide}
 use Rattle.fine_model.specs.declared.Call.{Call}
 use Rattle.fine_model.specs.declared.Call.TheVariants as call
+use Rattle.fine_model.specs.declared.FetchFault.{FetchFault}
+use Rattle.fine_model.specs.declared.NodeId.{NodeId}
 use Rattle.fine_model.specs.declared.Row.{Row}
 use Rattle.fine_model.specs.declared.Why.TheVariants as why
 use Rattle.fine_model.specs.declared.law.Origin.{Origin}
@@ -15,8 +17,10 @@ use Rattle.fine_model.specs.Trees.{bucket_of}
 use Rattle.fine_model.proofs.Order.{all_map}
 use Rattle.fine_model.proofs.PushedCalls.{pushed_stops}
 use Rattle.node_cache.specs.Cache.{Cache}
+use Rattle.node_cache.specs.Given.{Finds}
 use Rattle.btree_nodes.specs.declared.fault.TreeFault.{TreeFault}
 use Rattle.btree_nodes.specs.declared.fault.TreeFault.TheVariants.{Source, Unfit, BucketFull, Number, NoMemory}
+use Rattle.btree_nodes.specs.Calls.{IsChange, IsFirstUnfit, Outcome}
 use Rattle.btree_nodes.specs.Faults.{OnFault}
 use Rattle.btree_nodes.specs.Trees.{Holds, Restores, Serves}
 use Rattle.fine_model.specs.Map.{Pair}
@@ -25,6 +29,7 @@ use Rattle.txn_draft.specs.Scans.{KeepsFound}
 use Rattle.txn_draft.specs.Drafts.{DraftValue, FitsDraft, IsAnswered, IsLost, Keeps, is_here, is_scan}
 use Rattle.txn_draft.specs.Laws.{AreElsewhere}
 use Rattle.txn_draft.specs.Uses.{IsUsed, Undoes, UsedAfter}
+use Rattle.open_txn.specs.Traces.{Looks}
 use Rattle.txn_draft.proofs.Answered.{own_here}
 use Rattle.txn_draft.proofs.Lasting.{serves_law}
 use Rattle.txn_draft.proofs.Lawful.{others_law, used_law}
@@ -32,8 +37,8 @@ use Rattle.partition_hold.specs.Sources.{tells_rows}
 use Rattle.partition_hold.specs.Views.{ViewValue}
 use Rattle.key_locks.specs.Locks.{HasLock, LacksLock}
 use Rattle.key_locks.proofs.Held.{get_same, get_else, not_both}
-use Rattle.txn_engine.specs.Steps.{AnswersIn, AreServed, HasNotBegun, IsRead, IsShown, ReadsIn, ReadsOr, SameBuckets, ScansIn}
-use Rattle.txn_engine.specs.Txns.{AreNumbered, HasAll, HasBuckets, IsAnsweredOn, IsHeld, IsOpenOn, KeepsCall}
+use Rattle.txn_engine.specs.Steps.{AnswersIn, AreServed, HasNotBegun, IsRead, IsShown, ReadsIn, ReadsOr, SameBuckets, ScansIn, UnfitBy}
+use Rattle.txn_engine.specs.Txns.{AreNumbered, HasAll, HasBuckets, IsAnsweredOn, IsHeld, IsOpenOn, IsUnfitIn, KeepsCall}
 use Rattle.txn_engine.proofs.Open.{one_content}
 
 -- a call that is no scan is in the bucket of its key alone
@@ -99,6 +104,21 @@ serves_held log number history v d k b shown ok h e first began =
 
 -- ---- a call that is no scan
 
+-- the first node on the way of its key
+looks_key : (c : Call) (b : Cache) (id : NodeId) → is_scan c ≡ false → bucket_of (key_of c) ≡ b.bucket → IsFirstUnfit b (key_of c) id → Looks c b id
+looks_key (call.Get key) b id plain here first = (here, first)
+looks_key (call.Put key value) b id plain here first = (here, first)
+looks_key (call.Del key) b id plain here first = (here, first)
+looks_key (call.Add key by) b id plain here first = (here, first)
+looks_key (call.Scan low high limit) b id plain here first = absurd (true≢false plain)
+
+-- with `Unfit` the bucket is as it was once the way was loaded
+pub changed_unfit : (tells : List Row → Type 0) (finds : Finds) (upper : ℕ) (old new : Cache) (log log' : List Row) (c : Call) (P : Cache → Unit {0} → Type 0) (Failed : FetchFault → Type 0) (r : Result (Unit {0}) TreeFault)
+    → IsChange tells finds upper old new log log' c P Failed r → UnfitBy (IsFirstUnfit new (key_of c)) r
+changed_unfit tells finds upper old new log log' c P Failed r h id is =
+    let o : Outcome h.mid new log log' c (P h.mid) Failed (Err (Unfit id)) = subst (λ (x : Result (Unit {0}) TreeFault). Outcome h.mid new log log' c (P h.mid) Failed x) is h.outcome in
+    subst (λ b. IsFirstUnfit b (key_of c) id) (sym o.1.nodes) o.0
+
 module _ (v : ViewValue) (k : ℕ) (low : k < 256) (locks locks' : List (Option Cache)) (d d' : DraftValue) (c : Call) (ok : d.failed ≡ false) (of_key : k ≡ bucket_of (key_of c)) (numbers : AreNumbered locks) (one : is_scan c ≡ false)
     (old new : Cache) (there : HasLock locks k old) (locks_are : locks' ≡ slice_set locks k (Some new)) where
   now_there : HasLock locks' k new
@@ -121,6 +141,16 @@ module _ (v : ViewValue) (k : ℕ) (low : k < 256) (locks locks' : List (Option 
 
   off_other : (j : ℕ) → j ≢ k → is_here j c ≡ false
   off_other j ne = ⊎_elim (λ (on : is_here j c ≡ true). absurd (ne (sym (of_key ∙ here_is j c one on)))) (λ (off : is_here j c ≡ false). off) (either (is_here j c))
+
+  -- the node that is named as unfit
+  unfit_here : (r : Result (Unit {0}) TreeFault) → new.bucket ≡ old.bucket → UnfitBy (IsFirstUnfit new (key_of c)) r → UnfitBy (IsUnfitIn locks' c) r
+  unfit_here r same first id is = record {
+    bucket = k;
+    content = new;
+    within = low;
+    held = now_there;
+    first = looks_key c new id one (sym of_key ∙ sym (same ∙ numbers k old low there)) (first id is);
+  }
 
   others_stay : (j : ℕ) → j < 256 → is_here j c ≡ false → slice_get locks' j ≡ slice_get locks j
   others_stay j less off = other j (λ is. true≢false (sym (subst (λ i. is_here i c ≡ true) (sym (is ∙ of_key)) (own_here c)) ∙ off))
@@ -218,12 +248,12 @@ module _ (v : ViewValue) (k : ℕ) (low : k < 256) (locks locks' : List (Option 
     answer_now (Err (BucketFull next depth)) keeps left fits used sound =
         let s = sound_of (Err (BucketFull next depth)) sound in (
           left_as left (open_same log number history shown o (used_as left (used h.low h.taken (h.used ok) le)) (λ e first began. (s e first began).2)),
-          (left, λ e first began. pushed_stops (first ++ all_rows history) d.rows d.calls [] c why.Bucket ((o.answers ok).answered e first began).is_pushed (s e first began).0),
+          (left, λ e first began. (pushed_stops (first ++ all_rows history) d.rows d.calls [] c why.Bucket ((o.answers ok).answered e first began).is_pushed (s e first began).0, (s e first began).1)),
         )
     answer_now (Err (Number id)) keeps left fits used sound =
         let s = sound_of (Err (Number id)) sound in (
           left_as left (open_same log number history shown o (used_as left (used h.low h.taken (h.used ok) le)) (λ e first began. (s e first began).2)),
-          (left, λ e first began. pushed_stops (first ++ all_rows history) d.rows d.calls [] c why.Number ((o.answers ok).answered e first began).is_pushed (s e first began).0),
+          (left, λ e first began. (pushed_stops (first ++ all_rows history) d.rows d.calls [] c why.Number ((o.answers ok).answered e first began).is_pushed (s e first began).0, (s e first began).1)),
         )
     answer_now (Err NoMemory) keeps left fits used sound =
         (open_lost log number history shown o left (used h.low h.taken (h.used ok) le) (sound_of (Err NoMemory) sound), inl left)
@@ -233,6 +263,7 @@ pub answered_in : (v : ViewValue) (k : ℕ) → k < 256 → (locks locks' : List
 answered_in v k low locks locks' d d' c r ok of_key numbers one a = record {
   same = same_buckets v k low locks locks' d d' c ok of_key numbers one a.old a.new a.there a.locks_are;
   others = others_stay v k low locks locks' d d' c ok of_key numbers one a.old a.new a.there a.locks_are;
+  unfit = unfit_here v k low locks locks' d d' c ok of_key numbers one a.old a.new a.there a.locks_are r a.number a.unfit;
   open_on = λ log number history shown o. answer_now v k low locks locks' d d' c ok of_key numbers one a.old a.new a.there a.locks_are log number history shown o r a.kept a.left a.fits a.used a.sound;
 }
 
@@ -318,6 +349,7 @@ pub scanned_in : (v v' : ViewValue) (locks locks' : List (Option Cache)) (d d' :
 scanned_in v v' locks locks' d d' c r ok all scans s = record {
   same = scan_buckets v v' locks locks' d d' c ok all scans s.read;
   others = λ j less off. absurd (true≢false (sym (scan_here j c scans) ∙ off));
+  unfit = s.unfit;
   open_on = λ log number history shown o. scan_now v v' locks locks' d d' c ok all scans s.read log number history shown o r s.kept s.fits s.answered s.left s.cause;
 }
 

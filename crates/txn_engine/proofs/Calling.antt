@@ -47,7 +47,7 @@ use Rattle.hall_rooms.specs.Rooms.{RoomPass}
 use Rattle.hall_rooms.specs.Turning.{MeetsNone}
 use Rattle.txn_engine.specs.Steps.{IsRefusedFor, IsShown, ReadsOr}
 use Rattle.txn_engine.specs.Turns.{ReadsFront, StaysOpen}
-use Rattle.txn_engine.specs.Txns.{CallsOr, IsOpenOn, IsOpenTxn, KeepsCall, MeetsRead, Refuses, SeesCall, TakesBuckets, WantsMemory}
+use Rattle.txn_engine.specs.Txns.{CallsOr, IsOpenOn, IsOpenTxn, IsOver, KeepsCall, MeetsRead, Refuses, SaysFull, SeesCall, TakesBuckets, WantsMemory}
 
 -- ---- the front
 
@@ -67,6 +67,24 @@ module _ (c : Call) (t t' : Txn) (p p' : RoomPass) (r : Result (Unit {0}) TreeFa
     region_len = f.later.same.region_len i;
     eye = record { number = f.later.same.eye.number i; regions = set_of (f.later.same.eye.regions i); told = f.later.same.eye.told i };
     faults = f.after.eye.faults;
+  }
+
+  -- the front is the one that it was, but for its counts
+  pub same_front : f.after ≡ record f.before { eye = record f.before.eye { faults = f.after.eye.faults; taken = f.after.eye.taken } }
+  same_front = λ i. record {
+    eye = record {
+      number = f.later.same.eye.number i;
+      regions = f.later.same.eye.regions i;
+      region_len = f.later.same.eye.region_len i;
+      told = f.later.same.eye.told i;
+      faults = f.after.eye.faults;
+      taken = f.after.eye.taken;
+    };
+    parts = f.later.same.parts i;
+    upto = f.later.same.upto i;
+    seat = f.later.same.place.0 i;
+    buffer = f.later.same.place.1 i;
+    region_len = f.later.same.region_len i;
   }
 
   pub uses_front : UsedFront state_of p p'
@@ -173,9 +191,10 @@ module _ (z : TableId) (x : Beginning) (c : Call) (t t₂ t₃ : Txn) (p p₂ p�
   same_draft : t₃.draft ≡ t₂.draft → t₃.draft ≡ t.draft
   same_draft same = same ∙ stays.draft
 
-  refuses_after : (cause : Why) → IsRefusedFor x.log (seen p₂) t₂.draft c cause → Refuses x t c p₃ cause
-  refuses_after cause h = subst (λ q. (e : ℕ) (first : List Row) → Began x.log e first → all_pushed (first ++ all_rows (commits q.seen)) (t.draft.calls ++ c ∷ []) ≡ Err cause) (sym stayed.same_known)
-      (subst (λ d. IsRefusedFor x.log (seen p₂) d c cause) stays.draft h)
+  refuses_after : (cause : Why) (P : List Row → Type 0) → IsRefusedFor x.log (seen p₂) t₂.draft c cause P → Refuses x t c p₃ cause P
+  refuses_after cause P h =
+      subst (λ q. (e : ℕ) (first : List Row) → Began x.log e first → (all_pushed (first ++ all_rows (commits q.seen)) (t.draft.calls ++ c ∷ []) ≡ Err cause) × P ((first ++ all_rows (commits q.seen)) ++ t.draft.rows)) (sym stayed.same_known)
+      (subst (λ d. IsRefusedFor x.log (seen p₂) d c cause P) stays.draft h)
 
   pub answer_ok : (done : Unit {0}) → r ≡ Ok done → CallsOr x c t t₃ p p₃ (Ok tt)
   answer_ok done is =
@@ -191,21 +210,23 @@ module _ (z : TableId) (x : Beginning) (c : Call) (t t₂ t₃ : Txn) (p p₂ p�
   }
 
   pub answer_err : (fault : TreeFault) → r ≡ Err fault → CallsOr x c t (after_fault (fault_of fault) t₃) p p₃ (Err (fault_of fault))
-  answer_err fault is = by fault (subst (ReadsOr x.log (seen p₂) c t₂.draft t₃.draft) is both.1) (subst (λ y. OnCleanAnswer y (IsClean f.before f.after)) is f.clean) (subst (λ y. IfErr y (FailsBy (λ failed. Fails f.before failed f.after))) is f.fails)
+  answer_err fault is = by fault is (subst (ReadsOr x.log (seen p₂) c t₂.draft t₃.draft) is both.1) (subst (λ y. OnCleanAnswer y (IsClean f.before f.after)) is f.clean) (subst (λ y. IfErr y (FailsBy (λ failed. Fails f.before failed f.after))) is f.fails)
     where
       like : t₃.draft ≡ t₂.draft → (t₂.draft.lane ≡ t₃.draft.lane) × (t₂.draft.turn ≡ t₃.draft.turn)
       like same = (ap (λ (d : DraftValue). d.lane) (sym same), ap (λ (d : DraftValue). d.turn) (sym same))
 
       source : (failed : FetchFault) → t₃.draft ≡ t₂.draft → OnCleanFault failed (IsClean f.before f.after) → Fails f.before failed f.after → CallsOr x c t (after_fault (fault_of (Source failed)) t₃) p p₃ (Err (fault_of (Source failed)))
       source fetch_fault.Failed same clean fails = (same_draft same, takes_after, reads_after fails)
-      source (fetch_fault.BadRow region at) same clean fails = ((same_draft same, meets_after clean), takes_after, λ e first began. let told = shown.tells e first began in fails.0 told.0 told.1)
-      source (fetch_fault.BadIndex region at) same clean fails = ((same_draft same, meets_after clean), takes_after, λ e first began. let told = shown.tells e first began in fails.0 told.0 told.1)
+      source (fetch_fault.BadRow region at) same clean fails =
+          ((same_draft same, meets_after clean), takes_after, (λ e first began. let told = shown.tells e first began in fails.0 told.0 told.1), record { front = f.after; is = ap (λ q. q.front) f.is; fails = subst (λ v. Fails v (fetch_fault.BadRow region at) v) (sym (same_front c t₂ t₃ p₂ p₃ r f)) fails })
+      source (fetch_fault.BadIndex region at) same clean fails =
+          ((same_draft same, meets_after clean), takes_after, (λ e first began. let told = shown.tells e first began in fails.0 told.0 told.1), record { front = f.after; is = ap (λ q. q.front) f.is; fails = subst (λ v. Fails v (fetch_fault.BadIndex region at) v) (sym (same_front c t₂ t₃ p₂ p₃ r f)) fails })
       source fetch_fault.NoMemory same clean fails = lost_after (like same)
 
-      by : (fault : TreeFault) → ReadsOr x.log (seen p₂) c t₂.draft t₃.draft (Err fault) → OnCleanAnswer {A = Unit {0}} (Err fault) (IsClean f.before f.after) → FailsBy (λ failed. Fails f.before failed f.after) fault
+      by : (fault : TreeFault) → r ≡ Err fault → ReadsOr x.log (seen p₂) c t₂.draft t₃.draft (Err fault) → OnCleanAnswer {A = Unit {0}} (Err fault) (IsClean f.before f.after) → FailsBy (λ failed. Fails f.before failed f.after) fault
           → CallsOr x c t (after_fault (fault_of fault) t₃) p p₃ (Err (fault_of fault))
-      by (Source failed) same clean fails = source failed same clean fails
-      by (Unfit id) h clean fails = ((same_draft h.0, meets_after clean), takes_after, h.1)
-      by (BucketFull next depth) h clean fails = ((same_draft h.0, meets_after clean), takes_after, refuses_after why.Bucket h.1)
-      by (Number id) h clean fails = ((same_draft h.0, meets_after clean), takes_after, refuses_after why.Number h.1)
-      by NoMemory h clean fails = lost_after (⊎_elim (λ (lost : IsLost t₂.draft t₃.draft). (sym lost.1, sym lost.2)) like h)
+      by (Source failed) is same clean fails = source failed same clean fails
+      by (Unfit id) is h clean fails = ((same_draft h.0, meets_after clean), takes_after, h.1, f.reads.unfit id is)
+      by (BucketFull next depth) is h clean fails = ((same_draft h.0, meets_after clean), takes_after, refuses_after why.Bucket (SaysFull c next depth) h.1)
+      by (Number id) is h clean fails = ((same_draft h.0, meets_after clean), takes_after, refuses_after why.Number (IsOver c id) h.1)
+      by NoMemory is h clean fails = lost_after (⊎_elim (λ (lost : IsLost t₂.draft t₃.draft). (sym lost.1, sym lost.2)) like h)

@@ -3,6 +3,9 @@ use Rattle.std.proofs.Common.{◌≡◌, ◌≢◌, ⊎_elim, ℕ, ◌+◌, ◌<
 use Rattle.std.specs.Prelude.{OnOk, IfErr}
 use Rattle.std.proofs.lemmas.Bool.Decides.{leb_tells}
 use Rattle.fine_model.specs.declared.Call.{Call}
+use Rattle.fine_model.specs.declared.Call.TheVariants as call
+use Rattle.fine_model.specs.declared.FetchFault.{FetchFault}
+use Rattle.fine_model.specs.declared.NodeId.{NodeId}
 use Rattle.fine_model.specs.declared.Row.{Row}
 use Rattle.fine_model.specs.ScanLaws.{IsKept}
 use Rattle.fine_model.specs.Trees.{IsSound}
@@ -10,7 +13,7 @@ use Rattle.fine_model.proofs.KeptPairs.{kept_first}
 use Rattle.node_cache.specs.Cache.{Cache}
 use Rattle.btree_nodes.specs.declared.fault.TreeFault.{TreeFault}
 use Rattle.btree_nodes.specs.declared.fault.TreeFault.TheVariants.{Source, Unfit, BucketFull, Number, NoMemory}
-use Rattle.btree_nodes.specs.Calls.{SoundReading}
+use Rattle.btree_nodes.specs.Calls.{IsFirstUnfitBetween, Reads, SoundReading}
 use Rattle.btree_nodes.specs.Faults.{OnFault}
 use Rattle.btree_nodes.specs.Trees.{Holds, Serves}
 use Rattle.txn_draft.specs.Drafts.{DraftValue, FitsDraft, IsAnswered, IsLost}
@@ -22,8 +25,8 @@ use Rattle.partition_hold.specs.Sources.{IsLater, tells_rows}
 use Rattle.partition_hold.specs.Views.{ViewValue}
 use Rattle.key_locks.specs.Locks.{HasLock}
 use Rattle.key_locks.proofs.Held.{get_same, get_else}
-use Rattle.txn_engine.specs.Steps.{AreRead, AreServed, GathersIn, GathersMore, GathersOr, IsRead, ScansIn}
-use Rattle.txn_engine.specs.Txns.{HasAll}
+use Rattle.txn_engine.specs.Steps.{AreRead, AreServed, GathersIn, GathersMore, GathersOr, IsRead, ScansIn, UnfitBy}
+use Rattle.txn_engine.specs.Txns.{HasAll, IsUnfitIn}
 use Rattle.txn_engine.proofs.Open.{one_content}
 use Rattle.txn_engine.proofs.Ending.{less_or_at}
 
@@ -51,23 +54,31 @@ module _ (v v' : ViewValue) (k : ℕ) (near : k < 256) (locks : List (Option Cac
   cause_of rows log (Number id) h = h
   cause_of rows log NoMemory h = tt
 
-  pub gathered_in : (r : Result (Unit {0}) TreeFault) → Sound r → GathersIn v v' k locks (slice_set locks k (Some b')) low high limit s s' r
-  gathered_in (Ok done) sound = record {
+  abbrev First : NodeId → Type 0
+  First = IsFirstUnfitBetween b' low high limit
+
+  unfit_of : (P : Unit {0} → Type 0) (S : FetchFault → Type 0) (r : Result (Unit {0}) TreeFault) → Reads P S First r → UnfitBy First r
+  unfit_of P S r reads id is = subst (λ (x : Result (Unit {0}) TreeFault). Reads P S First x) is reads
+
+  pub gathered_in : (P : Unit {0} → Type 0) (S : FetchFault → Type 0) (r : Result (Unit {0}) TreeFault) → Reads P S First r → Sound r → GathersIn v v' k locks (slice_set locks k (Some b')) low high limit s s' r
+  gathered_in P S (Ok done) reads sound = record {
     old = b;
     new = b';
     there = there;
     locks_are = refl;
     read = record { used = used; serves = serves; holds = λ rows log served holds fine. (sound rows log served holds fine).1 };
     more = λ rows log served kept. (sound rows log (served.serves k b near there) (served.holds k b near there) served.sound).0 kept;
+    unfit = unfit_of P S (Ok done) reads;
     cause = tt;
   }
-  gathered_in (Err fault) sound = record {
+  gathered_in P S (Err fault) reads sound = record {
     old = b;
     new = b';
     there = there;
     locks_are = refl;
     read = record { used = used; serves = serves; holds = λ rows log served holds fine. holds_of rows log fault (sound rows log served holds fine) };
     more = tt;
+    unfit = unfit_of P S (Err fault) reads;
     cause = λ rows log served. cause_of rows log fault (sound rows log (served.serves k b near there) (served.holds k b near there) served.sound);
   }
 
@@ -142,6 +153,15 @@ module _ (u v : ViewValue) (at : ℕ) (locks mid : List (Option Cache)) (later :
     pub gathered_more : (done : Unit {0}) → r ≡ Ok done → GathersMore u locks low high limit s₀ s → GathersMore u locks low high limit s₀ s'
     gathered_more done is before rows log served kept = subst (λ x. OnOk x (GathersMore v mid low high limit s s')) is one.more rows log (served_on rows log served) (before rows log served kept)
 
+    pub gathered_unfit : UnfitBy (IsUnfitIn locks' (call.Scan low high limit)) r
+    gathered_unfit id is = record {
+      bucket = at;
+      content = one.new;
+      within = near;
+      held = ap (λ l. slice_get l at) one.locks_are ∙ get_same mid at (Some one.old) (Some one.new) one.there;
+      first = one.unfit id is;
+    }
+
     pub gathered_cause : (fault : TreeFault) → r ≡ Err fault → (rows log : List Row) → AreServed u rows log locks → OnFault fault (λ _. Unit {0}) (λ _. ⊥) (Unit {0})
     gathered_cause fault is rows log served = subst (λ x. IfErr x (λ fault. (rows log : List Row) → AreServed v rows log mid → OnFault fault (λ _. Unit {0}) (λ _. ⊥) (Unit {0}))) is one.cause rows log (served_on rows log served)
 
@@ -150,6 +170,14 @@ pub read_to_end : (n : ℕ) (v v' : ViewValue) (locks locks' : List (Option Cach
 read_to_end n v v' locks locks' le later r = record { below = λ k b low h. read_all n v v' locks locks' later r k b h; above = λ k high. r.above k (omega (arith, le, high)) }
 
 -- ---- the whole scan
+
+-- a call that went well names no node
+pub ok_names_none : (id : NodeId) → (◌≡◌ {A = Result (Unit {0}) TreeFault} (Ok tt) (Err (Unfit id))) → ⊥
+ok_names_none id is = cc
+
+-- and want of memory neither
+want_names_none : (id : NodeId) → (◌≡◌ {A = Result (Unit {0}) TreeFault} (Err NoMemory) (Err (Unfit id))) → ⊥
+want_names_none id is = cc
 
 module _ (v v' : ViewValue) (locks locks' : List (Option Cache)) (d d' : DraftValue) (c : Call) (low high : List ℕ) (limit : ℕ) (s₀ s : ScanValue) where
   pub scan_found : s₀ ≡ record { pairs = []; next = 0 } → GathersOr v v' locks locks' low high limit s₀ s (Ok tt) → KeepsFound c s.pairs d d' → (FitsDraft d → FitsDraft d')
@@ -161,11 +189,20 @@ module _ (v v' : ViewValue) (locks locks' : List (Option Cache)) (d d' : DraftVa
     answered = λ rows served a. answers rows a (subst (λ n. IsKept (rows ++ d.rows) low high limit n s.pairs) g.next
         (g.more rows d.rows served (subst (λ (x : ScanValue). IsKept (rows ++ d.rows) low high limit x.next x.pairs) (sym first) (kept_first (rows ++ d.rows) low high limit))));
     left = tt;
+    unfit = λ id is. absurd (ok_names_none id is);
     cause = tt;
   }
 
   pub scan_lost : GathersOr v v' locks locks' low high limit s₀ s (Ok tt) → IsLost d d' → ScansIn v v' locks locks' d d' c (Err NoMemory)
-  scan_lost g lost = record { read = λ k b near h. g.read.below k b near h; kept = tt; fits = tt; answered = tt; left = inr (refl, lost); cause = λ rows log served. tt }
+  scan_lost g lost = record { read = λ k b near h. g.read.below k b near h; kept = tt; fits = tt; answered = tt; left = inr (refl, lost); unfit = λ id is. absurd (want_names_none id is); cause = λ rows log served. tt }
 
-pub scan_halted : (v v' : ViewValue) (locks locks' : List (Option Cache)) (d : DraftValue) (c : Call) (low high : List ℕ) (limit : ℕ) (s₀ s : ScanValue) (fault : TreeFault) → GathersOr v v' locks locks' low high limit s₀ s (Err fault) → ScansIn v v' locks locks' d d c (Err fault)
-scan_halted v v' locks locks' d c low high limit s₀ s fault g = record { read = λ k b near h. g.read.below k b near h; kept = tt; fits = tt; answered = tt; left = inl refl; cause = g.cause }
+pub scan_halted : (v v' : ViewValue) (locks locks' : List (Option Cache)) (d : DraftValue) (c : Call) (low high : List ℕ) (limit : ℕ) (s₀ s : ScanValue) (fault : TreeFault) → c ≡ call.Scan low high limit → GathersOr v v' locks locks' low high limit s₀ s (Err fault) → ScansIn v v' locks locks' d d c (Err fault)
+scan_halted v v' locks locks' d c low high limit s₀ s fault scans g = record {
+  read = λ k b near h. g.read.below k b near h;
+  kept = tt;
+  fits = tt;
+  answered = tt;
+  left = inl refl;
+  unfit = subst (λ x. UnfitBy (IsUnfitIn locks' x) (Err fault)) (sym scans) g.unfit;
+  cause = g.cause;
+}

@@ -48,7 +48,7 @@ module _ (x : Beginning) (c : Call) (locks locks' : List (Option Cache)) (p p' :
     same_number = s.same_number;
     gathers = s.gathers;
     finds = s.finds;
-    same = λ plain. absurd (true≢false (sym scans ∙ plain));
+    before = record { one = λ plain. absurd (true≢false (sym scans ∙ plain)); below = λ _. s.below; above = s.stay };
   })
 
   -- by cases of the answer to a scan
@@ -85,7 +85,7 @@ module _ (x : Beginning) (c : Call) (locks locks' : List (Option Cache)) (p p' :
       same_number = refl;
       gathers = subst (λ l. GathersBuckets x locks l p p) (sym same) (gathers_none bucket_number kept_at IsResting x locks p);
       finds = subst (λ n. FindsHeld x n conflict.owner p p') (sym stops.0) stops.2;
-      same = λ _. same;
+      before = record { one = λ _. same; below = λ scans. absurd (true≢false (sym scans ∙ plain)); above = λ j le. ap (λ l. slice_get l j) same };
     }
 
 -- the bucket was there
@@ -162,7 +162,7 @@ module _ (x : Beginning) (c : Call) (t t' : Txn) (p p₁ : RoomPass) (before : A
         s.here,
         s.lacks,
         record { tried = f.tried ∙ ap (λ l. l ++ record { place = conflict.bucket; owner = conflict.owner } ∷ []) s.gathers.found; another = (f.somebody, f.seat, λ e. f.another (e ∙ sym s.same_number)) },
-        s.same,
+        s.before,
       )
 
   -- the buckets were taken, and the mailbox was looked at

@@ -1,6 +1,8 @@
 -- The steps within a call, and at an end: one bucket of a set, read through a view.
 use Rattle.std.specs.Prelude.{◌≡◌, ◌⊎◌, ℕ, ◌<◌, ◌≤◌, false, List, [], ◌∷◌, ◌++◌, slice_get, slice_set, Option, Some, None, OnOk, IfErr, Result, Ok, Err}
 use Rattle.fine_model.specs.declared.Call.{Call}
+use Rattle.fine_model.specs.declared.Call.TheVariants as call
+use Rattle.fine_model.specs.declared.NodeId.{NodeId}
 use Rattle.fine_model.specs.declared.Row.{Row}
 use Rattle.fine_model.specs.declared.Why.{Why}
 use Rattle.fine_model.specs.declared.Why.TheVariants as why
@@ -9,12 +11,13 @@ use Rattle.fine_model.specs.Buckets.{Began}
 use Rattle.fine_model.specs.History.{Commit, IsLegal, all_rows, upto}
 use Rattle.fine_model.specs.Map.{Pair}
 use Rattle.fine_model.specs.Nodes.{Agrees}
-use Rattle.fine_model.specs.Pushed.{all_pushed}
+use Rattle.fine_model.specs.Pushed.{all_pushed, key_of}
 use Rattle.fine_model.specs.ScanLaws.{IsKept}
 use Rattle.fine_model.specs.Trees.{IsSound}
 use Rattle.node_cache.specs.Cache.{Cache}
 use Rattle.btree_nodes.specs.declared.fault.TreeFault.{TreeFault}
 use Rattle.btree_nodes.specs.declared.fault.TreeFault.TheVariants.{Source, Unfit, BucketFull, Number, NoMemory}
+use Rattle.btree_nodes.specs.Calls.{IsFirstUnfit, IsFirstUnfitBetween}
 use Rattle.btree_nodes.specs.Faults.{OnFault}
 use Rattle.btree_nodes.specs.Trees.{Holds, Serves}
 use Rattle.txn_draft.specs.Answers.{AnswersSoundly, LeavesDraft}
@@ -24,7 +27,11 @@ use Rattle.txn_draft.specs.Uses.{IsUsed, UsedAfter}
 use Rattle.partition_hold.specs.Sources.{tells_rows}
 use Rattle.partition_hold.specs.Views.{ViewValue}
 use Rattle.key_locks.specs.Locks.{HasLock, LacksLock}
-use Rattle.txn_engine.specs.Txns.{IsOpenOn, KeepsCall}
+use Rattle.txn_engine.specs.Txns.{IsOpenOn, IsOver, IsUnfitIn, KeepsCall, SaysFull}
+
+-- what an answer says of the node that it names as unfit
+abbrev pub UnfitBy : (NodeId → Type 0) → Result (Unit {0}) TreeFault → Type 0
+UnfitBy P r = (id : NodeId) → r ≡ Err (Unfit id) → P id
 
 -- ---- a call that is no scan
 
@@ -36,6 +43,8 @@ pub record AnswersIn (v : ViewValue) (k : ℕ) (locks locks' : List (Option Cach
   pub locks_are : locks' ≡ slice_set locks k (Some new)
   pub kept : OnOk r (Keeps c d d')
   pub left : IfErr r (LeavesDraft d d')
+  pub number : new.bucket ≡ old.bucket
+  pub unfit : UnfitBy (IsFirstUnfit new (key_of c)) r
   pub fits : OnOk r (FitsDraft d → FitsDraft d')
   pub used : (low : ℕ) (taken : Cache) → IsUsed low taken old d.rows → low ≤ v.upto → UsedAfter low taken new d'.rows r
   pub sound : (rows : List Row) → Serves (tells_rows v) old rows → IsAnswered rows d → Holds old rows d.rows → AnswersSoundly rows c d d' new r
@@ -71,6 +80,7 @@ pub record GathersIn (v v' : ViewValue) (k : ℕ) (locks locks' : List (Option C
   pub locks_are : locks' ≡ slice_set locks k (Some new)
   pub read : IsRead v v' old new
   pub more : OnOk r (GathersMore v locks low high limit s s')
+  pub unfit : UnfitBy (IsFirstUnfitBetween new low high limit) r
   pub cause : IfErr r (λ fault. (rows log : List Row) → AreServed v rows log locks → OnFault fault (λ _. Unit {0}) (λ _. ⊥) (Unit {0}))
 
 -- all of them were, or a fault came
@@ -78,6 +88,7 @@ pub record GathersOr (v v' : ViewValue) (locks locks' : List (Option Cache)) (lo
   pub read : AreRead 256 v v' locks locks'
   pub next : OnOk r (s'.next ≡ 256)
   pub more : OnOk r (GathersMore v locks low high limit s s')
+  pub unfit : UnfitBy (IsUnfitIn locks' (call.Scan low high limit)) r
   pub cause : IfErr r (λ fault. (rows log : List Row) → AreServed v rows log locks → OnFault fault (λ _. Unit {0}) (λ _. ⊥) (Unit {0}))
 
 -- The buckets of a set were read for a scan, which is kept behind the calls of the draft, or a fault came.
@@ -87,6 +98,7 @@ pub record ScansIn (v v' : ViewValue) (locks locks' : List (Option Cache)) (d d'
   pub fits : OnOk r (FitsDraft d → FitsDraft d')
   pub answered : OnOk r ((rows : List Row) → AreServed v rows d.rows locks → IsAnswered rows d → IsAnswered rows d')
   pub left : IfErr r (λ fault. (d' ≡ d) ⊎ ((fault ≡ NoMemory) × IsLost d d'))
+  pub unfit : UnfitBy (IsUnfitIn locks' c) r
   pub cause : IfErr r (λ fault. (rows log : List Row) → AreServed v rows log locks → OnFault fault (λ _. Unit {0}) (λ _. ⊥) (Unit {0}))
 
 -- ---- any call
@@ -101,16 +113,17 @@ pub record IsShown (log : Origin) (published : ℕ) (history : List Commit) (v :
 abbrev pub HasNotBegun : Origin → Type 0
 HasNotBegun log = (e : ℕ) (first : List Row) → Began log e first → ⊥
 
--- behind the history, the definitions refuse the calls for this reason
-abbrev pub IsRefusedFor : Origin → List Commit → DraftValue → Call → Why → Type 0
-IsRefusedFor log history d c cause = (e : ℕ) (first : List Row) → Began log e first → all_pushed (first ++ all_rows history) (d.calls ++ c ∷ []) ≡ Err cause
+-- Behind the history, the definitions refuse the calls for this reason, and P of what it and the draft's rows leave.
+abbrev pub IsRefusedFor : Origin → List Commit → DraftValue → Call → Why → (List Row → Type 0) → Type 0
+IsRefusedFor log history d c cause P =
+    (e : ℕ) (first : List Row) → Began log e first → (all_pushed (first ++ all_rows history) (d.calls ++ c ∷ []) ≡ Err cause) × P ((first ++ all_rows history) ++ d.rows)
 
 abbrev pub ReadsOr : Origin → List Commit → Call → DraftValue → DraftValue → Result (Unit {0}) TreeFault → Type 0
 ReadsOr log history c d d' (Ok done) = KeepsCall c d d'
 ReadsOr log history c d d' (Err (Source fault)) = d' ≡ d
 ReadsOr log history c d d' (Err (Unfit id)) = (d' ≡ d) × HasNotBegun log
-ReadsOr log history c d d' (Err (BucketFull next depth)) = (d' ≡ d) × IsRefusedFor log history d c why.Bucket
-ReadsOr log history c d d' (Err (Number id)) = (d' ≡ d) × IsRefusedFor log history d c why.Number
+ReadsOr log history c d d' (Err (BucketFull next depth)) = (d' ≡ d) × IsRefusedFor log history d c why.Bucket (SaysFull c next depth)
+ReadsOr log history c d d' (Err (Number id)) = (d' ≡ d) × IsRefusedFor log history d c why.Number (IsOver c id)
 ReadsOr log history c d d' (Err NoMemory) = IsLost d d' ⊎ (d' ≡ d)
 
 -- a set has the same buckets
@@ -122,6 +135,7 @@ pub record SameBuckets (locks locks' : List (Option Cache)) : Type 0 where
 pub record ReadsIn (v : ViewValue) (locks locks' : List (Option Cache)) (d d' : DraftValue) (c : Call) (r : Result (Unit {0}) TreeFault) : Type 0 where
   pub same : SameBuckets locks locks'
   pub others : (k : ℕ) → k < 256 → is_here k c ≡ false → slice_get locks' k ≡ slice_get locks k
+  pub unfit : UnfitBy (IsUnfitIn locks' c) r
   pub open_on : (log : Origin) (published : ℕ) (history : List Commit) → IsShown log published history v → IsOpenOn log published history d locks → IsOpenOn log published history d' locks' × ReadsOr log history c d d' r
 
 -- ---- the ends

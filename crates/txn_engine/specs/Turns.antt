@@ -5,7 +5,7 @@ use Rattle.node_cache.specs.Cache.{Cache, IsResting, kept_at}
 use Rattle.btree_nodes.specs.declared.fault.TreeFault.{TreeFault}
 use Rattle.btree_nodes.specs.Calls.{OnCleanAnswer}
 use Rattle.txn_draft.specs.Answers.{FailsBy}
-use Rattle.txn_draft.specs.Drafts.{is_here, is_scan}
+use Rattle.txn_draft.specs.Drafts.{is_here}
 use Rattle.partition_hold.specs.Sources.{Fails, IsClean, IsLater}
 use Rattle.partition_hold.specs.Views.{ViewValue, state_of}
 use Rattle.fine_hall.specs.declared.law.Beginning.{Beginning}
@@ -15,7 +15,7 @@ use Rattle.key_locks.specs.Locks.{Gathers, LacksLock}
 use Rattle.txn_engine.specs.declared.txn.Txn.{Txn}
 use Rattle.hall_rooms.specs.Rooms.{RoomPass, bucket_number}
 use Rattle.hall_rooms.specs.Turning.{MeetsNone}
-use Rattle.txn_engine.specs.Txns.{FoundLast, HasBuckets, IsOpenTxn, SeesCall, TakesBuckets}
+use Rattle.txn_engine.specs.Txns.{FoundLast, HasBuckets, IsOpenTxn, SeesCall, StopsBefore, TakesBuckets}
 use Rattle.txn_engine.specs.Steps.{ReadsIn}
 
 -- buckets were gathered
@@ -31,7 +31,7 @@ pub record StopsFor (x : Beginning) (c : Call) (locks locks' : List (Option Cach
   pub same_number : between.number ≡ p.number
   pub gathers : GathersBuckets x locks locks' p between
   pub finds : FindsHeld x conflict.bucket conflict.owner between p'
-  pub same : is_scan c ≡ false → locks' ≡ locks
+  pub before : StopsBefore c conflict.bucket locks locks'
 
 -- the buckets of a call are in the set, and the others are as they were
 pub record TakesFor (x : Beginning) (c : Call) (locks locks' : List (Option Cache)) (p p' : RoomPass) : Type 0 where
@@ -54,7 +54,7 @@ pub record StaysOpen (x : Beginning) (t t' : Txn) (p p' : RoomPass) : Type 0 whe
 abbrev pub TakesOr : Beginning → Call → Txn → Txn → RoomPass → RoomPass → Result (Unit {0}) Conflict → Type 0
 TakesOr x c t t' p p' (Ok done) = StaysOpen x t t' p p' × TakesBuckets c t t' p p' × IsAhead state_of x p'
 TakesOr x c t t' p p' (Err conflict) =
-    StaysOpen x t t' p p' × (is_here conflict.bucket c ≡ true) × LacksLock t.locks conflict.bucket × FoundLast x conflict.bucket conflict.owner p p' × (is_scan c ≡ false → t'.locks ≡ t.locks)
+    StaysOpen x t t' p p' × (is_here conflict.bucket c ≡ true) × LacksLock t.locks conflict.bucket × FoundLast x conflict.bucket conflict.owner p p' × StopsBefore c conflict.bucket t.locks t'.locks
 
 -- a call was answered through the front
 pub record ReadsFront (c : Call) (t t' : Txn) (p p' : RoomPass) (r : Result (Unit {0}) TreeFault) : Type 0 where

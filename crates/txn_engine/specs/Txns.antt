@@ -3,6 +3,9 @@ use Rattle.std.specs.Prelude.{◌≡◌, ◌≢◌, ◌⊎◌, ℕ, ◌+◌, ◌
 use Rattle.std.specs.List.{list_any}
 use lib.ListN.{get_elem?}
 use Rattle.fine_model.specs.declared.Call.{Call}
+use Rattle.fine_model.specs.declared.FetchFault.{FetchFault}
+use Rattle.fine_model.specs.declared.FetchFault.TheVariants as fetch_fault
+use Rattle.fine_model.specs.declared.NodeId.{NodeId}
 use Rattle.fine_model.specs.declared.Row.{Row}
 use Rattle.fine_model.specs.declared.Why.{Why}
 use Rattle.fine_model.specs.declared.Why.TheVariants as why
@@ -14,16 +17,18 @@ use Rattle.fine_model.specs.History.{Commit, all_rows}
 use Rattle.fine_model.specs.Jobs.{KeepsJob}
 use Rattle.fine_model.specs.Map.{Pair}
 use Rattle.fine_model.specs.Merge.{cost}
-use Rattle.fine_model.specs.Pushed.{all_pushed}
+use Rattle.fine_model.specs.Pushed.{all_pushed, key_of, push_of}
 use Rattle.fine_model.specs.Store.{replies_to}
-use Rattle.fine_model.specs.Trees.{map_of}
+use Rattle.fine_model.specs.Trees.{bucket_of, map_of, nodes_of}
 use Rattle.node_cache.specs.Cache.{Cache}
-use Rattle.btree_nodes.specs.Trees.{Holds, Restores}
+use Rattle.btree_nodes.specs.Trees.{HeadSays, Holds, Restores, first_over}
 use Rattle.txn_draft.specs.Drafts.{DraftValue, IsAnswered, FitsDraft, IsLost, Keeps, blank, entry_of, is_here, is_scan}
 use Rattle.txn_draft.specs.Scans.{KeepsFound}
 use Rattle.txn_draft.specs.Standing.{StandsFor}
 use Rattle.txn_draft.specs.Uses.{IsUsed, Undoes}
-use Rattle.partition_hold.specs.Views.{state_of}
+use Rattle.open_txn.specs.Traces.{Looks}
+use Rattle.partition_hold.specs.Sources.{Fails}
+use Rattle.partition_hold.specs.Views.{ViewValue, state_of}
 use Rattle.epoch_room.specs.Fitting.{fit_of}
 use Rattle.epoch_room.specs.Steps.{appended}
 use Rattle.epoch_room.specs.Value.{RoomValue}
@@ -41,7 +46,7 @@ use Rattle.txn_engine.specs.declared.txn.TxnFault.TheVariants as fault
 use Rattle.txn_engine.specs.declared.txn.CommitFault.{CommitFault}
 use Rattle.txn_engine.specs.Faults.{refusal_of}
 use Rattle.hall_rooms.specs.Rooms.{RoomPass}
-use Rattle.hall_rooms.specs.Turning.{TakesTurn, MeetsNone}
+use Rattle.hall_rooms.specs.Turning.{TakesTurn, MeetsNone, NotBegan}
 
 -- ---- what is open
 
@@ -110,6 +115,12 @@ pub record FoundLast (x : Beginning) (bucket owner : ℕ) (p p' : RoomPass) : Ty
 abbrev pub HasBuckets : Call → List (Option Cache) → Type 0
 HasBuckets c locks = (k : ℕ) → k < 256 → is_here k c ≡ true → (b : Cache) × HasLock locks k b
 
+-- What is taken before a conflict: nothing of a call that is no scan, and for a scan all buckets below the one that another seat held.
+pub record StopsBefore (c : Call) (bucket : ℕ) (locks locks' : List (Option Cache)) : Type 0 where
+  pub one : is_scan c ≡ false → locks' ≡ locks
+  pub below : is_scan c ≡ true → (k : ℕ) → k < bucket → (b : Cache) × HasLock locks' k b
+  pub above : (k : ℕ) → bucket ≤ k → slice_get locks' k ≡ slice_get locks k
+
 -- no try of the call found a place held, the buckets of the call are held, and the others are as they were
 pub record TakesBuckets (c : Call) (t t' : Txn) (p p' : RoomPass) : Type 0 where
   pub all : HasBuckets c t'.locks
@@ -129,13 +140,32 @@ IsLeft x t t' p p' = (t'.draft ≡ t.draft) × MeetsNone x p p'
 abbrev pub MeetsRead : Beginning → RoomPass → RoomPass → Type 0
 MeetsRead x p p' = (troubles state_of x p < troubles state_of x p') ⊎ (last_count ≤ (front_of state_of p').faults)
 
--- the log at entry was not told, or not sound
-abbrev pub NotBegan : Beginning → Type 0
-NotBegan x = (e : ℕ) (first : List Row) → Began x.log e first → ⊥
+-- Behind the history that the pass saw, the definitions refuse the calls for this reason, and P of what it and the transaction's rows leave.
+abbrev pub Refuses : Beginning → Txn → Call → RoomPass → Why → (List Row → Type 0) → Type 0
+Refuses x t c p cause P =
+    (e : ℕ) (first : List Row) → Began x.log e first → (all_pushed (first ++ all_rows (seen p)) (t.draft.calls ++ c ∷ []) ≡ Err cause) × P ((first ++ all_rows (seen p)) ++ t.draft.rows)
 
--- behind the history that the pass saw, the definitions refuse the calls for this reason
-abbrev pub Refuses : Beginning → Txn → Call → RoomPass → Why → Type 0
-Refuses x t c p cause = (e : ℕ) (first : List Row) → Began x.log e first → all_pushed (first ++ all_rows (seen p)) (t.draft.calls ++ c ∷ []) ≡ Err cause
+-- what the head of a call's bucket says where the bucket is full, by what rows leave
+abbrev pub SaysFull : Call → ℕ → ℕ → List Row → Type 0
+SaysFull c next depth rows = HeadSays (nodes_of rows (bucket_of (key_of c)) 0).0 next depth
+
+-- the first node of the rows of a call that is over its bounds
+abbrev pub IsOver : Call → NodeId → List Row → Type 0
+IsOver c id rows = first_over (push_of rows c).rows ≡ Some id
+
+-- The first node that is not fit on the way of a call, by what a bucket of a set gives.
+pub record IsUnfitIn (locks : List (Option Cache)) (c : Call) (id : NodeId) : Type 0 where
+  pub bucket : ℕ
+  pub content : Cache
+  pub within : bucket < 256
+  pub held : HasLock locks bucket content
+  pub first : Looks c content id
+
+-- What a fault of a load says of the front that a pass reads: a place of one of its parts is bad by what was read, and it tells no rows.
+pub record BlamesFront (p : RoomPass) (fault : FetchFault) : Type 0 where
+  pub front : ViewValue
+  pub is : p.front ≡ Some front
+  pub fails : Fails front fault front
 
 -- Memory ran out: the draft is failed, with its lane and number. Unless it was failed before, the call's buckets were taken.
 pub record WantsMemory (c : Call) (t t' : Txn) (p p' : RoomPass) : Type 0 where
@@ -155,13 +185,13 @@ wants_memory _ = false
 abbrev pub CallsOr : Beginning → Call → Txn → Txn → RoomPass → RoomPass → Result (Unit {0}) TxnFault → Type 0
 CallsOr x c t t' p p' (Ok done) = KeepsCall c t.draft t'.draft × TakesBuckets c t t' p p' × MeetsNone x p p'
 CallsOr x c t t' p p' (Err (fault.Conflict bucket owner)) =
-    IsLeft x t t' p p' × (is_here bucket c ≡ true) × LacksLock t.locks bucket × FoundLast x bucket owner p p' × (is_scan c ≡ false → t'.locks ≡ t.locks)
+    IsLeft x t t' p p' × (is_here bucket c ≡ true) × LacksLock t.locks bucket × FoundLast x bucket owner p p' × StopsBefore c bucket t.locks t'.locks
 CallsOr x c t t' p p' (Err fault.Disk) = (t'.draft ≡ t.draft) × TakesBuckets c t t' p p' × MeetsRead x p p'
-CallsOr x c t t' p p' (Err (fault.BadRow region at)) = IsLeft x t t' p p' × TakesBuckets c t t' p p' × NotBegan x
-CallsOr x c t t' p p' (Err (fault.BadIndex region at)) = IsLeft x t t' p p' × TakesBuckets c t t' p p' × NotBegan x
-CallsOr x c t t' p p' (Err (fault.Unfit id)) = IsLeft x t t' p p' × TakesBuckets c t t' p p' × NotBegan x
-CallsOr x c t t' p p' (Err (fault.BucketFull next depth)) = IsLeft x t t' p p' × TakesBuckets c t t' p p' × Refuses x t c p' why.Bucket
-CallsOr x c t t' p p' (Err (fault.Number id)) = IsLeft x t t' p p' × TakesBuckets c t t' p p' × Refuses x t c p' why.Number
+CallsOr x c t t' p p' (Err (fault.BadRow region at)) = IsLeft x t t' p p' × TakesBuckets c t t' p p' × NotBegan x × BlamesFront p' (fetch_fault.BadRow region at)
+CallsOr x c t t' p p' (Err (fault.BadIndex region at)) = IsLeft x t t' p p' × TakesBuckets c t t' p p' × NotBegan x × BlamesFront p' (fetch_fault.BadIndex region at)
+CallsOr x c t t' p p' (Err (fault.Unfit id)) = IsLeft x t t' p p' × TakesBuckets c t t' p p' × NotBegan x × IsUnfitIn t'.locks c id
+CallsOr x c t t' p p' (Err (fault.BucketFull next depth)) = IsLeft x t t' p p' × TakesBuckets c t t' p p' × Refuses x t c p' why.Bucket (SaysFull c next depth)
+CallsOr x c t t' p p' (Err (fault.Number id)) = IsLeft x t t' p p' × TakesBuckets c t t' p p' × Refuses x t c p' why.Number (IsOver c id)
 CallsOr x c t t' p p' (Err fault.NoMemory) = WantsMemory c t t' p p'
 
 -- ---- the ends

@@ -172,9 +172,11 @@ impl Txn {
     /// for nobody.
     ///
     /// The call then stands behind the others, answered on all that the pass saw [`answer`, `open`]. `Conflict` names the first bucket of the call that another
-    /// seat was found to hold, and leaves the draft; the pass keeps what it took. `Disk` comes only where a read through the front failed. `BadRow`,
-    /// `BadIndex` and `Unfit` do not come where the log at entry was told and sound; there `BucketFull` and `Number` come only where the definitions refuse
-    /// the call for this reason. After each of these it may be tried again. `NoMemory` leaves the transaction failed, and no other answer does [`failed`]: each
+    /// seat was found to hold, and leaves the draft; the pass keeps what it took, which for a scan is all buckets below that one. `Disk` comes only where a
+    /// read through the front failed. `BadRow` and `BadIndex` name a place of a part of the front that is bad by what was read, and `Unfit` the first node on
+    /// the call's way that is not fit, by what a bucket gives that is then held; these do not come where the log at entry was told and sound. There
+    /// `BucketFull` and `Number` come only where the definitions refuse the call for this reason, with what the bucket's head says, and with the first node
+    /// that is over its bounds. After each of these it may be tried again. `NoMemory` leaves the transaction failed, and no other answer does [`failed`]: each
     /// later call answers it too, and changes nothing, until the transaction is aborted.
     pub fn call<D: LogDisk>(
         &mut self,

@@ -2,7 +2,7 @@ use Rattle.std.proofs.Common.{◌≡◌, ◌+◌, ◌<◌, ◌≤◌, ◌∙◌,
 use Rattle.open_txn.proofs.Advanced.{clean_from, fails_from}
 use Rattle.partition_hold.specs.SourceLaws.{later_itself, later_on, clean_itself, clean_on, fails_earlier}
 use Rattle.partition_hold.specs.Sources.{Fails, IsClean}
-use Rattle.txn_engine.proofs.Scanning.{gathered_cause, gathered_more, has_here, read_more, read_none, read_to_end}
+use Rattle.txn_engine.proofs.Scanning.{gathered_cause, gathered_more, gathered_unfit, has_here, ok_names_none, read_more, read_none, read_to_end}
 use Rattle.txn_engine.proofs.scans.gather_all.Goals as goal
 
 pub loop-bucket-init : goal.loop-bucket-init
@@ -45,7 +45,7 @@ returns g c =
       later = inv.later;
       clean = inv.clean;
       fails = tt;
-      gathers = record { read = read_to_end c.loop-bucket.bucket c.args.front.now c.loop-bucket.front c.args.locks.now c.loop-bucket.locks most inv.later inv.read; next = inv.next ∙ all; more = inv.more; cause = tt };
+      gathers = record { read = read_to_end c.loop-bucket.bucket c.args.front.now c.loop-bucket.front c.args.locks.now c.loop-bucket.locks most inv.later inv.read; next = inv.next ∙ all; more = inv.more; unfit = λ id is. absurd (ok_names_none id is); cause = tt };
     }
 
 pub returns-in-Err : goal.returns-in-Err
@@ -65,6 +65,8 @@ returns-in-Err g c =
         read = read_to_end (c.loop-bucket.bucket + 1) c.args.front.now now c.args.locks.now c.gather_in.new.locks most later read;
         next = tt;
         more = tt;
+        unfit = gathered_unfit c.args.front.now c.loop-bucket.front c.loop-bucket.bucket c.args.locks.now c.loop-bucket.locks inv.later inv.read c.requires.held now low c.gather_in.new.locks c.args.low.now c.args.high.now c.args.limit
+            c.args.scan.now c.loop-bucket.scan c.gather_in.new.scan (Err c.in-Err.fault) e.later e.gathers;
         cause = gathered_cause c.args.front.now c.loop-bucket.front c.loop-bucket.bucket c.args.locks.now c.loop-bucket.locks inv.later inv.read c.requires.held now low c.gather_in.new.locks c.args.low.now c.args.high.now c.args.limit
             c.args.scan.now c.loop-bucket.scan c.gather_in.new.scan (Err c.in-Err.fault) e.later e.gathers c.in-Err.fault refl;
       };

@@ -17,5 +17,5 @@ returns-in-Err g c = record {
   later = c.gather_all.ensures.later;
   clean = c.in-Err.ensures.clean;
   fails = c.in-Err.ensures.fails;
-  scans = scan_halted c.args.front.now c.gather_all.new.front c.args.locks.now c.gather_all.new.locks c.args.draft.now c.args.call.now c.args.low.now c.args.high.now c.args.limit c.new-scan.result c.gather_all.new.scan c.in-Err.fault c.in-Err.ensures.gathers;
+  scans = scan_halted c.args.front.now c.gather_all.new.front c.args.locks.now c.gather_all.new.locks c.args.draft.now c.args.call.now c.args.low.now c.args.high.now c.args.limit c.new-scan.result c.gather_all.new.scan c.in-Err.fault c.requires.scan c.in-Err.ensures.gathers;
 }

@@ -2,10 +2,12 @@
 use Rattle.std.proofs.Common.{◌≡◌, ◌∙◌, ℕ, List, Some, option_map, ap, subst, inl, refl, sym, ◌≤◌}
 use Rattle.log_disk.specs.Disk.{Disk, Told}
 use Rattle.log_disk.specs.Moments.{ContinuesOn}
+use Rattle.fine_model.specs.declared.Damage.{Damage}
 use Rattle.fine_model.specs.declared.Options.{Options}
 use Rattle.fine_model.specs.declared.Part.{Part}
 use Rattle.fine_model.specs.declared.Ran.{Ran}
 use Rattle.fine_model.specs.declared.Row.{Row}
+use Rattle.fine_model.specs.declared.RunFault.TheVariants as run_fault
 use Rattle.fine_model.specs.declared.ScriptTxn.{ScriptTxn}
 use Rattle.fine_model.specs.Buckets.{Began}
 use Rattle.fine_model.specs.Chain.{Shows, chain_end}
@@ -16,7 +18,7 @@ use Rattle.fine_model.proofs.Epochs.{sealed_from, sealed_least}
 use Rattle.epoch_room.specs.Meaning.{StandsAtFirst, origin_of}
 use Rattle.epoch_room.specs.Value.{RoomValue, made}
 use Rattle.epoch_room.specs.Whole.{IsWhole}
-use Rattle.run_laws.specs.Runs.{IsReady, RunsScript}
+use Rattle.run_laws.specs.Runs.{IsDamageAt, IsReady, RunsLanes, RunsScript}
 use Rattle.run_laws.proofs.Runs.{done_law, ready_law, run_law}
 use Rattle.reopen.specs.declared.chain.Chain.{Chain}
 use Rattle.reopen.specs.Opening.{SeesChain}
@@ -42,9 +44,9 @@ module _ (disk : Disk) (live retired : List Part) (whole : IsWhole (made disk li
       all_run = r.all_run;
     }
 
-    run_of : (found : Chain) → found.parts ≡ live → SeesChain disk found → IsRunOf options disk new.disk script ran
+    run_of : (found : Chain) → found.parts ≡ live → SeesChain disk found → ((what : Damage) → ran.fault ≡ Some (run_fault.Damaged what) → IsDamageAt (made disk live retired) script r.history what) → IsRunOf options disk new.disk script ran
     unfolding origin_of
-    run_of found are sees = record {
+    run_of found are sees damage = record {
       found = found;
       sees = sees;
       history = r.history;
@@ -56,6 +58,7 @@ module _ (disk : Disk) (live retired : List Part) (whole : IsWhole (made disk li
       unsound = λ what is before told e rows shows sound.
           let began : Began (origin_of disk) e rows = record { image = before.bytes; told = ap (option_map (λ (t : Told). t.bytes)) told; shows = shows; sound = sound } in
           r.fault.unsound what is rows e began (ready.stands rows e began);
+      damage = λ what before parts is told chained. damage what is before parts told chained;
       told = λ before after e rows old_is new_is shows sound. record {
         run = λ source output. run_law script options (made disk live retired) new ran r source output before after rows e ready old_is new_is shows sound;
         done = λ source output status has one. done_law script options (made disk live retired) new ran r source output before after rows e status ready old_is new_is shows sound has one;
@@ -63,7 +66,7 @@ module _ (disk : Disk) (live retired : List Part) (whole : IsWhole (made disk li
     }
 
 pub run_from : (options : Options) (script : List ScriptTxn) (disk : Disk) (found : Chain) (ran : Ran) (room : RoomValue) → RunsFrom options script disk found ran room → SeesChain disk found → IsRunOf options disk room.disk script ran
-run_from options script disk found ran room r sees = run_of disk found.parts found.retired r.whole r.stood room script options ran r.runs r.entry found refl sees
+run_from options script disk found ran room r sees = run_of disk found.parts found.retired r.whole r.stood room script options ran r.runs r.entry found refl sees r.damage
 
 -- on a sound log that the disk told it is a run on this log
 pub on_from : (options : Options) (script : List ScriptTxn) (disk : Disk) (found : Chain) (ran : Ran) (room : RoomValue) (r : RunsFrom options script disk found ran room) (before after : Told) (e : ℕ) (rows : List Row)
@@ -81,10 +84,13 @@ pub ready_of : (disk : Disk) (live retired : List Part) (room : RoomValue) → r
 ready_of disk live retired room is whole stands = subst IsReady (sym is) (ready disk live retired (subst IsWhole is whole) (subst (λ r. StandsAtFirst r disk.told) is stands))
 
 pub runs_from : (options : Options) (script : List ScriptTxn) (disk : Disk) (found : Chain) (ran : Ran) (room behind : RoomValue) → room ≡ made disk found.parts found.retired → IsWhole room → StandsAtFirst room disk.told
-    → RunsScript script options room behind ran → behind.entry ≡ room.entry → RunsFrom options script disk found ran behind
-runs_from options script disk found ran room behind is whole stands runs entry = record {
-  whole = subst IsWhole is whole;
-  stood = subst (λ r. StandsAtFirst r disk.told) is stands;
-  runs = subst (λ (r : RoomValue). RunsScript script options r behind ran) is runs;
-  entry = entry ∙ ap (λ (r : RoomValue). r.entry) is;
-}
+    → RunsLanes script options room behind ran → behind.entry ≡ room.entry → RunsFrom options script disk found ran behind
+runs_from options script disk found ran room behind is whole stands by entry =
+    let lanes = subst (λ (r : RoomValue). RunsLanes script options r behind ran) is by in
+    record {
+      whole = subst IsWhole is whole;
+      stood = subst (λ r. StandsAtFirst r disk.told) is stands;
+      runs = lanes.run;
+      damage = lanes.damage;
+      entry = entry ∙ ap (λ (r : RoomValue). r.entry) is;
+    }

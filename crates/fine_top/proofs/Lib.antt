@@ -7,3 +7,4 @@ pub mod Listing
 pub mod Generated
 pub mod Unread
 pub mod Complete
+pub mod AnyLog

@@ -19,7 +19,7 @@ use Rattle.log_commands.specs.Found.{FindsChain}
 use Rattle.log_commands.specs.Merged.{KeepsLog, MergesLog, ShowsNone}
 use Rattle.fine_top.specs.Commands.{Does, IsReading, Seen, seen}
 use Rattle.fine_top.specs.Opened.{IsOpenedLog, IsUnsoundLog}
-use Rattle.fine_top.specs.Running.{Ends as EndsRun, IsRefused, LeavesBeside, OfTold, RunsWell}
+use Rattle.fine_top.specs.Running.{Ends as EndsRun, IsRefused, LeavesBeside, OfTold, RunsWell, RunsAny}
 use Rattle.fine_top.proofs.Chainless.{unsound}
 
 -- ---- the chain alone
@@ -178,10 +178,10 @@ module _ (n : Numbers) (left : Option (List ℕ)) (source output : ℕ × ℕ) (
 -- ---- a run
 
 module _ (options : Options) (left : Option (List ℕ)) (source output : ℕ × ℕ) (old new : Disk) (status : ℕ) (was now : Option (List ℕ)) (known : OneOf (0 ∷ 1 ∷ 3 ∷ 4 ∷ 5 ∷ 6 ∷ 7 ∷ 8 ∷ []) status) where
-  pub run_does : EndsRun options (HasRisen source.0 source.1) left old new status was now → RunsWell options left source output old new status was now → (status ≡ 3 → OfTold left IsRefused) → OfTold left (λ bytes. IsRefused bytes → OneOf (1 ∷ 3 ∷ 4 ∷ 5 ∷ []) status)
+  pub run_does : EndsRun options (HasRisen source.0 source.1) left old new status was now → RunsWell options left source output old new status was now → RunsAny left source output old new status was now → (status ≡ 3 → OfTold left IsRefused) → OfTold left (λ bytes. IsRefused bytes → OneOf (1 ∷ 3 ∷ 4 ∷ 5 ∷ []) status)
       → (status ≡ 7 → IsUnsoundLog old) → (OneOf (0 ∷ 8 ∷ []) status → IsOpenedLog old) → (status ≡ 4 → HasRisen source.0 source.1) → (status ≡ 5 → HasRisen output.0 output.1) → (status ≡ 6 → HasRisen old.faults new.faults)
       → (old.faults < new.faults → OneOf (1 ∷ 5 ∷ 6 ∷ []) status) → (OneOf (3 ∷ 4 ∷ []) status → new ≡ old) → LeavesBeside old new → ContinuesOn old new → Does (Some (run options)) (seen left source output old new status was now)
-  run_does ends well script refused unsound opened source_failed output_failed failed told untouched beside time = record {
+  run_does ends well any script refused unsound opened source_failed output_failed failed told untouched beside time = record {
     leaves = record {
       status_is = known;
       source_failed = source_failed;
@@ -195,7 +195,7 @@ module _ (options : Options) (left : Option (List ℕ)) (source output : ℕ × 
       time = time;
       still = λ c is reads. absurd (not_reading c is reads);
     };
-    own = record { ends = ends; run = well; script = script; refused = refused };
+    own = record { ends = ends; run = well; any = any; script = script; refused = refused };
   }
     where
       by : OneOf (2 ∷ 3 ∷ 4 ∷ []) status → new ≡ old

@@ -54,6 +54,26 @@ status_all script outcomes (Some run_fault.Memory) status is = is
 status_all script outcomes (Some run_fault.Disk) status is = is
 status_all script outcomes (Some (run_fault.Damaged what)) status is = is
 
+-- no end has the status of an output that failed
+pub five : (d : Ended) → status_of d ≡ 5 → ⊥
+five (early reason.Words) is = omega (arith, is)
+five (early (reason.Script n)) is = omega (arith, is)
+five (early reason.Source) is = omega (arith, is)
+five (early (reason.Fault run_fault.Memory)) is = omega (arith, is)
+five (early (reason.Fault run_fault.Disk)) is = omega (arith, is)
+five (early (reason.Fault (run_fault.Damaged what))) is = omega (arith, is)
+five (ran script r) is = by r.fault is
+  where
+    refused : (b : Bool) → cond {A = ℕ} b 8 0 ≡ 5 → ⊥
+    refused true h = omega (arith, h)
+    refused false h = omega (arith, h)
+
+    by : (f : Option RunFault) → run_status r.outcomes f ≡ 5 → ⊥
+    by None h = refused (list_any is_refused r.outcomes) h
+    by (Some run_fault.Memory) h = omega (arith, h)
+    by (Some run_fault.Disk) h = omega (arith, h)
+    by (Some (run_fault.Damaged what)) h = omega (arith, h)
+
 -- ---- a disk that was left as it was
 
 module _ (old : Disk) (before : Told) (e : ℕ) (rows : List Row) (shows : Shows old.region_len before.bytes e rows) (is_told : IsToldOf old before) (synced : old.unsynced ≡ []) where
@@ -76,14 +96,23 @@ module _ (old : Disk) (before : Told) (e : ℕ) (rows : List Row) (shows : Shows
   pub keeps_entry : (image : Image) → IsImageSince (clock_of before) before image → ShowsSome old.region_len rows [] e e image
   keeps_entry image since = shows_entry image (only_now before image since)
 
+-- an early end left what the disk tells
+pub early_told : (old new : Disk) (r : Reason) → EndsEarly r old new → new.told ≡ old.told
+early_told old new (reason.Fault run_fault.Disk) en = (en.failed refl).told
+early_told old new (reason.Fault run_fault.Memory) en = ap (λ d. d.told) (en.same (λ x. cc))
+early_told old new (reason.Fault (run_fault.Damaged what)) en = ap (λ d. d.told) (en.same (λ x. cc))
+early_told old new reason.Words en = ap (λ d. d.told) (en.same (λ x. cc))
+early_told old new (reason.Script n) en = ap (λ d. d.told) (en.same (λ x. cc))
+early_told old new reason.Source en = ap (λ d. d.told) (en.same (λ x. cc))
+
 -- ---- the theorem
 
 -- what is known of the counts by a call's status
-record CountsByStatus (source_rose output_rose : Type 0) (old new : Disk) (status : ℕ) : Type 0 where
-  source : status ≡ 4 → source_rose
-  output : status ≡ 5 → output_rose
-  disk : status ≡ 6 → HasRisen old.faults new.faults
-  told : old.faults < new.faults → (status ≡ 1) ⊎ (status ≡ 5) ⊎ (status ≡ 6)
+pub record CountsByStatus (source_rose output_rose : Type 0) (old new : Disk) (status : ℕ) : Type 0 where
+  pub source : status ≡ 4 → source_rose
+  pub output : status ≡ 5 → output_rose
+  pub disk : status ≡ 6 → HasRisen old.faults new.faults
+  pub told : old.faults < new.faults → (status ≡ 1) ⊎ (status ≡ 5) ⊎ (status ≡ 6)
 
 module _ (options : Options) (source output : ℕ × ℕ) (left : Option (List ℕ)) (old new : Disk) (status : ℕ) (was now : Option (List ℕ)) where
   abbrev source_rose : Type 0
@@ -91,6 +120,14 @@ module _ (options : Options) (source output : ℕ × ℕ) (left : Option (List �
 
   abbrev output_rose : Type 0
   output_rose = HasRisen output.0 output.1
+
+  pub faults_by : (before after : Told) → CountsByStatus source_rose output_rose old new status → TellsFaults (return_of old new source output before after) status
+  faults_by before after counts = record {
+    source = counts.source;
+    output = counts.output;
+    disk = λ is. risen_by old.faults new.faults (counts.disk is);
+    told = λ rose. counts.told (omega (arith, rose));
+  }
 
   module _ (counts : CountsByStatus source_rose output_rose old new status) (bytes first : List ℕ) (before after : Told) (e : ℕ) (rows : List Row) (left_is : left ≡ Some bytes) (was_is : was ≡ Some first) (old_is : old.told ≡ Some before)
       (new_is : new.told ≡ Some after) (shows : Shows old.region_len before.bytes e rows) (sound : IsSound rows) (whole : (what : Damage) → SeesLog old (Err what) → ⊥) (is_told : IsToldOf old before)
@@ -102,12 +139,7 @@ module _ (options : Options) (source output : ℕ × ℕ) (left : Option (List �
     back = return_of old new source output before after
 
     faults : TellsFaults back status
-    faults = record {
-      source = counts.source;
-      output = counts.output;
-      disk = λ is. risen_by old.faults new.faults (counts.disk is);
-      told = λ rose. counts.told (omega (arith, rose));
-    }
+    faults = faults_by before after counts
 
     abbrev since : Image → Type 0
     since = IsImageSince (clock_of before) after
@@ -118,18 +150,9 @@ module _ (options : Options) (source output : ℕ × ℕ) (left : Option (List �
     abbrev Result_ : Type 0
     Result_ = (written : List ℕ) × (now ≡ Some (first ++ written)) × Theorem written
 
-    -- an early end left what the disk tells
-    same_told : (r : Reason) → EndsEarly r old new → new.told ≡ old.told
-    same_told (reason.Fault run_fault.Disk) en = (en.failed refl).told
-    same_told (reason.Fault run_fault.Memory) en = ap (λ d. d.told) (en.same (λ x. cc))
-    same_told (reason.Fault (run_fault.Damaged what)) en = ap (λ d. d.told) (en.same (λ x. cc))
-    same_told reason.Words en = ap (λ d. d.told) (en.same (λ x. cc))
-    same_told (reason.Script n) en = ap (λ d. d.told) (en.same (λ x. cc))
-    same_told reason.Source en = ap (λ d. d.told) (en.same (λ x. cc))
-
     module _ (r : Reason) (en : EndsEarly r old new) (why : IsReason source_rose left old r) where
       same_after : after ≡ before
-      same_after = let c : ◌≡◌ {A = Option Told} (Some after) (Some before) = sym new_is ∙ same_told r en ∙ old_is in cc
+      same_after = let c : ◌≡◌ {A = Option Told} (Some after) (Some before) = sym new_is ∙ early_told old new r en ∙ old_is in cc
 
       every_image : KeepsEvery start since []
       every_image = subst (λ t. KeepsEvery start (IsImageSince (clock_of before) t) []) (sym same_after) (keeps_entry old before e rows shows is_told synced)
@@ -311,25 +334,6 @@ module _ (options : Options) (source output : ℕ × ℕ) (left : Option (List �
 
     -- ---- the whole
 
-    five : (d : Ended) → status_of d ≡ 5 → ⊥
-    five (early reason.Words) is = omega (arith, is)
-    five (early (reason.Script n)) is = omega (arith, is)
-    five (early reason.Source) is = omega (arith, is)
-    five (early (reason.Fault run_fault.Memory)) is = omega (arith, is)
-    five (early (reason.Fault run_fault.Disk)) is = omega (arith, is)
-    five (early (reason.Fault (run_fault.Damaged what))) is = omega (arith, is)
-    five (ran script r) is = by r.fault is
-      where
-        refused : (b : Bool) → cond {A = ℕ} b 8 0 ≡ 5 → ⊥
-        refused true h = omega (arith, h)
-        refused false h = omega (arith, h)
-
-        by : (f : Option RunFault) → run_status r.outcomes f ≡ 5 → ⊥
-        by None h = refused (list_any is_refused r.outcomes) h
-        by (Some run_fault.Memory) h = omega (arith, h)
-        by (Some run_fault.Disk) h = omega (arith, h)
-        by (Some (run_fault.Damaged what)) h = omega (arith, h)
-
     whole_text : (d : Ended) → IsEnd options source_rose left old new d → (written : List ℕ) → written ≡ text_of d → status ≡ status_of d → Theorem written
     unfolding text_of
     whole_text (early r) end written text is = early_whole r end.1 end.0 written text is
@@ -385,7 +389,7 @@ module _ (options : Options) (source output : ℕ × ℕ) (left : Option (List �
       by (inl fault) = inr (ap (run_status r.outcomes) fault)
       by (inr fault) = inl (ap (run_status r.outcomes) fault)
 
-  counts_of : (status ≡ 4 → source_rose) → (status ≡ 5 → output_rose) → Ends options source_rose left old new status was now → CountsByStatus source_rose output_rose old new status
+  pub counts_of : (status ≡ 4 → source_rose) → (status ≡ 5 → output_rose) → Ends options source_rose left old new status was now → CountsByStatus source_rose output_rose old new status
   counts_of source_failed output_failed en = record { source = source_failed; output = output_failed; disk = λ six. disk en.status_is six; told = λ rose. told en.status_is (told_end en.ended en.is_end rose) }
     where
       disk : (status ≡ 5) ⊎ (status ≡ status_of en.ended) → status ≡ 6 → HasRisen old.faults new.faults
@@ -401,19 +405,11 @@ module _ (options : Options) (source output : ℕ × ℕ) (left : Option (List �
   pub goes_on : Ends options source_rose left old new status was now → ContinuesOn old new
   goes_on en = by en.ended en.is_end
     where
-      early_on : (r : Reason) → EndsEarly r old new → ContinuesOn old new
-      early_on (reason.Fault run_fault.Disk) en = continues_told old new (en.failed refl).told
-      early_on (reason.Fault run_fault.Memory) en = continues_told old new (ap (λ d. d.told) (en.same (λ x. cc)))
-      early_on (reason.Fault (run_fault.Damaged what)) en = continues_told old new (ap (λ d. d.told) (en.same (λ x. cc)))
-      early_on reason.Words en = continues_told old new (ap (λ d. d.told) (en.same (λ x. cc)))
-      early_on (reason.Script n) en = continues_told old new (ap (λ d. d.told) (en.same (λ x. cc)))
-      early_on reason.Source en = continues_told old new (ap (λ d. d.told) (en.same (λ x. cc)))
-
       by : (d : Ended) → IsEnd options source_rose left old new d → ContinuesOn old new
-      by (early r) end = early_on r end.1
+      by (early r) end = continues_told old new (early_told old new r end.1)
       by (ran script r) end = end.1.time
 
-  told_on_return : (before : Told) → old.told ≡ Some before → ContinuesOn old new → (after : Told) × (new.told ≡ Some after)
+  pub told_on_return : (before : Told) → old.told ≡ Some before → ContinuesOn old new → (after : Told) × (new.told ≡ Some after)
   told_on_return before is time = by old.told new.told is refl time
     where
       by : (a b : Option Told) → a ≡ Some before → new.told ≡ b → BothTold Continues a b → (after : Told) × (new.told ≡ Some after)

@@ -25,6 +25,7 @@ use Rattle.map_reader.proofs.Dumped.{dumps_any, dumps_well}
 use Rattle.fine_top.specs.Generating.{Ends as EndsGen, Numbers, numbers, early as gen_early, text_of as gen_text}
 use Rattle.fine_top.specs.Running.{Ends, early, text_of}
 use Rattle.fine_top.proofs.Generated.{gens_well}
+use Rattle.fine_top.proofs.AnyLog.{runs_any}
 use Rattle.fine_top.proofs.Theorem.{runs_well}
 use Rattle.log_commands.proofs.Printed.{wrote_all, wrote_front}
 
@@ -149,6 +150,7 @@ module _ (left : Option (List ℕ)) (source output : ℕ × ℕ) (disk : Disk) (
     own (Some (run options)) = record {
       ends = run_ends options;
       run = runs_well options source output left disk disk status was now (λ four. absurd (grind (arith, few, four))) output_failed sound idle.synced (run_ends options);
+      any = runs_any options source output left disk disk status was now (λ four. absurd (grind (arith, few, four))) output_failed (run_ends options);
       script = λ three. absurd (grind (arith, few, three));
       refused = λ bytes left_is refused. elim is as (λ _. OneOf (1 ∷ 3 ∷ 4 ∷ 5 ∷ []) status) [ inl five ↦ inr (inr (inr (inl five))) | inr one ↦ inl one ];
     }

@@ -15,7 +15,7 @@ use Rattle.log_commands.specs.Merged.{MergesLog}
 use Rattle.map_reader.specs.Dumps.{DumpsAny, DumpsWell, Ends as EndsDump}
 use Rattle.fine_top.specs.Generating.{Ends as EndsGen, GensWell, Numbers, numbers}
 use Rattle.fine_top.specs.Opened.{IsOpenedLog, IsUnsoundLog}
-use Rattle.fine_top.specs.Running.{Ends, IsRefused, LeavesBeside, OfTold, RunsWell, SpellsScript}
+use Rattle.fine_top.specs.Running.{Ends, IsRefused, LeavesBeside, OfTold, RunsAny, RunsWell, SpellsScript}
 
 -- What a call is given and what it leaves, as far as a clause speaks of it: the script's bytes where the source tells them, the counts of faults of the source and of the output
 -- before and after, the disk before and after, the status, and the output's bytes before and after.
@@ -72,6 +72,7 @@ pub record Leaves (command : Option Command) (s : Seen) : Type 0 where
 pub record DoesRun (options : Options) (s : Seen) : Type 0 where
   pub ends : Ends options (HasRisen s.source.0 s.source.1) s.left s.old s.new s.status s.was s.now
   pub run : RunsWell options s.left s.source s.output s.old s.new s.status s.was s.now
+  pub any : RunsAny s.left s.source s.output s.old s.new s.status s.was s.now
   pub script : s.status ≡ 3 → OfTold s.left IsRefused
   pub refused : OfTold s.left (λ bytes. IsRefused bytes → OneOf (1 ∷ 3 ∷ 4 ∷ 5 ∷ []) s.status)
 

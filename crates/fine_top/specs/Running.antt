@@ -15,11 +15,11 @@ use Rattle.fine_model.specs.declared.Reason.TheVariants as reason
 use Rattle.fine_model.specs.declared.Ran.{Ran}
 use Rattle.fine_model.specs.declared.Part.{Part}
 use Rattle.fine_model.specs.Bounds.{FitsScript}
-use Rattle.fine_model.specs.Damages.{IsDurableFor}
+use Rattle.fine_model.specs.Damages.{IsDamageIn, IsDurableFor, RunDamagedTheorem}
 use Rattle.fine_model.specs.Outcomes.{AllRun, AreOutcomes, IsOneLane, is_refused}
 use Rattle.fine_model.specs.History.{Commit}
 use Rattle.fine_model.specs.Trees.{IsSound}
-use Rattle.fine_model.specs.Chain.{Shows, chain_end}
+use Rattle.fine_model.specs.Chain.{Shows, chain, chain_end}
 use Rattle.fine_model.specs.Room.{IsSealedUpTo}
 use Rattle.fine_model.specs.Headline.{Start, HasStatus, IsDoneRun, IsRunWith, IsRefusedAt, RunTheorem, causes_of}
 use Rattle.fine_model.specs.Script.{script_of}
@@ -30,7 +30,7 @@ use Rattle.log_commands.specs.Ends.{fault_status}
 use Rattle.log_commands.specs.Found.{SeesLog}
 use Rattle.run_laws.specs.Law.{return_of, start_of}
 use Rattle.run_laws.specs.Needs.{AreSealedInNeed}
-use Rattle.run_laws.specs.Runs.{AreFewOfLanes, IsReplied, RunsScript}
+use Rattle.run_laws.specs.Runs.{AreFewOfLanes, IsDamageAt, IsReplied, RunsScript}
 use Rattle.epoch_room.specs.Meaning.{StandsAtFirst}
 use Rattle.epoch_room.specs.Value.{RoomValue, made}
 use Rattle.epoch_room.specs.Whole.{IsWhole}
@@ -121,7 +121,8 @@ pub record LeavesBeside (old new : Disk) : Type 0 where
   pub no_eyes : new.eyes ≡ []
 
 -- A run between two states of the disk, behind the chain that was found, by one history; on each sound log that the disk told it is a run on this log. Whatever it tells: a failed disk is told only
--- where its count rose, and where that is greater than it was, a failed disk or want of memory; damage only on a log that is not sound.
+-- where its count rose, and where that is greater than it was, a failed disk or want of memory; damage only on a log that is not sound, which the bytes at entry have where a chain is found in them, or
+-- which the run's calls made of their nodes.
 pub record IsRunOf (options : Options) (old new : Disk) (script : List ScriptTxn) (ran : Ran) : Type 0 where
   pub found : Chain
   pub sees : SeesChain old found
@@ -132,6 +133,8 @@ pub record IsRunOf (options : Options) (old new : Disk) (script : List ScriptTxn
   pub only_risen : ran.fault ≡ Some run_fault.Disk → HasRisen old.faults new.faults
   pub where_risen : old.faults < new.faults → (ran.fault ≡ Some run_fault.Disk) ⊎ (ran.fault ≡ Some run_fault.Memory)
   pub unsound : (what : Damage) → ran.fault ≡ Some (run_fault.Damaged what) → IsUnsoundLog old
+  pub damage : (what : Damage) (before : Told) (parts : List Part) → ran.fault ≡ Some (run_fault.Damaged what) → old.told ≡ Some before → chain old.region_len before.bytes ≡ Ok parts
+      → IsDamageIn (Ok script) ⊥ history old.region_len before.bytes parts what
   pub told : (before after : Told) (e : ℕ) (rows : List Row) → old.told ≡ Some before → new.told ≡ Some after → Shows old.region_len before.bytes e rows → IsSound rows
       → IsRunOn options old new before after script ran history e rows
 
@@ -173,6 +176,7 @@ pub record RunsFrom (options : Options) (script : List ScriptTxn) (disk : Disk) 
   pub whole : IsWhole (made disk found.parts found.retired)
   pub stood : StandsAtFirst (made disk found.parts found.retired) disk.told
   pub runs : RunsScript script options (made disk found.parts found.retired) room ran
+  pub damage : (what : Damage) → ran.fault ≡ Some (run_fault.Damaged what) → IsDamageAt (made disk found.parts found.retired) script runs.history what
   pub entry : room.entry ≡ disk
 
 -- a script may be run, and the chain of the log that it runs on was found
@@ -207,3 +211,9 @@ pub record RunsWell (options : Options) (left : Option (List ℕ)) (source outpu
       → (after : Told) × (new.told ≡ Some after) × (written : List ℕ) × (now ≡ Some (first ++ written))
       × RunTheorem (causes_of (start_on old bytes e rows) (return_of old new source output before after)) (start_on old bytes e rows) options.group (IsImageSince (clock_of before) after) (IsImageNow after)
       (return_of old new source output before after) (new ≡ old) status written
+
+-- The theorem of a run on every log that the disk told at entry, sound or not, where script and output are told.
+pub record RunsAny (left : Option (List ℕ)) (source output : ℕ × ℕ) (old new : Disk) (status : ℕ) (was now : Option (List ℕ)) : Type 0 where
+  pub holds : (bytes first : List ℕ) (before : Told) → left ≡ Some bytes → was ≡ Some first → old.told ≡ Some before
+      → (after : Told) × (new.told ≡ Some after) × (written : List ℕ) × (now ≡ Some (first ++ written))
+      × RunDamagedTheorem (script_of bytes) old.region_len before.bytes (return_of old new source output before after) (new.told ≡ old.told) status written

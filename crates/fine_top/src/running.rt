@@ -8,7 +8,7 @@ ghost use Rattle.fine_model.specs.Bounds.{FitsScript};
 ghost use Rattle.fine_model.specs.Headline.{OneOf};
 ghost use Rattle.reopen.specs.Opening.{SeesChain};
 ghost use Rattle.fine_top.specs.Opened.{IsOpenedLog, IsUnsoundLog};
-ghost use Rattle.fine_top.specs.Running.{Ends, EndsRunOf, IsRefused, LeavesBeside, OfTold, RunsFrom, RunsWell};
+ghost use Rattle.fine_top.specs.Running.{Ends, EndsRunOf, IsRefused, LeavesBeside, OfTold, RunsAny, RunsFrom, RunsWell};
 
 use crate::opening::{Opened, open_run};
 use crate::printing::{print_reason, print_report};
@@ -132,6 +132,7 @@ pub(crate) fn run_and_print<S: Source, K: Sink, D: LogDisk, G: Gate>(
     // What is printed, and why; and the theorem of a run.
     ensures ends { Ends options.now (HasRisen (S.faults script.old) (S.faults script.new)) (S.left script.old) (D.state disk) (D.state result.disk) result.status (K.written out.old) (K.written out.new) }
     ensures run { RunsWell options.now (S.left script.old) (S.faults script.old, S.faults script.new) (K.faults out.old, K.faults out.new) (D.state disk) (D.state result.disk) result.status (K.written out.old) (K.written out.new) }
+    ensures run_any { RunsAny (S.left script.old) (S.faults script.old, S.faults script.new) (K.faults out.old, K.faults out.new) (D.state disk) (D.state result.disk) result.status (K.written out.old) (K.written out.new) }
 
     // Why each status comes.
     ensures script { result.status ≡ 3 → OfTold (S.left script.old) IsRefused }

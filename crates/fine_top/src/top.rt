@@ -15,7 +15,7 @@ ghost use Rattle.map_reader.specs.Dumps.{DumpsAny, DumpsWell, Ends as EndsDump};
 ghost use Rattle.fine_top.specs.Commands.{Does, HasScript, IsReading, NoneRose, RefusesWords, TellsSound, seen, statuses_of};
 ghost use Rattle.fine_top.specs.Generating.{Ends as EndsGen, GensWell, numbers};
 ghost use Rattle.fine_top.specs.Opened.{IsOpenedLog, IsUnsoundLog};
-ghost use Rattle.fine_top.specs.Running.{Ends, IsRefused, LeavesBeside, OfTold, RunsWell};
+ghost use Rattle.fine_top.specs.Running.{Ends, IsRefused, LeavesBeside, OfTold, RunsAny, RunsWell};
 
 use crate::generating::generate_and_print;
 use crate::printing::print_reason;
@@ -128,9 +128,10 @@ pub fn fineline<R: Threads + Wait + Sync, S: Source, K: Sink, D: LogDisk, G: Gat
     ensures words { command_in words.now ≡ None → RefusesWords (K.faults out.old, K.faults out.new) (D.state disk) (D.state result.disk) result.status (K.written out.old) (K.written out.new) }
 
     // `run`: what is printed, and why. The printed places order the committed transactions into one history of a sequential store, every image that a crash could
-    // have left reopens to a prefix of it, each refusal that is printed has its cause, and status 6 tells a failed disk.
+    // have left reopens to a prefix of it, each refusal that is printed has its cause, and status 6 tells a failed disk. On a log that is not sound, what is named as damaged is there, or the run's calls made it so.
     ensures run_ends { (options : Options) → command_in words.now ≡ Some (run options) → Ends options (HasRisen (S.faults script.old) (S.faults script.new)) (S.left script.old) (D.state disk) (D.state result.disk) result.status (K.written out.old) (K.written out.new) }
     ensures run { (options : Options) → command_in words.now ≡ Some (run options) → RunsWell options (S.left script.old) (S.faults script.old, S.faults script.new) (K.faults out.old, K.faults out.new) (D.state disk) (D.state result.disk) result.status (K.written out.old) (K.written out.new) }
+    ensures run_any { (options : Options) → command_in words.now ≡ Some (run options) → RunsAny (S.left script.old) (S.faults script.old, S.faults script.new) (K.faults out.old, K.faults out.new) (D.state disk) (D.state result.disk) result.status (K.written out.old) (K.written out.new) }
 
     // Status 3 comes exactly for a script that the grammar refuses, unless 1, 4 or 5 comes.
     ensures script { result.status ≡ 3 → OfTold (S.left script.old) IsRefused }

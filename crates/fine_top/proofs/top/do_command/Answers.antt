@@ -11,7 +11,7 @@ returns-in-Run g c =
     (g.D.LogDisk.state c.args.disk) (g.D.LogDisk.state c.run_and_print.result.disk) c.run_and_print.result.status (g.K.Sink.written c.args.out.now) (g.K.Sink.written c.run_and_print.new.out)) c.in-Run.is
     (run_does c.in-Run.options (g.S.Source.left c.args.script.now) (g.S.Source.faults c.args.script.now, g.S.Source.faults c.run_and_print.new.script) (g.K.Sink.faults c.args.out.now, g.K.Sink.faults c.run_and_print.new.out)
     (g.D.LogDisk.state c.args.disk) (g.D.LogDisk.state c.run_and_print.result.disk) c.run_and_print.result.status (g.K.Sink.written c.args.out.now) (g.K.Sink.written c.run_and_print.new.out)
-    c.run_and_print.ensures.known c.run_and_print.ensures.ends c.run_and_print.ensures.run c.run_and_print.ensures.script c.run_and_print.ensures.refused c.run_and_print.ensures.damaged c.run_and_print.ensures.opened c.run_and_print.ensures.source_failed c.run_and_print.ensures.output_failed c.run_and_print.ensures.disk_failed c.run_and_print.ensures.disk_told c.run_and_print.ensures.untouched c.run_and_print.ensures.beside c.run_and_print.ensures.told)
+    c.run_and_print.ensures.known c.run_and_print.ensures.ends c.run_and_print.ensures.run c.run_and_print.ensures.run_any c.run_and_print.ensures.script c.run_and_print.ensures.refused c.run_and_print.ensures.damaged c.run_and_print.ensures.opened c.run_and_print.ensures.source_failed c.run_and_print.ensures.output_failed c.run_and_print.ensures.disk_failed c.run_and_print.ensures.disk_told c.run_and_print.ensures.untouched c.run_and_print.ensures.beside c.run_and_print.ensures.told)
 
 pub returns-in-Dump : goal.returns-in-Dump
 returns-in-Dump g c =

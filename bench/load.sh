@@ -1,8 +1,9 @@
 #!/bin/sh
 # Prints what a load of 100,000 transactions costs, each with one `put` of a key of 12 bytes and a value of 100, in groups of 64 and of 1, beside a C
 # program that writes and syncs as many epochs of as many bytes: transactions a second, processor microseconds a transaction (all, reading
-# alone, and reading with printing alone), bytes written for each byte that is put (the report among them), resident memory, and the ratio of times. Then the time to the first `get` on
-# the log that is left, with as many transactions and with a tenth of them.
+# alone, and reading with printing alone), bytes written for each byte that is put and for each byte of epochs (the report is not counted), resident memory, and the ratio of times.
+# Then the time to the first `get` on the log that is left, with as many transactions and with a tenth of them: of a transaction that is aborted, so that nothing is sealed for it,
+# and of one that is committed. The bytes of epochs are those of the same rows in epochs that fill their regions, of which none is merged, and an index entry for each transaction.
 #
 # Reading alone is a script whose last line is refused; reading with printing is one whose transactions are all aborted and put nothing. `sh bench/load.sh 10000` makes
 # a smaller load. It is no test. The program is proved before it is built.
@@ -99,11 +100,27 @@ script load "$count" 1 commit ""
 script tenth $((count / 10)) 1 commit ""
 script refused "$count" 1 commit "no line"
 script aborted "$count" 0 abort ""
+printf 'txn 1\nget k00000000000\nabort\n' > "$work/get"
 printf 'txn 1\nget k00000000000\ncommit\n' > "$work/one"
 
 timed() { "$work/timed" "$@" > "$work/timing"; read -r wall cpu resident bytes status < "$work/timing"; }
+# loaded SCRIPT GROUP: a load of a new log, and the bytes that it wrote to it.
+loaded() {
+  rm -f "$work/log"
+  timed "$work/$1" "$work/out" "$fineline" "$work/log" default run --group "$2"
+  bytes=$((bytes - $(wc -c < "$work/out")))
+}
+# gets: the milliseconds of a first get that is aborted, and of one that is committed.
+gets() {
+  timed "$work/get" "$work/out" "$fineline" "$work/log" default run
+  aborted=$wall
+  timed "$work/one" "$work/out" "$fineline" "$work/log" default run
+  echo "$(of $aborted 1000) ms, and $(of $wall 1000) with its commit"
+}
 of() { awk -v a="$1" -v b="$2" 'BEGIN { printf "%.2f", a / b }'; }
 
+loaded load 100000
+epoch_bytes=$((bytes + count * 14))
 for group in 64 1; do
   epochs=$((count / group))
   rm -f "$work/log"
@@ -111,17 +128,14 @@ for group in 64 1; do
   reading=$cpu
   timed "$work/aborted" "$work/out" "$fineline" "$work/log" default run --group $group
   printing=$cpu
-  timed "$work/load" "$work/out" "$fineline" "$work/log" default run --group $group
+  loaded load $group
   run_wall=$wall run_cpu=$cpu run_resident=$resident run_bytes=$bytes run_status=$status
   # a row has 19 + 1 + 12 + 2 + 100 bytes, an epoch an index entry for each leaf besides, of which there is at least one
   timed /dev/null /dev/null "$work/plain" "$work/plain_log" $epochs $((40 + group * 134 + 14))
   echo "group $group, status $run_status: $(of $((count * 1000)) $((run_wall / 1000))) transactions a second, $(of $run_wall $wall) of the C program's time"
   echo "  processor microseconds a transaction: $(of $run_cpu $count) in all; reading $(of $reading $count); reading and printing without a call $(of $printing $count)"
-  echo "  bytes written for each byte put: $(of $run_bytes $((count * 112))); resident memory $((run_resident / 1024)) MiB"
-  timed "$work/one" "$work/out" "$fineline" "$work/log" default run
-  echo "  a first get behind all of them: $(of $wall 1000) ms"
-  rm -f "$work/log"
-  timed "$work/tenth" "$work/out" "$fineline" "$work/log" default run --group $group
-  timed "$work/one" "$work/out" "$fineline" "$work/log" default run
-  echo "  behind a tenth of them: $(of $wall 1000) ms"
+  echo "  bytes written: $(of $run_bytes $((count * 112))) for each byte put, $(of $run_bytes $epoch_bytes) for each byte of epochs; resident memory $((run_resident / 1024)) MiB"
+  echo "  a first get behind all of them: $(gets)"
+  loaded tenth $group
+  echo "  behind a tenth of them: $(gets)"
 done

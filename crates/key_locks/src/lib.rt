@@ -1,23 +1,25 @@
 //! The buckets that a transaction has taken, by number.
 #![tactic(auto)]
 
-ghost use Rattle.std.specs.Prelude.{◌≡◌, ◌≢◌, ◌<◌, ◌≤◌, ℕ, IfOk, IfErr, OnOk, OnErr, MatchBool, None, Some, Option, length, replicate, slice_get, slice_set, vec_len};
+ghost use Rattle.std.specs.Prelude.{◌≡◌, ◌≢◌, ◌<◌, ◌≤◌, ℕ, IfOk, IfErr, OnOk, OnErr, MatchBool, MatchOption, None, Some, Option, length, replicate, slice_get, slice_set, vec_len};
 ghost use Rattle.fine_model.specs.Trees.{bucket_of as bucket_of_key};
 ghost use Rattle.fine_model.specs.Buckets.{IsBucketFor};
 ghost use Rattle.fine_hall.specs.Passes.{published, seen, HasPlace, LacksPlace};
 ghost use Rattle.fine_hall.specs.Halls.{IsPassOf, begun, FindsHeld};
 ghost use Rattle.std.specs.Option.{option_copied_mut};
 ghost use Rattle.std.specs.Borrow.{sem};
-ghost use Rattle.key_locks.specs.Lent.{LendsBucket, LendsContent};
+ghost use Rattle.key_locks.specs.Lent.{LendsBucket};
+ghost use Rattle.key_locks.specs.Slots.{EachBy, Empties, LeavesAt, number_filled};
 ghost use Rattle.key_locks.specs.Locks.{HasLock, LacksLock, AreLocksOf, AllStand, Wants, Gathers, HasAllBelow, StopsAt, Releases};
 
+use crate::slots::Slots;
 use fine_hall::{Conflict, Hall, Pass};
 use fine_model::{BucketLaw, NoMemory, RoomLaw, ViewLaw, bucket_of};
 use std::alloc::Global;
 use std::marker::Model;
-use std::mem;
 
 mod laws;
+mod slots;
 
 pub use laws::{hold_law, stand_law};
 
@@ -29,17 +31,15 @@ const BUCKETS: u16 = 256;
 /// A bucket that was taken is held until `release_all`.
 #[derive(Drop)]
 pub struct LockSet<B> {
-    contents: Vec<Option<B>>,
+    slots: Slots<B>,
 }
 
 impl<B> Model for LockSet<B> {
-    ghost use Rattle.std.specs.Prelude.{◌≡◌, List, Option, length};
+    ghost use Rattle.std.specs.Prelude.{List, Option};
 
     ghost Value = { List (Option B) };
 
-    ghost view = { λ s. s.contents.items };
-
-    ghost invariant = { λ s. length s.contents.items ≡ 256 };
+    ghost view = { λ s. s.slots };
 }
 
 impl<B: BucketLaw + Drop> LockSet<B> {
@@ -47,11 +47,9 @@ impl<B: BucketLaw + Drop> LockSet<B> {
     pub fn new(alloc: Global) -> Result<LockSet<B>, NoMemory>
         ensures { IfOk result (λ locks. locks ≡ replicate 256 None) }
     {
-        let mut contents = Vec::with_capacity(alloc, usize::from(BUCKETS))?;
-        for _ in 0..BUCKETS {
-            contents.push_reserved(None);
-        }
-        Ok(LockSet { contents })
+        Ok(LockSet {
+            slots: Slots::new(alloc)?,
+        })
     }
 
     /// The content of a bucket. None exactly where it is not held.
@@ -60,22 +58,15 @@ impl<B: BucketLaw + Drop> LockSet<B> {
         ensures value { slice_get self.old bucket ≡ Some (option_copied_mut result) }
         ensures* writes_back { sem 𝓛 (LendsBucket B.row self.entry bucket result) }
     {
-        if self.is_held(bucket) {
-            Some(self.content(bucket))
-        } else {
-            None
-        }
+        self.slots.get(bucket)
     }
 
-    fn content(&mut self, bucket: u16) -> &mut B
-        requires held { (bucket < 256) × ((content : B) × HasLock self.old bucket content) }
-        ensures value { HasLock self.old bucket result.now }
-        ensures* writes_back { sem 𝓛 (LendsContent B.row self.entry bucket result) }
+    /// Changes the content of each bucket that is held. It goes over no other place, which no clause says.
+    pub fn each<F: Fn(&mut B)>(&mut self, change: F)
+        requires { F.IsAlwaysCallable change }
+        ensures { EachBy (LeavesAt F.Fn change) self.old self.new }
     {
-        match &mut self.contents[usize::from(bucket)] {
-            Some(content) => content,
-            None => unreachable!(),
-        }
+        self.slots.each(change);
     }
 
     /// Whether a bucket is held.
@@ -83,17 +74,21 @@ impl<B: BucketLaw + Drop> LockSet<B> {
         requires { bucket < 256 }
         ensures { MatchBool result ((content : B) × HasLock self.now bucket content) (LacksLock self.now bucket) }
     {
-        match &self.contents[usize::from(bucket)] {
-            Some(_) => true,
-            None => false,
-        }
+        self.slots.is_filled(bucket)
     }
 
     fn keep(&mut self, bucket: u16, content: B)
-        requires { bucket < 256 }
+        requires { (bucket < 256) × LacksLock self.old bucket }
         ensures { self.new ≡ slice_set self.old bucket (Some content) }
     {
-        self.contents[usize::from(bucket)] = Some(content);
+        self.slots.fill(bucket, content);
+    }
+
+    /// Takes the content of a bucket that is held out of the set. None exactly where none is held.
+    fn take_one(&mut self) -> Option<(u16, B)>
+        ensures { MatchOption result (((k : ℕ) → k < 256 → LacksLock self.old k) × (self.new ≡ self.old)) (λ taken. Empties self.old self.new taken.0 taken.1) }
+    {
+        self.slots.take_one()
     }
 
     /// Takes a bucket where it is not held yet.
@@ -165,36 +160,27 @@ impl<B: BucketLaw + Drop> LockSet<B> {
         Ok(())
     }
 
-    /// Takes the content of a bucket out of the set, where it is held.
-    fn take_out(&mut self, bucket: u16) -> Option<B>
-        requires { bucket < 256 }
-        ensures was { slice_get self.old bucket ≡ Some result }
-        ensures gone { self.new ≡ slice_set self.old bucket None }
-    {
-        mem::replace(&mut self.contents[usize::from(bucket)], None)
-    }
-
-    /// Gives a bucket back where it is held.
-    fn release<R: RoomLaw, V: ViewLaw>(
+    /// Gives back a bucket that is held. False exactly where none is.
+    fn release_one<R: RoomLaw, V: ViewLaw>(
         &mut self,
         hall: &Hall<R, B, V>,
         pass: &mut Pass<V>,
-        bucket: u16,
-    )
-        requires bucket { bucket < 256 }
+    ) -> bool
         requires pass { IsPassOf R.state R.origin V.state hall.now pass.old × AreLocksOf self.old pass.old }
         requires stands { AllStand B.bucket B.cached B.is_settled (begun R.state R.origin V.state hall.now).log self.old pass.old }
         ensures pass { IsPassOf R.state R.origin V.state hall.now pass.new × (pass.new.number ≡ pass.old.number) × AreLocksOf self.new pass.new }
         ensures stands { AllStand B.bucket B.cached B.is_settled (begun R.state R.origin V.state hall.now).log self.new pass.new }
-        ensures gone { LacksLock self.new bucket }
         ensures releases { Releases self.old self.new pass.old pass.new }
+        ensures fewer { MatchBool result (number_filled self.new < number_filled self.old) ((k : ℕ) → k < 256 → LacksLock self.new k) }
     {
-        if let Some(content) = self.take_out(bucket) {
-            hall.give_bucket(pass, bucket, content);
-        }
+        let Some((bucket, content)) = self.take_one() else {
+            return false;
+        };
+        hall.give_bucket(pass, bucket, content);
+        true
     }
 
-    /// Gives all buckets back. It takes no memory.
+    /// Gives all buckets back. It takes no memory, and goes over no other place, which no clause says.
     ///
     /// Each content stands for the whole history that the pass saw.
     pub fn release_all<R: RoomLaw, V: ViewLaw>(&mut self, hall: &Hall<R, B, V>, pass: &mut Pass<V>)
@@ -204,8 +190,6 @@ impl<B: BucketLaw + Drop> LockSet<B> {
         ensures none { (k : ℕ) → k < 256 → LacksLock self.new k }
         ensures releases { Releases self.old self.new pass.old pass.new }
     {
-        for bucket in 0..BUCKETS {
-            self.release(hall, pass, bucket);
-        }
+        while self.release_one(hall, pass) {}
     }
 }

@@ -169,7 +169,7 @@ all_here k j (c ∷ cs) high on = by c (all_here k j cs high) on
     by (call.Add name amount) rest there = key name rest there
     by (call.Scan low high limit) rest there = refl
 
-module _ (x : Beginning) (p p' : RoomPass) (sees : SeesMore p p') (lawful_before : AreTurns x (turns p)) (lawful : AreTurns x (turns p')) where
+module _ (x : Beginning) (p p' : RoomPass) (sees : SeesMore p p') (lawful_before : AreTurns x (turns p)) (legal : (e : ℕ) (first : List Row) → Began x.log e first → IsLegal first (seen p')) where
   abbrev commits_more : List Commit
   commits_more = commits sees.longer.0
 
@@ -183,7 +183,7 @@ module _ (x : Beginning) (p p' : RoomPass) (sees : SeesMore p p') (lawful_before
   pub answered_on : (d : DraftValue) (e : ℕ) (first : List Row) → Began x.log e first → ((k : ℕ) → k < 256 → list_any (is_here k) d.calls ≡ true → HasPlace p k) → IsAnswered (first ++ all_rows (seen p)) d → IsAnswered (first ++ all_rows (seen p')) d
   answered_on d e first began held answered =
       let a = legal_rows x.log e first (seen p) began (lawful_before.legal e first began) in
-      let b = legal_rows x.log e first (seen p') began (lawful.legal e first began) in
+      let b = legal_rows x.log e first (seen p') began (legal e first began) in
       local_law (first ++ all_rows (seen p)) (first ++ all_rows (seen p')) d a.1 b.1 a.0 b.0 (record { each = same }) answered
     where
       adds : AddsElsewhere p p'
@@ -195,7 +195,7 @@ module _ (x : Beginning) (p p' : RoomPass) (sees : SeesMore p p') (lawful_before
       -- where all buckets are held, nobody else commits a row
       none_more : (k : ℕ) → 256 ≤ k → list_any (is_here k) d.calls ≡ true → adds.more ≡ []
       none_more k high on =
-          let none : all_rows commits_more ≡ [] = rows_none first (seen p) commits_more (λ j low. none_in j low (held j low (all_here k j d.calls high on))) (subst (IsLegal first) seen_longer (lawful.legal e first began)) in
+          let none : all_rows commits_more ≡ [] = rows_none first (seen p) commits_more (λ j low. none_in j low (held j low (all_here k j d.calls high on))) (subst (IsLegal first) seen_longer (legal e first began)) in
           let still : all_rows (seen p') ≡ all_rows (seen p) = ap all_rows seen_longer ∙ (rows_together (seen p) commits_more ∙ (ap (λ l. all_rows (seen p) ++ l) none ∙ append-nil (all_rows (seen p)))) in
           nothing_more (all_rows (seen p)) adds.more (sym still ∙ adds.behind)
 

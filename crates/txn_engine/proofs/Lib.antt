@@ -9,3 +9,4 @@ pub mod Calling
 pub mod Releasing
 pub mod Committing
 pub mod Idle
+pub mod Turned

@@ -1,17 +1,22 @@
 -- Laws of open transactions.
-use Rattle.std.specs.Prelude.{◌≡◌, ℕ, ◌<◌, ◌++◌, true, false, List}
+use Rattle.std.specs.Prelude.{◌≡◌, ℕ, ◌<◌, ◌++◌, Bool, true, false, List, Result}
 use Rattle.std.specs.List.{list_any}
 use lib.ListN.{get_elem?}
 use Rattle.fine_model.specs.declared.Row.{Row}
+use Rattle.fine_model.specs.declared.law.RoomState.{RoomState}
 use Rattle.fine_model.specs.Buckets.{Began}
 use Rattle.fine_model.specs.History.{all_rows}
 use Rattle.txn_draft.specs.Drafts.{DraftValue, IsAnswered, blank, is_here}
+use Rattle.epoch_room.specs.declared.answers.RoomFault.{RoomFault}
 use Rattle.epoch_room.specs.declared.answers.Stamp.{Stamp}
+use Rattle.room_merges.specs.declared.fault.MergeFault.{MergeFault}
 use Rattle.fine_hall.specs.declared.law.Beginning.{Beginning}
 use Rattle.fine_hall.specs.Laws.{AreTurns}
 use Rattle.fine_places.specs.History as places
 use Rattle.fine_hall.specs.Passes.{known, turns, seen, HasPlace, LacksPlace, HoldsNothing, LacksJob}
 use Rattle.fine_hall.specs.Halls.{SeesMore}
+use Rattle.hall_rooms.specs.Making.{AddsTurn, MakesRoom}
+use Rattle.hall_rooms.specs.Turning.{SealsAndPosts}
 use Rattle.hall_rooms.specs.Rooms.{RoomPass}
 use Rattle.txn_engine.specs.declared.txn.CommitFault.{CommitFault}
 use Rattle.txn_engine.specs.declared.txn.Txn.{Txn}
@@ -36,6 +41,28 @@ BeginsLaw =
 abbrev pub SeenLaw : Type 0
 SeenLaw =
     (x : Beginning) (t : Txn) (p p' : RoomPass) → SeesMore p p' → AreTurns x (turns p) → AreTurns x (turns p') → ((k : ℕ) → k < 256 → get_elem? (known p').held k ≡ get_elem? (known p).held k) → IsOpenTxn x t p → IsOpenTxn x t p'
+
+-- So it is over a turn of its pass without an entry, in which that kept what it held, as in one that made room.
+abbrev pub TurnLaw : Type 0
+TurnLaw =
+    (x : Beginning) (t : Txn) (p p' : RoomPass) (found room : RoomState) → AddsTurn x found room p p' → AreTurns x (turns p) → AreTurns x (turns p') → LacksPlace p places.room → IsOpenTxn x t p → IsOpenTxn x t p'
+
+-- over one that made room, or tried to, whatever it came to
+abbrev pub MakesLaw : Type 0
+MakesLaw =
+    (x : Beginning) (t : Txn) (p p' : RoomPass) (from : ℕ) (r : Result Bool MergeFault) → MakesRoom x from p p' r → AreTurns x (turns p) → AreTurns x (turns p') → LacksPlace p places.room → IsOpenTxn x t p → IsOpenTxn x t p'
+
+-- and over one that sealed what waits, or tried to
+abbrev pub SealsLaw : Type 0
+SealsLaw =
+    (x : Beginning) (t : Txn) (p p' : RoomPass) (r : Result ℕ RoomFault) → SealsAndPosts x p p' r → AreTurns x (turns p) → AreTurns x (turns p') → LacksPlace p places.room → IsOpenTxn x t p → IsOpenTxn x t p'
+
+-- Whatever such a pass holds, no merge is out behind a turn that made room, and none behind one that sealed where none was before.
+abbrev pub MakesNoJob : Type 0
+MakesNoJob = (x : Beginning) (p p' : RoomPass) (from : ℕ) (r : Result Bool MergeFault) → MakesRoom x from p p' r → LacksJob x p'
+
+abbrev pub SealsNoJob : Type 0
+SealsNoJob = (x : Beginning) (p p' : RoomPass) (r : Result ℕ RoomFault) → p'.number ≡ p.number → SealsAndPosts x p p' r → LacksJob x p → LacksJob x p'
 
 -- ---- what a pass has out
 

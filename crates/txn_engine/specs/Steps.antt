@@ -1,5 +1,5 @@
 -- The steps within a call, and at an end: one bucket of a set, read through a view.
-use Rattle.std.specs.Prelude.{◌≡◌, ◌⊎◌, ℕ, ◌<◌, ◌≤◌, false, List, [], ◌∷◌, ◌++◌, slice_get, slice_set, Option, Some, None, OnOk, IfErr, Result, Ok, Err}
+use Rattle.std.specs.Prelude.{◌≡◌, ◌⊎◌, ℕ, ◌<◌, ◌≤◌, false, List, [], ◌∷◌, ◌++◌, slice_get, slice_set, Option, Some, OnOk, IfErr, Result, Ok, Err}
 use Rattle.fine_model.specs.declared.Call.{Call}
 use Rattle.fine_model.specs.declared.Call.TheVariants as call
 use Rattle.fine_model.specs.declared.NodeId.{NodeId}
@@ -139,18 +139,6 @@ pub record ReadsIn (v : ViewValue) (locks locks' : List (Option Cache)) (d d' : 
   pub open_on : (log : Origin) (published : ℕ) (history : List Commit) → IsShown log published history v → IsOpenOn log published history d locks → IsOpenOn log published history d' locks' × ReadsOr log history c d d' r
 
 -- ---- the ends
-
--- One bucket of a set, where it is there, is made into another, of which more is known.
-pub record EndsOne (f : Cache → Cache) (Left : Cache → Cache → Type 0) (at : ℕ) (locks locks' : List (Option Cache)) : Type 0 where
-  pub within : slice_get locks at ≡ None → ⊥
-  pub lacks : LacksLock locks at → locks' ≡ locks
-  pub has : (b : Cache) → HasLock locks at b → (locks' ≡ slice_set locks at (Some (f b))) × Left b (f b)
-
--- Those below a number are, and the others are as they were.
-pub record EndsBelow (f : Cache → Cache) (Left : Cache → Cache → Type 0) (upto : ℕ) (locks locks' : List (Option Cache)) : Type 0 where
-  pub lacks : (k : ℕ) → LacksLock locks k → LacksLock locks' k
-  pub each : (k : ℕ) (b : Cache) → k < upto → HasLock locks k b → HasLock locks' k (f b) × Left b (f b)
-  pub rest : (k : ℕ) → upto ≤ k → slice_get locks' k ≡ slice_get locks k
 
 -- each content of the set is made into another, exactly
 pub record EachBecomes (f : Cache → Cache) (Left : Cache → Cache → Type 0) (locks locks' : List (Option Cache)) : Type 0 where

@@ -1,16 +1,15 @@
-use Rattle.std.proofs.Common.{◌≡◌, ◌<◌, arith}
+use denote.Param.Send.{sendable}
+use Rattle.std.proofs.Common.{◌≡◌, rules}
 use Rattle.node_cache.specs.Cache.{after, evicted, settled}
 use Rattle.txn_draft.specs.Standing.{IsLeft}
-use Rattle.txn_engine.proofs.Ending.{ends_none, ends_more, ends_all}
+use Rattle.hall_rooms.proofs.Crossing.{bucket_send}
+use Rattle.txn_engine.proofs.Ending.{each_becomes, left_by}
 use Rattle.txn_engine.proofs.sets.settle_all.Goals as goal
 
-pub loop-bucket-init : goal.loop-bucket-init
-loop-bucket-init c = ends_none (λ b. evicted c.args.published c.args.keep (settled c.args.epoch b)) (λ b new. IsLeft c.args.published (after b c.args.epoch) b new) c.args.locks.now
-
-pub loop-bucket-preserved : goal.loop-bucket-preserved
-loop-bucket-preserved c = let low : c.loop-bucket.bucket < 256 = omega (arith, c.loop-bucket-test.true) in
-    ends_more (λ b. evicted c.args.published c.args.keep (settled c.args.epoch b)) (λ b new. IsLeft c.args.published (after b c.args.epoch) b new) c.loop-bucket.bucket low c.args.locks.now c.loop-bucket.locks c.settle_one.new.locks c.loop-bucket.invariant c.settle_one.ensures
+pub each-requires-send-B : goal.each-requires-send-B
+each-requires-send-B c κs = search (sendable, bucket_send) depth 20
 
 pub returns : goal.returns
-returns c = let all : c.loop-bucket.bucket ≡ 256 = omega (arith, c.loop-bucket-test.false, c.loop-bucket.auto.bucket-end) in
-    ends_all (λ b. evicted c.args.published c.args.keep (settled c.args.epoch b)) (λ b new. IsLeft c.args.published (after b c.args.epoch) b new) c.loop-bucket.bucket c.args.locks.now c.loop-bucket.locks all c.loop-bucket.invariant
+returns c =
+    each_becomes (λ b. evicted c.args.published c.args.keep (settled c.args.epoch b)) (λ b new. IsLeft c.args.published (after b c.args.epoch) b new) _ c.args.locks.now c.each.new.self c.each.ensures
+    (left_by _ _ (λ b y. (y ≡ evicted c.args.published c.args.keep (settled c.args.epoch b)) × IsLeft c.args.published (after b c.args.epoch) b y) (λ p q m. search rules))

@@ -1,9 +1,10 @@
 -- The passes of a new hall.
 use Rattle.std.proofs.Common.{◌≡◌, ℕ, zero, suc, ◌+◌, ◌<◌, None, List, [], ◌∷◌, ◌++◌, length, map, refl, sym, ap, ◌∙◌, subst, arith, All}
-use Rattle.std.specs.Prelude.{get_or, IsPermutation}
+use Rattle.std.specs.Prelude.{get_or, slice_index_or, IsPermutation}
 use Rattle.std.specs.List.{range_with_len}
 use Rattle.std.proofs.lemmas.List.Elements.{All-head, All-tail}
 use Rattle.std.proofs.lemmas.List.{length-append}
+use Rattle.std.proofs.lemmas.List.Sorted.{IsPermutation-refl}
 use mathlib.Core.Option.{some, some-injective, some-ne-none}
 use lib.ListN.{get_elem?}
 use Rattle.fine_model.specs.declared.law.RoomState.{RoomState}
@@ -17,6 +18,7 @@ use Rattle.fine_hall.proofs.Handed.{handed_law, handed_idle}
 use Rattle.hall_rooms.specs.Opening.{OpensHall}
 use Rattle.hall_rooms.specs.Rooms.{RoomPass, beginning_of}
 use Rattle.txn_engine_tests.specs.Going.{IsAtRest}
+use Rattle.txn_engine_tests.specs.Halls.{AreFresh}
 
 elem_at : {A : Type 0} (l : List A) (i : ℕ) (d : A) → i < length l → get_elem? l i ≡ some (get_or l i d)
 elem_at [] i d lt = absurd (omega (arith, lt))
@@ -63,13 +65,32 @@ module _ {Q : Type 0} (hall : HallOf RoomValue Cache ViewValue Q) (fronts : List
   pub all_there : length passes ≡ (beginning_of hall).seats → AreAll (beginning_of hall).seats passes
   all_there long = handed_law state_of hall.table.shared.table_id (beginning_of hall) fronts passes long out
 
+  pub all_fresh : (seats : ℕ) → (beginning_of hall).seats ≡ seats → AreFresh seats passes
+  all_fresh seats is = record {
+    numbers = λ i p at. let h = out i p at in let a = h.number in let b = h.fresh.numbered in omega (arith, a, b, is);
+    none = λ i p at. (out i p at).fresh.mine_none;
+  }
+
 -- a hall on a room without a merge begins without one
 pub no_job : {Q : Type 0} (hall : HallOf RoomValue Cache ViewValue Q) (room : RoomValue) (seats : ℕ) → room.room.job ≡ None → OpensHall room seats (beginning_of hall) → (beginning_of hall).room.job ≡ None
 no_job hall room seats none opens = ap (λ (r : RoomState). r.job) opens.room ∙ none
 
--- passes with the same numbers are all, where these are
-pub still_all : {V : Type 0} (n : ℕ) (a a' b b' : Pass V) → a'.number ≡ a.number → b'.number ≡ b.number → AreAll n (a ∷ b ∷ []) → AreAll n (a' ∷ b' ∷ [])
-still_all n a a' b b' e f = subst (λ (l : List ℕ). IsPermutation l (range_with_len 1 n)) (λ i. sym e i ∷ sym f i ∷ [])
+-- the passes of two seats are all
+pub both_there : {V : Type 0} (n : ℕ) (a b : Pass V) (l : List (Pass V)) → n ≡ 2 → l ≡ a ∷ b ∷ [] → a.number ≡ 1 → b.number ≡ 2 → AreAll n l
+both_there {V} n a b l two is e f =
+    let numbers : map (λ (p : Pass V). p.number) l ≡ 1 ∷ 2 ∷ [] = ap (map (λ (p : Pass V). p.number)) is ∙ (λ i. e i ∷ f i ∷ []) in
+    subst (λ (m : List ℕ). IsPermutation m (range_with_len 1 n)) (sym numbers) (subst (λ k. IsPermutation (1 ∷ 2 ∷ []) (range_with_len 1 k)) (sym two) (IsPermutation-refl (1 ∷ 2 ∷ [])))
+
+pub first_is : {A : Type 0} (l : List A) (d a : A) → get_elem? l 0 ≡ some a → slice_index_or l 0 d ≡ a
+first_is [] d a e = absurd (some-ne-none a (sym e))
+first_is (x ∷ l) d a e = some-injective x a e
+
+pub one_case : {A : Type 0} (a : A) (l : List A) (P : A → Type 0) → l ≡ a ∷ [] → P a → (i : ℕ) (p : A) → get_elem? l i ≡ some p → P p
+one_case {A} a l P is pa i p at = go i (ap (λ (m : List A). get_elem? m i) (sym is) ∙ at)
+  where
+    go : (i : ℕ) → get_elem? (a ∷ []) i ≡ some p → P p
+    go zero e = subst P (some-injective a p e) pa
+    go (suc n) e = absurd (some-ne-none p (sym e))
 
 -- the numbers of passes that came back
 pub same_numbers : {V : Type 0} (before after : List (Pass V)) → length after ≡ length before → ((i : ℕ) (d : Pass V) → i < length before → (get_or after i d).number ≡ (get_or before i d).number) → map (λ (p : Pass V). p.number) after ≡ map (λ (p : Pass V). p.number) before

@@ -1,5 +1,5 @@
 -- A pass in the midst of a transaction, after a call, and after a commit that was refused.
-use Rattle.std.proofs.Common.{◌≡◌, ℕ, ◌<◌, ◌≤◌, ◌∙◌, ap, sym, arith, le_refl}
+use Rattle.std.proofs.Common.{◌≡◌, ℕ, Result, ◌<◌, ◌≤◌, ◌∙◌, ap, sym, arith, le_refl}
 use lib.ListN.{get_elem?}
 use Rattle.fine_places.specs.History as places
 use Rattle.node_cache.specs.Cache.{Cache}
@@ -7,6 +7,12 @@ use Rattle.partition_hold.specs.Views.{ViewValue, state_of}
 use Rattle.epoch_room.specs.Value.{RoomValue}
 use Rattle.fine_hall.specs.Halls.{HallOf}
 use Rattle.fine_hall.proofs.Troubles.{sees_law}
+use Rattle.epoch_room.specs.declared.answers.RoomFault.{RoomFault}
+use Rattle.room_merges.specs.declared.fault.MergeFault.{MergeFault}
+use Rattle.hall_rooms.specs.declared.making.Space.{Space}
+use Rattle.hall_rooms.specs.Making.{Renews, TriesRoom}
+use Rattle.hall_rooms.specs.Turning.{SealsAndPosts}
+use Rattle.hall_rooms.proofs.Idle.{makes_idle, renews_idle, seals_idle}
 use Rattle.hall_rooms.specs.Rooms.{IsRoomPass, RoomPass, beginning_of}
 use Rattle.txn_engine.specs.declared.txn.CommitFault.{CommitFault}
 use Rattle.txn_engine.specs.declared.txn.Txn.{Txn}
@@ -31,6 +37,17 @@ module _ {Q : Type 0} (hall : HallOf RoomValue Cache ViewValue Q) (t t' : Txn) (
     room = ap (λ l. get_elem? l places.room) r.held ∙ g.room;
     job = refused_job (beginning_of hall) t t' p p' cause number r g.job;
   }
+
+-- a pass at rest is so after a turn that seals
+pub shows_on : {Q : Type 0} (hall : HallOf RoomValue Cache ViewValue Q) (p p' : RoomPass) (r : Result ℕ RoomFault) → IsAtRest hall p → IsRoomPass hall p' → p'.number ≡ p.number → SealsAndPosts (beginning_of hall) p p' r → IsAtRest hall p'
+shows_on hall p p' r rest pass number s = let i = seals_idle r (beginning_of hall) p p' number s rest.idle.1 rest.idle.2 in record { idle = (pass, i.0, i.1) }
+
+-- and after making room
+pub makes_on : {Q : Type 0} (hall : HallOf RoomValue Cache ViewValue Q) (p p' : RoomPass) (from : ℕ) (r : Result Space MergeFault) → IsAtRest hall p → IsRoomPass hall p' → p'.number ≡ p.number → TriesRoom (beginning_of hall) from p p' r → IsAtRest hall p'
+makes_on hall p p' from r rest pass number t = let i = makes_idle (beginning_of hall) from t.made p p' number t.makes rest.idle.1 rest.idle.2 in record { idle = (pass, i.0, i.1) }
+
+pub renews_on : {Q : Type 0} (hall : HallOf RoomValue Cache ViewValue Q) (p p' : RoomPass) → IsAtRest hall p → IsRoomPass hall p' → Renews (beginning_of hall) p p' → IsAtRest hall p'
+renews_on hall p p' rest pass r = let i = renews_idle (beginning_of hall) p p' pass.lawful r rest.idle.1 rest.idle.2 in record { idle = (pass, i.0, i.1) }
 
 -- a transaction that holds nothing begins with an idle pass
 pub goes : {Q : Type 0} (hall : HallOf RoomValue Cache ViewValue Q) (t : Txn) (p : RoomPass) → IsAtRest hall p → IsFree t → IsGoing hall t p

@@ -1,3 +1,5 @@
 pub mod Gone
 pub mod NewLog
 pub mod Begun
+pub mod Doing
+pub mod Crossing

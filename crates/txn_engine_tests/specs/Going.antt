@@ -6,7 +6,7 @@ use Rattle.partition_hold.specs.Views.{ViewValue}
 use Rattle.epoch_room.specs.Value.{RoomValue}
 use Rattle.txn_draft.specs.Drafts.{blank}
 use Rattle.fine_hall.specs.Halls.{HallOf}
-use Rattle.fine_hall.specs.Passes.{LacksJob, LacksPlace}
+use Rattle.fine_hall.specs.Passes.{own_turns, LacksJob, LacksPlace}
 use Rattle.hall_rooms.specs.Rooms.{IsIdle, IsRoomPass, RoomPass, beginning_of}
 use Rattle.txn_engine.specs.Txns.{HoldsNone, IsOpenTxn}
 use Rattle.txn_engine.specs.declared.txn.Txn.{Txn}
@@ -28,3 +28,7 @@ pub record IsGoing {Q : Type 0} (hall : HallOf RoomValue Cache ViewValue Q) (t :
   pub is_open : IsOpenTxn (beginning_of hall) t p
   pub room : LacksPlace p places.room
   pub job : LacksJob (beginning_of hall) p
+
+-- it is a pass of the same seat, which had no turn since
+abbrev pub StaysOwn : RoomPass → RoomPass → Type 0
+StaysOwn p p' = (p'.number ≡ p.number) × (own_turns p' ≡ own_turns p)

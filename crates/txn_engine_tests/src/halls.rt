@@ -1,10 +1,13 @@
 //! Halls on new disks in memory, with their passes.
 
 ghost use Rattle.std.specs.Prelude.{◌≡◌, ◌≤◌, ◌%◌, ◌*◌, [], ◌∷◌, length, All, IfOk, IfSome, vec_capacity};
+ghost use Rattle.fine_model.specs.Buckets.{Began};
+ghost use Rattle.fine_hall.specs.Passes.{own_turns};
 ghost use Rattle.fine_hall.specs.Halls.{AreAll};
 ghost use Rattle.fine_hall.specs.declared.pass.Pass.{Pass as HallPass};
 ghost use Rattle.hall_rooms.specs.Rooms.{beginning_of};
-ghost use Rattle.txn_engine_tests.specs.Halls.{IsNewRoom};
+ghost use Rattle.hall_rooms.specs.Closing.{ClosesHall};
+ghost use Rattle.txn_engine_tests.specs.Halls.{AreFresh, IsNewRoom};
 ghost use Rattle.txn_engine_tests.specs.Going.{IsAtRest};
 
 use epoch_room::Room;
@@ -41,7 +44,9 @@ pub fn open(alloc: Global, seats: u32, region_len: u64, plan: FaultPlan) -> Opti
     ensures seats { IfSome result (λ opened. (beginning_of opened.hall).seats ≡ seats) }
     ensures count { IfSome result (λ opened. length opened.passes.items ≡ seats) }
     ensures idle { IfSome result (λ opened. All (IsAtRest opened.hall) opened.passes.items) }
+    ensures fresh { IfSome result (λ opened. AreFresh seats opened.passes.items) }
     ensures all { IfSome result (λ opened. AreAll (beginning_of opened.hall).seats opened.passes.items) }
+    ensures new { IfSome result (λ opened. Began (beginning_of opened.hall).log 0 []) }
     ensures spare { IfSome result (λ opened. (opened.spare.items ≡ []) × (2 * (beginning_of opened.hall).seats ≤ vec_capacity opened.spare)) }
 {
     let room = new_room(alloc, region_len, plan)?;
@@ -60,7 +65,7 @@ pub struct Two {
     pub spare: Vec<View<MemEye>>,
 }
 
-/// The same with two seats.
+/// The same with two seats: the pass of the seat 1, and that of the seat 2.
 pub fn open_two(alloc: Global, region_len: u64, plan: FaultPlan) -> Option<Two>
     requires low { 4096 ≤ region_len }
     requires high { region_len ≤ 67108864 }
@@ -68,7 +73,9 @@ pub fn open_two(alloc: Global, region_len: u64, plan: FaultPlan) -> Option<Two>
     ensures seats { IfSome result (λ made. (beginning_of made.hall).seats ≡ 2) }
     ensures one { IfSome result (λ made. IsAtRest made.hall made.one) }
     ensures two { IfSome result (λ made. IsAtRest made.hall made.two) }
-    ensures all { IfSome result (λ made. AreAll 2 (made.one ∷ made.two ∷ [])) }
+    ensures numbers { IfSome result (λ made. (made.one.number ≡ 1) × (made.two.number ≡ 2)) }
+    ensures fresh { IfSome result (λ made. (own_turns made.one ≡ []) × (own_turns made.two ≡ [])) }
+    ensures new { IfSome result (λ made. Began (beginning_of made.hall).log 0 []) }
     ensures spare { IfSome result (λ made. (made.spare.items ≡ []) × (4 ≤ vec_capacity made.spare)) }
 {
     let Opened {
@@ -76,8 +83,8 @@ pub fn open_two(alloc: Global, region_len: u64, plan: FaultPlan) -> Option<Two>
         mut passes,
         spare,
     } = open(alloc, 2, region_len, plan)?;
-    let two = passes.pop()?;
     let one = passes.pop()?;
+    let two = passes.pop()?;
     Some(Two {
         hall,
         one,
@@ -99,7 +106,7 @@ fn pair<E: LogEye + Send>(
     Ok(passes)
 }
 
-/// Ends a hall of two seats with both its passes, and hands out the room. None where there is no memory.
+/// Ends a hall of two seats with both its passes, and hands out the room, with one list of all turns. None where there is no memory.
 pub fn end_two<D: LogDisk>(
     alloc: Global,
     hall: RoomHall<D>,
@@ -110,8 +117,9 @@ pub fn end_two<D: LogDisk>(
     requires seats { (beginning_of hall).seats ≡ 2 }
     requires one { IsAtRest hall one }
     requires two { IsAtRest hall two }
-    requires all { AreAll 2 (one ∷ two ∷ []) }
+    requires numbers { (one.number ≡ 1) × (two.number ≡ 2) }
     requires spare { (spare.items ≡ []) × (4 ≤ vec_capacity spare) }
+    ensures closes { IfSome result (λ room. ClosesHall (beginning_of hall) (one ∷ two ∷ []) room) }
 {
     match pair(alloc, one, two) {
         Ok(passes) => Some(close_hall(hall, passes, spare)),

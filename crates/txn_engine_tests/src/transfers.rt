@@ -1,18 +1,21 @@
 //! Transactions of several calls, as transfers between two accounts are, each with a pass that is idle before and after.
 
-ghost use Rattle.std.specs.Prelude.{◌≡◌, false, IfSome};
+ghost use Rattle.std.specs.Prelude.{◌≡◌, IfSome};
 ghost use Rattle.std.specs.List.{AllByRecursion};
 ghost use Rattle.fine_model.specs.Bounds.{FitsCall};
-ghost use Rattle.txn_engine_tests.specs.Going.{IsAtRest, IsFree, IsGoing};
+ghost use Rattle.fine_hall.specs.Passes.{mine};
+ghost use Rattle.txn_engine_tests.specs.Doing.{Adds};
+ghost use Rattle.txn_engine_tests.specs.Going.{IsAtRest, IsFree, IsGoing, StaysOwn};
 
 use crate::accounts::{balance_of, get_of, put_of};
+use epoch_room::RoomFault;
 use fine_hall::Pass;
 use fine_model::Call;
 use log_disk::LogDisk;
 use partition_hold::View;
 use std::alloc::Global;
 use std::sync::Wait;
-use txn_engine::{CommitFault, Committed, RoomHall, Txn, TxnFault};
+use txn_engine::{CommitFault, Committed, RoomHall, Txn, TxnFault, seal_and_post};
 
 /// How a transaction ended.
 #[derive(Drop)]
@@ -22,6 +25,11 @@ pub enum Ended {
     Refused(TxnFault),
     /// The room had no place, and all was taken back.
     NoPlace(CommitFault),
+}
+
+/// The number of a pass's seat, or 0 where it is above 255.
+pub(crate) fn seat_of<V>(pass: &Pass<V>) -> u8 {
+    u8::try_from(pass.number()).unwrap_or(0)
 }
 
 /// A transaction that holds nothing. None where there is no memory.
@@ -35,7 +43,7 @@ pub fn fresh(alloc: Global, lane: u8) -> Option<Txn>
 }
 
 /// Answers a call, for which there was memory or not.
-fn answer<D: LogDisk>(
+pub(crate) fn answer<D: LogDisk>(
     txn: &mut Txn,
     hall: &RoomHall<D>,
     pass: &mut Pass<View<D::Eye>>,
@@ -43,7 +51,8 @@ fn answer<D: LogDisk>(
 ) -> Result<(), TxnFault>
     requires going { IsGoing hall.now txn.old pass.old }
     requires asked { IfSome asked FitsCall }
-    ensures going { IsGoing hall.now txn.new pass.new × (pass.new.number ≡ pass.old.number) }
+    ensures going { IsGoing hall.now txn.new pass.new }
+    ensures stays { StaysOwn pass.old pass.new }
 {
     match asked {
         Some(asked) => txn.call(hall, pass, &asked),
@@ -60,7 +69,8 @@ fn answer_all<D: LogDisk>(
 ) -> Result<(), TxnFault>
     requires going { IsGoing hall.now txn.old pass.old }
     requires calls { AllByRecursion FitsCall calls.now }
-    ensures going { IsGoing hall.now txn.new pass.new × (pass.new.number ≡ pass.old.number) }
+    ensures going { IsGoing hall.now txn.new pass.new }
+    ensures stays { StaysOwn pass.old pass.new }
 {
     match calls {
         [] => Ok(()),
@@ -79,7 +89,8 @@ pub fn give_up<D: LogDisk>(
     keep: usize,
 )
     requires going { IsGoing hall.now txn.old pass.old }
-    ensures idle { IsAtRest hall.now pass.new × (pass.new.number ≡ pass.old.number) }
+    ensures idle { IsAtRest hall.now pass.new }
+    ensures stays { StaysOwn pass.old pass.new }
     ensures free { IsFree txn.new }
 {
     txn.abort(hall, pass, keep);
@@ -96,6 +107,7 @@ pub fn commit<D: LogDisk, W: Wait>(
     requires going { IsGoing hall.now txn.old pass.old }
     ensures idle { IsAtRest hall.now pass.new × (pass.new.number ≡ pass.old.number) }
     ensures free { IsFree txn.new }
+    ensures adds { Adds pass.old pass.new result }
 {
     if txn.failed() {
         give_up(txn, hall, pass, keep);
@@ -124,6 +136,7 @@ pub fn run<D: LogDisk, W: Wait>(
     requires calls { AllByRecursion FitsCall calls.now }
     ensures idle { IsAtRest hall.now pass.new × (pass.new.number ≡ pass.old.number) }
     ensures free { IsFree txn.new }
+    ensures adds { Adds pass.old pass.new result }
 {
     match answer_all(txn, hall, pass, calls) {
         Ok(()) => commit(rt, txn, hall, pass, keep),
@@ -144,7 +157,8 @@ fn read_two<D: LogDisk>(
     to: u8,
 ) -> Result<(u8, u8), TxnFault>
     requires going { IsGoing hall.now txn.old pass.old }
-    ensures going { IsGoing hall.now txn.new pass.new × (pass.new.number ≡ pass.old.number) }
+    ensures going { IsGoing hall.now txn.new pass.new }
+    ensures stays { StaysOwn pass.old pass.new }
 {
     answer(txn, hall, pass, get_of(alloc, from))?;
     answer(txn, hall, pass, get_of(alloc, to))?;
@@ -162,7 +176,8 @@ fn move_one<D: LogDisk>(
     to: u8,
 ) -> Result<(), TxnFault>
     requires going { IsGoing hall.now txn.old pass.old }
-    ensures going { IsGoing hall.now txn.new pass.new × (pass.new.number ≡ pass.old.number) }
+    ensures going { IsGoing hall.now txn.new pass.new }
+    ensures stays { StaysOwn pass.old pass.new }
 {
     let (left, right) = read_two(alloc, txn, hall, pass, from, to)?;
     if left == 0 || right == u8::MAX {
@@ -187,6 +202,7 @@ pub fn transfer<D: LogDisk, W: Wait>(
     requires free { IsFree txn.old }
     ensures idle { IsAtRest hall.now pass.new × (pass.new.number ≡ pass.old.number) }
     ensures free { IsFree txn.new }
+    ensures adds { Adds pass.old pass.new result }
 {
     match move_one(alloc, txn, hall, pass, from, to) {
         Ok(()) => commit(rt, txn, hall, pass, 0),
@@ -195,4 +211,17 @@ pub fn transfer<D: LogDisk, W: Wait>(
             Ended::Refused(fault)
         }
     }
+}
+
+/// Seals what waits, and posts views of it to all seats, in a turn without an entry.
+pub fn show<D: LogDisk, W: Wait>(
+    rt: &W,
+    hall: &RoomHall<D>,
+    pass: &mut Pass<View<D::Eye>>,
+) -> Result<u64, RoomFault>
+    requires idle { IsAtRest hall.now pass.old }
+    ensures idle { IsAtRest hall.now pass.new × (pass.new.number ≡ pass.old.number) }
+    ensures mine { mine pass.new ≡ mine pass.old }
+{
+    seal_and_post(rt, hall, pass)
 }

@@ -12,4 +12,4 @@ make-requires-clause-parts c = λ _.
     (subst (λ (ps : List Part). AreParts c.in-Ok.disk.disk [] ps) (sym c.new-3.ensures) (subst (λ (d : Disk). AreParts d [] []) (sym (ap (λ (made : PlannedDisk). made.disk) c.in-Ok.ensures)) (new_parts 8 c.args.region_len)))
 
 pub returns-in-Ok-make : goal.returns-in-Ok-make
-returns-in-Ok-make c = is_new c.in-Ok.disk.disk c.new-2.result c.new-3.result c.in-Ok-make.room c.in-Ok-make.ensures.made c.in-Ok-make.ensures.stands
+returns-in-Ok-make c = is_new 8 c.args.region_len c.in-Ok.disk.disk c.new-2.result c.new-3.result c.in-Ok-make.room (ap (λ (made : PlannedDisk). made.disk) c.in-Ok.ensures) c.in-Ok-make.ensures.made c.in-Ok-make.ensures.stands

@@ -1,0 +1,185 @@
+#!/bin/sh
+# Prints what transactions of one `put` each cost on a hall on a disk in memory: those of one pass on one thread, and those of four passes on four threads,
+# each in a bucket of its own, as commits a second and as processor microseconds a transaction; beside them the same of a C program whose threads put as many
+# pairs into a hash table under one mutex, and copy a record of 32 bytes each into a buffer under it. The goal is at most 6 microseconds a transaction on
+# one thread, and at least 2.5 times its commits a second with four threads, which wants four cores. Nothing is sealed, so no sync counts.
+#
+# Where nobody else is in its way such a transaction takes 2 compare-exchanges, 2 stores and 6 loads of words that other seats use, all sequentially consistent,
+# by the steps of its calls: a bucket and the room are each taken by a compare-exchange and a load and given back by a load and a store, and it looks once
+# at its mailbox and once at the published number.
+#
+# All run a few times in turn, and the best of each counts. It is no test. The timing program is proved before it is built, since only a proved build is optimized.
+set -e
+top=$(cd "$(dirname "$0")/.." && pwd)
+work=$(mktemp -d)
+trap 'rm -rf "$work"' EXIT
+speed="$work/crates/engine_speed"
+count=50000
+mkdir -p "$speed/src" "$speed/specs" "$speed/proofs"
+below="fine_model log_disk node_record partition_index log_partition private_log node_cache btree_nodes txn_draft node_fetch partition_merge partition_hold epoch_room \
+fine_places fine_boxes fine_hall room_merges hall_rooms key_locks open_txn txn_engine txn_engine_tests"
+for name in $below; do
+  mkdir -p "$work/crates/$name"
+  for part in src specs proofs; do cp -r "$top/crates/$name/$part" "$work/crates/$name/"; done
+  grep "^$name[: ]" "$top/crates.txt" >> "$work/crates.txt"
+done
+cp "$top/HANDLES" "$work/"
+echo "engine_speed: epoch_room log_disk txn_engine txn_engine_tests" >> "$work/crates.txt"
+: > "$speed/specs/Lib.antt"
+: > "$speed/proofs/Lib.antt"
+
+cat > "$speed/src/main.rt" <<'EOT'
+//! Times transactions of one put each, on one thread or on four.
+#![tactic(auto)]
+
+use log_disk::FaultPlan;
+use std::alloc::Global;
+use std::rt::Clock;
+use std::sync::Wait;
+use std::test::Fail;
+use std::thread::Threads;
+use std::time::Instant;
+use txn_engine_tests::{open, open_two, puts_at_once, puts_by_one};
+
+/// The bytes of a region, in which all rows of a run have room.
+const REGION: u64 = 16_777_216;
+
+/// How many were committed by one thread.
+fn by_one<R: Wait>(rt: &R, alloc: Global, times: u64) -> Result<u64, Fail> {
+    let opened = open_two(alloc, REGION, FaultPlan::none(alloc)).ok_or("memory")?;
+    let counts = puts_by_one(rt, alloc, opened, times).ok_or("memory")?;
+    Ok(counts.place)
+}
+
+/// How many were committed by four threads.
+fn by_four<R: Threads + Wait + Sync>(rt: &R, alloc: Global, times: u64) -> Result<u64, Fail> {
+    let opened = open(alloc, 4, REGION, FaultPlan::none(alloc)).ok_or("memory")?;
+    let counts = puts_at_once(rt, alloc, opened, times).ok_or("memory")?;
+    Ok(counts.place)
+}
+
+fn main(rt: HostRuntime) -> Result<(), Fail> {
+    let mut args = std::env::args(&rt)?;
+    let _program = args.next();
+    let threads = args.next().ok_or("one or four")?;
+    let times: u64 = args.next().ok_or("how many")?.as_str().parse().ok().ok_or("a number")?;
+    let start = Instant::now(&rt)?;
+    let committed = if threads.as_str() == "one" {
+        by_one(&rt, rt.alloc(), times)?
+    } else {
+        by_four(&rt, rt.alloc(), times)?
+    };
+    let spent = start.elapsed(&rt)?.as_nanos();
+    println!(rt; "{committed} {spent}")?;
+    Ok(())
+}
+EOT
+
+cat > "$work/peer.c" <<'EOT'
+#include <pthread.h>
+#include <stdio.h>
+#include <stdlib.h>
+#include <string.h>
+#include <time.h>
+
+enum { SLOTS = 4096, RECORD = 32, MOST = 4 };
+
+static pthread_mutex_t mutex = PTHREAD_MUTEX_INITIALIZER;
+static unsigned char keys[SLOTS], values[SLOTS], used[SLOTS];
+static char *records;
+static long filled, times;
+
+static void put(unsigned char key, unsigned char value) {
+    unsigned slot = key * 2654435761u % SLOTS;
+    while (used[slot] && keys[slot] != key) slot = (slot + 1) % SLOTS;
+    used[slot] = 1;
+    keys[slot] = key;
+    values[slot] = value;
+}
+
+static void *work(void *arg) {
+    char record[RECORD];
+    unsigned char key = (unsigned char)(size_t)arg;
+    memset(record, key, RECORD);
+    for (long i = 0; i < times; i++) {
+        pthread_mutex_lock(&mutex);
+        put(key, 1);
+        memcpy(records + filled, record, RECORD);
+        filled += RECORD;
+        pthread_mutex_unlock(&mutex);
+    }
+    return NULL;
+}
+
+static long now(void) {
+    struct timespec t;
+    clock_gettime(CLOCK_MONOTONIC, &t);
+    return t.tv_sec * 1000000000L + t.tv_nsec;
+}
+
+int main(int argc, char **argv) {
+    pthread_t threads[MOST];
+    int count = strcmp(argv[1], "one") ? MOST : 1;
+    times = argc > 2 ? atol(argv[2]) : 0;
+    records = malloc(times * count * RECORD + 1);
+    if (!records) return 1;
+    long start = now();
+    for (int i = 0; i < count; i++)
+        if (pthread_create(&threads[i], NULL, work, (void *)(size_t)(i + 1))) return 1;
+    for (int i = 0; i < count; i++) pthread_join(threads[i], NULL);
+    long spent = now() - start;
+    printf("%ld %ld\n", filled / RECORD, spent);
+    return 0;
+}
+EOT
+
+cat > "$work/used.c" <<'EOT'
+#include <stdio.h>
+#include <sys/resource.h>
+#include <sys/wait.h>
+#include <unistd.h>
+
+/* Runs a program, and prints behind what it prints the microseconds of the processors that it took. */
+int main(int argc, char **argv) {
+    int status;
+    struct rusage u;
+    if (argc < 2) return 1;
+    pid_t child = vfork();
+    if (child == 0) {
+        execv(argv[1], argv + 1);
+        _exit(127);
+    }
+    if (child < 0 || wait4(child, &status, 0, &u) != child || status) return 1;
+    printf("%ld\n", (u.ru_utime.tv_sec + u.ru_stime.tv_sec) * 1000000L + u.ru_utime.tv_usec + u.ru_stime.tv_usec);
+    return 0;
+}
+EOT
+
+gcc -O2 -pthread -o "$work/peer" "$work/peer.c"
+gcc -O2 -o "$work/used" "$work/used.c"
+cd "$speed"
+rt run -- one 1 > "$work/out.txt" 2>&1 || { cat "$work/out.txt"; exit 1; }
+timed() { "$work/used" "$@" | tr '\n' ' '; }
+for turn in $(seq 1 9); do
+  # a run without transactions shows what a hall costs, which is taken off
+  for threads in one four; do timed out/engine_speed $threads 0; timed out/engine_speed $threads $count; timed "$work/peer" $threads 0; timed "$work/peer" $threads $count; done
+  echo
+done | awk -v count="$count" '
+  NF != 24 { failed = 1 }
+  $4 != count || $16 != 4 * count || $10 != count || $22 != 4 * count { failed = 1 }
+  { for (i = 1; i <= 24; i++) if (NR == 1 || $i < best[i]) best[i] = $i }
+  # the nanoseconds, and the microseconds of processors, of a transaction, from the field of a run without transactions on
+  function wall(at, many) { return (best[at + 4] - best[at + 1]) / many }
+  function cpu(at, many) { return (best[at + 5] - best[at + 2]) / many }
+  function line(name, at, many) {
+    printf "%s: %d commits a second, %.2f processor microseconds a transaction\n", name, 1000000000 / wall(at, many), cpu(at, many)
+  }
+  END {
+    if (failed) { print "a run failed"; exit 1 }
+    line("one thread", 1, count)
+    line("four threads", 13, 4 * count)
+    line("C, one thread", 7, count)
+    line("C, four threads", 19, 4 * count)
+    printf "four threads to one: %.2f of its commits a second; C: %.2f; the goal is 2.5\n", wall(1, count) / wall(13, 4 * count), wall(7, count) / wall(19, 4 * count)
+    printf "to C on one thread: %.2f of its time; on four: %.2f\n", wall(1, count) / wall(7, count), wall(13, 4 * count) / wall(19, 4 * count)
+  }'

@@ -1,0 +1,164 @@
+//! Tables of steps on halls on disks in memory.
+
+use crate::steps::Step::{Abort, Commit, Get, Put, Scan, Show};
+use crate::steps::Told::{Aborted, Balance, Committed, Refused, Room, Shown, Stored, Sum};
+use crate::tables::Act::{MakeRoom, One, Two};
+use crate::tables::{Line, Outcome, walked};
+use crate::threads::two_threads;
+use epoch_room::Counts;
+use log_disk::FaultPlan;
+use std::test::Fail;
+use txn_engine::{Space, TxnFault};
+
+// The second transaction finds the bucket of the account 1 held, and goes through once the first has committed.
+#[test]
+fn a_conflict_is_tried_again(rt: HostRuntime) -> Result<(), Fail> {
+    let table = [
+        Line(One(Put(1, 10)), Stored),
+        Line(One(Put(2, 5)), Stored),
+        Line(One(Commit), Committed(1, 1)),
+        Line(One(Get(1)), Balance(10)),
+        Line(
+            Two(Get(1)),
+            Refused(TxnFault::Conflict {
+                bucket: 1,
+                owner: 1,
+            }),
+        ),
+        Line(Two(Abort), Aborted),
+        Line(One(Put(1, 9)), Stored),
+        Line(One(Get(2)), Balance(5)),
+        Line(One(Put(2, 6)), Stored),
+        Line(One(Commit), Committed(2, 1)),
+        Line(Two(Get(1)), Balance(9)),
+        Line(Two(Put(1, 8)), Stored),
+        Line(Two(Get(2)), Balance(6)),
+        Line(Two(Put(2, 7)), Stored),
+        Line(Two(Commit), Committed(3, 1)),
+        Line(One(Put(1, 99)), Stored),
+        Line(One(Abort), Aborted),
+        Line(Two(Scan), Sum(15)),
+    ];
+    let counts = Counts {
+        free: 7,
+        live: 0,
+        retired: 0,
+        sealed: 0,
+        place: 3,
+        waiting: 3,
+    };
+    let outcome = walked(&rt, rt.alloc(), FaultPlan::none(rt.alloc()), &table);
+    assert!(rt; outcome == Outcome::Room(counts));
+    Ok(())
+}
+
+// What is sealed is evicted as the next transaction ends, and read through the front by the one behind it.
+#[test]
+fn what_was_evicted_is_read_again(rt: HostRuntime) -> Result<(), Fail> {
+    let table = [
+        Line(One(Put(1, 10)), Stored),
+        Line(One(Put(2, 5)), Stored),
+        Line(One(Commit), Committed(1, 1)),
+        Line(Two(Show), Shown(1)),
+        Line(One(Get(1)), Balance(10)),
+        Line(One(Get(2)), Balance(5)),
+        Line(One(Put(2, 6)), Stored),
+        Line(One(Abort), Aborted),
+        Line(Two(Get(1)), Balance(10)),
+        Line(One(Get(2)), Balance(5)),
+        Line(One(Put(2, 15)), Stored),
+        Line(Two(Put(1, 0)), Stored),
+        Line(Two(Commit), Committed(2, 2)),
+        Line(One(Commit), Committed(3, 2)),
+        Line(One(Show), Shown(2)),
+        Line(Two(Scan), Sum(15)),
+    ];
+    let counts = Counts {
+        free: 6,
+        live: 2,
+        retired: 0,
+        sealed: 2,
+        place: 3,
+        waiting: 0,
+    };
+    let outcome = walked(&rt, rt.alloc(), FaultPlan::none(rt.alloc()), &table);
+    assert!(rt; outcome == Outcome::Room(counts));
+    Ok(())
+}
+
+// The eyes 1 to 4 are those of the first views; 5 is that which is posted to the seat 1.
+#[test]
+fn a_failing_read_is_of_its_pass_alone(rt: HostRuntime) -> Result<(), Fail> {
+    let mut plan = FaultPlan::none(rt.alloc());
+    plan.eye_reads.push((5, 1))?;
+    let table = [
+        Line(One(Put(1, 10)), Stored),
+        Line(One(Put(2, 5)), Stored),
+        Line(One(Commit), Committed(1, 1)),
+        Line(Two(Show), Shown(1)),
+        Line(One(Get(1)), Refused(TxnFault::Disk)),
+        Line(Two(Get(2)), Balance(5)),
+        Line(Two(Put(2, 6)), Stored),
+        Line(One(Abort), Aborted),
+        Line(Two(Get(1)), Balance(10)),
+        Line(Two(Put(1, 9)), Stored),
+        Line(Two(Commit), Committed(2, 2)),
+        Line(One(Get(1)), Balance(9)),
+        Line(One(Scan), Sum(15)),
+    ];
+    let counts = Counts {
+        free: 6,
+        live: 1,
+        retired: 0,
+        sealed: 1,
+        place: 2,
+        waiting: 1,
+    };
+    let outcome = walked(&rt, rt.alloc(), plan, &table);
+    assert!(rt; outcome == Outcome::Room(counts));
+    Ok(())
+}
+
+// Three parts become one, two at a time, until one is left.
+#[test]
+fn room_is_made_of_three_parts(rt: HostRuntime) -> Result<(), Fail> {
+    let table = [
+        Line(One(Put(1, 10)), Stored),
+        Line(One(Commit), Committed(1, 1)),
+        Line(One(Show), Shown(1)),
+        Line(Two(Put(2, 5)), Stored),
+        Line(Two(Commit), Committed(2, 2)),
+        Line(Two(Show), Shown(2)),
+        Line(One(Put(1, 8)), Stored),
+        Line(One(Commit), Committed(3, 3)),
+        Line(One(Show), Shown(3)),
+        Line(Two(Get(2)), Balance(5)),
+        Line(MakeRoom, Room(Space::Made)),
+        Line(MakeRoom, Room(Space::Made)),
+        Line(MakeRoom, Room(Space::Enough)),
+        Line(Two(Put(2, 7)), Stored),
+        Line(Two(Commit), Committed(4, 4)),
+        Line(One(Scan), Sum(15)),
+    ];
+    let counts = Counts {
+        free: 6,
+        live: 1,
+        retired: 0,
+        sealed: 3,
+        place: 4,
+        waiting: 1,
+    };
+    let outcome = walked(&rt, rt.alloc(), FaultPlan::none(rt.alloc()), &table);
+    assert!(rt; outcome == Outcome::Room(counts));
+    Ok(())
+}
+
+#[test]
+fn two_threads_move_money(rt: HostRuntime) -> Result<(), Fail> {
+    let Some(made) = two_threads(&rt, rt.alloc(), 25) else {
+        return Err("memory")?;
+    };
+    let committed = (made.first.len(), made.second.len());
+    assert!(rt; (committed, made.sum, made.room.counts().place) == ((104, 100), 400, 204));
+    Ok(())
+}

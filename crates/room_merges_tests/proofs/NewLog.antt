@@ -57,6 +57,11 @@ still_boards old new (Err room_fault.Disk) is = ap (λ (r : RoomState). r.board)
 still_boards old new (Err (room_fault.Shut epoch)) is = ap (λ (v : RoomValue). v.room.board) is.2
 still_boards old new (Err room_fault.NoMemory) is = ap (λ (r : RoomState). r.board) is.1.room
 
+-- and the room open, where it answers an epoch
+pub sealed_open : (old new : RoomValue) (epoch : ℕ) → SealsOr old new (Ok epoch) → new.room.is_shut ≡ false
+unfolding sealed_state
+sealed_open old new epoch is = ap (λ (r : RoomState). r.is_shut) is.2.1.room ∙ is.2.0
+
 -- no eye is open where the board is empty
 pub no_eyes : (value : RoomValue) → IsWhole value → list_all is_empty value.room.board ≡ true → value.disk.eyes ≡ []
 no_eyes value whole empty = nil_from_length value.disk.eyes (sym (as_many value.disk.eyes) ∙ none)

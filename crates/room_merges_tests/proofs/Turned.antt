@@ -1,14 +1,16 @@
 -- A merge that stays out while epochs are sealed: what each step leaves for the next one.
-use Rattle.std.proofs.Common.{◌≡◌, ℕ, Bool, true, false, List, [], ◌∷◌, None, Some, Ok, Err, Result, refl, sym, ap, subst, ◌∙◌, true≢false}
-use Rattle.std.specs.Prelude.{Contains, IfSome, IsSome, Option, option_map, is_some, slice_get, slice_set, if◌then◌else◌}
+use Rattle.std.proofs.Common.{◌≡◌, ℕ, Bool, true, false, List, [], ◌∷◌, None, Some, Ok, Err, Result, refl, sym, ap, subst, ◌∙◌}
+use Rattle.std.specs.Prelude.{Contains, IfSome, Option, option_map, is_some, slice_get, slice_set, if◌then◌else◌}
 use Rattle.fine_model.specs.declared.Header.{Header}
 use Rattle.fine_model.specs.declared.Job.{Job}
 use Rattle.fine_model.specs.declared.Part.{Part}
 use Rattle.fine_model.specs.declared.law.OpenedEye.{OpenedEye}
 use Rattle.fine_model.specs.declared.law.RoomState.{RoomState}
 use Rattle.fine_model.specs.Boards.{Buffer, buffer_at, empty_of}
+use Rattle.fine_model.specs.Regions.{body_len}
 use Rattle.fine_model.proofs.Goings.{job_on}
 use Rattle.partition_hold.specs.Views.{SameView, ViewValue, opened}
+use Rattle.partition_merge.specs.Blocks.{BlocksValue}
 use Rattle.partition_merge.specs.declared.merger.Measure.{Measure}
 use Rattle.epoch_room.specs.Erasing.{ErasesOr}
 use Rattle.epoch_room.specs.MergeSealing.{IsWrittenOut, SealsJobOr, merged_state}
@@ -16,21 +18,25 @@ use Rattle.epoch_room.specs.MergeSteps.{free_after, fresh_job, job_after, neighb
 use Rattle.epoch_room.specs.Returns.{IsPosted}
 use Rattle.epoch_room.specs.Meaning.{Keeps}
 use Rattle.epoch_room.specs.Value.{RoomValue}
-use Rattle.epoch_room.specs.Views.{Views}
+use Rattle.epoch_room.specs.Views.{Views, ViewsOr}
 use Rattle.epoch_room.specs.Whole.{IsWhole}
 use Rattle.epoch_room.specs.declared.answers.EraseFault.{EraseFault}
 use Rattle.epoch_room.specs.declared.answers.EraseFault.TheVariants as erase_fault
 use Rattle.epoch_room.specs.declared.answers.RoomFault.{RoomFault}
+use Rattle.epoch_room.specs.declared.answers.RoomFault.TheVariants as room_fault
 use Rattle.partition_hold.specs.Views.{IsView}
 use Rattle.partition_merge.specs.Mergers.{measure_of}
 use Rattle.fine_model.specs.Merge.{merged}
-use Rattle.room_merges.specs.Merging.{HoldsBody, Measures}
+use Rattle.room_merges.specs.Merging.{Measures}
 use Rattle.room_merges.specs.Pairs.{measure_in}
-use Rattle.room_merges.specs.Work.{WritesAll, same_job}
-use Rattle.room_merges.proofs.Chained.{writing_lasts}
+use Rattle.room_merges.specs.Work.{IsWriting, StepsOr, WritesNext}
+use Rattle.room_merges.specs.declared.body.Progress.{Progress}
+use Rattle.room_merges.specs.declared.body.Progress.TheVariants as progress
+use Rattle.room_merges.specs.declared.fault.MergeFault.{MergeFault}
+use Rattle.room_merges.specs.declared.fault.MergeFault.TheVariants as merge_fault
 use Rattle.room_merges.proofs.Pairing.{ready, written_out}
-use Rattle.room_merges.proofs.Working.{of_same, posted_then, same_opened}
-use Rattle.room_merges_tests.specs.Turns.{HadTurns, IsAt, IsOutWith, IsPicked, IsTaken, IsWritten}
+use Rattle.room_merges.proofs.Working.{of_same, posted_then, same_opened, turns_last}
+use Rattle.room_merges_tests.specs.Turns.{AreOut, HadTurns, IsAt, IsOutWith, IsPicked, IsTaken, IsUnderway, IsWritten, Merges}
 
 -- ---- the view
 
@@ -110,43 +116,92 @@ takes old new view view' job job' header measure same measured some job_is new_i
       measured = r.measured;
     }
 
-pub writes : (old new : RoomValue) (view view' : ViewValue) (job job' : Job) (header : Header) → WritesAll header old new view view' job job' (Ok true) → IsTaken old view job header → IsWritten new view' job' header
-writes old new view view' job job' header wrote was =
-    let same = wrote.looks.same in
-    let older : job'.older ≡ job.older = ap (λ (j : Job). j.older) wrote.same in
-    let newer : job'.newer ≡ job.newer = ap (λ (j : Job). j.newer) wrote.same in
-    record {
-      with_view = record {
-        at = at_then old new view view' (ap (λ (r : RoomState). r.board) wrote.room.room) wrote.room.keeps.becomes.region_len same was.with_view.at;
-        out = ap (λ (r : RoomState). r.job) wrote.room.room;
-        older = subst (λ ps. Contains ps job'.older) (sym same.parts) (subst (Contains view.parts) (sym older) was.with_view.older);
-        newer = subst (λ ps. Contains ps job'.newer) (sym same.parts) (subst (Contains view.parts) (sym newer) was.with_view.newer);
-      };
-      taken = ap (λ (j : Job). j.header) wrote.same ∙ was.taken;
-      total = wrote.all.1;
-      measured = of_same view view' job job' same older newer (λ a b. measure_in header ≡ measure_of (merged a b)) was.measured;
-      body = wrote.all.0;
-    }
+pub begun : (value : RoomValue) (view : ViewValue) (blocks : BlocksValue) (job : Job) (header : Header) → IsWriting value view blocks job → IsTaken value view job header → IsUnderway value view blocks job header
+begun value view blocks job header writing was = record { with_view = was.with_view; opened = was.opened; taken = was.taken; measured = was.measured; writing = writing }
+
+pub underway_out : (value : RoomValue) (view : ViewValue) (job : Job) (blocks : BlocksValue) (header : Header) → IsUnderway value view blocks job header → AreOut value view job
+underway_out value view job blocks header was = record { at = was.with_view.at; out = was.with_view.out }
+
+-- ---- a block
+
+module _ (header : Header) (old new : RoomValue) (view view' : ViewValue) (blocks blocks' : BlocksValue) (job job' : Job) (was : IsUnderway old view blocks job header) where
+  goes_on : new.room.board ≡ old.room.board → new.room.region_len ≡ old.room.region_len → SameView view view' → IsAt new view'
+  goes_on board len same = at_then old new view view' board len same was.with_view.at
+
+  -- what is out stays out, whatever the answer
+  still_out : {A : Type 0} (result : Result A MergeFault) → StepsOr (Some job') old.room.free old new result → SameView view view' → AreOut new view' job'
+  still_out (Ok a) stays same = record { at = goes_on (ap (λ (r : RoomState). r.board) stays.room) stays.keeps.becomes.region_len same; out = ap (λ (r : RoomState). r.job) stays.room }
+  still_out (Err (merge_fault.Fetch fault)) stays same = record { at = goes_on (ap (λ (r : RoomState). r.board) stays.room) stays.keeps.becomes.region_len same; out = ap (λ (r : RoomState). r.job) stays.room }
+  still_out (Err (merge_fault.Room room_fault.NoMemory)) stays same = record { at = goes_on (ap (λ (r : RoomState). r.board) stays.room) stays.keeps.becomes.region_len same; out = ap (λ (r : RoomState). r.job) stays.room }
+  still_out (Err (merge_fault.Room room_fault.Disk)) falls same = record { at = goes_on (ap (λ (r : RoomState). r.board) falls.room) falls.keeps.becomes.region_len same; out = ap (λ (r : RoomState). r.job) falls.room }
+  still_out (Err (merge_fault.Room (room_fault.Shut epoch))) none same = absurd none
+
+  pub turn_stopped : (result : Result Progress MergeFault) → WritesNext header old new view view' blocks' job job' result → AreOut new view' job'
+  turn_stopped result next = still_out result next.room next.looks.same
+
+  has_both : (result : Result Progress MergeFault) → WritesNext header old new view view' blocks' job job' result → IsOutWith new view' job'
+  has_both result next =
+      let same = next.looks.same in
+      let out = turn_stopped result next in
+      record {
+        at = out.at;
+        out = out.out;
+        older = subst (λ ps. Contains ps job'.older) (sym same.parts) (subst (Contains view.parts) (sym (ap (λ (j : Job). j.older) next.same)) was.with_view.older);
+        newer = subst (λ ps. Contains ps job'.newer) (sym same.parts) (subst (Contains view.parts) (sym (ap (λ (j : Job). j.newer) next.same)) was.with_view.newer);
+      }
+
+  still_measured : (result : Result Progress MergeFault) → WritesNext header old new view view' blocks' job job' result → Measures view' job'.older job'.newer (measure_in header)
+  still_measured result next =
+      of_same view view' job job' next.looks.same (ap (λ (j : Job). j.older) next.same) (ap (λ (j : Job). j.newer) next.same) (λ a b. measure_in header ≡ measure_of (merged a b)) was.measured
+
+  pub turn_written : WritesNext header old new view view' blocks' job job' (Ok progress.Written) → IsUnderway new view' blocks' job' header
+  turn_written next = record {
+    with_view = has_both (Ok progress.Written) next;
+    opened = ap (λ (r : RoomState). r.is_shut) next.room.room ∙ was.opened;
+    taken = ap (λ (j : Job). j.header) next.same ∙ was.taken;
+    measured = still_measured (Ok progress.Written) next;
+    writing = next.next.2;
+  }
+
+  pub turn_ended : job'.written ≡ body_len header → WritesNext header old new view view' blocks' job job' (Ok progress.Ended) → IsWritten new view' job' header
+  turn_ended total next = record {
+    with_view = has_both (Ok progress.Ended) next;
+    taken = ap (λ (j : Job). j.header) next.same ∙ was.taken;
+    total = total;
+    measured = still_measured (Ok progress.Ended) next;
+    body = next.next.0;
+  }
 
 -- ---- turns of others
+
+-- nobody had one
+pub no_turns : (a : RoomValue) → HadTurns a a
+no_turns a = record { board = refl; region_len = refl; job = record { job = refl; held = λ job is. refl } }
 
 pub turns_on : (a b c : RoomValue) → HadTurns a b → HadTurns b c → HadTurns a c
 turns_on a b c p q = record { board = q.board ∙ p.board; region_len = q.region_len ∙ p.region_len; job = job_on a.room b.room c.room p.job q.job }
 
--- a body that was written stands in the target still
-pub written_lasts : (old new : RoomValue) (view : ViewValue) (job : Job) (header : Header) → HadTurns old new → IsWritten old view job header → IsWritten new view job header
-written_lasts old new view job header turns was = record {
-  with_view = record {
-    at = record { place = was.with_view.at.place; board = turns.board ∙ was.with_view.at.board; region_len = was.with_view.at.region_len ∙ sym turns.region_len };
-    out = turns.job.job ∙ was.with_view.out;
-    older = was.with_view.older;
-    newer = was.with_view.newer;
-  };
-  taken = was.taken;
-  total = was.total;
-  measured = was.measured;
-  body = writing_lasts.1 view job old new was.with_view.out turns.job was.body;
-}
+-- what is out is out still, and what is underway too, where the room is open
+module _ (old new : RoomValue) (view : ViewValue) (job : Job) (turns : HadTurns old new) where
+  pub turned_out : AreOut old view job → AreOut new view job
+  turned_out was = record {
+    at = record { place = was.at.place; board = turns.board ∙ was.at.board; region_len = was.at.region_len ∙ sym turns.region_len };
+    out = turns.job.job ∙ was.out;
+  }
+
+  pub turned_stopped : (blocks : BlocksValue) (header : Header) → IsUnderway old view blocks job header → AreOut new view job
+  turned_stopped blocks header was = turned_out (underway_out old view job blocks header was)
+
+  pub turned : (blocks : BlocksValue) (header : Header) → new.room.is_shut ≡ false → IsUnderway old view blocks job header → IsUnderway new view blocks job header
+  turned blocks header opened was =
+      let out = turned_stopped blocks header was in
+      record {
+        with_view = record { at = out.at; out = out.out; older = was.with_view.older; newer = was.with_view.newer };
+        opened = opened;
+        taken = was.taken;
+        measured = was.measured;
+        writing = turns_last view blocks job old new turns.region_len was.with_view.out turns.job was.writing;
+      }
 
 -- ---- sealing and erasing
 
@@ -156,12 +211,32 @@ may_seal value view job header whole is_view was =
     (written_out value view job header (record { whole = whole; is_view = is_view; posted = posted value view was.with_view.at; region_len = was.with_view.at.region_len })
     was.with_view.older was.with_view.newer was.measured was.body)
 
-pub sealed_at : (old new : RoomValue) (view : ViewValue) (job : Job) (header : Header) → Keeps old new → IfSome job.header (λ h. SealsJobOr old new job h (Ok tt)) → IsWritten old view job header → IsAt new view
+pub sealed_or : (old new : RoomValue) (view : ViewValue) (job : Job) (header : Header) (result : Result (Unit {0}) (RoomFault × Job)) → Keeps old new → IfSome job.header (λ h. SealsJobOr old new job h result)
+    → IsWritten old view job header → Merges new view job result
 unfolding merged_state
-sealed_at old new view job header keeps seals was =
-    let sealed : SealsJobOr old new job header (Ok tt) = subst (λ (o : Option Header). IfSome o (λ h. SealsJobOr old new job h (Ok tt))) was.taken seals in
-    let at = was.with_view.at in
-    record { place = at.place; board = ap (λ (r : RoomState). r.board) sealed.1.1.room ∙ at.board; region_len = at.region_len ∙ sym keeps.becomes.region_len }
+sealed_or old new view job header result keeps seals was = by result (subst (λ (o : Option Header). IfSome o (λ h. SealsJobOr old new job h result)) was.taken seals)
+  where
+    at_new : new.room.board ≡ old.room.board → IsAt new view
+    at_new board = let at = was.with_view.at in record { place = at.place; board = board ∙ at.board; region_len = at.region_len ∙ sym keeps.becomes.region_len }
+
+    by : (r : Result (Unit {0}) (RoomFault × Job)) → SealsJobOr old new job header r → Merges new view job r
+    by (Ok u) sealed = (at_new (ap (λ (r : RoomState). r.board) sealed.1.1.room), ap (λ (r : RoomState). r.job) sealed.1.1.room)
+    by (Err (room_fault.Disk, _)) (is, (opened, steps, fails)) = record { at = at_new (ap (λ (r : RoomState). r.board) steps.room); out = ap (λ (r : RoomState). r.job) steps.room ∙ was.with_view.out }
+    by (Err (room_fault.Shut epoch, _)) (is, (shut, which, same)) = record { at = at_new (ap (λ (v : RoomValue). v.room.board) same); out = ap (λ (v : RoomValue). v.room.job) same ∙ was.with_view.out }
+    by (Err (room_fault.NoMemory, _)) (is, ((opened, steps, counts), kept, ungated)) = record { at = at_new (ap (λ (r : RoomState). r.board) steps.room); out = ap (λ (r : RoomState). r.job) steps.room ∙ was.with_view.out }
+
+-- a job that came home leaves the view out
+pub dropped : (old new : RoomValue) (view : ViewValue) (job : Job) (free : List ℕ) → new ≡ with_job old None free → AreOut old view job → IsAt new view × (new.room.job ≡ None)
+dropped old new view job free is was = (
+  record { place = was.at.place; board = ap (λ (v : RoomValue). v.room.board) is ∙ was.at.board; region_len = was.at.region_len ∙ sym (ap (λ (v : RoomValue). v.room.region_len) is) },
+  ap (λ (v : RoomValue). v.room.job) is,
+)
+
+-- making a view that is refused leaves the board
+pub unviewed : (old new : RoomValue) (seat : ℕ) (fault : RoomFault) → ViewsOr old new seat (Err fault) → new.room.board ≡ old.room.board
+unviewed old new seat room_fault.Disk is = ap (λ (r : RoomState). r.board) is.0.1.room
+unviewed old new seat (room_fault.Shut epoch) is = ap (λ (v : RoomValue). v.room.board) is.2
+unviewed old new seat room_fault.NoMemory is = ap (λ (v : RoomValue). v.room.board) is.1
 
 pub erased_board : (region : ℕ) (old new : RoomValue) (result : Result (Unit {0}) EraseFault) → ErasesOr region old new result → new.room.board ≡ old.room.board
 erased_board region old new (Ok u) is = ap (λ (r : RoomState). r.board) is.2.1.room

@@ -80,7 +80,7 @@ fn stopped(
     stop: u64,
     byte: u8,
     len: usize,
-) -> Result<(Result<(), AdoptFault>, (u64, bool)), Fail> {
+) -> Result<(Result<(), AdoptFault>, (u64, u32)), Fail> {
     let mut room = new_room(alloc, stop_at(alloc, stop))?;
     let answer = adopt(&mut room, &rows_of(alloc, 24)?)?;
     let disk = crash(alloc, room, byte, len)?;
@@ -95,7 +95,7 @@ fn a_crash_leaves_all_rows_or_none(rt: HostRuntime) -> Result<(), Fail> {
     for (byte, len, opened) in [(0, 0, 8), (0xa7, 8192, 6)] {
         for stop in 1..9 {
             let answer = if stop < 8 { failed } else { Ok(()) };
-            let shown = if stop < opened { (0, false) } else { (3, true) };
+            let shown = if stop < opened { (0, 0) } else { (3, 24) };
             assert_eq!(rt; stopped(rt.alloc(), stop, byte, len)?, (answer, shown));
         }
     }

@@ -1,6 +1,6 @@
 //! Rooms in memory, and epochs of a few rows.
 
-ghost use Rattle.std.specs.Prelude.{◌≡◌, ◌<◌, ◌≤◌, [], ◌∷◌, length, None, IfOk, OnOk};
+ghost use Rattle.std.specs.Prelude.{◌≡◌, ◌<◌, ◌≤◌, [], ◌∷◌, false, length, None, IfOk, OnOk};
 ghost use Rattle.std.specs.List.{AllByRecursion};
 ghost use Rattle.fine_model.specs.RowBytes.{FitsRow};
 ghost use Rattle.fine_model.specs.declared.Mark.TheVariants as mark;
@@ -31,14 +31,17 @@ pub fn stop_at(alloc: Global, stop: u64) -> FaultPlan {
     plan
 }
 
-fn text(alloc: Global, text: &[u8]) -> Result<Bytes, Fail>
+// Why an epoch was not sealed; as a test's failure where it is handed on to one.
+pub type Refusal = &'static str;
+
+fn text(alloc: Global, text: &[u8]) -> Result<Bytes, Refusal>
     ensures { IfOk result (λ b. b ≡ text.now) }
 {
     Ok(Items::from_vec(Vec::from_slice(alloc, text).ok().ok_or("memory")?))
 }
 
 // A value of so many bytes.
-fn value(alloc: Global, len: usize) -> Result<Bytes, Fail>
+fn value(alloc: Global, len: usize) -> Result<Bytes, Refusal>
     requires some { 1 ≤ len }
     requires few { len ≤ 256 }
     ensures some { IfOk result (λ b. 1 ≤ length b) }
@@ -47,25 +50,37 @@ fn value(alloc: Global, len: usize) -> Result<Bytes, Fail>
     Ok(Items::from_vec(vec![in alloc; b'v'; len].ok().ok_or("memory")?))
 }
 
-// A row that puts at the key `a` in a node a value of so many bytes.
+// A row of a version that puts a value at the key `a` in a node.
 #[tactic(auto, unfolding(fine_model::specs::RowBytes::body))]
-pub fn row_of(alloc: Global, number: u32, len: usize) -> Result<Row, Fail>
+fn row_with(alloc: Global, number: u32, version: u64, value: Bytes) -> Result<Row, Refusal>
+    requires low { 1 ≤ number }
+    requires high { number < 100 }
+    requires first { 1 ≤ version }
+    requires last { version < 100 }
+    requires some { 1 ≤ length value }
+    requires few { length value ≤ 256 }
+    ensures { IfOk result (FitsRow mark.Two) }
+{
+    let key = text(alloc, b"a")?;
+    Ok(Row {
+        node: NodeId { bucket: 97, number },
+        version,
+        rec: Rec::Put { key, value },
+    })
+}
+
+// A row of the first version, whose value has so many bytes.
+pub fn row_of(alloc: Global, number: u32, len: usize) -> Result<Row, Refusal>
     requires low { 1 ≤ number }
     requires high { number < 100 }
     requires some { 1 ≤ len }
     requires few { len ≤ 256 }
     ensures { IfOk result (FitsRow mark.Two) }
 {
-    let key = text(alloc, b"a")?;
-    let value = value(alloc, len)?;
-    Ok(Row {
-        node: NodeId { bucket: 97, number },
-        version: 1,
-        rec: Rec::Put { key, value },
-    })
+    row_with(alloc, number, 1, value(alloc, len)?)
 }
 
-fn put(log: &mut PrivateLog, alloc: Global, number: u32, len: usize) -> Result<(), Fail>
+fn put(log: &mut PrivateLog, alloc: Global, number: u32, len: usize) -> Result<(), Refusal>
     requires low { 1 ≤ number }
     requires high { number < 100 }
     requires some { 1 ≤ len }
@@ -80,7 +95,7 @@ fn put(log: &mut PrivateLog, alloc: Global, number: u32, len: usize) -> Result<(
 }
 
 // So in each of so many nodes, from a number on.
-fn put_some(alloc: Global, from: u32, nodes: u32, len: usize) -> Result<PrivateLog, Fail>
+fn put_some(alloc: Global, from: u32, nodes: u32, len: usize) -> Result<PrivateLog, Refusal>
     requires low { 1 ≤ from }
     requires high { from < 50 }
     requires nodes { nodes < 50 }
@@ -98,12 +113,11 @@ fn put_some(alloc: Global, from: u32, nodes: u32, len: usize) -> Result<PrivateL
     Ok(log)
 }
 
-#[tactic(auto, unfolding(epoch_room::specs::Steps::appended))]
-fn commit(room: &mut Room<MemDisk>, log: &PrivateLog) -> Result<(), Fail>
+#[tactic(auto, using(crate::proofs::Turned::no_turns), unfolding(epoch_room::specs::Steps::appended))]
+fn commit(room: &mut Room<MemDisk>, log: &PrivateLog) -> Result<(), Refusal>
     requires { AllByRecursion (FitsRow mark.Two) log.now }
     ensures waits { OnOk result (1 ≤ room.new.room.waiting) }
-    ensures same { (room.new.room.board ≡ room.old.room.board) × (room.new.room.job ≡ room.old.room.job) }
-    ensures turns { OnOk result (HadTurns room.old room.new) }
+    ensures turns { HadTurns room.old room.new }
 {
     match room.fit(log.cost()) {
         Fit::Fits => {
@@ -114,34 +128,55 @@ fn commit(room: &mut Room<MemDisk>, log: &PrivateLog) -> Result<(), Fail>
     }
 }
 
-// An epoch more of one entry, of these rows.
-fn seal_log(room: &mut Room<MemDisk>, log: &PrivateLog) -> Result<(), Fail>
+// An epoch more of one entry, of these rows. The board, and the job that is out, are as they were, whatever the answer.
+fn seal_log(room: &mut Room<MemDisk>, log: &PrivateLog) -> Result<(), Refusal>
     requires { AllByRecursion (FitsRow mark.Two) log.now }
-    ensures same { OnOk result ((room.new.room.board ≡ room.old.room.board) × (room.new.room.job ≡ room.old.room.job)) }
-    ensures turns { OnOk result (HadTurns room.old room.new) }
+    ensures turns { HadTurns room.old room.new }
+    ensures open { OnOk result (room.new.room.is_shut ≡ false) }
 {
     commit(room, log)?;
     match room.seal() {
         Ok(_epoch) => Ok(()),
-        Err(_fault) => Err("seal")?,
+        Err(_fault) => Err("seal"),
     }
 }
 
 // An epoch more of one entry, which puts values of so many bytes in so many nodes, from a number on.
+#[tactic(auto, using(crate::proofs::Turned::no_turns))]
 pub fn seal_some(
     room: &mut Room<MemDisk>,
     alloc: Global,
     from: u32,
     nodes: u32,
     len: usize,
-) -> Result<(), Fail>
+) -> Result<(), Refusal>
     requires low { 1 ≤ from }
     requires high { from < 50 }
     requires nodes { nodes < 50 }
     requires some { 1 ≤ len }
     requires few { len ≤ 256 }
-    ensures same { OnOk result ((room.new.room.board ≡ room.old.room.board) × (room.new.room.job ≡ room.old.room.job)) }
-    ensures turns { OnOk result (HadTurns room.old room.new) }
+    ensures turns { HadTurns room.old room.new }
+    ensures open { OnOk result (room.new.room.is_shut ≡ false) }
 {
     seal_log(room, &put_some(alloc, from, nodes, len)?)
+}
+
+// An epoch more of one entry, which puts a text at the key `a` in the first node, as a version of it.
+#[tactic(auto, using(crate::proofs::Turned::no_turns))]
+pub fn seal_version(
+    room: &mut Room<MemDisk>,
+    alloc: Global,
+    version: u64,
+    value: &[u8],
+) -> Result<(), Refusal>
+    requires first { 1 ≤ version }
+    requires last { version < 100 }
+    requires some { 1 ≤ length value.now }
+    requires few { length value.now ≤ 256 }
+    ensures turns { HadTurns room.old room.new }
+{
+    let mut log = PrivateLog::new(alloc);
+    let row = row_with(alloc, 1, version, text(alloc, value)?)?;
+    log.push(&row).ok().ok_or("memory")?;
+    seal_log(room, &log)
 }

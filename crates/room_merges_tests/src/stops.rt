@@ -165,29 +165,29 @@ fn shows<E: LogEye>(view: &mut View<E>, number: u32) -> bool {
     }
 }
 
-// Whether a room shows the rows of all three parts.
-pub fn shows_all(room: &mut Room<MemDisk>) -> Result<bool, Fail>
+// How many nodes a room shows, from the first one on, up to 32.
+fn nodes_of(room: &mut Room<MemDisk>) -> Result<u32, Fail>
     requires { room.old.room.board ≡ None ∷ None ∷ None ∷ [] }
 {
     let Ok(mut view) = room.view_for(1) else {
         return Err("view")?;
     };
-    for number in 1..25 {
+    for number in 1..33 {
         if !shows(&mut view, number) {
-            return Ok(false);
+            return Ok(number - 1);
         }
     }
-    Ok(true)
+    Ok(32)
 }
 
-// The last epoch of a log, and whether it shows the rows of all three parts.
-pub fn reopened(alloc: Global, disk: MemDisk) -> Result<(u64, bool), Fail>
+// The last epoch of a log, and how many nodes it shows, from the first one on.
+pub fn reopened(alloc: Global, disk: MemDisk) -> Result<(u64, u32), Fail>
     requires { IsIdle disk.disk }
 {
     match open_log(alloc, disk) {
         Ok(mut room) => {
             let sealed = room.counts().sealed;
-            Ok((sealed, shows_all(&mut room)?))
+            Ok((sealed, nodes_of(&mut room)?))
         }
         Err(_refused) => Err("open")?,
     }
@@ -199,7 +199,7 @@ fn stopped(
     stop: u64,
     byte: u8,
     len: usize,
-) -> Result<([Answer; 3], (u64, bool)), Fail> {
+) -> Result<([Answer; 3], (u64, u32)), Fail> {
     let mut room = three_parts(alloc, stop_at(alloc, stop))?;
     let answers = merge_thrice(&mut room, alloc);
     let disk = crash(alloc, room, byte, len)?;
@@ -225,7 +225,7 @@ fn a_merge_that_is_stopped_loses_no_row(rt: HostRuntime) -> Result<(), Fail> {
         for stop in 13..37 {
             let (answers, shown) = stopped(rt.alloc(), stop, byte, len)?;
             assert_eq!(rt; answers, answers_at(stop));
-            assert_eq!(rt; shown, (3, true));
+            assert_eq!(rt; shown, (3, 24));
         }
     }
     Ok(())

@@ -1,18 +1,19 @@
 //! What no clause says: whole chains that are merged in memory, each call with ample memory.
 
-ghost use Rattle.std.specs.Prelude.{◌≡◌, [], ◌∷◌, None, IfOk, OnOk};
+ghost use Rattle.std.specs.Prelude.{◌≡◌, [], ◌∷◌, None, IfOk};
+ghost use Rattle.room_merges_tests.specs.Turns.{HadTurns};
 
-use crate::fixtures::{new_room, seal_some};
+use crate::fixtures::{Refusal, new_room, seal_some, seal_version};
 use epoch_room::Room;
-use fine_model::Part;
-use log_disk::{FaultPlan, MemDisk};
+use fine_model::{Header, Mark, Part, Range};
+use log_disk::{FaultPlan, LogDisk, MemDisk};
 use room_merges::{merge_near, merge_now};
 use std::alloc::Global;
 use std::test::Fail;
 
 // Five epochs more of one entry each, in five nodes.
-fn seal_five(room: &mut Room<MemDisk>, alloc: Global) -> Result<(), Fail>
-    ensures { OnOk result ((room.new.room.board ≡ room.old.room.board) × (room.new.room.job ≡ room.old.room.job)) }
+fn seal_five(room: &mut Room<MemDisk>, alloc: Global) -> Result<(), Refusal>
+    ensures { HadTurns room.old room.new }
 {
     seal_some(room, alloc, 1, 1, 1)?;
     seal_some(room, alloc, 2, 1, 1)?;
@@ -65,6 +66,79 @@ fn five_parts_become_one(rt: HostRuntime) -> Result<(), Fail> {
     assert_eq!(rt; merge_five(rt.alloc())?, answers);
     Ok(())
 }
+
+// ---- rows that are folded
+
+// A room whose first node was put twice at one key, in two epochs.
+fn put_twice(alloc: Global) -> Result<Room<MemDisk>, Fail>
+    ensures { IfOk result (λ room. (room.room.board ≡ None ∷ None ∷ None ∷ []) × (room.room.job ≡ None)) }
+{
+    let mut room = new_room(alloc, FaultPlan::none(alloc))?;
+    seal_version(&mut room, alloc, 1, b"1")?;
+    seal_version(&mut room, alloc, 2, b"2")?;
+    Ok(room)
+}
+
+// The first 25 bytes of the body of a part of one region.
+fn body_at(room: Room<MemDisk>, region: u32) -> Result<[u8; 25], Fail>
+    requires board { room.room.board ≡ None ∷ None ∷ None ∷ [] }
+    requires job { room.room.job ≡ None }
+{
+    let mut disk = room.into_disk();
+    let mut bytes = [0u8; 25];
+    if region >= disk.regions() || disk.region_len() < 66 {
+        return Err("region")?;
+    }
+    match disk.read(region, 41, &mut bytes) {
+        Ok(()) => Ok(bytes),
+        Err(_failed) => Err("read")?,
+    }
+}
+
+type Folded = ((Option<bool>, u32, u32, u32), Option<Part>, [u8; 25]);
+
+// What merging such a room answers, and how many regions are live, retired and free then; the first part of the chain, and the bytes of the row
+// in the third region.
+fn folded(alloc: Global) -> Result<Folded, Fail> {
+    let mut room = put_twice(alloc)?;
+    let merged = merge_once(&mut room, alloc);
+    let part = room.parts().as_slice().first().copied();
+    Ok((merged, part, body_at(room, 2)?))
+}
+
+// The part of both epochs: one row of 25 bytes, in the third region.
+fn image_part() -> Part {
+    Part {
+        region: 2,
+        header: Header {
+            mark: Mark::Two,
+            range: Range { first: 1, last: 2 },
+            rows: 1,
+            nodes: 1,
+            area: 25,
+            regions: 1,
+            more: [0; 7],
+        },
+    }
+}
+
+// A leaf of one pair, `a` and `2`, as the second version of the node.
+fn image_row() -> [u8; 25] {
+    [
+        2, 0, 0x61, 0, 0, 0, 1, 0, 0, 0, 0, 0, 0, 0, 2, 0, 0, 0, 6, 1, 1, 0x61, 0, 1, 0x32,
+    ]
+}
+
+#[test]
+fn two_puts_of_a_key_become_an_image(rt: HostRuntime) -> Result<(), Fail> {
+    let (merged, part, row) = folded(rt.alloc())?;
+    assert_eq!(rt; merged, (Some(true), 1, 0, 7));
+    assert_eq!(rt; part, Some(image_part()));
+    assert_eq!(rt; row, image_row());
+    Ok(())
+}
+
+// ---- which neighbours are merged
 
 // The epochs of the part at a place.
 fn range_at(parts: &[Part], place: usize) -> Option<(u64, u64)> {

@@ -1,4 +1,4 @@
-use Rattle.std.proofs.Common.{◌≡◌, ◌+◌, ap, arith, ◌∙◌}
+use Rattle.std.proofs.Common.{ap, arith, ◌∙◌}
 use Rattle.epoch_room.specs.Fitting.{counts_of}
 use Rattle.epoch_room.specs.declared.answers.Counts.{Counts}
 use Rattle.room_merges_tests.proofs.Adopted.{keeps_out}

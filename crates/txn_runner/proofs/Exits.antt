@@ -26,9 +26,10 @@ use Rattle.open_txn.specs.Buckets.{BucketsValue}
 use Rattle.open_txn.specs.Opened.{LeavesEach, SettlesAll, UndoesAll}
 use Rattle.room_steps.specs.Steps.{SealsWaiting, Tidies}
 use Rattle.run_laws.specs.Lanes.{first_fault, with_last}
-use Rattle.run_laws.specs.Runs.{IsReady, RunsLanes}
+use Rattle.run_laws.specs.Runs.{IsReady}
 use Rattle.run_laws.specs.Turns.{commits_of}
 use Rattle.txn_runner.specs.Body.{RunnerValue, RunsSoFar, body}
+use Rattle.txn_runner.specs.Left.{RunsOn}
 use Rattle.txn_runner.specs.Steps.{Appends, Closes, IsClosed, SealsAll, TakesBack}
 use Rattle.txn_runner.proofs.Looping as looping
 use Rattle.txn_runner.proofs.Seals as seals
@@ -106,10 +107,15 @@ module _ (inside old : RunnerValue) (is : inside ≡ old) where
   closes_not buckets first fault err last some room view s = subst (λ v. Closes (body v buckets) (body (moved room view) buckets) last) is
       (subst (Closes (body inside buckets) (body (moved room view) buckets)) (sym some) (seals.not_closed (body inside buckets) room fault view (subst (SealsWaiting (shelf inside.room inside.view) (shelf room view)) err s)))
 
+-- the end of the body, behind all transactions
+closes_so_far : (old new : RunnerValue) (last : Option RunFault) → ((buckets : BucketsValue) → Closes (body old buckets) (body new buckets) last) → (script : List ScriptTxn) (options : Options) (entry : RoomValue) (buckets : BucketsValue) (outcomes : List Outcome)
+    → IsReady entry → (s : RunsSoFar script options (length script) entry (body old buckets) outcomes) → IsClosed entry (body old buckets) (body new buckets) (commits_of s.done) last
+closes_so_far old new last closes script options entry buckets outcomes ready s = closes buckets entry (commits_of s.done) ready (record { room = s.goes_on; stuck = s.stuck; view = s.view }) s.told (record { all = s.buckets.0; follows = s.buckets.1 })
+
 -- what a run gives behind the last transaction
 pub finish : (old new inside : RunnerValue) → inside ≡ new → (last : Option RunFault) → ((buckets : BucketsValue) → Closes (body old buckets) (body new buckets) last) → (outcomes : List Outcome) (k : Counts) → k ≡ counts_of inside.room.room
     → (fault : Option RunFault) → fault ≡ first_fault (with_last inside.ended last) → (script : List ScriptTxn) (options : Options) (entry : RoomValue) (buckets : BucketsValue) → IsReady entry
-    → RunsSoFar script options (length script) entry (body old buckets) outcomes → RunsLanes script options entry inside.room (record { outcomes = outcomes; durable = k.sealed; fault = fault })
+    → RunsSoFar script options (length script) entry (body old buckets) outcomes → RunsOn script options entry inside.room (record { outcomes = outcomes; durable = k.sealed; fault = fault })
 finish old new inside is last closes outcomes k counts fault told script options entry buckets ready s =
     looping.finishes script options entry (body old buckets) outcomes s ready (body inside buckets) last (subst (λ v. IsClosed entry (body old buckets) (body v buckets) (commits_of s.done) last) (sym is) closed)
     (record { outcomes = outcomes; durable = k.sealed; fault = fault })
@@ -117,17 +123,16 @@ finish old new inside is last closes outcomes k counts fault told script options
     ∙ ap (λ f. record { outcomes = outcomes; durable = inside.room.room.sealed; fault = f }) (told ∙ ap (λ ended. first_fault (with_last ended last)) (ap (λ (v : RunnerValue). v.ended) is ∙ closed.ended)))
   where
     closed : IsClosed entry (body old buckets) (body new buckets) (commits_of s.done) last
-    closed = closes buckets entry (commits_of s.done) ready (record { room = s.goes_on; stuck = s.stuck; view = s.view }) s.told
+    closed = closes_so_far old new last closes script options entry buckets outcomes ready s
 
 -- the room keeps the disk as it was made
 pub finish_entry : (old new inside : RunnerValue) → inside ≡ new → (last : Option RunFault) → ((buckets : BucketsValue) → Closes (body old buckets) (body new buckets) last) → (outcomes : List Outcome)
     → (script : List ScriptTxn) (options : Options) (entry : RoomValue) (buckets : BucketsValue) → IsReady entry → RunsSoFar script options (length script) entry (body old buckets) outcomes → inside.room.entry ≡ entry.entry
 finish_entry old new inside is last closes outcomes script options entry buckets ready s =
-    let closed : IsClosed entry (body old buckets) (body new buckets) (commits_of s.done) last = closes buckets entry (commits_of s.done) ready (record { room = s.goes_on; stuck = s.stuck; view = s.view }) s.told in
-    ap (λ (v : RunnerValue). v.room.entry) is ∙ closed.goes_on.same_entry
+    ap (λ (v : RunnerValue). v.room.entry) is ∙ (closes_so_far old new last closes script options entry buckets outcomes ready s).goes_on.same_entry
 
 -- and where there was no memory to begin
 pub not_begun : (room : RoomValue) → IsReady room → (outcomes : List Outcome) → outcomes ≡ [] → (k : Counts) → k ≡ counts_of room.room → (script : List ScriptTxn) (options : Options)
-    → RunsLanes script options room room (record { outcomes = outcomes; durable = k.sealed; fault = Some run_fault.Memory })
+    → RunsOn script options room room (record { outcomes = outcomes; durable = k.sealed; fault = Some run_fault.Memory })
 not_begun room ready outcomes none k counts script options = looping.not_begun script options room (record { outcomes = outcomes; durable = k.sealed; fault = Some run_fault.Memory }) ready
     (ap (λ os. record { outcomes = os; durable = k.sealed; fault = Some run_fault.Memory }) none ∙ ap (λ n. record { outcomes = []; durable = n; fault = Some run_fault.Memory }) (sealed_of k room.room counts))

@@ -11,8 +11,10 @@ pub mod Naming
 pub mod Needs
 pub mod Opening
 pub mod Placing
+pub mod Left
 pub mod Running
 pub mod Seals
+pub mod Shown
 pub mod Steady
 pub mod Trying
 pub mod Txns

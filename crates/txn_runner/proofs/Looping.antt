@@ -14,6 +14,9 @@ use Rattle.fine_model.specs.declared.ScriptTxn.{ScriptTxn}
 use Rattle.std.proofs.lemmas.Option.{slice_get_within}
 use Rattle.fine_model.specs.declared.law.Origin.{Origin}
 use Rattle.fine_model.specs.Bounds.{FitsScript, FitsTxn}
+use Rattle.fine_model.specs.History.{Commit}
+use Rattle.fine_model.specs.Outcomes.{IsHistoryOf}
+use Rattle.fine_model.specs.Report.{all_outcomes}
 use Rattle.fine_model.specs.RowBytes.{greatest}
 use Rattle.epoch_room.specs.Meaning.{origin_of}
 use Rattle.epoch_room.specs.Value.{RoomValue}
@@ -29,10 +32,26 @@ use Rattle.run_laws.proofs.Finish.{finished_law}
 use Rattle.run_laws.proofs.Nothing.{nothing_law}
 use Rattle.run_laws.proofs.Stepping as stepping
 use Rattle.run_laws.proofs.Steps.{lane_ends_law, next_law}
+use Rattle.run_laws.proofs.Turns.{in_turn_law}
 use Rattle.txn_runner.specs.Body.{Body, IsBetween, RunsSoFar, serial, stands_on}
+use Rattle.txn_runner.specs.Left.{Leaves, RunsOn}
 use Rattle.txn_runner.specs.Steps.{BehindTxns, Comes, IsClosed, RunsTxn}
 use Rattle.txn_runner.proofs.Following as following
 use Rattle.txn_runner.proofs.Naming.{never_later}
+
+-- outcomes have one history
+first_in : (outcomes : List Outcome) (one other : List Commit) → IsHistoryOf outcomes one → IsHistoryOf outcomes other → (place : ℕ) (c : Commit) → slice_get one place ≡ Some c → slice_get other place ≡ Some c
+first_in outcomes one other a b place c at = let i = a.only place c at in (b.each i.0 place c i.1).0
+
+same_lists : {A : Type 0} (xs ys : List A) → ((n : ℕ) (x : A) → slice_get xs n ≡ Some x → slice_get ys n ≡ Some x) → ((n : ℕ) (x : A) → slice_get ys n ≡ Some x → slice_get xs n ≡ Some x) → xs ≡ ys
+same_lists [] [] to back = refl
+same_lists [] (y ∷ ys) to back = absurd (let e : ◌≡◌ {A = Option _} None (Some y) = back 0 y refl in cc)
+same_lists (x ∷ xs) [] to back = absurd (let e : ◌≡◌ {A = Option _} None (Some x) = to 0 x refl in cc)
+same_lists (x ∷ xs) (y ∷ ys) to back = let e : ◌≡◌ {A = Option _} (Some y) (Some x) = to 0 x refl in let same : x ≡ y = cc in
+    λ i. same i ∷ same_lists xs ys (λ n z at. to (suc n) z at) (λ n z at. back (suc n) z at) i
+
+one_history : (outcomes : List Outcome) (one other : List Commit) → IsHistoryOf outcomes one → IsHistoryOf outcomes other → one ≡ other
+one_history outcomes one other a b = same_lists one other (first_in outcomes one other a b) (first_in outcomes other one b a)
 
 pub all_at : {A : Type 0} (P : A → Type 0) (xs : List A) → AllByRecursion P xs → (i : ℕ) (x : A) → slice_get xs i ≡ Some x → P x
 all_at P [] all i x is = absurd (let e : ◌≡◌ {A = Option _} None (Some x) = is in cc)
@@ -131,12 +150,35 @@ module _ (script : List ScriptTxn) (options : Options) (entry : RoomValue) where
         none : length script - length script ≡ 0
         none = omega arith
 
-    pub finishes : (ran : Ran) → ran ≡ record { outcomes = outcomes; durable = new.room.room.sealed; fault = first_fault (with_last b.ended last) } → RunsLanes script options entry new.room ran
-    finishes ran is = subst (RunsLanes script options entry new.room)
-        (sym (is ∙ ap (λ os. record { outcomes = os; durable = new.room.room.sealed; fault = first_fault (with_last b.ended last) }) all_done))
-        (finished_law (IsDamageAt entry) script options entry new.room s.done b.ended (with_last b.ended last) ready ended)
+    -- the run's history is that of these outcomes, and no other is
+    run : RunsLanes script options entry new.room (record { outcomes = s.done; durable = new.room.room.sealed; fault = first_fault (with_last b.ended last) })
+    run = finished_law (IsDamageAt entry) script options entry new.room s.done b.ended (with_last b.ended last) ready ended
+
+    all_told : all_outcomes script s.done ≡ s.done
+    all_told = ap (λ n. s.done ++ replicate n outcome.NotRun) none ∙ append-nil s.done
+      where
+        none : length script - length s.done ≡ 0
+        none = let c = s.so_far.count in omega (arith, c)
+
+    of_done : IsHistoryOf s.done (commits_of s.done)
+    of_done = (in_turn_law (take (length script) script) entry.room.sealed s.done s.so_far.each s.so_far.numbered s.so_far.last_ones closed.goes_on.epochs).history_of
+
+    of_run : IsHistoryOf s.done run.run.history
+    of_run = subst (λ os. IsHistoryOf os run.run.history) all_told run.run.outcomes.history_of
+
+    runs_on : RunsOn script options entry new.room (record { outcomes = s.done; durable = new.room.room.sealed; fault = first_fault (with_last b.ended last) })
+    runs_on = record {
+      run = run;
+      leaves = λ none. subst (Leaves (origin_of entry.entry) new.room) (one_history s.done (commits_of s.done) run.run.history of_done of_run) (new.buckets, (closed.stand.all, closed.stand.follows));
+    }
+
+    pub finishes : (ran : Ran) → ran ≡ record { outcomes = outcomes; durable = new.room.room.sealed; fault = first_fault (with_last b.ended last) } → RunsOn script options entry new.room ran
+    finishes ran is = subst (RunsOn script options entry new.room) (sym (is ∙ ap (λ os. record { outcomes = os; durable = new.room.room.sealed; fault = first_fault (with_last b.ended last) }) all_done)) runs_on
 
   -- ---- no memory to begin
 
-  pub not_begun : (ran : Ran) → IsReady entry → ran ≡ nothing_ran entry.room.sealed (Some run_fault.Memory) → RunsLanes script options entry entry ran
-  not_begun ran ready is = subst (RunsLanes script options entry entry) (sym is) (nothing_law script options entry ready).0
+  pub not_begun : (ran : Ran) → IsReady entry → ran ≡ nothing_ran entry.room.sealed (Some run_fault.Memory) → RunsOn script options entry entry ran
+  not_begun ran ready is = record {
+    run = subst (RunsLanes script options entry entry) (sym is) (nothing_law script options entry ready).0;
+    leaves = λ none. absurd (let e : ◌≡◌ {A = Option RunFault} (Some run_fault.Memory) None = sym (ap (λ (r : Ran). r.fault) is) ∙ none in cc);
+  }

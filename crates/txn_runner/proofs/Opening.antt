@@ -1,10 +1,10 @@
 -- A body through an open transaction, by the bytes at entry.
 use Rattle.std.proofs.Common.{◌≡◌, ◌⊎◌, ◌∙◌, inl, inr, ℕ, ◌+◌, ◌<◌, ◌≤◌, ◌==◌, Bool, true, false, true≢false, ◌||◌, cond, List, [], ◌∷◌, ◌++◌, length, Option, Some, None, Ok, refl, sym, ap, subst, append-nil, append_assoc, arith}
-use Rattle.std.specs.Prelude.{◌≢◌, Contains, flat_map, option_map, slice_get, take}
+use Rattle.std.specs.Prelude.{◌≢◌, flat_map, option_map, slice_get, take}
 use Rattle.std.specs.List.{AllByRecursion, list_any}
 use Rattle.std.proofs.Math.Seq.{take-length}
 use Rattle.std.proofs.lemmas.Grind.{flat_map-append}
-use Rattle.std.proofs.lemmas.List.Elements.{All-contains, All-from_recursion, filter-append}
+use Rattle.std.proofs.lemmas.List.Elements.{filter-append}
 use Rattle.std.proofs.lemmas.Option.{slice_get_within}
 use Rattle.log_disk.specs.Disk.{Eye}
 use Rattle.fine_model.specs.declared.Call.{Call}
@@ -15,17 +15,14 @@ use Rattle.fine_model.specs.declared.ScriptTxn.{ScriptTxn}
 use Rattle.fine_model.specs.declared.law.Origin.{Origin}
 use Rattle.fine_model.specs.declared.law.RoomState.{RoomState}
 use Rattle.fine_model.specs.Buckets.{IsUpTo, has_row_on, node_id}
-use Rattle.fine_model.specs.Chain.{chain, regions_of}
-use Rattle.fine_model.specs.ChainLaws.{SameIn}
+use Rattle.fine_model.specs.Chain.{chain}
 use Rattle.fine_model.specs.Damages.{MeetsUnfit, calls_on}
 use Rattle.fine_model.specs.History.{Commit, all_rows}
 use Rattle.fine_model.specs.Nodes.{Content, is_node, rows_of}
 use Rattle.fine_model.specs.Pushed.{key_of}
-use Rattle.fine_model.specs.Regions.{Image, region_of}
+use Rattle.fine_model.specs.Regions.{Image}
 use Rattle.fine_model.specs.Trees.{bucket_of}
-use Rattle.fine_model.specs.Views.{SameSeen}
 use Rattle.fine_model.proofs.NodeLaws.{rows_of-append}
-use Rattle.fine_model.proofs.Owning.{own_law}
 use Rattle.node_cache.specs.Cache.{Cache, IsResting, after, before}
 use Rattle.node_cache.specs.declared.cached.Cached.{Cached}
 use Rattle.node_fetch.specs.Fetched.{IsReplayOf}
@@ -33,7 +30,6 @@ use Rattle.btree_nodes.specs.declared.fault.TreeFault.{TreeFault}
 use Rattle.btree_nodes.specs.declared.fault.TreeFault.TheVariants.{Unfit}
 use Rattle.damage_laws.specs.Goings.{GoBy}
 use Rattle.damage_laws.specs.Made.{AreMadeOf, all_of}
-use Rattle.damage_laws.specs.Places.{AreKeptOrGood, IsUnchanged}
 use Rattle.damage_laws.proofs.AllFirm.{merged_all}
 use Rattle.txn_draft.specs.Standing.{IsLeft, StandsFor}
 use Rattle.txn_damage.specs.Following.{FindsBy, HasAbsentSealed, IsLeftOr, IsOpen, Names, Rests, Sees}
@@ -45,7 +41,6 @@ use Rattle.epoch_room.specs.Value.{RoomValue}
 use Rattle.epoch_room.specs.Whole.{IsWhole}
 use Rattle.epoch_room.proofs.Counting.{all_back, all_front}
 use Rattle.room_steps.specs.Made.{LivesOn, MadeOn}
-use Rattle.room_steps.proofs.JoinedMade.{none_made}
 use Rattle.open_txn.specs.Buckets.{BucketsValue, StandAll}
 use Rattle.open_txn.specs.Opened.{LeavesEach}
 use Rattle.open_txn.specs.Traces.{AllDone, DoAll, Refused, StopsAt, rows_in}
@@ -53,8 +48,8 @@ use Rattle.open_txn.proofs.TraceLaws.{number_law}
 use Rattle.run_laws.specs.Needs.{IsSealed, Unsealed}
 use Rattle.txn_runner.specs.Follows.{AllFollow, GoesIn, RoomFollows, calls_in}
 use Rattle.txn_runner.specs.Opening.{AllOpen, AnswersLaw, BucketAt, CommitsLaw, GivesUpLaw, IsRead, NodeLaw, OpenStepLaw, OpensIn, RefusesLaw, blind}
-use Rattle.txn_runner.proofs.Following.{all_split, bucket_at, counts_by, made_itself, nothing_behind, own_rows, rows_in-append, step_firm, step_room}
-use Rattle.txn_runner.proofs.Placing as placing
+use Rattle.txn_runner.proofs.Following.{all_split, bucket_at, counts_by, nothing_behind, own_rows, rows_in-append, step_firm, step_room}
+use Rattle.txn_runner.proofs.Shown as seeing
 
 -- ---- nodes that are not cached
 
@@ -127,47 +122,21 @@ module _ (log : Origin) (room : RoomValue) (view : ViewValue) (taken : BucketsVa
   len : view.eye.region_len ≡ log.region_len
   len = r.sees.region_len ∙ r.region_len
 
+  abbrev seen : seeing.IsSeenIn log room entry now parts a.sealed history view.eye
+  seen = record { whole = r.whole; opened = r.is_out.opened; region_len = r.region_len; is_now = is_now; follows = a.follows; sees = r.sees }
+
   -- what the eye tells
-  record Shown : Type 0 where
-    image : Image
-    told : view.eye.told ≡ Some image
-    alike : SameIn r.sees.regions now image
-
-  shown : Shown
-  shown = by view.eye.told refl (subst (λ o. SameSeen r.sees.regions o view.eye.told) is_now r.sees.same)
-    where
-      by : (o : Option Image) → view.eye.told ≡ o → SameSeen r.sees.regions (Some now) o → Shown
-      by None e same = absurd same
-      by (Some image) e same = record { image = image; told = e; alike = same }
-
-  abbrev image : Image
-  image = shown.image
-
-  bytes_back : (regions : List ℕ) (x y : Image) → AllByRecursion (λ n. region_of y n ≡ region_of x n) regions → AllByRecursion (λ n. region_of x n ≡ region_of y n) regions
-  bytes_back [] x y same = tt
-  bytes_back (n ∷ regions) x y same = (sym same.0, bytes_back regions x y same.1)
-
-  unchanged : (p : Part) → Contains room.room.parts p → IsUnchanged log.region_len now shown.image p
-  unchanged p there = subst (λ n. IsUnchanged n now shown.image p) r.region_len (record {
-    header = placing.header room r.whole r.is_out.opened entry now is_now parts (subst (λ n. AreKeptOrGood n entry now parts room.room.parts) (sym r.region_len) a.follows.good) p there;
-    same = placing.among_all room r.whole r.is_out.opened entry now is_now parts (subst (λ n. AreKeptOrGood n entry now parts room.room.parts) (sym r.region_len) a.follows.good) r.sees.regions now shown.image (regions_of p) shown.alike
-        (All-contains (λ (q : Part). AllByRecursion (Contains r.sees.regions) (regions_of q)) room.room.parts p (All-from_recursion _ room.room.parts r.sees.named) there);
-  })
-
-  back : (p : Part) → Contains room.room.parts p → IsUnchanged log.region_len shown.image now p
-  back p there = let u = unchanged p there in record {
-    header = (own_law log.region_len now shown.image p u.same u.header).header u.header;
-    same = record { as_many = sym u.same.as_many; same = bytes_back (regions_of p) now shown.image u.same.same };
-  }
+  abbrev shown : seeing.Shown r.sees.regions now view.eye
+  shown = seeing.shown log room entry now parts a.sealed history view.eye seen
 
   there_made : AreMadeOf log.region_len now shown.image room.room.parts [] room.room.parts
-  there_made = none_made log.region_len now now shown.image room.room.parts [] room.room.parts unchanged (made_itself log.region_len now room.room.parts)
+  there_made = seeing.there_made log room entry now parts a.sealed history view.eye seen
 
   back_made : AreMadeOf log.region_len shown.image now room.room.parts [] room.room.parts
-  back_made = none_made log.region_len shown.image shown.image now room.room.parts [] room.room.parts back (made_itself log.region_len shown.image room.room.parts)
+  back_made = seeing.back_made log room entry now parts a.sealed history view.eye seen
 
   sees : Sees view.eye entry shown.image parts room.room.parts a.sealed
-  sees = record { told = shown.told; made = subst (λ n. AreMadeOf n entry shown.image parts a.sealed room.room.parts) (sym len) (none_made log.region_len entry now shown.image parts a.sealed room.room.parts unchanged a.follows.made) }
+  sees = record { told = shown.told; made = subst (λ n. AreMadeOf n entry shown.image parts a.sealed room.room.parts) (sym len) (seeing.entry_made log room entry now parts a.sealed history view.eye seen) }
 
   found_by : FindsBy view.eye room.room.parts (finds_in view)
   found_by id found f = subst (λ ps. IsReplayOf view.eye ps id found) r.is_out.parts f

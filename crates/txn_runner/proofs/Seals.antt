@@ -23,6 +23,7 @@ use Rattle.run_laws.proofs.Tellings.{more_beside, named_more, told_stays}
 use Rattle.txn_runner.specs.Body.{Body, Goes, Stand, count_of, shelf_of}
 use Rattle.txn_runner.specs.Named.{Blames}
 use Rattle.txn_runner.specs.Steps.{Closes, SealsAll, SealsGroup, SealsOn}
+use Rattle.txn_runner.proofs.Answering.{stand_later}
 use Rattle.txn_runner.proofs.Keeping.{damage_of, none_named, step_blames, step_follows}
 use Rattle.txn_runner.proofs.Steady.{stand_on}
 use Rattle.room_steps.proofs.Facts.{sealed_on}
@@ -103,7 +104,7 @@ is_sealed old mid mid_view room view epoch result s d entry history ready g t st
 
 -- nothing waited
 pub rests : (old : Body) (room : RoomValue) → old.room.room.waiting ≡ 0 → IsWhole room → Rests old.room old.view room → Closes old (moved old room None) None
-rests old room none whole r entry history ready g t = record {
+rests old room none whole r entry history ready g t stand = record {
   goes_on = stays_law entry old.room room history g.room whole (later_law old.room room old.view None r.later);
   tells = told_stays entry old.room room (count_of old) room.disk.faults old.ended old.ended r.count (let e = r.own in omega (arith, e)) r.shut t;
   names = λ script named. named;
@@ -111,6 +112,7 @@ rests old room none whole r entry history ready g t = record {
   board = r.board;
   sealed = λ open_room not. ap (λ (x : RoomState). x.waiting) r.later.room ∙ none;
   ended = refl;
+  stand = stand_later entry old (moved old room None) history stand r.later refl;
 }
 
 -- what is told with no view out
@@ -120,7 +122,7 @@ alone entry room ended told t = subst (λ n. AreTold entry room n ended told) (l
 module _ (old : Body) (room : RoomValue) where
   -- what waited was sealed
   pub closes : (epoch : ℕ) (view : Option ViewValue) → SealsWaiting (shelf_of old) (shelf room view) (Ok epoch) → Closes old (moved old room view) None
-  closes epoch view s entry history ready g t = record {
+  closes epoch view s entry history ready g t stand = record {
     goes_on = s.leaves.goes_on entry history g.room;
     tells = alone entry room old.ended old.ended (subst (λ v. AreTold entry room (total (shelf room v)) old.ended old.ended) s.rested (told_still (shelf_of old) (shelf room view) entry old.ended old.ended s.seals.0.none_failed t));
     names = λ script named. named;
@@ -128,6 +130,7 @@ module _ (old : Body) (room : RoomValue) where
     board = subst (λ v. IsShelf room.room v) s.rested s.leaves.shelf;
     sealed = λ open_room not. s.seals.1.waiting;
     ended = refl;
+    stand = (on_by entry old room view history ready s.leaves (inr s.seals.1) g stand).stand;
   }
 
   -- or not
@@ -137,7 +140,7 @@ module _ (old : Body) (room : RoomValue) where
   waits (run_fault.Damaged what) view s open_room not = absurd s
 
   pub not_closed : (fault : RunFault) (view : Option ViewValue) → SealsWaiting (shelf_of old) (shelf room view) (Err fault) → Closes old (moved old room view) (Some fault)
-  not_closed fault view s entry history ready g t = record {
+  not_closed fault view s entry history ready g t stand = record {
     goes_on = s.leaves.goes_on entry history g.room;
     tells = alone entry room old.ended (with_last old.ended (Some fault)) (subst (λ v. AreTold entry room (total (shelf room v)) old.ended (with_last old.ended (Some fault))) s.rested
         (told_with (shelf_of old) (shelf room view) entry history old.ended old.ended old.ended (with_last old.ended (Some fault)) fault ready (s.leaves.goes_on entry history g.room)
@@ -148,6 +151,7 @@ module _ (old : Body) (room : RoomValue) where
     board = subst (λ v. IsShelf room.room v) s.rested s.leaves.shelf;
     sealed = waits fault view s.seals;
     ended = refl;
+    stand = (on_by entry old room view history ready s.leaves (inl (seal_fault (shelf_of old) (shelf room view) fault s.seals).1) g stand).stand;
   }
     where
       adds : TellsMore old.ended (with_last old.ended (Some fault)) fault

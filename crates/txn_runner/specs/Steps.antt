@@ -232,7 +232,7 @@ pub record RunsTxn (group : ℕ) (entry : RoomValue) (done : List Outcome) (txn 
 
 -- ---- the end
 
--- The view was taken back, and what waited was sealed, unless the room is shut or memory ran out: the fault of this last seal is told beside those of lanes.
+-- The view was taken back, and what waited was sealed, unless the room is shut or memory ran out: the fault of this last seal is told beside those of lanes. The buckets stand as before.
 pub record IsClosed (entry : RoomValue) (old new : Body) (history : List Commit) (last : Option RunFault) : Type 0 where
   pub goes_on : GoesOn entry new.room history
   pub tells : AreTold entry new.room new.room.disk.faults old.ended (with_last old.ended last)
@@ -241,7 +241,8 @@ pub record IsClosed (entry : RoomValue) (old new : Body) (history : List Commit)
   pub board : list_all is_empty new.room.room.board ≡ true
   pub sealed : new.room.room.is_shut ≡ false → (last ≡ Some run_fault.Memory → ⊥) → new.room.room.waiting ≡ 0
   pub ended : new.ended ≡ old.ended
+  pub stand : Stand entry new history
 
 -- of a body between transactions, for each entry and history
 abbrev pub Closes : Body → Body → Option RunFault → Type 0
-Closes old new last = (entry : RoomValue) (history : List Commit) → IsReady entry → Goes entry old history → AreTold entry old.room (count_of old) old.ended old.ended → IsClosed entry old new history last
+Closes old new last = (entry : RoomValue) (history : List Commit) → IsReady entry → Goes entry old history → AreTold entry old.room (count_of old) old.ended old.ended → Stand entry old history → IsClosed entry old new history last

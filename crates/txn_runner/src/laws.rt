@@ -2,6 +2,7 @@
 
 ghost use Rattle.txn_runner.specs.Follows.{BeginsLaw, CountsLaw, LoadLaw, MergeLaw, SameLaw, StepLaw};
 ghost use Rattle.txn_runner.specs.Opening.{AnswersLaw, CommitsLaw, GivesUpLaw, NodeLaw, OpenStepLaw, RefusesLaw};
+ghost use Rattle.txn_runner.specs.Left.{BlameLaw, ScanLaw};
 
 /// Wherever the log was told at entry and its chain was found, in the grammar or not, a body goes on from the bytes at entry (`Follows`): as a run begins with buckets that cache nothing [`begins`]; as nodes are loaded
 /// [`same`]; and as a step of the room merges neighbours and seals epochs, be the buckets as they are [`step`]. The rows that are open then count, which is what a seal asks for the grammar [`counts`].
@@ -28,4 +29,11 @@ pub fn opens_law()
     ensures gives_up { GivesUpLaw }
     ensures commits { CommitsLaw }
     ensures names { NodeLaw }
+{}
+
+/// What a reader of the log that a run left (`IsLeftTo`) names as damaged, by an eye that sees its live parts. A node that a scan meets unfit, over contents which the eye finds, is one that a run which reads all at its end
+/// meets unfit [`scans`]. A place that is blamed of a live part is bad by the bytes at entry [`blames`].
+pub fn left_log_law()
+    ensures scans { ScanLaw }
+    ensures blames { BlameLaw }
 {}

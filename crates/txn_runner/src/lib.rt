@@ -10,5 +10,5 @@ mod runner;
 mod sealing;
 mod txn;
 
-pub use laws::{follows_law, opens_law, places_law};
+pub use laws::{follows_law, left_log_law, opens_law, places_law};
 pub use run::run_lanes;

@@ -8,8 +8,9 @@ ghost use Rattle.fine_model.specs.Bounds.{FitsScript};
 ghost use Rattle.epoch_room.specs.Value.{RoomValue};
 ghost use Rattle.open_txn.specs.Buckets.{BucketsValue};
 ghost use Rattle.room_shelf.specs.Shelves.{IsShelf};
-ghost use Rattle.run_laws.specs.Runs.{IsReady, RunsLanes};
+ghost use Rattle.run_laws.specs.Runs.{IsReady};
 ghost use Rattle.txn_runner.specs.Body.{RunsSoFar, body};
+ghost use Rattle.txn_runner.specs.Left.{RunsOn};
 
 use crate::runner::Runner;
 use epoch_room::Room;
@@ -33,7 +34,7 @@ fn none_run(alloc: Global, count: usize) -> Result<Outcomes, NoMemory>
 /// What a run gives for which there was no memory to begin.
 fn not_begun<D: LogDisk>(alloc: Global, room: Room<D>) -> (Ran, Room<D>)
     requires ready { IsReady room }
-    ensures run { (script : List ScriptTxn) (options : Limits) → RunsLanes script options room result.1 result.0 }
+    ensures run { (script : List ScriptTxn) (options : Limits) → RunsOn script options room result.1 result.0 }
     ensures entry { result.1.entry ≡ room.entry }
 {
     let durable = room.counts().sealed;
@@ -75,7 +76,7 @@ fn finish<D: LogDisk, G: Gate>(
 ) -> (Ran, Room<D>)
     requires shelf { IsShelf runner.room.room runner.view }
     requires no_job { runner.room.room.job ≡ None }
-    ensures run { (script : List ScriptTxn) (options : Limits) (entry : RoomValue) (buckets : BucketsValue) → IsReady entry → RunsSoFar script options (length script) entry (body runner buckets) outcomes → RunsLanes script options entry result.1 result.0 }
+    ensures run { (script : List ScriptTxn) (options : Limits) (entry : RoomValue) (buckets : BucketsValue) → IsReady entry → RunsSoFar script options (length script) entry (body runner buckets) outcomes → RunsOn script options entry result.1 result.0 }
     ensures entry { (script : List ScriptTxn) (options : Limits) (entry : RoomValue) (buckets : BucketsValue) → IsReady entry → RunsSoFar script options (length script) entry (body runner buckets) outcomes → result.1.entry ≡ entry.entry }
 {
     let last = runner.close(gate);
@@ -94,7 +95,7 @@ fn finish<D: LogDisk, G: Gate>(
 /// each transaction of a lane that goes on begins and ends, and behind each seal; no point of a merge is called. `tries` is not used on one thread.
 ///
 /// On return the room is whole, no view of it is out, and its disk went on from the one that it was made on. On a sound log that the disk told it stands for all that was committed, and each refusal has
-/// its cause. What is named as damaged is damage of the bytes at entry, on any log that the disk told then and that has a chain, in the grammar or not: a place that is bad, or a node that
+/// its cause. Without a fault it leaves what a reader of the whole log has to know (`RunsOn`). What is named as damaged is damage of the bytes at entry, on any log that the disk told then and that has a chain, in the grammar or not: a place that is bad, or a node that
 /// calls of the script meet unfit.
 pub fn run_lanes<D: LogDisk, G: Gate>(
     alloc: Global,
@@ -106,7 +107,7 @@ pub fn run_lanes<D: LogDisk, G: Gate>(
     requires ready { IsReady room }
     requires script { FitsScript script.now }
     requires group { 1 ≤ options.now.group }
-    ensures run { RunsLanes script.now options.now room result.1 result.0 }
+    ensures run { RunsOn script.now options.now room result.1 result.0 }
     ensures entry { result.1.entry ≡ room.entry }
 {
     let Ok(mut outcomes) = none_run(alloc, script.len()) else {

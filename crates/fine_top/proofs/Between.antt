@@ -18,8 +18,9 @@ use Rattle.fine_model.proofs.Epochs.{sealed_from, sealed_least}
 use Rattle.epoch_room.specs.Meaning.{StandsAtFirst, origin_of}
 use Rattle.epoch_room.specs.Value.{RoomValue, made}
 use Rattle.epoch_room.specs.Whole.{IsWhole}
-use Rattle.run_laws.specs.Runs.{IsDamageAt, IsReady, RunsLanes, RunsScript}
+use Rattle.run_laws.specs.Runs.{IsDamageAt, IsReady, RunsScript}
 use Rattle.run_laws.proofs.Runs.{done_law, ready_law, run_law}
+use Rattle.txn_runner.specs.Left.{RunsOn}
 use Rattle.reopen.specs.declared.chain.Chain.{Chain}
 use Rattle.reopen.specs.Opening.{SeesChain}
 use Rattle.fine_top.specs.Running.{IsRunBehind, IsRunOf, IsRunOn, RunsFrom}
@@ -84,13 +85,14 @@ pub ready_of : (disk : Disk) (live retired : List Part) (room : RoomValue) → r
 ready_of disk live retired room is whole stands = subst IsReady (sym is) (ready disk live retired (subst IsWhole is whole) (subst (λ r. StandsAtFirst r disk.told) is stands))
 
 pub runs_from : (options : Options) (script : List ScriptTxn) (disk : Disk) (found : Chain) (ran : Ran) (room behind : RoomValue) → room ≡ made disk found.parts found.retired → IsWhole room → StandsAtFirst room disk.told
-    → RunsLanes script options room behind ran → behind.entry ≡ room.entry → RunsFrom options script disk found ran behind
+    → RunsOn script options room behind ran → behind.entry ≡ room.entry → RunsFrom options script disk found ran behind
 runs_from options script disk found ran room behind is whole stands by entry =
-    let lanes = subst (λ (r : RoomValue). RunsLanes script options r behind ran) is by in
+    let on = subst (λ (r : RoomValue). RunsOn script options r behind ran) is by in
     record {
       whole = subst IsWhole is whole;
       stood = subst (λ r. StandsAtFirst r disk.told) is stands;
-      runs = lanes.run;
-      damage = lanes.damage;
+      runs = on.run.run;
+      damage = on.run.damage;
+      leaves = on.leaves;
       entry = entry ∙ ap (λ (r : RoomValue). r.entry) is;
     }

@@ -114,7 +114,7 @@ module _ (n : Numbers) (output : ℕ × ℕ) (old new : Disk) (status : ℕ) (wa
     pub beside : LeavesBeside old new
     beside = beside_of ended is_end
 
-  finds_told : (fault : RunFault) → FindsChain old new (Err fault) → new.told ≡ old.told
+  pub finds_told : (fault : RunFault) → FindsChain old new (Err fault) → new.told ≡ old.told
   finds_told run_fault.Memory f = ap (λ (d : Disk). d.told) f
   finds_told run_fault.Disk f = f.told
   finds_told (run_fault.Damaged what) f = ap (λ (d : Disk). d.told) f.0
@@ -403,7 +403,7 @@ module _ (n : Numbers) (output : ℕ × ℕ) (old new : Disk) (status : ℕ) (wa
     whole (counted ran all_durable found) end p s = counted_any ran all_durable found end p s
 
   -- a disk that told its bytes tells them still
-  told_after : (before : Told) → old.told ≡ Some before → ContinuesOn old new → (after : Told) × (new.told ≡ Some after)
+  pub told_after : (before : Told) → old.told ≡ Some before → ContinuesOn old new → (after : Told) × (new.told ≡ Some after)
   told_after before is continues = by new.told refl
     where
       by : (t : Option Told) → new.told ≡ t → (after : Told) × (new.told ≡ Some after)

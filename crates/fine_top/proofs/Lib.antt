@@ -5,6 +5,7 @@ pub mod Durable
 pub mod Counting
 pub mod Listing
 pub mod Generated
+pub mod GeneratedAny
 pub mod Unread
 pub mod Complete
 pub mod AnyLog

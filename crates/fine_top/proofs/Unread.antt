@@ -26,6 +26,7 @@ use Rattle.fine_top.specs.Generating.{Ends as EndsGen, Numbers, numbers, early a
 use Rattle.fine_top.specs.Running.{Ends, early, text_of}
 use Rattle.fine_top.proofs.Generated.{gens_well}
 use Rattle.fine_top.proofs.AnyLog.{runs_any}
+use Rattle.fine_top.proofs.GeneratedAny.{gens_any}
 use Rattle.fine_top.proofs.Theorem.{runs_well}
 use Rattle.log_commands.proofs.Printed.{wrote_all, wrote_front}
 
@@ -157,7 +158,7 @@ module _ (left : Option (List ℕ)) (source output : ℕ × ℕ) (disk : Disk) (
     own (Some dump) = record { ends = dump_ends; dump = dumps_well output disk disk status was now output_failed dump_ends; any = dumps_any output disk disk status was now output_failed dump_ends }
     own (Some ranges) = record { ends = ranges_ends; ranges = ranges_well output disk disk status was now output_failed ranges_ends }
     own (Some merge) = record { ends = merge_ends; merge = merges_well disk disk status was now merge_ends output output_failed sound; any = merges_any disk disk status was now merge_ends output output_failed }
-    own (Some (gen start count lanes)) = record { ends = gen_ends (numbers start count lanes); gen = gens_well (numbers start count lanes) output disk disk status was now output_failed idle sound (gen_ends (numbers start count lanes)) }
+    own (Some (gen start count lanes)) = record { ends = gen_ends (numbers start count lanes); gen = gens_well (numbers start count lanes) output disk disk status was now output_failed idle sound (gen_ends (numbers start count lanes)); any = gens_any (numbers start count lanes) output disk disk status was now output_failed idle.no_eyes (gen_ends (numbers start count lanes)) }
 
     pub lacks_memory : (command : Option Command) → Does command (seen left source output disk disk status was now)
     lacks_memory None = record { leaves = leaves None few few; own = own None }

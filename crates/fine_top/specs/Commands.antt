@@ -13,7 +13,7 @@ use Rattle.log_commands.specs.Ends.{Ends as EndsListing, MergesAnyWell, MergesWe
 use Rattle.log_commands.specs.Found.{FindsChain}
 use Rattle.log_commands.specs.Merged.{MergesLog}
 use Rattle.map_reader.specs.Dumps.{DumpsAny, DumpsWell, Ends as EndsDump}
-use Rattle.fine_top.specs.Generating.{Ends as EndsGen, GensWell, Numbers, numbers}
+use Rattle.fine_top.specs.Generating.{Ends as EndsGen, GensAny, GensWell, Numbers, numbers}
 use Rattle.fine_top.specs.Opened.{IsOpenedLog, IsUnsoundLog}
 use Rattle.fine_top.specs.Running.{Ends, IsRefused, LeavesBeside, OfTold, RunsAny, RunsWell, SpellsScript}
 
@@ -93,6 +93,7 @@ pub record DoesDump (s : Seen) : Type 0 where
 pub record DoesGen (n : Numbers) (s : Seen) : Type 0 where
   pub ends : EndsGen n s.old s.new s.status s.was s.now
   pub gen : GensWell n s.output s.old s.new s.status s.was s.now
+  pub any : GensAny n s.output s.old s.new s.status s.was s.now
 
 -- what each command does
 abbrev pub Own : Option Command → Seen → Type 0

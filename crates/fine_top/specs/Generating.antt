@@ -5,14 +5,16 @@ use Rattle.log_disk.specs.Moments.{ContinuesOn}
 use Rattle.fine_model.specs.declared.Damage.{Damage}
 use Rattle.fine_model.specs.declared.Options.{Options}
 use Rattle.fine_model.specs.declared.Outcome.{Outcome}
+use Rattle.fine_model.specs.declared.Part.{Part}
 use Rattle.fine_model.specs.declared.Ran.{Ran}
 use Rattle.fine_model.specs.declared.Row.{Row}
 use Rattle.fine_model.specs.declared.RunFault.{RunFault}
 use Rattle.fine_model.specs.declared.RunFault.TheVariants as run_fault
 use Rattle.fine_model.specs.declared.ScriptTxn.{ScriptTxn}
 use Rattle.fine_model.specs.Bounds.{FitsScript}
-use Rattle.fine_model.specs.Chain.{Shows}
-use Rattle.fine_model.specs.Commands.{GenTheorem, are_durable, fault_summary, summary}
+use Rattle.fine_model.specs.Chain.{Shows, chain as chain_in}
+use Rattle.fine_model.specs.Commands.{GenDamagedTheorem, GenTheorem, are_durable, fault_summary, summary}
+use Rattle.fine_model.specs.Damages.{IsDamageIn}
 use Rattle.fine_model.specs.Generator.{generated}
 use Rattle.fine_model.specs.History.{Commit, map_at}
 use Rattle.fine_model.specs.Map.{Pair}
@@ -82,7 +84,7 @@ pub record IsCountedOn (n : Numbers) (old new : Disk) (before after : Told) (ran
 
 -- A run of the generated script between two states of the disk, behind the chain that was found, with what was read at its end; on each sound log that the disk told it is a run on this log. Whatever it tells:
 -- a fault of the run is the one that is told; a failed disk is told only where its count rose, and where that is greater than it was, a failed disk or want of memory; damage only on a log that is
--- not sound.
+-- not sound. Where a chain is found in the bytes at entry, they have the damage that is told, or the run's calls made it of their nodes, as one of them meets it, or the final reading does.
 pub record IsCounted (n : Numbers) (old new : Disk) (ran : Ran) (all_durable : Bool) (found : Result (List Pair) RunFault) : Type 0 where
   pub chain : Chain
   pub sees : SeesChain old chain
@@ -95,6 +97,10 @@ pub record IsCounted (n : Numbers) (old new : Disk) (ran : Ran) (all_durable : B
   pub only_risen : found ≡ Err run_fault.Disk → HasRisen old.faults new.faults
   pub where_risen : old.faults < new.faults → (found ≡ Err run_fault.Disk) ⊎ (found ≡ Err run_fault.Memory)
   pub unsound : (what : Damage) → found ≡ Err (run_fault.Damaged what) → IsUnsoundLog old
+  pub run_damage : (what : Damage) (before : Told) (parts : List Part) → ran.fault ≡ Some (run_fault.Damaged what) → old.told ≡ Some before → chain_in old.region_len before.bytes ≡ Ok parts
+      → IsDamageIn (Ok (script_by n)) ⊥ history old.region_len before.bytes parts what
+  pub damage : (what : Damage) (before : Told) (parts : List Part) → found ≡ Err (run_fault.Damaged what) → old.told ≡ Some before → chain_in old.region_len before.bytes ≡ Ok parts
+      → IsDamageIn (Ok (script_by n)) (Unit {0}) history old.region_len before.bytes parts what
   pub told : (before after : Told) (e : ℕ) (rows : List Row) → old.told ≡ Some before → new.told ≡ Some after → Shows old.region_len before.bytes e rows → IsSound rows
       → IsCountedOn n old new before after ran found history e rows
 
@@ -165,3 +171,9 @@ pub record GensWell (n : Numbers) (output : ℕ × ℕ) (old new : Disk) (status
       → Shows old.region_len before.bytes e rows → IsSound rows
       → (after : Told) × (new.told ≡ Some after) × (written : List ℕ) × (now ≡ Some (first ++ written))
       × GenTheorem (start_of (script_by n) old e rows) n.start n.count n.lanes (IsImageSince (clock_of before) after) (IsImageNow after) (return_of old new source output before after) status written
+
+-- The theorem of a generated run on every log that the disk told at entry, sound or not, where the output is told.
+pub record GensAny (n : Numbers) (output : ℕ × ℕ) (old new : Disk) (status : ℕ) (was now : Option (List ℕ)) : Type 0 where
+  pub holds : (source : ℕ × ℕ) (first : List ℕ) (before : Told) → was ≡ Some first → old.told ≡ Some before
+      → (after : Told) × (new.told ≡ Some after) × (written : List ℕ) × (now ≡ Some (first ++ written))
+      × GenDamagedTheorem n.start n.count n.lanes old.region_len before.bytes (return_of old new source output before after) (new.told ≡ old.told) status written

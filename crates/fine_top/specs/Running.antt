@@ -31,7 +31,8 @@ use Rattle.log_commands.specs.Found.{SeesLog}
 use Rattle.run_laws.specs.Law.{return_of, start_of}
 use Rattle.run_laws.specs.Needs.{AreSealedInNeed}
 use Rattle.run_laws.specs.Runs.{AreFewOfLanes, IsDamageAt, IsReplied, RunsScript}
-use Rattle.epoch_room.specs.Meaning.{StandsAtFirst}
+use Rattle.txn_runner.specs.Left.{Leaves}
+use Rattle.epoch_room.specs.Meaning.{StandsAtFirst, origin_of}
 use Rattle.epoch_room.specs.Value.{RoomValue, made}
 use Rattle.epoch_room.specs.Whole.{IsWhole}
 use Rattle.fine_top.specs.declared.opening.Opened.{Opened}
@@ -121,8 +122,8 @@ pub record LeavesBeside (old new : Disk) : Type 0 where
   pub no_eyes : new.eyes ≡ []
 
 -- A run between two states of the disk, behind the chain that was found, by one history; on each sound log that the disk told it is a run on this log. Whatever it tells: a failed disk is told only
--- where its count rose, and where that is greater than it was, a failed disk or want of memory; damage only on a log that is not sound, which the bytes at entry have where a chain is found in them, or
--- which the run's calls made of their nodes.
+-- where its count rose, and where that is greater than it was, a failed disk or want of memory; damage only on a log that is not sound. Where a chain is found in the bytes at entry, they have that
+-- damage, or the run's calls made it of their nodes.
 pub record IsRunOf (options : Options) (old new : Disk) (script : List ScriptTxn) (ran : Ran) : Type 0 where
   pub found : Chain
   pub sees : SeesChain old found
@@ -177,6 +178,7 @@ pub record RunsFrom (options : Options) (script : List ScriptTxn) (disk : Disk) 
   pub stood : StandsAtFirst (made disk found.parts found.retired) disk.told
   pub runs : RunsScript script options (made disk found.parts found.retired) room ran
   pub damage : (what : Damage) → ran.fault ≡ Some (run_fault.Damaged what) → IsDamageAt (made disk found.parts found.retired) script runs.history what
+  pub leaves : ran.fault ≡ None → Leaves (origin_of disk) room runs.history
   pub entry : room.entry ≡ disk
 
 -- a script may be run, and the chain of the log that it runs on was found

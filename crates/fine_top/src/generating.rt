@@ -13,7 +13,7 @@ ghost use Rattle.log_disk.specs.Moments.{ContinuesOn};
 ghost use Rattle.reopen.specs.Opening.{SeesChain};
 ghost use Rattle.script_text.specs.Streams.{Puts};
 ghost use Rattle.script_text.specs.Summaries.{summary_of};
-ghost use Rattle.fine_top.specs.Generating.{CountsRun, Ends, EndsGenerated, GensWell, OpensGen, PrintsCounted, ReadsEnd, default_options, numbers};
+ghost use Rattle.fine_top.specs.Generating.{CountsRun, Ends, EndsGenerated, GensAny, GensWell, OpensGen, PrintsCounted, ReadsEnd, default_options, numbers};
 ghost use Rattle.fine_top.specs.Opened.{IsOpenedLog, IsUnsoundLog};
 ghost use Rattle.fine_top.specs.Running.{LeavesBeside, run_status};
 
@@ -264,9 +264,10 @@ pub(crate) fn generate_and_print<K: Sink, D: LogDisk, G: Gate>(
     requires count { count ≤ 100000 }
     requires lanes { (1 ≤ lanes) × (lanes ≤ 16) }
 
-    // What is printed, and why; and the theorem of a generated run.
+    // What is printed, and why; and the theorem of a generated run, on a sound log, and on any.
     ensures ends { Ends (numbers start count lanes) (D.state disk) (D.state result.disk) result.status (K.written out.old) (K.written out.new) }
     ensures well { GensWell (numbers start count lanes) (K.faults out.old, K.faults out.new) (D.state disk) (D.state result.disk) result.status (K.written out.old) (K.written out.new) }
+    ensures any { GensAny (numbers start count lanes) (K.faults out.old, K.faults out.new) (D.state disk) (D.state result.disk) result.status (K.written out.old) (K.written out.new) }
 
     // Why each status comes.
     ensures damaged { result.status ≡ 7 → IsUnsoundLog (D.state disk) }

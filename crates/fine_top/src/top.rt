@@ -13,7 +13,7 @@ ghost use Rattle.log_disk.specs.Disk.{HasRisen};
 ghost use Rattle.log_disk.specs.Moments.{ContinuesOn};
 ghost use Rattle.map_reader.specs.Dumps.{DumpsAny, DumpsWell, Ends as EndsDump};
 ghost use Rattle.fine_top.specs.Commands.{Does, HasScript, IsReading, NoneRose, RefusesWords, TellsSound, seen, statuses_of};
-ghost use Rattle.fine_top.specs.Generating.{Ends as EndsGen, GensWell, numbers};
+ghost use Rattle.fine_top.specs.Generating.{Ends as EndsGen, GensAny, GensWell, numbers};
 ghost use Rattle.fine_top.specs.Opened.{IsOpenedLog, IsUnsoundLog};
 ghost use Rattle.fine_top.specs.Running.{Ends, IsRefused, LeavesBeside, OfTold, RunsAny, RunsWell};
 
@@ -154,6 +154,7 @@ pub fn fineline<R: Threads + Wait + Sync, S: Source, K: Sink, D: LogDisk, G: Gat
     // `gen`: what is printed, and why. It does as `run` on the generated script, and counts the outcomes, and what the map at the end has.
     ensures gen_ends { (start count lanes : ℕ) → command_in words.now ≡ Some (gen start count lanes) → EndsGen (numbers start count lanes) (D.state disk) (D.state result.disk) result.status (K.written out.old) (K.written out.new) }
     ensures generates { (start count lanes : ℕ) → command_in words.now ≡ Some (gen start count lanes) → GensWell (numbers start count lanes) (K.faults out.old, K.faults out.new) (D.state disk) (D.state result.disk) result.status (K.written out.old) (K.written out.new) }
+    ensures generates_any { (start count lanes : ℕ) → command_in words.now ≡ Some (gen start count lanes) → GensAny (numbers start count lanes) (K.faults out.old, K.faults out.new) (D.state disk) (D.state result.disk) result.status (K.written out.old) (K.written out.new) }
 
     // Status 7 comes for a log alone that is not sound; with 0 and 8 the chain was found.
     ensures damaged { result.status ≡ 7 → IsUnsoundLog (D.state disk) }

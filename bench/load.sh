@@ -110,11 +110,11 @@ loaded() {
   timed "$work/$1" "$work/out" "$fineline" "$work/log" default run --group "$2"
   bytes=$((bytes - $(wc -c < "$work/out")))
 }
-# gets: the milliseconds of a first get that is aborted, and of one that is committed.
+# gets: the milliseconds of a first get that is aborted, and of one that is committed. Nothing else is written meanwhile, for which the sync at the opening would wait.
 gets() {
-  timed "$work/get" "$work/out" "$fineline" "$work/log" default run
+  timed "$work/get" /dev/null "$fineline" "$work/log" default run
   aborted=$wall
-  timed "$work/one" "$work/out" "$fineline" "$work/log" default run
+  timed "$work/one" /dev/null "$fineline" "$work/log" default run
   echo "$(of $aborted 1000) ms, and $(of $wall 1000) with its commit"
 }
 of() { awk -v a="$1" -v b="$2" 'BEGIN { printf "%.2f", a / b }'; }
@@ -130,12 +130,14 @@ for group in 64 1; do
   printing=$cpu
   loaded load $group
   run_wall=$wall run_cpu=$cpu run_resident=$resident run_bytes=$bytes run_status=$status
+  # ahead of the C program, whose writes the sync at the opening would wait for
+  first=$(gets)
   # a row has 19 + 1 + 12 + 2 + 100 bytes, an epoch an index entry for each leaf besides, of which there is at least one
   timed /dev/null /dev/null "$work/plain" "$work/plain_log" $epochs $((40 + group * 134 + 14))
   echo "group $group, status $run_status: $(of $((count * 1000)) $((run_wall / 1000))) transactions a second, $(of $run_wall $wall) of the C program's time"
   echo "  processor microseconds a transaction: $(of $run_cpu $count) in all; reading $(of $reading $count); reading and printing without a call $(of $printing $count)"
   echo "  bytes written: $(of $run_bytes $((count * 112))) for each byte put, $(of $run_bytes $epoch_bytes) for each byte of epochs; resident memory $((run_resident / 1024)) MiB"
-  echo "  a first get behind all of them: $(gets)"
+  echo "  a first get behind all of them: $first"
   loaded tenth $group
   echo "  behind a tenth of them: $(gets)"
 done

@@ -189,12 +189,12 @@ int main(int argc, char **argv) {
     static char block[1048576], page[4096];
     const long len = 64L * 1048576;
     int fd = open(argv[argc - 1], O_RDWR | O_CREAT, 0666);
-    if (fd < 0 || ftruncate(fd, len) || fsync(fd)) return 1;
+    if (fd < 0 || ftruncate(fd, len) || fdatasync(fd)) return 1;
     memset(block, 7, sizeof block);
     long start = now();
     for (long at = 0; at < len; at += sizeof block)
         if (lseek(fd, at, SEEK_SET) != at || write(fd, block, sizeof block) != sizeof block) return 1;
-    if (fsync(fd)) return 1;
+    if (fdatasync(fd)) return 1;
     long wrote = now() - start;
     start = now();
     for (long at = 0; at < len; at += sizeof page)

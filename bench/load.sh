@@ -76,8 +76,8 @@ int main(int argc, char **argv) {
     if (fd < 0 || !bytes) return 1;
     for (long e = 0; e < epochs; e++) {
         long at = (e % 24) * 4194304;
-        if (pwrite(fd, bytes, len, at + 1) != len || fsync(fd)) return 1;
-        if (pwrite(fd, bytes, 1, at) != 1 || fsync(fd)) return 1;
+        if (pwrite(fd, bytes, len, at + 1) != len || fdatasync(fd)) return 1;
+        if (pwrite(fd, bytes, 1, at) != 1 || fdatasync(fd)) return 1;
     }
     return 0;
 }

@@ -360,13 +360,13 @@ static int move_all(int fd, long at, long len, ssize_t (*move)(int, void *, size
 static ssize_t put(int fd, void *bytes, size_t len, off_t at) { return pwrite(fd, bytes, len, at); }
 
 static int write_and_sync(int fd, const char *bytes, size_t len, long at) {
-    return pwrite(fd, bytes, len, at) != (ssize_t)len || fsync(fd);
+    return pwrite(fd, bytes, len, at) != (ssize_t)len || fdatasync(fd);
 }
 
 int main(int argc, char **argv) {
     const long part = ROWS * (long)(ROW + ENTRY);
     int fd = open(argv[argc - 1], O_RDWR);
-    if (fd < 0 || fsync(fd)) return 1;
+    if (fd < 0 || fdatasync(fd)) return 1;
     memset(block, 7, sizeof block);
     long start = now(), cpu = spent_cpu();
     for (int turn = 0; turn < 2; turn++)

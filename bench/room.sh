@@ -183,13 +183,13 @@ int main(int argc, char **argv) {
     static char bytes[LEN];
     static const char gate = (char)0xa7;
     int fd = open(argv[argc - 1], O_RDWR | O_CREAT, 0666);
-    if (fd < 0 || ftruncate(fd, 64L * REGION) || fsync(fd)) return 1;
+    if (fd < 0 || ftruncate(fd, 64L * REGION) || fdatasync(fd)) return 1;
     memset(bytes, 7, sizeof bytes);
     long spent = 0;
     for (long region = 0; region < 60; region++) {
         long start = now();
-        if (pwrite(fd, bytes, LEN, region * REGION + 1) != LEN || fsync(fd)) return 1;
-        if (pwrite(fd, &gate, 1, region * REGION) != 1 || fsync(fd)) return 1;
+        if (pwrite(fd, bytes, LEN, region * REGION + 1) != LEN || fdatasync(fd)) return 1;
+        if (pwrite(fd, &gate, 1, region * REGION) != 1 || fdatasync(fd)) return 1;
         spent += now() - start;
     }
     printf("%ld\n", spent);

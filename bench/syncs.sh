@@ -53,9 +53,9 @@ EOT
 cat > "$work/wanted" <<'EOT'
 flock LOCK_EX|LOCK_NB
 ftruncate 16384
-fsync
+fdatasync
 pwrite64 1, 4101
-fsync
+fdatasync
 pread64 1, 4101
 EOT
 

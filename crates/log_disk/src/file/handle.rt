@@ -189,7 +189,8 @@ impl Handle {
         done
     }
 
-    /// Syncs the file with all that the system offers.
+    /// Syncs the bytes of the file, with what of its length and of its places on the medium is needed to read them (`fdatasync`). Its times are none of that: a sync that
+    /// wrote them too would wait for the file system's journal at each call, also where nothing was written but a file was read.
     pub(crate) fn sync(&mut self) -> io::Result<()>
         ensures last { self.new.notes.last.value ≡ record { ask = ask.Sync; failed = is_err result } }
         ensures len { self.new.notes.len ≡ self.old.notes.len }
@@ -198,7 +199,7 @@ impl Handle {
         ensures locked { self.new.notes.locked ≡ self.old.notes.locked }
         ensures path { self.new.notes.path ≡ self.old.notes.path }
     {
-        let done = self.file.sync_all();
+        let done = self.file.sync_data();
         self.notes.last = Handle::call(FileAsk::Sync, done.is_err());
         done
     }

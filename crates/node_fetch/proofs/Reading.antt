@@ -131,11 +131,12 @@ last_more row (x ∷ rows) next = last_more x rows next
 
 frames_more : (id : NodeId) (rows : List Row) (frames : Option Frames) (row : Row) (frame : Frame) → AllByRecursion (λ x. x.node ≡ id) rows → row.node ≡ id → AreFramesOf rows frames → IsFrameOf row frame
     → AreFramesOf (rows ++ row ∷ []) (Some (with_frame frames frame))
-frames_more id [] None row frame all own is f = record { first = f; last = f.version; ascend = refl }
+frames_more id [] None row frame all own is f = record { first = f.version; last = f.version; image = f.image; ascend = refl }
 frames_more id [] (Some a) row frame all own is f = absurd is
 frames_more id (x ∷ rows) None row frame all own is f = absurd is
 frames_more id (x ∷ rows) (Some a) row frame all own is f = record {
   first = is.first;
+  image = is.image;
   last = f.version ∙ sym (ap (λ (r : Row). r.version) (last_more x rows row));
   ascend = (λ i. is.ascend i && nat_lt (is.last i) (f.version i)) ∙ sym (ordered_more id x rows row all.0 all.1 own);
 }

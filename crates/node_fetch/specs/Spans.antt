@@ -4,9 +4,8 @@ use Rattle.std.specs.List.{AllByRecursion}
 use Rattle.fine_model.specs.declared.Mark.{Mark}
 use Rattle.fine_model.specs.declared.NodeId.{NodeId}
 use Rattle.fine_model.specs.declared.Row.{Row}
-use Rattle.fine_model.specs.Merge.{is_ordered}
+use Rattle.fine_model.specs.Merge.{is_image, is_ordered}
 use Rattle.fine_model.specs.RowBytes.{rows_bytes, rows_len, FitsRow, BeginsWithRow}
-use Rattle.node_record.specs.Rows.{IsFrameOf}
 use Rattle.node_record.specs.declared.frames.Frame.{Frame}
 use Rattle.node_fetch.specs.declared.frames.Frames.{Frames}
 use Rattle.node_record.specs.declared.fault.RowFault.{RowFault}
@@ -46,8 +45,9 @@ last_row row (next ∷ rows) = last_row next rows
 
 -- what the frames of a row, and of rows of the same node behind it, tell
 pub record AreFrames (row : Row) (rows : List Row) (frames : Frames) : Type 0 where
-  pub first : IsFrameOf row frames.first
+  pub first : frames.first ≡ row.version
   pub last : frames.last ≡ (last_row row rows).version
+  pub image : frames.is_image ≡ is_image row.rec
   pub ascend : frames.ascend ≡ is_ordered (row ∷ rows)
 
 -- so of some rows of a node; there is nothing to tell where there are no rows
@@ -59,8 +59,8 @@ AreFramesOf (row ∷ rows) None = ⊥
 
 -- with the frame of a row of the same node behind them
 abbrev pub with_frame : Option Frames → Frame → Frames
-with_frame None frame = record { first = frame; last = frame.version; ascend = true }
-with_frame (Some frames) frame = record { first = frames.first; last = frame.version; ascend = frames.ascend && nat_lt frames.last frame.version }
+with_frame None frame = record { first = frame.version; last = frame.version; is_image = frame.is_image; ascend = true }
+with_frame (Some frames) frame = record { first = frames.first; last = frame.version; is_image = frames.is_image; ascend = frames.ascend && nat_lt frames.last frame.version }
 
 -- the bytes up to a place are so many rows of the node, and these are their frames
 pub record FramedSoFar (mark : Mark) (bytes : List ℕ) (id : NodeId) (count at : ℕ) (frames : Option Frames) : Type 0 where

@@ -146,8 +146,8 @@ pub fn rows_of_span(
     }
 }
 
-/// What the frames of the rows tell that the bytes of a span spell, each of which was found: the frame of the first, the version of
-/// the last, and whether the rows are in order. It takes no memory.
+/// What the frames of the rows tell that the bytes of a span spell, each of which was found: the versions of the first and of the last,
+/// whether the first is an image, and whether the rows are in order. It takes no memory.
 ///
 /// It is refused where `rows_of_span` is, but never for want of memory: `BadRow` is the only fault. What holds of the rows of
 /// `rows_of_span` holds of the rows that the bytes spell. There is nothing to tell where the entry counts no row.

@@ -16,15 +16,15 @@ use Rattle.fine_model.specs.Nodes.{Content, base, changed, replay, step, step_no
 use Rattle.fine_model.specs.RowBytes.{FitsRec, body, kind, pair_bytes, row_bytes, row_len, rows_bytes, rows_len}
 use Rattle.fine_model.proofs.Grammar.{rows_bytes-append}
 use Rattle.fine_model.proofs.Sets.{all_append}
-use Rattle.node_record.specs.Rows.{IsFrameOf}
-use Rattle.node_fetch.specs.Spans.{ReadsAll, last_row}
+use Rattle.node_fetch.specs.Spans.{AreFramesOf, ReadsAll, last_row}
+use Rattle.node_fetch.specs.declared.frames.Frames.{Frames}
 use Rattle.node_fetch.proofs.Reading.{below_version}
 use Rattle.partition_merge.specs.declared.merger.Merger.{Merger}
 use Rattle.partition_merge.specs.declared.piece.Found.{Found}
 use Rattle.partition_merge.specs.declared.piece.Merged.TheVariants as merged
 use Rattle.partition_merge.specs.declared.piece.Piece.{Piece}
 use Rattle.partition_merge.specs.Merging.{merged_of}
-use Rattle.partition_merge.specs.Pieces.{CanSpell, Holds, HoldsIn, IsMergedFrom, IsPieceOf, IsTallyOf, StandsIn, begins_with_put, both_ascend, both_len, bytes_at, may_fold, may_fold_from, merged_bytes, piece_len, piece_rows, span_bytes, span_of, tally_of}
+use Rattle.partition_merge.specs.Pieces.{CanSpell, Holds, HoldsIn, IsMergedFrom, IsPieceOf, IsTallyOf, StandsIn, TellsAll, TellsOf, begins_with_put, both_ascend, both_len, bytes_at, may_fold, may_fold_from, merged_bytes, piece_len, piece_rows, span_bytes, span_of, tally_of}
 use Rattle.partition_merge.specs.Windows.{WindowValue}
 use Rattle.partition_merge.proofs.Joining.{merged_own}
 use Rattle.partition_merge.proofs.Folding.{stay_broken, stay_image, stay_short, stay_stale}
@@ -98,6 +98,14 @@ put_stays id row put = by row.rec put refl
     by (rec.Link key child) put is = absurd (true≢false (sym put))
     by (rec.Plus key change) put is = absurd (true≢false (sym put))
 
+-- ---- what a piece tells
+
+-- it is what the frames of the rows tell
+pub told_by_frames : (rows : List Row) (frames : Frames) (piece : Piece) → piece.first ≡ frames.first → piece.last ≡ frames.last → piece.is_image ≡ frames.is_image → piece.ascend ≡ frames.ascend → AreFramesOf rows (Some frames) → TellsAll rows piece
+told_by_frames [] frames piece first last image ascend are = absurd are
+told_by_frames (row ∷ rows) frames piece first last image ascend are =
+    record { first = first ∙ are.first; last = last ∙ are.last; image = image ∙ are.image; ascend = ascend ∙ are.ascend }
+
 -- ---- the bytes of a piece
 
 -- where bytes are read to their end, they are those of the rows
@@ -122,40 +130,40 @@ both_spelled p q v w id older newer a b h k = (λ i. piece_spelled p v id older 
 
 -- the first of some rows, by a piece
 module _ (part : Part) (window : WindowValue) (id : NodeId) (piece : Piece) (row : Row) (rows more : List Row) (h : IsPieceOf part window id piece (row ∷ rows)) where
-  first : IsFrameOf row piece.frames.first
-  first = h.frames.first
+  first : TellsOf row rows piece
+  first = h.tells
 
   is_put : piece.is_put ≡ puts row.rec
   unfolding rows_bytes
   is_put = h.put ∙ ap begins_with_put (h.reads.so_far.spelled ∙ append_assoc (row_bytes row) (rows_bytes rows) (drop (length (bytes_at window piece.span)) (bytes_at window piece.span))) ∙ begins_puts row (rows_bytes rows ++ drop (length (bytes_at window piece.span)) (bytes_at window piece.span))
 
-  afresh : starts_afresh (row ∷ (rows ++ more)) ≡ (piece.frames.first.is_image || (piece.frames.first.version == 1))
-  afresh i = sym first.image i || (sym first.version i == 1)
+  afresh : starts_afresh (row ∷ (rows ++ more)) ≡ (piece.is_image || (piece.first == 1))
+  afresh i = sym first.image i || (sym first.first i == 1)
 
-  one_stays : length rows + length more ≡ 0 → (piece.frames.first.is_image || piece.is_put) ≡ true → merged_of id (row ∷ (rows ++ more)) ≡ row ∷ (rows ++ more)
-  one_stays alone stays = subst (λ xs. merged_of id (row ∷ xs) ≡ row ∷ xs) (sym none) (by piece.frames.first.is_image refl stays)
+  one_stays : length rows + length more ≡ 0 → (piece.is_image || piece.is_put) ≡ true → merged_of id (row ∷ (rows ++ more)) ≡ row ∷ (rows ++ more)
+  one_stays alone stays = subst (λ xs. merged_of id (row ∷ xs) ≡ row ∷ xs) (sym none) (by piece.is_image refl stays)
     where
       none : rows ++ more ≡ []
       none = nil_from_length (rows ++ more) (omega (arith, alone, length-append rows more))
 
-      by : (image : Bool) → piece.frames.first.is_image ≡ image → (image || piece.is_put) ≡ true → merged_of id (row ∷ []) ≡ row ∷ []
+      by : (image : Bool) → piece.is_image ≡ image → (image || piece.is_put) ≡ true → merged_of id (row ∷ []) ≡ row ∷ []
       by true e stays = stay_image id row h.reads.so_far.of_node.0 (sym first.image ∙ e)
       by false e stays = put_stays id row (sym is_put ∙ stays)
 
   -- rows stay where the test says so
   first_stays : (count : ℕ) → (count ≡ 1 → length rows + length more ≡ 0) → may_fold_from count piece ≡ false → merged_of id (row ∷ (rows ++ more)) ≡ row ∷ (rows ++ more)
-  first_stays count is test = by (piece.frames.first.is_image || (piece.frames.first.version == 1)) refl test
+  first_stays count is test = by (piece.is_image || (piece.first == 1)) refl test
     where
       other : (b : Bool) → not b ≡ false → b ≡ true
       other true e = refl
       other false e = absurd (true≢false e)
 
-      parts : (n : Bool) → (count == 1) ≡ n → (n && (piece.frames.first.is_image || piece.is_put)) ≡ true → (count ≡ 1) × ((piece.frames.first.is_image || piece.is_put) ≡ true)
+      parts : (n : Bool) → (count == 1) ≡ n → (n && (piece.is_image || piece.is_put)) ≡ true → (count ≡ 1) × ((piece.is_image || piece.is_put) ≡ true)
       parts true e both = (eqb-true count 1 e, both)
       parts false e both = absurd (true≢false (sym both))
 
-      by : (t : Bool) → (piece.frames.first.is_image || (piece.frames.first.version == 1)) ≡ t → (t && not ((count == 1) && (piece.frames.first.is_image || piece.is_put))) ≡ false → merged_of id (row ∷ (rows ++ more)) ≡ row ∷ (rows ++ more)
-      by true e test = let both = parts (count == 1) refl (other ((count == 1) && (piece.frames.first.is_image || piece.is_put)) test) in one_stays (is both.0) both.1
+      by : (t : Bool) → (piece.is_image || (piece.first == 1)) ≡ t → (t && not ((count == 1) && (piece.is_image || piece.is_put))) ≡ false → merged_of id (row ∷ (rows ++ more)) ≡ row ∷ (rows ++ more)
+      by true e test = let both = parts (count == 1) refl (other ((count == 1) && (piece.is_image || piece.is_put)) test) in one_stays (is both.0) both.1
       by false e test = stay_stale id (row ∷ (rows ++ more)) (afresh ∙ e)
 
 -- how many rows a piece counts
@@ -165,10 +173,10 @@ rows_counted part window id (Some piece) rows h = sym h.reads.counted
 
 pub both_stay : (p q : Part) (v w : WindowValue) (id : NodeId) (older newer : Option Piece) (a b : List Row) → Holds p v id older a → Holds q w id newer b → may_fold older newer ≡ false → merged_of id (a ++ b) ≡ a ++ b
 both_stay p q v w id None None a b h k test = subst (λ xs. merged_of id xs ≡ xs) (sym ((λ i. h i ++ k i))) (stay_stale id [] refl)
-both_stay p q v w id (Some older) newer [] b h k test = absurd (h.frames)
+both_stay p q v w id (Some older) newer [] b h k test = absurd (h.tells)
 both_stay p q v w id (Some older) newer (row ∷ a) b h k test =
     first_stays p v id older row a b h _ (λ one. omega (arith, one, h.reads.counted, rows_counted q w id newer b k)) test
-both_stay p q v w id None (Some newer) a [] h k test = absurd (k.frames)
+both_stay p q v w id None (Some newer) a [] h k test = absurd (k.tells)
 both_stay p q v w id None (Some newer) a (row ∷ b) h k test =
     subst (λ xs. merged_of id xs ≡ xs) (ap (λ xs. row ∷ xs) (append-nil b) ∙ sym (ap (λ xs. xs ++ (row ∷ b)) h)) (first_stays q w id newer row b [] k newer.span.rows (λ one. omega (arith, one, k.reads.counted)) test)
 
@@ -206,7 +214,7 @@ long_as part window id (Some piece) rows h =
     let count = piece.span.end - piece.span.at in
     let rest = drop (piece.span.at - window.from) window.bytes in
     let long : length (bytes_at window piece.span) ≡ count = omega (arith, length-take count rest, length-drop (piece.span.at - window.from) window.bytes, begins, order, ends) in
-    h.long ∙ sym long ∙ h.reads.so_far.place
+    sym long ∙ h.reads.so_far.place
 
 -- how many bytes both have
 pub both_long : (p q : Part) (v w : WindowValue) (id : NodeId) (older newer : Option Piece) (a b : List Row) → Holds p v id older a → Holds q w id newer b → both_len older newer ≡ min (rows_len (a ++ b)) 4294967295
@@ -214,13 +222,13 @@ both_long p q v w id older newer a b h k = omega (arith, long_as p v id older a 
 
 ascend_as : (p q : Part) (v w : WindowValue) (id : NodeId) (older newer : Option Piece) (a b : List Row) → Holds p v id older a → Holds q w id newer b → both_ascend older newer ≡ is_ordered (a ++ b)
 ascend_as p q v w id None None a b h k = sym (λ i. is_ordered (h i ++ k i))
-ascend_as p q v w id None (Some newer) a [] h k = absurd (k.frames)
-ascend_as p q v w id None (Some newer) a (y ∷ b) h k = k.frames.ascend ∙ sym (ap (λ xs. is_ordered (xs ++ y ∷ b)) h)
-ascend_as p q v w id (Some older) newer [] b h k = absurd (h.frames)
-ascend_as p q v w id (Some older) None (x ∷ a) b h k = h.frames.ascend ∙ ap is_ordered (sym (append-nil (x ∷ a))) ∙ sym (ap (λ ys. is_ordered (x ∷ a ++ ys)) k)
-ascend_as p q v w id (Some older) (Some newer) (x ∷ a) [] h k = absurd (k.frames)
+ascend_as p q v w id None (Some newer) a [] h k = absurd (k.tells)
+ascend_as p q v w id None (Some newer) a (y ∷ b) h k = k.tells.ascend ∙ sym (ap (λ xs. is_ordered (xs ++ y ∷ b)) h)
+ascend_as p q v w id (Some older) newer [] b h k = absurd (h.tells)
+ascend_as p q v w id (Some older) None (x ∷ a) b h k = h.tells.ascend ∙ ap is_ordered (sym (append-nil (x ∷ a))) ∙ sym (ap (λ ys. is_ordered (x ∷ a ++ ys)) k)
+ascend_as p q v w id (Some older) (Some newer) (x ∷ a) [] h k = absurd (k.tells)
 ascend_as p q v w id (Some older) (Some newer) (x ∷ a) (y ∷ b) h k =
-    (λ i. (h.frames.ascend i && k.frames.ascend i) && nat_lt (h.frames.last i) (k.frames.first.version i))
+    (λ i. (h.tells.ascend i && k.tells.ascend i) && nat_lt (h.tells.last i) (k.tells.first i))
     ∙ sym (ordered_over id x a y b h.reads.so_far.of_node.0 h.reads.so_far.of_node.1 k.reads.so_far.of_node.0)
 
 pub both_tallied : (p q : Part) (v w : WindowValue) (id : NodeId) (older newer : Option Piece) (a b : List Row) → Holds p v id older a → Holds q w id newer b → 1 ≤ length (a ++ b) → IsTallyOf (a ++ b) (tally_of id older newer)

@@ -1,9 +1,8 @@
 -- Windows on the body of a part, and reading ahead through them.
 use Rattle.std.proofs.Common.{◌≡◌, ℕ, ◌+◌, ◌-◌, ◌<◌, ◌≤◌, List, [], ◌++◌, length, take, drop, Option, Some, None, refl, sym, ap, ◌∙◌, subst, arith, append-nil, length-append, length-take, length-drop}
-use Rattle.std.specs.Prelude.{slice_range, Bool, true, false, if◌then◌else◌, Result, Ok, Err, OnOk, IfOk, nat_lt}
-use Rattle.std.proofs.lemmas.List.{drop-take, drop-drop, take-take, take_all}
+use Rattle.std.specs.Prelude.{slice_range, Bool, true, false, if◌then◌else◌, Result, Ok, Err, OnErr, OnOk, IfOk, nat_lt}
+use Rattle.std.proofs.lemmas.List.{drop-take, drop-drop, length-take-le, take-append-drop, take-take, take_all}
 use Rattle.std.proofs.Math.ListN.{drop_of_length-le}
-use Rattle.std.proofs.Math.Seq.{take-append_seam}
 use Rattle.fine_model.specs.declared.FetchFault.{FetchFault}
 use Rattle.fine_model.specs.declared.FetchFault.TheVariants as fault
 use Rattle.node_fetch.specs.Fetched.{NoDamage}
@@ -81,14 +80,23 @@ all_over n new old long as_long =
     let none : drop (length new) old ≡ [] = drop_of_length-le old (omega (arith, long, as_long)) in
     ap (λ xs. take n (new ++ xs)) none ∙ ap (take n) (append-nil new) ∙ take_all n new (omega (arith, long))
 
-take_front : (kept : ℕ) (front more : List ℕ) → kept ≡ length front → take kept (front ++ more) ≡ front
-take_front kept front more long = ap (λ n. take n (front ++ more)) long ∙ take-append_seam front more
+-- a buffer has as many bytes as it counts
+pub front_long : (n : ℕ) (items bytes : List ℕ) → n ≤ length items → take n items ≡ bytes → length bytes ≡ n
+front_long n items bytes few is = sym (ap length is) ∙ length-take-le n items few
 
--- a list that was made longer has its front, and one that was not
-pub front_stays : (longer : Bool) (n kept : ℕ) (old more : List ℕ) → kept ≡ length old → kept ≤ n → take kept (if longer then take n old ++ more else old) ≡ old
-front_stays true n kept old more long few =
-    ap (λ xs. take kept (xs ++ more)) (take_all n old (omega (arith, long, few))) ∙ take_front kept old more long
-front_stays false n kept old more long few = take_all kept old (omega (arith, long))
+-- what was read behind the bytes of a buffer
+pub range_read : (known : Option Image) (part : Part) (at n more : ℕ) (old items new : List ℕ) → length old ≡ n → items ≡ new → IsRangeAt known part at (take (n + more - n) (drop n new)) → IsRangeAt known part at (drop (length old) (take (n + more) items))
+range_read known part at n more old items new long is range =
+    let count : more ≡ n + more - n = omega arith in
+    range_as known part at _ (take (n + more - n) (drop n new)) ((λ i. drop (long i) (take (n + more) (is i))) ∙ drop-take n more new ∙ ap (λ m. take m (drop n new)) count) range
+
+-- where more was read behind a range, both are one, and where it was not, the range stays
+pub range_on : {E : Type 0} (r : Result Unit E) (known : Option Image) (part : Part) (from at : ℕ) (old new : List ℕ) → at ≡ from + length old → OnErr r (new ≡ old) → OnOk r (take (length old) new ≡ old)
+    → OnOk r (IsRangeAt known part at (drop (length old) new)) → IsRangeAt known part from old → IsRangeAt known part from new
+range_on (Ok a) known part from at old new there kept front read range =
+    range_as known part from new (old ++ drop (length old) new) (sym (take-append-drop (length old) new) ∙ ap (λ xs. xs ++ drop (length old) new) front)
+    (range_joined known part from at old (drop (length old) new) there range read)
+range_on (Err e) known part from at old new there kept front read range = range_as known part from new old kept range
 
 -- what follows where a call answers
 pub on_ok : {A E : Type 0} (r : Result A E) (P Q : Type 0) → (P → Q) → OnOk r P → OnOk r Q

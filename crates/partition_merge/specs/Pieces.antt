@@ -5,7 +5,7 @@ use Rattle.log_disk.specs.Disk.{Eye}
 use Rattle.fine_model.specs.declared.NodeId.{NodeId}
 use Rattle.fine_model.specs.declared.Part.{Part}
 use Rattle.fine_model.specs.declared.Row.{Row}
-use Rattle.fine_model.specs.Merge.{is_node_below, is_ordered}
+use Rattle.fine_model.specs.Merge.{is_image, is_node_below, is_ordered}
 use Rattle.fine_model.specs.Nodes.{rows_of}
 use Rattle.fine_model.specs.Regions.{Image}
 use Rattle.fine_model.specs.RowBytes.{FitsRec, row_bytes, rows_bytes, rows_len}
@@ -13,7 +13,7 @@ use Rattle.partition_index.specs.declared.entries.IndexEntry.{IndexEntry}
 use Rattle.partition_index.specs.declared.entries.Span.{Span}
 use Rattle.partition_index.specs.Index.{AllFrom}
 use Rattle.node_fetch.specs.Fetched.{HoldsRows}
-use Rattle.node_fetch.specs.Spans.{AreFramesOf, ReadsAll}
+use Rattle.node_fetch.specs.Spans.{ReadsAll, last_row}
 use Rattle.partition_merge.specs.declared.merger.Merger.{Merger}
 use Rattle.partition_merge.specs.declared.merger.Source.{Source}
 use Rattle.partition_merge.specs.declared.piece.Piece.{Piece}
@@ -42,14 +42,25 @@ abbrev pub begins_with_put : List ℕ → Bool
 begins_with_put [] = false
 begins_with_put (kind ∷ bytes) = kind == 4
 
+-- what a piece tells of a row, and of rows of the same node behind it
+pub record TellsOf (row : Row) (rows : List Row) (piece : Piece) : Type 0 where
+  pub first : piece.first ≡ row.version
+  pub last : piece.last ≡ (last_row row rows).version
+  pub image : piece.is_image ≡ is_image row.rec
+  pub ascend : piece.ascend ≡ is_ordered (row ∷ rows)
+
+-- so of some rows of a node, one at least
+abbrev pub TellsAll : List Row → Piece → Type 0
+TellsAll [] piece = ⊥
+TellsAll (row ∷ rows) piece = TellsOf row rows piece
+
 -- a piece is some rows of a node, which stand in a window on the rows of a part
 pub record IsPieceOf (part : Part) (window : WindowValue) (id : NodeId) (piece : Piece) (rows : List Row) : Type 0 where
   pub lies : LiesWithin window piece.span
   pub within : piece.span.end ≤ part.header.area
   pub some : 1 ≤ part.header.nodes
-  pub long : piece.len ≡ piece.span.end - piece.span.at
   pub reads : ReadsAll part.header.mark (bytes_at window piece.span) id piece.span.rows rows
-  pub frames : AreFramesOf rows (Some piece.frames)
+  pub tells : TellsAll rows piece
   pub put : piece.is_put ≡ begins_with_put (bytes_at window piece.span)
 
 -- rows of a node stand in a window: none, or those of a piece
@@ -88,7 +99,7 @@ piece_rows (Some piece) = piece.span.rows
 
 abbrev pub piece_len : Option Piece → ℕ
 piece_len None = 0
-piece_len (Some piece) = piece.len
+piece_len (Some piece) = piece.span.end - piece.span.at
 
 -- how many bytes both have
 abbrev pub both_len : Option Piece → Option Piece → ℕ
@@ -97,9 +108,9 @@ both_len older newer = min (piece_len older + piece_len newer) 4294967295
 -- the rows of both are in order
 abbrev pub both_ascend : Option Piece → Option Piece → Bool
 both_ascend None None = true
-both_ascend (Some piece) None = piece.frames.ascend
-both_ascend None (Some piece) = piece.frames.ascend
-both_ascend (Some older) (Some newer) = (older.frames.ascend && newer.frames.ascend) && nat_lt older.frames.last newer.frames.first.version
+both_ascend (Some piece) None = piece.ascend
+both_ascend None (Some piece) = piece.ascend
+both_ascend (Some older) (Some newer) = (older.ascend && newer.ascend) && nat_lt older.last newer.first
 
 -- what is told of them
 abbrev pub tally_of : NodeId → Option Piece → Option Piece → Tally
@@ -120,7 +131,7 @@ pub record IsTallyOf (rows : List Row) (tally : Tally) : Type 0 where
 
 -- an image may stand for so many rows that begin with a piece: they need nothing before them, and are not a single one for which no other stands
 abbrev pub may_fold_from : ℕ → Piece → Bool
-may_fold_from count piece = (piece.frames.first.is_image || (piece.frames.first.version == 1)) && not ((count == 1) && (piece.frames.first.is_image || piece.is_put))
+may_fold_from count piece = (piece.is_image || (piece.first == 1)) && not ((count == 1) && (piece.is_image || piece.is_put))
 
 abbrev pub may_fold : Option Piece → Option Piece → Bool
 may_fold None None = false

@@ -29,8 +29,9 @@ use std::marker::Model;
 use std::mem;
 
 /// The body of two merged parts, block by block: the rows first, and then the index. All memory but that of one node's rows is taken
-/// by `new`: the block, the index, and at most 40 KiB for the rows and 8 KiB for the index of each part, which are read in blocks. Blocks are used with one eye, from `new` to the last block: what was handed out so far is what this eye tells, and another
-/// one, also of the same regions, is not known to tell the same.
+/// by `new`: the block, the index, and at most 24 KiB for the rows and 8 KiB for the index of each part, which are read in blocks. Blocks are
+/// used with one eye, from `new` to the last block: what was handed out so far is what this eye tells, and another one, also of the same
+/// regions, is not known to tell the same.
 #[derive(Drop)]
 pub struct Blocks {
     merger: Pass,

@@ -9,6 +9,7 @@ ghost use Rattle.fine_model.specs.Nodes.{is_node};
 ghost use Rattle.partition_merge.specs.Merging.{FitRows, node_at_head, lower, first_node, run_len, begins_above, merged_of, StandsFor};
 
 mod blocks;
+mod buffer;
 mod fold;
 mod laws;
 mod merger;

@@ -5,18 +5,19 @@ ghost use Rattle.fine_model.specs.RowBytes.{FitsRec, row_len};
 ghost use Rattle.partition_merge.specs.Pieces.{begins_with_put, both_ascend, both_len, may_fold, may_fold_from, piece_len, piece_rows, span_of, tally_of};
 
 use fine_model::{NodeId, Row};
-use node_fetch::Frames;
 use node_record::row_len;
 use partition_index::Span;
 
-/// Rows of one node in the window on the rows of a part: where they stand, how many bytes they have, what their frames tell, and whether
-/// the first of them puts a pair.
+/// Rows of one node in the window on the rows of a part: where they stand, whether the first of them puts a pair or is an image, whether they are in
+/// order, and the versions of the first and of the last. It is moved for each node, so it is small, with the flags in the gap behind the span.
 #[derive(Clone, Copy)]
 pub(crate) struct Piece {
     pub(crate) span: Span,
-    pub(crate) len: u32,
-    pub(crate) frames: Frames,
     pub(crate) is_put: bool,
+    pub(crate) is_image: bool,
+    pub(crate) ascend: bool,
+    pub(crate) first: u64,
+    pub(crate) last: u64,
 }
 
 /// A node, the number of its rows and of their bytes, and whether the rows are in order. A number that is above the greatest of 32 bits is told
@@ -84,7 +85,7 @@ fn len_of(piece: &Option<Piece>) -> u32
     ensures { result ≡ piece_len piece.now }
 {
     match piece {
-        Some(piece) => piece.len,
+        Some(piece) => piece.span.end.saturating_sub(piece.span.at),
         None => 0,
     }
 }
@@ -102,10 +103,10 @@ fn both_ascend(older: &Option<Piece>, newer: &Option<Piece>) -> bool
 {
     match (older, newer) {
         (Some(older), Some(newer)) => {
-            let apart = older.frames.last < newer.frames.first.version;
-            older.frames.ascend && newer.frames.ascend && apart
+            let apart = older.last < newer.first;
+            older.ascend && newer.ascend && apart
         }
-        (Some(piece), None) | (None, Some(piece)) => piece.frames.ascend,
+        (Some(piece), None) | (None, Some(piece)) => piece.ascend,
         (None, None) => true,
     }
 }
@@ -115,13 +116,13 @@ fn both_ascend(older: &Option<Piece>, newer: &Option<Piece>) -> bool
 fn may_fold_from(count: u32, piece: &Piece) -> bool
     ensures { result ≡ may_fold_from count piece.now }
 {
-    let first = &piece.frames.first;
-    let afresh = first.is_image || first.version == 1;
-    let stays = first.is_image || piece.is_put;
+    let afresh = piece.is_image || piece.first == 1;
+    let stays = piece.is_image || piece.is_put;
     afresh && !(count == 1 && stays)
 }
 
 /// Whether an image may stand for the rows of an older piece and of a newer one. Where it may not, the rows stay as they are.
+#[inline(always)]
 pub(crate) fn may_fold(older: &Option<Piece>, newer: &Option<Piece>) -> bool
     ensures { result ≡ may_fold older.now newer.now }
 {

@@ -25,9 +25,9 @@ use partition_index::Span;
 use std::alloc::Global;
 use std::marker::Model;
 
-/// How many bytes of rows, and of the index, are read at once where no more are asked for. With a block of 64 KiB that is written, the
-/// windows of two parts take 160 KiB.
-const ROWS_BLOCK: u32 = 40_960;
+/// How many bytes of rows, and of the index, are read at once where no more are asked for. Half a block of rows has room for the longest image, so
+/// that a window grows only for longer rows of a node. With a block of 64 KiB that is written, the windows of two parts take 128 KiB.
+const ROWS_BLOCK: u32 = 24_576;
 
 const INDEX_BLOCK: u32 = 8_192;
 

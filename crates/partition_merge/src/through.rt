@@ -175,6 +175,7 @@ pub(crate) fn read_head<E: LogEye>(
 ///
 /// They are as `read_span` of `node_fetch` reads them, and so are the faults but for want of memory. Where spans are asked for in their
 /// order, each byte is read once.
+#[inline(always)]
 pub(crate) fn find_rows<E: LogEye>(
     rows: &mut Window,
     eye: &mut E,
@@ -209,9 +210,11 @@ pub(crate) fn find_rows<E: LogEye>(
     match frames_of_span(part, node, span, region_len, bytes)? {
         Some(frames) => Ok(Some(Piece {
             span,
-            len,
-            frames,
             is_put: is_put(bytes),
+            is_image: frames.is_image,
+            ascend: frames.ascend,
+            first: frames.first,
+            last: frames.last,
         })),
         None => Ok(None),
     }

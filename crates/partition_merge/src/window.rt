@@ -1,17 +1,17 @@
 //! Windows on the body of a part, through which it is read in blocks.
 
-ghost use Rattle.std.specs.Prelude.{◌≡◌, ℕ, ◌+◌, ◌-◌, ◌*◌, ◌<◌, ◌≤◌, false, true, IfErr, IfOk, IsErr, IsErrOf, List, OnErr, OnOk, Option, [], drop, length, max, take, vec_len};
+ghost use Rattle.std.specs.Prelude.{◌≡◌, ℕ, ◌+◌, ◌-◌, ◌*◌, ◌<◌, ◌≤◌, false, true, IfErr, IfOk, IsErrOf, OnErr, OnOk, Option, drop, length, max, take};
 ghost use Rattle.fine_model.specs.declared.FetchFault.TheVariants as fetch_fault;
 ghost use Rattle.fine_model.specs.declared.Part.{Part};
 ghost use Rattle.fine_model.specs.Regions.{Image, body_len};
-ghost use Rattle.partition_index.specs.Parts.{CountsFaults, IsSeen, LooksAt, SameEye};
+ghost use Rattle.partition_index.specs.Parts.{CountsFaults, IsSeen, SameEye};
 ghost use Rattle.partition_index.specs.Search.{IsRangeAt};
 ghost use Rattle.node_fetch.specs.Fetched.{NoDamage};
 ghost use Rattle.partition_merge.specs.Windows.{HoldsWindow, no_window, window_end};
 
+use crate::buffer::Buffer;
 use fine_model::{FetchFault, NoMemory, Part};
-use log_disk::{Failed, LogEye};
-use partition_index::read_body;
+use log_disk::LogEye;
 use std::alloc::Global;
 use std::marker::Model;
 
@@ -30,45 +30,12 @@ impl Model for Unread {
     ghost inverse = { λ _. record {} };
 }
 
-// Drops the first bytes. Those behind them have room in their place.
-fn drop_front(bytes: &mut Vec<u8>, passed: usize)
-    requires within { passed ≤ vec_len bytes.old }
-    requires room { vec_len bytes.old ≤ passed + passed }
-    ensures { bytes.new.items ≡ drop passed bytes.old.items }
-{
-    let kept = bytes.len() - passed;
-    let (front, back) = bytes.split_at_mut(passed);
-    front[..kept].copy_from_slice(back);
-    bytes.truncate(kept);
-}
-
-// Reads into a slice behind its first bytes.
-fn read_behind<E: LogEye>(
-    eye: &mut E,
-    part: &Part,
-    region_len: u64,
-    at: u32,
-    bytes: &mut [u8],
-    kept: usize,
-) -> Result<(), Failed>
-    requires seen { IsSeen (E.LogEye.state eye.old) part.now }
-    requires region_len { region_len ≡ (E.LogEye.state eye.old).region_len }
-    requires kept { kept ≤ length bytes.old }
-    requires within { at + (length bytes.old - kept) ≤ body_len part.now.header }
-    ensures front { take kept bytes.new ≡ take kept bytes.old }
-    ensures len { length bytes.new ≡ length bytes.old }
-    ensures looks { LooksAt part.now at (drop kept bytes.new) (IsErr result) (E.LogEye.state eye.old) (E.LogEye.state eye.new) }
-{
-    let (_, behind) = bytes.split_at_mut(kept);
-    read_body(eye, part, region_len, at, behind)
-}
-
 /// A window on the body of a part: bytes of it from an offset on.
 #[derive(Drop)]
 pub(crate) struct Window {
     from: u32,
     block: u32,
-    bytes: Vec<u8>,
+    bytes: Buffer,
 }
 
 impl Model for Window {
@@ -76,7 +43,7 @@ impl Model for Window {
 
     ghost Value = { WindowValue };
 
-    ghost view = { λ w. record { from = w.from; bytes = w.bytes.items } };
+    ghost view = { λ w. record { from = w.from; bytes = w.bytes } };
 }
 
 impl Window {
@@ -87,7 +54,7 @@ impl Window {
         Ok(Window {
             from: 0,
             block,
-            bytes: Vec::with_capacity(alloc, len.min(block) as usize)?,
+            bytes: Buffer::with_room(alloc, len.min(block) as usize)?,
         })
     }
 
@@ -122,7 +89,7 @@ impl Window {
         if passed < kept {
             return;
         }
-        drop_front(&mut self.bytes, passed);
+        self.bytes.drop_front(passed);
         self.from = at;
     }
 
@@ -150,15 +117,9 @@ impl Window {
         ensures taken { (E.LogEye.state eye.new).taken ≤ (E.LogEye.state eye.old).taken + (len - length self.old.bytes) }
     {
         let kept = self.bytes.len();
-        if self.bytes.resize(len as usize, 0).is_err() {
-            return Err(FetchFault::NoMemory);
-        }
         let at = self.from + kept as u32;
-        if read_behind(eye, part, region_len, at, &mut self.bytes, kept).is_err() {
-            self.bytes.truncate(kept);
-            return Err(FetchFault::Failed);
-        }
-        Ok(())
+        self.bytes
+            .read_on(eye, part, region_len, at, len as usize - kept)
     }
 
     /// Sees that a range of the body stands in the window. Where it does not, more is read behind what is still asked for: a block, but
@@ -207,6 +168,6 @@ impl Window {
         ensures range { (known : Option Image) (part : Part) → IsRangeAt known part self.now.from self.now.bytes → IsRangeAt known part at result.now }
     {
         let from = (at - self.from) as usize;
-        &self.bytes[from..from + len as usize]
+        &self.bytes.as_slice()[from..from + len as usize]
     }
 }

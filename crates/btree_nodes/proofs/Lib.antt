@@ -3,6 +3,7 @@ pub mod Steps
 pub mod Loads
 mod Walked
 pub mod Ways
+pub mod InBounds
 pub mod Paths
 pub mod Held
 pub mod Sound

@@ -1,14 +1,10 @@
 //! The way down a tree. Each node on it is tested before the next one is looked at.
 
-ghost use Rattle.std.specs.Prelude.{◌≡◌, ◌≢◌, ℕ, ◌+◌, ◌==◌, ◌<◌, ◌≤◌, nat_lt, Bool, true, false, not, ◌&&◌, IsTrue, List, [], ◌∷◌, filter, map, length, Option, Some, None, option_copied, is_some, slice_get, OnOk, OnErr, IfErr, IfSome, MatchOption};
-ghost use Rattle.std.specs.List.{list_all, AllByRecursion};
-ghost use Rattle.fine_model.specs.declared.Node.{Node as ModelNode};
-ghost use Rattle.fine_model.specs.declared.Node.TheVariants as node;
-ghost use Rattle.fine_model.specs.Map.{is_below, is_ascending};
+ghost use Rattle.std.specs.Prelude.{◌≡◌, ◌<◌, ◌≤◌, false, IsTrue, [], ◌∷◌, option_copied, OnOk, IfErr, IfSome, MatchOption};
+ghost use Rattle.fine_model.specs.Map.{is_ascending};
 ghost use Rattle.fine_model.specs.Paths.{is_inner, place_among};
-ghost use Rattle.fine_model.specs.Trees.{is_leaf, is_from, is_above, is_up_to, is_key_within, are_separators, bucket_of};
-ghost use Rattle.fine_model.specs.RowBytes.{FitsKey, FitsPair, buckets, node_numbers};
-ghost use Rattle.node_record.specs.Bounds.{FitsNode};
+ghost use Rattle.fine_model.specs.Trees.{is_leaf};
+ghost use Rattle.fine_model.specs.RowBytes.{buckets, node_numbers};
 ghost use Rattle.node_cache.specs.Given.{given, IsCached, IsLoaded};
 ghost use Rattle.btree_nodes.specs.Faults.{OnFault};
 ghost use Rattle.btree_nodes.specs.Calls.{OnCleanAnswer};
@@ -17,7 +13,8 @@ ghost use Rattle.btree_nodes.specs.Descends.{Descends};
 ghost use Rattle.btree_nodes.specs.Descent.{bound_at, bounds_by, low_of, high_of, IsStep, AreKept};
 
 use crate::fault::TreeFault;
-use fine_model::{Bytes, Keys, Kids, Node, NodeId, Pairs, bucket_of};
+use crate::fitness::{is_fit_inner, is_fit_leaf};
+use fine_model::{Bytes, Keys, Node, NodeId};
 use node_cache::{Bucket, NodeSource};
 use node_record::is_below;
 
@@ -34,110 +31,6 @@ pub struct Step {
     pub number: u32,
     pub low: Option<Sep>,
     pub high: Option<Sep>,
-}
-
-/// Whether a key lies at a bound or above it.
-fn is_from(low: Option<&Bytes>, key: &[u8]) -> bool
-    ensures { result ≡ is_from (option_copied low.entry) key.now }
-{
-    match low {
-        Some(low) => !is_below(key, low.as_slice()),
-        None => true,
-    }
-}
-
-/// Whether a key lies above a bound.
-pub fn is_above(low: Option<&Bytes>, key: &[u8]) -> bool
-    ensures { result ≡ is_above (option_copied low.entry) key.now }
-{
-    match low {
-        Some(low) => is_below(low.as_slice(), key),
-        None => true,
-    }
-}
-
-/// Whether a key lies below a bound.
-pub fn is_up_to(high: Option<&Bytes>, key: &[u8]) -> bool
-    ensures { result ≡ is_up_to (option_copied high.entry) key.now }
-{
-    match high {
-        Some(high) => is_below(key, high.as_slice()),
-        None => true,
-    }
-}
-
-/// Whether a key lies within bounds and belongs to a bucket.
-fn is_key_within(bucket: u16, low: Option<&Bytes>, high: Option<&Bytes>, key: &Bytes) -> bool
-    requires { FitsKey key.now }
-    ensures { result ≡ is_key_within bucket (record { low = option_copied low.entry; high = option_copied high.entry }) key.now }
-{
-    let key = key.as_slice();
-    is_from(low, key) && is_up_to(high, key) && bucket_of(key) == bucket
-}
-
-/// Whether the keys of pairs lie within bounds and belong to a bucket.
-fn are_within(
-    bucket: u16,
-    low: Option<&Bytes>,
-    high: Option<&Bytes>,
-    pairs: &[(Bytes, Bytes)],
-) -> bool
-    requires { AllByRecursion FitsPair pairs.now }
-    ensures { result ≡ list_all (λ p. is_key_within bucket (record { low = option_copied low.entry; high = option_copied high.entry }) p.0) pairs.now }
-{
-    match pairs {
-        [first, rest @ ..] => {
-            is_key_within(bucket, low, high, &first.0) && are_within(bucket, low, high, rest)
-        }
-        [] => true,
-    }
-}
-
-/// Whether a node is a leaf whose keys ascend, lie within bounds and belong to a bucket. Those of a node within the format's bounds
-/// ascend.
-fn is_fit_leaf(bucket: u16, low: Option<&Bytes>, high: Option<&Bytes>, node: &Node) -> bool
-    requires { FitsNode node.now }
-    ensures { result ≡ is_leaf bucket (record { low = option_copied low.entry; high = option_copied high.entry }) node.now }
-{
-    match node {
-        Node::Leaf { pairs } => are_within(bucket, low, high, pairs.as_slice()),
-        _ => false,
-    }
-}
-
-/// Whether separators lie strictly within bounds.
-fn are_between(low: Option<&Bytes>, high: Option<&Bytes>, seps: &[Bytes]) -> bool
-    ensures { result ≡ list_all (λ sep. is_above (option_copied low.entry) sep && is_up_to (option_copied high.entry) sep) seps.now }
-{
-    match seps {
-        [first, rest @ ..] => {
-            is_above(low, first.as_slice())
-                && is_up_to(high, first.as_slice())
-                && are_between(low, high, rest)
-        }
-        [] => true,
-    }
-}
-
-/// Whether all numbers are below one.
-fn are_below(next: u32, kids: &[u32]) -> bool
-    ensures { result ≡ list_all (λ kid. nat_lt kid next) kids.now }
-{
-    kids.iter().all(|kid| *kid < next)
-}
-
-/// Whether a node is an inner one whose separators ascend within bounds, with one child more, and each child below `next`. The
-/// separators of a node within the format's bounds ascend, and it has one child more.
-pub fn is_fit_inner(next: u32, low: Option<&Bytes>, high: Option<&Bytes>, node: &Node) -> bool
-    requires { FitsNode node.now }
-    ensures { result ≡ is_inner (record { low = option_copied low.entry; high = option_copied high.entry }) next node.now }
-{
-    match node {
-        Node::Inner { seps, kids } => {
-            are_between(low, high, seps.as_slice()) && are_below(next, kids.as_slice())
-        }
-        _ => false,
-    }
 }
 
 /// The place among separators in whose child a key belongs: a key equal to a separator belongs to the right of it.

@@ -5,6 +5,7 @@ mod adding;
 mod change;
 mod descent;
 mod fault;
+mod fitness;
 mod growth;
 mod insertion;
 mod leaf;

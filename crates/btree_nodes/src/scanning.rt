@@ -14,10 +14,9 @@ ghost use Rattle.btree_nodes.specs.Faults.{OnFault};
 ghost use Rattle.btree_nodes.specs.Trees.{Serves, Holds, AreUsed, LoadsAmong};
 ghost use Rattle.btree_nodes.specs.Walks.{visited_from, walk_in, LoadsOnWalk};
 
-use crate::descent::{
-    Step, bound, high_bound, is_above, is_fit_inner, is_leaf_within, is_up_to, low_bound, reach,
-};
+use crate::descent::{Step, bound, high_bound, is_leaf_within, low_bound, reach};
 use crate::fault::TreeFault;
+use crate::fitness::{is_above, is_fit_inner, is_up_to};
 use crate::tree::head_of;
 use fine_model::{Bytes, Copied, NoMemory, Node, NodeId, Pairs};
 use node_cache::{Bucket, NodeSource};

@@ -1,6 +1,7 @@
 pub mod Advanced
 pub mod Ended
 pub mod Endings
+pub mod Numbered
 pub mod Opening
 pub mod Places
 pub mod Scanned

@@ -82,7 +82,7 @@ record WasAt (f : Cache → Cache) (v : BucketsValue) (k : ℕ) (y : Cache) : Ty
 some_same : {A : Type 0} (a b : A) → ◌≡◌ {A = Option A} (Some a) (Some b) → a ≡ b
 some_same a b e = cc
 
-module _ (f : Cache → Cache) (Left : Cache → Cache → Type 0) (v v' : BucketsValue) (whole : AreBuckets v) (ended : EndEach f Left (length v.buckets) v.touched v.buckets v'.buckets) (flags : v'.touched ≡ none_touched) where
+module _ (f : Cache → Cache) (Left : Cache → Cache → Type 0) (v v' : BucketsValue) (whole : AreBuckets v) (ended : EndEach f Left v.touched v.buckets v'.buckets) (flags : v'.touched ≡ none_touched) where
   was_at : (k : ℕ) (y : Cache) → slice_get v'.buckets k ≡ Some y → WasAt f v k y
   was_at k y is =
       let b = like v'.buckets v.buckets k y is ended.many in
@@ -91,14 +91,14 @@ module _ (f : Cache → Cache) (Left : Cache → Cache → Type 0) (v v' : Bucke
         t = t.0;
         is_b = b.1;
         is_t = t.1;
-        is_y = some_same y (if t.0 then f b.0 else b.0) (sym is ∙ ended.each k b.0 t.0 (slice_get_within v.buckets k b.0 b.1) b.1 t.1);
+        is_y = some_same y (if t.0 then f b.0 else b.0) (sym is ∙ ended.each k b.0 t.0 b.1 t.1);
       }
 
   many_now : length v'.buckets ≡ 256
   many_now = ended.many ∙ whole.many
 
   pub ended_touched : EndsTouched f v v'
-  ended_touched = record { each = λ k b t is_b is_t. ended.each k b t (slice_get_within v.buckets k b is_b) is_b is_t; untouched = flags }
+  ended_touched = record { each = λ k b t is_b is_t. ended.each k b t is_b is_t; untouched = flags }
 
   pub ended_are : ((b : Cache) → (f b).bucket ≡ b.bucket) → AreBuckets v'
   ended_are number = record {
@@ -115,13 +115,10 @@ module _ (f : Cache → Cache) (Left : Cache → Cache → Type 0) (v v' : Bucke
   pub left_each : (e : ℕ) (was : Cache → ℕ → Option Cached) → ((b z : Cache) → Left b z → IsLeft e (was b) b z) → LeavesEach e was v v'
   left_each e was is_left k b is = let t = like v.buckets v.touched k b is (whole.many ∙ sym whole.flags) in by t.0 t.1
     where
-      within : k < length v.buckets
-      within = slice_get_within v.buckets k b is
-
       by : (t : Bool) → slice_get v.touched k ≡ Some t
           → (z : Cache) × (slice_get v'.buckets k ≡ Some z) × (((slice_get v.touched k ≡ Some true) × IsLeft e (was b) b z) ⊎ ((slice_get v.touched k ≡ Some false) × (z ≡ b)))
-      by true flag = (f b, ended.each k b true within is flag, inl (flag, is_left b (f b) (ended.left k b within is flag)))
-      by false flag = (b, ended.each k b false within is flag, inr (flag, refl))
+      by true flag = (f b, ended.each k b true is flag, inl (flag, is_left b (f b) (ended.left k b is flag)))
+      by false flag = (b, ended.each k b false is flag, inr (flag, refl))
 
   -- what is left of a bucket, where one that is not touched rests
   left_of : (e : ℕ) (was : Cache → ℕ → Option Cached) (k : ℕ) (y : Cache) (w : WasAt f v k y) → ((b z : Cache) → Left b z → IsLeft e (was b) b z) → ((b : Cache) → IsResting b → (n : ℕ) → was b n ≡ cached b n)
@@ -129,7 +126,7 @@ module _ (f : Cache → Cache) (Left : Cache → Cache → Type 0) (v v' : Bucke
   left_of e was k y w is_left at_rest resting = by w.t w.is_t w.is_y
     where
       by : (t : Bool) → slice_get v.touched k ≡ Some t → y ≡ (if t then f w.b else w.b) → IsLeft e (was w.b) w.b y
-      by true flag is = subst (IsLeft e (was w.b) w.b) (sym is) (is_left w.b (f w.b) (ended.left k w.b (slice_get_within v.buckets k w.b w.is_b) w.is_b flag))
+      by true flag is = subst (IsLeft e (was w.b) w.b) (sym is) (is_left w.b (f w.b) (ended.left k w.b w.is_b flag))
       by false flag is = subst (IsLeft e (was w.b) w.b) (sym is) (still_left e (was w.b) w.b (resting flag) (at_rest w.b (resting flag)))
 
   pub settle_stands : (epoch e : ℕ) → ((b z : Cache) → Left b z → IsLeft e (after b epoch) b z) → SettlesAll epoch e v v'

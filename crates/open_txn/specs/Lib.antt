@@ -4,3 +4,4 @@ pub mod Endings
 pub mod Opened
 pub mod Steps
 pub mod Traces
+pub mod Touched

@@ -61,7 +61,7 @@ fn answer_in<S: NodeSource>(
     ensures stops { IfErr result (λ fault. (more : List ModelCall) → StopsAt (S.tells source.old) (S.finds source.old) (S.upper source.old) (call.now ∷ more) fault buckets.old buckets.new) }
 {
     let at = usize::from(bucket_for(call));
-    buckets.touched[at] = true;
+    buckets.touched.add(at);
     let bucket = &mut buckets.buckets[at];
     draft.answer(source, bucket, call)
 }

@@ -1,11 +1,12 @@
 //! The buckets of a store.
 
-ghost use Rattle.std.specs.Prelude.{◌≡◌, ◌<◌, ℕ, false, map, replicate, slice_get, IfOk, Some, []};
+ghost use Rattle.std.specs.Prelude.{◌≡◌, ◌<◌, ℕ, map, slice_get, IfOk, Some, []};
 ghost use Rattle.std.specs.List.{range_with_len};
 ghost use Rattle.fine_model.specs.declared.law.Origin.{Origin};
-ghost use Rattle.open_txn.specs.Buckets.{new_bucket, none_touched};
+ghost use Rattle.open_txn.specs.Buckets.{new_bucket};
 
 use crate::ending::{settle_touched, undo_touched};
+use crate::touched::Touched;
 use fine_model::NoMemory;
 use node_cache::Bucket;
 use std::alloc::Global;
@@ -18,7 +19,7 @@ pub const BUCKETS: usize = 256;
 #[derive(Drop)]
 pub struct Buckets {
     pub(crate) buckets: Vec<Bucket>,
-    pub(crate) touched: Vec<bool>,
+    pub(crate) touched: Touched,
 }
 
 impl Model for Buckets {
@@ -29,9 +30,9 @@ impl Model for Buckets {
 
     ghost coded = { buckets_code };
 
-    ghost view = { λ b. record { buckets = b.buckets.items; touched = b.touched.items } };
+    ghost view = { λ b. record { buckets = b.buckets.items; touched = b.touched } };
 
-    ghost invariant = { λ b. AreBuckets (record { buckets = b.buckets.items; touched = b.touched.items }) };
+    ghost invariant = { λ b. AreBuckets (record { buckets = b.buckets.items; touched = b.touched }) };
 }
 
 /// Buckets that cache nothing.
@@ -43,13 +44,6 @@ fn new_buckets(alloc: Global) -> Result<Vec<Bucket>, NoMemory>
         made.push(Bucket::new(alloc, number))?;
     }
     Ok(made)
-}
-
-/// Flags that say that no bucket is touched.
-fn no_flags(alloc: Global) -> Result<Vec<bool>, NoMemory>
-    ensures { IfOk result (λ made. made.items ≡ none_touched) }
-{
-    Ok(vec![in alloc; false; BUCKETS]?)
 }
 
 impl Buckets {
@@ -66,7 +60,7 @@ impl Buckets {
     {
         Ok(Buckets {
             buckets: new_buckets(alloc)?,
-            touched: no_flags(alloc)?,
+            touched: Touched::new(alloc)?,
         })
     }
 
@@ -76,7 +70,7 @@ impl Buckets {
         ensures value { slice_get self.now.touched bucket ≡ Some result }
         ensures whole { AreBuckets self.now }
     {
-        self.touched[usize::from(bucket)]
+        self.touched.has(bucket)
     }
 
     /// Keeps what was done to the buckets that were touched, under the epoch of the transaction's commit, and evicts from these what is published, but for
@@ -88,8 +82,7 @@ impl Buckets {
         ensures left { LeavesEach published (λ b. after b epoch) self.old self.new }
         ensures stands { SettlesAll epoch published self.old self.new }
     {
-        settle_touched(&mut self.buckets, &self.touched, epoch, published, keep);
-        self.touched.fill(false);
+        settle_touched(&mut self.buckets, &mut self.touched, epoch, published, keep);
     }
 
     /// Takes back what was done to the buckets that were touched, and evicts as `settle` does [`ends`, `left`]. The others stay, and none is touched then. They
@@ -100,7 +93,6 @@ impl Buckets {
         ensures left { LeavesEach published before self.old self.new }
         ensures stands { UndoesAll published self.old self.new }
     {
-        undo_touched(&mut self.buckets, &self.touched, published, keep);
-        self.touched.fill(false);
+        undo_touched(&mut self.buckets, &mut self.touched, published, keep);
     }
 }

@@ -6,6 +6,7 @@ mod buckets;
 mod ending;
 mod laws;
 mod scanning;
+mod touched;
 
 pub use answering::answer_all;
 pub use buckets::Buckets;

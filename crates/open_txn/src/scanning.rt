@@ -35,7 +35,7 @@ fn gather_in<S: NodeSource>(
     ensures scans { OnOk result (ScansAt (S.tells source.old) (S.finds source.old) (S.upper source.old) at low.now high.now limit buckets.old buckets.new) }
     ensures cut_off { IfErr result (λ fault. CutsOffAt (S.tells source.old) (S.finds source.old) (S.upper source.old) at low.now high.now limit fault buckets.old buckets.new) }
 {
-    buckets.touched[at] = true;
+    buckets.touched.add(at);
     let bucket = &mut buckets.buckets[at];
     scan.gather(source, bucket, low, high, limit)
 }

@@ -1,7 +1,7 @@
-use Rattle.std.proofs.Common.{◌≡◌, ◌∙◌, ◌<◌, ap, arith, length, refl, slice_get, slice_set, true, Some, sym}
+use Rattle.std.proofs.Common.{◌≡◌, ◌∙◌, ◌<◌, ap, arith, length, refl, slice_get, slice_set, Some, subst, sym}
 use Rattle.std.proofs.lemmas.Option.{slice_get-get_or}
 use Rattle.fine_model.specs.declared.FetchFault.{FetchFault}
-use Rattle.open_txn.specs.Buckets.{BucketsValue}
+use Rattle.open_txn.specs.Buckets.{AreBuckets, BucketsValue}
 use Rattle.open_txn.proofs.Advanced.{advances_in, place_of, refuses_in, still_are}
 use Rattle.open_txn.proofs.Traced.{does_in, stops_in}
 use Rattle.open_txn.proofs.answering.answer_in.Goals as goal
@@ -16,8 +16,9 @@ pub invariant_of-buckets : goal.invariant_of-buckets
 invariant_of-buckets g c =
     let at = c.from-at.result in
     let low : at < length c.buckets.inside.buckets.items = omega (arith, c.from-at.ensures, c.bucket_for.ensures.range, c.buckets.invariant.many) in
-    still_are at (record { buckets = c.buckets.inside.buckets.items; touched = c.buckets.inside.touched.items }) c.index_mut-bucket.result.now c.answer.new.bucket c.buckets.invariant
-    (slice_get-get_or c.buckets.inside.buckets.items at _ low ∙ ap Some (sym c.index_mut-bucket.ensures.value)) c.answer.ensures.number
+    subst (λ flags. AreBuckets (record { buckets = slice_set c.buckets.inside.buckets.items at c.answer.new.bucket; touched = flags })) (sym c.add.ensures)
+    (still_are at (record { buckets = c.buckets.inside.buckets.items; touched = c.buckets.inside.touched }) c.index_mut-bucket.result.now c.answer.new.bucket c.buckets.invariant
+    (slice_get-get_or c.buckets.inside.buckets.items at _ low ∙ ap Some (sym c.index_mut-bucket.ensures.value)) c.answer.ensures.number)
 
 pub returns : goal.returns
 returns g c =
@@ -27,8 +28,8 @@ returns g c =
     let there : slice_get c.buckets.inside.buckets.items at ≡ Some b = slice_get-get_or c.buckets.inside.buckets.items at _ low ∙ ap Some (sym c.index_mut-bucket.ensures.value) in
     let of_key = c.from-at.ensures ∙ c.bucket_for.ensures.value in
     let low' : at < 256 = omega (arith, c.from-at.ensures, c.bucket_for.ensures.range) in
-    let v : BucketsValue = record { buckets = c.buckets.inside.buckets.items; touched = c.buckets.inside.touched.items } in
-    let v' : BucketsValue = record { buckets = slice_set v.buckets at c.answer.new.bucket; touched = slice_set v.touched at true } in
+    let v : BucketsValue = record { buckets = c.buckets.inside.buckets.items; touched = c.buckets.inside.touched } in
+    let v' : BucketsValue = record { buckets = slice_set v.buckets at c.answer.new.bucket; touched = c.add.new.self } in
     let tells = g.S.NodeSource.tells c.args.source.now in
     let finds = g.S.NodeSource.finds c.args.source.now in
     let tells' = g.S.NodeSource.tells c.answer.new.source in
@@ -40,11 +41,11 @@ returns g c =
       fails = c.answer.ensures.fails;
       place = place_of c.args.draft.now c.answer.new.self c.args.call.now c.answer.result c.answer.ensures.kept c.answer.ensures.left;
       advances = rw (← c.buckets.view_is)
-          (advances_in tells tells' upper at _ _ b c.answer.new.bucket c.args.draft.now c.answer.new.self c.args.call.now c.buckets.invariant there refl refl of_key
+          (advances_in tells tells' upper at _ _ b c.answer.new.bucket c.args.draft.now c.answer.new.self c.args.call.now c.buckets.invariant there refl c.add.ensures of_key
           (λ rows. g.met.S.NodeSource.later_tells _ _ rows c.answer.ensures.later) c.answer.result c.answer.ensures.used c.answer.ensures.sound
           finds F c.requires.open c.answer.ensures.kept c.answer.ensures.change c.answer.ensures.fits c.answer.ensures.serves);
       refuses = rw (← c.buckets.view_is)
-          (refuses_in tells tells' upper at _ _ b c.answer.new.bucket c.args.draft.now c.answer.new.self c.args.call.now c.buckets.invariant there refl refl of_key
+          (refuses_in tells tells' upper at _ _ b c.answer.new.bucket c.args.draft.now c.answer.new.self c.args.call.now c.buckets.invariant there refl c.add.ensures of_key
           (λ rows. g.met.S.NodeSource.later_tells _ _ rows c.answer.ensures.later) c.answer.result c.answer.ensures.used c.answer.ensures.sound);
       does = rw (← c.buckets.view_is)
           (does_in tells finds upper at v v' b c.answer.new.bucket c.args.draft.now c.answer.new.self c.args.call.now c.buckets.invariant there refl of_key low' c.requires.no_scan F c.answer.result c.answer.ensures.change);

@@ -1,10 +1,19 @@
 use Rattle.std.proofs.Common.{refl}
 use Rattle.node_cache.specs.Cache.{after, settled, evicted}
 use Rattle.txn_draft.specs.Standing.{IsLeft}
-use Rattle.open_txn.proofs.Endings.{end_step}
+use Rattle.open_txn.proofs.Endings.{all_ended, none_ended, one_ended, within}
 use Rattle.open_txn.proofs.ending.settle_touched.Goals as goal
+
+pub loop-at-init : goal.loop-at-init
+loop-at-init c = none_ended (λ b. evicted c.args.published c.args.keep (settled c.args.epoch b)) (λ b new. IsLeft c.args.published (after b c.args.epoch) b new) c.args.touched.now c.args.buckets.now
+
+pub bounds-buckets-at : goal.bounds-buckets-at
+bounds-buckets-at c = within (λ b. evicted c.args.published c.args.keep (settled c.args.epoch b)) (λ b new. IsLeft c.args.published (after b c.args.epoch) b new) c.args.touched.now c.args.buckets.now c.loop-at.touched c.take.new.self c.loop-at.buckets c.in-Some.at c.requires c.loop-at.invariant c.in-Some.ensures
 
 pub loop-at-preserved : goal.loop-at-preserved
 loop-at-preserved c =
-    end_step (λ b. evicted c.args.published c.args.keep (settled c.args.epoch b)) (λ b new. IsLeft c.args.published (after b c.args.epoch) b new) c.loop-at.at c.args.touched.now _ c.loop-at.buckets _ c.index-buckets-at.result c.settle_one.new.bucket _ c.loop-at.invariant
-    refl refl c.settle_one.ensures.bucket c.settle_one.ensures.left
+    one_ended (λ b. evicted c.args.published c.args.keep (settled c.args.epoch b)) (λ b new. IsLeft c.args.published (after b c.args.epoch) b new) c.args.touched.now c.args.buckets.now c.loop-at.touched c.take.new.self c.loop-at.buckets _ c.in-Some.at _ c.settle.new.bucket c.loop-at.invariant c.in-Some.ensures
+    refl c.settle.ensures.bucket (record { bucket = c.settle.ensures.number; resting = c.settle.ensures.resting; same = c.settle.ensures.same; kept = c.settle.ensures.kept })
+
+pub returns-clause-ends : goal.returns-clause-ends
+returns-clause-ends c = all_ended (λ b. evicted c.args.published c.args.keep (settled c.args.epoch b)) (λ b new. IsLeft c.args.published (after b c.args.epoch) b new) c.args.touched.now c.args.buckets.now c.loop-at.touched c.loop-at.buckets c.loop-at.invariant c.in_default.ensures.1

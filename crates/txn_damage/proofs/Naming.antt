@@ -21,7 +21,7 @@ use Rattle.txn_draft.specs.Answers.{FailsBy}
 use Rattle.open_txn.specs.Buckets.{BucketsValue}
 use Rattle.open_txn.specs.Traces.{DoAll, Refused, StopsAt, rows_in}
 use Rattle.open_txn.proofs.TraceLaws.{number_law}
-use Rattle.txn_damage.specs.Following.{FindsBy, IsOpen, IsRun, Rests, Sees}
+use Rattle.txn_damage.specs.Following.{FindsBy, IsOpen, IsUncommittedCall, Rests, Sees}
 use Rattle.txn_damage.specs.Naming.{AllRest, DamagesLaw, IsUncommitted, OnDamage, OnPlace}
 use Rattle.txn_damage.proofs.Followed.{begins, calls_at, names_at}
 
@@ -58,11 +58,11 @@ module _ {S : Type 0} (tells : S → List Row → Type 0) (finds : S → Finds) 
         (calls_at tells finds upper s eye entry now parts present sealed c mid (calls_on id.bucket earlier) [] (done id.bucket) (rows id.bucket) [] stops.done (rows_in id.bucket stops.rows) sees by
         (begins eye entry now parts present sealed c (calls_on id.bucket earlier) (done id.bucket) (rows id.bucket) rests) did.2.1))
 
-    is_run : IsRun script history stops.done stops.refused
-    is_run = record { place = uncommitted.place; txn = txn; rest = stops.rest; there = uncommitted.there; none = uncommitted.none; calls = stops.order }
+    is_uncommitted : IsUncommittedCall script history stops.done stops.refused
+    is_uncommitted = record { place = uncommitted.place; txn = txn; rest = stops.rest; there = uncommitted.there; none = uncommitted.none; calls = stops.order }
 
     meets_in : MeetsUnfit (Ok script) ⊥ history eye.region_len entry parts id
-    meets_in = (names_at tells finds upper s script history eye entry now parts present sealed mid did.0 committed stops.done (done id.bucket) (rows id.bucket) (rows_in id.bucket stops.rows) stops.refused id sees by open_then did.2.2 (subst (λ k. k < buckets) same stops.named) same is_run).meets
+    meets_in = (names_at tells finds upper s script history eye entry now parts present sealed mid did.0 committed stops.done (done id.bucket) (rows id.bucket) (rows_in id.bucket stops.rows) stops.refused id sees by open_then did.2.2 (subst (λ k. k < buckets) same stops.named) same is_uncommitted).meets
 
   meets : (id : NodeId) → StopsAt (tells s) (finds s) (upper s) txn.calls (Unfit id) taken stopped → MeetsUnfit (Ok script) ⊥ history eye.region_len entry parts id
   meets id stops = let own = rest id.bucket stops.named in meets_in id stops own.0 own.1 own.2 own.3

@@ -109,8 +109,8 @@ UndoesLaw tells finds upper =
 
 -- ---- the node that is named
 
--- where a call of a script stands whose transaction was never committed
-pub record IsRun (script : List ScriptTxn) (history : List Commit) (before : List Call) (c : Call) : Type 0 where
+-- where a call of a script stands whose transaction was never committed, and what stands before it there
+pub record IsUncommittedCall (script : List ScriptTxn) (history : List Commit) (before : List Call) (c : Call) : Type 0 where
   pub place : ℕ
   pub txn : ScriptTxn
   pub rest : List Call
@@ -130,5 +130,5 @@ NamesLaw tells finds upper =
     (s : _) (script : List ScriptTxn) (history : List Commit) (eye : Eye) (entry now : Image) (parts present : List Part) (sealed : List (List Row)) (b stopped : Cache) (committed : ℕ) (before : List Call) (done rows log : List Row) (c : Call) (id : NodeId)
     → Sees eye entry now parts present sealed → FindsBy eye present (finds s)
     → IsOpen eye entry now parts present sealed b (calls_on b.bucket (flat_map (λ d. d.entry.calls) (take committed history))) (calls_on b.bucket before) done rows log
-    → Refused (tells s) (finds s) (upper s) c (fault_of.Unfit id) b stopped → b.bucket < buckets → id.bucket ≡ b.bucket → IsRun script history before c
+    → Refused (tells s) (finds s) (upper s) c (fault_of.Unfit id) b stopped → b.bucket < buckets → id.bucket ≡ b.bucket → IsUncommittedCall script history before c
     → Names script history eye entry now parts present sealed b (calls_on b.bucket (flat_map (λ d. d.entry.calls) (take committed history))) (calls_on b.bucket before) done rows log id

@@ -16,7 +16,7 @@ use Rattle.run_laws.specs.SoFar.{AreNamed}
 use Rattle.run_laws.specs.Told.{TellsMore}
 use Rattle.run_laws.specs.Turns.{AreNumbered, commits_of}
 use Rattle.run_laws.proofs.Tellings.{damage_lasts, named_more, named_next}
-use Rattle.txn_runner.specs.Named.{Blames, BlamesCalls, IsNext, NamesNext}
+use Rattle.txn_runner.specs.Named.{AreUncommitted, Blames, BlamesCalls, NamesNext}
 use Rattle.txn_runner.proofs.Keeping.{damage_of}
 
 -- no commit of the first outcomes has the turn of a later one
@@ -56,11 +56,11 @@ module _ (entry : RoomValue) (done : List Outcome) (txn : ScriptTxn) (next : Out
 pub names_calls : (entry : RoomValue) (done : List Outcome) (txn : ScriptTxn) (before after : List (Option RunFault)) (fault : RunFault) → TellsMore before after fault → BlamesCalls entry (commits_of done) txn.calls fault
     → NamesNext entry done txn outcome.NotRun before after
 names_calls entry done txn before after fault adds blames script many never named = named_more (IsDamageAt entry) (script ++ txn ∷ []) before after (commits_of done ++ []) fault adds
-    (λ what is. subst (λ h. IsDamageAt entry (script ++ txn ∷ []) h what) (sym (append-nil (commits_of done))) (blames (script ++ txn ∷ []) is_next what is))
+    (λ what is. subst (λ h. IsDamageAt entry (script ++ txn ∷ []) h what) (sym (append-nil (commits_of done))) (blames (script ++ txn ∷ []) are_uncommitted what is))
     (names_on entry done txn outcome.NotRun tt before before refl script many never named)
   where
-    is_next : IsNext (script ++ txn ∷ []) (commits_of done) txn.calls
-    is_next = record {
+    are_uncommitted : AreUncommitted (script ++ txn ∷ []) (commits_of done) txn.calls
+    are_uncommitted = record {
       place = length script;
       txn = txn;
       there = last_there script txn;

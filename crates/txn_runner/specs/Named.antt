@@ -25,8 +25,8 @@ IsBadAt entry what = (before : Told) (parts : List Part) → entry.disk.told ≡
 abbrev pub Blames : RoomValue → RunFault → Type 0
 Blames entry fault = (what : Damage) → fault ≡ run_fault.Damaged what → IsBadAt entry what
 
--- a transaction of a script, which a history never commits, has these calls
-pub record IsNext (script : List ScriptTxn) (history : List Commit) (calls : List Call) : Type 0 where
+-- calls are those of a transaction of a script that a history never commits
+pub record AreUncommitted (script : List ScriptTxn) (history : List Commit) (calls : List Call) : Type 0 where
   pub place : ℕ
   pub txn : ScriptTxn
   pub there : slice_get script place ≡ Some txn
@@ -35,7 +35,7 @@ pub record IsNext (script : List ScriptTxn) (history : List Commit) (calls : Lis
 
 -- a fault of such calls names what a run of the script may name behind this history
 abbrev pub BlamesCalls : RoomValue → List Commit → List Call → RunFault → Type 0
-BlamesCalls entry history calls fault = (script : List ScriptTxn) → IsNext script history calls → (what : Damage) → fault ≡ run_fault.Damaged what → IsDamageAt entry script history what
+BlamesCalls entry history calls fault = (script : List ScriptTxn) → AreUncommitted script history calls → (what : Damage) → fault ≡ run_fault.Damaged what → IsDamageAt entry script history what
 
 -- what faults name behind some transactions, others name behind the next one too
 abbrev pub NamesNext : RoomValue → List Outcome → ScriptTxn → Outcome → List (Option RunFault) → List (Option RunFault) → Type 0

@@ -7,12 +7,11 @@ use Rattle.fine_model.specs.declared.RunFault.TheVariants as run_fault
 use Rattle.fine_model.specs.Headline.{OneOf}
 use Rattle.fine_model.specs.Map.{Pair}
 use Rattle.fine_model.specs.declared.Options.{Options}
-use Rattle.fine_model.specs.Words.{Command, dump, gen, merge, ranges, run}
+use Rattle.fine_model.specs.Words.{Command, dump, merge, ranges, run}
 use Rattle.command_words.specs.Words.{meant}
 use Rattle.command_words.specs.declared.command.Command.{Command as ReadCommand}
 use Rattle.log_disk.specs.Moments.{ContinuesOn}
 use Rattle.map_reader.specs.Dumps.{DumpsAny, DumpsWell, Ends as EndsDump, FindsDump, IsUnsoundLog as DumpUnsound, LeavesBeside as DumpBeside}
-use Rattle.fine_top.specs.Generating.{Ends as EndsGen, GensAny, GensWell, Numbers}
 use Rattle.log_disk.proofs.Times.{continues_told}
 use Rattle.log_commands.specs.Ends.{Ends, MergesAnyWell, MergesWell, RangesWell, status_of}
 use Rattle.log_commands.specs.Found.{FindsChain}
@@ -149,31 +148,6 @@ module _ (left : Option (List ℕ)) (source output : ℕ × ℕ) (old new : Disk
       by_zero (inr is) (inl zero) = dump_opened old new ends.found ends.is_found (sym is ∙ zero)
       by_zero (inr is) (inr (inl eight)) = absurd (grind (arith, known, eight))
       by_zero (inr is) (inr (inr none)) = absurd none
-
--- ---- a generated run
-
-module _ (n : Numbers) (left : Option (List ℕ)) (source output : ℕ × ℕ) (old new : Disk) (status : ℕ) (was now : Option (List ℕ)) (output_failed : status ≡ 5 → HasRisen output.0 output.1) (known : OneOf (0 ∷ 1 ∷ 5 ∷ 6 ∷ 7 ∷ 8 ∷ []) status) where
-  pub gen_does : EndsGen n old new status was now → GensWell n output old new status was now → GensAny n output old new status was now → (status ≡ 6 → HasRisen old.faults new.faults) → (old.faults < new.faults → OneOf (1 ∷ 5 ∷ 6 ∷ []) status)
-      → (status ≡ 7 → IsUnsoundLog old) → (OneOf (0 ∷ 8 ∷ []) status → IsOpenedLog old) → LeavesBeside old new → ContinuesOn old new → Does (Some (gen n.start n.count n.lanes)) (seen left source output old new status was now)
-  gen_does ends well any failed told unsound opened beside time = record {
-    leaves = record {
-      status_is = known;
-      source_failed = λ four. absurd (grind (arith, known, four));
-      output_failed = output_failed;
-      disk_failed = failed;
-      disk_told = told;
-      damaged = unsound;
-      opened = opened;
-      untouched = λ early. absurd (grind (arith, known, early));
-      beside = beside;
-      time = time;
-      still = λ c is reads. absurd (not_reading c is reads);
-    };
-    own = record { ends = ends; gen = well; any = any };
-  }
-    where
-      not_reading : (c : Command) → ◌≡◌ {A = Option Command} (Some (gen n.start n.count n.lanes)) (Some c) → IsReading c → ⊥
-      not_reading c is reads = let same : gen n.start n.count n.lanes ≡ c = cc in subst IsReading (sym same) reads
 
 -- ---- a run
 

@@ -10,7 +10,7 @@ use Rattle.fine_places.specs.declared.model.Known.{Known}
 use Rattle.fine_places.specs.History as places
 use Rattle.fine_places.specs.History.{most_seats, touches_place, touching, by_seat, Owns, Owned}
 use Rattle.fine_places.specs.Places.{share, finding, Holds}
-use Rattle.fine_places.specs.Telling.{at_room, Sees, TookIt, Finds, FoundHeld}
+use Rattle.fine_places.specs.Telling.{at_room, Sees, TookIt, Finds, FoundHeld, IsSized}
 use Rattle.fine_places.proofs.Lists.{at_room_elim, some_same, whole}
 use Rattle.fine_boxes.specs.declared.model.TurnNote.{TurnNote}
 use Rattle.fine_boxes.specs.declared.model.Reads.{Reads}
@@ -247,6 +247,10 @@ room_256 = refl
 pub room_within : 256 ≤ places.room
 unfolding places.room
 room_within = omega arith
+
+pub room_word : (z : TableId) → IsSized z → 256 < z.words
+unfolding places.room
+room_word z sized = let deep = sized.0 in omega (arith, deep)
 
 pub room_is : {V : Type 0} (p : Pass V) → LacksPlace p places.room → LacksPlace p 256
 room_is p l = subst (LacksPlace p) (sym room_256) l

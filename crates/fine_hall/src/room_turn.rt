@@ -7,11 +7,11 @@ ghost use Rattle.fine_boxes.specs.declared.model.TurnNote.{TurnNote};
 use crate::hall::{Hall, Seat};
 use crate::law::Load;
 use crate::pass::Pass;
+use crossbeam_utils::Backoff;
 use fine_model::{BucketLaw, Entry, RoomLaw, ViewLaw};
 use fine_places::{ROOM, give, take};
 use std::snapshot::Snapshot;
 use std::sync::Wait;
-use std::thread;
 
 impl<R: RoomLaw, B: BucketLaw, V: ViewLaw> Hall<R, B, V> {
     ghost use Rattle.fine_hall.specs.Laws.{IsRoomFor};
@@ -47,6 +47,20 @@ impl<R: RoomLaw, B: BucketLaw, V: ViewLaw> Hall<R, B, V> {
         }
     }
 
+    /// One try to take the room, unless a load finds it held. A load leaves the word in the cache of the seat that holds the room, which a try would take from it.
+    fn try_if_free(&self, pass: &mut Pass<V>) -> Option<R>
+        requires pass { IsPassOf R.state R.origin V.state self.now pass.old }
+        requires free { LacksPlace pass.old places.room }
+        ensures pass { IsPassOf R.state R.origin V.state self.now pass.new × (pass.new.number ≡ pass.old.number) }
+        ensures takes { MatchOption result (Waits pass.old pass.new) (λ room. TakesRoom V.state (begun R.state R.origin V.state self.now) (R.state room) pass.old pass.new) }
+        ensures room { IfSome result (λ room. IsRoomFor R.state R.origin R.stands_for (begun R.state R.origin V.state self.now) (published pass.new) room (turns pass.new)) }
+    {
+        if self.table.shared.peek(ROOM) != 0 {
+            return None;
+        }
+        self.try_room(pass)
+    }
+
     /// Takes the room, once no other seat holds it: a turn begins. It may wait, and takes no memory. Nothing says
     /// that the room is ever had.
     ///
@@ -59,11 +73,12 @@ impl<R: RoomLaw, B: BucketLaw, V: ViewLaw> Hall<R, B, V> {
         ensures takes { TakesRoom V.state (begun R.state R.origin V.state self.now) (R.state result) pass.old pass.new }
         ensures room { IsRoomFor R.state R.origin R.stands_for (begun R.state R.origin V.state self.now) (published pass.new) result (turns pass.new) }
     {
+        let backoff = Backoff::new();
         for _ in rt.forever() {
-            if let Some(room) = self.try_room(pass) {
+            if let Some(room) = self.try_if_free(pass) {
                 return room;
             }
-            thread::yield_now();
+            backoff.snooze();
         }
         unreachable!()
     }

@@ -8,6 +8,7 @@ use denote.Struct.Field.{row_field}
 use Rattle.std.specs.contracts.option.Option as option
 use Rattle.std.specs.contracts.snapshot.Snapshot as snapshot
 use Rattle.std.specs.contracts.vec.Vec as vec
+use Rattle.std.specs.contracts.boxed.Box as boxed
 use Rattle.std.specs.contracts.alloc.Global as alloc
 use Rattle.std.specs.contracts.impls.GlobalAllocator.TheImpl.{ghosts}
 use Rattle.partition_hold.specs.contracts.regions.RegionSet as set
@@ -47,6 +48,8 @@ use Rattle.epoch_room.specs.contracts.room.Room as room
 use Rattle.epoch_room.specs.contracts.room.Room.TheInside as room_in
 use Rattle.epoch_room.specs.contracts.epoch.OpenEpoch.TheInside as epoch_in
 use Rattle.partition_hold.specs.contracts.board.Board.TheInside as board_in
+use Rattle.hall_rooms.specs.contracts.held.HeldRoom as in_hall
+use Rattle.hall_rooms.specs.contracts.held.HeldRoom.TheInside as in_hall_in
 use Rattle.fine_model.proofs.list.Items.TheSendSync as items
 use Rattle.node_cache.proofs.cached.Cached.TheSendSync as cached
 use Rattle.node_cache.proofs.undo.Step.TheSendSync as step
@@ -126,6 +129,12 @@ room_send D E d e s = view_send _ _ _ _ _ (declared_send (room_in.the_type D E d
     ),
   ),
 ))
+
+box_send : (T : RattleType) → IsSend T → IsSend (boxed.the_row T alloc.the_row ghosts)
+box_send T t = search (sendable, crosses) depth 20
+
+pub in_hall_send : (D E : RattleType) (d : LogDisk.Ghosts D.Denot E.Denot) (e : LogEye.Ghosts E.Denot) → IsSend D → IsSend (in_hall.the_row D E d e)
+in_hall_send D E d e s = view_send _ _ _ _ _ (declared_send (in_hall_in.the_type D E d e) (as_row_send (boxed.the_field (room.the_row D E d e) alloc.the_row ghosts) (box_send (room.the_row D E d e) (room_send D E d e s)), tt))
 
 abbrev hasher : RattleType
 hasher = default.the_row fold.the_row

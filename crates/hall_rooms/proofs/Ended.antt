@@ -39,6 +39,9 @@ none_open room whole empty =
 -- ---- the end
 
 -- the board names the views that come back
+pub closes_as : (x : Beginning) (passes : List RoomPass) (views : List ViewValue) (held room : RoomValue) → room ≡ held → Closes room_state room_log Stands state_of x passes views held → Closes room_state room_log Stands state_of x passes views room
+closes_as x passes views held room is e = subst (Closes room_state room_log Stands state_of x passes views) (sym is) e
+
 pub all_named : (x : Beginning) (passes : List RoomPass) (views back : List ViewValue) (room : RoomValue) → Closes room_state room_log Stands state_of x passes views room → back ≡ views → Names room.room.board (reverse back ++ [])
 all_named x passes views back room e is = names_all room.room.board back (subst (λ l. AreAllOnBoard room.room.board (map state_of l)) (sym is) e.on_board)
 

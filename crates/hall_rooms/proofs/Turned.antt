@@ -65,6 +65,14 @@ stepped x p room new t i l epochs = goes x p p room new t t i refl refl refl i.i
 
 -- ---- its beginning
 
+-- the room as it is changed in a turn is the one that was taken
+pub record IsTaken (x : Beginning) (p₀ p : RoomPass) (room : RoomValue) : Type 0 where
+  pub is_room : IsRoomFor room_state room_log Stands x (published p) room (turns p)
+  pub takes : TakesRoom state_of x room.room p₀ p
+
+pub taken : (x : Beginning) (p₀ p : RoomPass) (held room : RoomValue) → room ≡ held → IsRoomFor room_state room_log Stands x (published p) held (turns p) → TakesRoom state_of x held.room p₀ p → IsTaken x p₀ p room
+taken x p₀ p held room is r t = subst (IsTaken x p₀ p) (sym is) (record { is_room = r; takes = t })
+
 pub begins : (x : Beginning) (p₀ p : RoomPass) (room : RoomValue) → LacksPlace p₀ places.room → IsRoomFor room_state room_log Stands x (published p) room (turns p) → TakesRoom state_of x room.room p₀ p → IsCleanTurn x room p
 begins x p₀ p room free r t = record {
   note = t.turn;

@@ -7,3 +7,4 @@ pub mod Turning
 pub mod Steps
 pub mod Merging
 pub mod Making
+pub mod Lent

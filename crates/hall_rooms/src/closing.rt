@@ -31,7 +31,8 @@ pub fn close_hall<D: LogDisk>(
     requires spare { (spare.items ≡ []) × (2 * (beginning_of hall).seats ≤ vec_capacity spare) }
     ensures { ClosesHall (beginning_of hall) passes.items result }
 {
-    let mut room = hall.close(passes, &mut spare);
+    let held = hall.close(passes, &mut spare);
+    let mut room = held.into_room();
     take_back_all(&mut room, spare);
     let _whole = room.counts();
     room

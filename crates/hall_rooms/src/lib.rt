@@ -2,6 +2,7 @@
 #![tactic(auto)]
 
 mod closing;
+mod held;
 mod laws;
 mod making;
 mod merging;
@@ -11,6 +12,7 @@ mod showing;
 mod views;
 
 pub use closing::close_hall;
+pub use held::HeldRoom;
 pub use laws::{idle_law, space_law};
 pub use making::{Space, make_room, try_room};
 pub use merging::merge_next;

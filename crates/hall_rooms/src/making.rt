@@ -302,10 +302,11 @@ pub fn try_room<D: LogDisk, W: Wait>(
     ensures ahead { IfOk result (λ made. IsAhead state_of (beginning_of hall.now) pass.new × AllAhead (beginning_of hall.now) others.new) }
     ensures tries { TriesRoom (beginning_of hall.now) from pass.old pass.new result }
 {
-    let mut room = hall.take_room(rt, pass);
-    let made = clear_and_merge(rt, alloc, hall, pass, others, &mut room, from);
-    let space = tell_space(&room, made);
-    hall.give_room(pass, room, None, 0);
+    let mut held = hall.take_room(rt, pass);
+    let room = held.room();
+    let made = clear_and_merge(rt, alloc, hall, pass, others, room, from);
+    let space = tell_space(room, made);
+    hall.give_room(pass, held, None, 0);
     space
 }
 

@@ -67,8 +67,8 @@ pub fn merge_next<D: LogDisk, W: Wait>(
     ensures pass { IsRoomPass hall.now pass.new × (pass.new.number ≡ pass.old.number) }
     ensures merges { MergesInTurn (beginning_of hall.now) from pass.old pass.new result }
 {
-    let mut room = hall.take_room(rt, pass);
-    let merged = merge_through(alloc, &mut room, from);
-    hall.give_room(pass, room, None, 0);
+    let mut held = hall.take_room(rt, pass);
+    let merged = merge_through(alloc, held.room(), from);
+    hall.give_room(pass, held, None, 0);
     merged
 }

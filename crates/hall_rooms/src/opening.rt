@@ -11,6 +11,7 @@ ghost use Rattle.fine_hall.specs.Opening.{HandedOut};
 ghost use Rattle.hall_rooms.specs.Rooms.{beginning_of, bucket_number};
 ghost use Rattle.hall_rooms.specs.Opening.{OpensHall, HandsBack, StandsAlone, LacksViews, MakesFrontsOr, MakesMiddlesOr, MakesFronts};
 
+use crate::held::HeldRoom;
 use crate::views::{make_view, take_back_all};
 use epoch_room::{Room, RoomFault};
 use fine_hall::{Hall, Pass};
@@ -20,7 +21,7 @@ use partition_hold::View;
 use std::alloc::{AllocError, Global};
 
 /// A hall of a room, the buckets of its log, and views of it.
-pub type RoomHall<D> = Hall<Room<D>, Bucket, View<<D as LogDisk>::Eye>>;
+pub type RoomHall<D> = Hall<HeldRoom<D>, Bucket, View<<D as LogDisk>::Eye>>;
 
 /// A hall with the passes of its seats, from the greatest number down, and the memory that its end takes.
 #[derive(Drop)]
@@ -164,14 +165,21 @@ pub fn open_hall<D: LogDisk>(
     if let Err(fault) = make_middles(&mut room, seats, &mut middles) {
         return Err(give_up(room, fronts, middles, fault));
     }
-    match Hall::new(alloc, room, buckets, fronts, middles) {
+    let held = match HeldRoom::hold(alloc, room) {
+        Ok(held) => held,
+        Err(room) => return Err(give_up(room, fronts, middles, RoomFault::NoMemory)),
+    };
+    match Hall::new(alloc, held, buckets, fronts, middles) {
         Ok((hall, passes)) => Ok(Opened {
             hall,
             passes,
             spare,
         }),
-        Err((_refused, room, _buckets, fronts, middles)) => {
-            Err(give_up(room, fronts, middles, RoomFault::NoMemory))
-        }
+        Err((_refused, room, _buckets, fronts, middles)) => Err(give_up(
+            room.into_room(),
+            fronts,
+            middles,
+            RoomFault::NoMemory,
+        )),
     }
 }

@@ -36,8 +36,8 @@ pub fn settle_views<D: LogDisk, W: Wait>(
     ensures pass { IsRoomPass hall.now pass.new × (pass.new.number ≡ pass.old.number) }
     ensures settles { SettlesViews (beginning_of hall.now) pass.old pass.new result }
 {
-    let mut room = hall.take_room(rt, pass);
-    let erased = erase_unheld(&mut room);
-    hall.give_room(pass, room, None, 0);
+    let mut held = hall.take_room(rt, pass);
+    let erased = erase_unheld(held.room());
+    hall.give_room(pass, held, None, 0);
     erased
 }

@@ -109,8 +109,8 @@ pub fn seal_and_post<D: LogDisk, W: Wait>(
     ensures pass { IsRoomPass hall.now pass.new × (pass.new.number ≡ pass.old.number) }
     ensures seals { SealsAndPosts (beginning_of hall.now) pass.old pass.new result }
 {
-    let mut room = hall.take_room(rt, pass);
-    let shown = show(hall, pass, &mut room);
-    hall.give_room(pass, room, None, 0);
+    let mut held = hall.take_room(rt, pass);
+    let shown = show(hall, pass, held.room());
+    hall.give_room(pass, held, None, 0);
     shown
 }

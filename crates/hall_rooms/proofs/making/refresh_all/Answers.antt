@@ -1,12 +1,12 @@
 -- The pass of a turn and others look at their mailboxes.
 use denote.Param.Send.{sendable}
 use Rattle.hall_rooms.specs.Rooms.{beginning_of}
-use Rattle.hall_rooms.proofs.Crossing.{bucket_send, room_send}
+use Rattle.hall_rooms.proofs.Crossing.{bucket_send, in_hall_send}
 use Rattle.hall_rooms.proofs.Renewing.{looked, looked_clean, looks_on, same_turn}
 use Rattle.hall_rooms.proofs.making.refresh_all.Goals as goal
 
 pub refresh-requires-send-R : goal.refresh-requires-send-R
-refresh-requires-send-R g c κs within = let d = c.type_bounds.send-D in search (sendable, room_send) depth 20
+refresh-requires-send-R g c κs within = let d = c.type_bounds.send-D in search (sendable, in_hall_send) depth 20
 
 pub refresh-requires-send-B : goal.refresh-requires-send-B
 refresh-requires-send-B g c κs within = search (sendable, bucket_send) depth 20

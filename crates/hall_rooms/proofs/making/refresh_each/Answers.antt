@@ -3,12 +3,12 @@ use denote.Param.Send.{sendable}
 use Rattle.std.proofs.Common.{◌≡◌, ◌<◌, length, get_or, arith, subst}
 use Rattle.hall_rooms.specs.Rooms.{IsRoomPass, beginning_of}
 use Rattle.hall_rooms.specs.Making.{RenewsBelow}
-use Rattle.hall_rooms.proofs.Crossing.{bucket_send, room_send}
+use Rattle.hall_rooms.proofs.Crossing.{bucket_send, in_hall_send}
 use Rattle.hall_rooms.proofs.Renewing.{all_ahead, all_renewed, all_set, elem_there, looked, none_renewed, renewed_next}
 use Rattle.hall_rooms.proofs.making.refresh_each.Goals as goal
 
 pub refresh-requires-send-R : goal.refresh-requires-send-R
-refresh-requires-send-R g c κs within = let d = c.type_bounds.send-D in search (sendable, room_send) depth 20
+refresh-requires-send-R g c κs within = let d = c.type_bounds.send-D in search (sendable, in_hall_send) depth 20
 
 pub refresh-requires-send-B : goal.refresh-requires-send-B
 refresh-requires-send-B g c κs within = search (sendable, bucket_send) depth 20

@@ -1,7 +1,7 @@
 -- A view is posted, and the old middle taken back.
 use denote.Param.Send.{sendable}
 use Rattle.hall_rooms.specs.Rooms.{beginning_of}
-use Rattle.hall_rooms.proofs.Crossing.{bucket_send, room_send}
+use Rattle.hall_rooms.proofs.Crossing.{bucket_send, in_hall_send}
 use Rattle.hall_rooms.proofs.Posted.{back_there, board_long, lacks, may_post, posted, some_empty}
 use Rattle.hall_rooms.proofs.showing.post_to.Goals as goal
 
@@ -12,7 +12,7 @@ pub make_view-requires-clause-empty : goal.make_view-requires-clause-empty
 make_view-requires-clause-empty g c κs within = let t = c.requires.turn in some_empty (beginning_of c.args.hall.now) c.args.pass.now c.args.room.now t.0 t.1 c.args.seat c.requires.seat.0 c.requires.seat.1
 
 pub post-old-requires-send-R : goal.post-old-requires-send-R
-post-old-requires-send-R g c κs within = let d = c.type_bounds.send-D in search (sendable, room_send) depth 20
+post-old-requires-send-R g c κs within = let d = c.type_bounds.send-D in search (sendable, in_hall_send) depth 20
 
 pub post-old-requires-send-B : goal.post-old-requires-send-B
 post-old-requires-send-B g c κs within = search (sendable, bucket_send) depth 20

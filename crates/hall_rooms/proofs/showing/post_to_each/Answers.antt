@@ -7,13 +7,13 @@ use Rattle.std.proofs.lemmas.Result.{err_from_is_err_and}
 use Rattle.fine_model.specs.declared.law.RoomState.{RoomState}
 use Rattle.hall_rooms.specs.Rooms.{beginning_of}
 use Rattle.hall_rooms.specs.Steps.{PostsEachOr}
-use Rattle.hall_rooms.proofs.Crossing.{bucket_send, room_send}
+use Rattle.hall_rooms.proofs.Crossing.{bucket_send, in_hall_send}
 use Rattle.hall_rooms.proofs.Posted.{each_lacks, none_posted, posted_next, stays_posted}
 use Rattle.hall_rooms.proofs.Turned.{stays_more, stays_none}
 use Rattle.hall_rooms.proofs.showing.post_to_each.Goals as goal
 
 pub seats-seats-requires-send-R : goal.seats-seats-requires-send-R
-seats-seats-requires-send-R g c κs within = let d = c.type_bounds.send-D in search (sendable, room_send) depth 20
+seats-seats-requires-send-R g c κs within = let d = c.type_bounds.send-D in search (sendable, in_hall_send) depth 20
 
 pub seats-seats-requires-send-B : goal.seats-seats-requires-send-B
 seats-seats-requires-send-B g c κs within = search (sendable, bucket_send) depth 20

@@ -6,7 +6,7 @@ use Rattle.std.proofs.lemmas.Result.{err_from_is_err_and}
 use Rattle.epoch_room.specs.declared.answers.RoomFault.{RoomFault}
 use Rattle.hall_rooms.specs.Rooms.{beginning_of}
 use Rattle.hall_rooms.specs.Steps.{ShowsOr}
-use Rattle.hall_rooms.proofs.Crossing.{bucket_send, room_send}
+use Rattle.hall_rooms.proofs.Crossing.{bucket_send, in_hall_send}
 use Rattle.hall_rooms.proofs.Shown.{seal_fails, sealed_clean, shown, stays_published}
 use Rattle.hall_rooms.proofs.Turned.{counted, stays_more}
 use Rattle.hall_rooms.proofs.showing.show.Goals as goal
@@ -22,7 +22,7 @@ pub post_to_each-requires-clause-turn : goal.post_to_each-requires-clause-turn
 post_to_each-requires-clause-turn g c κs within = sealed_clean (beginning_of c.args.hall.now) c.args.pass.now c.args.room.now c.seal_waiting.new.room c.requires.turn c.in_ok-seal_waiting.ensures
 
 pub publish-requires-send-R : goal.publish-requires-send-R
-publish-requires-send-R g c κs within = let d = c.type_bounds.send-D in search (sendable, room_send) depth 20
+publish-requires-send-R g c κs within = let d = c.type_bounds.send-D in search (sendable, in_hall_send) depth 20
 
 pub publish-requires-send-B : goal.publish-requires-send-B
 publish-requires-send-B g c κs within = search (sendable, bucket_send) depth 20

@@ -1,0 +1,94 @@
+//! A room as it lies in a hall.
+
+ghost use Rattle.std.specs.Prelude.{◌≡◌, ◌+◌, IfOk, IfErr};
+ghost use Rattle.std.specs.List.{AllByRecursion};
+ghost use Rattle.std.specs.Borrow.{sem};
+ghost use Rattle.fine_model.specs.Becomes.{Becomes};
+ghost use Rattle.fine_model.specs.Jobs.{KeepsJob};
+ghost use Rattle.fine_model.specs.Merge.{cost};
+ghost use Rattle.fine_model.specs.RowBytes.{FitsRow};
+ghost use Rattle.fine_model.specs.declared.Mark.TheVariants as mark;
+ghost use Rattle.epoch_room.specs.declared.answers.Fit.TheVariants as fit;
+ghost use Rattle.epoch_room.specs.Fitting.{fit_of};
+ghost use Rattle.epoch_room.specs.Steps.{appended};
+ghost use Rattle.epoch_room.specs.Meaning.{StandsForMore};
+ghost use Rattle.hall_rooms.specs.Lent.{LendsRoom};
+
+use epoch_room::{Fit, Room, Stamp};
+use fine_model::RoomLaw;
+use log_disk::LogDisk;
+use private_log::PrivateLog;
+use std::alloc::Global;
+use std::marker::Model;
+
+/// A room on the heap, so that a turn moves a pointer and leaves the room where it lies. Contracts see the room.
+#[derive(Drop)]
+pub struct HeldRoom<D: LogDisk> {
+    room: Box<Room<D>>,
+}
+
+impl<D: LogDisk> Model for HeldRoom<D> {
+    ghost use Rattle.epoch_room.specs.Value.{RoomValue};
+
+    ghost Value = { RoomValue };
+
+    ghost view = { λ held. held.room.value };
+}
+
+impl<D: LogDisk> RoomLaw for HeldRoom<D> {
+    ghost use Rattle.epoch_room.specs.Meaning.{origin_of, Stands};
+
+    ghost state = { λ room. room.room };
+
+    ghost origin = { λ room. origin_of room.entry };
+
+    ghost stands_for = { Stands };
+}
+
+impl<D: LogDisk> HeldRoom<D> {
+    /// The room on the heap, or as it was where there is no memory.
+    pub(crate) fn hold(alloc: Global, room: Room<D>) -> Result<HeldRoom<D>, Room<D>>
+        ensures held { IfOk result (λ held. held ≡ room) }
+        ensures back { IfErr result (λ back. back ≡ room) }
+    {
+        match Box::new(alloc, room) {
+            Ok(room) => Ok(HeldRoom { room }),
+            Err(failed) => Err(failed.value),
+        }
+    }
+
+    /// The room.
+    pub(crate) fn into_room(self) -> Room<D>
+        ensures { result ≡ self }
+    {
+        Box::into_inner(self.room)
+    }
+
+    /// The room, to be changed in a turn.
+    pub(crate) fn room(&mut self) -> &mut Room<D>
+        ensures value { result.now ≡ self.old }
+        ensures* writes_back { sem 𝓛 (LendsRoom D.row D.Eye.row D.LogDisk D.Eye.LogEye self.entry result) }
+    {
+        self.room.as_mut()
+    }
+
+    /// As `Room::fit`.
+    pub fn fit(&self, cost: u64) -> Fit
+        ensures { result ≡ fit_of self.now.room cost }
+    {
+        self.room.fit(cost)
+    }
+
+    /// As `Room::append`.
+    pub fn append(&mut self, log: &PrivateLog) -> Stamp
+        requires fits { fit_of self.old.room (cost log.now) ≡ fit.Fits }
+        requires rows { AllByRecursion (FitsRow mark.Two) log.now }
+        ensures stamp { result ≡ record { place = self.old.room.places + 1; epoch = self.old.room.sealed + 1 } }
+        ensures room { self.new ≡ appended self.old log.now }
+        ensures stands { StandsForMore self.old self.new log.now }
+        ensures becomes { Becomes self.old.room self.new.room }
+        ensures job { KeepsJob self.old.room self.new.room }
+    {
+        self.room().append(log)
+    }
+}

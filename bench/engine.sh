@@ -4,9 +4,9 @@
 # pairs into a hash table under one mutex, and copy a record of 32 bytes each into a buffer under it. The goal is at most 6 microseconds a transaction on
 # one thread, and at least 2.5 times its commits a second with four threads, which wants four cores. Nothing is sealed, so no sync counts.
 #
-# Where nobody else is in its way such a transaction takes 2 compare-exchanges, 2 stores and 6 loads of words that other seats use, all sequentially consistent,
+# Where nobody else is in its way such a transaction takes 2 compare-exchanges, 2 stores and 7 loads of words that other seats use, all sequentially consistent,
 # by the steps of its calls: a bucket and the room are each taken by a compare-exchange and a load and given back by a load and a store, and it looks once
-# at its mailbox and once at the published number.
+# at its mailbox, once at the published number, and once at the room's word before it tries to take the room.
 #
 # All run a few times in turn, and the best of each counts. It is no test. The timing program is proved before it is built, since only a proved build is optimized.
 set -e

@@ -29,11 +29,11 @@ use Rattle.log_disk.proofs.mem.plan.Schedule.TheSendSync as schedules
 use Rattle.node_cache.specs.contracts.Bucket as bucket
 use Rattle.partition_hold.specs.contracts.view.View as view
 use Rattle.partition_hold.proofs.view.View.TheSendSync as views
-use Rattle.epoch_room.specs.contracts.room.Room as room
 use Rattle.fine_hall.specs.contracts.law.Load as load
 use Rattle.fine_hall.specs.contracts.hall.HallTable as hall
 use Rattle.fine_hall.proofs.hall.HallTable.TheSendSync as halls
-use Rattle.hall_rooms.proofs.Crossing.{bucket_send, room_send}
+use Rattle.hall_rooms.specs.contracts.held.HeldRoom as in_hall
+use Rattle.hall_rooms.proofs.Crossing.{bucket_send, in_hall_send}
 use Rattle.txn_engine_tests.specs.contracts.threads.Route as route
 use Rattle.txn_engine_tests.proofs.threads.Route.TheSendSync as routes
 
@@ -98,8 +98,8 @@ slot_send R B V r b v = variants_send (option.enum (load.the_row R B V)) (tt, ((
 pub hall_sync : (R V K Q : RattleType) (q : _) → IsSend R → IsSend V → IsSync (hall.the_row (option.the_row (load.the_row R bucket.the_row V)) K Q q)
 hall_sync R V K Q q r v = halls.the_sync (option.the_row (load.the_row R bucket.the_row V)) K Q q (slot_send R bucket.the_row V r bucket_send v)
 
-pub room_of_disk : IsSend (room.the_row disk.the_row eye.the_row disk_law.ghosts eye_law.ghosts)
-room_of_disk = room_send disk.the_row eye.the_row disk_law.ghosts eye_law.ghosts disk_send
+pub room_of_disk : IsSend (in_hall.the_row disk.the_row eye.the_row disk_law.ghosts eye_law.ghosts)
+room_of_disk = in_hall_send disk.the_row eye.the_row disk_law.ghosts eye_law.ghosts disk_send
 
 pub view_of_eye : IsSend (view.the_row eye.the_row eye_law.ghosts)
 view_of_eye = views.the_send eye.the_row eye_law.ghosts eyes.the_send

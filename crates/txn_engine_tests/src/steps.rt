@@ -28,7 +28,10 @@ pub enum Step {
     Get(u8),
     Put(u8, u8),
     Scan,
+    /// Commits, or takes back what is open.
     Commit,
+    /// Commits, or leaves open what is open.
+    TryCommit,
     Abort,
     /// Takes back what is open, seals what waits, and posts views of it.
     Show,
@@ -86,6 +89,20 @@ fn end<W: Wait>(rt: &W, hall: &RoomHall<MemDisk>, seat: &mut Seat) -> Told
     told_of(commit(rt, &mut seat.txn, hall, &mut seat.pass, 0))
 }
 
+/// Commits. Where that is refused, what is open stays open.
+fn try_commit<W: Wait>(rt: &W, hall: &RoomHall<MemDisk>, seat: &mut Seat) -> Told
+    requires going { IsGoing hall.now seat.old.txn seat.old.pass }
+    ensures going { IsGoing hall.now seat.new.txn seat.new.pass × (seat.new.pass.number ≡ seat.old.pass.number) }
+{
+    if seat.txn.failed() {
+        return Told::Refused(TxnFault::NoMemory);
+    }
+    match seat.txn.commit(rt, hall, &mut seat.pass, 0) {
+        Ok(done) => Told::Committed(done.stamp.place, done.stamp.epoch),
+        Err(cause) => Told::NoPlace(cause),
+    }
+}
+
 /// Takes back what is open.
 pub fn take_back(hall: &RoomHall<MemDisk>, seat: &mut Seat)
     requires going { IsGoing hall.now seat.old.txn seat.old.pass }
@@ -130,6 +147,7 @@ pub fn take<W: Wait>(
         Step::Put(account, balance) => ask(hall, seat, put_of(alloc, account, balance)),
         Step::Scan => ask(hall, seat, scan_of(alloc)),
         Step::Commit => end(rt, hall, seat),
+        Step::TryCommit => try_commit(rt, hall, seat),
         Step::Abort => abort(hall, seat),
         Step::Show => show_now(rt, hall, seat),
     }

@@ -21,7 +21,7 @@ use txn_engine::{RoomHall, Space, Txn, try_room};
 pub enum Act {
     One(Step),
     Two(Step),
-    /// Takes back what is open, and makes room with both passes.
+    /// Makes room with both passes. What is open stays open.
     MakeRoom,
 }
 
@@ -58,8 +58,6 @@ fn make_room<W: Wait>(
     ensures one { IsGoing hall.now one.new.txn one.new.pass × (one.new.pass.number ≡ 1) }
     ensures two { IsGoing hall.now two.new.txn two.new.pass × (two.new.pass.number ≡ 2) }
 {
-    take_back(hall, one);
-    take_back(hall, two);
     let others = slice::from_mut(&mut two.pass);
     told_by(try_room(rt, alloc, hall, &mut one.pass, others, 0))
 }

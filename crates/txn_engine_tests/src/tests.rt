@@ -1,14 +1,14 @@
 //! Tables of steps on halls on disks in memory.
 
-use crate::steps::Step::{Abort, Commit, Get, Put, Scan, Show};
-use crate::steps::Told::{Aborted, Balance, Committed, Refused, Room, Shown, Stored, Sum};
+use crate::steps::Step::{Abort, Commit, Get, Put, Scan, Show, TryCommit};
+use crate::steps::Told::{Aborted, Balance, Committed, NoPlace, Refused, Room, Shown, Stored, Sum};
 use crate::tables::Act::{MakeRoom, One, Two};
 use crate::tables::{Line, Outcome, walked};
 use crate::threads::two_threads;
 use epoch_room::Counts;
 use log_disk::FaultPlan;
 use std::test::Fail;
-use txn_engine::{Space, TxnFault};
+use txn_engine::{CommitFault, Space, TxnFault};
 
 // The second transaction finds the bucket of the account 1 held, and goes through once the first has committed.
 #[test]
@@ -119,7 +119,7 @@ fn a_failing_read_is_of_its_pass_alone(rt: HostRuntime) -> Result<(), Fail> {
     Ok(())
 }
 
-// Three parts become one, two at a time, until one is left.
+// Three parts become one, two at a time, until one is left, while a transaction is open.
 #[test]
 fn room_is_made_of_three_parts(rt: HostRuntime) -> Result<(), Fail> {
     let table = [
@@ -147,6 +147,59 @@ fn room_is_made_of_three_parts(rt: HostRuntime) -> Result<(), Fail> {
         sealed: 3,
         place: 4,
         waiting: 1,
+    };
+    let outcome = walked(&rt, rt.alloc(), FaultPlan::none(rt.alloc()), &table);
+    assert!(rt; outcome == Outcome::Room(counts));
+    Ok(())
+}
+
+// Seven sealed epochs leave one free region, which is kept for merging: a commit is refused, room is made while both transactions are open, and both commit.
+#[test]
+fn a_commit_without_space_is_tried_again(rt: HostRuntime) -> Result<(), Fail> {
+    let table = [
+        Line(One(Put(1, 1)), Stored),
+        Line(One(Commit), Committed(1, 1)),
+        Line(One(Show), Shown(1)),
+        Line(One(Put(1, 2)), Stored),
+        Line(One(Commit), Committed(2, 2)),
+        Line(One(Show), Shown(2)),
+        Line(One(Put(1, 3)), Stored),
+        Line(One(Commit), Committed(3, 3)),
+        Line(One(Show), Shown(3)),
+        Line(One(Put(1, 4)), Stored),
+        Line(One(Commit), Committed(4, 4)),
+        Line(One(Show), Shown(4)),
+        Line(One(Put(1, 5)), Stored),
+        Line(One(Commit), Committed(5, 5)),
+        Line(One(Show), Shown(5)),
+        Line(One(Put(1, 6)), Stored),
+        Line(One(Commit), Committed(6, 6)),
+        Line(One(Show), Shown(6)),
+        Line(One(Put(1, 7)), Stored),
+        Line(One(Commit), Committed(7, 7)),
+        Line(One(Show), Shown(7)),
+        Line(One(Put(1, 10)), Stored),
+        Line(Two(Put(2, 5)), Stored),
+        Line(
+            One(TryCommit),
+            NoPlace(CommitFault::Full {
+                free: 1,
+                live: 7,
+                retired: 0,
+            }),
+        ),
+        Line(MakeRoom, Room(Space::Made)),
+        Line(One(TryCommit), Committed(8, 8)),
+        Line(Two(TryCommit), Committed(9, 8)),
+        Line(Two(Scan), Sum(15)),
+    ];
+    let counts = Counts {
+        free: 1,
+        live: 6,
+        retired: 0,
+        sealed: 7,
+        place: 9,
+        waiting: 2,
     };
     let outcome = walked(&rt, rt.alloc(), FaultPlan::none(rt.alloc()), &table);
     assert!(rt; outcome == Outcome::Room(counts));

@@ -1,7 +1,7 @@
 use denote.Param.Send.{sendable}
 use Rattle.std.proofs.Common.{sym, ◌∙◌}
 use Rattle.hall_rooms.specs.Rooms.{beginning_of}
-use Rattle.hall_rooms.proofs.Crossing.{bucket_send, room_send}
+use Rattle.hall_rooms.proofs.Crossing.{bucket_send, in_hall_send}
 use Rattle.txn_engine.proofs.Taking.{all_or}
 use Rattle.txn_engine.proofs.calls.take_buckets.Goals as goal
 
@@ -9,7 +9,7 @@ pub want_all-requires-send-B : goal.want_all-requires-send-B
 want_all-requires-send-B g c κs within = search (sendable, bucket_send) depth 20
 
 pub want_all-requires-send-R : goal.want_all-requires-send-R
-want_all-requires-send-R g c κs within = let d = c.type_bounds.send-D in search (sendable, room_send) depth 20
+want_all-requires-send-R g c κs within = let d = c.type_bounds.send-D in search (sendable, in_hall_send) depth 20
 
 pub returns-then-is_scan-clause-locks : goal.returns-then-is_scan-clause-locks
 returns-then-is_scan-clause-locks g c = all_or (beginning_of c.args.hall.now) c.args.call.now c.args.locks.now c.want_all.new.self c.args.pass.now c.want_all.new.pass (sym c.is_scan.ensures ∙ c.if-is_scan.true) c.want_all.result

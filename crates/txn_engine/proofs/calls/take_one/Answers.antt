@@ -2,7 +2,7 @@ use denote.Param.Send.{sendable}
 use Rattle.std.proofs.Common.{subst}
 use Rattle.key_locks.specs.Locks.{LacksLock}
 use Rattle.hall_rooms.specs.Rooms.{beginning_of}
-use Rattle.hall_rooms.proofs.Crossing.{bucket_send, room_send}
+use Rattle.hall_rooms.proofs.Crossing.{bucket_send, in_hall_send}
 use Rattle.txn_engine.proofs.Taking.{one_by}
 use Rattle.txn_engine.proofs.calls.take_one.Goals as goal
 
@@ -10,7 +10,7 @@ pub want-requires-send-B : goal.want-requires-send-B
 want-requires-send-B g c κs within = search (sendable, bucket_send) depth 20
 
 pub want-requires-send-R : goal.want-requires-send-R
-want-requires-send-R g c κs within = let d = c.type_bounds.send-D in search (sendable, room_send) depth 20
+want-requires-send-R g c κs within = let d = c.type_bounds.send-D in search (sendable, in_hall_send) depth 20
 
 pub returns-clause-locks : goal.returns-clause-locks
 returns-clause-locks g c =

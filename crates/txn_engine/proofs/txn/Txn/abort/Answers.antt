@@ -4,7 +4,7 @@ use Rattle.node_cache.specs.Cache.{before, evicted, undone}
 use Rattle.fine_hall.specs.Passes.{published, seen}
 use Rattle.txn_draft.specs.Standing.{IsLeft}
 use Rattle.hall_rooms.specs.Rooms.{beginning_of}
-use Rattle.hall_rooms.proofs.Crossing.{bucket_send, room_send}
+use Rattle.hall_rooms.proofs.Crossing.{bucket_send, in_hall_send}
 use Rattle.txn_engine.proofs.Ending.{still_locks}
 use Rattle.txn_engine.proofs.Releasing.{aborted, locks_read, open_blank, open_read, undone_all}
 use Rattle.txn_engine.proofs.txn.Txn.abort.Goals as goal
@@ -13,13 +13,13 @@ pub published-published-requires-send-B : goal.published-published-requires-send
 published-published-requires-send-B g c κs within = search (sendable, bucket_send) depth 20
 
 pub published-published-requires-send-R : goal.published-published-requires-send-R
-published-published-requires-send-R g c κs within = let d = c.type_bounds.send-D in search (sendable, room_send) depth 20
+published-published-requires-send-R g c κs within = let d = c.type_bounds.send-D in search (sendable, in_hall_send) depth 20
 
 pub release_all-requires-send-B : goal.release_all-requires-send-B
 release_all-requires-send-B g c κs within = search (sendable, bucket_send) depth 20
 
 pub release_all-requires-send-R : goal.release_all-requires-send-R
-release_all-requires-send-R g c κs within = let d = c.type_bounds.send-D in search (sendable, room_send) depth 20
+release_all-requires-send-R g c κs within = let d = c.type_bounds.send-D in search (sendable, in_hall_send) depth 20
 
 pub release_all-requires-clause-pass : goal.release_all-requires-clause-pass
 release_all-requires-clause-pass g c κs within =

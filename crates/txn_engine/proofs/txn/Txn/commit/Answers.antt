@@ -13,7 +13,7 @@ use Rattle.fine_hall.specs.Passes.{published, seen}
 use Rattle.hall_rooms.specs.Rooms.{beginning_of, room_log, room_state}
 use Rattle.txn_engine.specs.Steps.{EachBecomes}
 use Rattle.txn_engine.proofs.Committing.{committed, epochs, free_read, held_room, locks_then, locks₁, may_some, open_refused, open₁, refused, stand_now}
-use Rattle.hall_rooms.proofs.Crossing.{bucket_send, room_send}
+use Rattle.hall_rooms.proofs.Crossing.{bucket_send, in_hall_send}
 use Rattle.txn_engine.proofs.Ending.{still_locks}
 use Rattle.txn_engine.proofs.Releasing.{open_blank, settled_all}
 use Rattle.txn_engine.proofs.txn.Txn.commit.Goals as goal
@@ -22,31 +22,31 @@ pub published-published-requires-send-B : goal.published-published-requires-send
 published-published-requires-send-B g c κs within = search (sendable, bucket_send) depth 20
 
 pub published-published-requires-send-R : goal.published-published-requires-send-R
-published-published-requires-send-R g c κs within = let d = c.type_bounds.send-D in search (sendable, room_send) depth 20
+published-published-requires-send-R g c κs within = let d = c.type_bounds.send-D in search (sendable, in_hall_send) depth 20
 
 pub take_room-room-requires-send-B : goal.take_room-room-requires-send-B
 take_room-room-requires-send-B g c κs within = search (sendable, bucket_send) depth 20
 
 pub take_room-room-requires-send-R : goal.take_room-room-requires-send-R
-take_room-room-requires-send-R g c κs within = let d = c.type_bounds.send-D in search (sendable, room_send) depth 20
+take_room-room-requires-send-R g c κs within = let d = c.type_bounds.send-D in search (sendable, in_hall_send) depth 20
 
 pub give_room-requires-send-B : goal.give_room-requires-send-B
 give_room-requires-send-B g c κs within = search (sendable, bucket_send) depth 20
 
 pub give_room-requires-send-R : goal.give_room-requires-send-R
-give_room-requires-send-R g c κs within = let d = c.type_bounds.send-D in search (sendable, room_send) depth 20
+give_room-requires-send-R g c κs within = let d = c.type_bounds.send-D in search (sendable, in_hall_send) depth 20
 
 pub give_room-requires-in-Some-send-B : goal.give_room-requires-in-Some-send-B
 give_room-requires-in-Some-send-B g c κs within = search (sendable, bucket_send) depth 20
 
 pub give_room-requires-in-Some-send-R : goal.give_room-requires-in-Some-send-R
-give_room-requires-in-Some-send-R g c κs within = let d = c.type_bounds.send-D in search (sendable, room_send) depth 20
+give_room-requires-in-Some-send-R g c κs within = let d = c.type_bounds.send-D in search (sendable, in_hall_send) depth 20
 
 pub release_all-requires-send-B : goal.release_all-requires-send-B
 release_all-requires-send-B g c κs within = search (sendable, bucket_send) depth 20
 
 pub release_all-requires-send-R : goal.release_all-requires-send-R
-release_all-requires-send-R g c κs within = let d = c.type_bounds.send-D in search (sendable, room_send) depth 20
+release_all-requires-send-R g c κs within = let d = c.type_bounds.send-D in search (sendable, in_hall_send) depth 20
 
 pub take_room-room-requires-clause-free : goal.take_room-room-requires-clause-free
 take_room-room-requires-clause-free g c κs within = free_read c.args.pass.now c.published-published.new.pass c.published-published.ensures.reads c.requires.free

@@ -1,7 +1,7 @@
 use denote.Param.Send.{sendable}
 use Rattle.std.proofs.Common.{refl}
 use Rattle.hall_rooms.specs.Rooms.{beginning_of}
-use Rattle.hall_rooms.proofs.Crossing.{bucket_send, room_send}
+use Rattle.hall_rooms.proofs.Crossing.{bucket_send, in_hall_send}
 use Rattle.txn_engine.proofs.Taking.{stopped, taken_for}
 use Rattle.txn_engine.proofs.txn.Txn.take_for.Goals as goal
 
@@ -9,7 +9,7 @@ pub refresh-requires-send-B : goal.refresh-requires-send-B
 refresh-requires-send-B g c κs within = search (sendable, bucket_send) depth 20
 
 pub refresh-requires-send-R : goal.refresh-requires-send-R
-refresh-requires-send-R g c κs within = let d = c.type_bounds.send-D in search (sendable, room_send) depth 20
+refresh-requires-send-R g c κs within = let d = c.type_bounds.send-D in search (sendable, in_hall_send) depth 20
 
 pub returns-in-Err-clause-takes : goal.returns-in-Err-clause-takes
 returns-in-Err-clause-takes g c =

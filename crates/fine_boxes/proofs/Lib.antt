@@ -9,4 +9,3 @@ pub mod Numbers
 pub mod Exchanging
 pub mod Opening
 pub mod Ending
-pub mod Trying

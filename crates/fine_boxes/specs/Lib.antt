@@ -7,4 +7,3 @@ pub mod Lists
 pub mod Cells
 pub mod Boxing
 pub mod Placing
-pub mod Trial

@@ -12,8 +12,6 @@ mod law;
 mod model;
 mod plays;
 mod steps;
-#[cfg(test)]
-mod tests;
 
 pub use boxes::Boxes;
 pub use law::BoxLaw;

@@ -14,8 +14,6 @@ mod laws;
 mod layout;
 mod list;
 mod numbers;
-#[cfg(test)]
-mod tests;
 mod version_laws;
 
 pub use becoming::{becomes_law, buckets_law, job_law, no_room_law, set_law};

@@ -12,8 +12,6 @@ mod law;
 mod model;
 mod plays;
 mod steps;
-#[cfg(test)]
-mod tests;
 
 pub use beside::{Alone, BesideLaw};
 pub use law::{PlaceLaw, Rule, StartLaw};

@@ -19,8 +19,6 @@ use std::snapshot::Snapshot;
 use thiserror::Error;
 
 mod handle;
-#[cfg(test)]
-mod tests;
 
 use handle::Handle;
 pub use handle::{FileAsk, FileCall, FileNotes};

@@ -13,8 +13,6 @@ mod file;
 pub mod laws;
 mod mem;
 mod refusal;
-#[cfg(test)]
-mod tests;
 
 pub use file::{FileAsk, FileCall, FileDisk, FileEye, FileNotes, MakeFault};
 pub use mem::{FaultPlan, MemDisk, MemEye};

@@ -13,9 +13,6 @@ use std::collections::BTreeSet;
 use std::marker::Model;
 use std::mem;
 
-#[cfg(test)]
-mod tests;
-
 /// The rows that a transaction pushed, in their order, with their bytes and the nodes that they name.
 #[derive(Drop)]
 pub struct PrivateLog {

@@ -1,0 +1,7 @@
+//! The tests of `log_disk`. They stand in a crate of their own, since a crate with tests is proved once more with them.
+#![tactic(auto)]
+
+#[cfg(test)]
+mod files;
+#[cfg(test)]
+mod tests;

@@ -17,14 +17,14 @@ speed="$work/crates/engine_speed"
 count=50000
 mkdir -p "$speed/src" "$speed/specs" "$speed/proofs"
 below="fine_model log_disk node_record partition_index log_partition private_log node_cache btree_nodes txn_draft node_fetch partition_merge partition_hold epoch_room \
-fine_places fine_boxes fine_hall room_merges hall_rooms key_locks open_txn txn_engine txn_engine_tests"
+fine_places fine_boxes fine_hall room_merges hall_rooms key_locks open_txn txn_engine hall_accounts"
 for name in $below; do
   mkdir -p "$work/crates/$name"
   for part in src specs proofs; do cp -r "$top/crates/$name/$part" "$work/crates/$name/"; done
   grep "^$name[: ]" "$top/crates.txt" >> "$work/crates.txt"
 done
 cp "$top/HANDLES" "$work/"
-echo "engine_speed: epoch_room log_disk txn_engine txn_engine_tests" >> "$work/crates.txt"
+echo "engine_speed: epoch_room log_disk txn_engine hall_accounts" >> "$work/crates.txt"
 : > "$speed/specs/Lib.antt"
 : > "$speed/proofs/Lib.antt"
 
@@ -39,7 +39,7 @@ use std::sync::Wait;
 use std::test::Fail;
 use std::thread::Threads;
 use std::time::Instant;
-use txn_engine_tests::{open, open_two, puts_at_once, puts_by_one};
+use hall_accounts::{open, open_two, puts_at_once, puts_by_one};
 
 /// The bytes of a region, in which all rows of a run have room.
 const REGION: u64 = 16_777_216;

@@ -1,20 +1,5 @@
-//! A user of `txn_engine`: accounts on a hall on a disk in memory, and transactions between them.
+//! The tests of `txn_engine`, by tables of steps of `hall_accounts`.
 #![tactic(auto)]
 
-mod accounts;
-mod halls;
-mod many;
-mod steps;
-mod tables;
 #[cfg(test)]
 mod tests;
-mod threads;
-mod transfers;
-
-pub use accounts::{balance_of, get_of, put_of, scan_of, sum_of};
-pub use halls::{Two, end_two, open, open_two};
-pub use many::{puts, puts_at_once, puts_by_one};
-pub use steps::{Seat, Step, Told, take, take_back};
-pub use tables::{Act, Line, Outcome, walked};
-pub use threads::{Route, RunOfTwo, two_threads};
-pub use transfers::{Ended, commit, fresh, give_up, run, show, transfer};

@@ -1,11 +1,12 @@
 //! Tables of steps on halls on disks in memory.
 
-use crate::steps::Step::{Abort, Commit, Get, Put, Scan, Show, TryCommit};
-use crate::steps::Told::{Aborted, Balance, Committed, NoPlace, Refused, Room, Shown, Stored, Sum};
-use crate::tables::Act::{MakeRoom, One, Two};
-use crate::tables::{Line, Outcome, walked};
-use crate::threads::two_threads;
 use epoch_room::Counts;
+use hall_accounts::Act::{MakeRoom, One, Two};
+use hall_accounts::Step::{Abort, Commit, Get, Put, Scan, Show, TryCommit};
+use hall_accounts::Told::{
+    Aborted, Balance, Committed, NoPlace, Refused, Room, Shown, Stored, Sum,
+};
+use hall_accounts::{Line, Outcome, two_threads, walked};
 use log_disk::FaultPlan;
 use std::test::Fail;
 use txn_engine::{CommitFault, Space, TxnFault};

@@ -1,0 +1,71 @@
+-- A pass in the midst of a transaction, after a call, and after a commit that was refused.
+use Rattle.std.proofs.Common.{◌≡◌, ℕ, Result, ◌<◌, ◌≤◌, ◌∙◌, ap, sym, arith, le_refl}
+use lib.ListN.{get_elem?}
+use Rattle.fine_places.specs.History as places
+use Rattle.node_cache.specs.Cache.{Cache}
+use Rattle.partition_hold.specs.Views.{ViewValue, state_of}
+use Rattle.epoch_room.specs.Value.{RoomValue}
+use Rattle.fine_hall.specs.Halls.{HallOf}
+use Rattle.fine_hall.proofs.Troubles.{sees_law}
+use Rattle.epoch_room.specs.declared.answers.RoomFault.{RoomFault}
+use Rattle.room_merges.specs.declared.fault.MergeFault.{MergeFault}
+use Rattle.hall_rooms.specs.declared.making.Space.{Space}
+use Rattle.hall_rooms.specs.Making.{Renews, TriesRoom}
+use Rattle.hall_rooms.specs.Turning.{SealsAndPosts}
+use Rattle.hall_rooms.proofs.Idle.{seals_idle}
+use Rattle.hall_rooms.specs.Rooms.{IsRoomPass, RoomPass, beginning_of}
+use Rattle.txn_engine.specs.declared.txn.CommitFault.{CommitFault}
+use Rattle.txn_engine.specs.declared.txn.Txn.{Txn}
+use Rattle.txn_engine.specs.Txns.{IsOpenTxn, IsRefused, SeesCall}
+use Rattle.key_locks.proofs.Held.{near}
+use Rattle.txn_engine.proofs.Idle.{begins_law, refused_job, seen_law}
+use Rattle.txn_engine.proofs.Turned.{makes_law, makes_no_job}
+use Rattle.hall_accounts.specs.Going.{IsAtRest, IsFree, IsGoing}
+
+module _ {Q : Type 0} (hall : HallOf RoomValue Cache ViewValue Q) (t t' : Txn) (p p' : RoomPass) where
+  pub going_on : IsGoing hall t p → IsRoomPass hall p' → p'.number ≡ p.number → SeesCall (beginning_of hall) p p' → IsOpenTxn (beginning_of hall) t' p' → IsGoing hall t' p'
+  going_on g pass number s o = record {
+    pass = pass;
+    is_open = o;
+    room = s.room ∙ g.room;
+    job = λ one. let was = sym number ∙ one in ((sees_law state_of).job (beginning_of hall) p p' pass.lawful was s.sees).job ∙ g.job was;
+  }
+
+  pub refused_goes : (cause : CommitFault) → IsGoing hall t p → IsRoomPass hall p' → p'.number ≡ p.number → IsRefused (beginning_of hall) t t' p p' cause → IsOpenTxn (beginning_of hall) t' p' → IsGoing hall t' p'
+  refused_goes cause g pass number r o = record {
+    pass = pass;
+    is_open = o;
+    room = ap (λ l. get_elem? l places.room) r.held ∙ g.room;
+    job = refused_job (beginning_of hall) t t' p p' cause number r g.job;
+  }
+
+-- a pass at rest is so after a turn that seals
+pub shows_on : {Q : Type 0} (hall : HallOf RoomValue Cache ViewValue Q) (p p' : RoomPass) (r : Result ℕ RoomFault) → IsAtRest hall p → IsRoomPass hall p' → p'.number ≡ p.number → SealsAndPosts (beginning_of hall) p p' r → IsAtRest hall p'
+shows_on hall p p' r rest pass number s = let i = seals_idle r (beginning_of hall) p p' number s rest.idle.1 rest.idle.2 in record { idle = (pass, i.0, i.1) }
+
+-- an open transaction goes on over a turn of its pass that makes room, whatever that comes to
+pub makes_goes : {Q : Type 0} (hall : HallOf RoomValue Cache ViewValue Q) (t : Txn) (p p' : RoomPass) (from : ℕ) (r : Result Space MergeFault) → IsGoing hall t p → IsRoomPass hall p' → TriesRoom (beginning_of hall) from p p' r → IsGoing hall t p'
+makes_goes hall t p p' from r g pass m = record {
+  pass = pass;
+  is_open = makes_law (beginning_of hall) t p p' from m.made m.makes g.pass.lawful pass.lawful g.room g.is_open;
+  room = ap (λ l. get_elem? l places.room) m.makes.turn.same_held ∙ g.room;
+  job = makes_no_job (beginning_of hall) p p' from m.made m.makes;
+}
+
+-- and so does that of another pass, which looks in its mailbox in it
+pub renews_goes : {Q : Type 0} (hall : HallOf RoomValue Cache ViewValue Q) (t : Txn) (p p' : RoomPass) → IsGoing hall t p → IsRoomPass hall p' → Renews (beginning_of hall) p p' → IsGoing hall t p'
+renews_goes hall t p p' g pass r = record {
+  pass = pass;
+  is_open = seen_law (beginning_of hall) t p p' r.sees g.pass.lawful pass.lawful (λ k low. ap (λ l. get_elem? l k) r.same_held) g.is_open;
+  room = ap (λ l. get_elem? l places.room) r.same_held ∙ g.room;
+  job = λ one. let was = sym r.number ∙ one in ((sees_law state_of).job (beginning_of hall) p p' pass.lawful was r.sees).job ∙ g.job was;
+}
+
+-- a transaction that holds nothing begins with an idle pass
+pub goes : {Q : Type 0} (hall : HallOf RoomValue Cache ViewValue Q) (t : Txn) (p : RoomPass) → IsAtRest hall p → IsFree t → IsGoing hall t p
+goes hall t p rest free = let idle = rest.idle in record {
+  pass = idle.0;
+  is_open = begins_law (beginning_of hall) t p free.lane free.turn free.is_blank free.none idle.0.lawful (λ k low. let lt = near k low in idle.1 k (omega (arith, lt)));
+  room = idle.1 places.room (le_refl places.room);
+  job = idle.2;
+}

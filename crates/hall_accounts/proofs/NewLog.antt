@@ -1,0 +1,94 @@
+-- A new disk has no parts, and a room on it stands for what it shows.
+use Rattle.std.proofs.Common.{◌≡◌, ℕ, zero, suc, ◌+◌, ◌≤◌, false, List, [], length, Option, None, Some, Ok, refl, sym, ap, subst, ◌∙◌, arith, le_refl, ne_eqb}
+use Rattle.std.specs.Prelude.{if◌then◌else◌, option_map, replicate}
+use Rattle.std.specs.List.{list_all}
+use Rattle.fine_model.specs.Boards.{is_empty}
+use Rattle.fine_model.specs.declared.Row.{Row}
+use Rattle.fine_model.specs.declared.Part.{Part}
+use Rattle.fine_model.specs.Buckets.{Began}
+use Rattle.fine_model.specs.declared.Node.TheVariants as node
+use Rattle.fine_model.specs.declared.law.Origin.{Origin}
+use Rattle.fine_model.specs.Nodes.{content, replay}
+use Rattle.fine_model.specs.Regions.{region_of, is_sealed}
+use Rattle.fine_model.specs.Pushed.{and_then}
+use Rattle.fine_model.specs.Trees.{IsSound, IsSubtree, is_distinct, nodes_of, reached}
+use Rattle.fine_model.specs.Chain.{AreRowsOf, Shows, parts_from, apart, chain_of, chain, taken}
+use Rattle.log_partition.proofs.Heads.{in_closed}
+use Rattle.log_disk.specs.Disk.{Disk, Told, zeros, told_anew, new_disk}
+use Rattle.epoch_room.specs.Meaning.{Stands, StandsAtFirst, origin_of}
+use Rattle.epoch_room.specs.Value.{RoomValue, made}
+use Rattle.epoch_room.specs.Whole.{AreParts}
+use Rattle.hall_rooms.specs.Opening.{StandsAlone}
+use Rattle.hall_accounts.specs.Halls.{IsNewRoom}
+
+zero_gate : (len : ℕ) → is_sealed (replicate len 0) ≡ false
+zero_gate zero = refl
+zero_gate (suc len) = refl
+
+no_parts : (region_len regions len region k : ℕ) → parts_from region_len regions region (replicate k (replicate len 0)) ≡ Ok []
+unfolding parts_from
+no_parts region_len regions len region zero = refl
+no_parts region_len regions len region (suc k) = rw (in_closed region_len regions region (replicate len 0) (zero_gate len)) (no_parts region_len regions len (region + 1) k)
+
+no_chain : (regions len : ℕ) → chain len (zeros regions len) ≡ Ok []
+unfolding chain apart chain_of taken
+no_chain regions len = ap (λ r. and_then (and_then r apart) chain_of) (no_parts len (length (zeros regions len)) len 0 regions)
+
+zero_region : (k len r : ℕ) → is_sealed (region_of (replicate k (replicate len 0)) r) ≡ false
+zero_region zero len r = refl
+zero_region (suc k) len zero = zero_gate len
+zero_region (suc k) len (suc r) = zero_region k len r
+
+pub new_parts : (regions len : ℕ) → AreParts (new_disk regions len (Some (told_anew (zeros regions len)))) [] []
+unfolding is_distinct
+new_parts regions len = record {
+  in_chain = record { follow = tt };
+  apart = record { distinct = refl; below = tt };
+  lie = tt;
+  rising = tt;
+  told = record { is_chain = no_chain regions len; leads = λ r h. zero_region regions len r; headers = tt };
+}
+
+unused : (bucket n : ℕ) → 2 ≤ n → nodes_of [] bucket n ≡ (node.Leaf [], 0)
+unfolding content replay
+unused bucket n least = ap (λ b. if b then (node.Head 1 2 1, 0) else (node.Leaf [], 0)) (ne_eqb n 0 (λ e. omega (arith, e, least)))
+
+none_sound : IsSound []
+unfolding content replay IsSubtree reached is_distinct
+none_sound = record { fit = λ bucket low. record { deep = le_refl 1; subtree = refl; distinct = refl; below = (omega arith, tt); unused = unused bucket } }
+
+shows_none : (regions len : ℕ) → Shows len (zeros regions len) 0 []
+unfolding AreRowsOf
+shows_none regions len = record { parts = []; is_chain = no_chain regions len; ends = refl; are_rows = refl }
+
+began_none : (regions len : ℕ) → Began (origin_of (new_disk regions len (Some (told_anew (zeros regions len))))) 0 []
+unfolding origin_of
+began_none regions len = record { image = zeros regions len; told = refl; shows = shows_none regions len; sound = none_sound }
+
+-- what an untouched log shows, where it is told
+alone : (disk : Disk) (room : RoomValue) → room.entry ≡ disk → room.room.region_len ≡ disk.region_len → StandsAtFirst room disk.told → StandsAlone room
+unfolding origin_of
+alone disk room entry len at e first began = by disk.told refl at
+  where
+    image : option_map (λ (told : Told). told.bytes) disk.told ≡ Some began.image
+    image = ap (λ (d : Disk). option_map (λ (told : Told). told.bytes) d.told) (sym entry) ∙ began.told
+
+    shows : Shows room.room.region_len began.image e first
+    shows = subst (λ n. Shows n began.image e first) (ap (λ (d : Disk). d.region_len) entry ∙ sym len) began.shows
+
+    by : (told : Option Told) → disk.told ≡ told → StandsAtFirst room told → Stands room first e []
+    by None is first_stands = let none = ap (option_map (λ (t : Told). t.bytes)) (sym is) ∙ image in absurd cc
+    by (Some told) is first_stands =
+        let some : ◌≡◌ {A = Option _} (Some told.bytes) (Some began.image) = ap (option_map (λ (t : Told). t.bytes)) (sym is) ∙ image in
+        let same : began.image ≡ told.bytes = cc in
+        first_stands e first (subst (λ i. Shows room.room.region_len i e first) same shows)
+
+pub is_new : (regions len : ℕ) (disk : Disk) (parts retired : List Part) (room : RoomValue) → disk ≡ new_disk regions len (Some (told_anew (zeros regions len))) → room ≡ made disk parts retired → StandsAtFirst room disk.told → IsNewRoom room
+is_new regions len disk parts retired room fresh is at = record {
+  board = ap (λ (r : RoomValue). list_all is_empty r.room.board) is;
+  job = ap (λ (r : RoomValue). r.room.job) is;
+  places = ap (λ (r : RoomValue). r.room.places) is;
+  waiting = ap (λ (r : RoomValue). r.room.waiting) is;
+  stands = alone disk room (ap (λ (r : RoomValue). r.entry) is) (ap (λ (r : RoomValue). r.room.region_len) is) at;
+  new = subst (λ d. Began (origin_of d) 0 []) (sym (ap (λ (r : RoomValue). r.entry) is ∙ fresh)) (began_none regions len);
+}

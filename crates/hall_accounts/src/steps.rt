@@ -1,0 +1,154 @@
+//! Steps of transactions of a seat, with what each answers.
+
+ghost use Rattle.std.specs.Prelude.{◌≡◌, IfSome};
+ghost use Rattle.fine_model.specs.Bounds.{FitsCall};
+ghost use Rattle.hall_accounts.specs.Going.{IsAtRest, IsFree, IsGoing};
+
+use crate::accounts::{balance_of, get_of, put_of, scan_of, sum_of};
+use crate::transfers::{Ended, answer, commit, give_up, show};
+use epoch_room::RoomFault;
+use fine_hall::Pass;
+use fine_model::{Call, Reply};
+use log_disk::{MemDisk, MemEye};
+use partition_hold::View;
+use std::alloc::Global;
+use std::sync::Wait;
+use txn_engine::{CommitFault, RoomHall, Space, Txn, TxnFault};
+
+/// A pass with its transaction.
+#[derive(Drop)]
+pub struct Seat {
+    pub pass: Pass<View<MemEye>>,
+    pub txn: Txn,
+}
+
+/// A step of a seat.
+#[derive(Clone, Copy, Debug, PartialEq, Eq)]
+pub enum Step {
+    Get(u8),
+    Put(u8, u8),
+    Scan,
+    /// Commits, or takes back what is open.
+    Commit,
+    /// Commits, or leaves open what is open.
+    TryCommit,
+    Abort,
+    /// Takes back what is open, seals what waits, and posts views of it.
+    Show,
+}
+
+/// What a step answers.
+#[derive(Clone, Copy, Debug, PartialEq, Eq)]
+pub enum Told {
+    Balance(u8),
+    Sum(u64),
+    Stored,
+    Refused(TxnFault),
+    /// The place and the epoch of the entry.
+    Committed(u64, u64),
+    NoPlace(CommitFault),
+    Aborted,
+    /// The sealed epoch.
+    Shown(u64),
+    NotShown(RoomFault),
+    Room(Space),
+    NoRoom,
+}
+
+fn told_by(reply: Option<&Reply>) -> Told {
+    match reply {
+        Some(Reply::Found { pairs: _ }) => Told::Sum(sum_of(reply)),
+        Some(Reply::Stored) => Told::Stored,
+        _ => Told::Balance(balance_of(reply)),
+    }
+}
+
+fn ask(hall: &RoomHall<MemDisk>, seat: &mut Seat, asked: Option<Call>) -> Told
+    requires going { IsGoing hall.now seat.old.txn seat.old.pass }
+    requires asked { IfSome asked FitsCall }
+    ensures going { IsGoing hall.now seat.new.txn seat.new.pass × (seat.new.pass.number ≡ seat.old.pass.number) }
+{
+    match answer(&mut seat.txn, hall, &mut seat.pass, asked) {
+        Ok(()) => told_by(seat.txn.replies().last()),
+        Err(fault) => Told::Refused(fault),
+    }
+}
+
+fn told_of(ended: Ended) -> Told {
+    match ended {
+        Ended::Committed(done) => Told::Committed(done.stamp.place, done.stamp.epoch),
+        Ended::Refused(fault) => Told::Refused(fault),
+        Ended::NoPlace(cause) => Told::NoPlace(cause),
+    }
+}
+
+fn end<W: Wait>(rt: &W, hall: &RoomHall<MemDisk>, seat: &mut Seat) -> Told
+    requires going { IsGoing hall.now seat.old.txn seat.old.pass }
+    ensures going { IsGoing hall.now seat.new.txn seat.new.pass × (seat.new.pass.number ≡ seat.old.pass.number) }
+{
+    told_of(commit(rt, &mut seat.txn, hall, &mut seat.pass, 0))
+}
+
+/// Commits. Where that is refused, what is open stays open.
+fn try_commit<W: Wait>(rt: &W, hall: &RoomHall<MemDisk>, seat: &mut Seat) -> Told
+    requires going { IsGoing hall.now seat.old.txn seat.old.pass }
+    ensures going { IsGoing hall.now seat.new.txn seat.new.pass × (seat.new.pass.number ≡ seat.old.pass.number) }
+{
+    if seat.txn.failed() {
+        return Told::Refused(TxnFault::NoMemory);
+    }
+    match seat.txn.commit(rt, hall, &mut seat.pass, 0) {
+        Ok(done) => Told::Committed(done.stamp.place, done.stamp.epoch),
+        Err(cause) => Told::NoPlace(cause),
+    }
+}
+
+/// Takes back what is open.
+pub fn take_back(hall: &RoomHall<MemDisk>, seat: &mut Seat)
+    requires going { IsGoing hall.now seat.old.txn seat.old.pass }
+    ensures idle { IsAtRest hall.now seat.new.pass × (seat.new.pass.number ≡ seat.old.pass.number) }
+    ensures free { IsFree seat.new.txn }
+{
+    give_up(&mut seat.txn, hall, &mut seat.pass, 0);
+}
+
+fn abort(hall: &RoomHall<MemDisk>, seat: &mut Seat) -> Told
+    requires going { IsGoing hall.now seat.old.txn seat.old.pass }
+    ensures going { IsGoing hall.now seat.new.txn seat.new.pass × (seat.new.pass.number ≡ seat.old.pass.number) }
+{
+    take_back(hall, seat);
+    Told::Aborted
+}
+
+fn show_now<W: Wait>(rt: &W, hall: &RoomHall<MemDisk>, seat: &mut Seat) -> Told
+    requires going { IsGoing hall.now seat.old.txn seat.old.pass }
+    ensures going { IsGoing hall.now seat.new.txn seat.new.pass × (seat.new.pass.number ≡ seat.old.pass.number) }
+{
+    take_back(hall, seat);
+    match show(rt, hall, &mut seat.pass) {
+        Ok(epoch) => Told::Shown(epoch),
+        Err(fault) => Told::NotShown(fault),
+    }
+}
+
+/// A step of a seat.
+pub fn take<W: Wait>(
+    rt: &W,
+    alloc: Global,
+    hall: &RoomHall<MemDisk>,
+    seat: &mut Seat,
+    step: Step,
+) -> Told
+    requires going { IsGoing hall.now seat.old.txn seat.old.pass }
+    ensures going { IsGoing hall.now seat.new.txn seat.new.pass × (seat.new.pass.number ≡ seat.old.pass.number) }
+{
+    match step {
+        Step::Get(account) => ask(hall, seat, get_of(alloc, account)),
+        Step::Put(account, balance) => ask(hall, seat, put_of(alloc, account, balance)),
+        Step::Scan => ask(hall, seat, scan_of(alloc)),
+        Step::Commit => end(rt, hall, seat),
+        Step::TryCommit => try_commit(rt, hall, seat),
+        Step::Abort => abort(hall, seat),
+        Step::Show => show_now(rt, hall, seat),
+    }
+}

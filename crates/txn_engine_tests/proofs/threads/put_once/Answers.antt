@@ -1,7 +1,0 @@
-use Rattle.std.proofs.Common.{sym, ap, ◌∙◌}
-use Rattle.txn_engine_tests.specs.Doing.{commits_of}
-use Rattle.txn_engine_tests.proofs.Doing.{mine_kept}
-use Rattle.txn_engine_tests.proofs.threads.put_once.Goals as goal
-
-pub returns-clause-mine : goal.returns-clause-mine
-returns-clause-mine g c = mine_kept c.args.pass.now c.run-ended.new.pass c.reserve.new.self.items c.keep.new.kept.items c.run-ended.result (c.requires.mine ∙ ap commits_of (sym c.reserve.ensures.items)) c.run-ended.ensures.adds c.keep.ensures

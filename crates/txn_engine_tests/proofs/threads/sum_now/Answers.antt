@@ -1,5 +1,0 @@
-use Rattle.txn_engine_tests.proofs.Gone.{goes}
-use Rattle.txn_engine_tests.proofs.threads.sum_now.Goals as goal
-
-pub answer-answered-requires-clause-going : goal.answer-answered-requires-clause-going
-answer-answered-requires-clause-going g c κs within = goes c.args.hall.now c.in-Some.txn c.args.pass.now c.requires.idle c.in-Some.ensures

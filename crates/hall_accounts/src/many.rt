@@ -40,7 +40,11 @@ fn repeat<D: LogDisk, W: Wait>(
     }
 }
 
-/// So many transactions of one put in the account of the pass's number.
+/// How far the accounts of two passes lie apart, so that the words of their buckets share no cache line, as those of two of 256 buckets mostly do
+/// not. The account of the greatest seat is 252.
+const APART: u8 = 14;
+
+/// So many transactions of one put in an account that is the pass's own.
 pub fn puts<D: LogDisk, W: Wait>(
     rt: &W,
     alloc: Global,
@@ -55,7 +59,7 @@ pub fn puts<D: LogDisk, W: Wait>(
     let Some(mut txn) = fresh(alloc, seat) else {
         return pass;
     };
-    let Some(call) = put_of(alloc, seat, 1) else {
+    let Some(call) = put_of(alloc, seat.saturating_mul(APART), 1) else {
         return pass;
     };
     repeat(rt, &mut txn, hall, &mut pass, call, times);

@@ -62,6 +62,3 @@ pub fn run_plain(alloc: Global, script: &[u8]) -> Result<Vec<u8>, NoMemory>
         Err(ScriptFault::Read) => unreachable!(),
     }
 }
-
-#[cfg(test)]
-mod tests;

@@ -3,8 +3,10 @@
 ghost use Rattle.std.specs.Prelude.{IfOk};
 ghost use Rattle.plain_model.specs.Place.{Ascends};
 
-use super::{answer_call, answer_calls, pairs_between, put_pair, remove_pair, run_plain, value_of};
 use fine_model::{Bytes, Call, Items, NoMemory, Pairs, Reply};
+use plain_model::{
+    answer_call, answer_calls, pairs_between, put_pair, remove_pair, run_plain, value_of,
+};
 use std::alloc::Global;
 
 #[test]

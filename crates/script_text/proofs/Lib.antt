@@ -14,3 +14,4 @@ pub mod NoFeedScripts
 pub mod NoFeedRuns
 pub mod Summing
 pub mod Making
+pub mod Feeding

@@ -18,6 +18,10 @@ pub record Adds (added : Bool) (line : Line) (old new : Reading) : Type 0 where
 abbrev pub IsOneLine : List ℕ → Type 0
 IsOneLine bytes = All (λ b. b ≢ 10) bytes
 
+-- bytes went from the front of a chunk behind a line, and what ended them was left out
+abbrev pub MovesLine : List ℕ → List ℕ → List ℕ → List ℕ → List ℕ → Type 0
+MovesLine stop line line' chunk chunk' = (piece : List ℕ) × (line' ≡ line ++ piece) × (chunk ≡ piece ++ stop ++ chunk')
+
 -- how a line was taken from the bytes that were ahead
 abbrev pub EndsLine : LineEnd → List ℕ → Option (List ℕ) → Option (List ℕ) → Type 0
 EndsLine line_end.Feed line old new = (old ≡ before (line ++ 10 ∷ []) new) × (length line ≤ 512)

@@ -1,9 +1,9 @@
 //! Lines of a source.
 
-ghost use Rattle.std.specs.Prelude.{◌≡◌, ◌<◌, [], ◌∷◌, ◌++◌, length, IfOk, OnOk, MatchOption, IfSome, IsErr};
+ghost use Rattle.std.specs.Prelude.{◌≡◌, suc, ◌+◌, ◌<◌, ◌≤◌, true, false, [], ◌∷◌, ◌++◌, length, take, drop, IfOk, OnOk, MatchOption, IfSome, IsErr};
 ghost use Rattle.fine_model.specs.Faults.{CountsFault};
 ghost use Rattle.script_text.specs.Streams.{before};
-ghost use Rattle.script_text.specs.Reading.{IsOneLine, EndsLine};
+ghost use Rattle.script_text.specs.Reading.{IsOneLine, EndsLine, MovesLine};
 
 use super::{Failed, Source};
 use std::marker::Model;
@@ -51,6 +51,52 @@ impl Chunk {
         let byte = self.bytes[self.from];
         self.from += 1;
         Some(byte)
+    }
+
+    fn is_empty(&self) -> bool
+        ensures yes { result ≡ true → self.now ≡ [] }
+        ensures no { result ≡ false → 0 < length self.now }
+    {
+        self.from == self.end
+    }
+
+    /// The first of those that were taken, so many at most.
+    fn front(&self, most: usize) -> &[u8]
+        ensures { result.now ≡ take most self.now }
+    {
+        let len = most.min(self.end - self.from);
+        &self.bytes[self.from..self.from + len]
+    }
+
+    /// Leaves out the first of those that were taken.
+    fn skip(&mut self, count: usize)
+        requires { count ≤ length self.old }
+        ensures { self.new ≡ drop count self.old }
+    {
+        self.from += count;
+    }
+
+    /// Takes the bytes before the first line feed to the end of a line, as many as it has room for. Says whether the feed was found behind them, which is
+    /// taken too.
+    fn move_line(&mut self, line: &mut LineBytes) -> bool
+        requires some { 0 < length self.old }
+        requires room { length line.old < 513 }
+        requires one { IsOneLine line.old }
+        ensures one { IsOneLine line.new }
+        ensures feed { result ≡ true → MovesLine (10 ∷ []) line.old line.new self.old self.new }
+        ensures short { result ≡ true → length line.new ≤ 512 }
+        ensures none { result ≡ false → MovesLine [] line.old line.new self.old self.new }
+        ensures longer { result ≡ false → length line.old < length line.new }
+    {
+        let front = self.front(MOST_BYTES - line.len);
+        let len = feed_in(front);
+        line.extend(&front[..len]);
+        if len == front.len() {
+            self.skip(len);
+            return false;
+        }
+        self.skip(len + 1);
+        true
     }
 
     /// Takes more bytes from a source, where none are left.
@@ -127,13 +173,28 @@ impl LineBytes {
         self.len = 0;
     }
 
-    fn push(&mut self, byte: u8)
-        requires { length self.old < 513 }
-        ensures { self.new ≡ self.old ++ byte ∷ [] }
+    fn extend(&mut self, bytes: &[u8])
+        requires { length self.old + length bytes.now ≤ 513 }
+        ensures { self.new ≡ self.old ++ bytes.now }
     {
-        self.bytes[self.len] = byte;
-        self.len += 1;
+        let end = self.len + bytes.len();
+        self.bytes[self.len..end].copy_from_slice(bytes);
+        self.len = end;
     }
+}
+
+/// The place of the first line feed, or how many bytes there are.
+fn feed_in(bytes: &[u8]) -> usize
+    ensures within { result ≤ length bytes.now }
+    ensures before { IsOneLine (take result bytes.now) }
+    ensures feed { result < length bytes.now → drop result bytes.now ≡ 10 ∷ drop (suc result) bytes.now }
+{
+    for (i, byte) in bytes.iter().enumerate() {
+        if *byte == b'\n' {
+            return i;
+        }
+    }
+    bytes.len()
 }
 
 /// Takes the next line, with no more than 513 bytes of it.
@@ -147,11 +208,15 @@ pub(crate) fn next_line<S: Source>(
     ensures counts { CountsFault (IsErr result) (S.faults source.old) (S.faults source.new) }
 {
     line.clear();
-    for _ in 0..MOST_BYTES {
-        match chunk.next(source)? {
-            None => return Ok(LineEnd::Input),
-            Some(b'\n') => return Ok(LineEnd::Feed),
-            Some(byte) => line.push(byte),
+    while line.len < MOST_BYTES {
+        if chunk.is_empty() {
+            chunk.fill(source)?;
+            if chunk.is_empty() {
+                return Ok(LineEnd::Input);
+            }
+        }
+        if chunk.move_line(line) {
+            return Ok(LineEnd::Feed);
         }
     }
     Ok(LineEnd::TooLong)

@@ -16,6 +16,7 @@ pub struct Frames {
 }
 
 /// With the frame of a row behind them.
+#[inline(always)]
 pub(crate) fn with_frame(frames: Option<Frames>, frame: Frame) -> Frames
     ensures { result ≡ with_frame frames frame }
 {

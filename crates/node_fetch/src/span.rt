@@ -87,6 +87,7 @@ fn rows_in(
 
 /// Finds so many rows of a node in bytes, and answers what their frames tell. It takes no memory. The fault is the place where none
 /// stands, or where bytes are left behind the last one.
+#[inline(always)]
 fn frames_in(bytes: &[u8], node: NodeId, count: u32, mark: Mark) -> Result<Option<Frames>, usize>
     ensures found { IfOk result (FramesAll mark bytes.now node count) }
     ensures bad { IfErr result (IsStop mark bytes.now node count) }
@@ -151,6 +152,7 @@ pub fn rows_of_span(
 ///
 /// It is refused where `rows_of_span` is, but never for want of memory: `BadRow` is the only fault. What holds of the rows of
 /// `rows_of_span` holds of the rows that the bytes spell. There is nothing to tell where the entry counts no row.
+#[inline(always)]
 pub fn frames_of_span(
     part: &Part,
     node: NodeId,

@@ -90,6 +90,7 @@ impl Buffer {
     }
 
     /// How many bytes there are.
+    #[inline(always)]
     pub(crate) fn len(&self) -> usize
         ensures { result ≡ length self.now }
     {
@@ -97,6 +98,7 @@ impl Buffer {
     }
 
     /// The bytes.
+    #[inline(always)]
     pub(crate) fn as_slice(&self) -> &[u8]
         ensures { result.now ≡ self.now }
     {

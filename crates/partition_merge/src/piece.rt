@@ -51,6 +51,7 @@ pub(crate) struct Found {
 const PUT: u8 = 4;
 
 /// Whether bytes begin with the kind of a row that puts a pair.
+#[inline(always)]
 pub(crate) fn is_put(bytes: &[u8]) -> bool
     ensures { result ≡ begins_with_put bytes.now }
 {
@@ -61,6 +62,7 @@ pub(crate) fn is_put(bytes: &[u8]) -> bool
 }
 
 /// The span of a piece, if there is one.
+#[inline(always)]
 pub(crate) fn span_of(piece: &Option<Piece>) -> Option<Span>
     ensures { result ≡ span_of piece.now }
 {
@@ -71,6 +73,7 @@ pub(crate) fn span_of(piece: &Option<Piece>) -> Option<Span>
 }
 
 /// The number of rows of a piece, if there is one.
+#[inline(always)]
 fn rows_in(piece: &Option<Piece>) -> u32
     ensures { result ≡ piece_rows piece.now }
 {
@@ -81,6 +84,7 @@ fn rows_in(piece: &Option<Piece>) -> u32
 }
 
 /// The number of bytes of a piece, if there is one.
+#[inline(always)]
 fn len_of(piece: &Option<Piece>) -> u32
     ensures { result ≡ piece_len piece.now }
 {
@@ -91,6 +95,7 @@ fn len_of(piece: &Option<Piece>) -> u32
 }
 
 /// The number of bytes of an older piece and of a newer one, or the greatest of 32 bits where it is above that.
+#[inline(always)]
 pub(crate) fn both_len(older: &Option<Piece>, newer: &Option<Piece>) -> u32
     ensures { result ≡ both_len older.now newer.now }
 {
@@ -98,6 +103,7 @@ pub(crate) fn both_len(older: &Option<Piece>, newer: &Option<Piece>) -> u32
 }
 
 /// Whether the rows of an older piece and those of a newer one behind them are in order.
+#[inline(always)]
 fn both_ascend(older: &Option<Piece>, newer: &Option<Piece>) -> bool
     ensures { result ≡ both_ascend older.now newer.now }
 {
@@ -113,6 +119,7 @@ fn both_ascend(older: &Option<Piece>, newer: &Option<Piece>) -> bool
 
 /// Whether an image may stand for so many rows that begin with a piece. They begin with an image or with version 1, and are no single row
 /// for which no other one stands: an image stands for itself, and that of one pair is longer than the row that puts it.
+#[inline(always)]
 fn may_fold_from(count: u32, piece: &Piece) -> bool
     ensures { result ≡ may_fold_from count piece.now }
 {
@@ -137,6 +144,7 @@ pub(crate) fn may_fold(older: &Option<Piece>, newer: &Option<Piece>) -> bool
 
 impl Tally {
     /// That of the rows of an older piece and of a newer one behind them.
+    #[inline(always)]
     pub(crate) fn of_both(node: NodeId, older: &Option<Piece>, newer: &Option<Piece>) -> Tally
         ensures { result ≡ tally_of node older.now newer.now }
     {
@@ -168,6 +176,7 @@ impl Tally {
 
 impl Found {
     /// What is told of the rows, which are let go.
+    #[inline(always)]
     pub(crate) fn into_tally(self) -> Tally
         ensures { result ≡ self.tally }
     {

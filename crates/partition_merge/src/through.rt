@@ -27,6 +27,7 @@ pub(crate) struct NumberedEntry {
 }
 
 // An entry of a part's index, by its number.
+#[inline(always)]
 fn read_entry<E: LogEye>(
     index: &mut Window,
     eye: &mut E,
@@ -63,6 +64,7 @@ fn read_entry<E: LogEye>(
 }
 
 // An entry of a part's index, by its number: the one that was read before, if it has this number.
+#[inline(always)]
 fn next_entry<E: LogEye>(
     index: &mut Window,
     next: Option<NumberedEntry>,
@@ -96,6 +98,7 @@ fn next_entry<E: LogEye>(
 }
 
 // The end of the span of an entry: the offset of the next one, which is kept, or the end of the rows.
+#[inline(always)]
 fn end_of<E: LogEye>(
     index: &mut Window,
     next: &mut Option<NumberedEntry>,
@@ -136,6 +139,7 @@ fn end_of<E: LogEye>(
 ///
 /// `BadIndex` comes only with the place of an entry, which is bad by the bytes that the eye tells. Where entries are asked for in their
 /// order, each is read once.
+#[inline(always)]
 pub(crate) fn read_head<E: LogEye>(
     index: &mut Window,
     next: &mut Option<NumberedEntry>,

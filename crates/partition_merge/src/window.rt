@@ -59,6 +59,7 @@ impl Window {
     }
 
     // Whether the bytes of a range stand in the window.
+    #[inline(always)]
     fn has(&self, at: u32, len: u32) -> bool
         requires small { window_end self.now < 4294967296 }
         requires within { at + len < 4294967296 }

@@ -1,5 +1,7 @@
 -- Rows of one node that stay in the windows of two parts: what is told of them, and what they are merged into.
 use Rattle.std.proofs.Common.{◌≡◌, ℕ, ◌+◌, ◌-◌, ◌≤◌, min, nat_le, nat_lt, Bool, true, false, cond, not, ◌==◌, ◌&&◌, ◌||◌, List, [], ◌∷◌, ◌++◌, length, drop, Option, Some, None, refl, sym, ap, ◌∙◌, subst, arith, eqb-true, append-nil, append_assoc, length-append, length-drop, length-take, true≢false}
+use Rattle.std.specs.Box.{box_value}
+use Rattle.std.specs.Global.{Box}
 use Rattle.std.specs.List.{AllByRecursion}
 use Rattle.std.proofs.lemmas.Bool.{lt-leb}
 use Rattle.std.proofs.lemmas.List.{nil_from_length}
@@ -257,10 +259,11 @@ both_found m id older newer a b found h k some stays tally is =
     }
 
 -- an image that stands for rows is spelled by itself
-pub image_found : (m : Merger) (id : NodeId) (older newer : Option Piece) (a b : List Row) (row : Row) (found : Found) → HoldsIn m.older id older a → HoldsIn m.newer id newer b → merged_of id (a ++ b) ≡ row ∷ [] → FitsRec row.rec
-    → row_len row ≤ 10356 → found.tally.node ≡ id → found.tally.rows ≡ 1 → found.tally.area ≡ row_len row → found.tally.ordered ≡ true → found.merged ≡ merged.Image row → IsMergedFrom m id (a ++ b) found
+pub image_found : (m : Merger) (id : NodeId) (older newer : Option Piece) (a b : List Row) (image : Box Row) (found : Found) → HoldsIn m.older id older a → HoldsIn m.newer id newer b → merged_of id (a ++ b) ≡ box_value image ∷ [] → FitsRec (box_value image).rec
+    → row_len (box_value image) ≤ 10356 → found.tally.node ≡ id → found.tally.rows ≡ 1 → found.tally.area ≡ row_len (box_value image) → found.tally.ordered ≡ true → found.merged ≡ merged.Image image → IsMergedFrom m id (a ++ b) found
 unfolding rows_bytes
-image_found m id older newer a b row found h k joined fits short node rows area ordered is =
+image_found m id older newer a b image found h k joined fits short node rows area ordered is =
+    let row = box_value image in
     let own : AllByRecursion (λ r. r.node ≡ id) (row ∷ []) = subst (AllByRecursion (λ r. r.node ≡ id)) joined
     (merged_own id (a ++ b) (all_append (λ r. r.node ≡ id) a b (all_own m.older.part m.older.ahead.rows id older a h) (all_own m.newer.part m.newer.ahead.rows id newer b k))) in
     record {

@@ -1,5 +1,6 @@
 -- Rows of one node that stay where they were read: in the windows on the rows of two parts.
 use Rattle.std.specs.Prelude.{◌≡◌, ℕ, ◌+◌, ◌-◌, ◌≤◌, ◌==◌, nat_lt, not, Bool, true, false, ◌&&◌, ◌||◌, List, [], ◌∷◌, ◌++◌, length, min, take, drop, Option, Some, None, option_map}
+use Rattle.std.specs.Box.{box_value}
 use Rattle.std.specs.List.{AllByRecursion}
 use Rattle.log_disk.specs.Disk.{Eye}
 use Rattle.fine_model.specs.declared.NodeId.{NodeId}
@@ -151,12 +152,12 @@ tallied tally offset = record { node = tally.node; offset = offset; rows = tally
 
 -- the bytes of merged rows: those of the image, or those that stand in both windows
 abbrev pub merged_bytes : Merger → Merged → List ℕ
-merged_bytes merger (merged.Image row) = row_bytes row
+merged_bytes merger (merged.Image image) = row_bytes (box_value image)
 merged_bytes merger (merged.Both older newer) = span_bytes merger.older.ahead.rows older ++ span_bytes merger.newer.ahead.rows newer
 
 -- they can be spelled
 abbrev pub CanSpell : Merger → Merged → Type 0
-CanSpell merger (merged.Image row) = FitsRec row.rec
+CanSpell merger (merged.Image image) = FitsRec (box_value image).rec
 CanSpell merger (merged.Both older newer) = StandsIn merger.older.ahead.rows older × StandsIn merger.newer.ahead.rows newer
 
 -- what was found is what some rows of a node are merged into

@@ -1,6 +1,7 @@
 //! Going over two parts node by node, in blocks.
 
-ghost use Rattle.std.specs.Prelude.{◌≡◌, ℕ, ◌+◌, ◌<◌, ◌≤◌, ◌++◌, IfOk, IfSome, IsErrOf, List, MatchResult, None, Ok, OnOk, Option, Some, length, vec_capacity, vec_len};
+ghost use Rattle.std.specs.Prelude.{◌≡◌, ℕ, ◌+◌, ◌<◌, ◌≤◌, ◌++◌, IfOk, IfSome, IsErrOf, List, MatchResult, None, Ok, OnOk, Option, Some, length, option_map, vec_capacity, vec_len};
+ghost use Rattle.std.specs.Box.{box_value};
 ghost use Rattle.fine_model.specs.declared.FetchFault.TheVariants as fetch_fault;
 ghost use Rattle.fine_model.specs.declared.Row.{Row};
 ghost use Rattle.fine_model.specs.Regions.{Image};
@@ -57,6 +58,36 @@ impl Pass {
         })
     }
 
+    // The image that the rows of a node in both windows fold to, if they fold. Few nodes may have one, so this stands apart: the others do not pay for
+    // its place on the stack.
+    #[cold]
+    #[inline(never)]
+    fn read_image(
+        &self,
+        alloc: Global,
+        node: NodeId,
+        older: Option<Piece>,
+        newer: Option<Piece>,
+    ) -> Result<Option<Box<Row>>, NoMemory>
+        requires older_lies { LiesIn self.now.region_len (older_part self.now).header }
+        requires newer_lies { LiesIn self.now.region_len (newer_part self.now).header }
+        requires older { HasRows self.now.older node older }
+        requires newer { HasRows self.now.newer node newer }
+        ensures image { (a b : List Row) → HoldsIn self.now.older node older a → HoldsIn self.now.newer node newer b → IfOk result (λ image. merged_of node (a ++ b) ≡ one_or (option_map box_value image) (a ++ b)) }
+        ensures fit { IfOk result (λ image. IfSome image (λ boxed. FitsRec (box_value boxed).rec)) }
+    {
+        let len = both_len(&older, &newer);
+        let older = self.older.rows(alloc, node, older, self.region_len)?;
+        let newer = self.newer.rows(alloc, node, newer, self.region_len)?;
+        let Some(image) = folded_moved(alloc, node, older, newer, len)? else {
+            return Ok(None);
+        };
+        match Box::new(alloc, image) {
+            Ok(boxed) => Ok(Some(boxed)),
+            Err(_) => Err(NoMemory),
+        }
+    }
+
     // The image that stands for the rows of a node in both windows, where one does.
     #[inline(always)]
     fn image(
@@ -65,21 +96,18 @@ impl Pass {
         node: NodeId,
         older: &Option<Piece>,
         newer: &Option<Piece>,
-    ) -> Result<Option<Row>, NoMemory>
+    ) -> Result<Option<Box<Row>>, NoMemory>
         requires older_lies { LiesIn self.now.region_len (older_part self.now).header }
         requires newer_lies { LiesIn self.now.region_len (newer_part self.now).header }
         requires older { HasRows self.now.older node older.now }
         requires newer { HasRows self.now.newer node newer.now }
-        ensures image { (a b : List Row) → HoldsIn self.now.older node older.now a → HoldsIn self.now.newer node newer.now b → IfOk result (λ image. merged_of node (a ++ b) ≡ one_or image (a ++ b)) }
-        ensures fit { IfOk result (λ image. IfSome image (λ row. FitsRec row.rec)) }
+        ensures image { (a b : List Row) → HoldsIn self.now.older node older.now a → HoldsIn self.now.newer node newer.now b → IfOk result (λ image. merged_of node (a ++ b) ≡ one_or (option_map box_value image) (a ++ b)) }
+        ensures fit { IfOk result (λ image. IfSome image (λ boxed. FitsRec (box_value boxed).rec)) }
     {
         if !may_fold(older, newer) {
             return Ok(None);
         }
-        let len = both_len(older, newer);
-        let older = self.older.rows(alloc, node, *older, self.region_len)?;
-        let newer = self.newer.rows(alloc, node, *newer, self.region_len)?;
-        folded_moved(alloc, node, older, newer, len)
+        self.read_image(alloc, node, *older, *newer)
     }
 
     // What the rows of a node in both windows are merged into. They stay there but where an image stands for them.
@@ -107,7 +135,7 @@ impl Pass {
             });
         };
         Ok(Found {
-            tally: Tally::of_image(node, &image),
+            tally: Tally::of_image(node, image.as_ref()),
             merged: Merged::Image(image),
         })
     }

@@ -30,10 +30,11 @@ pub(crate) struct Tally {
     pub(crate) ordered: bool,
 }
 
-/// What the rows of a node in two parts are merged into: an image, or the older rows and then the newer ones, which stand in the windows.
+/// What the rows of a node in two parts are merged into: an image, or the older rows and then the newer ones, which stand in the windows. It is
+/// moved for each node, and few nodes have an image, so this one is behind a pointer.
 #[derive(Drop)]
 pub(crate) enum Merged {
-    Image(Row),
+    Image(Box<Row>),
     Both {
         older: Option<Span>,
         newer: Option<Span>,

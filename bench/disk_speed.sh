@@ -8,9 +8,7 @@ work=$(mktemp -d)
 trap 'rm -rf "$work"' EXIT
 speed="$work/crates/disk_speed"
 mkdir -p "$work/crates" "$speed/src" "$speed/specs"
-cp -r "$top/crates/log_disk" "$work/crates/"
-cp "$top/HANDLES" "$work/"
-printf 'log_disk: thiserror\ndisk_speed: log_disk\n' > "$work/crates.txt"
+. "$top/bench/proved.sh"
 for function in write_all read_all look_all time_all; do mkdir -p "$speed/proofs/$function"; done
 : > "$speed/specs/Lib.antt"
 : > "$speed/proofs/Lib.antt"
@@ -205,8 +203,8 @@ int main(int argc, char **argv) {
 EOF
 
 gcc -O2 -o "$work/calls" "$work/calls.c"
+proved disk_speed log_disk
 cd "$speed"
-rt run -- "$work/disk.log" > "$work/out.txt" 2>&1 || { cat "$work/out.txt"; exit 1; }
 for turn in 1 2 3 4 5 6 7 8; do
   echo "$("$work/calls" "$work/c.log") $(out/disk_speed "$work/disk.log")"
 done | awk '

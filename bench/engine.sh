@@ -16,15 +16,7 @@ trap 'rm -rf "$work"' EXIT
 speed="$work/crates/engine_speed"
 count=50000
 mkdir -p "$speed/src" "$speed/specs" "$speed/proofs"
-below="fine_model log_disk node_record partition_index log_partition private_log node_cache btree_nodes txn_draft node_fetch partition_merge partition_hold epoch_room \
-fine_places fine_boxes fine_hall room_merges hall_rooms key_locks open_txn txn_engine hall_accounts"
-for name in $below; do
-  mkdir -p "$work/crates/$name"
-  for part in src specs proofs; do cp -r "$top/crates/$name/$part" "$work/crates/$name/"; done
-  grep "^$name[: ]" "$top/crates.txt" >> "$work/crates.txt"
-done
-cp "$top/HANDLES" "$work/"
-echo "engine_speed: epoch_room log_disk txn_engine hall_accounts" >> "$work/crates.txt"
+. "$top/bench/proved.sh"
 : > "$speed/specs/Lib.antt"
 : > "$speed/proofs/Lib.antt"
 
@@ -157,8 +149,8 @@ EOT
 
 gcc -O2 -pthread -o "$work/peer" "$work/peer.c"
 gcc -O2 -o "$work/used" "$work/used.c"
+proved engine_speed "epoch_room log_disk txn_engine hall_accounts"
 cd "$speed"
-rt run -- one 1 > "$work/out.txt" 2>&1 || { cat "$work/out.txt"; exit 1; }
 timed() { "$work/used" "$@" | tr '\n' ' '; }
 for turn in $(seq 1 9); do
   # a run without transactions shows what a hall costs, which is taken off

@@ -12,9 +12,9 @@ top=$(cd "$(dirname "$0")/.." && pwd)
 count=${1:-100000}
 work=$(mktemp -d)
 trap 'rm -rf "$work"' EXIT
-cd "$top/crates/fineline"
-printf '' | rt run -- "$work/none" default run > "$work/build" 2>&1 || { cat "$work/build"; exit 1; }
-fineline="$PWD/out/fineline"
+. "$top/bench/proved.sh"
+proved fineline
+fineline="$work/crates/fineline/out/fineline"
 
 cat > "$work/timed.c" <<'EOF'
 /* Runs a program on an input, and prints: wall and processor microseconds, resident kilobytes, bytes written by calls. */

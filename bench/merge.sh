@@ -13,14 +13,7 @@ memory=$(mktemp -d -p /dev/shm)
 trap 'rm -rf "$work" "$memory"' EXIT
 speed="$work/crates/merge_speed"
 mkdir -p "$speed/src" "$speed/specs"
-below="fine_model log_disk node_record partition_index log_partition private_log node_cache node_fetch partition_merge partition_hold epoch_room room_merges"
-for name in $below; do
-  mkdir -p "$work/crates/$name"
-  for part in src specs proofs; do cp -r "$top/crates/$name/$part" "$work/crates/$name/"; done
-  grep "^$name:" "$top/crates.txt" >> "$work/crates.txt"
-done
-cp "$top/HANDLES" "$work/"
-echo "merge_speed: fine_model log_disk partition_merge epoch_room room_merges" >> "$work/crates.txt"
+. "$top/bench/proved.sh"
 for function in rows_from no_parts both_parts room_of adopt merge; do mkdir -p "$speed/proofs/$function"; done
 : > "$speed/specs/Lib.antt"
 : > "$speed/proofs/Lib.antt"
@@ -404,8 +397,9 @@ EOF
 
 gcc -O2 -o "$work/calls" "$work/calls.c"
 gcc -O2 -static -o "$work/used" "$work/used.c"
+proved merge_speed "fine_model log_disk partition_merge epoch_room room_merges"
 cd "$speed"
-rt run -- "$work/filled.log" fill > "$work/out.txt" 2>&1 || { cat "$work/out.txt"; exit 1; }
+out/merge_speed "$work/filled.log" fill > /dev/null
 for place in "$work" "$memory"; do
   for turn in $(seq 1 13); do
     cp "$work/filled.log" "$place/c.log"

@@ -11,14 +11,7 @@ memory=$(mktemp -d -p /dev/shm)
 trap 'rm -rf "$work" "$memory"' EXIT
 speed="$work/crates/room_speed"
 mkdir -p "$speed/src" "$speed/specs"
-below="fine_model log_disk node_record partition_index log_partition private_log node_cache node_fetch partition_merge partition_hold epoch_room"
-for name in $below; do
-  mkdir -p "$work/crates/$name"
-  for part in src specs proofs; do cp -r "$top/crates/$name/$part" "$work/crates/$name/"; done
-  grep "^$name:" "$top/crates.txt" >> "$work/crates.txt"
-done
-cp "$top/HANDLES" "$work/"
-echo "room_speed: fine_model log_disk private_log epoch_room" >> "$work/crates.txt"
+. "$top/bench/proved.sh"
 mkdir -p "$speed/proofs/new_room" "$speed/proofs/seal"
 : > "$speed/specs/Lib.antt"
 : > "$speed/proofs/Lib.antt"
@@ -198,8 +191,8 @@ int main(int argc, char **argv) {
 EOF
 
 gcc -O2 -o "$work/calls" "$work/calls.c"
+proved room_speed "fine_model log_disk private_log epoch_room"
 cd "$speed"
-rt run -- "$work/room.log" > "$work/out.txt" 2>&1 || { cat "$work/out.txt"; exit 1; }
 for place in "$work" "$memory"; do
   for turn in $(seq 1 24); do
     rm -f "$place/c.log" "$place/room.log"

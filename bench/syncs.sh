@@ -8,9 +8,7 @@ work=$(mktemp -d)
 trap 'rm -rf "$work"' EXIT
 calls="$work/crates/disk_calls"
 mkdir -p "$calls/src" "$calls/specs" "$calls/proofs"
-cp -r "$top/crates/log_disk" "$work/crates/"
-cp "$top/HANDLES" "$work/"
-printf 'log_disk: thiserror\ndisk_calls: log_disk\n' > "$work/crates.txt"
+. "$top/bench/proved.sh"
 : > "$calls/specs/Lib.antt"
 : > "$calls/proofs/Lib.antt"
 
@@ -59,8 +57,8 @@ fdatasync
 pread64 1, 4101
 EOT
 
+proved disk_calls log_disk
 cd "$calls"
-rt run > "$work/build" 2>&1 || { cat "$work/build"; exit 1; }
 strace -o "$work/trace" -P "$work/log" -e trace=flock,ftruncate,fsync,fdatasync,pwrite64,pread64 ./out/disk_calls "$work/log"
 sed -E 's/^([a-z0-9]+)\([0-9]+(, "[^"]*")?(, )?(.*)\) += [0-9]+$/\1 \4/; s/ $//' "$work/trace" | grep -v '^+++' > "$work/found"
 diff "$work/wanted" "$work/found"

@@ -6,9 +6,9 @@ set -e
 top=$(cd "$(dirname "$0")/.." && pwd)
 work=$(mktemp -d)
 trap 'rm -rf "$work"' EXIT
-cd "$top/crates/fineline"
-printf 'txn 1\nput a 0\ncommit\n' | rt run -- "$work/other" default run > "$work/build" 2>&1 || { cat "$work/build"; exit 1; }
-fineline="$PWD/out/fineline"
+. "$top/bench/proved.sh"
+proved fineline
+fineline="$work/crates/fineline/out/fineline"
 
 mkfifo "$work/script"
 "$fineline" "$work/log" default run < "$work/script" > "$work/first" &

@@ -1,0 +1,119 @@
+//! One run of accounts on a disk in memory, and what a log then shows.
+
+ghost use Rattle.std.specs.Prelude.{◌≡◌, [], IfOk};
+ghost use Rattle.command_words.specs.Words.{IsGeometry};
+
+use fine_model::NoGate;
+use fine_top::{Finish, fineline};
+use log_disk::{FaultPlan, MemDisk};
+use script_text::{MemSink, MemSource};
+use std::alloc::Global;
+use std::process::Abort;
+use std::sync::Wait;
+use std::test::Fail;
+use std::thread::Threads;
+
+/// The greatest length of what is printed.
+const ROOM: usize = 4096;
+
+/// Three transactions over two accounts. Each is an epoch of its own where a group has one.
+pub const SCRIPT: &[u8] =
+    b"txn 1\nput acct:alice 100\nput acct:bob 50\ncommit\ntxn 1\nadd acct:alice -30\nadd acct:bob 30\ncommit\ntxn 1\nscan acct: acct; 10\ncommit\n";
+
+/// What a run of the script prints where no call fails.
+pub const WHOLE: &[u8] =
+    b"txn 1 commit 1 epoch 1\nput acct:alice\nput acct:bob\ntxn 2 commit 2 epoch 2\nadd acct:alice = 70\nadd acct:bob = 80\ntxn 3 commit 3 epoch 3\nscan acct: acct; 2\npair acct:alice = 70\npair acct:bob = 80\ndurable 3\n";
+
+/// The words of that run.
+pub const GROUPS_OF_ONE: &[&str] = &["run", "--group", "1"];
+
+/// What a run printed, and how it ended.
+#[derive(Drop)]
+pub struct Printed {
+    pub text: Vec<u8>,
+    pub finish: Finish<MemDisk>,
+}
+
+/// A new disk of eight regions of the least length, whose calls fail by a plan.
+pub fn new_disk(alloc: Global, plan: FaultPlan) -> Result<MemDisk, Fail>
+    ensures { IfOk result (λ disk. IsGeometry (disk.disk.regions, disk.disk.region_len) × (disk.disk.unsynced ≡ []) × (disk.disk.eyes ≡ [])) }
+{
+    Ok(MemDisk::new(alloc, 8, 4096, plan)?)
+}
+
+/// The disk after a crash, which has nothing unsynced, and of which no call fails.
+pub fn crash(disk: MemDisk, picks: &[u8]) -> Result<MemDisk, Fail>
+    requires geometry { IsGeometry (disk.disk.regions, disk.disk.region_len) }
+    requires no_eyes { disk.disk.eyes ≡ [] }
+    ensures { IfOk result (λ disk. IsGeometry (disk.disk.regions, disk.disk.region_len) × (disk.disk.unsynced ≡ []) × (disk.disk.eyes ≡ [])) }
+{
+    Ok(disk.crashed(picks)?)
+}
+
+/// Runs the program, where the call of this number of the source fails, and that of the sink; 0 is none.
+pub fn run<R: Threads + Wait + Sync>(
+    rt: &R,
+    alloc: Global,
+    texts: &[&str],
+    script: &[u8],
+    fails: (u64, u64),
+    disk: MemDisk,
+) -> Result<Printed, Fail>
+    requires geometry { IsGeometry (disk.disk.regions, disk.disk.region_len) }
+    requires synced { disk.disk.unsynced ≡ [] }
+    requires no_eyes { disk.disk.eyes ≡ [] }
+    ensures { IfOk result (λ printed. IsGeometry (printed.finish.disk.disk.regions, printed.finish.disk.disk.region_len) × (printed.finish.disk.disk.eyes ≡ [])) }
+{
+    let mut words = Vec::new(alloc);
+    for text in texts {
+        words.push(String::from_str(alloc, text)?)?;
+    }
+    let bytes = Vec::from_slice(alloc, script)?;
+    let mut source = MemSource::new(bytes, Vec::from_slice(alloc, &[fails.0])?);
+    let mut sink = MemSink::new(alloc, ROOM, Vec::from_slice(alloc, &[fails.1])?)?;
+    let finish = fineline(rt, alloc, &words, &mut source, &mut sink, disk, &NoGate);
+    let text = Vec::from_slice(alloc, sink.bytes())?;
+    Ok(Printed { text, finish })
+}
+
+/// Does a command on a log on which no call fails: what it prints, and the disk.
+pub fn obey<R: Threads + Wait + Sync>(
+    rt: &R,
+    alloc: Global,
+    command: &str,
+    disk: MemDisk,
+) -> Result<(Vec<u8>, MemDisk), Fail>
+    requires geometry { IsGeometry (disk.disk.regions, disk.disk.region_len) }
+    requires synced { disk.disk.unsynced ≡ [] }
+    requires no_eyes { disk.disk.eyes ≡ [] }
+    ensures { IfOk result (λ r. IsGeometry (r.1.disk.regions, r.1.disk.region_len) × (r.1.disk.unsynced ≡ []) × (r.1.disk.eyes ≡ [])) }
+{
+    let printed = run(rt, alloc, &[command], b"", (0, 0), disk)?;
+    if printed.finish.status != 0 {
+        return Err("a command failed")?;
+    }
+    Ok((printed.text, crash(printed.finish.disk, &[])?))
+}
+
+/// The digit behind the last line that begins with a word, if there is such a line.
+pub fn number_behind(text: &[u8], word: &[u8]) -> Option<u8> {
+    let mut found = None;
+    for at in 0..text.len() {
+        if text[at..].starts_with(word) {
+            let Some(digit) = text.get(at + word.len()) else {
+                return found;
+            };
+            found = Some(digit.wrapping_sub(b'0'));
+        }
+    }
+    found
+}
+
+/// What `dump` prints of a log that ends with an epoch.
+pub fn pairs_at(end: u8) -> &'static [u8] {
+    match end {
+        0 => b"pairs 0\n",
+        1 => b"pair acct:alice = 100\npair acct:bob = 50\npairs 2\n",
+        _ => b"pair acct:alice = 70\npair acct:bob = 80\npairs 2\n",
+    }
+}

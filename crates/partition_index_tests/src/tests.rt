@@ -4,7 +4,8 @@ ghost use Rattle.std.specs.Prelude.{◌≡◌, ◌<◌, ◌≤◌, ◌+◌, [], 
 ghost use Rattle.fine_model.specs.declared.Rec.TheVariants as rec;
 ghost use Rattle.partition_index.specs.Parts.{IsSeen};
 
-use fine_model::{Bytes, Header, Items, Mark, NodeId, Part, Range, Rec, Row, Rows};
+use crate::ONE_ROW;
+use fine_model::{Bytes, Header, Items, Mark, NodeId, Part, Rec, Row, Rows};
 use log_disk::{DiskRefusal, FaultPlan, LogDisk, MemDisk, MemEye};
 use partition_index::{
     IndexEntry, Indexer, SeekFault, Span, build, entry_at, entry_bytes, entry_of, place_of,
@@ -15,18 +16,21 @@ use std::test::Fail;
 
 const LEN: u64 = 16_384;
 
-// A thousand nodes of two bytes of rows each, the odd numbers of bucket 3.
+// A thousand nodes of two bytes of rows each, the odd numbers of bucket 3. Their entries stand at 2041 of the region.
 const THOUSAND: Part = Part {
     region: 0,
     header: Header {
-        mark: Mark::Two,
-        range: Range { first: 1, last: 1 },
         rows: 1000,
         nodes: 1000,
         area: 2000,
-        regions: 1,
-        more: [0; 7],
+        ..ONE_ROW
     },
+};
+
+// One row of 24 bytes, of node 1 of bucket 0x61: its entry stands behind it, at 65 of the region.
+const ALONE: Part = Part {
+    region: 0,
+    header: ONE_ROW,
 };
 
 // The span of the number of a node among the thousand.
@@ -82,14 +86,15 @@ fn an_index_is_written_row_by_row(rt: HostRuntime) -> Result<(), Fail> {
     Ok(())
 }
 
-// An eye on region 0 of a new disk, which holds bytes at 2041, behind the header and the rows.
-fn look(alloc: Global, bytes: &[u8]) -> Result<MemEye, DiskRefusal>
-    requires { 2041 + length bytes.now ≤ 16384 }
+// An eye on region 0 of a new disk, which holds bytes at a place.
+fn look(alloc: Global, at: u64, bytes: &[u8]) -> Result<MemEye, DiskRefusal>
+    requires { at + length bytes.now ≤ 16384 }
     ensures seen { IfOk result (λ eye. IsSeen eye.eye THOUSAND) }
+    ensures seen_alone { IfOk result (λ eye. IsSeen eye.eye ALONE) }
     ensures len { IfOk result (λ eye. eye.eye.region_len ≡ 16384) }
 {
     let mut disk = MemDisk::new(alloc, 1, LEN, FaultPlan::none(alloc))?;
-    disk.write(0, 2041, bytes)?;
+    disk.write(0, at, bytes)?;
     disk.sync()?;
     let _regions = disk.regions();
     let eye = disk.eye(&[0])?;
@@ -115,7 +120,7 @@ fn spells_an_entry_both_ways(rt: HostRuntime) {
 fn seeks_among_a_thousand_nodes(rt: HostRuntime) -> Result<(), Fail> {
     let alloc = rt.alloc();
     let bytes = thousand(alloc)?;
-    let mut eye = look(alloc, &bytes)?;
+    let mut eye = look(alloc, 2041, &bytes)?;
     for number in 0..2000u32 {
         let before = eye.taken();
         let node = NodeId { bucket: 3, number };
@@ -130,12 +135,11 @@ const SEVERAL: Part = Part {
     region: 1,
     header: Header {
         mark: Mark::Three,
-        range: Range { first: 1, last: 1 },
         rows: 3,
         nodes: 3,
         area: 4000,
         regions: 2,
-        more: [0, 0, 0, 0, 0, 0, 0],
+        ..ONE_ROW
     },
 };
 
@@ -232,32 +236,6 @@ fn refuses_bad_entries(rt: HostRuntime) -> Result<(), Fail> {
     Ok(())
 }
 
-// One row of 24 bytes, of node 1 of bucket 0x61: its entry stands behind it, at 65 of the region.
-const ONE_ROW: Part = Part {
-    region: 0,
-    header: Header {
-        mark: Mark::Two,
-        range: Range { first: 1, last: 1 },
-        rows: 1,
-        nodes: 1,
-        area: 24,
-        regions: 1,
-        more: [0; 7],
-    },
-};
-
-// An eye on region 0 of a new disk, which holds the entry of the one row.
-fn look_at_one(alloc: Global, entry: &[u8; 14]) -> Result<MemEye, DiskRefusal>
-    ensures seen { IfOk result (λ eye. IsSeen eye.eye ONE_ROW) }
-    ensures len { IfOk result (λ eye. eye.eye.region_len ≡ 16384) }
-{
-    let mut disk = MemDisk::new(alloc, 1, LEN, FaultPlan::none(alloc))?;
-    disk.write(0, 65, entry)?;
-    disk.sync()?;
-    let _regions = disk.regions();
-    disk.eye(&[0])
-}
-
 #[test]
 fn a_damaged_entry_is_told_at_its_place(rt: HostRuntime) -> Result<(), Fail> {
     let node = NodeId {
@@ -267,9 +245,9 @@ fn a_damaged_entry_is_told_at_its_place(rt: HostRuntime) -> Result<(), Fail> {
     // zeros, and an offset at the end of the rows
     let table = [[0; 14], [0, 0x61, 0, 0, 0, 1, 0, 0, 0, 24, 0, 0, 0, 1]];
     for entry in table {
-        let mut eye = look_at_one(rt.alloc(), &entry)?;
+        let mut eye = look(rt.alloc(), 65, &entry)?;
         assert_eq!(rt;
-            seek(&mut eye, &ONE_ROW, node, LEN),
+            seek(&mut eye, &ALONE, node, LEN),
             Err(SeekFault::BadIndex { at: 24 })
         );
     }

@@ -4,6 +4,7 @@ use log_partition::{
     read_header,
 };
 use node_record::RowAt;
+use partition_index_tests::ONE_ROW;
 use std::alloc::Global;
 use std::process::Abort;
 use std::test::*;
@@ -15,16 +16,6 @@ const PUT: [u8; 79] =
 /// The body of a partition that adds 2 to the number of the key `c`.
 const PLUS: [u8; 43] =
     *b"\x09\x00\x63\x00\x00\x00\x01\x00\x00\x00\x00\x00\x00\x00\x02\x00\x00\x00\x0a\x01c\x00\x00\x00\x00\x00\x00\x00\x02\x00\x63\x00\x00\x00\x01\x00\x00\x00\x00\x00\x00\x00\x01";
-
-const ONE_ROW: Header = Header {
-    mark: Mark::Two,
-    range: Range { first: 1, last: 1 },
-    rows: 1,
-    nodes: 1,
-    area: 24,
-    regions: 1,
-    more: [0; 7],
-};
 
 /// Decodes a body whose header counts as many bytes.
 fn decoded(alloc: Global, header: &Header, body: &[u8]) -> Result<Result<Rows, u32>, Fail> {
@@ -39,7 +30,11 @@ fn decoded(alloc: Global, header: &Header, body: &[u8]) -> Result<Result<Rows, u
     }
 }
 
-/// The first place of a region with one byte changed that is bad, if its gate is open.
+/// The lead of 16 rows in two regions of 4 KiB.
+const LEAD: [u8; 70] =
+    *b"\xa7FLP3\x00\x00\x00\x00\x00\x00\x10\x00\x00\x00\x00\x00\x00\x00\x00\x01\x00\x00\x00\x00\x00\x00\x00\x02\x00\x00\x00\x10\x00\x00\x00\x10\x00\x00\x11\x70\x02\x00\x00\x00\x04\x00\x00\x00\x00\x00\x00\x00\x00\x00\x00\x00\x00\x00\x00\x00\x00\x00\x00\x00\x00\x00\x00\x00\x00";
+
+/// The header of a region, if its gate is open, or the first place that is bad.
 fn header_of(bytes: &[u8], region_len: u64) -> Result<Option<Header>, u32> {
     if bytes.len() < 70 || region_len == 0 || region_len > 67_108_864 {
         return Err(0);
@@ -67,10 +62,20 @@ fn a_header_is_read_and_written(rt: HostRuntime) {
     assert_eq!(rt; header_of(&old, 4_194_304), Ok(Some(one)));
 }
 
+/// Bytes of which one is another.
+fn changed(alloc: Global, bytes: &[u8], at: usize, byte: u8) -> Result<Vec<u8>, Fail> {
+    let mut copy = Vec::from_slice(alloc, bytes)?;
+    if let Some(field) = copy.get_mut(at) {
+        *field = byte;
+    }
+    Ok(copy)
+}
+
 #[test]
-fn damaged_headers_are_told_at_their_first_bad_field(rt: HostRuntime) {
+fn damaged_headers_are_told_at_their_first_bad_field(rt: HostRuntime) -> Result<(), Fail> {
+    let alloc = rt.alloc();
     assert_eq!(rt; header_of(&PUT, 4096), Err(5));
-    for (at, byte, place) in [
+    let of_one: [(usize, u8, u32); 9] = [
         (4, b'X', 1),
         (10, 0, 5),
         (20, 0, 13),
@@ -80,19 +85,36 @@ fn damaged_headers_are_told_at_their_first_bad_field(rt: HostRuntime) {
         (36, 2, 33),
         (40, 0, 37),
         (37, 1, 37),
-    ] {
-        let mut bytes = PUT;
-        if let Some(field) = bytes.get_mut(at) {
-            *field = byte;
+    ];
+    let of_two: [(usize, u8, u32); 8] = [
+        (41, 1, 41),
+        (41, 9, 41),
+        (41, 3, 37),
+        (39, 0, 37),
+        (39, 0x40, 37),
+        (45, 3, 42),
+        (45, 8, 42),
+        (49, 1, 46),
+    ];
+    let tables: [(&[u8], u64, &[(usize, u8, u32)]); 2] = [
+        (&PUT, 4_194_304, &of_one),
+        (&LEAD, 4096, &of_two),
+    ];
+    for (header, region_len, table) in tables {
+        for (at, byte, place) in table {
+            let bytes = changed(alloc, header, *at, *byte)?;
+            assert_eq!(rt;
+                header_of(&bytes, region_len),
+                Err(*place),
+                "{byte} at {at}"
+            );
         }
-        assert_eq!(rt; header_of(&bytes, 4_194_304), Err(place));
     }
+    Ok(())
 }
 
 #[test]
 fn a_header_over_two_regions_is_read_and_written(rt: HostRuntime) {
-    let lead =
-        *b"\xa7FLP3\x00\x00\x00\x00\x00\x00\x10\x00\x00\x00\x00\x00\x00\x00\x00\x01\x00\x00\x00\x00\x00\x00\x00\x02\x00\x00\x00\x10\x00\x00\x00\x10\x00\x00\x11\x70\x02\x00\x00\x00\x04\x00\x00\x00\x00\x00\x00\x00\x00\x00\x00\x00\x00\x00\x00\x00\x00\x00\x00\x00\x00\x00\x00\x00\x00";
     let header = Header {
         mark: Mark::Three,
         range: Range { first: 1, last: 2 },
@@ -102,24 +124,8 @@ fn a_header_over_two_regions_is_read_and_written(rt: HostRuntime) {
         regions: 2,
         more: [4, 0, 0, 0, 0, 0, 0],
     };
-    assert_eq!(rt; header_of(&lead, 4096), Ok(Some(header)));
-    assert_eq!(rt; &header_bytes(&header, 4096)[..], &lead[1..]);
-    for (at, byte, place) in [
-        (41, 1, 41),
-        (41, 9, 41),
-        (41, 3, 37),
-        (39, 0, 37),
-        (39, 0x40, 37),
-        (45, 3, 42),
-        (45, 8, 42),
-        (49, 1, 46),
-    ] {
-        let mut bytes = lead;
-        if let Some(field) = bytes.get_mut(at) {
-            *field = byte;
-        }
-        assert_eq!(rt; header_of(&bytes, 4096), Err(place));
-    }
+    assert_eq!(rt; header_of(&LEAD, 4096), Ok(Some(header)));
+    assert_eq!(rt; &header_bytes(&header, 4096)[..], &LEAD[1..]);
 }
 
 #[test]
@@ -156,11 +162,12 @@ fn damaged_bodies_are_told_at_their_first_bad_item(rt: HostRuntime) -> Result<()
         (37, 0, 24),
         (37, 2, 24),
     ] {
-        let mut body = PUT;
-        if let Some(field) = body.get_mut(41 + at) {
-            *field = byte;
-        }
-        assert_eq!(rt; decoded(alloc, &ONE_ROW, &body[41..])?, Err(place));
+        let body = changed(alloc, &PUT[41..], at, byte)?;
+        assert_eq!(rt;
+            decoded(alloc, &ONE_ROW, &body)?,
+            Err(place),
+            "{byte} at {at}"
+        );
     }
     let zeros = [0; 38];
     assert_eq!(rt; decoded(alloc, &ONE_ROW, &zeros)?, Err(0));

@@ -1,17 +1,16 @@
 //! What no clause says: fetching from bytes that were laid out by hand, through an eye of which a read may fail.
 
-ghost use Rattle.std.specs.Prelude.{◌≡◌, ◌<◌, [], ◌∷◌, None, IfOk};
-ghost use Rattle.fine_model.specs.declared.FetchFault.TheVariants as fetch_fault;
+ghost use Rattle.std.specs.Prelude.{◌≡◌, ◌<◌, IfOk};
 ghost use Rattle.fine_model.specs.RowBytes.{FitsRec};
-ghost use Rattle.log_disk.specs.Disk.{Eye};
+ghost use Rattle.fine_model.specs.declared.Rec.TheVariants as rec;
+ghost use Rattle.node_fetch_tests.specs.Eyes.{AreSeen, ten_regions};
 
-use fine_model::{
-    Bytes, FetchFault, Header, Items, Mark, Node, NodeId, Part, Parts, Range, Rec, Row,
-};
+use fine_model::{Bytes, FetchFault, Header, Items, Mark, Node, NodeId, Pairs, Part, Rec, Row};
 use log_disk::{Failed, LogEye};
 use node_fetch::fetch;
 use node_record::write_row;
 use partition_index::{IndexEntry, entry_bytes};
+use partition_index_tests::ONE_ROW;
 use std::alloc::Global;
 use std::test::*;
 
@@ -28,7 +27,7 @@ struct Eye {
 }
 
 impl LogEye for Eye {
-    ghost state = { λ eye. record { number = 0; regions = 0 ∷ 1 ∷ 2 ∷ 3 ∷ 4 ∷ 5 ∷ 6 ∷ 7 ∷ 8 ∷ 9 ∷ []; region_len = 16384; told = None; faults = eye.faults; taken = eye.taken } };
+    ghost state = { λ eye. ten_regions eye.faults eye.taken };
 
     fn number(&self) -> u64 {
         0
@@ -51,108 +50,74 @@ impl LogEye for Eye {
 }
 
 // A put has 24 bytes, and an image of one pair 25.
+const TWO_ROWS: Header = Header {
+    rows: 2,
+    area: 48,
+    ..ONE_ROW
+};
+
 const FIRST: Part = Part {
     region: 0,
     header: Header {
         mark: Mark::One,
-        range: Range { first: 1, last: 1 },
-        rows: 1,
-        nodes: 1,
-        area: 24,
-        regions: 1,
-        more: [0; 7],
+        ..ONE_ROW
     },
 };
 
 const WITH_ANOTHER: Part = Part {
     region: 1,
     header: Header {
-        mark: Mark::Two,
-        range: Range { first: 1, last: 1 },
-        rows: 2,
         nodes: 2,
-        area: 48,
-        regions: 1,
-        more: [0; 7],
+        ..TWO_ROWS
     },
 };
 
 const OF_ANOTHER: Part = Part {
     region: 2,
-    header: Header {
-        mark: Mark::Two,
-        range: Range { first: 1, last: 1 },
-        rows: 1,
-        nodes: 1,
-        area: 24,
-        regions: 1,
-        more: [0; 7],
-    },
+    header: ONE_ROW,
 };
 
 const SEVERAL: Part = Part {
     region: 3,
     header: Header {
         mark: Mark::Three,
-        range: Range { first: 1, last: 1 },
         rows: 700,
-        nodes: 1,
-        area: 16800,
+        area: 16_800,
         regions: 2,
         more: [4, 0, 0, 0, 0, 0, 0],
+        ..ONE_ROW
     },
 };
 
 const FOLDED: Part = Part {
     region: 5,
     header: Header {
-        mark: Mark::Two,
-        range: Range { first: 1, last: 1 },
-        rows: 2,
-        nodes: 1,
         area: 49,
-        regions: 1,
-        more: [0; 7],
+        ..TWO_ROWS
     },
 };
 
 /// As the part with the image, but with a put in its place.
 const PLAIN: Part = Part {
     region: 5,
-    header: Header {
-        mark: Mark::Two,
-        range: Range { first: 1, last: 1 },
-        rows: 2,
-        nodes: 1,
-        area: 48,
-        regions: 1,
-        more: [0; 7],
-    },
+    header: TWO_ROWS,
 };
 
 const LAST: Part = Part {
     region: 6,
-    header: Header {
-        mark: Mark::Two,
-        range: Range { first: 1, last: 1 },
-        rows: 1,
-        nodes: 1,
-        area: 24,
-        regions: 1,
-        more: [0; 7],
-    },
+    header: ONE_ROW,
 };
 
 const THOUSAND: Part = Part {
     region: 7,
     header: Header {
         mark: Mark::Three,
-        range: Range { first: 1, last: 1 },
-        rows: 1000,
-        nodes: 1000,
-        area: 24000,
         regions: 3,
         more: [8, 9, 0, 0, 0, 0, 0],
+        rows: 1000,
+        nodes: 1000,
+        area: 24_000,
+        ..ONE_ROW
     },
 };
 
@@ -163,7 +128,7 @@ fn node(number: u32) -> NodeId {
 fn text(alloc: Global, text: &[u8; 1]) -> Result<Bytes, Fail>
     ensures { IfOk result (λ bytes. bytes ≡ text.now) }
 {
-    Ok(Items::from_vec(Vec::from_slice(alloc, text).ok().ok_or("memory")?))
+    Ok(Items::from_vec(Vec::from_slice(alloc, text)?))
 }
 
 fn put(alloc: Global, number: u32, version: u64) -> Result<Row, Fail>
@@ -178,16 +143,25 @@ fn put(alloc: Global, number: u32, version: u64) -> Result<Row, Fail>
     })
 }
 
-fn image(alloc: Global, number: u32, version: u64) -> Result<Row, Fail>
-    ensures { IfOk result (λ row. FitsRec row.rec) }
+/// The pairs of the leaf in which all puts leave the node.
+fn one_pair(alloc: Global) -> Result<Pairs, Fail>
+    ensures { IfOk result (λ pairs. FitsRec (rec.LeafImage pairs)) }
 {
     let pair = (text(alloc, b"a")?, text(alloc, b"1")?);
     let mut pairs = Items::new(alloc);
-    pairs.push(pair).ok().ok_or("memory")?;
+    pairs.push(pair)?;
+    Ok(pairs)
+}
+
+fn image(alloc: Global, number: u32, version: u64) -> Result<Row, Fail>
+    ensures { IfOk result (λ row. FitsRec row.rec) }
+{
     Ok(Row {
         node: node(number),
         version,
-        rec: Rec::LeafImage { pairs },
+        rec: Rec::LeafImage {
+            pairs: one_pair(alloc)?,
+        },
     })
 }
 
@@ -201,7 +175,7 @@ fn puts(
 ) -> Result<(), Fail> {
     for i in 0..count {
         let row = put(alloc, number, u64::from(version) + u64::from(i))?;
-        write_row(out, &row).ok().ok_or("memory")?;
+        write_row(out, &row)?;
     }
     Ok(())
 }
@@ -212,7 +186,7 @@ fn entry(out: &mut Vec<u8>, number: u32, offset: u32, rows: u32) -> Result<(), F
         offset,
         rows,
     });
-    out.extend_from_slice(&bytes).ok().ok_or("memory")?;
+    out.extend_from_slice(&bytes)?;
     Ok(())
 }
 
@@ -220,16 +194,16 @@ fn entry(out: &mut Vec<u8>, number: u32, offset: u32, rows: u32) -> Result<(), F
 fn lay(alloc: Global, regions: &mut Vec<Vec<u8>>, start: usize, body: &[u8]) -> Result<(), Fail> {
     let mut region = Vec::new(alloc);
     for _ in 0..start {
-        region.push(0).ok().ok_or("memory")?;
+        region.push(0)?;
     }
     for byte in body {
         if region.len() == 16_384 {
-            regions.push(region).ok().ok_or("memory")?;
-            region = vec![in alloc; 0; 1].ok().ok_or("memory")?;
+            regions.push(region)?;
+            region = vec![in alloc; 0; 1]?;
         }
-        region.push(*byte).ok().ok_or("memory")?;
+        region.push(*byte)?;
     }
-    regions.push(region).ok().ok_or("memory")?;
+    regions.push(region)?;
     Ok(())
 }
 
@@ -274,7 +248,7 @@ fn lay_other(alloc: Global, regions: &mut Vec<Vec<u8>>) -> Result<(), Fail> {
 fn lay_folded(alloc: Global, regions: &mut Vec<Vec<u8>>) -> Result<(), Fail> {
     let mut body = Vec::new(alloc);
     let image = image(alloc, 1, 703)?;
-    write_row(&mut body, &image).ok().ok_or("memory")?;
+    write_row(&mut body, &image)?;
     puts(alloc, &mut body, 1, 704, 1)?;
     entry(&mut body, 1, 0, 2)?;
     lay(alloc, regions, 41, &body)
@@ -324,12 +298,19 @@ fn eye_on(regions: Vec<Vec<u8>>, fails: u64) -> Eye {
     }
 }
 
-/// The leaf in which all puts leave the node.
-fn leaf(alloc: Global) -> Result<Node, Fail> {
-    let pair = (text(alloc, b"a")?, text(alloc, b"1")?);
-    let mut pairs = Items::new(alloc);
-    pairs.push(pair).ok().ok_or("memory")?;
-    Ok(Node::Leaf { pairs })
+/// The node with a number, from these parts.
+fn fetch_from(
+    alloc: Global,
+    eye: &mut Eye,
+    parts: &[Part],
+    number: u32,
+) -> Result<(Node, u64), FetchFault>
+    requires { AreSeen parts.now }
+{
+    let Ok(parts) = Vec::from_slice(alloc, parts) else {
+        return Err(FetchFault::NoMemory);
+    };
+    fetch(alloc, eye, &Items::from_vec(parts), node(number), LEN)
 }
 
 /// Two entries, and the fault of a fetch of node 1 (false for a bad entry) with its place.
@@ -343,18 +324,15 @@ fn damage_is_told_at_its_place(rt: HostRuntime) -> Result<(), Fail> {
         ([(1, 24, 1), (2, 24, 1)], (false, 89)),
         ([(1, 0, 1), (2, 48, 1)], (false, 103)),
     ];
-    let parts: Parts = Items::from_vec(Vec::from_slice(
-        alloc,
-        &[Part {
-            region: 0,
-            ..WITH_ANOTHER
-        }],
-    )?);
+    let part = Part {
+        region: 0,
+        ..WITH_ANOTHER
+    };
     for (entries, (row, place)) in table {
         let mut regions = Vec::new(alloc);
         lay_two(alloc, &mut regions, entries)?;
         let mut eye = eye_on(regions, 0);
-        let told = match fetch(alloc, &mut eye, &parts, node(1), LEN) {
+        let told = match fetch_from(alloc, &mut eye, &[part], 1) {
             Err(FetchFault::BadRow { region, at }) => (true, region, at),
             Err(FetchFault::BadIndex { region, at }) => (false, region, at),
             _ => (true, 0, 0),
@@ -368,7 +346,7 @@ fn damage_is_told_at_its_place(rt: HostRuntime) -> Result<(), Fail> {
 fn fetch_over(alloc: Global, at: usize, bytes: &[u8]) -> Result<(bool, u32), Fail>
     requires { at < 48 }
 {
-    let mut region = vec![in alloc; 0; 41].ok().ok_or("memory")?;
+    let mut region = vec![in alloc; 0; 41]?;
     puts(alloc, &mut region, 1, 703, 2)?;
     for (i, byte) in bytes.iter().enumerate() {
         if let Some(there) = region.get_mut(41 + at + i) {
@@ -383,23 +361,15 @@ fn fetch_over(alloc: Global, at: usize, bytes: &[u8]) -> Result<(bool, u32), Fai
 fn told_of_one(alloc: Global, region: Vec<u8>) -> Result<(bool, u32), Fail> {
     let mut regions = Vec::new(alloc);
     for _ in 0..5 {
-        regions.push(Vec::new(alloc)).ok().ok_or("memory")?;
+        regions.push(Vec::new(alloc))?;
     }
-    regions.push(region).ok().ok_or("memory")?;
+    regions.push(region)?;
     let mut eye = eye_on(regions, 0);
-    Ok(match plain(alloc, &mut eye) {
+    Ok(match fetch_from(alloc, &mut eye, &[PLAIN], 1) {
         Err(FetchFault::BadRow { region: 5, at }) => (true, at),
         Ok(_) => (false, 0),
         Err(_) => (true, 0),
     })
-}
-
-/// Node 1 from the part with two puts alone.
-fn plain(alloc: Global, eye: &mut Eye) -> Result<(Node, u64), FetchFault> {
-    let Ok(parts) = Vec::from_slice(alloc, &[PLAIN]) else {
-        return Err(FetchFault::NoMemory);
-    };
-    fetch(alloc, eye, &Items::from_vec(parts), node(1), LEN)
 }
 
 /// A bit is flipped in each byte of two puts: in versions, keys and values it makes another row, and elsewhere a bad one.
@@ -439,30 +409,15 @@ fn random_bytes_in_a_span_are_told(rt: HostRuntime) -> Result<(), Fail> {
     Ok(())
 }
 
-/// A node from the parts, all of them with puts alone.
-fn unfolded(alloc: Global, eye: &mut Eye, number: u32) -> Result<(Node, u64), FetchFault> {
-    let parts = [FIRST, WITH_ANOTHER, OF_ANOTHER, SEVERAL, PLAIN, LAST];
-    let Ok(parts) = Vec::from_slice(alloc, &parts) else {
-        return Err(FetchFault::NoMemory);
-    };
-    fetch(alloc, eye, &Items::from_vec(parts), node(number), LEN)
-}
-
-/// A node from the parts, of which one begins with an image.
-fn folded(alloc: Global, eye: &mut Eye, number: u32) -> Result<(Node, u64), FetchFault> {
-    let parts = [FIRST, WITH_ANOTHER, OF_ANOTHER, SEVERAL, FOLDED, LAST];
-    let Ok(parts) = Vec::from_slice(alloc, &parts) else {
-        return Err(FetchFault::NoMemory);
-    };
-    fetch(alloc, eye, &Items::from_vec(parts), node(number), LEN)
-}
-
-/// A node among a thousand.
-fn among(alloc: Global, eye: &mut Eye, number: u32) -> Result<(Node, u64), FetchFault> {
-    let Ok(parts) = Vec::from_slice(alloc, &[THOUSAND]) else {
-        return Err(FetchFault::NoMemory);
-    };
-    fetch(alloc, eye, &Items::from_vec(parts), node(number), LEN)
+/// All parts, of which one begins with an image, or all with puts alone.
+fn six_parts(folded: bool) -> [Part; 6]
+    ensures { AreSeen result }
+{
+    if folded {
+        [FIRST, WITH_ANOTHER, OF_ANOTHER, SEVERAL, FOLDED, LAST]
+    } else {
+        [FIRST, WITH_ANOTHER, OF_ANOTHER, SEVERAL, PLAIN, LAST]
+    }
 }
 
 /// Rows in five parts of all three marks, and a part that has none of the node: with an image, those before it are not read.
@@ -480,12 +435,9 @@ fn rows_of_five_parts_are_replayed(rt: HostRuntime) -> Result<(), Fail> {
     ];
     for (with_image, taken) in table {
         let mut eye = look(alloc, with_image, 0)?;
-        let found = if with_image {
-            folded(alloc, &mut eye, 1)
-        } else {
-            unfolded(alloc, &mut eye, 1)
-        };
-        assert_eq!(&rt; found.ok(), Some((leaf(alloc)?, 705)));
+        let found = fetch_from(alloc, &mut eye, &six_parts(with_image), 1);
+        let pairs = one_pair(alloc)?;
+        assert_eq!(&rt; found.ok(), Some((Node::Leaf { pairs }, 705)));
         assert_eq!(&rt; eye.taken, taken);
     }
     Ok(())
@@ -496,17 +448,23 @@ fn rows_of_five_parts_are_replayed(rt: HostRuntime) -> Result<(), Fail> {
 fn an_absent_node_is_as_it_began(rt: HostRuntime) -> Result<(), Fail> {
     let alloc = rt.alloc();
     let mut eye = look(alloc, true, 0)?;
-    let pairs = Items::new(alloc);
+    let parts = six_parts(true);
+    let leaf = Node::Leaf {
+        pairs: Items::new(alloc),
+    };
     assert_eq!(&rt;
-        folded(alloc, &mut eye, 3).ok(),
-        Some((Node::Leaf { pairs }, 0))
+        fetch_from(alloc, &mut eye, &parts, 3).ok(),
+        Some((leaf, 0))
     );
     let head = Node::Head {
         root: 1,
         next: 2,
         depth: 1,
     };
-    assert_eq!(&rt; folded(alloc, &mut eye, 0).ok(), Some((head, 0)));
+    assert_eq!(&rt;
+        fetch_from(alloc, &mut eye, &parts, 0).ok(),
+        Some((head, 0))
+    );
     assert_eq!(&rt; eye.taken, 14 * (6 + 7));
     Ok(())
 }
@@ -518,7 +476,8 @@ fn a_failed_read_is_told(rt: HostRuntime) -> Result<(), Fail> {
     let mut failures = 0u64;
     for fails in 1..40u64 {
         let mut eye = look(alloc, false, fails)?;
-        let failed = matches!(unfolded(alloc, &mut eye, 1), Err(FetchFault::Failed));
+        let found = fetch_from(alloc, &mut eye, &six_parts(false), 1);
+        let failed = matches!(found, Err(FetchFault::Failed));
         assert_eq!(&rt; failed, fails <= eye.reads);
         assert_eq!(&rt; eye.faults, u64::from(failed));
         failures = failures.saturating_add(u64::from(failed));
@@ -539,9 +498,8 @@ fn few_bytes_are_taken_among_a_thousand_nodes(rt: HostRuntime) -> Result<(), Fai
     let mut eye = eye_on(regions, 0);
     for number in 1..1002u32 {
         let before = eye.taken;
-        let version = among(alloc, &mut eye, number)
-            .map(|found| found.1)
-            .unwrap_or(9);
+        let found = fetch_from(alloc, &mut eye, &[THOUSAND], number);
+        let version = found.map(|found| found.1).unwrap_or(9);
         assert_eq!(&rt; version, u64::from(number <= 1000));
         assert!(&rt; eye.taken.saturating_sub(before) <= 154 + 24);
     }

@@ -3,9 +3,7 @@
 ghost use Rattle.std.specs.Prelude.{◌≡◌, [], IfOk};
 ghost use Rattle.command_words.specs.Words.{IsGeometry};
 
-use crate::runs::{
-    GROUPS_OF_ONE, SCRIPT, WHOLE, crash, new_disk, number_behind, obey, pairs_at, run,
-};
+use crate::runs::{Case, GROUPS_OF_ONE, crash, new_disk, number_behind, obey, run};
 use log_disk::{FaultPlan, MemDisk};
 use std::alloc::Global;
 use std::sync::Wait;
@@ -44,6 +42,7 @@ fn plan_of(alloc: Global, failing: Failing, number: u64) -> Result<FaultPlan, Fa
 fn end_after<R: Threads + Wait + Sync>(
     rt: &R,
     alloc: Global,
+    case: Case,
     disk: MemDisk,
     picks: &[u8],
 ) -> Result<u8, Fail>
@@ -53,65 +52,63 @@ fn end_after<R: Threads + Wait + Sync>(
     let (ranges, disk) = obey(rt, alloc, "ranges", crash(disk, picks)?)?;
     let end = number_behind(ranges.as_slice(), b"end ").ok_or("no end")?;
     let (pairs, _disk) = obey(rt, alloc, "dump", disk)?;
-    if pairs.as_slice() != pairs_at(end) {
+    if pairs.as_slice() != case.pairs_at(end) {
         return Err("other pairs")?;
     }
     Ok(end)
 }
 
-/// Runs the script where this call of the disk fails, and says whether it was met. Whatever a crash then leaves of it, the log shows a prefix of the run, and at
+/// Runs a case where this call of the disk fails, and says whether it was met. Whatever a crash then leaves of it, the log shows a prefix of the run, and at
 /// least what was printed as durable.
 fn is_met<R: Threads + Wait + Sync>(
     rt: &R,
     alloc: Global,
+    case: Case,
     failing: Failing,
     number: u64,
 ) -> Result<bool, Fail> {
     let mut met = false;
     for picks in [&[][..], &[0xa7; 64]] {
-        let disk = new_disk(alloc, plan_of(alloc, failing, number)?)?;
-        let printed = run(rt, alloc, GROUPS_OF_ONE, SCRIPT, (0, 0), disk)?;
+        let disk = new_disk(alloc, case.regions(), plan_of(alloc, failing, number)?)?;
+        let printed = run(rt, alloc, GROUPS_OF_ONE, case.script(), (0, 0), disk)?;
         let text = printed.text.as_slice();
         met = printed.finish.status != 0;
         let as_wanted = if met {
             printed.finish.status == 6 && text.ends_with(b"disk\n")
         } else {
-            text == WHOLE
+            text == case.whole()
         };
         let durable = number_behind(text, b"durable ").unwrap_or(0);
-        let end = end_after(rt, alloc, printed.finish.disk, picks)?;
-        if !as_wanted || end < durable || 3 < end {
+        let end = end_after(rt, alloc, case, printed.finish.disk, picks)?;
+        if !as_wanted || end < durable || case.last() < end {
             return Err("another text, or another end")?;
         }
     }
     Ok(met)
 }
 
-/// The last call of a kind that a run meets.
-fn last_met<R: Threads + Wait + Sync>(
-    rt: &R,
-    alloc: Global,
-    failing: Failing,
-) -> Result<u64, Fail> {
-    for number in 1..MANY {
-        if !is_met(rt, alloc, failing, number)? {
-            return Ok(number - 1);
+/// The last call of each kind that a run meets.
+fn last_met<R: Threads + Wait + Sync>(rt: &R, alloc: Global, case: Case) -> Result<[u64; 5], Fail> {
+    let mut last = [0; 5];
+    for (i, failing) in [AllFrom, Read, Write, SyncOnce, Eye].iter().enumerate() {
+        while last[i] < MANY && is_met(rt, alloc, case, *failing, last[i] + 1)? {
+            last[i] += 1;
         }
     }
-    Ok(MANY)
+    Ok(last)
 }
 
 #[test]
 fn a_call_of_the_disk_that_fails_is_told(rt: HostRuntime) -> Result<(), Fail> {
-    let alloc = rt.alloc();
-    let found = [
-        last_met(&rt, alloc, AllFrom)?,
-        last_met(&rt, alloc, Read)?,
-        last_met(&rt, alloc, Write)?,
-        last_met(&rt, alloc, SyncOnce)?,
-        last_met(&rt, alloc, Eye)?,
-    ];
-    assert_eq!(rt; found, [23, 8, 6, 6, 3]);
+    let accounts = last_met(&rt, rt.alloc(), Case::Accounts)?;
+    assert_eq!(rt; accounts, [23, 8, 6, 6, 3]);
+    Ok(())
+}
+
+#[test]
+fn a_call_of_a_merge_that_fails_is_told(rt: HostRuntime) -> Result<(), Fail> {
+    let merges = last_met(&rt, rt.alloc(), Case::Merges)?;
+    assert_eq!(rt; merges, [70, 4, 32, 24, 10]);
     Ok(())
 }
 
@@ -119,14 +116,24 @@ fn a_call_of_the_disk_that_fails_is_told(rt: HostRuntime) -> Result<(), Fail> {
 fn a_source_that_fails_leaves_the_log(rt: HostRuntime) -> Result<(), Fail> {
     let alloc = rt.alloc();
     for number in 1..4u64 {
-        let disk = new_disk(alloc, FaultPlan::none(alloc))?;
-        let printed = run(&rt, alloc, GROUPS_OF_ONE, SCRIPT, (number, 0), disk)?;
+        let disk = new_disk(alloc, 8, FaultPlan::none(alloc))?;
+        let printed = run(
+            &rt,
+            alloc,
+            GROUPS_OF_ONE,
+            Case::Accounts.script(),
+            (number, 0),
+            disk,
+        )?;
         if number < 3 {
             assert_eq!(rt; printed.finish.status, 4);
             assert_eq!(rt; printed.text.as_slice(), b"source\n".as_slice());
-            assert_eq!(rt; end_after(&rt, alloc, printed.finish.disk, &[0xa7; 64])?, 0);
+            assert_eq!(rt;
+                end_after(&rt, alloc, Case::Accounts, printed.finish.disk, &[0xa7; 64])?,
+                0
+            );
         } else {
-            assert_eq!(rt; printed.text.as_slice(), WHOLE);
+            assert_eq!(rt; printed.text.as_slice(), Case::Accounts.whole());
         }
     }
     Ok(())
@@ -136,13 +143,20 @@ fn a_source_that_fails_leaves_the_log(rt: HostRuntime) -> Result<(), Fail> {
 fn a_sink_that_fails_has_a_first_part(rt: HostRuntime) -> Result<(), Fail> {
     let alloc = rt.alloc();
     for number in 1..4u64 {
-        let disk = new_disk(alloc, FaultPlan::none(alloc))?;
-        let printed = run(&rt, alloc, GROUPS_OF_ONE, SCRIPT, (0, number), disk)?;
-        assert!(rt; WHOLE.starts_with(printed.text.as_slice()));
+        let disk = new_disk(alloc, 8, FaultPlan::none(alloc))?;
+        let printed = run(
+            &rt,
+            alloc,
+            GROUPS_OF_ONE,
+            Case::Accounts.script(),
+            (0, number),
+            disk,
+        )?;
+        assert!(rt; Case::Accounts.whole().starts_with(printed.text.as_slice()));
         if printed.finish.status != 0 {
             assert_eq!(rt; printed.finish.status, 5);
         } else {
-            assert_eq!(rt; printed.text.as_slice(), WHOLE);
+            assert_eq!(rt; printed.text.as_slice(), Case::Accounts.whole());
         }
     }
     Ok(())

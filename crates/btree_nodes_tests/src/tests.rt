@@ -3,7 +3,6 @@
 mod again;
 mod calls;
 mod fixtures;
-mod fresh;
 mod limits;
 mod scans;
 mod splits;

@@ -9,8 +9,9 @@ ghost use Rattle.node_cache.specs.Cache.{cached, IsResting};
 ghost use Rattle.btree_nodes.specs.Trees.{Serves, Holds};
 ghost use Rattle.btree_nodes.specs.Calls.{SoundOutcome};
 
-use super::fresh::{Fresh, empty};
+use crate::rows::Rows;
 use btree_nodes::{TreeFault, insert};
+use fine_model::bucket_of;
 use node_cache::{Bucket, NodeSource};
 use private_log::PrivateLog;
 use std::alloc::Global;
@@ -47,9 +48,9 @@ fn set_again<S: NodeSource>(
 #[test]
 fn a_key_that_was_taken_back_is_set_again(rt: HostRuntime) -> Result<(), Fail> {
     let alloc = rt.alloc();
-    let mut source = Fresh { alloc };
+    let mut source = Rows::none(alloc, 0);
     let key = b"c";
-    let mut bucket = empty(alloc, key);
+    let mut bucket = Bucket::new(alloc, bucket_of(key));
     let mut first = PrivateLog::new(alloc);
     let mut second = PrivateLog::new(alloc);
     let again = set_again(

@@ -1,11 +1,13 @@
 //! Calls by chance, against an ordered map.
 
-ghost use Rattle.std.specs.Prelude.{IfOk};
+ghost use Rattle.std.specs.Prelude.{◌≤◌, IfOk};
 
 use super::fixtures::{Tree, add, del, get, key_at, put, tree_of};
 use super::scans::pairs_between;
 use super::splits::depth_of;
-use fine_model::{Reply, number_of, number_text};
+use btree_nodes::TreeFault;
+use fine_model::{Bytes, NoMemory, Reply, number_of, number_text};
+use std::alloc::Global;
 use std::collections::BTreeMap;
 use std::test::*;
 
@@ -15,11 +17,18 @@ const KEYS: u32 = 600;
 /// What a key holds in the map, by its place among the keys of thirteen pieces.
 type Map = BTreeMap<u32, Vec<u8>>;
 
-fn get_both(tree: &mut Tree, map: &Map, place: u32) -> Result<bool, Fail> {
+/// Notes what a key holds.
+fn note(alloc: Global, map: &mut Map, place: u32, value: &[u8]) -> Result<(), NoMemory> {
+    let copy = Vec::from_slice(alloc, value)?;
+    match map.insert(place, copy) {
+        Ok(_) => Ok(()),
+        Err(_) => Err(NoMemory),
+    }
+}
+
+fn get_both(tree: &mut Tree, map: &Map, place: u32) -> Result<bool, TreeFault> {
     let key = key_at(tree.alloc, place, 13)?;
-    let Ok(found) = get(tree, key.as_slice()) else {
-        return Ok(false);
-    };
+    let found = get(tree, key.as_slice())?;
     Ok(match (&found, map.get(&place)) {
         (Some(value), Some(wanted)) => value.as_slice() == wanted.as_slice(),
         (None, None) => true,
@@ -27,20 +36,16 @@ fn get_both(tree: &mut Tree, map: &Map, place: u32) -> Result<bool, Fail> {
     })
 }
 
-fn put_both(tree: &mut Tree, map: &mut Map, place: u32, value: &[u8]) -> Result<bool, Fail> {
+fn put_both(tree: &mut Tree, map: &mut Map, place: u32, value: &[u8]) -> Result<(), TreeFault> {
     let key = key_at(tree.alloc, place, 13)?;
-    let copy = Vec::from_slice(tree.alloc, value).ok().ok_or("memory")?;
-    map.insert(place, copy).ok().ok_or("memory")?;
-    Ok(put(tree, key.as_slice(), value).is_ok())
+    note(tree.alloc, map, place, value)?;
+    put(tree, key.as_slice(), value)
 }
 
-fn del_both(tree: &mut Tree, map: &mut Map, place: u32) -> Result<bool, Fail> {
+fn del_both(tree: &mut Tree, map: &mut Map, place: u32) -> Result<bool, TreeFault> {
     let key = key_at(tree.alloc, place, 13)?;
     let there = map.remove(&place).is_some();
-    Ok(match del(tree, key.as_slice()) {
-        Ok(was_there) => was_there == there,
-        Err(_) => false,
-    })
+    Ok(del(tree, key.as_slice())? == there)
 }
 
 /// The sum that a key of the map is to have, where it is one, and whether the text that it has is a number.
@@ -54,36 +59,46 @@ fn sum_of(map: &Map, place: u32, by: i64) -> (Option<i64>, bool) {
     }
 }
 
-fn add_both(tree: &mut Tree, map: &mut Map, place: u32, by: i64) -> Result<bool, Fail> {
+/// Notes a sum that a key then holds.
+fn note_sum(alloc: Global, map: &mut Map, place: u32, sum: i64) -> Result<(), NoMemory> {
+    let text = number_text(alloc, sum)?;
+    note(alloc, map, place, text.as_slice())
+}
+
+fn add_both(tree: &mut Tree, map: &mut Map, place: u32, by: i64) -> Result<bool, TreeFault> {
     let key = key_at(tree.alloc, place, 13)?;
     let (wanted, is_number) = sum_of(map, place, by);
     if let Some(sum) = wanted {
-        let text = number_text(tree.alloc, sum).ok().ok_or("memory")?;
-        let copy = Vec::from_slice(tree.alloc, text.as_slice())
-            .ok()
-            .ok_or("memory")?;
-        map.insert(place, copy).ok().ok_or("memory")?;
+        note_sum(tree.alloc, map, place, sum)?;
     }
-    Ok(match add(tree, key.as_slice(), by) {
-        Ok(Reply::Sum { sum }) => wanted == Some(sum),
-        Ok(Reply::OutOfRange) => wanted.is_none() && is_number,
-        Ok(Reply::NotNumber) => !is_number,
+    Ok(match add(tree, key.as_slice(), by)? {
+        Reply::Sum { sum } => wanted == Some(sum),
+        Reply::OutOfRange => wanted.is_none() && is_number,
+        Reply::NotNumber => !is_number,
         _ => false,
     })
 }
 
-fn scan_both(tree: &mut Tree, map: &Map, low: u32, limit: u32) -> Result<bool, Fail> {
-    let high = low.saturating_add(100);
-    let found = pairs_between(tree, low, high, limit)?;
+/// Whether pairs are the first ones of the map between two places, and no more than so many.
+fn are_first(
+    alloc: Global,
+    found: &[(Bytes, Bytes)],
+    map: &Map,
+    low: u32,
+    high: u32,
+    limit: u32,
+) -> Result<bool, NoMemory>
+    requires { low ≤ high }
+{
     let mut at = 0;
     for (place, wanted) in map.range(low..high) {
         if at >= limit as usize {
             break;
         }
-        let Some((key, value)) = found.as_slice().get(at) else {
+        let Some((key, value)) = found.get(at) else {
             return Ok(false);
         };
-        let right = key_at(tree.alloc, *place, 13)?;
+        let right = key_at(alloc, *place, 13)?;
         if key.as_slice() != right.as_slice() || value.as_slice() != wanted.as_slice() {
             return Ok(false);
         }
@@ -92,8 +107,20 @@ fn scan_both(tree: &mut Tree, map: &Map, low: u32, limit: u32) -> Result<bool, F
     Ok(at == found.len())
 }
 
+fn scan_both(tree: &mut Tree, map: &Map, low: u32, limit: u32) -> Result<bool, TreeFault> {
+    let high = low.saturating_add(100);
+    let found = pairs_between(tree, low, high, limit)?;
+    Ok(are_first(tree.alloc, found.as_slice(), map, low, high, limit)?)
+}
+
+/// Sets a key to a number.
+fn put_number(tree: &mut Tree, map: &mut Map, place: u32, number: i64) -> Result<(), TreeFault> {
+    let text = number_text(tree.alloc, number)?;
+    put_both(tree, map, place, text.as_slice())
+}
+
 /// One call by chance. Answers whether tree and map agree.
-fn call_both(tree: &mut Tree, map: &mut Map, chance: u64) -> Result<bool, Fail> {
+fn call_both(tree: &mut Tree, map: &mut Map, chance: u64) -> Result<bool, TreeFault> {
     let place = (chance / 8_589_934_592 % u64::from(KEYS)) as u32;
     let number = (chance / 65_536 % 2000) as i64;
     match chance / 536_870_912 % 8 {
@@ -102,26 +129,27 @@ fn call_both(tree: &mut Tree, map: &mut Map, chance: u64) -> Result<bool, Fail> 
         2 => scan_both(tree, map, place, (number % 120) as u32),
         3 => add_both(tree, map, place, number - 1000),
         4 => add_both(tree, map, place, 9_223_372_036_854_775_000 + number % 800),
-        5 => put_both(tree, map, place, b"text"),
+        5 => {
+            put_both(tree, map, place, b"text")?;
+            Ok(true)
+        }
         _ => {
-            let text = number_text(tree.alloc, number).ok().ok_or("memory")?;
-            put_both(tree, map, place, text.as_slice())
+            put_number(tree, map, place, number)?;
+            Ok(true)
         }
     }
 }
 
-/// Sets each key. Answers whether all were set.
-fn put_all(tree: &mut Tree, map: &mut Map) -> Result<bool, Fail> {
+/// Sets each key.
+fn put_all(tree: &mut Tree, map: &mut Map) -> Result<(), TreeFault> {
     for place in 0..KEYS {
-        if !put_both(tree, map, place, b"1")? {
-            return Ok(false);
-        }
+        put_both(tree, map, place, b"1")?;
     }
-    Ok(true)
+    Ok(())
 }
 
 /// So many calls by chance. Answers how many agreed.
-fn call_many(tree: &mut Tree, map: &mut Map, many: u32) -> Result<u32, Fail> {
+fn call_many(tree: &mut Tree, map: &mut Map, many: u32) -> Result<u32, TreeFault> {
     let mut chance = 12_345u64;
     let mut right = 0u32;
     for _call in 0..many {
@@ -136,7 +164,7 @@ fn call_many(tree: &mut Tree, map: &mut Map, many: u32) -> Result<u32, Fail> {
 }
 
 /// How many keys hold in a tree what they hold in the map.
-fn count_right(tree: &mut Tree, map: &Map) -> Result<u32, Fail> {
+fn count_right(tree: &mut Tree, map: &Map) -> Result<u32, TreeFault> {
     let mut right = 0u32;
     for place in 0..KEYS {
         if get_both(tree, map, place)? {
@@ -146,15 +174,21 @@ fn count_right(tree: &mut Tree, map: &Map) -> Result<u32, Fail> {
     Ok(right)
 }
 
+/// So of a tree on rows, where a scan agrees too.
+fn count_in_rows(alloc: Global, rows: &[u8], map: &Map) -> Result<u32, TreeFault> {
+    let mut tree = tree_of(alloc, rows)?;
+    let right = count_right(&mut tree, map)?;
+    let agrees = scan_both(&mut tree, map, 9, 2000)?;
+    Ok(if agrees { right } else { 0 })
+}
+
 #[test]
 fn ten_thousand_calls_agree_with_an_ordered_map(rt: HostRuntime) -> Result<(), Fail> {
     let mut tree = tree_of(rt.alloc(), b"")?;
     let mut map = BTreeMap::new(rt.alloc());
-    assert!(rt; put_all(&mut tree, &mut map)?);
+    put_all(&mut tree, &mut map)?;
     assert_eq!(rt; call_many(&mut tree, &mut map, 10_000)?, 10_000);
     assert_eq!(rt; depth_of(&tree), 3);
-    let mut again = tree_of(rt.alloc(), tree.log.bytes())?;
-    assert_eq!(rt; count_right(&mut again, &map)?, KEYS);
-    assert!(rt; scan_both(&mut again, &map, 9, 2000)?);
+    assert_eq!(rt; count_in_rows(rt.alloc(), tree.log.bytes(), &map)?, KEYS);
     Ok(())
 }

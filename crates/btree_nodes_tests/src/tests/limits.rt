@@ -2,11 +2,11 @@
 
 ghost use Rattle.std.specs.Prelude.{IfOk};
 
-use super::fixtures::{Tree, add, del, put, tree_of};
+use super::fixtures::{Kind, Tree, call, del, put, tree_of};
 use super::splits::{depth_of, put_keys};
 use btree_nodes::TreeFault;
-use fine_model::NodeId;
 use fine_model::format::GREATEST;
+use fine_model::{NoMemory, NodeId};
 use std::alloc::Global;
 use std::test::*;
 
@@ -17,7 +17,7 @@ pub fn push(
     number: u32,
     version: u64,
     body: &[u8],
-) -> Result<(), Fail> {
+) -> Result<(), NoMemory> {
     let len = u32::try_from(body.len()).unwrap_or(0);
     for part in [
         [kind].as_slice(),
@@ -27,7 +27,7 @@ pub fn push(
         len.to_be_bytes().as_slice(),
         body,
     ] {
-        rows.extend_from_slice(part).ok().ok_or("memory")?;
+        rows.extend_from_slice(part)?;
     }
     Ok(())
 }
@@ -39,7 +39,7 @@ pub fn push_head(
     root: u32,
     next: u32,
     depth: u8,
-) -> Result<(), Fail> {
+) -> Result<(), NoMemory> {
     let [a, b, c, d] = root.to_be_bytes();
     let [e, f, g, h] = next.to_be_bytes();
     push(
@@ -58,24 +58,22 @@ fn push_full_inner(
     number: u32,
     level: u8,
     child: u32,
-) -> Result<(), Fail> {
+) -> Result<(), NoMemory> {
     let mut body = Vec::new(alloc);
-    body.push(32u8).ok().ok_or("memory")?;
+    body.push(32u8)?;
     for _child in 0..33u32 {
         let bytes = child.to_be_bytes();
-        body.extend_from_slice(bytes.as_slice())
-            .ok()
-            .ok_or("memory")?;
+        body.extend_from_slice(bytes.as_slice())?;
     }
     for place in 0..32u8 {
         let sep = [2, level, place];
-        body.extend_from_slice(sep.as_slice()).ok().ok_or("memory")?;
+        body.extend_from_slice(sep.as_slice())?;
     }
     push(rows, 3, number, 1, body.as_slice())
 }
 
 /// A tree of a depth whose nodes on the way of the least key are all full but for the leaf.
-fn full_tree(alloc: Global, depth: u8) -> Result<Tree, Fail> {
+fn full_tree(alloc: Global, depth: u8) -> Result<Tree, NoMemory> {
     let mut rows = Vec::new(alloc);
     push_head(&mut rows, 1, u32::from(depth), 20, depth)?;
     for height in 1..depth {
@@ -85,21 +83,26 @@ fn full_tree(alloc: Global, depth: u8) -> Result<Tree, Fail> {
     tree_of(alloc, rows.as_slice())
 }
 
-/// The answer to the 33rd key of a leaf.
-fn split(tree: &mut Tree) -> Result<Result<(), TreeFault>, Fail> {
-    if !put_keys(tree, 32, 5, 1, 32)? {
-        return Err("memory".into());
+/// The answer to the 33rd key of a leaf, or want of memory where an earlier one is not set.
+fn split(tree: &mut Tree) -> Result<(), TreeFault> {
+    if put_keys(tree, 32, 5, 1, 32).is_err() {
+        return Err(TreeFault::NoMemory);
     }
-    Ok(put(tree, b"AaAaAaAaC#", b"1"))
+    put(tree, b"AaAaAaAaC#", b"1")
+}
+
+/// A tree whose head has a version and a next unused number.
+fn headed_tree(alloc: Global, version: u64, next: u32) -> Result<Tree, NoMemory> {
+    let mut rows = Vec::new(alloc);
+    push_head(&mut rows, version, 1, next, 1)?;
+    tree_of(alloc, rows.as_slice())
 }
 
 #[test]
 fn a_bucket_is_full_where_its_numbers_end(rt: HostRuntime) -> Result<(), Fail> {
     for next in [1_048_574, 1_048_575, 1_048_576] {
-        let mut rows = Vec::new(rt.alloc());
-        push_head(&mut rows, 1, 1, next, 1)?;
-        let mut tree = tree_of(rt.alloc(), rows.as_slice())?;
-        let right = match split(&mut tree)? {
+        let mut tree = headed_tree(rt.alloc(), 1, next)?;
+        let right = match split(&mut tree) {
             Ok(()) => next == 1_048_574,
             Err(TreeFault::BucketFull { next: said, depth }) => next > 1_048_574
                 && said == next
@@ -115,7 +118,7 @@ fn a_bucket_is_full_where_its_numbers_end(rt: HostRuntime) -> Result<(), Fail> {
 fn a_bucket_is_full_where_its_depth_ends(rt: HostRuntime) -> Result<(), Fail> {
     for depth in [7, 8] {
         let mut tree = full_tree(rt.alloc(), depth)?;
-        let right = match split(&mut tree)? {
+        let right = match split(&mut tree) {
             Ok(()) => depth == 7 && depth_of(&tree) == 8,
             Err(TreeFault::BucketFull { next, depth: said }) => depth == 8
                 && next == 20
@@ -128,34 +131,45 @@ fn a_bucket_is_full_where_its_depth_ends(rt: HostRuntime) -> Result<(), Fail> {
 }
 
 /// Whether an answer says that a version of this node would pass its limit.
-fn is_over<T: Drop>(answer: &Result<T, TreeFault>, number: u32) -> bool {
+fn is_over(answer: Result<(), TreeFault>, number: u32) -> bool {
     match answer {
-        Err(TreeFault::Number { node }) => *node == NodeId { bucket: 64, number },
+        Err(TreeFault::Number { node }) => node == NodeId { bucket: 64, number },
         _ => false,
     }
 }
 
+const KEY: &[u8] = b"AaAaAaAaAa";
+
+/// Whether each call that changes the key would pass the limit of node 1.
+fn are_over(tree: &mut Tree) -> [bool; 3] {
+    [
+        is_over(call(tree, KEY, Kind::Put), 1),
+        is_over(call(tree, KEY, Kind::Del), 1),
+        is_over(call(tree, KEY, Kind::Add), 1),
+    ]
+}
+
+/// A tree whose leaf has the last version but one.
+fn late_tree(alloc: Global) -> Result<Tree, NoMemory> {
+    let mut rows = Vec::new(alloc);
+    push(&mut rows, 2, 1, GREATEST - 1, b"\x00")?;
+    tree_of(alloc, rows.as_slice())
+}
+
 #[test]
 fn the_last_version_of_a_node_is_its_last(rt: HostRuntime) -> Result<(), Fail> {
-    let mut rows = Vec::new(rt.alloc());
-    push(&mut rows, 2, 1, GREATEST - 1, b"\x00")?;
-    let mut tree = tree_of(rt.alloc(), rows.as_slice())?;
-    let key = b"AaAaAaAaAa";
-    assert!(rt; put(&mut tree, key, b"5").is_ok());
-    assert!(rt; is_over(&put(&mut tree, key, b"6"), 1));
-    assert!(rt; is_over(&del(&mut tree, key), 1));
-    assert!(rt; is_over(&add(&mut tree, key, 1), 1));
-    assert!(rt; matches!(del(&mut tree, b"BBBBBBBBBB"), Ok(false)));
+    let mut tree = late_tree(rt.alloc())?;
+    put(&mut tree, KEY, b"5")?;
+    assert_eq!(rt; are_over(&mut tree), [true; 3]);
+    assert!(rt; !del(&mut tree, b"BBBBBBBBBB")?);
     assert_eq!(rt; tree.log.bytes().len(), 33);
     Ok(())
 }
 
 #[test]
 fn a_split_needs_a_version_of_the_head(rt: HostRuntime) -> Result<(), Fail> {
-    let mut rows = Vec::new(rt.alloc());
-    push_head(&mut rows, GREATEST, 1, 2, 1)?;
-    let mut tree = tree_of(rt.alloc(), rows.as_slice())?;
-    assert!(rt; is_over(&split(&mut tree)?, 0));
+    let mut tree = headed_tree(rt.alloc(), GREATEST, 2)?;
+    assert!(rt; is_over(split(&mut tree), 0));
     assert_eq!(rt; tree.log.bytes().len(), 1056);
     Ok(())
 }

@@ -3,39 +3,36 @@
 ghost use Rattle.std.specs.Prelude.{IfOk};
 
 use super::fixtures::{Tree, key_at, pairs, tree_of};
-use super::splits::{are_keys, put_keys};
-use fine_model::{Node, Pairs};
+use super::splits::{are_keys, grown, head_of};
+use btree_nodes::TreeFault;
+use fine_model::Pairs;
 use std::alloc::Global;
 use std::test::*;
 
 /// The rows of a tree of 600 keys of thirteen pieces, each with `1`.
-pub fn deep_rows(alloc: Global) -> Result<Vec<u8>, Fail> {
-    let mut tree = tree_of(alloc, b"")?;
-    if !put_keys(&mut tree, 600, 13, 1, 600)? {
-        return Err("memory".into());
+pub fn deep_rows(alloc: Global) -> Result<Vec<u8>, TreeFault> {
+    let tree = grown(alloc, 600, 1)?;
+    copied(alloc, tree.log.bytes())
+}
+
+fn copied(alloc: Global, bytes: &[u8]) -> Result<Vec<u8>, TreeFault> {
+    match Vec::from_slice(alloc, bytes) {
+        Ok(copy) => Ok(copy),
+        Err(_) => Err(TreeFault::NoMemory),
     }
-    Ok(
-        Vec::from_slice(alloc, tree.log.bytes())
-            .ok()
-            .ok_or("memory")?,
-    )
 }
 
 /// A scan between two places among the keys of thirteen pieces.
-pub fn pairs_between(tree: &mut Tree, low: u32, high: u32, limit: u32) -> Result<Pairs, Fail> {
+pub fn pairs_between(tree: &mut Tree, low: u32, high: u32, limit: u32) -> Result<Pairs, TreeFault> {
     let low = key_at(tree.alloc, low, 13)?;
     let high = key_at(tree.alloc, high, 13)?;
-    let found = pairs(tree, low.as_slice(), high.as_slice(), limit);
-    Ok(found.ok().ok_or("scan")?)
+    pairs(tree, low.as_slice(), high.as_slice(), limit)
 }
 
 /// What a cached head says of the next unused number, or 0.
 fn next_of(tree: &Tree) -> u32 {
-    match tree.bucket.peek(0) {
-        Some(kept) => match &kept.node {
-            Node::Head { next, .. } => *next,
-            _ => 0,
-        },
+    match head_of(tree) {
+        Some((next, _depth)) => next,
         None => 0,
     }
 }
@@ -48,10 +45,10 @@ fn finds(
     high: u32,
     limit: u32,
     many: u32,
-) -> Result<bool, Fail> {
+) -> Result<bool, TreeFault> {
     let mut tree = tree_of(alloc, rows)?;
     let found = pairs_between(&mut tree, low, high, limit)?;
-    are_keys(alloc, found.as_slice(), low, many)
+    Ok(are_keys(alloc, found.as_slice(), low, many)?)
 }
 
 /// How many nodes a scan between two places loads, and the next unused number that the head then says.
@@ -61,7 +58,7 @@ fn loads_of(
     low: u32,
     high: u32,
     limit: u32,
-) -> Result<(u32, u32), Fail> {
+) -> Result<(u32, u32), TreeFault> {
     let mut tree = tree_of(alloc, rows)?;
     pairs_between(&mut tree, low, high, limit)?;
     Ok((tree.source.loads, next_of(&tree)))
@@ -92,13 +89,13 @@ fn a_scan_finds_the_first_pairs_of_its_range(rt: HostRuntime) -> Result<(), Fail
 #[test]
 fn a_scan_loads_only_what_it_needs(rt: HostRuntime) -> Result<(), Fail> {
     let rows = deep_rows(rt.alloc())?;
-    for (low, high, limit, loads) in [
-        (0, 600, 0, 1),
-        (9, 9, 9, 1),
-        (9, 8, 9, 1),
-        (100, 101, 9, 4),
-        (100, 120, 1, 4),
-        (8, 24, 99, 5),
+    for ((low, high), limit, loads) in [
+        ((0, 600), 0, 1),
+        ((9, 9), 9, 1),
+        ((9, 8), 9, 1),
+        ((100, 101), 9, 4),
+        ((100, 120), 1, 4),
+        ((8, 24), 99, 5),
     ] {
         let (found, _next) = loads_of(rt.alloc(), rows.as_slice(), low, high, limit)?;
         assert_eq!(rt; found, loads, "from {low} to {high}, {limit}");

@@ -2,11 +2,11 @@
 
 ghost use Rattle.std.specs.Prelude.{IfOk};
 
-use super::fixtures::{Tree, add, del, get, pairs, put, tree_of};
+use super::fixtures::{KINDS, Kind, Tree, call, tree_of};
 use super::limits::push;
 use super::scans::deep_rows;
 use btree_nodes::{TreeFault, scan};
-use fine_model::{Bytes, FetchFault, Items, NodeId};
+use fine_model::{Bytes, FetchFault, Items, NoMemory, NodeId};
 use std::alloc::Global;
 use std::test::*;
 
@@ -64,7 +64,7 @@ const SEPARATOR: Broken = (
 );
 
 /// A tree on these rows.
-fn tree_on(alloc: Global, lines: &[Line]) -> Result<Tree, Fail> {
+fn tree_on(alloc: Global, lines: &[Line]) -> Result<Tree, NoMemory> {
     let mut rows = Vec::new(alloc);
     for (kind, number, version, body) in lines {
         push(&mut rows, *kind, *number, *version, body)?;
@@ -73,26 +73,18 @@ fn tree_on(alloc: Global, lines: &[Line]) -> Result<Tree, Fail> {
 }
 
 /// Whether an answer names this node as unfit.
-fn is_unfit<T: Drop>(answer: &Result<T, TreeFault>, number: u32) -> bool {
+fn is_unfit(answer: Result<(), TreeFault>, number: u32) -> bool {
     match answer {
-        Err(TreeFault::Unfit { node }) => *node == NodeId { bucket: 64, number },
+        Err(TreeFault::Unfit { node }) => node == NodeId { bucket: 64, number },
         _ => false,
     }
 }
 
 /// How many of the five calls on the least key name this node as unfit.
 fn count_unfit(tree: &mut Tree, number: u32) -> u32 {
-    let key = b"AaAaAaAaAa";
-    let all = [
-        is_unfit(&get(tree, key), number),
-        is_unfit(&put(tree, key, b"1"), number),
-        is_unfit(&del(tree, key), number),
-        is_unfit(&add(tree, key, 1), number),
-        is_unfit(&pairs(tree, key, b"C", 9), number),
-    ];
     let mut count = 0u32;
-    for one in all {
-        if one {
+    for kind in KINDS {
+        if is_unfit(call(tree, b"AaAaAaAaAa", kind), number) {
             count = count.saturating_add(1);
         }
     }
@@ -100,7 +92,7 @@ fn count_unfit(tree: &mut Tree, number: u32) -> u32 {
 }
 
 /// How many of the five calls on these rows name this node as unfit, or 0 where one pushes a row.
-fn unfit_on(alloc: Global, lines: &[Line], number: u32) -> Result<u32, Fail> {
+fn unfit_on(alloc: Global, lines: &[Line], number: u32) -> Result<u32, NoMemory> {
     let mut tree = tree_on(alloc, lines)?;
     let count = count_unfit(&mut tree, number);
     Ok(if tree.log.bytes().is_empty() {
@@ -127,9 +119,9 @@ enum Ends {
     Otherwise,
 }
 
-fn end_of<T: Drop>(answer: &Result<T, TreeFault>) -> Ends {
+fn end_of(answer: Result<(), TreeFault>) -> Ends {
     match answer {
-        Ok(_) => Ends::Done,
+        Ok(()) => Ends::Done,
         Err(
             TreeFault::Source {
                 fault: FetchFault::Failed,
@@ -156,7 +148,7 @@ fn scan_behind(tree: &mut Tree, before: (Bytes, Bytes)) -> Ends {
         60,
         &mut out,
     );
-    let end = end_of(&answer);
+    let end = end_of(answer);
     let many = if end == Ends::Done { 61 } else { 1 };
     if out.len() == many {
         end
@@ -165,27 +157,22 @@ fn scan_behind(tree: &mut Tree, before: (Bytes, Bytes)) -> Ends {
     }
 }
 
-/// One of the five calls.
-fn call(tree: &mut Tree, kind: u32) -> Ends {
-    let key = b"AaAaAaAaAaAaAaAaAaAaAaAaBB";
-    match kind {
-        0 => end_of(&get(tree, key)),
-        1 => end_of(&put(tree, key, b"2")),
-        2 => end_of(&del(tree, key)),
-        3 => end_of(&add(tree, key, 1)),
-        _ => {
-            let before = (Items::new(tree.alloc), Items::new(tree.alloc));
-            scan_behind(tree, before)
-        }
+/// How one of the five calls ends, of which the scan is one behind a pair.
+fn end_call(tree: &mut Tree, kind: Kind) -> Ends {
+    if kind == Kind::Scan {
+        let before = (Items::new(tree.alloc), Items::new(tree.alloc));
+        scan_behind(tree, before)
+    } else {
+        end_of(call(tree, b"AaAaAaAaAaAaAaAaAaAaAaAaBB", kind))
     }
 }
 
 /// Makes each load of a call fail in turn, until none does. Answers how many loads there were, or 0 where an answer was another.
-fn fail_each_load(alloc: Global, rows: &[u8], kind: u32) -> Result<u32, Fail> {
+fn fail_each_load(alloc: Global, rows: &[u8], kind: Kind) -> Result<u32, NoMemory> {
     for fails in 1..20u32 {
         let mut tree = tree_of(alloc, rows)?;
         tree.source.fails = fails;
-        match call(&mut tree, kind) {
+        match end_call(&mut tree, kind) {
             Ends::Done => return Ok(tree.source.loads),
             Ends::Failed if tree.log.bytes().is_empty() && tree.source.loads == fails => {}
             _ => return Ok(0),
@@ -197,13 +184,13 @@ fn fail_each_load(alloc: Global, rows: &[u8], kind: u32) -> Result<u32, Fail> {
 #[test]
 fn a_load_that_fails_is_told(rt: HostRuntime) -> Result<(), Fail> {
     let rows = deep_rows(rt.alloc())?;
-    for kind in 0..4u32 {
+    for kind in KINDS {
+        let loads = if kind == Kind::Scan { 7 } else { 4 };
         assert_eq!(rt;
             fail_each_load(rt.alloc(), rows.as_slice(), kind)?,
-            4,
-            "call {kind}"
+            loads,
+            "{kind:?}"
         );
     }
-    assert_eq!(rt; fail_each_load(rt.alloc(), rows.as_slice(), 4)?, 7);
     Ok(())
 }

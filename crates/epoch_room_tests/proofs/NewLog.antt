@@ -1,15 +1,16 @@
 -- A new disk has no parts.
-use Rattle.std.proofs.Common.{◌≡◌, ℕ, zero, suc, ◌+◌, false, [], length, None, Some, Ok, Err, Result, refl, ap}
-use Rattle.std.specs.Prelude.{replicate}
+use Rattle.std.proofs.Common.{◌≡◌, ◌≤◌, ℕ, zero, suc, ◌+◌, ◌%◌, false, [], length, None, Some, Ok, Err, Result, refl, ap}
+use Rattle.std.specs.Prelude.{Option, replicate}
+use Rattle.fine_model.specs.RowBytes.{longest_region, most_in_log}
 use Rattle.fine_model.specs.Regions.{region_of, is_sealed}
 use Rattle.fine_model.specs.Pushed.{and_then}
 use Rattle.fine_model.specs.Trees.{is_distinct}
 use Rattle.fine_model.specs.Chain.{parts_from, apart, chain_of, chain, taken}
 use Rattle.log_partition.proofs.Heads.{in_closed}
-use Rattle.log_disk.specs.Disk.{zeros, told_anew, new_disk}
+use Rattle.log_disk.specs.Disk.{Told, zeros, told_anew, new_disk}
 use Rattle.fine_model.specs.declared.law.RoomState.{RoomState}
 use Rattle.epoch_room.specs.Value.{RoomValue}
-use Rattle.epoch_room.specs.Whole.{AreParts}
+use Rattle.epoch_room.specs.Whole.{AreParts, IsIdle}
 use Rattle.epoch_room.specs.Steps.{SealsOr, sealed_state}
 use Rattle.epoch_room.specs.declared.answers.RoomFault.{RoomFault}
 use Rattle.epoch_room.specs.declared.answers.RoomFault.TheVariants as room_fault
@@ -23,7 +24,7 @@ unfolding parts_from
 no_parts region_len regions len region zero = refl
 no_parts region_len regions len region (suc k) = rw (in_closed region_len regions region (replicate len 0) (zero_gate len)) (no_parts region_len regions len (region + 1) k)
 
-no_chain : (regions len : ℕ) → chain len (zeros regions len) ≡ Ok []
+pub no_chain : (regions len : ℕ) → chain len (zeros regions len) ≡ Ok []
 unfolding chain apart chain_of taken
 no_chain regions len = ap (λ r. and_then (and_then r apart) chain_of) (no_parts len (length (zeros regions len)) len 0 regions)
 
@@ -46,6 +47,14 @@ new_parts regions len = record {
 pub untold_parts : (regions len : ℕ) → AreParts (new_disk regions len None) [] []
 unfolding is_distinct
 untold_parts regions len = record { in_chain = record { follow = tt }; apart = record { distinct = refl; below = tt }; lie = tt; rising = tt; told = tt }
+
+-- and a room may be made on it, where it has the geometry of a log
+pub new_idle : (regions len : ℕ) (told : Option Told) → (4 ≤ regions) × (regions ≤ most_in_log) → (4096 ≤ len) × (len ≤ longest_region) → len % 1024 ≡ 0 → IsIdle (new_disk regions len told)
+new_idle regions len told few long whole = record {
+  geometry = record { regions_low = few.0; regions_high = few.1; len_low = long.0; len_high = long.1; whole = whole };
+  synced = refl;
+  no_eyes = refl;
+}
 
 -- sealing leaves the board
 pub still_boards : (old new : RoomValue) (result : Result ℕ RoomFault) → SealsOr old new result → new.room.board ≡ old.room.board

@@ -1,5 +1,7 @@
 //! The whole program beside the plain one, on scripts that are made of numbers.
 
+ghost use Rattle.std.specs.Prelude.{◌<◌, ◌≤◌};
+
 use fine_model::NoGate;
 use fine_top::fineline;
 use log_disk::{FaultPlan, MemDisk};

@@ -110,10 +110,16 @@ module _ (old new : RoomValue) (whole : IsWhole old) (beside : SameBeside old.di
         d.0,
         ap (λ (r : RoomState). r.is_shut) d.1.room,
         rises old new (subst (λ n. HasRisen n new.room.faults) (sym (ap (λ (r : RoomState). r.faults) whole.of_disk)) (subst (HasRisen old.disk.faults) (sym (ap (λ (r : RoomState). r.faults) d.1.room)) d.2.faults)),
+        record {
+          parts = ap (λ (r : RoomState). r.parts) d.1.room;
+          sealed = ap (λ (r : RoomState). r.sealed) d.1.room;
+          waiting = ap (λ (r : RoomState). r.waiting) d.1.room;
+          places = ap (λ (r : RoomState). r.places) d.1.room;
+        },
       )
   erased_or (Err (room_fault.Shut epoch)) s left = s
   erased_or (Err room_fault.NoMemory) s left =
-      let f = freed s.1.0 s.1.4 in (f.leaves, f.epochs, f.is_shut ∙ s.0, f.faults)
+      let f = freed s.1.0 s.1.4 in (f.leaves, f.epochs, f.is_shut ∙ s.0, f.faults, record { parts = ap (λ (r : RoomState). r.parts) f.same; sealed = f.epochs.0; waiting = f.epochs.1; places = f.leaves.places })
 
 -- ---- the turn
 
@@ -134,11 +140,11 @@ module _ (x : Beginning) (found new : RoomValue) (p q r : RoomPass) (first : q.n
     (taken : TakesRoom state_of x found.room p q) (stands : IsRoomFor room_state room_log Stands x (published q) found (turns q)) (c : IsCleanTurn x found q) (gave : GivesRoom new.room None 0 c.note q r) where
   pub settles_turn : (answer : Result ℕ RoomFault) → ErasesOr found new answer → SettlesTurn x found.room new.room p r answer
   settles_turn (Ok erased) s = (s.3, s.4, meets_none x found new p q q r first refl third free taken stands (stays_none q) c.note gave (let n = c.none_failed in let e = s.5 in omega (arith, n, e)))
-  settles_turn (Err room_fault.Disk) s = (s.2, s.3, meets_some x found new p q q r first refl third free taken stands (stays_none q) c.note gave (some_failed x q found new c.note c.turn s.4))
+  settles_turn (Err room_fault.Disk) s = (s.2, s.3, s.5, s.0.board, meets_some x found new p q q r first refl third free taken stands (stays_none q) c.note gave (some_failed x q found new c.note c.turn s.4))
   settles_turn (Err (room_fault.Shut epoch)) s = (
     s.0,
     s.1,
     ap (λ (v : RoomValue). v.room) s.2,
     meets_none x found new p q q r first refl third free taken stands (stays_none q) c.note gave (let n = c.none_failed in let e = ap (λ (v : RoomValue). v.room.faults) s.2 in omega (arith, n, e)),
   )
-  settles_turn (Err room_fault.NoMemory) s = (s.2, meets_none x found new p q q r first refl third free taken stands (stays_none q) c.note gave (let n = c.none_failed in let e = s.3 in omega (arith, n, e)))
+  settles_turn (Err room_fault.NoMemory) s = (s.2, s.4, s.0.board, meets_none x found new p q q r first refl third free taken stands (stays_none q) c.note gave (let n = c.none_failed in let e = s.3 in omega (arith, n, e)))

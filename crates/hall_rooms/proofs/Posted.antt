@@ -29,7 +29,7 @@ use Rattle.hall_rooms.specs.Rooms.{RoomPass}
 use Rattle.hall_rooms.specs.Boards.{TakesBackAll, with_views}
 use Rattle.hall_rooms.specs.Views.{MakesView, MakesViewOr}
 use Rattle.hall_rooms.specs.Steps.{InTurn, IsCleanTurn, IsFailedTurn, LacksView, NoneFailed, PostedBelow, PostsEachOr, PostsOr, PostsTo, Stays, with_posted}
-use Rattle.hall_rooms.specs.Turning.{NewView}
+use Rattle.hall_rooms.specs.Turning.{KeepsChain, NewView}
 use Rattle.hall_rooms.proofs.Naming.{place_alike}
 use Rattle.hall_rooms.proofs.Turned.{goes, rises, some_failed, stays_none}
 
@@ -88,7 +88,18 @@ module _ (x : Beginning) (p : RoomPass) (room : RoomValue) (t : TurnNote) (i : I
         (counts_stay x room.room new.room (seen p ++ added None 0) i.may.epochs (ap (λ (r : RoomState). r.sealed) m.room) (ap (λ (r : RoomState). r.waiting) m.room))
         (let a = i.may.top in let b = m.leaves.keeps.becomes.sealed in omega (arith, a, b)) (m.board ∙ i.may.board)
         (⊎_elim (λ low. inl (let up = m.leaves.keeps.becomes.faults in omega (arith, low, up))) (λ last. inr (let up = m.leaves.keeps.becomes.faults in omega (arith, last, up))) i.may.counted),
-    (m.was_open, m.is_shut, rises room new m.faults, m.leaves.job),
+    (
+      m.was_open,
+      m.is_shut,
+      rises room new m.faults,
+      m.leaves.job,
+      record {
+        parts = ap (λ (r : RoomState). r.parts) m.room;
+        sealed = ap (λ (r : RoomState). r.sealed) m.room;
+        waiting = ap (λ (r : RoomState). r.waiting) m.room;
+        places = ap (λ (r : RoomState). r.places) m.room;
+      },
+    ),
   )
   lacks new (room_fault.Shut epoch) m = (subst (λ r. InTurn x r p t) (sym m.2) i, m)
   lacks new room_fault.NoMemory m = (subst (λ r. InTurn x r p t) (sym m.1) i, m)
@@ -277,6 +288,18 @@ none_posted x p room c = record {
 pub job_posted : (found : RoomState) (new : RoomState) → new ≡ with_posted found new → KeepsJob found new
 job_posted found new same = record { job = ap (λ (r : RoomState). r.job) same; held = λ j is. ap (λ (r : RoomState). held_for r.image j) same }
 
+-- and the chain
+chain_posted : (found new : RoomState) → new ≡ with_posted found new → KeepsChain found new
+chain_posted found new same = record {
+  parts = ap (λ (r : RoomState). r.parts) same;
+  sealed = ap (λ (r : RoomState). r.sealed) same;
+  waiting = ap (λ (r : RoomState). r.waiting) same;
+  places = ap (λ (r : RoomState). r.places) same;
+}
+
+keeps_more : (a b c : RoomState) → KeepsChain a b → KeepsChain b c → KeepsChain a c
+keeps_more a b c s t = record { parts = t.parts ∙ s.parts; sealed = t.sealed ∙ s.sealed; waiting = t.waiting ∙ s.waiting; places = t.places ∙ s.places }
+
 pub clean_below : (x : Beginning) (i : ℕ) (found : RoomState) (room : RoomValue) (p : RoomPass) → PostedBelow x i found room p → IsCleanTurn x room p
 clean_below x i found room p b = record { note = b.note; turn = b.turn; none_failed = b.none_failed }
 
@@ -287,6 +310,7 @@ each_lacks x i seat first old new p p' room_fault.Disk b is_open at_first s = (
   subst (IsFailedTurn x new) (sym s.0) (record { note = b.note; turn = s.1; some_failed = some_failed x p old new b.note b.turn s.2.2 }),
   sym (ap (λ (r : RoomState). r.is_shut) b.same) ∙ s.2.0,
   s.2.1,
+  keeps_more first.room old.room new.room (chain_posted first.room old.room b.same) s.2.4,
 )
 each_lacks x i seat first old new p p' (room_fault.Shut epoch) b is_open at_first s = (
   subst (IsCleanTurn x new) (sym s.0) (record { note = b.note; turn = s.1; none_failed = subst (λ r. NoneFailed x r p b.note) (sym s.2.2) b.none_failed }),
@@ -301,6 +325,7 @@ each_lacks x i seat first old new p p' (room_fault.Shut epoch) b is_open at_firs
 each_lacks x i seat first old new p p' room_fault.NoMemory b is_open at_first s = (
   subst (IsCleanTurn x new) (sym s.0) (record { note = b.note; turn = s.1; none_failed = subst (λ r. NoneFailed x r p b.note) (sym s.2.1) b.none_failed }),
   ap (λ (r : RoomValue). r.room.is_shut) s.2.1 ∙ s.2.0,
+  subst (λ (r : RoomValue). KeepsChain first.room r.room) (sym s.2.1) (chain_posted first.room old.room b.same),
 )
 
 pub stays_lacks : (x : Beginning) (seat : ℕ) (t : TurnNote) (old new : RoomValue) (p p' : RoomPass) (fault : RoomFault) → PostsOr x seat t old new p p' (Err fault) → Stays p p'

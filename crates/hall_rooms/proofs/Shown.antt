@@ -1,6 +1,6 @@
 -- What waits is sealed, posted to all seats and published, in a turn, and the turn ends.
-use Rattle.std.proofs.Common.{◌≡◌, ◌⊎◌, inl, inr, ⊎_elim, ℕ, suc, zero, ◌+◌, ◌-◌, ◌<◌, ◌≤◌, true, false, true≢false, List, [], ◌∷◌, ◌++◌, set, None, Ok, Err, refl, sym, ap, ◌∙◌, subst, arith}
-use Rattle.std.specs.Prelude.{Result, slice_set}
+use Rattle.std.proofs.Common.{◌≡◌, ◌⊎◌, inl, inr, ⊎_elim, ℕ, suc, zero, ◌+◌, ◌-◌, ◌<◌, ◌≤◌, true, false, true≢false, List, [], ◌∷◌, ◌++◌, set, None, Ok, Err, refl, sym, ap, ◌∙◌, subst, arith, ne_eqb}
+use Rattle.std.specs.Prelude.{if◌then◌else◌, Result, slice_set}
 use mathlib.Core.Option.{some, some-injective}
 use lib.ListN.{get_elem?}
 use Rattle.atomic_table.specs.Seated.{TableId}
@@ -27,7 +27,7 @@ use Rattle.fine_hall.specs.Halls.{turn_of, GivesRoom, Publishes, TakesRoom}
 use Rattle.fine_hall.proofs.Since.{gives_law}
 use Rattle.fine_hall.proofs.Troubles.{troubles_law}
 use Rattle.hall_rooms.specs.Rooms.{RoomPass, room_state, room_log}
-use Rattle.hall_rooms.specs.Turning.{MeetsNone, MeetsSome, NewView, SealsTurn, TakesTurn}
+use Rattle.hall_rooms.specs.Turning.{KeepsChain, MeetsNone, MeetsSome, NewView, SealsAtMost, SealsTurn, TakesTurn}
 use Rattle.hall_rooms.specs.Steps.{InTurn, IsCleanTurn, NoneFailed, PostsEachOr, SealsWaitingOr, ShowsOr, Stays}
 use Rattle.hall_rooms.proofs.Turned.{epochs_sealed, epochs_stay, goes, some_failed, stepped}
 
@@ -45,11 +45,13 @@ seal_fails x p old mid room_fault.Disk c s = (
   record { note = c.note; turn = stepped x p old mid c.note c.turn s.0 (epochs_stay x p old mid c.note c.turn s.1); some_failed = some_failed x p old mid c.note c.turn s.4 },
   s.2,
   s.3,
+  inl s.5,
 )
 seal_fails x p old mid (room_fault.Shut epoch) c s = (subst (λ r. IsCleanTurn x r p) (sym s.2) c, s.0, s.1, s.2)
 seal_fails x p old mid room_fault.NoMemory c s = (
   record { note = c.note; turn = stepped x p old mid c.note c.turn s.0 (epochs_stay x p old mid c.note c.turn s.1); none_failed = let n = c.none_failed in let e = s.3 in omega (arith, n, e) },
   s.2,
+  inl s.4,
 )
 
 pub job_sealed : (old mid : RoomValue) (fault : RoomFault) → SealsWaitingOr old mid (Err fault) → KeepsJob old.room mid.room
@@ -59,8 +61,23 @@ job_sealed old mid room_fault.NoMemory s = s.0.job
 
 -- ---- posting
 
+-- what is sealed stays where a view could not be posted
+seals_at_most : (old mid new : RoomValue) → SealsWaitingOr old mid (Ok tt) → KeepsChain mid.room new.room → SealsAtMost old.room new.room
+seals_at_most old mid new s k = by old.room.waiting refl
+  where
+    by : (n : ℕ) → old.room.waiting ≡ n → SealsAtMost old.room new.room
+    by zero none = inl (subst (λ (v : RoomValue). KeepsChain v.room new.room) (s.2 none) k)
+    by (suc n) waits =
+        let e = s.1.epoch (λ none. absurd (omega (arith, waits, none))) in
+        inr (record {
+          epoch = (e.0, k.parts ∙ e.1, e.2);
+          sealed = k.sealed ∙ (s.1.sealed ∙ ap (λ b. if b then old.room.sealed else old.room.sealed + 1) (ne_eqb old.room.waiting 0 (λ none. omega (arith, waits, none))));
+          waiting = k.waiting ∙ s.1.none_waits;
+          places = k.places ∙ s.0.places;
+        })
+
 pub post_fails : (x : Beginning) (old mid new : RoomValue) (p' : RoomPass) (fault : RoomFault) → SealsWaitingOr old mid (Ok tt) → PostsEachOr x mid new p' (Err fault) → ShowsOr x old new p' (Err fault)
-post_fails x old mid new p' room_fault.Disk s e = (e.0, sym s.1.is_shut ∙ e.1, e.2)
+post_fails x old mid new p' room_fault.Disk s e = (e.0, sym s.1.is_shut ∙ e.1, e.2, seals_at_most old mid new s e.3)
 post_fails x old mid new p' (room_fault.Shut epoch) s e = by old.room.waiting refl
   where
     same : mid ≡ old → ShowsOr x old new p' (Err (room_fault.Shut epoch))
@@ -69,7 +86,7 @@ post_fails x old mid new p' (room_fault.Shut epoch) s e = by old.room.waiting re
     by : (n : ℕ) → old.room.waiting ≡ n → ShowsOr x old new p' (Err (room_fault.Shut epoch))
     by zero is = same (s.2 is)
     by (suc n) is = absurd (true≢false (sym (sym s.1.is_shut ∙ e.1) ∙ s.3 (λ none. absurd (omega (arith, is, none)))))
-post_fails x old mid new p' room_fault.NoMemory s e = (e.0, e.1)
+post_fails x old mid new p' room_fault.NoMemory s e = (e.0, e.1, seals_at_most old mid new s e.2)
 
 -- ---- publishing
 
@@ -177,6 +194,6 @@ module _ (x : Beginning) (found new : RoomValue) (p p₁ q r : RoomPass) (first 
   pub seals_turn : (answer : Result ℕ RoomFault) (s : ShowsOr x found new q answer) → GivesRoom new.room None 0 (in_turn x found new q answer s).0 q r → SealsTurn x found.room new.room p r answer
   unfolding in_turn
   seals_turn (Ok epoch) s gave = (s.1, gave.same_published ∙ s.2, s.3, meets_none x found new p p₁ q r first second third free taken stands stays s.0.note gave s.0.none_failed)
-  seals_turn (Err room_fault.Disk) s gave = (s.1, s.2, meets_some x found new p p₁ q r first second third free taken stands stays s.0.note gave s.0.some_failed)
+  seals_turn (Err room_fault.Disk) s gave = (s.1, s.2, s.3, meets_some x found new p p₁ q r first second third free taken stands stays s.0.note gave s.0.some_failed)
   seals_turn (Err (room_fault.Shut epoch)) s gave = (s.1, s.2, ap (λ (v : RoomValue). v.room) s.3, meets_none x found new p p₁ q r first second third free taken stands stays s.0.note gave s.0.none_failed)
-  seals_turn (Err room_fault.NoMemory) s gave = (s.1, meets_none x found new p p₁ q r first second third free taken stands stays s.0.note gave s.0.none_failed)
+  seals_turn (Err room_fault.NoMemory) s gave = (s.1, s.2, meets_none x found new p p₁ q r first second third free taken stands stays s.0.note gave s.0.none_failed)

@@ -160,6 +160,12 @@ module _ (old new : RoomValue) (whole : IsWhole old) (waits : old.room.waiting �
     s.0,
     ap (λ (r : RoomState). r.is_shut) s.1.room,
     rises old new (subst (λ n. HasRisen n new.room.faults) (sym (ap (λ (r : RoomState). r.faults) whole.of_disk)) (subst (HasRisen old.disk.faults) (sym (ap (λ (r : RoomState). r.faults) s.1.room)) s.2.faults)),
+    record {
+      parts = ap (λ (r : RoomState). r.parts) s.1.room;
+      sealed = ap (λ (r : RoomState). r.sealed) s.1.room;
+      waiting = ap (λ (r : RoomState). r.waiting) s.1.room;
+      places = ap (λ (r : RoomState). r.places) s.1.room;
+    },
   )
   sealed_err (room_fault.Shut epoch) s = s
   sealed_err room_fault.NoMemory s = (
@@ -174,6 +180,12 @@ module _ (old new : RoomValue) (whole : IsWhole old) (waits : old.room.waiting �
     (ap (λ (r : RoomState). r.sealed) s.1.room, ap (λ (r : RoomState). r.waiting) s.1.room),
     ap (λ (r : RoomState). r.is_shut) s.1.room ∙ s.0,
     ap (λ (r : RoomState). r.faults) s.1.room ∙ (s.2.faults ∙ sym (ap (λ (r : RoomState). r.faults) whole.of_disk)),
+    record {
+      parts = ap (λ (r : RoomState). r.parts) s.1.room;
+      sealed = ap (λ (r : RoomState). r.sealed) s.1.room;
+      waiting = ap (λ (r : RoomState). r.waiting) s.1.room;
+      places = ap (λ (r : RoomState). r.places) s.1.room;
+    },
   )
 
 -- the numbers that a room tells of itself

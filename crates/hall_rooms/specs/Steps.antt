@@ -16,7 +16,7 @@ use Rattle.fine_hall.specs.declared.law.Beginning.{Beginning}
 use Rattle.fine_hall.specs.Passes.{known, turns, own_turns, published, given_up, last_room, HasPlace, IsHolder}
 use Rattle.fine_hall.specs.Halls.{MayGiveRoom, Posts}
 use Rattle.hall_rooms.specs.Rooms.{RoomPass, room_state, room_log}
-use Rattle.hall_rooms.specs.Turning.{AddsEpoch, ErasesUnheld, NewView, SealedAndPosted}
+use Rattle.hall_rooms.specs.Turning.{AddsEpoch, ErasesUnheld, KeepsChain, NewView, SealedAndPosted, SealsAtMost}
 
 -- ---- a turn
 
@@ -84,9 +84,9 @@ SameEpochs old new = (new.sealed ≡ old.sealed) × (new.waiting ≡ old.waiting
 
 abbrev pub SealsWaitingOr : RoomValue → RoomValue → Result (Unit {0}) RoomFault → Type 0
 SealsWaitingOr old new (Ok done) = LeavesViews old new × IsSealed old.room new.room × (old.room.waiting ≡ 0 → new ≡ old) × ((old.room.waiting ≡ 0 → ⊥) → old.room.is_shut ≡ false)
-SealsWaitingOr old new (Err room_fault.Disk) = LeavesViews old new × SameEpochs old.room new.room × (old.room.is_shut ≡ false) × (new.room.is_shut ≡ true) × Rises old.room new.room
+SealsWaitingOr old new (Err room_fault.Disk) = LeavesViews old new × SameEpochs old.room new.room × (old.room.is_shut ≡ false) × (new.room.is_shut ≡ true) × Rises old.room new.room × KeepsChain old.room new.room
 SealsWaitingOr old new (Err (room_fault.Shut epoch)) = (old.room.is_shut ≡ true) × (epoch ≡ old.room.sealed) × (new ≡ old)
-SealsWaitingOr old new (Err room_fault.NoMemory) = LeavesViews old new × SameEpochs old.room new.room × (new.room.is_shut ≡ false) × (new.room.faults ≡ old.room.faults)
+SealsWaitingOr old new (Err room_fault.NoMemory) = LeavesViews old new × SameEpochs old.room new.room × (new.room.is_shut ≡ false) × (new.room.faults ≡ old.room.faults) × KeepsChain old.room new.room
 
 -- ---- posting
 
@@ -110,7 +110,7 @@ pub record PostsTo (x : Beginning) (seat : ℕ) (t : TurnNote) (old new : RoomVa
 
 -- no view could be made for it
 abbrev pub LacksView : RoomValue → RoomValue → RoomFault → Type 0
-LacksView old new room_fault.Disk = (old.room.is_shut ≡ false) × (new.room.is_shut ≡ true) × Rises old.room new.room × KeepsJob old.room new.room
+LacksView old new room_fault.Disk = (old.room.is_shut ≡ false) × (new.room.is_shut ≡ true) × Rises old.room new.room × KeepsJob old.room new.room × KeepsChain old.room new.room
 LacksView old new (room_fault.Shut epoch) = (old.room.is_shut ≡ true) × (epoch ≡ old.room.sealed) × (new ≡ old)
 LacksView old new room_fault.NoMemory = (old.room.is_shut ≡ false) × (new ≡ old)
 
@@ -131,23 +131,23 @@ pub record PostedBelow (x : Beginning) (seats : ℕ) (found : RoomState) (room :
 -- how a loop over the seats ends
 abbrev pub PostsEachOr : Beginning → RoomValue → RoomValue → RoomPass → Result (Unit {0}) RoomFault → Type 0
 PostsEachOr x old new p' (Ok done) = PostedBelow x x.seats old.room new p' × (new.room.is_shut ≡ false)
-PostsEachOr x old new p' (Err room_fault.Disk) = IsFailedTurn x new p' × (old.room.is_shut ≡ false) × (new.room.is_shut ≡ true)
+PostsEachOr x old new p' (Err room_fault.Disk) = IsFailedTurn x new p' × (old.room.is_shut ≡ false) × (new.room.is_shut ≡ true) × KeepsChain old.room new.room
 PostsEachOr x old new p' (Err (room_fault.Shut epoch)) = IsCleanTurn x new p' × (old.room.is_shut ≡ true) × (epoch ≡ old.room.sealed) × (new ≡ old)
-PostsEachOr x old new p' (Err room_fault.NoMemory) = IsCleanTurn x new p' × (new.room.is_shut ≡ false)
+PostsEachOr x old new p' (Err room_fault.NoMemory) = IsCleanTurn x new p' × (new.room.is_shut ≡ false) × KeepsChain old.room new.room
 
 -- ---- sealing, posting and publishing
 
 abbrev pub ShowsOr : Beginning → RoomValue → RoomValue → RoomPass → Result ℕ RoomFault → Type 0
 ShowsOr x old new p' (Ok epoch) = IsCleanTurn x new p' × (epoch ≡ new.room.sealed) × (published p' ≡ epoch) × SealedAndPosted old.room new.room x.seats
-ShowsOr x old new p' (Err room_fault.Disk) = IsFailedTurn x new p' × (old.room.is_shut ≡ false) × (new.room.is_shut ≡ true)
+ShowsOr x old new p' (Err room_fault.Disk) = IsFailedTurn x new p' × (old.room.is_shut ≡ false) × (new.room.is_shut ≡ true) × SealsAtMost old.room new.room
 ShowsOr x old new p' (Err (room_fault.Shut epoch)) = IsCleanTurn x new p' × (old.room.is_shut ≡ true) × (epoch ≡ old.room.sealed) × (new ≡ old)
-ShowsOr x old new p' (Err room_fault.NoMemory) = IsCleanTurn x new p' × (new.room.is_shut ≡ false)
+ShowsOr x old new p' (Err room_fault.NoMemory) = IsCleanTurn x new p' × (new.room.is_shut ≡ false) × SealsAtMost old.room new.room
 
 -- ---- erasing
 
 -- what every answer leaves: the epochs are as they were, and no view comes or goes
 abbrev pub ErasesOr : RoomValue → RoomValue → Result ℕ RoomFault → Type 0
 ErasesOr old new (Ok erased) = LeavesViews old new × SameEpochs old.room new.room × (old.room.is_shut ≡ false) × (new.room.is_shut ≡ false) × ErasesUnheld old.room new.room erased × (new.room.faults ≡ old.room.faults)
-ErasesOr old new (Err room_fault.Disk) = LeavesViews old new × SameEpochs old.room new.room × (old.room.is_shut ≡ false) × (new.room.is_shut ≡ true) × Rises old.room new.room
+ErasesOr old new (Err room_fault.Disk) = LeavesViews old new × SameEpochs old.room new.room × (old.room.is_shut ≡ false) × (new.room.is_shut ≡ true) × Rises old.room new.room × KeepsChain old.room new.room
 ErasesOr old new (Err (room_fault.Shut epoch)) = (old.room.is_shut ≡ true) × (epoch ≡ old.room.sealed) × (new ≡ old)
-ErasesOr old new (Err room_fault.NoMemory) = LeavesViews old new × SameEpochs old.room new.room × (new.room.is_shut ≡ false) × (new.room.faults ≡ old.room.faults)
+ErasesOr old new (Err room_fault.NoMemory) = LeavesViews old new × SameEpochs old.room new.room × (new.room.is_shut ≡ false) × (new.room.faults ≡ old.room.faults) × KeepsChain old.room new.room

@@ -66,6 +66,24 @@ pub record NewView (given : List ℕ) (parts : List Part) (board : List Buffer) 
 abbrev pub AddsEpoch : RoomState → RoomState → Type 0
 AddsEpoch old new = (p : Part) × (new.parts ≡ old.parts ++ p ∷ []) × (p.header.range ≡ record { first = old.sealed + 1; last = old.sealed + 1 })
 
+-- the chain, the epochs and the places are as they were
+pub record KeepsChain (found room : RoomState) : Type 0 where
+  pub parts : room.parts ≡ found.parts
+  pub sealed : room.sealed ≡ found.sealed
+  pub waiting : room.waiting ≡ found.waiting
+  pub places : room.places ≡ found.places
+
+-- what waited is sealed as one epoch more, and no place was given
+pub record SealsChain (found room : RoomState) : Type 0 where
+  pub epoch : AddsEpoch found room
+  pub sealed : room.sealed ≡ found.sealed + 1
+  pub waiting : room.waiting ≡ 0
+  pub places : room.places ≡ found.places
+
+-- what waited is sealed, or still waits
+abbrev pub SealsAtMost : RoomState → RoomState → Type 0
+SealsAtMost found room = KeepsChain found room ⊎ SealsChain found room
+
 -- What waited is sealed, as one epoch more, and each seat has a new view of all live parts. What is retired, free or lost is as it was, and so is
 -- the chain where nothing waited.
 pub record SealedAndPosted (found room : RoomState) (seats : ℕ) : Type 0 where
@@ -81,9 +99,9 @@ pub record SealedAndPosted (found room : RoomState) (seats : ℕ) : Type 0 where
 
 abbrev pub SealsTurn : Beginning → RoomState → RoomState → RoomPass → RoomPass → Result ℕ RoomFault → Type 0
 SealsTurn x found room p p' (Ok epoch) = (epoch ≡ room.sealed) × (published p' ≡ epoch) × SealedAndPosted found room x.seats × MeetsNone x p p'
-SealsTurn x found room p p' (Err room_fault.Disk) = (found.is_shut ≡ false) × (room.is_shut ≡ true) × MeetsSome x p p'
+SealsTurn x found room p p' (Err room_fault.Disk) = (found.is_shut ≡ false) × (room.is_shut ≡ true) × SealsAtMost found room × MeetsSome x p p'
 SealsTurn x found room p p' (Err (room_fault.Shut epoch)) = (found.is_shut ≡ true) × (epoch ≡ found.sealed) × (room ≡ found) × MeetsNone x p p'
-SealsTurn x found room p p' (Err room_fault.NoMemory) = (room.is_shut ≡ false) × MeetsNone x p p'
+SealsTurn x found room p p' (Err room_fault.NoMemory) = (room.is_shut ≡ false) × SealsAtMost found room × MeetsNone x p p'
 
 -- one turn without an entry, in which what waits is sealed, posted and published
 pub record SealsAndPosts (x : Beginning) (p p' : RoomPass) (r : Result ℕ RoomFault) : Type 0 where
@@ -106,9 +124,9 @@ pub record ErasesUnheld (found room : RoomState) (erased : ℕ) : Type 0 where
 
 abbrev pub SettlesTurn : Beginning → RoomState → RoomState → RoomPass → RoomPass → Result ℕ RoomFault → Type 0
 SettlesTurn x found room p p' (Ok erased) = (room.is_shut ≡ false) × ErasesUnheld found room erased × MeetsNone x p p'
-SettlesTurn x found room p p' (Err room_fault.Disk) = (found.is_shut ≡ false) × (room.is_shut ≡ true) × MeetsSome x p p'
+SettlesTurn x found room p p' (Err room_fault.Disk) = (found.is_shut ≡ false) × (room.is_shut ≡ true) × KeepsChain found room × (room.board ≡ found.board) × MeetsSome x p p'
 SettlesTurn x found room p p' (Err (room_fault.Shut epoch)) = (found.is_shut ≡ true) × (epoch ≡ found.sealed) × (room ≡ found) × MeetsNone x p p'
-SettlesTurn x found room p p' (Err room_fault.NoMemory) = (room.is_shut ≡ false) × MeetsNone x p p'
+SettlesTurn x found room p p' (Err room_fault.NoMemory) = (room.is_shut ≡ false) × KeepsChain found room × (room.board ≡ found.board) × MeetsNone x p p'
 
 -- one turn without an entry, in which each retired part is erased that no view names
 pub record SettlesViews (x : Beginning) (p p' : RoomPass) (r : Result ℕ RoomFault) : Type 0 where

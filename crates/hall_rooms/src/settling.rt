@@ -26,6 +26,7 @@ pub(crate) fn erase_unheld<D: LogDisk>(room: &mut Room<D>) -> Result<u32, RoomFa
 /// the room.
 ///
 /// `Disk` comes only where the disk failed in this call, and the room is shut; `Shut` exactly where it was shut before, and the turn leaves it as it was.
+/// After `Disk` and `NoMemory` some parts may be erased, and the chain, the epochs, the places and the board are as they were.
 pub fn settle_views<D: LogDisk, W: Wait>(
     rt: &W,
     hall: &RoomHall<D>,

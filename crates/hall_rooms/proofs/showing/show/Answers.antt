@@ -7,7 +7,7 @@ use Rattle.epoch_room.specs.declared.answers.RoomFault.{RoomFault}
 use Rattle.hall_rooms.specs.Rooms.{beginning_of}
 use Rattle.hall_rooms.specs.Steps.{ShowsOr}
 use Rattle.hall_rooms.proofs.Crossing.{bucket_send, in_hall_send}
-use Rattle.hall_rooms.proofs.Shown.{seal_fails, sealed_clean, shown, stays_published}
+use Rattle.hall_rooms.proofs.Shown.{post_fails, seal_fails, sealed_clean, shown, stays_published}
 use Rattle.hall_rooms.proofs.Turned.{counted, stays_more}
 use Rattle.hall_rooms.proofs.showing.show.Goals as goal
 
@@ -17,6 +17,14 @@ returns-in_err-seal_waiting-clause-shows g c =
     let p = err_from_is_err_and c.from_residual.result c.from_residual.ensures.1 in
     let e : ◌≡◌ {A = Result ℕ RoomFault} c.from_residual.result (Err fault) = cc (p.1, p.2) in
     subst (ShowsOr (beginning_of c.args.hall.now) c.args.room.now c.seal_waiting.new.room c.args.pass.now) (sym e) (seal_fails (beginning_of c.args.hall.now) c.args.pass.now c.args.room.now c.seal_waiting.new.room fault c.requires.turn c.in_err-seal_waiting.ensures)
+
+pub returns-in_err-post_to_each-clause-shows : goal.returns-in_err-post_to_each-clause-shows
+returns-in_err-post_to_each-clause-shows g c =
+    let fault = c.in_err-post_to_each.field-0.0 in
+    let p = err_from_is_err_and c.from_residual-in_err-post_to_each.result c.from_residual-in_err-post_to_each.ensures.1 in
+    let e : ◌≡◌ {A = Result ℕ RoomFault} c.from_residual-in_err-post_to_each.result (Err fault) = cc (p.1, p.2) in
+    subst (ShowsOr (beginning_of c.args.hall.now) c.args.room.now c.post_to_each.new.room c.post_to_each.new.pass) (sym e)
+    (post_fails (beginning_of c.args.hall.now) c.args.room.now c.seal_waiting.new.room c.post_to_each.new.room c.post_to_each.new.pass fault c.in_ok-seal_waiting.ensures c.in_err-post_to_each.ensures.posts)
 
 pub post_to_each-requires-clause-turn : goal.post_to_each-requires-clause-turn
 post_to_each-requires-clause-turn g c κs within = sealed_clean (beginning_of c.args.hall.now) c.args.pass.now c.args.room.now c.seal_waiting.new.room c.requires.turn c.in_ok-seal_waiting.ensures

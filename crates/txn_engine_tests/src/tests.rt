@@ -11,6 +11,14 @@ use log_disk::FaultPlan;
 use std::test::Fail;
 use txn_engine::{CommitFault, Space, TxnFault};
 
+// Whether each line of a table answered as it is to.
+fn is_room(outcome: Outcome) -> bool {
+    match outcome {
+        Outcome::Room(_counts) => true,
+        _ => false,
+    }
+}
+
 // The second transaction finds the bucket of the account 1 held, and goes through once the first has committed.
 #[test]
 fn a_conflict_is_tried_again(rt: HostRuntime) -> Result<(), Fail> {
@@ -84,6 +92,27 @@ fn what_was_evicted_is_read_again(rt: HostRuntime) -> Result<(), Fail> {
     };
     let outcome = walked(&rt, rt.alloc(), FaultPlan::none(rt.alloc()), &table);
     assert!(rt; outcome == Outcome::Room(counts));
+    Ok(())
+}
+
+// The node is cached until the end of the second transaction, though it was published before. So the first read of the seat 1 is the look for the
+// bucket's head, which is in no part, and the second get looks for the head and then for the node, whose rows are the fourth read.
+#[test]
+fn what_is_published_is_evicted_at_the_end(rt: HostRuntime) -> Result<(), Fail> {
+    for (end, told) in [(Commit, Committed(2, 2)), (Abort, Aborted)] {
+        let mut plan = FaultPlan::none(rt.alloc());
+        plan.eye_reads.push((5, 4))?;
+        let table = [
+            Line(One(Put(1, 10)), Stored),
+            Line(One(Commit), Committed(1, 1)),
+            Line(Two(Show), Shown(1)),
+            Line(One(Get(1)), Balance(10)),
+            Line(One(end), told),
+            Line(One(Get(1)), Refused(TxnFault::Disk)),
+        ];
+        let outcome = walked(&rt, rt.alloc(), plan, &table);
+        assert!(rt; is_room(outcome));
+    }
     Ok(())
 }
 

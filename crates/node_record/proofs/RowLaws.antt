@@ -135,6 +135,14 @@ module _ (mark : Mark) where
         },
       )
 
+  -- fewer bytes than stand before a body are no front
+  pub front_short : (bytes : List ℕ) → IsBytes bytes → length bytes < 19 → front_at mark bytes ≡ None
+  front_short bytes fits short = by (front_at mark bytes) refl
+    where
+      by : (read : Option (Front × List ℕ)) → front_at mark bytes ≡ read → read ≡ None
+      by (Some x) is = let long = (front_takes bytes x.0 x.1 fits is).0.parts in absurd (omega (arith, short, ap length long, length-append (front_text x.0) x.1))
+      by None is = refl
+
   front_again : (front : Front) (rest : List ℕ) → FrontFits mark front → front.kind < 256 → front.len < 2 ^ 32 → front_at mark (front_text front ++ rest) ≡ Some (front, rest)
   unfolding front_at
   front_again front rest fits small short =

@@ -159,6 +159,11 @@ body_at kind bytes =
 abbrev pub fits_kind : ℕ → ℕ → Bool
 fits_kind kind number = if kind == 1 then number == 0 else not (number == 0)
 
+-- the bounds of a format
+abbrev pub is_front : Mark → Front → Bool
+is_front mark front =
+    nat_le front.kind (last_kind mark) && (within 0 (buckets - 1) front.node.bucket && ((nat_le front.node.number (node_numbers - 1) && fits_kind front.kind front.node.number) && within 1 greatest front.version))
+
 unfoldable pub front_at : Mark → List ℕ → Option (Front × List ℕ)
 front_at mark bytes = do
   kind ← only (λ k. nat_le k (last_kind mark)) (byte_at bytes)

@@ -242,6 +242,7 @@ pub mod pair {
     }
 
     /// The place behind it.
+    #[inline(always)]
     #[tactic(auto, unfolding(crate::specs::Reading::put_at))]
     pub fn end(bytes: &[u8], start: usize, at: usize) -> Result<usize, RowFault>
         requires { at ≤ length bytes.now }

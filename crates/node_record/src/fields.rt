@@ -1,7 +1,7 @@
 //! The fields of which rows are made.
 
-ghost use Rattle.std.specs.Prelude.{◌≡◌, ◌+◌, ◌≤◌, ◌∷◌, [], length, drop, option_map, IfOk, vec_len, vec_capacity, if◌then◌else◌};
-ghost use Rattle.std.specs.Int.{to_be_bytes, w16, w32, w64};
+ghost use Rattle.std.specs.Prelude.{◌≡◌, ◌+◌, ◌≤◌, ◌∷◌, [], length, take, drop, option_map, IfOk, vec_len, vec_capacity, if◌then◌else◌};
+ghost use Rattle.std.specs.Int.{to_be_bytes, w16, w32};
 ghost use Rattle.fine_model.specs.RowBytes.{FitsKey, FitsValue, key_bytes, value_bytes};
 ghost use Rattle.node_record.specs.declared.fault.RowFault.TheVariants as fault;
 ghost use Rattle.node_record.specs.Reading.{Gives, Finds, text_at, byte_at, number_at, signed_at, key_at, value_at, pair_at, child_at};
@@ -41,6 +41,7 @@ pub fn put_value(out: &mut Vec<u8>, value: &Bytes)
 }
 
 /// The field of `N` bytes at a place, where the bytes reach so far.
+#[inline(always)]
 pub fn field<const N: usize>(bytes: &[u8], at: usize) -> Option<[u8; N]>
     requires { at ≤ length bytes.now }
     ensures { result ≡ option_map (λ text. text.0) (text_at N (drop at bytes.now)) }
@@ -48,7 +49,20 @@ pub fn field<const N: usize>(bytes: &[u8], at: usize) -> Option<[u8; N]>
     bytes[at..].first_chunk::<N>().copied()
 }
 
+/// The field of `N` bytes at a place, where the bytes are known to reach so far.
+#[inline(always)]
+pub fn part<const N: usize>(bytes: &[u8], at: usize) -> [u8; N]
+    requires { at + N ≤ length bytes.now }
+    ensures { result ≡ take N (drop at bytes.now) }
+{
+    match bytes[at..at + N].as_array::<N>() {
+        Some(part) => *part,
+        None => unreachable!(),
+    }
+}
+
 /// Goes on where a test holds. The row that is read starts at `start`.
+#[inline(always)]
 pub fn sure(holds: bool, start: usize) -> Result<(), RowFault>
     ensures { result ≡ (if holds then Ok tt else Err (fault.Bad start)) }
 {
@@ -60,6 +74,7 @@ pub fn sure(holds: bool, start: usize) -> Result<(), RowFault>
 }
 
 /// A number of one byte, and the place behind it, as below.
+#[inline(always)]
 #[tactic(auto, unfolding(crate::specs::Reading::byte_at))]
 pub fn byte(bytes: &[u8], start: usize, at: usize) -> Result<(u8, usize), RowFault>
     requires { at ≤ length bytes.now }
@@ -71,6 +86,7 @@ pub fn byte(bytes: &[u8], start: usize, at: usize) -> Result<(u8, usize), RowFau
     }
 }
 
+#[inline(always)]
 #[tactic(auto, unfolding(crate::specs::Reading::number_at))]
 pub fn number_u16(bytes: &[u8], start: usize, at: usize) -> Result<(u16, usize), RowFault>
     requires { at ≤ length bytes.now }
@@ -82,6 +98,7 @@ pub fn number_u16(bytes: &[u8], start: usize, at: usize) -> Result<(u16, usize),
     }
 }
 
+#[inline(always)]
 #[tactic(auto, unfolding(crate::specs::Reading::number_at))]
 pub fn number_u32(bytes: &[u8], start: usize, at: usize) -> Result<(u32, usize), RowFault>
     requires { at ≤ length bytes.now }
@@ -89,17 +106,6 @@ pub fn number_u32(bytes: &[u8], start: usize, at: usize) -> Result<(u32, usize),
 {
     match field::<4>(bytes, at) {
         Some(text) => Ok((u32::from_be_bytes(text), at + 4)),
-        None => Err(RowFault::Bad { at: start }),
-    }
-}
-
-#[tactic(auto, unfolding(crate::specs::Reading::number_at))]
-pub fn number_u64(bytes: &[u8], start: usize, at: usize) -> Result<(u64, usize), RowFault>
-    requires { at ≤ length bytes.now }
-    ensures { Finds (λ n. n) bytes.now start result (number_at w64 (drop at bytes.now)) }
-{
-    match field::<8>(bytes, at) {
-        Some(text) => Ok((u64::from_be_bytes(text), at + 8)),
         None => Err(RowFault::Bad { at: start }),
     }
 }
@@ -117,6 +123,7 @@ pub fn number_i64(bytes: &[u8], start: usize, at: usize) -> Result<(i64, usize),
 }
 
 /// So many bytes, as they stand there.
+#[inline(always)]
 fn text_in(bytes: &[u8], start: usize, at: usize, len: usize) -> Result<(&[u8], usize), RowFault>
     requires { at ≤ length bytes.now }
     ensures { Finds (λ text. text.now) bytes.now start result (text_at len (drop at bytes.now)) }
@@ -127,6 +134,7 @@ fn text_in(bytes: &[u8], start: usize, at: usize, len: usize) -> Result<(&[u8], 
 }
 
 /// A key, as it stands there.
+#[inline(always)]
 #[tactic(auto, unfolding(crate::specs::Reading::key_at))]
 pub fn key_in(bytes: &[u8], start: usize, at: usize) -> Result<(&[u8], usize), RowFault>
     requires { at ≤ length bytes.now }
@@ -137,6 +145,7 @@ pub fn key_in(bytes: &[u8], start: usize, at: usize) -> Result<(&[u8], usize), R
     text_in(bytes, start, at, len as usize)
 }
 
+#[inline(always)]
 #[tactic(auto, unfolding(crate::specs::Reading::value_at))]
 fn value_in(bytes: &[u8], start: usize, at: usize) -> Result<(&[u8], usize), RowFault>
     requires { at ≤ length bytes.now }
@@ -148,6 +157,7 @@ fn value_in(bytes: &[u8], start: usize, at: usize) -> Result<(&[u8], usize), Row
 }
 
 /// A key and a value, as they stand there.
+#[inline(always)]
 #[tactic(auto, unfolding(crate::specs::Reading::pair_at))]
 pub fn pair_in(bytes: &[u8], start: usize, at: usize) -> Result<((&[u8], &[u8]), usize), RowFault>
     requires { at ≤ length bytes.now }

@@ -25,6 +25,7 @@ const LAST_IMAGE: u8 = 3;
 /// The frame of the row that starts at a place, by the grammar of a format. It accepts what `read_row` accepts, and takes no memory.
 ///
 /// The one fault is `Bad`, exactly where nothing that starts there is a row of the format, whatever the bytes are.
+#[inline(always)]
 pub fn frame_at(bytes: &[u8], at: usize, mark: Mark) -> Result<Frame, RowFault>
     requires { at ≤ length bytes.now }
     ensures found { IfOk result (IsFrameAt mark bytes.now at) }

@@ -1,9 +1,10 @@
 //! Rows that are found in bytes by their fronts alone.
 
-ghost use Rattle.std.specs.Prelude.{◌≡◌, ◌+◌, ◌≤◌, length, drop, take};
+ghost use Rattle.std.specs.Prelude.{◌≡◌};
 ghost use Rattle.fine_model.specs.declared.Row.{Row};
 ghost use Rattle.node_record.specs.Keys.{IsKeyOf, SortedLaw, StartsAt};
 
+use crate::fields::part;
 use fine_model::NodeId;
 use fine_model::format::ROW_FRONT;
 
@@ -14,16 +15,6 @@ pub struct RowAt {
     pub version: u64,
     pub at: u32,
     pub len: u32,
-}
-
-/// The bytes of a field.
-fn part<const N: usize>(bytes: &[u8], at: usize) -> [u8; N]
-    requires { at + N ≤ length bytes.now }
-    ensures { result ≡ take N (drop at bytes.now) }
-{
-    let mut part = [0; N];
-    part.copy_from_slice(&bytes[at..at + N]);
-    part
 }
 
 /// The key of the row that starts at a place, read off the 19 bytes before its body. It takes no memory.

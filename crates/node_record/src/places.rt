@@ -8,6 +8,7 @@ ghost use Rattle.node_record.specs.Places.{StandsAt, BelongsAt};
 use fine_model::{Bytes, Keys, Pairs};
 
 /// Whether `a` stands before `b` in byte order.
+#[inline(always)]
 pub fn is_below(a: &[u8], b: &[u8]) -> bool
     ensures { result ≡ is_below a.now b.now }
 {

@@ -1,15 +1,15 @@
 //! Rows as bytes.
 
-ghost use Rattle.std.specs.Prelude.{◌≡◌, ◌+◌, ◌≤◌, ◌<◌, ◌++◌, ◌==◌, length, drop, vec_len, vec_capacity, IfOk, IfErr, OnOk, OnErr, if◌then◌else◌};
+ghost use Rattle.std.specs.Prelude.{◌≡◌, ◌+◌, ◌≤◌, ◌<◌, ◌++◌, ◌==◌, length, drop, option_map, vec_len, vec_capacity, IfOk, IfErr, OnOk, OnErr, if◌then◌else◌};
 ghost use Rattle.fine_model.specs.RowBytes.{FitsRec, row_bytes, row_len, last_kind, row_front};
 ghost use Rattle.node_record.specs.declared.fault.RowFault.TheVariants as fault;
-ghost use Rattle.node_record.specs.Reading.{Finds, Passes, behind, body_at, fits_kind, front_at};
+ghost use Rattle.node_record.specs.Reading.{Finds, Passes, behind, body_at, fits_kind, front_at, is_front};
 ghost use Rattle.node_record.specs.Rows.{IsRowAt, IsFault, IsReadAgain};
 ghost use Rattle.node_record.specs.Writing.{Appends, front};
 
 use crate::bodies::{head, inner, key, leaf, link, pair, plus};
 use crate::fault::RowFault;
-use crate::fields::{byte, number_u16, number_u32, number_u64, put, sure};
+use crate::fields::{part, put, sure};
 use crate::front::Front;
 use fine_model::format::{BUCKETS, GREATEST, NODE_NUMBERS, ROW_FRONT};
 use fine_model::{Mark, NoMemory, NodeId, Rec, Row};
@@ -108,6 +108,7 @@ pub fn write_row(out: &mut Vec<u8>, row: &Row) -> Result<(), NoMemory>
 }
 
 /// The greatest kind in a partition of a format.
+#[inline(always)]
 fn last_kind(mark: Mark) -> u8
     ensures { result ≡ last_kind mark }
 {
@@ -118,42 +119,86 @@ fn last_kind(mark: Mark) -> u8
 }
 
 /// Whether a row of this kind may name a node of this number.
+#[inline(always)]
 fn fits_kind(kind: u8, number: u32) -> bool
     ensures { result ≡ fits_kind kind number }
 {
     if kind == 1 { number == 0 } else { number != 0 }
 }
 
+/// Whether what stands before the body of a row is within the bounds of a format.
+#[inline(always)]
+fn is_front(front: Front, mark: Mark) -> bool
+    ensures { result ≡ is_front mark front }
+{
+    front.kind <= last_kind(mark)
+        && front.node.bucket < BUCKETS
+        && front.node.number < NODE_NUMBERS
+        && fits_kind(front.kind, front.node.number)
+        && 1 <= front.version
+        && front.version <= GREATEST
+}
+
+/// The front of a row in bytes that are long enough for one. One test of the length stands for those of its fields.
+#[inline(always)]
+fn front_in(bytes: &[u8], start: usize, mark: Mark) -> Option<Front>
+    requires { start + row_front ≤ length bytes.now }
+    ensures { front_at mark (drop start bytes.now) ≡ option_map (λ front. (front, drop (start + row_front) bytes.now)) result }
+{
+    let node = NodeId {
+        bucket: u16::from_be_bytes(part::<2>(bytes, start + 1)),
+        number: u32::from_be_bytes(part::<4>(bytes, start + 3)),
+    };
+    let front = Front {
+        node,
+        version: u64::from_be_bytes(part::<8>(bytes, start + 7)),
+        len: u32::from_be_bytes(part::<4>(bytes, start + 15)),
+        kind: bytes[start],
+    };
+    if is_front(front, mark) {
+        Some(front)
+    } else {
+        None
+    }
+}
+
 /// What stands before the body of a row.
-#[tactic(auto, unfolding(crate::specs::Reading::front_at))]
+#[inline(always)]
 pub fn read_front(bytes: &[u8], start: usize, mark: Mark) -> Result<(Front, usize), RowFault>
     requires { start ≤ length bytes.now }
     ensures { Finds (λ front. front) bytes.now start result (front_at mark (drop start bytes.now)) }
 {
-    let (kind, at) = byte(bytes, start, start)?;
-    sure(kind <= last_kind(mark), start)?;
-    let (bucket, at) = number_u16(bytes, start, at)?;
-    sure(bucket < BUCKETS, start)?;
-    let (number, at) = number_u32(bytes, start, at)?;
-    sure(number < NODE_NUMBERS && fits_kind(kind, number), start)?;
-    let (version, at) = number_u64(bytes, start, at)?;
-    sure(1 <= version && version <= GREATEST, start)?;
-    let (len, at) = number_u32(bytes, start, at)?;
-    let node = NodeId { bucket, number };
-    Ok((
-        Front {
-            kind,
-            node,
-            version,
-            len,
-        },
-        at,
-    ))
+    if bytes.len() - start < ROW_FRONT {
+        return Err(RowFault::Bad { at: start });
+    }
+    match front_in(bytes, start, mark) {
+        Some(front) => Ok((front, start + ROW_FRONT)),
+        None => Err(RowFault::Bad { at: start }),
+    }
 }
 
-/// The place behind the body of a kind that stands at `at`, in a row that starts at `start`.
+/// The kind of a row that puts a pair.
+const PUT: u8 = 4;
+
+/// The place behind the body of a kind that stands at `at`, in a row that starts at `start`. Nearly all rows put a pair, so these are told
+/// apart first, and pass through no call.
+#[inline(always)]
 #[tactic(auto, unfolding(crate::specs::Reading::body_at))]
 pub fn body_end(kind: u8, bytes: &[u8], start: usize, at: usize) -> Result<usize, RowFault>
+    requires { at ≤ length bytes.now }
+    ensures { Passes bytes.now start result (behind (body_at kind (drop at bytes.now))) }
+{
+    if kind == PUT {
+        pair::end(bytes, start, at)
+    } else {
+        any_end(kind, bytes, start, at)
+    }
+}
+
+/// The same, for all kinds alike.
+#[inline(never)]
+#[tactic(auto, unfolding(crate::specs::Reading::body_at))]
+fn any_end(kind: u8, bytes: &[u8], start: usize, at: usize) -> Result<usize, RowFault>
     requires { at ≤ length bytes.now }
     ensures { Passes bytes.now start result (behind (body_at kind (drop at bytes.now))) }
 {
@@ -161,6 +206,7 @@ pub fn body_end(kind: u8, bytes: &[u8], start: usize, at: usize) -> Result<usize
 }
 
 /// Whether a body has the length that its front says.
+#[inline(always)]
 pub fn is_whole(front: Front, body: usize, end: usize) -> bool
     ensures { result ≡ (end == body + front.len) }
 {

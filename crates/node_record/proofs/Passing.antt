@@ -1,5 +1,5 @@
 -- Passing over a row: what stands behind what is read, and the frame of a row.
-use Rattle.std.proofs.Common.{◌≡◌, ℕ, suc, ◌+◌, ◌≤◌, Bool, true, false, cond, leb, eqb, ◌&&◌, List, [], ◌∷◌, length, map, drop, Option, Some, None, Result, Ok, Err, refl, sym, ap, ◌∙◌, arith, true≢false}
+use Rattle.std.proofs.Common.{◌≡◌, ℕ, suc, ◌+◌, ◌-◌, ◌<◌, ◌≤◌, Bool, true, false, cond, leb, eqb, ◌&&◌, List, [], ◌∷◌, length, map, drop, Option, Some, None, Result, Ok, Err, refl, sym, ap, ◌∙◌, arith, true≢false}
 use Rattle.std.specs.Prelude.{IfErr}
 use Rattle.std.specs.List.{AllByRecursion}
 use Rattle.fine_model.specs.declared.Mark.{Mark}
@@ -39,6 +39,50 @@ pairs_step before n bytes pair rest read below = ap (λ (r : Option (Pair × Lis
     by : (r : Option (List Pair × List ℕ)) → behind (only test (r >>= λ others. found (pair ∷ others.0) others.1)) ≡ behind (only (λ pairs. is_ascending (pair.0 ∷ keys_of pairs)) r)
     by (Some xs) = ap (λ b. behind (cond (b && is_ascending (pair.0 ∷ keys_of xs.0)) (found (pair ∷ xs.0) xs.1) None)) below ∙ same (is_ascending (pair.0 ∷ keys_of xs.0)) xs
     by None = refl
+
+-- the pairs of a leaf one after the other, as a loop passes over them
+abbrev pub behind_pairs : List ℕ → ℕ → List ℕ → Option (List ℕ)
+behind_pairs before n bytes = behind (ascending_at (map (λ p. p.0)) pair_at before n bytes)
+
+no_pair : (before : List ℕ) (n : ℕ) (bytes : List ℕ) → pair_at bytes ≡ None → behind_pairs before (suc n) bytes ≡ None
+unfolding items_at
+no_pair before n bytes none = ap (λ (r : Option (Pair × List ℕ)). behind (only (λ pairs. is_ascending (before ∷ keys_of pairs)) (r >>= λ first. items_at pair_at n first.1 >>= λ others. found (first.0 ∷ others.0) others.1))) none
+
+not_below : (before : List ℕ) (n : ℕ) (bytes : List ℕ) (pair : Pair) (rest : List ℕ) → pair_at bytes ≡ Some (pair, rest) → is_below before pair.0 ≡ false → behind_pairs before (suc n) bytes ≡ None
+unfolding items_at
+not_below before n bytes pair rest read below = ap (λ (r : Option (Pair × List ℕ)). behind (only test (r >>= λ first. items_at pair_at n first.1 >>= λ others. found (first.0 ∷ others.0) others.1))) read ∙ by (items_at pair_at n rest)
+  where
+    test : List Pair → Bool
+    test pairs = is_ascending (before ∷ keys_of pairs)
+
+    by : (r : Option (List Pair × List ℕ)) → behind (only test (r >>= λ others. found (pair ∷ others.0) others.1)) ≡ None
+    by (Some xs) = ap (λ b. behind (cond (b && is_ascending (pair.0 ∷ keys_of xs.0)) (found (pair ∷ xs.0) xs.1) None)) below
+    by None = refl
+
+none_left : (before bytes : List ℕ) → behind_pairs before 0 bytes ≡ Some bytes
+unfolding items_at
+none_left before bytes = refl
+
+module _ (before : List ℕ) (count i : ℕ) (bytes : List ℕ) (total : Option (List ℕ)) (so_far : behind_pairs before (count - i) bytes ≡ total) where
+  pub pairs_go_on : (pair : Pair) (rest : List ℕ) → i < count → pair_at bytes ≡ Some (pair, rest) → is_below before pair.0 ≡ true → behind_pairs pair.0 (count - (i + 1)) rest ≡ total
+  pairs_go_on pair rest lt read below =
+      let k : count - i ≡ suc (count - (i + 1)) = omega arith in
+      sym (ap (λ (n : ℕ). behind_pairs before n bytes) k ∙ pairs_step before (count - (i + 1)) bytes pair rest read below) ∙ so_far
+
+  pub pairs_fail : i < count → pair_at bytes ≡ None → total ≡ None
+  pairs_fail lt none =
+      let k : count - i ≡ suc (count - (i + 1)) = omega arith in
+      sym so_far ∙ ap (λ (n : ℕ). behind_pairs before n bytes) k ∙ no_pair before (count - (i + 1)) bytes none
+
+  pub pairs_fall : (pair : Pair) (rest : List ℕ) → i < count → pair_at bytes ≡ Some (pair, rest) → is_below before pair.0 ≡ false → total ≡ None
+  pairs_fall pair rest lt read below =
+      let k : count - i ≡ suc (count - (i + 1)) = omega arith in
+      sym so_far ∙ ap (λ (n : ℕ). behind_pairs before n bytes) k ∙ not_below before (count - (i + 1)) bytes pair rest read below
+
+  pub pairs_done : count ≤ i → total ≡ Some bytes
+  pairs_done le =
+      let k : count - i ≡ 0 = omega arith in
+      sym so_far ∙ ap (λ (n : ℕ). behind_pairs before n bytes) k ∙ none_left before bytes
 
 -- an empty key stands before each key
 first_key : (k : List ℕ) (ks : List (List ℕ)) → 1 ≤ length k → is_ascending ([] ∷ k ∷ ks) ≡ is_ascending (k ∷ ks)

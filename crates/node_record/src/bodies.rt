@@ -129,7 +129,7 @@ pub mod leaf {
     {
         let (count, at) = byte(bytes, start, at)?;
         sure(count as usize <= MOST_IN_NODE, start)?;
-        pairs_end(bytes, start, at, count, &[])
+        pairs_end(bytes, start, at, count)
     }
 }
 

@@ -1,6 +1,6 @@
 //! Fields that stand one after the other.
 
-ghost use Rattle.std.specs.Prelude.{◌≡◌, ℕ, ◌≤◌, List, Option, length, drop, map};
+ghost use Rattle.std.specs.Prelude.{◌≡◌, ℕ, ◌≤◌, List, Option, [], length, drop, map};
 ghost use Rattle.node_record.specs.Reading.{Gives, Passes, behind, ascending_at, key_at, pair_at, child_at, items_at};
 
 use crate::fault::RowFault;
@@ -81,24 +81,21 @@ pub fn items<T: Field + Drop>(
     Ok((items, end))
 }
 
-/// The place behind so many pairs, whose keys ascend from the key before them.
-#[tactic(auto, unfolding(crate::specs::Reading::items_at))]
-pub fn pairs_end(
-    bytes: &[u8],
-    start: usize,
-    at: usize,
-    count: u8,
-    before: &[u8],
-) -> Result<usize, RowFault>
+/// The place behind so many pairs, whose keys ascend.
+pub fn pairs_end(bytes: &[u8], start: usize, at: usize, count: u8) -> Result<usize, RowFault>
     requires { at ≤ length bytes.now }
-    ensures { Passes bytes.now start result (behind (ascending_at (map (λ p. p.0)) pair_at before.now count (drop at bytes.now))) }
+    ensures { Passes bytes.now start result (behind (ascending_at (map (λ p. p.0)) pair_at [] count (drop at bytes.now))) }
 {
-    if count == 0 {
-        return Ok(at);
+    // No key is empty, so each stands behind the one before the first.
+    let mut before: &[u8] = &[];
+    let mut end = at;
+    for _ in 0..count {
+        let ((key, _), after) = pair_in(bytes, start, end)?;
+        sure(is_below(before, key), start)?;
+        before = key;
+        end = after;
     }
-    let ((key, _), at) = pair_in(bytes, start, at)?;
-    sure(is_below(before, key), start)?;
-    pairs_end(bytes, start, at, count - 1, key)
+    Ok(end)
 }
 
 /// The place behind so many keys, which ascend from the key before them.

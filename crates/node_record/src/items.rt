@@ -60,6 +60,9 @@ impl Field for u32 {
     }
 }
 
+/// The room that is taken beside that for the items of an image, since the rows behind it mostly add to them.
+const SPARE: usize = 4;
+
 /// So many fields.
 pub fn items<T: Field + Drop>(
     alloc: Global,
@@ -71,14 +74,14 @@ pub fn items<T: Field + Drop>(
     requires { at ≤ length bytes.now }
     ensures { Gives (λ xs. xs) bytes.now start result (items_at T.reads count (drop at bytes.now)) }
 {
-    let mut items = Items::new(alloc);
+    let mut items = Vec::with_capacity(alloc, count as usize + SPARE)?;
     let mut end = at;
     for _ in 0..count {
         let (item, after) = T::read(alloc, bytes, start, end)?;
-        items.push(item)?;
+        items.push_reserved(item);
         end = after;
     }
-    Ok((items, end))
+    Ok((Items::from_vec(items), end))
 }
 
 /// The place behind so many pairs, whose keys ascend.

@@ -14,6 +14,7 @@ pub mod SoundCalls
 pub mod Grown
 pub mod GrowthFits
 pub mod SoundGrowth
+pub mod PutLeaf
 pub mod PutRows
 pub mod Pushed
 pub mod Sums

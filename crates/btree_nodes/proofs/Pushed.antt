@@ -1,9 +1,8 @@
 -- Rows that are pushed one after the other.
-use Rattle.std.proofs.Common.{◌≡◌, ◌≢◌, ◌⊎◌, inl, inr, ⊎_elim, ℕ, nat_eq, Bool, true, false, ◌||◌, append_assoc, List, [], ◌∷◌, ◌++◌, Option, Some, None, is_some, Result, Ok, Err, refl, sym, ap, subst, ◌∙◌, true≢false, length, get_or, take, drop, ◌-◌, ◌≤◌, ◌<◌, arith}
+use Rattle.std.proofs.Common.{◌≡◌, ◌≢◌, ◌⊎◌, inl, inr, ⊎_elim, ℕ, nat_eq, Bool, true, false, ◌||◌, append_assoc, List, [], ◌∷◌, ◌++◌, Option, Some, None, is_some, Result, Ok, Err, refl, sym, ap, subst, ◌∙◌, true≢false, length, ◌<◌, arith}
 use Rattle.std.specs.Prelude.{IsSome, OnOk, OnErr, unwrap_or}
 use Rattle.std.specs.List.{AllByRecursion}
 use Rattle.std.specs.Map.{keys_of, remove_entry}
-use Rattle.std.proofs.lemmas.List.{take_all}
 use Rattle.fine_model.specs.declared.Rec.{Rec}
 use Rattle.fine_model.specs.declared.Rec.TheVariants as rec
 use Rattle.fine_model.specs.declared.Node.TheVariants as node
@@ -194,11 +193,7 @@ rest_ready a b row rows pushes here ready = ready_more (λ n. IsCached a n ⊎ (
 pub same_buckets : (a b : Cache) (rows : List Row) → b.bucket ≡ a.bucket → AllByRecursion (λ row. row.node.bucket ≡ a.bucket) rows → AllByRecursion (λ row. row.node.bucket ≡ b.bucket) rows
 same_buckets a b rows same h = subst (λ k. AllByRecursion (λ row. row.node.bucket ≡ k) rows) (sym same) h
 
--- rows are the first of them and the others
-pub first_and_rest : (rows : List Row) (row : Row) → 1 ≤ length rows → row ≡ get_or rows 0 row → rows ≡ row ∷ take (length rows - 1) (drop 1 rows)
-first_and_rest [] row some is = absurd (omega arith)
-first_and_rest (x ∷ xs) row some is = (λ i. sym is i ∷ sym (take_all (length (x ∷ xs) - 1) xs (omega arith)) i)
-
+-- no rows are left
 pub no_rows_left : (rows : List Row) → length rows < 1 → rows ≡ []
 no_rows_left [] few = refl
 no_rows_left (x ∷ xs) few = absurd (omega arith)

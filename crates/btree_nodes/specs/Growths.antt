@@ -1,11 +1,13 @@
 -- What setting a pair pushes, as the crate has it.
-use Rattle.std.specs.Prelude.{◌≡◌, ℕ, ◌+◌, Bool, if◌then◌else◌, List, [], ◌∷◌, Some, Result, Ok, Err}
+use Rattle.std.specs.Prelude.{◌≡◌, ℕ, ◌+◌, nat_lt, Bool, ◌||◌, if◌then◌else◌, List, [], ◌∷◌, length, Some, Result, Ok, Err}
 use Rattle.fine_model.specs.declared.Node.{Node}
 use Rattle.fine_model.specs.declared.Node.TheVariants as node
 use Rattle.fine_model.specs.declared.Rec.{Rec}
 use Rattle.fine_model.specs.declared.Row.{Row}
 use Rattle.fine_model.specs.declared.Why.TheVariants as why
+use Rattle.fine_model.specs.Map.{Pair, has}
 use Rattle.fine_model.specs.Pushed.{Growth as Grown, Push as Pushed, row_of, within_limits}
+use Rattle.fine_model.specs.RowBytes.{most_in_node}
 use Rattle.btree_nodes.specs.declared.growth.Growth.{Growth}
 use Rattle.btree_nodes.specs.declared.insertion.Push.{Push}
 use Rattle.btree_nodes.specs.declared.tree.Path.{Path}
@@ -15,6 +17,10 @@ use Rattle.btree_nodes.specs.declared.fault.TreeFault.TheVariants.{BucketFull, N
 
 abbrev pub grown_of : Growth → Grown
 grown_of g = record { rows = g.rows; next = g.next; split = g.split }
+
+-- a leaf with these pairs has room for a key
+abbrev pub has_room : List Pair → List ℕ → Bool
+has_room pairs key = has pairs key || nat_lt (length pairs) most_in_node
 
 -- the rows of a split: the new node's image, the cut of the old one, and what is set in one of both
 abbrev pub split_rows : ℕ → ℕ → ℕ → ℕ → Rec → Rec → Rec → Bool → List Row

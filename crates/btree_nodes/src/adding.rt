@@ -82,7 +82,7 @@ fn add_at(
             by,
         },
     };
-    push_row(alloc, bucket, log, &row)?;
+    push_row(alloc, bucket, log, row)?;
     Ok(reply)
 }
 

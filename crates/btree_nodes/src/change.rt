@@ -11,7 +11,7 @@ ghost use Rattle.btree_nodes.specs.declared.fault.TreeFault.TheVariants as fault
 
 use crate::fault::TreeFault;
 use fine_model::format::GREATEST;
-use fine_model::{NoMemory, Node, NodeId, Row};
+use fine_model::{NoMemory, Node, NodeId, Row, Rows};
 use node_cache::{Bucket, Cached};
 use node_record::apply;
 use private_log::PrivateLog;
@@ -80,24 +80,24 @@ fn change_cached(alloc: Global, bucket: &mut Bucket, row: &Row) -> Result<(), No
     }
 }
 
-/// Pushes a row of a cached node: the row is put behind the others, and the node saved and changed. After `NoMemory` some of this is
+/// Pushes a row of a cached node: the node is saved and changed, and the row moved behind the others. After `NoMemory` some of this is
 /// done, and what was saved before still is.
 pub fn push_row(
     alloc: Global,
     bucket: &mut Bucket,
     log: &mut PrivateLog,
-    row: &Row,
+    row: Row,
 ) -> Result<(), NoMemory>
-    requires of_bucket { row.now.node.bucket ≡ bucket.old.bucket }
-    requires there { IsCached bucket.old row.now.node.number }
-    requires rec { FitsRec row.now.rec }
-    requires version { row.now.version ≤ greatest }
+    requires of_bucket { row.node.bucket ≡ bucket.old.bucket }
+    requires there { IsCached bucket.old row.node.number }
+    requires rec { FitsRec row.rec }
+    requires version { row.version ≤ greatest }
     ensures saves { Saves bucket.old bucket.new }
-    ensures pushes { OnOk result (Pushes bucket.old bucket.new (row.now ∷ [])) }
-    ensures log { OnOk result (log.new ≡ log.old ++ row.now ∷ []) }
+    ensures pushes { OnOk result (Pushes bucket.old bucket.new (row ∷ [])) }
+    ensures log { OnOk result (log.new ≡ log.old ++ row ∷ []) }
 {
-    log.push(row)?;
-    change_cached(alloc, bucket, row)
+    change_cached(alloc, bucket, &row)?;
+    log.keep(row)
 }
 
 /// Caches a broken node under a number where none is cached, to be replaced by an image.
@@ -122,40 +122,37 @@ pub fn push_any(
     alloc: Global,
     bucket: &mut Bucket,
     log: &mut PrivateLog,
-    row: &Row,
+    row: Row,
 ) -> Result<(), NoMemory>
-    requires of_bucket { row.now.node.bucket ≡ bucket.old.bucket }
-    requires ready { IsReady (IsCached bucket.old) row.now }
-    requires rec { FitsRec row.now.rec }
-    requires version { row.now.version ≤ greatest }
+    requires of_bucket { row.node.bucket ≡ bucket.old.bucket }
+    requires ready { IsReady (IsCached bucket.old) row }
+    requires rec { FitsRec row.rec }
+    requires version { row.version ≤ greatest }
     ensures saves { Saves bucket.old bucket.new }
-    ensures pushes { OnOk result (Pushes bucket.old bucket.new (row.now ∷ [])) }
-    ensures there { OnOk result (IsCached bucket.new row.now.node.number) }
-    ensures log { OnOk result (log.new ≡ log.old ++ row.now ∷ []) }
+    ensures pushes { OnOk result (Pushes bucket.old bucket.new (row ∷ [])) }
+    ensures there { OnOk result (IsCached bucket.new row.node.number) }
+    ensures log { OnOk result (log.new ≡ log.old ++ row ∷ []) }
 {
     hold_place(bucket, row.node.number)?;
     push_row(alloc, bucket, log, row)
 }
 
-/// Pushes rows in their order.
+/// Pushes rows in their order, and moves each of them behind the log's.
 pub fn push_all(
     alloc: Global,
     bucket: &mut Bucket,
     log: &mut PrivateLog,
-    rows: &[Row],
+    rows: Rows,
 ) -> Result<(), NoMemory>
-    requires of_bucket { AllByRecursion (λ row. row.node.bucket ≡ bucket.old.bucket) rows.now }
-    requires ready { AreReady (IsCached bucket.old) rows.now }
-    requires recs { AllByRecursion (λ row. FitsRec row.rec × (row.version ≤ greatest)) rows.now }
+    requires of_bucket { AllByRecursion (λ row. row.node.bucket ≡ bucket.old.bucket) rows }
+    requires ready { AreReady (IsCached bucket.old) rows }
+    requires recs { AllByRecursion (λ row. FitsRec row.rec × (row.version ≤ greatest)) rows }
     ensures saves { Saves bucket.old bucket.new }
-    ensures pushes { OnOk result (Pushes bucket.old bucket.new rows.now) }
-    ensures log { OnOk result (log.new ≡ log.old ++ rows.now) }
+    ensures pushes { OnOk result (Pushes bucket.old bucket.new rows) }
+    ensures log { OnOk result (log.new ≡ log.old ++ rows) }
 {
-    match rows {
-        [row, rest @ ..] => {
-            push_any(alloc, bucket, log, row)?;
-            push_all(alloc, bucket, log, rest)
-        }
-        [] => Ok(()),
+    for row in rows.into_vec() {
+        push_any(alloc, bucket, log, row)?;
     }
+    Ok(())
 }

@@ -9,7 +9,7 @@ ghost use Rattle.fine_model.specs.declared.Node.TheVariants as node;
 ghost use Rattle.fine_model.specs.declared.Rec.TheVariants as rec;
 ghost use Rattle.node_record.specs.Bounds.{FitsNode};
 ghost use Rattle.node_cache.specs.Given.{given};
-ghost use Rattle.btree_nodes.specs.Growths.{grown_of, split_rows, IsNoInner};
+ghost use Rattle.btree_nodes.specs.Growths.{grown_of, has_room, split_rows, IsNoInner};
 
 use crate::descent::place_among;
 use crate::leaf::value_of;
@@ -64,9 +64,19 @@ fn full_leaf<'a>(bucket: &'a Bucket, number: u32, key: &[u8]) -> Option<&'a Pair
     ensures full { MatchOption result ((has (pairs_of (given bucket.now number).0) key.now || nat_lt (length (pairs_of (given bucket.now number).0)) most_in_node) ≡ true) (λ pairs. (pairs.now ≡ pairs_of (given bucket.now number).0) × ((has pairs.now key.now || nat_lt (length pairs.now) most_in_node) ≡ false)) }
 {
     match &bucket.peek(number)?.node {
-        Node::Leaf { pairs } if value_of(pairs, key).is_none() && pairs.len() >= MOST_IN_NODE =>
+        Node::Leaf { pairs } if pairs.len() >= MOST_IN_NODE && value_of(pairs, key).is_none() =>
             Some(pairs),
         _ => None,
+    }
+}
+
+/// Whether a cached leaf has room for a key: it has the key, or fewer than 32 pairs.
+pub fn has_room(bucket: &Bucket, number: u32, key: &[u8]) -> bool
+    ensures { result ≡ has_room (pairs_of (given bucket.now number).0) key.now }
+{
+    match full_leaf(bucket, number, key) {
+        Some(_full) => false,
+        None => true,
     }
 }
 

@@ -1,25 +1,25 @@
 //! Setting a key in a tree.
 
-ghost use Rattle.std.specs.Prelude.{◌≡◌, ℕ, ◌+◌, ◌<◌, ◌≤◌, nat_lt, true, false, [], ◌∷◌, ◌++◌, List, IfOk, is_some};
+ghost use Rattle.std.specs.Prelude.{◌≡◌, ℕ, ◌+◌, ◌<◌, ◌≤◌, nat_lt, true, false, [], ◌∷◌, ◌++◌, List, IfOk, IsTrue, is_some};
 ghost use Rattle.std.specs.List.{list_any};
 ghost use Rattle.fine_model.specs.declared.Call.TheVariants as call;
 ghost use Rattle.fine_model.specs.declared.Row.{Row as ModelRow};
 ghost use Rattle.fine_model.specs.declared.Rec.TheVariants as rec;
 ghost use Rattle.fine_model.specs.Pushed.{with_head, within_limits};
 ghost use Rattle.fine_model.specs.RowBytes.{FitsKey, FitsValue, greatest, greatest_depth};
-ghost use Rattle.fine_model.specs.Trees.{bucket_of, IsSound};
+ghost use Rattle.fine_model.specs.Trees.{bucket_of, pairs_of, IsSound};
 ghost use Rattle.node_cache.specs.Given.{given};
 ghost use Rattle.btree_nodes.specs.Trees.{Serves, Holds, IsPath, first_over};
-ghost use Rattle.btree_nodes.specs.Growths.{pushed_of, Limits};
+ghost use Rattle.btree_nodes.specs.Growths.{pushed_of, has_room, Limits};
 ghost use Rattle.btree_nodes.specs.Calls.{Outcome, IsChange, OnCleanAnswer, SoundOutcome};
 
-use crate::change::push_all;
+use crate::change::{next_version, push_all, push_row};
 use crate::fault::TreeFault;
-use crate::growth::{Growth, grow, row_of, version_of};
+use crate::growth::{Growth, grow, has_room, row_of, version_of};
 use crate::tree::{Path, find_leaf};
 use fine_model::format::{GREATEST, GREATEST_DEPTH, NODE_NUMBERS};
 use fine_model::{Bytes, Items, NoMemory, NodeId, Rec, Row, Rows};
-use node_cache::{Bucket, NodeSource};
+use node_cache::{Bucket, NodeSource, bytes_of};
 use private_log::PrivateLog;
 use std::alloc::Global;
 
@@ -123,8 +123,38 @@ fn test_limits(push: &Push, path: Path) -> Result<(), TreeFault>
     }
 }
 
+/// Sets a key in the leaf in which it belongs, where that has room for it: one row is pushed.
+fn put_in_leaf(
+    alloc: Global,
+    bucket: &mut Bucket,
+    log: &mut PrivateLog,
+    key: &[u8],
+    value: &[u8],
+    path: Path,
+) -> Result<(), TreeFault>
+    requires key { FitsKey key.now }
+    requires value { FitsValue value.now }
+    requires path { IsPath bucket.old key.now path }
+    requires room { IsTrue (has_room (pairs_of (given bucket.old path.leaf).0) key.now) }
+    ensures outcome { Outcome bucket.old bucket.new log.old log.new (call.Put key.now value.now) (λ _. Unit {0}) (λ _. ⊥) result }
+{
+    let row = Row {
+        node: NodeId {
+            bucket: bucket.bucket(),
+            number: path.leaf,
+        },
+        version: next_version(bucket, path.leaf)?,
+        rec: Rec::Put {
+            key: bytes_of(alloc, key)?,
+            value: bytes_of(alloc, value)?,
+        },
+    };
+    push_row(alloc, bucket, log, row)?;
+    Ok(())
+}
+
 /// Sets a key in the leaf in which it belongs, and splits what has no room for it.
-pub fn put_at(
+fn put_grown(
     alloc: Global,
     bucket: &mut Bucket,
     log: &mut PrivateLog,
@@ -148,8 +178,29 @@ pub fn put_at(
     )?;
     let push = with_head(alloc, bucket.bucket(), version_of(bucket, 0), path, below)?;
     test_limits(&push, path)?;
-    push_all(alloc, bucket, log, push.rows.as_slice())?;
+    push_all(alloc, bucket, log, push.rows)?;
     Ok(())
+}
+
+/// Sets a key in the leaf in which it belongs, and splits what has no room for it. What grows is worked out only where the leaf has none.
+pub fn put_at(
+    alloc: Global,
+    bucket: &mut Bucket,
+    log: &mut PrivateLog,
+    key: &[u8],
+    value: &[u8],
+    path: Path,
+) -> Result<(), TreeFault>
+    requires key { FitsKey key.now }
+    requires value { FitsValue value.now }
+    requires path { IsPath bucket.old key.now path }
+    ensures outcome { Outcome bucket.old bucket.new log.old log.new (call.Put key.now value.now) (λ _. Unit {0}) (λ _. ⊥) result }
+{
+    if has_room(bucket, path.leaf, key) {
+        put_in_leaf(alloc, bucket, log, key, value, path)
+    } else {
+        put_grown(alloc, bucket, log, key, value, path)
+    }
 }
 
 /// Sets a key in the tree that the bucket gives.

@@ -44,7 +44,7 @@ fn remove_at(
             key: bytes_of(alloc, key)?,
         },
     };
-    push_row(alloc, bucket, log, &row)?;
+    push_row(alloc, bucket, log, row)?;
     Ok(true)
 }
 

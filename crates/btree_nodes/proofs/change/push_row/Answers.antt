@@ -1,6 +1,5 @@
-use Rattle.std.proofs.Common.{refl}
-use Rattle.btree_nodes.proofs.Changed.{saves_itself}
+use Rattle.btree_nodes.proofs.Changed.{of_ok}
 use Rattle.btree_nodes.proofs.change.push_row.Goals as goal
 
-pub returns-in_err-push-clause-saves : goal.returns-in_err-push-clause-saves
-returns-in_err-push-clause-saves c = saves_itself c.args.bucket.now c.args.bucket.now refl
+pub returns-clause-pushes : goal.returns-clause-pushes
+returns-clause-pushes c = of_ok c.keep.result (c.in_ok-change_cached.ensures).pushes

@@ -1,14 +1,11 @@
-use Rattle.std.proofs.Common.{◌≡◌, ◌-◌, ◌≤◌, ◌++◌, List, Ok, sym, ap, subst, ◌∙◌}
-use Rattle.std.specs.List.{AllByRecursion}
+use Rattle.std.proofs.Common.{◌≡◌, ◌-◌, Ok, ◌∙◌}
 use Rattle.std.proofs.lemmas.Result.{err_from_is_err_and}
-use Rattle.fine_model.specs.declared.Row.{Row}
 use Rattle.fine_model.specs.Pushed.{growth, with_head}
-use Rattle.fine_model.specs.RowBytes.{FitsPair, FitsRec, greatest}
-use Rattle.node_cache.specs.Given.{given, IsCached}
-use Rattle.btree_nodes.specs.Changes.{Pushes, AreReady}
+use Rattle.fine_model.specs.RowBytes.{FitsPair}
+use Rattle.node_cache.specs.Given.{given}
 use Rattle.btree_nodes.specs.Growths.{grown_of, pushed_of}
 use Rattle.btree_nodes.proofs.PutRows.{put_rows, put_pushed, can_put, limits_outcome}
-use Rattle.btree_nodes.proofs.insertion.put_at.Goals as goal
+use Rattle.btree_nodes.proofs.insertion.put_grown.Goals as goal
 
 pub returns-in_err-test_limits : goal.returns-in_err-test_limits
 returns-in_err-test_limits c =
@@ -34,7 +31,7 @@ push_all-requires-clause-of_bucket c =
     let same : pushed_of c.in_ok-push.push ≡ put_rows b key value pair path c.requires.path =
     (c.in_ok-push.ensures) ∙ (λ i. with_head (c.bucket.ensures i) (c.version_of.ensures.is i) path.root path.next path.depth (grown i).rows (grown i).next (grown i).split) in
     let can = can_put b key value pair path c.requires.path c.in_ok-push.push same (c.in_ok-test_limits.ensures) in
-    subst (λ (rows : List Row). AllByRecursion (λ row. row.node.bucket ≡ b.bucket) rows) (sym c.as_slice.ensures) can.of_bucket
+    can.of_bucket
 
 pub push_all-requires-clause-ready : goal.push_all-requires-clause-ready
 push_all-requires-clause-ready c =
@@ -47,7 +44,7 @@ push_all-requires-clause-ready c =
     let same : pushed_of c.in_ok-push.push ≡ put_rows b key value pair path c.requires.path =
     (c.in_ok-push.ensures) ∙ (λ i. with_head (c.bucket.ensures i) (c.version_of.ensures.is i) path.root path.next path.depth (grown i).rows (grown i).next (grown i).split) in
     let can = can_put b key value pair path c.requires.path c.in_ok-push.push same (c.in_ok-test_limits.ensures) in
-    subst (λ (rows : List Row). AreReady (IsCached b) rows) (sym c.as_slice.ensures) can.ready
+    can.ready
 
 pub push_all-requires-clause-recs : goal.push_all-requires-clause-recs
 push_all-requires-clause-recs c =
@@ -60,7 +57,7 @@ push_all-requires-clause-recs c =
     let same : pushed_of c.in_ok-push.push ≡ put_rows b key value pair path c.requires.path =
     (c.in_ok-push.ensures) ∙ (λ i. with_head (c.bucket.ensures i) (c.version_of.ensures.is i) path.root path.next path.depth (grown i).rows (grown i).next (grown i).split) in
     let can = can_put b key value pair path c.requires.path c.in_ok-push.push same (c.in_ok-test_limits.ensures) in
-    subst (λ (rows : List Row). AllByRecursion (λ row. FitsRec row.rec × (row.version ≤ greatest)) rows) (sym c.as_slice.ensures) can.recs
+    can.recs
 
 pub returns : goal.returns
 returns c =
@@ -78,8 +75,8 @@ returns c =
         record {
           rows = c.in_ok-push.push.rows;
           is_pushed = put_pushed b key value pair path c.requires.path c.in_ok-push.push same (Ok c.in_ok-push.push.rows) (c.in_ok-test_limits.ensures);
-          behind = (c.in_ok-push_all.ensures).log ∙ ap (λ (rows : List Row). c.args.log.now ++ rows) c.as_slice.ensures;
-          pushes = subst (Pushes b c.push_all.new.bucket) c.as_slice.ensures (c.in_ok-push_all.ensures).pushes;
+          behind = c.in_ok-push_all.ensures.log;
+          pushes = c.in_ok-push_all.ensures.pushes;
           fits = (can_put b key value pair path c.requires.path c.in_ok-push.push same (c.in_ok-test_limits.ensures)).fits;
         },
       );

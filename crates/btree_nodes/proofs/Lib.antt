@@ -15,6 +15,7 @@ pub mod Grown
 pub mod GrowthFits
 pub mod SoundGrowth
 pub mod PutLeaf
+pub mod Hashed
 pub mod PutRows
 pub mod Pushed
 pub mod Sums

@@ -5,5 +5,6 @@ pub mod Trees
 pub mod Walks
 pub mod Changes
 pub mod Growths
+pub mod Hashes
 pub mod Calls
 pub mod Scans

@@ -7,6 +7,7 @@ ghost use Rattle.fine_model.specs.Paths.{is_inner};
 ghost use Rattle.fine_model.specs.Trees.{is_leaf, is_from, is_above, is_up_to, bucket_of};
 ghost use Rattle.node_record.specs.Bounds.{FitsNode};
 
+use crate::hash::bucket_number;
 use fine_model::{Bytes, Node};
 use node_record::is_below;
 
@@ -38,18 +39,6 @@ pub fn is_up_to(high: Option<&Bytes>, key: &[u8]) -> bool
         Some(high) => is_below(key, high.as_slice()),
         None => true,
     }
-}
-
-/// The number of a key's bucket. It is the low byte of the key's hash, to which no other bit of a step before adds anything.
-#[tactic(auto, unfolding(fine_model::specs::Trees::bucket_of))]
-fn bucket_number(key: &[u8]) -> u8
-    ensures { result ≡ bucket_of key.now }
-{
-    let mut hash: u8 = 0;
-    for byte in key {
-        hash = hash.wrapping_mul(31).wrapping_add(*byte);
-    }
-    hash
 }
 
 /// Whether the keys of pairs, which ascend, lie within bounds: so they do where the first key is at the low bound or above it, and the last one below

@@ -7,6 +7,7 @@ mod descent;
 mod fault;
 mod fitness;
 mod growth;
+mod hash;
 mod insertion;
 mod leaf;
 mod removal;

@@ -1,0 +1,6 @@
+use Rattle.std.proofs.Common.{◌∙◌, sym}
+use Rattle.btree_nodes.proofs.Hashed.{bucket_low}
+use Rattle.btree_nodes.proofs.hash.bucket_number.Goals as goal
+
+pub returns : goal.returns
+returns c = c.hash_behind.ensures ∙ c.loop-left.invariant ∙ sym (bucket_low c.args.key.now)

@@ -1,0 +1,51 @@
+//! The number of a key's bucket.
+
+ghost use Rattle.std.specs.Prelude.{◌≡◌, ℕ, ◌+◌, ◌%◌, length, fold};
+ghost use Rattle.fine_model.specs.Trees.{bucket_of};
+ghost use Rattle.btree_nodes.specs.Hashes.{low_step};
+
+/// Each second byte of a word, the lowest one included.
+const EVEN_BYTES: u64 = 0x00FF_00FF_00FF_00FF;
+
+/// 195, 131, 67 and 3 in lanes of 16 bits, the highest first: these are 3 times 31^6, 31^4, 31^2 and 1 in the low byte, and their sums but the
+/// highest stay within a lane.
+const THREEFOLD: u64 = 0x00C3_0083_0043_0003;
+
+/// What eight bytes add to the low byte of a hash, in which 31^8 is 1. Two bytes and two are joined in lanes of 16 bits, and the four lanes
+/// are summed by one product, three times as large, which 171 takes back.
+fn hash_of_eight(bytes: &[u8]) -> u8
+    requires { length bytes.now ≡ 8 }
+    ensures { (low : ℕ) → fold low_step low bytes.now ≡ (low + result) % 256 }
+{
+    let word = u64::from_le_bytes([
+        bytes[0], bytes[1], bytes[2], bytes[3], bytes[4], bytes[5], bytes[6], bytes[7],
+    ]);
+    let joined = (word & EVEN_BYTES) * 31 + ((word >> 8) & EVEN_BYTES);
+    let sum = (joined & EVEN_BYTES).wrapping_mul(THREEFOLD) >> 48;
+    ((sum & 0xFF) as u8).wrapping_mul(171)
+}
+
+/// The low byte of a hash behind more bytes, one by one.
+fn hash_behind(low: u8, bytes: &[u8]) -> u8
+    ensures { result ≡ fold low_step low bytes.now }
+{
+    let mut hash = low;
+    for byte in bytes {
+        hash = hash.wrapping_mul(31).wrapping_add(*byte);
+    }
+    hash
+}
+
+/// The number of a key's bucket. It is the low byte of the key's hash, to which no other bit of a step before adds anything.
+pub fn bucket_number(key: &[u8]) -> u8
+    ensures { result ≡ bucket_of key.now }
+{
+    let mut hash: u8 = 0;
+    let mut left = key;
+    while left.len() >= 8 {
+        let (front, rest) = left.split_at(8);
+        hash = hash.wrapping_add(hash_of_eight(front));
+        left = rest;
+    }
+    hash_behind(hash, left)
+}

@@ -6,6 +6,7 @@ ghost use Rattle.fine_model.specs.Script.{words, without_return, meaning, said, 
 ghost use Rattle.script_text.specs.Grammar.{meant, AreRest};
 ghost use Rattle.script_text.specs.Fits.{AreWords, FitsLine};
 
+use super::search::place_of;
 use fine_model::format::{MOST_IN_KEY, MOST_IN_VALUE};
 use fine_model::{Bytes, Call, Ending, Items, NoMemory, natural_of, number_of};
 use std::alloc::Global;
@@ -44,20 +45,6 @@ fn spaces(line: &[u8]) -> usize
     line.len()
 }
 
-/// The length of the word at the start of a line.
-fn word_len(line: &[u8]) -> usize
-    ensures within { result ≤ length line.now }
-    ensures word { (k : ℕ) → k < result → slice_index line.now k ≢ 32 }
-    ensures behind { result < length line.now → slice_index line.now result ≡ 32 }
-{
-    for (i, byte) in line.iter().enumerate() {
-        if *byte == b' ' {
-            return i;
-        }
-    }
-    line.len()
-}
-
 /// The first word of a line, and what is behind it.
 fn next_word(line: &[u8]) -> Option<(&[u8], &[u8])>
     ensures { MatchOption result (words line.now ≡ []) (λ p. (words line.now ≡ p.0.now ∷ words p.1.now) × (0 < length p.0.now)) }
@@ -66,7 +53,7 @@ fn next_word(line: &[u8]) -> Option<(&[u8], &[u8])>
     if line.is_empty() {
         return None;
     }
-    Some(line.split_at(word_len(line)))
+    Some(line.split_at(place_of(b' ', line)))
 }
 
 /// The words behind the first one of a line.
@@ -238,10 +225,15 @@ fn said(alloc: Global, word: &[u8], rest: &[u8]) -> Result<SaidLine, NoMemory>
     }
 }
 
+/// Whether each byte is printable. It looks at all of them, so that the processor may at many at once.
 fn is_printable(line: &[u8]) -> bool
     ensures { result ≡ list_all is_printable line.now }
 {
-    line.iter().all(|byte| (b' '..=b'~').contains(byte))
+    let mut fine = true;
+    for byte in line {
+        fine &= (b' '..=b'~').contains(byte);
+    }
+    fine
 }
 
 /// What a line says.

@@ -17,6 +17,7 @@ mod read;
 mod reading;
 mod report;
 mod report_law;
+mod search;
 mod summary;
 
 pub use console::{StdSink, StdSource};

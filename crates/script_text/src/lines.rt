@@ -5,6 +5,7 @@ ghost use Rattle.fine_model.specs.Faults.{CountsFault};
 ghost use Rattle.script_text.specs.Streams.{before};
 ghost use Rattle.script_text.specs.Reading.{IsOneLine, EndsLine, MovesLine};
 
+use super::search::place_of;
 use super::{Failed, Source};
 use std::marker::Model;
 
@@ -189,12 +190,7 @@ fn feed_in(bytes: &[u8]) -> usize
     ensures before { IsOneLine (take result bytes.now) }
     ensures feed { result < length bytes.now → drop result bytes.now ≡ 10 ∷ drop (suc result) bytes.now }
 {
-    for (i, byte) in bytes.iter().enumerate() {
-        if *byte == b'\n' {
-            return i;
-        }
-    }
-    bytes.len()
+    place_of(b'\n', bytes)
 }
 
 /// Takes the next line, with no more than 513 bytes of it.

@@ -12,5 +12,5 @@ pub returns : goal.returns
 returns c =
     let some : 0 < length c.split_at.result.1.now = grind (arith, nat_tests) in
     rw (c.split_at-2.ensures.front, c.split_at-2.ensures.back)
-    (words_next c.spaces.result c.word_len.result c.args.line.now c.split_at.result.1.now c.spaces.ensures.within c.spaces.ensures.spaces
-    c.split_at.ensures.back c.spaces.ensures.behind some c.word_len.ensures.within c.word_len.ensures.word c.word_len.ensures.behind)
+    (words_next c.spaces.result c.place_of.result c.args.line.now c.split_at.result.1.now c.spaces.ensures.within c.spaces.ensures.spaces
+    c.split_at.ensures.back c.spaces.ensures.behind some c.place_of.ensures.within c.place_of.ensures.before c.place_of.ensures.there)

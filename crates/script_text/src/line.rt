@@ -35,7 +35,7 @@ fn say_word<K: Sink>(page: &mut Page, sink: &mut K, word: Word)
 fn say_spaced<K: Sink>(page: &mut Page, sink: &mut K, word: Word)
     ensures { Sends (spaced word.entry) (desk (K.written sink.old) (K.faults sink.old) page.old) (desk (K.written sink.new) (K.faults sink.new) page.new) }
 {
-    page.say(sink, b" ");
+    page.say_byte(sink, b' ');
     say_word(page, sink, word);
 }
 
@@ -65,5 +65,5 @@ pub(crate) fn say_line<K: Sink>(page: &mut Page, sink: &mut K, words: &[Word])
     ensures { Sends (line_of words.now) (desk (K.written sink.old) (K.faults sink.old) page.old) (desk (K.written sink.new) (K.faults sink.new) page.new) }
 {
     say_words(page, sink, words);
-    page.say(sink, b"\n");
+    page.say_byte(sink, b'\n');
 }

@@ -1,6 +1,6 @@
 //! A page gathers small pieces before they go to a sink.
 
-ghost use Rattle.std.specs.Prelude.{◌≡◌, [], ◌++◌, false, if◌then◌else◌, IsErr};
+ghost use Rattle.std.specs.Prelude.{◌≡◌, [], ◌∷◌, ◌++◌, false, if◌then◌else◌, IsErr};
 ghost use Rattle.script_text.specs.Pages.{desk, Sends, Finishes};
 
 use super::{Failed, Sink};
@@ -52,6 +52,19 @@ impl Page {
         true
     }
 
+    /// Gathers a byte, if there is room for it.
+    fn gather_byte(&mut self, byte: u8) -> bool
+        ensures bytes { self.new.bytes ≡ (if result then self.old.bytes ++ byte ∷ [] else self.old.bytes) }
+        ensures failed { self.new.failed ≡ self.old.failed }
+    {
+        if self.len == PAGE {
+            return false;
+        }
+        self.bytes[self.len] = byte;
+        self.len += 1;
+        true
+    }
+
     /// Puts what was gathered.
     fn flush<K: Sink>(&mut self, sink: &mut K)
         ensures sends { Sends [] (desk (K.written sink.old) (K.faults sink.old) self.old) (desk (K.written sink.new) (K.faults sink.new) self.new) }
@@ -76,6 +89,18 @@ impl Page {
         self.failed = sink.put(bytes).is_err();
     }
 
+    /// Puts what was gathered, and gathers bytes for which there was no room, or puts them too.
+    #[cold]
+    fn put_before<K: Sink>(&mut self, sink: &mut K, bytes: &[u8])
+        ensures { Sends bytes.now (desk (K.written sink.old) (K.faults sink.old) self.old) (desk (K.written sink.new) (K.faults sink.new) self.new) }
+    {
+        self.flush(sink);
+        if self.gather(bytes) {
+            return;
+        }
+        self.pass(sink, bytes);
+    }
+
     /// Says the bytes: they are gathered, or put now.
     pub(crate) fn say<K: Sink>(&mut self, sink: &mut K, bytes: &[u8])
         ensures { Sends bytes.now (desk (K.written sink.old) (K.faults sink.old) self.old) (desk (K.written sink.new) (K.faults sink.new) self.new) }
@@ -83,8 +108,17 @@ impl Page {
         if self.gather(bytes) {
             return;
         }
-        self.flush(sink);
-        self.pass(sink, bytes);
+        self.put_before(sink, bytes);
+    }
+
+    /// Says a byte.
+    pub(crate) fn say_byte<K: Sink>(&mut self, sink: &mut K, byte: u8)
+        ensures { Sends (byte ∷ []) (desk (K.written sink.old) (K.faults sink.old) self.old) (desk (K.written sink.new) (K.faults sink.new) self.new) }
+    {
+        if self.gather_byte(byte) {
+            return;
+        }
+        self.put_before(sink, &[byte]);
     }
 
     /// Puts what is left, and answers whether all was put.

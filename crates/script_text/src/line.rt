@@ -19,21 +19,20 @@ pub(crate) enum Word<'a> {
 
 /// Says a word.
 #[tactic(auto, unfolding(fine_model::specs::NumberText::number_text))]
-fn say_word<K: Sink>(page: &mut Page, sink: &mut K, word: Word)
-    ensures { Sends (bytes_of word.entry) (desk (K.written sink.old) (K.faults sink.old) page.old) (desk (K.written sink.new) (K.faults sink.new) page.new) }
+fn say_word<K: Sink>(page: &mut Page, sink: &mut K, word: &Word)
+    ensures { Sends (bytes_of word.now) (desk (K.written sink.old) (K.faults sink.old) page.old) (desk (K.written sink.new) (K.faults sink.new) page.new) }
 {
-    let mut buffer = Buffer::new();
     match word {
         Word::Text(text) => page.say(sink, text),
-        Word::Number(n) => page.say(sink, buffer.format(n).as_bytes()),
-        Word::Signed(z) => page.say(sink, buffer.format(z).as_bytes()),
+        Word::Number(n) => page.say(sink, Buffer::new().format(*n).as_bytes()),
+        Word::Signed(z) => page.say(sink, Buffer::new().format(*z).as_bytes()),
     }
 }
 
 /// Says a space and a word.
 #[tactic(auto, using(crate::proofs::Paging::sends_then))]
-fn say_spaced<K: Sink>(page: &mut Page, sink: &mut K, word: Word)
-    ensures { Sends (spaced word.entry) (desk (K.written sink.old) (K.faults sink.old) page.old) (desk (K.written sink.new) (K.faults sink.new) page.new) }
+fn say_spaced<K: Sink>(page: &mut Page, sink: &mut K, word: &Word)
+    ensures { Sends (spaced word.now) (desk (K.written sink.old) (K.faults sink.old) page.old) (desk (K.written sink.new) (K.faults sink.new) page.new) }
 {
     page.say_byte(sink, b' ');
     say_word(page, sink, word);
@@ -44,7 +43,7 @@ fn say_more<K: Sink>(page: &mut Page, sink: &mut K, words: &[Word])
     ensures { Sends (flat_map spaced words.now) (desk (K.written sink.old) (K.faults sink.old) page.old) (desk (K.written sink.new) (K.faults sink.new) page.new) }
 {
     for word in words {
-        say_spaced(page, sink, *word);
+        say_spaced(page, sink, word);
     }
 }
 
@@ -55,7 +54,7 @@ fn say_words<K: Sink>(page: &mut Page, sink: &mut K, words: &[Word])
     let Some((first, rest)) = words.split_first() else {
         return;
     };
-    say_word(page, sink, *first);
+    say_word(page, sink, first);
     say_more(page, sink, rest);
 }
 

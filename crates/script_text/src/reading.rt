@@ -74,14 +74,13 @@ impl Progress {
         ensures adds { IfOk result (λ added. Adds added (calls call) (reading_of self.old) (reading_of self.new)) }
         ensures fits { OnOk result (FitsReading (reading_of self.new)) }
     {
-        let Some((lane, mut calls)) = self.open_txn.take() else {
+        let Some((_, calls)) = &mut self.open_txn else {
             return Ok(false);
         };
         if calls.len() >= MOST_CALLS {
             return Ok(false);
         }
         calls.push(call)?;
-        self.open_txn = Some((lane, calls));
         Ok(true)
     }
 

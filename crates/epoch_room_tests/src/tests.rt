@@ -385,17 +385,16 @@ fn merged_under<D: LogDisk>(room: &mut Room<D>, alloc: Global) -> Result<View<D:
     Ok(view)
 }
 
-// The first byte of the text of a leaf's first key.
-fn first_byte(node: &Node) -> Option<u8> {
-    let Node::Leaf { pairs } = node else {
-        return None;
-    };
-    let (_key, value) = pairs.as_slice().first()?;
-    value.as_slice().first().copied()
+// The leaf of a text at the key `a`.
+fn leaf_of(alloc: Global, value: &[u8; 1]) -> Result<Node, Fail> {
+    let pair = (text(alloc, b"a")?, text(alloc, value)?);
+    let mut pairs = Items::new(alloc);
+    pairs.push(pair).ok().ok_or("memory")?;
+    Ok(Node::Leaf { pairs })
 }
 
 // What a view reads of node 1.
-fn read_one<E: LogEye>(view: &mut View<E>) -> Option<u8>
+fn read_one<E: LogEye>(view: &mut View<E>) -> Option<Node>
     ensures { SameView view.old view.new }
 {
     let node = NodeId {
@@ -403,7 +402,7 @@ fn read_one<E: LogEye>(view: &mut View<E>) -> Option<u8>
         number: 1,
     };
     match view.fetch(node) {
-        Ok((found, _version)) => first_byte(&found),
+        Ok((found, _version)) => Some(found),
         Err(_fault) => None,
     }
 }
@@ -422,7 +421,7 @@ fn erase_first<D: LogDisk>(room: &mut Room<D>) -> Erased
 fn held_until_back<D: LogDisk>(
     room: &mut Room<D>,
     mut view: View<D::Eye>,
-) -> (Option<u8>, Erased, Erased)
+) -> (Option<Node>, Erased, Erased)
     requires place { (view.seat ≡ 1) × (view.buffer ≡ 0) }
     requires board { room.old.room.board ≡ Some (opened view.eye) ∷ None ∷ None ∷ [] }
     ensures { room.new.room.board ≡ None ∷ None ∷ None ∷ [] }
@@ -437,7 +436,7 @@ fn held_until_back<D: LogDisk>(
 fn across_a_merge<D: LogDisk>(
     room: &mut Room<D>,
     alloc: Global,
-) -> Result<((Option<u8>, Erased, Erased), Option<u8>, Counts), Fail>
+) -> Result<((Option<Node>, Erased, Erased), Option<Node>, Counts), Fail>
     requires board { room.old.room.board ≡ None ∷ None ∷ None ∷ [] }
     requires job { room.old.room.job ≡ None }
     requires untold { is_some room.old.room.image ≡ false }
@@ -462,10 +461,15 @@ fn a_view_from_before_a_merge_reads_and_holds_its_parts(rt: HostRuntime) -> Resu
         waiting: 0,
     };
     let held = Err(EraseFault::Held { seat: 1, buffer: 0 });
+    let (before, after) = (leaf_of(rt.alloc(), b"1")?, leaf_of(rt.alloc(), b"9")?);
     let shown = across_a_merge(&mut file_room(&rt, path.as_str())?, rt.alloc())?;
     assert_eq!(rt;
         shown,
-        ((Some(b'1'), Some(held), Some(Ok(()))), Some(b'9'), counts)
+        (
+            (Some(before), Some(held), Some(Ok(()))),
+            Some(after),
+            counts
+        )
     );
     fs::remove_file(&rt, path.as_str())?;
     Ok(())

@@ -1,4 +1,3 @@
 //! Tests of open transactions.
 
-mod fresh;
 mod run;

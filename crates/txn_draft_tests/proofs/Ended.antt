@@ -12,9 +12,10 @@ use Rattle.btree_nodes.specs.declared.fault.TreeFault.{TreeFault}
 use Rattle.btree_nodes.specs.Trees.{Holds, Serves}
 use Rattle.txn_draft.specs.Answers.{AnswersSoundly}
 use Rattle.txn_draft.specs.Drafts.{DraftValue, IsAnswered, blank, entry_of}
-use Rattle.txn_draft_tests.specs.Once.{IsReady, IsRun, commit_of}
 use Rattle.txn_draft.specs.Standing.{IsLeft, StandsFor}
 use Rattle.txn_draft.specs.Uses.{IsUsed, UsedAfter}
+use Rattle.txn_draft_tests.specs.Committed.{commit_of}
+use Rattle.txn_draft_tests.specs.Once.{IsReady, IsRun}
 use Rattle.txn_draft.proofs.Lasting.{holds_law, serves_law, settle_law, undo_law}
 use Rattle.txn_draft.proofs.Lawful.{blank_law, next_law, taken_law}
 use Rattle.txn_draft.proofs.Undoing.{restored, undone}

@@ -1,5 +1,5 @@
 -- What one transaction leaves that is committed or taken back.
-use Rattle.std.specs.Prelude.{ℕ, ◌≤◌, List, [], ◌∷◌, ◌++◌, All, Option, Some, Result, Ok}
+use Rattle.std.specs.Prelude.{ℕ, ◌≤◌, List, ◌++◌, All, Option, Result}
 use Rattle.fine_model.specs.declared.Entry.{Entry}
 use Rattle.fine_model.specs.declared.Row.{Row}
 use Rattle.fine_model.specs.declared.law.Origin.{Origin}
@@ -10,6 +10,7 @@ use Rattle.fine_model.specs.Nodes.{Agrees}
 use Rattle.node_cache.specs.Cache.{Cache}
 use Rattle.btree_nodes.specs.declared.fault.TreeFault.{TreeFault}
 use Rattle.txn_draft.specs.Standing.{StandsFor}
+use Rattle.txn_draft_tests.specs.Committed.{IfCommitted, longer}
 
 -- a history is legal on some rows, and a source tells rows that agree with it up to an epoch
 pub record TellsHistory (tells : List Row → Type 0) (upper : ℕ) (first : List Row) (history : List Commit) : Type 0 where
@@ -19,26 +20,13 @@ pub record TellsHistory (tells : List Row → Type 0) (upper : ℕ) (first : Lis
   pub is_told : tells known
   pub agrees : Agrees known (first ++ all_rows (upto history upper))
 
-abbrev pub commit_of : Entry → ℕ → Commit
-commit_of entry epoch = record { entry = entry; epoch = epoch }
-
--- what was committed is behind a history
-abbrev pub longer : List Commit → ℕ → Result (Option Entry) TreeFault → List Commit
-longer history epoch (Ok (Some entry)) = history ++ commit_of entry epoch ∷ []
-longer history epoch _ = history
-
--- and may follow on it
-abbrev pub FollowsOn : List Row → List Commit → ℕ → Result (Option Entry) TreeFault → Type 0
-FollowsOn first history epoch (Ok (Some entry)) = IsNext first history (commit_of entry epoch)
-FollowsOn first history epoch _ = Unit {0}
-
 -- a bucket stands for a history whose epochs are none above the next commit's, and the source tells it where the log at entry was told
 pub record IsReady (log : Origin) (published epoch : ℕ) (tells : List Row → Type 0) (upper : ℕ) (b : Cache) (history : List Commit) : Type 0 where
   pub stands : StandsFor log b.bucket published b history
   pub epochs : All (λ c. c.epoch ≤ epoch) history
   pub told : (e : ℕ) (first : List Row) → Began log e first → TellsHistory tells upper first history
 
--- it stands for the history with what was committed
+-- it stands for the history with what was committed, and this may follow on the history
 pub record IsRun (log : Origin) (k published epoch : ℕ) (b : Cache) (history : List Commit) (r : Result (Option Entry) TreeFault) : Type 0 where
   pub stands : StandsFor log k published b (longer history epoch r)
-  pub follows : (e : ℕ) (first : List Row) → Began log e first → FollowsOn first history epoch r
+  pub follows : (e : ℕ) (first : List Row) → Began log e first → IfCommitted (IsNext first history) epoch r

@@ -1,5 +1,4 @@
 //! Tests of drafts.
 
-mod fresh;
 mod once;
 mod twice;

@@ -5,19 +5,20 @@ ghost use Rattle.std.specs.List.{AllByRecursion};
 ghost use Rattle.fine_model.specs.declared.law.Origin.{Origin};
 ghost use Rattle.fine_model.specs.Bounds.{FitsCall};
 ghost use Rattle.fine_model.specs.History.{Commit};
-ghost use Rattle.fine_model.specs.RowBytes.{FitsKey, FitsValue};
+ghost use Rattle.fine_model.specs.RowBytes.{FitsKey};
 ghost use Rattle.txn_draft.specs.Drafts.{blank};
 ghost use Rattle.open_txn.specs.Opened.{IsReady};
 ghost use Rattle.open_txn_tests.specs.Runs.{IsRun};
 
-use super::fresh::Fresh;
 use btree_nodes::TreeFault;
-use fine_model::{Bytes, Call, Entry, Items, Reply};
+use btree_nodes_tests::rows::Rows;
+use fine_model::{Call, Entry, Reply};
 use node_cache::NodeSource;
 use open_txn::{Buckets, answer_all};
-use std::alloc::Global;
+use std::alloc::{AllocError, Global};
 use std::test::*;
 use txn_draft::Draft;
+use txn_draft_tests::calls::{put, text};
 
 /// Answers calls, and commits them under an epoch or takes them back. The buckets stand for the history with what was committed.
 fn run_calls<S: NodeSource>(
@@ -54,27 +55,8 @@ fn run_calls<S: NodeSource>(
     }
 }
 
-/// A copy of a text.
-fn text(alloc: Global, text: &[u8]) -> Result<Bytes, Fail>
-    ensures { IfOk result (λ b. b ≡ text.now) }
-{
-    Ok(Items::from_vec(Vec::from_slice(alloc, text).ok().ok_or("memory")?))
-}
-
-/// A call that sets a key.
-fn put(alloc: Global, key: &[u8], value: &[u8]) -> Result<Call, Fail>
-    requires key { FitsKey key.now }
-    requires value { FitsValue value.now }
-    ensures fits { IfOk result FitsCall }
-{
-    Ok(Call::Put {
-        key: text(alloc, key)?,
-        value: text(alloc, value)?,
-    })
-}
-
 /// A call for the pairs of a range.
-fn scan(alloc: Global, low: &[u8], high: &[u8]) -> Result<Call, Fail>
+fn scan(alloc: Global, low: &[u8], high: &[u8]) -> Result<Call, AllocError>
     requires low { FitsKey low.now }
     requires high { FitsKey high.now }
     ensures fits { IfOk result FitsCall }
@@ -87,7 +69,7 @@ fn scan(alloc: Global, low: &[u8], high: &[u8]) -> Result<Call, Fail>
 }
 
 /// Two keys of two buckets are set, and a scan asks for both.
-fn two_and_scan(alloc: Global) -> Result<[Call; 3], Fail>
+fn two_and_scan(alloc: Global) -> Result<[Call; 3], AllocError>
     ensures { IfOk result (AllByRecursion FitsCall) }
 {
     Ok([
@@ -100,7 +82,7 @@ fn two_and_scan(alloc: Global) -> Result<[Call; 3], Fail>
 #[test]
 fn a_scan_finds_what_two_buckets_got(rt: HostRuntime) -> Result<(), Fail> {
     let alloc = rt.alloc();
-    let mut source = Fresh { alloc };
+    let mut source = Rows::none(alloc, 1);
     let Ok(mut buckets) = Buckets::new(alloc) else {
         return Err(Fail::from("memory"));
     };

@@ -9,9 +9,9 @@ ghost use Rattle.fine_model.specs.Trees.{bucket_of};
 ghost use Rattle.txn_draft.specs.Drafts.{blank, is_scan};
 ghost use Rattle.txn_draft_tests.specs.Once.{IsReady, IsRun};
 
-use super::fresh::Fresh;
-use super::twice::put;
+use crate::calls::put;
 use btree_nodes::TreeFault;
+use btree_nodes_tests::rows::Rows;
 use fine_model::{Call, Entry, Reply, bucket_of};
 use node_cache::{Bucket, NodeSource};
 use std::test::*;
@@ -58,7 +58,7 @@ fn run_once<S: NodeSource>(
 #[test]
 fn a_transaction_is_committed_on_its_own(rt: HostRuntime) -> Result<(), Fail> {
     let alloc = rt.alloc();
-    let mut source = Fresh { alloc };
+    let mut source = Rows::none(alloc, 1);
     let key = b"c";
     let mut bucket = Bucket::new(alloc, bucket_of(key));
     let mut draft = Draft::new(alloc, 1, 1);

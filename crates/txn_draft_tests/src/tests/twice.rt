@@ -1,20 +1,20 @@
 //! Two transactions on one bucket: one commits, and then one is taken back, while the source tells neither of them.
 
-ghost use Rattle.std.specs.Prelude.{◌≡◌, ◌<◌, ◌++◌, ℕ, [], ◌∷◌, false, List, Ok, IfOk, IfSome};
+ghost use Rattle.std.specs.Prelude.{◌≡◌, ◌<◌, ℕ, [], false, List, IfOk, IfSome};
 ghost use Rattle.fine_model.specs.declared.Row.{Row as ModelRow};
 ghost use Rattle.fine_model.specs.Bounds.{FitsCall};
 ghost use Rattle.fine_model.specs.Laws.{AreSmall};
 ghost use Rattle.fine_model.specs.Pushed.{key_of};
-ghost use Rattle.fine_model.specs.RowBytes.{FitsKey, FitsValue};
 ghost use Rattle.fine_model.specs.Trees.{bucket_of, IsSound};
 ghost use Rattle.node_cache.specs.Cache.{cached, IsResting};
 ghost use Rattle.btree_nodes.specs.Trees.{Serves, Holds};
 ghost use Rattle.txn_draft.specs.Drafts.{blank, is_scan};
 ghost use Rattle.txn_draft_tests.specs.Twice.{IsTwice};
 
-use super::fresh::Fresh;
+use crate::calls::put;
 use btree_nodes::TreeFault;
-use fine_model::{Bytes, Call, Entry, Items, Reply, bucket_of};
+use btree_nodes_tests::rows::Rows;
+use fine_model::{Call, Entry, Reply, bucket_of};
 use node_cache::{Bucket, NodeSource};
 use std::alloc::Global;
 use std::test::*;
@@ -51,31 +51,9 @@ fn commit_and_abort<S: NodeSource>(
     Ok((entry, answer))
 }
 
-/// A copy of a text.
-fn text(alloc: Global, text: &[u8]) -> Result<Bytes, Fail>
-    ensures { IfOk result (λ b. b ≡ text.now) }
-{
-    Ok(Items::from_vec(Vec::from_slice(alloc, text).ok().ok_or("memory")?))
-}
-
-/// A call that sets a key.
-pub fn put(alloc: Global, key: &[u8], value: &[u8]) -> Result<Call, Fail>
-    requires key { FitsKey key.now }
-    requires value { FitsValue value.now }
-    ensures fits { IfOk result FitsCall }
-    ensures no_scan { IfOk result (λ c. is_scan c ≡ false) }
-    ensures key { IfOk result (λ c. key_of c ≡ key.now) }
-{
-    Ok(Call::Put {
-        key: text(alloc, key)?,
-        value: text(alloc, value)?,
-    })
-}
-
-#[test]
-fn the_second_transaction_sees_the_first(rt: HostRuntime) -> Result<(), Fail> {
-    let alloc = rt.alloc();
-    let mut source = Fresh { alloc };
+/// What two transactions that set one key come to: the entry of the first one, how many bytes the second one pushed, and whether it failed.
+fn set_twice(alloc: Global) -> Result<(Entry, usize, bool), Fail> {
+    let mut source = Rows::none(alloc, 1);
     let key = b"c";
     let mut bucket = Bucket::new(alloc, bucket_of(key));
     let mut first = Draft::new(alloc, 1, 1);
@@ -94,9 +72,13 @@ fn the_second_transaction_sees_the_first(rt: HostRuntime) -> Result<(), Fail> {
     let Ok((entry, Ok(()))) = done else {
         return Err(Fail::from("refused"));
     };
+    Ok((entry, second.log().bytes().len(), second.failed()))
+}
+
+#[test]
+fn the_second_transaction_sees_the_first(rt: HostRuntime) -> Result<(), Fail> {
+    let (entry, pushed, failed) = set_twice(rt.alloc())?;
     assert!(rt; matches!(entry.replies.as_slice(), [Reply::Stored]));
-    assert!(rt; entry.rows.len() == 1);
-    assert!(rt; second.log().bytes().len() == 24);
-    assert!(rt; !second.failed());
+    assert_eq!(rt; (entry.rows.len(), pushed, failed), (1, 24, false));
     Ok(())
 }

@@ -1,0 +1,31 @@
+//! Calls of transactions.
+
+ghost use Rattle.std.specs.Prelude.{◌≡◌, false, IfOk};
+ghost use Rattle.fine_model.specs.Bounds.{FitsCall};
+ghost use Rattle.fine_model.specs.Pushed.{key_of};
+ghost use Rattle.fine_model.specs.RowBytes.{FitsKey, FitsValue};
+ghost use Rattle.txn_draft.specs.Drafts.{is_scan};
+
+use fine_model::{Bytes, Call, Items};
+use std::alloc::{AllocError, Global};
+
+/// A copy of a text.
+pub fn text(alloc: Global, text: &[u8]) -> Result<Bytes, AllocError>
+    ensures { IfOk result (λ b. b ≡ text.now) }
+{
+    Ok(Items::from_vec(Vec::from_slice(alloc, text)?))
+}
+
+/// A call that sets a key.
+pub fn put(alloc: Global, key: &[u8], value: &[u8]) -> Result<Call, AllocError>
+    requires key { FitsKey key.now }
+    requires value { FitsValue value.now }
+    ensures fits { IfOk result FitsCall }
+    ensures no_scan { IfOk result (λ c. is_scan c ≡ false) }
+    ensures key { IfOk result (λ c. key_of c ≡ key.now) }
+{
+    Ok(Call::Put {
+        key: text(alloc, key)?,
+        value: text(alloc, value)?,
+    })
+}

@@ -15,3 +15,4 @@ pub mod JoinedBody
 pub mod JoinedFinds
 pub mod Pieces
 pub mod Found
+pub mod Leaves

@@ -1,9 +1,8 @@
 -- Rows of one node that stay in the windows of two parts: what is told of them, and what they are merged into.
 use Rattle.std.proofs.Common.{◌≡◌, ℕ, ◌+◌, ◌-◌, ◌≤◌, min, nat_le, nat_lt, Bool, true, false, cond, not, ◌==◌, ◌&&◌, ◌||◌, List, [], ◌∷◌, ◌++◌, length, drop, Option, Some, None, refl, sym, ap, ◌∙◌, subst, arith, eqb-true, append-nil, append_assoc, length-append, length-drop, length-take, true≢false}
-use Rattle.std.specs.Box.{box_value}
-use Rattle.std.specs.Global.{Box}
+use Rattle.std.specs.Global.{Vec}
 use Rattle.std.specs.List.{AllByRecursion}
-use Rattle.std.proofs.lemmas.Bool.{lt-leb}
+use Rattle.std.proofs.lemmas.Bool.{lt-leb, and_parts}
 use Rattle.std.proofs.lemmas.List.{nil_from_length}
 use Rattle.std.proofs.lemmas.List.Sums.{sum_by-append}
 use Rattle.fine_model.specs.declared.NodeId.{NodeId}
@@ -15,8 +14,8 @@ use Rattle.fine_model.specs.declared.Row.{Row}
 use Rattle.fine_model.specs.Map.{set}
 use Rattle.fine_model.specs.Merge.{is_image, is_ordered, is_row_below, starts_afresh}
 use Rattle.fine_model.specs.Nodes.{Content, base, changed, replay, step, step_node}
-use Rattle.fine_model.specs.RowBytes.{FitsRec, body, kind, pair_bytes, row_bytes, row_len, rows_bytes, rows_len}
-use Rattle.fine_model.proofs.Grammar.{rows_bytes-append}
+use Rattle.fine_model.specs.RowBytes.{FitsRow, body, kind, pair_bytes, row_bytes, row_len, rows_bytes, rows_len}
+use Rattle.fine_model.proofs.Grammar.{row_long, rows_bytes-append}
 use Rattle.fine_model.proofs.Sets.{all_append}
 use Rattle.node_fetch.specs.Spans.{AreFramesOf, ReadsAll, last_row}
 use Rattle.node_fetch.specs.declared.frames.Frames.{Frames}
@@ -25,6 +24,7 @@ use Rattle.partition_merge.specs.declared.merger.Merger.{Merger}
 use Rattle.partition_merge.specs.declared.piece.Found.{Found}
 use Rattle.partition_merge.specs.declared.piece.Merged.TheVariants as merged
 use Rattle.partition_merge.specs.declared.piece.Piece.{Piece}
+use Rattle.partition_merge.specs.Leaves.{AreRows, IsImageOf}
 use Rattle.partition_merge.specs.Merging.{merged_of}
 use Rattle.partition_merge.specs.Pieces.{CanSpell, Holds, HoldsIn, IsMergedFrom, IsPieceOf, IsTallyOf, StandsIn, TellsAll, TellsOf, begins_with_put, both_ascend, both_len, bytes_at, may_fold, may_fold_from, merged_bytes, piece_len, piece_rows, span_bytes, span_of, tally_of}
 use Rattle.partition_merge.specs.Windows.{WindowValue}
@@ -259,21 +259,38 @@ both_found m id older newer a b found h k some stays tally is =
     }
 
 -- an image that stands for rows is spelled by itself
-pub image_found : (m : Merger) (id : NodeId) (older newer : Option Piece) (a b : List Row) (image : Box Row) (found : Found) → HoldsIn m.older id older a → HoldsIn m.newer id newer b → merged_of id (a ++ b) ≡ box_value image ∷ [] → FitsRec (box_value image).rec
-    → row_len (box_value image) ≤ 10356 → found.tally.node ≡ id → found.tally.rows ≡ 1 → found.tally.area ≡ row_len (box_value image) → found.tally.ordered ≡ true → found.merged ≡ merged.Image image → IsMergedFrom m id (a ++ b) found
+pub image_found : (m : Merger) (id : NodeId) (older newer : Option Piece) (a b : List Row) (image : Vec ℕ) (found : Found) → HoldsIn m.older id older a → HoldsIn m.newer id newer b → IsImageOf id (a ++ b) image.items
+    → found.tally.node ≡ id → found.tally.rows ≡ 1 → found.tally.area ≡ min (length image.items) 4294967295 → found.tally.ordered ≡ true → found.merged ≡ merged.Image image → IsMergedFrom m id (a ++ b) found
 unfolding rows_bytes
-image_found m id older newer a b image found h k joined fits short node rows area ordered is =
-    let row = box_value image in
-    let own : AllByRecursion (λ r. r.node ≡ id) (row ∷ []) = subst (AllByRecursion (λ r. r.node ≡ id)) joined
+image_found m id older newer a b image found h k of node rows area ordered is =
+    let own : AllByRecursion (λ r. r.node ≡ id) (of.row ∷ []) = subst (AllByRecursion (λ r. r.node ≡ id)) of.joined
     (merged_own id (a ++ b) (all_append (λ r. r.node ≡ id) a b (all_own m.older.part m.older.ahead.rows id older a h) (all_own m.newer.part m.newer.ahead.rows id newer b k))) in
     record {
-      tally = subst (λ xs. IsTallyOf xs found.tally) (sym joined) (record {
+      tally = subst (λ xs. IsTallyOf xs found.tally) (sym of.joined) (record {
         own = (own.0 ∙ sym node, tt);
         some = omega arith;
         rows_are = rows;
-        area = (let one : rows_len (row ∷ []) ≡ row_len row = omega arith in omega (arith, area, one, short));
+        area = (let one : rows_len (of.row ∷ []) ≡ row_len of.row = omega arith in let long = ap length of.spelled in let same = row_long of.row in omega (arith, area, one, long, same));
         ordered = ordered;
       });
-      can_spell = subst (CanSpell m) (sym is) fits;
-      spelled = ap (merged_bytes m) is ∙ sym (append-nil (row_bytes row)) ∙ ap rows_bytes (sym joined);
+      can_spell = subst (CanSpell m) (sym is) tt;
+      spelled = ap (merged_bytes m) is ∙ of.spelled ∙ sym (append-nil (row_bytes of.row)) ∙ ap rows_bytes (sym of.joined);
     }
+
+-- ---- what is folded as it is spelled
+
+-- the bytes of a piece are its rows
+pub piece_are_rows : (part : Part) (window : WindowValue) (id : NodeId) (piece : Option Piece) (rows : List Row) → Holds part window id piece rows → AreRows part.header.mark (span_bytes window (span_of piece)) rows
+piece_are_rows part window id piece rows h = record { fit = fits piece h; spelled = piece_spelled part window id piece rows h }
+  where
+    fits : (piece : Option Piece) → Holds part window id piece rows → AllByRecursion (FitsRow part.header.mark) rows
+    fits None h = subst (AllByRecursion (FitsRow part.header.mark)) (sym h) tt
+    fits (Some piece) h = h.reads.so_far.fit
+
+-- rows for which an image may stand need nothing before them
+pub folds_afresh : (p q : Part) (v w : WindowValue) (id : NodeId) (older newer : Option Piece) (a b : List Row) → Holds p v id older a → Holds q w id newer b → may_fold older newer ≡ true → starts_afresh (a ++ b) ≡ true
+folds_afresh p q v w id None None a b h k test = absurd (true≢false (sym test))
+folds_afresh p q v w id (Some older) newer [] b h k test = absurd h.tells
+folds_afresh p q v w id (Some older) newer (row ∷ a) b h k test = afresh p v id older row a b h ∙ (and_parts _ _ test).0
+folds_afresh p q v w id None (Some newer) a [] h k test = absurd k.tells
+folds_afresh p q v w id None (Some newer) a (row ∷ b) h k test = ap (λ xs. starts_afresh (xs ++ row ∷ b)) h ∙ ap (λ xs. starts_afresh (row ∷ xs)) (sym (append-nil b)) ∙ afresh q w id newer row b [] k ∙ (and_parts _ _ test).0

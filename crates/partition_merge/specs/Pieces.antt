@@ -1,6 +1,5 @@
 -- Rows of one node that stay where they were read: in the windows on the rows of two parts.
 use Rattle.std.specs.Prelude.{◌≡◌, ℕ, ◌+◌, ◌-◌, ◌≤◌, ◌==◌, nat_lt, not, Bool, true, false, ◌&&◌, ◌||◌, List, [], ◌∷◌, ◌++◌, length, min, take, drop, Option, Some, None, option_map}
-use Rattle.std.specs.Box.{box_value}
 use Rattle.std.specs.List.{AllByRecursion}
 use Rattle.log_disk.specs.Disk.{Eye}
 use Rattle.fine_model.specs.declared.NodeId.{NodeId}
@@ -9,7 +8,7 @@ use Rattle.fine_model.specs.declared.Row.{Row}
 use Rattle.fine_model.specs.Merge.{is_image, is_node_below, is_ordered}
 use Rattle.fine_model.specs.Nodes.{rows_of}
 use Rattle.fine_model.specs.Regions.{Image}
-use Rattle.fine_model.specs.RowBytes.{FitsRec, row_bytes, rows_bytes, rows_len}
+use Rattle.fine_model.specs.RowBytes.{rows_bytes, rows_len}
 use Rattle.partition_index.specs.declared.entries.IndexEntry.{IndexEntry}
 use Rattle.partition_index.specs.declared.entries.Span.{Span}
 use Rattle.partition_index.specs.Index.{AllFrom}
@@ -150,14 +149,14 @@ tallied tally offset = record { node = tally.node; offset = offset; rows = tally
 
 -- ---- what was merged
 
--- the bytes of merged rows: those of the image, or those that stand in both windows
+-- the bytes of merged rows: the image, as it is spelled, or those that stand in both windows
 abbrev pub merged_bytes : Merger → Merged → List ℕ
-merged_bytes merger (merged.Image image) = row_bytes (box_value image)
+merged_bytes merger (merged.Image image) = image.items
 merged_bytes merger (merged.Both older newer) = span_bytes merger.older.ahead.rows older ++ span_bytes merger.newer.ahead.rows newer
 
 -- they can be spelled
 abbrev pub CanSpell : Merger → Merged → Type 0
-CanSpell merger (merged.Image image) = FitsRec (box_value image).rec
+CanSpell merger (merged.Image image) = Unit {0}
 CanSpell merger (merged.Both older newer) = StandsIn merger.older.ahead.rows older × StandsIn merger.newer.ahead.rows newer
 
 -- what was found is what some rows of a node are merged into

@@ -70,8 +70,7 @@ fn put_entry(index: &mut Vec<u8>, tally: Tally, offset: u32)
     let _room = index.extend_from_slice(&entry_bytes(&entry));
 }
 
-// Spells merged rows that were found last, of so many bytes: behind a block, if they stand in the windows and the block has room for them and
-// more, and else where bytes wait.
+// Spells merged rows that were found last, of so many bytes: behind a block, if it has room for them and more, and else where bytes wait.
 fn put_rows(
     pass: &Pass,
     merged: &Merged,
@@ -91,11 +90,9 @@ fn put_rows(
     ensures room { vec_capacity block.old ≤ vec_capacity block.new }
 {
     let room = most - block.len() as u32;
-    if let Merged::Both { older, newer } = merged {
-        if area < room {
-            pass.put(block, *older, *newer);
-            return Ok(());
-        }
+    if area < room {
+        pass.put(block, merged);
+        return Ok(());
     }
     pass.spell(waiting, merged)
 }

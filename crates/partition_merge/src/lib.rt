@@ -12,6 +12,7 @@ mod blocks;
 mod buffer;
 mod fold;
 mod laws;
+mod leaf;
 mod merger;
 mod order;
 mod pass;

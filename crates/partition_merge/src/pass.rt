@@ -1,26 +1,24 @@
 //! Going over two parts node by node, in blocks.
 
-ghost use Rattle.std.specs.Prelude.{◌≡◌, ℕ, ◌+◌, ◌<◌, ◌≤◌, ◌++◌, IfOk, IfSome, IsErrOf, List, MatchResult, None, Ok, OnOk, Option, Some, length, option_map, vec_capacity, vec_len};
-ghost use Rattle.std.specs.Box.{box_value};
+ghost use Rattle.std.specs.Prelude.{◌≡◌, ℕ, ◌+◌, ◌<◌, ◌≤◌, ◌++◌, IfOk, IfSome, IsErrOf, List, MatchResult, None, Ok, OnOk, Option, Some, length, option_map, true, vec_capacity, vec_len};
 ghost use Rattle.fine_model.specs.declared.FetchFault.TheVariants as fetch_fault;
 ghost use Rattle.fine_model.specs.declared.Row.{Row};
 ghost use Rattle.fine_model.specs.Regions.{Image};
-ghost use Rattle.fine_model.specs.RowBytes.{FitsRec};
 ghost use Rattle.partition_index.specs.Parts.{CountsFaults, IsSeen, LiesIn, SameEye};
 ghost use Rattle.node_fetch.specs.Fetched.{NoDamage};
-ghost use Rattle.partition_merge.specs.Merging.{merged_of, one_or};
+ghost use Rattle.partition_merge.specs.Leaves.{IsImageOf, IsMergedInto};
 ghost use Rattle.partition_merge.specs.Mergers.{AreKept, BlamesEntry, BlamesRow, StandsAt, at_front, both_left, newer_part, older_part};
-ghost use Rattle.partition_merge.specs.Pieces.{CanSpell, EndsAt, HandsOver, HasRows, HoldsIn, IsMergedFrom, StandsIn, merged_bytes, span_bytes};
+ghost use Rattle.partition_merge.specs.Pieces.{CanSpell, EndsAt, HandsOver, HasRows, HoldsIn, IsMergedFrom, may_fold, merged_bytes};
 ghost use Rattle.partition_merge.specs.Streams.{AreInOrder, both_bytes_left};
 
 use crate::fold::folded_moved;
+use crate::leaf::spelled_image;
 use crate::lower;
 use crate::piece::{Found, Merged, Piece, Tally, both_len, may_fold, span_of};
 use crate::reader::Reader;
-use fine_model::{FetchFault, NoMemory, NodeId, Part, Row};
+use fine_model::{FetchFault, NoMemory, NodeId, Part};
 use log_disk::LogEye;
 use node_record::write_row;
-use partition_index::Span;
 use std::alloc::Global;
 use std::marker::Model;
 
@@ -58,8 +56,28 @@ impl Pass {
         })
     }
 
-    // The image that the rows of a node in both windows fold to, if they fold. Few nodes may have one, so this stands apart: the others do not pay for
-    // its place on the stack.
+    // The image into which the rows of a node in both windows are merged, as it is spelled, if they put pairs into a leaf: the rows are not decoded.
+    #[inline(never)]
+    fn leaf_image(
+        &self,
+        alloc: Global,
+        node: NodeId,
+        older: &Option<Piece>,
+        newer: &Option<Piece>,
+    ) -> Result<Option<Vec<u8>>, NoMemory>
+        requires older { HasRows self.now.older node older.now }
+        requires newer { HasRows self.now.newer node newer.now }
+        requires may_fold { may_fold older.now newer.now ≡ true }
+        ensures { (a b : List Row) → HoldsIn self.now.older node older.now a → HoldsIn self.now.newer node newer.now b → IfOk result (λ r. IfSome r (λ image. IsImageOf node (a ++ b) image.items)) }
+    {
+        let len = both_len(older, newer);
+        let older = self.older.spelled(span_of(older));
+        let newer = self.newer.spelled(span_of(newer));
+        spelled_image(alloc, node, older, newer, len)
+    }
+
+    // The image that the rows of a node in both windows fold to, if they fold. They are decoded, which few nodes want, so this stands apart: the others do
+    // not pay for its place on the stack.
     #[cold]
     #[inline(never)]
     fn read_image(
@@ -68,27 +86,25 @@ impl Pass {
         node: NodeId,
         older: Option<Piece>,
         newer: Option<Piece>,
-    ) -> Result<Option<Box<Row>>, NoMemory>
+    ) -> Result<Option<Vec<u8>>, NoMemory>
         requires older_lies { LiesIn self.now.region_len (older_part self.now).header }
         requires newer_lies { LiesIn self.now.region_len (newer_part self.now).header }
         requires older { HasRows self.now.older node older }
         requires newer { HasRows self.now.newer node newer }
-        ensures image { (a b : List Row) → HoldsIn self.now.older node older a → HoldsIn self.now.newer node newer b → IfOk result (λ image. merged_of node (a ++ b) ≡ one_or (option_map box_value image) (a ++ b)) }
-        ensures fit { IfOk result (λ image. IfSome image (λ boxed. FitsRec (box_value boxed).rec)) }
+        ensures { (a b : List Row) → HoldsIn self.now.older node older a → HoldsIn self.now.newer node newer b → IfOk result (IsMergedInto node (a ++ b)) }
     {
         let len = both_len(&older, &newer);
         let older = self.older.rows(alloc, node, older, self.region_len)?;
         let newer = self.newer.rows(alloc, node, newer, self.region_len)?;
-        let Some(image) = folded_moved(alloc, node, older, newer, len)? else {
+        let Some(row) = folded_moved(alloc, node, older, newer, len)? else {
             return Ok(None);
         };
-        match Box::new(alloc, image) {
-            Ok(boxed) => Ok(Some(boxed)),
-            Err(_) => Err(NoMemory),
-        }
+        let mut image = Vec::new(alloc);
+        write_row(&mut image, &row)?;
+        Ok(Some(image))
     }
 
-    // The image that stands for the rows of a node in both windows, where one does.
+    // The image that stands for the rows of a node in both windows, where one does, as it is spelled.
     #[inline(always)]
     fn image(
         &self,
@@ -96,18 +112,20 @@ impl Pass {
         node: NodeId,
         older: &Option<Piece>,
         newer: &Option<Piece>,
-    ) -> Result<Option<Box<Row>>, NoMemory>
+    ) -> Result<Option<Vec<u8>>, NoMemory>
         requires older_lies { LiesIn self.now.region_len (older_part self.now).header }
         requires newer_lies { LiesIn self.now.region_len (newer_part self.now).header }
         requires older { HasRows self.now.older node older.now }
         requires newer { HasRows self.now.newer node newer.now }
-        ensures image { (a b : List Row) → HoldsIn self.now.older node older.now a → HoldsIn self.now.newer node newer.now b → IfOk result (λ image. merged_of node (a ++ b) ≡ one_or (option_map box_value image) (a ++ b)) }
-        ensures fit { IfOk result (λ image. IfSome image (λ boxed. FitsRec (box_value boxed).rec)) }
+        ensures { (a b : List Row) → HoldsIn self.now.older node older.now a → HoldsIn self.now.newer node newer.now b → IfOk result (IsMergedInto node (a ++ b)) }
     {
         if !may_fold(older, newer) {
             return Ok(None);
         }
-        self.read_image(alloc, node, *older, *newer)
+        match self.leaf_image(alloc, node, older, newer)? {
+            Some(image) => Ok(Some(image)),
+            None => self.read_image(alloc, node, *older, *newer),
+        }
     }
 
     // What the rows of a node in both windows are merged into. They stay there but where an image stands for them.
@@ -135,7 +153,7 @@ impl Pass {
             });
         };
         Ok(Found {
-            tally: Tally::of_image(node, image.as_ref()),
+            tally: Tally::of_image(node, image.as_slice()),
             merged: Merged::Image(image),
         })
     }
@@ -187,25 +205,34 @@ impl Pass {
         Ok(Some(found))
     }
 
-    /// Appends the bytes of rows of both windows, for which there is room.
-    pub(crate) fn put(&self, out: &mut Vec<u8>, older: Option<Span>, newer: Option<Span>)
-        requires older { StandsIn self.now.older.ahead.rows older }
-        requires newer { StandsIn self.now.newer.ahead.rows newer }
-        requires room { vec_len out.old + length (span_bytes self.now.older.ahead.rows older ++ span_bytes self.now.newer.ahead.rows newer) ≤ vec_capacity out.old }
-        ensures bytes { out.new.items ≡ out.old.items ++ (span_bytes self.now.older.ahead.rows older ++ span_bytes self.now.newer.ahead.rows newer) }
+    /// Appends the bytes of merged rows that were found last, for which there is room.
+    pub(crate) fn put(&self, out: &mut Vec<u8>, merged: &Merged)
+        requires can_spell { CanSpell self.now merged.now }
+        requires room { vec_len out.old + length (merged_bytes self.now merged.now) ≤ vec_capacity out.old }
+        ensures bytes { out.new.items ≡ out.old.items ++ merged_bytes self.now merged.now }
         ensures capacity { vec_capacity out.old ≤ vec_capacity out.new }
     {
-        self.older.put(out, older);
-        self.newer.put(out, newer);
+        match merged {
+            Merged::Image(image) => {
+                let _room = out.extend_from_slice(image.as_slice());
+            }
+            Merged::Both { older, newer } => {
+                self.older.put(out, *older);
+                self.newer.put(out, *newer);
+            }
+        }
     }
 
-    /// Appends the bytes of merged rows that were found last. After `NoMemory` what is there is not told.
+    /// The same, with more room taken where there is none. After `NoMemory` what is there is not told.
     pub(crate) fn spell(&self, out: &mut Vec<u8>, merged: &Merged) -> Result<(), NoMemory>
         requires { CanSpell self.now merged.now }
         ensures { OnOk result (out.new.items ≡ out.old.items ++ merged_bytes self.now merged.now) }
     {
         match merged {
-            Merged::Image(row) => write_row(out, row),
+            Merged::Image(image) => {
+                out.extend_from_slice(image.as_slice())?;
+                Ok(())
+            }
             Merged::Both { older, newer } => {
                 self.older.spell(out, *older)?;
                 self.newer.spell(out, *newer)

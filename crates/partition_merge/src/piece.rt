@@ -1,11 +1,9 @@
 //! Rows of one node that stay where they were read, in the windows of two parts, and what is told of them.
 
-ghost use Rattle.std.specs.Prelude.{◌≡◌, ◌≤◌, true};
-ghost use Rattle.fine_model.specs.RowBytes.{FitsRec, row_len};
+ghost use Rattle.std.specs.Prelude.{◌≡◌, length, min, true};
 ghost use Rattle.partition_merge.specs.Pieces.{begins_with_put, both_ascend, both_len, may_fold, may_fold_from, piece_len, piece_rows, span_of, tally_of};
 
-use fine_model::{NodeId, Row};
-use node_record::row_len;
+use fine_model::NodeId;
 use partition_index::Span;
 
 /// Rows of one node in the window on the rows of a part: where they stand, whether the first of them puts a pair or is an image, whether they are in
@@ -30,11 +28,11 @@ pub(crate) struct Tally {
     pub(crate) ordered: bool,
 }
 
-/// What the rows of a node in two parts are merged into: an image, or the older rows and then the newer ones, which stand in the windows. It is
-/// moved for each node, and few nodes have an image, so this one is behind a pointer.
+/// What the rows of a node in two parts are merged into: an image, as it is spelled, or the older rows and then the newer ones, which stand in the
+/// windows. It is moved for each node, and the image is behind a pointer.
 #[derive(Drop)]
 pub(crate) enum Merged {
-    Image(Box<Row>),
+    Image(Vec<u8>),
     Both {
         older: Option<Span>,
         newer: Option<Span>,
@@ -49,7 +47,7 @@ pub(crate) struct Found {
 }
 
 /// The kind of a row that puts a pair, which is the first byte of the row.
-const PUT: u8 = 4;
+pub(crate) const PUT: u8 = 4;
 
 /// Whether bytes begin with the kind of a row that puts a pair.
 #[inline(always)]
@@ -157,19 +155,17 @@ impl Tally {
         }
     }
 
-    /// That of an image.
-    pub(crate) fn of_image(node: NodeId, image: &Row) -> Tally
-        requires { FitsRec image.now.rec }
+    /// That of an image, as it is spelled.
+    pub(crate) fn of_image(node: NodeId, image: &[u8]) -> Tally
         ensures node { result.node ≡ node }
         ensures rows { result.rows ≡ 1 }
-        ensures area { result.area ≡ row_len image.now }
-        ensures most { result.area ≤ 10356 }
+        ensures area { result.area ≡ min (length image.now) 4294967295 }
         ensures ordered { result.ordered ≡ true }
     {
         Tally {
             node,
             rows: 1,
-            area: row_len(image),
+            area: image.len().min(u32::MAX as usize) as u32,
             ordered: true,
         }
     }

@@ -165,6 +165,17 @@ impl Reader {
         self.rows.range(span.at, span.end - span.at)
     }
 
+    /// The same of rows that may be none.
+    pub(crate) fn spelled(&self, span: Option<Span>) -> &[u8]
+        requires { StandsIn self.now.ahead.rows span }
+        ensures { result.now ≡ span_bytes self.now.ahead.rows span }
+    {
+        match span {
+            Some(span) => self.bytes(span),
+            None => &[],
+        }
+    }
+
     /// The rows that stand in the window, decoded.
     #[inline(never)]
     pub(crate) fn rows(

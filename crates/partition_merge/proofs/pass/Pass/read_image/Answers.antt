@@ -1,7 +1,6 @@
-use Rattle.std.proofs.Common.{◌≡◌, ◌++◌, ◌∷◌, [], ap, min, sym, subst, ◌∙◌}
+use Rattle.std.proofs.Common.{◌≡◌, ◌++◌, ap, min, sym, subst, ◌∙◌}
 use Rattle.std.specs.Prelude.{IfSome}
-use Rattle.fine_model.specs.declared.Row.{Row}
-use Rattle.fine_model.specs.RowBytes.{FitsRec, rows_len}
+use Rattle.fine_model.specs.RowBytes.{FitsRec, row_bytes, rows_len}
 use Rattle.partition_merge.specs.declared.merger.Merger.{Merger}
 use Rattle.partition_merge.specs.Merging.{merged_of, one_or}
 use Rattle.partition_merge.specs.Pieces.{HoldsIn}
@@ -18,25 +17,22 @@ folded_moved-requires-clause-len c =
     ∙ both_long c.args.self.now.older.part c.args.self.now.newer.part c.args.self.now.older.ahead.rows c.args.self.now.newer.ahead.rows c.args.node c.args.older c.args.newer h.rows k.rows h.holds k.holds
     ∙ (λ i. min (rows_len (sym older i ++ sym newer i)) 4294967295)
 
-pub returns-in_default-clause-image : goal.returns-in_default-clause-image
-returns-in_default-clause-image c a b h k =
+pub returns-in_default : goal.returns-in_default
+returns-in_default c a b h k =
     let older : c.in_ok-older.older ≡ a = c.in_ok-older.ensures.rows a (subst (λ (m : Merger). HoldsIn m.older c.args.node c.args.older a) (sym c.self.view_is) h) in
     let newer : c.in_ok-newer.newer ≡ b = c.in_ok-newer.ensures.rows b (subst (λ (m : Merger). HoldsIn m.newer c.args.node c.args.newer b) (sym c.self.view_is) k) in
     (λ i. merged_of c.args.node (sym older i ++ sym newer i))
-    ∙ c.in_ok-image.ensures.image
+    ∙ c.in_ok-row.ensures.image
     ∙ ap (λ image. one_or image (c.in_ok-older.older ++ c.in_ok-newer.newer)) c.in_default.is
     ∙ (λ i. older i ++ newer i)
 
-pub returns-in-Ok-clause-image : goal.returns-in-Ok-clause-image
-returns-in-Ok-clause-image c a b h k =
+pub returns : goal.returns
+returns c a b h k =
     let older : c.in_ok-older.older ≡ a = c.in_ok-older.ensures.rows a (subst (λ (m : Merger). HoldsIn m.older c.args.node c.args.older a) (sym c.self.view_is) h) in
     let newer : c.in_ok-newer.newer ≡ b = c.in_ok-newer.ensures.rows b (subst (λ (m : Merger). HoldsIn m.newer c.args.node c.args.newer b) (sym c.self.view_is) k) in
-    (λ i. merged_of c.args.node (sym older i ++ sym newer i))
-    ∙ c.in_ok-image.ensures.image
-    ∙ ap (λ image. one_or image (c.in_ok-older.older ++ c.in_ok-newer.newer)) c.in-Some.is
-    ∙ ap (λ (row : Row). row ∷ []) (sym c.in-Ok.ensures.ok)
-
-pub returns-in-Ok-clause-fit : goal.returns-in-Ok-clause-fit
-returns-in-Ok-clause-fit c =
-    let fits : FitsRec c.in-Some.image.rec = subst (λ image. IfSome image (λ row. FitsRec row.rec)) c.in-Some.is c.in_ok-image.ensures.fit in
-    subst (λ (row : Row). FitsRec row.rec) (sym c.in-Ok.ensures.ok) fits
+    record {
+      row = c.in-Some.row;
+      joined = (λ i. merged_of c.args.node (sym older i ++ sym newer i)) ∙ c.in_ok-row.ensures.image ∙ ap (λ image. one_or image (c.in_ok-older.older ++ c.in_ok-newer.newer)) c.in-Some.is;
+      fits = subst (λ image. IfSome image (λ row. FitsRec row.rec)) c.in-Some.is c.in_ok-row.ensures.fit;
+      spelled = c.in_ok-write_row.ensures.ok ∙ ap (λ xs. xs ++ row_bytes c.in-Some.row) c.new-image.ensures.items;
+    }

@@ -3,6 +3,7 @@ pub mod Ordered
 pub mod Changes
 pub mod Texts
 pub mod FieldsRead
+pub mod PairsRead
 pub mod Loop
 pub mod Readers
 pub mod RowsRead

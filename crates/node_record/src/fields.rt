@@ -4,7 +4,7 @@ ghost use Rattle.std.specs.Prelude.{◌≡◌, ◌+◌, ◌≤◌, ◌∷◌, []
 ghost use Rattle.std.specs.Int.{to_be_bytes, w16, w32};
 ghost use Rattle.fine_model.specs.RowBytes.{FitsKey, FitsValue, key_bytes, value_bytes};
 ghost use Rattle.node_record.specs.declared.fault.RowFault.TheVariants as fault;
-ghost use Rattle.node_record.specs.Reading.{Gives, Finds, text_at, byte_at, number_at, signed_at, key_at, value_at, pair_at, child_at};
+ghost use Rattle.node_record.specs.Reading.{Gives, Finds, within, text_at, byte_at, number_at, signed_at, key_at, value_at, pair_at, child_at};
 ghost use Rattle.node_record.specs.Writing.{Appends};
 
 use crate::fault::RowFault;
@@ -156,16 +156,33 @@ fn value_in(bytes: &[u8], start: usize, at: usize) -> Result<(&[u8], usize), Row
     text_in(bytes, start, at, len as usize)
 }
 
-/// A key and a value, as they stand there.
+/// Whether a length is that of a text of at most so many bytes.
 #[inline(always)]
-#[tactic(auto, unfolding(crate::specs::Reading::pair_at))]
+fn is_len(len: usize, most: usize) -> bool
+    ensures { result ≡ within 1 most len }
+{
+    1 <= len && len <= most
+}
+
+/// A key and a value, as they stand there. Key and length of the value are known to be there by one test, and so are both texts by another.
+#[inline(always)]
+#[tactic(auto, unfolding(crate::specs::Reading::pair_at, crate::specs::Reading::key_at))]
 pub fn pair_in(bytes: &[u8], start: usize, at: usize) -> Result<((&[u8], &[u8]), usize), RowFault>
     requires { at ≤ length bytes.now }
     ensures { Finds (λ pair. (pair.0.now, pair.1.now)) bytes.now start result (pair_at (drop at bytes.now)) }
 {
-    let (key, at) = key_in(bytes, start, at)?;
-    let (value, at) = value_in(bytes, start, at)?;
-    Ok(((key, value), at))
+    let (len, key_at) = byte(bytes, start, at)?;
+    let key_len = len as usize;
+    sure(is_len(key_len, MOST_IN_KEY), start)?;
+    let left = bytes.len() - key_at;
+    sure(key_len + 2 <= left, start)?;
+    let key_end = key_at + key_len;
+    let value_len = u16::from_be_bytes(part::<2>(bytes, key_end)) as usize;
+    sure(is_len(value_len, MOST_IN_VALUE), start)?;
+    let len = key_len + 2 + value_len;
+    sure(len <= left, start)?;
+    let end = key_at + len;
+    Ok(((&bytes[key_at..key_end], &bytes[key_end + 2..end]), end))
 }
 
 /// A copy of bytes.
@@ -183,6 +200,7 @@ pub fn key(alloc: Global, bytes: &[u8], start: usize, at: usize) -> Result<(Byte
     Ok((copy(alloc, key)?, at))
 }
 
+#[tactic(auto, unfolding(crate::specs::Reading::pair_at))]
 pub fn pair(
     alloc: Global,
     bytes: &[u8],
@@ -192,7 +210,8 @@ pub fn pair(
     requires { at ≤ length bytes.now }
     ensures { Gives (λ pair. pair) bytes.now start result (pair_at (drop at bytes.now)) }
 {
-    let ((key, value), at) = pair_in(bytes, start, at)?;
+    let (key, at) = key_in(bytes, start, at)?;
+    let (value, at) = value_in(bytes, start, at)?;
     Ok(((copy(alloc, key)?, copy(alloc, value)?), at))
 }
 

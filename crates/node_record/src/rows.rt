@@ -1,6 +1,6 @@
 //! Rows as bytes.
 
-ghost use Rattle.std.specs.Prelude.{◌≡◌, ◌+◌, ◌≤◌, ◌<◌, ◌++◌, ◌==◌, length, drop, option_map, vec_len, vec_capacity, IfOk, IfErr, OnOk, OnErr, if◌then◌else◌};
+ghost use Rattle.std.specs.Prelude.{◌≡◌, ◌+◌, ◌≤◌, ◌<◌, ◌++◌, ◌==◌, length, drop, option_map, vec_len, vec_capacity, IfOk, IfErr, OnOk, OnErr, MatchOption, Some, None, if◌then◌else◌};
 ghost use Rattle.fine_model.specs.RowBytes.{FitsRec, row_bytes, row_len, last_kind, row_front};
 ghost use Rattle.node_record.specs.declared.fault.RowFault.TheVariants as fault;
 ghost use Rattle.node_record.specs.Reading.{Finds, Passes, behind, body_at, fits_kind, front_at, is_front};
@@ -189,20 +189,34 @@ pub fn body_end(kind: u8, bytes: &[u8], start: usize, at: usize) -> Result<usize
     ensures { Passes bytes.now start result (behind (body_at kind (drop at bytes.now))) }
 {
     if kind == PUT {
-        pair::end(bytes, start, at)
-    } else {
-        any_end(kind, bytes, start, at)
+        return pair::end(bytes, start, at);
+    }
+    match any_end(kind, bytes, at) {
+        Some(end) => Ok(end),
+        None => Err(RowFault::Bad { at: start }),
     }
 }
 
-/// The same, for all kinds alike.
+/// The same, for all kinds alike, and with an answer that is small enough to come in registers.
 #[inline(never)]
-#[tactic(auto, unfolding(crate::specs::Reading::body_at))]
-fn any_end(kind: u8, bytes: &[u8], start: usize, at: usize) -> Result<usize, RowFault>
+fn any_end(kind: u8, bytes: &[u8], at: usize) -> Option<usize>
     requires { at ≤ length bytes.now }
-    ensures { Passes bytes.now start result (behind (body_at kind (drop at bytes.now))) }
+    ensures { MatchOption result (behind (body_at kind (drop at bytes.now)) ≡ None) (λ end. (end ≤ length bytes.now) × (behind (body_at kind (drop at bytes.now)) ≡ Some (drop end bytes.now))) }
 {
-    kinds!(end_of(kind, bytes, start, at))
+    match end_of_kind(kind, bytes, at) {
+        Ok(end) => Some(end),
+        Err(_) => None,
+    }
+}
+
+/// The place behind the body of a kind.
+#[inline(always)]
+#[tactic(auto, unfolding(crate::specs::Reading::body_at))]
+fn end_of_kind(kind: u8, bytes: &[u8], at: usize) -> Result<usize, RowFault>
+    requires { at ≤ length bytes.now }
+    ensures { Passes bytes.now at result (behind (body_at kind (drop at bytes.now))) }
+{
+    kinds!(end_of(kind, bytes, at, at))
 }
 
 /// Whether a body has the length that its front says.

@@ -1,5 +1,5 @@
 -- What a row more does to the bytes and to the nodes.
-use Rattle.std.proofs.Common.{◌≡◌, ◌+◌, ◌*◌, ◌≤◌, Bool, true, false, cond, List, [], ◌∷◌, ◌++◌, map, length, refl, sym, ap, ◌∙◌, subst, arith, append-nil, length-append, Ordering, Less, Equal, Greater, is_lt}
+use Rattle.std.proofs.Common.{◌≡◌, ℕ, ◌+◌, ◌*◌, ◌≤◌, Bool, true, false, cond, List, [], ◌∷◌, ◌++◌, map, length, refl, sym, ap, ◌∙◌, subst, arith, append-nil, length-append, Ordering, Less, Equal, Greater, is_lt}
 use Rattle.std.specs.Prelude.{filter, fold, flat_map}
 use Rattle.std.specs.List.{AllByRecursion}
 use Rattle.std.specs.List.Sorted.{IsStrictlySortedBy}
@@ -15,7 +15,7 @@ use Rattle.fine_model.specs.Merge.{node_cmp, is_node_below, with_node, nodes_in,
 use Rattle.fine_model.proofs.NodesIn.{nodes_total, exact_nodes, is_node_below-self}
 use Rattle.fine_model.proofs.Order.{filter_all, filter_none, all_map}
 use Rattle.fine_model.proofs.Grammar.{row_long, rows_long}
-use Rattle.private_log.specs.Kept.{rows_in, IsKept}
+use Rattle.private_log.specs.Kept.{rows_in, noted, AreNoted, many_nodes, IsKept}
 use Rattle.private_log.specs.declared.PrivateLog.TheInside.{Inside}
 
 -- a node below another is below each node that is above the other
@@ -91,34 +91,56 @@ insert_few (x ∷ xs) id = by (node_cmp id x) (insert_few xs id)
 
 -- with no rows there is nothing
 pub kept_empty : (log : Inside) → log.bytes.items ≡ [] → log.nodes.keys ≡ [] → log.rows.items ≡ [] → IsStrictlySortedBy node_cmp log.nodes.keys → IsKept log
-unfolding rows_bytes nodes_in
-kept_empty log bytes nodes rows order =
-    let none : length log.nodes.keys ≡ 0 = ap length nodes in
-    record {
-      bytes = bytes ∙ sym (ap rows_bytes rows);
-      nodes = nodes ∙ sym (ap nodes_in rows);
-      order = order;
-      few = omega (arith, none);
-    }
+unfolding rows_bytes
+kept_empty log bytes nodes rows order = record {
+  bytes = bytes ∙ sym (ap rows_bytes rows);
+  nodes = subst (λ rs. AreNoted log.nodes.keys rs (length log.bytes.items)) (sym rows) nodes;
+  order = order;
+}
 
--- a row more: its bytes are at the end, and its node is in the set
+-- of one row alone no node is noted
+pub none_noted : (keys : List NodeId) (rows : List Row) (long : ℕ) → AreNoted keys rows long → length rows ≤ 1 → keys ≡ []
+none_noted keys [] long noted few = noted
+none_noted keys (row ∷ []) long noted few = noted.0
+none_noted keys (first ∷ second ∷ rows) long noted few = absurd (omega (arith, few))
+
+-- the nodes of one row more
+noted_more : (rows : List Row) (row : Row) (keys keys' : List NodeId) (long long' : ℕ) → AreNoted keys rows long → IsStrictlySortedBy node_cmp keys → keys' ≡ noted keys rows row.node → long' ≡ long + row_len row → AreNoted keys' (rows ++ row ∷ []) long'
+unfolding nodes_in IsStrictlySortedBy
+noted_more [] row keys keys' long long' kept order is longer = (is ∙ kept, omega (arith, longer))
+noted_more (first ∷ []) row keys keys' long long' kept order is longer =
+    let two : keys' ≡ nodes_in (first ∷ row ∷ []) = is ∙ insert-with_node (first.node ∷ []) row.node (tt, tt) in
+    let most : length (insert_key node_cmp (first.node ∷ []) row.node) ≤ 2 = insert_few (first.node ∷ []) row.node in
+    let more : length keys' ≡ length (insert_key node_cmp (first.node ∷ []) row.node) = ap length is in
+    let enough = kept.1 in
+    (two, omega (arith, longer, most, more, enough))
+noted_more (first ∷ second ∷ rows) row keys keys' long long' kept order is longer =
+    let most : length (insert_key node_cmp keys row.node) ≤ length keys + 1 = insert_few keys row.node in
+    let more : length keys' ≡ length (insert_key node_cmp keys row.node) = ap length is in
+    let enough = kept.1 in
+    (is ∙ insert-with_node keys row.node order ∙ ap (λ ids. with_node ids row.node) kept.0 ∙ sym (nodes_more (first ∷ second ∷ rows) row), omega (arith, longer, most, more, enough))
+
+-- a row more: its bytes are at the end, and its node is noted
 pub kept_more : (old new : Inside) (row : Row) → IsKept old → new.bytes.items ≡ old.bytes.items ++ row_bytes row
-    → new.nodes.keys ≡ insert_key node_cmp old.nodes.keys row.node → IsStrictlySortedBy node_cmp new.nodes.keys
+    → new.nodes.keys ≡ noted old.nodes.keys (rows_in old) row.node → IsStrictlySortedBy node_cmp new.nodes.keys
     → rows_in new ≡ rows_in old ++ row ∷ [] → IsKept new
 kept_more old new row kept bytes nodes order rows =
-    let longer : length new.bytes.items ≡ length old.bytes.items + length (row_bytes row) = ap length bytes ∙ length-append old.bytes.items (row_bytes row) in
-    let long : length (row_bytes row) ≡ row_len row = row_long row in
-    let most : length (insert_key node_cmp old.nodes.keys row.node) ≤ length old.nodes.keys + 1 = insert_few old.nodes.keys row.node in
-    let more : length new.nodes.keys ≡ length (insert_key node_cmp old.nodes.keys row.node) = ap length nodes in
+    let longer : length new.bytes.items ≡ length old.bytes.items + row_len row = ap length bytes ∙ length-append old.bytes.items (row_bytes row) ∙ ap (λ n. length old.bytes.items + n) (row_long row) in
     record {
       bytes = bytes ∙ ap (λ xs. xs ++ row_bytes row) kept.bytes ∙ sym (bytes_more (rows_in old) row) ∙ sym (ap rows_bytes rows);
-      nodes = nodes ∙ insert-with_node old.nodes.keys row.node kept.order ∙ ap (λ ids. with_node ids row.node) kept.nodes ∙ sym (nodes_more (rows_in old) row) ∙ sym (ap nodes_in rows);
+      nodes = subst (λ rs. AreNoted new.nodes.keys rs (length new.bytes.items)) (sym rows) (noted_more (rows_in old) row old.nodes.keys new.nodes.keys (length old.bytes.items) (length new.bytes.items) kept.nodes kept.order nodes longer);
       order = order;
-      few = let before = kept.few in omega (arith, longer, long, most, more, before);
     }
 
 -- what the rows cost, by the lengths of what is kept
-pub cost_kept : (log : Inside) → IsKept log → length log.bytes.items + 14 * length log.nodes.keys ≡ cost (rows_in log)
+pub cost_kept : (log : Inside) → IsKept log → (length log.bytes.items + 14 * many_nodes log.nodes.keys (rows_in log) ≡ cost (rows_in log)) × (19 * many_nodes log.nodes.keys (rows_in log) ≤ length log.bytes.items)
+unfolding nodes_in
 cost_kept log kept =
     let bytes : length log.bytes.items ≡ rows_len (rows_in log) = ap length kept.bytes ∙ rows_long (rows_in log) in
-    let nodes : length log.nodes.keys ≡ length (nodes_in (rows_in log)) = ap length kept.nodes in omega (arith, bytes, nodes)
+    let nodes = by (rows_in log) kept.nodes in
+    let same = nodes.0 in (omega (arith, bytes, same), nodes.1)
+  where
+    by : (rows : List Row) → AreNoted log.nodes.keys rows (length log.bytes.items) → (many_nodes log.nodes.keys rows ≡ length (nodes_in rows)) × (19 * many_nodes log.nodes.keys rows ≤ length log.bytes.items)
+    by [] noted = (refl, omega arith)
+    by (row ∷ []) noted = let enough = noted.1 in (refl, omega (arith, enough))
+    by (first ∷ second ∷ rows) noted = (ap length noted.0, noted.1)

@@ -1,9 +1,12 @@
 //! The rows of one transaction, kept apart from the shared log until the transaction commits.
 #![tactic(auto)]
 
-ghost use Rattle.std.specs.Prelude.{◌≡◌, [], ◌∷◌, ◌++◌, OnOk, OnErr};
+ghost use Rattle.std.specs.Prelude.{◌≡◌, ◌≤◌, [], ◌∷◌, ◌++◌, length, OnOk, OnErr};
+ghost use Rattle.std.specs.List.Sorted.{IsStrictlySortedBy};
+ghost use Rattle.std.specs.BTreeSet.{insert_key};
 ghost use Rattle.fine_model.specs.RowBytes.{FitsRec, rows_bytes};
-ghost use Rattle.fine_model.specs.Merge.{cost};
+ghost use Rattle.fine_model.specs.Merge.{node_cmp, cost};
+ghost use Rattle.private_log.specs.Kept.{noted, many_nodes};
 
 use fine_model::format::INDEX_ENTRY;
 use fine_model::{Copied, Items, NoMemory, NodeId, Row, Rows};
@@ -13,7 +16,7 @@ use std::collections::BTreeSet;
 use std::marker::Model;
 use std::mem;
 
-/// The rows that a transaction pushed, in their order, with their bytes and the nodes that they name.
+/// The rows that a transaction pushed, in their order, with their bytes and, where there are two or more, the nodes that they name.
 #[derive(Drop)]
 pub struct PrivateLog {
     bytes: Vec<u8>,
@@ -31,6 +34,50 @@ impl Model for PrivateLog {
     ghost view = { rows_in };
 
     ghost invariant = { IsKept };
+}
+
+/// Notes the node of a first row and that of the second one, or none of them.
+fn note_both(nodes: &mut BTreeSet<NodeId>, first: NodeId, second: NodeId) -> Result<(), NoMemory>
+    requires { nodes.old.keys ≡ [] }
+    ensures ok { OnOk result (nodes.new.keys ≡ insert_key node_cmp (insert_key node_cmp [] first) second) }
+    ensures err { OnErr result (nodes.new.keys ≡ []) }
+    ensures order { IsStrictlySortedBy node_cmp nodes.new.keys }
+{
+    nodes.insert(first)?;
+    if nodes.insert(second).is_err() {
+        nodes.clear();
+        return Err(NoMemory);
+    }
+    Ok(())
+}
+
+/// Notes the node of one row more. That of a row alone is not noted: a log of one row then has no set of nodes.
+fn note(nodes: &mut BTreeSet<NodeId>, rows: &[Row], node: NodeId) -> Result<(), NoMemory>
+    requires none { length rows.now ≤ 1 → nodes.old.keys ≡ [] }
+    requires order { IsStrictlySortedBy node_cmp nodes.old.keys }
+    ensures ok { OnOk result (nodes.new.keys ≡ noted nodes.old.keys rows.now node) }
+    ensures err { OnErr result (nodes.new.keys ≡ nodes.old.keys) }
+    ensures order { IsStrictlySortedBy node_cmp nodes.new.keys }
+{
+    match rows {
+        [] => Ok(()),
+        [first] => note_both(nodes, first.node, node),
+        _ => {
+            nodes.insert(node)?;
+            Ok(())
+        }
+    }
+}
+
+/// How many nodes rows name, of which two or more have theirs noted.
+fn many_nodes(rows: &[Row], nodes: &BTreeSet<NodeId>) -> usize
+    ensures { result ≡ many_nodes nodes.now.keys rows.now }
+{
+    match rows {
+        [] => 0,
+        [_] => 1,
+        _ => nodes.len(),
+    }
 }
 
 impl PrivateLog {
@@ -65,14 +112,14 @@ impl PrivateLog {
         let before = self.bytes.len();
         self.rows.reserve(1)?;
         write_row(&mut self.bytes, &row)?;
-        match self.nodes.insert(row.node) {
-            Ok(_is_new) => {
+        match note(&mut self.nodes, self.rows.as_slice(), row.node) {
+            Ok(()) => {
                 self.rows.push_reserved(row);
                 Ok(())
             }
-            Err(_refused) => {
+            Err(refused) => {
                 self.bytes.truncate(before);
-                Err(NoMemory)
+                Err(refused)
             }
         }
     }
@@ -89,7 +136,8 @@ impl PrivateLog {
     pub fn cost(&self) -> u64
         ensures { result ≡ cost self.now }
     {
-        self.bytes.len() as u64 + INDEX_ENTRY as u64 * self.nodes.len() as u64
+        let nodes = many_nodes(self.rows.as_slice(), &self.nodes);
+        self.bytes.len() as u64 + INDEX_ENTRY as u64 * nodes as u64
     }
 
     /// Moves all rows out. It takes no memory.

@@ -44,26 +44,28 @@ impl Progress {
     {
         match line {
             SaidLine::Skipped => Ok(true),
-            SaidLine::Begins { lane } => Ok(self.begin(alloc, lane)),
+            SaidLine::Begins { lane } => self.begin(alloc, lane),
             SaidLine::Calls { call } => self.call(call),
             SaidLine::Ends { ending } => self.end(ending),
             SaidLine::Faulty => Ok(false),
         }
     }
 
-    /// Begins a transaction, if none is open and the script may have one more.
+    /// Begins a transaction, if none is open and the script may have one more. It has room for one call, since a list without any takes room
+    /// for four with its first.
     #[tactic(auto, unfolding(fine_model::specs::Script::line_added))]
-    fn begin(&mut self, alloc: Global, lane: u8) -> bool
+    fn begin(&mut self, alloc: Global, lane: u8) -> Result<bool, NoMemory>
         requires lane { (1 ≤ lane) × (lane ≤ 16) }
         requires fits { FitsReading (reading_of self.old) }
-        ensures adds { Adds result (begins lane) (reading_of self.old) (reading_of self.new) }
-        ensures fits { FitsReading (reading_of self.new) }
+        ensures adds { IfOk result (λ added. Adds added (begins lane) (reading_of self.old) (reading_of self.new)) }
+        ensures fits { OnOk result (FitsReading (reading_of self.new)) }
     {
         if self.open_txn.is_some() || self.done.len() >= MOST_TXNS {
-            return false;
+            return Ok(false);
         }
-        self.open_txn = Some((lane, Items::new(alloc)));
-        true
+        let calls = Items::from_vec(Vec::with_capacity(alloc, 1)?);
+        self.open_txn = Some((lane, calls));
+        Ok(true)
     }
 
     /// Adds a call to the open transaction, if it may have one more.

@@ -1,3 +1,3 @@
 pub mod Adopted
-pub mod NewLog
+pub mod Idle
 pub mod Turned

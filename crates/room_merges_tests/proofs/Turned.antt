@@ -12,7 +12,6 @@ use Rattle.fine_model.proofs.Goings.{job_on}
 use Rattle.partition_hold.specs.Views.{SameView, ViewValue, opened}
 use Rattle.partition_merge.specs.Blocks.{BlocksValue}
 use Rattle.partition_merge.specs.declared.merger.Measure.{Measure}
-use Rattle.epoch_room.specs.Erasing.{ErasesOr}
 use Rattle.epoch_room.specs.MergeSealing.{IsWrittenOut, SealsJobOr, merged_state}
 use Rattle.epoch_room.specs.MergeSteps.{free_after, fresh_job, job_after, neighbours_from, picked, regions_for_job, with_job}
 use Rattle.epoch_room.specs.Returns.{IsPosted}
@@ -20,8 +19,6 @@ use Rattle.epoch_room.specs.Meaning.{Keeps}
 use Rattle.epoch_room.specs.Value.{RoomValue}
 use Rattle.epoch_room.specs.Views.{Views, ViewsOr}
 use Rattle.epoch_room.specs.Whole.{IsWhole}
-use Rattle.epoch_room.specs.declared.answers.EraseFault.{EraseFault}
-use Rattle.epoch_room.specs.declared.answers.EraseFault.TheVariants as erase_fault
 use Rattle.epoch_room.specs.declared.answers.RoomFault.{RoomFault}
 use Rattle.epoch_room.specs.declared.answers.RoomFault.TheVariants as room_fault
 use Rattle.partition_hold.specs.Views.{IsView}
@@ -237,10 +234,3 @@ pub unviewed : (old new : RoomValue) (seat : ℕ) (fault : RoomFault) → ViewsO
 unviewed old new seat room_fault.Disk is = ap (λ (r : RoomState). r.board) is.0.1.room
 unviewed old new seat (room_fault.Shut epoch) is = ap (λ (v : RoomValue). v.room.board) is.2
 unviewed old new seat room_fault.NoMemory is = ap (λ (v : RoomValue). v.room.board) is.1
-
-pub erased_board : (region : ℕ) (old new : RoomValue) (result : Result (Unit {0}) EraseFault) → ErasesOr region old new result → new.room.board ≡ old.room.board
-erased_board region old new (Ok u) is = ap (λ (r : RoomState). r.board) is.2.1.room
-erased_board region old new (Err (erase_fault.Held seat buffer)) is = ap (λ (v : RoomValue). v.room.board) is.2
-erased_board region old new (Err erase_fault.Disk) is = ap (λ (r : RoomState). r.board) is.2.1.room
-erased_board region old new (Err (erase_fault.Shut epoch)) is = ap (λ (v : RoomValue). v.room.board) is.2
-erased_board region old new (Err erase_fault.NoMemory) is = ap (λ (v : RoomValue). v.room.board) is.2

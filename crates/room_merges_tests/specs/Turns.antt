@@ -68,11 +68,6 @@ EndsTurn header value view blocks job (Ok true) = IsUnderway value view blocks j
 EndsTurn header value view blocks job (Ok false) = IsWritten value view job header
 EndsTurn header value view blocks job (Err e) = AreOut value view job
 
--- so of all turns
-abbrev pub EndsTurns : {E : Type 0} → Header → RoomValue → ViewValue → Job → Result (Unit {0}) E → Type 0
-EndsTurns header value view job (Ok u) = IsWritten value view job header
-EndsTurns header value view job (Err e) = AreOut value view job
-
 -- the part is sealed, and the view is out still; or the job is too
 abbrev pub Merges : {E : Type 0} → RoomValue → ViewValue → Job → Result (Unit {0}) E → Type 0
 Merges value view job (Ok u) = IsAt value view × (value.room.job ≡ None)

@@ -51,7 +51,7 @@ fn adopted(
 {
     let mut room = new_room(alloc, FaultPlan::none(alloc))?;
     let answer = adopt(&mut room, &rows_of(alloc, count)?)?;
-    let part = match room.parts().as_slice().first() {
+    let part = match room.parts().as_slice().first().copied() {
         Some(part) => Some((part.region, part.header.regions)),
         None => None,
     };

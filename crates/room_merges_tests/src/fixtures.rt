@@ -10,6 +10,7 @@ use epoch_room::{Fit, Room};
 use fine_model::{Bytes, Items, NodeId, Rec, Row};
 use log_disk::{FaultPlan, MemDisk};
 use private_log::PrivateLog;
+use room_merges::{MergeFault, merge_now};
 use std::alloc::Global;
 use std::test::Fail;
 
@@ -34,14 +35,14 @@ pub fn stop_at(alloc: Global, stop: u64) -> FaultPlan {
 // Why an epoch was not sealed; as a test's failure where it is handed on to one.
 pub type Refusal = &'static str;
 
-fn text(alloc: Global, text: &[u8]) -> Result<Bytes, Refusal>
+pub fn text(alloc: Global, text: &[u8]) -> Result<Bytes, Refusal>
     ensures { IfOk result (λ b. b ≡ text.now) }
 {
     Ok(Items::from_vec(Vec::from_slice(alloc, text).ok().ok_or("memory")?))
 }
 
 // A value of so many bytes.
-fn value(alloc: Global, len: usize) -> Result<Bytes, Refusal>
+pub fn value(alloc: Global, len: usize) -> Result<Bytes, Refusal>
     requires some { 1 ≤ len }
     requires few { len ≤ 256 }
     ensures some { IfOk result (λ b. 1 ≤ length b) }
@@ -179,4 +180,14 @@ pub fn seal_version(
     let row = row_with(alloc, 1, version, text(alloc, value)?)?;
     log.push(&row).ok().ok_or("memory")?;
     seal_log(room, &log)
+}
+
+// A merge of a room of which nothing is out, and nothing is out of it then.
+pub fn merge_idle(room: &mut Room<MemDisk>, alloc: Global) -> Result<bool, MergeFault>
+    requires board { room.old.room.board ≡ None ∷ None ∷ None ∷ [] }
+    requires job { room.old.room.job ≡ None }
+    ensures board { room.new.room.board ≡ None ∷ None ∷ None ∷ [] }
+    ensures job { room.new.room.job ≡ None }
+{
+    merge_now(alloc, room)
 }

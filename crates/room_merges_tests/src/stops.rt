@@ -1,15 +1,15 @@
 //! Merges whose calls of the disk fail, and what a crash leaves of them.
 
-ghost use Rattle.std.specs.Prelude.{◌≡◌, [], ◌∷◌, None, IfOk};
+ghost use Rattle.std.specs.Prelude.{◌≡◌, ◌≤◌, [], ◌∷◌, None, IfOk};
 ghost use Rattle.epoch_room.specs.Whole.{IsIdle};
 
-use crate::fixtures::{new_room, seal_some, stop_at};
+use crate::fixtures::{Refusal, merge_idle, new_room, seal_some, stop_at, text, value};
 use epoch_room::{Room, RoomFault};
-use fine_model::{FetchFault, Node, NodeId};
+use fine_model::{FetchFault, Items, Node, NodeId};
 use log_disk::{FaultPlan, LogEye, MemDisk};
 use partition_hold::View;
 use reopen::open_log;
-use room_merges::{MergeFault, merge_now};
+use room_merges::MergeFault;
 use std::alloc::Global;
 use std::test::Fail;
 
@@ -44,7 +44,7 @@ fn merge(room: &mut Room<MemDisk>, alloc: Global) -> Answer
     ensures board { room.new.room.board ≡ None ∷ None ∷ None ∷ [] }
     ensures job { room.new.room.job ≡ None }
 {
-    answer_of(merge_now(alloc, room))
+    answer_of(merge_idle(room, alloc))
 }
 
 // Three merges of a room, one after another.
@@ -79,7 +79,7 @@ fn merged_with(alloc: Global, plan: FaultPlan) -> Result<[Answer; 3], Fail> {
 #[test]
 fn each_call_that_fails_is_told(rt: HostRuntime) -> Result<(), Fail> {
     let alloc = rt.alloc();
-    // the view's eye, the body, the header and the gate and a sync of each, and two gates and a sync to erase the two
+    // the view's eye, the body and the header and their sync, the gate and its sync, and two gates and a sync to erase the two
     for stop in 9..18 {
         assert_eq!(rt;
             merged_with(alloc, stop_at(alloc, stop))?,
@@ -149,31 +149,36 @@ pub fn crash(alloc: Global, room: Room<MemDisk>, byte: u8, len: usize) -> Result
     }
 }
 
-// Whether a node is a leaf of one pair.
-fn has_pair(node: &Node) -> bool {
-    let Node::Leaf { pairs } = node else {
-        return false;
-    };
-    pairs.len() == 1
+// The leaf of one value of so many bytes.
+fn leaf_of(alloc: Global, len: usize) -> Result<Node, Refusal>
+    requires some { 1 ≤ len }
+    requires few { len ≤ 256 }
+{
+    let mut pairs = Items::new(alloc);
+    match pairs.push((text(alloc, b"a")?, value(alloc, len)?)) {
+        Ok(()) => Ok(Node::Leaf { pairs }),
+        Err(_refused) => Err("memory"),
+    }
 }
 
-// Whether a view shows a value in a node.
-fn shows<E: LogEye>(view: &mut View<E>, number: u32) -> bool {
+// Whether a view shows one of these leaves in a node.
+fn shows<E: LogEye>(view: &mut View<E>, number: u32, leaves: &[Node]) -> bool {
     match view.fetch(NodeId { bucket: 97, number }) {
-        Ok((found, _version)) => has_pair(&found),
+        Ok((found, _version)) => leaves.contains(&found),
         Err(_fault) => false,
     }
 }
 
-// How many nodes a room shows, from the first one on, up to 32.
-fn nodes_of(room: &mut Room<MemDisk>) -> Result<u32, Fail>
+// How many nodes a room shows with a value of one byte or of 256, from the first one on, up to 32.
+fn nodes_of(room: &mut Room<MemDisk>, alloc: Global) -> Result<u32, Fail>
     requires { room.old.room.board ≡ None ∷ None ∷ None ∷ [] }
 {
+    let leaves = [leaf_of(alloc, 1)?, leaf_of(alloc, 256)?];
     let Ok(mut view) = room.view_for(1) else {
         return Err("view")?;
     };
     for number in 1..33 {
-        if !shows(&mut view, number) {
+        if !shows(&mut view, number, &leaves) {
             return Ok(number - 1);
         }
     }
@@ -187,7 +192,7 @@ pub fn reopened(alloc: Global, disk: MemDisk) -> Result<(u64, u32), Fail>
     match open_log(alloc, disk) {
         Ok(mut room) => {
             let sealed = room.counts().sealed;
-            Ok((sealed, nodes_of(&mut room)?))
+            Ok((sealed, nodes_of(&mut room, alloc)?))
         }
         Err(_refused) => Err("open")?,
     }

@@ -3,11 +3,12 @@
 ghost use Rattle.std.specs.Prelude.{◌≡◌, [], ◌∷◌, None, IfOk};
 ghost use Rattle.room_merges_tests.specs.Turns.{HadTurns};
 
-use crate::fixtures::{Refusal, new_room, seal_some, seal_version};
+use crate::fixtures::{Refusal, merge_idle, new_room, seal_some, seal_version};
 use epoch_room::Room;
-use fine_model::{Header, Mark, Part, Range};
+use fine_model::{Header, Part, Range};
 use log_disk::{FaultPlan, LogDisk, MemDisk};
-use room_merges::{merge_near, merge_now};
+use partition_index_tests::ONE_ROW;
+use room_merges::merge_near;
 use std::alloc::Global;
 use std::test::Fail;
 
@@ -38,7 +39,7 @@ fn merge_once(room: &mut Room<MemDisk>, alloc: Global) -> (Option<bool>, u32, u3
     ensures board { room.new.room.board ≡ None ∷ None ∷ None ∷ [] }
     ensures job { room.new.room.job ≡ None }
 {
-    let merged = merge_now(alloc, room).ok();
+    let merged = merge_idle(room, alloc).ok();
     let counts = room.counts();
     (merged, counts.live, counts.retired, counts.free)
 }
@@ -111,13 +112,9 @@ fn image_part() -> Part {
     Part {
         region: 2,
         header: Header {
-            mark: Mark::Two,
             range: Range { first: 1, last: 2 },
-            rows: 1,
-            nodes: 1,
             area: 25,
-            regions: 1,
-            more: [0; 7],
+            ..ONE_ROW
         },
     }
 }
@@ -142,7 +139,7 @@ fn two_puts_of_a_key_become_an_image(rt: HostRuntime) -> Result<(), Fail> {
 
 // The epochs of the part at a place.
 fn range_at(parts: &[Part], place: usize) -> Option<(u64, u64)> {
-    let part = parts.get(place)?;
+    let part = parts.get(place).copied()?;
     Some((part.header.range.first, part.header.range.last))
 }
 

@@ -5,7 +5,7 @@ ghost use Rattle.fine_model.specs.Regions.{body_len};
 ghost use Rattle.partition_hold.specs.Views.{SameView};
 ghost use Rattle.partition_merge.specs.Mergers.{IsCounted};
 ghost use Rattle.room_merges.specs.Merging.{Measures};
-ghost use Rattle.room_merges_tests.specs.Turns.{EndsTurn, EndsTurns, IsAt, IsPicked, IsTaken, IsUnderway, IsWritten, Merges};
+ghost use Rattle.room_merges_tests.specs.Turns.{EndsTurn, IsAt, IsPicked, IsTaken, IsUnderway, IsWritten, Merges};
 
 use crate::fixtures::{seal_some, stop_at};
 use crate::stops::{crash, reopened, three_parts};
@@ -118,8 +118,8 @@ fn blocks_for(
 }
 
 // Whether as many bytes were written for a job as the body has.
-fn is_whole(job: &Job, header: &Header) -> bool
-    ensures { result ≡ true → job.now.written ≡ body_len header.now }
+fn is_whole(job: Job, header: Header) -> bool
+    ensures { result ≡ true → job.written ≡ body_len header }
 {
     u64::from(job.written) == u64::from(header.area) + 14 * u64::from(header.nodes)
 }
@@ -129,11 +129,11 @@ fn is_whole(job: &Job, header: &Header) -> bool
 fn write_turn(
     room: &mut Room<MemDisk>,
     alloc: Global,
+    number: u32,
     view: &mut View<MemEye>,
     job: &mut Job,
     header: Header,
     blocks: &mut Blocks,
-    number: u32,
 ) -> Result<bool, Came>
     requires low { 1 ≤ number }
     requires high { number < 50 }
@@ -147,7 +147,7 @@ fn write_turn(
                 Err(_refused) => Err(Came::NotSealed),
             },
             Progress::Ended => {
-                if is_whole(job, &header) {
+                if is_whole(*job, header) {
                     Ok(false)
                 } else {
                     Err(Came::NotWhole)
@@ -157,31 +157,6 @@ fn write_turn(
         },
         Err(_fault) => Err(Came::NotWritten),
     }
-}
-
-// Writes a body of two blocks, with an epoch sealed behind each.
-fn write_turns(
-    room: &mut Room<MemDisk>,
-    alloc: Global,
-    view: &mut View<MemEye>,
-    job: &mut Job,
-    header: Header,
-    blocks: &mut Blocks,
-) -> Result<(), Came>
-    requires { IsUnderway room.old view.old blocks.old job.old header }
-    ensures { EndsTurns header room.new view.new job.new result }
-{
-    for number in 25..28 {
-        match write_turn(room, alloc, view, job, header, blocks, number) {
-            Ok(more) => {
-                if !more {
-                    return Ok(());
-                }
-            }
-            Err(came) => return Err(came),
-        }
-    }
-    Err(Came::NotWhole)
 }
 
 // Seals the part of a job whose body is written.
@@ -202,7 +177,7 @@ fn seal_part(
     }
 }
 
-// Writes and seals the part of a job that has taken its regions.
+// Writes a body of two blocks, with an epoch sealed behind each, and seals the part of the job.
 fn write_part(
     room: &mut Room<MemDisk>,
     alloc: Global,
@@ -214,10 +189,17 @@ fn write_part(
     requires { IsUnderway room.old view.old blocks.old job.old header }
     ensures { Merges room.new view.new job.new result }
 {
-    match write_turns(room, alloc, view, job, header, blocks) {
-        Ok(()) => seal_part(room, view, *job, header),
-        Err(came) => Err(came),
+    for number in 25..28 {
+        match write_turn(room, alloc, number, view, job, header, blocks) {
+            Ok(more) => {
+                if !more {
+                    return seal_part(room, view, *job, header);
+                }
+            }
+            Err(came) => return Err(came),
+        }
     }
+    Err(Came::NotWhole)
 }
 
 // Writes and seals such a part. A job that comes to no end is given up.

@@ -5,6 +5,7 @@ pub mod Texts
 pub mod FieldsRead
 pub mod PairsRead
 pub mod Loop
+pub mod FirstBytes
 pub mod Readers
 pub mod RowsRead
 pub mod RowLaws

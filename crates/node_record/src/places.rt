@@ -5,11 +5,37 @@ ghost use Rattle.std.specs.List.Sorted.{IsPartitionPoint};
 ghost use Rattle.fine_model.specs.Map.{is_below, is_ascending};
 ghost use Rattle.node_record.specs.Places.{StandsAt, BelongsAt};
 
+use crate::fields::part;
 use fine_model::{Bytes, Keys, Pairs};
 
+/// The bytes that are compared as two numbers, where both texts have so many.
+const IN_NUMBERS: usize = 12;
+
 /// Whether `a` stands before `b` in byte order.
-#[inline(always)]
+///
+/// Big-endian numbers are in the order of their bytes, so the first eight bytes are compared at once, and the four behind them.
 pub fn is_below(a: &[u8], b: &[u8]) -> bool
+    ensures { result ≡ is_below a.now b.now }
+{
+    if a.len() < IN_NUMBERS || b.len() < IN_NUMBERS {
+        return is_below_by_bytes(a, b);
+    }
+    let first_a = u64::from_be_bytes(part::<8>(a, 0));
+    let first_b = u64::from_be_bytes(part::<8>(b, 0));
+    if first_a != first_b {
+        return first_a < first_b;
+    }
+    let next_a = u32::from_be_bytes(part::<4>(a, 8));
+    let next_b = u32::from_be_bytes(part::<4>(b, 8));
+    if next_a != next_b {
+        return next_a < next_b;
+    }
+    is_below_by_bytes(&a[IN_NUMBERS..], &b[IN_NUMBERS..])
+}
+
+/// The same, byte by byte.
+#[inline(always)]
+fn is_below_by_bytes(a: &[u8], b: &[u8]) -> bool
     ensures { result ≡ is_below a.now b.now }
 {
     a.cmp(b).is_lt()

@@ -1,8 +1,8 @@
 -- Pairs that are put into the image of a leaf as they are spelled.
-use Rattle.std.proofs.Common.{◌≡◌, ℕ, suc, ◌+◌, ◌<◌, ◌≤◌, ◌==◌, Bool, true, false, cond, List, [], ◌∷◌, ◌++◌, map, length, take, drop, get_or, slice_set, min, refl, sym, ap, ◌∙◌, subst, arith, append_assoc, append-nil, take-append-drop, length-append, take_at, drop_at, eq-eqb, eqb-true, le-leb, length-set}
-use Rattle.std.specs.Prelude.{filter, flat_map}
+use Rattle.std.proofs.Common.{◌≡◌, ℕ, suc, ◌+◌, ◌<◌, ◌≤◌, ◌==◌, Bool, true, false, cond, List, [], ◌∷◌, ◌++◌, map, length, take, drop, get_or, Ok, Err, slice_set, min, refl, sym, ap, ◌∙◌, subst, arith, append_assoc, append-nil, take-append-drop, length-append, take_at, drop_at, eq-eqb, eqb-true, le-leb, length-set}
+use Rattle.std.specs.Prelude.{IfOk, Result, filter, flat_map}
 use Rattle.std.specs.Int.{from_be_bytes, w16, w32, w64}
-use Rattle.std.specs.List.{AllByRecursion, insert}
+use Rattle.std.specs.List.{AllByRecursion, insert, remove}
 use Rattle.std.proofs.lemmas.List.{set_split, length-map, nil_from_length, take_all}
 use Rattle.std.proofs.lemmas.List.Folds.{flat_map-map}
 use Rattle.std.proofs.lemmas.Nat.{from_be_bytes-to_be_bytes_2, from_be_bytes-to_be_bytes_4, from_be_bytes-to_be_bytes_8}
@@ -12,17 +12,18 @@ use Rattle.fine_model.specs.declared.NodeId.{NodeId}
 use Rattle.fine_model.specs.declared.Rec.{Rec}
 use Rattle.fine_model.specs.declared.Rec.TheVariants as rec
 use Rattle.fine_model.specs.declared.Row.{Row}
-use Rattle.fine_model.specs.Map.{Pair, is_ascending, is_below, pairs_above, pairs_below, set}
+use Rattle.fine_model.specs.Map.{Pair, is_ascending, is_below, pairs_above, pairs_below, set, unset}
 use Rattle.fine_model.specs.Merge.{starts_afresh}
 use Rattle.fine_model.specs.Nodes.{Content, base, changed, replay, step, step_node}
-use Rattle.fine_model.specs.RowBytes.{FitsPair, FitsRec, FitsRow, body, kind, pair_bytes, row_bytes, row_len, rows_bytes, rows_len, value_bytes}
-use Rattle.fine_model.proofs.Grammar.{row_long}
+use Rattle.fine_model.specs.RowBytes.{FitsPair, FitsRec, FitsRow, body, key_bytes, kind, pair_bytes, row_bytes, row_len, rows_bytes, rows_len, value_bytes}
 use Rattle.fine_model.proofs.GrowLeaf.{fits_leaf}
-use Rattle.fine_model.proofs.InOrder.{AreUp-from_ascending, ascending_from_up, set_all, set_up}
+use Rattle.fine_model.proofs.InOrder.{AreUp-filter, AreUp-from_ascending, AreUp-join, ascending_from_up, set_all, set_up}
+use Rattle.fine_model.proofs.Sets.{all_append, all_filter, all_pass}
+use Rattle.fine_model.proofs.Small.{apart_pairs, exclusive, length-filter_le}
 use Rattle.node_record.specs.Places.{BelongsAt, StandsAt}
 use Rattle.node_record.proofs.Changes.{not_true}
 use Rattle.node_record.proofs.RowLaws.{body_short}
-use Rattle.partition_merge.specs.Leaves.{AreRows, IsImageOf, IsLeft, IsRowBefore, LeadsTo, SpellsLeaf, front, key_of}
+use Rattle.partition_merge.specs.Leaves.{AreRows, IsChanged, IsImageOf, IsLeft, IsRowBefore, LeadsTo, SpellsLeaf, front, key_of}
 use Rattle.partition_merge.proofs.Folding.{fold_row}
 
 -- ---- rows and pairs at the front of bytes
@@ -106,15 +107,21 @@ module _ {A : Type 0} (show : A → List ℕ) where
   pub in_order : (xs : List A) (pairs : List Pair) → SpellsLeaf (map show xs) pairs → is_ascending (map (λ x. key_of (show x)) xs) ≡ true
   in_order xs pairs leaf = ap is_ascending (keys_shown xs ∙ ap (map key_of) leaf.spelled ∙ keys_of_pairs pairs) ∙ leaf.fits.2
 
+  -- the pairs with keys below a key, and those with keys above it
+  module _ (xs : List A) (pairs : List Pair) (key : List ℕ) (leaf : SpellsLeaf (map show xs) pairs) where
+    lower_shown : (below : List A) → filter (λ x. is_below (key_of (show x)) key) xs ≡ below → map show below ≡ map pair_bytes (pairs_below key pairs)
+    lower_shown below low =
+        ap (map show) (sym low) ∙ filter_shown (λ t. is_below (key_of t) key) xs ∙ ap (filter (λ t. is_below (key_of t) key)) leaf.spelled ∙ filter_pairs (λ t. is_below (key_of t) key) (λ p. is_below p.0 key) (λ p. ap (λ k. is_below k key) (key_of_pair p)) pairs
+
+    higher_shown : (above : List A) → filter (λ x. is_below key (key_of (show x))) xs ≡ above → map show above ≡ map pair_bytes (pairs_above key pairs)
+    higher_shown above high =
+        ap (map show) (sym high) ∙ filter_shown (λ t. is_below key (key_of t)) xs ∙ ap (filter (λ t. is_below key (key_of t))) leaf.spelled ∙ filter_pairs (λ t. is_below key (key_of t)) (λ p. is_below key p.0) (λ p. ap (is_below key) (key_of_pair p)) pairs
+
   module _ (xs : List A) (pairs : List Pair) (key value : List ℕ) (item : A) (leaf : SpellsLeaf (map show xs) pairs) (fits : FitsPair (key, value)) (is : show item ≡ pair_bytes (key, value)) where
     set_shown : (below above : List A) → filter (λ x. is_below (key_of (show x)) key) xs ≡ below → filter (λ x. is_below key (key_of (show x))) xs ≡ above → map show (below ++ item ∷ above) ≡ map pair_bytes (set pairs key value)
     unfolding set
     set_shown below above low high =
-        let lower : map show below ≡ map pair_bytes (pairs_below key pairs) =
-        ap (map show) (sym low) ∙ filter_shown (λ t. is_below (key_of t) key) xs ∙ ap (filter (λ t. is_below (key_of t) key)) leaf.spelled ∙ filter_pairs (λ t. is_below (key_of t) key) (λ p. is_below p.0 key) (λ p. ap (λ k. is_below k key) (key_of_pair p)) pairs in
-        let higher : map show above ≡ map pair_bytes (pairs_above key pairs) =
-        ap (map show) (sym high) ∙ filter_shown (λ t. is_below key (key_of t)) xs ∙ ap (filter (λ t. is_below key (key_of t))) leaf.spelled ∙ filter_pairs (λ t. is_below key (key_of t)) (λ p. is_below key p.0) (λ p. ap (is_below key) (key_of_pair p)) pairs in
-        map_append show below (item ∷ above) ∙ (λ i. lower i ++ is i ∷ higher i) ∙ sym (map_append pair_bytes (pairs_below key pairs) ((key, value) ∷ pairs_above key pairs))
+        map_append show below (item ∷ above) ∙ (λ i. lower_shown xs pairs key leaf below low i ++ is i ∷ higher_shown xs pairs key leaf above high i) ∙ sym (map_append pair_bytes (pairs_below key pairs) ((key, value) ∷ pairs_above key pairs))
 
     -- what is put is a leaf where it is short enough
     put_leaf : (new : List A) → map show new ≡ map pair_bytes (set pairs key value) → length new ≤ 32 → SpellsLeaf (map show new) (set pairs key value)
@@ -145,10 +152,52 @@ module _ {A : Type 0} (show : A → List ℕ) where
         let parts : length (take i xs ++ drop i xs) ≡ length xs = ap length (take-append-drop i xs) in
         put_leaf (insert xs i item) (set_shown (take i xs) (drop i xs) at.lower at.higher) (omega (arith, length-append (take i xs) (item ∷ drop i xs), length-append (take i xs) (drop i xs), parts, room))
 
--- ---- what rows put
+  -- a key that is spelled by itself
+  module _ (xs : List A) (pairs : List Pair) (key text sought : List ℕ) (i : ℕ) (leaf : SpellsLeaf (map show xs) pairs) (is : text ≡ key_bytes key) (same : sought ≡ key_of text) where
+    sought_is : sought ≡ key
+    sought_is = same ∙ ap key_of is ∙ ap (λ t. take (length key) t) (sym (append-nil key)) ∙ take_at key [] (length key) refl
+
+    -- the pairs below a key
+    pub cut_leaf : filter (λ x. is_below (key_of (show x)) sought) xs ≡ take i xs → SpellsLeaf (map show (take i xs)) (pairs_below key pairs)
+    cut_leaf lower = record {
+      spelled = lower_shown xs pairs key leaf (take i xs) (subst (λ k. filter (λ x. is_below (key_of (show x)) k) xs ≡ take i xs) sought_is lower);
+      fits = (
+        (let few = leaf.fits.0 in omega (arith, few, length-filter_le (λ (p : Pair). is_below p.0 key) pairs)),
+        all_filter FitsPair (λ p. is_below p.0 key) pairs leaf.fits.1,
+        ascending_from_up (λ p. p.0) (pairs_below key pairs) (AreUp-filter (λ p. p.0) (λ p. is_below p.0 key) pairs (AreUp-from_ascending (λ p. p.0) pairs leaf.fits.2)),
+      );
+    }
+
+    -- the pairs below a key and above it
+    left_leaf : (below above new : List A) → filter (λ x. is_below (key_of (show x)) key) xs ≡ below → filter (λ x. is_below key (key_of (show x))) xs ≡ above → new ≡ below ++ above → SpellsLeaf (map show new) (unset pairs key)
+    unfolding unset
+    left_leaf below above new lower higher made =
+        let up = AreUp-from_ascending (λ (p : Pair). p.0) pairs leaf.fits.2 in
+        let few = leaf.fits.0 in
+        record {
+          spelled = ap (map show) made ∙ map_append show below above ∙ (λ j. lower_shown xs pairs key leaf below lower j ++ higher_shown xs pairs key leaf above higher j) ∙ sym (map_append pair_bytes (pairs_below key pairs) (pairs_above key pairs));
+          fits = (
+            omega (arith, few, exclusive (λ (p : Pair). is_below p.0 key) (λ p. is_below key p.0) pairs (apart_pairs key), length-append (pairs_below key pairs) (pairs_above key pairs)),
+            all_append FitsPair (pairs_below key pairs) (pairs_above key pairs) (all_filter FitsPair (λ p. is_below p.0 key) pairs leaf.fits.1) (all_filter FitsPair (λ p. is_below key p.0) pairs leaf.fits.1),
+            ascending_from_up (λ p. p.0) (pairs_below key pairs ++ pairs_above key pairs) (AreUp-join (λ p. p.0) key (pairs_below key pairs) (pairs_above key pairs) (AreUp-filter (λ p. p.0) (λ p. is_below p.0 key) pairs up) (all_pass (λ p. is_below p.0 key) pairs)
+                (AreUp-filter (λ p. p.0) (λ p. is_below key p.0) pairs up) (all_pass (λ p. is_below key p.0) pairs)),
+          );
+        }
+
+    pub removed_there : StandsAt (λ x. key_of (show x)) sought xs i → SpellsLeaf (map show (remove xs i)) (unset pairs key)
+    removed_there found =
+        let at : StandsAt (λ x. key_of (show x)) key xs i = subst (λ k. StandsAt (λ x. key_of (show x)) k xs i) sought_is found in
+        left_leaf (take i xs) (drop (suc i) xs) (remove xs i) at.lower at.higher refl
+
+    pub removed_none : BelongsAt (λ x. key_of (show x)) sought xs i → SpellsLeaf (map show xs) (unset pairs key)
+    removed_none found =
+        let at : BelongsAt (λ x. key_of (show x)) key xs i = subst (λ k. BelongsAt (λ x. key_of (show x)) k xs i) sought_is found in
+        left_leaf (take i xs) (drop i xs) xs at.lower at.higher (sym (take-append-drop i xs))
+
+-- ---- what rows change
 
 -- a change of the kind that puts a pair
-put_of : (change : Rec) → kind change ≡ 4 → (pair : Pair) × (change ≡ rec.Put pair.0 pair.1)
+pub put_of : (change : Rec) → kind change ≡ 4 → (pair : Pair) × (change ≡ rec.Put pair.0 pair.1)
 put_of (rec.Put key value) e = ((key, value), refl)
 put_of (rec.HeadImage root next depth) e = absurd (omega (arith, e))
 put_of (rec.LeafImage pairs) e = absurd (omega (arith, e))
@@ -171,49 +220,101 @@ image_in (rec.CutInner key) e = absurd (omega (arith, e))
 image_in (rec.Link key child) e = absurd (omega (arith, e))
 image_in (rec.Plus key by) e = absurd (omega (arith, e))
 
-put_steps : (pairs : List Pair) (version : ℕ) (row : Row) (pair : Pair) → row.rec ≡ rec.Put pair.0 pair.1 → row.version ≡ version + 1 → length (set pairs pair.0 pair.1) ≤ 32
-    → step (node.Leaf pairs, version) row ≡ (node.Leaf (set pairs pair.0 pair.1), row.version)
-unfolding step changed
-put_steps pairs version row pair is next few =
-    (λ i. (step_node (node.Leaf pairs, version) row.version (is i), row.version))
-    ∙ ap (λ n. (n, row.version)) (ap (λ b. cond b (changed (node.Leaf pairs) (rec.Put pair.0 pair.1)) node.Broken) (eq-eqb row.version (version + 1) next) ∙ fits_leaf (set pairs pair.0 pair.1) few)
+-- a change of the kind that deletes a key, and of the kind that cuts a leaf
+pub deleted_by : (change : Rec) → kind change ≡ 5 → (key : List ℕ) × (change ≡ rec.Del key)
+deleted_by (rec.Del key) e = (key, refl)
+deleted_by (rec.HeadImage root next depth) e = absurd (omega (arith, e))
+deleted_by (rec.LeafImage pairs) e = absurd (omega (arith, e))
+deleted_by (rec.InnerImage seps kids) e = absurd (omega (arith, e))
+deleted_by (rec.Put key value) e = absurd (omega (arith, e))
+deleted_by (rec.CutLeaf key) e = absurd (omega (arith, e))
+deleted_by (rec.CutInner key) e = absurd (omega (arith, e))
+deleted_by (rec.Link key child) e = absurd (omega (arith, e))
+deleted_by (rec.Plus key by) e = absurd (omega (arith, e))
+
+pub cut_by : (change : Rec) → kind change ≡ 6 → (key : List ℕ) × (change ≡ rec.CutLeaf key)
+cut_by (rec.CutLeaf key) e = (key, refl)
+cut_by (rec.HeadImage root next depth) e = absurd (omega (arith, e))
+cut_by (rec.LeafImage pairs) e = absurd (omega (arith, e))
+cut_by (rec.InnerImage seps kids) e = absurd (omega (arith, e))
+cut_by (rec.Put key value) e = absurd (omega (arith, e))
+cut_by (rec.Del key) e = absurd (omega (arith, e))
+cut_by (rec.CutInner key) e = absurd (omega (arith, e))
+cut_by (rec.Link key child) e = absurd (omega (arith, e))
+cut_by (rec.Plus key by) e = absurd (omega (arith, e))
+
+-- what a change of each of these kinds leaves
+pub put_changes : (old : List Pair) (change : Rec) (texts : List (List ℕ)) (pair : Pair) → change ≡ rec.Put pair.0 pair.1 → SpellsLeaf texts (set old pair.0 pair.1) → IsChanged old change texts
+unfolding changed
+put_changes old change texts pair is leaf = record { pairs = set old pair.0 pair.1; leaf = leaf; same = ap (changed (node.Leaf old)) is ∙ fits_leaf (set old pair.0 pair.1) leaf.fits.0 }
+
+pub delete_changes : (old : List Pair) (change : Rec) (texts : List (List ℕ)) (key : List ℕ) → change ≡ rec.Del key → SpellsLeaf texts (unset old key) → IsChanged old change texts
+unfolding changed
+delete_changes old change texts key is leaf = record { pairs = unset old key; leaf = leaf; same = ap (changed (node.Leaf old)) is }
+
+pub cut_changes : (old : List Pair) (change : Rec) (texts : List (List ℕ)) (key : List ℕ) → change ≡ rec.CutLeaf key → SpellsLeaf texts (pairs_below key old) → IsChanged old change texts
+unfolding changed
+cut_changes old change texts key is leaf = record { pairs = pairs_below key old; leaf = leaf; same = ap (changed (node.Leaf old)) is }
+
+pub ok_map : {A E : Type 0} (P Q : A → Type 0) (r : Result A E) → ((a : A) → P a → Q a) → IfOk r P → IfOk r Q
+ok_map P Q (Ok a) f p = f a p
+ok_map P Q (Err e) f p = tt
+
+-- a change that is no image stands behind its version
+steps_from : (content : Content) (version : ℕ) (change : Rec) → 4 ≤ kind change → step_node content version change ≡ cond (version == content.1 + 1) (changed content.0 change) node.Broken
+steps_from content version (rec.HeadImage root next depth) e = absurd (omega (arith, e))
+steps_from content version (rec.LeafImage pairs) e = absurd (omega (arith, e))
+steps_from content version (rec.InnerImage seps kids) e = absurd (omega (arith, e))
+steps_from content version (rec.Put key value) e = refl
+steps_from content version (rec.Del key) e = refl
+steps_from content version (rec.CutLeaf key) e = refl
+steps_from content version (rec.CutInner key) e = refl
+steps_from content version (rec.Link key child) e = refl
+steps_from content version (rec.Plus key by) e = refl
+
+change_steps : (pairs new : List Pair) (version : ℕ) (row : Row) → 4 ≤ kind row.rec → row.version ≡ version + 1 → changed (node.Leaf pairs) row.rec ≡ node.Leaf new → step (node.Leaf pairs, version) row ≡ (node.Leaf new, row.version)
+unfolding step
+change_steps pairs new version row no_image next same =
+    ap (λ n. (n, row.version)) (steps_from (node.Leaf pairs, version) row.version row.rec no_image ∙ ap (λ b. cond b (changed (node.Leaf pairs) row.rec) node.Broken) (eq-eqb row.version (version + 1) next) ∙ same)
 
 image_steps : (content : Content) (row : Row) (pairs : List Pair) → row.rec ≡ rec.LeafImage pairs → step content row ≡ (node.Leaf pairs, row.version)
 unfolding step
 image_steps content row pairs is i = (step_node content row.version (is i), row.version)
 
--- what is put of the row with which bytes begin
-pub record PutsNext (mark : Mark) (content : Content) (more : List Row) (texts : List (List ℕ)) (left : List ℕ) (version kind_is next : ℕ) (pair behind : List ℕ) : Type 0 where
+-- what the row with which bytes begin changes
+pub record ChangesNext (mark : Mark) (content : Content) (more : List Row) (texts : List (List ℕ)) (kind_is next : ℕ) (text behind : List ℕ) : Type 0 where
   pub pairs : List Pair
   pub leaf : SpellsLeaf texts pairs
-  pub one : Pair
-  pub fits : FitsPair one
-  pub spelled : pair ≡ pair_bytes one
-  pub leads : (new : List (List ℕ)) → SpellsLeaf new (set pairs one.0 one.1) → LeadsTo mark content new next behind more
+  pub change : Rec
+  pub fits : FitsRec change
+  pub of_kind : kind_is ≡ kind change
+  pub spelled : text ≡ body change
+  pub leads : (new : List (List ℕ)) → IsChanged pairs change new → LeadsTo mark content new next behind more
 
-pub puts_next : (mark : Mark) (content : Content) (more : List Row) (texts : List (List ℕ)) (left : List ℕ) (version kind_is next : ℕ) (pair behind : List ℕ) → LeadsTo mark content texts version left more → length behind < length left
-    → ((mark : Mark) (row : Row) (rest : List ℕ) → FitsRow mark row → left ≡ row_bytes row ++ rest → IsRowBefore row rest kind_is next pair behind) → kind_is ≡ 4 → next ≡ version + 1 → PutsNext mark content more texts left version kind_is next pair behind
-unfolding body rows_bytes replay
-puts_next mark content more texts left version kind_is next pair behind leads shorter read put moves = by leads.rows leads.are_rows leads.same
+pub changes_next : (mark : Mark) (content : Content) (more : List Row) (texts : List (List ℕ)) (left : List ℕ) (version kind_is next : ℕ) (text behind : List ℕ) → LeadsTo mark content texts version left more → length behind < length left
+    → ((mark : Mark) (row : Row) (rest : List ℕ) → FitsRow mark row → left ≡ row_bytes row ++ rest → IsRowBefore row rest kind_is next text behind) → 4 ≤ kind_is → next ≡ version + 1 → ChangesNext mark content more texts kind_is next text behind
+unfolding rows_bytes replay
+changes_next mark content more texts left version kind_is next text behind leads shorter read no_image moves = by leads.rows leads.are_rows leads.same
   where
-    by : (rows : List Row) → AreRows mark left rows → content ≡ replay (node.Leaf leads.pairs, version) (rows ++ more) → PutsNext mark content more texts left version kind_is next pair behind
+    by : (rows : List Row) → AreRows mark left rows → content ≡ replay (node.Leaf leads.pairs, version) (rows ++ more) → ChangesNext mark content more texts kind_is next text behind
     by [] are same = absurd (let none = ap length are.spelled in omega (arith, shorter, none))
     by (row ∷ rows) are same =
         let r = read mark row (rows_bytes rows) are.fit.0 are.spelled in
-        let is = put_of row.rec (sym r.kind_same ∙ put) in
+        let same_kind = r.kind_same in
         record {
           pairs = leads.pairs;
           leaf = leads.leaf;
-          one = is.0;
-          fits = subst FitsRec is.1 are.fit.0.rec;
-          spelled = r.text_is ∙ ap body is.1;
-          leads = λ new leaf. record {
-            pairs = set leads.pairs is.0.0 is.0.1;
-            leaf = leaf;
+          change = row.rec;
+          fits = are.fit.0.rec;
+          of_kind = same_kind;
+          spelled = r.text_is;
+          leads = λ new made. record {
+            pairs = made.pairs;
+            leaf = made.leaf;
             rows = rows;
             are_rows = record { fit = are.fit.1; spelled = r.behind_is };
-            same = same ∙ ap (λ c. replay c (rows ++ more)) (put_steps leads.pairs version row is.0 is.1 (sym r.version_same ∙ moves) leaf.fits.0)
-                ∙ ap (λ v. replay (node.Leaf (set leads.pairs is.0.0 is.0.1), v) (rows ++ more)) (sym r.version_same);
+            same = same ∙ ap (λ c. replay c (rows ++ more)) (change_steps leads.pairs made.pairs version row (omega (arith, same_kind, no_image)) (sym r.version_same ∙ moves) made.same)
+                ∙ ap (λ v. replay (node.Leaf made.pairs, v) (rows ++ more)) (sym r.version_same);
           };
         }
 
@@ -334,17 +435,20 @@ image_spelled show xs pairs id version len count none first second third leaf lo
     ∙ (λ i. (front 2 id version (long i) ++ many i ∷ []) ++ flat_shown show xs pairs leaf i)
 
 -- the leaf that rows leave is the image that stands for them, if it is no longer
-pub image_stands : (id : NodeId) (own : List Row) (texts : List (List ℕ)) (version len : ℕ) (bytes : List ℕ) → (id.number ≡ 0 → ⊥) → (left : IsLeft (replay (node.Leaf [], 0) own) texts version) → starts_afresh own ≡ true
-    → bytes ≡ row_bytes (record { node = id; version = version; rec = rec.LeafImage left.pairs }) → length bytes ≤ len → len ≡ min (rows_len own) 4294967295 → IsImageOf id own bytes
-image_stands id own texts version len bytes body_node left fresh spelled short is =
+pub image_stands : (spells : Bool) (id : NodeId) (own : List Row) (texts : List (List ℕ)) (version most text_len len : ℕ) (bytes : List ℕ) → (id.number ≡ 0 → ⊥) → (left : IsLeft (replay (node.Leaf [], 0) own) texts version) → starts_afresh own ≡ true
+    → text_len ≡ length (body (rec.LeafImage left.pairs)) → len ≡ min (text_len + 19) 4294967295 → (spells ≡ true → bytes ≡ row_bytes (record { node = id; version = version; rec = rec.LeafImage left.pairs })) → len ≤ most → most ≡ min (rows_len own) 4294967295
+    → IsImageOf spells id own bytes len
+image_stands spells id own texts version most text_len len bytes body_node left fresh text long spelled short is =
     let row : Row = record { node = id; version = version; rec = rec.LeafImage left.pairs } in
     let empty : base id ≡ (node.Leaf [], 0) = ap (λ b. cond b (node.Head 1 2 1, 0) (node.Leaf [], 0)) (other id.number body_node) in
     let content : (node.Leaf left.pairs, version) ≡ replay (base id) own = sym left.same ∙ ap (λ c. replay c own) (sym empty) in
-    let long = ap length spelled ∙ row_long row in
+    let few = body_short (rec.LeafImage left.pairs) left.leaf.fits in
+    let all : len ≡ row_len row = omega (arith, text, long, few) in
     record {
       row = row;
-      joined = fold_row id own (node.Leaf left.pairs, version) row content refl refl refl fresh (le-leb (row_len row) (rows_len own) (omega (arith, long, short, is)));
+      joined = fold_row id own (node.Leaf left.pairs, version) row content refl refl refl fresh (le-leb (row_len row) (rows_len own) (omega (arith, all, short, is)));
       fits = left.leaf.fits;
+      long = all;
       spelled = spelled;
     }
   where

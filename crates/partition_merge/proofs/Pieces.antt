@@ -1,6 +1,5 @@
 -- Rows of one node that stay in the windows of two parts: what is told of them, and what they are merged into.
 use Rattle.std.proofs.Common.{◌≡◌, ℕ, ◌+◌, ◌-◌, ◌≤◌, min, nat_le, nat_lt, Bool, true, false, cond, not, ◌==◌, ◌&&◌, ◌||◌, List, [], ◌∷◌, ◌++◌, length, drop, Option, Some, None, refl, sym, ap, ◌∙◌, subst, arith, eqb-true, append-nil, append_assoc, length-append, length-drop, length-take, true≢false}
-use Rattle.std.specs.Global.{Vec}
 use Rattle.std.specs.List.{AllByRecursion}
 use Rattle.std.proofs.lemmas.Bool.{lt-leb, and_parts}
 use Rattle.std.proofs.lemmas.List.{nil_from_length}
@@ -15,11 +14,13 @@ use Rattle.fine_model.specs.Map.{set}
 use Rattle.fine_model.specs.Merge.{is_image, is_ordered, is_row_below, starts_afresh}
 use Rattle.fine_model.specs.Nodes.{Content, base, changed, replay, step, step_node}
 use Rattle.fine_model.specs.RowBytes.{FitsRow, body, kind, pair_bytes, row_bytes, row_len, rows_bytes, rows_len}
-use Rattle.fine_model.proofs.Grammar.{row_long, rows_bytes-append}
+use Rattle.fine_model.proofs.Grammar.{rows_bytes-append}
 use Rattle.fine_model.proofs.Sets.{all_append}
 use Rattle.node_fetch.specs.Spans.{AreFramesOf, ReadsAll, last_row}
 use Rattle.node_fetch.specs.declared.frames.Frames.{Frames}
 use Rattle.node_fetch.proofs.Reading.{below_version}
+use Rattle.node_record.proofs.RowLaws.{body_short}
+use Rattle.partition_merge.specs.declared.leaf.NodeImage.{NodeImage}
 use Rattle.partition_merge.specs.declared.merger.Merger.{Merger}
 use Rattle.partition_merge.specs.declared.piece.Found.{Found}
 use Rattle.partition_merge.specs.declared.piece.Merged.TheVariants as merged
@@ -245,9 +246,9 @@ both_tallied p q v w id older newer a b h k some = record {
 -- ---- what rows are merged into
 
 -- where no image stands for rows, they stay in both windows
-pub both_found : (m : Merger) (id : NodeId) (older newer : Option Piece) (a b : List Row) (found : Found) → HoldsIn m.older id older a → HoldsIn m.newer id newer b → 1 ≤ length (a ++ b) → merged_of id (a ++ b) ≡ a ++ b
-    → found.tally ≡ tally_of id older newer → found.merged ≡ merged.Both (span_of older) (span_of newer) → IsMergedFrom m id (a ++ b) found
-both_found m id older newer a b found h k some stays tally is =
+pub both_found : (spells : Bool) (m : Merger) (id : NodeId) (older newer : Option Piece) (a b : List Row) (found : Found) → HoldsIn m.older id older a → HoldsIn m.newer id newer b → 1 ≤ length (a ++ b) → merged_of id (a ++ b) ≡ a ++ b
+    → found.tally ≡ tally_of id older newer → found.merged ≡ merged.Both (span_of older) (span_of newer) → IsMergedFrom spells m id (a ++ b) found
+both_found spells m id older newer a b found h k some stays tally is =
     let p = m.older.part in
     let q = m.newer.part in
     let v = m.older.ahead.rows in
@@ -255,14 +256,14 @@ both_found m id older newer a b found h k some stays tally is =
     record {
       tally = subst (λ xs. IsTallyOf xs found.tally) (sym stays) (subst (IsTallyOf (a ++ b)) (sym tally) (both_tallied p q v w id older newer a b h k some));
       can_spell = subst (CanSpell m) (sym is) (piece_stands p v id older a h, piece_stands q w id newer b k);
-      spelled = ap (merged_bytes m) is ∙ both_spelled p q v w id older newer a b h k ∙ ap rows_bytes (sym stays);
+      spelled = λ asked. ap (merged_bytes m) is ∙ both_spelled p q v w id older newer a b h k ∙ ap rows_bytes (sym stays);
     }
 
 -- an image that stands for rows is spelled by itself
-pub image_found : (m : Merger) (id : NodeId) (older newer : Option Piece) (a b : List Row) (image : Vec ℕ) (found : Found) → HoldsIn m.older id older a → HoldsIn m.newer id newer b → IsImageOf id (a ++ b) image.items
-    → found.tally.node ≡ id → found.tally.rows ≡ 1 → found.tally.area ≡ min (length image.items) 4294967295 → found.tally.ordered ≡ true → found.merged ≡ merged.Image image → IsMergedFrom m id (a ++ b) found
+pub image_found : (spells : Bool) (m : Merger) (id : NodeId) (older newer : Option Piece) (a b : List Row) (image : NodeImage) (found : Found) → HoldsIn m.older id older a → HoldsIn m.newer id newer b
+    → IsImageOf spells id (a ++ b) image.bytes.items image.len → found.tally.node ≡ id → found.tally.rows ≡ 1 → found.tally.area ≡ image.len → found.tally.ordered ≡ true → found.merged ≡ merged.Image image.bytes → IsMergedFrom spells m id (a ++ b) found
 unfolding rows_bytes
-image_found m id older newer a b image found h k of node rows area ordered is =
+image_found spells m id older newer a b image found h k of node rows area ordered is =
     let own : AllByRecursion (λ r. r.node ≡ id) (of.row ∷ []) = subst (AllByRecursion (λ r. r.node ≡ id)) of.joined
     (merged_own id (a ++ b) (all_append (λ r. r.node ≡ id) a b (all_own m.older.part m.older.ahead.rows id older a h) (all_own m.newer.part m.newer.ahead.rows id newer b k))) in
     record {
@@ -270,11 +271,11 @@ image_found m id older newer a b image found h k of node rows area ordered is =
         own = (own.0 ∙ sym node, tt);
         some = omega arith;
         rows_are = rows;
-        area = (let one : rows_len (of.row ∷ []) ≡ row_len of.row = omega arith in let long = ap length of.spelled in let same = row_long of.row in omega (arith, area, one, long, same));
+        area = (let one : rows_len (of.row ∷ []) ≡ row_len of.row = omega arith in let long = of.long in let short = body_short of.row.rec of.fits in omega (arith, area, one, long, short));
         ordered = ordered;
       });
       can_spell = subst (CanSpell m) (sym is) tt;
-      spelled = ap (merged_bytes m) is ∙ of.spelled ∙ sym (append-nil (row_bytes of.row)) ∙ ap rows_bytes (sym of.joined);
+      spelled = λ asked. ap (merged_bytes m) is ∙ of.spelled asked ∙ sym (append-nil (row_bytes of.row)) ∙ ap rows_bytes (sym of.joined);
     }
 
 -- ---- what is folded as it is spelled

@@ -159,11 +159,11 @@ abbrev pub CanSpell : Merger → Merged → Type 0
 CanSpell merger (merged.Image image) = Unit {0}
 CanSpell merger (merged.Both older newer) = StandsIn merger.older.ahead.rows older × StandsIn merger.newer.ahead.rows newer
 
--- what was found is what some rows of a node are merged into
-pub record IsMergedFrom (merger : Merger) (id : NodeId) (own : List Row) (found : Found) : Type 0 where
+-- what was found is what some rows of a node are merged into; an image may be left unspelled where it is only counted
+pub record IsMergedFrom (spells : Bool) (merger : Merger) (id : NodeId) (own : List Row) (found : Found) : Type 0 where
   pub tally : IsTallyOf (merged_of id own) found.tally
   pub can_spell : CanSpell merger found.merged
-  pub spelled : merged_bytes merger found.merged ≡ rows_bytes (merged_of id own)
+  pub spelled : spells ≡ true → merged_bytes merger found.merged ≡ rows_bytes (merged_of id own)
 
 -- ---- what was taken
 
@@ -181,13 +181,13 @@ pub record IsTaken (eye : Eye) (id : NodeId) (before after : Source) (piece : Op
   pub some : node_kept before.head ≡ Some id → 1 ≤ length rows
   pub exact : (left : List Row) → SourceAt eye before left → AllFrom id left → node_kept before.head ≡ node_at_head left → rows ≡ rows_of id left
 
--- What a pass found for a node: by some rows, which it counts and can spell. They are what was read of both parts, merged, and where the eye tells both in the grammar
+-- What a pass found for a node: by some rows, which it counts and, where that was asked for, can spell. They are what was read of both parts, merged, and where the eye tells both in the grammar
 -- the merged rows of the next node.
-pub record HandsOver (old new : Eye) (before after : Merger) (found : Found) : Type 0 where
+pub record HandsOver (spells : Bool) (old new : Eye) (before after : Merger) (found : Found) : Type 0 where
   pub rows : List Row
   pub tally : IsTallyOf rows found.tally
   pub can_spell : CanSpell after found.merged
-  pub spelled : merged_bytes after found.merged ≡ rows_bytes rows
+  pub spelled : spells ≡ true → merged_bytes after found.merged ≡ rows_bytes rows
   pub read : IsJoinOf old.told before after rows
   pub exact : (older newer : List Row) → StandsAt old before older newer → HandsOut new after older newer rows
 

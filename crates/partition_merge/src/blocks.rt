@@ -195,7 +195,7 @@ impl Blocks {
         if self.is_whole {
             return Ok(false);
         }
-        let Some(found) = self.merger.next_node(alloc, eye)? else {
+        let Some(found) = self.merger.next_node(alloc, eye, true)? else {
             mem::swap(&mut self.waiting, &mut self.index);
             self.at = 0;
             self.is_whole = true;

@@ -1,17 +1,17 @@
-//! The leaf image that rows fold to which begin with one and put pairs: pairs are put into it as they are spelled, and none is copied before the image is
-//! written.
+//! The image of a leaf that rows change. The pairs stay where they were read, as they are spelled there, until the image is spelled: no row is decoded.
 
 ghost use Rattle.std.specs.Prelude.{◌≡◌, ℕ, ◌+◌, ◌<◌, ◌≤◌, [], ◌++◌, true, IfOk, IfSome, IsTrue, List, MatchResult, OnOk, drop, flat_map, length, map, min, take};
 ghost use Rattle.fine_model.specs.declared.Mark.{Mark};
 ghost use Rattle.fine_model.specs.declared.Node.TheVariants as node;
+ghost use Rattle.fine_model.specs.declared.Rec.{Rec};
 ghost use Rattle.fine_model.specs.declared.Rec.TheVariants as rec;
 ghost use Rattle.fine_model.specs.declared.Row.{Row};
-ghost use Rattle.fine_model.specs.Map.{Pair, is_ascending, set};
+ghost use Rattle.fine_model.specs.Map.{Pair, is_ascending, pairs_below, set, unset};
 ghost use Rattle.fine_model.specs.Merge.{starts_afresh};
 ghost use Rattle.fine_model.specs.Nodes.{Content, replay};
-ghost use Rattle.fine_model.specs.RowBytes.{FitsPair, FitsRec, FitsRow, body, most_in_node, pair_bytes, row_bytes, rows_len};
+ghost use Rattle.fine_model.specs.RowBytes.{FitsPair, FitsRec, FitsRow, body, key_bytes, kind as kind_of, most_in_node, pair_bytes, row_bytes, rows_len};
 ghost use Rattle.node_record.specs.Places.{BelongsAt, StandsAt};
-ghost use Rattle.partition_merge.specs.Leaves.{AreRows, IsImageOf, IsLeft, IsRowBefore, LeadsTo, SpellsLeaf, front, key_of};
+ghost use Rattle.partition_merge.specs.Leaves.{AreRows, IsChanged, IsImageOf, IsLeft, IsRowBefore, LeadsTo, SpellsLeaf, front, key_of};
 
 use crate::piece::PUT;
 use fine_model::format::{MOST_IN_NODE, ROW_FRONT};
@@ -19,10 +19,22 @@ use fine_model::{Items, NoMemory, NodeId};
 use node_record::is_below;
 use std::alloc::Global;
 
-/// The kind of a row that is the image of a leaf.
+/// The image of a node and the number of its bytes. It is spelled only where that is asked for.
+#[derive(Drop)]
+pub(crate) struct NodeImage {
+    pub(crate) bytes: Vec<u8>,
+    pub(crate) len: u32,
+}
+
+/// The kinds of rows that are the image of a leaf, that delete a key of it, and that cut it off from a key on.
 const LEAF_IMAGE: u8 = 2;
 
+const DELETE: u8 = 5;
+
+const CUT: u8 = 6;
+
 /// The bytes of a field.
+#[inline(always)]
 fn part<const N: usize>(bytes: &[u8], at: usize) -> [u8; N]
     requires { at + N ≤ length bytes.now }
     ensures { result ≡ take N (drop at bytes.now) }
@@ -33,6 +45,7 @@ fn part<const N: usize>(bytes: &[u8], at: usize) -> [u8; N]
 }
 
 /// The kind, the version and the body of the row with which bytes begin, and the bytes behind it.
+#[inline(always)]
 fn split_row(bytes: &[u8]) -> Option<(u8, u64, &[u8], &[u8])>
     ensures shorter { IfSome result (λ r. length r.3.now < length bytes.now) }
     ensures read { (mark : Mark) (row : Row) (rest : List ℕ) → FitsRow mark row → bytes.now ≡ row_bytes row ++ rest → IfSome result (λ r. IsRowBefore row rest r.0 r.1 r.2.now r.3.now) }
@@ -45,6 +58,7 @@ fn split_row(bytes: &[u8]) -> Option<(u8, u64, &[u8], &[u8])>
 }
 
 /// The spelled pair with which bytes begin, and the bytes behind it.
+#[inline(always)]
 fn split_pair(bytes: &[u8]) -> Option<(&[u8], &[u8])>
     ensures shorter { IfSome result (λ r. length r.1.now < length bytes.now) }
     ensures read { (pair : Pair) (rest : List ℕ) → FitsPair pair → bytes.now ≡ pair_bytes pair ++ rest → IfSome result (λ r. (r.0.now ≡ pair_bytes pair) × (r.1.now ≡ rest)) }
@@ -56,6 +70,13 @@ fn split_pair(bytes: &[u8]) -> Option<(&[u8], &[u8])>
     Some((pair, behind))
 }
 
+/// No spelled pairs, with room for those of a leaf.
+fn no_pairs<'a>(alloc: Global) -> Result<Items<&'a [u8]>, NoMemory>
+    ensures { IfOk result (λ texts. texts ≡ []) }
+{
+    Ok(Items::from_vec(Vec::with_capacity(alloc, MOST_IN_NODE)?))
+}
+
 /// The spelled pairs of the body of a leaf image.
 fn split_pairs(alloc: Global, text: &[u8]) -> Result<Option<Items<&[u8]>>, NoMemory>
     ensures { (pairs : List Pair) → FitsRec (rec.LeafImage pairs) → text.now ≡ body (rec.LeafImage pairs) → IfOk result (λ r. IfSome r (λ texts. SpellsLeaf (map (λ t. t.now) texts) pairs)) }
@@ -63,7 +84,7 @@ fn split_pairs(alloc: Global, text: &[u8]) -> Result<Option<Items<&[u8]>>, NoMem
     let Some((_, mut left)) = text.split_first() else {
         return Ok(None);
     };
-    let mut pairs = Items::from_vec(Vec::with_capacity(alloc, MOST_IN_NODE)?);
+    let mut pairs = no_pairs(alloc)?;
     while !left.is_empty() {
         let Some((pair, behind)) = split_pair(left) else {
             return Ok(None);
@@ -75,6 +96,7 @@ fn split_pairs(alloc: Global, text: &[u8]) -> Result<Option<Items<&[u8]>>, NoMem
 }
 
 /// The key of a spelled pair.
+#[inline(always)]
 fn key_of(pair: &[u8]) -> &[u8]
     ensures { result.now ≡ key_of pair.now }
 {
@@ -119,9 +141,51 @@ fn put<'a>(pairs: &mut Items<&'a [u8]>, pair: &'a [u8]) -> Result<bool, NoMemory
     }
 }
 
-/// Puts the pairs of rows into a leaf of a version, of spelled pairs. Answers the version behind them, and None where a row puts no pair, is not of the next
-/// version, or leaves no leaf.
-fn put_all<'a>(
+/// Removes the pair with a spelled key from spelled ones, where there is one.
+fn remove(pairs: &mut Items<&[u8]>, key: &[u8])
+    ensures { (old : List Pair) (name : List ℕ) → SpellsLeaf (map (λ t. t.now) pairs.old) old → key.now ≡ key_bytes name → SpellsLeaf (map (λ t. t.now) pairs.new) (unset old name) }
+{
+    match find_pair(pairs, key_of(key)) {
+        Ok(i) => {
+            let _old = pairs.remove(i);
+        }
+        Err(_) => {}
+    }
+}
+
+/// Keeps of spelled pairs those with keys below a spelled one.
+fn cut(pairs: &mut Items<&[u8]>, key: &[u8])
+    ensures { (old : List Pair) (name : List ℕ) → SpellsLeaf (map (λ t. t.now) pairs.old) old → key.now ≡ key_bytes name → SpellsLeaf (map (λ t. t.now) pairs.new) (pairs_below name old) }
+{
+    match find_pair(pairs, key_of(key)) {
+        Ok(i) => pairs.truncate(i),
+        Err(i) => pairs.truncate(i),
+    }
+}
+
+/// Changes spelled pairs by a row of a kind, with this body. Answers whether they are still a leaf. They are said to be none where the row is no image
+/// and of another kind than those of common changes of a leaf.
+fn change<'a>(pairs: &mut Items<&'a [u8]>, kind: u8, text: &'a [u8]) -> Result<bool, NoMemory>
+    ensures { (old : List Pair) (change : Rec) → SpellsLeaf (map (λ t. t.now) pairs.old) old → FitsRec change → kind ≡ kind_of change → text.now ≡ body change
+        → IfOk result (λ whole. whole ≡ true → IsChanged old change (map (λ t. t.now) pairs.new)) }
+{
+    if kind == PUT {
+        return put(pairs, text);
+    }
+    if kind == CUT {
+        cut(pairs, text);
+        return Ok(true);
+    }
+    if kind == DELETE {
+        remove(pairs, text);
+        return Ok(true);
+    }
+    Ok(false)
+}
+
+/// Changes a leaf of a version, of spelled pairs, by rows. Answers the version behind them, and None where a row is an image or of a rare kind, is not of the
+/// next version, or leaves no leaf.
+fn change_all<'a>(
     pairs: &mut Items<&'a [u8]>,
     version: u64,
     rows: &'a [u8],
@@ -132,13 +196,13 @@ fn put_all<'a>(
     let mut version = version;
     let mut left = rows;
     while !left.is_empty() {
-        let Some((kind, next, pair, behind)) = split_row(left) else {
+        let Some((kind, next, text, behind)) = split_row(left) else {
             return Ok(None);
         };
-        if kind != PUT || next <= version || next - version != 1 {
+        if kind < PUT || next <= version || next - version != 1 {
             return Ok(None);
         }
-        if !put(pairs, pair)? {
+        if !change(pairs, kind, text)? {
             return Ok(None);
         }
         version = next;
@@ -147,7 +211,8 @@ fn put_all<'a>(
     Ok(Some(version))
 }
 
-/// The spelled pairs and the version of the leaf with which rows begin, and the bytes behind its image, if they begin with one; else an empty leaf.
+/// The spelled pairs and the version of the leaf with which rows begin, and the bytes behind its image. Where they begin with a pair that is put, this is the
+/// empty leaf before all rows, and None where they begin otherwise.
 fn begin(alloc: Global, rows: &[u8]) -> Result<Option<(Items<&[u8]>, u64, &[u8])>, NoMemory>
     ensures { (mark : Mark) (own more : List Row) → AreRows mark rows.now own
         → IfOk result (λ r. IfSome r (λ begun. LeadsTo mark (replay (node.Leaf [], 0) (own ++ more)) (map (λ t. t.now) begun.0) begun.1 begun.2.now more)) }
@@ -155,8 +220,11 @@ fn begin(alloc: Global, rows: &[u8]) -> Result<Option<(Items<&[u8]>, u64, &[u8])
     let Some((kind, version, text, behind)) = split_row(rows) else {
         return Ok(None);
     };
+    if kind == PUT {
+        return Ok(Some((no_pairs(alloc)?, 0, rows)));
+    }
     if kind != LEAF_IMAGE {
-        return Ok(Some((Items::new(alloc), 0, rows)));
+        return Ok(None);
     }
     match split_pairs(alloc, text)? {
         Some(pairs) => Ok(Some((pairs, version, behind))),
@@ -164,7 +232,7 @@ fn begin(alloc: Global, rows: &[u8]) -> Result<Option<(Items<&[u8]>, u64, &[u8])
     }
 }
 
-/// The spelled pairs and the version of the leaf that rows leave, where all but the first, which may be an image, put pairs.
+/// The spelled pairs and the version of the leaf that rows leave, where all but the first, which may be an image, are common changes of a leaf.
 fn leaf_from<'a>(
     alloc: Global,
     first: &'a [u8],
@@ -176,10 +244,10 @@ fn leaf_from<'a>(
     let Some((mut pairs, version, left)) = begin(alloc, first)? else {
         return Ok(None);
     };
-    let Some(version) = put_all(&mut pairs, version, left)? else {
+    let Some(version) = change_all(&mut pairs, version, left)? else {
         return Ok(None);
     };
-    match put_all(&mut pairs, version, behind)? {
+    match change_all(&mut pairs, version, behind)? {
         Some(version) => Ok(Some((pairs, version))),
         None => Ok(None),
     }
@@ -233,36 +301,41 @@ fn put_pairs(out: &mut Vec<u8>, pairs: &[&[u8]]) -> Result<(), NoMemory>
     Ok(())
 }
 
-/// The leaf image of spelled pairs, in a block of memory with room for so many bytes.
+/// The leaf image of spelled pairs, with a body of so many bytes, as it is spelled, if that is asked for.
 fn spell(
     alloc: Global,
+    spells: bool,
     node: NodeId,
     version: u64,
     pairs: &[&[u8]],
-    room: u32,
+    len: u32,
 ) -> Result<Vec<u8>, NoMemory>
     requires few { length pairs.now ≤ most_in_node }
-    ensures image { (leaf : List Pair) → SpellsLeaf (map (λ t. t.now) pairs.now) leaf
-        → IfOk result (λ bytes. bytes.items ≡ row_bytes (record { node = node; version = version; rec = rec.LeafImage leaf })) }
+    ensures image { (leaf : List Pair) → SpellsLeaf (map (λ t. t.now) pairs.now) leaf → len ≡ length (body (rec.LeafImage leaf))
+        → IfOk result (λ bytes. spells ≡ true → bytes.items ≡ row_bytes (record { node = node; version = version; rec = rec.LeafImage leaf })) }
 {
-    let mut out = Vec::with_capacity(alloc, room as usize)?;
-    put_front(&mut out, node, version, body_len(pairs))?;
+    if !spells {
+        return Ok(Vec::new(alloc));
+    }
+    let mut out = Vec::with_capacity(alloc, ROW_FRONT + len as usize)?;
+    put_front(&mut out, node, version, len)?;
     out.extend_from_slice(&[pairs.len() as u8])?;
     put_pairs(&mut out, pairs)?;
     Ok(out)
 }
 
-/// The image into which the rows of a node are merged, as it is spelled, if the rows begin afresh, with a leaf image or with version 1, and if all behind an image put
-/// pairs. They have so many bytes. None where another image may stand for them, or none.
-pub(crate) fn spelled_image(
+/// The image into which the rows of a node are merged, if they begin afresh, with a leaf image or with version 1, and if all behind an image are common
+/// changes of a leaf. They have so many bytes. None where another image may stand for them, or none.
+pub(crate) fn leaf_image(
     alloc: Global,
+    spells: bool,
     node: NodeId,
     older: &[u8],
     newer: &[u8],
     len: u32,
-) -> Result<Option<Vec<u8>>, NoMemory>
+) -> Result<Option<NodeImage>, NoMemory>
     ensures { (mark also : Mark) (a b : List Row) → AreRows mark older.now a → AreRows also newer.now b → starts_afresh (a ++ b) ≡ true → len ≡ min (rows_len (a ++ b)) 4294967295
-        → IfOk result (λ r. IfSome r (λ bytes. IsImageOf node (a ++ b) bytes.items)) }
+        → IfOk result (λ r. IfSome r (λ image. IsImageOf spells node (a ++ b) image.bytes.items image.len)) }
 {
     if node.number == 0 {
         return Ok(None);
@@ -273,9 +346,11 @@ pub(crate) fn spelled_image(
     if pairs.len() > MOST_IN_NODE {
         return Ok(None);
     }
-    let image = spell(alloc, node, version, pairs.as_slice(), len)?;
-    if image.len() > len as usize {
+    let body = body_len(pairs.as_slice());
+    let image = body.saturating_add(ROW_FRONT as u32);
+    if image > len {
         return Ok(None);
     }
-    Ok(Some(image))
+    let bytes = spell(alloc, spells, node, version, pairs.as_slice(), body)?;
+    Ok(Some(NodeImage { bytes, len: image }))
 }

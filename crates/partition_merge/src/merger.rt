@@ -322,7 +322,7 @@ impl Merger {
             ordered: true,
         };
         let mut last = None;
-        while let Some(found) = pass.next_node(alloc, eye)? {
+        while let Some(found) = pass.next_node(alloc, eye, false)? {
             measure.add(&mut last, found.into_tally());
         }
         Ok(measure)

@@ -1,9 +1,10 @@
 //! Going over two parts node by node, in blocks.
 
-ghost use Rattle.std.specs.Prelude.{◌≡◌, ℕ, ◌+◌, ◌<◌, ◌≤◌, ◌++◌, IfOk, IfSome, IsErrOf, List, MatchResult, None, Ok, OnOk, Option, Some, length, option_map, true, vec_capacity, vec_len};
+ghost use Rattle.std.specs.Prelude.{◌≡◌, ℕ, ◌+◌, ◌<◌, ◌≤◌, ◌++◌, IfOk, IfSome, IsErrOf, List, MatchResult, None, Ok, OnOk, Option, Some, length, true, vec_capacity, vec_len};
 ghost use Rattle.fine_model.specs.declared.FetchFault.TheVariants as fetch_fault;
 ghost use Rattle.fine_model.specs.declared.Row.{Row};
 ghost use Rattle.fine_model.specs.Regions.{Image};
+ghost use Rattle.fine_model.specs.RowBytes.{FitsRec, row_bytes};
 ghost use Rattle.partition_index.specs.Parts.{CountsFaults, IsSeen, LiesIn, SameEye};
 ghost use Rattle.node_fetch.specs.Fetched.{NoDamage};
 ghost use Rattle.partition_merge.specs.Leaves.{IsImageOf, IsMergedInto};
@@ -12,13 +13,13 @@ ghost use Rattle.partition_merge.specs.Pieces.{CanSpell, EndsAt, HandsOver, HasR
 ghost use Rattle.partition_merge.specs.Streams.{AreInOrder, both_bytes_left};
 
 use crate::fold::folded_moved;
-use crate::leaf::spelled_image;
+use crate::leaf::{NodeImage, leaf_image};
 use crate::lower;
 use crate::piece::{Found, Merged, Piece, Tally, both_len, may_fold, span_of};
 use crate::reader::Reader;
-use fine_model::{FetchFault, NoMemory, NodeId, Part};
+use fine_model::{FetchFault, NoMemory, NodeId, Part, Row};
 use log_disk::LogEye;
-use node_record::write_row;
+use node_record::{row_len, write_row};
 use std::alloc::Global;
 use std::marker::Model;
 
@@ -36,6 +37,18 @@ impl Model for Pass {
     ghost Value = { Merger };
 
     ghost view = { λ p. record { older = p.older; newer = p.newer; region_len = p.region_len } };
+}
+
+/// The spelling of a row, if it is asked for.
+fn spelled_row(alloc: Global, spells: bool, row: &Row) -> Result<Vec<u8>, NoMemory>
+    requires { FitsRec row.now.rec }
+    ensures { IfOk result (λ bytes. spells ≡ true → bytes.items ≡ row_bytes row.now) }
+{
+    let mut bytes = Vec::new(alloc);
+    if spells {
+        write_row(&mut bytes, row)?;
+    }
+    Ok(bytes)
 }
 
 impl Pass {
@@ -61,19 +74,20 @@ impl Pass {
     fn leaf_image(
         &self,
         alloc: Global,
+        spells: bool,
         node: NodeId,
         older: &Option<Piece>,
         newer: &Option<Piece>,
-    ) -> Result<Option<Vec<u8>>, NoMemory>
+    ) -> Result<Option<NodeImage>, NoMemory>
         requires older { HasRows self.now.older node older.now }
         requires newer { HasRows self.now.newer node newer.now }
         requires may_fold { may_fold older.now newer.now ≡ true }
-        ensures { (a b : List Row) → HoldsIn self.now.older node older.now a → HoldsIn self.now.newer node newer.now b → IfOk result (λ r. IfSome r (λ image. IsImageOf node (a ++ b) image.items)) }
+        ensures { (a b : List Row) → HoldsIn self.now.older node older.now a → HoldsIn self.now.newer node newer.now b → IfOk result (λ r. IfSome r (λ image. IsImageOf spells node (a ++ b) image.bytes.items image.len)) }
     {
         let len = both_len(older, newer);
         let older = self.older.spelled(span_of(older));
         let newer = self.newer.spelled(span_of(newer));
-        spelled_image(alloc, node, older, newer, len)
+        leaf_image(alloc, spells, node, older, newer, len)
     }
 
     // The image that the rows of a node in both windows fold to, if they fold. They are decoded, which few nodes want, so this stands apart: the others do
@@ -83,15 +97,16 @@ impl Pass {
     fn read_image(
         &self,
         alloc: Global,
+        spells: bool,
         node: NodeId,
         older: Option<Piece>,
         newer: Option<Piece>,
-    ) -> Result<Option<Vec<u8>>, NoMemory>
+    ) -> Result<Option<NodeImage>, NoMemory>
         requires older_lies { LiesIn self.now.region_len (older_part self.now).header }
         requires newer_lies { LiesIn self.now.region_len (newer_part self.now).header }
         requires older { HasRows self.now.older node older }
         requires newer { HasRows self.now.newer node newer }
-        ensures { (a b : List Row) → HoldsIn self.now.older node older a → HoldsIn self.now.newer node newer b → IfOk result (IsMergedInto node (a ++ b)) }
+        ensures { (a b : List Row) → HoldsIn self.now.older node older a → HoldsIn self.now.newer node newer b → IfOk result (IsMergedInto spells node (a ++ b)) }
     {
         let len = both_len(&older, &newer);
         let older = self.older.rows(alloc, node, older, self.region_len)?;
@@ -99,9 +114,10 @@ impl Pass {
         let Some(row) = folded_moved(alloc, node, older, newer, len)? else {
             return Ok(None);
         };
-        let mut image = Vec::new(alloc);
-        write_row(&mut image, &row)?;
-        Ok(Some(image))
+        Ok(Some(NodeImage {
+            len: row_len(&row),
+            bytes: spelled_row(alloc, spells, &row)?,
+        }))
     }
 
     // The image that stands for the rows of a node in both windows, where one does, as it is spelled.
@@ -109,22 +125,23 @@ impl Pass {
     fn image(
         &self,
         alloc: Global,
+        spells: bool,
         node: NodeId,
         older: &Option<Piece>,
         newer: &Option<Piece>,
-    ) -> Result<Option<Vec<u8>>, NoMemory>
+    ) -> Result<Option<NodeImage>, NoMemory>
         requires older_lies { LiesIn self.now.region_len (older_part self.now).header }
         requires newer_lies { LiesIn self.now.region_len (newer_part self.now).header }
         requires older { HasRows self.now.older node older.now }
         requires newer { HasRows self.now.newer node newer.now }
-        ensures { (a b : List Row) → HoldsIn self.now.older node older.now a → HoldsIn self.now.newer node newer.now b → IfOk result (IsMergedInto node (a ++ b)) }
+        ensures { (a b : List Row) → HoldsIn self.now.older node older.now a → HoldsIn self.now.newer node newer.now b → IfOk result (IsMergedInto spells node (a ++ b)) }
     {
         if !may_fold(older, newer) {
             return Ok(None);
         }
-        match self.leaf_image(alloc, node, older, newer)? {
+        match self.leaf_image(alloc, spells, node, older, newer)? {
             Some(image) => Ok(Some(image)),
-            None => self.read_image(alloc, node, *older, *newer),
+            None => self.read_image(alloc, spells, node, *older, *newer),
         }
     }
 
@@ -133,6 +150,7 @@ impl Pass {
     fn merged(
         &self,
         alloc: Global,
+        spells: bool,
         node: NodeId,
         older: &Option<Piece>,
         newer: &Option<Piece>,
@@ -141,9 +159,9 @@ impl Pass {
         requires newer_lies { LiesIn self.now.region_len (newer_part self.now).header }
         requires older { HasRows self.now.older node older.now }
         requires newer { HasRows self.now.newer node newer.now }
-        ensures { (a b : List Row) → HoldsIn self.now.older node older.now a → HoldsIn self.now.newer node newer.now b → 1 ≤ length (a ++ b) → IfOk result (IsMergedFrom self.now node (a ++ b)) }
+        ensures { (a b : List Row) → HoldsIn self.now.older node older.now a → HoldsIn self.now.newer node newer.now b → 1 ≤ length (a ++ b) → IfOk result (IsMergedFrom spells self.now node (a ++ b)) }
     {
-        let Some(image) = self.image(alloc, node, older, newer)? else {
+        let Some(image) = self.image(alloc, spells, node, older, newer)? else {
             return Ok(Found {
                 tally: Tally::of_both(node, older, newer),
                 merged: Merged::Both {
@@ -153,13 +171,13 @@ impl Pass {
             });
         };
         Ok(Found {
-            tally: Tally::of_image(node, image.as_slice()),
-            merged: Merged::Image(image),
+            tally: Tally::of_image(node, image.len),
+            merged: Merged::Image(image.bytes),
         })
     }
 
     /// The merged rows of the next node, as `Merger::next_node` gives them, or None where no node is left of both parts. They stay where they
-    /// were read, and are not decoded, but where an image stands for them, or might. After a refusal the pass is given up: it may stand
+    /// were read but where an image stands for them, which is spelled if that is asked for. After a refusal the pass is given up: it may stand
     /// behind the node in one part.
     ///
     /// Where the eye tells its bytes, each byte of the two parts is taken once at most.
@@ -167,6 +185,7 @@ impl Pass {
         &mut self,
         alloc: Global,
         eye: &mut E,
+        spells: bool,
     ) -> Result<Option<Found>, FetchFault>
         requires older { IsSeen (E.LogEye.state eye.old) (older_part self.old) }
         requires newer { IsSeen (E.LogEye.state eye.old) (newer_part self.old) }
@@ -178,7 +197,7 @@ impl Pass {
         ensures newer { newer_part self.new ≡ newer_part self.old }
         ensures region_len { self.new.region_len ≡ self.old.region_len }
         ensures kept { AreKept (E.LogEye.state eye.old).told self.new }
-        ensures found { IfOk result (λ found. IfSome found (HandsOver (E.LogEye.state eye.old) (E.LogEye.state eye.new) self.old self.new)) }
+        ensures found { IfOk result (λ found. IfSome found (HandsOver spells (E.LogEye.state eye.old) (E.LogEye.state eye.new) self.old self.new)) }
         ensures end { result ≡ Ok None → both_left self.old ≡ 0 }
         ensures ended { result ≡ Ok None → self.new ≡ self.old }
         ensures no_more { both_left self.new ≤ both_left self.old }
@@ -199,7 +218,7 @@ impl Pass {
         };
         let older = self.older.take(eye, node, self.region_len)?;
         let newer = self.newer.take(eye, node, self.region_len)?;
-        let Ok(found) = self.merged(alloc, node, &older, &newer) else {
+        let Ok(found) = self.merged(alloc, spells, node, &older, &newer) else {
             return Err(FetchFault::NoMemory);
         };
         Ok(Some(found))

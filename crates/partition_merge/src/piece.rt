@@ -1,6 +1,6 @@
 //! Rows of one node that stay where they were read, in the windows of two parts, and what is told of them.
 
-ghost use Rattle.std.specs.Prelude.{◌≡◌, length, min, true};
+ghost use Rattle.std.specs.Prelude.{◌≡◌, true};
 ghost use Rattle.partition_merge.specs.Pieces.{begins_with_put, both_ascend, both_len, may_fold, may_fold_from, piece_len, piece_rows, span_of, tally_of};
 
 use fine_model::NodeId;
@@ -155,17 +155,14 @@ impl Tally {
         }
     }
 
-    /// That of an image, as it is spelled.
-    pub(crate) fn of_image(node: NodeId, image: &[u8]) -> Tally
-        ensures node { result.node ≡ node }
-        ensures rows { result.rows ≡ 1 }
-        ensures area { result.area ≡ min (length image.now) 4294967295 }
-        ensures ordered { result.ordered ≡ true }
+    /// That of an image of so many bytes.
+    pub(crate) fn of_image(node: NodeId, len: u32) -> Tally
+        ensures { result ≡ record { node = node; rows = 1; area = len; ordered = true } }
     {
         Tally {
             node,
             rows: 1,
-            area: image.len().min(u32::MAX as usize) as u32,
+            area: len,
             ordered: true,
         }
     }

@@ -1,12 +1,11 @@
-use Rattle.std.proofs.Common.{Bor, ◌≡◌, ◌∙◌, [], List, ℕ, sym, map, length, eqb-true, subst}
+use Rattle.std.proofs.Common.{Bor, List, ℕ, sym, map, length, eqb-true, subst}
 use Rattle.partition_merge.proofs.Leaves.{PairsLeft, first_pairs, more_pairs, all_pairs}
 use Rattle.partition_merge.proofs.leaf.split_pairs.Goals as goal
 
 pub loop-left-init : goal.loop-left-init
 loop-left-init c pairs fits is =
     let show : Bor (List ℕ) → List ℕ = λ t. t.now in
-    let none : c.from_vec-pairs.result ≡ [] = c.from_vec-pairs.ensures ∙ c.in_ok-with_capacity.ensures.items in
-    subst (λ (xs : List (Bor (List ℕ))). PairsLeft pairs (map show xs) c.in-Some.left.now) (sym none) (first_pairs pairs c.args.text.now c.in-Some.left.now c.in-Some.field-0-0.now fits is c.in-Some.ensures.cases.0)
+    subst (λ (xs : List (Bor (List ℕ))). PairsLeft pairs (map show xs) c.in-Some.left.now) (sym c.in_ok-pairs.ensures) (first_pairs pairs c.args.text.now c.in-Some.left.now c.in-Some.field-0-0.now fits is c.in-Some.ensures.cases.0)
 
 pub loop-left-preserved : goal.loop-left-preserved
 loop-left-preserved c pairs fits is =

@@ -1,4 +1,4 @@
-use Rattle.std.proofs.Common.{◌≡◌, ◌∙◌, ◌+◌, ◌++◌, ℕ, List, append_assoc, length, min, Ok, Err, Some, None, sym, ap, subst, arith, rules, refl}
+use Rattle.std.proofs.Common.{true, ◌≡◌, ◌∙◌, ◌+◌, ◌++◌, ℕ, List, append_assoc, length, min, Ok, Err, Some, None, sym, ap, subst, arith, rules, refl}
 use Rattle.std.specs.Prelude.{IfSome}
 use Rattle.std.specs.Global.{Vec}
 use Rattle.std.proofs.lemmas.List.{drop_all}
@@ -31,15 +31,15 @@ pub returns-clause-exact : goal.returns-clause-exact
 returns-clause-exact g c handed a b ahead =
     let later = g.E.LogEye.state c.next_node.new.eye in
     let i = subst (λ (v : BlocksValue). IsAhead (g.E.LogEye.state c.args.eye.now) v (handed ++ v.block) a b) (sym c.self.view_is) ahead in
-    let h : HandsOver (g.E.LogEye.state c.args.eye.now) (g.E.LogEye.state c.next_node.new.eye) c.self.inside.merger c.next_node.new.self c.in-Some.found =
-    let found : IfSome (Some c.in-Some.found) (HandsOver (g.E.LogEye.state c.args.eye.now) (g.E.LogEye.state c.next_node.new.eye) c.self.inside.merger c.next_node.new.self) =
-    subst (λ found. IfSome found (HandsOver (g.E.LogEye.state c.args.eye.now) (g.E.LogEye.state c.next_node.new.eye) c.self.inside.merger c.next_node.new.self)) c.in-Some.is c.in_ok-found.ensures.found in found in
+    let h : HandsOver true (g.E.LogEye.state c.args.eye.now) (g.E.LogEye.state c.next_node.new.eye) c.self.inside.merger c.next_node.new.self c.in-Some.found =
+    let found : IfSome (Some c.in-Some.found) (HandsOver true (g.E.LogEye.state c.args.eye.now) (g.E.LogEye.state c.next_node.new.eye) c.self.inside.merger c.next_node.new.self) =
+    subst (λ found. IfSome found (HandsOver true (g.E.LogEye.state c.args.eye.now) (g.E.LogEye.state c.next_node.new.eye) c.self.inside.merger c.next_node.new.self)) c.in-Some.is c.in_ok-found.ensures.found in found in
     let before : List ℕ = handed ++ c.self.inside.block.items in
     let after : List ℕ = handed ++ c.put_rows-put.new.block.items in
     let put : c.put_rows-put.new.block.items ++ c.put_rows-put.new.waiting.items ≡ c.self.inside.block.items ++ merged_bytes c.next_node.new.self c.in-Some.found.merged =
     ok_holds c.put_rows-put.result _ (sym c.is_err.ensures.value ∙ c.if-is_err.false) c.put_rows-put.ensures.spelled in
     let spelled : after ++ c.put_rows-put.new.waiting.items ≡ before ++ rows_bytes h.rows =
-    append_assoc handed c.put_rows-put.new.block.items c.put_rows-put.new.waiting.items ∙ ap (λ xs. handed ++ xs) put ∙ ap (λ xs. handed ++ (c.self.inside.block.items ++ xs)) h.spelled
+    append_assoc handed c.put_rows-put.new.block.items c.put_rows-put.new.waiting.items ∙ ap (λ xs. handed ++ xs) put ∙ ap (λ xs. handed ++ (c.self.inside.block.items ++ xs)) (h.spelled refl)
     ∙ sym (append_assoc handed c.self.inside.block.items (rows_bytes h.rows)) in
     let entry : HasEntry c.self.inside.index.items c.put_entry.new.index.items c.self.inside.offset h.rows = has_entry c.self.inside.index.items c.put_entry.new.index.items c.self.inside.offset h.rows c.in-Some.found.tally h.tally c.put_entry.ensures.bytes in
     let offset : c.saturating_add-self-inside.result ≡ min (c.self.inside.offset + min (length (rows_bytes h.rows)) 4294967295) 4294967295 = omega (arith, c.saturating_add-self-inside.ensures, h.tally.area, rows_long h.rows) in
@@ -57,15 +57,15 @@ pub returns-clause-joined : goal.returns-clause-joined
 returns-clause-joined g c start handed joined =
     let known = (g.E.LogEye.state c.args.eye.now).told in
     let i = subst (λ (v : BlocksValue). IsJoined known start v (handed ++ v.block)) (sym c.self.view_is) joined in
-    let h : HandsOver (g.E.LogEye.state c.args.eye.now) (g.E.LogEye.state c.next_node.new.eye) c.self.inside.merger c.next_node.new.self c.in-Some.found =
-    let found : IfSome (Some c.in-Some.found) (HandsOver (g.E.LogEye.state c.args.eye.now) (g.E.LogEye.state c.next_node.new.eye) c.self.inside.merger c.next_node.new.self) =
-    subst (λ found. IfSome found (HandsOver (g.E.LogEye.state c.args.eye.now) (g.E.LogEye.state c.next_node.new.eye) c.self.inside.merger c.next_node.new.self)) c.in-Some.is c.in_ok-found.ensures.found in found in
+    let h : HandsOver true (g.E.LogEye.state c.args.eye.now) (g.E.LogEye.state c.next_node.new.eye) c.self.inside.merger c.next_node.new.self c.in-Some.found =
+    let found : IfSome (Some c.in-Some.found) (HandsOver true (g.E.LogEye.state c.args.eye.now) (g.E.LogEye.state c.next_node.new.eye) c.self.inside.merger c.next_node.new.self) =
+    subst (λ found. IfSome found (HandsOver true (g.E.LogEye.state c.args.eye.now) (g.E.LogEye.state c.next_node.new.eye) c.self.inside.merger c.next_node.new.self)) c.in-Some.is c.in_ok-found.ensures.found in found in
     let before : List ℕ = handed ++ c.self.inside.block.items in
     let after : List ℕ = handed ++ c.put_rows-put.new.block.items in
     let put : c.put_rows-put.new.block.items ++ c.put_rows-put.new.waiting.items ≡ c.self.inside.block.items ++ merged_bytes c.next_node.new.self c.in-Some.found.merged =
     ok_holds c.put_rows-put.result _ (sym c.is_err.ensures.value ∙ c.if-is_err.false) c.put_rows-put.ensures.spelled in
     let spelled : after ++ c.put_rows-put.new.waiting.items ≡ before ++ rows_bytes h.rows =
-    append_assoc handed c.put_rows-put.new.block.items c.put_rows-put.new.waiting.items ∙ ap (λ xs. handed ++ xs) put ∙ ap (λ xs. handed ++ (c.self.inside.block.items ++ xs)) h.spelled
+    append_assoc handed c.put_rows-put.new.block.items c.put_rows-put.new.waiting.items ∙ ap (λ xs. handed ++ xs) put ∙ ap (λ xs. handed ++ (c.self.inside.block.items ++ xs)) (h.spelled refl)
     ∙ sym (append_assoc handed c.self.inside.block.items (rows_bytes h.rows)) in
     let entry : HasEntry c.self.inside.index.items c.put_entry.new.index.items c.self.inside.offset h.rows = has_entry c.self.inside.index.items c.put_entry.new.index.items c.self.inside.offset h.rows c.in-Some.found.tally h.tally c.put_entry.ensures.bytes in
     let offset : c.saturating_add-self-inside.result ≡ min (c.self.inside.offset + min (length (rows_bytes h.rows)) 4294967295) 4294967295 = omega (arith, c.saturating_add-self-inside.ensures, h.tally.area, rows_long h.rows) in
@@ -106,7 +106,7 @@ returns-clause-taken g c image told order =
 
 pub put_rows-put-requires-clause-area : goal.put_rows-put-requires-clause-area
 put_rows-put-requires-clause-area g c =
-    let h : HandsOver (g.E.LogEye.state c.args.eye.now) (g.E.LogEye.state c.next_node.new.eye) c.self.inside.merger c.next_node.new.self c.in-Some.found =
-    let found : IfSome (Some c.in-Some.found) (HandsOver (g.E.LogEye.state c.args.eye.now) (g.E.LogEye.state c.next_node.new.eye) c.self.inside.merger c.next_node.new.self) =
-    subst (λ found. IfSome found (HandsOver (g.E.LogEye.state c.args.eye.now) (g.E.LogEye.state c.next_node.new.eye) c.self.inside.merger c.next_node.new.self)) c.in-Some.is c.in_ok-found.ensures.found in found in
-    omega (arith, h.tally.area, ap length h.spelled, rows_long h.rows)
+    let h : HandsOver true (g.E.LogEye.state c.args.eye.now) (g.E.LogEye.state c.next_node.new.eye) c.self.inside.merger c.next_node.new.self c.in-Some.found =
+    let found : IfSome (Some c.in-Some.found) (HandsOver true (g.E.LogEye.state c.args.eye.now) (g.E.LogEye.state c.next_node.new.eye) c.self.inside.merger c.next_node.new.self) =
+    subst (λ found. IfSome found (HandsOver true (g.E.LogEye.state c.args.eye.now) (g.E.LogEye.state c.next_node.new.eye) c.self.inside.merger c.next_node.new.self)) c.in-Some.is c.in_ok-found.ensures.found in found in
+    omega (arith, h.tally.area, ap length (h.spelled refl), rows_long h.rows)

@@ -1,4 +1,4 @@
-use Rattle.std.proofs.Common.{◌≡◌, ◌∙◌, ◌<◌, Ok, Err, Some, None, sym, ap, subst, arith, rules, refl}
+use Rattle.std.proofs.Common.{false, ◌≡◌, ◌∙◌, ◌<◌, Ok, Err, Some, None, sym, ap, subst, arith, rules, refl}
 use Rattle.std.specs.Prelude.{IfSome}
 use Rattle.fine_model.specs.declared.FetchFault.TheVariants as fault
 use Rattle.partition_index.specs.Parts.{IsSeen}
@@ -65,9 +65,9 @@ returns-in_err-found-clause-exact g c older newer a b small =
 pub loop-pass-preserved : goal.loop-pass-preserved
 loop-pass-preserved g c =
     let i = c.loop-pass.invariant in
-    let h : HandsOver (g.E.LogEye.state c.loop-pass.eye) (g.E.LogEye.state c.next_node.new.eye) c.loop-pass.pass c.next_node.new.self c.in-Some.found =
-    let found : IfSome (Some c.in-Some.found) (HandsOver (g.E.LogEye.state c.loop-pass.eye) (g.E.LogEye.state c.next_node.new.eye) c.loop-pass.pass c.next_node.new.self) =
-    subst (λ found. IfSome found (HandsOver (g.E.LogEye.state c.loop-pass.eye) (g.E.LogEye.state c.next_node.new.eye) c.loop-pass.pass c.next_node.new.self)) c.in-Some.is c.in_ok-found.ensures.found in found in
+    let h : HandsOver false (g.E.LogEye.state c.loop-pass.eye) (g.E.LogEye.state c.next_node.new.eye) c.loop-pass.pass c.next_node.new.self c.in-Some.found =
+    let found : IfSome (Some c.in-Some.found) (HandsOver false (g.E.LogEye.state c.loop-pass.eye) (g.E.LogEye.state c.next_node.new.eye) c.loop-pass.pass c.next_node.new.self) =
+    subst (λ found. IfSome found (HandsOver false (g.E.LogEye.state c.loop-pass.eye) (g.E.LogEye.state c.next_node.new.eye) c.loop-pass.pass c.next_node.new.self)) c.in-Some.is c.in_ok-found.ensures.found in found in
     let tally : IsTallyOf h.rows c.into_tally.result = subst (IsTallyOf h.rows) (sym c.into_tally.ensures) h.tally in
     let a = adds c.loop-pass.measure c.add.new.self c.loop-pass.last c.add.new.last h.rows c.into_tally.result tally c.add.ensures.rows c.add.ensures.area c.add.ensures.ordered c.add.ensures.last in
     let some = h.tally.some in

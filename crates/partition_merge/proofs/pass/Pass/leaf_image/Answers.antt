@@ -16,7 +16,7 @@ returns c a b older_holds newer_holds =
     let newer = c.args.newer.now in
     let h : HoldsIn c.self.inside.older id older a = subst (λ (m : Merger). HoldsIn m.older id older a) (sym c.self.view_is) older_holds in
     let k : HoldsIn c.self.inside.newer id newer b = subst (λ (m : Merger). HoldsIn m.newer id newer b) (sym c.self.view_is) newer_holds in
-    c.spelled_image.ensures p.header.mark q.header.mark a b
+    c.leaf_image.ensures p.header.mark q.header.mark a b
     (subst (λ bytes. AreRows p.header.mark bytes a) (sym (c.spelled-older.ensures ∙ ap (span_bytes v) c.span_of.ensures)) (piece_are_rows p v id older a h))
     (subst (λ bytes. AreRows q.header.mark bytes b) (sym (c.spelled-newer.ensures ∙ ap (span_bytes w) c.span_of-2.ensures)) (piece_are_rows q w id newer b k))
     (folds_afresh p q v w id older newer a b h k c.requires.may_fold)

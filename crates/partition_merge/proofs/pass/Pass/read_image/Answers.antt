@@ -1,6 +1,6 @@
 use Rattle.std.proofs.Common.{◌≡◌, ◌++◌, ap, min, sym, subst, ◌∙◌}
 use Rattle.std.specs.Prelude.{IfSome}
-use Rattle.fine_model.specs.RowBytes.{FitsRec, row_bytes, rows_len}
+use Rattle.fine_model.specs.RowBytes.{FitsRec, rows_len}
 use Rattle.partition_merge.specs.declared.merger.Merger.{Merger}
 use Rattle.partition_merge.specs.Merging.{merged_of, one_or}
 use Rattle.partition_merge.specs.Pieces.{HoldsIn}
@@ -34,5 +34,6 @@ returns c a b h k =
       row = c.in-Some.row;
       joined = (λ i. merged_of c.args.node (sym older i ++ sym newer i)) ∙ c.in_ok-row.ensures.image ∙ ap (λ image. one_or image (c.in_ok-older.older ++ c.in_ok-newer.newer)) c.in-Some.is;
       fits = subst (λ image. IfSome image (λ row. FitsRec row.rec)) c.in-Some.is c.in_ok-row.ensures.fit;
-      spelled = c.in_ok-write_row.ensures.ok ∙ ap (λ xs. xs ++ row_bytes c.in-Some.row) c.new-image.ensures.items;
+      long = c.row_len.ensures.is;
+      spelled = c.in_ok-spelled_row.ensures;
     }

@@ -28,7 +28,7 @@ pub(crate) struct Tally {
     pub(crate) ordered: bool,
 }
 
-/// What the rows of a node in two parts are merged into: an image, as it is spelled, or the older rows and then the newer ones, which stand in the
+/// What the rows of a node in two parts are merged into: an image, as it is spelled if that was asked for, or the older rows and then the newer ones, in the
 /// windows. It is moved for each node, and the image is behind a pointer.
 #[derive(Drop)]
 pub(crate) enum Merged {

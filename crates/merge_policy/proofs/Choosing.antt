@@ -103,7 +103,7 @@ picks_older q parts aims None picks = tt
 picks_older q parts aims (Some first) picks = some_older q parts aims first picks
 
 abbrev aims_by : Bool → Bool → List Aim
-aims_by pressed short = (if pressed then aim.Even ∷ [] else []) ++ (if short then aim.Gain ∷ aim.Fit ∷ [] else [])
+aims_by pressed short = (if pressed then aim.Level ∷ [] else []) ++ (if short then aim.Gain ∷ aim.Fit ∷ [] else [])
 
 pub picks_none : (q : Question) (pairs : Pairs) (pressed short : Bool) (answer : Option ℕ) → Picks q pairs (aims_by pressed short) answer → pressed ≡ false → short ≡ false → answer ≡ None
 picks_none q pairs true short answer picks p s = absurd cc

@@ -7,7 +7,7 @@ use Rattle.merge_policy.specs.declared.figures.Aim.TheVariants as aim
 use Rattle.merge_policy.specs.declared.figures.Measured.{Measured}
 use Rattle.merge_policy.specs.declared.figures.Pair.{Pair}
 use Rattle.merge_policy.specs.declared.figures.Space.{Space}
-use Rattle.merge_policy.specs.Figures.{figures, fits_up_to, frees, is_even, is_short, unevenness, unused}
+use Rattle.merge_policy.specs.Figures.{figures, fits_up_to, frees, is_level, is_short, unevenness, unused}
 
 -- the pairs of neighbours, from the oldest
 abbrev pub with_next : Part → List Part → List (Part × Part)
@@ -20,13 +20,13 @@ neighbours (part ∷ parts) = with_next part parts ++ neighbours parts
 
 -- a pair serves an aim
 abbrev pub serves : Aim → Space → Pair → Bool
-serves aim.Even space pair = frees space pair (max pair.together pair.least) && is_even pair
+serves aim.Level space pair = frees space pair (max pair.together pair.least) && is_level pair
 serves aim.Gain space pair = frees space pair pair.least
 serves aim.Fit space pair = fits_up_to space.region_len space.free pair.least
 
--- of the pairs that serve an aim that of the least rank is the best: the most even one, or that with the most unused bytes
+-- of the pairs that serve an aim that of the least rank is the best: that of the fewest bytes, the most even one, or that with the most unused bytes
 abbrev pub rank : Aim → Space → Pair → ℕ
-rank aim.Even space pair = unevenness pair
+rank aim.Level space pair = pair.together
 rank aim.Gain space pair = unevenness pair
 rank aim.Fit space pair = 18446744073709551615 - unused space pair
 
@@ -64,7 +64,7 @@ pub record PicksBest (q : Question) (aim : Aim) (pairs : List (Part × Part)) (f
 
 -- the aims of a merge, in their order
 abbrev pub aims_of : Space → List Aim
-aims_of space = (if space.is_pressed then aim.Even ∷ [] else []) ++ (if is_short space then aim.Gain ∷ aim.Fit ∷ [] else [])
+aims_of space = (if space.is_pressed then aim.Level ∷ [] else []) ++ (if is_short space then aim.Gain ∷ aim.Fit ∷ [] else [])
 
 -- The first aim that some pair serves decides: its best pair is taken. Where no aim is served, none is.
 abbrev pub Picks : Question → List (Part × Part) → List Aim → Option ℕ → Type 0

@@ -31,6 +31,8 @@ least_len known older newer = len_or_none (find (is_of older newer) known)
 -- two neighbours in numbers
 unfoldable pub figures : List Measured → Part → Part → Pair
 figures known older newer = record {
+  older = part_len older;
+  newer = part_len newer;
   longer = max (part_len older) (part_len newer);
   shorter = min (part_len older) (part_len newer);
   together = body_len older.header + body_len newer.header;
@@ -46,9 +48,9 @@ fits_up_to region_len most len = nat_le 1 most && fits_in region_len (min most 8
 abbrev pub frees : Space → Pair → ℕ → Bool
 frees space pair len = fits_up_to space.region_len (min space.free (pair.regions - 1)) len
 
--- the longer part is at most twice the shorter
-abbrev pub is_even : Pair → Bool
-is_even pair = nat_le pair.longer (2 * pair.shorter)
+-- the older part is at most twice the newer
+abbrev pub is_level : Pair → Bool
+is_level pair = nat_le pair.older (2 * pair.newer)
 
 -- how many times the shorter part the longer one is, in parts of 16,777,216
 abbrev pub unevenness : Pair → ℕ

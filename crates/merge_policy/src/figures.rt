@@ -37,6 +37,9 @@ pub struct Measured {
 #[derive(Drop)]
 pub(crate) struct Pair {
     /// The lengths of both parts, headers included.
+    pub(crate) older: u64,
+    pub(crate) newer: u64,
+    /// The same, in their order.
     pub(crate) longer: u64,
     pub(crate) shorter: u64,
     /// What all their rows and index entries take.
@@ -50,8 +53,8 @@ pub(crate) struct Pair {
 /// Why a pair is merged.
 #[derive(Clone, Copy)]
 pub(crate) enum Aim {
-    /// It frees a region, whatever its rows come to and as far as was measured, and its parts are about even.
-    Even,
+    /// It frees a region, whatever its rows come to and as far as was measured, and its older part is no longer than two of the newer one.
+    Level,
     /// It may free a region.
     Gain,
     /// It may fit the free regions.
@@ -116,6 +119,7 @@ impl Pair {
     #[tactic(auto, unfolding(crate::specs::Figures::figures))]
     pub(crate) fn new(known: &[Measured], older: &Part, newer: &Part) -> Pair
         ensures is { result ≡ figures known.now older.now newer.now }
+        ensures newer { result.newer < 68719476806 }
         ensures longer { result.longer < 68719476806 }
         ensures some { 1 ≤ result.shorter }
         ensures shorter { result.shorter < 68719476806 }
@@ -126,6 +130,8 @@ impl Pair {
         let older_len = part_len(older);
         let newer_len = part_len(newer);
         Pair {
+            older: older_len,
+            newer: newer_len,
             longer: older_len.max(newer_len),
             shorter: older_len.min(newer_len),
             together: body_len(older.header.area, older.header.nodes)
@@ -147,7 +153,7 @@ impl Pair {
     }
 
     pub(crate) fn serves(&self, aim: Aim, space: Space) -> bool
-        requires shorter { self.now.shorter < 68719476806 }
+        requires newer { self.now.newer < 68719476806 }
         requires together { self.now.together < 137438953472 }
         requires least { self.now.least < 68719476736 }
         requires short { 1 ≤ space.region_len }
@@ -155,8 +161,8 @@ impl Pair {
         ensures { result ≡ serves aim space self.now }
     {
         match aim {
-            Aim::Even => {
-                self.frees(space, self.together.max(self.least)) && self.longer <= 2 * self.shorter
+            Aim::Level => {
+                self.frees(space, self.together.max(self.least)) && self.older <= 2 * self.newer
             }
             Aim::Gain => self.frees(space, self.least),
             Aim::Fit => fits_up_to(space.region_len, space.free, self.least),
@@ -173,7 +179,8 @@ impl Pair {
         ensures { result ≡ rank aim space self.now }
     {
         match aim {
-            Aim::Even | Aim::Gain => self.unevenness(),
+            Aim::Level => self.together,
+            Aim::Gain => self.unevenness(),
             Aim::Fit => u64::MAX - self.unused(space),
         }
     }

@@ -124,7 +124,7 @@ fn pick(space: Space, known: &[Measured], parts: &[Part]) -> Option<u64>
     if !space.is_pressed {
         return pick_spare(space, known, parts);
     }
-    match first_for(Aim::Even, space, known, parts) {
+    match first_for(Aim::Level, space, known, parts) {
         Some(first) => Some(first),
         None => pick_spare(space, known, parts),
     }
@@ -134,9 +134,9 @@ fn pick(space: Space, known: &[Measured], parts: &[Part]) -> Option<u64>
 ///
 /// `parts` is the chain from the oldest part, and `known` has what was measured of pairs that were tried. Lengths and their sums are
 /// bytes. Where the room is pressed, that pair is taken which frees a region whatever its rows come to, and by what was measured of it, and
-/// whose longer part is at most twice the shorter: the most even one, of equal ones the newest. Else, where fewer regions are free than are to be spared, the most
-/// even pair that may free a region as far as was measured, and where there is none, of those that may fit the free regions that with
-/// the most unused bytes.
+/// whose older part is at most twice as long as the newer: that with the fewest bytes, of equal ones the newest. So lengths come to fall from the oldest
+/// part to the newest by halves at least, and no short part stays between longer ones. Else, where fewer regions are free than are to be spared, the most even
+/// pair that may free a region as far as was measured, and where there is none, of those that may fit the free regions that with the most unused bytes.
 ///
 /// None where no pair is to be merged; where regions are short and one is free, every pair was then measured and is too long for the free
 /// regions. Of a pair that was not measured nothing is known, so it may be answered: measure it, and if it frees nothing, put it into

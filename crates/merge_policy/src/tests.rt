@@ -13,8 +13,6 @@ const REGIONS: u32 = 24;
 
 const EPOCHS: u64 = 5_000;
 
-const EPOCH: u32 = 4_096;
-
 // The regions for so many bytes of rows.
 fn regions_for(area: u32) -> u8 {
     (1..8u8)
@@ -70,12 +68,13 @@ fn measured(older: u64, area: u32) -> Measured {
 }
 
 #[test]
-fn even_neighbours_are_taken_while_pressed(rt: HostRuntime) {
+fn neighbours_that_do_not_fall_are_taken_while_pressed(rt: HostRuntime) {
     let cases = [
         ([1000, 1000, 1000], Some(2)),
         ([1000, 1001, 1004], Some(1)),
         ([3000, 1000, 1500], Some(2)),
-        ([9000, 1000, 5000], None),
+        ([9000, 1000, 5000], Some(2)),
+        ([9000, 4000, 1000], None),
         ([4_000_000, 4_000_000, 1000], None),
     ];
     for (areas, first) in cases {
@@ -139,21 +138,26 @@ fn settle(parts: &mut Vec<Part>, spare: u32) -> u64 {
     written
 }
 
-// How many bytes are merged, in tenths of those of all epochs, rounded, where each epoch is first a part of its own and nothing folds.
-fn tenths_merged(alloc: Global, spare: u32) -> Result<u64, AllocError> {
+// How many bytes are merged, in tenths of those of all epochs, rounded, where each epoch is first a part of its own and nothing folds. Each sixteenth
+// epoch has as many bytes as are told last.
+fn tenths_merged(alloc: Global, spare: u32, lens: [u32; 2]) -> Result<u64, AllocError> {
     let mut parts = Vec::new(alloc);
     let mut written = 0u64;
+    let mut bytes = 0u64;
     for epoch in 1..EPOCHS + 1 {
+        let len = if epoch % 16 == 0 { lens[1] } else { lens[0] };
         written = written.saturating_add(settle(&mut parts, spare));
-        parts.push(part_of(epoch, epoch, EPOCH))?;
+        bytes = bytes.saturating_add(u64::from(len));
+        parts.push(part_of(epoch, epoch, len))?;
     }
-    let bytes = EPOCHS * u64::from(EPOCH);
-    Ok(written.saturating_mul(10).saturating_add(bytes / 2) / bytes)
+    Ok(written.saturating_mul(10).saturating_add(bytes / 2) / bytes.max(1))
 }
 
 #[test]
 fn a_byte_is_merged_ten_times_in_five_thousand_epochs(rt: HostRuntime) -> Result<(), Fail> {
-    assert_eq!(rt; tenths_merged(rt.alloc(), 3)?, 99);
-    assert_eq!(rt; tenths_merged(rt.alloc(), 2)?, 99);
+    assert_eq!(rt; tenths_merged(rt.alloc(), 3, [4096, 4096])?, 98);
+    assert_eq!(rt; tenths_merged(rt.alloc(), 2, [4096, 4096])?, 98);
+    // a put alone, and one that splits a leaf
+    assert_eq!(rt; tenths_merged(rt.alloc(), 2, [150, 2700])?, 85);
     Ok(())
 }

@@ -1,6 +1,5 @@
-use Rattle.std.proofs.Common.{rules, ◌≡◌, ◌++◌, ◌∷◌, [], List, Some, slice_get, subst, sym, ◌∙◌, ap}
-use Rattle.fine_model.specs.declared.Part.{Part}
-use Rattle.merge_policy.specs.Choices.{question, with_next}
+use Rattle.std.proofs.Common.{rules, ◌≡◌, ◌++◌, ◌∷◌, [], Some, slice_get, subst, sym, ◌∙◌, ap}
+use Rattle.merge_policy.specs.Choices.{question}
 use Rattle.merge_policy.specs.Steps.{BestSoFar, better}
 use Rattle.merge_policy.proofs.Choosing.{with_front, with_one}
 use Rattle.merge_policy.proofs.policy.with_pair.Goals as goal

@@ -8,7 +8,7 @@ use Rattle.fine_model.proofs.Sets.{all_append}
 use Rattle.merge_policy.specs.declared.figures.Aim.{Aim}
 use Rattle.merge_policy.specs.declared.figures.Aim.TheVariants as aim
 use Rattle.merge_policy.specs.declared.policy.Choice.{Choice}
-use Rattle.merge_policy.specs.Choices.{Question, IsBest, IsOlder, NoneServes, Picks, PicksBest, neighbours, rank_for, serves_for, with_next}
+use Rattle.merge_policy.specs.Choices.{Question, IsBest, IsOlder, NoneServes, Picks, PicksBest, low_aims, neighbours, rank_for, serves_for, short_aims, with_next}
 use Rattle.merge_policy.specs.Steps.{BestSoFar, IsBestChoice, better, choice_if, choice_of}
 
 abbrev Pairs : Type 0
@@ -103,15 +103,15 @@ picks_older q parts aims None picks = tt
 picks_older q parts aims (Some first) picks = some_older q parts aims first picks
 
 abbrev aims_by : Bool → Bool → List Aim
-aims_by pressed short = (if pressed then aim.Level ∷ [] else []) ++ (if short then aim.Gain ∷ aim.Fit ∷ [] else [])
+aims_by low short = low_aims low ++ short_aims short
 
-pub picks_none : (q : Question) (pairs : Pairs) (pressed short : Bool) (answer : Option ℕ) → Picks q pairs (aims_by pressed short) answer → pressed ≡ false → short ≡ false → answer ≡ None
-picks_none q pairs true short answer picks p s = absurd cc
-picks_none q pairs false true answer picks p s = absurd cc
-picks_none q pairs false false answer picks p s = picks
+pub picks_none : (q : Question) (pairs : Pairs) (low short : Bool) (answer : Option ℕ) → Picks q pairs (aims_by low short) answer → low ≡ false → short ≡ false → answer ≡ None
+picks_none q pairs true short answer picks l s = absurd cc
+picks_none q pairs false true answer picks l s = absurd cc
+picks_none q pairs false false answer picks l s = picks
 
-pub none_fits : (q : Question) (pairs : Pairs) (pressed short : Bool) (answer : Option ℕ) → Picks q pairs (aims_by pressed short) answer → short ≡ true → answer ≡ None → NoneServes q aim.Fit pairs
-none_fits q pairs pressed false answer picks s n = absurd cc
-none_fits q pairs pressed true (Some first) picks s n = absurd cc
-none_fits q pairs true true None picks s n = picks.1.1.0
+pub none_fits : (q : Question) (pairs : Pairs) (low short : Bool) (answer : Option ℕ) → Picks q pairs (aims_by low short) answer → short ≡ true → answer ≡ None → NoneServes q aim.Fit pairs
+none_fits q pairs low false answer picks s n = absurd cc
+none_fits q pairs low true (Some first) picks s n = absurd cc
+none_fits q pairs true true None picks s n = picks.1.1.1.0
 none_fits q pairs false true None picks s n = picks.1.0

@@ -7,7 +7,7 @@ use Rattle.merge_policy.specs.declared.figures.Aim.TheVariants as aim
 use Rattle.merge_policy.specs.declared.figures.Measured.{Measured}
 use Rattle.merge_policy.specs.declared.figures.Pair.{Pair}
 use Rattle.merge_policy.specs.declared.figures.Space.{Space}
-use Rattle.merge_policy.specs.Figures.{figures, fits_up_to, frees, is_level, is_short, unevenness, unused}
+use Rattle.merge_policy.specs.Figures.{figures, fits_free, frees, is_level, is_low, is_short, is_trial, unevenness, unused}
 
 -- the pairs of neighbours, from the oldest
 abbrev pub with_next : Part → List Part → List (Part × Part)
@@ -20,13 +20,15 @@ neighbours (part ∷ parts) = with_next part parts ++ neighbours parts
 
 -- a pair serves an aim
 abbrev pub serves : Aim → Space → Pair → Bool
-serves aim.Level space pair = frees space pair (max pair.together pair.least) && is_level pair
+serves aim.Level space pair = is_level pair && fits_free space (max pair.together pair.least)
+serves aim.Fold space pair = is_trial space pair.together && is_level pair && fits_free space (max pair.longer pair.least)
 serves aim.Gain space pair = frees space pair pair.least
-serves aim.Fit space pair = fits_up_to space.region_len space.free pair.least
+serves aim.Fit space pair = fits_free space pair.least
 
 -- of the pairs that serve an aim that of the least rank is the best: that of the fewest bytes, the most even one, or that with the most unused bytes
 abbrev pub rank : Aim → Space → Pair → ℕ
 rank aim.Level space pair = pair.together
+rank aim.Fold space pair = pair.together
 rank aim.Gain space pair = unevenness pair
 rank aim.Fit space pair = 18446744073709551615 - unused space pair
 
@@ -62,9 +64,15 @@ pub record PicksBest (q : Question) (aim : Aim) (pairs : List (Part × Part)) (f
   pub best : IsBest q aim pairs two
   pub is : first ≡ two.0.header.range.first
 
--- the aims of a merge, in their order
-abbrev pub aims_of : Space → List Aim
-aims_of space = (if space.is_pressed then aim.Level ∷ [] else []) ++ (if is_short space then aim.Gain ∷ aim.Fit ∷ [] else [])
+-- the aims of a merge, in their order: those while few regions are free, and those while regions are short
+abbrev pub low_aims : Bool → List Aim
+low_aims low = if low then aim.Level ∷ aim.Fold ∷ [] else []
+
+abbrev pub short_aims : Bool → List Aim
+short_aims short = if short then aim.Gain ∷ aim.Fit ∷ [] else []
+
+abbrev pub aims_of : Space → List Part → List Aim
+aims_of space parts = low_aims (is_low space parts) ++ short_aims (is_short space)
 
 -- The first aim that some pair serves decides: its best pair is taken. Where no aim is served, none is.
 abbrev pub Picks : Question → List (Part × Part) → List Aim → Option ℕ → Type 0

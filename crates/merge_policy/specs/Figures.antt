@@ -1,5 +1,6 @@
 -- Two neighbours of the chain in numbers.
-use Rattle.std.specs.Prelude.{ℕ, ◌+◌, ◌-◌, ◌*◌, ◌/◌, ◌==◌, nat_le, nat_lt, min, max, Bool, ◌&&◌, List, Option, Some, None, find}
+use Rattle.std.specs.Prelude.{ℕ, ◌+◌, ◌-◌, ◌*◌, ◌/◌, ◌%◌, ◌==◌, nat_le, nat_lt, min, max, Bool, ◌&&◌, ◌||◌, List, Option, Some, None, find}
+use Rattle.std.specs.List.{sum_by}
 use Rattle.fine_model.specs.declared.Part.{Part}
 use Rattle.fine_model.specs.Merge.{fits_in}
 use Rattle.fine_model.specs.Regions.{body_start, body_len}
@@ -44,6 +45,10 @@ figures known older newer = record {
 abbrev pub fits_up_to : ℕ → ℕ → ℕ → Bool
 fits_up_to region_len most len = nat_le 1 most && fits_in region_len (min most 8) len
 
+-- so many bytes fit the free regions
+abbrev pub fits_free : Space → ℕ → Bool
+fits_free space len = fits_up_to space.region_len space.free len
+
 -- a merged part of so many bytes fits the free regions, and fewer regions than the pair holds
 abbrev pub frees : Space → Pair → ℕ → Bool
 frees space pair len = fits_up_to space.region_len (min space.free (pair.regions - 1)) len
@@ -63,3 +68,11 @@ unused space pair = space.region_len * pair.regions - (pair.longer + pair.shorte
 -- fewer regions are free than are to be spared
 abbrev pub is_short : Space → Bool
 is_short space = nat_lt space.free space.spare
+
+-- So few regions are free that lengths are to fall: all parts, written once more, would not leave two.
+abbrev pub is_low : Space → List Part → Bool
+is_low space parts = space.is_pressed && nat_lt (space.region_len * (space.free - 2)) (sum_by part_len parts)
+
+-- A pair that fits only where its rows fold is tried where it is short, or the last sealed epoch is a multiple of eight: that it was tried in vain is not kept.
+abbrev pub is_trial : Space → ℕ → Bool
+is_trial space together = nat_le together 1048576 || ((space.sealed % 8) == 0)

@@ -1,8 +1,9 @@
 //! What a choice between pairs of neighbours goes by: numbers of the disk, and of a pair.
 
-ghost use Rattle.std.specs.Prelude.{◌≡◌, ◌+◌, ◌*◌, ◌<◌, ◌≤◌, find, option_map};
+ghost use Rattle.std.specs.Prelude.{◌≡◌, ◌+◌, ◌*◌, ◌<◌, ◌≤◌, find, nat_lt, option_map};
+ghost use Rattle.std.specs.List.{sum_by};
 ghost use Rattle.fine_model.specs.RowBytes.{longest_region, index_entry};
-ghost use Rattle.merge_policy.specs.Figures.{figures, fits_up_to, frees, is_of, least_len, part_len, unevenness, unused};
+ghost use Rattle.merge_policy.specs.Figures.{figures, fits_free, fits_up_to, frees, is_level, is_low, is_of, is_trial, least_len, part_len, unevenness, unused};
 ghost use Rattle.merge_policy.specs.Choices.{rank, serves};
 
 use fine_model::format::MOST_REGIONS;
@@ -15,10 +16,12 @@ pub struct Space {
     pub region_len: u64,
     /// How many regions are free.
     pub free: u32,
-    /// Whether so few are free that even neighbours are to be merged.
+    /// Whether fewer are free than the room would have, so that neighbours of fitting lengths may be merged.
     pub is_pressed: bool,
-    /// With fewer free regions than these, uneven neighbours are merged too.
+    /// With fewer free regions than these, neighbours of any lengths are merged too.
     pub spare: u32,
+    /// The last sealed epoch.
+    pub sealed: u64,
 }
 
 /// What the rows of two neighbours take once they are merged: the bytes of the rows, and how many index entries.
@@ -53,8 +56,11 @@ pub(crate) struct Pair {
 /// Why a pair is merged.
 #[derive(Clone, Copy)]
 pub(crate) enum Aim {
-    /// It frees a region, whatever its rows come to and as far as was measured, and its older part is no longer than two of the newer one.
+    /// It fits the free regions, whatever its rows come to and as far as was measured, and its older part is no longer than two of the newer one.
     Level,
+    /// Its older part is no longer than two of the newer one, and it fits the free regions where its rows fold, as its longer part alone fits them. A long
+    /// pair is tried seldom, as it is read for that, and that it was tried in vain is not kept.
+    Fold,
     /// It may free a region.
     Gain,
     /// It may fit the free regions.
@@ -86,6 +92,52 @@ fn fits_up_to(region_len: u64, most: u32, len: u64) -> bool
     ensures { result ≡ fits_up_to region_len most len }
 {
     1 <= most && fits_in(region_len, most.min(u32::from(MOST_REGIONS)) as u8, len)
+}
+
+/// Whether so many bytes fit the free regions.
+fn fits_free(space: Space, len: u64) -> bool
+    requires len { len < 137438953472 }
+    requires short { 1 ≤ space.region_len }
+    requires long { space.region_len ≤ longest_region }
+    ensures { result ≡ fits_free space len }
+{
+    fits_up_to(space.region_len, space.free, len)
+}
+
+/// Whether the parts have more bytes than so many.
+fn are_over(most: u64, parts: &[Part]) -> bool
+    ensures { result ≡ nat_lt most (sum_by part_len parts.now) }
+{
+    let mut left = most;
+    let mut rest = parts;
+    while let Some((part, behind)) = rest.split_first() {
+        let len = part_len(part);
+        if left < len {
+            return true;
+        }
+        left -= len;
+        rest = behind;
+    }
+    false
+}
+
+/// Whether so few regions are free that lengths are to fall.
+pub(crate) fn is_low(space: Space, parts: &[Part]) -> bool
+    requires long { space.region_len ≤ longest_region }
+    ensures { result ≡ is_low space parts.now }
+{
+    space.is_pressed
+        && are_over(
+            space.region_len * u64::from(space.free.saturating_sub(2)),
+            parts,
+        )
+}
+
+/// Whether a pair that fits only where its rows fold is tried.
+fn is_trial(space: Space, together: u64) -> bool
+    ensures { result ≡ is_trial space together }
+{
+    together <= 1_048_576 || space.sealed % 8 == 0
 }
 
 /// Whether two neighbours were measured.
@@ -141,6 +193,14 @@ impl Pair {
         }
     }
 
+    /// Whether the older part is at most twice as long as the newer.
+    fn is_level(&self) -> bool
+        requires newer { self.now.newer < 68719476806 }
+        ensures { result ≡ is_level self.now }
+    {
+        self.older <= 2 * self.newer
+    }
+
     /// Whether a merged part of so many bytes fits the free regions, and fewer regions than the pair holds.
     fn frees(&self, space: Space, len: u64) -> bool
         requires len { len < 137438953472 }
@@ -154,6 +214,7 @@ impl Pair {
 
     pub(crate) fn serves(&self, aim: Aim, space: Space) -> bool
         requires newer { self.now.newer < 68719476806 }
+        requires longer { self.now.longer < 68719476806 }
         requires together { self.now.together < 137438953472 }
         requires least { self.now.least < 68719476736 }
         requires short { 1 ≤ space.region_len }
@@ -161,11 +222,14 @@ impl Pair {
         ensures { result ≡ serves aim space self.now }
     {
         match aim {
-            Aim::Level => {
-                self.frees(space, self.together.max(self.least)) && self.older <= 2 * self.newer
+            Aim::Level => self.is_level() && fits_free(space, self.together.max(self.least)),
+            Aim::Fold => {
+                is_trial(space, self.together)
+                    && self.is_level()
+                    && fits_free(space, self.longer.max(self.least))
             }
             Aim::Gain => self.frees(space, self.least),
-            Aim::Fit => fits_up_to(space.region_len, space.free, self.least),
+            Aim::Fit => fits_free(space, self.least),
         }
     }
 
@@ -179,7 +243,7 @@ impl Pair {
         ensures { result ≡ rank aim space self.now }
     {
         match aim {
-            Aim::Level => self.together,
+            Aim::Level | Aim::Fold => self.together,
             Aim::Gain => self.unevenness(),
             Aim::Fit => u64::MAX - self.unused(space),
         }

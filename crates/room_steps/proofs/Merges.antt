@@ -172,18 +172,29 @@ pub counts_free : (room : RoomState) → (counts_of room).free ≡ length room.f
 unfolding counts_of
 counts_free room = refl
 
+pub counts_sealed : (room : RoomState) → (counts_of room).sealed ≡ room.sealed
+unfolding counts_of
+counts_sealed room = refl
+
+-- what the policy is asked of the regions
+abbrev asked : ℕ → Counts → Bool → Space
+asked region_len counts pressed = record { region_len = region_len; free = counts.free; is_pressed = pressed; spare = 2; sealed = counts.sealed }
+
 pub named_by : (room : RoomState) (parts : List Part) (region_len : ℕ) (counts : Counts) (pressed : Bool) (answer : Option ℕ) → region_len ≡ room.region_len → counts ≡ counts_of room → pressed ≡ is_pressed room → parts ≡ room.parts
-    → Picks (question (record { region_len = region_len; free = counts.free; is_pressed = pressed; spare = 2 }) []) (neighbours parts) (aims_of (record { region_len = region_len; free = counts.free; is_pressed = pressed; spare = 2 })) answer
+    → Picks (question (asked region_len counts pressed) []) (neighbours parts) (aims_of (asked region_len counts pressed) parts) answer
     → IsNamed room answer
 named_by room parts region_len counts pressed answer len count press same h =
-    subst (λ x. Picks (question x []) (neighbours room.parts) (aims_of x) answer) space
-    (subst (λ ps. Picks (question (record { region_len = region_len; free = counts.free; is_pressed = pressed; spare = 2 }) []) (neighbours ps) (aims_of (record { region_len = region_len; free = counts.free; is_pressed = pressed; spare = 2 })) answer) same h)
+    subst (λ x. Picks (question x []) (neighbours room.parts) (aims_of x room.parts) answer) space
+    (subst (λ ps. Picks (question (asked region_len counts pressed) []) (neighbours ps) (aims_of (asked region_len counts pressed) ps) answer) same h)
   where
     free : counts.free ≡ length room.free
     free = ap (λ (c : Counts). c.free) count ∙ counts_free room
 
-    space : ◌≡◌ {A = Space} (record { region_len = region_len; free = counts.free; is_pressed = pressed; spare = 2 }) (space_of room)
-    space = λ i. record { region_len = len i; free = free i; is_pressed = press i; spare = 2 }
+    sealed : counts.sealed ≡ room.sealed
+    sealed = ap (λ (c : Counts). c.sealed) count ∙ counts_sealed room
+
+    space : ◌≡◌ {A = Space} (asked region_len counts pressed) (space_of room)
+    space = λ i. record { region_len = len i; free = free i; is_pressed = press i; spare = 2; sealed = sealed i }
 
 -- ---- merging on
 

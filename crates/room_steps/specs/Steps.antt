@@ -105,11 +105,11 @@ pub record SealsWaiting (old new : ShelfValue) (result : Result ℕ RunFault) : 
 
 -- as many free regions are spared as a new epoch asks for
 abbrev pub space_of : RoomState → Space
-space_of room = record { region_len = room.region_len; free = length room.free; is_pressed = is_pressed room; spare = 2 }
+space_of room = record { region_len = room.region_len; free = length room.free; is_pressed = is_pressed room; spare = 2; sealed = room.sealed }
 
 -- which neighbours the policy merges next, where none were measured: those at an epoch, or none
 abbrev pub IsNamed : RoomState → Option ℕ → Type 0
-IsNamed room answer = Picks (question (space_of room) []) (neighbours room.parts) (aims_of (space_of room)) answer
+IsNamed room answer = Picks (question (space_of room) []) (neighbours room.parts) (aims_of (space_of room) room.parts) answer
 
 -- nothing is retired, and no two neighbours fit what is free
 pub record NoneMerge (room : RoomValue) : Type 0 where

@@ -52,6 +52,7 @@ fn named<D: LogDisk>(room: &Room<D>) -> Option<u64>
         free: counts.free,
         is_pressed: room.pressed(),
         spare: SPARE,
+        sealed: counts.sealed,
     };
     next_merge(room.parts().as_slice(), space, &[])
 }

@@ -1,7 +1,8 @@
 #!/bin/sh
 # Prints what transactions of one `put` each cost on a hall on a disk in memory: those of one pass on one thread, and those of four passes on four threads,
 # each in a bucket of its own, as commits a second and as processor microseconds a transaction; beside them the same of a C program whose threads put as many
-# pairs into a hash table under one mutex, and copy a record of 32 bytes each into a buffer under it. The goal is at most 6 microseconds a transaction on
+# pairs into a hash table under one mutex, and copy a record of 32 bytes each into a buffer under it, and how often a bare lock is taken in turn by four threads that
+# change two cache lines each time: each commit is a turn of the room, so no more than that can be had. The goal is at most 6 microseconds a transaction on
 # one thread, and at least 2.5 times its commits a second with four threads, which wants four cores. Nothing is sealed, so no sync counts.
 #
 # Where nobody else is in its way such a transaction takes 2 compare-exchanges, 2 stores and 7 loads of words that other seats use, all sequentially consistent,
@@ -125,6 +126,55 @@ int main(int argc, char **argv) {
 }
 EOT
 
+cat > "$work/turns.c" <<'EOT'
+#include <pthread.h>
+#include <stdatomic.h>
+#include <stdio.h>
+#include <stdlib.h>
+#include <time.h>
+#include <immintrin.h>
+
+/* Threads that take a bare lock, by a load and a compare-exchange, change two cache lines and give it back by a store; each spends some fifty
+   nanoseconds of its own between. A commit is such a turn of the room, which changes the room's numbers and the end of the log at least. */
+enum { LINES = 2, THREADS = 4, OWN = 100 };
+static struct { _Alignas(128) atomic_long word; } lock;
+static struct { _Alignas(128) volatile long value; } lines[LINES];
+static long times;
+
+static void *work(void *arg) {
+    (void)arg;
+    for (long i = 0; i < times; i++) {
+        for (volatile long spent = 0; spent < OWN; spent++);
+        for (int tries = 0;;) {
+            long free = 0;
+            if (atomic_load(&lock.word) == 0 && atomic_compare_exchange_strong(&lock.word, &free, 1)) break;
+            for (int spin = 0; spin < 1 << (tries < 6 ? tries : 6); spin++) _mm_pause();
+            tries++;
+        }
+        for (long line = 0; line < LINES; line++) lines[line].value++;
+        atomic_store(&lock.word, 0);
+    }
+    return NULL;
+}
+
+static long now(void) {
+    struct timespec t;
+    clock_gettime(CLOCK_MONOTONIC, &t);
+    return t.tv_sec * 1000000000L + t.tv_nsec;
+}
+
+int main(int argc, char **argv) {
+    pthread_t threads[THREADS];
+    times = argc > 1 ? atol(argv[1]) : 0;
+    long start = now();
+    for (int i = 0; i < THREADS; i++)
+        if (pthread_create(&threads[i], NULL, work, NULL)) return 1;
+    for (int i = 0; i < THREADS; i++) pthread_join(threads[i], NULL);
+    printf("%ld\n", times * THREADS * 1000000000L / (now() - start));
+    return 0;
+}
+EOT
+
 cat > "$work/used.c" <<'EOT'
 #include <stdio.h>
 #include <sys/resource.h>
@@ -148,15 +198,18 @@ int main(int argc, char **argv) {
 EOT
 
 gcc -O2 -pthread -o "$work/peer" "$work/peer.c"
+gcc -O2 -pthread -o "$work/turns" "$work/turns.c"
 gcc -O2 -o "$work/used" "$work/used.c"
 proved engine_speed "epoch_room log_disk txn_engine hall_accounts"
 cd "$speed"
 timed() { "$work/used" "$@" | tr '\n' ' '; }
+# the median: threads that come late leave the lock to the others for a while
+turns=$(for turn in $(seq 1 9); do "$work/turns" $((count * 8)); done | sort -n | sed -n 5p)
 for turn in $(seq 1 9); do
   # a run without transactions shows what a hall costs, which is taken off
   for threads in one four; do timed out/engine_speed $threads 0; timed out/engine_speed $threads $count; timed "$work/peer" $threads 0; timed "$work/peer" $threads $count; done
   echo
-done | awk -v count="$count" '
+done | awk -v count="$count" -v turns="$turns" '
   NF != 24 { failed = 1 }
   $4 != count || $16 != 4 * count || $10 != count || $22 != 4 * count { failed = 1 }
   { for (i = 1; i <= 24; i++) if (NR == 1 || $i < best[i]) best[i] = $i }
@@ -173,5 +226,6 @@ done | awk -v count="$count" '
     line("C, one thread", 7, count)
     line("C, four threads", 19, 4 * count)
     printf "four threads to one: %.2f of its commits a second; C: %.2f; the goal is 2.5\n", wall(1, count) / wall(13, 4 * count), wall(7, count) / wall(19, 4 * count)
+    printf "C, a bare lock: %d turns a second on four threads, %.2f of the commits of one thread\n", turns, turns * wall(1, count) / 1000000000
     printf "to C on one thread: %.2f of its time; on four: %.2f\n", wall(1, count) / wall(7, count), wall(13, 4 * count) / wall(19, 4 * count)
   }'

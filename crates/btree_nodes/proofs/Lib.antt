@@ -28,3 +28,4 @@ pub mod SoundScans
 pub mod Scanned
 pub mod OnWalks
 pub mod LastUsed
+pub mod OwnKeys

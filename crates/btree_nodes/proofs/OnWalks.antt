@@ -1,5 +1,5 @@
 -- What a scan loads and uses: the numbers that it visits, of which on sound rows none is one that the rows leave broken.
-use Rattle.std.proofs.Common.{◌≡◌, ◌≢◌, ⊎_elim, ℕ, zero, suc, ◌+◌, ◌-◌, ◌<◌, ◌==◌, nat_lt, nat_le, ◌&&◌, not, Bool, true, false, cond, List, [], ◌∷◌, ◌++◌, length, drop, Some, None, Result, Ok, Err, refl, sym, ap, subst, ◌∙◌, true≢false, arith, ne_eqb, append-nil, append_assoc}
+use Rattle.std.proofs.Common.{◌≡◌, ◌≢◌, ⊎_elim, ℕ, zero, suc, ◌+◌, ◌-◌, ◌<◌, ◌==◌, nat_lt, nat_le, ◌&&◌, not, Bool, true, false, cond, List, [], ◌∷◌, ◌++◌, drop, Some, None, Result, Ok, Err, refl, sym, ap, subst, ◌∙◌, arith, ne_eqb}
 use Rattle.std.specs.Prelude.{Contains}
 use Rattle.std.proofs.lemmas.List.Elements.{Contains-append_left, Contains-append_right, Contains-append_cases}
 use Rattle.fine_model.specs.declared.Row.{Row}
@@ -7,7 +7,7 @@ use Rattle.fine_model.specs.declared.Node.{Node}
 use Rattle.fine_model.specs.declared.Node.TheVariants as node
 use Rattle.fine_model.specs.Map.{is_below}
 use Rattle.fine_model.specs.Nodes.{Content}
-use Rattle.fine_model.specs.Paths.{meets, is_inner, scan_from, scan_kids, seps_of}
+use Rattle.fine_model.specs.Paths.{meets, is_inner, scan_from, seps_of}
 use Rattle.fine_model.specs.Trees.{Bounds, whole, AllBetween, IsInner, IsSubtree, IsSound, kids_of, nodes_of}
 use Rattle.fine_model.proofs.Buckets.{HasTree, has_tree}
 use Rattle.node_cache.specs.Cache.{Cache, cached}
@@ -17,15 +17,15 @@ use Rattle.btree_nodes.specs.Descent.{bounds_by}
 use Rattle.btree_nodes.specs.Scans.{rest_bounds, visited_of}
 use Rattle.btree_nodes.specs.Trees.{Serves, Holds, LoadsAmong, AreUsed, last_used, without}
 use Rattle.btree_nodes.specs.Walks.{visited_kids, visited_from, visited_between, walk_in, LoadsOnWalk}
-use Rattle.btree_nodes.proofs.Loads.{none_or_some, loaded_given, contains_first, contains_more, contains_none, contains_one, contains_cases, among_more, among_both, among_on}
+use Rattle.btree_nodes.proofs.Loads.{none_or_some, loaded_given, contains_first, contains_none, contains_one, contains_cases, among_more, among_both, among_on}
 use Rattle.btree_nodes.proofs.Held.{agrees_loaded, holds_loaded}
 use Rattle.btree_nodes.proofs.OnWays.{given_none, head_whole}
 use Rattle.btree_nodes.proofs.Paths.{SaysHead}
-use Rattle.btree_nodes.proofs.Scanned.{IsChildOf, cut_off, inner_stays}
-use Rattle.btree_nodes.proofs.ScanHeads.{Opens, wants, open_head}
+use Rattle.btree_nodes.proofs.Scanned.{IsChildOf, cut_off}
+use Rattle.btree_nodes.proofs.ScanHeads.{wants, open_head}
 use Rattle.btree_nodes.proofs.ScanSteps.{first}
 use Rattle.btree_nodes.proofs.Sound.{leaf_whole, cached_of_whole}
-use Rattle.btree_nodes.proofs.Walked.{visit, visited_go, visited_stop, visited_none, walk_from, walk_on, walk_part, same_walk}
+use Rattle.btree_nodes.proofs.Walked.{visit, visited_go, visited_stop, visited_none, walk_on, walk_part, same_walk}
 use Rattle.btree_nodes.proofs.Ways.{used_then}
 
 -- numbers that are used one after the other

@@ -5,6 +5,7 @@ use Rattle.std.specs.List.{AllByRecursion, list_any}
 use Rattle.fine_model.specs.declared.Rec.{Rec}
 use Rattle.fine_model.specs.declared.Rec.TheVariants as rec
 use Rattle.fine_model.specs.declared.Row.{Row}
+use Rattle.fine_model.specs.Trees.{bucket_of}
 use Rattle.fine_model.specs.Nodes.{Content, replay, step, rows_of}
 use Rattle.node_cache.specs.declared.cached.Cached.{Cached}
 use Rattle.node_cache.specs.Cache.{Cache, cached, original, before, rewritten, IsSaved}
@@ -53,6 +54,13 @@ pub record HoldsPlace (old new : Cache) (number : ℕ) : Type 0 where
   pub others : (n : ℕ) → n ≢ number → cached new n ≡ cached old n
   pub saves : Saves old new
   pub saved : ((n : ℕ) → is_some (original new n) ≡ is_some (original old n)) ⊎ ((n : ℕ) → is_some (original new n) ≡ (is_some (original old n) || nat_eq number n))
+
+-- a change of one pair of a leaf, whose key is of a bucket
+abbrev pub IsOwnChange : ℕ → Rec → Type 0
+IsOwnChange bucket (rec.Put key value) = bucket ≡ bucket_of key
+IsOwnChange bucket (rec.Del key) = bucket ≡ bucket_of key
+IsOwnChange bucket (rec.Plus key by) = bucket ≡ bucket_of key
+IsOwnChange bucket _ = ⊥
 
 -- a row is an image, whatever stood before
 abbrev pub is_image : Rec → Bool

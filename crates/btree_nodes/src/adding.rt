@@ -12,7 +12,7 @@ ghost use Rattle.node_cache.specs.Given.{given};
 ghost use Rattle.btree_nodes.specs.Trees.{Serves, Holds, IsPath, pairs_in};
 ghost use Rattle.btree_nodes.specs.Calls.{Outcome, IsChange, OnCleanAnswer, SoundOutcome, is_sum};
 
-use crate::change::{next_version, push_row};
+use crate::change::{next_version, push_pair};
 use crate::fault::TreeFault;
 use crate::insertion::put_at;
 use crate::leaf::value_in;
@@ -63,6 +63,7 @@ fn add_at(
     path: Path,
 ) -> Result<Reply, TreeFault>
     requires key { FitsKey key.now }
+    requires own { bucket.old.bucket ≡ bucket_of key.now }
     requires path { IsPath bucket.old key.now path }
     requires there { has (pairs_in bucket.old key.now) key.now ≡ true }
     ensures outcome { Outcome bucket.old bucket.new log.old log.new (call.Add key.now by) (λ reply. reply ≡ (answer (pairs_in bucket.old key.now) (call.Add key.now by)).0) (λ _. ⊥) result }
@@ -82,7 +83,7 @@ fn add_at(
             by,
         },
     };
-    push_row(alloc, bucket, log, row)?;
+    push_pair(alloc, bucket, log, row)?;
     Ok(reply)
 }
 
@@ -96,6 +97,7 @@ fn add_new(
     path: Path,
 ) -> Result<Reply, TreeFault>
     requires key { FitsKey key.now }
+    requires own { bucket.old.bucket ≡ bucket_of key.now }
     requires path { IsPath bucket.old key.now path }
     requires absent { has (pairs_in bucket.old key.now) key.now ≡ false }
     ensures outcome { Outcome bucket.old bucket.new log.old log.new (call.Add key.now by) (λ reply. reply ≡ (answer (pairs_in bucket.old key.now) (call.Add key.now by)).0) (λ _. ⊥) result }
@@ -115,6 +117,7 @@ fn add_in(
     path: Path,
 ) -> Result<Reply, TreeFault>
     requires key { FitsKey key.now }
+    requires own { bucket.old.bucket ≡ bucket_of key.now }
     requires path { IsPath bucket.old key.now path }
     ensures outcome { Outcome bucket.old bucket.new log.old log.new (call.Add key.now by) (λ reply. reply ≡ (answer (pairs_in bucket.old key.now) (call.Add key.now by)).0) (λ _. ⊥) result }
 {

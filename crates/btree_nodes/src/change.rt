@@ -1,12 +1,14 @@
 //! Rows that are pushed, and what they do to the nodes of a bucket.
 
 ghost use Rattle.std.specs.Prelude.{◌≡◌, ◌≢◌, ℕ, ◌+◌, ◌<◌, ◌≤◌, [], ◌∷◌, ◌++◌, OnOk, OnErr, IsOk, MatchResult};
+ghost use Rattle.std.specs.Bool.{OnTrue};
 ghost use Rattle.std.specs.List.{AllByRecursion};
 ghost use Rattle.fine_model.specs.Nodes.{step};
 ghost use Rattle.fine_model.specs.RowBytes.{FitsRec, greatest};
 ghost use Rattle.node_cache.specs.Cache.{cached, IsSaved};
 ghost use Rattle.node_cache.specs.Given.{given, IsCached};
-ghost use Rattle.btree_nodes.specs.Changes.{Saves, Pushes, IsChanged, HoldsPlace, IsReady, AreReady};
+ghost use Rattle.node_cache.specs.Marked.{HasOwnKeys};
+ghost use Rattle.btree_nodes.specs.Changes.{Saves, Pushes, IsChanged, IsOwnChange, HoldsPlace, IsReady, AreReady};
 ghost use Rattle.btree_nodes.specs.declared.fault.TreeFault.TheVariants as fault_of;
 
 use crate::fault::TreeFault;
@@ -98,6 +100,39 @@ pub fn push_row(
 {
     change_cached(alloc, bucket, &row)?;
     log.keep(row)
+}
+
+/// Notes again what was known of a leaf's keys.
+fn note_again(bucket: &mut Bucket, number: u32, are_own: bool)
+    requires { OnTrue are_own (HasOwnKeys bucket.old.bucket (given bucket.old number).0) }
+    ensures { bucket.new ≡ bucket.old }
+{
+    if are_own {
+        bucket.note_own_keys(number);
+    }
+}
+
+/// Pushes a row that changes one pair of a cached leaf, as `push_row` does. That all keys of the leaf are of the bucket stays known.
+pub fn push_pair(
+    alloc: Global,
+    bucket: &mut Bucket,
+    log: &mut PrivateLog,
+    row: Row,
+) -> Result<(), NoMemory>
+    requires of_bucket { row.node.bucket ≡ bucket.old.bucket }
+    requires there { IsCached bucket.old row.node.number }
+    requires rec { FitsRec row.rec }
+    requires version { row.version ≤ greatest }
+    requires own { IsOwnChange bucket.old.bucket row.rec }
+    ensures saves { Saves bucket.old bucket.new }
+    ensures pushes { OnOk result (Pushes bucket.old bucket.new (row ∷ [])) }
+    ensures log { OnOk result (log.new ≡ log.old ++ row ∷ []) }
+{
+    let number = row.node.number;
+    let are_own = bucket.has_own_keys(number);
+    push_row(alloc, bucket, log, row)?;
+    note_again(bucket, number, are_own);
+    Ok(())
 }
 
 /// Caches a broken node under a number where none is cached, to be replaced by an image.

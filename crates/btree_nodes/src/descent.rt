@@ -131,7 +131,7 @@ pub fn reach<S: NodeSource>(
     }
 }
 
-/// Whether a cached node is a fit leaf.
+/// Whether a cached node is a fit leaf. Where it is known that all its keys are of the bucket, it looks at the first and the last one alone.
 #[tactic(auto, unfolding(node_cache::specs::Given::given))]
 pub fn is_leaf_within(bucket: &Bucket, low: Option<Sep>, high: Option<Sep>, number: u32) -> bool
     ensures { result ≡ is_leaf bucket.now.bucket (bounds_by (given bucket.now) low high) (given bucket.now number).0 }
@@ -139,6 +139,7 @@ pub fn is_leaf_within(bucket: &Bucket, low: Option<Sep>, high: Option<Sep>, numb
     match bucket.peek(number) {
         Some(kept) => is_fit_leaf(
             bucket.bucket(),
+            bucket.has_own_keys(number),
             bound(bucket, low),
             bound(bucket, high),
             &kept.node,

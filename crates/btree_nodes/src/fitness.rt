@@ -1,11 +1,13 @@
 //! Whether a node on a way is fit.
 
-ghost use Rattle.std.specs.Prelude.{◌≡◌, ◌==◌, nat_lt, ◌&&◌, IsTrue, map, option_copied};
+ghost use Rattle.std.specs.Prelude.{◌≡◌, ◌==◌, true, nat_lt, ◌&&◌, IsTrue, map, option_copied};
+ghost use Rattle.std.specs.Bool.{OnTrue};
 ghost use Rattle.std.specs.List.{list_all};
 ghost use Rattle.fine_model.specs.Map.{is_ascending};
 ghost use Rattle.fine_model.specs.Paths.{is_inner};
 ghost use Rattle.fine_model.specs.Trees.{is_leaf, is_from, is_above, is_up_to, bucket_of};
 ghost use Rattle.node_record.specs.Bounds.{FitsNode};
+ghost use Rattle.node_cache.specs.Marked.{HasOwnKeys};
 
 use crate::hash::bucket_number;
 use fine_model::{Bytes, Node};
@@ -56,23 +58,31 @@ fn are_within(low: Option<&Bytes>, high: Option<&Bytes>, pairs: &[(Bytes, Bytes)
     is_from(low, first.0.as_slice()) && is_up_to(high, last.0.as_slice())
 }
 
-/// Whether the keys of pairs belong to a bucket.
-fn are_of(bucket: u16, pairs: &[(Bytes, Bytes)]) -> bool
+/// Whether the keys of pairs belong to a bucket, which may be known.
+fn are_of(bucket: u16, are_own: bool, pairs: &[(Bytes, Bytes)]) -> bool
+    requires { OnTrue are_own (list_all (λ p. bucket_of p.0 == bucket) pairs.now ≡ true) }
     ensures { result ≡ list_all (λ p. bucket_of p.0 == bucket) pairs.now }
 {
-    pairs.iter().all(|pair| u16::from(bucket_number(pair.0.as_slice())) == bucket)
+    are_own || pairs.iter().all(|pair| u16::from(bucket_number(pair.0.as_slice())) == bucket)
 }
 
 /// Whether a node is a leaf whose keys ascend, lie within bounds and belong to a bucket. Those of a node within the format's bounds
-/// ascend.
-pub fn is_fit_leaf(bucket: u16, low: Option<&Bytes>, high: Option<&Bytes>, node: &Node) -> bool
-    requires { FitsNode node.now }
+/// ascend, and that they belong to the bucket may be known.
+pub fn is_fit_leaf(
+    bucket: u16,
+    are_own: bool,
+    low: Option<&Bytes>,
+    high: Option<&Bytes>,
+    node: &Node,
+) -> bool
+    requires fits { FitsNode node.now }
+    requires own { OnTrue are_own (HasOwnKeys bucket node.now) }
     ensures { result ≡ is_leaf bucket (record { low = option_copied low.entry; high = option_copied high.entry }) node.now }
 {
     match node {
         Node::Leaf { pairs } => {
             let pairs = pairs.as_slice();
-            are_within(low, high, pairs) && are_of(bucket, pairs)
+            are_within(low, high, pairs) && are_of(bucket, are_own, pairs)
         }
         _ => false,
     }

@@ -13,7 +13,7 @@ ghost use Rattle.btree_nodes.specs.Trees.{Serves, Holds, IsPath, first_over};
 ghost use Rattle.btree_nodes.specs.Growths.{pushed_of, has_room, Limits};
 ghost use Rattle.btree_nodes.specs.Calls.{Outcome, IsChange, OnCleanAnswer, SoundOutcome};
 
-use crate::change::{next_version, push_all, push_row};
+use crate::change::{next_version, push_all, push_pair};
 use crate::fault::TreeFault;
 use crate::growth::{Growth, grow, has_room, row_of, version_of};
 use crate::tree::{Path, find_leaf};
@@ -134,6 +134,7 @@ fn put_in_leaf(
 ) -> Result<(), TreeFault>
     requires key { FitsKey key.now }
     requires value { FitsValue value.now }
+    requires own { bucket.old.bucket ≡ bucket_of key.now }
     requires path { IsPath bucket.old key.now path }
     requires room { IsTrue (has_room (pairs_of (given bucket.old path.leaf).0) key.now) }
     ensures outcome { Outcome bucket.old bucket.new log.old log.new (call.Put key.now value.now) (λ _. Unit {0}) (λ _. ⊥) result }
@@ -149,7 +150,7 @@ fn put_in_leaf(
             value: bytes_of(alloc, value)?,
         },
     };
-    push_row(alloc, bucket, log, row)?;
+    push_pair(alloc, bucket, log, row)?;
     Ok(())
 }
 
@@ -193,6 +194,7 @@ pub fn put_at(
 ) -> Result<(), TreeFault>
     requires key { FitsKey key.now }
     requires value { FitsValue value.now }
+    requires own { bucket.old.bucket ≡ bucket_of key.now }
     requires path { IsPath bucket.old key.now path }
     ensures outcome { Outcome bucket.old bucket.new log.old log.new (call.Put key.now value.now) (λ _. Unit {0}) (λ _. ⊥) result }
 {

@@ -10,7 +10,7 @@ ghost use Rattle.node_cache.specs.Given.{given, IsCached};
 ghost use Rattle.btree_nodes.specs.Trees.{Serves, Holds, IsPath, pairs_in};
 ghost use Rattle.btree_nodes.specs.Calls.{Outcome, IsChange, OnCleanAnswer, SoundOutcome};
 
-use crate::change::{next_version, push_row};
+use crate::change::{next_version, push_pair};
 use crate::fault::TreeFault;
 use crate::leaf::value_in;
 use crate::tree::{Path, find_leaf};
@@ -28,6 +28,7 @@ fn remove_at(
     path: Path,
 ) -> Result<bool, TreeFault>
     requires key { FitsKey key.now }
+    requires own { bucket.old.bucket ≡ bucket_of key.now }
     requires path { IsPath bucket.old key.now path }
     ensures outcome { Outcome bucket.old bucket.new log.old log.new (call.Del key.now) (λ there. there ≡ has (pairs_in bucket.old key.now) key.now) (λ _. ⊥) result }
 {
@@ -44,7 +45,7 @@ fn remove_at(
             key: bytes_of(alloc, key)?,
         },
     };
-    push_row(alloc, bucket, log, row)?;
+    push_pair(alloc, bucket, log, row)?;
     Ok(true)
 }
 

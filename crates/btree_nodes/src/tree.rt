@@ -36,7 +36,7 @@ pub fn head_of(bucket: &Bucket) -> Option<(u32, u32, u8)>
     }
 }
 
-/// Goes from the head of a tree down to the leaf in which a key belongs.
+/// Goes from the head of a tree down to the leaf in which a key belongs, and notes that all keys of this leaf are of the bucket.
 pub fn find_leaf<S: NodeSource>(
     source: &mut S,
     bucket: &mut Bucket,
@@ -59,6 +59,7 @@ pub fn find_leaf<S: NodeSource>(
         return Err(TreeFault::Unfit { node: unfit });
     };
     let leaf = descend(source, bucket, next, key, None, None, root, depth - 1)?;
+    bucket.note_own_keys(leaf);
     Ok(Path {
         root,
         next,

@@ -176,3 +176,9 @@ module _ (nodes nodes' : List (ℕ × Cached)) (saved saved' : List (ℕ × Orig
   before_then (Ok true) change q = before_changed nodes nodes' saved saved' row change.1 q
   before_then (Ok false) change q = λ i. unwrap_or (lookup (nat_eq q) (originals (change.1.same_saved i))) (lookup (nat_eq q) (change.1.same_nodes i))
   before_then (Err e) change q = λ i. unwrap_or (lookup (nat_eq q) (originals (change.same_saved i))) (lookup (nat_eq q) (change.same_nodes i))
+
+  -- all other nodes are as they were
+  pub others_then : (r : Result Bool NoMemory) → ChangesPair r nodes nodes' saved saved' row → (q : ℕ) → nat_eq row.node.number q ≡ false → lookup (nat_eq q) nodes' ≡ lookup (nat_eq q) nodes
+  others_then (Ok true) change q differs = other_nodes nodes nodes' saved saved' row change.1 q differs
+  others_then (Ok false) change q differs = ap (lookup (nat_eq q)) change.1.same_nodes
+  others_then (Err e) change q differs = ap (lookup (nat_eq q)) change.same_nodes

@@ -7,3 +7,4 @@ pub mod Codes
 pub mod Changing
 pub mod Given
 pub mod Lent
+pub mod Marked

@@ -9,16 +9,19 @@ ghost use Rattle.fine_model.specs.RowBytes.{FitsRec, greatest};
 ghost use Rattle.indexmap.specs.IndexMap.{IsUnique};
 ghost use Rattle.node_cache.specs.Entries.{as_saved, stamped_at, settled_entry, is_published, without_first};
 ghost use Rattle.node_cache.specs.Originals.{originals, IsKept};
+ghost use Rattle.node_cache.specs.Marked.{AreMarked};
 ghost use Rattle.std.specs.Borrow.{sem};
 
 use changing::change_pair;
 use fine_model::{BucketLaw, Copied, NoMemory, Row};
 use indexmap::IndexMap;
+use marks::Marks;
 use std::alloc::Global;
 use std::marker::Model;
 
 mod cached;
 mod changing;
+mod marks;
 mod original;
 mod pairs;
 mod source;
@@ -31,17 +34,21 @@ pub use source::NodeSource;
 
 /// The cached nodes of a bucket by number, the least recently used first, and the originals of those that were saved.
 ///
-/// A number is saved before its first change in a transaction. `undo` then takes the changes back, and `settle` keeps them.
+/// A number is saved before its first change in a transaction. `undo` then takes the changes back, and `settle` keeps them. Beside
+/// its nodes a bucket keeps of which cached leaves it is known that all their keys are of the bucket, which shows in no clause but
+/// that of `has_own_keys`.
 #[derive(Drop)]
 pub struct Bucket {
     bucket: u16,
     nodes: IndexMap<u32, Cached>,
     saved: IndexMap<u32, Original>,
+    marks: Marks,
 }
 
 impl Model for Bucket {
     ghost use Rattle.node_cache.specs.Cache.{Cache};
-    ghost use Rattle.node_cache.specs.Originals.{originals, IsKept};
+    ghost use Rattle.node_cache.specs.Originals.{originals};
+    ghost use Rattle.node_cache.specs.Marked.{IsInside};
     ghost use Rattle.node_cache.specs.Codes.{cache_code};
 
     ghost Value = { Cache };
@@ -50,7 +57,7 @@ impl Model for Bucket {
 
     ghost view = { λ b. record { bucket = b.bucket; nodes = b.nodes.entries; saved = originals b.saved.entries } };
 
-    ghost invariant = { λ b. IsKept b.nodes.entries b.saved.entries };
+    ghost invariant = { λ b. IsInside b.bucket b.nodes.entries b.saved.entries b.marks };
 }
 
 impl BucketLaw for Bucket {
@@ -67,6 +74,7 @@ impl Bucket {
     ghost use Rattle.node_cache.specs.Cache.{Cache, IsCache, cached, original, before, after, IsSaved, IsResting, touched, with_node, saving, undone, settled, evicted};
     ghost use Rattle.node_cache.specs.Changing.{changes_cached, IsPairChange};
     ghost use Rattle.node_cache.specs.Lent.{EndsTouched, LendsNode};
+    ghost use Rattle.node_cache.specs.Marked.{HasOwnKeys};
 
     /// A bucket that caches nothing, of this number. It takes no memory.
     pub fn new(alloc: Global, bucket: u16) -> Bucket
@@ -76,6 +84,7 @@ impl Bucket {
             bucket,
             nodes: IndexMap::new(alloc),
             saved: IndexMap::new(alloc),
+            marks: Marks::new(alloc),
         }
     }
 
@@ -99,6 +108,22 @@ impl Bucket {
         ensures { option_copied result ≡ cached self.now number }
     {
         self.nodes.get(&number)
+    }
+
+    /// Whether it is known that all keys of the leaf that is cached of a number are of this bucket, as `note_own_keys` noted it and
+    /// nothing has changed the leaf since.
+    pub fn has_own_keys(&self, number: u32) -> bool
+        ensures { OnTrue result (IfSome (cached self.now number) (λ kept. HasOwnKeys self.now.bucket kept.node)) }
+    {
+        self.marks.has(number)
+    }
+
+    /// Notes that all keys of the leaf that is cached of a number are of this bucket. Where memory is wanting it is not noted.
+    pub fn note_own_keys(&mut self, number: u32)
+        requires { IfSome (cached self.old number) (λ kept. HasOwnKeys self.old.bucket kept.node) }
+        ensures { self.new ≡ self.old }
+    {
+        self.marks.add(number);
     }
 
     /// Makes a number the last used, and answers whether it is cached. It takes no memory.
@@ -138,6 +163,7 @@ impl Bucket {
         ensures err { OnErr result (self.new ≡ self.old) }
     {
         keep_whole(&self.nodes, &mut self.saved, number)?;
+        self.marks.take(number);
         self.nodes.insert(number, kept)?;
         self.touch(number);
         Ok(())
@@ -169,6 +195,7 @@ impl Bucket {
         ensures* writes_back { sem 𝓛 (LendsNode self.entry number result) }
     {
         keep_whole(&self.nodes, &mut self.saved, number)?;
+        self.marks.take(number);
         match self.nodes.get_mut(&number) {
             Some(kept) => Ok(kept),
             None => Err(NoMemory),
@@ -189,6 +216,7 @@ impl Bucket {
         ensures same { IfOk result (λ done. OnFalse done (self.new ≡ self.old)) }
         ensures err { OnErr result (self.new ≡ self.old) }
     {
+        self.marks.take(row.node.number);
         change_pair(&mut self.nodes, &mut self.saved, row)
     }
 
@@ -198,7 +226,7 @@ impl Bucket {
         ensures nodes { self.new ≡ undone self.old }
         ensures restored { (n : ℕ) → cached self.new n ≡ before self.old n }
     {
-        restore_all(&mut self.nodes, &mut self.saved);
+        restore_all(&mut self.nodes, &mut self.saved, &mut self.marks);
     }
 
     /// Keeps all that was done since numbers were saved: each of these nodes has this epoch, and what was saved is forgotten. It
@@ -236,14 +264,20 @@ fn copy_of(kept: Option<&Cached>) -> Result<Option<Cached>, NoMemory>
     }
 }
 
-/// Puts each node back as it was saved.
-fn restore_all(nodes: &mut IndexMap<u32, Cached>, saved: &mut IndexMap<u32, Original>)
+/// Puts each node back as it was saved, and takes its mark away.
+fn restore_all(
+    nodes: &mut IndexMap<u32, Cached>,
+    saved: &mut IndexMap<u32, Original>,
+    marks: &mut Marks,
+)
     requires { IsKept nodes.old.entries saved.old.entries }
     ensures nodes { nodes.new.entries ≡ filter_map (as_saved (originals saved.old.entries)) nodes.old.entries }
     ensures unique { IsUnique nat_eq nodes.new }
     ensures saved { saved.new.entries ≡ [] }
+    ensures marks { (bucket : ℕ) → AreMarked bucket marks.old nodes.old.entries → AreMarked bucket marks.new nodes.new.entries }
 {
     while let Some((number, original)) = saved.pop() {
+        marks.take(number);
         restore(nodes, number, original);
     }
 }

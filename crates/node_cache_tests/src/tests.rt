@@ -1,5 +1,6 @@
 ghost use Rattle.std.specs.Prelude.{◌≡◌, ◌≤◌, [], IfOk, length};
 ghost use Rattle.fine_model.specs.RowBytes.{greatest};
+ghost use Rattle.fine_model.specs.declared.Node.TheVariants as node;
 
 use fine_model::{Bytes, Items, Node, NodeId, Pairs, Rec, Row};
 use node_cache::{Bucket, Cached};
@@ -9,6 +10,7 @@ use std::test::*;
 /// An empty leaf of this version, last changed in this epoch.
 fn leaf(alloc: Global, version: u64, epoch: u64) -> Cached
     requires { version ≤ greatest }
+    ensures { result.node ≡ node.Leaf [] }
 {
     Cached {
         node: Node::Leaf {
@@ -107,6 +109,47 @@ fn settle_stamps_what_was_saved(rt: HostRuntime) -> Result<(), Fail> {
     assert_eq!(rt; bucket.len(), 1);
     assert!(rt; bucket.peek(1).is_some());
     assert!(rt; bucket.peek(2).is_none());
+    Ok(())
+}
+
+/// A bucket that notes of nodes 1 and 2, empty leaves, that all their keys are of the bucket.
+fn noted(alloc: Global) -> Result<Bucket, Fail> {
+    let mut bucket = Bucket::new(alloc, 64);
+    bucket.put(1, leaf(alloc, 1, 1)).ok().ok_or("memory")?;
+    bucket.note_own_keys(1);
+    bucket.put(2, leaf(alloc, 1, 1)).ok().ok_or("memory")?;
+    bucket.note_own_keys(2);
+    Ok(bucket)
+}
+
+/// Of which of nodes 1 and 2 it is known that all their keys are of the bucket.
+fn known(bucket: &Bucket) -> (bool, bool) {
+    (bucket.has_own_keys(1), bucket.has_own_keys(2))
+}
+
+#[test]
+fn what_is_known_of_keys_goes_with_a_change(rt: HostRuntime) -> Result<(), Fail> {
+    let alloc = rt.alloc();
+    let mut bucket = noted(alloc)?;
+    assert!(rt; known(&bucket) == (true, true));
+    bucket.put(1, leaf(alloc, 1, 1)).ok().ok_or("memory")?;
+    assert!(rt; known(&bucket) == (false, true));
+    set_version(&mut bucket, 2, 4)?;
+    assert!(rt; known(&bucket) == (false, false));
+    Ok(())
+}
+
+#[test]
+fn what_is_known_of_keys_stays_otherwise(rt: HostRuntime) -> Result<(), Fail> {
+    let mut bucket = noted(rt.alloc())?;
+    bucket.save(1).ok().ok_or("memory")?;
+    assert!(rt; bucket.touch(1));
+    bucket.settle(5);
+    bucket.evict(0, 0);
+    assert!(rt; known(&bucket) == (true, true));
+    bucket.save(1).ok().ok_or("memory")?;
+    bucket.undo();
+    assert!(rt; known(&bucket) == (false, true));
     Ok(())
 }
 

@@ -2,7 +2,7 @@
 
 ghost use Rattle.std.specs.Prelude.{IfOk};
 
-use super::fixtures::{add, del, get, tree_of};
+use super::fixtures::{add, del, get, put, tree_of};
 use fine_model::Reply;
 use std::test::*;
 
@@ -27,5 +27,22 @@ fn a_number_is_added_to_a_key(rt: HostRuntime) -> Result<(), Fail> {
     let rows =
         b"\x04\x00\x40\x00\x00\x00\x01\x00\x00\x00\x00\x00\x00\x00\x01\x00\x00\x00\x0e\x0aAaAaAaAaAa\x00\x015\x09\x00\x40\x00\x00\x00\x01\x00\x00\x00\x00\x00\x00\x00\x02\x00\x00\x00\x13\x0aAaAaAaAaAa\x00\x00\x00\x00\x00\x00\x00\x02";
     assert_eq!(rt; tree.log.bytes(), rows.as_slice());
+    Ok(())
+}
+
+#[test]
+fn what_is_known_of_a_leaf_stays_known(rt: HostRuntime) -> Result<(), Fail> {
+    let mut tree = tree_of(rt.alloc(), b"")?;
+    assert!(rt; !tree.bucket.has_own_keys(1));
+    assert!(rt; matches!(get(&mut tree, KEY), Ok(None)));
+    assert!(rt; tree.bucket.has_own_keys(1));
+    assert!(rt; put(&mut tree, KEY, b"5").is_ok());
+    assert!(rt; tree.bucket.has_own_keys(1));
+    assert!(rt; matches!(add(&mut tree, KEY, 2), Ok(Reply::Sum { sum: 7 })));
+    assert!(rt; tree.bucket.has_own_keys(1));
+    assert!(rt; matches!(del(&mut tree, KEY), Ok(true)));
+    assert!(rt; tree.bucket.has_own_keys(1));
+    tree.bucket.undo();
+    assert!(rt; !tree.bucket.has_own_keys(1));
     Ok(())
 }

@@ -4,12 +4,13 @@ use Rattle.std.specs.Map.{lookup}
 use Rattle.std.specs.Option.{option_to_list}
 use Rattle.node_cache.specs.Entries.{as_saved}
 use Rattle.node_cache.specs.Originals.{original_of, originals, Stands}
-use Rattle.node_cache.proofs.Kept.{originals_pushed, finds_originals, stands_changed, popped_here, popped_stands}
+use Rattle.node_cache.proofs.Kept.{originals_pushed, finds_originals, stands_changed, popped_here, popped_stands, other_restored}
+use Rattle.node_cache.proofs.Marked.{marked_but}
 use Rattle.node_cache.proofs.Restored.{is_last, emptied, restored_one, none_saved}
 use Rattle.node_cache.proofs.restore_all.Goals as goal
 
 pub loop-number-init : goal.loop-number-init
-loop-number-init c = record { nodes = refl; unique = c.requires.distinct; stands = c.requires.stands }
+loop-number-init c = record { nodes = refl; unique = c.requires.distinct; marks = λ bucket marked. marked; stands = c.requires.stands }
 
 pub restore-requires : goal.restore-requires
 restore-requires c =
@@ -32,6 +33,9 @@ loop-number-preserved c =
     record {
       nodes = ap (filter_map (as_saved (originals rest))) c.restore.ensures.nodes ∙ restored_one (originals saved) (originals rest) k (original_of o) last c.loop-number.nodes.entries c.loop-number.invariant.unique ∙ c.loop-number.invariant.nodes;
       unique = c.restore.ensures.unique;
+      marks = λ bucket marked.
+          marked_but bucket c.loop-number.marks c.take.new.self c.loop-number.nodes.entries c.restore.new.nodes.entries (c.loop-number.invariant.marks bucket marked) k c.take.ensures
+          (λ q differs. ap (lookup (nat_eq q)) c.restore.ensures.nodes ∙ other_restored k q differs (original_of o) c.loop-number.nodes.entries);
       stands = popped_stands saved rest k (original_of o) c.loop-number.nodes.entries c.restore.new.nodes.entries (c.in-Some.ensures).updates.0 c.restore.ensures.nodes c.loop-number.invariant.stands;
     }
 

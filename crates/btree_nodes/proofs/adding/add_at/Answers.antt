@@ -50,8 +50,8 @@ returns c =
         record {
           rows = mine ∷ [];
           is_pushed = plus_pushed b key c.args.by path is c.requires.there sum (subst (λ v. v ≤ 4611686018427387904) version.0 version.1) ∙ ap (λ row. Ok (row ∷ [])) (sym same);
-          behind = (c.in_ok-push_row.ensures).log;
-          pushes = (c.in_ok-push_row.ensures).pushes;
+          behind = (c.in_ok-push_pair.ensures).log;
+          pushes = (c.in_ok-push_pair.ensures).pushes;
           fits = subst (λ row. FitsLog b.bucket (row ∷ [])) (sym same) (leaf_fits b key path is (rec.Plus key c.args.by) (c.requires.key, c.ranges.by) (λ e. omega (arith, e)) (subst (λ v. v ≤ 4611686018427387904) version.0 version.1));
         },
       );

@@ -35,8 +35,8 @@ returns c =
         record {
           rows = mine ∷ [];
           is_pushed = put_one b key value path is c.requires.room small ∙ ap (λ row. Ok (row ∷ [])) (sym same);
-          behind = c.in_ok-push_row.ensures.log;
-          pushes = c.in_ok-push_row.ensures.pushes;
+          behind = c.in_ok-push_pair.ensures.log;
+          pushes = c.in_ok-push_pair.ensures.pushes;
           fits = subst (λ row. FitsLog b.bucket (row ∷ [])) (sym same) (leaf_fits b key path is (rec.Put key value) (c.requires.key, c.requires.value) (λ e. omega (arith, e)) small);
         },
       );

@@ -1,12 +1,14 @@
 use Rattle.std.proofs.Common.{ℕ, ◌<◌, Err, refl, sym, subst, ◌∙◌}
 use Rattle.std.proofs.lemmas.Result.{err_from_is_err_and}
 use Rattle.node_cache.specs.Given.{given, IsCached}
+use Rattle.node_cache.specs.Marked.{HasOwnKeys}
 use Rattle.btree_nodes.specs.Calls.{IsFirstUnfit}
 use Rattle.btree_nodes.specs.declared.tree.Path.{Path}
 use Rattle.btree_nodes.proofs.Loads.{loaded_given, loaded_kept, loaded_then}
 use Rattle.btree_nodes.proofs.SoundCalls.{clean_map, clean_fault}
 use Rattle.btree_nodes.proofs.Ways.{among_head, used_under}
 use Rattle.btree_nodes.proofs.Paths.{SaysHead, head_some, head_none, way_path, way_from_head, fault_under}
+use Rattle.btree_nodes.proofs.OwnKeys.{own_cached, own_end}
 use Rattle.btree_nodes.proofs.tree.find_leaf.Goals as goal
 
 pub returns-in_default-clause-path : goal.returns-in_default-clause-path
@@ -34,7 +36,7 @@ returns-clause-path g c =
     let same = loaded_given _ _ _ c.reach.new.bucket b c.descend.ensures.loaded 0 here in
     let says = subst (λ k. SaysHead k.0 c.in-Some.root c.in-Some.next c.in-Some.depth) (sym same) (head_some (given c.reach.new.bucket 0).0 (c.in-Some.root, c.in-Some.next, c.in-Some.depth) c.in-Some.ensures) in
     let of_bucket : b.bucket < 256 = subst (λ (k : ℕ). k < 256) (sym (c.descend.ensures.loaded.bucket ∙ c.reach.ensures.loaded.bucket)) c.requires.bucket in
-    way_path b c.args.key.now c.in-Some.root c.in-Some.next c.in-Some.depth then_here says c.in_ok-leaf.leaf of_bucket (c.in_ok-leaf.ensures).way
+    rw c.note_own_keys.ensures (way_path b c.args.key.now c.in-Some.root c.in-Some.next c.in-Some.depth then_here says c.in_ok-leaf.leaf of_bucket (c.in_ok-leaf.ensures).way)
 
 pub returns-in_err-reach-clause-on_way : goal.returns-in_err-reach-clause-on_way
 returns-in_err-reach-clause-on_way g c = among_head _ _ _ _ _ c.reach.ensures.among
@@ -56,7 +58,7 @@ returns-clause-on_way g c =
     let here : IsCached c.reach.new.bucket 0 = (c.in_ok-reach.ensures).there in
     let same = loaded_given _ _ _ c.reach.new.bucket b c.descend.ensures.loaded 0 here in
     let says = subst (λ k. SaysHead k.0 c.in-Some.root c.in-Some.next c.in-Some.depth) (sym same) (head_some (given c.reach.new.bucket 0).0 (c.in-Some.root, c.in-Some.next, c.in-Some.depth) c.in-Some.ensures) in
-    way_from_head c.args.bucket.now c.reach.new.bucket b c.args.key.now c.in-Some.root c.in-Some.next c.in-Some.depth says c.reach.ensures.among c.descend.ensures.on_way
+    rw c.note_own_keys.ensures (way_from_head c.args.bucket.now c.reach.new.bucket b c.args.key.now c.in-Some.root c.in-Some.next c.in-Some.depth says c.reach.ensures.among c.descend.ensures.on_way)
 
 pub returns-in_err-leaf-clause-loaded : goal.returns-in_err-leaf-clause-loaded
 returns-in_err-leaf-clause-loaded g c =
@@ -64,7 +66,7 @@ returns-in_err-leaf-clause-loaded g c =
 
 pub returns-clause-loaded : goal.returns-clause-loaded
 returns-clause-loaded g c =
-    loaded_then _ _ _ _ _ _ _ c.reach.new.bucket _ (λ rows. g.met.S.NodeSource.later_tells _ _ rows c.reach.ensures.later) (λ id found. g.met.S.NodeSource.finds_before _ _ id found c.reach.ensures.later) (g.met.S.NodeSource.later_upper _ _ c.reach.ensures.later) c.reach.ensures.loaded c.descend.ensures.loaded
+    rw c.note_own_keys.ensures (loaded_then _ _ _ _ _ _ _ c.reach.new.bucket _ (λ rows. g.met.S.NodeSource.later_tells _ _ rows c.reach.ensures.later) (λ id found. g.met.S.NodeSource.finds_before _ _ id found c.reach.ensures.later) (g.met.S.NodeSource.later_upper _ _ c.reach.ensures.later) c.reach.ensures.loaded c.descend.ensures.loaded)
 
 pub returns-in_err-leaf-clause-clean : goal.returns-in_err-leaf-clause-clean
 returns-in_err-leaf-clause-clean g c =
@@ -81,4 +83,10 @@ returns-clause-used g c =
     let here : IsCached c.reach.new.bucket 0 = (c.in_ok-reach.ensures).there in
     let same = loaded_given _ _ _ c.reach.new.bucket b c.descend.ensures.loaded 0 here in
     let says = subst (λ k. SaysHead k.0 c.in-Some.root c.in-Some.next c.in-Some.depth) (sym same) (head_some (given c.reach.new.bucket 0).0 (c.in-Some.root, c.in-Some.next, c.in-Some.depth) c.in-Some.ensures) in
-    used_under c.args.bucket.now c.reach.new.bucket b c.args.key.now c.in-Some.root c.in-Some.next c.in-Some.depth says.is (c.in_ok-reach.ensures).used (c.in_ok-leaf.ensures).used
+    rw c.note_own_keys.ensures (used_under c.args.bucket.now c.reach.new.bucket b c.args.key.now c.in-Some.root c.in-Some.next c.in-Some.depth says.is (c.in_ok-reach.ensures).used (c.in_ok-leaf.ensures).used)
+
+pub note_own_keys-requires : goal.note_own_keys-requires
+note_own_keys-requires g c =
+    let b = c.descend.new.bucket in
+    let way = (c.in_ok-leaf.ensures).way in
+    own_cached b c.in_ok-leaf.leaf (subst (λ n. HasOwnKeys b.bucket (given b n).0) (sym way.ends) (own_end (given b) b.bucket c.in-Some.next c.args.key.now _ _ c.in-Some.root way.fit))

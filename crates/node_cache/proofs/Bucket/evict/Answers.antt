@@ -6,10 +6,19 @@ use Rattle.node_cache.specs.Cache.{Cache}
 use Rattle.node_cache.specs.Entries.{is_published, without_first}
 use Rattle.node_cache.proofs.Kept.{fresh, originals_none}
 use Rattle.node_cache.proofs.Evicted.{stays, unchanged, few, without_none}
+use Rattle.node_cache.proofs.Marked.{marked_fewer}
 use Rattle.node_cache.proofs.Bucket.evict.Goals as goal
 
 pub invariant_of-self : goal.invariant_of-self
-invariant_of-self c = fresh _ _ (originals_none c.self.inside.saved.entries (ap (λ b. b.saved) c.self.view_is ∙ c.requires)) c.remove_first.ensures.unique
+invariant_of-self c =
+    let inside = c.self.inside in
+    let es = inside.nodes.entries in
+    let fewer : (n : ℕ) → IfSome (lookup (nat_eq n) c.remove_first.new.nodes.entries) (λ kept. lookup (nat_eq n) es ≡ Some kept) =
+    λ n. subst (λ fs. IfSome (lookup (nat_eq n) fs) (λ kept. lookup (nat_eq n) es ≡ Some kept)) (sym c.remove_first.ensures.nodes) (unchanged c.args.published n c.saturating_sub-surplus.result es c.self.invariant.kept.distinct) in
+    record {
+      kept = fresh _ _ (originals_none inside.saved.entries (ap (λ b. b.saved) c.self.view_is ∙ c.requires)) c.remove_first.ensures.unique;
+      marked = marked_fewer inside.bucket inside.marks es c.remove_first.new.nodes.entries c.self.invariant.marked fewer;
+    }
 
 pub returns-then-surplus-gt0-clause-kept : goal.returns-then-surplus-gt0-clause-kept
 returns-then-surplus-gt0-clause-kept c =
@@ -19,7 +28,7 @@ returns-then-surplus-gt0-clause-kept c =
 pub returns-then-surplus-gt0-clause-same : goal.returns-then-surplus-gt0-clause-same
 returns-then-surplus-gt0-clause-same c =
     let es = c.self.inside.nodes.entries in
-    rw (← c.self.view_is) (λ n. subst (λ fs. IfSome (lookup (nat_eq n) fs) (λ kept. lookup (nat_eq n) es ≡ Some kept)) (sym c.remove_first.ensures.nodes) (unchanged c.args.published n c.saturating_sub-surplus.result es c.self.invariant.distinct))
+    rw (← c.self.view_is) (λ n. subst (λ fs. IfSome (lookup (nat_eq n) fs) (λ kept. lookup (nat_eq n) es ≡ Some kept)) (sym c.remove_first.ensures.nodes) (unchanged c.args.published n c.saturating_sub-surplus.result es c.self.invariant.kept.distinct))
 
 pub returns-then-surplus-gt0-clause-few : goal.returns-then-surplus-gt0-clause-few
 returns-then-surplus-gt0-clause-few c =

@@ -1,17 +1,24 @@
 use Rattle.std.proofs.Common.{◌≡◌, ℕ, inl, nat_eq, List, Option, sym, ap, subst, ◌∙◌}
-use Rattle.std.specs.Map.{set_value}
+use Rattle.std.specs.Map.{lookup, set_value}
 use Rattle.node_cache.specs.Cache.{Cache, cached, rewritten}
 use Rattle.node_cache.specs.Originals.{originals, IsKept}
 use Rattle.node_cache.specs.declared.cached.Cached.{Cached}
-use Rattle.node_cache.proofs.Kept.{kept_set, originals_whole}
+use Rattle.node_cache.proofs.Kept.{kept_set, originals_whole, other_set}
+use Rattle.node_cache.proofs.Marked.{marked_but}
 use Rattle.node_cache.proofs.Bucket.get_mut.Goals as goal
 
 pub invariant_of-self-lent : goal.invariant_of-self-lent
 invariant_of-self-lent c =
     let inside = c.self.inside in
     let k = c.args.number in
-    λ w. subst (λ es. IsKept es c.keep_whole.new.saved.entries) (sym (c.get_mut.follows.holds w).0)
-    (subst (IsKept (set_value (nat_eq k) inside.nodes.entries w)) (sym (c.in_ok-keep_whole.ensures).ok) (kept_set k inside.nodes.entries inside.saved.entries w c.self.invariant))
+    λ w.
+    let written = (c.get_mut.follows.holds w).0 in
+    record {
+      kept =
+          subst (λ es. IsKept es c.keep_whole.new.saved.entries) (sym written)
+          (subst (IsKept (set_value (nat_eq k) inside.nodes.entries w)) (sym (c.in_ok-keep_whole.ensures).ok) (kept_set k inside.nodes.entries inside.saved.entries w c.self.invariant.kept));
+      marked = marked_but inside.bucket inside.marks c.take.new.self inside.nodes.entries _ c.self.invariant.marked k c.take.ensures (λ q differs. ap (lookup (nat_eq q)) written ∙ other_set k q differs inside.nodes.entries w);
+    }
 
 pub returns-in-Some : goal.returns-in-Some
 returns-in-Some c =

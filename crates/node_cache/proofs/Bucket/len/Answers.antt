@@ -4,4 +4,4 @@ use Rattle.node_cache.proofs.Kept.{is_cache}
 use Rattle.node_cache.proofs.Bucket.len.Goals as goal
 
 pub returns-clause-whole : goal.returns-clause-whole
-returns-clause-whole c = subst (λ (b : Cache). IsCache b.nodes b.saved) c.self.view_is (is_cache c.self.inside.nodes.entries c.self.inside.saved.entries c.self.invariant)
+returns-clause-whole c = subst (λ (b : Cache). IsCache b.nodes b.saved) c.self.view_is (is_cache c.self.inside.nodes.entries c.self.inside.saved.entries c.self.invariant.kept)

@@ -1,4 +1,4 @@
-use Rattle.std.proofs.Common.{◌≡◌, ℕ, List, ◌++◌, Option, Some, nat_eq, eq-eqb, is_some, refl, sym, ap, subst, ◌∙◌}
+use Rattle.std.proofs.Common.{◌≡◌, ℕ, false, List, ◌++◌, Option, Some, nat_eq, eq-eqb, is_some, refl, sym, ap, subst, ◌∙◌}
 use Rattle.std.specs.Map.{lookup}
 use Rattle.std.specs.Option.{option_to_list}
 use Rattle.std.proofs.lemmas.Bool.{cond-true, cond-false}
@@ -7,6 +7,7 @@ use Rattle.node_cache.specs.Originals.{originals, IsKept}
 use Rattle.node_cache.specs.declared.cached.Cached.{Cached}
 use Rattle.node_cache.proofs.Moved.{others_inserted, entry_inserted}
 use Rattle.node_cache.proofs.Kept.{with_err, kept_whole, originals_whole}
+use Rattle.node_cache.proofs.Marked.{marked_but}
 use Rattle.node_cache.proofs.Bucket.put.Goals as goal
 
 pub returns-clause-nodes : goal.returns-clause-nodes
@@ -26,8 +27,12 @@ invariant_of-self-in_err-insert c =
     let k = c.args.number in
     let es = inside.nodes.entries in
     let same = (c.in_err-insert.ensures).err in
-    subst (IsKept c.insert.new.self.entries) (sym (c.in_ok-keep_whole.ensures).ok)
-    (kept_whole k es c.insert.new.self.entries inside.saved.entries c.self.invariant (c.in_err-insert.ensures).unique (λ there. ap (λ fs. is_some (lookup (nat_eq k) fs)) same ∙ there) (λ q differs. ap (lookup (nat_eq q)) same))
+    record {
+      kept =
+          subst (IsKept c.insert.new.self.entries) (sym (c.in_ok-keep_whole.ensures).ok)
+          (kept_whole k es c.insert.new.self.entries inside.saved.entries c.self.invariant.kept (c.in_err-insert.ensures).unique (λ there. ap (λ fs. is_some (lookup (nat_eq k) fs)) same ∙ there) (λ q differs. ap (lookup (nat_eq q)) same));
+      marked = marked_but inside.bucket inside.marks c.take.new.self es c.insert.new.self.entries c.self.invariant.marked k c.take.ensures (λ q differs. ap (lookup (nat_eq q)) same);
+    }
 
 pub returns-in_err-insert-clause-err : goal.returns-in_err-insert-clause-err
 returns-in_err-insert-clause-err c =
@@ -42,7 +47,12 @@ invariant_of-self-2 c =
     let k = c.args.number in
     let es = inside.nodes.entries in
     let updates = (c.in_ok-insert.ensures).updates.0 in
-    subst (IsKept c.insert.new.self.entries) (sym (c.in_ok-keep_whole.ensures).ok)
-    (kept_whole k es c.insert.new.self.entries inside.saved.entries c.self.invariant (c.in_ok-insert.ensures).unique
-    (λ _. ap is_some (updates k ∙ cond-true (nat_eq k k) (Some c.args.kept) (lookup (nat_eq k) es) (eq-eqb k k refl)))
-    (λ q differs. updates q ∙ cond-false (nat_eq k q) (Some c.args.kept) (lookup (nat_eq q) es) differs))
+    let others : (q : ℕ) → nat_eq k q ≡ false → lookup (nat_eq q) c.insert.new.self.entries ≡ lookup (nat_eq q) es =
+    λ q differs. updates q ∙ cond-false (nat_eq k q) (Some c.args.kept) (lookup (nat_eq q) es) differs in
+    record {
+      kept =
+          subst (IsKept c.insert.new.self.entries) (sym (c.in_ok-keep_whole.ensures).ok)
+          (kept_whole k es c.insert.new.self.entries inside.saved.entries c.self.invariant.kept (c.in_ok-insert.ensures).unique
+          (λ _. ap is_some (updates k ∙ cond-true (nat_eq k k) (Some c.args.kept) (lookup (nat_eq k) es) (eq-eqb k k refl))) others);
+      marked = marked_but inside.bucket inside.marks c.take.new.self es c.insert.new.self.entries c.self.invariant.marked k c.take.ensures others;
+    }

@@ -4,6 +4,7 @@ use Rattle.std.specs.List.{list_all}
 use Rattle.fine_model.specs.declared.FetchFault.{FetchFault}
 use Rattle.fine_model.specs.declared.Node.{Node}
 use Rattle.fine_model.specs.declared.Node.TheVariants as node
+use Rattle.fine_model.specs.declared.Row.{Row}
 use Rattle.fine_model.specs.Nodes.{Content}
 use Rattle.fine_model.specs.Paths.{is_inner, place_among, bounds_at, seps_of, kid_at, unfit_from, unfit_under}
 use Rattle.fine_model.specs.Pushed.{leaf_for, pairs_beside}
@@ -14,10 +15,10 @@ use Rattle.btree_nodes.specs.declared.fault.TreeFault.{TreeFault}
 use Rattle.btree_nodes.specs.declared.fault.TreeFault.TheVariants.{Source, Unfit, BucketFull, Number, NoMemory}
 use Rattle.btree_nodes.specs.declared.tree.Path.{Path}
 use Rattle.btree_nodes.specs.Faults.{OnFault}
-use Rattle.node_cache.specs.Given.{given, IsCached}
+use Rattle.node_cache.specs.Given.{Finds, given, IsCached, IsLoaded}
 use Rattle.btree_nodes.specs.Descends.{IsWay, Descends}
 use Rattle.btree_nodes.specs.Trees.{pairs_in, HeadIs, IsPath, unfit_in, way, way_from, LoadsAmong, LoadsOnWay}
-use Rattle.btree_nodes.proofs.Loads.{among_on}
+use Rattle.btree_nodes.proofs.Loads.{among_on, loaded_given}
 use Rattle.btree_nodes.specs.Calls.{IsFirstUnfit}
 use Rattle.btree_nodes.proofs.ScanSteps.{inner_is}
 use Rattle.btree_nodes.proofs.Sound.{passed}
@@ -35,6 +36,11 @@ head_some (node.Head root next depth) h is = subst (λ t. SaysHead (node.Head ro
 head_some (node.Leaf pairs) h is = absurd is
 head_some (node.Inner seps kids) h is = absurd is
 head_some node.Broken h is = absurd is
+
+-- and once more nodes are loaded
+pub head_behind : (tells : List Row → Type 0) (finds : Finds) (upper : ℕ) (b c : Cache) → IsLoaded tells finds upper b c → (root next depth : ℕ) → IsCached b 0 → HeadIs (given b 0).0 (Some (root, next, depth)) → SaysHead (given c 0).0 root next depth
+head_behind tells finds upper b c loaded root next depth here is =
+    subst (λ (n : Content). SaysHead n.0 root next depth) (sym (loaded_given tells finds upper b c loaded 0 here)) (head_some (given b 0).0 (root, next, depth) is)
 
 pub not_lower : (a b : ℕ) → b ≤ a → nat_lt a b ≡ false
 not_lower a b le = by (nat_lt a b) refl

@@ -21,10 +21,11 @@ use Rattle.btree_nodes.specs.declared.tree.Path.{Path}
 use Rattle.node_cache.specs.Given.{given, IsCached}
 use Rattle.btree_nodes.specs.Changes.{AreReady}
 use Rattle.btree_nodes.specs.Trees.{IsPath, FitsLog, HeadSays, first_over}
+use Rattle.btree_nodes.specs.declared.growth.Growth.{Growth as Below}
 use Rattle.btree_nodes.specs.declared.insertion.Push.{Push as Rows}
 use Rattle.btree_nodes.specs.declared.fault.TreeFault.{TreeFault}
 use Rattle.btree_nodes.specs.declared.fault.TreeFault.TheVariants.{Source, Unfit, BucketFull, Number, NoMemory}
-use Rattle.btree_nodes.specs.Growths.{pushed_of, Limits}
+use Rattle.btree_nodes.specs.Growths.{grown_of, pushed_of, Limits}
 use Rattle.btree_nodes.specs.Calls.{pushed_in, Outcome}
 use Rattle.btree_nodes.proofs.Sound.{passed}
 use Rattle.btree_nodes.proofs.GrowthFits.{ready_append, growth_ready, node_fits, IsGood, one_good, FitsGrowth, growth_good}
@@ -110,6 +111,12 @@ module _ (b : Cache) (key value : List ℕ) (pair : FitsPair (key, value)) (path
           here = all_map (IsGood b.bucket) (λ row. row.node.bucket ≡ b.bucket) (λ row p. p.of_bucket) put_rows.rows good;
         };
       })
+
+  -- with what grew below the root
+  pub put_grows : (p : Rows) (below : Below) (bucket version : ℕ) → grown_of below ≡ g → bucket ≡ b.bucket → version ≡ (given b 0).1
+      → pushed_of p ≡ with_head bucket version path.root path.next path.depth below.rows below.next below.split → pushed_of p ≡ put_rows
+  put_grows p below bucket version grown of is_version made =
+      made ∙ (λ i. with_head (of i) (is_version i) path.root path.next path.depth (grown i).rows (grown i).next (grown i).split)
 
   module _ (p : Rows) (same : pushed_of p ≡ put_rows) where
     push_is : call_push b.bucket (given b) (call.Put key value) ≡ pushed_of p

@@ -1,5 +1,5 @@
 -- A scan from the head of a tree on.
-use Rattle.std.proofs.Common.{◌≡◌, ℕ, ◌-◌, ◌==◌, nat_lt, nat_le, Bool, true, false, ◌&&◌, not, List, ◌++◌, take, Option, Some, None, Result, Ok, Err, is_some, refl, sym, ap, ◌∙◌, true≢false, append-nil, lt-ltb, le-leb}
+use Rattle.std.proofs.Common.{◌≡◌, ◌≢◌, ne_eqb, ℕ, ◌-◌, ◌==◌, nat_lt, nat_le, Bool, true, false, ◌&&◌, not, List, ◌++◌, take, Option, Some, None, Result, Ok, Err, is_some, refl, sym, ap, ◌∙◌, true≢false, append-nil, lt-ltb, le-leb}
 use Rattle.fine_model.specs.declared.FetchFault.{FetchFault}
 use Rattle.fine_model.specs.declared.Node.{Node}
 use Rattle.fine_model.specs.declared.Node.TheVariants as node
@@ -17,6 +17,10 @@ use Rattle.btree_nodes.specs.Scans.{IsScanned, ScansFrom}
 use Rattle.btree_nodes.specs.Calls.{IsFirstUnfitBetween, IsFoundBetween}
 use Rattle.btree_nodes.proofs.Paths.{SaysHead, not_lower}
 use Rattle.btree_nodes.proofs.Takes.{none_taken}
+
+-- a range that is not empty, of which some pairs are wanted
+pub is_wanted : (low high : List ℕ) (limit : ℕ) → is_below low high ≡ true → limit ≢ 0 → (is_below low high && not (limit == 0)) ≡ true
+is_wanted low high limit below some = λ i. below i && not (ne_eqb limit 0 some i)
 
 module _ (bucket : ℕ) (nodes : ℕ → Content) (low high : List ℕ) (limit root next depth : ℕ) where
   abbrev pub Opens : Type 0

@@ -1,5 +1,5 @@
 -- What a scan of a subtree and of the children of a node answers, step by step.
-use Rattle.std.proofs.Common.{◌≡◌, ◌≢◌, ℕ, zero, suc, ◌+◌, ◌-◌, ◌<◌, ◌≤◌, ◌==◌, nat_lt, true, false, cond, ◌&&◌, not, List, [], ◌∷◌, ◌++◌, length, take, drop, slice_get, get_or, Option, None, Result, Ok, Err, refl, sym, ap, subst, ◌∙◌, arith, ne_eqb, ltb-true}
+use Rattle.std.proofs.Common.{◌≡◌, ◌≢◌, ℕ, zero, suc, ◌+◌, ◌-◌, ◌<◌, ◌≤◌, ◌==◌, nat_lt, Bool, true, false, cond, ◌&&◌, not, List, [], ◌∷◌, ◌++◌, length, take, drop, slice_get, get_or, Option, None, Result, Ok, Err, refl, sym, ap, subst, ◌∙◌, arith, ne_eqb, ltb-true}
 use Rattle.std.proofs.Math.Seq.{take-length}
 use Rattle.std.specs.Prelude.{IfOk}
 use Rattle.fine_model.specs.declared.FetchFault.{FetchFault}
@@ -115,9 +115,19 @@ pub record IsChildOf (b : Cache) (next : ℕ) (at : Step) (place : ℕ) (child :
   pub child_low : AreKept b child.low
   pub child_high : AreKept b child.high
 
+pub child_of : (b : Cache) (next : ℕ) (at : Step) (place : ℕ) (child : Step) → IsCached b at.number → AreKept b at.low → AreKept b at.high → is_inner (bounds_by (given b) at.low at.high) next (given b at.number).0 ≡ true
+    → IsChildAt (given b) at place child → AreKept b child.low × AreKept b child.high → IsChildOf b next at place child
+child_of b next at place child there low high inner is kept = record { there = there; low = low; high = high; inner = inner; is = is; child_low = kept.0; child_high = kept.1 }
+
 pub child_small : (nodes : ℕ → Content) (bounds : Bounds) (next : ℕ) (at : Step) (place : ℕ) (child : Step) → is_inner bounds next (nodes at.number).0 ≡ true → IsChildAt nodes at place child → child.number < next
 child_small nodes bounds next at place child inner is =
     ltb-true child.number next (all_at (λ kid. nat_lt kid next) (kids_of (nodes at.number).0) place child.number (inner_is bounds next (nodes at.number).0 inner).below is.number)
+
+-- a child as it stands once more nodes are loaded, and whether it holds keys of a range
+pub record StillMeets (b d : Cache) (next : ℕ) (low high : List ℕ) (at : Step) (place : ℕ) (child : Step) (answer : Bool) : Type 0 where
+  pub of : IsChildOf d next at place child
+  pub bounds : bounds_by (given d) child.low child.high ≡ bounds_by (given b) child.low child.high
+  pub holds : meets low high (bounds_by (given d) child.low child.high) ≡ answer
 
 module _ (tells : List Row → Type 0) (finds : Finds) (upper : ℕ) (b d : Cache) (loaded : IsLoaded tells finds upper b d) where
   pub bounds_stay : (low high : Option Sep) → AreKept b low → AreKept b high → bounds_by (given d) low high ≡ bounds_by (given b) low high
@@ -147,6 +157,12 @@ module _ (tells : List Row → Type 0) (finds : Finds) (upper : ℕ) (b d : Cach
   pub child_bounds : (next : ℕ) (at : Step) (place : ℕ) (child : Step) → IsChildOf b next at place child → bounds_by (given d) child.low child.high ≡ bounds_by (given b) child.low child.high
   child_bounds next at place child of = bounds_stay child.low child.high of.child_low of.child_high
 
+  pub still_meets : (next : ℕ) (low high : List ℕ) (at : Step) (place : ℕ) (child : Step) (answer : Bool) → IsChildOf b next at place child → meets low high (bounds_by (given b) child.low child.high) ≡ answer
+      → StillMeets b d next low high at place child answer
+  still_meets next low high at place child answer of is =
+      let same = child_bounds next at place child of in
+      record { of = child_stays next at place child of; bounds = same; holds = ap (meets low high) same ∙ is }
+
   -- what was scanned stays scanned once more nodes are loaded
   pub scanned_stays : (height next : ℕ) (low high : List ℕ) (bounds : Bounds) (number wanted left : ℕ) (old new : List Pair) → IsScanned b height next low high bounds number wanted left old new → IsScanned d height next low high bounds number wanted left old new
   scanned_stays height next low high bounds number wanted left old new h =
@@ -160,6 +176,12 @@ module _ (tells : List Row → Type 0) (finds : Finds) (upper : ℕ) (b d : Cach
         taken = record { is = h.taken.is ∙ ap (λ xs. old ++ xs) (sym alike.1.same); rest = alike.1.rest };
       }
       by (Err n) e alike = absurd (alike tt)
+
+-- a node that is reached and found fit is so still behind its children
+pub inner_behind : (tells tells' : List Row → Type 0) (finds finds' : Finds) (upper upper' : ℕ) (a b d : Cache) → IsLoaded tells finds upper a b → IsLoaded tells' finds' upper' b d → (next : ℕ) (at : Step) → AreKept a at.low → AreKept a at.high → IsCached b at.number
+    → is_inner (bounds_by (given b) at.low at.high) next (given b at.number).0 ≡ true → is_inner (bounds_by (given d) at.low at.high) next (given d at.number).0 ≡ true
+inner_behind tells tells' finds finds' upper upper' a b d reached loaded next at low high there inner =
+    inner_stays tells' finds' upper' b d loaded next at there (kept_stays tells finds upper a b reached at.low low) (kept_stays tells finds upper a b reached at.high high) inner
 
 module _ (d : Cache) (height next : ℕ) (low high : List ℕ) (at : Step) (place : ℕ) (child : Step) (of : IsChildOf d next at place child) where
   abbrev bounds : Bounds

@@ -22,19 +22,21 @@ use Rattle.btree_nodes.proofs.Loads.{loaded_given, loaded_kept, contains_first, 
 
 module _ (b : Cache) (next : ℕ) (key : List ℕ) (bounds : Bounds) (number : ℕ) where
   -- the way ends at a fit leaf
-  pub way_leaf : is_leaf b.bucket bounds (given b number).0 ≡ true → IsCached b number → IsWay b 0 next key bounds number number
+  pub way_leaf : (height : ℕ) → height ≡ 0 → is_leaf b.bucket bounds (given b number).0 ≡ true → IsCached b number → IsWay b height next key bounds number number
   unfolding unfit_from leaf_for
-  way_leaf leaf here = record { fit = ap (λ t. cond t None (Some number)) leaf; ends = refl; there = here }
+  way_leaf zero ground leaf here = record { fit = ap (λ t. cond t None (Some number)) leaf; ends = refl; there = here }
+  way_leaf (suc height) ground leaf here = absurd (omega (arith, ground))
 
-  pub unfit_leaf : is_leaf b.bucket bounds (given b number).0 ≡ false → IsCached b number → IsUnfit b 0 next key bounds number b.bucket number
+  pub unfit_leaf : (height bucket : ℕ) → height ≡ 0 → bucket ≡ b.bucket → is_leaf b.bucket bounds (given b number).0 ≡ false → IsCached b number → IsUnfit b height next key bounds number bucket number
   unfolding unfit_from
-  unfit_leaf leaf here = record { of_bucket = refl; first = ap (λ t. cond t None (Some number)) leaf; there = here }
+  unfit_leaf zero bucket ground of leaf here = record { of_bucket = of; first = ap (λ t. cond t None (Some number)) leaf; there = here }
+  unfit_leaf (suc height) bucket ground of leaf here = absurd (omega (arith, ground))
 
-  pub unfit_inner : (height : ℕ) → 0 < height → is_inner bounds next (given b number).0 ≡ false → IsCached b number → IsUnfit b height next key bounds number b.bucket number
+  pub unfit_inner : (height bucket : ℕ) → 0 < height → bucket ≡ b.bucket → is_inner bounds next (given b number).0 ≡ false → IsCached b number → IsUnfit b height next key bounds number bucket number
   unfolding unfit_from
-  unfit_inner zero above inner here = absurd (omega arith)
-  unfit_inner (suc height) above inner here = record {
-    of_bucket = refl;
+  unfit_inner zero bucket above of inner here = absurd (omega (arith, above))
+  unfit_inner (suc height) bucket above of inner here = record {
+    of_bucket = of;
     first = ap (λ t. cond t (unfit_from height b.bucket (given b) next key (bounds_at bounds (seps_of (given b number).0) (place_among key (seps_of (given b number).0))) (kid_at (given b number).0 (place_among key (seps_of (given b number).0)))) (Some number)) inner;
     there = here;
   }
@@ -87,6 +89,13 @@ module _ (tells : List Row → Type 0) (finds : Finds) (upper : ℕ) (b c : Cach
       (subst (λ bounds. IsStep (given c) next key bounds (given b number).0 s) (λ i. record { low = sym (bound_stays low low_kept) i; high = sym (bound_stays high high_kept) i })
       (record { good = is.good; number = is.number; small = is.small; within = (λ i. record { low = bound_stays s.low low_kept' i; high = bound_stays s.high high_kept' i }) ∙ is.within }))
 
+-- the step from a node that is reached is one still behind the descent from its child
+pub step_behind : (tells tells' : List Row → Type 0) (finds finds' : Finds) (upper upper' : ℕ) (a b c : Cache) → IsLoaded tells finds upper a b → IsLoaded tells' finds' upper' b c
+    → (next : ℕ) (key : List ℕ) (low high : Option Sep) (number : ℕ) (s : Step) → AreKept a low → AreKept a high → IsCached b number → AreKept b s.low × AreKept b s.high
+    → IsStep (given b) next key (bounds_by (given b) low high) (given b number).0 s → IsStep (given c) next key (bounds_by (given c) low high) (given c number).0 s
+step_behind tells tells' finds finds' upper upper' a b c reached loaded next key low high number s low_kept high_kept here kept is =
+    step_stays tells' finds' upper' b c loaded next key low high number s here (kept_stays tells finds upper a b reached low low_kept) (kept_stays tells finds upper a b reached high high_kept) kept.0 kept.1 is
+
 -- ---- what was loaded lies on the way
 
 module _ (b c : Cache) (nodes : ℕ → Content) (key : List ℕ) where
@@ -105,13 +114,16 @@ module _ (b c : Cache) (nodes : ℕ → Content) (key : List ℕ) where
   among_head node.Broken among = among
 
 -- a number and then the way down from its child
-pub among_step : (a b c : Cache) (key : List ℕ) (height number kid : ℕ) → 0 < height → kid ≡ kid_at (given c number).0 (place_among key (seps_of (given c number).0)) → LoadsAmong a b (number ∷ []) → LoadsAmong b c (way (height - 1) (given c) key kid) → LoadsAmong a c (way height (given c) key number)
+way_step : (c : Cache) (key : List ℕ) (height number kid : ℕ) → 0 < height → kid ≡ kid_at (given c number).0 (place_among key (seps_of (given c number).0)) → way height (given c) key number ≡ number ∷ way (height - 1) (given c) key kid
 unfolding way
-among_step a b c key zero number kid above is first rest = absurd (omega arith)
-among_step a b c key (suc height) number kid above is first rest =
-    let e : suc height - 1 ≡ height = omega arith in
-    among_on a b c number (way height (given c) key (kid_at (given c number).0 (place_among key (seps_of (given c number).0)))) first
-    (subst (λ k. LoadsAmong b c (way height (given c) key k)) is (subst (λ h. LoadsAmong b c (way h (given c) key kid)) e rest))
+way_step c key zero number kid above is = absurd (omega arith)
+way_step c key (suc height) number kid above is =
+    let e : height ≡ suc height - 1 = omega arith in
+    (λ i. number ∷ way (e i) (given c) key (sym is i))
+
+pub among_step : (a b c : Cache) (key : List ℕ) (height number kid : ℕ) → 0 < height → kid ≡ kid_at (given c number).0 (place_among key (seps_of (given c number).0)) → LoadsAmong a b (number ∷ []) → LoadsAmong b c (way (height - 1) (given c) key kid) → LoadsAmong a c (way height (given c) key number)
+among_step a b c key height number kid above is first rest =
+    subst (LoadsAmong a c) (sym (way_step c key height number kid above is)) (among_on a b c number (way (height - 1) (given c) key kid) first rest)
 
 -- ---- what was used
 
@@ -126,12 +138,8 @@ used_then a b c number rest first then_rest = then_rest ∙ ap (λ ks. last_used
 
 pub used_step : (a b c : Cache) (key : List ℕ) (height number kid : ℕ) → 0 < height → kid ≡ kid_at (given c number).0 (place_among key (seps_of (given c number).0)) → AreUsed a b (number ∷ [])
     → AreUsed b c (way (height - 1) (given c) key kid) → AreUsed a c (way height (given c) key number)
-unfolding way
-used_step a b c key zero number kid above is first rest = absurd (omega arith)
-used_step a b c key (suc height) number kid above is first rest =
-    let e : suc height - 1 ≡ height = omega arith in
-    used_then a b c number (way height (given c) key (kid_at (given c number).0 (place_among key (seps_of (given c number).0)))) first
-    (subst (λ k. AreUsed b c (way height (given c) key k)) is (subst (λ h. AreUsed b c (way h (given c) key kid)) e rest))
+used_step a b c key height number kid above is first rest =
+    subst (AreUsed a c) (sym (way_step c key height number kid above is)) (used_then a b c number (way (height - 1) (given c) key kid) first rest)
 
 pub used_under : (a b c : Cache) (key : List ℕ) (root next depth : ℕ) → (given c 0).0 ≡ node.Head root next depth → AreUsed a b (0 ∷ []) → AreUsed b c (way (depth - 1) (given c) key root) → AreUsed a c (way_in c key)
 used_under a b c key root next depth is first rest =

@@ -1,10 +1,11 @@
 -- What calls that push rows do to a bucket.
-use Rattle.std.specs.Prelude.{◌≡◌, ◌≢◌, ◌⊎◌, ℕ, nat_eq, Bool, true, false, ◌||◌, List, [], ◌∷◌, ◌++◌, None, is_some}
+use Rattle.std.specs.Prelude.{◌≡◌, ◌≢◌, ◌≤◌, ◌⊎◌, ℕ, nat_eq, Bool, true, false, ◌||◌, List, [], ◌∷◌, ◌++◌, None, is_some}
 use Rattle.std.specs.Map.{keys_of}
 use Rattle.std.specs.List.{AllByRecursion, list_any}
 use Rattle.fine_model.specs.declared.Rec.{Rec}
 use Rattle.fine_model.specs.declared.Rec.TheVariants as rec
 use Rattle.fine_model.specs.declared.Row.{Row}
+use Rattle.fine_model.specs.RowBytes.{FitsRec, greatest}
 use Rattle.fine_model.specs.Trees.{bucket_of}
 use Rattle.fine_model.specs.Nodes.{Content, replay, step, rows_of}
 use Rattle.node_cache.specs.declared.cached.Cached.{Cached}
@@ -54,6 +55,13 @@ pub record HoldsPlace (old new : Cache) (number : ℕ) : Type 0 where
   pub others : (n : ℕ) → n ≢ number → cached new n ≡ cached old n
   pub saves : Saves old new
   pub saved : ((n : ℕ) → is_some (original new n) ≡ is_some (original old n)) ⊎ ((n : ℕ) → is_some (original new n) ≡ (is_some (original old n) || nat_eq number n))
+
+-- a row of a cached node, within the format's bounds
+pub record IsRowOf (b : Cache) (row : Row) : Type 0 where
+  pub of_bucket : row.node.bucket ≡ b.bucket
+  pub there : IsCached b row.node.number
+  pub rec : FitsRec row.rec
+  pub version : row.version ≤ greatest
 
 -- a change of one pair of a leaf, whose key is of a bucket
 abbrev pub IsOwnChange : ℕ → Rec → Type 0

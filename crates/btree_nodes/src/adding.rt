@@ -14,10 +14,11 @@ ghost use Rattle.btree_nodes.specs.Calls.{Outcome, IsChange, OnCleanAnswer, Soun
 
 use crate::change::{next_version, push_pair};
 use crate::fault::TreeFault;
+use crate::growth::row_of;
 use crate::insertion::put_at;
 use crate::leaf::value_in;
 use crate::tree::{Path, find_leaf};
-use fine_model::{NodeId, Rec, Reply, Row, number_of, number_text};
+use fine_model::{Rec, Reply, number_of, number_text};
 use node_cache::{Bucket, NodeSource, bytes_of};
 use private_log::PrivateLog;
 use std::alloc::Global;
@@ -72,17 +73,12 @@ fn add_at(
     if !is_sum(&reply) {
         return Ok(reply);
     }
-    let row = Row {
-        node: NodeId {
-            bucket: bucket.bucket(),
-            number: path.leaf,
-        },
-        version: next_version(bucket, path.leaf)?,
-        rec: Rec::Plus {
-            key: bytes_of(alloc, key)?,
-            by,
-        },
+    let version = next_version(bucket, path.leaf)?;
+    let plus = Rec::Plus {
+        key: bytes_of(alloc, key)?,
+        by,
     };
+    let row = row_of(bucket.bucket(), path.leaf, version, plus);
     push_pair(alloc, bucket, log, row)?;
     Ok(reply)
 }

@@ -8,7 +8,7 @@ ghost use Rattle.fine_model.specs.RowBytes.{FitsRec, greatest};
 ghost use Rattle.node_cache.specs.Cache.{cached, IsSaved};
 ghost use Rattle.node_cache.specs.Given.{given, IsCached};
 ghost use Rattle.node_cache.specs.Marked.{HasOwnKeys};
-ghost use Rattle.btree_nodes.specs.Changes.{Saves, Pushes, IsChanged, IsOwnChange, HoldsPlace, IsReady, AreReady};
+ghost use Rattle.btree_nodes.specs.Changes.{Saves, Pushes, IsChanged, IsRowOf, IsOwnChange, HoldsPlace, IsReady, AreReady};
 ghost use Rattle.btree_nodes.specs.declared.fault.TreeFault.TheVariants as fault_of;
 
 use crate::fault::TreeFault;
@@ -55,10 +55,7 @@ fn change(alloc: Global, bucket: &mut Bucket, row: &Row) -> Result<(), NoMemory>
 
 /// Saves a cached node as a whole, and does to it what a row says.
 fn save_and_change(alloc: Global, bucket: &mut Bucket, row: &Row) -> Result<(), NoMemory>
-    requires of_bucket { row.now.node.bucket ≡ bucket.old.bucket }
-    requires there { IsCached bucket.old row.now.node.number }
-    requires rec { FitsRec row.now.rec }
-    requires version { row.now.version ≤ greatest }
+    requires { IsRowOf bucket.old row.now }
     ensures saves { Saves bucket.old bucket.new }
     ensures pushes { OnOk result (Pushes bucket.old bucket.new (row.now ∷ [])) }
 {
@@ -68,10 +65,7 @@ fn save_and_change(alloc: Global, bucket: &mut Bucket, row: &Row) -> Result<(), 
 
 /// Saves a cached node, and does to it what a row says. Where the row sets or removes one pair of a leaf, that costs the pair alone.
 fn change_cached(alloc: Global, bucket: &mut Bucket, row: &Row) -> Result<(), NoMemory>
-    requires of_bucket { row.now.node.bucket ≡ bucket.old.bucket }
-    requires there { IsCached bucket.old row.now.node.number }
-    requires rec { FitsRec row.now.rec }
-    requires version { row.now.version ≤ greatest }
+    requires { IsRowOf bucket.old row.now }
     ensures saves { Saves bucket.old bucket.new }
     ensures pushes { OnOk result (Pushes bucket.old bucket.new (row.now ∷ [])) }
 {
@@ -80,26 +74,6 @@ fn change_cached(alloc: Global, bucket: &mut Bucket, row: &Row) -> Result<(), No
     } else {
         save_and_change(alloc, bucket, row)
     }
-}
-
-/// Pushes a row of a cached node: the node is saved and changed, and the row moved behind the others. After `NoMemory` some of this is
-/// done, and what was saved before still is.
-pub fn push_row(
-    alloc: Global,
-    bucket: &mut Bucket,
-    log: &mut PrivateLog,
-    row: Row,
-) -> Result<(), NoMemory>
-    requires of_bucket { row.node.bucket ≡ bucket.old.bucket }
-    requires there { IsCached bucket.old row.node.number }
-    requires rec { FitsRec row.rec }
-    requires version { row.version ≤ greatest }
-    ensures saves { Saves bucket.old bucket.new }
-    ensures pushes { OnOk result (Pushes bucket.old bucket.new (row ∷ [])) }
-    ensures log { OnOk result (log.new ≡ log.old ++ row ∷ []) }
-{
-    change_cached(alloc, bucket, &row)?;
-    log.keep(row)
 }
 
 /// Notes again what was known of a leaf's keys.
@@ -112,17 +86,15 @@ fn note_again(bucket: &mut Bucket, number: u32, are_own: bool)
     }
 }
 
-/// Pushes a row that changes one pair of a cached leaf, as `push_row` does. That all keys of the leaf are of the bucket stays known.
+/// Pushes a row that changes one pair of a cached leaf: the leaf is saved and changed, and the row moved behind the others. That all its
+/// keys are of the bucket stays known. After `NoMemory` some of this is done, and what was saved before still is.
 pub fn push_pair(
     alloc: Global,
     bucket: &mut Bucket,
     log: &mut PrivateLog,
     row: Row,
 ) -> Result<(), NoMemory>
-    requires of_bucket { row.node.bucket ≡ bucket.old.bucket }
-    requires there { IsCached bucket.old row.node.number }
-    requires rec { FitsRec row.rec }
-    requires version { row.version ≤ greatest }
+    requires row { IsRowOf bucket.old row }
     requires own { IsOwnChange bucket.old.bucket row.rec }
     ensures saves { Saves bucket.old bucket.new }
     ensures pushes { OnOk result (Pushes bucket.old bucket.new (row ∷ [])) }
@@ -130,7 +102,8 @@ pub fn push_pair(
 {
     let number = row.node.number;
     let are_own = bucket.has_own_keys(number);
-    push_row(alloc, bucket, log, row)?;
+    change_cached(alloc, bucket, &row)?;
+    log.keep(row)?;
     note_again(bucket, number, are_own);
     Ok(())
 }
@@ -152,7 +125,7 @@ fn hold_place(bucket: &mut Bucket, number: u32) -> Result<(), NoMemory>
     bucket.put(number, place)
 }
 
-/// Pushes a row of a node that is cached, or of one that the row is the image of.
+/// Pushes a row of a node that is cached, or of one that the row is the image of, as `push_pair` does.
 pub fn push_any(
     alloc: Global,
     bucket: &mut Bucket,
@@ -169,7 +142,8 @@ pub fn push_any(
     ensures log { OnOk result (log.new ≡ log.old ++ row ∷ []) }
 {
     hold_place(bucket, row.node.number)?;
-    push_row(alloc, bucket, log, row)
+    change_cached(alloc, bucket, &row)?;
+    log.keep(row)
 }
 
 /// Pushes rows in their order, and moves each of them behind the log's.

@@ -139,17 +139,12 @@ fn put_in_leaf(
     requires room { IsTrue (has_room (pairs_of (given bucket.old path.leaf).0) key.now) }
     ensures outcome { Outcome bucket.old bucket.new log.old log.new (call.Put key.now value.now) (λ _. Unit {0}) (λ _. ⊥) result }
 {
-    let row = Row {
-        node: NodeId {
-            bucket: bucket.bucket(),
-            number: path.leaf,
-        },
-        version: next_version(bucket, path.leaf)?,
-        rec: Rec::Put {
-            key: bytes_of(alloc, key)?,
-            value: bytes_of(alloc, value)?,
-        },
+    let version = next_version(bucket, path.leaf)?;
+    let put = Rec::Put {
+        key: bytes_of(alloc, key)?,
+        value: bytes_of(alloc, value)?,
     };
+    let row = row_of(bucket.bucket(), path.leaf, version, put);
     push_pair(alloc, bucket, log, row)?;
     Ok(())
 }

@@ -12,9 +12,10 @@ ghost use Rattle.btree_nodes.specs.Calls.{Outcome, IsChange, OnCleanAnswer, Soun
 
 use crate::change::{next_version, push_pair};
 use crate::fault::TreeFault;
+use crate::growth::row_of;
 use crate::leaf::value_in;
 use crate::tree::{Path, find_leaf};
-use fine_model::{NodeId, Rec, Row};
+use fine_model::Rec;
 use node_cache::{Bucket, NodeSource, bytes_of};
 use private_log::PrivateLog;
 use std::alloc::Global;
@@ -35,16 +36,11 @@ fn remove_at(
     if value_in(bucket, path.leaf, key).is_none() {
         return Ok(false);
     }
-    let row = Row {
-        node: NodeId {
-            bucket: bucket.bucket(),
-            number: path.leaf,
-        },
-        version: next_version(bucket, path.leaf)?,
-        rec: Rec::Del {
-            key: bytes_of(alloc, key)?,
-        },
+    let version = next_version(bucket, path.leaf)?;
+    let del = Rec::Del {
+        key: bytes_of(alloc, key)?,
     };
+    let row = row_of(bucket.bucket(), path.leaf, version, del);
     push_pair(alloc, bucket, log, row)?;
     Ok(true)
 }

@@ -2,6 +2,7 @@
 use Rattle.std.proofs.Common.{◌≡◌, ℕ, Bool, true, false, cond, if◌then◌else◌, Result, Ok, Err, OnErr, List, [], ◌∷◌, ◌++◌, Option, Some, None, option_map, unwrap_or, is_some, IsSome, IfSome, IsSomeAnd, nat_eq, eq-eqb, eqb-true, true≢false, refl, sym, ap, subst, ◌∙◌}
 use Rattle.std.specs.List.{IsDistinct}
 use Rattle.std.specs.Map.{keys_of, lookup, remove_entry, set_value}
+use Rattle.std.specs.Option.{option_to_list}
 use Rattle.std.proofs.lemmas.Bool.{cond-true, cond-false}
 use Rattle.std.proofs.lemmas.Map.{keys-set_value}
 use Rattle.std.proofs.lemmas.Map.Steps.{set_value_same}
@@ -13,7 +14,7 @@ use Rattle.node_cache.specs.Entries.{restored}
 use Rattle.node_cache.specs.Originals.{original_of, originals, made_whole, whole_at, ChangedAt, Stands, IsKept}
 use Rattle.node_cache.proofs.Moved.{none_found}
 use Rattle.node_cache.specs.Cache.{IsCache}
-use Rattle.node_cache.proofs.Restored.{found_last}
+use Rattle.node_cache.proofs.Restored.{IsLast, is_last, found_last}
 
 abbrev Nodes : Type 0
 Nodes = List (ℕ × Cached)
@@ -215,6 +216,10 @@ originals_whole t es = by (lookup t es) refl
     by None is = ap originals (whole_none t es is)
     by (Some o) is = ap originals (whole_some t es o is) ∙ originals_set t es (made_whole o) ∙ set_value_same t (originals es) (original_of o) (lookup_originals t es ∙ ap (option_map original_of) is)
 
+-- an original that is kept whole is the same one
+pub still_saved : (k : ℕ) (es es' : Saved) → es' ≡ whole_at (nat_eq k) es → originals es' ≡ originals es
+still_saved k es es' is = ap originals is ∙ originals_whole (nat_eq k) es
+
 keys_whole : (t : ℕ → Bool) (es : Saved) → keys_of (whole_at t es) ≡ keys_of es
 keys_whole t es = by (lookup t es) refl
   where
@@ -259,6 +264,12 @@ popped_stands saved rest k o nodes nodes' finds is stands q = subst (λ s. IfSom
     by : (b : Bool) → nat_eq k q ≡ b → IfSome (cond b None (lookup (nat_eq q) saved)) (λ o. Stands o (lookup (nat_eq q) nodes'))
     by true same = tt
     by false differs = subst (λ found. IfSome (lookup (nat_eq q) saved) (λ o. Stands o found)) (sym (ap (lookup (nat_eq q)) is ∙ other_restored k q differs o nodes)) (stands q)
+
+-- it was the last one
+pub last_popped : (saved rest : Saved) (k : ℕ) (o : Original) (popped : Option (ℕ × Original)) → saved ≡ rest ++ option_to_list popped → popped ≡ Some (k, o)
+    → ((q : ℕ) → lookup (nat_eq q) rest ≡ cond (nat_eq k q) None (lookup (nat_eq q) saved)) → IsLast (originals saved) (originals rest) k (original_of o)
+last_popped saved rest k o popped whole is finds =
+    is_last (originals saved) (originals rest) k (original_of o) (ap originals (whole ∙ ap (λ r. rest ++ option_to_list r) is) ∙ originals_pushed rest k o) (finds_originals saved rest k finds)
 
 -- ---- a number that is saved
 

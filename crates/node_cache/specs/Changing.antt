@@ -1,5 +1,5 @@
 -- Changes of one pair of a cached leaf.
-use Rattle.std.specs.Prelude.{◌≡◌, ℕ, ◌+◌, ◌==◌, nat_eq, nat_lt, Bool, true, false, ◌&&◌, ◌||◌, List, [], length, Option, Some, None, Result, Ok, Err, option_map, unwrap_or}
+use Rattle.std.specs.Prelude.{◌≡◌, ◌≤◌, ℕ, ◌+◌, ◌==◌, nat_eq, nat_lt, Bool, true, false, ◌&&◌, ◌||◌, List, [], length, Option, Some, None, Result, Ok, Err, option_map, unwrap_or}
 use Rattle.std.specs.Map.{lookup, set_value}
 use Rattle.fine_model.specs.Map.{Pair, set, unset, has}
 use Rattle.fine_model.specs.Nodes.{step}
@@ -10,7 +10,7 @@ use Rattle.fine_model.specs.declared.Node.TheVariants as node
 use Rattle.fine_model.specs.declared.Rec.{Rec}
 use Rattle.fine_model.specs.declared.Rec.TheVariants as rec
 use Rattle.fine_model.specs.declared.Row.{Row}
-use Rattle.fine_model.specs.RowBytes.{most_in_node}
+use Rattle.fine_model.specs.RowBytes.{FitsRec, greatest, most_in_node}
 use Rattle.node_cache.specs.declared.cached.Cached.{Cached}
 use Rattle.node_cache.specs.declared.original.Original.{Original}
 use Rattle.node_cache.specs.declared.undo.Step.{Step}
@@ -32,6 +32,11 @@ changes_node _ change = false
 -- a row is the next one of a cached leaf, and sets or removes one of its pairs
 abbrev pub changes_pair : Cached → Row → Bool
 changes_pair kept row = (row.version == kept.version + 1) && changes_node kept.node row.rec
+
+-- a row is within the format's bounds
+pub record FitsChange (row : Row) : Type 0 where
+  pub rec : FitsRec row.rec
+  pub version : row.version ≤ greatest
 
 abbrev pub changed_pairs : List Pair → Rec → List Pair
 changed_pairs pairs (rec.Put key value) = set pairs key value

@@ -1,13 +1,19 @@
 -- What takes back the changes of a leaf's pairs.
-use Rattle.std.specs.Prelude.{◌≡◌, ℕ, ◌<◌, ◌≤◌, List, [], ◌∷◌, ◌++◌, length, reverse, Option, Some, None, option_map, unwrap_or, slice_get, slice_set, vec_capacity, ⊤}
+use Rattle.std.specs.Prelude.{◌≡◌, ℕ, ◌<◌, ◌≤◌, List, [], ◌∷◌, ◌++◌, length, map, IsTrue, reverse, Option, Some, None, option_map, unwrap_or, slice_get, slice_set, vec_capacity, ⊤}
 use Rattle.std.specs.List.{insert, remove}
-use Rattle.fine_model.specs.Map.{Pair}
+use Rattle.fine_model.specs.Map.{Pair, is_ascending}
+use Rattle.fine_model.specs.RowBytes.{most_in_node}
 use Rattle.fine_model.specs.Trees.{pairs_of}
 use Rattle.fine_model.specs.declared.Node.TheVariants as node
 use Rattle.node_cache.specs.declared.cached.Cached.{Cached}
 use Rattle.node_cache.specs.declared.undo.Step.{Step}
 use Rattle.node_cache.specs.declared.undo.Step.TheVariants as step
 use Rattle.node_cache.specs.declared.undo.UndoLog.{UndoLog}
+
+-- pairs as a leaf has them: few, and in the order of their keys
+pub record IsOfLeaf (pairs : List Pair) : Type 0 where
+  pub few : length pairs ≤ most_in_node
+  pub order : IsTrue (is_ascending (map (λ p. p.0) pairs))
 
 -- the pair at a place has another value
 abbrev pub with_value : List Pair → ℕ → List ℕ → List Pair

@@ -1,12 +1,11 @@
 //! Changes of one pair of a cached leaf.
 
-ghost use Rattle.std.specs.Prelude.{◌≡◌, ◌≤◌, IsTrue, IfOk, OnErr, is_some, nat_eq, length, map};
+ghost use Rattle.std.specs.Prelude.{◌≡◌, ◌≤◌, IfOk, OnErr, is_some, nat_eq, length};
 ghost use Rattle.std.specs.Map.{lookup};
 ghost use Rattle.indexmap.specs.IndexMap.{IsUnique};
-ghost use Rattle.fine_model.specs.Map.{is_ascending};
-ghost use Rattle.fine_model.specs.RowBytes.{FitsRec, greatest, most_in_node};
-ghost use Rattle.node_cache.specs.Undo.{TakesBack};
-ghost use Rattle.node_cache.specs.Changing.{changes_pair, changes_leaf, changed_pairs, StepsBack, IsNoted, ChangesPair};
+ghost use Rattle.fine_model.specs.RowBytes.{most_in_node};
+ghost use Rattle.node_cache.specs.Undo.{TakesBack, IsOfLeaf};
+ghost use Rattle.node_cache.specs.Changing.{changes_pair, changes_leaf, changed_pairs, StepsBack, IsNoted, ChangesPair, FitsChange};
 
 use crate::cached::Cached;
 use crate::original::{Original, note};
@@ -19,8 +18,7 @@ use std::snapshot::Snapshot;
 
 /// Sets or removes a pair of a leaf. Answers what takes this back, or none where nothing is changed.
 fn change_leaf(alloc: Global, pairs: &mut Pairs, change: &Rec) -> Result<Option<Step>, NoMemory>
-    requires few { length pairs.old ≤ most_in_node }
-    requires order { IsTrue (is_ascending (map (λ p. p.0) pairs.old)) }
+    requires { IsOfLeaf pairs.old }
     ensures done { IfOk result (λ step. is_some step ≡ changes_leaf pairs.old change.now) }
     ensures step { IfOk result (λ step. TakesBack step pairs.old pairs.new (changed_pairs pairs.old change.now)) }
     ensures few { length pairs.new ≤ most_in_node }
@@ -35,8 +33,7 @@ fn change_leaf(alloc: Global, pairs: &mut Pairs, change: &Rec) -> Result<Option<
 
 /// Does to a leaf what a row says of one of its pairs. Answers what takes this back, or none where nothing is changed.
 fn step_pair(alloc: Global, kept: &mut Cached, row: &Row) -> Result<Option<Step>, NoMemory>
-    requires rec { FitsRec row.now.rec }
-    requires version { row.now.version ≤ greatest }
+    requires row { FitsChange row.now }
     ensures done { IfOk result (λ step. is_some step ≡ changes_pair kept.old row.now) }
     ensures step { IfOk result (λ step. StepsBack step kept.old kept.new row.now) }
     ensures err { OnErr result (kept.new ≡ kept.old) }
@@ -61,8 +58,7 @@ fn change_kept(
     saved: &mut IndexMap<u32, Original>,
     row: &Row,
 ) -> Result<bool, NoMemory>
-    requires rec { FitsRec row.now.rec }
-    requires version { row.now.version ≤ greatest }
+    requires row { FitsChange row.now }
     requires unique { IsUnique nat_eq saved.old }
     ensures done { IfOk result (λ done. done ≡ changes_pair kept.old row.now) }
     ensures noted { IfOk result (λ done. IsNoted done kept.old kept.new saved.old.entries saved.new.entries row.now) }
@@ -96,8 +92,7 @@ pub fn change_pair(
     saved: &mut IndexMap<u32, Original>,
     row: &Row,
 ) -> Result<bool, NoMemory>
-    requires rec { FitsRec row.now.rec }
-    requires version { row.now.version ≤ greatest }
+    requires row { FitsChange row.now }
     requires unique { IsUnique nat_eq saved.old }
     ensures change { ChangesPair result nodes.old.entries nodes.new.entries saved.old.entries saved.new.entries row.now }
     ensures unique_nodes { IsUnique nat_eq nodes.new }

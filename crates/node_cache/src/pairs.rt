@@ -1,9 +1,9 @@
 //! The pairs of a leaf.
 
-ghost use Rattle.std.specs.Prelude.{◌≡◌, ◌<◌, ◌≤◌, ◌||◌, nat_lt, IsTrue, IfOk, IfErr, OnOk, OnErr, Some, option_copied, option_map, is_some, length, map, slice_get};
-ghost use Rattle.fine_model.specs.Map.{get, has, is_ascending, set, unset};
+ghost use Rattle.std.specs.Prelude.{◌≡◌, ◌<◌, ◌≤◌, ◌||◌, nat_lt, IfOk, IfErr, OnOk, OnErr, Some, option_copied, option_map, is_some, length, slice_get};
+ghost use Rattle.fine_model.specs.Map.{get, has, set, unset};
 ghost use Rattle.fine_model.specs.RowBytes.{most_in_node};
-ghost use Rattle.node_cache.specs.Undo.{TakesBack, with_value};
+ghost use Rattle.node_cache.specs.Undo.{TakesBack, with_value, IsOfLeaf};
 
 use crate::undo::Step;
 use fine_model::format::MOST_IN_NODE;
@@ -36,8 +36,7 @@ pub fn set_pair(
     key: &[u8],
     value: &[u8],
 ) -> Result<Option<Step>, NoMemory>
-    requires few { length pairs.old ≤ most_in_node }
-    requires order { IsTrue (is_ascending (map (λ p. p.0) pairs.old)) }
+    requires { IsOfLeaf pairs.old }
     ensures done { IfOk result (λ step. is_some step ≡ (has pairs.old key.now || nat_lt (length pairs.old) most_in_node)) }
     ensures step { IfOk result (λ step. TakesBack step pairs.old pairs.new (set pairs.old key.now value.now)) }
     ensures few { length pairs.new ≤ most_in_node }
@@ -62,8 +61,7 @@ pub fn set_pair(
 
 /// Removes the pair with the key, where there is one. Answers what takes this back.
 pub fn unset_pair(alloc: Global, pairs: &mut Pairs, key: &[u8]) -> Result<Option<Step>, NoMemory>
-    requires few { length pairs.old ≤ most_in_node }
-    requires order { IsTrue (is_ascending (map (λ p. p.0) pairs.old)) }
+    requires { IsOfLeaf pairs.old }
     ensures done { IfOk result (λ step. is_some step ≡ has pairs.old key.now) }
     ensures step { IfOk result (λ step. TakesBack step pairs.old pairs.new (unset pairs.old key.now)) }
     ensures few { length pairs.new ≤ most_in_node }

@@ -4,9 +4,9 @@ use Rattle.std.specs.Map.{lookup}
 use Rattle.std.specs.Option.{option_to_list}
 use Rattle.node_cache.specs.Entries.{as_saved}
 use Rattle.node_cache.specs.Originals.{original_of, originals, Stands}
-use Rattle.node_cache.proofs.Kept.{originals_pushed, finds_originals, stands_changed, popped_here, popped_stands, other_restored}
+use Rattle.node_cache.proofs.Kept.{last_popped, stands_changed, popped_here, popped_stands, other_restored}
 use Rattle.node_cache.proofs.Marked.{marked_but}
-use Rattle.node_cache.proofs.Restored.{is_last, emptied, restored_one, none_saved}
+use Rattle.node_cache.proofs.Restored.{emptied, restored_one, none_saved}
 use Rattle.node_cache.proofs.restore_all.Goals as goal
 
 pub loop-number-init : goal.loop-number-init
@@ -28,8 +28,7 @@ loop-number-preserved c =
     let rest = c.pop.new.self.entries in
     let k = c.in-Some.number in
     let o = c.in-Some.original in
-    let whole : saved ≡ rest ++ (k, o) ∷ [] = c.pop.ensures.entries ∙ ap (λ r. rest ++ option_to_list r) c.in-Some.is in
-    let last = is_last (originals saved) (originals rest) k (original_of o) (ap originals whole ∙ originals_pushed rest k o) (finds_originals saved rest k (c.in-Some.ensures).updates.0) in
+    let last = last_popped saved rest k o _ c.pop.ensures.entries c.in-Some.is (c.in-Some.ensures).updates.0 in
     record {
       nodes = ap (filter_map (as_saved (originals rest))) c.restore.ensures.nodes ∙ restored_one (originals saved) (originals rest) k (original_of o) last c.loop-number.nodes.entries c.loop-number.invariant.unique ∙ c.loop-number.invariant.nodes;
       unique = c.restore.ensures.unique;

@@ -1,8 +1,8 @@
-use Rattle.std.proofs.Common.{◌≡◌, ◌≤◌, [], ◌∷◌, Ok, w64, to_z, of_z, to_z-of_z, refl, sym, ap, subst, ◌∙◌, arith}
+use Rattle.std.proofs.Common.{◌≡◌, ◌≤◌, [], ◌∷◌, Ok, to_z-of_z, refl, sym, ap, subst, ◌∙◌, arith}
 use Rattle.std.proofs.lemmas.Result.{err_from_is_err_and}
 use Rattle.fine_model.specs.declared.Call.TheVariants as call
 use Rattle.fine_model.specs.declared.Rec.TheVariants as rec
-use Rattle.fine_model.specs.declared.Row.{Row}
+use Rattle.fine_model.specs.Pushed.{row_of}
 use Rattle.fine_model.specs.Store.{answer}
 use Rattle.fine_model.specs.Trees.{pairs_of}
 use Rattle.node_cache.specs.Given.{given}
@@ -21,14 +21,14 @@ returns-then-not-is_sum c =
     let said : c.reply_in-reply.result ≡ (answer (pairs_in b key) (call.Add key c.args.by)).0 = c.reply_in-reply.ensures ∙ ap (λ z. (answer (pairs_of (given b c.args.path.leaf).0) (call.Add key z)).0) (to_z-of_z c.ranges.by) ∙ ap (λ m. (answer m (call.Add key c.args.by)).0) (sym (path_pairs b key c.args.path is)) in
     record { outcome = (said, record { here = is.here; fit = is.fit }, add_nothing b key c.args.by c.args.path is c.args.log.now (sym (ap is_sum said) ∙ sym c.if-not-is_sum.ensures)) }
 
-pub returns-in_err-next_version : goal.returns-in_err-next_version
-returns-in_err-next_version c =
+pub returns-in_err-version : goal.returns-in_err-version
+returns-in_err-version c =
     let b = c.args.bucket.now in
     let key = c.args.key.now in
     let is = c.requires.path in
     let said : c.reply_in-reply.result ≡ (answer (pairs_in b key) (call.Add key c.args.by)).0 = c.reply_in-reply.ensures ∙ ap (λ z. (answer (pairs_of (given b c.args.path.leaf).0) (call.Add key z)).0) (to_z-of_z c.ranges.by) ∙ ap (λ m. (answer m (call.Add key c.args.by)).0) (sym (path_pairs b key c.args.path is)) in
     let sum = sym (ap is_sum said) ∙ sym c.if-not-is_sum.ensures in
-    let over = (c.in_err-next_version.ensures) in
+    let over = (c.in_err-version.ensures) in
     let p = err_from_is_err_and c.from_residual.result c.from_residual.ensures.1 in
     record { outcome = rw (p.1, p.2, over.0) (plus_over b key c.args.by c.args.path is c.requires.there sum over.1, plus_first b key c.args.by c.args.path is c.requires.there sum over.1, record { here = is.here; fit = is.fit }, record { nodes = refl; rows = refl }) }
 
@@ -40,15 +40,14 @@ returns c =
     let is = c.requires.path in
     let said : c.reply_in-reply.result ≡ (answer (pairs_in b key) (call.Add key c.args.by)).0 = c.reply_in-reply.ensures ∙ ap (λ z. (answer (pairs_of (given b c.args.path.leaf).0) (call.Add key z)).0) (to_z-of_z c.ranges.by) ∙ ap (λ m. (answer m (call.Add key c.args.by)).0) (sym (path_pairs b key path is)) in
     let sum = sym (ap is_sum said) ∙ sym c.if-not-is_sum.ensures in
-    let version = (c.in_ok-next_version.ensures) in
-    let mine : Row = record { node = record { bucket = c.bucket.result; number = path.leaf }; version = c.in_ok-next_version.field-0; rec = rec.Plus c.in_ok-bytes_of.field-0 (to_z w64 (of_z w64 c.args.by)) } in
-    let same : mine ≡ leaf_row b key path is (rec.Plus key c.args.by) =
-    λ i. record { node = record { bucket = c.bucket.ensures i; number = path.leaf }; version = version.0 i; rec = rec.Plus (c.in_ok-bytes_of.ensures i) (to_z-of_z c.ranges.by i) } in record {
+    let version = (c.in_ok-version.ensures) in
+    let same : c.row_of-row.result ≡ leaf_row b key path is (rec.Plus key c.args.by) =
+    c.row_of-row.ensures ∙ (λ i. row_of (c.bucket.ensures i) path.leaf (version.0 i) (rec.Plus (c.in_ok-bytes_of.ensures i) (to_z-of_z c.ranges.by i))) in record {
       outcome = (
         said,
         record { here = is.here; fit = is.fit },
         record {
-          rows = mine ∷ [];
+          rows = c.row_of-row.result ∷ [];
           is_pushed = plus_pushed b key c.args.by path is c.requires.there sum (subst (λ v. v ≤ 4611686018427387904) version.0 version.1) ∙ ap (λ row. Ok (row ∷ [])) (sym same);
           behind = (c.in_ok-push_pair.ensures).log;
           pushes = (c.in_ok-push_pair.ensures).pushes;

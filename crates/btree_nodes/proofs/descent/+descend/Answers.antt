@@ -1,8 +1,7 @@
-use Rattle.std.proofs.Common.{◌≡◌, ◌<◌, sym, subst, ◌∙◌, arith}
-use Rattle.node_cache.specs.Given.{given, IsCached}
+use Rattle.std.proofs.Common.{◌≡◌, ◌<◌, sym, ◌∙◌, arith}
+use Rattle.node_cache.specs.Given.{given}
 use Rattle.btree_nodes.specs.Descent.{bounds_by}
-use Rattle.btree_nodes.specs.Descends.{IsWay, IsUnfit}
-use Rattle.btree_nodes.proofs.Ways.{way_leaf, unfit_leaf, unfit_inner, descends_on, kept_stays, step_stays, among_first, among_step, used_first, used_step}
+use Rattle.btree_nodes.proofs.Ways.{way_leaf, unfit_leaf, unfit_inner, descends_on, step_behind, among_first, among_step, used_first, used_step}
 use Rattle.btree_nodes.proofs.Changed.{on_ok}
 use Rattle.btree_nodes.proofs.Loads.{loaded_then}
 use Rattle.btree_nodes.proofs.SoundCalls.{clean_map}
@@ -10,41 +9,21 @@ use Rattle.btree_nodes.proofs.descent.+descend.Goals as goal
 
 pub returns-then-is_leaf_within-clause-way : goal.returns-then-is_leaf_within-clause-way
 returns-then-is_leaf_within-clause-way g t c =
-    let b = c.reach.new.bucket in
-    let bounds = bounds_by (given b) c.args.low c.args.high in
-    let here : IsCached b c.args.number = (c.in_ok-reach.ensures).there in
-    let ground_floor : c.args.height ≡ 0 = omega arith in
-    subst (λ h. IsWay b h c.args.next c.args.key.now bounds c.args.number c.args.number) (sym ground_floor)
-    (way_leaf b c.args.next c.args.key.now bounds c.args.number (sym c.is_leaf_within.ensures ∙ c.if-is_leaf_within.true) here)
+    way_leaf c.reach.new.bucket c.args.next c.args.key.now (bounds_by (given c.reach.new.bucket) c.args.low c.args.high) c.args.number c.args.height (omega arith) (sym c.is_leaf_within.ensures ∙ c.if-is_leaf_within.true) (c.in_ok-reach.ensures).there
 
 pub returns-else-is_leaf_within-clause-way : goal.returns-else-is_leaf_within-clause-way
 returns-else-is_leaf_within-clause-way g t c =
-    let b = c.reach.new.bucket in
-    let bounds = bounds_by (given b) c.args.low c.args.high in
-    let here : IsCached b c.args.number = (c.in_ok-reach.ensures).there in
-    let ground_floor : c.args.height ≡ 0 = omega arith in
-    subst (λ h. IsUnfit b h c.args.next c.args.key.now bounds c.args.number c.bucket.result c.args.number) (sym ground_floor)
-    (subst (λ k. IsUnfit b 0 c.args.next c.args.key.now bounds c.args.number k c.args.number) (sym c.bucket.ensures)
-    (unfit_leaf b c.args.next c.args.key.now bounds c.args.number (sym c.is_leaf_within.ensures ∙ c.if-is_leaf_within.false) here))
+    unfit_leaf c.reach.new.bucket c.args.next c.args.key.now (bounds_by (given c.reach.new.bucket) c.args.low c.args.high) c.args.number c.args.height c.bucket.result (omega arith) c.bucket.ensures (sym c.is_leaf_within.ensures ∙ c.if-is_leaf_within.false) (c.in_ok-reach.ensures).there
 
 pub returns-in_default-clause-way : goal.returns-in_default-clause-way
 returns-in_default-clause-way g t c =
-    let b = c.reach.new.bucket in
-    let bounds = bounds_by (given b) c.args.low c.args.high in
-    let here : IsCached b c.args.number = (c.in_ok-reach.ensures).there in
-    let above : 0 < c.args.height = omega arith in
-    subst (λ k. IsUnfit b c.args.height c.args.next c.args.key.now bounds c.args.number k c.args.number) (sym c.bucket.ensures)
-    (unfit_inner b c.args.next c.args.key.now bounds c.args.number c.args.height above (c.in_default.ensures).step here)
+    unfit_inner c.reach.new.bucket c.args.next c.args.key.now (bounds_by (given c.reach.new.bucket) c.args.low c.args.high) c.args.number c.args.height c.bucket.result (omega arith) c.bucket.ensures (c.in_default.ensures).step (c.in_ok-reach.ensures).there
 
 pub returns-clause-way : goal.returns-clause-way
 returns-clause-way g t c =
     let mid = c.reach.new.bucket in
-    let here : IsCached mid c.args.number = (c.in_ok-reach.ensures).there in
     let above : 0 < c.args.height = omega arith in
-    let kept = (c.in-Some.ensures).kept in
-    let low = kept_stays _ _ _ _ mid c.reach.ensures.loaded c.args.low c.requires.low in
-    let high = kept_stays _ _ _ _ mid c.reach.ensures.loaded c.args.high c.requires.high in
-    let step = step_stays _ _ _ mid c.descend.new.bucket c.descend.ensures.loaded c.args.next c.args.key.now c.args.low c.args.high c.args.number c.in-Some.step here low high kept.0 kept.1 (c.in-Some.ensures).step in
+    let step = step_behind _ _ _ _ _ _ _ mid c.descend.new.bucket c.reach.ensures.loaded c.descend.ensures.loaded c.args.next c.args.key.now c.args.low c.args.high c.args.number c.in-Some.step c.requires.low c.requires.high (c.in_ok-reach.ensures).there (c.in-Some.ensures).kept (c.in-Some.ensures).step in
     descends_on c.descend.new.bucket c.args.next c.args.key.now c.args.low c.args.high c.args.number c.in-Some.step step c.args.height _ _ (λ f h. g.met.S.NodeSource.fails_earlier _ _ _ f c.reach.ensures.later h) above c.descend.result c.descend.ensures.way
 
 pub returns-in_err-reach-clause-on_way : goal.returns-in_err-reach-clause-on_way
@@ -62,12 +41,8 @@ returns-in_default-clause-on_way g t c = among_first _ _ _ _ c.args.height c.arg
 pub returns-clause-on_way : goal.returns-clause-on_way
 returns-clause-on_way g t c =
     let mid = c.reach.new.bucket in
-    let here : IsCached mid c.args.number = (c.in_ok-reach.ensures).there in
     let above : 0 < c.args.height = omega arith in
-    let kept = (c.in-Some.ensures).kept in
-    let low = kept_stays _ _ _ _ mid c.reach.ensures.loaded c.args.low c.requires.low in
-    let high = kept_stays _ _ _ _ mid c.reach.ensures.loaded c.args.high c.requires.high in
-    let step = step_stays _ _ _ mid c.descend.new.bucket c.descend.ensures.loaded c.args.next c.args.key.now c.args.low c.args.high c.args.number c.in-Some.step here low high kept.0 kept.1 (c.in-Some.ensures).step in
+    let step = step_behind _ _ _ _ _ _ _ mid c.descend.new.bucket c.reach.ensures.loaded c.descend.ensures.loaded c.args.next c.args.key.now c.args.low c.args.high c.args.number c.in-Some.step c.requires.low c.requires.high (c.in_ok-reach.ensures).there (c.in-Some.ensures).kept (c.in-Some.ensures).step in
     among_step c.args.bucket.now mid c.descend.new.bucket c.args.key.now c.args.height c.args.number c.in-Some.step.number above step.number c.reach.ensures.among c.descend.ensures.on_way
 
 pub returns-clause-loaded : goal.returns-clause-loaded
@@ -86,10 +61,6 @@ returns-then-is_leaf_within-clause-used g t c =
 pub returns-clause-used : goal.returns-clause-used
 returns-clause-used g t c =
     let mid = c.reach.new.bucket in
-    let here : IsCached mid c.args.number = (c.in_ok-reach.ensures).there in
     let above : 0 < c.args.height = omega arith in
-    let kept = (c.in-Some.ensures).kept in
-    let low = kept_stays _ _ _ _ mid c.reach.ensures.loaded c.args.low c.requires.low in
-    let high = kept_stays _ _ _ _ mid c.reach.ensures.loaded c.args.high c.requires.high in
-    let step = step_stays _ _ _ mid c.descend.new.bucket c.descend.ensures.loaded c.args.next c.args.key.now c.args.low c.args.high c.args.number c.in-Some.step here low high kept.0 kept.1 (c.in-Some.ensures).step in
+    let step = step_behind _ _ _ _ _ _ _ mid c.descend.new.bucket c.reach.ensures.loaded c.descend.ensures.loaded c.args.next c.args.key.now c.args.low c.args.high c.args.number c.in-Some.step c.requires.low c.requires.high (c.in_ok-reach.ensures).there (c.in-Some.ensures).kept (c.in-Some.ensures).step in
     on_ok c.descend.result (used_step c.args.bucket.now mid c.descend.new.bucket c.args.key.now c.args.height c.args.number c.in-Some.step.number above step.number (c.in_ok-reach.ensures).used) c.descend.ensures.used

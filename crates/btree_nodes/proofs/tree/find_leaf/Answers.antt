@@ -4,10 +4,10 @@ use Rattle.node_cache.specs.Given.{given, IsCached}
 use Rattle.node_cache.specs.Marked.{HasOwnKeys}
 use Rattle.btree_nodes.specs.Calls.{IsFirstUnfit}
 use Rattle.btree_nodes.specs.declared.tree.Path.{Path}
-use Rattle.btree_nodes.proofs.Loads.{loaded_given, loaded_kept, loaded_then}
+use Rattle.btree_nodes.proofs.Loads.{loaded_kept, loaded_then}
 use Rattle.btree_nodes.proofs.SoundCalls.{clean_map, clean_fault}
 use Rattle.btree_nodes.proofs.Ways.{among_head, used_under}
-use Rattle.btree_nodes.proofs.Paths.{SaysHead, head_some, head_none, way_path, way_from_head, fault_under}
+use Rattle.btree_nodes.proofs.Paths.{head_behind, head_none, way_path, way_from_head, fault_under}
 use Rattle.btree_nodes.proofs.OwnKeys.{own_cached, own_end}
 use Rattle.btree_nodes.proofs.tree.find_leaf.Goals as goal
 
@@ -22,8 +22,7 @@ returns-in_err-leaf-clause-path g c =
     let b = c.descend.new.bucket in
     let here : IsCached c.reach.new.bucket 0 = (c.in_ok-reach.ensures).there in
     let then_here = loaded_kept _ _ _ c.reach.new.bucket b c.descend.ensures.loaded 0 here in
-    let same = loaded_given _ _ _ c.reach.new.bucket b c.descend.ensures.loaded 0 here in
-    let says = subst (λ k. SaysHead k.0 c.in-Some.root c.in-Some.next c.in-Some.depth) (sym same) (head_some (given c.reach.new.bucket 0).0 (c.in-Some.root, c.in-Some.next, c.in-Some.depth) c.in-Some.ensures) in
+    let says = head_behind _ _ _ c.reach.new.bucket b c.descend.ensures.loaded c.in-Some.root c.in-Some.next c.in-Some.depth here c.in-Some.ensures in
     let p = err_from_is_err_and c.from_residual-in_err-leaf.result c.from_residual-in_err-leaf.ensures.1 in
     rw (p.1, p.2)
     (fault_under b c.args.key.now c.in-Some.root c.in-Some.next c.in-Some.depth then_here says _ _ (λ f h. g.met.S.NodeSource.fails_earlier _ _ _ f c.reach.ensures.later h) c.in_err-leaf.field-0.0 (c.in_err-leaf.ensures).way)
@@ -33,8 +32,7 @@ returns-clause-path g c =
     let b = c.descend.new.bucket in
     let here : IsCached c.reach.new.bucket 0 = (c.in_ok-reach.ensures).there in
     let then_here = loaded_kept _ _ _ c.reach.new.bucket b c.descend.ensures.loaded 0 here in
-    let same = loaded_given _ _ _ c.reach.new.bucket b c.descend.ensures.loaded 0 here in
-    let says = subst (λ k. SaysHead k.0 c.in-Some.root c.in-Some.next c.in-Some.depth) (sym same) (head_some (given c.reach.new.bucket 0).0 (c.in-Some.root, c.in-Some.next, c.in-Some.depth) c.in-Some.ensures) in
+    let says = head_behind _ _ _ c.reach.new.bucket b c.descend.ensures.loaded c.in-Some.root c.in-Some.next c.in-Some.depth here c.in-Some.ensures in
     let of_bucket : b.bucket < 256 = subst (λ (k : ℕ). k < 256) (sym (c.descend.ensures.loaded.bucket ∙ c.reach.ensures.loaded.bucket)) c.requires.bucket in
     rw c.note_own_keys.ensures (way_path b c.args.key.now c.in-Some.root c.in-Some.next c.in-Some.depth then_here says c.in_ok-leaf.leaf of_bucket (c.in_ok-leaf.ensures).way)
 
@@ -48,16 +46,14 @@ pub returns-in_err-leaf-clause-on_way : goal.returns-in_err-leaf-clause-on_way
 returns-in_err-leaf-clause-on_way g c =
     let b = c.descend.new.bucket in
     let here : IsCached c.reach.new.bucket 0 = (c.in_ok-reach.ensures).there in
-    let same = loaded_given _ _ _ c.reach.new.bucket b c.descend.ensures.loaded 0 here in
-    let says = subst (λ k. SaysHead k.0 c.in-Some.root c.in-Some.next c.in-Some.depth) (sym same) (head_some (given c.reach.new.bucket 0).0 (c.in-Some.root, c.in-Some.next, c.in-Some.depth) c.in-Some.ensures) in
+    let says = head_behind _ _ _ c.reach.new.bucket b c.descend.ensures.loaded c.in-Some.root c.in-Some.next c.in-Some.depth here c.in-Some.ensures in
     way_from_head c.args.bucket.now c.reach.new.bucket b c.args.key.now c.in-Some.root c.in-Some.next c.in-Some.depth says c.reach.ensures.among c.descend.ensures.on_way
 
 pub returns-clause-on_way : goal.returns-clause-on_way
 returns-clause-on_way g c =
     let b = c.descend.new.bucket in
     let here : IsCached c.reach.new.bucket 0 = (c.in_ok-reach.ensures).there in
-    let same = loaded_given _ _ _ c.reach.new.bucket b c.descend.ensures.loaded 0 here in
-    let says = subst (λ k. SaysHead k.0 c.in-Some.root c.in-Some.next c.in-Some.depth) (sym same) (head_some (given c.reach.new.bucket 0).0 (c.in-Some.root, c.in-Some.next, c.in-Some.depth) c.in-Some.ensures) in
+    let says = head_behind _ _ _ c.reach.new.bucket b c.descend.ensures.loaded c.in-Some.root c.in-Some.next c.in-Some.depth here c.in-Some.ensures in
     rw c.note_own_keys.ensures (way_from_head c.args.bucket.now c.reach.new.bucket b c.args.key.now c.in-Some.root c.in-Some.next c.in-Some.depth says c.reach.ensures.among c.descend.ensures.on_way)
 
 pub returns-in_err-leaf-clause-loaded : goal.returns-in_err-leaf-clause-loaded
@@ -81,8 +77,7 @@ pub returns-clause-used : goal.returns-clause-used
 returns-clause-used g c =
     let b = c.descend.new.bucket in
     let here : IsCached c.reach.new.bucket 0 = (c.in_ok-reach.ensures).there in
-    let same = loaded_given _ _ _ c.reach.new.bucket b c.descend.ensures.loaded 0 here in
-    let says = subst (λ k. SaysHead k.0 c.in-Some.root c.in-Some.next c.in-Some.depth) (sym same) (head_some (given c.reach.new.bucket 0).0 (c.in-Some.root, c.in-Some.next, c.in-Some.depth) c.in-Some.ensures) in
+    let says = head_behind _ _ _ c.reach.new.bucket b c.descend.ensures.loaded c.in-Some.root c.in-Some.next c.in-Some.depth here c.in-Some.ensures in
     rw c.note_own_keys.ensures (used_under c.args.bucket.now c.reach.new.bucket b c.args.key.now c.in-Some.root c.in-Some.next c.in-Some.depth says.is (c.in_ok-reach.ensures).used (c.in_ok-leaf.ensures).used)
 
 pub note_own_keys-requires : goal.note_own_keys-requires

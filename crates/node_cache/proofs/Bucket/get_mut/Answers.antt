@@ -1,9 +1,9 @@
-use Rattle.std.proofs.Common.{◌≡◌, ℕ, inl, nat_eq, List, Option, sym, ap, subst, ◌∙◌}
+use Rattle.std.proofs.Common.{◌≡◌, inl, nat_eq, sym, ap, subst, ◌∙◌}
 use Rattle.std.specs.Map.{lookup, set_value}
 use Rattle.node_cache.specs.Cache.{Cache, cached, rewritten}
 use Rattle.node_cache.specs.Originals.{originals, IsKept}
 use Rattle.node_cache.specs.declared.cached.Cached.{Cached}
-use Rattle.node_cache.proofs.Kept.{kept_set, originals_whole, other_set}
+use Rattle.node_cache.proofs.Kept.{kept_set, still_saved, other_set}
 use Rattle.node_cache.proofs.Marked.{marked_but}
 use Rattle.node_cache.proofs.Bucket.get_mut.Goals as goal
 
@@ -24,8 +24,7 @@ pub returns-in-Some : goal.returns-in-Some
 returns-in-Some c =
     let inside = c.self.inside in
     let k = c.args.number in
-    let bucket_of : List (ℕ × Cached) → List (ℕ × Option Cached) → Cache = λ es os. record { bucket = inside.bucket; nodes = es; saved = os } in
-    let same : originals c.keep_whole.new.saved.entries ≡ originals inside.saved.entries = ap originals (c.in_ok-keep_whole.ensures).ok ∙ originals_whole (nat_eq k) inside.saved.entries in
-    let lent : (w : Cached) → bucket_of (c.get_mut.follows.lender w).entries (originals c.keep_whole.new.saved.entries) ≡ rewritten c.args.self.now k w =
-    λ w. (λ i. bucket_of ((c.get_mut.follows.holds w).0 i) (same i)) ∙ ap (λ b. rewritten b k w) c.self.view_is in
+    let same = still_saved k inside.saved.entries c.keep_whole.new.saved.entries (c.in_ok-keep_whole.ensures).ok in
+    let lent : (w : Cached) → ◌≡◌ {A = Cache} (record { bucket = inside.bucket; nodes = (c.get_mut.follows.lender w).entries; saved = originals c.keep_whole.new.saved.entries }) (rewritten c.args.self.now k w) =
+    λ w. (λ i. record { bucket = inside.bucket; nodes = (c.get_mut.follows.holds w).0 i; saved = same i }) ∙ ap (λ b. rewritten b k w) c.self.view_is in
     ((λ i. inl (c.in-Some.kept.ghost_name, λ w. lent w i)), record { value = ap (λ b. cached b k) (sym c.self.view_is) ∙ sym (c.in-Some.ensures).value; writes_back = tt })

@@ -6,7 +6,7 @@ use Rattle.node_cache.specs.Cache.{Cache, touched}
 use Rattle.node_cache.specs.Originals.{originals, IsKept}
 use Rattle.node_cache.specs.declared.cached.Cached.{Cached}
 use Rattle.node_cache.proofs.Moved.{others_inserted, entry_inserted}
-use Rattle.node_cache.proofs.Kept.{with_err, kept_whole, originals_whole}
+use Rattle.node_cache.proofs.Kept.{with_err, kept_whole, still_saved}
 use Rattle.node_cache.proofs.Marked.{marked_but}
 use Rattle.node_cache.proofs.Bucket.put.Goals as goal
 
@@ -15,7 +15,7 @@ returns-clause-nodes c =
     let inside = c.self.inside in
     let k = c.args.number in
     let bucket_of : List (ℕ × Cached) → List (ℕ × Option Cached) → Cache = λ es os. record { bucket = inside.bucket; nodes = es; saved = os } in
-    let same : originals c.keep_whole.new.saved.entries ≡ originals inside.saved.entries = ap originals (c.in_ok-keep_whole.ensures).ok ∙ originals_whole (nat_eq k) inside.saved.entries in
+    let same = still_saved k inside.saved.entries c.keep_whole.new.saved.entries (c.in_ok-keep_whole.ensures).ok in
     c.touch.ensures.nodes
     ∙ rw (← c.self.view_is) (ap (λ os. touched (bucket_of c.insert.new.self.entries os) k) same
     ∙ ap (λ es. touched (bucket_of es (originals inside.saved.entries)) k) (c.in_ok-insert.ensures).entries
@@ -38,7 +38,7 @@ pub returns-in_err-insert-clause-err : goal.returns-in_err-insert-clause-err
 returns-in_err-insert-clause-err c =
     let inside = c.self.inside in
     let bucket_of : List (ℕ × Cached) → List (ℕ × Option Cached) → Cache = λ es os. record { bucket = inside.bucket; nodes = es; saved = os } in
-    let same : originals c.keep_whole.new.saved.entries ≡ originals inside.saved.entries = ap originals (c.in_ok-keep_whole.ensures).ok ∙ originals_whole (nat_eq c.args.number) inside.saved.entries in
+    let same = still_saved c.args.number inside.saved.entries c.keep_whole.new.saved.entries (c.in_ok-keep_whole.ensures).ok in
     with_err c.from_residual-in_err-insert.result (rw (← c.self.view_is) (λ i. bucket_of ((c.in_err-insert.ensures).err i) (same i)))
 
 pub invariant_of-self-2 : goal.invariant_of-self-2

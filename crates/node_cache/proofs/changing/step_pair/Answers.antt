@@ -9,8 +9,8 @@ invariant_of-kept-then-is_some c =
     let r = c.args.row.now.rec in
     let some : is_some c.in_ok-step.step ≡ true = sym c.if-is_some.ensures in
     record {
-      fits = changed_fits c.in-Leaf.pairs c.change_leaf.new.pairs r (subst FitsNode c.in-Leaf.is c.args.kept.now.fits) c.requires.rec (sym (c.in_ok-step.ensures).done ∙ some) (takes_is _ _ _ c.in_ok-step.step some (c.in_ok-step.ensures).step) c.change_leaf.ensures.few;
-      in_range = c.requires.version;
+      fits = changed_fits c.in-Leaf.pairs c.change_leaf.new.pairs r (subst FitsNode c.in-Leaf.is c.args.kept.now.fits) c.requires.row.rec (sym (c.in_ok-step.ensures).done ∙ some) (takes_is _ _ _ c.in_ok-step.step some (c.in_ok-step.ensures).step) c.change_leaf.ensures.few;
+      in_range = c.requires.row.version;
     }
 
 pub returns-clause-step : goal.returns-clause-step

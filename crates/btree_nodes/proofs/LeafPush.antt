@@ -17,7 +17,7 @@ use Rattle.node_cache.specs.Given.{given}
 use Rattle.btree_nodes.specs.Trees.{IsPath, pairs_in, FitsLog, first_over}
 use Rattle.btree_nodes.specs.Changes.{Pushes}
 use Rattle.btree_nodes.specs.Calls.{pushed_in, IsDone}
-use Rattle.btree_nodes.proofs.Paths.{path_pairs, path_leaf, not_lower}
+use Rattle.btree_nodes.proofs.Paths.{key_bucket, path_pairs, path_leaf, not_lower}
 use Rattle.btree_nodes.proofs.Changed.{saves_itself, or_false}
 
 -- no rows change nothing
@@ -66,7 +66,7 @@ module _ (b : Cache) (key : List ℕ) (path : Path) (is : IsPath b key path) whe
         fit = (
           record {
             of_format = kind_few change;
-            bucket = is.bucket;
+            bucket = key_bucket b.bucket key is.of_key;
             number = place.small;
             head = (λ zero. absurd (omega (arith, above, zero)), λ one. absurd (other one));
             version_low = omega arith;

@@ -8,7 +8,8 @@ use Rattle.fine_model.specs.declared.Row.{Row}
 use Rattle.fine_model.specs.Nodes.{Content}
 use Rattle.fine_model.specs.Paths.{is_inner, place_among, bounds_at, seps_of, kid_at, unfit_from, unfit_under}
 use Rattle.fine_model.specs.Pushed.{leaf_for, pairs_beside}
-use Rattle.fine_model.specs.Trees.{Bounds, whole, is_leaf, kids_of, pairs_of}
+use Rattle.fine_model.specs.Trees.{Bounds, whole, bucket_of, is_leaf, kids_of, pairs_of}
+use Rattle.fine_model.proofs.CallLaw.{bucket_below}
 use Rattle.fine_model.proofs.Order.{first_of_both}
 use Rattle.node_cache.specs.Cache.{Cache}
 use Rattle.btree_nodes.specs.declared.fault.TreeFault.{TreeFault}
@@ -23,6 +24,10 @@ use Rattle.btree_nodes.specs.Calls.{IsFirstUnfit}
 use Rattle.btree_nodes.proofs.ScanSteps.{inner_is}
 use Rattle.btree_nodes.proofs.Sound.{passed}
 use Rattle.btree_nodes.proofs.Ways.{child_is}
+
+-- the bucket of a key is one of all buckets
+pub key_bucket : (bucket : ℕ) (key : List ℕ) → bucket ≡ bucket_of key → bucket < 256
+key_bucket bucket key of = subst (λ (k : ℕ). k < 256) (sym of) (bucket_below key)
 
 -- what a head says
 pub record SaysHead (n : Node) (root next depth : ℕ) : Type 0 where
@@ -68,8 +73,8 @@ module _ (b : Cache) (key : List ℕ) (root next depth : ℕ) (here : IsCached b
   under : unfit_in b key ≡ unfit_from (depth - 1) b.bucket (given b) next key whole root
   under = under_head b.bucket (given b) key (given b 0).0 root next depth says
 
-  pub way_path : (leaf : ℕ) → b.bucket < 256 → IsWay b (depth - 1) next key whole root leaf → IsPath b key (record { root = root; next = next; depth = depth; leaf = leaf })
-  way_path leaf of way = record { bucket = of; below = says.below; here = here; head = says.is; deep = says.deep; small = says.small; fit = under ∙ way.fit; leaf = way.ends; there = way.there }
+  pub way_path : (leaf : ℕ) → b.bucket ≡ bucket_of key → IsWay b (depth - 1) next key whole root leaf → IsPath b key (record { root = root; next = next; depth = depth; leaf = leaf })
+  way_path leaf of way = record { of_key = of; below = says.below; here = here; head = says.is; deep = says.deep; small = says.small; fit = under ∙ way.fit; leaf = way.ends; there = way.there }
 
   pub fault_under : (F G : FetchFault → Type 0) → ((f : FetchFault) → F f → G f) → (e : TreeFault) → Descends b (depth - 1) next key whole root F (Err e) → OnFault e G (IsFirstUnfit b key) (Unit {0})
   fault_under F G on (Source f) h = on f h

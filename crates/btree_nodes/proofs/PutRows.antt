@@ -27,6 +27,7 @@ use Rattle.btree_nodes.specs.declared.fault.TreeFault.{TreeFault}
 use Rattle.btree_nodes.specs.declared.fault.TreeFault.TheVariants.{Source, Unfit, BucketFull, Number, NoMemory}
 use Rattle.btree_nodes.specs.Growths.{grown_of, pushed_of, Limits}
 use Rattle.btree_nodes.specs.Calls.{pushed_in, Outcome}
+use Rattle.btree_nodes.proofs.Paths.{key_bucket}
 use Rattle.btree_nodes.proofs.Sound.{passed}
 use Rattle.btree_nodes.proofs.GrowthFits.{ready_append, growth_ready, node_fits, IsGood, one_good, FitsGrowth, growth_good}
 use Rattle.fine_model.proofs.FitPushed.{within, kind_few}
@@ -107,7 +108,7 @@ module _ (b : Cache) (key value : List ℕ) (pair : FitsPair (key, value)) (path
         recs = all_both (IsGood b.bucket) (λ row. row.version ≤ greatest) (λ row. FitsRec row.rec × (row.version ≤ greatest)) (λ row p v. (p.rec, v)) put_rows.rows good w.versions;
         fits = record {
           fit = all_both (IsGood b.bucket) (λ row. row.version ≤ greatest) (FitsRow mark.Two)
-              (λ row p v. record { of_format = kind_few row.rec; bucket = subst (λ (k : ℕ). k < 256) (sym p.of_bucket) is.bucket; number = p.number; head = p.head; version_low = p.version; version_high = v; rec = p.rec }) put_rows.rows good w.versions;
+              (λ row p v. record { of_format = kind_few row.rec; bucket = subst (λ (k : ℕ). k < 256) (sym p.of_bucket) (key_bucket b.bucket key is.of_key); number = p.number; head = p.head; version_low = p.version; version_high = v; rec = p.rec }) put_rows.rows good w.versions;
           here = all_map (IsGood b.bucket) (λ row. row.node.bucket ≡ b.bucket) (λ row p. p.of_bucket) put_rows.rows good;
         };
       })

@@ -1,5 +1,5 @@
 -- Adding to an absent key, and adding on sound rows.
-use Rattle.std.proofs.Common.{◌≡◌, ℕ, Bool, true, false, if◌then◌else◌, List, [], ◌∷◌, ◌++◌, None, Result, Err, ℤ, pos, negsuc, ◌+ℤ◌, FitsSigned, w64, refl, sym, ap, subst, ◌∙◌, arith}
+use Rattle.std.proofs.Common.{◌≡◌, ℕ, Bool, true, false, if◌then◌else◌, List, [], ◌∷◌, ◌++◌, None, Result, Err, ℤ, pos, negsuc, ◌+ℤ◌, FitsSigned, w64, refl, sym, ap, ◌∙◌, arith}
 use Rattle.std.proofs.lemmas.Int.{ints}
 use Rattle.std.proofs.lemmas.Fmt.{length_signed_le, decimal_nonempty}
 use Rattle.fine_model.specs.declared.Call.TheVariants as call
@@ -93,11 +93,3 @@ added_soundly tells finds upper old new log log' key by F r of_key change rows s
     outcome_soundly rows log log' change.mid new (call.Add key by) (λ said. said ≡ (answer (pairs_in change.mid key) (call.Add key by)).0) (λ said. said ≡ (answer (map_of (rows ++ log)) (call.Add key by)).0) F sound of_key' holds'
     (λ reached. add_same rows log change.mid key by sound of_key' holds' reached.here reached.fit)
     (λ said reached is. is ∙ reply_same rows log change.mid key by sound of_key' holds' reached.here reached.fit) r change.outcome
-
--- the same with the number as the call hands it on
-pub added_on : (tells : List Row → Type 0) (finds : Finds) (upper : ℕ) (old new : Cache) (log log' : List Row) (key : List ℕ) (z by : ℤ) → z ≡ by → (F : FetchFault → Type 0) (r : Result Reply TreeFault) → old.bucket ≡ bucket_of key
-    → IsChange tells finds upper old new log log' (call.Add key z) (λ mid said. said ≡ (answer (pairs_in mid key) (call.Add key z)).0) F r
-    → (rows : List Row) → Serves tells old rows → Holds old rows log → IsSound (rows ++ log) → SoundOutcome rows log log' new (call.Add key by) (λ said. said ≡ (answer (map_of (rows ++ log)) (call.Add key by)).0) r
-added_on tells finds upper old new log log' key z by same F r of_key change rows serves holds sound =
-    subst (λ k. SoundOutcome rows log log' new (call.Add key k) (λ said. said ≡ (answer (map_of (rows ++ log)) (call.Add key k)).0) r) same
-    (added_soundly tells finds upper old new log log' key z F r of_key change rows serves holds sound)

@@ -11,8 +11,8 @@ use Rattle.fine_model.specs.Map.{Pair, between}
 use Rattle.fine_model.specs.Nodes.{Content, rows_of}
 use Rattle.fine_model.specs.Paths.{place_among, kid_at, seps_of, meets, unfit_under}
 use Rattle.fine_model.specs.Pushed.{leaf_for, pairs_beside}
-use Rattle.fine_model.specs.RowBytes.{greatest, FitsRow, buckets, greatest_depth, node_numbers}
-use Rattle.fine_model.specs.Trees.{Bounds, whole, kids_of, pairs_of, nodes_of}
+use Rattle.fine_model.specs.RowBytes.{greatest, FitsRow, greatest_depth, node_numbers}
+use Rattle.fine_model.specs.Trees.{Bounds, whole, bucket_of, kids_of, pairs_of, nodes_of}
 use Rattle.node_cache.specs.Cache.{Cache, cached, before}
 use Rattle.node_cache.specs.Given.{given, IsCached}
 use Rattle.btree_nodes.specs.declared.tree.Path.{Path}
@@ -130,9 +130,9 @@ HeadIs (node.Head root next depth) None = next ≤ root
 HeadIs _ (Some h) = ⊥
 HeadIs _ None = Unit {0}
 
--- a way from the head down to the leaf in which a key belongs, with all nodes on it fit
+-- a way from the head down to the leaf in which a key of the bucket belongs, with all nodes on it fit
 pub record IsPath (b : Cache) (key : List ℕ) (path : Path) : Type 0 where
-  pub bucket : b.bucket < buckets
+  pub of_key : b.bucket ≡ bucket_of key
   pub here : IsCached b 0
   pub head : (given b 0).0 ≡ node.Head path.root path.next path.depth
   pub below : path.root < path.next

@@ -64,7 +64,6 @@ fn add_at(
     path: Path,
 ) -> Result<Reply, TreeFault>
     requires key { FitsKey key.now }
-    requires own { bucket.old.bucket ≡ bucket_of key.now }
     requires path { IsPath bucket.old key.now path }
     requires there { has (pairs_in bucket.old key.now) key.now ≡ true }
     ensures outcome { Outcome bucket.old bucket.new log.old log.new (call.Add key.now by) (λ reply. reply ≡ (answer (pairs_in bucket.old key.now) (call.Add key.now by)).0) (λ _. ⊥) result }
@@ -93,7 +92,6 @@ fn add_new(
     path: Path,
 ) -> Result<Reply, TreeFault>
     requires key { FitsKey key.now }
-    requires own { bucket.old.bucket ≡ bucket_of key.now }
     requires path { IsPath bucket.old key.now path }
     requires absent { has (pairs_in bucket.old key.now) key.now ≡ false }
     ensures outcome { Outcome bucket.old bucket.new log.old log.new (call.Add key.now by) (λ reply. reply ≡ (answer (pairs_in bucket.old key.now) (call.Add key.now by)).0) (λ _. ⊥) result }
@@ -113,7 +111,6 @@ fn add_in(
     path: Path,
 ) -> Result<Reply, TreeFault>
     requires key { FitsKey key.now }
-    requires own { bucket.old.bucket ≡ bucket_of key.now }
     requires path { IsPath bucket.old key.now path }
     ensures outcome { Outcome bucket.old bucket.new log.old log.new (call.Add key.now by) (λ reply. reply ≡ (answer (pairs_in bucket.old key.now) (call.Add key.now by)).0) (λ _. ⊥) result }
 {
@@ -122,25 +119,6 @@ fn add_in(
     } else {
         add_new(alloc, bucket, log, key, by, path)
     }
-}
-
-/// Adds to a key in the tree that the bucket gives.
-fn add_key<S: NodeSource>(
-    alloc: Global,
-    source: &mut S,
-    bucket: &mut Bucket,
-    log: &mut PrivateLog,
-    key: &[u8],
-    by: i64,
-) -> Result<Reply, TreeFault>
-    requires bucket { bucket.old.bucket ≡ bucket_of key.now }
-    requires key { FitsKey key.now }
-    ensures later { S.later source.old source.new }
-    ensures clean { OnCleanAnswer result (S.clean source.old source.new) }
-    ensures change { IsChange (S.tells source.old) (S.finds source.old) (S.upper source.old) bucket.old bucket.new log.old log.new (call.Add key.now by) (λ mid reply. reply ≡ (answer (pairs_in mid key.now) (call.Add key.now by)).0) (λ failed. S.fails source.old failed source.new) result }
-{
-    let path = find_leaf(source, bucket, key)?;
-    add_in(alloc, bucket, log, key, by, path)
 }
 
 /// Adds to the number whose text a key holds, and answers the sum; an absent key counts as 0. `NotNumber` comes exactly where the key
@@ -162,5 +140,6 @@ pub fn add_to<S: NodeSource>(
     ensures change { IsChange (S.tells source.old) (S.finds source.old) (S.upper source.old) bucket.old bucket.new log.old log.new (call.Add key.now by) (λ mid reply. reply ≡ (answer (pairs_in mid key.now) (call.Add key.now by)).0) (λ failed. S.fails source.old failed source.new) result }
     ensures sound { (rows : List ModelRow) → Serves (S.tells source.old) bucket.old rows → Holds bucket.old rows log.old → IsSound (rows ++ log.old) → SoundOutcome rows log.old log.new bucket.new (call.Add key.now by) (λ reply. reply ≡ (answer (map_of (rows ++ log.old)) (call.Add key.now by)).0) result }
 {
-    add_key(alloc, source, bucket, log, key, by)
+    let path = find_leaf(source, bucket, key)?;
+    add_in(alloc, bucket, log, key, by, path)
 }

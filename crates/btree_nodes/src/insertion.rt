@@ -134,7 +134,6 @@ fn put_in_leaf(
 ) -> Result<(), TreeFault>
     requires key { FitsKey key.now }
     requires value { FitsValue value.now }
-    requires own { bucket.old.bucket ≡ bucket_of key.now }
     requires path { IsPath bucket.old key.now path }
     requires room { IsTrue (has_room (pairs_of (given bucket.old path.leaf).0) key.now) }
     ensures outcome { Outcome bucket.old bucket.new log.old log.new (call.Put key.now value.now) (λ _. Unit {0}) (λ _. ⊥) result }
@@ -189,7 +188,6 @@ pub fn put_at(
 ) -> Result<(), TreeFault>
     requires key { FitsKey key.now }
     requires value { FitsValue value.now }
-    requires own { bucket.old.bucket ≡ bucket_of key.now }
     requires path { IsPath bucket.old key.now path }
     ensures outcome { Outcome bucket.old bucket.new log.old log.new (call.Put key.now value.now) (λ _. Unit {0}) (λ _. ⊥) result }
 {
@@ -198,26 +196,6 @@ pub fn put_at(
     } else {
         put_grown(alloc, bucket, log, key, value, path)
     }
-}
-
-/// Sets a key in the tree that the bucket gives.
-fn put_key<S: NodeSource>(
-    alloc: Global,
-    source: &mut S,
-    bucket: &mut Bucket,
-    log: &mut PrivateLog,
-    key: &[u8],
-    value: &[u8],
-) -> Result<(), TreeFault>
-    requires bucket { bucket.old.bucket ≡ bucket_of key.now }
-    requires key { FitsKey key.now }
-    requires value { FitsValue value.now }
-    ensures later { S.later source.old source.new }
-    ensures clean { OnCleanAnswer result (S.clean source.old source.new) }
-    ensures change { IsChange (S.tells source.old) (S.finds source.old) (S.upper source.old) bucket.old bucket.new log.old log.new (call.Put key.now value.now) (λ _ _. Unit {0}) (λ failed. S.fails source.old failed source.new) result }
-{
-    let path = find_leaf(source, bucket, key)?;
-    put_at(alloc, bucket, log, key, value, path)
 }
 
 /// Sets a key to a value. First nodes on the key's way are loaded, and no others; the way is then what was used last. A leaf of 32 pairs
@@ -244,5 +222,6 @@ pub fn insert<S: NodeSource>(
     ensures change { IsChange (S.tells source.old) (S.finds source.old) (S.upper source.old) bucket.old bucket.new log.old log.new (call.Put key.now value.now) (λ _ _. Unit {0}) (λ failed. S.fails source.old failed source.new) result }
     ensures sound { (rows : List ModelRow) → Serves (S.tells source.old) bucket.old rows → Holds bucket.old rows log.old → IsSound (rows ++ log.old) → SoundOutcome rows log.old log.new bucket.new (call.Put key.now value.now) (λ _. Unit {0}) result }
 {
-    put_key(alloc, source, bucket, log, key, value)
+    let path = find_leaf(source, bucket, key)?;
+    put_at(alloc, bucket, log, key, value, path)
 }

@@ -29,7 +29,6 @@ fn remove_at(
     path: Path,
 ) -> Result<bool, TreeFault>
     requires key { FitsKey key.now }
-    requires own { bucket.old.bucket ≡ bucket_of key.now }
     requires path { IsPath bucket.old key.now path }
     ensures outcome { Outcome bucket.old bucket.new log.old log.new (call.Del key.now) (λ there. there ≡ has (pairs_in bucket.old key.now) key.now) (λ _. ⊥) result }
 {
@@ -43,24 +42,6 @@ fn remove_at(
     let row = row_of(bucket.bucket(), path.leaf, version, del);
     push_pair(alloc, bucket, log, row)?;
     Ok(true)
-}
-
-/// Removes a key from the tree that the bucket gives.
-fn remove_key<S: NodeSource>(
-    alloc: Global,
-    source: &mut S,
-    bucket: &mut Bucket,
-    log: &mut PrivateLog,
-    key: &[u8],
-) -> Result<bool, TreeFault>
-    requires bucket { bucket.old.bucket ≡ bucket_of key.now }
-    requires key { FitsKey key.now }
-    ensures later { S.later source.old source.new }
-    ensures clean { OnCleanAnswer result (S.clean source.old source.new) }
-    ensures change { IsChange (S.tells source.old) (S.finds source.old) (S.upper source.old) bucket.old bucket.new log.old log.new (call.Del key.now) (λ mid there. there ≡ has (pairs_in mid key.now) key.now) (λ failed. S.fails source.old failed source.new) result }
-{
-    let path = find_leaf(source, bucket, key)?;
-    remove_at(alloc, bucket, log, key, path)
 }
 
 /// Removes a key, and answers whether it was there. Where it was, one row is pushed; else nothing is changed. `Unfit` names the first
@@ -81,5 +62,6 @@ pub fn remove<S: NodeSource>(
     ensures change { IsChange (S.tells source.old) (S.finds source.old) (S.upper source.old) bucket.old bucket.new log.old log.new (call.Del key.now) (λ mid there. there ≡ has (pairs_in mid key.now) key.now) (λ failed. S.fails source.old failed source.new) result }
     ensures sound { (rows : List ModelRow) → Serves (S.tells source.old) bucket.old rows → Holds bucket.old rows log.old → IsSound (rows ++ log.old) → SoundOutcome rows log.old log.new bucket.new (call.Del key.now) (λ there. there ≡ has (map_of (rows ++ log.old)) key.now) result }
 {
-    remove_key(alloc, source, bucket, log, key)
+    let path = find_leaf(source, bucket, key)?;
+    remove_at(alloc, bucket, log, key, path)
 }

@@ -311,34 +311,6 @@ fn scan_from_head<S: NodeSource>(
     Ok(())
 }
 
-/// Scans the tree that the bucket gives. With a fault, no pairs stand behind those that were there.
-fn scan_tree<S: NodeSource>(
-    source: &mut S,
-    bucket: &mut Bucket,
-    low: &[u8],
-    high: &[u8],
-    limit: u32,
-    out: &mut Pairs,
-) -> Result<(), TreeFault>
-    requires bucket { bucket.old.bucket < buckets }
-    ensures later { S.later source.old source.new }
-    ensures clean { OnCleanAnswer result (S.clean source.old source.new) }
-    ensures loaded { IsLoaded (S.tells source.old) (S.finds source.old) (S.upper source.old) bucket.old bucket.new }
-    ensures on_walk { LoadsOnWalk bucket.old bucket.new low.now high.now limit }
-    ensures used { OnOk result (AreUsed bucket.old bucket.new (walk_in bucket.new low.now high.now limit)) }
-    ensures answer { Reads (λ done. IsFoundBetween bucket.new low.now high.now limit out.old out.new) (λ failed. S.fails source.old failed source.new) (IsFirstUnfitBetween bucket.new low.now high.now limit) result }
-    ensures same { OnErr result (out.new ≡ out.old) }
-{
-    let before = out.len();
-    match scan_from_head(source, bucket, low, high, limit, out) {
-        Ok(()) => Ok(()),
-        Err(fault) => {
-            out.truncate(before);
-            Err(fault)
-        }
-    }
-}
-
 /// Puts copies of the pairs with `low <= key < high` behind those of `out`, in the byte order of their keys, and of these the first
 /// `limit`. It visits the head and then, from the left, the nodes that may hold keys of the range, each before its children, up to the
 /// leaf of the last pair that is wanted; where the range is empty or `limit` is 0, the head alone. It caches those that were not, and
@@ -363,5 +335,12 @@ pub fn scan<S: NodeSource>(
     ensures same { OnErr result (out.new ≡ out.old) }
     ensures sound { (rows log : List ModelRow) → Serves (S.tells source.old) bucket.old rows → Holds bucket.old rows log → IsSound (rows ++ log) → SoundReading rows log bucket.new (λ done. out.new ≡ out.old ++ take limit (between low.now high.now (tree_map (rows ++ log) bucket.old.bucket))) result }
 {
-    scan_tree(source, bucket, low, high, limit, out)
+    let before = out.len();
+    match scan_from_head(source, bucket, low, high, limit, out) {
+        Ok(()) => Ok(()),
+        Err(fault) => {
+            out.truncate(before);
+            Err(fault)
+        }
+    }
 }

@@ -42,7 +42,7 @@ pub fn find_leaf<S: NodeSource>(
     bucket: &mut Bucket,
     key: &[u8],
 ) -> Result<Path, TreeFault>
-    requires bucket { bucket.old.bucket < buckets }
+    requires { bucket.old.bucket ≡ bucket_of key.now }
     ensures later { S.later source.old source.new }
     ensures clean { OnCleanAnswer result (S.clean source.old source.new) }
     ensures loaded { IsLoaded (S.tells source.old) (S.finds source.old) (S.upper source.old) bucket.old bucket.new }
@@ -68,24 +68,6 @@ pub fn find_leaf<S: NodeSource>(
     })
 }
 
-/// The value of a key in the tree that the bucket gives.
-fn look_up<S: NodeSource>(
-    source: &mut S,
-    bucket: &mut Bucket,
-    key: &[u8],
-) -> Result<Option<Bytes>, TreeFault>
-    requires bucket { bucket.old.bucket < buckets }
-    ensures later { S.later source.old source.new }
-    ensures clean { OnCleanAnswer result (S.clean source.old source.new) }
-    ensures loaded { IsLoaded (S.tells source.old) (S.finds source.old) (S.upper source.old) bucket.old bucket.new }
-    ensures on_way { LoadsOnWay bucket.old bucket.new key.now }
-    ensures used { OnOk result (AreUsed bucket.old bucket.new (way_in bucket.new key.now)) }
-    ensures answer { Answers bucket.new key.now (IsFound bucket.new key.now) (λ failed. S.fails source.old failed source.new) result }
-{
-    let path = find_leaf(source, bucket, key)?;
-    Ok(copy_of(value_in(bucket, path.leaf, key))?)
-}
-
 /// The value of a key. None exactly where it is absent. It loads nodes on the key's way alone, and changes nothing else but the order of
 /// last use: with Ok the way is what was used last, from the head down. `Unfit` names the first node on the key's way that breaks the
 /// rules of a tree, and `Source` has what the source answered. Where no load is told as failed and memory was enough, none failed.
@@ -103,5 +85,6 @@ pub fn find<S: NodeSource>(
     ensures answer { Answers bucket.new key.now (IsFound bucket.new key.now) (λ failed. S.fails source.old failed source.new) result }
     ensures sound { (rows log : List ModelRow) → Serves (S.tells source.old) bucket.old rows → Holds bucket.old rows log → IsSound (rows ++ log) → SoundReading rows log bucket.new (λ value. value ≡ get (map_of (rows ++ log)) key.now) result }
 {
-    look_up(source, bucket, key)
+    let path = find_leaf(source, bucket, key)?;
+    Ok(copy_of(value_in(bucket, path.leaf, key))?)
 }

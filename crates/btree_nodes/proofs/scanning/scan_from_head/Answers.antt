@@ -29,25 +29,21 @@ returns-then-limit-eq0-clause-ok g c =
 
 pub returns-in_err-scan_from-clause-err : goal.returns-in_err-scan_from-clause-err
 returns-in_err-scan_from-clause-err g c =
-    let mid = c.reach.new.bucket in
     let b = c.scan_from.new.bucket in
-    let here = (c.in_ok-reach.ensures).there in
-    let then_here = loaded_kept _ _ _ mid b c.scan_from.ensures.loaded 0 here in
-    let says = head_behind _ _ _ mid b c.scan_from.ensures.loaded c.in-Some.root c.in-Some.next c.in-Some.depth here c.in-Some.ensures in
+    let there = loaded_kept _ _ _ c.reach.new.bucket b c.scan_from.ensures.loaded 0 (c.in_ok-reach.ensures).there in
+    let says = head_behind _ _ _ c.reach.new.bucket b c.scan_from.ensures.loaded c.in-Some.root c.in-Some.next c.in-Some.depth (c.in_ok-reach.ensures).there c.in-Some.ensures in
     let some = is_wanted c.args.low.now c.args.high.now c.args.limit (sym c.is_below.ensures ∙ c.if-not-is_below.false) c.if-limit-eq0.false in
     let p = err_from_is_err_and c.from_residual-in_err-scan_from.result c.from_residual-in_err-scan_from.ensures.1 in
     rw (p.1, p.2)
-    (fault_of_scan b c.args.low.now c.args.high.now c.args.limit c.in-Some.root c.in-Some.next c.in-Some.depth then_here says c.args.out.now c.scan_from.new.out _ _ (λ f h. g.met.S.NodeSource.fails_earlier _ _ _ f c.reach.ensures.later h) some c.in_err-scan_from.field-0.0 (c.in_err-scan_from.ensures).way)
+    (fault_of_scan b c.args.low.now c.args.high.now c.args.limit c.in-Some.root c.in-Some.next c.in-Some.depth there says c.args.out.now c.scan_from.new.out _ _ (λ f h. g.met.S.NodeSource.fails_earlier _ _ _ f c.reach.ensures.later h) some c.in_err-scan_from.field-0.0 (c.in_err-scan_from.ensures).way)
 
 pub returns-clause-ok : goal.returns-clause-ok
 returns-clause-ok g c =
-    let mid = c.reach.new.bucket in
     let b = c.scan_from.new.bucket in
-    let here = (c.in_ok-reach.ensures).there in
-    let then_here = loaded_kept _ _ _ mid b c.scan_from.ensures.loaded 0 here in
-    let says = head_behind _ _ _ mid b c.scan_from.ensures.loaded c.in-Some.root c.in-Some.next c.in-Some.depth here c.in-Some.ensures in
+    let there = loaded_kept _ _ _ c.reach.new.bucket b c.scan_from.ensures.loaded 0 (c.in_ok-reach.ensures).there in
+    let says = head_behind _ _ _ c.reach.new.bucket b c.scan_from.ensures.loaded c.in-Some.root c.in-Some.next c.in-Some.depth (c.in_ok-reach.ensures).there c.in-Some.ensures in
     let some = is_wanted c.args.low.now c.args.high.now c.args.limit (sym c.is_below.ensures ∙ c.if-not-is_below.false) c.if-limit-eq0.false in
-    found_all b c.args.low.now c.args.high.now c.args.limit c.in-Some.root c.in-Some.next c.in-Some.depth then_here says c.in_ok-scan_from.field-0 c.args.out.now c.scan_from.new.out some (c.in_ok-scan_from.ensures).way
+    found_all b c.args.low.now c.args.high.now c.args.limit c.in-Some.root c.in-Some.next c.in-Some.depth there says c.in_ok-scan_from.field-0 c.args.out.now c.scan_from.new.out some (c.in_ok-scan_from.ensures).way
 
 pub returns-in_err-reach-clause-on_walk : goal.returns-in_err-reach-clause-on_walk
 returns-in_err-reach-clause-on_walk g c = head_among c.args.low.now c.args.high.now c.reach.new.bucket c.args.limit _ _ c.reach.ensures.among

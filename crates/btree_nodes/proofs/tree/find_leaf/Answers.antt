@@ -1,4 +1,4 @@
-use Rattle.std.proofs.Common.{ℕ, ◌<◌, Err, refl, sym, subst, ◌∙◌}
+use Rattle.std.proofs.Common.{ℕ, Err, refl, sym, subst, ◌∙◌, rules}
 use Rattle.std.proofs.lemmas.Result.{err_from_is_err_and}
 use Rattle.node_cache.specs.Given.{given, IsCached}
 use Rattle.node_cache.specs.Marked.{HasOwnKeys}
@@ -7,7 +7,7 @@ use Rattle.btree_nodes.specs.declared.tree.Path.{Path}
 use Rattle.btree_nodes.proofs.Loads.{loaded_kept, loaded_then}
 use Rattle.btree_nodes.proofs.SoundCalls.{clean_map, clean_fault}
 use Rattle.btree_nodes.proofs.Ways.{among_head, used_under}
-use Rattle.btree_nodes.proofs.Paths.{head_behind, head_none, way_path, way_from_head, fault_under}
+use Rattle.btree_nodes.proofs.Paths.{key_bucket, head_behind, head_none, way_path, way_from_head, fault_under}
 use Rattle.btree_nodes.proofs.OwnKeys.{own_cached, own_end}
 use Rattle.btree_nodes.proofs.tree.find_leaf.Goals as goal
 
@@ -33,8 +33,8 @@ returns-clause-path g c =
     let here : IsCached c.reach.new.bucket 0 = (c.in_ok-reach.ensures).there in
     let then_here = loaded_kept _ _ _ c.reach.new.bucket b c.descend.ensures.loaded 0 here in
     let says = head_behind _ _ _ c.reach.new.bucket b c.descend.ensures.loaded c.in-Some.root c.in-Some.next c.in-Some.depth here c.in-Some.ensures in
-    let of_bucket : b.bucket < 256 = subst (λ (k : ℕ). k < 256) (sym (c.descend.ensures.loaded.bucket ∙ c.reach.ensures.loaded.bucket)) c.requires.bucket in
-    rw c.note_own_keys.ensures (way_path b c.args.key.now c.in-Some.root c.in-Some.next c.in-Some.depth then_here says c.in_ok-leaf.leaf of_bucket (c.in_ok-leaf.ensures).way)
+    let of_key = c.descend.ensures.loaded.bucket ∙ c.reach.ensures.loaded.bucket ∙ c.requires in
+    rw c.note_own_keys.ensures (way_path b c.args.key.now c.in-Some.root c.in-Some.next c.in-Some.depth then_here says c.in_ok-leaf.leaf of_key (c.in_ok-leaf.ensures).way)
 
 pub returns-in_err-reach-clause-on_way : goal.returns-in_err-reach-clause-on_way
 returns-in_err-reach-clause-on_way g c = among_head _ _ _ _ _ c.reach.ensures.among
@@ -85,3 +85,13 @@ note_own_keys-requires g c =
     let b = c.descend.new.bucket in
     let way = (c.in_ok-leaf.ensures).way in
     own_cached b c.in_ok-leaf.leaf (subst (λ n. HasOwnKeys b.bucket (given b n).0) (sym way.ends) (own_end (given b) b.bucket c.in-Some.next c.args.key.now _ _ c.in-Some.root way.fit))
+
+pub reach-requires : goal.reach-requires
+reach-requires g c =
+    let small = key_bucket c.args.bucket.now.bucket c.args.key.now c.requires in
+    search (rules, small)
+
+pub descend-requires : goal.descend-requires
+descend-requires g c =
+    let small = key_bucket c.reach.new.bucket.bucket c.args.key.now (c.reach.ensures.loaded.bucket ∙ c.requires) in
+    search (rules, small)

@@ -27,7 +27,7 @@ use Rattle.btree_nodes.proofs.Ways.{child_is}
 
 -- ---- a fit leaf
 
-own_leaf : (bucket : ℕ) (bounds : Bounds) (n : Node) → is_leaf bucket bounds n ≡ true → HasOwnKeys bucket n
+pub own_leaf : (bucket : ℕ) (bounds : Bounds) (n : Node) → is_leaf bucket bounds n ≡ true → HasOwnKeys bucket n
 own_leaf bucket bounds (node.Leaf pairs) fit =
     list_all-from (λ p. bucket_of p.0 == bucket) pairs
     (all_map (λ p. is_key_within bucket bounds p.0 ≡ true) (λ p. (bucket_of p.0 == bucket) ≡ true)

@@ -83,18 +83,19 @@ fn take_from(
     }
 }
 
-/// Scans a cached node that is to be a fit leaf. Answers how many pairs are wanted still.
+/// Scans a cached node that is to be a fit leaf, and notes that all its keys are of the bucket. Answers how many pairs are wanted still.
 fn scan_leaf(
-    bucket: &Bucket,
+    bucket: &mut Bucket,
     low: &[u8],
     high: &[u8],
     at: Step,
     wanted: u32,
     out: &mut Pairs,
 ) -> Result<u32, TreeFault>
-    requires there { IsCached bucket.now at.number }
+    requires there { IsCached bucket.old at.number }
+    ensures same { bucket.new ≡ bucket.old }
     ensures longer { IsLonger out.old out.new }
-    ensures way { (next : ℕ) → ScansFrom bucket.now 0 next low.now high.now (bounds_by (given bucket.now) at.low at.high) at.number wanted out.old out.new (λ _. ⊥) result }
+    ensures way { (next : ℕ) → ScansFrom bucket.old 0 next low.now high.now (bounds_by (given bucket.old) at.low at.high) at.number wanted out.old out.new (λ _. ⊥) result }
 {
     if !is_leaf_within(bucket, at.low, at.high, at.number) {
         return Err(TreeFault::Unfit {
@@ -104,7 +105,9 @@ fn scan_leaf(
             },
         });
     }
-    Ok(take_from(bucket, at.number, low, high, wanted, out)?)
+    let left = take_from(bucket, at.number, low, high, wanted, out)?;
+    bucket.note_own_keys(at.number);
+    Ok(left)
 }
 
 /// Whether a cached node is a fit inner one.

@@ -14,7 +14,7 @@ pub scan_from-returns-then-height-eq0-clause-way :
     goal.scan_from-returns-then-height-eq0-clause-way
 scan_from-returns-then-height-eq0-clause-way g t c =
     let b = c.reach.new.bucket in
-    leaf_answer b c.args.height c.args.next c.args.low.now c.args.high.now (bounds_by (given b) c.args.at.low c.args.at.high) c.args.at.number c.args.wanted c.args.out.now c.scan_leaf.new.out _ c.if-height-eq0.true c.scan_leaf.result (c.scan_leaf.ensures.way c.args.next)
+    rw c.scan_leaf.ensures.same (leaf_answer b c.args.height c.args.next c.args.low.now c.args.high.now (bounds_by (given b) c.args.at.low c.args.at.high) c.args.at.number c.args.wanted c.args.out.now c.scan_leaf.new.out _ c.if-height-eq0.true c.scan_leaf.result (c.scan_leaf.ensures.way c.args.next))
 
 pub scan_from-returns-then-not-is_inner_within-clause-way :
     goal.scan_from-returns-then-not-is_inner_within-clause-way
@@ -87,7 +87,10 @@ scan_from-returns-in_err-reach-clause-on_walk g t c =
 
 pub scan_from-returns-then-height-eq0-clause-on_walk : goal.scan_from-returns-then-height-eq0-clause-on_walk
 scan_from-returns-then-height-eq0-clause-on_walk g t c =
-    first_among c.args.low.now c.args.high.now _ c.args.next _ _ c.args.at.number c.args.wanted _ _ c.args.height c.reach.ensures.among
+    rw c.scan_leaf.ensures.same (first_among c.args.low.now c.args.high.now _ c.args.next _ _ c.args.at.number c.args.wanted _ _ c.args.height c.reach.ensures.among)
+
+pub scan_from-returns-then-height-eq0-clause-loaded : goal.scan_from-returns-then-height-eq0-clause-loaded
+scan_from-returns-then-height-eq0-clause-loaded g t c = rw c.scan_leaf.ensures.same c.reach.ensures.loaded
 
 pub scan_from-returns-then-not-is_inner_within-clause-on_walk : goal.scan_from-returns-then-not-is_inner_within-clause-on_walk
 scan_from-returns-then-not-is_inner_within-clause-on_walk g t c =
@@ -96,7 +99,7 @@ scan_from-returns-then-not-is_inner_within-clause-on_walk g t c =
 pub scan_from-returns-then-height-eq0-clause-used : goal.scan_from-returns-then-height-eq0-clause-used
 scan_from-returns-then-height-eq0-clause-used g t c =
     let b = c.reach.new.bucket in
-    of_ok c.scan_leaf.result (leaf_used c.args.low.now c.args.high.now b.bucket c.args.next (given b) (bounds_by (given b) c.args.at.low c.args.at.high) c.args.at.number c.args.wanted c.args.bucket.now b c.args.height c.if-height-eq0.true (c.in_ok-reach.ensures).used)
+    rw c.scan_leaf.ensures.same (of_ok c.scan_leaf.result (leaf_used c.args.low.now c.args.high.now b.bucket c.args.next (given b) (bounds_by (given b) c.args.at.low c.args.at.high) c.args.at.number c.args.wanted c.args.bucket.now b c.args.height c.if-height-eq0.true (c.in_ok-reach.ensures).used))
 
 pub scan_from-returns-clause-on_walk : goal.scan_from-returns-clause-on_walk
 scan_from-returns-clause-on_walk g t c =

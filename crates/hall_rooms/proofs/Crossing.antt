@@ -53,6 +53,7 @@ use Rattle.hall_rooms.specs.contracts.held.HeldRoom.TheInside as in_hall_in
 use Rattle.fine_model.proofs.list.Items.TheSendSync as items
 use Rattle.node_cache.proofs.cached.Cached.TheSendSync as cached
 use Rattle.node_cache.proofs.undo.Step.TheSendSync as step
+use Rattle.node_cache.proofs.marks.Marks.TheSendSync as marks
 
 pub noted : IsSend (snapshot.the_row cache.the_row)
 noted = search rules depth 20
@@ -166,6 +167,6 @@ bucket_send = view_send _ _ _ _ _ (declared_send bucket_in.the_type (
   search rules,
   (
     as_row_send (map.the_field denote.Builtin.u32 cache.the_row hasher alloc.the_row fold.the_row equal.ghosts hash.ghosts _ folding.ghosts ghosts) (map_send cache.the_row _ cached.the_send),
-    (as_row_send (map.the_field denote.Builtin.u32 original.the_row hasher alloc.the_row fold.the_row equal.ghosts hash.ghosts _ folding.ghosts ghosts) (map_send original.the_row _ original_send), tt),
+    (as_row_send (map.the_field denote.Builtin.u32 original.the_row hasher alloc.the_row fold.the_row equal.ghosts hash.ghosts _ folding.ghosts ghosts) (map_send original.the_row _ original_send), (marks.the_send, tt)),
   ),
 ))

@@ -77,13 +77,16 @@ fn add_regions(out: &mut Vec<u32>, part: &Part) -> Result<(), NoMemory>
     Ok(())
 }
 
-/// All regions of parts, in their order.
+/// All regions of parts, in their order. Memory is taken once, for as many as the headers tell.
 pub fn all_regions(alloc: Global, parts: &Parts) -> Result<Vec<u32>, NoMemory>
     requires each { AllByRecursion HasRegions parts.now }
     ensures { IfOk result (λ regions. regions.items ≡ all_regions parts.now) }
 {
     let slice = parts.as_slice();
-    let mut regions = Vec::new(alloc);
+    let told = slice.iter().fold(0usize, |sum, part| {
+        sum.saturating_add(usize::from(part.header.regions))
+    });
+    let mut regions = Vec::with_capacity(alloc, told)?;
     for part in slice {
         add_regions(&mut regions, part)?;
     }

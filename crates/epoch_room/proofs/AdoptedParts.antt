@@ -213,6 +213,9 @@ module _ (old entry : Disk) (kept : Kept) (range : Range) (rows : List Row) (k :
     good = good;
   }
 
+  pub part_made : (p : Part) → p ≡ part_over k kept.free range rows → IsPartFor old kept.free range rows k p
+  part_made p is = subst (IsPartFor old kept.free range rows k) (sym is) part_for
+
   -- ---- any such part
 
   module _ (p : Part) (o : IsPartFor old kept.free range rows k p) where

@@ -24,6 +24,7 @@ pub mod GateSteps
 pub mod Gates
 pub mod Gathering
 pub mod Holding
+pub mod Inside
 pub mod JobRegions
 pub mod Joining
 pub mod Kept

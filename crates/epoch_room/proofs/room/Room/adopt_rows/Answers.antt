@@ -1,4 +1,4 @@
-use Rattle.std.proofs.Common.{◌≡◌, ◌+◌, ◌-◌, ◌*◌, ◌≤◌, ◌++◌, ◌∷◌, [], ℕ, Some, Ok, Err, Result, true, drop, take, refl, sym, subst, ap, ◌∙◌, arith}
+use Rattle.std.proofs.Common.{◌≡◌, ◌+◌, ◌-◌, ◌*◌, ◌≤◌, ◌++◌, ◌∷◌, [], ℕ, Some, Ok, Err, Result, true, take, refl, sym, subst, ap, ◌∙◌, arith}
 use Rattle.std.specs.Prelude.{IsErrOf, OnOk}
 use Rattle.fine_model.specs.declared.Mark.TheVariants as mark
 use Rattle.fine_model.specs.Boards.{set_of}
@@ -7,16 +7,39 @@ use Rattle.log_disk.specs.Disk.{BothTold}
 use Rattle.log_disk.specs.declared.refusal.DiskRefusal.{DiskRefusal}
 use Rattle.log_partition.proofs.RowsRead.{lengths}
 use Rattle.epoch_room.specs.Adopting.{Adoption}
-use Rattle.epoch_room.specs.RowWrites.{HasPart, SealsRows}
-use Rattle.epoch_room.specs.Value.{Kept, RoomValue, value_of}
+use Rattle.epoch_room.specs.RowWrites.{HasPart}
+use Rattle.epoch_room.specs.Value.{RoomValue, value_of}
 use Rattle.epoch_room.specs.Whole.{IsWhole}
 use Rattle.epoch_room.specs.declared.answers.AdoptFault.TheVariants as adopt_fault
 use Rattle.epoch_room.specs.declared.answers.RoomFault.TheVariants as room_fault
 use Rattle.epoch_room.proofs.Adopted.{adoption_memory, adoption_none, adoption_ok, adoption_shut, whole_memory, whole_ok, whole_shut}
-use Rattle.epoch_room.proofs.AdoptedParts.{CanAdopt, IsPartFor, back, cost_small, least, none_lost, part_for, part_has, part_place, part_small}
+use Rattle.epoch_room.proofs.AdoptedParts.{CanAdopt, back, cost_small, least, none_lost, part_has, part_made, part_place, part_small}
 use Rattle.epoch_room.proofs.Behind.{does_none, is_failed, is_no_memory, not_failed_ok, popped}
 use Rattle.epoch_room.proofs.LongBodies.{is_err_then, not_err}
+use Rattle.epoch_room.proofs.Inside.{Ends, ends, kept_in, room_in}
+use Rattle.epoch_room.proofs.room.Room.adopt_rows.Given.{Over}
+use Rattle.epoch_room.proofs.room.Room.adopt_rows.Goals.{After-truncate, Else-len-from}
 use Rattle.epoch_room.proofs.room.Room.adopt_rows.Goals as goal
+
+-- the rows may be taken in, over so many regions
+can : (g : Over) (c : Else-len-from g) → CanAdopt (g.D.LogDisk.state c.self.inside.disk) (g.D.LogDisk.state c.self.inside.entry.value) (kept_in c.self.inside) c.args.range c.args.rows.now c.in-Some.regions
+can g c = record {
+  whole = c.self.invariant.0;
+  open_room = c.if-self.false;
+  no_job = ap (λ (v : RoomValue). v.room.job) c.self.view_is ∙ c.requires.no_job;
+  none = ap (λ (v : RoomValue). v.room.places) c.self.view_is ∙ c.requires.none;
+  next = c.requires.next ∙ ap (λ (v : RoomValue). v.room.sealed + 1) (sym c.self.view_is);
+  order = c.requires.order;
+  high = c.requires.high;
+  ordered = c.requires.ordered;
+  fit = c.requires.rows;
+  needed = sym (c.regions_for.ensures c.args.rows.now c.encoded_len-len.ensures ∙ ap (λ n. regions_for n c.args.rows.now) c.region_len-region_len.ensures.region_len) ∙ c.in-Some.is;
+  enough = omega (arith, c.if-len-from.false, c.len.ensures.count, c.from.ensures);
+}
+
+-- the parts are those before, once the new one is taken off
+cut : (g : Over) (c : After-truncate g) → c.truncate.new.self ≡ c.self.inside.parts
+cut g c = popped c.self.inside.parts c.push.new.self c.truncate.new.self c.part_over-part.result c.len-in-Err.result (not_err c.push.result (sym c.is_err.ensures.value ∙ c.if-is_err.false) c.push.ensures.ok) c.len-in-Err.ensures c.truncate.ensures
 
 pub returns-then-self : goal.returns-then-self
 returns-then-self g c =
@@ -26,84 +49,34 @@ returns-then-self g c =
 
 pub returns-in_default : goal.returns-in_default
 returns-in_default g c =
-    let in' = c.self.inside in
-    let old = g.D.LogDisk.state in'.disk in
-    let entry = g.D.LogDisk.state in'.entry.value in
-    let kept : Kept = record { parts = in'.parts; retired = in'.retired.items; free = in'.free; lost = in'.lost; target = in'.target; board = in'.board; job = in'.job; epoch = in'.epoch; sealed = in'.sealed; places = in'.places; is_shut = in'.is_shut } in
-    let whole : IsWhole (value_of old entry kept) = c.self.invariant.0 in
     let range = c.args.range in
     let rows = c.args.rows.now in
-    let found : c.regions_for.result ≡ regions_for old.region_len rows = c.regions_for.ensures rows c.encoded_len-len.ensures ∙ ap (λ n. regions_for n rows) c.region_len-region_len.ensures.region_len in
-    let room : c.room_of_most.result ≡ old.region_len + 7 * (old.region_len - 1) = c.room_of_most.ensures ∙ ap (λ n. n + 7 * (n - 1)) c.region_len-region_len.ensures.region_len in
+    let len = c.region_len-region_len.ensures.region_len in
+    let found = c.regions_for.ensures rows c.encoded_len-len.ensures ∙ ap (λ n. regions_for n rows) len in
     subst (λ (v : RoomValue). Adoption range rows v v (Err (adopt_fault.TooLarge c.need_of.result c.room_of_most.result))) c.self.view_is
-    (adoption_none (value_of old entry kept) range rows (adopt_fault.TooLarge c.need_of.result c.room_of_most.result) whole (c.if-self.false, sym found ∙ c.in_default.is, c.need_of.ensures rows c.encoded_len-len.ensures, room, refl))
+    (adoption_none (room_in g.D.LogDisk.state c.self.inside) range rows (adopt_fault.TooLarge c.need_of.result c.room_of_most.result) c.self.invariant.0
+    (c.if-self.false, sym found ∙ c.in_default.is, c.need_of.ensures rows c.encoded_len-len.ensures, c.room_of_most.ensures ∙ ap (λ n. n + 7 * (n - 1)) len, refl))
 
 pub returns-then-len-from : goal.returns-then-len-from
 returns-then-len-from g c =
-    let in' = c.self.inside in
-    let old = g.D.LogDisk.state in'.disk in
-    let entry = g.D.LogDisk.state in'.entry.value in
-    let kept : Kept = record { parts = in'.parts; retired = in'.retired.items; free = in'.free; lost = in'.lost; target = in'.target; board = in'.board; job = in'.job; epoch = in'.epoch; sealed = in'.sealed; places = in'.places; is_shut = in'.is_shut } in
-    let whole : IsWhole (value_of old entry kept) = c.self.invariant.0 in
     let range = c.args.range in
     let rows = c.args.rows.now in
-    let found : c.regions_for.result ≡ regions_for old.region_len rows = c.regions_for.ensures rows c.encoded_len-len.ensures ∙ ap (λ n. regions_for n rows) c.region_len-region_len.ensures.region_len in
+    let found = c.regions_for.ensures rows c.encoded_len-len.ensures ∙ ap (λ n. regions_for n rows) c.region_len-region_len.ensures.region_len in
     let few : c.len-then-len-from.result ≤ c.from-then-len-from.result = omega (arith, c.if-len-from.true, c.len.ensures.count, c.from.ensures, c.len-then-len-from.ensures.count, c.from-then-len-from.ensures) in
     subst (λ (v : RoomValue). Adoption range rows v v (Err (adopt_fault.Full c.len-then-len-from.result c.from-then-len-from.result))) c.self.view_is
-    (adoption_none (value_of old entry kept) range rows (adopt_fault.Full c.len-then-len-from.result c.from-then-len-from.result) whole
+    (adoption_none (room_in g.D.LogDisk.state c.self.inside) range rows (adopt_fault.Full c.len-then-len-from.result c.from-then-len-from.result) c.self.invariant.0
     (c.if-self.false, sym found ∙ c.in-Some.is ∙ ap (λ (n : ℕ). Some n) (sym c.from-then-len-from.ensures), c.len-then-len-from.ensures.count, few, refl))
 
 pub part_over-part-requires-clause-some : goal.part_over-part-requires-clause-some
 part_over-part-requires-clause-some g c =
-    let in' = c.self.inside in
-    let old = g.D.LogDisk.state in'.disk in
-    let entry = g.D.LogDisk.state in'.entry.value in
-    let kept : Kept = record { parts = in'.parts; retired = in'.retired.items; free = in'.free; lost = in'.lost; target = in'.target; board = in'.board; job = in'.job; epoch = in'.epoch; sealed = in'.sealed; places = in'.places; is_shut = in'.is_shut } in
-    let whole : IsWhole (value_of old entry kept) = c.self.invariant.0 in
-    let range = c.args.range in
-    let rows = c.args.rows.now in
-    let found : c.regions_for.result ≡ regions_for old.region_len rows = c.regions_for.ensures rows c.encoded_len-len.ensures ∙ ap (λ n. regions_for n rows) c.region_len-region_len.ensures.region_len in
-    let k = c.in-Some.regions in
-    let can : CanAdopt old entry kept range rows k = record {
-      whole = whole;
-      open_room = c.if-self.false;
-      no_job = ap (λ (v : RoomValue). v.room.job) c.self.view_is ∙ c.requires.no_job;
-      none = ap (λ (v : RoomValue). v.room.places) c.self.view_is ∙ c.requires.none;
-      next = c.requires.next ∙ ap (λ (v : RoomValue). v.room.sealed + 1) (sym c.self.view_is);
-      order = c.requires.order;
-      high = c.requires.high;
-      ordered = c.requires.ordered;
-      fit = c.requires.rows;
-      needed = sym found ∙ c.in-Some.is;
-      enough = omega (arith, c.if-len-from.false, c.len.ensures.count, c.from.ensures);
-    } in
-    (least old entry kept range rows k can).0
+    let can = can g (goal.at.part_over-part-requires-clause-some g c).Else-len-from in
+    (least _ _ _ _ _ _ can).0
 
 pub part_over-part-requires-clause-most : goal.part_over-part-requires-clause-most
 part_over-part-requires-clause-most g c =
-    let in' = c.self.inside in
-    let old = g.D.LogDisk.state in'.disk in
-    let entry = g.D.LogDisk.state in'.entry.value in
-    let kept : Kept = record { parts = in'.parts; retired = in'.retired.items; free = in'.free; lost = in'.lost; target = in'.target; board = in'.board; job = in'.job; epoch = in'.epoch; sealed = in'.sealed; places = in'.places; is_shut = in'.is_shut } in
-    let whole : IsWhole (value_of old entry kept) = c.self.invariant.0 in
-    let range = c.args.range in
-    let rows = c.args.rows.now in
-    let found : c.regions_for.result ≡ regions_for old.region_len rows = c.regions_for.ensures rows c.encoded_len-len.ensures ∙ ap (λ n. regions_for n rows) c.region_len-region_len.ensures.region_len in
-    let k = c.in-Some.regions in
-    let can : CanAdopt old entry kept range rows k = record {
-      whole = whole;
-      open_room = c.if-self.false;
-      no_job = ap (λ (v : RoomValue). v.room.job) c.self.view_is ∙ c.requires.no_job;
-      none = ap (λ (v : RoomValue). v.room.places) c.self.view_is ∙ c.requires.none;
-      next = c.requires.next ∙ ap (λ (v : RoomValue). v.room.sealed + 1) (sym c.self.view_is);
-      order = c.requires.order;
-      high = c.requires.high;
-      ordered = c.requires.ordered;
-      fit = c.requires.rows;
-      needed = sym found ∙ c.in-Some.is;
-      enough = omega (arith, c.if-len-from.false, c.len.ensures.count, c.from.ensures);
-    } in
-    let l = (least old entry kept range rows k can).1 in omega (arith, l)
+    let can = can g (goal.at.part_over-part-requires-clause-most g c).Else-len-from in
+    let l = (least _ _ _ _ _ _ can).1 in
+    omega (arith, l)
 
 pub part_over-part-requires-clause-fit : goal.part_over-part-requires-clause-fit
 part_over-part-requires-clause-fit g c =
@@ -111,554 +84,123 @@ part_over-part-requires-clause-fit g c =
 
 pub part_over-part-requires-clause-len : goal.part_over-part-requires-clause-len
 part_over-part-requires-clause-len g c =
-    let in' = c.self.inside in
-    let old = g.D.LogDisk.state in'.disk in
-    let entry = g.D.LogDisk.state in'.entry.value in
-    let kept : Kept = record { parts = in'.parts; retired = in'.retired.items; free = in'.free; lost = in'.lost; target = in'.target; board = in'.board; job = in'.job; epoch = in'.epoch; sealed = in'.sealed; places = in'.places; is_shut = in'.is_shut } in
-    let whole : IsWhole (value_of old entry kept) = c.self.invariant.0 in
-    let range = c.args.range in
-    let rows = c.args.rows.now in
-    let found : c.regions_for.result ≡ regions_for old.region_len rows = c.regions_for.ensures rows c.encoded_len-len.ensures ∙ ap (λ n. regions_for n rows) c.region_len-region_len.ensures.region_len in
-    let k = c.in-Some.regions in
-    let can : CanAdopt old entry kept range rows k = record {
-      whole = whole;
-      open_room = c.if-self.false;
-      no_job = ap (λ (v : RoomValue). v.room.job) c.self.view_is ∙ c.requires.no_job;
-      none = ap (λ (v : RoomValue). v.room.places) c.self.view_is ∙ c.requires.none;
-      next = c.requires.next ∙ ap (λ (v : RoomValue). v.room.sealed + 1) (sym c.self.view_is);
-      order = c.requires.order;
-      high = c.requires.high;
-      ordered = c.requires.ordered;
-      fit = c.requires.rows;
-      needed = sym found ∙ c.in-Some.is;
-      enough = omega (arith, c.if-len-from.false, c.len.ensures.count, c.from.ensures);
-    } in
-    let s = cost_small old entry kept range rows k can in omega (arith, c.encoded_len-len.ensures, s)
+    let can = can g (goal.at.part_over-part-requires-clause-len g c).Else-len-from in
+    let s = cost_small _ _ _ _ _ _ can in
+    omega (arith, c.encoded_len-len.ensures, s)
 
 pub part_over-part-requires-clause-small : goal.part_over-part-requires-clause-small
 part_over-part-requires-clause-small g c =
-    let in' = c.self.inside in
-    let old = g.D.LogDisk.state in'.disk in
-    let entry = g.D.LogDisk.state in'.entry.value in
-    let kept : Kept = record { parts = in'.parts; retired = in'.retired.items; free = in'.free; lost = in'.lost; target = in'.target; board = in'.board; job = in'.job; epoch = in'.epoch; sealed = in'.sealed; places = in'.places; is_shut = in'.is_shut } in
-    let whole : IsWhole (value_of old entry kept) = c.self.invariant.0 in
-    let range = c.args.range in
-    let rows = c.args.rows.now in
-    let found : c.regions_for.result ≡ regions_for old.region_len rows = c.regions_for.ensures rows c.encoded_len-len.ensures ∙ ap (λ n. regions_for n rows) c.region_len-region_len.ensures.region_len in
-    let k = c.in-Some.regions in
-    let can : CanAdopt old entry kept range rows k = record {
-      whole = whole;
-      open_room = c.if-self.false;
-      no_job = ap (λ (v : RoomValue). v.room.job) c.self.view_is ∙ c.requires.no_job;
-      none = ap (λ (v : RoomValue). v.room.places) c.self.view_is ∙ c.requires.none;
-      next = c.requires.next ∙ ap (λ (v : RoomValue). v.room.sealed + 1) (sym c.self.view_is);
-      order = c.requires.order;
-      high = c.requires.high;
-      ordered = c.requires.ordered;
-      fit = c.requires.rows;
-      needed = sym found ∙ c.in-Some.is;
-      enough = omega (arith, c.if-len-from.false, c.len.ensures.count, c.from.ensures);
-    } in
-    let s = cost_small old entry kept range rows k can in omega (arith, s)
+    let can = can g (goal.at.part_over-part-requires-clause-small g c).Else-len-from in
+    let s = cost_small _ _ _ _ _ _ can in
+    omega (arith, s)
 
-pub add_part-requires-clause-has : goal.add_part-requires-clause-has
-add_part-requires-clause-has g c =
-    let in' = c.self.inside in
-    let old = g.D.LogDisk.state in'.disk in
-    let entry = g.D.LogDisk.state in'.entry.value in
-    let kept : Kept = record { parts = in'.parts; retired = in'.retired.items; free = in'.free; lost = in'.lost; target = in'.target; board = in'.board; job = in'.job; epoch = in'.epoch; sealed = in'.sealed; places = in'.places; is_shut = in'.is_shut } in
-    let whole : IsWhole (value_of old entry kept) = c.self.invariant.0 in
-    let range = c.args.range in
-    let rows = c.args.rows.now in
-    let found : c.regions_for.result ≡ regions_for old.region_len rows = c.regions_for.ensures rows c.encoded_len-len.ensures ∙ ap (λ n. regions_for n rows) c.region_len-region_len.ensures.region_len in
-    let k = c.in-Some.regions in
-    let can : CanAdopt old entry kept range rows k = record {
-      whole = whole;
-      open_room = c.if-self.false;
-      no_job = ap (λ (v : RoomValue). v.room.job) c.self.view_is ∙ c.requires.no_job;
-      none = ap (λ (v : RoomValue). v.room.places) c.self.view_is ∙ c.requires.none;
-      next = c.requires.next ∙ ap (λ (v : RoomValue). v.room.sealed + 1) (sym c.self.view_is);
-      order = c.requires.order;
-      high = c.requires.high;
-      ordered = c.requires.ordered;
-      fit = c.requires.rows;
-      needed = sym found ∙ c.in-Some.is;
-      enough = omega (arith, c.if-len-from.false, c.len.ensures.count, c.from.ensures);
-    } in
-    let p = c.part_over-part.result in
-    let own : IsPartFor old in'.free range rows k p = subst (IsPartFor old in'.free range rows k) (sym c.part_over-part.ensures.part) (part_for old entry kept range rows k can) in
-    part_has old entry kept range rows k can p own
+pub add_part-requires : goal.add_part-requires
+add_part-requires g c =
+    let can = can g (goal.at.add_part-requires g c).Else-len-from in
+    let own = part_made _ _ _ _ _ _ can c.part_over-part.result c.part_over-part.ensures.part in
+    record { has = part_has _ _ _ _ _ _ can _ own; small = part_small _ _ _ _ _ _ can _ own }
 
-pub add_part-requires-clause-small : goal.add_part-requires-clause-small
-add_part-requires-clause-small g c =
+-- no memory to keep the part: its regions are free again
+none_kept : (g : Over) (c : goal.After-add_part g) → Ends (λ v w. Adoption c.args.range c.args.rows.now v w (Err (adopt_fault.Room room_fault.NoMemory))) c.args.self.now (room_in g.D.LogDisk.state (record c.self.inside { parts = c.push.new.self; free = c.add_part.new.set }))
+none_kept g c =
     let in' = c.self.inside in
-    let old = g.D.LogDisk.state in'.disk in
-    let entry = g.D.LogDisk.state in'.entry.value in
-    let kept : Kept = record { parts = in'.parts; retired = in'.retired.items; free = in'.free; lost = in'.lost; target = in'.target; board = in'.board; job = in'.job; epoch = in'.epoch; sealed = in'.sealed; places = in'.places; is_shut = in'.is_shut } in
-    let whole : IsWhole (value_of old entry kept) = c.self.invariant.0 in
-    let range = c.args.range in
-    let rows = c.args.rows.now in
-    let found : c.regions_for.result ≡ regions_for old.region_len rows = c.regions_for.ensures rows c.encoded_len-len.ensures ∙ ap (λ n. regions_for n rows) c.region_len-region_len.ensures.region_len in
-    let k = c.in-Some.regions in
-    let can : CanAdopt old entry kept range rows k = record {
-      whole = whole;
-      open_room = c.if-self.false;
-      no_job = ap (λ (v : RoomValue). v.room.job) c.self.view_is ∙ c.requires.no_job;
-      none = ap (λ (v : RoomValue). v.room.places) c.self.view_is ∙ c.requires.none;
-      next = c.requires.next ∙ ap (λ (v : RoomValue). v.room.sealed + 1) (sym c.self.view_is);
-      order = c.requires.order;
-      high = c.requires.high;
-      ordered = c.requires.ordered;
-      fit = c.requires.rows;
-      needed = sym found ∙ c.in-Some.is;
-      enough = omega (arith, c.if-len-from.false, c.len.ensures.count, c.from.ensures);
-    } in
-    let p = c.part_over-part.result in
-    let own : IsPartFor old in'.free range rows k p = subst (IsPartFor old in'.free range rows k) (sym c.part_over-part.ensures.part) (part_for old entry kept range rows k can) in
-    part_small old entry kept range rows k can p own
-
-pub add_part-requires-in-Failed-clause-has : goal.add_part-requires-in-Failed-clause-has
-add_part-requires-in-Failed-clause-has g c =
-    let in' = c.self.inside in
-    let old = g.D.LogDisk.state in'.disk in
-    let entry = g.D.LogDisk.state in'.entry.value in
-    let kept : Kept = record { parts = in'.parts; retired = in'.retired.items; free = in'.free; lost = in'.lost; target = in'.target; board = in'.board; job = in'.job; epoch = in'.epoch; sealed = in'.sealed; places = in'.places; is_shut = in'.is_shut } in
-    let whole : IsWhole (value_of old entry kept) = c.self.invariant.0 in
-    let range = c.args.range in
-    let rows = c.args.rows.now in
-    let found : c.regions_for.result ≡ regions_for old.region_len rows = c.regions_for.ensures rows c.encoded_len-len.ensures ∙ ap (λ n. regions_for n rows) c.region_len-region_len.ensures.region_len in
-    let k = c.in-Some.regions in
-    let can : CanAdopt old entry kept range rows k = record {
-      whole = whole;
-      open_room = c.if-self.false;
-      no_job = ap (λ (v : RoomValue). v.room.job) c.self.view_is ∙ c.requires.no_job;
-      none = ap (λ (v : RoomValue). v.room.places) c.self.view_is ∙ c.requires.none;
-      next = c.requires.next ∙ ap (λ (v : RoomValue). v.room.sealed + 1) (sym c.self.view_is);
-      order = c.requires.order;
-      high = c.requires.high;
-      ordered = c.requires.ordered;
-      fit = c.requires.rows;
-      needed = sym found ∙ c.in-Some.is;
-      enough = omega (arith, c.if-len-from.false, c.len.ensures.count, c.from.ensures);
-    } in
-    let p = c.part_over-part.result in
-    let own : IsPartFor old in'.free range rows k p = subst (IsPartFor old in'.free range rows k) (sym c.part_over-part.ensures.part) (part_for old entry kept range rows k can) in
-    part_has old entry kept range rows k can p own
-
-pub add_part-requires-in-Failed-clause-small : goal.add_part-requires-in-Failed-clause-small
-add_part-requires-in-Failed-clause-small g c =
-    let in' = c.self.inside in
-    let old = g.D.LogDisk.state in'.disk in
-    let entry = g.D.LogDisk.state in'.entry.value in
-    let kept : Kept = record { parts = in'.parts; retired = in'.retired.items; free = in'.free; lost = in'.lost; target = in'.target; board = in'.board; job = in'.job; epoch = in'.epoch; sealed = in'.sealed; places = in'.places; is_shut = in'.is_shut } in
-    let whole : IsWhole (value_of old entry kept) = c.self.invariant.0 in
-    let range = c.args.range in
-    let rows = c.args.rows.now in
-    let found : c.regions_for.result ≡ regions_for old.region_len rows = c.regions_for.ensures rows c.encoded_len-len.ensures ∙ ap (λ n. regions_for n rows) c.region_len-region_len.ensures.region_len in
-    let k = c.in-Some.regions in
-    let can : CanAdopt old entry kept range rows k = record {
-      whole = whole;
-      open_room = c.if-self.false;
-      no_job = ap (λ (v : RoomValue). v.room.job) c.self.view_is ∙ c.requires.no_job;
-      none = ap (λ (v : RoomValue). v.room.places) c.self.view_is ∙ c.requires.none;
-      next = c.requires.next ∙ ap (λ (v : RoomValue). v.room.sealed + 1) (sym c.self.view_is);
-      order = c.requires.order;
-      high = c.requires.high;
-      ordered = c.requires.ordered;
-      fit = c.requires.rows;
-      needed = sym found ∙ c.in-Some.is;
-      enough = omega (arith, c.if-len-from.false, c.len.ensures.count, c.from.ensures);
-    } in
-    let p = c.part_over-part.result in
-    let own : IsPartFor old in'.free range rows k p = subst (IsPartFor old in'.free range rows k) (sym c.part_over-part.ensures.part) (part_for old entry kept range rows k can) in
-    part_small old entry kept range rows k can p own
-
-pub add_part-requires-in-NoMemory-clause-has : goal.add_part-requires-in-NoMemory-clause-has
-add_part-requires-in-NoMemory-clause-has g c =
-    let in' = c.self.inside in
-    let old = g.D.LogDisk.state in'.disk in
-    let entry = g.D.LogDisk.state in'.entry.value in
-    let kept : Kept = record { parts = in'.parts; retired = in'.retired.items; free = in'.free; lost = in'.lost; target = in'.target; board = in'.board; job = in'.job; epoch = in'.epoch; sealed = in'.sealed; places = in'.places; is_shut = in'.is_shut } in
-    let whole : IsWhole (value_of old entry kept) = c.self.invariant.0 in
-    let range = c.args.range in
-    let rows = c.args.rows.now in
-    let found : c.regions_for.result ≡ regions_for old.region_len rows = c.regions_for.ensures rows c.encoded_len-len.ensures ∙ ap (λ n. regions_for n rows) c.region_len-region_len.ensures.region_len in
-    let k = c.in-Some.regions in
-    let can : CanAdopt old entry kept range rows k = record {
-      whole = whole;
-      open_room = c.if-self.false;
-      no_job = ap (λ (v : RoomValue). v.room.job) c.self.view_is ∙ c.requires.no_job;
-      none = ap (λ (v : RoomValue). v.room.places) c.self.view_is ∙ c.requires.none;
-      next = c.requires.next ∙ ap (λ (v : RoomValue). v.room.sealed + 1) (sym c.self.view_is);
-      order = c.requires.order;
-      high = c.requires.high;
-      ordered = c.requires.ordered;
-      fit = c.requires.rows;
-      needed = sym found ∙ c.in-Some.is;
-      enough = omega (arith, c.if-len-from.false, c.len.ensures.count, c.from.ensures);
-    } in
-    let p = c.part_over-part.result in
-    let own : IsPartFor old in'.free range rows k p = subst (IsPartFor old in'.free range rows k) (sym c.part_over-part.ensures.part) (part_for old entry kept range rows k can) in
-    part_has old entry kept range rows k can p own
-
-pub add_part-requires-in-NoMemory-clause-small : goal.add_part-requires-in-NoMemory-clause-small
-add_part-requires-in-NoMemory-clause-small g c =
-    let in' = c.self.inside in
-    let old = g.D.LogDisk.state in'.disk in
-    let entry = g.D.LogDisk.state in'.entry.value in
-    let kept : Kept = record { parts = in'.parts; retired = in'.retired.items; free = in'.free; lost = in'.lost; target = in'.target; board = in'.board; job = in'.job; epoch = in'.epoch; sealed = in'.sealed; places = in'.places; is_shut = in'.is_shut } in
-    let whole : IsWhole (value_of old entry kept) = c.self.invariant.0 in
-    let range = c.args.range in
-    let rows = c.args.rows.now in
-    let found : c.regions_for.result ≡ regions_for old.region_len rows = c.regions_for.ensures rows c.encoded_len-len.ensures ∙ ap (λ n. regions_for n rows) c.region_len-region_len.ensures.region_len in
-    let k = c.in-Some.regions in
-    let can : CanAdopt old entry kept range rows k = record {
-      whole = whole;
-      open_room = c.if-self.false;
-      no_job = ap (λ (v : RoomValue). v.room.job) c.self.view_is ∙ c.requires.no_job;
-      none = ap (λ (v : RoomValue). v.room.places) c.self.view_is ∙ c.requires.none;
-      next = c.requires.next ∙ ap (λ (v : RoomValue). v.room.sealed + 1) (sym c.self.view_is);
-      order = c.requires.order;
-      high = c.requires.high;
-      ordered = c.requires.ordered;
-      fit = c.requires.rows;
-      needed = sym found ∙ c.in-Some.is;
-      enough = omega (arith, c.if-len-from.false, c.len.ensures.count, c.from.ensures);
-    } in
-    let p = c.part_over-part.result in
-    let own : IsPartFor old in'.free range rows k p = subst (IsPartFor old in'.free range rows k) (sym c.part_over-part.ensures.part) (part_for old entry kept range rows k can) in
-    part_small old entry kept range rows k can p own
+    let can = can g (goal.at.returns-then-is_err g c).Else-len-from in
+    let own = part_made _ _ _ _ _ _ can c.part_over-part.result c.part_over-part.ensures.part in
+    let same : c.push.new.self ≡ in'.parts = is_err_then c.push.result (sym c.is_err.ensures.value ∙ c.if-is_err.true) c.push.ensures.err in
+    let freed : c.add_part.new.set ≡ in'.free = c.add_part.ensures ∙ (λ i. set_of (c.part_over-part.ensures.free i ++ own.regions_is i)) ∙ back _ _ _ _ _ _ can in
+    ends (λ v w. Adoption c.args.range c.args.rows.now v w (Err (adopt_fault.Room room_fault.NoMemory))) c.self.view_is
+    (λ i. room_in g.D.LogDisk.state (record in' { parts = same i; free = freed i }))
+    (can.whole, adoption_none (room_in g.D.LogDisk.state in') c.args.range c.args.rows.now (adopt_fault.Room room_fault.NoMemory) can.whole (does_none _ can.whole can.open_room))
 
 pub invariant_of-self : goal.invariant_of-self
-invariant_of-self g c =
-    let in' = c.self.inside in
-    let old = g.D.LogDisk.state in'.disk in
-    let entry = g.D.LogDisk.state in'.entry.value in
-    let kept : Kept = record { parts = in'.parts; retired = in'.retired.items; free = in'.free; lost = in'.lost; target = in'.target; board = in'.board; job = in'.job; epoch = in'.epoch; sealed = in'.sealed; places = in'.places; is_shut = in'.is_shut } in
-    let whole : IsWhole (value_of old entry kept) = c.self.invariant.0 in
-    let range = c.args.range in
-    let rows = c.args.rows.now in
-    let found : c.regions_for.result ≡ regions_for old.region_len rows = c.regions_for.ensures rows c.encoded_len-len.ensures ∙ ap (λ n. regions_for n rows) c.region_len-region_len.ensures.region_len in
-    let k = c.in-Some.regions in
-    let can : CanAdopt old entry kept range rows k = record {
-      whole = whole;
-      open_room = c.if-self.false;
-      no_job = ap (λ (v : RoomValue). v.room.job) c.self.view_is ∙ c.requires.no_job;
-      none = ap (λ (v : RoomValue). v.room.places) c.self.view_is ∙ c.requires.none;
-      next = c.requires.next ∙ ap (λ (v : RoomValue). v.room.sealed + 1) (sym c.self.view_is);
-      order = c.requires.order;
-      high = c.requires.high;
-      ordered = c.requires.ordered;
-      fit = c.requires.rows;
-      needed = sym found ∙ c.in-Some.is;
-      enough = omega (arith, c.if-len-from.false, c.len.ensures.count, c.from.ensures);
-    } in
-    let p = c.part_over-part.result in
-    let own : IsPartFor old in'.free range rows k p = subst (IsPartFor old in'.free range rows k) (sym c.part_over-part.ensures.part) (part_for old entry kept range rows k can) in
-    let same : c.push.new.self ≡ in'.parts = is_err_then c.push.result (sym c.is_err.ensures.value ∙ c.if-is_err.true) c.push.ensures.err in
-    let freed : c.add_part.new.set ≡ in'.free = c.add_part.ensures ∙ (λ i. set_of (c.part_over-part.ensures.free i ++ own.regions_is i)) ∙ back old entry kept range rows k can in
-    let is : value_of old entry (record { parts = c.push.new.self; retired = in'.retired.items; free = c.add_part.new.set; lost = in'.lost; target = in'.target; board = in'.board; job = in'.job; epoch = in'.epoch; sealed = in'.sealed; places = in'.places; is_shut = in'.is_shut }) ≡ value_of old entry kept =
-    λ i. value_of old entry (record { parts = same i; retired = in'.retired.items; free = freed i; lost = in'.lost; target = in'.target; board = in'.board; job = in'.job; epoch = in'.epoch; sealed = in'.sealed; places = in'.places; is_shut = in'.is_shut }) in
-    (subst IsWhole (sym is) whole, c.self.invariant.1, c.self.invariant.2)
+invariant_of-self g c = ((none_kept g c).0, c.self.invariant.1, c.self.invariant.2)
 
 pub returns-then-is_err : goal.returns-then-is_err
-returns-then-is_err g c =
-    let in' = c.self.inside in
-    let old = g.D.LogDisk.state in'.disk in
-    let entry = g.D.LogDisk.state in'.entry.value in
-    let kept : Kept = record { parts = in'.parts; retired = in'.retired.items; free = in'.free; lost = in'.lost; target = in'.target; board = in'.board; job = in'.job; epoch = in'.epoch; sealed = in'.sealed; places = in'.places; is_shut = in'.is_shut } in
-    let whole : IsWhole (value_of old entry kept) = c.self.invariant.0 in
-    let range = c.args.range in
-    let rows = c.args.rows.now in
-    let found : c.regions_for.result ≡ regions_for old.region_len rows = c.regions_for.ensures rows c.encoded_len-len.ensures ∙ ap (λ n. regions_for n rows) c.region_len-region_len.ensures.region_len in
-    let k = c.in-Some.regions in
-    let can : CanAdopt old entry kept range rows k = record {
-      whole = whole;
-      open_room = c.if-self.false;
-      no_job = ap (λ (v : RoomValue). v.room.job) c.self.view_is ∙ c.requires.no_job;
-      none = ap (λ (v : RoomValue). v.room.places) c.self.view_is ∙ c.requires.none;
-      next = c.requires.next ∙ ap (λ (v : RoomValue). v.room.sealed + 1) (sym c.self.view_is);
-      order = c.requires.order;
-      high = c.requires.high;
-      ordered = c.requires.ordered;
-      fit = c.requires.rows;
-      needed = sym found ∙ c.in-Some.is;
-      enough = omega (arith, c.if-len-from.false, c.len.ensures.count, c.from.ensures);
-    } in
-    let p = c.part_over-part.result in
-    let own : IsPartFor old in'.free range rows k p = subst (IsPartFor old in'.free range rows k) (sym c.part_over-part.ensures.part) (part_for old entry kept range rows k can) in
-    let same : c.push.new.self ≡ in'.parts = is_err_then c.push.result (sym c.is_err.ensures.value ∙ c.if-is_err.true) c.push.ensures.err in
-    let freed : c.add_part.new.set ≡ in'.free = c.add_part.ensures ∙ (λ i. set_of (c.part_over-part.ensures.free i ++ own.regions_is i)) ∙ back old entry kept range rows k can in
-    let is : value_of old entry (record { parts = c.push.new.self; retired = in'.retired.items; free = c.add_part.new.set; lost = in'.lost; target = in'.target; board = in'.board; job = in'.job; epoch = in'.epoch; sealed = in'.sealed; places = in'.places; is_shut = in'.is_shut }) ≡ value_of old entry kept =
-    λ i. value_of old entry (record { parts = same i; retired = in'.retired.items; free = freed i; lost = in'.lost; target = in'.target; board = in'.board; job = in'.job; epoch = in'.epoch; sealed = in'.sealed; places = in'.places; is_shut = in'.is_shut }) in
-    subst (λ (v : RoomValue). Adoption range rows v (value_of old entry (record { parts = c.push.new.self; retired = in'.retired.items; free = c.add_part.new.set; lost = in'.lost; target = in'.target; board = in'.board; job = in'.job; epoch = in'.epoch; sealed = in'.sealed; places = in'.places; is_shut = in'.is_shut })) (Err (adopt_fault.Room room_fault.NoMemory))) c.self.view_is (subst (λ (v : RoomValue). Adoption range rows (value_of old entry kept) v (Err (adopt_fault.Room room_fault.NoMemory))) (sym is) (adoption_none (value_of old entry kept) range rows (adopt_fault.Room room_fault.NoMemory) whole (does_none (value_of old entry kept) whole c.if-self.false)))
+returns-then-is_err g c = (none_kept g c).1
 
 pub seal_rows-requires-clause-place : goal.seal_rows-requires-clause-place
 seal_rows-requires-clause-place g c κs within =
-    let in' = c.self.inside in
-    let old = g.D.LogDisk.state in'.disk in
-    let entry = g.D.LogDisk.state in'.entry.value in
-    let kept : Kept = record { parts = in'.parts; retired = in'.retired.items; free = in'.free; lost = in'.lost; target = in'.target; board = in'.board; job = in'.job; epoch = in'.epoch; sealed = in'.sealed; places = in'.places; is_shut = in'.is_shut } in
-    let whole : IsWhole (value_of old entry kept) = c.self.invariant.0 in
-    let range = c.args.range in
-    let rows = c.args.rows.now in
-    let found : c.regions_for.result ≡ regions_for old.region_len rows = c.regions_for.ensures rows c.encoded_len-len.ensures ∙ ap (λ n. regions_for n rows) c.region_len-region_len.ensures.region_len in
-    let k = c.in-Some.regions in
-    let can : CanAdopt old entry kept range rows k = record {
-      whole = whole;
-      open_room = c.if-self.false;
-      no_job = ap (λ (v : RoomValue). v.room.job) c.self.view_is ∙ c.requires.no_job;
-      none = ap (λ (v : RoomValue). v.room.places) c.self.view_is ∙ c.requires.none;
-      next = c.requires.next ∙ ap (λ (v : RoomValue). v.room.sealed + 1) (sym c.self.view_is);
-      order = c.requires.order;
-      high = c.requires.high;
-      ordered = c.requires.ordered;
-      fit = c.requires.rows;
-      needed = sym found ∙ c.in-Some.is;
-      enough = omega (arith, c.if-len-from.false, c.len.ensures.count, c.from.ensures);
-    } in
-    let p = c.part_over-part.result in
-    let own : IsPartFor old in'.free range rows k p = subst (IsPartFor old in'.free range rows k) (sym c.part_over-part.ensures.part) (part_for old entry kept range rows k can) in
-    part_place old entry kept range rows k can p own
+    let can = can g (goal.at.seal_rows-requires-clause-place g c).Else-len-from in
+    let own = part_made _ _ _ _ _ _ can c.part_over-part.result c.part_over-part.ensures.part in
+    part_place _ _ _ _ _ _ can _ own
 
 pub seal_rows-requires-clause-counted : goal.seal_rows-requires-clause-counted
 seal_rows-requires-clause-counted g c κs within =
-    let in' = c.self.inside in
-    let old = g.D.LogDisk.state in'.disk in
-    let entry = g.D.LogDisk.state in'.entry.value in
-    let kept : Kept = record { parts = in'.parts; retired = in'.retired.items; free = in'.free; lost = in'.lost; target = in'.target; board = in'.board; job = in'.job; epoch = in'.epoch; sealed = in'.sealed; places = in'.places; is_shut = in'.is_shut } in
-    let whole : IsWhole (value_of old entry kept) = c.self.invariant.0 in
-    let range = c.args.range in
-    let rows = c.args.rows.now in
-    let found : c.regions_for.result ≡ regions_for old.region_len rows = c.regions_for.ensures rows c.encoded_len-len.ensures ∙ ap (λ n. regions_for n rows) c.region_len-region_len.ensures.region_len in
-    let k = c.in-Some.regions in
-    let can : CanAdopt old entry kept range rows k = record {
-      whole = whole;
-      open_room = c.if-self.false;
-      no_job = ap (λ (v : RoomValue). v.room.job) c.self.view_is ∙ c.requires.no_job;
-      none = ap (λ (v : RoomValue). v.room.places) c.self.view_is ∙ c.requires.none;
-      next = c.requires.next ∙ ap (λ (v : RoomValue). v.room.sealed + 1) (sym c.self.view_is);
-      order = c.requires.order;
-      high = c.requires.high;
-      ordered = c.requires.ordered;
-      fit = c.requires.rows;
-      needed = sym found ∙ c.in-Some.is;
-      enough = omega (arith, c.if-len-from.false, c.len.ensures.count, c.from.ensures);
-    } in
-    let p = c.part_over-part.result in
-    let own : IsPartFor old in'.free range rows k p = subst (IsPartFor old in'.free range rows k) (sym c.part_over-part.ensures.part) (part_for old entry kept range rows k can) in
+    let can = can g (goal.at.seal_rows-requires-clause-counted g c).Else-len-from in
+    let own = part_made _ _ _ _ _ _ can c.part_over-part.result c.part_over-part.ensures.part in
     own.counted
 
-pub invariant_of-self-in-Ok : goal.invariant_of-self-in-Ok
-invariant_of-self-in-Ok g c =
+-- the part is live
+taken_in : (g : Over) (c : goal.After-drop-self-inside g) → Ends (λ v w. Adoption c.args.range c.args.rows.now v w (Ok tt)) c.args.self.now (room_in g.D.LogDisk.state (record c.self.inside { disk = c.seal_rows.new.disk; entry = c.of.result; parts = c.push.new.self; free = c.part_over-part.new.free; sealed = c.args.range.last }))
+taken_in g c =
     let in' = c.self.inside in
-    let old = g.D.LogDisk.state in'.disk in
-    let entry = g.D.LogDisk.state in'.entry.value in
-    let kept : Kept = record { parts = in'.parts; retired = in'.retired.items; free = in'.free; lost = in'.lost; target = in'.target; board = in'.board; job = in'.job; epoch = in'.epoch; sealed = in'.sealed; places = in'.places; is_shut = in'.is_shut } in
-    let whole : IsWhole (value_of old entry kept) = c.self.invariant.0 in
-    let range = c.args.range in
-    let rows = c.args.rows.now in
-    let found : c.regions_for.result ≡ regions_for old.region_len rows = c.regions_for.ensures rows c.encoded_len-len.ensures ∙ ap (λ n. regions_for n rows) c.region_len-region_len.ensures.region_len in
-    let k = c.in-Some.regions in
-    let can : CanAdopt old entry kept range rows k = record {
-      whole = whole;
-      open_room = c.if-self.false;
-      no_job = ap (λ (v : RoomValue). v.room.job) c.self.view_is ∙ c.requires.no_job;
-      none = ap (λ (v : RoomValue). v.room.places) c.self.view_is ∙ c.requires.none;
-      next = c.requires.next ∙ ap (λ (v : RoomValue). v.room.sealed + 1) (sym c.self.view_is);
-      order = c.requires.order;
-      high = c.requires.high;
-      ordered = c.requires.ordered;
-      fit = c.requires.rows;
-      needed = sym found ∙ c.in-Some.is;
-      enough = omega (arith, c.if-len-from.false, c.len.ensures.count, c.from.ensures);
-    } in
-    let p = c.part_over-part.result in
-    let own : IsPartFor old in'.free range rows k p = subst (IsPartFor old in'.free range rows k) (sym c.part_over-part.ensures.part) (part_for old entry kept range rows k can) in
+    let can = can g (goal.at.returns-in-Ok g c).Else-len-from in
+    let own = part_made _ _ _ _ _ _ can c.part_over-part.result c.part_over-part.ensures.part in
     let new = g.D.LogDisk.state c.seal_rows.new.disk in
-    let run : SealsRows p rows c.seal_rows.result old new = c.seal_rows.ensures in
-    let pushed : c.push.new.self ≡ in'.parts ++ p ∷ [] = not_err c.push.result (sym c.is_err.ensures.value ∙ c.if-is_err.false) c.push.ensures.ok in
+    let run = c.seal_rows.ensures in
     let synced : new.unsynced ≡ [] = subst (λ (r : Result (Unit {0}) DiskRefusal). OnOk r (new.unsynced ≡ [])) c.in-Ok.is run.synced in
-    let sealed : BothTold (HasPart old.region_len p rows) old.told new.told = subst (λ (r : Result (Unit {0}) DiskRefusal). OnOk r (BothTold (HasPart old.region_len p rows) old.told new.told)) c.in-Ok.is run.sealed in
-    let is : value_of new (g.D.LogDisk.state c.of.result.value) (record { parts = c.push.new.self; retired = in'.retired.items; free = c.part_over-part.new.free; lost = in'.lost; target = in'.target; board = in'.board; job = in'.job; epoch = in'.epoch; sealed = range.last; places = in'.places; is_shut = in'.is_shut }) ≡ value_of new new (record kept { parts = in'.parts ++ p ∷ []; free = drop k in'.free; sealed = range.last }) =
-    λ i. value_of new (g.D.LogDisk.state (c.of.ensures i)) (record { parts = pushed i; retired = in'.retired.items; free = c.part_over-part.ensures.free i; lost = in'.lost; target = in'.target; board = in'.board; job = in'.job; epoch = in'.epoch; sealed = range.last; places = in'.places; is_shut = in'.is_shut }) in
-    (subst IsWhole (sym is) (whole_ok old new entry kept range rows k can p own c.seal_rows.result run synced sealed), omega (arith, run.beside.region_len, c.self.invariant.1), c.self.invariant.2)
+    let sealed = subst (λ (r : Result (Unit {0}) DiskRefusal). OnOk r (BothTold (HasPart (g.D.LogDisk.state in'.disk).region_len c.part_over-part.result c.args.rows.now) (g.D.LogDisk.state in'.disk).told new.told)) c.in-Ok.is run.sealed in
+    let pushed : c.push.new.self ≡ in'.parts ++ c.part_over-part.result ∷ [] = not_err c.push.result (sym c.is_err.ensures.value ∙ c.if-is_err.false) c.push.ensures.ok in
+    ends (λ v w. Adoption c.args.range c.args.rows.now v w (Ok tt)) c.self.view_is
+    (λ i. value_of new (g.D.LogDisk.state (c.of.ensures i)) (record (kept_in in') { parts = pushed i; free = c.part_over-part.ensures.free i; sealed = c.args.range.last }))
+    (whole_ok _ _ _ _ _ _ _ can _ own _ run synced sealed, adoption_ok _ _ _ _ _ _ _ can _ own _ run synced sealed tt (not_failed_ok c.seal_rows.result c.in-Ok.is) c.part_over-part.ensures.part)
+
+pub invariant_of-self-in-Ok : goal.invariant_of-self-in-Ok
+invariant_of-self-in-Ok g c = let run = c.seal_rows.ensures in ((taken_in g c).0, omega (arith, run.beside.region_len, c.self.invariant.1), c.self.invariant.2)
 
 pub returns-in-Ok : goal.returns-in-Ok
-returns-in-Ok g c =
+returns-in-Ok g c = (taken_in g c).1
+
+pub add_part-requires-in-Failed : goal.add_part-requires-in-Failed
+add_part-requires-in-Failed g c =
+    let can = can g (goal.at.add_part-requires-in-Failed g c).Else-len-from in
+    let own = part_made _ _ _ _ _ _ can c.part_over-part.result c.part_over-part.ensures.part in
+    record { has = part_has _ _ _ _ _ _ can _ own; small = part_small _ _ _ _ _ _ can _ own }
+
+-- the disk failed: its regions are lost
+lost : (g : Over) (c : goal.After-self-in-Failed-1 g) → Ends (λ v w. Adoption c.args.range c.args.rows.now v w (Err (adopt_fault.Room room_fault.Disk))) c.args.self.now (room_in g.D.LogDisk.state (record c.self.inside { disk = c.seal_rows.new.disk; parts = c.truncate.new.self; free = c.part_over-part.new.free; lost = c.add_part-in-Failed.new.set; is_shut = true }))
+lost g c =
     let in' = c.self.inside in
-    let old = g.D.LogDisk.state in'.disk in
-    let entry = g.D.LogDisk.state in'.entry.value in
-    let kept : Kept = record { parts = in'.parts; retired = in'.retired.items; free = in'.free; lost = in'.lost; target = in'.target; board = in'.board; job = in'.job; epoch = in'.epoch; sealed = in'.sealed; places = in'.places; is_shut = in'.is_shut } in
-    let whole : IsWhole (value_of old entry kept) = c.self.invariant.0 in
-    let range = c.args.range in
-    let rows = c.args.rows.now in
-    let found : c.regions_for.result ≡ regions_for old.region_len rows = c.regions_for.ensures rows c.encoded_len-len.ensures ∙ ap (λ n. regions_for n rows) c.region_len-region_len.ensures.region_len in
-    let k = c.in-Some.regions in
-    let can : CanAdopt old entry kept range rows k = record {
-      whole = whole;
-      open_room = c.if-self.false;
-      no_job = ap (λ (v : RoomValue). v.room.job) c.self.view_is ∙ c.requires.no_job;
-      none = ap (λ (v : RoomValue). v.room.places) c.self.view_is ∙ c.requires.none;
-      next = c.requires.next ∙ ap (λ (v : RoomValue). v.room.sealed + 1) (sym c.self.view_is);
-      order = c.requires.order;
-      high = c.requires.high;
-      ordered = c.requires.ordered;
-      fit = c.requires.rows;
-      needed = sym found ∙ c.in-Some.is;
-      enough = omega (arith, c.if-len-from.false, c.len.ensures.count, c.from.ensures);
-    } in
-    let p = c.part_over-part.result in
-    let own : IsPartFor old in'.free range rows k p = subst (IsPartFor old in'.free range rows k) (sym c.part_over-part.ensures.part) (part_for old entry kept range rows k can) in
+    let can = can g (goal.at.returns-in-Failed g c).Else-len-from in
+    let own = part_made _ _ _ _ _ _ can c.part_over-part.result c.part_over-part.ensures.part in
     let new = g.D.LogDisk.state c.seal_rows.new.disk in
-    let run : SealsRows p rows c.seal_rows.result old new = c.seal_rows.ensures in
-    let pushed : c.push.new.self ≡ in'.parts ++ p ∷ [] = not_err c.push.result (sym c.is_err.ensures.value ∙ c.if-is_err.false) c.push.ensures.ok in
-    let synced : new.unsynced ≡ [] = subst (λ (r : Result (Unit {0}) DiskRefusal). OnOk r (new.unsynced ≡ [])) c.in-Ok.is run.synced in
-    let sealed : BothTold (HasPart old.region_len p rows) old.told new.told = subst (λ (r : Result (Unit {0}) DiskRefusal). OnOk r (BothTold (HasPart old.region_len p rows) old.told new.told)) c.in-Ok.is run.sealed in
-    let is : value_of new (g.D.LogDisk.state c.of.result.value) (record { parts = c.push.new.self; retired = in'.retired.items; free = c.part_over-part.new.free; lost = in'.lost; target = in'.target; board = in'.board; job = in'.job; epoch = in'.epoch; sealed = range.last; places = in'.places; is_shut = in'.is_shut }) ≡ value_of new new (record kept { parts = in'.parts ++ p ∷ []; free = drop k in'.free; sealed = range.last }) =
-    λ i. value_of new (g.D.LogDisk.state (c.of.ensures i)) (record { parts = pushed i; retired = in'.retired.items; free = c.part_over-part.ensures.free i; lost = in'.lost; target = in'.target; board = in'.board; job = in'.job; epoch = in'.epoch; sealed = range.last; places = in'.places; is_shut = in'.is_shut }) in
-    subst (λ (v : RoomValue). Adoption range rows v (value_of new (g.D.LogDisk.state c.of.result.value) (record { parts = c.push.new.self; retired = in'.retired.items; free = c.part_over-part.new.free; lost = in'.lost; target = in'.target; board = in'.board; job = in'.job; epoch = in'.epoch; sealed = range.last; places = in'.places; is_shut = in'.is_shut })) (Ok tt)) c.self.view_is (subst (λ (v : RoomValue). Adoption range rows (value_of old entry kept) v (Ok tt)) (sym is) (adoption_ok old new entry kept range rows k can p own c.seal_rows.result run synced sealed tt (not_failed_ok c.seal_rows.result c.in-Ok.is) c.part_over-part.ensures.part))
+    let run = c.seal_rows.ensures in
+    let cut = cut g (goal.at.returns-in-Failed g c).After-truncate in
+    let lost : c.add_part-in-Failed.new.set ≡ set_of (take c.in-Some.regions in'.free) = c.add_part-in-Failed.ensures ∙ (λ i. set_of (none_lost _ _ _ _ _ _ can i ++ own.regions_is i)) in
+    let failed : IsErrOf c.seal_rows.result DiskRefusal.Failed = is_failed c.seal_rows.result c.in-Err.refusal c.in-Err.is c.in-Failed.is in
+    ends (λ v w. Adoption c.args.range c.args.rows.now v w (Err (adopt_fault.Room room_fault.Disk))) c.self.view_is
+    (λ i. value_of new (g.D.LogDisk.state in'.entry.value) (record (kept_in in') { parts = cut i; free = c.part_over-part.ensures.free i; lost = lost i; is_shut = true }))
+    (whole_shut _ _ _ _ _ _ _ can _ own _ run failed, adoption_shut _ _ _ _ _ _ _ can _ own _ run failed)
 
 pub invariant_of-self-in-Failed : goal.invariant_of-self-in-Failed
-invariant_of-self-in-Failed g c =
-    let in' = c.self.inside in
-    let old = g.D.LogDisk.state in'.disk in
-    let entry = g.D.LogDisk.state in'.entry.value in
-    let kept : Kept = record { parts = in'.parts; retired = in'.retired.items; free = in'.free; lost = in'.lost; target = in'.target; board = in'.board; job = in'.job; epoch = in'.epoch; sealed = in'.sealed; places = in'.places; is_shut = in'.is_shut } in
-    let whole : IsWhole (value_of old entry kept) = c.self.invariant.0 in
-    let range = c.args.range in
-    let rows = c.args.rows.now in
-    let found : c.regions_for.result ≡ regions_for old.region_len rows = c.regions_for.ensures rows c.encoded_len-len.ensures ∙ ap (λ n. regions_for n rows) c.region_len-region_len.ensures.region_len in
-    let k = c.in-Some.regions in
-    let can : CanAdopt old entry kept range rows k = record {
-      whole = whole;
-      open_room = c.if-self.false;
-      no_job = ap (λ (v : RoomValue). v.room.job) c.self.view_is ∙ c.requires.no_job;
-      none = ap (λ (v : RoomValue). v.room.places) c.self.view_is ∙ c.requires.none;
-      next = c.requires.next ∙ ap (λ (v : RoomValue). v.room.sealed + 1) (sym c.self.view_is);
-      order = c.requires.order;
-      high = c.requires.high;
-      ordered = c.requires.ordered;
-      fit = c.requires.rows;
-      needed = sym found ∙ c.in-Some.is;
-      enough = omega (arith, c.if-len-from.false, c.len.ensures.count, c.from.ensures);
-    } in
-    let p = c.part_over-part.result in
-    let own : IsPartFor old in'.free range rows k p = subst (IsPartFor old in'.free range rows k) (sym c.part_over-part.ensures.part) (part_for old entry kept range rows k can) in
-    let new = g.D.LogDisk.state c.seal_rows.new.disk in
-    let run : SealsRows p rows c.seal_rows.result old new = c.seal_rows.ensures in
-    let pushed : c.push.new.self ≡ in'.parts ++ p ∷ [] = not_err c.push.result (sym c.is_err.ensures.value ∙ c.if-is_err.false) c.push.ensures.ok in
-    let cut : c.truncate.new.self ≡ in'.parts = popped in'.parts c.push.new.self c.truncate.new.self p c.len-in-Err.result pushed c.len-in-Err.ensures c.truncate.ensures in
-    let f : IsErrOf c.seal_rows.result DiskRefusal.Failed = is_failed c.seal_rows.result c.in-Err.refusal c.in-Err.is c.in-Failed.is in
-    let lost : c.add_part-in-Failed.new.set ≡ set_of (take k in'.free) = c.add_part-in-Failed.ensures ∙ (λ i. set_of (none_lost old entry kept range rows k can i ++ own.regions_is i)) in
-    let is : value_of new entry (record { parts = c.truncate.new.self; retired = in'.retired.items; free = c.part_over-part.new.free; lost = c.add_part-in-Failed.new.set; target = in'.target; board = in'.board; job = in'.job; epoch = in'.epoch; sealed = in'.sealed; places = in'.places; is_shut = true }) ≡ value_of new entry (record kept { free = drop k in'.free; lost = set_of (take k in'.free); is_shut = true }) =
-    λ i. value_of new entry (record { parts = cut i; retired = in'.retired.items; free = c.part_over-part.ensures.free i; lost = lost i; target = in'.target; board = in'.board; job = in'.job; epoch = in'.epoch; sealed = in'.sealed; places = in'.places; is_shut = true }) in
-    (subst IsWhole (sym is) (whole_shut old new entry kept range rows k can p own c.seal_rows.result run f), omega (arith, run.beside.region_len, c.self.invariant.1), c.self.invariant.2)
+invariant_of-self-in-Failed g c = let run = c.seal_rows.ensures in ((lost g c).0, omega (arith, run.beside.region_len, c.self.invariant.1), c.self.invariant.2)
 
 pub returns-in-Failed : goal.returns-in-Failed
-returns-in-Failed g c =
+returns-in-Failed g c = (lost g c).1
+
+pub add_part-requires-in-NoMemory : goal.add_part-requires-in-NoMemory
+add_part-requires-in-NoMemory g c =
+    let can = can g (goal.at.add_part-requires-in-NoMemory g c).Else-len-from in
+    let own = part_made _ _ _ _ _ _ can c.part_over-part.result c.part_over-part.ensures.part in
+    record { has = part_has _ _ _ _ _ _ can _ own; small = part_small _ _ _ _ _ _ can _ own }
+
+-- no memory to seal it: its regions are free again
+given_back : (g : Over) (c : goal.After-add_part-in-NoMemory g) → Ends (λ v w. Adoption c.args.range c.args.rows.now v w (Err (adopt_fault.Room room_fault.NoMemory))) c.args.self.now (room_in g.D.LogDisk.state (record c.self.inside { disk = c.seal_rows.new.disk; parts = c.truncate.new.self; free = c.add_part-in-NoMemory.new.set }))
+given_back g c =
     let in' = c.self.inside in
-    let old = g.D.LogDisk.state in'.disk in
-    let entry = g.D.LogDisk.state in'.entry.value in
-    let kept : Kept = record { parts = in'.parts; retired = in'.retired.items; free = in'.free; lost = in'.lost; target = in'.target; board = in'.board; job = in'.job; epoch = in'.epoch; sealed = in'.sealed; places = in'.places; is_shut = in'.is_shut } in
-    let whole : IsWhole (value_of old entry kept) = c.self.invariant.0 in
-    let range = c.args.range in
-    let rows = c.args.rows.now in
-    let found : c.regions_for.result ≡ regions_for old.region_len rows = c.regions_for.ensures rows c.encoded_len-len.ensures ∙ ap (λ n. regions_for n rows) c.region_len-region_len.ensures.region_len in
-    let k = c.in-Some.regions in
-    let can : CanAdopt old entry kept range rows k = record {
-      whole = whole;
-      open_room = c.if-self.false;
-      no_job = ap (λ (v : RoomValue). v.room.job) c.self.view_is ∙ c.requires.no_job;
-      none = ap (λ (v : RoomValue). v.room.places) c.self.view_is ∙ c.requires.none;
-      next = c.requires.next ∙ ap (λ (v : RoomValue). v.room.sealed + 1) (sym c.self.view_is);
-      order = c.requires.order;
-      high = c.requires.high;
-      ordered = c.requires.ordered;
-      fit = c.requires.rows;
-      needed = sym found ∙ c.in-Some.is;
-      enough = omega (arith, c.if-len-from.false, c.len.ensures.count, c.from.ensures);
-    } in
-    let p = c.part_over-part.result in
-    let own : IsPartFor old in'.free range rows k p = subst (IsPartFor old in'.free range rows k) (sym c.part_over-part.ensures.part) (part_for old entry kept range rows k can) in
+    let can = can g (goal.at.returns-in-NoMemory g c).Else-len-from in
+    let own = part_made _ _ _ _ _ _ can c.part_over-part.result c.part_over-part.ensures.part in
     let new = g.D.LogDisk.state c.seal_rows.new.disk in
-    let run : SealsRows p rows c.seal_rows.result old new = c.seal_rows.ensures in
-    let pushed : c.push.new.self ≡ in'.parts ++ p ∷ [] = not_err c.push.result (sym c.is_err.ensures.value ∙ c.if-is_err.false) c.push.ensures.ok in
-    let cut : c.truncate.new.self ≡ in'.parts = popped in'.parts c.push.new.self c.truncate.new.self p c.len-in-Err.result pushed c.len-in-Err.ensures c.truncate.ensures in
-    let f : IsErrOf c.seal_rows.result DiskRefusal.Failed = is_failed c.seal_rows.result c.in-Err.refusal c.in-Err.is c.in-Failed.is in
-    let lost : c.add_part-in-Failed.new.set ≡ set_of (take k in'.free) = c.add_part-in-Failed.ensures ∙ (λ i. set_of (none_lost old entry kept range rows k can i ++ own.regions_is i)) in
-    let is : value_of new entry (record { parts = c.truncate.new.self; retired = in'.retired.items; free = c.part_over-part.new.free; lost = c.add_part-in-Failed.new.set; target = in'.target; board = in'.board; job = in'.job; epoch = in'.epoch; sealed = in'.sealed; places = in'.places; is_shut = true }) ≡ value_of new entry (record kept { free = drop k in'.free; lost = set_of (take k in'.free); is_shut = true }) =
-    λ i. value_of new entry (record { parts = cut i; retired = in'.retired.items; free = c.part_over-part.ensures.free i; lost = lost i; target = in'.target; board = in'.board; job = in'.job; epoch = in'.epoch; sealed = in'.sealed; places = in'.places; is_shut = true }) in
-    subst (λ (v : RoomValue). Adoption range rows v (value_of new entry (record { parts = c.truncate.new.self; retired = in'.retired.items; free = c.part_over-part.new.free; lost = c.add_part-in-Failed.new.set; target = in'.target; board = in'.board; job = in'.job; epoch = in'.epoch; sealed = in'.sealed; places = in'.places; is_shut = true })) (Err (adopt_fault.Room room_fault.Disk))) c.self.view_is (subst (λ (v : RoomValue). Adoption range rows (value_of old entry kept) v (Err (adopt_fault.Room room_fault.Disk))) (sym is) (adoption_shut old new entry kept range rows k can p own c.seal_rows.result run f))
+    let run = c.seal_rows.ensures in
+    let cut = cut g (goal.at.returns-in-NoMemory g c).After-truncate in
+    let freed : c.add_part-in-NoMemory.new.set ≡ in'.free = c.add_part-in-NoMemory.ensures ∙ (λ i. set_of (c.part_over-part.ensures.free i ++ own.regions_is i)) ∙ back _ _ _ _ _ _ can in
+    let none : IsErrOf c.seal_rows.result DiskRefusal.NoMemory = is_no_memory c.seal_rows.result c.in-Err.refusal c.in-Err.is c.in-NoMemory.is in
+    ends (λ v w. Adoption c.args.range c.args.rows.now v w (Err (adopt_fault.Room room_fault.NoMemory))) c.self.view_is
+    (λ i. value_of new (g.D.LogDisk.state in'.entry.value) (record (kept_in in') { parts = cut i; free = freed i }))
+    (whole_memory _ _ _ _ _ _ _ can _ own _ run none, adoption_memory _ _ _ _ _ _ _ can _ own _ run none)
 
 pub invariant_of-self-in-NoMemory : goal.invariant_of-self-in-NoMemory
-invariant_of-self-in-NoMemory g c =
-    let in' = c.self.inside in
-    let old = g.D.LogDisk.state in'.disk in
-    let entry = g.D.LogDisk.state in'.entry.value in
-    let kept : Kept = record { parts = in'.parts; retired = in'.retired.items; free = in'.free; lost = in'.lost; target = in'.target; board = in'.board; job = in'.job; epoch = in'.epoch; sealed = in'.sealed; places = in'.places; is_shut = in'.is_shut } in
-    let whole : IsWhole (value_of old entry kept) = c.self.invariant.0 in
-    let range = c.args.range in
-    let rows = c.args.rows.now in
-    let found : c.regions_for.result ≡ regions_for old.region_len rows = c.regions_for.ensures rows c.encoded_len-len.ensures ∙ ap (λ n. regions_for n rows) c.region_len-region_len.ensures.region_len in
-    let k = c.in-Some.regions in
-    let can : CanAdopt old entry kept range rows k = record {
-      whole = whole;
-      open_room = c.if-self.false;
-      no_job = ap (λ (v : RoomValue). v.room.job) c.self.view_is ∙ c.requires.no_job;
-      none = ap (λ (v : RoomValue). v.room.places) c.self.view_is ∙ c.requires.none;
-      next = c.requires.next ∙ ap (λ (v : RoomValue). v.room.sealed + 1) (sym c.self.view_is);
-      order = c.requires.order;
-      high = c.requires.high;
-      ordered = c.requires.ordered;
-      fit = c.requires.rows;
-      needed = sym found ∙ c.in-Some.is;
-      enough = omega (arith, c.if-len-from.false, c.len.ensures.count, c.from.ensures);
-    } in
-    let p = c.part_over-part.result in
-    let own : IsPartFor old in'.free range rows k p = subst (IsPartFor old in'.free range rows k) (sym c.part_over-part.ensures.part) (part_for old entry kept range rows k can) in
-    let new = g.D.LogDisk.state c.seal_rows.new.disk in
-    let run : SealsRows p rows c.seal_rows.result old new = c.seal_rows.ensures in
-    let pushed : c.push.new.self ≡ in'.parts ++ p ∷ [] = not_err c.push.result (sym c.is_err.ensures.value ∙ c.if-is_err.false) c.push.ensures.ok in
-    let cut : c.truncate.new.self ≡ in'.parts = popped in'.parts c.push.new.self c.truncate.new.self p c.len-in-Err.result pushed c.len-in-Err.ensures c.truncate.ensures in
-    let e : IsErrOf c.seal_rows.result DiskRefusal.NoMemory = is_no_memory c.seal_rows.result c.in-Err.refusal c.in-Err.is c.in-NoMemory.is in
-    let freed : c.add_part-in-NoMemory.new.set ≡ in'.free = c.add_part-in-NoMemory.ensures ∙ (λ i. set_of (c.part_over-part.ensures.free i ++ own.regions_is i)) ∙ back old entry kept range rows k can in
-    let is : value_of new entry (record { parts = c.truncate.new.self; retired = in'.retired.items; free = c.add_part-in-NoMemory.new.set; lost = in'.lost; target = in'.target; board = in'.board; job = in'.job; epoch = in'.epoch; sealed = in'.sealed; places = in'.places; is_shut = in'.is_shut }) ≡ value_of new entry kept =
-    λ i. value_of new entry (record { parts = cut i; retired = in'.retired.items; free = freed i; lost = in'.lost; target = in'.target; board = in'.board; job = in'.job; epoch = in'.epoch; sealed = in'.sealed; places = in'.places; is_shut = in'.is_shut }) in
-    (subst IsWhole (sym is) (whole_memory old new entry kept range rows k can p own c.seal_rows.result run e), omega (arith, run.beside.region_len, c.self.invariant.1), c.self.invariant.2)
+invariant_of-self-in-NoMemory g c = let run = c.seal_rows.ensures in ((given_back g c).0, omega (arith, run.beside.region_len, c.self.invariant.1), c.self.invariant.2)
 
 pub returns-in-NoMemory : goal.returns-in-NoMemory
-returns-in-NoMemory g c =
-    let in' = c.self.inside in
-    let old = g.D.LogDisk.state in'.disk in
-    let entry = g.D.LogDisk.state in'.entry.value in
-    let kept : Kept = record { parts = in'.parts; retired = in'.retired.items; free = in'.free; lost = in'.lost; target = in'.target; board = in'.board; job = in'.job; epoch = in'.epoch; sealed = in'.sealed; places = in'.places; is_shut = in'.is_shut } in
-    let whole : IsWhole (value_of old entry kept) = c.self.invariant.0 in
-    let range = c.args.range in
-    let rows = c.args.rows.now in
-    let found : c.regions_for.result ≡ regions_for old.region_len rows = c.regions_for.ensures rows c.encoded_len-len.ensures ∙ ap (λ n. regions_for n rows) c.region_len-region_len.ensures.region_len in
-    let k = c.in-Some.regions in
-    let can : CanAdopt old entry kept range rows k = record {
-      whole = whole;
-      open_room = c.if-self.false;
-      no_job = ap (λ (v : RoomValue). v.room.job) c.self.view_is ∙ c.requires.no_job;
-      none = ap (λ (v : RoomValue). v.room.places) c.self.view_is ∙ c.requires.none;
-      next = c.requires.next ∙ ap (λ (v : RoomValue). v.room.sealed + 1) (sym c.self.view_is);
-      order = c.requires.order;
-      high = c.requires.high;
-      ordered = c.requires.ordered;
-      fit = c.requires.rows;
-      needed = sym found ∙ c.in-Some.is;
-      enough = omega (arith, c.if-len-from.false, c.len.ensures.count, c.from.ensures);
-    } in
-    let p = c.part_over-part.result in
-    let own : IsPartFor old in'.free range rows k p = subst (IsPartFor old in'.free range rows k) (sym c.part_over-part.ensures.part) (part_for old entry kept range rows k can) in
-    let new = g.D.LogDisk.state c.seal_rows.new.disk in
-    let run : SealsRows p rows c.seal_rows.result old new = c.seal_rows.ensures in
-    let pushed : c.push.new.self ≡ in'.parts ++ p ∷ [] = not_err c.push.result (sym c.is_err.ensures.value ∙ c.if-is_err.false) c.push.ensures.ok in
-    let cut : c.truncate.new.self ≡ in'.parts = popped in'.parts c.push.new.self c.truncate.new.self p c.len-in-Err.result pushed c.len-in-Err.ensures c.truncate.ensures in
-    let e : IsErrOf c.seal_rows.result DiskRefusal.NoMemory = is_no_memory c.seal_rows.result c.in-Err.refusal c.in-Err.is c.in-NoMemory.is in
-    let freed : c.add_part-in-NoMemory.new.set ≡ in'.free = c.add_part-in-NoMemory.ensures ∙ (λ i. set_of (c.part_over-part.ensures.free i ++ own.regions_is i)) ∙ back old entry kept range rows k can in
-    let is : value_of new entry (record { parts = c.truncate.new.self; retired = in'.retired.items; free = c.add_part-in-NoMemory.new.set; lost = in'.lost; target = in'.target; board = in'.board; job = in'.job; epoch = in'.epoch; sealed = in'.sealed; places = in'.places; is_shut = in'.is_shut }) ≡ value_of new entry kept =
-    λ i. value_of new entry (record { parts = cut i; retired = in'.retired.items; free = freed i; lost = in'.lost; target = in'.target; board = in'.board; job = in'.job; epoch = in'.epoch; sealed = in'.sealed; places = in'.places; is_shut = in'.is_shut }) in
-    subst (λ (v : RoomValue). Adoption range rows v (value_of new entry (record { parts = c.truncate.new.self; retired = in'.retired.items; free = c.add_part-in-NoMemory.new.set; lost = in'.lost; target = in'.target; board = in'.board; job = in'.job; epoch = in'.epoch; sealed = in'.sealed; places = in'.places; is_shut = in'.is_shut })) (Err (adopt_fault.Room room_fault.NoMemory))) c.self.view_is (subst (λ (v : RoomValue). Adoption range rows (value_of old entry kept) v (Err (adopt_fault.Room room_fault.NoMemory))) (sym is) (adoption_memory old new entry kept range rows k can p own c.seal_rows.result run e))
+returns-in-NoMemory g c = (given_back g c).1

@@ -6,9 +6,10 @@ use Rattle.fine_model.specs.Boards.{set_of}
 use Rattle.fine_model.specs.Jobs.{job_regions}
 use Rattle.epoch_room.specs.Meaning.{Keeps}
 use Rattle.epoch_room.specs.MergeSteps.{free_dropped, with_job}
-use Rattle.epoch_room.specs.Value.{RoomValue, Kept, value_of}
+use Rattle.epoch_room.specs.Value.{RoomValue}
 use Rattle.epoch_room.specs.Whole.{IsWhole}
 use Rattle.epoch_room.proofs.Picking.{dropped_keeps, dropped_whole, free_set, job_below, job_counted}
+use Rattle.epoch_room.proofs.Inside.{room_in}
 use Rattle.epoch_room.proofs.room.Room.merge_drop.Goals as goal
 
 pub free_job-requires-clause-few : goal.free_job-requires-clause-few
@@ -26,14 +27,11 @@ free_job-requires-clause-set g c = free_set _ c.self.invariant.0
 
 pub returns-clause-room : goal.returns-clause-room
 returns-clause-room g c =
-    let in' = c.self.inside in
-    let old = g.D.LogDisk.state in'.disk in
-    let entry = g.D.LogDisk.state in'.entry.value in
-    let kept : Kept = record { parts = in'.parts; retired = in'.retired.items; free = in'.free; lost = in'.lost; target = in'.target; board = in'.board; job = in'.job; epoch = in'.epoch; sealed = in'.sealed; places = in'.places; is_shut = in'.is_shut } in
-    let out : Some c.args.job ≡ in'.job = sym (ap (λ (v : RoomValue). v.room.job) c.self.view_is ∙ c.requires.out) in
-    let free : c.free_job.new.free ≡ free_dropped (value_of old entry kept).room =
-    c.free_job.ensures ∙ ap (λ (j : Option Job). set_of (in'.free ++ filter (λ r. not (list_any (nat_eq r) in'.lost)) (job_regions j))) out in
-    ap (λ (xs : List ℕ). value_of old entry (record kept { job = None; free = xs })) free ∙ ap (λ (v : RoomValue). with_job v None (free_dropped v.room)) c.self.view_is
+    let room = room_in g.D.LogDisk.state c.self.inside in
+    let out : Some c.args.job ≡ c.self.inside.job = sym (ap (λ (v : RoomValue). v.room.job) c.self.view_is ∙ c.requires.out) in
+    let free : c.free_job.new.free ≡ free_dropped room.room =
+    c.free_job.ensures ∙ ap (λ (j : Option Job). set_of (c.self.inside.free ++ filter (λ r. not (list_any (nat_eq r) c.self.inside.lost)) (job_regions j))) out in
+    ap (λ (xs : List ℕ). with_job room None xs) free ∙ ap (λ (v : RoomValue). with_job v None (free_dropped v.room)) c.self.view_is
 
 pub invariant_of-self : goal.invariant_of-self
 invariant_of-self g c =

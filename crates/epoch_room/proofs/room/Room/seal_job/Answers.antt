@@ -1,8 +1,7 @@
-use Rattle.std.proofs.Common.{◌≡◌, ◌≤◌, ℕ, List, [], ◌++◌, length, take, Some, None, Ok, Err, Result, true, sym, subst, ap, ◌∙◌, arith}
+use Rattle.std.proofs.Common.{◌≡◌, ◌≤◌, ℕ, List, [], ◌++◌, length, take, Some, None, Ok, Err, Result, true, refl, sym, subst, ap, ◌∙◌, arith}
 use Rattle.std.specs.Prelude.{IsErrOf, OnOk}
 use Rattle.fine_model.specs.declared.Part.{Part}
 use Rattle.fine_model.specs.Boards.{set_of}
-use Rattle.fine_model.specs.ChainLaws.{part_of}
 use Rattle.fine_model.specs.Jobs.{job_regions, taken_by}
 use Rattle.fine_model.specs.Regions.{header_bytes}
 use Rattle.log_disk.specs.Disk.{with_bytes}
@@ -10,8 +9,8 @@ use Rattle.log_disk.specs.declared.refusal.DiskRefusal.{DiskRefusal}
 use Rattle.log_disk.specs.declared.refusal.DiskRefusal.TheVariants as refusal
 use Rattle.log_partition.specs.Headers.{padding}
 use Rattle.epoch_room.specs.Gate.{gate, HasBytes, IsUngated, LeavesSealing}
-use Rattle.epoch_room.specs.MergeSealing.{IsWrittenOut, SealsJob, replaced, retire}
-use Rattle.epoch_room.specs.Value.{Kept, RoomValue, value_of}
+use Rattle.epoch_room.specs.MergeSealing.{IsWrittenOut, SealsJob, retire}
+use Rattle.epoch_room.specs.Value.{RoomValue, value_of}
 use Rattle.epoch_room.specs.Whole.{IsWhole}
 use Rattle.epoch_room.specs.declared.answers.RoomFault.TheVariants as room_fault
 use Rattle.epoch_room.proofs.Behind.{is_failed, is_no_memory, not_failed, not_failed_ok}
@@ -20,7 +19,29 @@ use Rattle.epoch_room.proofs.SealedJobs.{merged_whole, older_place, once_more, r
 use Rattle.epoch_room.proofs.SealingJobs.{lead_unseen}
 use Rattle.epoch_room.proofs.UnsealedJobs.{open_whole, seals_memory, seals_none}
 use Rattle.epoch_room.proofs.Written.{none_lost, own_small, own_taken}
+use Rattle.epoch_room.proofs.Inside.{Ends, ends, kept_in, room_in}
+use Rattle.epoch_room.proofs.room.Room.seal_job.Given.{Over}
+use Rattle.epoch_room.proofs.room.Room.seal_job.Goals.{After-seal_region, Else-self}
 use Rattle.epoch_room.proofs.room.Room.seal_job.Goals as goal
+
+-- the job is the one that is out, and is all written
+out : (g : Over) (c : Else-self g) → c.self.inside.job ≡ Some c.args.job
+out g c = ap (λ (v : RoomValue). v.room.job) c.self.view_is ∙ c.requires.out
+
+written : (g : Over) (c : Else-self g) → IsWrittenOut (room_in g.D.LogDisk.state c.self.inside).room c.args.job c.args.header
+written g c = subst (λ (v : RoomValue). IsWrittenOut v.room c.args.job c.args.header) (sym c.self.view_is) c.requires.written
+
+-- what is sealed are the bytes of the header
+cut : (g : Over) (c : After-seal_region g) → c.self.inside.job ≡ Some c.args.job → take c.header_len.result c.header_bytes-bytes.result ≡ header_bytes (g.D.LogDisk.state c.self.inside.disk).region_len c.args.header
+cut g c out =
+    let header = c.args.header in
+    let region_len = (g.D.LogDisk.state c.self.inside.disk).region_len in
+    let taken = own_taken (g.D.LogDisk.state c.self.inside.disk) (g.D.LogDisk.state c.self.inside.entry.value) (kept_in c.self.inside) c.self.invariant.0 c.if-self.false c.args.job out header c.requires.taken in
+    header_cut region_len header c.header_bytes-bytes.result (padding header.mark) c.header_len.result taken.lies.listed c.header_len.ensures
+    (c.header_bytes-bytes.ensures ∙ ap (λ n. header_bytes n header ++ padding header.mark) c.region_len.ensures.region_len)
+
+leaves : (g : Over) (c : After-seal_region g) → c.self.inside.job ≡ Some c.args.job → LeavesSealing c.args.job.target (header_bytes (g.D.LogDisk.state c.self.inside.disk).region_len c.args.header) (g.D.LogDisk.state c.self.inside.disk) (g.D.LogDisk.state c.seal_region.new.disk)
+leaves g c out = subst (λ bytes. LeavesSealing c.args.job.target bytes (g.D.LogDisk.state c.self.inside.disk) (g.D.LogDisk.state c.seal_region.new.disk)) (cut g c out) c.seal_region.ensures.leaves
 
 pub returns-then-self : goal.returns-then-self
 returns-then-self g c =
@@ -31,215 +52,87 @@ returns-then-self g c =
 
 pub seal_region-requires-clause-unseen : goal.seal_region-requires-clause-unseen
 seal_region-requires-clause-unseen g c κs within =
-    let in' = c.self.inside in
-    let old = g.D.LogDisk.state in'.disk in
-    let entry = g.D.LogDisk.state in'.entry.value in
-    let kept : Kept = record { parts = in'.parts; retired = in'.retired.items; free = in'.free; lost = in'.lost; target = in'.target; board = in'.board; job = in'.job; epoch = in'.epoch; sealed = in'.sealed; places = in'.places; is_shut = in'.is_shut } in
-    let job = c.args.job in
-    let header = c.args.header in
-    let whole = c.self.invariant.0 in
-    let out : in'.job ≡ Some job = ap (λ (v : RoomValue). v.room.job) c.self.view_is ∙ c.requires.out in
-    let written : IsWrittenOut (value_of old entry kept).room job header = subst (λ (v : RoomValue). IsWrittenOut v.room job header) (sym c.self.view_is) c.requires.written in
-    lead_unseen old entry kept whole c.if-self.false job out header c.requires.taken written
+    lead_unseen _ _ (kept_in c.self.inside) c.self.invariant.0 c.if-self.false c.args.job (out g (goal.at.seal_region-requires-clause-unseen g c).Else-self) c.args.header c.requires.taken (written g (goal.at.seal_region-requires-clause-unseen g c).Else-self)
 
 pub replace_two-requires : goal.replace_two-requires
 replace_two-requires g c =
-    let in' = c.self.inside in
-    let old = g.D.LogDisk.state in'.disk in
-    let entry = g.D.LogDisk.state in'.entry.value in
-    let kept : Kept = record { parts = in'.parts; retired = in'.retired.items; free = in'.free; lost = in'.lost; target = in'.target; board = in'.board; job = in'.job; epoch = in'.epoch; sealed = in'.sealed; places = in'.places; is_shut = in'.is_shut } in
-    let job = c.args.job in
-    let header = c.args.header in
-    let whole = c.self.invariant.0 in
-    let out : in'.job ≡ Some job = ap (λ (v : RoomValue). v.room.job) c.self.view_is ∙ c.requires.out in
-    let written : IsWrittenOut (value_of old entry kept).room job header = subst (λ (v : RoomValue). IsWrittenOut v.room job header) (sym c.self.view_is) c.requires.written in
-    older_place old entry kept whole c.if-self.false job out header c.requires.taken written
+    older_place _ _ (kept_in c.self.inside) c.self.invariant.0 c.if-self.false c.args.job (out g (goal.at.replace_two-requires g c).Else-self) c.args.header c.requires.taken (written g (goal.at.replace_two-requires g c).Else-self)
 
 pub retire-requires : goal.retire-requires
 retire-requires g c =
-    let in' = c.self.inside in
-    let old = g.D.LogDisk.state in'.disk in
-    let entry = g.D.LogDisk.state in'.entry.value in
-    let kept : Kept = record { parts = in'.parts; retired = in'.retired.items; free = in'.free; lost = in'.lost; target = in'.target; board = in'.board; job = in'.job; epoch = in'.epoch; sealed = in'.sealed; places = in'.places; is_shut = in'.is_shut } in
-    let job = c.args.job in
-    let header = c.args.header in
-    let whole = c.self.invariant.0 in
-    let out : in'.job ≡ Some job = ap (λ (v : RoomValue). v.room.job) c.self.view_is ∙ c.requires.out in
-    let written : IsWrittenOut (value_of old entry kept).room job header = subst (λ (v : RoomValue). IsWrittenOut v.room job header) (sym c.self.view_is) c.requires.written in
-    let room = retired_room old entry kept whole c.if-self.false job out header c.requires.taken written in
+    let room = retired_room _ _ (kept_in c.self.inside) c.self.invariant.0 c.if-self.false c.args.job (out g (goal.at.retire-requires g c).Else-self) c.args.header c.requires.taken (written g (goal.at.retire-requires g c).Else-self) in
     let most = c.self.invariant.2 in
     omega (arith, room, most)
 
 pub retire-requires-in-Ok : goal.retire-requires-in-Ok
 retire-requires-in-Ok g c =
-    let in' = c.self.inside in
-    let old = g.D.LogDisk.state in'.disk in
-    let entry = g.D.LogDisk.state in'.entry.value in
-    let kept : Kept = record { parts = in'.parts; retired = in'.retired.items; free = in'.free; lost = in'.lost; target = in'.target; board = in'.board; job = in'.job; epoch = in'.epoch; sealed = in'.sealed; places = in'.places; is_shut = in'.is_shut } in
-    let job = c.args.job in
-    let header = c.args.header in
-    let whole = c.self.invariant.0 in
-    let out : in'.job ≡ Some job = ap (λ (v : RoomValue). v.room.job) c.self.view_is ∙ c.requires.out in
-    let written : IsWrittenOut (value_of old entry kept).room job header = subst (λ (v : RoomValue). IsWrittenOut v.room job header) (sym c.self.view_is) c.requires.written in
-    let room = retired_room old entry kept whole c.if-self.false job out header c.requires.taken written in
-    let more = once_more old entry kept whole c.if-self.false job out header c.requires.taken written in
+    let at = (goal.at.retire-requires-in-Ok g c).Else-self in
+    let room = retired_room _ _ (kept_in c.self.inside) c.self.invariant.0 c.if-self.false c.args.job (out g at) c.args.header c.requires.taken (written g at) in
+    let more = once_more _ _ (kept_in c.self.inside) c.self.invariant.0 c.if-self.false c.args.job (out g at) c.args.header c.requires.taken (written g at) in
     let most = c.self.invariant.2 in
     let long = ap (λ (ps : List Part). length ps) c.retire.ensures.items in
     let same = c.retire.ensures.capacity in
     omega (arith, room, more, most, long, same)
 
-pub invariant_of-self : goal.invariant_of-self
-invariant_of-self g c =
-    let in' = c.self.inside in
-    let old = g.D.LogDisk.state in'.disk in
-    let entry = g.D.LogDisk.state in'.entry.value in
-    let kept : Kept = record { parts = in'.parts; retired = in'.retired.items; free = in'.free; lost = in'.lost; target = in'.target; board = in'.board; job = in'.job; epoch = in'.epoch; sealed = in'.sealed; places = in'.places; is_shut = in'.is_shut } in
-    let job = c.args.job in
-    let header = c.args.header in
-    let whole = c.self.invariant.0 in
-    let out : in'.job ≡ Some job = ap (λ (v : RoomValue). v.room.job) c.self.view_is ∙ c.requires.out in
-    let written : IsWrittenOut (value_of old entry kept).room job header = subst (λ (v : RoomValue). IsWrittenOut v.room job header) (sym c.self.view_is) c.requires.written in
+-- the part stands in place of the two
+sealed : (g : Over) (c : goal.After-self-1 g) → Ends (λ v w. SealsJob v w c.args.job c.args.header (Ok tt)) c.args.self.now (room_in g.D.LogDisk.state (record c.self.inside { disk = c.seal_region.new.disk; parts = c.replace_two.new.parts; retired = c.retire-in-Ok.new.parts; job = None }))
+sealed g c =
+    let at = goal.at.returns-in-Ok g c in
+    let out = out g at.Else-self in
     let new = g.D.LogDisk.state c.seal_region.new.disk in
     let e = c.seal_region.ensures in
-    let cut : take c.header_len.result c.header_bytes-bytes.result ≡ header_bytes old.region_len header =
-    header_cut old.region_len header c.header_bytes-bytes.result (padding header.mark) c.header_len.result (own_taken old entry kept whole c.if-self.false job out header c.requires.taken).lies.listed c.header_len.ensures
-    (c.header_bytes-bytes.ensures ∙ ap (λ n. header_bytes n header ++ padding header.mark) c.region_len.ensures.region_len) in
-    let leaves : LeavesSealing job.target (header_bytes old.region_len header) old new = subst (λ bytes. LeavesSealing job.target bytes old new) cut e.leaves in
-    let synced : new.unsynced ≡ [] = subst (λ (r : Result (Unit {0}) DiskRefusal). OnOk r (new.unsynced ≡ [])) c.in-Ok.is e.synced in
-    let bytes : HasBytes (λ image. with_bytes (with_bytes image job.target 1 (header_bytes old.region_len header)) job.target 0 gate) old new =
-    subst (λ xs. HasBytes (λ image. with_bytes (with_bytes image job.target 1 xs) job.target 0 gate) old new) cut
-    (subst (λ (r : Result (Unit {0}) DiskRefusal). OnOk r (HasBytes (λ image. with_bytes (with_bytes image job.target 1 (take c.header_len.result c.header_bytes-bytes.result)) job.target 0 gate) old new)) c.in-Ok.is e.bytes) in
-    let parts : c.replace_two.new.parts ≡ replaced job.older.region (part_of job.target header) in'.parts = c.replace_two.ensures in
-    let retired : c.retire-in-Ok.new.parts.items ≡ retire job.newer (retire job.older in'.retired.items) = c.retire-in-Ok.ensures.items ∙ ap (retire job.newer) c.retire.ensures.items in (
-      subst (λ (v : RoomValue). IsWhole v) (sym (λ i. value_of new entry (record kept { parts = parts i; retired = retired i; job = None }))) (merged_whole old entry kept whole c.if-self.false job out header c.requires.taken written new e.beside e.sound e.time (IsErrOf c.seal_region.result refusal.Failed) e.counts e.read leaves synced bytes),
-      c.self.invariant.1 ∙ sym e.beside.region_len,
-      subst (λ n. 64 ≤ n) (sym (c.retire-in-Ok.ensures.capacity ∙ c.retire.ensures.capacity)) c.self.invariant.2,
-    )
+    let synced = subst (λ (r : Result (Unit {0}) DiskRefusal). OnOk r (new.unsynced ≡ [])) c.in-Ok.is e.synced in
+    let bytes = subst (λ xs. HasBytes (λ image. with_bytes (with_bytes image c.args.job.target 1 xs) c.args.job.target 0 gate) (g.D.LogDisk.state c.self.inside.disk) new) (cut g at.After-seal_region out)
+    (subst (λ (r : Result (Unit {0}) DiskRefusal). OnOk r (HasBytes (λ image. with_bytes (with_bytes image c.args.job.target 1 (take c.header_len.result c.header_bytes-bytes.result)) c.args.job.target 0 gate) (g.D.LogDisk.state c.self.inside.disk) new)) c.in-Ok.is e.bytes) in
+    let retired : c.retire-in-Ok.new.parts.items ≡ retire c.args.job.newer (retire c.args.job.older c.self.inside.retired.items) = c.retire-in-Ok.ensures.items ∙ ap (retire c.args.job.newer) c.retire.ensures.items in
+    ends (λ v w. SealsJob v w c.args.job c.args.header (Ok tt)) c.self.view_is
+    (λ i. value_of new (g.D.LogDisk.state c.self.inside.entry.value) (record (kept_in c.self.inside) { parts = c.replace_two.ensures i; retired = retired i; job = None }))
+    (merged_whole _ _ (kept_in c.self.inside) c.self.invariant.0 c.if-self.false c.args.job out c.args.header c.requires.taken (written g at.Else-self) _ e.beside e.sound e.time (IsErrOf c.seal_region.result refusal.Failed) e.counts e.read (leaves g at.After-seal_region out) synced bytes, seals_ok _ _ (kept_in c.self.inside) c.self.invariant.0 c.if-self.false c.args.job out c.args.header c.requires.taken (written g at.Else-self) _ e.beside e.sound e.time (IsErrOf c.seal_region.result refusal.Failed) e.counts e.read (leaves g at.After-seal_region out) synced bytes (not_failed_ok c.seal_region.result c.in-Ok.is) e.dirties tt)
+
+pub invariant_of-self : goal.invariant_of-self
+invariant_of-self g c = ((sealed g c).0, c.self.invariant.1 ∙ sym c.seal_region.ensures.beside.region_len, subst (λ n. 64 ≤ n) (sym (c.retire-in-Ok.ensures.capacity ∙ c.retire.ensures.capacity)) c.self.invariant.2)
+
+pub returns-in-Ok : goal.returns-in-Ok
+returns-in-Ok g c = (sealed g c).1
 
 pub lose_job-requires-clause-small : goal.lose_job-requires-clause-small
 lose_job-requires-clause-small g c =
-    let in' = c.self.inside in
-    let old = g.D.LogDisk.state in'.disk in
-    let entry = g.D.LogDisk.state in'.entry.value in
-    let kept : Kept = record { parts = in'.parts; retired = in'.retired.items; free = in'.free; lost = in'.lost; target = in'.target; board = in'.board; job = in'.job; epoch = in'.epoch; sealed = in'.sealed; places = in'.places; is_shut = in'.is_shut } in
-    let job = c.args.job in
-    let header = c.args.header in
-    let whole = c.self.invariant.0 in
-    let out : in'.job ≡ Some job = ap (λ (v : RoomValue). v.room.job) c.self.view_is ∙ c.requires.out in
-    let written : IsWrittenOut (value_of old entry kept).room job header = subst (λ (v : RoomValue). IsWrittenOut v.room job header) (sym c.self.view_is) c.requires.written in
-    own_small old entry kept whole c.if-self.false job out header c.requires.taken
+    own_small _ _ (kept_in c.self.inside) c.self.invariant.0 c.if-self.false c.args.job (out g (goal.at.lose_job-requires-clause-small g c).Else-self) c.args.header c.requires.taken
+
+-- the disk failed: the regions of the job are lost
+lost : (g : Over) (c : goal.After-self-in-Failed-1 g) → Ends (λ v w. SealsJob v w c.args.job c.args.header (Err (room_fault.Disk, c.args.job))) c.args.self.now (room_in g.D.LogDisk.state (record c.self.inside { disk = c.seal_region.new.disk; lost = c.lose_job.new.lost; is_shut = true }))
+lost g c =
+    let at = goal.at.returns-in-Failed g c in
+    let out = out g at.Else-self in
+    let e = c.seal_region.ensures in
+    let failed = is_failed c.seal_region.result c.in-Err.refusal c.in-Err.is c.in-Failed.is in
+    let none = none_lost (g.D.LogDisk.state c.self.inside.disk) (g.D.LogDisk.state c.self.inside.entry.value) (kept_in c.self.inside) c.self.invariant.0 c.if-self.false c.args.job out c.args.header c.requires.taken in
+    let lost : c.lose_job.new.lost ≡ set_of (job_regions (Some c.args.job)) =
+    c.lose_job.ensures ∙ ap (λ (l : List ℕ). set_of (l ++ taken_by c.args.job.target (Some c.args.header))) none ∙ ap (λ h. set_of (taken_by c.args.job.target h)) (sym c.requires.taken) in
+    ends (λ v w. SealsJob v w c.args.job c.args.header (Err (room_fault.Disk, c.args.job))) c.self.view_is
+    refl
+    (shut_whole _ _ (kept_in c.self.inside) c.self.invariant.0 c.if-self.false c.args.job out c.args.header c.requires.taken (written g at.Else-self) _ e.beside e.sound e.time (IsErrOf c.seal_region.result refusal.Failed) e.counts e.read (leaves g at.After-seal_region out) failed c.lose_job.new.lost lost, seals_disk _ _ (kept_in c.self.inside) c.self.invariant.0 c.if-self.false c.args.job out c.args.header c.requires.taken (written g at.Else-self) _ e.beside e.sound e.time (IsErrOf c.seal_region.result refusal.Failed) e.counts e.read (leaves g at.After-seal_region out) failed c.lose_job.new.lost lost e.dirties)
 
 pub invariant_of-self-in-Failed : goal.invariant_of-self-in-Failed
-invariant_of-self-in-Failed g c =
-    let in' = c.self.inside in
-    let old = g.D.LogDisk.state in'.disk in
-    let entry = g.D.LogDisk.state in'.entry.value in
-    let kept : Kept = record { parts = in'.parts; retired = in'.retired.items; free = in'.free; lost = in'.lost; target = in'.target; board = in'.board; job = in'.job; epoch = in'.epoch; sealed = in'.sealed; places = in'.places; is_shut = in'.is_shut } in
-    let job = c.args.job in
-    let header = c.args.header in
-    let whole = c.self.invariant.0 in
-    let out : in'.job ≡ Some job = ap (λ (v : RoomValue). v.room.job) c.self.view_is ∙ c.requires.out in
-    let written : IsWrittenOut (value_of old entry kept).room job header = subst (λ (v : RoomValue). IsWrittenOut v.room job header) (sym c.self.view_is) c.requires.written in
-    let new = g.D.LogDisk.state c.seal_region.new.disk in
-    let e = c.seal_region.ensures in
-    let cut : take c.header_len.result c.header_bytes-bytes.result ≡ header_bytes old.region_len header =
-    header_cut old.region_len header c.header_bytes-bytes.result (padding header.mark) c.header_len.result (own_taken old entry kept whole c.if-self.false job out header c.requires.taken).lies.listed c.header_len.ensures
-    (c.header_bytes-bytes.ensures ∙ ap (λ n. header_bytes n header ++ padding header.mark) c.region_len.ensures.region_len) in
-    let leaves : LeavesSealing job.target (header_bytes old.region_len header) old new = subst (λ bytes. LeavesSealing job.target bytes old new) cut e.leaves in
-    let failed = is_failed c.seal_region.result c.in-Err.refusal c.in-Err.is c.in-Failed.is in
-    let lost : c.lose_job.new.lost ≡ set_of (job_regions (Some job)) =
-    c.lose_job.ensures ∙ ap (λ (l : List ℕ). set_of (l ++ taken_by job.target (Some header))) (none_lost old entry kept whole c.if-self.false job out header c.requires.taken) ∙ ap (λ h. set_of (taken_by job.target h)) (sym c.requires.taken) in
-    (shut_whole old entry kept whole c.if-self.false job out header c.requires.taken written new e.beside e.sound e.time (IsErrOf c.seal_region.result refusal.Failed) e.counts e.read leaves failed c.lose_job.new.lost lost, c.self.invariant.1 ∙ sym e.beside.region_len, c.self.invariant.2)
-
-pub invariant_of-self-in-NoMemory : goal.invariant_of-self-in-NoMemory
-invariant_of-self-in-NoMemory g c =
-    let in' = c.self.inside in
-    let old = g.D.LogDisk.state in'.disk in
-    let entry = g.D.LogDisk.state in'.entry.value in
-    let kept : Kept = record { parts = in'.parts; retired = in'.retired.items; free = in'.free; lost = in'.lost; target = in'.target; board = in'.board; job = in'.job; epoch = in'.epoch; sealed = in'.sealed; places = in'.places; is_shut = in'.is_shut } in
-    let job = c.args.job in
-    let header = c.args.header in
-    let whole = c.self.invariant.0 in
-    let out : in'.job ≡ Some job = ap (λ (v : RoomValue). v.room.job) c.self.view_is ∙ c.requires.out in
-    let written : IsWrittenOut (value_of old entry kept).room job header = subst (λ (v : RoomValue). IsWrittenOut v.room job header) (sym c.self.view_is) c.requires.written in
-    let new = g.D.LogDisk.state c.seal_region.new.disk in
-    let e = c.seal_region.ensures in
-    let cut : take c.header_len.result c.header_bytes-bytes.result ≡ header_bytes old.region_len header =
-    header_cut old.region_len header c.header_bytes-bytes.result (padding header.mark) c.header_len.result (own_taken old entry kept whole c.if-self.false job out header c.requires.taken).lies.listed c.header_len.ensures
-    (c.header_bytes-bytes.ensures ∙ ap (λ n. header_bytes n header ++ padding header.mark) c.region_len.ensures.region_len) in
-    let leaves : LeavesSealing job.target (header_bytes old.region_len header) old new = subst (λ bytes. LeavesSealing job.target bytes old new) cut e.leaves in
-    let none = is_no_memory c.seal_region.result c.in-Err.refusal c.in-Err.is c.in-NoMemory.is in
-    let ungated : IsUngated job.target (header_bytes old.region_len header) old new = subst (λ bytes. IsUngated job.target bytes old new) cut (e.no_memory none) in
-    (open_whole old entry kept whole c.if-self.false job out header c.requires.taken written new e.beside e.sound e.time (IsErrOf c.seal_region.result refusal.Failed) e.counts e.read leaves ungated (e.untouched none) e.dirties, c.self.invariant.1 ∙ sym e.beside.region_len, c.self.invariant.2)
-
-pub returns-in-Ok : goal.returns-in-Ok
-returns-in-Ok g c =
-    let in' = c.self.inside in
-    let old = g.D.LogDisk.state in'.disk in
-    let entry = g.D.LogDisk.state in'.entry.value in
-    let kept : Kept = record { parts = in'.parts; retired = in'.retired.items; free = in'.free; lost = in'.lost; target = in'.target; board = in'.board; job = in'.job; epoch = in'.epoch; sealed = in'.sealed; places = in'.places; is_shut = in'.is_shut } in
-    let job = c.args.job in
-    let header = c.args.header in
-    let whole = c.self.invariant.0 in
-    let out : in'.job ≡ Some job = ap (λ (v : RoomValue). v.room.job) c.self.view_is ∙ c.requires.out in
-    let written : IsWrittenOut (value_of old entry kept).room job header = subst (λ (v : RoomValue). IsWrittenOut v.room job header) (sym c.self.view_is) c.requires.written in
-    let new = g.D.LogDisk.state c.seal_region.new.disk in
-    let e = c.seal_region.ensures in
-    let cut : take c.header_len.result c.header_bytes-bytes.result ≡ header_bytes old.region_len header =
-    header_cut old.region_len header c.header_bytes-bytes.result (padding header.mark) c.header_len.result (own_taken old entry kept whole c.if-self.false job out header c.requires.taken).lies.listed c.header_len.ensures
-    (c.header_bytes-bytes.ensures ∙ ap (λ n. header_bytes n header ++ padding header.mark) c.region_len.ensures.region_len) in
-    let leaves : LeavesSealing job.target (header_bytes old.region_len header) old new = subst (λ bytes. LeavesSealing job.target bytes old new) cut e.leaves in
-    let synced : new.unsynced ≡ [] = subst (λ (r : Result (Unit {0}) DiskRefusal). OnOk r (new.unsynced ≡ [])) c.in-Ok.is e.synced in
-    let bytes : HasBytes (λ image. with_bytes (with_bytes image job.target 1 (header_bytes old.region_len header)) job.target 0 gate) old new =
-    subst (λ xs. HasBytes (λ image. with_bytes (with_bytes image job.target 1 xs) job.target 0 gate) old new) cut
-    (subst (λ (r : Result (Unit {0}) DiskRefusal). OnOk r (HasBytes (λ image. with_bytes (with_bytes image job.target 1 (take c.header_len.result c.header_bytes-bytes.result)) job.target 0 gate) old new)) c.in-Ok.is e.bytes) in
-    let parts : c.replace_two.new.parts ≡ replaced job.older.region (part_of job.target header) in'.parts = c.replace_two.ensures in
-    let retired : c.retire-in-Ok.new.parts.items ≡ retire job.newer (retire job.older in'.retired.items) = c.retire-in-Ok.ensures.items ∙ ap (retire job.newer) c.retire.ensures.items in
-    subst (λ (v : RoomValue). SealsJob v (value_of new entry (record kept { parts = c.replace_two.new.parts; retired = c.retire-in-Ok.new.parts.items; job = None })) job header (Ok tt)) c.self.view_is
-    (subst (λ (v : RoomValue). SealsJob (value_of old entry kept) v job header (Ok tt)) (sym (λ i. value_of new entry (record kept { parts = parts i; retired = retired i; job = None })))
-    (seals_ok old entry kept whole c.if-self.false job out header c.requires.taken written new e.beside e.sound e.time (IsErrOf c.seal_region.result refusal.Failed) e.counts e.read leaves synced bytes (not_failed_ok c.seal_region.result c.in-Ok.is) e.dirties tt))
+invariant_of-self-in-Failed g c = ((lost g c).0, c.self.invariant.1 ∙ sym c.seal_region.ensures.beside.region_len, c.self.invariant.2)
 
 pub returns-in-Failed : goal.returns-in-Failed
-returns-in-Failed g c =
-    let in' = c.self.inside in
-    let old = g.D.LogDisk.state in'.disk in
-    let entry = g.D.LogDisk.state in'.entry.value in
-    let kept : Kept = record { parts = in'.parts; retired = in'.retired.items; free = in'.free; lost = in'.lost; target = in'.target; board = in'.board; job = in'.job; epoch = in'.epoch; sealed = in'.sealed; places = in'.places; is_shut = in'.is_shut } in
-    let job = c.args.job in
-    let header = c.args.header in
-    let whole = c.self.invariant.0 in
-    let out : in'.job ≡ Some job = ap (λ (v : RoomValue). v.room.job) c.self.view_is ∙ c.requires.out in
-    let written : IsWrittenOut (value_of old entry kept).room job header = subst (λ (v : RoomValue). IsWrittenOut v.room job header) (sym c.self.view_is) c.requires.written in
-    let new = g.D.LogDisk.state c.seal_region.new.disk in
+returns-in-Failed g c = (lost g c).1
+
+-- no memory: the job stays out
+kept_out : (g : Over) (c : goal.In-NoMemory g) → Ends (λ v w. SealsJob v w c.args.job c.args.header (Err (room_fault.NoMemory, c.args.job))) c.args.self.now (room_in g.D.LogDisk.state (record c.self.inside { disk = c.seal_region.new.disk }))
+kept_out g c =
+    let at = goal.at.returns-in-NoMemory g c in
+    let out = out g at.Else-self in
     let e = c.seal_region.ensures in
-    let cut : take c.header_len.result c.header_bytes-bytes.result ≡ header_bytes old.region_len header =
-    header_cut old.region_len header c.header_bytes-bytes.result (padding header.mark) c.header_len.result (own_taken old entry kept whole c.if-self.false job out header c.requires.taken).lies.listed c.header_len.ensures
-    (c.header_bytes-bytes.ensures ∙ ap (λ n. header_bytes n header ++ padding header.mark) c.region_len.ensures.region_len) in
-    let leaves : LeavesSealing job.target (header_bytes old.region_len header) old new = subst (λ bytes. LeavesSealing job.target bytes old new) cut e.leaves in
-    let failed = is_failed c.seal_region.result c.in-Err.refusal c.in-Err.is c.in-Failed.is in
-    let lost : c.lose_job.new.lost ≡ set_of (job_regions (Some job)) =
-    c.lose_job.ensures ∙ ap (λ (l : List ℕ). set_of (l ++ taken_by job.target (Some header))) (none_lost old entry kept whole c.if-self.false job out header c.requires.taken) ∙ ap (λ h. set_of (taken_by job.target h)) (sym c.requires.taken) in
-    subst (λ (v : RoomValue). SealsJob v (value_of new entry (record kept { lost = c.lose_job.new.lost; is_shut = true })) job header (Err (room_fault.Disk, job))) c.self.view_is
-    (seals_disk old entry kept whole c.if-self.false job out header c.requires.taken written new e.beside e.sound e.time (IsErrOf c.seal_region.result refusal.Failed) e.counts e.read leaves failed c.lose_job.new.lost lost e.dirties)
+    let none = is_no_memory c.seal_region.result c.in-Err.refusal c.in-Err.is c.in-NoMemory.is in
+    let ungated = subst (λ bytes. IsUngated c.args.job.target bytes (g.D.LogDisk.state c.self.inside.disk) (g.D.LogDisk.state c.seal_region.new.disk)) (cut g at.After-seal_region out) (e.no_memory none) in
+    ends (λ v w. SealsJob v w c.args.job c.args.header (Err (room_fault.NoMemory, c.args.job))) c.self.view_is
+    refl
+    (open_whole _ _ (kept_in c.self.inside) c.self.invariant.0 c.if-self.false c.args.job out c.args.header c.requires.taken (written g at.Else-self) _ e.beside e.sound e.time (IsErrOf c.seal_region.result refusal.Failed) e.counts e.read (leaves g at.After-seal_region out) ungated (e.untouched none) e.dirties, seals_memory _ _ (kept_in c.self.inside) c.self.invariant.0 c.if-self.false c.args.job out c.args.header c.requires.taken (written g at.Else-self) _ e.beside e.sound e.time (IsErrOf c.seal_region.result refusal.Failed) e.counts e.read (leaves g at.After-seal_region out) ungated (e.untouched none) (not_failed c.seal_region.result none) e.dirties)
+
+pub invariant_of-self-in-NoMemory : goal.invariant_of-self-in-NoMemory
+invariant_of-self-in-NoMemory g c = ((kept_out g c).0, c.self.invariant.1 ∙ sym c.seal_region.ensures.beside.region_len, c.self.invariant.2)
 
 pub returns-in-NoMemory : goal.returns-in-NoMemory
-returns-in-NoMemory g c =
-    let in' = c.self.inside in
-    let old = g.D.LogDisk.state in'.disk in
-    let entry = g.D.LogDisk.state in'.entry.value in
-    let kept : Kept = record { parts = in'.parts; retired = in'.retired.items; free = in'.free; lost = in'.lost; target = in'.target; board = in'.board; job = in'.job; epoch = in'.epoch; sealed = in'.sealed; places = in'.places; is_shut = in'.is_shut } in
-    let job = c.args.job in
-    let header = c.args.header in
-    let whole = c.self.invariant.0 in
-    let out : in'.job ≡ Some job = ap (λ (v : RoomValue). v.room.job) c.self.view_is ∙ c.requires.out in
-    let written : IsWrittenOut (value_of old entry kept).room job header = subst (λ (v : RoomValue). IsWrittenOut v.room job header) (sym c.self.view_is) c.requires.written in
-    let new = g.D.LogDisk.state c.seal_region.new.disk in
-    let e = c.seal_region.ensures in
-    let cut : take c.header_len.result c.header_bytes-bytes.result ≡ header_bytes old.region_len header =
-    header_cut old.region_len header c.header_bytes-bytes.result (padding header.mark) c.header_len.result (own_taken old entry kept whole c.if-self.false job out header c.requires.taken).lies.listed c.header_len.ensures
-    (c.header_bytes-bytes.ensures ∙ ap (λ n. header_bytes n header ++ padding header.mark) c.region_len.ensures.region_len) in
-    let leaves : LeavesSealing job.target (header_bytes old.region_len header) old new = subst (λ bytes. LeavesSealing job.target bytes old new) cut e.leaves in
-    let none = is_no_memory c.seal_region.result c.in-Err.refusal c.in-Err.is c.in-NoMemory.is in
-    let ungated : IsUngated job.target (header_bytes old.region_len header) old new = subst (λ bytes. IsUngated job.target bytes old new) cut (e.no_memory none) in
-    subst (λ (v : RoomValue). SealsJob v (value_of new entry kept) job header (Err (room_fault.NoMemory, job))) c.self.view_is
-    (seals_memory old entry kept whole c.if-self.false job out header c.requires.taken written new e.beside e.sound e.time (IsErrOf c.seal_region.result refusal.Failed) e.counts e.read leaves ungated (e.untouched none) (not_failed c.seal_region.result none) e.dirties)
+returns-in-NoMemory g c = (kept_out g c).1

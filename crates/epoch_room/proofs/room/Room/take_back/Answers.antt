@@ -1,51 +1,38 @@
 use Rattle.std.proofs.Common.{◌≡◌, List, Some, None, sym, subst, ap, ◌∙◌}
 use Rattle.std.specs.Prelude.{Any, slice_get, slice_set}
-use Rattle.fine_model.specs.Boards.{Buffer, buffer_at}
+use Rattle.fine_model.specs.Boards.{buffer_at}
 use Rattle.log_disk.specs.Disk.{Closes, Eye, OpenEye}
 use Rattle.partition_hold.specs.Views.{opened}
 use Rattle.epoch_room.specs.Meaning.{Keeps}
-use Rattle.epoch_room.specs.Value.{RoomValue, Kept, value_of}
-use Rattle.epoch_room.specs.Whole.{IsWhole}
+use Rattle.epoch_room.specs.Value.{RoomValue, value_of}
 use Rattle.epoch_room.proofs.Returning.{open_there, returned_keeps, returned_whole}
+use Rattle.epoch_room.proofs.Inside.{Ends, ends, kept_in, room_in}
+use Rattle.epoch_room.proofs.room.Room.take_back.Given.{Over}
+use Rattle.epoch_room.proofs.room.Room.take_back.Goals.{After-into_eye}
 use Rattle.epoch_room.proofs.room.Room.take_back.Goals as goal
+
+-- the view's eye is on the board
+posted : (g : Over) (c : After-into_eye g) → slice_get c.self.inside.board (buffer_at c.args.view.seat c.args.view.buffer) ≡ Some (Some (opened c.args.view.eye))
+posted g c = ap (λ (v : RoomValue). slice_get v.room.board (buffer_at c.args.view.seat c.args.view.buffer)) c.self.view_is ∙ c.requires.posted
 
 pub close-requires : goal.close-requires
 close-requires g c =
-    let in' = c.self.inside in
-    let old = g.D.LogDisk.state in'.disk in
-    let entry = g.D.LogDisk.state in'.entry.value in
-    let kept : Kept = record { parts = in'.parts; retired = in'.retired.items; free = in'.free; lost = in'.lost; target = in'.target; board = in'.board; job = in'.job; epoch = in'.epoch; sealed = in'.sealed; places = in'.places; is_shut = in'.is_shut } in
-    let there : slice_get in'.board (buffer_at c.args.view.seat c.args.view.buffer) ≡ Some (Some (opened c.args.view.eye)) = ap (λ (v : RoomValue). slice_get v.room.board (buffer_at c.args.view.seat c.args.view.buffer)) c.self.view_is ∙ c.requires.posted in
-    open_there' old.eyes (g.D.Eye.LogEye.state c.into_eye.result) c.args.view.eye c.into_eye.ensures (open_there old old entry kept c.self.invariant.0 c.args.view there)
+    there (g.D.LogDisk.state c.self.inside.disk).eyes (g.D.Eye.LogEye.state c.into_eye.result) c.args.view.eye c.into_eye.ensures (open_there (g.D.LogDisk.state c.self.inside.disk) (g.D.LogDisk.state c.self.inside.disk) (g.D.LogDisk.state c.self.inside.entry.value) (kept_in c.self.inside) c.self.invariant.0 c.args.view (posted g (goal.at.close-requires g c).After-into_eye))
   where
-    open_there' : (eyes : List OpenEye) (a b : Eye) → a ≡ b → Any (λ (eye : OpenEye). eye.number ≡ b.number) eyes → Any (λ (eye : OpenEye). eye.number ≡ a.number) eyes
-    open_there' eyes a b e any = subst (λ (x : Eye). Any (λ (eye : OpenEye). eye.number ≡ x.number) eyes) (sym e) any
+    there : (eyes : List OpenEye) (a b : Eye) → a ≡ b → Any (λ (eye : OpenEye). eye.number ≡ b.number) eyes → Any (λ (eye : OpenEye). eye.number ≡ a.number) eyes
+    there eyes a b e any = subst (λ (x : Eye). Any (λ (eye : OpenEye). eye.number ≡ x.number) eyes) (sym e) any
+
+-- the room without the view
+returned : (g : Over) (c : goal.After-close g) → Ends Keeps c.args.self.now (room_in g.D.LogDisk.state (record c.self.inside { disk = c.close.new.self; board = c.returned.new.self }))
+returned g c =
+    let posted = posted g (goal.at.invariant_of-self g c).After-into_eye in
+    let closes = subst (λ (x : Eye). Closes x (g.D.LogDisk.state c.self.inside.disk) (g.D.LogDisk.state c.close.new.self)) c.into_eye.ensures c.close.ensures in
+    let board : c.returned.new.self ≡ slice_set c.self.inside.board (buffer_at c.args.view.seat c.args.view.buffer) None = c.returned.ensures ∙ (λ i. slice_set c.self.inside.board (buffer_at (c.seat.ensures.seat i) (c.buffer.ensures.buffer i)) None) in
+    ends Keeps c.self.view_is (λ i. value_of (g.D.LogDisk.state c.close.new.self) (g.D.LogDisk.state c.self.inside.entry.value) (record (kept_in c.self.inside) { board = board i }))
+    (returned_whole (g.D.LogDisk.state c.self.inside.disk) _ (g.D.LogDisk.state c.self.inside.entry.value) (kept_in c.self.inside) c.self.invariant.0 c.args.view posted closes, returned_keeps (g.D.LogDisk.state c.self.inside.disk) _ (g.D.LogDisk.state c.self.inside.entry.value) (kept_in c.self.inside) c.self.invariant.0 c.args.view posted closes)
 
 pub invariant_of-self : goal.invariant_of-self
-invariant_of-self g c =
-    let in' = c.self.inside in
-    let old = g.D.LogDisk.state in'.disk in
-    let entry = g.D.LogDisk.state in'.entry.value in
-    let kept : Kept = record { parts = in'.parts; retired = in'.retired.items; free = in'.free; lost = in'.lost; target = in'.target; board = in'.board; job = in'.job; epoch = in'.epoch; sealed = in'.sealed; places = in'.places; is_shut = in'.is_shut } in
-    let there : slice_get in'.board (buffer_at c.args.view.seat c.args.view.buffer) ≡ Some (Some (opened c.args.view.eye)) = ap (λ (v : RoomValue). slice_get v.room.board (buffer_at c.args.view.seat c.args.view.buffer)) c.self.view_is ∙ c.requires.posted in
-    let new = g.D.LogDisk.state c.close.new.self in
-    let closes : Closes c.args.view.eye old new = subst (λ (x : Eye). Closes x old new) c.into_eye.ensures c.close.ensures in
-    let board : c.returned.new.self ≡ slice_set in'.board (buffer_at c.args.view.seat c.args.view.buffer) None = c.returned.ensures ∙ (λ i. slice_set in'.board (buffer_at (c.seat.ensures.seat i) (c.buffer.ensures.buffer i)) None) in (
-      subst (λ (b : List Buffer). IsWhole (value_of new entry (record kept { board = b }))) (sym board) (returned_whole old new entry kept c.self.invariant.0 c.args.view there closes),
-      c.self.invariant.1 ∙ sym closes.others.1,
-      c.self.invariant.2,
-    )
+invariant_of-self g c = ((returned g c).0, c.self.invariant.1 ∙ sym c.close.ensures.others.1, c.self.invariant.2)
 
 pub returns-clause-keeps : goal.returns-clause-keeps
-returns-clause-keeps g c =
-    let in' = c.self.inside in
-    let old = g.D.LogDisk.state in'.disk in
-    let entry = g.D.LogDisk.state in'.entry.value in
-    let kept : Kept = record { parts = in'.parts; retired = in'.retired.items; free = in'.free; lost = in'.lost; target = in'.target; board = in'.board; job = in'.job; epoch = in'.epoch; sealed = in'.sealed; places = in'.places; is_shut = in'.is_shut } in
-    let there : slice_get in'.board (buffer_at c.args.view.seat c.args.view.buffer) ≡ Some (Some (opened c.args.view.eye)) = ap (λ (v : RoomValue). slice_get v.room.board (buffer_at c.args.view.seat c.args.view.buffer)) c.self.view_is ∙ c.requires.posted in
-    let new = g.D.LogDisk.state c.close.new.self in
-    let closes : Closes c.args.view.eye old new = subst (λ (x : Eye). Closes x old new) c.into_eye.ensures c.close.ensures in
-    let board : c.returned.new.self ≡ slice_set in'.board (buffer_at c.args.view.seat c.args.view.buffer) None = c.returned.ensures ∙ (λ i. slice_set in'.board (buffer_at (c.seat.ensures.seat i) (c.buffer.ensures.buffer i)) None) in
-    subst (λ (v : RoomValue). Keeps v (value_of new entry (record kept { board = c.returned.new.self }))) c.self.view_is (
-    subst (λ (b : List Buffer). Keeps (value_of old entry kept) (value_of new entry (record kept { board = b }))) (sym board) (returned_keeps old new entry kept c.self.invariant.0 c.args.view there closes)
-    )
+returns-clause-keeps g c = (returned g c).1

@@ -52,6 +52,7 @@ use Rattle.epoch_room.proofs.Taken.{same_apart, same_outside}
 use Rattle.epoch_room.proofs.Torn.{HasOpened}
 use Rattle.epoch_room.proofs.Touching.{beside_told}
 use Rattle.epoch_room.proofs.Writing.{still_held, written_keeps}
+use Rattle.epoch_room.proofs.Moved.{does, epoch_stays, shuts}
 
 module _ (old new entry : Disk) (kept : Kept) (range : Range) (rows : List Row) (k : ℕ) (c : CanAdopt old entry kept range rows k) (p : Part) (o : IsPartFor old kept.free range rows k p) (result : Result (Unit {0}) DiskRefusal)
     (run : SealsRows p rows result old new) where
@@ -263,16 +264,7 @@ module _ (old new entry : Disk) (kept : Kept) (range : Range) (rows : List Row) 
           rising = c.whole.rising;
           board = moved_board old new entry kept c.whole run.beside run.sound run.time lower rs beside run.read (record kept { parts = kept.parts ++ p ∷ []; free = drop k kept.free; sealed = range.last }) refl
               (all_map (NamesWhole (kept.parts ++ kept.retired)) (NamesWhole ((kept.parts ++ p ∷ []) ++ kept.retired)) (names_more kept.parts p kept.retired) (value_of old entry kept).room.eyes c.whole.board.of_parts);
-          epoch = record {
-            none = c.whole.epoch.none;
-            some = c.whole.epoch.some;
-            fits = c.whole.epoch.fits;
-            costs = c.whole.epoch.costs;
-            within = omega (arith, c.whole.epoch.within, run.beside.region_len);
-            entries = c.whole.epoch.entries;
-            places = c.whole.epoch.places;
-            epoch = λ h. absurd (let n = none_waits old entry kept range rows k c in omega (arith, h, n));
-          };
+          epoch = epoch_stays (value_of old entry kept) (value_of new new (record kept { parts = kept.parts ++ p ∷ []; free = drop k kept.free; sealed = range.last })) c.whole.epoch run.beside.region_len c.whole.epoch.none c.whole.epoch.some (λ h. absurd (let n = none_waits old entry kept range rows k c in omega (arith, h, n)));
           job = subst (λ (j : Option Job). IfSome j (IsJob now.room)) (sym c.no_job) tt;
           entry = record { regions = refl; region_len = refl; time = continues_none new; no_lower = (omega arith, omega arith); failed = λ h. absurd (true≢false (sym h ∙ c.open_room)) };
           lost = c.whole.lost;
@@ -336,16 +328,7 @@ module _ (old new entry : Disk) (kept : Kept) (range : Range) (rows : List Row) 
           free = low.1 ∙ same_outside old.regions before_taken (taken (value_of new entry shut).room kept.target) times ∙ ap (λ n. regions_outside n (taken (value_of new entry shut).room kept.target)) (sym run.beside.regions);
           rising = c.whole.rising;
           board = moved_board old new entry kept c.whole run.beside run.sound run.time lower rs beside run.read shut refl c.whole.board.of_parts;
-          epoch = record {
-            none = c.whole.epoch.none;
-            some = λ l. absurd (lost_some l);
-            fits = c.whole.epoch.fits;
-            costs = c.whole.epoch.costs;
-            within = omega (arith, c.whole.epoch.within, run.beside.region_len);
-            entries = c.whole.epoch.entries;
-            places = c.whole.epoch.places;
-            epoch = c.whole.epoch.epoch;
-          };
+          epoch = epoch_stays (value_of old entry kept) (value_of new entry shut) c.whole.epoch run.beside.region_len c.whole.epoch.none (λ l. absurd (lost_some l)) c.whole.epoch.epoch;
           job = subst (λ (j : Option Job). IfSome j (IsJob (value_of new entry shut).room)) (sym c.no_job) tt;
           entry = moved_entry old new entry kept c.whole run.beside run.sound run.time lower rs beside run.read shut
               (λ h. (risen_since entry.own_faults old.own_faults new.own_faults c.whole.entry.no_lower.1 risen.0, risen_since entry.faults old.faults new.faults c.whole.entry.no_lower.0 risen.1));
@@ -360,11 +343,7 @@ module _ (old new entry : Disk) (kept : Kept) (range : Range) (rows : List Row) 
         k,
         c.needed,
         c.enough,
-        (
-          c.open_room,
-          record { room = refl; target = refl; entry = refl; regions = run.beside.regions; region_len = run.beside.region_len; time = run.time },
-          record { faults = risen.1; own_faults = risen.0; no_lower = lower },
-        ),
+        shuts _ _ c.open_room refl refl refl run.beside run.time run.counts failed,
       );
       stands = tt;
       holds = tt;
@@ -394,11 +373,7 @@ module _ (old new entry : Disk) (kept : Kept) (range : Range) (rows : List Row) 
 
     pub adoption_memory : Adoption range rows (value_of old entry kept) (value_of new entry kept) (Err (adopt_fault.Room room_fault.NoMemory))
     adoption_memory = record {
-      room = (
-        c.open_room,
-        record { room = refl; target = refl; entry = refl; regions = run.beside.regions; region_len = run.beside.region_len; time = run.time },
-        record { faults = (run.counts.else_same fine).0; own_faults = (run.counts.else_same fine).1 },
-      );
+      room = does _ _ c.open_room refl refl refl run.beside run.time run.counts fine;
       stands = tt;
       holds = tt;
       refused = λ other. keeps.stands;

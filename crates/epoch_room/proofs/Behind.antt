@@ -40,6 +40,7 @@ use Rattle.epoch_room.proofs.Partitions.{partition_long}
 use Rattle.epoch_room.proofs.OneRegion.{set_one}
 use Rattle.epoch_room.proofs.Torn.{HasOpened}
 use Rattle.epoch_room.proofs.Touching.{beside_told}
+use Rattle.epoch_room.proofs.Moved.{does, shuts}
 
 -- ---- what is told at entry, before and then
 
@@ -237,18 +238,7 @@ module _ (old entry : Disk) (kept : Kept) (whole : IsWhole (value_of old entry k
           room = (
             refl,
             synced,
-            (
-              open_room,
-              record {
-                room = sym (ap (λ r. on (sealed_room (value_of old entry kept).room r) new) (ap (λ t. unwrap_or t 0) at));
-                target = refl;
-                entry = refl;
-                regions = same.regions;
-                region_len = same.region_len;
-                time = time;
-              },
-              record { faults = (counts.else_same fine).0; own_faults = (counts.else_same fine).1 },
-            ),
+            does _ _ open_room (sym (ap (λ r. on (sealed_room (value_of old entry kept).room r) new) (ap (λ t. unwrap_or t 0) at))) refl refl same time counts fine,
           );
           body = record {
             sorted = sorted;
@@ -283,18 +273,7 @@ module _ (old entry : Disk) (kept : Kept) (whole : IsWhole (value_of old entry k
       pub seals_shut : failed → Seals (value_of old entry kept) (value_of new entry (shut_kept kept region)) (Err room_fault.Disk)
       unfolding Stands
       seals_shut f = record {
-        room = (
-          open_room,
-          record {
-            room = ap (λ lost. on (record (value_of old entry kept).room { is_shut = true; lost = lost }) new) (sym lost_is);
-            target = refl;
-            entry = refl;
-            regions = same.regions;
-            region_len = same.region_len;
-            time = time;
-          },
-          record { faults = counts.faults f; own_faults = counts.own_faults f; no_lower = lower },
-        );
+        room = shuts _ _ open_room (ap (λ lost. on (record (value_of old entry kept).room { is_shut = true; lost = lost }) new) (sym lost_is)) refl refl same time counts f;
         body = tt;
         read = target_read;
         beside = same;
@@ -339,11 +318,7 @@ module _ (old entry : Disk) (kept : Kept) (whole : IsWhole (value_of old entry k
         pub seals_open : (failed → ⊥) → Seals (value_of old entry kept) (value_of new entry kept) (Err room_fault.NoMemory)
         unfolding Stands
         seals_open fine = record {
-          room = (
-            open_room,
-            record { room = refl; target = refl; entry = refl; regions = same.regions; region_len = same.region_len; time = time },
-            record { faults = (counts.else_same fine).0; own_faults = (counts.else_same fine).1 },
-          );
+          room = does _ _ open_room refl refl refl same time counts fine;
           body = tt;
           read = target_read;
           beside = same;

@@ -39,6 +39,7 @@ use Rattle.epoch_room.proofs.Counting.{all_front, all_back}
 use Rattle.epoch_room.proofs.Freeing.{all_left, nat_alike}
 use Rattle.epoch_room.proofs.Longer.{range_of}
 use Rattle.epoch_room.proofs.Taken.{SameTimes, same_apart, same_outside, other_list}
+use Rattle.epoch_room.proofs.Moved.{epoch_stays}
 
 -- ---- ranges
 
@@ -162,16 +163,7 @@ module _ (old new entry : Disk) (kept : Kept) (whole : IsWhole (value_of old ent
     free = whole.free ∙ ap (λ n. regions_outside n (taken (value_of old entry kept).room kept.target)) (sym same.regions);
     rising = whole.rising;
     board = moved_board kept refl whole.board.of_parts;
-    epoch = record {
-      none = whole.epoch.none;
-      some = whole.epoch.some;
-      fits = whole.epoch.fits;
-      costs = whole.epoch.costs;
-      within = omega (arith, whole.epoch.within, same.region_len);
-      entries = whole.epoch.entries;
-      places = whole.epoch.places;
-      epoch = whole.epoch.epoch;
-    };
+    epoch = epoch_stays (value_of old entry kept) (value_of new entry kept) whole.epoch same.region_len whole.epoch.none whole.epoch.some whole.epoch.epoch;
     job = moved_job kept refl refl;
     entry = moved_entry kept (λ h. absurd (cc));
     lost = whole.lost;
@@ -267,16 +259,7 @@ module _ (old new entry : Disk) (kept : Kept) (whole : IsWhole (value_of old ent
     free = whole.free ∙ same_outside old.regions (taken (value_of old entry kept).room kept.target) (taken (room_of new shut) None) shut_times ∙ ap (λ n. regions_outside n (taken (room_of new shut) None)) (sym same.regions);
     rising = whole.rising;
     board = moved_board old new entry kept whole same sound time lower (region ∷ []) beside_target read shut refl whole.board.of_parts;
-    epoch = record {
-      none = λ h. absurd (omega (arith, h, some));
-      some = λ l. absurd (let e : ◌≡◌ {A = List ℕ} (region ∷ []) [] = l in cc);
-      fits = whole.epoch.fits;
-      costs = whole.epoch.costs;
-      within = omega (arith, whole.epoch.within, same.region_len);
-      entries = whole.epoch.entries;
-      places = whole.epoch.places;
-      epoch = whole.epoch.epoch;
-    };
+    epoch = epoch_stays (value_of old entry kept) (value_of new entry shut) whole.epoch same.region_len (λ h. absurd (omega (arith, h, some))) (λ l. absurd (let e : ◌≡◌ {A = List ℕ} (region ∷ []) [] = l in cc)) whole.epoch.epoch;
     job = moved_job old new entry kept whole same sound time lower (region ∷ []) beside_target read shut refl refl;
     entry = moved_entry old new entry kept whole same sound time lower (region ∷ []) beside_target read shut
         (λ h. (risen_since entry.own_faults old.own_faults new.own_faults whole.entry.no_lower.1 own, risen_since entry.faults old.faults new.faults whole.entry.no_lower.0 risen));

@@ -1,5 +1,5 @@
 -- A room of which retired parts are erased.
-use Rattle.std.proofs.Common.{◌≡◌, ◌≢◌, ℕ, zero, suc, ◌+◌, ◌/◌, ◌%◌, ◌<◌, ◌≤◌, ◌==◌, Bool, true, false, cond, not, ◌||◌, List, [], ◌∷◌, ◌++◌, length, map, Some, None, refl, sym, ap, subst, ◌∙◌, inl, inr, arith, true≢false}
+use Rattle.std.proofs.Common.{◌≡◌, ◌≢◌, ℕ, zero, suc, ◌+◌, ◌/◌, ◌%◌, ◌<◌, ◌==◌, Bool, true, false, cond, not, ◌||◌, List, [], ◌∷◌, ◌++◌, length, map, Some, None, refl, sym, ap, subst, ◌∙◌, inl, inr, arith, true≢false}
 use Rattle.std.specs.Prelude.{Option, IfSome, Any, Contains, IsPermutation, IsTrue, nat_eq, option_map, option_to_list, slice_index, take}
 use Rattle.std.specs.List.{AllByRecursion, list_any}
 use Rattle.std.proofs.lemmas.Bool.{false_from_ne_true, not-true, or_parts}
@@ -15,9 +15,10 @@ use Rattle.fine_model.specs.declared.law.OpenedEye.{OpenedEye}
 use Rattle.fine_model.specs.Becomes.{Becomes}
 use Rattle.fine_model.specs.Boards.{Buffer, first_from, held_of, named, names_region, naming_of, posted, set_of}
 use Rattle.fine_model.specs.Chain.{regions_of}
-use Rattle.fine_model.specs.History.{Commit, last_epoch}
+use Rattle.fine_model.specs.History.{Commit}
 use Rattle.fine_model.specs.Headline.{ShowsSome}
 use Rattle.fine_model.specs.Jobs.{KeepsJob, held_for, job_left, job_regions}
+use Rattle.fine_model.specs.Room.{HoldsLive}
 use Rattle.fine_model.specs.Regions.{Image, HasHeader, is_sealed, region_of}
 use Rattle.fine_model.specs.Trees.{is_distinct}
 use Rattle.fine_model.proofs.Nothing.{all_at, each_there}
@@ -26,17 +27,17 @@ use Rattle.fine_model.proofs.Sets.{all_append, all_filter, all_pass}
 use Rattle.fine_model.proofs.Times.{absent_times, times, times-append, times-none, times_absent}
 use Rattle.partition_hold.proofs.Bits.{among}
 use Rattle.partition_index.specs.Parts.{LiesIn}
-use Rattle.log_disk.specs.Disk.{BothTold, CountsOwn, Disk, HasRisen, IsImageNow, IsToldOf, IsUnseen, OpenEye, Told, clock_of}
-use Rattle.log_disk.specs.Moments.{Continues, IsLeft, LeavesOnly}
-use Rattle.log_disk.proofs.Moments.{now_since, synced_now}
+use Rattle.log_disk.specs.Disk.{BothTold, CountsOwn, Disk, HasRisen, IsImageNow, IsToldOf, IsUnseen, OpenEye, Told}
+use Rattle.log_disk.specs.Moments.{IsLeft, LeavesOnly}
+use Rattle.log_disk.proofs.Moments.{synced_now}
 use Rattle.log_disk.proofs.Steps.{both_weaker}
-use Rattle.log_disk.proofs.Times.{continued_later, continues_then}
+use Rattle.log_disk.proofs.Times.{continues_then}
 use Rattle.epoch_room.specs.Closing.{DiffersAtGates, IsAtGates, ReadsClosed, TouchesGates, closed_gate}
 use Rattle.epoch_room.specs.Erasing.{led_by, without}
-use Rattle.epoch_room.specs.Meaning.{Keeps, ShownInside, Stands, StandsTold, StandsWhere}
+use Rattle.epoch_room.specs.Meaning.{Keeps}
 use Rattle.epoch_room.specs.Value.{Kept, all_regions, regions_outside, taken, value_of}
 use Rattle.epoch_room.specs.Whole.{AreApart, AreOnBoard, HoldsParts, IsJob, IsTaken, IsWhole, NamesWhole}
-use Rattle.epoch_room.proofs.Behind.{all_told, as_told, both_and, some_behind}
+use Rattle.epoch_room.proofs.Behind.{as_told, both_and, some_behind}
 use Rattle.epoch_room.proofs.Beside.{regions_together}
 use Rattle.epoch_room.proofs.Boarding.{AreAlike, still_shows}
 use Rattle.epoch_room.proofs.Bodies.{holds_still}
@@ -44,9 +45,10 @@ use Rattle.epoch_room.proofs.Counting.{all_back, all_front}
 use Rattle.epoch_room.proofs.Ending.{no_parts_unsynced, risen_since, still_geometry}
 use Rattle.epoch_room.proofs.Freeing.{all_left, job_apart, nat_alike}
 use Rattle.epoch_room.proofs.GateImages.{LeadsBeside, ShowsStill, gates_still}
-use Rattle.epoch_room.proofs.Kept.{on_stands}
 use Rattle.epoch_room.proofs.LedParts.{fewer_apart, free_more, lead_apart, lead_gone, lead_in, lead_led, lead_left, led_times, left_rising, set_times}
 use Rattle.epoch_room.proofs.Taken.{SameTimes, any_times, apart_back, other_list, same_apart, same_outside}
+use Rattle.epoch_room.proofs.Moved.{epoch_stays}
+use Rattle.epoch_room.proofs.Carrying.{still_inside, still_stands}
 
 -- ---- what the board does not name
 
@@ -390,45 +392,8 @@ module _ (old entry : Disk) (kept : Kept) (whole : IsWhole (value_of old entry k
             let s = shown at.was at.is_was in
             record { e = s.e; rows = s.rows; shows = (still at.was image (r.left_now at.was at.is_was) at.differs).shown s.e s.rows s.shows; from = s.from; to = s.to; agrees = s.agrees }
 
-        -- what the room stands for
-        told_stands : (before a b : Told) → Continues before a → Run a b → (free lost : List ℕ) (shut : Bool) (first : List Row) (e : ℕ) (history : List Commit) → StandsTold (value_of old entry kept).room before a first e history
-            → StandsTold (value_of new entry (erased free lost shut)).room before b first e history
-        told_stands before a b passed r free lost shut first e history s =
-            on_stands (record (value_of old entry kept).room { retired = rest; free = free; lost = lost; is_shut = shut }) new before b first e history run.beside.region_len same_eyes (record {
-              stands = record {
-                legal = s.stands.legal;
-                counts = record { places = s.stands.counts.places; epochs = s.stands.counts.epochs; sealed = s.stands.counts.sealed; open_epoch = s.stands.counts.open_epoch; eyes = s.stands.counts.eyes };
-                live = record { rows = s.stands.live.rows; are_rows = (still a.bytes b.bytes (r.left_now a.bytes r.told.image) r.read).rows s.stands.live.rows s.stands.live.are_rows; agrees = s.stands.live.agrees; no_longer = s.stands.live.no_longer };
-                images = record {
-                  every_image = λ image since. elim (r.leaves.before (clock_of before) image later since) as (λ _. ShowsSome old.region_len first history e (last_epoch e history) image) [
-                    | inl earlier ↦ s.stands.images.every_image image earlier
-                    | inr at ↦ shows_at a b r first history e (last_epoch e history) (λ was now. s.stands.images.every_image was (now_since (clock_of before) a was later now)) image at
-                  ];
-                  now_sealed = λ image now. shows_at a b r first history kept.sealed (last_epoch e history) s.stands.images.now_sealed image (r.leaves.each image (now_since (clock_of a) b image r.leaves.later now));
-                };
-              };
-              waiting = s.waiting;
-              small = s.small;
-              none_open = λ h image since. elim (r.leaves.before (clock_of before) image later since) as (λ _. ShowsSome old.region_len first history e kept.sealed image) [
-                | inl earlier ↦ s.none_open open_room image earlier
-                | inr at ↦ shows_at a b r first history e kept.sealed (λ was now. s.none_open open_room was (now_since (clock_of before) a was later now)) image at
-              ];
-            })
-          where
-            later : clock_of before ≤ clock_of a
-            later = continued_later before a passed
-
-        stands : (free lost : List ℕ) (shut : Bool) (first : List Row) (e : ℕ) (history : List Commit) → Stands (value_of old entry kept) first e history → Stands (value_of new entry (erased free lost shut)) first e history
-        unfolding Stands
-        stands free lost shut first e history h =
-            all_told (λ x y z. StandsWhere (value_of old entry kept).room x y first e history → StandsWhere (value_of new entry (erased free lost shut)).room x z first e history) entry.told old.told new.told whole.entry.time runs (λ s. tt)
-            (λ before a b p r s. told_stands before a b p r free lost shut first e history s) h
-
-        inside : (first : List Row) (e : ℕ) (history : List Commit) → Stands (value_of old entry kept) first e history → ShownInside (value_of old entry kept) old.told new.told first e history
-        unfolding Stands
-        inside first e history h =
-            all_told (λ x y z. StandsWhere (value_of old entry kept).room x y first e history → ShownInside (value_of old entry kept) y z first e history) entry.told old.told new.told whole.entry.time runs (λ s. tt)
-            (λ before a b p r s image since. shows_at a b r first history kept.sealed (last_epoch e history) s.stands.images.now_sealed image (r.leaves.each image since)) h
+        live : (free lost : List ℕ) (shut : Bool) (a b : Told) → Run a b → (log : List Row) → HoldsLive (value_of old entry kept).room a.bytes log → HoldsLive (record (value_of old entry kept).room { retired = rest; free = free; lost = lost; is_shut = shut }) b.bytes log
+        live free lost shut a b r log h = record { rows = h.rows; are_rows = (still a.bytes b.bytes (r.left_now a.bytes r.told.image) r.read).rows h.rows h.are_rows; agrees = h.agrees; no_longer = h.no_longer }
 
         becomes : (free lost : List ℕ) (shut : Bool) → (shut ≡ true → HasRisen old.own_faults new.own_faults × HasRisen old.faults new.faults) → Becomes (value_of old entry kept).room (value_of new entry (erased free lost shut)).room
         becomes free lost shut risen = record {
@@ -449,7 +414,12 @@ module _ (old entry : Disk) (kept : Kept) (whole : IsWhole (value_of old entry k
             none (r ∷ rs) ne all e = true≢false (sym all.0 ∙ ap (λ (ps : List Part). list_any (λ p. p.region == r) ps) e)
 
         pub erased_keeps : (free lost : List ℕ) (shut : Bool) → (shut ≡ true → HasRisen old.own_faults new.own_faults × HasRisen old.faults new.faults) → Keeps (value_of old entry kept) (value_of new entry (erased free lost shut))
-        erased_keeps free lost shut risen = record { stands = stands free lost shut; inside = inside; becomes = becomes free lost shut risen; time = run.time }
+        erased_keeps free lost shut risen = record {
+          stands = still_stands old new entry kept whole open_room run.beside Run runs (IsAtGates leads) (λ a b r. r.leaves) shows_at (live free lost shut);
+          inside = still_inside old new entry kept whole open_room run.beside Run runs (IsAtGates leads) (λ a b r. r.leaves) shows_at;
+          becomes = becomes free lost shut risen;
+          time = run.time;
+        }
 
         pub erased_job : (free lost : List ℕ) (shut : Bool) → KeepsJob (value_of old entry kept).room (value_of new entry (erased free lost shut)).room
         erased_job free lost shut = record { job = refl; held = one }
@@ -480,16 +450,7 @@ module _ (old entry : Disk) (kept : Kept) (whole : IsWhole (value_of old entry k
           free = is_free ∙ ap (λ n. regions_outside n (taken_then free lost shut)) (sym run.beside.regions);
           rising = left_rising leads kept.retired whole.rising;
           board = board free lost shut;
-          epoch = record {
-            none = whole.epoch.none;
-            some = λ l. whole.epoch.some nothing_lost;
-            fits = whole.epoch.fits;
-            costs = whole.epoch.costs;
-            within = omega (arith, whole.epoch.within, run.beside.region_len);
-            entries = whole.epoch.entries;
-            places = whole.epoch.places;
-            epoch = whole.epoch.epoch;
-          };
+          epoch = epoch_stays (value_of old entry kept) (value_of new entry (erased free lost shut)) whole.epoch run.beside.region_len whole.epoch.none (λ l. whole.epoch.some nothing_lost) whole.epoch.epoch;
           job = IfSome_then kept.job {P = IsJob (value_of old entry kept).room} {Q = IsJob (value_of new entry (erased free lost shut)).room} whole.job
               (λ job is. record { before = is.before; after = is.after; neighbours = is.neighbours; untaken = is.untaken; is_taken = λ header h. subst (λ n. IsTaken n job header) (sym run.beside.region_len) (is.is_taken header h) });
           entry = record {

@@ -28,6 +28,7 @@ use Rattle.epoch_room.proofs.FreeSets.{set_below}
 use Rattle.epoch_room.proofs.Taken.{apart_back}
 use Rattle.epoch_room.proofs.GateSteps.{beside_none, closing_none, closing_wider, reads_none, reads_wider}
 use Rattle.epoch_room.proofs.Erasing.{NamesNone, erased_job, erased_keeps, erased_whole, lost_now, lost_some, shut_whole}
+use Rattle.epoch_room.proofs.Moved.{does, shuts}
 
 front_some : (k : ℕ) (xs : List ℕ) → (k ≡ 0 → ⊥) → k ≤ length xs → take k xs ≢ []
 front_some zero xs none few e = none refl
@@ -123,11 +124,7 @@ module _ (old entry : Disk) (kept : Kept) (whole : IsWhole (value_of old entry k
       wanted = λ m. back_some k leads (closes.gates.more m);
       none = λ e. absurd (some_begun e);
       synced = λ n ne. closes.synced fine long_enough;
-      does = λ n ne. (
-        open_room,
-        record { room = refl; target = refl; entry = refl; regions = closes.gates.touches.beside.regions; region_len = closes.gates.touches.beside.region_len; time = closes.gates.touches.time },
-        record { faults = (closes.gates.counts.else_same fine).0; own_faults = (closes.gates.counts.else_same fine).1 },
-      );
+      does = λ n ne. does _ _ open_room refl refl refl closes.gates.touches.beside closes.gates.touches.time closes.gates.counts fine;
       unsynced = λ f. absurd (fine f);
       shuts = λ f. absurd (fine f);
       read = closes.gates.touches.read;
@@ -161,18 +158,7 @@ module _ (old entry : Disk) (kept : Kept) (whole : IsWhole (value_of old entry k
       read = closes.gates.touches.read;
       leaves = closes.gates.touches.leaves;
       beside = closes.gates.touches.beside;
-      shuts = λ h. (
-        open_room,
-        record {
-          room = ap (λ lost. on (record (left_state (value_of old entry kept).room begun) { is_shut = true; lost = lost }) new) (lost_now old entry kept whole open_room begun are_begun unnamed_begun new closes.gates.touches some_begun (IsErrOf result refusal.Failed) closes.gates.counts);
-          target = refl;
-          entry = refl;
-          regions = closes.gates.touches.beside.regions;
-          region_len = closes.gates.touches.beside.region_len;
-          time = closes.gates.touches.time;
-        },
-        record { faults = risen.1; own_faults = risen.0; no_lower = closes.gates.counts.no_lower },
-      );
+      shuts = λ h. shuts _ _ open_room (ap (λ lost. on (record (left_state (value_of old entry kept).room begun) { is_shut = true; lost = lost }) new) (lost_now old entry kept whole open_room begun are_begun unnamed_begun new closes.gates.touches some_begun (IsErrOf result refusal.Failed) closes.gates.counts)) refl refl closes.gates.touches.beside closes.gates.touches.time closes.gates.counts f;
       keeps = erased_keeps old entry kept whole open_room begun are_begun unnamed_begun new closes.gates.touches some_begun (IsErrOf result refusal.Failed) closes.gates.counts kept.free (set_of (kept.lost ++ led_regions)) true (λ h. risen);
       job = erased_job old entry kept whole open_room begun are_begun unnamed_begun new closes.gates.touches some_begun (IsErrOf result refusal.Failed) closes.gates.counts kept.free (set_of (kept.lost ++ led_regions)) true;
     }

@@ -12,6 +12,7 @@ pub mod Beside
 pub mod Boarding
 pub mod Bodies
 pub mod BodyPieces
+pub mod Carrying
 pub mod Costs
 pub mod Counting
 pub mod Ending
@@ -34,6 +35,7 @@ pub mod LongBodies
 pub mod Longer
 pub mod MergeFits
 pub mod MergedHeaders
+pub mod Moved
 pub mod OneRegion
 pub mod OpenedOver
 pub mod Partitions

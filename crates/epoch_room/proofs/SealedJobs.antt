@@ -13,34 +13,32 @@ use Rattle.fine_model.specs.Boards.{set_of}
 use Rattle.fine_model.specs.Chain.{AreRowsOf, chain_end, regions_of}
 use Rattle.fine_model.specs.ChainLaws.{DiffersAt, part_of}
 use Rattle.fine_model.specs.Headline.{ShowsSome}
-use Rattle.fine_model.specs.History.{Commit, all_rows, last_epoch, upto}
+use Rattle.fine_model.specs.History.{Commit}
 use Rattle.fine_model.specs.Jobs.{held_by, held_for, job_left, job_regions, taken_by}
 use Rattle.fine_model.specs.Merge.{merged}
 use Rattle.fine_model.specs.Regions.{Image, continuations, header_bytes, region_of}
-use Rattle.fine_model.specs.Room.{HoldsLive, KeepsImages}
+use Rattle.fine_model.specs.Room.{HoldsLive}
 use Rattle.fine_model.proofs.Nothing.{all_at, each_there}
 use Rattle.fine_model.proofs.Order.{all_map}
 use Rattle.fine_model.proofs.Times.{distinct_times, times, times-append, times-none, times-same, times_absent}
 use Rattle.partition_hold.proofs.Bits.{among}
 use Rattle.log_partition.specs.Written.{IsGood}
 use Rattle.partition_index.specs.Parts.{LiesIn}
-use Rattle.log_disk.specs.Disk.{BothTold, CountsOwn, Disk, HasRisen, IsImageNow, IsImageSince, IsSound, IsToldOf, SameBeside, SameOutside, Told, clock_of, with_bytes}
-use Rattle.log_disk.specs.Moments.{Continues, ContinuesOn, IsLeft, LeavesOnly}
+use Rattle.log_disk.specs.Disk.{BothTold, CountsOwn, Disk, HasRisen, IsImageNow, IsSound, IsToldOf, SameBeside, SameOutside, Told, clock_of, with_bytes}
+use Rattle.log_disk.specs.Moments.{ContinuesOn, IsLeft, LeavesOnly}
 use Rattle.log_disk.proofs.Moments.{now_since, synced_now}
-use Rattle.log_disk.proofs.Times.{continued_later}
 use Rattle.log_disk.proofs.Writes.{same_outside_written}
 use Rattle.epoch_room.specs.Gate.{DirtiesOnly, gate, HasBytes, IsSealing, KeepsBeside, LeavesSealing}
-use Rattle.epoch_room.specs.Meaning.{ShownInside, Stands, StandsTold, StandsWhere}
+use Rattle.epoch_room.specs.Meaning.{GoesOnStanding, ShownInside, Stands}
 use Rattle.epoch_room.specs.MergeSealing.{IsWrittenOut, SealsJob, merged_state, replaced, retire}
 use Rattle.epoch_room.specs.Value.{Kept, all_regions, on, regions_outside, taken, value_of}
 use Rattle.epoch_room.specs.Whole.{AreApart, AreRising, FollowOn, HoldsParts, IsJob, IsWhole, NamesWhole}
 use Rattle.epoch_room.specs.declared.answers.RoomFault.TheVariants as room_fault
-use Rattle.epoch_room.proofs.Behind.{all_told, as_told, both_and, some_behind}
+use Rattle.epoch_room.proofs.Behind.{as_told, both_and, some_behind}
 use Rattle.epoch_room.proofs.Beside.{regions_together}
 use Rattle.epoch_room.proofs.Boarding.{AreAlike, AreBeside}
 use Rattle.epoch_room.proofs.Counting.{both_few}
 use Rattle.epoch_room.proofs.Ending.{alike_told, moved_board, moved_entry, moved_job, moved_lie, no_parts_unsynced, risen_since, still_geometry}
-use Rattle.epoch_room.proofs.Kept.{on_stands}
 use Rattle.epoch_room.proofs.LedParts.{lead_apart, set_times}
 use Rattle.epoch_room.proofs.OpenedOver.{held_replaced, leads_keep, mergeable, now_agrees, now_no_longer, now_rows, over}
 use Rattle.epoch_room.proofs.Retired.{all_moved, any_moved, end_merged, follow_merged, lead_place, merged_moves, regions_many, replaced_is, retire_long, retire_rising, times_moved}
@@ -48,6 +46,8 @@ use Rattle.epoch_room.proofs.SealingJobs.{IsOver, all_free, good, as_job, holds_
 use Rattle.epoch_room.proofs.Taken.{SameTimes, same_apart, same_outside}
 use Rattle.epoch_room.proofs.Torn.{HasOpened, sealed_bytes}
 use Rattle.epoch_room.proofs.Written.{left_is, none_lost, own_apart, own_small, own_taken, rs_is}
+use Rattle.epoch_room.proofs.Moved.{does, epoch_stays, shuts}
+use Rattle.epoch_room.proofs.Carrying.{still_inside, still_stands}
 
 module _ (old entry : Disk) (kept : Kept) (whole : IsWhole (value_of old entry kept)) (open_room : kept.is_shut ≡ false) (job : Job) (out : kept.job ≡ Some job) (header : Header) (has : job.header ≡ Some header)
     (written : IsWrittenOut (value_of old entry kept).room job header) where
@@ -207,10 +207,7 @@ module _ (old entry : Disk) (kept : Kept) (whole : IsWhole (value_of old entry k
     shows_at a b r first history low high shown image sealing = sealing_shows old entry kept whole open_room job out header has written a r.told r.left r.is_now first history low high shown image sealing
 
     pub inside : (first : List Row) (e : ℕ) (history : List Commit) → Stands (value_of old entry kept) first e history → ShownInside (value_of old entry kept) old.told new.told first e history
-    unfolding Stands
-    inside first e history h =
-        all_told (λ x y z. StandsWhere (value_of old entry kept).room x y first e history → ShownInside (value_of old entry kept) y z first e history) entry.told old.told new.told whole.entry.time runs (λ s. tt)
-        (λ before a b p r s image since. shows_at a b r first history kept.sealed (last_epoch e history) s.stands.images.now_sealed image (r.crashes.each image since)) h
+    inside = still_inside old new entry kept whole open_room same Run runs (IsSealing job.target (header_bytes old.region_len header)) (λ a b r. r.crashes) shows_at
 
     -- such a room could take something, so it may become any that is not behind it
     becomes : (state : RoomState) → state.region_len ≡ new.region_len → state.regions ≡ new.regions → state.image ≡ option_map (λ (t : Told). t.bytes) new.told → kept.sealed ≡ state.sealed → kept.places ≡ state.places
@@ -227,19 +224,6 @@ module _ (old entry : Disk) (kept : Kept) (whole : IsWhole (value_of old entry k
       shut_by = λ h. inr (let r = shut_by h in (subst (HasRisen old.own_faults) (sym own_faults) r.0, subst (HasRisen old.faults) (sym faults) r.1));
       stuck = λ s. absurd (not_stuck old entry kept whole open_room job out header has written s);
     }
-
-    images_of : (before a b : Told) → Continues before a → Run a b → (first : List Row) (e : ℕ) (history : List Commit) → StandsTold (value_of old entry kept).room before a first e history
-        → KeepsImages old.region_len first e kept.sealed history (IsImageSince (clock_of before) b) (IsImageNow b)
-    images_of before a b passed r first e history s = record {
-      every_image = λ image since. elim (r.crashes.before (clock_of before) image later since) as (λ _. ShowsSome old.region_len first history e (last_epoch e history) image) [
-        | inl earlier ↦ s.stands.images.every_image image earlier
-        | inr at ↦ shows_at a b r first history e (last_epoch e history) (λ was now. s.stands.images.every_image was (now_since (clock_of before) a was later now)) image at
-      ];
-      now_sealed = λ image now. shows_at a b r first history kept.sealed (last_epoch e history) s.stands.images.now_sealed image (r.crashes.each image (now_since (clock_of a) b image r.crashes.later now));
-    }
-      where
-        later : clock_of before ≤ clock_of a
-        later = continued_later before a passed
 
     -- ---- the disk failed
 
@@ -307,16 +291,7 @@ module _ (old entry : Disk) (kept : Kept) (whole : IsWhole (value_of old entry k
         free = whole.free ∙ same_outside old.regions (taken (value_of old entry kept).room kept.target) (taken (value_of new entry shut).room kept.target) shut_times ∙ ap (λ n. regions_outside n (taken (value_of new entry shut).room kept.target)) (sym same.regions);
         rising = whole.rising;
         board = moved_board old new entry kept whole same sound time counts.no_lower (job.target ∷ []) beside read shut refl whole.board.of_parts;
-        epoch = record {
-          none = whole.epoch.none;
-          some = λ l. absurd (lost_some l);
-          fits = whole.epoch.fits;
-          costs = whole.epoch.costs;
-          within = omega (arith, whole.epoch.within, same.region_len);
-          entries = whole.epoch.entries;
-          places = whole.epoch.places;
-          epoch = whole.epoch.epoch;
-        };
+        epoch = epoch_stays (value_of old entry kept) (value_of new entry shut) whole.epoch same.region_len whole.epoch.none (λ l. absurd (lost_some l)) whole.epoch.epoch;
         job = moved_job old new entry kept whole same sound time counts.no_lower (job.target ∷ []) beside read shut refl refl;
         entry = moved_entry old new entry kept whole same sound time counts.no_lower (job.target ∷ []) beside read shut
             (λ h. (risen_since entry.own_faults old.own_faults new.own_faults whole.entry.no_lower.1 risen.0, risen_since entry.faults old.faults new.faults whole.entry.no_lower.0 risen.1));
@@ -338,38 +313,16 @@ module _ (old entry : Disk) (kept : Kept) (whole : IsWhole (value_of old entry k
           good_at : (a : Told) → IsToldOf old a → IsGood old.region_len (length a.bytes) job.target header
           good_at a told = subst (λ n. IsGood old.region_len n job.target header) (sym told.regions) (good old entry kept whole open_room job out header has written)
 
-      shut_stands : (first : List Row) (e : ℕ) (history : List Commit) → Stands (value_of old entry kept) first e history → Stands (value_of new entry (record kept { lost = lost; is_shut = true })) first e history
-      unfolding Stands
-      shut_stands first e history h =
-          all_told (λ x y z. StandsWhere (value_of old entry kept).room x y first e history → StandsWhere (value_of new entry shut).room x z first e history) entry.told old.told new.told whole.entry.time runs (λ s. tt)
-          (λ before a b p r s. on_stands (record (value_of old entry kept).room { lost = lost; is_shut = true }) new before b first e history same.region_len same_eyes (record {
-            stands = record {
-              legal = s.stands.legal;
-              counts = record { places = s.stands.counts.places; epochs = s.stands.counts.epochs; sealed = s.stands.counts.sealed; open_epoch = s.stands.counts.open_epoch; eyes = s.stands.counts.eyes };
-              live = record { rows = s.stands.live.rows; are_rows = kept_rows a b r s.stands.live.rows s.stands.live.are_rows; agrees = s.stands.live.agrees; no_longer = s.stands.live.no_longer };
-              images = images_of before a b p r first e history s;
-            };
-            waiting = s.waiting;
-            small = s.small;
-            none_open = λ h. absurd (true≢false h);
-          })) h
+      shut_stands : GoesOnStanding (value_of old entry kept) (value_of new entry shut)
+      shut_stands =
+          still_stands old new entry kept whole open_room same Run runs (IsSealing job.target (header_bytes old.region_len header)) (λ a b r. r.crashes) shows_at
+          (λ a b r log h. record { rows = h.rows; are_rows = kept_rows a b r h.rows h.are_rows; agrees = h.agrees; no_longer = h.no_longer })
 
       pub seals_disk : DirtiesOnly (job.target ∷ []) old new → SealsJob (value_of old entry kept) (value_of new entry (record kept { lost = lost; is_shut = true })) job header (Err (room_fault.Disk, job))
       seals_disk dirties = record {
         room = (
           refl,
-          (
-            open_room,
-            record {
-              room = ap (λ l. on (record (value_of old entry kept).room { is_shut = true; lost = l }) new) lost_is;
-              target = refl;
-              entry = refl;
-              regions = same.regions;
-              region_len = same.region_len;
-              time = time;
-            },
-            record { faults = risen.1; own_faults = risen.0; no_lower = counts.no_lower },
-          ),
+          shuts _ _ open_room (ap (λ l. on (record (value_of old entry kept).room { is_shut = true; lost = l }) new) lost_is) refl refl same time counts f,
         );
         beside = same;
         read = read;
@@ -449,16 +402,7 @@ module _ (old entry : Disk) (kept : Kept) (whole : IsWhole (value_of old entry k
         rising = rising_now;
         board = moved_board old new entry kept whole same sound time counts.no_lower (job.target ∷ []) beside read merged_kept refl
             (all_map (NamesWhole (kept.parts ++ kept.retired)) (NamesWhole (parts_now ++ retired_now)) named_still (value_of old entry kept).room.eyes whole.board.of_parts);
-        epoch = record {
-          none = whole.epoch.none;
-          some = whole.epoch.some;
-          fits = whole.epoch.fits;
-          costs = whole.epoch.costs;
-          within = omega (arith, whole.epoch.within, same.region_len);
-          entries = whole.epoch.entries;
-          places = whole.epoch.places;
-          epoch = whole.epoch.epoch;
-        };
+        epoch = epoch_stays (value_of old entry kept) (value_of new entry merged_kept) whole.epoch same.region_len whole.epoch.none whole.epoch.some whole.epoch.epoch;
         job = tt;
         entry = moved_entry old new entry kept whole same sound time counts.no_lower (job.target ∷ []) beside read merged_kept (λ h. absurd (true≢false (sym h ∙ open_room)));
         lost = whole.lost;
@@ -502,24 +446,8 @@ module _ (old entry : Disk) (kept : Kept) (whole : IsWhole (value_of old entry k
                 let m = live.no_longer in omega (arith, l, m);
           }
 
-      merged_stands : (first : List Row) (e : ℕ) (history : List Commit) → Stands (value_of old entry kept) first e history → Stands (value_of new entry merged_kept) first e history
-      unfolding Stands
-      merged_stands first e history h =
-          all_told (λ x y z. StandsWhere (value_of old entry kept).room x y first e history → StandsWhere (value_of new entry merged_kept).room x z first e history) entry.told old.told new.told whole.entry.time opens (λ s. tt)
-          (λ before a b p o s. on_stands (record (value_of old entry kept).room { parts = parts_now; retired = retired_now; job = None }) new before b first e history same.region_len same_eyes (record {
-            stands = record {
-              legal = s.stands.legal;
-              counts = record { places = s.stands.counts.places; epochs = s.stands.counts.epochs; sealed = s.stands.counts.sealed; open_epoch = s.stands.counts.open_epoch; eyes = s.stands.counts.eyes };
-              live = live_now a b o (first ++ all_rows (upto history kept.sealed)) s.stands.live;
-              images = images_of before a b p o.0 first e history s;
-            };
-            waiting = s.waiting;
-            small = s.small;
-            none_open = λ h image since. elim (o.0.crashes.before (clock_of before) image (continued_later before a p) since) as (λ _. ShowsSome old.region_len first history e kept.sealed image) [
-              | inl earlier ↦ s.none_open open_room image earlier
-              | inr at ↦ shows_at a b o.0 first history e kept.sealed (λ was now. s.none_open open_room was (now_since (clock_of before) a was (continued_later before a p) now)) image at
-            ];
-          })) h
+      merged_stands : GoesOnStanding (value_of old entry kept) (value_of new entry merged_kept)
+      merged_stands = still_stands old new entry kept whole open_room same Opens opens (IsSealing job.target (header_bytes old.region_len header)) (λ a b o. o.0.crashes) (λ a b o. shows_at a b o.0) live_now
 
       pub seals_ok : (failed → ⊥) → DirtiesOnly (job.target ∷ []) old new → (u : Unit {0})
           → SealsJob (value_of old entry kept) (value_of new entry (record kept { parts = replaced job.older.region (part_of job.target header) kept.parts; retired = retire job.newer (retire job.older kept.retired); job = None })) job header (Ok u)
@@ -527,11 +455,7 @@ module _ (old entry : Disk) (kept : Kept) (whole : IsWhole (value_of old entry k
       seals_ok fine dirties u = record {
         room = (
           synced,
-          (
-            open_room,
-            record { room = refl; target = refl; entry = refl; regions = same.regions; region_len = same.region_len; time = time },
-            record { faults = (counts.else_same fine).0; own_faults = (counts.else_same fine).1 },
-          ),
+          does _ _ open_room refl refl refl same time counts fine,
           held_still,
         );
         beside = same;

@@ -24,6 +24,7 @@ use Rattle.epoch_room.specs.Value.{Kept, all_regions, regions_outside, taken, va
 use Rattle.epoch_room.specs.Whole.{AreApart, AreOnBoard, HoldsParts, IsJob, IsTaken, IsWhole}
 use Rattle.epoch_room.proofs.Behind.{inside_none}
 use Rattle.epoch_room.proofs.Kept.{on_stands}
+use Rattle.epoch_room.proofs.Moved.{epoch_stays}
 
 -- ---- boards
 
@@ -88,16 +89,7 @@ module _ (old new entry : Disk) (kept : Kept) (whole : IsWhole (value_of old ent
     free = whole.free ∙ ap (λ n. regions_outside n (taken (value_of old entry kept).room kept.target)) (sym same.regions);
     rising = whole.rising;
     board = on_board;
-    epoch = record {
-      none = whole.epoch.none;
-      some = whole.epoch.some;
-      fits = whole.epoch.fits;
-      costs = whole.epoch.costs;
-      within = omega (arith, whole.epoch.within, same.region_len);
-      entries = whole.epoch.entries;
-      places = whole.epoch.places;
-      epoch = whole.epoch.epoch;
-    };
+    epoch = epoch_stays (value_of old entry kept) (value_of new entry (boarded kept board shut)) whole.epoch same.region_len whole.epoch.none whole.epoch.some whole.epoch.epoch;
     job = IfSome_then kept.job {P = IsJob (value_of old entry kept).room} {Q = IsJob (value_of new entry (boarded kept board shut)).room} whole.job
         (λ job is. record { before = is.before; after = is.after; neighbours = is.neighbours; untaken = is.untaken; is_taken = λ header h. subst (λ n. IsTaken n job header) (sym same.region_len) (is.is_taken header h) });
     entry = record {

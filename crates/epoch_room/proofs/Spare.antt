@@ -12,6 +12,7 @@ use Rattle.epoch_room.specs.MergeSteps.{with_job}
 use Rattle.epoch_room.specs.Value.{RoomValue, regions_outside, taken}
 use Rattle.epoch_room.specs.Whole.{AreApart, IsJob, IsWhole}
 use Rattle.epoch_room.proofs.Behind.{inside_none}
+use Rattle.epoch_room.proofs.Moved.{epoch_stays}
 
 module _ (value : RoomValue) (whole : IsWhole value) (job : Option Job) (free : List ℕ) where
   spare_told : (before told : Told) (first : List Row) (e : ℕ) (history : List Commit) → StandsTold value.room before told first e history → StandsTold (with_job value job free).room before told first e history
@@ -89,16 +90,7 @@ module _ (value : RoomValue) (whole : IsWhole value) (job : Option Job) (free : 
     free = is;
     rising = whole.rising;
     board = record { seats = whole.board.seats; eyes = whole.board.eyes; once = whole.board.once; given = whole.board.given; of_parts = whole.board.of_parts; shows = whole.board.shows };
-    epoch = record {
-      none = whole.epoch.none;
-      some = whole.epoch.some;
-      fits = whole.epoch.fits;
-      costs = whole.epoch.costs;
-      within = whole.epoch.within;
-      entries = whole.epoch.entries;
-      places = whole.epoch.places;
-      epoch = whole.epoch.epoch;
-    };
+    epoch = epoch_stays value (with_job value job free) whole.epoch refl whole.epoch.none whole.epoch.some whole.epoch.epoch;
     job = is_job;
     entry = record { regions = whole.entry.regions; region_len = whole.entry.region_len; time = whole.entry.time; no_lower = whole.entry.no_lower; failed = whole.entry.failed };
     lost = whole.lost;

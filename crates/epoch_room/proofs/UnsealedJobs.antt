@@ -25,6 +25,7 @@ use Rattle.epoch_room.proofs.SealingJobs.{lead_beside, lead_there, long, room_fo
 use Rattle.epoch_room.proofs.Touching.{dirties_none}
 use Rattle.epoch_room.proofs.Writing.{still_held, written_keeps}
 use Rattle.epoch_room.proofs.Written.{own_taken}
+use Rattle.epoch_room.proofs.Moved.{does}
 
 module _ (old entry : Disk) (kept : Kept) (whole : IsWhole (value_of old entry kept)) (open_room : kept.is_shut ≡ false) (job : Job) (out : kept.job ≡ Some job) (header : Header) (has : job.header ≡ Some header)
     (written : IsWrittenOut (value_of old entry kept).room job header) (new : Disk) (same : SameBeside old new) (sound : IsSound new) (time : ContinuesOn old new) (failed : Type 0) (counts : CountsOwn failed old new)
@@ -104,11 +105,7 @@ module _ (old entry : Disk) (kept : Kept) (whole : IsWhole (value_of old entry k
     room = (
       refl,
       (
-        (
-          open_room,
-          record { room = refl; target = refl; entry = refl; regions = same.regions; region_len = same.region_len; time = time },
-          record { faults = (counts.else_same fine).0; own_faults = (counts.else_same fine).1 },
-        ),
+        does _ _ open_room refl refl refl same time counts fine,
         keeps_job,
         ungated,
       ),

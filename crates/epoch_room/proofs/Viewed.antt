@@ -35,6 +35,7 @@ use Rattle.epoch_room.proofs.Counting.{all_back, all_front}
 use Rattle.epoch_room.proofs.Seating.{SameBytes, boarded, boarded_job, boarded_keeps, boarded_whole}
 use Rattle.epoch_room.proofs.Taken.{apart_back}
 use Rattle.epoch_room.proofs.Viewing.{SplitsAt, all_parts, empty_is, given_more, names_all, new_number, one_more, splits_at}
+use Rattle.epoch_room.proofs.Moved.{shuts}
 
 -- an earlier failure, and want of memory
 pub views_none : (value : RoomValue) (seat : ℕ) (fault : RoomFault) → IsWhole value → ViewsOr value value seat (Err fault) → MakesView value value seat (Err fault)
@@ -251,18 +252,7 @@ module _ (old new entry : Disk) (kept : Kept) (whole : IsWhole (value_of old ent
   pub failed_view : (seat : ℕ) → MakesView (value_of old entry kept) (value_of new entry (boarded kept kept.board true)) seat (Err room_fault.Disk)
   failed_view seat = record {
     room = (
-      (
-        open_room,
-        record {
-          room = ap (λ lost. on (record (value_of old entry kept).room { is_shut = true; lost = lost }) new) (whole.lost open_room ∙ sym set_none);
-          target = refl;
-          entry = refl;
-          regions = fails.beside.regions;
-          region_len = fails.beside.region_len;
-          time = continues_told old new fails.told;
-        },
-        record { faults = fails.counts.faults tt; own_faults = fails.counts.own_faults tt; no_lower = fails.counts.no_lower },
-      ),
+      shuts _ _ open_room (ap (λ lost. on (record (value_of old entry kept).room { is_shut = true; lost = lost }) new) (whole.lost open_room ∙ sym set_none)) refl refl fails.beside (continues_told old new fails.told) fails.counts tt,
       fails.told,
     );
     log = tt;

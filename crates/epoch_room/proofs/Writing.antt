@@ -1,5 +1,5 @@
 -- A room for whose merge bytes are written, behind the gates of the merge's regions.
-use Rattle.std.proofs.Common.{◌≡◌, ℕ, ◌<◌, ◌≤◌, Bool, true, false, List, ◌++◌, length, map, Some, None, Ok, refl, sym, ap, subst, ◌∙◌, inl, inr, arith}
+use Rattle.std.proofs.Common.{◌≡◌, ℕ, ◌<◌, Bool, true, false, List, ◌++◌, length, Some, None, Ok, refl, sym, subst, ◌∙◌, inr, arith}
 use Rattle.std.specs.Prelude.{Option, IfSome, nat_eq, option_map}
 use Rattle.std.specs.List.{AllByRecursion, list_any}
 use Rattle.fine_model.specs.declared.Job.{Job}
@@ -8,22 +8,22 @@ use Rattle.fine_model.specs.Becomes.{Becomes, IsStuck, StaysStuck}
 use Rattle.fine_model.specs.Causes.{NoNeighboursFit}
 use Rattle.fine_model.specs.Chain.{AreRowsOf, chain}
 use Rattle.fine_model.specs.ChainLaws.{DiffersBehind}
-use Rattle.fine_model.specs.History.{Commit, last_epoch}
+use Rattle.fine_model.specs.History.{Commit}
 use Rattle.fine_model.specs.Headline.{ShowsSome}
+use Rattle.fine_model.specs.Room.{HoldsLive}
 use Rattle.fine_model.specs.Regions.{Image, region_of}
 use Rattle.log_disk.specs.Disk.{BothTold, CountsOwn, Disk, HasRisen, IsImageNow, IsSound, IsToldOf, SameBeside, Told, clock_of}
-use Rattle.log_disk.specs.Moments.{Continues, ContinuesOn, IsLeft, LeavesOnly}
+use Rattle.log_disk.specs.Moments.{ContinuesOn, IsLeft, LeavesOnly}
 use Rattle.log_disk.proofs.Moments.{now_since}
 use Rattle.log_disk.proofs.Steps.{both_weaker}
-use Rattle.log_disk.proofs.Times.{continued_later}
 use Rattle.epoch_room.specs.Gate.{IsBehind, KeepsBeside, LeavesBehind, ReadsBehind}
-use Rattle.epoch_room.specs.Meaning.{Keeps, ShownInside, Stands, StandsTold, StandsWhere}
+use Rattle.epoch_room.specs.Meaning.{Keeps}
 use Rattle.epoch_room.specs.Value.{Kept, value_of}
 use Rattle.epoch_room.specs.Whole.{HoldsParts, IsWhole}
-use Rattle.epoch_room.proofs.Behind.{all_told, as_told, some_behind}
+use Rattle.epoch_room.proofs.Behind.{as_told, some_behind}
 use Rattle.epoch_room.proofs.BehindGates.{StaysSame, still_none_fit, torn_holds, torn_same}
 use Rattle.epoch_room.proofs.Boarding.{AreBeside}
-use Rattle.epoch_room.proofs.Kept.{on_stands}
+use Rattle.epoch_room.proofs.Carrying.{still_inside, still_stands}
 
 module _ (old new entry : Disk) (kept : Kept) (whole : IsWhole (value_of old entry kept)) (open_room : kept.is_shut ≡ false) (regions : List ℕ) (beside : AreBeside regions (kept.parts ++ kept.retired)) (below : AllByRecursion (λ r. r < old.regions) regions)
     (same : SameBeside old new) (sound : IsSound new) (time : ContinuesOn old new) (failed : Type 0) (counts : CountsOwn failed old new) (read : ReadsBehind regions old new) (leaves : LeavesBehind regions old new) where
@@ -70,53 +70,12 @@ module _ (old new entry : Disk) (kept : Kept) (whole : IsWhole (value_of old ent
       one : (a b : Told) → Run a b → IsLeft (λ image. HoldsParts new.region_len image kept.parts kept.retired) b
       one a b r image now = subst (λ n. HoldsParts n image kept.parts kept.retired) (sym same.region_len) (holds_at a b r image (r.crashes.each image (now_since (clock_of a) b image r.crashes.later now)))
 
-  abbrev eyes_of : Disk → List (ℕ × List ℕ)
-  eyes_of disk = map (λ eye. (eye.number, eye.regions)) disk.eyes
-
-  same_eyes : eyes_of new ≡ eyes_of old
-  same_eyes = ap (map (λ eye. (eye.number, eye.regions))) same.eyes
-
   module _ (job : Option Job) (lost : List ℕ) (shut : Bool) where
     abbrev pub written_kept : Kept
     written_kept = record kept { job = job; lost = lost; is_shut = shut }
 
-    told_stands : (before a b : Told) → Continues before a → Run a b → (first : List Row) (e : ℕ) (history : List Commit) → StandsTold (value_of old entry kept).room before a first e history → StandsTold (value_of new entry written_kept).room before b first e history
-    told_stands before a b passed r first e history s =
-        on_stands (record (value_of old entry kept).room { job = job; lost = lost; is_shut = shut }) new before b first e history same.region_len same_eyes (record {
-          stands = record {
-            legal = s.stands.legal;
-            counts = record { places = s.stands.counts.places; epochs = s.stands.counts.epochs; sealed = s.stands.counts.sealed; open_epoch = s.stands.counts.open_epoch; eyes = s.stands.counts.eyes };
-            live = record { rows = s.stands.live.rows; are_rows = (alike a b r a.bytes b.bytes r.told.image r.torn).forth.rows kept.parts s.stands.live.rows s.stands.live.are_rows; agrees = s.stands.live.agrees; no_longer = s.stands.live.no_longer };
-            images = record {
-              every_image = λ image since. elim (r.crashes.before (clock_of before) image later since) as (λ _. ShowsSome old.region_len first history e (last_epoch e history) image) [
-                | inl earlier ↦ s.stands.images.every_image image earlier
-                | inr at ↦ shows_at a b r first history e (last_epoch e history) (λ was now. s.stands.images.every_image was (now_since (clock_of before) a was later now)) image at
-              ];
-              now_sealed = λ image now. shows_at a b r first history kept.sealed (last_epoch e history) s.stands.images.now_sealed image (r.crashes.each image (now_since (clock_of a) b image r.crashes.later now));
-            };
-          };
-          waiting = s.waiting;
-          small = s.small;
-          none_open = λ h image since. elim (r.crashes.before (clock_of before) image later since) as (λ _. ShowsSome old.region_len first history e kept.sealed image) [
-            | inl earlier ↦ s.none_open open_room image earlier
-            | inr at ↦ shows_at a b r first history e kept.sealed (λ was now. s.none_open open_room was (now_since (clock_of before) a was later now)) image at
-          ];
-        })
-      where
-        later : clock_of before ≤ clock_of a
-        later = continued_later before a passed
-
-    stands : (first : List Row) (e : ℕ) (history : List Commit) → Stands (value_of old entry kept) first e history → Stands (value_of new entry written_kept) first e history
-    unfolding Stands
-    stands first e history h =
-        all_told (λ x y z. StandsWhere (value_of old entry kept).room x y first e history → StandsWhere (value_of new entry written_kept).room x z first e history) entry.told old.told new.told whole.entry.time runs (λ s. tt)
-        (λ before a b p r s. told_stands before a b p r first e history s) h
-
-    inside : (first : List Row) (e : ℕ) (history : List Commit) → Stands (value_of old entry kept) first e history → ShownInside (value_of old entry kept) old.told new.told first e history
-    unfolding Stands
-    inside first e history h =
-        all_told (λ x y z. StandsWhere (value_of old entry kept).room x y first e history → ShownInside (value_of old entry kept) y z first e history) entry.told old.told new.told whole.entry.time runs (λ s. tt)
-        (λ before a b p r s image since. shows_at a b r first history kept.sealed (last_epoch e history) s.stands.images.now_sealed image (r.crashes.each image since)) h
+    live : (a b : Told) → Run a b → (log : List Row) → HoldsLive (value_of old entry kept).room a.bytes log → HoldsLive (record (value_of old entry kept).room { job = job; lost = lost; is_shut = shut }) b.bytes log
+    live a b r log h = record { rows = h.rows; are_rows = (alike a b r a.bytes b.bytes r.told.image r.torn).forth.rows kept.parts h.rows h.are_rows; agrees = h.agrees; no_longer = h.no_longer }
 
     -- a room that can take nothing any more
     same_images : (y z : Option Told) → BothTold Run y z → (image : Image) → option_map (λ (t : Told). t.bytes) y ≡ Some image → (image' : Image) × (option_map (λ (t : Told). t.bytes) z ≡ Some image') × StaysSame old.region_len image image'
@@ -168,4 +127,9 @@ module _ (old new entry : Disk) (kept : Kept) (whole : IsWhole (value_of old ent
       }
 
       pub written_keeps : Keeps (value_of old entry kept) (value_of new entry written_kept)
-      written_keeps = record { stands = stands; inside = inside; becomes = becomes; time = time }
+      written_keeps = record {
+        stands = still_stands old new entry kept whole open_room same Run runs (IsBehind regions) (λ a b r. r.crashes) shows_at live;
+        inside = still_inside old new entry kept whole open_room same Run runs (IsBehind regions) (λ a b r. r.crashes) shows_at;
+        becomes = becomes;
+        time = time;
+      }

@@ -44,6 +44,7 @@ use Rattle.epoch_room.proofs.Spare.{spare_whole}
 use Rattle.epoch_room.proofs.Taken.{SameTimes, same_apart, same_outside}
 use Rattle.epoch_room.proofs.Touching.{dirties_none}
 use Rattle.epoch_room.proofs.Writing.{keeps_beside, still_held, written_keeps}
+use Rattle.epoch_room.proofs.Moved.{does, epoch_stays, shuts}
 
 -- what passes a test and what does not stand together as often as all
 times_parted : (n : ℕ) (p : ℕ → Bool) (xs : List ℕ) → times n (filter p xs) + times n (filter (λ x. not (p x)) xs) ≡ times n xs
@@ -147,11 +148,7 @@ module _ (old entry : Disk) (kept : Kept) (whole : IsWhole (value_of old entry k
         (still_held old new entry kept whole open_room ts ts_beside ts_below run.beside run.sound run.time (IsErrOf result refusal.Failed) run.counts run.read run.leaves)
 
     does_of : (job' : Option Job) → (IsErrOf result refusal.Failed → ⊥) → Does (record (value_of old entry kept).room { job = job' }) kept.target (value_of old entry kept) (value_of new entry (record kept { job = job' }))
-    does_of job' fine = (
-      open_room,
-      record { room = refl; target = refl; entry = refl; regions = run.beside.regions; region_len = run.beside.region_len; time = run.time },
-      record { faults = (run.counts.else_same fine).0; own_faults = (run.counts.else_same fine).1 },
-    )
+    does_of job' fine = does _ _ open_room refl refl refl run.beside run.time run.counts fine
 
     -- ---- all is written
 
@@ -292,16 +289,7 @@ module _ (old entry : Disk) (kept : Kept) (whole : IsWhole (value_of old entry k
         free = whole.free ∙ same_outside old.regions (taken (value_of old entry kept).room kept.target) (taken (value_of new entry shut).room kept.target) shut_times ∙ ap (λ n. regions_outside n (taken (value_of new entry shut).room kept.target)) (sym run.beside.regions);
         rising = whole.rising;
         board = moved_board old new entry kept whole run.beside run.sound run.time run.counts.no_lower ts ts_beside read' shut refl whole.board.of_parts;
-        epoch = record {
-          none = whole.epoch.none;
-          some = λ l. absurd (lost_some l);
-          fits = whole.epoch.fits;
-          costs = whole.epoch.costs;
-          within = omega (arith, whole.epoch.within, run.beside.region_len);
-          entries = whole.epoch.entries;
-          places = whole.epoch.places;
-          epoch = whole.epoch.epoch;
-        };
+        epoch = epoch_stays (value_of old entry kept) (value_of new entry shut) whole.epoch run.beside.region_len whole.epoch.none (λ l. absurd (lost_some l)) whole.epoch.epoch;
         job = moved_job old new entry kept whole run.beside run.sound run.time run.counts.no_lower ts ts_beside read' shut refl refl;
         entry = moved_entry old new entry kept whole run.beside run.sound run.time run.counts.no_lower ts ts_beside read' shut
             (λ h. (risen_since entry.own_faults old.own_faults new.own_faults whole.entry.no_lower.1 risen.0, risen_since entry.faults old.faults new.faults whole.entry.no_lower.0 risen.1));
@@ -314,18 +302,7 @@ module _ (old entry : Disk) (kept : Kept) (whole : IsWhole (value_of old entry k
       writes_disk = record {
         room = (
           refl,
-          (
-            open_room,
-            record {
-              room = ap (λ l. on (record (value_of old entry kept).room { is_shut = true; lost = l }) new) lost_is;
-              target = refl;
-              entry = refl;
-              regions = run.beside.regions;
-              region_len = run.beside.region_len;
-              time = run.time;
-            },
-            record { faults = risen.1; own_faults = risen.0; no_lower = run.counts.no_lower },
-          ),
+          shuts _ _ open_room (ap (λ l. on (record (value_of old entry kept).room { is_shut = true; lost = l }) new) lost_is) refl refl run.beside run.time run.counts failed,
         );
         out = out;
         some = λ h e. some;

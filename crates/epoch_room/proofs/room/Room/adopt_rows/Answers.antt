@@ -160,16 +160,14 @@ add_part-requires-in-Failed g c =
 -- the disk failed: its regions are lost
 lost : (g : Over) (c : goal.After-self-in-Failed-1 g) → Ends (λ v w. Adoption c.args.range c.args.rows.now v w (Err (adopt_fault.Room room_fault.Disk))) c.args.self.now (room_in g.D.LogDisk.state (record c.self.inside { disk = c.seal_rows.new.disk; parts = c.truncate.new.self; free = c.part_over-part.new.free; lost = c.add_part-in-Failed.new.set; is_shut = true }))
 lost g c =
-    let in' = c.self.inside in
     let can = can g (goal.at.returns-in-Failed g c).Else-len-from in
     let own = part_made _ _ _ _ _ _ can c.part_over-part.result c.part_over-part.ensures.part in
-    let new = g.D.LogDisk.state c.seal_rows.new.disk in
     let run = c.seal_rows.ensures in
     let cut = cut g (goal.at.returns-in-Failed g c).After-truncate in
-    let lost : c.add_part-in-Failed.new.set ≡ set_of (take c.in-Some.regions in'.free) = c.add_part-in-Failed.ensures ∙ (λ i. set_of (none_lost _ _ _ _ _ _ can i ++ own.regions_is i)) in
+    let lost : c.add_part-in-Failed.new.set ≡ set_of (take c.in-Some.regions c.self.inside.free) = c.add_part-in-Failed.ensures ∙ (λ i. set_of (none_lost _ _ _ _ _ _ can i ++ own.regions_is i)) in
     let failed : IsErrOf c.seal_rows.result DiskRefusal.Failed = is_failed c.seal_rows.result c.in-Err.refusal c.in-Err.is c.in-Failed.is in
     ends (λ v w. Adoption c.args.range c.args.rows.now v w (Err (adopt_fault.Room room_fault.Disk))) c.self.view_is
-    (λ i. value_of new (g.D.LogDisk.state in'.entry.value) (record (kept_in in') { parts = cut i; free = c.part_over-part.ensures.free i; lost = lost i; is_shut = true }))
+    (λ i. room_in g.D.LogDisk.state (record c.self.inside { disk = c.seal_rows.new.disk; parts = cut i; free = c.part_over-part.ensures.free i; lost = lost i; is_shut = true }))
     (whole_shut _ _ _ _ _ _ _ can _ own _ run failed, adoption_shut _ _ _ _ _ _ _ can _ own _ run failed)
 
 pub invariant_of-self-in-Failed : goal.invariant_of-self-in-Failed
@@ -187,16 +185,14 @@ add_part-requires-in-NoMemory g c =
 -- no memory to seal it: its regions are free again
 given_back : (g : Over) (c : goal.After-add_part-in-NoMemory g) → Ends (λ v w. Adoption c.args.range c.args.rows.now v w (Err (adopt_fault.Room room_fault.NoMemory))) c.args.self.now (room_in g.D.LogDisk.state (record c.self.inside { disk = c.seal_rows.new.disk; parts = c.truncate.new.self; free = c.add_part-in-NoMemory.new.set }))
 given_back g c =
-    let in' = c.self.inside in
     let can = can g (goal.at.returns-in-NoMemory g c).Else-len-from in
     let own = part_made _ _ _ _ _ _ can c.part_over-part.result c.part_over-part.ensures.part in
-    let new = g.D.LogDisk.state c.seal_rows.new.disk in
     let run = c.seal_rows.ensures in
     let cut = cut g (goal.at.returns-in-NoMemory g c).After-truncate in
-    let freed : c.add_part-in-NoMemory.new.set ≡ in'.free = c.add_part-in-NoMemory.ensures ∙ (λ i. set_of (c.part_over-part.ensures.free i ++ own.regions_is i)) ∙ back _ _ _ _ _ _ can in
+    let freed : c.add_part-in-NoMemory.new.set ≡ c.self.inside.free = c.add_part-in-NoMemory.ensures ∙ (λ i. set_of (c.part_over-part.ensures.free i ++ own.regions_is i)) ∙ back _ _ _ _ _ _ can in
     let none : IsErrOf c.seal_rows.result DiskRefusal.NoMemory = is_no_memory c.seal_rows.result c.in-Err.refusal c.in-Err.is c.in-NoMemory.is in
     ends (λ v w. Adoption c.args.range c.args.rows.now v w (Err (adopt_fault.Room room_fault.NoMemory))) c.self.view_is
-    (λ i. value_of new (g.D.LogDisk.state in'.entry.value) (record (kept_in in') { parts = cut i; free = freed i }))
+    (λ i. room_in g.D.LogDisk.state (record c.self.inside { disk = c.seal_rows.new.disk; parts = cut i; free = freed i }))
     (whole_memory _ _ _ _ _ _ _ can _ own _ run none, adoption_memory _ _ _ _ _ _ _ can _ own _ run none)
 
 pub invariant_of-self-in-NoMemory : goal.invariant_of-self-in-NoMemory

@@ -1,0 +1,30 @@
+-- What of a room stays as its disk goes on: its open epoch, and what is told of each step.
+use Rattle.std.proofs.Common.{◌≡◌, ℕ, ◌+◌, ◌≤◌, false, [], Some, None, arith}
+use Rattle.std.specs.Prelude.{Option}
+use Rattle.fine_model.specs.RowBytes.{greatest}
+use Rattle.fine_model.specs.declared.law.RoomState.{RoomState}
+use Rattle.log_disk.specs.Disk.{CountsOwn, SameBeside}
+use Rattle.log_disk.specs.Moments.{ContinuesOn}
+use Rattle.epoch_room.specs.Steps.{Does, Fails, Steps}
+use Rattle.epoch_room.specs.Value.{RoomValue, on}
+use Rattle.epoch_room.specs.Whole.{IsOpenEpoch}
+
+-- a room with the same open epoch
+pub epoch_stays : (old new : RoomValue) → IsOpenEpoch old → new.room.region_len ≡ old.room.region_len → (old.room.waiting ≡ 0 → (new.target ≡ None) × (old.room.open_rows ≡ []) × (old.room.used ≡ 0))
+    → (new.room.lost ≡ [] → 1 ≤ old.room.waiting → (region : ℕ) × (new.target ≡ Some region)) → (1 ≤ old.room.waiting → new.room.sealed + 1 ≤ greatest)
+    → IsOpenEpoch (record new { room = record new.room { open_rows = old.room.open_rows; waiting = old.room.waiting; used = old.room.used; places = old.room.places } })
+epoch_stays old new epoch len none some last = record { none = none; some = some; fits = epoch.fits; costs = epoch.costs; within = omega (arith, epoch.within, len); entries = epoch.entries; places = epoch.places; epoch = last }
+
+-- a step of an open room
+step : {state : RoomState} {target : Option ℕ} (old new : RoomValue) → new.room ≡ on state new.disk → new.target ≡ target → new.entry ≡ old.entry → SameBeside old.disk new.disk → ContinuesOn old.disk new.disk → Steps state target old new
+step old new room target entry same time = record { room = room; target = target; entry = entry; regions = same.regions; region_len = same.region_len; time = time }
+
+-- the disk did not fail
+pub does : {state : RoomState} {target : Option ℕ} {failed : Type 0} (old new : RoomValue) → old.room.is_shut ≡ false → new.room ≡ on state new.disk → new.target ≡ target → new.entry ≡ old.entry
+    → SameBeside old.disk new.disk → ContinuesOn old.disk new.disk → CountsOwn failed old.disk new.disk → (failed → ⊥) → Does state target old new
+does old new open_room room target entry same time counts fine = (open_room, step old new room target entry same time, record { faults = (counts.else_same fine).0; own_faults = (counts.else_same fine).1 })
+
+-- it failed, and this is the state of a room that is shut
+pub shuts : {state : RoomState} {target : Option ℕ} {failed : Type 0} (old new : RoomValue) → old.room.is_shut ≡ false → new.room ≡ on state new.disk → new.target ≡ target → new.entry ≡ old.entry
+    → SameBeside old.disk new.disk → ContinuesOn old.disk new.disk → CountsOwn failed old.disk new.disk → failed → (old.room.is_shut ≡ false) × Steps state target old new × Fails old.disk new.disk
+shuts old new open_room room target entry same time counts f = (open_room, step old new room target entry same time, record { faults = counts.faults f; own_faults = counts.own_faults f; no_lower = counts.no_lower })

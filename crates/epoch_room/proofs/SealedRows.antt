@@ -34,6 +34,9 @@ use Rattle.epoch_room.proofs.Touching.{beside_then, dirties_then}
 pub body_counted : (p : Part) (rows : List Row) → AreCounted p.header rows → length (body_bytes rows) ≡ body_len p.header
 body_counted p rows counted = omega (arith, length-append (rows_bytes rows) (index_bytes rows), rows_long rows, index_long rows, counted.area, counted.nodes)
 
+pub body_within : (p : Part) (rows : List Row) → AreCounted p.header rows → 0 + length (body_bytes rows) ≤ body_len p.header
+body_within p rows counted = omega (arith, body_counted p rows counted)
+
 -- the header lies before the body
 pub header_fits : (p : Part) (old : Disk) → HasPlace old p → 1 + length (header_bytes old.region_len p.header) ≤ old.region_len
 header_fits p old place = let l = header_long old.region_len p.header place.lies.listed in let s = start_small p.header.mark in let g = place.lies.large in omega (arith, l, s, g)

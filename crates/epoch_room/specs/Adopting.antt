@@ -1,5 +1,6 @@
 -- What becomes of a room that takes rows in as a part.
-use Rattle.std.specs.Prelude.{◌≡◌, ◌≢◌, ◌⊎◌, ℕ, ◌+◌, ◌-◌, ◌*◌, ◌<◌, ◌≤◌, ◌==◌, false, if◌then◌else◌, List, [], ◌∷◌, ◌++◌, length, take, drop, replicate, slice_index, unwrap_or, IfSome, Some, None, Option, OnOk, Result, Ok, Err, ⊤}
+use Rattle.std.specs.Prelude.{◌≡◌, ◌≢◌, ◌⊎◌, ℕ, ◌+◌, ◌-◌, ◌*◌, ◌<◌, ◌≤◌, ◌==◌, false, if◌then◌else◌, List, [], ◌∷◌, ◌++◌, length, take, drop, replicate, slice_index, unwrap_or, IfSome, Some, None, Option, IsTrue, OnOk, Result, Ok, Err, ⊤}
+use Rattle.std.specs.List.{AllByRecursion}
 use Rattle.fine_model.specs.declared.Mark.TheVariants as mark
 use Rattle.fine_model.specs.declared.Part.{Part}
 use Rattle.fine_model.specs.declared.Range.{Range}
@@ -7,9 +8,9 @@ use Rattle.fine_model.specs.declared.Row.{Row}
 use Rattle.fine_model.specs.declared.law.RoomState.{RoomState}
 use Rattle.fine_model.specs.Becomes.{Becomes}
 use Rattle.fine_model.specs.Headline.{ShowsSome}
-use Rattle.fine_model.specs.Merge.{encoded_len, nodes_in, regions_for}
+use Rattle.fine_model.specs.Merge.{encoded_len, is_ordered, nodes_in, regions_for}
 use Rattle.fine_model.specs.Regions.{Image, IsSealed}
-use Rattle.fine_model.specs.RowBytes.{rows_len}
+use Rattle.fine_model.specs.RowBytes.{FitsRow, greatest, rows_len}
 use Rattle.log_disk.specs.Disk.{SameBeside, Told, clock_of, IsImageSince}
 use Rattle.log_disk.specs.Moments.{ContinuesOn}
 use Rattle.log_partition.specs.Encoding.{saturated}
@@ -21,6 +22,16 @@ use Rattle.epoch_room.specs.declared.answers.AdoptFault.{AdoptFault}
 use Rattle.epoch_room.specs.declared.answers.AdoptFault.TheVariants as adopt_fault
 use Rattle.epoch_room.specs.declared.answers.RoomFault.{RoomFault}
 use Rattle.epoch_room.specs.declared.answers.RoomFault.TheVariants as room_fault
+
+-- rows in order, of the epochs behind those of a room in which nothing waits and no merge is out
+pub record AreNext (room : RoomState) (range : Range) (own : List Row) : Type 0 where
+  pub none : room.places ≡ 0
+  pub no_job : room.job ≡ None
+  pub next : range.first ≡ room.sealed + 1
+  pub order : range.first ≤ range.last
+  pub high : range.last ≤ greatest
+  pub ordered : IsTrue (is_ordered own)
+  pub rows : AllByRecursion (FitsRow mark.Two) own
 
 -- a part of rows over the lowest of some free regions
 unfoldable pub part_over : ℕ → List ℕ → Range → List Row → Part

@@ -89,19 +89,7 @@ impl<D: LogDisk> Model for Room<D> {
       is_shut = r.is_shut;
     }) };
 
-    ghost invariant = { λ r. IsWhole (value_of (D.state r.disk) (D.state r.entry.value) (record {
-      parts = r.parts;
-      retired = r.retired.items;
-      free = r.free;
-      lost = r.lost;
-      target = r.target;
-      board = r.board;
-      job = r.job;
-      epoch = r.epoch;
-      sealed = r.sealed;
-      places = r.places;
-      is_shut = r.is_shut;
-    })) × (short_header + r.epoch.most ≡ (D.state r.disk).region_len) × (most_in_log ≤ vec_capacity r.retired) };
+    ghost invariant = { λ r. IsWhole (view r) × (short_header + r.epoch.most ≡ (D.state r.disk).region_len) × (most_in_log ≤ vec_capacity r.retired) };
 }
 
 impl<D: LogDisk> RoomLaw for Room<D> {

@@ -10,7 +10,7 @@ ghost use Rattle.fine_model.specs.RowBytes.{FitsRec, FitsRow, greatest, index_en
 ghost use Rattle.log_disk.specs.Disk.{SameBeside};
 ghost use Rattle.log_disk.specs.Moments.{ContinuesOn};
 ghost use Rattle.log_partition.specs.Encoding.{saturated};
-ghost use Rattle.epoch_room.specs.Adopting.{Adoption, AdoptsOr, HoldsRows, ShownBoth, StandsAfter, StandsForBoth, most_room, need_over, part_over, taken_for};
+ghost use Rattle.epoch_room.specs.Adopting.{Adoption, AdoptsOr, AreNext, HoldsRows, ShownBoth, StandsAfter, StandsForBoth, most_room, need_over, part_over, taken_for};
 ghost use Rattle.epoch_room.specs.Gate.{KeepsBeside};
 
 use super::Room;
@@ -145,13 +145,7 @@ impl<D: LogDisk> Room<D> {
 
     /// Takes rows in; all that `adopt` says of it, in one clause.
     fn adopt_rows(&mut self, range: Range, rows: &Rows) -> Result<(), AdoptFault>
-        requires none { self.old.room.places ≡ 0 }
-        requires no_job { self.old.room.job ≡ None }
-        requires next { range.first ≡ self.old.room.sealed + 1 }
-        requires order { range.first ≤ range.last }
-        requires high { range.last ≤ greatest }
-        requires ordered { IsTrue (is_ordered rows.now) }
-        requires rows { AllByRecursion (FitsRow mark.Two) rows.now }
+        requires { AreNext self.old.room range rows.now }
         ensures { Adoption range rows.now self.old self.new result }
     {
         if self.is_shut {

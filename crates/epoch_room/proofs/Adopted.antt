@@ -8,7 +8,6 @@ use Rattle.fine_model.specs.declared.Range.{Range}
 use Rattle.fine_model.specs.declared.Row.{Row}
 use Rattle.fine_model.specs.declared.Mark.TheVariants as mark
 use Rattle.fine_model.specs.declared.Job.{Job}
-use Rattle.fine_model.specs.declared.law.RoomState.{RoomState}
 use Rattle.fine_model.specs.Becomes.{Becomes}
 use Rattle.fine_model.specs.Boards.{held_of, named, posted, set_of}
 use Rattle.fine_model.specs.Chain.{AreRowsOf, regions_of}
@@ -52,7 +51,7 @@ use Rattle.epoch_room.proofs.Taken.{same_apart, same_outside}
 use Rattle.epoch_room.proofs.Torn.{HasOpened}
 use Rattle.epoch_room.proofs.Touching.{beside_told}
 use Rattle.epoch_room.proofs.Writing.{still_held, written_keeps}
-use Rattle.epoch_room.proofs.Moved.{does, epoch_stays, shuts}
+use Rattle.epoch_room.proofs.Moved.{becomes_open, does, epoch_stays, shuts}
 
 module _ (old new entry : Disk) (kept : Kept) (range : Range) (rows : List Row) (k : ℕ) (c : CanAdopt old entry kept range rows k) (p : Part) (o : IsPartFor old kept.free range rows k p) (result : Result (Unit {0}) DiskRefusal)
     (run : SealsRows p rows result old new) where
@@ -125,20 +124,8 @@ module _ (old new entry : Disk) (kept : Kept) (range : Range) (rows : List Row) 
   same_told : is_some (option_map (λ (t : Told). t.bytes) new.told) ≡ is_some (option_map (λ (t : Told). t.bytes) old.told)
   same_told = as_told Run old.told new.told runs
 
-  becomes : (state : RoomState) → state.region_len ≡ new.region_len → state.regions ≡ new.regions → state.image ≡ option_map (λ (t : Told). t.bytes) new.told → kept.sealed ≤ state.sealed → kept.places ≡ state.places
-      → state.faults ≡ new.faults → state.own_faults ≡ new.own_faults → (state.is_shut ≡ true → HasRisen old.own_faults new.own_faults × HasRisen old.faults new.faults) → Becomes (value_of old entry kept).room state
-  becomes state len regions image sealed places faults own shut_by = record {
-    region_len = len ∙ run.beside.region_len;
-    regions = regions ∙ run.beside.regions;
-    told = ap is_some image ∙ same_told;
-    sealed = sealed;
-    places = omega (arith, places);
-    faults = let l = lower.0 in omega (arith, faults, l);
-    own_faults = let l = lower.1 in omega (arith, own, l);
-    shut = λ h. absurd (true≢false (sym h ∙ c.open_room));
-    shut_by = λ h. inr (let r = shut_by h in (subst (HasRisen old.own_faults) (sym own) r.0, subst (HasRisen old.faults) (sym faults) r.1));
-    stuck = λ s. absurd (not_stuck old entry kept range rows k c s);
-  }
+  becomes : (kept' : Kept) → kept.sealed ≤ kept'.sealed → kept.places ≡ kept'.places → (kept'.is_shut ≡ true → HasRisen old.own_faults new.own_faults × HasRisen old.faults new.faults) → Becomes (value_of old entry kept).room (value_of new entry kept').room
+  becomes kept' sealed places risen = becomes_open old new kept kept' run.beside lower same_told c.open_room sealed places risen (λ s. absurd (not_stuck old entry kept range rows k c s))
 
   -- the regions that are read differently
   read_taken : KeepsBeside (taken_for (value_of old entry kept).room rows) old new
@@ -291,7 +278,7 @@ module _ (old new entry : Disk) (kept : Kept) (range : Range) (rows : List Row) 
       holds = holds_ok (ap (λ (q : Part). q.region) e);
       refused = tt;
       inside = inside;
-      becomes = becomes now.room refl refl refl (let n = c.next in let l = c.order in omega (arith, n, l)) refl refl refl (λ h. absurd (true≢false (sym h ∙ c.open_room)));
+      becomes = becomes (record kept { parts = kept.parts ++ p ∷ []; free = drop k kept.free; sealed = range.last }) (let n = c.next in let l = c.order in omega (arith, n, l)) refl (λ h. absurd (true≢false (sym h ∙ c.open_room)));
       time = run.time;
       beside = run.beside;
       read = read_taken;
@@ -349,7 +336,7 @@ module _ (old new entry : Disk) (kept : Kept) (range : Range) (rows : List Row) 
       holds = tt;
       refused = λ other. absurd (other refl);
       inside = inside;
-      becomes = becomes (value_of new entry shut).room refl refl refl (omega arith) refl refl refl (λ h. risen);
+      becomes = becomes shut (omega arith) refl (λ h. risen);
       time = run.time;
       beside = run.beside;
       read = read_taken;

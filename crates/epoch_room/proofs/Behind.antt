@@ -1,11 +1,10 @@
 -- What holds behind each answer of sealing, whether the disk tells its bytes or not.
-use Rattle.std.proofs.Common.{◌≡◌, ◌≢◌, ℕ, ◌+◌, ◌-◌, ◌<◌, ◌≤◌, true, false, List, [], ◌∷◌, ◌++◌, length, length-append, take, map, Some, None, Err, Ok, Result, ◌||◌, refl, sym, ap, subst, ◌∙◌, inl, inr, arith}
-use Rattle.std.specs.Prelude.{Option, IfSome, IsErrOf, is_some, nat_eq, option_map, option_to_list, unwrap_or}
+use Rattle.std.proofs.Common.{◌≡◌, ◌≢◌, ℕ, ◌+◌, ◌-◌, ◌<◌, ◌≤◌, true, false, List, [], ◌∷◌, ◌++◌, length, length-append, take, map, Some, None, Err, Ok, Result, ◌||◌, refl, sym, ap, subst, ◌∙◌, inl, arith}
+use Rattle.std.specs.Prelude.{Option, IfSome, IsErrOf, OnOk, is_some, nat_eq, option_map, option_to_list, unwrap_or}
 use Rattle.std.specs.List.{list_any}
 use Rattle.std.proofs.lemmas.List.{take_at}
 use Rattle.fine_model.specs.declared.Job.{Job}
 use Rattle.fine_model.specs.declared.Row.{Row}
-use Rattle.fine_model.specs.declared.law.RoomState.{RoomState}
 use Rattle.fine_model.specs.Becomes.{Becomes}
 use Rattle.fine_model.specs.Jobs.{held_for, job_regions, taken_by}
 use Rattle.fine_model.specs.Boards.{set_of}
@@ -23,7 +22,7 @@ use Rattle.log_disk.specs.Moments.{Continues, ContinuesOn, IsLeft, LeavesOnly}
 use Rattle.log_disk.proofs.Moments.{now_since, only_now, synced_now}
 use Rattle.log_disk.proofs.Times.{continued_later, continues_none}
 use Rattle.epoch_room.specs.Gate.{gate, IsBehind, IsSealing, KeepsBeside, LeavesBehind, LeavesSealing, DirtiesOnly, HasBytes}
-use Rattle.epoch_room.specs.Meaning.{Keeps, Seals, ShownInside, Stands, StandsWhere}
+use Rattle.epoch_room.specs.Meaning.{GoesOnStanding, HoldsEpoch, Keeps, Seals, ShownInside, Stands, StandsWhere}
 use Rattle.epoch_room.specs.Partition.{IsArranged}
 use Rattle.epoch_room.specs.Steps.{Does, SealsOr, next_part, sealed_state}
 use Rattle.epoch_room.specs.Value.{RoomValue, Kept, value_of, on}
@@ -40,7 +39,7 @@ use Rattle.epoch_room.proofs.Partitions.{partition_long}
 use Rattle.epoch_room.proofs.OneRegion.{set_one}
 use Rattle.epoch_room.proofs.Torn.{HasOpened}
 use Rattle.epoch_room.proofs.Touching.{beside_told}
-use Rattle.epoch_room.proofs.Moved.{does, shuts}
+use Rattle.epoch_room.proofs.Moved.{becomes_open, does, shuts}
 
 -- ---- what is told at entry, before and then
 
@@ -181,20 +180,8 @@ module _ (old entry : Disk) (kept : Kept) (whole : IsWhole (value_of old entry k
     same_told = as_told Run old.told new.told runs
 
     -- which state becomes of the room, where an entry waits
-    becomes : (state : RoomState) → state.region_len ≡ new.region_len → state.regions ≡ new.regions → state.image ≡ option_map (λ (t : Told). t.bytes) new.told → kept.sealed ≤ state.sealed → kept.places ≡ state.places
-        → state.faults ≡ new.faults → state.own_faults ≡ new.own_faults → (state.is_shut ≡ true → HasRisen old.own_faults new.own_faults × HasRisen old.faults new.faults) → Becomes (value_of old entry kept).room state
-    becomes state len regions image sealed places faults own shut_by = record {
-      region_len = len ∙ same.region_len;
-      regions = regions ∙ same.regions;
-      told = ap is_some image ∙ same_told;
-      sealed = sealed;
-      places = omega (arith, places);
-      faults = let l = lower.0 in omega (arith, faults, l);
-      own_faults = let l = lower.1 in omega (arith, own, l);
-      shut = λ h. absurd (cc);
-      shut_by = λ h. inr (let r = shut_by h in (subst (HasRisen old.own_faults) (sym own) r.0, subst (HasRisen old.faults) (sym faults) r.1));
-      stuck = λ s. absurd (let n : kept.epoch.waiting ≡ 0 = s.none_waits in omega (arith, some, n));
-    }
+    becomes : (kept' : Kept) → kept.sealed ≤ kept'.sealed → kept.places ≡ kept'.places → (kept'.is_shut ≡ true → HasRisen old.own_faults new.own_faults × HasRisen old.faults new.faults) → Becomes (value_of old entry kept).room (value_of new entry kept').room
+    becomes kept' sealed places risen = becomes_open old new kept kept' same lower same_told open_room sealed places risen (λ s. absurd (let n : kept.epoch.waiting ≡ 0 = s.none_waits in omega (arith, some, n)))
 
     module _ (leaves : LeavesSealing region bytes old new) where
       inside : (first : List Row) (e : ℕ) (history : List Commit) → Stands (value_of old entry kept) first e history → ShownInside (value_of old entry kept) old.told new.told first e history
@@ -204,6 +191,18 @@ module _ (old entry : Disk) (kept : Kept) (whole : IsWhole (value_of old entry k
           (λ before a b p run s.
           shown_inside (value_of old entry kept).room region sorted bytes can before a first e history (base_of a run.0.told run.0.left) run.0.told.image (continued_later before a p) s b run.0.differs run.0.told'.image run.1)
           stands
+
+      -- what is so of each answer
+      seals : (kept' : Kept) (result : Result ℕ RoomFault) → SealsOr (value_of old entry kept) (value_of new entry kept') result → OnOk result (HoldsEpoch (value_of old entry kept) (value_of new entry kept')) → GoesOnStanding (value_of old entry kept) (value_of new entry kept')
+          → kept'.job ≡ kept.job → kept.sealed ≤ kept'.sealed → kept.places ≡ kept'.places → (kept'.is_shut ≡ true → HasRisen old.own_faults new.own_faults × HasRisen old.faults new.faults) → Seals (value_of old entry kept) (value_of new entry kept') result
+      seals kept' result room body stands job sealed places risen = record {
+        room = room;
+        body = body;
+        read = target_read;
+        beside = same;
+        keeps = record { stands = stands; inside = inside; becomes = becomes kept' sealed places risen; time = time };
+        job = record { job = job; held = job_held };
+      }
 
       -- the epoch was sealed
       module _ (synced : new.unsynced ≡ []) (written : HasBytes (λ image. with_bytes (with_bytes image region 1 bytes) region 0 gate) old new) where
@@ -234,28 +233,14 @@ module _ (old entry : Disk) (kept : Kept) (whole : IsWhole (value_of old entry k
 
         pub seals_ok : (most : ℕ) → (failed → ⊥) → Seals (value_of old entry kept) (value_of new entry (ended_kept kept region most)) (Ok (kept.sealed + 1))
         unfolding Stands sealed_state next_part
-        seals_ok most fine = record {
-          room = (
-            refl,
-            synced,
-            does _ _ open_room (sym (ap (λ r. on (sealed_room (value_of old entry kept).room r) new) (ap (λ t. unwrap_or t 0) at))) refl refl same time counts fine,
-          );
-          body = record {
-            sorted = sorted;
-            is_arranged = arranged;
-            bytes = subst (λ t. HasBytes (λ image. with_bytes (with_bytes image (unwrap_or t 0) 1 (partition_bytes old.region_len (range_of kept.sealed) sorted)) (unwrap_or t 0) 0 gate) old new) (sym at)
-                (subst (λ bs. HasBytes (λ image. with_bytes (with_bytes image region 1 bs) region 0 gate) old new) spelled written);
-          };
-          read = target_read;
-          beside = same;
-          keeps = record {
-            stands = stands_ok;
-            inside = inside;
-            becomes = becomes (value_of new entry (ended_kept kept region most)).room refl refl refl (omega arith) refl refl refl (λ h. absurd (cc));
-            time = time;
-          };
-          job = record { job = refl; held = job_held };
-        }
+        seals_ok most fine =
+            seals (ended_kept kept region most) (Ok (kept.sealed + 1)) (refl, synced, does _ _ open_room (sym (ap (λ r. on (sealed_room (value_of old entry kept).room r) new) (ap (λ t. unwrap_or t 0) at))) refl refl same time counts fine)
+            (record {
+              sorted = sorted;
+              is_arranged = arranged;
+              bytes = subst (λ t. HasBytes (λ image. with_bytes (with_bytes image (unwrap_or t 0) 1 (partition_bytes old.region_len (range_of kept.sealed) sorted)) (unwrap_or t 0) 0 gate) old new) (sym at)
+                  (subst (λ bs. HasBytes (λ image. with_bytes (with_bytes image region 1 bs) region 0 gate) old new) spelled written);
+            }) stands_ok refl (omega arith) refl (λ h. absurd (cc))
 
       -- the disk failed
       pub whole_shut : failed → IsWhole (value_of new entry (shut_kept kept region))
@@ -272,19 +257,9 @@ module _ (old entry : Disk) (kept : Kept) (whole : IsWhole (value_of old entry k
 
       pub seals_shut : failed → Seals (value_of old entry kept) (value_of new entry (shut_kept kept region)) (Err room_fault.Disk)
       unfolding Stands
-      seals_shut f = record {
-        room = shuts _ _ open_room (ap (λ lost. on (record (value_of old entry kept).room { is_shut = true; lost = lost }) new) (sym lost_is)) refl refl same time counts f;
-        body = tt;
-        read = target_read;
-        beside = same;
-        keeps = record {
-          stands = stands_shut;
-          inside = inside;
-          becomes = becomes (value_of new entry (shut_kept kept region)).room refl refl refl (omega arith) refl refl refl (λ h. (counts.own_faults f, counts.faults f));
-          time = time;
-        };
-        job = record { job = refl; held = job_held };
-      }
+      seals_shut f =
+          seals (shut_kept kept region) (Err room_fault.Disk) (shuts _ _ open_room (ap (λ lost. on (record (value_of old entry kept).room { is_shut = true; lost = lost }) new) (sym lost_is)) refl refl same time counts f) tt stands_shut refl (omega arith) refl
+          (λ h. (counts.own_faults f, counts.faults f))
         where
           lost_is : set_of (option_to_list kept.target) ≡ region ∷ []
           lost_is = ap (λ t. set_of (option_to_list t)) at ∙ set_one region (let h = whole.geometry.regions_high in omega (arith, there, h))
@@ -317,19 +292,7 @@ module _ (old entry : Disk) (kept : Kept) (whole : IsWhole (value_of old entry k
 
         pub seals_open : (failed → ⊥) → Seals (value_of old entry kept) (value_of new entry kept) (Err room_fault.NoMemory)
         unfolding Stands
-        seals_open fine = record {
-          room = does _ _ open_room refl refl refl same time counts fine;
-          body = tt;
-          read = target_read;
-          beside = same;
-          keeps = record {
-            stands = stands_open;
-            inside = inside;
-            becomes = becomes (value_of new entry kept).room refl refl refl (omega arith) refl refl refl (λ h. absurd (cc));
-            time = time;
-          };
-          job = record { job = refl; held = job_held };
-        }
+        seals_open fine = seals kept (Err room_fault.NoMemory) (does _ _ open_room refl refl refl same time counts fine) tt stands_open refl (omega arith) refl (λ h. absurd (cc))
 
 -- ---- the fields behind each answer
 

@@ -1,5 +1,5 @@
 -- A room of which retired parts are erased.
-use Rattle.std.proofs.Common.{◌≡◌, ◌≢◌, ℕ, zero, suc, ◌+◌, ◌/◌, ◌%◌, ◌<◌, ◌==◌, Bool, true, false, cond, not, ◌||◌, List, [], ◌∷◌, ◌++◌, length, map, Some, None, refl, sym, ap, subst, ◌∙◌, inl, inr, arith, true≢false}
+use Rattle.std.proofs.Common.{◌≡◌, ◌≢◌, ℕ, zero, suc, ◌+◌, ◌/◌, ◌%◌, ◌<◌, ◌==◌, Bool, true, false, cond, not, ◌||◌, List, [], ◌∷◌, ◌++◌, length, map, Some, None, refl, sym, ap, subst, ◌∙◌, inl, arith, true≢false}
 use Rattle.std.specs.Prelude.{Option, IfSome, Any, Contains, IsPermutation, IsTrue, nat_eq, option_map, option_to_list, slice_index, take}
 use Rattle.std.specs.List.{AllByRecursion, list_any}
 use Rattle.std.proofs.lemmas.Bool.{false_from_ne_true, not-true, or_parts}
@@ -47,7 +47,7 @@ use Rattle.epoch_room.proofs.Freeing.{all_left, job_apart, nat_alike}
 use Rattle.epoch_room.proofs.GateImages.{LeadsBeside, ShowsStill, gates_still}
 use Rattle.epoch_room.proofs.LedParts.{fewer_apart, free_more, lead_apart, lead_gone, lead_in, lead_led, lead_left, led_times, left_rising, set_times}
 use Rattle.epoch_room.proofs.Taken.{SameTimes, any_times, apart_back, other_list, same_apart, same_outside}
-use Rattle.epoch_room.proofs.Moved.{epoch_stays}
+use Rattle.epoch_room.proofs.Moved.{becomes_open, epoch_stays}
 use Rattle.epoch_room.proofs.Carrying.{still_inside, still_stands}
 
 -- ---- what the board does not name
@@ -396,18 +396,7 @@ module _ (old entry : Disk) (kept : Kept) (whole : IsWhole (value_of old entry k
         live free lost shut a b r log h = record { rows = h.rows; are_rows = (still a.bytes b.bytes (r.left_now a.bytes r.told.image) r.read).rows h.rows h.are_rows; agrees = h.agrees; no_longer = h.no_longer }
 
         becomes : (free lost : List ℕ) (shut : Bool) → (shut ≡ true → HasRisen old.own_faults new.own_faults × HasRisen old.faults new.faults) → Becomes (value_of old entry kept).room (value_of new entry (erased free lost shut)).room
-        becomes free lost shut risen = record {
-          region_len = run.beside.region_len;
-          regions = run.beside.regions;
-          told = as_told Run old.told new.told runs;
-          sealed = omega arith;
-          places = omega arith;
-          faults = counts.no_lower.0;
-          own_faults = counts.no_lower.1;
-          shut = λ h. absurd (cc);
-          shut_by = λ h. inr (risen h);
-          stuck = λ s. absurd (none leads some are s.none_retired);
-        }
+        becomes free lost shut risen = becomes_open old new kept (erased free lost shut) run.beside counts.no_lower (as_told Run old.told new.told runs) open_room (omega arith) refl risen (λ s. absurd (none leads some are s.none_retired))
           where
             none : (rs : List ℕ) → rs ≢ [] → AllByRecursion (λ r. list_any (λ p. p.region == r) kept.retired ≡ true) rs → kept.retired ≡ [] → ⊥
             none [] ne all e = ne refl

@@ -1,12 +1,13 @@
 -- What of a room stays as its disk goes on: its open epoch, and what is told of each step.
-use Rattle.std.proofs.Common.{◌≡◌, ℕ, ◌+◌, ◌≤◌, false, [], Some, None, arith}
-use Rattle.std.specs.Prelude.{Option}
+use Rattle.std.proofs.Common.{◌≡◌, ℕ, ◌+◌, ◌≤◌, true, false, true≢false, [], Some, None, sym, ◌∙◌, inr, arith}
+use Rattle.std.specs.Prelude.{Option, is_some, option_map}
+use Rattle.fine_model.specs.Becomes.{Becomes, IsStuck, StaysStuck}
 use Rattle.fine_model.specs.RowBytes.{greatest}
 use Rattle.fine_model.specs.declared.law.RoomState.{RoomState}
-use Rattle.log_disk.specs.Disk.{CountsOwn, SameBeside}
+use Rattle.log_disk.specs.Disk.{CountsOwn, Disk, HasRisen, SameBeside, Told}
 use Rattle.log_disk.specs.Moments.{ContinuesOn}
 use Rattle.epoch_room.specs.Steps.{Does, Fails, Steps}
-use Rattle.epoch_room.specs.Value.{RoomValue, on}
+use Rattle.epoch_room.specs.Value.{Kept, RoomValue, on, value_of}
 use Rattle.epoch_room.specs.Whole.{IsOpenEpoch}
 
 -- a room with the same open epoch
@@ -28,3 +29,20 @@ does old new open_room room target entry same time counts fine = (open_room, ste
 pub shuts : {state : RoomState} {target : Option ℕ} {failed : Type 0} (old new : RoomValue) → old.room.is_shut ≡ false → new.room ≡ on state new.disk → new.target ≡ target → new.entry ≡ old.entry
     → SameBeside old.disk new.disk → ContinuesOn old.disk new.disk → CountsOwn failed old.disk new.disk → failed → (old.room.is_shut ≡ false) × Steps state target old new × Fails old.disk new.disk
 shuts old new open_room room target entry same time counts f = (open_room, step old new room target entry same time, record { faults = counts.faults f; own_faults = counts.own_faults f; no_lower = counts.no_lower })
+
+-- what becomes of an open room on a disk that went on
+pub becomes_open : (old new : Disk) (kept kept' : Kept) → SameBeside old new → (old.faults ≤ new.faults) × (old.own_faults ≤ new.own_faults) → is_some (option_map (λ (t : Told). t.bytes) new.told) ≡ is_some (option_map (λ (t : Told). t.bytes) old.told) → kept.is_shut ≡ false
+    → kept.sealed ≤ kept'.sealed → kept.places ≡ kept'.places → (kept'.is_shut ≡ true → HasRisen old.own_faults new.own_faults × HasRisen old.faults new.faults)
+    → (IsStuck (value_of old old kept).room → StaysStuck (value_of old old kept).room (value_of new new kept').room) → Becomes (value_of old old kept).room (value_of new new kept').room
+becomes_open old new kept kept' same lower told open_room sealed places risen stuck = record {
+  region_len = same.region_len;
+  regions = same.regions;
+  told = told;
+  sealed = sealed;
+  places = omega (arith, places);
+  faults = lower.0;
+  own_faults = lower.1;
+  shut = λ h. absurd (true≢false (sym h ∙ open_room));
+  shut_by = λ h. inr (risen h);
+  stuck = stuck;
+}

@@ -1,20 +1,19 @@
 -- A room behind each answer of sealing its merge.
-use Rattle.std.proofs.Common.{◌≡◌, ◌≢◌, ℕ, suc, ◌+◌, ◌<◌, ◌≤◌, ◌||◌, true, false, List, [], ◌∷◌, ◌++◌, length, map, take, Some, None, Ok, Err, refl, sym, ap, subst, ◌∙◌, inl, inr, arith, length-append, eq-eqb, true≢false}
-use Rattle.std.specs.Prelude.{Any, Contains, Option, cond, nat_lt, ◌==◌, IfSome, IsPermutation, is_some, nat_eq, not, filter, option_map, option_to_list}
+use Rattle.std.proofs.Common.{◌≡◌, ◌≢◌, ℕ, suc, ◌+◌, ◌<◌, ◌≤◌, ◌||◌, true, false, List, [], ◌∷◌, ◌++◌, length, map, Some, None, Ok, Err, Result, refl, sym, ap, subst, ◌∙◌, inl, inr, arith, length-append, eq-eqb, true≢false}
+use Rattle.std.specs.Prelude.{Any, Contains, IfSome, IsPermutation, OnOk, Option, cond, filter, nat_eq, nat_lt, not, option_map, option_to_list, ◌==◌}
 use Rattle.std.specs.List.{AllByRecursion, list_any, position_or_len}
 use Rattle.std.proofs.lemmas.List.Sorted.{IsPermutation-insert}
 use Rattle.fine_model.specs.declared.Header.{Header}
 use Rattle.fine_model.specs.declared.Job.{Job}
 use Rattle.fine_model.specs.declared.Part.{Part}
 use Rattle.fine_model.specs.declared.Row.{Row}
-use Rattle.fine_model.specs.declared.law.RoomState.{RoomState}
 use Rattle.fine_model.specs.Becomes.{Becomes}
 use Rattle.fine_model.specs.Boards.{set_of}
 use Rattle.fine_model.specs.Chain.{AreRowsOf, chain_end, regions_of}
 use Rattle.fine_model.specs.ChainLaws.{DiffersAt, part_of}
 use Rattle.fine_model.specs.Headline.{ShowsSome}
 use Rattle.fine_model.specs.History.{Commit}
-use Rattle.fine_model.specs.Jobs.{held_by, held_for, job_left, job_regions, taken_by}
+use Rattle.fine_model.specs.Jobs.{held_for, job_left, job_regions, taken_by}
 use Rattle.fine_model.specs.Merge.{merged}
 use Rattle.fine_model.specs.Regions.{Image, continuations, header_bytes, region_of}
 use Rattle.fine_model.specs.Room.{HoldsLive}
@@ -30,7 +29,7 @@ use Rattle.log_disk.proofs.Moments.{now_since, synced_now}
 use Rattle.log_disk.proofs.Writes.{same_outside_written}
 use Rattle.epoch_room.specs.Gate.{DirtiesOnly, gate, HasBytes, IsSealing, KeepsBeside, LeavesSealing}
 use Rattle.epoch_room.specs.Meaning.{GoesOnStanding, ShownInside, Stands}
-use Rattle.epoch_room.specs.MergeSealing.{IsWrittenOut, SealsJob, merged_state, replaced, retire}
+use Rattle.epoch_room.specs.MergeSealing.{IsWrittenOut, SealsJob, SealsJobOr, merged_state, replaced, retire}
 use Rattle.epoch_room.specs.Value.{Kept, all_regions, on, regions_outside, taken, value_of}
 use Rattle.epoch_room.specs.Whole.{AreApart, AreRising, FollowOn, HoldsParts, IsJob, IsWhole, NamesWhole}
 use Rattle.epoch_room.specs.declared.answers.RoomFault.TheVariants as room_fault
@@ -42,12 +41,13 @@ use Rattle.epoch_room.proofs.Ending.{alike_told, moved_board, moved_entry, moved
 use Rattle.epoch_room.proofs.LedParts.{lead_apart, set_times}
 use Rattle.epoch_room.proofs.OpenedOver.{held_replaced, leads_keep, mergeable, now_agrees, now_no_longer, now_rows, over}
 use Rattle.epoch_room.proofs.Retired.{all_moved, any_moved, end_merged, follow_merged, lead_place, merged_moves, regions_many, replaced_is, retire_long, retire_rising, times_moved}
-use Rattle.epoch_room.proofs.SealingJobs.{IsOver, all_free, good, as_job, holds_both, later_mark, lead_beside, lead_there, long, not_stuck, over_gate, read_is, sealing_shows, written_now}
+use Rattle.epoch_room.proofs.SealingJobs.{IsOver, all_free, as_job, good, held_same, holds_both, later_mark, lead_beside, lead_there, long, not_stuck, over_gate, read_is, sealing_shows, written_now}
 use Rattle.epoch_room.proofs.Taken.{SameTimes, same_apart, same_outside}
 use Rattle.epoch_room.proofs.Torn.{HasOpened, sealed_bytes}
 use Rattle.epoch_room.proofs.Written.{left_is, none_lost, own_apart, own_small, own_taken, rs_is}
-use Rattle.epoch_room.proofs.Moved.{does, epoch_stays, shuts}
+use Rattle.epoch_room.proofs.Moved.{becomes_open, does, epoch_stays, shuts}
 use Rattle.epoch_room.proofs.Carrying.{still_inside, still_stands}
+use Rattle.epoch_room.specs.declared.answers.RoomFault.{RoomFault}
 
 module _ (old entry : Disk) (kept : Kept) (whole : IsWhole (value_of old entry kept)) (open_room : kept.is_shut ≡ false) (job : Job) (out : kept.job ≡ Some job) (header : Header) (has : job.header ≡ Some header)
     (written : IsWrittenOut (value_of old entry kept).room job header) where
@@ -210,19 +210,21 @@ module _ (old entry : Disk) (kept : Kept) (whole : IsWhole (value_of old entry k
     inside = still_inside old new entry kept whole open_room same Run runs (IsSealing job.target (header_bytes old.region_len header)) (λ a b r. r.crashes) shows_at
 
     -- such a room could take something, so it may become any that is not behind it
-    becomes : (state : RoomState) → state.region_len ≡ new.region_len → state.regions ≡ new.regions → state.image ≡ option_map (λ (t : Told). t.bytes) new.told → kept.sealed ≡ state.sealed → kept.places ≡ state.places
-        → state.faults ≡ new.faults → state.own_faults ≡ new.own_faults → (state.is_shut ≡ true → HasRisen old.own_faults new.own_faults × HasRisen old.faults new.faults) → Becomes (value_of old entry kept).room state
-    becomes state len regions image sealed places faults own_faults shut_by = record {
-      region_len = len ∙ same.region_len;
-      regions = regions ∙ same.regions;
-      told = ap is_some image ∙ as_told Run old.told new.told runs;
-      sealed = omega (arith, sealed);
-      places = omega (arith, places);
-      faults = let l = counts.no_lower.0 in omega (arith, faults, l);
-      own_faults = let l = counts.no_lower.1 in omega (arith, own_faults, l);
-      shut = λ h. absurd (true≢false (sym h ∙ open_room));
-      shut_by = λ h. inr (let r = shut_by h in (subst (HasRisen old.own_faults) (sym own_faults) r.0, subst (HasRisen old.faults) (sym faults) r.1));
-      stuck = λ s. absurd (not_stuck old entry kept whole open_room job out header has written s);
+    becomes : (kept' : Kept) → kept.sealed ≡ kept'.sealed → kept.places ≡ kept'.places → (kept'.is_shut ≡ true → HasRisen old.own_faults new.own_faults × HasRisen old.faults new.faults) → Becomes (value_of old entry kept).room (value_of new entry kept').room
+    becomes kept' sealed places risen = becomes_open old new kept kept' same counts.no_lower (as_told Run old.told new.told runs) open_room (omega (arith, sealed)) places risen (λ s. absurd (not_stuck old entry kept whole open_room job out header has written s))
+
+    -- what is so of each answer
+    seals : (kept' : Kept) (result : Result (Unit {0}) (RoomFault × Job)) → SealsJobOr (value_of old entry kept) (value_of new entry kept') job header result → DirtiesOnly (job.target ∷ []) old new
+        → OnOk result (HasBytes (λ image. with_bytes (with_bytes image job.target 1 (header_bytes old.region_len header)) job.target 0 gate) old new) → GoesOnStanding (value_of old entry kept) (value_of new entry kept') → kept.sealed ≡ kept'.sealed → kept.places ≡ kept'.places
+        → (kept'.is_shut ≡ true → HasRisen old.own_faults new.own_faults × HasRisen old.faults new.faults) → SealsJob (value_of old entry kept) (value_of new entry kept') job header result
+    seals kept' result room dirties bytes stands sealed places risen = record {
+      room = room;
+      beside = same;
+      read = read;
+      dirties = dirties;
+      leaves = leaves;
+      bytes = bytes;
+      keeps = record { stands = stands; inside = inside; becomes = becomes kept' sealed places risen; time = time };
     }
 
     -- ---- the disk failed
@@ -319,23 +321,7 @@ module _ (old entry : Disk) (kept : Kept) (whole : IsWhole (value_of old entry k
           (λ a b r log h. record { rows = h.rows; are_rows = kept_rows a b r h.rows h.are_rows; agrees = h.agrees; no_longer = h.no_longer })
 
       pub seals_disk : DirtiesOnly (job.target ∷ []) old new → SealsJob (value_of old entry kept) (value_of new entry (record kept { lost = lost; is_shut = true })) job header (Err (room_fault.Disk, job))
-      seals_disk dirties = record {
-        room = (
-          refl,
-          shuts _ _ open_room (ap (λ l. on (record (value_of old entry kept).room { is_shut = true; lost = l }) new) lost_is) refl refl same time counts f,
-        );
-        beside = same;
-        read = read;
-        dirties = dirties;
-        leaves = leaves;
-        bytes = tt;
-        keeps = record {
-          stands = shut_stands;
-          inside = inside;
-          becomes = becomes (value_of new entry shut).room refl refl refl refl refl refl refl (λ h. risen);
-          time = time;
-        };
-      }
+      seals_disk dirties = seals shut (Err (room_fault.Disk, job)) (refl, shuts _ _ open_room (ap (λ l. on (record (value_of old entry kept).room { is_shut = true; lost = l }) new) lost_is) refl refl same time counts f) dirties tt shut_stands refl refl (λ h. risen)
 
     -- ---- the part was sealed
 
@@ -420,13 +406,7 @@ module _ (old entry : Disk) (kept : Kept) (whole : IsWhole (value_of old entry k
 
       -- what was written for the job is the new part's body
       held_still : held_for (option_map (λ (t : Told). t.bytes) new.told) job ≡ held_for (option_map (λ (t : Told). t.bytes) old.told) job
-      held_still = on' old.told new.told opens
-        where
-          on' : (y z : Option Told) → BothTold Opens y z → held_for (option_map (λ (t : Told). t.bytes) z) job ≡ held_for (option_map (λ (t : Told). t.bytes) y) job
-          on' None None o = refl
-          on' None (Some b) o = absurd o
-          on' (Some a) None o = absurd o
-          on' (Some a) (Some b) o = ap (λ h. Some (held_by b.bytes job.target job.written h)) has ∙ ap (λ bytes. Some (take job.written bytes)) (is_over a b o).body ∙ ap (λ h. Some (held_by a.bytes job.target job.written h)) (sym has)
+      held_still = held_same job header has old.told new.told opens (λ a b o. (is_over a b o).body)
 
       live_now : (a b : Told) → Opens a b → (log : List Row) → HoldsLive (value_of old entry kept).room a.bytes log → HoldsLive (record (value_of old entry kept).room { parts = parts_now; retired = retired_now; job = None }) b.bytes log
       live_now a b o log live =
@@ -452,21 +432,4 @@ module _ (old entry : Disk) (kept : Kept) (whole : IsWhole (value_of old entry k
       pub seals_ok : (failed → ⊥) → DirtiesOnly (job.target ∷ []) old new → (u : Unit {0})
           → SealsJob (value_of old entry kept) (value_of new entry (record kept { parts = replaced job.older.region (part_of job.target header) kept.parts; retired = retire job.newer (retire job.older kept.retired); job = None })) job header (Ok u)
       unfolding merged_state
-      seals_ok fine dirties u = record {
-        room = (
-          synced,
-          does _ _ open_room refl refl refl same time counts fine,
-          held_still,
-        );
-        beside = same;
-        read = read;
-        dirties = dirties;
-        leaves = leaves;
-        bytes = bytes;
-        keeps = record {
-          stands = merged_stands;
-          inside = inside;
-          becomes = becomes (value_of new entry merged_kept).room refl refl refl refl refl refl refl (λ h. absurd (true≢false (sym h ∙ open_room)));
-          time = time;
-        };
-      }
+      seals_ok fine dirties u = seals merged_kept (Ok u) (synced, does _ _ open_room refl refl refl same time counts fine, held_still) dirties bytes merged_stands refl refl (λ h. absurd (true≢false (sym h ∙ open_room)))

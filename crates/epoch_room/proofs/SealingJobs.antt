@@ -1,6 +1,6 @@
 -- A job whose part is sealed: what is known before, and what an image shows meanwhile.
-use Rattle.std.proofs.Common.{◌≡◌, ◌≢◌, ◌⊎◌, ℕ, ◌+◌, ◌-◌, ◌<◌, ◌≤◌, ◌||◌, false, true, List, [], ◌∷◌, ◌++◌, length, Some, refl, sym, ap, subst, ◌∙◌, inl, inr, arith, eq-eqb, length-take}
-use Rattle.std.specs.Prelude.{nat_eq, slice_get}
+use Rattle.std.proofs.Common.{◌≡◌, ◌≢◌, ◌⊎◌, ℕ, ◌+◌, ◌-◌, ◌<◌, ◌≤◌, ◌||◌, false, true, List, [], ◌∷◌, ◌++◌, length, take, Some, None, refl, sym, ap, subst, ◌∙◌, inl, inr, arith, eq-eqb, length-take}
+use Rattle.std.specs.Prelude.{Option, nat_eq, option_map, slice_get}
 use Rattle.std.specs.List.{AllByRecursion, list_any}
 use Rattle.fine_model.specs.declared.Header.{Header}
 use Rattle.fine_model.specs.declared.Job.{Job}
@@ -18,7 +18,7 @@ use Rattle.fine_model.proofs.Closed.{closed_law}
 use Rattle.fine_model.proofs.Nothing.{all_at, each_there}
 use Rattle.fine_model.proofs.Order.{all_map, first_of_both}
 use Rattle.fine_model.proofs.Replaced.{rows_split}
-use Rattle.log_disk.specs.Disk.{Disk, IsImageNow, IsToldOf, IsUnseen, SameOutside, Told, with_bytes}
+use Rattle.log_disk.specs.Disk.{BothTold, Disk, IsImageNow, IsToldOf, IsUnseen, SameOutside, Told, with_bytes}
 use Rattle.log_disk.specs.Moments.{IsLeft}
 use Rattle.log_partition.specs.Written.{IsGood}
 use Rattle.partition_index.specs.Placing.{HasRoomFor}
@@ -39,6 +39,7 @@ use Rattle.epoch_room.proofs.Retired.{follow_range}
 use Rattle.std.proofs.lemmas.Bool.{not-true}
 use Rattle.epoch_room.proofs.Torn.{HasClosed, HasOpened, at_gate, torn_closed}
 use Rattle.epoch_room.proofs.Written.{is_job, own_apart, own_below, own_beside, own_once, own_place, own_taken}
+use Rattle.fine_model.specs.Jobs.{held_by, held_for}
 
 -- a part is opened over an image, and its body is what it was there
 pub record IsOver (region_len : ℕ) (job : Job) (header : Header) (base image : Image) : Type 0 where
@@ -53,6 +54,14 @@ pub record IsLikeBefore (region_len : ℕ) (before : Told) (image : Image) : Typ
 
 middle : (P : Part → Type 0) (before : List Part) (older newer : Part) (after : List Part) → AllByRecursion P (before ++ older ∷ newer ∷ after) → P older × P newer
 middle P before older newer after all = let rest = all_back P before (older ∷ newer ∷ after) all in (rest.0, rest.1.0)
+
+-- what is held of a job is told by its body
+pub held_same : {Run : Told → Told → Type 0} (job : Job) (header : Header) → job.header ≡ Some header → (y z : Option Told) → BothTold Run y z → ((a b : Told) → Run a b → body_in b.bytes job.target header ≡ body_in a.bytes job.target header)
+    → held_for (option_map (λ (t : Told). t.bytes) z) job ≡ held_for (option_map (λ (t : Told). t.bytes) y) job
+held_same job header has None None r body = refl
+held_same job header has None (Some b) r body = absurd r
+held_same job header has (Some a) None r body = absurd r
+held_same job header has (Some a) (Some b) r body = ap (λ h. Some (held_by b.bytes job.target job.written h)) has ∙ ap (λ bytes. Some (take job.written bytes)) (body a b r) ∙ ap (λ h. Some (held_by a.bytes job.target job.written h)) (sym has)
 
 module _ (old entry : Disk) (kept : Kept) (whole : IsWhole (value_of old entry kept)) (open_room : kept.is_shut ≡ false) (job : Job) (out : kept.job ≡ Some job) (header : Header) (has : job.header ≡ Some header)
     (written : IsWrittenOut (value_of old entry kept).room job header) where

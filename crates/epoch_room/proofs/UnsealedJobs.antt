@@ -1,11 +1,11 @@
 -- A room whose merge was not sealed, for want of memory or since an earlier call had failed.
-use Rattle.std.proofs.Common.{◌≡◌, ℕ, ◌+◌, ◌<◌, ◌≤◌, true, false, [], ◌∷◌, ◌++◌, length, take, Some, None, Err, refl, sym, ap, subst, ◌∙◌, inl, inr, arith, true≢false}
+use Rattle.std.proofs.Common.{◌≡◌, ℕ, ◌+◌, ◌<◌, ◌≤◌, true, false, [], ◌∷◌, ◌++◌, length, Some, None, Err, refl, sym, ap, subst, ◌∙◌, inl, inr, arith, true≢false}
 use Rattle.std.specs.Prelude.{Option, IfSome, nat_eq, option_map}
 use Rattle.std.specs.List.{list_any}
 use Rattle.fine_model.specs.declared.Header.{Header}
 use Rattle.fine_model.specs.declared.Job.{Job}
 use Rattle.fine_model.specs.ChainLaws.{DiffersBehind, part_of}
-use Rattle.fine_model.specs.Jobs.{held_by, held_for, KeepsJob}
+use Rattle.fine_model.specs.Jobs.{held_for, KeepsJob}
 use Rattle.fine_model.specs.Regions.{Image, body_in, header_bytes, region_of}
 use Rattle.log_disk.specs.Disk.{BothTold, CountsOwn, Disk, IsSound, IsToldOf, SameBeside, Told, with_bytes}
 use Rattle.log_disk.specs.Moments.{ContinuesOn, IsLeft}
@@ -21,7 +21,7 @@ use Rattle.epoch_room.proofs.Boarding.{AreBeside}
 use Rattle.epoch_room.proofs.Ending.{moved_whole}
 use Rattle.epoch_room.proofs.Gates.{behind, sealing_none}
 use Rattle.epoch_room.proofs.MergedHeaders.{header_long}
-use Rattle.epoch_room.proofs.SealingJobs.{lead_beside, lead_there, long, room_for}
+use Rattle.epoch_room.proofs.SealingJobs.{held_same, lead_beside, lead_there, long, room_for}
 use Rattle.epoch_room.proofs.Touching.{dirties_none}
 use Rattle.epoch_room.proofs.Writing.{still_held, written_keeps}
 use Rattle.epoch_room.proofs.Written.{own_taken}
@@ -78,13 +78,7 @@ module _ (old entry : Disk) (kept : Kept) (whole : IsWhole (value_of old entry k
       on' (Some a) (Some b) u = u.differs
 
   held_still : held_for (option_map (λ (t : Told). t.bytes) new.told) job ≡ held_for (option_map (λ (t : Told). t.bytes) old.told) job
-  held_still = on' old.told new.told unsealed
-    where
-      on' : (y z : Option Told) → BothTold IsUnsealed y z → held_for (option_map (λ (t : Told). t.bytes) z) job ≡ held_for (option_map (λ (t : Told). t.bytes) y) job
-      on' None None u = refl
-      on' None (Some b) u = absurd u
-      on' (Some a) None u = absurd u
-      on' (Some a) (Some b) u = ap (λ h. Some (held_by b.bytes job.target job.written h)) has ∙ ap (λ bytes. Some (take job.written bytes)) u.body ∙ ap (λ h. Some (held_by a.bytes job.target job.written h)) (sym has)
+  held_still = held_same job header has old.told new.told unsealed (λ a b u. u.body)
 
   keeps_job : KeepsJob (value_of old entry kept).room (value_of new entry kept).room
   keeps_job = record { job = refl; held = λ other e. subst (λ (j : Job). held_for (option_map (λ (t : Told). t.bytes) new.told) j ≡ held_for (option_map (λ (t : Told). t.bytes) old.told) j) (some_is job other (sym out ∙ e)) held_still }

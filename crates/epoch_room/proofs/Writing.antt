@@ -1,5 +1,5 @@
 -- A room for whose merge bytes are written, behind the gates of the merge's regions.
-use Rattle.std.proofs.Common.{◌≡◌, ℕ, ◌<◌, Bool, true, false, List, ◌++◌, length, Some, None, Ok, refl, sym, subst, ◌∙◌, inr, arith}
+use Rattle.std.proofs.Common.{◌≡◌, ℕ, ◌<◌, Bool, true, false, List, ◌++◌, length, Some, None, Ok, refl, sym, subst, ◌∙◌, arith}
 use Rattle.std.specs.Prelude.{Option, IfSome, nat_eq, option_map}
 use Rattle.std.specs.List.{AllByRecursion, list_any}
 use Rattle.fine_model.specs.declared.Job.{Job}
@@ -24,6 +24,7 @@ use Rattle.epoch_room.proofs.Behind.{as_told, some_behind}
 use Rattle.epoch_room.proofs.BehindGates.{StaysSame, still_none_fit, torn_holds, torn_same}
 use Rattle.epoch_room.proofs.Boarding.{AreBeside}
 use Rattle.epoch_room.proofs.Carrying.{still_inside, still_stands}
+use Rattle.epoch_room.proofs.Moved.{becomes_open}
 
 module _ (old new entry : Disk) (kept : Kept) (whole : IsWhole (value_of old entry kept)) (open_room : kept.is_shut ≡ false) (regions : List ℕ) (beside : AreBeside regions (kept.parts ++ kept.retired)) (below : AllByRecursion (λ r. r < old.regions) regions)
     (same : SameBeside old new) (sound : IsSound new) (time : ContinuesOn old new) (failed : Type 0) (counts : CountsOwn failed old new) (read : ReadsBehind regions old new) (leaves : LeavesBehind regions old new) where
@@ -113,18 +114,7 @@ module _ (old new entry : Disk) (kept : Kept) (whole : IsWhole (value_of old ent
 
     module _ (risen : shut ≡ true → HasRisen old.own_faults new.own_faults × HasRisen old.faults new.faults) where
       becomes : Becomes (value_of old entry kept).room (value_of new entry written_kept).room
-      becomes = record {
-        region_len = same.region_len;
-        regions = same.regions;
-        told = as_told Run old.told new.told runs;
-        sealed = omega arith;
-        places = omega arith;
-        faults = counts.no_lower.0;
-        own_faults = counts.no_lower.1;
-        shut = λ h. absurd (cc);
-        shut_by = λ h. inr (risen h);
-        stuck = still_stuck;
-      }
+      becomes = becomes_open old new kept written_kept same counts.no_lower (as_told Run old.told new.told runs) open_room (omega arith) refl risen still_stuck
 
       pub written_keeps : Keeps (value_of old entry kept) (value_of new entry written_kept)
       written_keeps = record {

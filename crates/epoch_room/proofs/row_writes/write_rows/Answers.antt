@@ -1,7 +1,7 @@
 use Rattle.std.proofs.Common.{◌≡◌, ◌+◌, ◌<◌, ◌≤◌, ◌++◌, List, ℕ, drop, get_or, length, sym, subst, ap, ◌∙◌, arith}
 use Rattle.std.proofs.lemmas.Result.{err_from_is_err_and}
 use Rattle.fine_model.specs.declared.Mark.TheVariants as mark
-use Rattle.fine_model.specs.Regions.{body_bytes, body_len, index_bytes}
+use Rattle.fine_model.specs.Regions.{body_bytes, index_bytes}
 use Rattle.fine_model.specs.RowBytes.{row_bytes, rows_bytes}
 use Rattle.log_partition.proofs.RowsRead.{lengths}
 use Rattle.epoch_room.proofs.LongBodies.{WrittenTo, front_refused, front_written, full_within, index_taken, left_within, not_err, place_now, row_taken, rows_done, written_none}

@@ -284,3 +284,7 @@ module _ (old entry : Disk) (kept : Kept) (range : Range) (rows : List Row) (k :
         let e' = times-append n none held in
         let s = set_times old.regions (take k kept.free) c.whole.geometry.regions_high own_apart n in
         omega (arith, j, j', a, b, d, e, b', d', e', s)
+
+  -- the part may be added to a set
+  pub part_added : (p : Part) → p ≡ part_over k kept.free range rows → HasRegions p × AllByRecursion (λ r. r < 64) (regions_of p)
+  part_added p is = let own = part_made p is in (part_has p own, part_small p own)

@@ -1,5 +1,5 @@
 -- A room with an entry more.
-use Rattle.std.proofs.Common.{◌≡◌, ℕ, zero, suc, ◌+◌, ◌≤◌, ◌==◌, cond, List, [], ◌∷◌, ◌++◌, drop, length, Some, None, refl, sym, ap, ◌∙◌, subst, inl, arith}
+use Rattle.std.proofs.Common.{◌≡◌, ℕ, zero, suc, ◌+◌, ◌≤◌, ◌==◌, cond, List, [], ◌∷◌, ◌++◌, drop, length, Some, None, refl, sym, ap, ◌∙◌, subst, arith}
 use Rattle.std.specs.Prelude.{Option, option_to_list, slice_get}
 use Rattle.std.specs.List.{AllByRecursion}
 use Rattle.std.proofs.Math.Dec.{eqb-suc-zero}
@@ -23,6 +23,7 @@ use Rattle.epoch_room.proofs.Costs.{cost_together}
 use Rattle.epoch_room.proofs.Fits.{MayAppend}
 use Rattle.epoch_room.proofs.Freeing.{free_in_image}
 use Rattle.epoch_room.proofs.Taken.{first_free, left_free, apart_more}
+use Rattle.epoch_room.proofs.Moved.{becomes_still}
 
 once_most : (header : Option Header) → taken_once header ≤ 1
 once_most None = omega arith
@@ -97,23 +98,14 @@ module _ (value : RoomValue) (rows : List Row) (whole : IsWhole value) (may : Ma
 
   pub appended_becomes : Becomes value.room (appended value rows).room
   unfolding appended
-  appended_becomes = record {
-    region_len = refl;
-    regions = refl;
-    told = refl;
-    sealed = omega arith;
-    places = omega arith;
-    faults = omega arith;
-    own_faults = omega arith;
-    shut = λ h. absurd (let o = may.open_room in cc);
-    shut_by = λ h. inl h;
-    stuck = λ s. absurd (
-        let two = may.free s.none_waits in
-        let all = free_in_image value whole (whole.lost may.open_room) s.image s.told in
-        let few = s.few_free in
-        omega (arith, two, all, few)
-        );
-  }
+  appended_becomes =
+      becomes_still value.room (appended value rows).room (omega arith) (omega arith) (λ h. absurd (let o = may.open_room in cc))
+      (λ s. absurd (
+      let two = may.free s.none_waits in
+      let all = free_in_image value whole (whole.lost may.open_room) s.image s.told in
+      let few = s.few_free in
+      omega (arith, two, all, few)
+      ))
 
   pub appended_job : KeepsJob value.room (appended value rows).room
   unfolding appended

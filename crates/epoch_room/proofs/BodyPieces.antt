@@ -34,6 +34,7 @@ use Rattle.epoch_room.specs.Gate.{DirtiesOnly, IsBehind, LeavesBehind, ReadsBehi
 use Rattle.epoch_room.proofs.Freeing.{nat_alike}
 use Rattle.epoch_room.proofs.Gates.{behind}
 use Rattle.epoch_room.proofs.Touching.{dirties_more, dirties_none, dirties_then, first_is, own_region}
+use Rattle.epoch_room.proofs.Telling.{both_told}
 
 -- ---- images that differ behind the gates of regions
 
@@ -384,46 +385,37 @@ module _ (regions : List ℕ) (p : Part) (at : ℕ) (front back : List ℕ) (old
     leaves = leaves_behind_then regions old mid new first.leaves second.leaves;
     done = ok result second.done;
     some = λ f. (let l = second.some f in omega (arith, l, length-append front back));
-    kept = λ e. front_kept old.told mid.told new.told first.done (second.kept e) place.sound.told;
+    kept = λ e. both_then (λ a b. IsToldOf old a × HasBody p at front a.bytes b.bytes) (λ a b. take (at + length front) (body_in b.bytes p.region p.header) ≡ take (at + length front) (body_in a.bytes p.region p.header)) (λ a b. take at (body_in b.bytes p.region p.header) ≡ take at (body_in a.bytes p.region p.header)) front_kept old.told mid.told new.told first_told (second.kept e);
   }
     where
       still : (mid.faults ≡ old.faults) × (mid.own_faults ≡ old.own_faults)
       still = first.counts.else_same (λ f. let h : ◌≡◌ {A = Result (Unit {0}) DiskRefusal} (Ok u) (Err refusal.Failed) = f in cc)
 
-      both : (x y z : Option Told) → BothTold (λ a b. HasBody p at front a.bytes b.bytes) x y → BothTold (λ a b. HasBody p (at + length front) back a.bytes b.bytes) y z → IfSome x (IsToldOf old)
-          → BothTold (λ a b. HasBody p at (front ++ back) a.bytes b.bytes) x z
-      both None None None q r h = tt
-      both None None (Some c) q r h = absurd r
-      both None (Some b) z q r h = absurd q
-      both (Some a) None z q r h = absurd q
-      both (Some a) (Some b) None q r h = absurd r
-      both (Some a) (Some b) (Some c) q r h =
-          let l = long a h in
+      first_told : BothTold (λ a b. IsToldOf old a × HasBody p at front a.bytes b.bytes) old.told mid.told
+      first_told = both_told (IsToldOf old) (λ a b. HasBody p at front a.bytes b.bytes) old.told mid.told first.done place.sound.told
+
+      both : (a b c : Told) → IsToldOf old a × HasBody p at front a.bytes b.bytes → HasBody p (at + length front) back b.bytes c.bytes → HasBody p at (front ++ back) a.bytes c.bytes
+      both a b c q r =
+          let l = long a q.0 in
           record {
-            differs = differs_then (regions_of p) a.bytes b.bytes c.bytes q.differs r.differs;
-            body = joined (body_in a.bytes p.region p.header) (body_in b.bytes p.region p.header) (body_in c.bytes p.region p.header) (omega (arith, l, length-append front back)) q.body r.body;
+            differs = differs_then (regions_of p) a.bytes b.bytes c.bytes q.1.differs r.differs;
+            body = joined (body_in a.bytes p.region p.header) (body_in b.bytes p.region p.header) (body_in c.bytes p.region p.header) (omega (arith, l, length-append front back)) q.1.body r.body;
           }
 
       ok : (s : Result (Unit {0}) DiskRefusal) → OnOk s (BothTold (λ a b. HasBody p (at + length front) back a.bytes b.bytes) mid.told new.told) → OnOk s (BothTold (λ a b. HasBody p at (front ++ back) a.bytes b.bytes) old.told new.told)
-      ok (Ok v) done = both old.told mid.told new.told first.done done place.sound.told
+      ok (Ok v) done = both_then (λ a b. IsToldOf old a × HasBody p at front a.bytes b.bytes) (λ b c. HasBody p (at + length front) back b.bytes c.bytes) (λ a c. HasBody p at (front ++ back) a.bytes c.bytes) both old.told mid.told new.told first_told done
       ok (Err r) done = tt
 
-      front_kept : (x y z : Option Told) → BothTold (λ a b. HasBody p at front a.bytes b.bytes) x y
-          → BothTold (λ a b. take (at + length front) (body_in b.bytes p.region p.header) ≡ take (at + length front) (body_in a.bytes p.region p.header)) y z → IfSome x (IsToldOf old)
-          → BothTold (λ a b. take at (body_in b.bytes p.region p.header) ≡ take at (body_in a.bytes p.region p.header)) x z
-      front_kept None None None q r h = tt
-      front_kept None None (Some c) q r h = absurd r
-      front_kept None (Some b) z q r h = absurd q
-      front_kept (Some a) None z q r h = absurd q
-      front_kept (Some a) (Some b) None q r h = absurd r
-      front_kept (Some a) (Some b) (Some c) q r h =
-          let l = long a h in
+      front_kept : (a b c : Told) → IsToldOf old a × HasBody p at front a.bytes b.bytes → take (at + length front) (body_in c.bytes p.region p.header) ≡ take (at + length front) (body_in b.bytes p.region p.header)
+          → take at (body_in c.bytes p.region p.header) ≡ take at (body_in a.bytes p.region p.header)
+      front_kept a b c q r =
+          let l = long a q.0 in
           let x : List ℕ = body_in a.bytes p.region p.header in
           let y : List ℕ = body_in b.bytes p.region p.header in
           let z : List ℕ = body_in c.bytes p.region p.header in
           let n : at ≡ length (take at x) = omega (arith, length-take at x, l) in
           let front_of : (zs : List ℕ) → take at (take (at + length front) zs) ≡ take at zs = λ zs. take-take at (at + length front) zs (omega arith) in
-          sym (front_of z) ∙ ap (take at) r ∙ front_of y ∙ ap (take at) q.body ∙ take_at (take at x) (front ++ drop (at + length front) x) at (sym n)
+          sym (front_of z) ∙ ap (take at) r ∙ front_of y ∙ ap (take at) q.1.body ∙ take_at (take at x) (front ++ drop (at + length front) x) at (sym n)
 
 -- ---- where the second piece begins
 

@@ -16,7 +16,7 @@ use Rattle.epoch_room.specs.Meaning.{GoesOnStanding, ShownInside, Stands, Stands
 use Rattle.epoch_room.specs.Value.{Kept, value_of}
 use Rattle.epoch_room.specs.Whole.{IsWhole}
 use Rattle.epoch_room.proofs.Behind.{all_told}
-use Rattle.epoch_room.proofs.Kept.{on_stands}
+use Rattle.epoch_room.proofs.Kept.{on_stands, still_counted}
 
 module _ (old new entry : Disk) (kept : Kept) (whole : IsWhole (value_of old entry kept)) (open_room : kept.is_shut ≡ false) (same : SameBeside old new) (Run : Told → Told → Type 0) (runs : BothTold Run old.told new.told)
     (Left : Told → Image → Type 0) (leaves : (a b : Told) → Run a b → LeavesOnly (Left a) a b)
@@ -39,7 +39,7 @@ module _ (old new entry : Disk) (kept : Kept) (whole : IsWhole (value_of old ent
         on_stands (record (value_of old entry kept).room { parts = parts; retired = retired; free = free; lost = lost; job = job; is_shut = shut }) new before b first e history same.region_len (ap (map (λ eye. (eye.number, eye.regions))) same.eyes) (record {
           stands = record {
             legal = s.stands.legal;
-            counts = record { places = s.stands.counts.places; epochs = s.stands.counts.epochs; sealed = s.stands.counts.sealed; open_epoch = s.stands.counts.open_epoch; eyes = s.stands.counts.eyes };
+            counts = still_counted (value_of old entry kept).room e history s.stands.counts;
             live = live a b r (first ++ all_rows (upto history kept.sealed)) s.stands.live;
             images = record {
               every_image = since before a b passed r first history e (last_epoch e history) s.stands.images.every_image;

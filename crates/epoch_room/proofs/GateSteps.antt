@@ -1,6 +1,6 @@
 -- What closing gates leaves, step by step.
-use Rattle.std.proofs.Common.{◌≡◌, ◌≢◌, ℕ, zero, suc, ◌+◌, ◌<◌, ◌≤◌, false, ◌||◌, List, [], ◌∷◌, ◌++◌, length, take, drop, get_or, Some, None, Ok, Err, Result, refl, sym, ap, subst, ◌∙◌, inl, inr, arith}
-use Rattle.std.specs.Prelude.{Option, IfSome, IsErrOf, nat_eq}
+use Rattle.std.proofs.Common.{◌≡◌, ◌≢◌, ℕ, zero, suc, ◌+◌, ◌<◌, ◌≤◌, false, ◌||◌, List, [], ◌∷◌, ◌++◌, length, take, drop, get_or, Ok, Err, Result, refl, sym, ap, subst, ◌∙◌, inl, inr, arith}
+use Rattle.std.specs.Prelude.{Option, IsErrOf, nat_eq}
 use Rattle.std.specs.List.{AllByRecursion, list_any}
 use Rattle.std.proofs.lemmas.Bool.{cases_eq, or_parts}
 use Rattle.std.proofs.lemmas.List.{append-nil, append_assoc, get_or-set_other, take_more}
@@ -19,6 +19,7 @@ use Rattle.log_disk.proofs.Times.{continues_none, continues_sync, continues_then
 use Rattle.log_disk.specs.declared.refusal.DiskRefusal.{DiskRefusal}
 use Rattle.log_disk.specs.declared.refusal.DiskRefusal.TheVariants as refusal
 use Rattle.epoch_room.specs.Closing.{BeginsGates, ClosesGates, WritesGates, DiffersAtGates, IsAtGates, LeavesClosing, ReadsButGates, ReadsClosed, TouchesGates, closed_gate}
+use Rattle.epoch_room.proofs.Telling.{both_told}
 
 -- ---- images
 
@@ -134,16 +135,9 @@ module _ (regions : List ℕ) (old mid new : Disk) (run : TouchesGates regions o
     time = continues_then old mid new run.time (continues_sync s);
     read = both_then (λ a b. DiffersAtGates regions a.bytes b.bytes) (HasSynced mid) (λ a b. DiffersAtGates regions a.bytes b.bytes) (λ a b c d h. subst (DiffersAtGates regions a.bytes) (sym (synced_read b c h)) d)
         old.told mid.told new.told run.read s.time;
-    leaves = on old.told mid.told new.told run.leaves run.sound.told s.time;
+    leaves = both_then (λ a b. LeavesOnly (IsAtGates regions a) a b) (λ a b. IsToldOf mid a × HasSynced mid a b) (λ a b. LeavesOnly (IsAtGates regions a) a b) (λ a b c p q. told_synced regions mid a b c p q.0 q.1) old.told mid.told new.told
+        run.leaves (both_told (IsToldOf mid) (HasSynced mid) mid.told new.told s.time run.sound.told);
   }
-    where
-      on : (x y z : Option Told) → BothTold (λ a b. LeavesOnly (IsAtGates regions a) a b) x y → IfSome y (IsToldOf mid) → BothTold (HasSynced mid) y z → BothTold (λ a b. LeavesOnly (IsAtGates regions a) a b) x z
-      on None None None p s q = tt
-      on None None (Some c) p s q = absurd q
-      on None (Some b) z p s q = absurd p
-      on (Some a) None z p s q = absurd p
-      on (Some a) (Some b) None p s q = absurd q
-      on (Some a) (Some b) (Some c) p s q = told_synced regions mid a b c p s q
 
   pub closed_synced : ReadsClosed regions old mid → Syncs mid new → ReadsClosed regions old new
   closed_synced closed s =
@@ -181,18 +175,15 @@ module _ (region : ℕ) (image : Image) (there : region < length image) where
   ]
 
 pub closed_more : (regions : List ℕ) (region : ℕ) (old mid new : Disk) → IsSound mid → region < mid.regions → ReadsClosed regions old mid → BothTold (λ a b. b.bytes ≡ with_bytes a.bytes region 0 closed_gate) mid.told new.told → ReadsClosed (regions ++ region ∷ []) old new
-closed_more regions region old mid new sound there closed written' = on old.told mid.told new.told sound.told closed written'
+closed_more regions region old mid new sound there closed written' =
+    both_then (λ a b. AllByRecursion (λ r. take 1 (region_of b.bytes r) ≡ closed_gate) regions) (λ a b. IsToldOf mid a × (b.bytes ≡ with_bytes a.bytes region 0 closed_gate)) (λ a b. AllByRecursion (λ r. take 1 (region_of b.bytes r) ≡ closed_gate) (regions ++ region ∷ [])) one
+    old.told mid.told new.told closed (both_told (IsToldOf mid) (λ a b. b.bytes ≡ with_bytes a.bytes region 0 closed_gate) mid.told new.told written' sound.told)
   where
-    on : (x y z : Option Told) → IfSome y (IsToldOf mid) → BothTold (λ a b. AllByRecursion (λ r. take 1 (region_of b.bytes r) ≡ closed_gate) regions) x y → BothTold (λ a b. b.bytes ≡ with_bytes a.bytes region 0 closed_gate) y z
-        → BothTold (λ a b. AllByRecursion (λ r. take 1 (region_of b.bytes r) ≡ closed_gate) (regions ++ region ∷ [])) x z
-    on None None None s p q = tt
-    on None None (Some c) s p q = absurd q
-    on None (Some b) z s p q = absurd p
-    on (Some a) None z s p q = absurd p
-    on (Some a) (Some b) None s p q = absurd q
-    on (Some a) (Some b) (Some c) s p q =
-        let low : region < length b.bytes = omega (arith, there, s.regions) in
-        subst (λ (i : Image). AllByRecursion (λ r. take 1 (region_of i r) ≡ closed_gate) (regions ++ region ∷ [])) (sym q)
+    one : (a b c : Told) → AllByRecursion (λ r. take 1 (region_of b.bytes r) ≡ closed_gate) regions → IsToldOf mid b × (c.bytes ≡ with_bytes b.bytes region 0 closed_gate) → AllByRecursion (λ r. take 1 (region_of c.bytes r) ≡ closed_gate) (regions ++ region ∷ [])
+    one a b c p q =
+        let told = q.0 in
+        let low : region < length b.bytes = omega (arith, there, told.regions) in
+        subst (λ (i : Image). AllByRecursion (λ r. take 1 (region_of i r) ≡ closed_gate) (regions ++ region ∷ [])) (sym q.1)
         (all_append (λ r. take 1 (region_of (with_bytes b.bytes region 0 closed_gate) r) ≡ closed_gate) regions (region ∷ [])
         (all_map (λ r. take 1 (region_of b.bytes r) ≡ closed_gate) (λ r. take 1 (region_of (with_bytes b.bytes region 0 closed_gate) r) ≡ closed_gate) (λ r h. still_closed region b.bytes low r h) regions p)
         (own_closed region b.bytes low, tt))

@@ -5,7 +5,7 @@ use Rattle.std.proofs.lemmas.Bool.{cases_eq}
 use Rattle.log_disk.specs.Disk.{Image, Told, Disk, OpenEye, region_of, BothTold, SameOutside, HasGoneOn, HasSynced, IsToldOf, IsSound, IsUnseen, IsImageNow, Writes, Syncs, with_bytes, unsynced_too, span_of}
 use Rattle.log_disk.specs.Moments.{LeavesOnly, IsLeft}
 use Rattle.log_disk.proofs.Moments.{leaves_none, leaves_more, leaves_then, leaves_weaker}
-use Rattle.log_disk.proofs.Steps.{both_weaker, both_then}
+use Rattle.log_disk.proofs.Steps.{both_then, both_weaker}
 use Rattle.log_disk.proofs.Calls.{left_write, left_sync}
 use Rattle.log_disk.proofs.Sound.{sound_write}
 use Rattle.log_disk.proofs.Writes.{same_outside_same}
@@ -13,6 +13,7 @@ use Rattle.log_disk.specs.declared.refusal.DiskRefusal.{DiskRefusal}
 use Rattle.log_disk.specs.declared.refusal.DiskRefusal.TheVariants as refusal
 use Rattle.fine_model.specs.ChainLaws.{DiffersBehind}
 use Rattle.epoch_room.specs.Gate.{gate, IsBehind, IsAtGate, IsOpening, IsSealing, LeavesOpening, LeavesSealing, LeavesBehind, LeavesNow, HasBytes}
+use Rattle.epoch_room.proofs.Telling.{both_told}
 
 -- no eye names the region on a disk that has the same eyes
 pub still_unseen : (region : ℕ) (old new : Disk) → new.eyes ≡ old.eyes → IsUnseen old region → IsUnseen new region
@@ -81,26 +82,16 @@ module _ (region : ℕ) (disk : Disk) (a b : Told) (told : IsToldOf disk a) (syn
       ]
 
 module _ (region : ℕ) (start synced : Disk) (sound : IsSound start) (first : Syncs start synced) where
+  first_told : BothTold (λ a b. IsToldOf start a × HasSynced start a b) start.told synced.told
+  first_told = both_told (IsToldOf start) (HasSynced start) start.told synced.told first.time sound.told
+
   pub opening_synced : LeavesOpening region start synced
-  opening_synced = on start.told synced.told first.time sound.told
-    where
-      on : (a b : Option Told) → BothTold (HasSynced start) a b → IfSome a (IsToldOf start) → BothTold (λ x y. LeavesOnly (IsOpening region x) x y) a b
-      on None None p h = tt
-      on None (Some b) p h = absurd p
-      on (Some a) None p h = absurd p
-      on (Some a) (Some b) p h = told_synced region start a b h p
+  opening_synced = both_weaker (λ a b. IsToldOf start a × HasSynced start a b) (λ x y. LeavesOnly (IsOpening region x) x y) (λ a b p. told_synced region start a b p.0 p.1) start.told synced.told first_told
 
   pub opening_begun : {failed : Type 0} (begun : Disk) → Writes region 0 gate failed synced begun → LeavesOpening region start begun
-  opening_begun begun w = on start.told synced.told begun.told first.time w.time sound.told
-    where
-      on : (a b c : Option Told) → BothTold (HasSynced start) a b → BothTold (λ x y. HasGoneOn x y (unsynced_too x.present (span_of region 0 1))) b c → IfSome a (IsToldOf start)
-          → BothTold (λ x y. LeavesOnly (IsOpening region x) x y) a c
-      on None None None p q h = tt
-      on None None (Some c) p q h = absurd q
-      on None (Some b) c p q h = absurd p
-      on (Some a) None c p q h = absurd p
-      on (Some a) (Some b) None p q h = absurd q
-      on (Some a) (Some b) (Some c) p q h = told_begun region start a b h p c q
+  opening_begun begun w =
+      both_then (λ a b. IsToldOf start a × HasSynced start a b) (λ x y. HasGoneOn x y (unsynced_too x.present (span_of region 0 1))) (λ x y. LeavesOnly (IsOpening region x) x y) (λ a b c p q. told_begun region start a b p.0 p.1 c q)
+      start.told synced.told begun.told first_told w.time
 
   pub opening_done : {failed : Type 0} (begun done : Disk) → Writes region 0 gate failed synced begun → IsSound begun → Syncs begun done → LeavesOpening region start done
   opening_done begun done w sound' second = on start.told synced.told begun.told done.told first.time w.time w.outside second.time sound.told sound'.told

@@ -1,8 +1,10 @@
 -- What a room stands for while its open epoch is sealed, and behind each answer.
-use Rattle.std.proofs.Common.{◌≡◌, ◌⊎◌, ℕ, ◌+◌, ◌<◌, ◌≤◌, ◌==◌, true, false, IsTrue, List, [], ◌∷◌, ◌++◌, length, map, Ok, sym, ap, subst, ◌∙◌, inl, inr, arith, append_assoc}
-use Rattle.std.specs.Prelude.{filter}
+use Rattle.std.proofs.Common.{◌≡◌, ◌⊎◌, ℕ, Bool, ◌+◌, ◌<◌, ◌≤◌, ◌==◌, true, false, IsTrue, List, [], ◌∷◌, ◌++◌, length, map, Ok, sym, ap, subst, ◌∙◌, inl, inr, arith, append_assoc}
+use Rattle.std.specs.Prelude.{Option, filter}
 use Rattle.std.specs.List.{AllByRecursion}
 use Rattle.std.proofs.lemmas.List.Sums.{sum_by-append}
+use Rattle.fine_model.specs.declared.Job.{Job}
+use Rattle.fine_model.specs.declared.Part.{Part}
 use Rattle.fine_model.specs.declared.Row.{Row}
 use Rattle.fine_model.specs.declared.Mark.TheVariants as mark
 use Rattle.fine_model.specs.RowBytes.{FitsRow, row_len, rows_len, greatest}
@@ -16,7 +18,7 @@ use Rattle.fine_model.specs.History.{Commit, IsLegal, all_rows, upto, last_epoch
 use Rattle.fine_model.specs.Headline.{ShowsSome}
 use Rattle.fine_model.specs.declared.law.RoomState.{RoomState}
 use Rattle.fine_model.specs.Boards.{posted, named, held_of}
-use Rattle.fine_model.specs.Room.{HoldsLive, KeepsImages, SameMembers}
+use Rattle.fine_model.specs.Room.{CountsHistory, HoldsLive, KeepsImages, SameMembers}
 use Rattle.fine_model.specs.VersionLaws.{VersionsFollow, HaveSameRows}
 use Rattle.fine_model.proofs.Arranged.{arranged_agrees}
 use Rattle.fine_model.proofs.CallVersions.{legal_versions}
@@ -70,6 +72,11 @@ module _ (room : RoomState) (disk : Disk) (before told : Told) (first : List Row
         small = old.small;
         none_open = subst (λ n. room.is_shut ≡ false → (image : Image) → IsImageSince (clock_of before) told image → ShowsSome n first history e room.sealed image) (sym len) old.none_open;
       }
+
+-- a state with the same history
+pub still_counted : {parts retired : List Part} {free lost : List ℕ} {job : Option Job} {shut : Bool} (room : RoomState) (e : ℕ) (history : List Commit) → CountsHistory room e history
+    → CountsHistory (record room { parts = parts; retired = retired; free = free; lost = lost; job = job; is_shut = shut }) e history
+still_counted room e history c = record { places = c.places; epochs = c.epochs; sealed = c.sealed; open_epoch = c.open_epoch; eyes = c.eyes }
 
 wider : (region_len : ℕ) (first : List Row) (history : List Commit) (low high low' high' : ℕ) (image : Image) → low' ≤ low → high ≤ high' → ShowsSome region_len first history low high image → ShowsSome region_len first history low' high' image
 wider region_len first history low high low' high' image l h some = record { e = some.e; rows = some.rows; shows = some.shows; from = omega (arith, some.from, l); to = omega (arith, some.to, h); agrees = some.agrees }
@@ -236,13 +243,7 @@ module _ (room : RoomState) (region : ℕ) (sorted : List Row) (bytes : List ℕ
           record {
             stands = record {
               legal = old.stands.legal;
-              counts = record {
-                places = old.stands.counts.places;
-                epochs = old.stands.counts.epochs;
-                sealed = old.stands.counts.sealed;
-                open_epoch = old.stands.counts.open_epoch;
-                eyes = old.stands.counts.eyes;
-              };
+              counts = still_counted room e history old.stands.counts;
               live = record { rows = live.rows; are_rows = live.are_rows; agrees = live.agrees; no_longer = live.no_longer };
               images = record { every_image = every; now_sealed = λ image is. shown_inside image (now_since (clock_of a) b image run.later is) };
             };

@@ -6,7 +6,7 @@ use Rattle.fine_model.specs.declared.law.OpenedEye.{OpenedEye}
 use Rattle.fine_model.specs.Boards.{naming_of, posted, set_of}
 use Rattle.fine_model.specs.declared.Part.{Part}
 use Rattle.fine_model.specs.Chain.{regions_of}
-use Rattle.fine_model.specs.Jobs.{job_left}
+use Rattle.fine_model.specs.Jobs.{KeepsJob, job_left}
 use Rattle.fine_model.proofs.Goings.{job_itself}
 use Rattle.partition_hold.proofs.Sets.{none_passes}
 use Rattle.fine_model.proofs.Lists.{all_take}
@@ -16,6 +16,7 @@ use Rattle.log_disk.specs.declared.refusal.DiskRefusal.{DiskRefusal}
 use Rattle.log_disk.specs.declared.refusal.DiskRefusal.TheVariants as refusal
 use Rattle.epoch_room.specs.Closing.{ClosesGates, LeavesClosing, ReadsButGates}
 use Rattle.epoch_room.specs.Erasing.{Erases, ErasesLed, ErasesOr, erased_state, led_by, left_state, without}
+use Rattle.epoch_room.specs.Meaning.{Keeps}
 use Rattle.epoch_room.specs.Steps.{Does, Shuts}
 use Rattle.epoch_room.specs.declared.answers.EraseFault.{EraseFault}
 use Rattle.epoch_room.specs.declared.answers.EraseFault.TheVariants as erase_fault
@@ -110,29 +111,36 @@ module _ (old entry : Disk) (kept : Kept) (whole : IsWhole (value_of old entry k
       low zero none = absurd (none refl)
       low (suc n) none = omega arith
 
+  -- what is so whether the disk failed or not
+  led : (kept' : Kept) → ((IsErrOf result refusal.Failed → ⊥) → begun ≢ [] → Does (erased_state (value_of old entry kept).room begun) kept.target (value_of old entry kept) (value_of new entry kept'))
+      → (IsErrOf result refusal.Failed → Shuts (left_state (value_of old entry kept).room begun) kept.target led_regions (value_of old entry kept) (value_of new entry kept'))
+      → Keeps (value_of old entry kept) (value_of new entry kept') → KeepsJob (value_of old entry kept).room (value_of new entry kept').room → ErasesLed leads (value_of old entry kept) (value_of new entry kept') result
+  led kept' does shuts keeps job = record {
+    begun = begun;
+    more = drop k leads;
+    are = both_parts k leads;
+    all = λ e. back_none k leads (subst (λ (r : Answer). OnOk r (k ≡ length leads)) e closes.gates.all);
+    some = λ f. some_begun;
+    wanted = λ m. back_some k leads (closes.gates.more m);
+    none = λ e. absurd (some_begun e);
+    synced = λ n ne. closes.synced n long_enough;
+    does = does;
+    unsynced = closes.unsynced;
+    shuts = shuts;
+    read = closes.gates.touches.read;
+    leaves = closes.gates.touches.leaves;
+    beside = closes.gates.touches.beside;
+    keeps = keeps;
+    job = job;
+  }
+
   module _ (fine : IsErrOf result refusal.Failed → ⊥) where
     pub whole_fine : IsWhole (value_of new entry fine_kept)
     whole_fine = erased_whole old entry kept whole open_room begun are_begun unnamed_begun new closes.gates.touches some_begun (IsErrOf result refusal.Failed) closes.gates.counts (closes.synced fine long_enough) (closes.gates.closed fine)
 
     pub led_fine : ErasesLed leads (value_of old entry kept) (value_of new entry fine_kept) result
-    led_fine = record {
-      begun = begun;
-      more = drop k leads;
-      are = both_parts k leads;
-      all = λ e. back_none k leads (subst (λ (r : Answer). OnOk r (k ≡ length leads)) e closes.gates.all);
-      some = λ f. absurd (fine f);
-      wanted = λ m. back_some k leads (closes.gates.more m);
-      none = λ e. absurd (some_begun e);
-      synced = λ n ne. closes.synced fine long_enough;
-      does = λ n ne. does _ _ open_room refl refl refl closes.gates.touches.beside closes.gates.touches.time closes.gates.counts fine;
-      unsynced = λ f. absurd (fine f);
-      shuts = λ f. absurd (fine f);
-      read = closes.gates.touches.read;
-      leaves = closes.gates.touches.leaves;
-      beside = closes.gates.touches.beside;
-      keeps = erased_keeps old entry kept whole open_room begun are_begun unnamed_begun new closes.gates.touches some_begun (IsErrOf result refusal.Failed) closes.gates.counts (set_of (kept.free ++ led_regions)) kept.lost kept.is_shut (λ h. absurd (true≢false (sym h ∙ open_room)));
-      job = erased_job old entry kept whole open_room begun are_begun unnamed_begun new closes.gates.touches some_begun (IsErrOf result refusal.Failed) closes.gates.counts (set_of (kept.free ++ led_regions)) kept.lost kept.is_shut;
-    }
+    led_fine = led fine_kept (λ n ne. does _ _ open_room refl refl refl closes.gates.touches.beside closes.gates.touches.time closes.gates.counts fine) (λ f. absurd (fine f)) (erased_keeps old entry kept whole open_room begun are_begun unnamed_begun new closes.gates.touches some_begun (IsErrOf result refusal.Failed) closes.gates.counts (set_of (kept.free ++ led_regions)) kept.lost kept.is_shut (λ h. absurd (true≢false (sym h ∙ open_room))))
+        (erased_job old entry kept whole open_room begun are_begun unnamed_begun new closes.gates.touches some_begun (IsErrOf result refusal.Failed) closes.gates.counts (set_of (kept.free ++ led_regions)) kept.lost kept.is_shut)
 
   module _ (f : IsErrOf result refusal.Failed) where
     risen : HasRisen old.own_faults new.own_faults × HasRisen old.faults new.faults
@@ -144,24 +152,8 @@ module _ (old entry : Disk) (kept : Kept) (whole : IsWhole (value_of old entry k
         (lost_some old entry kept whole open_room begun are_begun unnamed_begun new closes.gates.touches some_begun (IsErrOf result refusal.Failed) closes.gates.counts)
 
     pub led_failed : ErasesLed leads (value_of old entry kept) (value_of new entry shut_kept) result
-    led_failed = record {
-      begun = begun;
-      more = drop k leads;
-      are = both_parts k leads;
-      all = λ e. back_none k leads (subst (λ (r : Answer). OnOk r (k ≡ length leads)) e closes.gates.all);
-      some = λ h. some_begun;
-      wanted = λ m. back_some k leads (closes.gates.more m);
-      none = λ e. absurd (some_begun e);
-      synced = λ n ne. absurd (n f);
-      does = λ n ne. absurd (n f);
-      unsynced = closes.unsynced;
-      read = closes.gates.touches.read;
-      leaves = closes.gates.touches.leaves;
-      beside = closes.gates.touches.beside;
-      shuts = λ h. shuts _ _ open_room (ap (λ lost. on (record (left_state (value_of old entry kept).room begun) { is_shut = true; lost = lost }) new) (lost_now old entry kept whole open_room begun are_begun unnamed_begun new closes.gates.touches some_begun (IsErrOf result refusal.Failed) closes.gates.counts)) refl refl closes.gates.touches.beside closes.gates.touches.time closes.gates.counts f;
-      keeps = erased_keeps old entry kept whole open_room begun are_begun unnamed_begun new closes.gates.touches some_begun (IsErrOf result refusal.Failed) closes.gates.counts kept.free (set_of (kept.lost ++ led_regions)) true (λ h. risen);
-      job = erased_job old entry kept whole open_room begun are_begun unnamed_begun new closes.gates.touches some_begun (IsErrOf result refusal.Failed) closes.gates.counts kept.free (set_of (kept.lost ++ led_regions)) true;
-    }
+    led_failed = led shut_kept (λ n ne. absurd (n f)) (λ h. shuts _ _ open_room (ap (λ lost. on (record (left_state (value_of old entry kept).room begun) { is_shut = true; lost = lost }) new) (lost_now old entry kept whole open_room begun are_begun unnamed_begun new closes.gates.touches some_begun (IsErrOf result refusal.Failed) closes.gates.counts)) refl refl closes.gates.touches.beside closes.gates.touches.time closes.gates.counts f) (erased_keeps old entry kept whole open_room begun are_begun unnamed_begun new closes.gates.touches some_begun (IsErrOf result refusal.Failed) closes.gates.counts kept.free (set_of (kept.lost ++ led_regions)) true (λ h. risen))
+        (erased_job old entry kept whole open_room begun are_begun unnamed_begun new closes.gates.touches some_begun (IsErrOf result refusal.Failed) closes.gates.counts kept.free (set_of (kept.lost ++ led_regions)) true)
 
 -- ---- sets of a room
 

@@ -52,6 +52,7 @@ pub mod Standing
 pub mod Clear
 pub mod Stuck
 pub mod Taken
+pub mod Telling
 pub mod Torn
 pub mod Touching
 pub mod UnsealedJobs

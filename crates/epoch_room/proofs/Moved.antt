@@ -1,7 +1,7 @@
 -- What of a room stays as its disk goes on: its open epoch, and what is told of each step.
-use Rattle.std.proofs.Common.{◌≡◌, ℕ, ◌+◌, ◌≤◌, true, false, true≢false, [], Some, None, sym, ◌∙◌, inr, arith}
+use Rattle.std.proofs.Common.{◌≡◌, ℕ, ◌+◌, ◌≤◌, true, false, true≢false, [], Some, None, refl, sym, ◌∙◌, inl, inr, arith}
 use Rattle.std.specs.Prelude.{Option, is_some, option_map}
-use Rattle.fine_model.specs.Becomes.{Becomes, IsStuck, StaysStuck}
+use Rattle.fine_model.specs.Becomes.{Becomes, IsStuck, StaysShut, StaysStuck}
 use Rattle.fine_model.specs.RowBytes.{greatest}
 use Rattle.fine_model.specs.declared.law.RoomState.{RoomState}
 use Rattle.log_disk.specs.Disk.{CountsOwn, Disk, HasRisen, SameBeside, Told}
@@ -46,3 +46,8 @@ becomes_open old new kept kept' same lower told open_room sealed places risen st
   shut_by = λ h. inr (risen h);
   stuck = stuck;
 }
+
+-- the disk was not called
+pub becomes_still : (room state : RoomState) → room.sealed ≤ state.sealed → room.places ≤ state.places → let new : RoomState = record state { region_len = room.region_len; regions = room.regions; image = room.image; faults = room.faults; own_faults = room.own_faults; is_shut = room.is_shut } in
+    (room.is_shut ≡ true → StaysShut room new) → (IsStuck room → StaysStuck room new) → Becomes room new
+becomes_still room state sealed places shut stuck = record { region_len = refl; regions = refl; told = refl; sealed = sealed; places = places; faults = omega arith; own_faults = omega arith; shut = shut; shut_by = λ h. inl h; stuck = stuck }

@@ -22,7 +22,7 @@ use Rattle.epoch_room.specs.Meaning.{Keeps}
 use Rattle.epoch_room.specs.Returns.{TakesBack}
 use Rattle.epoch_room.specs.Value.{Kept, value_of}
 use Rattle.epoch_room.specs.Whole.{AreOnBoard, IsWhole, NamesWhole}
-use Rattle.epoch_room.proofs.Seating.{SameBytes, boarded, boarded_job, boarded_keeps, boarded_whole}
+use Rattle.epoch_room.proofs.Seating.{SameBytes, boarded, boarded_job, boarded_keeps, boarded_whole, bytes_stay}
 
 -- ---- what a filter leaves of two lists of the same elements
 
@@ -210,13 +210,7 @@ module _ (old new entry : Disk) (kept : Kept) (whole : IsWhole (value_of old ent
 
   module _ (closes : Closes view.eye old new) where
     same : SameBytes old new
-    same = record {
-      regions = closes.others.0;
-      region_len = closes.others.1;
-      told = closes.told;
-      unsynced = closes.others.2;
-      no_lower = (closes.no_lower, let f = closes.others.3 in omega (arith, f));
-    }
+    same = bytes_stay old new closes.others.0 closes.others.1 closes.others.2 closes.told (closes.no_lower, let f = closes.others.3 in omega (arith, f))
 
     sound : IsSound new
     sound = sound_closes closes whole.sound

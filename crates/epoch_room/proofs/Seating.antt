@@ -47,6 +47,9 @@ pub record SameBytes (old new : Disk) : Type 0 where
   pub unsynced : new.unsynced ≡ old.unsynced
   pub no_lower : (old.faults ≤ new.faults) × (old.own_faults ≤ new.own_faults)
 
+pub bytes_stay : (old new : Disk) → new.regions ≡ old.regions → new.region_len ≡ old.region_len → new.unsynced ≡ old.unsynced → new.told ≡ old.told → (old.faults ≤ new.faults) × (old.own_faults ≤ new.own_faults) → SameBytes old new
+bytes_stay old new regions region_len unsynced told lower = record { regions = regions; region_len = region_len; told = told; unsynced = unsynced; no_lower = lower }
+
 abbrev pub boarded : Kept → List Buffer → Bool → Kept
 boarded kept board shut = record kept { board = board; is_shut = shut }
 

@@ -1,5 +1,5 @@
 -- A room with another merge out, and other regions free; its disk was not called.
-use Rattle.std.proofs.Common.{◌≡◌, ℕ, List, Some, None, refl, inl, arith}
+use Rattle.std.proofs.Common.{◌≡◌, ℕ, List, Some, None, refl, arith}
 use Rattle.std.specs.Prelude.{Option, IfSome}
 use Rattle.fine_model.specs.declared.Job.{Job}
 use Rattle.fine_model.specs.declared.Row.{Row}
@@ -12,7 +12,7 @@ use Rattle.epoch_room.specs.MergeSteps.{with_job}
 use Rattle.epoch_room.specs.Value.{RoomValue, regions_outside, taken}
 use Rattle.epoch_room.specs.Whole.{AreApart, IsJob, IsWhole}
 use Rattle.epoch_room.proofs.Behind.{inside_none}
-use Rattle.epoch_room.proofs.Moved.{epoch_stays}
+use Rattle.epoch_room.proofs.Moved.{becomes_still, epoch_stays}
 
 module _ (value : RoomValue) (whole : IsWhole value) (job : Option Job) (free : List ℕ) where
   spare_told : (before told : Told) (first : List Row) (e : ℕ) (history : List Commit) → StandsTold value.room before told first e history → StandsTold (with_job value job free).room before told first e history
@@ -39,34 +39,25 @@ module _ (value : RoomValue) (whole : IsWhole value) (job : Option Job) (free : 
       on' (Some a) (Some b) s = spare_told a b first e history s
 
   spare_becomes : Becomes value.room (with_job value job free).room
-  spare_becomes = record {
-    region_len = refl;
-    regions = refl;
-    told = refl;
-    sealed = omega arith;
-    places = omega arith;
-    faults = omega arith;
-    own_faults = omega arith;
-    shut = λ h. record { shut = h; image = refl; parts = refl; sealed = refl; places = refl };
-    shut_by = λ h. inl h;
-    stuck = λ s. record {
-      stuck = record {
-        image = s.image;
-        told = s.told;
-        is_chain = s.is_chain;
-        rows = s.rows;
-        are_rows = s.are_rows;
-        none_waits = s.none_waits;
-        none_retired = s.none_retired;
-        few_free = s.few_free;
-        all_live = s.all_live;
-        no_merge = s.no_merge;
-      };
-      parts = refl;
-      sealed = refl;
-      places = refl;
-    };
-  }
+  spare_becomes =
+      becomes_still value.room (with_job value job free).room (omega arith) (omega arith) (λ h. record { shut = h; image = refl; parts = refl; sealed = refl; places = refl })
+      (λ s. record {
+        stuck = record {
+          image = s.image;
+          told = s.told;
+          is_chain = s.is_chain;
+          rows = s.rows;
+          are_rows = s.are_rows;
+          none_waits = s.none_waits;
+          none_retired = s.none_retired;
+          few_free = s.few_free;
+          all_live = s.all_live;
+          no_merge = s.no_merge;
+        };
+        parts = refl;
+        sealed = refl;
+        places = refl;
+      })
 
   pub spare_keeps : Keeps value (with_job value job free)
   unfolding Stands

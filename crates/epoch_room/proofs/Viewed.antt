@@ -32,7 +32,7 @@ use Rattle.epoch_room.specs.declared.answers.RoomFault.TheVariants as room_fault
 use Rattle.epoch_room.proofs.Behind.{keeps_none}
 use Rattle.epoch_room.proofs.Beside.{regions_together}
 use Rattle.epoch_room.proofs.Counting.{all_back, all_front}
-use Rattle.epoch_room.proofs.Seating.{SameBytes, boarded, boarded_job, boarded_keeps, boarded_whole}
+use Rattle.epoch_room.proofs.Seating.{SameBytes, boarded, boarded_job, boarded_keeps, boarded_whole, bytes_stay}
 use Rattle.epoch_room.proofs.Taken.{apart_back}
 use Rattle.epoch_room.proofs.Viewing.{SplitsAt, all_parts, empty_is, given_more, names_all, new_number, one_more, splits_at}
 use Rattle.epoch_room.proofs.Moved.{shuts}
@@ -72,13 +72,7 @@ module _ (old new entry : Disk) (kept : Kept) (whole : IsWhole (value_of old ent
   eyes_of disk = map (λ eye. (eye.number, eye.regions)) disk.eyes
 
   same : SameBytes old new
-  same = record {
-    regions = opens.others.0;
-    region_len = opens.others.1;
-    told = opens.told;
-    unsynced = opens.others.2;
-    no_lower = (let f = opens.others.3 in omega (arith, f), let f = opens.others.4 in omega (arith, f));
-  }
+  same = bytes_stay old new opens.others.0 opens.others.1 opens.others.2 opens.told (let f = opens.others.3 in omega (arith, f), let f = opens.others.4 in omega (arith, f))
 
   sound : IsSound new
   sound = sound_opens opens whole.sound

@@ -13,7 +13,7 @@ use Rattle.epoch_room.specs.Whole.{IsWhole}
 use Rattle.epoch_room.specs.declared.answers.AdoptFault.TheVariants as adopt_fault
 use Rattle.epoch_room.specs.declared.answers.RoomFault.TheVariants as room_fault
 use Rattle.epoch_room.proofs.Adopted.{adoption_memory, adoption_none, adoption_ok, adoption_shut, whole_memory, whole_ok, whole_shut}
-use Rattle.epoch_room.proofs.AdoptedParts.{CanAdopt, back, cost_small, least, none_lost, part_has, part_made, part_place, part_small}
+use Rattle.epoch_room.proofs.AdoptedParts.{CanAdopt, back, cost_small, least, none_lost, part_added, part_made, part_place}
 use Rattle.epoch_room.proofs.Behind.{does_none, is_failed, is_no_memory, not_failed_ok, popped}
 use Rattle.epoch_room.proofs.LongBodies.{is_err_then, not_err}
 use Rattle.epoch_room.proofs.Inside.{Ends, ends, kept_in, room_in}
@@ -95,10 +95,13 @@ part_over-part-requires-clause-small g c =
     omega (arith, s)
 
 pub add_part-requires : goal.add_part-requires
-add_part-requires g c =
-    let can = can g (goal.at.add_part-requires g c).Else-len-from in
-    let own = part_made _ _ _ _ _ _ can c.part_over-part.result c.part_over-part.ensures.part in
-    record { has = part_has _ _ _ _ _ _ can _ own; small = part_small _ _ _ _ _ _ can _ own }
+add_part-requires g c = let adds = part_added _ _ _ _ _ _ (can g (goal.at.add_part-requires g c).Else-len-from) c.part_over-part.result c.part_over-part.ensures.part in record { has = adds.0; small = adds.1 }
+
+pub add_part-requires-in-Failed : goal.add_part-requires-in-Failed
+add_part-requires-in-Failed g c = let adds = part_added _ _ _ _ _ _ (can g (goal.at.add_part-requires-in-Failed g c).Else-len-from) c.part_over-part.result c.part_over-part.ensures.part in record { has = adds.0; small = adds.1 }
+
+pub add_part-requires-in-NoMemory : goal.add_part-requires-in-NoMemory
+add_part-requires-in-NoMemory g c = let adds = part_added _ _ _ _ _ _ (can g (goal.at.add_part-requires-in-NoMemory g c).Else-len-from) c.part_over-part.result c.part_over-part.ensures.part in record { has = adds.0; small = adds.1 }
 
 -- no memory to keep the part: its regions are free again
 none_kept : (g : Over) (c : goal.After-add_part g) → Ends (λ v w. Adoption c.args.range c.args.rows.now v w (Err (adopt_fault.Room room_fault.NoMemory))) c.args.self.now (room_in g.D.LogDisk.state (record c.self.inside { parts = c.push.new.self; free = c.add_part.new.set }))
@@ -151,24 +154,16 @@ invariant_of-self-in-Ok g c = let run = c.seal_rows.ensures in ((taken_in g c).0
 pub returns-in-Ok : goal.returns-in-Ok
 returns-in-Ok g c = (taken_in g c).1
 
-pub add_part-requires-in-Failed : goal.add_part-requires-in-Failed
-add_part-requires-in-Failed g c =
-    let can = can g (goal.at.add_part-requires-in-Failed g c).Else-len-from in
-    let own = part_made _ _ _ _ _ _ can c.part_over-part.result c.part_over-part.ensures.part in
-    record { has = part_has _ _ _ _ _ _ can _ own; small = part_small _ _ _ _ _ _ can _ own }
-
 -- the disk failed: its regions are lost
 lost : (g : Over) (c : goal.After-self-in-Failed-1 g) → Ends (λ v w. Adoption c.args.range c.args.rows.now v w (Err (adopt_fault.Room room_fault.Disk))) c.args.self.now (room_in g.D.LogDisk.state (record c.self.inside { disk = c.seal_rows.new.disk; parts = c.truncate.new.self; free = c.part_over-part.new.free; lost = c.add_part-in-Failed.new.set; is_shut = true }))
 lost g c =
     let can = can g (goal.at.returns-in-Failed g c).Else-len-from in
     let own = part_made _ _ _ _ _ _ can c.part_over-part.result c.part_over-part.ensures.part in
-    let run = c.seal_rows.ensures in
-    let cut = cut g (goal.at.returns-in-Failed g c).After-truncate in
     let lost : c.add_part-in-Failed.new.set ≡ set_of (take c.in-Some.regions c.self.inside.free) = c.add_part-in-Failed.ensures ∙ (λ i. set_of (none_lost _ _ _ _ _ _ can i ++ own.regions_is i)) in
     let failed : IsErrOf c.seal_rows.result DiskRefusal.Failed = is_failed c.seal_rows.result c.in-Err.refusal c.in-Err.is c.in-Failed.is in
     ends (λ v w. Adoption c.args.range c.args.rows.now v w (Err (adopt_fault.Room room_fault.Disk))) c.self.view_is
-    (λ i. room_in g.D.LogDisk.state (record c.self.inside { disk = c.seal_rows.new.disk; parts = cut i; free = c.part_over-part.ensures.free i; lost = lost i; is_shut = true }))
-    (whole_shut _ _ _ _ _ _ _ can _ own _ run failed, adoption_shut _ _ _ _ _ _ _ can _ own _ run failed)
+    (λ i. room_in g.D.LogDisk.state (record c.self.inside { disk = c.seal_rows.new.disk; parts = cut g (goal.at.returns-in-Failed g c).After-truncate i; free = c.part_over-part.ensures.free i; lost = lost i; is_shut = true }))
+    (whole_shut _ _ _ _ _ _ _ can _ own _ c.seal_rows.ensures failed, adoption_shut _ _ _ _ _ _ _ can _ own _ c.seal_rows.ensures failed)
 
 pub invariant_of-self-in-Failed : goal.invariant_of-self-in-Failed
 invariant_of-self-in-Failed g c = let run = c.seal_rows.ensures in ((lost g c).0, omega (arith, run.beside.region_len, c.self.invariant.1), c.self.invariant.2)
@@ -176,24 +171,16 @@ invariant_of-self-in-Failed g c = let run = c.seal_rows.ensures in ((lost g c).0
 pub returns-in-Failed : goal.returns-in-Failed
 returns-in-Failed g c = (lost g c).1
 
-pub add_part-requires-in-NoMemory : goal.add_part-requires-in-NoMemory
-add_part-requires-in-NoMemory g c =
-    let can = can g (goal.at.add_part-requires-in-NoMemory g c).Else-len-from in
-    let own = part_made _ _ _ _ _ _ can c.part_over-part.result c.part_over-part.ensures.part in
-    record { has = part_has _ _ _ _ _ _ can _ own; small = part_small _ _ _ _ _ _ can _ own }
-
 -- no memory to seal it: its regions are free again
 given_back : (g : Over) (c : goal.After-add_part-in-NoMemory g) → Ends (λ v w. Adoption c.args.range c.args.rows.now v w (Err (adopt_fault.Room room_fault.NoMemory))) c.args.self.now (room_in g.D.LogDisk.state (record c.self.inside { disk = c.seal_rows.new.disk; parts = c.truncate.new.self; free = c.add_part-in-NoMemory.new.set }))
 given_back g c =
     let can = can g (goal.at.returns-in-NoMemory g c).Else-len-from in
     let own = part_made _ _ _ _ _ _ can c.part_over-part.result c.part_over-part.ensures.part in
-    let run = c.seal_rows.ensures in
-    let cut = cut g (goal.at.returns-in-NoMemory g c).After-truncate in
     let freed : c.add_part-in-NoMemory.new.set ≡ c.self.inside.free = c.add_part-in-NoMemory.ensures ∙ (λ i. set_of (c.part_over-part.ensures.free i ++ own.regions_is i)) ∙ back _ _ _ _ _ _ can in
     let none : IsErrOf c.seal_rows.result DiskRefusal.NoMemory = is_no_memory c.seal_rows.result c.in-Err.refusal c.in-Err.is c.in-NoMemory.is in
     ends (λ v w. Adoption c.args.range c.args.rows.now v w (Err (adopt_fault.Room room_fault.NoMemory))) c.self.view_is
-    (λ i. room_in g.D.LogDisk.state (record c.self.inside { disk = c.seal_rows.new.disk; parts = cut i; free = freed i }))
-    (whole_memory _ _ _ _ _ _ _ can _ own _ run none, adoption_memory _ _ _ _ _ _ _ can _ own _ run none)
+    (λ i. room_in g.D.LogDisk.state (record c.self.inside { disk = c.seal_rows.new.disk; parts = cut g (goal.at.returns-in-NoMemory g c).After-truncate i; free = freed i }))
+    (whole_memory _ _ _ _ _ _ _ can _ own _ c.seal_rows.ensures none, adoption_memory _ _ _ _ _ _ _ can _ own _ c.seal_rows.ensures none)
 
 pub invariant_of-self-in-NoMemory : goal.invariant_of-self-in-NoMemory
 invariant_of-self-in-NoMemory g c = let run = c.seal_rows.ensures in ((given_back g c).0, omega (arith, run.beside.region_len, c.self.invariant.1), c.self.invariant.2)

@@ -16,7 +16,7 @@ use Rattle.fine_model.specs.Chain.{regions_of}
 use Rattle.fine_model.specs.Regions.{Image, body_in, body_start, place_of, body_len}
 use Rattle.fine_model.proofs.Nothing.{all_at}
 use Rattle.fine_model.proofs.Order.{all_map}
-use Rattle.log_disk.specs.Disk.{Disk, Told, BothTold, HasGoneOn, HasRisen, IsImageNow, IsSound, IsToldOf, IsUnseen, OpenEye, SameOutside, Writes, clock_of, region_of, span_of, unsynced_too, with_bytes}
+use Rattle.log_disk.specs.Disk.{Disk, Told, BothTold, HasGoneOn, IsImageNow, IsSound, IsToldOf, IsUnseen, OpenEye, SameOutside, Writes, clock_of, region_of, span_of, unsynced_too, with_bytes}
 use Rattle.log_disk.specs.Moments.{ContinuesOn, LeavesOnly}
 use Rattle.log_disk.specs.declared.refusal.DiskRefusal.{DiskRefusal}
 use Rattle.log_disk.specs.declared.refusal.DiskRefusal.TheVariants as refusal
@@ -24,7 +24,7 @@ use Rattle.log_disk.proofs.Calls.{left_write}
 use Rattle.log_disk.proofs.Moments.{leaves_more, leaves_none, leaves_then, leaves_weaker, now_since}
 use Rattle.log_disk.proofs.Sound.{sound_write}
 use Rattle.log_disk.proofs.Steps.{both_same, both_then, both_weaker}
-use Rattle.log_disk.proofs.Times.{continues_none, continues_then, continues_write}
+use Rattle.log_disk.proofs.Times.{continues_none, continues_write}
 use Rattle.partition_index.specs.Parts.{LiesIn}
 use Rattle.partition_index.specs.Placing.{HasBody, HasRoomFor}
 use Rattle.partition_index.proofs.BodyPlaces.{body_long, high_place, low_place, place_more}
@@ -33,7 +33,7 @@ use Rattle.epoch_room.specs.BodyWrites.{HasPlace, KeepsFront, WritesBody, lying_
 use Rattle.epoch_room.specs.Gate.{DirtiesOnly, IsBehind, LeavesBehind, ReadsBehind}
 use Rattle.epoch_room.proofs.Freeing.{nat_alike}
 use Rattle.epoch_room.proofs.Gates.{behind}
-use Rattle.epoch_room.proofs.Touching.{dirties_more, dirties_none, dirties_then, first_is, own_region}
+use Rattle.epoch_room.proofs.Touching.{dirties_more, dirties_none, first_is, own_region, touches_then, touches_wider}
 use Rattle.epoch_room.proofs.Telling.{both_told}
 
 -- ---- images that differ behind the gates of regions
@@ -157,11 +157,13 @@ module _ (p : Part) (at : ℕ) (bytes : List ℕ) (old : Disk) (place : HasPlace
       → Writes (place_of old.region_len p.region p.header at).region (place_of old.region_len p.region p.header at).at bytes (IsErrOf result refusal.Failed) old new
       → (IsErrOf result refusal.NoMemory → ⊥) → WritesBody ((place_of old.region_len p.region p.header at).region ∷ []) p at bytes result old new
   piece_begun fits new result w begun = record {
-    beside = w.beside;
-    counts = w.counts;
-    sound = sound_write w place.sound;
-    time = continues_write w;
-    dirties = dirties_more (at_region ∷ []) old new at_region (first_is at_region) w.unsynced;
+    touches = record {
+      beside = w.beside;
+      counts = w.counts;
+      sound = sound_write w place.sound;
+      time = continues_write w;
+      dirties = dirties_more (at_region ∷ []) old new at_region (first_is at_region) w.unsynced;
+    };
     read = reads_write (at_region ∷ []) at_region at_byte bytes old new (own_region at_region) low w;
     leaves = leaves_behind_write (at_region ∷ []) at_region at_byte bytes old new (own_region at_region) low w;
     done = ok result refl;
@@ -176,16 +178,18 @@ module _ (p : Part) (at : ℕ) (bytes : List ℕ) (old : Disk) (place : HasPlace
 -- nothing was written
 pub piece_none : (regions : List ℕ) (p : Part) (at : ℕ) (bytes : List ℕ) (old new : Disk) (result : Result (Unit {0}) DiskRefusal) → IsSound old → 1 ≤ length bytes → new ≡ old → IsErrOf result refusal.NoMemory → WritesBody regions p at bytes result old new
 piece_none regions p at bytes old new result sound some same none = record {
-  beside = record { regions = ap (λ (d : Disk). d.regions) same; region_len = ap (λ (d : Disk). d.region_len) same; eyes = ap (λ (d : Disk). d.eyes) same; given = ap (λ (d : Disk). d.given) same };
-  counts = record {
-    faults = λ f. absurd (not_both f);
-    own_faults = λ f. absurd (not_both f);
-    no_lower = (let e : new.faults ≡ old.faults = ap (λ (d : Disk). d.faults) same in omega (arith, e), let e : new.own_faults ≡ old.own_faults = ap (λ (d : Disk). d.own_faults) same in omega (arith, e));
-    else_same = λ f. (ap (λ (d : Disk). d.faults) same, ap (λ (d : Disk). d.own_faults) same);
+  touches = record {
+    beside = record { regions = ap (λ (d : Disk). d.regions) same; region_len = ap (λ (d : Disk). d.region_len) same; eyes = ap (λ (d : Disk). d.eyes) same; given = ap (λ (d : Disk). d.given) same };
+    counts = record {
+      faults = λ f. absurd (not_both f);
+      own_faults = λ f. absurd (not_both f);
+      no_lower = (let e : new.faults ≡ old.faults = ap (λ (d : Disk). d.faults) same in omega (arith, e), let e : new.own_faults ≡ old.own_faults = ap (λ (d : Disk). d.own_faults) same in omega (arith, e));
+      else_same = λ f. (ap (λ (d : Disk). d.faults) same, ap (λ (d : Disk). d.own_faults) same);
+    };
+    sound = subst IsSound (sym same) sound;
+    time = subst (ContinuesOn old) (sym same) (continues_none old);
+    dirties = dirties_none regions old new (ap (λ (d : Disk). d.unsynced) same);
   };
-  sound = subst IsSound (sym same) sound;
-  time = subst (ContinuesOn old) (sym same) (continues_none old);
-  dirties = dirties_none regions old new (ap (λ (d : Disk). d.unsynced) same);
   read = reads_none regions old new (ap (λ (d : Disk). d.told) same);
   leaves = leaves_behind_none regions old new (ap (λ (d : Disk). d.told) same);
   done = ok result none;
@@ -242,11 +246,13 @@ piece_of p at bytes old place some within fits new result region from r f begun 
 
 pub body_none : (regions : List ℕ) (p : Part) (at : ℕ) (bytes : List ℕ) (old : Disk) → IsSound old → length bytes ≡ 0 → WritesBody regions p at bytes (Ok tt) old old
 body_none regions p at bytes old sound none = record {
-  beside = record { regions = refl; region_len = refl; eyes = refl; given = refl };
-  counts = record { faults = λ f. absurd (bad f); own_faults = λ f. absurd (bad f); no_lower = (omega arith, omega arith); else_same = λ f. (refl, refl) };
-  sound = sound;
-  time = continues_none old;
-  dirties = dirties_none regions old old refl;
+  touches = record {
+    beside = record { regions = refl; region_len = refl; eyes = refl; given = refl };
+    counts = record { faults = λ f. absurd (bad f); own_faults = λ f. absurd (bad f); no_lower = (omega arith, omega arith); else_same = λ f. (refl, refl) };
+    sound = sound;
+    time = continues_none old;
+    dirties = dirties_none regions old old refl;
+  };
   read = reads_none regions old old refl;
   leaves = leaves_behind_none regions old old refl;
   done = both_same (λ a b. HasBody p at bytes a.bytes b.bytes) same old.told old.told refl;
@@ -292,11 +298,7 @@ dirties_among region regions there old new dirties k d h = elim (dirties k d h) 
 pub body_among : {result : Result (Unit {0}) DiskRefusal} (region : ℕ) (regions : List ℕ) → list_any (nat_eq region) regions ≡ true → (p : Part) (at : ℕ) (bytes : List ℕ) (old new : Disk)
     → WritesBody (region ∷ []) p at bytes result old new → WritesBody regions p at bytes result old new
 body_among region regions there p at bytes old new w = record {
-  beside = w.beside;
-  counts = w.counts;
-  sound = w.sound;
-  time = w.time;
-  dirties = dirties_among region regions there old new w.dirties;
+  touches = touches_wider w.touches (dirties_among region regions there old new w.dirties);
   read = differs_among region regions there old new w.read;
   leaves = leaves_among region regions there old new w.leaves;
   done = w.done;
@@ -366,21 +368,7 @@ module _ (regions : List ℕ) (p : Part) (at : ℕ) (front back : List ℕ) (old
 
   pub pieces : (result : Result (Unit {0}) DiskRefusal) {u : Unit {0}} → WritesBody regions p at front (Ok u) old mid → WritesBody regions p (at + length front) back result mid new → WritesBody regions p at (front ++ back) result old new
   pieces result {u} first second = record {
-    beside = record {
-      regions = second.beside.regions ∙ first.beside.regions;
-      region_len = second.beside.region_len ∙ first.beside.region_len;
-      eyes = second.beside.eyes ∙ first.beside.eyes;
-      given = second.beside.given ∙ first.beside.given;
-    };
-    counts = record {
-      faults = λ f. subst (λ n. HasRisen n new.faults) still.0 (second.counts.faults f);
-      own_faults = λ f. subst (λ n. HasRisen n new.own_faults) still.1 (second.counts.own_faults f);
-      no_lower = (let a = second.counts.no_lower.0 in let b = still.0 in omega (arith, a, b), let a = second.counts.no_lower.1 in let b = still.1 in omega (arith, a, b));
-      else_same = λ f. ((second.counts.else_same f).0 ∙ still.0, (second.counts.else_same f).1 ∙ still.1);
-    };
-    sound = second.sound;
-    time = continues_then old mid new first.time second.time;
-    dirties = dirties_then regions old mid new first.dirties second.dirties;
+    touches = touches_then first.touches second.touches (λ f. let h : ◌≡◌ {A = Result (Unit {0}) DiskRefusal} (Ok u) (Err refusal.Failed) = f in cc);
     read = reads_then regions old mid new first.read second.read;
     leaves = leaves_behind_then regions old mid new first.leaves second.leaves;
     done = ok result second.done;
@@ -388,9 +376,6 @@ module _ (regions : List ℕ) (p : Part) (at : ℕ) (front back : List ℕ) (old
     kept = λ e. both_then (λ a b. IsToldOf old a × HasBody p at front a.bytes b.bytes) (λ a b. take (at + length front) (body_in b.bytes p.region p.header) ≡ take (at + length front) (body_in a.bytes p.region p.header)) (λ a b. take at (body_in b.bytes p.region p.header) ≡ take at (body_in a.bytes p.region p.header)) front_kept old.told mid.told new.told first_told (second.kept e);
   }
     where
-      still : (mid.faults ≡ old.faults) × (mid.own_faults ≡ old.own_faults)
-      still = first.counts.else_same (λ f. let h : ◌≡◌ {A = Result (Unit {0}) DiskRefusal} (Ok u) (Err refusal.Failed) = f in cc)
-
       first_told : BothTold (λ a b. IsToldOf old a × HasBody p at front a.bytes b.bytes) old.told mid.told
       first_told = both_told (IsToldOf old) (λ a b. HasBody p at front a.bytes b.bytes) old.told mid.told first.done place.sound.told
 
@@ -450,11 +435,7 @@ next_row region_len lead header at n large end = elim (cases_lt at (region_len -
 
 pub refused_body : (regions : List ℕ) (p : Part) (at : ℕ) (xs ys : List ℕ) (e : DiskRefusal) (old new : Disk) → length xs ≤ length ys → WritesBody regions p at xs (Err e) old new → WritesBody regions p at ys (Err e) old new
 refused_body regions p at xs ys e old new few w = record {
-  beside = w.beside;
-  counts = w.counts;
-  sound = w.sound;
-  time = w.time;
-  dirties = w.dirties;
+  touches = w.touches;
   read = w.read;
   leaves = w.leaves;
   done = tt;

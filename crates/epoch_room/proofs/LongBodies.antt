@@ -24,6 +24,7 @@ use Rattle.epoch_room.specs.RowWrites.{WritesFront, WritesFull, WritesRows}
 use Rattle.epoch_room.specs.Gate.{DirtiesOnly, IsBehind, LeavesBehind, ReadsBehind}
 use Rattle.epoch_room.proofs.BodyPieces.{all_lying, body_none, pieces, refused_body, still_place}
 use Rattle.epoch_room.proofs.Freeing.{nat_alike}
+use Rattle.epoch_room.proofs.Touching.{touches_wider}
 
 -- ---- more regions
 
@@ -57,11 +58,7 @@ module _ (some all : List ℕ) (among : AreAmong some all) where
 
   pub body_among_all : {result : Result (Unit {0}) DiskRefusal} (p : Part) (at : ℕ) (bytes : List ℕ) (old new : Disk) → WritesBody some p at bytes result old new → WritesBody all p at bytes result old new
   body_among_all p at bytes old new w = record {
-    beside = w.beside;
-    counts = w.counts;
-    sound = w.sound;
-    time = w.time;
-    dirties = dirties_among old new w.dirties;
+    touches = touches_wider w.touches (dirties_among old new w.dirties);
     read = reads_among old new w.read;
     leaves = leaves_among old new w.leaves;
     done = w.done;
@@ -134,16 +131,18 @@ module _ (p : Part) (at : ℕ) (bytes : List ℕ) (start now : Disk) (place : Ha
   -- want of memory, before the disk was called again
   pub written_stopped : (e : DiskRefusal) → (e ≡ refusal.Failed → ⊥) → (all : List ℕ) → WritesRows p all (Err e) start now
   written_stopped e fine all = record {
-    beside = w.run.beside;
-    counts = record {
-      faults = λ f. absurd (not_failed f);
-      own_faults = λ f. absurd (not_failed f);
-      no_lower = w.run.counts.no_lower;
-      else_same = λ f. w.run.counts.else_same (λ g. let h : ◌≡◌ {A = Result (Unit {0}) DiskRefusal} (Ok tt) (Err refusal.Failed) = g in cc);
+    touches = record {
+      beside = w.run.beside;
+      counts = record {
+        faults = λ f. absurd (not_failed f);
+        own_faults = λ f. absurd (not_failed f);
+        no_lower = w.run.counts.no_lower;
+        else_same = λ f. w.run.counts.else_same (λ g. let h : ◌≡◌ {A = Result (Unit {0}) DiskRefusal} (Ok tt) (Err refusal.Failed) = g in cc);
+      };
+      sound = w.run.sound;
+      time = w.run.time;
+      dirties = w.run.dirties;
     };
-    sound = w.run.sound;
-    time = w.run.time;
-    dirties = w.run.dirties;
     read = w.run.read;
     leaves = w.run.leaves;
     done = tt;
@@ -157,7 +156,7 @@ module _ (p : Part) (at : ℕ) (bytes : List ℕ) (start now : Disk) (place : Ha
 
 -- all of a body was to be written
 pub as_rows : {result : Result (Unit {0}) DiskRefusal} (p : Part) (bytes : List ℕ) (old new : Disk) → WritesBody (regions_of p) p 0 bytes result old new → WritesRows p bytes result old new
-as_rows p bytes old new w = record { beside = w.beside; counts = w.counts; sound = w.sound; time = w.time; dirties = w.dirties; read = w.read; leaves = w.leaves; done = w.done }
+as_rows p bytes old new w = record { touches = w.touches; read = w.read; leaves = w.leaves; done = w.done }
 
 -- ---- blocks
 

@@ -1,5 +1,5 @@
 -- Rows are written behind closed gates, and then the lead is sealed.
-use Rattle.std.proofs.Common.{◌≡◌, ℕ, ◌+◌, ◌<◌, ◌≤◌, ◌||◌, Bool, true, false, List, [], ◌∷◌, length, drop, Some, None, Ok, Err, Result, refl, sym, ap, subst, ◌∙◌, inl, inr, arith, eq-eqb, length-append}
+use Rattle.std.proofs.Common.{◌≡◌, ℕ, ◌+◌, ◌<◌, ◌≤◌, ◌||◌, Bool, true, false, List, [], ◌∷◌, length, drop, Some, None, Ok, Err, Result, refl, sym, ap, subst, inl, inr, arith, eq-eqb, length-append}
 use Rattle.std.specs.Prelude.{Option, IfSome, IsErrOf, OnOk, nat_eq}
 use Rattle.std.specs.List.{list_any}
 use Rattle.fine_model.specs.declared.Part.{Part}
@@ -9,13 +9,12 @@ use Rattle.fine_model.specs.ChainLaws.{DiffersBehind}
 use Rattle.fine_model.specs.Regions.{Image, body_bytes, body_in, body_len, continuations, header_bytes, index_bytes, region_of}
 use Rattle.fine_model.specs.RowBytes.{rows_bytes}
 use Rattle.fine_model.proofs.Grammar.{rows_long}
-use Rattle.log_disk.specs.Disk.{BothTold, CountsOwn, Disk, HasRisen, IsSound, IsToldOf, SameBeside, SameOutside, Told, clock_of, with_bytes}
+use Rattle.log_disk.specs.Disk.{BothTold, CountsOwn, Disk, IsSound, IsToldOf, SameBeside, SameOutside, Told, clock_of, with_bytes}
 use Rattle.log_disk.specs.Moments.{ContinuesOn, LeavesOnly}
 use Rattle.log_disk.specs.declared.refusal.DiskRefusal.{DiskRefusal}
 use Rattle.log_disk.specs.declared.refusal.DiskRefusal.TheVariants as refusal
 use Rattle.log_disk.proofs.Moments.{leaves_then, leaves_weaker, now_since}
 use Rattle.log_disk.proofs.Steps.{both_then, both_weaker}
-use Rattle.log_disk.proofs.Times.{continues_then}
 use Rattle.log_disk.proofs.Writes.{same_outside_written}
 use Rattle.log_partition.proofs.Indexed.{index_long}
 use Rattle.partition_index.specs.Placing.{HasBody}
@@ -28,7 +27,7 @@ use Rattle.epoch_room.proofs.BodyPieces.{differs_then, leaves_behind_then, reads
 use Rattle.epoch_room.proofs.Gates.{behind}
 use Rattle.epoch_room.proofs.LongBodies.{AreAmong, differs_among, dirties_among, leaves_among, reads_among}
 use Rattle.epoch_room.proofs.MergedHeaders.{header_long}
-use Rattle.epoch_room.proofs.Touching.{beside_then, dirties_then}
+use Rattle.epoch_room.proofs.Touching.{beside_then, touches_then}
 
 -- the body of rows is as long as a header that counts them tells
 pub body_counted : (p : Part) (rows : List Row) → AreCounted p.header rows → length (body_bytes rows) ≡ body_len p.header
@@ -48,11 +47,7 @@ reads_beside regions old new read =
 -- the body was not all written
 pub seals_refused : (p : Part) (rows : List Row) (e : DiskRefusal) (old new : Disk) → WritesRows p (body_bytes rows) (Err e) old new → SealsRows p rows (Err e) old new
 seals_refused p rows e old new w = record {
-  beside = w.beside;
-  counts = w.counts;
-  sound = w.sound;
-  time = w.time;
-  dirties = w.dirties;
+  touches = w.touches;
   read = reads_beside (regions_of p) old new w.read;
   leaves =
       both_weaker (λ a b. LeavesOnly (IsBehind (regions_of p) a) a b) (λ a b. LeavesOnly (IsSealingRows old.region_len p rows a) a b)
@@ -74,9 +69,6 @@ module _ (p : Part) (rows : List Row) (old mid new : Disk) (place : HasPlace old
 
   lead_among : AreAmong (p.region ∷ []) rs
   lead_among = (ap (λ b. b || list_any (nat_eq p.region) (continuations p.header)) (eq-eqb p.region p.region refl), tt)
-
-  still : (mid.faults ≡ old.faults) × (mid.own_faults ≡ old.own_faults)
-  still = w.counts.else_same (λ f. let h : ◌≡◌ {A = Result (Unit {0}) DiskRefusal} (Ok u) (Err refusal.Failed) = f in cc)
 
   body_at : (a b : Told) → HasBody p 0 (body_bytes rows) a.bytes b.bytes → HasBodyOf p rows a.bytes b.bytes
   body_at a b is = record { differs = is.differs; rest = drop (0 + length (body_bytes rows)) (body_in a.bytes p.region p.header); body = is.body }
@@ -132,21 +124,7 @@ module _ (p : Part) (rows : List Row) (old mid new : Disk) (place : HasPlace old
 
     pub seals_then : SealsRows p rows result old new
     seals_then = record {
-      beside = record {
-        regions = same.regions ∙ w.beside.regions;
-        region_len = same.region_len ∙ w.beside.region_len;
-        eyes = same.eyes ∙ w.beside.eyes;
-        given = same.given ∙ w.beside.given;
-      };
-      counts = record {
-        faults = λ f. subst (λ n. HasRisen n new.faults) still.0 (counts.faults f);
-        own_faults = λ f. subst (λ n. HasRisen n new.own_faults) still.1 (counts.own_faults f);
-        no_lower = (let a = counts.no_lower.0 in let b = still.0 in omega (arith, a, b), let a = counts.no_lower.1 in let b = still.1 in omega (arith, a, b));
-        else_same = λ f. ((counts.else_same f).0 ∙ still.0, (counts.else_same f).1 ∙ still.1);
-      };
-      sound = sound;
-      time = continues_then old mid new w.time time;
-      dirties = dirties_then rs old mid new w.dirties (dirties_among (p.region ∷ []) rs lead_among mid new dirties);
+      touches = touches_then w.touches (record { beside = same; counts = counts; sound = sound; time = time; dirties = dirties_among (p.region ∷ []) rs lead_among mid new dirties }) (λ f. let h : ◌≡◌ {A = Result (Unit {0}) DiskRefusal} (Ok u) (Err refusal.Failed) = f in cc);
       read = beside_then rs old mid new (reads_beside rs old mid w.read) read_more;
       leaves =
           both_then (λ x y. HasBody p 0 (body_bytes rows) x.bytes y.bytes × LeavesOnly (IsBehind rs x) x y) (λ x y. LeavesOnly (IsSealing p.region header x) x y) (λ x y. LeavesOnly (IsSealingRows old.region_len p rows x) x y) one

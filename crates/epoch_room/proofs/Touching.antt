@@ -3,13 +3,13 @@ use Rattle.std.proofs.Common.{◌≡◌, ◌≢◌, ◌⊎◌, ℕ, zero, suc, �
 use Rattle.std.specs.Prelude.{nat_eq, All, Contains, ◌||◌}
 use Rattle.std.specs.List.{list_any}
 use Rattle.std.proofs.lemmas.List.Elements.{All-append, All-contains, All-contains_itself}
-use Rattle.log_disk.specs.Disk.{Told, Disk, HasSynced, SameOutside, region_of, Writes, Syncs}
+use Rattle.log_disk.specs.Disk.{Disk, HasRisen, HasSynced, SameOutside, Syncs, Told, Writes, region_of}
 use Rattle.log_disk.proofs.Steps.{both_same, both_weaker, both_then}
 use Rattle.log_disk.specs.Moments.{ContinuesOn}
 use Rattle.log_disk.specs.declared.refusal.DiskRefusal.{DiskRefusal}
 use Rattle.log_disk.specs.declared.refusal.DiskRefusal.TheVariants as refusal
-use Rattle.log_disk.proofs.Times.{continues_told, continues_write}
-use Rattle.epoch_room.specs.Gate.{DirtiesOnly, KeepsBeside}
+use Rattle.log_disk.proofs.Times.{continues_then, continues_told, continues_write}
+use Rattle.epoch_room.specs.Gate.{DirtiesOnly, KeepsBeside, TouchesOnly}
 use Rattle.epoch_room.proofs.Gates.{by_refusal}
 
 -- ---- what a read gives
@@ -92,3 +92,30 @@ module _ (region at : ℕ) (bytes : List ℕ) (old new : Disk) {failed : Type 0}
 
 pub refused_synced : (old new : Disk) → new ≡ old → old.unsynced ≡ [] → new.unsynced ≡ []
 refused_synced old new same synced = ap (λ (d : Disk). d.unsynced) same ∙ synced
+
+-- ---- of two calls, and among more regions
+
+pub touches_wider : {some all : List ℕ} {failed : Type 0} {old new : Disk} → TouchesOnly some failed old new → DirtiesOnly all old new → TouchesOnly all failed old new
+touches_wider t dirties = record { beside = t.beside; counts = t.counts; sound = t.sound; time = t.time; dirties = dirties }
+
+pub touches_then : {regions : List ℕ} {failed failed' : Type 0} {old mid new : Disk} → TouchesOnly regions failed old mid → TouchesOnly regions failed' mid new → (failed → ⊥) → TouchesOnly regions failed' old new
+touches_then {regions} {failed} {failed'} {old} {mid} {new} first second fine = record {
+  beside = record {
+    regions = second.beside.regions ∙ first.beside.regions;
+    region_len = second.beside.region_len ∙ first.beside.region_len;
+    eyes = second.beside.eyes ∙ first.beside.eyes;
+    given = second.beside.given ∙ first.beside.given;
+  };
+  counts = record {
+    faults = λ f. subst (λ n. HasRisen n new.faults) still.0 (second.counts.faults f);
+    own_faults = λ f. subst (λ n. HasRisen n new.own_faults) still.1 (second.counts.own_faults f);
+    no_lower = (let a = second.counts.no_lower.0 in let b = still.0 in omega (arith, a, b), let a = second.counts.no_lower.1 in let b = still.1 in omega (arith, a, b));
+    else_same = λ f. ((second.counts.else_same f).0 ∙ still.0, (second.counts.else_same f).1 ∙ still.1);
+  };
+  sound = second.sound;
+  time = continues_then old mid new first.time second.time;
+  dirties = dirties_then regions old mid new first.dirties second.dirties;
+}
+  where
+    still : (mid.faults ≡ old.faults) × (mid.own_faults ≡ old.own_faults)
+    still = first.counts.else_same fine

@@ -6,13 +6,12 @@ use Rattle.fine_model.specs.declared.Part.{Part}
 use Rattle.fine_model.specs.Trees.{is_distinct}
 use Rattle.fine_model.specs.Regions.{body_in, place_of}
 use Rattle.fine_model.specs.Chain.{regions_of}
-use Rattle.log_disk.specs.Disk.{Disk, BothTold, CountsOwn, IsSound, IsUnseen, SameBeside}
-use Rattle.log_disk.specs.Moments.{ContinuesOn}
+use Rattle.log_disk.specs.Disk.{Disk, BothTold, IsSound, IsUnseen}
 use Rattle.log_disk.specs.declared.refusal.DiskRefusal.{DiskRefusal}
 use Rattle.log_disk.specs.declared.refusal.DiskRefusal.TheVariants as refusal
 use Rattle.partition_index.specs.Parts.{LiesIn}
 use Rattle.partition_index.specs.Placing.{HasBody}
-use Rattle.epoch_room.specs.Gate.{DirtiesOnly, LeavesBehind, ReadsBehind}
+use Rattle.epoch_room.specs.Gate.{LeavesBehind, ReadsBehind, TouchesOnly}
 
 -- the regions of a part are of a disk, each once, and no open eye names one of them
 pub record HasPlace (disk : Disk) (p : Part) : Type 0 where
@@ -36,11 +35,8 @@ KeepsFront p at old new = BothTold (λ a b. take at (body_in b.bytes p.region p.
 -- of these regions. Without bytes nothing is refused. The bytes before the offset stay where memory ran out; then some of the bytes may be
 -- written.
 pub record WritesBody (regions : List ℕ) (p : Part) (at : ℕ) (bytes : List ℕ) (result : Result (Unit {0}) DiskRefusal) (old new : Disk) : Type 0 where
-  pub beside : SameBeside old new
-  pub counts : CountsOwn (IsErrOf result refusal.Failed) old new
-  pub sound : IsSound new
-  pub time : ContinuesOn old new
-  pub dirties : DirtiesOnly regions old new
+  pub touches : TouchesOnly regions (IsErrOf result refusal.Failed) old new
+  pub open touches use *
   pub read : ReadsBehind regions old new
   pub leaves : LeavesBehind regions old new
   pub done : OnOk result (BothTold (λ a b. HasBody p at bytes a.bytes b.bytes) old.told new.told)

@@ -10,13 +10,13 @@ use Rattle.fine_model.specs.ChainLaws.{DiffersBehind}
 use Rattle.fine_model.specs.Merge.{is_ordered, nodes_in}
 use Rattle.fine_model.specs.Regions.{body_bytes, body_in, header_bytes}
 use Rattle.fine_model.specs.RowBytes.{FitsRow, rows_len}
-use Rattle.log_disk.specs.Disk.{BothTold, CountsOwn, Disk, Image, IsSound, SameBeside, SameOutside, Told, with_bytes}
-use Rattle.log_disk.specs.Moments.{ContinuesOn, LeavesOnly}
+use Rattle.log_disk.specs.Disk.{BothTold, Disk, Image, SameOutside, Told, with_bytes}
+use Rattle.log_disk.specs.Moments.{LeavesOnly}
 use Rattle.log_disk.specs.declared.refusal.DiskRefusal.{DiskRefusal}
 use Rattle.log_disk.specs.declared.refusal.DiskRefusal.TheVariants as refusal
 use Rattle.partition_index.specs.Placing.{HasBody}
 use Rattle.epoch_room.specs.BodyWrites.{WritesBody}
-use Rattle.epoch_room.specs.Gate.{gate, DirtiesOnly, IsBehind, KeepsBeside, LeavesBehind, ReadsBehind}
+use Rattle.epoch_room.specs.Gate.{IsBehind, KeepsBeside, LeavesBehind, ReadsBehind, TouchesOnly, gate}
 
 -- rows in order, which a header counts
 pub record AreCounted (header : Header) (own : List Row) : Type 0 where
@@ -28,11 +28,8 @@ pub record AreCounted (header : Header) (own : List Row) : Type 0 where
 
 -- What writing all bytes of a part's body does. Whatever it answers, it touches no region but the part's, behind the gates that were there.
 pub record WritesRows (p : Part) (bytes : List ℕ) (result : Result (Unit {0}) DiskRefusal) (old new : Disk) : Type 0 where
-  pub beside : SameBeside old new
-  pub counts : CountsOwn (IsErrOf result refusal.Failed) old new
-  pub sound : IsSound new
-  pub time : ContinuesOn old new
-  pub dirties : DirtiesOnly (regions_of p) old new
+  pub touches : TouchesOnly (regions_of p) (IsErrOf result refusal.Failed) old new
+  pub open touches use *
   pub read : ReadsBehind (regions_of p) old new
   pub leaves : LeavesBehind (regions_of p) old new
   pub done : OnOk result (BothTold (λ a b. HasBody p 0 bytes a.bytes b.bytes) old.told new.told)
@@ -73,11 +70,8 @@ pub record HasPart (region_len : ℕ) (p : Part) (rows : List Row) (before after
 
 -- Whatever it answers, it touches no region but the part's. After want of memory nothing differs but behind the gates that were there.
 pub record SealsRows (p : Part) (rows : List Row) (result : Result (Unit {0}) DiskRefusal) (old new : Disk) : Type 0 where
-  pub beside : SameBeside old new
-  pub counts : CountsOwn (IsErrOf result refusal.Failed) old new
-  pub sound : IsSound new
-  pub time : ContinuesOn old new
-  pub dirties : DirtiesOnly (regions_of p) old new
+  pub touches : TouchesOnly (regions_of p) (IsErrOf result refusal.Failed) old new
+  pub open touches use *
   pub read : KeepsBeside (regions_of p) old new
   pub leaves : BothTold (λ a b. LeavesOnly (IsSealingRows old.region_len p rows a) a b) old.told new.told
   pub synced : OnOk result (new.unsynced ≡ [])

@@ -5,9 +5,8 @@
 
 ghost use Rattle.std.specs.Prelude.{◌+◌, ◌≡◌, ◌<◌, ◌≤◌, [], ◌∷◌, length, OnOk, IsErrOf};
 ghost use Rattle.fine_model.specs.Regions.{body_start};
-ghost use Rattle.log_disk.specs.Disk.{IsSound, IsUnseen, SameBeside, CountsOwn, with_bytes};
-ghost use Rattle.log_disk.specs.Moments.{ContinuesOn};
-ghost use Rattle.epoch_room.specs.Gate.{LeavesBehind, LeavesNow, LeavesOpening, LeavesSealing, HasBytes, DirtiesOnly, KeepsBeside, IsUngated, gate};
+ghost use Rattle.log_disk.specs.Disk.{IsSound, IsUnseen, with_bytes};
+ghost use Rattle.epoch_room.specs.Gate.{LeavesBehind, LeavesNow, LeavesOpening, LeavesSealing, HasBytes, KeepsBeside, IsUngated, TouchesOnly, gate};
 
 use fine_model::format::SEALED_GATE;
 use fine_model::{Mark, body_start};
@@ -29,11 +28,7 @@ pub fn open_gate<D: LogDisk>(disk: &mut D, lead: u32) -> Result<(), DiskRefusal>
     requires there { lead < (D.state disk.old).regions }
     requires long { 1 ≤ (D.state disk.old).region_len }
     requires unseen { IsUnseen (D.state disk.old) lead }
-    ensures beside { SameBeside (D.state disk.old) (D.state disk.new) }
-    ensures counts { CountsOwn (IsErrOf result DiskRefusal.Failed) (D.state disk.old) (D.state disk.new) }
-    ensures sound { IsSound (D.state disk.new) }
-    ensures time { ContinuesOn (D.state disk.old) (D.state disk.new) }
-    ensures dirties { DirtiesOnly (lead ∷ []) (D.state disk.old) (D.state disk.new) }
+    ensures touches { TouchesOnly (lead ∷ []) (IsErrOf result DiskRefusal.Failed) (D.state disk.old) (D.state disk.new) }
     ensures read { KeepsBeside (lead ∷ []) (D.state disk.old) (D.state disk.new) }
     ensures leaves { LeavesOpening lead (D.state disk.old) (D.state disk.new) }
     ensures synced { OnOk result ((D.state disk.new).unsynced ≡ []) }
@@ -57,11 +52,7 @@ pub fn seal_region<D: LogDisk>(disk: &mut D, lead: u32, bytes: &[u8]) -> Result<
     requires there { lead < (D.state disk.old).regions }
     requires within { 1 + length bytes.now ≤ (D.state disk.old).region_len }
     requires unseen { IsUnseen (D.state disk.old) lead }
-    ensures beside { SameBeside (D.state disk.old) (D.state disk.new) }
-    ensures counts { CountsOwn (IsErrOf result DiskRefusal.Failed) (D.state disk.old) (D.state disk.new) }
-    ensures sound { IsSound (D.state disk.new) }
-    ensures time { ContinuesOn (D.state disk.old) (D.state disk.new) }
-    ensures dirties { DirtiesOnly (lead ∷ []) (D.state disk.old) (D.state disk.new) }
+    ensures touches { TouchesOnly (lead ∷ []) (IsErrOf result DiskRefusal.Failed) (D.state disk.old) (D.state disk.new) }
     ensures read { KeepsBeside (lead ∷ []) (D.state disk.old) (D.state disk.new) }
     ensures leaves { LeavesSealing lead bytes.now (D.state disk.old) (D.state disk.new) }
     ensures synced { OnOk result ((D.state disk.new).unsynced ≡ []) }

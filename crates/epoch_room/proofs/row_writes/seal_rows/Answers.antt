@@ -52,7 +52,7 @@ returns g c =
     let cut : take c.header_len.result c.header_bytes-bytes.result ≡ header_bytes old.region_len header =
     header_cut old.region_len header c.header_bytes-bytes.result (padding header.mark) c.header_len.result c.requires.place.lies.listed c.header_len.ensures
     (c.header_bytes-bytes.ensures ∙ ap (λ n. header_bytes n header ++ padding header.mark) (c.region_len.ensures.region_len ∙ same)) in
-    seals_then part c.args.rows.now old mid new c.requires.place w result e.beside e.counts e.sound e.time e.dirties e.read
+    seals_then part c.args.rows.now old mid new c.requires.place w result e.touches.beside e.touches.counts e.touches.sound e.touches.time e.touches.dirties e.read
     (subst (λ xs. LeavesSealing part.region xs mid new) cut e.leaves) e.synced
     (subst (λ xs. OnOk result (HasBytes (λ image. with_bytes (with_bytes image part.region 1 xs) part.region 0 gate) mid new)) cut e.bytes)
     (subst (λ xs. IsErrOf result DiskRefusal.NoMemory → IsUngated part.region xs mid new) cut e.no_memory) e.untouched

@@ -1,4 +1,4 @@
-use Rattle.std.proofs.Common.{◌≡◌, ◌∷◌, [], ap, ◌∙◌}
+use Rattle.std.proofs.Common.{◌≡◌, ◌∷◌, [], ap, ◌∙◌, rules}
 use Rattle.std.proofs.lemmas.Result.{err_from_is_err_and}
 use Rattle.log_disk.specs.Disk.{Disk}
 use Rattle.log_disk.proofs.Sound.{sound_failure, sound_write, sound_sync}
@@ -12,8 +12,14 @@ pub write-requires-clause-unseen : goal.write-requires-clause-unseen
 write-requires-clause-unseen g c = still_unseen c.args.lead (g.D.LogDisk.state c.args.disk.now) (g.D.LogDisk.state c.sync.new.self) c.in_ok-sync.ensures.ok.beside.eyes c.requires.unseen
 
 -- the first sync failed
-pub returns-in_err-sync-clause-dirties : goal.returns-in_err-sync-clause-dirties
-returns-in_err-sync-clause-dirties g c = dirties_none (c.args.lead ∷ []) (g.D.LogDisk.state c.args.disk.now) (g.D.LogDisk.state c.sync.new.self) c.in_err-sync.ensures.err.unsynced
+pub returns-in_err-sync-clause-touches : goal.returns-in_err-sync-clause-touches
+returns-in_err-sync-clause-touches g c = record {
+  beside = search rules;
+  counts = search rules;
+  sound = search rules;
+  time = search rules;
+  dirties = dirties_none (c.args.lead ∷ []) (g.D.LogDisk.state c.args.disk.now) (g.D.LogDisk.state c.sync.new.self) c.in_err-sync.ensures.err.unsynced;
+}
 
 pub returns-in_err-sync-clause-read : goal.returns-in_err-sync-clause-read
 returns-in_err-sync-clause-read g c = beside_told (c.args.lead ∷ []) (g.D.LogDisk.state c.args.disk.now) (g.D.LogDisk.state c.sync.new.self) c.in_err-sync.ensures.err.told
@@ -22,21 +28,18 @@ pub returns-in_err-sync-clause-leaves : goal.returns-in_err-sync-clause-leaves
 returns-in_err-sync-clause-leaves g c = opening_none c.args.lead (g.D.LogDisk.state c.args.disk.now) (g.D.LogDisk.state c.sync.new.self) c.in_err-sync.ensures.err.told
 
 -- the write was refused
-pub returns-in_err-write-clause-sound : goal.returns-in_err-write-clause-sound
-returns-in_err-write-clause-sound g c =
-    still_sound c.args.lead 0 gate (g.D.LogDisk.state c.sync.new.self) (g.D.LogDisk.state c.write.new.self) c.in_err-write.field-0.0 c.in_err-write.ensures.begun c.in_err-write.ensures.no_memory
-    (sound_sync c.in_ok-sync.ensures.ok c.requires.sound)
-
-pub returns-in_err-write-clause-time : goal.returns-in_err-write-clause-time
-returns-in_err-write-clause-time g c =
-    continues_then (g.D.LogDisk.state c.args.disk.now) (g.D.LogDisk.state c.sync.new.self) (g.D.LogDisk.state c.write.new.self) (continues_sync c.in_ok-sync.ensures.ok)
-    (refused_time c.args.lead 0 gate (g.D.LogDisk.state c.sync.new.self) (g.D.LogDisk.state c.write.new.self) c.in_err-write.field-0.0 c.in_err-write.ensures.begun c.in_err-write.ensures.no_memory)
-
-pub returns-in_err-write-clause-dirties : goal.returns-in_err-write-clause-dirties
-returns-in_err-write-clause-dirties g c =
-    by_refusal c.args.lead 0 gate (g.D.LogDisk.state c.sync.new.self) (g.D.LogDisk.state c.write.new.self) (DirtiesOnly (c.args.lead ∷ []) (g.D.LogDisk.state c.args.disk.now) (g.D.LogDisk.state c.write.new.self)) c.in_err-write.field-0.0 c.in_err-write.ensures.begun c.in_err-write.ensures.no_memory
-    (λ w. dirties_anew (c.args.lead ∷ []) (g.D.LogDisk.state c.args.disk.now) (g.D.LogDisk.state c.sync.new.self) (g.D.LogDisk.state c.write.new.self) c.args.lead (first_is c.args.lead) c.in_ok-sync.ensures.ok.unsynced w.unsynced)
-    (λ same. dirties_synced (c.args.lead ∷ []) (g.D.LogDisk.state c.args.disk.now) (g.D.LogDisk.state c.write.new.self) (refused_synced (g.D.LogDisk.state c.sync.new.self) (g.D.LogDisk.state c.write.new.self) same c.in_ok-sync.ensures.ok.unsynced))
+pub returns-in_err-write-clause-touches : goal.returns-in_err-write-clause-touches
+returns-in_err-write-clause-touches g c = record {
+  beside = search rules;
+  counts = search rules;
+  sound = still_sound c.args.lead 0 gate (g.D.LogDisk.state c.sync.new.self) (g.D.LogDisk.state c.write.new.self) c.in_err-write.field-0.0 c.in_err-write.ensures.begun c.in_err-write.ensures.no_memory
+      (sound_sync c.in_ok-sync.ensures.ok c.requires.sound);
+  time = continues_then (g.D.LogDisk.state c.args.disk.now) (g.D.LogDisk.state c.sync.new.self) (g.D.LogDisk.state c.write.new.self) (continues_sync c.in_ok-sync.ensures.ok)
+      (refused_time c.args.lead 0 gate (g.D.LogDisk.state c.sync.new.self) (g.D.LogDisk.state c.write.new.self) c.in_err-write.field-0.0 c.in_err-write.ensures.begun c.in_err-write.ensures.no_memory);
+  dirties = by_refusal c.args.lead 0 gate (g.D.LogDisk.state c.sync.new.self) (g.D.LogDisk.state c.write.new.self) (DirtiesOnly (c.args.lead ∷ []) (g.D.LogDisk.state c.args.disk.now) (g.D.LogDisk.state c.write.new.self)) c.in_err-write.field-0.0 c.in_err-write.ensures.begun c.in_err-write.ensures.no_memory
+      (λ w. dirties_anew (c.args.lead ∷ []) (g.D.LogDisk.state c.args.disk.now) (g.D.LogDisk.state c.sync.new.self) (g.D.LogDisk.state c.write.new.self) c.args.lead (first_is c.args.lead) c.in_ok-sync.ensures.ok.unsynced w.unsynced)
+      (λ same. dirties_synced (c.args.lead ∷ []) (g.D.LogDisk.state c.args.disk.now) (g.D.LogDisk.state c.write.new.self) (refused_synced (g.D.LogDisk.state c.sync.new.self) (g.D.LogDisk.state c.write.new.self) same c.in_ok-sync.ensures.ok.unsynced));
+}
 
 pub returns-in_err-write-clause-read : goal.returns-in_err-write-clause-read
 returns-in_err-write-clause-read g c =
@@ -60,21 +63,18 @@ returns-in_err-write-clause-untouched g c = λ e.
     (now_synced (g.D.LogDisk.state c.args.disk.now) (g.D.LogDisk.state c.sync.new.self) c.requires.sound c.in_ok-sync.ensures.ok)
 
 -- the second sync failed
-pub returns-in_err-sync-2-clause-sound : goal.returns-in_err-sync-2-clause-sound
-returns-in_err-sync-2-clause-sound g c =
-    sound_failure c.in_err-sync-2.ensures.err
-    (sound_write (c.in_ok-write.ensures.begun (λ e. cc)) (sound_sync c.in_ok-sync.ensures.ok c.requires.sound))
-
-pub returns-in_err-sync-2-clause-time : goal.returns-in_err-sync-2-clause-time
-returns-in_err-sync-2-clause-time g c =
-    continues_then (g.D.LogDisk.state c.args.disk.now) (g.D.LogDisk.state c.sync.new.self) (g.D.LogDisk.state c.sync-2.new.self) (continues_sync c.in_ok-sync.ensures.ok)
-    (continues_then (g.D.LogDisk.state c.sync.new.self) (g.D.LogDisk.state c.write.new.self) (g.D.LogDisk.state c.sync-2.new.self) (continues_write (c.in_ok-write.ensures.begun (λ e. cc)))
-    (continues_told (g.D.LogDisk.state c.write.new.self) (g.D.LogDisk.state c.sync-2.new.self) c.in_err-sync-2.ensures.err.told))
-
-pub returns-in_err-sync-2-clause-dirties : goal.returns-in_err-sync-2-clause-dirties
-returns-in_err-sync-2-clause-dirties g c =
-    dirties_anew (c.args.lead ∷ []) (g.D.LogDisk.state c.args.disk.now) (g.D.LogDisk.state c.sync.new.self) (g.D.LogDisk.state c.sync-2.new.self) c.args.lead (first_is c.args.lead) c.in_ok-sync.ensures.ok.unsynced
-    (c.in_err-sync-2.ensures.err.unsynced ∙ (c.in_ok-write.ensures.begun (λ e. cc)).unsynced)
+pub returns-in_err-sync-2-clause-touches : goal.returns-in_err-sync-2-clause-touches
+returns-in_err-sync-2-clause-touches g c = record {
+  beside = search rules;
+  counts = search rules;
+  sound = sound_failure c.in_err-sync-2.ensures.err
+      (sound_write (c.in_ok-write.ensures.begun (λ e. cc)) (sound_sync c.in_ok-sync.ensures.ok c.requires.sound));
+  time = continues_then (g.D.LogDisk.state c.args.disk.now) (g.D.LogDisk.state c.sync.new.self) (g.D.LogDisk.state c.sync-2.new.self) (continues_sync c.in_ok-sync.ensures.ok)
+      (continues_then (g.D.LogDisk.state c.sync.new.self) (g.D.LogDisk.state c.write.new.self) (g.D.LogDisk.state c.sync-2.new.self) (continues_write (c.in_ok-write.ensures.begun (λ e. cc)))
+      (continues_told (g.D.LogDisk.state c.write.new.self) (g.D.LogDisk.state c.sync-2.new.self) c.in_err-sync-2.ensures.err.told));
+  dirties = dirties_anew (c.args.lead ∷ []) (g.D.LogDisk.state c.args.disk.now) (g.D.LogDisk.state c.sync.new.self) (g.D.LogDisk.state c.sync-2.new.self) c.args.lead (first_is c.args.lead) c.in_ok-sync.ensures.ok.unsynced
+      (c.in_err-sync-2.ensures.err.unsynced ∙ (c.in_ok-write.ensures.begun (λ e. cc)).unsynced);
+}
 
 pub returns-in_err-sync-2-clause-read : goal.returns-in_err-sync-2-clause-read
 returns-in_err-sync-2-clause-read g c =
@@ -88,11 +88,16 @@ returns-in_err-sync-2-clause-leaves g c =
     (opening_begun c.args.lead (g.D.LogDisk.state c.args.disk.now) (g.D.LogDisk.state c.sync.new.self) c.requires.sound c.in_ok-sync.ensures.ok (g.D.LogDisk.state c.write.new.self) (c.in_ok-write.ensures.begun (λ e. cc)))
 
 -- the gate is open
-pub returns-clause-time : goal.returns-clause-time
-returns-clause-time g c =
-    continues_then (g.D.LogDisk.state c.args.disk.now) (g.D.LogDisk.state c.sync.new.self) (g.D.LogDisk.state c.sync-2.new.self) (continues_sync c.in_ok-sync.ensures.ok)
-    (continues_then (g.D.LogDisk.state c.sync.new.self) (g.D.LogDisk.state c.write.new.self) (g.D.LogDisk.state c.sync-2.new.self) (continues_write (c.in_ok-write.ensures.begun (λ e. cc)))
-    (continues_sync c.in_ok-sync-2.ensures.ok))
+pub returns-clause-touches : goal.returns-clause-touches
+returns-clause-touches g c = record {
+  beside = search rules;
+  counts = search rules;
+  sound = search rules;
+  time = continues_then (g.D.LogDisk.state c.args.disk.now) (g.D.LogDisk.state c.sync.new.self) (g.D.LogDisk.state c.sync-2.new.self) (continues_sync c.in_ok-sync.ensures.ok)
+      (continues_then (g.D.LogDisk.state c.sync.new.self) (g.D.LogDisk.state c.write.new.self) (g.D.LogDisk.state c.sync-2.new.self) (continues_write (c.in_ok-write.ensures.begun (λ e. cc)))
+      (continues_sync c.in_ok-sync-2.ensures.ok));
+  dirties = dirties_synced (c.args.lead ∷ []) (g.D.LogDisk.state c.args.disk.now) (g.D.LogDisk.state c.sync-2.new.self) c.in_ok-sync-2.ensures.ok.unsynced;
+}
 
 pub returns-clause-read : goal.returns-clause-read
 returns-clause-read g c =
@@ -104,6 +109,3 @@ pub returns-clause-leaves : goal.returns-clause-leaves
 returns-clause-leaves g c =
     opening_done c.args.lead (g.D.LogDisk.state c.args.disk.now) (g.D.LogDisk.state c.sync.new.self) c.requires.sound c.in_ok-sync.ensures.ok (g.D.LogDisk.state c.write.new.self) (g.D.LogDisk.state c.sync-2.new.self)
     (c.in_ok-write.ensures.begun (λ e. cc)) (sound_write (c.in_ok-write.ensures.begun (λ e. cc)) (sound_sync c.in_ok-sync.ensures.ok c.requires.sound)) c.in_ok-sync-2.ensures.ok
-
-pub returns-clause-dirties : goal.returns-clause-dirties
-returns-clause-dirties g c = dirties_synced (c.args.lead ∷ []) (g.D.LogDisk.state c.args.disk.now) (g.D.LogDisk.state c.sync-2.new.self) c.in_ok-sync-2.ensures.ok.unsynced

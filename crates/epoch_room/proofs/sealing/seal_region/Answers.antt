@@ -1,4 +1,4 @@
-use Rattle.std.proofs.Common.{◌≡◌, ◌∷◌, [], ap, inl, inr}
+use Rattle.std.proofs.Common.{◌≡◌, ◌∷◌, [], ap, inl, inr, rules}
 use Rattle.std.proofs.lemmas.Result.{err_from_is_err_and}
 use Rattle.log_disk.specs.Disk.{Disk}
 use Rattle.log_disk.proofs.Sound.{sound_write}
@@ -9,18 +9,15 @@ use Rattle.epoch_room.proofs.Touching.{dirties_more, dirties_then, first_is, ref
 use Rattle.epoch_room.proofs.sealing.seal_region.Goals as goal
 
 -- the write was refused
-pub returns-in_err-write-clause-sound : goal.returns-in_err-write-clause-sound
-returns-in_err-write-clause-sound g c =
-    still_sound c.args.lead 1 c.args.bytes.now (g.D.LogDisk.state c.args.disk.now) (g.D.LogDisk.state c.write.new.self) c.in_err-write.field-0.0 c.in_err-write.ensures.begun c.in_err-write.ensures.no_memory
-    c.requires.sound
-
-pub returns-in_err-write-clause-time : goal.returns-in_err-write-clause-time
-returns-in_err-write-clause-time g c =
-    refused_time c.args.lead 1 c.args.bytes.now (g.D.LogDisk.state c.args.disk.now) (g.D.LogDisk.state c.write.new.self) c.in_err-write.field-0.0 c.in_err-write.ensures.begun c.in_err-write.ensures.no_memory
-
-pub returns-in_err-write-clause-dirties : goal.returns-in_err-write-clause-dirties
-returns-in_err-write-clause-dirties g c =
-    refused_dirties c.args.lead 1 c.args.bytes.now (g.D.LogDisk.state c.args.disk.now) (g.D.LogDisk.state c.write.new.self) c.in_err-write.field-0.0 c.in_err-write.ensures.begun c.in_err-write.ensures.no_memory
+pub returns-in_err-write-clause-touches : goal.returns-in_err-write-clause-touches
+returns-in_err-write-clause-touches g c = record {
+  beside = search rules;
+  counts = search rules;
+  sound = still_sound c.args.lead 1 c.args.bytes.now (g.D.LogDisk.state c.args.disk.now) (g.D.LogDisk.state c.write.new.self) c.in_err-write.field-0.0 c.in_err-write.ensures.begun c.in_err-write.ensures.no_memory
+      c.requires.sound;
+  time = refused_time c.args.lead 1 c.args.bytes.now (g.D.LogDisk.state c.args.disk.now) (g.D.LogDisk.state c.write.new.self) c.in_err-write.field-0.0 c.in_err-write.ensures.begun c.in_err-write.ensures.no_memory;
+  dirties = refused_dirties c.args.lead 1 c.args.bytes.now (g.D.LogDisk.state c.args.disk.now) (g.D.LogDisk.state c.write.new.self) c.in_err-write.field-0.0 c.in_err-write.ensures.begun c.in_err-write.ensures.no_memory;
+}
 
 pub returns-in_err-write-clause-read : goal.returns-in_err-write-clause-read
 returns-in_err-write-clause-read g c =
@@ -52,14 +49,15 @@ pub open_gate-requires-clause-unseen : goal.open_gate-requires-clause-unseen
 open_gate-requires-clause-unseen g c =
     λ _ _. still_unseen c.args.lead (g.D.LogDisk.state c.args.disk.now) (g.D.LogDisk.state c.write.new.self) (c.in_ok-write.ensures.begun (λ e. cc)).beside.eyes c.requires.unseen
 
-pub returns-clause-time : goal.returns-clause-time
-returns-clause-time g c =
-    continues_then (g.D.LogDisk.state c.args.disk.now) (g.D.LogDisk.state c.write.new.self) (g.D.LogDisk.state c.open_gate.new.disk) (continues_write (c.in_ok-write.ensures.begun (λ e. cc))) c.open_gate.ensures.time
-
-pub returns-clause-dirties : goal.returns-clause-dirties
-returns-clause-dirties g c =
-    dirties_then (c.args.lead ∷ []) (g.D.LogDisk.state c.args.disk.now) (g.D.LogDisk.state c.write.new.self) (g.D.LogDisk.state c.open_gate.new.disk)
-    (dirties_more (c.args.lead ∷ []) (g.D.LogDisk.state c.args.disk.now) (g.D.LogDisk.state c.write.new.self) c.args.lead (first_is c.args.lead) (c.in_ok-write.ensures.begun (λ e. cc)).unsynced) c.open_gate.ensures.dirties
+pub returns-clause-touches : goal.returns-clause-touches
+returns-clause-touches g c = record {
+  beside = search rules;
+  counts = search rules;
+  sound = search rules;
+  time = continues_then (g.D.LogDisk.state c.args.disk.now) (g.D.LogDisk.state c.write.new.self) (g.D.LogDisk.state c.open_gate.new.disk) (continues_write (c.in_ok-write.ensures.begun (λ e. cc))) c.open_gate.ensures.touches.time;
+  dirties = dirties_then (c.args.lead ∷ []) (g.D.LogDisk.state c.args.disk.now) (g.D.LogDisk.state c.write.new.self) (g.D.LogDisk.state c.open_gate.new.disk)
+      (dirties_more (c.args.lead ∷ []) (g.D.LogDisk.state c.args.disk.now) (g.D.LogDisk.state c.write.new.self) c.args.lead (first_is c.args.lead) (c.in_ok-write.ensures.begun (λ e. cc)).unsynced) c.open_gate.ensures.touches.dirties;
+}
 
 pub returns-clause-read : goal.returns-clause-read
 returns-clause-read g c =

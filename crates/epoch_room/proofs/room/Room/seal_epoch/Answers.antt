@@ -83,12 +83,12 @@ sealed g c =
     let pushed : c.push.new.self ≡ c.self.inside.parts ++ own_part (kept_in c.self.inside) c.unwrap_or-region.result ∷ [] = c.in_ok-push.ensures.ok ∙ ap (λ (h : Header). c.self.inside.parts ++ part_of c.unwrap_or-region.result h ∷ []) (part g at).header in
     ends (λ v w. Seals v w (Ok (c.self.inside.sealed + 1))) c.self.view_is
     (λ i. value_of (g.D.LogDisk.state c.seal_region.new.disk) (g.D.LogDisk.state c.self.inside.entry.value) (record (kept_in c.self.inside) { parts = pushed i; target = None; epoch = c.clear.ensures i; sealed = c.self.inside.sealed + 1 }))
-    (whole_ok _ _ (kept_in c.self.inside) c.self.invariant.0 c.if-self.false (waits g at) c.unwrap_or-region.result (target g at) (part g at).sorted c.as_slice.result.now (part g at).is_arranged (part g at).within (spelled g at) _ done.beside done.sound done.time (IsErrOf c.seal_region.result DiskRefusal.Failed) done.counts done.read done.leaves c.in-Ok.ensures.synced c.in-Ok.ensures.bytes most, seals_ok _ _ (kept_in c.self.inside) c.self.invariant.0 c.if-self.false (waits g at) c.unwrap_or-region.result (target g at) (part g at).sorted c.as_slice.result.now (part g at).is_arranged (part g at).within (spelled g at) _ done.beside done.sound done.time (IsErrOf c.seal_region.result DiskRefusal.Failed) done.counts done.read done.leaves c.in-Ok.ensures.synced c.in-Ok.ensures.bytes most (not_failed_ok c.seal_region.result c.in-Ok.is))
+    (whole_ok _ _ (kept_in c.self.inside) c.self.invariant.0 c.if-self.false (waits g at) c.unwrap_or-region.result (target g at) (part g at).sorted c.as_slice.result.now (part g at).is_arranged (part g at).within (spelled g at) _ done.touches.beside done.touches.sound done.touches.time (IsErrOf c.seal_region.result DiskRefusal.Failed) done.touches.counts done.read done.leaves c.in-Ok.ensures.synced c.in-Ok.ensures.bytes most, seals_ok _ _ (kept_in c.self.inside) c.self.invariant.0 c.if-self.false (waits g at) c.unwrap_or-region.result (target g at) (part g at).sorted c.as_slice.result.now (part g at).is_arranged (part g at).within (spelled g at) _ done.touches.beside done.touches.sound done.touches.time (IsErrOf c.seal_region.result DiskRefusal.Failed) done.touches.counts done.read done.leaves c.in-Ok.ensures.synced c.in-Ok.ensures.bytes most (not_failed_ok c.seal_region.result c.in-Ok.is))
 
 pub invariant_of-self-in-Ok : goal.invariant_of-self-in-Ok
 invariant_of-self-in-Ok g c =
     let done = c.seal_region.ensures in
-    ((sealed g c).0, omega (arith, ap (λ (o : Open). o.most) c.clear.ensures, done.beside.region_len, c.self.invariant.1), c.self.invariant.2)
+    ((sealed g c).0, omega (arith, ap (λ (o : Open). o.most) c.clear.ensures, done.touches.beside.region_len, c.self.invariant.1), c.self.invariant.2)
 
 pub returns-in-Ok : goal.returns-in-Ok
 returns-in-Ok g c = (sealed g c).1
@@ -104,12 +104,12 @@ lost g c =
     let failed = is_failed c.seal_region.result c.in-Err.refusal c.in-Err.is c.in-Failed.is in
     ends (λ v w. Seals v w (Err room_fault.Disk)) c.self.view_is
     (λ i. value_of (g.D.LogDisk.state c.seal_region.new.disk) (g.D.LogDisk.state c.self.inside.entry.value) (record (kept_in c.self.inside) { parts = back i; lost = lost i; target = None; is_shut = true }))
-    (whole_shut _ _ (kept_in c.self.inside) c.self.invariant.0 c.if-self.false (waits g at) c.unwrap_or-region.result (target g at) (part g at).sorted c.as_slice.result.now (part g at).is_arranged (part g at).within (spelled g at) _ done.beside done.sound done.time (IsErrOf c.seal_region.result DiskRefusal.Failed) done.counts done.read done.leaves failed, seals_shut _ _ (kept_in c.self.inside) c.self.invariant.0 c.if-self.false (waits g at) c.unwrap_or-region.result (target g at) (part g at).sorted c.as_slice.result.now (part g at).is_arranged (part g at).within (spelled g at) _ done.beside done.sound done.time (IsErrOf c.seal_region.result DiskRefusal.Failed) done.counts done.read done.leaves failed)
+    (whole_shut _ _ (kept_in c.self.inside) c.self.invariant.0 c.if-self.false (waits g at) c.unwrap_or-region.result (target g at) (part g at).sorted c.as_slice.result.now (part g at).is_arranged (part g at).within (spelled g at) _ done.touches.beside done.touches.sound done.touches.time (IsErrOf c.seal_region.result DiskRefusal.Failed) done.touches.counts done.read done.leaves failed, seals_shut _ _ (kept_in c.self.inside) c.self.invariant.0 c.if-self.false (waits g at) c.unwrap_or-region.result (target g at) (part g at).sorted c.as_slice.result.now (part g at).is_arranged (part g at).within (spelled g at) _ done.touches.beside done.touches.sound done.touches.time (IsErrOf c.seal_region.result DiskRefusal.Failed) done.touches.counts done.read done.leaves failed)
 
 pub invariant_of-self-in-Failed : goal.invariant_of-self-in-Failed
 invariant_of-self-in-Failed g c =
     let done = c.seal_region.ensures in
-    ((lost g c).0, omega (arith, done.beside.region_len, c.self.invariant.1), c.self.invariant.2)
+    ((lost g c).0, omega (arith, done.touches.beside.region_len, c.self.invariant.1), c.self.invariant.2)
 
 pub returns-in-Failed : goal.returns-in-Failed
 returns-in-Failed g c = (lost g c).1
@@ -122,12 +122,12 @@ kept_open g c =
     let none = is_no_memory c.seal_region.result c.in-Err.refusal c.in-Err.is c.in-NoMemory.is in
     ends (λ v w. Seals v w (Err room_fault.NoMemory)) c.self.view_is
     (λ i. value_of (g.D.LogDisk.state c.seal_region.new.disk) (g.D.LogDisk.state c.self.inside.entry.value) (record (kept_in c.self.inside) { parts = back g (goal.at.invariant_of-self-in-NoMemory g c).After-truncate i }))
-    (whole_open _ _ (kept_in c.self.inside) c.self.invariant.0 c.if-self.false (waits g at) c.unwrap_or-region.result (target g at) (part g at).sorted c.as_slice.result.now (part g at).is_arranged (part g at).within (spelled g at) _ done.beside done.sound done.time (IsErrOf c.seal_region.result DiskRefusal.Failed) done.counts done.read done.leaves (done.untouched none) done.dirties, seals_open _ _ (kept_in c.self.inside) c.self.invariant.0 c.if-self.false (waits g at) c.unwrap_or-region.result (target g at) (part g at).sorted c.as_slice.result.now (part g at).is_arranged (part g at).within (spelled g at) _ done.beside done.sound done.time (IsErrOf c.seal_region.result DiskRefusal.Failed) done.counts done.read done.leaves (done.untouched none) (not_failed c.seal_region.result none))
+    (whole_open _ _ (kept_in c.self.inside) c.self.invariant.0 c.if-self.false (waits g at) c.unwrap_or-region.result (target g at) (part g at).sorted c.as_slice.result.now (part g at).is_arranged (part g at).within (spelled g at) _ done.touches.beside done.touches.sound done.touches.time (IsErrOf c.seal_region.result DiskRefusal.Failed) done.touches.counts done.read done.leaves (done.untouched none) done.touches.dirties, seals_open _ _ (kept_in c.self.inside) c.self.invariant.0 c.if-self.false (waits g at) c.unwrap_or-region.result (target g at) (part g at).sorted c.as_slice.result.now (part g at).is_arranged (part g at).within (spelled g at) _ done.touches.beside done.touches.sound done.touches.time (IsErrOf c.seal_region.result DiskRefusal.Failed) done.touches.counts done.read done.leaves (done.untouched none) (not_failed c.seal_region.result none))
 
 pub invariant_of-self-in-NoMemory : goal.invariant_of-self-in-NoMemory
 invariant_of-self-in-NoMemory g c =
     let done = c.seal_region.ensures in
-    ((kept_open g c).0, omega (arith, done.beside.region_len, c.self.invariant.1), c.self.invariant.2)
+    ((kept_open g c).0, omega (arith, done.touches.beside.region_len, c.self.invariant.1), c.self.invariant.2)
 
 pub returns : goal.returns
 returns g c =

@@ -87,10 +87,10 @@ sealed g c =
     let retired : c.retire-in-Ok.new.parts.items ≡ retire c.args.job.newer (retire c.args.job.older c.self.inside.retired.items) = c.retire-in-Ok.ensures.items ∙ ap (retire c.args.job.newer) c.retire.ensures.items in
     ends (λ v w. SealsJob v w c.args.job c.args.header (Ok tt)) c.self.view_is
     (λ i. value_of new (g.D.LogDisk.state c.self.inside.entry.value) (record (kept_in c.self.inside) { parts = c.replace_two.ensures i; retired = retired i; job = None }))
-    (merged_whole _ _ (kept_in c.self.inside) c.self.invariant.0 c.if-self.false c.args.job out c.args.header c.requires.taken (written g at.Else-self) _ e.beside e.sound e.time (IsErrOf c.seal_region.result refusal.Failed) e.counts e.read (leaves g at.After-seal_region out) synced bytes, seals_ok _ _ (kept_in c.self.inside) c.self.invariant.0 c.if-self.false c.args.job out c.args.header c.requires.taken (written g at.Else-self) _ e.beside e.sound e.time (IsErrOf c.seal_region.result refusal.Failed) e.counts e.read (leaves g at.After-seal_region out) synced bytes (not_failed_ok c.seal_region.result c.in-Ok.is) e.dirties tt)
+    (merged_whole _ _ (kept_in c.self.inside) c.self.invariant.0 c.if-self.false c.args.job out c.args.header c.requires.taken (written g at.Else-self) _ e.touches.beside e.touches.sound e.touches.time (IsErrOf c.seal_region.result refusal.Failed) e.touches.counts e.read (leaves g at.After-seal_region out) synced bytes, seals_ok _ _ (kept_in c.self.inside) c.self.invariant.0 c.if-self.false c.args.job out c.args.header c.requires.taken (written g at.Else-self) _ e.touches.beside e.touches.sound e.touches.time (IsErrOf c.seal_region.result refusal.Failed) e.touches.counts e.read (leaves g at.After-seal_region out) synced bytes (not_failed_ok c.seal_region.result c.in-Ok.is) e.touches.dirties tt)
 
 pub invariant_of-self : goal.invariant_of-self
-invariant_of-self g c = ((sealed g c).0, c.self.invariant.1 ∙ sym c.seal_region.ensures.beside.region_len, subst (λ n. 64 ≤ n) (sym (c.retire-in-Ok.ensures.capacity ∙ c.retire.ensures.capacity)) c.self.invariant.2)
+invariant_of-self g c = ((sealed g c).0, c.self.invariant.1 ∙ sym c.seal_region.ensures.touches.beside.region_len, subst (λ n. 64 ≤ n) (sym (c.retire-in-Ok.ensures.capacity ∙ c.retire.ensures.capacity)) c.self.invariant.2)
 
 pub returns-in-Ok : goal.returns-in-Ok
 returns-in-Ok g c = (sealed g c).1
@@ -111,10 +111,10 @@ lost g c =
     c.lose_job.ensures ∙ ap (λ (l : List ℕ). set_of (l ++ taken_by c.args.job.target (Some c.args.header))) none ∙ ap (λ h. set_of (taken_by c.args.job.target h)) (sym c.requires.taken) in
     ends (λ v w. SealsJob v w c.args.job c.args.header (Err (room_fault.Disk, c.args.job))) c.self.view_is
     refl
-    (shut_whole _ _ (kept_in c.self.inside) c.self.invariant.0 c.if-self.false c.args.job out c.args.header c.requires.taken (written g at.Else-self) _ e.beside e.sound e.time (IsErrOf c.seal_region.result refusal.Failed) e.counts e.read (leaves g at.After-seal_region out) failed c.lose_job.new.lost lost, seals_disk _ _ (kept_in c.self.inside) c.self.invariant.0 c.if-self.false c.args.job out c.args.header c.requires.taken (written g at.Else-self) _ e.beside e.sound e.time (IsErrOf c.seal_region.result refusal.Failed) e.counts e.read (leaves g at.After-seal_region out) failed c.lose_job.new.lost lost e.dirties)
+    (shut_whole _ _ (kept_in c.self.inside) c.self.invariant.0 c.if-self.false c.args.job out c.args.header c.requires.taken (written g at.Else-self) _ e.touches.beside e.touches.sound e.touches.time (IsErrOf c.seal_region.result refusal.Failed) e.touches.counts e.read (leaves g at.After-seal_region out) failed c.lose_job.new.lost lost, seals_disk _ _ (kept_in c.self.inside) c.self.invariant.0 c.if-self.false c.args.job out c.args.header c.requires.taken (written g at.Else-self) _ e.touches.beside e.touches.sound e.touches.time (IsErrOf c.seal_region.result refusal.Failed) e.touches.counts e.read (leaves g at.After-seal_region out) failed c.lose_job.new.lost lost e.touches.dirties)
 
 pub invariant_of-self-in-Failed : goal.invariant_of-self-in-Failed
-invariant_of-self-in-Failed g c = ((lost g c).0, c.self.invariant.1 ∙ sym c.seal_region.ensures.beside.region_len, c.self.invariant.2)
+invariant_of-self-in-Failed g c = ((lost g c).0, c.self.invariant.1 ∙ sym c.seal_region.ensures.touches.beside.region_len, c.self.invariant.2)
 
 pub returns-in-Failed : goal.returns-in-Failed
 returns-in-Failed g c = (lost g c).1
@@ -129,10 +129,10 @@ kept_out g c =
     let ungated = subst (λ bytes. IsUngated c.args.job.target bytes (g.D.LogDisk.state c.self.inside.disk) (g.D.LogDisk.state c.seal_region.new.disk)) (cut g at.After-seal_region out) (e.no_memory none) in
     ends (λ v w. SealsJob v w c.args.job c.args.header (Err (room_fault.NoMemory, c.args.job))) c.self.view_is
     refl
-    (open_whole _ _ (kept_in c.self.inside) c.self.invariant.0 c.if-self.false c.args.job out c.args.header c.requires.taken (written g at.Else-self) _ e.beside e.sound e.time (IsErrOf c.seal_region.result refusal.Failed) e.counts e.read (leaves g at.After-seal_region out) ungated (e.untouched none) e.dirties, seals_memory _ _ (kept_in c.self.inside) c.self.invariant.0 c.if-self.false c.args.job out c.args.header c.requires.taken (written g at.Else-self) _ e.beside e.sound e.time (IsErrOf c.seal_region.result refusal.Failed) e.counts e.read (leaves g at.After-seal_region out) ungated (e.untouched none) (not_failed c.seal_region.result none) e.dirties)
+    (open_whole _ _ (kept_in c.self.inside) c.self.invariant.0 c.if-self.false c.args.job out c.args.header c.requires.taken (written g at.Else-self) _ e.touches.beside e.touches.sound e.touches.time (IsErrOf c.seal_region.result refusal.Failed) e.touches.counts e.read (leaves g at.After-seal_region out) ungated (e.untouched none) e.touches.dirties, seals_memory _ _ (kept_in c.self.inside) c.self.invariant.0 c.if-self.false c.args.job out c.args.header c.requires.taken (written g at.Else-self) _ e.touches.beside e.touches.sound e.touches.time (IsErrOf c.seal_region.result refusal.Failed) e.touches.counts e.read (leaves g at.After-seal_region out) ungated (e.untouched none) (not_failed c.seal_region.result none) e.touches.dirties)
 
 pub invariant_of-self-in-NoMemory : goal.invariant_of-self-in-NoMemory
-invariant_of-self-in-NoMemory g c = ((kept_out g c).0, c.self.invariant.1 ∙ sym c.seal_region.ensures.beside.region_len, c.self.invariant.2)
+invariant_of-self-in-NoMemory g c = ((kept_out g c).0, c.self.invariant.1 ∙ sym c.seal_region.ensures.touches.beside.region_len, c.self.invariant.2)
 
 pub returns-in-NoMemory : goal.returns-in-NoMemory
 returns-in-NoMemory g c = (kept_out g c).1

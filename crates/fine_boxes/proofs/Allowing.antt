@@ -12,14 +12,14 @@ use Rattle.fine_places.specs.Places.{Holds, Rules, knowing}
 use Rattle.fine_places.specs.Telling.{Sees}
 use Rattle.fine_places.specs.Beside.{IsBehind, AllowsBeside}
 use Rattle.fine_places.proofs.Behind.{beside_allows}
-use Rattle.fine_places.proofs.Lists.{same_head}
+use Rattle.fine_places.proofs.Lists.{same_head, some_same}
 use Rattle.fine_boxes.specs.declared.model.BoxNote.{BoxNote}
 use Rattle.fine_boxes.specs.declared.model.TurnNote.{TurnNote}
 use Rattle.fine_boxes.specs.declared.model.Reads.{Reads}
 use Rattle.fine_boxes.specs.Boxes.{Keeps, ShowsAnyway, bit, mailbox, slot, published_word}
 use Rattle.fine_boxes.specs.Telling.{Looked, Refreshed, FetchedBack, MayPost, Posted, with_note, landing}
 use Rattle.fine_boxes.specs.Plays.{looked, swapped, landed, fetched_back, posted, landed_back, published, read}
-use Rattle.fine_boxes.specs.Lists.{first_same, some_same, same_place}
+use Rattle.fine_boxes.specs.Lists.{first_same, same_place}
 use Rattle.fine_boxes.specs.Cells.{box_behind, slot_behind, published_behind, boxes_same, slots_same}
 use Rattle.fine_boxes.proofs.Looking.{looks, lands}
 use Rattle.fine_boxes.proofs.Refreshing.{swaps}

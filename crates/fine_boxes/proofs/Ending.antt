@@ -13,7 +13,7 @@ use Rattle.fine_boxes.specs.declared.model.BoxNote.{BoxNote}
 use Rattle.fine_boxes.specs.declared.model.Reads.{Reads}
 use Rattle.fine_boxes.specs.Boxes.{Keeps, slot, given_of, given_by}
 use Rattle.fine_boxes.specs.Ends.{Ends}
-use Rattle.fine_boxes.specs.Lists.{all_map, none_some}
+use Rattle.fine_places.proofs.Lists.{all_map, not_some}
 use Rattle.fine_boxes.proofs.Opening.{sum_only}
 
 -- a seat with no number gave up nothing
@@ -49,20 +49,20 @@ module _ {T X N : Type 0} (seats : X → ℕ) (view : T → Option ViewState) (b
           middle_shows = b.middle_shows;
           reaches = b.reaches;
           sealed_all = o.below i lt;
-          empty_back = homes (slot i (r.cells i).back) None (o.emptied i lt (none_some None i refl));
+          empty_back = homes (slot i (r.cells i).back) None (o.emptied i lt (not_some None i refl));
           names = λ j le. o.names i j lt le;
         };
         numbers = k.numbers;
         notes = all_map (λ m q. record {
           i = q.i;
           number = q.number;
-          within = q.within;
-          front = q.front;
-          marks = q.marks;
-          first = q.first;
-          upto = subst (λ (u : ViewState). u.upto ≤ sealed h.thing) q.front (o.below q.i q.within).0;
-          emptied = λ e. let b = r.each_box q.i q.within in
-              subst (λ (j : ℕ). get_elem? slots (slot q.i j) ≡ some None) (sym b.front_at.buffer ∙ ap (λ (u : ViewState). u.buffer) q.front) (homes (slot q.i (r.cells q.i).front) None (q.emptied e));
+          within = q.here.within;
+          front = q.here.front;
+          marks = q.here.marks;
+          first = q.here.first;
+          upto = subst (λ (u : ViewState). u.upto ≤ sealed h.thing) q.here.front (o.below q.i q.here.within).0;
+          emptied = λ e. let b = r.each_box q.i q.here.within in
+              subst (λ (j : ℕ). get_elem? slots (slot q.i j) ≡ some None) (sym b.front_at.buffer ∙ ap (λ (u : ViewState). u.buffer) q.here.front) (homes (slot q.i (r.cells q.i).front) None (q.here.emptied e));
         }) v.beside.notes k.notes;
         counts = (let c = o.counts in omega arith);
       }

@@ -15,7 +15,8 @@ use Rattle.fine_boxes.specs.declared.model.BoxNote.{BoxNote}
 use Rattle.fine_boxes.specs.declared.model.TurnNote.{TurnNote}
 use Rattle.fine_boxes.specs.declared.model.Reads.{Reads}
 use Rattle.fine_boxes.specs.Boxes.{Cell, BoxOk, NoteOk, TurnOk, ViewOk, Keeps, mailbox, slot, published_word, given_by, beginning}
-use Rattle.fine_boxes.specs.Lists.{decide, all_both}
+use Rattle.fine_places.proofs.Lists.{decide}
+use Rattle.fine_boxes.specs.Lists.{all_both}
 use Rattle.fine_boxes.specs.Cells.{box_not_room, box_not_published, boxes_apart, slot_not_room, seats_apart}
 use Rattle.fine_boxes.specs.Boxing.{box_changed, note_changed, notes_owned}
 
@@ -59,7 +60,7 @@ module _ {T X N : Type 0} (seats : X → ℕ) (view : T → Option ViewState) (b
       (λ (e : q.i ≡ i). same j u ne at' m o (q.number ∙ ap suc e) q)
       (λ (other_seat : q.i ≢ i). let is = else q.i other_seat in
       note_changed (seats x) above r.cells cs log log s.homes hs m q (ap (λ (d : Cell). d.shown) is) (λ f. ap (λ (d : Cell). d.fresh) is ∙ f) (λ k h. h)
-      (λ e. ap (λ (d : Cell). get_elem? hs (slot q.i d.front)) is ∙ (other q.i (r.cells q.i).front other_seat (r.each_box q.i q.within).apart.front_in ∙ e)))
+      (λ e. ap (λ (d : Cell). get_elem? hs (slot q.i d.front)) is ∙ (other q.i (r.cells q.i).front other_seat (r.each_box q.i q.here.within).apart.front_in ∙ e)))
       (decide q.i i) in
       let seat : (j : ℕ) (u : View X N (Reads N)) → j ≢ id → get_elem? s.views j ≡ some u → ViewOk (seats x) above returned p cs log hs (given_by vs) u = λ j u ne at'. let k = r.each_view j u at' in record {
         numbers = k.numbers;

@@ -1,10 +1,10 @@
 -- A seat looks at its mailbox, and puts the empty slot of its front home.
-use Rattle.std.proofs.Common.{slice_get, Some, ◌≡◌, ◌≢◌, ℕ, suc, ◌+◌, ◌*◌, ◌<◌, ◌≤◌, List, [], ◌∷◌, map, length, slice_index, set, Bool, true, false, Option, None, sum_by, sym, refl, ap, ◌∙◌, subst, inl, inr, ⊎_elim, arith, le_refl, length-set, true≢false}
+use Rattle.std.proofs.Common.{slice_get, Some, ◌≡◌, ◌≢◌, ◌⊎◌, ℕ, suc, ◌+◌, ◌*◌, ◌<◌, ◌≤◌, List, [], ◌∷◌, map, length, slice_index, set, Bool, true, false, Option, None, sum_by, sym, refl, ap, ◌∙◌, subst, inl, inr, ⊎_elim, arith, le_refl, length-set, true≢false}
 use Rattle.std.proofs.lemmas.List.{set-get_or}
 use Rattle.std.specs.List.{AllByRecursion}
 use mathlib.Core.Option.{some, none}
 use lib.ListN.{get_elem?}
-use Rattle.atomic_table.specs.Table.{State, keeps, takes, gives}
+use Rattle.atomic_table.specs.Table.{keeps, takes, gives}
 use Rattle.atomic_table.proofs.Lists.{set_else, set_here}
 use Rattle.fine_model.specs.declared.law.OpenedEye.{OpenedEye}
 use Rattle.fine_model.specs.declared.law.ViewState.{ViewState}
@@ -18,43 +18,50 @@ use Rattle.fine_places.specs.Beside.{Around, GoesBeside}
 use Rattle.fine_boxes.specs.declared.model.BoxNote.{BoxNote}
 use Rattle.fine_boxes.specs.declared.model.TurnNote.{TurnNote}
 use Rattle.fine_boxes.specs.declared.model.Reads.{Reads}
-use Rattle.fine_boxes.specs.Boxes.{Cell, NoteOk, Keeps, bit, mailbox, slot, given_by, given_of}
+use Rattle.fine_boxes.specs.Boxes.{BoxState, Cell, NoteHere, NoteOk, Keeps, bit, mailbox, slot, given_by, given_of}
 use Rattle.fine_boxes.specs.Telling.{IsNamed, with_note, looking, landing, Looked}
 use Rattle.fine_boxes.specs.Steps.{LooksStep, LandsStep}
 use Rattle.fine_boxes.specs.Placing.{own_turn}
-use Rattle.fine_boxes.specs.Lists.{decide, bool_cases, sum_same}
+use Rattle.fine_places.proofs.Lists.{decide, bool_cases}
+use Rattle.fine_boxes.specs.Lists.{sum_same}
 use Rattle.fine_boxes.specs.Cells.{named_front, slot_behind, slot_within, seats_apart, buffers_apart}
-use Rattle.fine_boxes.specs.Boxing.{NoteHere, box_changed, note_here, notes_owned, turn_homes}
+use Rattle.fine_boxes.specs.Boxing.{box_changed, note_here, notes_owned, turn_homes}
 use Rattle.fine_boxes.proofs.Keeping.{boxes_moved}
+
+-- what a step tells that changes what the seat saw, and the published number that it knows
+pub rises : {X N : Type 0} (p q : ℕ) (log : List (Placed N)) (v : Known X N) (seen : List (Placed N)) (n : ℕ) → p ≤ q → (q ≡ p) ⊎ Holds v room → (seen ≡ v.seen) ⊎ (seen ≡ log)
+    → (n ≤ q) × (v.published ≤ n) × (Holds v room → n ≡ q) → GoesBeside p q log v (knowing v seen n)
+rises p q log v seen n rise raised is published = record { rise = rise; raised = raised; seen = is; published = published; about = refl; shares = refl; fronts = refl; held = refl; found = refl; moving = refl }
 
 -- what a step tells that only sees
 pub sees_all : {X N : Type 0} (p : ℕ) (log : List (Placed N)) (v : Known X N) → v.published ≤ p → GoesBeside p p log v (knowing v log p)
-sees_all p log v le = record { rise = le_refl p; raised = inl refl; seen = inr refl; published = (le_refl p, le, λ _. refl); about = refl; shares = refl; fronts = refl; held = refl; found = refl; moving = refl }
+sees_all p log v le = rises p p log v log p (le_refl p) (inl refl) (inr refl) (le_refl p, le, λ _. refl)
 
 pub sees_none : {X N : Type 0} (p : ℕ) (log : List (Placed N)) (v : Known X N) → v.published ≤ p → (Holds v room → v.published ≡ p) → GoesBeside p p log v v
-sees_none p log v le held = record { rise = le_refl p; raised = inl refl; seen = inl refl; published = (le, le_refl v.published, held); about = refl; shares = refl; fronts = refl; held = refl; found = refl; moving = refl }
+sees_none p log v le held = rises p p log v v.seen v.published (le_refl p) (inl refl) (inl refl) (le, le_refl v.published, held)
 
 module _ {T X N : Type 0} (seats : X → ℕ) (view : T → Option ViewState) (board : T → List (Option OpenedEye)) (sealed : T → ℕ) (backs : T → List ℕ)
     (shows : X → List (Placed N) → ViewState → Type 0) (above : ℕ → N → Type 0) (returned : N → ℕ) (x : X) where
-  abbrev St : Type 0
-  St = State (Option T) (View X N (Reads N))
-
-  abbrev Kept : ℕ → List (Placed N) → St → Type 0
+  abbrev Kept : ℕ → List (Placed N) → BoxState T X N → Type 0
   Kept p log s = Keeps seats view board sealed backs shows above returned x p log s
 
   -- the one note of a seat
-  pub own_note : (p : ℕ) (log : List (Placed N)) (s : St) (r : Kept p log s) (id : ℕ) (v : View X N (Reads N)) → get_elem? s.views id ≡ some v → (m : BoxNote N) (i : ℕ) → v.beside.notes ≡ m ∷ [] → m.seat ≡ suc i
+  pub own_note : (p : ℕ) (log : List (Placed N)) (s : BoxState T X N) (r : Kept p log s) (id : ℕ) (v : View X N (Reads N)) → get_elem? s.views id ≡ some v → (m : BoxNote N) (i : ℕ) → v.beside.notes ≡ m ∷ [] → m.seat ≡ suc i
       → NoteHere (seats x) above r.cells log s.homes i m
   own_note p log s r id v at m i is number = note_here (seats x) above r.cells log s.homes i m number (subst (AllByRecursion (NoteOk (seats x) above r.cells log s.homes)) is (r.each_view id v at).notes).0
 
   -- no other seat has this number
-  pub no_other : (p : ℕ) (log : List (Placed N)) (s : St) (r : Kept p log s) → Around p log s → (id : ℕ) (v : View X N (Reads N)) → get_elem? s.views id ≡ some v → (m : BoxNote N) (i : ℕ) → v.beside.notes ≡ m ∷ [] → m.seat ≡ suc i
+  pub no_other : (p : ℕ) (log : List (Placed N)) (s : BoxState T X N) (r : Kept p log s) → Around p log s → (id : ℕ) (v : View X N (Reads N)) → get_elem? s.views id ≡ some v → (m : BoxNote N) (i : ℕ) → v.beside.notes ≡ m ∷ [] → m.seat ≡ suc i
       → (j : ℕ) (u : View X N (Reads N)) → j ≢ id → get_elem? s.views j ≡ some u → (k : BoxNote N) → Owned u.places.shares k.seat → k.seat ≢ suc i
   no_other p log s r a id v at m i is number j u ne at' k o e = ne (a.apart j id (suc i) u v at' at (subst (Owned u.places.shares) e o)
       (subst (Owned v.places.shares) number (subst (AllByRecursion (λ m. Owned v.places.shares m.seat)) is (notes_owned v.beside.notes v.places.shares (r.each_view id v at).numbers)).0))
 
+  -- its front is in the buffer that the rule has for it
+  front_buffer : (p : ℕ) (log : List (Placed N)) (s : BoxState T X N) (r : Kept p log s) (m : BoxNote N) (i : ℕ) → NoteHere (seats x) above r.cells log s.homes i m → m.front.buffer ≡ (r.cells i).front
+  front_buffer p log s r m i o = ap (λ (u : ViewState). u.buffer) (sym o.front) ∙ (r.each_box i o.within).front_at.buffer
+
   -- The own slot of the front, or none, is moved, and the own note changes, but not what it says of the front.
-  front_moved : (p : ℕ) (log : List (Placed N)) (s : St) (r : Kept p log s) → Around p log s → (id : ℕ) (v w : View X N (Reads N)) → get_elem? s.views id ≡ some v → (m m' : BoxNote N) (i : ℕ) → v.beside.notes ≡ m ∷ [] → m.seat ≡ suc i
+  front_moved : (p : ℕ) (log : List (Placed N)) (s : BoxState T X N) (r : Kept p log s) → Around p log s → (id : ℕ) (v w : View X N (Reads N)) → get_elem? s.views id ≡ some v → (m m' : BoxNote N) (i : ℕ) → v.beside.notes ≡ m ∷ [] → m.seat ≡ suc i
       → (hs : Homes T) → length hs ≡ length s.homes → ((k : ℕ) → k ≢ slot i (r.cells i).front → get_elem? hs k ≡ get_elem? s.homes k)
       → w.beside ≡ with_note v.beside m' → w.places.shares ≡ v.places.shares → w.places.held ≡ v.places.held → m'.seat ≡ m.seat → m'.given_up ≡ m.given_up → NoteHere (seats x) above r.cells log hs i m'
       → Kept p log record { words = set s.words (mailbox i) (slice_index s.words (mailbox i)); homes = hs; views = set s.views id w }
@@ -77,13 +84,13 @@ module _ {T X N : Type 0} (seats : X → ℕ) (view : T → Option ViewState) (b
       (λ t _ q. turn_homes (seats x) returned p r.cells log s.homes hs (given_by s.views) (given_by (set s.views id w)) t backs_stay total q)
       (record {
         numbers = ap (map (λ m. m.seat)) notes ∙ (ap (λ n. n ∷ []) seat ∙ (ap (map (λ m. m.seat)) (sym is) ∙ (k.numbers ∙ ap (map (λ s. s.seat)) (sym shares))));
-        notes = subst (AllByRecursion (NoteOk (seats x) above r.cells log hs)) (sym notes) (record { i = i; number = seat ∙ number; within = now.within; front = now.front; found = now.found; marks = now.marks; first = now.first; emptied = now.emptied }, tt);
+        notes = subst (AllByRecursion (NoteOk (seats x) above r.cells log hs)) (sym notes) (record { i = i; number = seat ∙ number; here = now }, tt);
         turning = λ h. let q = k.turning (subst (λ (l : List Bool). get_elem? l room ≡ some true) held h) in
             record { turn = q.turn; is = ap (λ (y : Reads N). y.turn) beside ∙ q.is; ok = turn_homes (seats x) returned p r.cells log s.homes hs (given_by s.views) (given_by (set s.views id w)) q.turn backs_stay total q.ok };
       })
 
   -- in a turn of the seat the board names its front
-  pub front_named : (p : ℕ) (log : List (Placed N)) (s : St) (r : Kept p log s) (id : ℕ) (v : View X N (Reads N)) → get_elem? s.views id ≡ some v → Holds v.places room → (t : TurnNote) → v.beside.turn ≡ Some t
+  pub front_named : (p : ℕ) (log : List (Placed N)) (s : BoxState T X N) (r : Kept p log s) (id : ℕ) (v : View X N (Reads N)) → get_elem? s.views id ≡ some v → Holds v.places room → (t : TurnNote) → v.beside.turn ≡ Some t
       → (m : BoxNote N) (i : ℕ) → NoteHere (seats x) above r.cells log s.homes i m → IsNamed t i m.front
   front_named p log s r id v at held t turn m i o =
       let q = own_turn seats view board sealed backs shows above returned x p log s r id v at held t turn in
@@ -98,7 +105,7 @@ module _ {T X N : Type 0} (seats : X → ℕ) (view : T → Option ViewState) (b
         let o = own_note p log s r id v at m i is number in
         let d : Cell = r.cells i in
         let b = r.each_box i o.within in
-        let buffer : m.front.buffer ≡ d.front = ap (λ (u : ViewState). u.buffer) (sym o.front) ∙ b.front_at.buffer in
+        let buffer = front_buffer p log s r m i o in
         let home : ℕ = slot i m.front.buffer in
         let known = a.published id v at in
         let tell : (fresh : Bool) → d.fresh ≡ fresh → Looked legal touches shows m fresh v (record { places = knowing v.places log p; beside = with_note v.beside (looking m fresh) }) = λ fresh e. record {
@@ -143,12 +150,10 @@ module _ {T X N : Type 0} (seats : X → ℕ) (view : T → Option ViewState) (b
     pub lands : LandsStep (Keeps seats view board sealed backs shows above returned) legal touches seats view shows x slots id
     lands v c m i is number inside p log s r a deep at small about sees =
         let o = own_note p log s r id v at m i is number in
-        let d : Cell = r.cells i in
-        let b = r.each_box i o.within in
-        let buffer : m.front.buffer ≡ d.front = ap (λ (u : ViewState). u.buffer) (sym o.front) ∙ b.front_at.buffer in
+        let buffer = front_buffer p log s r m i o in
         let home : ℕ = slot i m.front.buffer in
         let w : View X N (Reads N) = record { places = v.places; beside = with_note v.beside (landing m) } in
-        let near : home < length s.homes = (let l = r.deep in let h = slot_within i d.front (seats x) o.within b.apart.front_in in let e = ap (slot i) buffer in omega arith) in (
+        let near : home < length s.homes = (let l = r.deep in let h = slot_within i (r.cells i).front (seats x) o.within (r.each_box i o.within).apart.front_in in let e = ap (slot i) buffer in omega arith) in (
           p,
           w,
           gives,

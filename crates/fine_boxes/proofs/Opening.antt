@@ -16,12 +16,11 @@ use Rattle.fine_places.specs.declared.model.Share.{Share}
 use Rattle.fine_places.specs.declared.model.View.{View}
 use Rattle.fine_places.specs.History.{room}
 use Rattle.fine_places.specs.Places.{newcomer, shares_of}
-use Rattle.fine_places.proofs.Lists.{none_held}
+use Rattle.fine_places.proofs.Lists.{none_held, all_append, zeros}
 use Rattle.fine_boxes.specs.declared.model.BoxNote.{BoxNote}
 use Rattle.fine_boxes.specs.declared.model.Reads.{Reads}
 use Rattle.fine_boxes.specs.Boxes.{Cell, NoteOk, BoxOk, TurnOk, ViewOk, Keeps, beginning, note_of, first_notes, slot, named, sum_below, given_by}
 use Rattle.fine_boxes.specs.Ends.{OpensSeat, Opens}
-use Rattle.fine_boxes.specs.Lists.{all_append, zeros_index}
 
 -- ---- lists
 
@@ -140,12 +139,14 @@ module _ {T X N : Type 0} (seats : X → ℕ) (fronts : X → List ViewState) (v
       let is : (s : Seat i) → s.front ≡ f = λ s. some-injective s.front f (sym s.is_front ∙ e) in record {
         i = i;
         number = ap (λ (u : ViewState). u.seat) (sym (is (o.each i lt))) ∙ (o.each i lt).front_at.seat;
-        within = lt;
-        front = by_seat (λ j c. j ≡ i → c.shown ≡ f) (λ j s q. some-injective s.front f (sym s.is_front ∙ (ap (get_elem? (fronts x)) q ∙ e))) i lt refl;
-        found = λ q. absurd (true≢false (sym q));
-        marks = ((record { more = []; is_front = refl; later = tt }, le_refl f.upto), tt);
-        first = ([], [], refl);
-        emptied = λ _. by_seat (λ j c. get_elem? homes (slot j c.front) ≡ some (some None)) (λ j s. at_map some slots (slot j 0) None s.empty.0) i lt;
+        here = record {
+          within = lt;
+          front = by_seat (λ j c. j ≡ i → c.shown ≡ f) (λ j s q. some-injective s.front f (sym s.is_front ∙ (ap (get_elem? (fronts x)) q ∙ e))) i lt refl;
+          found = λ q. absurd (true≢false (sym q));
+          marks = ((record { more = []; is_front = refl; later = tt }, le_refl f.upto), tt);
+          first = ([], [], refl);
+          emptied = λ _. by_seat (λ j c. get_elem? homes (slot j c.front) ≡ some (some None)) (λ j s. at_map some slots (slot j 0) None s.empty.0) i lt;
+        };
       }
 
   turn_opens : TurnOk (seats x) returned p cells [] homes 0 (beginning board sealed backs o.home)
@@ -153,8 +154,8 @@ module _ {T X N : Type 0} (seats : X → ℕ) (fronts : X → List ViewState) (v
     long = (o.long.0, subst (λ n. seats x ≤ n) (sym (length-replicate (length (backs o.home)) 0)) o.long.0, o.long.1);
     back = by_seat (λ i c. slice_index (backs o.home) i ≡ c.back) (λ i s. s.back);
     emptied = λ i lt _. by_seat (λ j c. get_elem? homes (slot j c.back) ≡ some (some None)) (λ j s. at_map some slots (slot j 2) None s.empty.1) i lt;
-    reaches = λ i lt. let z = zeros_index (length (backs o.home)) i in record { fresh = λ _. omega arith; stale = λ _. omega arith };
-    posted_below = λ i lt. let z = zeros_index (length (backs o.home)) i in omega arith;
+    reaches = λ i lt. let z = zeros (length (backs o.home)) i in record { fresh = λ _. omega arith; stale = λ _. omega arith };
+    posted_below = λ i lt. let z = zeros (length (backs o.home)) i in omega arith;
     below = by_seat (λ i c. (c.shown.upto ≤ sealed o.home) × (c.ahead.upto ≤ sealed o.home)) (λ i s. (s.front_upto.1, s.middle_upto));
     published = o.below;
     names = λ i j lt le. by_seat (λ k c. slice_get (board o.home) (3 * k + j) ≡ Some (named c j)) (λ k s. names_open k s j le) i lt;

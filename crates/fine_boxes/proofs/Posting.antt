@@ -2,8 +2,9 @@
 use Rattle.std.proofs.Common.{◌≡◌, ◌≢◌, ℕ, suc, ◌+◌, ◌*◌, ◌<◌, ◌≤◌, List, length, slice_get, slice_index, set, Bool, true, Option, Some, None, sym, refl, ap, ◌∙◌, subst, ⊎_elim, arith, le_refl, length-set, true≢false, get_or-set_same, get_or-set_other}
 use Rattle.std.proofs.lemmas.List.{set-get_or}
 use mathlib.Core.Option.{some, none}
+use mathlib.Core.Option as maybe
 use lib.ListN.{get_elem?}
-use Rattle.atomic_table.specs.Table.{State, gives, takes, chain}
+use Rattle.atomic_table.specs.Table.{gives, takes, chain}
 use Rattle.atomic_table.proofs.Lists.{set_else, set_here}
 use Rattle.fine_model.specs.declared.law.OpenedEye.{OpenedEye}
 use Rattle.fine_model.specs.declared.law.ViewState.{ViewState}
@@ -15,10 +16,11 @@ use Rattle.fine_places.specs.Beside.{Around}
 use Rattle.fine_boxes.specs.declared.model.BoxNote.{BoxNote}
 use Rattle.fine_boxes.specs.declared.model.TurnNote.{TurnNote}
 use Rattle.fine_boxes.specs.declared.model.Reads.{Reads}
-use Rattle.fine_boxes.specs.Boxes.{Cell, Apart, BoxOk, NoteOk, TurnOk, Keeps, mailbox, slot, named, given_by, given_of}
+use Rattle.fine_boxes.specs.Boxes.{BoxState, Cell, Apart, BoxOk, NoteOk, TurnOk, Keeps, mailbox, slot, named, given_by, given_of}
 use Rattle.fine_boxes.specs.Telling.{posting}
 use Rattle.fine_boxes.specs.Steps.{FetchesBackStep, PostsStep, LandsBackStep}
-use Rattle.fine_boxes.specs.Lists.{decide, get_set_else, all_map, none_some, some_inj, some_same, sum_same, sum_below_put}
+use Rattle.fine_places.proofs.Lists.{decide, all_map, not_some, some_inj, some_same}
+use Rattle.fine_boxes.specs.Lists.{get_set_else, sum_same, sum_below_put}
 use Rattle.fine_boxes.specs.Cells.{put, put_here, put_else, put_same, slot_behind, slot_within, seats_apart, buffers_apart, box_within, empty_is_back, back_is_empty, named_middle, named_posted}
 use Rattle.fine_boxes.specs.Boxing.{box_changed, note_changed, turn_out, turn_put}
 use Rattle.fine_boxes.specs.Placing.{own_turn}
@@ -86,10 +88,7 @@ turn_posted count returned p cells log homes hs a b t i new near each r out midd
 
 module _ {T X N : Type 0} (seats : X → ℕ) (view : T → Option ViewState) (board : T → List (Option OpenedEye)) (sealed : T → ℕ) (backs : T → List ℕ)
     (shows : X → List (Placed N) → ViewState → Type 0) (above : ℕ → N → Type 0) (returned : N → ℕ) (x : X) where
-  abbrev St : Type 0
-  St = State (Option T) (View X N (Reads N))
-
-  abbrev Kept : ℕ → List (Placed N) → St → Type 0
+  abbrev Kept : ℕ → List (Placed N) → BoxState T X N → Type 0
   Kept p log s = Keeps seats view board sealed backs shows above returned x p log s
 
   -- the view of a seat that records another turn
@@ -97,7 +96,7 @@ module _ {T X N : Type 0} (seats : X → ℕ) (view : T → Option ViewState) (b
   turning v u = record { places = v.places; beside = record v.beside { turn = Some u } }
 
   -- the back slot of a seat is moved by who holds the room
-  back_moved : (p : ℕ) (log : List (Placed N)) (s : St) (r : Kept p log s) → Around p log s → (id : ℕ) (v : View X N (Reads N)) → get_elem? s.views id ≡ some v → (i : ℕ) → i < seats x → Holds v.places room
+  back_moved : (p : ℕ) (log : List (Placed N)) (s : BoxState T X N) (r : Kept p log s) → Around p log s → (id : ℕ) (v : View X N (Reads N)) → get_elem? s.views id ≡ some v → (i : ℕ) → i < seats x → Holds v.places room
       → (hs : Homes T) → length hs ≡ length s.homes → ((k : ℕ) → k ≢ slot i (r.cells i).back → get_elem? hs k ≡ get_elem? s.homes k)
       → (u : TurnNote) → TurnOk (seats x) returned p r.cells log hs (given_by s.views) u
       → Kept p log record { words = set s.words (mailbox i) (slice_index s.words (mailbox i)); homes = hs; views = set s.views id (turning v u) }
@@ -109,7 +108,7 @@ module _ {T X N : Type 0} (seats : X → ℕ) (view : T → Option ViewState) (b
       let note : (m : BoxNote N) → NoteOk (seats x) above r.cells log s.homes m → NoteOk (seats x) above r.cells log hs m = λ m q. note_changed (seats x) above r.cells r.cells log log s.homes hs m q refl (λ f. f) (λ _ h. h)
       (λ e. far (slot q.i (r.cells q.i).front) (⊎_elim
       (λ (z : q.i ≡ i). subst (λ (n : ℕ). slot n (r.cells n).front ≢ slot i d.back) (sym z) (buffers_apart i d.front d.back b.apart.front_back))
-      (λ (ne : q.i ≢ i). seats_apart q.i i (r.cells q.i).front d.back ne (r.each_box q.i q.within).apart.front_in b.apart.back_in)
+      (λ (ne : q.i ≢ i). seats_apart q.i i (r.cells q.i).front d.back ne (r.each_box q.i q.here.within).apart.front_in b.apart.back_in)
       (decide q.i i)) ∙ e) in
       boxes_moved seats view board sealed backs shows above returned x p log s r id v (turning v u) at i (slice_index s.words (mailbox i)) near hs r.cells (λ j ne. refl) long
       (λ n ne. far n (ne d.back b.apart.back_in))
@@ -123,6 +122,23 @@ module _ {T X N : Type 0} (seats : X → ℕ) (view : T → Option ViewState) (b
         turning = λ _. record { turn = u; is = refl; ok = subst (λ n. TurnOk (seats x) returned p r.cells log hs n u) (sym total) ok };
       })
 
+  -- The back slot of a seat comes into hand, or goes home: what the turn has in hand then says which.
+  back_put : (p : ℕ) (log : List (Placed N)) (s : BoxState T X N) (r : Kept p log s) → Around p log s → (id : ℕ) (v : View X N (Reads N)) → get_elem? s.views id ≡ some v → (i : ℕ) → i < seats x → Holds v.places room
+      → (t : TurnNote) → TurnOk (seats x) returned p r.cells log s.homes (given_by s.views) t → (h : maybe.Option (Option T)) (o : Option ℕ)
+      → (o ≢ Some i → Emptied (set s.homes (slot i (slice_index t.backs i)) h) (slot i (slice_index t.backs i))) → ((j : ℕ) → j ≢ i → o ≢ Some j → t.out ≢ Some j)
+      → Kept p log record { words = set s.words (mailbox i) (slice_index s.words (mailbox i)); homes = set s.homes (slot i (slice_index t.backs i)) h; views = set s.views id (turning v (record t { out = o })) }
+  back_put p log s r a id v at i near held t q h o here else =
+      let home : ℕ = slot i (slice_index t.backs i) in
+      let hs : Homes T = set s.homes home h in
+      let back : slice_index t.backs i ≡ (r.cells i).back = q.back i near in
+      let back_in : slice_index t.backs i < 3 = (let l = (r.each_box i near).apart.back_in in omega arith) in
+      back_moved p log s r a id v at i near held hs (length-set s.homes home h) (λ k ne. set_else s.homes home k h (λ e. ne (e ∙ ap (slot i) back))) (record t { out = o })
+      (turn_out (seats x) returned p r.cells log s.homes hs (given_by s.views) (given_by s.views) t o
+      (λ j lt out. ⊎_elim
+      (λ (e : j ≡ i). subst (λ (n : ℕ). Emptied hs (slot n (r.cells n).back)) (sym e) (ap (λ n. get_elem? hs (slot i n)) (sym back) ∙ here (subst (λ (n : ℕ). o ≢ Some n) e out)))
+      (λ (ne : j ≢ i). set_else s.homes home (slot j (r.cells j).back) h (seats_apart j i (r.cells j).back (slice_index t.backs i) ne (r.each_box j lt).apart.back_in back_in) ∙ q.emptied j lt (else j ne out))
+      (decide j i)) refl q)
+
   module _ (legal : X → List (Placed N) → Type 0) (touches : ℕ → N → Bool) (slots id : ℕ) where
     pub fetches_back : FetchesBackStep (Keeps seats view board sealed backs shows above returned) legal touches seats view shows x slots id
     fetches_back v c t i held is still near p log s r a deep at small about sees =
@@ -131,18 +147,14 @@ module _ {T X N : Type 0} (seats : X → ℕ) (view : T → Option ViewState) (b
         let b = r.each_box i near in
         let back : slice_index t.backs i ≡ d.back = q.back i near in
         let home : ℕ = slot i (slice_index t.backs i) in
-        let hs : Homes T = set s.homes home none in
-        let free : Emptied s.homes home = ap (λ j. get_elem? s.homes (slot i j)) back ∙ q.emptied i near (none_some t.out i still) in (
+        let free : Emptied s.homes home = ap (λ j. get_elem? s.homes (slot i j)) back ∙ q.emptied i near (not_some t.out i still) in (
           p,
           turning v (record t { out = Some i }),
           takes home None,
           sees_none p log v.places (a.published id v at) (λ h. (a.holder id v at h).1),
           slot_behind i (slice_index t.backs i),
           free,
-          back_moved p log s r a id v at i near held hs (length-set s.homes home none) (λ k ne. set_else s.homes home k none (λ e. ne (e ∙ ap (slot i) back))) (record t { out = Some i })
-              (turn_out (seats x) returned p r.cells log s.homes hs (given_by s.views) (given_by s.views) t (Some i)
-              (λ j lt ne. set_else s.homes home (slot j (r.cells j).back) none (seats_apart j i (r.cells j).back (slice_index t.backs i) (λ e. ne (ap Some (sym e))) (r.each_box j lt).apart.back_in (let l = b.apart.back_in in omega arith))
-              ∙ q.emptied j lt (none_some t.out j still)) refl q),
+          back_put p log s r a id v at i near held t q none (Some i) (λ out. absurd (out refl)) (λ j _ _. not_some t.out j still),
           (
             record {
               places = refl;
@@ -158,12 +170,8 @@ module _ {T X N : Type 0} (seats : X → ℕ) (view : T → Option ViewState) (b
     pub lands_back : LandsBackStep (Keeps seats view board sealed backs shows above returned) legal touches seats view shows x slots id
     lands_back v c t i near held is out p log s r a deep at small about sees =
         let q = own_turn seats view board sealed backs shows above returned x p log s r id v at held t is in
-        let d : Cell = r.cells i in
-        let b = r.each_box i near in
-        let back : slice_index t.backs i ≡ d.back = q.back i near in
         let home : ℕ = slot i (slice_index t.backs i) in
-        let hs : Homes T = set s.homes home (some None) in
-        let back_in : slice_index t.backs i < 3 = (let l = b.apart.back_in in omega arith) in
+        let back_in : slice_index t.backs i < 3 = (let e = q.back i near in let l = (r.each_box i near).apart.back_in in omega arith) in
         let within : home < length s.homes = (let l = r.deep in let h = slot_within i (slice_index t.backs i) (seats x) near back_in in omega arith) in (
           p,
           turning v (record t { out = None }),
@@ -171,13 +179,7 @@ module _ {T X N : Type 0} (seats : X → ℕ) (view : T → Option ViewState) (b
           sees_none p log v.places (a.published id v at) (λ h. (a.holder id v at h).1),
           tt,
           tt,
-          back_moved p log s r a id v at i near held hs (length-set s.homes home (some None)) (λ k ne. set_else s.homes home k (some None) (λ e. ne (e ∙ ap (slot i) back))) (record t { out = None })
-              (turn_out (seats x) returned p r.cells log s.homes hs (given_by s.views) (given_by s.views) t None
-              (λ j lt _. ⊎_elim
-              (λ (e : j ≡ i). subst (λ (n : ℕ). Emptied hs (slot n (r.cells n).back)) (sym e) (ap (λ n. get_elem? hs (slot i n)) (sym back) ∙ set_here s.homes home (some None) within))
-              (λ (ne : j ≢ i). set_else s.homes home (slot j (r.cells j).back) (some None) (seats_apart j i (r.cells j).back (slice_index t.backs i) ne (r.each_box j lt).apart.back_in back_in)
-              ∙ q.emptied j lt (λ e. ne (some_inj j i (sym e ∙ out))))
-              (decide j i)) refl q),
+          back_put p log s r a id v at i near held t q (some None) None (λ _. set_here s.homes home (some None) within) (λ j ne _ e. ne (some_inj j i (sym e ∙ out))),
           (refl, refl),
         )
 
@@ -215,7 +217,7 @@ module _ {T X N : Type 0} (seats : X → ℕ) (view : T → Option ViewState) (b
         (λ _ h. h)
         (λ e. ap (λ j. get_elem? hs (slot n.i j)) (put_same (λ (e : Cell). e.front) r.cells i cell refl n.i) ∙ (⊎_elim
         (λ (e : n.i ≡ i). subst (λ (j : ℕ). get_elem? hs (slot j (r.cells j).front) ≡ get_elem? s.homes (slot j (r.cells j).front)) (sym e) front_stays)
-        (λ (ne : n.i ≢ i). others n.i (r.cells n.i).front ne (r.each_box n.i n.within).apart.front_in)
+        (λ (ne : n.i ≢ i). others n.i (r.cells n.i).front ne (r.each_box n.i n.here.within).apart.front_in)
         (decide n.i i) ∙ e)) in
         let whole : v.places.seen ≡ log = (a.holder id v at held).0 in
         let top = may.later in

@@ -3,7 +3,7 @@ use Rattle.std.proofs.Common.{◌≡◌, ◌≢◌, ℕ, ◌<◌, ◌≤◌, Lis
 use Rattle.std.specs.List.{AllByRecursion}
 use mathlib.Core.Option.{some}
 use lib.ListN.{get_elem?}
-use Rattle.atomic_table.specs.Table.{State, keeps}
+use Rattle.atomic_table.specs.Table.{keeps}
 use Rattle.atomic_table.proofs.Lists.{at_set}
 use Rattle.fine_model.specs.declared.law.OpenedEye.{OpenedEye}
 use Rattle.fine_model.specs.declared.law.ViewState.{ViewState}
@@ -15,40 +15,23 @@ use Rattle.fine_places.specs.Telling.{Sees}
 use Rattle.fine_places.specs.Beside.{GoesBeside}
 use Rattle.fine_boxes.specs.declared.model.TurnNote.{TurnNote}
 use Rattle.fine_boxes.specs.declared.model.Reads.{Reads}
-use Rattle.fine_boxes.specs.Boxes.{Cell, Reaches, NoteOk, TurnOk, ViewOk, Keeps, beginning, mailbox, published_word, given_by, given_of}
+use Rattle.fine_boxes.specs.Boxes.{BoxState, Cell, Reaches, NoteOk, TurnOk, ViewOk, Keeps, beginning, mailbox, published_word, given_by, given_of}
 use Rattle.fine_boxes.specs.Steps.{PublishesStep, ReadsStep}
-use Rattle.fine_boxes.specs.Lists.{some_same, sum_same}
+use Rattle.fine_places.proofs.Lists.{some_same}
+use Rattle.fine_boxes.specs.Lists.{sum_same}
 use Rattle.fine_boxes.specs.Cells.{box_not_published, published_not_room, published_within}
-use Rattle.fine_boxes.specs.Boxing.{box_changed}
+use Rattle.fine_boxes.specs.Boxing.{box_changed, turn_kept}
 use Rattle.fine_boxes.proofs.Keeping.{Elsewhere, alone}
-use Rattle.fine_boxes.proofs.Looking.{sees_all}
+use Rattle.fine_boxes.proofs.Looking.{rises, sees_all}
 use Rattle.fine_boxes.specs.Placing.{own_turn}
-
--- a turn stays so while a number up to its top is published
-turn_published : {T N : Type 0} (count : ℕ) (returned : N → ℕ) (p q : ℕ) (cells : ℕ → Cell) (log : List (Placed N)) (homes : Homes T) (a b : ℕ) (t : TurnNote) → q ≤ t.top → b ≡ a
-    → TurnOk count returned p cells log homes a t → TurnOk count returned q cells log homes b t
-turn_published count returned p q cells log homes a b t le same r = record {
-  long = r.long;
-  back = r.back;
-  emptied = r.emptied;
-  reaches = r.reaches;
-  posted_below = r.posted_below;
-  below = r.below;
-  published = le;
-  names = r.names;
-  counts = r.counts ∙ sym same;
-}
 
 module _ {T X N : Type 0} (seats : X → ℕ) (view : T → Option ViewState) (board : T → List (Option OpenedEye)) (sealed : T → ℕ) (backs : T → List ℕ)
     (shows : X → List (Placed N) → ViewState → Type 0) (above : ℕ → N → Type 0) (returned : N → ℕ) (x : X) where
-  abbrev St : Type 0
-  St = State (Option T) (View X N (Reads N))
-
-  abbrev Kept : ℕ → List (Placed N) → St → Type 0
+  abbrev Kept : ℕ → List (Placed N) → BoxState T X N → Type 0
   Kept p log s = Keeps seats view board sealed backs shows above returned x p log s
 
   -- The word of the published number becomes q, up to which all boxes reach, and a seat learns of the places.
-  number_moved : (p q n : ℕ) (log : List (Placed N)) (s : St) (r : Kept p log s) → (id : ℕ) (v w : View X N (Reads N)) → get_elem? s.views id ≡ some v → n ≡ q → w.beside ≡ v.beside → w.places.shares ≡ v.places.shares → w.places.held ≡ v.places.held
+  number_moved : (p q n : ℕ) (log : List (Placed N)) (s : BoxState T X N) (r : Kept p log s) → (id : ℕ) (v w : View X N (Reads N)) → get_elem? s.views id ≡ some v → n ≡ q → w.beside ≡ v.beside → w.places.shares ≡ v.places.shares → w.places.held ≡ v.places.held
       → ((i : ℕ) → i < seats x → Reaches (r.cells i) p → Reaches (r.cells i) q)
       → ((t : TurnNote) → Elsewhere s id → TurnOk (seats x) returned p r.cells log s.homes (given_by s.views) t → q ≤ t.top)
       → ((t : TurnNote) → Holds v.places room → v.beside.turn ≡ Some t → TurnOk (seats x) returned p r.cells log s.homes (given_by s.views) t → q ≤ t.top)
@@ -61,7 +44,7 @@ module _ {T X N : Type 0} (seats : X → ℕ) (view : T → Option ViewState) (b
       let k = r.each_view id v at in
       let room_word = word room (λ e. published_not_room (sym e)) in
       let turn : (t : TurnNote) → TurnOk (seats x) returned p r.cells log s.homes (given_by s.views) t → q ≤ t.top → TurnOk (seats x) returned q r.cells log s.homes (given_by vs) t = λ t ok le.
-      turn_published (seats x) returned p q r.cells log s.homes (given_by s.views) (given_by vs) t le total ok in
+      turn_kept (seats x) returned p q r.cells log s.homes s.homes (given_by s.views) (given_by vs) t t.out ok.emptied le total ok in
       let mine : ViewOk (seats x) above returned q r.cells log s.homes (given_by vs) w = record {
         numbers = ap (λ (y : Reads N). map (λ m. m.seat) y.notes) same ∙ (k.numbers ∙ ap (map (λ z. z.seat)) (sym shares));
         notes = subst (λ (y : Reads N). AllByRecursion (NoteOk (seats x) above r.cells log s.homes) y.notes) (sym same) k.notes;
@@ -97,18 +80,7 @@ module _ {T X N : Type 0} (seats : X → ℕ) (view : T → Option ViewState) (b
           e,
           w,
           keeps,
-          record {
-            rise = (omega arith);
-            raised = inr held;
-            seen = inl refl;
-            published = (le_refl e, rise, λ _. refl);
-            about = refl;
-            shares = refl;
-            fronts = refl;
-            held = refl;
-            found = refl;
-            moving = refl;
-          },
+          rises p e log v.places v.places.seen e (omega arith) (inr held) (inl refl) (le_refl e, rise, λ _. refl),
           tt,
           tt,
           number_moved p e e log s r id v w at refl refl refl refl

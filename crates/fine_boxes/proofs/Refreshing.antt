@@ -17,7 +17,8 @@ use Rattle.fine_boxes.specs.Boxes.{Cell, Apart, BoxOk, TurnOk, Keeps, ShowsAnywa
 use Rattle.fine_boxes.specs.Telling.{IsNamed, with_note, refreshing}
 use Rattle.fine_boxes.specs.Steps.{SwapsStep}
 use Rattle.fine_boxes.specs.Placing.{own_turn}
-use Rattle.fine_boxes.specs.Lists.{all_map, sum_set, sum_below_put}
+use Rattle.fine_places.proofs.Lists.{all_map}
+use Rattle.fine_boxes.specs.Lists.{sum_set, sum_below_put}
 use Rattle.fine_boxes.specs.Cells.{put, put_here, put_else, slot_behind, slot_within, seats_apart, buffers_apart, box_within, named_middle, named_swapped}
 use Rattle.fine_boxes.specs.Boxing.{mark_later, turn_put}
 use Rattle.fine_boxes.proofs.Keeping.{boxes_moved}
@@ -127,12 +128,14 @@ module _ {T X N : Type 0} (seats : X → ℕ) (view : T → Option ViewState) (b
                   record {
                     i = i;
                     number = number;
-                    within = o.within;
-                    front = ap (λ (e : Cell). e.shown) (put_here r.cells i i (swapped d was) refl);
-                    found = λ e. absurd (true≢false (sym e));
-                    marks = ((record { more = []; is_front = sym (append-nil log); later = tt }, le_refl new.upto), all_map (mark_later above log m.front.upto new.upto up) m.marks o.marks);
-                    first = (log, m.marks, refl);
-                    emptied = λ e. absurd (true≢false (sym out ∙ e));
+                    here = record {
+                      within = o.within;
+                      front = ap (λ (e : Cell). e.shown) (put_here r.cells i i (swapped d was) refl);
+                      found = λ e. absurd (true≢false (sym e));
+                      marks = ((record { more = []; is_front = sym (append-nil log); later = tt }, le_refl new.upto), all_map (mark_later above log m.front.upto new.upto up) m.marks o.marks);
+                      first = (log, m.marks, refl);
+                      emptied = λ e. absurd (true≢false (sym out ∙ e));
+                    };
                   },
                   tt,
                 );

@@ -159,16 +159,20 @@ pub record BoxOk {T N : Type 0} (view : T → Option ViewState) (tells : List (P
 abbrev pub IsMark : {N : Type 0} → (ℕ → N → Type 0) → List (Placed N) → ℕ → Mark N → Type 0
 IsMark above log upto k = Covers above k.upto log k.seen × (k.upto ≤ upto)
 
--- what the seat of a number knows is so
-pub record NoteOk {T N : Type 0} (count : ℕ) (above : ℕ → N → Type 0) (cells : ℕ → Cell) (log : List (Placed N)) (homes : Homes T) (m : BoxNote N) : Type 0 where
-  pub i : ℕ
-  pub number : m.seat ≡ suc i
+-- what holds of the seat of a number
+pub record NoteHere {T N : Type 0} (count : ℕ) (above : ℕ → N → Type 0) (cells : ℕ → Cell) (log : List (Placed N)) (homes : Homes T) (i : ℕ) (m : BoxNote N) : Type 0 where
   pub within : i < count
   pub front : (cells i).shown ≡ m.front
   pub found : m.found_fresh ≡ true → (cells i).fresh ≡ true
   pub marks : AllByRecursion (IsMark above log m.front.upto) m.marks
   pub first : (had : List (Placed N)) × (rest : List (Mark N)) × (m.marks ≡ record { upto = m.front.upto; seen = had } ∷ rest)
   pub emptied : m.is_out ≡ false → Emptied homes (slot i (cells i).front)
+
+-- what the seat of a number knows is so
+pub record NoteOk {T N : Type 0} (count : ℕ) (above : ℕ → N → Type 0) (cells : ℕ → Cell) (log : List (Placed N)) (homes : Homes T) (m : BoxNote N) : Type 0 where
+  pub i : ℕ
+  pub number : m.seat ≡ suc i
+  pub here : NoteHere count above cells log homes i m
 
 -- the counts of the fronts that were given up, of all seats
 abbrev pub given_of : {N : Type 0} → Reads N → ℕ
@@ -206,11 +210,15 @@ pub record AtHome {T N : Type 0} (count : ℕ) (board : T → List (Option Opene
   pub there : get_elem? homes room ≡ some (some (Some thing))
   pub ok : TurnOk count returned p cells log homes all_given (beginning board sealed backs thing)
 
+-- the words, the slots and what each seat knows
+abbrev pub BoxState : Type 0 → Type 0 → Type 0 → Type 0
+BoxState T X N = State (Option T) (View X N (Reads N))
+
 -- The rule of the mailboxes, at a published number and a history: the number is that of its word, each mailbox and middle is so, and
 -- what each seat knows. The room at home, as the turn of who holds it, knows all backs.
 pub record Keeps {T X N : Type 0} (seats : X → ℕ) (view : T → Option ViewState) (board : T → List (Option OpenedEye)) (sealed : T → ℕ) (backs : T → List ℕ)
     (shows : X → List (Placed N) → ViewState → Type 0) (above : ℕ → N → Type 0) (returned : N → ℕ)
-    (x : X) (p : ℕ) (log : List (Placed N)) (s : State (Option T) (View X N (Reads N))) : Type 0 where
+    (x : X) (p : ℕ) (log : List (Placed N)) (s : BoxState T X N) : Type 0 where
   pub cells : ℕ → Cell
   pub wide : length s.words ≡ suc (suc room) + seats x
   pub deep : length s.homes ≡ suc room + 3 * seats x

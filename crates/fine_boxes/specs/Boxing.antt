@@ -10,8 +10,9 @@ use Rattle.fine_places.specs.Places.{Homes, Emptied}
 use Rattle.fine_boxes.specs.declared.model.BoxNote.{BoxNote}
 use Rattle.fine_boxes.specs.declared.model.Mark.{Mark}
 use Rattle.fine_boxes.specs.declared.model.TurnNote.{TurnNote}
-use Rattle.fine_boxes.specs.Boxes.{Cell, Apart, Reaches, IsMark, BoxOk, NoteOk, TurnOk, mailbox, slot, named, sum_below, Lower}
-use Rattle.fine_boxes.specs.Lists.{all_map, all_append, first_same, rest_same}
+use Rattle.fine_boxes.specs.Boxes.{Cell, Apart, Reaches, IsMark, BoxOk, NoteHere, NoteOk, TurnOk, mailbox, slot, named, sum_below, Lower}
+use Rattle.fine_places.proofs.Lists.{all_map, all_append}
+use Rattle.fine_boxes.specs.Lists.{first_same, rest_same}
 use Rattle.fine_boxes.specs.Cells.{put, by_cell, slot_behind}
 
 -- ---- mailboxes
@@ -65,12 +66,14 @@ module _ {T N : Type 0} (count : ℕ) (above : ℕ → N → Type 0) where
   note_changed cells cs log now hs hs' m r shown fresh mark home = record {
     i = r.i;
     number = r.number;
-    within = r.within;
-    front = shown ∙ r.front;
-    found = λ f. fresh (r.found f);
-    marks = all_map mark m.marks r.marks;
-    first = r.first;
-    emptied = λ o. home (r.emptied o);
+    here = record {
+      within = r.here.within;
+      front = shown ∙ r.here.front;
+      found = λ f. fresh (r.here.found f);
+      marks = all_map mark m.marks r.here.marks;
+      first = r.here.first;
+      emptied = λ o. home (r.here.emptied o);
+    };
   }
 
   -- nothing changed but the history, and words and slots at the places
@@ -89,55 +92,25 @@ notes_owned (m ∷ ms) (p ∷ ps) e = (
   all_map (λ m o. (o.0, inr o.1)) ms (notes_owned ms ps (rest_same m.seat p.seat (map (λ m. m.seat) ms) (map (λ s. s.seat) ps) e)),
 )
 
--- what holds of the seat of a number
-pub record NoteHere {T N : Type 0} (count : ℕ) (above : ℕ → N → Type 0) (cells : ℕ → Cell) (log : List (Placed N)) (homes : Homes T) (i : ℕ) (m : BoxNote N) : Type 0 where
-  pub within : i < count
-  pub front : (cells i).shown ≡ m.front
-  pub found : m.found_fresh ≡ true → (cells i).fresh ≡ true
-  pub marks : AllByRecursion (IsMark above log m.front.upto) m.marks
-  pub first : (had : List (Placed N)) × (rest : List (Mark N)) × (m.marks ≡ record { upto = m.front.upto; seen = had } ∷ rest)
-  pub emptied : m.is_out ≡ false → Emptied homes (slot i (cells i).front)
-
+-- what holds of the seat of a number, by its note
 pub note_here : {T N : Type 0} (count : ℕ) (above : ℕ → N → Type 0) (cells : ℕ → Cell) (log : List (Placed N)) (homes : Homes T) (i : ℕ) (m : BoxNote N) → m.seat ≡ suc i → NoteOk count above cells log homes m → NoteHere count above cells log homes i m
-note_here count above cells log homes i m number r = let e : r.i ≡ i = (let n = r.number in omega arith) in record {
-  within = subst (λ (j : ℕ). j < count) e r.within;
-  front = ap (λ (j : ℕ). (cells j).shown) (sym e) ∙ r.front;
-  found = λ f. ap (λ (j : ℕ). (cells j).fresh) (sym e) ∙ r.found f;
-  marks = r.marks;
-  first = r.first;
-  emptied = λ o. ap (λ (j : ℕ). get_elem? homes (slot j (cells j).front)) (sym e) ∙ r.emptied o;
-}
+note_here count above cells log homes i m number r = let e : r.i ≡ i = (let n = r.number in omega arith) in subst (λ (j : ℕ). NoteHere count above cells log homes j m) e r.here
 
 -- ---- turns
 
 module _ {T N : Type 0} (count : ℕ) (returned : N → ℕ) where
-  -- nothing changed but words and slots at the places
-  pub turn_behind : (p : ℕ) (cells : ℕ → Cell) (log : List (Placed N)) (hs hs' : Homes T) (a b : ℕ) (t : TurnNote) → ((k : ℕ) → room < k → get_elem? hs' k ≡ get_elem? hs k) → b ≡ a
-      → TurnOk count returned p cells log hs a t → TurnOk count returned p cells log hs' b t
-  turn_behind p cells log hs hs' a b t behind same r = record {
+  -- Slots changed, but not the back ones that are then not in hand; another may be in hand, and another number, which is not above the top, be published.
+  pub turn_kept : (p q : ℕ) (cells : ℕ → Cell) (log : List (Placed N)) (hs hs' : Homes T) (a b : ℕ) (t : TurnNote) (o : Option ℕ)
+      → ((j : ℕ) → j < count → o ≢ Some j → Emptied hs' (slot j (cells j).back)) → q ≤ t.top → b ≡ a
+      → TurnOk count returned p cells log hs a t → TurnOk count returned q cells log hs' b (record t { out = o })
+  turn_kept p q cells log hs hs' a b t o emptied top same r = record {
     long = r.long;
     back = r.back;
-    emptied = λ i lt no_out. behind (slot i (cells i).back) (slot_behind i (cells i).back) ∙ r.emptied i lt no_out;
+    emptied = emptied;
     reaches = r.reaches;
     posted_below = r.posted_below;
     below = r.below;
-    published = r.published;
-    names = r.names;
-    counts = r.counts ∙ sym same;
-  }
-
-  -- slots changed, but not the back ones that the turn does not have in hand
-  pub turn_homes : (p : ℕ) (cells : ℕ → Cell) (log : List (Placed N)) (hs hs' : Homes T) (a b : ℕ) (t : TurnNote)
-      → ((j : ℕ) → j < count → Emptied hs (slot j (cells j).back) → Emptied hs' (slot j (cells j).back)) → b ≡ a
-      → TurnOk count returned p cells log hs a t → TurnOk count returned p cells log hs' b t
-  turn_homes p cells log hs hs' a b t home same r = record {
-    long = r.long;
-    back = r.back;
-    emptied = λ j lt not_out. home j lt (r.emptied j lt not_out);
-    reaches = r.reaches;
-    posted_below = r.posted_below;
-    below = r.below;
-    published = r.published;
+    published = top;
     names = r.names;
     counts = r.counts ∙ sym same;
   }
@@ -146,17 +119,18 @@ module _ {T N : Type 0} (count : ℕ) (returned : N → ℕ) where
   pub turn_out : (p : ℕ) (cells : ℕ → Cell) (log : List (Placed N)) (hs hs' : Homes T) (a b : ℕ) (t : TurnNote) (o : Option ℕ)
       → ((j : ℕ) → j < count → o ≢ Some j → Emptied hs' (slot j (cells j).back)) → b ≡ a
       → TurnOk count returned p cells log hs a t → TurnOk count returned p cells log hs' b (record t { out = o })
-  turn_out p cells log hs hs' a b t o emptied same r = record {
-    long = r.long;
-    back = r.back;
-    emptied = emptied;
-    reaches = r.reaches;
-    posted_below = r.posted_below;
-    below = r.below;
-    published = r.published;
-    names = r.names;
-    counts = r.counts ∙ sym same;
-  }
+  turn_out p cells log hs hs' a b t o emptied same r = turn_kept p p cells log hs hs' a b t o emptied r.published same r
+
+  -- slots changed, but not the back ones that the turn does not have in hand
+  pub turn_homes : (p : ℕ) (cells : ℕ → Cell) (log : List (Placed N)) (hs hs' : Homes T) (a b : ℕ) (t : TurnNote)
+      → ((j : ℕ) → j < count → Emptied hs (slot j (cells j).back) → Emptied hs' (slot j (cells j).back)) → b ≡ a
+      → TurnOk count returned p cells log hs a t → TurnOk count returned p cells log hs' b t
+  turn_homes p cells log hs hs' a b t home same r = turn_out p cells log hs hs' a b t t.out (λ j lt not_out. home j lt (r.emptied j lt not_out)) same r
+
+  -- nothing changed but words and slots at the places
+  pub turn_behind : (p : ℕ) (cells : ℕ → Cell) (log : List (Placed N)) (hs hs' : Homes T) (a b : ℕ) (t : TurnNote) → ((k : ℕ) → room < k → get_elem? hs' k ≡ get_elem? hs k) → b ≡ a
+      → TurnOk count returned p cells log hs a t → TurnOk count returned p cells log hs' b t
+  turn_behind p cells log hs hs' a b t behind same r = turn_homes p cells log hs hs' a b t (λ j lt e. behind (slot j (cells j).back) (slot_behind j (cells j).back) ∙ e) same r
 
   -- one seat's cell and slots changed, and what the turn records of this seat
   pub turn_put : (p : ℕ) (cells : ℕ → Cell) (log : List (Placed N)) (hs hs' : Homes T) (a b : ℕ) (t u : TurnNote) (i : ℕ) (c : Cell) → ((j : ℕ) → j < count → Apart (cells j))

@@ -6,7 +6,8 @@ use native.Mathlib.Decide.{ℕ_discrete}
 use Rattle.fine_model.specs.declared.law.OpenedEye.{OpenedEye}
 use Rattle.fine_places.specs.History.{room}
 use Rattle.fine_boxes.specs.Boxes.{Cell, Apart, named, mailbox, slot, published_word}
-use Rattle.fine_boxes.specs.Lists.{decide, get_set_here, get_set_else}
+use Rattle.fine_places.proofs.Lists.{decide}
+use Rattle.fine_boxes.specs.Lists.{get_set_here, get_set_else}
 
 abbrev pick : {P : Type 0} → Dec P → Cell → Cell → Cell
 pick (yes _) a b = a

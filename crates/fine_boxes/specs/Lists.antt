@@ -5,32 +5,8 @@ use Rattle.std.proofs.lemmas.List.Sums.{sum_by-cons}
 use mathlib.Core.Option.{some, some-injective, some-ne-none}
 use native.Mathlib.Decide.{ℕ_discrete}
 use lib.ListN.{get_elem?}
+use Rattle.fine_places.proofs.Lists.{decide}
 use Rattle.fine_boxes.specs.Boxes.{sum_below}
-
-pub decide : (a b : ℕ) → (a ≡ b) ⊎ (a ≢ b)
-decide a b = go (ℕ_discrete a b)
-  where
-    go : Dec (a ≡ b) → (a ≡ b) ⊎ (a ≢ b)
-    go (yes e) = inl e
-    go (no n) = inr n
-
-pub bool_cases : (b : Bool) → (b ≡ true) ⊎ (b ≡ false)
-bool_cases true = inl refl
-bool_cases false = inr refl
-
-pub some_inj : (a b : ℕ) → Some a ≡ Some b → a ≡ b
-some_inj a b e = grind arith
-
-pub none_some : (o : Option ℕ) (a : ℕ) → o ≡ None → o ≢ Some a
-none_some o a e f = grind arith
-
-unwrap : {A : Type 0} → A → Option A → A
-unwrap a None = a
-unwrap a (Some b) = b
-
-pub some_same : {A : Type 0} (a b : A) → Some a ≡ Some b → a ≡ b
-unfolding unwrap
-some_same a b e = ap (unwrap a) e
 
 head : {A : Type 0} → A → List A → A
 head a [] = a
@@ -61,11 +37,6 @@ module _ {A : Type 0} where
   get_set_else (x ∷ xs) (suc i) zero a n = refl
   get_set_else (x ∷ xs) (suc i) (suc j) a n = get_set_else xs i j a (λ e. n (ap suc e))
 
-  pub set_at : (l : List A) (i : ℕ) (a b : A) → get_elem? l i ≡ some a → get_elem? (set l i b) i ≡ some b
-  set_at [] i a b e = absurd (some-ne-none a (sym e))
-  set_at (x ∷ xs) zero a b e = refl
-  set_at (x ∷ xs) (suc i) a b e = set_at xs i a b e
-
   -- ---- sums
 
   -- one item of a sum is another
@@ -84,17 +55,9 @@ module _ {A : Type 0} where
 
   -- ---- what all of a list have
 
-  pub all_map : {P Q : A → Type 0} → ((a : A) → P a → Q a) → (l : List A) → AllByRecursion P l → AllByRecursion Q l
-  all_map f [] p = tt
-  all_map f (x ∷ xs) p = (f x p.0, all_map f xs p.1)
-
   pub all_both : {P Q R : A → Type 0} → ((a : A) → P a → Q a → R a) → (l : List A) → AllByRecursion P l → AllByRecursion Q l → AllByRecursion R l
   all_both f [] p q = tt
   all_both f (x ∷ xs) p q = (f x p.0 q.0, all_both f xs p.1 q.1)
-
-  pub all_append : (P : A → Type 0) (l m : List A) → AllByRecursion P l → AllByRecursion P m → AllByRecursion P (l ++ m)
-  all_append P [] m p q = q
-  all_append P (x ∷ xs) m p q = (p.0, all_append P xs m p.1 q)
 
   pub all_drop : (P : A → Type 0) (n : ℕ) (l : List A) → AllByRecursion P l → AllByRecursion P (drop n l)
   all_drop P zero l p = p
@@ -119,11 +82,6 @@ sum_below_put (suc n) f g k lt same = ⊎_elim
     (λ (e : k ≡ n). let p = sum_below_same n g f (λ i l. same i (omega arith) (λ z. omega arith)) in let a = ap f e in let b = ap g e in omega arith)
     (λ (ne : k ≢ n). let p = sum_below_put n f g k (omega arith) (λ i l other. same i (omega arith) other) in let q = same n (omega arith) (λ z. ne (sym z)) in omega arith)
     (decide k n)
-
-pub zeros_index : (n k : ℕ) → slice_index (replicate n 0) k ≡ 0
-zeros_index zero k = refl
-zeros_index (suc n) zero = refl
-zeros_index (suc n) (suc k) = zeros_index n k
 
 -- the place of the first slot in hand
 at_first : {A : Type 0} → List (ℕ × A) → ℕ

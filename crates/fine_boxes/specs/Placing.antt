@@ -16,13 +16,13 @@ use Rattle.fine_places.specs.History.{room}
 use Rattle.fine_places.specs.Places.{Holds, Homes, placed, grown, tail_of, head_of, without_first, only_first, joined, spent, giving}
 use Rattle.fine_places.specs.Places as places
 use Rattle.fine_places.specs.Beside.{Around, Stays, Takes, Gives, Splits, Joins}
-use Rattle.fine_places.proofs.Lists.{none_held}
+use Rattle.fine_places.proofs.Lists.{none_held, some_same, not_some, all_map, all_append, set_at, zeros}
 use Rattle.fine_boxes.specs.declared.model.BoxNote.{BoxNote}
 use Rattle.fine_boxes.specs.declared.model.Mark.{Mark}
 use Rattle.fine_boxes.specs.declared.model.TurnNote.{TurnNote}
 use Rattle.fine_boxes.specs.declared.model.Reads.{Reads}
 use Rattle.fine_boxes.specs.Boxes.{Cell, IsMark, NoteOk, TurnOk, ViewOk, AtHome, Keeps, Owes, Learns, ShowsMore, Lower, beginning, taking, given, cut_left, cut_right, both, nothing, mailbox, slot, given_by, given_of}
-use Rattle.fine_boxes.specs.Lists.{some_same, first_same, rest_same, none_some, sum_set, sum_same, sum_cut, all_map, all_append, all_drop, all_take, set_at, zeros_index}
+use Rattle.fine_boxes.specs.Lists.{first_same, rest_same, sum_set, sum_same, sum_cut, all_drop, all_take}
 use Rattle.fine_boxes.specs.Cells.{box_behind, slot_behind, published_behind, back_is_empty, named_front}
 use Rattle.fine_boxes.specs.Boxing.{box_changed, mark_grows, notes_behind, turn_behind}
 
@@ -134,12 +134,12 @@ module _ {T X N : Type 0} (seats : X → ℕ) (view : T → Option ViewState) (b
   learns_boxes : (x : X) (p : ℕ) (log : List (Placed N)) (s : St) (r : Kept x p log s) (id : ℕ) (v : View X N (Reads N)) (thing : T) → get_elem? s.views id ≡ some v
       → TurnOk (seats x) returned p r.cells log s.homes (given_by s.views) (beginning board sealed backs thing) → Learns seats board sealed backs x v.beside thing
   learns_boxes x p log s r id v thing at o = record {
-    fronts = all_map (λ m n. let b = r.each_box n.i n.within in let buffer : m.front.buffer ≡ (r.cells n.i).front = ap (λ (u : ViewState). u.buffer) (sym n.front) ∙ b.front_at.buffer in record {
+    fronts = all_map (λ m n. let b = r.each_box n.i n.here.within in let buffer : m.front.buffer ≡ (r.cells n.i).front = ap (λ (u : ViewState). u.buffer) (sym n.here.front) ∙ b.front_at.buffer in record {
       i = n.i;
       number = n.number;
-      on_board = ap (λ j. slice_get (board thing) (3 * n.i + j)) buffer ∙ (o.names n.i (r.cells n.i).front n.within b.apart.front_in
-          ∙ ap Some (named_front (r.cells n.i) (r.cells n.i).front refl ∙ ap (λ (u : ViewState). Some u.eye) n.front));
-      upto = subst (λ (u : ViewState). u.upto ≤ sealed thing) n.front (o.below n.i n.within).0;
+      on_board = ap (λ j. slice_get (board thing) (3 * n.i + j)) buffer ∙ (o.names n.i (r.cells n.i).front n.here.within b.apart.front_in
+          ∙ ap Some (named_front (r.cells n.i) (r.cells n.i).front refl ∙ ap (λ (u : ViewState). Some u.eye) n.here.front));
+      upto = subst (λ (u : ViewState). u.upto ≤ sealed thing) n.here.front (o.below n.i n.here.within).0;
     }) v.beside.notes (r.each_view id v at).notes;
     long = (o.long.0, o.long.2);
     empty = λ i lt. let b = r.each_box i lt in let back = o.back i lt in (
@@ -186,9 +186,9 @@ module _ {T X N : Type 0} (seats : X → ℕ) (view : T → Option ViewState) (b
         ap length same_board ∙ r.long.2,
       );
       back = λ i lt. ap (λ l. slice_index l i) same_backs ∙ r.back i lt;
-      emptied = λ i lt _. behind (slot i (cells i).back) (slot_behind i (cells i).back) ∙ r.emptied i lt (none_some t.out i out);
-      reaches = λ i lt. let z = zeros_index (length (backs thing)) i in record { fresh = λ _. omega arith; stale = λ _. omega arith };
-      posted_below = λ i lt. let z = zeros_index (length (backs thing)) i in omega arith;
+      emptied = λ i lt _. behind (slot i (cells i).back) (slot_behind i (cells i).back) ∙ r.emptied i lt (not_some t.out i out);
+      reaches = λ i lt. let z = zeros (length (backs thing)) i in record { fresh = λ _. omega arith; stale = λ _. omega arith };
+      posted_below = λ i lt. let z = zeros (length (backs thing)) i in omega arith;
       below = λ i lt. let l = r.below i lt in ((let l₀ = l.0 in omega arith), (let l₁ = l.1 in omega arith));
       published = let l = r.published in omega arith;
       names = λ i j lt le. ap (λ l. slice_get l (3 * i + j)) same_board ∙ r.names i j lt le;
@@ -213,7 +213,7 @@ module _ {T X N : Type 0} (seats : X → ℕ) (view : T → Option ViewState) (b
         let total : given_by vs ≡ given_by s.views = sum_same (λ u. given_of u.beside) s.views id v z at refl in
         let behind : (j : ℕ) → room < j → get_elem? hs j ≡ get_elem? s.homes j = λ j lt. set_else s.homes room j (some (Some thing)) (λ q. omega arith) in
         let mark : (m : BoxNote N) → NoteOk (seats x) above r.cells seen s.homes m → (k : Mark N) → IsMark above seen m.front.upto k → IsMark above now m.front.upto k = λ m q.
-        mark_grows above seen e t.top m.front.upto lower later (subst (λ (u : ViewState). u.upto ≤ t.top) q.front (ok.below q.i q.within).0) in
+        mark_grows above seen e t.top m.front.upto lower later (subst (λ (u : ViewState). u.upto ≤ t.top) q.here.front (ok.below q.i q.here.within).0) in
         placed_moved x p seen now s r ws hs vs (length-set s.words room 0) (length-set s.homes room (some (Some thing)))
         (λ j lt. get_or-set_other s.words room j 0 0 (λ q. omega arith)) behind
         (λ i lt. (more x seen e (r.cells i).shown (lower (r.cells i).shown.upto t.top e.item (ok.below i lt).0 later), more x seen e (r.cells i).ahead (lower (r.cells i).ahead.upto t.top e.item (ok.below i lt).1 later)))

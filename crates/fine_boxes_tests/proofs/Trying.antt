@@ -14,7 +14,7 @@ use Rattle.fine_boxes.specs.Boxes.{Learns, Owes, beginning, taking}
 use Rattle.fine_boxes.specs.Telling.{posting, Posted}
 use Rattle.fine_boxes.specs.Plays.{ReadIt, WroteIt, MayPostIt, MayPublish}
 use Rattle.fine_boxes_tests.specs.Trial.{an_eye, state_in, trial_view, trial_board, trial_backs, TrialMe, Rests}
-use Rattle.fine_boxes.specs.Lists.{some_same, set_at}
+use Rattle.fine_places.proofs.Lists.{some_same, set_at}
 
 abbrev U : Type 0
 U = Unit {0}

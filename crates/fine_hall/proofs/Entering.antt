@@ -83,10 +83,10 @@ long_places V room all long = let n = length-append (map bucket_slot all) (room_
 pub same_beginning : {R V : Type 0} (state : R → RoomState) (origin : R → Origin) (view : V → ViewState) (n m : ℕ) (a b : R) (f g : List V) → n ≡ m → a ≡ b → f ≡ g → beginning n (origin a) (state a) view f ≡ beginning m (origin b) (state b) view g
 same_beginning state origin view n m a b f g p q r = λ i. beginning (p i) (origin (q i)) (state (q i)) view (r i)
 
-pub fresh_at : {R V : Type 0} (state : R → RoomState) (view : V → ViewState) (stands_for : R → List Row → ℕ → List Commit → Type 0) (x y : Beginning) (room : R) (fronts middles : List V) → x ≡ y → IsFreshHall state view stands_for y room fronts middles → IsFreshHall state view stands_for x room fronts middles
+fresh_at : {R V : Type 0} (state : R → RoomState) (view : V → ViewState) (stands_for : R → List Row → ℕ → List Commit → Type 0) (x y : Beginning) (room : R) (fronts middles : List V) → x ≡ y → IsFreshHall state view stands_for y room fronts middles → IsFreshHall state view stands_for x room fronts middles
 fresh_at state view stands_for x y room fronts middles is f = subst (λ (w : Beginning). IsFreshHall state view stands_for w room fronts middles) (sym is) f
 
-pub words_at : (n : ℕ) (l : List ℕ) (k v : ℕ) → k < n → slice_index l k ≡ v → slice_index (take n l) k ≡ v
+words_at : (n : ℕ) (l : List ℕ) (k v : ℕ) → k < n → slice_index l k ≡ v → slice_index (take n l) k ≡ v
 words_at n l k v lt e = get_or-take n l k 0 lt ∙ e
 
 pub few_seats : (n : ℕ) → 1 ≤ n → n ≤ 18 → (0 < n) × (n ≤ most_seats)
@@ -128,7 +128,7 @@ module _ {R B V : Type 0} (state : R → RoomState) (origin : R → Origin) (sta
     absent = λ n _. tt;
   }
 
-  pub lies : (k : ℕ) → k ≤ places.room → (thing : Load R B V) × (get_elem? slots k ≡ some (Some thing)) × Stands state origin stands_for bucket cached is_settled x k 0 thing []
+  lies : (k : ℕ) → k ≤ places.room → (thing : Load R B V) × (get_elem? slots k ≡ some (Some thing)) × Stands state origin stands_for bucket cached is_settled x k 0 thing []
   unfolding places.room
   lies k le = ⊎_elim
       (λ (near : k < 256). let at = at_bucket {V = V} room all k (let long = buckets.all in let less : k < length all = omega arith in less) in let e = buckets.empty k at.0 at.1 in
@@ -186,7 +186,7 @@ module _ {R B V : Type 0} (state : R → RoomState) (origin : R → Origin) (sta
           names_back = ap (λ l. slice_get l (3 * i + 2)) fresh.board ∙ b.2;
         }
 
-    pub opens_hall : Opens (λ (y : Beginning). y.seats) (λ (y : Beginning). y.fronts) (view_in view) (board_in state) (sealed_in state) backs_in ShowsTurns x 0 words slots
+    opens_hall : Opens (λ (y : Beginning). y.seats) (λ (y : Beginning). y.fronts) (view_in view) (board_in state) (sealed_in state) backs_in ShowsTurns x 0 words slots
     unfolding published_word places.room
     opens_hall = record {
       wide = wide ∙ ap (λ k. 258 + k) seats;
@@ -199,3 +199,30 @@ module _ {R B V : Type 0} (state : R → RoomState) (origin : R → Origin) (sta
       below = zero-le;
       each = opens_seat;
     }
+
+-- ---- the table of a new hall
+
+module _ {R B V : Type 0} (state : R → RoomState) (origin : R → Origin) (stands_for : R → List Row → ℕ → List Commit → Type 0) (bucket : B → ℕ) (cached : B → ℕ → Option (Content × ℕ)) (is_settled : B → Type 0) (view : V → ViewState)
+    (room : R) (all : List B) (fronts middles : List V) (seats : (1 ≤ length fronts) × (length fronts ≤ 18) × (length middles ≡ length fronts)) (buckets : AreFreshBuckets bucket cached is_settled all)
+    (fresh : IsFreshHall state view stands_for (beginning (length fronts) (origin room) (state room) view fronts) room fronts middles) (slots : List (Option (Load R B V))) (there : slots ≡ laid room all middles)
+    (count : ℕ) (key : R) (keys : List V) (n : count ≡ length fronts) (same : key ≡ room) (listed : keys ≡ fronts) where
+  abbrev start : Beginning
+  start = beginning count (origin key) (state key) view keys
+
+  start_is : start ≡ beginning (length fronts) (origin room) (state room) view fronts
+  start_is = same_beginning state origin view count (length fronts) key room keys fronts n same listed
+
+  fresh_start : IsFreshHall state view stands_for start room fronts middles
+  fresh_start = fresh_at state view stands_for start _ room fronts middles start_is fresh
+
+  pub start_lies : (k : ℕ) → k ≤ places.room → (thing : Load R B V) × (get_elem? slots k ≡ some (Some thing)) × Stands state origin stands_for bucket cached is_settled start k 0 thing []
+  start_lies = lies state origin stands_for bucket cached is_settled view room all fronts middles start start_is buckets fresh_start slots there
+
+  pub start_opens : (words : List ℕ) → length words ≡ 276 → ((k : ℕ) → k < 258 → slice_index words k ≡ 0) → ((i : ℕ) → i < 18 → slice_index words (258 + i) ≡ 2)
+      → Opens (λ (y : Beginning). y.seats) (λ (y : Beginning). y.fronts) (view_in view) (board_in state) (sealed_in state) backs_in ShowsTurns start 0 (take (258 + count) words) slots
+  start_opens words long free boxes =
+      let few : count ≤ 18 = subst (λ m. m ≤ 18) (sym n) seats.1 in
+      opens_hall state origin stands_for bucket cached is_settled view room all fronts middles start start_is buckets fresh_start slots there (take (258 + count) words) count refl (sym n) (seats.2 ∙ sym n) few
+      (length-take-le (258 + count) words (omega (arith, few, long)))
+      (words_at (258 + count) words 257 0 (omega arith) (free 257 (omega arith)))
+      (λ i lt. words_at (258 + count) words (258 + i) 2 (omega (arith, lt)) (boxes i (omega (arith, lt, few))))

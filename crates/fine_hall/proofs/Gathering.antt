@@ -17,10 +17,9 @@ use Rattle.fine_places.specs.History as places
 use Rattle.fine_places.specs.History.{StartsWith}
 use Rattle.fine_places.specs.Places.{Holds, joined}
 use Rattle.fine_places.specs.Telling as telling
-use Rattle.fine_places.proofs.Lists.{decide, all_append}
+use Rattle.fine_places.proofs.Lists.{decide, all_append, all_map}
 use Rattle.fine_boxes.specs.declared.model.Reads.{Reads}
 use Rattle.fine_boxes.specs.Boxes.{both}
-use Rattle.fine_boxes.specs.Lists.{all_map}
 use Rattle.fine_hall.specs.declared.turn.Turn.{Turn}
 use Rattle.fine_hall.specs.declared.law.Beginning.{Beginning}
 use Rattle.fine_hall.specs.declared.law.Load.{Load}

@@ -197,3 +197,7 @@ front_at all before front more f = ap (λ (m : List _). get_elem? m (length befo
 
 pub longer_by : {V : Type 0} (l before : List V) (front : V) → l ≡ before ++ front ∷ [] → length l ≡ suc (length before)
 longer_by l before front e = let n = ap length e ∙ length-append before (front ∷ []) in omega arith
+
+-- a table for so many fronts is one for the seats of the hall
+pub sized_for : (n m : ℕ) (z : TableId) → (1 ≤ n) × (n ≤ 18) × (n ≡ m) → HasTable n z → HasTable m z × (m ≤ 18)
+sized_for n m z seats sized = (subst (λ k. HasTable k z) seats.2 sized, subst (λ k. k ≤ 18) seats.2 seats.1)

@@ -2,6 +2,7 @@
 use Rattle.std.proofs.Common.{◌≡◌, ℕ, suc, ◌*◌, ◌<◌, List, [], ◌∷◌, ◌++◌, map, reverse, length, Option, Some, None, refl, sym, ap, ◌∙◌, arith, append_assoc, length-append}
 use Rattle.std.proofs.lemmas.List.{map-append, reverse-append}
 use Rattle.fine_places.proofs.Lists.{some_same}
+use Rattle.fine_boxes.specs.Lists.{first_same, rest_same}
 use Rattle.fine_hall.specs.declared.law.Load.{Load}
 use Rattle.fine_hall.specs.declared.law.Load.TheVariants as load
 use Rattle.fine_hall.specs.Opening.{bucket_slot, room_slot, laid_places, laid_views, laid}
@@ -14,20 +15,11 @@ pub no_slot : {A : Type 0} (a : A) → None ≡ Some a → ⊥
 unfolding is_some
 no_slot a e = let n = ap is_some e in absurd (omega arith)
 
-first_of : {A : Type 0} → A → List A → A
-first_of a [] = a
-first_of a (x ∷ xs) = x
-
-rest_of : {A : Type 0} → List A → List A
-rest_of [] = []
-rest_of (x ∷ xs) = xs
-
 pub not_empty : {A : Type 0} (x : A) (l : List A) → x ∷ l ≡ [] → ⊥
 not_empty x l e = let n = ap length e in absurd (omega arith)
 
 pub heads_same : {A : Type 0} (x y : A) (l m : List A) → x ∷ l ≡ y ∷ m → (x ≡ y) × (l ≡ m)
-unfolding first_of rest_of
-heads_same x y l m e = (ap (first_of x) e, ap rest_of e)
+heads_same x y l m e = (first_same x y l m e, rest_same x y l m e)
 
 -- the last item and those before it
 pub last_same : {A : Type 0} (a b : List A) (x y : A) → a ++ x ∷ [] ≡ b ++ y ∷ [] → (a ≡ b) × (x ≡ y)
@@ -44,12 +36,11 @@ parts_same (a ∷ aa) [] l m e len = absurd (let n = ap length (sym e) ∙ ap su
 parts_same (a ∷ aa) (b ∷ bs) l m e len = let h = heads_same a b (aa ++ l) (bs ++ m) e in let t = parts_same aa bs l m h.1 len in ((λ i. h.0 i ∷ t.0 i), t.1)
 
 pub last_mapped : {A C : Type 0} (f : A → C) (all : List A) (front : List C) (x : C) → map f all ≡ front ++ x ∷ [] → (left : List A) × (b : A) × (all ≡ left ++ b ∷ []) × (front ≡ map f left) × (x ≡ f b)
-unfolding first_of rest_of
 last_mapped f [] [] x e = absurd (not_empty x [] (sym e))
 last_mapped f [] (c ∷ cs) x e = absurd (not_empty c (cs ++ x ∷ []) (sym e))
-last_mapped f (a ∷ []) [] x e = ([], a, refl, refl, ap (first_of x) (sym e))
-last_mapped f (a ∷ b ∷ aa) [] x e = absurd (not_empty (f b) (map f aa) (ap rest_of e))
-last_mapped f (a ∷ aa) (c ∷ cs) x e = let t = last_mapped f aa cs x (ap rest_of e) in (a ∷ t.0, t.1, ap (λ l. a ∷ l) t.2, (λ i. ap (first_of c) (sym e) i ∷ t.3 i), t.4)
+last_mapped f (a ∷ []) [] x e = ([], a, refl, refl, sym (first_same (f a) x [] [] e))
+last_mapped f (a ∷ b ∷ aa) [] x e = absurd (not_empty (f b) (map f aa) (rest_same (f a) x (f b ∷ map f aa) [] e))
+last_mapped f (a ∷ aa) (c ∷ cs) x e = let t = last_mapped f aa cs x (rest_same (f a) c (map f aa) (cs ++ x ∷ []) e) in (a ∷ t.0, t.1, ap (λ l. a ∷ l) t.2, (λ i. sym (first_same (f a) c (map f aa) (cs ++ x ∷ []) e) i ∷ t.3 i), t.4)
 
 pub long_views : (R B : Type 0) {V : Type 0} (l : List V) → length (laid_views {R = R} {B = B} l) ≡ 3 * length l
 long_views R B [] = refl

@@ -20,12 +20,12 @@ use Rattle.fine_places.specs.declared.model.Placed.{Placed}
 use Rattle.fine_places.specs.History as places
 use Rattle.fine_places.specs.History.{most_seats, by_seat, touching, StartsWith, Owns, Owned}
 use Rattle.fine_places.specs.Telling.{Ended}
-use Rattle.fine_places.proofs.Lists.{some_same, all_append, owns_left, owns_right}
+use Rattle.fine_places.proofs.Lists.{some_same, all_append, owns_left, owns_right, all_map}
 use Rattle.fine_boxes.specs.declared.model.BoxNote.{BoxNote}
 use Rattle.fine_boxes.specs.declared.model.Mark.{Mark}
 use Rattle.fine_boxes.specs.Boxes.{Keeps, slot}
 use Rattle.fine_boxes.specs.Ends.{Ends, EndsNote}
-use Rattle.fine_boxes.specs.Lists.{all_map, all_both}
+use Rattle.fine_boxes.specs.Lists.{all_both}
 use Rattle.fine_boxes.proofs.Ending.{boxes_end}
 use Rattle.fine_hall.specs.declared.turn.Turn.{Turn}
 use Rattle.fine_hall.specs.declared.law.Beginning.{Beginning}

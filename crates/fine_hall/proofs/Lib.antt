@@ -11,6 +11,7 @@ pub mod Mailing
 pub mod Refreshing
 pub mod Handing
 pub mod Entering
+pub mod EmptyLog
 pub mod Gathering
 pub mod Sums
 pub mod SumsClosing

@@ -1,5 +1,5 @@
 -- How a pass goes on as it reads the published number or writes it, and as it posts a view.
-use Rattle.std.proofs.Common.{◌≡◌, ◌≢◌, ◌⊎◌, ℕ, ◌+◌, ◌-◌, ◌*◌, ◌<◌, ◌≤◌, [], ◌∷◌, length, set, slice_index, slice_get, Some, None, sym, ap, ◌∙◌, subst, ⊎_elim, arith, le_refl, le_trans, length-set, get_or-set_other, get_or-set_same}
+use Rattle.std.proofs.Common.{◌≡◌, ◌≢◌, ◌⊎◌, ℕ, ◌+◌, ◌-◌, ◌*◌, ◌<◌, ◌≤◌, [], ◌∷◌, length, set, slice_index, slice_get, Some, None, refl, sym, ap, ◌∙◌, subst, ⊎_elim, arith, le_refl, le_trans, length-set, get_or-set_other, get_or-set_same}
 use lib.ListN.{get_elem?}
 use Rattle.atomic_table.specs.Seated.{TableId}
 use Rattle.fine_model.specs.declared.law.ViewState.{ViewState}
@@ -20,7 +20,7 @@ use Rattle.fine_hall.specs.Laws.{AreTurns}
 use Rattle.fine_hall.specs.Passes.{PassView, first_mine, known, reads, turns, own_turns, published, HasPlace, IsHolder, IsPass}
 use Rattle.fine_hall.specs.Halls as halls
 use Rattle.fine_hall.specs.Halls.{KeepsPlaces, KeepsViews, Publishes, Posts, MayPost}
-use Rattle.fine_hall.proofs.Passing.{known_is, reads_is, one_turn, keeps_front, keeps_holder, about, still, alone, seen_is, next_pass, seeing_pass, sees_more, same_number}
+use Rattle.fine_hall.proofs.Passing.{keeps_known, known_is, reads_is, one_turn, keeps_front, keeps_holder, about, still, alone, seen_is, next_pass, seeing_pass, sees_more, same_number}
 
 module _ {V : Type 0} (view : V → ViewState) (z : TableId) (x : Beginning) (p : Pass V) (v : PassView) (ok : IsPass view z x p) (e : p.badge.views ≡ v ∷ [])
     (p' : Pass V) (v' : PassView) (e' : p'.badge.views ≡ v' ∷ []) (t' : p'.badge.table_id ≡ z) (n' : p'.number ≡ p.number) where
@@ -173,12 +173,7 @@ module _ {V : Type 0} (view : V → ViewState) (z : TableId) (x : Beginning) (p 
 
   pub posts : Posts x seat t new old p p'
   posts = record {
-    places = record {
-      same_held = ap (λ (u : Known Beginning Turn). u.held) same_known;
-      same_turns = ap (λ (u : Known Beginning Turn). u.seen) same_known;
-      same_own = ap (λ (u : Known Beginning Turn). first_mine u.shares) same_known;
-      same_published = ap (λ (u : Known Beginning Turn). u.published) same_known;
-    };
+    places = keeps_known p p' (known p) same_known refl refl refl refl;
     found = ap (λ (u : Known Beginning Turn). u.found) same_known;
     front = front';
     notes = ap (λ (y : Reads Turn). y.notes) reads_after;

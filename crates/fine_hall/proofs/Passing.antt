@@ -258,6 +258,15 @@ room_is p l = subst (LacksPlace p) (sym room_256) l
 pub has_room : {V : Type 0} (p : Pass V) → HasPlace p places.room → HasPlace p 256
 has_room p h = subst (HasPlace p) (sym room_256) h
 
+-- what a pass knows of the places stays, by what it then knows
+pub keeps_known : {V : Type 0} (p p' : Pass V) (k : Known Beginning Turn) → known p' ≡ k → k.held ≡ (known p).held → k.seen ≡ (known p).seen → k.shares ≡ (known p).shares → k.published ≡ (known p).published → KeepsPlaces p p'
+keeps_known p p' k is held seen shares published = record {
+  same_held = ap (λ (u : Known Beginning Turn). u.held) is ∙ held;
+  same_turns = ap (λ (u : Known Beginning Turn). u.seen) is ∙ seen;
+  same_own = ap (λ (u : Known Beginning Turn). first_mine u.shares) is ∙ ap first_mine shares;
+  same_published = ap (λ (u : Known Beginning Turn). u.published) is ∙ published;
+}
+
 -- ---- a conflict
 
 pub fits_owner : (seats : Beginning → ℕ) (k owner : ℕ) (v v' : PassView) → FoundHeld seats k v owner v' → owner < 4294967296
@@ -273,21 +282,19 @@ module _ {V : Type 0} (view : V → ViewState) (z : TableId) (x : Beginning) (p 
   reads_stay = reads_is p' v' e' ∙ (f.beside ∙ sym (reads_is p v e))
 
   keeps_places : KeepsPlaces p p'
-  keeps_places = record {
-    same_held = ap (λ (u : Known Beginning Turn). u.held) tried;
-    same_turns = ap (λ (u : Known Beginning Turn). u.seen) tried;
-    same_own = ap (λ (u : Known Beginning Turn). first_mine u.shares) tried;
-    same_published = ap (λ (u : Known Beginning Turn). u.published) tried;
-  }
+  keeps_places = keeps_known p p' (finding (known p) k owner) tried refl refl refl refl
 
-  pub still_pass : IsPass view z x p'
-  still_pass = next_pass view z x p v ok e p' v' e' n' (own_turns p) t'
+  kept_pass : IsPass view z x p'
+  kept_pass = next_pass view z x p v ok e p' v' e' n' (own_turns p) t'
       (ap (λ (u : Known Beginning Turn). u.about) f.places) (ap (λ (u : Known Beginning Turn). u.moving) f.places ∙ still view z x p v ok e) (ap (λ (u : Known Beginning Turn). u.shares) f.places ∙ alone view z x p v ok e)
       (ap (λ (u : Known Beginning Turn). length u.held) f.places)
       (subst (AreTurns x) (sym (ap (λ (u : Known Beginning Turn). u.seen) f.places ∙ seen_is view z x p v ok e)) ok.lawful)
       (ok.own ∙ ap (by_seat p.number) (sym (ap (λ (u : Known Beginning Turn). u.seen) f.places ∙ seen_is view z x p v ok e)))
       (keeps_front view p p' (ap (λ (y : Reads Turn). y.notes) reads_stay) n' front'.0 front'.1 ok.front)
       (λ h. let t = ok.holder (sym (ap (λ l. get_elem? l places.room) keeps_places.same_held) ∙ h) in (t.0, keeps_holder x p p' t.0 (ap (λ (y : Reads Turn). y.turn) reads_stay) front'.2 keeps_places.same_published t.1))
+
+  pub still_pass : IsPass view z x p' × (p'.number ≡ p.number)
+  still_pass = (kept_pass, n')
 
   pub finds : FindsHeld x k owner p p'
   finds = record {

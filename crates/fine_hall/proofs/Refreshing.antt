@@ -26,7 +26,7 @@ use Rattle.fine_hall.specs.Turns.{commits, touches_bucket}
 use Rattle.fine_hall.specs.Laws.{AreTurns, ShowsTurns, IsViewFor, view_in}
 use Rattle.fine_hall.specs.Showing.{shows_anyway}
 use Rattle.fine_hall.specs.Passes.{PassView, first_given, first_marks, first_looks, view_of, known, reads, seen, given_up, looks, marks, front_of, HasPlace, HasFront, IsPass}
-use Rattle.fine_hall.specs.Halls.{Refreshes, FindsStale, IsAhead, NamesFront}
+use Rattle.fine_hall.specs.Halls.{Refreshes, FindsStale, IsAhead, LooksOnce, NamesFront}
 use Rattle.fine_hall.proofs.Taking.{front_is, upto_is}
 use Rattle.fine_hall.proofs.Passing.{known_is, reads_is, has, keeps_holder, about, still, seeing_pass, sees_more, same_number}
 
@@ -39,9 +39,6 @@ sees_twice x q r v log all s t = record {
   holds = λ k h. s.holds k h ∙ t.holds k h;
   holder = λ h. s.holder h ∙ t.holder h;
 }
-
-pub looked_as : (m : BoxNote Turn) (b c : Bool) (v w : PassView) → b ≡ c → Looked AreTurns touches_bucket ShowsTurns m b v w → Looked AreTurns touches_bucket ShowsTurns m c v w
-looked_as m b c v w is l = subst (λ d. Looked AreTurns touches_bucket ShowsTurns m d v w) is l
 
 pub in_hand : {A : Type 0} (b : Bool) (l m : List A) → b ≡ true → m ≡ (if b then l else []) → m ≡ l
 in_hand b l m is e = e ∙ ap (λ d. if d then l else []) is
@@ -70,6 +67,11 @@ module _ {V : Type 0} (view : V → ViewState) (z : TableId) (x : Beginning) (p 
 
   pub own_front : (front : V) → p.front ≡ Some front → Some (view front) ≡ Some (counting ok.front.note.front (view ok.front.there).faults)
   own_front front there = ap (λ (w : V). Some (view w)) (some_same front ok.front.there (sym there ∙ ok.front.is_there)) ∙ ap Some ok.front.front
+
+  -- what a look tells, of the note of the pass
+  pub own_look : (fresh : Bool) (w : PassView) (b : Bool) → b ≡ fresh → ((m : BoxNote Turn) → v.beside.notes ≡ m ∷ [] → Looked AreTurns touches_bucket ShowsTurns m b v w)
+      → Looked AreTurns touches_bucket ShowsTurns ok.front.note fresh v w
+  own_look fresh w b is looks = subst (λ d. Looked AreTurns touches_bucket ShowsTurns ok.front.note d v w) is (looks ok.front.note one_note)
 
   -- the mailbox was found not fresh
   module _ (p' : Pass V) (v' : PassView) (e' : p'.badge.views ≡ v' ∷ []) (t' : p'.badge.table_id ≡ z) (n' : p'.number ≡ p.number) (front' : (p'.front ≡ p.front) × (p'.buffer ≡ p.buffer) × (p'.backs ≡ p.backs))
@@ -105,13 +107,13 @@ module _ {V : Type 0} (view : V → ViewState) (z : TableId) (x : Beginning) (p 
       place = (ok.front.place.0 ∙ sym n', ok.front.place.1 ∙ sym front'.1);
     }
 
-    pub stale_pass : IsPass view z x p'
+    stale_pass : IsPass view z x p'
     stale_pass = seeing_pass view z x p v ok e p' v' e' n' l.log l.published told.0 l.no_earlier (ap (λ (u : Known Beginning Turn). u.seen) l.places) (ap (λ (u : Known Beginning Turn). u.published) l.places) (ap (λ (u : Known Beginning Turn). u.shares) l.places) t'
         (ap (λ (u : Known Beginning Turn). u.about) l.places) (ap (λ (u : Known Beginning Turn). u.moving) l.places ∙ still view z x p v ok e) (ap (λ (u : Known Beginning Turn). length u.held) l.places) stale_front
         (λ h. let h' : HasPlace p places.room = sym (ap (λ l. get_elem? l places.room) stale_held) ∙ h in let t = ok.holder h' in
         (t.0, keeps_holder x p p' t.0 stale_turn front'.2 (same_number view z x p v ok e p' v' e' n' l.log l.published told.0 l.no_earlier (ap (λ (u : Known Beginning Turn). u.seen) l.places) (ap (λ (u : Known Beginning Turn). u.published) l.places) (ap (λ (u : Known Beginning Turn). u.shares) l.places) h') t.1))
 
-    pub finds_stale : FindsStale p p'
+    finds_stale : FindsStale p p'
     finds_stale = record {
       sees = sees_more view z x p v ok e p' v' e' n' l.log l.published told.0 l.no_earlier (ap (λ (u : Known Beginning Turn). u.seen) l.places) (ap (λ (u : Known Beginning Turn). u.published) l.places) (ap (λ (u : Known Beginning Turn). u.shares) l.places);
       same_held = stale_held;
@@ -122,20 +124,23 @@ module _ {V : Type 0} (view : V → ViewState) (z : TableId) (x : Beginning) (p 
       front = (front'.0, front'.1);
     }
 
-    pub stale_ahead : IsAhead view x p'
+    stale_ahead : IsAhead view x p'
     stale_ahead =
         let is : front_of view p' ≡ counting note.front (view ok.front.there).faults = ap (view_of view) (front'.0 ∙ ok.front.is_there) ∙ ok.front.front in record {
           shows = subst (IsViewFor x (seen p')) (sym is) (subst (λ (ts : List (Placed Turn)). IsViewFor x (commits ts) (counting note.front (view ok.front.there).faults)) (sym (ap (λ (u : Known Beginning Turn). u.seen) stale_known)) (shows_anyway x l.log note.front (view ok.front.there).faults told.1));
           reaches = subst (λ n. n ≤ (front_of view p').upto) (sym (ap (λ (u : Known Beginning Turn). u.published) stale_known)) (subst (λ (w : ViewState). l.published ≤ w.upto) (sym is) told.2);
         }
 
-    pub stale_named : NamesFront view x p p'
+    stale_named : NamesFront view x p p'
     stale_named t held h =
         let named = l.on_board t (p.number - 1) (has p v places.room e held) (turn_is ∙ h.turn) own_number in
         let is : front_of view p' ≡ counting note.front (view ok.front.there).faults = ap (view_of view) (front'.0 ∙ ok.front.is_there) ∙ ok.front.front in (
           ap (λ b. slice_get t.board (3 * (p.number - 1) + b)) (front'.1 ∙ sym ok.front.place.1) ∙ (named.0 ∙ ap (λ (w : ViewState). Some (Some w.eye)) (sym is)),
           subst (λ (w : ViewState). w.upto ≤ t.top) (sym is) named.1,
         )
+
+    pub stale_looks : LooksOnce view z x p p' false
+    stale_looks = record { pass = (stale_pass, n'); answer = finds_stale; ahead = stale_ahead; on_board = stale_named }
 
   -- the mailbox was found fresh
   module _ (w : PassView) (l : Looked AreTurns touches_bucket ShowsTurns ok.front.note true v w) where
@@ -198,7 +203,7 @@ module _ {V : Type 0} (view : V → ViewState) (z : TableId) (x : Beginning) (p 
         place = (r.place.0 ∙ (ok.front.seat ∙ sym n'), sym buffer');
       }
 
-      pub fresh_pass : IsPass view z x p'
+      fresh_pass : IsPass view z x p'
       fresh_pass = seeing_pass view z x p v ok e p' u e' n' r.log r.published second.0 later (ap (λ (u : Known Beginning Turn). u.seen) places') (ap (λ (u : Known Beginning Turn). u.published) places') (ap (λ (u : Known Beginning Turn). u.shares) places') t'
           (ap (λ (u : Known Beginning Turn). u.about) places') (ap (λ (u : Known Beginning Turn). u.moving) places' ∙ still view z x p v ok e) (ap (λ (u : Known Beginning Turn). length u.held) places') fresh_front
           (λ h. let h' : HasPlace p places.room = sym (ap (λ l. get_elem? l places.room) fresh_held) ∙ h in let t = ok.holder h' in
@@ -207,7 +212,7 @@ module _ {V : Type 0} (view : V → ViewState) (z : TableId) (x : Beginning) (p 
       front_now : front_of view p' ≡ new
       front_now = ap (view_of view) is_there ∙ is_new
 
-      pub fresh_refreshes : Refreshes view x p p'
+      fresh_refreshes : Refreshes view x p p'
       fresh_refreshes = record {
         sees = sees_more view z x p v ok e p' u e' n' r.log r.published second.0 later (ap (λ (u : Known Beginning Turn). u.seen) places') (ap (λ (u : Known Beginning Turn). u.published) places') (ap (λ (u : Known Beginning Turn). u.shares) places');
         same_held = fresh_held;
@@ -220,15 +225,18 @@ module _ {V : Type 0} (view : V → ViewState) (z : TableId) (x : Beginning) (p 
         turn = (fresh_turn, backs');
       }
 
-      pub fresh_ahead : IsAhead view x p'
+      fresh_ahead : IsAhead view x p'
       fresh_ahead = record {
         shows = subst (IsViewFor x (seen p')) (sym front_now) (subst (λ (ts : List (Placed Turn)). IsViewFor x (commits ts) new) (sym (ap (λ (u : Known Beginning Turn). u.seen) fresh_known)) second.1);
         reaches = subst (λ k. k ≤ (front_of view p').upto) (sym (ap (λ (u : Known Beginning Turn). u.published) fresh_known)) (subst (λ (w : ViewState). r.published ≤ w.upto) (sym front_now) r.reaches);
       }
 
-      pub fresh_named : NamesFront view x p p'
+      fresh_named : NamesFront view x p p'
       fresh_named t held h =
           let named = r.on_board t (p.number - 1) (subst (λ (k : Known Beginning Turn). Holds k places.room) (sym l.places) (has p v places.room e held)) (ap (λ (y : Reads Turn). y.turn) l.beside ∙ (turn_is ∙ h.turn)) own_number in (
             ap (λ b. slice_get t.board (3 * (p.number - 1) + b)) buffer' ∙ (named.0 ∙ ap (λ (w : ViewState). Some (Some w.eye)) (sym front_now)),
             subst (λ (w : ViewState). w.upto ≤ t.top) (sym front_now) named.1,
           )
+
+      pub fresh_looks : LooksOnce view z x p p' true
+      fresh_looks = record { pass = (fresh_pass, n'); answer = fresh_refreshes; ahead = fresh_ahead; on_board = fresh_named }

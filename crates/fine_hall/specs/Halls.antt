@@ -1,8 +1,9 @@
 -- What clauses say of a hall, and how a pass goes on.
-use Rattle.std.specs.Prelude.{◌≡◌, ◌≢◌, ◌⊎◌, ℕ, suc, ◌+◌, ◌*◌, ◌-◌, ◌<◌, ◌≤◌, List, [], ◌∷◌, ◌++◌, true, false, Some, None, Option, slice_set, slice_get, replicate, length, map, sum_by, All, IsPermutation}
+use Rattle.std.specs.Prelude.{◌≡◌, ◌≢◌, ◌⊎◌, ℕ, suc, ◌+◌, ◌*◌, ◌-◌, ◌<◌, ◌≤◌, List, [], ◌∷◌, ◌++◌, true, false, Some, None, Option, slice_set, slice_get, replicate, length, map, sum_by, All, IsPermutation, Bool, MatchBool}
 use Rattle.std.specs.List.{AllByRecursion, filter_map, range_with_len}
 use mathlib.Core.Option.{some}
 use lib.ListN.{get_elem?}
+use Rattle.atomic_table.specs.Seated.{TableId}
 use Rattle.fine_model.specs.Views.{counting}
 use Rattle.fine_model.specs.declared.Entry.{Entry}
 use Rattle.fine_model.specs.declared.Row.{Row}
@@ -229,6 +230,16 @@ module _ {V : Type 0} where
     pub same_held : (known p').held ≡ (known p).held
     pub found : found_held p' ≡ found_held p
     pub views : KeepsViews p p'
+
+-- ---- one look at the mailbox
+
+-- The pass looked at its mailbox, and has a new front where that was fresh. It is a pass of the hall still, its front shows the history so far, and
+-- in a turn of the pass the board names it.
+pub record LooksOnce {V : Type 0} (view : V → ViewState) (z : TableId) (x : Beginning) (p p' : Pass V) (is_fresh : Bool) : Type 0 where
+  pub pass : IsPass view z x p' × (p'.number ≡ p.number)
+  pub answer : MatchBool is_fresh (Refreshes view x p p') (FindsStale p p')
+  pub ahead : IsAhead view x p'
+  pub on_board : NamesFront view x p p'
 
 -- ---- the front on loan
 

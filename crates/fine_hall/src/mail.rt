@@ -15,7 +15,7 @@ use fine_model::{BucketLaw, RoomLaw, ViewLaw};
 
 impl<R: RoomLaw, B: BucketLaw, V: ViewLaw> Hall<R, B, V> {
     ghost use Rattle.fine_hall.specs.Passes.{HasPlace, IsHolder, published};
-    ghost use Rattle.fine_hall.specs.Halls.{IsPassOf, begun, MayPost, Posts, Refreshes, FindsStale, IsAhead, NamesFront, Publishes, Reads};
+    ghost use Rattle.fine_hall.specs.Halls.{IsPassOf, begun, MayPost, Posts, Refreshes, FindsStale, IsAhead, LooksOnce, NamesFront, Publishes, Reads};
 
     /// Reads the published number. It never waits, and takes no memory.
     ///
@@ -72,18 +72,10 @@ impl<R: RoomLaw, B: BucketLaw, V: ViewLaw> Hall<R, B, V> {
         old
     }
 
-    /// Looks once at the pass's own mailbox, and exchanges front and middle where it is fresh; else the answer is false, and the front
-    /// stays. It waits for nobody, and takes no memory.
-    ///
-    /// The pass then saw the history so far, which its front shows up to an epoch that is not below the published one. A new front
-    /// shows no less than the old one, and has met no fault; the faults of the old one are among those that the pass gave up. In a turn of
-    /// the pass the board names its front.
-    pub fn refresh(&self, pass: &mut Pass<V>) -> bool
+    /// Looks once at the pass's own mailbox, as `refresh` does.
+    fn look_once(&self, pass: &mut Pass<V>) -> bool
         requires pass { IsPassOf R.state R.origin V.state self.now pass.old }
-        ensures pass { IsPassOf R.state R.origin V.state self.now pass.new × (pass.new.number ≡ pass.old.number) }
-        ensures answer { MatchBool result (Refreshes V.state (begun R.state R.origin V.state self.now) pass.old pass.new) (FindsStale pass.old pass.new) }
-        ensures ahead { IsAhead V.state (begun R.state R.origin V.state self.now) pass.new }
-        ensures on_board { NamesFront V.state (begun R.state R.origin V.state self.now) pass.old pass.new }
+        ensures { LooksOnce V.state self.now.table.shared.table_id (begun R.state R.origin V.state self.now) pass.old pass.new result }
     {
         let mut seat: Seat<R, B, V> = pass.sit();
         let is_fresh = look(&self.table.shared, &mut seat, pass.number);
@@ -110,5 +102,21 @@ impl<R: RoomLaw, B: BucketLaw, V: ViewLaw> Hall<R, B, V> {
             pass.stand_up(seat);
             false
         }
+    }
+
+    /// Looks once at the pass's own mailbox, and exchanges front and middle where it is fresh; else the answer is false, and the front
+    /// stays. It waits for nobody, and takes no memory.
+    ///
+    /// The pass then saw the history so far, which its front shows up to an epoch that is not below the published one. A new front
+    /// shows no less than the old one, and has met no fault; the faults of the old one are among those that the pass gave up. In a turn of
+    /// the pass the board names its front.
+    pub fn refresh(&self, pass: &mut Pass<V>) -> bool
+        requires pass { IsPassOf R.state R.origin V.state self.now pass.old }
+        ensures pass { IsPassOf R.state R.origin V.state self.now pass.new × (pass.new.number ≡ pass.old.number) }
+        ensures answer { MatchBool result (Refreshes V.state (begun R.state R.origin V.state self.now) pass.old pass.new) (FindsStale pass.old pass.new) }
+        ensures ahead { IsAhead V.state (begun R.state R.origin V.state self.now) pass.new }
+        ensures on_board { NamesFront V.state (begun R.state R.origin V.state self.now) pass.old pass.new }
+    {
+        self.look_once(pass)
     }
 }

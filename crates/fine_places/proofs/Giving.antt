@@ -80,7 +80,7 @@ module _ {T X N Y : Type 0} (stands : X → ℕ → ℕ → T → List (Placed N
             (λ t. (sym t.1 ∙ ap (λ (a : List (Placed N)). a ++ e ∷ []) g.0 ∙ sym (filter_more (λ a. a.seat == may.seat) log e own_item) ∙ ap (λ m. by_seat m now) t.0, subst (λ m. 0 < m) t.0 g.1, subst (λ m. m ≤ seats x) t.0 g.2))
             (λ t. absurd t)
             (subst (λ ps. Owns ps m l) shares o);
-        fronts = all_map (StartsWith log) (StartsWith now) more v.places.fronts f.fronts;
+        fronts = all_map more v.places.fronts f.fronts;
         holds = λ i hold. ⊎_elim
             (λ (is : i ≡ room). absurd (gone i is hold))
             (λ (ne : i ≢ room). let h = f.holds i (sym (set_else v.places.held room i false ne) ∙ hold) in record {

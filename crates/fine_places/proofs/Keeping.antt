@@ -66,7 +66,7 @@ module _ {T X N Y : Type 0} (stands : X → ℕ → ℕ → T → List (Placed N
         about = f.about;
         seen = more u.places.seen f.seen;
         mine = λ m ms o. let g = f.mine m ms o in (g.0 ∙ sym (by m (λ t. apart (sym (r.apart id j m v u at at' t (ms, o))))), g.1, g.2);
-        fronts = all_map (StartsWith log) (StartsWith now) more u.places.fronts f.fronts;
+        fronts = all_map more u.places.fronts f.fronts;
         holds = λ i hold. let g = f.holds i hold in let ne : i ≢ k = λ e. free j u apart at' (subst (Holds u.places) e hold) in record {
           within = g.within;
           same = g.same ∙ sym (same i g.within (λ t. apart (sym (one_holder s p log r id j i v u at at' t hold))) ne);

@@ -1,5 +1,6 @@
 pub mod Behind
 pub mod Closing
+pub mod Elements
 pub mod Giving
 pub mod Keeping
 pub mod Lists

@@ -73,9 +73,9 @@ module _ {A : Type 0} where
 
 -- ---- what holds of each element
 
-pub all_map : {A : Type 0} (P Q : A → Type 0) → ((a : A) → P a → Q a) → (l : List A) → AllByRecursion P l → AllByRecursion Q l
-all_map P Q f [] all = tt
-all_map P Q f (a ∷ l) all = (f a all.0, all_map P Q f l all.1)
+pub all_map : {A : Type 0} {P Q : A → Type 0} → ((a : A) → P a → Q a) → (l : List A) → AllByRecursion P l → AllByRecursion Q l
+all_map f [] all = tt
+all_map f (a ∷ l) all = (f a all.0, all_map f l all.1)
 
 pub all_append : {A : Type 0} (P : A → Type 0) (l m : List A) → AllByRecursion P l → AllByRecursion P m → AllByRecursion P (l ++ m)
 all_append P [] m p q = q

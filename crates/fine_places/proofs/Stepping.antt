@@ -11,7 +11,7 @@ use Rattle.fine_places.specs.declared.model.Placed.{Placed}
 use Rattle.fine_places.specs.declared.model.Known.{Known}
 use Rattle.fine_places.specs.declared.model.View.{View}
 use Rattle.fine_places.specs.History.{room, Owned}
-use Rattle.fine_places.specs.Places.{Holds, PlaceState, Fits, Home, Away, Keeps, Rules, taking, finding, moving}
+use Rattle.fine_places.specs.Places.{Holds, Emptied, PlaceState, Fits, Home, Away, Keeps, Rules, taking, finding, moving}
 use Rattle.fine_places.specs.Telling.{at_room, Finds, took, settled, fetched, moves}
 use Rattle.fine_places.specs.Beside.{changed, Stays, Takes}
 use Rattle.fine_places.proofs.Lists.{decide, is_there, set_at, not_some, some_inj, at_room_elim}
@@ -53,16 +53,15 @@ module _ {T X N Y : Type 0} (stands : X → ℕ → ℕ → T → List (Placed N
       (λ j u _ at' h. nobody stands legal seats touches x s p log r k j u free at' h) mine (λ m o. o) (λ m o. o)
       (λ j ne h. set_else v.places.held k j true ne ∙ h) (inl (refl, (number, own))) (inr (record { who = id; view = w; there = set_at s.views id v w at; holds = set_at v.places.held k false true vacant }))
 
-  -- the empty slot of a held place goes home
-  pub settle_keeps : (s : PlaceState T X N Y) (p : ℕ) (log : List (Placed N)) (r : Keeps stands legal seats touches x p log s) (id k : ℕ) (v : View X N Y) → get_elem? s.views id ≡ some v
-      → k ≤ room → v.places.moving ≡ Some k → Holds v.places k
-      → Keeps stands legal seats touches x p log (changed s k (slice_index s.words k) (some None) id (moves v None))
-  settle_keeps s p log r id k v at le out held =
-      let w : View X N Y = moves v None in
+  -- The empty slot of a held place comes into hand, or goes home: what the seat has in hand then says which.
+  slot_moved : (s : PlaceState T X N Y) (p : ℕ) (log : List (Placed N)) (r : Keeps stands legal seats touches x p log s) (id k : ℕ) (v : View X N Y) → get_elem? s.views id ≡ some v → Holds v.places k
+      → (h : maybe.Option (Option T)) (m : Option ℕ) → ((i : ℕ) → Holds v.places i → m ≢ Some i → Emptied (set s.homes k h) i)
+      → Keeps stands legal seats touches x p log (changed s k (slice_index s.words k) h id (moves v m))
+  slot_moved s p log r id k v at held h m emptied =
+      let w : View X N Y = moves v m in
       let found : ℕ = slice_index s.words k in
       let f = r.each_view id v at in
-      let here : k < length s.homes = let deep = r.deep in omega arith in
-      let mine : Fits touches (seats x) x p log (set s.words k found) (set s.homes k (some None)) w.places = record {
+      let mine : Fits touches (seats x) x p log (set s.words k found) (set s.homes k h) w.places = record {
         about = f.about;
         seen = f.seen;
         mine = f.mine;
@@ -71,43 +70,30 @@ module _ {T X N Y : Type 0} (stands : X → ℕ → ℕ → T → List (Placed N
           within = g.within;
           same = g.same;
           owner = subst (λ (ws : List ℕ). Owned v.places.shares (slice_index ws i)) (sym (set-get_or s.words k 0)) g.owner;
-          emptied = λ no. ⊎_elim
-              (λ (e : i ≡ k). ap (get_elem? (set s.homes k (some None))) e ∙ set_here s.homes k (some None) here)
-              (λ (ne : i ≢ k). set_else s.homes k i (some None) ne ∙ g.emptied (λ q. ne (some_inj i k (sym q ∙ out))))
-              (decide i k);
+          emptied = emptied i hold;
         };
         published = f.published;
         holder = f.holder;
       } in
-      moved stands legal seats touches x grows s p p log log r id v w at k found (some None) r.is_legal r.authors (le_refl p) (inl refl) (λ l a. a) (λ j _ _ _. refl) (λ m _. refl)
-      (λ j u ne at' h. ne (one_holder stands legal seats touches x s p log r j id k u v at' at h held)) mine (λ m o. o) (λ m o. o) (λ j ne h. h)
+      moved stands legal seats touches x grows s p p log log r id v w at k found h r.is_legal r.authors (le_refl p) (inl refl) (λ l a. a) (λ j _ _ _. refl) (λ m _. refl)
+      (λ j u ne at' hold. ne (one_holder stands legal seats touches x s p log r j id k u v at' at hold held)) mine (λ m o. o) (λ m o. o) (λ j ne hold. hold)
       (inr (refl, λ e. e)) (inr (record { who = id; view = w; there = set_at s.views id v w at; holds = held }))
+
+  -- the empty slot of a held place goes home
+  pub settle_keeps : (s : PlaceState T X N Y) (p : ℕ) (log : List (Placed N)) (r : Keeps stands legal seats touches x p log s) (id k : ℕ) (v : View X N Y) → get_elem? s.views id ≡ some v
+      → k ≤ room → v.places.moving ≡ Some k → Holds v.places k
+      → Keeps stands legal seats touches x p log (changed s k (slice_index s.words k) (some None) id (moves v None))
+  settle_keeps s p log r id k v at le out held = slot_moved s p log r id k v at held (some None) None (λ i hold no. ⊎_elim
+      (λ (e : i ≡ k). ap (get_elem? (set s.homes k (some None))) e ∙ set_here s.homes k (some None) (let deep = r.deep in omega arith))
+      (λ (ne : i ≢ k). set_else s.homes k i (some None) ne ∙ ((r.each_view id v at).holds i hold).emptied (λ q. ne (some_inj i k (sym q ∙ out))))
+      (decide i k))
 
   -- the empty slot of a held place comes into hand
   pub fetch_keeps : (s : PlaceState T X N Y) (p : ℕ) (log : List (Placed N)) (r : Keeps stands legal seats touches x p log s) (id k : ℕ) (v : View X N Y) → get_elem? s.views id ≡ some v
       → k ≤ room → v.places.moving ≡ None → Holds v.places k
       → Keeps stands legal seats touches x p log (changed s k (slice_index s.words k) none id (moves v (Some k)))
-  fetch_keeps s p log r id k v at le out held =
-      let w : View X N Y = moves v (Some k) in
-      let found : ℕ = slice_index s.words k in
-      let f = r.each_view id v at in
-      let mine : Fits touches (seats x) x p log (set s.words k found) (set s.homes k none) w.places = record {
-        about = f.about;
-        seen = f.seen;
-        mine = f.mine;
-        fronts = f.fronts;
-        holds = λ i hold. let g = f.holds i hold in record {
-          within = g.within;
-          same = g.same;
-          owner = subst (λ (ws : List ℕ). Owned v.places.shares (slice_index ws i)) (sym (set-get_or s.words k 0)) g.owner;
-          emptied = λ no. set_else s.homes k i none (λ e. no (ap Some (sym e))) ∙ g.emptied (not_some v.places.moving i out);
-        };
-        published = f.published;
-        holder = f.holder;
-      } in
-      moved stands legal seats touches x grows s p p log log r id v w at k found none r.is_legal r.authors (le_refl p) (inl refl) (λ l a. a) (λ j _ _ _. refl) (λ m _. refl)
-      (λ j u ne at' h. ne (one_holder stands legal seats touches x s p log r j id k u v at' at h held)) mine (λ m o. o) (λ m o. o) (λ j ne h. h)
-      (inr (refl, λ e. e)) (inr (record { who = id; view = w; there = set_at s.views id v w at; holds = held }))
+  fetch_keeps s p log r id k v at le out held = slot_moved s p log r id k v at held none (Some k)
+      (λ i hold no. set_else s.homes k i none (λ e. no (ap Some (sym e))) ∙ ((r.each_view id v at).holds i hold).emptied (not_some v.places.moving i out))
 
 -- ---- under the rule of the table
 

@@ -16,17 +16,13 @@ use Rattle.epoch_room.specs.declared.answers.RoomFault.{RoomFault}
 use Rattle.epoch_room.specs.declared.answers.RoomFault.TheVariants as room_fault
 use Rattle.fine_places.specs.History as places
 use Rattle.fine_hall.specs.declared.law.Beginning.{Beginning}
-use Rattle.fine_hall.specs.Laws.{IsRoomFor}
-use Rattle.fine_hall.specs.Passes.{published, turns, LacksPlace}
-use Rattle.fine_hall.specs.Halls.{GivesRoom, TakesRoom}
-use Rattle.hall_rooms.specs.Rooms.{RoomPass, room_state, room_log}
-use Rattle.hall_rooms.specs.Turning.{SettlesTurn}
-use Rattle.hall_rooms.specs.Steps.{ErasesOr, InTurn, IsCleanTurn, LeavesViews, SameEpochs}
-use Rattle.hall_rooms.proofs.Shown.{meets_none, meets_some}
-use Rattle.hall_rooms.proofs.Turned.{epochs_stay, leaves_none, rises, some_failed, stays_none, stepped}
-
-abbrev Given : RoomState → List ℕ
-Given r = r.given
+use Rattle.fine_hall.specs.Halls.{GivesRoom}
+use Rattle.hall_rooms.specs.Rooms.{RoomPass}
+use Rattle.hall_rooms.specs.Turning.{MeetsNone, SettlesTurn}
+use Rattle.hall_rooms.specs.Steps.{BeginsTurn, ErasesOr, InTurn, IsCleanTurn, LeavesViews, SameEpochs}
+use Rattle.hall_rooms.proofs.GivenBack.{met_none, met_some}
+use Rattle.hall_rooms.proofs.Renewing.{turns_none}
+use Rattle.hall_rooms.proofs.Turned.{epochs_stay, leaves_none, left_chain, left_counts, left_rises, left_views, some_failed, stepped}
 
 -- what erasing the parts of some leads leaves, where no call failed
 record Freed (leads : List ℕ) (old new : RoomValue) : Type 0 where
@@ -37,22 +33,12 @@ record Freed (leads : List ℕ) (old new : RoomValue) : Type 0 where
   pub same : new.room ≡ record old.room { retired = new.room.retired; free = new.room.free; image = new.room.image }
 
 module _ (old new : RoomValue) (whole : IsWhole old) (beside : SameBeside old.disk new.disk) (keeps : Keeps old new) (job : KeepsJob old.room new.room) where
-  same_given : new.room.given ≡ new.disk.given → new.room.given ≡ old.room.given
-  same_given e = e ∙ (beside.given ∙ sym (ap Given whole.of_disk))
-
   did : (leads : List ℕ) → Does (erased_state old.room leads) old.target old new → Freed leads old new
   did leads s = record {
-    leaves = record {
-      entry = s.1.entry;
-      keeps = keeps;
-      job = job;
-      places = ap (λ (r : RoomState). r.places) s.1.room;
-      board = ap (λ (r : RoomState). r.board) s.1.room;
-      given = same_given (ap Given s.1.room);
-    };
+    leaves = left_views old new whole beside keeps job _ _ s.1 refl refl;
     epochs = (ap (λ (r : RoomState). r.sealed) s.1.room, ap (λ (r : RoomState). r.waiting) s.1.room);
     is_shut = ap (λ (r : RoomState). r.is_shut) s.1.room;
-    faults = ap (λ (r : RoomState). r.faults) s.1.room ∙ (s.2.faults ∙ sym (ap (λ (r : RoomState). r.faults) whole.of_disk));
+    faults = left_counts old new whole beside keeps job _ _ s.1 s.2;
     same = subst (λ (m : RoomState). m ≡ record old.room { retired = m.retired; free = m.free; image = m.image }) (sym s.1.room) (one ∙ ap (λ (r : RoomState). record r { retired = x.retired; free = x.free; image = x.image }) (sym whole.of_disk));
   }
     where
@@ -97,26 +83,9 @@ module _ (old new : RoomValue) (whole : IsWhole old) (beside : SameBeside old.di
         f.faults,
       )
   erased_or (Err room_fault.Disk) s left =
-      let d = s.5 in (
-        record {
-          entry = d.1.entry;
-          keeps = keeps;
-          job = job;
-          places = ap (λ (r : RoomState). r.places) d.1.room;
-          board = ap (λ (r : RoomState). r.board) d.1.room;
-          given = same_given (ap Given d.1.room);
-        },
-        (ap (λ (r : RoomState). r.sealed) d.1.room, ap (λ (r : RoomState). r.waiting) d.1.room),
-        d.0,
-        ap (λ (r : RoomState). r.is_shut) d.1.room,
-        rises old new (subst (λ n. HasRisen n new.room.faults) (sym (ap (λ (r : RoomState). r.faults) whole.of_disk)) (subst (HasRisen old.disk.faults) (sym (ap (λ (r : RoomState). r.faults) d.1.room)) d.2.faults)),
-        record {
-          parts = ap (λ (r : RoomState). r.parts) d.1.room;
-          sealed = ap (λ (r : RoomState). r.sealed) d.1.room;
-          waiting = ap (λ (r : RoomState). r.waiting) d.1.room;
-          places = ap (λ (r : RoomState). r.places) d.1.room;
-        },
-      )
+      let d = s.5 in
+      let k = left_chain old new whole beside keeps job _ _ d.1 refl refl refl refl in
+      (left_views old new whole beside keeps job _ _ d.1 refl refl, (k.sealed, k.waiting), d.0, ap (λ (r : RoomState). r.is_shut) d.1.room, left_rises old new whole beside keeps job _ _ d.1 d.2, k)
   erased_or (Err (room_fault.Shut epoch)) s left = s
   erased_or (Err room_fault.NoMemory) s left =
       let f = freed s.1.0 s.1.4 in (f.leaves, f.epochs, f.is_shut ∙ s.0, f.faults, record { parts = ap (λ (r : RoomState). r.parts) f.same; sealed = f.epochs.0; waiting = f.epochs.1; places = f.leaves.places })
@@ -136,15 +105,12 @@ job_kept old new (Err room_fault.Disk) s = s.0.job
 job_kept old new (Err (room_fault.Shut epoch)) s = subst (λ (v : RoomValue). KeepsJob old.room v.room) (sym s.2) (job_itself old.room)
 job_kept old new (Err room_fault.NoMemory) s = s.0.job
 
-module _ (x : Beginning) (found new : RoomValue) (p q r : RoomPass) (first : q.number ≡ p.number) (third : r.number ≡ q.number) (free : LacksPlace p places.room)
-    (taken : TakesRoom state_of x found.room p q) (stands : IsRoomFor room_state room_log Stands x (published q) found (turns q)) (c : IsCleanTurn x found q) (gave : GivesRoom new.room None 0 c.note q r) where
+module _ (x : Beginning) (found new : RoomValue) (p q r : RoomPass) (b : BeginsTurn x p q found) (third : r.number ≡ q.number) (gave : GivesRoom new.room None 0 b.clean.note q r) where
+  met_same : new.room.faults ≡ found.room.faults → MeetsNone x p r
+  met_same same = met_none x found new p q q r b refl third (turns_none x q) b.clean.note gave (let n = b.clean.none_failed in omega (arith, n, same))
+
   pub settles_turn : (answer : Result ℕ RoomFault) → ErasesOr found new answer → SettlesTurn x found.room new.room p r answer
-  settles_turn (Ok erased) s = (s.3, s.4, meets_none x found new p q q r first refl third free taken stands (stays_none q) c.note gave (let n = c.none_failed in let e = s.5 in omega (arith, n, e)))
-  settles_turn (Err room_fault.Disk) s = (s.2, s.3, s.5, s.0.board, meets_some x found new p q q r first refl third free taken stands (stays_none q) c.note gave (some_failed x q found new c.note c.turn s.4))
-  settles_turn (Err (room_fault.Shut epoch)) s = (
-    s.0,
-    s.1,
-    ap (λ (v : RoomValue). v.room) s.2,
-    meets_none x found new p q q r first refl third free taken stands (stays_none q) c.note gave (let n = c.none_failed in let e = ap (λ (v : RoomValue). v.room.faults) s.2 in omega (arith, n, e)),
-  )
-  settles_turn (Err room_fault.NoMemory) s = (s.2, s.4, s.0.board, meets_none x found new p q q r first refl third free taken stands (stays_none q) c.note gave (let n = c.none_failed in let e = s.3 in omega (arith, n, e)))
+  settles_turn (Ok erased) s = (s.3, s.4, met_same s.5)
+  settles_turn (Err room_fault.Disk) s = (s.2, s.3, s.5, s.0.board, met_some x found new p q q r b refl third (turns_none x q) b.clean.note gave (some_failed x q found new b.clean.note b.clean.turn s.4))
+  settles_turn (Err (room_fault.Shut epoch)) s = (s.0, s.1, ap (λ (v : RoomValue). v.room) s.2, met_same (ap (λ (v : RoomValue). v.room.faults) s.2))
+  settles_turn (Err room_fault.NoMemory) s = (s.2, s.4, s.0.board, met_same s.3)

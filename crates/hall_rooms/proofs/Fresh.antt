@@ -23,7 +23,7 @@ use Rattle.epoch_room.specs.declared.answers.RoomFault.TheVariants as room_fault
 use Rattle.epoch_room.proofs.Behind.{keeps_none}
 use Rattle.epoch_room.proofs.Joining.{keeps_then}
 use Rattle.epoch_room.proofs.Viewing.{empty_is}
-use Rattle.fine_boxes.specs.Lists.{some_same}
+use Rattle.fine_places.proofs.Lists.{some_same}
 use Rattle.fine_hall.specs.declared.law.Beginning.{Beginning}
 use Rattle.fine_hall.specs.Laws.{beginning}
 use Rattle.fine_hall.specs.Halls.{AreFreshBuckets, IsFreshHall, IsFreshView, first_board}
@@ -406,47 +406,66 @@ module _ (old mid : RoomValue) (board : List Buffer) (is : mid ≡ with_state ol
     cause = caused_seated new.room fault (subst (λ (v : RoomValue). WhyNoHall v.room new.room fault) is l.cause);
   }
 
-  module _ (new : RoomValue) (seats : ℕ) (fronts middles : List ViewValue) (some_seat : 1 ≤ seats) (alone : StandsAlone old) (many : length fronts ≡ seats) (all : length middles ≡ seats) (opened : old.room.is_shut ≡ false) (m : MakesMiddles mid new fronts middles) where
-    abbrev x : Beginning
-    x = beginning (length fronts) (room_log new) new.room state_of fronts
+-- a front and a middle were made for each seat, in a room that was open and has an empty board for them
+pub record MadeViews (old new : RoomValue) (seats : ℕ) (fronts middles : List ViewValue) : Type 0 where
+  pub mid : RoomValue
+  pub board : List Buffer
+  pub is : mid ≡ with_state old (record old.room { board = board })
+  pub keeps : Keeps old mid
+  pub alone : StandsAlone old
+  pub many : length fronts ≡ seats
+  pub all : length middles ≡ seats
+  pub opened : old.room.is_shut ≡ false
+  pub made : MakesMiddles mid new fronts middles
 
-    room_is : new.room ≡ with_eyes old.room new.room
-    room_is = m.same ∙ ap (λ (v : RoomValue). with_eyes v.room new.room) is
+pub made_views : (old mid room new : RoomValue) (board : List Buffer) (seats : ℕ) (fronts middles : List ViewValue) → mid ≡ with_state old (record old.room { board = board }) → Keeps old mid → 1 ≤ seats → StandsAlone old → (length fronts ≡ seats) × MakesFronts mid room seats fronts
+    → ((old : RoomValue) (fronts : List ViewValue) → StandsAlone old → length fronts ≡ seats → MakesFronts old room seats fronts → (length middles ≡ seats) × MakesMiddles old new fronts middles) → MadeViews old new seats fronts middles
+made_views old mid room new board seats fronts middles is keeps least alone f made =
+    let many = f.0 in
+    let m = made mid fronts (alone_seated old mid board is keeps alone) many f.1 in
+    record { mid = mid; board = board; is = is; keeps = keeps; alone = alone; many = many; all = m.0; opened = sym (ap (λ (v : RoomValue). v.room.is_shut) is) ∙ f.1.is_open (omega (arith, many, least)); made = m.1 }
 
-    entry_is : new.entry ≡ old.entry
-    entry_is = m.out.entry ∙ ap (λ (v : RoomValue). v.entry) is
+module _ (old new : RoomValue) (seats : ℕ) (fronts middles : List ViewValue) (v : MadeViews old new seats fronts middles) where
+  abbrev x : Beginning
+  x = beginning (length fronts) (room_log new) new.room state_of fronts
 
-    fresh_for : (seat buffer : ℕ) (v : ViewValue) → IsFreshView (beginning 0 (room_log mid) mid.room state_of []) seat buffer (state_of v) → IsFreshView x seat buffer (state_of v)
-    fresh_for seat buffer v f = record {
-      place = f.place;
-      upto = f.upto ∙ sym (ap (λ (r : RoomState). r.sealed) m.same);
-      clean = f.clean;
-      shows = record {
-        region_len = f.shows.region_len ∙ sym (ap (λ (r : RoomState). r.region_len) m.same);
-        since = let s = f.shows.since in let e = ap (λ (r : RoomState). r.sealed) m.same in omega (arith, s, e);
-        tells = λ e first b. f.shows.tells e first (subst (λ d. Began (origin_of d) e first) m.out.entry b);
-      };
-    }
+  room_is : new.room ≡ with_eyes old.room new.room
+  room_is = v.made.same ∙ ap (λ (r : RoomValue). with_eyes r.room new.room) v.is
 
-    pub fresh_hall : old.room.job ≡ None → old.room.places ≡ 0 → old.room.waiting ≡ 0 → IsFreshHall room_state state_of Stands x new fronts middles
-    fresh_hall no_job no_place none_waits = record {
-      stands = λ e first b. m.out.keeps.stands first e [] (alone_seated alone e first (subst (λ d. Began (origin_of d) e first) m.out.entry b));
-      places = ap (λ (r : RoomState). r.places) room_is ∙ no_place;
-      none_waits = ap (λ (r : RoomState). r.waiting) room_is ∙ none_waits;
-      not_shut = ap (λ (r : RoomState). r.is_shut) room_is ∙ opened;
-      no_job = ap (λ (r : RoomState). r.job) room_is ∙ no_job;
-      board =
-          let gone : drop (length middles) (map state_of fronts) ≡ [] = ap (λ n. drop n (map state_of fronts)) (all ∙ (sym many ∙ sym (length-map fronts state_of))) ∙ drop-length (map state_of fronts) in
-          m.board ∙ (ap (λ l. first_board (map state_of fronts) (map state_of middles) ++ front_board l) gone ∙ append-nil (first_board (map state_of fronts) (map state_of middles)));
-      each_front = λ i v at. fresh_for (suc i) 0 v (m.fresh_fronts i v at);
-      each_middle = λ i v at. fresh_for (suc i) 1 v (m.fresh_middles i v at);
-    }
+  entry_is : new.entry ≡ old.entry
+  entry_is = v.made.out.entry ∙ ap (λ (r : RoomValue). r.entry) v.is
 
-    pub opens : OpensHall old seats x
-    opens = record { seats_are = many; log = ap origin_of entry_is; room = room_is; becomes = (keeps_then old mid new keeps m.out.keeps).becomes }
+  fresh_for : (seat buffer : ℕ) (w : ViewValue) → IsFreshView (beginning 0 (room_log v.mid) v.mid.room state_of []) seat buffer (state_of w) → IsFreshView x seat buffer (state_of w)
+  fresh_for seat buffer w f = record {
+    place = f.place;
+    upto = f.upto ∙ sym (ap (λ (r : RoomState). r.sealed) v.made.same);
+    clean = f.clean;
+    shows = record {
+      region_len = f.shows.region_len ∙ sym (ap (λ (r : RoomState). r.region_len) v.made.same);
+      since = let s = f.shows.since in let e = ap (λ (r : RoomState). r.sealed) v.made.same in omega (arith, s, e);
+      tells = λ e first b. f.shows.tells e first (subst (λ d. Began (origin_of d) e first) v.made.out.entry b);
+    };
+  }
 
-    pub lacks_hall : LacksViews old new (reverse middles ++ reverse fronts) room_fault.NoMemory
-    lacks_hall = lacks_seated new (reverse middles ++ reverse fronts) room_fault.NoMemory (record { out = m.out; cause = m.same })
+  pub fresh_hall : old.room.job ≡ None → old.room.places ≡ 0 → old.room.waiting ≡ 0 → IsFreshHall room_state state_of Stands x new fronts middles
+  fresh_hall no_job no_place none_waits = record {
+    stands = λ e first b. v.made.out.keeps.stands first e [] (alone_seated old v.mid v.board v.is v.keeps v.alone e first (subst (λ d. Began (origin_of d) e first) v.made.out.entry b));
+    places = ap (λ (r : RoomState). r.places) room_is ∙ no_place;
+    none_waits = ap (λ (r : RoomState). r.waiting) room_is ∙ none_waits;
+    not_shut = ap (λ (r : RoomState). r.is_shut) room_is ∙ v.opened;
+    no_job = ap (λ (r : RoomState). r.job) room_is ∙ no_job;
+    board =
+        let gone : drop (length middles) (map state_of fronts) ≡ [] = ap (λ n. drop n (map state_of fronts)) (v.all ∙ (sym v.many ∙ sym (length-map fronts state_of))) ∙ drop-length (map state_of fronts) in
+        v.made.board ∙ (ap (λ l. first_board (map state_of fronts) (map state_of middles) ++ front_board l) gone ∙ append-nil (first_board (map state_of fronts) (map state_of middles)));
+    each_front = λ i w at. fresh_for (suc i) 0 w (v.made.fresh_fronts i w at);
+    each_middle = λ i w at. fresh_for (suc i) 1 w (v.made.fresh_middles i w at);
+  }
+
+  pub opens : OpensHall old seats x
+  opens = record { seats_are = v.many; log = ap origin_of entry_is; room = room_is; becomes = (keeps_then old v.mid new v.keeps v.made.out.keeps).becomes }
+
+  pub lacks_hall : LacksViews old new (reverse middles ++ reverse fronts) room_fault.NoMemory
+  lacks_hall = lacks_seated old v.mid v.board v.is v.keeps new (reverse middles ++ reverse fronts) room_fault.NoMemory (record { out = v.made.out; cause = v.made.same })
 
 -- what comes back of a hall that was not made is what was given
 pub lacks_same : (old room other : RoomValue) (fronts fs middles ms : List ViewValue) → other ≡ room → fs ≡ fronts → ms ≡ middles → LacksViews old room (reverse middles ++ reverse fronts) room_fault.NoMemory → LacksViews old other (reverse ms ++ reverse fs) room_fault.NoMemory

@@ -7,6 +7,7 @@ pub mod Posted
 pub mod Shown
 pub mod Erased
 pub mod Fresh
+pub mod GivenBack
 pub mod Idle
 pub mod Merged
 pub mod Renewing

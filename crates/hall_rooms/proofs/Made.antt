@@ -25,13 +25,13 @@ use Rattle.fine_hall.specs.Halls.{turn_of, GivesRoom, IsAhead, TakesRoom}
 use Rattle.fine_hall.proofs.Since.{gives_law}
 use Rattle.fine_hall.proofs.Troubles.{troubles_law}
 use Rattle.hall_rooms.specs.Rooms.{RoomPass, room_state, room_log}
-use Rattle.hall_rooms.specs.Steps.{InTurn, IsCleanTurn, IsFailedTurn, NoneFailed, Rises}
+use Rattle.hall_rooms.specs.Steps.{BeginsTurn, InTurn, IsCleanTurn, IsFailedTurn, NoneFailed, Rises}
 use Rattle.hall_rooms.specs.Turning.{MeetsNone, MeetsSome, NotBegan}
 use Rattle.hall_rooms.specs.Merging.{Failing, MergesThroughOr, OnDamage, StandsForNone}
 use Rattle.hall_rooms.specs.Making.{AddsTurn, Clears, ClearsMergedOr, GoesOn, GoesOnAfter, IsCleared, MakesOr, MergesAndClears, MergesClearedOr, OnceCleared, Stops, TriesInVain, TurnsOn}
 use Rattle.hall_rooms.proofs.Clearing.{is_cleared, not_retired, some_retired}
 use Rattle.hall_rooms.proofs.Merged.{may_merge, not_begun, on_damage}
-use Rattle.hall_rooms.proofs.Shown.{held_back}
+use Rattle.hall_rooms.proofs.GivenBack.{met_none, met_some}
 use Rattle.hall_rooms.proofs.Turned.{some_failed}
 
 -- ---- how a turn goes on
@@ -146,56 +146,14 @@ not_cleared from found room room_fault.NoMemory s = (s, inl s)
 pub seen_stands : (x : Beginning) (room : RoomValue) (q r : RoomPass) (t : TurnNote) → InTurn x room q t → GivesRoom room.room None 0 t q r → (e : ℕ) (first : List Row) → Began x.log e first → Stands room first e (seen r)
 seen_stands x room q r t i gave e first b = subst (Stands room first e) (sym (gives_law x room.room None 0 t q r gave).seen_more) (i.may.stands e first b)
 
-module _ (x : Beginning) (found new : RoomValue) (p p₁ q r : RoomPass) (first : p₁.number ≡ p.number) (second : q.number ≡ p₁.number) (third : r.number ≡ q.number) (free : LacksPlace p places.room)
-    (taken : TakesRoom state_of x found.room p p₁) (stands : IsRoomFor room_state room_log Stands x (published p₁) found (turns p₁)) (on : TurnsOn x p₁ q) where
-  module _ (t : TurnNote) (gave : GivesRoom new.room None 0 t q r) where
-    turns_are : turns q ≡ turns p ++ taken.takes.sees.longer.0
-    turns_are = on.turns ∙ taken.takes.sees.longer.1
-
-    number : q.number ≡ p.number
-    number = second ∙ first
-
-    pub turn_added : AddsTurn x found.room new.room p r
-    turn_added = record {
-      others = taken.takes.sees.longer.0;
-      not_own = taken.takes.sees.longer.2;
-      kept = λ j near has. taken.takes.sees.kept j near has ∙ ap (λ ts. in_bucket j (commits ts)) taken.takes.sees.longer.1;
-      found_is = stands.last ∙ ap (room_after x.room) taken.takes.sees.longer.1;
-      found_job = taken.same_job;
-      returned = t.in_hand;
-      turns_more = gave.turns_more ∙ (λ i. turns_are i ++ record { seat = number i; item = turn_of None 0 new.room t.in_hand } ∷ []);
-      own_more = gave.own_more ∙ (λ i. (on.own ∙ taken.takes.sees.same_own) i ++ record { seat = number i; item = turn_of None 0 new.room t.in_hand } ∷ []);
-      no_earlier = let a = taken.takes.sees.no_earlier in let b = on.no_earlier in let c = gave.same_published in omega (arith, a, b, c);
-      same_held = gave.held ∙ (ap (λ l. slice_set l places.room false) (on.held ∙ taken.takes.held) ∙ held_back (known p).held places.room false true free);
-    }
-
-    met : troubles state_of x q ≡ troubles state_of x p
-    met = on.meets ∙ ((troubles_law state_of x).same p p₁ first).takes places.room taken.takes
-
-    ended : troubles state_of x r ≡ troubles state_of x q + (new.room.faults - ((last_room x q).faults + t.in_hand))
-    ended = (troubles_law state_of x).turn new.room None 0 t q r third gave
-
-    met_none : NoneFailed x new q t → MeetsNone x p r
-    met_none n = let e = ended in let m = met in omega (arith, e, m, n)
-
-    met_some : ((last_room x q).faults + t.in_hand < new.room.faults) ⊎ (last_count ≤ new.room.faults) → MeetsSome x p r
-    met_some s = ⊎_elim (λ up. inl (let e = ended in let m = met in omega (arith, e, m, up)))
-        (λ last. inr (subst (λ (s : RoomState). last_count ≤ s.faults) (sym (gives_law x new.room None 0 t q r gave).last) last)) s
-
-    -- a front that was ahead is so at the end
-    pub ahead_still : IsAhead state_of x q → IsAhead state_of x r
-    ahead_still a = record {
-      shows = subst (λ s. IsViewFor x s (front_of state_of r)) (sym ((gives_law x new.room None 0 t q r gave).seen_more ∙ append-nil (seen q))) (subst (λ (o : Option ViewValue). IsViewFor x (seen q) (view_of state_of o)) (sym gave.front.0) a.shows);
-      reaches = let b = a.reaches in let s = gave.same_published in let f = ap (λ (o : Option ViewValue). (view_of state_of o).upto) gave.front.0 in omega (arith, b, s, f);
-    }
-
+module _ (x : Beginning) (found new : RoomValue) (p p₁ q r : RoomPass) (begun : BeginsTurn x p p₁ found) (second : q.number ≡ p₁.number) (third : r.number ≡ q.number) (on : TurnsOn x p₁ q) where
   pub makes_meet : (answer : Result Bool MergeFault) (g : GoesOn x new q answer) → GivesRoom new.room None 0 (in_any_turn x new q answer g).0 q r → Failing answer (MeetsSome x p r) (MeetsNone x p r)
   unfolding in_any_turn
-  makes_meet (Ok merged) g gave = met_none g.note gave g.none_failed
-  makes_meet (Err (merge_fault.Fetch fetch_fault.Failed)) g gave = met_some g.note gave g.some_failed
-  makes_meet (Err (merge_fault.Fetch (fetch_fault.BadRow region at))) g gave = met_none g.note gave g.none_failed
-  makes_meet (Err (merge_fault.Fetch (fetch_fault.BadIndex region at))) g gave = met_none g.note gave g.none_failed
-  makes_meet (Err (merge_fault.Fetch fetch_fault.NoMemory)) g gave = met_none g.note gave g.none_failed
-  makes_meet (Err (merge_fault.Room room_fault.Disk)) g gave = met_some g.note gave g.some_failed
-  makes_meet (Err (merge_fault.Room room_fault.NoMemory)) g gave = met_none g.note gave g.none_failed
-  makes_meet (Err (merge_fault.Room (room_fault.Shut epoch))) g gave = met_none g.note gave g.none_failed
+  makes_meet (Ok merged) g gave = met_none x found new p p₁ q r begun second third on g.note gave g.none_failed
+  makes_meet (Err (merge_fault.Fetch fetch_fault.Failed)) g gave = met_some x found new p p₁ q r begun second third on g.note gave g.some_failed
+  makes_meet (Err (merge_fault.Fetch (fetch_fault.BadRow region at))) g gave = met_none x found new p p₁ q r begun second third on g.note gave g.none_failed
+  makes_meet (Err (merge_fault.Fetch (fetch_fault.BadIndex region at))) g gave = met_none x found new p p₁ q r begun second third on g.note gave g.none_failed
+  makes_meet (Err (merge_fault.Fetch fetch_fault.NoMemory)) g gave = met_none x found new p p₁ q r begun second third on g.note gave g.none_failed
+  makes_meet (Err (merge_fault.Room room_fault.Disk)) g gave = met_some x found new p p₁ q r begun second third on g.note gave g.some_failed
+  makes_meet (Err (merge_fault.Room room_fault.NoMemory)) g gave = met_none x found new p p₁ q r begun second third on g.note gave g.none_failed
+  makes_meet (Err (merge_fault.Room (room_fault.Shut epoch))) g gave = met_none x found new p p₁ q r begun second third on g.note gave g.none_failed

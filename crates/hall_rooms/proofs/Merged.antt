@@ -43,12 +43,13 @@ use Rattle.fine_hall.specs.Halls.{GivesRoom, TakesRoom}
 use Rattle.hall_rooms.specs.Rooms.{RoomPass, room_state, room_log}
 use Rattle.hall_rooms.specs.Boards.{TakesBackAll}
 use Rattle.hall_rooms.specs.Views.{MakesView, MakesViewOr}
-use Rattle.hall_rooms.specs.Steps.{InTurn, IsCleanTurn, Rises}
+use Rattle.hall_rooms.specs.Steps.{BeginsTurn, InTurn, IsCleanTurn, Rises}
 use Rattle.hall_rooms.specs.Turning.{MeetsNone, MeetsSome, NotBegan}
 use Rattle.hall_rooms.specs.Merging.{Failing, LeavesBoard, MergesNext, MergesNextOr, MergesThroughOr, OnDamage, SameChain, StandsForNone}
 use Rattle.hall_rooms.proofs.Naming.{set_back, set_there}
-use Rattle.hall_rooms.proofs.Shown.{meets_none, meets_some}
-use Rattle.hall_rooms.proofs.Turned.{epochs_stay, goes, risen, rises, some_failed, stays_none}
+use Rattle.hall_rooms.proofs.GivenBack.{met_none, met_some}
+use Rattle.hall_rooms.proofs.Renewing.{turns_none}
+use Rattle.hall_rooms.proofs.Turned.{epochs_stay, goes, risen, rises, some_failed}
 
 -- ---- a view that is made for it
 
@@ -326,20 +327,19 @@ may_merge x from old new p c r none m =
     (l.board ∙ i.may.board)
     (⊎_elim (λ low. inl (omega (arith, low, up))) (λ last. inr (omega (arith, last, up))) i.may.counted)
 
-module _ (x : Beginning) (found new : RoomValue) (p q r : RoomPass) (first : q.number ≡ p.number) (third : r.number ≡ q.number) (free : LacksPlace p places.room)
-    (taken : TakesRoom state_of x found.room p q) (stands : IsRoomFor room_state room_log Stands x (published q) found (turns q)) (c : IsCleanTurn x found q) (gave : GivesRoom new.room None 0 c.note q r) where
-  met_some : Rises found.room new.room → MeetsSome x p r
-  met_some up = meets_some x found new p q q r first refl third free taken stands (stays_none q) c.note gave (some_failed x q found new c.note c.turn up)
+module _ (x : Beginning) (found new : RoomValue) (p q r : RoomPass) (b : BeginsTurn x p q found) (third : r.number ≡ q.number) (gave : GivesRoom new.room None 0 b.clean.note q r) where
+  up_met : Rises found.room new.room → MeetsSome x p r
+  up_met up = met_some x found new p q q r b refl third (turns_none x q) b.clean.note gave (some_failed x q found new b.clean.note b.clean.turn up)
 
-  met_none : new.room.faults ≤ found.room.faults → MeetsNone x p r
-  met_none least = meets_none x found new p q q r first refl third free taken stands (stays_none q) c.note gave (let n = c.none_failed in omega (arith, n, least))
+  least_met : new.room.faults ≤ found.room.faults → MeetsNone x p r
+  least_met least = met_none x found new p q q r b refl third (turns_none x q) b.clean.note gave (let n = b.clean.none_failed in omega (arith, n, least))
 
   pub meets : (answer : Result Bool MergeFault) → Failing answer (Rises found.room new.room) (new.room.faults ≤ found.room.faults) → Failing answer (MeetsSome x p r) (MeetsNone x p r)
-  meets (Ok merged) least = met_none least
-  meets (Err (merge_fault.Fetch fetch_fault.Failed)) up = met_some up
-  meets (Err (merge_fault.Fetch (fetch_fault.BadRow region at))) least = met_none least
-  meets (Err (merge_fault.Fetch (fetch_fault.BadIndex region at))) least = met_none least
-  meets (Err (merge_fault.Fetch fetch_fault.NoMemory)) least = met_none least
-  meets (Err (merge_fault.Room room_fault.Disk)) up = met_some up
-  meets (Err (merge_fault.Room room_fault.NoMemory)) least = met_none least
-  meets (Err (merge_fault.Room (room_fault.Shut epoch))) least = met_none least
+  meets (Ok merged) least = least_met least
+  meets (Err (merge_fault.Fetch fetch_fault.Failed)) up = up_met up
+  meets (Err (merge_fault.Fetch (fetch_fault.BadRow region at))) least = least_met least
+  meets (Err (merge_fault.Fetch (fetch_fault.BadIndex region at))) least = least_met least
+  meets (Err (merge_fault.Fetch fetch_fault.NoMemory)) least = least_met least
+  meets (Err (merge_fault.Room room_fault.Disk)) up = up_met up
+  meets (Err (merge_fault.Room room_fault.NoMemory)) least = least_met least
+  meets (Err (merge_fault.Room (room_fault.Shut epoch))) least = least_met least

@@ -6,7 +6,8 @@ use Rattle.std.proofs.lemmas.List.{map-append, reverse-append, reverse-reverse}
 use Rattle.std.proofs.lemmas.List.Sums.{sum_by_push}
 use mathlib.Core.Option.{some, some-injective, some-ne-none}
 use lib.ListN.{get_elem?}
-use Rattle.fine_boxes.specs.Lists.{decide, some_same, get_set_else}
+use Rattle.fine_places.proofs.Lists.{decide, some_same}
+use Rattle.fine_boxes.specs.Lists.{get_set_else}
 use Rattle.fine_model.specs.declared.law.OpenedEye.{OpenedEye}
 use Rattle.fine_model.specs.declared.law.ViewState.{ViewState}
 use Rattle.fine_model.specs.Boards.{Buffer, buffer_at, is_empty}

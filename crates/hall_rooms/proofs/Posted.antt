@@ -17,7 +17,9 @@ use Rattle.epoch_room.specs.declared.answers.RoomFault.TheVariants as room_fault
 use Rattle.epoch_room.proofs.Joining.{keeps_then}
 use Rattle.epoch_room.proofs.Viewing.{empty_is}
 use Rattle.fine_boxes.specs.declared.model.TurnNote.{TurnNote}
-use Rattle.fine_boxes.specs.Lists.{decide, get_set_else, get_set_here}
+use Rattle.fine_places.proofs.Elements.{least_more}
+use Rattle.fine_places.proofs.Lists.{decide}
+use Rattle.fine_boxes.specs.Lists.{get_set_else, get_set_here}
 use Rattle.fine_boxes.specs.Telling.{posting}
 use Rattle.fine_hall.specs.declared.law.Beginning.{Beginning}
 use Rattle.fine_hall.specs.Turns.{added, room_after}
@@ -179,14 +181,6 @@ module _ (x : Beginning) (p : RoomPass) (room : RoomValue) (t : TurnNote) (i : I
 
 -- ---- posted to one seat more
 
--- what was posted to one box more
-posted_more : (l : List ℕ) (k u n : ℕ) → k < length l → n ≤ u → ((i : ℕ) → i < k → n ≤ slice_index l i) → (i : ℕ) → i < k + 1 → n ≤ slice_index (slice_set l k u) i
-posted_more [] k u n long up all i lt = absurd (omega (arith, long))
-posted_more (x ∷ l) zero u n long up all zero lt = up
-posted_more (x ∷ l) zero u n long up all (suc i) lt = absurd (omega (arith, lt))
-posted_more (x ∷ l) (suc k) u n long up all zero lt = all 0 (omega arith)
-posted_more (x ∷ l) (suc k) u n long up all (suc i) lt = posted_more l k u n (omega (arith, long)) up (λ j near. all (suc j) (omega (arith, near))) i (omega (arith, lt))
-
 module _ (x : Beginning) (i seat : ℕ) (is : seat ≡ i + 1) (lt : i < x.seats) (found : RoomState) (old new : RoomValue) (p p' : RoomPass) (b : PostedBelow x i found old p) (s : PostsTo x seat b.note old new p p') where
   box : seat - 1 ≡ i
   box = omega (arith, is)
@@ -253,7 +247,7 @@ module _ (x : Beginning) (i seat : ℕ) (is : seat ≡ i + 1) (lt : i < x.seats)
     same = s.room ∙ ap (λ r. with_posted r new.room) b.same;
     given = (b.given.0 ++ s.view.eye.number ∷ [], s.given ∙ (ap (λ l. l ++ s.view.eye.number ∷ []) b.given.1 ∙ append_assoc found.given b.given.0 (s.view.eye.number ∷ [])));
     upto = λ j near. subst (λ k. new.room.sealed ≤ slice_index (slice_set b.note.posted k s.view.upto) j) (sym box)
-        (posted_more b.note.posted i s.view.upto new.room.sealed (let l = b.turn.is_turn.long.1 in omega (arith, lt, l)) (let u = s.upto in omega (arith, u)) (λ k below. let a = b.upto k below in let e = sealed_same in omega (arith, a, e)) j near);
+        (least_more b.note.posted i s.view.upto new.room.sealed (let l = b.turn.is_turn.long.1 in omega (arith, lt, l)) (let u = s.upto in omega (arith, u)) (λ k below. let a = b.upto k below in let e = sealed_same in omega (arith, a, e)) j near);
     posted = λ k least most. ⊎_elim
         (λ e. subst (NewView found.given new.room.parts new.room.board) (sym e) own_view)
         (λ ne. other_view k least (omega (arith, most, is, ne)) (b.posted k least (omega (arith, most, is, ne))))

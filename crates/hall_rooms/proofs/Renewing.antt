@@ -12,7 +12,8 @@ use Rattle.epoch_room.specs.Value.{RoomValue}
 use Rattle.epoch_room.specs.Whole.{IsWhole}
 use Rattle.epoch_room.proofs.Behind.{keeps_none}
 use Rattle.fine_places.specs.History as places
-use Rattle.fine_boxes.specs.Lists.{decide, some_same}
+use Rattle.fine_places.proofs.Elements.{elem_at, read_at}
+use Rattle.fine_places.proofs.Lists.{decide, some_same}
 use Rattle.fine_boxes.specs.declared.model.TurnNote.{TurnNote}
 use Rattle.fine_hall.specs.declared.law.Beginning.{Beginning}
 use Rattle.fine_hall.specs.Turns.{failed_of, room_after}
@@ -54,21 +55,6 @@ module _ (x : Beginning) where
 
 -- ---- some passes
 
-elem_is : {A : Type 0} (l : List A) (i : ℕ) (a d : A) → get_elem? l i ≡ some a → get_or l i d ≡ a
-elem_is [] i a d e = absurd (some-ne-none a (sym e))
-elem_is (y ∷ l) zero a d e = some-injective y a e
-elem_is (y ∷ l) (suc i) a d e = elem_is l i a d e
-
-pub within : {A : Type 0} (l : List A) (i : ℕ) (a : A) → get_elem? l i ≡ some a → i < length l
-within [] i a e = absurd (some-ne-none a (sym e))
-within (y ∷ l) zero a e = omega arith
-within (y ∷ l) (suc i) a e = let h = within l i a e in omega (arith, h)
-
-pub elem_there : {A : Type 0} (l : List A) (i : ℕ) (d : A) → i < length l → get_elem? l i ≡ some (get_or l i d)
-elem_there [] i d lt = absurd (omega (arith, lt))
-elem_there (y ∷ l) zero d lt = refl
-elem_there (y ∷ l) (suc i) d lt = elem_there l i d (let h : i < length l = omega (arith, lt) in h)
-
 module _ (x : Beginning) where
   pub none_renewed : (l : List RoomPass) → RenewsBelow x 0 l l
   none_renewed l = record { many = refl; each = λ i p lt. absurd (omega (arith, lt)); rest = λ i p least there. there }
@@ -79,7 +65,7 @@ module _ (x : Beginning) where
       many = length-set mid at p' ∙ so_far.many;
       each = λ i p near there. ⊎_elim
           (λ (e : i ≡ at).
-          let is : get_or mid at d ≡ p = elem_is mid at p d (ap (get_elem? mid) (sym e) ∙ so_far.rest i p (omega (arith, e)) there) in
+          let is : get_or mid at d ≡ p = (read_at mid at p d (ap (get_elem? mid) (sym e) ∙ so_far.rest i p (omega (arith, e)) there)).1 in
           (p', ap (get_elem? (set mid at p')) e ∙ set_here mid at p' lt, subst (λ q. Renews x q p') is r, ahead))
           (λ (ne : i ≢ at).
           let was = so_far.each i p (omega (arith, near, ne)) there in
@@ -90,12 +76,12 @@ module _ (x : Beginning) where
 
   module _ (old new : List RoomPass) (all : RenewsBelow x (length old) old new) where
     pub all_renewed : RenewsEach x old new
-    all_renewed = record { many = all.many; each = λ i p there. let e = all.each i p (within old i p there) there in (e.0, e.1, e.2) }
+    all_renewed = record { many = all.many; each = λ i p there. let e = all.each i p (read_at old i p p there).0 there in (e.0, e.1, e.2) }
 
     pub all_ahead : AllAhead x new
     all_ahead i q there =
-        let p = elem_there old i q (let lt = within new i q there in let many = all.many in omega (arith, lt, many)) in
-        let e = all.each i (get_or old i q) (within old i (get_or old i q) p) p in
+        let p = elem_at old i q (let lt = (read_at new i q q there).0 in let many = all.many in omega (arith, lt, many)) in
+        let e = all.each i (get_or old i q) (read_at old i (get_or old i q) q p).0 p in
         subst (IsAhead state_of x) (some-injective e.0 q (sym e.1 ∙ there)) e.3
 
   pub each_none : (l : List RoomPass) → RenewsEach x l l

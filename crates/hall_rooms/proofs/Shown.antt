@@ -17,7 +17,7 @@ use Rattle.epoch_room.specs.declared.answers.RoomFault.TheVariants as room_fault
 use Rattle.epoch_room.proofs.Behind.{keeps_none}
 use Rattle.fine_places.specs.History as places
 use Rattle.fine_places.specs.History.{by_seat}
-use Rattle.fine_boxes.specs.Lists.{some_same}
+use Rattle.fine_places.proofs.Lists.{some_same}
 use Rattle.fine_boxes.specs.declared.model.TurnNote.{TurnNote}
 use Rattle.fine_hall.specs.declared.law.Beginning.{Beginning}
 use Rattle.fine_hall.specs.Turns.{commits, failed_of, in_bucket, room_after}
@@ -28,7 +28,10 @@ use Rattle.fine_hall.proofs.Since.{gives_law}
 use Rattle.fine_hall.proofs.Troubles.{troubles_law}
 use Rattle.hall_rooms.specs.Rooms.{RoomPass, room_state, room_log}
 use Rattle.hall_rooms.specs.Turning.{KeepsChain, MeetsNone, MeetsSome, NewView, SealsAtMost, SealsTurn, TakesTurn}
-use Rattle.hall_rooms.specs.Steps.{InTurn, IsCleanTurn, NoneFailed, PostsEachOr, SealsWaitingOr, ShowsOr, Stays}
+use Rattle.hall_rooms.specs.Making.{TurnsOn}
+use Rattle.hall_rooms.specs.Steps.{BeginsTurn, InTurn, IsCleanTurn, NoneFailed, PostsEachOr, SealsWaitingOr, ShowsOr, Stays}
+use Rattle.hall_rooms.proofs.GivenBack.{met_none, met_some}
+use Rattle.hall_rooms.proofs.Renewing.{stays_on}
 use Rattle.hall_rooms.proofs.Turned.{epochs_sealed, epochs_stay, goes, some_failed, stepped}
 
 -- ---- sealing
@@ -139,61 +142,14 @@ in_turn x old new p' (Err room_fault.Disk) s = (s.0.note, s.0.turn)
 in_turn x old new p' (Err (room_fault.Shut epoch)) s = (s.0.note, s.0.turn)
 in_turn x old new p' (Err room_fault.NoMemory) s = (s.0.note, s.0.turn)
 
--- a place that was taken and given back is as it was
-pub held_back : {A : Type 0} (l : List A) (k : ℕ) (a b : A) → get_elem? l k ≡ some a → set (set l k b) k a ≡ l
-held_back [] k a b e = refl
-held_back (x ∷ l) zero a b e = ap (λ y. y ∷ l) (sym (some-injective x a e))
-held_back (x ∷ l) (suc k) a b e = ap (λ m. x ∷ m) (held_back l k a b e)
-
-module _ (x : Beginning) (found new : RoomValue) (p p₁ q r : RoomPass) (first : p₁.number ≡ p.number) (second : q.number ≡ p₁.number) (third : r.number ≡ q.number) (free : LacksPlace p places.room)
-    (taken : TakesRoom state_of x found.room p p₁) (stands : IsRoomFor room_state room_log Stands x (published p₁) found (turns p₁)) (stays : Stays p₁ q) (t : TurnNote) (gave : GivesRoom new.room None 0 t q r) where
-  turns_are : turns q ≡ turns p ++ taken.takes.sees.longer.0
-  turns_are = stays.turns ∙ taken.takes.sees.longer.1
-
-  number : q.number ≡ p.number
-  number = second ∙ first
-
-  pub turn_taken : TakesTurn x found.room None 0 new.room p r
-  turn_taken = record {
-    others = taken.takes.sees.longer.0;
-    not_own = taken.takes.sees.longer.2;
-    kept = λ j near has. taken.takes.sees.kept j near has ∙ ap (λ ts. in_bucket j (commits ts)) taken.takes.sees.longer.1;
-    found_is = stands.last ∙ ap (room_after x.room) taken.takes.sees.longer.1;
-    found_job = taken.same_job;
-    returned = t.in_hand;
-    turns_more = gave.turns_more ∙ (λ i. turns_are i ++ record { seat = number i; item = turn_of None 0 new.room t.in_hand } ∷ []);
-    own_more = gave.own_more ∙ (λ i. (stays.own ∙ taken.takes.sees.same_own) i ++ record { seat = number i; item = turn_of None 0 new.room t.in_hand } ∷ []);
-    no_earlier = let a = taken.takes.sees.no_earlier in let b = stays.no_earlier in let c = gave.same_published in omega (arith, a, b, c);
-    front = (gave.front.0 ∙ (stays.front.0 ∙ taken.takes.front.0), gave.front.1 ∙ (stays.front.1 ∙ taken.takes.front.1));
-    given_same = ap first_given gave.notes ∙ (stays.given_up ∙ ap first_given taken.takes.notes);
-  }
-
-  pub held_same : (known r).held ≡ (known p).held
-  held_same = gave.held ∙ (ap (λ l. slice_set l places.room false) (stays.held ∙ taken.takes.held) ∙ held_back (known p).held places.room false true free)
-
-  pub last_is : last_room x r ≡ new.room
-  last_is = (gives_law x new.room None 0 t q r gave).last
-
-  met : troubles state_of x q ≡ troubles state_of x p
-  met =
-      (λ i. (failed_of (second i) x.room (stays.turns i) + stays.given_up i) + (view_of state_of (stays.front.0 i)).faults)
-      ∙ ((troubles_law state_of x).same p p₁ first).takes places.room taken.takes
-
-  ended : troubles state_of x r ≡ troubles state_of x q + (new.room.faults - ((last_room x q).faults + t.in_hand))
-  ended = (troubles_law state_of x).turn new.room None 0 t q r third gave
-
-  pub meets_none : NoneFailed x new q t → MeetsNone x p r
-  meets_none n = let e = ended in let m = met in omega (arith, e, m, n)
-
-  pub meets_some : ((last_room x q).faults + t.in_hand < new.room.faults) ⊎ (last_count ≤ new.room.faults) → MeetsSome x p r
-  meets_some s = ⊎_elim (λ up. inl (let e = ended in let m = met in omega (arith, e, m, up))) (λ last. inr (subst (λ (s : RoomState). last_count ≤ s.faults) (sym last_is) last)) s
-
 -- what a turn of showing did, once the room was given back
-module _ (x : Beginning) (found new : RoomValue) (p p₁ q r : RoomPass) (first : p₁.number ≡ p.number) (second : q.number ≡ p₁.number) (third : r.number ≡ q.number) (free : LacksPlace p places.room)
-    (taken : TakesRoom state_of x found.room p p₁) (stands : IsRoomFor room_state room_log Stands x (published p₁) found (turns p₁)) (stays : Stays p₁ q) where
+module _ (x : Beginning) (found new : RoomValue) (p p₁ q r : RoomPass) (begun : BeginsTurn x p p₁ found) (second : q.number ≡ p₁.number) (third : r.number ≡ q.number) (stays : Stays p₁ q) where
+  abbrev on : TurnsOn x p₁ q
+  on = stays_on x p₁ q second stays
+
   pub seals_turn : (answer : Result ℕ RoomFault) (s : ShowsOr x found new q answer) → GivesRoom new.room None 0 (in_turn x found new q answer s).0 q r → SealsTurn x found.room new.room p r answer
   unfolding in_turn
-  seals_turn (Ok epoch) s gave = (s.1, gave.same_published ∙ s.2, s.3, meets_none x found new p p₁ q r first second third free taken stands stays s.0.note gave s.0.none_failed)
-  seals_turn (Err room_fault.Disk) s gave = (s.1, s.2, s.3, meets_some x found new p p₁ q r first second third free taken stands stays s.0.note gave s.0.some_failed)
-  seals_turn (Err (room_fault.Shut epoch)) s gave = (s.1, s.2, ap (λ (v : RoomValue). v.room) s.3, meets_none x found new p p₁ q r first second third free taken stands stays s.0.note gave s.0.none_failed)
-  seals_turn (Err room_fault.NoMemory) s gave = (s.1, s.2, meets_none x found new p p₁ q r first second third free taken stands stays s.0.note gave s.0.none_failed)
+  seals_turn (Ok epoch) s gave = (s.1, gave.same_published ∙ s.2, s.3, met_none x found new p p₁ q r begun second third on s.0.note gave s.0.none_failed)
+  seals_turn (Err room_fault.Disk) s gave = (s.1, s.2, s.3, met_some x found new p p₁ q r begun second third on s.0.note gave s.0.some_failed)
+  seals_turn (Err (room_fault.Shut epoch)) s gave = (s.1, s.2, ap (λ (v : RoomValue). v.room) s.3, met_none x found new p p₁ q r begun second third on s.0.note gave s.0.none_failed)
+  seals_turn (Err room_fault.NoMemory) s gave = (s.1, s.2, met_none x found new p p₁ q r begun second third on s.0.note gave s.0.none_failed)

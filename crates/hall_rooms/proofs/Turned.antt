@@ -1,6 +1,6 @@
 -- How a turn of the room goes on.
 use Rattle.std.proofs.Common.{◌≡◌, ◌⊎◌, inl, inr, ⊎_elim, ℕ, suc, zero, ◌+◌, ◌<◌, ◌≤◌, ◌==◌, true, false, List, ◌++◌, None, Ok, Err, refl, sym, ap, ◌∙◌, subst, arith, append-nil, ne_eqb}
-use Rattle.std.specs.Prelude.{if◌then◌else◌}
+use Rattle.std.specs.Prelude.{Option, if◌then◌else◌}
 use lib.ListN.{get_elem?}
 use Rattle.fine_places.specs.History as places
 use Rattle.fine_places.proofs.Lists.{set_at}
@@ -11,7 +11,7 @@ use Rattle.fine_model.specs.Jobs.{KeepsJob}
 use Rattle.fine_model.proofs.Goings.{becomes_itself, becomes_on, job_itself, job_on}
 use Rattle.log_disk.specs.Disk.{SameBeside}
 use Rattle.epoch_room.specs.Meaning.{Keeps, Stands, origin_of}
-use Rattle.epoch_room.specs.Steps.{SealsOr, sealed_state, next_part}
+use Rattle.epoch_room.specs.Steps.{Fails, KeepsCounts, SealsOr, Steps, sealed_state, next_part}
 use Rattle.epoch_room.specs.Value.{RoomValue}
 use Rattle.epoch_room.specs.Whole.{IsWhole}
 use Rattle.epoch_room.specs.Fitting.{counts_of}
@@ -31,7 +31,8 @@ use Rattle.fine_hall.proofs.Counting.{counts_sealed, counts_stay}
 use Rattle.partition_hold.specs.Views.{state_of}
 use Rattle.hall_rooms.proofs.Viewing.{either}
 use Rattle.hall_rooms.specs.Rooms.{RoomPass, room_state, room_log}
-use Rattle.hall_rooms.specs.Steps.{InTurn, IsCleanTurn, IsSealed, LeavesViews, Rises, SameEpochs, SealsWaitingOr, SomeFailed, Stays}
+use Rattle.hall_rooms.specs.Turning.{KeepsChain}
+use Rattle.hall_rooms.specs.Steps.{BeginsTurn, InTurn, IsCleanTurn, IsSealed, LeavesViews, Rises, SameEpochs, SealsWaitingOr, SomeFailed, Stays}
 
 -- ---- a turn goes on
 
@@ -65,38 +66,40 @@ stepped x p room new t i l epochs = goes x p p room new t t i refl refl refl i.i
 
 -- ---- its beginning
 
--- the room as it is changed in a turn is the one that was taken
-pub record IsTaken (x : Beginning) (p₀ p : RoomPass) (room : RoomValue) : Type 0 where
-  pub is_room : IsRoomFor room_state room_log Stands x (published p) room (turns p)
-  pub takes : TakesRoom state_of x room.room p₀ p
-
-pub taken : (x : Beginning) (p₀ p : RoomPass) (held room : RoomValue) → room ≡ held → IsRoomFor room_state room_log Stands x (published p) held (turns p) → TakesRoom state_of x held.room p₀ p → IsTaken x p₀ p room
-taken x p₀ p held room is r t = subst (IsTaken x p₀ p) (sym is) (record { is_room = r; takes = t })
-
-pub begins : (x : Beginning) (p₀ p : RoomPass) (room : RoomValue) → LacksPlace p₀ places.room → IsRoomFor room_state room_log Stands x (published p) room (turns p) → TakesRoom state_of x room.room p₀ p → IsCleanTurn x room p
-begins x p₀ p room free r t = record {
-  note = t.turn;
-  turn = record {
-    held = ap (λ l. get_elem? l places.room) t.takes.held ∙ set_at (known p₀).held places.room false true free;
-    is_turn = t.is_turn;
-    may = record {
-      log = r.log;
-      stands = λ e first b. subst (Stands room first e) nil (r.stands e first b);
-      becomes = subst (λ s. Becomes s room.room) r.last (becomes_itself room.room);
-      places = ap (λ (s : RoomState). s.places) r.last;
-      epochs = subst (CountsEpochs x room.room) nil r.epochs;
-      top = let e = t.top in omega (arith, e);
-      board = sym t.board;
-      job = λ ne. subst (λ s. KeepsJob s room.room) r.last (job_itself room.room);
-      counted = inl (let e = ap (λ (s : RoomState). s.faults) r.last in let n = t.none_in_hand in omega (arith, e, n));
-      commits = record {};
+pub begins : (x : Beginning) (p₀ p : RoomPass) (room : RoomValue) → p.number ≡ p₀.number → LacksPlace p₀ places.room → IsRoomFor room_state room_log Stands x (published p) room (turns p) → TakesRoom state_of x room.room p₀ p → BeginsTurn x p₀ p room
+begins x p₀ p room number free r t = record {
+  number = number;
+  free = free;
+  takes = t;
+  is_room = r;
+  clean = record {
+    note = t.turn;
+    turn = record {
+      held = ap (λ l. get_elem? l places.room) t.takes.held ∙ set_at (known p₀).held places.room false true free;
+      is_turn = t.is_turn;
+      may = record {
+        log = r.log;
+        stands = λ e first b. subst (Stands room first e) nil (r.stands e first b);
+        becomes = subst (λ s. Becomes s room.room) r.last (becomes_itself room.room);
+        places = ap (λ (s : RoomState). s.places) r.last;
+        epochs = subst (CountsEpochs x room.room) nil r.epochs;
+        top = let e = t.top in omega (arith, e);
+        board = sym t.board;
+        job = λ ne. subst (λ s. KeepsJob s room.room) r.last (job_itself room.room);
+        counted = inl (let e = ap (λ (s : RoomState). s.faults) r.last in let n = t.none_in_hand in omega (arith, e, n));
+        commits = record {};
+      };
     };
+    none_failed = let e = ap (λ (s : RoomState). s.faults) r.last in omega (arith, e);
   };
-  none_failed = let e = ap (λ (s : RoomState). s.faults) r.last in omega (arith, e);
 }
   where
     nil : seen p ≡ seen p ++ added None 0
     nil = sym (append-nil (seen p))
+
+-- the room as it is changed in the turn is the one that was taken
+pub begun_with : (x : Beginning) (p₀ p : RoomPass) (held room : RoomValue) → room ≡ held → BeginsTurn x p₀ p held → BeginsTurn x p₀ p room
+begun_with x p₀ p held room is b = subst (BeginsTurn x p₀ p) (sym is) b
 
 -- ---- counts
 
@@ -113,26 +116,46 @@ some_failed x p room new t i r = ⊎_elim
     (λ last. inr last)
     r
 
--- ---- sealing
+-- ---- what a call on the room left
 
 abbrev Given : RoomState → List ℕ
 Given r = r.given
 
-module _ (old new : RoomValue) (whole : IsWhole old) (waits : old.room.waiting ≡ 0 → ⊥) (beside : SameBeside old.disk new.disk) (keeps : Keeps old new) (job : KeepsJob old.room new.room) where
-  same_given : new.room.given ≡ new.disk.given → new.room.given ≡ old.room.given
-  same_given e = e ∙ (beside.given ∙ sym (ap Given whole.of_disk))
+module _ (old new : RoomValue) (whole : IsWhole old) (beside : SameBeside old.disk new.disk) (keeps : Keeps old new) (job : KeepsJob old.room new.room) (state : RoomState) (target : Option ℕ) (s : Steps state target old new) where
+  -- no view came or went
+  pub left_views : state.places ≡ old.room.places → state.board ≡ old.room.board → LeavesViews old new
+  left_views places board = record {
+    entry = s.entry;
+    keeps = keeps;
+    job = job;
+    places = ap (λ (r : RoomState). r.places) s.room ∙ places;
+    board = ap (λ (r : RoomState). r.board) s.room ∙ board;
+    given = ap Given s.room ∙ (beside.given ∙ sym (ap Given whole.of_disk));
+  }
 
+  -- the chain stays
+  pub left_chain : state.parts ≡ old.room.parts → state.sealed ≡ old.room.sealed → state.waiting ≡ old.room.waiting → state.places ≡ old.room.places → KeepsChain old.room new.room
+  left_chain parts sealed waiting places = record {
+    parts = ap (λ (r : RoomState). r.parts) s.room ∙ parts;
+    sealed = ap (λ (r : RoomState). r.sealed) s.room ∙ sealed;
+    waiting = ap (λ (r : RoomState). r.waiting) s.room ∙ waiting;
+    places = ap (λ (r : RoomState). r.places) s.room ∙ places;
+  }
+
+  -- no call on the disk failed, or some did
+  pub left_counts : KeepsCounts old.disk new.disk → new.room.faults ≡ old.room.faults
+  left_counts counts = ap (λ (r : RoomState). r.faults) s.room ∙ (counts.faults ∙ sym (ap (λ (r : RoomState). r.faults) whole.of_disk))
+
+  pub left_rises : Fails old.disk new.disk → Rises old.room new.room
+  left_rises fails = rises old new (subst (λ n. HasRisen n new.room.faults) (sym (ap (λ (r : RoomState). r.faults) whole.of_disk)) (subst (HasRisen old.disk.faults) (sym (ap (λ (r : RoomState). r.faults) s.room)) fails.faults))
+
+-- ---- sealing
+
+module _ (old new : RoomValue) (whole : IsWhole old) (waits : old.room.waiting ≡ 0 → ⊥) (beside : SameBeside old.disk new.disk) (keeps : Keeps old new) (job : KeepsJob old.room new.room) where
   pub sealed_ok : (epoch : ℕ) → SealsOr old new (Ok epoch) → SealsWaitingOr old new (Ok tt)
   unfolding sealed_state next_part
   sealed_ok epoch s = (
-    record {
-      entry = s.2.1.entry;
-      keeps = keeps;
-      job = job;
-      places = ap (λ (r : RoomState). r.places) s.2.1.room;
-      board = ap (λ (r : RoomState). r.board) s.2.1.room;
-      given = same_given (ap Given s.2.1.room);
-    },
+    left_views old new whole beside keeps job _ _ s.2.1 refl refl,
     record {
       none_waits = ap (λ (r : RoomState). r.waiting) s.2.1.room;
       epoch = λ some. (next_part old, ap (λ (r : RoomState). r.parts) s.2.1.room, refl);
@@ -140,53 +163,20 @@ module _ (old new : RoomValue) (whole : IsWhole old) (waits : old.room.waiting �
       is_shut = ap (λ (r : RoomState). r.is_shut) s.2.1.room;
       retired = ap (λ (r : RoomState). r.retired) s.2.1.room;
       free = (ap (λ (r : RoomState). r.free) s.2.1.room, ap (λ (r : RoomState). r.lost) s.2.1.room);
-      faults = ap (λ (r : RoomState). r.faults) s.2.1.room ∙ (s.2.2.faults ∙ sym (ap (λ (r : RoomState). r.faults) whole.of_disk));
+      faults = left_counts old new whole beside keeps job _ _ s.2.1 s.2.2;
     },
     (λ none. absurd (waits none)),
     λ _. s.2.0,
   )
 
   pub sealed_err : (fault : RoomFault) → SealsOr old new (Err fault) → SealsWaitingOr old new (Err fault)
-  sealed_err room_fault.Disk s = (
-    record {
-      entry = s.1.entry;
-      keeps = keeps;
-      job = job;
-      places = ap (λ (r : RoomState). r.places) s.1.room;
-      board = ap (λ (r : RoomState). r.board) s.1.room;
-      given = same_given (ap Given s.1.room);
-    },
-    (ap (λ (r : RoomState). r.sealed) s.1.room, ap (λ (r : RoomState). r.waiting) s.1.room),
-    s.0,
-    ap (λ (r : RoomState). r.is_shut) s.1.room,
-    rises old new (subst (λ n. HasRisen n new.room.faults) (sym (ap (λ (r : RoomState). r.faults) whole.of_disk)) (subst (HasRisen old.disk.faults) (sym (ap (λ (r : RoomState). r.faults) s.1.room)) s.2.faults)),
-    record {
-      parts = ap (λ (r : RoomState). r.parts) s.1.room;
-      sealed = ap (λ (r : RoomState). r.sealed) s.1.room;
-      waiting = ap (λ (r : RoomState). r.waiting) s.1.room;
-      places = ap (λ (r : RoomState). r.places) s.1.room;
-    },
-  )
+  sealed_err room_fault.Disk s =
+      let k = left_chain old new whole beside keeps job _ _ s.1 refl refl refl refl in
+      (left_views old new whole beside keeps job _ _ s.1 refl refl, (k.sealed, k.waiting), s.0, ap (λ (r : RoomState). r.is_shut) s.1.room, left_rises old new whole beside keeps job _ _ s.1 s.2, k)
   sealed_err (room_fault.Shut epoch) s = s
-  sealed_err room_fault.NoMemory s = (
-    record {
-      entry = s.1.entry;
-      keeps = keeps;
-      job = job;
-      places = ap (λ (r : RoomState). r.places) s.1.room;
-      board = ap (λ (r : RoomState). r.board) s.1.room;
-      given = same_given (ap Given s.1.room);
-    },
-    (ap (λ (r : RoomState). r.sealed) s.1.room, ap (λ (r : RoomState). r.waiting) s.1.room),
-    ap (λ (r : RoomState). r.is_shut) s.1.room ∙ s.0,
-    ap (λ (r : RoomState). r.faults) s.1.room ∙ (s.2.faults ∙ sym (ap (λ (r : RoomState). r.faults) whole.of_disk)),
-    record {
-      parts = ap (λ (r : RoomState). r.parts) s.1.room;
-      sealed = ap (λ (r : RoomState). r.sealed) s.1.room;
-      waiting = ap (λ (r : RoomState). r.waiting) s.1.room;
-      places = ap (λ (r : RoomState). r.places) s.1.room;
-    },
-  )
+  sealed_err room_fault.NoMemory s =
+      let k = left_chain old new whole beside keeps job _ _ s.1 refl refl refl refl in
+      (left_views old new whole beside keeps job _ _ s.1 refl refl, (k.sealed, k.waiting), ap (λ (r : RoomState). r.is_shut) s.1.room ∙ s.0, left_counts old new whole beside keeps job _ _ s.1 s.2, k)
 
 -- the numbers that a room tells of itself
 pub counted : (room : RoomState) (c : Counts) → c ≡ counts_of room → (c.waiting ≡ room.waiting) × (c.sealed ≡ room.sealed)

@@ -34,32 +34,21 @@ abbrev bytes_of : Option Told → Option Image
 bytes_of t = option_map (λ (u : Told). u.bytes) t
 
 module _ (o n : RoomState) (d e : Disk) (of_disk : o ≡ on o d) (told : e.told ≡ d.told) (regions : e.regions ≡ d.regions) (len : e.region_len ≡ d.region_len) where
-  pub eyes_alone : (board : List Buffer) → e.faults ≡ d.faults → e.own_faults ≡ d.own_faults → n ≡ on (record o { board = board }) e → n ≡ with_eyes o n
-  eyes_alone board faults own is = subst (λ m. m ≡ with_eyes o m) (sym is) (one ∙ ap (λ r. with_eyes r x) (sym of_disk))
-    where
-      x : RoomState
-      x = on (record o { board = board }) e
+  -- a state that is f of the old one as the disk then was is f of the old one
+  alone_by : (f : RoomState → RoomState → RoomState) (m : RoomState) → n ≡ m → m ≡ f (on o d) m → n ≡ f o n
+  alone_by f m is one = subst (λ k. k ≡ f o k) (sym is) (one ∙ ap (λ r. f r m) (sym of_disk))
 
-      one : x ≡ with_eyes (on o d) x
-      one i = record x { region_len = len i; regions = regions i; image = bytes_of (told i); faults = faults i; own_faults = own i }
+  pub eyes_alone : (board : List Buffer) → e.faults ≡ d.faults → e.own_faults ≡ d.own_faults → n ≡ on (record o { board = board }) e → n ≡ with_eyes o n
+  eyes_alone board faults own is = alone_by with_eyes (on (record o { board = board }) e) is
+      (λ i. record (on (record o { board = board }) e) { region_len = len i; regions = regions i; image = bytes_of (told i); faults = faults i; own_faults = own i })
 
   pub views_alone : (board : List Buffer) → e.given ≡ d.given → e.own_faults ≡ d.own_faults → n ≡ on (record o { board = board }) e → n ≡ with_views o n
-  views_alone board given own is = subst (λ m. m ≡ with_views o m) (sym is) (one ∙ ap (λ r. with_views r x) (sym of_disk))
-    where
-      x : RoomState
-      x = on (record o { board = board }) e
-
-      one : x ≡ with_views (on o d) x
-      one i = record x { region_len = len i; regions = regions i; image = bytes_of (told i); given = given i; own_faults = own i }
+  views_alone board given own is = alone_by with_views (on (record o { board = board }) e) is
+      (λ i. record (on (record o { board = board }) e) { region_len = len i; regions = regions i; image = bytes_of (told i); given = given i; own_faults = own i })
 
   pub faults_alone : o.lost ≡ [] → n ≡ on (shut_state o []) e → n ≡ with_faults o n
-  faults_alone lost is = subst (λ m. m ≡ with_faults o m) (sym is) (one ∙ ap (λ r. with_faults r x) (sym of_disk))
-    where
-      x : RoomState
-      x = on (shut_state o []) e
-
-      one : x ≡ with_faults (on o d) x
-      one i = record x { region_len = len i; regions = regions i; image = bytes_of (told i); lost = (none ∙ sym lost) i }
+  faults_alone lost is = alone_by with_faults (on (shut_state o []) e) is
+      (λ i. record (on (shut_state o []) e) { region_len = len i; regions = regions i; image = bytes_of (told i); lost = (none ∙ sym lost) i })
 
 -- ---- what the disk tells
 

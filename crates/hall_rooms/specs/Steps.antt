@@ -9,12 +9,14 @@ use Rattle.epoch_room.specs.Meaning.{Keeps, Stands}
 use Rattle.epoch_room.specs.Value.{RoomValue, all_regions}
 use Rattle.epoch_room.specs.declared.answers.RoomFault.{RoomFault}
 use Rattle.epoch_room.specs.declared.answers.RoomFault.TheVariants as room_fault
+use Rattle.partition_hold.specs.Views.{state_of}
 use Rattle.fine_places.specs.History as places
 use Rattle.fine_boxes.specs.declared.model.TurnNote.{TurnNote}
 use Rattle.fine_boxes.specs.Telling.{posting}
 use Rattle.fine_hall.specs.declared.law.Beginning.{Beginning}
-use Rattle.fine_hall.specs.Passes.{known, turns, own_turns, published, given_up, last_room, HasPlace, IsHolder}
-use Rattle.fine_hall.specs.Halls.{MayGiveRoom, Posts}
+use Rattle.fine_hall.specs.Passes.{known, turns, own_turns, published, given_up, last_room, HasPlace, LacksPlace, IsHolder}
+use Rattle.fine_hall.specs.Laws.{IsRoomFor}
+use Rattle.fine_hall.specs.Halls.{MayGiveRoom, Posts, TakesRoom}
 use Rattle.hall_rooms.specs.Rooms.{RoomPass, room_state, room_log}
 use Rattle.hall_rooms.specs.Turning.{AddsEpoch, ErasesUnheld, KeepsChain, NewView, SealedAndPosted, SealsAtMost}
 
@@ -43,6 +45,14 @@ pub record IsFailedTurn (x : Beginning) (room : RoomValue) (p : RoomPass) : Type
   pub note : TurnNote
   pub turn : InTurn x room p note
   pub some_failed : SomeFailed x room p note
+
+-- A turn of the pass begins: the room was taken, and stands for what the pass then saw.
+pub record BeginsTurn (x : Beginning) (p p' : RoomPass) (room : RoomValue) : Type 0 where
+  pub number : p'.number ≡ p.number
+  pub free : LacksPlace p places.room
+  pub takes : TakesRoom state_of x room.room p p'
+  pub is_room : IsRoomFor room_state room_log Stands x (published p') room (turns p')
+  pub clean : IsCleanTurn x room p'
 
 -- what a pass saw and holds stays, and so do its front and what it gave up
 pub record Stays (p p' : RoomPass) : Type 0 where

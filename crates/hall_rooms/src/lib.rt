@@ -9,6 +9,7 @@ mod merging;
 mod opening;
 mod settling;
 mod showing;
+mod turn;
 mod views;
 
 pub use closing::close_hall;

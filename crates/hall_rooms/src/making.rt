@@ -19,6 +19,7 @@ use crate::merging::merge_through;
 use crate::opening::RoomHall;
 use crate::settling::erase_unheld;
 use crate::showing::show;
+use crate::turn::{begin_turn, end_turn};
 use epoch_room::{Room, RoomFault};
 use fine_hall::Pass;
 use log_disk::LogDisk;
@@ -302,11 +303,11 @@ pub fn try_room<D: LogDisk, W: Wait>(
     ensures ahead { IfOk result (λ made. IsAhead state_of (beginning_of hall.now) pass.new × AllAhead (beginning_of hall.now) others.new) }
     ensures tries { TriesRoom (beginning_of hall.now) from pass.old pass.new result }
 {
-    let mut held = hall.take_room(rt, pass);
+    let mut held = begin_turn(rt, hall, pass);
     let room = held.room();
     let made = clear_and_merge(rt, alloc, hall, pass, others, room, from);
     let space = tell_space(room, made);
-    hall.give_room(pass, held, None, 0);
+    end_turn(hall, pass, held);
     space
 }
 

@@ -8,6 +8,7 @@ ghost use Rattle.hall_rooms.specs.Rooms.{IsRoomPass, beginning_of};
 ghost use Rattle.hall_rooms.specs.Merging.{MergesInTurn, MergesThroughOr};
 
 use crate::opening::RoomHall;
+use crate::turn::{begin_turn, end_turn};
 use crate::views::{make_view, take_back};
 use epoch_room::Room;
 use fine_hall::Pass;
@@ -67,8 +68,8 @@ pub fn merge_next<D: LogDisk, W: Wait>(
     ensures pass { IsRoomPass hall.now pass.new × (pass.new.number ≡ pass.old.number) }
     ensures merges { MergesInTurn (beginning_of hall.now) from pass.old pass.new result }
 {
-    let mut held = hall.take_room(rt, pass);
+    let mut held = begin_turn(rt, hall, pass);
     let merged = merge_through(alloc, held.room(), from);
-    hall.give_room(pass, held, None, 0);
+    end_turn(hall, pass, held);
     merged
 }

@@ -8,6 +8,7 @@ ghost use Rattle.hall_rooms.specs.Steps.{ErasesOr};
 ghost use Rattle.hall_rooms.specs.Turning.{SettlesViews};
 
 use crate::opening::RoomHall;
+use crate::turn::{begin_turn, end_turn};
 use epoch_room::{Room, RoomFault};
 use fine_hall::Pass;
 use log_disk::LogDisk;
@@ -37,8 +38,8 @@ pub fn settle_views<D: LogDisk, W: Wait>(
     ensures pass { IsRoomPass hall.now pass.new × (pass.new.number ≡ pass.old.number) }
     ensures settles { SettlesViews (beginning_of hall.now) pass.old pass.new result }
 {
-    let mut held = hall.take_room(rt, pass);
+    let mut held = begin_turn(rt, hall, pass);
     let erased = erase_unheld(held.room());
-    hall.give_room(pass, held, None, 0);
+    end_turn(hall, pass, held);
     erased
 }

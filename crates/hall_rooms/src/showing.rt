@@ -10,6 +10,7 @@ ghost use Rattle.hall_rooms.specs.Steps.{InTurn, IsCleanTurn, PostsEachOr, Posts
 ghost use Rattle.hall_rooms.specs.Turning.{SealsAndPosts};
 
 use crate::opening::RoomHall;
+use crate::turn::{begin_turn, end_turn};
 use crate::views::{make_view, take_back};
 use epoch_room::{Room, RoomFault};
 use fine_hall::Pass;
@@ -109,8 +110,8 @@ pub fn seal_and_post<D: LogDisk, W: Wait>(
     ensures pass { IsRoomPass hall.now pass.new × (pass.new.number ≡ pass.old.number) }
     ensures seals { SealsAndPosts (beginning_of hall.now) pass.old pass.new result }
 {
-    let mut held = hall.take_room(rt, pass);
+    let mut held = begin_turn(rt, hall, pass);
     let shown = show(hall, pass, held.room());
-    hall.give_room(pass, held, None, 0);
+    end_turn(hall, pass, held);
     shown
 }

@@ -5,12 +5,11 @@ use Rattle.fine_places.specs.History.{room}
 use Rattle.fine_places.specs.Places.{Holds}
 use Rattle.fine_places.specs.declared.model.Known.{Known}
 use Rattle.fine_places.specs.declared.model.View.{View}
-use Rattle.fine_places.proofs.Lists.{same_head}
+use Rattle.fine_places.proofs.Lists.{same_head, some_same}
 use Rattle.fine_boxes.specs.declared.model.TurnNote.{TurnNote}
 use Rattle.fine_boxes.specs.declared.model.Reads.{Reads}
 use Rattle.fine_boxes.specs.Boxes.{slot}
 use Rattle.fine_boxes.specs.Telling.{posting, MayPost, Posted}
-use Rattle.fine_boxes.specs.Lists.{some_same}
 use Rattle.fine_boxes.proofs.Allowing.{fetch_back_allowed, post_allowed, land_back_allowed}
 use Rattle.fine_boxes.proofs.Exchanging.{may_still, fetch_tells, post_tells, back_now, posted_whole}
 use Rattle.fine_boxes.proofs.Numbers.{half_is, few_is, word_within, seat_within}

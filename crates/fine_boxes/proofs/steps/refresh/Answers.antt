@@ -1,12 +1,12 @@
 use Rattle.std.proofs.Common.{◌≡◌, ◌∙◌, ◌<◌, ◌∷◌, [], ◌-◌, List, Option, Some, None, true, sym, ap, subst}
 use Rattle.std.specs.Prelude.{ℕ}
 use Rattle.atomic_table.specs.Table.{rest}
-use Rattle.fine_places.proofs.Lists.{same_head}
+use Rattle.fine_places.proofs.Lists.{same_head, some_same}
 use Rattle.fine_boxes.specs.declared.model.BoxNote.{BoxNote}
 use Rattle.fine_boxes.specs.declared.model.Reads.{Reads}
 use Rattle.fine_boxes.specs.Boxes.{slot}
 use Rattle.fine_boxes.specs.Telling.{refreshing}
-use Rattle.fine_boxes.specs.Lists.{first_same, some_same}
+use Rattle.fine_boxes.specs.Lists.{first_same}
 use Rattle.fine_boxes.proofs.Allowing.{swap_allowed, land_allowed}
 use Rattle.fine_boxes.proofs.Exchanging.{swap_tells, refreshed_whole}
 use Rattle.fine_boxes.proofs.Numbers.{half_is, word_within, next_number}

@@ -3,9 +3,8 @@ use Rattle.std.proofs.lemmas.List.{map-append}
 use lib.ListN.{get_elem?}
 use Rattle.fine_places.specs.History as places
 use Rattle.fine_places.proofs.Lists.{none_held}
-use Rattle.fine_hall.specs.Passes.{HasTable}
 use Rattle.fine_hall.specs.Halls.{begun_by}
-use Rattle.fine_hall.proofs.Handing.{Beginner, keeps_rest, takes_first, last_one, right_note, left_notes, one_note, first_pass, fresh_pass, hands, front_at, longer_by}
+use Rattle.fine_hall.proofs.Handing.{Beginner, keeps_rest, takes_first, last_one, right_note, left_notes, one_note, first_pass, fresh_pass, hands, front_at, longer_by, sized_for}
 use Rattle.fine_hall.proofs.Laying.{none_of}
 use Rattle.fine_hall.proofs.opening.hand_out.Goals as goal
 
@@ -26,8 +25,7 @@ pub loop-fronts-preserved : goal.loop-fronts-preserved
 loop-fronts-preserved g c =
     let i = c.loop-fronts.invariant in
     let seats = c.requires.seats in
-    let boxes = subst (λ n. HasTable n c.args.places.now.table_id) seats.2 c.requires.table.2 in
-    let few = subst (λ n. n ≤ 18) seats.2 seats.1 in
+    let sized = sized_for _ _ c.args.places.now.table_id seats c.requires.table.2 in
     let before = c.pop.new.self.items in
     let popped = c.in-Some.ensures in
     let s = c.split-other.ensures in
@@ -44,8 +42,8 @@ loop-fronts-preserved g c =
     let single = takes_first (begun_by g.R.RoomLaw.state g.R.RoomLaw.origin g.V.ViewLaw.state c.args.places.now.key) (length before) c.loop-fronts.seat.me.0.places c.split-other.result.me.0.places (ap (λ m. m.0.places) s.other) left in
     let note = right_note c.loop-fronts.seat.me.0.beside c.split-other.result.me.0.beside (map g.V.ViewLaw.state before) (g.V.ViewLaw.state c.in-Some.front) notes (ap (λ m. m.0.beside) s.other) in
     let fresh = c.requires.fronts (length before) c.in-Some.front (front_at c.args.fronts.items before c.in-Some.front i.front.0 fronts) in
-    let is_pass = first_pass g.V.ViewLaw.state c.args.places.now.table_id (begun_by g.R.RoomLaw.state g.R.RoomLaw.origin g.V.ViewLaw.state c.args.places.now.key) boxes c.requires.places few (suc (length before)) pos high c.seated.result c.split-other.result.me.0 c.in-Some.front (made.badge.0 ∙ (s.table.2 ∙ i.table)) made.badge.1 number made.rest.1 made.rest.2 single note fresh in
-    let is_fresh = fresh_pass g.V.ViewLaw.state c.args.places.now.table_id (begun_by g.R.RoomLaw.state g.R.RoomLaw.origin g.V.ViewLaw.state c.args.places.now.key) boxes c.requires.places few (suc (length before)) pos high c.seated.result c.split-other.result.me.0 c.in-Some.front (made.badge.0 ∙ (s.table.2 ∙ i.table)) made.badge.1 number made.rest.1 made.rest.2 single note fresh in
+    let is_pass = first_pass g.V.ViewLaw.state c.args.places.now.table_id (begun_by g.R.RoomLaw.state g.R.RoomLaw.origin g.V.ViewLaw.state c.args.places.now.key) sized.0 c.requires.places sized.1 (suc (length before)) pos high c.seated.result c.split-other.result.me.0 c.in-Some.front (made.badge.0 ∙ (s.table.2 ∙ i.table)) made.badge.1 number made.rest.1 made.rest.2 single note fresh in
+    let is_fresh = fresh_pass g.V.ViewLaw.state c.args.places.now.table_id (begun_by g.R.RoomLaw.state g.R.RoomLaw.origin g.V.ViewLaw.state c.args.places.now.key) sized.0 c.requires.places sized.1 (suc (length before)) pos high c.seated.result c.split-other.result.me.0 c.in-Some.front (made.badge.0 ∙ (s.table.2 ∙ i.table)) made.badge.1 number made.rest.1 made.rest.2 single note fresh in
     let push = c.push_reserved.ensures in
     let long = ap length push.items ∙ length-append c.loop-fronts.passes.items (c.seated.result ∷ []) in
     let plen = push.len in
@@ -67,15 +65,14 @@ loop-fronts-preserved g c =
       counted = omega arith;
       room = omega arith;
       front = (c.in-Some.front ∷ i.front.0, fronts ∙ Rattle.std.proofs.Common.append_assoc before (c.in-Some.front ∷ []) i.front.0);
-      handed = hands g.V.ViewLaw.state c.args.places.now.table_id (begun_by g.R.RoomLaw.state g.R.RoomLaw.origin g.V.ViewLaw.state c.args.places.now.key) boxes c.requires.places few c.args.fronts.items before c.in-Some.front i.front.0 c.loop-fronts.passes.items c.push_reserved.new.self.items c.seated.result push.items fronts (omega (arith, up, counted, all)) is_pass is_fresh i.handed;
+      handed = hands g.V.ViewLaw.state c.args.places.now.table_id (begun_by g.R.RoomLaw.state g.R.RoomLaw.origin g.V.ViewLaw.state c.args.places.now.key) sized.0 c.requires.places sized.1 c.args.fronts.items before c.in-Some.front i.front.0 c.loop-fronts.passes.items c.push_reserved.new.self.items c.seated.result push.items fronts (omega (arith, up, counted, all)) is_pass is_fresh i.handed;
     }
 
 pub returns-clause-passes : goal.returns-clause-passes
 returns-clause-passes g c =
     let i = c.loop-fronts.invariant in
     let seats = c.requires.seats in
-    let boxes = subst (λ n. HasTable n c.args.places.now.table_id) seats.2 c.requires.table.2 in
-    let few = subst (λ n. n ≤ 18) seats.2 seats.1 in
+    let sized = sized_for _ _ c.args.places.now.table_id seats c.requires.table.2 in
     let before = c.pop-2.new.self.items in
     let popped = c.in-Some-pop.ensures in
     let made = c.seated-2.ensures in
@@ -97,6 +94,6 @@ returns-clause-passes g c =
     let note = one_note c.loop-fronts.seat.me.0.beside (g.V.ViewLaw.state c.in-Some-pop.front) notes in
     let fresh = c.requires.fronts (length before) c.in-Some-pop.front (front_at c.args.fronts.items before c.in-Some-pop.front i.front.0 fronts) in
     let number = made.rest.0 ∙ ap suc (sym none) in
-    let is_pass = first_pass g.V.ViewLaw.state c.args.places.now.table_id (begun_by g.R.RoomLaw.state g.R.RoomLaw.origin g.V.ViewLaw.state c.args.places.now.key) boxes c.requires.places few (suc (length before)) pos high c.seated-2.result c.loop-fronts.seat.me.0 c.in-Some-pop.front (made.badge.0 ∙ i.table) made.badge.1 number made.rest.1 made.rest.2 single note fresh in
-    let is_fresh = fresh_pass g.V.ViewLaw.state c.args.places.now.table_id (begun_by g.R.RoomLaw.state g.R.RoomLaw.origin g.V.ViewLaw.state c.args.places.now.key) boxes c.requires.places few (suc (length before)) pos high c.seated-2.result c.loop-fronts.seat.me.0 c.in-Some-pop.front (made.badge.0 ∙ i.table) made.badge.1 number made.rest.1 made.rest.2 single note fresh in
-    hands g.V.ViewLaw.state c.args.places.now.table_id (begun_by g.R.RoomLaw.state g.R.RoomLaw.origin g.V.ViewLaw.state c.args.places.now.key) boxes c.requires.places few c.args.fronts.items before c.in-Some-pop.front i.front.0 c.loop-fronts.passes.items c.push_reserved-2.new.self.items c.seated-2.result c.push_reserved-2.ensures.items fronts (omega (arith, up, counted, all)) is_pass is_fresh i.handed
+    let is_pass = first_pass g.V.ViewLaw.state c.args.places.now.table_id (begun_by g.R.RoomLaw.state g.R.RoomLaw.origin g.V.ViewLaw.state c.args.places.now.key) sized.0 c.requires.places sized.1 (suc (length before)) pos high c.seated-2.result c.loop-fronts.seat.me.0 c.in-Some-pop.front (made.badge.0 ∙ i.table) made.badge.1 number made.rest.1 made.rest.2 single note fresh in
+    let is_fresh = fresh_pass g.V.ViewLaw.state c.args.places.now.table_id (begun_by g.R.RoomLaw.state g.R.RoomLaw.origin g.V.ViewLaw.state c.args.places.now.key) sized.0 c.requires.places sized.1 (suc (length before)) pos high c.seated-2.result c.loop-fronts.seat.me.0 c.in-Some-pop.front (made.badge.0 ∙ i.table) made.badge.1 number made.rest.1 made.rest.2 single note fresh in
+    hands g.V.ViewLaw.state c.args.places.now.table_id (begun_by g.R.RoomLaw.state g.R.RoomLaw.origin g.V.ViewLaw.state c.args.places.now.key) sized.0 c.requires.places sized.1 c.args.fronts.items before c.in-Some-pop.front i.front.0 c.loop-fronts.passes.items c.push_reserved-2.new.self.items c.seated-2.result c.push_reserved-2.ensures.items fronts (omega (arith, up, counted, all)) is_pass is_fresh i.handed

@@ -4,7 +4,8 @@ use Rattle.std.proofs.Common.{◌≡◌, ◌<◌, length, get_or, arith, subst}
 use Rattle.hall_rooms.specs.Rooms.{IsRoomPass, beginning_of}
 use Rattle.hall_rooms.specs.Making.{RenewsBelow}
 use Rattle.hall_rooms.proofs.Crossing.{bucket_send, in_hall_send}
-use Rattle.hall_rooms.proofs.Renewing.{all_ahead, all_renewed, all_set, elem_there, looked, none_renewed, renewed_next}
+use Rattle.fine_places.proofs.Elements.{elem_at}
+use Rattle.hall_rooms.proofs.Renewing.{all_ahead, all_renewed, all_set, looked, none_renewed, renewed_next}
 use Rattle.hall_rooms.proofs.making.refresh_each.Goals as goal
 
 pub refresh-requires-send-R : goal.refresh-requires-send-R
@@ -19,7 +20,7 @@ loop-at-init g c = record { passes = c.requires.passes; below = none_renewed (be
 pub refresh-requires-clause-pass : goal.refresh-requires-clause-pass
 refresh-requires-clause-pass g c κs within =
     c.loop-at.invariant.passes c.loop-at.at _
-    (elem_there c.loop-at.passes c.loop-at.at c.index-passes-at.result (let test = c.loop-at-test.true in let many = c.loop-at.auto.passes in omega (arith, test, many)))
+    (elem_at c.loop-at.passes c.loop-at.at c.index-passes-at.result (let test = c.loop-at-test.true in let many = c.loop-at.auto.passes in omega (arith, test, many)))
 
 pub loop-at-preserved : goal.loop-at-preserved
 loop-at-preserved g c =

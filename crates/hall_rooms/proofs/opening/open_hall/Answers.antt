@@ -4,7 +4,7 @@ use Rattle.std.proofs.Common.{◌≡◌, ◌++◌, ◌*◌, None, arith, false, 
 use Rattle.epoch_room.specs.Value.{RoomValue}
 use Rattle.hall_rooms.specs.Opening.{LacksViews, MakesMiddles, OpensHall}
 use Rattle.hall_rooms.proofs.Crossing.{bucket_send, in_hall_send}
-use Rattle.hall_rooms.proofs.Fresh.{alone_seated, fresh_hall, lacks_hall, lacks_same, lacks_seated, opens}
+use Rattle.hall_rooms.proofs.Fresh.{MadeViews, alone_seated, fresh_hall, lacks_hall, lacks_same, lacks_seated, made_views, opens}
 use Rattle.hall_rooms.proofs.opening.open_hall.Goals as goal
 
 pub returns-in-Err-clause-back : goal.returns-in-Err-clause-back
@@ -40,116 +40,47 @@ new-requires-send-B g c κs within = search (sendable, bucket_send) depth 20
 
 pub new-requires-clause-seats : goal.new-requires-clause-seats
 new-requires-clause-seats g c κs within =
-    let mid = c.set_seats.new.self in
-    let f = c.in_default-make_fronts.ensures in
-    let m = c.in_default-make_middles.ensures mid c.make_fronts.new.fronts.items (alone_seated c.args.room mid (replicate (3 * c.args.seats) None) c.in-Ok-set_seats.ensures.ok c.set_seats.ensures.keeps c.requires.stands) f.0 f.1 in
-    let many = f.0 in
+    let v = made_views c.args.room c.set_seats.new.self c.make_fronts.new.room c.make_middles.new.room (replicate (3 * c.args.seats) None) c.args.seats c.make_fronts.new.fronts.items c.make_middles.new.middles.items c.in-Ok-set_seats.ensures.ok c.set_seats.ensures.keeps c.requires.seats.0 c.requires.stands c.in_default-make_fronts.ensures c.in_default-make_middles.ensures in
+    let many = v.many in
     let least = c.requires.seats.0 in
     let most = c.requires.seats.1 in
-    (omega (arith, many, least), omega (arith, many, most), m.0 ∙ sym many)
+    (omega (arith, many, least), omega (arith, many, most), v.all ∙ sym many)
 
 pub new-requires-clause-fresh : goal.new-requires-clause-fresh
 new-requires-clause-fresh g c κs within =
-    let old = c.args.room in
-    let mid = c.set_seats.new.self in
-    let is = c.in-Ok-set_seats.ensures.ok in
-    let board = replicate (3 * c.args.seats) None in
-    let fronts = c.make_fronts.new.fronts.items in
-    let f = c.in_default-make_fronts.ensures in
-    let m = c.in_default-make_middles.ensures mid fronts (alone_seated old mid board is c.set_seats.ensures.keeps c.requires.stands) f.0 f.1 in
-    let many = f.0 in
-    let least = c.requires.seats.0 in
-    let opened : old.room.is_shut ≡ false = sym (ap (λ (v : RoomValue). v.room.is_shut) is) ∙ f.1.is_open (omega (arith, many, least)) in
-    fresh_hall old mid board is c.set_seats.ensures.keeps c.in-Ok-hold.held c.args.seats fronts c.make_middles.new.middles.items least c.requires.stands f.0 m.0 opened (subst (λ r. MakesMiddles mid r fronts c.make_middles.new.middles.items) (sym c.in-Ok-hold.ensures.held) m.1) c.requires.no_job c.requires.no_place.0 c.requires.no_place.1
+    let v = made_views c.args.room c.set_seats.new.self c.make_fronts.new.room c.make_middles.new.room (replicate (3 * c.args.seats) None) c.args.seats c.make_fronts.new.fronts.items c.make_middles.new.middles.items c.in-Ok-set_seats.ensures.ok c.set_seats.ensures.keeps c.requires.seats.0 c.requires.stands c.in_default-make_fronts.ensures c.in_default-make_middles.ensures in
+    let h = subst (λ r. MadeViews c.args.room r c.args.seats c.make_fronts.new.fronts.items c.make_middles.new.middles.items) (sym c.in-Ok-hold.ensures.held) v in
+    fresh_hall c.args.room c.in-Ok-hold.held c.args.seats c.make_fronts.new.fronts.items c.make_middles.new.middles.items h c.requires.no_job c.requires.no_place.0 c.requires.no_place.1
 
 pub give_up-requires-in-Err-new-clause-views : goal.give_up-requires-in-Err-new-clause-views
 give_up-requires-in-Err-new-clause-views g c κs within =
-    let old = c.args.room in
-    let mid = c.set_seats.new.self in
-    let is = c.in-Ok-set_seats.ensures.ok in
-    let board = replicate (3 * c.args.seats) None in
-    let new = c.make_middles.new.room in
-    let fronts = c.make_fronts.new.fronts.items in
-    let middles = c.make_middles.new.middles.items in
-    let f = c.in_default-make_fronts.ensures in
-    let m = c.in_default-make_middles.ensures mid fronts (alone_seated old mid board is c.set_seats.ensures.keeps c.requires.stands) f.0 f.1 in
-    let many = f.0 in
-    let least = c.requires.seats.0 in
-    let opened : old.room.is_shut ≡ false = sym (ap (λ (v : RoomValue). v.room.is_shut) is) ∙ f.1.is_open (omega (arith, many, least)) in
-    let back = c.in-Err-new.ensures.back in
-    let l = lacks_same old new c.into_room.result fronts c.in-Err-new.fronts.items middles c.in-Err-new.middles.items (c.into_room.ensures ∙ (back.0 ∙ c.in-Ok-hold.ensures.held)) back.2 back.3
-    (lacks_hall old mid board is c.set_seats.ensures.keeps new c.args.seats fronts middles least c.requires.stands f.0 m.0 opened m.1) in
-    (old, l)
+    let v = made_views c.args.room c.set_seats.new.self c.make_fronts.new.room c.make_middles.new.room (replicate (3 * c.args.seats) None) c.args.seats c.make_fronts.new.fronts.items c.make_middles.new.middles.items c.in-Ok-set_seats.ensures.ok c.set_seats.ensures.keeps c.requires.seats.0 c.requires.stands c.in_default-make_fronts.ensures c.in_default-make_middles.ensures in
+    let l = lacks_same _ _ _ _ _ _ _ (c.into_room.ensures ∙ (c.in-Err-new.ensures.back.0 ∙ c.in-Ok-hold.ensures.held)) c.in-Err-new.ensures.back.2 c.in-Err-new.ensures.back.3 (lacks_hall c.args.room c.make_middles.new.room c.args.seats c.make_fronts.new.fronts.items c.make_middles.new.middles.items v) in
+    (c.args.room, l)
 
 pub returns-in-Ok-new-clause-hall : goal.returns-in-Ok-new-clause-hall
 returns-in-Ok-new-clause-hall g c =
-    let old = c.args.room in
-    let mid = c.set_seats.new.self in
-    let is = c.in-Ok-set_seats.ensures.ok in
-    let board = replicate (3 * c.args.seats) None in
-    let fronts = c.make_fronts.new.fronts.items in
-    let f = c.in_default-make_fronts.ensures in
-    let m = c.in_default-make_middles.ensures mid fronts (alone_seated old mid board is c.set_seats.ensures.keeps c.requires.stands) f.0 f.1 in
-    let many = f.0 in
-    let least = c.requires.seats.0 in
-    let opened : old.room.is_shut ≡ false = sym (ap (λ (v : RoomValue). v.room.is_shut) is) ∙ f.1.is_open (omega (arith, many, least)) in
-    subst (OpensHall old c.args.seats) (sym c.in-Ok-new.ensures.hall)
-    (opens old mid board is c.set_seats.ensures.keeps c.in-Ok-hold.held c.args.seats fronts c.make_middles.new.middles.items least c.requires.stands f.0 m.0 opened (subst (λ r. MakesMiddles mid r fronts c.make_middles.new.middles.items) (sym c.in-Ok-hold.ensures.held) m.1))
+    let v = made_views c.args.room c.set_seats.new.self c.make_fronts.new.room c.make_middles.new.room (replicate (3 * c.args.seats) None) c.args.seats c.make_fronts.new.fronts.items c.make_middles.new.middles.items c.in-Ok-set_seats.ensures.ok c.set_seats.ensures.keeps c.requires.seats.0 c.requires.stands c.in_default-make_fronts.ensures c.in_default-make_middles.ensures in
+    let h = subst (λ r. MadeViews c.args.room r c.args.seats c.make_fronts.new.fronts.items c.make_middles.new.middles.items) (sym c.in-Ok-hold.ensures.held) v in
+    subst (OpensHall c.args.room c.args.seats) (sym c.in-Ok-new.ensures.hall) (opens c.args.room c.in-Ok-hold.held c.args.seats c.make_fronts.new.fronts.items c.make_middles.new.middles.items h)
 
 pub returns-in-Err-new-clause-back : goal.returns-in-Err-new-clause-back
 returns-in-Err-new-clause-back g c =
-    let old = c.args.room in
-    let mid = c.set_seats.new.self in
-    let is = c.in-Ok-set_seats.ensures.ok in
-    let board = replicate (3 * c.args.seats) None in
-    let new = c.make_middles.new.room in
-    let fronts = c.make_fronts.new.fronts.items in
-    let middles = c.make_middles.new.middles.items in
-    let f = c.in_default-make_fronts.ensures in
-    let m = c.in_default-make_middles.ensures mid fronts (alone_seated old mid board is c.set_seats.ensures.keeps c.requires.stands) f.0 f.1 in
-    let many = f.0 in
-    let least = c.requires.seats.0 in
-    let opened : old.room.is_shut ≡ false = sym (ap (λ (v : RoomValue). v.room.is_shut) is) ∙ f.1.is_open (omega (arith, many, least)) in
-    let back = c.in-Err-new.ensures.back in
-    let l = lacks_same old new c.into_room.result fronts c.in-Err-new.fronts.items middles c.in-Err-new.middles.items (c.into_room.ensures ∙ (back.0 ∙ c.in-Ok-hold.ensures.held)) back.2 back.3
-    (lacks_hall old mid board is c.set_seats.ensures.keeps new c.args.seats fronts middles least c.requires.stands f.0 m.0 opened m.1) in
-    c.give_up-in-Err-new.ensures old l
+    let v = made_views c.args.room c.set_seats.new.self c.make_fronts.new.room c.make_middles.new.room (replicate (3 * c.args.seats) None) c.args.seats c.make_fronts.new.fronts.items c.make_middles.new.middles.items c.in-Ok-set_seats.ensures.ok c.set_seats.ensures.keeps c.requires.seats.0 c.requires.stands c.in_default-make_fronts.ensures c.in_default-make_middles.ensures in
+    let l = lacks_same _ _ _ _ _ _ _ (c.into_room.ensures ∙ (c.in-Err-new.ensures.back.0 ∙ c.in-Ok-hold.ensures.held)) c.in-Err-new.ensures.back.2 c.in-Err-new.ensures.back.3 (lacks_hall c.args.room c.make_middles.new.room c.args.seats c.make_fronts.new.fronts.items c.make_middles.new.middles.items v) in
+    c.give_up-in-Err-new.ensures c.args.room l
 
 pub give_up-requires-in-Err-hold-clause-views : goal.give_up-requires-in-Err-hold-clause-views
 give_up-requires-in-Err-hold-clause-views g c κs within =
-    let old = c.args.room in
-    let mid = c.set_seats.new.self in
-    let is = c.in-Ok-set_seats.ensures.ok in
-    let board = replicate (3 * c.args.seats) None in
-    let new = c.make_middles.new.room in
-    let fronts = c.make_fronts.new.fronts.items in
-    let middles = c.make_middles.new.middles.items in
-    let f = c.in_default-make_fronts.ensures in
-    let m = c.in_default-make_middles.ensures mid fronts (alone_seated old mid board is c.set_seats.ensures.keeps c.requires.stands) f.0 f.1 in
-    let many = f.0 in
-    let least = c.requires.seats.0 in
-    let opened : old.room.is_shut ≡ false = sym (ap (λ (v : RoomValue). v.room.is_shut) is) ∙ f.1.is_open (omega (arith, many, least)) in
-    let l = lacks_same old new c.in-Err-hold.room fronts fronts middles middles c.in-Err-hold.ensures.back refl refl
-    (lacks_hall old mid board is c.set_seats.ensures.keeps new c.args.seats fronts middles least c.requires.stands f.0 m.0 opened m.1) in
-    (old, l)
+    let v = made_views c.args.room c.set_seats.new.self c.make_fronts.new.room c.make_middles.new.room (replicate (3 * c.args.seats) None) c.args.seats c.make_fronts.new.fronts.items c.make_middles.new.middles.items c.in-Ok-set_seats.ensures.ok c.set_seats.ensures.keeps c.requires.seats.0 c.requires.stands c.in_default-make_fronts.ensures c.in_default-make_middles.ensures in
+    let l = lacks_same _ _ _ c.make_fronts.new.fronts.items c.make_fronts.new.fronts.items c.make_middles.new.middles.items c.make_middles.new.middles.items c.in-Err-hold.ensures.back refl refl (lacks_hall c.args.room c.make_middles.new.room c.args.seats c.make_fronts.new.fronts.items c.make_middles.new.middles.items v) in
+    (c.args.room, l)
 
 pub returns-in-Err-hold-clause-back : goal.returns-in-Err-hold-clause-back
 returns-in-Err-hold-clause-back g c =
-    let old = c.args.room in
-    let mid = c.set_seats.new.self in
-    let is = c.in-Ok-set_seats.ensures.ok in
-    let board = replicate (3 * c.args.seats) None in
-    let new = c.make_middles.new.room in
-    let fronts = c.make_fronts.new.fronts.items in
-    let middles = c.make_middles.new.middles.items in
-    let f = c.in_default-make_fronts.ensures in
-    let m = c.in_default-make_middles.ensures mid fronts (alone_seated old mid board is c.set_seats.ensures.keeps c.requires.stands) f.0 f.1 in
-    let many = f.0 in
-    let least = c.requires.seats.0 in
-    let opened : old.room.is_shut ≡ false = sym (ap (λ (v : RoomValue). v.room.is_shut) is) ∙ f.1.is_open (omega (arith, many, least)) in
-    let l = lacks_same old new c.in-Err-hold.room fronts fronts middles middles c.in-Err-hold.ensures.back refl refl
-    (lacks_hall old mid board is c.set_seats.ensures.keeps new c.args.seats fronts middles least c.requires.stands f.0 m.0 opened m.1) in
-    c.give_up-in-Err-hold.ensures old l
+    let v = made_views c.args.room c.set_seats.new.self c.make_fronts.new.room c.make_middles.new.room (replicate (3 * c.args.seats) None) c.args.seats c.make_fronts.new.fronts.items c.make_middles.new.middles.items c.in-Ok-set_seats.ensures.ok c.set_seats.ensures.keeps c.requires.seats.0 c.requires.stands c.in_default-make_fronts.ensures c.in_default-make_middles.ensures in
+    let l = lacks_same _ _ _ c.make_fronts.new.fronts.items c.make_fronts.new.fronts.items c.make_middles.new.middles.items c.make_middles.new.middles.items c.in-Err-hold.ensures.back refl refl (lacks_hall c.args.room c.make_middles.new.room c.args.seats c.make_fronts.new.fronts.items c.make_middles.new.middles.items v) in
+    c.give_up-in-Err-hold.ensures c.args.room l
 
 pub returns-in-Ok-new-clause-passes : goal.returns-in-Ok-new-clause-passes
 returns-in-Ok-new-clause-passes g c = (c.in-Ok-new.ensures.count ∙ c.in_default-make_fronts.ensures.0, (c.make_fronts.new.fronts.items, c.in-Ok-new.ensures.passes))

@@ -45,12 +45,10 @@ returns-in-Bucket-clause-content g c =
     (subst (λ k. Stands g.R.RoomLaw.state g.R.RoomLaw.origin g.R.RoomLaw.stands_for g.B.BucketLaw.bucket g.B.BucketLaw.cached g.B.BucketLaw.is_settled (begun g.R.RoomLaw.state g.R.RoomLaw.origin g.V.ViewLaw.state c.args.self.now) k (published c.stand_up.new.self) c.in-Ok.load (touching touches_bucket k (turns c.stand_up.new.self))) c.from.ensures s)
 
 pub returns-in-Err-clause-pass : goal.returns-in-Err-clause-pass
-returns-in-Err-clause-pass g c = (
-  still_pass g.V.ViewLaw.state _ _ c.args.pass.now c.stand_up.new.self _ _ _ _ c.requires.pass c.sit-seat.ensures.view c.stand_up.ensures.view
-      (c.stand_up.ensures.seat.0 ∙ (c.in-Err.ensures.table.0 ∙ (c.sit-seat.ensures.seat.0 ∙ c.requires.pass.table))) (c.stand_up.ensures.number ∙ c.sit-seat.ensures.number)
-      (c.stand_up.ensures.front.0 ∙ c.sit-seat.ensures.front.0, c.stand_up.ensures.front.1 ∙ c.sit-seat.ensures.front.1, c.stand_up.ensures.front.2 ∙ c.sit-seat.ensures.front.2) c.in-Err.ensures.took,
-  c.stand_up.ensures.number ∙ c.sit-seat.ensures.number,
-)
+returns-in-Err-clause-pass g c =
+    still_pass g.V.ViewLaw.state _ _ c.args.pass.now c.stand_up.new.self _ _ _ _ c.requires.pass c.sit-seat.ensures.view c.stand_up.ensures.view
+    (c.stand_up.ensures.seat.0 ∙ (c.in-Err.ensures.table.0 ∙ (c.sit-seat.ensures.seat.0 ∙ c.requires.pass.table))) (c.stand_up.ensures.number ∙ c.sit-seat.ensures.number)
+    (c.stand_up.ensures.front.0 ∙ c.sit-seat.ensures.front.0, c.stand_up.ensures.front.1 ∙ c.sit-seat.ensures.front.1, c.stand_up.ensures.front.2 ∙ c.sit-seat.ensures.front.2) c.in-Err.ensures.took
 
 pub returns-in-Err-clause-conflict : goal.returns-in-Err-clause-conflict
 returns-in-Err-clause-conflict g c = (

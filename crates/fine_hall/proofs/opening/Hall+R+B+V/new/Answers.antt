@@ -1,32 +1,24 @@
-use Rattle.std.proofs.Common.{◌≡◌, ◌+◌, ◌*◌, ◌≤◌, ◌++◌, suc, length, take, Vec, ap, sym, subst, ◌∙◌, refl, arith}
+use Rattle.std.proofs.Common.{◌≡◌, ◌+◌, ◌*◌, ◌≤◌, ◌++◌, suc, length, Vec, ap, sym, subst, ◌∙◌, refl, arith}
 use Rattle.std.proofs.lemmas.Grind.{common_steps}
-use Rattle.std.proofs.lemmas.List.{length-take-le}
 use Rattle.fine_hall.specs.Opening.{laid_places, laid_views}
 use Rattle.fine_hall.specs.Halls.{begun_by, IsFreshView}
 use Rattle.fine_hall.proofs.Laying.{parts_same, long_views, laid_same}
 use Rattle.fine_boxes.proofs.Opening.{boxes_open}
-use Rattle.fine_hall.proofs.Entering.{lies, opens_hall, same_beginning, fresh_at, words_at, few_seats, enough, all_free, has_boxes}
+use Rattle.fine_hall.proofs.Entering.{start_lies, start_opens, same_beginning, few_seats, enough, all_free, has_boxes}
 use Rattle.fine_hall.proofs.Handing.{fresh_turns}
 use Rattle.fine_hall.proofs.opening.Hall+R+B+V.new.Goals as goal
 
 pub open-requires-clause-counts : goal.open-requires-clause-counts
 open-requires-clause-counts g c =
     let n : c.len-seats.result ≡ length c.args.fronts.items = c.len-seats.ensures ∙ (grind (arith, common_steps)) in
-    let is = same_beginning g.R.RoomLaw.state g.R.RoomLaw.origin g.V.ViewLaw.state c.len-seats.result (length c.args.fronts.items) c.of.result.value c.args.room c.of-2.result.value.items c.args.fronts.items n c.of.ensures (ap (λ (v : Vec g.row.V.Denot _). v.items) c.of-2.ensures) in
     let slots = c.fill_places-slots.ensures.slots ∙ ap (λ l. laid_places c.args.room c.args.buckets.items ++ l) c.fill_views-slots.ensures.slots in
-    let few = subst (λ m. m ≤ 18) (sym n) c.requires.seats.1 in
-    let as_many = c.requires.seats.2 ∙ sym n in
-    let o = opens_hall g.R.RoomLaw.state g.R.RoomLaw.origin g.R.RoomLaw.stands_for g.B.BucketLaw.bucket g.B.BucketLaw.cached g.B.BucketLaw.is_settled g.V.ViewLaw.state c.args.room c.args.buckets.items c.args.fronts.items c.args.middles.items _ is c.requires.buckets (fresh_at g.R.RoomLaw.state g.V.ViewLaw.state g.R.RoomLaw.stands_for _ _ c.args.room c.args.fronts.items c.args.middles.items is c.requires.fresh) c.fill_places-slots.result.0.items slots (take (258 + c.len-seats.result) c.first_words-words.result) c.len-seats.result refl (sym n) as_many few
-    (length-take-le (258 + c.len-seats.result) c.first_words-words.result (let w = c.first_words-words.ensures.long in omega arith))
-    (words_at (258 + c.len-seats.result) c.first_words-words.result 257 0 (omega arith) (c.first_words-words.ensures.places 257 (omega arith)))
-    (λ i lt. words_at (258 + c.len-seats.result) c.first_words-words.result (258 + i) 2 (omega arith) (c.first_words-words.ensures.boxes i (omega arith))) in
+    let o = start_opens g.R.RoomLaw.state g.R.RoomLaw.origin g.R.RoomLaw.stands_for g.B.BucketLaw.bucket g.B.BucketLaw.cached g.B.BucketLaw.is_settled g.V.ViewLaw.state c.args.room c.args.buckets.items c.args.fronts.items c.args.middles.items c.requires.seats c.requires.buckets c.requires.fresh c.fill_places-slots.result.0.items slots c.len-seats.result c.of.result.value c.of-2.result.value.items n c.of.ensures (ap (λ (v : Vec g.row.V.Denot _). v.items) c.of-2.ensures) c.first_words-words.result c.first_words-words.ensures.long c.first_words-words.ensures.places c.first_words-words.ensures.boxes in
     let deep = o.deep in
-    (enough c.len-seats.result c.first_words-words.result c.first_words-words.ensures.long few, omega (arith, deep))
+    (enough c.len-seats.result c.first_words-words.result c.first_words-words.ensures.long (subst (λ m. m ≤ 18) (sym n) c.requires.seats.1), omega (arith, deep))
 
 pub open-requires-clause-seats : goal.open-requires-clause-seats
 open-requires-clause-seats g c =
     let n : c.len-seats.result ≡ length c.args.fronts.items = c.len-seats.ensures ∙ (grind (arith, common_steps)) in
-    let is = same_beginning g.R.RoomLaw.state g.R.RoomLaw.origin g.V.ViewLaw.state c.len-seats.result (length c.args.fronts.items) c.of.result.value c.args.room c.of-2.result.value.items c.args.fronts.items n c.of.ensures (ap (λ (v : Vec g.row.V.Denot _). v.items) c.of-2.ensures) in
     few_seats c.len-seats.result (subst (λ m. 1 ≤ m) (sym n) c.requires.seats.0) (subst (λ m. m ≤ 18) (sym n) c.requires.seats.1)
 
 pub open-requires-clause-legal : goal.open-requires-clause-legal
@@ -38,48 +30,28 @@ open-requires-clause-free g c = all_free c.len-seats.result c.first_words-words.
 pub open-requires-clause-stands : goal.open-requires-clause-stands
 open-requires-clause-stands g c =
     let n : c.len-seats.result ≡ length c.args.fronts.items = c.len-seats.ensures ∙ (grind (arith, common_steps)) in
-    let is = same_beginning g.R.RoomLaw.state g.R.RoomLaw.origin g.V.ViewLaw.state c.len-seats.result (length c.args.fronts.items) c.of.result.value c.args.room c.of-2.result.value.items c.args.fronts.items n c.of.ensures (ap (λ (v : Vec g.row.V.Denot _). v.items) c.of-2.ensures) in
     let slots = c.fill_places-slots.ensures.slots ∙ ap (λ l. laid_places c.args.room c.args.buckets.items ++ l) c.fill_views-slots.ensures.slots in
-    lies g.R.RoomLaw.state g.R.RoomLaw.origin g.R.RoomLaw.stands_for g.B.BucketLaw.bucket g.B.BucketLaw.cached g.B.BucketLaw.is_settled g.V.ViewLaw.state c.args.room c.args.buckets.items c.args.fronts.items c.args.middles.items _ is c.requires.buckets (fresh_at g.R.RoomLaw.state g.V.ViewLaw.state g.R.RoomLaw.stands_for _ _ c.args.room c.args.fronts.items c.args.middles.items is c.requires.fresh) c.fill_places-slots.result.0.items slots
+    start_lies g.R.RoomLaw.state g.R.RoomLaw.origin g.R.RoomLaw.stands_for g.B.BucketLaw.bucket g.B.BucketLaw.cached g.B.BucketLaw.is_settled g.V.ViewLaw.state c.args.room c.args.buckets.items c.args.fronts.items c.args.middles.items c.requires.seats c.requires.buckets c.requires.fresh c.fill_places-slots.result.0.items slots c.len-seats.result c.of.result.value c.of-2.result.value.items n c.of.ensures (ap (λ (v : Vec g.row.V.Denot _). v.items) c.of-2.ensures)
 
 pub open-requires-clause-beside : goal.open-requires-clause-beside
 open-requires-clause-beside g c =
     let n : c.len-seats.result ≡ length c.args.fronts.items = c.len-seats.ensures ∙ (grind (arith, common_steps)) in
-    let is = same_beginning g.R.RoomLaw.state g.R.RoomLaw.origin g.V.ViewLaw.state c.len-seats.result (length c.args.fronts.items) c.of.result.value c.args.room c.of-2.result.value.items c.args.fronts.items n c.of.ensures (ap (λ (v : Vec g.row.V.Denot _). v.items) c.of-2.ensures) in
     let slots = c.fill_places-slots.ensures.slots ∙ ap (λ l. laid_places c.args.room c.args.buckets.items ++ l) c.fill_views-slots.ensures.slots in
-    let few = subst (λ m. m ≤ 18) (sym n) c.requires.seats.1 in
-    let as_many = c.requires.seats.2 ∙ sym n in
-    let o = opens_hall g.R.RoomLaw.state g.R.RoomLaw.origin g.R.RoomLaw.stands_for g.B.BucketLaw.bucket g.B.BucketLaw.cached g.B.BucketLaw.is_settled g.V.ViewLaw.state c.args.room c.args.buckets.items c.args.fronts.items c.args.middles.items _ is c.requires.buckets (fresh_at g.R.RoomLaw.state g.V.ViewLaw.state g.R.RoomLaw.stands_for _ _ c.args.room c.args.fronts.items c.args.middles.items is c.requires.fresh) c.fill_places-slots.result.0.items slots (take (258 + c.len-seats.result) c.first_words-words.result) c.len-seats.result refl (sym n) as_many few
-    (length-take-le (258 + c.len-seats.result) c.first_words-words.result (let w = c.first_words-words.ensures.long in omega arith))
-    (words_at (258 + c.len-seats.result) c.first_words-words.result 257 0 (omega arith) (c.first_words-words.ensures.places 257 (omega arith)))
-    (λ i lt. words_at (258 + c.len-seats.result) c.first_words-words.result (258 + i) 2 (omega arith) (c.first_words-words.ensures.boxes i (omega arith))) in
+    let o = start_opens g.R.RoomLaw.state g.R.RoomLaw.origin g.R.RoomLaw.stands_for g.B.BucketLaw.bucket g.B.BucketLaw.cached g.B.BucketLaw.is_settled g.V.ViewLaw.state c.args.room c.args.buckets.items c.args.fronts.items c.args.middles.items c.requires.seats c.requires.buckets c.requires.fresh c.fill_places-slots.result.0.items slots c.len-seats.result c.of.result.value c.of-2.result.value.items n c.of.ensures (ap (λ (v : Vec g.row.V.Denot _). v.items) c.of-2.ensures) c.first_words-words.result c.first_words-words.ensures.long c.first_words-words.ensures.places c.first_words-words.ensures.boxes in
     boxes_open _ _ _ _ _ _ _ _ _ _ _ _ _ o _ _ refl
 
 pub hand_out-passes-requires-clause-fronts : goal.hand_out-passes-requires-clause-fronts
 hand_out-passes-requires-clause-fronts g c =
     let n : c.len-seats.result ≡ length c.args.fronts.items = c.len-seats.ensures ∙ (grind (arith, common_steps)) in
     let is = same_beginning g.R.RoomLaw.state g.R.RoomLaw.origin g.V.ViewLaw.state c.len-seats.result (length c.args.fronts.items) c.of.result.value c.args.room c.of-2.result.value.items c.args.fronts.items n c.of.ensures (ap (λ (v : Vec g.row.V.Denot _). v.items) c.of-2.ensures) in
-    let slots = c.fill_places-slots.ensures.slots ∙ ap (λ l. laid_places c.args.room c.args.buckets.items ++ l) c.fill_views-slots.ensures.slots in
-    let few = subst (λ m. m ≤ 18) (sym n) c.requires.seats.1 in
-    let as_many = c.requires.seats.2 ∙ sym n in
-    let o = opens_hall g.R.RoomLaw.state g.R.RoomLaw.origin g.R.RoomLaw.stands_for g.B.BucketLaw.bucket g.B.BucketLaw.cached g.B.BucketLaw.is_settled g.V.ViewLaw.state c.args.room c.args.buckets.items c.args.fronts.items c.args.middles.items _ is c.requires.buckets (fresh_at g.R.RoomLaw.state g.V.ViewLaw.state g.R.RoomLaw.stands_for _ _ c.args.room c.args.fronts.items c.args.middles.items is c.requires.fresh) c.fill_places-slots.result.0.items slots (take (258 + c.len-seats.result) c.first_words-words.result) c.len-seats.result refl (sym n) as_many few
-    (length-take-le (258 + c.len-seats.result) c.first_words-words.result (let w = c.first_words-words.ensures.long in omega arith))
-    (words_at (258 + c.len-seats.result) c.first_words-words.result 257 0 (omega arith) (c.first_words-words.ensures.places 257 (omega arith)))
-    (λ i lt. words_at (258 + c.len-seats.result) c.first_words-words.result (258 + i) 2 (omega arith) (c.first_words-words.ensures.boxes i (omega arith))) in
     λ _ _ i v at. subst (λ y. IsFreshView y (suc i) 0 (g.V.ViewLaw.state v)) (sym (ap (begun_by g.R.RoomLaw.state g.R.RoomLaw.origin g.V.ViewLaw.state) c.in-Ok-open.ensures.table.2 ∙ is)) (c.requires.fresh.each_front i v at)
 
 pub hand_out-passes-requires-clause-table : goal.hand_out-passes-requires-clause-table
 hand_out-passes-requires-clause-table g c =
     let n : c.len-seats.result ≡ length c.args.fronts.items = c.len-seats.ensures ∙ (grind (arith, common_steps)) in
-    let is = same_beginning g.R.RoomLaw.state g.R.RoomLaw.origin g.V.ViewLaw.state c.len-seats.result (length c.args.fronts.items) c.of.result.value c.args.room c.of-2.result.value.items c.args.fronts.items n c.of.ensures (ap (λ (v : Vec g.row.V.Denot _). v.items) c.of-2.ensures) in
     let slots = c.fill_places-slots.ensures.slots ∙ ap (λ l. laid_places c.args.room c.args.buckets.items ++ l) c.fill_views-slots.ensures.slots in
-    let few = subst (λ m. m ≤ 18) (sym n) c.requires.seats.1 in
-    let as_many = c.requires.seats.2 ∙ sym n in
-    let o = opens_hall g.R.RoomLaw.state g.R.RoomLaw.origin g.R.RoomLaw.stands_for g.B.BucketLaw.bucket g.B.BucketLaw.cached g.B.BucketLaw.is_settled g.V.ViewLaw.state c.args.room c.args.buckets.items c.args.fronts.items c.args.middles.items _ is c.requires.buckets (fresh_at g.R.RoomLaw.state g.V.ViewLaw.state g.R.RoomLaw.stands_for _ _ c.args.room c.args.fronts.items c.args.middles.items is c.requires.fresh) c.fill_places-slots.result.0.items slots (take (258 + c.len-seats.result) c.first_words-words.result) c.len-seats.result refl (sym n) as_many few
-    (length-take-le (258 + c.len-seats.result) c.first_words-words.result (let w = c.first_words-words.ensures.long in omega arith))
-    (words_at (258 + c.len-seats.result) c.first_words-words.result 257 0 (omega arith) (c.first_words-words.ensures.places 257 (omega arith)))
-    (λ i lt. words_at (258 + c.len-seats.result) c.first_words-words.result (258 + i) 2 (omega arith) (c.first_words-words.ensures.boxes i (omega arith))) in
-    λ _ _. (c.in-Ok-open.ensures.table.1, c.in-Ok-open.ensures.table.0, has_boxes c.len-seats.result (length c.args.fronts.items) c.in-Ok-open.table.shared.table_id c.first_words-words.result _ n few c.first_words-words.ensures.long c.in-Ok-open.ensures.counts.0 c.in-Ok-open.ensures.counts.1 o.deep)
+    let o = start_opens g.R.RoomLaw.state g.R.RoomLaw.origin g.R.RoomLaw.stands_for g.B.BucketLaw.bucket g.B.BucketLaw.cached g.B.BucketLaw.is_settled g.V.ViewLaw.state c.args.room c.args.buckets.items c.args.fronts.items c.args.middles.items c.requires.seats c.requires.buckets c.requires.fresh c.fill_places-slots.result.0.items slots c.len-seats.result c.of.result.value c.of-2.result.value.items n c.of.ensures (ap (λ (v : Vec g.row.V.Denot _). v.items) c.of-2.ensures) c.first_words-words.result c.first_words-words.ensures.long c.first_words-words.ensures.places c.first_words-words.ensures.boxes in
+    λ _ _. (c.in-Ok-open.ensures.table.1, c.in-Ok-open.ensures.table.0, has_boxes c.len-seats.result (length c.args.fronts.items) c.in-Ok-open.table.shared.table_id c.first_words-words.result _ n (subst (λ m. m ≤ 18) (sym n) c.requires.seats.1) c.first_words-words.ensures.long c.in-Ok-open.ensures.counts.0 c.in-Ok-open.ensures.counts.1 o.deep)
 
 pub empty_places-room-requires-clause-slots : goal.empty_places-room-requires-clause-slots
 empty_places-room-requires-clause-slots g c =

@@ -40,12 +40,10 @@ returns-in-Room-clause-room g c =
     (c.stand_up.ensures.front.0 ∙ c.sit-seat.ensures.front.0, c.stand_up.ensures.front.1 ∙ c.sit-seat.ensures.front.1) c.in-Ok.ensures.took room_256 _ _ _ _ c.in-Room.is refl
 
 pub returns-in-Err-clause-pass : goal.returns-in-Err-clause-pass
-returns-in-Err-clause-pass g c = (
-  still_pass g.V.ViewLaw.state _ _ c.args.pass.now c.stand_up.new.self _ _ _ _ c.requires.pass c.sit-seat.ensures.view c.stand_up.ensures.view
-      (c.stand_up.ensures.seat.0 ∙ (c.in-Err.ensures.table.0 ∙ (c.sit-seat.ensures.seat.0 ∙ c.requires.pass.table))) (c.stand_up.ensures.number ∙ c.sit-seat.ensures.number)
-      (c.stand_up.ensures.front.0 ∙ c.sit-seat.ensures.front.0, c.stand_up.ensures.front.1 ∙ c.sit-seat.ensures.front.1, c.stand_up.ensures.front.2 ∙ c.sit-seat.ensures.front.2) c.in-Err.ensures.took,
-  c.stand_up.ensures.number ∙ c.sit-seat.ensures.number,
-)
+returns-in-Err-clause-pass g c =
+    still_pass g.V.ViewLaw.state _ _ c.args.pass.now c.stand_up.new.self _ _ _ _ c.requires.pass c.sit-seat.ensures.view c.stand_up.ensures.view
+    (c.stand_up.ensures.seat.0 ∙ (c.in-Err.ensures.table.0 ∙ (c.sit-seat.ensures.seat.0 ∙ c.requires.pass.table))) (c.stand_up.ensures.number ∙ c.sit-seat.ensures.number)
+    (c.stand_up.ensures.front.0 ∙ c.sit-seat.ensures.front.0, c.stand_up.ensures.front.1 ∙ c.sit-seat.ensures.front.1, c.stand_up.ensures.front.2 ∙ c.sit-seat.ensures.front.2) c.in-Err.ensures.took
 
 pub returns-in-Err-clause-takes : goal.returns-in-Err-clause-takes
 returns-in-Err-clause-takes g c = waited _ _ _ c.args.pass.now c.stand_up.new.self (finds g.V.ViewLaw.state _ _ c.args.pass.now c.stand_up.new.self _ _ _ _ c.requires.pass c.sit-seat.ensures.view c.stand_up.ensures.view

@@ -5,7 +5,7 @@ use Rattle.fine_places.proofs.Lists.{some_same}
 use Rattle.fine_boxes.specs.Lists.{first_same, rest_same}
 use Rattle.fine_hall.specs.declared.law.Load.{Load}
 use Rattle.fine_hall.specs.declared.law.Load.TheVariants as load
-use Rattle.fine_hall.specs.Opening.{bucket_slot, room_slot, laid_places, laid_views, laid}
+use Rattle.fine_hall.specs.Opening.{IsRoomIn, bucket_slot, room_slot, laid_places, laid_views, laid}
 
 is_some : {A : Type 0} → Option A → ℕ
 is_some None = 0
@@ -67,6 +67,11 @@ module _ {R B V : Type 0} where
   pub same_room : (room room' : R) → room_slot {R = R} {B = B} {V = V} room ≡ room_slot room' → room ≡ room'
   unfolding load_room
   same_room room room' e = ap (load_room room) (some_same _ _ e)
+
+  -- a slot has one room
+  pub one_room : (room room' : R) (slot : Option (Load R B V)) → IsRoomIn room slot → IsRoomIn room' slot → room ≡ room'
+  unfolding load_room
+  one_room room room' slot i j = ap (load_room room) (some_same _ _ (sym i.3 ∙ j.3))
 
   pub same_bucket_in : (b c : B) → bucket_slot {R = R} {B = B} {V = V} b ≡ bucket_slot c → b ≡ c
   unfolding load_bucket

@@ -20,7 +20,7 @@ use Rattle.fine_hall.specs.Laws.{AreTurns}
 use Rattle.fine_hall.specs.Passes.{PassView, first_mine, known, reads, turns, own_turns, published, HasPlace, IsHolder, IsPass}
 use Rattle.fine_hall.specs.Halls as halls
 use Rattle.fine_hall.specs.Halls.{KeepsPlaces, KeepsViews, Publishes, Posts, MayPost}
-use Rattle.fine_hall.proofs.Passing.{keeps_known, known_is, reads_is, one_turn, keeps_front, keeps_holder, about, still, alone, seen_is, next_pass, seeing_pass, sees_more, same_number}
+use Rattle.fine_hall.proofs.Passing.{keeps_known, known_is, reads_is, one_turn, keeps_front, keeps_holder, about, still, seeing_pass, steady_pass, sees_more, same_number}
 
 module _ {V : Type 0} (view : V → ViewState) (z : TableId) (x : Beginning) (p : Pass V) (v : PassView) (ok : IsPass view z x p) (e : p.badge.views ≡ v ∷ [])
     (p' : Pass V) (v' : PassView) (e' : p'.badge.views ≡ v' ∷ []) (t' : p'.badge.table_id ≡ z) (n' : p'.number ≡ p.number) where
@@ -79,9 +79,6 @@ module _ {V : Type 0} (view : V → ViewState) (z : TableId) (x : Beginning) (p 
       views = record { reads = reads_stay; front = (front'.0, front'.1); backs = front'.2 };
     }
 
-    same_seen : v'.places.seen ≡ turns p
-    same_seen = ap (λ (w : PassView). w.places.seen) r.is ∙ seen_is view z x p v ok e
-
     holds_on : (t : TurnNote) → IsHolder x p t → IsHolder x p' t
     holds_on t h = record {
       turn = ap (λ (y : Reads Turn). y.turn) reads_stay ∙ h.turn;
@@ -94,9 +91,7 @@ module _ {V : Type 0} (view : V → ViewState) (z : TableId) (x : Beginning) (p 
     }
 
     pub publishing_pass : IsPass view z x p'
-    publishing_pass = next_pass view z x p v ok e p' v' e' n' (own_turns p) t'
-        (ap (λ (w : PassView). w.places.about) r.is) (ap (λ (w : PassView). w.places.moving) r.is ∙ still view z x p v ok e) (ap (λ (w : PassView). w.places.shares) r.is ∙ alone view z x p v ok e)
-        (ap (λ (w : PassView). length w.places.held) r.is) (subst (AreTurns x) (sym same_seen) ok.lawful) (ok.own ∙ ap (by_seat p.number) (sym same_seen))
+    publishing_pass = steady_pass view z x p v ok e p' v' e' n' (record v.places { published = number }) (ap (λ (w : PassView). w.places) r.is) refl refl refl refl refl t'
         (keeps_front view p p' (ap (λ (y : Reads Turn). y.notes) reads_stay) n' front'.0 front'.1 ok.front)
         (λ h. let t = ok.holder (sym (ap (λ l. get_elem? l places.room) publishes.same_held) ∙ h) in (t.0, holds_on t.0 t.1))
 
@@ -185,11 +180,7 @@ module _ {V : Type 0} (view : V → ViewState) (z : TableId) (x : Beginning) (p 
   }
 
   pub posting_pass : IsPass view z x p'
-  posting_pass = next_pass view z x p v ok e p' v' e' n' (own_turns p) t'
-      (ap (λ (u : Known Beginning Turn). u.about) r.places) (ap (λ (u : Known Beginning Turn). u.moving) r.places ∙ still view z x p v ok e) (ap (λ (u : Known Beginning Turn). u.shares) r.places ∙ alone view z x p v ok e)
-      (ap (λ (u : Known Beginning Turn). length u.held) r.places)
-      (subst (AreTurns x) (sym (ap (λ (u : Known Beginning Turn). u.seen) r.places ∙ seen_is view z x p v ok e)) ok.lawful)
-      (ok.own ∙ ap (by_seat p.number) (sym (ap (λ (u : Known Beginning Turn). u.seen) r.places ∙ seen_is view z x p v ok e)))
+  posting_pass = steady_pass view z x p v ok e p' v' e' n' v.places r.places refl refl refl refl refl t'
       (keeps_front view p p' (ap (λ (y : Reads Turn). y.notes) reads_after) n' front'.0 front'.1 ok.front)
       (λ _. (after, holds_after))
 

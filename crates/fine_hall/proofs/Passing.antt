@@ -126,6 +126,14 @@ module _ {V : Type 0} (view : V → ViewState) (z : TableId) (x : Beginning) (p 
           holder = holder;
         }
 
+    -- and so it is with the turns that it had, where it knows what it knew, but for what it found held and the published number
+    pub steady_pass : (k : Known Beginning Turn) → v'.places ≡ k → k.about ≡ v.places.about → k.moving ≡ v.places.moving → k.shares ≡ v.places.shares → k.held ≡ v.places.held → k.seen ≡ v.places.seen
+        → p'.badge.table_id ≡ z → HasFront view p' → (HasPlace p' places.room → (t : TurnNote) × IsHolder x p' t) → IsPass view z x p'
+    steady_pass k is same idle shares held seen table front holder =
+        let log : v'.places.seen ≡ turns p = ap (λ (u : Known Beginning Turn). u.seen) is ∙ (seen ∙ seen_is) in
+        next_pass (own_turns p) table (ap (λ (u : Known Beginning Turn). u.about) is ∙ same) (ap (λ (u : Known Beginning Turn). u.moving) is ∙ (idle ∙ still)) (ap (λ (u : Known Beginning Turn). u.shares) is ∙ (shares ∙ alone))
+        (ap (λ (u : Known Beginning Turn). length u.held) is ∙ ap length held) (subst (AreTurns x) (sym log) ok.lawful) (ok.own ∙ ap (by_seat p.number) (sym log)) front holder
+
     -- ---- a step that sees the history
 
     module _ (log : List (Placed Turn)) (q : ℕ) (sees : Sees AreTurns touches_bucket x q v.places log) (later : v.places.published ≤ q) (seen' : v'.places.seen ≡ log) (published' : v'.places.published ≡ q) (shares' : v'.places.shares ≡ v.places.shares) where
@@ -285,11 +293,7 @@ module _ {V : Type 0} (view : V → ViewState) (z : TableId) (x : Beginning) (p 
   keeps_places = keeps_known p p' (finding (known p) k owner) tried refl refl refl refl
 
   kept_pass : IsPass view z x p'
-  kept_pass = next_pass view z x p v ok e p' v' e' n' (own_turns p) t'
-      (ap (λ (u : Known Beginning Turn). u.about) f.places) (ap (λ (u : Known Beginning Turn). u.moving) f.places ∙ still view z x p v ok e) (ap (λ (u : Known Beginning Turn). u.shares) f.places ∙ alone view z x p v ok e)
-      (ap (λ (u : Known Beginning Turn). length u.held) f.places)
-      (subst (AreTurns x) (sym (ap (λ (u : Known Beginning Turn). u.seen) f.places ∙ seen_is view z x p v ok e)) ok.lawful)
-      (ok.own ∙ ap (by_seat p.number) (sym (ap (λ (u : Known Beginning Turn). u.seen) f.places ∙ seen_is view z x p v ok e)))
+  kept_pass = steady_pass view z x p v ok e p' v' e' n' (finding v.places k owner) f.places refl refl refl refl refl t'
       (keeps_front view p p' (ap (λ (y : Reads Turn). y.notes) reads_stay) n' front'.0 front'.1 ok.front)
       (λ h. let t = ok.holder (sym (ap (λ l. get_elem? l places.room) keeps_places.same_held) ∙ h) in (t.0, keeps_holder x p p' t.0 (ap (λ (y : Reads Turn). y.turn) reads_stay) front'.2 keeps_places.same_published t.1))
 

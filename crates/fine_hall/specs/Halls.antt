@@ -1,5 +1,5 @@
 -- What clauses say of a hall, and how a pass goes on.
-use Rattle.std.specs.Prelude.{◌≡◌, ◌≢◌, ◌⊎◌, ℕ, suc, ◌+◌, ◌*◌, ◌-◌, ◌<◌, ◌≤◌, List, [], ◌∷◌, ◌++◌, true, false, Some, None, Option, slice_set, slice_get, replicate, length, map, sum_by, All, IsPermutation, Bool, MatchBool}
+use Rattle.std.specs.Prelude.{◌≡◌, ◌≢◌, ◌⊎◌, ℕ, suc, ◌+◌, ◌*◌, ◌-◌, ◌<◌, ◌≤◌, List, [], ◌∷◌, ◌++◌, true, false, Some, None, Option, slice_set, slice_get, replicate, length, map, sum_by, All, IsPermutation, Bool, MatchBool, MatchOption, IfSome}
 use Rattle.std.specs.List.{AllByRecursion, filter_map, range_with_len}
 use mathlib.Core.Option.{some}
 use lib.ListN.{get_elem?}
@@ -230,6 +230,14 @@ module _ {V : Type 0} where
     pub same_held : (known p').held ≡ (known p).held
     pub found : found_held p' ≡ found_held p
     pub views : KeepsViews p p'
+
+-- ---- one try to take the room
+
+-- The room was taken, and is as it was given back last, or another seat holds it; the pass is one of the hall still.
+pub record TriesRoom {R V : Type 0} (state : R → RoomState) (origin : R → Origin) (stands_for : R → List Row → ℕ → List Commit → Type 0) (view : V → ViewState) (z : TableId) (x : Beginning) (p p' : Pass V) (found : Option R) : Type 0 where
+  pub pass : IsPass view z x p' × (p'.number ≡ p.number)
+  pub takes : MatchOption found (Waits p p') (λ room. TakesRoom view x (state room) p p')
+  pub room : IfSome found (λ room. IsRoomFor state origin stands_for x (published p') room (turns p'))
 
 -- ---- one look at the mailbox
 

@@ -13,7 +13,7 @@ ghost use Rattle.fine_hall.specs.Ending.{fronts_of, GathersAll, IsTakenTo, Holds
 
 use crate::hall::{Hall, HallTable, Seat};
 use crate::law::Load;
-use crate::opening::HallPlaces;
+use crate::opening::{HallPlaces, room_in};
 use crate::pass::{HallSeat, Pass};
 use atomic_table::Closed;
 use fine_model::{BucketLaw, RoomLaw, ViewLaw};
@@ -126,17 +126,7 @@ fn unload<R: Drop, B: Drop, V: Drop>(
     let len = closed.slots.len();
     drop_slots(&mut closed, end, len);
     closed.free();
-    let Some(load) = slot else { unreachable!() };
-    let Load::Room {
-        room,
-        entry: _,
-        epoch: _,
-        backs: _,
-    } = load
-    else {
-        unreachable!()
-    };
-    room
+    room_in(slot)
 }
 
 impl<R: RoomLaw + Drop, B: BucketLaw + Drop, V: ViewLaw + Drop> Hall<R, B, V> {

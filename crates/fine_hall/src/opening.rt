@@ -9,7 +9,7 @@ ghost use Rattle.fine_hall.specs.declared.law.Beginning.{Beginning};
 ghost use Rattle.fine_hall.specs.Laws.{beginning};
 ghost use Rattle.fine_hall.specs.Halls.{begun_by, IsFreshView};
 ghost use Rattle.fine_hall.specs.declared.law.Load.{Load};
-ghost use Rattle.fine_hall.specs.Opening.{bucket_slot, room_slot, laid_places, laid_views, laid, first_words, StartsAll, HandedOut};
+ghost use Rattle.fine_hall.specs.Opening.{bucket_slot, room_slot, laid_places, laid_views, laid, IsRoomIn, first_words, StartsAll, HandedOut};
 
 use crate::hall::{Hall, HallTable, Seat};
 use crate::law::{Beginning, HallLaw, Load, Start};
@@ -102,12 +102,11 @@ fn take_view<R: Drop, B: Drop, V: Drop>(slots: &mut Slots<R, B, V>) -> V
     view
 }
 
-/// The room in the last slot.
-fn take_room<R: Drop, B: Drop, V: Drop>(slots: &mut Slots<R, B, V>) -> R
-    requires { (room : R) × (front : List (Option (Load R B V))) × (slots.old.items ≡ front ++ room_slot room ∷ []) }
-    ensures { slots.old.items ≡ slots.new.items ++ room_slot result ∷ [] }
+/// The room in a slot that has it.
+pub(crate) fn room_in<R: Drop, B: Drop, V: Drop>(slot: Option<Load<R, B, V>>) -> R
+    requires { (room : R) × IsRoomIn room slot }
+    ensures { IsRoomIn result slot }
 {
-    let slot = take_last(slots);
     let Some(load) = slot else { unreachable!() };
     let Load::Room {
         room,
@@ -119,6 +118,14 @@ fn take_room<R: Drop, B: Drop, V: Drop>(slots: &mut Slots<R, B, V>) -> R
         unreachable!()
     };
     room
+}
+
+/// The room in the last slot.
+fn take_room<R: Drop, B: Drop, V: Drop>(slots: &mut Slots<R, B, V>) -> R
+    requires { (room : R) × (front : List (Option (Load R B V))) × (slots.old.items ≡ front ++ room_slot room ∷ []) }
+    ensures { slots.old.items ≡ slots.new.items ++ room_slot result ∷ [] }
+{
+    room_in(take_last(slots))
 }
 
 /// The bucket in the last slot, where there is a slot.

@@ -1,5 +1,5 @@
 -- Lists by the items at their places.
-use Rattle.std.proofs.Common.{◌≡◌, ℕ, zero, suc, ◌+◌, ◌<◌, ◌≤◌, List, [], ◌∷◌, ◌++◌, length, map, slice_index, set, All, refl, sym, ap, ◌∙◌, subst, arith}
+use Rattle.std.proofs.Common.{◌≡◌, ℕ, zero, suc, ◌+◌, ◌<◌, ◌≤◌, List, [], ◌∷◌, ◌++◌, length, map, slice_index, set, All, refl, sym, ap, ◌∙◌, subst, arith, length-append}
 use Rattle.std.specs.Prelude.{get_or}
 use mathlib.Core.Option.{some, some-injective, some-ne-none}
 use lib.ListN.{get_elem?}
@@ -42,3 +42,7 @@ least_more (x ∷ l) zero u n long up all zero lt = up
 least_more (x ∷ l) zero u n long up all (suc i) lt = absurd (omega (arith, lt))
 least_more (x ∷ l) (suc k) u n long up all zero lt = all 0 (omega arith)
 least_more (x ∷ l) (suc k) u n long up all (suc i) lt = least_more l k u n (omega (arith, long)) up (λ j near. all (suc j) (omega (arith, near))) i (omega (arith, lt))
+
+-- a list that a loop fills has one item more, and so has its count
+pub one_more : {A : Type 0} (l l' : List A) (a : A) (i n n' : ℕ) → l' ≡ l ++ a ∷ [] → length l ≡ i → n ≡ i → n' ≡ n + 1 → (length l' ≡ i + 1) × (n' ≡ i + 1)
+one_more l l' a i n n' is long counted next = let more = ap length is ∙ length-append l (a ∷ []) in (omega (arith, more, long), omega (arith, next, counted))

@@ -14,7 +14,7 @@ use Rattle.fine_places.specs.Places.{share, placed, grown, giving, moving, Holds
 use Rattle.fine_places.specs.Telling.{at_room, MayAdd, MayGive, GivesIt, given_back, gave, moves}
 use Rattle.fine_places.specs.Beside.{changed, Stays, Gives}
 use Rattle.fine_places.proofs.Lists.{decide, bool_cases, set_at, some_inj, some_same, same_head, at_room_elim, filter_last, filter_more, all_map}
-use Rattle.fine_places.proofs.Keeping.{around, one_holder, moved}
+use Rattle.fine_places.proofs.Keeping.{grown_none, around, one_holder, moved}
 
 module _ {T X N Y : Type 0} (stands : X → ℕ → ℕ → T → List (Placed N) → Type 0) (legal : X → List (Placed N) → Type 0) (seats : X → ℕ) (touches : ℕ → N → Bool)
     (grows : (y : X) (k a b : ℕ) (thing : T) (log : List (Placed N)) → k < room → a ≤ b → stands y k a thing log → stands y k b thing log) (x : X) where
@@ -45,7 +45,7 @@ module _ {T X N Y : Type 0} (stands : X → ℕ → ℕ → T → List (Placed N
         published = f.published;
         holder = λ hold. ⊎_elim (λ (e : room ≡ k). absurd (gone room e hold)) (λ (ne : room ≢ k). f.holder (sym (set_else v.places.held k room false ne) ∙ hold)) (decide room k);
       } in
-      moved stands legal seats touches x grows s p p log log r id v w at k 0 (some (Some thing)) r.is_legal r.authors (le_refl p) (inl refl) (λ l a. a) (λ j _ _ _. refl) (λ m _. refl)
+      moved stands legal seats touches x grows s p p log log r id v w at k 0 (some (Some thing)) (grown_none r.is_legal r.authors (le_refl p) (inl refl))
       (λ j u ne at' h. ne (one_holder stands legal seats touches x s p log r j id k u v at' at h held)) mine (λ m o. o) (λ m o. o) (λ j ne h. set_else v.places.held k j false ne ∙ h)
       (inr (refl, λ e. e))
       (inl (record { word = get_or-set_same s.words k 0 0 lt; thing = thing; there = set_here s.homes k (some (Some thing)) here; stood = subst (stands x k p thing) (f.holds k held).same stood }))
@@ -94,11 +94,16 @@ module _ {T X N Y : Type 0} (stands : X → ℕ → ℕ → T → List (Placed N
         published = f.published;
         holder = λ _. f.holder held;
       } in
-      moved stands legal seats touches x grows s p p log now r id v w at room 0 (some (Some thing)) may.lawful
-      (All-append wrote log (e ∷ []) r.authors (All-cons wrote e [] (subst (λ m. (0 < m) × (m ≤ seats x)) seat (g.1, g.2)) (All-nil wrote)))
-      (le_refl p) (inl refl) more
-      (λ j near no ne. filter_last (touches_place touches j) log e (⊎_elim (λ on. absurd (no (may.buckets_held j (omega arith) (in_bucket j ne on)))) (λ off. off) (bool_cases (touches_place touches j e))))
-      (λ m no. filter_last (λ a. a.seat == m) log e (ne_eqb e.seat m (λ is. no (ms, subst (λ a. Owns v.places.shares a ms) (seat ∙ is) own))))
+      moved stands legal seats touches x grows s p p log now r id v w at room 0 (some (Some thing))
+      (record {
+        lawful = may.lawful;
+        wrote = All-append wrote log (e ∷ []) r.authors (All-cons wrote e [] (subst (λ m. (0 < m) × (m ≤ seats x)) seat (g.1, g.2)) (All-nil wrote));
+        rise = le_refl p;
+        raised = inl refl;
+        more = more;
+        same = λ j near no ne. filter_last (touches_place touches j) log e (⊎_elim (λ on. absurd (no (may.buckets_held j (omega arith) (in_bucket j ne on)))) (λ off. off) (bool_cases (touches_place touches j e)));
+        by = λ m no. filter_last (λ a. a.seat == m) log e (ne_eqb e.seat m (λ is. no (ms, subst (λ a. Owns v.places.shares a ms) (seat ∙ is) own)));
+      })
       (λ j u ne at' h. ne (one_holder stands legal seats touches x s p log r j id room u v at' at h held)) mine
       (λ m o. (ms, subst (λ ps. Owns ps m ms) (sym may.alone) (⊎_elim (λ t. inl (t.0, refl)) (λ t. absurd t) (subst (λ ps. Owns ps m o.0) shares o.1))))
       (λ m o. (ms ++ e ∷ [], subst (λ ps. Owns ps m (ms ++ e ∷ [])) (sym shares) (⊎_elim (λ t. inl (t.0, refl)) (λ t. absurd t) (subst (λ ps. Owns ps m o.0) may.alone o.1))))

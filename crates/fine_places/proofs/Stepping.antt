@@ -15,7 +15,7 @@ use Rattle.fine_places.specs.Places.{Holds, Emptied, PlaceState, Fits, Home, Awa
 use Rattle.fine_places.specs.Telling.{at_room, Finds, took, settled, fetched, moves}
 use Rattle.fine_places.specs.Beside.{changed, Stays, Takes}
 use Rattle.fine_places.proofs.Lists.{decide, is_there, set_at, not_some, some_inj, at_room_elim}
-use Rattle.fine_places.proofs.Keeping.{around, one_holder, nobody, moved, elsewhere}
+use Rattle.fine_places.proofs.Keeping.{grown_none, around, one_holder, nobody, moved, elsewhere}
 
 module _ {T X N Y : Type 0} (stands : X → ℕ → ℕ → T → List (Placed N) → Type 0) (legal : X → List (Placed N) → Type 0) (seats : X → ℕ) (touches : ℕ → N → Bool)
     (grows : (y : X) (k a b : ℕ) (thing : T) (log : List (Placed N)) → k < room → a ≤ b → stands y k a thing log → stands y k b thing log) (x : X) where
@@ -49,7 +49,7 @@ module _ {T X N Y : Type 0} (stands : X → ℕ → ℕ → T → List (Placed N
         published = le_refl p;
         holder = λ _. refl;
       } in
-      moved stands legal seats touches x grows s p p log log r id v w at k number none r.is_legal r.authors (le_refl p) (inl refl) (λ l a. a) (λ j _ _ _. refl) (λ m _. refl)
+      moved stands legal seats touches x grows s p p log log r id v w at k number none (grown_none r.is_legal r.authors (le_refl p) (inl refl))
       (λ j u _ at' h. nobody stands legal seats touches x s p log r k j u free at' h) mine (λ m o. o) (λ m o. o)
       (λ j ne h. set_else v.places.held k j true ne ∙ h) (inl (refl, (number, own))) (inr (record { who = id; view = w; there = set_at s.views id v w at; holds = set_at v.places.held k false true vacant }))
 
@@ -75,7 +75,7 @@ module _ {T X N Y : Type 0} (stands : X → ℕ → ℕ → T → List (Placed N
         published = f.published;
         holder = f.holder;
       } in
-      moved stands legal seats touches x grows s p p log log r id v w at k found h r.is_legal r.authors (le_refl p) (inl refl) (λ l a. a) (λ j _ _ _. refl) (λ m _. refl)
+      moved stands legal seats touches x grows s p p log log r id v w at k found h (grown_none r.is_legal r.authors (le_refl p) (inl refl))
       (λ j u ne at' hold. ne (one_holder stands legal seats touches x s p log r j id k u v at' at hold held)) mine (λ m o. o) (λ m o. o) (λ j ne hold. hold)
       (inr (refl, λ e. e)) (inr (record { who = id; view = w; there = set_at s.views id v w at; holds = held }))
 

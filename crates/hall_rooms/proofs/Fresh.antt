@@ -219,10 +219,10 @@ module _ (old mid : RoomValue) (seats : ℕ) (fronts : List ViewValue) (f : Make
   many : length (front_board (map state_of fronts)) ≡ 3 * length fronts
   many = front_length (map state_of fronts) ∙ ap (λ n. 3 * n) (length-map fronts state_of)
 
-  pub front_long : 3 * (length fronts + 1) ≤ length mid.room.board
+  front_long : 3 * (length fronts + 1) ≤ length mid.room.board
   front_long = long_at mid.room.board (front_board (map state_of fronts)) (replicate left None) None None None (length fronts) three_left many
 
-  pub front_empty : IsSome (empty_of mid.room.board (length fronts + 1))
+  front_empty : IsSome (empty_of mid.room.board (length fronts + 1))
   front_empty = has_empty mid.room.board (length fronts + 1) 0 (omega arith) (omega arith) (at_seat mid.room.board (front_board (map state_of fronts)) (replicate left None) None None None (length fronts) three_left many 0)
 
   module _ (new : RoomValue) (alone : StandsAlone old) (v : ViewValue) (m : MakesView mid new (length fronts + 1) v) where
@@ -245,6 +245,12 @@ module _ (old mid : RoomValue) (seats : ℕ) (fronts : List ViewValue) (f : Make
       fresh = fresh_more old mid new (reverse fronts) alone f.out f.same (length fronts + 1) v m 0 fronts refl buffer_is f.fresh;
       is_open = λ _. sym (ap (λ (r : RoomState). r.is_shut) f.same) ∙ m.not_shut;
     }
+
+-- the board has an empty buffer for the seat that comes next
+pub front_room : (old mid : RoomValue) (seats i : ℕ) (fronts : List ViewValue) → MakesFronts old mid seats fronts → length fronts ≡ i → i < seats → (3 * (i + 1) ≤ length mid.room.board) × IsSome (empty_of mid.room.board (i + 1))
+front_room old mid seats i fronts f long lt =
+    let less : length fronts < seats = omega (arith, long, lt) in
+    subst (λ n. (3 * (n + 1) ≤ length mid.room.board) × IsSome (empty_of mid.room.board (n + 1))) long (front_long old mid seats fronts f less, front_empty old mid seats fronts f less)
 
 -- ---- middles
 
@@ -281,10 +287,10 @@ module _ (old mid : RoomValue) (fronts middles : List ViewValue) (f : MakesMiddl
   before_long : length (first_board fs ms) ≡ 3 * length middles
   before_long = first_length fs ms (let a = ms_long in let b = length-map fronts state_of in omega (arith, lt, a, b)) ∙ ap (λ n. 3 * n) ms_long
 
-  pub middle_long : 3 * (length middles + 1) ≤ length mid.room.board
+  middle_long : 3 * (length middles + 1) ≤ length mid.room.board
   middle_long = long_at mid.room.board (first_board fs ms) rest (Some next.front.eye) None None (length middles) three_next before_long
 
-  pub middle_empty : IsSome (empty_of mid.room.board (length middles + 1))
+  middle_empty : IsSome (empty_of mid.room.board (length middles + 1))
   middle_empty = has_empty mid.room.board (length middles + 1) 1 (omega arith) (omega arith) (at_seat mid.room.board (first_board fs ms) rest (Some next.front.eye) None None (length middles) three_next before_long 1)
 
   module _ (new : RoomValue) (alone : StandsAlone old) (v : ViewValue) (m : MakesView mid new (length middles + 1) v) where
@@ -308,6 +314,12 @@ module _ (old mid : RoomValue) (fronts middles : List ViewValue) (f : MakesMiddl
       fresh_fronts = f.fresh_fronts;
       fresh_middles = fresh_more old mid new (reverse middles ++ reverse fronts) alone f.out f.same (length middles + 1) v m 1 middles refl buffer_one f.fresh_middles;
     }
+
+-- and so it is once each seat has its front
+pub middle_room : (old mid : RoomValue) (seats i : ℕ) (fronts middles : List ViewValue) → length fronts ≡ seats → MakesMiddles old mid fronts middles → length middles ≡ i → i < seats → (3 * (i + 1) ≤ length mid.room.board) × IsSome (empty_of mid.room.board (i + 1))
+middle_room old mid seats i fronts middles many f long lt =
+    let less : length middles < length fronts = omega (arith, many, long, lt) in
+    subst (λ n. (3 * (n + 1) ≤ length mid.room.board) × IsSome (empty_of mid.room.board (n + 1))) long (middle_long old mid fronts middles f less, middle_empty old mid fronts middles f less)
 
 -- ---- no hall
 

@@ -72,23 +72,20 @@ module _ (x : Beginning) (found new : RoomValue) (p p₁ q r : RoomPass) (begun 
 
   -- where the pass kept its front in the turn, and what it gave up
   module _ (stays : Stays p₁ q) (t : TurnNote) (gave : GivesRoom new.room None 0 t q r) where
-    added_turn : AddsTurn x found.room new.room p r
-    added_turn = turn_added (stays_on x p₁ q second stays) t gave
-
-    pub turn_taken : TakesTurn x found.room None 0 new.room p r
-    turn_taken = let a = added_turn in record {
-      others = a.others;
-      not_own = a.not_own;
-      kept = a.kept;
-      found_is = a.found_is;
-      found_job = a.found_job;
-      returned = a.returned;
-      turns_more = a.turns_more;
-      own_more = a.own_more;
-      no_earlier = a.no_earlier;
-      front = (gave.front.0 ∙ (stays.front.0 ∙ begun.takes.takes.front.0), gave.front.1 ∙ (stays.front.1 ∙ begun.takes.takes.front.1));
-      given_same = ap first_given gave.notes ∙ (stays.given_up ∙ ap first_given begun.takes.takes.notes);
-    }
-
-    pub held_same : (known r).held ≡ (known p).held
-    held_same = added_turn.same_held
+    pub turn_taken : TakesTurn x found.room None 0 new.room p r × ((known r).held ≡ (known p).held)
+    turn_taken = let a = turn_added (stays_on x p₁ q second stays) t gave in (
+      record {
+        others = a.others;
+        not_own = a.not_own;
+        kept = a.kept;
+        found_is = a.found_is;
+        found_job = a.found_job;
+        returned = a.returned;
+        turns_more = a.turns_more;
+        own_more = a.own_more;
+        no_earlier = a.no_earlier;
+        front = (gave.front.0 ∙ (stays.front.0 ∙ begun.takes.takes.front.0), gave.front.1 ∙ (stays.front.1 ∙ begun.takes.takes.front.1));
+        given_same = ap first_given gave.notes ∙ (stays.given_up ∙ ap first_given begun.takes.takes.notes);
+      },
+      a.same_held,
+    )

@@ -5,6 +5,7 @@ use Rattle.std.specs.List.{range_with_len}
 use Rattle.std.proofs.lemmas.List.Elements.{All-cons, All-head, All-nil, All-tail}
 use mathlib.Core.Option.{some, some-injective, some-ne-none}
 use lib.ListN.{get_elem?}
+use Rattle.fine_places.proofs.Elements.{elem_at}
 use Rattle.fine_hall.specs.declared.pass.Pass.{Pass}
 use Rattle.fine_hall.specs.Halls.{HallOf, begun, AreAll}
 use Rattle.fine_hall.specs.Opening.{HandedOut}
@@ -13,28 +14,6 @@ use Rattle.hall_threads.specs.declared.things.DayRoom.{DayRoom}
 use Rattle.hall_threads.specs.declared.things.DayBucket.{DayBucket}
 use Rattle.hall_threads.specs.declared.things.DayView.{DayView}
 use Rattle.hall_threads.specs.Days.{room_state, room_log, view_state, IsIdlePass}
-
-elem_at : {A : Type 0} (l : List A) (i : ℕ) (d : A) → i < length l → get_elem? l i ≡ some (get_or l i d)
-elem_at [] i d lt = absurd (omega (arith, lt))
-elem_at (x ∷ l) zero d lt = refl
-elem_at (x ∷ l) (suc i) d lt = elem_at l i d (omega (arith, lt))
-
-read_at : {A : Type 0} (l : List A) (i : ℕ) (p : A) → get_elem? l i ≡ some p → (i < length l) × (get_or l i p ≡ p)
-read_at [] i p e = absurd (some-ne-none p (sym e))
-read_at (x ∷ l) zero p e = (omega arith, some-injective x p e)
-read_at (x ∷ l) (suc i) p e = let r = read_at l i p e in (let lt = r.0 in omega (arith, lt), r.1)
-
-pub each_of : {A : Type 0} (P : A → Type 0) (l : List A) → All P l → (i : ℕ) (p : A) → get_elem? l i ≡ some p → P p
-each_of P l all i p at = let r = read_at l i p at in subst P r.1 (all i p r.0)
-
-pub same_numbers : (before after : List (Pass DayView)) → length after ≡ length before → ((i : ℕ) (d : Pass DayView) → i < length before → (get_or after i d).number ≡ (get_or before i d).number) → map (λ (p : Pass DayView). p.number) after ≡ map (λ (p : Pass DayView). p.number) before
-same_numbers [] [] long each = refl
-same_numbers [] (q ∷ after) long each = absurd (omega (arith, long))
-same_numbers (p ∷ before) [] long each = absurd (omega (arith, long))
-same_numbers (p ∷ before) (q ∷ after) long each =
-    let first = each 0 p (omega arith) in
-    let rest = same_numbers before after (omega (arith, long)) (λ i d lt. each (suc i) d (omega (arith, lt))) in
-    λ i. first i ∷ rest i
 
 -- what holds of each pass by its number holds of all numbers
 pub all_numbers : (P : Pass DayView → Type 0) (R : ℕ → Type 0) (l : List (Pass DayView)) → ((i : ℕ) (p : Pass DayView) → get_elem? l i ≡ some p → P p → R p.number) → All P l → All R (map (λ (p : Pass DayView). p.number) l)

@@ -18,20 +18,13 @@ use Rattle.fine_hall.specs.Halls.{Closes}
 use Rattle.fine_model.specs.Outcomes.{EpochsFollow}
 use Rattle.fine_model.specs.Room.{IsSealedUpTo}
 use Rattle.fine_hall.specs.Passes.{turns, last_room}
+use Rattle.fine_hall.proofs.EmptyLog.{none_sound}
 use Rattle.fine_hall.proofs.Since.{since_law}
 use Rattle.hall_threads.specs.declared.things.DayRoom.{DayRoom}
 use Rattle.hall_threads.specs.declared.things.DayView.{DayView}
 use Rattle.hall_threads.specs.Days.{zero_image, day_log, room_state, room_log, day_stands, view_state}
 use Rattle.hall_threads.specs.Ends.{IsWhole}
 use Rattle.hall_threads.proofs.Beginning.{day_shows}
-
-unused : (bucket n : ℕ) → 2 ≤ n → nodes_of [] bucket n ≡ (node.Leaf [], 0)
-unfolding content replay
-unused bucket n least = ap (λ b. if b then (node.Head 1 2 1, 0) else (node.Leaf [], 0)) (ne_eqb n 0 (λ e. omega (arith, e, least)))
-
-none_sound : IsSound []
-unfolding content replay IsSubtree reached is_distinct
-none_sound = record { fit = λ bucket low. record { deep = le_refl 1; subtree = refl; distinct = refl; below = (omega arith, tt); unused = unused bucket } }
 
 pub day_began : Began day_log 0 []
 day_began = record { image = zero_image; told = refl; shows = day_shows; sound = none_sound }
@@ -53,14 +46,6 @@ popped_before {A} l rest less a b is was = ap (λ (m : List A). get_elem? m (len
     at : (r : List A) → get_elem? ((r ++ b ∷ []) ++ a ∷ []) (length r) ≡ some b
     at [] = refl
     at (x ∷ r) = at r
-
-pub two_cases : {A : Type 0} (a b : A) (l : List A) (P : A → Type 0) → l ≡ a ∷ b ∷ [] → P a → P b → (i : ℕ) (p : A) → get_elem? l i ≡ some p → P p
-two_cases {A} a b l P is pa pb i p at = go i (ap (λ (m : List A). get_elem? m i) (sym is) ∙ at)
-  where
-    go : (i : ℕ) → get_elem? (a ∷ b ∷ []) i ≡ some p → P p
-    go zero e = subst P (some-injective a p e) pa
-    go (suc zero) e = subst P (some-injective b p e) pb
-    go (suc (suc n)) e = absurd (some-ne-none p (sym e))
 
 -- no pass saw a later sealed epoch than the room has at the end
 pub saw_sealed : (x : Beginning) (p : Pass DayView) (room : DayRoom) (all : List (Placed Turn)) → AreTurns x all → {n : ℕ} → IsRoomFor room_state room_log day_stands x n room all → (more : List (Placed Turn)) × (all ≡ turns p ++ more) → (last_room x p).sealed ≤ room.sealed

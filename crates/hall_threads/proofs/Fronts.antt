@@ -1,5 +1,5 @@
 -- A pass goes on once its front was read through, and what was read is the leaf.
-use Rattle.std.proofs.Common.{◌≡◌, ◌≢◌, ℕ, ◌≤◌, List, [], Some, sym, ap, ◌∙◌, subst, arith}
+use Rattle.std.proofs.Common.{◌≡◌, ◌≢◌, ℕ, ◌+◌, ◌≤◌, List, [], Some, sym, ap, ◌∙◌, subst, arith}
 use Rattle.fine_places.proofs.Lists.{some_same}
 use Rattle.fine_model.specs.declared.Row.{Row}
 use Rattle.fine_model.specs.RowBytes.{greatest}
@@ -10,9 +10,10 @@ use Rattle.fine_model.specs.Views.{counting, TellsRows, TellsRowsOf}
 use Rattle.fine_model.proofs.Unique.{AreRowsOf-unique}
 use Rattle.fine_hall.specs.declared.law.Beginning.{Beginning}
 use Rattle.fine_hall.specs.declared.pass.Pass.{Pass}
-use Rattle.fine_hall.specs.Passes.{known, view_of, front_of, published, HasFront}
+use Rattle.fine_hall.specs.Passes.{known, view_of, front_of, published, troubles, HasFront}
 use Rattle.fine_hall.specs.Halls.{UsedFront, IsAhead}
 use Rattle.fine_hall.specs.Turns.{commits}
+use Rattle.fine_hall.proofs.Troubles.{troubles_law}
 use Rattle.hall_threads.specs.declared.things.DayView.{DayView}
 use Rattle.hall_threads.specs.declared.things.Sight.{Sight}
 use Rattle.hall_threads.specs.Days.{day_log, view_state, leaf_id, told_rows, told_parts, told_image}
@@ -60,3 +61,19 @@ module _ (x : Beginning) (log : x.log ≡ day_log) (p p' : Pass DayView) (sight 
         (λ whole. let t = ahead.shows.tells 0 [] (subst (λ l. Rattle.fine_model.specs.Buckets.Began l 0 []) (sym log) day_began) in
         sym (t.2.same leaf_id whole) ∙ (ap (λ rows. content rows leaf_id) (told_unique sight.version sight.value t.0 most (sight_told t.0 t.1)) ∙ told_leaf sight.version sight.value));
   }
+
+-- what a read through the front told, behind a look at the mailbox
+module _ (x : Beginning) (log : x.log ≡ day_log) (p q r : Pass DayView) (ahead : IsAhead view_state x q) (u : UsedFront view_state q r) (before : troubles view_state x q ≡ troubles view_state x p) where
+  pub looked_ok : (sight : Sight) → IsFront r sight × ((front_of view_state r).faults ≡ (front_of view_state q).faults) × (MustFail (front_of view_state q) → ⊥)
+      → TellsLeaf r sight × (troubles view_state x r ≡ troubles view_state x p) × (MustFail (front_of view_state r) → ⊥)
+  looked_ok sight f =
+      let moved = (troubles_law view_state x).front q r u in
+      let same = f.1 in
+      (told_to x log q r sight ahead u f.0, omega (arith, moved, before, same), λ m. f.2 (front_stays q r u f.1 m))
+
+  pub looked_err : q.number ≡ p.number → HasFront view_state q → ((front_of view_state r).faults ≡ (front_of view_state q).faults + 1) × MustFail (front_of view_state q)
+      → (troubles view_state x r ≡ troubles view_state x p + 1) × (p.number ≡ 2) × (published r ≡ 0)
+  looked_err number front f =
+      let moved = (troubles_law view_state x).front q r u in
+      let one = f.0 in
+      (omega (arith, moved, before, one), sym number ∙ (sym (front_seat q front) ∙ f.1.0), none_published x q r ahead u f.1.1)

@@ -1,6 +1,7 @@
 -- The transaction that puts a value may follow on any history that left the leaf so, and what it leaves.
-use Rattle.std.proofs.Common.{◌≡◌, ℕ, ◌+◌, ◌<◌, ◌≤◌, ◌==◌, ◌||◌, ◌&&◌, nat_lt, Bool, true, false, cond, List, [], ◌∷◌, ◌++◌, All, Ok, Err, refl, sym, ap, ◌∙◌, arith, append_assoc, eq-eqb, ne_eqb}
+use Rattle.std.proofs.Common.{◌≡◌, ℕ, ◌+◌, ◌<◌, ◌≤◌, ◌==◌, ◌||◌, ◌&&◌, nat_lt, Bool, true, false, cond, List, [], ◌∷◌, ◌++◌, All, Ok, Err, refl, sym, ap, ◌∙◌, subst, arith, append_assoc, eq-eqb, ne_eqb}
 use Rattle.std.specs.Prelude.{if◌then◌else◌}
+use Rattle.fine_model.specs.declared.Entry.{Entry}
 use Rattle.fine_model.specs.declared.Row.{Row}
 use Rattle.fine_model.specs.declared.NodeId.{NodeId}
 use Rattle.fine_model.specs.declared.Why.TheVariants as why
@@ -14,7 +15,8 @@ use Rattle.fine_model.specs.Pushed.{Growth, Push, set_push, growth, grown_leaf, 
 use Rattle.fine_model.specs.History.{Commit, IsNext, all_rows}
 use Rattle.fine_model.specs.Buckets.{node_id}
 use Rattle.fine_model.proofs.NodeLaws.{content-append}
-use Rattle.hall_threads.specs.Days.{key, key_bucket, leaf_at, put_call, put_row, put_entry}
+use Rattle.hall_threads.specs.Days.{key, key_bucket, leaf_at, put_call, put_row, put_entry, Appends}
+use Rattle.hall_threads.specs.declared.things.DayRoom.{DayRoom}
 use Rattle.fine_model.proofs.Epochs.{rows_push}
 
 -- ---- the row
@@ -98,3 +100,10 @@ leaf_after first history lane version old value epoch leaf = more_content first 
     ∙ (ap (λ b. replay (content (first ++ all_rows history) (node_id key_bucket 1)) (cond b (put_row key_bucket (version + 1) value ∷ []) [])) is_leaf
     ∙ (ap (λ c. step c (put_row key_bucket (version + 1) value)) leaf
     ∙ (stepped version old value (version == 0) ∙ ap (λ b. (node.Leaf (leaf_pairs b value), version + 1)) (sym (not_none version)))))
+
+-- an entry that was appended is one of the key's bucket
+pub at_key : (lane version value bucket : ℕ) (entry : Entry) (old new : DayRoom) → bucket ≡ key_bucket → entry ≡ put_entry lane bucket version value → Appends entry old new
+    → (entry ≡ put_entry lane key_bucket version value) × Appends (put_entry lane key_bucket version value) old new
+at_key lane version value bucket entry old new is e a =
+    let k : entry ≡ put_entry lane key_bucket version value = e ∙ ap (λ b. put_entry lane b version value) is in
+    (k, subst (λ (d : Entry). Appends d old new) k a)

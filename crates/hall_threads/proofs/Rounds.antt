@@ -1,12 +1,13 @@
 -- How a pass goes on through steps that see more.
-use Rattle.std.proofs.Common.{◌≡◌, ◌≤◌, [], ◌++◌, sym, ap, ◌∙◌, subst, append-nil, append_assoc, le_refl, le_trans, arith}
+use Rattle.std.proofs.Common.{◌≡◌, ◌≤◌, Bool, [], ◌++◌, sym, ap, ◌∙◌, subst, append-nil, append_assoc, le_refl, le_trans, arith}
+use Rattle.std.specs.Prelude.{MatchBool}
 use lib.ListN.{get_elem?}
 use Rattle.fine_hall.specs.declared.law.Beginning.{Beginning}
 use Rattle.fine_hall.specs.declared.pass.Pass.{Pass}
 use Rattle.fine_hall.specs.Laws.{AreTurns}
 use Rattle.fine_hall.specs.Turns.{RoomsGoOn, room_after}
 use Rattle.fine_hall.specs.Passes.{known, turns, own_turns, published, last_room, HoldsNothing, LacksJob}
-use Rattle.fine_hall.specs.Halls.{SeesMore}
+use Rattle.fine_hall.specs.Halls.{FindsStale, Reads, Refreshes, SeesMore}
 use Rattle.fine_hall.proofs.Since.{since_law}
 use Rattle.fine_hall.proofs.Troubles.{sees_law}
 use Rattle.hall_threads.specs.declared.things.DayView.{DayView}
@@ -43,3 +44,14 @@ module _ (x : Beginning) where
 
   pub goes_more : (p q r : Pass DayView) → GoesOn x p q → GoesOn x q r → GoesOn x p r
   goes_more p q r a b = record { longer = (a.longer.0 ++ b.longer.0, b.longer.1 ∙ (ap (λ l. l ++ b.longer.0) a.longer.1 ∙ append_assoc (turns p) a.longer.0 b.longer.0)); sealed = le_trans a.sealed b.sealed; published = le_trans a.published b.published; own = b.own ∙ a.own }
+
+-- the published number was read, and then the mailbox looked at
+module _ (x : Beginning) (fresh : Bool) (p q r : Pass DayView) (number : q.number ≡ p.number) (lawful : AreTurns x (turns q)) (reads : Reads p q) (number' : r.number ≡ q.number) (lawful' : AreTurns x (turns r))
+    (look : MatchBool fresh (Refreshes view_state x q r) (FindsStale q r)) where
+  pub idle_looked : HoldsNothing p → LacksJob x p → HoldsNothing r × LacksJob x r
+  idle_looked idle none =
+      let s = (sees_law view_state).look fresh x q r look in
+      (idle_still q r s.1 (idle_still p q reads.same_held idle), job_seen x q r lawful' number' s.0 (job_seen x p q lawful number reads.sees none))
+
+  pub goes_looked : GoesOn x p r
+  goes_looked = goes_more x p q r (goes_seen x p q lawful reads.sees) (goes_seen x q r lawful' ((sees_law view_state).look fresh x q r look).0)

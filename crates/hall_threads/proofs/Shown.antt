@@ -8,6 +8,7 @@ use Rattle.std.proofs.lemmas.List.Sums.{sum_by-cons}
 use lib.ListN.{get_elem?, length-map}
 use Rattle.atomic_table.specs.Seated.{TableId}
 use Rattle.fine_places.specs.History as places
+use Rattle.fine_places.proofs.Elements.{least_more}
 use Rattle.fine_places.proofs.Lists.{set_at}
 use Rattle.fine_model.specs.declared.Entry.{Entry}
 use Rattle.fine_model.specs.declared.Row.{Row}
@@ -217,14 +218,6 @@ module _ (z : TableId) (x : Beginning) (p : Pass DayView) (room : DayRoom) (seat
 
 -- ---- publishing
 
--- what was posted to one seat more
-posted_more : (l : List ℕ) (k u n : ℕ) → k < length l → n ≤ u → ((i : ℕ) → i < k → n ≤ slice_index l i) → (i : ℕ) → i < k + 1 → n ≤ slice_index (slice_set l k u) i
-posted_more [] k u n long up all i lt = absurd (omega (arith, long))
-posted_more (x ∷ l) zero u n long up all zero lt = up
-posted_more (x ∷ l) zero u n long up all (suc i) lt = absurd (omega (arith, lt))
-posted_more (x ∷ l) (suc k) u n long up all zero lt = all 0 (omega arith)
-posted_more (x ∷ l) (suc k) u n long up all (suc i) lt = posted_more l k u n (omega (arith, long)) up (λ j near. all (suc j) (omega (arith, near))) i (omega (arith, lt))
-
 pub posted_next : (x : Beginning) (i seat : ℕ) → seat ≡ i + 1 → i < x.seats → (old new : DayRoom) (p p' : Pass DayView) (b : PostedBelow x i old p) → PostsTo x seat b.note old new p p' → PostedBelow x (i + 1) new p'
 posted_next x i seat is lt old new p p' b s =
     let box : seat - 1 ≡ i = omega (arith, is) in
@@ -235,7 +228,7 @@ posted_next x i seat is lt old new p p' b s =
       note = posting b.note (seat - 1) s.view.buffer s.view s.back;
       turn = s.turn;
       posted = λ j near. subst (λ k. new.sealed ≤ slice_index (slice_set b.note.posted k s.view.upto) j) (sym box)
-          (posted_more b.note.posted i s.view.upto new.sealed (omega (arith, lt, long)) (omega (arith, up)) (λ k below. let a = b.posted k below in omega (arith, a, same)) j near);
+          (least_more b.note.posted i s.view.upto new.sealed (omega (arith, lt, long)) (omega (arith, up)) (λ k below. let a = b.posted k below in omega (arith, a, same)) j near);
     }
 
 pub published_turn : (z : TableId) (x : Beginning) (epoch : ℕ) (p p' : Pass DayView) (room : DayRoom) (t : TurnNote) → IsPass view_state z x p' → p'.number ≡ p.number → InTurn x room p t → Publishes epoch p p' → InTurn x room p' t

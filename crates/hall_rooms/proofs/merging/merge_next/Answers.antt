@@ -5,7 +5,7 @@ use Rattle.fine_hall.specs.Turns.{commits}
 use Rattle.hall_rooms.specs.Rooms.{beginning_of}
 use Rattle.hall_rooms.specs.Merging.{StandsForNone}
 use Rattle.hall_rooms.specs.Turning.{NotBegan}
-use Rattle.hall_rooms.proofs.GivenBack.{held_same, turn_taken}
+use Rattle.hall_rooms.proofs.GivenBack.{turn_taken}
 use Rattle.hall_rooms.proofs.Merged.{may_merge, meets, no_jobs, none_out, not_begun, on_damage}
 use Rattle.hall_rooms.proofs.Posted.{some_empty}
 use Rattle.hall_rooms.proofs.Turned.{begun_with, stays_none}
@@ -34,11 +34,12 @@ returns-clause-merges g c =
     let m = c.merge_through-merged.ensures in
     let none = none_out x found.room c.args.pass.now q b.takes c.requires.first c.requires.no_job in
     let gave = c.end_turn.ensures.gives b.clean.note (may_merge x c.args.from found new q b.clean c.merge_through-merged.result none m) in
+    let ended = turn_taken x found new c.args.pass.now q q c.end_turn.new.pass b refl c.end_turn.ensures.pass.1 (stays_none q) b.clean.note gave in
     record {
       found = found;
       room = new;
-      turn = turn_taken x found new c.args.pass.now q q c.end_turn.new.pass b refl c.end_turn.ensures.pass.1 (stays_none q) b.clean.note gave;
-      same_held = held_same x found new c.args.pass.now q q c.end_turn.new.pass b refl c.end_turn.ensures.pass.1 (stays_none q) b.clean.note gave;
+      turn = ended.0;
+      same_held = ended.1;
       job = no_jobs found.room new.room none m.leaves.no_job;
       how = m.how;
       leaves = m.leaves;

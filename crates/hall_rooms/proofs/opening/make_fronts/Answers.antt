@@ -1,12 +1,11 @@
 -- A front is made for each seat.
 use Rattle.std.proofs.Common.{◌≡◌, ◌+◌, ◌∷◌, [], Err, arith, length, reverse, ap, subst, sym, ◌∙◌, length-append}
-use Rattle.std.specs.Prelude.{IsSome, Result}
+use Rattle.std.specs.Prelude.{Result}
 use Rattle.std.proofs.lemmas.Result.{err_from_is_err_and}
-use Rattle.fine_model.specs.Boards.{empty_of}
 use Rattle.epoch_room.specs.declared.answers.RoomFault.{RoomFault}
 use Rattle.hall_rooms.specs.Opening.{MakesFronts, MakesFrontsOr}
 use Rattle.hall_rooms.specs.Views.{MakesView}
-use Rattle.hall_rooms.proofs.Fresh.{front_empty, front_long, fronts_next, fronts_none, lacks_view}
+use Rattle.hall_rooms.proofs.Fresh.{front_room, fronts_next, fronts_none, lacks_view}
 use Rattle.hall_rooms.proofs.opening.make_fronts.Goals as goal
 
 pub loop-i-init : goal.loop-i-init
@@ -24,17 +23,12 @@ loop-i-init g c =
 pub make_view-requires-clause-seats : goal.make_view-requires-clause-seats
 make_view-requires-clause-seats g c κs within =
     let i = c.loop-i.invariant in
-    let long = i.long in
-    let test = c.loop-i-test.true in
-    let h = front_long c.args.room.now c.loop-i.room c.args.seats c.loop-i.fronts.items i.made (omega (arith, long, test)) in
-    omega (arith, h, long)
+    let r = front_room c.args.room.now c.loop-i.room c.args.seats c.loop-i.i c.loop-i.fronts.items i.made i.long c.loop-i-test.true in
+    let h = r.0 in
+    omega (arith, h)
 
 pub make_view-requires-clause-empty : goal.make_view-requires-clause-empty
-make_view-requires-clause-empty g c κs within =
-    let i = c.loop-i.invariant in
-    let long = i.long in
-    let test = c.loop-i-test.true in
-    subst (λ n. IsSome (empty_of c.loop-i.room.room.board (n + 1))) long (front_empty c.args.room.now c.loop-i.room c.args.seats c.loop-i.fronts.items i.made (omega (arith, long, test)))
+make_view-requires-clause-empty g c κs within = let i = c.loop-i.invariant in (front_room c.args.room.now c.loop-i.room c.args.seats c.loop-i.i c.loop-i.fronts.items i.made i.long c.loop-i-test.true).1
 
 pub loop-i-preserved : goal.loop-i-preserved
 loop-i-preserved g c =

@@ -1,12 +1,11 @@
 -- A middle is made for each seat.
 use Rattle.std.proofs.Common.{◌≡◌, ◌++◌, ◌+◌, ◌∷◌, [], Err, arith, length, reverse, ap, subst, sym, ◌∙◌, length-append}
-use Rattle.std.specs.Prelude.{IsSome, Result}
+use Rattle.std.specs.Prelude.{Result}
 use Rattle.std.proofs.lemmas.Result.{err_from_is_err_and}
-use Rattle.fine_model.specs.Boards.{empty_of}
 use Rattle.epoch_room.specs.declared.answers.RoomFault.{RoomFault}
 use Rattle.hall_rooms.specs.Opening.{MakesMiddles, MakesMiddlesOr}
 use Rattle.hall_rooms.specs.Views.{MakesView}
-use Rattle.hall_rooms.proofs.Fresh.{lacks_view, middle_empty, middle_long, middles_next, middles_none}
+use Rattle.hall_rooms.proofs.Fresh.{lacks_view, middle_room, middles_next, middles_none}
 use Rattle.hall_rooms.proofs.opening.make_middles.Goals as goal
 
 pub loop-i-init : goal.loop-i-init
@@ -25,20 +24,16 @@ pub make_view-requires-clause-seats : goal.make_view-requires-clause-seats
 make_view-requires-clause-seats g c κs within =
     let i = c.loop-i.invariant in
     let f = c.requires.fronts in
-    let many = f.3 in
-    let long = i.long in
-    let test = c.loop-i-test.true in
-    let h = middle_long f.0 c.loop-i.room f.1 c.loop-i.middles.items (i.made f.0 f.1 f.2 f.3 f.4) (omega (arith, long, test, many)) in
-    omega (arith, h, long)
+    let r = middle_room f.0 c.loop-i.room c.args.seats c.loop-i.i f.1 c.loop-i.middles.items f.3 (i.made f.0 f.1 f.2 f.3 f.4) i.long c.loop-i-test.true in
+    let h = r.0 in
+    omega (arith, h)
 
 pub make_view-requires-clause-empty : goal.make_view-requires-clause-empty
 make_view-requires-clause-empty g c κs within =
     let i = c.loop-i.invariant in
     let f = c.requires.fronts in
-    let many = f.3 in
-    let long = i.long in
-    let test = c.loop-i-test.true in
-    subst (λ n. IsSome (empty_of c.loop-i.room.room.board (n + 1))) long (middle_empty f.0 c.loop-i.room f.1 c.loop-i.middles.items (i.made f.0 f.1 f.2 f.3 f.4) (omega (arith, long, test, many)))
+    let r = middle_room f.0 c.loop-i.room c.args.seats c.loop-i.i f.1 c.loop-i.middles.items f.3 (i.made f.0 f.1 f.2 f.3 f.4) i.long c.loop-i-test.true in
+    r.1
 
 pub loop-i-preserved : goal.loop-i-preserved
 loop-i-preserved g c =

@@ -1,6 +1,6 @@
 -- A turn in which what waits is sealed, posted and published.
 use Rattle.hall_rooms.specs.Rooms.{beginning_of}
-use Rattle.hall_rooms.proofs.GivenBack.{held_same, turn_taken}
+use Rattle.hall_rooms.proofs.GivenBack.{turn_taken}
 use Rattle.hall_rooms.proofs.Shown.{in_turn, seals_turn}
 use Rattle.hall_rooms.proofs.Turned.{begun_with}
 use Rattle.hall_rooms.proofs.showing.seal_and_post.Goals as goal
@@ -25,11 +25,12 @@ returns-clause-seals g c =
     let e = c.show-shown.ensures in
     let t = in_turn x found new q c.show-shown.result e.shows in
     let gave = c.end_turn.ensures.gives t.0 t.1 in
+    let ended = turn_taken x found new c.args.pass.now p₁ q c.end_turn.new.pass b e.pass.1 c.end_turn.ensures.pass.1 e.stays t.0 gave in
     record {
       found = found.room;
       room = new.room;
-      turn = turn_taken x found new c.args.pass.now p₁ q c.end_turn.new.pass b e.pass.1 c.end_turn.ensures.pass.1 e.stays t.0 gave;
-      same_held = held_same x found new c.args.pass.now p₁ q c.end_turn.new.pass b e.pass.1 c.end_turn.ensures.pass.1 e.stays t.0 gave;
+      turn = ended.0;
+      same_held = ended.1;
       job = e.job;
       seals = seals_turn x found new c.args.pass.now p₁ q c.end_turn.new.pass b e.pass.1 c.end_turn.ensures.pass.1 e.stays c.show-shown.result e.shows gave;
     }

@@ -10,7 +10,8 @@ use Rattle.hall_threads.specs.Days.{views_of_log, room_state, room_log, view_sta
 use Rattle.hall_threads.specs.Ends.{EndsAll}
 use Rattle.hall_threads.specs.Turnover.{TakesPart}
 use Rattle.hall_threads.proofs.Ending.{whole_of}
-use Rattle.hall_threads.proofs.Crowds.{all_idle, all_numbers, all_there, each_of, same_numbers}
+use Rattle.hall_threads.proofs.Crowds.{all_idle, all_numbers, all_there}
+use Rattle.fine_places.proofs.Elements.{each_of, same_each}
 use Rattle.hall_threads.proofs.Saying.{had_on}
 use Rattle.hall_threads.proofs.crowd.day_of_many.Goals as goal
 
@@ -30,7 +31,7 @@ close-room-requires-clause-all g c κs =
     let after = c.in-Ok-at_once.passes.ok.0 in
     let len = back.len in
     all_there c.in_ok-hall.hall (views_of_log c.args.seats 0 1) c.in_ok-hall.passes.items o.passes (omega (arith, seats, count)) c.in-Ok-at_once.passes.items
-    (same_numbers c.in_ok-hall.passes.items c.in-Ok-at_once.passes.items (omega (arith, len, before, after)) (λ i d lt. back.numbers i d (omega (arith, lt, before))))
+    (same_each (λ p. p.number) c.in_ok-hall.passes.items c.in-Ok-at_once.passes.items (omega (arith, len, before, after)) (λ i d lt. back.numbers i d (omega (arith, lt, before))))
 
 pub returns : goal.returns
 returns g c =
@@ -54,7 +55,7 @@ returns g c =
       numbers = map (λ (p : Pass DayView). p.number) passes;
       each_once = subst (λ n. IsPermutation (map (λ (p : Pass DayView). p.number) passes) (range_with_len 1 n)) o.seats
           (all_there c.in_ok-hall.hall (views_of_log c.args.seats 0 1) c.in_ok-hall.passes.items o.passes (omega (arith, seats, count)) passes
-          (same_numbers c.in_ok-hall.passes.items passes (omega (arith, len, before, after)) (λ i d lt. back.numbers i d (omega (arith, lt, before)))));
+          (same_each (λ p. p.number) c.in_ok-hall.passes.items passes (omega (arith, len, before, after)) (λ i d lt. back.numbers i d (omega (arith, lt, before)))));
       turned = all_numbers (λ p. TakesPart x.room c.args.times p.number (turns p)) (λ n. TakesPart x.room c.args.times n e.all) passes
           (λ i p at took. record { turn = λ some. let t = took.turn some in (t.0, had_on x.room t.0 p.number (turns p) e.all t.1 (e.saw i p at)) }) back.turned;
       on_board = e.on_board;

@@ -15,7 +15,7 @@ use Rattle.hall_threads.proofs.Standing.{may_give_none, may_give_put, all_below}
 use Rattle.fine_model.specs.declared.law.RoomState.{RoomState}
 use Rattle.hall_threads.specs.declared.things.DayRoom.{DayRoom}
 use Rattle.hall_threads.specs.declared.things.DayBucket.{DayBucket}
-use Rattle.hall_threads.proofs.Putting.{leaf_after}
+use Rattle.hall_threads.proofs.Putting.{at_key, leaf_after}
 use Rattle.hall_threads.proofs.Caching.{Stands, stands_put}
 use Rattle.hall_threads.proofs.Going.{touched, still, given, mine_after, no_job, job_found, job_stays, calls_none, calls_one}
 use Rattle.hall_threads.proofs.transaction.put.Goals as goal
@@ -42,19 +42,17 @@ give_room-requires-clause-room g c κs =
 pub give_room-requires-2-clause-room : goal.give_room-requires-2-clause-room
 give_room-requires-2-clause-room g c κs =
     let t = c.take_room-room.ensures.takes in
-    let x = begun room_state room_log view_state c.args.hall.now in
     let p = c.take_room-room.new.pass in
     let room = c.take_room-room.result in
     let new = c.append-entry.new.room in
-    let e : c.in-Some.entry ≡ put_entry c.args.lane key_bucket (room.places + 1) c.args.value = c.in-Some.ensures.0 ∙ ap (λ b. put_entry c.args.lane b (room.places + 1) c.args.value) c.requires.bucket in
-    let a : Appends (put_entry c.args.lane key_bucket (room.places + 1) c.args.value) room new = subst (λ entry. Appends entry room new) e c.in-Some.ensures.1 in
+    let key = at_key c.args.lane (room.places + 1) c.args.value c.args.bucket c.in-Some.entry room new c.requires.bucket c.in-Some.ensures.0 c.in-Some.ensures.1 in
     let held : (k : ℕ) → k < places.room → is_in k (put_entry c.args.lane key_bucket (room.places + 1) c.args.value) ≡ true → HasPlace p k = λ k lt on. subst (HasPlace p) (c.requires.bucket ∙ touched c.args.lane (room.places + 1) c.args.value k on)
     (bucket_held c.args.bucket c.requires.bucket _ _ _ c.requires.pass.1 c.in_ok-content.ensures.takes.held t.takes.held) in (
       t.turn,
       t.is_turn,
-      subst (λ entry. MayGiveRoom room_state room_log day_stands x new (Some entry) (new.sealed + 1) t.turn p) (sym e)
-          (subst (λ s. MayGiveRoom room_state room_log day_stands x new (Some (put_entry c.args.lane key_bucket (room.places + 1) c.args.value)) (s + 1) t.turn p) (sym a.sealed)
-          (may_give_put x c.take_bucket.new.pass p room c.take_room-room.ensures.room t new c.args.lane c.args.value a c.in-Some.ensures.2 c.take_room-room.ensures.pass.0.lawful.legal held)),
+      subst (λ entry. MayGiveRoom room_state room_log day_stands (begun room_state room_log view_state c.args.hall.now) new (Some entry) (new.sealed + 1) t.turn p) (sym key.0)
+          (subst (λ s. MayGiveRoom room_state room_log day_stands (begun room_state room_log view_state c.args.hall.now) new (Some (put_entry c.args.lane key_bucket (room.places + 1) c.args.value)) (s + 1) t.turn p) (sym key.1.sealed)
+          (may_give_put (begun room_state room_log view_state c.args.hall.now) c.take_bucket.new.pass p room c.take_room-room.ensures.room t new c.args.lane c.args.value key.1 c.in-Some.ensures.2 c.take_room-room.ensures.pass.0.lawful.legal held)),
     )
 
 pub give_bucket-requires-clause-held : goal.give_bucket-requires-clause-held
@@ -85,19 +83,18 @@ give_bucket-requires-2-clause-stands g c κs =
     let p = c.take_room-room.new.pass in
     let room = c.take_room-room.result in
     let new = c.append-entry.new.room in
-    let e : c.in-Some.entry ≡ put_entry c.args.lane key_bucket (room.places + 1) c.args.value = c.in-Some.ensures.0 ∙ ap (λ b. put_entry c.args.lane b (room.places + 1) c.args.value) c.requires.bucket in
-    let a : Appends (put_entry c.args.lane key_bucket (room.places + 1) c.args.value) room new = subst (λ entry. Appends entry room new) e c.in-Some.ensures.1 in
+    let key = at_key c.args.lane (room.places + 1) c.args.value c.args.bucket c.in-Some.entry room new c.requires.bucket c.in-Some.ensures.0 c.in-Some.ensures.1 in
     let had = bucket_had c.args.bucket c.requires.bucket _ _ (known c.take_bucket.new.pass).held c.requires.pass.1 c.in_ok-content.ensures.takes.held in
     let s = still x c.args.bucket c.requires.bucket c.take_bucket.new.pass p c.in_ok-content.content t.takes.sees had c.in_ok-content.ensures.content in
     let content : DayBucket = record { bucket = c.args.bucket; leaf = Some (record { version = new.places; value = c.args.value; epoch = new.sealed + 1 }) } in
     let put : Stands x (published p) content (seen p ++ added (Some (put_entry c.args.lane key_bucket (room.places + 1) c.args.value)) (room.sealed + 1)) =
     stands_put x (published p) (room.places + 1) c.args.value c.args.lane (room.sealed + 1) c.in_ok-content.content content (seen p)
-    (λ i. record { bucket = c.requires.bucket i; leaf = Some (record { version = a.places i; value = c.args.value; epoch = a.sealed i + 1 }) }) s
-    (all_below x c.take_bucket.new.pass p room r t new c.args.lane c.args.value a c.in-Some.ensures.2)
+    (λ i. record { bucket = c.requires.bucket i; leaf = Some (record { version = key.1.places i; value = c.args.value; epoch = key.1.sealed i + 1 }) }) s
+    (all_below x c.take_bucket.new.pass p room r t new c.args.lane c.args.value key.1 c.in-Some.ensures.2)
     (λ e first b. leaf_after first (seen p) c.args.lane room.places room.value c.args.value (room.sealed + 1) (r.stands e first b).leaf) in
     given x c.args.bucket c.requires.bucket (room_state new) (Some c.in-Some.entry) (new.sealed + 1) t.turn p c.give_room-2.new.pass (c.give_room-2.ensures.gives t.turn t.is_turn) content
-    (subst (λ entry. Stands x (published p) content (seen p ++ added (Some entry) (new.sealed + 1))) (sym e)
-    (subst (λ n. Stands x (published p) content (seen p ++ added (Some (put_entry c.args.lane key_bucket (room.places + 1) c.args.value)) (n + 1))) (sym a.sealed) put))
+    (subst (λ entry. Stands x (published p) content (seen p ++ added (Some entry) (new.sealed + 1))) (sym key.0)
+    (subst (λ n. Stands x (published p) content (seen p ++ added (Some (put_entry c.args.lane key_bucket (room.places + 1) c.args.value)) (n + 1))) (sym key.1.sealed) put))
 
 pub returns-in_default-clause-pass : goal.returns-in_default-clause-pass
 returns-in_default-clause-pass g c = let p = c.give_bucket.ensures in let t = c.take_room-room.ensures.takes in (

@@ -12,7 +12,8 @@ use Rattle.fine_hall.specs.Halls.{begun, IsPassOf}
 use Rattle.hall_threads.specs.declared.things.DayView.{DayView}
 use Rattle.hall_threads.specs.Days.{room_state, room_log, view_state}
 use Rattle.hall_threads.specs.Ends.{Counts}
-use Rattle.hall_threads.proofs.Ending.{two_cases, saw_sealed, whole_of}
+use Rattle.fine_places.proofs.Elements.{two_cases}
+use Rattle.hall_threads.proofs.Ending.{saw_sealed, whole_of}
 use Rattle.hall_threads.proofs.whole_day.end.Goals as goal
 
 pub close-room-requires-clause-passes : goal.close-room-requires-clause-passes

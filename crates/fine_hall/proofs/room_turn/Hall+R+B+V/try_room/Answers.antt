@@ -19,33 +19,29 @@ unreachable-requires g c =
     let s = stood_once _ _ _ g.V.ViewLaw.state _ _ c.args.pass.now _ _ _ _ c.requires.pass c.sit-seat.ensures.view c.in-Ok.ensures.took in
     is_room g.R.RoomLaw.state g.R.RoomLaw.origin g.R.RoomLaw.stands_for g.B.BucketLaw.bucket g.B.BucketLaw.cached g.B.BucketLaw.is_settled _ _ s.0 c.in-Ok.load s.1 room_256 s.2 (λ room entry epoch backs. c.in_default.not-Room room entry epoch backs)
 
-pub returns-in-Room-clause-pass : goal.returns-in-Room-clause-pass
-returns-in-Room-clause-pass g c = (
-  room_pass g.R.RoomLaw.state g.R.RoomLaw.origin g.R.RoomLaw.stands_for g.B.BucketLaw.bucket g.B.BucketLaw.cached g.B.BucketLaw.is_settled g.V.ViewLaw.state _ _ c.args.pass.now (record c.stand_up.new.self { backs = c.in-Room.backs }) 256 _ _ _ c.requires.pass c.sit-seat.ensures.view c.stand_up.ensures.view
+pub returns-in-Room : goal.returns-in-Room
+returns-in-Room g c = record {
+  pass = (
+    room_pass g.R.RoomLaw.state g.R.RoomLaw.origin g.R.RoomLaw.stands_for g.B.BucketLaw.bucket g.B.BucketLaw.cached g.B.BucketLaw.is_settled g.V.ViewLaw.state _ _ c.args.pass.now (record c.stand_up.new.self { backs = c.in-Room.backs }) 256 _ _ _ c.requires.pass c.sit-seat.ensures.view c.stand_up.ensures.view
+        (c.stand_up.ensures.seat.0 ∙ (c.in-Ok.ensures.table.0 ∙ (c.sit-seat.ensures.seat.0 ∙ c.requires.pass.table))) (c.stand_up.ensures.number ∙ c.sit-seat.ensures.number)
+        (c.stand_up.ensures.front.0 ∙ c.sit-seat.ensures.front.0, c.stand_up.ensures.front.1 ∙ c.sit-seat.ensures.front.1) c.in-Ok.ensures.took room_256 _ _ _ _ c.in-Room.is refl,
+    c.stand_up.ensures.number ∙ c.sit-seat.ensures.number,
+  );
+  takes = takes_room g.R.RoomLaw.state g.R.RoomLaw.origin g.R.RoomLaw.stands_for g.B.BucketLaw.bucket g.B.BucketLaw.cached g.B.BucketLaw.is_settled g.V.ViewLaw.state _ _ c.args.pass.now (record c.stand_up.new.self { backs = c.in-Room.backs }) 256 _ _ _ c.requires.pass c.sit-seat.ensures.view c.stand_up.ensures.view
       (c.stand_up.ensures.seat.0 ∙ (c.in-Ok.ensures.table.0 ∙ (c.sit-seat.ensures.seat.0 ∙ c.requires.pass.table))) (c.stand_up.ensures.number ∙ c.sit-seat.ensures.number)
-      (c.stand_up.ensures.front.0 ∙ c.sit-seat.ensures.front.0, c.stand_up.ensures.front.1 ∙ c.sit-seat.ensures.front.1) c.in-Ok.ensures.took room_256 _ _ _ _ c.in-Room.is refl,
-  c.stand_up.ensures.number ∙ c.sit-seat.ensures.number,
-)
+      (c.stand_up.ensures.front.0 ∙ c.sit-seat.ensures.front.0, c.stand_up.ensures.front.1 ∙ c.sit-seat.ensures.front.1) c.in-Ok.ensures.took room_256 _ _ _ _ c.in-Room.is refl;
+  room = room_for g.R.RoomLaw.state g.R.RoomLaw.origin g.R.RoomLaw.stands_for g.B.BucketLaw.bucket g.B.BucketLaw.cached g.B.BucketLaw.is_settled g.V.ViewLaw.state _ _ c.args.pass.now (record c.stand_up.new.self { backs = c.in-Room.backs }) 256 _ _ _ c.requires.pass c.sit-seat.ensures.view c.stand_up.ensures.view
+      (c.stand_up.ensures.seat.0 ∙ (c.in-Ok.ensures.table.0 ∙ (c.sit-seat.ensures.seat.0 ∙ c.requires.pass.table))) (c.stand_up.ensures.number ∙ c.sit-seat.ensures.number)
+      (c.stand_up.ensures.front.0 ∙ c.sit-seat.ensures.front.0, c.stand_up.ensures.front.1 ∙ c.sit-seat.ensures.front.1) c.in-Ok.ensures.took room_256 _ _ _ _ c.in-Room.is refl;
+}
 
-pub returns-in-Room-clause-takes : goal.returns-in-Room-clause-takes
-returns-in-Room-clause-takes g c =
-    takes_room g.R.RoomLaw.state g.R.RoomLaw.origin g.R.RoomLaw.stands_for g.B.BucketLaw.bucket g.B.BucketLaw.cached g.B.BucketLaw.is_settled g.V.ViewLaw.state _ _ c.args.pass.now (record c.stand_up.new.self { backs = c.in-Room.backs }) 256 _ _ _ c.requires.pass c.sit-seat.ensures.view c.stand_up.ensures.view
-    (c.stand_up.ensures.seat.0 ∙ (c.in-Ok.ensures.table.0 ∙ (c.sit-seat.ensures.seat.0 ∙ c.requires.pass.table))) (c.stand_up.ensures.number ∙ c.sit-seat.ensures.number)
-    (c.stand_up.ensures.front.0 ∙ c.sit-seat.ensures.front.0, c.stand_up.ensures.front.1 ∙ c.sit-seat.ensures.front.1) c.in-Ok.ensures.took room_256 _ _ _ _ c.in-Room.is refl
-
-pub returns-in-Room-clause-room : goal.returns-in-Room-clause-room
-returns-in-Room-clause-room g c =
-    room_for g.R.RoomLaw.state g.R.RoomLaw.origin g.R.RoomLaw.stands_for g.B.BucketLaw.bucket g.B.BucketLaw.cached g.B.BucketLaw.is_settled g.V.ViewLaw.state _ _ c.args.pass.now (record c.stand_up.new.self { backs = c.in-Room.backs }) 256 _ _ _ c.requires.pass c.sit-seat.ensures.view c.stand_up.ensures.view
-    (c.stand_up.ensures.seat.0 ∙ (c.in-Ok.ensures.table.0 ∙ (c.sit-seat.ensures.seat.0 ∙ c.requires.pass.table))) (c.stand_up.ensures.number ∙ c.sit-seat.ensures.number)
-    (c.stand_up.ensures.front.0 ∙ c.sit-seat.ensures.front.0, c.stand_up.ensures.front.1 ∙ c.sit-seat.ensures.front.1) c.in-Ok.ensures.took room_256 _ _ _ _ c.in-Room.is refl
-
-pub returns-in-Err-clause-pass : goal.returns-in-Err-clause-pass
-returns-in-Err-clause-pass g c =
-    still_pass g.V.ViewLaw.state _ _ c.args.pass.now c.stand_up.new.self _ _ _ _ c.requires.pass c.sit-seat.ensures.view c.stand_up.ensures.view
-    (c.stand_up.ensures.seat.0 ∙ (c.in-Err.ensures.table.0 ∙ (c.sit-seat.ensures.seat.0 ∙ c.requires.pass.table))) (c.stand_up.ensures.number ∙ c.sit-seat.ensures.number)
-    (c.stand_up.ensures.front.0 ∙ c.sit-seat.ensures.front.0, c.stand_up.ensures.front.1 ∙ c.sit-seat.ensures.front.1, c.stand_up.ensures.front.2 ∙ c.sit-seat.ensures.front.2) c.in-Err.ensures.took
-
-pub returns-in-Err-clause-takes : goal.returns-in-Err-clause-takes
-returns-in-Err-clause-takes g c = waited _ _ _ c.args.pass.now c.stand_up.new.self (finds g.V.ViewLaw.state _ _ c.args.pass.now c.stand_up.new.self _ _ _ _ c.requires.pass c.sit-seat.ensures.view c.stand_up.ensures.view
-    (c.stand_up.ensures.seat.0 ∙ (c.in-Err.ensures.table.0 ∙ (c.sit-seat.ensures.seat.0 ∙ c.requires.pass.table))) (c.stand_up.ensures.number ∙ c.sit-seat.ensures.number)
-    (c.stand_up.ensures.front.0 ∙ c.sit-seat.ensures.front.0, c.stand_up.ensures.front.1 ∙ c.sit-seat.ensures.front.1, c.stand_up.ensures.front.2 ∙ c.sit-seat.ensures.front.2) c.in-Err.ensures.took)
+pub returns-in-Err : goal.returns-in-Err
+returns-in-Err g c = record {
+  pass = still_pass g.V.ViewLaw.state _ _ c.args.pass.now c.stand_up.new.self _ _ _ _ c.requires.pass c.sit-seat.ensures.view c.stand_up.ensures.view
+      (c.stand_up.ensures.seat.0 ∙ (c.in-Err.ensures.table.0 ∙ (c.sit-seat.ensures.seat.0 ∙ c.requires.pass.table))) (c.stand_up.ensures.number ∙ c.sit-seat.ensures.number)
+      (c.stand_up.ensures.front.0 ∙ c.sit-seat.ensures.front.0, c.stand_up.ensures.front.1 ∙ c.sit-seat.ensures.front.1, c.stand_up.ensures.front.2 ∙ c.sit-seat.ensures.front.2) c.in-Err.ensures.took;
+  takes = waited _ _ _ c.args.pass.now c.stand_up.new.self (finds g.V.ViewLaw.state _ _ c.args.pass.now c.stand_up.new.self _ _ _ _ c.requires.pass c.sit-seat.ensures.view c.stand_up.ensures.view
+      (c.stand_up.ensures.seat.0 ∙ (c.in-Err.ensures.table.0 ∙ (c.sit-seat.ensures.seat.0 ∙ c.requires.pass.table))) (c.stand_up.ensures.number ∙ c.sit-seat.ensures.number)
+      (c.stand_up.ensures.front.0 ∙ c.sit-seat.ensures.front.0, c.stand_up.ensures.front.1 ∙ c.sit-seat.ensures.front.1, c.stand_up.ensures.front.2 ∙ c.sit-seat.ensures.front.2) c.in-Err.ensures.took);
+  room = tt;
+}

@@ -10,12 +10,12 @@ use Rattle.fine_model.specs.declared.law.ViewState.{ViewState}
 use Rattle.fine_places.specs.declared.model.Placed.{Placed}
 use Rattle.fine_places.specs.declared.model.View.{View}
 use Rattle.fine_places.specs.History.{room}
-use Rattle.fine_places.specs.Places.{Holds, Homes, knowing}
+use Rattle.fine_places.specs.Places.{Holds, knowing}
 use Rattle.fine_places.specs.Telling.{Sees}
 use Rattle.fine_places.specs.Beside.{GoesBeside}
 use Rattle.fine_boxes.specs.declared.model.TurnNote.{TurnNote}
 use Rattle.fine_boxes.specs.declared.model.Reads.{Reads}
-use Rattle.fine_boxes.specs.Boxes.{BoxState, Cell, Reaches, NoteOk, TurnOk, ViewOk, Keeps, beginning, mailbox, published_word, given_by, given_of}
+use Rattle.fine_boxes.specs.Boxes.{BoxState, Reaches, NoteOk, TurnOk, ViewOk, Keeps, beginning, mailbox, published_word, given_by, given_of}
 use Rattle.fine_boxes.specs.Steps.{PublishesStep, ReadsStep}
 use Rattle.fine_places.proofs.Lists.{some_same}
 use Rattle.fine_boxes.specs.Lists.{sum_same}

@@ -1,15 +1,8 @@
 -- What a front leaves in the nodes of which no row is above the published epoch.
-use Rattle.std.proofs.Common.{◌≡◌, ℕ, suc, ◌<◌, ◌≤◌, nat_le, Bool, true, false, true≢false, ◌||◌, cond, List, [], ◌∷◌, ◌++◌, Option, Some, refl, sym, ap, ◌∙◌, arith}
-use Rattle.std.specs.Prelude.{slice_get, take, All}
-use Rattle.std.specs.List.{list_any}
-use Rattle.std.proofs.lemmas.List.Elements.{All-head, All-tail}
-use Rattle.std.proofs.lemmas.List.Sums.{take_while-cons}
-use Rattle.fine_model.specs.declared.NodeId.{NodeId}
-use Rattle.fine_model.specs.declared.Row.{Row}
+use Rattle.std.proofs.Common.{ℕ, Option, sym, ap, ◌∙◌}
 use Rattle.fine_model.specs.declared.law.ViewState.{ViewState}
-use Rattle.fine_model.specs.Nodes.{Content, content, replay, is_node, rows_of}
-use Rattle.fine_model.specs.History.{Commit, IsLegal, all_rows, upto}
-use Rattle.fine_model.specs.Buckets.{IsUpTo, has_row_on, node_id}
+use Rattle.fine_model.specs.Nodes.{Content}
+use Rattle.fine_model.specs.Buckets.{node_id}
 use Rattle.fine_model.proofs.UpTo.{same_content}
 use Rattle.fine_hall.specs.EngineLaws.{LoadLaw}
 

@@ -17,7 +17,7 @@ use Rattle.fine_hall.specs.declared.law.Beginning.{Beginning}
 use Rattle.fine_hall.specs.declared.pass.Pass.{Pass}
 use Rattle.fine_hall.specs.Turns.{touches_bucket}
 use Rattle.fine_hall.specs.Laws.{AreTurns}
-use Rattle.fine_hall.specs.Passes.{PassView, first_mine, known, reads, turns, own_turns, published, HasPlace, IsHolder, IsPass}
+use Rattle.fine_hall.specs.Passes.{PassView, first_mine, known, reads, published, HasPlace, IsHolder, IsPass}
 use Rattle.fine_hall.specs.Halls as halls
 use Rattle.fine_hall.specs.Halls.{KeepsPlaces, KeepsViews, Publishes, Posts, MayPost}
 use Rattle.fine_hall.proofs.Passing.{keeps_known, known_is, reads_is, one_turn, keeps_front, keeps_holder, about, still, seeing_pass, steady_pass, sees_more, same_number}

@@ -2,19 +2,16 @@
 use Rattle.std.proofs.Common.{◌≡◌, ◌≢◌, ℕ, List, [], ◌∷◌, map, length, None, Ok, Err, refl, sym, ap, ◌∙◌, subst, arith}
 use Rattle.std.specs.Prelude.{Result, OnOk}
 use Rattle.fine_model.specs.declared.law.RoomState.{RoomState}
-use Rattle.fine_model.specs.Faults.{HasRisen}
 use Rattle.fine_model.specs.Jobs.{KeepsJob}
 use Rattle.fine_model.proofs.Goings.{job_itself}
 use Rattle.log_disk.specs.Disk.{OpenEye, SameBeside}
-use Rattle.partition_hold.specs.Views.{state_of}
 use Rattle.epoch_room.specs.Erasing.{ErasesAllOr, FreesThese, erased_state, held, unheld}
-use Rattle.epoch_room.specs.Meaning.{Keeps, Stands}
+use Rattle.epoch_room.specs.Meaning.{Keeps}
 use Rattle.epoch_room.specs.Steps.{Does}
 use Rattle.epoch_room.specs.Value.{RoomValue, on}
 use Rattle.epoch_room.specs.Whole.{IsWhole}
 use Rattle.epoch_room.specs.declared.answers.RoomFault.{RoomFault}
 use Rattle.epoch_room.specs.declared.answers.RoomFault.TheVariants as room_fault
-use Rattle.fine_places.specs.History as places
 use Rattle.fine_hall.specs.declared.law.Beginning.{Beginning}
 use Rattle.fine_hall.specs.Halls.{GivesRoom}
 use Rattle.hall_rooms.specs.Rooms.{RoomPass}

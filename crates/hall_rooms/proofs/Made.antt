@@ -1,12 +1,9 @@
 -- Room is made in a turn: it is cleared, neighbours are merged, and it is cleared again.
-use Rattle.std.proofs.Common.{◌≡◌, ◌⊎◌, inl, inr, ⊎_elim, ℕ, ◌+◌, ◌-◌, ◌<◌, ◌≤◌, Bool, true, false, true≢false, [], ◌∷◌, ◌++◌, None, Result, Ok, Err, refl, sym, ap, ◌∙◌, subst, arith, append-nil, List}
-use Rattle.std.specs.Prelude.{Option, is_some, slice_set}
+use Rattle.std.proofs.Common.{◌≡◌, ◌⊎◌, inl, inr, ⊎_elim, ℕ, ◌≤◌, Bool, true, false, true≢false, ◌++◌, None, Result, Ok, Err, refl, sym, ◌∙◌, subst, arith, List}
+use Rattle.std.specs.Prelude.{is_some}
 use Rattle.fine_model.specs.declared.FetchFault.TheVariants as fetch_fault
-use Rattle.fine_model.specs.declared.law.RoomState.{RoomState}
 use Rattle.fine_model.specs.declared.Row.{Row}
 use Rattle.fine_model.specs.Buckets.{Began}
-use Rattle.fine_model.specs.Faults.{last_count}
-use Rattle.partition_hold.specs.Views.{ViewValue, state_of}
 use Rattle.epoch_room.specs.Meaning.{Stands}
 use Rattle.epoch_room.specs.Steps.{retired_from}
 use Rattle.epoch_room.specs.Value.{RoomValue}
@@ -15,20 +12,17 @@ use Rattle.epoch_room.specs.declared.answers.RoomFault.{RoomFault}
 use Rattle.epoch_room.specs.declared.answers.RoomFault.TheVariants as room_fault
 use Rattle.room_merges.specs.declared.fault.MergeFault.{MergeFault}
 use Rattle.room_merges.specs.declared.fault.MergeFault.TheVariants as merge_fault
-use Rattle.fine_places.specs.History as places
 use Rattle.fine_boxes.specs.declared.model.TurnNote.{TurnNote}
 use Rattle.fine_hall.specs.declared.law.Beginning.{Beginning}
-use Rattle.fine_hall.specs.Turns.{added, commits, in_bucket, room_after}
-use Rattle.fine_hall.specs.Laws.{IsRoomFor, IsViewFor}
-use Rattle.fine_hall.specs.Passes.{front_of, known, seen, turns, published, troubles, last_room, view_of, LacksPlace}
-use Rattle.fine_hall.specs.Halls.{turn_of, GivesRoom, IsAhead, TakesRoom}
+use Rattle.fine_hall.specs.Turns.{added}
+use Rattle.fine_hall.specs.Passes.{seen}
+use Rattle.fine_hall.specs.Halls.{GivesRoom}
 use Rattle.fine_hall.proofs.Since.{gives_law}
-use Rattle.fine_hall.proofs.Troubles.{troubles_law}
-use Rattle.hall_rooms.specs.Rooms.{RoomPass, room_state, room_log}
-use Rattle.hall_rooms.specs.Steps.{BeginsTurn, InTurn, IsCleanTurn, IsFailedTurn, NoneFailed, Rises}
+use Rattle.hall_rooms.specs.Rooms.{RoomPass}
+use Rattle.hall_rooms.specs.Steps.{BeginsTurn, InTurn, IsCleanTurn, IsFailedTurn, Rises}
 use Rattle.hall_rooms.specs.Turning.{MeetsNone, MeetsSome, NotBegan}
 use Rattle.hall_rooms.specs.Merging.{Failing, MergesThroughOr, OnDamage, StandsForNone}
-use Rattle.hall_rooms.specs.Making.{AddsTurn, Clears, ClearsMergedOr, GoesOn, GoesOnAfter, IsCleared, MakesOr, MergesAndClears, MergesClearedOr, OnceCleared, Stops, TriesInVain, TurnsOn}
+use Rattle.hall_rooms.specs.Making.{Clears, ClearsMergedOr, GoesOn, GoesOnAfter, IsCleared, MakesOr, MergesAndClears, MergesClearedOr, OnceCleared, Stops, TriesInVain, TurnsOn}
 use Rattle.hall_rooms.proofs.Clearing.{is_cleared, not_retired, some_retired}
 use Rattle.hall_rooms.proofs.Merged.{may_merge, not_begun, on_damage}
 use Rattle.hall_rooms.proofs.GivenBack.{met_none, met_some}

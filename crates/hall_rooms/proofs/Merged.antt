@@ -35,12 +35,10 @@ use Rattle.room_merges.proofs.Nearing.{has_newer, has_older, regions_same}
 use Rattle.room_merges.proofs.PartRows.{own_told}
 use Rattle.room_merges.proofs.Through.{none_fits, still_posted, tries_rest}
 use Rattle.room_merges.proofs.Working.{view_back}
-use Rattle.fine_places.specs.History as places
 use Rattle.fine_hall.specs.declared.law.Beginning.{Beginning}
-use Rattle.fine_hall.specs.Laws.{IsRoomFor}
-use Rattle.fine_hall.specs.Passes.{published, turns, LacksJob, LacksPlace}
+use Rattle.fine_hall.specs.Passes.{LacksJob}
 use Rattle.fine_hall.specs.Halls.{GivesRoom, TakesRoom}
-use Rattle.hall_rooms.specs.Rooms.{RoomPass, room_state, room_log}
+use Rattle.hall_rooms.specs.Rooms.{RoomPass, room_log}
 use Rattle.hall_rooms.specs.Boards.{TakesBackAll}
 use Rattle.hall_rooms.specs.Views.{MakesView, MakesViewOr}
 use Rattle.hall_rooms.specs.Steps.{BeginsTurn, InTurn, IsCleanTurn, Rises}

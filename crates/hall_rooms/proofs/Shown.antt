@@ -1,15 +1,12 @@
 -- What waits is sealed, posted to all seats and published, in a turn, and the turn ends.
-use Rattle.std.proofs.Common.{◌≡◌, ◌⊎◌, inl, inr, ⊎_elim, ℕ, suc, zero, ◌+◌, ◌-◌, ◌<◌, ◌≤◌, true, false, true≢false, List, [], ◌∷◌, ◌++◌, set, None, Ok, Err, refl, sym, ap, ◌∙◌, subst, arith, ne_eqb}
-use Rattle.std.specs.Prelude.{if◌then◌else◌, Result, slice_set}
-use mathlib.Core.Option.{some, some-injective}
+use Rattle.std.proofs.Common.{◌≡◌, inl, inr, ℕ, suc, zero, ◌+◌, ◌≤◌, true≢false, None, Ok, Err, refl, sym, ap, ◌∙◌, subst, arith, ne_eqb}
+use Rattle.std.specs.Prelude.{if◌then◌else◌, Result}
 use lib.ListN.{get_elem?}
 use Rattle.atomic_table.specs.Seated.{TableId}
 use Rattle.fine_model.specs.declared.law.RoomState.{RoomState}
-use Rattle.fine_model.specs.Faults.{last_count}
 use Rattle.fine_model.specs.Jobs.{KeepsJob}
 use Rattle.fine_model.proofs.Goings.{job_itself}
 use Rattle.partition_hold.specs.Views.{state_of}
-use Rattle.epoch_room.specs.Meaning.{Stands}
 use Rattle.epoch_room.specs.Value.{RoomValue}
 use Rattle.epoch_room.specs.Whole.{IsWhole}
 use Rattle.epoch_room.specs.declared.answers.RoomFault.{RoomFault}
@@ -20,16 +17,13 @@ use Rattle.fine_places.specs.History.{by_seat}
 use Rattle.fine_places.proofs.Lists.{some_same}
 use Rattle.fine_boxes.specs.declared.model.TurnNote.{TurnNote}
 use Rattle.fine_hall.specs.declared.law.Beginning.{Beginning}
-use Rattle.fine_hall.specs.Turns.{commits, failed_of, in_bucket, room_after}
-use Rattle.fine_hall.specs.Laws.{IsRoomFor}
-use Rattle.fine_hall.specs.Passes.{first_given, known, turns, published, troubles, last_room, view_of, LacksPlace, IsHolder, IsPass}
-use Rattle.fine_hall.specs.Halls.{turn_of, GivesRoom, Publishes, TakesRoom}
-use Rattle.fine_hall.proofs.Since.{gives_law}
-use Rattle.fine_hall.proofs.Troubles.{troubles_law}
-use Rattle.hall_rooms.specs.Rooms.{RoomPass, room_state, room_log}
-use Rattle.hall_rooms.specs.Turning.{KeepsChain, MeetsNone, MeetsSome, NewView, SealsAtMost, SealsTurn, TakesTurn}
+use Rattle.fine_hall.specs.Turns.{room_after}
+use Rattle.fine_hall.specs.Passes.{first_given, published, IsHolder, IsPass}
+use Rattle.fine_hall.specs.Halls.{GivesRoom, Publishes}
+use Rattle.hall_rooms.specs.Rooms.{RoomPass}
+use Rattle.hall_rooms.specs.Turning.{KeepsChain, NewView, SealsAtMost, SealsTurn}
 use Rattle.hall_rooms.specs.Making.{TurnsOn}
-use Rattle.hall_rooms.specs.Steps.{BeginsTurn, InTurn, IsCleanTurn, NoneFailed, PostsEachOr, SealsWaitingOr, ShowsOr, Stays}
+use Rattle.hall_rooms.specs.Steps.{BeginsTurn, InTurn, IsCleanTurn, PostsEachOr, SealsWaitingOr, ShowsOr, Stays}
 use Rattle.hall_rooms.proofs.GivenBack.{met_none, met_some}
 use Rattle.hall_rooms.proofs.Renewing.{stays_on}
 use Rattle.hall_rooms.proofs.Turned.{epochs_sealed, epochs_stay, goes, some_failed, stepped}

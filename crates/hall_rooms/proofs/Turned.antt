@@ -32,7 +32,7 @@ use Rattle.partition_hold.specs.Views.{state_of}
 use Rattle.hall_rooms.proofs.Viewing.{either}
 use Rattle.hall_rooms.specs.Rooms.{RoomPass, room_state, room_log}
 use Rattle.hall_rooms.specs.Turning.{KeepsChain}
-use Rattle.hall_rooms.specs.Steps.{BeginsTurn, InTurn, IsCleanTurn, IsSealed, LeavesViews, Rises, SameEpochs, SealsWaitingOr, SomeFailed, Stays}
+use Rattle.hall_rooms.specs.Steps.{BeginsTurn, InTurn, IsSealed, LeavesViews, Rises, SameEpochs, SealsWaitingOr, SomeFailed, Stays}
 
 -- ---- a turn goes on
 

@@ -9,15 +9,16 @@ use Rattle.epoch_room.specs.Meaning.{Keeps, Stands}
 use Rattle.epoch_room.specs.Value.{RoomValue, all_regions}
 use Rattle.epoch_room.specs.declared.answers.RoomFault.{RoomFault}
 use Rattle.epoch_room.specs.declared.answers.RoomFault.TheVariants as room_fault
-use Rattle.partition_hold.specs.Views.{state_of}
+use Rattle.node_cache.specs.Cache.{Cache}
+use Rattle.partition_hold.specs.Views.{ViewValue, state_of}
 use Rattle.fine_places.specs.History as places
 use Rattle.fine_boxes.specs.declared.model.TurnNote.{TurnNote}
 use Rattle.fine_boxes.specs.Telling.{posting}
 use Rattle.fine_hall.specs.declared.law.Beginning.{Beginning}
 use Rattle.fine_hall.specs.Passes.{known, turns, own_turns, published, given_up, last_room, HasPlace, LacksPlace, IsHolder}
 use Rattle.fine_hall.specs.Laws.{IsRoomFor}
-use Rattle.fine_hall.specs.Halls.{MayGiveRoom, Posts, TakesRoom}
-use Rattle.hall_rooms.specs.Rooms.{RoomPass, room_state, room_log}
+use Rattle.fine_hall.specs.Halls.{HallOf, MayGiveRoom, Posts, TakesRoom}
+use Rattle.hall_rooms.specs.Rooms.{IsRoomPass, RoomPass, room_state, room_log}
 use Rattle.hall_rooms.specs.Turning.{AddsEpoch, ErasesUnheld, KeepsChain, NewView, SealedAndPosted, SealsAtMost}
 
 -- ---- a turn
@@ -62,6 +63,11 @@ pub record Stays (p p' : RoomPass) : Type 0 where
   pub no_earlier : published p ≤ published p'
   pub front : (p'.front ≡ p.front) × (p'.buffer ≡ p.buffer)
   pub given_up : given_up p' ≡ given_up p
+
+-- it is a pass of the hall still, of the same seat
+pub record StaysPass {Q : Type 0} (hall : HallOf RoomValue Cache ViewValue Q) (p p' : RoomPass) : Type 0 where
+  pub pass : IsRoomPass hall p' × (p'.number ≡ p.number)
+  pub stays : Stays p p'
 
 -- ---- sealing
 

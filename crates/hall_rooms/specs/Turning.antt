@@ -51,6 +51,15 @@ MeetsSome x p p' = (troubles state_of x p < troubles state_of x p') ⊎ (last_co
 abbrev pub NotBegan : Beginning → Type 0
 NotBegan x = (e : ℕ) (first : List Row) → Began x.log e first → ⊥
 
+-- One turn without an entry, which did so to the room. The pass holds what it held, and the merge of the seat 1 is left.
+pub record DidInTurn (x : Beginning) (p p' : RoomPass) (does : RoomState → RoomState → Type 0) : Type 0 where
+  pub found : RoomState
+  pub room : RoomState
+  pub turn : TakesTurn x found None 0 room p p'
+  pub same_held : (known p').held ≡ (known p).held
+  pub job : KeepsJob found room
+  pub did : does found room
+
 -- ---- sealing and posting
 
 -- the board names a view of all these parts in a buffer of the seat, whose eye has none of these numbers
@@ -104,13 +113,8 @@ SealsTurn x found room p p' (Err (room_fault.Shut epoch)) = (found.is_shut ≡ t
 SealsTurn x found room p p' (Err room_fault.NoMemory) = (room.is_shut ≡ false) × SealsAtMost found room × MeetsNone x p p'
 
 -- one turn without an entry, in which what waits is sealed, posted and published
-pub record SealsAndPosts (x : Beginning) (p p' : RoomPass) (r : Result ℕ RoomFault) : Type 0 where
-  pub found : RoomState
-  pub room : RoomState
-  pub turn : TakesTurn x found None 0 room p p'
-  pub same_held : (known p').held ≡ (known p).held
-  pub job : KeepsJob found room
-  pub seals : SealsTurn x found room p p' r
+abbrev pub SealsAndPosts : Beginning → RoomPass → RoomPass → Result ℕ RoomFault → Type 0
+SealsAndPosts x p p' r = DidInTurn x p p' (λ found room. SealsTurn x found room p p' r)
 
 -- ---- erasing
 
@@ -129,13 +133,8 @@ SettlesTurn x found room p p' (Err (room_fault.Shut epoch)) = (found.is_shut ≡
 SettlesTurn x found room p p' (Err room_fault.NoMemory) = (room.is_shut ≡ false) × KeepsChain found room × (room.board ≡ found.board) × MeetsNone x p p'
 
 -- one turn without an entry, in which each retired part is erased that no view names
-pub record SettlesViews (x : Beginning) (p p' : RoomPass) (r : Result ℕ RoomFault) : Type 0 where
-  pub found : RoomState
-  pub room : RoomState
-  pub turn : TakesTurn x found None 0 room p p'
-  pub same_held : (known p').held ≡ (known p).held
-  pub job : KeepsJob found room
-  pub settles : SettlesTurn x found room p p' r
+abbrev pub SettlesViews : Beginning → RoomPass → RoomPass → Result ℕ RoomFault → Type 0
+SettlesViews x p p' r = DidInTurn x p p' (λ found room. SettlesTurn x found room p p' r)
 
 -- ---- laws
 

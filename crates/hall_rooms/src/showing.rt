@@ -6,7 +6,7 @@ ghost use Rattle.fine_places.specs.History as places;
 ghost use Rattle.fine_boxes.specs.declared.model.TurnNote.{TurnNote};
 ghost use Rattle.fine_hall.specs.Passes.{LacksPlace};
 ghost use Rattle.hall_rooms.specs.Rooms.{IsRoomPass, beginning_of};
-ghost use Rattle.hall_rooms.specs.Steps.{InTurn, IsCleanTurn, PostsEachOr, PostsOr, SealsWaitingOr, ShowsOr, Stays};
+ghost use Rattle.hall_rooms.specs.Steps.{InTurn, IsCleanTurn, PostsEachOr, PostsOr, SealsWaitingOr, ShowsOr, StaysPass};
 ghost use Rattle.hall_rooms.specs.Turning.{SealsAndPosts};
 
 use crate::opening::RoomHall;
@@ -62,8 +62,7 @@ fn post_to_each<D: LogDisk>(
 ) -> Result<(), RoomFault>
     requires pass { IsRoomPass hall.now pass.old }
     requires turn { IsCleanTurn (beginning_of hall.now) room.old pass.old }
-    ensures pass { IsRoomPass hall.now pass.new × (pass.new.number ≡ pass.old.number) }
-    ensures stays { Stays pass.old pass.new }
+    ensures stays { StaysPass hall.now pass.old pass.new }
     ensures job { KeepsJob room.old.room room.new.room }
     ensures posts { PostsEachOr (beginning_of hall.now) room.old room.new pass.new result }
 {
@@ -82,8 +81,7 @@ pub(crate) fn show<D: LogDisk>(
 ) -> Result<u64, RoomFault>
     requires pass { IsRoomPass hall.now pass.old }
     requires turn { IsCleanTurn (beginning_of hall.now) room.old pass.old }
-    ensures pass { IsRoomPass hall.now pass.new × (pass.new.number ≡ pass.old.number) }
-    ensures stays { Stays pass.old pass.new }
+    ensures stays { StaysPass hall.now pass.old pass.new }
     ensures job { KeepsJob room.old.room room.new.room }
     ensures shows { ShowsOr (beginning_of hall.now) room.old room.new pass.new result }
 {

@@ -1,9 +1,9 @@
 -- All passes of a hall go to threads of their own, and come back.
-use Rattle.std.proofs.Common.{◌≡◌, ℕ, zero, suc, ◌<◌, List, [], ◌∷◌, map, length, All, None, refl, sym, subst, arith}
+use Rattle.std.proofs.Common.{◌≡◌, ℕ, suc, List, [], ◌∷◌, map, length, All, None, refl, sym, subst}
 use Rattle.std.specs.Prelude.{get_or, IsPermutation}
 use Rattle.std.specs.List.{range_with_len}
 use Rattle.std.proofs.lemmas.List.Elements.{All-cons, All-head, All-nil, All-tail}
-use mathlib.Core.Option.{some, some-injective, some-ne-none}
+use mathlib.Core.Option.{some}
 use lib.ListN.{get_elem?}
 use Rattle.fine_places.proofs.Elements.{elem_at}
 use Rattle.fine_hall.specs.declared.pass.Pass.{Pass}

@@ -1,11 +1,7 @@
 -- A day ends: its passes, and the log at entry.
-use Rattle.std.proofs.Common.{◌≡◌, ℕ, zero, suc, ◌<◌, ◌≤◌, List, [], ◌∷◌, ◌++◌, length, All, refl, sym, ap, ◌∙◌, subst, arith, le_refl, ne_eqb}
-use Rattle.std.specs.Prelude.{if◌then◌else◌}
-use mathlib.Core.Option.{some, some-injective, some-ne-none}
+use Rattle.std.proofs.Common.{◌≡◌, ℕ, ◌<◌, ◌≤◌, List, [], ◌∷◌, ◌++◌, length, All, refl, sym, ap, ◌∙◌, subst, arith}
+use mathlib.Core.Option.{some}
 use lib.ListN.{get_elem?}
-use Rattle.fine_model.specs.declared.Node.TheVariants as node
-use Rattle.fine_model.specs.Nodes.{content, replay}
-use Rattle.fine_model.specs.Trees.{IsSound, IsSubtree, reached, is_distinct, nodes_of}
 use Rattle.fine_model.specs.Buckets.{Began}
 use Rattle.fine_model.specs.declared.law.RoomState.{RoomState}
 use Rattle.fine_places.specs.declared.model.Placed.{Placed}

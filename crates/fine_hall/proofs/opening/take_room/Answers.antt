@@ -1,4 +1,4 @@
-use Rattle.std.proofs.Common.{◌++◌, ◌∷◌, [], None, sym, ap, ◌∙◌, subst, replicate}
+use Rattle.std.proofs.Common.{◌++◌, ◌∷◌, [], None, sym, ap, ◌∙◌, replicate}
 use Rattle.fine_hall.specs.Opening.{room_slot}
 use Rattle.fine_hall.proofs.Laying.{last_same, one_room}
 use Rattle.fine_hall.proofs.opening.take_room.Goals as goal

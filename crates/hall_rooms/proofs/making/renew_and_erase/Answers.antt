@@ -11,7 +11,7 @@ refresh_all-requires-clause-turn g c κs within = c.in-Ok.ensures.shows.0
 pub returns-in-Ok-clause-goes : goal.returns-in-Ok-clause-goes
 returns-in-Ok-clause-goes g c =
     let x = beginning_of c.args.hall.now in
-    turns_then x c.args.pass.now c.show.new.pass c.refresh_all.new.pass (stays_on x c.args.pass.now c.show.new.pass c.show.ensures.pass.1 c.show.ensures.stays) c.refresh_all.ensures.goes
+    turns_then x c.args.pass.now c.show.new.pass c.refresh_all.new.pass (stays_on x c.args.pass.now c.show.new.pass c.show.ensures.stays.pass.1 c.show.ensures.stays.stays) c.refresh_all.ensures.goes
 
 pub returns-in-Ok-clause-job : goal.returns-in-Ok-clause-job
 returns-in-Ok-clause-job g c =
@@ -24,7 +24,7 @@ returns-in-Ok-clause-round g c =
     c.erase_and_look.result c.erase_and_look.ensures
 
 pub returns-in-Err-clause-goes : goal.returns-in-Err-clause-goes
-returns-in-Err-clause-goes g c = stays_on (beginning_of c.args.hall.now) c.args.pass.now c.show.new.pass c.show.ensures.pass.1 c.show.ensures.stays
+returns-in-Err-clause-goes g c = stays_on (beginning_of c.args.hall.now) c.args.pass.now c.show.new.pass c.show.ensures.stays.pass.1 c.show.ensures.stays.stays
 
 pub returns-in-Err-clause-renews : goal.returns-in-Err-clause-renews
 returns-in-Err-clause-renews g c = each_none (beginning_of c.args.hall.now) c.args.others.now

@@ -1,8 +1,7 @@
 -- A hall is opened.
 use denote.Param.Send.{sendable}
-use Rattle.std.proofs.Common.{◌≡◌, ◌++◌, ◌*◌, None, arith, false, replicate, reverse, refl, ap, subst, sym, ◌∙◌}
-use Rattle.epoch_room.specs.Value.{RoomValue}
-use Rattle.hall_rooms.specs.Opening.{LacksViews, MakesMiddles, OpensHall}
+use Rattle.std.proofs.Common.{◌++◌, ◌*◌, None, arith, replicate, reverse, refl, subst, sym, ◌∙◌}
+use Rattle.hall_rooms.specs.Opening.{LacksViews, OpensHall}
 use Rattle.hall_rooms.proofs.Crossing.{bucket_send, in_hall_send}
 use Rattle.hall_rooms.proofs.Fresh.{MadeViews, alone_seated, fresh_hall, lacks_hall, lacks_same, lacks_seated, made_views, opens}
 use Rattle.hall_rooms.proofs.opening.open_hall.Goals as goal

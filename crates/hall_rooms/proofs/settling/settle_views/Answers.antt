@@ -25,5 +25,5 @@ returns-clause-settles g c =
       turn = ended.0;
       same_held = ended.1;
       job = job_kept c.room.result.now c.erase_unheld-erased.new.room c.erase_unheld-erased.result did;
-      settles = settles_turn x c.room.result.now c.erase_unheld-erased.new.room c.args.pass.now c.begin_turn-held.new.pass c.end_turn.new.pass b c.end_turn.ensures.pass.1 gave c.erase_unheld-erased.result did;
+      did = settles_turn x c.room.result.now c.erase_unheld-erased.new.room c.args.pass.now c.begin_turn-held.new.pass c.end_turn.new.pass b c.end_turn.ensures.pass.1 gave c.erase_unheld-erased.result did;
     }

@@ -25,12 +25,12 @@ returns-clause-seals g c =
     let e = c.show-shown.ensures in
     let t = in_turn x found new q c.show-shown.result e.shows in
     let gave = c.end_turn.ensures.gives t.0 t.1 in
-    let ended = turn_taken x found new c.args.pass.now p₁ q c.end_turn.new.pass b e.pass.1 c.end_turn.ensures.pass.1 e.stays t.0 gave in
+    let ended = turn_taken x found new c.args.pass.now p₁ q c.end_turn.new.pass b e.stays.pass.1 c.end_turn.ensures.pass.1 e.stays.stays t.0 gave in
     record {
       found = found.room;
       room = new.room;
       turn = ended.0;
       same_held = ended.1;
       job = e.job;
-      seals = seals_turn x found new c.args.pass.now p₁ q c.end_turn.new.pass b e.pass.1 c.end_turn.ensures.pass.1 e.stays c.show-shown.result e.shows gave;
+      did = seals_turn x found new c.args.pass.now p₁ q c.end_turn.new.pass b e.stays.pass.1 c.end_turn.ensures.pass.1 e.stays.stays c.show-shown.result e.shows gave;
     }

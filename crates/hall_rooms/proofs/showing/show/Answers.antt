@@ -1,6 +1,6 @@
 -- What waits is sealed, posted to all seats, and published.
 use denote.Param.Send.{sendable}
-use Rattle.std.proofs.Common.{◌≡◌, ℕ, Err, arith, sym, subst}
+use Rattle.std.proofs.Common.{◌≡◌, ℕ, Err, arith, sym, subst, ◌∙◌}
 use Rattle.std.specs.Prelude.{Result}
 use Rattle.std.proofs.lemmas.Result.{err_from_is_err_and}
 use Rattle.epoch_room.specs.declared.answers.RoomFault.{RoomFault}
@@ -55,7 +55,10 @@ returns-clause-stays g c =
     let low = b.turn.is_turn.top in
     let top = b.turn.may.top in
     let is = (counted c.post_to_each.new.room.room c.counts-epoch.result c.counts-epoch.ensures.counts).1 in
-    stays_more c.args.pass.now c.post_to_each.new.pass c.publish.new.pass c.post_to_each.ensures.stays (stays_published c.counts-epoch.result.sealed c.post_to_each.new.pass c.publish.new.pass (omega (arith, low, top, is)) c.publish.ensures.publishes)
+    record {
+      pass = (c.publish.ensures.pass.0, c.publish.ensures.pass.1 ∙ c.post_to_each.ensures.stays.pass.1);
+      stays = stays_more c.args.pass.now c.post_to_each.new.pass c.publish.new.pass c.post_to_each.ensures.stays.stays (stays_published c.counts-epoch.result.sealed c.post_to_each.new.pass c.publish.new.pass (omega (arith, low, top, is)) c.publish.ensures.publishes);
+    }
 
 pub returns-clause-shows : goal.returns-clause-shows
 returns-clause-shows g c =

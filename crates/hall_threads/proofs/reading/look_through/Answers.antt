@@ -1,14 +1,12 @@
 -- A look at the mailbox, and a read through the front.
-use Rattle.std.proofs.Common.{◌≡◌, sym, ap, ◌∙◌, refl, arith}
+use Rattle.std.proofs.Common.{sym, ap, ◌∙◌, refl}
 use Rattle.std.proofs.lemmas.Result.{IfOk-weaker, on_err_weaker}
 use lib.ListN.{get_elem?}
 use Rattle.fine_hall.specs.Halls.{begun}
-use Rattle.fine_hall.specs.Passes.{first_mine, front_of, troubles}
+use Rattle.fine_hall.specs.Passes.{first_mine}
 use Rattle.fine_hall.specs.Turns.{commits, room_after}
 use Rattle.fine_hall.proofs.Fronts.{front_goes_on}
-use Rattle.fine_hall.proofs.Troubles.{troubles_law}
 use Rattle.hall_threads.specs.Days.{room_state, room_log, view_state}
-use Rattle.hall_threads.specs.Readings.{IsFront, MustFail, TellsLeaf}
 use Rattle.hall_threads.proofs.Fronts.{looked_err, looked_ok, same_known}
 use Rattle.hall_threads.proofs.Rounds.{goes_same, goes_more}
 use Rattle.hall_threads.proofs.reading.look_through.Goals as goal

@@ -7,7 +7,7 @@ use Rattle.fine_hall.specs.Halls.{begun, MayGiveRoom}
 use Rattle.fine_hall.specs.Turns.{commits, added, is_in}
 use Rattle.fine_hall.proofs.Troubles.{troubles_law}
 use Rattle.fine_hall.specs.Passes.{known, seen, mine, published, HasPlace}
-use Rattle.hall_threads.specs.Days.{key_bucket, put_entry, put_calls, room_state, room_log, day_stands, job_of, view_state, Appends}
+use Rattle.hall_threads.specs.Days.{key_bucket, put_entry, put_calls, room_state, room_log, day_stands, job_of, view_state}
 use Rattle.hall_threads.proofs.Idle.{near, bucket_had, room_free, room_held, bucket_held, bucket_still, idle_again}
 use Rattle.hall_threads.proofs.Rounds.{job_seen}
 use Rattle.hall_threads.proofs.Shown.{none_failed}

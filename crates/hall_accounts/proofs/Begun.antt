@@ -11,6 +11,7 @@ use Rattle.fine_model.specs.declared.law.RoomState.{RoomState}
 use Rattle.node_cache.specs.Cache.{Cache}
 use Rattle.partition_hold.specs.Views.{ViewValue, state_of}
 use Rattle.epoch_room.specs.Value.{RoomValue}
+use Rattle.fine_places.proofs.Elements.{elem_at}
 use Rattle.fine_hall.specs.declared.pass.Pass.{Pass}
 use Rattle.fine_hall.specs.Halls.{AreAll, HallOf}
 use Rattle.fine_hall.specs.Opening.{HandedOut}
@@ -19,19 +20,6 @@ use Rattle.hall_rooms.specs.Opening.{OpensHall}
 use Rattle.hall_rooms.specs.Rooms.{RoomPass, beginning_of}
 use Rattle.hall_accounts.specs.Going.{IsAtRest}
 use Rattle.hall_accounts.specs.Halls.{AreFresh}
-
-elem_at : {A : Type 0} (l : List A) (i : ℕ) (d : A) → i < length l → get_elem? l i ≡ some (get_or l i d)
-elem_at [] i d lt = absurd (omega (arith, lt))
-elem_at (x ∷ l) zero d lt = refl
-elem_at (x ∷ l) (suc i) d lt = elem_at l i d (omega (arith, lt))
-
-read_at : {A : Type 0} (l : List A) (i : ℕ) (p : A) → get_elem? l i ≡ some p → (i < length l) × (get_or l i p ≡ p)
-read_at [] i p e = absurd (some-ne-none p (sym e))
-read_at (x ∷ l) zero p e = (omega arith, some-injective x p e)
-read_at (x ∷ l) (suc i) p e = let r = read_at l i p e in (let lt = r.0 in omega (arith, lt), r.1)
-
-pub each_of : {A : Type 0} (P : A → Type 0) (l : List A) → All P l → (i : ℕ) (p : A) → get_elem? l i ≡ some p → P p
-each_of P l all i p at = let r = read_at l i p at in subst P r.1 (all i p r.0)
 
 -- a list of two, by what was popped off
 pub two_of : {A : Type 0} (l rest less : List A) (a b : A) → length l ≡ 2 → l ≡ rest ++ b ∷ [] → rest ≡ less ++ a ∷ [] → l ≡ a ∷ b ∷ []
@@ -49,14 +37,6 @@ first_of_two P l a b e all = All-head P a (b ∷ []) (subst (All P) e all)
 
 pub second_of_two : {A : Type 0} (P : A → Type 0) (l : List A) (a b : A) → l ≡ a ∷ b ∷ [] → All P l → P b
 second_of_two P l a b e all = All-head P b [] (All-tail P a (b ∷ []) (subst (All P) e all))
-
-pub two_cases : {A : Type 0} (a b : A) (l : List A) (P : A → Type 0) → l ≡ a ∷ b ∷ [] → P a → P b → (i : ℕ) (p : A) → get_elem? l i ≡ some p → P p
-two_cases {A} a b l P is pa pb i p at = go i (ap (λ (m : List A). get_elem? m i) (sym is) ∙ at)
-  where
-    go : (i : ℕ) → get_elem? (a ∷ b ∷ []) i ≡ some p → P p
-    go zero e = subst P (some-injective a p e) pa
-    go (suc zero) e = subst P (some-injective b p e) pb
-    go (suc (suc n)) e = absurd (some-ne-none p (sym e))
 
 module _ {Q : Type 0} (hall : HallOf RoomValue Cache ViewValue Q) (fronts : List ViewValue) (passes : List RoomPass) (out : HandedOut state_of hall.table.shared.table_id (beginning_of hall) fronts passes) where
   pub all_idle : (beginning_of hall).room.job ≡ None → All (IsAtRest hall) passes
@@ -91,16 +71,6 @@ one_case {A} a l P is pa i p at = go i (ap (λ (m : List A). get_elem? m i) (sym
     go : (i : ℕ) → get_elem? (a ∷ []) i ≡ some p → P p
     go zero e = subst P (some-injective a p e) pa
     go (suc n) e = absurd (some-ne-none p (sym e))
-
--- the numbers of passes that came back
-pub same_numbers : {V : Type 0} (before after : List (Pass V)) → length after ≡ length before → ((i : ℕ) (d : Pass V) → i < length before → (get_or after i d).number ≡ (get_or before i d).number) → map (λ (p : Pass V). p.number) after ≡ map (λ (p : Pass V). p.number) before
-same_numbers [] [] long each = refl
-same_numbers [] (q ∷ after) long each = absurd (omega (arith, long))
-same_numbers (p ∷ before) [] long each = absurd (omega (arith, long))
-same_numbers (p ∷ before) (q ∷ after) long each =
-    let first = each 0 p (omega arith) in
-    let rest = same_numbers before after (omega (arith, long)) (λ i d lt. each (suc i) d (omega (arith, lt))) in
-    λ i. first i ∷ rest i
 
 pub all_back : {V : Type 0} (n : ℕ) (before after : List (Pass V)) → map (λ (p : Pass V). p.number) after ≡ map (λ (p : Pass V). p.number) before → AreAll n before → AreAll n after
 all_back n before after same = subst (λ (l : List ℕ). IsPermutation l (range_with_len 1 n)) (sym same)

@@ -1,20 +1,19 @@
 -- A new disk has no parts, and a room on it stands for what it shows.
-use Rattle.std.proofs.Common.{◌≡◌, ℕ, zero, suc, ◌+◌, ◌≤◌, false, List, [], length, Option, None, Some, Ok, refl, sym, ap, subst, ◌∙◌, arith, le_refl, ne_eqb}
-use Rattle.std.specs.Prelude.{if◌then◌else◌, option_map, replicate}
+use Rattle.std.proofs.Common.{◌≡◌, ℕ, zero, suc, ◌+◌, ◌≤◌, false, List, [], length, Option, None, Some, Ok, refl, sym, ap, subst, ◌∙◌, arith}
+use Rattle.std.specs.Prelude.{option_map, replicate}
 use Rattle.std.specs.List.{list_all}
 use Rattle.fine_model.specs.Boards.{is_empty}
 use Rattle.fine_model.specs.declared.Row.{Row}
 use Rattle.fine_model.specs.declared.Part.{Part}
 use Rattle.fine_model.specs.Buckets.{Began}
-use Rattle.fine_model.specs.declared.Node.TheVariants as node
 use Rattle.fine_model.specs.declared.law.Origin.{Origin}
-use Rattle.fine_model.specs.Nodes.{content, replay}
 use Rattle.fine_model.specs.Regions.{region_of, is_sealed}
 use Rattle.fine_model.specs.Pushed.{and_then}
-use Rattle.fine_model.specs.Trees.{IsSound, IsSubtree, is_distinct, nodes_of, reached}
+use Rattle.fine_model.specs.Trees.{is_distinct}
 use Rattle.fine_model.specs.Chain.{AreRowsOf, Shows, parts_from, apart, chain_of, chain, taken}
 use Rattle.log_partition.proofs.Heads.{in_closed}
 use Rattle.log_disk.specs.Disk.{Disk, Told, zeros, told_anew, new_disk}
+use Rattle.fine_hall.proofs.EmptyLog.{none_sound}
 use Rattle.epoch_room.specs.Meaning.{Stands, StandsAtFirst, origin_of}
 use Rattle.epoch_room.specs.Value.{RoomValue, made}
 use Rattle.epoch_room.specs.Whole.{AreParts}
@@ -48,14 +47,6 @@ new_parts regions len = record {
   rising = tt;
   told = record { is_chain = no_chain regions len; leads = λ r h. zero_region regions len r; headers = tt };
 }
-
-unused : (bucket n : ℕ) → 2 ≤ n → nodes_of [] bucket n ≡ (node.Leaf [], 0)
-unfolding content replay
-unused bucket n least = ap (λ b. if b then (node.Head 1 2 1, 0) else (node.Leaf [], 0)) (ne_eqb n 0 (λ e. omega (arith, e, least)))
-
-none_sound : IsSound []
-unfolding content replay IsSubtree reached is_distinct
-none_sound = record { fit = λ bucket low. record { deep = le_refl 1; subtree = refl; distinct = refl; below = (omega arith, tt); unused = unused bucket } }
 
 shows_none : (regions len : ℕ) → Shows len (zeros regions len) 0 []
 unfolding AreRowsOf

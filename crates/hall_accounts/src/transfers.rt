@@ -122,6 +122,29 @@ pub fn commit<D: LogDisk, W: Wait>(
     }
 }
 
+/// Commits a transaction whose calls were answered, or gives it up.
+fn finish<D: LogDisk, W: Wait>(
+    rt: &W,
+    txn: &mut Txn,
+    hall: &RoomHall<D>,
+    pass: &mut Pass<View<D::Eye>>,
+    answered: Result<(), TxnFault>,
+    keep: usize,
+) -> Ended
+    requires going { IsGoing hall.now txn.old pass.old }
+    ensures idle { IsAtRest hall.now pass.new × (pass.new.number ≡ pass.old.number) }
+    ensures free { IsFree txn.new }
+    ensures adds { Adds pass.old pass.new result }
+{
+    match answered {
+        Ok(()) => commit(rt, txn, hall, pass, keep),
+        Err(fault) => {
+            give_up(txn, hall, pass, keep);
+            Ended::Refused(fault)
+        }
+    }
+}
+
 /// One transaction of these calls.
 pub fn run<D: LogDisk, W: Wait>(
     rt: &W,
@@ -138,13 +161,8 @@ pub fn run<D: LogDisk, W: Wait>(
     ensures free { IsFree txn.new }
     ensures adds { Adds pass.old pass.new result }
 {
-    match answer_all(txn, hall, pass, calls) {
-        Ok(()) => commit(rt, txn, hall, pass, keep),
-        Err(fault) => {
-            give_up(txn, hall, pass, keep);
-            Ended::Refused(fault)
-        }
-    }
+    let answered = answer_all(txn, hall, pass, calls);
+    finish(rt, txn, hall, pass, answered, keep)
 }
 
 /// Reads two balances.
@@ -204,13 +222,8 @@ pub fn transfer<D: LogDisk, W: Wait>(
     ensures free { IsFree txn.new }
     ensures adds { Adds pass.old pass.new result }
 {
-    match move_one(alloc, txn, hall, pass, from, to) {
-        Ok(()) => commit(rt, txn, hall, pass, 0),
-        Err(fault) => {
-            give_up(txn, hall, pass, 0);
-            Ended::Refused(fault)
-        }
-    }
+    let answered = move_one(alloc, txn, hall, pass, from, to);
+    finish(rt, txn, hall, pass, answered, 0)
 }
 
 /// Seals what waits, and posts views of it to all seats, in a turn without an entry.

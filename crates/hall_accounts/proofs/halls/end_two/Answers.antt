@@ -1,7 +1,8 @@
 use Rattle.std.proofs.Common.{subst}
 use Rattle.hall_rooms.specs.Closing.{ClosesHall}
 use Rattle.hall_rooms.specs.Rooms.{IsIdle, beginning_of}
-use Rattle.hall_accounts.proofs.Begun.{both_there, two_cases}
+use Rattle.hall_accounts.proofs.Begun.{both_there}
+use Rattle.fine_places.proofs.Elements.{two_cases}
 use Rattle.hall_accounts.proofs.halls.end_two.Goals as goal
 
 pub close_hall-requires-clause-passes : goal.close_hall-requires-clause-passes

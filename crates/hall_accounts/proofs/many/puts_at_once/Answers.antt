@@ -1,7 +1,8 @@
 use Rattle.std.proofs.Common.{arith}
 use Rattle.hall_rooms.specs.Rooms.{IsIdle, beginning_of}
 use Rattle.hall_accounts.specs.Going.{IsAtRest}
-use Rattle.hall_accounts.proofs.Begun.{all_back, each_of, same_numbers}
+use Rattle.hall_accounts.proofs.Begun.{all_back}
+use Rattle.fine_places.proofs.Elements.{each_of, same_each}
 use Rattle.hall_accounts.proofs.many.puts_at_once.Goals as goal
 
 pub close_hall-requires-clause-passes : goal.close_hall-requires-clause-passes
@@ -15,4 +16,4 @@ close_hall-requires-clause-all g c κs =
     let len = back.len in
     let counted = c.args.opened.passes.ok.0 in
     let came = c.in-Ok.passes.ok.0 in
-    all_back (beginning_of c.args.opened.hall).seats before after (same_numbers before after (omega (arith, len, counted, came)) (λ i d lt. back.numbers i d (omega (arith, lt, counted)))) c.requires.all
+    all_back (beginning_of c.args.opened.hall).seats before after (same_each (λ p. p.number) before after (omega (arith, len, counted, came)) (λ i d lt. back.numbers i d (omega (arith, lt, counted)))) c.requires.all

@@ -23,6 +23,7 @@ use Rattle.epoch_room.specs.declared.answers.RoomFault.TheVariants as room_fault
 use Rattle.epoch_room.proofs.Behind.{keeps_none}
 use Rattle.epoch_room.proofs.Joining.{keeps_then}
 use Rattle.epoch_room.proofs.Viewing.{empty_is}
+use Rattle.fine_places.proofs.Elements.{one_more}
 use Rattle.fine_places.proofs.Lists.{some_same}
 use Rattle.fine_hall.specs.declared.law.Beginning.{Beginning}
 use Rattle.fine_hall.specs.Laws.{beginning}
@@ -189,6 +190,24 @@ lacks_view old mid new views seat (room_fault.Shut epoch) out same m = subst (λ
 })
 lacks_view old mid new views seat room_fault.NoMemory out same m = subst (λ r. LacksViews old r views room_fault.NoMemory) (sym m.1) (record { out = out; cause = same })
 
+-- ---- lists that a loop over the seats fills
+
+-- The loop has come to a seat: there is a view for each one before it, of which this holds, and memory for all.
+pub record Filling (so : List ViewValue → Type 0) (seats i : ℕ) (views : List ViewValue) (len capacity : ℕ) : Type 0 where
+  pub made : so views
+  pub long : length views ≡ i
+  pub count : len ≡ i
+  pub spare : seats ≤ capacity
+
+pub filling_none : (so : List ViewValue → Type 0) (seats : ℕ) (views : List ViewValue) (len capacity : ℕ) → views ≡ [] → len ≡ length views → seats ≤ capacity → so [] → Filling so seats 0 views len capacity
+filling_none so seats views len capacity none ok spare made = record { made = subst so (sym none) made; long = ap length none; count = ok ∙ ap length none; spare = spare }
+
+pub filling_next : (so so' : List ViewValue → Type 0) (seats i : ℕ) (views views' : List ViewValue) (v : ViewValue) (len len' capacity capacity' : ℕ) → Filling so seats i views len capacity
+    → views' ≡ views ++ v ∷ [] → len' ≡ len + 1 → capacity' ≡ capacity → so' (views ++ v ∷ []) → Filling so' seats (i + 1) views' len' capacity'
+filling_next so so' seats i views views' v len len' capacity capacity' f is more same made =
+    let n = one_more views views' v i len len' is f.long f.count more in
+    record { made = subst so' (sym is) made; long = n.0; count = n.1; spare = let s = f.spare in omega (arith, s, same) }
+
 -- ---- fronts
 
 pub fronts_none : (room : RoomValue) (seats : ℕ) → IsWhole room → room.room.board ≡ replicate (3 * seats) None → MakesFronts room room seats []
@@ -237,7 +256,7 @@ module _ (old mid : RoomValue) (seats : ℕ) (fronts : List ViewValue) (f : Make
         ∙ (sym (append_assoc (front_board (map state_of fronts)) (Some (opened v.eye) ∷ None ∷ None ∷ []) (replicate left None))
         ∙ (λ i. (sym (ap front_board (map-append state_of fronts (v ∷ [])) ∙ front_more (map state_of fronts) (state_of v))) i ++ replicate (3 * (seats - sym (length-append fronts (v ∷ [])) i)) None))))
 
-    pub fronts_next : MakesFronts old new seats (fronts ++ v ∷ [])
+    fronts_next : MakesFronts old new seats (fronts ++ v ∷ [])
     fronts_next = record {
       out = subst (HasViews old new) (sym (snoc_reversed fronts v)) (out_more old mid new (reverse fronts) alone f.out f.same (length fronts + 1) v m);
       same = same_more old mid new (reverse fronts) alone f.out f.same (length fronts + 1) v m;
@@ -251,6 +270,9 @@ pub front_room : (old mid : RoomValue) (seats i : ℕ) (fronts : List ViewValue)
 front_room old mid seats i fronts f long lt =
     let less : length fronts < seats = omega (arith, long, lt) in
     subst (λ n. (3 * (n + 1) ≤ length mid.room.board) × IsSome (empty_of mid.room.board (n + 1))) long (front_long old mid seats fronts f less, front_empty old mid seats fronts f less)
+
+pub front_made : (old mid new : RoomValue) (seats i : ℕ) (fronts : List ViewValue) (v : ViewValue) → MakesFronts old mid seats fronts → length fronts ≡ i → i < seats → StandsAlone old → MakesView mid new (i + 1) v → MakesFronts old new seats (fronts ++ v ∷ [])
+front_made old mid new seats i fronts v f long lt alone m = fronts_next old mid seats fronts f (omega (arith, long, lt)) new alone v (subst (λ n. MakesView mid new (n + 1) v) (sym long) m)
 
 -- ---- middles
 
@@ -306,7 +328,7 @@ module _ (old mid : RoomValue) (fronts middles : List ViewValue) (f : MakesMiddl
         ∙ (sym (append_assoc (first_board fs ms) (Some next.front.eye ∷ Some (opened v.eye) ∷ None ∷ []) rest)
         ∙ (λ i. (sym (ap (first_board fs) (map-append state_of middles (v ∷ [])) ∙ next.more (state_of v))) i ++ front_board (drop (more i) fs)))))
 
-    pub middles_next : MakesMiddles old new fronts (middles ++ v ∷ [])
+    middles_next : MakesMiddles old new fronts (middles ++ v ∷ [])
     middles_next = record {
       out = subst (λ l. HasViews old new (l ++ reverse fronts)) (sym (snoc_reversed middles v)) (out_more old mid new (reverse middles ++ reverse fronts) alone f.out f.same (length middles + 1) v m);
       same = same_more old mid new (reverse middles ++ reverse fronts) alone f.out f.same (length middles + 1) v m;
@@ -320,6 +342,10 @@ pub middle_room : (old mid : RoomValue) (seats i : ℕ) (fronts middles : List V
 middle_room old mid seats i fronts middles many f long lt =
     let less : length middles < length fronts = omega (arith, many, long, lt) in
     subst (λ n. (3 * (n + 1) ≤ length mid.room.board) × IsSome (empty_of mid.room.board (n + 1))) long (middle_long old mid fronts middles f less, middle_empty old mid fronts middles f less)
+
+pub middle_made : (old mid new : RoomValue) (seats i : ℕ) (fronts middles : List ViewValue) (v : ViewValue) → length fronts ≡ seats → MakesMiddles old mid fronts middles → length middles ≡ i → i < seats → StandsAlone old → MakesView mid new (i + 1) v
+    → MakesMiddles old new fronts (middles ++ v ∷ [])
+middle_made old mid new seats i fronts middles v many f long lt alone m = middles_next old mid fronts middles f (omega (arith, many, long, lt)) new alone v (subst (λ n. MakesView mid new (n + 1) v) (sym long) m)
 
 -- ---- no hall
 

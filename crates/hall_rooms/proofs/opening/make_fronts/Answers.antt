@@ -1,24 +1,14 @@
 -- A front is made for each seat.
-use Rattle.std.proofs.Common.{◌≡◌, ◌+◌, ◌∷◌, [], Err, arith, length, reverse, ap, subst, sym, ◌∙◌, length-append}
+use Rattle.std.proofs.Common.{◌≡◌, ◌+◌, Err, arith, reverse, subst, sym}
 use Rattle.std.specs.Prelude.{Result}
 use Rattle.std.proofs.lemmas.Result.{err_from_is_err_and}
 use Rattle.epoch_room.specs.declared.answers.RoomFault.{RoomFault}
-use Rattle.hall_rooms.specs.Opening.{MakesFronts, MakesFrontsOr}
-use Rattle.hall_rooms.specs.Views.{MakesView}
-use Rattle.hall_rooms.proofs.Fresh.{front_room, fronts_next, fronts_none, lacks_view}
+use Rattle.hall_rooms.specs.Opening.{MakesFrontsOr}
+use Rattle.hall_rooms.proofs.Fresh.{filling_next, filling_none, front_made, front_room, fronts_none, lacks_view}
 use Rattle.hall_rooms.proofs.opening.make_fronts.Goals as goal
 
 pub loop-i-init : goal.loop-i-init
-loop-i-init g c =
-    let none = c.requires.fronts.0 in
-    let long : length c.args.fronts.now.items ≡ 0 = ap length none in
-    let ok = c.args.fronts.now.ok in
-    record {
-      made = subst (MakesFronts c.args.room.now c.args.room.now c.args.seats) (sym none) (fronts_none c.args.room.now c.args.seats c.counts-whole.ensures.whole c.requires.board);
-      long = long;
-      count = omega (arith, ok, long);
-      spare = c.requires.fronts.1;
-    }
+loop-i-init g c = filling_none _ c.args.seats c.args.fronts.now.items _ _ c.requires.fronts.0 c.args.fronts.now.ok.0 c.requires.fronts.1 (fronts_none c.args.room.now c.args.seats c.counts-whole.ensures.whole c.requires.board)
 
 pub make_view-requires-clause-seats : goal.make_view-requires-clause-seats
 make_view-requires-clause-seats g c κs within =
@@ -33,22 +23,10 @@ make_view-requires-clause-empty g c κs within = let i = c.loop-i.invariant in (
 pub loop-i-preserved : goal.loop-i-preserved
 loop-i-preserved g c =
     let i = c.loop-i.invariant in
-    let long = i.long in
-    let test = c.loop-i-test.true in
     let v = c.in_ok-make_view.field-0 in
     let p = c.push_reserved.ensures in
-    let m = subst (λ n. MakesView c.loop-i.room c.make_view.new.room (n + 1) v) (sym long) c.in_ok-make_view.ensures in
-    let more = ap length p.items ∙ length-append c.loop-i.fronts.items (v ∷ []) in
-    let len = p.len in
-    let count = i.count in
-    let spare = i.spare in
-    let capacity = p.capacity in
-    record {
-      made = subst (MakesFronts c.args.room.now c.make_view.new.room c.args.seats) (sym p.items) (fronts_next c.args.room.now c.loop-i.room c.args.seats c.loop-i.fronts.items i.made (omega (arith, long, test)) c.make_view.new.room c.requires.stands v m);
-      long = omega (arith, more, long);
-      count = omega (arith, len, count);
-      spare = omega (arith, spare, capacity);
-    }
+    filling_next _ _ c.args.seats c.loop-i.i c.loop-i.fronts.items c.push_reserved.new.self.items v _ _ _ _ i p.items p.len p.capacity
+    (front_made c.args.room.now c.loop-i.room c.make_view.new.room c.args.seats c.loop-i.i c.loop-i.fronts.items v i.made i.long c.loop-i-test.true c.requires.stands c.in_ok-make_view.ensures)
 
 pub returns-in_err-make_view : goal.returns-in_err-make_view
 returns-in_err-make_view g c =

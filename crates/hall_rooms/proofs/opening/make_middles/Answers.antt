@@ -1,24 +1,14 @@
 -- A middle is made for each seat.
-use Rattle.std.proofs.Common.{◌≡◌, ◌++◌, ◌+◌, ◌∷◌, [], Err, arith, length, reverse, ap, subst, sym, ◌∙◌, length-append}
+use Rattle.std.proofs.Common.{◌≡◌, ◌++◌, ◌+◌, Err, arith, reverse, subst, sym}
 use Rattle.std.specs.Prelude.{Result}
 use Rattle.std.proofs.lemmas.Result.{err_from_is_err_and}
 use Rattle.epoch_room.specs.declared.answers.RoomFault.{RoomFault}
-use Rattle.hall_rooms.specs.Opening.{MakesMiddles, MakesMiddlesOr}
-use Rattle.hall_rooms.specs.Views.{MakesView}
-use Rattle.hall_rooms.proofs.Fresh.{lacks_view, middle_room, middles_next, middles_none}
+use Rattle.hall_rooms.specs.Opening.{MakesMiddlesOr}
+use Rattle.hall_rooms.proofs.Fresh.{filling_next, filling_none, lacks_view, middle_made, middle_room, middles_none}
 use Rattle.hall_rooms.proofs.opening.make_middles.Goals as goal
 
 pub loop-i-init : goal.loop-i-init
-loop-i-init g c =
-    let none = c.requires.middles.0 in
-    let long : length c.args.middles.now.items ≡ 0 = ap length none in
-    let ok = c.args.middles.now.ok in
-    record {
-      made = λ old fronts alone many f. subst (MakesMiddles old c.args.room.now fronts) (sym none) (middles_none old c.args.room.now c.args.seats fronts many f);
-      long = long;
-      count = omega (arith, ok, long);
-      spare = c.requires.middles.1;
-    }
+loop-i-init g c = filling_none _ c.args.seats c.args.middles.now.items _ _ c.requires.middles.0 c.args.middles.now.ok.0 c.requires.middles.1 (λ old fronts alone many f. middles_none old c.args.room.now c.args.seats fronts many f)
 
 pub make_view-requires-clause-seats : goal.make_view-requires-clause-seats
 make_view-requires-clause-seats g c κs within =
@@ -38,23 +28,10 @@ make_view-requires-clause-empty g c κs within =
 pub loop-i-preserved : goal.loop-i-preserved
 loop-i-preserved g c =
     let i = c.loop-i.invariant in
-    let long = i.long in
-    let test = c.loop-i-test.true in
     let v = c.in_ok-make_view.field-0 in
     let p = c.push_reserved.ensures in
-    let m = subst (λ n. MakesView c.loop-i.room c.make_view.new.room (n + 1) v) (sym long) c.in_ok-make_view.ensures in
-    let more = ap length p.items ∙ length-append c.loop-i.middles.items (v ∷ []) in
-    let len = p.len in
-    let count = i.count in
-    let spare = i.spare in
-    let capacity = p.capacity in
-    record {
-      made = λ old fronts alone many f. subst (MakesMiddles old c.make_view.new.room fronts) (sym p.items)
-          (middles_next old c.loop-i.room fronts c.loop-i.middles.items (i.made old fronts alone many f) (omega (arith, long, test, many)) c.make_view.new.room alone v m);
-      long = omega (arith, more, long);
-      count = omega (arith, len, count);
-      spare = omega (arith, spare, capacity);
-    }
+    filling_next _ _ c.args.seats c.loop-i.i c.loop-i.middles.items c.push_reserved.new.self.items v _ _ _ _ i p.items p.len p.capacity
+    (λ old fronts alone many f. middle_made old c.loop-i.room c.make_view.new.room c.args.seats c.loop-i.i fronts c.loop-i.middles.items v many (i.made old fronts alone many f) i.long c.loop-i-test.true alone c.in_ok-make_view.ensures)
 
 pub returns-in_err-make_view : goal.returns-in_err-make_view
 returns-in_err-make_view g c old fronts alone many f =

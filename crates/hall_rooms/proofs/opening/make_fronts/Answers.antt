@@ -23,10 +23,9 @@ make_view-requires-clause-empty g c κs within = let i = c.loop-i.invariant in (
 pub loop-i-preserved : goal.loop-i-preserved
 loop-i-preserved g c =
     let i = c.loop-i.invariant in
-    let v = c.in_ok-make_view.field-0 in
     let p = c.push_reserved.ensures in
-    filling_next _ _ c.args.seats c.loop-i.i c.loop-i.fronts.items c.push_reserved.new.self.items v _ _ _ _ i p.items p.len p.capacity
-    (front_made c.args.room.now c.loop-i.room c.make_view.new.room c.args.seats c.loop-i.i c.loop-i.fronts.items v i.made i.long c.loop-i-test.true c.requires.stands c.in_ok-make_view.ensures)
+    filling_next _ _ c.args.seats c.loop-i.i c.loop-i.fronts.items c.push_reserved.new.self.items _ _ _ _ _ i p.items p.len p.capacity
+    (front_made c.args.room.now c.loop-i.room c.make_view.new.room c.args.seats c.loop-i.i c.loop-i.fronts.items c.in_ok-make_view.field-0 i.made i.long c.loop-i-test.true c.requires.stands c.in_ok-make_view.ensures)
 
 pub returns-in_err-make_view : goal.returns-in_err-make_view
 returns-in_err-make_view g c =

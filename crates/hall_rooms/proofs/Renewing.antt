@@ -7,7 +7,7 @@ use lib.ListN.{get_elem?}
 use Rattle.atomic_table.specs.Seated.{TableId}
 use Rattle.atomic_table.proofs.Lists.{set_else, set_here}
 use Rattle.fine_model.proofs.Goings.{job_itself}
-use Rattle.partition_hold.specs.Views.{state_of}
+use Rattle.partition_hold.specs.Views.{ViewValue, state_of}
 use Rattle.epoch_room.specs.Value.{RoomValue}
 use Rattle.epoch_room.specs.Whole.{IsWhole}
 use Rattle.epoch_room.proofs.Behind.{keeps_none}
@@ -18,12 +18,13 @@ use Rattle.fine_boxes.specs.declared.model.TurnNote.{TurnNote}
 use Rattle.fine_hall.specs.declared.law.Beginning.{Beginning}
 use Rattle.fine_hall.specs.Turns.{failed_of, room_after}
 use Rattle.fine_hall.specs.Passes.{reads, view_of, HasPlace, IsHolder, IsPass}
-use Rattle.fine_hall.specs.Halls.{FindsStale, IsAhead, Refreshes}
+use Rattle.fine_hall.specs.Halls.{FindsStale, HallOf, IsAhead, Refreshes}
+use Rattle.node_cache.specs.Cache.{Cache}
 use Rattle.fine_hall.proofs.Seeing.{sees_itself, sees_on}
 use Rattle.fine_hall.proofs.Troubles.{sees_law, troubles_law}
-use Rattle.hall_rooms.specs.Rooms.{RoomPass}
-use Rattle.hall_rooms.specs.Steps.{InTurn, IsCleanTurn, Stays}
-use Rattle.hall_rooms.specs.Making.{AllAhead, Renews, RenewsBelow, RenewsEach, TurnsOn}
+use Rattle.hall_rooms.specs.Rooms.{RoomPass, beginning_of}
+use Rattle.hall_rooms.specs.Steps.{InTurn, IsCleanTurn, Stays, StaysPass}
+use Rattle.hall_rooms.specs.Making.{AllAhead, GoOn, Renews, RenewsBelow, RenewsEach, TakePart, TurnsOn}
 use Rattle.hall_rooms.proofs.Turned.{goes}
 
 -- what a look at the own mailbox answers
@@ -157,3 +158,25 @@ module _ (x : Beginning) where
       turn = looked_turn c.note c.turn;
       none_failed = let n = c.none_failed in let l = ap (λ ts. (room_after x.room ts).faults) (r.sees.whole c.turn.held) in omega (arith, n, l);
     }
+
+-- ---- a pass in its turn, and others
+
+module _ {Q : Type 0} (hall : HallOf RoomValue Cache ViewValue Q) where
+  pub go_none : (room : RoomValue) (p : RoomPass) (l : List RoomPass) → TakePart hall room p l → GoOn hall p p l l
+  go_none room p l t = record { pass = (t.pass, refl); others = t.others; goes = turns_none (beginning_of hall) p; renews = each_none (beginning_of hall) l }
+
+  pub go_then : (p q r : RoomPass) (a b d : List RoomPass) → GoOn hall p q a b → GoOn hall q r b d → GoOn hall p r a d
+  go_then p q r a b d s t = record {
+    pass = (t.pass.0, t.pass.1 ∙ s.pass.1);
+    others = t.others;
+    goes = turns_then (beginning_of hall) p q r s.goes t.goes;
+    renews = each_then (beginning_of hall) a b d s.renews t.renews;
+  }
+
+  -- the pass stayed, and the others did nothing
+  pub go_stays : (room : RoomValue) (p q : RoomPass) (l : List RoomPass) → TakePart hall room p l → StaysPass hall p q → GoOn hall p q l l
+  go_stays room p q l t s = record { pass = s.pass; others = t.others; goes = stays_on (beginning_of hall) p q s.pass.1 s.stays; renews = each_none (beginning_of hall) l }
+
+  -- they take part in a turn that goes on with another room
+  pub part_on : (room : RoomValue) (p q : RoomPass) (a b : List RoomPass) → GoOn hall p q a b → IsCleanTurn (beginning_of hall) room q → TakePart hall room q b
+  part_on room p q a b g turn = record { pass = g.pass.0; others = g.others; turn = turn }

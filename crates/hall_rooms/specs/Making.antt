@@ -7,7 +7,8 @@ use Rattle.fine_model.specs.declared.law.RoomState.{RoomState}
 use Rattle.fine_model.specs.Becomes.{IsStuck}
 use Rattle.fine_model.specs.Buckets.{Began}
 use Rattle.fine_model.specs.Jobs.{KeepsJob}
-use Rattle.partition_hold.specs.Views.{state_of}
+use Rattle.node_cache.specs.Cache.{Cache}
+use Rattle.partition_hold.specs.Views.{ViewValue, state_of}
 use Rattle.epoch_room.specs.Meaning.{Stands}
 use Rattle.epoch_room.specs.Value.{RoomValue, all_regions, regions_outside}
 use Rattle.epoch_room.specs.Whole.{IsWhole}
@@ -23,10 +24,10 @@ use Rattle.fine_hall.specs.declared.turn.Turn.{Turn}
 use Rattle.fine_hall.specs.Turns.{commits, in_bucket, room_after}
 use Rattle.fine_hall.specs.Laws.{AreTurns}
 use Rattle.fine_hall.specs.Passes.{turns, own_turns, seen, known, published, last_room, HasPlace, HoldsNothing, LacksJob}
-use Rattle.fine_hall.specs.Halls.{turn_of, IsAhead, SeesMore}
+use Rattle.fine_hall.specs.Halls.{turn_of, HallOf, IsAhead, SeesMore}
 use Rattle.hall_rooms.specs.declared.making.Space.{Space}
 use Rattle.hall_rooms.specs.declared.making.Space.TheVariants as space
-use Rattle.hall_rooms.specs.Rooms.{RoomPass, room_log}
+use Rattle.hall_rooms.specs.Rooms.{IsRoomPass, RoomPass, beginning_of, room_log}
 use Rattle.hall_rooms.specs.Steps.{ErasesOr, IsCleanTurn, IsFailedTurn}
 use Rattle.hall_rooms.specs.Turning.{AddsEpoch, MeetsNone, MeetsSome, NotBegan}
 use Rattle.hall_rooms.specs.Merging.{Failing, MergesThroughOr, OnDamage}
@@ -63,6 +64,19 @@ pub record TurnsOn (x : Beginning) (p p' : RoomPass) : Type 0 where
   pub own : own_turns p' ≡ own_turns p
   pub no_earlier : published p ≤ published p'
   pub meets : MeetsNone x p p'
+
+-- A pass of a hall has a turn of the room in which no call failed, and these are passes of the hall too.
+pub record TakePart {Q : Type 0} (hall : HallOf RoomValue Cache ViewValue Q) (room : RoomValue) (p : RoomPass) (passes : List RoomPass) : Type 0 where
+  pub pass : IsRoomPass hall p
+  pub others : (i : ℕ) (q : RoomPass) → get_elem? passes i ≡ some q → IsRoomPass hall q
+  pub turn : IsCleanTurn (beginning_of hall) room p
+
+-- They are passes of it still: the one goes on in its turn, and the others looked at their mailboxes, or are as they were.
+pub record GoOn {Q : Type 0} (hall : HallOf RoomValue Cache ViewValue Q) (p p' : RoomPass) (old new : List RoomPass) : Type 0 where
+  pub pass : IsRoomPass hall p' × (p'.number ≡ p.number)
+  pub others : (i : ℕ) (q : RoomPass) → get_elem? new i ≡ some q → IsRoomPass hall q
+  pub goes : TurnsOn (beginning_of hall) p p'
+  pub renews : RenewsEach (beginning_of hall) old new
 
 -- ---- clearing
 

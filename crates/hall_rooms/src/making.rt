@@ -13,7 +13,7 @@ ghost use Rattle.hall_rooms.specs.declared.making.Space.TheVariants as space;
 ghost use Rattle.hall_rooms.specs.Steps.{IsCleanTurn};
 ghost use Rattle.hall_rooms.specs.Merging.{OnDamage};
 ghost use Rattle.hall_rooms.specs.Turning.{NotBegan};
-ghost use Rattle.hall_rooms.specs.Making.{AllAhead, ClearsMergedOr, ClearsOr, ErasesAndLooks, GoesOn, IsCleared, MakesOr, MakesRoom, MergesClearedOr, RenewsEach, RoundOr, TellsSpace, TriesRoom, TurnsOn};
+ghost use Rattle.hall_rooms.specs.Making.{AllAhead, ClearsMergedOr, ClearsOr, ErasesAndLooks, GoOn, GoesOn, IsCleared, MakesOr, MakesRoom, MergesClearedOr, RenewsEach, RoundOr, TakePart, TellsSpace, TriesRoom};
 
 use crate::merging::merge_through;
 use crate::opening::RoomHall;
@@ -47,13 +47,8 @@ fn refresh_all<D: LogDisk>(
     others: &mut [Pass<View<D::Eye>>],
     room: &Room<D>,
 )
-    requires pass { IsRoomPass hall.now pass.old }
-    requires others { (i : ℕ) (p : RoomPass) → get_elem? others.old i ≡ some p → IsRoomPass hall.now p }
-    requires turn { IsCleanTurn (beginning_of hall.now) room.now pass.old }
-    ensures pass { IsRoomPass hall.now pass.new × (pass.new.number ≡ pass.old.number) }
-    ensures others { (i : ℕ) (p : RoomPass) → get_elem? others.new i ≡ some p → IsRoomPass hall.now p }
-    ensures goes { TurnsOn (beginning_of hall.now) pass.old pass.new }
-    ensures renews { RenewsEach (beginning_of hall.now) others.old others.new }
+    requires part { TakePart hall.now room.now pass.old others.old }
+    ensures goes { GoOn hall.now pass.old pass.new others.old others.new }
     ensures turn { IsCleanTurn (beginning_of hall.now) room.now pass.new }
     ensures ahead { IsAhead state_of (beginning_of hall.now) pass.new × AllAhead (beginning_of hall.now) others.new }
 {
@@ -79,13 +74,8 @@ fn renew_and_erase<D: LogDisk>(
     others: &mut [Pass<View<D::Eye>>],
     room: &mut Room<D>,
 ) -> Result<bool, RoomFault>
-    requires pass { IsRoomPass hall.now pass.old }
-    requires others { (i : ℕ) (p : RoomPass) → get_elem? others.old i ≡ some p → IsRoomPass hall.now p }
-    requires turn { IsCleanTurn (beginning_of hall.now) room.old pass.old }
-    ensures pass { IsRoomPass hall.now pass.new × (pass.new.number ≡ pass.old.number) }
-    ensures others { (i : ℕ) (p : RoomPass) → get_elem? others.new i ≡ some p → IsRoomPass hall.now p }
-    ensures goes { TurnsOn (beginning_of hall.now) pass.old pass.new }
-    ensures renews { RenewsEach (beginning_of hall.now) others.old others.new }
+    requires part { TakePart hall.now room.old pass.old others.old }
+    ensures goes { GoOn hall.now pass.old pass.new others.old others.new }
     ensures job { KeepsJob room.old.room room.new.room }
     ensures round { RoundOr (beginning_of hall.now) room.old room.new pass.new others.new result }
 {
@@ -106,14 +96,9 @@ fn clear<D: LogDisk, W: Wait>(
     others: &mut [Pass<View<D::Eye>>],
     room: &mut Room<D>,
 ) -> Result<(), RoomFault>
-    requires pass { IsRoomPass hall.now pass.old }
-    requires others { (i : ℕ) (p : RoomPass) → get_elem? others.old i ≡ some p → IsRoomPass hall.now p }
-    requires turn { IsCleanTurn (beginning_of hall.now) room.old pass.old }
+    requires part { TakePart hall.now room.old pass.old others.old }
     requires no_job { room.old.room.job ≡ None }
-    ensures pass { IsRoomPass hall.now pass.new × (pass.new.number ≡ pass.old.number) }
-    ensures others { (i : ℕ) (p : RoomPass) → get_elem? others.new i ≡ some p → IsRoomPass hall.now p }
-    ensures goes { TurnsOn (beginning_of hall.now) pass.old pass.new }
-    ensures renews { RenewsEach (beginning_of hall.now) others.old others.new }
+    ensures goes { GoOn hall.now pass.old pass.new others.old others.new }
     ensures no_job { room.new.room.job ≡ None }
     ensures clears { ClearsOr (beginning_of hall.now) room.old room.new pass.new others.new result }
 {
@@ -139,14 +124,9 @@ fn clear_merged<D: LogDisk, W: Wait>(
     others: &mut [Pass<View<D::Eye>>],
     room: &mut Room<D>,
 ) -> Result<bool, MergeFault>
-    requires pass { IsRoomPass hall.now pass.old }
-    requires others { (i : ℕ) (p : RoomPass) → get_elem? others.old i ≡ some p → IsRoomPass hall.now p }
-    requires turn { IsCleanTurn (beginning_of hall.now) room.old pass.old }
+    requires part { TakePart hall.now room.old pass.old others.old }
     requires no_job { room.old.room.job ≡ None }
-    ensures pass { IsRoomPass hall.now pass.new × (pass.new.number ≡ pass.old.number) }
-    ensures others { (i : ℕ) (p : RoomPass) → get_elem? others.new i ≡ some p → IsRoomPass hall.now p }
-    ensures goes { TurnsOn (beginning_of hall.now) pass.old pass.new }
-    ensures renews { RenewsEach (beginning_of hall.now) others.old others.new }
+    ensures goes { GoOn hall.now pass.old pass.new others.old others.new }
     ensures no_job { room.new.room.job ≡ None }
     ensures turn { GoesOn (beginning_of hall.now) room.new pass.new result }
     ensures ahead { IfOk result (λ made. IsAhead state_of (beginning_of hall.now) pass.new × AllAhead (beginning_of hall.now) others.new) }
@@ -170,15 +150,10 @@ fn merge_cleared<D: LogDisk, W: Wait>(
     from: u64,
     had_retired: bool,
 ) -> Result<bool, MergeFault>
-    requires pass { IsRoomPass hall.now pass.old }
-    requires others { (i : ℕ) (p : RoomPass) → get_elem? others.old i ≡ some p → IsRoomPass hall.now p }
-    requires turn { IsCleanTurn (beginning_of hall.now) room.old pass.old }
+    requires part { TakePart hall.now room.old pass.old others.old }
     requires cleared { IsCleared room.old }
     requires ahead { IsAhead state_of (beginning_of hall.now) pass.old × AllAhead (beginning_of hall.now) others.old }
-    ensures pass { IsRoomPass hall.now pass.new × (pass.new.number ≡ pass.old.number) }
-    ensures others { (i : ℕ) (p : RoomPass) → get_elem? others.new i ≡ some p → IsRoomPass hall.now p }
-    ensures goes { TurnsOn (beginning_of hall.now) pass.old pass.new }
-    ensures renews { RenewsEach (beginning_of hall.now) others.old others.new }
+    ensures goes { GoOn hall.now pass.old pass.new others.old others.new }
     ensures no_job { room.new.room.job ≡ None }
     ensures turn { GoesOn (beginning_of hall.now) room.new pass.new result }
     ensures ahead { IfOk result (λ made. IsAhead state_of (beginning_of hall.now) pass.new × AllAhead (beginning_of hall.now) others.new) }
@@ -208,14 +183,9 @@ fn clear_and_merge<D: LogDisk, W: Wait>(
     room: &mut Room<D>,
     from: u64,
 ) -> Result<bool, MergeFault>
-    requires pass { IsRoomPass hall.now pass.old }
-    requires others { (i : ℕ) (p : RoomPass) → get_elem? others.old i ≡ some p → IsRoomPass hall.now p }
-    requires turn { IsCleanTurn (beginning_of hall.now) room.old pass.old }
+    requires part { TakePart hall.now room.old pass.old others.old }
     requires no_job { room.old.room.job ≡ None }
-    ensures pass { IsRoomPass hall.now pass.new × (pass.new.number ≡ pass.old.number) }
-    ensures others { (i : ℕ) (p : RoomPass) → get_elem? others.new i ≡ some p → IsRoomPass hall.now p }
-    ensures goes { TurnsOn (beginning_of hall.now) pass.old pass.new }
-    ensures renews { RenewsEach (beginning_of hall.now) others.old others.new }
+    ensures goes { GoOn hall.now pass.old pass.new others.old others.new }
     ensures no_job { room.new.room.job ≡ None }
     ensures turn { GoesOn (beginning_of hall.now) room.new pass.new result }
     ensures ahead { IfOk result (λ made. IsAhead state_of (beginning_of hall.now) pass.new × AllAhead (beginning_of hall.now) others.new) }

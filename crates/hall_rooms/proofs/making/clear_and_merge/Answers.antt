@@ -1,11 +1,11 @@
 -- The room is cleared, neighbours are merged, and it is cleared again.
 use Rattle.hall_rooms.specs.Rooms.{beginning_of}
 use Rattle.hall_rooms.proofs.Made.{goes_stopped, made, not_cleared}
-use Rattle.hall_rooms.proofs.Renewing.{each_then, turns_then}
+use Rattle.hall_rooms.proofs.Renewing.{go_then, part_on}
 use Rattle.hall_rooms.proofs.making.clear_and_merge.Goals as goal
 
-pub merge_cleared-requires-clause-turn : goal.merge_cleared-requires-clause-turn
-merge_cleared-requires-clause-turn g c κs within = c.in-Ok.ensures.clears.0
+pub merge_cleared-requires-clause-part : goal.merge_cleared-requires-clause-part
+merge_cleared-requires-clause-part g c κs within = part_on c.args.hall.now c.clear.new.room c.args.pass.now c.clear.new.pass c.args.others.now c.clear.new.others c.clear.ensures.goes c.in-Ok.ensures.clears.0
 
 pub merge_cleared-requires-clause-cleared : goal.merge_cleared-requires-clause-cleared
 merge_cleared-requires-clause-cleared g c κs within = c.in-Ok.ensures.clears.1.cleared
@@ -14,10 +14,7 @@ pub merge_cleared-requires-clause-ahead : goal.merge_cleared-requires-clause-ahe
 merge_cleared-requires-clause-ahead g c κs within = (c.in-Ok.ensures.clears.2, c.in-Ok.ensures.clears.3)
 
 pub returns-in-Ok-clause-goes : goal.returns-in-Ok-clause-goes
-returns-in-Ok-clause-goes g c = turns_then (beginning_of c.args.hall.now) c.args.pass.now c.clear.new.pass c.merge_cleared.new.pass c.clear.ensures.goes c.merge_cleared.ensures.goes
-
-pub returns-in-Ok-clause-renews : goal.returns-in-Ok-clause-renews
-returns-in-Ok-clause-renews g c = each_then (beginning_of c.args.hall.now) c.args.others.now c.clear.new.others c.merge_cleared.new.others c.clear.ensures.renews c.merge_cleared.ensures.renews
+returns-in-Ok-clause-goes g c = go_then c.args.hall.now c.args.pass.now c.clear.new.pass c.merge_cleared.new.pass c.args.others.now c.clear.new.others c.merge_cleared.new.others c.clear.ensures.goes c.merge_cleared.ensures.goes
 
 pub returns-in-Ok-clause-makes : goal.returns-in-Ok-clause-makes
 returns-in-Ok-clause-makes g c =

@@ -5,41 +5,39 @@ use Rattle.hall_rooms.specs.Merging.{MergesThroughOr}
 use Rattle.hall_rooms.specs.Turning.{NotBegan}
 use Rattle.hall_rooms.proofs.Made.{clears_unread, goes_merged, in_vain, merge_damage, merge_fails, merged_clears}
 use Rattle.hall_rooms.proofs.Posted.{board_long, some_empty}
-use Rattle.hall_rooms.proofs.Renewing.{each_none, turns_none}
+use Rattle.hall_rooms.proofs.Renewing.{go_none, part_on}
 use Rattle.hall_rooms.proofs.making.merge_cleared.Goals as goal
 
 pub merge_through-requires-clause-seats : goal.merge_through-requires-clause-seats
 merge_through-requires-clause-seats g c κs within =
-    let t = c.requires.turn in
-    let l = board_long (beginning_of c.args.hall.now) c.args.pass.now c.args.room.now t.note t.turn 1 (omega arith) (let n = c.requires.pass.number.0 in let m = c.requires.pass.number.1 in omega (arith, n, m)) in
+    let t = c.requires.part.turn in
+    let l = board_long (beginning_of c.args.hall.now) c.args.pass.now c.args.room.now t.note t.turn 1 (omega arith) (let n = c.requires.part.pass.number.0 in let m = c.requires.part.pass.number.1 in omega (arith, n, m)) in
     omega (arith, l)
 
 pub merge_through-requires-clause-empty : goal.merge_through-requires-clause-empty
 merge_through-requires-clause-empty g c κs within =
-    let t = c.requires.turn in
-    some_empty (beginning_of c.args.hall.now) c.args.pass.now c.args.room.now t.note t.turn 1 (omega arith) (let n = c.requires.pass.number.0 in let m = c.requires.pass.number.1 in omega (arith, n, m))
+    let t = c.requires.part.turn in
+    some_empty (beginning_of c.args.hall.now) c.args.pass.now c.args.room.now t.note t.turn 1 (omega arith) (let n = c.requires.part.pass.number.0 in let m = c.requires.part.pass.number.1 in omega (arith, n, m))
 
 pub returns-then-not-merged-clause-goes : goal.returns-then-not-merged-clause-goes
-returns-then-not-merged-clause-goes g c = turns_none (beginning_of c.args.hall.now) c.args.pass.now
-
-pub returns-then-not-merged-clause-renews : goal.returns-then-not-merged-clause-renews
-returns-then-not-merged-clause-renews g c = each_none (beginning_of c.args.hall.now) c.args.others.now
+returns-then-not-merged-clause-goes g c = go_none c.args.hall.now c.args.room.now c.args.pass.now c.args.others.now c.requires.part
 
 pub returns-then-not-merged-clause-no_job : goal.returns-then-not-merged-clause-no_job
 returns-then-not-merged-clause-no_job g c = c.in-Ok.ensures.leaves.no_job
 
 pub returns-then-not-merged-clause-turn : goal.returns-then-not-merged-clause-turn
 returns-then-not-merged-clause-turn g c =
-    goes_merged (beginning_of c.args.hall.now) c.args.from c.args.room.now c.merge_through.new.room c.args.pass.now c.requires.turn c.requires.cleared.no_job (Ok c.in-Ok.merged) c.in-Ok.ensures
+    goes_merged (beginning_of c.args.hall.now) c.args.from c.args.room.now c.merge_through.new.room c.args.pass.now c.requires.part.turn c.requires.cleared.no_job (Ok c.in-Ok.merged) c.in-Ok.ensures
 
 pub returns-then-not-merged-clause-merges : goal.returns-then-not-merged-clause-merges
 returns-then-not-merged-clause-merges g c =
     in_vain c.args.from c.args.had_retired c.args.room.now c.merge_through.new.room c.requires.cleared
     (subst (λ b. MergesThroughOr c.args.from c.args.room.now c.merge_through.new.room (Ok b)) c.if-not-merged.true c.in-Ok.ensures) c.counts-whole.ensures.whole
 
-pub clear_merged-requires-clause-turn : goal.clear_merged-requires-clause-turn
-clear_merged-requires-clause-turn g c κs within =
-    goes_merged (beginning_of c.args.hall.now) c.args.from c.args.room.now c.merge_through.new.room c.args.pass.now c.requires.turn c.requires.cleared.no_job (Ok c.in-Ok.merged) c.in-Ok.ensures
+pub clear_merged-requires-clause-part : goal.clear_merged-requires-clause-part
+clear_merged-requires-clause-part g c κs within =
+    part_on c.args.hall.now c.merge_through.new.room c.args.pass.now c.args.pass.now c.args.others.now c.args.others.now (go_none c.args.hall.now c.args.room.now c.args.pass.now c.args.others.now c.requires.part)
+    (goes_merged (beginning_of c.args.hall.now) c.args.from c.args.room.now c.merge_through.new.room c.args.pass.now c.requires.part.turn c.requires.cleared.no_job (Ok c.in-Ok.merged) c.in-Ok.ensures)
 
 pub clear_merged-requires-clause-no_job : goal.clear_merged-requires-clause-no_job
 clear_merged-requires-clause-no_job g c κs within = c.in-Ok.ensures.leaves.no_job
@@ -50,17 +48,14 @@ returns-else-not-merged-clause-merges g c =
     (subst (λ b. MergesThroughOr c.args.from c.args.room.now c.merge_through.new.room (Ok b)) c.if-not-merged.false c.in-Ok.ensures) c.clear_merged.result c.clear_merged.ensures.clears
 
 pub returns-in-Err-clause-goes : goal.returns-in-Err-clause-goes
-returns-in-Err-clause-goes g c = turns_none (beginning_of c.args.hall.now) c.args.pass.now
-
-pub returns-in-Err-clause-renews : goal.returns-in-Err-clause-renews
-returns-in-Err-clause-renews g c = each_none (beginning_of c.args.hall.now) c.args.others.now
+returns-in-Err-clause-goes g c = go_none c.args.hall.now c.args.room.now c.args.pass.now c.args.others.now c.requires.part
 
 pub returns-in-Err-clause-no_job : goal.returns-in-Err-clause-no_job
 returns-in-Err-clause-no_job g c = c.in-Err.ensures.leaves.no_job
 
 pub returns-in-Err-clause-turn : goal.returns-in-Err-clause-turn
 returns-in-Err-clause-turn g c =
-    goes_merged (beginning_of c.args.hall.now) c.args.from c.args.room.now c.merge_through.new.room c.args.pass.now c.requires.turn c.requires.cleared.no_job (Err c.in-Err.fault) c.in-Err.ensures
+    goes_merged (beginning_of c.args.hall.now) c.args.from c.args.room.now c.merge_through.new.room c.args.pass.now c.requires.part.turn c.requires.cleared.no_job (Err c.in-Err.fault) c.in-Err.ensures
 
 pub returns-in-Err-clause-merges : goal.returns-in-Err-clause-merges
 returns-in-Err-clause-merges g c = merge_fails c.args.from c.args.had_retired c.args.room.now c.merge_through.new.room c.in-Err.fault c.in-Err.ensures
@@ -70,4 +65,4 @@ returns-else-not-merged-clause-damage g c = clears_unread (NotBegan (beginning_o
 
 pub returns-in-Err-clause-damage : goal.returns-in-Err-clause-damage
 returns-in-Err-clause-damage g c =
-    merge_damage (beginning_of c.args.hall.now) c.args.from c.args.room.now c.merge_through.new.room c.args.pass.now c.requires.turn (Err c.in-Err.fault) c.in-Err.ensures
+    merge_damage (beginning_of c.args.hall.now) c.args.from c.args.room.now c.merge_through.new.room c.args.pass.now c.requires.part.turn (Err c.in-Err.fault) c.in-Err.ensures

@@ -14,11 +14,17 @@ refresh-requires-send-B g c κs within = search (sendable, bucket_send) depth 20
 pub returns-clause-goes : goal.returns-clause-goes
 returns-clause-goes g c =
     let x = beginning_of c.args.hall.now in
-    looks_on x c.args.pass.now c.refresh.new.pass c.requires.turn.turn.held (looked x c.refresh.result c.args.pass.now c.refresh.new.pass c.refresh.ensures.pass.1 c.refresh.ensures.answer)
+    let e = c.refresh.ensures in
+    record {
+      pass = e.pass;
+      others = c.refresh_each.ensures.passes;
+      goes = looks_on x c.args.pass.now c.refresh.new.pass c.requires.part.turn.turn.held (looked x c.refresh.result c.args.pass.now c.refresh.new.pass e.pass.1 e.answer);
+      renews = c.refresh_each.ensures.renews;
+    }
 
 pub returns-clause-turn : goal.returns-clause-turn
 returns-clause-turn g c =
     let x = beginning_of c.args.hall.now in
     let p = c.args.pass.now in
     let q = c.refresh.new.pass in
-    looked_clean x _ p q c.refresh.ensures.pass.0 c.args.room.now c.counts-whole.ensures.whole (looked x c.refresh.result p q c.refresh.ensures.pass.1 c.refresh.ensures.answer) (same_turn x c.refresh.result p q c.refresh.ensures.answer) c.requires.turn
+    looked_clean x _ p q c.refresh.ensures.pass.0 c.args.room.now c.counts-whole.ensures.whole (looked x c.refresh.result p q c.refresh.ensures.pass.1 c.refresh.ensures.answer) (same_turn x c.refresh.result p q c.refresh.ensures.answer) c.requires.part.turn

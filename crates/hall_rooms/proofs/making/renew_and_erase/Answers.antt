@@ -2,16 +2,16 @@
 use Rattle.hall_rooms.specs.Rooms.{beginning_of}
 use Rattle.fine_model.proofs.Goings.{job_on}
 use Rattle.hall_rooms.proofs.Clearing.{looks_job, round_goes, show_fails}
-use Rattle.hall_rooms.proofs.Renewing.{each_none, stays_on, turns_then}
+use Rattle.hall_rooms.proofs.Renewing.{go_stays, go_then, part_on}
 use Rattle.hall_rooms.proofs.making.renew_and_erase.Goals as goal
 
-pub refresh_all-requires-clause-turn : goal.refresh_all-requires-clause-turn
-refresh_all-requires-clause-turn g c κs within = c.in-Ok.ensures.shows.0
+pub refresh_all-requires-clause-part : goal.refresh_all-requires-clause-part
+refresh_all-requires-clause-part g c κs within = part_on c.args.hall.now c.show.new.room c.args.pass.now c.show.new.pass c.args.others.now c.args.others.now (go_stays c.args.hall.now c.args.room.now c.args.pass.now c.show.new.pass c.args.others.now c.requires.part c.show.ensures.stays) c.in-Ok.ensures.shows.0
 
 pub returns-in-Ok-clause-goes : goal.returns-in-Ok-clause-goes
 returns-in-Ok-clause-goes g c =
-    let x = beginning_of c.args.hall.now in
-    turns_then x c.args.pass.now c.show.new.pass c.refresh_all.new.pass (stays_on x c.args.pass.now c.show.new.pass c.show.ensures.stays.pass.1 c.show.ensures.stays.stays) c.refresh_all.ensures.goes
+    go_then c.args.hall.now c.args.pass.now c.show.new.pass c.refresh_all.new.pass c.args.others.now c.args.others.now c.refresh_all.new.others
+    (go_stays c.args.hall.now c.args.room.now c.args.pass.now c.show.new.pass c.args.others.now c.requires.part c.show.ensures.stays) c.refresh_all.ensures.goes
 
 pub returns-in-Ok-clause-job : goal.returns-in-Ok-clause-job
 returns-in-Ok-clause-job g c =
@@ -24,10 +24,7 @@ returns-in-Ok-clause-round g c =
     c.erase_and_look.result c.erase_and_look.ensures
 
 pub returns-in-Err-clause-goes : goal.returns-in-Err-clause-goes
-returns-in-Err-clause-goes g c = stays_on (beginning_of c.args.hall.now) c.args.pass.now c.show.new.pass c.show.ensures.stays.pass.1 c.show.ensures.stays.stays
-
-pub returns-in-Err-clause-renews : goal.returns-in-Err-clause-renews
-returns-in-Err-clause-renews g c = each_none (beginning_of c.args.hall.now) c.args.others.now
+returns-in-Err-clause-goes g c = go_stays c.args.hall.now c.args.room.now c.args.pass.now c.show.new.pass c.args.others.now c.requires.part c.show.ensures.stays
 
 pub returns-in-Err-clause-round : goal.returns-in-Err-clause-round
 returns-in-Err-clause-round g c = show_fails (beginning_of c.args.hall.now) c.args.room.now c.args.room.now c.show.new.room c.args.others.now c.show.new.pass c.in-Err.fault c.in-Err.ensures.shows

@@ -8,11 +8,11 @@ use Rattle.hall_rooms.proofs.Telling.{ahead_told}
 use Rattle.hall_rooms.proofs.Turned.{begun_with}
 use Rattle.hall_rooms.proofs.making.try_room.Goals as goal
 
-pub clear_and_merge-made-requires-clause-turn : goal.clear_and_merge-made-requires-clause-turn
-clear_and_merge-made-requires-clause-turn g c κs within =
+pub clear_and_merge-made-requires-clause-part : goal.clear_and_merge-made-requires-clause-part
+clear_and_merge-made-requires-clause-part g c κs within =
     let x = beginning_of c.args.hall.now in
     let b = begun_with x c.args.pass.now c.begin_turn-held.new.pass c.begin_turn-held.result c.room-room.result.now c.room-room.ensures.value c.begin_turn-held.ensures.begins in
-    b.clean
+    record { pass = c.begin_turn-held.ensures.pass; others = c.requires.others; turn = b.clean }
 
 pub clear_and_merge-made-requires-clause-no_job : goal.clear_and_merge-made-requires-clause-no_job
 clear_and_merge-made-requires-clause-no_job g c κs within =
@@ -25,7 +25,7 @@ end_turn-requires-clause-turn g c κs within =
     in_any_turn (beginning_of c.args.hall.now) c.clear_and_merge-made.new.room c.clear_and_merge-made.new.pass c.clear_and_merge-made.result c.clear_and_merge-made.ensures.turn
 
 pub returns-clause-numbers : goal.returns-clause-numbers
-returns-clause-numbers g c = same_numbers (beginning_of c.args.hall.now) c.args.others.now c.clear_and_merge-made.new.others c.clear_and_merge-made.ensures.renews
+returns-clause-numbers g c = same_numbers (beginning_of c.args.hall.now) c.args.others.now c.clear_and_merge-made.new.others c.clear_and_merge-made.ensures.goes.renews
 
 pub returns-clause-ahead : goal.returns-clause-ahead
 returns-clause-ahead g c =
@@ -35,7 +35,7 @@ returns-clause-ahead g c =
     let t = in_any_turn x c.clear_and_merge-made.new.room c.clear_and_merge-made.new.pass c.clear_and_merge-made.result m.turn in
     let gave = c.end_turn.ensures.gives t.0 t.1 in
     ahead_told _ _ c.clear_and_merge-made.new.room.room c.clear_and_merge-made.result c.tell_space-space.result c.tell_space-space.ensures
-    (λ a. (ahead_still x c.room-room.result.now c.clear_and_merge-made.new.room c.args.pass.now c.begin_turn-held.new.pass c.clear_and_merge-made.new.pass c.end_turn.new.pass b m.pass.1 c.end_turn.ensures.pass.1 m.goes t.0 gave a.0, a.1)) m.ahead
+    (λ a. (ahead_still x c.room-room.result.now c.clear_and_merge-made.new.room c.args.pass.now c.begin_turn-held.new.pass c.clear_and_merge-made.new.pass c.end_turn.new.pass b m.goes.pass.1 c.end_turn.ensures.pass.1 m.goes.goes t.0 gave a.0, a.1)) m.ahead
 
 pub returns-clause-tries : goal.returns-clause-tries
 returns-clause-tries g c =
@@ -54,13 +54,13 @@ returns-clause-tries g c =
       makes = record {
         found = found;
         room = new;
-        turn = turn_added x found new c.args.pass.now p₁ q r b m.pass.1 c.end_turn.ensures.pass.1 m.goes t.0 gave;
+        turn = turn_added x found new c.args.pass.now p₁ q r b m.goes.pass.1 c.end_turn.ensures.pass.1 m.goes.goes t.0 gave;
         no_job = (none_out x found.room c.args.pass.now p₁ b.takes c.requires.first c.requires.no_job, m.no_job);
         log = t.1.may.log;
         stands = seen_stands x new q r t.0 t.1 gave;
         makes = m.makes;
         damage = m.damage;
-        meets = makes_meet x found new c.args.pass.now p₁ q r b m.pass.1 c.end_turn.ensures.pass.1 m.goes c.clear_and_merge-made.result m.turn gave;
+        meets = makes_meet x found new c.args.pass.now p₁ q r b m.goes.pass.1 c.end_turn.ensures.pass.1 m.goes.goes c.clear_and_merge-made.result m.turn gave;
       };
       tells = c.tell_space-space.ensures;
     }

@@ -3,13 +3,18 @@ use Rattle.std.specs.Prelude.{◌≡◌, ℕ, ◌<◌, ◌≤◌, List, [], ◌�
 use Rattle.fine_model.specs.History.{Commit, IsLegal}
 use Rattle.fine_places.specs.declared.model.Placed.{Placed}
 use Rattle.fine_places.specs.History.{by_seat}
+use Rattle.node_cache.specs.Cache.{Cache}
+use Rattle.partition_hold.specs.Views.{ViewValue}
 use Rattle.epoch_room.specs.Meaning.{Stands}
 use Rattle.epoch_room.specs.Value.{RoomValue}
 use Rattle.fine_hall.specs.declared.turn.Turn.{Turn}
 use Rattle.fine_hall.specs.Turns.{commits}
+use Rattle.fine_hall.specs.Halls.{HallOf}
 use Rattle.fine_hall.specs.Passes.{mine}
 use Rattle.hall_rooms.specs.Rooms.{RoomPass}
 use Rattle.txn_engine.specs.declared.txn.Committed.{Committed}
+use Rattle.txn_engine.specs.declared.txn.Txn.{Txn}
+use Rattle.hall_accounts.specs.Going.{IsAtRest, IsFree}
 use Rattle.hall_accounts.specs.declared.transfers.Ended.{Ended}
 use Rattle.hall_accounts.specs.declared.transfers.Ended.TheVariants as ended
 
@@ -35,6 +40,12 @@ IsKept old (ended.NoPlace cause) new = new ≡ old
 -- these are all commits of a pass, in their order
 abbrev pub AreMine : RoomPass → List Committed → Type 0
 AreMine p done = mine p ≡ commits_of done
+
+-- a pass at rest and a free transaction, and all commits of the pass, in their order
+pub record KeepsAll {Q : Type 0} (hall : HallOf RoomValue Cache ViewValue Q) (t : Txn) (p : RoomPass) (done : List Committed) : Type 0 where
+  pub idle : IsAtRest hall p
+  pub free : IsFree t
+  pub mine : AreMine p done
 
 -- There is one history of two seats, in which each entry has the store's replies, on a log without rows. What each seat committed is what its thread was
 -- handed, each once and in this order; nobody else committed, and the room stands for the history.

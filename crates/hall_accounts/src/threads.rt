@@ -1,8 +1,8 @@
 //! Two threads that move money between accounts on one hall.
 
 ghost use Rattle.std.specs.Prelude.{◌≡◌, ◌<◌, IfSome, vec_len, vec_capacity};
-ghost use Rattle.hall_accounts.specs.Doing.{AreMine, IsKept, IsRunOfTwo};
-ghost use Rattle.hall_accounts.specs.Going.{IsAtRest, IsFree, StaysOwn};
+ghost use Rattle.hall_accounts.specs.Doing.{AreMine, IsKept, IsRunOfTwo, KeepsAll};
+ghost use Rattle.hall_accounts.specs.Going.{IsAtRest, StaysOwn};
 
 use crate::accounts::{put_of, scan_of, sum_of};
 use crate::halls::{Two, end_two, open_two};
@@ -57,12 +57,8 @@ fn try_once<D: LogDisk, W: Wait>(
     kept: &mut Vec<Committed>,
     route: Route,
 ) -> bool
-    requires idle { IsAtRest hall.now pass.old }
-    requires free { IsFree txn.old }
-    requires mine { AreMine pass.old kept.old.items }
-    ensures idle { IsAtRest hall.now pass.new × (pass.new.number ≡ pass.old.number) }
-    ensures free { IsFree txn.new }
-    ensures mine { AreMine pass.new kept.new.items }
+    requires keeps { KeepsAll hall.now txn.old pass.old kept.old.items }
+    ensures { KeepsAll hall.now txn.new pass.new kept.new.items × (pass.new.number ≡ pass.old.number) }
 {
     if kept.reserve(1).is_err() {
         return false;
@@ -83,12 +79,8 @@ fn move_at_last<D: LogDisk, W: Wait>(
     kept: &mut Vec<Committed>,
     route: Route,
 )
-    requires idle { IsAtRest hall.now pass.old }
-    requires free { IsFree txn.old }
-    requires mine { AreMine pass.old kept.old.items }
-    ensures idle { IsAtRest hall.now pass.new × (pass.new.number ≡ pass.old.number) }
-    ensures free { IsFree txn.new }
-    ensures mine { AreMine pass.new kept.new.items }
+    requires keeps { KeepsAll hall.now txn.old pass.old kept.old.items }
+    ensures { KeepsAll hall.now txn.new pass.new kept.new.items × (pass.new.number ≡ pass.old.number) }
 {
     for _ in rt.forever() {
         if !try_once(rt, alloc, txn, hall, pass, kept, route) {
@@ -110,12 +102,8 @@ fn move_often<D: LogDisk, W: Wait>(
     routes: (Route, Route),
     times: u32,
 )
-    requires idle { IsAtRest hall.now pass.old }
-    requires free { IsFree txn.old }
-    requires mine { AreMine pass.old kept.old.items }
-    ensures idle { IsAtRest hall.now pass.new × (pass.new.number ≡ pass.old.number) }
-    ensures free { IsFree txn.new }
-    ensures mine { AreMine pass.new kept.new.items }
+    requires keeps { KeepsAll hall.now txn.old pass.old kept.old.items }
+    ensures { KeepsAll hall.now txn.new pass.new kept.new.items × (pass.new.number ≡ pass.old.number) }
 {
     for _ in 0..times {
         move_at_last(rt, alloc, txn, hall, pass, kept, routes.0);
@@ -196,12 +184,8 @@ fn put_once<D: LogDisk, W: Wait>(
     kept: &mut Vec<Committed>,
     account: u8,
 )
-    requires idle { IsAtRest hall.now pass.old }
-    requires free { IsFree txn.old }
-    requires mine { AreMine pass.old kept.old.items }
-    ensures idle { IsAtRest hall.now pass.new × (pass.new.number ≡ pass.old.number) }
-    ensures free { IsFree txn.new }
-    ensures mine { AreMine pass.new kept.new.items }
+    requires keeps { KeepsAll hall.now txn.old pass.old kept.old.items }
+    ensures { KeepsAll hall.now txn.new pass.new kept.new.items × (pass.new.number ≡ pass.old.number) }
 {
     let Some(call) = put_of(alloc, account, 100) else {
         return;

@@ -1,11 +1,9 @@
 use Rattle.std.proofs.Common.{◌≡◌}
-use Rattle.hall_accounts.specs.Doing.{AreMine}
-use Rattle.hall_accounts.specs.Going.{IsAtRest, IsFree}
+use Rattle.hall_accounts.specs.Doing.{KeepsAll}
 use Rattle.hall_accounts.proofs.threads.fill.Given as goal
 
 abbrev pub invariant-loop-account : goal.invariant-loop-account
 invariant-loop-account g l = record {
-  idle : IsAtRest l.hall l.pass × (l.pass.number ≡ l.initial.pass.number);
-  free : IsFree l.txn;
-  mine : AreMine l.pass l.kept.items;
+  keeps : KeepsAll l.hall l.txn l.pass l.kept.items;
+  number : l.pass.number ≡ l.initial.pass.number;
 }

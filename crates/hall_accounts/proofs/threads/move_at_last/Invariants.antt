@@ -1,12 +1,10 @@
 use Rattle.std.proofs.Common.{◌≡◌}
-use Rattle.hall_accounts.specs.Doing.{AreMine}
-use Rattle.hall_accounts.specs.Going.{IsAtRest, IsFree}
+use Rattle.hall_accounts.specs.Doing.{KeepsAll}
 use Rattle.hall_accounts.proofs.threads.move_at_last.Given as goal
 
 abbrev pub invariant-loop : goal.invariant-loop
 invariant-loop g l = record {
   more : (goal.iterator-loop g).can_next l.iterator' × (goal.iterator-loop g).is_finite l.iterator';
-  idle : IsAtRest l.hall l.pass × (l.pass.number ≡ l.initial.pass.number);
-  free : IsFree l.txn;
-  mine : AreMine l.pass l.kept.items;
+  keeps : KeepsAll l.hall l.txn l.pass l.kept.items;
+  number : l.pass.number ≡ l.initial.pass.number;
 }

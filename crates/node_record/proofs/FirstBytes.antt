@@ -1,13 +1,13 @@
 -- The order of texts by their first bytes, which are read as one number.
-use Rattle.std.proofs.Common.{◌≡◌, ℕ, ◌+◌, ◌*◌, ◌<◌, ◌≤◌, Bool, true, false, cond, ltb, eqb, eq-eqb, List, [], ◌∷◌, length, take, drop, get_or, is_lt, Less, Equal, Greater, refl, sym, ap, subst, ◌∙◌, ◌-◌, arith, inl, inr, length-drop}
-use Rattle.std.specs.Int.{w32, w64, from_be_bytes}
+use Rattle.std.proofs.Common.{◌≡◌, ℕ, zero, suc, ◌++◌, ◌+◌, ◌*◌, ◌<◌, ◌≤◌, Bool, true, false, cond, ltb, eqb, eq-eqb, List, [], ◌∷◌, length, take, drop, is_lt, Less, Equal, Greater, refl, sym, ap, subst, ◌∙◌, ◌-◌, arith, inl, inr, length-drop, take-append-drop}
+use Rattle.std.specs.Int.{Width, w32, w64, from_be_bytes}
 use Rattle.std.specs.Cmp.Lexicographic.{slice_cmp}
 use Rattle.std.specs.Ordering.{nat_cmp, ordering_then}
 use Rattle.std.proofs.lemmas.Bool.{cases_lt, lt-ltb, le-ltb, eqb-true}
 use Rattle.std.proofs.lemmas.Nat.{mul-le}
-use Rattle.std.proofs.lemmas.List.{take_all}
+use Rattle.std.proofs.lemmas.List.{length-take, take_all}
 use Rattle.fine_model.specs.Map.{is_below}
-use Rattle.node_record.proofs.Readers.{IsBytes}
+use Rattle.node_record.proofs.Readers.{IsBytes, IsBytes-take, IsBytes-drop}
 
 -- what two numbers that are read off texts tell of their order: where they are equal, the bytes behind them decide
 pub record Decides (n k : ℕ) (a b rest_a rest_b : List ℕ) : Type 0 where
@@ -88,76 +88,72 @@ renamed n k m l a b rest_a rest_b n_is k_is d = record {
   equal = λ h. d.equal (omega (arith, h, n_is, k_is));
 }
 
--- ---- four bytes, and eight
+-- ---- bytes as one number
 
-module _ (x0 x1 x2 x3 y0 y1 y2 y3 : ℕ) (a b : List ℕ) (small_a : IsBytes (x0 ∷ x1 ∷ x2 ∷ x3 ∷ [])) (small_b : IsBytes (y0 ∷ y1 ∷ y2 ∷ y3 ∷ [])) where
-  four_from_2 : Decides (x2 * 256 + x3) (y2 * 256 + y3) (x2 ∷ x3 ∷ a) (y2 ∷ y3 ∷ b) a b
-  four_from_2 = more_decides 256 x2 y2 x3 y3 (x3 ∷ a) (y3 ∷ b) a b (omega (arith, small_a 3)) (omega (arith, small_b 3)) (byte_decides x3 y3 a b)
+abbrev scale : ℕ → ℕ
+scale zero = 1
+scale (suc n) = 256 * scale n
 
-  four_from_1 : Decides (x1 * 65536 + (x2 * 256 + x3)) (y1 * 65536 + (y2 * 256 + y3)) (x1 ∷ x2 ∷ x3 ∷ a) (y1 ∷ y2 ∷ y3 ∷ b) a b
-  four_from_1 = more_decides 65536 x1 y1 (x2 * 256 + x3) (y2 * 256 + y3) (x2 ∷ x3 ∷ a) (y2 ∷ y3 ∷ b) a b (omega (arith, small_a 2, small_a 3)) (omega (arith, small_b 2, small_b 3)) (four_from_2)
+abbrev worth : List ℕ → ℕ
+worth [] = 0
+worth (x ∷ xs) = x * scale (length xs) + worth xs
 
-  four_from_0 : Decides (x0 * 16777216 + (x1 * 65536 + (x2 * 256 + x3))) (y0 * 16777216 + (y1 * 65536 + (y2 * 256 + y3))) (x0 ∷ x1 ∷ x2 ∷ x3 ∷ a) (y0 ∷ y1 ∷ y2 ∷ y3 ∷ b) a b
-  four_from_0 = more_decides 16777216 x0 y0 (x1 * 65536 + (x2 * 256 + x3)) (y1 * 65536 + (y2 * 256 + y3)) (x1 ∷ x2 ∷ x3 ∷ a) (y1 ∷ y2 ∷ y3 ∷ b) a b (omega (arith, small_a 1, small_a 2, small_a 3)) (omega (arith, small_b 1, small_b 2, small_b 3)) (four_from_1)
+worth_small : (xs : List ℕ) → IsBytes xs → worth xs < scale (length xs)
+worth_small [] small = omega arith
+worth_small (x ∷ xs) small =
+    let less = worth_small xs (λ i. small (suc i)) in
+    let most : x * scale (length xs) ≤ 255 * scale (length xs) = mul-le x (scale (length xs)) 255 (scale (length xs)) (omega (arith, small 0)) (omega arith) in
+    omega (arith, less, most)
 
-parts_4 : (a : List ℕ) → 4 ≤ length a → a ≡ get_or a 0 0 ∷ get_or a 1 0 ∷ get_or a 2 0 ∷ get_or a 3 0 ∷ drop 4 a
-parts_4 [] long = absurd (omega (arith, long))
-parts_4 (x0 ∷ []) long = absurd (omega (arith, long))
-parts_4 (x0 ∷ x1 ∷ []) long = absurd (omega (arith, long))
-parts_4 (x0 ∷ x1 ∷ x2 ∷ []) long = absurd (omega (arith, long))
-parts_4 (x0 ∷ x1 ∷ x2 ∷ x3 ∷ a) long = refl
+bytes_decide : (xs ys a b : List ℕ) → length xs ≡ length ys → IsBytes xs → IsBytes ys → Decides (worth xs) (worth ys) (xs ++ a) (ys ++ b) a b
+bytes_decide [] [] a b same small_x small_y = record { lower = λ h. absurd (omega (arith, h)); higher = λ h. absurd (omega (arith, h)); equal = λ h. refl }
+bytes_decide [] (y ∷ ys) a b same small_x small_y = absurd (omega (arith, same))
+bytes_decide (x ∷ xs) [] a b same small_x small_y = absurd (omega (arith, same))
+bytes_decide (x ∷ xs) (y ∷ ys) a b same small_x small_y =
+    let rest : length ys ≡ length xs = omega (arith, same) in
+    let later = bytes_decide xs ys a b (sym rest) (λ i. small_x (suc i)) (λ i. small_y (suc i)) in
+    let less : worth ys < scale (length xs) = subst (λ (n : ℕ). worth ys < scale n) rest (worth_small ys (λ i. small_y (suc i))) in
+    renamed (worth (x ∷ xs)) (worth (y ∷ ys)) (x * scale (length xs) + worth xs) (y * scale (length xs) + worth ys) (x ∷ xs ++ a) (y ∷ ys ++ b) a b refl (ap (λ (n : ℕ). y * scale n + worth ys) rest)
+    (more_decides (scale (length xs)) x y (worth xs) (worth ys) (xs ++ a) (ys ++ b) a b (worth_small xs (λ i. small_x (suc i))) less later)
 
-pub first_four : (a b : List ℕ) → IsBytes (take 4 a) → IsBytes (take 4 b) → 4 ≤ length a → 4 ≤ length b → Decides (from_be_bytes w32 (take 4 a)) (from_be_bytes w32 (take 4 b)) a b (drop 4 a) (drop 4 b)
-first_four a b small_a small_b long_a long_b =
-    let parts_a = parts_4 a long_a in
-    let parts_b = parts_4 b long_b in
-    let rest_a = drop 4 a in
-    let rest_b = drop 4 b in
-    let own = four_from_0 (get_or a 0 0) (get_or a 1 0) (get_or a 2 0) (get_or a 3 0) (get_or b 0 0) (get_or b 1 0) (get_or b 2 0) (get_or b 3 0) rest_a rest_b (subst (λ (l : List ℕ). IsBytes (take 4 l)) parts_a small_a) (subst (λ (l : List ℕ). IsBytes (take 4 l)) parts_b small_b) in
-    let named = renamed (from_be_bytes w32 (take 4 (get_or a 0 0 ∷ get_or a 1 0 ∷ get_or a 2 0 ∷ get_or a 3 0 ∷ rest_a))) (from_be_bytes w32 (take 4 (get_or b 0 0 ∷ get_or b 1 0 ∷ get_or b 2 0 ∷ get_or b 3 0 ∷ rest_b))) (get_or a 0 0 * 16777216 + (get_or a 1 0 * 65536 + (get_or a 2 0 * 256 + (get_or a 3 0)))) (get_or b 0 0 * 16777216 + (get_or b 1 0 * 65536 + (get_or b 2 0 * 256 + (get_or b 3 0)))) (get_or a 0 0 ∷ get_or a 1 0 ∷ get_or a 2 0 ∷ get_or a 3 0 ∷ rest_a) (get_or b 0 0 ∷ get_or b 1 0 ∷ get_or b 2 0 ∷ get_or b 3 0 ∷ rest_b) rest_a rest_b (omega arith) (omega arith) own in
-    let left = subst (λ (l : List ℕ). Decides (from_be_bytes w32 (take 4 l)) (from_be_bytes w32 (take 4 (get_or b 0 0 ∷ get_or b 1 0 ∷ get_or b 2 0 ∷ get_or b 3 0 ∷ rest_b))) l (get_or b 0 0 ∷ get_or b 1 0 ∷ get_or b 2 0 ∷ get_or b 3 0 ∷ rest_b) rest_a rest_b) (sym parts_a) named in
-    subst (λ (l : List ℕ). Decides (from_be_bytes w32 (take 4 a)) (from_be_bytes w32 (take 4 l)) a l rest_a rest_b) (sym parts_b) left
+-- the first bytes of two texts, as a number of their width
+first_decide : (w : Width) (len : ℕ) → ((xs : List ℕ) → length xs ≡ len → from_be_bytes w xs ≡ worth xs) → (a b : List ℕ) → IsBytes a → IsBytes b → len ≤ length a → len ≤ length b
+    → Decides (from_be_bytes w (take len a)) (from_be_bytes w (take len b)) a b (drop len a) (drop len b)
+first_decide w len is a b bytes_a bytes_b long_a long_b =
+    let len_a : length (take len a) ≡ len = omega (arith, length-take len a) in
+    let len_b : length (take len b) ≡ len = omega (arith, length-take len b) in
+    let own = renamed (from_be_bytes w (take len a)) (from_be_bytes w (take len b)) _ _ (take len a ++ drop len a) (take len b ++ drop len b) (drop len a) (drop len b) (is (take len a) len_a) (is (take len b) len_b)
+    (bytes_decide (take len a) (take len b) (drop len a) (drop len b) (len_a ∙ sym len_b) (IsBytes-take len a bytes_a) (IsBytes-take len b bytes_b)) in
+    let left = subst (λ (l : List ℕ). Decides (from_be_bytes w (take len a)) (from_be_bytes w (take len b)) l (take len b ++ drop len b) (drop len a) (drop len b)) (take-append-drop len a) own in
+    subst (λ (l : List ℕ). Decides (from_be_bytes w (take len a)) (from_be_bytes w (take len b)) a l (drop len a) (drop len b)) (take-append-drop len b) left
 
-module _ (x0 x1 x2 x3 x4 x5 x6 x7 y0 y1 y2 y3 y4 y5 y6 y7 : ℕ) (a b : List ℕ) (small_a : IsBytes (x0 ∷ x1 ∷ x2 ∷ x3 ∷ x4 ∷ x5 ∷ x6 ∷ x7 ∷ [])) (small_b : IsBytes (y0 ∷ y1 ∷ y2 ∷ y3 ∷ y4 ∷ y5 ∷ y6 ∷ y7 ∷ [])) where
-  eight_from_6 : Decides (x6 * 256 + x7) (y6 * 256 + y7) (x6 ∷ x7 ∷ a) (y6 ∷ y7 ∷ b) a b
-  eight_from_6 = more_decides 256 x6 y6 x7 y7 (x7 ∷ a) (y7 ∷ b) a b (omega (arith, small_a 7)) (omega (arith, small_b 7)) (byte_decides x7 y7 a b)
+worth_4 : (xs : List ℕ) → length xs ≡ 4 → from_be_bytes w32 xs ≡ worth xs
+worth_4 [] e = absurd (omega (arith, e))
+worth_4 (x0 ∷ []) e = absurd (omega (arith, e))
+worth_4 (x0 ∷ x1 ∷ []) e = absurd (omega (arith, e))
+worth_4 (x0 ∷ x1 ∷ x2 ∷ []) e = absurd (omega (arith, e))
+worth_4 (x0 ∷ x1 ∷ x2 ∷ x3 ∷ []) e = omega arith
+worth_4 (x0 ∷ x1 ∷ x2 ∷ x3 ∷ x4 ∷ xs) e = absurd (omega (arith, e))
 
-  eight_from_5 : Decides (x5 * 65536 + (x6 * 256 + x7)) (y5 * 65536 + (y6 * 256 + y7)) (x5 ∷ x6 ∷ x7 ∷ a) (y5 ∷ y6 ∷ y7 ∷ b) a b
-  eight_from_5 = more_decides 65536 x5 y5 (x6 * 256 + x7) (y6 * 256 + y7) (x6 ∷ x7 ∷ a) (y6 ∷ y7 ∷ b) a b (omega (arith, small_a 6, small_a 7)) (omega (arith, small_b 6, small_b 7)) (eight_from_6)
+worth_8 : (xs : List ℕ) → length xs ≡ 8 → from_be_bytes w64 xs ≡ worth xs
+worth_8 [] e = absurd (omega (arith, e))
+worth_8 (x0 ∷ []) e = absurd (omega (arith, e))
+worth_8 (x0 ∷ x1 ∷ []) e = absurd (omega (arith, e))
+worth_8 (x0 ∷ x1 ∷ x2 ∷ []) e = absurd (omega (arith, e))
+worth_8 (x0 ∷ x1 ∷ x2 ∷ x3 ∷ []) e = absurd (omega (arith, e))
+worth_8 (x0 ∷ x1 ∷ x2 ∷ x3 ∷ x4 ∷ []) e = absurd (omega (arith, e))
+worth_8 (x0 ∷ x1 ∷ x2 ∷ x3 ∷ x4 ∷ x5 ∷ []) e = absurd (omega (arith, e))
+worth_8 (x0 ∷ x1 ∷ x2 ∷ x3 ∷ x4 ∷ x5 ∷ x6 ∷ []) e = absurd (omega (arith, e))
+worth_8 (x0 ∷ x1 ∷ x2 ∷ x3 ∷ x4 ∷ x5 ∷ x6 ∷ x7 ∷ []) e = omega arith
+worth_8 (x0 ∷ x1 ∷ x2 ∷ x3 ∷ x4 ∷ x5 ∷ x6 ∷ x7 ∷ x8 ∷ xs) e = absurd (omega (arith, e))
 
-  eight_from_4 : Decides (x4 * 16777216 + (x5 * 65536 + (x6 * 256 + x7))) (y4 * 16777216 + (y5 * 65536 + (y6 * 256 + y7))) (x4 ∷ x5 ∷ x6 ∷ x7 ∷ a) (y4 ∷ y5 ∷ y6 ∷ y7 ∷ b) a b
-  eight_from_4 = more_decides 16777216 x4 y4 (x5 * 65536 + (x6 * 256 + x7)) (y5 * 65536 + (y6 * 256 + y7)) (x5 ∷ x6 ∷ x7 ∷ a) (y5 ∷ y6 ∷ y7 ∷ b) a b (omega (arith, small_a 5, small_a 6, small_a 7)) (omega (arith, small_b 5, small_b 6, small_b 7)) (eight_from_5)
+-- ---- the numbers that stand at the first bytes of two texts, and behind so many
 
-  eight_from_3 : Decides (x3 * 4294967296 + (x4 * 16777216 + (x5 * 65536 + (x6 * 256 + x7)))) (y3 * 4294967296 + (y4 * 16777216 + (y5 * 65536 + (y6 * 256 + y7)))) (x3 ∷ x4 ∷ x5 ∷ x6 ∷ x7 ∷ a) (y3 ∷ y4 ∷ y5 ∷ y6 ∷ y7 ∷ b) a b
-  eight_from_3 = more_decides 4294967296 x3 y3 (x4 * 16777216 + (x5 * 65536 + (x6 * 256 + x7))) (y4 * 16777216 + (y5 * 65536 + (y6 * 256 + y7))) (x4 ∷ x5 ∷ x6 ∷ x7 ∷ a) (y4 ∷ y5 ∷ y6 ∷ y7 ∷ b) a b (omega (arith, small_a 4, small_a 5, small_a 6, small_a 7)) (omega (arith, small_b 4, small_b 5, small_b 6, small_b 7)) (eight_from_4)
+pub eight_decide : (n k : ℕ) (a b : List ℕ) → n ≡ from_be_bytes w64 (take 8 a) → k ≡ from_be_bytes w64 (take 8 b) → IsBytes a → IsBytes b → 8 ≤ length a → 8 ≤ length b → Decides n k a b (drop 8 a) (drop 8 b)
+eight_decide n k a b n_is k_is bytes_a bytes_b long_a long_b = renamed n k _ _ a b (drop 8 a) (drop 8 b) n_is k_is (first_decide w64 8 worth_8 a b bytes_a bytes_b long_a long_b)
 
-  eight_from_2 : Decides (x2 * 1099511627776 + (x3 * 4294967296 + (x4 * 16777216 + (x5 * 65536 + (x6 * 256 + x7))))) (y2 * 1099511627776 + (y3 * 4294967296 + (y4 * 16777216 + (y5 * 65536 + (y6 * 256 + y7))))) (x2 ∷ x3 ∷ x4 ∷ x5 ∷ x6 ∷ x7 ∷ a) (y2 ∷ y3 ∷ y4 ∷ y5 ∷ y6 ∷ y7 ∷ b) a b
-  eight_from_2 = more_decides 1099511627776 x2 y2 (x3 * 4294967296 + (x4 * 16777216 + (x5 * 65536 + (x6 * 256 + x7)))) (y3 * 4294967296 + (y4 * 16777216 + (y5 * 65536 + (y6 * 256 + y7)))) (x3 ∷ x4 ∷ x5 ∷ x6 ∷ x7 ∷ a) (y3 ∷ y4 ∷ y5 ∷ y6 ∷ y7 ∷ b) a b (omega (arith, small_a 3, small_a 4, small_a 5, small_a 6, small_a 7)) (omega (arith, small_b 3, small_b 4, small_b 5, small_b 6, small_b 7)) (eight_from_3)
-
-  eight_from_1 : Decides (x1 * 281474976710656 + (x2 * 1099511627776 + (x3 * 4294967296 + (x4 * 16777216 + (x5 * 65536 + (x6 * 256 + x7)))))) (y1 * 281474976710656 + (y2 * 1099511627776 + (y3 * 4294967296 + (y4 * 16777216 + (y5 * 65536 + (y6 * 256 + y7)))))) (x1 ∷ x2 ∷ x3 ∷ x4 ∷ x5 ∷ x6 ∷ x7 ∷ a) (y1 ∷ y2 ∷ y3 ∷ y4 ∷ y5 ∷ y6 ∷ y7 ∷ b) a b
-  eight_from_1 = more_decides 281474976710656 x1 y1 (x2 * 1099511627776 + (x3 * 4294967296 + (x4 * 16777216 + (x5 * 65536 + (x6 * 256 + x7))))) (y2 * 1099511627776 + (y3 * 4294967296 + (y4 * 16777216 + (y5 * 65536 + (y6 * 256 + y7))))) (x2 ∷ x3 ∷ x4 ∷ x5 ∷ x6 ∷ x7 ∷ a) (y2 ∷ y3 ∷ y4 ∷ y5 ∷ y6 ∷ y7 ∷ b) a b (omega (arith, small_a 2, small_a 3, small_a 4, small_a 5, small_a 6, small_a 7)) (omega (arith, small_b 2, small_b 3, small_b 4, small_b 5, small_b 6, small_b 7)) (eight_from_2)
-
-  eight_from_0 : Decides (x0 * 72057594037927936 + (x1 * 281474976710656 + (x2 * 1099511627776 + (x3 * 4294967296 + (x4 * 16777216 + (x5 * 65536 + (x6 * 256 + x7))))))) (y0 * 72057594037927936 + (y1 * 281474976710656 + (y2 * 1099511627776 + (y3 * 4294967296 + (y4 * 16777216 + (y5 * 65536 + (y6 * 256 + y7))))))) (x0 ∷ x1 ∷ x2 ∷ x3 ∷ x4 ∷ x5 ∷ x6 ∷ x7 ∷ a) (y0 ∷ y1 ∷ y2 ∷ y3 ∷ y4 ∷ y5 ∷ y6 ∷ y7 ∷ b) a b
-  eight_from_0 = more_decides 72057594037927936 x0 y0 (x1 * 281474976710656 + (x2 * 1099511627776 + (x3 * 4294967296 + (x4 * 16777216 + (x5 * 65536 + (x6 * 256 + x7)))))) (y1 * 281474976710656 + (y2 * 1099511627776 + (y3 * 4294967296 + (y4 * 16777216 + (y5 * 65536 + (y6 * 256 + y7)))))) (x1 ∷ x2 ∷ x3 ∷ x4 ∷ x5 ∷ x6 ∷ x7 ∷ a) (y1 ∷ y2 ∷ y3 ∷ y4 ∷ y5 ∷ y6 ∷ y7 ∷ b) a b (omega (arith, small_a 1, small_a 2, small_a 3, small_a 4, small_a 5, small_a 6, small_a 7)) (omega (arith, small_b 1, small_b 2, small_b 3, small_b 4, small_b 5, small_b 6, small_b 7)) (eight_from_1)
-
-parts_8 : (a : List ℕ) → 8 ≤ length a → a ≡ get_or a 0 0 ∷ get_or a 1 0 ∷ get_or a 2 0 ∷ get_or a 3 0 ∷ get_or a 4 0 ∷ get_or a 5 0 ∷ get_or a 6 0 ∷ get_or a 7 0 ∷ drop 8 a
-parts_8 [] long = absurd (omega (arith, long))
-parts_8 (x0 ∷ []) long = absurd (omega (arith, long))
-parts_8 (x0 ∷ x1 ∷ []) long = absurd (omega (arith, long))
-parts_8 (x0 ∷ x1 ∷ x2 ∷ []) long = absurd (omega (arith, long))
-parts_8 (x0 ∷ x1 ∷ x2 ∷ x3 ∷ []) long = absurd (omega (arith, long))
-parts_8 (x0 ∷ x1 ∷ x2 ∷ x3 ∷ x4 ∷ []) long = absurd (omega (arith, long))
-parts_8 (x0 ∷ x1 ∷ x2 ∷ x3 ∷ x4 ∷ x5 ∷ []) long = absurd (omega (arith, long))
-parts_8 (x0 ∷ x1 ∷ x2 ∷ x3 ∷ x4 ∷ x5 ∷ x6 ∷ []) long = absurd (omega (arith, long))
-parts_8 (x0 ∷ x1 ∷ x2 ∷ x3 ∷ x4 ∷ x5 ∷ x6 ∷ x7 ∷ a) long = refl
-
-pub first_eight : (a b : List ℕ) → IsBytes (take 8 a) → IsBytes (take 8 b) → 8 ≤ length a → 8 ≤ length b → Decides (from_be_bytes w64 (take 8 a)) (from_be_bytes w64 (take 8 b)) a b (drop 8 a) (drop 8 b)
-first_eight a b small_a small_b long_a long_b =
-    let parts_a = parts_8 a long_a in
-    let parts_b = parts_8 b long_b in
-    let rest_a = drop 8 a in
-    let rest_b = drop 8 b in
-    let own = eight_from_0 (get_or a 0 0) (get_or a 1 0) (get_or a 2 0) (get_or a 3 0) (get_or a 4 0) (get_or a 5 0) (get_or a 6 0) (get_or a 7 0) (get_or b 0 0) (get_or b 1 0) (get_or b 2 0) (get_or b 3 0) (get_or b 4 0) (get_or b 5 0) (get_or b 6 0) (get_or b 7 0) rest_a rest_b (subst (λ (l : List ℕ). IsBytes (take 8 l)) parts_a small_a) (subst (λ (l : List ℕ). IsBytes (take 8 l)) parts_b small_b) in
-    let named = renamed (from_be_bytes w64 (take 8 (get_or a 0 0 ∷ get_or a 1 0 ∷ get_or a 2 0 ∷ get_or a 3 0 ∷ get_or a 4 0 ∷ get_or a 5 0 ∷ get_or a 6 0 ∷ get_or a 7 0 ∷ rest_a))) (from_be_bytes w64 (take 8 (get_or b 0 0 ∷ get_or b 1 0 ∷ get_or b 2 0 ∷ get_or b 3 0 ∷ get_or b 4 0 ∷ get_or b 5 0 ∷ get_or b 6 0 ∷ get_or b 7 0 ∷ rest_b))) (get_or a 0 0 * 72057594037927936 + (get_or a 1 0 * 281474976710656 + (get_or a 2 0 * 1099511627776 + (get_or a 3 0 * 4294967296 + (get_or a 4 0 * 16777216 + (get_or a 5 0 * 65536 + (get_or a 6 0 * 256 + (get_or a 7 0)))))))) (get_or b 0 0 * 72057594037927936 + (get_or b 1 0 * 281474976710656 + (get_or b 2 0 * 1099511627776 + (get_or b 3 0 * 4294967296 + (get_or b 4 0 * 16777216 + (get_or b 5 0 * 65536 + (get_or b 6 0 * 256 + (get_or b 7 0)))))))) (get_or a 0 0 ∷ get_or a 1 0 ∷ get_or a 2 0 ∷ get_or a 3 0 ∷ get_or a 4 0 ∷ get_or a 5 0 ∷ get_or a 6 0 ∷ get_or a 7 0 ∷ rest_a) (get_or b 0 0 ∷ get_or b 1 0 ∷ get_or b 2 0 ∷ get_or b 3 0 ∷ get_or b 4 0 ∷ get_or b 5 0 ∷ get_or b 6 0 ∷ get_or b 7 0 ∷ rest_b) rest_a rest_b (omega arith) (omega arith) own in
-    let left = subst (λ (l : List ℕ). Decides (from_be_bytes w64 (take 8 l)) (from_be_bytes w64 (take 8 (get_or b 0 0 ∷ get_or b 1 0 ∷ get_or b 2 0 ∷ get_or b 3 0 ∷ get_or b 4 0 ∷ get_or b 5 0 ∷ get_or b 6 0 ∷ get_or b 7 0 ∷ rest_b))) l (get_or b 0 0 ∷ get_or b 1 0 ∷ get_or b 2 0 ∷ get_or b 3 0 ∷ get_or b 4 0 ∷ get_or b 5 0 ∷ get_or b 6 0 ∷ get_or b 7 0 ∷ rest_b) rest_a rest_b) (sym parts_a) named in
-    subst (λ (l : List ℕ). Decides (from_be_bytes w64 (take 8 a)) (from_be_bytes w64 (take 8 l)) a l rest_a rest_b) (sym parts_b) left
+pub four_decide : (i n k : ℕ) (a b : List ℕ) → n ≡ from_be_bytes w32 (take 4 (drop i a)) → k ≡ from_be_bytes w32 (take 4 (drop i b)) → IsBytes a → IsBytes b → i + 4 ≤ length a → i + 4 ≤ length b
+    → Decides n k (drop i a) (drop i b) (drop 4 (drop i a)) (drop 4 (drop i b))
+four_decide i n k a b n_is k_is bytes_a bytes_b long_a long_b =
+    renamed n k _ _ (drop i a) (drop i b) (drop 4 (drop i a)) (drop 4 (drop i b)) n_is k_is
+    (first_decide w32 4 worth_4 (drop i a) (drop i b) (IsBytes-drop i a bytes_a) (IsBytes-drop i b bytes_b) (omega (arith, long_a, length-drop i a)) (omega (arith, long_b, length-drop i b)))

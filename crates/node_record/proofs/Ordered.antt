@@ -1,18 +1,18 @@
 -- The place of a key among items in the order of their keys.
 use Rattle.std.proofs.Common.{◌≡◌, ◌⊎◌, ℕ, zero, suc, ◌+◌, ◌<◌, ◌≤◌, true, false, cond, List, [], ◌∷◌, ◌++◌, length, take, drop, get_or, slice_get, Some, refl, sym, ap, subst, ◌∙◌, inl, inr, true≢false, arith, append-nil, take-append-drop}
-use Rattle.std.specs.Prelude.{filter}
+use Rattle.std.specs.Prelude.{filter, map}
 use Rattle.std.specs.List.{AllByRecursion}
 use Rattle.std.specs.List.Sorted.{IsPartitionedBy, IsPartitionPoint}
 use Rattle.std.proofs.lemmas.List.{length-take, length-drop, get_or-take, get_or-drop}
 use Rattle.std.proofs.lemmas.List.Elements.{filter-append, recursion_from_All, All-from_recursion}
-use Rattle.fine_model.specs.Map.{is_below}
+use Rattle.fine_model.specs.Map.{is_ascending, is_below}
 use Rattle.fine_model.proofs.Order.{order_cases, is_below-trans, is_below-asym, filter_all, filter_none, all_map}
-use Rattle.fine_model.proofs.InOrder.{AreUp, AreUp-drop}
+use Rattle.fine_model.proofs.InOrder.{AreUp, AreUp-drop, AreUp-from_ascending}
 use Rattle.node_record.specs.Places.{StandsAt, BelongsAt}
 
 module _ {A : Type 0} (name : A → List ℕ) where
   -- in ascending items, none that is below a key comes after one that is not
-  pub partitioned : (key : List ℕ) (xs : List A) → AreUp name xs → IsPartitionedBy (λ x. is_below (name x) key) xs
+  partitioned : (key : List ℕ) (xs : List A) → AreUp name xs → IsPartitionedBy (λ x. is_below (name x) key) xs
   partitioned key xs up i j d le lt low = by xs i j up le lt low
     where
       one : (x : A) (xs : List A) (j : ℕ) → AllByRecursion (λ y. is_below (name x) (name y) ≡ true) xs → j < length xs → is_below (name (get_or xs j d)) key ≡ true → is_below (name x) key ≡ true
@@ -59,8 +59,29 @@ module _ {A : Type 0} (name : A → List ℕ) where
   past_end (x ∷ xs) zero le = absurd (omega arith)
   past_end (x ∷ xs) (suc i) le = past_end xs i (omega arith)
 
-  module _ (key : List ℕ) (xs : List A) (i : ℕ) (within : i ≤ length xs) (up : AreUp name xs)
-      (point : IsPartitionPoint (λ x. is_below (name x) key ≡ true) (λ x. is_below (name x) key ≡ false) xs i) where
+  -- ascending items, of which those below a key stand before a place
+  pub record IsParted (key : List ℕ) (xs : List A) (i : ℕ) : Type 0 where
+    pub within : i ≤ length xs
+    pub up : AreUp name xs
+    pub point : IsPartitionPoint (λ x. is_below (name x) key ≡ true) (λ x. is_below (name x) key ≡ false) xs i
+
+  -- a search for the place of ascending items finds it
+  pub parted : (key : List ℕ) (xs ys : List A) (i : ℕ) → ys ≡ xs → i ≤ length ys → is_ascending (map name xs) ≡ true
+      → (IsPartitionedBy (λ x. is_below (name x) key) xs → IsPartitionPoint (λ x. is_below (name x) key ≡ true) (λ x. is_below (name x) key ≡ false) xs i) → IsParted key xs i
+  parted key xs ys i same bound ascending found =
+      let up = AreUp-from_ascending name xs ascending in
+      record { within = omega (arith, bound, ap length same); up = up; point = found (partitioned key xs up) }
+
+  module _ (key : List ℕ) (xs : List A) (i : ℕ) (at : IsParted key xs i) where
+    within : i ≤ length xs
+    within = at.within
+
+    up : AreUp name xs
+    up = at.up
+
+    point : IsPartitionPoint (λ x. is_below (name x) key ≡ true) (λ x. is_below (name x) key ≡ false) xs i
+    point = at.point
+
     -- the item at the place is not above the key, so it has the key
     pub stands_at : (lt : i < length xs) (x : A) → slice_get xs i ≡ Some x → is_below key (name x) ≡ false → StandsAt name key xs i
     stands_at lt x is high =

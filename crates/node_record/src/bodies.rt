@@ -70,8 +70,9 @@ pub mod head {
 
 /// The number of the pairs, and the pairs.
 pub mod leaf {
+    use super::pair::write as write_pair;
     use crate::fault::RowFault;
-    use crate::fields::{byte, put, put_key, put_value, sure};
+    use crate::fields::{byte, put, sure};
     use crate::items::{items, pairs_end};
     use crate::places::pairs_ascend;
     use fine_model::format::MOST_IN_NODE;
@@ -99,8 +100,7 @@ pub mod leaf {
     {
         put(out, &[pairs.len() as u8]);
         for pair in pairs.as_slice() {
-            put_key(out, &pair.0);
-            put_value(out, &pair.1);
+            write_pair(out, &pair.0, &pair.1);
         }
     }
 

@@ -1,10 +1,10 @@
 //! The fields of which rows are made.
 
 ghost use Rattle.std.specs.Prelude.{◌≡◌, ◌+◌, ◌≤◌, ◌∷◌, [], length, take, drop, option_map, IfOk, vec_len, vec_capacity, if◌then◌else◌};
-ghost use Rattle.std.specs.Int.{to_be_bytes, w16, w32};
+ghost use Rattle.std.specs.Int.{to_be_bytes, w32};
 ghost use Rattle.fine_model.specs.RowBytes.{FitsKey, FitsValue, key_bytes, value_bytes};
 ghost use Rattle.node_record.specs.declared.fault.RowFault.TheVariants as fault;
-ghost use Rattle.node_record.specs.Reading.{Gives, Finds, within, text_at, byte_at, number_at, signed_at, key_at, value_at, pair_at, child_at};
+ghost use Rattle.node_record.specs.Reading.{Gives, Finds, within, text_at, byte_at, number_at, signed_at, key_at, pair_at, child_at};
 ghost use Rattle.node_record.specs.Writing.{Appends};
 
 use crate::fault::RowFault;
@@ -88,18 +88,6 @@ pub fn byte(bytes: &[u8], start: usize, at: usize) -> Result<(u8, usize), RowFau
 
 #[inline(always)]
 #[tactic(auto, unfolding(crate::specs::Reading::number_at))]
-pub fn number_u16(bytes: &[u8], start: usize, at: usize) -> Result<(u16, usize), RowFault>
-    requires { at ≤ length bytes.now }
-    ensures { Finds (λ n. n) bytes.now start result (number_at w16 (drop at bytes.now)) }
-{
-    match field::<2>(bytes, at) {
-        Some(text) => Ok((u16::from_be_bytes(text), at + 2)),
-        None => Err(RowFault::Bad { at: start }),
-    }
-}
-
-#[inline(always)]
-#[tactic(auto, unfolding(crate::specs::Reading::number_at))]
 pub fn number_u32(bytes: &[u8], start: usize, at: usize) -> Result<(u32, usize), RowFault>
     requires { at ≤ length bytes.now }
     ensures { Finds (λ n. n) bytes.now start result (number_at w32 (drop at bytes.now)) }
@@ -142,17 +130,6 @@ pub fn key_in(bytes: &[u8], start: usize, at: usize) -> Result<(&[u8], usize), R
 {
     let (len, at) = byte(bytes, start, at)?;
     sure(1 <= len && len as usize <= MOST_IN_KEY, start)?;
-    text_in(bytes, start, at, len as usize)
-}
-
-#[inline(always)]
-#[tactic(auto, unfolding(crate::specs::Reading::value_at))]
-fn value_in(bytes: &[u8], start: usize, at: usize) -> Result<(&[u8], usize), RowFault>
-    requires { at ≤ length bytes.now }
-    ensures { Finds (λ value. value.now) bytes.now start result (value_at (drop at bytes.now)) }
-{
-    let (len, at) = number_u16(bytes, start, at)?;
-    sure(1 <= len && len as usize <= MOST_IN_VALUE, start)?;
     text_in(bytes, start, at, len as usize)
 }
 
@@ -200,7 +177,6 @@ pub fn key(alloc: Global, bytes: &[u8], start: usize, at: usize) -> Result<(Byte
     Ok((copy(alloc, key)?, at))
 }
 
-#[tactic(auto, unfolding(crate::specs::Reading::pair_at))]
 pub fn pair(
     alloc: Global,
     bytes: &[u8],
@@ -210,8 +186,7 @@ pub fn pair(
     requires { at ≤ length bytes.now }
     ensures { Gives (λ pair. pair) bytes.now start result (pair_at (drop at bytes.now)) }
 {
-    let (key, at) = key_in(bytes, start, at)?;
-    let (value, at) = value_in(bytes, start, at)?;
+    let ((key, value), at) = pair_in(bytes, start, at)?;
     Ok(((copy(alloc, key)?, copy(alloc, value)?), at))
 }
 

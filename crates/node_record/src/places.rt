@@ -1,6 +1,6 @@
 //! The place of a key among items in the order of their keys.
 
-ghost use Rattle.std.specs.Prelude.{◌≡◌, ◌≤◌, IsTrue, MatchResult, map};
+ghost use Rattle.std.specs.Prelude.{◌≡◌, ◌≤◌, IsTrue, MatchResult, drop, length, map};
 ghost use Rattle.std.specs.List.Sorted.{IsPartitionPoint};
 ghost use Rattle.fine_model.specs.Map.{is_below, is_ascending};
 ghost use Rattle.node_record.specs.Places.{StandsAt, BelongsAt};
@@ -25,6 +25,16 @@ pub fn is_below(a: &[u8], b: &[u8]) -> bool
     if first_a != first_b {
         return first_a < first_b;
     }
+    is_below_from_next(a, b)
+}
+
+/// Whether `a` stands before `b` by what is behind their first eight bytes.
+#[inline(always)]
+fn is_below_from_next(a: &[u8], b: &[u8]) -> bool
+    requires long_a { 12 ≤ length a.now }
+    requires long_b { 12 ≤ length b.now }
+    ensures { result ≡ is_below (drop 8 a.now) (drop 8 b.now) }
+{
     let next_a = u32::from_be_bytes(part::<4>(a, 8));
     let next_b = u32::from_be_bytes(part::<4>(b, 8));
     if next_a != next_b {

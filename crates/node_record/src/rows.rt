@@ -1,9 +1,9 @@
 //! Rows as bytes.
 
 ghost use Rattle.std.specs.Prelude.{◌≡◌, ◌+◌, ◌≤◌, ◌<◌, ◌++◌, ◌==◌, length, drop, option_map, vec_len, vec_capacity, IfOk, IfErr, OnOk, OnErr, MatchOption, Some, None, if◌then◌else◌};
-ghost use Rattle.fine_model.specs.RowBytes.{FitsRec, row_bytes, row_len, last_kind, row_front};
+ghost use Rattle.fine_model.specs.RowBytes.{FitsRec, body, kind, row_bytes, row_len, last_kind, row_front};
 ghost use Rattle.node_record.specs.declared.fault.RowFault.TheVariants as fault;
-ghost use Rattle.node_record.specs.Reading.{Finds, Passes, behind, body_at, fits_kind, front_at, is_front};
+ghost use Rattle.node_record.specs.Reading.{Finds, Gives, Passes, behind, body_at, fits_kind, front_at, is_front};
 ghost use Rattle.node_record.specs.Rows.{IsRowAt, IsFault, IsReadAgain};
 ghost use Rattle.node_record.specs.Writing.{Appends, front};
 
@@ -41,13 +41,13 @@ macro_rules! length_of {
 }
 
 macro_rules! read_by {
-    (($alloc:expr, $bytes:expr, $at:expr, $front:expr, $start:expr) $($kind:literal $name:ident { $($field:ident),* } $body:ident;)*) => {
-        match $front.kind {
-            $($kind => {
-                let (($($field),*), end) = $body::read($alloc, $bytes, $at, $start)?;
-                whole($front, Rec::$name { $($field),* }, $at, $start, end)
+    (($alloc:expr, $bytes:expr, $start:expr, $at:expr, $kind:expr) $($number:literal $name:ident { $($field:ident),* } $body:ident;)*) => {
+        match $kind {
+            $($number => {
+                let (($($field),*), end) = $body::read($alloc, $bytes, $start, $at)?;
+                Ok((Rec::$name { $($field),* }, end))
             })*
-            _ => Err(RowFault::Bad { at: $at }),
+            _ => Err(RowFault::Bad { at: $start }),
         }
     };
 }
@@ -61,14 +61,18 @@ macro_rules! end_of {
     };
 }
 
+macro_rules! kind_in {
+    (($rec:expr) $($kind:literal $name:ident { $($field:ident),* } $body:ident;)*) => {
+        match $rec {
+            $(Rec::$name { .. } => $kind,)*
+        }
+    };
+}
+
 macro_rules! write_to {
-    (($out:expr, $row:expr, $len:expr) $($kind:literal $name:ident { $($field:ident),* } $body:ident;)*) => {
-        match &$row.rec {
-            $(Rec::$name { $($field),* } => {
-                write_front($out, $kind, $row, $len - ROW_FRONT as u32);
-                $body::write($out, $($field),*);
-                Ok(())
-            })*
+    (($out:expr, $rec:expr) $($kind:literal $name:ident { $($field:ident),* } $body:ident;)*) => {
+        match $rec {
+            $(Rec::$name { $($field),* } => $body::write($out, $($field),*),)*
         }
     };
 }
@@ -96,6 +100,23 @@ fn write_front(out: &mut Vec<u8>, kind: u8, row: &Row, len: u32)
     put(out, &len.to_be_bytes());
 }
 
+/// The number of a row's kind.
+fn kind_of(rec: &Rec) -> u8
+    ensures { result ≡ kind rec.now }
+{
+    kinds!(kind_in(rec))
+}
+
+/// Appends the body of a row.
+#[tactic(auto, unfolding(fine_model::specs::RowBytes::body))]
+fn write_body(out: &mut Vec<u8>, rec: &Rec)
+    requires fits { FitsRec rec.now }
+    requires room { vec_len out.old + length (body rec.now) ≤ vec_capacity out.old }
+    ensures { Appends out.old out.new (body rec.now) }
+{
+    kinds!(write_to(out, rec))
+}
+
 /// Appends the one spelling of a row. After `NoMemory` the bytes are those that stood there.
 pub fn write_row(out: &mut Vec<u8>, row: &Row) -> Result<(), NoMemory>
     requires { FitsRec row.now.rec }
@@ -104,7 +125,9 @@ pub fn write_row(out: &mut Vec<u8>, row: &Row) -> Result<(), NoMemory>
 {
     let len = row_len(row);
     out.reserve(len as usize)?;
-    kinds!(write_to(out, row, len))
+    write_front(out, kind_of(&row.rec), row, len - ROW_FRONT as u32);
+    write_body(out, &row.rec);
+    Ok(())
 }
 
 /// The greatest kind in a partition of a format.
@@ -155,11 +178,7 @@ fn front_in(bytes: &[u8], start: usize, mark: Mark) -> Option<Front>
         len: u32::from_be_bytes(part::<4>(bytes, start + 15)),
         kind: bytes[start],
     };
-    if is_front(front, mark) {
-        Some(front)
-    } else {
-        None
-    }
+    is_front(front, mark).then_some(front)
 }
 
 /// What stands before the body of a row.
@@ -248,11 +267,25 @@ fn whole(
     ))
 }
 
+/// Reads the body of a kind that stands at `at`, in a row that starts at `start`.
+#[tactic(auto, unfolding(crate::specs::Reading::body_at, crate::specs::Reading::keyed_at))]
+fn read_body(
+    alloc: Global,
+    bytes: &[u8],
+    start: usize,
+    at: usize,
+    kind: u8,
+) -> Result<(Rec, usize), RowFault>
+    requires { at ≤ length bytes.now }
+    ensures { Gives (λ rec. rec) bytes.now start result (body_at kind (drop at bytes.now)) }
+{
+    kinds!(read_by(alloc, bytes, start, at, kind))
+}
+
 /// Reads the row that starts at a place, by the grammar of a format, and answers it with the place behind it.
 ///
 /// `Bad` comes exactly where nothing that starts there is a row of the format, whatever the bytes are. A row that was written is read
 /// again, whatever follows it.
-#[tactic(auto, unfolding(crate::specs::Reading::row_at, crate::specs::Reading::body_at, crate::specs::Reading::keyed_at))]
 pub fn read_row(
     alloc: Global,
     bytes: &[u8],
@@ -265,5 +298,6 @@ pub fn read_row(
     ensures again { IsReadAgain mark bytes.now at result }
 {
     let (front, body) = read_front(bytes, at, mark)?;
-    kinds!(read_by(alloc, bytes, at, front, body))
+    let (rec, end) = read_body(alloc, bytes, at, body, front.kind)?;
+    whole(front, rec, at, body, end)
 }

@@ -1,9 +1,10 @@
-use Rattle.std.proofs.Common.{arith, ap, length, take, length-append}
+use Rattle.std.proofs.Common.{◌∷◌, arith, ap, length, length-append}
 use Rattle.std.specs.List.{flat_map}
 use Rattle.std.specs.Int.{to_be_bytes, w32}
 use Rattle.std.proofs.lemmas.List.Folds.{length-flat_map-take}
+use Rattle.fine_model.specs.declared.Rec.TheVariants as rec
 use Rattle.fine_model.specs.RowBytes.{body, key_bytes}
-use Rattle.node_record.proofs.Writing.{item_room}
+use Rattle.node_record.proofs.Writing.{item_fits}
 use Rattle.node_record.proofs.bodies.inner.write.Goals as goal
 
 pub put-requires-in-loop-kid : goal.put-requires-in-loop-kid
@@ -21,12 +22,5 @@ put-requires-in-loop-kid c =
 pub put_key-requires-clause-room : goal.put_key-requires-clause-room
 unfolding body
 put_key-requires-clause-room c =
-    omega (
-      arith,
-      item_room key_bytes c.args.seps.now c.as_slice-key-items.result.now c.loop-key.key-index c.key-item.result c.as_slice-key-items.ensures c.loop-key-test.true c.key-item.is,
-      length-append (flat_map (to_be_bytes w32) c.args.kids.now) (flat_map key_bytes c.args.seps.now),
-      length-append (flat_map (to_be_bytes w32) c.args.kids.now) (flat_map key_bytes (take c.loop-key.key-index c.args.seps.now)),
-      c.loop-key.invariant.len,
-      c.loop-key.invariant.room,
-      c.requires.room,
-    )
+    item_fits key_bytes _ _ (length c.args.seps.now ∷ flat_map (to_be_bytes w32) c.args.kids.now) (body (rec.InnerImage c.args.seps.now c.args.kids.now)) c.args.seps.now _ c.loop-key.key-index c.key-item.result c.as_slice-key-items.ensures c.loop-key-test.true c.key-item.is c.requires.room
+    (omega (arith, length-append (flat_map (to_be_bytes w32) c.args.kids.now) (flat_map key_bytes c.args.seps.now))) c.loop-key.invariant

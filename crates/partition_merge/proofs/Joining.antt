@@ -152,36 +152,30 @@ module _ (known : Option Image) (start : Merger) where
 
   -- ---- a block
 
+  -- where only what waits is moved into the block, or out of it
+  moved_joined : (v : BlocksValue) (block waiting handed after : List ℕ) → after ++ waiting ≡ handed ++ v.waiting → IsJoined known start v handed → IsJoined known start (record v { block = block; waiting = waiting }) after
+  moved_joined v block waiting handed after same i = record {
+    joins = i.joins;
+    goes_on = i.goes_on;
+    index = i.index;
+    is_index = i.is_index;
+    made = same ∙ i.made;
+    own_index = i.own_index;
+    offset = i.offset;
+    none_left = i.none_left;
+  }
+
   -- with its block emptied
   pub cleared_joined : (v w : BlocksValue) (handed : List ℕ) → w ≡ record v { block = [] } → IsJoined known start v handed → IsJoined known start w (handed ++ w.block)
-  cleared_joined v w handed is i =
-      subst (λ (x : BlocksValue). IsJoined known start x (handed ++ x.block)) (sym is)
-      (record {
-        joins = i.joins;
-        goes_on = i.goes_on;
-        index = i.index;
-        is_index = i.is_index;
-        made = ap (λ xs. xs ++ v.waiting) (append-nil handed) ∙ i.made;
-        own_index = i.own_index;
-        offset = i.offset;
-        none_left = i.none_left;
-      })
+  cleared_joined v w handed is i = subst (λ (x : BlocksValue). IsJoined known start x (handed ++ x.block)) (sym is) (moved_joined v [] v.waiting handed (handed ++ []) (ap (λ xs. xs ++ v.waiting) (append-nil handed)) i)
 
   -- what waits goes on to a block that has room for n bytes
   pub filled_joined : (v w : BlocksValue) (before handed : List ℕ) (n : ℕ) → w ≡ filled v n → v.block ≡ before → IsJoined known start v (handed ++ before) → IsJoined known start w (handed ++ w.block)
   filled_joined v w before handed n is block i =
       subst (λ (x : BlocksValue). IsJoined known start x (handed ++ x.block)) (sym is)
-      (record {
-        joins = i.joins;
-        goes_on = i.goes_on;
-        index = i.index;
-        is_index = i.is_index;
-        made = ap (λ xs. xs ++ drop n v.waiting) (sym (append_assoc handed v.block (take n v.waiting))) ∙ append_assoc (handed ++ v.block) (take n v.waiting) (drop n v.waiting)
-            ∙ ap (λ xs. (handed ++ v.block) ++ xs) (take-append-drop n v.waiting) ∙ ap (λ xs. (handed ++ xs) ++ v.waiting) block ∙ i.made;
-        own_index = i.own_index;
-        offset = i.offset;
-        none_left = i.none_left;
-      })
+      (moved_joined v (v.block ++ take n v.waiting) (drop n v.waiting) (handed ++ before) (handed ++ (v.block ++ take n v.waiting))
+      (ap (λ xs. xs ++ drop n v.waiting) (sym (append_assoc handed v.block (take n v.waiting))) ∙ append_assoc (handed ++ v.block) (take n v.waiting) (drop n v.waiting)
+      ∙ ap (λ xs. (handed ++ v.block) ++ xs) (take-append-drop n v.waiting) ∙ ap (λ xs. (handed ++ xs) ++ v.waiting) block) i)
 
   -- a block that is not empty, or the end of all
   pub gives_joined : (v : BlocksValue) (handed : List ℕ) (none : Bool) → IsJoined known start v (handed ++ v.block) → none ≡ (length v.block == 0) → (none ≡ true → (v.waiting ≡ []) × (v.is_whole ≡ true)) → GivesJoined known start v handed (not none)

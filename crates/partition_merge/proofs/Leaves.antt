@@ -196,52 +196,23 @@ module _ {A : Type 0} (show : A → List ℕ) where
 
 -- ---- what rows change
 
--- a change of the kind that puts a pair
-pub put_of : (change : Rec) → kind change ≡ 4 → (pair : Pair) × (change ≡ rec.Put pair.0 pair.1)
-put_of (rec.Put key value) e = ((key, value), refl)
-put_of (rec.HeadImage root next depth) e = absurd (omega (arith, e))
-put_of (rec.LeafImage pairs) e = absurd (omega (arith, e))
-put_of (rec.InnerImage seps kids) e = absurd (omega (arith, e))
-put_of (rec.Del key) e = absurd (omega (arith, e))
-put_of (rec.CutLeaf key) e = absurd (omega (arith, e))
-put_of (rec.CutInner key) e = absurd (omega (arith, e))
-put_of (rec.Link key child) e = absurd (omega (arith, e))
-put_of (rec.Plus key by) e = absurd (omega (arith, e))
+-- what a change is by its kind: an image of a leaf, or one that puts a pair, deletes a key, or cuts a leaf
+pub record ByKind (change : Rec) : Type 0 where
+  pub image : kind change ≡ 2 → (pairs : List Pair) × (change ≡ rec.LeafImage pairs)
+  pub put : kind change ≡ 4 → (pair : Pair) × (change ≡ rec.Put pair.0 pair.1)
+  pub deletes : kind change ≡ 5 → (key : List ℕ) × (change ≡ rec.Del key)
+  pub cuts : kind change ≡ 6 → (key : List ℕ) × (change ≡ rec.CutLeaf key)
 
--- a change of the kind that is a leaf image
-image_in : (change : Rec) → kind change ≡ 2 → (pairs : List Pair) × (change ≡ rec.LeafImage pairs)
-image_in (rec.LeafImage pairs) e = (pairs, refl)
-image_in (rec.HeadImage root next depth) e = absurd (omega (arith, e))
-image_in (rec.InnerImage seps kids) e = absurd (omega (arith, e))
-image_in (rec.Put key value) e = absurd (omega (arith, e))
-image_in (rec.Del key) e = absurd (omega (arith, e))
-image_in (rec.CutLeaf key) e = absurd (omega (arith, e))
-image_in (rec.CutInner key) e = absurd (omega (arith, e))
-image_in (rec.Link key child) e = absurd (omega (arith, e))
-image_in (rec.Plus key by) e = absurd (omega (arith, e))
-
--- a change of the kind that deletes a key, and of the kind that cuts a leaf
-pub deleted_by : (change : Rec) → kind change ≡ 5 → (key : List ℕ) × (change ≡ rec.Del key)
-deleted_by (rec.Del key) e = (key, refl)
-deleted_by (rec.HeadImage root next depth) e = absurd (omega (arith, e))
-deleted_by (rec.LeafImage pairs) e = absurd (omega (arith, e))
-deleted_by (rec.InnerImage seps kids) e = absurd (omega (arith, e))
-deleted_by (rec.Put key value) e = absurd (omega (arith, e))
-deleted_by (rec.CutLeaf key) e = absurd (omega (arith, e))
-deleted_by (rec.CutInner key) e = absurd (omega (arith, e))
-deleted_by (rec.Link key child) e = absurd (omega (arith, e))
-deleted_by (rec.Plus key by) e = absurd (omega (arith, e))
-
-pub cut_by : (change : Rec) → kind change ≡ 6 → (key : List ℕ) × (change ≡ rec.CutLeaf key)
-cut_by (rec.CutLeaf key) e = (key, refl)
-cut_by (rec.HeadImage root next depth) e = absurd (omega (arith, e))
-cut_by (rec.LeafImage pairs) e = absurd (omega (arith, e))
-cut_by (rec.InnerImage seps kids) e = absurd (omega (arith, e))
-cut_by (rec.Put key value) e = absurd (omega (arith, e))
-cut_by (rec.Del key) e = absurd (omega (arith, e))
-cut_by (rec.CutInner key) e = absurd (omega (arith, e))
-cut_by (rec.Link key child) e = absurd (omega (arith, e))
-cut_by (rec.Plus key by) e = absurd (omega (arith, e))
+pub by_kind : (change : Rec) → ByKind change
+by_kind (rec.HeadImage root next depth) = record { image = λ e. absurd (omega (arith, e)); put = λ e. absurd (omega (arith, e)); deletes = λ e. absurd (omega (arith, e)); cuts = λ e. absurd (omega (arith, e)) }
+by_kind (rec.LeafImage pairs) = record { image = λ e. (pairs, refl); put = λ e. absurd (omega (arith, e)); deletes = λ e. absurd (omega (arith, e)); cuts = λ e. absurd (omega (arith, e)) }
+by_kind (rec.InnerImage seps kids) = record { image = λ e. absurd (omega (arith, e)); put = λ e. absurd (omega (arith, e)); deletes = λ e. absurd (omega (arith, e)); cuts = λ e. absurd (omega (arith, e)) }
+by_kind (rec.Put key value) = record { image = λ e. absurd (omega (arith, e)); put = λ e. ((key, value), refl); deletes = λ e. absurd (omega (arith, e)); cuts = λ e. absurd (omega (arith, e)) }
+by_kind (rec.Del key) = record { image = λ e. absurd (omega (arith, e)); put = λ e. absurd (omega (arith, e)); deletes = λ e. (key, refl); cuts = λ e. absurd (omega (arith, e)) }
+by_kind (rec.CutLeaf key) = record { image = λ e. absurd (omega (arith, e)); put = λ e. absurd (omega (arith, e)); deletes = λ e. absurd (omega (arith, e)); cuts = λ e. (key, refl) }
+by_kind (rec.CutInner key) = record { image = λ e. absurd (omega (arith, e)); put = λ e. absurd (omega (arith, e)); deletes = λ e. absurd (omega (arith, e)); cuts = λ e. absurd (omega (arith, e)) }
+by_kind (rec.Link key child) = record { image = λ e. absurd (omega (arith, e)); put = λ e. absurd (omega (arith, e)); deletes = λ e. absurd (omega (arith, e)); cuts = λ e. absurd (omega (arith, e)) }
+by_kind (rec.Plus key by) = record { image = λ e. absurd (omega (arith, e)); put = λ e. absurd (omega (arith, e)); deletes = λ e. absurd (omega (arith, e)); cuts = λ e. absurd (omega (arith, e)) }
 
 -- what a change of each of these kinds leaves
 pub put_changes : (old : List Pair) (change : Rec) (texts : List (List ℕ)) (pair : Pair) → change ≡ rec.Put pair.0 pair.1 → SpellsLeaf texts (set old pair.0 pair.1) → IsChanged old change texts
@@ -372,7 +343,7 @@ unfolding rows_bytes replay
 begins_image mark [] more bytes kind_is version text behind texts are shorter read image leaf = absurd (let none = ap length are.spelled in omega (arith, shorter, none))
 begins_image mark (row ∷ rows) more bytes kind_is version text behind texts are shorter read image leaf =
     let r = read mark row (rows_bytes rows) are.fit.0 are.spelled in
-    let is = image_in row.rec (sym r.kind_same ∙ image) in
+    let is = (by_kind row.rec).image (sym r.kind_same ∙ image) in
     record {
       pairs = is.0;
       leaf = leaf is.0 (subst FitsRec is.1 are.fit.0.rec) (r.text_is ∙ ap body is.1);

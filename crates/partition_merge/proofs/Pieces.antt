@@ -11,7 +11,7 @@ use Rattle.fine_model.specs.declared.Rec.{Rec}
 use Rattle.fine_model.specs.declared.Rec.TheVariants as rec
 use Rattle.fine_model.specs.declared.Row.{Row}
 use Rattle.fine_model.specs.Map.{set}
-use Rattle.fine_model.specs.Merge.{is_image, is_ordered, is_row_below, starts_afresh}
+use Rattle.fine_model.specs.Merge.{is_ordered, is_row_below, starts_afresh}
 use Rattle.fine_model.specs.Nodes.{Content, base, changed, replay, step, step_node}
 use Rattle.fine_model.specs.RowBytes.{FitsRow, body, kind, pair_bytes, row_bytes, row_len, rows_bytes, rows_len}
 use Rattle.fine_model.proofs.Grammar.{rows_bytes-append}
@@ -30,29 +30,18 @@ use Rattle.partition_merge.specs.Merging.{merged_of}
 use Rattle.partition_merge.specs.Pieces.{CanSpell, Holds, HoldsIn, IsMergedFrom, IsPieceOf, IsTallyOf, StandsIn, TellsAll, TellsOf, begins_with_put, both_ascend, both_len, bytes_at, may_fold, may_fold_from, merged_bytes, piece_len, piece_rows, span_bytes, span_of, tally_of}
 use Rattle.partition_merge.specs.Windows.{WindowValue}
 use Rattle.partition_merge.proofs.Joining.{merged_own}
+use Rattle.partition_merge.proofs.Leaves.{by_kind}
 use Rattle.partition_merge.proofs.Folding.{stay_broken, stay_image, stay_short, stay_stale}
 
 -- ---- a single pair that is put
 
 -- a change that puts a pair
 abbrev pub puts : Rec → Bool
-puts (rec.Put key value) = true
-puts _ = false
-
-kind_puts : (change : Rec) → (kind change == 4) ≡ puts change
-kind_puts (rec.HeadImage root next depth) = refl
-kind_puts (rec.LeafImage pairs) = refl
-kind_puts (rec.InnerImage seps kids) = refl
-kind_puts (rec.Put key value) = refl
-kind_puts (rec.Del key) = refl
-kind_puts (rec.CutLeaf key) = refl
-kind_puts (rec.CutInner key) = refl
-kind_puts (rec.Link key child) = refl
-kind_puts (rec.Plus key by) = refl
+puts change = kind change == 4
 
 begins_puts : (row : Row) (rest : List ℕ) → begins_with_put (row_bytes row ++ rest) ≡ puts row.rec
 unfolding row_bytes
-begins_puts row rest = kind_puts row.rec
+begins_puts row rest = refl
 
 -- one pair that is put stays: its image is longer by the number of its pairs
 module _ (id : NodeId) (row : Row) (key value : List ℕ) (is : row.rec ≡ rec.Put key value) where
@@ -88,18 +77,7 @@ module _ (id : NodeId) (row : Row) (key value : List ℕ) (is : row.rec ≡ rec.
   from_base false e = on_leaf (row.version == 1) refl (ap (λ t. cond t (node.Head 1 2 1, 0) (node.Leaf [], 0)) e)
 
 put_stays : (id : NodeId) (row : Row) → puts row.rec ≡ true → merged_of id (row ∷ []) ≡ row ∷ []
-put_stays id row put = by row.rec put refl
-  where
-    by : (change : Rec) → puts change ≡ true → row.rec ≡ change → merged_of id (row ∷ []) ≡ row ∷ []
-    by (rec.Put key value) put is = from_base id row key value is (id.number == 0) refl
-    by (rec.HeadImage root next depth) put is = absurd (true≢false (sym put))
-    by (rec.LeafImage pairs) put is = absurd (true≢false (sym put))
-    by (rec.InnerImage seps kids) put is = absurd (true≢false (sym put))
-    by (rec.Del key) put is = absurd (true≢false (sym put))
-    by (rec.CutLeaf key) put is = absurd (true≢false (sym put))
-    by (rec.CutInner key) put is = absurd (true≢false (sym put))
-    by (rec.Link key child) put is = absurd (true≢false (sym put))
-    by (rec.Plus key change) put is = absurd (true≢false (sym put))
+put_stays id row put = let is = (by_kind row.rec).put (eqb-true (kind row.rec) 4 put) in from_base id row is.0.0 is.0.1 is.1 (id.number == 0) refl
 
 -- ---- what a piece tells
 

@@ -1,4 +1,4 @@
-use Rattle.std.proofs.Common.{◌≡◌, ◌<◌, ◌≤◌, ◌++◌, true, false, sym, ap, ◌∙◌, arith, refl, rules}
+use Rattle.std.proofs.Common.{◌≡◌, ◌<◌, ◌≤◌, ◌++◌, sym, ap, ◌∙◌, arith, refl, rules}
 use Rattle.std.proofs.lemmas.Bool.{le-leb, lt-leb}
 use Rattle.fine_model.specs.declared.Row.{Row}
 use Rattle.fine_model.specs.Merge.{starts_afresh}

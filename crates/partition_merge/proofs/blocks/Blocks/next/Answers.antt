@@ -11,8 +11,20 @@ use Rattle.partition_merge.specs.Streams.{AreInOrder, both_bytes_left}
 use Rattle.partition_merge.proofs.Joining.{cleared_joined, filled_joined, gives_joined}
 use Rattle.partition_merge.proofs.Measured.{blames_row}
 use Rattle.partition_merge.proofs.Sources.{err_clause}
-use Rattle.partition_merge.proofs.blocks.Blocks.next.Goals.{then-loop-more-test+else-not-is_full, else-loop-more-test}
+use Rattle.partition_merge.proofs.blocks.Blocks.next.Given.{Over}
+use Rattle.partition_merge.proofs.blocks.Blocks.next.Goals.{After-is_empty, then-loop-more-test+else-not-is_full, else-loop-more-test}
 use Rattle.partition_merge.proofs.blocks.Blocks.next.Goals as goal
+
+-- a block that is empty is so at the end of all
+ended : (g : Over) (c : After-is_empty g) → (c.is_empty.result ≡ (length c.loop-more.self.block == 0)) × (c.is_empty.result ≡ true → (c.loop-more.self.waiting ≡ []) × (c.loop-more.self.is_whole ≡ true))
+ended g c =
+    let is : c.is_empty.result ≡ (length c.loop-more.self.block == 0) = search rules in (
+      is,
+      λ e. elim c.loop-more-test.branch [
+        | then-loop-more-test+else-not-is_full w ↦ absurd (full_not_empty c.loop-more.self.most (length c.loop-more.self.block) w.is_full.result c.is_empty.result c.loop-more.invariant.some w.is_full.ensures (search rules) is e)
+        | else-loop-more-test w ↦ c.loop-more.invariant.ended w.loop-more-test.false
+      ],
+    )
 
 pub loop-more-init : goal.loop-more-init
 loop-more-init g c = record {
@@ -97,12 +109,8 @@ loop-more-preserved g c =
 pub returns-clause-exact : goal.returns-clause-exact
 returns-clause-exact g c handed a b ahead =
     let i = c.loop-more.invariant in
-    let is : c.is_empty.result ≡ (length c.loop-more.self.block == 0) = search rules in
-    let ended : c.is_empty.result ≡ true → (c.loop-more.self.waiting ≡ []) × (c.loop-more.self.is_whole ≡ true) = λ e. elim c.loop-more-test.branch [
-      | then-loop-more-test+else-not-is_full w ↦ absurd (full_not_empty c.loop-more.self.most (length c.loop-more.self.block) w.is_full.result c.is_empty.result i.some w.is_full.ensures (search rules) is e)
-      | else-loop-more-test w ↦ i.ended w.loop-more-test.false
-    ] in
-    gives (g.E.LogEye.state c.loop-more.eye) c.loop-more.self handed a b c.is_empty.result (i.ahead handed a b ahead) is ended
+    let at_end = ended g (goal.at.returns-clause-exact g c).After-is_empty in
+    gives (g.E.LogEye.state c.loop-more.eye) c.loop-more.self handed a b c.is_empty.result (i.ahead handed a b ahead) at_end.0 at_end.1
 
 pub returns-clause-full : goal.returns-clause-full
 returns-clause-full g c =
@@ -115,12 +123,8 @@ returns-clause-full g c =
 pub returns-clause-joined : goal.returns-clause-joined
 returns-clause-joined g c start handed joined =
     let i = c.loop-more.invariant in
-    let is : c.is_empty.result ≡ (length c.loop-more.self.block == 0) = search rules in
-    let ended : c.is_empty.result ≡ true → (c.loop-more.self.waiting ≡ []) × (c.loop-more.self.is_whole ≡ true) = λ e. elim c.loop-more-test.branch [
-      | then-loop-more-test+else-not-is_full w ↦ absurd (full_not_empty c.loop-more.self.most (length c.loop-more.self.block) w.is_full.result c.is_empty.result i.some w.is_full.ensures (search rules) is e)
-      | else-loop-more-test w ↦ i.ended w.loop-more-test.false
-    ] in
-    gives_joined (g.E.LogEye.state c.args.eye.now).told start c.loop-more.self handed c.is_empty.result (i.joined start handed joined) is ended
+    let at_end = ended g (goal.at.returns-clause-joined g c).After-is_empty in
+    gives_joined (g.E.LogEye.state c.args.eye.now).told start c.loop-more.self handed c.is_empty.result (i.joined start handed joined) at_end.0 at_end.1
 
 pub returns-in_err-more-clause-taken : goal.returns-in_err-more-clause-taken
 returns-in_err-more-clause-taken g c image told order =

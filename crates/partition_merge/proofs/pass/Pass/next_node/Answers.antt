@@ -1,45 +1,68 @@
-use Rattle.std.proofs.Common.{◌≡◌, ◌∙◌, ◌++◌, Err, sym, ap, subst, arith, rules, refl}
+use Rattle.std.proofs.Common.{◌≡◌, ◌∙◌, ◌+◌, ◌≤◌, ◌++◌, List, Some, Err, sym, ap, subst, arith, rules, refl}
 use Rattle.fine_model.specs.declared.Part.{Part}
+use Rattle.fine_model.specs.declared.Row.{Row}
+use Rattle.fine_model.specs.Regions.{Image}
 use Rattle.partition_index.specs.Parts.{IsSeen}
 use Rattle.partition_index.proofs.Looking.{seen_same, same_then}
 use Rattle.partition_merge.specs.declared.merger.Merger.{Merger}
 use Rattle.partition_merge.specs.Merging.{merged_of}
 use Rattle.partition_merge.specs.Mergers.{StandsAt, both_left, newer_part, nodes_left, older_part}
-use Rattle.partition_merge.specs.Streams.{AreInOrder, both_bytes_left}
-use Rattle.partition_merge.proofs.Sources.{err_clause, fewer_both, source_peeked, peeked_both, none_peeked, takes_as, handed_out, first_lowest, second_lowest, some_both}
+use Rattle.partition_merge.specs.Streams.{AreInOrder, both_bytes_left, bytes_left}
+use Rattle.partition_merge.proofs.Sources.{Peeked, err_clause, fewer_both, source_peeked, peeked_both, none_peeked, takes_as, handed_out, first_lowest, second_lowest, some_both}
+use Rattle.partition_merge.proofs.pass.Pass.next_node.Given.{Over}
+use Rattle.partition_merge.proofs.pass.Pass.next_node.Goals.{After-newer-2-1, After-peek, After-take}
 use Rattle.partition_merge.proofs.pass.Pass.next_node.Goals as goal
+
+-- a pass stands where its two sources do
+stands : (g : Over) (c : After-peek g) (older newer : List Row) → StandsAt (g.E.LogEye.state c.args.eye.now) c.args.self.now older newer
+    → StandsAt (g.E.LogEye.state c.args.eye.now) (record { older = c.self.inside.older; newer = c.self.inside.newer; region_len = c.self.inside.region_len }) older newer
+stands g c older newer at = subst (λ (m : Merger). StandsAt (g.E.LogEye.state c.args.eye.now) m older newer) (sym c.self.view_is) at
+
+-- where both sources stand once their next entries are kept
+sources : (g : Over) (c : After-take g) (older newer : List Row) → StandsAt (g.E.LogEye.state c.args.eye.now) c.args.self.now older newer → Peeked (g.E.LogEye.state c.peek-2.new.eye) c.peek.new.self c.peek-2.new.self older newer c.in-Some.node
+sources g c older newer at =
+    let here = subst (λ (m : Merger). StandsAt (g.E.LogEye.state c.args.eye.now) m older newer) (sym c.self.view_is) at in
+    let later = source_peeked (g.E.LogEye.state c.args.eye.now) (g.E.LogEye.state c.peek.new.eye) c.self.inside.newer c.self.inside.newer newer c.peek.ensures.same refl refl here.of_newer in
+    peeked_both (g.E.LogEye.state c.args.eye.now) (g.E.LogEye.state c.peek.new.eye) (g.E.LogEye.state c.peek-2.new.eye) (record { older = c.self.inside.older; newer = c.self.inside.newer; region_len = c.self.inside.region_len }) c.peek.new.self c.peek-2.new.self older newer c.in-Some.node c.in_ok-older.older c.in_ok-newer.newer here
+    c.peek.ensures.same c.peek-2.ensures.same c.peek.ensures.part c.peek.ensures.next c.peek-2.ensures.part c.peek-2.ensures.next c.in_ok-older.ensures.head c.in_ok-newer.ensures.head
+    (c.in_ok-older.ensures.exact older here.of_older) (c.in_ok-newer.ensures.exact newer later) (sym c.lower.ensures ∙ c.in-Some.is)
+
+-- the bytes that the four calls took are those that are no longer left
+both_taken : (g : Over) (c : After-newer-2-1 g) (image : Image) → (g.E.LogEye.state c.args.eye.now).told ≡ Some image → AreInOrder image c.args.self.now
+    → (g.E.LogEye.state c.take-2.new.eye).taken + (bytes_left c.take.new.self + bytes_left c.take-2.new.self) ≤ (g.E.LogEye.state c.args.eye.now).taken + both_bytes_left c.args.self.now
+both_taken g c image told before =
+    let order = subst (AreInOrder image) (sym c.self.view_is) before in
+    let bytes = ap both_bytes_left c.self.view_is in
+    let seen = c.peek-2.ensures.same.told ∙ c.peek.ensures.same.told ∙ told in
+    let older_peeked = c.in_ok-older.ensures.ahead image order.older in
+    let newer_peeked = c.in_ok-newer.ensures.ahead image order.newer in
+    let older_taken = c.in_ok-older-2.ensures.ahead image seen (c.in_ok-older.ensures.order image order.older) in
+    let newer_taken = c.in_ok-newer-2.ensures.ahead image (c.take.ensures.same.told ∙ seen) (c.in_ok-newer.ensures.order image order.newer) in
+    omega (arith, bytes, older_peeked, newer_peeked, older_taken, newer_taken)
 
 pub returns-in_err-older-clause-exact : goal.returns-in_err-older-clause-exact
 returns-in_err-older-clause-exact g c older newer at =
-    let here : StandsAt (g.E.LogEye.state c.args.eye.now) (record { older = c.self.inside.older; newer = c.self.inside.newer; region_len = c.self.inside.region_len }) older newer = subst (λ (m : Merger). StandsAt (g.E.LogEye.state c.args.eye.now) m older newer) (sym c.self.view_is) at in
+    let here = stands g (goal.at.returns-in_err-older-clause-exact g c).After-peek older newer at in
     let same : c.from_residual.result ≡ Err c.in_err-older.field-0.0 = search rules in
     err_clause c.from_residual.result c.in_err-older.field-0.0 _ same (c.in_err-older.ensures.exact older here.of_older)
 
 pub returns-in_err-newer-clause-exact : goal.returns-in_err-newer-clause-exact
 returns-in_err-newer-clause-exact g c older newer at =
-    let here : StandsAt (g.E.LogEye.state c.args.eye.now) (record { older = c.self.inside.older; newer = c.self.inside.newer; region_len = c.self.inside.region_len }) older newer = subst (λ (m : Merger). StandsAt (g.E.LogEye.state c.args.eye.now) m older newer) (sym c.self.view_is) at in
+    let here = stands g (goal.at.returns-in_err-newer-clause-exact g c).After-peek older newer at in
     let same : c.from_residual-in_err-newer.result ≡ Err c.in_err-newer.field-0.0 = search rules in
     err_clause c.from_residual-in_err-newer.result c.in_err-newer.field-0.0 _ same
     (c.in_err-newer.ensures.exact newer (source_peeked (g.E.LogEye.state c.args.eye.now) (g.E.LogEye.state c.peek.new.eye) c.self.inside.newer c.self.inside.newer newer c.peek.ensures.same refl refl here.of_newer))
 
 pub returns-in_err-older-2-clause-exact : goal.returns-in_err-older-2-clause-exact
 returns-in_err-older-2-clause-exact g c older newer at =
-    let here : StandsAt (g.E.LogEye.state c.args.eye.now) (record { older = c.self.inside.older; newer = c.self.inside.newer; region_len = c.self.inside.region_len }) older newer = subst (λ (m : Merger). StandsAt (g.E.LogEye.state c.args.eye.now) m older newer) (sym c.self.view_is) at in
     let same : c.from_residual-in_err-older-2.result ≡ Err c.in_err-older-2.field-0.0 = search rules in
-    let later = source_peeked (g.E.LogEye.state c.args.eye.now) (g.E.LogEye.state c.peek.new.eye) c.self.inside.newer c.self.inside.newer newer c.peek.ensures.same refl refl here.of_newer in
-    let p = peeked_both (g.E.LogEye.state c.args.eye.now) (g.E.LogEye.state c.peek.new.eye) (g.E.LogEye.state c.peek-2.new.eye) (record { older = c.self.inside.older; newer = c.self.inside.newer; region_len = c.self.inside.region_len }) c.peek.new.self c.peek-2.new.self older newer c.in-Some.node c.in_ok-older.older c.in_ok-newer.newer here
-    c.peek.ensures.same c.peek-2.ensures.same c.peek.ensures.part c.peek.ensures.next c.peek-2.ensures.part c.peek-2.ensures.next c.in_ok-older.ensures.head c.in_ok-newer.ensures.head
-    (c.in_ok-older.ensures.exact older here.of_older) (c.in_ok-newer.ensures.exact newer later) (sym c.lower.ensures ∙ c.in-Some.is) in
+    let p = sources g (goal.at.returns-in_err-older-2-clause-exact g c).After-take older newer at in
     err_clause c.from_residual-in_err-older-2.result c.in_err-older-2.field-0.0 _ same (c.in_err-older-2.ensures.exact older p.of_older p.old_from p.old_kept)
 
 pub returns-in_err-newer-2-clause-exact : goal.returns-in_err-newer-2-clause-exact
 returns-in_err-newer-2-clause-exact g c older newer at =
-    let here : StandsAt (g.E.LogEye.state c.args.eye.now) (record { older = c.self.inside.older; newer = c.self.inside.newer; region_len = c.self.inside.region_len }) older newer = subst (λ (m : Merger). StandsAt (g.E.LogEye.state c.args.eye.now) m older newer) (sym c.self.view_is) at in
     let same : c.from_residual-in_err-newer-2.result ≡ Err c.in_err-newer-2.field-0.0 = search rules in
-    let later = source_peeked (g.E.LogEye.state c.args.eye.now) (g.E.LogEye.state c.peek.new.eye) c.self.inside.newer c.self.inside.newer newer c.peek.ensures.same refl refl here.of_newer in
-    let p = peeked_both (g.E.LogEye.state c.args.eye.now) (g.E.LogEye.state c.peek.new.eye) (g.E.LogEye.state c.peek-2.new.eye) (record { older = c.self.inside.older; newer = c.self.inside.newer; region_len = c.self.inside.region_len }) c.peek.new.self c.peek-2.new.self older newer c.in-Some.node c.in_ok-older.older c.in_ok-newer.newer here
-    c.peek.ensures.same c.peek-2.ensures.same c.peek.ensures.part c.peek.ensures.next c.peek-2.ensures.part c.peek-2.ensures.next c.in_ok-older.ensures.head c.in_ok-newer.ensures.head
-    (c.in_ok-older.ensures.exact older here.of_older) (c.in_ok-newer.ensures.exact newer later) (sym c.lower.ensures ∙ c.in-Some.is) in
+    let p = sources g (goal.at.returns-in_err-newer-2-clause-exact g c).After-take older newer at in
     let new_at = source_peeked (g.E.LogEye.state c.peek-2.new.eye) (g.E.LogEye.state c.take.new.eye) c.peek-2.new.self c.peek-2.new.self newer c.take.ensures.same refl refl p.of_newer in
     err_clause c.from_residual-in_err-newer-2.result c.in_err-newer-2.field-0.0 _ same (c.in_err-newer-2.ensures.exact newer new_at p.new_from p.new_kept)
 
@@ -67,7 +90,7 @@ take-requires-2-clause-lowest g c =
 
 pub returns-in_default-clause-exact : goal.returns-in_default-clause-exact
 returns-in_default-clause-exact g c older newer at =
-    let here : StandsAt (g.E.LogEye.state c.args.eye.now) (record { older = c.self.inside.older; newer = c.self.inside.newer; region_len = c.self.inside.region_len }) older newer = subst (λ (m : Merger). StandsAt (g.E.LogEye.state c.args.eye.now) m older newer) (sym c.self.view_is) at in
+    let here = stands g (goal.at.returns-in_default-clause-exact g c).After-peek older newer at in
     let later = source_peeked (g.E.LogEye.state c.args.eye.now) (g.E.LogEye.state c.peek.new.eye) c.self.inside.newer c.self.inside.newer newer c.peek.ensures.same refl refl here.of_newer in
     let none = none_peeked (g.E.LogEye.state c.args.eye.now) (g.E.LogEye.state c.peek.new.eye) (g.E.LogEye.state c.peek-2.new.eye) (record { older = c.self.inside.older; newer = c.self.inside.newer; region_len = c.self.inside.region_len }) older newer c.in_ok-older.older c.in_ok-newer.newer here
     c.peek.ensures.same c.peek-2.ensures.same (c.in_ok-older.ensures.exact older here.of_older) (c.in_ok-newer.ensures.exact newer later) (sym c.lower.ensures ∙ c.in_default.is) in
@@ -108,14 +131,10 @@ returns-clause-found g c =
         some = m.tally.some;
       };
       exact = λ older newer at.
-          let here : StandsAt (g.E.LogEye.state c.args.eye.now) (record { older = c.self.inside.older; newer = c.self.inside.newer; region_len = c.self.inside.region_len }) older newer = subst (λ (m : Merger). StandsAt (g.E.LogEye.state c.args.eye.now) m older newer) (sym c.self.view_is) at in
-          let later = source_peeked (g.E.LogEye.state c.args.eye.now) (g.E.LogEye.state c.peek.new.eye) c.self.inside.newer c.self.inside.newer newer c.peek.ensures.same refl refl here.of_newer in
-          let p = peeked_both (g.E.LogEye.state c.args.eye.now) (g.E.LogEye.state c.peek.new.eye) (g.E.LogEye.state c.peek-2.new.eye) (record { older = c.self.inside.older; newer = c.self.inside.newer; region_len = c.self.inside.region_len }) c.peek.new.self c.peek-2.new.self older newer c.in-Some.node c.in_ok-older.older c.in_ok-newer.newer here
-          c.peek.ensures.same c.peek-2.ensures.same c.peek.ensures.part c.peek.ensures.next c.peek-2.ensures.part c.peek-2.ensures.next c.in_ok-older.ensures.head c.in_ok-newer.ensures.head
-          (c.in_ok-older.ensures.exact older here.of_older) (c.in_ok-newer.ensures.exact newer later) first in
+          let p = sources g (goal.at.returns-clause-found g c).After-take older newer at in
           let new_at = source_peeked (g.E.LogEye.state c.peek-2.new.eye) (g.E.LogEye.state c.take.new.eye) c.peek-2.new.self c.peek-2.new.self newer c.take.ensures.same refl refl p.of_newer in
           let old_behind = source_peeked (g.E.LogEye.state c.take.new.eye) (g.E.LogEye.state c.take-2.new.eye) c.take.new.self c.take.new.self _ c.take-2.ensures.same refl refl (c.take.ensures.left older p.of_older p.old_from p.old_kept) in
-          handed_out (g.E.LogEye.state c.take-2.new.eye) _ older newer (merged_of c.in-Some.node (t.rows ++ u.rows)) t.rows u.rows c.in-Some.node here.of_older.is_left.ordered here.of_newer.is_left.ordered p.first
+          handed_out (g.E.LogEye.state c.take-2.new.eye) _ older newer (merged_of c.in-Some.node (t.rows ++ u.rows)) t.rows u.rows c.in-Some.node p.of_older.is_left.ordered p.of_newer.is_left.ordered p.first
           (t.exact older p.of_older p.old_from p.old_kept) (u.exact newer new_at p.new_from p.new_kept) refl
           old_behind (c.take-2.ensures.left newer new_at p.new_from p.new_kept);
     }
@@ -144,33 +163,15 @@ returns-clause-order g c image told before =
 
 pub returns-clause-ahead : goal.returns-clause-ahead
 returns-clause-ahead g c image told before =
-    let order = subst (AreInOrder image) (sym c.self.view_is) before in
-    let bytes = ap both_bytes_left c.self.view_is in
-    let seen = c.peek-2.ensures.same.told ∙ c.peek.ensures.same.told ∙ told in
-    let older_peeked = c.in_ok-older.ensures.ahead image order.older in
-    let newer_peeked = c.in_ok-newer.ensures.ahead image order.newer in
-    let older_taken = c.in_ok-older-2.ensures.ahead image seen (c.in_ok-older.ensures.order image order.older) in
-    let newer_taken = c.in_ok-newer-2.ensures.ahead image (c.take.ensures.same.told ∙ seen) (c.in_ok-newer.ensures.order image order.newer) in
-    omega (arith, bytes, older_peeked, newer_peeked, older_taken, newer_taken)
+    let so_far = both_taken g (goal.at.returns-clause-ahead g c).After-newer-2-1 image told before in
+    omega (arith, so_far)
 
 pub returns-in_default-merged-clause-taken : goal.returns-in_default-merged-clause-taken
 returns-in_default-merged-clause-taken g c image told before =
-    let order = subst (AreInOrder image) (sym c.self.view_is) before in
-    let bytes = ap both_bytes_left c.self.view_is in
-    let seen = c.peek-2.ensures.same.told ∙ c.peek.ensures.same.told ∙ told in
-    let older_peeked = c.in_ok-older.ensures.ahead image order.older in
-    let newer_peeked = c.in_ok-newer.ensures.ahead image order.newer in
-    let older_taken = c.in_ok-older-2.ensures.ahead image seen (c.in_ok-older.ensures.order image order.older) in
-    let newer_taken = c.in_ok-newer-2.ensures.ahead image (c.take.ensures.same.told ∙ seen) (c.in_ok-newer.ensures.order image order.newer) in
-    omega (arith, bytes, older_peeked, newer_peeked, older_taken, newer_taken)
+    let so_far = both_taken g (goal.at.returns-in_default-merged-clause-taken g c).After-newer-2-1 image told before in
+    omega (arith, so_far)
 
 pub returns-clause-taken : goal.returns-clause-taken
 returns-clause-taken g c image told before =
-    let order = subst (AreInOrder image) (sym c.self.view_is) before in
-    let bytes = ap both_bytes_left c.self.view_is in
-    let seen = c.peek-2.ensures.same.told ∙ c.peek.ensures.same.told ∙ told in
-    let older_peeked = c.in_ok-older.ensures.ahead image order.older in
-    let newer_peeked = c.in_ok-newer.ensures.ahead image order.newer in
-    let older_taken = c.in_ok-older-2.ensures.ahead image seen (c.in_ok-older.ensures.order image order.older) in
-    let newer_taken = c.in_ok-newer-2.ensures.ahead image (c.take.ensures.same.told ∙ seen) (c.in_ok-newer.ensures.order image order.newer) in
-    omega (arith, bytes, older_peeked, newer_peeked, older_taken, newer_taken)
+    let so_far = both_taken g (goal.at.returns-clause-taken g c).After-newer-2-1 image told before in
+    omega (arith, so_far)

@@ -16,10 +16,19 @@ use Rattle.partition_merge.specs.Windows.{WindowValue}
 use Rattle.partition_merge.proofs.Found.{behind_node, none_taken, other_taken, span_taken}
 use Rattle.partition_merge.proofs.Sources.{Lowest, nodes_differ, nodes_same, none_of_node, other_node, same_at_head, source_later, span_kept, step_left}
 use Rattle.partition_merge.proofs.Streams.{begins_behind, if_ok, order_taken}
+use Rattle.partition_merge.proofs.reader.Reader.take.Given.{Over}
+use Rattle.partition_merge.proofs.reader.Reader.take.Goals.{After-find_rows}
 use Rattle.partition_merge.proofs.reader.Reader.take.Goals as goal
 
 abbrev with_ahead : Source → WindowValue → WindowValue → Option NumberedEntry → Source
 with_ahead s rows index next = record { part = s.part; next = s.next; head = s.head; ahead = record { rows = rows; index = index; next = next } }
+
+-- the entry that is kept, where rows are looked for
+kept_entry : (g : Over) (c : After-find_rows g) → IsEntryOf (g.E.LogEye.state c.args.eye.now).told (with_ahead c.self.inside.source c.self.inside.rows c.self.inside.index c.self.inside.next) (c.in-Some.entry, c.in-Some.span)
+kept_entry g c =
+    let known = (g.E.LogEye.state c.args.eye.now).told in
+    let kept = subst (λ (s : Source). KeepsHead known s s.head) (sym c.self.view_is) c.requires.kept.0 in
+    subst (KeepsHead known _) c.in-Some.is kept
 
 pub returns-in_default-clause-taken_is : goal.returns-in_default-clause-taken_is
 returns-in_default-clause-taken_is g c =
@@ -89,31 +98,21 @@ returns-clause-left g c =
 
 pub returns-clause-order : goal.returns-clause-order
 returns-clause-order g c =
-    let before = with_ahead c.self.inside.source c.self.inside.rows c.self.inside.index c.self.inside.next in
-    let after = behind_node before c.find_rows.new.rows in
-    let known = (g.E.LogEye.state c.args.eye.now).told in
-    let kept = subst (λ (s : Source). KeepsHead known s s.head) (sym c.self.view_is) c.requires.kept.0 in
-    let k : IsEntryOf known _ (c.in-Some.entry, c.in-Some.span) = subst (KeepsHead known _) c.in-Some.is kept in
-    subst (λ (s : Source). (image : Image) → known ≡ Some image → IsInOrder image s → IfOk c.find_rows.result (λ piece. IsInOrder image after)) c.self.view_is
+    let k = kept_entry g (goal.at.returns-clause-order g c).After-find_rows in
+    subst (λ (s : Source). (image : Image) → (g.E.LogEye.state c.args.eye.now).told ≡ Some image → IsInOrder image s → IfOk c.find_rows.result (λ piece. IsInOrder image (behind_node (with_ahead c.self.inside.source c.self.inside.rows c.self.inside.index c.self.inside.next) c.find_rows.new.rows))) c.self.view_is
     (λ image told order.
-    if_ok c.find_rows.result _ _ (order_taken image known _ c.in-Some.entry c.in-Some.span told k c.find_rows.new.rows c.in-Some.is order)
-    (c.find_rows.ensures.order (begins_behind image known _ c.in-Some.entry c.in-Some.span told k order)))
+    if_ok c.find_rows.result _ _ (order_taken image (g.E.LogEye.state c.args.eye.now).told _ c.in-Some.entry c.in-Some.span told k c.find_rows.new.rows c.in-Some.is order)
+    (c.find_rows.ensures.order (begins_behind image (g.E.LogEye.state c.args.eye.now).told _ c.in-Some.entry c.in-Some.span told k order)))
 
 pub returns-clause-ahead : goal.returns-clause-ahead
 returns-clause-ahead g c =
-    let before = with_ahead c.self.inside.source c.self.inside.rows c.self.inside.index c.self.inside.next in
-    let after = behind_node before c.find_rows.new.rows in
-    let known = (g.E.LogEye.state c.args.eye.now).told in
-    let kept = subst (λ (s : Source). KeepsHead known s s.head) (sym c.self.view_is) c.requires.kept.0 in
-    let k : IsEntryOf known _ (c.in-Some.entry, c.in-Some.span) = subst (KeepsHead known _) c.in-Some.is kept in
-    subst (λ (s : Source). (image : Image) → known ≡ Some image → IsInOrder image s → IfOk c.find_rows.result (λ piece. (g.E.LogEye.state c.find_rows.new.eye).taken + bytes_left after ≤ (g.E.LogEye.state c.args.eye.now).taken + bytes_left s)) c.self.view_is
+    let k = kept_entry g (goal.at.returns-clause-ahead g c).After-find_rows in
+    subst (λ (s : Source). (image : Image) → (g.E.LogEye.state c.args.eye.now).told ≡ Some image → IsInOrder image s → IfOk c.find_rows.result (λ piece. (g.E.LogEye.state c.find_rows.new.eye).taken + bytes_left (behind_node (with_ahead c.self.inside.source c.self.inside.rows c.self.inside.index c.self.inside.next) c.find_rows.new.rows) ≤ (g.E.LogEye.state c.args.eye.now).taken + bytes_left s)) c.self.view_is
     (λ image told order.
-    if_ok c.find_rows.result _ _ (λ less. omega (arith, less)) (c.find_rows.ensures.ahead (begins_behind image known _ c.in-Some.entry c.in-Some.span told k order)))
+    if_ok c.find_rows.result _ _ (λ less. omega (arith, less)) (c.find_rows.ensures.ahead (begins_behind image (g.E.LogEye.state c.args.eye.now).told _ c.in-Some.entry c.in-Some.span told k order)))
 
 pub returns-clause-taken : goal.returns-clause-taken
 returns-clause-taken g c =
-    let known = (g.E.LogEye.state c.args.eye.now).told in
-    let kept = subst (λ (s : Source). KeepsHead known s s.head) (sym c.self.view_is) c.requires.kept.0 in
-    let k : IsEntryOf known _ (c.in-Some.entry, c.in-Some.span) = subst (KeepsHead known _) c.in-Some.is kept in
-    subst (λ (s : Source). (image : Image) → known ≡ Some image → IsInOrder image s → (g.E.LogEye.state c.find_rows.new.eye).taken ≤ (g.E.LogEye.state c.args.eye.now).taken + bytes_left s) c.self.view_is
-    (λ image told order. let most = c.find_rows.ensures.taken (begins_behind image known _ c.in-Some.entry c.in-Some.span told k order) in omega (arith, most))
+    let k = kept_entry g (goal.at.returns-clause-taken g c).After-find_rows in
+    subst (λ (s : Source). (image : Image) → (g.E.LogEye.state c.args.eye.now).told ≡ Some image → IsInOrder image s → (g.E.LogEye.state c.find_rows.new.eye).taken ≤ (g.E.LogEye.state c.args.eye.now).taken + bytes_left s) c.self.view_is
+    (λ image told order. let most = c.find_rows.ensures.taken (begins_behind image (g.E.LogEye.state c.args.eye.now).told _ c.in-Some.entry c.in-Some.span told k order) in omega (arith, most))

@@ -20,7 +20,6 @@ use Rattle.log_partition.proofs.Indexed.{index_long}
 use Rattle.partition_index.specs.Parts.{IsSeen}
 use Rattle.partition_index.specs.Search.{TellsRows as TellsPart}
 use Rattle.partition_merge.specs.declared.merger.Measure.{Measure}
-use Rattle.partition_merge.specs.declared.merger.Merger.{Merger}
 use Rattle.partition_merge.specs.Joined.{IsJoined, IsJoinedBody}
 use Rattle.partition_merge.specs.Mergers.{at_front, measure_of}
 use Rattle.partition_merge.proofs.Lengths.{merged_small}

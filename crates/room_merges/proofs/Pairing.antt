@@ -37,7 +37,7 @@ use Rattle.epoch_room.proofs.Joining.{keeps_then}
 use Rattle.room_merges.specs.declared.fault.MergeFault.{MergeFault}
 use Rattle.room_merges.specs.declared.fault.MergeFault.TheVariants as merge_fault
 use Rattle.room_merges.specs.Merging.{EyeTells, HoldsBody, HoldsJoined, IsOut, Measures, OfTold}
-use Rattle.room_merges.specs.Pairs.{AreTried, IsPartSealed, IsPassedOver, IsRefused, LosesPart, MergesJob, MergesMeasured, MergesPair, SealsPart, StaysAsIs, WritesPart, header_for, job_for, measure_in}
+use Rattle.room_merges.specs.Pairs.{IsReady, AreTried, IsPartSealed, IsPassedOver, IsRefused, LosesPart, MergesJob, MergesMeasured, MergesPair, SealsPart, StaysAsIs, WritesPart, header_for, job_for, measure_in}
 use Rattle.room_merges.specs.Work.{FallsShut, LosesFor, RefusesOr, StaysOpen, WritesAll, same_job}
 use Rattle.room_merges.proofs.Chained.{body_is_written, told_before, told_of}
 use Rattle.room_merges.proofs.Working.{all_lost, blamed, falls_then, looks_refused, looks_sound, looks_then, of_same, refuses_then, stays_itself, stays_then, view_back, view_itself}
@@ -291,14 +291,7 @@ module _ (old : RoomValue) (two : Part × Part) (measure : Measure) (regions : �
 pub record Ready (header : Header) (old mid : RoomValue) (view : ViewValue) (job job' : Job) (measure : Measure) : Type 0 where
   pub regions : ℕ
   pub found : regions_for_job old.room measure ≡ Some regions
-  pub out : mid.room.job ≡ Some job'
-  pub opened : mid.room.is_shut ≡ false
-  pub none : job'.written ≡ 0
-  pub older : Contains view.parts job'.older
-  pub newer : Contains view.parts job'.newer
-  pub posted : IsPosted mid.room view
-  pub region_len : view.region_len ≡ mid.room.region_len
-  pub measured : Measures view job'.older job'.newer (measure_in header)
+  pub is : IsReady header mid view job'
 
 found_some : (found : Option ℕ) → true ≡ is_some found → (k : ℕ) × (found ≡ Some k)
 found_some None is = absurd (true≢false is)
@@ -328,17 +321,20 @@ ready old mid view job job' header measure some job_is mid_is has opened fresh o
     record {
       regions = k.0;
       found = k.1;
-      out = ap (λ (v : RoomValue). v.room.job) mid_is;
-      opened = ap (λ (v : RoomValue). v.room.is_shut) mid_is ∙ opened;
-      none = ap (λ (j : Job). j.written) is ∙ ap (λ (j : Job). j.written) fresh;
-      older = subst (Contains view.parts) (sym o) older;
-      newer = subst (Contains view.parts) (sym n) newer;
-      posted = subst (λ (v : RoomValue). IsPosted v.room view) (sym mid_is) posted;
-      region_len = region_len ∙ sym (ap (λ (v : RoomValue). v.room.region_len) mid_is);
-      measured = λ a b older_told newer_told.
-          let same : measure ≡ measure_of (merged a b) = measured a b (subst (λ p. EyeTells view p a) o older_told) (subst (λ p. EyeTells view p b) n newer_told) in
-          let as_header : measure_in (header_over job measure k.0 old.room.free) ≡ measure = λ i. record { rows = measure.rows; nodes = measure.nodes; area = measure.area; ordered = sym ordered i } in
-          ap measure_in (sym head) ∙ as_header ∙ same;
+      is = record {
+        out = ap (λ (v : RoomValue). v.room.job) mid_is;
+        opened = ap (λ (v : RoomValue). v.room.is_shut) mid_is ∙ opened;
+        none = ap (λ (j : Job). j.written) is ∙ ap (λ (j : Job). j.written) fresh;
+        older = subst (Contains view.parts) (sym o) older;
+        newer = subst (Contains view.parts) (sym n) newer;
+        posted = subst (λ (v : RoomValue). IsPosted v.room view) (sym mid_is) posted;
+        region_len = region_len ∙ sym (ap (λ (v : RoomValue). v.room.region_len) mid_is);
+        measured = λ a b older_told newer_told.
+            let same : measure ≡ measure_of (merged a b) = measured a b (subst (λ p. EyeTells view p a) o older_told) (subst (λ p. EyeTells view p b) n newer_told) in
+            let as_header : measure_in (header_over job measure k.0 old.room.free) ≡ measure = λ i. record { rows = measure.rows; nodes = measure.nodes; area = measure.area; ordered = sym ordered i } in
+            ap measure_in (sym head) ∙ as_header ∙ same;
+        taken = has;
+      };
     }
 
 -- so of any job and room that are these
@@ -436,13 +432,13 @@ picked_open old mid job whole is keeps = subst (λ (m : RoomValue). Keeps old m 
 
 -- ---- giving a job up
 
+given_up_room : (room : RoomState) (free : List ℕ) (mid new : RoomValue) → mid.room ≡ room → new ≡ with_job mid None free → new.room ≡ record room { job = None; free = free }
+given_up_room room free mid new first is = ap (λ (v : RoomValue). v.room) is ∙ ap (λ (r : RoomState). record r { job = None; free = free }) first
+
 stays_given_up : (job : Job) (free : List ℕ) (old mid new : RoomValue) → StaysOpen (Some job) free old mid → new ≡ with_job mid None (free_dropped mid.room) → Keeps mid new
     → StaysOpen None (free_dropped mid.room) old new
 stays_given_up job free old mid new first is keeps = record {
-  room =
-      ap (λ (v : RoomValue). v.room) is
-      ∙ ap (λ (r : RoomState). record r { job = None; free = free_dropped mid.room }) first.room
-      ∙ ap (λ (d : Disk). on (record old.room { job = None; free = free_dropped mid.room }) d) (sym (ap (λ (v : RoomValue). v.disk) is));
+  room = given_up_room _ (free_dropped mid.room) mid new first.room is ∙ ap (λ (d : Disk). on (record old.room { job = None; free = free_dropped mid.room }) d) (sym (ap (λ (v : RoomValue). v.disk) is));
   target = ap (λ (v : RoomValue). v.target) is ∙ first.target;
   entry = ap (λ (v : RoomValue). v.entry) is ∙ first.entry;
   counts = record { faults = ap (λ (v : RoomValue). v.disk.faults) is ∙ first.counts.faults; own_faults = ap (λ (v : RoomValue). v.disk.own_faults) is ∙ first.counts.own_faults };
@@ -452,10 +448,7 @@ stays_given_up job free old mid new first is keeps = record {
 falls_given_up : (job : Job) (free : List ℕ) (old mid new : RoomValue) → FallsShut (Some job) free old mid → new ≡ with_job mid None (free_dropped mid.room) → Keeps mid new
     → FallsShut None (free_dropped mid.room) old new
 falls_given_up job free old mid new first is keeps = record {
-  room =
-      ap (λ (v : RoomValue). v.room) is
-      ∙ ap (λ (r : RoomState). record r { job = None; free = free_dropped mid.room }) first.room
-      ∙ (λ i. on (record old.room { job = None; free = free_dropped mid.room; lost = sym (ap (λ (v : RoomValue). v.room.lost) is) i; is_shut = true }) (sym (ap (λ (v : RoomValue). v.disk) is) i));
+  room = given_up_room _ (free_dropped mid.room) mid new first.room is ∙ (λ i. on (record old.room { job = None; free = free_dropped mid.room; lost = sym (ap (λ (v : RoomValue). v.room.lost) is) i; is_shut = true }) (sym (ap (λ (v : RoomValue). v.disk) is) i));
   target = ap (λ (v : RoomValue). v.target) is ∙ first.target;
   entry = ap (λ (v : RoomValue). v.entry) is ∙ first.entry;
   fails = subst (λ (d : Disk). Fails old.disk d) (sym (ap (λ (v : RoomValue). v.disk) is)) first.fails;

@@ -72,48 +72,33 @@ rest_then a b c first second = record {
   keeps = keeps_then a b c first.keeps second.keeps;
 }
 
-rest_stays : (free : List ℕ) (old new : RoomValue) → StaysOpen None free old new → KeepsRest old new
-rest_stays free old new stays = record {
-  job = ap (λ (r : RoomState). r.job) stays.room;
-  board = ap (λ (r : RoomState). r.board) stays.room;
-  sealed = ap (λ (r : RoomState). r.sealed) stays.room;
-  places = ap (λ (r : RoomState). r.places) stays.room;
-  waiting = ap (λ (r : RoomState). r.waiting) stays.room;
-  open_rows = ap (λ (r : RoomState). r.open_rows) stays.room;
-  used = ap (λ (r : RoomState). r.used) stays.room;
-  target = stays.target;
-  entry = stays.entry;
-  keeps = stays.keeps;
+-- a room with no job, and with what another one has beside its chain
+abbrev with_rest : RoomState → RoomState → RoomState
+with_rest room old = record room { job = None; board = old.board; sealed = old.sealed; places = old.places; waiting = old.waiting; open_rows = old.open_rows; used = old.used }
+
+rest_as : (room : RoomState) (old new : RoomValue) → new.room ≡ room → room ≡ with_rest room old.room → new.target ≡ old.target → new.entry ≡ old.entry → Keeps old new → KeepsRest old new
+rest_as room old new is rest target entry keeps = record {
+  job = ap (λ (r : RoomState). r.job) (is ∙ rest);
+  board = ap (λ (r : RoomState). r.board) (is ∙ rest);
+  sealed = ap (λ (r : RoomState). r.sealed) (is ∙ rest);
+  places = ap (λ (r : RoomState). r.places) (is ∙ rest);
+  waiting = ap (λ (r : RoomState). r.waiting) (is ∙ rest);
+  open_rows = ap (λ (r : RoomState). r.open_rows) (is ∙ rest);
+  used = ap (λ (r : RoomState). r.used) (is ∙ rest);
+  target = target;
+  entry = entry;
+  keeps = keeps;
 }
 
+rest_stays : (free : List ℕ) (old new : RoomValue) → StaysOpen None free old new → KeepsRest old new
+rest_stays free old new stays = rest_as _ old new stays.room refl stays.target stays.entry stays.keeps
+
 rest_falls : (free : List ℕ) (old new : RoomValue) → FallsShut None free old new → KeepsRest old new
-rest_falls free old new falls = record {
-  job = ap (λ (r : RoomState). r.job) falls.room;
-  board = ap (λ (r : RoomState). r.board) falls.room;
-  sealed = ap (λ (r : RoomState). r.sealed) falls.room;
-  places = ap (λ (r : RoomState). r.places) falls.room;
-  waiting = ap (λ (r : RoomState). r.waiting) falls.room;
-  open_rows = ap (λ (r : RoomState). r.open_rows) falls.room;
-  used = ap (λ (r : RoomState). r.used) falls.room;
-  target = falls.target;
-  entry = falls.entry;
-  keeps = falls.keeps;
-}
+rest_falls free old new falls = rest_as _ old new falls.room refl falls.target falls.entry falls.keeps
 
 rest_merges : (from : ℕ) (old new : RoomValue) (view : ViewValue) → Merges from old new view → KeepsRest old new
 unfolding merged_state
-rest_merges from old new view m = record {
-  job = ap (λ (r : RoomState). r.job) m.room.1.room;
-  board = ap (λ (r : RoomState). r.board) m.room.1.room;
-  sealed = ap (λ (r : RoomState). r.sealed) m.room.1.room;
-  places = ap (λ (r : RoomState). r.places) m.room.1.room;
-  waiting = ap (λ (r : RoomState). r.waiting) m.room.1.room;
-  open_rows = ap (λ (r : RoomState). r.open_rows) m.room.1.room;
-  used = ap (λ (r : RoomState). r.used) m.room.1.room;
-  target = m.room.1.target;
-  entry = m.room.1.entry;
-  keeps = m.keeps;
-}
+rest_merges from old new view m = rest_as _ old new m.room.1.room refl m.room.1.target m.room.1.entry m.keeps
 
 -- ---- the two that were merged
 

@@ -13,6 +13,7 @@ use Rattle.partition_merge.specs.Joined.{IsBodyMeasured}
 use Rattle.partition_merge.specs.Mergers.{IsMeasureOf, at_front}
 use Rattle.epoch_room.specs.Meaning.{Keeps}
 use Rattle.epoch_room.specs.MergeSealing.{merged_state}
+use Rattle.epoch_room.specs.Returns.{IsPosted}
 use Rattle.epoch_room.specs.MergeSteps.{fresh_job, header_over, measured_len, neighbours_from, regions_for_job, taken_job}
 use Rattle.epoch_room.specs.Steps.{Does, WasShut}
 use Rattle.epoch_room.specs.Value.{RoomValue}
@@ -122,6 +123,28 @@ pub record MergesPair (from : ℕ) (old new : RoomValue) (view view' : ViewValue
 -- what a header counts, of rows in order
 abbrev pub measure_in : Header → Measure
 measure_in header = record { rows = header.rows; nodes = header.nodes; area = header.area; ordered = true }
+
+-- a job that was picked, with no regions yet, is out of an open room, for two parts of a view that is out
+pub record IsFresh (value : RoomValue) (view : ViewValue) (job : Job) : Type 0 where
+  pub out : value.room.job ≡ Some job
+  pub opened : value.room.is_shut ≡ false
+  pub is : job ≡ fresh_job (job.older, job.newer)
+  pub older : Contains view.parts job.older
+  pub newer : Contains view.parts job.newer
+  pub posted : IsPosted value.room view
+  pub region_len : view.region_len ≡ value.room.region_len
+
+-- a job that took its regions by a measure, and has written nothing, is out of an open room, for two parts of a view that is out
+pub record IsReady (header : Header) (value : RoomValue) (view : ViewValue) (job : Job) : Type 0 where
+  pub out : value.room.job ≡ Some job
+  pub opened : value.room.is_shut ≡ false
+  pub taken : job.header ≡ Some header
+  pub none : job.written ≡ 0
+  pub older : Contains view.parts job.older
+  pub newer : Contains view.parts job.newer
+  pub posted : IsPosted value.room view
+  pub region_len : view.region_len ≡ value.room.region_len
+  pub measured : Measures view job.older job.newer (measure_in header)
 
 -- the part of a job stands in the chain, and all is synced; its body is that of the merged rows
 pub record IsPartSealed (header : Header) (old new : RoomValue) (view' : ViewValue) (job : Job) : Type 0 where

@@ -3,12 +3,12 @@
 ghost use Rattle.std.specs.Prelude.{◌≡◌, ℕ, Contains, None, Some, false, true};
 ghost use Rattle.fine_model.specs.Regions.{body_len};
 ghost use Rattle.epoch_room.specs.Meaning.{Keeps};
-ghost use Rattle.epoch_room.specs.MergeSteps.{free_dropped, fresh_job, with_job};
+ghost use Rattle.epoch_room.specs.MergeSteps.{free_dropped, with_job};
 ghost use Rattle.epoch_room.specs.Whole.{IsWhole};
 ghost use Rattle.epoch_room.specs.Returns.{IsPosted};
 ghost use Rattle.partition_merge.specs.Mergers.{IsCounted};
 ghost use Rattle.room_merges.specs.Merging.{HoldsBody, HoldsJoined, Measures};
-ghost use Rattle.room_merges.specs.Pairs.{MergesJob, MergesMeasured, MergesPair, SealsPart, WritesPart, measure_in};
+ghost use Rattle.room_merges.specs.Pairs.{IsFresh, IsReady, MergesJob, MergesMeasured, MergesPair, SealsPart, WritesPart, measure_in};
 
 use crate::body::write_body;
 use crate::fault::MergeFault;
@@ -95,15 +95,7 @@ fn write_part<D: LogDisk>(
     job: &mut Job,
     header: Header,
 ) -> Result<bool, MergeFault>
-    requires out { room.old.room.job ≡ Some job.old }
-    requires open { room.old.room.is_shut ≡ false }
-    requires taken { job.old.header ≡ Some header }
-    requires none { job.old.written ≡ 0 }
-    requires older { Contains view.old.parts job.old.older }
-    requires newer { Contains view.old.parts job.old.newer }
-    requires posted { IsPosted room.old.room view.old }
-    requires region_len { view.old.region_len ≡ room.old.room.region_len }
-    requires measured { Measures view.old job.old.older job.old.newer (measure_in header) }
+    requires ready { IsReady header room.old view.old job.old }
     ensures { WritesPart header room.old room.new view.old view.new job.old job.new result }
 {
     let _counts = room.counts();
@@ -130,13 +122,7 @@ fn merge_measured<D: LogDisk>(
     job: &mut Job,
     measure: Measure,
 ) -> Result<bool, MergeFault>
-    requires out { room.old.room.job ≡ Some job.old }
-    requires open { room.old.room.is_shut ≡ false }
-    requires fresh { job.old ≡ fresh_job (job.old.older, job.old.newer) }
-    requires older { Contains view.old.parts job.old.older }
-    requires newer { Contains view.old.parts job.old.newer }
-    requires posted { IsPosted room.old.room view.old }
-    requires region_len { view.old.region_len ≡ room.old.room.region_len }
+    requires fresh { IsFresh room.old view.old job.old }
     requires counted { IsCounted measure }
     requires measured { Measures view.old job.old.older job.old.newer measure }
     ensures { MergesMeasured measure room.old room.new view.old view.new (job.old.older, job.old.newer) job.new result }
@@ -158,13 +144,7 @@ fn merge_job<D: LogDisk>(
     view: &mut View<D::Eye>,
     job: &mut Job,
 ) -> Result<bool, MergeFault>
-    requires out { room.old.room.job ≡ Some job.old }
-    requires open { room.old.room.is_shut ≡ false }
-    requires fresh { job.old ≡ fresh_job (job.old.older, job.old.newer) }
-    requires older { Contains view.old.parts job.old.older }
-    requires newer { Contains view.old.parts job.old.newer }
-    requires posted { IsPosted room.old.room view.old }
-    requires region_len { view.old.region_len ≡ room.old.room.region_len }
+    requires fresh { IsFresh room.old view.old job.old }
     ensures { MergesJob room.old room.new view.old view.new (job.old.older, job.old.newer) job.new result }
 {
     let _counts = room.counts();

@@ -14,6 +14,7 @@ ghost use Rattle.partition_index.specs.Search.{Searches, TellsRows};
 ghost use Rattle.node_fetch.specs.Fetched.{HasBadRow, HasBadEntry, NoDamage};
 ghost use Rattle.partition_merge.specs.Merging.{FitRows, node_at_head, merged_of};
 ghost use Rattle.partition_merge.specs.Pieces.{is_above};
+ghost use Rattle.partition_merge.specs.Readable.{IsReadable};
 ghost use Rattle.partition_merge.specs.Windows.{nothing_ahead};
 ghost use Rattle.partition_merge.specs.Mergers.{behind, node_kept, nodes_left, IsKept, AreKept, SourceAt, StandsAt, Answers, older_part, newer_part, both_left, unread, both_unread, next_len, most_for, BlamesRow, BlamesEntry, TakesRows, IsJoinOf, at_front, start_of, IsMeasureOf, measure_of, IsCounted};
 
@@ -60,9 +61,7 @@ impl Source {
         eye: &mut E,
         region_len: u64,
     ) -> Result<Option<NodeId>, FetchFault>
-        requires seen { IsSeen (E.LogEye.state eye.old) self.old.part }
-        requires region_len { region_len ≡ (E.LogEye.state eye.old).region_len }
-        requires kept { IsKept (E.LogEye.state eye.old).told self.old }
+        requires readable { IsReadable (E.LogEye.state eye.old) region_len self.old }
         ensures eye { Searches (IsErrOf result fetch_fault.Failed) (2 * index_entry) (E.LogEye.state eye.old) (E.LogEye.state eye.new) }
         ensures part { self.new.part ≡ self.old.part }
         ensures next { self.new.next ≡ self.old.next }
@@ -100,9 +99,7 @@ impl Source {
         node: NodeId,
         region_len: u64,
     ) -> Result<Rows, FetchFault>
-        requires seen { IsSeen (E.LogEye.state eye.old) self.old.part }
-        requires region_len { region_len ≡ (E.LogEye.state eye.old).region_len }
-        requires kept { IsKept (E.LogEye.state eye.old).told self.old }
+        requires readable { IsReadable (E.LogEye.state eye.old) region_len self.old }
         requires ready { self.old.head ≡ None → nodes_left self.old ≡ 0 }
         requires lowest { IfSome self.old.head (λ head. is_node_below head.0.node node ≡ false) }
         ensures eye { Searches (IsErrOf result fetch_fault.Failed) self.old.part.header.area (E.LogEye.state eye.old) (E.LogEye.state eye.new) }

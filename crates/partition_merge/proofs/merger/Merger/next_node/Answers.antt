@@ -31,8 +31,14 @@ returns-in_err-older-clause-exact g c older newer at =
     let same : c.from_residual.result ≡ Err c.in_err-older.field-0.0 = search rules in
     err_clause c.from_residual.result c.in_err-older.field-0.0 _ same (c.in_err-older.ensures.exact older at.of_older)
 
-pub peek-requires-2-clause-seen : goal.peek-requires-2-clause-seen
-peek-requires-2-clause-seen g c = seen_same (g.E.LogEye.state c.args.eye.now) (g.E.LogEye.state c.peek.new.eye) c.args.self.now.newer.part c.peek.ensures.eye.same c.requires.newer
+pub peek-requires-2 : goal.peek-requires-2
+peek-requires-2 g c = record {
+  readable = record {
+    seen = seen_same (g.E.LogEye.state c.args.eye.now) (g.E.LogEye.state c.peek.new.eye) c.args.self.now.newer.part c.peek.ensures.eye.same c.requires.newer;
+    region_len = search rules;
+    kept = search rules;
+  };
+}
 
 pub returns-in_err-newer-clause-exact : goal.returns-in_err-newer-clause-exact
 returns-in_err-newer-clause-exact g c older newer at =
@@ -48,10 +54,14 @@ returns-in_default-clause-exact g c older newer at =
     none_peeked (g.E.LogEye.state c.args.eye.now) (g.E.LogEye.state c.peek.new.eye) (g.E.LogEye.state c.peek-2.new.eye) m older newer c.in_ok-older.older c.in_ok-newer.newer at
     c.peek.ensures.eye.same c.peek-2.ensures.eye.same (c.in_ok-older.ensures.exact older at.of_older) (c.in_ok-newer.ensures.exact newer later) (sym c.lower.ensures ∙ c.in_default.is)
 
-pub take-requires-clause-seen : goal.take-requires-clause-seen
-take-requires-clause-seen g c =
+pub take-requires-clause-readable : goal.take-requires-clause-readable
+take-requires-clause-readable g c =
     let same = same_then (g.E.LogEye.state c.args.eye.now) (g.E.LogEye.state c.peek.new.eye) (g.E.LogEye.state c.peek-2.new.eye) c.peek.ensures.eye.same c.peek-2.ensures.eye.same in
-    subst (IsSeen (g.E.LogEye.state c.peek-2.new.eye)) (sym c.peek.ensures.part) (seen_same (g.E.LogEye.state c.args.eye.now) (g.E.LogEye.state c.peek-2.new.eye) c.args.self.now.older.part same c.requires.older)
+    record {
+      seen = subst (IsSeen (g.E.LogEye.state c.peek-2.new.eye)) (sym c.peek.ensures.part) (seen_same (g.E.LogEye.state c.args.eye.now) (g.E.LogEye.state c.peek-2.new.eye) c.args.self.now.older.part same c.requires.older);
+      region_len = search rules;
+      kept = search rules;
+    }
 
 pub returns-in_err-older-2-clause-exact : goal.returns-in_err-older-2-clause-exact
 returns-in_err-older-2-clause-exact g c older newer at =
@@ -59,11 +69,15 @@ returns-in_err-older-2-clause-exact g c older newer at =
     let p = sources g (goal.at.returns-in_err-older-2-clause-exact g c).After-take older newer at in
     err_clause c.from_residual-in_err-older-2.result c.in_err-older-2.field-0.0 _ same (c.in_err-older-2.ensures.exact older p.of_older p.old_from p.old_kept)
 
-pub take-requires-2-clause-seen : goal.take-requires-2-clause-seen
-take-requires-2-clause-seen g c =
+pub take-requires-2-clause-readable : goal.take-requires-2-clause-readable
+take-requires-2-clause-readable g c =
     let same = same_then (g.E.LogEye.state c.args.eye.now) (g.E.LogEye.state c.peek.new.eye) (g.E.LogEye.state c.take.new.eye) c.peek.ensures.eye.same
     (same_then (g.E.LogEye.state c.peek.new.eye) (g.E.LogEye.state c.peek-2.new.eye) (g.E.LogEye.state c.take.new.eye) c.peek-2.ensures.eye.same c.take.ensures.eye.same) in
-    subst (IsSeen (g.E.LogEye.state c.take.new.eye)) (sym c.peek-2.ensures.part) (seen_same (g.E.LogEye.state c.args.eye.now) (g.E.LogEye.state c.take.new.eye) c.args.self.now.newer.part same c.requires.newer)
+    record {
+      seen = subst (IsSeen (g.E.LogEye.state c.take.new.eye)) (sym c.peek-2.ensures.part) (seen_same (g.E.LogEye.state c.args.eye.now) (g.E.LogEye.state c.take.new.eye) c.args.self.now.newer.part same c.requires.newer);
+      region_len = search rules;
+      kept = search rules;
+    }
 
 pub returns-in_err-newer-2-clause-exact : goal.returns-in_err-newer-2-clause-exact
 returns-in_err-newer-2-clause-exact g c older newer at =

@@ -14,7 +14,7 @@ use Rattle.partition_merge.proofs.merger.Source.take.Goals as goal
 
 -- the entry that is kept, where it is that of the node
 kept_entry : (g : Over) (c : After-read_span g) → IsEntryOf (g.E.LogEye.state c.args.eye.now).told c.args.self.now (c.in-Some.entry, c.in-Some.span)
-kept_entry g c = subst (KeepsHead (g.E.LogEye.state c.args.eye.now).told c.args.self.now) c.in-Some.is c.requires.kept.0
+kept_entry g c = subst (KeepsHead (g.E.LogEye.state c.args.eye.now).told c.args.self.now) c.in-Some.is c.requires.readable.kept.0
 
 own_node : (g : Over) (c : After-read_span g) → c.in-Some.entry.node ≡ c.args.node
 own_node g c = nodes_same c.in-Some.entry.node c.args.node c.if-ne.ensures
@@ -22,7 +22,7 @@ own_node g c = nodes_same c.in-Some.entry.node c.args.node c.if-ne.ensures
 own_span : (g : Over) (c : After-read_span g) (left : List Row) (at : SourceAt (g.E.LogEye.state c.args.eye.now) c.args.self.now left) → c.in-Some.span ≡ span_for at.rows c.args.node
 own_span g c left at =
     let k = kept_entry g c in
-    span_kept (g.E.LogEye.state c.args.eye.now) c.args.self.now.part c.args.self.now.next at.rows c.in-Some.entry c.in-Some.span c.args.node c.requires.seen at.tells k.there k.entry k.span (own_node g c)
+    span_kept (g.E.LogEye.state c.args.eye.now) c.args.self.now.part c.args.self.now.next at.rows c.in-Some.entry c.in-Some.span c.args.node c.requires.readable.seen at.tells k.there k.entry k.span (own_node g c)
 
 left_behind : (g : Over) (c : After-read_span g) (left : List Row) (at : SourceAt (g.E.LogEye.state c.args.eye.now) c.args.self.now left) → node_kept c.args.self.now.head ≡ node_at_head left
     → (rows_of c.args.node at.rows ≡ rows_of c.args.node left) × IsLeft at.rows (c.args.self.now.next + 1) (behind c.args.node left)
@@ -44,9 +44,9 @@ pub overflow_add-self : goal.overflow_add-self
 overflow_add-self g c =
     let eye = g.E.LogEye.state c.args.eye.now in
     let s = c.args.self.now in
-    let kept : IsEntryOf eye.told s (c.in-Some.entry, c.in-Some.span) = subst (KeepsHead eye.told s) c.in-Some.is c.requires.kept.0 in
+    let kept : IsEntryOf eye.told s (c.in-Some.entry, c.in-Some.span) = subst (KeepsHead eye.told s) c.in-Some.is c.requires.readable.kept.0 in
     let there = kept.there in
-    let most = nodes_small eye.region_len s.part.header c.requires.seen.lies in omega arith
+    let most = nodes_small eye.region_len s.part.header c.requires.readable.seen.lies in omega arith
 
 pub returns-clause-fit : goal.returns-clause-fit
 returns-clause-fit g c = fit_read c.args.self.now.part c.read_span.result c.read_span.ensures.fit
@@ -84,7 +84,7 @@ unfolding TakesRows
 returns-then-ne-clause-read g c =
     let eye = g.E.LogEye.state c.args.eye.now in
     let s = c.args.self.now in
-    let k : IsEntryOf eye.told s (c.in-Some.entry, c.in-Some.span) = subst (KeepsHead eye.told s) c.in-Some.is c.requires.kept.0 in
+    let k : IsEntryOf eye.told s (c.in-Some.entry, c.in-Some.span) = subst (KeepsHead eye.told s) c.in-Some.is c.requires.readable.kept.0 in
     let lowest : Lowest c.args.node (Some (c.in-Some.entry, c.in-Some.span)) = subst (Lowest c.args.node) c.in-Some.is c.requires.lowest in
     inl (record { none = c.new-then-ne.ensures; past = past_entry eye.told s c.in-Some.entry c.args.node k.entry lowest (nodes_differ c.in-Some.entry.node c.args.node c.if-ne.ensures); stays = refl; as_many = refl })
 

@@ -97,9 +97,9 @@ takes old new view view' job job' header measure same measured some job_is new_i
     let at = was.with_view.at in
     let has_older : Contains view'.parts job.older = subst (λ ps. Contains ps job.older) (sym same.parts) was.with_view.older in
     let has_newer : Contains view'.parts job.newer = subst (λ ps. Contains ps job.newer) (sym same.parts) was.with_view.newer in
-    let r = ready old new view' job job' header measure some job_is new_is has was.opened was.fresh has_older has_newer
+    let r = (ready old new view' job job' header measure some job_is new_is has was.opened was.fresh has_older has_newer
     (posted_then old.room old.room view view' refl same (posted old view at)) (same.region_len ∙ at.region_len)
-    (of_same view view' job job same refl refl (λ a b. measure ≡ measure_of (merged a b)) measured) in
+    (of_same view view' job job same refl refl (λ a b. measure ≡ measure_of (merged a b)) measured)).is in
     record {
       with_view = record {
         at = at_then old new view view' (ap (λ (v : RoomValue). v.room.board) new_is) (ap (λ (v : RoomValue). v.room.region_len) new_is) same at;

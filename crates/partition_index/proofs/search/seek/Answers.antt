@@ -13,10 +13,31 @@ use Rattle.fine_model.specs.Seek.{binary_digits, middle_of, span_at}
 use Rattle.fine_model.proofs.NodesIn.{exact_nodes}
 use Rattle.partition_index.proofs.Halving.{all_left, comes_to, comes_to_bad, comes_to_none, goes_down, goes_up, meets_none, named}
 use Rattle.partition_index.proofs.Narrowed.{spend, less_below, greater_above, narrow_up, narrow_down, narrowed_none, sought_some}
+use Rattle.log_disk.specs.Disk.{Eye}
+use Rattle.fine_model.specs.declared.Part.{Part}
+use Rattle.partition_index.specs.Parts.{SameEye}
+use Rattle.partition_index.proofs.search.seek.Given.{Over}
+use Rattle.partition_index.proofs.search.seek.Goals.{After-node-1}
 use Rattle.partition_index.proofs.search.seek.Goals as goal
 
 back : (n : ℕ) → n ≡ n + 1 - 1
 back n = omega arith
+
+-- the entry in the middle of those that are left
+record LooksAt (before now after : Eye) (part : Part) (low high : ℕ) (entry : IndexEntry) : Type 0 where
+  there : low + (high - low) / 2 < part.header.nodes
+  is_entry : IsEntryAt before.told part (low + (high - low) / 2) entry
+  same : SameEye before after
+
+looked_at : (g : Over) (c : After-node-1 g)
+    → LooksAt (g.E.LogEye.state c.args.eye.now) (g.E.LogEye.state c.loop-low.eye) (g.E.LogEye.state c.read_entry.new.eye) c.args.part.now c.loop-low.low c.loop-low.high c.in_ok-entry.entry
+looked_at g c =
+    let state = g.E.LogEye.state in
+    record {
+      there = omega (arith, c.loop-low.invariant.within);
+      is_entry = subst (λ known. IsEntryAt known c.args.part.now (c.loop-low.low + (c.loop-low.high - c.loop-low.low) / 2) c.in_ok-entry.entry) c.loop-low.invariant.same.told c.in_ok-entry.ensures.ok;
+      same = same_then (state c.args.eye.now) (state c.loop-low.eye) (state c.read_entry.new.eye) c.loop-low.invariant.same c.in_ok-entry.ensures.eye.same;
+    }
 
 pub returns-in_err-entry-clause-exact : goal.returns-in_err-entry-clause-exact
 returns-in_err-entry-clause-exact g c rows t =
@@ -28,47 +49,37 @@ returns-in_err-entry-clause-exact g c rows t =
 
 pub loop-low-preserved-in-Less : goal.loop-low-preserved-in-Less
 loop-low-preserved-in-Less g c =
-    let state = g.E.LogEye.state in
-    let p = c.args.part.now in
-    let l = c.loop-low in
-    let read = c.in_ok-entry.ensures in
-    let middle = l.low + (l.high - l.low) / 2 in
-    let there : middle < p.header.nodes = omega (arith, l.invariant.within) in
+    let looked = looked_at g (goal.at.loop-low-preserved-in-Less g c).After-node-1 in
     record {
       order = omega arith;
-      within = l.invariant.within;
-      same = same_then (state c.args.eye.now) (state l.eye) (state c.read_entry.new.eye) l.invariant.same read.eye.same;
+      within = c.loop-low.invariant.within;
+      same = looked.same;
       steady = search rules;
-      taken = spend (14 * binary_digits p.header.nodes) (state c.args.eye.now).taken (state l.eye).taken (state c.read_entry.new.eye).taken (l.high - l.low) (l.high - (middle + 1)) (omega arith) (omega arith) (omega arith) l.invariant.taken read.eye.taken;
-      before = inr (c.in_ok-entry.entry, subst (λ i. IsEntryAt (state c.args.eye.now).told p i c.in_ok-entry.entry) (back middle) (subst (λ known. IsEntryAt known p middle c.in_ok-entry.entry) l.invariant.same.told read.ok), less_below c.in_ok-entry.entry.node c.args.node c.in-Less.ensures);
-      behind = l.invariant.behind;
-      left = goes_up (state c.args.eye.now).told p c.args.node l.low l.high c.loop-low-test.true l.invariant.left c.in_ok-entry.entry (subst (λ known. IsEntryAt known p middle c.in_ok-entry.entry) l.invariant.same.told read.ok) (less_below c.in_ok-entry.entry.node c.args.node c.in-Less.ensures);
+      taken = spend (14 * binary_digits c.args.part.now.header.nodes) (g.E.LogEye.state c.args.eye.now).taken (g.E.LogEye.state c.loop-low.eye).taken (g.E.LogEye.state c.read_entry.new.eye).taken (c.loop-low.high - c.loop-low.low) (c.loop-low.high - ((c.loop-low.low + (c.loop-low.high - c.loop-low.low) / 2) + 1)) (omega arith) (omega arith) (omega arith) c.loop-low.invariant.taken c.in_ok-entry.ensures.eye.taken;
+      before = inr (c.in_ok-entry.entry, subst (λ i. IsEntryAt (g.E.LogEye.state c.args.eye.now).told c.args.part.now i c.in_ok-entry.entry) (back (c.loop-low.low + (c.loop-low.high - c.loop-low.low) / 2)) looked.is_entry, less_below c.in_ok-entry.entry.node c.args.node c.in-Less.ensures);
+      behind = c.loop-low.invariant.behind;
+      left = goes_up (g.E.LogEye.state c.args.eye.now).told c.args.part.now c.args.node c.loop-low.low c.loop-low.high c.loop-low-test.true c.loop-low.invariant.left c.in_ok-entry.entry looked.is_entry (less_below c.in_ok-entry.entry.node c.args.node c.in-Less.ensures);
       narrowed = λ rows t.
-          (let entry = entry_exact (state c.args.eye.now) p rows middle c.in_ok-entry.entry c.args.node c.requires.seen t there (subst (λ known. IsEntryAt known p middle c.in_ok-entry.entry) l.invariant.same.told read.ok) in
-          narrow_up rows c.args.node l.low l.high middle c.args.node (l.invariant.narrowed rows t) (omega arith) (there_in (state c.args.eye.now) p rows middle c.requires.seen t there)
+          (let entry = entry_exact (g.E.LogEye.state c.args.eye.now) c.args.part.now rows (c.loop-low.low + (c.loop-low.high - c.loop-low.low) / 2) c.in_ok-entry.entry c.args.node c.requires.seen t looked.there looked.is_entry in
+          narrow_up rows c.args.node c.loop-low.low c.loop-low.high (c.loop-low.low + (c.loop-low.high - c.loop-low.low) / 2) c.args.node (c.loop-low.invariant.narrowed rows t) (omega arith) (there_in (g.E.LogEye.state c.args.eye.now) c.args.part.now rows (c.loop-low.low + (c.loop-low.high - c.loop-low.low) / 2) c.requires.seen t looked.there)
           (sym (ap (λ e. is_node_below e.node c.args.node) entry) ∙ less_below c.in_ok-entry.entry.node c.args.node c.in-Less.ensures));
     }
 
 pub loop-low-preserved : goal.loop-low-preserved
 loop-low-preserved g c =
-    let state = g.E.LogEye.state in
-    let p = c.args.part.now in
-    let l = c.loop-low in
-    let read = c.in_ok-entry.ensures in
-    let middle = l.low + (l.high - l.low) / 2 in
-    let there : middle < p.header.nodes = omega (arith, l.invariant.within) in
+    let looked = looked_at g (goal.at.loop-low-preserved g c).After-node-1 in
     record {
       order = omega arith;
-      within = omega (arith, l.invariant.within);
-      same = same_then (state c.args.eye.now) (state l.eye) (state c.read_entry.new.eye) l.invariant.same read.eye.same;
+      within = omega (arith, c.loop-low.invariant.within);
+      same = looked.same;
       steady = search rules;
-      taken = spend (14 * binary_digits p.header.nodes) (state c.args.eye.now).taken (state l.eye).taken (state c.read_entry.new.eye).taken (l.high - l.low) (middle - l.low) (omega arith) (omega arith) (omega arith) l.invariant.taken read.eye.taken;
-      before = l.invariant.before;
-      behind = inr (c.in_ok-entry.entry, subst (λ known. IsEntryAt known p middle c.in_ok-entry.entry) l.invariant.same.told read.ok, greater_above c.in_ok-entry.entry.node c.args.node c.in-Greater.ensures);
-      left = goes_down (state c.args.eye.now).told p c.args.node l.low l.high c.loop-low-test.true l.invariant.left c.in_ok-entry.entry (subst (λ known. IsEntryAt known p middle c.in_ok-entry.entry) l.invariant.same.told read.ok) (greater_above c.in_ok-entry.entry.node c.args.node c.in-Greater.ensures);
+      taken = spend (14 * binary_digits c.args.part.now.header.nodes) (g.E.LogEye.state c.args.eye.now).taken (g.E.LogEye.state c.loop-low.eye).taken (g.E.LogEye.state c.read_entry.new.eye).taken (c.loop-low.high - c.loop-low.low) ((c.loop-low.low + (c.loop-low.high - c.loop-low.low) / 2) - c.loop-low.low) (omega arith) (omega arith) (omega arith) c.loop-low.invariant.taken c.in_ok-entry.ensures.eye.taken;
+      before = c.loop-low.invariant.before;
+      behind = inr (c.in_ok-entry.entry, looked.is_entry, greater_above c.in_ok-entry.entry.node c.args.node c.in-Greater.ensures);
+      left = goes_down (g.E.LogEye.state c.args.eye.now).told c.args.part.now c.args.node c.loop-low.low c.loop-low.high c.loop-low-test.true c.loop-low.invariant.left c.in_ok-entry.entry looked.is_entry (greater_above c.in_ok-entry.entry.node c.args.node c.in-Greater.ensures);
       narrowed = λ rows t.
-          (let entry = entry_exact (state c.args.eye.now) p rows middle c.in_ok-entry.entry c.args.node c.requires.seen t there (subst (λ known. IsEntryAt known p middle c.in_ok-entry.entry) l.invariant.same.told read.ok) in
-          narrow_down rows c.args.node l.low l.high middle c.args.node (l.invariant.narrowed rows t) (there_in (state c.args.eye.now) p rows middle c.requires.seen t there)
+          (let entry = entry_exact (g.E.LogEye.state c.args.eye.now) c.args.part.now rows (c.loop-low.low + (c.loop-low.high - c.loop-low.low) / 2) c.in_ok-entry.entry c.args.node c.requires.seen t looked.there looked.is_entry in
+          narrow_down rows c.args.node c.loop-low.low c.loop-low.high (c.loop-low.low + (c.loop-low.high - c.loop-low.low) / 2) c.args.node (c.loop-low.invariant.narrowed rows t) (there_in (g.E.LogEye.state c.args.eye.now) c.args.part.now rows (c.loop-low.low + (c.loop-low.high - c.loop-low.low) / 2) c.requires.seen t looked.there)
           (sym (ap (λ e. is_node_below c.args.node e.node) entry) ∙ greater_above c.in_ok-entry.entry.node c.args.node c.in-Greater.ensures));
     }
 

@@ -1,13 +1,20 @@
-use Rattle.std.proofs.Common.{◌≡◌, ◌∙◌, ◌+◌, ◌*◌, ◌≤◌, List, Ok, Err, sym, ap, subst, arith, rules, refl}
-use Rattle.partition_index.specs.Parts.{IsSeen}
+use Rattle.std.proofs.Common.{◌≡◌, ℕ, ◌∙◌, ◌+◌, ◌*◌, ◌≤◌, List, Ok, Err, sym, ap, subst, arith, rules, refl}
+use Rattle.log_disk.specs.Disk.{Eye}
+use Rattle.partition_index.specs.Parts.{IsSeen, SameEye}
 use Rattle.partition_index.proofs.Looking.{seen_same, same_then}
 use Rattle.fine_model.specs.declared.Row.{Row}
-use Rattle.partition_merge.specs.Mergers.{StandsAt, both_unread, next_len, unread}
+use Rattle.partition_merge.specs.Mergers.{IsKept, StandsAt, both_unread, next_len, unread}
 use Rattle.partition_merge.proofs.Sources.{Peeked, err_clause, source_peeked, peeked_both, none_peeked, none_first, takes_as, handed_out, first_lowest, second_lowest, some_joined}
+use Rattle.partition_merge.specs.declared.merger.Source.{Source}
+use Rattle.partition_merge.specs.Readable.{IsReadable}
 use Rattle.partition_merge.proofs.Taken.{next_is}
 use Rattle.partition_merge.proofs.merger.Merger.next_node.Given.{Over}
 use Rattle.partition_merge.proofs.merger.Merger.next_node.Goals.{After-take, After-take-2}
 use Rattle.partition_merge.proofs.merger.Merger.next_node.Goals as goal
+
+-- a source of a part that was seen is read further
+readable_then : (old new : Eye) (len : ℕ) (before after : Source) → SameEye old new → after.part ≡ before.part → IsSeen old before.part → len ≡ new.region_len → IsKept new.told after → IsReadable new len after
+readable_then old new len before after same part seen region_len kept = record { seen = subst (IsSeen new) (sym part) (seen_same old new before.part same seen); region_len = region_len; kept = kept }
 
 -- where both sources stand once their next entries are kept
 sources : (g : Over) (c : After-take g) (older newer : List Row) → StandsAt (g.E.LogEye.state c.args.eye.now) c.args.self.now older newer → Peeked (g.E.LogEye.state c.peek-2.new.eye) c.peek.new.self c.peek-2.new.self older newer c.in-Some.node
@@ -32,13 +39,7 @@ returns-in_err-older-clause-exact g c older newer at =
     err_clause c.from_residual.result c.in_err-older.field-0.0 _ same (c.in_err-older.ensures.exact older at.of_older)
 
 pub peek-requires-2 : goal.peek-requires-2
-peek-requires-2 g c = record {
-  readable = record {
-    seen = seen_same (g.E.LogEye.state c.args.eye.now) (g.E.LogEye.state c.peek.new.eye) c.args.self.now.newer.part c.peek.ensures.eye.same c.requires.newer;
-    region_len = search rules;
-    kept = search rules;
-  };
-}
+peek-requires-2 g c = record { readable = readable_then (g.E.LogEye.state c.args.eye.now) (g.E.LogEye.state c.peek.new.eye) c.args.self.now.region_len c.args.self.now.newer c.args.self.now.newer c.peek.ensures.eye.same refl c.requires.newer (search rules) (search rules) }
 
 pub returns-in_err-newer-clause-exact : goal.returns-in_err-newer-clause-exact
 returns-in_err-newer-clause-exact g c older newer at =
@@ -56,12 +57,7 @@ returns-in_default-clause-exact g c older newer at =
 
 pub take-requires-clause-readable : goal.take-requires-clause-readable
 take-requires-clause-readable g c =
-    let same = same_then (g.E.LogEye.state c.args.eye.now) (g.E.LogEye.state c.peek.new.eye) (g.E.LogEye.state c.peek-2.new.eye) c.peek.ensures.eye.same c.peek-2.ensures.eye.same in
-    record {
-      seen = subst (IsSeen (g.E.LogEye.state c.peek-2.new.eye)) (sym c.peek.ensures.part) (seen_same (g.E.LogEye.state c.args.eye.now) (g.E.LogEye.state c.peek-2.new.eye) c.args.self.now.older.part same c.requires.older);
-      region_len = search rules;
-      kept = search rules;
-    }
+    readable_then (g.E.LogEye.state c.args.eye.now) (g.E.LogEye.state c.peek-2.new.eye) c.args.self.now.region_len c.args.self.now.older c.peek.new.self (same_then (g.E.LogEye.state c.args.eye.now) (g.E.LogEye.state c.peek.new.eye) (g.E.LogEye.state c.peek-2.new.eye) c.peek.ensures.eye.same c.peek-2.ensures.eye.same) c.peek.ensures.part c.requires.older (search rules) (search rules)
 
 pub returns-in_err-older-2-clause-exact : goal.returns-in_err-older-2-clause-exact
 returns-in_err-older-2-clause-exact g c older newer at =
@@ -71,13 +67,8 @@ returns-in_err-older-2-clause-exact g c older newer at =
 
 pub take-requires-2-clause-readable : goal.take-requires-2-clause-readable
 take-requires-2-clause-readable g c =
-    let same = same_then (g.E.LogEye.state c.args.eye.now) (g.E.LogEye.state c.peek.new.eye) (g.E.LogEye.state c.take.new.eye) c.peek.ensures.eye.same
-    (same_then (g.E.LogEye.state c.peek.new.eye) (g.E.LogEye.state c.peek-2.new.eye) (g.E.LogEye.state c.take.new.eye) c.peek-2.ensures.eye.same c.take.ensures.eye.same) in
-    record {
-      seen = subst (IsSeen (g.E.LogEye.state c.take.new.eye)) (sym c.peek-2.ensures.part) (seen_same (g.E.LogEye.state c.args.eye.now) (g.E.LogEye.state c.take.new.eye) c.args.self.now.newer.part same c.requires.newer);
-      region_len = search rules;
-      kept = search rules;
-    }
+    let later = same_then (g.E.LogEye.state c.peek.new.eye) (g.E.LogEye.state c.peek-2.new.eye) (g.E.LogEye.state c.take.new.eye) c.peek-2.ensures.eye.same c.take.ensures.eye.same in
+    readable_then (g.E.LogEye.state c.args.eye.now) (g.E.LogEye.state c.take.new.eye) c.args.self.now.region_len c.args.self.now.newer c.peek-2.new.self (same_then (g.E.LogEye.state c.args.eye.now) (g.E.LogEye.state c.peek.new.eye) (g.E.LogEye.state c.take.new.eye) c.peek.ensures.eye.same later) c.peek-2.ensures.part c.requires.newer (search rules) (search rules)
 
 pub returns-in_err-newer-2-clause-exact : goal.returns-in_err-newer-2-clause-exact
 returns-in_err-newer-2-clause-exact g c older newer at =

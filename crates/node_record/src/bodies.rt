@@ -205,7 +205,8 @@ pub mod inner {
 /// A key and a value.
 pub mod pair {
     use crate::fault::RowFault;
-    use crate::fields::{pair, pair_in, put_key, put_value};
+    use crate::fields::{pair_in, put_key, put_value};
+    use crate::items::Field;
     use fine_model::Bytes;
     use std::alloc::Global;
 
@@ -238,7 +239,7 @@ pub mod pair {
         requires { at ≤ length bytes.now }
         ensures { Gives (λ x. rec.Put x.0 x.1) bytes.now start result (put_at (drop at bytes.now)) }
     {
-        pair(alloc, bytes, start, at)
+        <(Bytes, Bytes)>::read(alloc, bytes, start, at)
     }
 
     /// The place behind it.

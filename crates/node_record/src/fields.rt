@@ -163,7 +163,7 @@ pub fn pair_in(bytes: &[u8], start: usize, at: usize) -> Result<((&[u8], &[u8]),
 }
 
 /// A copy of bytes.
-fn copy(alloc: Global, text: &[u8]) -> Result<Bytes, AllocError>
+pub fn copy(alloc: Global, text: &[u8]) -> Result<Bytes, AllocError>
     ensures { IfOk result (λ copy. copy ≡ text.now) }
 {
     Ok(Items::from_vec(Vec::from_slice(alloc, text)?))
@@ -175,19 +175,6 @@ pub fn key(alloc: Global, bytes: &[u8], start: usize, at: usize) -> Result<(Byte
 {
     let (key, at) = key_in(bytes, start, at)?;
     Ok((copy(alloc, key)?, at))
-}
-
-pub fn pair(
-    alloc: Global,
-    bytes: &[u8],
-    start: usize,
-    at: usize,
-) -> Result<((Bytes, Bytes), usize), RowFault>
-    requires { at ≤ length bytes.now }
-    ensures { Gives (λ pair. pair) bytes.now start result (pair_at (drop at bytes.now)) }
-{
-    let ((key, value), at) = pair_in(bytes, start, at)?;
-    Ok(((copy(alloc, key)?, copy(alloc, value)?), at))
 }
 
 #[tactic(auto, unfolding(crate::specs::Reading::child_at))]

@@ -101,6 +101,7 @@ fn write_front(out: &mut Vec<u8>, kind: u8, row: &Row, len: u32)
 }
 
 /// The number of a row's kind.
+#[inline(always)]
 fn kind_of(rec: &Rec) -> u8
     ensures { result ≡ kind rec.now }
 {
@@ -268,6 +269,7 @@ fn whole(
 }
 
 /// Reads the body of a kind that stands at `at`, in a row that starts at `start`.
+#[inline(always)]
 #[tactic(auto, unfolding(crate::specs::Reading::body_at, crate::specs::Reading::keyed_at))]
 fn read_body(
     alloc: Global,

@@ -10,6 +10,7 @@ ghost use Rattle.fine_model.specs.RowBytes.{index_entry};
 ghost use Rattle.partition_index.specs.declared.entries.SeekFault.TheVariants as fault;
 ghost use Rattle.partition_index.specs.Entries.{model_of, entry_for};
 ghost use Rattle.partition_index.specs.Parts.{IsSeen};
+ghost use Rattle.partition_index.specs.Asking.{AsksEntry};
 ghost use Rattle.partition_index.specs.Search.{Searches, IfTold, IsEntryAt, IsNoEntryAt, IsEndOf, IsRangeAt, IsSpanAt, IsSoughtSpan, IsBadAt, LacksNode, MeetsBad, TellsRows, span_for, sought};
 
 use crate::entries::{IndexEntry, SeekFault, Span, entry_of};
@@ -68,9 +69,7 @@ fn read_entry<E: LogEye>(
     i: u32,
     region_len: u64,
 ) -> Result<IndexEntry, SeekFault>
-    requires seen { IsSeen (E.LogEye.state eye.old) part.now }
-    requires region_len { region_len ≡ (E.LogEye.state eye.old).region_len }
-    requires there { i < part.now.header.nodes }
+    requires asked { AsksEntry (E.LogEye.state eye.old) part.now i region_len }
     ensures eye { Searches (IsErrOf result fault.Failed) index_entry (E.LogEye.state eye.old) (E.LogEye.state eye.new) }
     ensures ok { IfOk result (IsEntryAt (E.LogEye.state eye.old).told part.now i) }
     ensures bad { (at : ℕ) → IsErrOf result (fault.BadIndex at) → IsBadAt (E.LogEye.state eye.old).told part.now at }
@@ -86,9 +85,7 @@ fn read_entry<E: LogEye>(
 
 // The end of the span of an entry: the offset of the next one, or the end of the rows.
 fn end_of<E: LogEye>(eye: &mut E, part: &Part, i: u32, region_len: u64) -> Result<u32, SeekFault>
-    requires seen { IsSeen (E.LogEye.state eye.old) part.now }
-    requires region_len { region_len ≡ (E.LogEye.state eye.old).region_len }
-    requires there { i < part.now.header.nodes }
+    requires asked { AsksEntry (E.LogEye.state eye.old) part.now i region_len }
     ensures eye { Searches (IsErrOf result fault.Failed) index_entry (E.LogEye.state eye.old) (E.LogEye.state eye.new) }
     ensures ok { IfOk result (IsEndOf (E.LogEye.state eye.old).told part.now i) }
     ensures bad { (at : ℕ) → IsErrOf result (fault.BadIndex at) → IsBadAt (E.LogEye.state eye.old).told part.now at }
@@ -136,9 +133,7 @@ fn span_of<E: LogEye>(
     entry: &IndexEntry,
     region_len: u64,
 ) -> Result<Span, SeekFault>
-    requires seen { IsSeen (E.LogEye.state eye.old) part.now }
-    requires region_len { region_len ≡ (E.LogEye.state eye.old).region_len }
-    requires there { i < part.now.header.nodes }
+    requires asked { AsksEntry (E.LogEye.state eye.old) part.now i region_len }
     requires entry { IsEntryAt (E.LogEye.state eye.old).told part.now i entry.now }
     ensures eye { Searches (IsErrOf result fault.Failed) index_entry (E.LogEye.state eye.old) (E.LogEye.state eye.new) }
     ensures ok { IfOk result (IsSpanAt (E.LogEye.state eye.old).told part.now i) }

@@ -11,10 +11,10 @@ returns-in_err-entry-clause-exact g c rows t =
     let same : c.from_residual.result ≡ Err c.in_err-entry.field-0.0 = search rules in
     inl (same ∙ ap Err (only_failed eye c.args.part.now rows c.in_err-entry.field-0.0 c.requires.seen t (λ at is. c.in_err-entry.ensures.bad at (ap Err is))))
 
-pub span_of-requires-clause-seen : goal.span_of-requires-clause-seen
-span_of-requires-clause-seen g c =
+pub span_of-requires-clause-asked : goal.span_of-requires-clause-asked
+span_of-requires-clause-asked g c =
     let state = g.E.LogEye.state in
-    seen_same (state c.args.eye.now) (state c.read_entry.new.eye) c.args.part.now c.read_entry.ensures.eye.same c.requires.seen
+    record { seen = seen_same (state c.args.eye.now) (state c.read_entry.new.eye) c.args.part.now c.read_entry.ensures.eye.same c.requires.seen; region_len = search rules; there = search rules }
 
 pub returns-in_err-span-clause-exact : goal.returns-in_err-span-clause-exact
 returns-in_err-span-clause-exact g c rows t =

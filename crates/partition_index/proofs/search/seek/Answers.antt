@@ -96,10 +96,10 @@ returns-in-Equal-clause-exact g c rows t =
     let same : get_or (nodes_in rows) middle c.args.node ≡ c.args.node = sym (ap (λ e. e.node) entry) ∙ exact_nodes c.in_ok-entry.entry.node c.args.node (sym c.in-Equal.ensures) in
     inr (ap (λ s. Ok (Some s)) span ∙ ap Ok (sym (sought_some rows middle c.args.node (there_in (state c.args.eye.now) p rows middle c.requires.seen t there)) ∙ ap (sought rows) same))
 
-pub span_of-requires-clause-seen : goal.span_of-requires-clause-seen
-span_of-requires-clause-seen g c =
+pub span_of-requires-clause-asked : goal.span_of-requires-clause-asked
+span_of-requires-clause-asked g c =
     let state = g.E.LogEye.state in
-    seen_same (state c.args.eye.now) (state c.read_entry.new.eye) c.args.part.now (same_then (state c.args.eye.now) (state c.loop-low.eye) (state c.read_entry.new.eye) c.loop-low.invariant.same c.read_entry.ensures.eye.same) c.requires.seen
+    record { seen = seen_same (state c.args.eye.now) (state c.read_entry.new.eye) c.args.part.now (same_then (state c.args.eye.now) (state c.loop-low.eye) (state c.read_entry.new.eye) c.loop-low.invariant.same c.read_entry.ensures.eye.same) c.requires.seen; region_len = search rules; there = omega (arith, c.loop-low.invariant.within) }
 
 pub returns-in_err-span-in-Equal-clause-exact : goal.returns-in_err-span-in-Equal-clause-exact
 returns-in_err-span-in-Equal-clause-exact g c rows t =

@@ -5,9 +5,16 @@ use Rattle.fine_model.specs.declared.Part.{Part}
 use Rattle.fine_model.specs.declared.law.RoomState.{RoomState}
 use Rattle.room_merges.specs.Work.{WritesNext}
 use Rattle.room_merges.specs.declared.body.Progress.{Progress}
+use Rattle.room_merges.specs.declared.body.Progress.TheVariants as progress
 use Rattle.room_merges.specs.declared.fault.MergeFault.{MergeFault}
 use Rattle.room_merges.proofs.Working.{all_written, more_written, none_written, not_written, too_long}
+use Rattle.room_merges.proofs.body.write_blocks.Given.{Over}
+use Rattle.room_merges.proofs.body.write_blocks.Goals.{In-Written}
 use Rattle.room_merges.proofs.body.write_blocks.Goals as goal
+
+-- a block more is written
+more : (g : Over) (c : In-Written g) → WritesNext c.args.header c.loop-progress.room c.write_next.new.room c.loop-progress.view c.write_next.new.view c.write_next.new.blocks c.loop-progress.job c.write_next.new.job (Ok progress.Written)
+more g c = subst (λ (r : Result Progress MergeFault). WritesNext c.args.header c.loop-progress.room c.write_next.new.room c.loop-progress.view c.write_next.new.view c.write_next.new.blocks c.loop-progress.job c.write_next.new.job r) (c.in-Ok.is ∙ ap (λ p. Ok p) c.in-Written.is) c.write_next.ensures
 
 pub loop-progress-init : goal.loop-progress-init
 loop-progress-init g c = none_written c.args.header c.args.room.now c.args.view.now c.args.blocks.now c.args.job.now c.counts-counts.ensures.whole c.requires.out c.requires.within c.requires.writing
@@ -34,12 +41,11 @@ write_next-requires-clause-writing g c κs within = c.loop-progress.invariant.wr
 
 pub loop-progress-preserved : goal.loop-progress-preserved
 loop-progress-preserved g c =
-    more_written c.args.header c.args.room.now c.loop-progress.room c.write_next.new.room c.args.view.now c.loop-progress.view c.write_next.new.view c.loop-progress.blocks c.write_next.new.blocks c.args.job.now c.loop-progress.job c.write_next.new.job c.loop-progress.invariant
-    (subst (λ (r : Result Progress MergeFault). WritesNext c.args.header c.loop-progress.room c.write_next.new.room c.loop-progress.view c.write_next.new.view c.write_next.new.blocks c.loop-progress.job c.write_next.new.job r) (c.in-Ok.is ∙ ap (λ p. Ok p) c.in-Written.is) c.write_next.ensures)
+    more_written c.args.header c.args.room.now c.loop-progress.room c.write_next.new.room c.args.view.now c.loop-progress.view c.write_next.new.view c.loop-progress.blocks c.write_next.new.blocks c.args.job.now c.loop-progress.job c.write_next.new.job c.loop-progress.invariant (more g (goal.at.loop-progress-preserved g c).In-Written)
 
 pub loop-progress-smaller : goal.loop-progress-smaller
 loop-progress-smaller g c =
-    let next = subst (λ (r : Result Progress MergeFault). WritesNext c.args.header c.loop-progress.room c.write_next.new.room c.loop-progress.view c.write_next.new.view c.write_next.new.blocks c.loop-progress.job c.write_next.new.job r) (c.in-Ok.is ∙ ap (λ p. Ok p) c.in-Written.is) c.write_next.ensures in
+    let next = more g (goal.at.loop-progress-smaller g c).In-Written in
     let grown = next.next.0 in
     let within = next.next.1 in
     omega (arith, grown, within)

@@ -5,6 +5,7 @@ ghost use Rattle.fine_model.specs.declared.FetchFault.TheVariants as fetch_fault
 ghost use Rattle.fine_model.specs.declared.Row.{Row};
 ghost use Rattle.fine_model.specs.Regions.{body_len};
 ghost use Rattle.fine_model.specs.Seek.{entry_place};
+ghost use Rattle.partition_index.specs.Asking.{AsksEntry};
 ghost use Rattle.partition_index.specs.Parts.{CountsFaults, IsSeen, SameEye};
 ghost use Rattle.partition_index.specs.Search.{IsEndOf, IsEntryAt, IsSpanAt, TellsRows, span_for};
 ghost use Rattle.node_fetch.specs.Fetched.{HasBadEntry, IsBadRowOf, NoDamage};
@@ -35,9 +36,7 @@ fn read_entry<E: LogEye>(
     i: u32,
     region_len: u64,
 ) -> Result<IndexEntry, FetchFault>
-    requires seen { IsSeen (E.LogEye.state eye.old) part.now }
-    requires region_len { region_len ≡ (E.LogEye.state eye.old).region_len }
-    requires there { i < part.now.header.nodes }
+    requires asked { AsksEntry (E.LogEye.state eye.old) part.now i region_len }
     requires holds { HoldsWindow (E.LogEye.state eye.old).told part.now (body_len part.now.header) index.old }
     ensures same { SameEye (E.LogEye.state eye.old) (E.LogEye.state eye.new) }
     ensures counts { CountsFaults (IsErrOf result fetch_fault.Failed) (E.LogEye.state eye.old) (E.LogEye.state eye.new) }
@@ -73,9 +72,7 @@ fn next_entry<E: LogEye>(
     i: u32,
     region_len: u64,
 ) -> Result<IndexEntry, FetchFault>
-    requires seen { IsSeen (E.LogEye.state eye.old) part.now }
-    requires region_len { region_len ≡ (E.LogEye.state eye.old).region_len }
-    requires there { i < part.now.header.nodes }
+    requires asked { AsksEntry (E.LogEye.state eye.old) part.now i region_len }
     requires holds { HoldsWindow (E.LogEye.state eye.old).told part.now (body_len part.now.header) index.old }
     requires next { IfSome next (λ n. IsEntryAt (E.LogEye.state eye.old).told part.now n.number n.entry) }
     ensures same { SameEye (E.LogEye.state eye.old) (E.LogEye.state eye.new) }
@@ -107,9 +104,7 @@ fn end_of<E: LogEye>(
     i: u32,
     region_len: u64,
 ) -> Result<u32, FetchFault>
-    requires seen { IsSeen (E.LogEye.state eye.old) part.now }
-    requires region_len { region_len ≡ (E.LogEye.state eye.old).region_len }
-    requires there { i < part.now.header.nodes }
+    requires asked { AsksEntry (E.LogEye.state eye.old) part.now i region_len }
     requires holds { HoldsWindow (E.LogEye.state eye.old).told part.now (body_len part.now.header) index.old }
     requires next { IfSome next.old (λ n. IsEntryAt (E.LogEye.state eye.old).told part.now n.number n.entry) }
     ensures same { SameEye (E.LogEye.state eye.old) (E.LogEye.state eye.new) }
@@ -148,9 +143,7 @@ pub(crate) fn read_head<E: LogEye>(
     i: u32,
     region_len: u64,
 ) -> Result<(IndexEntry, Span), FetchFault>
-    requires seen { IsSeen (E.LogEye.state eye.old) part.now }
-    requires region_len { region_len ≡ (E.LogEye.state eye.old).region_len }
-    requires there { i < part.now.header.nodes }
+    requires asked { AsksEntry (E.LogEye.state eye.old) part.now i region_len }
     requires holds { HoldsWindow (E.LogEye.state eye.old).told part.now (body_len part.now.header) index.old }
     requires next { IfSome next.old (λ n. IsEntryAt (E.LogEye.state eye.old).told part.now n.number n.entry) }
     ensures same { SameEye (E.LogEye.state eye.old) (E.LogEye.state eye.new) }

@@ -1,15 +1,19 @@
-use Rattle.std.proofs.Common.{Err, ap, subst}
+use Rattle.std.proofs.Common.{Err, ap, rules, subst}
 use Rattle.partition_index.specs.Search.{IsEndOf}
 use Rattle.partition_index.proofs.Looking.{seen_same}
 use Rattle.node_fetch.proofs.PartRows.{bad_within}
 use Rattle.partition_merge.proofs.Streams.{body_small}
 use Rattle.partition_merge.proofs.through.read_head.Goals as goal
 
-pub end_of-requires-clause-seen : goal.end_of-requires-clause-seen
-end_of-requires-clause-seen g c = seen_same (g.E.LogEye.state c.args.eye.now) (g.E.LogEye.state c.next_entry.new.eye) c.args.part.now c.next_entry.ensures.same c.requires.seen
+pub end_of-requires-clause-asked : goal.end_of-requires-clause-asked
+end_of-requires-clause-asked g c = record {
+  seen = seen_same (g.E.LogEye.state c.args.eye.now) (g.E.LogEye.state c.next_entry.new.eye) c.args.part.now c.next_entry.ensures.same c.requires.asked.seen;
+  region_len = search rules;
+  there = c.requires.asked.there;
+}
 
 pub span_in-requires-clause-small : goal.span_in-requires-clause-small
-span_in-requires-clause-small g c = body_small _ c.args.part.now.header c.requires.seen.lies
+span_in-requires-clause-small g c = body_small _ c.args.part.now.header c.requires.asked.seen.lies
 
 pub bad_index-requires-clause-within : goal.bad_index-requires-clause-within
 bad_index-requires-clause-within g c =

@@ -125,7 +125,7 @@ fn hold_place(bucket: &mut Bucket, number: u32) -> Result<(), NoMemory>
     bucket.put(number, place)
 }
 
-/// Pushes a row of a node that is cached, or of one that the row is the image of, as `push_pair` does.
+/// Pushes a row of a node that is cached, or of one that the row is the image of, as `push_pair` does; what was known of the node's keys is forgotten.
 pub fn push_any(
     alloc: Global,
     bucket: &mut Bucket,

@@ -23,7 +23,7 @@ use Rattle.epoch_room.specs.declared.answers.AdoptFault.TheVariants as adopt_fau
 use Rattle.epoch_room.specs.declared.answers.RoomFault.{RoomFault}
 use Rattle.epoch_room.specs.declared.answers.RoomFault.TheVariants as room_fault
 
--- rows in order, of the epochs behind those of a room in which nothing waits and no merge is out
+-- rows in order, of the epochs behind those of a room to which no entry was appended and in which no merge is out
 pub record AreNext (room : RoomState) (range : Range) (own : List Row) : Type 0 where
   pub none : room.places ≡ 0
   pub no_job : room.job ≡ None

@@ -234,7 +234,7 @@ module _ {V : Type 0} where
 -- ---- one try to take the room
 
 -- The room was taken, and is as it was given back last, or another seat holds it; the pass is one of the hall still.
-pub record TriesRoom {R V : Type 0} (state : R → RoomState) (origin : R → Origin) (stands_for : R → List Row → ℕ → List Commit → Type 0) (view : V → ViewState) (z : TableId) (x : Beginning) (p p' : Pass V) (found : Option R) : Type 0 where
+pub record TriesToTakeRoom {R V : Type 0} (state : R → RoomState) (origin : R → Origin) (stands_for : R → List Row → ℕ → List Commit → Type 0) (view : V → ViewState) (z : TableId) (x : Beginning) (p p' : Pass V) (found : Option R) : Type 0 where
   pub pass : IsPass view z x p' × (p'.number ≡ p.number)
   pub takes : MatchOption found (Waits p p') (λ room. TakesRoom view x (state room) p p')
   pub room : IfSome found (λ room. IsRoomFor state origin stands_for x (published p') room (turns p'))

@@ -16,13 +16,13 @@ use std::sync::Wait;
 impl<R: RoomLaw, B: BucketLaw, V: ViewLaw> Hall<R, B, V> {
     ghost use Rattle.fine_hall.specs.Laws.{IsRoomFor};
     ghost use Rattle.fine_hall.specs.Passes.{HasPlace, LacksPlace, IsHolder, published, turns};
-    ghost use Rattle.fine_hall.specs.Halls.{IsPassOf, begun, TakesRoom, TriesRoom, MayGiveRoom, GivesRoom};
+    ghost use Rattle.fine_hall.specs.Halls.{IsPassOf, begun, TakesRoom, TriesToTakeRoom, MayGiveRoom, GivesRoom};
 
     /// One try to take the room.
     fn try_room(&self, pass: &mut Pass<V>) -> Option<R>
         requires pass { IsPassOf R.state R.origin V.state self.now pass.old }
         requires free { LacksPlace pass.old places.room }
-        ensures { TriesRoom R.state R.origin R.stands_for V.state self.now.table.shared.table_id (begun R.state R.origin V.state self.now) pass.old pass.new result }
+        ensures { TriesToTakeRoom R.state R.origin R.stands_for V.state self.now.table.shared.table_id (begun R.state R.origin V.state self.now) pass.old pass.new result }
     {
         let mut seat: Seat<R, B, V> = pass.sit();
         let answer = take(&self.table.shared, &mut seat, ROOM, u64::from(pass.number));
@@ -49,7 +49,7 @@ impl<R: RoomLaw, B: BucketLaw, V: ViewLaw> Hall<R, B, V> {
     fn try_if_free(&self, pass: &mut Pass<V>) -> Option<R>
         requires pass { IsPassOf R.state R.origin V.state self.now pass.old }
         requires free { LacksPlace pass.old places.room }
-        ensures { TriesRoom R.state R.origin R.stands_for V.state self.now.table.shared.table_id (begun R.state R.origin V.state self.now) pass.old pass.new result }
+        ensures { TriesToTakeRoom R.state R.origin R.stands_for V.state self.now.table.shared.table_id (begun R.state R.origin V.state self.now) pass.old pass.new result }
     {
         if self.table.shared.peek(ROOM) != 0 {
             return None;

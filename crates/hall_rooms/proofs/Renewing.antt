@@ -24,7 +24,7 @@ use Rattle.fine_hall.proofs.Seeing.{sees_itself, sees_on}
 use Rattle.fine_hall.proofs.Troubles.{sees_law, troubles_law}
 use Rattle.hall_rooms.specs.Rooms.{RoomPass, beginning_of}
 use Rattle.hall_rooms.specs.Steps.{InTurn, IsCleanTurn, Stays, StaysPass}
-use Rattle.hall_rooms.specs.Making.{AllAhead, GoOn, Renews, RenewsBelow, RenewsEach, TakePart, TurnsOn}
+use Rattle.hall_rooms.specs.Making.{AllAhead, StayInTurn, Renews, RenewsBelow, RenewsEach, AreInTurn, TurnsOn}
 use Rattle.hall_rooms.proofs.Turned.{goes}
 
 -- what a look at the own mailbox answers
@@ -162,10 +162,10 @@ module _ (x : Beginning) where
 -- ---- a pass in its turn, and others
 
 module _ {Q : Type 0} (hall : HallOf RoomValue Cache ViewValue Q) where
-  pub go_none : (room : RoomValue) (p : RoomPass) (l : List RoomPass) → TakePart hall room p l → GoOn hall p p l l
+  pub go_none : (room : RoomValue) (p : RoomPass) (l : List RoomPass) → AreInTurn hall room p l → StayInTurn hall p p l l
   go_none room p l t = record { pass = (t.pass, refl); others = t.others; goes = turns_none (beginning_of hall) p; renews = each_none (beginning_of hall) l }
 
-  pub go_then : (p q r : RoomPass) (a b d : List RoomPass) → GoOn hall p q a b → GoOn hall q r b d → GoOn hall p r a d
+  pub go_then : (p q r : RoomPass) (a b d : List RoomPass) → StayInTurn hall p q a b → StayInTurn hall q r b d → StayInTurn hall p r a d
   go_then p q r a b d s t = record {
     pass = (t.pass.0, t.pass.1 ∙ s.pass.1);
     others = t.others;
@@ -174,9 +174,9 @@ module _ {Q : Type 0} (hall : HallOf RoomValue Cache ViewValue Q) where
   }
 
   -- the pass stayed, and the others did nothing
-  pub go_stays : (room : RoomValue) (p q : RoomPass) (l : List RoomPass) → TakePart hall room p l → StaysPass hall p q → GoOn hall p q l l
+  pub go_stays : (room : RoomValue) (p q : RoomPass) (l : List RoomPass) → AreInTurn hall room p l → StaysPass hall p q → StayInTurn hall p q l l
   go_stays room p q l t s = record { pass = s.pass; others = t.others; goes = stays_on (beginning_of hall) p q s.pass.1 s.stays; renews = each_none (beginning_of hall) l }
 
   -- they take part in a turn that goes on with another room
-  pub part_on : (room : RoomValue) (p q : RoomPass) (a b : List RoomPass) → GoOn hall p q a b → IsCleanTurn (beginning_of hall) room q → TakePart hall room q b
+  pub part_on : (room : RoomValue) (p q : RoomPass) (a b : List RoomPass) → StayInTurn hall p q a b → IsCleanTurn (beginning_of hall) room q → AreInTurn hall room q b
   part_on room p q a b g turn = record { pass = g.pass.0; others = g.others; turn = turn }

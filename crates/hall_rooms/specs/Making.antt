@@ -66,13 +66,13 @@ pub record TurnsOn (x : Beginning) (p p' : RoomPass) : Type 0 where
   pub meets : MeetsNone x p p'
 
 -- A pass of a hall has a turn of the room in which no call failed, and these are passes of the hall too.
-pub record TakePart {Q : Type 0} (hall : HallOf RoomValue Cache ViewValue Q) (room : RoomValue) (p : RoomPass) (passes : List RoomPass) : Type 0 where
+pub record AreInTurn {Q : Type 0} (hall : HallOf RoomValue Cache ViewValue Q) (room : RoomValue) (p : RoomPass) (passes : List RoomPass) : Type 0 where
   pub pass : IsRoomPass hall p
   pub others : (i : ℕ) (q : RoomPass) → get_elem? passes i ≡ some q → IsRoomPass hall q
   pub turn : IsCleanTurn (beginning_of hall) room p
 
 -- They are passes of it still: the one goes on in its turn, and the others looked at their mailboxes, or are as they were.
-pub record GoOn {Q : Type 0} (hall : HallOf RoomValue Cache ViewValue Q) (p p' : RoomPass) (old new : List RoomPass) : Type 0 where
+pub record StayInTurn {Q : Type 0} (hall : HallOf RoomValue Cache ViewValue Q) (p p' : RoomPass) (old new : List RoomPass) : Type 0 where
   pub pass : IsRoomPass hall p' × (p'.number ≡ p.number)
   pub others : (i : ℕ) (q : RoomPass) → get_elem? new i ≡ some q → IsRoomPass hall q
   pub goes : TurnsOn (beginning_of hall) p p'

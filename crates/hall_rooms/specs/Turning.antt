@@ -51,7 +51,7 @@ MeetsSome x p p' = (troubles state_of x p < troubles state_of x p') ⊎ (last_co
 abbrev pub NotBegan : Beginning → Type 0
 NotBegan x = (e : ℕ) (first : List Row) → Began x.log e first → ⊥
 
--- One turn without an entry, which did so to the room. The pass holds what it held, and the merge of the seat 1 is left.
+-- One turn without an entry, which did so to the room. The pass holds what it held, and the merge of the seat 1 stays as it was found.
 pub record DidInTurn (x : Beginning) (p p' : RoomPass) (does : RoomState → RoomState → Type 0) : Type 0 where
   pub found : RoomState
   pub room : RoomState

@@ -13,7 +13,7 @@ ghost use Rattle.hall_rooms.specs.declared.making.Space.TheVariants as space;
 ghost use Rattle.hall_rooms.specs.Steps.{IsCleanTurn};
 ghost use Rattle.hall_rooms.specs.Merging.{OnDamage};
 ghost use Rattle.hall_rooms.specs.Turning.{NotBegan};
-ghost use Rattle.hall_rooms.specs.Making.{AllAhead, ClearsMergedOr, ClearsOr, ErasesAndLooks, GoOn, GoesOn, IsCleared, MakesOr, MakesRoom, MergesClearedOr, RenewsEach, RoundOr, TakePart, TellsSpace, TriesRoom};
+ghost use Rattle.hall_rooms.specs.Making.{AllAhead, ClearsMergedOr, ClearsOr, ErasesAndLooks, StayInTurn, GoesOn, IsCleared, MakesOr, MakesRoom, MergesClearedOr, RenewsEach, RoundOr, AreInTurn, TellsSpace, TriesRoom};
 
 use crate::merging::merge_through;
 use crate::opening::RoomHall;
@@ -47,8 +47,8 @@ fn refresh_all<D: LogDisk>(
     others: &mut [Pass<View<D::Eye>>],
     room: &Room<D>,
 )
-    requires part { TakePart hall.now room.now pass.old others.old }
-    ensures goes { GoOn hall.now pass.old pass.new others.old others.new }
+    requires part { AreInTurn hall.now room.now pass.old others.old }
+    ensures goes { StayInTurn hall.now pass.old pass.new others.old others.new }
     ensures turn { IsCleanTurn (beginning_of hall.now) room.now pass.new }
     ensures ahead { IsAhead state_of (beginning_of hall.now) pass.new × AllAhead (beginning_of hall.now) others.new }
 {
@@ -74,8 +74,8 @@ fn renew_and_erase<D: LogDisk>(
     others: &mut [Pass<View<D::Eye>>],
     room: &mut Room<D>,
 ) -> Result<bool, RoomFault>
-    requires part { TakePart hall.now room.old pass.old others.old }
-    ensures goes { GoOn hall.now pass.old pass.new others.old others.new }
+    requires part { AreInTurn hall.now room.old pass.old others.old }
+    ensures goes { StayInTurn hall.now pass.old pass.new others.old others.new }
     ensures job { KeepsJob room.old.room room.new.room }
     ensures round { RoundOr (beginning_of hall.now) room.old room.new pass.new others.new result }
 {
@@ -96,9 +96,9 @@ fn clear<D: LogDisk, W: Wait>(
     others: &mut [Pass<View<D::Eye>>],
     room: &mut Room<D>,
 ) -> Result<(), RoomFault>
-    requires part { TakePart hall.now room.old pass.old others.old }
+    requires part { AreInTurn hall.now room.old pass.old others.old }
     requires no_job { room.old.room.job ≡ None }
-    ensures goes { GoOn hall.now pass.old pass.new others.old others.new }
+    ensures goes { StayInTurn hall.now pass.old pass.new others.old others.new }
     ensures no_job { room.new.room.job ≡ None }
     ensures clears { ClearsOr (beginning_of hall.now) room.old room.new pass.new others.new result }
 {
@@ -124,9 +124,9 @@ fn clear_merged<D: LogDisk, W: Wait>(
     others: &mut [Pass<View<D::Eye>>],
     room: &mut Room<D>,
 ) -> Result<bool, MergeFault>
-    requires part { TakePart hall.now room.old pass.old others.old }
+    requires part { AreInTurn hall.now room.old pass.old others.old }
     requires no_job { room.old.room.job ≡ None }
-    ensures goes { GoOn hall.now pass.old pass.new others.old others.new }
+    ensures goes { StayInTurn hall.now pass.old pass.new others.old others.new }
     ensures no_job { room.new.room.job ≡ None }
     ensures turn { GoesOn (beginning_of hall.now) room.new pass.new result }
     ensures ahead { IfOk result (λ made. IsAhead state_of (beginning_of hall.now) pass.new × AllAhead (beginning_of hall.now) others.new) }
@@ -150,10 +150,10 @@ fn merge_cleared<D: LogDisk, W: Wait>(
     from: u64,
     had_retired: bool,
 ) -> Result<bool, MergeFault>
-    requires part { TakePart hall.now room.old pass.old others.old }
+    requires part { AreInTurn hall.now room.old pass.old others.old }
     requires cleared { IsCleared room.old }
     requires ahead { IsAhead state_of (beginning_of hall.now) pass.old × AllAhead (beginning_of hall.now) others.old }
-    ensures goes { GoOn hall.now pass.old pass.new others.old others.new }
+    ensures goes { StayInTurn hall.now pass.old pass.new others.old others.new }
     ensures no_job { room.new.room.job ≡ None }
     ensures turn { GoesOn (beginning_of hall.now) room.new pass.new result }
     ensures ahead { IfOk result (λ made. IsAhead state_of (beginning_of hall.now) pass.new × AllAhead (beginning_of hall.now) others.new) }
@@ -183,9 +183,9 @@ fn clear_and_merge<D: LogDisk, W: Wait>(
     room: &mut Room<D>,
     from: u64,
 ) -> Result<bool, MergeFault>
-    requires part { TakePart hall.now room.old pass.old others.old }
+    requires part { AreInTurn hall.now room.old pass.old others.old }
     requires no_job { room.old.room.job ≡ None }
-    ensures goes { GoOn hall.now pass.old pass.new others.old others.new }
+    ensures goes { StayInTurn hall.now pass.old pass.new others.old others.new }
     ensures no_job { room.new.room.job ≡ None }
     ensures turn { GoesOn (beginning_of hall.now) room.new pass.new result }
     ensures ahead { IfOk result (λ made. IsAhead state_of (beginning_of hall.now) pass.new × AllAhead (beginning_of hall.now) others.new) }

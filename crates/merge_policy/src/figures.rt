@@ -59,7 +59,7 @@ pub(crate) enum Aim {
     /// It fits the free regions, whatever its rows come to and as far as was measured, and its older part is no longer than two of the newer one.
     Level,
     /// Its older part is no longer than two of the newer one, and it fits the free regions where its rows fold, as its longer part alone fits them. A long
-    /// pair is tried seldom, as it is read for that, and that it was tried in vain is not kept.
+    /// pair is so tried at each eighth epoch alone, as it is read for that, and that it was tried in vain is not kept.
     Fold,
     /// It may free a region.
     Gain,

@@ -167,7 +167,7 @@ pub fn next_merge(parts: &[Part], space: Space, known: &[Measured]) -> Option<u6
     requires long { space.region_len ≤ longest_region }
     ensures policy { Picks (question space known.now) (neighbours parts.now) (aims_of space parts.now) result }
     ensures older { IfSome result (IsOlder parts.now) }
-    ensures at_ease { space.is_pressed ≡ false → is_short space ≡ false → result ≡ None }
+    ensures at_ease { is_low space parts.now ≡ false → is_short space ≡ false → result ≡ None }
     ensures nothing_fits { is_short space ≡ true → result ≡ None → AllByRecursion (λ two. fits_up_to space.region_len space.free (least_len known.now two.0 two.1) ≡ false) (neighbours parts.now) }
 {
     pick(space, known, parts)

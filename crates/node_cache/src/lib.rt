@@ -110,8 +110,8 @@ impl Bucket {
         self.nodes.get(&number)
     }
 
-    /// Whether it is known that all keys of the leaf that is cached of a number are of this bucket, as `note_own_keys` noted it and
-    /// nothing has changed the leaf since.
+    /// Whether it is known that all keys of the leaf that is cached of a number are of this bucket: only where `note_own_keys` noted it and
+    /// no call was asked to change the leaf since.
     pub fn has_own_keys(&self, number: u32) -> bool
         ensures { OnTrue result (IfSome (cached self.now number) (λ kept. HasOwnKeys self.now.bucket kept.node)) }
     {

@@ -15,6 +15,7 @@ use Rattle.node_fetch.proofs.Parts.{forgets}
 use Rattle.damage_laws.specs.Firm.{BeginWithImage, CreatedFirmLaw, FirmFetchLaw, FirmLaw, FirstFetchLaw, GoFrom, HasBegun, KeptFirmLaw, SealedFirmLaw}
 use Rattle.damage_laws.specs.Made.{FoundOn, all_of}
 use Rattle.damage_laws.proofs.FoundAgain.{again_law, all_based, based}
+use Rattle.damage_laws.proofs.Heads.{not_empty}
 use Rattle.damage_laws.proofs.MergedFinds.{all_of-append, as_merged, fetch_law, merged_again_law}
 
 pub firm_law : FirmLaw
@@ -27,12 +28,6 @@ firm_law region_len image parts id c f fine = record {
 
 own_one : (id : NodeId) (rows : List Row) → rows_of id (all_of (rows ∷ [])) ≡ rows_of id rows
 own_one id rows = ap (rows_of id) (append-nil rows)
-
-not_empty : {A : Type 0} (x : A) (xs : List A) → x ∷ xs ≡ [] → ⊥
-not_empty x xs e = cc
-
-head_same : {A : Type 0} (x y : A) (xs ys : List A) → x ∷ xs ≡ y ∷ ys → x ≡ y
-head_same x y xs ys e = cc
 
 -- the last of one list, or of none, whose rows of the node need nothing before them, is this list
 none_last : (id : NodeId) (front back : List (List Row)) → [] ≡ front ++ back → starts_afresh (rows_of id (all_of back)) ≡ true → ⊥

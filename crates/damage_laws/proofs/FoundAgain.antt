@@ -23,6 +23,7 @@ use Rattle.fine_model.proofs.Zip.{all_left, all_right}
 use Rattle.node_fetch.proofs.Parts.{forgets}
 use Rattle.partition_merge.specs.Joined.{IsFoundIn}
 use Rattle.damage_laws.specs.Again.{AgainLaw, BothLaw, OnceLaw}
+use Rattle.damage_laws.proofs.Heads.{head_same, not_empty, tail_same}
 
 -- a span holds one list of rows at most
 span_once : (header : Header) (body : List ℕ) (span : RowSpan) (id : NodeId) (a b : List Row) → SpanHolds header body span id a → SpanHolds header body span id b → a ≡ b
@@ -58,15 +59,6 @@ looked_once image id p a b f g = by f g
 
 pub once_law : OnceLaw
 once_law region_len image id p a b f g = looked_once image id p a b f.found g.found
-
-head_same : {A : Type 0} (x y : A) (xs ys : List A) → x ∷ xs ≡ y ∷ ys → x ≡ y
-head_same x y xs ys e = cc
-
-tail_same : {A : Type 0} (x y : A) (xs ys : List A) → x ∷ xs ≡ y ∷ ys → xs ≡ ys
-tail_same x y xs ys e = cc
-
-not_empty : {A : Type 0} (x : A) (xs : List A) → x ∷ xs ≡ [] → ⊥
-not_empty x xs e = cc
 
 -- of two fronts of a list one is a front of the other
 record IsLonger (front front' back back' : List Part) : Type 0 where

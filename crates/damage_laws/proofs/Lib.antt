@@ -1,5 +1,6 @@
 pub mod Counted
 pub mod Firm
+pub mod Heads
 pub mod Joins
 pub mod Kept
 pub mod Loads

@@ -20,6 +20,7 @@ use Rattle.node_fetch.proofs.Parts.{forgets}
 use Rattle.damage_laws.specs.Firm.{MergedAgainLaw}
 use Rattle.damage_laws.specs.Made.{AreMadeOf, FetchLaw, FindsIn, FoundOn, IsMadeOf, JoinedLaw, KeptLaw, Made, MergedLaw, SealedLaw, Source, all_of, at_entry, merged_rows, since, sources}
 use Rattle.damage_laws.proofs.Kept.{found_law}
+use Rattle.damage_laws.proofs.Heads.{head_same, not_empty, tail_same}
 use Rattle.damage_laws.proofs.Opened.{IsFound, IsReady, Item, LeftBy, Opens, flat, has_image, image_first, opens_both, opens_made, opens_nothing}
 
 pub kept_law : KeptLaw
@@ -38,15 +39,6 @@ joined_law region_len entry now p a b older newer has sealed of_a of_b = (
   record { each = λ id found f. (rows_of id older, rows_of id newer, of_a id, of_b id, f.exact (merged older newer) has sealed ∙ own_merged id older newer) },
   λ id. (rows_of id older, rows_of id newer, of_a id, of_b id, own_merged id older newer),
 )
-
-head_same : {A : Type 0} (x y : A) (xs ys : List A) → x ∷ xs ≡ y ∷ ys → x ≡ y
-head_same x y xs ys e = cc
-
-tail_same : {A : Type 0} (x y : A) (xs ys : List A) → x ∷ xs ≡ y ∷ ys → xs ≡ ys
-tail_same x y xs ys e = cc
-
-not_empty : {A : Type 0} (x : A) (xs : List A) → x ∷ xs ≡ [] → ⊥
-not_empty x xs e = cc
 
 pub all_of-append : (a b : List (List Row)) → all_of (a ++ b) ≡ all_of a ++ all_of b
 all_of-append a b = flat_map-append (λ (rows : List Row). rows) a b

@@ -59,20 +59,17 @@ fit_of bounds (s ∷ t ∷ seps) up all =
         ∙ ap (λ b. b && list_all (λ sep. is_below s sep && is_up_to bounds.high sep) (u ∷ rest)) parts.1
         ∙ higher s (u ∷ rest) (is_below-trans s t u order.0 next.0, next.1) both.1
 
+-- a test fails where its passing would make one pass that fails
+fails_with : (s t : Bool) → s ≡ false → (t ≡ true → s ≡ true) → t ≡ false
+fails_with s true out so = absurd (true≢false (sym (so refl) ∙ out))
+fails_with s false out so = refl
+
 -- what is outside stays so within closer bounds
 not_below : (a b x : List ℕ) → is_below a x ≡ false → is_below a b ≡ true → is_below b x ≡ false
-not_below a b x out up = by (is_below b x) refl
-  where
-    by : (t : Bool) → is_below b x ≡ t → is_below b x ≡ false
-    by true e = absurd (true≢false (sym (is_below-trans a b x up e) ∙ out))
-    by false e = e
+not_below a b x out up = fails_with (is_below a x) (is_below b x) out (λ e. is_below-trans a b x up e)
 
 not_above : (a b x : List ℕ) → is_below x b ≡ false → is_below a b ≡ true → is_below x a ≡ false
-not_above a b x out down = by (is_below x a) refl
-  where
-    by : (t : Bool) → is_below x a ≡ t → is_below x a ≡ false
-    by true e = absurd (true≢false (sym (is_below-trans x a b e down) ∙ out))
-    by false e = e
+not_above a b x out down = fails_with (is_below x b) (is_below x a) out (λ e. is_below-trans x a b e down)
 
 higher_low : (low : Option (List ℕ)) (s x : List ℕ) → is_above low x ≡ false → is_above low s ≡ true → is_above (Some s) x ≡ false
 higher_low None s x out above = absurd (true≢false out)

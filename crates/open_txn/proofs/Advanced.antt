@@ -101,9 +101,9 @@ touches_one k v v' c more flags of_key j on =
 
 -- ---- one step behind another
 
-module _ (tells mid tells' : List Row → Type 0) (upper : ℕ) (a b : BucketsValue) (d d' : DraftValue) (cs : List Call) (one : Advances tells mid upper a b d d' cs) where
-  pub advances_on : (c : BucketsValue) (d'' : DraftValue) (ds : List Call) → Advances mid tells' upper b c d' d'' ds → Advances tells tells' upper a c d d'' (cs ++ ds)
-  advances_on c d'' ds two = record {
+module _ (tells mid : List Row → Type 0) (upper upper' : ℕ) (same : upper' ≡ upper) (a b : BucketsValue) (d d' : DraftValue) (cs : List Call) (one : Advances tells mid upper a b d d' cs) where
+  pub advances_on : (tells' : List Row → Type 0) (c : BucketsValue) (d'' : DraftValue) (ds all : List Call) → cs ++ ds ≡ all → Advances mid tells' upper' b c d' d'' ds → Advances tells tells' upper a c d d'' all
+  advances_on tells' c d'' ds all whole two = subst (Advances tells tells' upper a c d d'') whole (record {
     not_failed = two.not_failed;
     behind = two.behind ∙ ap (λ l. l ++ ds) one.behind ∙ append_assoc d.calls cs ds;
     replied = record {
@@ -112,18 +112,18 @@ module _ (tells mid tells' : List Row → Type 0) (upper : ℕ) (a b : BucketsVa
       each = zip_append HasReply cs one.replied.replies ds two.replied.replies one.replied.each two.replied.each;
     };
     fits = λ fits. two.fits (one.fits fits);
-    uses = λ low taken used most. two.uses low taken (one.uses low taken used most) most;
+    uses = λ low taken used most. two.uses low taken (one.uses low taken used most) (subst (λ (n : ℕ). low ≤ n) (sym same) most);
     served = λ rows served. two.served rows (one.served rows served);
     touches = touches_on cs ds a b c one.touches two.touches;
-  }
+  })
 
-  pub refused_on : (c : BucketsValue) (ds : List Call) (fault : TreeFault) → Refuses mid upper b c d' ds fault → Refuses tells upper a c d (cs ++ ds) fault
-  refused_on c ds fault two = record {
-    undoes = λ low taken used most. two.undoes low taken (one.uses low taken used most) most;
+  pub refused_on : (c : BucketsValue) (ds all : List Call) (fault : TreeFault) → cs ++ ds ≡ all → Refuses mid upper' b c d' ds fault → Refuses tells upper a c d all fault
+  refused_on c ds all fault whole two = subst (λ (calls : List Call). Refuses tells upper a c d calls fault) whole (record {
+    undoes = λ low taken used most. two.undoes low taken (one.uses low taken used most) (subst (λ (n : ℕ). low ≤ n) (sym same) most);
     restores = λ rows served. two.restores rows (one.served rows served);
     cause = λ rows served. subst (λ (l : List Call). HasCause rows l fault) (ap (λ l. l ++ ds) one.behind ∙ append_assoc d.calls cs ds) (two.cause rows (one.served rows served));
     touches = touches_on cs ds a b c one.touches two.touches;
-  }
+  })
 
 -- nothing was answered yet
 pub advances_none : (tells : List Row → Type 0) (upper : ℕ) (a : BucketsValue) (d : DraftValue) → d.failed ≡ false → Advances tells tells upper a a d d []

@@ -42,29 +42,28 @@ at_most_set [] = omega arith
 at_most_set (true ∷ flags) = let r = at_most_set flags in omega (arith, r)
 at_most_set (false ∷ flags) = let r = at_most_set flags in omega (arith, r)
 
-not_all_set : (flags : List Bool) (k : ℕ) → slice_get flags k ≡ Some false → number_set flags < length flags
-unfolding number_set
-not_all_set [] k is = absurd cc
-not_all_set (true ∷ flags) zero is = absurd cc
-not_all_set (false ∷ flags) zero is = let r = at_most_set flags in omega (arith, r)
-not_all_set (true ∷ flags) (suc k) is = let r = not_all_set flags k is in omega (arith, r)
-not_all_set (false ∷ flags) (suc k) is = let r = not_all_set flags k is in omega (arith, r)
+number_cons : (flag : Bool) (flags : List Bool) → number_set (flag ∷ flags) ≡ here (Some flag) + number_set flags
+unfolding number_set here
+number_cons flag flags = refl
+
+-- one flag that changes is counted as it is then, and the others as before
+set_counts : (flags : List Bool) (k : ℕ) (was now : Bool) → slice_get flags k ≡ Some was → number_set (slice_set flags k now) + here (Some was) ≡ number_set flags + here (Some now)
+set_counts [] k was now is = absurd cc
+set_counts (flag ∷ flags) zero was now is = let a = number_cons now flags in let b = number_cons flag flags in let same = ap here is in omega (arith, a, b, same)
+set_counts (flag ∷ flags) (suc k) was now is =
+    let a = number_cons flag (slice_set flags k now) in let b = number_cons flag flags in let r = set_counts flags k was now is in omega (arith, a, b, r)
 
 more_set : (flags : List Bool) (k : ℕ) → slice_get flags k ≡ Some false → number_set (slice_set flags k true) ≡ number_set flags + 1
-unfolding number_set
-more_set [] k is = absurd cc
-more_set (true ∷ flags) zero is = absurd cc
-more_set (false ∷ flags) zero is = omega arith
-more_set (true ∷ flags) (suc k) is = let r = more_set flags k is in omega (arith, r)
-more_set (false ∷ flags) (suc k) is = let r = more_set flags k is in omega (arith, r)
+unfolding here
+more_set flags k is = let r = set_counts flags k false true is in omega (arith, r)
 
 fewer_set : (flags : List Bool) (k : ℕ) → slice_get flags k ≡ Some true → number_set (slice_set flags k false) + 1 ≡ number_set flags
-unfolding number_set
-fewer_set [] k is = absurd cc
-fewer_set (true ∷ flags) zero is = omega arith
-fewer_set (false ∷ flags) zero is = absurd cc
-fewer_set (true ∷ flags) (suc k) is = let r = fewer_set flags k is in omega (arith, r)
-fewer_set (false ∷ flags) (suc k) is = let r = fewer_set flags k is in omega (arith, r)
+unfolding here
+fewer_set flags k is = let r = set_counts flags k true false is in omega (arith, r)
+
+not_all_set : (flags : List Bool) (k : ℕ) → slice_get flags k ≡ Some false → number_set flags < length flags
+not_all_set flags k is =
+    let more = more_set flags k is in let most = at_most_set (slice_set flags k true) in let same = length-set flags k true in omega (arith, more, most, same)
 
 -- ---- the list of numbers goes with the flags
 

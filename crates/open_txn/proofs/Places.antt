@@ -1,6 +1,7 @@
--- Lists of which one place is set.
-use Rattle.std.proofs.Common.{arith, ◌≡◌, ◌≢◌, ◌⊎◌, ⊎_elim, ℕ, zero, suc, List, [], ◌∷◌, ◌++◌, slice_get, slice_set, replicate, Some, Option, inl, inr, refl, sym, ap, ◌∙◌, subst}
+-- Lists of which one place is set, or which are gone through from the front.
+use Rattle.std.proofs.Common.{arith, ◌≡◌, ◌≢◌, ◌⊎◌, ⊎_elim, ℕ, zero, suc, ◌+◌, ◌<◌, List, [], ◌∷◌, ◌++◌, length, take, drop, get_or, slice_get, slice_set, replicate, Some, Option, inl, inr, refl, sym, ap, ◌∙◌, subst, append_assoc}
 use Rattle.std.specs.List.{AllZip}
+use Rattle.std.proofs.lemmas.List.{take-append-drop, take_more}
 
 pub some_same : {A : Type 0} (a b : A) → ◌≡◌ {A = Option A} (Some a) (Some b) → a ≡ b
 some_same a b e = cc
@@ -47,3 +48,13 @@ get_else (x ∷ xs) zero zero b ne = absurd (ne refl)
 get_else (x ∷ xs) zero (suc j) b ne = refl
 get_else (x ∷ xs) (suc i) zero b ne = refl
 get_else (x ∷ xs) (suc i) (suc j) b ne = get_else xs i j b (λ e. ne (ap suc e))
+
+-- ---- an item on the way through a list
+
+-- with the item, the front is one longer
+pub taken_on : {A : Type 0} (i : ℕ) (xs : List A) (x : A) → x ≡ get_or xs i x → i < length xs → take i xs ++ x ∷ [] ≡ take (i + 1) xs
+taken_on i xs x is within = ap (λ y. take i xs ++ y ∷ []) is ∙ sym (take_more xs i x within)
+
+-- with the item and what is behind it, it is the list
+pub cut_around : {A : Type 0} (i : ℕ) (xs : List A) (x : A) → x ≡ get_or xs i x → i < length xs → take i xs ++ x ∷ drop (i + 1) xs ≡ xs
+cut_around i xs x is within = sym (append_assoc (take i xs) (x ∷ []) (drop (i + 1) xs)) ∙ ap (λ l. l ++ drop (i + 1) xs) (taken_on i xs x is within) ∙ take-append-drop (i + 1) xs

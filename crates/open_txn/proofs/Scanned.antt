@@ -67,6 +67,24 @@ module _ (low high : List ℕ) where
         ∙ ap (take limit) (sym (filter_all (is_inside low high) first (recursion_from_All (λ p. is_inside low high p ≡ true) first (inside_first limit pairs first is all))))),
   )
 
+-- ---- why a bucket could not be gone through
+
+-- Where no node is unfit, none is full and no number too large, the fault leaves what is held,
+pub held_behind : (H : Type 0) (fault : TreeFault) → OnFault fault (λ _. H) (λ _. ⊥) H → H
+held_behind H (Source f) h = h
+held_behind H (Unfit id) h = absurd h
+held_behind H (BucketFull next depth) h = absurd h
+held_behind H (Number id) h = absurd h
+held_behind H NoMemory h = h
+
+-- and is of the source, or of memory.
+pub caused_by : (H : Type 0) (fault : TreeFault) → OnFault fault (λ _. H) (λ _. ⊥) H → OnFault fault (λ _. Unit {0}) (λ _. ⊥) (Unit {0})
+caused_by H (Source f) h = tt
+caused_by H (Unfit id) h = h
+caused_by H (BucketFull next depth) h = h
+caused_by H (Number id) h = h
+caused_by H NoMemory h = tt
+
 -- ---- one bucket
 
 module _ (tells tells' : List Row → Type 0) (upper k : ℕ) (v v' : BucketsValue) (b b' : Cache) (there : slice_get v.buckets k ≡ Some b) (buckets : v'.buckets ≡ slice_set v.buckets k b') (flags : v'.touched ≡ slice_set v.touched k true)
@@ -97,24 +115,10 @@ module _ (tells tells' : List Row → Type 0) (upper k : ℕ) (v v' : BucketsVal
   pub halted_in : (fault : TreeFault) → r ≡ Err fault → Halts tells upper v v' fault
   halted_in fault err = record {
     uses = uses;
-    holds = λ rows log served all fine. others_hold rows log all (holds_of rows log fault (now rows log served all fine));
-    cause = λ rows log served all fine. cause_of rows log fault (now rows log served all fine);
+    holds = λ rows log served all fine. others_hold rows log all (held_behind (Holds b' rows log) fault (now rows log served all fine));
+    cause = λ rows log served all fine. caused_by (Holds b' rows log) fault (now rows log served all fine);
   }
     where
-      holds_of : (rows log : List Row) (f : TreeFault) → OnFault f (λ _. Holds b' rows log) (λ _. ⊥) (Holds b' rows log) → Holds b' rows log
-      holds_of rows log (Source f) h = h
-      holds_of rows log (Unfit id) h = absurd h
-      holds_of rows log (BucketFull next depth) h = absurd h
-      holds_of rows log (Number id) h = absurd h
-      holds_of rows log NoMemory h = h
-
-      cause_of : (rows log : List Row) (f : TreeFault) → OnFault f (λ _. Holds b' rows log) (λ _. ⊥) (Holds b' rows log) → OnFault f (λ _. Unit {0}) (λ _. ⊥) (Unit {0})
-      cause_of rows log (Source f) h = tt
-      cause_of rows log (Unfit id) h = h
-      cause_of rows log (BucketFull next depth) h = h
-      cause_of rows log (Number id) h = h
-      cause_of rows log NoMemory h = tt
-
       now : (rows log : List Row) → ServeAll tells rows v → HoldAll rows log v → IsSound (rows ++ log) → OnFault fault (λ _. Holds b' rows log) (λ _. ⊥) (Holds b' rows log)
       now rows log served all fine = subst (λ (x : Result (Unit {0}) TreeFault). SoundReading rows log b' (λ (done : Unit {0}). IsKept (rows ++ log) low high limit s.next s.pairs → IsKept (rows ++ log) low high limit s'.next s'.pairs) x) err
           (sound rows log (served k b there) (all k b there) fine)
@@ -137,19 +141,19 @@ gathers_none tells upper v low high limit s = record {
   kept = λ rows log served all fine kept. kept;
 }
 
-module _ (tells mid tells' : List Row → Type 0) (upper : ℕ) (a b : BucketsValue) (low high : List ℕ) (limit : ℕ) (s s' : ScanValue) (one : Gathers tells mid upper a b low high limit s s') where
-  pub gathers_on : (c : BucketsValue) (s'' : ScanValue) → Gathers mid tells' upper b c low high limit s' s'' → Gathers tells tells' upper a c low high limit s s''
-  gathers_on c s'' two = record {
+module _ (tells mid : List Row → Type 0) (upper upper' : ℕ) (same : upper' ≡ upper) (a b : BucketsValue) (low high : List ℕ) (limit : ℕ) (s s' : ScanValue) (one : Gathers tells mid upper a b low high limit s s') where
+  pub gathers_on : (tells' : List Row → Type 0) (c : BucketsValue) (s'' : ScanValue) → Gathers mid tells' upper' b c low high limit s' s'' → Gathers tells tells' upper a c low high limit s s''
+  gathers_on tells' c s'' two = record {
     inside = λ all. two.inside (one.inside all);
-    uses = λ least taken rows all most. two.uses least taken rows (one.uses least taken rows all most) most;
+    uses = λ least taken rows all most. two.uses least taken rows (one.uses least taken rows all most) (subst (λ (n : ℕ). least ≤ n) (sym same) most);
     serves = λ rows all. two.serves rows (one.serves rows all);
     holds = λ rows log served all fine. two.holds rows log (one.serves rows served) (one.holds rows log served all fine) fine;
     kept = λ rows log served all fine kept. two.kept rows log (one.serves rows served) (one.holds rows log served all fine) fine (one.kept rows log served all fine kept);
   }
 
-  pub halts_on : (c : BucketsValue) (fault : TreeFault) → Halts mid upper b c fault → Halts tells upper a c fault
+  pub halts_on : (c : BucketsValue) (fault : TreeFault) → Halts mid upper' b c fault → Halts tells upper a c fault
   halts_on c fault two = record {
-    uses = λ least taken rows all most. two.uses least taken rows (one.uses least taken rows all most) most;
+    uses = λ least taken rows all most. two.uses least taken rows (one.uses least taken rows all most) (subst (λ (n : ℕ). least ≤ n) (sym same) most);
     holds = λ rows log served all fine. two.holds rows log (one.serves rows served) (one.holds rows log served all fine) fine;
     cause = λ rows log served all fine. two.cause rows log (one.serves rows served) (one.holds rows log served all fine) fine;
   }

@@ -7,7 +7,7 @@ use Rattle.std.proofs.lemmas.List.{length-map, length-replicate}
 use Rattle.std.proofs.lemmas.List.FromFn.{get_or-map-range_with_len, length-range_with_len}
 use Rattle.std.proofs.lemmas.Option.{get_or_from_slice_get, slice_get_within}
 use Rattle.fine_model.specs.declared.law.Origin.{Origin}
-use Rattle.fine_model.specs.History.{all_rows}
+use Rattle.fine_model.specs.History.{Commit, all_rows}
 use Rattle.node_cache.specs.declared.cached.Cached.{Cached}
 use Rattle.node_cache.specs.Cache.{Cache, IsResting, after, before, cached}
 use Rattle.node_cache.specs.Entries.{stamped}
@@ -129,28 +129,23 @@ module _ (f : Cache → Cache) (Left : Cache → Cache → Type 0) (v v' : Bucke
       by true flag is = subst (IsLeft e (was w.b) w.b) (sym is) (is_left w.b (f w.b) (ended.left k w.b w.is_b flag))
       by false flag is = subst (IsLeft e (was w.b) w.b) (sym is) (still_left e (was w.b) w.b (resting flag) (at_rest w.b (resting flag)))
 
-  pub settle_stands : (epoch e : ℕ) → ((b z : Cache) → Left b z → IsLeft e (after b epoch) b z) → SettlesAll epoch e v v'
-  settle_stands epoch e is_left log low published history taken d c o rows is_epoch epochs most less = record {
+  -- a bucket at the end stands for what follows from the one that it was
+  all_stand : (log : Origin) (low published : ℕ) (history next : List Commit) (taken : BucketsValue) → StandAll log low taken history
+      → ((k : ℕ) (y : Cache) (w : WasAt f v k y) (t : Cache) → slice_get taken.buckets k ≡ Some t → StandsFor log k low t history → StandsFor log k published y next) → StandAll log published v' next
+  all_stand log low published history next taken stand each = record {
     many = many_now;
     untouched = flags;
-    each = λ k y is_y.
-        let w = was_at k y is_y in
-        let t = like v.buckets taken.buckets k w.b w.is_b (whole.many ∙ sym o.stand.many) in
-        let stands = o.stand.each k t.0 t.1 in
-        settle_law log k low published e t.0 w.b y history c most less (subst (λ (n : ℕ). All (λ d. d.epoch ≤ n) history) (sym is_epoch) epochs) stands
-        (subst (IsUsed low t.0 w.b) (sym rows) (o.uses.each k t.0 w.b t.1 w.is_b)) (λ e' first began. subst (Holds w.b (first ++ all_rows history)) (sym rows) (o.holds e' first began k w.b w.is_b))
-        (subst (λ (n : ℕ). IsLeft e (after w.b n) w.b y) (sym is_epoch)
-        (left_of e (λ b. after b epoch) k y w is_left (λ b. after_rest b epoch) (λ flag. subst IsResting (sym (o.uses.untouched k t.0 w.b t.1 w.is_b flag)) stands.settled)));
+    each = λ k y is_y. let w = was_at k y is_y in let t = like v.buckets taken.buckets k w.b w.is_b (whole.many ∙ sym stand.many) in each k y w t.0 t.1 (stand.each k t.0 t.1);
   }
 
+  pub settle_stands : (epoch e : ℕ) → ((b z : Cache) → Left b z → IsLeft e (after b epoch) b z) → SettlesAll epoch e v v'
+  settle_stands epoch e is_left log low published history taken d c o rows is_epoch epochs most less = all_stand log low published history (history ++ c ∷ []) taken o.stand (λ k y w t is_t stands.
+      settle_law log k low published e t w.b y history c most less (subst (λ (n : ℕ). All (λ d. d.epoch ≤ n) history) (sym is_epoch) epochs) stands
+      (subst (IsUsed low t w.b) (sym rows) (o.uses.each k t w.b is_t w.is_b)) (λ e' first began. subst (Holds w.b (first ++ all_rows history)) (sym rows) (o.holds e' first began k w.b w.is_b))
+      (subst (λ (n : ℕ). IsLeft e (after w.b n) w.b y) (sym is_epoch)
+      (left_of e (λ b. after b epoch) k y w is_left (λ b. after_rest b epoch) (λ flag. subst IsResting (sym (o.uses.untouched k t w.b is_t w.is_b flag)) stands.settled))))
+
   pub undo_stands : (e : ℕ) → ((b z : Cache) → Left b z → IsLeft e (before b) b z) → UndoesAll e v v'
-  undo_stands e is_left log low published history taken o most less = record {
-    many = many_now;
-    untouched = flags;
-    each = λ k y is_y.
-        let w = was_at k y is_y in
-        let t = like v.buckets taken.buckets k w.b w.is_b (whole.many ∙ sym o.stand.many) in
-        let stands = o.stand.each k t.0 t.1 in
-        undo_law log k low published e t.0 w.b y history most less stands (o.undoes.each k t.0 w.b t.1 w.is_b) (λ e' first began. o.restores e' first began k w.b w.is_b)
-        (left_of e before k y w is_left before_rest (λ flag. subst IsResting (sym (o.undoes.untouched k t.0 w.b t.1 w.is_b flag)) stands.settled));
-  }
+  undo_stands e is_left log low published history taken o most less = all_stand log low published history history taken o.stand (λ k y w t is_t stands.
+      undo_law log k low published e t w.b y history most less stands (o.undoes.each k t w.b is_t w.is_b) (λ e' first began. o.restores e' first began k w.b w.is_b)
+      (left_of e before k y w is_left before_rest (λ flag. subst IsResting (sym (o.undoes.untouched k t w.b is_t w.is_b flag)) stands.settled)))

@@ -121,18 +121,18 @@ pub adds_none : (tells : List Row → Type 0) (finds : Finds) (upper : ℕ) (log
 adds_none tells finds upper log v = record { rows = []; behind = sym (append-nil log); each = pairs_same (λ k b b'. DoAll tells finds upper [] [] b b') v (λ k b is. (refl, refl)) }
 
 module _ (tells tells' : List Row → Type 0) (finds finds' : Finds) (upper upper' : ℕ) (on : (rows : List Row) → tells rows → tells' rows) (back : (id : NodeId) (found : Content) → finds' id found → finds id found)
-    (same : upper' ≡ upper) (cs ds : List Call) (log log' : List Row) (u v w : BucketsValue) (one : AddsDone tells finds upper cs log log' u v) where
-  pub adds_on : (log'' : List Row) → AddsDone tells' finds' upper' ds log' log'' v w → AddsDone tells finds upper (cs ++ ds) log log'' u w
-  adds_on log'' two = record {
+    (same : upper' ≡ upper) (cs ds all : List Call) (whole : cs ++ ds ≡ all) (log log' : List Row) (u v w : BucketsValue) (one : AddsDone tells finds upper cs log log' u v) where
+  pub adds_on : (log'' : List Row) → AddsDone tells' finds' upper' ds log' log'' v w → AddsDone tells finds upper all log log'' u w
+  adds_on log'' two = subst (λ (calls : List Call). AddsDone tells finds upper calls log log'' u w) whole (record {
     rows = one.rows ++ two.rows;
     behind = two.behind ∙ ap (λ l. l ++ two.rows) one.behind ∙ append_assoc log one.rows two.rows;
     each = pairs_on (λ k. DoAll tells finds upper cs (rows_in k one.rows)) (λ k. DoAll tells' finds' upper' ds (rows_in k two.rows)) (λ k. DoAll tells finds upper (cs ++ ds) (rows_in k (one.rows ++ two.rows))) u v w
         (λ k a b c first second. subst (λ (l : List Row). DoAll tells finds upper (cs ++ ds) l a c) (rows_more k one.rows two.rows)
         (behind_law tells finds upper cs ds (rows_in k one.rows) (rows_in k two.rows) a b c first (all_before tells tells' finds finds' upper upper' on back same ds (rows_in k two.rows) b c second))) one.each two.each;
-  }
+  })
 
-  pub stops_on : (fault : TreeFault) → StopsAt tells' finds' upper' ds fault v w → StopsAt tells finds upper (cs ++ ds) fault u w
-  stops_on fault two = record {
+  pub stops_on : (fault : TreeFault) → StopsAt tells' finds' upper' ds fault v w → StopsAt tells finds upper all fault u w
+  stops_on fault two = subst (λ (calls : List Call). StopsAt tells finds upper calls fault u w) whole (record {
     done = cs ++ two.done;
     refused = two.refused;
     rest = two.rest;
@@ -147,7 +147,7 @@ module _ (tells tells' : List Row → Type 0) (finds finds' : Finds) (upper uppe
           refused_before tells tells' finds finds' upper upper' on back same two.refused fault second.0 c second.2,
         )) one.each two.each;
     named = two.named;
-  }
+  })
 
 -- ---- a call in the bucket of its key
 

@@ -1,5 +1,4 @@
-use Rattle.std.proofs.Common.{◌≡◌, ◌∙◌, ℕ, Err, arith, subst}
-use Rattle.open_txn.specs.Steps.{Gathers, Halts}
+use Rattle.std.proofs.Common.{◌≡◌, ◌∙◌, Err, arith}
 use Rattle.open_txn.proofs.Advanced.{clean_from, fails_from}
 use Rattle.open_txn.proofs.Scanned.{gathers_none, gathers_on, halts_on}
 use Rattle.open_txn.proofs.WalkedThrough.{below_all, below_none, below_on, cut_on}
@@ -17,17 +16,12 @@ loop-at-init g c = (
 pub loop-at-preserved : goal.loop-at-preserved
 loop-at-preserved g c =
     let inv = c.loop-at.invariant in
-    let tells = g.S.NodeSource.tells c.args.source.now in
-    let mid = g.S.NodeSource.tells c.loop-at.source in
-    let tells' = g.S.NodeSource.tells c.gather_in.new.source in
-    let upper = g.S.NodeSource.upper c.args.source.now in (
+    let same = g.met.S.NodeSource.later_upper _ _ inv.0 in (
       g.met.S.NodeSource.later_on _ _ _ inv.0 c.in_default.ensures.later,
       g.met.S.NodeSource.clean_on _ _ _ inv.1 c.in_default.ensures.clean,
       c.in_default.ensures.next,
-      gathers_on tells mid tells' upper c.args.buckets.now c.loop-at.buckets c.args.low.now c.args.high.now c.args.limit c.args.scan.now c.loop-at.scan inv.3 c.gather_in.new.buckets c.gather_in.new.scan
-          (subst (λ (u : ℕ). Gathers mid tells' u c.loop-at.buckets c.gather_in.new.buckets c.args.low.now c.args.high.now c.args.limit c.loop-at.scan c.gather_in.new.scan) (g.met.S.NodeSource.later_upper _ _ inv.0) c.in_default.ensures.gathers),
-      below_on tells mid (g.S.NodeSource.finds c.args.source.now) (g.S.NodeSource.finds c.loop-at.source) upper (g.S.NodeSource.upper c.loop-at.source) (λ rows. g.met.S.NodeSource.later_tells _ _ rows inv.0) (λ id found. g.met.S.NodeSource.finds_before _ _ id found inv.0) (g.met.S.NodeSource.later_upper _ _ inv.0)
-          c.loop-at.at c.args.low.now c.args.high.now c.args.limit c.args.buckets.now c.loop-at.buckets c.gather_in.new.buckets inv.4 c.in_default.ensures.scans,
+      gathers_on _ _ _ _ same _ _ _ _ _ _ _ inv.3 _ _ _ c.in_default.ensures.gathers,
+      below_on _ _ _ _ _ _ (λ rows. g.met.S.NodeSource.later_tells _ _ rows inv.0) (λ id found. g.met.S.NodeSource.finds_before _ _ id found inv.0) same _ _ _ _ c.args.buckets.now c.loop-at.buckets c.gather_in.new.buckets inv.4 c.in_default.ensures.scans,
     )
 
 pub returns : goal.returns
@@ -48,10 +42,7 @@ returns g c =
 pub returns-in-Err : goal.returns-in-Err
 returns-in-Err g c =
     let inv = c.loop-at.invariant in
-    let tells = g.S.NodeSource.tells c.args.source.now in
-    let mid = g.S.NodeSource.tells c.loop-at.source in
-    let tells' = g.S.NodeSource.tells c.gather_in.new.source in
-    let upper = g.S.NodeSource.upper c.args.source.now in
+    let same = g.met.S.NodeSource.later_upper _ _ inv.0 in
     let now = c.gather_in.new.source in
     record {
       later = g.met.S.NodeSource.later_on _ _ _ inv.0 c.gather_in.ensures.later;
@@ -59,9 +50,7 @@ returns-in-Err g c =
       fails = fails_from (λ failed. g.S.NodeSource.fails c.loop-at.source failed now) (λ failed. g.S.NodeSource.fails c.args.source.now failed now) c.in-Err.fault (λ failed h. g.met.S.NodeSource.fails_earlier _ _ _ failed inv.0 h) c.in-Err.ensures.fails;
       next = tt;
       gathers = tt;
-      halts = halts_on tells mid tells' upper c.args.buckets.now c.loop-at.buckets c.args.low.now c.args.high.now c.args.limit c.args.scan.now c.loop-at.scan inv.3 c.gather_in.new.buckets c.in-Err.fault
-          (subst (λ (u : ℕ). Halts mid u c.loop-at.buckets c.gather_in.new.buckets c.in-Err.fault) (g.met.S.NodeSource.later_upper _ _ inv.0) c.in-Err.ensures.halts);
+      halts = halts_on _ _ _ _ same _ _ _ _ _ _ _ inv.3 _ _ c.in-Err.ensures.halts;
       scans = tt;
-      cut_off = cut_on tells mid (g.S.NodeSource.finds c.args.source.now) (g.S.NodeSource.finds c.loop-at.source) upper (g.S.NodeSource.upper c.loop-at.source) (λ rows. g.met.S.NodeSource.later_tells _ _ rows inv.0) (λ id found. g.met.S.NodeSource.finds_before _ _ id found inv.0) (g.met.S.NodeSource.later_upper _ _ inv.0)
-          c.loop-at.at c.args.low.now c.args.high.now c.args.limit c.args.buckets.now c.loop-at.buckets c.gather_in.new.buckets inv.4 c.in-Err.fault c.loop-at-test.true c.in-Err.ensures.cut_off;
+      cut_off = cut_on _ _ _ _ _ _ (λ rows. g.met.S.NodeSource.later_tells _ _ rows inv.0) (λ id found. g.met.S.NodeSource.finds_before _ _ id found inv.0) same _ _ _ _ c.args.buckets.now c.loop-at.buckets c.gather_in.new.buckets inv.4 _ c.loop-at-test.true c.in-Err.ensures.cut_off;
     }

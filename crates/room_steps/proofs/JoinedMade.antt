@@ -13,6 +13,7 @@ use Rattle.fine_model.proofs.Owning.{own_law}
 use Rattle.damage_laws.specs.Made.{AreMadeOf, IsMadeOf, Made, Source, at_entry, joined, one, sources}
 use Rattle.damage_laws.specs.Places.{AreKeptOrGood, IsGood, IsKept, IsUnchanged}
 use Rattle.damage_laws.proofs.Kept.{found_law}
+use Rattle.damage_laws.proofs.Heads.{head_same, not_empty, tail_same}
 use Rattle.damage_laws.proofs.MergedFinds.{kept_law}
 
 -- ---- parts that stay
@@ -64,15 +65,6 @@ seal_good region_len entry last parts [] p good all = (inr good, tt)
 seal_good region_len entry last parts (q ∷ present) p good all = (all.0, seal_good region_len entry last parts present p good all.1)
 
 -- ---- two that were merged
-
-head_same : {A : Type 0} (x y : A) (xs ys : List A) → x ∷ xs ≡ y ∷ ys → x ≡ y
-head_same x y xs ys e = cc
-
-tail_same : {A : Type 0} (x y : A) (xs ys : List A) → x ∷ xs ≡ y ∷ ys → xs ≡ ys
-tail_same x y xs ys e = cc
-
-not_empty : {A : Type 0} (x : A) (xs : List A) → x ∷ xs ≡ [] → ⊥
-not_empty x xs e = cc
 
 -- a list of parts with what they are made of, cut in front of two neighbours
 record IsCut (made : List (Made × Part)) (before : List Part) (older newer : Part) (after : List Part) : Type 0 where
@@ -140,8 +132,8 @@ none_made region_len entry first last parts sealed present same am =
 
 -- ---- parts at entry
 
-pub own_made : (region_len : ℕ) (entry : Image) (parts : List Part) → ((p : Part) → Contains parts p → IsUnchanged region_len entry entry p) → AreMadeOf region_len entry entry parts [] parts
-own_made region_len entry parts same = record { made = map (λ (p : Part). (one (at_entry p), p)) parts; are = names parts; of_all = all parts; each = each parts same }
+pub entry_made : (region_len : ℕ) (entry now : Image) (parts : List Part) → ((p : Part) → Contains parts p → IsMadeOf region_len entry now (one (at_entry p)) p) → AreMadeOf region_len entry now parts [] parts
+entry_made region_len entry now parts own = record { made = map (λ (p : Part). (one (at_entry p), p)) parts; are = names parts; of_all = all parts; each = each parts own }
   where
     names : (ps : List Part) → ps ≡ map (λ (m : Made × Part). m.1) (map (λ (p : Part). (one (at_entry p), p)) ps)
     names [] = refl
@@ -151,6 +143,9 @@ own_made region_len entry parts same = record { made = map (λ (p : Part). (one 
     all [] = refl
     all (p ∷ ps) = ap (λ xs. at_entry p ∷ xs) (all ps)
 
-    each : (ps : List Part) → ((p : Part) → Contains ps p → IsUnchanged region_len entry entry p) → AllByRecursion (λ (m : Made × Part). IsMadeOf region_len entry entry m.0 m.1) (map (λ (p : Part). (one (at_entry p), p)) ps)
-    each [] same = tt
-    each (p ∷ ps) same = (kept_law region_len entry entry p (same p (0, omega arith, refl)), each ps (λ q there. same q (Contains-append_right (p ∷ []) ps q there)))
+    each : (ps : List Part) → ((p : Part) → Contains ps p → IsMadeOf region_len entry now (one (at_entry p)) p) → AllByRecursion (λ (m : Made × Part). IsMadeOf region_len entry now m.0 m.1) (map (λ (p : Part). (one (at_entry p), p)) ps)
+    each [] own = tt
+    each (p ∷ ps) own = (own p (0, omega arith, refl), each ps (λ q there. own q (Contains-append_right (p ∷ []) ps q there)))
+
+pub own_made : (region_len : ℕ) (entry : Image) (parts : List Part) → ((p : Part) → Contains parts p → IsUnchanged region_len entry entry p) → AreMadeOf region_len entry entry parts [] parts
+own_made region_len entry parts same = entry_made region_len entry entry parts (λ p there. kept_law region_len entry entry p (same p there))

@@ -1,5 +1,5 @@
 -- Merging neighbours between transactions.
-use Rattle.std.proofs.Common.{◌≡◌, ◌∙◌, ℕ, ◌≤◌, Bool, true, false, List, [], ◌∷◌, length, inl, inr, Option, Some, None, Ok, Err, refl, sym, ap, subst, arith}
+use Rattle.std.proofs.Common.{◌≡◌, ◌∙◌, ℕ, ◌≤◌, Bool, true, false, List, [], length, inl, inr, Option, Some, None, Ok, Err, refl, sym, ap, subst, arith}
 use Rattle.std.specs.Prelude.{◌⊎◌, Result, nat_le}
 use Rattle.std.specs.List.{list_all}
 use Rattle.fine_model.specs.declared.Damage.TheVariants as damage
@@ -52,32 +52,20 @@ unsound : (before new : RoomValue) (fault : FetchFault) (refused : IsReadRefused
     → (entry : RoomValue) (history : List Commit) → GoesOn entry new history → OfSound entry (λ first e. ⊥)
 unsound before new fault refused none entry history g = unsound_law entry new None history g refused.stays (tells_none before new fault refused none)
 
-bad_row : (before new : RoomValue) (from region at : ℕ) → IsReadRefused before new (fetch_fault.BadRow region at) → BlamedFirst from new (fetch_fault.BadRow region at) → NamesPlace new (damage.Region region at)
-bad_row before new from region at refused blamed = record {
+-- a place that a read names, of a row or of an index entry, on bytes that no told parts have
+bad_place : (before new : RoomValue) (from region at : ℕ) (fault : FetchFault) → (fault ≡ fetch_fault.BadRow region at) ⊎ (fault ≡ fetch_fault.BadIndex region at) → (refused : IsReadRefused before new fault) → BlamedFirst from new fault
+    → OfTold refused.view refused.blames.two.0 refused.blames.two.1 (λ a b. ⊥) → NamesPlace new (damage.Region region at)
+bad_place before new from region at fault of_read refused blamed none = record {
   region = region;
   at = at;
   is = refl;
-  fault = fetch_fault.BadRow region at;
-  of_read = inl refl;
+  fault = fault;
+  of_read = of_read;
   before = before;
   refused = refused;
   from = from;
   blamed = blamed;
-  unsound = unsound before new (fetch_fault.BadRow region at) refused refused.blames.blames.1;
-}
-
-bad_index : (before new : RoomValue) (from region at : ℕ) → IsReadRefused before new (fetch_fault.BadIndex region at) → BlamedFirst from new (fetch_fault.BadIndex region at) → NamesPlace new (damage.Region region at)
-bad_index before new from region at refused blamed = record {
-  region = region;
-  at = at;
-  is = refl;
-  fault = fetch_fault.BadIndex region at;
-  of_read = inr refl;
-  before = before;
-  refused = refused;
-  from = from;
-  blamed = blamed;
-  unsound = unsound before new (fetch_fault.BadIndex region at) refused refused.blames.blames.1;
+  unsound = unsound before new fault refused none;
 }
 
 -- ---- one merge
@@ -153,12 +141,12 @@ module _ (old mid new : ShelfValue) (r : Rested old mid) (none : new.view ≡ No
   merge_refused from (merge_fault.Fetch (fetch_fault.BadRow region at)) m same = record {
     leaves = merge_leaves from _ m;
     unsealed = merge_unsealed m.rest;
-    merge = (refused_well (fetch_fault.BadRow region at) m.near.0 (λ e. absurd (let x = e in cc)), bad_row mid.room new.room from region at m.near.0 m.near.3);
+    merge = (refused_well (fetch_fault.BadRow region at) m.near.0 (λ e. absurd (let x = e in cc)), bad_place mid.room new.room from region at (fetch_fault.BadRow region at) (inl refl) m.near.0 m.near.3 m.near.0.blames.blames.1);
   }
   merge_refused from (merge_fault.Fetch (fetch_fault.BadIndex region at)) m same = record {
     leaves = merge_leaves from _ m;
     unsealed = merge_unsealed m.rest;
-    merge = (refused_well (fetch_fault.BadIndex region at) m.near.0 (λ e. absurd (let x = e in cc)), bad_index mid.room new.room from region at m.near.0 m.near.3);
+    merge = (refused_well (fetch_fault.BadIndex region at) m.near.0 (λ e. absurd (let x = e in cc)), bad_place mid.room new.room from region at (fetch_fault.BadIndex region at) (inr refl) m.near.0 m.near.3 m.near.0.blames.blames.1);
   }
   merge_refused from (merge_fault.Fetch fetch_fault.NoMemory) m same = record {
     leaves = merge_leaves from _ m;

@@ -1,5 +1,5 @@
 -- What one merge makes of the live parts of a room, and what these are made of behind it.
-use Rattle.std.proofs.Common.{◌≡◌, ◌∙◌, ℕ, ◌≤◌, true, false, List, [], ◌∷◌, ◌++◌, inl, inr, Some, None, Ok, Err, refl, sym, ap, subst, arith, append-nil, true≢false}
+use Rattle.std.proofs.Common.{◌≡◌, ◌∙◌, ℕ, ◌≤◌, true, false, List, [], ◌∷◌, ◌++◌, inl, inr, Some, None, Ok, Err, refl, sym, ap, subst, arith, append-nil}
 use Rattle.std.specs.Prelude.{Bool, Contains, Option, Result, option_to_list}
 use Rattle.std.specs.List.{AllByRecursion}
 use Rattle.std.proofs.lemmas.List.Elements.{All-contains, All-from_recursion, Contains-append_left, Contains-append_right}
@@ -10,7 +10,7 @@ use Rattle.fine_model.specs.declared.law.RoomState.{RoomState}
 use Rattle.fine_model.specs.Chain.{AreRowsOf, regions_of}
 use Rattle.fine_model.specs.Jobs.{job_left}
 use Rattle.fine_model.specs.Regions.{HasHeader, Image, IsSealed, continuations}
-use Rattle.fine_model.specs.Views.{SameSeen, TellsRowsOf}
+use Rattle.fine_model.specs.Views.{SameSeen}
 use Rattle.fine_model.proofs.Times.{distinct_times, times, times-append, times-same, times_absent}
 use Rattle.partition_index.specs.Parts.{IsSeen}
 use Rattle.damage_laws.specs.Made.{AreMadeOf, IsMadeOf as IsMade, joined}

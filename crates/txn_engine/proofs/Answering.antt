@@ -68,32 +68,27 @@ none_more j (a ∷ cs) c none off = by (is_here j a) none (none_more j cs c)
     by true e rest = absurd (true≢false e)
     by false e rest = rest e off
 
+-- a bucket is held on, where the draft or what it caches is another
+held_as : (log : Origin) (number : ℕ) (history : List Commit) (d d' : DraftValue) (k : ℕ) (b b' : Cache) (h : IsHeld log number history d k b) → Undoes h.low h.taken b' → ((e : ℕ) (first : List Row) → Began log e first → Restores b' (first ++ all_rows history))
+    → (d'.failed ≡ false → IsUsed h.low h.taken b' d'.rows) → (d'.failed ≡ false → (e : ℕ) (first : List Row) → Began log e first → Holds b' (first ++ all_rows history) d'.rows) → IsHeld log number history d' k b'
+held_as log number history d d' k b b' h undoes restores used holds = record { taken = h.taken; low = h.low; reached = h.reached; stood = h.stood; undoes = undoes; restores = restores; used = used; holds = holds }
+
+-- and so it is where it is used for the draft's rows
+used_on : (log : Origin) (number : ℕ) (history : List Commit) (d d' : DraftValue) (k : ℕ) (b b' : Cache) (h : IsHeld log number history d k b) → IsUsed h.low h.taken b' d'.rows
+    → ((e : ℕ) (first : List Row) → Began log e first → Holds b' (first ++ all_rows history) d'.rows) → IsHeld log number history d' k b'
+used_on log number history d d' k b b' h used holds = held_as log number history d d' k b b' h used.undoes (λ e first began. (holds e first began).restores) (λ _. used) (λ _. holds)
+
 -- what a bucket holds, where only the draft is another, with the same rows
 with_draft : (log : Origin) (number : ℕ) (history : List Commit) (d d' : DraftValue) (k : ℕ) (b : Cache) → d'.rows ≡ d.rows → (d'.failed ≡ false → d.failed ≡ false) → IsHeld log number history d k b → IsHeld log number history d' k b
-with_draft log number history d d' k b rows ok h = record {
-  taken = h.taken;
-  low = h.low;
-  reached = h.reached;
-  stood = h.stood;
-  undoes = h.undoes;
-  restores = h.restores;
-  used = λ now. subst (IsUsed h.low h.taken b) (sym rows) (h.used (ok now));
-  holds = λ now e first began. subst (Holds b (first ++ all_rows history)) (sym rows) (h.holds (ok now) e first began);
-}
+with_draft log number history d d' k b rows ok h = held_as log number history d d' k b b h h.undoes h.restores
+    (λ now. subst (IsUsed h.low h.taken b) (sym rows) (h.used (ok now)))
+    (λ now e first began. subst (Holds b (first ++ all_rows history)) (sym rows) (h.holds (ok now) e first began))
 
 -- a draft that is lost holds what undoing restores
 pub lost_held : (log : Origin) (number : ℕ) (history : List Commit) (d d' : DraftValue) (k : ℕ) (b b' : Cache) → IsLost d d' → (h : IsHeld log number history d k b) → Undoes h.low h.taken b' → ((e : ℕ) (first : List Row) → Began log e first → Restores b' (first ++ all_rows history))
     → IsHeld log number history d' k b'
-lost_held log number history d d' k b b' lost h undoes restores = record {
-  taken = h.taken;
-  low = h.low;
-  reached = h.reached;
-  stood = h.stood;
-  undoes = undoes;
-  restores = restores;
-  used = λ ok. absurd (true≢false (sym lost.0 ∙ ok));
-  holds = λ ok. absurd (true≢false (sym lost.0 ∙ ok));
-}
+lost_held log number history d d' k b b' lost h undoes restores =
+    held_as log number history d d' k b b' h undoes restores (λ ok. absurd (true≢false (sym lost.0 ∙ ok))) (λ ok. absurd (true≢false (sym lost.0 ∙ ok)))
 
 -- a view that shows the history serves a bucket that is held
 serves_held : (log : Origin) (number : ℕ) (history : List Commit) (v : ViewValue) (d : DraftValue) (k : ℕ) (b : Cache) → IsShown log number history v → d.failed ≡ false → IsHeld log number history d k b → (e : ℕ) (first : List Row) → Began log e first
@@ -182,7 +177,7 @@ module _ (v : ViewValue) (k : ℕ) (low : k < 256) (locks locks' : List (Option 
     -- the draft is as it was
     open_same : IsUsed was.low was.taken new d.rows → ((e : ℕ) (first : List Row) → Began log e first → Holds new (first ++ all_rows history) d.rows) → IsOpenOn log number history d locks'
     open_same used holds = open_with d
-        (record { taken = was.taken; low = was.low; reached = was.reached; stood = was.stood; undoes = used.undoes; restores = λ e first began. (holds e first began).restores; used = λ _. used; holds = λ _. holds })
+        (used_on log number history d d k old new was used holds)
         (λ j y less ne h. o.held j y less h)
         (λ _. record { fits = answers_before.fits; here = λ j less none. answers_before.here j less (lacked j none).0; answered = answers_before.answered })
 
@@ -196,17 +191,10 @@ module _ (v : ViewValue) (k : ℕ) (low : k < 256) (locks locks' : List (Option 
     open_kept keeps fits used sound =
         let longer : d'.rows ≡ d.rows ++ keeps.own = ap (λ x. x.rows) keeps.is in
         open_with d'
-        (record { taken = was.taken; low = was.low; reached = was.reached; stood = was.stood; undoes = used.undoes; restores = λ e first began. (sound e first began).1.restores; used = λ _. used; holds = λ _ e first began. (sound e first began).1 })
-        (λ j y less ne h. let w = o.held j y less h in let away = elsewhere keeps.own keeps.fits.here j y less ne h in record {
-          taken = w.taken;
-          low = w.low;
-          reached = w.reached;
-          stood = w.stood;
-          undoes = w.undoes;
-          restores = w.restores;
-          used = λ _. subst (IsUsed w.low w.taken y) (sym longer) (used_law w.low w.taken y d.rows keeps.own (w.used ok) away);
-          holds = λ _ e first began. subst (Holds y (first ++ all_rows history)) (sym longer) (others_law y (first ++ all_rows history) d.rows keeps.own (w.holds ok e first began) away);
-        })
+        (used_on log number history d d' k old new was used (λ e first began. (sound e first began).1))
+        (λ j y less ne h. let w = o.held j y less h in let away = elsewhere keeps.own keeps.fits.here j y less ne h in held_as log number history d d' j y y w w.undoes w.restores
+        (λ _. subst (IsUsed w.low w.taken y) (sym longer) (used_law w.low w.taken y d.rows keeps.own (w.used ok) away))
+        (λ _ e first began. subst (Holds y (first ++ all_rows history)) (sym longer) (others_law y (first ++ all_rows history) d.rows keeps.own (w.holds ok e first began) away)))
         (λ _. record {
           fits = fits answers_before.fits;
           here = λ j less none. let l = lacked j none in subst (λ cs. list_any (is_here j) cs ≡ false) (sym (ap (λ x. x.calls) keeps.is)) (none_more j d.calls c (answers_before.here j less l.0) (off_other j l.1));
@@ -291,7 +279,7 @@ module _ (v v' : ViewValue) (locks locks' : List (Option Cache)) (d d' : DraftVa
         let w = o.held j b less there in
         let used = is.used w.low w.taken d.rows (w.used ok) (le_trans w.reached shown.reaches) in
         let holds : (e : ℕ) (first : List Row) → Began log e first → Holds y (first ++ all_rows history) d.rows = λ e first began. let s = served e first began in is.holds (first ++ all_rows history) d.rows (s.serves j b less there) (s.holds j b less there) s.sound in
-        record { taken = w.taken; low = w.low; reached = w.reached; stood = w.stood; undoes = used.undoes; restores = λ e first began. (holds e first began).restores; used = λ _. used; holds = λ _. holds }
+        used_on log number history d d j b y w used holds
 
     now_held : (j : ℕ) (y : Cache) → j < 256 → HasLock locks' j y → IsHeld log number history d j y
     now_held j y less h =

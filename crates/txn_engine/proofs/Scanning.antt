@@ -12,7 +12,7 @@ use Rattle.fine_model.specs.Trees.{IsSound}
 use Rattle.fine_model.proofs.KeptPairs.{kept_first}
 use Rattle.node_cache.specs.Cache.{Cache}
 use Rattle.btree_nodes.specs.declared.fault.TreeFault.{TreeFault}
-use Rattle.btree_nodes.specs.declared.fault.TreeFault.TheVariants.{Source, Unfit, BucketFull, Number, NoMemory}
+use Rattle.btree_nodes.specs.declared.fault.TreeFault.TheVariants.{Unfit, NoMemory}
 use Rattle.btree_nodes.specs.Calls.{IsFirstUnfitBetween, Reads, SoundReading}
 use Rattle.btree_nodes.specs.Faults.{OnFault}
 use Rattle.btree_nodes.specs.Trees.{Holds, Serves}
@@ -20,6 +20,7 @@ use Rattle.txn_draft.specs.Drafts.{DraftValue, FitsDraft, IsAnswered, IsLost}
 use Rattle.txn_draft.specs.Scans.{KeepsFound, ScanValue}
 use Rattle.txn_draft.specs.Uses.{IsUsed}
 use Rattle.open_txn.proofs.Advanced.{still_served}
+use Rattle.open_txn.proofs.Scanned.{caused_by, held_behind}
 use Rattle.partition_hold.specs.SourceLaws.{later_tells}
 use Rattle.partition_hold.specs.Sources.{IsLater, tells_rows}
 use Rattle.partition_hold.specs.Views.{ViewValue}
@@ -39,20 +40,6 @@ module _ (v v' : ViewValue) (k : ℕ) (near : k < 256) (locks : List (Option Cac
 
   abbrev Sound : Result (Unit {0}) TreeFault → Type 0
   Sound r = (rows log : List Row) → Serves (tells_rows v) b rows → Holds b rows log → IsSound (rows ++ log) → SoundReading rows log b' (λ (done : Unit {0}). Kept rows log) r
-
-  holds_of : (rows log : List Row) (fault : TreeFault) → OnFault fault (λ _. Holds b' rows log) (λ _. ⊥) (Holds b' rows log) → Holds b' rows log
-  holds_of rows log (Source f) h = h
-  holds_of rows log (Unfit id) h = absurd h
-  holds_of rows log (BucketFull next depth) h = absurd h
-  holds_of rows log (Number id) h = absurd h
-  holds_of rows log NoMemory h = h
-
-  cause_of : (rows log : List Row) (fault : TreeFault) → OnFault fault (λ _. Holds b' rows log) (λ _. ⊥) (Holds b' rows log) → OnFault fault (λ _. Unit {0}) (λ _. ⊥) (Unit {0})
-  cause_of rows log (Source f) h = tt
-  cause_of rows log (Unfit id) h = h
-  cause_of rows log (BucketFull next depth) h = h
-  cause_of rows log (Number id) h = h
-  cause_of rows log NoMemory h = tt
 
   abbrev First : NodeId → Type 0
   First = IsFirstUnfitBetween b' low high limit
@@ -76,10 +63,10 @@ module _ (v v' : ViewValue) (k : ℕ) (near : k < 256) (locks : List (Option Cac
     new = b';
     there = there;
     locks_are = refl;
-    read = record { used = used; serves = serves; holds = λ rows log served holds fine. holds_of rows log fault (sound rows log served holds fine) };
+    read = record { used = used; serves = serves; holds = λ rows log served holds fine. held_behind (Holds b' rows log) fault (sound rows log served holds fine) };
     more = tt;
     unfit = unfit_of P S (Err fault) reads;
-    cause = λ rows log served. cause_of rows log fault (sound rows log (served.serves k b near there) (served.holds k b near there) served.sound);
+    cause = λ rows log served. caused_by (Holds b' rows log) fault (sound rows log (served.serves k b near there) (served.holds k b near there) served.sound);
   }
 
 -- ---- one bucket behind another

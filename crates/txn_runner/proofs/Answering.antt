@@ -44,7 +44,7 @@ use Rattle.run_laws.proofs.Readings.{legal_law, sees_law, unsound_law}
 use Rattle.run_laws.proofs.Tellings.{told_more, told_stays}
 use Rattle.txn_runner.specs.Body.{Body, Goes, Stand, count_of, shelf_of}
 use Rattle.txn_runner.specs.Follows.{Follows, IsSameLog, NamesAt}
-use Rattle.txn_runner.specs.Named.{AreUncommitted, Blames, BlamesCalls}
+use Rattle.txn_runner.specs.Named.{Blames, BlamesCalls}
 use Rattle.txn_runner.specs.Opening.{IsRead}
 use Rattle.txn_runner.specs.Steps.{Answers, Looks, Reads, TakesBack, TellsWith, of_fetch, of_tree}
 use Rattle.txn_runner.proofs.Following as following

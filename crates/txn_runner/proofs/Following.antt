@@ -1,6 +1,6 @@
 -- A body as it begins, and as neighbours are merged and epochs are sealed, by the bytes at entry.
-use Rattle.std.proofs.Common.{◌≡◌, ◌⊎◌, inl, inr, ⊎_elim, ℕ, ◌<◌, ◌==◌, nat_lt, eqb-true, Bool, true, false, ◌&&◌, cond, List, [], ◌∷◌, ◌++◌, map, Option, Some, Ok, refl, sym, ap, subst, ◌∙◌, append_assoc, arith}
-use Rattle.std.specs.Prelude.{Contains, Result, flat_map, option_map, slice_get}
+use Rattle.std.proofs.Common.{◌≡◌, ◌⊎◌, inl, inr, ⊎_elim, ℕ, ◌<◌, ◌==◌, nat_lt, eqb-true, Bool, true, false, ◌&&◌, cond, List, [], ◌∷◌, ◌++◌, Option, Some, Ok, refl, sym, ap, subst, ◌∙◌, append_assoc, arith}
+use Rattle.std.specs.Prelude.{Contains, Result, option_map, slice_get}
 use Rattle.std.specs.List.{AllByRecursion}
 use Rattle.std.proofs.lemmas.Option.{slice_get_cases}
 use Rattle.std.proofs.lemmas.List.Elements.{All-contains, All-from_recursion, Contains-append_left, Contains-append_right, filter-append}
@@ -23,7 +23,7 @@ use Rattle.fine_model.proofs.NodeLaws.{rows_of-append}
 use Rattle.node_cache.specs.Cache.{Cache}
 use Rattle.damage_laws.specs.Firm.{AreFirm, CountFrom}
 use Rattle.damage_laws.specs.Goings.{GoBy}
-use Rattle.damage_laws.specs.Made.{AreMadeOf, IsMadeOf, Made, all_of, at_entry, one, sources}
+use Rattle.damage_laws.specs.Made.{AreMadeOf, all_of}
 use Rattle.damage_laws.specs.Places.{AreKeptOrGood}
 use Rattle.damage_laws.proofs.MergedFinds.{all_of-append}
 use Rattle.damage_laws.proofs.There.{new_there}
@@ -32,6 +32,7 @@ use Rattle.epoch_room.specs.Value.{RoomValue}
 use Rattle.epoch_room.specs.Whole.{HoldsParts, IsWhole}
 use Rattle.epoch_room.proofs.Freeing.{held_now}
 use Rattle.room_steps.specs.Made.{AreCounted, LivesOn, MadeOn}
+use Rattle.room_steps.proofs.JoinedMade.{entry_made}
 use Rattle.open_txn.specs.Buckets.{BucketsValue, StandAll, new_bucket}
 use Rattle.open_txn.specs.Traces.{rows_in}
 use Rattle.run_laws.specs.Needs.{IsSealed, Unsealed}
@@ -75,19 +76,7 @@ nothing_behind (row ∷ a) b e = absurd (let x : ◌≡◌ {A = List Row} (row �
 
 -- parts are made of themselves
 pub made_itself : (region_len : ℕ) (image : Image) (parts : List Part) → AreMadeOf region_len image image parts [] parts
-made_itself region_len image parts = record { made = map (λ (p : Part). (one (at_entry p), p)) parts; are = names parts; of_all = all parts; each = each parts }
-  where
-    names : (ps : List Part) → ps ≡ map (λ (m : Made × Part). m.1) (map (λ (p : Part). (one (at_entry p), p)) ps)
-    names [] = refl
-    names (p ∷ ps) = ap (λ xs. p ∷ xs) (names ps)
-
-    all : (ps : List Part) → flat_map (λ (m : Made × Part). sources m.0) (map (λ (p : Part). (one (at_entry p), p)) ps) ≡ map at_entry ps ++ []
-    all [] = refl
-    all (p ∷ ps) = ap (λ xs. at_entry p ∷ xs) (all ps)
-
-    each : (ps : List Part) → AllByRecursion (λ (m : Made × Part). IsMadeOf region_len image image m.0 m.1) (map (λ (p : Part). (one (at_entry p), p)) ps)
-    each [] = tt
-    each (p ∷ ps) = (record { each = λ id rows found. found }, each ps)
+made_itself region_len image parts = entry_made region_len image image parts (λ p there. record { each = λ id rows found. found })
 
 same_in : (regions : List ℕ) (image : Image) → AllByRecursion (λ r. region_of image r ≡ region_of image r) regions
 same_in [] image = tt

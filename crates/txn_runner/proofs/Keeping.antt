@@ -1,5 +1,5 @@
 -- What steps keep of a body that goes on from the bytes at entry, and what their faults name.
-use Rattle.std.proofs.Common.{◌≡◌, ◌⊎◌, ◌∙◌, ℕ, Bool, true, false, is_some, List, refl, sym, ap, subst, Option, Some, None, Ok}
+use Rattle.std.proofs.Common.{◌≡◌, ◌⊎◌, ◌∙◌, ℕ, true, false, is_some, List, refl, sym, ap, subst, Option, Some, None, Ok}
 use Rattle.std.specs.Prelude.{Result, option_map}
 use Rattle.log_disk.specs.Disk.{Disk, Told}
 use Rattle.fine_model.specs.declared.Call.{Call}

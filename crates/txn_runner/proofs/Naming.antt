@@ -3,13 +3,10 @@ use Rattle.std.proofs.Common.{◌≡◌, ◌≢◌, ℕ, ◌+◌, ◌<◌, List,
 use Rattle.std.specs.Prelude.{slice_get}
 use Rattle.std.specs.List.{AllByRecursion}
 use Rattle.std.proofs.lemmas.List.{append-nil}
-use Rattle.fine_model.specs.declared.Call.{Call}
-use Rattle.fine_model.specs.declared.Damage.{Damage}
 use Rattle.fine_model.specs.declared.Outcome.{Outcome}
 use Rattle.fine_model.specs.declared.Outcome.TheVariants as outcome
 use Rattle.fine_model.specs.declared.RunFault.{RunFault}
 use Rattle.fine_model.specs.declared.ScriptTxn.{ScriptTxn}
-use Rattle.fine_model.specs.History.{Commit}
 use Rattle.epoch_room.specs.Value.{RoomValue}
 use Rattle.run_laws.specs.Runs.{IsDamageAt}
 use Rattle.run_laws.specs.SoFar.{AreNamed}

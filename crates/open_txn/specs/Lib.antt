@@ -1,6 +1,7 @@
 pub mod Buckets
 pub mod Codes
 pub mod Endings
+pub mod OneCall
 pub mod Opened
 pub mod Steps
 pub mod Traces

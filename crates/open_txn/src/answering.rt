@@ -2,7 +2,6 @@
 
 ghost use Rattle.std.specs.Prelude.{◌≡◌, ◌<◌, ℕ, List, [], ◌∷◌, false, IfErr, OnOk};
 ghost use Rattle.std.specs.List.{AllByRecursion};
-ghost use Rattle.fine_model.specs.declared.Call.{Call as ModelCall};
 ghost use Rattle.fine_model.specs.declared.law.Origin.{Origin};
 ghost use Rattle.fine_model.specs.Bounds.{FitsCall};
 ghost use Rattle.fine_model.specs.History.{Commit};
@@ -11,6 +10,7 @@ ghost use Rattle.fine_model.specs.Trees.{bucket_of};
 ghost use Rattle.btree_nodes.specs.Calls.{OnCleanAnswer};
 ghost use Rattle.txn_draft.specs.Drafts.{blank, is_scan};
 ghost use Rattle.txn_draft.specs.Answers.{FailsBy};
+ghost use Rattle.open_txn.specs.OneCall.{AnswersOne};
 ghost use Rattle.open_txn.specs.Opened.{AnswersCalls, IsOpen, IsReady, IsRefusal, TouchesOf};
 ghost use Rattle.open_txn.specs.Steps.{Advances, Refuses};
 ghost use Rattle.open_txn.specs.Traces.{AddsDone, AllDone, StopsAt};
@@ -51,14 +51,7 @@ fn answer_in<S: NodeSource>(
     requires open { draft.old.failed ≡ false }
     requires call { FitsCall call.now }
     requires no_scan { is_scan call.now ≡ false }
-    ensures later { S.later source.old source.new }
-    ensures clean { OnCleanAnswer result (S.clean source.old source.new) }
-    ensures fails { IfErr result (FailsBy (λ failed. S.fails source.old failed source.new)) }
-    ensures place { (draft.new.lane ≡ draft.old.lane) × (draft.new.turn ≡ draft.old.turn) }
-    ensures advances { OnOk result (Advances (S.tells source.old) (S.tells source.new) (S.upper source.old) buckets.old buckets.new draft.old draft.new (call.now ∷ [])) }
-    ensures refuses { IfErr result (λ fault. (more : List ModelCall) → Refuses (S.tells source.old) (S.upper source.old) buckets.old buckets.new draft.old (call.now ∷ more) fault) }
-    ensures does { OnOk result (AddsDone (S.tells source.old) (S.finds source.old) (S.upper source.old) (call.now ∷ []) draft.old.rows draft.new.rows buckets.old buckets.new) }
-    ensures stops { IfErr result (λ fault. (more : List ModelCall) → StopsAt (S.tells source.old) (S.finds source.old) (S.upper source.old) (call.now ∷ more) fault buckets.old buckets.new) }
+    ensures { AnswersOne (S.later source.old source.new) (S.clean source.old source.new) (λ failed. S.fails source.old failed source.new) (S.tells source.old) (S.tells source.new) (S.finds source.old) (S.upper source.old) call.now buckets.old buckets.new draft.old draft.new result }
 {
     let at = usize::from(bucket_for(call));
     buckets.touched.add(at);
@@ -75,14 +68,7 @@ fn answer_one<S: NodeSource>(
 ) -> Result<(), TreeFault>
     requires open { draft.old.failed ≡ false }
     requires call { FitsCall call.now }
-    ensures later { S.later source.old source.new }
-    ensures clean { OnCleanAnswer result (S.clean source.old source.new) }
-    ensures fails { IfErr result (FailsBy (λ failed. S.fails source.old failed source.new)) }
-    ensures place { (draft.new.lane ≡ draft.old.lane) × (draft.new.turn ≡ draft.old.turn) }
-    ensures advances { OnOk result (Advances (S.tells source.old) (S.tells source.new) (S.upper source.old) buckets.old buckets.new draft.old draft.new (call.now ∷ [])) }
-    ensures refuses { IfErr result (λ fault. (more : List ModelCall) → Refuses (S.tells source.old) (S.upper source.old) buckets.old buckets.new draft.old (call.now ∷ more) fault) }
-    ensures does { OnOk result (AddsDone (S.tells source.old) (S.finds source.old) (S.upper source.old) (call.now ∷ []) draft.old.rows draft.new.rows buckets.old buckets.new) }
-    ensures stops { IfErr result (λ fault. (more : List ModelCall) → StopsAt (S.tells source.old) (S.finds source.old) (S.upper source.old) (call.now ∷ more) fault buckets.old buckets.new) }
+    ensures { AnswersOne (S.later source.old source.new) (S.clean source.old source.new) (λ failed. S.fails source.old failed source.new) (S.tells source.old) (S.tells source.new) (S.finds source.old) (S.upper source.old) call.now buckets.old buckets.new draft.old draft.new result }
 {
     match call {
         Call::Scan { low, high, limit } => {

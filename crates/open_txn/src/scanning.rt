@@ -1,12 +1,12 @@
 //! A scan over all buckets.
 
 ghost use Rattle.std.specs.Prelude.{◌≡◌, ◌<◌, ◌+◌, ℕ, List, [], ◌∷◌, false, IfErr, OnOk};
-ghost use Rattle.fine_model.specs.declared.Call.{Call as ModelCall};
 ghost use Rattle.fine_model.specs.declared.Call.TheVariants as call_of;
 ghost use Rattle.btree_nodes.specs.Calls.{OnCleanAnswer};
 ghost use Rattle.txn_draft.specs.Answers.{FailsBy};
-ghost use Rattle.open_txn.specs.Steps.{Advances, Gathers, Halts, Refuses};
-ghost use Rattle.open_txn.specs.Traces.{AddsDone, CutsOff, CutsOffAt, ScansAll, ScansAt, StopsAt};
+ghost use Rattle.open_txn.specs.OneCall.{AnswersOne};
+ghost use Rattle.open_txn.specs.Steps.{Gathers, Halts};
+ghost use Rattle.open_txn.specs.Traces.{CutsOff, CutsOffAt, ScansAll, ScansAt};
 
 use crate::buckets::{BUCKETS, Buckets};
 use btree_nodes::TreeFault;
@@ -79,14 +79,7 @@ pub fn scan_all<S: NodeSource>(
 ) -> Result<(), TreeFault>
     requires open { draft.old.failed ≡ false }
     requires scan { call.now ≡ call_of.Scan low.now high.now limit }
-    ensures later { S.later source.old source.new }
-    ensures clean { OnCleanAnswer result (S.clean source.old source.new) }
-    ensures fails { IfErr result (FailsBy (λ failed. S.fails source.old failed source.new)) }
-    ensures place { (draft.new.lane ≡ draft.old.lane) × (draft.new.turn ≡ draft.old.turn) }
-    ensures advances { OnOk result (Advances (S.tells source.old) (S.tells source.new) (S.upper source.old) buckets.old buckets.new draft.old draft.new (call.now ∷ [])) }
-    ensures refuses { IfErr result (λ fault. (more : List ModelCall) → Refuses (S.tells source.old) (S.upper source.old) buckets.old buckets.new draft.old (call.now ∷ more) fault) }
-    ensures does { OnOk result (AddsDone (S.tells source.old) (S.finds source.old) (S.upper source.old) (call.now ∷ []) draft.old.rows draft.new.rows buckets.old buckets.new) }
-    ensures stops { IfErr result (λ fault. (more : List ModelCall) → StopsAt (S.tells source.old) (S.finds source.old) (S.upper source.old) (call.now ∷ more) fault buckets.old buckets.new) }
+    ensures { AnswersOne (S.later source.old source.new) (S.clean source.old source.new) (λ failed. S.fails source.old failed source.new) (S.tells source.old) (S.tells source.new) (S.finds source.old) (S.upper source.old) call.now buckets.old buckets.new draft.old draft.new result }
 {
     let mut scan = RangeScan::new(*buckets.buckets.allocator());
     if let Err(fault) = gather_all(source, buckets, &mut scan, low, high, limit) {

@@ -1,6 +1,7 @@
-use Rattle.std.proofs.Common.{◌≡◌, ◌∙◌, ◌<◌, ap, arith, length, refl, slice_get, slice_set, Some, subst, sym}
+use Rattle.std.proofs.Common.{◌≡◌, ◌∙◌, ◌<◌, List, ap, arith, length, refl, slice_get, slice_set, Some, subst, sym}
 use Rattle.std.proofs.lemmas.Option.{slice_get-get_or}
 use Rattle.fine_model.specs.declared.FetchFault.{FetchFault}
+use Rattle.fine_model.specs.declared.Row.{Row}
 use Rattle.open_txn.specs.Buckets.{AreBuckets, BucketsValue}
 use Rattle.open_txn.proofs.Advanced.{advances_in, place_of, refuses_in, still_are}
 use Rattle.open_txn.proofs.Traced.{does_in, stops_in}
@@ -30,10 +31,7 @@ returns g c =
     let low' : at < 256 = omega (arith, c.from-at.ensures, c.bucket_for.ensures.range) in
     let v : BucketsValue = record { buckets = c.buckets.inside.buckets.items; touched = c.buckets.inside.touched } in
     let v' : BucketsValue = record { buckets = slice_set v.buckets at c.answer.new.bucket; touched = c.add.new.self } in
-    let tells = g.S.NodeSource.tells c.args.source.now in
-    let finds = g.S.NodeSource.finds c.args.source.now in
-    let tells' = g.S.NodeSource.tells c.answer.new.source in
-    let upper = g.S.NodeSource.upper c.args.source.now in
+    let later = λ (rows : List Row). g.met.S.NodeSource.later_tells _ _ rows c.answer.ensures.later in
     let F : FetchFault → Type 0 = λ failed. g.S.NodeSource.fails c.args.source.now failed c.answer.new.source in
     record {
       later = c.answer.ensures.later;
@@ -41,14 +39,13 @@ returns g c =
       fails = c.answer.ensures.fails;
       place = place_of c.args.draft.now c.answer.new.self c.args.call.now c.answer.result c.answer.ensures.kept c.answer.ensures.left;
       advances = rw (← c.buckets.view_is)
-          (advances_in tells tells' upper at _ _ b c.answer.new.bucket c.args.draft.now c.answer.new.self c.args.call.now c.buckets.invariant there refl c.add.ensures of_key
-          (λ rows. g.met.S.NodeSource.later_tells _ _ rows c.answer.ensures.later) c.answer.result c.answer.ensures.used c.answer.ensures.sound
-          finds F c.requires.open c.answer.ensures.kept c.answer.ensures.change c.answer.ensures.fits c.answer.ensures.serves);
+          (advances_in _ _ _ at _ _ b c.answer.new.bucket c.args.draft.now c.answer.new.self c.args.call.now c.buckets.invariant there refl c.add.ensures of_key
+          later c.answer.result c.answer.ensures.used c.answer.ensures.sound _ F c.requires.open c.answer.ensures.kept c.answer.ensures.change c.answer.ensures.fits c.answer.ensures.serves);
       refuses = rw (← c.buckets.view_is)
-          (refuses_in tells tells' upper at _ _ b c.answer.new.bucket c.args.draft.now c.answer.new.self c.args.call.now c.buckets.invariant there refl c.add.ensures of_key
-          (λ rows. g.met.S.NodeSource.later_tells _ _ rows c.answer.ensures.later) c.answer.result c.answer.ensures.used c.answer.ensures.sound);
+          (refuses_in _ _ _ at _ _ b c.answer.new.bucket c.args.draft.now c.answer.new.self c.args.call.now c.buckets.invariant there refl c.add.ensures of_key
+          later c.answer.result c.answer.ensures.used c.answer.ensures.sound);
       does = rw (← c.buckets.view_is)
-          (does_in tells finds upper at v v' b c.answer.new.bucket c.args.draft.now c.answer.new.self c.args.call.now c.buckets.invariant there refl of_key low' c.requires.no_scan F c.answer.result c.answer.ensures.change);
+          (does_in _ _ _ at v v' b c.answer.new.bucket c.args.draft.now c.answer.new.self c.args.call.now c.buckets.invariant there refl of_key low' c.requires.no_scan F c.answer.result c.answer.ensures.change);
       stops = rw (← c.buckets.view_is)
-          (stops_in tells finds upper at v v' b c.answer.new.bucket c.args.draft.now c.answer.new.self c.args.call.now c.buckets.invariant there refl of_key low' c.requires.no_scan F c.answer.result c.answer.ensures.change);
+          (stops_in _ _ _ at v v' b c.answer.new.bucket c.args.draft.now c.answer.new.self c.args.call.now c.buckets.invariant there refl of_key low' c.requires.no_scan F c.answer.result c.answer.ensures.change);
     }

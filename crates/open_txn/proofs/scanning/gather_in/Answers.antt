@@ -1,7 +1,8 @@
-use Rattle.std.proofs.Common.{◌≡◌, ◌∙◌, ◌+◌, ◌<◌, ℕ, ap, arith, length, refl, slice_get, slice_set, Some, subst, sym}
+use Rattle.std.proofs.Common.{◌≡◌, ◌∙◌, ◌+◌, ◌<◌, ℕ, List, ap, arith, length, refl, slice_get, slice_set, Some, subst, sym}
 use Rattle.std.specs.Prelude.{OnOk}
 use Rattle.std.proofs.lemmas.Option.{slice_get-get_or}
 use Rattle.fine_model.specs.declared.FetchFault.{FetchFault}
+use Rattle.fine_model.specs.declared.Row.{Row}
 use Rattle.btree_nodes.specs.Calls.{IsFirstUnfitBetween}
 use Rattle.open_txn.specs.Buckets.{BucketsValue}
 use Rattle.open_txn.proofs.Scanned.{gathers_in, halts_in}
@@ -25,10 +26,7 @@ returns g c =
     let there : slice_get c.buckets.inside.buckets.items at ≡ Some b = slice_get-get_or c.buckets.inside.buckets.items at _ low ∙ ap Some (sym c.index_mut-bucket.ensures.value) in
     let v : BucketsValue = record { buckets = c.buckets.inside.buckets.items; touched = c.buckets.inside.touched } in
     let v' : BucketsValue = record { buckets = slice_set v.buckets at c.gather.new.bucket; touched = c.add.new.self } in
-    let tells = g.S.NodeSource.tells c.args.source.now in
-    let tells' = g.S.NodeSource.tells c.gather.new.source in
-    let finds = g.S.NodeSource.finds c.args.source.now in
-    let upper = g.S.NodeSource.upper c.args.source.now in
+    let later = λ (rows : List Row). g.met.S.NodeSource.later_tells _ _ rows c.gather.ensures.later in
     let F : FetchFault → Type 0 = λ failed. g.S.NodeSource.fails c.args.source.now failed c.gather.new.source in
     record {
       later = c.gather.ensures.later;
@@ -36,13 +34,13 @@ returns g c =
       fails = c.gather.ensures.fails;
       next = subst (λ (n : ℕ). OnOk c.gather.result (c.gather.new.self.next ≡ n + 1)) c.requires.next c.gather.ensures.next;
       gathers = rw (← c.buckets.view_is)
-          (gathers_in tells tells' upper at _ _ b c.gather.new.bucket there refl c.add.ensures (λ rows. g.met.S.NodeSource.later_tells _ _ rows c.gather.ensures.later) c.args.low.now c.args.high.now c.args.limit
+          (gathers_in _ _ _ at _ _ b c.gather.new.bucket there refl c.add.ensures later c.args.low.now c.args.high.now c.args.limit
           c.args.scan.now c.gather.new.self c.gather.result c.gather.ensures.used c.gather.ensures.serves c.gather.ensures.sound F (IsFirstUnfitBetween c.gather.new.bucket c.args.low.now c.args.high.now c.args.limit) c.gather.ensures.answer);
       halts = rw (← c.buckets.view_is)
-          (halts_in tells tells' upper at _ _ b c.gather.new.bucket there refl c.add.ensures (λ rows. g.met.S.NodeSource.later_tells _ _ rows c.gather.ensures.later) c.args.low.now c.args.high.now c.args.limit
+          (halts_in _ _ _ at _ _ b c.gather.new.bucket there refl c.add.ensures later c.args.low.now c.args.high.now c.args.limit
           c.args.scan.now c.gather.new.self c.gather.result c.gather.ensures.used c.gather.ensures.serves c.gather.ensures.sound);
-      scans = rw (← c.buckets.view_is) (scans_at tells finds upper at v v' b c.gather.new.bucket c.buckets.invariant there refl c.args.low.now c.args.high.now c.args.limit c.args.scan.now.pairs c.gather.new.self.pairs F c.gather.result
+      scans = rw (← c.buckets.view_is) (scans_at _ _ _ at v v' b c.gather.new.bucket c.buckets.invariant there refl c.args.low.now c.args.high.now c.args.limit c.args.scan.now.pairs c.gather.new.self.pairs F c.gather.result
           c.gather.ensures.loads c.gather.ensures.on_walk c.gather.ensures.answer);
-      cut_off = rw (← c.buckets.view_is) (cuts_off_at tells finds upper at v v' b c.gather.new.bucket c.buckets.invariant there refl c.args.low.now c.args.high.now c.args.limit c.args.scan.now.pairs c.gather.new.self.pairs F c.gather.result
+      cut_off = rw (← c.buckets.view_is) (cuts_off_at _ _ _ at v v' b c.gather.new.bucket c.buckets.invariant there refl c.args.low.now c.args.high.now c.args.limit c.args.scan.now.pairs c.gather.new.self.pairs F c.gather.result
           c.gather.ensures.loads c.gather.ensures.on_walk c.gather.ensures.answer);
     }

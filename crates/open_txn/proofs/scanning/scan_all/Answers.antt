@@ -53,21 +53,23 @@ returns-in-Err g c =
           (scan_stops tells finds upper c.args.low.now c.args.high.now c.args.limit c.args.buckets.now c.gather_all.new.buckets c.in-Err.fault more c.in-Err.ensures.cut_off);
     }
 
-pub returns-in-Err-found-clause-refuses : goal.returns-in-Err-found-clause-refuses
-returns-in-Err-found-clause-refuses g c = λ more.
+pub returns-in-Err-found : goal.returns-in-Err-found
+returns-in-Err-found g c =
     let tells = g.S.NodeSource.tells c.args.source.now in
     let tells' = g.S.NodeSource.tells c.gather_all.new.source in
     let finds = g.S.NodeSource.finds c.args.source.now in
     let upper = g.S.NodeSource.upper c.args.source.now in
     let s = c.gather_all.new.scan in
-    subst (λ (k : Call). Refuses tells upper c.args.buckets.now c.gather_all.new.buckets c.args.draft.now (k ∷ more) NoMemory) (sym c.requires.scan)
-    (scan_lost tells tells' upper c.args.buckets.now c.gather_all.new.buckets c.args.draft.now c.args.low.now c.args.high.now c.args.limit s more
-    (subst (λ (s₀ : ScanValue). Gathers tells tells' upper c.args.buckets.now c.gather_all.new.buckets c.args.low.now c.args.high.now c.args.limit s₀ s) c.new-scan.ensures c.in_default.ensures.gathers))
-
-pub returns-in-Err-found-clause-stops : goal.returns-in-Err-found-clause-stops
-returns-in-Err-found-clause-stops g c = λ more.
-    let tells = g.S.NodeSource.tells c.args.source.now in
-    let finds = g.S.NodeSource.finds c.args.source.now in
-    let upper = g.S.NodeSource.upper c.args.source.now in
-    subst (λ (k : Call). StopsAt tells finds upper (k ∷ more) NoMemory c.args.buckets.now c.gather_all.new.buckets) (sym c.requires.scan)
-    (scan_stops_lost tells finds upper c.args.low.now c.args.high.now c.args.limit c.args.buckets.now c.gather_all.new.buckets more c.in_default.ensures.scans)
+    record {
+      later = c.gather_all.ensures.later;
+      clean = c.in_default.ensures.clean;
+      fails = tt;
+      place = (c.in-Err-found.ensures.left.1, c.in-Err-found.ensures.left.2);
+      advances = tt;
+      refuses = λ more. subst (λ (k : Call). Refuses tells upper c.args.buckets.now c.gather_all.new.buckets c.args.draft.now (k ∷ more) NoMemory) (sym c.requires.scan)
+          (scan_lost tells tells' upper c.args.buckets.now c.gather_all.new.buckets c.args.draft.now c.args.low.now c.args.high.now c.args.limit s more
+          (subst (λ (s₀ : ScanValue). Gathers tells tells' upper c.args.buckets.now c.gather_all.new.buckets c.args.low.now c.args.high.now c.args.limit s₀ s) c.new-scan.ensures c.in_default.ensures.gathers));
+      does = tt;
+      stops = λ more. subst (λ (k : Call). StopsAt tells finds upper (k ∷ more) NoMemory c.args.buckets.now c.gather_all.new.buckets) (sym c.requires.scan)
+          (scan_stops_lost tells finds upper c.args.low.now c.args.high.now c.args.limit c.args.buckets.now c.gather_all.new.buckets more c.in_default.ensures.scans);
+    }

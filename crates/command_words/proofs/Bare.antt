@@ -7,7 +7,8 @@ use Rattle.clap.specs.Simple.{Shape, new_shape}
 use Rattle.clap.specs.Kinds.{Kinds, or_else}
 use Rattle.clap.specs.Faults.{level_fault, walk_fault, turn_fault, stray_fault, flags_fault, defaults_fault}
 use Rattle.fine_model.specs.Words.{Command, when_none, without_dashes}
-use Rattle.command_words.proofs.Walking.{dashes, Form, dashed, long_form, short_form, plain_form, form_of, kinds_apart, or_fails}
+use Rattle.command_words.proofs.Levels.{or_fails}
+use Rattle.command_words.proofs.Walking.{dashes, Form, dashed, long_form, short_form, plain_form, form_of, kinds_apart}
 
 -- a command without arguments
 abbrev pub bare : Shape → Shape

@@ -1,4 +1,5 @@
 pub mod Options
+pub mod Levels
 pub mod Walking
 pub mod Bare
 pub mod Numbered

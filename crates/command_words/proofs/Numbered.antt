@@ -1,16 +1,17 @@
 -- How the library walks over the three numbers of `gen`.
-use Rattle.std.proofs.Common.{◌≡◌, ℕ, suc, Bool, true, false, List, [], ◌∷◌, ◌++◌, length, fold, Option, Some, None, option_map, option_and_then, bytes_eq, codes, chars, slice_get, refl, sym, ap, ◌∙◌, subst, arith}
+use Rattle.std.proofs.Common.{◌≡◌, ℕ, suc, Bool, true, false, List, [], ◌∷◌, ◌++◌, length, Option, Some, None, option_map, option_and_then, bytes_eq, codes, chars, slice_get, refl, sym, ap, ◌∙◌, subst, arith}
 use Rattle.clap.specs.declared.error.kind.ErrorKind.TheVariants as kind
 use Rattle.clap.specs.declared.parser.matches.ValueSource.TheVariants.{CommandLine}
-use Rattle.clap.specs.Walk.{Held, Row, Rule, Text, Walk, bundle_met, first_of, reading_by, walked, nothing_held, idle, finished, settled}
+use Rattle.clap.specs.Walk.{Held, Row, Rule, Text, Walk, bundle_met, first_of, reading_by, walked, nothing_held, idle}
 use Rattle.clap.specs.Lexer.{long_of, short_of}
 use Rattle.clap.specs.Simple.{Shape, filled, filled_from, new_shape}
-use Rattle.clap.specs.Kinds.{Kinds, or_else}
-use Rattle.clap.specs.Faults.{walk_fault, turn_fault, settle_fault, flags_fault, defaults_fault, check_fault}
+use Rattle.clap.specs.Kinds.{Kinds}
+use Rattle.clap.specs.Faults.{walk_fault, turn_fault, flags_fault, defaults_fault}
 use Rattle.fine_model.specs.Script.{natural_of}
 use Rattle.fine_model.specs.Words.{Command, gen, gen_of, without_dashes}
 use Rattle.command_words.specs.Program.{gen_shape, number_named}
-use Rattle.command_words.proofs.Walking.{dashes, Form, dashed, long_form, short_form, plain_form, form_of, kinds_apart, minus_none, or_assoc, or_fails}
+use Rattle.command_words.proofs.Levels.{fault_from, rows_from, word_fails, word_taken}
+use Rattle.command_words.proofs.Walking.{dashes, Form, dashed, long_form, short_form, plain_form, form_of, kinds_apart, minus_none}
 
 abbrev pub gen_rules : List Rule
 gen_rules = filled_from 1 gen_shape.rules
@@ -49,14 +50,11 @@ stage_texts (all_met a b c) = a ∷ b ∷ c ∷ []
 abbrev stage_walk : Stage → Bool → Walk
 stage_walk s trailing = record { held = stage_held s; waiting = idle; position = stage_position s; is_trailing = trailing; stopped = None }
 
-abbrev tail_fault : Held → Kinds
-tail_fault h = or_else [] (or_else (settle_fault gen_rules false h) (or_else (defaults_fault (settled gen_rules h).rows gen_rules) (check_fault gen_leaf (finished gen_rules h) false)))
-
 abbrev pub gen_fault : Walk → List Text → Kinds
-gen_fault w ws = or_else (walk_fault gen_leaf [] w ws) (tail_fault (fold (walked gen_rules []) w ws).held)
+gen_fault w ws = fault_from gen_leaf w ws
 
 abbrev pub gen_rows : Walk → List Text → List Row
-gen_rows w ws = finished gen_rules (fold (walked gen_rules []) w ws).held
+gen_rows w ws = rows_from gen_leaf w ws
 
 -- three texts were found, and the command is that of these; or something fails, and there is no command
 pub data Numbers (fault : Kinds) (rows : List Row) (result : Option Command) : Type 0 where
@@ -64,20 +62,9 @@ pub data Numbers (fault : Kinds) (rows : List Row) (result : Option Command) : T
       → result ≡ gen_of (a ∷ b ∷ c ∷ []) → Numbers fault rows result
   not_three : (fault ≡ [] → ⊥) → result ≡ None → Numbers fault rows result
 
-gen_step : (w : Walk) (word : Text) (ws : List Text) → gen_fault w (word ∷ ws) ≡ or_else (turn_fault gen_leaf [] w word) (gen_fault (walked gen_rules [] w word) ws)
-unfolding walk_fault
-gen_step w word ws = or_assoc (turn_fault gen_leaf [] w word) (walk_fault gen_leaf [] (walked gen_rules [] w word) ws) (tail_fault (fold (walked gen_rules []) (walked gen_rules [] w word) ws).held)
-
 goes_on : (w w' : Walk) (word : Text) (ws : List Text) (r : Option Command) → turn_fault gen_leaf [] w word ≡ [] → walked gen_rules [] w word ≡ w'
     → Numbers (gen_fault w' ws) (gen_rows w' ws) r → Numbers (gen_fault w (word ∷ ws)) (gen_rows w (word ∷ ws)) r
-goes_on w w' word ws r none next a =
-    let same : gen_fault w (word ∷ ws) ≡ gen_fault (walked gen_rules [] w word) ws = gen_step w word ws ∙ ap (λ k. or_else k (gen_fault (walked gen_rules [] w word) ws)) none in
-    let there : Numbers (gen_fault (walked gen_rules [] w word) ws) (gen_rows (walked gen_rules [] w word) ws) r = subst (λ x. Numbers (gen_fault x ws) (gen_rows x ws) r) (sym next) a in
-    subst (λ k. Numbers k (gen_rows w (word ∷ ws)) r) (sym same) there
-
-stops : (w : Walk) (word : Text) (ws : List Text) (r : Option Command) → (turn_fault gen_leaf [] w word ≡ [] → ⊥) → r ≡ None
-    → Numbers (gen_fault w (word ∷ ws)) (gen_rows w (word ∷ ws)) r
-stops w word ws r some none = not_three (λ e. or_fails _ _ some (sym (gen_step w word ws) ∙ e)) none
+goes_on w w' word ws r = word_taken gen_leaf (λ k rows. Numbers k rows r) w w' word ws
 
 at_end : (s : Stage) (trailing : Bool) → Numbers (gen_fault (stage_walk s trailing) []) (gen_rows (stage_walk s trailing) []) (gen_of (stage_texts s))
 unfolding walk_fault defaults_fault
@@ -96,7 +83,7 @@ behind (all_met a b c) [] = at_end (all_met a b c) true
 behind none_met (w ∷ ws) = goes_on (stage_walk none_met true) (stage_walk (one_met w) true) w ws (gen_of (w ∷ ws)) refl refl (behind (one_met w) ws)
 behind (one_met a) (w ∷ ws) = goes_on (stage_walk (one_met a) true) (stage_walk (two_met a w) true) w ws (gen_of (a ∷ w ∷ ws)) refl refl (behind (two_met a w) ws)
 behind (two_met a b) (w ∷ ws) = goes_on (stage_walk (two_met a b) true) (stage_walk (all_met a b w) true) w ws (gen_of (a ∷ b ∷ w ∷ ws)) refl refl (behind (all_met a b w) ws)
-behind (all_met a b c) (w ∷ ws) = stops (stage_walk (all_met a b c) true) w ws (gen_of (a ∷ b ∷ c ∷ w ∷ ws)) (λ e. absurd cc) refl
+behind (all_met a b c) (w ∷ ws) = not_three (word_fails gen_leaf (stage_walk (all_met a b c) true) w ws (λ e. absurd cc)) refl
 
 -- no number begins with a minus
 gen_minus : (s : Stage) (bs : Text) (rest : List Text) → gen_of (stage_texts s ++ (45 ∷ bs) ∷ rest) ≡ None
@@ -189,13 +176,13 @@ value_goes word ws apart is next (two_met a b) =
     subst (λ r. Numbers (gen_fault (stage_walk (two_met a b) false) (word ∷ ws)) (gen_rows (stage_walk (two_met a b) false) (word ∷ ws)) r) (ap (λ xs. gen_of (a ∷ b ∷ xs)) (sym (without_first word ws apart)))
     (goes_on (stage_walk (two_met a b) false) (stage_walk (all_met a b word) false) word ws (result (all_met a b word) ws) (is.turn_two a b) (is.walk_two a b) (next (all_met a b word)))
 value_goes word ws apart is next (all_met a b c) =
-    stops (stage_walk (all_met a b c) false) word ws (result (all_met a b c) (word ∷ ws)) (kinds_apart _ kind.UnknownArgument [] (is.turn_all a b c))
+    not_three (word_fails gen_leaf (stage_walk (all_met a b c) false) word ws (kinds_apart _ kind.UnknownArgument [] (is.turn_all a b c)))
     (ap (λ xs. gen_of (a ∷ b ∷ c ∷ xs)) (without_first word ws apart))
 
 minus_stops : (s : Stage) (word bs : Text) (ws : List Text) → bytes_eq word dashes ≡ false → word ≡ 45 ∷ bs → (turn_fault gen_leaf [] (stage_walk s false) word ≡ [] → ⊥)
     → Numbers (gen_fault (stage_walk s false) (word ∷ ws)) (gen_rows (stage_walk s false) (word ∷ ws)) (result s (word ∷ ws))
 minus_stops s word bs ws apart is some =
-    stops (stage_walk s false) word ws (result s (word ∷ ws)) some
+    not_three (word_fails gen_leaf (stage_walk s false) word ws some)
     (ap (λ xs. gen_of (stage_texts s ++ xs)) (without_first word ws apart ∙ ap (λ w. w ∷ without_dashes ws) is) ∙ gen_minus s bs (without_dashes ws))
 
 dashes_go : (s : Stage) (ws : List Text) → Numbers (gen_fault (stage_walk s false) (dashes ∷ ws)) (gen_rows (stage_walk s false) (dashes ∷ ws)) (result s (dashes ∷ ws))

@@ -8,10 +8,11 @@ use Rattle.clap.specs.Simple.{App, built, entered, is_simple, names_of, subcomma
 use Rattle.clap.specs.Kinds.{IsAmong, Kinds, or_else}
 use Rattle.clap.specs.Faults.{fault_of, is_simple_and_free, entered_fault, level_fault, walk_fault, turn_fault, settle_fault, defaults_fault, check_fault}
 use Rattle.clap.proofs.FaultLemmas.{stopped_fault}
-use Rattle.fine_model.specs.Words.{none_given, options_in, command_of, run, dump, ranges, merge, when_none, without_dashes, with_defaults, gen_of}
+use Rattle.fine_model.specs.Words.{Command, none_given, options_in, command_of, run, dump, ranges, merge, when_none, without_dashes, with_defaults, gen_of}
 use Rattle.command_words.specs.Program.{program, given_in_rows, generated_of, command_found}
 use Rattle.command_words.proofs.Options.{not_sym, Texts, text_in, name_of, numbers, Holds, Which, the_group, the_tries, the_keep}
-use Rattle.command_words.proofs.Walking.{dashes, Agree, agrees, fails, rest_fault, rest_rows, idle_words, or_nothing}
+use Rattle.command_words.proofs.Levels.{or_nothing}
+use Rattle.command_words.proofs.Walking.{dashes, Agree, agrees, fails, rest_fault, rest_rows, idle_words}
 use Rattle.command_words.proofs.Bare.{Alone, taken, left, bare_words, bare_leaf, bare_fails, walk_fails, walk_dashes}
 use Rattle.command_words.proofs.Numbered.{Numbers, three, not_three, gen_words, gen_fault, gen_rows, none_met}
 
@@ -108,38 +109,18 @@ run_words ws = go (idle_words ws [] (record { group = None; tries = None; keep =
         (ap (option_map (λ g. run (with_defaults g))) (is ∙ sym (given_is (rest_rows (walk_from nothing_held) ws) t h)) ∙ sym (ap command_found found))
     go (fails some is) = refuses (λ e. some (sym fault ∙ e)) (ap (option_map (λ g. run (with_defaults g))) is)
 
-dump_words : (ws : List Text) → Parses (codes "dump" ∷ ws)
-unfolding walked command_of defaults_fault
-dump_words ws = go (bare_words (codes "dump") ws dump)
+-- a command that takes no words
+alone_words : (name : Text) (command : Command) → turn_fault whole.top names (walk_from nothing_held) name ≡ [] → walked [] names (walk_from nothing_held) name ≡ stopped_walk name [] → (ws : List Text)
+    → ends_by (stopped_walk name ws) [] ≡ or_else (level_fault (bare_leaf name) [] nothing_held ws false []) [] → command_of (name ∷ ws) ≡ when_none (without_dashes ws) command
+    → command_found (entered whole (Some (name, ws))) ≡ Some command → Parses (name ∷ ws)
+alone_words name command turn first ws ends spelled found = go (bare_words name ws command)
   where
-    fault : fault_of program (codes "dump" ∷ ws) ≡ level_fault (bare_leaf (codes "dump")) [] nothing_held ws false []
-    fault = named_fault (codes "dump") refl refl ws ∙ or_nothing (level_fault (bare_leaf (codes "dump")) [] nothing_held ws false [])
+    fault : fault_of program (name ∷ ws) ≡ level_fault (bare_leaf name) [] nothing_held ws false []
+    fault = named_fault name turn first ws ∙ ends ∙ or_nothing (level_fault (bare_leaf name) [] nothing_held ws false [])
 
-    go : Alone (level_fault (bare_leaf (codes "dump")) [] nothing_held ws false []) (when_none (without_dashes ws) dump) dump → Parses (codes "dump" ∷ ws)
-    go (taken none is) = parses (fault ∙ none) (is ∙ sym (ap command_found (named_found (codes "dump") refl refl ws)))
-    go (left some is) = refuses (λ e. some (sym fault ∙ e)) is
-
-ranges_words : (ws : List Text) → Parses (codes "ranges" ∷ ws)
-unfolding walked command_of defaults_fault
-ranges_words ws = go (bare_words (codes "ranges") ws ranges)
-  where
-    fault : fault_of program (codes "ranges" ∷ ws) ≡ level_fault (bare_leaf (codes "ranges")) [] nothing_held ws false []
-    fault = named_fault (codes "ranges") refl refl ws ∙ or_nothing (level_fault (bare_leaf (codes "ranges")) [] nothing_held ws false [])
-
-    go : Alone (level_fault (bare_leaf (codes "ranges")) [] nothing_held ws false []) (when_none (without_dashes ws) ranges) ranges → Parses (codes "ranges" ∷ ws)
-    go (taken none is) = parses (fault ∙ none) (is ∙ sym (ap command_found (named_found (codes "ranges") refl refl ws)))
-    go (left some is) = refuses (λ e. some (sym fault ∙ e)) is
-
-merge_words : (ws : List Text) → Parses (codes "merge" ∷ ws)
-unfolding walked command_of defaults_fault
-merge_words ws = go (bare_words (codes "merge") ws merge)
-  where
-    fault : fault_of program (codes "merge" ∷ ws) ≡ level_fault (bare_leaf (codes "merge")) [] nothing_held ws false []
-    fault = named_fault (codes "merge") refl refl ws ∙ or_nothing (level_fault (bare_leaf (codes "merge")) [] nothing_held ws false [])
-
-    go : Alone (level_fault (bare_leaf (codes "merge")) [] nothing_held ws false []) (when_none (without_dashes ws) merge) merge → Parses (codes "merge" ∷ ws)
-    go (taken none is) = parses (fault ∙ none) (is ∙ sym (ap command_found (named_found (codes "merge") refl refl ws)))
-    go (left some is) = refuses (λ e. some (sym fault ∙ e)) is
+    go : Alone (level_fault (bare_leaf name) [] nothing_held ws false []) (when_none (without_dashes ws) command) command → Parses (name ∷ ws)
+    go (taken none is) = parses (fault ∙ none) (spelled ∙ is ∙ sym (ap command_found (named_found name turn first ws) ∙ found))
+    go (left some is) = refuses (λ e. some (sym fault ∙ e)) (spelled ∙ is)
 
 generated_is : (rows : List Row) (a b c : Text) → first_of (codes "start") rows ≡ Some a → first_of (codes "count") rows ≡ Some b → first_of (codes "lanes") rows ≡ Some c
     → generated_of (first_of (codes "start") rows) (first_of (codes "count") rows) (first_of (codes "lanes") rows) ≡ gen_of (a ∷ b ∷ c ∷ [])
@@ -189,6 +170,7 @@ named : (name word : Text) (ws : List Text) → bytes_eq name word ≡ true → 
 named name word ws e p = subst (λ w. Parses (w ∷ ws)) ((bytes_eq-Decides name word).0 e) p
 
 pub words_parse : (words : List Text) → Parses words
+unfolding walked command_of defaults_fault
 words_parse [] = no_words
 words_parse (word ∷ ws) =
     go (bytes_eq (codes "run") word) (bytes_eq (codes "dump") word) (bytes_eq (codes "ranges") word) (bytes_eq (codes "merge") word) (bytes_eq (codes "gen") word) refl refl refl refl refl
@@ -196,9 +178,9 @@ words_parse (word ∷ ws) =
     go : (a b c d e : Bool) → bytes_eq (codes "run") word ≡ a → bytes_eq (codes "dump") word ≡ b → bytes_eq (codes "ranges") word ≡ c → bytes_eq (codes "merge") word ≡ d → bytes_eq (codes "gen") word ≡ e
         → Parses (word ∷ ws)
     go true b c d e i j k l m = named (codes "run") word ws i (run_words ws)
-    go false true c d e i j k l m = named (codes "dump") word ws j (dump_words ws)
-    go false false true d e i j k l m = named (codes "ranges") word ws k (ranges_words ws)
-    go false false false true e i j k l m = named (codes "merge") word ws l (merge_words ws)
+    go false true c d e i j k l m = named (codes "dump") word ws j (alone_words (codes "dump") dump refl refl ws refl refl refl)
+    go false false true d e i j k l m = named (codes "ranges") word ws k (alone_words (codes "ranges") ranges refl refl ws refl refl refl)
+    go false false false true e i j k l m = named (codes "merge") word ws l (alone_words (codes "merge") merge refl refl ws refl refl refl)
     go false false false false true i j k l m = named (codes "gen") word ws m (gen_command ws)
     go false false false false false i j k l m = other_word word ws i j k l m
 

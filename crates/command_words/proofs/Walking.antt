@@ -14,9 +14,10 @@ use Rattle.clap.specs.Walk.{Held, Row, Text, Waiting, Walk, positional, bundle_m
 use Rattle.clap.specs.Lexer.{long_of, short_of, name_and_value}
 use Rattle.clap.specs.Simple.{Shape, new_shape}
 use Rattle.clap.specs.Kinds.{Kinds, or_else}
-use Rattle.clap.specs.Faults.{walk_fault, turn_fault, settle_fault, flags_fault, default_fault, defaults_fault, check_fault}
+use Rattle.clap.specs.Faults.{walk_fault, turn_fault, settle_fault, flags_fault, default_fault, defaults_fault}
 use Rattle.fine_model.specs.Script.{natural_of}
 use Rattle.fine_model.specs.Words.{Given, has_equals, with_option, options_in, then_given}
+use Rattle.command_words.proofs.Levels.{end_fault, fault_from, or_fails, or_nothing, rows_from, word_fails, word_taken}
 use Rattle.command_words.proofs.Options.{run_rules, Which, the_group, the_tries, the_keep, name_of, rule_for, which_of, by_long, with_dashed, with_which, number, Texts, text_in, given_in, put_text, numbers, put_numbers, put_taken, Holds, held_with, texts_with, Settles, settles, conflict, row_for, settled_named, settled_rows_are, holds_put}
 
 abbrev pub run_leaf : Shape
@@ -24,49 +25,31 @@ run_leaf = record (new_shape (codes "run")) { rules = run_rules; no_binary_name 
 
 -- ---- behind the words
 
-default_none : (k : Which) (rows : List Row) → default_fault rows (rule_for k) ≡ []
-default_none k rows = go k (has_row (name_of k) rows) refl
+-- an option without a value has no default
+no_default : (k : Which) (rows : List Row) → (default_fault rows (rule_for k) ≡ []) × (with_default rows (rule_for k) ≡ rows)
+no_default k rows = go k (has_row (name_of k) rows) refl
   where
-    go : (k : Which) (b : Bool) → has_row (name_of k) rows ≡ b → default_fault rows (rule_for k) ≡ []
-    go the_group true e = rw e refl
-    go the_group false e = rw e refl
-    go the_tries true e = rw e refl
-    go the_tries false e = rw e refl
-    go the_keep true e = rw e refl
-    go the_keep false e = rw e refl
-
-default_stays : (k : Which) (rows : List Row) → with_default rows (rule_for k) ≡ rows
-default_stays k rows = go k (has_row (name_of k) rows) refl
-  where
-    go : (k : Which) (b : Bool) → has_row (name_of k) rows ≡ b → with_default rows (rule_for k) ≡ rows
-    go the_group true e = rw e refl
-    go the_group false e = rw e refl
-    go the_tries true e = rw e refl
-    go the_tries false e = rw e refl
-    go the_keep true e = rw e refl
-    go the_keep false e = rw e refl
+    go : (k : Which) (b : Bool) → has_row (name_of k) rows ≡ b → (default_fault rows (rule_for k) ≡ []) × (with_default rows (rule_for k) ≡ rows)
+    go the_group true e = (rw e refl, rw e refl)
+    go the_group false e = (rw e refl, rw e refl)
+    go the_tries true e = (rw e refl, rw e refl)
+    go the_tries false e = (rw e refl, rw e refl)
+    go the_keep true e = (rw e refl, rw e refl)
+    go the_keep false e = (rw e refl, rw e refl)
 
 defaults_none : (rows : List Row) → defaults_fault rows run_rules ≡ []
 unfolding defaults_fault
 defaults_none rows =
-    rw (default_none the_group rows, default_stays the_group rows, default_none the_tries rows, default_stays the_tries rows, default_none the_keep rows) refl
+    rw ((no_default the_group rows).0, (no_default the_group rows).1, (no_default the_tries rows).0, (no_default the_tries rows).1, (no_default the_keep rows).0) refl
 
 finished_is : (h : Held) → finished run_rules h ≡ (settled run_rules h).rows
 finished_is h = go (settled run_rules h).rows
   where
     go : (rows : List Row) → fold with_default rows run_rules ≡ rows
-    go rows = rw (default_stays the_group rows, default_stays the_tries rows) (default_stays the_keep rows)
+    go rows = rw ((no_default the_group rows).1, (no_default the_tries rows).1) (no_default the_keep rows).1
 
 abbrev tail_fault : Held → Kinds
-tail_fault h = or_else [] (or_else (settle_fault run_rules false h) (or_else (defaults_fault (settled run_rules h).rows run_rules) (check_fault run_leaf (finished run_rules h) false)))
-
-pub or_nothing : (a : Kinds) → or_else a [] ≡ a
-or_nothing [] = refl
-or_nothing (k ∷ ks) = refl
-
-pub or_assoc : (a b c : Kinds) → or_else (or_else a b) c ≡ or_else a (or_else b c)
-or_assoc [] b c = refl
-or_assoc (k ∷ ks) b c = refl
+tail_fault h = end_fault run_leaf h
 
 tail_is : (h : Held) → tail_fault h ≡ settle_fault run_rules false h
 tail_is h = rw (defaults_none (settled run_rules h).rows) (or_nothing (settle_fault run_rules false h))
@@ -74,34 +57,23 @@ tail_is h = rw (defaults_none (settled run_rules h).rows) (or_nothing (settle_fa
 -- ---- word by word
 
 abbrev pub rest_fault : Walk → List Text → Kinds
-rest_fault w ws = or_else (walk_fault run_leaf [] w ws) (tail_fault (fold (walked run_rules []) w ws).held)
+rest_fault w ws = fault_from run_leaf w ws
 
 abbrev pub rest_rows : Walk → List Text → List Row
-rest_rows w ws = finished run_rules (fold (walked run_rules []) w ws).held
+rest_rows w ws = rows_from run_leaf w ws
 
 -- nothing fails, and the rows are of texts with these numbers; or something fails, and so do the options
 pub data Agree (fault : Kinds) (rows : List Row) (result : Option Given) : Type 0 where
   agrees : (t : Texts) → fault ≡ [] → Holds rows t → result ≡ numbers t → Agree fault rows result
   fails : (fault ≡ [] → ⊥) → result ≡ None → Agree fault rows result
 
-rest_step : (w : Walk) (word : Text) (ws : List Text) → rest_fault w (word ∷ ws) ≡ or_else (turn_fault run_leaf [] w word) (rest_fault (walked run_rules [] w word) ws)
-unfolding walk_fault
-rest_step w word ws = or_assoc (turn_fault run_leaf [] w word) (walk_fault run_leaf [] (walked run_rules [] w word) ws) (tail_fault (fold (walked run_rules []) (walked run_rules [] w word) ws).held)
-
 agree_step : (w w' : Walk) (word : Text) (ws : List Text) (r : Option Given) → turn_fault run_leaf [] w word ≡ [] → walked run_rules [] w word ≡ w'
     → Agree (rest_fault w' ws) (rest_rows w' ws) r → Agree (rest_fault w (word ∷ ws)) (rest_rows w (word ∷ ws)) r
-agree_step w w' word ws r none next a =
-    let same : rest_fault w (word ∷ ws) ≡ rest_fault (walked run_rules [] w word) ws = rest_step w word ws ∙ ap (λ k. or_else k (rest_fault (walked run_rules [] w word) ws)) none in
-    let there : Agree (rest_fault (walked run_rules [] w word) ws) (rest_rows (walked run_rules [] w word) ws) r = subst (λ x. Agree (rest_fault x ws) (rest_rows x ws) r) (sym next) a in
-    subst (λ k. Agree k (rest_rows w (word ∷ ws)) r) (sym same) there
-
-pub or_fails : (a b : Kinds) → (a ≡ [] → ⊥) → or_else a b ≡ [] → ⊥
-or_fails [] b n e = n refl
-or_fails (k ∷ ks) b n e = n e
+agree_step w w' word ws r = word_taken run_leaf (λ k rows. Agree k rows r) w w' word ws
 
 agree_fails : (w : Walk) (word : Text) (ws : List Text) (r : Option Given) → (turn_fault run_leaf [] w word ≡ [] → ⊥) → r ≡ None
     → Agree (rest_fault w (word ∷ ws)) (rest_rows w (word ∷ ws)) r
-agree_fails w word ws r some none = fails (λ e. or_fails _ _ some (sym (rest_step w word ws) ∙ e)) none
+agree_fails w word ws r some none = fails (word_fails run_leaf w word ws some) none
 
 -- ---- behind `--`
 

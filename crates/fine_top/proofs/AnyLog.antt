@@ -15,9 +15,8 @@ use Rattle.fine_model.specs.Chain.{chain}
 use Rattle.fine_model.specs.Damages.{HasNoChain, IsDamageIn, IsDurableFor, PrintsDamage, PrintsFaultOf, PrintsRun, PrintsWhole, Reports, RunDamagedTheorem, Running}
 use Rattle.fine_model.specs.Headline.{DiskRose, HasStatus, IsFrontOf, OneOf, ReasonFor, Return, TellsFaults}
 use Rattle.fine_model.specs.Outcomes.{is_refused}
-use Rattle.fine_model.specs.Report.{damage_line, fault_line, reason_bytes, report}
+use Rattle.fine_model.specs.Report.{damage_line, reason_bytes, report}
 use Rattle.fine_model.specs.Script.{Refusal, script_of}
-use Rattle.log_commands.specs.Found.{SeesLog}
 use Rattle.log_commands.proofs.Printed.{risen_by, wrote_all, wrote_front}
 use Rattle.log_commands.proofs.Ranges.{told_chain}
 use Rattle.run_laws.specs.Law.{return_of}

@@ -1,11 +1,9 @@
 -- What a generated run and its reading were, between two states of the disk.
 use Rattle.std.proofs.Common.{◌≡◌, ◌⊎◌, inl, inr, ⊎_elim, ℕ, zero, suc, ◌+◌, ◌<◌, ◌≤◌, ◌==◌, Bool, true, false, cond, List, [], ◌++◌, length, refl, sym, ap, ◌∙◌, subst, Option, Some, None, Result, Ok, Err, arith, append-nil}
-use Rattle.std.specs.Prelude.{IsPermutation, map, option_map}
+use Rattle.std.specs.Prelude.{option_map}
 use Rattle.std.specs.List.{list_all, list_any}
-use Rattle.std.proofs.lemmas.List.{length-map, nil_from_length}
-use Rattle.std.proofs.lemmas.List.Sorted.{length_permutation}
 use Rattle.std.proofs.Math.Nat.{min-le_left}
-use Rattle.log_disk.specs.Disk.{BothTold, Disk, Eye, HasRisen, OpenEye, Told}
+use Rattle.log_disk.specs.Disk.{BothTold, Disk, Eye, HasRisen, Told}
 use Rattle.log_disk.specs.Moments.{Continues, ContinuesOn}
 use Rattle.fine_model.specs.declared.Damage.{Damage}
 use Rattle.fine_model.specs.declared.Damage.TheVariants as damage_of
@@ -20,7 +18,7 @@ use Rattle.fine_model.specs.declared.RunFault.TheVariants as run_fault
 use Rattle.fine_model.specs.declared.Ran.{Ran}
 use Rattle.fine_model.specs.declared.ScriptTxn.{ScriptTxn}
 use Rattle.fine_model.specs.declared.law.RoomState.{RoomState}
-use Rattle.fine_model.specs.Boards.{held_of, is_empty, named}
+use Rattle.fine_model.specs.Boards.{is_empty}
 use Rattle.fine_model.specs.Buckets.{Began}
 use Rattle.fine_model.specs.Chain.{Shows, chain as chain_in}
 use Rattle.fine_model.specs.Commands.{are_durable, summary}
@@ -42,7 +40,6 @@ use Rattle.fine_model.proofs.TreeLaws.{IsSound-Agrees, map_of-Agrees}
 use Rattle.epoch_room.specs.Meaning.{Stands, StandsTold, origin_of}
 use Rattle.epoch_room.specs.Value.{RoomValue, made}
 use Rattle.epoch_room.specs.Whole.{IsWhole}
-use Rattle.epoch_room.proofs.Seating.{empty_posted}
 use Rattle.log_commands.specs.Ends.{fault_status}
 use Rattle.log_commands.specs.Found.{FindsChain}
 use Rattle.map_reader.specs.Maps.{AnswersMap, AnswersRows, IsNamed, LooksOn, ReadsMap, finds_by, tells_room}
@@ -54,6 +51,7 @@ use Rattle.room_shelf.proofs.Loading.{log_law}
 use Rattle.run_laws.proofs.Runs.{told_of}
 use Rattle.txn_runner.specs.Left.{IsLeftTo, ScansUnfit}
 use Rattle.txn_runner.proofs.Left.{blames, scans}
+use Rattle.log_commands.proofs.Logs.{no_eyes}
 use Rattle.fine_top.specs.Generating.{CountsRun, counted, counted_text, early, Ends, EndsGenerated, IsCounted, LacksMemory, Numbers, OpensGen, PrintsCounted, ReadsEnd, default_options, numbers, script_by, text_of}
 use Rattle.fine_top.specs.declared.opening.Opened.{Opened}
 use Rattle.fine_top.specs.Opened.{IsUnsoundLog}
@@ -61,17 +59,6 @@ use Rattle.fine_top.specs.Running.{IsRunBehind, IsRunOf, IsRunOn, LeavesBeside, 
 use Rattle.script_text.specs.Streams.{Puts}
 use Rattle.fine_top.proofs.Durable.{all_durable, none_waits}
 use Rattle.fine_top.proofs.Between.{behind_of, on_from, ready, run_from}
-
--- no eye is open on the disk of a room with an empty board
-no_eyes : (room : RoomValue) → IsWhole room → list_all is_empty room.room.board ≡ true → room.disk.eyes ≡ []
-no_eyes room whole board = nil_from_length room.disk.eyes (sym (long room.disk.eyes) ∙ none)
-  where
-    long : (eyes : List OpenEye) → length (map named (map (λ (eye : OpenEye). (eye.number, eye.regions)) eyes)) ≡ length eyes
-    long eyes = length-map (map (λ (eye : OpenEye). (eye.number, eye.regions)) eyes) named ∙ length-map eyes (λ (eye : OpenEye). (eye.number, eye.regions))
-
-    none : length (map named (map (λ (eye : OpenEye). (eye.number, eye.regions)) room.disk.eyes)) ≡ 0
-    none = ap (λ (x : RoomState). length (map named x.eyes)) (sym whole.of_disk)
-        ∙ sym (length_permutation (map named room.room.eyes) (map held_of []) (subst (λ held. IsPermutation (map named room.room.eyes) (map held_of held)) (empty_posted room.room.board board) whole.board.eyes))
 
 -- a run without a fault stays one of the log, whatever calls fail behind it: nothing of it depends on the counts then
 pub on_read : (old mid new : Disk) (before after : Told) (script : List ScriptTxn) (ran : Ran) (history : List Commit) (e : ℕ) (rows : List Row) → ran.fault ≡ None → IsRunOn default_options old mid before after script ran history e rows

@@ -42,6 +42,16 @@ done_status outcomes status has = by (list_any is_refused outcomes) has
     by true h = inr h
     by false h = inl h
 
+-- why a generated run has its status, and what it leaves on the disk
+pub record TellsEnd (old new : Disk) (status : ℕ) : Type 0 where
+  pub damaged : status ≡ 7 → IsUnsoundLog old
+  pub opened : OneOf (0 ∷ 8 ∷ []) status → IsOpenedLog old
+  pub disk_failed : status ≡ 6 → HasRisen old.faults new.faults
+  pub disk_told : old.faults < new.faults → OneOf (1 ∷ 5 ∷ 6 ∷ []) status
+  pub known : OneOf (0 ∷ 1 ∷ 5 ∷ 6 ∷ 7 ∷ 8 ∷ []) status
+  pub beside : LeavesBeside old new
+  pub told : ContinuesOn old new
+
 module _ (n : Numbers) (output : ℕ × ℕ) (old new : Disk) (status : ℕ) (was now : Option (List ℕ)) (rose : status ≡ 5 → HasRisen output.0 output.1) where
   -- ---- what the status tells
 
@@ -409,6 +419,17 @@ module _ (n : Numbers) (output : ℕ × ℕ) (old new : Disk) (status : ℕ) (wa
       by : (t : Option Told) → new.told ≡ t → (after : Told) × (new.told ≡ Some after)
       by (Some after) at = (after, at)
       by None at = absurd (subst (λ t. BothTold Continues (Some before) t) at (subst (λ t. BothTold Continues t new.told) is continues))
+
+  pub tells_end : IsIdle old → Ends n old new status was now → TellsEnd old new status
+  tells_end idle ends = record {
+    damaged = damaged ends.ended ends.is_end ends.status_is idle.no_eyes;
+    opened = opened ends.ended ends.is_end ends.status_is idle.no_eyes;
+    disk_failed = disk_failed ends.ended ends.is_end ends.status_is idle.no_eyes;
+    disk_told = disk_told ends.ended ends.is_end ends.status_is idle.no_eyes;
+    known = known ends.ended ends.is_end ends.status_is idle.no_eyes;
+    beside = beside ends.ended ends.is_end ends.status_is idle.no_eyes;
+    told = time ends.ended ends.is_end;
+  }
 
   pub gens_well : IsIdle old → IsSoundDisk old → Ends n old new status was now → GensWell n output old new status was now
   gens_well idle sound_disk ends = record {

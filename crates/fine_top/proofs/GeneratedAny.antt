@@ -1,15 +1,13 @@
 -- The theorem of a generated run on any log that the disk tells, sound or not, from how the call ended.
-use Rattle.std.proofs.Common.{◌≡◌, ◌⊎◌, inl, inr, ℕ, ◌<◌, Bool, true, false, cond, List, [], ◌∷◌, ◌++◌, refl, sym, ap, ◌∙◌, subst, Option, Some, None, Result, Ok, Err, arith}
+use Rattle.std.proofs.Common.{◌≡◌, ◌⊎◌, inl, inr, ℕ, Bool, true, false, cond, List, [], ◌∷◌, ◌++◌, refl, sym, ap, ◌∙◌, subst, Option, Some, None, Result, Ok, Err, arith}
 use Rattle.std.specs.List.{list_any}
 use Rattle.log_disk.specs.Disk.{Disk, HasRisen, Told, clock_of}
-use Rattle.log_disk.specs.Moments.{ContinuesOn}
 use Rattle.fine_model.specs.declared.Damage.{Damage}
 use Rattle.fine_model.specs.declared.Outcome.{Outcome}
 use Rattle.fine_model.specs.declared.Part.{Part}
 use Rattle.fine_model.specs.declared.Ran.{Ran}
 use Rattle.fine_model.specs.declared.RunFault.{RunFault}
 use Rattle.fine_model.specs.declared.RunFault.TheVariants as run_fault
-use Rattle.fine_model.specs.declared.ScriptTxn.{ScriptTxn}
 use Rattle.fine_model.specs.Chain.{chain}
 use Rattle.fine_model.specs.Commands.{GenDamagedTheorem, Summarizes, are_durable, fault_summary, summary}
 use Rattle.fine_model.specs.Damages.{HasNoChain, IsDurableFor, PrintsDamage, PrintsFaultOf, PrintsRun, PrintsWhole, Running}
@@ -23,7 +21,6 @@ use Rattle.log_commands.proofs.Printed.{risen_by, wrote_all, wrote_front}
 use Rattle.log_commands.proofs.Ranges.{told_chain}
 use Rattle.run_laws.specs.Law.{return_of}
 use Rattle.fine_top.specs.Generating.{Ended, Ends, GensAny, IsCounted, IsEnd, Numbers, counted, counted_status, counted_text, early, script_by, status_of, text_of}
-use Rattle.fine_top.specs.Running.{run_status}
 use Rattle.fine_top.proofs.Chainless.{unsound}
 use Rattle.fine_top.proofs.Generated.{disk_failed, disk_told, finds_told, time, told_after}
 use Rattle.fine_top.proofs.Theorem.{status_all}

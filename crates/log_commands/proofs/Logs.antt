@@ -119,7 +119,7 @@ chain_headers region_len image parts is p there =
     all = c.all
 
 -- no eye is open on the disk of a room with an empty board
-no_eyes : (room : RoomValue) → IsWhole room → list_all is_empty room.room.board ≡ true → room.disk.eyes ≡ []
+pub no_eyes : (room : RoomValue) → IsWhole room → list_all is_empty room.room.board ≡ true → room.disk.eyes ≡ []
 no_eyes room whole board = nil_from_length room.disk.eyes (sym (long room.disk.eyes) ∙ none)
   where
     long : (eyes : List OpenEye) → length (map named (map (λ (eye : OpenEye). (eye.number, eye.regions)) eyes)) ≡ length eyes

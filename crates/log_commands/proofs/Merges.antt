@@ -1,10 +1,12 @@
 -- What merging once, and merging on, leave of a room.
-use Rattle.std.proofs.Common.{◌≡◌, ◌∙◌, true, false, List, [], inl, inr, None, Ok, Err, refl, sym, subst, arith, true≢false}
+use Rattle.std.proofs.Common.{◌≡◌, ◌⊎◌, ℕ, ◌∙◌, true, false, List, [], inl, inr, None, Ok, Err, refl, sym, subst, arith, true≢false}
 use Rattle.std.specs.Prelude.{Bool, Result}
 use Rattle.std.specs.List.{list_all}
 use Rattle.log_disk.specs.Disk.{HasRisen}
+use Rattle.fine_model.specs.declared.Damage.TheVariants as damage
 use Rattle.fine_model.specs.declared.FetchFault.{FetchFault}
 use Rattle.fine_model.specs.declared.FetchFault.TheVariants as fetch_fault
+use Rattle.fine_model.specs.declared.Row.{Row}
 use Rattle.fine_model.specs.declared.RunFault.{RunFault}
 use Rattle.fine_model.specs.declared.RunFault.TheVariants as run_fault
 use Rattle.fine_model.specs.Boards.{Buffer, is_empty}
@@ -14,7 +16,8 @@ use Rattle.epoch_room.specs.Whole.{IsWhole}
 use Rattle.epoch_room.specs.declared.answers.RoomFault.TheVariants as room_fault
 use Rattle.room_merges.specs.declared.fault.MergeFault.{MergeFault}
 use Rattle.room_merges.specs.declared.fault.MergeFault.TheVariants as merge_fault
-use Rattle.room_merges.specs.Near.{IsReadRefused, MergesNear}
+use Rattle.room_merges.specs.Near.{BlamedFirst, IsReadRefused, MergesNear}
+use Rattle.fine_model.specs.Views.{TellsRowsOf}
 use Rattle.room_merges.proofs.Living.{seen_itself, seen_then}
 use Rattle.room_steps.specs.Merging.{of_merge}
 use Rattle.room_steps.proofs.MadeOn.{makes_on}
@@ -51,6 +54,14 @@ module _ (old new : RoomValue) (opened : old.room.is_shut ≡ false) (board : li
   merged_once true m = record { goes_on = goes (Ok true) m; once = (record { counts = m.near.0.counts; opened = m.near.0.stays }, m.near.1.less) }
   merged_once false m = record { goes_on = goes (Ok false) m; once = (record { counts = m.near.0.counts; opened = m.near.0.stays }, record { none_retired = m.near.2; none_fit = m.near.3; in_vain = m.near.4 }) }
 
+  -- a place that was read is bad
+  bad_once : (fault : FetchFault) (region at : ℕ) → (fault ≡ fetch_fault.BadRow region at) ⊎ (fault ≡ fetch_fault.BadIndex region at) → IsReadRefused old new fault → (fault ≡ fetch_fault.Failed → ⊥) → BlamedFirst 1 new fault
+      → ((rows : List Row) → TellsRowsOf new.room.image new.room.region_len new.room.parts rows → ⊥) → FaultOf old new (run_fault.Damaged (damage.Region region at))
+  bad_once fault region at of_read refused not_failed blamed none_told = (
+    refused_well fault refused not_failed,
+    record { region = region; at = at; is = refl; fault = fault; of_read = of_read; blamed = blamed; none_told = none_told },
+  )
+
   pub fault_once : (fault : MergeFault) → MergesNear 1 old new (Err fault) → MergesOnce old new (Err (of_merge fault))
   fault_once (merge_fault.Room room_fault.Disk) m = record { goes_on = goes (Err (merge_fault.Room room_fault.Disk)) m; once = record { rises = m.near.0.fails.faults; no_lower = m.near.0.fails.no_lower } }
   fault_once (merge_fault.Room (room_fault.Shut epoch)) m = absurd (true≢false (sym m.near.0 ∙ opened))
@@ -61,33 +72,11 @@ module _ (old new : RoomValue) (opened : old.room.is_shut ≡ false) (board : li
   }
   fault_once (merge_fault.Fetch (fetch_fault.BadRow region at)) m = record {
     goes_on = goes (Err (merge_fault.Fetch (fetch_fault.BadRow region at))) m;
-    once = (
-      refused_well (fetch_fault.BadRow region at) m.near.0 (λ e. absurd (let x = e in cc)),
-      record {
-        region = region;
-        at = at;
-        is = refl;
-        fault = fetch_fault.BadRow region at;
-        of_read = inl refl;
-        blamed = m.near.3;
-        none_told = tells_none old new (fetch_fault.BadRow region at) m.near.0 m.near.0.blames.blames.1;
-      },
-    );
+    once = bad_once (fetch_fault.BadRow region at) region at (inl refl) m.near.0 (λ e. absurd (let x = e in cc)) m.near.3 (tells_none old new (fetch_fault.BadRow region at) m.near.0 m.near.0.blames.blames.1);
   }
   fault_once (merge_fault.Fetch (fetch_fault.BadIndex region at)) m = record {
     goes_on = goes (Err (merge_fault.Fetch (fetch_fault.BadIndex region at))) m;
-    once = (
-      refused_well (fetch_fault.BadIndex region at) m.near.0 (λ e. absurd (let x = e in cc)),
-      record {
-        region = region;
-        at = at;
-        is = refl;
-        fault = fetch_fault.BadIndex region at;
-        of_read = inr refl;
-        blamed = m.near.3;
-        none_told = tells_none old new (fetch_fault.BadIndex region at) m.near.0 m.near.0.blames.blames.1;
-      },
-    );
+    once = bad_once (fetch_fault.BadIndex region at) region at (inr refl) m.near.0 (λ e. absurd (let x = e in cc)) m.near.3 (tells_none old new (fetch_fault.BadIndex region at) m.near.0 m.near.0.blames.blames.1);
   }
   fault_once (merge_fault.Fetch fetch_fault.NoMemory) m = record { goes_on = goes (Err (merge_fault.Fetch fetch_fault.NoMemory)) m; once = (refused_well fetch_fault.NoMemory m.near.0 (λ e. absurd (let x = e in cc))).counts }
 

@@ -1,18 +1,13 @@
 -- What `dump` printed and left, from how it ended.
-use Rattle.std.proofs.Common.{◌≡◌, ◌⊎◌, inl, inr, ℕ, ◌-◌, ◌<◌, ◌≤◌, true, false, List, [], ◌∷◌, length, map, Option, Some, Result, Ok, Err, refl, sym, ap, subst, ◌∙◌, arith, true≢false}
-use Rattle.std.specs.Prelude.{IfSome, IsPermutation}
-use Rattle.std.specs.List.{list_all}
-use Rattle.std.proofs.lemmas.List.{length-map, nil_from_length}
-use Rattle.std.proofs.lemmas.List.Sorted.{length_permutation}
-use Rattle.log_disk.specs.Disk.{Disk, HasRisen, OnlyFails, OpenEye, Told}
+use Rattle.std.proofs.Common.{◌≡◌, ◌⊎◌, inl, inr, ℕ, ◌-◌, ◌<◌, ◌≤◌, true, false, List, [], ◌∷◌, Option, Some, Result, Ok, Err, refl, sym, ap, subst, ◌∙◌, arith, true≢false}
+use Rattle.std.specs.Prelude.{IfSome}
+use Rattle.log_disk.specs.Disk.{Disk, HasRisen, OnlyFails, Told}
 use Rattle.fine_model.specs.declared.Damage.{Damage}
 use Rattle.fine_model.specs.declared.Damage.TheVariants as damage
 use Rattle.fine_model.specs.declared.Part.{Part}
 use Rattle.fine_model.specs.declared.Row.{Row}
 use Rattle.fine_model.specs.declared.RunFault.{RunFault}
 use Rattle.fine_model.specs.declared.RunFault.TheVariants as run_fault
-use Rattle.fine_model.specs.declared.law.RoomState.{RoomState}
-use Rattle.fine_model.specs.Boards.{held_of, is_empty, named}
 use Rattle.fine_model.specs.Chain.{Shows, chain}
 use Rattle.fine_model.specs.Commands.{FindsPairs}
 use Rattle.fine_model.specs.Damages.{IsDamage, IsDamageOf, IsUnsound}
@@ -23,7 +18,6 @@ use Rattle.fine_model.specs.Trees.{map_of}
 use Rattle.epoch_room.specs.Value.{RoomValue}
 use Rattle.epoch_room.specs.Whole.{IsIdle, IsWhole}
 use Rattle.epoch_room.specs.Meaning.{StandsAtFirst}
-use Rattle.epoch_room.proofs.Seating.{empty_posted}
 use Rattle.reopen.specs.Opening.{OpensRoom, TellsDamage}
 use Rattle.reopen.specs.declared.fault.OpenFault.{OpenFault}
 use Rattle.reopen.specs.declared.fault.OpenFault.TheVariants as fault
@@ -31,6 +25,7 @@ use Rattle.room_shelf.specs.Shelves.{IsCountOf}
 use Rattle.run_laws.specs.Law.{return_of}
 use Rattle.log_commands.specs.Ends.{status_of}
 use Rattle.log_commands.specs.Found.{open_fault}
+use Rattle.log_commands.proofs.Logs.{no_eyes}
 use Rattle.log_commands.proofs.Printed.{printed, risen_by}
 use Rattle.map_reader.specs.Dumps.{DumpsAny, DumpsWell, Ends, EndsRoom, FindsDump, HasNoChain, IsUnsoundLog, LeavesBeside, Prints, ReadsLog}
 use Rattle.map_reader.proofs.Found.{finds_pairs, is_chain, is_damage, shown_told, shows_none}
@@ -186,17 +181,6 @@ known old new status was now ends = by ends.found ends.prints.status_is
     by (Err run_fault.Memory) (inr s) = inr (inl s)
     by (Err run_fault.Disk) (inr s) = inr (inr (inr (inl s)))
     by (Err (run_fault.Damaged what)) (inr s) = inr (inr (inr (inr (inl s))))
-
--- no eye is open on the disk of a room with an empty board
-no_eyes : (room : RoomValue) → IsWhole room → list_all is_empty room.room.board ≡ true → room.disk.eyes ≡ []
-no_eyes room whole board = nil_from_length room.disk.eyes (sym (long room.disk.eyes) ∙ none)
-  where
-    long : (eyes : List OpenEye) → length (map named (map (λ (eye : OpenEye). (eye.number, eye.regions)) eyes)) ≡ length eyes
-    long eyes = length-map (map (λ (eye : OpenEye). (eye.number, eye.regions)) eyes) named ∙ length-map eyes (λ (eye : OpenEye). (eye.number, eye.regions))
-
-    none : length (map named (map (λ (eye : OpenEye). (eye.number, eye.regions)) room.disk.eyes)) ≡ 0
-    none = ap (λ (x : RoomState). length (map named x.eyes)) (sym whole.of_disk)
-        ∙ sym (length_permutation (map named room.room.eyes) (map held_of []) (subst (λ held. IsPermutation (map named room.room.eyes) (map held_of held)) (empty_posted room.room.board board) whole.board.eyes))
 
 pub beside : (old new : Disk) (status : ℕ) (was now : Option (List ℕ)) → IsIdle old → Ends old new status was now → LeavesBeside old new
 beside old new status was now idle ends = by ends.found ends.is_found

@@ -26,7 +26,7 @@ use Rattle.log_commands.proofs.Printed.{risen_by, wrote_all, wrote_front}
 use Rattle.run_laws.specs.Law.{return_of, start_of}
 use Rattle.run_laws.proofs.Nothing.{are_none, none_told, not_refused}
 use Rattle.script_text.specs.Streams.{Puts}
-use Rattle.fine_top.specs.Generating.{Ended, counted, counted_status, counted_text, early, Ends, GensWell, IsCounted, IsEnd, Numbers, script_by, status_of, text_of}
+use Rattle.fine_top.specs.Generating.{Ended, counted, counted_status, counted_text, early, Ends, GensWell, IsCounted, IsEnd, Numbers, script_by, status_of, text_of, TellsEnd}
 use Rattle.fine_top.specs.Opened.{IsOpenedLog, IsUnsoundLog}
 use Rattle.fine_top.specs.Running.{LeavesBeside}
 use Rattle.fine_top.proofs.Chainless.{shows_none}
@@ -41,16 +41,6 @@ done_status outcomes status has = by (list_any is_refused outcomes) has
     by : (b : Bool) → status ≡ cond {A = ℕ} b 8 0 → (status ≡ 0) ⊎ (status ≡ 8)
     by true h = inr h
     by false h = inl h
-
--- why a generated run has its status, and what it leaves on the disk
-pub record TellsEnd (old new : Disk) (status : ℕ) : Type 0 where
-  pub damaged : status ≡ 7 → IsUnsoundLog old
-  pub opened : OneOf (0 ∷ 8 ∷ []) status → IsOpenedLog old
-  pub disk_failed : status ≡ 6 → HasRisen old.faults new.faults
-  pub disk_told : old.faults < new.faults → OneOf (1 ∷ 5 ∷ 6 ∷ []) status
-  pub known : OneOf (0 ∷ 1 ∷ 5 ∷ 6 ∷ 7 ∷ 8 ∷ []) status
-  pub beside : LeavesBeside old new
-  pub told : ContinuesOn old new
 
 module _ (n : Numbers) (output : ℕ × ℕ) (old new : Disk) (status : ℕ) (was now : Option (List ℕ)) (rose : status ≡ 5 → HasRisen output.0 output.1) where
   -- ---- what the status tells

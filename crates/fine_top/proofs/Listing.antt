@@ -58,6 +58,13 @@ merged_opened old new (Err run_fault.Memory) m is = absurd (omega (arith, is))
 merged_opened old new (Err run_fault.Disk) m is = absurd (omega (arith, is))
 merged_opened old new (Err (run_fault.Damaged what)) m is = absurd (omega (arith, is))
 
+-- a call that ends with status 0 or 8 found a chain, where what was found with status 0 tells one
+opened_by : (old : Disk) (status found : ℕ) → OneOf (0 ∷ 1 ∷ 5 ∷ 6 ∷ 7 ∷ []) status → (status ≡ 5) ⊎ (status ≡ found) → (found ≡ 0 → IsOpenedLog old) → OneOf (0 ∷ 8 ∷ []) status → IsOpenedLog old
+opened_by old status found known (inl five) opens ok = absurd (grind (arith, five, ok))
+opened_by old status found known (inr is) opens (inl zero) = opens (sym is ∙ zero)
+opened_by old status found known (inr is) opens (inr (inl eight)) = absurd (grind (arith, known, eight))
+opened_by old status found known (inr is) opens (inr (inr none)) = absurd none
+
 -- ---- both
 
 module _ (left : Option (List ℕ)) (source output : ℕ × ℕ) (old new : Disk) (status : ℕ) (was now : Option (List ℕ)) (output_failed : status ≡ 5 → HasRisen output.0 output.1) (known : OneOf (0 ∷ 1 ∷ 5 ∷ 6 ∷ 7 ∷ []) status)
@@ -74,7 +81,7 @@ module _ (left : Option (List ℕ)) (source output : ℕ × ℕ) (old new : Disk
       disk_failed = λ six. (failed six).counts.faults tt;
       disk_told = told;
       damaged = λ seven. by_seven ends.status_is seven;
-      opened = λ ok. by_zero ends.status_is ok;
+      opened = opened_by old status (status_of ends.found) known ends.status_is (finds_opened old new ends.found ends.is_found);
       untouched = λ early. absurd (grind (arith, known, early));
       beside = finds_beside old new none ends.found ends.is_found;
       time = continues_told old new still;
@@ -87,12 +94,6 @@ module _ (left : Option (List ℕ)) (source output : ℕ × ℕ) (old new : Disk
       by_seven (inl five) seven = absurd (omega (arith, five, seven))
       by_seven (inr is) seven = finds_unsound old new ends.found ends.is_found (sym is ∙ seven)
 
-      by_zero : (status ≡ 5) ⊎ (status ≡ status_of ends.found) → OneOf (0 ∷ 8 ∷ []) status → IsOpenedLog old
-      by_zero (inl five) ok = absurd (grind (arith, five, ok))
-      by_zero (inr is) (inl zero) = finds_opened old new ends.found ends.is_found (sym is ∙ zero)
-      by_zero (inr is) (inr (inl eight)) = absurd (grind (arith, known, eight))
-      by_zero (inr is) (inr (inr none)) = absurd none
-
   pub merge_does : (ends : Ends (MergesLog old new) status was now) → MergesWell output old new status was now → MergesAnyWell output old new status was now → (status ≡ 6 → HasRisen old.faults new.faults) → (status ≡ 7 → ShowsNone old) → KeepsLog old new
       → Does (Some merge) (seen left source output old new status was now)
   merge_does ends well any failed shows_none keeps = record {
@@ -103,7 +104,7 @@ module _ (left : Option (List ℕ)) (source output : ℕ × ℕ) (old new : Disk
       disk_failed = failed;
       disk_told = told;
       damaged = λ seven before is e rows shows sound. shows_none seven before e rows is shows;
-      opened = λ ok. by_zero ends.status_is ok;
+      opened = opened_by old status (status_of ends.found) known ends.status_is (merged_opened old new ends.found ends.is_found);
       untouched = λ early. absurd (grind (arith, known, early));
       beside = record { regions = keeps.regions; region_len = keeps.region_len; no_eyes = keeps.no_eyes };
       time = keeps.time;
@@ -112,12 +113,6 @@ module _ (left : Option (List ℕ)) (source output : ℕ × ℕ) (old new : Disk
     own = record { ends = ends; merge = well; any = any };
   }
     where
-      by_zero : (status ≡ 5) ⊎ (status ≡ status_of ends.found) → OneOf (0 ∷ 8 ∷ []) status → IsOpenedLog old
-      by_zero (inl five) ok = absurd (grind (arith, five, ok))
-      by_zero (inr is) (inl zero) = merged_opened old new ends.found ends.is_found (sym is ∙ zero)
-      by_zero (inr is) (inr (inl eight)) = absurd (grind (arith, known, eight))
-      by_zero (inr is) (inr (inr none)) = absurd none
-
       not_reading : (c : Command) → ◌≡◌ {A = Option Command} (Some merge) (Some c) → IsReading c → ⊥
       not_reading c is reads = let same : merge ≡ c = cc in subst IsReading (sym same) reads
 
@@ -134,7 +129,7 @@ module _ (left : Option (List ℕ)) (source output : ℕ × ℕ) (old new : Disk
       disk_failed = failed;
       disk_told = told;
       damaged = unsound;
-      opened = λ ok. by_zero ends.prints.status_is ok;
+      opened = opened_by old status (status_of ends.found) known ends.prints.status_is (dump_opened old new ends.found ends.is_found);
       untouched = λ early. absurd (grind (arith, known, early));
       beside = record { regions = beside.regions; region_len = beside.region_len; no_eyes = beside.no_eyes };
       time = continues_told old new still;
@@ -142,12 +137,6 @@ module _ (left : Option (List ℕ)) (source output : ℕ × ℕ) (old new : Disk
     };
     own = record { ends = ends; dump = well; any = any };
   }
-    where
-      by_zero : (status ≡ 5) ⊎ (status ≡ status_of ends.found) → OneOf (0 ∷ 8 ∷ []) status → IsOpenedLog old
-      by_zero (inl five) ok = absurd (grind (arith, five, ok))
-      by_zero (inr is) (inl zero) = dump_opened old new ends.found ends.is_found (sym is ∙ zero)
-      by_zero (inr is) (inr (inl eight)) = absurd (grind (arith, known, eight))
-      by_zero (inr is) (inr (inr none)) = absurd none
 
 -- ---- a run
 

@@ -32,7 +32,7 @@ use Rattle.run_laws.specs.Law.{return_of, start_of}
 use Rattle.run_laws.proofs.Nothing.{are_none, none_told, not_refused}
 use Rattle.log_commands.specs.Found.{SeesLog}
 use Rattle.log_commands.proofs.Printed.{risen_by, wrote_all, wrote_front}
-use Rattle.fine_top.specs.Running.{Ended, early, ran, text_of, status_of, run_status, IsRunOn, IsRunOf, IsReason, EndsEarly, MayRun, IsEnd, IsEndOfRun, Ends, EndsRunOf, RunsWell, start_on, OfTold, IsRefused}
+use Rattle.fine_top.specs.Running.{Ended, early, ran, text_of, status_of, run_status, IsRunOn, IsRunOf, IsReason, EndsEarly, MayRun, IsEnd, IsEndOfRun, Ends, EndsRunOf, RunsWell, start_on, OfTold, IsRefused, TellsRun}
 use Rattle.fine_top.specs.Opened.{IsOpenedLog, IsUnsoundLog}
 use Rattle.fine_top.proofs.Chainless.{shows_none, unsound}
 use Rattle.fine_model.proofs.NodeLaws.{Agrees-refl}
@@ -54,6 +54,17 @@ status_all script outcomes (Some run_fault.Memory) status is = is
 status_all script outcomes (Some run_fault.Disk) status is = is
 status_all script outcomes (Some (run_fault.Damaged what)) status is = is
 
+-- the statuses of a run
+run_statuses : (outcomes : List Outcome) (f : Option RunFault) → OneOf (0 ∷ 1 ∷ 6 ∷ 7 ∷ 8 ∷ []) (run_status outcomes f)
+run_statuses outcomes None = by (list_any is_refused outcomes)
+  where
+    by : (b : Bool) → OneOf (0 ∷ 1 ∷ 6 ∷ 7 ∷ 8 ∷ []) (cond {A = ℕ} b 8 0)
+    by true = inr (inr (inr (inr (inl refl))))
+    by false = inl refl
+run_statuses outcomes (Some run_fault.Memory) = inr (inl refl)
+run_statuses outcomes (Some run_fault.Disk) = inr (inr (inl refl))
+run_statuses outcomes (Some (run_fault.Damaged what)) = inr (inr (inr (inl refl)))
+
 -- no end has the status of an output that failed
 pub five : (d : Ended) → status_of d ≡ 5 → ⊥
 five (early reason.Words) is = omega (arith, is)
@@ -62,17 +73,7 @@ five (early reason.Source) is = omega (arith, is)
 five (early (reason.Fault run_fault.Memory)) is = omega (arith, is)
 five (early (reason.Fault run_fault.Disk)) is = omega (arith, is)
 five (early (reason.Fault (run_fault.Damaged what))) is = omega (arith, is)
-five (ran script r) is = by r.fault is
-  where
-    refused : (b : Bool) → cond {A = ℕ} b 8 0 ≡ 5 → ⊥
-    refused true h = omega (arith, h)
-    refused false h = omega (arith, h)
-
-    by : (f : Option RunFault) → run_status r.outcomes f ≡ 5 → ⊥
-    by None h = refused (list_any is_refused r.outcomes) h
-    by (Some run_fault.Memory) h = omega (arith, h)
-    by (Some run_fault.Disk) h = omega (arith, h)
-    by (Some (run_fault.Damaged what)) h = omega (arith, h)
+five (ran script r) is = let known = run_statuses r.outcomes r.fault in grind (arith, known, is)
 
 -- ---- a disk that was left as it was
 
@@ -438,17 +439,7 @@ module _ (options : Options) (source output : ℕ × ℕ) (left : Option (List �
   of_refused (early (reason.Fault run_fault.Memory)) end is = absurd (omega (arith, is))
   of_refused (early (reason.Fault run_fault.Disk)) end is = absurd (omega (arith, is))
   of_refused (early (reason.Fault (run_fault.Damaged what))) end is = absurd (omega (arith, is))
-  of_refused (ran script r) end is = absurd (by r.fault is)
-    where
-      other : (b : Bool) → cond {A = ℕ} b 8 0 ≡ 3 → ⊥
-      other true h = omega (arith, h)
-      other false h = omega (arith, h)
-
-      by : (f : Option RunFault) → run_status r.outcomes f ≡ 3 → ⊥
-      by None h = other (list_any is_refused r.outcomes) h
-      by (Some run_fault.Memory) h = omega (arith, h)
-      by (Some run_fault.Disk) h = omega (arith, h)
-      by (Some (run_fault.Damaged what)) h = omega (arith, h)
+  of_refused (ran script r) end is = let known = run_statuses r.outcomes r.fault in absurd (grind (arith, known, is))
 
   pub refused_script : Ends options source_rose left old new status was now → status ≡ 3 → OfTold left IsRefused
   refused_script en three = by en.status_is
@@ -500,6 +491,9 @@ module _ (options : Options) (source output : ℕ × ℕ) (left : Option (List �
       by : (status ≡ 5) ⊎ (status ≡ status_of en.ended) → IsOpenedLog old
       by (inl failed) = absurd (grind (arith, failed, ok))
       by (inr fine) = of_opened en.ended en.is_end (subst (OneOf (0 ∷ 8 ∷ [])) fine ok)
+
+  pub tells_run : Ends options source_rose left old new status was now → TellsRun left old new status
+  tells_run en = record { script = refused_script en; damaged = damaged_log en; opened = opened_log en; told = goes_on en }
 
 -- how a call ended whose script was run, or for which there was no memory
 pub ends_run : (options : Options) (source_rose : Type 0) (left : Option (List ℕ)) (script : List ScriptTxn) (old mid new : Disk) (status : ℕ) (was now : Option (List ℕ)) → mid ≡ old → MayRun left script → EndsRunOf options script mid new status was now

@@ -7,7 +7,7 @@ use Rattle.fine_model.specs.declared.Options.{Options}
 use Rattle.fine_model.specs.declared.Reason.TheVariants as reason
 use Rattle.fine_model.specs.declared.RunFault.TheVariants as run_fault
 use Rattle.fine_model.specs.Commands.{WordsTheorem}
-use Rattle.fine_model.specs.Headline.{OneOf}
+use Rattle.fine_model.specs.Headline.{IsFrontOf, OneOf}
 use Rattle.fine_model.specs.Report.{fault_line, reason_bytes, words_line}
 use Rattle.fine_model.specs.Words.{Command, dump, gen, merge, ranges, run}
 use Rattle.reopen.specs.declared.fault.OpenFault.TheVariants as open_fault
@@ -47,6 +47,25 @@ module _ (left : Option (List ℕ)) (source output : ℕ × ℕ) (disk : Disk) (
     still = λ c is reads. refl;
   }
 
+  abbrev PrintsLine : List ℕ → Type 0
+  PrintsLine first = (written : List ℕ) × (now ≡ Some (first ++ written)) × WordsTheorem (HasRisen output.0 output.1) (disk ≡ disk) status written
+
+  -- the output failed behind a first part of a line
+  line_cut : (line first : List ℕ) → Puts line (status ≡ 5) was now → was ≡ Some first → status ≡ 5 → ((written : List ℕ) → IsFrontOf written line → IsFrontOf written words_line ⊎ IsFrontOf written (fault_line run_fault.Memory)) → PrintsLine first
+  line_cut line first puts was_is five is_line =
+      let w = wrote_front line (status ≡ 5) was now first puts was_is in (
+        w.0,
+        w.1,
+        record {
+          disk = refl;
+          words = λ h. absurd (omega (arith, five, h));
+          memory = λ h. absurd (omega (arith, five, h));
+          cut_short = λ h. is_line w.0 w.2;
+          output = output_failed;
+          others = inr (inr (inl five));
+        },
+      )
+
   -- ---- words that spell no command
 
   pub refuses_words : (status ≡ 5) ⊎ (status ≡ 2) → Puts (reason_bytes reason.Words) (status ≡ 5) was now → Does None (seen left source output disk disk status was now)
@@ -57,20 +76,8 @@ module _ (left : Option (List ℕ)) (source output : ℕ × ℕ) (disk : Disk) (
       few (inl five) = inr (inr (inl five))
       few (inr two) = inr (inl two)
 
-      by : (status ≡ 5) ⊎ (status ≡ 2) → (first : List ℕ) → was ≡ Some first → (written : List ℕ) × (now ≡ Some (first ++ written)) × WordsTheorem (HasRisen output.0 output.1) (disk ≡ disk) status written
-      by (inl five) first was_is =
-          let w = wrote_front words_line (status ≡ 5) was now first puts was_is in (
-            w.0,
-            w.1,
-            record {
-              disk = refl;
-              words = λ h. absurd (omega (arith, five, h));
-              memory = λ h. absurd (omega (arith, five, h));
-              cut_short = λ h. inl w.2;
-              output = output_failed;
-              others = few (inl five);
-            },
-          )
+      by : (status ≡ 5) ⊎ (status ≡ 2) → (first : List ℕ) → was ≡ Some first → PrintsLine first
+      by (inl five) first was_is = line_cut words_line first puts was_is five (λ written front. inl front)
       by (inr two) first was_is = (
         words_line,
         wrote_all words_line (status ≡ 5) was now first puts (λ five. omega (arith, five, two)) was_is,
@@ -99,23 +106,11 @@ module _ (left : Option (List ℕ)) (source output : ℕ × ℕ) (disk : Disk) (
     runs : OneOf (0 ∷ 1 ∷ 3 ∷ 4 ∷ 5 ∷ 6 ∷ 7 ∷ 8 ∷ []) status
     runs = elim is as (λ _. OneOf (0 ∷ 1 ∷ 3 ∷ 4 ∷ 5 ∷ 6 ∷ 7 ∷ 8 ∷ []) status) [ inl five ↦ inr (inr (inr (inr (inl five)))) | inr one ↦ inr (inl one) ]
 
-    no_words : (first : List ℕ) → was ≡ Some first → (written : List ℕ) × (now ≡ Some (first ++ written)) × WordsTheorem (HasRisen output.0 output.1) (disk ≡ disk) status written
+    no_words : (first : List ℕ) → was ≡ Some first → PrintsLine first
     no_words first was_is = by is
       where
-        by : (status ≡ 5) ⊎ (status ≡ 1) → (written : List ℕ) × (now ≡ Some (first ++ written)) × WordsTheorem (HasRisen output.0 output.1) (disk ≡ disk) status written
-        by (inl five) =
-            let w = wrote_front (fault_line run_fault.Memory) (status ≡ 5) was now first puts was_is in (
-              w.0,
-              w.1,
-              record {
-                disk = refl;
-                words = λ h. absurd (omega (arith, five, h));
-                memory = λ h. absurd (omega (arith, five, h));
-                cut_short = λ h. inr w.2;
-                output = output_failed;
-                others = inr (inr (inl five));
-              },
-            )
+        by : (status ≡ 5) ⊎ (status ≡ 1) → PrintsLine first
+        by (inl five) = line_cut (fault_line run_fault.Memory) first puts was_is five (λ written front. inr front)
         by (inr one) = (
           fault_line run_fault.Memory,
           wrote_all (fault_line run_fault.Memory) (status ≡ 5) was now first puts (λ five. omega (arith, five, one)) was_is,

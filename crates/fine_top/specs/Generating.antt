@@ -1,5 +1,5 @@
 -- How a call of the command `gen` ends, and what it prints then.
-use Rattle.std.specs.Prelude.{◌≡◌, ◌⊎◌, ℕ, ◌<◌, ◌==◌, Bool, false, true, List, ◌++◌, Option, Some, None, Result, Ok, Err}
+use Rattle.std.specs.Prelude.{◌≡◌, ◌⊎◌, ℕ, ◌<◌, ◌==◌, Bool, false, true, List, [], ◌∷◌, ◌++◌, Option, Some, None, Result, Ok, Err}
 use Rattle.log_disk.specs.Disk.{Disk, Told, HasRisen, IsImageNow, IsImageSince, clock_of}
 use Rattle.log_disk.specs.Moments.{ContinuesOn}
 use Rattle.fine_model.specs.declared.Damage.{Damage}
@@ -17,6 +17,7 @@ use Rattle.fine_model.specs.Commands.{GenDamagedTheorem, GenTheorem, are_durable
 use Rattle.fine_model.specs.Damages.{IsDamageIn}
 use Rattle.fine_model.specs.Generator.{generated}
 use Rattle.fine_model.specs.History.{Commit, map_at}
+use Rattle.fine_model.specs.Headline.{OneOf}
 use Rattle.fine_model.specs.Map.{Pair}
 use Rattle.fine_model.specs.Report.{all_outcomes, fault_line}
 use Rattle.fine_model.specs.Trees.{IsSound}
@@ -31,7 +32,7 @@ use Rattle.reopen.specs.Opening.{SeesChain}
 use Rattle.run_laws.specs.Law.{return_of, start_of}
 use Rattle.script_text.specs.Streams.{Puts}
 use Rattle.fine_top.specs.declared.opening.Opened.{Opened}
-use Rattle.fine_top.specs.Opened.{IsUnsoundLog}
+use Rattle.fine_top.specs.Opened.{IsOpenedLog, IsUnsoundLog}
 use Rattle.fine_top.specs.Running.{IsRunBehind, IsRunOn, LeavesBeside, RunsFrom, run_status}
 
 -- the options of `run` where none is given
@@ -177,3 +178,13 @@ pub record GensAny (n : Numbers) (output : ℕ × ℕ) (old new : Disk) (status 
   pub holds : (source : ℕ × ℕ) (first : List ℕ) (before : Told) → was ≡ Some first → old.told ≡ Some before
       → (after : Told) × (new.told ≡ Some after) × (written : List ℕ) × (now ≡ Some (first ++ written))
       × GenDamagedTheorem n.start n.count n.lanes old.region_len before.bytes (return_of old new source output before after) (new.told ≡ old.told) status written
+
+-- why a generated run has its status, and what it leaves on the disk
+pub record TellsEnd (old new : Disk) (status : ℕ) : Type 0 where
+  pub damaged : status ≡ 7 → IsUnsoundLog old
+  pub opened : OneOf (0 ∷ 8 ∷ []) status → IsOpenedLog old
+  pub disk_failed : status ≡ 6 → HasRisen old.faults new.faults
+  pub disk_told : old.faults < new.faults → OneOf (1 ∷ 5 ∷ 6 ∷ []) status
+  pub known : OneOf (0 ∷ 1 ∷ 5 ∷ 6 ∷ 7 ∷ 8 ∷ []) status
+  pub beside : LeavesBeside old new
+  pub told : ContinuesOn old new

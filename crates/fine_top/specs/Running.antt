@@ -1,5 +1,5 @@
 -- How a call of the command `run` ends, and what it prints then.
-use Rattle.std.specs.Prelude.{◌≡◌, ◌⊎◌, ℕ, ◌<◌, List, [], ◌++◌, if◌then◌else◌, Option, Some, None, Ok, Err}
+use Rattle.std.specs.Prelude.{◌≡◌, ◌⊎◌, ℕ, ◌<◌, List, [], ◌∷◌, ◌++◌, if◌then◌else◌, Option, Some, None, Ok, Err}
 use Rattle.std.specs.List.{AllByRecursion, list_any}
 use Rattle.log_disk.specs.Disk.{Disk, Told, HasRisen, OnlyFails, IsImageNow, IsImageSince, clock_of}
 use Rattle.log_disk.specs.Moments.{ContinuesOn}
@@ -21,7 +21,7 @@ use Rattle.fine_model.specs.History.{Commit}
 use Rattle.fine_model.specs.Trees.{IsSound}
 use Rattle.fine_model.specs.Chain.{Shows, chain, chain_end}
 use Rattle.fine_model.specs.Room.{IsSealedUpTo}
-use Rattle.fine_model.specs.Headline.{Start, HasStatus, IsDoneRun, IsRunWith, IsRefusedAt, RunTheorem, causes_of}
+use Rattle.fine_model.specs.Headline.{Start, HasStatus, IsDoneRun, IsRunWith, IsRefusedAt, OneOf, RunTheorem, causes_of}
 use Rattle.fine_model.specs.Script.{script_of}
 use Rattle.fine_model.specs.Report.{all_outcomes, reason_bytes, report}
 use Rattle.reopen.specs.declared.chain.Chain.{Chain}
@@ -36,7 +36,7 @@ use Rattle.epoch_room.specs.Meaning.{StandsAtFirst, origin_of}
 use Rattle.epoch_room.specs.Value.{RoomValue, made}
 use Rattle.epoch_room.specs.Whole.{IsWhole}
 use Rattle.fine_top.specs.declared.opening.Opened.{Opened}
-use Rattle.fine_top.specs.Opened.{IsUnsoundLog}
+use Rattle.fine_top.specs.Opened.{IsOpenedLog, IsUnsoundLog}
 use Rattle.script_text.specs.Streams.{Puts}
 use Rattle.script_text.specs.declared.read.ScriptFault.{ScriptFault}
 use Rattle.script_text.specs.declared.read.ScriptFault.TheVariants as fault
@@ -219,3 +219,10 @@ pub record RunsAny (left : Option (List ℕ)) (source output : ℕ × ℕ) (old 
   pub holds : (bytes first : List ℕ) (before : Told) → left ≡ Some bytes → was ≡ Some first → old.told ≡ Some before
       → (after : Told) × (new.told ≡ Some after) × (written : List ℕ) × (now ≡ Some (first ++ written))
       × RunDamagedTheorem (script_of bytes) old.region_len before.bytes (return_of old new source output before after) (new.told ≡ old.told) status written
+
+-- what the status of a run tells of the script and of the log, and that the disk's moments go on
+pub record TellsRun (left : Option (List ℕ)) (old new : Disk) (status : ℕ) : Type 0 where
+  pub script : status ≡ 3 → OfTold left IsRefused
+  pub damaged : status ≡ 7 → IsUnsoundLog old
+  pub opened : OneOf (0 ∷ 8 ∷ []) status → IsOpenedLog old
+  pub told : ContinuesOn old new

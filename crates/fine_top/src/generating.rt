@@ -13,12 +13,12 @@ ghost use Rattle.log_disk.specs.Moments.{ContinuesOn};
 ghost use Rattle.reopen.specs.Opening.{SeesChain};
 ghost use Rattle.script_text.specs.Streams.{Puts};
 ghost use Rattle.script_text.specs.Summaries.{summary_of};
-ghost use Rattle.fine_top.specs.Generating.{CountsRun, Ends, EndsGenerated, GensAny, GensWell, OpensGen, PrintsCounted, ReadsEnd, default_options, numbers};
+ghost use Rattle.fine_top.specs.Generating.{CountsRun, Ends, EndsGenerated, GensAny, GensWell, OpensGen, PrintsCounted, ReadsEnd, TellsEnd, default_options, numbers};
 ghost use Rattle.fine_top.specs.Opened.{IsOpenedLog, IsUnsoundLog};
 ghost use Rattle.fine_top.specs.Running.{LeavesBeside, run_status};
 
 use crate::opening::Opened;
-use crate::printing::{OUTPUT_FAILED, print_reason, run_status};
+use crate::printing::{OUTPUT_FAILED, print_no_memory, print_reason, run_status};
 use crate::running::run_chain;
 use epoch_room::{Fit, Room};
 use fine_model::{Gate, Options, Outcome, Pairs, Ran, Reason, RunFault, Script};
@@ -206,12 +206,7 @@ fn run_generated<K: Sink, D: LogDisk, G: Gate>(
     match run_chain(alloc, opened.chain, &script, &default_options(), disk, gate) {
         Ok((ran, room)) => count_run(alloc, start, lanes, &script, ran, room, out),
         Err(disk) => Finish {
-            status: print_reason(
-                out,
-                Reason::Fault {
-                    fault: RunFault::Memory,
-                },
-            ),
+            status: print_no_memory(out),
             disk,
         },
     }
@@ -231,6 +226,7 @@ fn gen_found<K: Sink, D: LogDisk, G: Gate>(
     requires count { count ≤ 100000 }
     requires lanes { (1 ≤ lanes) × (lanes ≤ 16) }
     ensures ends { Ends (numbers start count lanes) (D.state disk) (D.state result.disk) result.status (K.written out.old) (K.written out.new) }
+    ensures tells { TellsEnd (D.state disk) (D.state result.disk) result.status }
     ensures sound { IsSoundDisk (D.state disk) }
     ensures failed { result.status ≡ 5 → HasRisen (K.faults out.old) (K.faults out.new) }
 {

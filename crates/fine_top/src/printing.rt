@@ -3,6 +3,8 @@
 ghost use Rattle.std.specs.Prelude.{◌≡◌, ◌⊎◌};
 ghost use Rattle.std.specs.List.{list_any};
 ghost use Rattle.log_disk.specs.Disk.{HasRisen};
+ghost use Rattle.fine_model.specs.declared.Reason.TheVariants as reason;
+ghost use Rattle.fine_model.specs.declared.RunFault.TheVariants as run_fault;
 ghost use Rattle.fine_model.specs.Outcomes.{is_refused};
 ghost use Rattle.fine_model.specs.Report.{reason_bytes, report};
 ghost use Rattle.script_text.specs.Streams.{Puts};
@@ -62,6 +64,20 @@ pub(crate) fn print_reason<K: Sink>(out: &mut K, reason: Reason) -> u8
         Ok(()) => reason_status(reason),
         Err(_) => OUTPUT_FAILED,
     }
+}
+
+/// Prints the line of want of memory, and tells the status.
+pub(crate) fn print_no_memory<K: Sink>(out: &mut K) -> u8
+    ensures status { (result ≡ 5) ⊎ (result ≡ reason_status (reason.Fault run_fault.Memory)) }
+    ensures puts { Puts (reason_bytes (reason.Fault run_fault.Memory)) (result ≡ 5) (K.written out.old) (K.written out.new) }
+    ensures failed { result ≡ 5 → HasRisen (K.faults out.old) (K.faults out.new) }
+{
+    print_reason(
+        out,
+        Reason::Fault {
+            fault: RunFault::Memory,
+        },
+    )
 }
 
 /// Prints the report of a run, and tells the status.

@@ -8,12 +8,12 @@ ghost use Rattle.fine_model.specs.Bounds.{FitsScript};
 ghost use Rattle.fine_model.specs.Headline.{OneOf};
 ghost use Rattle.reopen.specs.Opening.{SeesChain};
 ghost use Rattle.fine_top.specs.Opened.{IsOpenedLog, IsUnsoundLog};
-ghost use Rattle.fine_top.specs.Running.{Ends, EndsRunOf, IsRefused, LeavesBeside, OfTold, RunsAny, RunsFrom, RunsWell};
+ghost use Rattle.fine_top.specs.Running.{Ends, EndsRunOf, IsRefused, LeavesBeside, OfTold, RunsAny, RunsFrom, RunsWell, TellsRun};
 
 use crate::opening::{Opened, open_run};
-use crate::printing::{print_reason, print_report};
+use crate::printing::{print_no_memory, print_reason, print_report};
 use epoch_room::Room;
-use fine_model::{Gate, Options, Ran, Reason, RunFault, Script};
+use fine_model::{Gate, Options, Ran, Script};
 use log_commands::Finish;
 use log_disk::LogDisk;
 use reopen::Chain;
@@ -71,12 +71,7 @@ fn run_opened<K: Sink, D: LogDisk, G: Gate>(
             disk: room.into_disk(),
         },
         Err(disk) => Finish {
-            status: print_reason(
-                out,
-                Reason::Fault {
-                    fault: RunFault::Memory,
-                },
-            ),
+            status: print_no_memory(out),
             disk,
         },
     }
@@ -94,6 +89,7 @@ fn run_found<S: Source, K: Sink, D: LogDisk, G: Gate>(
     requires idle { IsIdle (D.state disk) }
     requires group { 1 ≤ options.now.group }
     ensures ends { Ends options.now (HasRisen (S.faults script.old) (S.faults script.new)) (S.left script.old) (D.state disk) (D.state result.disk) result.status (K.written out.old) (K.written out.new) }
+    ensures tells { TellsRun (S.left script.old) (D.state disk) (D.state result.disk) result.status }
     ensures sound { IsSoundDisk (D.state disk) }
     ensures source_failed { result.status ≡ 4 → HasRisen (S.faults script.old) (S.faults script.new) }
     ensures output_failed { result.status ≡ 5 → HasRisen (K.faults out.old) (K.faults out.new) }

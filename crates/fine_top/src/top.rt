@@ -18,10 +18,10 @@ ghost use Rattle.fine_top.specs.Opened.{IsOpenedLog, IsUnsoundLog};
 ghost use Rattle.fine_top.specs.Running.{Ends, IsRefused, LeavesBeside, OfTold, RunsAny, RunsWell};
 
 use crate::generating::generate_and_print;
-use crate::printing::print_reason;
+use crate::printing::{print_no_memory, print_reason};
 use crate::running::run_and_print;
 use command_words::{Command, command_of};
-use fine_model::{Gate, Reason, RunFault};
+use fine_model::{Gate, Reason};
 use log_commands::{Finish, merge_and_print, print_ranges};
 use log_disk::LogDisk;
 use map_reader::dump_and_print;
@@ -82,12 +82,7 @@ fn obey<S: Source, K: Sink, D: LogDisk, G: Gate>(
             },
         },
         Err(_) => Finish {
-            status: print_reason(
-                out,
-                Reason::Fault {
-                    fault: RunFault::Memory,
-                },
-            ),
+            status: print_no_memory(out),
             disk,
         },
     }

@@ -1,6 +1,6 @@
 -- What a run's end tells.
 use Rattle.fine_top.proofs.AnyLog.{runs_any}
-use Rattle.fine_top.proofs.Theorem.{damaged_log, goes_on, opened_log, refused_script, runs_well}
+use Rattle.fine_top.proofs.Theorem.{runs_well}
 use Rattle.fine_top.proofs.running.run_and_print.Goals as goal
 
 pub returns-clause-run : goal.returns-clause-run
@@ -14,23 +14,3 @@ returns-clause-run_any g c =
     runs_any c.args.options.now (g.S.Source.faults c.args.script.now, g.S.Source.faults c.run_found.new.script) (g.K.Sink.faults c.args.out.now, g.K.Sink.faults c.run_found.new.out)
     (g.S.Source.left c.args.script.now) (g.D.LogDisk.state c.args.disk) (g.D.LogDisk.state c.run_found.result.disk) c.run_found.result.status (g.K.Sink.written c.args.out.now) (g.K.Sink.written c.run_found.new.out)
     c.run_found.ensures.source_failed c.run_found.ensures.output_failed c.run_found.ensures.ends
-
-pub returns-clause-script : goal.returns-clause-script
-returns-clause-script g c =
-    refused_script c.args.options.now (g.S.Source.faults c.args.script.now, g.S.Source.faults c.run_found.new.script) (g.K.Sink.faults c.args.out.now, g.K.Sink.faults c.run_found.new.out)
-    (g.S.Source.left c.args.script.now) (g.D.LogDisk.state c.args.disk) (g.D.LogDisk.state c.run_found.result.disk) c.run_found.result.status (g.K.Sink.written c.args.out.now) (g.K.Sink.written c.run_found.new.out) c.run_found.ensures.ends
-
-pub returns-clause-damaged : goal.returns-clause-damaged
-returns-clause-damaged g c =
-    damaged_log c.args.options.now (g.S.Source.faults c.args.script.now, g.S.Source.faults c.run_found.new.script) (g.K.Sink.faults c.args.out.now, g.K.Sink.faults c.run_found.new.out)
-    (g.S.Source.left c.args.script.now) (g.D.LogDisk.state c.args.disk) (g.D.LogDisk.state c.run_found.result.disk) c.run_found.result.status (g.K.Sink.written c.args.out.now) (g.K.Sink.written c.run_found.new.out) c.run_found.ensures.ends
-
-pub returns-clause-told : goal.returns-clause-told
-returns-clause-told g c =
-    goes_on c.args.options.now (g.S.Source.faults c.args.script.now, g.S.Source.faults c.run_found.new.script) (g.K.Sink.faults c.args.out.now, g.K.Sink.faults c.run_found.new.out)
-    (g.S.Source.left c.args.script.now) (g.D.LogDisk.state c.args.disk) (g.D.LogDisk.state c.run_found.result.disk) c.run_found.result.status (g.K.Sink.written c.args.out.now) (g.K.Sink.written c.run_found.new.out) c.run_found.ensures.ends
-
-pub returns-clause-opened : goal.returns-clause-opened
-returns-clause-opened g c =
-    opened_log c.args.options.now (g.S.Source.faults c.args.script.now, g.S.Source.faults c.run_found.new.script) (g.K.Sink.faults c.args.out.now, g.K.Sink.faults c.run_found.new.out)
-    (g.S.Source.left c.args.script.now) (g.D.LogDisk.state c.args.disk) (g.D.LogDisk.state c.run_found.result.disk) c.run_found.result.status (g.K.Sink.written c.args.out.now) (g.K.Sink.written c.run_found.new.out) c.run_found.ensures.ends

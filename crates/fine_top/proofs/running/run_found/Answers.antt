@@ -4,7 +4,7 @@ use Rattle.epoch_room.specs.Whole.{IsIdle}
 use Rattle.log_disk.specs.Disk.{HasRisen}
 use Rattle.reopen.specs.Opening.{SeesChain}
 use Rattle.fine_top.specs.Running.{early, text_of}
-use Rattle.fine_top.proofs.Theorem.{ends_run}
+use Rattle.fine_top.proofs.Theorem.{ends_run, tells_run}
 use Rattle.fine_top.proofs.running.run_found.Goals as goal
 
 pub run_opened-requires-clause-idle : goal.run_opened-requires-clause-idle
@@ -26,3 +26,13 @@ returns-in-Err-clause-ends g c = record {
   status_is = c.print_reason.ensures.status;
   printed = c.print_reason.ensures.puts;
 }
+
+pub returns-in-Ok-clause-tells : goal.returns-in-Ok-clause-tells
+returns-in-Ok-clause-tells g c =
+    tells_run c.args.options.now (g.S.Source.faults c.args.script.now, g.S.Source.faults c.open_run.new.source) (g.K.Sink.faults c.args.out.now, g.K.Sink.faults c.run_opened.new.out) (g.S.Source.left c.args.script.now)
+    (g.D.LogDisk.state c.args.disk) (g.D.LogDisk.state c.run_opened.result.disk) c.run_opened.result.status (g.K.Sink.written c.args.out.now) (g.K.Sink.written c.run_opened.new.out) (returns-in-Ok-clause-ends g c)
+
+pub returns-in-Err-clause-tells : goal.returns-in-Err-clause-tells
+returns-in-Err-clause-tells g c =
+    tells_run c.args.options.now (g.S.Source.faults c.args.script.now, g.S.Source.faults c.open_run.new.source) (g.K.Sink.faults c.args.out.now, g.K.Sink.faults c.print_reason.new.out) (g.S.Source.left c.args.script.now)
+    (g.D.LogDisk.state c.args.disk) (g.D.LogDisk.state c.open_run.new.disk) c.print_reason.result (g.K.Sink.written c.args.out.now) (g.K.Sink.written c.print_reason.new.out) (returns-in-Err-clause-ends g c)

@@ -23,6 +23,6 @@ unfolding text_of
 returns-clause-ends g c = record {
   ended = early (reason.Fault run_fault.Memory);
   is_end = (refl, c.in-Err.ensures.err);
-  status_is = c.print_reason.ensures.status;
-  printed = c.print_reason.ensures.puts;
+  status_is = c.print_no_memory.ensures.status;
+  printed = c.print_no_memory.ensures.puts;
 }

@@ -19,6 +19,6 @@ returns-in-None g c =
 pub returns-in-Err : goal.returns-in-Err
 unfolding reason_bytes
 returns-in-Err g c =
-    lacks_memory (g.S.Source.left c.args.script.now) (g.S.Source.faults c.args.script.now, g.S.Source.faults c.args.script.now) (g.K.Sink.faults c.args.out.now, g.K.Sink.faults c.print_reason-in-Err.new.out)
-    (g.D.LogDisk.state c.args.disk) c.print_reason-in-Err.result (g.K.Sink.written c.args.out.now) (g.K.Sink.written c.print_reason-in-Err.new.out)
-    c.requires.idle.no_eyes c.print_reason-in-Err.ensures.failed c.requires.idle c.regions-regions.ensures.sound c.print_reason-in-Err.ensures.status c.print_reason-in-Err.ensures.puts (command_in c.args.words.now)
+    lacks_memory (g.S.Source.left c.args.script.now) (g.S.Source.faults c.args.script.now, g.S.Source.faults c.args.script.now) (g.K.Sink.faults c.args.out.now, g.K.Sink.faults c.print_no_memory.new.out)
+    (g.D.LogDisk.state c.args.disk) c.print_no_memory.result (g.K.Sink.written c.args.out.now) (g.K.Sink.written c.print_no_memory.new.out)
+    c.requires.idle.no_eyes c.print_no_memory.ensures.failed c.requires.idle c.regions-regions.ensures.sound c.print_no_memory.ensures.status c.print_no_memory.ensures.puts (command_in c.args.words.now)

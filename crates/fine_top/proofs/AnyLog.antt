@@ -133,24 +133,20 @@ module _ (options : Options) (source output : ℕ × ℕ) (left : Option (List �
           subst (λ (s : Result (List ScriptTxn) Refusal). IsDamageIn s ⊥ x.history old.region_len before.bytes x.found.parts what) (sym (may bytes left_is)) (x.damage what before x.found.parts fault old_is chained)
 
       was_done : (b : Bool) → list_any is_refused r.outcomes ≡ b → r.fault ≡ None → Says (cond {A = ℕ} b 8 0) (report its r)
-      was_done true is fault = record {
-        known = inr (inr (inr (inr (inr (inr (inl refl))))));
-        damaged = λ e. absurd (omega (arith, e));
-        done = λ e. (x.found.parts, x.history, chained, reports None fault 8 (ap (λ b. cond {A = ℕ} b 8 0) (sym is)));
-        memory = λ e. absurd (omega (arith, e));
-        failed = λ e. absurd (omega (arith, e));
-        refused = λ e. absurd (grind (arith, e));
-        source_rose = λ e. absurd (omega (arith, e));
-      }
-      was_done false is fault = record {
-        known = inl refl;
-        damaged = λ e. absurd (omega (arith, e));
-        done = λ e. (x.found.parts, x.history, chained, reports None fault 0 (ap (λ b. cond {A = ℕ} b 8 0) (sym is)));
-        memory = λ e. absurd (omega (arith, e));
-        failed = λ e. absurd (omega (arith, e));
-        refused = λ e. absurd (grind (arith, e));
-        source_rose = λ e. absurd (omega (arith, e));
-      }
+      was_done b is fault =
+          let one = zero_or_eight b in record {
+            known = elim one as (λ _. OneOf (0 ∷ 1 ∷ 3 ∷ 4 ∷ 6 ∷ 7 ∷ 8 ∷ []) (cond {A = ℕ} b 8 0)) [ inl zero ↦ inl zero | inr eight ↦ inr (inr (inr (inr (inr (inr (inl eight)))))) ];
+            damaged = λ e. absurd (grind (arith, one, e));
+            done = λ e. (x.found.parts, x.history, chained, reports None fault (cond {A = ℕ} b 8 0) (ap (λ b. cond {A = ℕ} b 8 0) (sym is)));
+            memory = λ e. absurd (grind (arith, one, e));
+            failed = λ e. absurd (grind (arith, one, e));
+            refused = λ e. absurd (grind (arith, one, e));
+            source_rose = λ e. absurd (grind (arith, one, e));
+          }
+        where
+          zero_or_eight : (b : Bool) → (cond {A = ℕ} b 8 0 ≡ 0) ⊎ (cond {A = ℕ} b 8 0 ≡ 8)
+          zero_or_eight true = inr refl
+          zero_or_eight false = inl refl
 
       ran_says : (f : Option RunFault) → r.fault ≡ f → Says (run_status r.outcomes f) (report its r)
       ran_says None fault = was_done (list_any is_refused r.outcomes) refl fault

@@ -13,7 +13,7 @@ use Rattle.fine_model.specs.declared.Row.{Row}
 use Rattle.fine_model.specs.declared.RunFault.{RunFault}
 use Rattle.fine_model.specs.declared.RunFault.TheVariants as run_fault
 use Rattle.fine_model.specs.Chain.{Shows}
-use Rattle.fine_model.specs.Commands.{GenStatus, GenTheorem, are_durable, fault_summary, summary}
+use Rattle.fine_model.specs.Commands.{GenStatus, GenTheorem, are_durable, fault_summary, summary, PrintsFault}
 use Rattle.fine_model.specs.Headline.{FailsSound, HasStatus, IsDoneRun, IsFrontOf, IsRunWith, KeepsEvery, KeepsUpTo, OneOf, Return, Start, TellsFaults, causes_of}
 use Rattle.fine_model.specs.History.{Commit, map_at}
 use Rattle.fine_model.specs.Map.{Pair}
@@ -152,6 +152,54 @@ module _ (n : Numbers) (output : ℕ × ℕ) (old new : Disk) (status : ℕ) (wa
         by (inr (inl six)) = inr (inr six)
         by (inr (inr none)) = absurd none
 
+    abbrev IsRun : Ran → List Commit → Type 0
+    IsRun ran history = IsRunWith (causes_of start back) start 64 (IsImageSince (clock_of before) after) (IsImageNow after) back (script_by n) ran history
+
+    abbrev done_text : Ran → List Commit → List ℕ
+    done_text ran history = summary n.start n.count n.lanes (all_outcomes (script_by n) ran.outcomes) (Some (map_at rows history)) (are_durable history ran.durable)
+
+    abbrev fault_text : Ran → List Commit → RunFault → List ℕ
+    fault_text ran history fault = fault_summary n.start n.count n.lanes (all_outcomes (script_by n) ran.outcomes) (are_durable history ran.durable) fault
+
+    -- the output failed behind a first part of the text
+    cut_off : (ran : Ran) (history : List Commit) (written : List ℕ) → IsRun ran history → status ≡ 5
+        → IsFrontOf written (done_text ran history) ⊎ ((fault : RunFault) × FailsSound back fault × (IsFrontOf written (fault_text ran history fault) ⊎ IsFrontOf written (fault_line fault))) → Theorem written
+    cut_off ran history written run five front = record {
+      ran = ran;
+      history = history;
+      outcomes = all_outcomes (script_by n) ran.outcomes;
+      are_all = refl;
+      run = run;
+      done = λ one. absurd (grind (arith, five, one));
+      status_is = inl five;
+      printed = λ one. absurd (grind (arith, five, one));
+      memory = λ one. absurd (omega (arith, five, one));
+      failed = λ six. absurd (omega (arith, five, six));
+      cut_short = λ h. front;
+      others = inr (inr (inl five));
+      faults = faults_by (λ four. omega (arith, five, four));
+    }
+
+    -- memory ran out, or the disk failed
+    faulted : (ran : Ran) (history : List Commit) (written : List ℕ) → IsRun ran history → (status ≡ 1) ⊎ (status ≡ 6)
+        → ((status ≡ 0) ⊎ (status ≡ 6) ⊎ (status ≡ 8) → IsDoneRun start back status (script_by n) (all_outcomes (script_by n) ran.outcomes) ran.durable history) → (status ≡ 5) ⊎ GenStatus status (all_outcomes (script_by n) ran.outcomes) ran.fault
+        → (status ≡ 1 → PrintsFault (fault_text ran history) back.still history written run_fault.Memory) → (status ≡ 6 → PrintsFault (fault_text ran history) (back.own_rose × back.still) history written run_fault.Disk) → Theorem written
+    faulted ran history written run ends done status_is memory failed = record {
+      ran = ran;
+      history = history;
+      outcomes = all_outcomes (script_by n) ran.outcomes;
+      are_all = refl;
+      run = run;
+      done = done;
+      status_is = status_is;
+      printed = λ one. absurd (grind (arith, ends, one));
+      memory = memory;
+      failed = failed;
+      cut_short = λ five. absurd (grind (arith, ends, five));
+      others = elim ends as (λ _. OneOf (0 ∷ 1 ∷ 5 ∷ 6 ∷ 8 ∷ []) status) [ inl one ↦ inr (inl one) | inr six ↦ inr (inr (inr (inl six))) ];
+      faults = faults_by (λ four. grind (arith, ends, four));
+    }
+
     -- ---- a run that was counted
 
     module _ (ran : Ran) (all_durable : Bool) (found : Result (List Pair) RunFault) (c : IsCounted n old new ran all_durable found) where
@@ -199,21 +247,7 @@ module _ (n : Numbers) (output : ℕ × ℕ) (old new : Disk) (status : ℕ) (wa
             let w = wrote_front (text_for ran all_durable (Ok pairs)) (status ≡ 5) was now first puts was_is in (
               w.0,
               w.1,
-              record {
-                ran = ran;
-                history = c.history;
-                outcomes = all_outcomes (script_by n) ran.outcomes;
-                are_all = refl;
-                run = run ran all_durable (Ok pairs) c;
-                done = λ one. absurd (grind (arith, five, one));
-                status_is = inl five;
-                printed = λ one. absurd (grind (arith, five, one));
-                memory = λ one. absurd (omega (arith, five, one));
-                failed = λ six. absurd (omega (arith, five, six));
-                cut_short = λ h. inl (subst (IsFrontOf w.0) text_is w.2);
-                others = inr (inr (inl five));
-                faults = faults_by (λ four. omega (arith, five, four));
-              },
+              cut_off ran c.history w.0 (run ran all_durable (Ok pairs) c) five (inl (subst (IsFrontOf w.0) text_is w.2)),
             )
         by (inr is) =
             let has : HasStatus status (all_outcomes (script_by n) ran.outcomes) None = status_all (script_by n) ran.outcomes None status is in
@@ -253,48 +287,23 @@ module _ (n : Numbers) (output : ℕ × ℕ) (old new : Disk) (status : ℕ) (wa
             let w = wrote_front (text_for ran all_durable (Err fault)) (status ≡ 5) was now first puts was_is in (
               w.0,
               w.1,
-              record {
-                ran = ran;
-                history = c.history;
-                outcomes = all_outcomes (script_by n) ran.outcomes;
-                are_all = refl;
-                run = run ran all_durable (Err fault) c;
-                done = λ one. absurd (grind (arith, five, one));
-                status_is = inl five;
-                printed = λ one. absurd (grind (arith, five, one));
-                memory = λ one. absurd (omega (arith, five, one));
-                failed = λ six. absurd (omega (arith, five, six));
-                cut_short = λ h. inr (fault, fails, inl (subst (IsFrontOf w.0) text_is w.2));
-                others = inr (inr (inl five));
-                faults = faults_by (λ four. omega (arith, five, four));
-              },
+              cut_off ran c.history w.0 (run ran all_durable (Err fault) c) five (inr (fault, fails, inl (subst (IsFrontOf w.0) text_is w.2))),
             )
         by (inr is) =
             let w = which is in
             let ends = w.2 in (
               text_for ran all_durable (Err fault),
               wrote_all (text_for ran all_durable (Err fault)) (status ≡ 5) was now first puts (λ five. grind (arith, five, ends)) was_is,
-              record {
-                ran = ran;
-                history = c.history;
-                outcomes = all_outcomes (script_by n) ran.outcomes;
-                are_all = refl;
-                run = run ran all_durable (Err fault) c;
-                done = λ one. elim why as (λ _. IsDoneRun start back status (script_by n) (all_outcomes (script_by n) ran.outcomes) ran.durable c.history) [
-                  | inl none ↦ done_unread ran all_durable (Err fault) c none (λ zero. grind (arith, ends, zero)) (λ eight. grind (arith, ends, eight))
-                  | inr some ↦ done_by ran all_durable (Err fault) c (subst (HasStatus status (all_outcomes (script_by n) ran.outcomes)) (sym some) (has is)) one
-                ];
-                status_is = inr (elim why as (λ _. GenStatus status (all_outcomes (script_by n) ran.outcomes) ran.fault) [
-                  | inl none ↦ subst (GenStatus status (all_outcomes (script_by n) ran.outcomes)) (sym none) (gen is)
-                  | inr some ↦ subst (GenStatus status (all_outcomes (script_by n) ran.outcomes)) (sym some) (has is)
-                ]);
-                printed = λ one. absurd (grind (arith, ends, one));
-                memory = λ one. inl (text_is ∙ ap (Faulty ran all_durable (Err fault) c) (w.0 one));
-                failed = λ six. inl (text_is ∙ ap (Faulty ran all_durable (Err fault) c) (w.1 six));
-                cut_short = λ five. absurd (grind (arith, ends, five));
-                others = elim ends as (λ _. OneOf (0 ∷ 1 ∷ 5 ∷ 6 ∷ 8 ∷ []) status) [ inl one ↦ inr (inl one) | inr six ↦ inr (inr (inr (inl six))) ];
-                faults = faults_by (λ four. grind (arith, ends, four));
-              },
+              faulted ran c.history (text_for ran all_durable (Err fault)) (run ran all_durable (Err fault) c) ends
+                  (λ one. elim why as (λ _. IsDoneRun start back status (script_by n) (all_outcomes (script_by n) ran.outcomes) ran.durable c.history) [
+                    | inl none ↦ done_unread ran all_durable (Err fault) c none (λ zero. grind (arith, ends, zero)) (λ eight. grind (arith, ends, eight))
+                    | inr some ↦ done_by ran all_durable (Err fault) c (subst (HasStatus status (all_outcomes (script_by n) ran.outcomes)) (sym some) (has is)) one
+                  ])
+                  (inr (elim why as (λ _. GenStatus status (all_outcomes (script_by n) ran.outcomes) ran.fault) [
+                    | inl none ↦ subst (GenStatus status (all_outcomes (script_by n) ran.outcomes)) (sym none) (gen is)
+                    | inr some ↦ subst (GenStatus status (all_outcomes (script_by n) ran.outcomes)) (sym some) (has is)
+                  ]))
+                  (λ one. inl (text_is ∙ ap (Faulty ran all_durable (Err fault) c) (w.0 one))) (λ six. inl (text_is ∙ ap (Faulty ran all_durable (Err fault) c) (w.1 six))),
             )
 
     counted_any : (ran : Ran) (all_durable : Bool) (found : Result (List Pair) RunFault) (c : IsCounted n old new ran all_durable found)
@@ -353,42 +362,15 @@ module _ (n : Numbers) (output : ℕ × ℕ) (old new : Disk) (status : ℕ) (wa
             let w = wrote_front (fault_line fault) (status ≡ 5) was now first puts was_is in (
               w.0,
               w.1,
-              record {
-                ran = nothing fault;
-                history = [];
-                outcomes = all_outcomes (script_by n) [];
-                are_all = refl;
-                run = run_none;
-                done = λ one. absurd (grind (arith, five, one));
-                status_is = inl five;
-                printed = λ one. absurd (grind (arith, five, one));
-                memory = λ one. absurd (omega (arith, five, one));
-                failed = λ six. absurd (omega (arith, five, six));
-                cut_short = λ h. inr (fault, fails, inr w.2);
-                others = inr (inr (inl five));
-                faults = faults_by (λ four. omega (arith, five, four));
-              },
+              cut_off (nothing fault) [] w.0 run_none five (inr (fault, fails, inr w.2)),
             )
         by (inr is) =
             let w = which is in
             let ends = w.2 in (
               fault_line fault,
               wrote_all (fault_line fault) (status ≡ 5) was now first puts (λ five. grind (arith, five, ends)) was_is,
-              record {
-                ran = nothing fault;
-                history = [];
-                outcomes = all_outcomes (script_by n) [];
-                are_all = refl;
-                run = run_none;
-                done = λ one. record { all_run = λ ok. absurd (grind (arith, ends, ok)); all_durable = λ not. refl; one_each = λ six not. absurd (not (w.1 six).1) };
-                status_is = inr (has is);
-                printed = λ one. absurd (grind (arith, ends, one));
-                memory = λ one. inr (ap fault_line (w.0 one), still, refl);
-                failed = λ six. inr (ap fault_line (w.1 six).0, ((w.1 six).1, still), refl);
-                cut_short = λ five. absurd (grind (arith, ends, five));
-                others = elim ends as (λ _. OneOf (0 ∷ 1 ∷ 5 ∷ 6 ∷ 8 ∷ []) status) [ inl one ↦ inr (inl one) | inr six ↦ inr (inr (inr (inl six))) ];
-                faults = faults_by (λ four. grind (arith, ends, four));
-              },
+              faulted (nothing fault) [] (fault_line fault) run_none ends (λ one. record { all_run = λ ok. absurd (grind (arith, ends, ok)); all_durable = λ not. refl; one_each = λ six not. absurd (not (w.1 six).1) }) (inr (has is))
+                  (λ one. inr (ap fault_line (w.0 one), still, refl)) (λ six. inr (ap fault_line (w.1 six).0, ((w.1 six).1, still), refl)),
             )
 
     early_end : (fault : RunFault) → FindsChain old new (Err fault) → Puts (fault_line fault) (status ≡ 5) was now → (status ≡ 5) ⊎ (status ≡ fault_status fault) → Result_

@@ -2,6 +2,7 @@
 use Rattle.std.proofs.Common.{arith, ◌≡◌, ◌≢◌, ◌⊎◌, ⊎_elim, ℕ, zero, suc, ◌+◌, ◌<◌, List, [], ◌∷◌, ◌++◌, length, take, drop, get_or, slice_get, slice_set, replicate, Some, Option, inl, inr, refl, sym, ap, ◌∙◌, subst, append_assoc}
 use Rattle.std.specs.List.{AllZip}
 use Rattle.std.proofs.lemmas.List.{take-append-drop, take_more}
+use Rattle.std.proofs.lemmas.Option.{slice_get-get_or}
 
 pub some_same : {A : Type 0} (a b : A) → ◌≡◌ {A = Option A} (Some a) (Some b) → a ≡ b
 some_same a b e = cc
@@ -48,6 +49,10 @@ get_else (x ∷ xs) zero zero b ne = absurd (ne refl)
 get_else (x ∷ xs) zero (suc j) b ne = refl
 get_else (x ∷ xs) (suc i) zero b ne = refl
 get_else (x ∷ xs) (suc i) (suc j) b ne = get_else xs i j b (λ e. ne (ap suc e))
+
+-- what an index within a list gives stands there
+pub there_at : {A : Type 0} (xs : List A) (i : ℕ) (x d : A) → i < length xs → x ≡ get_or xs i d → slice_get xs i ≡ Some x
+there_at xs i x d within is = slice_get-get_or xs i d within ∙ ap Some (sym is)
 
 -- ---- an item on the way through a list
 

@@ -1,9 +1,8 @@
-use Rattle.std.proofs.Common.{◌≡◌, ◌∙◌, ◌<◌, List, ap, arith, length, refl, slice_get, slice_set, Some, subst, sym}
-use Rattle.std.proofs.lemmas.Option.{slice_get-get_or}
-use Rattle.fine_model.specs.declared.FetchFault.{FetchFault}
+use Rattle.std.proofs.Common.{◌∙◌, ◌<◌, List, arith, length, refl, slice_set, subst, sym}
 use Rattle.fine_model.specs.declared.Row.{Row}
-use Rattle.open_txn.specs.Buckets.{AreBuckets, BucketsValue}
+use Rattle.open_txn.specs.Buckets.{AreBuckets}
 use Rattle.open_txn.proofs.Advanced.{advances_in, place_of, refuses_in, still_are}
+use Rattle.open_txn.proofs.Places.{there_at}
 use Rattle.open_txn.proofs.Traced.{does_in, stops_in}
 use Rattle.open_txn.proofs.answering.answer_in.Goals as goal
 
@@ -11,7 +10,7 @@ pub answer-requires-clause-bucket : goal.answer-requires-clause-bucket
 answer-requires-clause-bucket g c =
     let at = c.from-at.result in
     let low : at < length c.buckets.inside.buckets.items = omega (arith, c.from-at.ensures, c.bucket_for.ensures.range, c.buckets.invariant.many) in
-    c.buckets.invariant.numbered at c.index_mut-bucket.result.now (slice_get-get_or c.buckets.inside.buckets.items at _ low ∙ ap Some (sym c.index_mut-bucket.ensures.value)) ∙ c.from-at.ensures ∙ c.bucket_for.ensures.value
+    c.buckets.invariant.numbered at c.index_mut-bucket.result.now (there_at c.buckets.inside.buckets.items at c.index_mut-bucket.result.now _ low c.index_mut-bucket.ensures.value) ∙ c.from-at.ensures ∙ c.bucket_for.ensures.value
 
 pub invariant_of-buckets : goal.invariant_of-buckets
 invariant_of-buckets g c =
@@ -19,20 +18,17 @@ invariant_of-buckets g c =
     let low : at < length c.buckets.inside.buckets.items = omega (arith, c.from-at.ensures, c.bucket_for.ensures.range, c.buckets.invariant.many) in
     subst (λ flags. AreBuckets (record { buckets = slice_set c.buckets.inside.buckets.items at c.answer.new.bucket; touched = flags })) (sym c.add.ensures)
     (still_are at (record { buckets = c.buckets.inside.buckets.items; touched = c.buckets.inside.touched }) c.index_mut-bucket.result.now c.answer.new.bucket c.buckets.invariant
-    (slice_get-get_or c.buckets.inside.buckets.items at _ low ∙ ap Some (sym c.index_mut-bucket.ensures.value)) c.answer.ensures.number)
+    (there_at c.buckets.inside.buckets.items at c.index_mut-bucket.result.now _ low c.index_mut-bucket.ensures.value) c.answer.ensures.number)
 
 pub returns : goal.returns
 returns g c =
     let at = c.from-at.result in
     let low : at < length c.buckets.inside.buckets.items = omega (arith, c.from-at.ensures, c.bucket_for.ensures.range, c.buckets.invariant.many) in
     let b = c.index_mut-bucket.result.now in
-    let there : slice_get c.buckets.inside.buckets.items at ≡ Some b = slice_get-get_or c.buckets.inside.buckets.items at _ low ∙ ap Some (sym c.index_mut-bucket.ensures.value) in
+    let there = there_at c.buckets.inside.buckets.items at c.index_mut-bucket.result.now _ low c.index_mut-bucket.ensures.value in
     let of_key = c.from-at.ensures ∙ c.bucket_for.ensures.value in
     let low' : at < 256 = omega (arith, c.from-at.ensures, c.bucket_for.ensures.range) in
-    let v : BucketsValue = record { buckets = c.buckets.inside.buckets.items; touched = c.buckets.inside.touched } in
-    let v' : BucketsValue = record { buckets = slice_set v.buckets at c.answer.new.bucket; touched = c.add.new.self } in
     let later = λ (rows : List Row). g.met.S.NodeSource.later_tells _ _ rows c.answer.ensures.later in
-    let F : FetchFault → Type 0 = λ failed. g.S.NodeSource.fails c.args.source.now failed c.answer.new.source in
     record {
       later = c.answer.ensures.later;
       clean = c.answer.ensures.clean;
@@ -40,12 +36,12 @@ returns g c =
       place = place_of c.args.draft.now c.answer.new.self c.args.call.now c.answer.result c.answer.ensures.kept c.answer.ensures.left;
       advances = rw (← c.buckets.view_is)
           (advances_in _ _ _ at _ _ b c.answer.new.bucket c.args.draft.now c.answer.new.self c.args.call.now c.buckets.invariant there refl c.add.ensures of_key
-          later c.answer.result c.answer.ensures.used c.answer.ensures.sound _ F c.requires.open c.answer.ensures.kept c.answer.ensures.change c.answer.ensures.fits c.answer.ensures.serves);
+          later c.answer.result c.answer.ensures.used c.answer.ensures.sound _ _ c.requires.open c.answer.ensures.kept c.answer.ensures.change c.answer.ensures.fits c.answer.ensures.serves);
       refuses = rw (← c.buckets.view_is)
           (refuses_in _ _ _ at _ _ b c.answer.new.bucket c.args.draft.now c.answer.new.self c.args.call.now c.buckets.invariant there refl c.add.ensures of_key
           later c.answer.result c.answer.ensures.used c.answer.ensures.sound);
       does = rw (← c.buckets.view_is)
-          (does_in _ _ _ at v v' b c.answer.new.bucket c.args.draft.now c.answer.new.self c.args.call.now c.buckets.invariant there refl of_key low' c.requires.no_scan F c.answer.result c.answer.ensures.change);
+          (does_in _ _ _ at _ _ b c.answer.new.bucket c.args.draft.now c.answer.new.self c.args.call.now c.buckets.invariant there refl of_key low' c.requires.no_scan _ c.answer.result c.answer.ensures.change);
       stops = rw (← c.buckets.view_is)
-          (stops_in _ _ _ at v v' b c.answer.new.bucket c.args.draft.now c.answer.new.self c.args.call.now c.buckets.invariant there refl of_key low' c.requires.no_scan F c.answer.result c.answer.ensures.change);
+          (stops_in _ _ _ at _ _ b c.answer.new.bucket c.args.draft.now c.answer.new.self c.args.call.now c.buckets.invariant there refl of_key low' c.requires.no_scan _ c.answer.result c.answer.ensures.change);
     }

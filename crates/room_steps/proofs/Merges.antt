@@ -117,7 +117,7 @@ module _ (old mid new : ShelfValue) (r : Rested old mid) (none : new.view ≡ No
     );
   }
 
-  pub merge_refused : (from : ℕ) (fault : MergeFault) → MergesNear from mid.room new.room (Err fault) → (new.room ≡ mid.room → new ≡ mid) → MergesOne old new (Err (of_merge fault))
+  merge_refused : (from : ℕ) (fault : MergeFault) → MergesNear from mid.room new.room (Err fault) → (new.room ≡ mid.room → new ≡ mid) → MergesOne old new (Err (of_merge fault))
   merge_refused from (merge_fault.Room room_fault.Disk) m same = record {
     leaves = merge_leaves from _ m;
     unsealed = merge_unsealed m.rest;
@@ -153,6 +153,11 @@ module _ (old mid new : ShelfValue) (r : Rested old mid) (none : new.view ≡ No
     unsealed = merge_unsealed m.rest;
     merge = refused_well fetch_fault.NoMemory m.near.0 (λ e. absurd (let x = e in cc));
   }
+
+  -- so a merge that ended with a fault, by what is told of it
+  pub merge_failed : (from : ℕ) (fault : MergeFault) (told : RunFault) (result : Result Bool MergeFault) → told ≡ of_merge fault → result ≡ Err fault → MergesNear from mid.room new.room result → (new.room ≡ mid.room → new ≡ mid)
+      → MergesOne old new (Err told)
+  merge_failed from fault told result is ended m same = subst (λ (f : RunFault). MergesOne old new (Err f)) (sym is) (merge_refused from fault (subst (MergesNear from mid.room new.room) ended m) same)
 
 -- ---- the policy
 

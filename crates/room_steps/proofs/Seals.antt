@@ -16,6 +16,7 @@ use Rattle.epoch_room.proofs.Counting.{sealed_most}
 use Rattle.room_shelf.specs.Shelves.{IsShelf, ShelfValue}
 use Rattle.run_laws.proofs.Going.{seals_law}
 use Rattle.room_steps.specs.Made.{MadeOn}
+use Rattle.fine_model.specs.declared.RunFault.{RunFault}
 use Rattle.room_steps.specs.Merging.{of_room}
 use Rattle.room_steps.proofs.MadeOn.{made_same}
 use Rattle.room_steps.proofs.SealedMade.{kept_made, seal_made}
@@ -102,7 +103,7 @@ module _ (old mid new : ShelfValue) (r : Rested old mid) (some : 1 ≤ old.room.
   stays : Unsealed mid.room.room new.room.room → Unsealed old.room.room new.room.room
   stays u = unsealed_on old.room.room mid.room.room new.room.room r.unsealed u
 
-  pub sealed_err : (fault : RoomFault) → RoomSealsOr mid.room new.room (Err fault) → (new.room ≡ mid.room → new ≡ mid) → SealsWaiting old new (Err (of_room fault))
+  sealed_err : (fault : RoomFault) → RoomSealsOr mid.room new.room (Err fault) → (new.room ≡ mid.room → new ≡ mid) → SealsWaiting old new (Err (of_room fault))
   sealed_err room_fault.Disk s same = record {
     leaves = leaves_on old mid new r.leaves (seal_leaves (Err room_fault.Disk) s tt);
     rested = none;
@@ -129,3 +130,7 @@ module _ (old mid new : ShelfValue) (r : Rested old mid) (some : 1 ≤ old.room.
       stays (record { sealed = ap (λ (x : RoomState). x.sealed) s.1.room; waiting = ap (λ (x : RoomState). x.waiting) s.1.room; used = ap (λ (x : RoomState). x.used) s.1.room }),
     );
   }
+
+  -- so a seal that ended with a fault, by what is told of it
+  pub seal_failed : (fault : RoomFault) (told : RunFault) (result : Result ℕ RoomFault) → told ≡ of_room fault → result ≡ Err fault → RoomSealsOr mid.room new.room result → (new.room ≡ mid.room → new ≡ mid) → SealsWaiting old new (Err told)
+  seal_failed fault told result is ended s same = subst (λ (f : RunFault). SealsWaiting old new (Err f)) (sym is) (sealed_err fault (subst (RoomSealsOr mid.room new.room) ended s) same)

@@ -1,13 +1,11 @@
-use Rattle.std.proofs.Common.{ℕ, Err, Result, ap, subst, sym}
+use Rattle.std.proofs.Common.{ℕ, Result, ap, subst}
 use Rattle.std.specs.Prelude.{OnOk}
 use Rattle.epoch_room.specs.Meaning.{HoldsEpoch}
-use Rattle.fine_model.specs.declared.RunFault.{RunFault}
 use Rattle.epoch_room.specs.Steps.{SealsOr}
 use Rattle.epoch_room.specs.declared.answers.RoomFault.{RoomFault}
 use Rattle.room_shelf.specs.Shelves.{shelf}
-use Rattle.room_steps.specs.Steps.{SealsWaiting}
 use Rattle.room_steps.proofs.Facts.{rested}
-use Rattle.room_steps.proofs.Seals.{sealed_err, sealed_ok}
+use Rattle.room_steps.proofs.Seals.{seal_failed, sealed_ok}
 use Rattle.room_steps.proofs.sealing.seal_waiting.Goals as goal
 
 pub returns-in-Ok : goal.returns-in-Ok
@@ -23,9 +21,6 @@ pub returns-in-Err : goal.returns-in-Err
 returns-in-Err g c =
     let old = shelf c.args.room.now c.args.out.now in
     let mid = shelf c.take_view.new.room c.take_view.new.out in
-    let new = shelf c.seal-sealed.new.self c.take_view.new.out in
-    subst (λ (f : RunFault). SealsWaiting old new (Err f)) (sym c.of_room.ensures)
-    (sealed_err old mid new (rested old mid c.take_view.ensures c.requires.shelf c.requires.no_job c.counts-rested.ensures.whole) c.requires.waiting c.take_view.ensures.none c.counts-sealed.ensures.whole
-    c.seal-sealed.ensures.keeps c.seal-sealed.ensures.job c.seal-sealed.ensures.read c.in-Err.fault
-    (subst (λ (r : Result ℕ RoomFault). SealsOr c.take_view.new.room c.seal-sealed.new.self r) c.in-Err.is c.seal-sealed.ensures.room)
-    (λ e. ap (λ v. shelf v c.take_view.new.out) e))
+    seal_failed old mid (shelf c.seal-sealed.new.self c.take_view.new.out) (rested old mid c.take_view.ensures c.requires.shelf c.requires.no_job c.counts-rested.ensures.whole) c.requires.waiting c.take_view.ensures.none c.counts-sealed.ensures.whole
+    c.seal-sealed.ensures.keeps c.seal-sealed.ensures.job c.seal-sealed.ensures.read c.in-Err.fault _ _
+    c.of_room.ensures c.in-Err.is c.seal-sealed.ensures.room (λ e. ap (λ v. shelf v c.take_view.new.out) e)

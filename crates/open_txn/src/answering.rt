@@ -46,14 +46,15 @@ fn answer_in<S: NodeSource>(
     source: &mut S,
     buckets: &mut Buckets,
     draft: &mut Draft,
+    at: usize,
     call: &Call,
 ) -> Result<(), TreeFault>
     requires open { draft.old.failed ≡ false }
+    requires at { (at ≡ bucket_of (key_of call.now)) × (at < 256) }
     requires call { FitsCall call.now }
     requires no_scan { is_scan call.now ≡ false }
     ensures { AnswersOne (S.later source.old source.new) (S.clean source.old source.new) (λ failed. S.fails source.old failed source.new) (S.tells source.old) (S.tells source.new) (S.finds source.old) (S.upper source.old) call.now buckets.old buckets.new draft.old draft.new result }
 {
-    let at = usize::from(bucket_for(call));
     buckets.touched.add(at);
     let bucket = &mut buckets.buckets[at];
     draft.answer(source, bucket, call)
@@ -75,7 +76,7 @@ fn answer_one<S: NodeSource>(
             let (low, high) = (low.as_slice(), high.as_slice());
             scan_all(source, buckets, draft, call, low, high, *limit)
         }
-        _ => answer_in(source, buckets, draft, call),
+        _ => answer_in(source, buckets, draft, usize::from(bucket_for(call)), call),
     }
 }
 

@@ -1,9 +1,9 @@
 //! What the program prints.
 
-ghost use Rattle.std.specs.Prelude.{◌≡◌, ◌+◌, ◌-◌, flat_map, replicate, zip, IsErr};
+ghost use Rattle.std.specs.Prelude.{◌≡◌, ◌+◌, ◌-◌, [], ◌∷◌, codes, decimal, flat_map, replicate, zip, IsErr};
 ghost use Rattle.fine_model.specs.declared.Outcome.TheVariants as outcome;
 ghost use Rattle.fine_model.specs.Faults.{CountsFault};
-ghost use Rattle.fine_model.specs.Report.{pair_line, reply_lines, txn_lines, why_word, damage_line, fault_line, report, reason_bytes};
+ghost use Rattle.fine_model.specs.Report.{line, pair_line, reply_lines, txn_lines, why_word, damage_line, fault_line, report, reason_bytes};
 ghost use Rattle.script_text.specs.Pages.{desk, Sends};
 ghost use Rattle.script_text.specs.Streams.{Puts};
 ghost use Rattle.script_text.specs.Reports.{txns_from};
@@ -200,49 +200,32 @@ fn say_not_run<K: Sink>(page: &mut Page, sink: &mut K, done: usize, all: usize)
     }
 }
 
+/// Says the line of a region that is damaged, with what more is known of it.
+fn say_region<K: Sink>(page: &mut Page, sink: &mut K, region: u32, what: &[u8], number: u64)
+    ensures { Sends (line (codes "damaged" ∷ codes "region" ∷ decimal region ∷ what.now ∷ decimal number ∷ [])) (desk (K.written sink.old) (K.faults sink.old) page.old) (desk (K.written sink.new) (K.faults sink.new) page.new) }
+{
+    say_line(
+        page,
+        sink,
+        &[
+            Text(b"damaged"),
+            Text(b"region"),
+            Number(u64::from(region)),
+            Text(what),
+            Number(number),
+        ],
+    );
+}
+
 /// Says the line of what is damaged.
 fn say_damage<K: Sink>(page: &mut Page, sink: &mut K, what: &Damage)
     ensures { Sends (damage_line what.now) (desk (K.written sink.old) (K.faults sink.old) page.old) (desk (K.written sink.new) (K.faults sink.new) page.new) }
 {
     match *what {
-        Damage::Region { region, at } => {
-            say_line(
-                page,
-                sink,
-                &[
-                    Text(b"damaged"),
-                    Text(b"region"),
-                    Number(u64::from(region)),
-                    Text(b"at"),
-                    Number(u64::from(at)),
-                ],
-            );
-        }
-        Damage::Gap { after, region } => {
-            say_line(
-                page,
-                sink,
-                &[
-                    Text(b"damaged"),
-                    Text(b"region"),
-                    Number(u64::from(region)),
-                    Text(b"after"),
-                    Number(after),
-                ],
-            );
-        }
+        Damage::Region { region, at } => say_region(page, sink, region, b"at", u64::from(at)),
+        Damage::Gap { after, region } => say_region(page, sink, region, b"after", after),
         Damage::Overlap { region, other } => {
-            say_line(
-                page,
-                sink,
-                &[
-                    Text(b"damaged"),
-                    Text(b"region"),
-                    Number(u64::from(region)),
-                    Text(b"over"),
-                    Number(u64::from(other)),
-                ],
-            );
+            say_region(page, sink, region, b"over", u64::from(other));
         }
         Damage::Node { node } => {
             say_line(

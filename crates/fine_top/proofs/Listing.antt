@@ -16,7 +16,7 @@ use Rattle.log_disk.proofs.Times.{continues_told}
 use Rattle.log_commands.specs.Ends.{Ends, MergesAnyWell, MergesWell, RangesWell, status_of}
 use Rattle.log_commands.specs.Found.{FindsChain}
 use Rattle.log_commands.specs.Merged.{KeepsLog, MergesLog, ShowsNone}
-use Rattle.fine_top.specs.Commands.{Does, IsReading, Seen, seen}
+use Rattle.fine_top.specs.Commands.{Does, IsReading, Leaves, Seen, seen, statuses_of}
 use Rattle.fine_top.specs.Opened.{IsOpenedLog, IsUnsoundLog}
 use Rattle.fine_top.specs.Running.{Ends as EndsRun, IsRefused, LeavesBeside, OfTold, RunsWell, RunsAny}
 use Rattle.fine_top.proofs.Chainless.{unsound}
@@ -65,6 +65,29 @@ opened_by old status found known (inr is) opens (inl zero) = opens (sym is ∙ z
 opened_by old status found known (inr is) opens (inr (inl eight)) = absurd (grind (arith, known, eight))
 opened_by old status found known (inr is) opens (inr (inr none)) = absurd none
 
+-- ---- what is left
+
+-- what a command leaves that neither reads a script nor runs one
+leaves_by : (command : Command) (left : Option (List ℕ)) (source output : ℕ × ℕ) (old new : Disk) (status found : ℕ) (was now : Option (List ℕ)) → OneOf (statuses_of (Some command)) status → OneOf (0 ∷ 1 ∷ 5 ∷ 6 ∷ 7 ∷ []) status → (status ≡ 5 → HasRisen output.0 output.1)
+    → (status ≡ 6 → HasRisen old.faults new.faults) → (old.faults < new.faults → OneOf (1 ∷ 5 ∷ 6 ∷ []) status) → (status ≡ 7 → IsUnsoundLog old) → (status ≡ 5) ⊎ (status ≡ found) → (found ≡ 0 → IsOpenedLog old)
+    → LeavesBeside old new → ContinuesOn old new → (IsReading command → new.told ≡ old.told) → Leaves (Some command) (seen left source output old new status was now)
+leaves_by command left source output old new status found was now status_is known output_failed disk_failed disk_told damaged is_found opens beside time still = record {
+  status_is = status_is;
+  source_failed = λ four. absurd (grind (arith, known, four));
+  output_failed = output_failed;
+  disk_failed = disk_failed;
+  disk_told = disk_told;
+  damaged = damaged;
+  opened = opened_by old status found known is_found opens;
+  untouched = λ early. absurd (grind (arith, known, early));
+  beside = beside;
+  time = time;
+  still = λ c is reads. still (of_command c is reads);
+}
+  where
+    of_command : (c : Command) → ◌≡◌ {A = Option Command} (Some command) (Some c) → IsReading c → IsReading command
+    of_command c is reads = let same : command ≡ c = cc in subst IsReading (sym same) reads
+
 -- ---- both
 
 module _ (left : Option (List ℕ)) (source output : ℕ × ℕ) (old new : Disk) (status : ℕ) (was now : Option (List ℕ)) (output_failed : status ≡ 5 → HasRisen output.0 output.1) (known : OneOf (0 ∷ 1 ∷ 5 ∷ 6 ∷ 7 ∷ []) status)
@@ -74,19 +97,8 @@ module _ (left : Option (List ℕ)) (source output : ℕ × ℕ) (old new : Disk
 
   pub ranges_does : old.eyes ≡ [] → (ends : Ends (FindsChain old new) status was now) → RangesWell output old new status was now → (status ≡ 6 → OnlyFails old new) → new.told ≡ old.told → Does (Some ranges) (seen left source output old new status was now)
   ranges_does none ends well failed still = record {
-    leaves = record {
-      status_is = known;
-      source_failed = λ four. absurd (grind (arith, known, four));
-      output_failed = output_failed;
-      disk_failed = λ six. (failed six).counts.faults tt;
-      disk_told = told;
-      damaged = λ seven. by_seven ends.status_is seven;
-      opened = opened_by old status (status_of ends.found) known ends.status_is (finds_opened old new ends.found ends.is_found);
-      untouched = λ early. absurd (grind (arith, known, early));
-      beside = finds_beside old new none ends.found ends.is_found;
-      time = continues_told old new still;
-      still = λ c is reads. still;
-    };
+    leaves = leaves_by ranges left source output old new status (status_of ends.found) was now known known output_failed (λ six. (failed six).counts.faults tt) told (by_seven ends.status_is) ends.status_is
+        (finds_opened old new ends.found ends.is_found) (finds_beside old new none ends.found ends.is_found) (continues_told old new still) (λ reads. still);
     own = record { ends = ends; ranges = well };
   }
     where
@@ -97,24 +109,10 @@ module _ (left : Option (List ℕ)) (source output : ℕ × ℕ) (old new : Disk
   pub merge_does : (ends : Ends (MergesLog old new) status was now) → MergesWell output old new status was now → MergesAnyWell output old new status was now → (status ≡ 6 → HasRisen old.faults new.faults) → (status ≡ 7 → ShowsNone old) → KeepsLog old new
       → Does (Some merge) (seen left source output old new status was now)
   merge_does ends well any failed shows_none keeps = record {
-    leaves = record {
-      status_is = known;
-      source_failed = λ four. absurd (grind (arith, known, four));
-      output_failed = output_failed;
-      disk_failed = failed;
-      disk_told = told;
-      damaged = λ seven before is e rows shows sound. shows_none seven before e rows is shows;
-      opened = opened_by old status (status_of ends.found) known ends.status_is (merged_opened old new ends.found ends.is_found);
-      untouched = λ early. absurd (grind (arith, known, early));
-      beside = record { regions = keeps.regions; region_len = keeps.region_len; no_eyes = keeps.no_eyes };
-      time = keeps.time;
-      still = λ c is reads. absurd (not_reading c is reads);
-    };
+    leaves = leaves_by merge left source output old new status (status_of ends.found) was now known known output_failed failed told (λ seven before is e rows shows sound. shows_none seven before e rows is shows) ends.status_is
+        (merged_opened old new ends.found ends.is_found) (record { regions = keeps.regions; region_len = keeps.region_len; no_eyes = keeps.no_eyes }) keeps.time (λ reads. absurd reads);
     own = record { ends = ends; merge = well; any = any };
   }
-    where
-      not_reading : (c : Command) → ◌≡◌ {A = Option Command} (Some merge) (Some c) → IsReading c → ⊥
-      not_reading c is reads = let same : merge ≡ c = cc in subst IsReading (sym same) reads
 
 -- ---- reading all pairs
 
@@ -122,19 +120,8 @@ module _ (left : Option (List ℕ)) (source output : ℕ × ℕ) (old new : Disk
   pub dump_does : (ends : EndsDump old new status was now) → DumpsWell output old new status was now → DumpsAny output old new status was now → (status ≡ 6 → HasRisen old.faults new.faults) → (old.faults < new.faults → OneOf (1 ∷ 5 ∷ 6 ∷ []) status)
       → (status ≡ 7 → DumpUnsound old) → new.told ≡ old.told → DumpBeside old new → Does (Some dump) (seen left source output old new status was now)
   dump_does ends well any failed told unsound still beside = record {
-    leaves = record {
-      status_is = known;
-      source_failed = λ four. absurd (grind (arith, known, four));
-      output_failed = output_failed;
-      disk_failed = failed;
-      disk_told = told;
-      damaged = unsound;
-      opened = opened_by old status (status_of ends.found) known ends.prints.status_is (dump_opened old new ends.found ends.is_found);
-      untouched = λ early. absurd (grind (arith, known, early));
-      beside = record { regions = beside.regions; region_len = beside.region_len; no_eyes = beside.no_eyes };
-      time = continues_told old new still;
-      still = λ c is reads. still;
-    };
+    leaves = leaves_by dump left source output old new status (status_of ends.found) was now known known output_failed failed told unsound ends.prints.status_is (dump_opened old new ends.found ends.is_found)
+        (record { regions = beside.regions; region_len = beside.region_len; no_eyes = beside.no_eyes }) (continues_told old new still) (λ reads. still);
     own = record { ends = ends; dump = well; any = any };
   }
 

@@ -67,12 +67,16 @@ grows_told old new e = both_same Grows grows_same old.told new.told e
 pub grows_write : {r at : ℕ} {bytes : List ℕ} {failed : Type 0} {old new : Disk} → Writes r at bytes failed old new → GrowsOn old new
 grows_write {old = old} {new = new} w = both_weaker _ Grows (λ a b gone. grows_on a b _ gone) old.told new.told w.time
 
-pub grows_sync : {old new : Disk} → Syncs old new → GrowsOn old new
-grows_sync {old} {new} s = both_weaker (HasSynced old) Grows one old.told new.told s.time
+-- a sync leaves what is told, or goes on to one more moment
+pub both_sync : (R : Told → Told → Type 0) → ((told : Told) → R told told) → ((a b : Told) (moment : Moment) → HasGoneOn a b moment → R a b) → {old new : Disk} → Syncs old new → BothTold R old.told new.told
+both_sync R same gone {old} {new} s = both_weaker (HasSynced old) R one old.told new.told s.time
   where
-    one : (a b : Told) → HasSynced old a b → Grows a b
-    one a b (inl nothing) = subst (Grows a) (sym nothing.1) (grows_same a)
-    one a b (inr some) = grows_on a b _ some.2
+    one : (a b : Told) → HasSynced old a b → R a b
+    one a b (inl nothing) = subst (R a) (sym nothing.1) (same a)
+    one a b (inr some) = gone a b _ some.2
+
+pub grows_sync : {old new : Disk} → Syncs old new → GrowsOn old new
+grows_sync s = both_sync Grows grows_same grows_on s
 
 -- Where nothing is unsynced, an image is exactly what a read gives.
 pub all_synced : (disk : Disk) (told : Told) (image : Image) → IsToldOf disk told → disk.unsynced ≡ [] → IsImageNow told image → image ≡ told.bytes

@@ -1,11 +1,11 @@
 -- The moments of a disk, which go on to be the first ones.
-use Rattle.std.proofs.Common.{◌≡◌, ℕ, ◌≤◌, List, [], ◌∷◌, ◌++◌, length, drop, refl, sym, ap, subst, ◌∙◌, inl, inr, arith}
+use Rattle.std.proofs.Common.{◌≡◌, ℕ, ◌≤◌, List, [], ◌∷◌, ◌++◌, length, drop, refl, sym, ap, subst, ◌∙◌, arith}
 use Rattle.std.specs.Prelude.{Any}
 use Rattle.std.proofs.lemmas.List.{append-nil, append_assoc, length-append, drop-append-le}
-use Rattle.log_disk.specs.Disk.{Image, Moment, Told, Disk, HasGoneOn, HasSynced, IsImageAt, IsImageSince, Writes, Syncs, clock_of}
+use Rattle.log_disk.specs.Disk.{Image, Moment, Told, Disk, HasGoneOn, IsImageAt, IsImageSince, Writes, Syncs, clock_of}
 use Rattle.log_disk.specs.Moments.{Continues, ContinuesOn}
 use Rattle.log_disk.proofs.Writes.{any_left}
-use Rattle.log_disk.proofs.Steps.{both_same, both_weaker, both_then}
+use Rattle.log_disk.proofs.Steps.{both_same, both_sync, both_weaker, both_then}
 
 same : (told : Told) → Continues told told
 same told = record { more = []; moments = sym (append-nil (told.past ++ told.present ∷ [])) }
@@ -34,11 +34,7 @@ pub continues_write : {r at : ℕ} {bytes : List ℕ} {failed : Type 0} {old new
 continues_write {old = old} {new = new} w = both_weaker _ Continues (λ a b gone. gone_on a b _ gone) old.told new.told w.time
 
 pub continues_sync : {old new : Disk} → Syncs old new → ContinuesOn old new
-continues_sync {old} {new} s = both_weaker (HasSynced old) Continues one old.told new.told s.time
-  where
-    one : (a b : Told) → HasSynced old a b → Continues a b
-    one a b (inl nothing) = subst (Continues a) (sym nothing.1) (same a)
-    one a b (inr some) = gone_on a b _ some.2
+continues_sync s = both_sync Continues same gone_on s
 
 -- the clock, and the images since one of its values
 pub continued_later : (old new : Told) → Continues old new → clock_of old ≤ clock_of new

@@ -17,21 +17,29 @@ use fine_model::{Bytes, Call, Damage, Entry, Outcome, Ran, Reason, Reply, RunFau
 const WORDS_LINE: &[u8] =
     b"words: run [--group N] [--tries N] [--keep N] | dump | ranges | merge | gen START COUNT LANES\n";
 
+/// Says the line of a key and its value, behind a word.
+fn say_value<'x, K: Sink>(
+    page: &mut Page,
+    sink: &mut K,
+    word: &'x [u8],
+    key: &'x [u8],
+    value: &'x [u8],
+)
+    ensures { Sends (line (word.now ∷ key.now ∷ codes "=" ∷ value.now ∷ [])) (desk (K.written sink.old) (K.faults sink.old) page.old) (desk (K.written sink.new) (K.faults sink.new) page.new) }
+{
+    say_line(
+        page,
+        sink,
+        &[Text(word), Text(key), Text(b"="), Text(value)],
+    );
+}
+
 /// Says the line of a pair.
 fn say_pair<K: Sink>(page: &mut Page, sink: &mut K, pair: &(Bytes, Bytes))
     ensures { Sends (pair_line pair.now) (desk (K.written sink.old) (K.faults sink.old) page.old) (desk (K.written sink.new) (K.faults sink.new) page.new) }
 {
     let (key, value) = pair;
-    say_line(
-        page,
-        sink,
-        &[
-            Text(b"pair"),
-            Text(key.as_slice()),
-            Text(b"="),
-            Text(value.as_slice()),
-        ],
-    );
+    say_value(page, sink, b"pair", key.as_slice(), value.as_slice());
 }
 
 /// Says the lines of pairs.
@@ -50,16 +58,7 @@ fn say_reply<'x, K: Sink>(page: &mut Page, sink: &mut K, call: &'x Call, reply: 
 {
     match (call, reply) {
         (Call::Get { key }, Reply::Value { value }) => {
-            say_line(
-                page,
-                sink,
-                &[
-                    Text(b"get"),
-                    Text(key.as_slice()),
-                    Text(b"="),
-                    Text(value.as_slice()),
-                ],
-            );
+            say_value(page, sink, b"get", key.as_slice(), value.as_slice());
         }
         (Call::Get { key }, Reply::Absent) => {
             say_line(

@@ -2,6 +2,7 @@ pub mod Value
 pub mod Fitting
 pub mod Epoch
 pub mod Gathered
+pub mod Gathering
 pub mod Whole
 pub mod Steps
 pub mod Gate

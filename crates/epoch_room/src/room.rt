@@ -22,6 +22,7 @@ ghost use Rattle.epoch_room.specs.Views.{MakesView, ViewsLog, ViewsOr};
 mod adopting;
 mod board;
 mod erasing;
+mod gathering;
 mod merge_sealing;
 mod merging;
 

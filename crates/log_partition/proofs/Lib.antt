@@ -7,3 +7,4 @@ pub mod Sealed
 pub mod Written
 pub mod GoodHeaders
 pub mod Keyed
+pub mod Costs

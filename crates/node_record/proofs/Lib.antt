@@ -11,3 +11,4 @@ pub mod RowsRead
 pub mod RowLaws
 pub mod Fronts
 pub mod Passing
+pub mod KeysRead

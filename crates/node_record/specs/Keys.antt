@@ -1,9 +1,10 @@
 -- Rows by where they lie in bytes.
 use Rattle.std.specs.Prelude.{◌≡◌, ℕ, ◌+◌, ◌≤◌, Bool, List, [], ◌∷◌, length, take, drop, IsPermutation}
+use Rattle.std.specs.List.{AllByRecursion}
 use Rattle.std.specs.Ordering.{nat_cmp, ordering_then, is_lt}
 use Rattle.fine_model.specs.declared.Row.{Row}
 use Rattle.fine_model.specs.declared.Mark.TheVariants as mark
-use Rattle.fine_model.specs.RowBytes.{row_bytes, row_len}
+use Rattle.fine_model.specs.RowBytes.{row_bytes, rows_bytes, row_len, FitsRow}
 use Rattle.fine_model.specs.Merge.{node_cmp}
 use Rattle.node_record.specs.declared.key.RowAt.{RowAt}
 use Rattle.node_record.specs.Rows.{IsRowAt}
@@ -22,6 +23,11 @@ AreKeysOf bytes [] [] = Unit {0}
 AreKeysOf bytes (row ∷ rows) (key ∷ keys) = IsKeyOf bytes row key × AreKeysOf bytes rows keys
 AreKeysOf bytes [] (key ∷ keys) = ⊥
 AreKeysOf bytes (row ∷ rows) [] = ⊥
+
+-- bytes are these rows, one behind the other
+pub record AreRows (bytes : List ℕ) (rows : List Row) : Type 0 where
+  pub spelled : bytes ≡ rows_bytes rows
+  pub fit : AllByRecursion (FitsRow mark.Two) rows
 
 -- a row starts at a place, and ends where its length says
 abbrev pub StartsAt : List ℕ → ℕ → Row → Type 0

@@ -18,7 +18,7 @@ mod rows;
 
 pub use fault::RowFault;
 pub use frames::{Frame, frame_at};
-pub use key::{RowAt, front_at, sorted_law};
+pub use key::{RowAt, front_at, keys_of, sorted_law};
 pub use places::{find_pair, is_below};
 pub use replay::{apply, image_of};
 pub use rows::{read_row, row_len, write_row};

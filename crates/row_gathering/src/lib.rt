@@ -4,5 +4,7 @@
 #![tactic(auto)]
 
 mod gathering;
+#[cfg(test)]
+mod tests;
 
 pub use gathering::{Gathered, gather};

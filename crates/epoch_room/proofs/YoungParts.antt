@@ -1,9 +1,9 @@
 -- Chains with one part in place of the youngest ones, and retired parts with these among them.
-use Rattle.std.proofs.Common.{◌≡◌, ◌≢◌, ℕ, suc, ◌+◌, ◌-◌, ◌<◌, ◌≤◌, nat_le, nat_lt, Bool, true, false, cond, not, List, [], ◌∷◌, ◌++◌, length, map, take, drop, get_or, set, refl, sym, ap, subst, ◌∙◌, arith, append-nil, append_assoc, length-drop}
+use Rattle.std.proofs.Common.{◌≡◌, ◌≢◌, ℕ, suc, ◌+◌, ◌-◌, ◌<◌, ◌≤◌, nat_le, nat_lt, Bool, true, false, cond, not, List, [], ◌∷◌, ◌++◌, length, map, take, drop, get_or, set, refl, sym, ap, subst, ◌∙◌, arith, append-nil, append_assoc, length-drop, take-append-drop}
 use Rattle.std.specs.Prelude.{fold, IsPermutation}
 use Rattle.std.specs.List.{AllByRecursion, position_or_len}
 use Rattle.std.proofs.Math.Seq.{take-suc-set}
-use Rattle.std.proofs.lemmas.List.{take_more}
+use Rattle.std.proofs.lemmas.List.{take_all, take_more}
 use Rattle.std.proofs.lemmas.List.Sorted.{IsPermutation-append, IsPermutation-insert, IsPermutation-middle, IsPermutation-refl, IsPermutation-sym, IsPermutation-trans}
 use Rattle.std.proofs.lemmas.List.Sums.{fold-append}
 use Rattle.fine_model.specs.declared.Part.{Part}
@@ -15,6 +15,8 @@ use Rattle.epoch_room.specs.Gathering.{retire_all}
 use Rattle.epoch_room.specs.MergeSealing.{retire}
 use Rattle.epoch_room.specs.Value.{all_regions}
 use Rattle.epoch_room.specs.Whole.{AreRising, FollowOn}
+use Rattle.epoch_room.specs.Youngest.{AreYoungAt}
+use Rattle.epoch_room.proofs.Counting.{all_back}
 use Rattle.epoch_room.proofs.LedParts.{lead_apart}
 use Rattle.epoch_room.proofs.Retired.{retire_long, retire_rising, times_moved}
 
@@ -157,3 +159,17 @@ are_two parts at many = by (drop at parts) (omega (arith, many, length-drop at p
     by [] few = absurd (omega (arith, few))
     by (p ∷ []) few = absurd (omega (arith, few))
     by (p ∷ q ∷ ps) few = record { oldest = p; newer = q ∷ ps; is = refl; several = λ e. let h : ◌≡◌ {A = List Part} (q ∷ ps) [] = e in cc }
+
+pub are_young : (from : ℕ) (parts : List Part) → AreYoungAt from parts (young_at from parts)
+are_young from parts = record { older = older_before from parts; young = young_there from parts }
+
+-- what holds of all parts holds of those from a place on
+pub all_from : (P : Part → Type 0) (parts slice : List Part) (at : ℕ) → slice ≡ parts → AllByRecursion P parts → AllByRecursion P (take (length slice - at) (drop at slice))
+all_from P parts slice at is all =
+    subst (λ ps. AllByRecursion P (take (length ps - at) (drop at ps))) (sym is)
+    (subst (AllByRecursion P) (sym (take_all (length parts - at) (drop at parts) (omega (arith, length-drop at parts)))) (all_back P (take at parts) (drop at parts) (subst (AllByRecursion P) (sym (take-append-drop at parts)) all)))
+
+-- a lead is a region of its part
+pub leads_below : (most : ℕ) (parts : List Part) → AllByRecursion (λ r. r < most) (all_regions parts) → AllByRecursion (λ p. p.region < most) parts
+leads_below most [] all = tt
+leads_below most (p ∷ parts) all = (all.0, leads_below most parts (all_back (λ r. r < most) (regions_of p) (all_regions parts) all))

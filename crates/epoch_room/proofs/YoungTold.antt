@@ -1,6 +1,6 @@
 -- What is known once the rows of the youngest parts are spelled: they may be sealed.
-use Rattle.std.proofs.Common.{◌≡◌, ℕ, ◌+◌, ◌≤◌, List, [], ◌∷◌, ◌++◌, drop, length, take, Some, None, refl, sym, ap, subst, ◌∙◌, arith, length-take, take-append-drop}
-use Rattle.std.specs.Prelude.{IfSome, Option, slice_get}
+use Rattle.std.proofs.Common.{◌≡◌, ℕ, ◌+◌, ◌≤◌, List, [], ◌∷◌, ◌++◌, drop, length, take, Some, None, Ok, Err, Result, refl, sym, ap, subst, ◌∙◌, arith, length-take, take-append-drop}
+use Rattle.std.specs.Prelude.{IfSome, IsErrOf, Option, slice_get}
 use Rattle.std.specs.List.{AllByRecursion}
 use Rattle.fine_model.specs.declared.Header.{Header}
 use Rattle.fine_model.specs.declared.Part.{Part}
@@ -8,12 +8,14 @@ use Rattle.fine_model.specs.declared.Range.{Range}
 use Rattle.fine_model.specs.declared.Row.{Row}
 use Rattle.fine_model.specs.Chain.{chain_end}
 use Rattle.fine_model.specs.Regions.{HasHeader, header_of}
-use Rattle.log_disk.specs.Disk.{Disk, IsToldOf, Told}
+use Rattle.log_disk.specs.Disk.{Disk, IsToldOf, OnlyFails, Told}
+use Rattle.log_disk.specs.declared.refusal.DiskRefusal.{DiskRefusal}
+use Rattle.log_disk.specs.declared.refusal.DiskRefusal.TheVariants as refusal
 use Rattle.log_disk.specs.Moments.{IsLeft}
 use Rattle.log_partition.specs.Encoding.{AreRowsAt, IsEncoded}
 use Rattle.log_partition.specs.declared.encoding.Partition.{Partition}
 use Rattle.node_record.specs.declared.key.RowAt.{RowAt}
-use Rattle.row_gathering.specs.Gathering.{AreGathered}
+use Rattle.row_gathering.specs.Gathering.{AreGathered, OnlyReads}
 use Rattle.row_gathering.specs.declared.gathering.Gathered.{Gathered}
 use Rattle.epoch_room.specs.Gathering.{range_over}
 use Rattle.epoch_room.specs.Value.{Kept, value_of}
@@ -104,3 +106,36 @@ module _ (old entry : Disk) (kept : Kept) (whole : IsWhole (value_of old entry k
 
     pub same_header : partition.header ≡ header_of (range_over two.oldest two.newer) s.gathers.rows
     same_header = encodes.header
+
+-- ---- the disk behind the reads
+
+reads_still : {failed : Type 0} (old new : Disk) → OnlyReads failed old new → (failed → ⊥) → new ≡ old
+reads_still old new o fine =
+    let counts = o.counts.else_same fine in
+    λ i. record {
+      regions = o.beside.regions i;
+      region_len = o.beside.region_len i;
+      told = o.told i;
+      unsynced = o.unsynced i;
+      eyes = o.beside.eyes i;
+      given = o.beside.given i;
+      faults = counts.0 i;
+      own_faults = counts.1 i;
+    }
+
+pub read_all : {A : Type 0} (result : Result A DiskRefusal) (a : A) (old new : Disk) → OnlyReads (IsErrOf result refusal.Failed) old new → result ≡ Ok a → new ≡ old
+read_all {A} result a old new o is = reads_still old new o (λ f. let h : ◌≡◌ {A = Result A DiskRefusal} (Ok a) (Err refusal.Failed) = sym is ∙ f in cc)
+
+pub read_none : {A : Type 0} (result : Result A DiskRefusal) (r : DiskRefusal) (old new : Disk) → OnlyReads (IsErrOf result refusal.Failed) old new → result ≡ Err r → r ≡ refusal.NoMemory → new ≡ old
+read_none {A} result r old new o is e =
+    reads_still old new o (λ f. let h : ◌≡◌ {A = Result A DiskRefusal} (Err refusal.NoMemory) (Err refusal.Failed) = sym (is ∙ ap (λ (x : DiskRefusal). Err x) e) ∙ f in cc)
+
+pub read_failed : {A : Type 0} (result : Result A DiskRefusal) (r : DiskRefusal) (old new : Disk) → OnlyReads (IsErrOf result refusal.Failed) old new → result ≡ Err r → r ≡ refusal.Failed → OnlyFails old new
+read_failed result r old new o is e =
+    let f = is ∙ ap (λ (x : DiskRefusal). Err x) e in
+    record {
+      told = o.told;
+      unsynced = o.unsynced;
+      beside = o.beside;
+      counts = record { faults = λ u. o.counts.faults f; own_faults = λ u. o.counts.own_faults f; no_lower = o.counts.no_lower; else_same = λ none. absurd (none tt) };
+    }

@@ -13,8 +13,8 @@ use Rattle.fine_model.specs.Chain.{chain_end, free_regions}
 use Rattle.fine_model.specs.Jobs.{job_left, job_regions}
 use Rattle.fine_model.specs.Merge.{encoded_len, is_ordered, nodes_in}
 use Rattle.fine_model.specs.Regions.{Image, partition_bytes}
-use Rattle.fine_model.specs.RowBytes.{FitsRow, greatest, rows_len}
-use Rattle.fine_model.proofs.Times.{distinct_times, times, times-append, times-none}
+use Rattle.fine_model.specs.RowBytes.{FitsRow, rows_len}
+use Rattle.fine_model.proofs.Times.{distinct_times, times, times-append}
 use Rattle.log_disk.specs.Disk.{Disk, IsUnseen, Told}
 use Rattle.partition_index.specs.Parts.{LiesIn}
 use Rattle.row_gathering.specs.Gathering.{AreGathered}
@@ -24,7 +24,6 @@ use Rattle.epoch_room.specs.Whole.{AreApart, AreRising, FollowOn, IsWhole}
 use Rattle.epoch_room.proofs.Beside.{regions_together}
 use Rattle.epoch_room.proofs.Boarding.{AreBeside, one_beside, unseen}
 use Rattle.epoch_room.proofs.Counting.{both_few}
-use Rattle.epoch_room.proofs.Ending.{end_next}
 use Rattle.epoch_room.proofs.Freeing.{free_in_image}
 use Rattle.epoch_room.proofs.LedParts.{fewer_apart}
 use Rattle.epoch_room.proofs.OneRegion.{set_one}
@@ -194,9 +193,6 @@ module _ (old entry : Disk) (kept : Kept) (before : List Part) (oldest : Part) (
       let a = length-append before (oldest ∷ newer) in
       let g = c.whole.geometry.regions_high in
       omega (arith, f, p, r, l, a, g)
-
-  abbrev pub gathered_kept : Kept
-  gathered_kept = record kept { parts = before ++ gathered_part region oldest newer rows ∷ []; retired = retire_all (oldest ∷ newer) kept.retired; free = free }
 
   -- the region is the new part's
   pub gathered_times : (new : Disk) → SameTimes (region ∷ taken (value_of old entry kept).room kept.target)

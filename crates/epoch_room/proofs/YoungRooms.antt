@@ -1,12 +1,11 @@
 -- A room behind each answer of sealing the gathered rows of its youngest parts.
-use Rattle.std.proofs.Common.{◌≡◌, ◌≢◌, ◌⊎◌, ℕ, suc, ◌+◌, ◌<◌, ◌≤◌, ◌||◌, Bool, true, false, List, [], ◌∷◌, ◌++◌, drop, length, map, take, Some, None, Ok, Err, Result, refl, sym, ap, subst, ◌∙◌, inl, inr, arith, true≢false}
+use Rattle.std.proofs.Common.{◌≡◌, ◌≢◌, ◌⊎◌, ℕ, suc, ◌+◌, ◌<◌, ◌≤◌, ◌||◌, Bool, true, false, List, [], ◌∷◌, ◌++◌, drop, length, take, Some, None, Ok, Err, Result, refl, sym, ap, subst, ◌∙◌, inl, inr, arith, true≢false}
 use Rattle.std.specs.Prelude.{Any, Contains, IfSome, IsPermutation, Option, nat_eq, option_map}
-use Rattle.std.specs.List.{AllByRecursion, list_any}
+use Rattle.std.specs.List.{AllByRecursion}
 use Rattle.std.proofs.lemmas.Bool.{not-true}
 use Rattle.fine_model.specs.declared.Job.{Job}
 use Rattle.fine_model.specs.declared.Part.{Part}
 use Rattle.fine_model.specs.declared.Row.{Row}
-use Rattle.fine_model.specs.declared.law.RoomState.{RoomState}
 use Rattle.fine_model.specs.Becomes.{Becomes}
 use Rattle.fine_model.specs.Boards.{set_of}
 use Rattle.fine_model.specs.Chain.{AreRowsOf, is_free, regions_of}
@@ -48,13 +47,10 @@ use Rattle.epoch_room.proofs.Touching.{beside_told}
 use Rattle.epoch_room.proofs.Viewed.{failed_keeps, failed_shuts}
 use Rattle.epoch_room.proofs.Writing.{still_held, written_keeps}
 use Rattle.epoch_room.proofs.YoungImages.{young_header, young_held, young_over, young_rows, young_sealed, young_shows}
-use Rattle.epoch_room.proofs.YoungKept.{CanGather, beside, bytes_fit, follow_now, gathered_times, left, lies, lost_is, lost_times, moves, moves_both, none_lost, not_held, not_stuck, own_apart, rising_now, same_end, there, young}
+use Rattle.epoch_room.proofs.YoungKept.{CanGather, beside, bytes_fit, follow_now, gathered_times, left, lies, lost_is, lost_times, moves, moves_both, not_held, not_stuck, own_apart, rising_now, same_end, there, young}
 use Rattle.epoch_room.proofs.YoungRows.{alike, are_joined, young_agrees, young_no_longer}
 
 module _ (old entry : Disk) (kept : Kept) (before : List Part) (oldest : Part) (newer : List Part) (region : ℕ) (free : List ℕ) (rows : List Row) (bytes : List ℕ) (c : CanGather old entry kept before oldest newer region free rows bytes) where
-  abbrev value : RoomValue
-  value = value_of old entry kept
-
   abbrev own : Part
   own = gathered_part region oldest newer rows
 

@@ -109,12 +109,7 @@ impl<D: LogDisk> Room<D> {
     }
 
     /// Seals gathered rows in the lowest free region, in place of the parts from a place on.
-    fn seal_young(
-        &mut self,
-        at: usize,
-        region: u32,
-        gathered: &Gathered,
-    ) -> Result<bool, RoomFault>
+    fn seal_young(&mut self, at: usize, region: u32, gathered: &Gathered) -> Result<bool, RoomFault>
         requires { CanSealYoung self.old at region gathered.now }
         ensures { SealsYoung at self.old self.new result }
     {

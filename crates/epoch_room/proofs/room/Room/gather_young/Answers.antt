@@ -1,11 +1,10 @@
-use Rattle.std.proofs.Common.{◌≡◌, ◌<◌, Bool, Ok, Err, Result, Some, false, true, refl, sym, subst, ap, ◌∙◌}
+use Rattle.std.proofs.Common.{◌≡◌, ◌<◌, Ok, Err, false, true, refl, sym, subst, ap, ◌∙◌}
 use Rattle.fine_model.specs.declared.Part.{Part}
 use Rattle.log_disk.specs.Disk.{Disk}
 use Rattle.partition_index.specs.Parts.{LiesIn}
 use Rattle.epoch_room.specs.Gathering.{GathersYoung}
 use Rattle.epoch_room.specs.Value.{RoomValue, value_of}
 use Rattle.epoch_room.specs.Youngest.{AreYoungAt}
-use Rattle.epoch_room.specs.declared.answers.RoomFault.{RoomFault}
 use Rattle.epoch_room.specs.declared.answers.RoomFault.TheVariants as room_fault
 use Rattle.epoch_room.proofs.Behind.{does_none}
 use Rattle.epoch_room.proofs.Counting.{all_front}

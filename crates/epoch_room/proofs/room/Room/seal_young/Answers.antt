@@ -1,5 +1,5 @@
-use Rattle.std.proofs.Common.{◌≡◌, ◌+◌, ◌≤◌, ◌++◌, ◌∷◌, [], ℕ, List, drop, length, take, Ok, Err, true, false, refl, sym, subst, ap, ◌∙◌, arith}
-use Rattle.std.specs.Prelude.{IsErrOf, vec_capacity}
+use Rattle.std.proofs.Common.{◌≡◌, ◌+◌, ◌≤◌, ◌++◌, ◌∷◌, [], List, drop, length, take, Ok, Err, true, false, refl, sym, subst, ap, ◌∙◌, arith}
+use Rattle.std.specs.Prelude.{IsErrOf}
 use Rattle.fine_model.specs.declared.Header.{Header}
 use Rattle.fine_model.specs.declared.Part.{Part}
 use Rattle.fine_model.specs.ChainLaws.{part_of}
@@ -7,8 +7,7 @@ use Rattle.fine_model.specs.Regions.{header_of}
 use Rattle.log_disk.specs.declared.refusal.DiskRefusal.{DiskRefusal}
 use Rattle.epoch_room.specs.Gathering.{GathersYoung, gathered_part, range_over, retire_all}
 use Rattle.epoch_room.specs.Value.{RoomValue, value_of}
-use Rattle.epoch_room.specs.Whole.{IsWhole}
-use Rattle.epoch_room.specs.Youngest.{AreYoungAt, CanSealYoung, SealsYoung}
+use Rattle.epoch_room.specs.Youngest.{CanSealYoung, SealsYoung}
 use Rattle.epoch_room.specs.declared.answers.RoomFault.TheVariants as room_fault
 use Rattle.epoch_room.proofs.Behind.{does_none, is_failed, is_no_memory, not_failed, not_failed_ok}
 use Rattle.epoch_room.proofs.Inside.{Ends, ends, kept_in, no_memory, room_in}

@@ -1,4 +1,4 @@
-use Rattle.std.proofs.Common.{◌≡◌, ◌+◌, take, ap, ◌∙◌}
+use Rattle.std.proofs.Common.{◌+◌, take, ap, ◌∙◌}
 use Rattle.epoch_room.proofs.YoungParts.{replaced_at}
 use Rattle.epoch_room.proofs.room.gathering.replace_young.Goals as goal
 

@@ -1,5 +1,5 @@
 -- What is known once the rows of the youngest parts are spelled: they may be sealed.
-use Rattle.std.proofs.Common.{◌≡◌, ℕ, ◌+◌, List, [], ◌∷◌, ◌++◌, drop, length, take, Some, None, Ok, Err, Result, refl, sym, ap, subst, ◌∙◌, arith, length-take, take-append-drop}
+use Rattle.std.proofs.Common.{◌≡◌, ℕ, List, [], ◌∷◌, ◌++◌, drop, length, take, Some, None, Ok, Err, Result, refl, sym, ap, subst, ◌∙◌, arith, length-take, take-append-drop}
 use Rattle.std.specs.Prelude.{IfSome, IsErrOf, Option, slice_get}
 use Rattle.std.specs.List.{AllByRecursion}
 use Rattle.fine_model.specs.declared.Part.{Part}

@@ -60,3 +60,9 @@ pub mod Viewed
 pub mod Viewing
 pub mod Writing
 pub mod Written
+pub mod YoungParts
+pub mod YoungImages
+pub mod YoungKept
+pub mod YoungRooms
+pub mod YoungRows
+pub mod YoungTold

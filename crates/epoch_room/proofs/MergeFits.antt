@@ -17,7 +17,7 @@ use Rattle.epoch_room.specs.Whole.{HasRegions, IsTaken}
 
 -- ---- the least number of regions
 
-find_least : (p : ℕ → Bool) (a n k : ℕ) → a ≤ k → k < a + n → p k ≡ true → ((i : ℕ) → a ≤ i → i < k → p i ≡ false) → find p (range_with_len a n) ≡ Some k
+pub find_least : (p : ℕ → Bool) (a n k : ℕ) → a ≤ k → k < a + n → p k ≡ true → ((i : ℕ) → a ≤ i → i < k → p i ≡ false) → find p (range_with_len a n) ≡ Some k
 find_least p a zero k low high passes others = absurd (omega (arith, low, high))
 find_least p a (suc n) k low high passes others = elim (cases_lt a k) as (λ _. cond (p a) (Some a) (find p (range_with_len (a + 1) n)) ≡ Some k) [
   | inl below ↦

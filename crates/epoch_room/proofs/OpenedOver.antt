@@ -21,8 +21,8 @@ use Rattle.fine_model.specs.Headline.{ShowsSome}
 use Rattle.fine_model.specs.Jobs.{held_by}
 use Rattle.fine_model.specs.Merge.{merged}
 use Rattle.fine_model.specs.Regions.{Image, body_bytes, body_in, body_start, continuations, header_bytes, header_in, is_sealed, region_of, HasHeader, IsSealed}
-use Rattle.fine_model.specs.Chain.{AreRowsOf, chain_end, is_free, regions_of}
-use Rattle.fine_model.specs.ChainLaws.{IsReplaced, part_of}
+use Rattle.fine_model.specs.Chain.{AreRowsOf, chain, chain_end, is_free, regions_of}
+use Rattle.fine_model.specs.ChainLaws.{DiffersAt, IsReplaced, part_of}
 use Rattle.fine_model.proofs.FitMerged.{merged_fits}
 use Rattle.fine_model.proofs.MergedLen.{merged_len}
 use Rattle.fine_model.proofs.MergedRuns.{merged_agrees}
@@ -125,15 +125,34 @@ module _ (region_len : ℕ) (base : Image) (job : Job) (header : Header) (before
         written = written b.first c.first b.of_front c.of_front;
       }
 
+-- ---- the parts
+
+-- a part more, whose gate is open, and a chain of some of the parts: the others are retired
+pub held_moved : (region_len : ℕ) (base image : Image) (p : Part) (live retired parts' retired' : List Part) → DiffersAt p.region base image → is_sealed (region_of image p.region) ≡ true → HasHeader region_len image p.region p.header
+    → ((lead : ℕ) (header : Header) → HasHeader region_len base lead header → HasHeader region_len image lead header) → chain region_len image ≡ Ok parts' → HoldsParts region_len base live retired
+    → IsPermutation (p ∷ (live ++ retired)) (parts' ++ retired') → HoldsParts region_len image parts' retired'
+held_moved region_len base image p live retired parts' retired' differs sealed has kept is_chain holds moves = record {
+  is_chain = is_chain;
+  leads = λ r h. lead r h ∙ list_any-IsPermutation (λ q. q.region == r) (p ∷ (live ++ retired)) (parts' ++ retired') moves;
+  headers = all_moved (λ q. HasHeader region_len image q.region q.header) (p ∷ (live ++ retired)) (parts' ++ retired') moves
+      (has, all_map (λ q. HasHeader region_len base q.region q.header) (λ q. HasHeader region_len image q.region q.header) (λ q h. kept q.region q.header h) (live ++ retired) holds.headers);
+}
+  where
+    differ : (m n : ℕ) → m ≢ n → (n == m) ≡ false
+    differ m n h = grind (arith, h)
+
+    lead : (r : ℕ) → r < length image → is_sealed (region_of image r) ≡ ((p.region == r) || list_any (λ q. q.region == r) (live ++ retired))
+    lead r h = elim (cases_eq r p.region) as (λ _. is_sealed (region_of image r) ≡ ((p.region == r) || list_any (λ q. q.region == r) (live ++ retired))) [
+      | inl same ↦ ap (λ n. is_sealed (region_of image n)) same ∙ sealed ∙ sym (ap (λ b. b || list_any (λ q. q.region == r) (live ++ retired)) (eq-eqb p.region r (sym same)))
+      | inr other ↦ ap is_sealed (differs.others r other) ∙ holds.leads r (omega (arith, h, differs.as_many)) ∙ sym (ap (λ b. b || list_any (λ q. q.region == r) (live ++ retired)) (differ r p.region other))
+    ]
+
 -- ---- an image in which the gate is open
 
 module _ (region_len : ℕ) (base : Image) (job : Job) (header : Header) (has : job.header ≡ Some header) (before : List Part) (older newer : Part) (after retired : List Part)
     (good : IsGood region_len (length base) job.target header) (later : header.mark ≢ mark.One) (range : header.range ≡ record { first = older.header.range.first; last = newer.header.range.last })
     (holds : HoldsParts region_len base (before ++ older ∷ newer ∷ after) retired) (free : AllByRecursion (λ r. is_free base r ≡ true) (regions_of (part_of job.target header)))
     (image : Image) (opened : HasOpened job.target (header_bytes region_len header) base image) where
-  abbrev all : List Part
-  all = (before ++ older ∷ newer ∷ after) ++ retired
-
   good_now : IsGood region_len (length image) job.target header
   good_now = subst (λ n. IsGood region_len n job.target header) (sym opened.differs.as_many) good
 
@@ -146,23 +165,8 @@ module _ (region_len : ℕ) (base : Image) (job : Job) (header : Header) (has : 
 
   pub held_replaced : (parts' retired' : List Part) → parts' ≡ before ++ part_of job.target header ∷ after
       → IsPermutation (part_of job.target header ∷ ((before ++ older ∷ newer ∷ after) ++ retired)) (parts' ++ retired') → HoldsParts region_len image parts' retired'
-  held_replaced parts' retired' is moves = record {
-    is_chain = over.is_chain ∙ ap (λ (ps : List Part). Ok ps) (sym is);
-    leads = λ r h. lead r h ∙ list_any-IsPermutation (λ p. p.region == r) (part_of job.target header ∷ all) (parts' ++ retired') moves;
-    headers = all_moved (λ p. HasHeader region_len image p.region p.header) (part_of job.target header ∷ all) (parts' ++ retired') moves
-        (has_header, all_map (λ p. HasHeader region_len base p.region p.header) (λ p. HasHeader region_len image p.region p.header) (λ p h. over.headers p.region p.header h) all holds.headers);
-  }
-    where
-      differ : (m n : ℕ) → m ≢ n → (n == m) ≡ false
-      differ m n h = grind (arith, h)
-
-      lead : (r : ℕ) → r < length image → is_sealed (region_of image r) ≡ ((job.target == r) || list_any (λ p. p.region == r) all)
-      lead r h = elim (cases_eq r job.target) as (λ _. is_sealed (region_of image r) ≡ ((job.target == r) || list_any (λ p. p.region == r) all)) [
-        | inl same ↦ ap (λ n. is_sealed (region_of image n)) same ∙ ap is_sealed opened.spelled ∙ sym (ap (λ b. b || list_any (λ p. p.region == r) all) (eq-eqb job.target r (sym same)))
-        | inr other ↦
-            ap is_sealed (opened.differs.others r other) ∙ holds.leads r (omega (arith, h, opened.differs.as_many))
-            ∙ sym (ap (λ b. b || list_any (λ p. p.region == r) all) (differ r job.target other))
-      ]
+  held_replaced parts' retired' is moves =
+      held_moved region_len base image (part_of job.target header) (before ++ older ∷ newer ∷ after) retired parts' retired' opened.differs (ap is_sealed opened.spelled) has_header over.headers (over.is_chain ∙ ap (λ (ps : List Part). Ok ps) (sym is)) holds moves
 
   module _ (body : body_in image job.target header ≡ body_in base job.target header) (rows : List Row) (are : AreMergeable region_len base job header before older newer after rows) where
     abbrev whole : List Row

@@ -23,7 +23,8 @@ use Rattle.log_disk.specs.Disk.{BothSee, BothTold, Disk, Eye, OnlyFails, Opens, 
 use Rattle.log_disk.specs.Moments.{Continues, IsLeft}
 use Rattle.log_disk.proofs.Sound.{sound_failure, sound_opens}
 use Rattle.log_disk.proofs.Times.{continues_told}
-use Rattle.epoch_room.specs.Meaning.{Stands, StandsWhere}
+use Rattle.epoch_room.specs.Meaning.{Keeps, Stands, StandsWhere}
+use Rattle.epoch_room.specs.Steps.{Shuts}
 use Rattle.epoch_room.specs.Value.{RoomValue, Kept, all_regions, on, value_of}
 use Rattle.epoch_room.specs.Views.{AgreesUpTo, MakesView, ViewsLog, ViewsOr}
 use Rattle.epoch_room.specs.Whole.{AreOnBoard, HoldsParts, IsWhole, NamesWhole}
@@ -243,13 +244,16 @@ module _ (old new entry : Disk) (kept : Kept) (whole : IsWhole (value_of old ent
   pub failed_whole : IsWhole (value_of new entry (boarded kept kept.board true))
   failed_whole = boarded_whole old new entry kept whole same_failed (sound_failure fails whole.sound) kept.board true failed_board (λ h. refl) (λ h. inr (fails.counts.own_faults tt, fails.counts.faults tt))
 
+  pub failed_keeps : Keeps (value_of old entry kept) (value_of new entry (boarded kept kept.board true))
+  failed_keeps = boarded_keeps old new entry kept whole same_failed (sound_failure fails whole.sound) kept.board true failed_board (λ h. refl) (λ h. inr (fails.counts.own_faults tt, fails.counts.faults tt))
+
+  pub failed_shuts : Shuts (value_of old entry kept).room kept.target [] (value_of old entry kept) (value_of new entry (boarded kept kept.board true))
+  failed_shuts = shuts _ _ open_room (ap (λ lost. on (record (value_of old entry kept).room { is_shut = true; lost = lost }) new) (whole.lost open_room ∙ sym set_none)) refl refl fails.beside (continues_told old new fails.told) fails.counts tt
+
   pub failed_view : (seat : ℕ) → MakesView (value_of old entry kept) (value_of new entry (boarded kept kept.board true)) seat (Err room_fault.Disk)
   failed_view seat = record {
-    room = (
-      shuts _ _ open_room (ap (λ lost. on (record (value_of old entry kept).room { is_shut = true; lost = lost }) new) (whole.lost open_room ∙ sym set_none)) refl refl fails.beside (continues_told old new fails.told) fails.counts tt,
-      fails.told,
-    );
+    room = (failed_shuts, fails.told);
     log = tt;
-    keeps = boarded_keeps old new entry kept whole same_failed (sound_failure fails whole.sound) kept.board true failed_board (λ h. refl) (λ h. inr (fails.counts.own_faults tt, fails.counts.faults tt));
+    keeps = failed_keeps;
     job = boarded_job old new entry kept whole same_failed (sound_failure fails whole.sound) kept.board true failed_board (λ h. refl) (λ h. inr (fails.counts.own_faults tt, fails.counts.faults tt));
   }

@@ -3,6 +3,7 @@ pub mod Fitting
 pub mod Epoch
 pub mod Gathered
 pub mod Gathering
+pub mod Youngest
 pub mod Whole
 pub mod Steps
 pub mod Gate

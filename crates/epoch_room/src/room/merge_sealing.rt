@@ -35,7 +35,7 @@ fn position_above(parts: &[Part], lead: u32) -> Option<usize>
 }
 
 /// A place, or that behind all of them.
-fn or_end(place: Option<usize>, parts: &[Part]) -> usize
+pub(super) fn or_end(place: Option<usize>, parts: &[Part]) -> usize
     ensures { (p : Part → Bool) → place ≡ position p parts.now → result ≡ position_or_len p parts.now }
 {
     place.unwrap_or(parts.len())
@@ -53,7 +53,7 @@ fn replace_two(parts: &mut Parts, lead: u32, part: Part)
 }
 
 /// Puts a part before the first one with a higher lead, where there is room.
-fn retire(parts: &mut Vec<Part>, part: Part)
+pub(super) fn retire(parts: &mut Vec<Part>, part: Part)
     requires { length parts.old.items < vec_capacity parts.old }
     ensures items { parts.new.items ≡ retire part parts.old.items }
     ensures capacity { vec_capacity parts.new ≡ vec_capacity parts.old }

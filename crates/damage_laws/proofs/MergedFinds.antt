@@ -18,7 +18,7 @@ use Rattle.fine_model.specs.Regions.{Image}
 use Rattle.node_fetch.proofs.Blames as blames
 use Rattle.node_fetch.proofs.Parts.{forgets}
 use Rattle.damage_laws.specs.Firm.{MergedAgainLaw}
-use Rattle.damage_laws.specs.Made.{AreMadeOf, FetchLaw, FindsIn, FoundOn, IsMadeOf, JoinedLaw, KeptLaw, Made, MergedLaw, SealedLaw, Source, all_of, at_entry, merged_rows, since, sources}
+use Rattle.damage_laws.specs.Made.{AreMadeOf, BesideLaw, FetchLaw, FindsIn, FoundOn, GatheredLaw, HasRows, IsMadeOf, JoinedLaw, KeptLaw, Made, MergedLaw, SealedLaw, Source, all_of, at_entry, merged_rows, since, sources}
 use Rattle.damage_laws.proofs.Kept.{found_law}
 use Rattle.damage_laws.proofs.Heads.{head_same, not_empty, tail_same}
 use Rattle.damage_laws.proofs.Opened.{IsFound, IsReady, Item, LeftBy, Opens, flat, has_image, image_first, opens_both, opens_made, opens_nothing}
@@ -39,6 +39,13 @@ joined_law region_len entry now p a b older newer has sealed of_a of_b = (
   record { each = λ id found f. (rows_of id older, rows_of id newer, of_a id, of_b id, f.exact (merged older newer) has sealed ∙ own_merged id older newer) },
   λ id. (rows_of id older, rows_of id newer, of_a id, of_b id, own_merged id older newer),
 )
+
+pub beside_law : BesideLaw
+beside_law region_len entry a b older newer of_a of_b = λ id. (rows_of id older, rows_of id newer, of_a id, of_b id, rows_of-append id older newer)
+
+pub gathered_law : GatheredLaw
+gathered_law region_len entry now m p own rows has sealed same are =
+    record { each = λ id found f. subst (HasRows region_len entry id m) (sym (f.exact rows has sealed ∙ same.of_each id)) (are id) }
 
 pub all_of-append : (a b : List (List Row)) → all_of (a ++ b) ≡ all_of a ++ all_of b
 all_of-append a b = flat_map-append (λ (rows : List Row). rows) a b

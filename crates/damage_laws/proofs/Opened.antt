@@ -17,7 +17,7 @@ use Rattle.fine_model.specs.Regions.{Image}
 use Rattle.fine_model.specs.RowBytes.{row_len, rows_len}
 use Rattle.fine_model.proofs.NodeLaws.{replay-append}
 use Rattle.node_fetch.proofs.Parts.{forgets}
-use Rattle.damage_laws.specs.Made.{FindsIn, HasRows, Made, Source, joined, merged_rows, one, sources}
+use Rattle.damage_laws.specs.Made.{FindsIn, HasRows, Made, Source, beside, joined, merged_rows, one, sources}
 
 -- a source with the rows that were found in it
 abbrev pub Item : Type 0
@@ -218,3 +218,5 @@ module _ (id : NodeId) where
     opens_made (joined a b) rows (older, newer, of_a, of_b, is) =
         subst (Opens (sources a ++ sources b)) (sym is)
         (opens_merged (sources a ++ sources b) (older ++ newer) (opens_both (sources a) (sources b) older newer (opens_made a older of_a) (opens_made b newer of_b)))
+    opens_made (beside a b) rows (older, newer, of_a, of_b, is) =
+        subst (Opens (sources a ++ sources b)) (sym is) (opens_both (sources a) (sources b) older newer (opens_made a older of_a) (opens_made b newer of_b))

@@ -21,15 +21,17 @@ pub data Source : Type 0 where
   at_entry : Part → Source
   since : List Row → Source
 
--- one of these, or two neighbours that were merged, the older one first
+-- one of these; or two neighbours, the older one first, that were merged, or of which the rows stand one behind the other as they were
 pub data Made : Type 0 where
   one : Source → Made
   joined : Made → Made → Made
+  beside : Made → Made → Made
 
 -- all that it was made of, in order
 abbrev pub sources : Made → List Source
 sources (one s) = s ∷ []
 sources (joined a b) = sources a ++ sources b
+sources (beside a b) = sources a ++ sources b
 
 -- what the rows of a node are merged into
 abbrev pub merged_rows : NodeId → List Row → List Row
@@ -45,6 +47,7 @@ abbrev pub HasRows : ℕ → Image → NodeId → Made → List Row → Type 0
 HasRows region_len entry id (one s) rows = FindsIn region_len entry id s rows
 HasRows region_len entry id (joined a b) rows =
     (older newer : List Row) × HasRows region_len entry id a older × HasRows region_len entry id b newer × (rows ≡ merged_rows id (older ++ newer))
+HasRows region_len entry id (beside a b) rows = (older newer : List Row) × HasRows region_len entry id a older × HasRows region_len entry id b newer × (rows ≡ older ++ newer)
 
 -- a part was made so: of each node it has these rows
 pub record IsMadeOf (region_len : ℕ) (entry now : Image) (m : Made) (p : Part) : Type 0 where
@@ -86,6 +89,17 @@ JoinedLaw =
     (region_len : ℕ) (entry now : Image) (p : Part) (a b : Made) (older newer : List Row) → HasHeader region_len now p.region p.header
     → IsSealed region_len now p.region p.header.range (merged older newer) → AreRowsAs region_len entry a older → AreRowsAs region_len entry b newer
     → IsMadeOf region_len entry now (joined a b) p × AreRowsAs region_len entry (joined a b) (merged older newer)
+
+-- rows that stand behind others
+abbrev pub BesideLaw : Type 0
+BesideLaw =
+    (region_len : ℕ) (entry : Image) (a b : Made) (older newer : List Row) → AreRowsAs region_len entry a older → AreRowsAs region_len entry b newer → AreRowsAs region_len entry (beside a b) (older ++ newer)
+
+-- A part that was sealed of such rows, of each node the same in the same order, is made so.
+abbrev pub GatheredLaw : Type 0
+GatheredLaw =
+    (region_len : ℕ) (entry now : Image) (m : Made) (p : Part) (own rows : List Row) → HasHeader region_len now p.region p.header → IsSealed region_len now p.region p.header.range rows → HaveSameRows own rows
+    → AreRowsAs region_len entry m own → IsMadeOf region_len entry now m p
 
 -- What a look for a node finds in a part that an eye sees, in the grammar or not, is found.
 abbrev pub LookedUpLaw : Type 0

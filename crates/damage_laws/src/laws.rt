@@ -4,7 +4,7 @@ ghost use Rattle.damage_laws.specs.Again.{AgainLaw, BothLaw, OnceLaw, ReloadLaw}
 ghost use Rattle.damage_laws.specs.Firm.{CountedLaw, CreatedFirmLaw, FetchAllLaw, FirmFetchLaw, FirmLaw, FirstFetchLaw, FoundAllLaw, KeptFirmLaw, MergedAgainLaw, MergedAllLaw, RowsCountLaw, RowsGoFromLaw, SealedAllLaw, SealedFirmLaw};
 ghost use Rattle.damage_laws.specs.Goings.{GoesOnLaw, LoadLaw, MoreLaw};
 ghost use Rattle.damage_laws.specs.Looks.{KeyLaw, LookLaw, ScanLaw};
-ghost use Rattle.damage_laws.specs.Made.{FetchLaw, JoinedLaw, JoinsLaw, KeptLaw, KeptRowsLaw, LookedUpLaw, MergedLaw, SealedLaw, SealedRowsLaw};
+ghost use Rattle.damage_laws.specs.Made.{BesideLaw, GatheredLaw, FetchLaw, JoinedLaw, JoinsLaw, KeptLaw, KeptRowsLaw, LookedUpLaw, MergedLaw, SealedLaw, SealedRowsLaw};
 ghost use Rattle.damage_laws.specs.Meets.{AnewLaw, CallLaw, FewerLaw, FreshLaw, LoadedLaw, MeetsLaw, NewLaw, SameLaw};
 ghost use Rattle.damage_laws.specs.OpenTxns.{AbsentLaw, BeginLaw, OwnLaw, SeveralLaw, UndoneLaw};
 ghost use Rattle.damage_laws.specs.Places.{BodyLaw, EntryLaw, FoundLaw, PlaceLaw, RowLaw};
@@ -48,6 +48,8 @@ pub fn made_law()
     ensures joined { JoinedLaw }
     ensures looked_up { LookedUpLaw }
     ensures joins { JoinsLaw }
+    ensures beside { BesideLaw }
+    ensures gathered { GatheredLaw }
     ensures merged { MergedLaw }
     ensures fetch { FetchLaw }
 {}

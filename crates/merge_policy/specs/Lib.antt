@@ -1,3 +1,4 @@
 pub mod Choices
 pub mod Figures
 pub mod Steps
+pub mod Young

@@ -76,7 +76,7 @@ fn body_len(area: u32, nodes: u32) -> u64
 }
 
 /// The length of a part, its header included.
-fn part_len(part: &Part) -> u64
+pub(crate) fn part_len(part: &Part) -> u64
     ensures is { result ≡ part_len part.now }
     ensures few { result < 68719476806 }
     ensures some { 1 ≤ result }

@@ -7,9 +7,11 @@
 
 mod figures;
 mod policy;
+mod young;
 
 pub use figures::{Measured, Space};
 pub use policy::next_merge;
+pub use young::young_run;
 
 #[cfg(test)]
 mod tests;

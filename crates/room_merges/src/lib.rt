@@ -10,5 +10,5 @@ mod pair;
 
 pub use body::{Progress, write_body, write_next};
 pub use fault::MergeFault;
-pub use near::{merge_any, merge_near, merge_now};
+pub use near::{erase_retired, merge_any, merge_near, merge_now};
 pub use pair::merge_pair;

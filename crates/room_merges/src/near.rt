@@ -132,8 +132,11 @@ fn merge_through<D: LogDisk>(
     }
 }
 
-/// Erases all retired parts of a room with no view out.
-fn erase_retired<D: LogDisk>(room: &mut Room<D>) -> Result<(), MergeFault>
+/// Erases all retired parts of a room with no view out, and no merge: their regions are free then.
+///
+/// `Shut` comes exactly where an earlier call answered `Disk`, and changes nothing. `Disk` comes only where the disk failed in this call, and shuts the room: the regions of the
+/// parts are lost whose gates were begun. After `NoMemory` the room is open, and the first of these parts are erased. The chain is as it was, whatever the answer.
+pub fn erase_retired<D: LogDisk>(room: &mut Room<D>) -> Result<(), MergeFault>
     requires no_job { room.old.room.job ≡ None }
     requires board { list_all is_empty room.old.room.board ≡ true }
     ensures { Empties room.old room.new result }

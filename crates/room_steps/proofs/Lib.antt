@@ -8,3 +8,6 @@ pub mod JoinedMade
 pub mod Stepping
 pub mod MadeOn
 pub mod SealedMade
+pub mod BesideMade
+pub mod GatheredMade
+pub mod Gatherings

@@ -29,9 +29,9 @@ use Rattle.run_laws.specs.Runs.{OfSound}
 use Rattle.run_laws.specs.SoFar.{GoesOn}
 use Rattle.run_laws.proofs.Readings.{unsound_law}
 use Rattle.room_steps.specs.Laws.{MergesStay}
-use Rattle.room_steps.specs.Merging.{FreeOr, Frees, IsMerging, IsTidying, MergesOne, of_merge}
+use Rattle.room_steps.specs.Merging.{FreeOr, Frees, IsMerging, IsTidying, MergesNamed, MergesOne, of_merge}
 use Rattle.run_laws.specs.Needs.{Unsealed}
-use Rattle.room_steps.specs.Steps.{FaultOf, IsNamed, IsWell, Leaves, NamesPlace, NoneFailed, Tidies, space_of}
+use Rattle.room_steps.specs.Steps.{FaultOf, IsNamed, IsWell, Leaves, NamesPlace, NoneFailed, space_of}
 use Rattle.room_steps.proofs.MadeOn.{made_none}
 use Rattle.room_steps.proofs.Stepping.{near_lives}
 use Rattle.room_steps.proofs.Facts.{Rested, failed_on, fault_on, has_failed, leaves_itself, leaves_on, leaves_staying, none_failed_itself, unsealed_itself, unsealed_on, was_shut, well_counts, well_on}
@@ -173,12 +173,8 @@ counts_sealed room = refl
 abbrev asked : ℕ → Counts → Bool → Space
 asked region_len counts pressed = record { region_len = region_len; free = counts.free; is_pressed = pressed; spare = 2; sealed = counts.sealed }
 
-pub named_by : (room : RoomState) (parts : List Part) (region_len : ℕ) (counts : Counts) (pressed : Bool) (answer : Option ℕ) → region_len ≡ room.region_len → counts ≡ counts_of room → pressed ≡ is_pressed room → parts ≡ room.parts
-    → Picks (question (asked region_len counts pressed) []) (neighbours parts) (aims_of (asked region_len counts pressed) parts) answer
-    → IsNamed room answer
-named_by room parts region_len counts pressed answer len count press same h =
-    subst (λ x. Picks (question x []) (neighbours room.parts) (aims_of x room.parts) answer) space
-    (subst (λ ps. Picks (question (asked region_len counts pressed) []) (neighbours ps) (aims_of (asked region_len counts pressed) ps) answer) same h)
+pub space_by : (room : RoomState) (region_len : ℕ) (counts : Counts) (pressed : Bool) → region_len ≡ room.region_len → counts ≡ counts_of room → pressed ≡ is_pressed room → asked region_len counts pressed ≡ space_of room
+space_by room region_len counts pressed len count press = λ i. record { region_len = len i; free = free i; is_pressed = press i; spare = 2; sealed = sealed i }
   where
     free : counts.free ≡ length room.free
     free = ap (λ (c : Counts). c.free) count ∙ counts_free room
@@ -186,8 +182,9 @@ named_by room parts region_len counts pressed answer len count press same h =
     sealed : counts.sealed ≡ room.sealed
     sealed = ap (λ (c : Counts). c.sealed) count ∙ counts_sealed room
 
-    space : ◌≡◌ {A = Space} (asked region_len counts pressed) (space_of room)
-    space = λ i. record { region_len = len i; free = free i; is_pressed = press i; spare = 2; sealed = sealed i }
+pub named_by : (room : RoomState) (parts : List Part) (space : Space) (answer : Option ℕ) → space ≡ space_of room → parts ≡ room.parts → Picks (question space []) (neighbours parts) (aims_of space parts) answer → IsNamed room answer
+named_by room parts space answer is same h =
+    subst (λ x. Picks (question x []) (neighbours room.parts) (aims_of x room.parts) answer) is (subst (λ ps. Picks (question space []) (neighbours ps) (aims_of space ps) answer) same h)
 
 -- ---- merging on
 
@@ -240,11 +237,11 @@ module _ (a b : ShelfValue) (p : IsTidying a b) where
   tidying_on c from named m = record { merging = merging_on a b c p.merging m; called = inr (named_before from named) }
 
   -- the policy names no more neighbours
-  pub tidied : IsNamed b.room.room None → Tidies a b (Ok tt)
+  pub tidied : IsNamed b.room.room None → MergesNamed a b (Ok tt)
   tidied none = record { leaves = p.merging.leaves; unsealed = p.merging.unsealed; called = p.called; tidy = (none_failed_after a b p.merging, inl none) }
 
   -- it names some, and none fit
-  pub none_fitted : (c : ShelfValue) (from : ℕ) → IsNamed b.room.room (Some from) → MergesOne b c (Ok false) → Tidies a c (Ok tt)
+  pub none_fitted : (c : ShelfValue) (from : ℕ) → IsNamed b.room.room (Some from) → MergesOne b c (Ok false) → MergesNamed a c (Ok tt)
   none_fitted c from named m = record {
     leaves = leaves_on a b c p.merging.leaves m.leaves;
     unsealed = unsealed_on a.room.room b.room.room c.room.room p.merging.unsealed m.unsealed;
@@ -252,7 +249,7 @@ module _ (a b : ShelfValue) (p : IsTidying a b) where
     tidy = ((well_after a b c p.merging m.merge.0).none_failed, inr m.merge.1);
   }
 
-  pub tidy_failed : (c : ShelfValue) (from : ℕ) (fault : RunFault) → IsNamed b.room.room (Some from) → MergesOne b c (Err fault) → Tidies a c (Err fault)
+  pub tidy_failed : (c : ShelfValue) (from : ℕ) (fault : RunFault) → IsNamed b.room.room (Some from) → MergesOne b c (Err fault) → MergesNamed a c (Err fault)
   tidy_failed c from fault named m = record {
     leaves = leaves_on a b c p.merging.leaves m.leaves;
     unsealed = unsealed_on a.room.room b.room.room c.room.room p.merging.unsealed m.unsealed;

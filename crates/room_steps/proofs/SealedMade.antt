@@ -33,42 +33,11 @@ use Rattle.epoch_room.proofs.Partitions.{alike, partition_long}
 use Rattle.epoch_room.proofs.Torn.{HasOpened, sealed_bytes}
 use Rattle.room_steps.specs.Made.{AreCounted, MadeOn}
 use Rattle.room_steps.proofs.JoinedMade.{all_good, all_still, none_made, seal_good}
-use Rattle.room_steps.proofs.MadeOn.{made_none}
+use Rattle.room_steps.proofs.BesideMade.{BothRead, both_read, bytes_are, each_counted, images, in_parts, long_as, unchanged}
 use Rattle.room_steps.proofs.Stepping.{none_more}
 
--- ---- what a read gives
-
--- both are told, where a read of both gives bytes
-record BothRead (R : Told → Told → Type 0) (x y : Option Told) (first last : Image) : Type 0 where
-  was : Told
-  now : Told
-  is_was : x ≡ Some was
-  is_now : y ≡ Some now
-  first_is : was.bytes ≡ first
-  last_is : now.bytes ≡ last
-  related : R was now
-
-bytes_are : (t : Told) (image : Image) → ◌≡◌ {A = Option Image} (Some t.bytes) (Some image) → t.bytes ≡ image
-bytes_are t image e = cc
-
-both_read : (R : Told → Told → Type 0) (x y : Option Told) (first last : Image) → BothTold R x y → option_map (λ (t : Told). t.bytes) x ≡ Some first → option_map (λ (t : Told). t.bytes) y ≡ Some last → BothRead R x y first last
-both_read R (Some a) (Some b) first last r e f = record { was = a; now = b; is_was = refl; is_now = refl; first_is = bytes_are a first e; last_is = bytes_are b last f; related = r }
-both_read R (Some a) None first last r e f = absurd r
-both_read R None y first last r e f = absurd (let x = e in cc)
-
--- ---- the live parts beside the target
-
-each_counted : (P : ℕ → Type 0) (rs : List ℕ) → ((r : ℕ) → 1 ≤ times r rs → P r) → AllByRecursion P rs
-each_counted P [] f = tt
-each_counted P (r ∷ rs) f = (f r (let s = times-same r rs in omega (arith, s)), each_counted P rs (λ s low. f s (let t = times-tail s r rs in omega (arith, low, t))))
-
-in_parts : (p : Part) (parts : List Part) (r : ℕ) → Contains parts p → times r (regions_of p) ≤ times r (all_regions parts)
-in_parts p [] r (k, low, is) = absurd (omega (arith, low))
-in_parts p (q ∷ parts) r (zero, low, is) = let s = times-append r (regions_of q) (all_regions parts) in let e = ap (λ (x : Part). times r (regions_of x)) is in omega (arith, s, e)
-in_parts p (q ∷ parts) r (suc k, low, is) = let s = times-append r (regions_of q) (all_regions parts) in let l = in_parts p parts r (k, omega (arith, low), is) in omega (arith, s, l)
-
 -- no live part has the target of the open epoch
-target_apart : (value : RoomValue) → IsWhole value → (p : Part) → Contains value.room.parts p → AllByRecursion (λ r. list_any (nat_eq r) (option_to_list value.target) ≡ false) (regions_of p)
+pub target_apart : (value : RoomValue) → IsWhole value → (p : Part) → Contains value.room.parts p → AllByRecursion (λ r. list_any (nat_eq r) (option_to_list value.target) ≡ false) (regions_of p)
 target_apart value whole p there = each_counted (λ r. list_any (nat_eq r) (option_to_list value.target) ≡ false) (regions_of p) (λ r low. by value.target refl r low)
   where
     other : (m n : ℕ) → m ≢ n → (nat_eq m n || false) ≡ false
@@ -90,46 +59,6 @@ target_apart value whole p there = each_counted (λ r. list_any (nat_eq r) (opti
             let own = in_parts p live t there in
             let at = ap (λ o. times t (option_to_list o)) is ∙ times-same t [] in
             omega (arith, d, a, b, c, e, own, at, low)
-
--- ---- what a seal touches
-
-images : (o : RoomValue) → IsWhole o → (image : Image) → o.room.image ≡ Some image → option_map (λ (t : Told). t.bytes) o.disk.told ≡ Some image
-images o w image is = sym (ap (λ (r : RoomState). r.image) w.of_disk) ∙ is
-
-long_as : (o : RoomValue) → IsWhole o → (image : Image) → o.room.image ≡ Some image → length image ≡ o.disk.regions
-long_as o w image is = by o.disk.told w.sound.told (images o w image is)
-  where
-    by : (t : Option Told) → IfSome t (IsToldOf o.disk) → option_map (λ (t : Told). t.bytes) t ≡ Some image → length image ≡ o.disk.regions
-    by None told e = absurd (let x = e in cc)
-    by (Some t) told e = ap length (sym (bytes_are t image e)) ∙ told.regions
-
-module _ (old new : RoomValue) (was : IsWhole old) (whole : IsWhole new) (opened : old.room.is_shut ≡ false) (regions : new.disk.regions ≡ old.disk.regions) (read : KeepsBeside (option_to_list old.target) old.disk new.disk) where
-  module _ (first last : Image) (is_first : old.room.image ≡ Some first) (is_last : new.room.image ≡ Some last) where
-    beside : BothRead (λ a b. (r : ℕ) → list_any (nat_eq r) (option_to_list old.target) ≡ false → region_of b.bytes r ≡ region_of a.bytes r) old.disk.told new.disk.told first last
-    beside = both_read _ old.disk.told new.disk.told first last read (images old was first is_first) (images new whole last is_last)
-
-    -- a live part has the bytes that it had
-    unchanged : (p : Part) → Contains old.room.parts p → IsUnchanged old.room.region_len first last p
-    unchanged p there = record {
-      header = subst (λ n. HasHeader n first p.region p.header) (sym (ap (λ (r : RoomState). r.region_len) was.of_disk))
-          (All-contains (λ (q : Part). HasHeader old.disk.region_len first q.region q.header) (old.room.parts ++ old.room.retired) p (All-from_recursion _ (old.room.parts ++ old.room.retired) (held_now old was (was.lost opened) first is_first).1.headers)
-          (Contains-append_left old.room.parts old.room.retired p there));
-      same = record { as_many = long_as new whole last is_last ∙ regions ∙ sym (long_as old was first is_first); same = each (regions_of p) (target_apart old was p there) };
-    }
-      where
-        each : (rs : List ℕ) → AllByRecursion (λ r. list_any (nat_eq r) (option_to_list old.target) ≡ false) rs → AllByRecursion (λ r. region_of last r ≡ region_of first r) rs
-        each [] all = tt
-        each (r ∷ rs) all = (ap (λ i. region_of i r) (sym beside.last_is) ∙ beside.related r all.0 ∙ ap (λ i. region_of i r) beside.first_is, each rs all.1)
-
-  -- where nothing was sealed, whatever came of the target
-  pub kept_made : new.room.open_rows ≡ old.room.open_rows → new.room.parts ≡ old.room.parts → MadeOn old new
-  kept_made rows parts = made_none old new rows (record {
-    makes = λ entry first last at_entry sealed is_first is_last made.
-        none_more old.room.region_len entry last at_entry sealed new.room.parts
-        (subst (AreMadeOf old.room.region_len entry last at_entry sealed) (sym parts) (none_made old.room.region_len entry first last at_entry sealed old.room.parts (unchanged first last is_first is_last) made));
-    good = λ entry first last at_entry is_first is_last good.
-        subst (AreKeptOrGood old.room.region_len entry last at_entry) (sym parts) (all_good old.room.region_len entry first last at_entry old.room.parts (unchanged first last is_first is_last) good);
-  })
 
 -- ---- a seal
 
@@ -245,7 +174,7 @@ module _ (old new : RoomValue) (was : IsWhole old) (whole : IsWhole new) (some :
       are = parts_now ∙ ap (λ ps. ps ++ next_part old ∷ []) am.are ∙ sym (map-append (λ (m : Made × Part). m.1) am.made (own ∷ []));
       of_all = flat_map-append Of am.made (own ∷ []) ∙ ap (λ xs. xs ++ since old.room.open_rows ∷ []) am.of_all ∙ append_assoc (map at_entry parts) (map since sealed) (since old.room.open_rows ∷ [])
           ∙ ap (λ xs. map at_entry parts ++ xs) (sym (map-append since sealed (old.room.open_rows ∷ [])));
-      each = both am.made (all_still old.room.region_len entry first last am.made (λ p here. unchanged old new was whole opened s.2.1.regions read first last is_first is_last p (subst (λ ps. Contains ps p) (sym am.are) here)) am.each);
+      each = both am.made (all_still old.room.region_len entry first last am.made (λ p here. unchanged old new was whole opened s.2.1.regions (option_to_list old.target) (target_apart old was) read first last is_first is_last p (subst (λ ps. Contains ps p) (sym am.are) here)) am.each);
     }
       where
         own : Made × Part
@@ -267,6 +196,6 @@ module _ (old new : RoomValue) (was : IsWhole old) (whole : IsWhole new) (some :
       good = λ entry first last parts is_first is_last good.
           subst (AreKeptOrGood old.room.region_len entry last parts) (sym parts_now)
           (seal_good old.room.region_len entry last parts old.room.parts (next_part old) (record { header = has_header counts first last is_first is_last; rows = sorted; sealed = own_sealed counts first last is_first is_last })
-          (all_good old.room.region_len entry first last parts old.room.parts (unchanged old new was whole opened s.2.1.regions read first last is_first is_last) good));
+          (all_good old.room.region_len entry first last parts old.room.parts (unchanged old new was whole opened s.2.1.regions (option_to_list old.target) (target_apart old was) read first last is_first is_last) good));
     };
   }

@@ -19,7 +19,8 @@ use Rattle.room_steps.specs.Made.{MadeOn}
 use Rattle.fine_model.specs.declared.RunFault.{RunFault}
 use Rattle.room_steps.specs.Merging.{of_room}
 use Rattle.room_steps.proofs.MadeOn.{made_same}
-use Rattle.room_steps.proofs.SealedMade.{kept_made, seal_made}
+use Rattle.room_steps.proofs.BesideMade.{kept_made}
+use Rattle.room_steps.proofs.SealedMade.{seal_made, target_apart}
 use Rattle.run_laws.specs.Needs.{Unsealed}
 use Rattle.room_steps.specs.Steps.{Leaves, SealsWaiting}
 use Rattle.room_steps.proofs.Facts.{Rested, has_failed, leaves_on, on_sealed, unsealed_on, was_shut, well_counts, well_on, failed_on}
@@ -66,11 +67,11 @@ module _ (old mid new : ShelfValue) (r : Rested old mid) (some : 1 ≤ old.room.
   makes : (result : Result ℕ RoomFault) → RoomSealsOr mid.room new.room result → OnOk result (HoldsEpoch mid.room new.room) → MadeOn mid.room new.room
   makes (Ok epoch) s holds = seal_made mid.room new.room r.leaves.whole whole some_wait epoch s read holds
   makes (Err room_fault.Disk) s holds =
-      kept_made mid.room new.room r.leaves.whole whole s.0 s.1.regions read (ap (λ (x : RoomState). x.open_rows) s.1.room) (ap (λ (x : RoomState). x.parts) s.1.room)
+      kept_made mid.room new.room r.leaves.whole whole s.0 s.1.regions (option_to_list mid.room.target) (target_apart mid.room r.leaves.whole) read (ap (λ (x : RoomState). x.open_rows) s.1.room) (ap (λ (x : RoomState). x.parts) s.1.room)
   makes (Err (room_fault.Shut epoch)) s holds =
       made_same mid.room new.room (ap (λ (v : RoomValue). v.room.open_rows) s.2) (ap (λ (v : RoomValue). v.room.image) s.2) (ap (λ (v : RoomValue). v.room.parts) s.2)
   makes (Err room_fault.NoMemory) s holds =
-      kept_made mid.room new.room r.leaves.whole whole s.0 s.1.regions read (ap (λ (x : RoomState). x.open_rows) s.1.room) (ap (λ (x : RoomState). x.parts) s.1.room)
+      kept_made mid.room new.room r.leaves.whole whole s.0 s.1.regions (option_to_list mid.room.target) (target_apart mid.room r.leaves.whole) read (ap (λ (x : RoomState). x.open_rows) s.1.room) (ap (λ (x : RoomState). x.parts) s.1.room)
 
   seal_leaves : (result : Result ℕ RoomFault) → RoomSealsOr mid.room new.room result → OnOk result (HoldsEpoch mid.room new.room) → Leaves mid new
   seal_leaves result s holds =

@@ -84,7 +84,7 @@ module _ (old new : RoomValue) (was : IsWhole old) (whole : IsWhole new) where
       (none_made old.room.region_len entry first last parts sealed old.room.parts
       (λ p there. unchanged opened first is_first last new.room.image p is_last there (live.each p there (subst (λ ps. Contains ps p) (sym same) there))) made))
 
-  still : old.room.is_shut ≡ false → KeepsLive old new → new.room.parts ≡ old.room.parts → LivesOn [] old new
+  pub still : old.room.is_shut ≡ false → KeepsLive old new → new.room.parts ≡ old.room.parts → LivesOn [] old new
   still opened live same = record {
     makes = still_makes opened live same;
     good = λ entry first last parts is_first is_last good.

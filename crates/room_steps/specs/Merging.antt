@@ -16,7 +16,8 @@ use Rattle.room_merges.specs.declared.fault.MergeFault.{MergeFault}
 use Rattle.room_merges.specs.declared.fault.MergeFault.TheVariants as merge_fault
 use Rattle.room_shelf.specs.Shelves.{Rests, ShelfValue}
 use Rattle.run_laws.specs.Needs.{HasNoRegion, IsSealed, Unsealed}
-use Rattle.room_steps.specs.Steps.{FaultOf, IsFull, IsNamed, IsWell, Leaves, MakesRoom, NoneMerge}
+use Rattle.merge_policy.specs.Young.{young_run}
+use Rattle.room_steps.specs.Steps.{FaultOf, IsFull, IsNamed, IsWell, Leaves, MakesRoom, NoneMerge, TidyOr, space_of}
 
 -- the view was taken back, if one was out, and else nothing was done
 pub record TakesView (old new : ShelfValue) : Type 0 where
@@ -62,6 +63,28 @@ pub record IsMerging (old new : ShelfValue) : Type 0 where
 pub record IsTidying (old new : ShelfValue) : Type 0 where
   pub merging : IsMerging old new
   pub called : (new ≡ old) ⊎ ((from : ℕ) × IsNamed old.room.room (Some from))
+
+-- merging as long as the policy names neighbours, by the answer; nothing is changed where it names none
+pub record MergesNamed (old new : ShelfValue) (result : Result (Unit {0}) RunFault) : Type 0 where
+  pub leaves : Leaves old new
+  pub unsealed : Unsealed old.room.room new.room.room
+  pub called : (new ≡ old) ⊎ ((from : ℕ) × IsNamed old.room.room (Some from))
+  pub tidy : TidyOr old new result
+
+-- parts were gathered, or left as they are
+abbrev pub GatherOr : ShelfValue → ShelfValue → Result (Unit {0}) RunFault → Type 0
+GatherOr old new (Ok u) = IsWell old new
+GatherOr old new (Err fault) = FaultOf old new fault
+
+-- what gathering does, and erasing what is retired then
+pub record GathersFrom (old new : ShelfValue) (result : Result (Unit {0}) RunFault) : Type 0 where
+  pub leaves : Leaves old new
+  pub unsealed : Unsealed old.room.room new.room.room
+  pub gather : GatherOr old new result
+
+-- so where the policy names parts to gather; else nothing is done
+abbrev pub GathersNamed : ShelfValue → ShelfValue → Result (Unit {0}) RunFault → Type 0
+GathersNamed old new result = ((new ≡ old) × (result ≡ Ok tt) × (young_run (space_of old.room.room) old.room.room.parts ≡ None)) ⊎ (((from : ℕ) × (young_run (space_of old.room.room) old.room.room.parts ≡ Some from)) × GathersFrom old new result)
 
 -- a region is free for a new epoch, or none can be made free
 abbrev pub FreeOr : ShelfValue → ShelfValue → Result Bool RunFault → Type 0

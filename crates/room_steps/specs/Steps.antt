@@ -20,6 +20,7 @@ use Rattle.epoch_room.specs.declared.answers.Fit.{Fit}
 use Rattle.epoch_room.specs.declared.answers.Fit.TheVariants as fit
 use Rattle.merge_policy.specs.declared.figures.Space.{Space}
 use Rattle.merge_policy.specs.Choices.{Picks, aims_of, neighbours, question}
+use Rattle.merge_policy.specs.Young.{young_run}
 use Rattle.room_merges.specs.Near.{BlamedFirst, IsReadRefused, NoneFitNow}
 use Rattle.room_shelf.specs.Shelves.{IsCountOf, IsShelf, ShelfValue, total}
 use Rattle.run_laws.specs.Needs.{HasNoRegion, IsSealed, Unsealed}
@@ -116,16 +117,20 @@ pub record NoneMerge (room : RoomValue) : Type 0 where
   pub none_retired : room.room.retired ≡ []
   pub none_fit : NoneFitNow room
 
+-- the policy names parts to gather, or neighbours
+abbrev pub NamesSome : RoomState → Type 0
+NamesSome room = (from : ℕ) × ((young_run (space_of room) room.parts ≡ Some from) ⊎ IsNamed room (Some from))
+
 -- it goes on as long as the policy names neighbours and some fit
 abbrev pub TidyOr : ShelfValue → ShelfValue → Result (Unit {0}) RunFault → Type 0
 TidyOr old new (Ok u) = NoneFailed old new × (IsNamed new.room.room None ⊎ NoneMerge new.room)
 TidyOr old new (Err fault) = FaultOf old new fault
 
--- nothing is changed, and the view stays out, unless the policy named neighbours
+-- nothing is changed, and the view stays out, unless the policy named some parts
 pub record Tidies (old new : ShelfValue) (result : Result (Unit {0}) RunFault) : Type 0 where
   pub leaves : Leaves old new
   pub unsealed : Unsealed old.room.room new.room.room
-  pub called : (new ≡ old) ⊎ ((from : ℕ) × IsNamed old.room.room (Some from))
+  pub called : (new ≡ old) ⊎ NamesSome old.room.room
   pub tidy : TidyOr old new result
 
 -- ---- room for rows

@@ -1,17 +1,18 @@
-//! Merging neighbours between transactions.
+//! Merging neighbours, and gathering the youngest parts, between transactions.
 
 ghost use Rattle.std.specs.Prelude.{◌≡◌, ◌<◌, ◌≤◌, None, false};
+ghost use Rattle.fine_model.specs.RowBytes.{longest_region};
 ghost use Rattle.room_shelf.specs.Shelves.{IsShelf, shelf};
-ghost use Rattle.room_steps.specs.Merging.{Frees, MergesOne, of_fetch, of_merge};
-ghost use Rattle.room_steps.specs.Steps.{IsNamed, Tidies};
+ghost use Rattle.room_steps.specs.Merging.{Frees, GathersFrom, GathersNamed, MergesNamed, MergesOne, of_fetch, of_merge};
+ghost use Rattle.room_steps.specs.Steps.{IsNamed, Tidies, space_of};
 
 use crate::sealing::{of_room, take_view};
 use epoch_room::Room;
 use fine_model::{Damage, FetchFault, RunFault};
 use log_disk::LogDisk;
-use merge_policy::{Space, next_merge};
+use merge_policy::{Space, next_merge, young_run};
 use partition_hold::View;
-use room_merges::{MergeFault, merge_near};
+use room_merges::{MergeFault, erase_retired, merge_near};
 use std::alloc::Global;
 
 /// How many free regions a new epoch asks for. As many are spared by merging.
@@ -46,15 +47,7 @@ fn of_merge(fault: MergeFault) -> RunFault
 fn named<D: LogDisk>(room: &Room<D>) -> Option<u64>
     ensures { IsNamed room.now.room result }
 {
-    let counts = room.counts();
-    let space = Space {
-        region_len: room.region_len(),
-        free: counts.free,
-        is_pressed: room.pressed(),
-        spare: SPARE,
-        sealed: counts.sealed,
-    };
-    next_merge(room.parts().as_slice(), space, &[])
+    next_merge(room.parts().as_slice(), space_of(room), &[])
 }
 
 /// Takes the view back, if one is out, and merges the first neighbours that fit, of those from an epoch on and then of those before.
@@ -79,19 +72,75 @@ fn merge_one<D: LogDisk>(
     }
 }
 
-/// Merges neighbours as long as the policy names some and some fit, as is done behind a seal. Where it names none the call changes nothing, and the view
-/// stays out. Nothing is sealed or added, and all that waits still waits.
-///
-/// `Disk` comes only where the disk or a read failed in this call, or where the room was shut before. After `Memory` and `Damaged` the room is open, and no
-/// call failed. `Damaged` names a row or an index entry of a live part that is bad by what was read. With each fault, neighbours that were merged before stay so.
-pub fn tidy<D: LogDisk>(
+/// What the policy is asked of the regions.
+fn space_of<D: LogDisk>(room: &Room<D>) -> Space
+    ensures is { result ≡ space_of room.now.room }
+    ensures short { 1 ≤ result.region_len }
+    ensures long { result.region_len ≤ longest_region }
+{
+    let counts = room.counts();
+    Space {
+        region_len: room.region_len(),
+        free: counts.free,
+        is_pressed: room.pressed(),
+        spare: SPARE,
+        sealed: counts.sealed,
+    }
+}
+
+/// Takes the view back, if one is out, gathers the parts from an epoch on into one, and erases what is retired.
+fn gather_from<D: LogDisk>(
+    room: &mut Room<D>,
+    out: &mut Option<View<D::Eye>>,
+    from: u64,
+) -> Result<(), RunFault>
+    requires shelf { IsShelf room.old.room out.old }
+    requires no_job { room.old.room.job ≡ None }
+    ensures { GathersFrom (shelf room.old out.old) (shelf room.new out.new) result }
+{
+    let _counts = room.counts();
+    take_view(room, out);
+    let _rested = room.counts();
+    let gathered = room.gather(from);
+    let _gathered = room.counts();
+    match gathered {
+        Ok(_done) => {
+            let erased = erase_retired(room);
+            let _erased = room.counts();
+            match erased {
+                Ok(()) => Ok(()),
+                Err(fault) => Err(of_merge(fault)),
+            }
+        }
+        Err(fault) => Err(of_room(fault)),
+    }
+}
+
+/// Gathers the youngest parts, where the policy names some.
+fn gather_young<D: LogDisk>(
+    room: &mut Room<D>,
+    out: &mut Option<View<D::Eye>>,
+) -> Result<(), RunFault>
+    requires shelf { IsShelf room.old.room out.old }
+    requires no_job { room.old.room.job ≡ None }
+    ensures { GathersNamed (shelf room.old out.old) (shelf room.new out.new) result }
+{
+    let _counts = room.counts();
+    match young_run(room.parts().as_slice(), space_of(room)) {
+        Some(from) => gather_from(room, out, from),
+        None => Ok(()),
+    }
+}
+
+/// Merges neighbours as long as the policy names some and some fit.
+fn merge_named<D: LogDisk>(
     alloc: Global,
     room: &mut Room<D>,
     out: &mut Option<View<D::Eye>>,
 ) -> Result<(), RunFault>
     requires shelf { IsShelf room.old.room out.old }
     requires no_job { room.old.room.job ≡ None }
-    ensures { Tidies (shelf room.old out.old) (shelf room.new out.new) result }
+    ensures { MergesNamed (shelf room.old out.old) (shelf room.new out.new) result }
 {
     let _counts = room.counts();
     while let Some(from) = named(room) {
@@ -105,6 +154,26 @@ pub fn tidy<D: LogDisk>(
         }
     }
     Ok(())
+}
+
+/// Gathers the youngest parts where the policy names some, and merges neighbours as long as it names some and some fit, as is done behind a seal. Where it names
+/// none the call changes nothing, and the view stays out. Nothing is sealed or added, and all that waits still waits.
+///
+/// `Disk` comes only where the disk or a read failed in this call, or where the room was shut before. After `Memory` and `Damaged` the room is open, and no
+/// call failed. `Damaged` names a row or an index entry of a live part that is bad by what was read. With each fault, what was gathered or merged before stays so.
+pub fn tidy<D: LogDisk>(
+    alloc: Global,
+    room: &mut Room<D>,
+    out: &mut Option<View<D::Eye>>,
+) -> Result<(), RunFault>
+    requires shelf { IsShelf room.old.room out.old }
+    requires no_job { room.old.room.job ≡ None }
+    ensures { Tidies (shelf room.old out.old) (shelf room.new out.new) result }
+{
+    match gather_young(room, out) {
+        Ok(()) => merge_named(alloc, room, out),
+        Err(fault) => Err(fault),
+    }
 }
 
 /// Merges neighbours until a region is free for a new epoch: true, or false where none fit any more.

@@ -1,7 +1,7 @@
 use Rattle.std.proofs.Common.{length}
 use Rattle.room_shelf.specs.Shelves.{shelf}
 use Rattle.room_steps.specs.Merging.{IsTidying}
-use Rattle.room_steps.proofs.merging.tidy.Given as goal
+use Rattle.room_steps.proofs.merging.merge_named.Given as goal
 
 -- so far neighbours were merged that the policy named, and no call failed
 abbrev pub invariant-loop-from : goal.invariant-loop-from

@@ -19,7 +19,7 @@ use Rattle.epoch_room.specs.Fitting.{one_taken, taken_once}
 use Rattle.epoch_room.specs.Value.{RoomValue, Kept, value_of, all_regions, regions_outside}
 use Rattle.epoch_room.specs.Whole.{AreApart, IsJob, IsWhole}
 use Rattle.epoch_room.specs.Steps.{appended}
-use Rattle.epoch_room.proofs.Costs.{cost_together}
+use Rattle.log_partition.proofs.Costs.{cost_together}
 use Rattle.epoch_room.proofs.Fits.{MayAppend}
 use Rattle.epoch_room.proofs.Freeing.{free_in_image}
 use Rattle.epoch_room.proofs.Taken.{first_free, left_free, apart_more}

@@ -34,7 +34,7 @@ use Rattle.epoch_room.specs.Value.{Kept, all_regions, regions_outside, taken, va
 use Rattle.epoch_room.specs.Whole.{AreApart, AreOnBoard, FollowOn, HasEntry, HasGeometry, HoldsParts, IsJob, IsTaken, IsWhole, NamesWhole}
 use Rattle.epoch_room.proofs.Beside.{regions_together}
 use Rattle.epoch_room.proofs.Boarding.{AreAlike, AreBeside, one_beside, still_shows, unnamed_posted}
-use Rattle.epoch_room.proofs.Costs.{cost_none}
+use Rattle.log_partition.proofs.Costs.{cost_none}
 use Rattle.epoch_room.proofs.Counting.{all_front, all_back}
 use Rattle.epoch_room.proofs.Freeing.{all_left, nat_alike}
 use Rattle.epoch_room.proofs.Longer.{range_of}

@@ -12,7 +12,7 @@ use Rattle.fine_model.proofs.Grammar.{rows_long}
 use Rattle.fine_model.proofs.Sets.{all_append}
 use Rattle.epoch_room.specs.Gathered.{rows_in, IsGathered}
 use Rattle.epoch_room.specs.declared.epoch.OpenEpoch.TheInside.{Inside}
-use Rattle.epoch_room.proofs.Costs.{cost_together, cost_none}
+use Rattle.log_partition.proofs.Costs.{cost_together, cost_none}
 
 abbrev logs_rows : List (Snapshot (List Row)) → List Row
 logs_rows logs = flat_map (λ (kept : Snapshot (List Row)). kept.value) logs

@@ -13,7 +13,6 @@ pub mod Boarding
 pub mod Bodies
 pub mod BodyPieces
 pub mod Carrying
-pub mod Costs
 pub mod Counting
 pub mod Ending
 pub mod Erasing
@@ -40,7 +39,6 @@ pub mod OneRegion
 pub mod OpenedOver
 pub mod Partitions
 pub mod Picking
-pub mod Reading
 pub mod Retired
 pub mod Returning
 pub mod SealedJobs

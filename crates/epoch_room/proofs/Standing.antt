@@ -27,7 +27,7 @@ use Rattle.log_disk.proofs.Times.{continued_later, continues_none}
 use Rattle.log_disk.proofs.Moments.{only_now, now_since, synced_now}
 use Rattle.epoch_room.specs.Value.{RoomValue, made}
 use Rattle.epoch_room.specs.Whole.{IsIdle, AreParts, HoldsParts, IsWhole, NamesWhole}
-use Rattle.epoch_room.proofs.Costs.{cost_none}
+use Rattle.log_partition.proofs.Costs.{cost_none}
 use Rattle.epoch_room.proofs.Ending.{no_parts_unsynced}
 use Rattle.fine_model.specs.Trees.{is_distinct}
 use Rattle.epoch_room.specs.Steps.{appended}

@@ -10,7 +10,7 @@ ghost use Rattle.epoch_room.specs.Epoch.{empty, with_entry};
 
 use fine_model::NoMemory;
 use fine_model::format::GREATEST;
-use node_record::{RowAt, front_at};
+use node_record::{RowAt, keys_of};
 use private_log::PrivateLog;
 use std::alloc::Global;
 use std::marker::Model;
@@ -110,14 +110,6 @@ impl OpenEpoch {
         requires { rows_len self.now.rows < 4294967296 }
         ensures { IfOk result (λ keys. AreKeysOf (rows_bytes self.now.rows) self.now.rows keys.items) }
     {
-        let bytes = self.bytes.as_slice();
-        let mut keys = Vec::new(alloc);
-        let mut at: u32 = 0;
-        while (at as usize) < bytes.len() {
-            let key = front_at(bytes, at);
-            keys.push(key)?;
-            at += key.len;
-        }
-        Ok(keys)
+        Ok(keys_of(alloc, self.bytes.as_slice(), self.logs.len())?)
     }
 }

@@ -1,8 +1,8 @@
-//! What no clause says: which neighbours are taken in some plain cases, and how often a byte is merged.
+//! What no clause says: which parts are taken in some plain cases, and how often a byte is merged.
 
 ghost use Rattle.std.specs.Prelude.{◌≡◌};
 
-use crate::{Measured, Space, next_merge};
+use crate::{Measured, Space, next_merge, young_run};
 use fine_model::{Header, Mark, Part, Range};
 use std::alloc::{AllocError, Global};
 use std::test::Fail;
@@ -177,5 +177,35 @@ fn a_byte_is_merged_nine_times_in_five_thousand_epochs(rt: HostRuntime) -> Resul
     assert_eq!(rt; tenths_merged(rt.alloc(), 2, [4096, 4096])?, 89);
     // a put alone, and one that splits a leaf
     assert_eq!(rt; tenths_merged(rt.alloc(), 2, [150, 2700])?, 72);
+    Ok(())
+}
+
+// So many parts of an epoch each, the oldest of so many bytes of rows and the others of so many.
+fn epochs_of(alloc: Global, count: u64, oldest: u32, area: u32) -> Result<Vec<Part>, AllocError> {
+    let mut parts = Vec::new(alloc);
+    for before in 0..count {
+        let area = if before == 0 { oldest } else { area };
+        parts.push(part_of(before + 1, before + 1, area))?;
+    }
+    Ok(parts)
+}
+
+#[test]
+fn the_youngest_parts_are_gathered_from_seventeen_on(rt: HostRuntime) -> Result<(), Fail> {
+    let cases = [
+        (16, 1000, 1000, None),
+        (17, 1000, 1000, Some(1)),
+        // twice as long as all behind it, and longer
+        (17, 33_000, 1000, Some(1)),
+        (17, 40_000, 1000, Some(2)),
+        // five parts have at most 1 MiB, and two of twice their length
+        (17, 1000, 200_000, Some(13)),
+        (17, 1000, 400_000, None),
+    ];
+    for (count, oldest, area, first) in cases {
+        let parts = epochs_of(rt.alloc(), count, oldest, area)?;
+        assert_eq!(rt; young_run(parts.as_slice(), space(7, true, 2, 7)), first);
+        assert_eq!(rt; young_run(parts.as_slice(), space(7, false, 2, 7)), None);
+    }
     Ok(())
 }

@@ -28,14 +28,14 @@ use Rattle.fine_model.proofs.PushNodes.{push_here, push_other, TwoChanged, last_
 use Rattle.fine_model.proofs.Grows.{Grows}
 
 -- one pair more at most
-length-set_le : (pairs : List Pair) (key value : List ℕ) → length (set pairs key value) ≤ length pairs + 1
+pub length-set_le : (pairs : List Pair) (key value : List ℕ) → length (set pairs key value) ≤ length pairs + 1
 unfolding set
 length-set_le pairs key value =
     let a = length-append (pairs_below key pairs) ((key, value) ∷ pairs_above key pairs) in
     let e = exclusive (λ q. is_below q.0 key) (λ q. is_below key q.0) pairs (apart_pairs key) in omega (arith, a, e)
 
 -- and none where the key is there
-length-set_there : (pairs : List Pair) (key value : List ℕ) → is_ascending (keys_of pairs) ≡ true → has pairs key ≡ true → length (set pairs key value) ≤ length pairs
+pub length-set_there : (pairs : List Pair) (key value : List ℕ) → is_ascending (keys_of pairs) ≡ true → has pairs key ≡ true → length (set pairs key value) ≤ length pairs
 length-set_there pairs key value up there = by (around_key key pairs up)
   where
     by : Around key pairs → length (set pairs key value) ≤ length pairs
@@ -69,7 +69,7 @@ within_parts bucket bounds key h =
 pub within_is : (bucket : ℕ) (bounds : Bounds) (key : List ℕ) → is_from bounds.low key ≡ true → is_up_to bounds.high key ≡ true → (bucket_of key == bucket) ≡ true → is_key_within bucket bounds key ≡ true
 within_is bucket bounds key a b c = ap (λ x. x && (is_up_to bounds.high key && (bucket_of key == bucket))) a ∙ ap (λ x. x && (bucket_of key == bucket)) b ∙ c
 
-low_before : (low a b : List ℕ) → is_below a low ≡ false → is_below a b ≡ true → is_below low b ≡ true
+pub low_before : (low a b : List ℕ) → is_below a low ≡ false → is_below a b ≡ true → is_below low b ≡ true
 low_before low a b from below = by (order_cases low a)
   where
     by : ((is_below low a ≡ true) × (is_below a low ≡ false)) ⊎ (low ≡ a) ⊎ ((is_below a low ≡ true) × (is_below low a ≡ false)) → is_below low b ≡ true
@@ -77,7 +77,7 @@ low_before low a b from below = by (order_cases low a)
     by (inr (inl e)) = ap (λ k. is_below k b) e ∙ below
     by (inr (inr h)) = absurd (true≢false (sym h.0 ∙ from))
 
-above_from : (low : Option (List ℕ)) (a b : List ℕ) → is_from low a ≡ true → is_below a b ≡ true → is_above low b ≡ true
+pub above_from : (low : Option (List ℕ)) (a b : List ℕ) → is_from low a ≡ true → is_below a b ≡ true → is_above low b ≡ true
 above_from None a b h l = refl
 above_from (Some low) a b h l = low_before low a b (not-true (is_below a low) h) l
 

@@ -23,31 +23,31 @@ abbrev Spell : List (List (List ℕ) × Option Command) → Type 0
 Spell table = map (λ row. command_of row.0) table ≡ map (λ row. row.1) table
 
 pub words_spell : Spell (
-  (codes "fly" ∷ [], None)
-  ∷ ([], None)
-  ∷ (codes "gen" ∷ codes "7" ∷ codes "5" ∷ codes "17" ∷ [], None)
-  ∷ (codes "run" ∷ codes "--group" ∷ codes "0" ∷ [], None)
-  ∷ (codes "run" ∷ codes "--group=1" ∷ [], Some (run (record { group = 1; tries = 100; keep = 64 })))
-  ∷ [])
+    (codes "fly" ∷ [], None)
+    ∷ ([], None)
+    ∷ (codes "gen" ∷ codes "7" ∷ codes "5" ∷ codes "17" ∷ [], None)
+    ∷ (codes "run" ∷ codes "--group" ∷ codes "0" ∷ [], None)
+    ∷ (codes "run" ∷ codes "--group=1" ∷ [], Some (run (record { group = 1; tries = 100; keep = 64 })))
+    ∷ [])
 unfolding command_of options_in digits
 words_spell = refl
 
 -- two dashes may stand behind the options, and before or among numbers; the words behind them are no options, and once more
 -- they are a word
 pub dashes_spell : Spell (
-  (codes "run" ∷ codes "--keep" ∷ codes "7" ∷ codes "--" ∷ [], Some (run (record { group = 64; tries = 100; keep = 7 })))
-  ∷ (codes "gen" ∷ codes "7" ∷ codes "--" ∷ codes "5" ∷ codes "4" ∷ [], Some (gen 7 5 4))
-  ∷ (codes "run" ∷ codes "--" ∷ codes "--keep" ∷ codes "7" ∷ [], None)
-  ∷ (codes "dump" ∷ codes "--" ∷ codes "--" ∷ [], None)
-  ∷ [])
+    (codes "run" ∷ codes "--keep" ∷ codes "7" ∷ codes "--" ∷ [], Some (run (record { group = 64; tries = 100; keep = 7 })))
+    ∷ (codes "gen" ∷ codes "7" ∷ codes "--" ∷ codes "5" ∷ codes "4" ∷ [], Some (gen 7 5 4))
+    ∷ (codes "run" ∷ codes "--" ∷ codes "--keep" ∷ codes "7" ∷ [], None)
+    ∷ (codes "dump" ∷ codes "--" ∷ codes "--" ∷ [], None)
+    ∷ [])
 unfolding command_of options_in digits
 dashes_spell = refl
 
 -- an option stands once, and its number has no sign
 pub options_spell : Spell (
-  (codes "run" ∷ codes "--keep=7" ∷ codes "--keep" ∷ codes "8" ∷ [], None)
-  ∷ (codes "run" ∷ codes "--tries" ∷ codes "-1" ∷ [], None)
-  ∷ [])
+    (codes "run" ∷ codes "--keep=7" ∷ codes "--keep" ∷ codes "8" ∷ [], None)
+    ∷ (codes "run" ∷ codes "--tries" ∷ codes "-1" ∷ [], None)
+    ∷ [])
 unfolding command_of options_in digits
 options_spell = refl
 

@@ -11,6 +11,7 @@ use Rattle.fine_model.specs.declared.Rec.TheVariants as rec
 use Rattle.fine_model.specs.declared.Row.{Row}
 use Rattle.fine_model.specs.RowBytes.{greatest, last_kind, key_bytes, value_bytes, pair_bytes, kind, body, row_bytes, FitsKey, FitsPair, FitsChild, FitsRec, FitsRow, BeginsWithRow}
 use Rattle.fine_model.proofs.Grammar.{row_long}
+use Rattle.fine_model.proofs.FitPushed.{kind_few}
 use Rattle.std.proofs.lemmas.Bool.{and_parts}
 use Rattle.node_record.specs.declared.front.Front.{Front}
 use Rattle.node_record.specs.declared.fault.RowFault.{RowFault}
@@ -187,15 +188,7 @@ head_from kind number h = by (eqb kind 1) (eqb number 0) refl refl
     by false false ek en = refl
 
 kind_small : (r : Rec) → kind r < 256
-kind_small (rec.HeadImage root next depth) = omega arith
-kind_small (rec.LeafImage pairs) = omega arith
-kind_small (rec.InnerImage seps kids) = omega arith
-kind_small (rec.Put key value) = omega arith
-kind_small (rec.Del key) = omega arith
-kind_small (rec.CutLeaf key) = omega arith
-kind_small (rec.CutInner key) = omega arith
-kind_small (rec.Link key child) = omega arith
-kind_small (rec.Plus key by) = omega arith
+kind_small r = let few = kind_few r in omega (arith, few)
 
 passed : {A : Type 0} (b : Bool) (x y : A) → cond b (Some x) None ≡ Some y → (b ≡ true) × (x ≡ y)
 passed true x y e = (refl, cc)

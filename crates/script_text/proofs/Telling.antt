@@ -97,21 +97,10 @@ other_first a b e other = let same : get_or a 0 0 ≡ get_or b 0 0 = ap (λ t. g
 
 same_why : (a b : Why) → why_word a ≡ why_word b → a ≡ b
 same_why why.Large why.Large e = refl
-same_why why.Large why.Bucket e = absurd (other_first _ _ e refl)
-same_why why.Large why.Full e = absurd (other_first _ _ e refl)
-same_why why.Large why.Number e = absurd (other_first _ _ e refl)
-same_why why.Bucket why.Large e = absurd (other_first _ _ e refl)
 same_why why.Bucket why.Bucket e = refl
-same_why why.Bucket why.Full e = absurd (other_first _ _ e refl)
-same_why why.Bucket why.Number e = absurd (other_first _ _ e refl)
-same_why why.Full why.Large e = absurd (other_first _ _ e refl)
-same_why why.Full why.Bucket e = absurd (other_first _ _ e refl)
 same_why why.Full why.Full e = refl
-same_why why.Full why.Number e = absurd (other_first _ _ e refl)
-same_why why.Number why.Large e = absurd (other_first _ _ e refl)
-same_why why.Number why.Bucket e = absurd (other_first _ _ e refl)
-same_why why.Number why.Full e = absurd (other_first _ _ e refl)
 same_why why.Number why.Number e = refl
+same_why _ _ e = absurd (other_first _ _ e refl)
 
 same_text : (a b : TxnMark) → FitsMark a → FitsMark b → mark_text a ≡ mark_text b → a ≡ b
 same_text (committed place epoch) (committed place' epoch') p q e =
@@ -120,21 +109,10 @@ same_text (committed place epoch) (committed place' epoch') p q e =
     let one : place ≡ place' = decimal_injective place place' (omega (arith, p.0)) (omega (arith, q.0)) s.0 in
     let two : epoch ≡ epoch' = decimal_injective epoch epoch' (omega (arith, p.1)) (omega (arith, q.1)) (ap (drop 6) s.1) in
     λ i. committed (one i) (two i)
-same_text (committed place epoch) aborted p q e = absurd (other_first _ _ e refl)
-same_text (committed place epoch) (refused why') p q e = absurd (other_first _ _ e refl)
-same_text (committed place epoch) not_run p q e = absurd (other_first _ _ e refl)
-same_text aborted (committed place' epoch') p q e = absurd (other_first _ _ e refl)
 same_text aborted aborted p q e = refl
-same_text aborted (refused why') p q e = absurd (other_first _ _ e refl)
-same_text aborted not_run p q e = absurd (other_first _ _ e refl)
-same_text (refused why) (committed place' epoch') p q e = absurd (other_first _ _ e refl)
-same_text (refused why) aborted p q e = absurd (other_first _ _ e refl)
 same_text (refused why) (refused why') p q e = ap refused (same_why why why' (ap (drop 8) e))
-same_text (refused why) not_run p q e = absurd (other_first _ _ e refl)
-same_text not_run (committed place' epoch') p q e = absurd (other_first _ _ e refl)
-same_text not_run aborted p q e = absurd (other_first _ _ e refl)
-same_text not_run (refused why') p q e = absurd (other_first _ _ e refl)
 same_text not_run not_run p q e = refl
+same_text _ _ p q e = absurd (other_first _ _ e refl)
 
 no_feed_why : (why : Why) → HasNo 10 (why_word why)
 no_feed_why why.Large = has_no 10 (codes "large") refl

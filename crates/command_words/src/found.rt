@@ -9,9 +9,8 @@ ghost use Rattle.command_words.specs.Words.{meant, IsWithin};
 ghost use Rattle.command_words.specs.Program.{command_found, command_named, generated_of, given_in_rows, option_of};
 
 use super::command::Command;
-use super::numbers::number_of_64;
 use clap::ArgMatches;
-use fine_model::{Options, natural_of};
+use fine_model::{Options, natural_of, natural_of_64};
 
 const MOST_GROUP: u32 = 100_000;
 
@@ -63,7 +62,7 @@ fn generated(start: &str, count: &str, lanes: &str) -> Option<Command>
     ensures is { option_map meant result ≡ gen_of (start.now ∷ count.now ∷ lanes.now ∷ []) }
     ensures within { IfSome result IsWithin }
 {
-    let start = number_of_64(start.as_bytes())?;
+    let start = natural_of_64(start.as_bytes(), 0, u64::MAX)?;
     let count = natural_of(count.as_bytes(), 0, MOST_COUNT)?;
     let lanes = natural_of(lanes.as_bytes(), 1, MOST_LANES)?;
     Some(Command::Gen {

@@ -4,7 +4,6 @@
 mod command;
 mod found;
 mod geometry;
-mod numbers;
 mod program;
 mod splitting;
 

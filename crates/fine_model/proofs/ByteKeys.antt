@@ -22,6 +22,7 @@ use Rattle.fine_model.proofs.AllPairs.{pairs_set, map_all}
 use Rattle.fine_model.proofs.NodeBounds.{recs_fit, node_fits_of}
 use Rattle.fine_model.proofs.Gathered.{joined-ascends}
 use Rattle.fine_model.proofs.KeptPairs.{pairs_fit_node, whole_range, kept_all}
+use Rattle.fine_model.proofs.NodeLaws.{replay_keeps}
 
 abbrev HasByteKey : Pair → Type 0
 HasByteKey p = AreBytes p.0
@@ -46,12 +47,7 @@ unfolding body
 keys_in (rec.LeafImage pairs) all = pairs_in pairs all.1
 keys_in (rec.Put key value) all = all_left (λ b. b < 256) key _ all.1
 keys_in (rec.Plus key by) all = all_left (λ b. b < 256) key _ all.1
-keys_in (rec.HeadImage root next depth) all = tt
-keys_in (rec.InnerImage seps kids) all = tt
-keys_in (rec.Del key) all = tt
-keys_in (rec.CutLeaf key) all = tt
-keys_in (rec.CutInner key) all = tt
-keys_in (rec.Link key child) all = tt
+keys_in _ all = tt
 
 row_keys : (row : Row) → AreBytes (row_bytes row) → KeysIn row.rec
 unfolding row_bytes
@@ -139,28 +135,8 @@ changed_keys (node.Inner seps kids) (rec.CutInner key) all one = tt
 changed_keys (node.Inner seps kids) (rec.Link key child) all one = linked_keys seps kids key child
 changed_keys _ _ all one = tt
 
-next_keys : (old : Content) (version : ℕ) (r : Rec) → KeysOf old.0 → KeysIn r → KeysOf (changed_from old version r)
-next_keys old version r all one = by (nat_eq version (old.1 + 1))
-  where
-    by : (b : Bool) → KeysOf (cond b (changed old.0 r) node.Broken)
-    by true = changed_keys old.0 r all one
-    by false = tt
-
-step_keys : (old : Content) (version : ℕ) (r : Rec) → KeysOf old.0 → KeysIn r → KeysOf (step_node old version r)
-step_keys old version (rec.HeadImage root next depth) all one = tt
-step_keys old version (rec.LeafImage pairs) all one = one
-step_keys old version (rec.InnerImage seps kids) all one = tt
-step_keys old version (rec.Put key value) all one = next_keys old version (rec.Put key value) all one
-step_keys old version (rec.Del key) all one = next_keys old version (rec.Del key) all one
-step_keys old version (rec.CutLeaf key) all one = next_keys old version (rec.CutLeaf key) all one
-step_keys old version (rec.CutInner key) all one = next_keys old version (rec.CutInner key) all one
-step_keys old version (rec.Link key child) all one = next_keys old version (rec.Link key child) all one
-step_keys old version (rec.Plus key by) all one = next_keys old version (rec.Plus key by) all one
-
 replay_keys : (rows : List Row) (old : Content) → RowsKeys rows → KeysOf old.0 → KeysOf (replay old rows).0
-unfolding replay step
-replay_keys [] old all h = h
-replay_keys (row ∷ rows) old all h = replay_keys rows (step old row) all.1 (step_keys old row.version row.rec h all.0)
+replay_keys = replay_keeps KeysOf KeysIn tt changed_keys (λ root next depth one. tt) (λ pairs one. one) (λ seps kids one. tt)
 
 node_keys : (rows : List Row) (id : _) → RowsKeys rows → KeysOf (content rows id).0
 unfolding content

@@ -80,12 +80,7 @@ unfolding body
 step_len c version (rec.HeadImage root next depth) = omega arith
 step_len c version (rec.LeafImage pairs) = let e = bytes_len pairs in omega (arith, e)
 step_len c version (rec.InnerImage seps kids) = omega arith
-step_len c version (rec.Put key value) = change_len c version (rec.Put key value)
-step_len c version (rec.Del key) = change_len c version (rec.Del key)
-step_len c version (rec.CutLeaf key) = change_len c version (rec.CutLeaf key)
-step_len c version (rec.CutInner key) = change_len c version (rec.CutInner key)
-step_len c version (rec.Link key child) = change_len c version (rec.Link key child)
-step_len c version (rec.Plus key by) = change_len c version (rec.Plus key by)
+step_len c version change = change_len c version change
 
 replay_len : (c : Content) (rows : List Row) → pairs_len (replay c rows).0 ≤ pairs_len c.0 + rows_len rows
 unfolding replay step

@@ -55,12 +55,7 @@ head_kind : (old : Content) (version : ℕ) (change : Rec) → is_head (step_nod
 head_kind old version (rec.HeadImage root next depth) = refl
 head_kind old version (rec.LeafImage pairs) = refl
 head_kind old version (rec.InnerImage seps kids) = refl
-head_kind old version (rec.Put key value) = no_head_if (version == old.1 + 1) (changed old.0 (rec.Put key value)) (changed_no_head old.0 (rec.Put key value))
-head_kind old version (rec.Del key) = no_head_if (version == old.1 + 1) (changed old.0 (rec.Del key)) (changed_no_head old.0 (rec.Del key))
-head_kind old version (rec.CutLeaf key) = no_head_if (version == old.1 + 1) (changed old.0 (rec.CutLeaf key)) (changed_no_head old.0 (rec.CutLeaf key))
-head_kind old version (rec.CutInner key) = no_head_if (version == old.1 + 1) (changed old.0 (rec.CutInner key)) (changed_no_head old.0 (rec.CutInner key))
-head_kind old version (rec.Link key child) = no_head_if (version == old.1 + 1) (changed old.0 (rec.Link key child)) (changed_no_head old.0 (rec.Link key child))
-head_kind old version (rec.Plus key by) = no_head_if (version == old.1 + 1) (changed old.0 (rec.Plus key by)) (changed_no_head old.0 (rec.Plus key by))
+head_kind old version change = no_head_if (version == old.1 + 1) (changed old.0 change) (changed_no_head old.0 change)
 
 -- ---- what rows within bounds leave in their node
 

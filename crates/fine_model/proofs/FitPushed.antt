@@ -60,14 +60,7 @@ within push new is = by (nat_lt 1048576 push.next || nat_lt 8 push.depth) refl (
 
 pub kind_few : (change : Rec) → kind change ≤ 9
 kind_few (rec.HeadImage root next depth) = omega arith
-kind_few (rec.LeafImage pairs) = omega arith
-kind_few (rec.InnerImage seps kids) = omega arith
-kind_few (rec.Put key value) = omega arith
-kind_few (rec.Del key) = omega arith
-kind_few (rec.CutLeaf key) = omega arith
-kind_few (rec.CutInner key) = omega arith
-kind_few (rec.Link key child) = omega arith
-kind_few (rec.Plus key by) = omega arith
+kind_few _ = omega arith
 
 row_fits : (row : Row) → IsPushable row → row.version ≤ greatest → FitsRow mark.Two row
 row_fits row p high = record { of_format = kind_few row.rec; bucket = p.bucket; number = p.number; head = p.head; version_low = p.version; version_high = high; rec = p.rec }

@@ -53,6 +53,29 @@ unfolding rows_bytes
 rows_bytes-append [] b = refl
 rows_bytes-append (row ∷ a) b = ap (λ x. row_bytes row ++ x) (rows_bytes-append a b) ∙ sym (append_assoc (row_bytes row) (flat_map row_bytes a) (flat_map row_bytes b))
 
+-- some first rows of all of them, which are not unfinished where they are all
+pub all_finished : (rows good : List Row) (rest : List ℕ) (count : ℕ) → count ≡ length rows → rows ≡ good ++ [] → rest ≡ [] → (length good < count) ⊎ (rest ≢ []) → ⊥
+all_finished rows good rest count counts all none (inl fewer) = let long = ap length (all ∙ append-nil good) in omega (arith, fewer, long, counts)
+all_finished rows good rest count counts all none (inr left) = left none
+
+-- and with the next row, where there is one, are first rows again
+pub record Following (mark : Mark) (rows front others : List Row) : Type 0 where
+  pub whole : rows ≡ front ++ others
+  pub fit : AllByRecursion (FitsRow mark) front
+  pub spelled : rows_bytes rows ≡ rows_bytes front ++ rows_bytes others
+  pub counted : length front ≤ length rows
+
+pub following : (mark : Mark) (rows good : List Row) (row : Row) (others : List Row) → rows ≡ good ++ row ∷ others → AllByRecursion (FitsRow mark) rows → Following mark rows (good ++ row ∷ []) others
+following mark rows good row others all fit = record {
+  whole = whole;
+  fit = all_left (FitsRow mark) (good ++ row ∷ []) others (subst (AllByRecursion (FitsRow mark)) whole fit);
+  spelled = ap rows_bytes whole ∙ rows_bytes-append (good ++ row ∷ []) others;
+  counted = let long = ap length whole in omega (arith, long, length-append (good ++ row ∷ []) others);
+}
+  where
+    whole : rows ≡ (good ++ row ∷ []) ++ others
+    whole = all ∙ sym (append_assoc good (row ∷ []) others)
+
 module _ (header : Header) (bytes : List ℕ) (rows : List Row) (rest : List ℕ) (counts : (header.rows ≡ length rows) × (header.nodes ≡ length (nodes_in rows)) × (header.area ≡ rows_len rows)) (fit : AllByRecursion (FitsRow header.mark) rows) (ordered : is_ordered rows ≡ true) (spelled : bytes ≡ body_bytes rows ++ rest) where
   area : row_area header bytes ≡ rows_bytes rows
   area =
@@ -75,18 +98,14 @@ module _ (header : Header) (bytes : List ℕ) (rows : List Row) (rest : List ℕ
   no_bad_row at b = by (front b.rows b.rest b.good)
     where
       by : (others : List Row) × (rows ≡ b.rows ++ others) × (b.rest ≡ rows_bytes others ++ []) → ⊥
-      by ([], all, none) = by_unfinished b.unfinished
-        where
-          by_unfinished : (length b.rows < header.rows) ⊎ (b.rest ≢ []) → ⊥
-          by_unfinished (inl fewer) = let long = ap length (all ∙ append-nil b.rows) in omega (arith, fewer, long, counts.0)
-          by_unfinished (inr left) = left none
+      by ([], all, none) = all_finished rows b.rows b.rest header.rows counts.0 all none b.unfinished
       by (row ∷ others, all, more) =
-          let whole : rows ≡ (b.rows ++ row ∷ []) ++ others = all ∙ sym (append_assoc b.rows (row ∷ []) others) in
+          let f = following header.mark rows b.rows row others all fit in
           b.last row (rows_bytes others) (record {
-            fit = all_left (FitsRow header.mark) (b.rows ++ row ∷ []) others (subst (AllByRecursion (FitsRow header.mark)) whole fit);
-            ordered = ordered_front (b.rows ++ row ∷ []) others (ap is_ordered (sym whole) ∙ ordered);
-            spelled = area ∙ ap rows_bytes whole ∙ rows_bytes-append (b.rows ++ row ∷ []) others;
-            counted = let long = ap length whole in omega (arith, long, counts.0, length-append (b.rows ++ row ∷ []) others);
+            fit = f.fit;
+            ordered = ordered_front (b.rows ++ row ∷ []) others (ap is_ordered (sym f.whole) ∙ ordered);
+            spelled = area ∙ f.spelled;
+            counted = let c = f.counted in omega (arith, c, counts.0);
           })
 
   no_bad_entry : (at : ℕ) → IsBadEntry header bytes at → ⊥

@@ -437,6 +437,14 @@ module _ (rows : List Row) (bucket : ℕ) (key value : List ℕ) (next : ℕ) (o
           wider n (inr h) = inr (omega (arith, h))
 
       module _ (sep : List ℕ) (right : ℕ) (outcome : (bounds' : Bounds) → IsSubtree height bucket old bounds' child → is_key_within bucket bounds' key ≡ true → GrownSplit bucket old mid key value next b.next height bounds' child sep right) where
+        -- a node with two changed ones has the others of before
+        agree : (new : ℕ → Content) (at_number at_right : Node) → TwoChanged bucket mid new number b.next at_number at_right → (n : ℕ) → n ≢ number → n < next → new n ≡ mid n
+        agree new at_number at_right two n other low = two.others n other (λ e. let o = g.ordered in absurd (omega (arith, low, e, o)))
+
+        -- the half that has not the child is apart from it
+        apart_other : (half others : List ℕ) → ((n : ℕ) → times n half ≤ times n (flat_map f kids)) → ((n : ℕ) → times n half + times n others ≤ 1) → ((n : ℕ) → times n (f child) ≤ times n others) → Apart half
+        apart_other half others part once there n here = let q = part n in let a = once n in let t = there n in (omega (arith, q, here), omega (arith, a, t, here))
+
         -- the key belongs in the left half
         module _ (low : is_below key middle ≡ true) where
           goes_left : child ≡ slice_index kl (place height bucket old key p.front)
@@ -478,12 +486,11 @@ module _ (rows : List Row) (bucket : ℕ) (key value : List ℕ) (next : ℕ) (o
 
           agree_l : (n : ℕ) → n ≢ number → n < next → new_l n ≡ mid n
           unfolding new_l
-          agree_l n o l = two_l.others n o (λ e. let r = g.ordered in absurd (omega (arith, l, e, r)))
+          agree_l = agree (nodes_of ((rows ++ b.rows) ++ split_rows last_l) bucket) (linked p.front kl sep right) (node.Inner p.back kr) two_l
 
           apart_right : Apart (flat_map f kr)
-          apart_right n here =
-              let a = apart_halves n in let q = part_right n in
-              let s = sums kl zl.k1 zl.k2 zl.kid zl.kids_are n in let e = ap (λ k. times n (f k)) to_left in (omega (arith, q, here), omega (arith, a, s, e, here))
+          apart_right = apart_other (flat_map f kr) (flat_map f kl) part_right (λ n. let a = apart_halves n in omega (arith, a))
+              (λ n. let t = sums kl zl.k1 zl.k2 zl.kid zl.kids_are n in let e = ap (λ k. times n (f k)) to_left in omega (arith, t, e))
 
           stay1 : Stay bucket old new_l (flat_map f zl.k1)
           stay1 = stays new_l agree_l (flat_map f zl.k1) (apart_before kl part_left left_bounds p.front zl to_left)
@@ -563,12 +570,11 @@ module _ (rows : List Row) (bucket : ℕ) (key value : List ℕ) (next : ℕ) (o
 
           agree_r : (n : ℕ) → n ≢ number → n < next → new_r n ≡ mid n
           unfolding new_r
-          agree_r n o l = two_r.others n o (λ e. let r = g.ordered in absurd (omega (arith, l, e, r)))
+          agree_r = agree (nodes_of ((rows ++ b.rows) ++ split_rows last_r) bucket) (node.Inner p.front kl) (linked p.back kr sep right) two_r
 
           apart_left : Apart (flat_map f kl)
-          apart_left n here =
-              let a = apart_halves n in let q = part_left n in
-              let s = sums kr zr.k1 zr.k2 zr.kid zr.kids_are n in let e = ap (λ k. times n (f k)) to_right in (omega (arith, q, here), omega (arith, a, s, e, here))
+          apart_left = apart_other (flat_map f kl) (flat_map f kr) part_left apart_halves
+              (λ n. let t = sums kr zr.k1 zr.k2 zr.kid zr.kids_are n in let e = ap (λ k. times n (f k)) to_right in omega (arith, t, e))
 
           stay1' : Stay bucket old new_r (flat_map f zr.k1)
           stay1' = stays new_r agree_r (flat_map f zr.k1) (apart_before kr part_right right_bounds p.back zr to_right)

@@ -28,14 +28,14 @@ use Rattle.fine_model.proofs.PushNodes.{push_here, push_other, TwoChanged, last_
 use Rattle.fine_model.proofs.Grows.{Grows}
 
 -- one pair more at most
-length-set_le : (pairs : List Pair) (key value : List ℕ) → length (set pairs key value) ≤ length pairs + 1
+pub length-set_le : (pairs : List Pair) (key value : List ℕ) → length (set pairs key value) ≤ length pairs + 1
 unfolding set
 length-set_le pairs key value =
     let a = length-append (pairs_below key pairs) ((key, value) ∷ pairs_above key pairs) in
     let e = exclusive (λ q. is_below q.0 key) (λ q. is_below key q.0) pairs (apart_pairs key) in omega (arith, a, e)
 
 -- and none where the key is there
-length-set_there : (pairs : List Pair) (key value : List ℕ) → is_ascending (keys_of pairs) ≡ true → has pairs key ≡ true → length (set pairs key value) ≤ length pairs
+pub length-set_there : (pairs : List Pair) (key value : List ℕ) → is_ascending (keys_of pairs) ≡ true → has pairs key ≡ true → length (set pairs key value) ≤ length pairs
 length-set_there pairs key value up there = by (around_key key pairs up)
   where
     by : Around key pairs → length (set pairs key value) ≤ length pairs
@@ -69,7 +69,7 @@ within_parts bucket bounds key h =
 pub within_is : (bucket : ℕ) (bounds : Bounds) (key : List ℕ) → is_from bounds.low key ≡ true → is_up_to bounds.high key ≡ true → (bucket_of key == bucket) ≡ true → is_key_within bucket bounds key ≡ true
 within_is bucket bounds key a b c = ap (λ x. x && (is_up_to bounds.high key && (bucket_of key == bucket))) a ∙ ap (λ x. x && (bucket_of key == bucket)) b ∙ c
 
-low_before : (low a b : List ℕ) → is_below a low ≡ false → is_below a b ≡ true → is_below low b ≡ true
+pub low_before : (low a b : List ℕ) → is_below a low ≡ false → is_below a b ≡ true → is_below low b ≡ true
 low_before low a b from below = by (order_cases low a)
   where
     by : ((is_below low a ≡ true) × (is_below a low ≡ false)) ⊎ (low ≡ a) ⊎ ((is_below a low ≡ true) × (is_below low a ≡ false)) → is_below low b ≡ true
@@ -77,7 +77,7 @@ low_before low a b from below = by (order_cases low a)
     by (inr (inl e)) = ap (λ k. is_below k b) e ∙ below
     by (inr (inr h)) = absurd (true≢false (sym h.0 ∙ from))
 
-above_from : (low : Option (List ℕ)) (a b : List ℕ) → is_from low a ≡ true → is_below a b ≡ true → is_above low b ≡ true
+pub above_from : (low : Option (List ℕ)) (a b : List ℕ) → is_from low a ≡ true → is_below a b ≡ true → is_above low b ≡ true
 above_from None a b h l = refl
 above_from (Some low) a b h l = low_before low a b (not-true (is_below a low) h) l
 
@@ -228,75 +228,57 @@ module _ (rows : List Row) (bucket : ℕ) (key value : List ℕ) (next : ℕ) (b
     small_rows : (last : Row) → is_small last.rec ≡ true → AllByRecursion (λ row. IsTrue (is_small row.rec)) (row_of bucket next 1 (rec.LeafImage (drop 16 pairs)) ∷ row_of bucket number (version + 1) (rec.CutLeaf sep) ∷ last ∷ [])
     small_rows last is_last = (le-leb (length (drop 16 pairs)) 32 (let d = ap length cut.dropped in omega (arith, d, many_right)), (refl, (is_last, tt)))
 
-    -- the pair goes to the left half
-    split_left : is_below key sep ≡ true → Grows rows bucket key value next zero bounds number (record {
-      rows = row_of bucket next 1 (rec.LeafImage (drop 16 pairs)) ∷ row_of bucket number (version + 1) (rec.CutLeaf sep) ∷ row_of bucket number (version + 2) (rec.Put key value) ∷ [];
-      next = next + 1;
-      split = Some (sep, next);
-    })
+    -- the three rows of a split leave two leaves, which have the pairs with the new one
+    abbrev image : Row
+    image = row_of bucket next 1 (rec.LeafImage (drop 16 pairs))
+
+    abbrev cut_row : Row
+    cut_row = row_of bucket number (version + 1) (rec.CutLeaf sep)
+
+    split_grows : (last : Row) → last.node.bucket ≡ bucket → is_small last.rec ≡ true → (left right : List Pair) → TwoChanged bucket old (nodes_of (rows ++ image ∷ cut_row ∷ last ∷ []) bucket) number next (node.Leaf left) (node.Leaf right)
+        → is_leaf bucket left_bounds (node.Leaf left) ≡ true → is_leaf bucket right_bounds (node.Leaf right) ≡ true → left ++ right ≡ set pairs key value
+        → Grows rows bucket key value next zero bounds number (record { rows = image ∷ cut_row ∷ last ∷ []; next = next + 1; split = Some (sep, next) })
     unfolding IsSubtree pairs_under reached left_bounds right_bounds
-    split_left below = record {
+    split_grows last of_bucket is_last left right two left_good right_good whole = record {
       grown = record {
         outcome = record {
-          left_tree = subst (λ n. is_leaf bucket left_bounds n ≡ true) (sym two.here)
-              (let l = set_is_local bucket key value in let w = within_parts bucket bounds key within in l.keeps left_bounds cut.front good_left (within_is bucket left_bounds key w.0 below w.2));
-          right_tree = subst (λ n. is_leaf bucket right_bounds n ≡ true) (sym two.there) good_right;
+          left_tree = subst (λ n. is_leaf bucket left_bounds n ≡ true) (sym two.here) left_good;
+          right_tree = subst (λ n. is_leaf bucket right_bounds n ≡ true) (sym two.there) right_good;
           above = sep_above;
           below = sep_below;
-          pairs =
-              ap (λ n. pairs_of n ++ pairs_of (new next).0) two.here ∙ ap (λ n. set cut.front key value ++ pairs_of n) two.there
-              ∙ sym (ap (λ xs. set xs key value) cut.is ∙ set-append_left cut.front right_pairs key value (below, all_map (λ p. is_below sep p.0 ≡ true) (λ p. is_below key p.0 ≡ true) (λ p h. is_below-trans key sep p.0 below h) cut.back right_high));
+          pairs = ap (λ n. pairs_of n ++ pairs_of (nodes_of (rows ++ image ∷ cut_row ∷ last ∷ []) bucket next).0) two.here ∙ ap (λ n. left ++ pairs_of n) two.there ∙ whole;
           numbers = numbers;
         };
         others = λ n none where_. two.others n (not_one n number none) (others_apart n where_);
       };
       ordered = omega arith;
-      of_bucket = (refl, (refl, (refl, tt)));
-      small = small_rows (row_of bucket number (version + 2) (rec.Put key value)) refl;
+      of_bucket = (refl, (refl, (of_bucket, tt)));
+      small = small_rows last is_last;
     }
-      where
-        new : ℕ → Content
-        new = nodes_of (rows ++ row_of bucket next 1 (rec.LeafImage (drop 16 pairs)) ∷ row_of bucket number (version + 1) (rec.CutLeaf sep) ∷ row_of bucket number (version + 2) (rec.Put key value) ∷ []) bucket
 
-        two : TwoChanged bucket old new number next (node.Leaf (set cut.front key value)) (node.Leaf right_pairs)
-        two = last_left bucket rows number next apart (rec.LeafImage (drop 16 pairs)) (rec.CutLeaf sep) (rec.Put key value) (node.Leaf right_pairs) (node.Leaf cut.front) (λ c. ap node.Leaf cut.dropped) cut_is
-            (node.Leaf (set cut.front key value))
-            (put_step (node.Leaf cut.front, version + 1) cut.front key value (version + 2) (omega arith) refl (let s = length-set_le cut.front key value in let m = cut.many in omega (arith, s, m)))
+    -- the pair goes to the left half
+    split_left : is_below key sep ≡ true → Grows rows bucket key value next zero bounds number (record { rows = image ∷ cut_row ∷ row_of bucket number (version + 2) (rec.Put key value) ∷ []; next = next + 1; split = Some (sep, next) })
+    unfolding left_bounds
+    split_left below =
+        split_grows (row_of bucket number (version + 2) (rec.Put key value)) refl refl (set cut.front key value) right_pairs
+        (last_left bucket rows number next apart (rec.LeafImage (drop 16 pairs)) (rec.CutLeaf sep) (rec.Put key value) (node.Leaf right_pairs) (node.Leaf cut.front) (λ c. ap node.Leaf cut.dropped) cut_is
+        (node.Leaf (set cut.front key value))
+        (put_step (node.Leaf cut.front, version + 1) cut.front key value (version + 2) (omega arith) refl (let s = length-set_le cut.front key value in let m = cut.many in omega (arith, s, m))))
+        (let l = set_is_local bucket key value in let w = within_parts bucket bounds key within in l.keeps left_bounds cut.front good_left (within_is bucket left_bounds key w.0 below w.2))
+        good_right
+        (sym (ap (λ xs. set xs key value) cut.is ∙ set-append_left cut.front right_pairs key value (below, all_map (λ p. is_below sep p.0 ≡ true) (λ p. is_below key p.0 ≡ true) (λ p h. is_below-trans key sep p.0 below h) cut.back right_high)))
 
     -- or to the right one
-    split_right : is_below key sep ≡ false → Grows rows bucket key value next zero bounds number (record {
-      rows = row_of bucket next 1 (rec.LeafImage (drop 16 pairs)) ∷ row_of bucket number (version + 1) (rec.CutLeaf sep) ∷ row_of bucket next 2 (rec.Put key value) ∷ [];
-      next = next + 1;
-      split = Some (sep, next);
-    })
-    unfolding IsSubtree pairs_under reached left_bounds right_bounds
-    split_right from = record {
-      grown = record {
-        outcome = record {
-          left_tree = subst (λ n. is_leaf bucket left_bounds n ≡ true) (sym two.here) good_left;
-          right_tree = subst (λ n. is_leaf bucket right_bounds n ≡ true) (sym two.there)
-              (let l = set_is_local bucket key value in let w = within_parts bucket bounds key within in l.keeps right_bounds right_pairs good_right (within_is bucket right_bounds key (ap not from) w.1 w.2));
-          above = sep_above;
-          below = sep_below;
-          pairs =
-              ap (λ n. pairs_of n ++ pairs_of (new next).0) two.here ∙ ap (λ n. cut.front ++ pairs_of n) two.there
-              ∙ sym (ap (λ xs. set xs key value) cut.is ∙ set-append_right cut.front right_pairs key value (all_map (λ p. is_below p.0 sep ≡ true) (λ p. is_below p.0 key ≡ true) (λ p h. below_not p.0 sep key h from) cut.front left_low));
-          numbers = numbers;
-        };
-        others = λ n none where_. two.others n (not_one n number none) (others_apart n where_);
-      };
-      ordered = omega arith;
-      of_bucket = (refl, (refl, (refl, tt)));
-      small = small_rows (row_of bucket next 2 (rec.Put key value)) refl;
-    }
-      where
-        new : ℕ → Content
-        new = nodes_of (rows ++ row_of bucket next 1 (rec.LeafImage (drop 16 pairs)) ∷ row_of bucket number (version + 1) (rec.CutLeaf sep) ∷ row_of bucket next 2 (rec.Put key value) ∷ []) bucket
-
-        two : TwoChanged bucket old new number next (node.Leaf cut.front) (node.Leaf (set right_pairs key value))
-        two = last_right bucket rows number next apart (rec.LeafImage (drop 16 pairs)) (rec.CutLeaf sep) (rec.Put key value) (node.Leaf right_pairs) (node.Leaf cut.front) (λ c. ap node.Leaf cut.dropped) cut_is
-            (node.Leaf (set right_pairs key value))
-            (put_step (node.Leaf right_pairs, 1) right_pairs key value 2 (omega arith) refl (let s = length-set_le right_pairs key value in omega (arith, s, many_right)))
+    split_right : is_below key sep ≡ false → Grows rows bucket key value next zero bounds number (record { rows = image ∷ cut_row ∷ row_of bucket next 2 (rec.Put key value) ∷ []; next = next + 1; split = Some (sep, next) })
+    unfolding right_bounds
+    split_right from =
+        split_grows (row_of bucket next 2 (rec.Put key value)) refl refl cut.front (set right_pairs key value)
+        (last_right bucket rows number next apart (rec.LeafImage (drop 16 pairs)) (rec.CutLeaf sep) (rec.Put key value) (node.Leaf right_pairs) (node.Leaf cut.front) (λ c. ap node.Leaf cut.dropped) cut_is
+        (node.Leaf (set right_pairs key value))
+        (put_step (node.Leaf right_pairs, 1) right_pairs key value 2 (omega arith) refl (let s = length-set_le right_pairs key value in omega (arith, s, many_right))))
+        good_left
+        (let l = set_is_local bucket key value in let w = within_parts bucket bounds key within in l.keeps right_bounds right_pairs good_right (within_is bucket right_bounds key (ap not from) w.1 w.2))
+        (sym (ap (λ xs. set xs key value) cut.is ∙ set-append_right cut.front right_pairs key value (all_map (λ p. is_below p.0 sep ≡ true) (λ p. is_below p.0 key ≡ true) (λ p h. below_not p.0 sep key h from) cut.front left_low)))
 
     split_row : Grows rows bucket key value next zero bounds number (split_leaf bucket number version next (key, value) pairs (key_at pairs 16))
     unfolding split_leaf

@@ -129,26 +129,35 @@ several region_len regions lead header long tests =
     (λ i h. all_below (λ i. (entry_test regions lead header i).1 ≡ true) 7 (all_mapped (λ t. t.1 ≡ true) (entry_test regions lead header) (range_with_len 0 7) tests.1.1) i h)
     (header.regions - 1) (omega (arith, few)) (omega arith)
 
+-- ---- a good header, by its mark
+
+module _ (region_len regions lead : ℕ) (bytes : List ℕ) (header : Header) (g : Good region_len regions lead bytes header) where
+  seven_entries : length header.more ≡ 7
+  seven_entries = ap length (sym (ap (λ h. h.more) g.read) ∙ more_are bytes) ∙ seven (header_at bytes).mark bytes
+
+  -- the tests of its lengths, for the mark that it has
+  abbrev LengthsPass : Mark → Type 0
+  LengthsPass m = AllByRecursion (λ t. t.1 ≡ true) (length_tests region_len regions lead header m)
+
+  lengths_pass : (m : Mark) → header.mark ≡ m → LengthsPass m
+  unfolding header_tests
+  lengths_pass m is = let t = g.tests in subst LengthsPass is t.1.1.1.1.1
+
+  -- one region, where the mark has no entries
+  one_region : (m : Mark) → header.mark ≡ m → regions_at m bytes ≡ 1 → header.regions ≡ 1
+  one_region m is one = sym (ap (λ h. h.regions) g.read) ∙ regions_are bytes ∙ ap (λ h. regions_at h.mark bytes) g.read ∙ ap (λ k. regions_at k bytes) is ∙ one
+
 -- the lead and the continuations of a good header are regions of the disk, each once
 pub own_regions : (region_len regions lead : ℕ) (bytes : List ℕ) (header : Header) → Good region_len regions lead bytes header → Own regions lead (continuations header)
-unfolding header_tests
 own_regions region_len regions lead bytes header g = by header.mark refl
   where
-    long : length header.more ≡ 7
-    long = ap length (sym (ap (λ h. h.more) g.read) ∙ more_are bytes) ∙ seven (header_at bytes).mark bytes
-
-    tests : AllByRecursion (λ t. t.1 ≡ true) (length_tests region_len regions lead header header.mark)
-    tests = let t = g.tests in t.1.1.1.1.1
-
-    single : (m : Mark) → header.mark ≡ m → regions_at m bytes ≡ 1 → Own regions lead (continuations header)
-    single m is one =
-        let n : header.regions ≡ 1 = sym (ap (λ h. h.regions) g.read) ∙ regions_are bytes ∙ ap (λ h. regions_at h.mark bytes) g.read ∙ ap (λ k. regions_at k bytes) is ∙ one in
-        subst (λ k. Own regions lead (take (k - 1) header.more)) (sym n) (alone regions lead)
+    single : header.regions ≡ 1 → Own regions lead (continuations header)
+    single one = subst (λ k. Own regions lead (take (k - 1) header.more)) (sym one) (alone regions lead)
 
     by : (m : Mark) → header.mark ≡ m → Own regions lead (continuations header)
-    by mark.One is = single mark.One is refl
-    by mark.Two is = single mark.Two is refl
-    by mark.Three is = several region_len regions lead header long (subst (λ m. AllByRecursion (λ t. t.1 ≡ true) (length_tests region_len regions lead header m)) is tests)
+    by mark.One is = single (one_region region_len regions lead bytes header g mark.One is refl)
+    by mark.Two is = single (one_region region_len regions lead bytes header g mark.Two is refl)
+    by mark.Three is = several region_len regions lead header (seven_entries region_len regions lead bytes header g) (lengths_pass region_len regions lead bytes header g mark.Three is)
 
 -- ---- the body of a header's partition
 
@@ -161,45 +170,36 @@ pub record Lies (region_len : ℕ) (header : Header) : Type 0 where
   pub fits : fits_in region_len header.regions (header.area + 14 * header.nodes) ≡ true
 
 pub lies : (region_len regions lead : ℕ) (bytes : List ℕ) (header : Header) → Good region_len regions lead bytes header → Lies region_len header
-unfolding header_tests
 lies region_len regions lead bytes header g = by header.mark refl
   where
-    seven_entries : length header.more ≡ 7
-    seven_entries = ap length (sym (ap (λ h. h.more) g.read) ∙ more_are bytes) ∙ seven (header_at bytes).mark bytes
-
-    tests : AllByRecursion (λ t. t.1 ≡ true) (length_tests region_len regions lead header header.mark)
-    tests = let t = g.tests in t.1.1.1.1.1
-
-    one : (m : Mark) → header.mark ≡ m → regions_at m bytes ≡ 1 → (m ≡ mark.Three → ⊥) → fits_in region_len 1 (header.area + 14 * header.nodes) ≡ true → Lies region_len header
-    one m is at other fits =
-        let n : header.regions ≡ 1 = sym (ap (λ h. h.regions) g.read) ∙ regions_are bytes ∙ ap (λ h. regions_at h.mark bytes) g.read ∙ ap (λ k. regions_at k bytes) is ∙ at in
-        record {
-          few = (omega (arith, n), omega (arith, n));
-          alone = λ _. n;
-          several = λ three. absurd (other (sym is ∙ three));
-          long = seven_entries;
-          fits = subst (λ k. fits_in region_len k (header.area + 14 * header.nodes) ≡ true) (sym n) fits;
-        }
-
     front : (a b : Bool) → (a && b) ≡ true → a ≡ true
     front a b both = (and_parts a b both).0
 
+    one : (m : Mark) → header.mark ≡ m → (m ≡ mark.Three → ⊥) → header.regions ≡ 1 → fits_in region_len 1 (header.area + 14 * header.nodes) ≡ true → Lies region_len header
+    one m is other n fits = record {
+      few = (omega (arith, n), omega (arith, n));
+      alone = λ _. n;
+      several = λ three. absurd (other (sym is ∙ three));
+      long = seven_entries region_len regions lead bytes header g;
+      fits = subst (λ k. fits_in region_len k (header.area + 14 * header.nodes) ≡ true) (sym n) fits;
+    }
+
     by : (m : Mark) → header.mark ≡ m → Lies region_len header
     by mark.One is =
-        let t : AllByRecursion (λ t. t.1 ≡ true) (length_tests region_len regions lead header mark.One) = subst (λ m. AllByRecursion (λ t. t.1 ≡ true) (length_tests region_len regions lead header m)) is tests in
-        one mark.One is refl (λ e. cc) (front (fits_in region_len 1 (header.area + 14 * header.nodes)) _ t.0)
+        let t = lengths_pass region_len regions lead bytes header g mark.One is in
+        one mark.One is (λ e. cc) (one_region region_len regions lead bytes header g mark.One is refl) (front (fits_in region_len 1 (header.area + 14 * header.nodes)) _ t.0)
     by mark.Two is =
-        let t : AllByRecursion (λ t. t.1 ≡ true) (length_tests region_len regions lead header mark.Two) = subst (λ m. AllByRecursion (λ t. t.1 ≡ true) (length_tests region_len regions lead header m)) is tests in
-        one mark.Two is refl (λ e. cc) (front (fits_in region_len 1 (header.area + 14 * header.nodes)) _ t.0)
+        let t = lengths_pass region_len regions lead bytes header g mark.Two is in
+        one mark.Two is (λ e. cc) (one_region region_len regions lead bytes header g mark.Two is refl) (front (fits_in region_len 1 (header.area + 14 * header.nodes)) _ t.0)
     by mark.Three is =
-        let t : AllByRecursion (λ t. t.1 ≡ true) (length_tests region_len regions lead header mark.Three) = subst (λ m. AllByRecursion (λ t. t.1 ≡ true) (length_tests region_len regions lead header m)) is tests in
+        let t = lengths_pass region_len regions lead bytes header g mark.Three is in
         let low = leb-true 2 header.regions (and_parts (leb 2 header.regions) (leb header.regions 8) t.0).0 in
         let high = leb-true header.regions 8 (and_parts (leb 2 header.regions) (leb header.regions 8) t.0).1 in
         record {
           few = (omega (arith, low), high);
           alone = λ other. absurd (other is);
           several = λ _. low;
-          long = seven_entries;
+          long = seven_entries region_len regions lead bytes header g;
           fits = front (fits_in region_len header.regions (header.area + 14 * header.nodes)) _ (front (fits_in region_len header.regions (header.area + 14 * header.nodes) && not (fits_in region_len (header.regions - 1) (header.area + 14 * header.nodes))) _ t.1.0);
         }
 

@@ -92,12 +92,38 @@ module _ (region_len regions : ℕ) where
   part_named : (k region : ℕ) (h : Header) (parts : List Part) → k ≡ region → part_of k h ∷ parts ≡ part_of region h ∷ parts
   part_named k region h parts e = ap (λ n. part_of n h ∷ parts) e
 
-  -- the parts with one more, which is the region's
-  pub record OneMore (k region : ℕ) (front : Image) (y : List ℕ) (back : Image) (h : Header) (parts : List Part) : Type 0 where
+  -- The parts of an image, where some are gone and others come at a place in the list of them.
+  pub record Exchanged (k : ℕ) (now : Image) (gone come parts : List Part) : Type 0 where
     pub left : List Part
     pub right : List Part
-    pub were : parts ≡ left ++ right
-    pub are : parts_from region_len regions k (front ++ y ∷ back) ≡ Ok (left ++ part_of region h ∷ right)
+    pub were : parts ≡ left ++ (gone ++ right)
+    pub are : parts_from region_len regions k now ≡ Ok (left ++ (come ++ right))
+
+  -- the region before them is the same in both images
+  exchanged_behind : (k : ℕ) (f : List ℕ) (was now : Image) (gone come parts : List Part) → parts_from region_len regions k (f ∷ was) ≡ Ok parts
+      → ((ps : List Part) → parts_from region_len regions (k + 1) was ≡ Ok ps → Exchanged (k + 1) now gone come ps) → Exchanged k (f ∷ now) gone come parts
+  exchanged_behind k f was now gone come parts is rest = by (header k f) refl
+    where
+      by : (r : Result (Option Header) ℕ) → header k f ≡ r → Exchanged k (f ∷ now) gone come parts
+      by (Err at) e = absurd (let c : ◌≡◌ {A = Result (List Part) Damage} (Err (damage.Region k at)) (Ok parts) = sym (parts_bad k at f was e) ∙ is in cc)
+      by (Ok None) e =
+          let m = rest parts (sym (parts_none k f was e) ∙ is) in
+          record { left = m.left; right = m.right; were = m.were; are = parts_none k f now e ∙ m.are }
+      by (Ok (Some g)) e =
+          let o = and_then_ok (parts_from region_len regions (k + 1) was) (λ ps. Ok (part_of k g ∷ ps)) parts (sym (parts_good k f g was e) ∙ is) in
+          let c = o.2 in
+          let whole : part_of k g ∷ o.0 ≡ parts = cc in
+          let m = rest o.0 o.1 in
+          record {
+            left = part_of k g ∷ m.left;
+            right = m.right;
+            were = sym whole ∙ ap (λ ps. part_of k g ∷ ps) m.were;
+            are = parts_good k f g now e ∙ ap (λ r. and_then r (λ ps. Ok (part_of k g ∷ ps))) m.are;
+          }
+
+  -- the parts with one more, which is the region's
+  abbrev pub OneMore : ℕ → ℕ → Image → List ℕ → Image → Header → List Part → Type 0
+  OneMore k region front y back h parts = Exchanged k (front ++ y ∷ back) [] (part_of region h ∷ []) parts
 
   pub parts_sealed : (k region : ℕ) (front : Image) (x y : List ℕ) (back : Image) (h : Header) (parts : List Part) → k + length front ≡ region → is_sealed x ≡ false → header region y ≡ Ok (Some h)
       → parts_from region_len regions k (front ++ x ∷ back) ≡ Ok parts → OneMore k region front y back h parts
@@ -110,33 +136,12 @@ module _ (region_len regions : ℕ) where
             ∙ ap (λ r. and_then r (λ ps. Ok (part_of k h ∷ ps))) (sym (parts_none k x back (header_closed region_len regions k x closed)) ∙ is)
             ∙ ap Ok (part_named k region h parts e);
       }
-  parts_sealed k region (f ∷ front) x y back h parts at closed good is = by (header k f) refl
-      (λ ps was. parts_sealed (k + 1) region front x y back h ps (omega (arith, at)) closed good was)
-    where
-      wider : (g : Header) → header k f ≡ Ok (Some g) → (ps : List Part) → part_of k g ∷ ps ≡ parts → OneMore (k + 1) region front y back h ps → OneMore k region (f ∷ front) y back h parts
-      wider g e ps whole m = record {
-        left = part_of k g ∷ m.left;
-        right = m.right;
-        were = sym whole ∙ ap (λ ps. part_of k g ∷ ps) m.were;
-        are = parts_good k f g (front ++ y ∷ back) e ∙ ap (λ r. and_then r (λ ps. Ok (part_of k g ∷ ps))) m.are;
-      }
-
-      by : (r : Result (Option Header) ℕ) → header k f ≡ r → ((ps : List Part) → parts_from region_len regions (k + 1) (front ++ x ∷ back) ≡ Ok ps → OneMore (k + 1) region front y back h ps) → OneMore k region (f ∷ front) y back h parts
-      by (Err at) e rest = absurd (let c : ◌≡◌ {A = Result (List Part) Damage} (Err (damage.Region k at)) (Ok parts) = sym (parts_bad k at f (front ++ x ∷ back) e) ∙ is in cc)
-      by (Ok None) e rest =
-          let m = rest parts (sym (parts_none k f (front ++ x ∷ back) e) ∙ is) in
-          record { left = m.left; right = m.right; were = m.were; are = parts_none k f (front ++ y ∷ back) e ∙ m.are }
-      by (Ok (Some g)) e rest =
-          let o = and_then_ok (parts_from region_len regions (k + 1) (front ++ x ∷ back)) (λ ps. Ok (part_of k g ∷ ps)) parts (sym (parts_good k f g (front ++ x ∷ back) e) ∙ is) in
-          let c = o.2 in
-          let whole : part_of k g ∷ o.0 ≡ parts = cc in wider g e o.0 whole (rest o.0 o.1)
+  parts_sealed k region (f ∷ front) x y back h parts at closed good is =
+      exchanged_behind k f (front ++ x ∷ back) (front ++ y ∷ back) [] (part_of region h ∷ []) parts is (λ ps was. parts_sealed (k + 1) region front x y back h ps (omega (arith, at)) closed good was)
 
   -- the parts without the region's, once its gate is closed
-  pub record OneFewer (k region : ℕ) (front : Image) (y : List ℕ) (back : Image) (h : Header) (parts : List Part) : Type 0 where
-    pub left : List Part
-    pub right : List Part
-    pub were : parts ≡ left ++ part_of region h ∷ right
-    pub are : parts_from region_len regions k (front ++ y ∷ back) ≡ Ok (left ++ right)
+  abbrev pub OneFewer : ℕ → ℕ → Image → List ℕ → Image → Header → List Part → Type 0
+  OneFewer k region front y back h parts = Exchanged k (front ++ y ∷ back) (part_of region h ∷ []) [] parts
 
   pub parts_unsealed : (k region : ℕ) (front : Image) (x y : List ℕ) (back : Image) (h : Header) (parts : List Part) → k + length front ≡ region → is_sealed y ≡ false → header region x ≡ Ok (Some h)
       → parts_from region_len regions k (front ++ x ∷ back) ≡ Ok parts → OneFewer k region front y back h parts
@@ -146,26 +151,8 @@ module _ (region_len regions : ℕ) where
       let c = o.2 in
       let whole : part_of k h ∷ o.0 ≡ parts = cc in
       record { left = []; right = o.0; were = sym whole ∙ part_named k region h o.0 e; are = parts_none k y back (header_closed region_len regions k y closed) ∙ o.1 }
-  parts_unsealed k region (f ∷ front) x y back h parts at closed good is = by (header k f) refl
-      (λ ps was. parts_unsealed (k + 1) region front x y back h ps (omega (arith, at)) closed good was)
-    where
-      wider : (g : Header) → header k f ≡ Ok (Some g) → (ps : List Part) → part_of k g ∷ ps ≡ parts → OneFewer (k + 1) region front y back h ps → OneFewer k region (f ∷ front) y back h parts
-      wider g e ps whole m = record {
-        left = part_of k g ∷ m.left;
-        right = m.right;
-        were = sym whole ∙ ap (λ ps. part_of k g ∷ ps) m.were;
-        are = parts_good k f g (front ++ y ∷ back) e ∙ ap (λ r. and_then r (λ ps. Ok (part_of k g ∷ ps))) m.are;
-      }
-
-      by : (r : Result (Option Header) ℕ) → header k f ≡ r → ((ps : List Part) → parts_from region_len regions (k + 1) (front ++ x ∷ back) ≡ Ok ps → OneFewer (k + 1) region front y back h ps) → OneFewer k region (f ∷ front) y back h parts
-      by (Err at) e rest = absurd (let c : ◌≡◌ {A = Result (List Part) Damage} (Err (damage.Region k at)) (Ok parts) = sym (parts_bad k at f (front ++ x ∷ back) e) ∙ is in cc)
-      by (Ok None) e rest =
-          let m = rest parts (sym (parts_none k f (front ++ x ∷ back) e) ∙ is) in
-          record { left = m.left; right = m.right; were = m.were; are = parts_none k f (front ++ y ∷ back) e ∙ m.are }
-      by (Ok (Some g)) e rest =
-          let o = and_then_ok (parts_from region_len regions (k + 1) (front ++ x ∷ back)) (λ ps. Ok (part_of k g ∷ ps)) parts (sym (parts_good k f g (front ++ x ∷ back) e) ∙ is) in
-          let c = o.2 in
-          let whole : part_of k g ∷ o.0 ≡ parts = cc in wider g e o.0 whole (rest o.0 o.1)
+  parts_unsealed k region (f ∷ front) x y back h parts at closed good is =
+      exchanged_behind k f (front ++ x ∷ back) (front ++ y ∷ back) (part_of region h ∷ []) [] parts is (λ ps was. parts_unsealed (k + 1) region front x y back h ps (omega (arith, at)) closed good was)
 
 -- ---- the regions that sealed ones name
 

@@ -30,7 +30,7 @@ use Rattle.fine_model.proofs.Gathered.{Ascends, count, up_front, above_none, all
 
 -- ---- keys that stand once
 
-once_ascending : (pairs : List Pair) → Ascends pairs → (key : List ℕ) → times_of key pairs ≤ 1
+pub once_ascending : (pairs : List Pair) → Ascends pairs → (key : List ℕ) → times_of key pairs ≤ 1
 once_ascending [] up key = omega arith
 once_ascending (p ∷ pairs) up key = by (bytes_eq p.0 key) refl (once_ascending pairs (ascending-tail p pairs up) key)
   where
@@ -43,7 +43,7 @@ once_ascending (p ∷ pairs) up key = by (bytes_eq p.0 key) refl (once_ascending
         let c = sum_by-cons (λ p. count (bytes_eq p.0 key)) p pairs in
         let one : count (bytes_eq p.0 key) ≡ 0 = ap count e in omega (arith, c, one, rest)
 
-absent : (key : List ℕ) (pairs : List Pair) → AllByRecursion (λ p. p.0 ≢ key) pairs → times_of key pairs ≡ 0
+pub absent : (key : List ℕ) (pairs : List Pair) → AllByRecursion (λ p. p.0 ≢ key) pairs → times_of key pairs ≡ 0
 absent key [] others = refl
 absent key (p ∷ pairs) others =
     let c = sum_by-cons (λ p. count (bytes_eq p.0 key)) p pairs in let z = by (bytes_eq p.0 key) refl in let rest = absent key pairs others.1 in omega (arith, c, z, rest)

@@ -1,5 +1,5 @@
 -- What is changed in the leaf where a key belongs is changed so in the whole subtree.
-use Rattle.std.proofs.Common.{◌≡◌, ◌≢◌, ℕ, zero, suc, ◌==◌, nat_eq, Bool, true, false, cond, not, ◌&&◌, ◌||◌, IsTrue, List, [], ◌∷◌, ◌++◌, length, slice_index, refl, sym, ap, ◌∙◌, subst, true≢false, Some, eqb-true, eq-eqb, append-nil}
+use Rattle.std.proofs.Common.{◌≡◌, ◌≢◌, ℕ, zero, suc, ◌==◌, nat_eq, Bool, true, false, cond, not, ◌&&◌, ◌||◌, IsTrue, List, [], ◌∷◌, ◌++◌, length, slice_index, refl, sym, ap, ◌∙◌, subst, true≢false, Some, eqb-true, eq-eqb, append-nil, arith}
 use Rattle.std.specs.Prelude.{flat_map, filter, Option}
 use Rattle.std.specs.List.{AllByRecursion, list_any}
 use Rattle.std.proofs.lemmas.Bool.{or_parts, not-true}
@@ -12,6 +12,8 @@ use Rattle.fine_model.specs.Trees.{Bounds, AllBetween, is_key_within, is_leaf, I
 use Rattle.fine_model.specs.Pushed.{child_for, leaf_for}
 use Rattle.fine_model.proofs.Order.{AllBelow, AllAbove, is_below-trans, is_below-self, first_of_both, all_map}
 use Rattle.fine_model.proofs.Bounded.{below_not, kids_from, subtree_from, subtree_up_to}
+use Rattle.fine_model.proofs.Times.{absent_times, times}
+use Rattle.fine_model.proofs.Frame.{Stay, between_stays, under_stays}
 
 abbrev pub IsIn : ℕ → List ℕ → Type 0
 IsIn n ns = list_any (nat_eq n) ns ≡ true
@@ -59,61 +61,9 @@ pub record IsLocal (bucket : ℕ) (key : List ℕ) (f : List Pair → List Pair)
 
 module _ (bucket : ℕ) (old new : ℕ → Content) (leaf : ℕ) (key : List ℕ) (f : List Pair → List Pair) (version : ℕ) (local : IsLocal bucket key f)
     (changed : new leaf ≡ (node.Leaf (f (pairs_of (old leaf).0)), version)) (others : (n : ℕ) → n ≢ leaf → new n ≡ old n) (of_bucket : (bucket_of key == bucket) ≡ true) where
-  -- a subtree that the leaf does not belong to stays as it was
-  record SameUnder (height : ℕ) (bounds : Bounds) (number : ℕ) : Type 0 where
-    subtree : IsSubtree height bucket new bounds number
-    same_reached : reached height new number ≡ reached height old number
-    same_pairs : pairs_under height new number ≡ pairs_under height old number
-
-  record SameKids (height : ℕ) (bounds : Bounds) (seps : List (List ℕ)) (kids : List ℕ) : Type 0 where
-    between : AllBetween (IsSubtree height bucket new) bounds seps kids
-    same_reached : flat_map (reached height new) kids ≡ flat_map (reached height old) kids
-    same_pairs : flat_map (pairs_under height new) kids ≡ flat_map (pairs_under height old) kids
-
-  other_than : (number : ℕ) (rest : List ℕ) → IsAbsent leaf (number ∷ rest) → new number ≡ old number
-  other_than number rest absent = others number (λ e. true≢false (sym (eq-eqb leaf number (sym e)) ∙ (or_parts (nat_eq leaf number) (list_any (nat_eq leaf) rest) absent).0))
-
-  same_kids : (height : ℕ) (each : (b : Bounds) (k : ℕ) → IsSubtree height bucket old b k → IsAbsent leaf (reached height old k) → SameUnder height b k)
-      (bounds : Bounds) (seps : List (List ℕ)) (kids : List ℕ) → AllBetween (IsSubtree height bucket old) bounds seps kids → IsAbsent leaf (flat_map (reached height old) kids) → SameKids height bounds seps kids
-  unfolding AllBetween
-  same_kids height each bounds [] [] all absent = absurd all
-  same_kids height each bounds [] (kid ∷ []) all absent =
-      let s = each bounds kid all (or_parts (list_any (nat_eq leaf) (reached height old kid)) (list_any (nat_eq leaf) []) (sym (list_any-append (nat_eq leaf) (reached height old kid) []) ∙ absent)).0 in
-      record { between = s.subtree; same_reached = ap (λ xs. xs ++ []) s.same_reached; same_pairs = ap (λ xs. xs ++ []) s.same_pairs }
-  same_kids height each bounds [] (kid ∷ kid' ∷ kids) all absent = absurd all
-  same_kids height each bounds (sep ∷ seps) [] all absent = absurd all
-  same_kids height each bounds (sep ∷ seps) (kid ∷ kids) all absent =
-      let o = or_parts (list_any (nat_eq leaf) (reached height old kid)) (list_any (nat_eq leaf) (flat_map (reached height old) kids)) (sym (list_any-append (nat_eq leaf) (reached height old kid) (flat_map (reached height old) kids)) ∙ absent) in
-      let s = each (record { low = bounds.low; high = Some sep }) kid all.0 o.0 in
-      let r = same_kids height each (record { low = Some sep; high = bounds.high }) seps kids all.1 o.1 in
-      record {
-        between = (s.subtree, r.between);
-        same_reached = ap (λ xs. xs ++ flat_map (reached height new) kids) s.same_reached ∙ ap (λ xs. reached height old kid ++ xs) r.same_reached;
-        same_pairs = ap (λ xs. xs ++ flat_map (pairs_under height new) kids) s.same_pairs ∙ ap (λ xs. pairs_under height old kid ++ xs) r.same_pairs;
-      }
-
-  same_inner : (height : ℕ) (each : (b : Bounds) (k : ℕ) → IsSubtree height bucket old b k → IsAbsent leaf (reached height old k) → SameUnder height b k)
-      (bounds : Bounds) (n : Node) → IsInner (IsSubtree height bucket old) bounds n → IsAbsent leaf (flat_map (reached height old) (kids_of n))
-      → IsInner (IsSubtree height bucket new) bounds n × (flat_map (reached height new) (kids_of n) ≡ flat_map (reached height old) (kids_of n)) × (flat_map (pairs_under height new) (kids_of n) ≡ flat_map (pairs_under height old) (kids_of n))
-  same_inner height each bounds (node.Inner seps kids) inner absent =
-      let s = same_kids height each bounds seps kids inner.1 absent in ((inner.0, s.between), s.same_reached, s.same_pairs)
-  same_inner height each bounds (node.Head root next depth) inner absent = absurd inner
-  same_inner height each bounds (node.Leaf pairs) inner absent = absurd inner
-  same_inner height each bounds node.Broken inner absent = absurd inner
-
-  same_under : (height : ℕ) (bounds : Bounds) (number : ℕ) → IsSubtree height bucket old bounds number → IsAbsent leaf (reached height old number) → SameUnder height bounds number
-  unfolding IsSubtree reached pairs_under
-  same_under zero bounds number subtree absent =
-      let e = other_than number [] absent in
-      record { subtree = subst (λ c. IsTrue (is_leaf bucket bounds c.0)) (sym e) subtree; same_reached = refl; same_pairs = ap (λ c. pairs_of c.0) e }
-  same_under (suc height) bounds number subtree absent =
-      let e = other_than number (flat_map (reached height old) (kids_of (old number).0)) absent in
-      let s = same_inner height (same_under height) bounds (old number).0 subtree (or_parts (nat_eq leaf number) (list_any (nat_eq leaf) (flat_map (reached height old) (kids_of (old number).0))) absent).1 in
-      record {
-        subtree = subst (λ c. IsInner (IsSubtree height bucket new) bounds c.0) (sym e) s.0;
-        same_reached = ap (λ ns. number ∷ ns) (ap (λ c. flat_map (reached height new) (kids_of c.0)) e ∙ s.1);
-        same_pairs = ap (λ c. flat_map (pairs_under height new) (kids_of c.0)) e ∙ s.2;
-      }
+  -- nodes among which the leaf is not stay as they were
+  stays : (ns : List ℕ) → IsAbsent leaf ns → Stay bucket old new ns
+  stays ns absent n here = others n (λ same. let none = absent_times leaf ns absent in let e : times n ns ≡ times leaf ns = ap (λ m. times m ns) same in absurd (omega (arith, here, none, e)))
 
   leaf_changed : (bounds : Bounds) (n : Node) → is_leaf bucket bounds n ≡ true → is_key_within bucket bounds key ≡ true → is_leaf bucket bounds (node.Leaf (f (pairs_of n))) ≡ true
   leaf_changed bounds (node.Leaf pairs) good within = local.keeps bounds pairs good within
@@ -197,7 +147,7 @@ module _ (bucket : ℕ) (old new : ℕ → Content) (leaf : ℕ) (key : List ℕ
       by true low rest =
           let at : leaf_for height old key kid ≡ leaf = ap (λ ss. leaf_for height old key (slice_index (kid ∷ kids) (length ss))) (sym (none_up_to sep seps up low)) ∙ to in
           let u = each (record { low = bounds.low; high = Some sep }) kid all.0 (distinct_left (reached height old kid) (flat_map (reached height old) kids) apart_all) at (within_to bounds (Some sep) within low) in
-          let s = same_kids height (same_under height) (record { low = Some sep; high = bounds.high }) seps kids all.1 (apart leaf (reached height old kid) (flat_map (reached height old) kids) apart_all u.here) in
+          let s = between_stays bucket old new height (record { low = Some sep; high = bounds.high }) seps kids all.1 (stays (flat_map (reached height old) kids) (apart leaf (reached height old kid) (flat_map (reached height old) kids) apart_all u.here)) in
           let above : AllAbove key (flat_map (pairs_under height old) kids) = all_map (λ p. is_below p.0 sep ≡ false) (λ p. is_below key p.0 ≡ true) (λ p h. below_not key sep p.0 low h) (flat_map (pairs_under height old) kids)
           (kids_from (IsSubtree height bucket old) (pairs_under height old) sep (λ b t k. subtree_from height bucket old b t k) (record { low = Some sep; high = bounds.high }) sep seps kids refl (is_below-self sep) (all_above_first sep seps up) all.1) in
           record {
@@ -210,7 +160,7 @@ module _ (bucket : ℕ) (old new : ℕ → Content) (leaf : ℕ) (key : List ℕ
       by false high rest =
           let at : leaf_for height old key (slice_index kids (place seps)) ≡ leaf = ap (λ b. leaf_for height old key (slice_index (kid ∷ kids) (length (cond (not b) (sep ∷ filter (λ s. not (is_below key s)) seps) (filter (λ s. not (is_below key s)) seps))))) (sym high) ∙ to in
           let r = rest at (within_from bounds (Some sep) within (ap not high)) in
-          let s = same_under height (record { low = bounds.low; high = Some sep }) kid all.0 (apart_left leaf (reached height old kid) (flat_map (reached height old) kids) apart_all r.here) in
+          let s = under_stays bucket old new height (record { low = bounds.low; high = Some sep }) kid all.0 (stays (reached height old kid) (apart_left leaf (reached height old kid) (flat_map (reached height old) kids) apart_all r.here)) in
           let below : AllBelow key (pairs_under height old kid) = all_map (λ p. is_below p.0 sep ≡ true) (λ p. is_below p.0 key ≡ true) (λ p h. below_not p.0 sep key h high) (pairs_under height old kid)
           (subtree_up_to height bucket old (record { low = bounds.low; high = Some sep }) sep kid refl all.0) in
           record {

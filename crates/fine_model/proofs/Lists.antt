@@ -1,7 +1,8 @@
 -- What is left of a list at a place, and what holds of each item of its parts.
-use Rattle.std.proofs.Common.{◌≡◌, ℕ, zero, suc, ◌+◌, List, [], ◌∷◌, take, drop, slice_get, Some, ap, ◌∙◌, subst}
-use Rattle.std.specs.List.{AllByRecursion}
-use Rattle.std.proofs.lemmas.List.{drop_more}
+use Rattle.std.proofs.Common.{◌≡◌, ℕ, zero, suc, ◌+◌, List, [], ◌∷◌, ◌++◌, take, drop, slice_get, Some, refl, sym, ap, ◌∙◌, subst}
+use Rattle.std.specs.List.{AllByRecursion, range_with_len}
+use Rattle.std.proofs.lemmas.List.{drop_more, map-id}
+use Rattle.std.proofs.lemmas.List.FromFn.{map-range_with_len_more}
 use Rattle.std.proofs.lemmas.Option.{slice_get_within, get_or_from_slice_get}
 
 -- what is left of a list at a place is the item there and what is left behind it
@@ -22,3 +23,7 @@ pub all_at : {A : Type 0} (P : A → Type 0) (n : ℕ) (xs : List A) (x : A) →
 all_at P n [] x all is = absurd cc
 all_at P zero (y ∷ xs) x all is = let e : y ≡ x = cc in subst P e all.0
 all_at P (suc n) (y ∷ xs) x all is = all_at P n xs x all.1 is
+
+-- a number more
+pub range_more : (a n : ℕ) → range_with_len a (n + 1) ≡ range_with_len a n ++ (a + n) ∷ []
+range_more a n = sym (map-id (range_with_len a (n + 1))) ∙ map-range_with_len_more (λ i. i) a n (a + n) refl ∙ ap (λ ns. ns ++ (a + n) ∷ []) (map-id (range_with_len a n))

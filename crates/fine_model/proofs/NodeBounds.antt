@@ -19,6 +19,7 @@ use Rattle.fine_model.proofs.Sets.{all_filter, all_append, all_pass}
 use Rattle.fine_model.proofs.Small.{exclusive, length-filter_le, apart_pairs}
 use Rattle.fine_model.proofs.Lists.{all_take, all_drop}
 use Rattle.fine_model.proofs.InOrder.{AreUp, AreUp-from_ascending, ascending_from_up, AreUp-filter, AreUp-join, set_up, set_all}
+use Rattle.fine_model.proofs.NodeLaws.{replay_keeps, step_keeps}
 
 leaf_fits : (pairs : List Pair) → AllByRecursion FitsPair pairs → AreUp (λ p. p.0) pairs → FitsNode (leaf pairs)
 leaf_fits pairs all up = by (leb (length pairs) 32) refl
@@ -174,28 +175,11 @@ changed_fits (node.Inner seps kids) (rec.CutInner key) fits one = cut_inner_fits
 changed_fits (node.Inner seps kids) (rec.Link key child) fits one = link_fits seps kids key child fits one.0 one.1
 changed_fits _ _ fits one = tt
 
-next_fits : (old : Node × ℕ) (version : ℕ) (r : Rec) → FitsNode old.0 → FitsRec r → FitsNode (changed_from old version r)
-next_fits old version r fits one = by (nat_eq version (old.1 + 1))
-  where
-    by : (b : Bool) → FitsNode (cond b (changed old.0 r) node.Broken)
-    by true = changed_fits old.0 r fits one
-    by false = tt
-
 pub step_fits : (old : Node × ℕ) (version : ℕ) (r : Rec) → FitsNode old.0 → FitsRec r → FitsNode (step_node old version r)
-step_fits old version (rec.HeadImage root next depth) fits one = one
-step_fits old version (rec.LeafImage pairs) fits one = one
-step_fits old version (rec.InnerImage seps kids) fits one = one
-step_fits old version (rec.Put key value) fits one = next_fits old version (rec.Put key value) fits one
-step_fits old version (rec.Del key) fits one = next_fits old version (rec.Del key) fits one
-step_fits old version (rec.CutLeaf key) fits one = next_fits old version (rec.CutLeaf key) fits one
-step_fits old version (rec.CutInner key) fits one = next_fits old version (rec.CutInner key) fits one
-step_fits old version (rec.Link key child) fits one = next_fits old version (rec.Link key child) fits one
-step_fits old version (rec.Plus key by) fits one = next_fits old version (rec.Plus key by) fits one
+step_fits = step_keeps FitsNode FitsRec tt changed_fits (λ root next depth one. one) (λ pairs one. one) (λ seps kids one. one)
 
 replay_fits : (rows : List Row) (old : Content) → AllByRecursion (λ row. FitsRec row.rec) rows → FitsNode old.0 → FitsNode (replay old rows).0
-unfolding replay step
-replay_fits [] old fits h = h
-replay_fits (row ∷ rows) old fits h = replay_fits rows (step old row) fits.1 (step_fits old row.version row.rec h fits.0)
+replay_fits = replay_keeps FitsNode FitsRec tt changed_fits (λ root next depth one. one) (λ pairs one. one) (λ seps kids one. one)
 
 base_fits : (id : NodeId) → FitsNode (base id).0
 base_fits id = by (id.number == 0)

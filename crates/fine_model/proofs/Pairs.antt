@@ -8,7 +8,7 @@ use Rattle.fine_model.specs.Map.{Pair, is_below, is_ascending, pairs_below, pair
 use Rattle.fine_model.proofs.Order.{AllBelow, AllAbove, order_cases, is_below-trans, is_below-asym, is_below-self, filter_all, filter_none, all_map, set_again, unset_there, keys_of, above_first}
 use Rattle.fine_model.proofs.Sets.{set-append_left, set-append_right, all_pass, ascending-tail}
 
-filter_twice : {A : Type 0} (p q : A → Bool) (xs : List A) → filter p (filter q xs) ≡ filter (λ x. q x && p x) xs
+pub filter_twice : {A : Type 0} (p q : A → Bool) (xs : List A) → filter p (filter q xs) ≡ filter (λ x. q x && p x) xs
 filter_twice p q [] = refl
 filter_twice p q (x ∷ xs) = by (q x) (filter_twice p q xs)
   where

@@ -13,12 +13,12 @@ use Rattle.fine_model.proofs.Order.{all_map}
 use Rattle.fine_model.proofs.Sets.{all_append}
 use Rattle.fine_model.proofs.Zip.{all_left, all_right}
 use Rattle.fine_model.proofs.Times.{times, times-append, times-same, distinct_times}
-use Rattle.fine_model.proofs.Headers.{in_order}
 use Rattle.fine_model.proofs.Free.{header_kept, sealed_kept, rows_kept}
 use Rattle.fine_model.proofs.Chains.{follow_end, Walked, end_from}
 use Rattle.fine_model.proofs.Sealing.{round}
 use Rattle.fine_model.proofs.ChainFacts.{chain_law}
-use Rattle.fine_model.proofs.Opened.{IsOpened, Inserted, inserted, is_good, free_now, left_now, still_retired}
+use Rattle.fine_model.proofs.ReadChain.{header_ordered}
+use Rattle.fine_model.proofs.Opened.{IsOpened, Inserted, inserted, lead_free, free_now, left_now, still_retired}
 use Rattle.fine_model.proofs.Replacing.{walk_ends, walk_replaced, taken_walks, no_fault_itself, no_fault_now}
 
 -- ---- rows of parts
@@ -97,11 +97,8 @@ module _ (region_len region : ℕ) (old new : Image) (before : List Part) (oldes
   opened : IsOpened region_len region old new header
   opened = record { differs = s.differs; free = s.free; has_header = s.has_header }
 
-  lead_free : is_free old region ≡ true
-  lead_free = let f = s.free in f.0
-
   ordered : header.range.first ≤ header.range.last
-  ordered = in_order region_len (length new) region (region_of new region) header (is_good region_len region old new header opened)
+  ordered = header_ordered region_len new part s.has_header
 
   facts : IsChain region_len old was
   facts = chain_law region_len old was s.is_chain
@@ -183,8 +180,8 @@ module _ (region_len region : ℕ) (old new : Image) (before : List Part) (oldes
   rows_now : (a b own : List Row) → AreRowsOf region_len old before a → AreRowsOf region_len old after b → IsSealed region_len new region header.range own → AreRowsOf region_len new now (a ++ (own ++ b))
   unfolding AreRowsOf
   rows_now a b own of_before of_after sealed =
-      rows_join region_len new before (part ∷ after) a (own ++ b) (rows_kept region_len region old new s.differs lead_free before a of_before)
-      (own, b, refl, sealed, rows_kept region_len region old new s.differs lead_free after b of_after)
+      rows_join region_len new before (part ∷ after) a (own ++ b) (rows_kept region_len region old new s.differs (lead_free region_len region old new header opened) before a of_before)
+      (own, b, refl, sealed, rows_kept region_len region old new s.differs (lead_free region_len region old new header opened) after b of_after)
 
 pub replace_law : ReplaceLaw
 replace_law region_len region old new before oldest newer after header s = record {

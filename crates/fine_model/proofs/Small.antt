@@ -12,6 +12,7 @@ use Rattle.fine_model.specs.Nodes.{Content, base, keys_below, keys_above, leaf, 
 use Rattle.fine_model.specs.Laws.{is_small, AreSmall}
 use Rattle.fine_model.proofs.Order.{is_below-asym, is_below-self}
 use Rattle.fine_model.proofs.Sets.{all_filter, all_append}
+use Rattle.fine_model.proofs.NodeLaws.{replay_keeps}
 
 -- two tests that no item passes both
 pub exclusive : {A : Type 0} (p q : A → Bool) (xs : List A) → ((x : A) → p x ≡ true → q x ≡ false) → length (filter p xs) + length (filter q xs) ≤ length xs
@@ -116,28 +117,8 @@ small_changed (node.Inner seps kids) (rec.Link key child) h = by (not (list_any 
     by false c is = refl
 small_changed _ _ h = refl
 
-small_from : (old : Content) (version : ℕ) (change : Rec) → is_small_node old.0 ≡ true → is_small_node (changed_from old version change) ≡ true
-small_from old version change h = by (version == old.1 + 1)
-  where
-    by : (b : Bool) → is_small_node (cond b (changed old.0 change) node.Broken) ≡ true
-    by true = small_changed old.0 change h
-    by false = refl
-
-small_step : (old : Content) (version : ℕ) (change : Rec) → is_small change ≡ true → is_small_node old.0 ≡ true → is_small_node (step_node old version change) ≡ true
-small_step old version (rec.HeadImage root next depth) small h = refl
-small_step old version (rec.LeafImage pairs) small h = small
-small_step old version (rec.InnerImage seps kids) small h = small
-small_step old version (rec.Put key value) small h = small_from old version (rec.Put key value) h
-small_step old version (rec.Del key) small h = small_from old version (rec.Del key) h
-small_step old version (rec.CutLeaf key) small h = small_from old version (rec.CutLeaf key) h
-small_step old version (rec.CutInner key) small h = small_from old version (rec.CutInner key) h
-small_step old version (rec.Link key child) small h = small_from old version (rec.Link key child) h
-small_step old version (rec.Plus key by) small h = small_from old version (rec.Plus key by) h
-
 small_replay : (rows : List Row) (old : Content) → AllByRecursion (λ row. IsTrue (is_small row.rec)) rows → is_small_node old.0 ≡ true → is_small_node (replay old rows).0 ≡ true
-unfolding replay step
-small_replay [] old small h = h
-small_replay (row ∷ rows) old small h = small_replay rows (step old row) small.1 (small_step old row.version row.rec small.0 h)
+small_replay = replay_keeps (λ n. is_small_node n ≡ true) (λ change. IsTrue (is_small change)) refl (λ n change small one. small_changed n change small) (λ root next depth one. refl) (λ pairs one. one) (λ seps kids one. one)
 
 small_base : (id : NodeId) → is_small_node (base id).0 ≡ true
 small_base id = by (id.number == 0)

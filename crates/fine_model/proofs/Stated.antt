@@ -27,13 +27,7 @@ row_law mark bytes row row' rest rest' a b = row_spelling mark row row' rest res
 fits_small : (change : Rec) → FitsRec change → is_small change ≡ true
 fits_small (rec.LeafImage pairs) fits = le-leb (length pairs) 32 fits.0
 fits_small (rec.InnerImage seps kids) fits = le-leb (length seps) 32 fits.0
-fits_small (rec.HeadImage root next depth) fits = refl
-fits_small (rec.Put key value) fits = refl
-fits_small (rec.Del key) fits = refl
-fits_small (rec.CutLeaf key) fits = refl
-fits_small (rec.CutInner key) fits = refl
-fits_small (rec.Link key child) fits = refl
-fits_small (rec.Plus key by) fits = refl
+fits_small _ fits = refl
 
 pub small_law : SmallLaw
 small_law mark row fits = fits_small row.rec fits.rec

@@ -31,7 +31,7 @@ pub use laws::{
 };
 pub use layout::{body_start, fits_in};
 pub use list::{Copied, Items, NoMemory};
-pub use numbers::{natural_of, number_of, number_text};
+pub use numbers::{natural_of, natural_of_64, number_of, number_text};
 pub use version_laws::{arranged_law, ordered_law, permuted_law, sort_law, versions_law};
 
 /// A key, a value or a text.

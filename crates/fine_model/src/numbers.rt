@@ -23,20 +23,29 @@ fn worth(digits: &[u8]) -> u64
 
 /// The number from `low` to `high` that a word spells in digits without a leading zero. None exactly where it spells none. It
 /// takes no memory.
-pub fn natural_of(word: &[u8], low: u32, high: u32) -> Option<u32>
+pub fn natural_of_64(word: &[u8], low: u64, high: u64) -> Option<u64>
     ensures is { result ≡ natural_of low high word.now }
     ensures within { IfSome result (λ n. (low ≤ n) × (n ≤ high)) }
 {
     let worth = worth(word);
-    if worth < u64::from(low) || u64::from(high) < worth {
+    if worth < low || high < worth {
         return None;
     }
     let mut buffer = Buffer::new();
     if buffer.format(worth).as_bytes() == word {
-        Some(worth as u32)
+        Some(worth)
     } else {
         None
     }
+}
+
+/// The same within 32 bits.
+pub fn natural_of(word: &[u8], low: u32, high: u32) -> Option<u32>
+    ensures is { result ≡ natural_of low high word.now }
+    ensures within { IfSome result (λ n. (low ≤ n) × (n ≤ high)) }
+{
+    let number = natural_of_64(word, u64::from(low), u64::from(high))?;
+    Some(number as u32)
 }
 
 /// The number as far below zero as `worth` is above it.

@@ -1,5 +1,6 @@
+use crate::ONE_ROW;
 use fine_model::{
-    Bytes, Call, Copied, Header, Items, Kids, Mark, NoMemory, NodeId, Part, Range, Rec, Row,
+    Bytes, Call, Copied, Header, Items, Kids, NoMemory, NodeId, Part, Range, Rec, Row,
 };
 use std::alloc::Global;
 use std::test::Fail;
@@ -33,13 +34,9 @@ fn part() -> Part {
     Part {
         region: 2,
         header: Header {
-            mark: Mark::Two,
             range: Range { first: 1, last: 2 },
-            rows: 1,
-            nodes: 1,
             area: 25,
-            regions: 1,
-            more: [0; 7],
+            ..ONE_ROW
         },
     }
 }

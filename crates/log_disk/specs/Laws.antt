@@ -54,12 +54,16 @@ SyncedShows =
     (disk : Disk) (told : Told) (image : Image) → IsToldOf disk told → disk.unsynced ≡ []
     → (IsImageNow told image → image ≡ told.bytes) × (image ≡ told.bytes → IsImageNow told image)
 
+-- a relation of the disk before a call and after it that each call brings about
+abbrev pub EachCall : (Disk → Disk → Type 0) → Type 0
+EachCall R =
+    (region at : ℕ) (bytes : List ℕ) (failed : Bool) (regions : List ℕ) (eye : Eye) (old new : Disk)
+    → (Reads region at bytes (failed ≡ true) old new → R old new) × (Writes region at bytes (failed ≡ true) old new → R old new) × (Syncs old new → R old new)
+    × (OnlyFails old new → R old new) × (Opens regions eye old new → R old new) × (Closes eye old new → R old new)
+
 -- what each call does to the images since earlier clock values
 abbrev pub CallsGrow : Type 0
-CallsGrow =
-    (region at : ℕ) (bytes : List ℕ) (failed : Bool) (regions : List ℕ) (eye : Eye) (old new : Disk)
-    → (Reads region at bytes (failed ≡ true) old new → GrowsOn old new) × (Writes region at bytes (failed ≡ true) old new → GrowsOn old new) × (Syncs old new → GrowsOn old new)
-    × (OnlyFails old new → GrowsOn old new) × (Opens regions eye old new → GrowsOn old new) × (Closes eye old new → GrowsOn old new)
+CallsGrow = EachCall GrowsOn
 
 -- the moments that were go on to be the first ones: with no call, and over two runs
 abbrev pub TimesJoin : Type 0
@@ -67,10 +71,7 @@ TimesJoin = (old mid new : Disk) → ContinuesOn old old × (ContinuesOn old mid
 
 -- so they do over each call
 abbrev pub CallsContinue : Type 0
-CallsContinue =
-    (region at : ℕ) (bytes : List ℕ) (failed : Bool) (regions : List ℕ) (eye : Eye) (old new : Disk)
-    → (Reads region at bytes (failed ≡ true) old new → ContinuesOn old new) × (Writes region at bytes (failed ≡ true) old new → ContinuesOn old new) × (Syncs old new → ContinuesOn old new)
-    × (OnlyFails old new → ContinuesOn old new) × (Opens regions eye old new → ContinuesOn old new) × (Closes eye old new → ContinuesOn old new)
+CallsContinue = EachCall ContinuesOn
 
 -- as they do, the clock does not go back, and what was an image since a clock value still is
 abbrev pub ContinuedKeeps : Type 0

@@ -16,7 +16,7 @@ use Rattle.partition_index.proofs.BodyPlaces.{laid}
 use Rattle.partition_index.proofs.Exact.{area_small}
 use Rattle.log_partition.specs.Headers.{first_bad}
 use Rattle.log_partition.specs.Written.{IsGood, WrittenHeaderLaw, WrittenPartitionLaw}
-use Rattle.log_partition.proofs.Heads.{in_good}
+use Rattle.fine_model.proofs.Headers.{header_good}
 use Rattle.log_partition.proofs.Sealed.{and_true, both_zero}
 
 -- where each test holds, no field is the first that fails
@@ -50,14 +50,7 @@ pub record Seven (xs : List ℕ) : Type 0 where
 
 seven : (xs : List ℕ) → length xs ≡ 7 → Seven xs
 seven (a ∷ b ∷ c ∷ d ∷ e ∷ f ∷ g ∷ []) long = record { a = a; b = b; c = c; d = d; e = e; f = f; g = g; are = refl }
-seven [] long = absurd (omega (arith, long))
-seven (a ∷ []) long = absurd (omega (arith, long))
-seven (a ∷ b ∷ []) long = absurd (omega (arith, long))
-seven (a ∷ b ∷ c ∷ []) long = absurd (omega (arith, long))
-seven (a ∷ b ∷ c ∷ d ∷ []) long = absurd (omega (arith, long))
-seven (a ∷ b ∷ c ∷ d ∷ e ∷ []) long = absurd (omega (arith, long))
-seven (a ∷ b ∷ c ∷ d ∷ e ∷ f ∷ []) long = absurd (omega (arith, long))
-seven (a ∷ b ∷ c ∷ d ∷ e ∷ f ∷ g ∷ h ∷ xs) long = absurd (omega (arith, long))
+seven _ long = absurd (omega (arith, long))
 
 module _ (region_len regions lead first last rows nodes area : ℕ) (rest : List ℕ) where
   abbrev with_regions : Mark → ℕ → List ℕ → Header
@@ -105,6 +98,27 @@ module _ (region_len regions lead first last rows nodes area : ℕ) (rest : List
     areas : alike (area == 0) (rows == 0) ≡ true
     areas = let both = good.counted.3 in both_zero area rows both.0 both.1
 
+  -- the header that its fields are read as, with as many regions as they say
+  abbrev read_as : Mark → ℕ → List ℕ → Header
+  read_as m k more = record {
+    mark = m;
+    range = record { first = from_be_bytes w64 (to_be_bytes w64 first); last = from_be_bytes w64 (to_be_bytes w64 last) };
+    rows = from_be_bytes w32 (to_be_bytes w32 rows);
+    nodes = from_be_bytes w32 (to_be_bytes w32 nodes);
+    area = from_be_bytes w32 (to_be_bytes w32 area);
+    regions = k;
+    more = more;
+  }
+
+  fields_again : (m : Mark) (k : ℕ) (more : List ℕ) → IsGood region_len regions lead (with_regions m k more) → read_as m k more ≡ with_regions m k more
+  fields_again m k more good =
+      let s1 = first_again m k more good in
+      let s2 = last_again m k more good in
+      let s3 = rows_again m k more good in
+      let s4 = nodes_again m k more good in
+      let s5 = area_again m k more good in
+      λ i. record { mark = m; range = record { first = s1 i; last = s2 i }; rows = s3 i; nodes = s4 i; area = s5 i; regions = k; more = more }
+
   -- ---- over several regions
 
   module _ (k a b c d e f g : ℕ) where
@@ -124,11 +138,6 @@ module _ (region_len regions lead first last rows nodes area : ℕ) (rest : List
       spelled_long : header_at (bytes_of long) ≡ long
       unfolding header_at header_bytes
       spelled_long =
-          let s1 = first_again mark.Three k seven_more good in
-          let s2 = last_again mark.Three k seven_more good in
-          let s3 = rows_again mark.Three k seven_more good in
-          let s4 = nodes_again mark.Three k seven_more good in
-          let s5 = area_again mark.Three k seven_more good in
           let t = good.entries in
           let ea = entry_again a _ _ t.0 in
           let eb = entry_again b _ _ t.1.0 in
@@ -137,7 +146,7 @@ module _ (region_len regions lead first last rows nodes area : ℕ) (rest : List
           let ee = entry_again e _ _ t.1.1.1.1.0 in
           let ef = entry_again f _ _ t.1.1.1.1.1.0 in
           let eg = entry_again g _ _ t.1.1.1.1.1.1.0 in
-          λ i. record { mark = mark.Three; range = record { first = s1 i; last = s2 i }; rows = s3 i; nodes = s4 i; area = s5 i; regions = k; more = ea i ∷ eb i ∷ ec i ∷ ed i ∷ ee i ∷ ef i ∷ eg i ∷ [] }
+          (λ i. read_as mark.Three k (ea i ∷ eb i ∷ ec i ∷ ed i ∷ ee i ∷ ef i ∷ eg i ∷ [])) ∙ fields_again mark.Three k seven_more good
 
       tests_long : AllByRecursion (λ t. t.1 ≡ true) (header_tests region_len regions lead (bytes_of long) long)
       unfolding header_tests header_bytes
@@ -152,7 +161,7 @@ module _ (region_len regions lead first last rows nodes area : ℕ) (rest : List
       no_bad_long = ap (λ h. first_bad (header_tests region_len regions lead (bytes_of long) h)) spelled_long ∙ none_bad (header_tests region_len regions lead (bytes_of long) long) tests_long
 
       read_long : read_again long
-      read_long = in_good region_len regions lead (bytes_of long) refl no_bad_long ∙ ap (λ (h : Header). Ok (Some h)) spelled_long
+      read_long = header_good region_len regions lead (bytes_of long) refl no_bad_long ∙ ap (λ (h : Header). Ok (Some h)) spelled_long
 
   -- ---- in one region
 
@@ -181,20 +190,8 @@ module _ (region_len regions lead first last rows nodes area : ℕ) (rest : List
 
   spelled_short : (two : Bool) → IsGood region_len regions lead (short two) → header_at (bytes_of (short two)) ≡ short two
   unfolding header_at header_bytes
-  spelled_short true good =
-      let s1 = first_again mark.Two 1 zeros good in
-      let s2 = last_again mark.Two 1 zeros good in
-      let s3 = rows_again mark.Two 1 zeros good in
-      let s4 = nodes_again mark.Two 1 zeros good in
-      let s5 = area_again mark.Two 1 zeros good in
-      λ i. record { mark = mark.Two; range = record { first = s1 i; last = s2 i }; rows = s3 i; nodes = s4 i; area = s5 i; regions = 1; more = zeros }
-  spelled_short false good =
-      let s1 = first_again mark.One 1 zeros good in
-      let s2 = last_again mark.One 1 zeros good in
-      let s3 = rows_again mark.One 1 zeros good in
-      let s4 = nodes_again mark.One 1 zeros good in
-      let s5 = area_again mark.One 1 zeros good in
-      λ i. record { mark = mark.One; range = record { first = s1 i; last = s2 i }; rows = s3 i; nodes = s4 i; area = s5 i; regions = 1; more = zeros }
+  spelled_short true good = fields_again mark.Two 1 zeros good
+  spelled_short false good = fields_again mark.One 1 zeros good
 
   fits_one : (m : Mark) (good : IsGood region_len regions lead (with_regions m 1 zeros)) → (fits_in region_len 1 (area + 14 * nodes) && alike (area == 0) (rows == 0)) ≡ true
   fits_one m good = and_true (fits_in region_len 1 (area + 14 * nodes)) (alike (area == 0) (rows == 0)) good.lies.lies (areas m 1 zeros good)
@@ -210,7 +207,7 @@ module _ (region_len regions lead first last rows nodes area : ℕ) (rest : List
       ap (λ h. first_bad (header_tests region_len regions lead (bytes_of (short two)) h)) (spelled_short two good) ∙ none_bad (header_tests region_len regions lead (bytes_of (short two)) (short two)) (tests_short two good)
 
   read_short : (two : Bool) → IsGood region_len regions lead (short two) → read_again (short two)
-  read_short two good = in_good region_len regions lead (bytes_of (short two)) refl (no_bad_short two good) ∙ ap (λ (h : Header). Ok (Some h)) (spelled_short two good)
+  read_short two good = header_good region_len regions lead (bytes_of (short two)) refl (no_bad_short two good) ∙ ap (λ (h : Header). Ok (Some h)) (spelled_short two good)
 
   -- ---- of any mark
 

@@ -8,19 +8,11 @@ use Rattle.fine_model.specs.declared.Mark.{Mark}
 use Rattle.fine_model.specs.declared.Mark.TheVariants as mark
 use Rattle.fine_model.specs.Regions.{is_sealed, mark_of, number_in, regions_at, more_at, header_at, header_tests, bad_field, header_in}
 use Rattle.log_partition.specs.Headers.{first_bad, HeaderLaw}
-
--- what a header is read to be, by its gate and its first bad field
-pub in_closed : (region_len regions lead : ℕ) (bytes : List ℕ) → is_sealed bytes ≡ false → header_in region_len regions lead bytes ≡ Ok None
-unfolding header_in
-in_closed region_len regions lead bytes s = rw s refl
-
-pub in_good : (region_len regions lead : ℕ) (bytes : List ℕ) → is_sealed bytes ≡ true → bad_field region_len regions lead bytes ≡ None → header_in region_len regions lead bytes ≡ Ok (Some (header_at bytes))
-unfolding header_in
-in_good region_len regions lead bytes s b = rw (s, b) refl
+use Rattle.fine_model.proofs.Headers.{header_bad}
+pub use Rattle.fine_model.proofs.Headers.{header_closed as in_closed, header_good as in_good}
 
 pub in_bad : (region_len regions lead : ℕ) (bytes : List ℕ) (at : ℕ) → is_sealed bytes ≡ true → bad_field region_len regions lead bytes ≡ Some at → header_in region_len regions lead bytes ≡ Err at
-unfolding header_in
-in_bad region_len regions lead bytes at s b = rw (s, b) refl
+in_bad region_len regions lead bytes at = header_bad region_len regions lead at bytes
 
 range_same : (n at : ℕ) (bytes rest : List ℕ) → at + n ≤ length bytes → take n (drop at (bytes ++ rest)) ≡ take n (drop at bytes)
 range_same n at bytes rest long =

@@ -1,5 +1,5 @@
 -- An index, entry by entry.
-use Rattle.std.proofs.Common.{◌≡◌, ℕ, zero, suc, ◌+◌, ◌-◌, ◌*◌, ◌<◌, ◌≤◌, List, [], ◌∷◌, ◌++◌, length, take, drop, get_or, refl, sym, ap, ◌∙◌, inl, inr, arith, length-append, length-take, length-drop, take_at, drop_at}
+use Rattle.std.proofs.Common.{◌≡◌, ◌≢◌, ℕ, zero, suc, ◌+◌, ◌-◌, ◌*◌, ◌<◌, ◌≤◌, List, [], ◌∷◌, ◌++◌, length, take, drop, get_or, refl, sym, ap, ◌∙◌, inl, inr, arith, length-append, length-take, length-drop, take_at, drop_at}
 use Rattle.std.specs.Prelude.{flat_map}
 use Rattle.std.proofs.Math.Seq.{take-add}
 use Rattle.std.proofs.lemmas.List.{drop-drop, take_all, take-take, length-map}
@@ -73,9 +73,10 @@ module _ (header : Header) (body : List ℕ) (rows : List Row) (long : length bo
       → take (14 * (i + 1)) (index_area header body) ≡ take (14 * (i + 1)) (index_bytes rows)
   good_entry i d lt before same = one_more (index_area header body) (index_bytes rows) i before (entry_there i ∙ same ∙ sym (entry_wanted i d lt))
 
-  pub other_entry : (i : ℕ) (d : IndexEntry) → AreTheRows header body rows → i < length (entries_of rows) → i < header.nodes → take (14 * i) (index_area header body) ≡ take (14 * i) (index_bytes rows)
-      → (take 14 (drop (header.area + 14 * i) body) ≡ bytes_of (get_or (entries_of rows) i d) → ⊥) → IsBadEntry header body (header.area + 14 * i)
-  other_entry i d r lt there before other = record {
+  -- the entry at a place is bad where the entries up to it are not those that are wanted
+  bad_entry : (i : ℕ) → AreTheRows header body rows → i < header.nodes → take (14 * i) (index_area header body) ≡ take (14 * i) (index_bytes rows)
+      → take (14 * (i + 1)) (index_area header body) ≢ take (14 * (i + 1)) (index_bytes rows) → IsBadEntry header body (header.area + 14 * i)
+  bad_entry i r there before differ = record {
     rows = rows;
     good = r.good;
     all = r.all;
@@ -83,20 +84,18 @@ module _ (header : Header) (body : List ℕ) (rows : List Row) (long : length bo
     there = there;
     place = refl;
     before = before;
-    bad = inl (λ same. other (sym (entry_there i) ∙ one_less (index_area header body) (index_bytes rows) i before same ∙ entry_wanted i d lt));
+    bad = inl differ;
   }
 
+  pub other_entry : (i : ℕ) (d : IndexEntry) → AreTheRows header body rows → i < length (entries_of rows) → i < header.nodes → take (14 * i) (index_area header body) ≡ take (14 * i) (index_bytes rows)
+      → (take 14 (drop (header.area + 14 * i) body) ≡ bytes_of (get_or (entries_of rows) i d) → ⊥) → IsBadEntry header body (header.area + 14 * i)
+  other_entry i d r lt there before other =
+      bad_entry i r there before (λ same. other (sym (entry_there i) ∙ one_less (index_area header body) (index_bytes rows) i before same ∙ entry_wanted i d lt))
+
   pub no_node_left : (i : ℕ) → AreTheRows header body rows → i ≡ length (entries_of rows) → i < header.nodes → take (14 * i) (index_area header body) ≡ take (14 * i) (index_bytes rows) → IsBadEntry header body (header.area + 14 * i)
-  no_node_left i r end there before = record {
-    rows = rows;
-    good = r.good;
-    all = r.all;
-    entry = i;
-    there = there;
-    place = refl;
-    before = before;
-    bad = inl (λ same. let n = ap length same in omega (arith, n, end, there, area_long, index_long rows, entries_count rows, length-take (14 * (i + 1)) (index_area header body), length-take (14 * (i + 1)) (index_bytes rows)));
-  }
+  no_node_left i r end there before =
+      bad_entry i r there before
+      (λ same. let n = ap length same in omega (arith, n, end, there, area_long, index_long rows, entries_count rows, length-take (14 * (i + 1)) (index_area header body), length-take (14 * (i + 1)) (index_bytes rows)))
 
   pub node_left : (i : ℕ) → AreTheRows header body rows → i ≡ header.nodes → 0 < i → i < length (entries_of rows) → take (14 * i) (index_area header body) ≡ take (14 * i) (index_bytes rows) → IsBadEntry header body (header.area + 14 * (i - 1))
   node_left i r end some more before =

@@ -18,7 +18,7 @@ use Rattle.fine_model.specs.Regions.{region_of, sealed_gate, header_of, header_b
 use Rattle.partition_index.proofs.NodeOrder.{below-asym}
 use Rattle.log_partition.specs.Headers.{first_bad}
 use Rattle.log_partition.specs.Encoding.{FitsRange, EncodeLaw}
-use Rattle.log_partition.proofs.Heads.{in_good}
+use Rattle.fine_model.proofs.Headers.{header_good}
 
 -- ---- rows and the nodes that they name
 
@@ -117,7 +117,7 @@ module _ (region_len : ℕ) (range : Range) (rows : List Row) (behind : List ℕ
       ap (λ h. first_bad (header_tests region_len regions lead bytes h)) spelled_header ∙ rw (t5, t13, t21, t33, t37) refl
 
   pub good_header : (regions lead : ℕ) → header_in region_len regions lead bytes ≡ Ok (Some (header_of range rows))
-  good_header regions lead = in_good region_len regions lead bytes refl (no_bad_field regions lead) ∙ ap (λ (h : Header). Ok (Some h)) spelled_header
+  good_header regions lead = header_good region_len regions lead bytes refl (no_bad_field regions lead) ∙ ap (λ (h : Header). Ok (Some h)) spelled_header
 
 pub sealed_again : EncodeLaw
 unfolding partition_bytes body_in header_bytes

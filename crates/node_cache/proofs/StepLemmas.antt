@@ -28,24 +28,12 @@ pub changed_leaf : (pairs : List Pair) (r : Rec) → changes_leaf pairs r ≡ tr
 unfolding changed
 changed_leaf pairs (rec.Put key value) does few = fits_leaf (set pairs key value) few
 changed_leaf pairs (rec.Del key) does few = refl
-changed_leaf pairs (rec.HeadImage root next depth) does few = absurd (true≢false (sym does))
-changed_leaf pairs (rec.LeafImage pairs') does few = absurd (true≢false (sym does))
-changed_leaf pairs (rec.InnerImage seps kids) does few = absurd (true≢false (sym does))
-changed_leaf pairs (rec.CutLeaf key) does few = absurd (true≢false (sym does))
-changed_leaf pairs (rec.CutInner key) does few = absurd (true≢false (sym does))
-changed_leaf pairs (rec.Link key child) does few = absurd (true≢false (sym does))
-changed_leaf pairs (rec.Plus key by) does few = absurd (true≢false (sym does))
+changed_leaf pairs _ does few = absurd (true≢false (sym does))
 
 stepped : (old : Node) (v version : ℕ) (r : Rec) (pairs : List Pair) → changes_leaf pairs r ≡ true → version ≡ v + 1 → step_node (old, v) version r ≡ changed old r
 stepped old v version (rec.Put key value) pairs does next = ap (λ b. cond b (changed old (rec.Put key value)) node.Broken) (eq-eqb version (v + 1) next)
 stepped old v version (rec.Del key) pairs does next = ap (λ b. cond b (changed old (rec.Del key)) node.Broken) (eq-eqb version (v + 1) next)
-stepped old v version (rec.HeadImage root next' depth) pairs does next = absurd (true≢false (sym does))
-stepped old v version (rec.LeafImage pairs') pairs does next = absurd (true≢false (sym does))
-stepped old v version (rec.InnerImage seps kids) pairs does next = absurd (true≢false (sym does))
-stepped old v version (rec.CutLeaf key) pairs does next = absurd (true≢false (sym does))
-stepped old v version (rec.CutInner key) pairs does next = absurd (true≢false (sym does))
-stepped old v version (rec.Link key child) pairs does next = absurd (true≢false (sym does))
-stepped old v version (rec.Plus key by) pairs does next = absurd (true≢false (sym does))
+stepped old v version _ pairs does next = absurd (true≢false (sym does))
 
 -- a leaf stays within bounds
 pub changed_fits : (pairs pairs' : List Pair) (r : Rec) → FitsNode (node.Leaf pairs) → FitsRec r → changes_leaf pairs r ≡ true → pairs' ≡ changed_pairs pairs r → length pairs' ≤ 32 → FitsNode (node.Leaf pairs')

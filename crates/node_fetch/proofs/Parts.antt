@@ -18,7 +18,7 @@ use Rattle.fine_model.specs.RowBytes.{row_len, rows_len, FitsRow, FitsRec, great
 use Rattle.fine_model.specs.Regions.{Image, HasHeader, IsSealed}
 use Rattle.fine_model.specs.Chain.{AreRowsOf}
 use Rattle.fine_model.specs.Seek.{most_taken}
-use Rattle.fine_model.proofs.NodeLaws.{content-append}
+use Rattle.fine_model.proofs.NodeLaws.{image_forgets, content-append}
 use Rattle.fine_model.proofs.Order.{all_map}
 use Rattle.fine_model.proofs.Zip.{all_left, all_right}
 use Rattle.partition_index.specs.Parts.{SameEye, IsSeen}
@@ -60,24 +60,6 @@ version_low (Ok after) c rows is low all = subst (λ (x : Content). x.1 ≤ grea
 version_low (Err e) c rows is low all = tt
 
 -- ---- rows that have an image
-
-step_by : (x : Content) (row : Row) (r : Rec) → row.rec ≡ r → step x row ≡ (step_node x row.version r, row.version)
-unfolding step
-step_by x row r e = ap (λ q. (step_node x row.version q, row.version)) e
-
-image_forgets : (c d : Content) (row : Row) → is_image row.rec ≡ true → step c row ≡ step d row
-image_forgets c d row h = by row.rec refl h
-  where
-    by : (r : Rec) → row.rec ≡ r → is_image r ≡ true → step c row ≡ step d row
-    by (rec.HeadImage root next depth) e h = let f : (x : Content) → step x row ≡ (step_node x row.version (rec.HeadImage root next depth), row.version) = λ x. step_by x row (rec.HeadImage root next depth) e in f c ∙ sym (f d)
-    by (rec.LeafImage pairs) e h = let f : (x : Content) → step x row ≡ (step_node x row.version (rec.LeafImage pairs), row.version) = λ x. step_by x row (rec.LeafImage pairs) e in f c ∙ sym (f d)
-    by (rec.InnerImage seps kids) e h = let f : (x : Content) → step x row ≡ (step_node x row.version (rec.InnerImage seps kids), row.version) = λ x. step_by x row (rec.InnerImage seps kids) e in f c ∙ sym (f d)
-    by (rec.Put key value) e h = absurd (true≢false (sym h))
-    by (rec.Del key) e h = absurd (true≢false (sym h))
-    by (rec.CutLeaf key) e h = absurd (true≢false (sym h))
-    by (rec.CutInner key) e h = absurd (true≢false (sym h))
-    by (rec.Link key child) e h = absurd (true≢false (sym h))
-    by (rec.Plus key n) e h = absurd (true≢false (sym h))
 
 pub forgets : (c d : Content) (rows : List Row) → list_any (λ row. is_image row.rec) rows ≡ true → replay c rows ≡ replay d rows
 unfolding replay

@@ -7,9 +7,8 @@ use Rattle.fine_model.specs.declared.NodeId.{NodeId}
 use Rattle.fine_model.specs.declared.Row.{Row}
 use Rattle.fine_model.specs.RowBytes.{row_bytes, rows_bytes, FitsRow}
 use Rattle.fine_model.specs.Seek.{RowSpan, SpanBegins, SpanHolds, IsBadInSpan, span_bytes}
-use Rattle.fine_model.proofs.Grammar.{rows_long, rows_bytes-append}
+use Rattle.fine_model.proofs.Grammar.{all_finished, following, rows_begin, rows_long}
 use Rattle.fine_model.proofs.Zip.{all_left, all_right}
-use Rattle.fine_model.proofs.Grammar.{rows_begin}
 use Rattle.node_fetch.specs.Spans.{ReadSoFar, ReadsAll, IsStop, IsNoRowOf}
 use Rattle.node_fetch.proofs.Reading.{rows_more}
 
@@ -29,18 +28,14 @@ module _ (header : Header) (body : List ℕ) (span : RowSpan) (id : NodeId) (own
   never_bad at b = by (front b.rows b.rest b.good)
     where
       by : (others : List Row) × (own ≡ b.rows ++ others) × (b.rest ≡ rows_bytes others ++ []) → ⊥
-      by ([], all, none) = by_unfinished b.unfinished
-        where
-          by_unfinished : (length b.rows < span.rows) ⊎ (b.rest ≢ []) → ⊥
-          by_unfinished (inl fewer) = let long = ap length (all ∙ append-nil b.rows) in omega (arith, fewer, long, h.all)
-          by_unfinished (inr left) = left none
+      by ([], all, none) = all_finished own b.rows b.rest span.rows (sym h.all) all none b.unfinished
       by (row ∷ others, all, more) =
-          let whole : own ≡ (b.rows ++ row ∷ []) ++ others = all ∙ sym (append_assoc b.rows (row ∷ []) others) in
+          let f = following header.mark own b.rows row others all h.begins.fit in
           b.last row (rows_bytes others) (record {
-            fit = all_left (FitsRow header.mark) (b.rows ++ row ∷ []) others (subst (AllByRecursion (FitsRow header.mark)) whole h.begins.fit);
-            of_node = all_left (λ r. r.node ≡ id) (b.rows ++ row ∷ []) others (subst (AllByRecursion (λ r. r.node ≡ id)) whole h.begins.of_node);
-            spelled = h.begins.spelled ∙ append-nil (rows_bytes own) ∙ ap rows_bytes whole ∙ rows_bytes-append (b.rows ++ row ∷ []) others;
-            counted = let long = ap length whole in omega (arith, long, h.all, length-append (b.rows ++ row ∷ []) others);
+            fit = f.fit;
+            of_node = all_left (λ r. r.node ≡ id) (b.rows ++ row ∷ []) others (subst (AllByRecursion (λ r. r.node ≡ id)) f.whole h.begins.of_node);
+            spelled = h.begins.spelled ∙ append-nil (rows_bytes own) ∙ f.spelled;
+            counted = let c = f.counted in omega (arith, c, h.all);
           })
 
 -- what was read of the bytes of a span

@@ -128,24 +128,12 @@ first_decide w len is a b bytes_a bytes_b long_a long_b =
     subst (λ (l : List ℕ). Decides (from_be_bytes w (take len a)) (from_be_bytes w (take len b)) a l (drop len a) (drop len b)) (take-append-drop len b) left
 
 worth_4 : (xs : List ℕ) → length xs ≡ 4 → from_be_bytes w32 xs ≡ worth xs
-worth_4 [] e = absurd (omega (arith, e))
-worth_4 (x0 ∷ []) e = absurd (omega (arith, e))
-worth_4 (x0 ∷ x1 ∷ []) e = absurd (omega (arith, e))
-worth_4 (x0 ∷ x1 ∷ x2 ∷ []) e = absurd (omega (arith, e))
 worth_4 (x0 ∷ x1 ∷ x2 ∷ x3 ∷ []) e = omega arith
-worth_4 (x0 ∷ x1 ∷ x2 ∷ x3 ∷ x4 ∷ xs) e = absurd (omega (arith, e))
+worth_4 _ e = absurd (omega (arith, e))
 
 worth_8 : (xs : List ℕ) → length xs ≡ 8 → from_be_bytes w64 xs ≡ worth xs
-worth_8 [] e = absurd (omega (arith, e))
-worth_8 (x0 ∷ []) e = absurd (omega (arith, e))
-worth_8 (x0 ∷ x1 ∷ []) e = absurd (omega (arith, e))
-worth_8 (x0 ∷ x1 ∷ x2 ∷ []) e = absurd (omega (arith, e))
-worth_8 (x0 ∷ x1 ∷ x2 ∷ x3 ∷ []) e = absurd (omega (arith, e))
-worth_8 (x0 ∷ x1 ∷ x2 ∷ x3 ∷ x4 ∷ []) e = absurd (omega (arith, e))
-worth_8 (x0 ∷ x1 ∷ x2 ∷ x3 ∷ x4 ∷ x5 ∷ []) e = absurd (omega (arith, e))
-worth_8 (x0 ∷ x1 ∷ x2 ∷ x3 ∷ x4 ∷ x5 ∷ x6 ∷ []) e = absurd (omega (arith, e))
 worth_8 (x0 ∷ x1 ∷ x2 ∷ x3 ∷ x4 ∷ x5 ∷ x6 ∷ x7 ∷ []) e = omega arith
-worth_8 (x0 ∷ x1 ∷ x2 ∷ x3 ∷ x4 ∷ x5 ∷ x6 ∷ x7 ∷ x8 ∷ xs) e = absurd (omega (arith, e))
+worth_8 _ e = absurd (omega (arith, e))
 
 -- ---- the numbers that stand at the first bytes of two texts, and behind so many
 

@@ -145,14 +145,7 @@ inner_behind bytes n rest last fits read children =
 
 image_of_kind : (r : Rec) → leb (kind r) 3 ≡ is_image r
 image_of_kind (rec.HeadImage root next depth) = refl
-image_of_kind (rec.LeafImage pairs) = refl
-image_of_kind (rec.InnerImage seps kids) = refl
-image_of_kind (rec.Put key value) = refl
-image_of_kind (rec.Del key) = refl
-image_of_kind (rec.CutLeaf key) = refl
-image_of_kind (rec.CutInner key) = refl
-image_of_kind (rec.Link key child) = refl
-image_of_kind (rec.Plus key by) = refl
+image_of_kind _ = refl
 
 pub if_err : {A E : Type 0} {P : Type 0} (r : Result A E) → P → IfErr r (λ _. P)
 if_err (Ok x) p = tt

@@ -11,12 +11,13 @@ use Rattle.fine_model.specs.declared.Rec.TheVariants as rec
 use Rattle.fine_model.specs.declared.Row.{Row}
 use Rattle.fine_model.specs.RowBytes.{greatest, last_kind, key_bytes, value_bytes, pair_bytes, kind, body, row_bytes, FitsKey, FitsPair, FitsChild, FitsRec, FitsRow, BeginsWithRow}
 use Rattle.fine_model.proofs.Grammar.{row_long}
+use Rattle.fine_model.proofs.FitPushed.{kind_few}
 use Rattle.std.proofs.lemmas.Bool.{and_parts}
 use Rattle.node_record.specs.declared.front.Front.{Front}
 use Rattle.node_record.specs.declared.fault.RowFault.{RowFault}
 use Rattle.node_record.specs.declared.fault.RowFault.TheVariants as fault
 use Rattle.node_record.specs.Rows.{IsRowAt, IsFault, IsReadAgain}
-use Rattle.node_record.specs.Reading.{Gives, ◌>>=◌, only, within, byte_at, number_at, head_at, leaf_at, inner_at, put_at, keyed_at, link_at, plus_at, body_at, fits_kind, front_at, row_at}
+use Rattle.node_record.specs.Reading.{signed_at, child_at, tailed_at, Gives, ◌>>=◌, only, within, byte_at, number_at, head_at, leaf_at, inner_at, put_at, keyed_at, body_at, fits_kind, front_at, row_at}
 use Rattle.node_record.proofs.Changes.{not_true}
 use Rattle.node_record.proofs.Readers.{IsBytes, IsBytes-drop, bind_some, found, some_is, Takes, Takes-then, IsReader, byte_reader, reader_16, reader_32, reader_64, only_reader, map_takes, map_again}
 use Rattle.node_record.proofs.RowsRead.{within_is, is_within, Body, head_takes, head_again, leaf_takes, leaf_again, inner_takes, inner_again, put_takes, put_again, keyed_takes, keyed_again, link_takes, link_again, plus_takes, plus_again}
@@ -41,8 +42,8 @@ body_takes k bytes r rest fits e =
     by_kind (Body bytes k r rest) k 5 (keyed_at (λ key. rec.Del key) bytes) _ (Some (r, rest)) e (λ is e. at 5 is (keyed_takes (λ key. rec.Del key) 5 (λ key. refl) (λ key h. h) (λ key. refl) bytes r rest fits e)) (λ e.
     by_kind (Body bytes k r rest) k 6 (keyed_at (λ key. rec.CutLeaf key) bytes) _ (Some (r, rest)) e (λ is e. at 6 is (keyed_takes (λ key. rec.CutLeaf key) 6 (λ key. refl) (λ key h. h) (λ key. refl) bytes r rest fits e)) (λ e.
     by_kind (Body bytes k r rest) k 7 (keyed_at (λ key. rec.CutInner key) bytes) _ (Some (r, rest)) e (λ is e. at 7 is (keyed_takes (λ key. rec.CutInner key) 7 (λ key. refl) (λ key h. h) (λ key. refl) bytes r rest fits e)) (λ e.
-    by_kind (Body bytes k r rest) k 8 (link_at bytes) _ (Some (r, rest)) e (λ is e. at 8 is (link_takes bytes r rest fits e)) (λ e.
-    by_kind (Body bytes k r rest) k 9 (plus_at bytes) None (Some (r, rest)) e (λ is e. at 9 is (plus_takes bytes r rest fits e)) (λ e. absurd cc)))))))))
+    by_kind (Body bytes k r rest) k 8 (tailed_at child_at (λ key child. rec.Link key child) bytes) _ (Some (r, rest)) e (λ is e. at 8 is (link_takes bytes r rest fits e)) (λ e.
+    by_kind (Body bytes k r rest) k 9 (tailed_at signed_at (λ key by. rec.Plus key by) bytes) None (Some (r, rest)) e (λ is e. at 9 is (plus_takes bytes r rest fits e)) (λ e. absurd cc)))))))))
 
 body_again : (r : Rec) (rest : List ℕ) → FitsRec r → body_at (kind r) (body r ++ rest) ≡ Some (r, rest)
 unfolding body_at body
@@ -187,15 +188,7 @@ head_from kind number h = by (eqb kind 1) (eqb number 0) refl refl
     by false false ek en = refl
 
 kind_small : (r : Rec) → kind r < 256
-kind_small (rec.HeadImage root next depth) = omega arith
-kind_small (rec.LeafImage pairs) = omega arith
-kind_small (rec.InnerImage seps kids) = omega arith
-kind_small (rec.Put key value) = omega arith
-kind_small (rec.Del key) = omega arith
-kind_small (rec.CutLeaf key) = omega arith
-kind_small (rec.CutInner key) = omega arith
-kind_small (rec.Link key child) = omega arith
-kind_small (rec.Plus key by) = omega arith
+kind_small r = let few = kind_few r in omega (arith, few)
 
 passed : {A : Type 0} (b : Bool) (x y : A) → cond b (Some x) None ≡ Some y → (b ≡ true) × (x ≡ y)
 passed true x y e = (refl, cc)

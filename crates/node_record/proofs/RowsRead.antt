@@ -11,7 +11,7 @@ use Rattle.fine_model.specs.Map.{Pair, is_ascending}
 use Rattle.fine_model.specs.RowBytes.{key_bytes, value_bytes, pair_bytes, kind, body, FitsKey, FitsValue, FitsPair, FitsChild, FitsRec}
 use Rattle.std.proofs.lemmas.Bool.{and_parts}
 use Rattle.fine_model.proofs.Spelling.{small_bits}
-use Rattle.node_record.specs.Reading.{◌>>=◌, only, within, text_at, byte_at, number_at, signed_at, key_at, value_at, pair_at, child_at, items_at, head_at, leaf_at, inner_at, put_at, keyed_at, link_at, plus_at}
+use Rattle.node_record.specs.Reading.{◌>>=◌, only, within, text_at, byte_at, number_at, signed_at, key_at, value_at, pair_at, child_at, items_at, head_at, leaf_at, inner_at, put_at, keyed_at, tailed_at}
 use Rattle.node_record.proofs.Readers.{IsBytes, bind_some, found, some_is, only_some, only_again, Takes, Takes-then, IsReader, text_takes, text_again, byte_reader, reader_16, reader_32, reader_64, only_reader, items_take, items_again, map_takes, map_again, pair_reader}
 
 pub within_is : (low high n : ℕ) → within low high n ≡ true → (low ≤ n) × (n ≤ high)
@@ -118,35 +118,44 @@ pub keyed_again : (make : List ℕ → Rec) → (key rest : List ℕ) → FitsKe
 unfolding keyed_at
 keyed_again make key rest fits = map_again key_at key_bytes FitsKey make key_reader key rest fits
 
-pub link_takes : (bytes : List ℕ) (r : Rec) (rest : List ℕ) → IsBytes bytes → link_at bytes ≡ Some (r, rest) → Body bytes 8 r rest
-unfolding link_at body
-link_takes bytes r rest fits e =
-    let a = bind_some (key_at bytes) (λ key. child_at key.1 >>= λ n. found (rec.Link key.0 n.0) n.1) (r, rest) e in
+-- rows of a key and a field behind it
+pub tailed_takes : {A : Type 0} (one : List ℕ → Option (A × List ℕ)) (spells : A → List ℕ) (P : A → Type 0) → IsReader one spells P → (make : List ℕ → A → Rec) (k : ℕ)
+    → ((key : List ℕ) (tail : A) → body (make key tail) ≡ key_bytes key ++ spells tail) → ((key : List ℕ) (tail : A) → FitsKey key → P tail → FitsRec (make key tail)) → ((key : List ℕ) (tail : A) → kind (make key tail) ≡ k)
+    → (bytes : List ℕ) (r : Rec) (rest : List ℕ) → IsBytes bytes → tailed_at one make bytes ≡ Some (r, rest) → Body bytes k r rest
+unfolding tailed_at
+tailed_takes one spells P reader make k spelled fit of_kind bytes r rest fits e =
+    let a = bind_some (key_at bytes) (λ key. one key.1 >>= λ n. found (make key.0 n.0) n.1) (r, rest) e in
     let first = key_reader.takes bytes a.0.0 a.0.1 fits a.1 in
-    let m = map_takes child_at (to_be_bytes w32) FitsChild (rec.Link a.0.0) child_reader a.0.1 r rest first.0.rest_fits a.2 in
-    subst (λ (x : Rec). Body bytes 8 x rest) (sym m.is) (record { takes = Takes-then bytes (key_bytes a.0.0) a.0.1 (to_be_bytes w32 m.part) rest first.0 m.takes; fits = (first.1, m.fits); of_kind = refl })
+    let m = map_takes one spells P (make a.0.0) reader a.0.1 r rest first.0.rest_fits a.2 in
+    subst (λ (x : Rec). Body bytes k x rest) (sym m.is) (record {
+      takes = subst (λ (t : List ℕ). Takes bytes t rest) (sym (spelled a.0.0 m.part)) (Takes-then bytes (key_bytes a.0.0) a.0.1 (spells m.part) rest first.0 m.takes);
+      fits = fit a.0.0 m.part first.1 m.fits;
+      of_kind = of_kind a.0.0 m.part;
+    })
 
-pub link_again : (key : List ℕ) (child : ℕ) (rest : List ℕ) → FitsKey key → FitsChild child → link_at (body (rec.Link key child) ++ rest) ≡ Some (rec.Link key child, rest)
-unfolding link_at body
-link_again key child rest fits kid =
-    let last : List ℕ × List ℕ → Option (Rec × List ℕ) = λ k. child_at k.1 >>= λ n. found (rec.Link k.0 n.0) n.1 in
-    ap (λ (t : List ℕ). key_at t >>= last) (append_assoc (key_bytes key) (to_be_bytes w32 child) rest) ∙ ap (λ (r : Option (List ℕ × List ℕ)). r >>= last) (key_reader.again key (to_be_bytes w32 child ++ rest) fits)
-    ∙ map_again child_at (to_be_bytes w32) FitsChild (rec.Link key) child_reader child rest kid
+pub tailed_again : {A : Type 0} (one : List ℕ → Option (A × List ℕ)) (spells : A → List ℕ) (P : A → Type 0) → IsReader one spells P → (make : List ℕ → A → Rec) (key : List ℕ) (tail : A) (rest : List ℕ) → FitsKey key → P tail
+    → tailed_at one make ((key_bytes key ++ spells tail) ++ rest) ≡ Some (make key tail, rest)
+unfolding tailed_at
+tailed_again one spells P reader make key tail rest fits small =
+    let last : List ℕ × List ℕ → Option (Rec × List ℕ) = λ k. one k.1 >>= λ n. found (make k.0 n.0) n.1 in
+    ap (λ (t : List ℕ). key_at t >>= last) (append_assoc (key_bytes key) (spells tail) rest) ∙ ap (λ (r : Option (List ℕ × List ℕ)). r >>= last) (key_reader.again key (spells tail ++ rest) fits)
+    ∙ map_again one spells P (make key) reader tail rest small
 
-pub plus_takes : (bytes : List ℕ) (r : Rec) (rest : List ℕ) → IsBytes bytes → plus_at bytes ≡ Some (r, rest) → Body bytes 9 r rest
-unfolding plus_at body
-plus_takes bytes r rest fits e =
-    let a = bind_some (key_at bytes) (λ key. signed_at key.1 >>= λ n. found (rec.Plus key.0 n.0) n.1) (r, rest) e in
-    let first = key_reader.takes bytes a.0.0 a.0.1 fits a.1 in
-    let m = map_takes signed_at (λ z. to_be_bytes w64 (cast_unsigned w64 z)) (FitsSigned w64) (rec.Plus a.0.0) signed_reader a.0.1 r rest first.0.rest_fits a.2 in
-    subst (λ (x : Rec). Body bytes 9 x rest) (sym m.is) (record { takes = Takes-then bytes (key_bytes a.0.0) a.0.1 (to_be_bytes w64 (cast_unsigned w64 m.part)) rest first.0 m.takes; fits = (first.1, m.fits); of_kind = refl })
+pub link_takes : (bytes : List ℕ) (r : Rec) (rest : List ℕ) → IsBytes bytes → tailed_at child_at (λ key child. rec.Link key child) bytes ≡ Some (r, rest) → Body bytes 8 r rest
+unfolding body
+link_takes = tailed_takes child_at (to_be_bytes w32) FitsChild child_reader (λ key child. rec.Link key child) 8 (λ key child. refl) (λ key child h small. (h, small)) (λ key child. refl)
 
-pub plus_again : (key : List ℕ) (by : ℤ) (rest : List ℕ) → FitsKey key → FitsSigned w64 by → plus_at (body (rec.Plus key by) ++ rest) ≡ Some (rec.Plus key by, rest)
-unfolding plus_at body
-plus_again key by rest fits small =
-    let last : List ℕ × List ℕ → Option (Rec × List ℕ) = λ k. signed_at k.1 >>= λ n. found (rec.Plus k.0 n.0) n.1 in
-    ap (λ (t : List ℕ). key_at t >>= last) (append_assoc (key_bytes key) (to_be_bytes w64 (cast_unsigned w64 by)) rest) ∙ ap (λ (r : Option (List ℕ × List ℕ)). r >>= last) (key_reader.again key (to_be_bytes w64 (cast_unsigned w64 by) ++ rest) fits)
-    ∙ map_again signed_at (λ z. to_be_bytes w64 (cast_unsigned w64 z)) (FitsSigned w64) (rec.Plus key) signed_reader by rest small
+pub link_again : (key : List ℕ) (child : ℕ) (rest : List ℕ) → FitsKey key → FitsChild child → tailed_at child_at (λ key child. rec.Link key child) (body (rec.Link key child) ++ rest) ≡ Some (rec.Link key child, rest)
+unfolding body
+link_again = tailed_again child_at (to_be_bytes w32) FitsChild child_reader (λ key child. rec.Link key child)
+
+pub plus_takes : (bytes : List ℕ) (r : Rec) (rest : List ℕ) → IsBytes bytes → tailed_at signed_at (λ key by. rec.Plus key by) bytes ≡ Some (r, rest) → Body bytes 9 r rest
+unfolding body
+plus_takes = tailed_takes signed_at (λ z. to_be_bytes w64 (cast_unsigned w64 z)) (FitsSigned w64) signed_reader (λ key by. rec.Plus key by) 9 (λ key by. refl) (λ key by h small. (h, small)) (λ key by. refl)
+
+pub plus_again : (key : List ℕ) (by : ℤ) (rest : List ℕ) → FitsKey key → FitsSigned w64 by → tailed_at signed_at (λ key by. rec.Plus key by) (body (rec.Plus key by) ++ rest) ≡ Some (rec.Plus key by, rest)
+unfolding body
+plus_again = tailed_again signed_at (λ z. to_be_bytes w64 (cast_unsigned w64 z)) (FitsSigned w64) signed_reader (λ key by. rec.Plus key by)
 
 abbrev next_at : List ℕ → Option (ℕ × List ℕ)
 next_at bytes = only (within 2 1048576) (number_at w32 bytes)

@@ -128,17 +128,12 @@ keyed_at change bytes = do
   key ← key_at bytes
   Some (change key.0, key.1)
 
-unfoldable pub link_at : List ℕ → Option (Rec × List ℕ)
-link_at bytes = do
+-- a key, and a field behind it
+unfoldable pub tailed_at : {A : Type 0} → (List ℕ → Option (A × List ℕ)) → (List ℕ → A → Rec) → List ℕ → Option (Rec × List ℕ)
+tailed_at one change bytes = do
   key ← key_at bytes
-  child ← child_at key.1
-  Some (rec.Link key.0 child.0, child.1)
-
-unfoldable pub plus_at : List ℕ → Option (Rec × List ℕ)
-plus_at bytes = do
-  key ← key_at bytes
-  by ← signed_at key.1
-  Some (rec.Plus key.0 by.0, by.1)
+  tail ← one key.1
+  Some (change key.0 tail.0, tail.1)
 
 -- the body of a kind
 unfoldable pub body_at : ℕ → List ℕ → Option (Rec × List ℕ)
@@ -150,8 +145,8 @@ body_at kind bytes =
     else (if kind == 5 then keyed_at (λ key. rec.Del key) bytes
     else (if kind == 6 then keyed_at (λ key. rec.CutLeaf key) bytes
     else (if kind == 7 then keyed_at (λ key. rec.CutInner key) bytes
-    else (if kind == 8 then link_at bytes
-    else (if kind == 9 then plus_at bytes else None))))))))
+    else (if kind == 8 then tailed_at child_at (λ key child. rec.Link key child) bytes
+    else (if kind == 9 then tailed_at signed_at (λ key by. rec.Plus key by) bytes else None))))))))
 
 -- ---- rows
 

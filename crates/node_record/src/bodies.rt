@@ -1,11 +1,15 @@
 //! The bodies of rows: how long each is, how it is written, and how it is read.
 
-ghost use Rattle.std.specs.Prelude.{◌≡◌, ℕ, List, ◌+◌, ◌≤◌, length, drop, vec_len, vec_capacity};
+ghost use Rattle.std.specs.Prelude.{◌≡◌, ℕ, List, Option, ◌+◌, ◌++◌, ◌≤◌, length, drop, vec_len, vec_capacity};
+ghost use Rattle.std.specs.Int.{to_be_bytes, cast_unsigned, w32, w64};
 ghost use Rattle.fine_model.specs.declared.Rec.{Rec};
 ghost use Rattle.fine_model.specs.declared.Rec.TheVariants as rec;
 ghost use Rattle.fine_model.specs.RowBytes.{FitsKey, FitsRec, body, key_bytes};
-ghost use Rattle.node_record.specs.Reading.{Gives, Finds, Passes, behind, head_at, leaf_at, inner_at, put_at, key_at, keyed_at, link_at, plus_at};
+ghost use Rattle.node_record.specs.Reading.{Gives, Finds, Passes, behind, head_at, leaf_at, inner_at, put_at, key_at, keyed_at, tailed_at, child_at, signed_at};
 ghost use Rattle.node_record.specs.Writing.{Appends};
+
+use crate::fault::RowFault;
+use crate::fields::{child, number_i64, put};
 
 /// Root, next number and depth.
 pub mod head {
@@ -300,108 +304,139 @@ pub mod key {
     }
 }
 
-/// A separator and the child to its right.
-pub mod link {
+/// What stands behind a key, in so many bytes.
+pub trait Tail: Sized {
+    ghost reads: { List ℕ → Option (Self × List ℕ) };
+
+    ghost spells: { Self → List ℕ };
+
+    fn len(&self) -> u32
+        ensures is { result ≡ length (spells self.now) }
+        ensures most { result ≤ 8 };
+
+    fn write(&self, out: &mut Vec<u8>)
+        requires { vec_len out.old + length (spells self.now) ≤ vec_capacity out.old }
+        ensures { Appends out.old out.new (spells self.now) };
+
+    fn read(bytes: &[u8], start: usize, at: usize) -> Result<(Self, usize), RowFault>
+        requires { at ≤ length bytes.now }
+        ensures { Finds (λ x. x) bytes.now start result (reads (drop at bytes.now)) };
+}
+
+/// The number of a child.
+impl Tail for u32 {
+    ghost reads = { child_at };
+
+    ghost spells = { to_be_bytes w32 };
+
+    fn len(&self) -> u32 {
+        4
+    }
+
+    fn write(&self, out: &mut Vec<u8>) {
+        put(out, &self.to_be_bytes());
+    }
+
+    fn read(bytes: &[u8], start: usize, at: usize) -> Result<(u32, usize), RowFault> {
+        child(bytes, start, at)
+    }
+}
+
+/// What is added to a number.
+impl Tail for i64 {
+    ghost reads = { signed_at };
+
+    ghost spells = { λ by. to_be_bytes w64 (cast_unsigned w64 by) };
+
+    fn len(&self) -> u32 {
+        8
+    }
+
+    fn write(&self, out: &mut Vec<u8>) {
+        put(out, &self.to_be_bytes());
+    }
+
+    fn read(bytes: &[u8], start: usize, at: usize) -> Result<(i64, usize), RowFault> {
+        number_i64(bytes, start, at)
+    }
+}
+
+/// A key and what stands behind it.
+pub mod tailed {
+    use super::Tail;
     use crate::fault::RowFault;
-    use crate::fields::{child, key, key_in, put, put_key};
+    use crate::fields::{key, key_in, put_key};
     use fine_model::Bytes;
     use std::alloc::Global;
 
-    #[tactic(auto, unfolding(fine_model::specs::RowBytes::body))]
-    pub fn len(key: &Bytes, child: &u32) -> u32
-        requires { FitsRec (rec.Link key.now child.now) }
-        ensures is { result ≡ length (body (rec.Link key.now child.now)) }
+    pub fn len<T: Tail>(key: &Bytes, tail: &T) -> u32
+        requires { FitsKey key.now }
+        ensures is { result ≡ length (key_bytes key.now ++ T.spells tail.now) }
         ensures most { result ≤ 10337 }
     {
-        5 + key.len() as u32
+        1 + key.len() as u32 + tail.len()
     }
 
-    #[tactic(auto, unfolding(fine_model::specs::RowBytes::body))]
-    pub fn write(out: &mut Vec<u8>, key: &Bytes, child: &u32)
-        requires fits { FitsRec (rec.Link key.now child.now) }
-        requires room { vec_len out.old + length (body (rec.Link key.now child.now)) ≤ vec_capacity out.old }
-        ensures { Appends out.old out.new (body (rec.Link key.now child.now)) }
+    pub fn write<T: Tail>(out: &mut Vec<u8>, key: &Bytes, tail: &T)
+        requires fits { FitsKey key.now }
+        requires room { vec_len out.old + length (key_bytes key.now ++ T.spells tail.now) ≤ vec_capacity out.old }
+        ensures { Appends out.old out.new (key_bytes key.now ++ T.spells tail.now) }
     {
         put_key(out, key);
-        put(out, &child.to_be_bytes());
+        tail.write(out);
     }
 
-    #[tactic(auto, unfolding(crate::specs::Reading::link_at))]
-    pub fn read(
+    #[tactic(auto, unfolding(crate::specs::Reading::tailed_at))]
+    pub fn read<T: Tail + Drop>(
         alloc: Global,
         bytes: &[u8],
         start: usize,
         at: usize,
-    ) -> Result<((Bytes, u32), usize), RowFault>
+    ) -> Result<((Bytes, T), usize), RowFault>
         requires { at ≤ length bytes.now }
-        ensures { Gives (λ x. rec.Link x.0 x.1) bytes.now start result (link_at (drop at bytes.now)) }
+        ensures { (make : List ℕ → T → Rec) → Gives (λ x. make x.0 x.1) bytes.now start result (tailed_at T.reads make (drop at bytes.now)) }
     {
         let (key, at) = key(alloc, bytes, start, at)?;
-        let (child, at) = child(bytes, start, at)?;
-        Ok(((key, child), at))
+        let (tail, at) = T::read(bytes, start, at)?;
+        Ok(((key, tail), at))
     }
 
     /// The place behind it.
-    #[tactic(auto, unfolding(crate::specs::Reading::link_at))]
-    pub fn end(bytes: &[u8], start: usize, at: usize) -> Result<usize, RowFault>
+    #[tactic(auto, unfolding(crate::specs::Reading::tailed_at))]
+    pub fn end<T: Tail + Drop>(bytes: &[u8], start: usize, at: usize) -> Result<usize, RowFault>
         requires { at ≤ length bytes.now }
-        ensures { Passes bytes.now start result (behind (link_at (drop at bytes.now))) }
+        ensures { (make : List ℕ → T → Rec) → Passes bytes.now start result (behind (tailed_at T.reads make (drop at bytes.now))) }
     {
         let (_, at) = key_in(bytes, start, at)?;
-        let (_, end) = child(bytes, start, at)?;
+        let (_, end) = T::read(bytes, start, at)?;
         Ok(end)
+    }
+}
+
+/// A separator and the child to its right.
+pub mod link {
+    pub use super::tailed::{len, read, write};
+    use crate::fault::RowFault;
+
+    /// The place behind it.
+    pub fn end(bytes: &[u8], start: usize, at: usize) -> Result<usize, RowFault>
+        requires { at ≤ length bytes.now }
+        ensures { Passes bytes.now start result (behind (tailed_at child_at (λ key child. rec.Link key child) (drop at bytes.now))) }
+    {
+        super::tailed::end::<u32>(bytes, start, at)
     }
 }
 
 /// A key and what is added to its number.
 pub mod plus {
+    pub use super::tailed::{len, read, write};
     use crate::fault::RowFault;
-    use crate::fields::{key, key_in, number_i64, put, put_key};
-    use fine_model::Bytes;
-    use std::alloc::Global;
-
-    #[tactic(auto, unfolding(fine_model::specs::RowBytes::body))]
-    pub fn len(key: &Bytes, by: &i64) -> u32
-        requires { FitsRec (rec.Plus key.now by.now) }
-        ensures is { result ≡ length (body (rec.Plus key.now by.now)) }
-        ensures most { result ≤ 10337 }
-    {
-        9 + key.len() as u32
-    }
-
-    #[tactic(auto, unfolding(fine_model::specs::RowBytes::body))]
-    pub fn write(out: &mut Vec<u8>, key: &Bytes, by: &i64)
-        requires fits { FitsRec (rec.Plus key.now by.now) }
-        requires room { vec_len out.old + length (body (rec.Plus key.now by.now)) ≤ vec_capacity out.old }
-        ensures { Appends out.old out.new (body (rec.Plus key.now by.now)) }
-    {
-        put_key(out, key);
-        put(out, &by.to_be_bytes());
-    }
-
-    #[tactic(auto, unfolding(crate::specs::Reading::plus_at))]
-    pub fn read(
-        alloc: Global,
-        bytes: &[u8],
-        start: usize,
-        at: usize,
-    ) -> Result<((Bytes, i64), usize), RowFault>
-        requires { at ≤ length bytes.now }
-        ensures { Gives (λ x. rec.Plus x.0 x.1) bytes.now start result (plus_at (drop at bytes.now)) }
-    {
-        let (key, at) = key(alloc, bytes, start, at)?;
-        let (by, at) = number_i64(bytes, start, at)?;
-        Ok(((key, by), at))
-    }
 
     /// The place behind it.
-    #[tactic(auto, unfolding(crate::specs::Reading::plus_at))]
     pub fn end(bytes: &[u8], start: usize, at: usize) -> Result<usize, RowFault>
         requires { at ≤ length bytes.now }
-        ensures { Passes bytes.now start result (behind (plus_at (drop at bytes.now))) }
+        ensures { Passes bytes.now start result (behind (tailed_at signed_at (λ key by. rec.Plus key by) (drop at bytes.now))) }
     {
-        let (_, at) = key_in(bytes, start, at)?;
-        let (_, end) = number_i64(bytes, start, at)?;
-        Ok(end)
+        super::tailed::end::<i64>(bytes, start, at)
     }
 }

@@ -11,6 +11,7 @@ use Rattle.fine_model.specs.Regions.{Image, region_of, body_in, body_len}
 use Rattle.fine_model.specs.Regions.{Place, place_of}
 use Rattle.partition_index.specs.Parts.{SameEye, LooksAt, IsSeen, LiesIn}
 use Rattle.partition_index.proofs.BodyPlaces.{AreLong, range_of_body}
+use Rattle.partition_index.proofs.Sorted.{all_at}
 
 pub seen_same : (old new : Eye) (p : Part) → SameEye old new → IsSeen old p → IsSeen new p
 seen_same old new p same seen = record {
@@ -111,11 +112,6 @@ look_next p at done region_len front piece region from failed old mid new seen l
     ∙ sym (ap (λ n. slice_range (body_in image p.region p.header) (at + n) (at + n + length piece)) long))
 
 -- a region of the part is one that the eye names
-all_at : (P : ℕ → Type 0) (xs : List ℕ) (i d : ℕ) → AllByRecursion P xs → i < length xs → P (slice_index_or xs i d)
-all_at P [] i d all h = absurd (omega (arith, h))
-all_at P (x ∷ xs) zero d all h = all.0
-all_at P (x ∷ xs) (suc i) d all h = all_at P xs i d all.1 (omega (arith, h))
-
 pub is_named : (eye : Eye) (p : Part) (region : ℕ) → IsSeen eye p → Contains (regions_of p) region → Contains eye.regions region
 is_named eye p region seen has = subst (Contains eye.regions) has.2 (all_at (Contains eye.regions) (regions_of p) has.0 region seen.named has.1)
 

@@ -7,25 +7,15 @@ use Rattle.fine_model.specs.declared.NodeId.{NodeId}
 use Rattle.fine_model.specs.declared.Row.{Row}
 use Rattle.fine_model.specs.Nodes.{is_node, rows_of}
 use Rattle.fine_model.specs.Merge.{is_node_below, with_node, nodes_in}
+use Rattle.fine_model.proofs.Sets.{all_append, all_filter}
 use Rattle.fine_model.proofs.NodesIn.{times, times-nodes_in, is_node-self, same_node}
 pub use Rattle.fine_model.proofs.NodesAscend.{AllAbove, Ascend, nodes_ascend}
 
-all_kept : (P : NodeId → Type 0) (p : NodeId → Bool) (ids : List NodeId) → AllByRecursion P ids → AllByRecursion P (filter p ids)
-all_kept P p [] all = tt
-all_kept P p (i ∷ ids) all = by (p i) (all_kept P p ids all.1)
-  where
-    by : (t : Bool) → AllByRecursion P (filter p ids) → AllByRecursion P (cond t (i ∷ filter p ids) (filter p ids))
-    by true rest = (all.0, rest)
-    by false rest = rest
-
-all_joined : (P : NodeId → Type 0) (a b : List NodeId) → AllByRecursion P a → AllByRecursion P b → AllByRecursion P (a ++ b)
-all_joined P [] b x y = y
-all_joined P (i ∷ a) b x y = (x.0, all_joined P a b x.1 y)
-
-all_at : (P : NodeId → Type 0) (ids : List NodeId) (j : ℕ) (d : NodeId) → AllByRecursion P ids → j < length ids → P (get_or ids j d)
-all_at P [] j d all h = absurd (omega (arith, h))
-all_at P (i ∷ ids) zero d all h = all.0
-all_at P (i ∷ ids) (suc j) d all h = all_at P ids j d all.1 (omega (arith, h))
+-- what holds of each item holds of the one at a place
+pub all_at : {A : Type 0} (P : A → Type 0) (xs : List A) (i : ℕ) (d : A) → AllByRecursion P xs → i < length xs → P (get_or xs i d)
+all_at P [] i d all h = absurd (omega (arith, h))
+all_at P (x ∷ xs) zero d all h = all.0
+all_at P (x ∷ xs) (suc i) d all h = all_at P xs i d all.1 (omega (arith, h))
 
 pub ascend_at : (ids : List NodeId) (i j : ℕ) (d : NodeId) → Ascend ids → i < j → j < length ids → is_node_below (get_or ids i d) (get_or ids j d) ≡ true
 ascend_at [] i j d up low here = absurd (omega (arith, here))
@@ -68,7 +58,7 @@ row_stands rows i d here =
 all_fold : (P : NodeId → Type 0) (acc ids : List NodeId) → AllByRecursion P acc → AllByRecursion P ids → AllByRecursion P (fold with_node acc ids)
 all_fold P acc [] a b = a
 all_fold P acc (i ∷ ids) a b =
-    all_fold P (with_node acc i) ids (all_joined P (filter (λ j. is_node_below j i) acc) (i ∷ filter (λ j. is_node_below i j) acc) (all_kept P (λ j. is_node_below j i) acc a) (b.0, all_kept P (λ j. is_node_below i j) acc a)) b.1
+    all_fold P (with_node acc i) ids (all_append P (filter (λ j. is_node_below j i) acc) (i ∷ filter (λ j. is_node_below i j) acc) (all_filter P (λ j. is_node_below j i) acc a) (b.0, all_filter P (λ j. is_node_below i j) acc a)) b.1
 
 all_mapped : (P : NodeId → Type 0) (rows : List Row) → AllByRecursion (λ r. P r.node) rows → AllByRecursion P (map (λ r. r.node) rows)
 all_mapped P [] all = tt

@@ -5,15 +5,4 @@
 #[cfg(test)]
 mod tests;
 
-use fine_model::{Header, Mark, Range};
-
-/// The header of a part of epoch 1 that has one row, of 24 bytes.
-pub const ONE_ROW: Header = Header {
-    mark: Mark::Two,
-    range: Range { first: 1, last: 1 },
-    rows: 1,
-    nodes: 1,
-    area: 24,
-    regions: 1,
-    more: [0; 7],
-};
+pub use fine_model_tests::ONE_ROW;

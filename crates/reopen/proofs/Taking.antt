@@ -6,7 +6,7 @@ use Rattle.fine_model.specs.declared.Damage.{Damage}
 use Rattle.fine_model.specs.declared.Damage.TheVariants as damage
 use Rattle.reopen.specs.declared.fault.OpenFault.{OpenFault}
 use Rattle.reopen.specs.declared.fault.OpenFault.TheVariants as fault
-use Rattle.reopen.specs.Opening.{damage_of, IsDamage}
+use Rattle.reopen.specs.Opening.{damage_of, IsDamage, Tells}
 use Rattle.fine_model.specs.Chain.{later, longest_at, taken, first_fault}
 
 module _ (P : Part → Type 0) where
@@ -58,3 +58,9 @@ told_by (fault.Gap after region) h = (damage.Gap after region, refl)
 told_by (fault.Overlap region other) h = (damage.Overlap region other, refl)
 told_by fault.Disk h = absurd h
 told_by fault.NoMemory h = absurd h
+
+-- so what was found at that part is what is told of all of them
+pub tells_first : (f : Part → Option Damage) (parts chain : List Part) (i : ℕ) (d : Part) (found : OpenFault) → IsDamage found → i < length parts → damage_of found ≡ f (get_or parts i d)
+    → filter_map f parts ≡ filter_map f (drop i parts) → IsDamage found × Tells (first_fault (filter_map f parts) chain) found
+tells_first f parts chain i d found is_damage within is same =
+    let told = told_by found is_damage in (is_damage, (told.0, told.1, first_told f parts chain i d told.0 within (sym told.1 ∙ is) same))

@@ -11,18 +11,12 @@ use Rattle.fine_model.specs.Commands.{counters_summed, map_lines, small_number, 
 use Rattle.fine_model.specs.Map.{Pair, get}
 use Rattle.fine_model.specs.Outcomes.{is_aborted, is_committed, is_refused}
 use Rattle.fine_model.specs.Report.{all_outcomes, fault_line, fault_lines, line}
+use Rattle.fine_model.proofs.Lists.{range_more}
 use Rattle.script_text.specs.Pages.{Desk, Sends}
 use Rattle.script_text.specs.Summaries.{counted_lines, durable_line, first_summed, gen_line}
 use Rattle.script_text.proofs.Paging.{sends_none, sends_then}
 
 -- ---- the counters
-
-range_more : (a n : ℕ) → range_with_len a (n + 1) ≡ range_with_len a n ++ (a + n) ∷ []
-range_more a zero = let e : a + 0 ≡ a = omega arith in ap (λ b. b ∷ []) (sym e)
-range_more a (suc n) =
-    let e : suc n + 1 ≡ suc (n + 1) = omega arith in
-    let f : a + 1 + n ≡ a + suc n = omega arith in
-    ap (range_with_len a) e ∙ ap (λ xs. a ∷ xs) (range_more (a + 1) n) ∙ ap (λ b. a ∷ (range_with_len (a + 1) n ++ b ∷ [])) f
 
 -- a counter more
 pub summed_more : (m : List Pair) (i : ℕ) → first_summed m (i + 1) ≡ first_summed m i + small_number (get m (codes "c" ++ decimal i))

@@ -34,47 +34,17 @@ no_t_reply : (c : Call) (r : Reply) → CallHasNoFeed c → ReplyHasNoFeed r →
 unfolding reply_lines
 no_t_reply (call.Get key) (reply.Value told) c r = no_t_line (codes "get" ∷ key ∷ codes "=" ∷ told ∷ []) refl (has_no 10 (codes "get") refl, (c, (has_no 10 (codes "=") refl, (r, tt))))
 no_t_reply (call.Get key) reply.Absent c r = no_t_line (codes "get" ∷ key ∷ codes "none" ∷ []) refl (has_no 10 (codes "get") refl, (c, (has_no 10 (codes "none") refl, tt)))
-no_t_reply (call.Get key) reply.Stored c r = λ rest. refl
-no_t_reply (call.Get key) reply.Removed c r = λ rest. refl
-no_t_reply (call.Get key) (reply.Sum sum) c r = λ rest. refl
-no_t_reply (call.Get key) reply.NotNumber c r = λ rest. refl
-no_t_reply (call.Get key) reply.OutOfRange c r = λ rest. refl
-no_t_reply (call.Get key) (reply.Found pairs) c r = λ rest. refl
-no_t_reply (call.Put key value) (reply.Value told) c r = λ rest. refl
-no_t_reply (call.Put key value) reply.Absent c r = λ rest. refl
 no_t_reply (call.Put key value) reply.Stored c r = no_t_line (codes "put" ∷ key ∷ []) refl (has_no 10 (codes "put") refl, (c.0, tt))
-no_t_reply (call.Put key value) reply.Removed c r = λ rest. refl
-no_t_reply (call.Put key value) (reply.Sum sum) c r = λ rest. refl
-no_t_reply (call.Put key value) reply.NotNumber c r = λ rest. refl
-no_t_reply (call.Put key value) reply.OutOfRange c r = λ rest. refl
-no_t_reply (call.Put key value) (reply.Found pairs) c r = λ rest. refl
-no_t_reply (call.Del key) (reply.Value told) c r = λ rest. refl
 no_t_reply (call.Del key) reply.Absent c r = no_t_line (codes "del" ∷ key ∷ codes "none" ∷ []) refl (has_no 10 (codes "del") refl, (c, (has_no 10 (codes "none") refl, tt)))
-no_t_reply (call.Del key) reply.Stored c r = λ rest. refl
 no_t_reply (call.Del key) reply.Removed c r = no_t_line (codes "del" ∷ key ∷ []) refl (has_no 10 (codes "del") refl, (c, tt))
-no_t_reply (call.Del key) (reply.Sum sum) c r = λ rest. refl
-no_t_reply (call.Del key) reply.NotNumber c r = λ rest. refl
-no_t_reply (call.Del key) reply.OutOfRange c r = λ rest. refl
-no_t_reply (call.Del key) (reply.Found pairs) c r = λ rest. refl
-no_t_reply (call.Add key by) (reply.Value told) c r = λ rest. refl
-no_t_reply (call.Add key by) reply.Absent c r = λ rest. refl
-no_t_reply (call.Add key by) reply.Stored c r = λ rest. refl
-no_t_reply (call.Add key by) reply.Removed c r = λ rest. refl
 no_t_reply (call.Add key by) (reply.Sum sum) c r = no_t_line (codes "add" ∷ key ∷ codes "=" ∷ number_text sum ∷ []) refl (has_no 10 (codes "add") refl, (c, (has_no 10 (codes "=") refl, (no_number sum, tt))))
 no_t_reply (call.Add key by) reply.NotNumber c r = no_t_line (codes "add" ∷ key ∷ codes "text" ∷ []) refl (has_no 10 (codes "add") refl, (c, (has_no 10 (codes "text") refl, tt)))
 no_t_reply (call.Add key by) reply.OutOfRange c r = no_t_line (codes "add" ∷ key ∷ codes "range" ∷ []) refl (has_no 10 (codes "add") refl, (c, (has_no 10 (codes "range") refl, tt)))
-no_t_reply (call.Add key by) (reply.Found pairs) c r = λ rest. refl
-no_t_reply (call.Scan low high limit) (reply.Value told) c r = λ rest. refl
-no_t_reply (call.Scan low high limit) reply.Absent c r = λ rest. refl
-no_t_reply (call.Scan low high limit) reply.Stored c r = λ rest. refl
-no_t_reply (call.Scan low high limit) reply.Removed c r = λ rest. refl
-no_t_reply (call.Scan low high limit) (reply.Sum sum) c r = λ rest. refl
-no_t_reply (call.Scan low high limit) reply.NotNumber c r = λ rest. refl
-no_t_reply (call.Scan low high limit) reply.OutOfRange c r = λ rest. refl
 no_t_reply (call.Scan low high limit) (reply.Found pairs) c r =
     no_t_append (line (codes "scan" ∷ low ∷ high ∷ decimal (length pairs) ∷ [])) (flat_map pair_line pairs)
     (no_t_line (codes "scan" ∷ low ∷ high ∷ decimal (length pairs) ∷ []) refl (has_no 10 (codes "scan") refl, (c.0, (c.1, (no_decimal 10 (length pairs) (omega arith), tt)))))
     (no_t_each pair_line PairHasNoFeed no_t_pair pairs r)
+no_t_reply _ _ c r = λ rest. refl
 
 no_t_replies : (calls : List Call) (replies : List Reply) → AllByRecursion CallHasNoFeed calls → AllByRecursion ReplyHasNoFeed replies
     → HasNoT (flat_map (λ p. reply_lines p.0 p.1) (zip calls replies))
@@ -127,21 +97,10 @@ other_first a b e other = let same : get_or a 0 0 ≡ get_or b 0 0 = ap (λ t. g
 
 same_why : (a b : Why) → why_word a ≡ why_word b → a ≡ b
 same_why why.Large why.Large e = refl
-same_why why.Large why.Bucket e = absurd (other_first _ _ e refl)
-same_why why.Large why.Full e = absurd (other_first _ _ e refl)
-same_why why.Large why.Number e = absurd (other_first _ _ e refl)
-same_why why.Bucket why.Large e = absurd (other_first _ _ e refl)
 same_why why.Bucket why.Bucket e = refl
-same_why why.Bucket why.Full e = absurd (other_first _ _ e refl)
-same_why why.Bucket why.Number e = absurd (other_first _ _ e refl)
-same_why why.Full why.Large e = absurd (other_first _ _ e refl)
-same_why why.Full why.Bucket e = absurd (other_first _ _ e refl)
 same_why why.Full why.Full e = refl
-same_why why.Full why.Number e = absurd (other_first _ _ e refl)
-same_why why.Number why.Large e = absurd (other_first _ _ e refl)
-same_why why.Number why.Bucket e = absurd (other_first _ _ e refl)
-same_why why.Number why.Full e = absurd (other_first _ _ e refl)
 same_why why.Number why.Number e = refl
+same_why _ _ e = absurd (other_first _ _ e refl)
 
 same_text : (a b : TxnMark) → FitsMark a → FitsMark b → mark_text a ≡ mark_text b → a ≡ b
 same_text (committed place epoch) (committed place' epoch') p q e =
@@ -150,21 +109,10 @@ same_text (committed place epoch) (committed place' epoch') p q e =
     let one : place ≡ place' = decimal_injective place place' (omega (arith, p.0)) (omega (arith, q.0)) s.0 in
     let two : epoch ≡ epoch' = decimal_injective epoch epoch' (omega (arith, p.1)) (omega (arith, q.1)) (ap (drop 6) s.1) in
     λ i. committed (one i) (two i)
-same_text (committed place epoch) aborted p q e = absurd (other_first _ _ e refl)
-same_text (committed place epoch) (refused why') p q e = absurd (other_first _ _ e refl)
-same_text (committed place epoch) not_run p q e = absurd (other_first _ _ e refl)
-same_text aborted (committed place' epoch') p q e = absurd (other_first _ _ e refl)
 same_text aborted aborted p q e = refl
-same_text aborted (refused why') p q e = absurd (other_first _ _ e refl)
-same_text aborted not_run p q e = absurd (other_first _ _ e refl)
-same_text (refused why) (committed place' epoch') p q e = absurd (other_first _ _ e refl)
-same_text (refused why) aborted p q e = absurd (other_first _ _ e refl)
 same_text (refused why) (refused why') p q e = ap refused (same_why why why' (ap (drop 8) e))
-same_text (refused why) not_run p q e = absurd (other_first _ _ e refl)
-same_text not_run (committed place' epoch') p q e = absurd (other_first _ _ e refl)
-same_text not_run aborted p q e = absurd (other_first _ _ e refl)
-same_text not_run (refused why') p q e = absurd (other_first _ _ e refl)
 same_text not_run not_run p q e = refl
+same_text _ _ p q e = absurd (other_first _ _ e refl)
 
 no_feed_why : (why : Why) → HasNo 10 (why_word why)
 no_feed_why why.Large = has_no 10 (codes "large") refl

@@ -18,7 +18,7 @@ use std::snapshot::Snapshot;
 /// The standard input, by its reader. As a source it tells no bytes.
 #[derive(Drop)]
 pub struct StdSource<I: Read> {
-    input: Incoming<I>,
+    input: Counted<I>,
     faults: u64,
 }
 
@@ -27,7 +27,7 @@ impl<I: Read> Model for StdSource<I> {
 
     ghost Value = { StreamState };
 
-    ghost view = { λ s. record { faults = s.faults; calls = s.input.calls; asked = s.input.asked.value; done = s.input.done.value; told = I.remaining s.input.reader } };
+    ghost view = { λ s. record { faults = s.faults; calls = s.input.calls; asked = s.input.asked.value; done = s.input.done.value; told = I.remaining s.input.stream } };
 }
 
 impl<I: Read> StdSource<I> {
@@ -37,12 +37,7 @@ impl<I: Read> StdSource<I> {
         ensures calls { result.calls ≡ 0 }
     {
         StdSource {
-            input: Incoming {
-                reader: rt.reader(),
-                calls: 0,
-                asked: Snapshot::of(&0),
-                done: Snapshot::of(&None),
-            },
+            input: Counted::new(rt.reader()),
             faults: 0,
         }
     }
@@ -74,7 +69,7 @@ impl<I: Read> Source for StdSource<I> {
 /// The standard output, by a writer that prints to it. As a sink it tells no bytes.
 #[derive(Drop)]
 pub struct StdSink<W: Write> {
-    output: Outgoing<W>,
+    output: Counted<W>,
     faults: u64,
 }
 
@@ -83,7 +78,7 @@ impl<W: Write> Model for StdSink<W> {
 
     ghost Value = { StreamState };
 
-    ghost view = { λ s. record { faults = s.faults; calls = s.output.calls; asked = s.output.asked.value; done = s.output.done.value; told = W.contents s.output.writer } };
+    ghost view = { λ s. record { faults = s.faults; calls = s.output.calls; asked = s.output.asked.value; done = s.output.done.value; told = W.contents s.output.stream } };
 }
 
 impl<'r, R: Print> StdSink<Printer<'r, R>> {
@@ -92,12 +87,7 @@ impl<'r, R: Print> StdSink<Printer<'r, R>> {
         ensures { result ≡ record { faults = 0; calls = 0; asked = 0; done = None; told = None } }
     {
         StdSink {
-            output: Outgoing {
-                writer: io::writer(rt),
-                calls: 0,
-                asked: Snapshot::of(&0),
-                done: Snapshot::of(&None),
-            },
+            output: Counted::new(io::writer(rt)),
             faults: 0,
         }
     }
@@ -124,51 +114,58 @@ impl<W: Write> Sink for StdSink<W> {
     }
 }
 
-// A reader. It counts the calls on it, and keeps for contracts what the last one was for and what it answered, which takes no
-// memory.
+// A reader or a writer. It counts the calls on it, and keeps for contracts what the last one was for and what it answered, which
+// takes no memory.
 #[derive(Drop)]
-struct Incoming<I: Read> {
-    reader: I,
+struct Counted<S> {
+    stream: S,
     calls: u64,
     asked: Snapshot<usize>,
     done: Snapshot<Option<usize>>,
 }
 
-impl<I: Read> Incoming<I> {
+impl<S> Counted<S> {
+    fn new(stream: S) -> Counted<S>
+        ensures stream { result.stream ≡ stream }
+        ensures calls { result.calls ≡ 0 }
+        ensures asked { result.asked.value ≡ 0 }
+        ensures done { result.done.value ≡ None }
+    {
+        Counted {
+            stream,
+            calls: 0,
+            asked: Snapshot::of(&0),
+            done: Snapshot::of(&None),
+        }
+    }
+}
+
+impl<I: Read> Counted<I> {
     fn read(&mut self, out: &mut [u8]) -> io::Result<usize>
         ensures len { IfOk result (λ n. n ≤ length out.new) }
         ensures once { self.new.calls ≡ one_call_more self.old.calls }
         ensures asked { self.new.asked.value ≡ length out.new }
         ensures done { self.new.done.value ≡ result_ok result }
-        ensures bytes { ReadConsumes (I.remaining self.old.reader) (I.remaining self.new.reader) result out.new }
+        ensures bytes { ReadConsumes (I.remaining self.old.stream) (I.remaining self.new.stream) result out.new }
     {
         self.calls = self.calls.saturating_add(1);
         self.asked = Snapshot::of(&out.len());
-        let taken = self.reader.read(out);
+        let taken = self.stream.read(out);
         self.done = Snapshot::of(&taken.as_ref().ok().copied());
         taken
     }
 }
 
-// A writer. It counts the calls on it, and keeps for contracts what the last one was given, which takes no memory.
-#[derive(Drop)]
-struct Outgoing<W: Write> {
-    writer: W,
-    calls: u64,
-    asked: Snapshot<usize>,
-    done: Snapshot<Option<usize>>,
-}
-
-impl<W: Write> Outgoing<W> {
+impl<W: Write> Counted<W> {
     fn write(&mut self, bytes: &[u8]) -> io::Result<()>
         ensures once { self.new.calls ≡ one_call_more self.old.calls }
         ensures asked { self.new.asked.value ≡ length bytes.now }
         ensures done { self.new.done.value ≡ option_map (λ _. length bytes.now) (result_ok result) }
-        ensures bytes { OnOk result (Appends (W.contents self.old.writer) (W.contents self.new.writer) bytes.now) }
+        ensures bytes { OnOk result (Appends (W.contents self.old.stream) (W.contents self.new.stream) bytes.now) }
     {
         self.calls = self.calls.saturating_add(1);
         self.asked = Snapshot::of(&bytes.len());
-        let written = self.writer.write_all(bytes);
+        let written = self.stream.write_all(bytes);
         self.done = Snapshot::of(&written.is_ok().then_some(bytes.len()));
         written
     }

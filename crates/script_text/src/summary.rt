@@ -42,40 +42,21 @@ fn is_refused(outcome: &Outcome) -> bool
     matches!(outcome, Outcome::Refused { .. })
 }
 
-fn commits(outcomes: &[Outcome]) -> usize
-    ensures { result ≡ count_by is_committed outcomes.now }
+/// How many transactions commit, abort and are refused.
+fn counts(outcomes: &[Outcome]) -> (usize, usize, usize)
+    ensures commits { result.0 ≡ count_by is_committed outcomes.now }
+    ensures aborts { result.1 ≡ count_by is_aborted outcomes.now }
+    ensures refusals { result.2 ≡ count_by is_refused outcomes.now }
 {
-    let mut n: usize = 0;
+    let mut commits: usize = 0;
+    let mut aborts: usize = 0;
+    let mut refusals: usize = 0;
     for outcome in outcomes {
-        if is_committed(outcome) {
-            n += 1;
-        }
+        commits += usize::from(is_committed(outcome));
+        aborts += usize::from(is_aborted(outcome));
+        refusals += usize::from(is_refused(outcome));
     }
-    n
-}
-
-fn aborts(outcomes: &[Outcome]) -> usize
-    ensures { result ≡ count_by is_aborted outcomes.now }
-{
-    let mut n: usize = 0;
-    for outcome in outcomes {
-        if is_aborted(outcome) {
-            n += 1;
-        }
-    }
-    n
-}
-
-fn refusals(outcomes: &[Outcome]) -> usize
-    ensures { result ≡ count_by is_refused outcomes.now }
-{
-    let mut n: usize = 0;
-    for outcome in outcomes {
-        if is_refused(outcome) {
-            n += 1;
-        }
-    }
-    n
+    (commits, aborts, refusals)
 }
 
 /// Whether the generator puts a key.
@@ -173,9 +154,7 @@ fn say_gen<K: Sink>(page: &mut Page, sink: &mut K, start: u64, count: usize, lan
 fn say_counted<K: Sink>(page: &mut Page, sink: &mut K, outcomes: &[Outcome], all: usize)
     ensures { Sends (counted_lines outcomes.now all) (desk (K.written sink.old) (K.faults sink.old) page.old) (desk (K.written sink.new) (K.faults sink.new) page.new) }
 {
-    let commits = commits(outcomes);
-    let aborts = aborts(outcomes);
-    let refusals = refusals(outcomes);
+    let (commits, aborts, refusals) = counts(outcomes);
     let none = all
         .saturating_sub(commits)
         .saturating_sub(aborts)

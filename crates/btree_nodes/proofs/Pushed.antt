@@ -79,12 +79,7 @@ forgets row image x y = by row.rec refl image
     by (rec.HeadImage root next depth) is image = rw is refl
     by (rec.LeafImage pairs) is image = rw is refl
     by (rec.InnerImage seps kids) is image = rw is refl
-    by (rec.Put key value) is image = absurd (true≢false (sym image))
-    by (rec.Del key) is image = absurd (true≢false (sym image))
-    by (rec.CutLeaf key) is image = absurd (true≢false (sym image))
-    by (rec.CutInner key) is image = absurd (true≢false (sym image))
-    by (rec.Link key child) is image = absurd (true≢false (sym image))
-    by (rec.Plus key n) is image = absurd (true≢false (sym image))
+    by _ is image = absurd (true≢false (sym image))
 
 -- a row on a node whose place is held, which was there or is made by the row
 pub pushes_held : (a b c : Cache) (row : Row) → row.node.bucket ≡ a.bucket → IsReady (IsCached a) row → HoldsPlace a b row.node.number → Pushes b c (row ∷ []) → Pushes a c (row ∷ [])

@@ -10,18 +10,23 @@ use Rattle.btree_nodes.specs.Trees.{FitsLog}
 use Rattle.btree_nodes.proofs.LeafPush.{leaf_row, leaf_fits}
 use Rattle.btree_nodes.proofs.PutLeaf.{put_one, put_over, put_first}
 use Rattle.btree_nodes.proofs.PutRows.{put_grows, put_pushed, can_put, limits_outcome}
+use Rattle.btree_nodes.proofs.insertion.put_at.Goals.{After-next_version}
 use Rattle.btree_nodes.proofs.insertion.put_at.Goals as goal
+
+-- the leaf has room for the key
+room : (c : After-next_version) → IsTrue (has_room (pairs_of (given c.args.bucket.now c.args.path.leaf).0) c.args.key.now)
+room c = sym c.has_room.ensures ∙ c.if-has_room.true
 
 pub returns-in_err-version : goal.returns-in_err-version
 returns-in_err-version c =
-    let b = c.args.bucket.now in
-    let key = c.args.key.now in
-    let value = c.args.value.now in
+    let room = room (goal.at.returns-in_err-version c).After-next_version in
     let is = c.requires.path in
-    let room : IsTrue (has_room (pairs_of (given b c.args.path.leaf).0) key) = sym c.has_room.ensures ∙ c.if-has_room.true in
     let over = c.in_err-version.ensures in
     let p = err_from_is_err_and c.from_residual.result c.from_residual.ensures.1 in
-    record { outcome = rw (p.1, p.2, over.0) (put_over b key value c.args.path is room over.1, put_first b key value c.args.path is room over.1, record { here = is.here; fit = is.fit }, record { nodes = refl; rows = refl }) }
+    record {
+      outcome = rw (p.1, p.2, over.0)
+          (put_over c.args.bucket.now c.args.key.now c.args.value.now c.args.path is room over.1, put_first c.args.bucket.now c.args.key.now c.args.value.now c.args.path is room over.1, record { here = is.here; fit = is.fit }, record { nodes = refl; rows = refl });
+    }
 
 pub returns-then-has_room : goal.returns-then-has_room
 returns-then-has_room c =
@@ -30,7 +35,7 @@ returns-then-has_room c =
     let value = c.args.value.now in
     let path = c.args.path in
     let is = c.requires.path in
-    let room : IsTrue (has_room (pairs_of (given b c.args.path.leaf).0) key) = sym c.has_room.ensures ∙ c.if-has_room.true in
+    let room = room (goal.at.returns-then-has_room c).After-next_version in
     let version = c.in_ok-version.ensures in
     let small = subst (λ v. v ≤ 4611686018427387904) version.0 version.1 in
     let same : c.row_of-row.result ≡ leaf_row b key path is (rec.Put key value) =

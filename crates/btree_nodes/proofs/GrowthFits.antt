@@ -14,6 +14,7 @@ use Rattle.fine_model.specs.Paths.{is_inner, place_among, bounds_at, seps_of, ki
 use Rattle.fine_model.specs.Pushed.{Growth, row_of, key_at, child_for, split_leaf, split_inner, grown_leaf, grown_inner, growth}
 use Rattle.fine_model.specs.RowBytes.{kind, FitsKey, FitsPair, FitsChild, FitsRec}
 use Rattle.fine_model.specs.Trees.{Bounds, is_leaf, pairs_of}
+use Rattle.fine_model.specs.Merge.{is_image}
 use Rattle.fine_model.proofs.Zip.{all_right}
 use Rattle.fine_model.proofs.Sets.{all_append}
 use Rattle.fine_model.proofs.Parts.{Parted, parted, key_at-is}
@@ -22,7 +23,7 @@ use Rattle.fine_model.proofs.FitGrown.{pairs_fit, drop_leaf, drop_inner}
 use Rattle.node_cache.specs.declared.cached.Cached.{Cached}
 use Rattle.node_cache.specs.Cache.{Cache, cached}
 use Rattle.node_cache.specs.Given.{given, IsCached}
-use Rattle.btree_nodes.specs.Changes.{is_image, IsReady, AreReady}
+use Rattle.btree_nodes.specs.Changes.{IsReady, AreReady}
 use Rattle.btree_nodes.specs.Growths.{split_rows}
 use Rattle.btree_nodes.proofs.Changed.{content_of, given_of}
 use Rattle.btree_nodes.proofs.Pushed.{ready_more}

@@ -93,15 +93,7 @@ hashed bytes n long small is low =
   where
     eight_of : (xs : List ℕ) → length xs ≡ 8 → xs ≡ get_or xs 0 0 ∷ get_or xs 1 0 ∷ get_or xs 2 0 ∷ get_or xs 3 0 ∷ get_or xs 4 0 ∷ get_or xs 5 0 ∷ get_or xs 6 0 ∷ get_or xs 7 0 ∷ []
     eight_of (a ∷ b ∷ c ∷ d ∷ e ∷ f ∷ g ∷ h ∷ []) long = refl
-    eight_of [] long = absurd (omega (arith, long))
-    eight_of (a ∷ []) long = absurd (omega (arith, long))
-    eight_of (a ∷ b ∷ []) long = absurd (omega (arith, long))
-    eight_of (a ∷ b ∷ c ∷ []) long = absurd (omega (arith, long))
-    eight_of (a ∷ b ∷ c ∷ d ∷ []) long = absurd (omega (arith, long))
-    eight_of (a ∷ b ∷ c ∷ d ∷ e ∷ []) long = absurd (omega (arith, long))
-    eight_of (a ∷ b ∷ c ∷ d ∷ e ∷ f ∷ []) long = absurd (omega (arith, long))
-    eight_of (a ∷ b ∷ c ∷ d ∷ e ∷ f ∷ g ∷ []) long = absurd (omega (arith, long))
-    eight_of (a ∷ b ∷ c ∷ d ∷ e ∷ f ∷ g ∷ h ∷ i ∷ more) long = absurd (omega (arith, long))
+    eight_of _ long = absurd (omega (arith, long))
 
 zero_small : 0 < 256
 zero_small = omega arith

@@ -1,5 +1,6 @@
 pub mod Places
 pub mod Steps
+pub mod Rested
 pub mod Loads
 mod Walked
 pub mod Ways

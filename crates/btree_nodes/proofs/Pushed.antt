@@ -3,19 +3,18 @@ use Rattle.std.proofs.Common.{◌≡◌, ◌≢◌, ◌⊎◌, inl, inr, ⊎_eli
 use Rattle.std.specs.Prelude.{IsSome, OnOk, OnErr, unwrap_or}
 use Rattle.std.specs.List.{AllByRecursion}
 use Rattle.std.specs.Map.{keys_of, remove_entry}
-use Rattle.fine_model.specs.declared.Rec.{Rec}
 use Rattle.fine_model.specs.declared.Rec.TheVariants as rec
 use Rattle.fine_model.specs.declared.Node.TheVariants as node
 use Rattle.fine_model.specs.declared.Row.{Row}
 use Rattle.fine_model.specs.Nodes.{Content, replay, step, rows_of}
-use Rattle.fine_model.proofs.NodeLaws.{replay-append, rows_of-append}
+use Rattle.fine_model.proofs.NodeLaws.{image_forgets, replay-append, rows_of-append}
 use Rattle.node_cache.specs.declared.cached.Cached.{Cached}
 use Rattle.node_cache.specs.Cache.{Cache, cached, original, before, saving, with_node, IsSaved}
 use Rattle.node_cache.specs.Given.{given, IsCached}
 use Rattle.fine_model.proofs.Order.{all_map}
 use Rattle.fine_model.proofs.Sets.{all_append}
 use Rattle.btree_nodes.specs.Trees.{node_at}
-use Rattle.btree_nodes.specs.Changes.{Saves, is_named, Pushes, HoldsPlace, is_image, IsReady, AreReady}
+use Rattle.btree_nodes.specs.Changes.{Saves, is_named, Pushes, HoldsPlace, IsReady, AreReady}
 use Rattle.btree_nodes.proofs.Loads.{none_or_some, same_or_not}
 use Rattle.btree_nodes.proofs.Changed.{rows_here, rows_else, content_of, given_of, unchanged, saves_saved, saving_saved}
 use Rattle.node_cache.proofs.Loading.{remove_absent}
@@ -70,22 +69,6 @@ pushes_on a b c rows more first second = record {
     was_none n none None is = is
     was_none n none (Some kept) is = absurd (true≢false (sym (second.kept n (ap is_some is)) ∙ ap is_some none))
 
--- an image stands for itself
-forgets : (row : Row) → is_image row.rec ≡ true → (x y : Content) → step x row ≡ step y row
-unfolding step
-forgets row image x y = by row.rec refl image
-  where
-    by : (r : Rec) → row.rec ≡ r → is_image r ≡ true → step x row ≡ step y row
-    by (rec.HeadImage root next depth) is image = rw is refl
-    by (rec.LeafImage pairs) is image = rw is refl
-    by (rec.InnerImage seps kids) is image = rw is refl
-    by (rec.Put key value) is image = absurd (true≢false (sym image))
-    by (rec.Del key) is image = absurd (true≢false (sym image))
-    by (rec.CutLeaf key) is image = absurd (true≢false (sym image))
-    by (rec.CutInner key) is image = absurd (true≢false (sym image))
-    by (rec.Link key child) is image = absurd (true≢false (sym image))
-    by (rec.Plus key n) is image = absurd (true≢false (sym image))
-
 -- a row on a node whose place is held, which was there or is made by the row
 pub pushes_held : (a b c : Cache) (row : Row) → row.node.bucket ≡ a.bucket → IsReady (IsCached a) row → HoldsPlace a b row.node.number → Pushes b c (row ∷ []) → Pushes a c (row ∷ [])
 unfolding replay
@@ -114,7 +97,7 @@ pushes_held a b c row of_bucket ready held pushes = record {
     by_held n (inr more) = ap (λ t. t || is_named n (row ∷ [])) (more n) ∙ twice (is_some (original a n)) (nat_eq row.node.number n)
 
     image : cached a row.node.number ≡ None → (x y : Content) → step x row ≡ step y row
-    image none x y = ⊎_elim (λ there. absurd (true≢false (sym there ∙ ap is_some none))) (λ is. forgets row is x y) ready
+    image none x y = ⊎_elim (λ there. absurd (true≢false (sym there ∙ ap is_some none))) (λ is. image_forgets x y row is) ready
 
     gone : (n : ℕ) → n ≢ row.node.number → cached a n ≡ None → cached c n ≡ None
     gone n other none = by (cached c n) refl

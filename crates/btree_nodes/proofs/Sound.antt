@@ -108,7 +108,7 @@ pub record IsHead (bucket : ℕ) (nodes : ℕ → Content) (key : List ℕ) : Ty
   pub test : (nat_lt root next && nat_le 1 depth) ≡ true
   pub fit : unfit_from (depth - 1) bucket nodes next key whole root ≡ None
 
-head_of : (bucket : ℕ) (nodes : ℕ → Content) (key : List ℕ) → unfit_under bucket nodes key (nodes 0).0 ≡ None → IsHead bucket nodes key
+pub head_of : (bucket : ℕ) (nodes : ℕ → Content) (key : List ℕ) → unfit_under bucket nodes key (nodes 0).0 ≡ None → IsHead bucket nodes key
 unfolding unfit_under
 head_of bucket nodes key fit = by (nodes 0).0 refl fit
   where

@@ -1,10 +1,11 @@
 -- What calls that push rows do to a bucket.
-use Rattle.std.specs.Prelude.{◌≡◌, ◌≢◌, ◌≤◌, ◌⊎◌, ℕ, nat_eq, Bool, true, false, ◌||◌, List, [], ◌∷◌, ◌++◌, None, is_some}
+use Rattle.std.specs.Prelude.{◌≡◌, ◌≢◌, ◌≤◌, ◌⊎◌, ℕ, nat_eq, Bool, true, ◌||◌, List, [], ◌∷◌, ◌++◌, None, is_some}
 use Rattle.std.specs.Map.{keys_of}
 use Rattle.std.specs.List.{AllByRecursion, list_any}
 use Rattle.fine_model.specs.declared.Rec.{Rec}
 use Rattle.fine_model.specs.declared.Rec.TheVariants as rec
 use Rattle.fine_model.specs.declared.Row.{Row}
+use Rattle.fine_model.specs.Merge.{is_image}
 use Rattle.fine_model.specs.RowBytes.{FitsRec, greatest}
 use Rattle.fine_model.specs.Trees.{bucket_of}
 use Rattle.fine_model.specs.Nodes.{Content, replay, step, rows_of}
@@ -69,13 +70,6 @@ IsOwnChange bucket (rec.Put key value) = bucket ≡ bucket_of key
 IsOwnChange bucket (rec.Del key) = bucket ≡ bucket_of key
 IsOwnChange bucket (rec.Plus key by) = bucket ≡ bucket_of key
 IsOwnChange bucket _ = ⊥
-
--- a row is an image, whatever stood before
-abbrev pub is_image : Rec → Bool
-is_image (rec.HeadImage root next depth) = true
-is_image (rec.LeafImage pairs) = true
-is_image (rec.InnerImage seps kids) = true
-is_image _ = false
 
 -- a row is of a node that is there, or makes it
 abbrev pub IsReady : (ℕ → Type 0) → Row → Type 0

@@ -54,54 +54,7 @@ fn reply_in(bucket: &Bucket, number: u32, key: &[u8], by: i64) -> Reply
     }
 }
 
-/// Adds to a key that is there in the leaf in which it belongs. Where there is no sum, nothing is changed.
-fn add_at(
-    alloc: Global,
-    bucket: &mut Bucket,
-    log: &mut PrivateLog,
-    key: &[u8],
-    by: i64,
-    path: Path,
-) -> Result<Reply, TreeFault>
-    requires key { FitsKey key.now }
-    requires path { IsPath bucket.old key.now path }
-    requires there { has (pairs_in bucket.old key.now) key.now ≡ true }
-    ensures outcome { Outcome bucket.old bucket.new log.old log.new (call.Add key.now by) (λ reply. reply ≡ (answer (pairs_in bucket.old key.now) (call.Add key.now by)).0) (λ _. ⊥) result }
-{
-    let reply = reply_in(bucket, path.leaf, key, by);
-    if !is_sum(&reply) {
-        return Ok(reply);
-    }
-    let version = next_version(bucket, path.leaf)?;
-    let plus = Rec::Plus {
-        key: bytes_of(alloc, key)?,
-        by,
-    };
-    let row = row_of(bucket.bucket(), path.leaf, version, plus);
-    push_pair(alloc, bucket, log, row)?;
-    Ok(reply)
-}
-
-/// Adds to a key that is absent: the number's text is set.
-fn add_new(
-    alloc: Global,
-    bucket: &mut Bucket,
-    log: &mut PrivateLog,
-    key: &[u8],
-    by: i64,
-    path: Path,
-) -> Result<Reply, TreeFault>
-    requires key { FitsKey key.now }
-    requires path { IsPath bucket.old key.now path }
-    requires absent { has (pairs_in bucket.old key.now) key.now ≡ false }
-    ensures outcome { Outcome bucket.old bucket.new log.old log.new (call.Add key.now by) (λ reply. reply ≡ (answer (pairs_in bucket.old key.now) (call.Add key.now by)).0) (λ _. ⊥) result }
-{
-    let text = number_text(alloc, by)?;
-    put_at(alloc, bucket, log, key, text.as_slice(), path)?;
-    Ok(Reply::Sum { sum: by })
-}
-
-/// Adds to a key in the leaf in which it belongs.
+/// Adds to a key in the leaf in which it belongs. An absent key is set to the number's text. Where there is no sum, nothing is changed.
 fn add_in(
     alloc: Global,
     bucket: &mut Bucket,
@@ -114,11 +67,23 @@ fn add_in(
     requires path { IsPath bucket.old key.now path }
     ensures outcome { Outcome bucket.old bucket.new log.old log.new (call.Add key.now by) (λ reply. reply ≡ (answer (pairs_in bucket.old key.now) (call.Add key.now by)).0) (λ _. ⊥) result }
 {
-    if value_in(bucket, path.leaf, key).is_some() {
-        add_at(alloc, bucket, log, key, by, path)
-    } else {
-        add_new(alloc, bucket, log, key, by, path)
+    if value_in(bucket, path.leaf, key).is_none() {
+        let text = number_text(alloc, by)?;
+        put_at(alloc, bucket, log, key, text.as_slice(), path)?;
+        return Ok(Reply::Sum { sum: by });
     }
+    let reply = reply_in(bucket, path.leaf, key, by);
+    if !is_sum(&reply) {
+        return Ok(reply);
+    }
+    let version = next_version(bucket, path.leaf)?;
+    let plus = Rec::Plus {
+        key: bytes_of(alloc, key)?,
+        by,
+    };
+    let row = row_of(bucket.bucket(), path.leaf, version, plus);
+    push_pair(alloc, bucket, log, row)?;
+    Ok(reply)
 }
 
 /// Adds to the number whose text a key holds, and answers the sum; an absent key counts as 0. `NotNumber` comes exactly where the key

@@ -28,6 +28,14 @@ pub struct Growth {
     pub split: Option<(Bytes, u32)>,
 }
 
+/// A node that rows change, and its version before them.
+#[derive(Clone, Copy, Debug)]
+struct Target {
+    bucket: u16,
+    number: u32,
+    version: u64,
+}
+
 /// A row of a node.
 pub fn row_of(bucket: u16, number: u32, version: u64, rec: Rec) -> Row
     ensures { result ≡ row_of bucket number version rec }
@@ -55,6 +63,18 @@ pub fn version_of(bucket: &Bucket, number: u32) -> u64
     match bucket.peek(number) {
         Some(kept) => kept.version,
         None => 0,
+    }
+}
+
+/// A cached node to be changed.
+fn target_of(bucket: &Bucket, number: u32) -> Target
+    ensures is { result ≡ record { bucket = bucket.now.bucket; number = number; version = (given bucket.now number).1 } }
+    ensures small { result.version ≤ greatest }
+{
+    Target {
+        bucket: bucket.bucket(),
+        number,
+        version: version_of(bucket, number),
     }
 }
 
@@ -111,40 +131,61 @@ fn middle_sep(seps: &Keys) -> &Bytes
 /// Puts the rows of a split behind others: the new node's image, the cut of the old one, and what is set in one of both.
 fn push_split(
     rows: &mut Rows,
-    bucket: u16,
-    number: u32,
-    version: u64,
+    at: Target,
     next: u32,
     image: Rec,
     cut: Rec,
     set: Rec,
     left: bool,
 ) -> Result<(), NoMemory>
-    requires { version ≤ greatest }
-    ensures { OnOk result (rows.new ≡ rows.old ++ split_rows bucket number version next image cut set left) }
+    requires { at.version ≤ greatest }
+    ensures { OnOk result (rows.new ≡ rows.old ++ split_rows at.bucket at.number at.version next image cut set left) }
 {
-    rows.push(row_of(bucket, next, 1, image))?;
-    rows.push(row_of(bucket, number, version + 1, cut))?;
+    rows.push(row_of(at.bucket, next, 1, image))?;
+    rows.push(row_of(at.bucket, at.number, at.version + 1, cut))?;
     rows.push(if left {
-        row_of(bucket, number, version + 2, set)
+        row_of(at.bucket, at.number, at.version + 2, set)
     } else {
-        row_of(bucket, next, 2, set)
+        row_of(at.bucket, next, 2, set)
     })?;
     Ok(())
+}
+
+/// What a split pushes on top of other rows. The key in the middle goes up, with the number of the new node.
+fn split_off(
+    rows: Rows,
+    at: Target,
+    next: u32,
+    middle: &Bytes,
+    image: Rec,
+    cut: Rec,
+    set: Rec,
+    left: bool,
+) -> Result<Growth, NoMemory>
+    requires version { at.version ≤ greatest }
+    requires next { next ≤ 1048600 }
+    ensures grown { IfOk result (λ g. grown_of g ≡ record { rows = rows ++ split_rows at.bucket at.number at.version next image cut set left; next = next + 1; split = Some (middle.now, next) }) }
+    ensures next { IfOk result (λ g. g.next ≤ next + 1) }
+{
+    let mut rows = rows;
+    push_split(&mut rows, at, next, image, cut, set, left)?;
+    Ok(Growth {
+        rows,
+        next: next + 1,
+        split: Some((middle.copy()?, next)),
+    })
 }
 
 /// One row, of a leaf that is not split.
 fn put_whole(
     alloc: Global,
-    bucket: u16,
-    number: u32,
-    version: u64,
+    at: Target,
     next: u32,
     key: &[u8],
     value: &[u8],
 ) -> Result<Growth, NoMemory>
-    requires { version ≤ greatest }
-    ensures grown { IfOk result (λ g. grown_of g ≡ record { rows = row_of bucket number (version + 1) (rec.Put key.now value.now) ∷ []; next = next; split = None }) }
+    requires { at.version ≤ greatest }
+    ensures grown { IfOk result (λ g. grown_of g ≡ record { rows = row_of at.bucket at.number (at.version + 1) (rec.Put key.now value.now) ∷ []; next = next; split = None }) }
     ensures next { IfOk result (λ g. g.next ≤ next) }
 {
     let put = Rec::Put {
@@ -152,7 +193,7 @@ fn put_whole(
         value: bytes_of(alloc, value)?,
     };
     let mut rows = Items::new(alloc);
-    rows.push(row_of(bucket, number, version + 1, put))?;
+    rows.push(row_of(at.bucket, at.number, at.version + 1, put))?;
     Ok(Growth {
         rows,
         next,
@@ -164,18 +205,16 @@ fn put_whole(
 #[tactic(auto, unfolding(fine_model::specs::Pushed::split_leaf))]
 fn split_leaf(
     alloc: Global,
-    bucket: u16,
-    number: u32,
-    version: u64,
+    at: Target,
     next: u32,
     key: &[u8],
     value: &[u8],
     pairs: &Pairs,
 ) -> Result<Growth, NoMemory>
-    requires version { version ≤ greatest }
+    requires version { at.version ≤ greatest }
     requires next { next ≤ 1048600 }
     requires pairs { 16 < length pairs.now }
-    ensures grown { IfOk result (λ g. grown_of g ≡ split_leaf bucket number version next (key.now, value.now) pairs.now (key_at pairs.now 16)) }
+    ensures grown { IfOk result (λ g. grown_of g ≡ split_leaf at.bucket at.number at.version next (key.now, value.now) pairs.now (key_at pairs.now 16)) }
     ensures next { IfOk result (λ g. g.next ≤ next + 1) }
 {
     let middle = middle_key(pairs);
@@ -190,15 +229,7 @@ fn split_leaf(
         value: bytes_of(alloc, value)?,
     };
     let left = is_below(key, middle.as_slice());
-    let mut rows = Items::new(alloc);
-    push_split(
-        &mut rows, bucket, number, version, next, image, cut, put, left,
-    )?;
-    Ok(Growth {
-        rows,
-        next: next + 1,
-        split: Some((middle.copy()?, next)),
-    })
+    split_off(Items::new(alloc), at, next, middle, image, cut, put, left)
 }
 
 /// What setting a pair pushes in a leaf.
@@ -215,11 +246,10 @@ fn grow_leaf(
     ensures grown { IfOk result (λ g. grown_of g ≡ grown_leaf bucket.now.bucket number (given bucket.now number).1 next (key.now, value.now) (pairs_of (given bucket.now number).0)) }
     ensures next { IfOk result (λ g. g.next ≤ next + 1) }
 {
-    let of = bucket.bucket();
-    let version = version_of(bucket, number);
+    let at = target_of(bucket, number);
     match full_leaf(bucket, number, key) {
-        Some(pairs) => split_leaf(alloc, of, number, version, next, key, value, pairs),
-        None => put_whole(alloc, of, number, version, next, key, value),
+        Some(pairs) => split_leaf(alloc, at, next, key, value, pairs),
+        None => put_whole(alloc, at, next, key, value),
     }
 }
 
@@ -227,9 +257,7 @@ fn grow_leaf(
 #[tactic(auto, unfolding(fine_model::specs::Pushed::split_inner))]
 fn split_inner(
     alloc: Global,
-    bucket: u16,
-    number: u32,
-    version: u64,
+    at: Target,
     seps: &Keys,
     kids: &Kids,
     below: Rows,
@@ -237,11 +265,11 @@ fn split_inner(
     sep: Bytes,
     right: u32,
 ) -> Result<Growth, NoMemory>
-    requires version { version ≤ greatest }
+    requires version { at.version ≤ greatest }
     requires next { next ≤ 1048600 }
     requires seps { 17 ≤ length seps.now }
     requires kids { 17 ≤ length kids.now }
-    ensures grown { IfOk result (λ g. grown_of g ≡ split_inner bucket number version seps.now kids.now (unwrap_or (slice_get seps.now 16) []) below next sep right) }
+    ensures grown { IfOk result (λ g. grown_of g ≡ split_inner at.bucket at.number at.version seps.now kids.now (unwrap_or (slice_get seps.now 16) []) below next sep right) }
     ensures next { IfOk result (λ g. g.next ≤ next + 1) }
 {
     let middle = middle_sep(seps);
@@ -257,29 +285,19 @@ fn split_inner(
         key: sep,
         child: right,
     };
-    let mut rows = below;
-    push_split(
-        &mut rows, bucket, number, version, next, image, cut, link, left,
-    )?;
-    Ok(Growth {
-        rows,
-        next: next + 1,
-        split: Some((middle.copy()?, next)),
-    })
+    split_off(below, at, next, middle, image, cut, link, left)
 }
 
 /// A separator is set in an inner node that has room for it.
 fn link_whole(
-    bucket: u16,
-    number: u32,
-    version: u64,
+    at: Target,
     below: Rows,
     next: u32,
     sep: Bytes,
     right: u32,
 ) -> Result<Growth, NoMemory>
-    requires { version ≤ greatest }
-    ensures grown { IfOk result (λ g. grown_of g ≡ record { rows = below ++ row_of bucket number (version + 1) (rec.Link sep right) ∷ []; next = next; split = None }) }
+    requires { at.version ≤ greatest }
+    ensures grown { IfOk result (λ g. grown_of g ≡ record { rows = below ++ row_of at.bucket at.number (at.version + 1) (rec.Link sep right) ∷ []; next = next; split = None }) }
     ensures next { IfOk result (λ g. g.next ≤ next) }
 {
     let mut rows = below;
@@ -287,7 +305,7 @@ fn link_whole(
         key: sep,
         child: right,
     };
-    rows.push(row_of(bucket, number, version + 1, link))?;
+    rows.push(row_of(at.bucket, at.number, at.version + 1, link))?;
     Ok(Growth {
         rows,
         next,
@@ -315,8 +333,7 @@ fn grow_inner(
             split: None,
         });
     };
-    let of = bucket.bucket();
-    let version = version_of(bucket, number);
+    let at = target_of(bucket, number);
     let Some((seps, kids)) = inner_of(bucket, number) else {
         return Ok(Growth {
             rows,
@@ -325,11 +342,9 @@ fn grow_inner(
         });
     };
     if seps.len() < MOST_IN_NODE {
-        link_whole(of, number, version, rows, next, sep, right)
+        link_whole(at, rows, next, sep, right)
     } else {
-        split_inner(
-            alloc, of, number, version, seps, kids, rows, next, sep, right,
-        )
+        split_inner(alloc, at, seps, kids, rows, next, sep, right)
     }
 }
 

@@ -123,61 +123,7 @@ fn test_limits(push: &Push, path: Path) -> Result<(), TreeFault>
     }
 }
 
-/// Sets a key in the leaf in which it belongs, where that has room for it: one row is pushed.
-fn put_in_leaf(
-    alloc: Global,
-    bucket: &mut Bucket,
-    log: &mut PrivateLog,
-    key: &[u8],
-    value: &[u8],
-    path: Path,
-) -> Result<(), TreeFault>
-    requires key { FitsKey key.now }
-    requires value { FitsValue value.now }
-    requires path { IsPath bucket.old key.now path }
-    requires room { IsTrue (has_room (pairs_of (given bucket.old path.leaf).0) key.now) }
-    ensures outcome { Outcome bucket.old bucket.new log.old log.new (call.Put key.now value.now) (λ _. Unit {0}) (λ _. ⊥) result }
-{
-    let version = next_version(bucket, path.leaf)?;
-    let put = Rec::Put {
-        key: bytes_of(alloc, key)?,
-        value: bytes_of(alloc, value)?,
-    };
-    let row = row_of(bucket.bucket(), path.leaf, version, put);
-    push_pair(alloc, bucket, log, row)?;
-    Ok(())
-}
-
-/// Sets a key in the leaf in which it belongs, and splits what has no room for it.
-fn put_grown(
-    alloc: Global,
-    bucket: &mut Bucket,
-    log: &mut PrivateLog,
-    key: &[u8],
-    value: &[u8],
-    path: Path,
-) -> Result<(), TreeFault>
-    requires key { FitsKey key.now }
-    requires value { FitsValue value.now }
-    requires path { IsPath bucket.old key.now path }
-    ensures outcome { Outcome bucket.old bucket.new log.old log.new (call.Put key.now value.now) (λ _. Unit {0}) (λ _. ⊥) result }
-{
-    let below = grow(
-        alloc,
-        bucket,
-        path.next,
-        key,
-        value,
-        path.root,
-        path.depth - 1,
-    )?;
-    let push = with_head(alloc, bucket.bucket(), version_of(bucket, 0), path, below)?;
-    test_limits(&push, path)?;
-    push_all(alloc, bucket, log, push.rows)?;
-    Ok(())
-}
-
-/// Sets a key in the leaf in which it belongs, and splits what has no room for it. What grows is worked out only where the leaf has none.
+/// Sets a key in the leaf in which it belongs: where that has room for it, one row is pushed, and else what has none is split. What grows is worked out only then.
 pub fn put_at(
     alloc: Global,
     bucket: &mut Bucket,
@@ -192,10 +138,28 @@ pub fn put_at(
     ensures outcome { Outcome bucket.old bucket.new log.old log.new (call.Put key.now value.now) (λ _. Unit {0}) (λ _. ⊥) result }
 {
     if has_room(bucket, path.leaf, key) {
-        put_in_leaf(alloc, bucket, log, key, value, path)
-    } else {
-        put_grown(alloc, bucket, log, key, value, path)
+        let version = next_version(bucket, path.leaf)?;
+        let put = Rec::Put {
+            key: bytes_of(alloc, key)?,
+            value: bytes_of(alloc, value)?,
+        };
+        let row = row_of(bucket.bucket(), path.leaf, version, put);
+        push_pair(alloc, bucket, log, row)?;
+        return Ok(());
     }
+    let below = grow(
+        alloc,
+        bucket,
+        path.next,
+        key,
+        value,
+        path.root,
+        path.depth - 1,
+    )?;
+    let push = with_head(alloc, bucket.bucket(), version_of(bucket, 0), path, below)?;
+    test_limits(&push, path)?;
+    push_all(alloc, bucket, log, push.rows)?;
+    Ok(())
 }
 
 /// Sets a key to a value. First nodes on the key's way are loaded, and no others; the way is then what was used last. A leaf of 32 pairs

@@ -1,20 +1,18 @@
 -- What the rows of a node in a part leave, by the rows of all that the part was made of.
-use Rattle.std.proofs.Common.{◌≡◌, ◌⊎◌, inl, inr, ℕ, Bool, true, false, cond, ◌&&◌, ◌||◌, List, [], ◌∷◌, ◌++◌, map, nat_le, refl, sym, ap, subst, ◌∙◌, true≢false, append_assoc, append-nil}
+use Rattle.std.proofs.Common.{◌≡◌, ◌⊎◌, inl, inr, ℕ, Bool, true, false, ◌||◌, List, [], ◌∷◌, ◌++◌, map, refl, sym, ap, subst, ◌∙◌, true≢false, append_assoc, append-nil}
 use Rattle.std.specs.Prelude.{flat_map}
 use Rattle.std.specs.List.{AllByRecursion, list_any}
 use Rattle.std.proofs.lemmas.Grind.{flat_map-append}
 use Rattle.std.proofs.lemmas.List.{map-append}
 use Rattle.std.proofs.lemmas.List.Folds.{list_any-append}
-use Rattle.fine_model.specs.declared.Node.{Node}
 use Rattle.fine_model.specs.declared.Node.TheVariants as node
 use Rattle.fine_model.specs.declared.NodeId.{NodeId}
-use Rattle.fine_model.specs.declared.Rec.{Rec}
 use Rattle.fine_model.specs.declared.Rec.TheVariants as rec
 use Rattle.fine_model.specs.declared.Row.{Row}
-use Rattle.fine_model.specs.Merge.{image_of, is_image, merged_into, starts_afresh}
-use Rattle.fine_model.specs.Nodes.{Content, base, replay, step}
+use Rattle.fine_model.specs.Merge.{is_image, starts_afresh}
+use Rattle.fine_model.specs.Nodes.{Content, base, replay}
 use Rattle.fine_model.specs.Regions.{Image}
-use Rattle.fine_model.specs.RowBytes.{row_len, rows_len}
+use Rattle.fine_model.proofs.MergeLaws.{IsImage, rows_or_image}
 use Rattle.fine_model.proofs.NodeLaws.{replay-append}
 use Rattle.node_fetch.proofs.Parts.{forgets}
 use Rattle.damage_laws.specs.Made.{FindsIn, HasRows, Made, Source, beside, joined, merged_rows, one, sources}
@@ -162,10 +160,6 @@ module _ (id : NodeId) where
 
     -- ---- merged rows
 
-    first_of_both : (a b : Bool) → (a && b) ≡ true → a ≡ true
-    first_of_both true b h = refl
-    first_of_both false b h = h
-
     module _ (s : List Source) (own : List Row) (a : Opens s own) where
       -- what rows that start afresh leave in the node's base
       afresh : starts_afresh own ≡ true → (replay (base id) own ≡ replay (base id) (flat a.items)) ⊎ LeftBy a.items (replay (base id) own) → LeftBy a.items (replay (base id) own)
@@ -186,32 +180,12 @@ module _ (id : NodeId) where
           left : (c : Content) → LeftBy a.items (replay c (row ∷ []))
           left c = subst (LeftBy a.items) (sym (stands c)) (afresh fresh (a.takes (base id)))
 
-      chosen : (row : Row) (test : Bool) → (test ≡ true → starts_afresh own ≡ true) → ((c : Content) → replay c (row ∷ []) ≡ replay (base id) own) → Opens s (cond test (row ∷ []) own)
-      chosen row true fresh stands = by_image row (fresh refl) stands
-      chosen row false fresh stands = a
-
       pub opens_merged : Opens s (merged_rows id own)
-      unfolding step replay merged_into
-      opens_merged = by (replay (base id) own).0 refl
+      opens_merged = by (rows_or_image id own)
         where
-          b : Content
-          b = replay (base id) own
-
-          image_row : Rec → Row
-          image_row image = record { node = id; version = b.1; rec = image }
-
-          test : Rec → Bool
-          test image = starts_afresh own && nat_le (row_len (image_row image)) (rows_len own)
-
-          with : (n : Node) (image : Rec) → b.0 ≡ n → ((c : Content) → step c (image_row image) ≡ (n, b.1)) → Opens s (cond (test image) (image_row image ∷ []) own)
-          with n image is stands =
-              chosen (image_row image) (test image) (first_of_both (starts_afresh own) (nat_le (row_len (image_row image)) (rows_len own))) (λ c. stands c ∙ ap (λ m. (m, b.1)) (sym is))
-
-          by : (n : Node) → b.0 ≡ n → Opens s (merged_into id own b.1 (image_of n))
-          by (node.Head root next depth) is = with (node.Head root next depth) (rec.HeadImage root next depth) is (λ c. refl)
-          by (node.Leaf pairs) is = with (node.Leaf pairs) (rec.LeafImage pairs) is (λ c. refl)
-          by (node.Inner seps kids) is = with (node.Inner seps kids) (rec.InnerImage seps kids) is (λ c. refl)
-          by node.Broken is = a
+          by : (merged_rows id own ≡ own) ⊎ IsImage id own (merged_rows id own) → Opens s (merged_rows id own)
+          by (inl same) = subst (Opens s) (sym same) a
+          by (inr image) = subst (Opens s) (sym image.is) (by_image image.row image.fresh image.stands)
 
     pub opens_made : (m : Made) (rows : List Row) → HasRows region_len entry id m rows → Opens (sources m) rows
     opens_made (one s) rows has = opens_one s rows has

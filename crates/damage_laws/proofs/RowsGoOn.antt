@@ -24,11 +24,10 @@ use Rattle.fine_model.specs.Store.{answer}
 use Rattle.fine_model.specs.Trees.{Bounds, pairs_of, whole}
 use Rattle.fine_model.proofs.NodeLaws.{rows_of-append}
 use Rattle.fine_model.proofs.NodesIn.{same_node}
-use Rattle.btree_nodes.proofs.Sound.{inner_whole, leaf_whole}
+use Rattle.btree_nodes.proofs.Sound.{IsHead, head_of, inner_whole, leaf_whole}
 use Rattle.btree_nodes.proofs.Ways.{child_is}
 use Rattle.damage_laws.specs.Firm.{GoFrom, RowsGoFromLaw}
 use Rattle.damage_laws.specs.Goings.{IsOnWay}
-use Rattle.damage_laws.proofs.SamePushes.{FitHead, head_of}
 use Rattle.damage_laws.proofs.WayApart.{Way, at_inner, at_leaf, bounds_below}
 
 -- ---- one list behind the other
@@ -142,7 +141,7 @@ module _ (bucket : ℕ) (nodes : ℕ → Content) where
 
   -- ---- a call
 
-  module _ (key : List ℕ) (h : FitHead bucket nodes key) where
+  module _ (key : List ℕ) (h : IsHead bucket nodes key) where
     set_goes : (value : List ℕ) → AllGo (set_push bucket nodes (key, value) (nodes 0).0).rows
     unfolding set_push
     set_goes value = subst (λ n. AllGo (set_push bucket nodes (key, value) n).rows) (sym h.is)

@@ -20,12 +20,12 @@ use Rattle.fine_model.specs.Pushed.{Growth, add_push, call_push, growth, leaf_fo
 use Rattle.fine_model.specs.Store.{answer}
 use Rattle.fine_model.specs.Trees.{Bounds, is_leaf, whole}
 use Rattle.fine_model.proofs.NodeLaws.{rows_of-append}
+use Rattle.btree_nodes.proofs.Sound.{IsHead, head_of}
 use Rattle.btree_nodes.proofs.Ways.{child_is}
 use Rattle.damage_laws.specs.Firm.{CountFrom, RowsCountLaw}
 use Rattle.damage_laws.specs.Goings.{GoBy, IsOnWay}
 use Rattle.damage_laws.proofs.Rising.{AllRise, Grows, Named, all_both, all_map, behind, growth_grows, id, itself, lowest, lowest_new, lowest_old, not_named, one_rises, same_or, visits_low}
 use Rattle.damage_laws.proofs.RowsGoOn.{rows_within}
-use Rattle.damage_laws.proofs.SamePushes.{FitHead, head_of}
 use Rattle.damage_laws.proofs.WayApart.{Visits, Way, at_inner, at_leaf, bounds_below, kid}
 
 -- ---- versions
@@ -57,7 +57,7 @@ module _ (bucket : ℕ) (nodes : ℕ → Content) where
     up : next ≤ next'
     all : AllByRecursion (λ row. row.node.number < next') rows
 
-  module _ (key : List ℕ) (h : FitHead bucket nodes key) where
+  module _ (key : List ℕ) (h : IsHead bucket nodes key) where
     pub root_low : h.root < h.next
     root_low = (let t = (and_parts (nat_lt h.root h.next) (nat_le 1 h.depth) h.test).0 in by h.root h.next t)
       where
@@ -218,7 +218,7 @@ module _ (bucket : ℕ) (nodes : ℕ → Content) where
   CallOr : List Row → Type 0
   CallOr rows = (rows ≡ []) ⊎ ((root next depth : ℕ) × ((nodes 0).0 ≡ node.Head root next depth) × CallOn next rows)
 
-  on_head : (key : List ℕ) (h : FitHead bucket nodes key) (rows : List Row) → (rows ≡ []) ⊎ CallOn h.next rows → CallOr rows
+  on_head : (key : List ℕ) (h : IsHead bucket nodes key) (rows : List Row) → (rows ≡ []) ⊎ CallOn h.next rows → CallOr rows
   unfolding CallOr
   on_head key h rows (inl none) = inl none
   on_head key h rows (inr on) = inr (h.root, h.next, h.depth, h.is, on)

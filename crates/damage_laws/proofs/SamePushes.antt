@@ -1,5 +1,5 @@
 -- Calls push the same rows by contents that have all nodes on their ways.
-use Rattle.std.proofs.Common.{◌≡◌, ◌≢◌, ◌⊎◌, inl, inr, ℕ, zero, suc, ◌+◌, ◌-◌, nat_lt, nat_le, true, cond, ◌&&◌, if◌then◌else◌, List, [], ◌∷◌, ◌++◌, Option, Some, None, is_some, refl, sym, ap, subst, ◌∙◌, true≢false, append_assoc, append-nil}
+use Rattle.std.proofs.Common.{◌≡◌, ◌≢◌, ◌⊎◌, inl, inr, ℕ, zero, suc, ◌+◌, ◌-◌, cond, if◌then◌else◌, List, [], ◌∷◌, ◌++◌, Option, Some, None, refl, sym, ap, subst, ◌∙◌, append_assoc, append-nil}
 use Rattle.std.specs.Prelude.{ℤ, Ok}
 use Rattle.fine_model.specs.declared.Call.{Call}
 use Rattle.fine_model.specs.declared.Call.TheVariants as call
@@ -19,33 +19,9 @@ use Rattle.fine_model.specs.Pushed.{Push, add_push, call_push, child_for, grown_
 use Rattle.fine_model.specs.Store.{answer}
 use Rattle.fine_model.specs.Trees.{Bounds, is_leaf, pairs_of, whole}
 use Rattle.fine_model.proofs.NodeLaws.{broken_or_not, replay-append, replay_broken, rows_of-append}
-use Rattle.btree_nodes.proofs.Sound.{inner_whole, leaf_whole, passed}
+use Rattle.btree_nodes.proofs.Sound.{IsHead, head_of, inner_whole, leaf_whole, passed}
 use Rattle.btree_nodes.proofs.Ways.{child_is}
 use Rattle.damage_laws.specs.Goings.{Extends, GoesOnLaw, IsOnWay, LoadLaw, MoreLaw}
-
-some_none : {A : Type 0} {x : A} → Some x ≡ None → ⊥
-some_none e = true≢false (ap is_some e)
-
--- a head from which all nodes on the way of a key are fit
-pub record FitHead (bucket : ℕ) (nodes : ℕ → Content) (key : List ℕ) : Type 0 where
-  pub root : ℕ
-  pub next : ℕ
-  pub depth : ℕ
-  pub is : (nodes 0).0 ≡ node.Head root next depth
-  pub test : (nat_lt root next && nat_le 1 depth) ≡ true
-  pub fit : unfit_from (depth - 1) bucket nodes next key whole root ≡ None
-
-pub head_of : (bucket : ℕ) (nodes : ℕ → Content) (key : List ℕ) → unfit_under bucket nodes key (nodes 0).0 ≡ None → FitHead bucket nodes key
-unfolding unfit_under
-head_of bucket nodes key fit = by (nodes 0).0 refl fit
-  where
-    by : (n : Node) → (nodes 0).0 ≡ n → unfit_under bucket nodes key n ≡ None → FitHead bucket nodes key
-    by (node.Head root next depth) is fit =
-        let p = passed (nat_lt root next && nat_le 1 depth) (unfit_from (depth - 1) bucket nodes next key whole root) 0 fit in
-        record { root = root; next = next; depth = depth; is = is; test = p.0; fit = p.1 }
-    by (node.Leaf pairs) is fit = absurd (some_none fit)
-    by (node.Inner seps kids) is fit = absurd (some_none fit)
-    by node.Broken is fit = absurd (some_none fit)
 
 module _ (bucket : ℕ) (a b : ℕ → Content) (extends : Extends a b) where
   module _ (next : ℕ) (key : List ℕ) where
@@ -93,7 +69,7 @@ module _ (bucket : ℕ) (a b : ℕ → Content) (extends : Extends a b) where
         ap (growth height bucket b next (key, value)) mine ∙ below ∙ ap (growth height bucket a next (key, value)) (sym other) in
         λ i. grown_inner bucket number (same i).1 (same i).0 (all i).rows (all i).next (all i).split
 
-  module _ (key : List ℕ) (h : FitHead bucket a key) where
+  module _ (key : List ℕ) (h : IsHead bucket a key) where
     head_same : b 0 ≡ a 0
     head_same = extends 0 (λ broken. let e = sym h.is ∙ broken in cc)
 

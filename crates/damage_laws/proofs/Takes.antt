@@ -1,8 +1,8 @@
 -- A node of the format's size takes a pair or a child, or is split in two nodes that do.
-use Rattle.std.proofs.Common.{◌≡◌, ◌≢◌, ◌⊎◌, inl, inr, ℕ, zero, suc, ◌+◌, ◌<◌, ◌≤◌, nat_le, nat_lt, Bool, true, false, cond, not, ◌&&◌, ◌||◌, List, [], ◌∷◌, ◌++◌, length, take, drop, Option, Some, None, refl, sym, ap, subst, ◌∙◌, true≢false, arith, eq-eqb, le-leb, length-append, is_some, ℤ, ◌+ℤ◌}
+use Rattle.std.proofs.Common.{◌≡◌, ◌≢◌, inl, inr, ℕ, zero, suc, ◌+◌, ◌<◌, ◌≤◌, nat_le, nat_lt, Bool, true, false, cond, not, ◌&&◌, ◌||◌, List, [], ◌∷◌, ◌++◌, length, take, drop, Option, Some, None, refl, sym, ap, subst, ◌∙◌, true≢false, arith, eq-eqb, le-leb, length-append, is_some, ℤ, ◌+ℤ◌}
 use Rattle.std.specs.Prelude.{filter, bytes_eq, slice_get, unwrap_or}
 use Rattle.std.specs.List.{list_any, list_all}
-use Rattle.std.proofs.lemmas.Bool.{and_parts, not-true}
+use Rattle.std.proofs.lemmas.Bool.{and_parts}
 use Rattle.std.proofs.lemmas.Slice.Eq.{bytes_eq-Decides}
 use Rattle.fine_model.specs.declared.Call.TheVariants as call
 use Rattle.fine_model.specs.declared.Node.TheVariants as node
@@ -12,19 +12,17 @@ use Rattle.fine_model.specs.declared.Reply.{Reply}
 use Rattle.fine_model.specs.declared.Reply.TheVariants as reply
 use Rattle.fine_model.specs.declared.Write.{Write}
 use Rattle.fine_model.specs.declared.Write.TheVariants as write
-use Rattle.fine_model.specs.Map.{Pair, get, has, is_ascending, is_below, pairs_above, pairs_below, set}
+use Rattle.fine_model.specs.Map.{Pair, get, has, is_ascending, is_below, pairs_below, set}
 use Rattle.fine_model.specs.Nodes.{Content, added, changed, changed_from, keys_above, keys_below, linked}
 use Rattle.fine_model.specs.NumberText.{is_i64, number_of, number_text}
 use Rattle.fine_model.specs.Pushed.{key_at}
 use Rattle.fine_model.specs.RowBytes.{most_in_node}
 use Rattle.fine_model.specs.Store.{add_answer, answer, number_at, sum_answer}
-use Rattle.fine_model.specs.Trees.{Bounds, is_above, is_from, is_key_within, is_leaf}
-use Rattle.fine_model.proofs.GrowLeaf.{fits_leaf, within_parts}
-use Rattle.fine_model.proofs.Joined.{round_other}
-use Rattle.fine_model.proofs.Order.{AllBelow, is_below-self, is_below-trans, keys_of, order_cases, set_again}
-use Rattle.fine_model.proofs.Pairs.{Around, around_key, get_none}
+use Rattle.fine_model.specs.Trees.{Bounds, is_above, is_key_within, is_leaf}
+use Rattle.fine_model.proofs.GrowLeaf.{above_from, fits_leaf, length-set_le, length-set_there, within_parts}
+use Rattle.fine_model.proofs.Order.{AllBelow, is_below-self, keys_of}
 use Rattle.fine_model.proofs.Parts.{Parted, front_below, key_at-is, parted}
-use Rattle.fine_model.proofs.Small.{apart_pairs, exclusive, length-filter_le}
+use Rattle.fine_model.proofs.Small.{length-filter_le}
 use Rattle.damage_laws.proofs.WayApart.{IsIn, IsInside}
 
 -- ---- lists
@@ -109,40 +107,6 @@ link_stands seps kids sep child none few broken =
 
 -- ---- a leaf
 
-set_le : (pairs : List Pair) (key value : List ℕ) → length (set pairs key value) ≤ length pairs + 1
-unfolding set
-set_le pairs key value =
-    let a = length-append (pairs_below key pairs) ((key, value) ∷ pairs_above key pairs) in
-    let e = exclusive (λ q. is_below q.0 key) (λ q. is_below key q.0) pairs (apart_pairs key) in omega (arith, a, e)
-
--- no pair more where the key is there
-set_there : (pairs : List Pair) (key value : List ℕ) → is_ascending (keys_of pairs) ≡ true → has pairs key ≡ true → length (set pairs key value) ≤ length pairs
-set_there pairs key value up there = by (around_key key pairs up)
-  where
-    by : Around key pairs → length (set pairs key value) ≤ length pairs
-    by a = of a.is
-      where
-        of : (pairs ≡ a.front ++ a.back) ⊎ ((old : List ℕ) × (pairs ≡ a.front ++ (key, old) ∷ a.back)) → length (set pairs key value) ≤ length pairs
-        of (inl e) = absurd (true≢false (sym there ∙ ap (λ xs. is_some (get xs key)) e ∙ ap is_some (get_none key (a.front ++ a.back) (round_other key a.front a.back a.below a.above))))
-        of (inr e) =
-            let s : set pairs key value ≡ a.front ++ (key, value) ∷ a.back = ap (λ xs. set xs key value) e.1 ∙ set_again key a.front a.back a.below a.above e.0 value in
-            let l = ap length s in
-            let m = ap length e.1 in
-            let c = length-append a.front ((key, value) ∷ a.back) in
-            let d = length-append a.front ((key, e.0) ∷ a.back) in omega (arith, l, m, c, d)
-
-low_before : (low a b : List ℕ) → is_below a low ≡ false → is_below a b ≡ true → is_below low b ≡ true
-low_before low a b from below = by (order_cases low a)
-  where
-    by : ((is_below low a ≡ true) × (is_below a low ≡ false)) ⊎ (low ≡ a) ⊎ ((is_below a low ≡ true) × (is_below low a ≡ false)) → is_below low b ≡ true
-    by (inl h) = is_below-trans low a b h.0 below
-    by (inr (inl e)) = ap (λ k. is_below k b) e ∙ below
-    by (inr (inr h)) = absurd (true≢false (sym h.0 ∙ from))
-
-above_low : (low : Option (List ℕ)) (a b : List ℕ) → is_from low a ≡ true → is_below a b ≡ true → is_above low b ≡ true
-above_low None a b h l = refl
-above_low (Some low) a b h l = low_before low a b (not-true (is_below a low) h) l
-
 module _ (bucket : ℕ) (bounds : Bounds) (pairs : List Pair) (leafy : is_leaf bucket bounds (node.Leaf pairs) ≡ true) (few : length pairs ≤ 32) where
   up : is_ascending (keys_of pairs) ≡ true
   up = (and_parts (is_ascending (keys_of pairs)) (list_all (λ p. is_key_within bucket bounds p.0) pairs) leafy).0
@@ -152,8 +116,8 @@ module _ (bucket : ℕ) (bounds : Bounds) (pairs : List Pair) (leafy : is_leaf b
   takes_pair key value has_room = by (has pairs key) refl has_room
     where
       by : (t : Bool) → has pairs key ≡ t → (t || nat_lt (length pairs) most_in_node) ≡ true → changed (node.Leaf pairs) (rec.Put key value) ≢ node.Broken
-      by true there more = put_stands pairs key value (let l = set_there pairs key value up there in omega (arith, l, few))
-      by false there more = put_stands pairs key value (let l = set_le pairs key value in let s = less_is (length pairs) 32 more in omega (arith, l, s))
+      by true there more = put_stands pairs key value (let l = length-set_there pairs key value up there in omega (arith, l, few))
+      by false there more = put_stands pairs key value (let l = length-set_le pairs key value in let s = less_is (length pairs) 32 more in omega (arith, l, s))
 
   -- a full leaf, cut at its pair 16
   module _ (full : 32 ≤ length pairs) where
@@ -176,7 +140,7 @@ module _ (bucket : ℕ) (bounds : Bounds) (pairs : List Pair) (leafy : is_leaf b
         by : (front : List Pair) → length front ≡ 16 → list_all (λ q. is_key_within bucket bounds q.0) (front ++ p.item ∷ p.back) ≡ true → AllBelow p.item.0 front → is_above bounds.low p.item.0 ≡ true
         by [] many all below = absurd (omega (arith, many))
         by (q ∷ front) many all below =
-            let w = within_parts bucket bounds q.0 (and_parts (is_key_within bucket bounds q.0) (list_all (λ r. is_key_within bucket bounds r.0) (front ++ p.item ∷ p.back)) all).0 in above_low bounds.low q.0 p.item.0 w.0 below.0
+            let w = within_parts bucket bounds q.0 (and_parts (is_key_within bucket bounds q.0) (list_all (λ r. is_key_within bucket bounds r.0) (front ++ p.item ∷ p.back)) all).0 in above_from bounds.low q.0 p.item.0 w.0 below.0
 
     pub sep_inside : IsInside bounds (key_at pairs 16)
     sep_inside = subst (IsInside bounds) (sym sep_is) (sep_above, (let w = within_parts bucket bounds p.item.0 (item_within p.front within) in w.1))
@@ -196,10 +160,10 @@ module _ (bucket : ℕ) (bounds : Bounds) (pairs : List Pair) (leafy : is_leaf b
 
     -- each half takes the pair
     pub left_takes : (key value : List ℕ) → changed (node.Leaf (pairs_below (key_at pairs 16) pairs)) (rec.Put key value) ≢ node.Broken
-    left_takes key value = put_stands (pairs_below (key_at pairs 16) pairs) key value (let l = set_le (pairs_below (key_at pairs 16) pairs) key value in let f = few_left in omega (arith, l, f))
+    left_takes key value = put_stands (pairs_below (key_at pairs 16) pairs) key value (let l = length-set_le (pairs_below (key_at pairs 16) pairs) key value in let f = few_left in omega (arith, l, f))
 
     pub right_takes : (key value : List ℕ) → changed (node.Leaf (drop 16 pairs)) (rec.Put key value) ≢ node.Broken
-    right_takes key value = put_stands (drop 16 pairs) key value (let l = set_le (drop 16 pairs) key value in let f = few_right in omega (arith, l, f))
+    right_takes key value = put_stands (drop 16 pairs) key value (let l = length-set_le (drop 16 pairs) key value in let f = few_right in omega (arith, l, f))
 
 -- ---- an inner node
 

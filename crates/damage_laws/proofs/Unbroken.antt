@@ -22,12 +22,12 @@ use Rattle.fine_model.specs.Store.{answer}
 use Rattle.fine_model.specs.Trees.{Bounds, is_leaf, pairs_of, whole}
 use Rattle.fine_model.proofs.NodeLaws.{rows_of-append}
 use Rattle.fine_model.proofs.NodesIn.{same_node}
+use Rattle.btree_nodes.proofs.Sound.{IsHead, head_of}
 use Rattle.btree_nodes.proofs.Paths.{kid_below}
 use Rattle.btree_nodes.proofs.Ways.{child_is}
 use Rattle.damage_laws.specs.Goings.{IsOnWay}
 use Rattle.damage_laws.proofs.Rising.{Grows, all_both, growth_grows, not_named, own_absent, right_absent, same_or, split_names, split_rows}
 use Rattle.damage_laws.proofs.RowsRise as rises
-use Rattle.damage_laws.proofs.SamePushes.{FitHead, head_of}
 use Rattle.damage_laws.proofs.Takes.{del_stands, few_behind, few_right, head_stands, inner_stands, leaf_stands, left_links, left_takes, middle_among, next_change, not_less_is, right_links, right_takes, sep_inside, sum_stands, takes_child, takes_pair}
 use Rattle.damage_laws.proofs.WayApart.{Fit, IsIn, IsInside, Way, among_inside, at_inner, at_leaf, bounds_below, few, inner_fit, kid, none_between}
 
@@ -296,7 +296,7 @@ module _ (bucket : ℕ) (nodes : ℕ → Content) where
   nothing : LeaveWhole []
   nothing = record { whole = λ m. inl refl; small = tt }
 
-  module _ (size : (n : ℕ) → HasSize (nodes n).0) (key : List ℕ) (h : FitHead bucket nodes key) where
+  module _ (size : (n : ℕ) → HasSize (nodes n).0) (key : List ℕ) (h : IsHead bucket nodes key) where
     abbrev root_low : h.root < h.next
     root_low = rises.root_low bucket nodes key h
 

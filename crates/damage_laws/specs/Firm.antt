@@ -14,7 +14,7 @@ use Rattle.fine_model.specs.Regions.{Image}
 use Rattle.fine_model.specs.VersionLaws.{HaveSameRows}
 use Rattle.node_fetch.specs.Fetched.{IsReplayOf}
 use Rattle.damage_laws.specs.Goings.{GoBy}
-use Rattle.damage_laws.specs.Made.{AreMadeOf, FoundOn, all_of}
+use Rattle.damage_laws.specs.Made.{AreMadeOf, FoundLaw, all_of}
 
 -- a content with a version, or what a node holds before its first row
 abbrev pub HasBegun : NodeId → Content → Type 0
@@ -31,9 +31,7 @@ FirmLaw = (region_len : ℕ) (image : Image) (parts : List Part) (id : NodeId) (
 
 -- what is found in such parts as `FindsMerged` says it, by the bytes at an earlier moment
 abbrev pub MergedAgainLaw : Type 0
-MergedAgainLaw =
-    (region_len : ℕ) (was now : Image) (before present : List Part) (sealed : List (List Row)) (id : NodeId) (found : Content) → AreMadeOf region_len was now before sealed present
-    → FindsMerged region_len now present id found → FoundOn region_len was before id sealed found
+MergedAgainLaw = FoundLaw FindsMerged
 
 -- It stays so as neighbours are merged,
 abbrev pub KeptFirmLaw : Type 0

@@ -127,11 +127,14 @@ FoundOn region_len entry parts id sealed found =
     ⊎ ((c : Content) → found ≡ replay c (rows_of id (all_of sealed)))
     ⊎ ((front back : List (List Row)) × (sealed ≡ front ++ back) × IsTrue (starts_afresh (rows_of id (all_of back))) × (found ≡ replay (base id) (rows_of id (all_of back))))
 
--- what is found of a node by such parts
+-- what is found of a node by such parts, as a relation says it
+abbrev pub FoundLaw : (ℕ → Image → List Part → NodeId → Content → Type 0) → Type 0
+FoundLaw Finds =
+    (region_len : ℕ) (was now : Image) (parts present : List Part) (sealed : List (List Row)) (id : NodeId) (found : Content) → AreMadeOf region_len was now parts sealed present
+    → Finds region_len now present id found → FoundOn region_len was parts id sealed found
+
 abbrev pub MergedLaw : Type 0
-MergedLaw =
-    (region_len : ℕ) (entry now : Image) (parts present : List Part) (sealed : List (List Row)) (id : NodeId) (found : Content) → AreMadeOf region_len entry now parts sealed present
-    → FindsContent region_len now present id found → FoundOn region_len entry parts id sealed found
+MergedLaw = FoundLaw FindsContent
 
 -- and by an eye that tells their bytes
 abbrev pub FetchLaw : Type 0

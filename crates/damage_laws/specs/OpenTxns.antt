@@ -68,10 +68,14 @@ pub record OpensOn (region_len : ℕ) (entry : Image) (parts : List Part) (old n
   pub opened : IsOpenOn region_len entry parts new calls rows own log
   pub from : (n : ℕ) → (opened.gives.nodes n ≡ nodes n) ⊎ (IsCached new n × (first : IsFirstFound region_len entry parts old new rows nodes n) × (opened.gives.nodes n ≡ first.1))
 
-abbrev pub SeveralLaw : Type 0
-SeveralLaw =
+-- what a bucket is behind such loads
+abbrev pub LoadsTo : (ℕ → Image → List Part → Cache → Cache → List Call → List Call → List Row → List Row → (ℕ → Content) → Type 0) → Type 0
+LoadsTo Then =
     (region_len : ℕ) (entry : Image) (parts : List Part) (old new : Cache) (calls own : List Call) (rows log : List Row) (i : IsOpenOn region_len entry parts old calls rows own log)
-    → LoadsSome region_len entry parts old new rows i.gives.nodes → OpensOn region_len entry parts old new calls own rows log i.gives.nodes
+    → LoadsSome region_len entry parts old new rows i.gives.nodes → Then region_len entry parts old new calls own rows log i.gives.nodes
+
+abbrev pub SeveralLaw : Type 0
+SeveralLaw = LoadsTo OpensOn
 
 -- undone, but for nodes that are no longer cached, the bucket gives what the committed calls leave
 abbrev pub UndoneLaw : Type 0

@@ -13,7 +13,7 @@ use Rattle.node_cache.specs.Given.{IsCached}
 use Rattle.btree_nodes.specs.Calls.{IsDone, IsReached}
 use Rattle.damage_laws.specs.Looks.{IsOfKey}
 use Rattle.damage_laws.specs.Meets.{GivesOn, IsFewer}
-use Rattle.damage_laws.specs.OpenTxns.{IsFirstFound, IsOpenOn, LoadsSome}
+use Rattle.damage_laws.specs.OpenTxns.{IsFirstFound, IsOpenOn, LoadsTo}
 
 -- The bucket of an open transaction goes on from these contents.
 pub record IsOpenFrom (region_len : ℕ) (entry : Image) (parts : List Part) (b : Cache) (calls : List Call) (rows : List Row) (own : List Call) (log : List Row) (nodes : ℕ → Content) : Type 0 where
@@ -50,9 +50,7 @@ pub record LoadsFromFirst (region_len : ℕ) (entry : Image) (parts : List Part)
       ⊎ ((cached old n ≡ None) × IsCached new n × (first : IsFirstFound region_len entry parts old new rows nodes n) × (opened.gives.nodes n ≡ first.1))
 
 abbrev pub LoadsLaw : Type 0
-LoadsLaw =
-    (region_len : ℕ) (entry : Image) (parts : List Part) (old new : Cache) (calls own : List Call) (rows log : List Row) (i : IsOpenOn region_len entry parts old calls rows own log)
-    → LoadsSome region_len entry parts old new rows i.gives.nodes → LoadsFromFirst region_len entry parts old new calls own rows log i.gives.nodes
+LoadsLaw = LoadsTo LoadsFromFirst
 
 -- undone, but for nodes that are no longer cached
 abbrev pub UndoesLaw : Type 0

@@ -3,7 +3,7 @@
 ghost use Rattle.std.specs.Prelude.{◌≡◌, [], IfOk};
 ghost use Rattle.command_words.specs.Words.{IsGeometry};
 
-use crate::runs::{Case, GROUPS_OF_ONE, crash, new_disk, number_behind, obey, run};
+use crate::runs::{Case, GROUPS_OF_ONE, Printed, crash, new_disk, number_behind, obey, run};
 use log_disk::{FaultPlan, MemDisk};
 use std::alloc::Global;
 use std::sync::Wait;
@@ -127,19 +127,24 @@ fn a_call_of_a_merge_that_fails_is_told(rt: HostRuntime) -> Result<(), Fail> {
     Ok(())
 }
 
+/// What the run over two accounts prints, where these calls of the source and the sink fail.
+fn accounts<R: Threads + Wait + Sync>(
+    rt: &R,
+    alloc: Global,
+    fails: (u64, u64),
+) -> Result<Printed, Fail>
+    ensures { IfOk result (λ printed. IsGeometry (printed.finish.disk.disk.regions, printed.finish.disk.disk.region_len) × (printed.finish.disk.disk.eyes ≡ [])) }
+{
+    let disk = new_disk(alloc, 8, FaultPlan::none(alloc))?;
+    let script = Case::Accounts.script();
+    run(rt, alloc, GROUPS_OF_ONE, script, fails, disk)
+}
+
 #[test]
 fn a_source_that_fails_leaves_the_log(rt: HostRuntime) -> Result<(), Fail> {
     let alloc = rt.alloc();
     for number in 1..4u64 {
-        let disk = new_disk(alloc, 8, FaultPlan::none(alloc))?;
-        let printed = run(
-            &rt,
-            alloc,
-            GROUPS_OF_ONE,
-            Case::Accounts.script(),
-            (number, 0),
-            disk,
-        )?;
+        let printed = accounts(&rt, alloc, (number, 0))?;
         if number < 3 {
             assert_eq!(rt; printed.finish.status, 4);
             assert_eq!(rt; printed.text.as_slice(), b"source\n".as_slice());
@@ -158,15 +163,7 @@ fn a_source_that_fails_leaves_the_log(rt: HostRuntime) -> Result<(), Fail> {
 fn a_sink_that_fails_has_a_first_part(rt: HostRuntime) -> Result<(), Fail> {
     let alloc = rt.alloc();
     for number in 1..4u64 {
-        let disk = new_disk(alloc, 8, FaultPlan::none(alloc))?;
-        let printed = run(
-            &rt,
-            alloc,
-            GROUPS_OF_ONE,
-            Case::Accounts.script(),
-            (0, number),
-            disk,
-        )?;
+        let printed = accounts(&rt, alloc, (0, number))?;
         assert!(rt; Case::Accounts.whole().starts_with(printed.text.as_slice()));
         if printed.finish.status != 0 {
             assert_eq!(rt; printed.finish.status, 5);

@@ -1,5 +1,5 @@
 -- The theorem of a run on any log that the disk tells, sound or not, from how the call ended.
-use Rattle.std.proofs.Common.{◌≡◌, ◌⊎◌, inl, inr, ℕ, List, [], ◌∷◌, ◌++◌, refl, sym, ap, ◌∙◌, subst, Option, Some, None, Result, Ok, Err, arith, Bool, true, false, cond}
+use Rattle.std.proofs.Common.{◌≡◌, ◌⊎◌, inl, inr, ℕ, List, [], ◌∷◌, ◌++◌, refl, sym, ap, ◌∙◌, subst, Option, Some, None, Result, Ok, Err, arith, cond}
 use Rattle.std.specs.List.{list_any}
 use Rattle.log_disk.specs.Disk.{Disk, Told, HasRisen, clock_of}
 use Rattle.fine_model.specs.declared.Damage.{Damage}
@@ -12,8 +12,8 @@ use Rattle.fine_model.specs.declared.RunFault.{RunFault}
 use Rattle.fine_model.specs.declared.RunFault.TheVariants as run_fault
 use Rattle.fine_model.specs.declared.ScriptTxn.{ScriptTxn}
 use Rattle.fine_model.specs.Chain.{chain}
-use Rattle.fine_model.specs.Damages.{HasNoChain, IsDamageIn, IsDurableFor, PrintsDamage, PrintsFaultOf, PrintsRun, PrintsWhole, Reports, RunDamagedTheorem, Running}
-use Rattle.fine_model.specs.Headline.{DiskRose, HasStatus, IsFrontOf, OneOf, ReasonFor, Return, TellsFaults}
+use Rattle.fine_model.specs.Damages.{HasNoChain, IsDamageIn, IsDurableFor, Reports, RunDamagedTheorem, Running}
+use Rattle.fine_model.specs.Headline.{HasStatus, IsFrontOf, OneOf, Return, TellsFaults}
 use Rattle.fine_model.specs.Outcomes.{is_refused}
 use Rattle.fine_model.specs.Report.{damage_line, reason_bytes, report}
 use Rattle.fine_model.specs.Script.{Refusal, script_of}
@@ -22,6 +22,7 @@ use Rattle.log_commands.proofs.Ranges.{told_chain}
 use Rattle.run_laws.specs.Law.{return_of}
 use Rattle.fine_top.specs.Running.{Ended, early, ran, Ends, EndsEarly, IsEnd, IsReason, IsRunOf, MayRun, RunsAny, reason_status, run_status, status_of, text_of}
 use Rattle.fine_top.proofs.Chainless.{unsound}
+use Rattle.fine_top.proofs.Saying.{Says, any_front, any_whole, damaged_says, done_says, failed_says, memory_says, reason_says}
 use Rattle.fine_top.proofs.Theorem.{counts_of, early_told, faults_by, five, goes_on, status_all, told_on_return}
 
 module _ (options : Options) (source output : ℕ × ℕ) (left : Option (List ℕ)) (old new : Disk) (status : ℕ) (was now : Option (List ℕ)) where
@@ -35,24 +36,8 @@ module _ (options : Options) (source output : ℕ × ℕ) (left : Option (List �
     abbrev running : Running
     running = record { script = script; reads_all = ⊥; statuses = 0 ∷ 1 ∷ 3 ∷ 4 ∷ 5 ∷ 6 ∷ 7 ∷ 8 ∷ []; prints = Reports script }
 
-    abbrev Damaged : List ℕ → Type 0
-    Damaged = PrintsDamage running old.region_len before.bytes back
-
-    abbrev Done : ℕ → List ℕ → Type 0
-    Done = PrintsRun running old.region_len before.bytes
-
-    abbrev Fault : RunFault → ℕ → List ℕ → Type 0
-    Fault = PrintsFaultOf running old.region_len before.bytes back
-
-    -- what an end's status, which is not that of an output that failed, says of its text
-    record Says (s : ℕ) (text : List ℕ) : Type 0 where
-      known : OneOf (0 ∷ 1 ∷ 3 ∷ 4 ∷ 6 ∷ 7 ∷ 8 ∷ []) s
-      damaged : s ≡ 7 → Damaged text
-      done : (s ≡ 0) ⊎ (s ≡ 8) → Done s text
-      memory : s ≡ 1 → Fault run_fault.Memory s text
-      failed : s ≡ 6 → DiskRose back × Fault run_fault.Disk s text
-      refused : (s ≡ 3) ⊎ (s ≡ 4) → ReasonFor s script text
-      source_rose : s ≡ 4 → HasRisen source.0 source.1
+    abbrev Said : ℕ → List ℕ → Type 0
+    Said = Says running old.region_len before.bytes back
 
     -- ---- an early end
 
@@ -60,54 +45,18 @@ module _ (options : Options) (source output : ℕ × ℕ) (left : Option (List �
       still : clock_of after ≡ clock_of before
       still = let same : ◌≡◌ {A = Option Told} (Some after) (Some before) = sym new_is ∙ early_told old new r en ∙ old_is in let is : after ≡ before = cc in ap clock_of is
 
-    early_says : (r : Reason) → EndsEarly r old new → IsReason (HasRisen source.0 source.1) left old r → Says (status_of (early r)) (reason_bytes r)
+    early_says : (r : Reason) → EndsEarly r old new → IsReason (HasRisen source.0 source.1) left old r → Said (status_of (early r)) (reason_bytes r)
     unfolding reason_bytes
     early_says reason.Words en why = absurd why
-    early_says (reason.Script n) en why = record {
-      known = inr (inr (inl refl));
-      damaged = λ e. absurd (omega (arith, e));
-      done = λ e. absurd (grind (arith, e));
-      memory = λ e. absurd (omega (arith, e));
-      failed = λ e. absurd (omega (arith, e));
-      refused = λ e. inl (refl, n, why bytes left_is, refl);
-      source_rose = λ e. absurd (omega (arith, e));
-    }
-    early_says reason.Source en why = record {
-      known = inr (inr (inr (inl refl)));
-      damaged = λ e. absurd (omega (arith, e));
-      done = λ e. absurd (grind (arith, e));
-      memory = λ e. absurd (omega (arith, e));
-      failed = λ e. absurd (omega (arith, e));
-      refused = λ e. inr (refl, refl);
-      source_rose = λ e. why;
-    }
-    early_says (reason.Fault run_fault.Memory) en why = record {
-      known = inr (inl refl);
-      damaged = λ e. absurd (omega (arith, e));
-      done = λ e. absurd (grind (arith, e));
-      memory = λ e. inl (still (reason.Fault run_fault.Memory) en, refl);
-      failed = λ e. absurd (omega (arith, e));
-      refused = λ e. absurd (grind (arith, e));
-      source_rose = λ e. absurd (omega (arith, e));
-    }
-    early_says (reason.Fault run_fault.Disk) en why = record {
-      known = inr (inr (inr (inr (inl refl))));
-      damaged = λ e. absurd (omega (arith, e));
-      done = λ e. absurd (grind (arith, e));
-      memory = λ e. absurd (omega (arith, e));
-      failed = λ e. (risen_by old.faults new.faults ((en.failed refl).counts.faults tt), inl (still (reason.Fault run_fault.Disk) en, refl));
-      refused = λ e. absurd (grind (arith, e));
-      source_rose = λ e. absurd (omega (arith, e));
-    }
-    early_says (reason.Fault (run_fault.Damaged what)) en why = record {
-      known = inr (inr (inr (inr (inr (inl refl)))));
-      damaged = λ e. (what, unsound old what why.1 before old_is, inl (told_chain old (Err what) before old_is why.1, refl));
-      done = λ e. absurd (grind (arith, e));
-      memory = λ e. absurd (omega (arith, e));
-      failed = λ e. absurd (omega (arith, e));
-      refused = λ e. absurd (grind (arith, e));
-      source_rose = λ e. absurd (omega (arith, e));
-    }
+    early_says (reason.Script n) en why = reason_says running old.region_len before.bytes back 3 (reason_bytes (reason.Script n)) (inl refl) (inr (inr (inl refl))) (inl (refl, n, why bytes left_is, refl)) (λ e. absurd (omega (arith, e)))
+    early_says reason.Source en why = reason_says running old.region_len before.bytes back 4 (reason_bytes reason.Source) (inr refl) (inr (inr (inr (inl refl)))) (inr (refl, refl)) (λ e. why)
+    early_says (reason.Fault run_fault.Memory) en why = memory_says running old.region_len before.bytes back (reason_bytes (reason.Fault run_fault.Memory)) (inr (inl refl)) (inl (still (reason.Fault run_fault.Memory) en, refl))
+    early_says (reason.Fault run_fault.Disk) en why =
+        failed_says running old.region_len before.bytes back (reason_bytes (reason.Fault run_fault.Disk)) (inr (inr (inr (inr (inr (inl refl)))))) (risen_by old.faults new.faults ((en.failed refl).counts.faults tt))
+        (inl (still (reason.Fault run_fault.Disk) en, refl))
+    early_says (reason.Fault (run_fault.Damaged what)) en why =
+        damaged_says running old.region_len before.bytes back (reason_bytes (reason.Fault (run_fault.Damaged what))) (inr (inr (inr (inr (inr (inr (inl refl)))))))
+        (what, unsound old what why.1 before old_is, inl (told_chain old (Err what) before old_is why.1, refl))
 
     -- ---- a run
 
@@ -132,71 +81,25 @@ module _ (options : Options) (source output : ℕ × ℕ) (left : Option (List �
       named what fault =
           subst (λ (s : Result (List ScriptTxn) Refusal). IsDamageIn s ⊥ x.history old.region_len before.bytes x.found.parts what) (sym (may bytes left_is)) (x.damage what before x.found.parts fault old_is chained)
 
-      was_done : (b : Bool) → list_any is_refused r.outcomes ≡ b → r.fault ≡ None → Says (cond {A = ℕ} b 8 0) (report its r)
-      was_done b is fault =
-          let one = zero_or_eight b in record {
-            known = elim one as (λ _. OneOf (0 ∷ 1 ∷ 3 ∷ 4 ∷ 6 ∷ 7 ∷ 8 ∷ []) (cond {A = ℕ} b 8 0)) [ inl zero ↦ inl zero | inr eight ↦ inr (inr (inr (inr (inr (inr (inl eight)))))) ];
-            damaged = λ e. absurd (grind (arith, one, e));
-            done = λ e. (x.found.parts, x.history, chained, reports None fault (cond {A = ℕ} b 8 0) (ap (λ b. cond {A = ℕ} b 8 0) (sym is)));
-            memory = λ e. absurd (grind (arith, one, e));
-            failed = λ e. absurd (grind (arith, one, e));
-            refused = λ e. absurd (grind (arith, one, e));
-            source_rose = λ e. absurd (grind (arith, one, e));
-          }
-        where
-          zero_or_eight : (b : Bool) → (cond {A = ℕ} b 8 0 ≡ 0) ⊎ (cond {A = ℕ} b 8 0 ≡ 8)
-          zero_or_eight true = inr refl
-          zero_or_eight false = inl refl
-
-      ran_says : (f : Option RunFault) → r.fault ≡ f → Says (run_status r.outcomes f) (report its r)
-      ran_says None fault = was_done (list_any is_refused r.outcomes) refl fault
-      ran_says (Some run_fault.Memory) fault = record {
-        known = inr (inl refl);
-        damaged = λ e. absurd (omega (arith, e));
-        done = λ e. absurd (grind (arith, e));
-        memory = λ e. inr (x.found.parts, x.history, chained, reports (Some run_fault.Memory) fault 1 refl);
-        failed = λ e. absurd (omega (arith, e));
-        refused = λ e. absurd (grind (arith, e));
-        source_rose = λ e. absurd (omega (arith, e));
-      }
-      ran_says (Some run_fault.Disk) fault = record {
-        known = inr (inr (inr (inr (inl refl))));
-        damaged = λ e. absurd (omega (arith, e));
-        done = λ e. absurd (grind (arith, e));
-        memory = λ e. absurd (omega (arith, e));
-        failed = λ e. (risen_by old.faults new.faults (x.only_risen fault), inr (x.found.parts, x.history, chained, reports (Some run_fault.Disk) fault 6 refl));
-        refused = λ e. absurd (grind (arith, e));
-        source_rose = λ e. absurd (omega (arith, e));
-      }
-      ran_says (Some (run_fault.Damaged what)) fault = record {
-        known = inr (inr (inr (inr (inr (inl refl)))));
-        damaged = λ e. (what, x.unsound what fault before old_is, inr (x.found.parts, x.history, chained, named what fault, inr (reports (Some (run_fault.Damaged what)) fault 7 refl)));
-        done = λ e. absurd (grind (arith, e));
-        memory = λ e. absurd (omega (arith, e));
-        failed = λ e. absurd (omega (arith, e));
-        refused = λ e. absurd (grind (arith, e));
-        source_rose = λ e. absurd (omega (arith, e));
-      }
+      ran_says : (f : Option RunFault) → r.fault ≡ f → Said (run_status r.outcomes f) (report its r)
+      ran_says None fault =
+          done_says running old.region_len before.bytes back (report its r) (list_any is_refused r.outcomes) (inl refl) (inr (inr (inr (inr (inr (inr (inr (inl refl))))))))
+          (x.found.parts, x.history, chained, reports None fault (cond {A = ℕ} (list_any is_refused r.outcomes) 8 0) refl)
+      ran_says (Some run_fault.Memory) fault =
+          memory_says running old.region_len before.bytes back (report its r) (inr (inl refl)) (inr (x.found.parts, x.history, chained, reports (Some run_fault.Memory) fault 1 refl))
+      ran_says (Some run_fault.Disk) fault =
+          failed_says running old.region_len before.bytes back (report its r) (inr (inr (inr (inr (inr (inl refl)))))) (risen_by old.faults new.faults (x.only_risen fault))
+          (inr (x.found.parts, x.history, chained, reports (Some run_fault.Disk) fault 6 refl))
+      ran_says (Some (run_fault.Damaged what)) fault =
+          damaged_says running old.region_len before.bytes back (report its r) (inr (inr (inr (inr (inr (inr (inl refl)))))))
+          (what, x.unsound what fault before old_is, inr (x.found.parts, x.history, chained, named what fault, inr (reports (Some (run_fault.Damaged what)) fault 7 refl)))
 
     -- ---- any end
 
-    says : (d : Ended) → IsEnd options (HasRisen source.0 source.1) left old new d → Says (status_of d) (text_of d)
+    says : (d : Ended) → IsEnd options (HasRisen source.0 source.1) left old new d → Said (status_of d) (text_of d)
     unfolding text_of
     says (early r) end = early_says r end.1 end.0
     says (ran its r) end = ran_says its r end.0 end.1 r.fault refl
-
-    whole : (s : ℕ) (text : List ℕ) → Says s text → PrintsWhole running old.region_len before.bytes back text
-    whole s text y = by y.known
-      where
-        by : OneOf (0 ∷ 1 ∷ 3 ∷ 4 ∷ 6 ∷ 7 ∷ 8 ∷ []) s → PrintsWhole running old.region_len before.bytes back text
-        by (inl is) = inr (inl (subst (λ n. Done n text) is (y.done (inl is))))
-        by (inr (inl is)) = inr (inr (inr (inl (subst (λ n. Fault run_fault.Memory n text) is (y.memory is)))))
-        by (inr (inr (inl is))) = inr (inr (inr (inr (inr (inl (subst (λ n. ReasonFor n script text) is (y.refused (inl is))))))))
-        by (inr (inr (inr (inl is)))) = inr (inr (inr (inr (inr (inr (y.source_rose is, subst (λ n. ReasonFor n script text) is (y.refused (inr is))))))))
-        by (inr (inr (inr (inr (inl is))))) = let f = y.failed is in inr (inr (inr (inr (inl (f.0, subst (λ n. Fault run_fault.Disk n text) is f.1)))))
-        by (inr (inr (inr (inr (inr (inl is)))))) = inl (y.damaged is)
-        by (inr (inr (inr (inr (inr (inr (inl is))))))) = inr (inr (inl (subst (λ n. Done n text) is (y.done (inr is)))))
-        by (inr (inr (inr (inr (inr (inr (inr none))))))) = absurd none
 
     -- ---- a log without a chain
 
@@ -226,46 +129,16 @@ module _ (options : Options) (source output : ℕ × ℕ) (left : Option (List �
 
     -- ---- the theorem
 
-    abbrev Theorem : List ℕ → Type 0
-    Theorem written = RunDamagedTheorem script old.region_len before.bytes back (new.told ≡ old.told) status written
-
     module _ (faults : TellsFaults back status) (d : Ended) (end : IsEnd options (HasRisen source.0 source.1) left old new d) (written : List ℕ) where
-      any_whole : written ≡ text_of d → status ≡ status_of d → Theorem written
-      any_whole text is =
-          let z : Says status written = subst (λ s. Says s written) (sym is) (subst (Says (status_of d)) (sym text) (says d end)) in
-          record {
-            known = by z.known;
-            unsound = λ seven. (z.damaged seven).1;
-            damaged = z.damaged;
-            done = z.done;
-            memory = z.memory;
-            failed = λ six. (z.failed six).1;
-            refused = z.refused;
-            cut_short = λ failed. absurd (five d (sym is ∙ failed));
-            no_chain = no_chain d end written (inr (is, text));
-            faults = faults;
-          }
-        where
-          by : OneOf (0 ∷ 1 ∷ 3 ∷ 4 ∷ 6 ∷ 7 ∷ 8 ∷ []) status → OneOf (0 ∷ 1 ∷ 3 ∷ 4 ∷ 5 ∷ 6 ∷ 7 ∷ 8 ∷ []) status
-          by (inl is) = inl is
-          by (inr (inl is)) = inr (inl is)
-          by (inr (inr (inl is))) = inr (inr (inl is))
-          by (inr (inr (inr (inl is)))) = inr (inr (inr (inl is)))
-          by (inr (inr (inr (inr rest)))) = inr (inr (inr (inr (inr rest))))
+      by_whole : written ≡ text_of d → status ≡ status_of d → RunDamagedTheorem script old.region_len before.bytes back (new.told ≡ old.told) status written
+      by_whole text is =
+          any_whole running old.region_len before.bytes back (new.told ≡ old.told) status written (no_chain d end written (inr (is, text))) faults
+          (subst (λ s. Said s written) (sym is) (subst (Said (status_of d)) (sym text) (says d end)))
 
-      any_front : IsFrontOf written (text_of d) → status ≡ 5 → Theorem written
-      any_front front is = record {
-        known = inr (inr (inr (inr (inl is))));
-        unsound = λ e. absurd (omega (arith, is, e));
-        damaged = λ e. absurd (omega (arith, is, e));
-        done = λ e. absurd (grind (arith, is, e));
-        memory = λ e. absurd (omega (arith, is, e));
-        failed = λ e. absurd (omega (arith, is, e));
-        refused = λ e. absurd (grind (arith, is, e));
-        cut_short = λ e. (text_of d, whole (status_of d) (text_of d) (says d end), front);
-        no_chain = no_chain d end written (inl is);
-        faults = faults;
-      }
+      by_front : IsFrontOf written (text_of d) → status ≡ 5 → RunDamagedTheorem script old.region_len before.bytes back (new.told ≡ old.told) status written
+      by_front front is =
+          any_front running old.region_len before.bytes back (new.told ≡ old.told) status written (no_chain d end written (inl is)) faults (status_of d) (text_of d) (says d end) front
+          (inr (inr (inr (inr (inl is))))) is
 
   -- how a call ended tells it
   pub runs_any : (status ≡ 4 → HasRisen source.0 source.1) → (status ≡ 5 → HasRisen output.0 output.1) → Ends options (HasRisen source.0 source.1) left old new status was now → RunsAny left source output old new status was now
@@ -286,11 +159,11 @@ module _ (options : Options) (source output : ℕ × ℕ) (left : Option (List �
               × RunDamagedTheorem (script_of bytes) old.region_len before.bytes (return_of old new source output before after) (new.told ≡ old.told) status written
           by (inl failed) =
               let w = wrote_front (text_of en.ended) (status ≡ 5) was now first en.printed was_is in
-              (told.0, told.1, w.0, w.1, any_front bytes before told.0 left_is old_is told.1 faults en.ended en.is_end w.0 w.2 failed)
+              (told.0, told.1, w.0, w.1, by_front bytes before told.0 left_is old_is told.1 faults en.ended en.is_end w.0 w.2 failed)
           by (inr fine) = (
             told.0,
             told.1,
             text_of en.ended,
             wrote_all (text_of en.ended) (status ≡ 5) was now first en.printed (λ failed. five en.ended (sym fine ∙ failed)) was_is,
-            any_whole bytes before told.0 left_is old_is told.1 faults en.ended en.is_end (text_of en.ended) refl fine,
+            by_whole bytes before told.0 left_is old_is told.1 faults en.ended en.is_end (text_of en.ended) refl fine,
           )

@@ -49,9 +49,9 @@ use Rattle.reopen.specs.Opening.{SeesChain}
 use Rattle.room_shelf.specs.Shelves.{IsCountOf}
 use Rattle.room_shelf.proofs.Loading.{log_law}
 use Rattle.run_laws.proofs.Runs.{told_of}
+use Rattle.run_laws.proofs.NoEyes.{no_eyes}
 use Rattle.txn_runner.specs.Left.{IsLeftTo, ScansUnfit}
 use Rattle.txn_runner.proofs.Left.{blames, scans}
-use Rattle.log_commands.proofs.Logs.{no_eyes}
 use Rattle.fine_top.specs.Generating.{CountsRun, counted, counted_text, early, Ends, EndsGenerated, IsCounted, LacksMemory, Numbers, OpensGen, PrintsCounted, ReadsEnd, default_options, numbers, script_by, text_of}
 use Rattle.fine_top.specs.declared.opening.Opened.{Opened}
 use Rattle.fine_top.specs.Opened.{IsUnsoundLog}

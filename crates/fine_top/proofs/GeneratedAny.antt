@@ -10,7 +10,7 @@ use Rattle.fine_model.specs.declared.RunFault.{RunFault}
 use Rattle.fine_model.specs.declared.RunFault.TheVariants as run_fault
 use Rattle.fine_model.specs.Chain.{chain}
 use Rattle.fine_model.specs.Commands.{GenDamagedTheorem, Summarizes, are_durable, fault_summary, summary}
-use Rattle.fine_model.specs.Damages.{HasNoChain, IsDurableFor, PrintsDamage, PrintsFaultOf, PrintsRun, PrintsWhole, Running}
+use Rattle.fine_model.specs.Damages.{HasNoChain, IsDurableFor, PrintsDamage, PrintsFaultOf, Running}
 use Rattle.fine_model.specs.Headline.{DiskRose, HasStatus, IsFrontOf, OneOf, Return, TellsFaults}
 use Rattle.fine_model.specs.Map.{Pair}
 use Rattle.fine_model.specs.Outcomes.{is_refused}
@@ -23,6 +23,7 @@ use Rattle.run_laws.specs.Law.{return_of}
 use Rattle.fine_top.specs.Generating.{Ended, Ends, GensAny, IsCounted, IsEnd, Numbers, counted, counted_status, counted_text, early, script_by, status_of, text_of}
 use Rattle.fine_top.proofs.Chainless.{unsound}
 use Rattle.fine_top.proofs.Generated.{disk_failed, disk_told, finds_told, time, told_after}
+use Rattle.fine_top.proofs.Saying.{Says, any_front, any_whole, damaged_says, done_says, failed_says, memory_says}
 use Rattle.fine_top.proofs.Theorem.{status_all}
 
 -- no end has the status of an output that failed
@@ -48,59 +49,28 @@ module _ (n : Numbers) (source output : ℕ × ℕ) (old new : Disk) (status : �
     abbrev running : Running
     running = record { script = Ok (script_by n); reads_all = Unit {0}; statuses = 0 ∷ 1 ∷ 5 ∷ 6 ∷ 7 ∷ 8 ∷ []; prints = Summarizes n.start n.count n.lanes }
 
-    abbrev Damaged : List ℕ → Type 0
-    Damaged = PrintsDamage running old.region_len before.bytes back
+    abbrev Said : ℕ → List ℕ → Type 0
+    Said = Says running old.region_len before.bytes back
 
-    abbrev Done : ℕ → List ℕ → Type 0
-    Done = PrintsRun running old.region_len before.bytes
+    -- the three faults, with the statuses of `gen`
+    memory_said : (text : List ℕ) → PrintsFaultOf running old.region_len before.bytes back run_fault.Memory 1 text → Said 1 text
+    memory_said text is = memory_says running old.region_len before.bytes back text (inr (inl refl)) is
 
-    abbrev Fault : RunFault → ℕ → List ℕ → Type 0
-    Fault = PrintsFaultOf running old.region_len before.bytes back
+    failed_said : (text : List ℕ) → DiskRose back → PrintsFaultOf running old.region_len before.bytes back run_fault.Disk 6 text → Said 6 text
+    failed_said text risen is = failed_says running old.region_len before.bytes back text (inr (inr (inr (inl refl)))) risen is
 
-    -- what an end's status, which is not that of an output that failed, says of its text
-    record Says (s : ℕ) (text : List ℕ) : Type 0 where
-      known : OneOf (0 ∷ 1 ∷ 6 ∷ 7 ∷ 8 ∷ []) s
-      damaged : s ≡ 7 → Damaged text
-      done : (s ≡ 0) ⊎ (s ≡ 8) → Done s text
-      memory : s ≡ 1 → Fault run_fault.Memory s text
-      failed : s ≡ 6 → DiskRose back × Fault run_fault.Disk s text
-
-    memory_says : (text : List ℕ) → Fault run_fault.Memory 1 text → Says 1 text
-    memory_says text is = record {
-      known = inr (inl refl);
-      damaged = λ e. absurd (omega (arith, e));
-      done = λ e. absurd (grind (arith, e));
-      memory = λ e. is;
-      failed = λ e. absurd (omega (arith, e));
-    }
-
-    failed_says : (text : List ℕ) → DiskRose back → Fault run_fault.Disk 6 text → Says 6 text
-    failed_says text risen is = record {
-      known = inr (inr (inl refl));
-      damaged = λ e. absurd (omega (arith, e));
-      done = λ e. absurd (grind (arith, e));
-      memory = λ e. absurd (omega (arith, e));
-      failed = λ e. (risen, is);
-    }
-
-    damaged_says : (text : List ℕ) → Damaged text → Says 7 text
-    damaged_says text is = record {
-      known = inr (inr (inr (inl refl)));
-      damaged = λ e. is;
-      done = λ e. absurd (grind (arith, e));
-      memory = λ e. absurd (omega (arith, e));
-      failed = λ e. absurd (omega (arith, e));
-    }
+    damaged_said : (text : List ℕ) → PrintsDamage running old.region_len before.bytes back text → Said 7 text
+    damaged_said text is = damaged_says running old.region_len before.bytes back text (inr (inr (inr (inr (inl refl))))) is
 
     -- ---- an early end
 
     still : (fault : RunFault) → FindsChain old new (Err fault) → clock_of after ≡ clock_of before
     still fault f = let same : ◌≡◌ {A = Option Told} (Some after) (Some before) = sym new_is ∙ finds_told n output old new status was now rose fault f ∙ old_is in let is : after ≡ before = cc in ap clock_of is
 
-    early_says : (fault : RunFault) → FindsChain old new (Err fault) → Says (fault_status fault) (fault_line fault)
-    early_says run_fault.Memory f = memory_says (fault_line run_fault.Memory) (inl (still run_fault.Memory f, refl))
-    early_says run_fault.Disk f = failed_says (fault_line run_fault.Disk) (risen_by old.faults new.faults (f.counts.faults tt)) (inl (still run_fault.Disk f, refl))
-    early_says (run_fault.Damaged what) f = damaged_says (fault_line (run_fault.Damaged what)) (what, unsound old what f.1 before old_is, inl (told_chain old (Err what) before old_is f.1, refl))
+    early_says : (fault : RunFault) → FindsChain old new (Err fault) → Said (fault_status fault) (fault_line fault)
+    early_says run_fault.Memory f = memory_said (fault_line run_fault.Memory) (inl (still run_fault.Memory f, refl))
+    early_says run_fault.Disk f = failed_said (fault_line run_fault.Disk) (risen_by old.faults new.faults (f.counts.faults tt)) (inl (still run_fault.Disk f, refl))
+    early_says (run_fault.Damaged what) f = damaged_said (fault_line (run_fault.Damaged what)) (what, unsound old what f.1 before old_is, inl (told_chain old (Err what) before old_is f.1, refl))
 
     -- ---- a run that was counted
 
@@ -137,37 +107,22 @@ module _ (n : Numbers) (source output : ℕ × ℕ) (old new : Disk) (status : �
         some = λ f is. let e : ◌≡◌ {A = Option RunFault} (Some fault) (Some f) = is in let same : fault ≡ f = cc in ap (λ b. fault_summary n.start n.count n.lanes outcomes b fault) c.durable_is ∙ ap (fault_summary n.start n.count n.lanes outcomes (are_durable c.history ran.durable)) same;
       }
 
-    done_says : (ran : Ran) (all_durable : Bool) (pairs : List Pair) (c : IsCounted n old new ran all_durable (Ok pairs)) → ran.fault ≡ None → (b : Bool) → list_any is_refused ran.outcomes ≡ b
-        → Says (cond {A = ℕ} b 8 0) (counted_text n (all_outcomes (script_by n) ran.outcomes) all_durable (Ok pairs))
-    done_says ran all_durable pairs c none true is = record {
-      known = inr (inr (inr (inr (inl refl))));
-      damaged = λ e. absurd (omega (arith, e));
-      done = λ e. (c.chain.parts, c.history, chained ran all_durable (Ok pairs) c, done_as ran all_durable (Ok pairs) c none pairs 8 (ap (λ b. cond {A = ℕ} b 8 0) (sym is)));
-      memory = λ e. absurd (omega (arith, e));
-      failed = λ e. absurd (omega (arith, e));
-    }
-    done_says ran all_durable pairs c none false is = record {
-      known = inl refl;
-      damaged = λ e. absurd (omega (arith, e));
-      done = λ e. (c.chain.parts, c.history, chained ran all_durable (Ok pairs) c, done_as ran all_durable (Ok pairs) c none pairs 0 (ap (λ b. cond {A = ℕ} b 8 0) (sym is)));
-      memory = λ e. absurd (omega (arith, e));
-      failed = λ e. absurd (omega (arith, e));
-    }
-
     counted_says : (ran : Ran) (all_durable : Bool) (found : Result (List Pair) RunFault) (c : IsCounted n old new ran all_durable found)
-        → Says (counted_status ran.outcomes found) (counted_text n (all_outcomes (script_by n) ran.outcomes) all_durable found)
-    counted_says ran all_durable (Ok pairs) c = done_says ran all_durable pairs c (by ran.fault refl) (list_any is_refused ran.outcomes) refl
+        → Said (counted_status ran.outcomes found) (counted_text n (all_outcomes (script_by n) ran.outcomes) all_durable found)
+    counted_says ran all_durable (Ok pairs) c =
+        done_says running old.region_len before.bytes back (counted_text n (all_outcomes (script_by n) ran.outcomes) all_durable (Ok pairs)) (list_any is_refused ran.outcomes) (inl refl) (inr (inr (inr (inr (inr (inl refl))))))
+        (c.chain.parts, c.history, chained ran all_durable (Ok pairs) c, done_as ran all_durable (Ok pairs) c (by ran.fault refl) pairs (cond {A = ℕ} (list_any is_refused ran.outcomes) 8 0) refl)
       where
         by : (f : Option RunFault) → ran.fault ≡ f → ran.fault ≡ None
         by None at = at
         by (Some fault) at = absurd (let x : ◌≡◌ {A = Result (List Pair) RunFault} (Ok pairs) (Err fault) = c.fault_is fault at in cc)
-    counted_says ran all_durable (Err run_fault.Memory) c = memory_says (counted_text n (all_outcomes (script_by n) ran.outcomes) all_durable (Err run_fault.Memory))
+    counted_says ran all_durable (Err run_fault.Memory) c = memory_said (counted_text n (all_outcomes (script_by n) ran.outcomes) all_durable (Err run_fault.Memory))
         (inr (c.chain.parts, c.history, chained ran all_durable (Err run_fault.Memory) c, fault_as ran all_durable (Err run_fault.Memory) c run_fault.Memory 1 refl))
-    counted_says ran all_durable (Err run_fault.Disk) c = failed_says (counted_text n (all_outcomes (script_by n) ran.outcomes) all_durable (Err run_fault.Disk)) (risen_by old.faults new.faults (c.only_risen refl))
+    counted_says ran all_durable (Err run_fault.Disk) c = failed_said (counted_text n (all_outcomes (script_by n) ran.outcomes) all_durable (Err run_fault.Disk)) (risen_by old.faults new.faults (c.only_risen refl))
         (inr (c.chain.parts, c.history, chained ran all_durable (Err run_fault.Disk) c, fault_as ran all_durable (Err run_fault.Disk) c run_fault.Disk 6 refl))
     counted_says ran all_durable (Err (run_fault.Damaged what)) c =
         let found : Result (List Pair) RunFault = Err (run_fault.Damaged what) in
-        damaged_says (counted_text n (all_outcomes (script_by n) ran.outcomes) all_durable (Err (run_fault.Damaged what))) (
+        damaged_said (counted_text n (all_outcomes (script_by n) ran.outcomes) all_durable (Err (run_fault.Damaged what))) (
           what,
           c.unsound what refl before old_is,
           inr (
@@ -181,21 +136,10 @@ module _ (n : Numbers) (source output : ℕ × ℕ) (old new : Disk) (status : �
 
     -- ---- any end
 
-    says : (d : Ended) → IsEnd n old new d → Says (status_of d) (text_of n d)
+    says : (d : Ended) → IsEnd n old new d → Said (status_of d) (text_of n d)
     unfolding text_of
     says (early fault) end = early_says fault end
     says (counted ran all_durable found) end = counted_says ran all_durable found end
-
-    whole : (s : ℕ) (text : List ℕ) → Says s text → PrintsWhole running old.region_len before.bytes back text
-    whole s text y = by y.known
-      where
-        by : OneOf (0 ∷ 1 ∷ 6 ∷ 7 ∷ 8 ∷ []) s → PrintsWhole running old.region_len before.bytes back text
-        by (inl is) = inr (inl (subst (λ m. Done m text) is (y.done (inl is))))
-        by (inr (inl is)) = inr (inr (inr (inl (subst (λ m. Fault run_fault.Memory m text) is (y.memory is)))))
-        by (inr (inr (inl is))) = let f = y.failed is in inr (inr (inr (inr (inl (f.0, subst (λ m. Fault run_fault.Disk m text) is f.1)))))
-        by (inr (inr (inr (inl is)))) = inl (y.damaged is)
-        by (inr (inr (inr (inr (inl is))))) = inr (inr (inl (subst (λ m. Done m text) is (y.done (inr is)))))
-        by (inr (inr (inr (inr (inr none))))) = absurd none
 
     -- ---- a log without a chain
 
@@ -219,47 +163,15 @@ module _ (n : Numbers) (source output : ℕ × ℕ) (old new : Disk) (status : �
 
     -- ---- the theorem
 
-    abbrev Theorem : List ℕ → Type 0
-    Theorem written = GenDamagedTheorem n.start n.count n.lanes old.region_len before.bytes back (new.told ≡ old.told) status written
-
     module _ (faults : TellsFaults back status) (d : Ended) (end : IsEnd n old new d) (written : List ℕ) where
-      any_whole : written ≡ text_of n d → status ≡ status_of d → Theorem written
-      any_whole text is =
-          let z : Says status written = subst (λ s. Says s written) (sym is) (subst (Says (status_of d)) (sym text) (says d end)) in
-          record {
-            known = by z.known;
-            unsound = λ seven. (z.damaged seven).1;
-            damaged = z.damaged;
-            done = z.done;
-            memory = z.memory;
-            failed = λ six. (z.failed six).1;
-            refused = λ three. absurd (neither z.known three);
-            cut_short = λ failed. absurd (five d (sym is ∙ failed));
-            no_chain = no_chain d end written (inr (is, text));
-            faults = faults;
-          }
-        where
-          by : OneOf (0 ∷ 1 ∷ 6 ∷ 7 ∷ 8 ∷ []) status → OneOf (0 ∷ 1 ∷ 5 ∷ 6 ∷ 7 ∷ 8 ∷ []) status
-          by (inl is) = inl is
-          by (inr (inl is)) = inr (inl is)
-          by (inr (inr rest)) = inr (inr (inr rest))
+      by_whole : written ≡ text_of n d → status ≡ status_of d → GenDamagedTheorem n.start n.count n.lanes old.region_len before.bytes back (new.told ≡ old.told) status written
+      by_whole text is =
+          any_whole running old.region_len before.bytes back (new.told ≡ old.told) status written (no_chain d end written (inr (is, text))) faults
+          (subst (λ s. Said s written) (sym is) (subst (Said (status_of d)) (sym text) (says d end)))
 
-          neither : OneOf (0 ∷ 1 ∷ 6 ∷ 7 ∷ 8 ∷ []) status → (status ≡ 3) ⊎ (status ≡ 4) → ⊥
-          neither known three = grind (arith, known, three)
-
-      any_front : IsFrontOf written (text_of n d) → status ≡ 5 → Theorem written
-      any_front front is = record {
-        known = inr (inr (inl is));
-        unsound = λ e. absurd (omega (arith, is, e));
-        damaged = λ e. absurd (omega (arith, is, e));
-        done = λ e. absurd (grind (arith, is, e));
-        memory = λ e. absurd (omega (arith, is, e));
-        failed = λ e. absurd (omega (arith, is, e));
-        refused = λ e. absurd (grind (arith, is, e));
-        cut_short = λ e. (text_of n d, whole (status_of d) (text_of n d) (says d end), front);
-        no_chain = no_chain d end written (inl is);
-        faults = faults;
-      }
+      by_front : IsFrontOf written (text_of n d) → status ≡ 5 → GenDamagedTheorem n.start n.count n.lanes old.region_len before.bytes back (new.told ≡ old.told) status written
+      by_front front is =
+          any_front running old.region_len before.bytes back (new.told ≡ old.told) status written (no_chain d end written (inl is)) faults (status_of d) (text_of n d) (says d end) front (inr (inr (inl is))) is
 
 -- how a call ended tells it
 pub gens_any : (n : Numbers) (output : ℕ × ℕ) (old new : Disk) (status : ℕ) (was now : Option (List ℕ)) → (status ≡ 5 → HasRisen output.0 output.1) → old.eyes ≡ [] → Ends n old new status was now → GensAny n output old new status was now
@@ -310,11 +222,11 @@ gens_any n output old new status was now rose no_eyes en = record { holds = λ s
             × GenDamagedTheorem n.start n.count n.lanes old.region_len before.bytes (return_of old new source output before after) (new.told ≡ old.told) status written
         by (inl failed) =
             let w = wrote_front (text_of n en.ended) (status ≡ 5) was now first en.printed was_is in
-            (told.0, told.1, w.0, w.1, any_front n source output old new status was now rose before told.0 old_is told.1 faults en.ended en.is_end w.0 w.2 failed)
+            (told.0, told.1, w.0, w.1, by_front n source output old new status was now rose before told.0 old_is told.1 faults en.ended en.is_end w.0 w.2 failed)
         by (inr fine) = (
           told.0,
           told.1,
           text_of n en.ended,
           wrote_all (text_of n en.ended) (status ≡ 5) was now first en.printed (λ failed. five en.ended (sym fine ∙ failed)) was_is,
-          any_whole n source output old new status was now rose before told.0 old_is told.1 faults en.ended en.is_end (text_of n en.ended) refl fine,
+          by_whole n source output old new status was now rose before told.0 old_is told.1 faults en.ended en.is_end (text_of n en.ended) refl fine,
         )

@@ -1,6 +1,7 @@
 pub mod Chainless
 pub mod Between
 pub mod Theorem
+pub mod Saying
 pub mod Durable
 pub mod Counting
 pub mod Listing

@@ -331,12 +331,12 @@ fn a_log_reopens_to_its_chain(rt: HostRuntime) -> Result<(), Fail> {
     Ok(())
 }
 
-// Runs a script that prints this, with this status, and gives the disk after a crash.
-fn go_on<R: Threads + Wait + Sync + Abort>(
+// Does a command that prints this, with status 0, and gives the disk after a crash.
+fn obey<R: Threads + Wait + Sync + Abort>(
     rt: &R,
     alloc: Global,
+    texts: &[&str],
     script: &str,
-    status: u8,
     text: &str,
     disk: MemDisk,
 ) -> Result<MemDisk, Fail>
@@ -345,8 +345,9 @@ fn go_on<R: Threads + Wait + Sync + Abort>(
     requires no_eyes { disk.disk.eyes ≡ [] }
     ensures { IfOk result (λ disk. IsGeometry (disk.disk.regions, disk.disk.region_len) × (disk.disk.unsynced ≡ []) × (disk.disk.eyes ≡ [])) }
 {
-    let printed = run_well(rt, alloc, script, disk)?;
-    assert_eq!(rt; printed.finish.status, status);
+    let none = (Vec::new(alloc), Vec::new(alloc));
+    let printed = run(rt, alloc, texts, script, none, disk)?;
+    assert_eq!(rt; printed.finish.status, 0);
     assert_eq!(rt; printed.text.as_slice(), text.as_bytes());
     crash(printed.finish.disk, &[])
 }
@@ -355,18 +356,19 @@ fn go_on<R: Threads + Wait + Sync + Abort>(
 fn a_run_goes_on_where_the_last_one_ended(rt: HostRuntime) -> Result<(), Fail> {
     let alloc = rt.alloc();
     let disk = small(alloc, FaultPlan::none(alloc))?;
+    let texts = &["run"];
     let first = "txn 1 commit 1 epoch 1|put a|durable 1|";
-    let disk = go_on(&rt, alloc, "txn 1|put a 1|commit|", 0, first, disk)?;
+    let disk = obey(&rt, alloc, texts, "txn 1|put a 1|commit|", first, disk)?;
     let second = "txn 1 commit 1 epoch 2|put a|durable 2|";
-    let disk = go_on(&rt, alloc, "txn 1|put a 2|commit|", 0, second, disk)?;
+    let disk = obey(&rt, alloc, texts, "txn 1|put a 2|commit|", second, disk)?;
     let third = "txn 1 commit 1 epoch 3|get a = 2|durable 3|";
-    let disk = go_on(&rt, alloc, "txn 1|get a|commit|", 0, third, disk)?;
-    let disk = go_on(&rt, alloc, "", 0, "durable 3|", disk)?;
+    let disk = obey(&rt, alloc, texts, "txn 1|get a|commit|", third, disk)?;
+    let disk = obey(&rt, alloc, texts, "", "durable 3|", disk)?;
     // Three of the four regions are sealed: two of them are merged.
     let fourth = "txn 1 commit 1 epoch 4|put b|durable 4|";
-    let disk = go_on(&rt, alloc, "txn 1|put b 1|commit|", 0, fourth, disk)?;
+    let disk = obey(&rt, alloc, texts, "txn 1|put b 1|commit|", fourth, disk)?;
     let last = "txn 1 commit 1 epoch 5|get a = 2|get b = 1|durable 5|";
-    let _disk = go_on(&rt, alloc, "txn 1|get a|get b|commit|", 0, last, disk)?;
+    let _disk = obey(&rt, alloc, texts, "txn 1|get a|get b|commit|", last, disk)?;
     Ok(())
 }
 
@@ -449,27 +451,6 @@ fn a_crash_at_any_call_leaves_a_prefix(rt: HostRuntime) -> Result<(), Fail> {
         }
     }
     Ok(())
-}
-
-// Does a command that prints this, with this status, and gives the disk after a crash.
-fn obey<R: Threads + Wait + Sync + Abort>(
-    rt: &R,
-    alloc: Global,
-    texts: &[&str],
-    script: &str,
-    text: &str,
-    disk: MemDisk,
-) -> Result<MemDisk, Fail>
-    requires geometry { IsGeometry (disk.disk.regions, disk.disk.region_len) }
-    requires synced { disk.disk.unsynced ≡ [] }
-    requires no_eyes { disk.disk.eyes ≡ [] }
-    ensures { IfOk result (λ disk. IsGeometry (disk.disk.regions, disk.disk.region_len) × (disk.disk.unsynced ≡ []) × (disk.disk.eyes ≡ [])) }
-{
-    let none = (Vec::new(alloc), Vec::new(alloc));
-    let printed = run(rt, alloc, texts, script, none, disk)?;
-    assert_eq!(rt; printed.finish.status, 0);
-    assert_eq!(rt; printed.text.as_slice(), text.as_bytes());
-    crash(printed.finish.disk, &[])
 }
 
 #[test]

@@ -1,11 +1,8 @@
 -- What merging leaves of a disk: where its log was not opened, and behind the room that was made on it.
-use Rattle.std.proofs.Common.{◌≡◌, ◌∙◌, ℕ, true, List, [], length, map, inl, inr, Option, Some, None, Result, Ok, Err, refl, sym, ap, subst, arith}
-use Rattle.std.specs.Prelude.{Contains, IsPermutation, IfSome, option_map}
-use Rattle.std.specs.List.{list_all}
-use Rattle.std.proofs.lemmas.List.{length-map, nil_from_length}
+use Rattle.std.proofs.Common.{◌≡◌, ◌∙◌, ℕ, List, [], inl, inr, Option, Some, None, Result, Ok, Err, refl, sym, ap, subst, arith}
+use Rattle.std.specs.Prelude.{Contains, IfSome, option_map}
 use Rattle.std.proofs.lemmas.List.Elements.{All-contains, All-from_recursion}
-use Rattle.std.proofs.lemmas.List.Sorted.{length_permutation}
-use Rattle.log_disk.specs.Disk.{BothTold, Disk, IsImageSince, IsSound as IsSoundDisk, IsToldOf, OnlyFails, OpenEye, Told, clock_of}
+use Rattle.log_disk.specs.Disk.{BothTold, Disk, IsImageSince, IsSound as IsSoundDisk, IsToldOf, OnlyFails, Told, clock_of}
 use Rattle.log_disk.specs.Moments.{Continues, ContinuesOn}
 use Rattle.log_disk.proofs.Moments.{only_now}
 use Rattle.log_disk.proofs.Steps.{all_synced}
@@ -17,7 +14,6 @@ use Rattle.fine_model.specs.declared.Row.{Row}
 use Rattle.fine_model.specs.declared.RunFault.{RunFault}
 use Rattle.fine_model.specs.declared.RunFault.TheVariants as run_fault
 use Rattle.fine_model.specs.declared.law.RoomState.{RoomState}
-use Rattle.fine_model.specs.Boards.{held_of, is_empty, named}
 use Rattle.fine_model.specs.Chain.{Shows, chain, regions_of}
 use Rattle.fine_model.specs.Nodes.{Agrees}
 use Rattle.fine_model.specs.Regions.{Image}
@@ -29,13 +25,13 @@ use Rattle.damage_laws.specs.Places.{IsUnchanged}
 use Rattle.epoch_room.specs.Meaning.{Stands, StandsAtFirst}
 use Rattle.epoch_room.specs.Steps.{KeepsCounts}
 use Rattle.epoch_room.specs.Value.{RoomValue, made}
-use Rattle.epoch_room.specs.Whole.{IsIdle, IsWhole}
-use Rattle.epoch_room.proofs.Seating.{empty_posted}
+use Rattle.epoch_room.specs.Whole.{IsIdle}
 use Rattle.epoch_room.proofs.Standing.{nothing_more}
 use Rattle.reopen.specs.Opening.{OpensRoom, TellsDamage}
 use Rattle.reopen.specs.declared.fault.OpenFault.{OpenFault}
 use Rattle.reopen.specs.declared.fault.OpenFault.TheVariants as fault
 use Rattle.room_shelf.proofs.Loading.{log_law}
+use Rattle.run_laws.proofs.NoEyes.{no_eyes}
 use Rattle.run_laws.proofs.Runs.{told_of}
 use Rattle.room_steps.proofs.JoinedMade.{own_made}
 use Rattle.log_commands.specs.Ends.{Ends}
@@ -117,17 +113,6 @@ chain_headers region_len image parts is p there =
 
     all : List Part
     all = c.all
-
--- no eye is open on the disk of a room with an empty board
-pub no_eyes : (room : RoomValue) → IsWhole room → list_all is_empty room.room.board ≡ true → room.disk.eyes ≡ []
-no_eyes room whole board = nil_from_length room.disk.eyes (sym (long room.disk.eyes) ∙ none)
-  where
-    long : (eyes : List OpenEye) → length (map named (map (λ (eye : OpenEye). (eye.number, eye.regions)) eyes)) ≡ length eyes
-    long eyes = length-map (map (λ (eye : OpenEye). (eye.number, eye.regions)) eyes) named ∙ length-map eyes (λ (eye : OpenEye). (eye.number, eye.regions))
-
-    none : length (map named (map (λ (eye : OpenEye). (eye.number, eye.regions)) room.disk.eyes)) ≡ 0
-    none = ap (λ (x : RoomState). length (map named x.eyes)) (sym whole.of_disk)
-        ∙ sym (length_permutation (map named room.room.eyes) (map held_of []) (subst (λ held. IsPermutation (map named room.room.eyes) (map held_of held)) (empty_posted room.room.board board) whole.board.eyes))
 
 module _ (old : Disk) (room : RoomValue) (opens : OpensRoom old room) (first : StandsAtFirst room old.told) (new : RoomValue) (goes : GoesOn room new) where
   of_made : {A : Type 0} (f : RoomValue → A) → f room ≡ f (made old opens.found.parts opens.found.retired)

@@ -22,7 +22,7 @@ fn of_room(fault: RoomFault) -> RunFault
 }
 
 /// The fault that a command tells. A bad row or index entry is damage of its region.
-fn of_fetch(fault: FetchFault) -> RunFault
+pub fn of_fetch(fault: FetchFault) -> RunFault
     ensures { result ≡ of_fetch fault }
 {
     match fault {

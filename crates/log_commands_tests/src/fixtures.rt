@@ -66,24 +66,16 @@ fn fill(disk: &mut MemDisk, parts: &[Shown; 5]) -> Result<(), Fail>
     Ok(())
 }
 
-fn sync(disk: MemDisk) -> Result<MemDisk, Fail>
-    requires { (disk.disk.regions ≡ 8) × (disk.disk.region_len ≡ 16384) × (disk.disk.eyes ≡ []) }
-    ensures { IfOk result (λ idle. IsIdle idle.disk) }
-{
-    let mut disk = disk;
-    match disk.sync() {
-        Ok(()) => Ok(disk),
-        Err(_failed) => Err("sync")?,
-    }
-}
-
 /// A disk of eight regions with these in the first five, whose calls fail by a plan. Filling it takes five writes and a sync.
 pub fn disk_of(alloc: Global, parts: &[Shown; 5], plan: FaultPlan) -> Result<MemDisk, Fail>
     ensures { IfOk result (λ idle. IsIdle idle.disk) }
 {
     let mut disk = MemDisk::new(alloc, 8, 16384, plan)?;
     fill(&mut disk, parts)?;
-    sync(disk)
+    match disk.sync() {
+        Ok(()) => Ok(disk),
+        Err(_failed) => Err("sync")?,
+    }
 }
 
 /// A plan by which each call of the disk fails from a number on.

@@ -23,9 +23,9 @@ use Rattle.reopen.specs.declared.fault.OpenFault.{OpenFault}
 use Rattle.reopen.specs.declared.fault.OpenFault.TheVariants as fault
 use Rattle.room_shelf.specs.Shelves.{IsCountOf}
 use Rattle.run_laws.specs.Law.{return_of}
+use Rattle.run_laws.proofs.NoEyes.{no_eyes}
 use Rattle.log_commands.specs.Ends.{status_of}
 use Rattle.log_commands.specs.Found.{open_fault}
-use Rattle.log_commands.proofs.Logs.{no_eyes}
 use Rattle.log_commands.proofs.Printed.{printed, risen_by}
 use Rattle.map_reader.specs.Dumps.{DumpsAny, DumpsWell, Ends, EndsRoom, FindsDump, HasNoChain, IsUnsoundLog, LeavesBeside, Prints, ReadsLog}
 use Rattle.map_reader.proofs.Found.{finds_pairs, is_chain, is_damage, shown_told, shows_none}

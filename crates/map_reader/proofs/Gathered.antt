@@ -7,7 +7,6 @@ use Rattle.std.proofs.lemmas.Cmp.{nat_list_cmp_total, on_total}
 use Rattle.std.proofs.lemmas.List.MinMax.{ranks_by}
 use Rattle.std.proofs.lemmas.Bool.{cases_eq, ltb-false}
 use Rattle.std.proofs.lemmas.Grind.{flat_map-append}
-use Rattle.std.proofs.lemmas.Slice.Eq.{bytes_eq-Decides}
 use Rattle.std.proofs.lemmas.List.Folds.{flat_map-map}
 use Rattle.std.proofs.lemmas.List.FromFn.{map-range_with_len_more}
 use Rattle.std.proofs.lemmas.List.Sums.{sum_by-cons, sum_by-append}
@@ -20,10 +19,10 @@ use Rattle.fine_model.specs.Map.{Pair, from_pairs, is_below}
 use Rattle.fine_model.specs.Nodes.{Content, content, replay}
 use Rattle.fine_model.specs.ScanLaws.{IsSorted, KeysAscend, times_of}
 use Rattle.fine_model.specs.Trees.{IsSound, IsSubtree, bucket_of, is_distinct, map_of, nodes_of, pairs_from, reached, tree_map}
-use Rattle.fine_model.proofs.Gathered.{above_none, all_above, count, order_law}
-use Rattle.fine_model.proofs.KeptPairs.{kept_all}
+use Rattle.fine_model.proofs.Gathered.{count, order_law}
+use Rattle.fine_model.proofs.KeptPairs.{absent, kept_all, once_ascending}
 use Rattle.fine_model.proofs.Order.{all_map}
-use Rattle.fine_model.proofs.Sets.{all_append, ascending-tail}
+use Rattle.fine_model.proofs.Sets.{all_append}
 use Rattle.node_cache.specs.Given.{Finds}
 use Rattle.btree_nodes.specs.declared.fault.TreeFault.{TreeFault}
 use Rattle.btree_nodes.specs.declared.fault.TreeFault.TheVariants.{Source, Unfit, BucketFull, Number, NoMemory}
@@ -34,29 +33,6 @@ pub pairs_ranked : IsStrictWeakOrder (λ (a b : Pair). is_below a.0 b.0)
 pairs_ranked = ranks_by (on_total (λ (p : Pair). p.0) nat_list_cmp_total) (λ (r : Pair). r)
 
 -- ---- keys that stand once
-
-once_ascending : (pairs : List Pair) → KeysAscend pairs → (key : List ℕ) → times_of key pairs ≤ 1
-once_ascending [] up key = omega arith
-once_ascending (p ∷ pairs) up key = by (bytes_eq p.0 key) refl (once_ascending pairs (ascending-tail p pairs up) key)
-  where
-    by : (b : Bool) → bytes_eq p.0 key ≡ b → times_of key pairs ≤ 1 → times_of key (p ∷ pairs) ≤ 1
-    by true e rest =
-        let c = sum_by-cons (λ p. count (bytes_eq p.0 key)) p pairs in
-        let one : count (bytes_eq p.0 key) ≡ 1 = ap count e in
-        let none : times_of key pairs ≡ 0 = ap (λ k. times_of k pairs) (sym ((bytes_eq-Decides p.0 key).0 e)) ∙ above_none p.0 pairs (all_above p pairs up) in omega (arith, c, one, none)
-    by false e rest =
-        let c = sum_by-cons (λ p. count (bytes_eq p.0 key)) p pairs in
-        let one : count (bytes_eq p.0 key) ≡ 0 = ap count e in omega (arith, c, one, rest)
-
--- a key of another bucket does not stand among pairs of one
-none_here : (key : List ℕ) (pairs : List Pair) → AllByRecursion (λ p. p.0 ≢ key) pairs → times_of key pairs ≡ 0
-none_here key [] others = refl
-none_here key (p ∷ pairs) others =
-    let c = sum_by-cons (λ p. count (bytes_eq p.0 key)) p pairs in let z = by (bytes_eq p.0 key) refl in let rest = none_here key pairs others.1 in omega (arith, c, z, rest)
-  where
-    by : (b : Bool) → bytes_eq p.0 key ≡ b → count (bytes_eq p.0 key) ≡ 0
-    by false e = ap count e
-    by true e = absurd (others.0 ((bytes_eq-Decides p.0 key).0 e))
 
 -- pairs of the buckets below a number, of which no key stands twice
 pub record AreOnce (next : ℕ) (pairs : List Pair) : Type 0 where
@@ -73,10 +49,10 @@ once_more next pairs own o up here = record {
     by : (key : List ℕ) → (bucket_of key ≡ next) ⊎ (bucket_of key ≢ next) → times_of key (pairs ++ own) ≤ 1
     by key (inl same) =
         let a = sum_by-append (λ p. count (bytes_eq p.0 key)) pairs own in let u = once_ascending own up key in
-        let none = none_here key pairs (all_map (λ p. bucket_of p.0 < next) (λ p. p.0 ≢ key) (λ p h e. let s = ap bucket_of e in absurd (omega (arith, h, s, same))) pairs o.below) in omega (arith, a, u, none)
+        let none = absent key pairs (all_map (λ p. bucket_of p.0 < next) (λ p. p.0 ≢ key) (λ p h e. let s = ap bucket_of e in absurd (omega (arith, h, s, same))) pairs o.below) in omega (arith, a, u, none)
     by key (inr other) =
         let a = sum_by-append (λ p. count (bytes_eq p.0 key)) pairs own in let u = o.once key in
-        let none = none_here key own (all_map (λ p. bucket_of p.0 ≡ next) (λ p. p.0 ≢ key) (λ p h e. other (sym (ap bucket_of e) ∙ h)) own here) in omega (arith, a, u, none)
+        let none = absent key own (all_map (λ p. bucket_of p.0 ≡ next) (λ p. p.0 ≢ key) (λ p h e. other (sym (ap bucket_of e) ∙ h)) own here) in omega (arith, a, u, none)
 
 -- ---- sorted
 

@@ -2,26 +2,10 @@
 
 ghost use Rattle.std.specs.Prelude.{◌≡◌};
 ghost use Rattle.map_reader.specs.Maps.{of_tree};
-ghost use Rattle.room_steps.specs.Merging.{of_fetch};
 
 use btree_nodes::TreeFault;
-use fine_model::{Damage, FetchFault, RunFault};
-
-/// What a fault of a load is told as.
-pub(crate) fn of_fetch(fault: FetchFault) -> RunFault
-    ensures { result ≡ of_fetch fault }
-{
-    match fault {
-        FetchFault::Failed => RunFault::Disk,
-        FetchFault::NoMemory => RunFault::Memory,
-        FetchFault::BadRow { region, at } => RunFault::Damaged {
-            what: Damage::Region { region, at },
-        },
-        FetchFault::BadIndex { region, at } => RunFault::Damaged {
-            what: Damage::Region { region, at },
-        },
-    }
-}
+use fine_model::{Damage, RunFault};
+use log_commands::of_fetch;
 
 /// What a fault of a scan is told as.
 pub(crate) fn of_tree(fault: TreeFault) -> RunFault

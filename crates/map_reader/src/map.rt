@@ -7,11 +7,12 @@ ghost use Rattle.fine_model.specs.Boards.{is_empty};
 ghost use Rattle.fine_model.specs.Trees.{IsSound};
 ghost use Rattle.map_reader.specs.Maps.{AnswersRows, ReadsMap, tells_room, told_as};
 
-use crate::faults::{of_fetch, of_tree};
+use crate::faults::of_tree;
 use crate::gathering::read_all;
 use btree_nodes::TreeFault;
 use epoch_room::Room;
 use fine_model::{Pairs, RunFault};
+use log_commands::of_fetch;
 use log_disk::LogDisk;
 use room_shelf::{rest, view_of};
 use std::alloc::Global;

@@ -46,22 +46,14 @@ fn write(disk: &mut MemDisk, change: Change) -> Result<(), Fail>
     Ok(())
 }
 
-fn sync(disk: MemDisk) -> Result<MemDisk, Fail>
-    requires { (disk.disk.regions ≡ 4) × (disk.disk.region_len ≡ 16384) × (disk.disk.eyes ≡ []) }
-    ensures { IfOk result (λ idle. IsIdle idle.disk) }
-{
-    let mut disk = disk;
-    match disk.sync() {
-        Ok(()) => Ok(disk),
-        Err(_failed) => Err("sync")?,
-    }
-}
-
 /// A disk with the log, whose calls fail by a plan. Filling it takes two writes and a sync, and no read.
 pub fn disk_of(alloc: Global, change: Change, plan: FaultPlan) -> Result<MemDisk, Fail>
     ensures { IfOk result (λ idle. IsIdle idle.disk) }
 {
     let mut disk = MemDisk::new(alloc, 4, 16384, plan)?;
     write(&mut disk, change)?;
-    sync(disk)
+    match disk.sync() {
+        Ok(()) => Ok(disk),
+        Err(_failed) => Err("sync")?,
+    }
 }

@@ -1,21 +1,14 @@
 -- The loop over touched buckets at the end of a transaction.
-use Rattle.std.proofs.Common.{◌≡◌, ◌≢◌, ◌⊎◌, ⊎_elim, inl, inr, ℕ, zero, suc, ◌<◌, Bool, true, false, true≢false, List, length, replicate, get_or, slice_get, slice_set, Option, Some, refl, sym, ap, ◌∙◌, subst, arith}
+use Rattle.std.proofs.Common.{◌≡◌, ◌≢◌, ◌⊎◌, ⊎_elim, ℕ, zero, suc, ◌<◌, Bool, true, false, true≢false, List, length, replicate, get_or, slice_get, slice_set, Option, Some, refl, sym, ap, ◌∙◌, subst, arith}
 use Rattle.std.specs.Prelude.{if◌then◌else◌}
-use native.Mathlib.Decide.{ℕ_discrete}
 use Rattle.std.proofs.lemmas.List.{length-set, length-replicate}
 use Rattle.std.proofs.lemmas.Option.{get_or_from_slice_get, slice_get-get_or, slice_get_within}
 use Rattle.node_cache.specs.Cache.{Cache}
+use Rattle.btree_nodes.proofs.Loads.{same_or_not}
 use Rattle.open_txn.specs.Buckets.{none_touched}
 use Rattle.open_txn.specs.Endings.{EndEach}
 use Rattle.open_txn.specs.Touched.{Clears}
 use Rattle.open_txn.proofs.Places.{get_else, get_same, some_same}
-
-decide : (a b : ℕ) → (a ≡ b) ⊎ (a ≢ b)
-decide a b = go (ℕ_discrete a b)
-  where
-    go : Dec (a ≡ b) → (a ≡ b) ⊎ (a ≢ b)
-    go (yes e) = inl e
-    go (no n) = inr n
 
 not_both : (o : Option Bool) → o ≡ Some true → o ≡ Some false → ⊥
 not_both o e f = true≢false (some_same true false (sym e ∙ f))
@@ -48,13 +41,13 @@ module _ (f : Cache → Cache) (Left : Cache → Cache → Type 0) (touched : Li
   one_ended now now' mid new j d z so_far c is made left = record {
     many = ap length is ∙ length-set mid j z ∙ so_far.many;
     flags = ap length c.cleared ∙ length-set now j false ∙ so_far.flags;
-    clear = λ k e. ⊎_elim (λ (s : k ≡ j). cleared_at k s) (λ (o : k ≢ j). flag_else k o ∙ so_far.clear k e) (decide k j);
+    clear = λ k e. ⊎_elim (λ (s : k ≡ j). cleared_at k s) (λ (o : k ≢ j). flag_else k o ∙ so_far.clear k e) (same_or_not k j);
     stays = λ k b t at flag flag'. ⊎_elim
         (λ (s : k ≡ j).
         let off : t ≡ false = some_same t false (sym flag' ∙ cleared_at k s) in
         absurd (not_both (slice_get now k) (was_at k s) (so_far.clear k (flag ∙ ap Some off))))
         (λ (o : k ≢ j). else_at k o ∙ so_far.stays k b t at flag (sym (flag_else k o) ∙ flag'))
-        (decide k j);
+        (same_or_not k j);
     done = λ k b at set clear. ⊎_elim
         (λ (s : k ≡ j).
         let there : slice_get mid j ≡ Some b = ap (slice_get mid) (sym s) ∙ so_far.stays k b true at set (was_at k s) in
@@ -63,7 +56,7 @@ module _ (f : Cache → Cache) (Left : Cache → Cache → Type 0) (touched : Li
           subst (Left b) (made ∙ ap f same) (subst (λ x. Left x z) same left),
         ))
         (λ (o : k ≢ j). let r = so_far.done k b at set (sym (flag_else k o) ∙ clear) in (else_at k o ∙ r.0, r.1))
-        (decide k j);
+        (same_or_not k j);
   }
     where
       cleared_at : (k : ℕ) → k ≡ j → slice_get now' k ≡ Some false

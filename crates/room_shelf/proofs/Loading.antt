@@ -17,7 +17,6 @@ use Rattle.log_disk.specs.Disk.{IsToldOf, Told}
 use Rattle.log_disk.specs.Moments.{IsLeft}
 use Rattle.node_fetch.specs.Fetched.{HasBadEntry, HasBadRow}
 use Rattle.partition_hold.specs.Sources as source
-use Rattle.partition_hold.specs.Sources.{tells_rows}
 use Rattle.partition_hold.specs.Views.{ViewValue, opened}
 use Rattle.epoch_room.specs.Meaning.{Stands, StandsTold, StandsWhere}
 use Rattle.epoch_room.specs.Value.{RoomValue}
@@ -75,18 +74,6 @@ module _ (old : RoomValue) (out : Option ViewValue) (new : RoomValue) (view read
   grows : total (shelf new (Some view)) ≤ total (shelf new (Some read))
   grows = let low = later.no_lower in omega (arith, low)
 
-  is_later : IsLater (shelf old out) (shelf new (Some read))
-  is_later = record {
-    room = has.later.room;
-    target = has.later.target;
-    entry = has.later.entry;
-    told = has.later.told;
-    regions = has.later.regions;
-    region_len = has.later.region_len;
-    stands = has.later.stands;
-    becomes = has.later.becomes;
-  }
-
   clean : source.IsClean view read → IsClean (shelf old out) (shelf new (Some read))
   clean same = record { count = ap (λ n. new.disk.faults + n) same ∙ has.clean.count; own = has.clean.own; shut = has.clean.shut }
 
@@ -140,10 +127,10 @@ module _ (old : RoomValue) (out : Option ViewValue) (new : RoomValue) (view read
 
 pub reads_law : ReadsLaw
 reads_law old out new view read has later = record {
-  has = λ same. record { is_out = is_out old out new view read has later; sees = sees old out new view read has later; later = is_later old out new view read has later; clean = clean old out new view read has later same };
+  has = λ same. record { is_out = is_out old out new view read has later; sees = sees old out new view read has later; later = has.later; clean = clean old out new view read has later same };
   is_out = is_out old out new view read has later;
   sees = sees old out new view read has later;
-  later = is_later old out new view read has later;
+  later = has.later;
   no_lower = let e = has.clean.count in let g = grows old out new view read has later in omega (arith, e, g);
   own = has.clean.own;
   shut = has.clean.shut;

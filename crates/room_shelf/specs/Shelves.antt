@@ -71,16 +71,20 @@ total s = s.room.disk.faults + count_of s.view
 abbrev pub seen_as : RoomState → RoomState → RoomState
 seen_as room other = record room { board = other.board; is_shut = other.is_shut; lost = other.lost; eyes = other.eyes; given = other.given; faults = other.faults; own_faults = other.own_faults }
 
--- A shelf some loads later: the log, the open epoch and the merge that is out are as they were, and so is what the disk tells.
-pub record IsLater (old new : ShelfValue) : Type 0 where
-  pub room : new.room.room ≡ seen_as old.room.room new.room.room
-  pub target : new.room.target ≡ old.room.target
-  pub entry : new.room.entry ≡ old.room.entry
-  pub told : new.room.disk.told ≡ old.room.disk.told
-  pub regions : new.room.disk.regions ≡ old.room.disk.regions
-  pub region_len : new.room.disk.region_len ≡ old.room.disk.region_len
-  pub stands : GoesOnStanding old.room new.room
-  pub becomes : Becomes old.room.room new.room.room
+-- A room some loads later: the log, the open epoch and the merge that is out are as they were, and so is what the disk tells.
+pub record IsRoomLater (old new : RoomValue) : Type 0 where
+  pub room : new.room ≡ seen_as old.room new.room
+  pub target : new.target ≡ old.target
+  pub entry : new.entry ≡ old.entry
+  pub told : new.disk.told ≡ old.disk.told
+  pub regions : new.disk.regions ≡ old.disk.regions
+  pub region_len : new.disk.region_len ≡ old.disk.region_len
+  pub stands : GoesOnStanding old new
+  pub becomes : Becomes old.room new.room
+
+-- so is its shelf then, whatever view is out
+abbrev pub IsLater : ShelfValue → ShelfValue → Type 0
+IsLater old new = IsRoomLater old.room new.room
 
 -- and none of these loads failed
 pub record IsClean (old new : ShelfValue) : Type 0 where

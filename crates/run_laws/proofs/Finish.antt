@@ -1,11 +1,10 @@
 -- That the body on one thread gives a run.
-use Rattle.std.proofs.Common.{◌≡◌, ◌⊎◌, inl, inr, ⊎_elim, ℕ, zero, suc, ◌+◌, ◌-◌, ◌≤◌, ◌==◌, Bool, true, false, List, [], ◌∷◌, ◌++◌, length, map, refl, sym, ap, ◌∙◌, subst, Option, Some, None, le_refl, arith}
-use Rattle.std.specs.Prelude.{Contains, IsPermutation, option_map, take, replicate}
+use Rattle.std.proofs.Common.{◌≡◌, ◌⊎◌, inl, inr, ⊎_elim, ℕ, zero, suc, ◌+◌, ◌-◌, ◌≤◌, ◌==◌, Bool, true, false, List, [], ◌∷◌, ◌++◌, length, refl, sym, ap, ◌∙◌, subst, Option, Some, None, le_refl, arith}
+use Rattle.std.specs.Prelude.{Contains, option_map, take, replicate}
 use Rattle.std.specs.List.{AllByRecursion}
-use Rattle.std.proofs.lemmas.List.{append-nil, take_all, length-map, nil_from_length}
-use Rattle.std.proofs.lemmas.List.Sorted.{length_permutation}
+use Rattle.std.proofs.lemmas.List.{append-nil, take_all}
 use Rattle.std.proofs.lemmas.List.Sums.{length-filter}
-use Rattle.log_disk.specs.Disk.{OpenEye, Told}
+use Rattle.log_disk.specs.Disk.{Told}
 use Rattle.fine_model.specs.declared.Options.{Options}
 use Rattle.fine_model.specs.declared.Outcome.{Outcome}
 use Rattle.fine_model.specs.declared.Outcome.TheVariants as outcome
@@ -15,7 +14,7 @@ use Rattle.fine_model.specs.declared.RunFault.TheVariants as run_fault
 use Rattle.fine_model.specs.declared.ScriptTxn.{ScriptTxn}
 use Rattle.fine_model.specs.declared.law.Origin.{Origin}
 use Rattle.fine_model.specs.declared.law.RoomState.{RoomState}
-use Rattle.fine_model.specs.Boards.{held_of, named}
+use Rattle.fine_model.specs.Boards.{named}
 use Rattle.fine_model.specs.Buckets.{Began}
 use Rattle.fine_model.specs.Causes.{HaveCauses}
 use Rattle.fine_model.specs.Faults.{HasRisen, last_count}
@@ -25,7 +24,6 @@ use Rattle.fine_model.specs.Report.{all_outcomes}
 use Rattle.fine_model.proofs.Epochs.{all_sealed}
 use Rattle.epoch_room.specs.Meaning.{Stands, StandsTold, origin_of}
 use Rattle.epoch_room.specs.Value.{RoomValue}
-use Rattle.epoch_room.proofs.Seating.{empty_posted}
 use Rattle.run_laws.specs.Lanes.{CutShort, HaveEnded, IsSoonest, first_fault, lanes_failed, rank}
 use Rattle.run_laws.specs.Runs.{IsReady, IsToSeal, Names, OfSound, OwnRose, RunsBy, RunsScript}
 use Rattle.run_laws.specs.SoFar.{Finished, FinishedLaw}
@@ -33,6 +31,7 @@ use Rattle.run_laws.specs.Turns.{commits_of}
 use Rattle.run_laws.proofs.Caused.{causes_law}
 use Rattle.run_laws.proofs.CutShort.{cut_short_law}
 use Rattle.run_laws.proofs.Runs.{image_told, told_of}
+use Rattle.run_laws.proofs.NoEyes.{no_eyes}
 use Rattle.run_laws.proofs.Soonest.{is_soonest}
 use Rattle.run_laws.proofs.Turns.{in_turn_law}
 
@@ -131,16 +130,6 @@ module _ (names : Names) (script : List ScriptTxn) (options : Options) (entry ro
       (causes_law script done room.room after.bytes first e f.so_far.numbered (f.refused first e began stands) s.stands.counts.epochs s.stands.counts.sealed f.goes_on.waiting
       (image_is ∙ ap (option_map (λ (t : Told). t.bytes)) last) s.stands.live)
 
-  no_eyes : room.disk.eyes ≡ []
-  no_eyes = nil_from_length room.disk.eyes (sym (long room.disk.eyes) ∙ none)
-    where
-      long : (eyes : List OpenEye) → length (map named (map (λ (eye : OpenEye). (eye.number, eye.regions)) eyes)) ≡ length eyes
-      long eyes = length-map (map (λ (eye : OpenEye). (eye.number, eye.regions)) eyes) named ∙ length-map eyes (λ (eye : OpenEye). (eye.number, eye.regions))
-
-      none : length (map named (map (λ (eye : OpenEye). (eye.number, eye.regions)) room.disk.eyes)) ≡ 0
-      none = ap (λ (x : RoomState). length (map named x.eyes)) (sym f.goes_on.whole.of_disk)
-          ∙ sym (length_permutation (map named room.room.eyes) (map held_of []) (subst (λ held. IsPermutation (map named room.room.eyes) (map held_of held)) (empty_posted room.room.board f.board) f.goes_on.whole.board.eyes))
-
   -- a room that is shut is told, and was shut by a failure of the disk's own
   own_rose : room.room.is_shut ≡ true → OwnRose entry room
   unfolding origin_of
@@ -192,7 +181,7 @@ module _ (names : Names) (script : List ScriptTxn) (options : Options) (entry ro
       waiting = f.goes_on.waiting;
       stands = f.goes_on.stands;
       whole = f.goes_on.whole;
-      beside = record { regions = f.goes_on.regions; region_len = f.goes_on.region_len; no_eyes = no_eyes; board = f.board; no_job = f.goes_on.no_job; origin = ap origin_of f.goes_on.same_entry };
+      beside = record { regions = f.goes_on.regions; region_len = f.goes_on.region_len; no_eyes = no_eyes room f.goes_on.whole f.board; board = f.board; no_job = f.goes_on.no_job; origin = ap origin_of f.goes_on.same_entry };
     };
     outcomes = subst (λ os. AreOutcomes script entry.room.sealed os history) (sym as_told) outcomes;
     each_told = inl f.so_far.count;

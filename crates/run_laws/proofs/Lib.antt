@@ -6,6 +6,7 @@ pub mod Few
 pub mod Finish
 pub mod Going
 pub mod Needs
+pub mod NoEyes
 pub mod Nothing
 pub mod Readings
 pub mod Runs

@@ -1,10 +1,7 @@
 -- That a run of nothing leaves a room as it is.
-use Rattle.std.proofs.Common.{◌≡◌, ◌⊎◌, inl, inr, ℕ, zero, suc, ◌+◌, ◌-◌, List, [], ◌∷◌, length, map, refl, sym, ap, ◌∙◌, subst, Option, Some, None, le_refl, arith}
-use Rattle.std.specs.Prelude.{replicate, slice_get, IsPermutation}
+use Rattle.std.proofs.Common.{◌≡◌, ◌⊎◌, inl, inr, ℕ, zero, suc, ◌+◌, ◌-◌, List, [], ◌∷◌, length, refl, sym, ap, subst, Option, Some, None, le_refl, arith}
+use Rattle.std.specs.Prelude.{replicate, slice_get}
 use Rattle.std.specs.List.{AllZip}
-use Rattle.std.proofs.lemmas.List.{length-map, nil_from_length}
-use Rattle.std.proofs.lemmas.List.Sorted.{length_permutation}
-use Rattle.log_disk.specs.Disk.{OpenEye}
 use Rattle.fine_model.specs.declared.Outcome.{Outcome}
 use Rattle.fine_model.specs.declared.Outcome.TheVariants as outcome
 use Rattle.fine_model.specs.declared.Options.{Options}
@@ -12,15 +9,13 @@ use Rattle.fine_model.specs.declared.RunFault.{RunFault}
 use Rattle.fine_model.specs.declared.RunFault.TheVariants as run_fault
 use Rattle.fine_model.specs.declared.ScriptTxn.{ScriptTxn}
 use Rattle.fine_model.specs.declared.Why.{Why}
-use Rattle.fine_model.specs.declared.law.RoomState.{RoomState}
-use Rattle.fine_model.specs.Boards.{held_of, named}
 use Rattle.fine_model.specs.History.{Commit}
 use Rattle.fine_model.specs.Outcomes.{AllRun, AreOutcomes, IsCommittedAt, IsOutcomeOf}
 use Rattle.fine_model.specs.Report.{all_outcomes}
 use Rattle.epoch_room.specs.Value.{RoomValue}
-use Rattle.epoch_room.proofs.Seating.{empty_posted}
 use Rattle.run_laws.specs.Law.{NothingLaw, nothing_ran}
 use Rattle.run_laws.specs.Runs.{IsNotBegun, IsReady, RunsLanes, RunsScript}
+use Rattle.run_laws.proofs.NoEyes.{no_eyes}
 
 -- ---- outcomes of which none was run
 
@@ -65,18 +60,6 @@ are_none script e = record {
   last_ones = λ i j order is. let (before, a, b, is_a, is_b, same) = order in stands_at script j b is_b;
 }
 
--- ---- the room
-
-no_eyes : (room : RoomValue) → IsReady room → room.disk.eyes ≡ []
-no_eyes room ready = nil_from_length room.disk.eyes (sym (length_map room.disk.eyes) ∙ none)
-  where
-    length_map : (eyes : List OpenEye) → length (map named (map (λ (eye : OpenEye). (eye.number, eye.regions)) eyes)) ≡ length eyes
-    length_map eyes = length-map (map (λ (eye : OpenEye). (eye.number, eye.regions)) eyes) named ∙ length-map eyes (λ (eye : OpenEye). (eye.number, eye.regions))
-
-    none : length (map named (map (λ (eye : OpenEye). (eye.number, eye.regions)) room.disk.eyes)) ≡ 0
-    none = ap (λ (x : RoomState). length (map named x.eyes)) (sym ready.whole.of_disk)
-        ∙ sym (length_permutation (map named room.room.eyes) (map held_of []) (subst (λ held. IsPermutation (map named room.room.eyes) (map held_of held)) (empty_posted room.room.board ready.board) ready.whole.board.eyes))
-
 -- ---- both runs
 
 module _ (script : List ScriptTxn) (options : Options) (room : RoomValue) (ready : IsReady room) (fault : Option RunFault)
@@ -92,7 +75,7 @@ module _ (script : List ScriptTxn) (options : Options) (room : RoomValue) (ready
       waiting = ready.none_waits;
       stands = λ first e began stands. stands;
       whole = ready.whole;
-      beside = record { regions = refl; region_len = refl; no_eyes = no_eyes room ready; board = ready.board; no_job = ready.no_job; origin = refl };
+      beside = record { regions = refl; region_len = refl; no_eyes = no_eyes room ready.whole ready.board; board = ready.board; no_job = ready.no_job; origin = refl };
     };
     outcomes = subst (λ os. AreOutcomes script room.room.sealed os []) (none_told script) (are_none script room.room.sealed);
     each_told = told;

@@ -22,7 +22,7 @@ use Rattle.room_shelf.specs.Shelves.{IsCountOf}
 use Rattle.run_laws.specs.Lanes.{lanes_failed}
 use Rattle.run_laws.specs.Runs.{IsReady, Names, OwnRose}
 use Rattle.run_laws.specs.SoFar.{AreTold, GoesOn}
-use Rattle.run_laws.specs.Told.{DamageLasts, DamageStays, MoreBeside, MoreByLane, NamedMore, NamedNext, ToldMore, ToldOne, ToldStays}
+use Rattle.run_laws.specs.Told.{DamageLasts, DamageStays, MoreBeside, MoreByLane, NamedMore, NamedNext, TellsMore, ToldMore, ToldOne, ToldStays}
 use Rattle.run_laws.proofs.Steps.{kept}
 
 -- ---- one fault more
@@ -175,6 +175,10 @@ module _ (entry old new : RoomValue) (count now : ℕ) (ended after told more : 
   by_disk few low own rose (inr (inl h)) = inr (one_more_failed (lanes_failed after) (lanes_failed ended) entry.disk.faults count now few h rose)
   by_disk few low own rose (inr (inr h)) = inr (inr (omega (arith, low, h)))
 
+  -- what is told beside the one that was added was told before
+  other_told : (it : RunFault) → TellsMore told more it → (other : RunFault) → (other ≡ it → ⊥) → Contains more (Some other) → Contains told (Some other)
+  other_told it adds other not there = ⊎_elim (λ h. h) (λ e. absurd (not e)) (adds.only other there)
+
   told_more_by : (fault : RunFault) → ToldOne entry old new count now ended after told more history fault → AreTold entry new now after more
   told_more_by run_fault.Disk s = record {
     lanes = s.lanes;
@@ -184,12 +188,9 @@ module _ (entry old new : RoomValue) (count now : ℕ) (ended after told more : 
     only_risen = λ there. rises s.cause;
     where_risen = λ risen. inl s.adds.there;
     shut = λ is. inl s.adds.there;
-    unsound = λ what there. t.unsound what (was what there);
+    unsound = λ what there. t.unsound what (other_told run_fault.Disk s.adds (run_fault.Damaged what) (λ e. let x = e in cc) there);
   }
     where
-      was : (what : Damage) → Contains more (Some (run_fault.Damaged what)) → Contains told (Some (run_fault.Damaged what))
-      was what there = ⊎_elim (λ h. h) (λ (e : run_fault.Damaged what ≡ run_fault.Disk). absurd (let x = e in cc)) (s.adds.only (run_fault.Damaged what) there)
-
       failed : HasRisen count now ⊎ (new.room.is_shut ≡ true) → OwnRose entry new ⊎ (lanes_failed after + entry.disk.faults ≤ now) ⊎ (last_count ≤ now)
       failed (inl rose) = by_disk s.counted s.no_lower.0 s.no_lower.1 rose t.failed
       failed (inr shut) = inl (own_rose s.goes_on shut)
@@ -202,31 +203,22 @@ module _ (entry old new : RoomValue) (count now : ℕ) (ended after told more : 
     low = low_now s.no_lower.0;
     all = s.all;
     failed = as_before s.counted s.no_lower.0 s.no_lower.1 t.failed;
-    only_risen = λ there. risen_later entry.disk.faults count now (t.only_risen (disk_was there)) s.no_lower.0;
+    only_risen = λ there. risen_later entry.disk.faults count now (t.only_risen (other_told run_fault.Memory s.adds run_fault.Disk (λ e. let x = e in cc) there)) s.no_lower.0;
     where_risen = λ risen. inr s.adds.there;
     shut = λ is. inr s.adds.there;
-    unsound = λ what there. t.unsound what (was what there);
+    unsound = λ what there. t.unsound what (other_told run_fault.Memory s.adds (run_fault.Damaged what) (λ e. let x = e in cc) there);
   }
-    where
-      was : (what : Damage) → Contains more (Some (run_fault.Damaged what)) → Contains told (Some (run_fault.Damaged what))
-      was what there = ⊎_elim (λ h. h) (λ (e : run_fault.Damaged what ≡ run_fault.Memory). absurd (let x = e in cc)) (s.adds.only (run_fault.Damaged what) there)
-
-      disk_was : Contains more (Some run_fault.Disk) → Contains told (Some run_fault.Disk)
-      disk_was there = ⊎_elim (λ h. h) (λ (e : run_fault.Disk ≡ run_fault.Memory). absurd (let x = e in cc)) (s.adds.only run_fault.Disk there)
   told_more_by (run_fault.Damaged it) s = record {
     lanes = s.lanes;
     low = low_now s.no_lower.0;
     all = s.all;
     failed = as_before s.counted s.no_lower.0 s.no_lower.1 t.failed;
-    only_risen = λ there. risen_later entry.disk.faults count now (t.only_risen (disk_was there)) s.no_lower.0;
+    only_risen = λ there. risen_later entry.disk.faults count now (t.only_risen (other_told (run_fault.Damaged it) s.adds run_fault.Disk (λ e. let x = e in cc) there)) s.no_lower.0;
     where_risen = λ risen. kept_told (t.where_risen (subst (λ n. entry.disk.faults < n) s.cause.0 risen));
     shut = λ is. kept_told (t.shut (sym s.cause.1 ∙ is));
     unsound = λ what there. ⊎_elim (λ h. t.unsound what h) (λ e. s.cause.2) (s.adds.only (run_fault.Damaged what) there);
   }
     where
-      disk_was : Contains more (Some run_fault.Disk) → Contains told (Some run_fault.Disk)
-      disk_was there = ⊎_elim (λ h. h) (λ (e : run_fault.Disk ≡ run_fault.Damaged it). absurd (let x = e in cc)) (s.adds.only run_fault.Disk there)
-
       kept_told : Contains told (Some run_fault.Disk) ⊎ Contains told (Some run_fault.Memory) → Contains more (Some run_fault.Disk) ⊎ Contains more (Some run_fault.Memory)
       kept_told (inl h) = inl (s.adds.stays run_fault.Disk h)
       kept_told (inr h) = inr (s.adds.stays run_fault.Memory h)

@@ -24,11 +24,11 @@ use Rattle.node_cache.specs.Given.{IsCached}
 use Rattle.btree_nodes.specs.Trees.{Holds, Restores}
 use Rattle.btree_nodes.proofs.Loads.{none_or_some}
 use Rattle.btree_nodes.proofs.Steps.{given_is}
+use Rattle.btree_nodes.proofs.Rested.{holds_at_rest}
 use Rattle.txn_draft.specs.Drafts.{is_here}
 use Rattle.txn_draft.specs.Laws.{AreElsewhere}
 use Rattle.txn_draft.specs.Standing.{BesideLaw, EvictLaw, HoldsLaw, IsLeft, NewLaw, SameLaw, ServesLaw, SettleLaw, StandsFor, UndoLaw, UntouchedLaw, commits_in, has_row_in}
 use Rattle.txn_draft.specs.Uses.{IsUsed, Undoes}
-use Rattle.txn_draft.proofs.Rested.{holds_at_rest}
 
 -- ---- rows on a node
 

@@ -1,5 +1,5 @@
-use Rattle.std.proofs.Common.{◌≡◌, ◌≢◌, ◌⊎◌, inl, inr, ⊎_elim, ℕ, nat_eq, ◌<◌, ◌≤◌, Bool, true, false, nat_lt, List, [], ◌++◌, Option, Some, None, is_some, Result, Ok, Err, refl, sym, ap, subst, ◌∙◌, true≢false, append-nil, ltb-true}
-use Rattle.std.specs.Prelude.{IsSome, IfSome, unwrap_or}
+use Rattle.std.proofs.Common.{◌≡◌, ◌≢◌, ℕ, nat_eq, ◌<◌, ◌≤◌, Bool, true, false, nat_lt, List, [], ◌++◌, Option, Some, None, is_some, Result, Ok, Err, refl, sym, ap, subst, ◌∙◌, true≢false, append-nil, ltb-true}
+use Rattle.std.specs.Prelude.{IfSome, unwrap_or}
 use Rattle.std.specs.Map.{lookup}
 use Rattle.std.proofs.lemmas.Bool.{ltb-false}
 use Rattle.fine_model.specs.declared.Call.{Call}
@@ -7,16 +7,15 @@ use Rattle.fine_model.specs.declared.Call.TheVariants as call
 use Rattle.fine_model.specs.declared.FetchFault.{FetchFault}
 use Rattle.fine_model.specs.declared.Node.TheVariants as node
 use Rattle.fine_model.specs.declared.Row.{Row}
-use Rattle.fine_model.specs.Pushed.{key_of}
-use Rattle.fine_model.specs.Trees.{bucket_of, nodes_of, IsSound}
+use Rattle.fine_model.specs.Trees.{nodes_of, IsSound}
 use Rattle.node_cache.specs.declared.cached.Cached.{Cached}
-use Rattle.node_cache.specs.Cache.{Cache, cached, original, before, undone, evicted, IsResting}
-use Rattle.node_cache.specs.Given.{Finds, given, IsCached}
+use Rattle.node_cache.specs.Cache.{Cache, cached, before, undone, evicted, IsResting}
+use Rattle.node_cache.specs.Given.{Finds}
 use Rattle.btree_nodes.specs.declared.fault.TreeFault.{TreeFault}
 use Rattle.btree_nodes.specs.declared.fault.TreeFault.TheVariants.{Source, Unfit, BucketFull, Number, NoMemory}
 use Rattle.btree_nodes.specs.Trees.{Serves, Restores, Holds}
 use Rattle.btree_nodes.specs.Calls.{Outcome, IsChange, SoundOutcome}
-use Rattle.btree_nodes.proofs.Steps.{given_is}
+use Rattle.btree_nodes.proofs.Rested.{holds_at_rest}
 use Rattle.btree_nodes_tests.proofs.tests.again.set_again.Goals as goal
 
 -- after each answer, what would be restored is what the rows leave
@@ -44,18 +43,6 @@ bucket_stays mid new log log' c P F (Err (Unfit id)) o = ap (λ b. b.bucket) o.1
 bucket_stays mid new log log' c P F (Err (BucketFull m d)) o = ap (λ b. b.bucket) o.3.nodes
 bucket_stays mid new log log' c P F (Err (Number id)) o = ap (λ b. b.bucket) o.3.nodes
 bucket_stays mid new log log' c P F (Err NoMemory) o = o.bucket
-
--- a bucket at rest in which each node is what rows leave holds these
-holds_at_rest : (rows : List Row) (b : Cache) → b.saved ≡ [] → ((n : ℕ) → IfSome (cached b n) (λ kept. (kept.node, kept.version) ≡ nodes_of rows b.bucket n)) → Holds b rows []
-holds_at_rest rows b resting each = record {
-  same = λ n here. same n here (cached b n) refl (each n);
-  others = λ n none. refl;
-  restores = record { each = λ n. subst (λ o. IfSome o (λ kept. (kept.node, kept.version) ≡ nodes_of rows b.bucket n)) (sym (ap (λ s. unwrap_or (lookup (nat_eq n) s) (cached b n)) resting)) (each n) };
-}
-  where
-    same : (n : ℕ) → IsCached b n → (o : Option Cached) → cached b n ≡ o → IfSome o (λ kept. (kept.node, kept.version) ≡ nodes_of rows b.bucket n) → given b n ≡ nodes_of (rows ++ []) b.bucket n
-    same n here None is h = absurd (true≢false (sym here ∙ ap is_some is))
-    same n here (Some kept) is h = given_is b n kept is ∙ h ∙ ap (λ r. nodes_of r b.bucket n) (sym (append-nil rows))
 
 module _ (tells tells' : List Row → Type 0) (on : (rows : List Row) → tells rows → tells' rows) (finds : Finds) (upper published keep : ℕ) (rows : List Row) (old new gone back : Cache) (log log' : List Row) (c : Call) (P : Cache → Unit {0} → Type 0) (F : FetchFault → Type 0) (r : Result (Unit {0}) TreeFault)
     (resting : IsResting old) (serves : Serves tells old rows) (served : (n : ℕ) → IfSome (cached old n) (λ kept. kept.epoch ≤ published → nodes_of serves.known old.bucket n ≡ nodes_of rows old.bucket n))

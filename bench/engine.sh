@@ -1,21 +1,26 @@
 #!/bin/sh
-# Prints what transactions of one `put` each cost on a hall on a disk in memory: those of one pass on one thread, and those of four passes on four threads,
-# each in a bucket of its own, as commits a second and as processor microseconds a transaction; beside them the same of a C program whose threads put as many
-# pairs into a hash table under one mutex, and copy a record of 32 bytes each into a buffer under it, and how often a bare lock is taken in turn by four threads that
-# change two cache lines each time: each commit is a turn of the room, so no more than that can be had. The goal is at most 6 microseconds a transaction on
-# one thread, and at least 2.5 times its commits a second with four threads, which wants four cores. Nothing is sealed, so no sync counts.
+# What transactions of one `put` each cost on a hall on a disk in memory: 400,000 of one pass on one thread, and as many in all of four passes on four threads,
+# each in a bucket of its own. Beside them a C program whose threads put as many pairs into a hash table under one mutex, and copy a record of 32 bytes each into a
+# buffer under it; and a bare lock that four threads take in turn, who change two cache lines each time: each commit is a turn of the room, so no more than that can
+# be had. The goal is at most 6 microseconds a transaction on one thread, and at least 2.5 times its commits a second with four threads, which wants four cores.
+# Nothing is sealed, so no sync counts.
+#
+# Printed are, of the hall and of the C program, on one thread and on four, the commits a second and the processor microseconds a transaction; the commits a second of
+# four threads to those of one; the turns a second of the bare lock, also to the commits of one thread; and how long the hall takes to the C program.
 #
 # Where nobody else is in its way such a transaction takes 2 compare-exchanges, 2 stores and 7 loads of words that other seats use, all sequentially consistent,
 # by the steps of its calls: a bucket and the room are each taken by a compare-exchange and a load and given back by a load and a store, and it looks once
 # at its mailbox, once at the published number, and once at the room's word before it tries to take the room.
 #
-# All run a few times in turn, and the best of each counts. It is no test. The timing program is proved before it is built, since only a proved build is optimized.
+# All run nine times in turn, and of each number the median is printed; four threads are set against the one of the same turn, since a machine's speed changes from
+# second to second by more than a turn takes. It is no test. The timing program is proved before it is built, since only a proved build is optimized.
 set -e
 top=$(cd "$(dirname "$0")/.." && pwd)
 work=$(mktemp -d)
 trap 'rm -rf "$work"' EXIT
 speed="$work/crates/engine_speed"
-count=50000
+# how many are committed in a run, whatever threads there are
+count=400000
 mkdir -p "$speed/src" "$speed/specs" "$speed/proofs"
 . "$top/bench/proved.sh"
 : > "$speed/specs/Lib.antt"
@@ -204,28 +209,38 @@ proved engine_speed "epoch_room log_disk txn_engine hall_accounts"
 cd "$speed"
 timed() { "$work/used" "$@" | tr '\n' ' '; }
 # the median: threads that come late leave the lock to the others for a while
-turns=$(for turn in $(seq 1 9); do "$work/turns" $((count * 8)); done | sort -n | sed -n 5p)
+turns=$(for turn in $(seq 1 9); do "$work/turns" "$count"; done | sort -n | sed -n 5p)
 for turn in $(seq 1 9); do
   # a run without transactions shows what a hall costs, which is taken off
-  for threads in one four; do timed out/engine_speed $threads 0; timed out/engine_speed $threads $count; timed "$work/peer" $threads 0; timed "$work/peer" $threads $count; done
+  for threads in one four; do
+    each=$count
+    [ $threads = one ] || each=$((count / 4))
+    timed out/engine_speed $threads 0; timed out/engine_speed $threads $each; timed "$work/peer" $threads 0; timed "$work/peer" $threads $each
+  done
   echo
 done | awk -v count="$count" -v turns="$turns" '
-  NF != 24 { failed = 1 }
-  $4 != count || $16 != 4 * count || $10 != count || $22 != 4 * count { failed = 1 }
-  { for (i = 1; i <= 24; i++) if (NR == 1 || $i < best[i]) best[i] = $i }
-  # the nanoseconds, and the microseconds of processors, of a transaction, from the field of a run without transactions on
-  function wall(at, many) { return (best[at + 4] - best[at + 1]) / many }
-  function cpu(at, many) { return (best[at + 5] - best[at + 2]) / many }
-  function line(name, at, many) {
-    printf "%s: %d commits a second, %.2f processor microseconds a transaction\n", name, 1000000000 / wall(at, many), cpu(at, many)
+  NF != 24 || $4 != count || $10 != count || $16 != count || $22 != count { failed = 1 }
+  # the seconds, and the processor microseconds, of a transaction, from the field of a run without transactions on
+  { for (at = 1; at <= 19; at += 6) { wall[at, NR] = ($(at + 4) - $(at + 1)) / count / 1000000000; cpu[at, NR] = ($(at + 5) - $(at + 2)) / count } }
+  { more[NR] = wall[1, NR] / wall[13, NR]; more_in_c[NR] = wall[7, NR] / wall[19, NR]; to_c[NR] = wall[1, NR] / wall[7, NR]; to_c_of_four[NR] = wall[13, NR] / wall[19, NR] }
+  function median(numbers,    i, j, k) {
+    for (i = 2; i <= NR; i++) for (j = i; j > 1 && numbers[j] < numbers[j - 1]; j--) { k = numbers[j]; numbers[j] = numbers[j - 1]; numbers[j - 1] = k }
+    return numbers[int((NR + 1) / 2)]
+  }
+  function median_at(numbers, at,    i, some) {
+    for (i = 1; i <= NR; i++) some[i] = numbers[at, i]
+    return median(some)
+  }
+  function line(name, at) {
+    printf "%s: %d commits a second, %.2f processor microseconds a transaction\n", name, 1 / median_at(wall, at), median_at(cpu, at)
   }
   END {
-    if (failed) { print "a run failed"; exit 1 }
-    line("one thread", 1, count)
-    line("four threads", 13, 4 * count)
-    line("C, one thread", 7, count)
-    line("C, four threads", 19, 4 * count)
-    printf "four threads to one: %.2f of its commits a second; C: %.2f; the goal is 2.5\n", wall(1, count) / wall(13, 4 * count), wall(7, count) / wall(19, 4 * count)
-    printf "C, a bare lock: %d turns a second on four threads, %.2f of the commits of one thread\n", turns, turns * wall(1, count) / 1000000000
-    printf "to C on one thread: %.2f of its time; on four: %.2f\n", wall(1, count) / wall(7, count), wall(13, 4 * count) / wall(19, 4 * count)
+    if (failed || NR != 9) { print "a run failed"; exit 1 }
+    line("one thread", 1)
+    line("four threads", 13)
+    line("C, one thread", 7)
+    line("C, four threads", 19)
+    printf "four threads to one: %.2f of its commits a second; C: %.2f; the goal is 2.5\n", median(more), median(more_in_c)
+    printf "C, a bare lock: %d turns a second on four threads, %.2f of the commits of one thread\n", turns, turns * median_at(wall, 1)
+    printf "to C on one thread: %.2f of its time; on four: %.2f\n", median(to_c), median(to_c_of_four)
   }'

@@ -26,13 +26,13 @@ use Rattle.log_disk.proofs.mem.MemEye.TheSendSync as eyes
 use Rattle.log_disk.specs.contracts.mem.Present as present
 use Rattle.log_disk.proofs.mem.Present.TheSendSync as presents
 use Rattle.log_disk.proofs.mem.plan.Schedule.TheSendSync as schedules
-use Rattle.node_cache.specs.contracts.Bucket as bucket
 use Rattle.partition_hold.specs.contracts.view.View as view
 use Rattle.partition_hold.proofs.view.View.TheSendSync as views
 use Rattle.fine_hall.specs.contracts.law.Load as load
 use Rattle.fine_hall.specs.contracts.hall.HallTable as hall
 use Rattle.fine_hall.proofs.hall.HallTable.TheSendSync as halls
 use Rattle.hall_rooms.specs.contracts.held.HeldRoom as in_hall
+use Rattle.hall_rooms.specs.contracts.held.HeldBucket as bucket
 use Rattle.hall_rooms.proofs.Crossing.{bucket_send, in_hall_send}
 use Rattle.hall_accounts.specs.contracts.threads.Route as route
 use Rattle.hall_accounts.proofs.threads.Route.TheSendSync as routes

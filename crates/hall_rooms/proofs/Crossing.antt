@@ -50,6 +50,8 @@ use Rattle.epoch_room.specs.contracts.epoch.OpenEpoch.TheInside as epoch_in
 use Rattle.partition_hold.specs.contracts.board.Board.TheInside as board_in
 use Rattle.hall_rooms.specs.contracts.held.HeldRoom as in_hall
 use Rattle.hall_rooms.specs.contracts.held.HeldRoom.TheInside as in_hall_in
+use Rattle.hall_rooms.specs.contracts.held.HeldBucket as held_bucket
+use Rattle.hall_rooms.specs.contracts.held.HeldBucket.TheInside as held_bucket_in
 use Rattle.fine_model.proofs.list.Items.TheSendSync as items
 use Rattle.node_cache.proofs.cached.Cached.TheSendSync as cached
 use Rattle.node_cache.proofs.undo.Step.TheSendSync as step
@@ -162,11 +164,14 @@ module _ (V : RattleType) (b : BuildHasher.Ghosts hasher.Denot fold.the_row.Deno
   map_send = view_send _ _ _ _ _ (declared_send (map_in.the_type denote.Builtin.u32 V hasher alloc.the_row fold.the_row equal.ghosts hash.ghosts b folding.ghosts ghosts)
       (as_row_send (columns.the_field denote.Builtin.u32 V alloc.the_row ghosts) (columns_send V v), (as_row_send (table.the_field alloc.the_row ghosts) table_send, (as_row_send (row_field hasher) hasher_send, tt))))
 
-pub bucket_send : IsSend bucket.the_row
-bucket_send = view_send _ _ _ _ _ (declared_send bucket_in.the_type (
+cached_send : IsSend bucket.the_row
+cached_send = view_send _ _ _ _ _ (declared_send bucket_in.the_type (
   search rules,
   (
     as_row_send (map.the_field denote.Builtin.u32 cache.the_row hasher alloc.the_row fold.the_row equal.ghosts hash.ghosts _ folding.ghosts ghosts) (map_send cache.the_row _ cached.the_send),
     (as_row_send (map.the_field denote.Builtin.u32 original.the_row hasher alloc.the_row fold.the_row equal.ghosts hash.ghosts _ folding.ghosts ghosts) (map_send original.the_row _ original_send), (marks.the_send, tt)),
   ),
 ))
+
+pub bucket_send : IsSend held_bucket.the_row
+bucket_send = view_send _ _ _ _ _ (declared_send held_bucket_in.the_type (as_row_send (boxed.the_field bucket.the_row alloc.the_row ghosts) (box_send bucket.the_row cached_send), tt))

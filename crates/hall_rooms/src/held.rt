@@ -1,6 +1,6 @@
-//! A room as it lies in a hall.
+//! A room and a bucket as they lie in a hall.
 
-ghost use Rattle.std.specs.Prelude.{◌≡◌, ◌+◌, IfOk, IfErr};
+ghost use Rattle.std.specs.Prelude.{◌≡◌, ◌+◌, [], IfOk, IfErr};
 ghost use Rattle.std.specs.List.{AllByRecursion};
 ghost use Rattle.std.specs.Borrow.{sem};
 ghost use Rattle.fine_model.specs.Becomes.{Becomes};
@@ -12,13 +12,14 @@ ghost use Rattle.epoch_room.specs.declared.answers.Fit.TheVariants as fit;
 ghost use Rattle.epoch_room.specs.Fitting.{fit_of};
 ghost use Rattle.epoch_room.specs.Steps.{appended};
 ghost use Rattle.epoch_room.specs.Meaning.{StandsForMore};
-ghost use Rattle.hall_rooms.specs.Lent.{LendsRoom};
+ghost use Rattle.hall_rooms.specs.Lent.{LendsBucket, LendsRoom};
 
 use epoch_room::{Fit, Room, Stamp};
-use fine_model::RoomLaw;
+use fine_model::{BucketLaw, RoomLaw};
 use log_disk::LogDisk;
+use node_cache::Bucket;
 use private_log::PrivateLog;
-use std::alloc::Global;
+use std::alloc::{AllocError, Global};
 use std::marker::Model;
 
 /// A room on the heap, so that a turn moves a pointer and leaves the room where it lies. Contracts see the room.
@@ -90,5 +91,52 @@ impl<D: LogDisk> HeldRoom<D> {
         ensures job { KeepsJob self.old.room self.new.room }
     {
         self.room().append(log)
+    }
+}
+
+/// A bucket on the heap, so that the places of a hall are small: the one of the room is moved with each turn. Contracts see the bucket.
+#[derive(Drop)]
+pub struct HeldBucket {
+    bucket: Box<Bucket>,
+}
+
+impl Model for HeldBucket {
+    ghost use Rattle.node_cache.specs.Cache.{Cache};
+    ghost use Rattle.node_cache.specs.Codes.{cache_code};
+
+    ghost Value = { Cache };
+
+    ghost coded = { cache_code };
+
+    ghost view = { λ held. held.bucket.value };
+}
+
+impl BucketLaw for HeldBucket {
+    ghost use Rattle.node_cache.specs.Cache.{kept_at, IsResting};
+
+    ghost bucket = { λ b. b.bucket };
+
+    ghost cached = { kept_at };
+
+    ghost is_settled = { IsResting };
+}
+
+impl HeldBucket {
+    /// A bucket that caches nothing, of this number, on the heap.
+    pub(crate) fn new(alloc: Global, number: u16) -> Result<HeldBucket, AllocError>
+        ensures { IfOk result (λ held. held ≡ record { bucket = number; nodes = []; saved = [] }) }
+    {
+        match Box::new(alloc, Bucket::new(alloc, number)) {
+            Ok(bucket) => Ok(HeldBucket { bucket }),
+            Err(_failed) => Err(AllocError),
+        }
+    }
+
+    /// The bucket.
+    pub fn bucket(&mut self) -> &mut Bucket
+        ensures value { result.now ≡ self.old }
+        ensures* writes_back { sem 𝓛 (LendsBucket self.entry result) }
+    {
+        self.bucket.as_mut()
     }
 }

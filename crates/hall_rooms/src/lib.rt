@@ -13,7 +13,7 @@ mod turn;
 mod views;
 
 pub use closing::close_hall;
-pub use held::HeldRoom;
+pub use held::{HeldBucket, HeldRoom};
 pub use laws::{idle_law, space_law};
 pub use making::{Space, make_room, try_room};
 pub use merging::merge_next;

@@ -11,17 +11,16 @@ ghost use Rattle.fine_hall.specs.Opening.{HandedOut};
 ghost use Rattle.hall_rooms.specs.Rooms.{beginning_of, bucket_number};
 ghost use Rattle.hall_rooms.specs.Opening.{OpensHall, HandsBack, StandsAlone, LacksViews, MakesFrontsOr, MakesMiddlesOr, MakesFronts};
 
-use crate::held::HeldRoom;
+use crate::held::{HeldBucket, HeldRoom};
 use crate::views::{make_view, take_back_all};
 use epoch_room::{Room, RoomFault};
 use fine_hall::{Hall, Pass};
 use log_disk::{LogDisk, LogEye};
-use node_cache::Bucket;
 use partition_hold::View;
 use std::alloc::{AllocError, Global};
 
 /// A hall of a room, the buckets of its log, and views of it.
-pub type RoomHall<D> = Hall<HeldRoom<D>, Bucket, View<<D as LogDisk>::Eye>>;
+pub type RoomHall<D> = Hall<HeldRoom<D>, HeldBucket, View<<D as LogDisk>::Eye>>;
 
 /// A hall with the passes of its seats, from the greatest number down, and the memory that its end takes.
 #[derive(Drop)]
@@ -33,19 +32,19 @@ pub struct Opened<D: LogDisk> {
 
 /// The lists that a hall begins with, and those that it ends with.
 struct Lists<E: LogEye> {
-    buckets: Vec<Bucket>,
+    buckets: Vec<HeldBucket>,
     fronts: Vec<View<E>>,
     middles: Vec<View<E>>,
     spare: Vec<View<E>>,
 }
 
 /// The buckets of all numbers in order, which cache nothing.
-fn fresh_buckets(alloc: Global) -> Result<Vec<Bucket>, AllocError>
+fn fresh_buckets(alloc: Global) -> Result<Vec<HeldBucket>, AllocError>
     ensures { IfOk result (λ buckets. AreFreshBuckets bucket_number kept_at IsResting buckets.items) }
 {
     let mut buckets = Vec::with_capacity(alloc, 256)?;
     for number in 0..256 {
-        buckets.push_reserved(Bucket::new(alloc, number));
+        buckets.push_reserved(HeldBucket::new(alloc, number)?);
     }
     Ok(buckets)
 }

@@ -17,10 +17,9 @@ use crate::txn::{Txn, TxnFault};
 use btree_nodes::TreeFault;
 use fine_hall::{Conflict, Pass};
 use fine_model::{Call, FetchFault, bucket_of};
-use hall_rooms::RoomHall;
+use hall_rooms::{HeldBucket, RoomHall};
 use key_locks::LockSet;
 use log_disk::LogDisk;
-use node_cache::Bucket;
 use partition_hold::View;
 
 /// Whether a call is a scan.
@@ -63,7 +62,7 @@ fn as_fault(fault: TreeFault) -> TxnFault
 }
 
 /// Whether a set has a bucket.
-fn has_bucket(locks: &mut LockSet<Bucket>, bucket: u16) -> bool
+fn has_bucket(locks: &mut LockSet<HeldBucket>, bucket: u16) -> bool
     requires { bucket < 256 }
     ensures has { MatchBool result ((b : Cache) × HasLock locks.old bucket b) (LacksLock locks.old bucket) }
     ensures same { locks.new ≡ locks.old }
@@ -76,7 +75,7 @@ fn has_bucket(locks: &mut LockSet<Bucket>, bucket: u16) -> bool
 
 /// Takes the bucket of a call that is no scan, unless the set has it.
 fn take_one<D: LogDisk>(
-    locks: &mut LockSet<Bucket>,
+    locks: &mut LockSet<HeldBucket>,
     hall: &RoomHall<D>,
     pass: &mut Pass<View<D::Eye>>,
     call: &Call,
@@ -95,7 +94,7 @@ fn take_one<D: LogDisk>(
 
 /// Takes the buckets of a call: that of its key, or all of them for a scan.
 fn take_buckets<D: LogDisk>(
-    locks: &mut LockSet<Bucket>,
+    locks: &mut LockSet<HeldBucket>,
     hall: &RoomHall<D>,
     pass: &mut Pass<View<D::Eye>>,
     call: &Call,

@@ -16,9 +16,9 @@ ghost use Rattle.txn_engine.specs.Txns.{HasBuckets, AreNumbered};
 use crate::scans::scan_all;
 use btree_nodes::TreeFault;
 use fine_model::{Call, bucket_of};
+use hall_rooms::HeldBucket;
 use key_locks::LockSet;
 use log_disk::LogEye;
-use node_cache::Bucket;
 use partition_hold::View;
 use std::alloc::Global;
 use txn_draft::Draft;
@@ -43,7 +43,7 @@ pub(crate) fn key_of(call: &Call) -> &[u8]
 /// Answers a call that is no scan in the bucket of its key, which is in the set.
 fn answer_in<E: LogEye>(
     draft: &mut Draft,
-    locks: &mut LockSet<Bucket>,
+    locks: &mut LockSet<HeldBucket>,
     front: &mut View<E>,
     bucket: u16,
     call: &Call,
@@ -61,14 +61,14 @@ fn answer_in<E: LogEye>(
     let Some(content) = locks.bucket(bucket) else {
         unreachable!()
     };
-    draft.answer(front, content, call)
+    draft.answer(front, content.bucket(), call)
 }
 
 /// Answers a call in its buckets, which are in the set.
 pub(crate) fn read<E: LogEye>(
     alloc: Global,
     draft: &mut Draft,
-    locks: &mut LockSet<Bucket>,
+    locks: &mut LockSet<HeldBucket>,
     front: &mut View<E>,
     call: &Call,
 ) -> Result<(), TreeFault>

@@ -12,9 +12,9 @@ ghost use Rattle.txn_engine.specs.Txns.{HasAll};
 
 use btree_nodes::TreeFault;
 use fine_model::Call;
+use hall_rooms::HeldBucket;
 use key_locks::LockSet;
 use log_disk::LogEye;
-use node_cache::Bucket;
 use partition_hold::View;
 use std::alloc::Global;
 use txn_draft::{Draft, RangeScan};
@@ -25,7 +25,7 @@ const BUCKETS: u16 = 256;
 /// Gathers the first pairs of a range in the next bucket.
 fn gather_in<E: LogEye>(
     scan: &mut RangeScan,
-    locks: &mut LockSet<Bucket>,
+    locks: &mut LockSet<HeldBucket>,
     front: &mut View<E>,
     bucket: u16,
     low: &[u8],
@@ -44,13 +44,13 @@ fn gather_in<E: LogEye>(
     let Some(content) = locks.bucket(bucket) else {
         unreachable!()
     };
-    scan.gather(front, content, low, high, limit)
+    scan.gather(front, content.bucket(), low, high, limit)
 }
 
 /// The same in all buckets, in the order of their numbers, up to the first fault.
 fn gather_all<E: LogEye>(
     scan: &mut RangeScan,
-    locks: &mut LockSet<Bucket>,
+    locks: &mut LockSet<HeldBucket>,
     front: &mut View<E>,
     low: &[u8],
     high: &[u8],
@@ -75,7 +75,7 @@ fn gather_all<E: LogEye>(
 pub(crate) fn scan_all<E: LogEye>(
     alloc: Global,
     draft: &mut Draft,
-    locks: &mut LockSet<Bucket>,
+    locks: &mut LockSet<HeldBucket>,
     front: &mut View<E>,
     call: &Call,
     low: &[u8],

@@ -6,8 +6,8 @@ ghost use Rattle.txn_engine.specs.Txns.{HoldsNone};
 
 use epoch_room::Stamp;
 use fine_model::{Entry, NoMemory, NodeId, Reply};
+use hall_rooms::HeldBucket;
 use key_locks::LockSet;
-use node_cache::Bucket;
 use std::alloc::Global;
 use txn_draft::Draft;
 
@@ -16,7 +16,7 @@ use txn_draft::Draft;
 pub struct Txn {
     pub(crate) alloc: Global,
     pub(crate) draft: Draft,
-    pub(crate) locks: LockSet<Bucket>,
+    pub(crate) locks: LockSet<HeldBucket>,
 }
 
 /// What became of a commit: its place and its epoch, and the entry, with the replies to all calls.

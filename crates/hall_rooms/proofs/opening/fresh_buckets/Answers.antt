@@ -7,7 +7,7 @@ pub loop-number-preserved : goal.loop-number-preserved
 loop-number-preserved c =
     let i = c.loop-number.invariant in
     let p = c.push_reserved.ensures in
-    let is = p.items ∙ ap (λ b. c.loop-number.buckets.items ++ b ∷ []) c.new.ensures in
+    let is = p.items ∙ ap (λ b. c.loop-number.buckets.items ++ b ∷ []) c.in_ok-new.ensures in
     let n = one_more c.loop-number.buckets.items c.push_reserved.new.self.items (empty_bucket c.loop-number.number) c.loop-number.number _ _ is i.long i.len p.len in
     record {
       len = n.1;

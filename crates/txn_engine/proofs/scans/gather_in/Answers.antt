@@ -1,6 +1,12 @@
 use denote.Param.Send.{sendable}
+use Rattle.std.proofs.Common.{Some, ap, refl, rules, sym, ◌∙◌}
 use Rattle.hall_rooms.proofs.Crossing.{bucket_send}
 use Rattle.txn_engine.proofs.scans.gather_in.Goals as goal
 
 pub bucket-requires-send-B : goal.bucket-requires-send-B
 bucket-requires-send-B g c κs = search (sendable, bucket_send) depth 20
+
+pub returns-clause-gathers : goal.returns-clause-gathers
+returns-clause-gathers g c =
+    let there = c.in-Some.ensures.value ∙ ap (λ b. Some (Some b)) (sym c.bucket-2.ensures.value) in
+    record { old = c.bucket-2.result.now; new = c.gather.new.bucket; there = there; locks_are = refl; read = search rules; more = search rules; unfit = search rules; cause = search rules }

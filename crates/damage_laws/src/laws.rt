@@ -38,7 +38,7 @@ pub fn going_law()
     ensures more { MoreLaw }
 {}
 
-/// What is found of a node in parts that are kept, or were sealed or merged since, is what is found by the parts at entry, gone on by the rows that
+/// What is found of a node in parts that are kept, or were sealed, gathered or merged since, is what is found by the parts at entry, gone on by the rows that
 /// were sealed since; or what these rows leave by themselves.
 pub fn made_law()
     ensures kept { KeptLaw }

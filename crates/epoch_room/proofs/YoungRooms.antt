@@ -381,7 +381,7 @@ gathers_still from value result whole room = record { room = room; read = beside
 pub gathers_unread : (old new entry : Disk) (kept : Kept) (whole : IsWhole (value_of old entry kept)) (open_room : kept.is_shut ≡ false) (fails : OnlyFails old new) (from : ℕ)
     → GathersYoung from (value_of old entry kept) (value_of new entry (record kept { is_shut = true })) (Err room_fault.Disk)
 gathers_unread old new entry kept whole open_room fails from = record {
-  room = inl (failed_shuts old new entry kept whole open_room fails);
+  room = inl (failed_shuts old new entry kept whole open_room fails, fails.told, fails.unsynced);
   read = beside_told (take 1 kept.free) old new fails.told;
   beside = fails.beside;
   keeps = failed_keeps old new entry kept whole open_room fails;

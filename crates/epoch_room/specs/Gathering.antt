@@ -61,14 +61,16 @@ pub record Gathers (from : ℕ) (old new : RoomValue) : Type 0 where
   pub synced : new.disk.unsynced ≡ []
   pub room : Does (gathered_state old.room before oldest newer (gathered_part region oldest newer rows)) old.target old new
 
--- A read failed, and nothing is lost; or the part was being written, and its region is.
+-- A read failed, and nothing is lost, nor anything of the disk another but the counts; or the part was being written, and its region is lost.
 abbrev pub FailsGathering : RoomValue → RoomValue → Type 0
-FailsGathering old new = Shuts old.room old.target [] old new ⊎ Shuts (record old.room { free = drop 1 old.room.free }) old.target (take 1 old.room.free) old new
+FailsGathering old new =
+    (Shuts old.room old.target [] old new × (new.disk.told ≡ old.disk.told) × (new.disk.unsynced ≡ old.disk.unsynced))
+    ⊎ Shuts (record old.room { free = drop 1 old.room.free }) old.target (take 1 old.room.free) old new
 
 -- by the answer
 abbrev pub GathersOr : ℕ → RoomValue → RoomValue → Result Bool RoomFault → Type 0
 GathersOr from old new (Ok true) = Gathers from old new
-GathersOr from old new (Ok false) = Does old.room old.target old new
+GathersOr from old new (Ok false) = (old.room.is_shut ≡ false) × (new ≡ old)
 GathersOr from old new (Err room_fault.Disk) = FailsGathering old new
 GathersOr from old new (Err (room_fault.Shut epoch)) = WasShut epoch old new
 GathersOr from old new (Err room_fault.NoMemory) = Does old.room old.target old new

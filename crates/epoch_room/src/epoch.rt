@@ -110,6 +110,7 @@ impl OpenEpoch {
         requires { rows_len self.now.rows < 4294967296 }
         ensures { IfOk result (λ keys. AreKeysOf (rows_bytes self.now.rows) self.now.rows keys.items) }
     {
+        // an entry has a row at least, mostly; more room is taken where there are more
         Ok(keys_of(alloc, self.bytes.as_slice(), self.logs.len())?)
     }
 }

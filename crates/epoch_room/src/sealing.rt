@@ -43,7 +43,7 @@ pub fn open_gate<D: LogDisk>(disk: &mut D, lead: u32) -> Result<(), DiskRefusal>
     Ok(())
 }
 
-/// Writes bytes behind the gate of a region, and opens the gate: so an epoch, a merged part and a part that is taken in are sealed.
+/// Writes bytes behind the gate of a region, and opens the gate: so an epoch, a merged or gathered part and a part that is taken in are sealed.
 ///
 /// A crash at any moment leaves what it could leave before, torn behind the gate that was there, or all that a read gives then, with any
 /// byte at the gate. After `NoMemory` nothing was begun, or all is synced with the bytes behind the gate that was there.

@@ -13,5 +13,6 @@ use Rattle.hall_rooms.specs.contracts.held.HeldBucket as held_bucket
 abbrev pub LendsRoom : (D E : RattleType) → LogDisk.Ghosts D.Denot E.Denot → LogEye.Ghosts E.Denot → MutBor RoomValue → MutBor RoomValue → Fml
 LendsRoom D E d e h r = Lends (held.the_row D E d e) (room.the_row D E d e) h r (λ w. w)
 
+-- so of a bucket
 abbrev pub LendsBucket : MutBor Cache → MutBor Cache → Fml
 LendsBucket h r = Lends held_bucket.the_row bucket.the_row h r (λ w. w)

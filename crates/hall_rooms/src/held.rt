@@ -94,7 +94,7 @@ impl<D: LogDisk> HeldRoom<D> {
     }
 }
 
-/// A bucket on the heap, so that the places of a hall are small: the one of the room is moved with each turn. Contracts see the bucket.
+/// A bucket on the heap, since all places of a hall have one size, and the room's place is moved with each turn. Contracts see the bucket.
 #[derive(Drop)]
 pub struct HeldBucket {
     bucket: Box<Bucket>,

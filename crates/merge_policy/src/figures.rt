@@ -16,7 +16,7 @@ pub struct Space {
     pub region_len: u64,
     /// How many regions are free.
     pub free: u32,
-    /// Whether fewer are free than the room would have, so that neighbours of fitting lengths may be merged.
+    /// Whether fewer are free than the room would have, so that neighbours of fitting lengths may be merged, and the youngest parts gathered.
     pub is_pressed: bool,
     /// With fewer free regions than these, neighbours of any lengths are merged too.
     pub spare: u32,

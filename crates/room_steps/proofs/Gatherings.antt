@@ -1,6 +1,6 @@
 -- Gathering the youngest parts, and erasing what is retired then.
 use Rattle.std.proofs.Common.{◌≡◌, ◌∙◌, ◌⊎◌, ℕ, true, false, List, [], inl, inr, Option, Some, None, Ok, Err, refl, sym, ap, subst, arith}
-use Rattle.std.specs.Prelude.{Bool, Result, take}
+use Rattle.std.specs.Prelude.{Bool, OnOk, Result, take}
 use Rattle.std.specs.List.{list_all}
 use Rattle.fine_model.specs.declared.Part.{Part}
 use Rattle.fine_model.specs.declared.Row.{Row}
@@ -31,6 +31,12 @@ use Rattle.room_steps.proofs.Merges.{merges_stay}
 use Rattle.room_steps.proofs.Stepping.{lives_same, still}
 
 -- ---- gathering
+
+-- parts were gathered or not, and nothing was erased yet
+pub record IsGathered (old new : ShelfValue) : Type 0 where
+  pub leaves : Leaves old new
+  pub unsealed : Unsealed old.room.room new.room.room
+  pub well : IsWell old new
 
 -- what of a room is as it was
 record SameRest (old new : RoomState) : Type 0 where
@@ -64,11 +70,11 @@ module _ (old mid new : ShelfValue) (r : Rested old mid) (none : new.view ≡ No
       rest_on mid.room.room _ new.room.room same (ap (λ (x : RoomState). x.job) e) (ap (λ (x : RoomState). x.board) e) (ap (λ (x : RoomState). x.sealed) e) (ap (λ (x : RoomState). x.places) e) (ap (λ (x : RoomState). x.waiting) e) (ap (λ (x : RoomState). x.used) e)
       (ap (λ (x : RoomState). x.open_rows) e)
   rest (Ok false) g =
-      let e = g.1.room in
+      let e = ap (λ (v : RoomValue). v.room) g.1 in
       rest_on mid.room.room mid.room.room new.room.room (itself mid.room.room) (ap (λ (x : RoomState). x.job) e) (ap (λ (x : RoomState). x.board) e) (ap (λ (x : RoomState). x.sealed) e) (ap (λ (x : RoomState). x.places) e) (ap (λ (x : RoomState). x.waiting) e)
       (ap (λ (x : RoomState). x.used) e) (ap (λ (x : RoomState). x.open_rows) e)
   rest (Err room_fault.Disk) (inl g) =
-      let e = g.1.room in
+      let e = g.0.1.room in
       rest_on mid.room.room mid.room.room new.room.room (itself mid.room.room) (ap (λ (x : RoomState). x.job) e) (ap (λ (x : RoomState). x.board) e) (ap (λ (x : RoomState). x.sealed) e) (ap (λ (x : RoomState). x.places) e) (ap (λ (x : RoomState). x.waiting) e)
       (ap (λ (x : RoomState). x.used) e) (ap (λ (x : RoomState). x.open_rows) e)
   rest (Err room_fault.Disk) (inr g) =
@@ -86,8 +92,8 @@ module _ (old mid new : ShelfValue) (r : Rested old mid) (none : new.view ≡ No
 
   entry : (result : Result Bool RoomFault) → GathersOr from mid.room new.room result → new.room.entry ≡ mid.room.entry
   entry (Ok true) g = g.room.1.entry
-  entry (Ok false) g = g.1.entry
-  entry (Err room_fault.Disk) (inl g) = g.1.entry
+  entry (Ok false) g = ap (λ (v : RoomValue). v.entry) g.1
+  entry (Err room_fault.Disk) (inl g) = g.0.1.entry
   entry (Err room_fault.Disk) (inr g) = g.1.entry
   entry (Err (room_fault.Shut epoch)) g = ap (λ (v : RoomValue). v.entry) g.2
   entry (Err room_fault.NoMemory) g = g.1.entry
@@ -95,13 +101,12 @@ module _ (old mid new : ShelfValue) (r : Rested old mid) (none : new.view ≡ No
   -- what the live parts are made of
   makes : (result : Result Bool RoomFault) → RoomGathers from mid.room new.room result → MadeOn mid.room new.room
   makes (Ok true) g = made_none mid.room new.room (rest (Ok true) g.room).open_rows (gathered_lives mid.room new.room r.leaves.whole whole from g.room g.read)
-  makes (Ok false) g =
-      kept_made mid.room new.room r.leaves.whole whole g.room.0 g.room.1.regions (take 1 mid.room.room.free) (free_apart mid.room r.leaves.whole) g.read (rest (Ok false) g.room).open_rows (ap (λ (x : RoomState). x.parts) g.room.1.room)
+  makes (Ok false) g = made_same mid.room new.room (ap (λ (v : RoomValue). v.room.open_rows) g.room.1) (ap (λ (v : RoomValue). v.room.image) g.room.1) (ap (λ (v : RoomValue). v.room.parts) g.room.1)
   makes (Err room_fault.Disk) g = by g.room
     where
       by : GathersOr from mid.room new.room (Err room_fault.Disk) → MadeOn mid.room new.room
       by (inl s) =
-          kept_made mid.room new.room r.leaves.whole whole s.0 s.1.regions (take 1 mid.room.room.free) (free_apart mid.room r.leaves.whole) g.read (ap (λ (x : RoomState). x.open_rows) s.1.room) (ap (λ (x : RoomState). x.parts) s.1.room)
+          kept_made mid.room new.room r.leaves.whole whole s.0.0 s.0.1.regions (take 1 mid.room.room.free) (free_apart mid.room r.leaves.whole) g.read (ap (λ (x : RoomState). x.open_rows) s.0.1.room) (ap (λ (x : RoomState). x.parts) s.0.1.room)
       by (inr s) =
           kept_made mid.room new.room r.leaves.whole whole s.0 s.1.regions (take 1 mid.room.room.free) (free_apart mid.room r.leaves.whole) g.read (ap (λ (x : RoomState). x.open_rows) s.1.room) (ap (λ (x : RoomState). x.parts) s.1.room)
   makes (Err (room_fault.Shut epoch)) g =
@@ -128,13 +133,15 @@ module _ (old mid new : ShelfValue) (r : Rested old mid) (none : new.view ≡ No
   well : (b : Bool) → GathersOr from mid.room new.room (Ok b) → IsWell old new
   well true g =
       well_on old mid new r.none_failed (well_counts mid new r.none none g.room.2 g.room.0 (ap (λ (x : RoomState). x.is_shut) g.room.1.room ∙ gathered_shut mid.room.room g.before g.oldest g.newer _ ∙ g.room.0))
-  well false g = well_on old mid new r.none_failed (well_counts mid new r.none none g.2 g.0 (ap (λ (x : RoomState). x.is_shut) g.1.room ∙ g.0))
+  well false g =
+      well_on old mid new r.none_failed
+      (well_counts mid new r.none none (record { faults = ap (λ (v : RoomValue). v.disk.faults) g.1; own_faults = ap (λ (v : RoomValue). v.disk.own_faults) g.1 }) g.0 (ap (λ (v : RoomValue). v.room.is_shut) g.1 ∙ g.0))
 
-  pub gathered_ok : (b : Bool) → RoomGathers from mid.room new.room (Ok b) → GathersFrom old new (Ok tt)
-  gathered_ok b g = record { leaves = leaves (Ok b) g; unsealed = unsealed (Ok b) g; gather = well b g.room }
+  pub gathered_ok : (b : Bool) → RoomGathers from mid.room new.room (Ok b) → IsGathered old new
+  gathered_ok b g = record { leaves = leaves (Ok b) g; unsealed = unsealed (Ok b) g; well = well b g.room }
 
   faults : (fault : RoomFault) → GathersOr from mid.room new.room (Err fault) → (new.room ≡ mid.room → new ≡ mid) → FaultOf old new (of_room fault)
-  faults room_fault.Disk (inl g) same = inr (failed_on old mid new r.none_failed (has_failed mid new r.none none g.2.faults g.2.no_lower.0 g.2.no_lower.1))
+  faults room_fault.Disk (inl g) same = inr (failed_on old mid new r.none_failed (has_failed mid new r.none none g.0.2.faults g.0.2.no_lower.0 g.0.2.no_lower.1))
   faults room_fault.Disk (inr g) same = inr (failed_on old mid new r.none_failed (has_failed mid new r.none none g.2.faults g.2.no_lower.0 g.2.no_lower.1))
   faults (room_fault.Shut epoch) g same = inl (was_shut old mid new r g.0 (same g.2))
   faults room_fault.NoMemory g same = well_on old mid new r.none_failed (well_counts mid new r.none none g.2 g.0 (ap (λ (x : RoomState). x.is_shut) g.1.room ∙ g.0))
@@ -168,12 +175,12 @@ module _ (old new : ShelfValue) (none_was : old.view ≡ None) (none : new.view 
   erased_fault (merge_fault.Room room_fault.Disk) e same = inr (has_failed old new none_was none e.empties.fails.faults e.empties.fails.no_lower.0 e.empties.fails.no_lower.1)
   erased_fault (merge_fault.Room (room_fault.Shut epoch)) e same = inl (record { shut = e.empties.0; same = same e.empties.2 })
 
-  module _ (first : ShelfValue) (g : GathersFrom first old (Ok tt)) where
+  module _ (first : ShelfValue) (g : IsGathered first old) where
     pub then_erased : (u : Unit {0}) → Empties old.room new.room (Ok u) → GathersFrom first new (Ok tt)
     then_erased u e = record {
       leaves = leaves_on first old new g.leaves (erased_leaves (Ok u) e);
       unsealed = unsealed_on first.room.room old.room.room new.room.room g.unsealed (erased_unsealed (Ok u) e);
-      gather = well_on first old new g.gather.none_failed (well_counts old new none_was none e.empties.0.counts e.empties.0.opened e.empties.0.stays);
+      gather = (well_on first old new g.well.none_failed (well_counts old new none_was none e.empties.0.counts e.empties.0.opened e.empties.0.stays), e.empties.1);
     }
 
     pub then_failed : (fault : MergeFault) (told : RunFault) (result : Result (Unit {0}) MergeFault) → told ≡ of_merge fault → result ≡ Err fault → Empties old.room new.room result → (new.room ≡ old.room → new ≡ old) → GathersFrom first new (Err told)
@@ -182,7 +189,7 @@ module _ (old new : ShelfValue) (none_was : old.view ≡ None) (none : new.view 
         subst (λ (f : RunFault). GathersFrom first new (Err f)) (sym is) (record {
           leaves = leaves_on first old new g.leaves (erased_leaves (Err fault) h);
           unsealed = unsealed_on first.room.room old.room.room new.room.room g.unsealed (erased_unsealed (Err fault) h);
-          gather = fault_on first old new (of_merge fault) g.gather (erased_fault fault h same);
+          gather = fault_on first old new (of_merge fault) g.well (erased_fault fault h same);
         })
 
 -- ---- and then merging
@@ -190,7 +197,7 @@ module _ (old new : ShelfValue) (none_was : old.view ≡ None) (none : new.view 
 pub then_merged : (old mid new : ShelfValue) (result : Result (Unit {0}) RunFault) → GathersNamed old mid (Ok tt) → MergesNamed mid new result → Tidies old new result
 then_merged old mid new result (inl same) m =
     subst (λ s. Tidies s new result) same.0
-    (record { leaves = m.leaves; unsealed = m.unsealed; called = by m.called; tidy = m.tidy })
+    (record { leaves = m.leaves; unsealed = m.unsealed; called = by m.called; tidy = m.tidy; erased = m.erased })
   where
     by : (new ≡ mid) ⊎ ((from : ℕ) × IsNamed mid.room.room (Some from)) → (new ≡ mid) ⊎ NamesSome mid.room.room
     by (inl e) = inl e
@@ -200,15 +207,21 @@ then_merged old mid new result (inr g) m = record {
   unsealed = unsealed_on old.room.room mid.room.room new.room.room g.1.unsealed m.unsealed;
   called = inr (g.0.0, inl g.0.1);
   tidy = by result m.tidy;
+  erased = all result m.tidy m.erased;
 }
   where
     by : (result : Result (Unit {0}) RunFault) → TidyOr mid new result → TidyOr old new result
-    by (Ok u) t = (none_failed_on old mid new g.1.gather.none_failed t.0, t.1)
-    by (Err fault) t = fault_on old mid new fault g.1.gather t
+    by (Ok u) t = (none_failed_on old mid new g.1.gather.0.none_failed t.0, t.1)
+    by (Err fault) t = fault_on old mid new fault g.1.gather.0 t
+
+    all : (result : Result (Unit {0}) RunFault) → TidyOr mid new result → OnOk result ((new ≡ mid) ⊎ (new.room.room.retired ≡ [])) → OnOk result ((new ≡ old) ⊎ (new.room.room.retired ≡ []))
+    all (Ok u) t (inl same) = inr (ap (λ (s : ShelfValue). s.room.room.retired) same ∙ g.1.gather.1)
+    all (Ok u) t (inr none) = inr none
+    all (Err fault) t e = tt
 
 pub not_gathered : (old new : ShelfValue) (fault : RunFault) → GathersNamed old new (Err fault) → Tidies old new (Err fault)
 not_gathered old new fault (inl same) = absurd (let e = same.1 in cc)
-not_gathered old new fault (inr g) = record { leaves = g.1.leaves; unsealed = g.1.unsealed; called = inr (g.0.0, inl g.0.1); tidy = g.1.gather }
+not_gathered old new fault (inr g) = record { leaves = g.1.leaves; unsealed = g.1.unsealed; called = inr (g.0.0, inl g.0.1); tidy = g.1.gather; erased = tt }
 
 -- what the policy names
 pub young_by : (room : RoomState) (parts : List Part) (space : Space) (answer : Option ℕ) → space ≡ space_of room → parts ≡ room.parts → answer ≡ young_run space parts → young_run (space_of room) room.parts ≡ answer

@@ -106,6 +106,7 @@ module _ (old mid new : ShelfValue) (r : Rested old mid) (none : new.view ≡ No
     merge = (
       well_on old mid new r.none_failed (well_counts mid new r.none none m.near.0.counts m.near.0.opened m.near.0.stays),
       m.near.1.less ∙ ap length r.parts,
+      m.near.2,
     );
   }
   merged_one from false m = record {
@@ -223,7 +224,7 @@ none_failed_after a b p = by p.so_far
 -- ---- as the policy names the neighbours
 
 pub tidying_itself : (s : ShelfValue) → IsShelf s.room.room s.view → IsWhole s.room → s.room.room.job ≡ None → IsTidying s s
-tidying_itself s on_shelf whole none = record { merging = merging_itself s on_shelf whole none; called = inl refl }
+tidying_itself s on_shelf whole none = record { merging = merging_itself s on_shelf whole none; erased = inl refl; called = inl refl }
 
 module _ (a b : ShelfValue) (p : IsTidying a b) where
   named_before : (from : ℕ) → IsNamed b.room.room (Some from) → (from : ℕ) × IsNamed a.room.room (Some from)
@@ -234,11 +235,11 @@ module _ (a b : ShelfValue) (p : IsTidying a b) where
       by (inr before) = before
 
   pub tidying_on : (c : ShelfValue) (from : ℕ) → IsNamed b.room.room (Some from) → MergesOne b c (Ok true) → IsTidying a c
-  tidying_on c from named m = record { merging = merging_on a b c p.merging m; called = inr (named_before from named) }
+  tidying_on c from named m = record { merging = merging_on a b c p.merging m; erased = inr m.merge.2; called = inr (named_before from named) }
 
   -- the policy names no more neighbours
   pub tidied : IsNamed b.room.room None → MergesNamed a b (Ok tt)
-  tidied none = record { leaves = p.merging.leaves; unsealed = p.merging.unsealed; called = p.called; tidy = (none_failed_after a b p.merging, inl none) }
+  tidied none = record { leaves = p.merging.leaves; unsealed = p.merging.unsealed; called = p.called; tidy = (none_failed_after a b p.merging, inl none); erased = p.erased }
 
   -- it names some, and none fit
   pub none_fitted : (c : ShelfValue) (from : ℕ) → IsNamed b.room.room (Some from) → MergesOne b c (Ok false) → MergesNamed a c (Ok tt)
@@ -247,6 +248,7 @@ module _ (a b : ShelfValue) (p : IsTidying a b) where
     unsealed = unsealed_on a.room.room b.room.room c.room.room p.merging.unsealed m.unsealed;
     called = inr (named_before from named);
     tidy = ((well_after a b c p.merging m.merge.0).none_failed, inr m.merge.1);
+    erased = inr m.merge.1.none_retired;
   }
 
   pub tidy_failed : (c : ShelfValue) (from : ℕ) (fault : RunFault) → IsNamed b.room.room (Some from) → MergesOne b c (Err fault) → MergesNamed a c (Err fault)
@@ -255,6 +257,7 @@ module _ (a b : ShelfValue) (p : IsTidying a b) where
     unsealed = unsealed_on a.room.room b.room.room c.room.room p.merging.unsealed m.unsealed;
     called = inr (named_before from named);
     tidy = fault_after a b c p.merging fault m.merge;
+    erased = tt;
   }
 
 -- ---- until a region is free

@@ -1,4 +1,4 @@
--- What the live parts of a room are made of, as neighbours are merged and epochs are sealed.
+-- What the live parts of a room are made of, as the youngest are gathered, neighbours are merged and epochs are sealed.
 use Rattle.std.specs.Prelude.{◌≡◌, ℕ, List, ◌++◌, Some}
 use Rattle.fine_model.specs.declared.NodeId.{NodeId}
 use Rattle.fine_model.specs.declared.Part.{Part}
@@ -20,7 +20,7 @@ MakesWith more old new =
     (entry first last : Image) (parts : List Part) (sealed : List (List Row)) → old.room.image ≡ Some first → new.room.image ≡ Some last
     → AreMadeOf old.room.region_len entry first parts sealed old.room.parts → AreMadeOf old.room.region_len entry last parts (sealed ++ more) new.room.parts
 
--- Where each live part was one of those at an earlier moment, with the bytes that it had then, or in the grammar, each live part behind is: what is sealed and what is merged is in the grammar.
+-- Where each live part was one of those at an earlier moment, with the bytes that it had then, or in the grammar, each live part behind is: what is sealed, gathered or merged is in the grammar.
 abbrev pub KeepsGood : RoomValue → RoomValue → Type 0
 KeepsGood old new =
     (entry first last : Image) (parts : List Part) → old.room.image ≡ Some first → new.room.image ≡ Some last

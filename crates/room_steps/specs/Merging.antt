@@ -1,5 +1,5 @@
 -- The steps of what is done between transactions.
-use Rattle.std.specs.Prelude.{◌≡◌, ◌⊎◌, ℕ, ◌+◌, ◌<◌, ◌≤◌, Bool, true, false, length, Option, Some, None, Result, Ok, Err}
+use Rattle.std.specs.Prelude.{◌≡◌, ◌⊎◌, ℕ, ◌+◌, ◌<◌, ◌≤◌, Bool, true, false, [], length, Option, Some, None, Result, Ok, Err, OnOk}
 use Rattle.fine_model.specs.declared.FetchFault.{FetchFault}
 use Rattle.fine_model.specs.declared.FetchFault.TheVariants as fetch_fault
 use Rattle.fine_model.specs.declared.Damage.TheVariants as damage
@@ -43,7 +43,7 @@ of_merge (merge_fault.Fetch fault) = of_fetch fault
 
 -- neighbours were merged, or none fit
 abbrev pub MergeOr : ShelfValue → ShelfValue → Result Bool RunFault → Type 0
-MergeOr old new (Ok true) = IsWell old new × (length new.room.room.parts + 1 ≡ length old.room.room.parts)
+MergeOr old new (Ok true) = IsWell old new × (length new.room.room.parts + 1 ≡ length old.room.room.parts) × (new.room.room.retired ≡ [])
 MergeOr old new (Ok false) = IsWell old new × NoneMerge new.room
 MergeOr old new (Err fault) = FaultOf old new fault
 
@@ -62,6 +62,7 @@ pub record IsMerging (old new : ShelfValue) : Type 0 where
 -- so as the policy names the neighbours
 pub record IsTidying (old new : ShelfValue) : Type 0 where
   pub merging : IsMerging old new
+  pub erased : (new ≡ old) ⊎ (new.room.room.retired ≡ [])
   pub called : (new ≡ old) ⊎ ((from : ℕ) × IsNamed old.room.room (Some from))
 
 -- merging as long as the policy names neighbours, by the answer; nothing is changed where it names none
@@ -70,10 +71,11 @@ pub record MergesNamed (old new : ShelfValue) (result : Result (Unit {0}) RunFau
   pub unsealed : Unsealed old.room.room new.room.room
   pub called : (new ≡ old) ⊎ ((from : ℕ) × IsNamed old.room.room (Some from))
   pub tidy : TidyOr old new result
+  pub erased : OnOk result ((new ≡ old) ⊎ (new.room.room.retired ≡ []))
 
--- parts were gathered, or left as they are
+-- parts were gathered, or left as they are, and nothing is retired
 abbrev pub GatherOr : ShelfValue → ShelfValue → Result (Unit {0}) RunFault → Type 0
-GatherOr old new (Ok u) = IsWell old new
+GatherOr old new (Ok u) = IsWell old new × (new.room.room.retired ≡ [])
 GatherOr old new (Err fault) = FaultOf old new fault
 
 -- what gathering does, and erasing what is retired then

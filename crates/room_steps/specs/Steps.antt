@@ -132,6 +132,8 @@ pub record Tidies (old new : ShelfValue) (result : Result (Unit {0}) RunFault) :
   pub unsealed : Unsealed old.room.room new.room.room
   pub called : (new ≡ old) ⊎ NamesSome old.room.room
   pub tidy : TidyOr old new result
+  -- where anything was done, what was retired is erased
+  pub erased : OnOk result ((new ≡ old) ⊎ (new.room.room.retired ≡ []))
 
 -- ---- room for rows
 

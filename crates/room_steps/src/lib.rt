@@ -1,4 +1,4 @@
-//! What one thread does with a room between transactions: it seals what waits, merges neighbours, and makes room for rows.
+//! What one thread does with a room between transactions: it seals what waits, gathers the youngest parts, merges neighbours, and makes room for rows.
 #![tactic(auto)]
 
 pub mod laws;

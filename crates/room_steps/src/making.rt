@@ -33,7 +33,7 @@ fn is_epoch_full(fit: Fit) -> bool
     }
 }
 
-/// Seals what waits, and merges what the policy names behind it.
+/// Seals what waits, and gathers and merges what the policy names behind it.
 fn seal_and_tidy<D: LogDisk>(
     alloc: Global,
     room: &mut Room<D>,
@@ -130,14 +130,14 @@ fn find_room<D: LogDisk>(
 /// Makes room for the rows of a transaction, which take so many bytes in a partition beside its header: `None` where they may be appended now, or else why
 /// the transaction is refused. `full` is the flag that the log is full.
 ///
-/// Where they fit at once, nothing is changed, and the view stays out. Where what waits leaves too little of its region, it is sealed, and the neighbours are merged
-/// that the policy names then. Where a new epoch would take the last free region, neighbours are merged until one more is free.
+/// Where they fit at once, nothing is changed, and the view stays out. Where what waits leaves too little of its region, it is sealed, and the parts are
+/// gathered and merged that the policy names then. Where a new epoch would take the last free region, neighbours are merged until one more is free.
 ///
 /// `Large`: the rows alone need more bytes than a region has; nothing is changed. `Number`: no number of epochs or of places is left. `Full`: nothing waits,
 /// fewer than two regions are free, nothing is retired, and no neighbours fit what is free; then the flag is set, and with it set the same refusal comes without a merge.
 ///
 /// `Disk` comes only where the disk or a read failed in this call, or where the room was shut before, and then nothing is changed. After `Memory` and
-/// `Damaged` the room is open, and no call failed. With each fault, what was sealed or merged before stays so, and the flag is as it was.
+/// `Damaged` the room is open, and no call failed. With each fault, what was sealed, gathered or merged before stays so, and the flag is as it was.
 pub fn make_room<D: LogDisk>(
     alloc: Global,
     room: &mut Room<D>,

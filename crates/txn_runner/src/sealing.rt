@@ -14,7 +14,7 @@ use room_steps::{seal_waiting, tidy};
 use std::alloc::Global;
 
 impl<D: LogDisk> Runner<D> {
-    /// Seals what waits, and merges what the policy names behind it.
+    /// Seals what waits, and gathers and merges what the policy names behind it.
     pub(crate) fn seal_group<G: Gate>(&mut self, alloc: Global, gate: &G) -> Result<(), RunFault>
         requires shelf { IsShelf self.old.room.room self.old.view }
         requires no_job { self.old.room.room.job ≡ None }

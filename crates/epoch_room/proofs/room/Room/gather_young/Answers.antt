@@ -19,7 +19,7 @@ use Rattle.epoch_room.proofs.room.Room.gather_young.Goals as goal
 
 -- nothing was changed
 same : (g : Over) (c : Else-self g) → GathersYoung c.args.from (room_in g.D.LogDisk.state c.self.inside) (room_in g.D.LogDisk.state c.self.inside) (Ok false)
-same g c = gathers_still c.args.from (room_in g.D.LogDisk.state c.self.inside) (Ok false) c.self.invariant.0 (does_none _ c.self.invariant.0 c.if-self.false)
+same g c = gathers_still c.args.from (room_in g.D.LogDisk.state c.self.inside) (Ok false) c.self.invariant.0 (c.if-self.false, refl)
 
 none : (g : Over) (c : Else-self g) → GathersYoung c.args.from (room_in g.D.LogDisk.state c.self.inside) (room_in g.D.LogDisk.state c.self.inside) (Err room_fault.NoMemory)
 none g c = gathers_still c.args.from (room_in g.D.LogDisk.state c.self.inside) (Err room_fault.NoMemory) c.self.invariant.0 (does_none _ c.self.invariant.0 c.if-self.false)

@@ -1,6 +1,8 @@
 //! What no clause says: the bytes of regions and what they show, and each call with ample memory.
 
-ghost use Rattle.std.specs.Prelude.{◌≡◌, ◌<◌, [], IfOk};
+ghost use Rattle.std.specs.Prelude.{◌≡◌, ◌<◌, true, [], None, IfOk};
+ghost use Rattle.std.specs.List.{list_all};
+ghost use Rattle.fine_model.specs.Boards.{is_empty};
 ghost use Rattle.epoch_room.specs.Whole.{IsIdle};
 
 use epoch_room::{EraseFault, Room, RoomFault};
@@ -22,7 +24,7 @@ const LEAD: [u8; 79] =
 #[derive(Clone, Copy)]
 enum Shown {
     Nothing,
-    /// A partition of the epochs from one to another.
+    /// A partition of the epochs from one to another, whose row has the first one's number as its version.
     Epochs(u8, u8),
     /// A partition of epoch 1 with another byte at a place.
     Flipped(usize, u8),
@@ -41,6 +43,9 @@ fn bytes_of(shown: Shown) -> [u8; 79] {
     };
     bytes[20] = first;
     bytes[28] = last;
+    if let Epochs(first, _) = shown {
+        bytes[55] = first;
+    }
     if let Flipped(at, byte) = shown {
         if at < 79 {
             bytes[at] = byte;
@@ -305,6 +310,58 @@ fn erases_what_is_retired(rt: HostRuntime) -> Result<(), Fail> {
         assert_eq!(rt; room.counts().free, free);
         assert_eq!(rt; room.erase_all(), rest);
         assert_eq!(rt; room.counts().free, all_free);
+    }
+    Ok(())
+}
+
+/// Gathers both parts of a log, where the disk's calls fail from a number on: the answer, and what a crash then leaves of the disk, whose
+/// pending bytes are all one.
+fn gathered(alloc: Global, stop: u64, pick: u8) -> Result<(Result<bool, RoomFault>, MemDisk), Fail>
+    ensures { IfOk result (λ r. IsIdle r.1.disk) }
+{
+    let mut plan = FaultPlan::none(alloc);
+    plan.stop = stop;
+    let disk = planned(alloc, &[Epochs(1, 1), Epochs(2, 2), Nothing, Nothing], plan)?;
+    match open_log(alloc, disk) {
+        Ok(room) => crash_behind(room, pick),
+        Err((_fault, _disk)) => Err("open")?,
+    }
+}
+
+/// Gathers both parts of a room: the answer, and what a crash then leaves of its disk.
+fn crash_behind(room: Room<MemDisk>, pick: u8) -> Result<(Result<bool, RoomFault>, MemDisk), Fail>
+    requires board { list_all is_empty room.room.board ≡ true }
+    requires no_job { room.room.job ≡ None }
+    requires no_eyes { room.disk.eyes ≡ [] }
+    ensures { IfOk result (λ r. IsIdle r.1.disk) }
+{
+    let mut room = room;
+    let answer = room.gather(1);
+    Ok((answer, room.into_disk().crashed(&[pick; 128])?))
+}
+
+#[test]
+fn a_crash_inside_a_gathering_leaves_its_part_or_theirs(rt: HostRuntime) -> Result<(), Fail> {
+    let alloc = rt.alloc();
+    let (failed, both, one) = (Err(RoomFault::Disk), *b"01  ", *b"2   ");
+    // filling the disk takes five calls, and opening it four
+    for (stop, pick, answer, chain) in [
+        (10, 0xa7, failed, both),
+        (11, 0xa7, failed, both),
+        (12, 0xa7, failed, both),
+        (13, 0xa7, failed, both),
+        (14, 0, failed, both),
+        (14, 0xa7, failed, one),
+        (15, 0, failed, both),
+        (15, 0xa7, failed, one),
+        (16, 0, Ok(true), one),
+    ] {
+        let (answered, mut disk) = gathered(alloc, stop, pick)?;
+        assert_eq!(rt; answered, answer);
+        match read_chain(alloc, &mut disk) {
+            Ok(found) => assert_eq!(rt; leads(found.parts.as_slice()), chain),
+            Err(_fault) => Err("chain")?,
+        }
     }
     Ok(())
 }

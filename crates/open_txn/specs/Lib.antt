@@ -1,4 +1,5 @@
 pub mod Buckets
+pub mod Cited
 pub mod Codes
 pub mod Endings
 pub mod OneCall

@@ -2,14 +2,7 @@
 
 ghost use Rattle.std.specs.Prelude.{◌≡◌, ◌<◌, ℕ, List, [], ◌∷◌, false, IfErr, OnOk};
 ghost use Rattle.std.specs.List.{AllByRecursion};
-ghost use Rattle.fine_model.specs.declared.law.Origin.{Origin};
-ghost use Rattle.fine_model.specs.Bounds.{FitsCall};
-ghost use Rattle.fine_model.specs.History.{Commit};
-ghost use Rattle.fine_model.specs.Pushed.{key_of};
-ghost use Rattle.fine_model.specs.Trees.{bucket_of};
-ghost use Rattle.btree_nodes.specs.Calls.{OnCleanAnswer};
-ghost use Rattle.txn_draft.specs.Drafts.{blank, is_scan};
-ghost use Rattle.txn_draft.specs.Answers.{FailsBy};
+ghost use Rattle.open_txn.specs.Cited.{Commit, FailsBy, FitsCall, OnCleanAnswer, Origin, blank, bucket_of, is_scan, key_of};
 ghost use Rattle.open_txn.specs.OneCall.{AnswersOne};
 ghost use Rattle.open_txn.specs.Opened.{AnswersCalls, IsOpen, IsReady, IsRefusal, TouchesOf};
 ghost use Rattle.open_txn.specs.Steps.{Advances, Refuses};

@@ -2,8 +2,7 @@
 
 ghost use Rattle.std.specs.Prelude.{◌≡◌, ◌<◌, ◌+◌, ℕ, List, [], ◌∷◌, false, IfErr, OnOk};
 ghost use Rattle.fine_model.specs.declared.Call.TheVariants as call_of;
-ghost use Rattle.btree_nodes.specs.Calls.{OnCleanAnswer};
-ghost use Rattle.txn_draft.specs.Answers.{FailsBy};
+ghost use Rattle.open_txn.specs.Cited.{FailsBy, OnCleanAnswer};
 ghost use Rattle.open_txn.specs.OneCall.{AnswersOne};
 ghost use Rattle.open_txn.specs.Steps.{Gathers, Halts};
 ghost use Rattle.open_txn.specs.Traces.{CutsOff, CutsOffAt, ScansAll, ScansAt};

@@ -1,3 +1,4 @@
+pub mod Cited
 pub mod Drafts
 pub mod Uses
 pub mod Answers

@@ -1,14 +1,7 @@
 //! Answering calls.
 
 ghost use Rattle.std.specs.Prelude.{◌≡◌, ◌≤◌, ◌++◌, ℕ, List, false, OnOk, IfErr};
-ghost use Rattle.std.specs.Option.{option_to_list};
-ghost use Rattle.fine_model.specs.declared.Row.{Row as ModelRow};
-ghost use Rattle.fine_model.specs.Bounds.{FitsCall};
-ghost use Rattle.fine_model.specs.Pushed.{key_of};
-ghost use Rattle.fine_model.specs.Trees.{bucket_of};
-ghost use Rattle.node_cache.specs.Cache.{Cache};
-ghost use Rattle.btree_nodes.specs.Trees.{Serves, Holds, pairs_in};
-ghost use Rattle.btree_nodes.specs.Calls.{OnCleanAnswer, IsChange};
+ghost use Rattle.txn_draft.specs.Cited.{Cache, FitsCall, Holds, IsChange, OnCleanAnswer, Row as ModelRow, Serves, bucket_of, key_of, option_to_list, pairs_in};
 ghost use Rattle.txn_draft.specs.Drafts.{IsAnswered, FitsDraft, Keeps, is_scan};
 ghost use Rattle.txn_draft.specs.Uses.{IsUsed, UsedAfter, OnlyLoads, OnKept};
 ghost use Rattle.txn_draft.specs.Answers.{AnswersSoundly, KeepsBy, LeavesDraft, FailsBy};

@@ -1,16 +1,8 @@
 //! Scans over all buckets.
 
 ghost use Rattle.std.specs.Prelude.{◌≡◌, ◌≤◌, ◌<◌, ◌+◌, ◌*◌, ◌++◌, ℕ, List, length, [], false, true, take, OnOk, OnErr, IfErr};
-ghost use Rattle.fine_model.specs.declared.Row.{Row as ModelRow};
 ghost use Rattle.fine_model.specs.declared.Call.TheVariants as call_of;
-ghost use Rattle.fine_model.specs.ScanLaws.{IsKept};
-ghost use Rattle.fine_model.specs.Trees.{IsSound};
-ghost use Rattle.fine_model.specs.RowBytes.{buckets};
-ghost use Rattle.node_cache.specs.Cache.{Cache};
-ghost use Rattle.node_cache.specs.Given.{IsLoaded};
-ghost use Rattle.btree_nodes.specs.Trees.{Serves, Holds, AreUsed};
-ghost use Rattle.btree_nodes.specs.Walks.{LoadsOnWalk, walk_in};
-ghost use Rattle.btree_nodes.specs.Calls.{OnCleanAnswer, Reads, IsFirstUnfitBetween, SoundReading};
+ghost use Rattle.txn_draft.specs.Cited.{AreUsed, Cache, Holds, IsFirstUnfitBetween, IsKept, IsLoaded, IsSound, LoadsOnWalk, OnCleanAnswer, Reads, Row as ModelRow, Serves, SoundReading, buckets, walk_in};
 ghost use Rattle.txn_draft.specs.Drafts.{IsAnswered, FitsDraft, IsLost, is_scan};
 ghost use Rattle.txn_draft.specs.Uses.{IsUsed};
 ghost use Rattle.txn_draft.specs.Answers.{FailsBy};

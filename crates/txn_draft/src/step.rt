@@ -1,17 +1,10 @@
 //! One call in the bucket of its key: what the tree does, the reply, and what is written.
 
-ghost use Rattle.fine_model.specs.declared.Reply.TheVariants as reply;
 ghost use Rattle.std.specs.Prelude.{◌≡◌, ◌++◌, [], ◌∷◌, if◌then◌else◌, List, ℤ, ℕ, Option, Some, None, IfOk, OnOk};
-ghost use Rattle.std.specs.Option.{option_to_list};
 ghost use Rattle.fine_model.specs.declared.Call.TheVariants as call_of;
+ghost use Rattle.fine_model.specs.declared.Reply.TheVariants as reply;
 ghost use Rattle.fine_model.specs.declared.Write.TheVariants as write;
-ghost use Rattle.fine_model.specs.Bounds.{FitsCall};
-ghost use Rattle.fine_model.specs.Map.{Pair};
-ghost use Rattle.fine_model.specs.Pushed.{key_of};
-ghost use Rattle.fine_model.specs.RowBytes.{FitsKey, FitsValue};
-ghost use Rattle.fine_model.specs.Store.{answer, value_answer};
-ghost use Rattle.fine_model.specs.Trees.{bucket_of};
-ghost use Rattle.btree_nodes.specs.Calls.{OnCleanAnswer};
+ghost use Rattle.txn_draft.specs.Cited.{FitsCall, FitsKey, FitsValue, OnCleanAnswer, Pair, answer, bucket_of, key_of, option_to_list, value_answer};
 ghost use Rattle.txn_draft.specs.Steps.{IsStep, IsMade};
 
 use btree_nodes::{TreeFault, add_to, find, insert, remove};

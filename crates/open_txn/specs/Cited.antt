@@ -1,0 +1,9 @@
+-- What contracts cite of the crates below, from one place. Declares nothing.
+pub use Rattle.fine_model.specs.declared.law.Origin.{Origin}
+pub use Rattle.fine_model.specs.Bounds.{FitsCall}
+pub use Rattle.fine_model.specs.History.{Commit}
+pub use Rattle.fine_model.specs.Pushed.{key_of}
+pub use Rattle.fine_model.specs.Trees.{bucket_of}
+pub use Rattle.btree_nodes.specs.Calls.{OnCleanAnswer}
+pub use Rattle.txn_draft.specs.Answers.{FailsBy}
+pub use Rattle.txn_draft.specs.Drafts.{blank, is_scan}

@@ -33,6 +33,16 @@ pub struct Step {
     pub high: Option<Sep>,
 }
 
+/// The node of a number in a bucket.
+pub fn node_in(bucket: &Bucket, number: u32) -> NodeId
+    ensures { result ≡ record { bucket = bucket.now.bucket; number = number } }
+{
+    NodeId {
+        bucket: bucket.bucket(),
+        number,
+    }
+}
+
 /// The place among separators in whose child a key belongs: a key equal to a separator belongs to the right of it.
 pub fn place_among(seps: &Keys, key: &[u8]) -> usize
     requires { IsTrue (is_ascending seps.now) }
@@ -172,10 +182,7 @@ pub fn descend<S: NodeSource>(
     ensures way { Descends bucket.new height next key.now (bounds_by (given bucket.new) low high) number (λ failed. S.fails source.old failed source.new) result }
 {
     reach(source, bucket, number)?;
-    let unfit = NodeId {
-        bucket: bucket.bucket(),
-        number,
-    };
+    let unfit = node_in(bucket, number);
     if height == 0 {
         return if is_leaf_within(bucket, low, high, number) {
             Ok(number)

@@ -14,11 +14,11 @@ ghost use Rattle.btree_nodes.specs.Faults.{OnFault};
 ghost use Rattle.btree_nodes.specs.Trees.{Serves, Holds, AreUsed, LoadsAmong};
 ghost use Rattle.btree_nodes.specs.Walks.{visited_from, walk_in, LoadsOnWalk};
 
-use crate::descent::{Step, bound, high_bound, is_leaf_within, low_bound, reach};
+use crate::descent::{Step, bound, high_bound, is_leaf_within, low_bound, node_in, reach};
 use crate::fault::TreeFault;
 use crate::fitness::{is_above, is_fit_inner, is_up_to};
 use crate::tree::head_of;
-use fine_model::{Bytes, Copied, NoMemory, Node, NodeId, Pairs};
+use fine_model::{Bytes, Copied, NoMemory, Node, Pairs};
 use node_cache::{Bucket, NodeSource};
 use node_record::is_below;
 
@@ -98,12 +98,8 @@ fn scan_leaf(
     ensures way { (next : ℕ) → ScansFrom bucket.old 0 next low.now high.now (bounds_by (given bucket.old) at.low at.high) at.number wanted out.old out.new (λ _. ⊥) result }
 {
     if !is_leaf_within(bucket, at.low, at.high, at.number) {
-        return Err(TreeFault::Unfit {
-            node: NodeId {
-                bucket: bucket.bucket(),
-                number: at.number,
-            },
-        });
+        let node = node_in(bucket, at.number);
+        return Err(TreeFault::Unfit { node });
     }
     let left = take_from(bucket, at.number, low, high, wanted, out)?;
     bucket.note_own_keys(at.number);
@@ -189,12 +185,8 @@ fn scan_from<S: NodeSource>(
         return scan_leaf(bucket, low, high, at, wanted, out);
     }
     if !is_inner_within(bucket, next, at) {
-        return Err(TreeFault::Unfit {
-            node: NodeId {
-                bucket: bucket.bucket(),
-                number: at.number,
-            },
-        });
+        let node = node_in(bucket, at.number);
+        return Err(TreeFault::Unfit { node });
     }
     scan_kids(source, bucket, next, low, high, at, height, 0, wanted, out)
 }
@@ -295,10 +287,7 @@ fn scan_from_head<S: NodeSource>(
     ensures err { IfErr result (λ fault. OnFault fault (λ failed. S.fails source.old failed source.new) (IsFirstUnfitBetween bucket.new low.now high.now limit) (Unit {0})) }
 {
     reach(source, bucket, 0)?;
-    let unfit = NodeId {
-        bucket: bucket.bucket(),
-        number: 0,
-    };
+    let unfit = node_in(bucket, 0);
     let Some((root, next, depth)) = head_of(bucket) else {
         return Err(TreeFault::Unfit { node: unfit });
     };

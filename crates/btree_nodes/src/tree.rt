@@ -10,10 +10,10 @@ ghost use Rattle.node_cache.specs.Given.{given, IsCached, IsLoaded};
 ghost use Rattle.btree_nodes.specs.Trees.{Serves, Holds, LoadsOnWay, AreUsed, way_in, HeadIs, IsPath};
 ghost use Rattle.btree_nodes.specs.Calls.{IsFound, Answers, OnCleanAnswer, SoundReading};
 
-use crate::descent::{descend, reach};
+use crate::descent::{descend, node_in, reach};
 use crate::fault::TreeFault;
 use crate::leaf::{copy_of, value_in};
-use fine_model::{Bytes, Node, NodeId};
+use fine_model::{Bytes, Node};
 use node_cache::{Bucket, NodeSource};
 
 /// The way to a key: what the head says, and the leaf in which the key belongs.
@@ -51,10 +51,7 @@ pub fn find_leaf<S: NodeSource>(
     ensures path { Answers bucket.new key.now (IsPath bucket.new key.now) (λ failed. S.fails source.old failed source.new) result }
 {
     reach(source, bucket, 0)?;
-    let unfit = NodeId {
-        bucket: bucket.bucket(),
-        number: 0,
-    };
+    let unfit = node_in(bucket, 0);
     let Some((root, next, depth)) = head_of(bucket) else {
         return Err(TreeFault::Unfit { node: unfit });
     };

@@ -1,4 +1,4 @@
-use Rattle.std.proofs.Common.{◌≡◌, ◌<◌, sym, ◌∙◌, arith}
+use Rattle.std.proofs.Common.{◌≡◌, ◌<◌, sym, ◌∙◌, arith, refl}
 use Rattle.node_cache.specs.Given.{given}
 use Rattle.btree_nodes.specs.Descent.{bounds_by}
 use Rattle.btree_nodes.proofs.Ways.{way_leaf, unfit_leaf, unfit_inner, descends_on, step_behind, among_first, among_step, used_first, used_step}
@@ -13,11 +13,13 @@ returns-then-is_leaf_within-clause-way g t c =
 
 pub returns-else-is_leaf_within-clause-way : goal.returns-else-is_leaf_within-clause-way
 returns-else-is_leaf_within-clause-way g t c =
-    unfit_leaf c.reach.new.bucket c.args.next c.args.key.now (bounds_by (given c.reach.new.bucket) c.args.low c.args.high) c.args.number c.args.height c.bucket.result (omega arith) c.bucket.ensures (sym c.is_leaf_within.ensures ∙ c.if-is_leaf_within.false) (c.in_ok-reach.ensures).there
+    rw c.node_in-unfit.ensures
+    (unfit_leaf c.reach.new.bucket c.args.next c.args.key.now (bounds_by (given c.reach.new.bucket) c.args.low c.args.high) c.args.number c.args.height c.reach.new.bucket.bucket (omega arith) refl (sym c.is_leaf_within.ensures ∙ c.if-is_leaf_within.false) (c.in_ok-reach.ensures).there)
 
 pub returns-in_default-clause-way : goal.returns-in_default-clause-way
 returns-in_default-clause-way g t c =
-    unfit_inner c.reach.new.bucket c.args.next c.args.key.now (bounds_by (given c.reach.new.bucket) c.args.low c.args.high) c.args.number c.args.height c.bucket.result (omega arith) c.bucket.ensures (c.in_default.ensures).step (c.in_ok-reach.ensures).there
+    rw c.node_in-unfit.ensures
+    (unfit_inner c.reach.new.bucket c.args.next c.args.key.now (bounds_by (given c.reach.new.bucket) c.args.low c.args.high) c.args.number c.args.height c.reach.new.bucket.bucket (omega arith) refl (c.in_default.ensures).step (c.in_ok-reach.ensures).there)
 
 pub returns-clause-way : goal.returns-clause-way
 returns-clause-way g t c =

@@ -22,7 +22,7 @@ scan_from-returns-then-not-is_inner_within-clause-way g t c =
     let b = c.reach.new.bucket in
     let bounds = bounds_by (given b) c.args.at.low c.args.at.high in
     let above : 0 < c.args.height = omega arith in
-    subst (λ k. IsUnfitUnder b c.args.height c.args.next c.args.low.now c.args.high.now bounds c.args.at.number c.args.wanted (record { bucket = k; number = c.args.at.number })) (sym c.bucket.ensures)
+    subst (IsUnfitUnder b c.args.height c.args.next c.args.low.now c.args.high.now bounds c.args.at.number c.args.wanted) (sym c.node_in-node.ensures)
     (inner_unfit b c.args.next c.args.low.now c.args.high.now bounds c.args.at.number c.args.wanted c.args.height above (sym c.is_inner_within.ensures ∙ c.if-not-is_inner_within.true) (c.in_ok-reach.ensures).there)
 
 pub scan_from-returns-clause-way : goal.scan_from-returns-clause-way

@@ -14,7 +14,7 @@ use Rattle.btree_nodes.proofs.scanning.scan_from_head.Goals.{then-limit-eq0-via-
 pub returns-in_default-clause-err : goal.returns-in_default-clause-err
 returns-in_default-clause-err g c =
     let b = c.reach.new.bucket in
-    subst (λ k. IsFirstUnfitBetween b c.args.low.now c.args.high.now c.args.limit (record { bucket = k; number = 0 })) (sym c.bucket.ensures)
+    subst (IsFirstUnfitBetween b c.args.low.now c.args.high.now c.args.limit) (sym c.node_in-unfit.ensures)
     (record { of_bucket = refl; first = no_head b.bucket (given b) c.args.low.now c.args.high.now c.args.limit (given b 0).0 c.in_default.ensures; there = (c.in_ok-reach.ensures).there })
 
 pub returns-then-limit-eq0-clause-ok : goal.returns-then-limit-eq0-clause-ok

@@ -10,7 +10,7 @@ pub returns-then-not-is_leaf_within-clause-way : goal.returns-then-not-is_leaf_w
 returns-then-not-is_leaf_within-clause-way c = λ next.
     let b = c.args.bucket.now in
     let bounds = bounds_by (given b) c.args.at.low c.args.at.high in
-    subst (λ k. IsUnfitUnder b 0 next c.args.low.now c.args.high.now bounds c.args.at.number c.args.wanted (record { bucket = k; number = c.args.at.number })) (sym c.bucket.ensures)
+    subst (IsUnfitUnder b 0 next c.args.low.now c.args.high.now bounds c.args.at.number c.args.wanted) (sym c.node_in-node.ensures)
     (leaf_unfit b next c.args.low.now c.args.high.now bounds c.args.at.number c.args.wanted (sym c.is_leaf_within.ensures ∙ c.if-not-is_leaf_within.true) c.requires.there)
 
 pub returns-clause-way : goal.returns-clause-way

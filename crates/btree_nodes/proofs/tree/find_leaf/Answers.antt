@@ -14,7 +14,7 @@ use Rattle.btree_nodes.proofs.tree.find_leaf.Goals as goal
 pub returns-in_default-clause-path : goal.returns-in_default-clause-path
 returns-in_default-clause-path g c =
     let b = c.reach.new.bucket in
-    subst (λ k. IsFirstUnfit b c.args.key.now (record { bucket = k; number = 0 })) (sym c.bucket.ensures)
+    subst (IsFirstUnfit b c.args.key.now) (sym c.node_in-unfit.ensures)
     (record { of_bucket = refl; first = head_none b.bucket (given b) c.args.key.now (given b 0).0 c.in_default.ensures; there = (c.in_ok-reach.ensures).there })
 
 pub returns-in_err-leaf-clause-path : goal.returns-in_err-leaf-clause-path

@@ -8,6 +8,7 @@ use lib.Count.{ones}
 use Rattle.std.proofs.lemmas.Nat.{ones_cat, div-add-mod'}
 use Rattle.std.proofs.lemmas.Nat.Bits.{bit_at_lowest, bit_at-suc, bit_at-lt, bit_at_clear_same, bit_at_clear_other, bit_at-zero, bit_at_ones, bit_at_ones_above, bit_at_or, bit_at-trailing_zeros}
 use Rattle.fine_model.specs.Boards.{regions_by, set_of}
+use Rattle.fine_model.proofs.Pairs.{filter_twice}
 use Rattle.partition_hold.proofs.Bits.{among, same_regions, bit_more}
 
 -- ---- what passes a test
@@ -82,14 +83,6 @@ pub inserted : (word region : ℕ) → region < 64
     → regions_by (λ r. bit_at (bit_or word (1 * 2 ^ region % 2 ^ 64)) r == 1) ≡ set_of (regions_by (λ r. bit_at word r == 1) ++ region ∷ [])
 inserted word region small =
     same_regions _ _ (λ r below. bit_more word region r (regions_by (λ r. bit_at word r == 1)) small (sym (among (λ r. bit_at word r == 1) r below)))
-
-filter_twice : (q p : ℕ → Bool) (xs : List ℕ) → filter q (filter p xs) ≡ filter (λ x. p x && q x) xs
-filter_twice q p [] = refl
-filter_twice q p (x ∷ xs) = by (p x) (filter_twice q p xs)
-  where
-    by : (b : Bool) → filter q (filter p xs) ≡ filter (λ x. p x && q x) xs → filter q (cond b (x ∷ filter p xs) (filter p xs)) ≡ cond (b && q x) (x ∷ filter (λ x. p x && q x) xs) (filter (λ x. p x && q x) xs)
-    by true e = ap (λ ys. cond (q x) (x ∷ ys) ys) e
-    by false e = e
 
 pub inserted_all : (word more : ℕ) (regions : List ℕ) → ((r : ℕ) → r < 64 → (bit_at more r == 1) ≡ list_any (nat_eq r) regions)
     → regions_by (λ r. bit_at (bit_or word more) r == 1) ≡ set_of (regions_by (λ r. bit_at word r == 1) ++ regions)

@@ -1,3 +1,4 @@
+pub mod Cited
 pub mod Boards
 pub mod Views
 pub mod Sources

@@ -1,10 +1,8 @@
 //! The board of the views.
 
 ghost use Rattle.std.specs.Prelude.{◌≡◌, ◌+◌, ◌*◌, ◌<◌, ◌≤◌, IfOk, IfSome, IsSome, None, Some, List, length, option_map, replicate, slice_set};
-ghost use Rattle.std.specs.List.{AllByRecursion};
-ghost use Rattle.log_disk.specs.Disk.{Eye};
+ghost use Rattle.partition_hold.specs.Cited.{AllByRecursion, Eye, most_in_log};
 ghost use Rattle.fine_model.specs.Boards.{Buffer, buffer_at, empty_of, first_from, is_empty, names_region, naming_of};
-ghost use Rattle.fine_model.specs.RowBytes.{most_in_log};
 ghost use Rattle.partition_hold.specs.Boards.{buffers_of, held_of};
 ghost use Rattle.partition_hold.specs.Views.{opened};
 

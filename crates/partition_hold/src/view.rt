@@ -1,18 +1,8 @@
 //! The view through which a seat reads.
 
 ghost use Rattle.std.specs.Prelude.{◌≡◌, ◌⊎◌, ℕ, ◌+◌, ◌*◌, ◌<◌, ◌≤◌, List, Any, Contains, IfOk, IfSome, IsErr, IsErrOf, MatchResult, None, Ok, OnErr, [], length, true};
-ghost use Rattle.std.specs.List.{AllByRecursion};
-ghost use Rattle.log_disk.specs.Disk.{Eye};
-ghost use Rattle.fine_model.specs.declared.Row.{Row};
+ghost use Rattle.partition_hold.specs.Cited.{AllByRecursion, CountsFaults, Eye, FitsNode, IsSeen, LooksAt, Row, Searches, TellsRows, body_len, content, greatest, merged, most_in_log, rows_len, rows_of};
 ghost use Rattle.fine_model.specs.declared.FetchFault.TheVariants as fetch_fault;
-ghost use Rattle.fine_model.specs.BoundLaws.{FitsNode};
-ghost use Rattle.fine_model.specs.Merge.{merged};
-ghost use Rattle.fine_model.specs.Nodes.{content, rows_of};
-ghost use Rattle.fine_model.specs.RowBytes.{greatest, rows_len, most_in_log};
-ghost use Rattle.fine_model.specs.Views.{TellsRows};
-ghost use Rattle.fine_model.specs.Regions.{body_len};
-ghost use Rattle.partition_index.specs.Parts.{CountsFaults, IsSeen, LooksAt};
-ghost use Rattle.partition_index.specs.Search.{Searches};
 ghost use Rattle.partition_index.specs.Search.{TellsRows as TellsPart};
 ghost use Rattle.node_fetch.specs.Fetched.{HasBadEntry, HasBadRow, IsReplayOf, NoDamage, most_read, most_sought};
 ghost use Rattle.partition_merge.specs.Blocks.{Gives, IsAhead, SameBlocks};

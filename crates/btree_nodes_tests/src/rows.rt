@@ -3,38 +3,19 @@
 ghost use Rattle.std.specs.Prelude.{◌≡◌, ℕ, [], IfOk};
 ghost use Rattle.fine_model.specs.Nodes.{base};
 ghost use Rattle.node_cache.specs.Given.{OnCleanFault};
-ghost use Rattle.node_record.specs.Bounds.{FitsNode};
 
-use fine_model::{FetchFault, Items, Mark, NoMemory, Node, NodeId};
+use fine_model::{FetchFault, Mark, NoMemory, NodeId};
 use node_cache::{Bucket, Cached, NodeSource};
+use node_fetch::base;
 use node_record::{apply, read_row};
 use std::alloc::Global;
-
-/// A node before its first row.
-fn first_node(alloc: Global, number: u32) -> Node
-    ensures first { (bucket : ℕ) → (result, 0) ≡ base (record { bucket = bucket; number = number }) }
-    ensures fits { FitsNode result }
-{
-    if number == 0 {
-        Node::Head {
-            root: 1,
-            next: 2,
-            depth: 1,
-        }
-    } else {
-        Node::Leaf {
-            pairs: Items::new(alloc),
-        }
-    }
-}
 
 /// What the rows of a node among bytes leave, under an epoch. It ends at the first bytes that are no row.
 #[tactic(auto, unfolding(fine_model::specs::Nodes::step))]
 fn replay(alloc: Global, bytes: &[u8], id: NodeId, epoch: u64) -> Result<Cached, NoMemory>
     ensures epoch { IfOk result (λ kept. kept.epoch ≡ epoch) }
 {
-    let mut node = first_node(alloc, id.number);
-    let mut version = 0;
+    let (mut node, mut version) = base(alloc, id);
     let mut at = 0;
     for _row in 0..bytes.len() {
         let Ok((row, behind)) = read_row(alloc, bytes, at, Mark::Two) else {
@@ -58,9 +39,10 @@ fn node_of(alloc: Global, bytes: &[u8], id: NodeId, epoch: u64) -> Result<Cached
     ensures first { bytes.now ≡ [] → IfOk result (λ kept. (kept.node, kept.version) ≡ base id) }
 {
     if bytes.is_empty() {
+        let (node, version) = base(alloc, id);
         Ok(Cached {
-            node: first_node(alloc, id.number),
-            version: 0,
+            node,
+            version,
             epoch,
         })
     } else {

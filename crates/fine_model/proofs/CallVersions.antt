@@ -25,53 +25,54 @@ use Rattle.fine_model.proofs.Descent.{descend}
 use Rattle.fine_model.proofs.Versions.{follow-append, Follows, leaf_follows, inner_follows}
 use Rattle.fine_model.proofs.Legal.{taken, all_taken, legal_from}
 
-module _ (rows : List Row) (key value : List ℕ) (small : AreSmall rows) (sound : IsSound rows) where
+module _ (rows : List Row) (key value : List ℕ) (small : AreSmall rows) (sound : IsSound rows)
+    (t : HasTree (bucket_of key) (nodes_of rows (bucket_of key)) (nodes_of rows (bucket_of key) 0).0) where
   abbrev bucket : ℕ
   bucket = bucket_of key
 
   abbrev old : ℕ → Content
   old = nodes_of rows bucket
 
-  module _ (t : HasTree bucket old (old 0).0) where
-    unused : (n : ℕ) → t.next ≤ n → (old n).1 ≡ 0
-    unused n above = let u = t.tree in ap (λ c. c.1) (u.unused n above)
+  unused : (n : ℕ) → t.next ≤ n → (old n).1 ≡ 0
+  unused n above = let u = t.tree in ap (λ c. c.1) (u.unused n above)
 
-    grown_follows : VersionsFollow rows (g rows key value small sound t).rows
-    unfolding g
-    grown_follows =
-        descend rows bucket key value t.next (same_bucket key) small (Follows rows bucket key value t.next (same_bucket key) small unused)
-        (leaf_follows rows bucket key value t.next (same_bucket key) small unused) (inner_follows rows bucket key value t.next (same_bucket key) small unused)
-        (height rows key value small sound t) whole t.root (subtree rows key value small sound t) (same_bucket key) (once rows key value small sound t)
+  grown_follows : VersionsFollow rows (g rows key value small sound t).rows
+  unfolding g
+  grown_follows =
+      descend rows bucket key value t.next (same_bucket key) small (Follows rows bucket key value t.next (same_bucket key) small unused)
+      (leaf_follows rows bucket key value t.next (same_bucket key) small unused) (inner_follows rows bucket key value t.next (same_bucket key) small unused)
+      (height rows key value small sound t) whole t.root (subtree rows key value small sound t) (same_bucket key) (once rows key value small sound t)
 
-    head_follows : (s : Option (List ℕ × ℕ)) → VersionsFollow rows (with_head bucket (old 0).1 t.root t.next t.depth (g rows key value small sound t).rows (g rows key value small sound t).next s).rows
-    unfolding with_head
-    head_follows None = by ((g rows key value small sound t).next == t.next)
-      where
-        by : (b : Bool) → VersionsFollow rows (cond b (g rows key value small sound t).rows ((g rows key value small sound t).rows ++ row_of bucket 0 ((old 0).1 + 1) (rec.HeadImage t.root (g rows key value small sound t).next t.depth) ∷ []))
-        by true = grown_follows
-        by false = follow-append rows (g rows key value small sound t).rows _ grown_follows (ap (λ c. c.1 + 1) (sym (mid_head rows key value small sound t)), tt)
-    head_follows (Some split) =
-        follow-append rows (g rows key value small sound t).rows _ grown_follows (
-          (let e : (mid rows key value small sound t fresh).1 ≡ 0 = ap (λ c. c.1) (mid_rest rows key value small sound t fresh (omega arith)) ∙ unused fresh ordered in omega (arith, e)),
-          (
-            ap (λ c. c.1 + 1) (sym (push_other bucket (rows ++ (g rows key value small sound t).rows) fresh 1 (rec.InnerImage (split.0 ∷ []) (t.root ∷ split.1 ∷ [])) 0 (λ e. let some = some_next rows key value small sound t in absurd (omega (arith, e, some, ordered)))
-                ∙ mid_head rows key value small sound t)),
-            tt,
-          ),
-        )
-      where
-        fresh : ℕ
-        fresh = (g rows key value small sound t).next
+  head_follows : (s : Option (List ℕ × ℕ)) → VersionsFollow rows (with_head bucket (old 0).1 t.root t.next t.depth (g rows key value small sound t).rows (g rows key value small sound t).next s).rows
+  unfolding with_head
+  head_follows None = by ((g rows key value small sound t).next == t.next)
+    where
+      by : (b : Bool) → VersionsFollow rows (cond b (g rows key value small sound t).rows ((g rows key value small sound t).rows ++ row_of bucket 0 ((old 0).1 + 1) (rec.HeadImage t.root (g rows key value small sound t).next t.depth) ∷ []))
+      by true = grown_follows
+      by false = follow-append rows (g rows key value small sound t).rows _ grown_follows (ap (λ c. c.1 + 1) (sym (mid_head rows key value small sound t)), tt)
+  head_follows (Some split) =
+      follow-append rows (g rows key value small sound t).rows _ grown_follows (
+        (let e : (mid rows key value small sound t fresh).1 ≡ 0 = ap (λ c. c.1) (mid_rest rows key value small sound t fresh (omega arith)) ∙ unused fresh ordered in omega (arith, e)),
+        (
+          ap (λ c. c.1 + 1) (sym (push_other bucket (rows ++ (g rows key value small sound t).rows) fresh 1 (rec.InnerImage (split.0 ∷ []) (t.root ∷ split.1 ∷ [])) 0 (λ e. let some = some_next rows key value small sound t in absurd (omega (arith, e, some, ordered)))
+              ∙ mid_head rows key value small sound t)),
+          tt,
+        ),
+      )
+    where
+      fresh : ℕ
+      fresh = (g rows key value small sound t).next
 
-        ordered : t.next ≤ (g rows key value small sound t).next
-        ordered = let gr = grows rows key value small sound t in gr.ordered
+      ordered : t.next ≤ (g rows key value small sound t).next
+      ordered = let gr = grows rows key value small sound t in gr.ordered
 
-    set_tree_follows : VersionsFollow rows (set_push bucket old (key, value) (old 0).0).rows
-    unfolding set_push g height
-    set_tree_follows = subst (λ n. VersionsFollow rows (set_push bucket old (key, value) n).rows) (sym t.is) (head_follows (g rows key value small sound t).split)
+  set_tree_follows : VersionsFollow rows (set_push bucket old (key, value) (old 0).0).rows
+  unfolding set_push g height
+  set_tree_follows = subst (λ n. VersionsFollow rows (set_push bucket old (key, value) n).rows) (sym t.is) (head_follows (g rows key value small sound t).split)
 
-  set_follows : VersionsFollow rows (set_push bucket old (key, value) (old 0).0).rows
-  set_follows = set_tree_follows (has_tree bucket old (old 0).0 (sound.fit bucket (bucket_below key)))
+set_follows : (rows : List Row) (key value : List ℕ) → AreSmall rows → IsSound rows → VersionsFollow rows (set_push (bucket_of key) (nodes_of rows (bucket_of key)) (key, value) (nodes_of rows (bucket_of key) 0).0).rows
+set_follows rows key value small sound =
+    set_tree_follows rows key value small sound (has_tree (bucket_of key) (nodes_of rows (bucket_of key)) (nodes_of rows (bucket_of key) 0).0 (sound.fit (bucket_of key) (bucket_below key)))
 
 leaf_row_follows : (rows : List Row) (bucket : ℕ) (key : List ℕ) (change : Rec) (head : Node) → VersionsFollow rows (leaf_push bucket (nodes_of rows bucket) key change head).rows
 unfolding leaf_push

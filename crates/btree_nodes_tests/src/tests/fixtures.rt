@@ -20,6 +20,18 @@ pub struct Tree {
     pub log: PrivateLog,
 }
 
+impl Tree {
+    /// What a call takes of it.
+    fn parts(&mut self) -> (Global, &mut Rows, &mut Bucket, &mut PrivateLog) {
+        (
+            self.alloc,
+            &mut self.source,
+            &mut self.bucket,
+            &mut self.log,
+        )
+    }
+}
+
 /// A tree of bucket 64 on the rows that bytes spell, with nothing cached.
 pub fn tree_of(alloc: Global, rows: &[u8]) -> Result<Tree, NoMemory> {
     let bytes = Vec::from_slice(alloc, rows)?;
@@ -65,44 +77,27 @@ pub fn get(tree: &mut Tree, key: &[u8]) -> Result<Option<Bytes>, TreeFault> {
 }
 
 pub fn put(tree: &mut Tree, key: &[u8], value: &[u8]) -> Result<(), TreeFault> {
-    if !is_of(&tree.bucket, key) || value.is_empty() || value.len() > 256 {
+    let (alloc, source, bucket, log) = tree.parts();
+    if !is_of(bucket, key) || value.is_empty() || value.len() > 256 {
         return Err(TreeFault::NoMemory);
     }
-    insert(
-        tree.alloc,
-        &mut tree.source,
-        &mut tree.bucket,
-        &mut tree.log,
-        key,
-        value,
-    )
+    insert(alloc, source, bucket, log, key, value)
 }
 
 pub fn del(tree: &mut Tree, key: &[u8]) -> Result<bool, TreeFault> {
-    if !is_of(&tree.bucket, key) {
+    let (alloc, source, bucket, log) = tree.parts();
+    if !is_of(bucket, key) {
         return Err(TreeFault::NoMemory);
     }
-    remove(
-        tree.alloc,
-        &mut tree.source,
-        &mut tree.bucket,
-        &mut tree.log,
-        key,
-    )
+    remove(alloc, source, bucket, log, key)
 }
 
 pub fn add(tree: &mut Tree, key: &[u8], by: i64) -> Result<Reply, TreeFault> {
-    if !is_of(&tree.bucket, key) {
+    let (alloc, source, bucket, log) = tree.parts();
+    if !is_of(bucket, key) {
         return Err(TreeFault::NoMemory);
     }
-    add_to(
-        tree.alloc,
-        &mut tree.source,
-        &mut tree.bucket,
-        &mut tree.log,
-        key,
-        by,
-    )
+    add_to(alloc, source, bucket, log, key, by)
 }
 
 pub fn pairs(tree: &mut Tree, low: &[u8], high: &[u8], limit: u32) -> Result<Pairs, TreeFault> {

@@ -3,6 +3,7 @@
 //! Neighbours are so joined in one step, however many they are, where a merge takes two at a time. The rows stay as they are: none folds into an image.
 #![tactic(auto)]
 
+mod body;
 mod gathering;
 #[cfg(test)]
 mod tests;

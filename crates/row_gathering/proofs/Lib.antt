@@ -1,0 +1,4 @@
+pub mod KeysFrom
+pub mod FoundRows
+pub mod Entries
+pub mod Bodies

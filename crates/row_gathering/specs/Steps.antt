@@ -86,7 +86,7 @@ pub record IndexedSoFar (header : Header) (body : List ℕ) (rows : List Row) (c
   pub number : i ≡ length whole
   pub there : i ≤ header.nodes
   pub same : take (index_entry * i) (index_area header body) ≡ take (index_entry * i) (index_bytes rows)
-  pub offset : offset ≡ rows_len (take count rows)
+  pub place : offset ≡ rows_len (take count rows)
 
 -- ---- bodies
 
@@ -122,7 +122,7 @@ pub record AddsRows (disk : Disk) (part : Part) (start : ℕ) (bytes : List ℕ)
 pub record AreRead (disk : Disk) (parts : List Part) (bytes : List ℕ) (keys : List RowAt) : Type 0 where
   pub rows : List Row
   pub are : AreRows bytes rows
-  pub keys : keys ≡ keys_from 0 rows
+  pub keyed : keys ≡ keys_from 0 rows
   pub costs : cost rows ≤ bodies_len parts
   pub told : IfSome disk.told (λ told. AllByRecursion (λ p. HasHeader disk.region_len told.bytes p.region p.header) parts → AreRowsOf disk.region_len told.bytes parts rows)
 

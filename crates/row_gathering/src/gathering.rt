@@ -72,7 +72,10 @@ fn bodies_len(parts: &[Part], region_len: u64) -> Option<u64>
 {
     let mut end = BODY_START;
     for part in parts {
-        if part.header.regions != 1 || end > region_len {
+        if part.header.regions != 1 {
+            return None;
+        }
+        if end > region_len {
             return None;
         }
         end += body_len(&part.header);

@@ -1,10 +1,10 @@
 -- What was read of a part is its rows, or no rows are those of the part; and those of parts, one after the other.
-use Rattle.std.proofs.Common.{◌≡◌, ◌≢◌, ◌⊎◌, ℕ, ◌+◌, ◌-◌, ◌*◌, ◌<◌, ◌≤◌, List, [], ◌∷◌, ◌++◌, length, take, drop, refl, sym, ap, ◌∙◌, inl, inr, arith, subst, sum_by, append-nil, append_assoc, length-append, length-drop, length-take, take_at, take-append-drop, slice_range, flat_map, Option, Some, None, IfSome, Ok}
+use Rattle.std.proofs.Common.{◌≡◌, ◌≢◌, ◌⊎◌, ℕ, zero, suc, ◌+◌, ◌-◌, ◌*◌, ◌<◌, ◌≤◌, List, [], ◌∷◌, ◌++◌, length, take, drop, refl, sym, ap, ◌∙◌, inl, inr, arith, subst, sum_by, append-nil, append_assoc, length-append, length-drop, length-take, take_at, take-append-drop, slice_range, flat_map, Option, Some, None, IfSome, Ok}
 use Rattle.std.specs.Prelude.{Any, Result, slice_index_or}
 use Rattle.std.specs.List.{AllByRecursion}
 use Rattle.std.proofs.Math.Seq.{take-add}
 use Rattle.std.proofs.lemmas.Grind.{common_steps}
-use Rattle.std.proofs.lemmas.List.{drop-append-le, take_all, take-append-le}
+use Rattle.std.proofs.lemmas.List.{drop-append-le, take_all, take_more, take-append-le}
 use Rattle.std.proofs.lemmas.List.Sums.{sum_by_push}
 use Rattle.fine_model.specs.declared.Header.{Header}
 use Rattle.fine_model.specs.declared.Mark.{Mark}
@@ -186,6 +186,16 @@ module _ (disk : Disk) (part : Part) (body : List ℕ) (one : part.header.region
 -- what stands behind the last part
 abbrev pub no_part : Part
 no_part = record { region = 0; header = record { mark = mark.One; range = record { first = 0; last = 0 }; rows = 0; nodes = 0; area = 0; regions = 0; more = [] } }
+
+-- what holds of all parts holds of the one at a place
+pub all_at : (P : Part → Type 0) (parts : List Part) (i : ℕ) (d : Part) → AllByRecursion P parts → i < length parts → P (slice_index_or parts i d)
+all_at P [] i d all here = absurd (omega (arith, here))
+all_at P (part ∷ parts) zero d all here = all.0
+all_at P (part ∷ parts) (suc i) d all here = all_at P parts i d all.1 (omega (arith, here))
+
+-- the bodies of one part more
+pub bodies_more : (parts : List Part) (i : ℕ) → i < length parts → bodies_len (take i parts) + body_len (slice_index_or parts i no_part).header ≡ bodies_len (take (i + 1) parts)
+bodies_more parts i here = omega (arith, ap bodies_len (take_more parts i no_part here), sum_by_push (λ (p : Part). body_len p.header) (take i parts) (slice_index_or parts i no_part))
 
 -- what holds of the part at a place holds of some part
 pub any_at : (P : Part → Type 0) (parts : List Part) (i : ℕ) (d : Part) → i < length parts → P (slice_index_or parts i d) → Any P parts

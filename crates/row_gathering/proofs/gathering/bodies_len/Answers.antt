@@ -1,0 +1,9 @@
+use Rattle.std.proofs.Common.{◌≡◌, ◌≢◌, ◌+◌, ◌<◌, length, inl, inr, arith}
+use Rattle.std.proofs.lemmas.List.Sums.{sum_by-take-le}
+use Rattle.fine_model.specs.declared.Part.{Part}
+use Rattle.fine_model.specs.Regions.{body_len}
+use Rattle.row_gathering.proofs.Bodies.{any_at, no_part}
+use Rattle.row_gathering.proofs.gathering.bodies_len.Goals as goal
+
+pub returns-then-part-ne1-clause-none : goal.returns-then-part-ne1-clause-none
+returns-then-part-ne1-clause-none c = inl (any_at (λ (p : Part). p.header.regions ≢ 1) c.args.parts.now c.loop-part.part-index no_part (omega arith) c.if-part-ne1.true)

@@ -1,7 +1,8 @@
 -- What was read and arranged is what gathering answers, and where it is not arranged no rows in order are those of the parts.
-use Rattle.std.proofs.Common.{◌≡◌, ℕ, zero, suc, ◌<◌, List, [], ◌∷◌, length, take, sym, ap, ◌∙◌, subst, inr, arith, Option, Some, None, IfSome, IsTrue}
+use Rattle.std.proofs.Common.{◌≡◌, ℕ, zero, suc, ◌<◌, ◌≤◌, List, [], ◌∷◌, ◌++◌, length, take, sym, ap, ◌∙◌, subst, inr, arith, Option, Some, None, IfSome, IsTrue}
 use Rattle.std.specs.Prelude.{Any, slice_index_or}
 use Rattle.std.specs.List.{AllByRecursion}
+use Rattle.std.proofs.lemmas.List.{take-append-le, take-take}
 use Rattle.fine_model.specs.declared.Mark.TheVariants as mark
 use Rattle.fine_model.specs.declared.Part.{Part}
 use Rattle.fine_model.specs.declared.Row.{Row}
@@ -77,3 +78,7 @@ none_of_part disk parts (k, p, here, is, lacks) = by disk.told lacks
     by (Some t) none = λ headers rows ordered gathered.
         let sealed = part_there disk.region_len t.bytes parts gathered.own k p gathered.are_rows here is in
         none (subst (λ (q : Part). HasHeader disk.region_len t.bytes q.region q.header) is (all_at (λ q. HasHeader disk.region_len t.bytes q.region q.header) parts k p headers here)) sealed.0 sealed.1
+
+-- bytes that were written over in place, and cut off
+pub cut_twice : (read rest bytes : List ℕ) (end len : ℕ) → bytes ≡ take end (take len (read ++ rest)) → end ≤ len → len ≡ length read → bytes ≡ take end read
+cut_twice read rest bytes end len is low long = is ∙ take-take end len (read ++ rest) low ∙ take-append-le end read rest (omega (arith, low, long))

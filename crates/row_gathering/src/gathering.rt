@@ -111,6 +111,7 @@ fn read_parts<D: LogDisk>(
     requires long { length bytes.old ≡ bodies_len parts.now }
     requires small { bodies_len parts.now < 4294967296 }
     requires none { keys.old.items ≡ [] }
+    ensures len { length bytes.new ≡ length bytes.old }
     ensures within { IfOk result (λ found. IfSome found (λ end. end ≤ length bytes.new)) }
     ensures rows { IfOk result (λ found. IfSome found (λ end. AreRead (D.state disk.old) parts.now (take end bytes.new) keys.new.items)) }
     ensures lacks { IfOk result (λ found. IfNone found (Any (LacksPart (D.state disk.old)) parts.now)) }

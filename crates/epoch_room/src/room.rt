@@ -369,6 +369,21 @@ impl<D: LogDisk> Room<D> {
         }
     }
 
+    /// The last sealed epoch. By `whole`, what holds of every room comes to the caller, at no walk over its parts.
+    pub fn sealed(&self) -> u64
+        ensures sealed { result ≡ self.now.room.sealed }
+        ensures whole { IsWhole self.now }
+    {
+        self.sealed
+    }
+
+    /// The number of entries in the open epoch.
+    pub fn waiting(&self) -> u64
+        ensures { result ≡ self.now.room.waiting }
+    {
+        self.epoch.waiting()
+    }
+
     /// Whether fewer than half of all regions are free.
     pub fn pressed(&self) -> bool
         ensures { result ≡ is_pressed self.now.room }

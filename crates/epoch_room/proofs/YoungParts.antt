@@ -11,11 +11,10 @@ use Rattle.fine_model.specs.RowBytes.{greatest}
 use Rattle.fine_model.specs.Chain.{chain_end, regions_of}
 use Rattle.fine_model.specs.Regions.{continuations}
 use Rattle.fine_model.proofs.Times.{times, times-append, times-same, times_absent}
-use Rattle.epoch_room.specs.Gathering.{retire_all}
+use Rattle.epoch_room.specs.Gathering.{retire_all, young_at}
 use Rattle.epoch_room.specs.MergeSealing.{retire}
 use Rattle.epoch_room.specs.Value.{all_regions}
 use Rattle.epoch_room.specs.Whole.{AreRising, FollowOn}
-use Rattle.epoch_room.specs.Youngest.{AreYoungAt}
 use Rattle.epoch_room.proofs.Counting.{all_back}
 use Rattle.epoch_room.proofs.LedParts.{lead_apart}
 use Rattle.epoch_room.proofs.Retired.{retire_long, retire_rising, times_moved}
@@ -95,8 +94,10 @@ all_rising (q ∷ run) retired once up =
 
 -- ---- the first part that begins at an epoch or later
 
-abbrev pub young_at : ℕ → List Part → ℕ
-young_at from parts = position_or_len (λ p. nat_le from p.header.range.first) parts
+-- the parts before a place begin before an epoch, and that at the place does not
+pub record AreYoungAt (from : ℕ) (parts : List Part) (at : ℕ) : Type 0 where
+  pub older : AllByRecursion (λ p. p.header.range.first < from) (take at parts)
+  pub young : (oldest : Part) (newer : List Part) → drop at parts ≡ oldest ∷ newer → from ≤ oldest.header.range.first
 
 pub older_before : (from : ℕ) (parts : List Part) → AllByRecursion (λ p. p.header.range.first < from) (take (young_at from parts) parts)
 older_before from [] = tt
@@ -163,11 +164,14 @@ are_two parts at many = by (drop at parts) (omega (arith, many, length-drop at p
 pub are_young : (from : ℕ) (parts : List Part) → AreYoungAt from parts (young_at from parts)
 are_young from parts = record { older = older_before from parts; young = young_there from parts }
 
+-- the parts from a place on, as they are sliced
+pub all_behind : (parts slice : List Part) (at : ℕ) → slice ≡ parts → take (length slice - at) (drop at slice) ≡ drop at parts
+all_behind parts slice at is = ap (λ ps. take (length ps - at) (drop at ps)) is ∙ take_all (length parts - at) (drop at parts) (omega (arith, length-drop at parts))
+
 -- what holds of all parts holds of those from a place on
 pub all_from : (P : Part → Type 0) (parts slice : List Part) (at : ℕ) → slice ≡ parts → AllByRecursion P parts → AllByRecursion P (take (length slice - at) (drop at slice))
 all_from P parts slice at is all =
-    subst (λ ps. AllByRecursion P (take (length ps - at) (drop at ps))) (sym is)
-    (subst (AllByRecursion P) (sym (take_all (length parts - at) (drop at parts) (omega (arith, length-drop at parts)))) (all_back P (take at parts) (drop at parts) (subst (AllByRecursion P) (sym (take-append-drop at parts)) all)))
+    subst (AllByRecursion P) (sym (all_behind parts slice at is)) (all_back P (take at parts) (drop at parts) (subst (AllByRecursion P) (sym (take-append-drop at parts)) all))
 
 -- a lead is a region of its part
 pub leads_below : (most : ℕ) (parts : List Part) → AllByRecursion (λ r. r < most) (all_regions parts) → AllByRecursion (λ p. p.region < most) parts

@@ -25,7 +25,7 @@ use Rattle.log_disk.specs.Moments.{ContinuesOn, IsLeft, LeavesOnly}
 use Rattle.log_disk.proofs.Moments.{now_since, synced_now}
 use Rattle.log_disk.proofs.Writes.{same_outside_written}
 use Rattle.epoch_room.specs.Gate.{DirtiesOnly, HasBytes, IsAtGate, IsSealing, IsUngated, KeepsBeside, LeavesBehind, LeavesSealing, ReadsBehind, gate}
-use Rattle.epoch_room.specs.Gathering.{GathersOr, GathersYoung, HoldsGathered, gathered_part, gathered_state, retire_all}
+use Rattle.epoch_room.specs.Gathering.{GathersOr, GathersYoung, HoldsGathered, WereGathered, gathered_part, gathered_state, retire_all}
 use Rattle.epoch_room.specs.Meaning.{GoesOnStanding, Keeps, ShownInside, Stands}
 use Rattle.epoch_room.specs.Value.{Kept, RoomValue, on, regions_outside, taken, value_of}
 use Rattle.epoch_room.specs.Whole.{AreApart, HoldsParts, IsJob, IsWhole, NamesWhole}
@@ -215,12 +215,15 @@ module _ (old entry : Disk) (kept : Kept) (before : List Part) (oldest : Part) (
             no_longer = h.no_longer;
           })
 
-      pub gathers_lost : (from : ℕ) → GathersYoung from (value_of old entry kept) (value_of new entry (record kept { free = free; lost = region ∷ []; is_shut = true })) (Err room_fault.Disk)
-      gathers_lost from =
+      pub gathers_lost : (from : ℕ) → WereGathered from (value_of old entry kept) → GathersYoung from (value_of old entry kept) (value_of new entry (record kept { free = free; lost = region ∷ []; is_shut = true })) (Err room_fault.Disk)
+      gathers_lost from were =
           gathers from shut (Err room_fault.Disk)
-          (inr (shuts _ _ c.open_room
-          (ap (λ (l : List ℕ). on (record (value_of old entry kept).room { free = free; is_shut = true; lost = l }) new) (sym (lost_is old entry kept before oldest newer region free rows bytes c))
-          ∙ ap (λ (xs : List ℕ). on (record (value_of old entry kept).room { free = drop 1 xs; is_shut = true; lost = set_of (take 1 xs) }) new) (sym c.lowest)) refl refl same time counts f)) (keeps shut lost_stands refl refl (λ h. risen))
+          (inr (
+            (shuts _ _ c.open_room
+                (ap (λ (l : List ℕ). on (record (value_of old entry kept).room { free = free; is_shut = true; lost = l }) new) (sym (lost_is old entry kept before oldest newer region free rows bytes c))
+                ∙ ap (λ (xs : List ℕ). on (record (value_of old entry kept).room { free = drop 1 xs; is_shut = true; lost = set_of (take 1 xs) }) new) (sym c.lowest)) refl refl same time counts f),
+            were,
+          )) (keeps shut lost_stands refl refl (λ h. risen))
 
     -- ---- the part was sealed
 

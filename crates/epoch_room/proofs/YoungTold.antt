@@ -1,6 +1,6 @@
 -- What is known once the rows of the youngest parts are spelled: they may be sealed.
-use Rattle.std.proofs.Common.{◌≡◌, ℕ, List, [], ◌∷◌, ◌++◌, drop, length, take, Some, None, Ok, Err, Result, refl, sym, ap, subst, ◌∙◌, arith, length-take, take-append-drop}
-use Rattle.std.specs.Prelude.{IfSome, IsErrOf, Option, slice_get}
+use Rattle.std.proofs.Common.{◌≡◌, ℕ, List, [], ◌∷◌, ◌++◌, ◌-◌, ◌<◌, drop, length, take, Some, None, Ok, Err, Result, refl, sym, ap, subst, ◌∙◌, inl, inr, arith, length-drop, length-take, take-append-drop}
+use Rattle.std.specs.Prelude.{IfNone, IfSome, IsErrOf, Option, slice_get}
 use Rattle.std.specs.List.{AllByRecursion}
 use Rattle.fine_model.specs.declared.Part.{Part}
 use Rattle.fine_model.specs.declared.Range.{Range}
@@ -14,10 +14,10 @@ use Rattle.log_disk.specs.Moments.{IsLeft}
 use Rattle.log_partition.specs.Encoding.{AreRowsAt, IsEncoded}
 use Rattle.log_partition.specs.declared.encoding.Partition.{Partition}
 use Rattle.node_record.specs.declared.key.RowAt.{RowAt}
-use Rattle.row_gathering.specs.Gathering.{AreGathered, OnlyReads}
+use Rattle.row_gathering.specs.Gathering.{AreGathered, Declines, GathersRows, OnlyReads}
 use Rattle.row_gathering.specs.declared.gathering.Gathered.{Gathered}
-use Rattle.epoch_room.specs.Gathering.{range_over}
-use Rattle.epoch_room.specs.Value.{Kept, value_of}
+use Rattle.epoch_room.specs.Gathering.{DeclinesYoung, WereGathered, range_over, young_at, young_parts}
+use Rattle.epoch_room.specs.Value.{Kept, RoomValue, value_of}
 use Rattle.epoch_room.specs.Whole.{HoldsParts, IsWhole}
 use Rattle.epoch_room.specs.Youngest.{CanSealYoung}
 use Rattle.epoch_room.proofs.Counting.{all_back, all_front}
@@ -105,6 +105,30 @@ module _ (old entry : Disk) (kept : Kept) (whole : IsWhole (value_of old entry k
 
     pub same_header : partition.header ≡ header_of (range_over two.oldest two.newer) s.gathers.rows
     same_header = encodes.header
+
+-- ---- why the parts are gathered, or not
+
+pub were_gathered : (value : RoomValue) (at region : ℕ) (gathered : Gathered) → CanSealYoung value at region gathered → (from : ℕ) → at ≡ young_at from value.room.parts → WereGathered from value
+were_gathered value at region gathered s from is = record {
+  several = let many = s.several in omega (arith, many, length-drop (young_at from value.room.parts) value.room.parts, is);
+  gathered = gathered;
+  gathers = subst (λ n. GathersRows value.disk (drop n value.room.parts) gathered) is s.gathers;
+}
+
+pub too_few : (value : RoomValue) (from n at : ℕ) → n ≡ length value.room.parts → at ≡ young_at from value.room.parts → n - at < 2 → DeclinesYoung from value
+too_few value from n at long is few = inl (omega (arith, few, long, is, length-drop (young_at from value.room.parts) value.room.parts))
+
+pub none_free : (value : RoomValue) (from : ℕ) (free : List ℕ) (lowest : Option ℕ) → free ≡ value.room.free → lowest ≡ slice_get free 0 → lowest ≡ None → DeclinesYoung from value
+none_free value from free lowest same is none = inr (inl (sym same ∙ by free (sym is ∙ none)))
+  where
+    by : (rs : List ℕ) → slice_get rs 0 ≡ None → rs ≡ []
+    by [] e = refl
+    by (r ∷ rs) e = absurd (let h : ◌≡◌ {A = Option ℕ} (Some r) None = e in cc)
+
+pub not_gathered : (value : RoomValue) (from at : ℕ) (parts : List Part) (found : Option Gathered) → parts ≡ drop at value.room.parts → at ≡ young_at from value.room.parts → found ≡ None → IfNone found (Declines value.disk parts) → DeclinesYoung from value
+not_gathered value from at parts found same is none declines =
+    let why = subst (λ (f : Option Gathered). IfNone f (Declines value.disk parts)) none declines in
+    inr (inr (subst (Declines value.disk) (same ∙ ap (λ n. drop n value.room.parts) is) why))
 
 -- ---- the disk behind the reads
 

@@ -1,6 +1,6 @@
 -- What becomes of a room whose youngest parts are gathered into one.
-use Rattle.std.specs.Prelude.{◌≡◌, ◌≢◌, ◌⊎◌, ℕ, ◌<◌, ◌≤◌, Bool, true, false, List, [], ◌∷◌, ◌++◌, drop, take, fold, IfSome, Result, Ok, Err}
-use Rattle.std.specs.List.{AllByRecursion}
+use Rattle.std.specs.Prelude.{◌≡◌, ◌≢◌, ◌⊎◌, ℕ, ◌<◌, ◌≤◌, nat_le, Bool, true, false, List, [], ◌∷◌, ◌++◌, length, drop, take, fold, IfSome, Result, Ok, Err}
+use Rattle.std.specs.List.{AllByRecursion, position_or_len}
 use Rattle.fine_model.specs.declared.Part.{Part}
 use Rattle.fine_model.specs.declared.Range.{Range}
 use Rattle.fine_model.specs.declared.Row.{Row}
@@ -9,7 +9,8 @@ use Rattle.fine_model.specs.Chain.{chain_end}
 use Rattle.fine_model.specs.ChainLaws.{part_of}
 use Rattle.fine_model.specs.Regions.{Image, HasHeader, IsSealed, header_of}
 use Rattle.log_disk.specs.Disk.{SameBeside}
-use Rattle.row_gathering.specs.Gathering.{AreGathered}
+use Rattle.row_gathering.specs.Gathering.{AreGathered, Declines, GathersRows}
+use Rattle.row_gathering.specs.declared.gathering.Gathered.{Gathered}
 use Rattle.epoch_room.specs.Gate.{KeepsBeside}
 use Rattle.epoch_room.specs.Meaning.{Keeps}
 use Rattle.epoch_room.specs.MergeSealing.{retire}
@@ -17,6 +18,14 @@ use Rattle.epoch_room.specs.Steps.{Does, Shuts, WasShut}
 use Rattle.epoch_room.specs.Value.{RoomValue}
 use Rattle.epoch_room.specs.declared.answers.RoomFault.{RoomFault}
 use Rattle.epoch_room.specs.declared.answers.RoomFault.TheVariants as room_fault
+
+-- the place of the first part that begins at an epoch or later, or the one behind all parts
+abbrev pub young_at : ℕ → List Part → ℕ
+young_at from parts = position_or_len (λ p. nat_le from p.header.range.first) parts
+
+-- the young parts: that one and those behind it
+abbrev pub young_parts : ℕ → List Part → List Part
+young_parts from parts = drop (young_at from parts) parts
 
 -- the live parts are some that begin before an epoch, and then these, of which there are two or more
 pub record AreYoung (from : ℕ) (parts before : List Part) (oldest : Part) (newer : List Part) : Type 0 where
@@ -61,17 +70,27 @@ pub record Gathers (from : ℕ) (old new : RoomValue) : Type 0 where
   pub synced : new.disk.unsynced ≡ []
   pub room : Does (gathered_state old.room before oldest newer (gathered_part region oldest newer rows)) old.target old new
 
--- A read failed, and nothing is lost, nor anything of the disk another but the counts; or the part was being written, and its region is lost.
-abbrev pub FailsGathering : RoomValue → RoomValue → Type 0
-FailsGathering old new =
+-- Why young parts stay as they are: they are fewer than two, no region is free, or no rows can be gathered from them.
+abbrev pub DeclinesYoung : ℕ → RoomValue → Type 0
+DeclinesYoung from old = (length (young_parts from old.room.parts) < 2) ⊎ ((old.room.free ≡ []) ⊎ Declines old.disk (young_parts from old.room.parts))
+
+-- the rows of the young parts, of which there are two or more, were gathered: so each read of them succeeded
+pub record WereGathered (from : ℕ) (old : RoomValue) : Type 0 where
+  pub several : 2 ≤ length (young_parts from old.room.parts)
+  pub gathered : Gathered
+  pub gathers : GathersRows old.disk (young_parts from old.room.parts) gathered
+
+-- A read failed, and nothing is lost, nor anything of the disk another but the counts; or all was read, the part was being written, and its region is lost.
+abbrev pub FailsGathering : ℕ → RoomValue → RoomValue → Type 0
+FailsGathering from old new =
     (Shuts old.room old.target [] old new × (new.disk.told ≡ old.disk.told) × (new.disk.unsynced ≡ old.disk.unsynced))
-    ⊎ Shuts (record old.room { free = drop 1 old.room.free }) old.target (take 1 old.room.free) old new
+    ⊎ (Shuts (record old.room { free = drop 1 old.room.free }) old.target (take 1 old.room.free) old new × WereGathered from old)
 
 -- by the answer
 abbrev pub GathersOr : ℕ → RoomValue → RoomValue → Result Bool RoomFault → Type 0
 GathersOr from old new (Ok true) = Gathers from old new
-GathersOr from old new (Ok false) = (old.room.is_shut ≡ false) × (new ≡ old)
-GathersOr from old new (Err room_fault.Disk) = FailsGathering old new
+GathersOr from old new (Ok false) = (old.room.is_shut ≡ false) × (new ≡ old) × DeclinesYoung from old
+GathersOr from old new (Err room_fault.Disk) = FailsGathering from old new
 GathersOr from old new (Err (room_fault.Shut epoch)) = WasShut epoch old new
 GathersOr from old new (Err room_fault.NoMemory) = Does old.room old.target old new
 

@@ -1,10 +1,9 @@
 //! Gathering the youngest parts of the chain into one.
 
 ghost use Rattle.std.specs.Prelude.{◌≡◌, ◌+◌, ◌<◌, ◌≤◌, ◌++◌, [], ◌∷◌, None, drop, length, nat_le, position, take, vec_capacity};
-ghost use Rattle.std.specs.List.{position_or_len};
 ghost use Rattle.log_disk.specs.Disk.{SameBeside};
 ghost use Rattle.epoch_room.specs.Gate.{KeepsBeside};
-ghost use Rattle.epoch_room.specs.Gathering.{GathersOr, GathersYoung, retire_all};
+ghost use Rattle.epoch_room.specs.Gathering.{GathersOr, GathersYoung, retire_all, young_at};
 ghost use Rattle.epoch_room.specs.Meaning.{Keeps};
 ghost use Rattle.epoch_room.specs.Youngest.{CanSealYoung, SealsYoung};
 
@@ -28,8 +27,8 @@ fn position_young(parts: &[Part], from: u64) -> Option<usize>
 }
 
 /// That place, or the one behind all parts.
-fn young_from(parts: &[Part], from: u64) -> usize
-    ensures at { result ≡ position_or_len (λ p. nat_le from p.header.range.first) parts.now }
+fn young_at(parts: &[Part], from: u64) -> usize
+    ensures at { result ≡ young_at from parts.now }
     ensures most { result ≤ length parts.now }
 {
     or_end(position_young(parts, from), parts)
@@ -63,9 +62,9 @@ impl<D: LogDisk> Room<D> {
     /// Gathers the live parts that begin at an epoch or later, which are the youngest, into one part over the lowest free region: their rows as they are, of each node those of
     /// the first part and then those of the next. They are retired, and all is synced. No merge is out; views may be.
     ///
-    /// True exactly where that was done. False: there are fewer than two such parts, no region is free, or their rows are not gathered, as `row_gathering::gather` tells; then
-    /// nothing is changed. `Disk` comes only where the disk failed in this call, and shuts the room: nothing is lost where a read failed, and else the region that was being
-    /// written. `Shut` comes exactly where an earlier call answered `Disk`, and changes nothing. After `NoMemory` the room is as it was, but for what the free region may hold behind its
+    /// True exactly where that was done. False only where there are fewer than two such parts, no region is free, or their rows are not gathered, as `row_gathering::gather` tells;
+    /// then nothing is changed. `Disk` comes only where the disk failed in this call, and shuts the room: nothing is lost where a read failed; where all was read, the region is
+    /// that was being written. `Shut` comes exactly where an earlier call answered `Disk`, and changes nothing. After `NoMemory` the room is as it was, but for what the free region may hold behind its
     /// closed gate. A crash at any moment of the call leaves an image that shows what was sealed before.
     pub fn gather(&mut self, from: u64) -> Result<bool, RoomFault>
         requires no_job { self.old.room.job ≡ None }
@@ -89,7 +88,7 @@ impl<D: LogDisk> Room<D> {
             return Ok(false);
         };
         let parts = self.parts.as_slice();
-        let at = young_from(parts, from);
+        let at = young_at(parts, from);
         if parts.len() - at < 2 {
             return Ok(false);
         }
@@ -100,6 +99,7 @@ impl<D: LogDisk> Room<D> {
             },
             Err(refusal) => match refusal {
                 DiskRefusal::Failed => {
+                    // nothing was being written, so that nothing is lost
                     self.is_shut = true;
                     Err(RoomFault::Disk)
                 }

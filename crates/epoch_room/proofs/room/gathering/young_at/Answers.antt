@@ -1,7 +1,7 @@
 use Rattle.std.proofs.Common.{nat_le, not, arith}
 use Rattle.std.proofs.lemmas.List.Sums.{prefix_len-le-length}
 use Rattle.fine_model.specs.declared.Part.{Part}
-use Rattle.epoch_room.proofs.room.gathering.young_from.Goals as goal
+use Rattle.epoch_room.proofs.room.gathering.young_at.Goals as goal
 
 pub returns-clause-at : goal.returns-clause-at
 returns-clause-at c = c.or_end.ensures (λ p. nat_le c.args.from p.header.range.first) c.position_young.ensures

@@ -2,7 +2,7 @@
 use Rattle.std.proofs.Common.{◌≡◌, ◌≢◌, ◌⊎◌, ℕ, zero, suc, ◌+◌, true, false, Result, Err, List, [], ◌∷◌, ◌++◌, length, refl, sym, ap, subst, ◌∙◌, inl, inr, arith, true≢false, eq-eqb}
 use Rattle.std.specs.Prelude.{nat_eq, All, Contains, ◌||◌}
 use Rattle.std.specs.List.{list_any}
-use Rattle.std.proofs.lemmas.List.Elements.{All-append, All-contains, All-contains_itself}
+use Rattle.std.proofs.lemmas.List.Elements.{All-append, All-contains, All-contains_itself, Contains-append_right}
 use Rattle.log_disk.specs.Disk.{Disk, HasRisen, HasSynced, SameOutside, Syncs, Told, Writes, region_of}
 use Rattle.log_disk.proofs.Steps.{both_same, both_weaker, both_then}
 use Rattle.log_disk.specs.Moments.{ContinuesOn}
@@ -69,6 +69,10 @@ dirties_then regions old mid new first second k d h = elim (second k d h) [
 
 pub first_is : (region : ℕ) → Contains (region ∷ []) region
 first_is region = (0, omega arith, refl)
+
+-- what was written last is among what is unsynced
+pub last_is : (before now : List ℕ) (region : ℕ) → now ≡ before ++ region ∷ [] → Contains now region
+last_is before now region is = subst (λ rs. Contains rs region) (sym is) (Contains-append_right before (region ∷ []) region (first_is region))
 
 pub own_region : (region : ℕ) → list_any (nat_eq region) (region ∷ []) ≡ true
 own_region region = ap (λ b. b || false) (eq-eqb region region refl)

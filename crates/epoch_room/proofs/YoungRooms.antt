@@ -215,14 +215,15 @@ module _ (old entry : Disk) (kept : Kept) (before : List Part) (oldest : Part) (
             no_longer = h.no_longer;
           })
 
-      pub gathers_lost : (from : ℕ) → WereGathered from (value_of old entry kept) → GathersYoung from (value_of old entry kept) (value_of new entry (record kept { free = free; lost = region ∷ []; is_shut = true })) (Err room_fault.Disk)
-      gathers_lost from were =
+      pub gathers_lost : (from : ℕ) → WereGathered from (value_of old entry kept) → Contains new.unsynced region → GathersYoung from (value_of old entry kept) (value_of new entry (record kept { free = free; lost = region ∷ []; is_shut = true })) (Err room_fault.Disk)
+      gathers_lost from were last =
           gathers from shut (Err room_fault.Disk)
           (inr (
             (shuts _ _ c.open_room
                 (ap (λ (l : List ℕ). on (record (value_of old entry kept).room { free = free; is_shut = true; lost = l }) new) (sym (lost_is old entry kept before oldest newer region free rows bytes c))
                 ∙ ap (λ (xs : List ℕ). on (record (value_of old entry kept).room { free = drop 1 xs; is_shut = true; lost = set_of (take 1 xs) }) new) (sym c.lowest)) refl refl same time counts f),
             were,
+            subst (λ (xs : List ℕ). AllByRecursion (Contains new.unsynced) (take 1 xs)) (sym c.lowest) (last, tt),
           )) (keeps shut lost_stands refl refl (λ h. risen))
 
     -- ---- the part was sealed

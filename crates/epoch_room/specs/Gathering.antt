@@ -1,5 +1,5 @@
 -- What becomes of a room whose youngest parts are gathered into one.
-use Rattle.std.specs.Prelude.{◌≡◌, ◌≢◌, ◌⊎◌, ℕ, ◌<◌, ◌≤◌, nat_le, Bool, true, false, List, [], ◌∷◌, ◌++◌, length, drop, take, fold, IfSome, Result, Ok, Err}
+use Rattle.std.specs.Prelude.{◌≡◌, ◌≢◌, ◌⊎◌, ℕ, ◌<◌, ◌≤◌, nat_le, Bool, true, false, List, [], ◌∷◌, ◌++◌, length, drop, take, fold, Contains, IfSome, Result, Ok, Err}
 use Rattle.std.specs.List.{AllByRecursion, position_or_len}
 use Rattle.fine_model.specs.declared.Part.{Part}
 use Rattle.fine_model.specs.declared.Range.{Range}
@@ -80,11 +80,11 @@ pub record WereGathered (from : ℕ) (old : RoomValue) : Type 0 where
   pub gathered : Gathered
   pub gathers : GathersRows old.disk (young_parts from old.room.parts) gathered
 
--- A read failed, and nothing is lost, nor anything of the disk another but the counts; or all was read, the part was being written, and its region is lost.
+-- A read failed, and nothing is lost, nor anything of the disk another but the counts; or all was read, the part was being written, and its region is lost: it is unsynced.
 abbrev pub FailsGathering : ℕ → RoomValue → RoomValue → Type 0
 FailsGathering from old new =
     (Shuts old.room old.target [] old new × (new.disk.told ≡ old.disk.told) × (new.disk.unsynced ≡ old.disk.unsynced))
-    ⊎ (Shuts (record old.room { free = drop 1 old.room.free }) old.target (take 1 old.room.free) old new × WereGathered from old)
+    ⊎ (Shuts (record old.room { free = drop 1 old.room.free }) old.target (take 1 old.room.free) old new × WereGathered from old × AllByRecursion (Contains new.disk.unsynced) (take 1 old.room.free))
 
 -- by the answer
 abbrev pub GathersOr : ℕ → RoomValue → RoomValue → Result Bool RoomFault → Type 0

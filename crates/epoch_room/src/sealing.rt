@@ -3,7 +3,7 @@
 //! None of these calls asks that nothing be unsynced before. Whatever they answer, they touch no region but their own, neither in what a
 //! read gives nor in what is unsynced.
 
-ghost use Rattle.std.specs.Prelude.{◌+◌, ◌≡◌, ◌<◌, ◌≤◌, [], ◌∷◌, length, OnOk, IsErrOf};
+ghost use Rattle.std.specs.Prelude.{◌+◌, ◌≡◌, ◌<◌, ◌≤◌, [], ◌∷◌, length, Contains, OnOk, IsErrOf};
 ghost use Rattle.fine_model.specs.Regions.{body_start};
 ghost use Rattle.log_disk.specs.Disk.{IsSound, IsUnseen, with_bytes};
 ghost use Rattle.epoch_room.specs.Gate.{LeavesBehind, LeavesNow, LeavesOpening, LeavesSealing, HasBytes, KeepsBeside, IsUngated, TouchesOnly, gate};
@@ -36,6 +36,7 @@ pub fn open_gate<D: LogDisk>(disk: &mut D, lead: u32) -> Result<(), DiskRefusal>
     ensures kept { IsErrOf result DiskRefusal.NoMemory → (D.state disk.new).unsynced ≡ [] }
     ensures no_memory { IsErrOf result DiskRefusal.NoMemory → HasBytes (λ image. image) (D.state disk.old) (D.state disk.new) }
     ensures untouched { IsErrOf result DiskRefusal.NoMemory → LeavesNow (D.state disk.old) (D.state disk.new) }
+    ensures unsynced { Contains (D.state disk.old).unsynced lead → IsErrOf result DiskRefusal.Failed → Contains (D.state disk.new).unsynced lead }
 {
     disk.sync()?;
     disk.write(lead, 0, &[SEALED_GATE])?;
@@ -46,7 +47,7 @@ pub fn open_gate<D: LogDisk>(disk: &mut D, lead: u32) -> Result<(), DiskRefusal>
 /// Writes bytes behind the gate of a region, and opens the gate: so an epoch, a merged or gathered part and a part that is taken in are sealed.
 ///
 /// A crash at any moment leaves what it could leave before, torn behind the gate that was there, or all that a read gives then, with any
-/// byte at the gate. After `NoMemory` nothing was begun, or all is synced with the bytes behind the gate that was there.
+/// byte at the gate. After `NoMemory` nothing was begun, or all is synced with the bytes behind the gate that was there. After `Failed` the region is unsynced.
 pub fn seal_region<D: LogDisk>(disk: &mut D, lead: u32, bytes: &[u8]) -> Result<(), DiskRefusal>
     requires sound { IsSound (D.state disk.old) }
     requires there { lead < (D.state disk.old).regions }
@@ -59,6 +60,7 @@ pub fn seal_region<D: LogDisk>(disk: &mut D, lead: u32, bytes: &[u8]) -> Result<
     ensures bytes { OnOk result (HasBytes (λ image. with_bytes (with_bytes image lead 1 bytes.now) lead 0 gate) (D.state disk.old) (D.state disk.new)) }
     ensures no_memory { IsErrOf result DiskRefusal.NoMemory → IsUngated lead bytes.now (D.state disk.old) (D.state disk.new) }
     ensures untouched { IsErrOf result DiskRefusal.NoMemory → LeavesBehind (lead ∷ []) (D.state disk.old) (D.state disk.new) }
+    ensures unsynced { IsErrOf result DiskRefusal.Failed → Contains (D.state disk.new).unsynced lead }
 {
     disk.write(lead, 1, bytes)?;
     open_gate(disk, lead)

@@ -1,11 +1,12 @@
-use Rattle.std.proofs.Common.{◌≡◌, ◌∷◌, [], ap, ◌∙◌, rules}
+use Rattle.std.proofs.Common.{◌≡◌, ℕ, List, ◌∷◌, [], ap, subst, sym, ◌∙◌, rules}
+use Rattle.std.specs.Prelude.{Contains}
 use Rattle.std.proofs.lemmas.Result.{err_from_is_err_and}
 use Rattle.log_disk.specs.Disk.{Disk}
 use Rattle.log_disk.proofs.Sound.{sound_failure, sound_write, sound_sync}
 use Rattle.log_disk.proofs.Times.{continues_told, continues_then, continues_write, continues_sync}
 use Rattle.epoch_room.specs.Gate.{gate, DirtiesOnly, LeavesOpening}
 use Rattle.epoch_room.proofs.Gates.{still_unseen, opening_none, opening_same, opening_synced, opening_begun, opening_done, by_refusal, still_sound, now_same, now_synced}
-use Rattle.epoch_room.proofs.Touching.{dirties_none, dirties_synced, dirties_anew, first_is, refused_time, refused_synced, beside_told, beside_then, beside_write, beside_sync, own_region, refused_beside}
+use Rattle.epoch_room.proofs.Touching.{dirties_none, dirties_synced, dirties_anew, first_is, last_is, refused_time, refused_synced, beside_told, beside_then, beside_write, beside_sync, own_region, refused_beside}
 use Rattle.epoch_room.proofs.sealing.open_gate.Goals as goal
 
 pub write-requires-clause-unseen : goal.write-requires-clause-unseen
@@ -26,6 +27,9 @@ returns-in_err-sync-clause-read g c = beside_told (c.args.lead ∷ []) (g.D.LogD
 
 pub returns-in_err-sync-clause-leaves : goal.returns-in_err-sync-clause-leaves
 returns-in_err-sync-clause-leaves g c = opening_none c.args.lead (g.D.LogDisk.state c.args.disk.now) (g.D.LogDisk.state c.sync.new.self) c.in_err-sync.ensures.err.told
+
+pub returns-in_err-sync-clause-unsynced : goal.returns-in_err-sync-clause-unsynced
+returns-in_err-sync-clause-unsynced g c was e = subst (λ (rs : List ℕ). Contains rs c.args.lead) (sym c.in_err-sync.ensures.err.unsynced) was
 
 -- the write was refused
 pub returns-in_err-write-clause-touches : goal.returns-in_err-write-clause-touches
@@ -62,6 +66,11 @@ returns-in_err-write-clause-untouched g c = λ e.
     now_same (g.D.LogDisk.state c.args.disk.now) (g.D.LogDisk.state c.sync.new.self) (g.D.LogDisk.state c.write.new.self) (ap (λ (d : Disk). d.told) same)
     (now_synced (g.D.LogDisk.state c.args.disk.now) (g.D.LogDisk.state c.sync.new.self) c.requires.sound c.in_ok-sync.ensures.ok)
 
+pub returns-in_err-write-clause-unsynced : goal.returns-in_err-write-clause-unsynced
+returns-in_err-write-clause-unsynced g c was e =
+    let p = err_from_is_err_and c.from_residual-in_err-write.result c.from_residual-in_err-write.ensures.1 in
+    last_is _ _ c.args.lead (c.in_err-write.ensures.begun (λ h. cc (p.1, p.2, e, h))).unsynced
+
 -- the second sync failed
 pub returns-in_err-sync-2-clause-touches : goal.returns-in_err-sync-2-clause-touches
 returns-in_err-sync-2-clause-touches g c = record {
@@ -86,6 +95,9 @@ pub returns-in_err-sync-2-clause-leaves : goal.returns-in_err-sync-2-clause-leav
 returns-in_err-sync-2-clause-leaves g c =
     opening_same c.args.lead (g.D.LogDisk.state c.args.disk.now) (g.D.LogDisk.state c.write.new.self) (g.D.LogDisk.state c.sync-2.new.self) c.in_err-sync-2.ensures.err.told
     (opening_begun c.args.lead (g.D.LogDisk.state c.args.disk.now) (g.D.LogDisk.state c.sync.new.self) c.requires.sound c.in_ok-sync.ensures.ok (g.D.LogDisk.state c.write.new.self) (c.in_ok-write.ensures.begun (λ e. cc)))
+
+pub returns-in_err-sync-2-clause-unsynced : goal.returns-in_err-sync-2-clause-unsynced
+returns-in_err-sync-2-clause-unsynced g c was e = last_is _ _ c.args.lead (c.in_err-sync-2.ensures.err.unsynced ∙ (c.in_ok-write.ensures.begun (λ h. cc)).unsynced)
 
 -- the gate is open
 pub returns-clause-touches : goal.returns-clause-touches

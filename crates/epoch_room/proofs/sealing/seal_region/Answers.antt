@@ -5,7 +5,7 @@ use Rattle.log_disk.proofs.Sound.{sound_write}
 use Rattle.log_disk.proofs.Times.{continues_then, continues_write}
 use Rattle.epoch_room.specs.Gate.{LeavesSealing}
 use Rattle.epoch_room.proofs.Gates.{still_unseen, sealing_none, sealing_torn, sealing_gated, behind_none, behind_gated, written_then, by_refusal, still_sound}
-use Rattle.epoch_room.proofs.Touching.{dirties_more, dirties_then, first_is, refused_time, refused_beside, refused_dirties, beside_then, beside_write, own_region}
+use Rattle.epoch_room.proofs.Touching.{dirties_more, dirties_then, first_is, last_is, refused_time, refused_beside, refused_dirties, beside_then, beside_write, own_region}
 use Rattle.epoch_room.proofs.sealing.seal_region.Goals as goal
 
 -- the write was refused
@@ -41,6 +41,11 @@ pub returns-in_err-write-clause-no_memory : goal.returns-in_err-write-clause-no_
 returns-in_err-write-clause-no_memory g c = λ e.
     let p = err_from_is_err_and c.from_residual.result c.from_residual.ensures.1 in inl (c.in_err-write.ensures.no_memory (cc (p.1, p.2, e)))
 
+pub returns-in_err-write-clause-unsynced : goal.returns-in_err-write-clause-unsynced
+returns-in_err-write-clause-unsynced g c e =
+    let p = err_from_is_err_and c.from_residual.result c.from_residual.ensures.1 in
+    last_is _ _ c.args.lead (c.in_err-write.ensures.begun (λ h. cc (p.1, p.2, e, h))).unsynced
+
 -- the bytes were written
 pub open_gate-requires-clause-sound : goal.open_gate-requires-clause-sound
 open_gate-requires-clause-sound g c = λ _ _. sound_write (c.in_ok-write.ensures.begun (λ e. cc)) c.requires.sound
@@ -74,6 +79,9 @@ returns-clause-no_memory g c = λ e. inr (
   c.open_gate.ensures.kept e,
   written_then c.args.lead c.args.bytes.now (g.D.LogDisk.state c.args.disk.now) (λ image. image) (g.D.LogDisk.state c.write.new.self) (g.D.LogDisk.state c.open_gate.new.disk) (c.in_ok-write.ensures.begun (λ h. cc)) (λ failed. cc) (c.open_gate.ensures.no_memory e),
 )
+
+pub returns-clause-unsynced : goal.returns-clause-unsynced
+returns-clause-unsynced g c e = c.open_gate.ensures.unsynced (last_is _ _ c.args.lead (c.in_ok-write.ensures.begun (λ h. cc)).unsynced) e
 
 pub returns-clause-untouched : goal.returns-clause-untouched
 returns-clause-untouched g c = λ e.

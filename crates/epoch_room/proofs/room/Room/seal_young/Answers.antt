@@ -105,7 +105,7 @@ lost g c =
     let lost : c.of-self-inside.result ≡ c.args.region ∷ [] = c.of-self-inside.ensures ∙ lost_is _ _ _ _ _ _ _ _ _ _ can' in
     ends (λ v w. SealsYoung c.args.at v w (Err room_fault.Disk)) c.self.view_is
     (λ i. value_of (g.D.LogDisk.state c.seal_region.new.disk) (g.D.LogDisk.state c.self.inside.entry.value) (record (kept_in c.self.inside) { free = c.take_lowest-taken-in-Failed.ensures.left i; lost = lost i; is_shut = true }))
-    (lost_whole _ _ _ _ _ _ _ _ _ _ can' _ e.touches.beside e.touches.sound e.touches.time (IsErrOf c.seal_region.result DiskRefusal.Failed) e.touches.counts e.read e.leaves failed, λ from is. gathers_lost _ _ _ _ _ _ _ _ _ _ can' _ e.touches.beside e.touches.sound e.touches.time (IsErrOf c.seal_region.result DiskRefusal.Failed) e.touches.counts e.read e.leaves failed from (were_gathered _ _ _ _ (asked g at.After-as_slice) from is))
+    (lost_whole _ _ _ _ _ _ _ _ _ _ can' _ e.touches.beside e.touches.sound e.touches.time (IsErrOf c.seal_region.result DiskRefusal.Failed) e.touches.counts e.read e.leaves failed, λ from is. gathers_lost _ _ _ _ _ _ _ _ _ _ can' _ e.touches.beside e.touches.sound e.touches.time (IsErrOf c.seal_region.result DiskRefusal.Failed) e.touches.counts e.read e.leaves failed from (were_gathered _ _ _ _ (asked g at.After-as_slice) from is) (e.unsynced failed))
 
 pub invariant_of-self-in-Failed : goal.invariant_of-self-in-Failed
 invariant_of-self-in-Failed g c = ((lost g c).0, c.self.invariant.1 ∙ sym c.seal_region.ensures.touches.beside.region_len, c.self.invariant.2)

@@ -22,6 +22,7 @@ use Rattle.fine_model.proofs.NodeLaws.{Agrees-append}
 use Rattle.fine_model.proofs.Order.{all_map}
 use Rattle.fine_model.proofs.Sets.{all_append}
 use Rattle.fine_model.proofs.Stated.{small_law}
+use Rattle.fine_model.proofs.Zip.{all_left, all_right}
 use Rattle.log_disk.specs.Disk.{BothTold, Disk, HasRisen, IsImageNow, IsImageSince, IsToldOf, SameOutside, Told, clock_of, with_bytes}
 use Rattle.log_disk.specs.Moments.{Continues, IsLeft, LeavesOnly}
 use Rattle.log_disk.specs.declared.refusal.DiskRefusal.{DiskRefusal}
@@ -44,7 +45,6 @@ use Rattle.epoch_room.proofs.AdoptedParts.{CanAdopt, IsPartFor, adopted_times, l
 use Rattle.epoch_room.proofs.BehindGates.{torn_alike}
 use Rattle.epoch_room.proofs.Behind.{all_told, as_told, both_and, same_beside, some_behind}
 use Rattle.epoch_room.proofs.Boarding.{AreBeside}
-use Rattle.epoch_room.proofs.Counting.{all_back, all_front}
 use Rattle.epoch_room.proofs.Ending.{end_next, follow_next, moved_board, moved_entry, moved_lie, moved_whole, names_more, no_parts_unsynced, risen_since, still_geometry}
 use Rattle.epoch_room.proofs.Standing.{nothing_more}
 use Rattle.epoch_room.proofs.Taken.{same_apart, same_outside}
@@ -143,8 +143,8 @@ module _ (old new entry : Disk) (kept : Kept) (range : Range) (rows : List Row) 
   parts_lie : AllByRecursion (λ (q : Part). LiesIn old.region_len q.header) ((kept.parts ++ p ∷ []) ++ kept.retired)
   parts_lie =
       all_append (λ (q : Part). LiesIn old.region_len q.header) (kept.parts ++ p ∷ []) kept.retired
-      (all_append (λ (q : Part). LiesIn old.region_len q.header) kept.parts (p ∷ []) (all_front (λ (q : Part). LiesIn old.region_len q.header) kept.parts kept.retired c.whole.lie) (o.lies, tt))
-      (all_back (λ (q : Part). LiesIn old.region_len q.header) kept.parts kept.retired c.whole.lie)
+      (all_append (λ (q : Part). LiesIn old.region_len q.header) kept.parts (p ∷ []) (all_left (λ (q : Part). LiesIn old.region_len q.header) kept.parts kept.retired c.whole.lie) (o.lies, tt))
+      (all_right (λ (q : Part). LiesIn old.region_len q.header) kept.parts kept.retired c.whole.lie)
 
   -- ---- the part is live
 

@@ -11,6 +11,7 @@ use Rattle.std.proofs.lemmas.Map.Steps.{length-le_from_distinct_below}
 use Rattle.fine_model.specs.declared.Part.{Part}
 use Rattle.fine_model.specs.Chain.{regions_of}
 use Rattle.fine_model.specs.Trees.{is_distinct}
+use Rattle.fine_model.proofs.Lists.{range_more}
 use Rattle.fine_model.proofs.Nothing.{any_none}
 use Rattle.fine_model.proofs.Order.{first_of_both}
 use Rattle.epoch_room.specs.Value.{all_regions, regions_outside}
@@ -67,13 +68,6 @@ filter_few p (x ∷ xs) = by (p x) (filter_few p xs)
 pub outside_few : (regions : ℕ) (some : List ℕ) → length (regions_outside regions some) ≤ regions
 unfolding regions_outside
 outside_few regions some = omega (arith, filter_few (λ r. not (list_any (nat_eq r) some)) (range_with_len 0 regions), length-range_with_len 0 regions)
-
-range_more : (a n : ℕ) → range_with_len a (n + 1) ≡ range_with_len a n ++ (a + n) ∷ []
-range_more a zero = let e : a + 0 ≡ a = omega arith in ap (λ b. b ∷ []) (sym e)
-range_more a (suc n) =
-    let e : suc n + 1 ≡ suc (n + 1) = omega arith in
-    let f : a + 1 + n ≡ a + suc n = omega arith in
-    ap (range_with_len a) e ∙ ap (λ xs. a ∷ xs) (range_more (a + 1) n) ∙ ap (λ b. a ∷ (range_with_len (a + 1) n ++ b ∷ [])) f
 
 pub filter_end : {A : Type 0} (p : A → Bool) (xs : List A) (y : A) → filter p (xs ++ y ∷ []) ≡ filter p xs ++ cond (p y) (y ∷ []) []
 filter_end p [] y = refl

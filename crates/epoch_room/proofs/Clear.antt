@@ -15,9 +15,10 @@ use Rattle.fine_model.proofs.Free.{free_law}
 use Rattle.fine_model.proofs.Nothing.{all_at}
 use Rattle.fine_model.proofs.Sets.{all_filter, all_pass}
 use Rattle.fine_model.proofs.Times.{distinct_times, times, times-append, times-none}
+use Rattle.fine_model.proofs.Setting.{in_range, kept}
 use Rattle.epoch_room.specs.Value.{RoomValue, all_regions, taken}
 use Rattle.epoch_room.specs.Whole.{HoldsParts, IsWhole}
-use Rattle.epoch_room.proofs.Freeing.{as_many, free_in_image, held_now, in_range, kept_any, rising_distinct}
+use Rattle.epoch_room.proofs.Freeing.{as_many, free_in_image, held_now, rising_distinct}
 use Rattle.epoch_room.proofs.JobRegions.{outside_any}
 use Rattle.epoch_room.proofs.Taken.{below_range, rising_filter, rising_range}
 
@@ -41,7 +42,7 @@ filter_passes : (p : ℕ → Bool) (n k : ℕ) → list_any (nat_eq n) (filter p
 filter_passes p n k there = all_at (λ r. p r ≡ true) n (filter p (range_with_len 0 k)) (all_pass p (range_with_len 0 k)) there
 
 filter_there : (p : ℕ → Bool) (n k : ℕ) → n < k → p n ≡ true → list_any (nat_eq n) (filter p (range_with_len 0 k)) ≡ true
-filter_there p n k low passes = kept_any p (range_with_len 0 k) n (in_range 0 k n (omega arith) (omega (arith, low))) passes
+filter_there p n k low passes = kept p (range_with_len 0 k) n (in_range 0 k n (omega arith) (omega (arith, low))) passes
 
 -- as many regions pass a test as there are numbers of regions that do
 count_places : (p : List ℕ → Bool) (f : ℕ → Bool) (image : Image) (a : ℕ) → ((i : ℕ) → i < length image → f (a + i) ≡ p (region_of image i)) → count_by p image ≡ length (filter f (range_with_len a (length image)))

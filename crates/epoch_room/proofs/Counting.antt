@@ -8,18 +8,11 @@ use Rattle.fine_model.specs.declared.Part.{Part}
 use Rattle.fine_model.specs.RowBytes.{greatest}
 use Rattle.fine_model.specs.Jobs.{job_left}
 use Rattle.fine_model.proofs.Order.{all_map}
+use Rattle.fine_model.proofs.Zip.{all_left, all_right}
 use Rattle.partition_index.specs.Parts.{LiesIn, is_counted}
 use Rattle.epoch_room.specs.Value.{RoomValue, all_regions, taken}
 use Rattle.epoch_room.specs.Whole.{HasRegions, FollowOn, IsWhole}
 use Rattle.epoch_room.proofs.Beside.{regions_together, few_apart, outside_few}
-
-pub all_front : {A : Type 0} (P : A → Type 0) (xs ys : List A) → AllByRecursion P (xs ++ ys) → AllByRecursion P xs
-all_front P [] ys all = tt
-all_front P (x ∷ xs) ys all = (all.0, all_front P xs ys all.1)
-
-pub all_back : {A : Type 0} (P : A → Type 0) (xs ys : List A) → AllByRecursion P (xs ++ ys) → AllByRecursion P ys
-all_back P [] ys all = all
-all_back P (x ∷ xs) ys all = all_back P xs ys all.1
 
 end_most : (parts : List Part) (next e : ℕ) → e ≤ greatest → FollowOn next parts → fold (λ (e : ℕ) (p : Part). p.header.range.last) e parts ≤ greatest
 end_most [] next e h follow = h
@@ -49,10 +42,10 @@ module _ (value : RoomValue) (whole : IsWhole value) where
   both_have = all_map (λ (p : Part). LiesIn value.disk.region_len p.header) HasRegions (regions_of_header value.disk.region_len) (value.room.parts ++ value.room.retired) whole.lie
 
   pub live_have : AllByRecursion HasRegions value.room.parts
-  live_have = all_front HasRegions value.room.parts value.room.retired both_have
+  live_have = all_left HasRegions value.room.parts value.room.retired both_have
 
   pub retired_have : AllByRecursion HasRegions value.room.retired
-  retired_have = all_back HasRegions value.room.parts value.room.retired both_have
+  retired_have = all_right HasRegions value.room.parts value.room.retired both_have
 
   -- all regions of parts are taken, and none twice
   pub both_few : length (all_regions value.room.parts) + length (all_regions value.room.retired) ≤ value.disk.regions

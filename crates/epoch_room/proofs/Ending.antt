@@ -24,6 +24,7 @@ use Rattle.fine_model.proofs.Nothing.{any_none}
 use Rattle.fine_model.proofs.Order.{all_map, filter_all}
 use Rattle.fine_model.proofs.Sets.{all_append}
 use Rattle.fine_model.proofs.Times.{times, times-append}
+use Rattle.fine_model.proofs.Zip.{all_left, all_right}
 use Rattle.partition_index.specs.Parts.{LiesIn}
 use Rattle.log_disk.specs.Disk.{Disk, Told, BothTold, HasRisen, SameBeside, IsSound, IsToldOf, region_of}
 use Rattle.log_disk.specs.Moments.{ContinuesOn, IsLeft}
@@ -35,8 +36,7 @@ use Rattle.epoch_room.specs.Whole.{AreApart, AreOnBoard, FollowOn, HasEntry, Has
 use Rattle.epoch_room.proofs.Beside.{regions_together}
 use Rattle.epoch_room.proofs.Boarding.{AreAlike, AreBeside, one_beside, still_shows, unnamed_posted}
 use Rattle.log_partition.proofs.Costs.{cost_none}
-use Rattle.epoch_room.proofs.Counting.{all_front, all_back}
-use Rattle.epoch_room.proofs.Freeing.{all_left, nat_alike}
+use Rattle.epoch_room.proofs.Freeing.{job_regions_left, nat_alike}
 use Rattle.epoch_room.proofs.Longer.{range_of}
 use Rattle.epoch_room.proofs.Taken.{SameTimes, same_apart, same_outside, other_list}
 use Rattle.epoch_room.proofs.Moved.{epoch_stays}
@@ -215,7 +215,7 @@ module _ (old entry : Disk) (kept : Kept) (whole : IsWhole (value_of old entry k
   not_job = subst (λ rs. list_any (nat_eq region) rs ≡ false) left_all (or_parts (list_any (nat_eq region) (job_left (value_of old entry kept).room)) _ (sym (list_any-append (nat_eq region) (job_left (value_of old entry kept).room) _) ∙ not_rest)).0
     where
       left_all : job_left (value_of old entry kept).room ≡ job_regions kept.job
-      left_all = all_left (value_of old entry kept) whole none_lost
+      left_all = job_regions_left (value_of old entry kept) whole none_lost
 
 module _ (old new entry : Disk) (kept : Kept) (whole : IsWhole (value_of old entry kept)) (same : SameBeside old new) (sound : IsSound new) (time : ContinuesOn old new) (lower : (old.faults ≤ new.faults) × (old.own_faults ≤ new.own_faults))
     (region : ℕ) (at : kept.target ≡ Some region) (open_room : kept.is_shut ≡ false) (some : 1 ≤ kept.epoch.waiting) (read : KeepsBeside (region ∷ []) old new) where
@@ -237,7 +237,7 @@ module _ (old new entry : Disk) (kept : Kept) (whole : IsWhole (value_of old ent
 
   shut_times : SameTimes (taken (value_of old entry kept).room kept.target) (taken (room_of new shut) None)
   shut_times n =
-      let l = all_left (value_of old entry kept) whole (none_lost old entry kept whole region at open_room) in
+      let l = job_regions_left (value_of old entry kept) whole (none_lost old entry kept whole region at open_room) in
       let job : times n (job_left (value_of old entry kept).room) ≡ times n (job_left (room_of new shut)) = ap (times n) (l ∙ sym shut_left) in
       let parts : List ℕ = all_regions (kept.parts ++ kept.retired) in
       let a = ap (times n) (taken_is old entry kept whole region at open_room) ∙ times-append n (region ∷ []) (rest old entry kept whole region at open_room) in
@@ -305,8 +305,8 @@ module _ (old new entry : Disk) (kept : Kept) (whole : IsWhole (value_of old ent
         ends = sym (end_next kept.parts own);
         lie = moved_lie old new entry kept whole same sound time lower (region ∷ []) beside_target read ((kept.parts ++ own ∷ []) ++ kept.retired)
             (all_append (λ (p : Part). LiesIn old.region_len p.header) (kept.parts ++ own ∷ []) kept.retired
-            (all_append (λ (p : Part). LiesIn old.region_len p.header) kept.parts (own ∷ []) (all_front (λ (p : Part). LiesIn old.region_len p.header) kept.parts kept.retired whole.lie) (lies, tt))
-            (all_back (λ (p : Part). LiesIn old.region_len p.header) kept.parts kept.retired whole.lie));
+            (all_append (λ (p : Part). LiesIn old.region_len p.header) kept.parts (own ∷ []) (all_left (λ (p : Part). LiesIn old.region_len p.header) kept.parts kept.retired whole.lie) (lies, tt))
+            (all_right (λ (p : Part). LiesIn old.region_len p.header) kept.parts kept.retired whole.lie));
         apart = subst (λ n. AreApart n (taken (room_of new (ended most)) None)) (sym same.regions) (same_apart old.regions (taken (value_of old entry kept).room kept.target) (taken (room_of new (ended most)) None) (ended_times most) whole.apart);
         free = whole.free ∙ same_outside old.regions (taken (value_of old entry kept).room kept.target) (taken (room_of new (ended most)) None) (ended_times most) ∙ ap (λ n. regions_outside n (taken (room_of new (ended most)) None)) (sym same.regions);
         rising = whole.rising;

@@ -25,6 +25,7 @@ use Rattle.fine_model.proofs.Nothing.{all_at, each_there}
 use Rattle.fine_model.proofs.Order.{all_map, filter_all}
 use Rattle.fine_model.proofs.Sets.{all_append, all_filter, all_pass}
 use Rattle.fine_model.proofs.Times.{absent_times, times, times-append, times-none, times_absent}
+use Rattle.fine_model.proofs.Zip.{all_left, all_right}
 use Rattle.partition_hold.proofs.Bits.{among}
 use Rattle.partition_index.specs.Parts.{LiesIn}
 use Rattle.log_disk.specs.Disk.{BothTold, CountsOwn, Disk, HasRisen, IsImageNow, IsToldOf, IsUnseen, OpenEye, Told}
@@ -41,9 +42,8 @@ use Rattle.epoch_room.proofs.Behind.{as_told, both_and, some_behind}
 use Rattle.epoch_room.proofs.Beside.{regions_together}
 use Rattle.epoch_room.proofs.Boarding.{AreAlike, still_shows}
 use Rattle.epoch_room.proofs.Bodies.{holds_still}
-use Rattle.epoch_room.proofs.Counting.{all_back, all_front}
 use Rattle.epoch_room.proofs.Ending.{no_parts_unsynced, risen_since, still_geometry}
-use Rattle.epoch_room.proofs.Freeing.{all_left, job_apart, nat_alike}
+use Rattle.epoch_room.proofs.Freeing.{job_regions_left, job_apart, nat_alike}
 use Rattle.epoch_room.proofs.GateImages.{LeadsBeside, ShowsStill, gates_still}
 use Rattle.epoch_room.proofs.LedParts.{fewer_apart, free_more, lead_apart, lead_gone, lead_in, lead_led, lead_left, led_times, left_rising, set_times}
 use Rattle.epoch_room.proofs.Taken.{SameTimes, any_times, apart_back, other_list, same_apart, same_outside}
@@ -141,7 +141,7 @@ module _ (region_len : ℕ) (leads : List ℕ) (live retired : List Part) (are :
   leads_beside image holds = each leads are beside
     where
       headers : AllByRecursion (λ p. HasHeader region_len image p.region p.header) retired
-      headers = all_back (λ (p : Part). HasHeader region_len image p.region p.header) live retired holds.headers
+      headers = all_right (λ (p : Part). HasHeader region_len image p.region p.header) live retired holds.headers
 
       each : (rs : List ℕ) → AllByRecursion (λ r. list_any (λ p. p.region == r) retired ≡ true) rs → AllByRecursion (λ r. list_any (nat_eq r) (all_regions live) ≡ false) rs → AllByRecursion (LeadsBeside region_len image live) rs
       each [] a b = tt
@@ -184,8 +184,8 @@ module _ (region_len : ℕ) (leads : List ℕ) (live retired : List Part) (are :
         leads = λ r h. by r (list_any (nat_eq r) leads) refl (subst (λ n. r < n) differs.as_many h);
         headers =
             all_append (λ p. HasHeader region_len image p.region p.header) live (without leads retired)
-            (kept live live_other (all_front (λ (p : Part). HasHeader region_len was p.region p.header) live retired holds.headers))
-            (kept (without leads retired) (passes retired) (all_filter (λ (p : Part). HasHeader region_len was p.region p.header) (λ p. not (list_any (nat_eq p.region) leads)) retired (all_back (λ (p : Part). HasHeader region_len was p.region p.header) live retired holds.headers)));
+            (kept live live_other (all_left (λ (p : Part). HasHeader region_len was p.region p.header) live retired holds.headers))
+            (kept (without leads retired) (passes retired) (all_filter (λ (p : Part). HasHeader region_len was p.region p.header) (λ p. not (list_any (nat_eq p.region) leads)) retired (all_right (λ (p : Part). HasHeader region_len was p.region p.header) live retired holds.headers)));
       }
     where
       shut_gate : (bytes : List ℕ) → take 1 bytes ≡ closed_gate → is_sealed bytes ≡ false
@@ -228,7 +228,7 @@ module _ (old entry : Disk) (kept : Kept) (whole : IsWhole (value_of old entry k
   retired_apart = subst (AreApart old.regions) (regions_together kept.parts kept.retired) held_apart
 
   pub retired_below : AllByRecursion (λ r. r < old.regions) (all_regions kept.retired)
-  retired_below = all_back (λ r. r < old.regions) (all_regions kept.parts) (all_regions kept.retired) retired_apart.below
+  retired_below = all_right (λ r. r < old.regions) (all_regions kept.parts) (all_regions kept.retired) retired_apart.below
 
   pub retired_small : AllByRecursion (λ r. r < 64) (all_regions kept.retired)
   retired_small = all_map (λ r. r < old.regions) (λ r. r < 64) (λ r h. let m = whole.geometry.regions_high in omega (arith, h, m)) (all_regions kept.retired) retired_below
@@ -351,7 +351,7 @@ module _ (old entry : Disk) (kept : Kept) (whole : IsWhole (value_of old entry k
         job_other = all_map (λ r. list_any (nat_eq r) left ≡ true) (λ r. list_any (nat_eq r) held ≡ false) (λ r h. (job_apart (value_of old entry kept) whole nothing_lost r h).0) left (each_there left)
 
         all_job : left ≡ job_regions kept.job
-        all_job = all_left (value_of old entry kept) whole nothing_lost
+        all_job = job_regions_left (value_of old entry kept) whole nothing_lost
 
         -- what is written for a merge lies elsewhere
         job_beside : AllByRecursion (λ r. list_any (nat_eq r) leads ≡ false) (job_regions kept.job)
@@ -433,8 +433,8 @@ module _ (old entry : Disk) (kept : Kept) (whole : IsWhole (value_of old entry k
           in_chain = whole.in_chain;
           ends = whole.ends;
           lie = subst (λ n. AllByRecursion (λ (p : Part). LiesIn n p.header) (kept.parts ++ rest)) (sym run.beside.region_len)
-              (all_append (λ (p : Part). LiesIn old.region_len p.header) kept.parts rest (all_front (λ (p : Part). LiesIn old.region_len p.header) kept.parts kept.retired whole.lie)
-              (all_filter (λ (p : Part). LiesIn old.region_len p.header) (λ p. not (list_any (nat_eq p.region) leads)) kept.retired (all_back (λ (p : Part). LiesIn old.region_len p.header) kept.parts kept.retired whole.lie)));
+              (all_append (λ (p : Part). LiesIn old.region_len p.header) kept.parts rest (all_left (λ (p : Part). LiesIn old.region_len p.header) kept.parts kept.retired whole.lie)
+              (all_filter (λ (p : Part). LiesIn old.region_len p.header) (λ p. not (list_any (nat_eq p.region) leads)) kept.retired (all_right (λ (p : Part). LiesIn old.region_len p.header) kept.parts kept.retired whole.lie)));
           apart = subst (λ n. AreApart n (taken_then free lost shut)) (sym run.beside.regions) apart;
           free = is_free ∙ ap (λ n. regions_outside n (taken_then free lost shut)) (sym run.beside.regions);
           rising = left_rising leads kept.retired whole.rising;

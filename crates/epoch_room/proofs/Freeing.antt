@@ -15,6 +15,7 @@ use Rattle.fine_model.specs.Jobs.{job_left, job_regions, taken_by}
 use Rattle.fine_model.specs.Trees.{is_distinct}
 use Rattle.fine_model.proofs.Nothing.{none_any, all_at}
 use Rattle.fine_model.proofs.Order.{all_map, filter_all}
+use Rattle.fine_model.proofs.Setting.{in_range, kept}
 use Rattle.fine_model.proofs.Times.{times, times-append, distinct_times, times_distinct, absent_times}
 use Rattle.log_disk.specs.Disk.{Told, IsToldOf}
 use Rattle.log_disk.specs.Moments.{IsLeft}
@@ -27,29 +28,8 @@ use Rattle.epoch_room.proofs.Taken.{rising_outside, outside_there, outside_not, 
 
 -- ---- numbers in a row that pass a test
 
-pub kept_any : (p : ℕ → Bool) (xs : List ℕ) (n : ℕ) → list_any (nat_eq n) xs ≡ true → p n ≡ true → list_any (nat_eq n) (filter p xs) ≡ true
-kept_any p [] n there passes = there
-kept_any p (x ∷ xs) n there passes = by (p x) refl (nat_eq n x) refl (λ h. kept_any p xs n h passes)
-  where
-    by : (a : Bool) → p x ≡ a → (b : Bool) → nat_eq n x ≡ b → (list_any (nat_eq n) xs ≡ true → list_any (nat_eq n) (filter p xs) ≡ true) → list_any (nat_eq n) (cond a (x ∷ filter p xs) (filter p xs)) ≡ true
-    by true e true f rest = ap (λ b. b || list_any (nat_eq n) (filter p xs)) f
-    by true e false f rest = or_right (nat_eq n x) (list_any (nat_eq n) (filter p xs)) (rest (ap (λ b. b || list_any (nat_eq n) xs) (sym f) ∙ there))
-    by false e true f rest = absurd (let h : x ≡ n = sym (eqb-true n x f) in let t : false ≡ true = sym e ∙ ap p h ∙ passes in cc)
-    by false e false f rest = rest (ap (λ b. b || list_any (nat_eq n) xs) (sym f) ∙ there)
-
-pub in_range : (a n r : ℕ) → a ≤ r → r < a + n → list_any (nat_eq r) (range_with_len a n) ≡ true
-in_range a zero r from below = absurd (omega (arith, from, below))
-in_range a (suc n) r from below = by (nat_eq r a) refl (λ after. in_range (a + 1) n r after (omega (arith, below)))
-  where
-    after : nat_eq r a ≡ false → a + 1 ≤ r
-    after e = elim (cases_lt a r) [ inl h ↦ omega (arith, h) | inr h ↦ absurd (let same : r ≡ a = omega (arith, h, from) in let t : true ≡ false = sym (eq-eqb r a same) ∙ e in cc) ]
-
-    by : (b : Bool) → nat_eq r a ≡ b → (a + 1 ≤ r → list_any (nat_eq r) (range_with_len (a + 1) n) ≡ true) → (b || list_any (nat_eq r) (range_with_len (a + 1) n)) ≡ true
-    by true e rest = refl
-    by false e rest = rest (after e)
-
 pub free_there : (image : Image) (r : ℕ) → r < length image → is_free image r ≡ true → list_any (nat_eq r) (free_regions image) ≡ true
-free_there image r there free = kept_any (is_free image) (range_with_len 0 (length image)) r (in_range 0 (length image) r (omega arith) (omega (arith, there))) free
+free_there image r there free = kept (is_free image) (range_with_len 0 (length image)) r (in_range 0 (length image) r (omega arith) (omega (arith, there))) free
 
 pub nat_alike : IsEquivalence nat_eq
 nat_alike = record { refl = λ i. eq-eqb i i refl; symm = λ i j. turned i j; congr = λ i j k h. ap (λ n. nat_eq n k) (eqb-true i j h) }
@@ -74,15 +54,15 @@ rising_distinct (x ∷ xs) up =
 
 module _ (value : RoomValue) (whole : IsWhole value) (none_lost : value.room.lost ≡ []) where
   -- no region of a merge is lost
-  pub all_left : job_left value.room ≡ job_regions value.room.job
-  all_left = ap (λ lost. filter (λ r. not (list_any (nat_eq r) lost)) (job_regions value.room.job)) none_lost ∙ filter_all (λ r. true) (job_regions value.room.job) (yes (job_regions value.room.job))
+  pub job_regions_left : job_left value.room ≡ job_regions value.room.job
+  job_regions_left = ap (λ lost. filter (λ r. not (list_any (nat_eq r) lost)) (job_regions value.room.job)) none_lost ∙ filter_all (λ r. true) (job_regions value.room.job) (yes (job_regions value.room.job))
     where
       yes : (xs : List ℕ) → AllByRecursion (λ r. true ≡ true) xs
       yes [] = tt
       yes (x ∷ xs) = (refl, yes xs)
 
   job_long : one_taken value.room.job ≤ length (job_left value.room)
-  job_long = subst (λ rs. one_taken value.room.job ≤ length rs) (sym all_left) (by value.room.job)
+  job_long = subst (λ rs. one_taken value.room.job ≤ length rs) (sym job_regions_left) (by value.room.job)
     where
       headed : (target : ℕ) (header : Option Header) → taken_once header ≤ length (taken_by target header)
       headed target None = omega arith

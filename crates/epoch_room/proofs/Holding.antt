@@ -11,10 +11,10 @@ use Rattle.fine_model.specs.Chain.{regions_of, is_free}
 use Rattle.fine_model.specs.ChainLaws.{ShowsAlike, IsLonger, part_of}
 use Rattle.fine_model.proofs.Order.{all_map}
 use Rattle.fine_model.proofs.Sets.{all_append}
+use Rattle.fine_model.proofs.Zip.{all_left, all_right}
 use Rattle.log_partition.proofs.Heads.{in_closed, in_good, in_bad}
 use Rattle.epoch_room.specs.Value.{all_regions}
 use Rattle.epoch_room.specs.Whole.{HoldsParts}
-use Rattle.epoch_room.proofs.Counting.{all_front, all_back}
 use Rattle.epoch_room.proofs.Torn.{HasClosed, HasOpened}
 
 -- ---- headers
@@ -117,8 +117,8 @@ held_opened region_len region bytes old new live retired header holds is longer 
   headers =
       let kept = all_map (λ p. HasHeader region_len old p.region p.header) (λ p. HasHeader region_len new p.region p.header) (λ p h. longer.headers p.region p.header h) (live ++ retired) holds.headers in
       all_append (λ p. HasHeader region_len new p.region p.header) (live ++ part_of region header ∷ []) retired
-      (all_append (λ p. HasHeader region_len new p.region p.header) live (part_of region header ∷ []) (all_front (λ p. HasHeader region_len new p.region p.header) live retired kept) (has, tt))
-      (all_back (λ p. HasHeader region_len new p.region p.header) live retired kept);
+      (all_append (λ p. HasHeader region_len new p.region p.header) live (part_of region header ∷ []) (all_left (λ p. HasHeader region_len new p.region p.header) live retired kept) (has, tt))
+      (all_right (λ p. HasHeader region_len new p.region p.header) live retired kept);
 }
   where
     differ : (m n : ℕ) → m ≢ n → (n == m) ≡ false

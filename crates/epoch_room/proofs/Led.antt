@@ -11,6 +11,7 @@ use Rattle.fine_model.proofs.Goings.{job_itself}
 use Rattle.partition_hold.proofs.Sets.{none_passes}
 use Rattle.fine_model.proofs.Lists.{all_take}
 use Rattle.fine_model.proofs.Order.{all_map}
+use Rattle.fine_model.proofs.Zip.{all_left, all_right}
 use Rattle.log_disk.specs.Disk.{Disk, HasRisen}
 use Rattle.log_disk.specs.declared.refusal.DiskRefusal.{DiskRefusal}
 use Rattle.log_disk.specs.declared.refusal.DiskRefusal.TheVariants as refusal
@@ -24,7 +25,6 @@ use Rattle.epoch_room.specs.Value.{Kept, RoomValue, all_regions, on, regions_out
 use Rattle.epoch_room.specs.Whole.{AreApart, IsWhole}
 use Rattle.epoch_room.proofs.Behind.{keeps_none}
 use Rattle.epoch_room.proofs.Beside.{regions_together}
-use Rattle.epoch_room.proofs.Counting.{all_back, all_front}
 use Rattle.epoch_room.proofs.FreeSets.{set_below}
 use Rattle.epoch_room.proofs.Taken.{apart_back}
 use Rattle.epoch_room.proofs.GateSteps.{beside_none, closing_none, closing_wider, reads_none, reads_wider}
@@ -166,7 +166,7 @@ module _ (value : RoomValue) (whole : IsWhole value) where
   lost_ordered open_room = ap set_of (whole.lost open_room) ∙ none_passes (λ r. false) (λ r low. refl) ∙ sym (whole.lost open_room)
 
   pub retired_parts_small : AllByRecursion (λ p. AllByRecursion (λ r. r < 64) (regions_of p)) value.room.retired
-  retired_parts_small = parted value.room.retired (all_back (λ r. r < value.disk.regions) (all_regions value.room.parts) (all_regions value.room.retired) (subst (AllByRecursion (λ r. r < value.disk.regions)) (regions_together value.room.parts value.room.retired) held.below))
+  retired_parts_small = parted value.room.retired (all_right (λ r. r < value.disk.regions) (all_regions value.room.parts) (all_regions value.room.retired) (subst (AllByRecursion (λ r. r < value.disk.regions)) (regions_together value.room.parts value.room.retired) held.below))
     where
       held : AreApart value.disk.regions (all_regions (value.room.parts ++ value.room.retired))
       held =
@@ -177,8 +177,8 @@ module _ (value : RoomValue) (whole : IsWhole value) where
       parted : (ps : List Part) → AllByRecursion (λ r. r < value.disk.regions) (all_regions ps) → AllByRecursion (λ p. AllByRecursion (λ r. r < 64) (regions_of p)) ps
       parted [] all = tt
       parted (p ∷ ps) all = (
-        all_map (λ r. r < value.disk.regions) (λ r. r < 64) (λ r h. let m = whole.geometry.regions_high in omega (arith, h, m)) (regions_of p) (all_front (λ r. r < value.disk.regions) (regions_of p) (all_regions ps) all),
-        parted ps (all_back (λ r. r < value.disk.regions) (regions_of p) (all_regions ps) all),
+        all_map (λ r. r < value.disk.regions) (λ r. r < 64) (λ r h. let m = whole.geometry.regions_high in omega (arith, h, m)) (regions_of p) (all_left (λ r. r < value.disk.regions) (regions_of p) (all_regions ps) all),
+        parted ps (all_right (λ r. r < value.disk.regions) (regions_of p) (all_regions ps) all),
       )
 
   -- the lead of a retired part is a region

@@ -17,6 +17,7 @@ use Rattle.fine_model.specs.Merge.{fits_in}
 use Rattle.fine_model.proofs.Lists.{all_take}
 use Rattle.fine_model.proofs.Order.{all_map, filter_all}
 use Rattle.fine_model.proofs.Times.{times, times-append}
+use Rattle.fine_model.proofs.Zip.{all_left, all_right}
 use Rattle.partition_index.specs.Parts.{is_counted}
 use Rattle.partition_merge.specs.Mergers.{IsCounted}
 use Rattle.partition_merge.specs.declared.merger.Measure.{Measure}
@@ -24,7 +25,7 @@ use Rattle.epoch_room.specs.MergeSteps.{free_dropped, fresh_job, header_over, if
 use Rattle.epoch_room.specs.Meaning.{Keeps}
 use Rattle.epoch_room.specs.Value.{RoomValue, all_regions, regions_outside, taken}
 use Rattle.epoch_room.specs.Whole.{AreApart, IsJob, IsTaken, IsWhole}
-use Rattle.epoch_room.proofs.Counting.{all_front, all_back, regions_of_header}
+use Rattle.epoch_room.proofs.Counting.{regions_of_header}
 use Rattle.epoch_room.proofs.JobRegions.{below_both, found_least, freed_outside, lowest_taken, outside_all, outside_set, rest_apart}
 use Rattle.epoch_room.proofs.Spare.{spare_keeps, spare_whole}
 use Rattle.epoch_room.proofs.Taken.{SameTimes, same_apart, same_outside}
@@ -309,14 +310,14 @@ module _ (value : RoomValue) (whole : IsWhole value) where
   pub job_below : AllByRecursion (λ r. r < 64) (job_regions value.room.job)
   job_below =
       all_map (λ r. r < value.disk.regions) (λ r. r < 64) (λ r low. omega (arith, low, whole.geometry.regions_high)) (job_regions value.room.job)
-      (below_both value.disk.regions value.room.lost (job_regions value.room.job) (all_front (λ r. r < value.disk.regions) value.room.lost _ behind_job)
-      (all_front (λ r. r < value.disk.regions) (job_left value.room) _ behind_target))
+      (below_both value.disk.regions value.room.lost (job_regions value.room.job) (all_left (λ r. r < value.disk.regions) value.room.lost _ behind_job)
+      (all_left (λ r. r < value.disk.regions) (job_left value.room) _ behind_target))
     where
       behind_target : AllByRecursion (λ r. r < value.disk.regions) (job_left value.room ++ (value.room.lost ++ all_regions (value.room.parts ++ value.room.retired)))
-      behind_target = all_back (λ r. r < value.disk.regions) (option_to_list value.target) _ whole.apart.below
+      behind_target = all_right (λ r. r < value.disk.regions) (option_to_list value.target) _ whole.apart.below
 
       behind_job : AllByRecursion (λ r. r < value.disk.regions) (value.room.lost ++ all_regions (value.room.parts ++ value.room.retired))
-      behind_job = all_back (λ r. r < value.disk.regions) (job_left value.room) _ (all_back (λ r. r < value.disk.regions) (option_to_list value.target) _ whole.apart.below)
+      behind_job = all_right (λ r. r < value.disk.regions) (job_left value.room) _ (all_right (λ r. r < value.disk.regions) (option_to_list value.target) _ whole.apart.below)
 
   pub job_counted : (job : Job) → value.room.job ≡ Some job → (header : Header) → job.header ≡ Some header → (1 ≤ header.regions) × (header.regions ≤ 8)
   job_counted job out header h =

@@ -29,7 +29,7 @@ use Rattle.epoch_room.specs.Value.{Kept, value_of}
 use Rattle.epoch_room.specs.Whole.{FollowOn, HasRegions, HoldsParts, IsJob, IsTaken, IsWhole}
 use Rattle.epoch_room.proofs.BehindGates.{torn_alike}
 use Rattle.epoch_room.proofs.Boarding.{AreBeside, one_beside}
-use Rattle.epoch_room.proofs.Counting.{all_back, all_front, regions_of_header}
+use Rattle.epoch_room.proofs.Counting.{regions_of_header}
 use Rattle.epoch_room.proofs.Freeing.{as_many, free_there, held_now}
 use Rattle.epoch_room.proofs.Holding.{free_of}
 use Rattle.epoch_room.proofs.MergeFits.{first_at, fits_free, second_at}
@@ -40,6 +40,7 @@ use Rattle.std.proofs.lemmas.Bool.{not-true}
 use Rattle.epoch_room.proofs.Torn.{HasClosed, HasOpened, at_gate, torn_closed}
 use Rattle.epoch_room.proofs.Written.{is_job, own_apart, own_below, own_beside, own_once, own_place, own_taken}
 use Rattle.fine_model.specs.Jobs.{held_by, held_for}
+use Rattle.fine_model.proofs.Zip.{all_left, all_right}
 
 -- a part is opened over an image, and its body is what it was there
 pub record IsOver (region_len : ℕ) (job : Job) (header : Header) (base image : Image) : Type 0 where
@@ -53,7 +54,7 @@ pub record IsLikeBefore (region_len : ℕ) (before : Told) (image : Image) : Typ
   pub alike : ShowsAlike region_len was image
 
 middle : (P : Part → Type 0) (before : List Part) (older newer : Part) (after : List Part) → AllByRecursion P (before ++ older ∷ newer ∷ after) → P older × P newer
-middle P before older newer after all = let rest = all_back P before (older ∷ newer ∷ after) all in (rest.0, rest.1.0)
+middle P before older newer after all = let rest = all_right P before (older ∷ newer ∷ after) all in (rest.0, rest.1.0)
 
 -- what is held of a job is told by its body
 pub held_same : {Run : Told → Told → Type 0} (job : Job) (header : Header) → job.header ≡ Some header → (y z : Option Told) → BothTold Run y z → ((a b : Told) → Run a b → body_in b.bytes job.target header ≡ body_in a.bytes job.target header)
@@ -125,7 +126,7 @@ module _ (old entry : Disk) (kept : Kept) (whole : IsWhole (value_of old entry k
   written_now image told o n of_older of_newer =
       let holds = held_now (value_of old entry kept) whole (whole.lost open_room) image told in
       let both = middle (λ p. HasHeader old.region_len image p.region p.header) as_job.before job.older job.newer as_job.after
-      (all_front (λ (p : Part). HasHeader old.region_len image p.region p.header) (as_job.before ++ job.older ∷ job.newer ∷ as_job.after) kept.retired (holds_both image holds.1).headers) in
+      (all_left (λ (p : Part). HasHeader old.region_len image p.region p.header) (as_job.before ++ job.older ∷ job.newer ∷ as_job.after) kept.retired (holds_both image holds.1).headers) in
       written o n (record { image = image; is_told = told; headers = (both.0, tt); are_rows = of_older }) (record { image = image; is_told = told; headers = (both.1, tt); are_rows = of_newer })
 
   -- ---- such a room can take something

@@ -17,6 +17,7 @@ use Rattle.fine_model.proofs.Goings.{job_itself}
 use Rattle.fine_model.proofs.Nothing.{each_there}
 use Rattle.fine_model.proofs.Order.{all_map, filter_none}
 use Rattle.fine_model.proofs.Sets.{all_append}
+use Rattle.fine_model.proofs.Zip.{all_left, all_right}
 use Rattle.partition_index.specs.Parts.{IsSeen, LiesIn}
 use Rattle.partition_hold.specs.Views.{ViewValue, opened}
 use Rattle.log_disk.specs.Disk.{BothSee, BothTold, Disk, Eye, OnlyFails, Opens, Told, IsSound, IsToldOf}
@@ -32,7 +33,6 @@ use Rattle.epoch_room.specs.declared.answers.RoomFault.{RoomFault}
 use Rattle.epoch_room.specs.declared.answers.RoomFault.TheVariants as room_fault
 use Rattle.epoch_room.proofs.Behind.{keeps_none}
 use Rattle.epoch_room.proofs.Beside.{regions_together}
-use Rattle.epoch_room.proofs.Counting.{all_back, all_front}
 use Rattle.epoch_room.proofs.Seating.{SameBytes, boarded, boarded_job, boarded_keeps, boarded_whole, bytes_stay}
 use Rattle.epoch_room.proofs.Taken.{apart_back}
 use Rattle.epoch_room.proofs.Viewing.{SplitsAt, all_parts, empty_is, given_more, names_all, new_number, one_more, splits_at}
@@ -50,7 +50,7 @@ module _ (old entry : Disk) (kept : Kept) (whole : IsWhole (value_of old entry k
       let a = apart_back old.regions (option_to_list kept.target) (job ++ (kept.lost ++ all_regions (kept.parts ++ kept.retired))) whole.apart in
       let b = apart_back old.regions job (kept.lost ++ all_regions (kept.parts ++ kept.retired)) a in
       let c = apart_back old.regions kept.lost (all_regions (kept.parts ++ kept.retired)) b in
-      all_front (λ r. r < old.regions) (all_regions kept.parts) (all_regions kept.retired) (subst (AllByRecursion (λ r. r < old.regions)) (regions_together kept.parts kept.retired) c.below)
+      all_left (λ r. r < old.regions) (all_regions kept.parts) (all_regions kept.retired) (subst (AllByRecursion (λ r. r < old.regions)) (regions_together kept.parts kept.retired) c.below)
 
   pub live_small : AllByRecursion (λ r. r < 64) (all_regions kept.parts)
   live_small = all_map (λ r. r < old.regions) (λ r. r < 64) (λ r h. let m = whole.geometry.regions_high in omega (arith, h, m)) (all_regions kept.parts) live_below
@@ -132,7 +132,7 @@ module _ (old new entry : Disk) (kept : Kept) (whole : IsWhole (value_of old ent
   viewed_seen = each kept.parts (all_parts kept.parts) (by kept.parts live_lie live_long)
     where
       live_lie : AllByRecursion (λ (p : Part). LiesIn old.region_len p.header) kept.parts
-      live_lie = all_front (λ (p : Part). LiesIn old.region_len p.header) kept.parts kept.retired whole.lie
+      live_lie = all_left (λ (p : Part). LiesIn old.region_len p.header) kept.parts kept.retired whole.lie
 
       long_in : (t : Option Told) (o : Option Image) → BothSee t o → IfSome t (IsToldOf old) → (rs : List ℕ) → AllByRecursion (λ r. r < old.regions) rs → IfSome o (λ image. AllByRecursion (λ r. length (region_of image r) ≡ eye.region_len) rs)
       long_in None None h s rs low = tt
@@ -145,7 +145,7 @@ module _ (old new entry : Disk) (kept : Kept) (whole : IsWhole (value_of old ent
         where
           parted : (ps : List Part) → AllByRecursion (λ r. r < old.regions) (all_regions ps) → AllByRecursion (λ (p : Part). AllByRecursion (λ r. r < old.regions) (regions_of p)) ps
           parted [] all = tt
-          parted (p ∷ ps) all = (all_front (λ r. r < old.regions) (regions_of p) (all_regions ps) all, parted ps (all_back (λ r. r < old.regions) (regions_of p) (all_regions ps) all))
+          parted (p ∷ ps) all = (all_left (λ r. r < old.regions) (regions_of p) (all_regions ps) all, parted ps (all_right (λ r. r < old.regions) (regions_of p) (all_regions ps) all))
 
       by : (ps : List Part) → AllByRecursion (λ (p : Part). LiesIn old.region_len p.header) ps → AllByRecursion (λ (p : Part). AllByRecursion (λ r. r < old.regions) (regions_of p)) ps
           → AllByRecursion (λ (p : Part). LiesIn old.region_len p.header × AllByRecursion (λ r. r < old.regions) (regions_of p)) ps
@@ -185,7 +185,7 @@ module _ (old new entry : Disk) (kept : Kept) (whole : IsWhole (value_of old ent
         record {
           image = image;
           is_told = refl;
-          headers = subst (λ i. AllByRecursion (λ (p : Part). HasHeader old.region_len i p.region p.header) kept.parts) (sym h) (all_front (λ (p : Part). HasHeader old.region_len t.bytes p.region p.header) kept.parts kept.retired (left t.bytes s.image).headers);
+          headers = subst (λ i. AllByRecursion (λ (p : Part). HasHeader old.region_len i p.region p.header) kept.parts) (sym h) (all_left (λ (p : Part). HasHeader old.region_len t.bytes p.region p.header) kept.parts kept.retired (left t.bytes s.image).headers);
           are_rows = subst (λ i. AreRowsOf old.region_len i kept.parts st.stands.live.rows) (sym h) st.stands.live.are_rows;
         },
         st.stands.live.agrees,

@@ -38,7 +38,7 @@ use Rattle.epoch_room.proofs.Behind.{keeps_none, same_beside}
 use Rattle.epoch_room.proofs.BodyPieces.{all_lying, first_lies, leaves_behind_none, reads_none}
 use Rattle.epoch_room.proofs.Boarding.{AreBeside, unseen}
 use Rattle.epoch_room.proofs.Ending.{moved_board, moved_entry, moved_job, moved_lie, moved_whole, risen_since, still_geometry}
-use Rattle.epoch_room.proofs.Freeing.{all_left, job_apart, nat_alike}
+use Rattle.epoch_room.proofs.Freeing.{job_regions_left, job_apart, nat_alike}
 use Rattle.epoch_room.proofs.LedParts.{fewer_apart, set_times}
 use Rattle.epoch_room.proofs.Spare.{spare_whole}
 use Rattle.epoch_room.proofs.Taken.{SameTimes, same_apart, same_outside}
@@ -76,7 +76,7 @@ module _ (old entry : Disk) (kept : Kept) (whole : IsWhole (value_of old entry k
   rs_is = ap job_regions out ∙ ap (taken_by job.target) has
 
   pub left_is : job_left (value_of old entry kept).room ≡ rs
-  left_is = all_left (value_of old entry kept) whole none_lost ∙ rs_is
+  left_is = job_regions_left (value_of old entry kept) whole none_lost ∙ rs_is
 
   in_left : (r : ℕ) → list_any (nat_eq r) rs ≡ true → list_any (nat_eq r) (job_left (value_of old entry kept).room) ≡ true
   in_left r h = ap (list_any (nat_eq r)) left_is ∙ h

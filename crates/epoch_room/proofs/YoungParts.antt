@@ -11,11 +11,11 @@ use Rattle.fine_model.specs.RowBytes.{greatest}
 use Rattle.fine_model.specs.Chain.{chain_end, regions_of}
 use Rattle.fine_model.specs.Regions.{continuations}
 use Rattle.fine_model.proofs.Times.{times, times-append, times-same, times_absent}
+use Rattle.fine_model.proofs.Zip.{all_right}
 use Rattle.epoch_room.specs.Gathering.{retire_all, young_at}
 use Rattle.epoch_room.specs.MergeSealing.{retire}
 use Rattle.epoch_room.specs.Value.{all_regions}
 use Rattle.epoch_room.specs.Whole.{AreRising, FollowOn}
-use Rattle.epoch_room.proofs.Counting.{all_back}
 use Rattle.epoch_room.proofs.LedParts.{lead_apart}
 use Rattle.epoch_room.proofs.Retired.{retire_long, retire_rising, times_moved}
 
@@ -171,9 +171,9 @@ all_behind parts slice at is = ap (λ ps. take (length ps - at) (drop at ps)) is
 -- what holds of all parts holds of those from a place on
 pub all_from : (P : Part → Type 0) (parts slice : List Part) (at : ℕ) → slice ≡ parts → AllByRecursion P parts → AllByRecursion P (take (length slice - at) (drop at slice))
 all_from P parts slice at is all =
-    subst (AllByRecursion P) (sym (all_behind parts slice at is)) (all_back P (take at parts) (drop at parts) (subst (AllByRecursion P) (sym (take-append-drop at parts)) all))
+    subst (AllByRecursion P) (sym (all_behind parts slice at is)) (all_right P (take at parts) (drop at parts) (subst (AllByRecursion P) (sym (take-append-drop at parts)) all))
 
 -- a lead is a region of its part
 pub leads_below : (most : ℕ) (parts : List Part) → AllByRecursion (λ r. r < most) (all_regions parts) → AllByRecursion (λ p. p.region < most) parts
 leads_below most [] all = tt
-leads_below most (p ∷ parts) all = (all.0, leads_below most parts (all_back (λ r. r < most) (regions_of p) (all_regions parts) all))
+leads_below most (p ∷ parts) all = (all.0, leads_below most parts (all_right (λ r. r < most) (regions_of p) (all_regions parts) all))

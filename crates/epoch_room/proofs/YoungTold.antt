@@ -7,6 +7,7 @@ use Rattle.fine_model.specs.declared.Range.{Range}
 use Rattle.fine_model.specs.declared.Row.{Row}
 use Rattle.fine_model.specs.Chain.{chain_end}
 use Rattle.fine_model.specs.Regions.{HasHeader, header_of}
+use Rattle.fine_model.proofs.Zip.{all_left, all_right}
 use Rattle.log_disk.specs.Disk.{Disk, IsToldOf, OnlyFails, Told}
 use Rattle.log_disk.specs.declared.refusal.DiskRefusal.{DiskRefusal}
 use Rattle.log_disk.specs.declared.refusal.DiskRefusal.TheVariants as refusal
@@ -20,7 +21,6 @@ use Rattle.epoch_room.specs.Gathering.{DeclinesYoung, WereGathered, range_over, 
 use Rattle.epoch_room.specs.Value.{Kept, RoomValue, value_of}
 use Rattle.epoch_room.specs.Whole.{HoldsParts, IsWhole}
 use Rattle.epoch_room.specs.Youngest.{CanSealYoung}
-use Rattle.epoch_room.proofs.Counting.{all_back, all_front}
 use Rattle.epoch_room.proofs.MergeFits.{first_at}
 use Rattle.epoch_room.proofs.YoungKept.{CanGather}
 use Rattle.epoch_room.proofs.YoungParts.{AreTwo, are_two, end_young}
@@ -73,9 +73,9 @@ module _ (old entry : Disk) (kept : Kept) (whole : IsWhole (value_of old entry k
           → IfSome t (λ told. AreGathered old.region_len told.bytes (two.oldest ∷ two.newer) s.gathers.rows)
       by None h l g = tt
       by (Some t) h l g =
-          let headers = all_front (λ (p : Part). HasHeader old.region_len t.bytes p.region p.header) kept.parts kept.retired (l t.bytes h.image).headers in
+          let headers = all_left (λ (p : Part). HasHeader old.region_len t.bytes p.region p.header) kept.parts kept.retired (l t.bytes h.image).headers in
           subst (λ ps. AreGathered old.region_len t.bytes ps s.gathers.rows) two.is
-          (g (all_back (λ (p : Part). HasHeader old.region_len t.bytes p.region p.header) (take at kept.parts) (drop at kept.parts)
+          (g (all_right (λ (p : Part). HasHeader old.region_len t.bytes p.region p.header) (take at kept.parts) (drop at kept.parts)
           (subst (AllByRecursion (λ (p : Part). HasHeader old.region_len t.bytes p.region p.header)) (sym (take-append-drop at kept.parts)) headers)))
 
   module _ (p : Part) (n : ℕ) (bytes : List ℕ) (keys : List RowAt) (partition : Partition) (spelled : List ℕ) (is : slice_get kept.parts at ≡ Some p) (len : n ≡ old.region_len) (bytes_are : bytes ≡ gathered.bytes.items) (keys_are : keys ≡ gathered.keys.items)

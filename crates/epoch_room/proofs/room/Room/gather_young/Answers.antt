@@ -1,12 +1,12 @@
 use Rattle.std.proofs.Common.{◌≡◌, ◌<◌, List, length, Ok, Err, false, true, refl, sym, subst, ap, ◌∙◌}
 use Rattle.fine_model.specs.declared.Part.{Part}
+use Rattle.fine_model.proofs.Zip.{all_left}
 use Rattle.log_disk.specs.Disk.{Disk}
 use Rattle.partition_index.specs.Parts.{LiesIn}
 use Rattle.epoch_room.specs.Gathering.{DeclinesYoung, GathersYoung, young_at}
 use Rattle.epoch_room.specs.Value.{RoomValue, value_of}
 use Rattle.epoch_room.specs.declared.answers.RoomFault.TheVariants as room_fault
 use Rattle.epoch_room.proofs.Behind.{does_none}
-use Rattle.epoch_room.proofs.Counting.{all_front}
 use Rattle.epoch_room.proofs.Inside.{kept_in, room_in}
 use Rattle.epoch_room.proofs.Viewed.{failed_whole, live_below}
 use Rattle.epoch_room.proofs.YoungParts.{all_behind, all_from, leads_below}
@@ -44,7 +44,7 @@ pub gather-requires-clause-lie : goal.gather-requires-clause-lie
 gather-requires-clause-lie g c κs within =
     let len = (g.D.LogDisk.state c.self.inside.disk).region_len in
     all_from (λ (p : Part). LiesIn len p.header) c.self.inside.parts c.as_slice-parts.result.now c.young_at-at.result c.as_slice-parts.ensures
-    (all_front (λ (p : Part). LiesIn len p.header) c.self.inside.parts c.self.inside.retired.items c.self.invariant.0.lie)
+    (all_left (λ (p : Part). LiesIn len p.header) c.self.inside.parts c.self.inside.retired.items c.self.invariant.0.lie)
 
 pub gather-requires-clause-there : goal.gather-requires-clause-there
 gather-requires-clause-there g c κs within =

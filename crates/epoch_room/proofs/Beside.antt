@@ -1,5 +1,5 @@
 -- The regions of parts, and those beside them.
-use Rattle.std.proofs.Common.{◌≡◌, ℕ, zero, suc, ◌+◌, ◌-◌, ◌<◌, ◌≤◌, Bool, true, false, cond, not, ◌||◌, ◌&&◌, List, [], ◌∷◌, ◌++◌, length, refl, sym, ap, subst, ◌∙◌, arith, length-append, length-take, zero-add, true≢false}
+use Rattle.std.proofs.Common.{◌≡◌, ℕ, ◌+◌, ◌-◌, ◌<◌, ◌≤◌, Bool, true, false, cond, not, ◌||◌, ◌&&◌, List, [], ◌∷◌, ◌++◌, length, refl, sym, ap, subst, ◌∙◌, arith, length-append, length-take, zero-add, true≢false}
 use Rattle.std.specs.Prelude.{filter, nat_eq, sum_by}
 use Rattle.std.specs.List.{AllByRecursion, list_any, range_with_len, IsDistinct}
 use Rattle.std.proofs.lemmas.Bool.{eqb-true, not-true}

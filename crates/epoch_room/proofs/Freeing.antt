@@ -1,9 +1,9 @@
 -- What is free in a room is free in the image of its disk.
-use Rattle.std.proofs.Common.{◌≡◌, ℕ, zero, suc, ◌+◌, ◌<◌, ◌≤◌, Bool, true, false, cond, not, ◌&&◌, ◌||◌, List, [], ◌∷◌, ◌++◌, length, Some, None, refl, sym, ap, subst, ◌∙◌, inl, inr, arith, eq-eqb, length-append}
+use Rattle.std.proofs.Common.{◌≡◌, ℕ, ◌+◌, ◌<◌, ◌≤◌, Bool, true, false, not, ◌&&◌, ◌||◌, List, [], ◌∷◌, ◌++◌, length, Some, None, refl, sym, ap, subst, ◌∙◌, arith, eq-eqb, length-append}
 use Rattle.std.specs.Prelude.{Option, filter, nat_eq, option_map, option_to_list, IfSome}
 use Rattle.std.specs.List.{AllByRecursion, list_any, range_with_len}
 use Rattle.std.specs.Cmp.{IsEquivalence}
-use Rattle.std.proofs.lemmas.Bool.{eqb-true, cases_lt, or_right, or_parts}
+use Rattle.std.proofs.lemmas.Bool.{eqb-true, or_parts}
 use Rattle.std.proofs.lemmas.List.Folds.{list_any-append}
 use Rattle.std.proofs.lemmas.Map.Made.{length-le_from_is_member}
 use Rattle.fine_model.specs.declared.Header.{Header}
@@ -26,7 +26,7 @@ use Rattle.epoch_room.proofs.Beside.{distinct_from}
 use Rattle.epoch_room.proofs.Holding.{free_of}
 use Rattle.epoch_room.proofs.Taken.{rising_outside, outside_there, outside_not, other_list, apart_back}
 
--- ---- numbers in a row that pass a test
+-- ---- how many regions are free
 
 pub free_there : (image : Image) (r : ℕ) → r < length image → is_free image r ≡ true → list_any (nat_eq r) (free_regions image) ≡ true
 free_there image r there free = kept (is_free image) (range_with_len 0 (length image)) r (in_range 0 (length image) r (omega arith) (omega (arith, there))) free

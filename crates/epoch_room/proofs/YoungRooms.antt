@@ -41,7 +41,7 @@ use Rattle.epoch_room.proofs.Holding.{free_of}
 use Rattle.epoch_room.proofs.Moved.{becomes_open, does, epoch_stays, shuts}
 use Rattle.epoch_room.proofs.OpenedOver.{leads_keep}
 use Rattle.epoch_room.proofs.Retired.{all_moved, any_moved}
-use Rattle.epoch_room.proofs.Taken.{same_apart, same_outside}
+use Rattle.epoch_room.proofs.Taken.{SameTimes, same_apart, same_outside}
 use Rattle.epoch_room.proofs.Torn.{HasClosed, HasOpened, at_gate, sealed_bytes, torn_closed}
 use Rattle.epoch_room.proofs.Touching.{beside_told}
 use Rattle.epoch_room.proofs.Viewed.{failed_keeps, failed_shuts}
@@ -165,6 +165,14 @@ module _ (old entry : Disk) (kept : Kept) (before : List Part) (oldest : Part) (
         → (kept'.is_shut ≡ true → HasRisen old.own_faults new.own_faults × HasRisen old.faults new.faults) → Keeps (value_of old entry kept) (value_of new entry kept')
     keeps kept' stands sealed places risen = record { stands = stands; inside = inside; becomes = becomes kept' sealed places risen; time = time }
 
+    -- each region that is taken then is taken once, and the others are free
+    owned_now : (all : List ℕ) → SameTimes (region ∷ taken (value_of old entry kept).room kept.target) all → AreApart new.regions all × (free ≡ regions_outside new.regions all)
+    owned_now all times =
+        let own = region ∷ taken (value_of old entry kept).room kept.target in (
+          subst (λ n. AreApart n all) (sym same.regions) (same_apart old.regions own all times (own_apart old entry kept before oldest newer region free rows bytes c)),
+          left old entry kept before oldest newer region free rows bytes c ∙ same_outside old.regions own all times ∙ ap (λ n. regions_outside n all) (sym same.regions),
+        )
+
     -- ---- the disk failed
 
     module _ (f : failed) where
@@ -179,8 +187,7 @@ module _ (old entry : Disk) (kept : Kept) (before : List Part) (oldest : Part) (
 
       pub lost_whole : IsWhole (value_of new entry (record kept { free = free; lost = region ∷ []; is_shut = true }))
       lost_whole =
-          let times = lost_times old entry kept before oldest newer region free rows bytes c new in
-          let apart = own_apart old entry kept before oldest newer region free rows bytes c in
+          let owned = owned_now (taken (value_of new entry shut).room kept.target) (lost_times old entry kept before oldest newer region free rows bytes c new) in
           record {
             geometry = still_geometry old new same c.whole.geometry;
             sound = sound;
@@ -188,9 +195,8 @@ module _ (old entry : Disk) (kept : Kept) (before : List Part) (oldest : Part) (
             in_chain = c.whole.in_chain;
             ends = c.whole.ends;
             lie = moved_lie old new entry kept c.whole same sound time counts.no_lower (region ∷ []) by_side read (kept.parts ++ kept.retired) c.whole.lie;
-            apart = subst (λ n. AreApart n (taken (value_of new entry shut).room kept.target)) (sym same.regions) (same_apart old.regions (region ∷ taken (value_of old entry kept).room kept.target) (taken (value_of new entry shut).room kept.target) times apart);
-            free = left old entry kept before oldest newer region free rows bytes c ∙ same_outside old.regions (region ∷ taken (value_of old entry kept).room kept.target) (taken (value_of new entry shut).room kept.target) times
-                ∙ ap (λ n. regions_outside n (taken (value_of new entry shut).room kept.target)) (sym same.regions);
+            apart = owned.0;
+            free = owned.1;
             rising = c.whole.rising;
             board = moved_board old new entry kept c.whole same sound time counts.no_lower (region ∷ []) by_side read shut refl c.whole.board.of_parts;
             epoch = epoch_stays (value_of old entry kept) (value_of new entry shut) c.whole.epoch same.region_len c.whole.epoch.none (λ l. absurd (some_lost l)) c.whole.epoch.epoch;
@@ -254,8 +260,7 @@ module _ (old entry : Disk) (kept : Kept) (before : List Part) (oldest : Part) (
 
       pub gathered_whole : IsWhole (value_of new entry (record kept { parts = before ++ gathered_part region oldest newer rows ∷ []; retired = retire_all (oldest ∷ newer) kept.retired; free = free }))
       gathered_whole =
-          let times = gathered_times old entry kept before oldest newer region free rows bytes c new in
-          let apart = own_apart old entry kept before oldest newer region free rows bytes c in
+          let owned = owned_now (taken (value_of new entry now).room kept.target) (gathered_times old entry kept before oldest newer region free rows bytes c new) in
           record {
             geometry = still_geometry old new same c.whole.geometry;
             sound = sound;
@@ -264,9 +269,8 @@ module _ (old entry : Disk) (kept : Kept) (before : List Part) (oldest : Part) (
             ends = c.whole.ends ∙ sym (same_end old entry kept before oldest newer region free rows bytes c);
             lie = moved_lie old new entry kept c.whole same sound time counts.no_lower (region ∷ []) by_side read (now.parts ++ now.retired)
                 (all_moved (λ (p : Part). LiesIn old.region_len p.header) (own ∷ (kept.parts ++ kept.retired)) (now.parts ++ now.retired) moved (lies old entry kept before oldest newer region free rows bytes c, c.whole.lie));
-            apart = subst (λ n. AreApart n (taken (value_of new entry now).room kept.target)) (sym same.regions) (same_apart old.regions (region ∷ taken (value_of old entry kept).room kept.target) (taken (value_of new entry now).room kept.target) times apart);
-            free = left old entry kept before oldest newer region free rows bytes c ∙ same_outside old.regions (region ∷ taken (value_of old entry kept).room kept.target) (taken (value_of new entry now).room kept.target) times
-                ∙ ap (λ n. regions_outside n (taken (value_of new entry now).room kept.target)) (sym same.regions);
+            apart = owned.0;
+            free = owned.1;
             rising = rising_now old entry kept before oldest newer region free rows bytes c;
             board = moved_board old new entry kept c.whole same sound time counts.no_lower (region ∷ []) by_side read now refl
                 (all_map (NamesWhole (kept.parts ++ kept.retired)) (NamesWhole (now.parts ++ now.retired)) named_still (value_of old entry kept).room.eyes c.whole.board.of_parts);

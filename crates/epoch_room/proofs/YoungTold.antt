@@ -17,7 +17,7 @@ use Rattle.log_partition.specs.declared.encoding.Partition.{Partition}
 use Rattle.node_record.specs.declared.key.RowAt.{RowAt}
 use Rattle.row_gathering.specs.Gathering.{AreGathered, Declines, GathersRows, OnlyReads}
 use Rattle.row_gathering.specs.declared.gathering.Gathered.{Gathered}
-use Rattle.epoch_room.specs.Gathering.{DeclinesYoung, WereGathered, range_over, young_at, young_parts}
+use Rattle.epoch_room.specs.Gathering.{DeclinesYoung, WereGathered, range_over, young_at}
 use Rattle.epoch_room.specs.Value.{Kept, RoomValue, value_of}
 use Rattle.epoch_room.specs.Whole.{HoldsParts, IsWhole}
 use Rattle.epoch_room.specs.Youngest.{CanSealYoung}

@@ -117,7 +117,7 @@ fn merge_found<K: Sink, D: LogDisk>(alloc: Global, out: &mut K, disk: D) -> Fini
     let _regions = disk.regions();
     match open_log(alloc, disk) {
         Ok(room) => {
-            let _made = room.counts();
+            let _made = room.sealed();
             merge_room(alloc, out, room)
         }
         Err((fault, disk)) => Finish {

@@ -53,9 +53,9 @@ fn merge_once<D: LogDisk>(alloc: Global, room: &mut Room<D>) -> Result<bool, Run
     requires opened { room.old.room.is_shut ≡ false }
     ensures { MergesOnce room.old room.new result }
 {
-    let _counts = room.counts();
+    let _whole = room.sealed();
     let merged = merge_now(alloc, room);
-    let _merged = room.counts();
+    let _merged = room.sealed();
     match merged {
         Ok(merged) => Ok(merged),
         Err(fault) => Err(of_merge(fault)),
@@ -72,7 +72,7 @@ pub(crate) fn merge_all<D: LogDisk>(alloc: Global, room: &mut Room<D>) -> Result
     requires opened { room.old.room.is_shut ≡ false }
     ensures { MergesAll room.old room.new result }
 {
-    let _counts = room.counts();
+    let _whole = room.sealed();
     loop {
         match merge_once(alloc, room) {
             Ok(merged) => {

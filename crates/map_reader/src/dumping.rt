@@ -54,7 +54,7 @@ fn dump_room<K: Sink, D: LogDisk>(alloc: Global, out: &mut K, room: Room<D>) -> 
 {
     let mut room = room;
     let found = read_map(alloc, &mut room);
-    let _read = room.counts();
+    let _read = room.sealed();
     let status = print_found(out, found);
     (status, room.into_disk())
 }
@@ -67,7 +67,7 @@ fn dump_log<K: Sink, D: LogDisk>(alloc: Global, out: &mut K, disk: D) -> (u8, D)
 {
     match open_log(alloc, disk) {
         Ok(room) => {
-            let _made = room.counts();
+            let _made = room.sealed();
             dump_room(alloc, out, room)
         }
         Err((fault, disk)) => (print_fault(out, open_fault(fault)), disk),

@@ -32,7 +32,7 @@ fn read_room<D: LogDisk>(alloc: Global, room: &mut Room<D>) -> Result<Pairs, Run
     requires board { list_all is_empty room.old.room.board ≡ true }
     ensures { ReadsMap room.old room.new result }
 {
-    let _before = room.counts();
+    let _before = room.sealed();
     match view_of(room, None) {
         Ok(mut view) => {
             let _seen = view.parts();
@@ -41,7 +41,7 @@ fn read_room<D: LogDisk>(alloc: Global, room: &mut Room<D>) -> Result<Pairs, Run
             told(pairs)
         }
         Err(fault) => {
-            let _behind = room.counts();
+            let _behind = room.sealed();
             Err(of_fetch(fault))
         }
     }

@@ -18,7 +18,7 @@ pub fn view_of<D: LogDisk>(
     requires shelf { IsShelf room.old.room out }
     ensures { ViewOr room.old out room.new result }
 {
-    let _counts = room.counts();
+    let _whole = room.sealed();
     match out {
         Some(view) => {
             let _parts = view.parts();
@@ -26,7 +26,7 @@ pub fn view_of<D: LogDisk>(
         }
         None => match room.view_for(1) {
             Ok(view) => {
-                let _made = room.counts();
+                let _made = room.sealed();
                 let _parts = view.parts();
                 Ok(view)
             }
@@ -44,7 +44,7 @@ pub fn rest<D: LogDisk>(room: &mut Room<D>, out: Option<View<D::Eye>>)
     requires shelf { IsShelf room.old.room out }
     ensures { Rests room.old out room.new }
 {
-    let _counts = room.counts();
+    let _whole = room.sealed();
     if let Some(view) = out {
         room.take_back(view);
     }

@@ -61,7 +61,7 @@ fn seal_if_full<D: LogDisk>(
     requires no_job { room.old.room.job ≡ None }
     ensures { SealsIfFull cost (shelf room.old out.old) (shelf room.new out.new) result }
 {
-    let _counts = room.counts();
+    let _whole = room.sealed();
     if is_epoch_full(room.fit(cost)) {
         seal_and_tidy(alloc, room, out)
     } else {
@@ -82,7 +82,7 @@ fn find_region<D: LogDisk>(
     requires no_region { HasNoRegion room.old.room }
     ensures { FindsRegion (shelf room.old out.old) (shelf room.new out.new) full.old full.new result }
 {
-    let _counts = room.counts();
+    let _whole = room.sealed();
     if *full {
         return Ok(Some(Why::Full));
     }
@@ -112,7 +112,7 @@ fn find_room<D: LogDisk>(
     requires not_by_epoch { is_epoch_full (fit_of room.old.room cost) ≡ false }
     ensures { FindsRoom cost (shelf room.old out.old) (shelf room.new out.new) full.old full.new result }
 {
-    let _counts = room.counts();
+    let _whole = room.sealed();
     match room.fit(cost) {
         Fit::Fits => Ok(None),
         Fit::Shut { epoch: _ } => Err(RunFault::Disk),

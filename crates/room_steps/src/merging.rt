@@ -61,11 +61,11 @@ fn merge_one<D: LogDisk>(
     requires no_job { room.old.room.job ≡ None }
     ensures { MergesOne (shelf room.old out.old) (shelf room.new out.new) result }
 {
-    let _counts = room.counts();
+    let _whole = room.sealed();
     take_view(room, out);
-    let _rested = room.counts();
+    let _rested = room.sealed();
     let merged = merge_near(alloc, room, from);
-    let _merged = room.counts();
+    let _merged = room.sealed();
     match merged {
         Ok(merged) => Ok(merged),
         Err(fault) => Err(of_merge(fault)),
@@ -98,15 +98,15 @@ fn gather_from<D: LogDisk>(
     requires no_job { room.old.room.job ≡ None }
     ensures { GathersFrom (shelf room.old out.old) (shelf room.new out.new) result }
 {
-    let _counts = room.counts();
+    let _whole = room.sealed();
     take_view(room, out);
-    let _rested = room.counts();
+    let _rested = room.sealed();
     let gathered = room.gather(from);
-    let _gathered = room.counts();
+    let _gathered = room.sealed();
     match gathered {
         Ok(_done) => {
             let erased = erase_retired(room);
-            let _erased = room.counts();
+            let _erased = room.sealed();
             match erased {
                 Ok(()) => Ok(()),
                 Err(fault) => Err(of_merge(fault)),
@@ -125,7 +125,7 @@ fn gather_young<D: LogDisk>(
     requires no_job { room.old.room.job ≡ None }
     ensures { GathersNamed (shelf room.old out.old) (shelf room.new out.new) result }
 {
-    let _counts = room.counts();
+    let _whole = room.sealed();
     match young_run(room.parts().as_slice(), space_of(room)) {
         Some(from) => gather_from(room, out, from),
         None => Ok(()),
@@ -142,7 +142,7 @@ fn merge_named<D: LogDisk>(
     requires no_job { room.old.room.job ≡ None }
     ensures { MergesNamed (shelf room.old out.old) (shelf room.new out.new) result }
 {
-    let _counts = room.counts();
+    let _whole = room.sealed();
     while let Some(from) = named(room) {
         match merge_one(alloc, room, out, from) {
             Ok(merged) => {
@@ -187,7 +187,7 @@ pub(crate) fn free_region<D: LogDisk>(
     requires opened { room.old.room.is_shut ≡ false }
     ensures { Frees (shelf room.old out.old) (shelf room.new out.new) result }
 {
-    let _counts = room.counts();
+    let _whole = room.sealed();
     while room.counts().free < SPARE {
         let from = named(room).unwrap_or(1);
         match merge_one(alloc, room, out, from) {

@@ -45,11 +45,11 @@ pub fn seal_waiting<D: LogDisk>(
     requires waiting { 1 ≤ room.old.room.waiting }
     ensures { SealsWaiting (shelf room.old out.old) (shelf room.new out.new) result }
 {
-    let _counts = room.counts();
+    let _whole = room.sealed();
     take_view(room, out);
-    let _rested = room.counts();
+    let _rested = room.sealed();
     let sealed = room.seal();
-    let _sealed = room.counts();
+    let _sealed = room.sealed();
     match sealed {
         Ok(epoch) => Ok(epoch),
         Err(fault) => Err(of_room(fault)),

@@ -6,7 +6,7 @@ use Rattle.log_commands.proofs.Merges.{merging_failed, merging_itself, merging_o
 use Rattle.log_commands.proofs.merged.merge_all.Goals as goal
 
 pub loop-merged-init : goal.loop-merged-init
-loop-merged-init g c = merging_itself c.args.room.now c.counts-counts.ensures.whole c.requires.no_job c.requires.board c.requires.opened
+loop-merged-init g c = merging_itself c.args.room.now c.sealed-whole.ensures.whole c.requires.no_job c.requires.board c.requires.opened
 
 pub returns-then-not-merged : goal.returns-then-not-merged
 returns-then-not-merged g c =

@@ -16,7 +16,7 @@ dump_room-requires-clause-board g c κs within = ap (λ (r : RoomValue). list_al
 pub returns-in-Ok-clause-ends : goal.returns-in-Ok-clause-ends
 returns-in-Ok-clause-ends g c =
     ends_read (g.D.LogDisk.state c.args.disk) (g.D.LogDisk.state c.dump_room.result.1) c.in-Ok.room c.dump_room.result.0 (g.K.Sink.written c.args.out.now) (g.K.Sink.written c.dump_room.new.out)
-    c.in-Ok.ensures.room c.in-Ok.ensures.stands c.counts-made.ensures.whole c.dump_room.ensures.ends
+    c.in-Ok.ensures.room c.in-Ok.ensures.stands c.sealed-made.ensures.whole c.dump_room.ensures.ends
 
 pub returns-in-Err-clause-ends : goal.returns-in-Err-clause-ends
 returns-in-Err-clause-ends g c =

@@ -17,4 +17,4 @@ returns-in-Ok g c =
 pub returns-in-Err : goal.returns-in-Err
 returns-in-Err g c =
     subst (λ (fault : RunFault). ReadsMap c.args.room.now c.view_of.new.room (Err fault)) (sym c.of_fetch.ensures)
-    (reads_none c.args.room.now c.view_of.new.room c.in-Err.fault c.counts-before.ensures.whole c.counts-behind.ensures.whole c.in-Err.ensures)
+    (reads_none c.args.room.now c.view_of.new.room c.in-Err.fault c.sealed-before.ensures.whole c.sealed-behind.ensures.whole c.in-Err.ensures)

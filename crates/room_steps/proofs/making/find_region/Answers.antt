@@ -6,7 +6,7 @@ use Rattle.room_steps.proofs.Rooms.{finding_failed, none_found, refused_at_once,
 use Rattle.room_steps.proofs.making.find_region.Goals as goal
 
 pub returns-then-full : goal.returns-then-full
-returns-then-full g c = refused_at_once (shelf c.args.room.now c.args.out.now) c.requires.no_region c.args.full.now c.if-full.true c.requires.shelf c.counts-counts.ensures.whole c.requires.no_job c.requires.opened
+returns-then-full g c = refused_at_once (shelf c.args.room.now c.args.out.now) c.requires.no_region c.args.full.now c.if-full.true c.requires.shelf c.sealed-whole.ensures.whole c.requires.no_job c.requires.opened
 
 pub returns-then-found : goal.returns-then-found
 returns-then-found g c =

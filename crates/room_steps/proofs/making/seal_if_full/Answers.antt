@@ -7,7 +7,7 @@ use Rattle.room_steps.proofs.making.seal_if_full.Goals as goal
 
 pub seal_and_tidy-requires-clause-waiting : goal.seal_and_tidy-requires-clause-waiting
 seal_and_tidy-requires-clause-waiting g c κs within =
-    some_wait c.args.room.now c.args.cost c.counts-counts.ensures.whole (ap is_epoch_full (sym c.fit.ensures) ∙ sym c.is_epoch_full.ensures ∙ c.if-is_epoch_full.true)
+    some_wait c.args.room.now c.args.cost c.sealed-whole.ensures.whole (ap is_epoch_full (sym c.fit.ensures) ∙ sym c.is_epoch_full.ensures ∙ c.if-is_epoch_full.true)
 
 pub returns-then-is_epoch_full : goal.returns-then-is_epoch_full
 returns-then-is_epoch_full g c =
@@ -16,4 +16,4 @@ returns-then-is_epoch_full g c =
 
 pub returns-else-is_epoch_full : goal.returns-else-is_epoch_full
 returns-else-is_epoch_full g c =
-    not_full c.args.cost (shelf c.args.room.now c.args.out.now) (ap is_epoch_full (sym c.fit.ensures) ∙ sym c.is_epoch_full.ensures ∙ c.if-is_epoch_full.false) c.requires.shelf c.counts-counts.ensures.whole c.requires.no_job
+    not_full c.args.cost (shelf c.args.room.now c.args.out.now) (ap is_epoch_full (sym c.fit.ensures) ∙ sym c.is_epoch_full.ensures ∙ c.if-is_epoch_full.false) c.requires.shelf c.sealed-whole.ensures.whole c.requires.no_job

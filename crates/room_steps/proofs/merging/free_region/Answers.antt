@@ -8,7 +8,7 @@ use Rattle.room_steps.proofs.Merges.{counts_free, free_failed, freed, merging_it
 use Rattle.room_steps.proofs.merging.free_region.Goals as goal
 
 pub loop-alloc-init : goal.loop-alloc-init
-loop-alloc-init g c = merging_itself (shelf c.args.room.now c.args.out.now) c.requires.shelf c.counts-counts.ensures.whole c.requires.no_job
+loop-alloc-init g c = merging_itself (shelf c.args.room.now c.args.out.now) c.requires.shelf c.sealed-whole.ensures.whole c.requires.no_job
 
 pub loop-alloc-preserved : goal.loop-alloc-preserved
 loop-alloc-preserved g c =

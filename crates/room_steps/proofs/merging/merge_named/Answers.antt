@@ -7,7 +7,7 @@ use Rattle.room_steps.proofs.Merges.{none_fitted, tidying_itself, tidying_on, ti
 use Rattle.room_steps.proofs.merging.merge_named.Goals as goal
 
 pub loop-from-init : goal.loop-from-init
-loop-from-init g c = tidying_itself (shelf c.args.room.now c.args.out.now) c.requires.shelf c.counts-counts.ensures.whole c.requires.no_job
+loop-from-init g c = tidying_itself (shelf c.args.room.now c.args.out.now) c.requires.shelf c.sealed-whole.ensures.whole c.requires.no_job
 
 pub returns-then-not-merged : goal.returns-then-not-merged
 returns-then-not-merged g c =

@@ -116,14 +116,14 @@ fn each_met<R: Threads + Wait + Sync>(rt: &R, alloc: Global, case: Case) -> Resu
 #[test]
 fn a_call_of_the_disk_that_fails_is_told(rt: HostRuntime) -> Result<(), Fail> {
     let accounts = each_met(&rt, rt.alloc(), Case::Accounts)?;
-    assert_eq!(rt; accounts, [23, 8, 6, 6, 3]);
+    assert_eq!(rt; accounts, [22, 8, 6, 6, 2]);
     Ok(())
 }
 
 #[test]
 fn a_call_of_a_merge_that_fails_is_told(rt: HostRuntime) -> Result<(), Fail> {
     let merges = each_met(&rt, rt.alloc(), Case::Merges)?;
-    assert_eq!(rt; merges, [70, 4, 32, 24, 10]);
+    assert_eq!(rt; merges, [65, 4, 32, 24, 5]);
     Ok(())
 }
 

@@ -28,7 +28,7 @@ use Rattle.epoch_room.specs.Value.{RoomValue}
 use Rattle.epoch_room.specs.Whole.{IsWhole}
 use Rattle.room_shelf.specs.Shelves.{HasView, IsCountOf, IsLater, IsShelf, LacksView, ReadsOn, Rests, SeesLive, ShelfValue, WhyNone, seen_as, shelf, total}
 use Rattle.room_steps.specs.Merging.{of_fetch}
-use Rattle.room_shelf.proofs.Loading.{reads_law, tells_law}
+use Rattle.room_shelf.proofs.Loading.{reads_law, shows_out, tells_law}
 use Rattle.map_reader.specs.Reading.{ReadsAll}
 use Rattle.map_reader.specs.Maps.{AnswersMap, AnswersRows, IsNamed, IsWell, LooksOn, ReadsMap, finds_by, tells_room, told_as}
 use Rattle.map_reader.proofs.Gathered.{all_before, unfit_before}
@@ -72,7 +72,7 @@ module _ (old made : RoomValue) (view read : ViewValue) (whole_view : IsView vie
       sees = record { regions = seen_live.regions; same = seen_live.same; named = seen_live.named; region_len = seen_live.region_len }
 
   tell : (rows : List Row) → tells_room old rows → tells_rows view rows
-  tell rows told = tells_law made view rows has.is_out has.sees (subst (λ (r : RoomState). TellsRowsOf r.image r.region_len r.parts rows) (sym has.later.room) told)
+  tell rows told = tells_law made None view rows (shows_out made.room view has.is_out has.sees) (subst (λ (r : RoomState). TellsRowsOf r.image r.region_len r.parts rows) (sym has.later.room) told)
 
   find : (id : NodeId) (c : Content) → finds_in view id c → finds_by old.room view.eye id c
   find id c found = subst (λ (ps : List Part). IsReplayOf view.eye ps id c) parts_are found

@@ -22,7 +22,7 @@ use Rattle.epoch_room.specs.Meaning.{Stands, StandsTold, StandsWhere}
 use Rattle.epoch_room.specs.Value.{RoomValue}
 use Rattle.epoch_room.specs.Whole.{HoldsParts}
 use Rattle.epoch_room.proofs.Counting.{all_front}
-use Rattle.room_shelf.specs.Shelves.{Fails, HasView, IsClean, IsLater, IsOut, LogLaw, ReadsLaw, SeesLive, TellsLaw, shelf, tells_log, total}
+use Rattle.room_shelf.specs.Shelves.{Fails, HasView, IsClean, IsLater, IsOut, LogLaw, ReadsLaw, SeesLive, ShowsLog, TellsLaw, shelf, tells_log, total}
 
 -- ---- a view tells the rows of the live parts
 
@@ -30,9 +30,14 @@ as_view : (told : Option Image) (len length : ℕ) (parts others : List Part) (r
 as_view told len length parts others rows long same t = subst (λ n. TellsRowsOf told n others rows) (sym long) (subst (λ ps. TellsRowsOf told len ps rows) (sym same) t)
 
 pub tells_law : TellsLaw
-tells_law room view rows out sees told =
-    as_view view.eye.told room.room.region_len view.region_len room.room.parts view.parts rows out.region_len out.parts
+tells_law room out view rows shows told =
+    let sees = shows.sees in
+    as_view view.eye.told room.room.region_len view.region_len room.room.parts view.parts rows shows.region_len shows.parts
     (tells_alike sees.regions room.room.image view.eye.told room.room.region_len room.room.parts rows sees.same sees.named told)
+
+-- a view that is out shows it
+pub shows_out : (room : RoomState) (view : ViewValue) → IsOut room view → SeesLive room view.eye → ShowsLog room view
+shows_out room view out sees = record { upto = out.upto; parts = out.parts; region_len = out.region_len; opened = out.opened; sees = sees }
 
 -- ---- loads
 

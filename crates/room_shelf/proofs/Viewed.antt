@@ -61,7 +61,7 @@ sees_of room view whole is_view out = record {
   region_len = sym is_view.long ∙ out.region_len;
 }
 
-later_itself : (s : ShelfValue) → IsLater s s
+pub later_itself : (s : ShelfValue) → IsLater s s
 later_itself s = record { room = refl; target = refl; entry = refl; told = refl; regions = refl; region_len = refl; stands = λ first e history h. h; becomes = becomes_itself s.room.room }
 
 pub still_out : (room : RoomValue) (out : Option ViewValue) (view : ViewValue) → out ≡ Some view → IsShelf room.room out → IsWhole room → IsView view → HasView room out room view

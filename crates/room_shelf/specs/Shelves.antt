@@ -1,5 +1,5 @@
 -- A room with the view that is out for loading, or none.
-use Rattle.std.specs.Prelude.{◌≡◌, ◌⊎◌, ℕ, ◌+◌, ◌≤◌, min, false, true, List, ◌++◌, Option, Some, None, slice_set, Any, Contains, Result, Ok, Err}
+use Rattle.std.specs.Prelude.{◌≡◌, ◌⊎◌, ℕ, ◌+◌, ◌≤◌, min, false, true, List, [], ◌++◌, Option, Some, None, slice_set, Any, Contains, Result, Ok, Err}
 use Rattle.std.specs.List.{AllByRecursion, list_all}
 use Rattle.fine_model.specs.declared.FetchFault.{FetchFault}
 use Rattle.fine_model.specs.declared.FetchFault.TheVariants as fetch_fault
@@ -56,6 +56,25 @@ pub record SeesLive (room : RoomState) (eye : Eye) : Type 0 where
   pub same : SameSeen regions room.image eye.told
   pub named : AllByRecursion (λ p. AllByRecursion (Contains regions) (regions_of p)) room.parts
   pub region_len : eye.region_len ≡ room.region_len
+
+-- A view shows all that is sealed of an open room, by an eye that sees the live parts.
+pub record ShowsLog (room : RoomState) (view : ViewValue) : Type 0 where
+  pub upto : view.upto ≡ room.sealed
+  pub parts : view.parts ≡ room.parts
+  pub region_len : view.region_len ≡ room.region_len
+  pub opened : room.is_shut ≡ false
+  pub sees : SeesLive room view.eye
+
+-- what a view of a room would show, by an eye of which nothing is known but what it tells and the length of its regions
+abbrev pub sight : RoomValue → ViewValue
+sight room = record {
+  eye = record { number = 0; regions = []; region_len = room.room.region_len; told = room.room.image; faults = 0; taken = 0 };
+  parts = room.room.parts;
+  upto = room.room.sealed;
+  seat = 0;
+  buffer = 0;
+  region_len = room.room.region_len;
+}
 
 -- ---- what loads change
 
@@ -164,9 +183,9 @@ pub record ReadsOn (old : RoomValue) (out : Option ViewValue) (new : RoomValue) 
 abbrev pub ReadsLaw : Type 0
 ReadsLaw = (old : RoomValue) (out : Option ViewValue) (new : RoomValue) (view read : ViewValue) → HasView old out new view → source.IsLater view read → ReadsOn old out new view read
 
--- a view that is out tells the rows of the live parts
+-- a view that shows it tells the rows of the live parts
 abbrev pub TellsLaw : Type 0
-TellsLaw = (room : RoomValue) (view : ViewValue) (rows : List Row) → IsOut room.room view → SeesLive room.room view.eye → tells_log (shelf room (Some view)) rows → tells_rows view rows
+TellsLaw = (room : RoomValue) (out : Option ViewValue) (view : ViewValue) (rows : List Row) → ShowsLog room.room view → tells_log (shelf room out) rows → tells_rows view rows
 
 -- where a whole room is open and stands for a history, and its disk tells its bytes, the live parts tell rows that agree with what is sealed
 abbrev pub LogLaw : Type 0

@@ -1,4 +1,4 @@
--- What the body on one thread reads through the view that is out.
+-- What the body on one thread reads through a view of what is sealed.
 use Rattle.std.proofs.Common.{◌≡◌, ◌∙◌, ℕ, false, List, [], ◌++◌, Option, Some, None, refl, sym, ap, subst}
 use Rattle.fine_model.specs.declared.Row.{Row}
 use Rattle.fine_model.specs.Buckets.{Began}
@@ -29,9 +29,9 @@ told_now entry room out history g open_room first e began stands = by room.disk.
     by (Some after) is = log_law room out again.0 after first e history g.whole open_room again.1 is (g.stands first e began stands)
 
 pub sees_law : SeesLaw
-sees_law entry room view history g out sees first e began stands =
-    let now = told_now entry room (Some view) history g out.opened first e began stands in
-    (now.0, tells_law room view now.0 out sees now.1, subst (λ n. Agrees now.0 (first ++ all_rows (upto history n))) (sym out.upto) now.2)
+sees_law entry room view history g shows first e began stands =
+    let now = told_now entry room None history g shows.opened first e began stands in
+    (now.0, tells_law room None view now.0 shows now.1, subst (λ n. Agrees now.0 (first ++ all_rows (upto history n))) (sym shows.upto) now.2)
 
 pub legal_law : LegalLaw
 legal_law entry room history g first e began stands = by room.disk.told refl

@@ -1,4 +1,4 @@
--- What the body on one thread reads through the view that is out.
+-- What the body on one thread reads through a view of what is sealed.
 use Rattle.std.specs.Prelude.{◌≡◌, false, List, ◌++◌, Option}
 use Rattle.fine_model.specs.declared.Row.{Row}
 use Rattle.fine_model.specs.History.{Commit, IsLegal, all_rows, upto}
@@ -6,14 +6,14 @@ use Rattle.fine_model.specs.Nodes.{Agrees}
 use Rattle.partition_hold.specs.Sources.{tells_rows}
 use Rattle.partition_hold.specs.Views.{ViewValue}
 use Rattle.epoch_room.specs.Value.{RoomValue}
-use Rattle.room_shelf.specs.Shelves.{IsOut, SeesLive, TellsNone, shelf}
+use Rattle.room_shelf.specs.Shelves.{ShowsLog, TellsNone, shelf}
 use Rattle.run_laws.specs.Runs.{OfSound}
 use Rattle.run_laws.specs.SoFar.{GoesOn}
 
 -- the rows that the view tells agree with the log at entry and the commits up to the view's epoch
 abbrev pub SeesLaw : Type 0
 SeesLaw =
-    (entry room : RoomValue) (view : ViewValue) (history : List Commit) → GoesOn entry room history → IsOut room.room view → SeesLive room.room view.eye
+    (entry room : RoomValue) (view : ViewValue) (history : List Commit) → GoesOn entry room history → ShowsLog room.room view
     → OfSound entry (λ first e. (rows : List Row) × tells_rows view rows × Agrees rows (first ++ all_rows (upto history view.upto)))
 
 -- and the commits are legal there

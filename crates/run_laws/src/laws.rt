@@ -105,7 +105,7 @@ pub fn need_law()
     ensures ends { NeedEnds }
 {}
 
-/// What is read through the view that is out: on a sound log its rows agree with the commits up to its epoch, the commits are legal, and no load names
+/// What is read through a view of what is sealed: on a sound log its rows agree with the commits up to its epoch, the commits are legal, and no load names
 /// damage.
 pub fn reading_law()
     ensures sees { SeesLaw }

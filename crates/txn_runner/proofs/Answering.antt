@@ -1,6 +1,6 @@
 -- What answering the calls of a transaction leaves.
-use Rattle.std.proofs.Common.{◌≡◌, refl, inl, inr, ℕ, ◌+◌, ◌≤◌, min, List, [], ◌++◌, sym, ap, ◌∙◌, subst, Option, Some, None, Ok, Err, arith}
-use Rattle.std.specs.Prelude.{if◌then◌else◌}
+use Rattle.std.proofs.Common.{◌≡◌, refl, inl, inr, ℕ, ◌+◌, ◌≤◌, min, false, List, [], ◌++◌, sym, ap, ◌∙◌, subst, Option, Some, None, Ok, Err, arith}
+use Rattle.std.specs.Prelude.{Result, if◌then◌else◌}
 use Rattle.fine_model.specs.declared.Call.{Call}
 use Rattle.fine_model.specs.declared.Damage.TheVariants as damage
 use Rattle.fine_model.specs.declared.FetchFault.{FetchFault}
@@ -9,6 +9,7 @@ use Rattle.fine_model.specs.declared.NodeId.{NodeId}
 use Rattle.fine_model.specs.declared.Row.{Row}
 use Rattle.fine_model.specs.declared.RunFault.{RunFault}
 use Rattle.fine_model.specs.declared.RunFault.TheVariants as run_fault
+use Rattle.fine_model.specs.declared.Why.{Why}
 use Rattle.fine_model.specs.declared.Why.TheVariants as why
 use Rattle.fine_model.specs.declared.law.RoomState.{RoomState}
 use Rattle.fine_model.specs.Buckets.{Began}
@@ -25,10 +26,13 @@ use Rattle.partition_hold.specs.Sources as source
 use Rattle.partition_hold.specs.Sources.{finds_in, tells_rows}
 use Rattle.partition_hold.specs.Views.{ViewValue}
 use Rattle.epoch_room.specs.Meaning.{Stands, origin_of}
-use Rattle.epoch_room.specs.Value.{RoomValue}
+use Rattle.epoch_room.specs.Value.{RoomValue, all_regions}
 use Rattle.epoch_room.specs.Whole.{IsWhole}
-use Rattle.room_shelf.specs.Shelves.{Fails, IsClean, IsLater, IsShelf, LacksView, ReadsOn, TellsNone, shelf, total}
-use Rattle.room_shelf.proofs.Loading.{reads_law}
+use Rattle.epoch_room.proofs.Viewing.{all_parts}
+use Rattle.room_merges.proofs.Living.{seen_itself}
+use Rattle.room_shelf.specs.Shelves.{Fails, IsClean, IsLater, IsShelf, LacksView, ReadsOn, ShowsLog, TellsNone, shelf, sight, total}
+use Rattle.room_shelf.proofs.Loading.{reads_law, shows_out}
+use Rattle.room_shelf.proofs.Viewed.{later_itself}
 use Rattle.open_txn.specs.Buckets.{BucketsValue, StandAll}
 use Rattle.open_txn.specs.Opened as opened
 use Rattle.open_txn.specs.Opened.{AnswersCalls, IsOpen, IsRefusal, TellsHistory}
@@ -42,11 +46,11 @@ use Rattle.run_laws.specs.Turns.{RefusesBehind}
 use Rattle.run_laws.proofs.Going.{later_law, stays_law}
 use Rattle.run_laws.proofs.Readings.{legal_law, sees_law, unsound_law}
 use Rattle.run_laws.proofs.Tellings.{told_more, told_stays}
-use Rattle.txn_runner.specs.Body.{Body, Goes, Stand, count_of, shelf_of}
+use Rattle.txn_runner.specs.Body.{Body, Goes, IsBetween, Stand, count_of, shelf_of}
 use Rattle.txn_runner.specs.Follows.{Follows, IsSameLog, NamesAt}
 use Rattle.txn_runner.specs.Named.{Blames, BlamesCalls}
 use Rattle.txn_runner.specs.Opening.{IsRead}
-use Rattle.txn_runner.specs.Steps.{Answers, Looks, Reads, TakesBack, TellsWith, of_fetch, of_tree}
+use Rattle.txn_runner.specs.Steps.{Answers, Behind, Looks, Reads, TakesBack, TellsWith, of_fetch, of_tree}
 use Rattle.txn_runner.proofs.Following as following
 use Rattle.txn_runner.proofs.Keeping.{blames_calls, load_bad, names_it, none_named, of_told, room_len}
 use Rattle.txn_runner.proofs.Opening as opening
@@ -154,123 +158,155 @@ lacks_view group old new d calls fault l = (reads, λ entry history ready b. (st
     cause : (entry : RoomValue) → HasCause entry old.room new.room (count_of old) (count_of new) (of_fetch fault)
     cause entry = subst (λ v. HasCause entry old.room new.room (count_of old) (total (shelf new.room v)) (of_fetch fault)) (sym none) (no_view_cause entry old new.room fault l.room)
 
--- ---- calls were answered through a view
+-- ---- calls were answered
 
-module _ (old mid : Body) (view read : ViewValue) (looks : Looks old mid (Ok view)) (later : source.IsLater view read) where
-  on_shelf : ReadsOn old.room old.view mid.room view read
-  on_shelf = reads_law old.room old.view mid.room view read looks.room later
+-- What calls were answered through: a view that shows what is sealed, with what a clean load and a fault of it say. Between them only the shelf changed.
+pub record Through (old seen : Body) (view : ViewValue) (Clean : Type 0) (Failing : FetchFault → Type 0) : Type 0 where
+  pub reads : Reads old seen
+  pub buckets : seen.buckets ≡ old.buckets
+  pub shows : ShowsLog seen.room.room view
+  pub shut : seen.room.room.is_shut ≡ old.room.room.is_shut
+  pub no_lower : count_of old ≤ count_of seen
+  pub clean : Clean → IsClean (shelf_of old) (shelf_of seen)
+  pub fails : (fault : FetchFault) → Failing fault → Fails (shelf_of old) fault (shelf_of seen)
 
-  -- the body with the view that was read through, and with buckets
+-- a view that is out
+pub through_view : (old mid : Body) (view read : ViewValue) → Looks old mid (Ok view) → source.IsLater view read → Through old (record mid { view = Some read }) view (source.IsClean view read) (λ fault. source.Fails view fault read)
+through_view old mid view read looks later = record {
+  reads = record { full = ap (λ (x : Body). x.full) looks.rest; ended = ap (λ (x : Body). x.ended) looks.rest; whole = looks.whole; shelf = on_shelf.is_out; later = on_shelf.later };
+  buckets = ap (λ (x : Body). x.buckets) looks.rest;
+  shows = shows_out mid.room.room view looks.room.is_out looks.room.sees;
+  shut = on_shelf.shut;
+  no_lower = on_shelf.no_lower;
+  clean = λ clean. (on_shelf.has clean).clean;
+  fails = on_shelf.fails;
+}
+  where
+    on_shelf : ReadsOn old.room old.view mid.room view read
+    on_shelf = reads_law old.room old.view mid.room view read looks.room later
+
+-- what a view of an open room would show
+sight_shows : (room : RoomValue) → room.room.is_shut ≡ false → ShowsLog room.room (sight room)
+sight_shows room open_room = record {
+  upto = refl;
+  parts = refl;
+  region_len = refl;
+  opened = open_room;
+  sees = record { regions = all_regions room.room.parts; same = seen_itself (all_regions room.room.parts) room.room.image; named = all_parts room.room.parts; region_len = refl };
+}
+
+-- the nodes that are cached alone
+pub through_cached : (old : Body) (Clean : Type 0) → IsWhole old.room → IsShelf old.room.room old.view → old.room.room.is_shut ≡ false → Through old old (sight old.room) Clean (λ fault. fault ≡ fetch_fault.NoMemory)
+through_cached old Clean whole on_shelf open_room = record {
+  reads = record { full = refl; ended = refl; whole = whole; shelf = on_shelf; later = later_itself (shelf_of old) };
+  buckets = refl;
+  shows = sight_shows old.room open_room;
+  shut = refl;
+  no_lower = omega arith;
+  clean = λ clean. record { count = refl; own = refl; shut = refl };
+  fails = λ fault is. subst (λ f. Fails (shelf_of old) f (shelf_of old)) (sym is) tt;
+}
+
+module _ (old seen : Body) (view : ViewValue) (Clean : Type 0) (Failing : FetchFault → Type 0) (through : Through old seen view Clean Failing) where
+  -- the body that was read, with other buckets
   abbrev with_buckets : BucketsValue → Body
-  with_buckets buckets = record mid { view = Some read; buckets = buckets }
+  with_buckets buckets = record seen { buckets = buckets }
 
   reads_with : (buckets : BucketsValue) → Reads old (with_buckets buckets)
-  reads_with buckets = record { full = ap (λ (x : Body). x.full) looks.rest; ended = ap (λ (x : Body). x.ended) looks.rest; whole = looks.whole; shelf = on_shelf.is_out; later = on_shelf.later }
-
-  was : mid.buckets ≡ old.buckets
-  was = ap (λ (x : Body). x.buckets) looks.rest
-
-  clean_with : source.IsClean view read → IsClean (shelf_of old) (shelf mid.room (Some read))
-  clean_with clean = (on_shelf.has clean).clean
+  reads_with buckets = let r = through.reads in record { full = r.full; ended = r.ended; whole = r.whole; shelf = r.shelf; later = r.later }
 
   -- what the view tells of the history
   tells : (entry : RoomValue) (history : List Commit) → IsReady entry → Goes entry old history → (e : ℕ) (first : List Row) → Began (origin_of entry.entry) e first → TellsHistory (tells_rows view) view.upto first history
-  tells entry history ready g e first began = record { legal = legal_law entry mid.room history on first e began stands; known = seen.0; is_told = seen.1; agrees = seen.2 }
+  tells entry history ready g e first began = record { legal = legal_law entry seen.room history on first e began stands; known = rows.0; is_told = rows.1; agrees = rows.2 }
     where
       stands : Stands entry first e []
       stands = ready.stands first e began
 
-      before : IsLater (shelf_of old) (shelf mid.room (Some view))
-      before = looks.room.later
+      on : GoesOn entry seen.room history
+      on = room_on entry old seen history g.room through.reads.whole through.reads.later
 
-      on : GoesOn entry mid.room history
-      on = stays_law entry old.room mid.room history g.room looks.whole (later_law old.room mid.room old.view (Some view) before)
-
-      seen : (rows : List Row) × tells_rows view rows × Agrees rows (first ++ all_rows (upto history view.upto))
-      seen = sees_law entry mid.room view history on looks.room.is_out looks.room.sees first e began stands
+      rows : (rows : List Row) × tells_rows view rows × Agrees rows (first ++ all_rows (upto history view.upto))
+      rows = sees_law entry seen.room view history on through.shows first e began stands
 
   -- the buckets, which stand for the history up to what is sealed
-  is_ready : (entry : RoomValue) (history : List Commit) → IsReady entry → Goes entry old history → Stand entry old history → opened.IsReady (tells_rows view) view.upto (origin_of entry.entry) old.room.room.sealed mid.buckets history
+  is_ready : (entry : RoomValue) (history : List Commit) → IsReady entry → Goes entry old history → Stand entry old history → opened.IsReady (tells_rows view) view.upto (origin_of entry.entry) old.room.room.sealed seen.buckets history
   is_ready entry history ready g stand = record {
-    stand = subst (λ b. StandAll (origin_of entry.entry) old.room.room.sealed b history) (sym was) stand.all;
-    most = let e : view.upto ≡ old.room.room.sealed = looks.room.is_out.upto ∙ ap (λ (r : RoomState). r.sealed) looks.room.later.room in omega (arith, e);
+    stand = subst (λ b. StandAll (origin_of entry.entry) old.room.room.sealed b history) (sym through.buckets) stand.all;
+    most = let e : view.upto ≡ old.room.room.sealed = through.shows.upto ∙ sealed_same old seen through.reads.later in omega (arith, e);
     told = tells entry history ready g;
   }
 
-  -- the body with the view in its place
-  abbrev looked : Body
-  looked = record mid { view = Some view }
-
   -- what the calls find, by the bytes at entry too
-  is_read : (entry : RoomValue) (history : List Commit) → IsReady entry → Goes entry old history → Stand entry old history → IsRead (origin_of entry.entry) mid.room view mid.buckets history
+  is_read : (entry : RoomValue) (history : List Commit) → IsReady entry → Goes entry old history → Stand entry old history → IsRead (origin_of entry.entry) seen.room view seen.buckets history
   is_read entry history ready g stand = record {
-    whole = looks.whole;
-    is_out = looks.room.is_out;
-    sees = looks.room.sees;
-    region_len = room_len entry mid.room history ready (room_on entry old looked history g.room looks.whole looks.room.later);
+    whole = through.reads.whole;
+    shows = through.shows;
+    region_len = room_len entry seen.room history ready (room_on entry old seen history g.room through.reads.whole through.reads.later);
     stand = stand_now.all;
     follows = stand_now.follows;
   }
     where
-      stand_now : Stand entry looked history
-      stand_now = stand_later entry old looked history stand looks.room.later was
+      stand_now : Stand entry seen history
+      stand_now = stand_later entry old seen history stand through.reads.later through.buckets
+
+  open_old : old.room.room.is_shut ≡ false
+  open_old = sym through.shut ∙ through.shows.opened
 
   module _ (now : BucketsValue) (d : DraftValue) (calls : List Call) where
     -- all were answered
-    pub answered : (group : ℕ) → source.IsClean view read → AnswersCalls calls d
-        → ((log : _) (low : ℕ) (history : List Commit) → opened.IsReady (tells_rows view) view.upto log low mid.buckets history → IsOpen log low history mid.buckets now d)
-        → AllDone (tells_rows view) (finds_in view) view.upto calls d.rows mid.buckets now → Answers group old (with_buckets now) d calls (Ok None)
+    pub answered : (group : ℕ) → Clean → AnswersCalls calls d
+        → ((log : _) (low : ℕ) (history : List Commit) → opened.IsReady (tells_rows view) view.upto log low seen.buckets history → IsOpen log low history seen.buckets now d)
+        → AllDone (tells_rows view) (finds_in view) view.upto calls d.rows seen.buckets now → Answers group old (with_buckets now) d calls (Ok None)
     answered group clean answers open_now done = (
       reads_with now,
-      clean_with clean,
+      through.clean clean,
       answers,
       λ entry history ready b. (
-        subst (λ taken. IsOpen (origin_of entry.entry) old.room.room.sealed history taken now d) was
-            (open_now (origin_of entry.entry) old.room.room.sealed history (is_ready entry history ready b.going.goes b.stand)),
-        opening.answers (origin_of entry.entry) mid.room view mid.buckets now history calls d.rows (is_read entry history ready b.going.goes b.stand) done,
+        (seen.buckets, open_now (origin_of entry.entry) old.room.room.sealed history (is_ready entry history ready b.going.goes b.stand)),
+        opening.answers (origin_of entry.entry) seen.room view seen.buckets now history calls d.rows (is_read entry history ready b.going.goes b.stand) done,
       ),
     )
 
     -- one was refused, and what was done is taken back
     module _ (new : Body) (back : TakesBack (with_buckets now) new) (fault : TreeFault)
-        (refused : (log : _) (low : ℕ) (history : List Commit) → opened.IsReady (tells_rows view) view.upto log low mid.buckets history → IsRefusal log low history mid.buckets now calls fault)
-        (stopped : StopsAt (tells_rows view) (finds_in view) view.upto calls fault mid.buckets now) where
+        (refused : (log : _) (low : ℕ) (history : List Commit) → opened.IsReady (tells_rows view) view.upto log low seen.buckets history → IsRefusal log low history seen.buckets now calls fault)
+        (stopped : StopsAt (tells_rows view) (finds_in view) view.upto calls fault seen.buckets now) where
       as_read : new ≡ with_buckets new.buckets
       as_read = back.rest
 
       reads_back : Reads old new
       reads_back = subst (Reads old) (sym as_read) (reads_with new.buckets)
 
-      shelf_is : shelf_of new ≡ shelf mid.room (Some read)
+      shelf_is : shelf_of new ≡ shelf_of seen
       shelf_is = ap shelf_of as_read
 
-      room_is : new.room ≡ mid.room
+      room_is : new.room ≡ seen.room
       room_is = ap (λ (x : Body). x.room) as_read
 
-      refusal : (entry : RoomValue) (history : List Commit) → IsReady entry → Goes entry old history → Stand entry old history → IsRefusal (origin_of entry.entry) old.room.room.sealed history mid.buckets now calls fault
+      refusal : (entry : RoomValue) (history : List Commit) → IsReady entry → Goes entry old history → Stand entry old history → IsRefusal (origin_of entry.entry) old.room.room.sealed history seen.buckets now calls fault
       refusal entry history ready g stand = refused (origin_of entry.entry) old.room.room.sealed history (is_ready entry history ready g stand)
 
       all_back : (entry : RoomValue) (history : List Commit) → IsReady entry → Goes entry old history → Stand entry old history → StandAll (origin_of entry.entry) new.room.room.sealed new.buckets history
       all_back entry history ready g stand =
           let same = sealed_same old new reads_back.later in
           let low : old.room.room.sealed ≤ new.room.room.sealed = omega (arith, same) in
-          let evicts : mid.room.room.sealed ≤ new.room.room.sealed = let e = ap (λ (x : RoomValue). x.room.sealed) room_is in omega (arith, e) in
-          back.buckets (origin_of entry.entry) old.room.room.sealed new.room.room.sealed history mid.buckets (refusal entry history ready g stand).to_undo low evicts
+          let evicts : seen.room.room.sealed ≤ new.room.room.sealed = let e = ap (λ (x : RoomValue). x.room.sealed) room_is in omega (arith, e) in
+          back.buckets (origin_of entry.entry) old.room.room.sealed new.room.room.sealed history seen.buckets (refusal entry history ready g stand).to_undo low evicts
 
-      stand_back : (entry : RoomValue) (history : List Commit) → IsReady entry → Goes entry old history → Stand entry old history → Stand entry new history
+      pub stand_back : (entry : RoomValue) (history : List Commit) → IsReady entry → Goes entry old history → Stand entry old history → Stand entry new history
       stand_back entry history ready g stand = record {
         all = all_back entry history ready g stand;
         follows = subst (λ (r : RoomValue). Follows (origin_of entry.entry) r.room new.buckets history) (sym room_is)
-            (opening.refuses (origin_of entry.entry) mid.room view mid.buckets now new.buckets history calls fault mid.room.room.sealed (is_read entry history ready g stand) stopped back.left
+            (opening.refuses (origin_of entry.entry) seen.room view seen.buckets now new.buckets history calls fault seen.room.room.sealed (is_read entry history ready g stand) stopped back.left
             (subst (λ (r : RoomValue). StandAll (origin_of entry.entry) r.room.sealed new.buckets history) room_is (all_back entry history ready g stand)));
       }
 
       -- for a reason that the definitions have
-      by_reason : (group : ℕ) (word : _) → source.IsClean view read → ((entry : RoomValue) (history : List Commit) → IsReady entry → Goes entry old history → Stand entry old history
+      by_reason : (group : ℕ) (word : _) → Clean → ((entry : RoomValue) (history : List Commit) → IsReady entry → Goes entry old history → Stand entry old history
           → OfSound entry (λ first e. RefusesBehind new.room.room (first ++ all_rows history) calls word)) → Answers group old new d calls (Ok (Some word))
       by_reason group word clean why_not = (
         reads_back,
-        subst (IsClean (shelf_of old)) (sym shelf_is) (clean_with clean),
+        subst (IsClean (shelf_of old)) (sym shelf_is) (through.clean clean),
         λ entry history ready b. (stand_back entry history ready b.going.goes b.stand, why_not entry history ready b.going.goes b.stand),
       )
 
@@ -283,32 +319,32 @@ module _ (old mid : Body) (view read : ViewValue) (looks : Looks old mid (Ok vie
       )
         where
           low : count_of old ≤ count_of new
-          low = subst (λ s. count_of old ≤ total s) (sym shelf_is) on_shelf.no_lower
+          low = subst (λ s. count_of old ≤ total s) (sym shelf_is) through.no_lower
 
       -- damage, which no failed call told
-      by_damage : (group : ℕ) (what : _) → source.IsClean view read → ((entry : RoomValue) (history : List Commit) → IsReady entry → Goes entry old history → Stand entry old history → OfSound entry (λ first e. ⊥))
+      by_damage : (group : ℕ) (what : _) → Clean → ((entry : RoomValue) (history : List Commit) → IsReady entry → Goes entry old history → Stand entry old history → OfSound entry (λ first e. ⊥))
           → ((entry : RoomValue) (history : List Commit) → IsReady entry → Goes entry old history → Stand entry old history → BlamesCalls entry history calls (run_fault.Damaged what)) → Answers group old new d calls (Err (run_fault.Damaged what))
       by_damage group what clean unsound blames = by_fault group (run_fault.Damaged what) (λ entry history ready g stand. (is_clean.count, is_clean.shut, unsound entry history ready g stand))
           blames
         where
           is_clean : IsClean (shelf_of old) (shelf_of new)
-          is_clean = subst (IsClean (shelf_of old)) (sym shelf_is) (clean_with clean)
+          is_clean = subst (IsClean (shelf_of old)) (sym shelf_is) (through.clean clean)
 
       bad : TellsNone (shelf_of old) → (entry : RoomValue) (history : List Commit) → Goes entry old history → OfSound entry (λ first e. ⊥)
-      bad none entry history g = unsound_law entry old.room old.view history g.room (sym on_shelf.shut ∙ on_shelf.is_out.opened) none
+      bad none entry history g = unsound_law entry old.room old.view history g.room open_old none
 
       -- a place that a load names
-      place : (failed : FetchFault) (region at : ℕ) → NamesAt failed region at → source.Fails view failed read → (entry : RoomValue) (history : List Commit) → IsReady entry → Goes entry old history → Stand entry old history
+      place : (failed : FetchFault) (region at : ℕ) → NamesAt failed region at → Failing failed → (entry : RoomValue) (history : List Commit) → IsReady entry → Goes entry old history → Stand entry old history
           → BlamesCalls entry history calls (run_fault.Damaged (damage.Region region at))
-      place failed region at names fails entry history ready g stand = blames_calls entry history calls (run_fault.Damaged (damage.Region region at)) (names_it entry (damage.Region region at) (load_bad entry old.room old.buckets history ready g.room stand.follows (sym on_shelf.shut ∙ on_shelf.is_out.opened) (shelf_of old) (shelf mid.room (Some read)) failed region at refl names
-          (on_shelf.fails failed fails)))
+      place failed region at names fails entry history ready g stand = blames_calls entry history calls (run_fault.Damaged (damage.Region region at)) (names_it entry (damage.Region region at) (load_bad entry old.room old.buckets history ready g.room stand.follows open_old (shelf_of old) (shelf_of seen) failed region at refl names
+          (through.fails failed fails)))
 
       -- a node that a call names
-      node : (id : NodeId) → StopsAt (tells_rows view) (finds_in view) view.upto calls (Unfit id) mid.buckets now → (entry : RoomValue) (history : List Commit) → IsReady entry → Goes entry old history → Stand entry old history
+      node : (id : NodeId) → StopsAt (tells_rows view) (finds_in view) view.upto calls (Unfit id) seen.buckets now → (entry : RoomValue) (history : List Commit) → IsReady entry → Goes entry old history → Stand entry old history
           → BlamesCalls entry history calls (run_fault.Damaged (damage.Node id))
       node id stops entry history ready g stand script next what is = subst (IsDamageAt entry script history) (let x : run_fault.Damaged (damage.Node id) ≡ run_fault.Damaged what = is in let y : damage.Node id ≡ what = cc in y)
-          (of_told entry mid.room history ready (room_on entry old looked history g.room looks.whole looks.room.later) (λ n image parts. IsDamageIn (Ok script) ⊥ history n image parts (damage.Node id))
-          (opening.names (origin_of entry.entry) mid.room view mid.buckets now history calls id script next.place next.txn (is_read entry history ready g stand) stops next.there next.never next.of_txn))
+          (of_told entry seen.room history ready (room_on entry old seen history g.room through.reads.whole through.reads.later) (λ n image parts. IsDamageIn (Ok script) ⊥ history n image parts (damage.Node id))
+          (opening.names (origin_of entry.entry) seen.room view seen.buckets now history calls id script next.place next.txn (is_read entry history ready g stand) stops next.there next.never next.of_txn))
 
       no_disk : (entry : RoomValue) (history : List Commit) → BlamesCalls entry history calls run_fault.Disk
       no_disk entry history = blames_calls entry history calls run_fault.Disk (none_named entry run_fault.Disk (λ what e. let x : run_fault.Disk ≡ run_fault.Damaged what = e in cc))
@@ -316,11 +352,11 @@ module _ (old mid : Body) (view read : ViewValue) (looks : Looks old mid (Ok vie
       no_memory : (entry : RoomValue) (history : List Commit) → BlamesCalls entry history calls run_fault.Memory
       no_memory entry history = blames_calls entry history calls run_fault.Memory (none_named entry run_fault.Memory (λ what e. let x : run_fault.Memory ≡ run_fault.Damaged what = e in cc))
 
-      pub takes_back : (group : ℕ) → OnCleanAnswer {A = Unit {0}} (Err fault) (source.IsClean view read) → FailsBy (λ failed. source.Fails view failed read) fault → Answers group old new d calls (of_tree fault)
+      pub takes_back : (group : ℕ) → OnCleanAnswer {A = Unit {0}} (Err fault) Clean → FailsBy Failing fault → Answers group old new d calls (of_tree fault)
       takes_back = by fault refused stopped
         where
-          by : (f : TreeFault) → ((log : _) (low : ℕ) (history : List Commit) → opened.IsReady (tells_rows view) view.upto log low mid.buckets history → IsRefusal log low history mid.buckets now calls f)
-              → StopsAt (tells_rows view) (finds_in view) view.upto calls f mid.buckets now → (group : ℕ) → OnCleanAnswer {A = Unit {0}} (Err f) (source.IsClean view read) → FailsBy (λ failed. source.Fails view failed read) f → Answers group old new d calls (of_tree f)
+          by : (f : TreeFault) → ((log : _) (low : ℕ) (history : List Commit) → opened.IsReady (tells_rows view) view.upto log low seen.buckets history → IsRefusal log low history seen.buckets now calls f)
+              → StopsAt (tells_rows view) (finds_in view) view.upto calls f seen.buckets now → (group : ℕ) → OnCleanAnswer {A = Unit {0}} (Err f) Clean → FailsBy Failing f → Answers group old new d calls (of_tree f)
           by (BucketFull next depth) refuses stops group clean fails = by_reason group why.Bucket clean (λ entry history ready g stand first e began stands.
               (refuses (origin_of entry.entry) old.room.room.sealed history (is_ready entry history ready g stand)).cause e first began)
           by (Number id) refuses stops group clean fails = by_reason group why.Number clean (λ entry history ready g stand first e began stands.
@@ -330,8 +366,29 @@ module _ (old mid : Body) (view read : ViewValue) (looks : Looks old mid (Ok vie
           by NoMemory refuses stops group clean fails = by_fault group run_fault.Memory (λ entry history ready g stand. tt) (λ entry history ready g stand. no_memory entry history)
           by (Source fetch_fault.NoMemory) refuses stops group clean fails = by_fault group run_fault.Memory (λ entry history ready g stand. tt) (λ entry history ready g stand. no_memory entry history)
           by (Source fetch_fault.Failed) refuses stops group clean fails = by_fault group run_fault.Disk (λ entry history ready g stand.
-              subst (λ s. Fails (shelf_of old) fetch_fault.Failed s) (sym shelf_is) (on_shelf.fails fetch_fault.Failed fails)) (λ entry history ready g stand. no_disk entry history)
-          by (Source (fetch_fault.BadRow region at)) refuses stops group clean fails = by_damage group (damage.Region region at) clean (λ entry history ready g stand. bad (on_shelf.fails (fetch_fault.BadRow region at) fails).0 entry history g)
+              subst (λ s. Fails (shelf_of old) fetch_fault.Failed s) (sym shelf_is) (through.fails fetch_fault.Failed fails)) (λ entry history ready g stand. no_disk entry history)
+          by (Source (fetch_fault.BadRow region at)) refuses stops group clean fails = by_damage group (damage.Region region at) clean (λ entry history ready g stand. bad (through.fails (fetch_fault.BadRow region at) fails).0 entry history g)
               (place (fetch_fault.BadRow region at) region at (inl refl) fails)
-          by (Source (fetch_fault.BadIndex region at)) refuses stops group clean fails = by_damage group (damage.Region region at) clean (λ entry history ready g stand. bad (on_shelf.fails (fetch_fault.BadIndex region at) fails).0 entry history g)
+          by (Source (fetch_fault.BadIndex region at)) refuses stops group clean fails = by_damage group (damage.Region region at) clean (λ entry history ready g stand. bad (through.fails (fetch_fault.BadIndex region at) fails).0 entry history g)
               (place (fetch_fault.BadIndex region at) region at (inr refl) fails)
+
+-- ---- the nodes that are cached did not do
+
+-- what is answered from a body with other buckets, which stand for the same history, is answered from this one
+pub answers_from : (group : ℕ) (old : Body) (buckets : BucketsValue) (new : Body) (d : DraftValue) (calls : List Call) (result : Result (Option Why) RunFault) → Behind group old (λ entry history. Stand entry (record old { buckets = buckets }) history)
+    → Answers group (record old { buckets = buckets }) new d calls result → Answers group old new d calls result
+answers_from group old buckets new d calls result stands = by result
+  where
+    reads_from : Reads (record old { buckets = buckets }) new → Reads old new
+    reads_from r = record { full = r.full; ended = r.ended; whole = r.whole; shelf = r.shelf; later = r.later }
+
+    between : (entry : RoomValue) (history : List Commit) → IsReady entry → IsBetween group entry old history → IsBetween group entry (record old { buckets = buckets }) history
+    between entry history ready b = record {
+      going = record { goes = record { room = b.going.goes.room; stuck = b.going.goes.stuck; view = b.going.goes.view }; few = b.going.few; told = b.going.told };
+      stand = stands entry history ready b;
+    }
+
+    by : (r : Result (Option Why) RunFault) → Answers group (record old { buckets = buckets }) new d calls r → Answers group old new d calls r
+    by (Ok None) a = (reads_from a.0, a.1, a.2, λ entry history ready b. a.3 entry history ready (between entry history ready b))
+    by (Ok (Some word)) a = (reads_from a.0, a.1, λ entry history ready b. a.2 entry history ready (between entry history ready b))
+    by (Err fault) a = (reads_from a.0, λ entry history ready b. a.1 entry history ready (between entry history ready b))

@@ -9,17 +9,14 @@ use Rattle.fine_model.specs.declared.Row.{Row}
 use Rattle.fine_model.specs.declared.RunFault.{RunFault}
 use Rattle.fine_model.specs.declared.RunFault.TheVariants as run_fault
 use Rattle.fine_model.specs.declared.ScriptTxn.{ScriptTxn}
-use Rattle.fine_model.specs.declared.law.RoomState.{RoomState}
 use Rattle.fine_model.specs.Becomes.{Becomes}
 use Rattle.node_cache.specs.Cache.{after as settled_under, before as as_before}
 use Rattle.txn_draft.specs.Drafts.{DraftValue, entry_of}
 use Rattle.partition_hold.specs.Views.{ViewValue}
-use Rattle.epoch_room.specs.Fitting.{counts_of}
 use Rattle.epoch_room.specs.Meaning.{StandsForMore}
 use Rattle.epoch_room.specs.Steps.{appended}
 use Rattle.epoch_room.specs.Value.{RoomValue}
 use Rattle.epoch_room.specs.Whole.{IsWhole}
-use Rattle.epoch_room.specs.declared.answers.Counts.{Counts}
 use Rattle.epoch_room.specs.declared.answers.Stamp.{Stamp}
 use Rattle.room_shelf.specs.Shelves.{Rests, shelf}
 use Rattle.open_txn.specs.Buckets.{BucketsValue}
@@ -34,46 +31,35 @@ use Rattle.txn_runner.specs.Steps.{Appends, Closes, IsClosed, SealsAll, TakesBac
 use Rattle.txn_runner.proofs.Looping as looping
 use Rattle.txn_runner.proofs.Seals as seals
 
--- ---- the numbers of a room
+-- ---- the entries that wait
 
-pub sealed_of : (k : Counts) (r : RoomState) → k ≡ counts_of r → k.sealed ≡ r.sealed
-unfolding counts_of
-sealed_of k r is = ap (λ (x : Counts). x.sealed) is
-
-pub waiting_of : (k : Counts) (r : RoomState) → k ≡ counts_of r → k.waiting ≡ r.waiting
-unfolding counts_of
-waiting_of k r is = ap (λ (x : Counts). x.waiting) is
-
-pub some_wait : (k : Counts) (r : RoomState) → k ≡ counts_of r → (k.waiting ≡ 0 → ⊥) → 1 ≤ r.waiting
-some_wait k r is some = by k.waiting refl
-  where
-    by : (n : ℕ) → k.waiting ≡ n → 1 ≤ r.waiting
-    by zero e = absurd (some e)
-    by (suc n) e = let w = waiting_of k r is in omega (arith, e, w)
+pub some_wait : (n waiting : ℕ) → n ≡ waiting → (n ≡ 0 → ⊥) → 1 ≤ waiting
+some_wait zero waiting is some = absurd (some refl)
+some_wait (suc n) waiting is some = omega (arith, is)
 
 module _ (inside old : RunnerValue) (is : inside ≡ old) where
   -- a runner with another room and another view
   abbrev moved : RoomValue → Option ViewValue → RunnerValue
   moved room view = record { room = room; view = view; full = inside.full; ended = inside.ended }
 
-  pub take_back : (before after : BucketsValue) (k : Counts) → k ≡ counts_of inside.room.room → IsWhole inside.room → UndoesAll k.sealed before after → LeavesEach k.sealed as_before before after → TakesBack (body old before) (body old after)
-  take_back before after k counts whole undoes left = subst (λ v. TakesBack (body v before) (body v after)) is
-      (record { buckets = subst (λ n. UndoesAll n before after) (sealed_of k inside.room.room counts) undoes; left = subst (λ n. LeavesEach n as_before before after) (sealed_of k inside.room.room counts) left; rest = refl; whole = whole })
+  pub take_back : (before after : BucketsValue) (published : ℕ) → published ≡ inside.room.room.sealed → IsWhole inside.room → UndoesAll published before after → LeavesEach published as_before before after → TakesBack (body old before) (body old after)
+  take_back before after published is_sealed whole undoes left = subst (λ v. TakesBack (body v before) (body v after)) is
+      (record { buckets = subst (λ n. UndoesAll n before after) is_sealed undoes; left = subst (λ n. LeavesEach n as_before before after) is_sealed left; rest = refl; whole = whole })
 
-  pub append : (d : DraftValue) (rows : List Row) → rows ≡ d.rows → (before after : BucketsValue) (k : Counts) → k ≡ counts_of inside.room.room → (stamp : Stamp) → stamp ≡ record { place = inside.room.room.places + 1; epoch = inside.room.room.sealed + 1 }
-      → (room : RoomValue) → room ≡ appended inside.room rows → StandsForMore inside.room room rows → Becomes inside.room.room room.room → IsWhole room → (entry : Entry) → entry ≡ entry_of d → SettlesAll stamp.epoch k.sealed before after
-      → LeavesEach k.sealed (λ b. settled_under b stamp.epoch) before after
+  pub append : (d : DraftValue) (rows : List Row) → rows ≡ d.rows → (before after : BucketsValue) (published : ℕ) → published ≡ inside.room.room.sealed → (stamp : Stamp) → stamp ≡ record { place = inside.room.room.places + 1; epoch = inside.room.room.sealed + 1 }
+      → (room : RoomValue) → room ≡ appended inside.room rows → StandsForMore inside.room room rows → Becomes inside.room.room room.room → IsWhole room → (entry : Entry) → entry ≡ entry_of d → SettlesAll stamp.epoch published before after
+      → LeavesEach published (λ b. settled_under b stamp.epoch) before after
       → Appends d (body old before) (body (moved room inside.view) after) (outcome.Committed stamp.place stamp.epoch entry)
-  append d rows same before after k counts stamp stamped room appends stands becomes whole entry is_entry settles left =
+  append d rows same before after published is_sealed stamp stamped room appends stands becomes whole entry is_entry settles left =
       subst (λ v. Appends d (body v before) (body (moved room inside.view) after) (outcome.Committed stamp.place stamp.epoch entry)) is (record {
         is = ap (λ (s : Stamp). outcome.Committed s.place s.epoch entry) stamped ∙ ap (λ e. outcome.Committed (inside.room.room.places + 1) (inside.room.room.sealed + 1) e) is_entry;
         room = appends ∙ ap (appended inside.room) same;
         stands = subst (StandsForMore inside.room room) same stands;
         becomes = becomes;
         whole = whole;
-        buckets = subst (λ n. SettlesAll n inside.room.room.sealed before after) (ap (λ (s : Stamp). s.epoch) stamped) (subst (λ n. SettlesAll stamp.epoch n before after) (sealed_of k inside.room.room counts) settles);
+        buckets = subst (λ n. SettlesAll n inside.room.room.sealed before after) (ap (λ (s : Stamp). s.epoch) stamped) (subst (λ n. SettlesAll stamp.epoch n before after) is_sealed settles);
         left = subst (λ n. LeavesEach inside.room.room.sealed (λ b. settled_under b n) before after) (ap (λ (s : Stamp). s.epoch) stamped)
-            (subst (λ n. LeavesEach n (λ b. settled_under b stamp.epoch) before after) (sealed_of k inside.room.room counts) left);
+            (subst (λ n. LeavesEach n (λ b. settled_under b stamp.epoch) before after) is_sealed left);
         rest = refl;
       })
 
@@ -91,11 +77,11 @@ module _ (inside old : RunnerValue) (is : inside ≡ old) where
 
   -- ---- the end
 
-  pub rests : (buckets : BucketsValue) (k : Counts) → k ≡ counts_of inside.room.room → k.waiting ≡ 0 → (out : Option ViewValue) → out ≡ inside.view → (room : RoomValue) (view : Option ViewValue) → view ≡ None → IsWhole room → Rests inside.room out room
+  pub rests : (buckets : BucketsValue) (waiting : ℕ) → waiting ≡ inside.room.room.waiting → waiting ≡ 0 → (out : Option ViewValue) → out ≡ inside.view → (room : RoomValue) (view : Option ViewValue) → view ≡ None → IsWhole room → Rests inside.room out room
       → Closes (body old buckets) (body (moved room view) buckets) None
-  rests buckets k counts none out taken room view empty whole r = subst (λ v. Closes (body v buckets) (body (moved room view) buckets) None) is
+  rests buckets waiting counted none out taken room view empty whole r = subst (λ v. Closes (body v buckets) (body (moved room view) buckets) None) is
       (subst (λ x. Closes (body inside buckets) (body (moved room x) buckets) None) (sym empty)
-      (seals.rests (body inside buckets) room (sym (waiting_of k inside.room.room counts) ∙ none) whole (subst (λ x. Rests inside.room x room) taken r)))
+      (seals.rests (body inside buckets) room (sym counted ∙ none) whole (subst (λ x. Rests inside.room x room) taken r)))
 
   pub closes : (buckets : BucketsValue) (first : Result ℕ RunFault) (epoch : ℕ) → first ≡ Ok epoch → (last : Option RunFault) → last ≡ None → (room : RoomValue) (view : Option ViewValue) → SealsWaiting (shelf inside.room inside.view) (shelf room view) first
       → Closes (body old buckets) (body (moved room view) buckets) last
@@ -113,13 +99,13 @@ closes_so_far : (old new : RunnerValue) (last : Option RunFault) → ((buckets :
 closes_so_far old new last closes script options entry buckets outcomes ready s = closes buckets entry (commits_of s.done) ready (record { room = s.goes_on; stuck = s.stuck; view = s.view }) s.told (record { all = s.buckets.0; follows = s.buckets.1 })
 
 -- what a run gives behind the last transaction
-pub finish : (old new inside : RunnerValue) → inside ≡ new → (last : Option RunFault) → ((buckets : BucketsValue) → Closes (body old buckets) (body new buckets) last) → (outcomes : List Outcome) (k : Counts) → k ≡ counts_of inside.room.room
+pub finish : (old new inside : RunnerValue) → inside ≡ new → (last : Option RunFault) → ((buckets : BucketsValue) → Closes (body old buckets) (body new buckets) last) → (outcomes : List Outcome) (durable : ℕ) → durable ≡ inside.room.room.sealed
     → (fault : Option RunFault) → fault ≡ first_fault (with_last inside.ended last) → (script : List ScriptTxn) (options : Options) (entry : RoomValue) (buckets : BucketsValue) → IsReady entry
-    → RunsSoFar script options (length script) entry (body old buckets) outcomes → RunsOn script options entry inside.room (record { outcomes = outcomes; durable = k.sealed; fault = fault })
-finish old new inside is last closes outcomes k counts fault told script options entry buckets ready s =
+    → RunsSoFar script options (length script) entry (body old buckets) outcomes → RunsOn script options entry inside.room (record { outcomes = outcomes; durable = durable; fault = fault })
+finish old new inside is last closes outcomes durable is_sealed fault told script options entry buckets ready s =
     looping.finishes script options entry (body old buckets) outcomes s ready (body inside buckets) last (subst (λ v. IsClosed entry (body old buckets) (body v buckets) (commits_of s.done) last) (sym is) closed)
-    (record { outcomes = outcomes; durable = k.sealed; fault = fault })
-    (ap (λ n. record { outcomes = outcomes; durable = n; fault = fault }) (sealed_of k inside.room.room counts)
+    (record { outcomes = outcomes; durable = durable; fault = fault })
+    (ap (λ n. record { outcomes = outcomes; durable = n; fault = fault }) is_sealed
     ∙ ap (λ f. record { outcomes = outcomes; durable = inside.room.room.sealed; fault = f }) (told ∙ ap (λ ended. first_fault (with_last ended last)) (ap (λ (v : RunnerValue). v.ended) is ∙ closed.ended)))
   where
     closed : IsClosed entry (body old buckets) (body new buckets) (commits_of s.done) last
@@ -132,7 +118,7 @@ finish_entry old new inside is last closes outcomes script options entry buckets
     ap (λ (v : RunnerValue). v.room.entry) is ∙ (closes_so_far old new last closes script options entry buckets outcomes ready s).goes_on.same_entry
 
 -- and where there was no memory to begin
-pub not_begun : (room : RoomValue) → IsReady room → (outcomes : List Outcome) → outcomes ≡ [] → (k : Counts) → k ≡ counts_of room.room → (script : List ScriptTxn) (options : Options)
-    → RunsOn script options room room (record { outcomes = outcomes; durable = k.sealed; fault = Some run_fault.Memory })
-not_begun room ready outcomes none k counts script options = looping.not_begun script options room (record { outcomes = outcomes; durable = k.sealed; fault = Some run_fault.Memory }) ready
-    (ap (λ os. record { outcomes = os; durable = k.sealed; fault = Some run_fault.Memory }) none ∙ ap (λ n. record { outcomes = []; durable = n; fault = Some run_fault.Memory }) (sealed_of k room.room counts))
+pub not_begun : (room : RoomValue) → IsReady room → (outcomes : List Outcome) → outcomes ≡ [] → (durable : ℕ) → durable ≡ room.room.sealed → (script : List ScriptTxn) (options : Options)
+    → RunsOn script options room room (record { outcomes = outcomes; durable = durable; fault = Some run_fault.Memory })
+not_begun room ready outcomes none durable is_sealed script options = looping.not_begun script options room (record { outcomes = outcomes; durable = durable; fault = Some run_fault.Memory }) ready
+    (ap (λ os. record { outcomes = os; durable = durable; fault = Some run_fault.Memory }) none ∙ ap (λ n. record { outcomes = []; durable = n; fault = Some run_fault.Memory }) is_sealed)

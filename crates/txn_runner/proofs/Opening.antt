@@ -120,13 +120,13 @@ module _ (log : Origin) (room : RoomValue) (view : ViewValue) (taken : BucketsVa
   a = r.follows entry now parts is_log is_chain is_now
 
   len : view.eye.region_len ≡ log.region_len
-  len = r.sees.region_len ∙ r.region_len
+  len = r.shows.sees.region_len ∙ r.region_len
 
   abbrev seen : seeing.IsSeenIn log room entry now parts a.sealed history view.eye
-  seen = record { whole = r.whole; opened = r.is_out.opened; region_len = r.region_len; is_now = is_now; follows = a.follows; sees = r.sees }
+  seen = record { whole = r.whole; opened = r.shows.opened; region_len = r.region_len; is_now = is_now; follows = a.follows; sees = r.shows.sees }
 
   -- what the eye tells
-  abbrev shown : seeing.Shown r.sees.regions now view.eye
+  abbrev shown : seeing.Shown r.shows.sees.regions now view.eye
   shown = seeing.shown log room entry now parts a.sealed history view.eye seen
 
   there_made : AreMadeOf log.region_len now shown.image room.room.parts [] room.room.parts
@@ -139,7 +139,7 @@ module _ (log : Origin) (room : RoomValue) (view : ViewValue) (taken : BucketsVa
   sees = record { told = shown.told; made = subst (λ n. AreMadeOf n entry shown.image parts a.sealed room.room.parts) (sym len) (seeing.entry_made log room entry now parts a.sealed history view.eye seen) }
 
   found_by : FindsBy view.eye room.room.parts (finds_in view)
-  found_by id found f = subst (λ ps. IsReplayOf view.eye ps id found) r.is_out.parts f
+  found_by id found f = subst (λ ps. IsReplayOf view.eye ps id found) r.shows.parts f
 
   -- a bucket before the first call
   opens : (k : ℕ) (c : Cache) → slice_get taken.buckets k ≡ Some c

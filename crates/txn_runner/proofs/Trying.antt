@@ -16,7 +16,8 @@ use Rattle.fine_model.proofs.Goings.{becomes_on}
 use Rattle.txn_draft.specs.Drafts.{DraftValue}
 use Rattle.epoch_room.specs.Meaning.{origin_of}
 use Rattle.epoch_room.specs.Value.{RoomValue}
-use Rattle.open_txn.specs.Opened.{AbortLaw, IsToUndo}
+use Rattle.open_txn.specs.Buckets.{BucketsValue}
+use Rattle.open_txn.specs.Opened.{AbortLaw, IsOpen, IsToUndo}
 use Rattle.run_laws.specs.Runs.{IsReady, IsReplyTo, OfSound}
 use Rattle.run_laws.specs.SoFar.{AreTold}
 use Rattle.run_laws.specs.Turns.{RefusesBehind, commits_of}
@@ -121,15 +122,18 @@ module _ (abort : AbortLaw) (group : ℕ) (old mid : Body) (d : DraftValue) (txn
         left : Leaves group entry old mid (commits_of done) []
         left = reads_leave group entry old mid (commits_of done) b a.0
 
-        to_undo : IsToUndo (origin_of entry.entry) old.room.room.sealed (commits_of done) old.buckets mid.buckets
-        to_undo = abort (origin_of entry.entry) old.room.room.sealed (commits_of done) old.buckets mid.buckets d (a.3 entry (commits_of done) ready b).0
+        open_now : (taken : BucketsValue) × IsOpen (origin_of entry.entry) old.room.room.sealed (commits_of done) taken mid.buckets d
+        open_now = (a.3 entry (commits_of done) ready b).0
+
+        to_undo : IsToUndo (origin_of entry.entry) old.room.room.sealed (commits_of done) open_now.0 mid.buckets
+        to_undo = abort (origin_of entry.entry) old.room.room.sealed (commits_of done) open_now.0 mid.buckets d open_now.1
 
         stand : Stand entry new (commits_of done)
         stand =
             let same = ap (λ (r : RoomValue). r.room.sealed) room_same in
             let mids = sealed in
             taken_back entry mid new (commits_of done) txn.calls d.rows back (a.3 entry (commits_of done) ready b).1
-            (back.buckets (origin_of entry.entry) old.room.room.sealed new.room.room.sealed (commits_of done) old.buckets to_undo (omega (arith, same, mids)) (omega (arith, same)))
+            (back.buckets (origin_of entry.entry) old.room.room.sealed new.room.room.sealed (commits_of done) open_now.0 to_undo (omega (arith, same, mids)) (omega (arith, same)))
 
     pub aborts : Tries group old new txn turn (Ok outcome.Aborted)
     aborts entry done ready b at = aborted entry done ready b
@@ -157,9 +161,11 @@ module _ (abort : AbortLaw) (group : ℕ) (old mid : Body) (d : DraftValue) (txn
     pub commits : (result : Result Outcome RunFault) → TriesToCommit group mid new d result → Tries group old new txn turn result
     commits (Ok next) t = λ entry done ready b at.
         let low : old.room.room.sealed ≤ mid.room.room.sealed = (let s = sealed in omega (arith, s)) in
-        let ends = t entry (commits_of done) old.room.room.sealed old.buckets ready (going entry (commits_of done) b) low (a.3 entry (commits_of done) ready b).0 (opens entry (commits_of done) ready b) in
+        let open_now = (a.3 entry (commits_of done) ready b).0 in
+        let ends = t entry (commits_of done) old.room.room.sealed open_now.0 ready (going entry (commits_of done) b) low open_now.1 (opens entry (commits_of done) ready b) in
         (record { leaves = later entry (commits_of done) (commits_of (next ∷ [])) ends.0.leaves; stand = ends.0.stand; in_need = λ n. ends.0.in_need (needs.read group entry (commits_of done) old mid a.0 n); told = ends.0.told }, tried entry done next at ends.1)
     commits (Err fault) t = λ entry done ready b at.
         let low : old.room.room.sealed ≤ mid.room.room.sealed = (let s = sealed in omega (arith, s)) in
-        let ends = t entry (commits_of done) old.room.room.sealed old.buckets ready (going entry (commits_of done) b) low (a.3 entry (commits_of done) ready b).0 (opens entry (commits_of done) ready b) in
+        let open_now = (a.3 entry (commits_of done) ready b).0 in
+        let ends = t entry (commits_of done) old.room.room.sealed open_now.0 ready (going entry (commits_of done) b) low open_now.1 (opens entry (commits_of done) ready b) in
         record { leaves = later entry (commits_of done) [] ends.leaves; stand = ends.stand; in_need = λ n. ends.in_need (needs.read group entry (commits_of done) old mid a.0 n); told = ends.told; blames = subst (λ calls. BlamesCalls entry (commits_of done) calls fault) a.2.same ends.blames }

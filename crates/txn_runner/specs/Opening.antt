@@ -22,7 +22,7 @@ use Rattle.partition_hold.specs.Views.{ViewValue}
 use Rattle.epoch_room.specs.Steps.{appended}
 use Rattle.epoch_room.specs.Value.{RoomValue}
 use Rattle.epoch_room.specs.Whole.{IsWhole}
-use Rattle.room_shelf.specs.Shelves.{IsOut, SeesLive}
+use Rattle.room_shelf.specs.Shelves.{ShowsLog}
 use Rattle.room_steps.specs.Made.{MadeOn}
 use Rattle.open_txn.specs.Buckets.{BucketsValue, StandAll}
 use Rattle.open_txn.specs.Opened.{LeavesEach}
@@ -52,11 +52,10 @@ pub record AllOpen (region_len : ℕ) (entry now : Image) (parts : List Part) (r
 abbrev pub Opens : Origin → RoomState → BucketsValue → List Commit → List Call → List Row → Type 0
 Opens log room buckets history calls rows = OfToldLog log room (λ entry now parts. AllOpen log.region_len entry now parts room buckets history calls rows)
 
--- what calls find: buckets that stand for a history and follow, and a view of an open room, whose eye sees the live parts
+-- what calls find: buckets that stand for a history and follow, and a view that shows what is sealed of an open room
 pub record IsRead (log : Origin) (room : RoomValue) (view : ViewValue) (buckets : BucketsValue) (history : List Commit) : Type 0 where
   pub whole : IsWhole room
-  pub is_out : IsOut room.room view
-  pub sees : SeesLive room.room view.eye
+  pub shows : ShowsLog room.room view
   pub region_len : room.room.region_len ≡ log.region_len
   pub stand : StandAll log room.room.sealed buckets history
   pub follows : Follows log room.room buckets history

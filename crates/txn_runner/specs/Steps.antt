@@ -94,13 +94,18 @@ pub record Looks (old new : Body) (result : Result ViewValue FetchFault) : Type 
 abbrev pub Behind : ℕ → Body → (RoomValue → List Commit → Type 0) → Type 0
 Behind group old P = (entry : RoomValue) (history : List Commit) → IsReady entry → IsBetween group entry old history → P entry history
 
--- The calls were all answered, or refused for a reason that the definitions have too, or a fault came. The buckets are open in the first case alone, by the bytes at entry too; what a fault names is damage of them.
+-- The calls were all answered, or refused for a reason that the definitions have too, or a fault came. The buckets are open in the first case alone, over some that stood for the history, by the bytes at entry too; what a fault names is damage of them.
 abbrev pub Answers : ℕ → Body → Body → DraftValue → List Call → Result (Option Why) RunFault → Type 0
 Answers group old new d calls (Ok None) =
-    Reads old new × IsClean (shelf_of old) (shelf_of new) × AnswersCalls calls d × Behind group old (λ entry history. IsOpen (origin_of entry.entry) old.room.room.sealed history old.buckets new.buckets d × Opens (origin_of entry.entry) new.room.room new.buckets history calls d.rows)
+    Reads old new × IsClean (shelf_of old) (shelf_of new) × AnswersCalls calls d × Behind group old (λ entry history. ((taken : BucketsValue) × IsOpen (origin_of entry.entry) old.room.room.sealed history taken new.buckets d) × Opens (origin_of entry.entry) new.room.room new.buckets history calls d.rows)
 Answers group old new d calls (Ok (Some word)) =
     Reads old new × IsClean (shelf_of old) (shelf_of new) × Behind group old (λ entry history. Stand entry new history × OfSound entry (λ first e. RefusesBehind new.room.room (first ++ all_rows history) calls word))
 Answers group old new d calls (Err fault) = Reads old new × Behind group old (λ entry history. Stand entry new history × TellsWith entry new fault × BlamesCalls entry history calls fault)
+
+-- They were answered so, or a node is not cached that they need, and the body is between transactions again.
+abbrev pub AnswersCached : ℕ → Body → Body → DraftValue → List Call → Option (Result (Option Why) RunFault) → Type 0
+AnswersCached group old new d calls (Some result) = Answers group old new d calls result
+AnswersCached group old new d calls None = Behind group old (λ entry history. Stand entry new history)
 
 -- ---- a commit
 

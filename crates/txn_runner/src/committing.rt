@@ -32,9 +32,9 @@ impl<D: LogDisk> Runner<D> {
         requires no_job { self.old.room.room.job ≡ None }
         ensures { (buckets : BucketsValue) → MakesPlace cost (body self.old buckets) (body self.new buckets) result }
     {
-        let before = self.room.counts().sealed;
+        let before = self.room.sealed();
         let made = make_room(alloc, &mut self.room, &mut self.view, &mut self.full, cost);
-        let epoch = self.room.counts().sealed;
+        let epoch = self.room.sealed();
         if before < epoch {
             gate.at(SEAT, Point::Sealed { epoch });
         }
@@ -48,9 +48,9 @@ impl<D: LogDisk> Runner<D> {
         requires open { draft.failed ≡ false }
         ensures { Appends draft (body self.old buckets.old) (body self.new buckets.new) result }
     {
-        let published = self.room.counts().sealed;
+        let published = self.room.sealed();
         let stamp = self.room.append(draft.log());
-        let _counts = self.room.counts();
+        let _whole = self.room.sealed();
         let entry = draft.take_entry();
         buckets.settle(stamp.epoch, published, keep);
         Outcome::Committed {

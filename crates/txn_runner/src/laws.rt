@@ -19,7 +19,7 @@ pub fn places_law()
     ensures merges { MergeLaw }
 {}
 
-/// The same of a body through a transaction, whose calls are answered through a view: all were answered [`answers`], or one was refused and what was done is taken back [`refuses`]. A step of the room leaves it open
+/// The same of a body through a transaction, whose calls are answered through a view that shows what is sealed: all were answered [`answers`], or one was refused and what was done is taken back [`refuses`]. A step of the room leaves it open
 /// [`step`]. Given up, the body is as before [`gives_up`]; committed in the open epoch, it goes on with the commit [`commits`]. A node that a
 /// refused call names is one that the run meets unfit [`names`].
 pub fn opens_law()

@@ -37,7 +37,7 @@ fn not_begun<D: LogDisk>(alloc: Global, room: Room<D>) -> (Ran, Room<D>)
     ensures run { (script : List ScriptTxn) (options : Limits) → RunsOn script options room result.1 result.0 }
     ensures entry { result.1.entry ≡ room.entry }
 {
-    let durable = room.counts().sealed;
+    let durable = room.sealed();
     let ran = Ran {
         outcomes: Items::new(alloc),
         durable,
@@ -82,7 +82,7 @@ fn finish<D: LogDisk, G: Gate>(
     let last = runner.close(gate);
     let ran = Ran {
         outcomes,
-        durable: runner.room.counts().sealed,
+        durable: runner.room.sealed(),
         fault: runner.ended.fault_with(last),
     };
     (ran, runner.room)

@@ -36,10 +36,10 @@ impl<D: LogDisk> Runner<D> {
         requires no_job { self.old.room.room.job ≡ None }
         ensures { (buckets : BucketsValue) → Closes (body self.old buckets) (body self.new buckets) result }
     {
-        if self.room.counts().waiting == 0 {
+        if self.room.waiting() == 0 {
             let out = self.view.take();
             rest(&mut self.room, out);
-            let _counts = self.room.counts();
+            let _whole = self.room.sealed();
             return None;
         }
         match seal_waiting(&mut self.room, &mut self.view) {

@@ -67,7 +67,7 @@ impl<D: LogDisk> Runner<D> {
         requires lane { IsLane lane }
         ensures { (buckets : BucketsValue) → EndsGroup group (body self.old buckets) (body self.new buckets) lane }
     {
-        if self.room.counts().waiting < u64::from(group) {
+        if self.room.waiting() < u64::from(group) {
             return;
         }
         match self.seal_group(alloc, gate) {

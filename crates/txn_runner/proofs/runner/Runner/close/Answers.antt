@@ -2,11 +2,11 @@ use Rattle.txn_runner.proofs.Exits.{closes, closes_not, rests, some_wait}
 use Rattle.txn_runner.proofs.runner.Runner.close.Goals as goal
 use Rattle.txn_runner.proofs.runner.Runner.close.Goals.{in-Err, in-Ok}
 
-pub returns-then-counts-eq0 : goal.returns-then-counts-eq0
-returns-then-counts-eq0 g c buckets = rests _ _ c.self.view_is buckets c.counts.result c.counts.ensures.counts c.if-counts-eq0.true _ c.take-out.ensures.value _ _ c.take-out.ensures.after c.counts-counts.ensures.whole c.rest.ensures
+pub returns-then-waiting-eq0 : goal.returns-then-waiting-eq0
+returns-then-waiting-eq0 g c buckets = rests _ _ c.self.view_is buckets c.waiting.result c.waiting.ensures c.if-waiting-eq0.true _ c.take-out.ensures.value _ _ c.take-out.ensures.after c.sealed-whole.ensures.whole c.rest.ensures
 
 pub seal_waiting-requires-clause-waiting : goal.seal_waiting-requires-clause-waiting
-seal_waiting-requires-clause-waiting g c κs within = some_wait c.counts.result _ c.counts.ensures.counts c.if-counts-eq0.false
+seal_waiting-requires-clause-waiting g c κs within = some_wait c.waiting.result _ c.waiting.ensures c.if-waiting-eq0.false
 
 pub returns : goal.returns
 returns g c buckets = elim c.match-seal_waiting.branch [

@@ -11,7 +11,6 @@ pub mod Mailing
 pub mod Refreshing
 pub mod Handing
 pub mod Entering
-pub mod EmptyLog
 pub mod Gathering
 pub mod Sums
 pub mod SumsClosing

@@ -5,7 +5,7 @@ ghost use Rattle.fine_hall.specs.Halls.{begun};
 ghost use Rattle.fine_hall.specs.Passes.{turns};
 ghost use Rattle.fine_hall.specs.declared.pass.Pass.{Pass};
 ghost use Rattle.hall_threads.specs.declared.things.DayView.{DayView};
-ghost use Rattle.hall_threads.specs.Days.{key_bucket, room_state, room_log, view_state, IsIdlePass};
+ghost use Rattle.hall_threads.specs.Days.{room_state, room_log, view_state, IsIdlePass};
 ghost use Rattle.hall_threads.specs.Ends.{EndsAll};
 ghost use Rattle.hall_threads.specs.Turnover.{TakesPart};
 
@@ -32,24 +32,16 @@ pub struct Tally {
 }
 
 /// Puts a value, shows what waits to all seats, evicts the leaf, and looks and reads.
-fn round<W: Wait>(
-    rt: &W,
-    alloc: Global,
-    hall: &DayHall,
-    pass: &mut Pass<DayView>,
-    bucket: u16,
-    tally: &Tally,
-)
+fn round<W: Wait>(rt: &W, alloc: Global, hall: &DayHall, pass: &mut Pass<DayView>, tally: &Tally)
     requires pass { IsIdlePass hall.now pass.old }
-    requires bucket { bucket ≡ key_bucket }
     ensures pass { IsIdlePass hall.now pass.new × (pass.new.number ≡ pass.old.number) }
     ensures turned { TakesPart (begun room_state room_log view_state hall.now).room 1 pass.new.number (turns pass.new) }
 {
-    let put = put_times(rt, alloc, hall, pass, bucket, 1, 1);
+    let put = put_times(rt, alloc, hall, pass, 1, 1);
     tally.puts.fetch_add(put, Ordering::SeqCst);
     let shown = turn_over(rt, hall, pass);
     tally.shown.fetch_add(u64::from(shown), Ordering::SeqCst);
-    let _evicted = evict(hall, pass, bucket);
+    let _evicted = evict(hall, pass, the_bucket());
     let failed = look_through(hall, pass).is_err();
     tally.failed.fetch_add(u64::from(failed), Ordering::SeqCst);
 }
@@ -59,17 +51,15 @@ fn rounds<W: Wait>(
     alloc: Global,
     hall: &DayHall,
     mut pass: Pass<DayView>,
-    bucket: u16,
     times: u64,
     tally: &Tally,
 ) -> Pass<DayView>
     requires pass { IsIdlePass hall.now pass }
-    requires bucket { bucket ≡ key_bucket }
     ensures pass { IsIdlePass hall.now result × (result.number ≡ pass.number) }
     ensures turned { TakesPart (begun room_state room_log view_state hall.now).room times result.number (turns result) }
 {
     for _ in 0..times {
-        round(rt, alloc, hall, &mut pass, bucket, tally);
+        round(rt, alloc, hall, &mut pass, tally);
     }
     pass
 }
@@ -80,21 +70,19 @@ fn at_once<R: Threads + Wait + Sync>(
     alloc: Global,
     hall: &DayHall,
     passes: Vec<Pass<DayView>>,
-    bucket: u16,
     times: u64,
     tally: &Tally,
 ) -> Result<Vec<Pass<DayView>>, AllocError>
     requires passes { All (IsIdlePass hall.now) passes.items }
-    requires bucket { bucket ≡ key_bucket }
     ensures idle { IfOk result (λ back. All (IsIdlePass hall.now) back.items) }
     ensures turned { IfOk result (λ back. All (λ p. TakesPart (begun room_state room_log view_state hall.now).room times p.number (turns p)) back.items) }
     ensures numbers { IfOk result (λ back. (i : ℕ) (d : Pass DayView) → i < vec_len passes → (slice_index_or back.items i d).number ≡ (slice_index_or passes.items i d).number) }
     ensures len { IfOk result (λ back. vec_len back ≡ vec_len passes) }
 {
     let work = |pass: Pass<DayView>| -> Pass<DayView>
-        requires { IsIdlePass hall.now pass × (bucket ≡ key_bucket) }
+        requires { IsIdlePass hall.now pass }
         ensures { IsIdlePass hall.entry.now result × (result.number ≡ pass.number) × TakesPart (begun room_state room_log view_state hall.entry.now).room times result.number (turns result) }
-    { rounds(rt, alloc, hall, pass, bucket, times, tally) };
+    { rounds(rt, alloc, hall, pass, times, tally) };
     thread::map_vec(rt, passes, &work)
 }
 
@@ -115,11 +103,10 @@ pub fn day_of_many<R: Threads + Wait + Sync>(
     ensures { IfSome result (λ r. EndsAll seats times r.0 r.1.items) }
 {
     let (hall, passes) = open(alloc, seats, most)?;
-    let bucket = the_bucket();
     let Ok(mut views) = Vec::with_capacity(alloc, 2 * seats as usize) else {
         return None;
     };
-    let Ok(passes) = at_once(rt, alloc, &hall, passes, bucket, times, tally) else {
+    let Ok(passes) = at_once(rt, alloc, &hall, passes, times, tally) else {
         return None;
     };
     let room = hall.close(passes, &mut views);

@@ -1,9 +1,9 @@
 //! Two threads that put values on one hall.
 
-ghost use Rattle.std.specs.Prelude.{◌≡◌, ◌++◌, ◌+◌, [], ◌∷◌, if◌then◌else◌, replicate, MatchOption};
+ghost use Rattle.std.specs.Prelude.{◌≡◌, true, ◌++◌, ◌+◌, [], ◌∷◌, if◌then◌else◌, replicate, MatchOption};
 ghost use Rattle.fine_hall.specs.Passes.{mine, published};
 ghost use Rattle.fine_hall.specs.Halls.{begun};
-ghost use Rattle.hall_threads.specs.Days.{key_bucket, put_call, put_calls, room_state, room_log, view_state, IsIdlePass, met};
+ghost use Rattle.hall_threads.specs.Days.{put_call, put_calls, room_state, room_log, view_state, IsIdlePass, met};
 ghost use Rattle.hall_threads.specs.Readings.{GoesOn, TellsLeaf};
 ghost use Rattle.hall_threads.specs.Sayings.{failures, Says};
 
@@ -12,7 +12,7 @@ use crate::merging::merge;
 use crate::reading::{Failed, look_through};
 use crate::showing::turn_over;
 use crate::things::{DayView, Sight};
-use crate::transaction::{DayHall, put};
+use crate::transaction::{DayHall, put, the_bucket};
 use fine_hall::Pass;
 use std::alloc::Global;
 use std::sync::Wait;
@@ -25,17 +25,15 @@ fn put_at_last<W: Wait>(
     alloc: Global,
     hall: &DayHall,
     pass: &mut Pass<DayView>,
-    bucket: u16,
     value: u8,
 ) -> bool
     requires pass { IsIdlePass hall.now pass.old }
-    requires bucket { bucket ≡ key_bucket }
     ensures pass { IsIdlePass hall.now pass.new × (pass.new.number ≡ pass.old.number) }
     ensures met { met hall.now pass.new ≡ met hall.now pass.old }
     ensures more { put_calls (mine pass.new) ≡ put_calls (mine pass.old) ++ (if result then (put_call value ∷ []) ∷ [] else []) }
 {
     for _ in rt.forever() {
-        if let Ok(done) = put(rt, alloc, hall, pass, bucket, value, value) {
+        if let Ok(done) = put(rt, alloc, hall, pass, the_bucket(), value, value) {
             return done;
         }
         thread::yield_now();
@@ -49,19 +47,17 @@ pub fn put_times<W: Wait>(
     alloc: Global,
     hall: &DayHall,
     pass: &mut Pass<DayView>,
-    bucket: u16,
     value: u8,
     times: u64,
 ) -> u64
     requires pass { IsIdlePass hall.now pass.old }
-    requires bucket { bucket ≡ key_bucket }
     ensures pass { IsIdlePass hall.now pass.new × (pass.new.number ≡ pass.old.number) }
     ensures met { met hall.now pass.new ≡ met hall.now pass.old }
     ensures more { put_calls (mine pass.new) ≡ put_calls (mine pass.old) ++ replicate result (put_call value ∷ []) }
 {
     let mut done = 0;
     for _ in 0..times {
-        if put_at_last(rt, alloc, hall, pass, bucket, value) {
+        if put_at_last(rt, alloc, hall, pass, value) {
             done += 1;
         }
     }
@@ -102,25 +98,40 @@ fn failures(sight: &Option<Sight>) -> u64
     }
 }
 
-/// Looks and reads, puts a value so many times, shows what waits to all seats, evicts the leaf, and looks and reads it again.
+/// Has a merge job out between two turns, as the seat 1 alone may, or does nothing.
+fn merge_if<W: Wait>(rt: &W, hall: &DayHall, pass: &mut Pass<DayView>, merges: bool)
+    requires pass { IsIdlePass hall.now pass.old }
+    requires first { merges ≡ true → pass.old.number ≡ 1 }
+    ensures pass { IsIdlePass hall.now pass.new × (pass.new.number ≡ pass.old.number) }
+    ensures same { mine pass.new ≡ mine pass.old }
+    ensures met { met hall.now pass.new ≡ met hall.now pass.old }
+{
+    if merges {
+        merge(rt, hall, pass);
+    }
+}
+
+/// Looks and reads, puts a value so many times, shows what waits to all seats, evicts the leaf, and looks and reads it again. Where it merges, which the
+/// seat 1 alone may, it has a merge job out between two turns first.
 fn put_as<W: Wait>(
     rt: &W,
     alloc: Global,
     hall: &DayHall,
     mut pass: Pass<DayView>,
-    bucket: u16,
     value: u8,
     times: u64,
+    merges: bool,
 ) -> (Pass<DayView>, Said)
     requires pass { IsIdlePass hall.now pass }
-    requires bucket { bucket ≡ key_bucket }
+    requires first { merges ≡ true → pass.number ≡ 1 }
     ensures pass { IsIdlePass hall.now result.0 × (result.0.number ≡ pass.number) }
     ensures says { Says hall.now value pass result.0 result.1 }
 {
+    merge_if(rt, hall, &mut pass, merges);
     let first = glance(hall, &mut pass);
-    let done = put_times(rt, alloc, hall, &mut pass, bucket, value, times);
+    let done = put_times(rt, alloc, hall, &mut pass, value, times);
     let shown = turn_over(rt, hall, &mut pass);
-    let _evicted = evict(hall, &mut pass, bucket);
+    let _evicted = evict(hall, &mut pass, the_bucket());
     let last = glance(hall, &mut pass);
     let failed = failures(&first) + failures(&last);
     let said = Said {
@@ -132,39 +143,17 @@ fn put_as<W: Wait>(
     (pass, said)
 }
 
-/// The same by the seat 1, which has a merge job out between two turns first.
-fn merge_and_put<W: Wait>(
-    rt: &W,
-    alloc: Global,
-    hall: &DayHall,
-    mut pass: Pass<DayView>,
-    bucket: u16,
-    value: u8,
-    times: u64,
-) -> (Pass<DayView>, Said)
-    requires pass { IsIdlePass hall.now pass }
-    requires first { pass.number ≡ 1 }
-    requires bucket { bucket ≡ key_bucket }
-    ensures pass { IsIdlePass hall.now result.0 × (result.0.number ≡ pass.number) }
-    ensures says { Says hall.now value pass result.0 result.1 }
-{
-    merge(rt, hall, &mut pass);
-    put_as(rt, alloc, hall, pass, bucket, value, times)
-}
-
 /// Both threads at once, each with a pass and a value of its own; the first is the seat 1.
 pub fn both<R: Threads + Wait + Sync>(
     rt: &R,
     alloc: Global,
     hall: &DayHall,
-    bucket: u16,
     first: (Pass<DayView>, u8),
     second: (Pass<DayView>, u8),
     times: u64,
 ) -> ((Pass<DayView>, Said), (Pass<DayView>, Said))
     requires first { IsIdlePass hall.now first.0 × (first.0.number ≡ 1) }
     requires second { IsIdlePass hall.now second.0 }
-    requires bucket { bucket ≡ key_bucket }
     ensures first { IsIdlePass hall.now result.0.0 × (result.0.0.number ≡ first.0.number) × Says hall.now first.1 first.0 result.0.0 result.0.1 }
     ensures second { IsIdlePass hall.now result.1.0 × (result.1.0.number ≡ second.0.number) × Says hall.now second.1 second.0 result.1.0 result.1.1 }
 {
@@ -173,12 +162,12 @@ pub fn both<R: Threads + Wait + Sync>(
     join(
         rt,
         || -> (Pass<DayView>, Said)
-            requires { IsIdlePass hall.now one × (bucket ≡ key_bucket) × (one.number ≡ 1) }
+            requires { IsIdlePass hall.now one × (one.number ≡ 1) }
             ensures { IsIdlePass hall.entry.now result.0 × (result.0.number ≡ one.number) × Says hall.entry.now one_value one result.0 result.1 }
-        { merge_and_put(rt, alloc, hall, one, bucket, one_value, times) },
+        { put_as(rt, alloc, hall, one, one_value, times, true) },
         || -> (Pass<DayView>, Said)
-            requires { IsIdlePass hall.now two × (bucket ≡ key_bucket) }
+            requires { IsIdlePass hall.now two }
             ensures { IsIdlePass hall.entry.now result.0 × (result.0.number ≡ two.number) × Says hall.entry.now two_value two result.0 result.1 }
-        { put_as(rt, alloc, hall, two, bucket, two_value, times) },
+        { put_as(rt, alloc, hall, two, two_value, times, false) },
     )
 }

@@ -8,7 +8,7 @@ ghost use Rattle.hall_threads.specs.Ends.{Ends, IsDay};
 use crate::opening::open;
 use crate::things::{DayRoom, DayView};
 use crate::threads::{Said, both};
-use crate::transaction::{DayHall, the_bucket};
+use crate::transaction::DayHall;
 use fine_hall::Pass;
 use std::alloc::{AllocError, Global};
 use std::sync::Wait;
@@ -88,8 +88,7 @@ pub fn day<R: Threads + Wait + Sync>(
     let Some(two) = passes.pop() else {
         return None;
     };
-    let bucket = the_bucket();
-    let ((one, a), (two, b)) = both(rt, alloc, &hall, bucket, (one, first), (two, second), times);
+    let ((one, a), (two, b)) = both(rt, alloc, &hall, (one, first), (two, second), times);
     let (room, views) = end(alloc, hall, one, two)?;
     Some(Left {
         room,

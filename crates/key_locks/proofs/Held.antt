@@ -4,6 +4,9 @@ use lib.ListN.{get_elem?}
 use Rattle.fine_places.specs.History as places
 use Rattle.atomic_table.proofs.Lists.{set_else}
 use Rattle.fine_places.proofs.Lists.{decide, set_at}
+use Rattle.fine_boxes.specs.Lists.{get_set_here}
+pub use Rattle.fine_boxes.specs.Lists.{get_set_else as get_else}
+use Rattle.std.proofs.lemmas.Option.{slice_get_within}
 use Rattle.fine_hall.specs.declared.law.Beginning.{Beginning}
 use Rattle.fine_hall.specs.declared.pass.Pass.{Pass}
 use Rattle.fine_model.specs.Nodes.{Content}
@@ -37,18 +40,9 @@ pub not_both : {B : Type 0} (locks : List (Option B)) (k : ℕ) (b : B) → Lack
 unfolding some_of is_some
 not_both locks k b l h = let e = ap (some_of None) (sym l ∙ h) in let n = ap is_some e in absurd (omega arith)
 
+-- a place that is set has what was set there, and the others have what they had
 pub get_same : {A : Type 0} (l : List A) (k : ℕ) (a b : A) → slice_get l k ≡ Some a → slice_get (slice_set l k b) k ≡ Some b
-unfolding is_some
-get_same [] k a b e = absurd (let n = ap is_some e in omega arith)
-get_same (x ∷ xs) zero a b e = refl
-get_same (x ∷ xs) (suc k) a b e = get_same xs k a b e
-
-pub get_else : {A : Type 0} (l : List A) (k j : ℕ) (b : A) → j ≢ k → slice_get (slice_set l k b) j ≡ slice_get l j
-get_else [] k j b ne = refl
-get_else (x ∷ xs) zero zero b ne = absurd (ne refl)
-get_else (x ∷ xs) zero (suc j) b ne = refl
-get_else (x ∷ xs) (suc k) zero b ne = refl
-get_else (x ∷ xs) (suc k) (suc j) b ne = get_else xs k j b (λ e. ne (ap suc e))
+get_same l k a b e = get_set_here l k b (slice_get_within l k a e)
 
 pub set_none : {A : Type 0} (l : List (Option A)) (k : ℕ) → slice_get l k ≡ Some None → slice_set l k None ≡ l
 unfolding is_some some_of

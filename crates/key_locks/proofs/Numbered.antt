@@ -2,15 +2,9 @@
 use Rattle.std.proofs.Common.{◌≡◌, ◌≢◌, ◌⊎◌, ⊎_elim, inl, inr, ℕ, zero, suc, ◌+◌, ◌<◌, ◌≤◌, List, [], ◌∷◌, ◌++◌, length, replicate, Option, Some, None, slice_get, slice_set, slice_index_or, refl, sym, ap, ◌∙◌, subst, arith}
 use Rattle.std.proofs.lemmas.List.{length-append}
 use Rattle.fine_model.proofs.Times.{times, times-none, times-append, times-same, times-other, times-tail}
-use native.Mathlib.Decide.{ℕ_discrete}
+use Rattle.fine_places.proofs.Lists.{decide}
+use Rattle.key_locks.proofs.Held.{get_same, get_else}
 use Rattle.key_locks.specs.Slots.{IsFilled, IsEmpty, here, number_filled, AreCounted, AreNumbered, ChangesAt, Empties, EachBy}
-
-decide : (a b : ℕ) → (a ≡ b) ⊎ (a ≢ b)
-decide a b = go (ℕ_discrete a b)
-  where
-    go : Dec (a ≡ b) → (a ≡ b) ⊎ (a ≢ b)
-    go (yes e) = inl e
-    go (no n) = inr n
 
 is_some : {A : Type 0} → Option A → ℕ
 is_some None = 0
@@ -47,19 +41,6 @@ times_behind k n numbers = let a = times-append k numbers (n ∷ []) in let z = 
     (decide k n)
 
 module _ {T : Type 0} where
-  get_same : (l : List (Option T)) (k : ℕ) (a b : Option T) → slice_get l k ≡ Some a → slice_get (slice_set l k b) k ≡ Some b
-  unfolding is_some
-  get_same [] k a b e = absurd (let n = ap is_some e in omega arith)
-  get_same (x ∷ xs) zero a b e = refl
-  get_same (x ∷ xs) (suc k) a b e = get_same xs k a b e
-
-  get_else : (l : List (Option T)) (k j : ℕ) (b : Option T) → j ≢ k → slice_get (slice_set l k b) j ≡ slice_get l j
-  get_else [] k j b ne = refl
-  get_else (x ∷ xs) zero zero b ne = absurd (ne refl)
-  get_else (x ∷ xs) zero (suc j) b ne = refl
-  get_else (x ∷ xs) (suc k) zero b ne = refl
-  get_else (x ∷ xs) (suc k) (suc j) b ne = get_else xs k j b (λ e. ne (ap suc e))
-
   set_length : (l : List (Option T)) (k : ℕ) (b : Option T) → length (slice_set l k b) ≡ length l
   set_length [] k b = refl
   set_length (x ∷ xs) zero b = refl

@@ -9,7 +9,9 @@ use Rattle.hall_threads.proofs.threads.put_as.Goals as goal
 pub returns-clause-says : goal.returns-clause-says
 returns-clause-says g c =
     let x = begun room_state room_log view_state c.args.hall.now in
-    let p = c.args.pass in
+    let p = c.merge_if.new.pass in
+    let n₀ = c.merge_if.ensures.pass.1 in
+    let m₀ = c.merge_if.ensures.met in
     let p₁ = c.glance-first.new.pass in
     let p₂ = c.put_times-done.new.pass in
     let p₃ = c.turn_over-shown.new.pass in
@@ -32,8 +34,8 @@ returns-clause-says g c =
     let after = after_turn x _ c.turn_over-shown.result p₂ p₃ r c.turn_over-shown.ensures.pass.0.0 c.turn_over-shown.ensures.turned c.turn_over-shown.ensures.sealed goes in
     record {
       more = ap put_calls (c.glance-last.ensures.same ∙ (c.evict-evicted.ensures.same ∙ c.turn_over-shown.ensures.same))
-          ∙ (c.put_times-done.ensures.more ∙ ap (λ h. put_calls h ++ replicate c.put_times-done.result (put_call c.args.value ∷ [])) c.glance-first.ensures.same);
-      met = omega (arith, m₁, m₂, m₃, m₄, m₅, f₁, f₂);
+          ∙ (c.put_times-done.ensures.more ∙ ap (λ h. put_calls h ++ replicate c.put_times-done.result (put_call c.args.value ∷ [])) (c.glance-first.ensures.same ∙ c.merge_if.ensures.same));
+      met = omega (arith, m₀, m₁, m₂, m₃, m₄, m₅, f₁, f₂);
       none_failed = λ ne.
           let a = none_failed c.glance-first.result p _ _ (λ e. ne (n₅ ∙ (n₄ ∙ (n₃ ∙ (n₂ ∙ (n₁ ∙ e)))))) c.glance-first.ensures.told in
           let b = none_failed c.glance-last.result p₄ _ _ (λ e. ne (n₅ ∙ e)) told in

@@ -384,6 +384,13 @@ impl<D: LogDisk> Room<D> {
         self.epoch.waiting()
     }
 
+    /// Whether an earlier call answered `Disk`: then nothing is written any more.
+    pub fn is_shut(&self) -> bool
+        ensures { result ≡ self.now.room.is_shut }
+    {
+        self.is_shut
+    }
+
     /// Whether fewer than half of all regions are free.
     pub fn pressed(&self) -> bool
         ensures { result ≡ is_pressed self.now.room }

@@ -13,7 +13,6 @@ ghost use Rattle.txn_runner.specs.Steps.{Answers, AnswersCached, Looks, TakesBac
 use crate::faults::{of_fetch, of_tree};
 use crate::runner::Runner;
 use btree_nodes::TreeFault;
-use epoch_room::Fit;
 use fine_model::{Call, FetchFault, RunFault, Why};
 use log_disk::LogDisk;
 use open_txn::{Buckets, answer_all};
@@ -45,14 +44,7 @@ impl<D: LogDisk> Runner<D> {
     fn reads_cached(&self) -> bool
         ensures { OnTrue result (self.now.room.room.is_shut ≡ false) }
     {
-        if self.view.is_some() {
-            return false;
-        }
-        // By a cost that no region has, `fit` need not count the free ones.
-        if let Fit::Shut { epoch: _ } = self.room.fit(u64::MAX) {
-            return false;
-        }
-        true
+        self.view.is_none() && !self.room.is_shut()
     }
 
     /// Answers the calls of a transaction by the nodes that are cached. `None` where one of them is not: what was done to the buckets is taken back then.

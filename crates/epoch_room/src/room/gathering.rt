@@ -63,8 +63,8 @@ impl<D: LogDisk> Room<D> {
     /// the first part and then those of the next. They are retired, and all is synced. No merge is out; views may be.
     ///
     /// True exactly where that was done. False only where there are fewer than two such parts, no region is free, or their rows are not gathered, as `row_gathering::gather` tells;
-    /// then nothing is changed. `Disk` comes only where the disk failed in this call, and shuts the room: nothing is lost where a read failed; where all was read, the region is
-    /// that was being written. `Shut` comes exactly where an earlier call answered `Disk`, and changes nothing. After `NoMemory` the room is as it was, but for what the free region may hold behind its
+    /// then nothing is changed. `Disk` comes only where the disk failed in this call, and shuts the room: nothing is lost where a read failed; where all rows were
+    /// read, the region that was being written is lost, and unsynced. `Shut` comes exactly where an earlier call answered `Disk`, and changes nothing. After `NoMemory` the room is as it was, but for what the free region may hold behind its
     /// closed gate. A crash at any moment of the call leaves an image that shows what was sealed before.
     pub fn gather(&mut self, from: u64) -> Result<bool, RoomFault>
         requires no_job { self.old.room.job ≡ None }

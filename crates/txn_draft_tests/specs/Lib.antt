@@ -1,3 +1,4 @@
+pub mod Cited
 pub mod Committed
 pub mod Once
 pub mod Twice

@@ -1,12 +1,7 @@
 //! One transaction on a bucket that stands for a history.
 
 ghost use Rattle.std.specs.Prelude.{◌≡◌, ◌≤◌, ℕ, List, false};
-ghost use Rattle.fine_model.specs.declared.law.Origin.{Origin};
-ghost use Rattle.fine_model.specs.Bounds.{FitsCall};
-ghost use Rattle.fine_model.specs.History.{Commit};
-ghost use Rattle.fine_model.specs.Pushed.{key_of};
-ghost use Rattle.fine_model.specs.Trees.{bucket_of};
-ghost use Rattle.txn_draft.specs.Drafts.{blank, is_scan};
+ghost use Rattle.txn_draft_tests.specs.Cited.{Commit, FitsCall, Origin, blank, bucket_of, is_scan, key_of};
 ghost use Rattle.txn_draft_tests.specs.Once.{IsReady, IsRun};
 
 use crate::calls::put;
@@ -59,10 +54,9 @@ fn run_once<S: NodeSource>(
 fn a_transaction_is_committed_on_its_own(rt: HostRuntime) -> Result<(), Fail> {
     let alloc = rt.alloc();
     let mut source = Rows::none(alloc, 1);
-    let key = b"c";
-    let mut bucket = Bucket::new(alloc, bucket_of(key));
+    let call = put(alloc, b"c", b"5")?;
+    let mut bucket = Bucket::new(alloc, bucket_of(b"c"));
     let mut draft = Draft::new(alloc, 1, 1);
-    let call = put(alloc, key, b"5")?;
     let done = run_once(&mut source, &mut bucket, &mut draft, &call, 1, 0, 0, true);
     let Ok(Some(entry)) = done else {
         return Err(Fail::from("refused"));

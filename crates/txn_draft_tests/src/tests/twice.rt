@@ -1,14 +1,7 @@
 //! Two transactions on one bucket: one commits, and then one is taken back, while the source tells neither of them.
 
 ghost use Rattle.std.specs.Prelude.{◌≡◌, ◌<◌, ℕ, [], false, List, IfOk, IfSome};
-ghost use Rattle.fine_model.specs.declared.Row.{Row as ModelRow};
-ghost use Rattle.fine_model.specs.Bounds.{FitsCall};
-ghost use Rattle.fine_model.specs.Laws.{AreSmall};
-ghost use Rattle.fine_model.specs.Pushed.{key_of};
-ghost use Rattle.fine_model.specs.Trees.{bucket_of, IsSound};
-ghost use Rattle.node_cache.specs.Cache.{cached, IsResting};
-ghost use Rattle.btree_nodes.specs.Trees.{Serves, Holds};
-ghost use Rattle.txn_draft.specs.Drafts.{blank, is_scan};
+ghost use Rattle.txn_draft_tests.specs.Cited.{AreSmall, FitsCall, Holds, IsResting, IsSound, Row as ModelRow, Serves, blank, bucket_of, cached, is_scan, key_of};
 ghost use Rattle.txn_draft_tests.specs.Twice.{IsTwice};
 
 use crate::calls::put;

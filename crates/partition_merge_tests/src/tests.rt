@@ -8,8 +8,9 @@ ghost use Rattle.partition_merge.specs.Merging.{FitRows};
 ghost use Rattle.partition_merge.specs.Mergers.{AreKept, older_part, newer_part};
 
 use fine_model::{
-    Bytes, Copied, FetchFault, Header, Items, Mark, NoMemory, NodeId, Part, Range, Rec, Row, Rows,
+    Bytes, Copied, FetchFault, Header, Items, NoMemory, NodeId, Part, Rec, Row, Rows,
 };
+use fine_model_tests::ONE_ROW;
 use log_disk::{DiskRefusal, FaultPlan, LogDisk, LogEye, MemDisk, MemEye};
 use node_record::write_row;
 use partition_index::{IndexEntry, entry_bytes};
@@ -149,17 +150,16 @@ fn ten_thousand_nodes_are_merged(rt: HostRuntime) -> Result<(), Fail> {
 const LEN: u64 = 524_288;
 
 /// Ten thousand nodes of one put each.
+const TEN_THOUSAND: Header = Header {
+    rows: 10_000,
+    nodes: 10_000,
+    area: 240_000,
+    ..ONE_ROW
+};
+
 const OLDER: Part = Part {
     region: 0,
-    header: Header {
-        mark: Mark::Two,
-        range: Range { first: 1, last: 1 },
-        rows: 10_000,
-        nodes: 10_000,
-        area: 240_000,
-        regions: 1,
-        more: [0; 7],
-    },
+    header: TEN_THOUSAND,
 };
 
 const NEWER: Part = Part { region: 1, ..OLDER };

@@ -29,16 +29,15 @@ sees_both c =
     seen_opened disk c.eye.new.self.disk c.in_ok-eye.eye.eye both c.regions-regions.ensures.sound c.in_ok-eye.ensures.ok (omega (arith, c.in_ok-disk.ensures.count), (omega (arith, c.in_ok-disk.ensures.count), tt))
     (subst (λ n. LiesIn n both.header) (sym c.in_ok-disk.ensures.len) both_lie)
 
+len_of : (c : goal.After-drop-disk-inside-10) → c.in_ok-eye.eye.eye.region_len ≡ 524288
+len_of c = c.in_ok-eye.ensures.ok.of_regions.1 ∙ c.in_ok-disk.ensures.len
+
 pub returns-clause-older : goal.returns-clause-older
 returns-clause-older c =
-    let eye = c.in_ok-eye.eye.eye in
     let s = sees_both c in
-    let len : eye.region_len ≡ 524288 = c.in_ok-eye.ensures.ok.of_regions.1 ∙ c.in_ok-disk.ensures.len in
-    record { named = (s.named.0, tt); long = map_told _ _ eye.told (λ image h. (h.0, tt)) s.long; lies = subst (λ n. LiesIn n OLDER.header) (sym len) old_lies }
+    record { named = (s.named.0, tt); long = map_told _ _ c.in_ok-eye.eye.eye.told (λ image h. (h.0, tt)) s.long; lies = subst (λ n. LiesIn n OLDER.header) (sym (len_of c)) old_lies }
 
 pub returns-clause-newer : goal.returns-clause-newer
 returns-clause-newer c =
-    let eye = c.in_ok-eye.eye.eye in
     let s = sees_both c in
-    let len : eye.region_len ≡ 524288 = c.in_ok-eye.ensures.ok.of_regions.1 ∙ c.in_ok-disk.ensures.len in
-    record { named = (s.named.1.0, tt); long = map_told _ _ eye.told (λ image h. (h.1.0, tt)) s.long; lies = subst (λ n. LiesIn n NEWER.header) (sym len) new_lies }
+    record { named = (s.named.1.0, tt); long = map_told _ _ c.in_ok-eye.eye.eye.told (λ image h. (h.1.0, tt)) s.long; lies = subst (λ n. LiesIn n NEWER.header) (sym (len_of c)) new_lies }

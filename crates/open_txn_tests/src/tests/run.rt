@@ -2,11 +2,7 @@
 
 ghost use Rattle.std.specs.Prelude.{◌≡◌, ◌≤◌, ℕ, List, All, IfOk};
 ghost use Rattle.std.specs.List.{AllByRecursion};
-ghost use Rattle.fine_model.specs.declared.law.Origin.{Origin};
-ghost use Rattle.fine_model.specs.Bounds.{FitsCall};
-ghost use Rattle.fine_model.specs.History.{Commit};
-ghost use Rattle.fine_model.specs.RowBytes.{FitsKey};
-ghost use Rattle.txn_draft.specs.Drafts.{blank};
+ghost use Rattle.open_txn_tests.specs.Cited.{Commit, FitsCall, FitsKey, Origin, blank};
 ghost use Rattle.open_txn.specs.Opened.{IsReady};
 ghost use Rattle.open_txn_tests.specs.Runs.{IsRun};
 

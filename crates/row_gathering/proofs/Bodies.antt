@@ -1,10 +1,10 @@
 -- What was read of a part is its rows, or no rows are those of the part; and those of parts, one after the other.
-use Rattle.std.proofs.Common.{◌≡◌, ◌≢◌, ◌⊎◌, ℕ, zero, suc, ◌+◌, ◌-◌, ◌*◌, ◌<◌, ◌≤◌, List, [], ◌∷◌, ◌++◌, length, take, drop, refl, sym, ap, ◌∙◌, inl, inr, arith, subst, sum_by, append-nil, append_assoc, length-append, length-drop, length-take, take_at, take-append-drop, slice_range, flat_map, Option, Some, None, IfSome, Ok}
+use Rattle.std.proofs.Common.{◌≡◌, ◌≢◌, ◌⊎◌, ℕ, zero, suc, ◌+◌, ◌-◌, ◌*◌, ◌<◌, ◌≤◌, List, [], ◌∷◌, ◌++◌, length, take, drop, refl, sym, ap, ◌∙◌, inl, inr, arith, subst, sum_by, append-nil, append_assoc, length-drop, length-take, take_at, take-append-drop, slice_range, flat_map, Option, Some, None, IfSome, Ok}
 use Rattle.std.specs.Prelude.{Any, Result, slice_index_or}
 use Rattle.std.specs.List.{AllByRecursion}
 use Rattle.std.proofs.Math.Seq.{take-add}
 use Rattle.std.proofs.lemmas.Grind.{common_steps}
-use Rattle.std.proofs.lemmas.List.{drop-append-le, take_all, take_more, take-append-le}
+use Rattle.std.proofs.lemmas.List.{drop-append-le, take_more, take-append-le}
 use Rattle.std.proofs.lemmas.List.Sums.{sum_by_push}
 use Rattle.fine_model.specs.declared.Header.{Header}
 use Rattle.fine_model.specs.declared.Mark.{Mark}
@@ -13,40 +13,20 @@ use Rattle.fine_model.specs.declared.Part.{Part}
 use Rattle.fine_model.specs.declared.Row.{Row}
 use Rattle.fine_model.specs.Chain.{AreRowsOf}
 use Rattle.fine_model.specs.Merge.{nodes_in}
-use Rattle.fine_model.specs.Regions.{BeginsWithRows, HasHeader, Image, IsBadEntry, IsBadItem, IsBadRow, IsSealed, Place, body_in, body_len, body_start, continuations, index_area, index_bytes, place_of, region_of, row_area}
+use Rattle.fine_model.specs.Regions.{BeginsWithRows, HasHeader, Image, IsBadItem, IsSealed, Place, body_in, body_len, body_start, continuations, index_area, index_bytes, place_of, region_of, row_area}
 use Rattle.fine_model.specs.RowBytes.{FitsRow, kind, last_kind, rows_bytes, rows_len}
 use Rattle.fine_model.proofs.Grammar.{rows_bytes-append, rows_long, sealed_not_bad}
 use Rattle.fine_model.proofs.Longer.{rows_more}
 use Rattle.fine_model.proofs.Order.{all_map}
 use Rattle.fine_model.proofs.Sets.{all_append}
 use Rattle.log_disk.specs.Disk.{Disk, Told}
-use Rattle.log_partition.specs.Bodies.{AreTheRows, HasRows, IsTheIndex}
+use Rattle.log_partition.specs.Bodies.{HasRows}
 use Rattle.log_partition.proofs.Costs.{cost_none, cost_together}
 use Rattle.log_partition.proofs.Sealed.{nodes_some}
 use Rattle.node_record.specs.declared.key.RowAt.{RowAt}
 use Rattle.row_gathering.specs.Gathering.{bodies_len}
-use Rattle.row_gathering.specs.Steps.{AddsBody, AddsRows, AreRead, FindsRows, FitTogether, HasPart, IsBadBody, LacksPart, keys_from}
+use Rattle.row_gathering.specs.Steps.{AddsBody, AddsRows, AreRead, FitTogether, HasPart, IsBadBody, LacksPart, keys_from}
 use Rattle.row_gathering.proofs.KeysFrom.{keys_both}
-
--- ---- one body
-
--- rows and an index are a body
-pub adds_body : (header : Header) (body : List ℕ) (start : ℕ) (old new : List RowAt) → length body ≡ body_len header → (found : FindsRows header body start old new) → IsTheIndex header body found.rows → AddsBody header body start old new
-adds_body header body start old new long found index =
-    let good = found.are.good in
-    let behind : index_area header body ≡ drop header.area body = take_all (14 * header.nodes) (drop header.area body) (omega (arith, long, length-drop header.area body)) in
-    record {
-      rows = found.rows;
-      has = record {
-        count = sym found.are.all;
-        nodes = index.nodes;
-        area = found.are.area;
-        fit = good.fit;
-        ordered = good.ordered;
-        spelled = sym (take-append-drop header.area body) ∙ (λ i. (good.spelled ∙ append-nil (rows_bytes found.rows)) i ++ (sym behind ∙ index.index) i);
-      };
-      keys = found.keys;
-    }
 
 -- ---- what is bad of a body is bad with bytes behind it
 

@@ -1,5 +1,5 @@
 -- An index that is tested entry by entry, as it follows from the keys of the rows.
-use Rattle.std.proofs.Common.{◌≡◌, ◌≢◌, ⊎_elim, ℕ, ◌+◌, ◌-◌, ◌*◌, ◌<◌, ◌≤◌, Bool, true, false, cond, IsTrue, List, [], ◌∷◌, ◌++◌, length, take, drop, get_or, Option, Some, None, refl, sym, ap, ◌∙◌, subst, inl, inr, arith, append_assoc, append-nil, length-append, replicate}
+use Rattle.std.proofs.Common.{◌≡◌, ◌≢◌, ⊎_elim, ℕ, ◌+◌, ◌-◌, ◌*◌, ◌<◌, ◌≤◌, Bool, true, false, cond, IsTrue, List, [], ◌∷◌, ◌++◌, length, take, get_or, Option, Some, None, refl, sym, ap, ◌∙◌, subst, inr, arith, append_assoc, append-nil, length-append, replicate}
 use Rattle.std.specs.Prelude.{IfSome, slice_index_or}
 use Rattle.std.proofs.Math.Seq.{get_or-append_seam}
 use Rattle.std.proofs.lemmas.Bool.{cases_lt}
@@ -65,8 +65,12 @@ wanted rows whole more e i number are =
 
 -- all rows were gone over
 pub rows_all : (start : ℕ) (rows : List Row) (keys : List RowAt) (count : ℕ) → keys ≡ keys_from start rows → length keys ≤ count → take count rows ≡ rows
-rows_all start rows keys count is end = take_all count rows (omega (arith, end, as_many (replicate start 0 ++ rows_bytes rows) rows keys
-    (subst (AreKeysOf (replicate start 0 ++ rows_bytes rows) rows) (sym is) (keys_are (replicate start 0) start rows (sym (length-replicate start 0))))))
+rows_all start rows keys count is end = take_all count rows (omega (
+  arith,
+  end,
+  as_many (replicate start 0 ++ rows_bytes rows) rows keys
+      (subst (AreKeysOf (replicate start 0 ++ rows_bytes rows) rows) (sym is) (keys_are (replicate start 0) start rows (sym (length-replicate start 0)))),
+))
 
 -- ---- an entry more
 
@@ -87,9 +91,9 @@ module _ (header : Header) (body : List ℕ) (rows : List Row) (long : length bo
   stands_not i e w most before other some = ⊎_elim
       (λ here. (header.area + 14 * i, inr (other_entry header body rows long i no_entry are w.there here before (λ same. other (here, same ∙ ap bytes_of w.is)))))
       (λ end.
-          let last : i ≡ header.nodes = omega (arith, end, most) in
-          let some' : 0 < header.nodes = some_named header body rows are some (omega (arith, last, w.there)) in
-          (header.area + 14 * (i - 1), inr (node_left header body rows long i are last (omega (arith, last, some')) w.there before)))
+      let last : i ≡ header.nodes = omega (arith, end, most) in
+      let some' : 0 < header.nodes = some_named header body rows are some (omega (arith, last, w.there)) in
+      (header.area + 14 * (i - 1), inr (node_left header body rows long i are last (omega (arith, last, some')) w.there before)))
       (cases_lt i header.nodes)
 
   module _ (start : ℕ) (keys : List RowAt) (count i : ℕ) (last : Option IndexEntry) (offset : ℕ) (is : keys ≡ keys_from start rows) (here : count < length keys) (s : IndexedSoFar header body rows count i last offset) where

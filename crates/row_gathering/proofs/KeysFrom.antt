@@ -4,7 +4,7 @@ use Rattle.std.proofs.lemmas.List.Sums.{sum_by-cons}
 use Rattle.fine_model.specs.declared.Row.{Row}
 use Rattle.fine_model.specs.RowBytes.{row_bytes, row_len, rows_bytes, rows_len}
 use Rattle.fine_model.proofs.Grammar.{row_long}
-use Rattle.node_record.specs.Keys.{AreKeysOf, IsKeyOf}
+use Rattle.node_record.specs.Keys.{AreKeysOf}
 use Rattle.row_gathering.specs.Steps.{key_from, keys_from}
 
 -- the keys of rows and of others behind them
@@ -27,5 +27,5 @@ keys_are before at (row ∷ rows) first = (
     spelled = ap (λ bytes. take (row_len row) bytes) (drop_at before (row_bytes row ++ rows_bytes rows) at (sym first)) ∙ take_at (row_bytes row) (rows_bytes rows) (row_len row) (row_long row);
   },
   subst (λ bytes. AreKeysOf bytes rows (keys_from (at + row_len row) rows)) (append_assoc before (row_bytes row) (rows_bytes rows))
-  (keys_are (before ++ row_bytes row) (at + row_len row) rows (omega (arith, first, length-append before (row_bytes row), row_long row))),
+      (keys_are (before ++ row_bytes row) (at + row_len row) rows (omega (arith, first, length-append before (row_bytes row), row_long row))),
 )

@@ -1,5 +1,5 @@
 -- What each step of gathering does.
-use Rattle.std.specs.Prelude.{◌≡◌, ℕ, ◌+◌, ◌-◌, ◌*◌, ◌<◌, ◌≤◌, List, [], ◌∷◌, ◌++◌, ◌&&◌, Bool, true, IfSome, IsPermutation, IsTrue, Option, Some, None, drop, length, slice_get, slice_range, take}
+use Rattle.std.specs.Prelude.{◌≡◌, ℕ, ◌+◌, ◌-◌, ◌*◌, ◌<◌, ◌≤◌, List, [], ◌∷◌, ◌++◌, ◌&&◌, Bool, true, IfSome, IsPermutation, IsTrue, Option, Some, None, drop, length, slice_get, take}
 use Rattle.std.specs.List.{AllByRecursion}
 use Rattle.fine_model.specs.declared.Header.{Header}
 use Rattle.fine_model.specs.declared.Mark.TheVariants as mark
@@ -7,15 +7,14 @@ use Rattle.fine_model.specs.declared.Part.{Part}
 use Rattle.fine_model.specs.declared.Row.{Row}
 use Rattle.fine_model.specs.Chain.{AreRowsOf}
 use Rattle.fine_model.specs.Merge.{cost, is_ordered}
-use Rattle.fine_model.specs.Regions.{HasHeader, IsBadItem, IsSealed, body_len, body_start, index_area, index_bytes, row_area}
+use Rattle.fine_model.specs.Regions.{HasHeader, IsBadItem, IsSealed, body_len, index_area, index_bytes, row_area}
 use Rattle.fine_model.specs.RowBytes.{FitsRow, index_entry, row_len, rows_bytes, rows_len, short_header}
 use Rattle.fine_model.specs.VersionLaws.{HaveSameRows}
-use Rattle.log_disk.specs.Disk.{Disk, region_of}
+use Rattle.log_disk.specs.Disk.{Disk}
 use Rattle.log_partition.specs.Bodies.{AreTheRows, HasRows, ReadSoFar}
 use Rattle.node_record.specs.Keys.{AreKeysOf, AreRows, is_key_below}
 use Rattle.node_record.specs.declared.key.RowAt.{RowAt}
 use Rattle.partition_index.specs.Entries.{bytes_of}
-use Rattle.partition_index.specs.Index.{opened}
 use Rattle.partition_index.specs.Indexer.{IsBuilt}
 use Rattle.partition_index.specs.Parts.{LiesIn}
 use Rattle.partition_index.specs.declared.entries.IndexEntry.{IndexEntry}

@@ -76,7 +76,11 @@ fn is_next(last: Option<RowAt>, key: RowAt) -> bool
     ensures { result ≡ is_next last key }
 {
     match last {
-        Some(last) => last.node.cmp(&key.node).then(last.version.cmp(&key.version)).is_lt(),
+        Some(last) => last
+            .node
+            .cmp(&key.node)
+            .then(last.version.cmp(&key.version))
+            .is_lt(),
         None => true,
     }
 }
@@ -111,7 +115,13 @@ fn ended(last: Option<IndexEntry>, node: NodeId) -> Option<IndexEntry>
     ensures { (whole : List IndexEntry) (offset : ℕ) → closed whole result ≡ (opened whole last node offset).0 }
 {
     match last {
-        Some(entry) => { if entry.node == node { None } else { Some(entry) } }
+        Some(entry) => {
+            if entry.node == node {
+                None
+            } else {
+                Some(entry)
+            }
+        }
         None => None,
     }
 }

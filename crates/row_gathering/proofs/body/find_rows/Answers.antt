@@ -1,11 +1,9 @@
 -- Row by row, by their frames.
-use Rattle.std.proofs.Common.{◌≡◌, ◌≢◌, ◌+◌, ◌-◌, ◌<◌, List, ℕ, length, take, refl, sym, ap, ◌∙◌, subst, arith, length-take, eqb-true}
+use Rattle.std.proofs.Common.{◌≡◌, ◌≢◌, ◌+◌, ◌-◌, length, refl, sym, ◌∙◌, arith, length-take, eqb-true}
 use Rattle.std.proofs.lemmas.Bool.{eqb-false}
-use Rattle.fine_model.specs.declared.Row.{Row}
 use Rattle.fine_model.specs.Regions.{row_area}
 use Rattle.fine_model.specs.RowBytes.{row_len}
 use Rattle.node_record.specs.declared.key.RowAt.{RowAt}
-use Rattle.row_gathering.specs.Steps.{FoundSoFar, key_from}
 use Rattle.row_gathering.proofs.FoundRows.{found_all, found_more, found_none, more_left, no_row, not_next}
 use Rattle.row_gathering.proofs.body.find_rows.Goals as goal
 

@@ -1,11 +1,9 @@
 -- Entry by entry the index is tested, as it follows from the keys so far.
-use Rattle.std.proofs.Common.{◌≡◌, ◌≢◌, ℕ, ◌+◌, ◌<◌, List, length, take, Bool, true, false, refl, sym, ap, ◌∙◌, arith, eqb-true, slice_index_or}
+use Rattle.std.proofs.Common.{◌≡◌, ◌≢◌, ℕ, ◌+◌, ◌<◌, List, length, take, refl, arith, eqb-true, slice_index_or}
 use Rattle.std.proofs.lemmas.Bool.{eqb-false}
 use Rattle.fine_model.specs.declared.Row.{Row}
 use Rattle.fine_model.specs.RowBytes.{rows_len}
-use Rattle.log_partition.specs.Bodies.{AreTheRows}
 use Rattle.log_partition.proofs.Keyed.{no_key}
-use Rattle.row_gathering.specs.Steps.{keys_from}
 use Rattle.row_gathering.proofs.Entries.{counts, fewer_nodes, index_is, indexed_more, indexed_none, last_not, not_indexed, offset_small, rows_all}
 use Rattle.row_gathering.proofs.body.has_index.Goals as goal
 

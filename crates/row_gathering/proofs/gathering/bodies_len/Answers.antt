@@ -1,7 +1,5 @@
-use Rattle.std.proofs.Common.{◌≡◌, ◌≢◌, ◌+◌, ◌<◌, length, inl, inr, arith}
-use Rattle.std.proofs.lemmas.List.Sums.{sum_by-take-le}
+use Rattle.std.proofs.Common.{◌≢◌, inl, arith}
 use Rattle.fine_model.specs.declared.Part.{Part}
-use Rattle.fine_model.specs.Regions.{body_len}
 use Rattle.row_gathering.proofs.Bodies.{any_at, no_part}
 use Rattle.row_gathering.proofs.gathering.bodies_len.Goals as goal
 

@@ -1,12 +1,12 @@
 -- What fits together once it was read and arranged, and why nothing is gathered else.
-use Rattle.std.proofs.Common.{◌≡◌, ◌<◌, ◌≤◌, ℕ, List, drop, length, take, sym, subst, inr, arith, rules, IfSome, Option, Some, None}
+use Rattle.std.proofs.Common.{◌≡◌, ◌≤◌, ℕ, List, drop, length, take, sym, subst, inr, arith, IfSome, Option, Some, None}
 use Rattle.std.specs.Prelude.{Any, IfNone}
 use Rattle.std.specs.List.{AllByRecursion}
 use Rattle.fine_model.specs.declared.Part.{Part}
 use Rattle.log_disk.specs.Disk.{Disk}
 use Rattle.node_record.specs.declared.key.RowAt.{RowAt}
 use Rattle.partition_index.specs.Parts.{LiesIn}
-use Rattle.row_gathering.specs.Gathering.{Declines, GathersRows, bodies_len}
+use Rattle.row_gathering.specs.Gathering.{Declines, GathersRows}
 use Rattle.row_gathering.specs.Steps.{AreRead, Arranges, FitTogether, LacksPart, NoneInOrder}
 use Rattle.row_gathering.specs.declared.gathering.Gathered.{Gathered}
 use Rattle.row_gathering.proofs.Answered.{cut_twice, gathers, none_gathered, none_of_part}

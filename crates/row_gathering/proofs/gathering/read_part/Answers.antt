@@ -1,10 +1,7 @@
 -- What was read is the part's body, behind the first bytes.
-use Rattle.std.proofs.Common.{◌≡◌, ◌++◌, ℕ, List, length, drop, sym, subst, arith, rules, drop_at, IfSome}
-use Rattle.std.specs.Prelude.{slice_range}
-use Rattle.fine_model.specs.Regions.{body_len, body_start}
-use Rattle.log_disk.specs.Disk.{region_of}
+use Rattle.std.proofs.Common.{◌≡◌, ◌++◌, ℕ, List, length, drop, arith, rules, drop_at}
+use Rattle.fine_model.specs.Regions.{body_len}
 use Rattle.row_gathering.proofs.Bodies.{IsBodyOf, adds_rows, lacks_part}
-use Rattle.row_gathering.proofs.gathering.read_part.Given.{Over}
 use Rattle.row_gathering.proofs.gathering.read_part.Goals as goal
 
 pub returns-clause-rows : goal.returns-clause-rows

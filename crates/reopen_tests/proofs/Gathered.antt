@@ -25,6 +25,6 @@ same_out from old new (Ok true) g =
     (ap (λ (r : RoomState). r.board) e ∙ same.0, ap (λ (r : RoomState). r.job) e ∙ same.1)
 same_out from old new (Ok false) g = out_of old.room new.room (ap (λ (v : RoomValue). v.room) g.1)
 same_out from old new (Err room_fault.Disk) (inl g) = (ap (λ (r : RoomState). r.board) g.0.1.room, ap (λ (r : RoomState). r.job) g.0.1.room)
-same_out from old new (Err room_fault.Disk) (inr g) = (ap (λ (r : RoomState). r.board) g.1.room, ap (λ (r : RoomState). r.job) g.1.room)
+same_out from old new (Err room_fault.Disk) (inr g) = (ap (λ (r : RoomState). r.board) g.0.1.room, ap (λ (r : RoomState). r.job) g.0.1.room)
 same_out from old new (Err (room_fault.Shut epoch)) g = out_of old.room new.room (ap (λ (v : RoomValue). v.room) g.2)
 same_out from old new (Err room_fault.NoMemory) g = (ap (λ (r : RoomState). r.board) g.1.room, ap (λ (r : RoomState). r.job) g.1.room)

@@ -21,7 +21,7 @@ use Rattle.partition_hold.specs.Views.{ViewValue, opened}
 use Rattle.epoch_room.specs.Meaning.{Stands, StandsTold, StandsWhere}
 use Rattle.epoch_room.specs.Value.{RoomValue}
 use Rattle.epoch_room.specs.Whole.{HoldsParts}
-use Rattle.epoch_room.proofs.Counting.{all_front}
+use Rattle.fine_model.proofs.Zip.{all_left}
 use Rattle.room_shelf.specs.Shelves.{Fails, HasView, IsClean, IsLater, IsOut, LogLaw, ReadsLaw, SeesLive, ShowsLog, TellsLaw, shelf, tells_log, total}
 
 -- ---- a view tells the rows of the live parts
@@ -151,7 +151,7 @@ log_law room out before told first e history whole open_room at_entry now stands
   record {
     image = told.bytes;
     is_told = image_is;
-    headers = subst (λ n. AllByRecursion (λ (p : Part). HasHeader n told.bytes p.region p.header) room.room.parts) (sym len) (all_front (λ (p : Part). HasHeader room.disk.region_len told.bytes p.region p.header) room.room.parts room.room.retired held.headers);
+    headers = subst (λ n. AllByRecursion (λ (p : Part). HasHeader n told.bytes p.region p.header) room.room.parts) (sym len) (all_left (λ (p : Part). HasHeader room.disk.region_len told.bytes p.region p.header) room.room.parts room.room.retired held.headers);
     are_rows = s.stands.live.are_rows;
   },
   s.stands.live.agrees,

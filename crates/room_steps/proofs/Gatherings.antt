@@ -78,7 +78,7 @@ module _ (old mid new : ShelfValue) (r : Rested old mid) (none : new.view ≡ No
       rest_on mid.room.room mid.room.room new.room.room (itself mid.room.room) (ap (λ (x : RoomState). x.job) e) (ap (λ (x : RoomState). x.board) e) (ap (λ (x : RoomState). x.sealed) e) (ap (λ (x : RoomState). x.places) e) (ap (λ (x : RoomState). x.waiting) e)
       (ap (λ (x : RoomState). x.used) e) (ap (λ (x : RoomState). x.open_rows) e)
   rest (Err room_fault.Disk) (inr g) =
-      let e = g.1.room in
+      let e = g.0.1.room in
       rest_on mid.room.room mid.room.room new.room.room (itself mid.room.room) (ap (λ (x : RoomState). x.job) e) (ap (λ (x : RoomState). x.board) e) (ap (λ (x : RoomState). x.sealed) e) (ap (λ (x : RoomState). x.places) e) (ap (λ (x : RoomState). x.waiting) e)
       (ap (λ (x : RoomState). x.used) e) (ap (λ (x : RoomState). x.open_rows) e)
   rest (Err (room_fault.Shut epoch)) g =
@@ -94,7 +94,7 @@ module _ (old mid new : ShelfValue) (r : Rested old mid) (none : new.view ≡ No
   entry (Ok true) g = g.room.1.entry
   entry (Ok false) g = ap (λ (v : RoomValue). v.entry) g.1
   entry (Err room_fault.Disk) (inl g) = g.0.1.entry
-  entry (Err room_fault.Disk) (inr g) = g.1.entry
+  entry (Err room_fault.Disk) (inr g) = g.0.1.entry
   entry (Err (room_fault.Shut epoch)) g = ap (λ (v : RoomValue). v.entry) g.2
   entry (Err room_fault.NoMemory) g = g.1.entry
 
@@ -108,7 +108,7 @@ module _ (old mid new : ShelfValue) (r : Rested old mid) (none : new.view ≡ No
       by (inl s) =
           kept_made mid.room new.room r.leaves.whole whole s.0.0 s.0.1.regions (take 1 mid.room.room.free) (free_apart mid.room r.leaves.whole) g.read (ap (λ (x : RoomState). x.open_rows) s.0.1.room) (ap (λ (x : RoomState). x.parts) s.0.1.room)
       by (inr s) =
-          kept_made mid.room new.room r.leaves.whole whole s.0 s.1.regions (take 1 mid.room.room.free) (free_apart mid.room r.leaves.whole) g.read (ap (λ (x : RoomState). x.open_rows) s.1.room) (ap (λ (x : RoomState). x.parts) s.1.room)
+          kept_made mid.room new.room r.leaves.whole whole s.0.0 s.0.1.regions (take 1 mid.room.room.free) (free_apart mid.room r.leaves.whole) g.read (ap (λ (x : RoomState). x.open_rows) s.0.1.room) (ap (λ (x : RoomState). x.parts) s.0.1.room)
   makes (Err (room_fault.Shut epoch)) g =
       made_same mid.room new.room (ap (λ (v : RoomValue). v.room.open_rows) g.room.2) (ap (λ (v : RoomValue). v.room.image) g.room.2) (ap (λ (v : RoomValue). v.room.parts) g.room.2)
   makes (Err room_fault.NoMemory) g =
@@ -142,7 +142,7 @@ module _ (old mid new : ShelfValue) (r : Rested old mid) (none : new.view ≡ No
 
   faults : (fault : RoomFault) → GathersOr from mid.room new.room (Err fault) → (new.room ≡ mid.room → new ≡ mid) → FaultOf old new (of_room fault)
   faults room_fault.Disk (inl g) same = inr (failed_on old mid new r.none_failed (has_failed mid new r.none none g.0.2.faults g.0.2.no_lower.0 g.0.2.no_lower.1))
-  faults room_fault.Disk (inr g) same = inr (failed_on old mid new r.none_failed (has_failed mid new r.none none g.2.faults g.2.no_lower.0 g.2.no_lower.1))
+  faults room_fault.Disk (inr g) same = inr (failed_on old mid new r.none_failed (has_failed mid new r.none none g.0.2.faults g.0.2.no_lower.0 g.0.2.no_lower.1))
   faults (room_fault.Shut epoch) g same = inl (was_shut old mid new r g.0 (same g.2))
   faults room_fault.NoMemory g same = well_on old mid new r.none_failed (well_counts mid new r.none none g.2 g.0 (ap (λ (x : RoomState). x.is_shut) g.1.room ∙ g.0))
 

@@ -39,7 +39,7 @@ use Rattle.partition_hold.specs.Views.{ViewValue}
 use Rattle.epoch_room.specs.Steps.{appended}
 use Rattle.epoch_room.specs.Value.{RoomValue}
 use Rattle.epoch_room.specs.Whole.{IsWhole}
-use Rattle.epoch_room.proofs.Counting.{all_back, all_front}
+use Rattle.fine_model.proofs.Zip.{all_left, all_right}
 use Rattle.room_steps.specs.Made.{LivesOn, MadeOn}
 use Rattle.open_txn.specs.Buckets.{BucketsValue, StandAll}
 use Rattle.open_txn.specs.Opened.{LeavesEach}
@@ -336,10 +336,10 @@ module _ (log : Origin) (room : RoomValue) (opened new : BucketsValue) (history 
 
   waits_then : (id : NodeId) → IsUpTo room.room.sealed id (history ++ own ∷ []) → rows_of id (room.room.open_rows ++ own.entry.rows) ≡ []
   waits_then id up = rows_of-append id room.room.open_rows own.entry.rows
-      ∙ (λ i. o.follows.waits id (all_front (λ c. has_row_on id c ≡ true → c.epoch ≤ room.room.sealed) history (own ∷ []) up) i ++ none_on id own.entry.rows (by (has_row_on id own) refl) i)
+      ∙ (λ i. o.follows.waits id (all_left (λ c. has_row_on id c ≡ true → c.epoch ≤ room.room.sealed) history (own ∷ []) up) i ++ none_on id own.entry.rows (by (has_row_on id own) refl) i)
     where
       on_it : has_row_on id own ≡ true → own.epoch ≤ room.room.sealed
-      on_it = (all_back (λ c. has_row_on id c ≡ true → c.epoch ≤ room.room.sealed) history (own ∷ []) up).0
+      on_it = (all_right (λ c. has_row_on id c ≡ true → c.epoch ≤ room.room.sealed) history (own ∷ []) up).0
 
       by : (t : Bool) → has_row_on id own ≡ t → has_row_on id own ≡ false
       by true e = absurd (let l = on_it e in omega (arith, l, next))

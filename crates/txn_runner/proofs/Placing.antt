@@ -23,7 +23,7 @@ use Rattle.damage_laws.specs.Places.{AreKeptOrGood, IsGood, IsKept, IsUnchanged,
 use Rattle.damage_laws.proofs.Kept.{entry_blamed, row_blamed}
 use Rattle.epoch_room.specs.Value.{RoomValue, all_regions}
 use Rattle.epoch_room.specs.Whole.{IsWhole}
-use Rattle.epoch_room.proofs.Counting.{all_back, all_front}
+use Rattle.fine_model.proofs.Zip.{all_left, all_right}
 use Rattle.epoch_room.proofs.Freeing.{held_now}
 use Rattle.room_merges.specs.Near.{BlamedFirst, StandIn}
 use Rattle.room_merges.specs.Work.{BlamedBy}
@@ -47,8 +47,8 @@ each_among front (r ∷ back) = (Contains-append_right front (r ∷ back) r (0, 
 
 of_part : (P : ℕ → Type 0) (parts : List Part) (p : Part) → AllByRecursion P (all_regions parts) → Contains parts p → AllByRecursion P (regions_of p)
 of_part P [] p all (k, low, is) = absurd (omega (arith, low))
-of_part P (q ∷ parts) p all (zero, low, is) = subst (λ x. AllByRecursion P (regions_of x)) is (all_front P (regions_of q) (all_regions parts) all)
-of_part P (q ∷ parts) p all (suc k, low, is) = of_part P parts p (all_back P (regions_of q) (all_regions parts) all) (k, omega (arith, low), is)
+of_part P (q ∷ parts) p all (zero, low, is) = subst (λ x. AllByRecursion P (regions_of x)) is (all_left P (regions_of q) (all_regions parts) all)
+of_part P (q ∷ parts) p all (suc k, low, is) = of_part P parts p (all_right P (regions_of q) (all_regions parts) all) (k, omega (arith, low), is)
 
 module _ (room : RoomValue) (whole : IsWhole room) (opened : room.room.is_shut ≡ false) (before now : Image) (is_now : room.room.image ≡ Some now) (parts : List Part) (good : AreKeptOrGood room.room.region_len before now parts room.room.parts) where
   len : room.room.region_len ≡ room.disk.region_len
@@ -64,9 +64,9 @@ module _ (room : RoomValue) (whole : IsWhole room) (opened : room.room.is_shut �
   module _ (p : Part) (there : Contains room.room.parts p) where
     below : AllByRecursion (λ r. r < room.disk.regions) (regions_of p)
     below = of_part (λ r. r < room.disk.regions) (room.room.parts ++ room.room.retired) p
-        (all_back (λ r. r < room.disk.regions) room.room.lost (all_regions (room.room.parts ++ room.room.retired))
-        (all_back (λ r. r < room.disk.regions) (job_left room.room) (room.room.lost ++ all_regions (room.room.parts ++ room.room.retired))
-        (all_back (λ r. r < room.disk.regions) (option_to_list room.target) (job_left room.room ++ (room.room.lost ++ all_regions (room.room.parts ++ room.room.retired))) whole.apart.below)))
+        (all_right (λ r. r < room.disk.regions) room.room.lost (all_regions (room.room.parts ++ room.room.retired))
+        (all_right (λ r. r < room.disk.regions) (job_left room.room) (room.room.lost ++ all_regions (room.room.parts ++ room.room.retired))
+        (all_right (λ r. r < room.disk.regions) (option_to_list room.target) (job_left room.room ++ (room.room.lost ++ all_regions (room.room.parts ++ room.room.retired))) whole.apart.below)))
         (Contains-append_left room.room.parts room.room.retired p there)
 
     pub header : HasHeader room.room.region_len now p.region p.header

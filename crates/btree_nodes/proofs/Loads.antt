@@ -106,12 +106,6 @@ nothing_loaded old new n same none here = absurd (true≢false (sym here ∙ ap 
 pub among_none : (old new : Cache) (numbers : List ℕ) → SameNodes old new → LoadsAmong old new numbers
 among_none old new numbers same = record { each = λ n none here. nothing_loaded old new n (same n) none here }
 
--- one number was
-pub among_one : (tells : List Row → Type 0) (finds : Finds) (upper number : ℕ) (old new : Cache) → IsLoad tells finds upper number old new → LoadsAmong old new (number ∷ [])
-among_one tells finds upper number old new load = record {
-  each = λ n none here. ⊎_elim (λ same. subst (Contains (number ∷ [])) (sym same) (contains_first number [])) (λ other. nothing_loaded old new n (load.others n other) none here) (same_or_not n number);
-}
-
 pub among_more : (old new : Cache) (xs ys : List ℕ) → ((n : ℕ) → Contains xs n → Contains ys n) → LoadsAmong old new xs → LoadsAmong old new ys
 among_more old new xs ys on among = record { each = λ n none here. on n (among.each n none here) }
 

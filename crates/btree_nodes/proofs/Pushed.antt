@@ -152,10 +152,6 @@ module _ (b m new : Cache) (k : ℕ) (kept : Cached) (was : cached b k ≡ None)
     saved = inr (λ q. ap (λ c. is_some (original c q)) put ∙ ap (λ c. is_some (original c q)) saved ∙ saving_saved b k q);
   }
 
-pub on_ok_or : {P Q : Type 0} {A E : Type 0} (r : Result A E) → (P → Q) → OnOk r P → OnOk r Q
-on_ok_or (Ok a) f h = f h
-on_ok_or (Err e) f h = tt
-
 -- a place is held, or memory runs out
 module _ (b m new : Cache) (k : ℕ) (kept : Cached) (was : cached b k ≡ None) (saved : m ≡ saving b k) (same_before : (n : ℕ) → before m n ≡ before b n) (is_saved : IsSaved m k) where
   pub hold_saves : {A E : Type 0} (r : Result A E) → OnOk r (new ≡ with_node m k kept) → OnOk r (cached new k ≡ Some kept) → OnOk r ((n : ℕ) → n ≢ k → cached new n ≡ cached m n) → OnErr r (new ≡ m) → Saves b new

@@ -68,15 +68,6 @@ fault_first mid log c P P' F (BucketFull m d) h = absurd h
 fault_first mid log c P P' F (Number id) h = absurd h
 fault_first mid log c P P' F NoMemory h = saves_itself mid mid refl
 
--- what follows on the way loads nothing
-pub no_source : {A : Type 0} (mid new : Cache) (log log' : List Row) (c : Call) (P : A → Type 0) (F : FetchFault → Type 0) (r : Result A TreeFault) → Outcome mid new log log' c P (λ _. ⊥) r → Outcome mid new log log' c P F r
-no_source mid new log log' c P F (Ok a) h = h
-no_source mid new log log' c P F (Err (Source f)) h = absurd h.0
-no_source mid new log log' c P F (Err (Unfit id)) h = h
-no_source mid new log log' c P F (Err (BucketFull m d)) h = h
-no_source mid new log log' c P F (Err (Number id)) h = h
-no_source mid new log log' c P F (Err NoMemory) h = h
-
 -- and no load failed on the way, where what follows is no failed load
 pub still_clean : {A : Type 0} (mid new : Cache) (log log' : List Row) (c : Call) (P : A → Type 0) (r : Result A TreeFault) (C : Type 0) → C → Outcome mid new log log' c P (λ _. ⊥) r → OnCleanAnswer r C
 still_clean mid new log log' c P (Ok a) C clean h = clean
@@ -104,15 +95,6 @@ clean_map (Err (Unfit id)) C D on h = on h
 clean_map (Err (BucketFull m d)) C D on h = on h
 clean_map (Err (Number id)) C D on h = on h
 clean_map (Err NoMemory) C D on h = on h
-
--- the leaf was reached, and what is used then is
-pub reached_ok : {A : Type 0} (r : Result A TreeFault) (P : Type 0) → P → OnReached r P
-reached_ok (Ok a) P h = h
-reached_ok (Err (Source f)) P h = tt
-reached_ok (Err (Unfit id)) P h = tt
-reached_ok (Err (BucketFull m d)) P h = h
-reached_ok (Err (Number id)) P h = h
-reached_ok (Err NoMemory) P h = tt
 
 pub reached_fault : (A B : Type 0) (mid : Cache) (key : List ℕ) (Q : B → Type 0) (F : FetchFault → Type 0) (e : TreeFault) (P : Type 0) → Answers mid key Q F (Err e) → OnReached {A = A} (Err e) P
 reached_fault A B mid key Q F (Source f) P h = tt

@@ -22,22 +22,6 @@ take_both {A = A} n [] ys = ap (λ k. take k ys) (let e : n ≡ n - 0 = omega ar
 take_both {A = A} zero (x ∷ xs) ys = ap (λ k. take k ys) (let e : 0 ≡ 0 - length (x ∷ xs) = omega arith in e)
 take_both {A = A} (suc n) (x ∷ xs) ys = ap (λ (zs : List A). x ∷ zs) (take_both n xs ys) ∙ ap (λ k. x ∷ (take n xs ++ take k ys)) (let e : n - length xs ≡ suc n - length (x ∷ xs) = omega arith in e)
 
-pub longer_same : (xs : List Pair) → IsLonger xs xs
-longer_same xs = record { more = []; is = sym (append-nil xs) }
-
-pub longer_on : (a b c : List Pair) → IsLonger a b → IsLonger b c → IsLonger a c
-longer_on a b c first second = record { more = first.more ++ second.more; is = second.is ∙ ap (λ (xs : List Pair). xs ++ second.more) first.is ∙ append_assoc a first.more second.more }
-
-pub taken_longer : (wanted left : ℕ) (old new pairs : List Pair) → IsTaken wanted left old new pairs → IsLonger old new
-taken_longer wanted left old new pairs taken = record { more = take wanted pairs; is = taken.is }
-
--- a longer list cut to its old length
-pub cut_back : (old new : List Pair) → IsLonger old new → take (length old) new ≡ old
-cut_back old new longer = ap (take (length old)) longer.is ∙ take-append_seam old longer.more
-
-pub not_shorter : (old new : List Pair) → IsLonger old new → length old ≤ length new
-not_shorter old new longer = let e = ap length longer.is in let l = length-append old longer.more in omega (arith, e, l)
-
 -- nothing is taken where nothing is wanted, or nothing stands
 pub taken_none : (wanted : ℕ) (old : List Pair) → IsTaken wanted wanted old old []
 taken_none wanted old = record { is = sym (append-nil old) ∙ ap (λ (xs : List Pair). old ++ xs) (sym (take_nothing wanted)); rest = omega arith }

@@ -35,11 +35,6 @@ rule_for k = filled (option_named (name_of k))
 abbrev pub which_of : Text → Option Which
 which_of n = if bytes_eq (codes "group") n then Some the_group else (if bytes_eq (codes "tries") n then Some the_tries else (if bytes_eq (codes "keep") n then Some the_keep else None))
 
-pub by_id : (k : Which) → arg_by_id run_rules (name_of k) ≡ Some (rule_for k)
-by_id the_group = refl
-by_id the_tries = refl
-by_id the_keep = refl
-
 pub by_long : (n : Text) → arg_by_long run_rules n ≡ option_map rule_for (which_of n)
 by_long n = go (bytes_eq (codes "group") n) (bytes_eq (codes "tries") n) (bytes_eq (codes "keep") n) refl refl refl
   where

@@ -53,10 +53,6 @@ module _ {V : Type 0} (view : V → ViewState) where
 
 -- ---- what was given up
 
--- what two seats gave up that became one
-pub given_both : (y z : Reads Turn) → given_of (both y z) ≡ given_of y + given_of z
-given_both y z = sum_by-append (λ (m : BoxNote Turn). m.given_up) y.notes z.notes
-
 one_given : (ms : List (BoxNote Turn)) (m : BoxNote Turn) → ms ≡ m ∷ [] → sum_by (λ m. m.given_up) ms ≡ first_given ms
 one_given ms m e = ap (sum_by (λ (m : BoxNote Turn). m.given_up)) e ∙ (let s : 0 + m.given_up ≡ m.given_up = omega arith in s) ∙ ap first_given (sym e)
 

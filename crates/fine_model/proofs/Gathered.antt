@@ -104,10 +104,6 @@ one_lower n m p (q ∷ pairs) up few =
     let long = ap length all in
     let a = length-append (pairs_below p.0 m) (p ∷ filter (λ x. is_below x.0 q.0) (pairs_above p.0 m)) in omega (arith, long, a, few)
 
-lower_few : (n k : ℕ) (m pairs : List Pair) → n ≤ k → LowerThanFirst k m pairs → LowerThanFirst n m pairs
-lower_few n k m [] le low = tt
-lower_few n k m (p ∷ pairs) le low = omega (arith, le, low)
-
 take_front : (n : ℕ) (xs ys : List Pair) → n ≤ length xs → take n (xs ++ ys) ≡ take n xs
 take_front zero xs ys le = refl
 take_front (suc n) [] ys le = absurd (omega (arith, le))

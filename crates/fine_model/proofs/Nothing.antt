@@ -41,11 +41,6 @@ pub none_any : {A : Type 0} (p : A → Bool) (xs : List A) → AllByRecursion (�
 none_any p [] all = refl
 none_any p (x ∷ xs) all = ap (λ b. b || list_any p xs) all.0 ∙ none_any p xs all.1
 
--- tests that agree at each item find as much
-pub any_alike : {A : Type 0} (p q : A → Bool) (xs : List A) → AllByRecursion (λ x. p x ≡ q x) xs → list_any p xs ≡ list_any q xs
-any_alike p q [] all = refl
-any_alike p q (x ∷ xs) all = ap (λ b. b || list_any p xs) all.0 ∙ ap (λ b. q x || b) (any_alike p q xs all.1)
-
 pub any_flat : {A B : Type 0} (p : B → Bool) (f : A → List B) (xs : List A) → AllByRecursion (λ x. list_any p (f x) ≡ false) xs → list_any p (flat_map f xs) ≡ false
 any_flat p f [] all = refl
 any_flat {A} {B} p f (x ∷ xs) all = any_joined (f x) all.0 (any_flat p f xs all.1)

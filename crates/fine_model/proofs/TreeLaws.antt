@@ -18,12 +18,6 @@ leaf_whole bucket bounds n leaf broken = true≢false (sym leaf ∙ ap (is_leaf 
 inner_whole : (P : Bounds → ℕ → Type 0) (bounds : Bounds) (n : Node) → IsInner P bounds n → n ≢ node.Broken
 inner_whole P bounds n inner broken = subst (IsInner P bounds) broken inner
 
--- a node of a subtree is not broken
-subtree_whole : (height bucket : ℕ) (nodes : ℕ → Content) (bounds : Bounds) (number : ℕ) → IsSubtree height bucket nodes bounds number → (nodes number).0 ≢ node.Broken
-unfolding IsSubtree
-subtree_whole zero bucket nodes bounds number subtree = leaf_whole bucket bounds (nodes number).0 subtree
-subtree_whole (suc height) bucket nodes bounds number subtree = inner_whole (IsSubtree height bucket nodes) bounds (nodes number).0 subtree
-
 between_map : (P Q : Bounds → ℕ → Type 0) (imply : (b : Bounds) (k : ℕ) → P b k → Q b k) (bounds : Bounds) (seps : List (List ℕ)) (kids : List ℕ) → AllBetween P bounds seps kids → AllBetween Q bounds seps kids
 unfolding AllBetween
 between_map P Q imply bounds [] [] all = all

@@ -60,17 +60,8 @@ use Rattle.node_cache.proofs.marks.Marks.TheSendSync as marks
 pub noted : IsSend (snapshot.the_row cache.the_row)
 noted = search rules depth 20
 
-pub noted_as : IsSend (snapshot.the_row cache.the_row)
-noted_as = search (sendable, crosses) depth 20
-
-pub step_send : IsSend steps.the_row
-step_send = step.the_send
-
 pub steps_send : IsSend (list.the_row steps.the_row)
 steps_send = items.the_send steps.the_row step.the_send
-
-pub number_send : IsSend denote.Builtin.u64
-number_send = search rules
 
 pub undo_send : IsSend undo.the_row
 undo_send = declared_send undo.the_type (as_row_send (snapshot.the_field cache.the_row) noted, (search rules, (search rules, (as_row_send (list.the_field steps.the_row) steps_send, (step.the_send, tt)))))

@@ -278,10 +278,6 @@ none_posted x p room c = record {
   posted = λ seat least most. absurd (omega (arith, least, most));
 }
 
--- posting views keeps the merge that is out
-pub job_posted : (found : RoomState) (new : RoomState) → new ≡ with_posted found new → KeepsJob found new
-job_posted found new same = record { job = ap (λ (r : RoomState). r.job) same; held = λ j is. ap (λ (r : RoomState). held_for r.image j) same }
-
 -- and the chain
 chain_posted : (found new : RoomState) → new ≡ with_posted found new → KeepsChain found new
 chain_posted found new same = record {
@@ -293,9 +289,6 @@ chain_posted found new same = record {
 
 keeps_more : (a b c : RoomState) → KeepsChain a b → KeepsChain b c → KeepsChain a c
 keeps_more a b c s t = record { parts = t.parts ∙ s.parts; sealed = t.sealed ∙ s.sealed; waiting = t.waiting ∙ s.waiting; places = t.places ∙ s.places }
-
-pub clean_below : (x : Beginning) (i : ℕ) (found : RoomState) (room : RoomValue) (p : RoomPass) → PostedBelow x i found room p → IsCleanTurn x room p
-clean_below x i found room p b = record { note = b.note; turn = b.turn; none_failed = b.none_failed }
 
 -- a view could not be made for one of them
 pub each_lacks : (x : Beginning) (i seat : ℕ) (first old new : RoomValue) (p p' : RoomPass) (fault : RoomFault) (b : PostedBelow x i first.room old p) → (0 < i → old.room.is_shut ≡ false) → (i ≡ 0 → old ≡ first)
@@ -321,11 +314,3 @@ each_lacks x i seat first old new p p' room_fault.NoMemory b is_open at_first s 
   ap (λ (r : RoomValue). r.room.is_shut) s.2.1 ∙ s.2.0,
   subst (λ (r : RoomValue). KeepsChain first.room r.room) (sym s.2.1) (chain_posted first.room old.room b.same),
 )
-
-pub stays_lacks : (x : Beginning) (seat : ℕ) (t : TurnNote) (old new : RoomValue) (p p' : RoomPass) (fault : RoomFault) → PostsOr x seat t old new p p' (Err fault) → Stays p p'
-stays_lacks x seat t old new p p' fault s = subst (Stays p) (sym s.0) (stays_none p)
-
-pub job_lacks : (old new : RoomValue) (fault : RoomFault) → LacksView old new fault → KeepsJob old.room new.room
-job_lacks old new room_fault.Disk s = s.3
-job_lacks old new (room_fault.Shut epoch) s = subst (λ (r : RoomValue). KeepsJob old.room r.room) (sym s.2) (job_itself old.room)
-job_lacks old new room_fault.NoMemory s = subst (λ (r : RoomValue). KeepsJob old.room r.room) (sym s.1) (job_itself old.room)

@@ -51,11 +51,6 @@ seal_fails x p old mid room_fault.NoMemory c s = (
   inl s.4,
 )
 
-pub job_sealed : (old mid : RoomValue) (fault : RoomFault) → SealsWaitingOr old mid (Err fault) → KeepsJob old.room mid.room
-job_sealed old mid room_fault.Disk s = s.0.job
-job_sealed old mid (room_fault.Shut epoch) s = subst (λ (r : RoomValue). KeepsJob old.room r.room) (sym s.2) (job_itself old.room)
-job_sealed old mid room_fault.NoMemory s = s.0.job
-
 -- ---- posting
 
 -- what is sealed stays where a view could not be posted

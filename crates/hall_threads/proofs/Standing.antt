@@ -31,11 +31,6 @@ four_free : length (free_regions zero_image) ≡ 4
 unfolding zero_image is_free
 four_free = refl
 
--- what the target of the day's job holds
-four_held : held_for (Some zero_image) day_job ≡ Some (0 ∷ 0 ∷ 0 ∷ 0 ∷ [])
-unfolding zero_image body_in
-four_held = refl
-
 never_stuck : (room : DayRoom) → IsStuck (room_state room) → ⊥
 never_stuck room s = let few = subst (λ i. length (free_regions i) < 2) (some_same s.image zero_image (sym s.told)) s.few_free in let four = four_free in absurd (omega arith)
 

@@ -37,13 +37,6 @@ only_now told image since =
       | inr is ↦ is
     ]
 
--- an image since a clock value is one since each earlier one
-pub since_earlier : (earlier clock : ℕ) (told : Told) (image : Image) → earlier ≤ clock → IsImageSince clock told image → IsImageSince earlier told image
-since_earlier earlier clock told image h since =
-    let apart : earlier + (clock - earlier) ≡ clock = omega arith in
-    any_behind (λ moment. IsImageAt moment image) (clock - earlier) (drop earlier (told.past ++ told.present ∷ []))
-    (subst (Any (λ moment. IsImageAt moment image)) (sym (drop-drop (clock - earlier) earlier (told.past ++ told.present ∷ []) ∙ ap (λ n. drop n (told.past ++ told.present ∷ [])) apart)) since)
-
 -- the moments from a clock value on, once time has gone on
 moments_on : (clock : ℕ) (old new : Told) (moment : Moment) → clock ≤ clock_of old → HasGoneOn old new moment
     → drop clock (new.past ++ new.present ∷ []) ≡ drop clock (old.past ++ old.present ∷ []) ++ new.present ∷ []

@@ -23,13 +23,6 @@ opens_open {regions} {eye} {old} {new} o = record {
     seen (Some told) None h = absurd h
     seen (Some told) (Some image) h = λ k d _. ap (λ i. region_of i (get_or eye.regions k d)) h
 
--- what leaves the eyes and what is told as it was leaves the eye open
-pub same_open : {eye : Eye} {old new : Disk} → new.eyes ≡ old.eyes → new.told ≡ old.told → IsOpenOn eye old → IsOpenOn eye new
-same_open {eye} eyes told is = record {
-  listed = subst (λ es. Contains es (record { number = eye.number; regions = eye.regions })) (sym eyes) is.listed;
-  seen = subst (λ t. SameSeen eye.regions t eye.told) (sym told) is.seen;
-}
-
 -- another eye that is opened
 pub opens_kept : {regions : List ℕ} {eye other : Eye} {old new : Disk} → Opens regions other old new → IsOpenOn eye old → IsOpenOn eye new
 opens_kept {regions} {eye} {other} {old} {new} o is = record {
@@ -67,13 +60,6 @@ syncs_kept {eye} {old} {new} s is = record {
     bytes : (a b : Told) (r : ℕ) → HasSynced old a b → region_of b.bytes r ≡ region_of a.bytes r
     bytes a b r (inl nothing) = ap (λ (t : Told). region_of t.bytes r) nothing.1
     bytes a b r (inr synced) = ap (λ i. region_of i r) synced.1
-
--- a read through the eye
-pub looks_kept : {region at : ℕ} {out : List ℕ} {failed : Type 0} {old new : Eye} {disk : Disk} → Looks region at out failed old new → IsOpenOn old disk → IsOpenOn new disk
-looks_kept {disk = disk} l is = record {
-  listed = rw (l.same.0, l.same.1) is.listed;
-  seen = rw (l.same.1, l.same.3) is.seen;
-}
 
 -- an element that a filter keeps
 filter_has : {A : Type 0} (p : A → Bool) (xs : List A) (x : A) (k : ℕ) → p x ≡ true → k < length xs → get_or xs k x ≡ x → Contains (filter p xs) x

@@ -52,15 +52,6 @@ grows_on old new moment gone = record {
   kept = λ clock image h is. since_kept clock old new moment image h gone is;
 }
 
--- two steps
-pub grows_then : (old mid new : Told) → Grows old mid → Grows mid new → (clock : ℕ) (image : Image) → clock ≤ clock_of old → IsImageSince clock new image
-    → IsImageSince clock old image ⊎ (IsImageNow mid image ⊎ IsImageNow new image)
-grows_then old mid new first second clock image h is =
-    elim (second.since clock image (omega (arith, h, first.later)) is) [
-      | inl earlier ↦ elim (first.since clock image h earlier) [ inl before ↦ inl before | inr now ↦ inr (inl now) ]
-      | inr now ↦ inr (inr now)
-    ]
-
 pub grows_told : (old new : Disk) → new.told ≡ old.told → GrowsOn old new
 grows_told old new e = both_same Grows grows_same old.told new.told e
 
@@ -110,40 +101,6 @@ same_outside_then first second = record {
   after = second.after ∙ first.after;
 }
 
--- a range apart from one that differs
-pub same_outside_range : {r from end : ℕ} {old new : Image} (low high : ℕ) → (high ≤ from) ⊎ (end ≤ low) → SameOutside r from end old new
-    → slice_range (region_of new r) low high ≡ slice_range (region_of old r) low high
-same_outside_range {r} {from} {end} {old} {new} low high apart same = elim apart [ inl under ↦ below under | inr over ↦ above over ]
-  where
-    cut : (xs : List ℕ) → low ≤ high → high ≤ from → slice_range xs low high ≡ drop low (take high (take from xs))
-    cut xs ordered under =
-        let whole : low + (high - low) ≡ high = omega arith in
-        sym (drop-take low (high - low) xs) ∙ ap (λ n. drop low (take n xs)) whole ∙ ap (drop low) (sym (take-take high from xs under))
-
-    below : high ≤ from → slice_range (region_of new r) low high ≡ slice_range (region_of old r) low high
-    below under = elim (cases_lt high low) [
-      | inl none ↦ let zero : high - low ≡ 0 = omega arith in ap (λ n. take n (drop low (region_of new r))) zero ∙ ap (λ n. take n (drop low (region_of old r))) (sym zero)
-      | inr ordered ↦ cut (region_of new r) ordered under ∙ ap (λ xs. drop low (take high xs)) same.before ∙ sym (cut (region_of old r) ordered under)
-    ]
-
-    behind : (xs : List ℕ) → end ≤ low → drop low xs ≡ drop (low - end) (drop end xs)
-    behind xs over = let there : end + (low - end) ≡ low = omega arith in sym (drop-drop (low - end) end xs ∙ ap (λ n. drop n xs) there)
-
-    above : end ≤ low → slice_range (region_of new r) low high ≡ slice_range (region_of old r) low high
-    above over = ap (take (high - low)) (behind (region_of new r) over ∙ ap (drop (low - end)) same.after ∙ sym (behind (region_of old r) over))
-
--- Bytes that were written are read again.
-pub written_reads : (image : Image) (r at : ℕ) (bytes : List ℕ) → r < length image → at + length bytes ≤ length (region_of image r)
-    → slice_range (region_of (with_bytes image r at bytes) r) at (at + length bytes) ≡ bytes
-written_reads image r at bytes in' within =
-    let front : length (take at (region_of image r)) ≡ at = length-take-le at (region_of image r) (omega arith) in
-    let count : (at + length bytes) - at ≡ length bytes = omega arith in
-    ap (λ xs. slice_range xs at (at + length bytes)) (region_of-set_same image r _ in')
-    ∙ ap (λ xs. take ((at + length bytes) - at) (drop at xs)) (append_assoc (take at (region_of image r)) bytes (drop (at + length bytes) (region_of image r)))
-    ∙ ap (take ((at + length bytes) - at)) (drop_at (take at (region_of image r)) (bytes ++ drop (at + length bytes) (region_of image r)) at front)
-    ∙ ap (λ n. take n (bytes ++ drop (at + length bytes) (region_of image r))) count
-    ∙ take_at bytes (drop (at + length bytes) (region_of image r)) (length bytes) refl
-
 module _ {old new : Disk} where
   -- what a sync and a write that succeeded do to the bytes
   pub sync_bytes : Syncs old new → BothTold (λ a b. b.bytes ≡ a.bytes) old.told new.told
@@ -152,15 +109,6 @@ module _ {old new : Disk} where
       one : (a b : Told) → HasSynced old a b → b.bytes ≡ a.bytes
       one a b (inl nothing) = ap (λ (t : Told). t.bytes) nothing.1
       one a b (inr some) = some.1
-
-pub write_synced : {r at : ℕ} {bytes : List ℕ} {failed : Type 0} {old mid new : Disk} → Writes r at bytes failed old mid → (failed → ⊥) → Syncs mid new
-    → BothTold (λ a b. b.bytes ≡ with_bytes a.bytes r at bytes) old.told new.told
-write_synced {r} {at} {bytes} {old = old} {mid = mid} {new = new} w done s =
-    both_then (λ a b. b.bytes ≡ with_bytes a.bytes r at bytes) (λ a b. b.bytes ≡ a.bytes) _ (λ a b c p q. q ∙ p) old.told mid.told new.told (w.written done) (sync_bytes s)
-
--- The images now, call by call: where nothing changes that is told, they stay.
-pub left_told : (P : Image → Type 0) (old new : Disk) → new.told ≡ old.told → IsLeftOn P old → IsLeftOn P new
-left_told P old new e left = subst (λ t. IfSome t (IsLeft P)) (sym e) left
 
 pub left_weaker : (P Q : Image → Type 0) (disk : Disk) → ((image : Image) → P image → Q image) → IsLeftOn P disk → IsLeftOn Q disk
 left_weaker P Q disk weaker left = some_weaker (IsLeft P) (IsLeft Q) (λ t l image is. weaker image (l image is)) disk.told left
@@ -181,10 +129,6 @@ module _ (P : Image → Type 0) {old new : Disk} where
       one a b gone l image is =
           let torn = left_write (IsTorn P r from end) r at (length bytes) a b l gone image is in
           (torn.1.0, torn.1.1, same_outside_then torn.1.2 (same_outside_wider from end low high torn.2))
-
--- After a sync that succeeded, the only image is what a read gives.
-pub left_syncs : {old new : Disk} → IsSound old → Syncs old new → IfSome new.told (λ told. IsLeft (λ image. image ≡ told.bytes) told)
-left_syncs {old} {new} sound s = both_of_old (HasSynced old) (IsToldOf old) (λ told. IsLeft (λ image. image ≡ told.bytes) told) (λ a b synced told. left_sync old a b told synced) old.told new.told s.time sound.told
 
 module _ (P : Image → Type 0) where
   -- Runs of calls.

@@ -50,9 +50,6 @@ no_rows (a ∷ b ∷ rows) e =
     let k : length (a ∷ b ∷ rows) - 1 ≡ suc (length (b ∷ rows) - 1) = omega arith in
     let none : b ∷ rows ≡ [] = no_rows (b ∷ rows) (sym (ap (slice_get (a ∷ b ∷ rows)) k) ∙ e) in absurd (cc)
 
-pub ordered_first : (rows : List Row) (row : Row) → slice_get rows (length rows - 1) ≡ None → is_ordered (rows ++ row ∷ []) ≡ true
-ordered_first rows row e = ap (λ rs. is_ordered (rs ++ row ∷ [])) (no_rows rows e)
-
 -- rows that ascend strictly ascend
 rows_total : IsTotalOrder (λ (a b : Row). ordering_then (node_cmp a.node b.node) (nat_cmp a.version b.version))
 rows_total = then_total (on_total (λ r. r.node) nodes_total) (on_total (λ r. r.version) nat_cmp_total)

@@ -175,20 +175,6 @@ stands_but k nodes nodes' saved saved' kept same same' here q = by (nat_eq k q) 
         subst (λ s. IfSome s (λ o. Stands o (lookup (nat_eq q) nodes'))) (sym (same' q differs))
         (subst (λ found. IfSome (lookup (nat_eq q) saved) (λ o. Stands o found)) (sym (same q differs)) (kept.stands q))
 
--- a number is saved
-pub saved_one : (k : ℕ) (nodes : Nodes) (saved saved' : Saved) → IsKept nodes saved → lookup (nat_eq k) saved ≡ None → saved' ≡ saved ++ (k, original.Whole (lookup (nat_eq k) nodes)) ∷ [] → IsDistinct nat_eq (keys_of saved') → IsKept nodes saved'
-saved_one k nodes saved saved' kept none is once = record {
-  distinct = kept.distinct;
-  once = once;
-  stands = stands_but k nodes nodes saved saved' kept (λ q differs. refl)
-      (λ q differs. ap (lookup (nat_eq q)) is ∙ other_pushed k q differs saved (original.Whole (lookup (nat_eq k) nodes)))
-      (subst (λ s. IfSome s (λ o. Stands o (lookup (nat_eq k) nodes))) (sym (ap (lookup (nat_eq k)) is ∙ found_last saved k (original.Whole (lookup (nat_eq k) nodes)) none)) (itself (lookup (nat_eq k) nodes)));
-}
-  where
-    itself : (found : Option Cached) → Stands (original.Whole found) found
-    itself None = tt
-    itself (Some now) = refl
-
 -- ---- an original that is kept whole
 
 whole_none : (t : ℕ → Bool) (es : Saved) → lookup t es ≡ None → whole_at t es ≡ es

@@ -32,18 +32,3 @@ last_one xs i x long at is = last_at xs i x (omega (arith, long, at)) is
 -- what is behind the last one comes first in reverse
 pub reverse-push : {A : Type 0} (xs : List A) (x : A) → reverse (xs ++ x ∷ []) ≡ x ∷ reverse xs
 reverse-push xs x = reverse-append xs (x ∷ [])
-
--- all that stood from a place on is moved
-pub poured_all : {A : Type 0} (from : ℕ) (old new to to' : List A) → length new ≤ from → IsPoured from old new to to' → (new ≡ take from old) × (to' ≡ to ++ reverse (drop from old))
-poured_all from old new to to' done poured =
-    let long : length new ≡ from = omega (arith, done, poured.low) in
-    let front : take from old ≡ new = ap (take from) poured.is ∙ take_at new poured.front from long in
-    let back : drop from old ≡ poured.front = ap (drop from) poured.is ∙ drop_at new poured.front from long in
-    (sym front, poured.moved ∙ ap (λ xs. to ++ reverse xs) (sym back))
-  where
-    drop_front : {A : Type 0} (xs ys : List A) → drop (length xs) (xs ++ ys) ≡ ys
-    drop_front [] ys = refl
-    drop_front (x ∷ xs) ys = drop_front xs ys
-
-    drop_at : {A : Type 0} (xs ys : List A) (i : ℕ) → length xs ≡ i → drop i (xs ++ ys) ≡ ys
-    drop_at xs ys i long = ap (λ n. drop n (xs ++ ys)) (sym long) ∙ drop_front xs ys

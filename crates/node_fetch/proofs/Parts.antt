@@ -47,9 +47,6 @@ any_front P front back any = record {
 pub fit_rows : (p : Part) (rows : List Row) → AllByRecursion (FitsRow p.header.mark) rows → AllByRecursion (λ row. FitsRec row.rec) rows
 fit_rows p rows fit = all_map (FitsRow p.header.mark) (λ row. FitsRec row.rec) (λ row h. h.rec) rows fit
 
-pub low_versions : (p : Part) (rows : List Row) → AllByRecursion (FitsRow p.header.mark) rows → AllByRecursion (λ row. row.version ≤ greatest) rows
-low_versions p rows fit = all_map (FitsRow p.header.mark) (λ row. row.version ≤ greatest) (λ row h. h.version_high) rows fit
-
 replay_low : (c : Content) (rows : List Row) → c.1 ≤ greatest → AllByRecursion (λ row. row.version ≤ greatest) rows → (replay c rows).1 ≤ greatest
 unfolding replay step
 replay_low c [] low all = low

@@ -42,9 +42,6 @@ read_more mark bytes id rows at row end s r same = record {
   within = r.within;
 }
 
-pub stops_without : (mark : Mark) (bytes : List ℕ) (id : NodeId) (rows : List Row) (at count : ℕ) → ReadSoFar mark bytes id rows at → length rows < count → IsNoRowAt mark bytes at → IsStop mark bytes id count at
-stops_without mark bytes id rows at count s few none = record { rows = rows; so_far = s; why = inl (few, record { none = λ row rest begins same. none.none row rest begins }) }
-
 -- the row there is of another node
 pub stops_at_other : (mark : Mark) (bytes : List ℕ) (id : NodeId) (rows : List Row) (at count : ℕ) (row : Row) (end : ℕ) → ReadSoFar mark bytes id rows at → length rows < count → IsRowAt mark bytes at row end → row.node ≢ id → IsStop mark bytes id count at
 stops_at_other mark bytes id rows at count row end s few r other = record {
@@ -59,9 +56,6 @@ stops_at_other mark bytes id rows at count row end s few r other = record {
     },
   );
 }
-
-pub stops_before_end : (mark : Mark) (bytes : List ℕ) (id : NodeId) (rows : List Row) (at count : ℕ) → ReadSoFar mark bytes id rows at → length rows ≡ count → at < length bytes → IsStop mark bytes id count at
-stops_before_end mark bytes id rows at count s all left = record { rows = rows; so_far = s; why = inr (all, left) }
 
 pub reads_all : (mark : Mark) (bytes : List ℕ) (id : NodeId) (rows : List Row) (at count : ℕ) → ReadSoFar mark bytes id rows at → length rows ≡ count → length bytes ≤ at → ReadsAll mark bytes id count rows
 reads_all mark bytes id rows at count s all end =
@@ -153,15 +147,6 @@ framed_more mark bytes id count at frames frame s f same = record {
   are_frames = frames_more id s.rows frames f.row frame s.so_far.of_node (sym f.is_of.node ∙ same) s.are_frames f.is_of;
 }
 
-pub framed_stop : (mark : Mark) (bytes : List ℕ) (id : NodeId) (count done at : ℕ) (frames : Option Frames) → FramedSoFar mark bytes id done at frames → done < count → IsNoRowAt mark bytes at → IsStop mark bytes id count at
-framed_stop mark bytes id count done at frames s few none = stops_without mark bytes id s.rows at count s.so_far (omega (arith, s.counted, few)) none
-
 pub framed_other : (mark : Mark) (bytes : List ℕ) (id : NodeId) (count done at : ℕ) (frames : Option Frames) (frame : Frame) → FramedSoFar mark bytes id done at frames → done < count → IsFrameAt mark bytes at frame → frame.node ≢ id
     → IsStop mark bytes id count at
 framed_other mark bytes id count done at frames frame s few f other = stops_at_other mark bytes id s.rows at count f.row frame.end s.so_far (omega (arith, s.counted, few)) f.is_row (λ same. other (f.is_of.node ∙ same))
-
-pub framed_left : (mark : Mark) (bytes : List ℕ) (id : NodeId) (count at : ℕ) (frames : Option Frames) → FramedSoFar mark bytes id count at frames → at < length bytes → IsStop mark bytes id count at
-framed_left mark bytes id count at frames s left = stops_before_end mark bytes id s.rows at count s.so_far s.counted left
-
-pub framed_all : (mark : Mark) (bytes : List ℕ) (id : NodeId) (count at : ℕ) (frames : Option Frames) → FramedSoFar mark bytes id count at frames → length bytes ≤ at → FramesAll mark bytes id count frames
-framed_all mark bytes id count at frames s end = record { rows = s.rows; read = reads_all mark bytes id s.rows at count s.so_far s.counted end; are_frames = s.are_frames }

@@ -100,15 +100,6 @@ link_absent key seps kids child i at few =
     let room : leb (length seps + 1) 32 ≡ true = le-leb (length seps + 1) 32 (omega arith) in
     rw (none, room, low, high, long) refl
 
-pub link_full : (key : List ℕ) (seps : List (List ℕ)) (kids : List ℕ) (child : ℕ) → 32 ≤ length seps → node.Broken ≡ linked seps kids key child
-link_full key seps kids child many =
-    let room : leb (length seps + 1) 32 ≡ false = lt-leb (length seps + 1) 32 (omega arith) in
-    rw room (by (not (list_any (bytes_eq key) seps)))
-  where
-    by : (b : Bool) → node.Broken ≡ cond (b && false) (node.Inner (keys_below key seps ++ key ∷ keys_above key seps) (take (length (keys_below key seps) + 1) kids ++ child ∷ drop (length (keys_below key seps) + 1) kids)) node.Broken
-    by true = refl
-    by false = refl
-
 -- what was inserted is removed again
 pub remove_inserted : {A : Type 0} (xs : List A) (i : ℕ) (x : A) → i ≤ length xs → remove (insert xs i x) i ≡ xs
 remove_inserted xs i x within =

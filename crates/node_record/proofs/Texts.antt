@@ -42,15 +42,6 @@ unfolding number_text
 worth-number (pos n) h = unsigned (decimal n) (digits_decimal model n (omega (arith, h))) (decimal_nonempty n (omega (arith, h))) ∙ ap pos (digits_value-decimal model n (omega (arith, h)))
 worth-number (negsuc n) h = ap (λ m. neg_ℤ (pos m)) (digits_value-decimal model (suc n) (omega (arith, h)))
 
--- a number's text is that number
-pub number_again : (z : ℤ) (text : List ℕ) → FitsSigned w64 z → text ≡ number_text z → number_of text ≡ Some z
-unfolding number_of
-number_again z text fits is =
-    let w : worth text ≡ z = ap worth is ∙ worth-number z fits in
-    let same : bytes_eq (number_text (worth text)) text ≡ true = (bytes_eq-Decides (number_text (worth text)) text).1 (ap number_text w ∙ sym is) in
-    let fine : is_i64 (worth text) ≡ true = ap is_i64 w ∙ test_from_fits z fits in
-    rw (same, fine) (ap Some w)
-
 -- a text that no number has is none
 pub no_number : (text : List ℕ) → ((z : ℤ) → FitsSigned w64 z → text ≢ number_text z) → number_of text ≡ None
 unfolding number_of
@@ -70,15 +61,6 @@ number_fits text z is = by (bytes_eq (number_text (worth text)) text && is_i64 (
     by : (b : Bool) → (bytes_eq (number_text (worth text)) text && is_i64 (worth text)) ≡ b → cond b (Some (worth text)) None ≡ Some z → FitsSigned w64 z
     by false e is = absurd cc
     by true e is = let same : worth text ≡ z = cc in subst (FitsSigned w64) same (signed (worth text) (and_parts (bytes_eq (number_text (worth text)) text) (is_i64 (worth text)) e).1)
-
--- what is no text, or is not parsed, is no number
-pub not_text : (text : List ℕ) → (IsUtf8 text → ⊥) → number_of text ≡ None
-unfolding number_text
-not_text text bad = no_number text (λ z fits e. bad (subst IsUtf8 (sym e) (IsUtf8-from_ascii (signed_decimal z) (IsAscii-signed z (small z fits)))))
-
-pub not_parsed : {E : Type 0} (text : List ℕ) (r : Result ℤ E) (e : E) → ParsesSigned w64 10 text r → r ≡ Err e → number_of text ≡ None
-unfolding number_text
-not_parsed text r e parses is = no_number text (λ z fits same. let ok = parse-signed_decimal w64 z text r fits (small z fits) same parses in absurd cc)
 
 pub not_written : {E : Type 0} (text : List ℕ) (r : Result ℤ E) (n : ℤ) → ParsesSigned w64 10 text r → r ≡ Ok n → text ≢ number_text n → number_of text ≡ None
 unfolding number_text

@@ -25,12 +25,6 @@ each_of_set P xs ys i x are here others j y is =
     ⊎_elim (λ (h : (j ≡ i) × (y ≡ x)). subst (λ (n : ℕ). P n y) (sym h.0) (subst (P i) (sym h.1) here)) (λ (h : (j ≢ i) × (slice_get xs j ≡ Some y)). others j y h.0 h.1)
     (item_of_set xs i j x y (ap (λ l. slice_get l j) (sym are) ∙ is))
 
--- an item of a list of one value is this value
-pub item_of_same : {A : Type 0} (n k : ℕ) (a b : A) → slice_get (replicate n a) k ≡ Some b → b ≡ a
-item_of_same zero k a b is = absurd cc
-item_of_same (suc n) zero a b is = some_same b a (sym is)
-item_of_same (suc n) (suc k) a b is = item_of_same n k a b is
-
 -- two lists that are related place by place, with more of them behind
 pub zip_append : {A B : Type 0} (R : A → B → Type 0) (xs : List A) (ys : List B) (xs' : List A) (ys' : List B) → AllZip R xs ys → AllZip R xs' ys' → AllZip R (xs ++ xs') (ys ++ ys')
 zip_append R [] [] xs' ys' a b = b

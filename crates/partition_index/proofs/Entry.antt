@@ -87,13 +87,6 @@ end_next known p i entry there e = record {
       (rw more (ap (is_entry p.header) is ∙ e.sound), rw more (ap (λ x. x.offset) is)));
 }
 
-pub end_last : (known : Option Image) (p : Part) (i : ℕ) → p.header.nodes ≤ i + 1 → IsEndOf known p i p.header.area
-end_last known p i none = record {
-  within = omega arith;
-  told = each_told (λ image. (is_followed p.header (body_in image p.region p.header) i ≡ true) × (span_end p.header (body_in image p.region p.header) i ≡ p.header.area)) known
-      (λ image t. let more : nat_lt (i + 1) p.header.nodes ≡ false = le-ltb (i + 1) p.header.nodes none in (rw more refl, rw more refl));
-}
-
 -- the span of an entry, where it is not empty
 pub span_some : (known : Option Image) (p : Part) (i end : ℕ) (entry : IndexEntry) → IsEntryAt known p i entry → IsEndOf known p i end → entry.offset < end
     → IsSpanAt known p i (record { at = entry.offset; end = end; rows = entry.rows })

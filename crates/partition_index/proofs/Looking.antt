@@ -46,17 +46,6 @@ range_split xs a m n =
     ∙ sym (ap (λ ys. ys ++ take n (drop (a + m) xs)) (range_is xs a (a + m) m refl))
     ∙ sym (ap (λ ys. slice_range xs a (a + m) ++ ys) (range_is xs (a + m) (a + m + n) n refl))
 
--- no byte was read yet
-pub look_none : (p : Part) (at : ℕ) (old : Eye) → LooksAt p at [] ⊥ old old
-look_none p at old = record {
-  same = record { number = refl; regions = refl; region_len = refl; told = refl };
-  counts = record { rises = λ f. absurd f; no_lower = omega arith; else_same = λ f. refl };
-  taken = λ low f. omega arith;
-  at_most = omega arith;
-  no_less = λ low. (omega arith, omega arith);
-  bytes = λ f. each_told (λ image. [] ≡ slice_range (body_in image p.region p.header) at (at + 0)) old.told (λ image is. sym (range_is (body_in image p.region p.header) at (at + 0) 0 refl));
-}
-
 -- One piece more, which the eye gives from a region; where it fails, the whole failed.
 pub look_more : (p : Part) (at : ℕ) (front piece : List ℕ) (region from : ℕ) (failed : Type 0) (old mid new : Eye) → LooksAt p at front ⊥ old mid → Looks region from piece failed mid new
     → ((failed → ⊥) → (image : Image) → old.told ≡ Some image → piece ≡ slice_range (region_of image region) from (from + length piece)
@@ -114,17 +103,6 @@ look_next p at done region_len front piece region from failed old mid new seen l
 -- a region of the part is one that the eye names
 pub is_named : (eye : Eye) (p : Part) (region : ℕ) → IsSeen eye p → Contains (regions_of p) region → Contains eye.regions region
 is_named eye p region seen has = subst (Contains eye.regions) has.2 (all_at (Contains eye.regions) (regions_of p) has.0 region seen.named has.1)
-
--- what has failed, with other bytes of at least as many
-pub look_failed : (p : Part) (at : ℕ) (out : List ℕ) (front : List ℕ) (failed failed' : Type 0) (old new : Eye) → LooksAt p at front failed old new → failed → failed' → length front ≤ length out → LooksAt p at out failed' old new
-look_failed p at out front failed failed' old new l is is' long = record {
-  same = l.same;
-  counts = record { rises = λ f. l.counts.rises is; no_lower = l.counts.no_lower; else_same = λ f. absurd (f is') };
-  taken = λ low f. absurd (f is');
-  at_most = omega (arith, l.at_most);
-  no_less = l.no_less;
-  bytes = λ f. absurd (f is');
-}
 
 -- what has not failed
 pub look_whole : (p : Part) (at : ℕ) (out front : List ℕ) (failed failed' : Type 0) (old new : Eye) → LooksAt p at front failed old new → (failed → ⊥) → (failed' → ⊥) → front ≡ out → LooksAt p at out failed' old new

@@ -48,9 +48,6 @@ digits_half n (suc m) small some half =
     let less : suc s.0 < suc t.0 = pow_order (suc s.0) (suc t.0) (omega (arith, s.2, t.3, half, pow-suc 2 s.0)) in
     omega (arith, e, f, less)
 
-pub digits_some : (n : ℕ) → n < 2 ^ 64 → 1 ≤ n → 1 ≤ binary_digits n
-digits_some n small some = omega (arith, digits_half n 0 small some (omega arith))
-
 -- the node at a place is one of the two, and the rest of its side is beyond it
 pub narrow_up : (rows : List Row) (id : NodeId) (low high middle : ℕ) (d : NodeId) → Narrowed rows id low high → low ≤ middle → middle < length (nodes_in rows) → is_node_below (get_or (nodes_in rows) middle d) id ≡ true → Narrowed rows id (middle + 1) high
 narrow_up rows id low high middle d n order here below = record {
@@ -109,6 +106,3 @@ greater_above a b h = ap is_lt (nodes_total.antisymm b a ∙ ap ordering_reverse
 -- what a probe leaves to be taken
 pub spend : (all old mid new n m : ℕ) → n < 2 ^ 64 → 1 ≤ n → 2 * m ≤ n → mid + 14 * binary_digits n ≤ old + all → new ≤ mid + 14 → new + 14 * binary_digits m ≤ old + all
 spend all old mid new n m small some half before now = omega (arith, digits_half n m small some half)
-
-pub spend_last : (all old mid new last n : ℕ) → n < 2 ^ 64 → 1 ≤ n → mid + 14 * binary_digits n ≤ old + 14 * binary_digits all → new ≤ mid + 14 → last ≤ new + 14 → last ≤ old + 14 * (binary_digits all + 1)
-spend_last all old mid new last n small some before now then_now = omega (arith, digits_some n small some)

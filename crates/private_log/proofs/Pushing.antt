@@ -98,12 +98,6 @@ kept_empty log bytes nodes rows order = record {
   order = order;
 }
 
--- of one row alone no node is noted
-pub none_noted : (keys : List NodeId) (rows : List Row) (long : ℕ) → AreNoted keys rows long → length rows ≤ 1 → keys ≡ []
-none_noted keys [] long noted few = noted
-none_noted keys (row ∷ []) long noted few = noted.0
-none_noted keys (first ∷ second ∷ rows) long noted few = absurd (omega (arith, few))
-
 -- the nodes of one row more
 noted_more : (rows : List Row) (row : Row) (keys keys' : List NodeId) (long long' : ℕ) → AreNoted keys rows long → IsStrictlySortedBy node_cmp keys → keys' ≡ noted keys rows row.node → long' ≡ long + row_len row → AreNoted keys' (rows ++ row ∷ []) long'
 unfolding nodes_in IsStrictlySortedBy

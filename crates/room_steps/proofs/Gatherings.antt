@@ -222,7 +222,3 @@ then_merged old mid new result (inr g) m = record {
 pub not_gathered : (old new : ShelfValue) (fault : RunFault) → GathersNamed old new (Err fault) → Tidies old new (Err fault)
 not_gathered old new fault (inl same) = absurd (let e = same.1 in cc)
 not_gathered old new fault (inr g) = record { leaves = g.1.leaves; unsealed = g.1.unsealed; called = inr (g.0.0, inl g.0.1); tidy = g.1.gather; erased = tt }
-
--- what the policy names
-pub young_by : (room : RoomState) (parts : List Part) (space : Space) (answer : Option ℕ) → space ≡ space_of room → parts ≡ room.parts → answer ≡ young_run space parts → young_run (space_of room) room.parts ≡ answer
-young_by room parts space answer is same h = sym (h ∙ (λ i. young_run (is i) (same i)))

@@ -41,9 +41,6 @@ at_one P [] x all (k, within, is) = absurd (omega (arith, within))
 at_one P (f ∷ faults) x all (zero, within, is) = subst P is all.0
 at_one P (f ∷ faults) x all (suc k, within, is) = at_one P faults x all.1 (k, omega (arith, within), is)
 
-origin_faults : (a b : Origin) → a ≡ b → (a.faults ≡ b.faults) × (a.own_faults ≡ b.own_faults)
-origin_faults a b e = (ap (λ (o : Origin). o.faults) e, ap (λ (o : Origin). o.own_faults) e)
-
 module _ (names : Names) (script : List ScriptTxn) (options : Options) (entry room : RoomValue) (done : List Outcome) (ended told : List (Option RunFault)) (ready : IsReady entry) (f : Finished names script options entry room done ended told) where
   abbrev history : List Commit
   history = commits_of done

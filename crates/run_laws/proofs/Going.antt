@@ -217,9 +217,6 @@ push lane e history c = sum_by_push (λ (d : Commit). cond ((d.entry.lane == lan
 is_eq : (n m : ℕ) → (n == m) ≡ true → n ≡ m
 is_eq n m h = grind (arith, h)
 
-eq_is : (n m : ℕ) → n ≡ m → (n == m) ≡ true
-eq_is n m h = grind (arith, h)
-
 -- a commit of another lane or epoch adds nothing
 adds_one : (p q : Bool) → cond (p && q) 1 0 ≤ 1
 adds_one true true = omega arith

@@ -102,20 +102,6 @@ goes_last n line old new r s few one some e short end good = record {
   end = (omega arith, omega arith, end);
 }
 
--- the input ended where a line would begin
-pub goes_end : (n : ℕ) (line : List ℕ) (old new : Option (List ℕ)) (r : Reading) → length line ≡ 0
-    → old ≡ before line new → IfSome new (λ rest. rest ≡ []) → Goes (turn.Ended n) n old new r r
-goes_end n (b ∷ bs) old new r none e end = absurd (omega arith)
-goes_end n [] old new r none e end = record {
-  follows = λ start f. record {
-    same = λ bytes b.
-        let h = f.same bytes b in
-        let t = told_split [] h.0 new (sym e ∙ h.1) in
-        (t.0, t.1, ap (λ l. script_from n r (lines l)) (sym t.2) ∙ h.2);
-  };
-  end = (omega arith, omega arith, end);
-}
-
 pub follows_start : (left : Option (List ℕ)) (chunk : List ℕ) (r : Reading) → chunk ≡ [] → r ≡ record { done = []; open_txn = None } → Follows left (before chunk left) 1 r
 unfolding script_of
 follows_start left chunk r e f = record {

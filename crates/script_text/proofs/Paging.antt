@@ -41,14 +41,6 @@ sends_then x y a b c p q = record {
   says = λ start count said s. subst (λ t. Says start count t c) (append_assoc said x y) (q.says start count (said ++ x) (p.says start count said s));
 }
 
--- one more turn of a loop that says the items of a list
-pub sends_more : {X : Type 0} (f : X → List ℕ) (xs : List X) (i : ℕ) (x : X) (a b c : Desk) → i < length xs → x ≡ get_or xs i x
-    → Sends (flat_map f (take i xs)) a b → Sends (f x) b c → Sends (flat_map f (take (i + 1) xs)) a c
-sends_more f xs i x a b c l e p q =
-    subst (λ t. Sends t a c)
-    (sym (ap (flat_map f) (take_more xs i x l) ∙ flat_map-append f (take i xs) (get_or xs i x ∷ []) ∙ ap (λ y. flat_map f (take i xs) ++ y) (append-nil (f (get_or xs i x)) ∙ ap f (sym e))))
-    (sends_then (flat_map f (take i xs)) (f x) a b c p q)
-
 -- nothing is said to a sink that has failed
 pub sends_lost : (text : List ℕ) (w : Option (List ℕ)) (f : ℕ) (p q : Gathered) → p.failed ≡ true → q.failed ≡ true
     → Sends text (desk w f p) (desk w f q)

@@ -89,14 +89,6 @@ between_law b rows log own holds other = record {
   restores = restored_law b rows own holds.restores other;
 }
 
--- a source goes on serving a bucket, whatever it tells
-pub serves_between : (tells : List Row → Type 0) (b : Cache) (rows own : List Row) → Serves tells b rows → AreElsewhere b own → Serves tells b (rows ++ own)
-serves_between tells b rows own serves other = record {
-  known = serves.known;
-  is_told = serves.is_told;
-  each = λ n none fine. serves.each n none (subst (λ (there : Content). there.0 ≢ node.Broken) (beside b rows own other n) fine) ∙ sym (beside b rows own other n);
-}
-
 pub used_law : UsedLaw
 used_law low taken b rows own used other = record {
   undoes = used.undoes;

@@ -87,13 +87,6 @@ module _ (tells : List Row → Type 0) (finds : Finds) (upper : ℕ) (old new : 
     sound = λ rows serves holds is. (sound rows serves holds is).1.holds.restores;
   }
 
--- nothing was done
-pub no_step : {A : Type 0} (tells : List Row → Type 0) (finds : Finds) (upper : ℕ) (b : Cache) (log : List Row) (c : Call) (Q : List Pair → A → Type 0) (F : FetchFault → Type 0) → IsStep {A = A} tells finds upper b b log log c Q F (Err NoMemory)
-no_step tells finds upper b log c Q F = record {
-  change = record { mid = b; loaded = loads_none tells finds upper b; on_way = among_none b b (way_in b (key_of c)) (λ n. refl); used = tt; outcome = saves_itself b b refl };
-  sound = λ rows serves holds is. holds.restores;
-}
-
 -- a key was looked up
 module _ (tells : List Row → Type 0) (finds : Finds) (upper : ℕ) (old new : Cache) (log : List Row) (key : List ℕ) (F : FetchFault → Type 0) (loaded : IsLoaded tells finds upper old new) (on_way : LoadsOnWay old new key) where
   pub got_step : {B : Type 0} (Q : List Pair → B → Type 0) (value : Option (List ℕ)) (b : B) → ((pairs : List Pair) → value ≡ get pairs key → Q pairs b) → AreUsed old new (way_in new key) → IsFound new key value

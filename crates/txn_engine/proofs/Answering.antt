@@ -107,13 +107,6 @@ looks_key (call.Del key) b id plain here first = (here, first)
 looks_key (call.Add key by) b id plain here first = (here, first)
 looks_key (call.Scan low high limit) b id plain here first = absurd (true≢false plain)
 
--- with `Unfit` the bucket is as it was once the way was loaded
-pub changed_unfit : (tells : List Row → Type 0) (finds : Finds) (upper : ℕ) (old new : Cache) (log log' : List Row) (c : Call) (P : Cache → Unit {0} → Type 0) (Failed : FetchFault → Type 0) (r : Result (Unit {0}) TreeFault)
-    → IsChange tells finds upper old new log log' c P Failed r → UnfitBy (IsFirstUnfit new (key_of c)) r
-changed_unfit tells finds upper old new log log' c P Failed r h id is =
-    let o : Outcome h.mid new log log' c (P h.mid) Failed (Err (Unfit id)) = subst (λ (x : Result (Unit {0}) TreeFault). Outcome h.mid new log log' c (P h.mid) Failed x) is h.outcome in
-    subst (λ b. IsFirstUnfit b (key_of c) id) (sym o.1.nodes) o.0
-
 module _ (v : ViewValue) (k : ℕ) (low : k < 256) (locks locks' : List (Option Cache)) (d d' : DraftValue) (c : Call) (ok : d.failed ≡ false) (of_key : k ≡ bucket_of (key_of c)) (numbers : AreNumbered locks) (one : is_scan c ≡ false)
     (old new : Cache) (there : HasLock locks k old) (locks_are : locks' ≡ slice_set locks k (Some new)) where
   now_there : HasLock locks' k new

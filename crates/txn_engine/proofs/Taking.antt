@@ -88,14 +88,6 @@ module _ (x : Beginning) (c : Call) (locks locks' : List (Option Cache)) (p p' :
       before = record { one = λ _. same; below = λ scans. absurd (true≢false (sym scans ∙ plain)); above = λ j le. ap (λ l. slice_get l j) same };
     }
 
--- the bucket was there
-pub takes_held : (x : Beginning) (c : Call) (locks : List (Option Cache)) (p : RoomPass) → is_scan c ≡ false → (b : Cache) × HasLock locks (bucket_of (key_of c)) b → TakesFor x c locks locks p p
-takes_held x c locks p plain there = record {
-  gathers = gathers_none bucket_number kept_at IsResting x locks p;
-  all = λ j near on. (there.0, subst (λ i. HasLock locks i there.0) (here_is j c plain on) there.1);
-  others = λ j near off. refl;
-}
-
 -- ---- the pass
 
 -- nothing of what a pass saw changed

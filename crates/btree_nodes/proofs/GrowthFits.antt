@@ -15,11 +15,11 @@ use Rattle.fine_model.specs.Pushed.{Growth, row_of, key_at, child_for, split_lea
 use Rattle.fine_model.specs.RowBytes.{kind, FitsKey, FitsPair, FitsChild, FitsRec}
 use Rattle.fine_model.specs.Trees.{Bounds, is_leaf, pairs_of}
 use Rattle.fine_model.specs.Merge.{is_image}
-use Rattle.fine_model.proofs.Zip.{all_right}
-use Rattle.fine_model.proofs.Sets.{all_append}
-use Rattle.fine_model.proofs.Parts.{Parted, parted, key_at-is}
+use Rattle.fine_model.proofs.Ordered.Zip.{all_right}
+use Rattle.fine_model.proofs.Ordered.Sets.{all_append}
+use Rattle.fine_model.proofs.Ordered.Parts.{Parted, parted, key_at-is}
 use Rattle.node_record.specs.Bounds.{FitsNode}
-use Rattle.fine_model.proofs.FitGrown.{pairs_fit, drop_leaf, drop_inner}
+use Rattle.fine_model.proofs.Trees.FitGrown.{pairs_fit, drop_leaf, drop_inner}
 use Rattle.node_cache.specs.declared.cached.Cached.{Cached}
 use Rattle.node_cache.specs.Cache.{Cache, cached}
 use Rattle.node_cache.specs.Given.{given, IsCached}

@@ -6,7 +6,7 @@ use Rattle.fine_model.specs.declared.Row.{Row}
 use Rattle.fine_model.specs.declared.Node.TheVariants as node
 use Rattle.fine_model.specs.Nodes.{replay, rows_of}
 use Rattle.fine_model.specs.Trees.{nodes_of}
-use Rattle.fine_model.proofs.NodeLaws.{content-append, rows_of-append}
+use Rattle.fine_model.proofs.Trees.NodeLaws.{content-append, rows_of-append}
 use Rattle.node_cache.specs.declared.cached.Cached.{Cached}
 use Rattle.node_cache.specs.Cache.{Cache, cached, original, before}
 use Rattle.node_cache.specs.Given.{Finds, given, IsCached, IsFetched, IsLoaded}

@@ -7,8 +7,8 @@ use Rattle.fine_model.specs.declared.Node.{Node}
 use Rattle.fine_model.specs.declared.Node.TheVariants as node
 use Rattle.fine_model.specs.Map.{Pair, is_ascending, is_below}
 use Rattle.fine_model.specs.Trees.{Bounds, bucket_of, is_above, is_from, is_key_within, is_leaf, is_up_to}
-use Rattle.fine_model.proofs.InOrder.{AreUp}
-use Rattle.fine_model.proofs.Order.{is_below-trans}
+use Rattle.fine_model.proofs.Ordered.InOrder.{AreUp}
+use Rattle.fine_model.proofs.Ordered.Order.{is_below-trans}
 
 some_same : {A : Type 0} (a b : A) → ◌≡◌ {A = Option A} (Some a) (Some b) → a ≡ b
 some_same a b e = cc

@@ -10,7 +10,7 @@ use Rattle.fine_model.specs.Nodes.{replay}
 use Rattle.fine_model.specs.Pushed.{Push, row_of, leaf_push, call_push, within_limits, nothing_pushed}
 use Rattle.fine_model.specs.RowBytes.{greatest, kind, FitsRec}
 use Rattle.fine_model.specs.Trees.{pairs_of}
-use Rattle.fine_model.proofs.FitPushed.{kind_few}
+use Rattle.fine_model.proofs.Trees.FitPushed.{kind_few}
 use Rattle.node_cache.specs.Cache.{Cache, original}
 use Rattle.btree_nodes.specs.declared.tree.Path.{Path}
 use Rattle.node_cache.specs.Given.{given}

@@ -9,7 +9,7 @@ use Rattle.fine_model.specs.Map.{is_below}
 use Rattle.fine_model.specs.Nodes.{Content}
 use Rattle.fine_model.specs.Paths.{meets, is_inner, scan_from, seps_of}
 use Rattle.fine_model.specs.Trees.{Bounds, whole, AllBetween, IsInner, IsSubtree, IsSound, kids_of, nodes_of}
-use Rattle.fine_model.proofs.Buckets.{HasTree, has_tree}
+use Rattle.fine_model.proofs.Trees.Buckets.{HasTree, has_tree}
 use Rattle.node_cache.specs.Cache.{Cache, cached}
 use Rattle.node_cache.specs.Given.{Finds, given, IsCached, IsLoaded}
 use Rattle.btree_nodes.specs.declared.descent.Step.{Step}

@@ -14,8 +14,8 @@ use Rattle.fine_model.specs.Paths.{is_inner, place_among, bounds_at, seps_of, ki
 use Rattle.fine_model.specs.Pushed.{leaf_for}
 use Rattle.fine_model.specs.RowBytes.{most_in_node}
 use Rattle.fine_model.specs.Trees.{Bounds, bucket_of, is_key_within, is_leaf, is_from, is_up_to}
-use Rattle.fine_model.proofs.Order.{keys_of, first_of_both, all_map}
-use Rattle.fine_model.proofs.Sets.{list_all-from, list_all-set, all_from_list_all, all_filter, all_append}
+use Rattle.fine_model.proofs.Ordered.Order.{keys_of, first_of_both, all_map}
+use Rattle.fine_model.proofs.Ordered.Sets.{list_all-from, list_all-set, all_from_list_all, all_filter, all_append}
 use Rattle.node_cache.specs.declared.cached.Cached.{Cached}
 use Rattle.node_cache.specs.Cache.{Cache, cached}
 use Rattle.node_cache.specs.Given.{given}

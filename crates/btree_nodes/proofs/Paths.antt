@@ -9,8 +9,8 @@ use Rattle.fine_model.specs.Nodes.{Content}
 use Rattle.fine_model.specs.Paths.{is_inner, place_among, bounds_at, seps_of, kid_at, unfit_from, unfit_under}
 use Rattle.fine_model.specs.Pushed.{leaf_for, pairs_beside}
 use Rattle.fine_model.specs.Trees.{Bounds, whole, bucket_of, is_leaf, kids_of, pairs_of}
-use Rattle.fine_model.proofs.CallLaw.{bucket_below}
-use Rattle.fine_model.proofs.Order.{first_of_both}
+use Rattle.fine_model.proofs.Trees.CallLaw.{bucket_below}
+use Rattle.fine_model.proofs.Ordered.Order.{first_of_both}
 use Rattle.node_cache.specs.Cache.{Cache}
 use Rattle.btree_nodes.specs.declared.fault.TreeFault.{TreeFault}
 use Rattle.btree_nodes.specs.declared.fault.TreeFault.TheVariants.{Source, Unfit, BucketFull, Number, NoMemory}

@@ -6,8 +6,8 @@ use Rattle.std.specs.List.Sorted.{IsPartitionedBy, IsPartitionPoint}
 use Rattle.std.proofs.lemmas.Bool.{not-true}
 use Rattle.std.proofs.lemmas.List.Elements.{All-from_recursion}
 use Rattle.fine_model.specs.Map.{is_below}
-use Rattle.fine_model.proofs.Order.{is_below-trans}
-use Rattle.fine_model.proofs.InOrder.{AreUp}
+use Rattle.fine_model.proofs.Ordered.Order.{is_below-trans}
+use Rattle.fine_model.proofs.Ordered.InOrder.{AreUp}
 
 -- a separator that the key is not below
 abbrev pub is_left : List ℕ → List ℕ → Bool

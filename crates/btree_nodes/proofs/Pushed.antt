@@ -7,12 +7,12 @@ use Rattle.fine_model.specs.declared.Rec.TheVariants as rec
 use Rattle.fine_model.specs.declared.Node.TheVariants as node
 use Rattle.fine_model.specs.declared.Row.{Row}
 use Rattle.fine_model.specs.Nodes.{Content, replay, step, rows_of}
-use Rattle.fine_model.proofs.NodeLaws.{image_forgets, replay-append, rows_of-append}
+use Rattle.fine_model.proofs.Trees.NodeLaws.{image_forgets, replay-append, rows_of-append}
 use Rattle.node_cache.specs.declared.cached.Cached.{Cached}
 use Rattle.node_cache.specs.Cache.{Cache, cached, original, before, saving, with_node, IsSaved}
 use Rattle.node_cache.specs.Given.{given, IsCached}
-use Rattle.fine_model.proofs.Order.{all_map}
-use Rattle.fine_model.proofs.Sets.{all_append}
+use Rattle.fine_model.proofs.Ordered.Order.{all_map}
+use Rattle.fine_model.proofs.Ordered.Sets.{all_append}
 use Rattle.btree_nodes.specs.Trees.{node_at}
 use Rattle.btree_nodes.specs.Changes.{Saves, is_named, Pushes, HoldsPlace, IsReady, AreReady}
 use Rattle.btree_nodes.proofs.Loads.{none_or_some, same_or_not}

@@ -12,9 +12,9 @@ use Rattle.fine_model.specs.Pushed.{Growth, Push, row_of, growth, with_head, set
 use Rattle.fine_model.specs.RowBytes.{greatest, FitsKey, FitsPair, FitsChild, FitsRec, FitsRow}
 use Rattle.fine_model.specs.declared.Mark.TheVariants as mark
 use Rattle.fine_model.specs.Trees.{whole}
-use Rattle.fine_model.proofs.Order.{all_map}
-use Rattle.fine_model.proofs.Parts.{all_both}
-use Rattle.fine_model.proofs.Sets.{all_append}
+use Rattle.fine_model.proofs.Ordered.Order.{all_map}
+use Rattle.fine_model.proofs.Ordered.Parts.{all_both}
+use Rattle.fine_model.proofs.Ordered.Sets.{all_append}
 use Rattle.node_record.specs.Bounds.{FitsNode}
 use Rattle.node_cache.specs.Cache.{Cache}
 use Rattle.btree_nodes.specs.declared.tree.Path.{Path}
@@ -30,7 +30,7 @@ use Rattle.btree_nodes.specs.Calls.{pushed_in, Outcome}
 use Rattle.btree_nodes.proofs.Paths.{key_bucket}
 use Rattle.btree_nodes.proofs.Sound.{passed}
 use Rattle.btree_nodes.proofs.GrowthFits.{ready_append, growth_ready, node_fits, IsGood, one_good, FitsGrowth, growth_good}
-use Rattle.fine_model.proofs.FitPushed.{within, kind_few}
+use Rattle.fine_model.proofs.Trees.FitPushed.{within, kind_few}
 
 -- rows that may be pushed
 pub record CanPush (b : Cache) (rows : List Row) : Type 0 where

@@ -8,7 +8,7 @@ use Rattle.fine_model.specs.Paths.{meets, seps_of, is_inner, scan_kids}
 use Rattle.fine_model.specs.Trees.{Bounds, kids_of, are_separators}
 use Rattle.fine_model.specs.declared.Node.{Node}
 use Rattle.fine_model.specs.declared.Node.TheVariants as node
-use Rattle.fine_model.proofs.Order.{first_of_both}
+use Rattle.fine_model.proofs.Ordered.Order.{first_of_both}
 use Rattle.node_record.proofs.Ordered.{at_drop}
 use Rattle.btree_nodes.specs.declared.descent.Step.{Step}
 use Rattle.btree_nodes.specs.Descent.{bound_at, bounds_by, low_of}

@@ -11,8 +11,8 @@ use Rattle.fine_model.specs.Nodes.{Content}
 use Rattle.fine_model.specs.Paths.{is_inner, place_among, bounds_at, seps_of, kid_at, unfit_from, unfit_under}
 use Rattle.fine_model.specs.Pushed.{Push, row_of, leaf_for, leaf_push, child_for, pairs_beside}
 use Rattle.fine_model.specs.Trees.{Bounds, whole, is_leaf, bucket_of, nodes_of, pairs_of, IsSound, map_of}
-use Rattle.fine_model.proofs.FitPaths.{fit_law}
-use Rattle.fine_model.proofs.Stated.{leaf_law}
+use Rattle.fine_model.proofs.Trees.FitPaths.{fit_law}
+use Rattle.fine_model.proofs.Histories.Stated.{leaf_law}
 use Rattle.node_cache.specs.declared.cached.Cached.{Cached}
 use Rattle.node_cache.specs.Cache.{Cache, cached}
 use Rattle.node_cache.specs.Given.{given, IsCached}

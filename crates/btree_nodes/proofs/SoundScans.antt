@@ -12,10 +12,10 @@ use Rattle.fine_model.specs.Map.{Pair, is_below, between}
 use Rattle.fine_model.specs.Nodes.{Content}
 use Rattle.fine_model.specs.Paths.{meets, seps_of, unfit_between}
 use Rattle.fine_model.specs.Trees.{Bounds, whole, AllBetween, IsInner, IsSubtree, IsSound, is_up_to, is_above, kids_of, pairs_under, pairs_from, tree_map, nodes_of}
-use Rattle.fine_model.proofs.FitPaths.{scan_law}
-use Rattle.fine_model.proofs.Order.{filter_none, all_map}
-use Rattle.fine_model.proofs.Bounded.{AllFrom, AllUpTo, below_not, not_lower, subtree_from, subtree_up_to}
-use Rattle.fine_model.proofs.Buckets.{HasTree, has_tree}
+use Rattle.fine_model.proofs.Trees.FitPaths.{scan_law}
+use Rattle.fine_model.proofs.Ordered.Order.{filter_none, all_map}
+use Rattle.fine_model.proofs.Trees.Bounded.{AllFrom, AllUpTo, below_not, not_lower, subtree_from, subtree_up_to}
+use Rattle.fine_model.proofs.Trees.Buckets.{HasTree, has_tree}
 use Rattle.node_cache.specs.Cache.{Cache}
 use Rattle.btree_nodes.specs.declared.fault.TreeFault.{TreeFault}
 use Rattle.btree_nodes.specs.declared.fault.TreeFault.TheVariants.{Source, Unfit, BucketFull, Number, NoMemory}

@@ -8,8 +8,8 @@ use Rattle.fine_model.specs.Map.{is_below}
 use Rattle.fine_model.specs.Nodes.{Content}
 use Rattle.fine_model.specs.Paths.{is_inner, place_among, bounds_at, seps_of}
 use Rattle.fine_model.specs.Trees.{are_separators}
-use Rattle.fine_model.proofs.Small.{length-filter_le}
-use Rattle.fine_model.proofs.Order.{first_of_both}
+use Rattle.fine_model.proofs.Trees.Small.{length-filter_le}
+use Rattle.fine_model.proofs.Ordered.Order.{first_of_both}
 use Rattle.node_record.specs.Bounds.{FitsNode}
 use Rattle.node_cache.specs.declared.cached.Cached.{Cached}
 use Rattle.node_cache.specs.Cache.{Cache, cached}

@@ -8,8 +8,8 @@ use Rattle.std.proofs.Math.Bool.{and-false}
 use Rattle.fine_model.specs.Map.{Pair, is_below, between}
 use Rattle.fine_model.specs.Paths.{meets, scan_kids}
 use Rattle.fine_model.specs.Trees.{Bounds}
-use Rattle.fine_model.proofs.Order.{filter_none}
-use Rattle.fine_model.proofs.Bounded.{not_lower}
+use Rattle.fine_model.proofs.Ordered.Order.{filter_none}
+use Rattle.fine_model.proofs.Trees.Bounded.{not_lower}
 use Rattle.btree_nodes.specs.Scans.{IsLonger, IsTaken}
 
 pub take_nothing : {A : Type 0} (n : ℕ) → take {A = A} n [] ≡ []

@@ -5,7 +5,7 @@ use Rattle.fine_model.specs.declared.NodeId.{NodeId}
 use Rattle.fine_model.specs.declared.Row.{Row}
 use Rattle.fine_model.specs.Damages.{FindsContent, FindsMerged, with_rows}
 use Rattle.fine_model.specs.Nodes.{Content, replay, rows_of}
-use Rattle.fine_model.proofs.NodeLaws.{broken_or_not, replay-append, rows_of-append}
+use Rattle.fine_model.proofs.Trees.NodeLaws.{broken_or_not, replay-append, rows_of-append}
 use Rattle.damage_laws.specs.Firm.{BeginWithImage, FetchAllLaw, FoundAllLaw, GoFrom, IsFirm, IsKnown, MergedAllLaw, SealedAllLaw}
 use Rattle.damage_laws.proofs.Firm.{created_firm, firm_fetch, firm_law, first_fetch, kept_firm, sealed_firm}
 use Rattle.damage_laws.proofs.RowsGoOn.{rows_go_from}

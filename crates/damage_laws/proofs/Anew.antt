@@ -6,10 +6,10 @@ use Rattle.fine_model.specs.declared.NodeId.{NodeId}
 use Rattle.fine_model.specs.declared.Row.{Row}
 use Rattle.fine_model.specs.Damages.{FindsMerged, with_rows}
 use Rattle.fine_model.specs.Nodes.{Content, base, is_node, replay, rows_of, step}
-use Rattle.fine_model.proofs.MergeLaws.{IsBase, fresh_rows}
-use Rattle.fine_model.proofs.NodeLaws.{broken_or_not, replay-append, replay_broken, rows_of-append}
-use Rattle.fine_model.proofs.Sets.{all_filter}
-use Rattle.fine_model.proofs.Zip.{all_left}
+use Rattle.fine_model.proofs.Merging.MergeLaws.{IsBase, fresh_rows}
+use Rattle.fine_model.proofs.Trees.NodeLaws.{broken_or_not, replay-append, replay_broken, rows_of-append}
+use Rattle.fine_model.proofs.Ordered.Sets.{all_filter}
+use Rattle.fine_model.proofs.Ordered.Zip.{all_left}
 use Rattle.node_cache.specs.Given.{IsCached, given}
 use Rattle.damage_laws.specs.Again.{ReloadLaw}
 use Rattle.damage_laws.specs.Made.{FoundOn, all_of}

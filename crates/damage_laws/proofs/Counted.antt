@@ -5,10 +5,10 @@ use Rattle.fine_model.specs.declared.Rec.TheVariants as rec
 use Rattle.fine_model.specs.declared.Row.{Row}
 use Rattle.fine_model.specs.Nodes.{Content, base, content, is_node, replay, rows_of, step}
 use Rattle.fine_model.specs.VersionLaws.{VersionsFollow}
-use Rattle.fine_model.proofs.Arranged.{lower_law, ordered_law}
-use Rattle.fine_model.proofs.LeafLaw.{content-push}
-use Rattle.fine_model.proofs.NodesIn.{is_node-self, same_node}
-use Rattle.fine_model.proofs.Unstable.{unstable_law}
+use Rattle.fine_model.proofs.Ordered.Arranged.{lower_law, ordered_law}
+use Rattle.fine_model.proofs.Trees.LeafLaw.{content-push}
+use Rattle.fine_model.proofs.Merging.NodesIn.{is_node-self, same_node}
+use Rattle.fine_model.proofs.Merging.Unstable.{unstable_law}
 use Rattle.damage_laws.specs.Firm.{CountFrom, CountedLaw}
 
 -- rows whose versions count behind what others leave in each node follow on these

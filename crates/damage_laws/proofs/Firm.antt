@@ -8,8 +8,8 @@ use Rattle.fine_model.specs.Damages.{FindsMerged}
 use Rattle.fine_model.specs.Merge.{is_image, starts_afresh}
 use Rattle.fine_model.specs.Nodes.{Content, base, is_node, replay, rows_of}
 use Rattle.fine_model.specs.Regions.{Image}
-use Rattle.fine_model.proofs.NodeLaws.{rows_of-append}
-use Rattle.fine_model.proofs.Sets.{all_filter}
+use Rattle.fine_model.proofs.Trees.NodeLaws.{rows_of-append}
+use Rattle.fine_model.proofs.Ordered.Sets.{all_filter}
 use Rattle.node_fetch.proofs.Blames as blames
 use Rattle.node_fetch.proofs.Parts.{forgets}
 use Rattle.damage_laws.specs.Firm.{BeginWithImage, CreatedFirmLaw, FirmFetchLaw, FirmLaw, FirstFetchLaw, GoFrom, HasBegun, KeptFirmLaw, SealedFirmLaw}

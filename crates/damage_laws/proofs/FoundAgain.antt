@@ -16,10 +16,10 @@ use Rattle.fine_model.specs.Nodes.{Content, base, replay, step}
 use Rattle.fine_model.specs.Regions.{Image, body_in}
 use Rattle.fine_model.specs.RowBytes.{FitsRow, row_bytes, rows_bytes}
 use Rattle.fine_model.specs.Seek.{RowSpan, SpanHolds, span_at}
-use Rattle.fine_model.proofs.MergeLaws.{IsBase, fresh_rows}
-use Rattle.fine_model.proofs.NodeLaws.{replay-append}
-use Rattle.fine_model.proofs.Spelling.{flat_spelling, row_spelling}
-use Rattle.fine_model.proofs.Zip.{all_left, all_right}
+use Rattle.fine_model.proofs.Merging.MergeLaws.{IsBase, fresh_rows}
+use Rattle.fine_model.proofs.Trees.NodeLaws.{replay-append}
+use Rattle.fine_model.proofs.Chain.Spelling.{flat_spelling, row_spelling}
+use Rattle.fine_model.proofs.Ordered.Zip.{all_left, all_right}
 use Rattle.node_fetch.proofs.Parts.{forgets}
 use Rattle.partition_merge.specs.Joined.{IsFoundIn}
 use Rattle.damage_laws.specs.Again.{AgainLaw, BothLaw, OnceLaw}

@@ -17,10 +17,10 @@ use Rattle.fine_model.specs.Pushed.{call_push}
 use Rattle.fine_model.specs.Regions.{Image, body_in}
 use Rattle.fine_model.specs.RowBytes.{FitsRow}
 use Rattle.fine_model.specs.Seek.{RowSpan, SpanHolds}
-use Rattle.fine_model.proofs.NodeLaws.{content-append, replay-append, replay_broken, rows_of-append}
-use Rattle.fine_model.proofs.Order.{all_map, filter_all}
-use Rattle.fine_model.proofs.Small.{is_small_node, small-append, small_content}
-use Rattle.fine_model.proofs.Stated.{small_law}
+use Rattle.fine_model.proofs.Trees.NodeLaws.{content-append, replay-append, replay_broken, rows_of-append}
+use Rattle.fine_model.proofs.Ordered.Order.{all_map, filter_all}
+use Rattle.fine_model.proofs.Trees.Small.{is_small_node, small-append, small_content}
+use Rattle.fine_model.proofs.Histories.Stated.{small_law}
 use Rattle.node_cache.specs.Given.{given}
 use Rattle.node_fetch.specs.Fetched.{HoldsRows, ReadsRows}
 use Rattle.partition_index.specs.Entries.{row_span_of}

@@ -11,10 +11,10 @@ use Rattle.fine_model.specs.Merge.{is_node_below, nodes_in}
 use Rattle.fine_model.specs.Nodes.{is_node, rows_of}
 use Rattle.fine_model.specs.Regions.{body_in}
 use Rattle.fine_model.specs.Seek.{entry_at, is_entry}
-use Rattle.fine_model.proofs.NodeOrder.{below-other, below-trans}
-use Rattle.fine_model.proofs.NodesAscend.{AllAbove, Ascend, nodes_ascend}
-use Rattle.fine_model.proofs.NodesIn.{node_cases, same_node, times, times-nodes_in}
-use Rattle.fine_model.proofs.Unique.{IsSealed-unique}
+use Rattle.fine_model.proofs.Merging.NodeOrder.{below-other, below-trans}
+use Rattle.fine_model.proofs.Merging.NodesAscend.{AllAbove, Ascend, nodes_ascend}
+use Rattle.fine_model.proofs.Merging.NodesIn.{node_cases, same_node, times, times-nodes_in}
+use Rattle.fine_model.proofs.Chain.Unique.{IsSealed-unique}
 use Rattle.partition_index.specs.Entries.{row_span_of}
 use Rattle.partition_index.specs.Parts.{IsSeen}
 use Rattle.partition_index.specs.Search.{TellsRows, span_for}

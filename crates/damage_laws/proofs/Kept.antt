@@ -10,7 +10,7 @@ use Rattle.fine_model.specs.Chain.{regions_of}
 use Rattle.fine_model.specs.Damages.{HasBadPlace, HasEntryWith, IsBadPlace, LacksEntry}
 use Rattle.fine_model.specs.Regions.{HasHeader, HoldsBadItem, Image, IsBadItem, Place, body_in, body_start, continuations, place_of, region_of}
 use Rattle.fine_model.specs.Seek.{IsBadInSpan, entry_at, span_at}
-use Rattle.fine_model.proofs.Owning.{own_law}
+use Rattle.fine_model.proofs.Chain.Owning.{own_law}
 use Rattle.node_fetch.specs.Fetched.{HasBadEntry, HasBadRow}
 use Rattle.node_fetch.proofs.Blames.{entry_law, good_law, row_law, same_header}
 use Rattle.partition_index.specs.Parts.{IsSeen}

@@ -10,7 +10,7 @@ use Rattle.fine_model.specs.declared.Row.{Row}
 use Rattle.fine_model.specs.Damages.{FindsMerged, with_rows}
 use Rattle.fine_model.specs.Nodes.{Content, replay, rows_of}
 use Rattle.fine_model.specs.Regions.{Image}
-use Rattle.fine_model.proofs.NodeLaws.{rows_of-append}
+use Rattle.fine_model.proofs.Trees.NodeLaws.{rows_of-append}
 use Rattle.node_cache.specs.declared.cached.Cached.{Cached}
 use Rattle.node_cache.specs.Cache.{Cache, before, cached, original}
 use Rattle.node_cache.specs.Given.{IsCached, given}

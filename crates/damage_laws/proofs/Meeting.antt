@@ -14,7 +14,7 @@ use Rattle.fine_model.specs.Pushed.{call_push, key_of, within_limits}
 use Rattle.fine_model.specs.Trees.{bucket_of}
 use Rattle.fine_model.specs.Regions.{Image}
 use Rattle.fine_model.specs.RowBytes.{buckets}
-use Rattle.fine_model.proofs.NodeLaws.{rows_of-append}
+use Rattle.fine_model.proofs.Trees.NodeLaws.{rows_of-append}
 use Rattle.node_cache.specs.declared.cached.Cached.{Cached}
 use Rattle.node_cache.specs.Cache.{Cache, before, cached, original}
 use Rattle.node_cache.specs.Given.{IsCached, given}
@@ -29,7 +29,7 @@ use Rattle.damage_laws.specs.OpenTxns.{AbsentLaw, BeginLaw, OwnLaw, UndoneLaw}
 use Rattle.damage_laws.specs.Stays.{BeginsLaw, CallsLaw, LeavesLaw, ScansLaw, UndoesLaw}
 use Rattle.damage_laws.proofs.MergedFinds.{all_of-append}
 use Rattle.damage_laws.proofs.SamePushes.{goes_on_law, load_law, more_law, push_same, still_on_way, with_both}
-use Rattle.fine_model.proofs.FoundUnfit.{of_scan}
+use Rattle.fine_model.proofs.Trees.FoundUnfit.{of_scan}
 use Rattle.damage_laws.proofs.SameUnfit.{look_law}
 
 nothing_cached : (k n : ℕ) → IsCached (record { bucket = k; nodes = []; saved = [] }) n → ⊥

@@ -5,9 +5,9 @@ use Rattle.std.proofs.lemmas.Grind.{flat_map-append}
 use Rattle.std.proofs.lemmas.List.{map-append}
 use Rattle.std.proofs.lemmas.List.Folds.{list_any-append}
 use Rattle.std.specs.List.{AllByRecursion}
-use Rattle.fine_model.proofs.MergedRows.{rows_of-merged}
-use Rattle.fine_model.proofs.NodeLaws.{replay-append, rows_of-append}
-use Rattle.fine_model.proofs.Zip.{all_right}
+use Rattle.fine_model.proofs.Merging.MergedRows.{rows_of-merged}
+use Rattle.fine_model.proofs.Trees.NodeLaws.{replay-append, rows_of-append}
+use Rattle.fine_model.proofs.Ordered.Zip.{all_right}
 use Rattle.fine_model.specs.declared.NodeId.{NodeId}
 use Rattle.fine_model.specs.declared.Part.{Part}
 use Rattle.fine_model.specs.declared.Row.{Row}

@@ -12,8 +12,8 @@ use Rattle.fine_model.specs.declared.Row.{Row}
 use Rattle.fine_model.specs.Merge.{is_image, starts_afresh}
 use Rattle.fine_model.specs.Nodes.{Content, base, replay}
 use Rattle.fine_model.specs.Regions.{Image}
-use Rattle.fine_model.proofs.MergeLaws.{IsImage, rows_or_image}
-use Rattle.fine_model.proofs.NodeLaws.{replay-append}
+use Rattle.fine_model.proofs.Merging.MergeLaws.{IsImage, rows_or_image}
+use Rattle.fine_model.proofs.Trees.NodeLaws.{replay-append}
 use Rattle.node_fetch.proofs.Parts.{forgets}
 use Rattle.damage_laws.specs.Made.{FindsIn, HasRows, Made, Source, beside, joined, merged_rows, one, sources}
 

@@ -14,8 +14,8 @@ use Rattle.fine_model.specs.Paths.{is_inner, place_among, seps_of}
 use Rattle.fine_model.specs.Pushed.{Growth, grown_inner, grown_leaf, growth, key_at, row_of, split_inner, split_leaf}
 use Rattle.fine_model.specs.RowBytes.{most_in_node}
 use Rattle.fine_model.specs.Trees.{Bounds, is_leaf, pairs_of}
-use Rattle.fine_model.proofs.NodeLaws.{rows_of-append}
-use Rattle.fine_model.proofs.NodesIn.{same_node}
+use Rattle.fine_model.proofs.Trees.NodeLaws.{rows_of-append}
+use Rattle.fine_model.proofs.Merging.NodesIn.{same_node}
 use Rattle.btree_nodes.proofs.Paths.{kid_below}
 use Rattle.btree_nodes.proofs.Ways.{child_is}
 use Rattle.damage_laws.specs.Firm.{CountFrom}

@@ -22,8 +22,8 @@ use Rattle.fine_model.specs.Pushed.{Growth, Push, add_push, call_push, child_for
 use Rattle.fine_model.specs.RowBytes.{greatest, greatest_depth, most_in_node, node_numbers}
 use Rattle.fine_model.specs.Store.{answer}
 use Rattle.fine_model.specs.Trees.{Bounds, pairs_of, whole}
-use Rattle.fine_model.proofs.NodeLaws.{rows_of-append}
-use Rattle.fine_model.proofs.NodesIn.{same_node}
+use Rattle.fine_model.proofs.Trees.NodeLaws.{rows_of-append}
+use Rattle.fine_model.proofs.Merging.NodesIn.{same_node}
 use Rattle.btree_nodes.proofs.Sound.{IsHead, head_of, inner_whole, leaf_whole}
 use Rattle.btree_nodes.proofs.Ways.{child_is}
 use Rattle.damage_laws.specs.Firm.{GoFrom, RowsGoFromLaw}

@@ -19,7 +19,7 @@ use Rattle.fine_model.specs.Paths.{is_inner}
 use Rattle.fine_model.specs.Pushed.{Growth, add_push, call_push, growth, leaf_for, leaf_push, nothing_pushed, pairs_beside, row_of, set_push, with_head}
 use Rattle.fine_model.specs.Store.{answer}
 use Rattle.fine_model.specs.Trees.{Bounds, is_leaf, whole}
-use Rattle.fine_model.proofs.NodeLaws.{rows_of-append}
+use Rattle.fine_model.proofs.Trees.NodeLaws.{rows_of-append}
 use Rattle.btree_nodes.proofs.Sound.{IsHead, head_of}
 use Rattle.btree_nodes.proofs.Ways.{child_is}
 use Rattle.damage_laws.specs.Firm.{CountFrom, RowsCountLaw}

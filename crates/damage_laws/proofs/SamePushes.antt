@@ -18,7 +18,7 @@ use Rattle.fine_model.specs.Paths.{bounds_at, is_inner, kid_at, place_among, sep
 use Rattle.fine_model.specs.Pushed.{Push, add_push, call_push, child_for, grown_inner, grown_leaf, growth, leaf_for, leaf_push, nothing_pushed, pairs_beside, row_of, set_push, with_head, within_limits}
 use Rattle.fine_model.specs.Store.{answer}
 use Rattle.fine_model.specs.Trees.{Bounds, is_leaf, pairs_of, whole}
-use Rattle.fine_model.proofs.NodeLaws.{broken_or_not, replay-append, replay_broken, rows_of-append}
+use Rattle.fine_model.proofs.Trees.NodeLaws.{broken_or_not, replay-append, replay_broken, rows_of-append}
 use Rattle.btree_nodes.proofs.Sound.{IsHead, head_of, inner_whole, leaf_whole, passed}
 use Rattle.btree_nodes.proofs.Ways.{child_is}
 use Rattle.damage_laws.specs.Goings.{Extends, GoesOnLaw, IsOnWay, LoadLaw, MoreLaw}

@@ -3,7 +3,7 @@
 use Rattle.std.proofs.Common.{◌≡◌, ◌∙◌, Some, subst, sym}
 use Rattle.fine_model.specs.declared.Call.TheVariants as call
 use Rattle.fine_model.specs.Paths.{unfit_under, unfit_between}
-use Rattle.fine_model.proofs.FoundUnfit.{under, of_scan}
+use Rattle.fine_model.proofs.Trees.FoundUnfit.{under, of_scan}
 use Rattle.node_cache.specs.Given.{given}
 use Rattle.damage_laws.specs.Looks.{KeyLaw, LookLaw, ScanLaw}
 

@@ -19,10 +19,10 @@ use Rattle.fine_model.specs.Pushed.{key_at}
 use Rattle.fine_model.specs.RowBytes.{most_in_node}
 use Rattle.fine_model.specs.Store.{add_answer, answer, number_at, sum_answer}
 use Rattle.fine_model.specs.Trees.{Bounds, is_above, is_key_within, is_leaf}
-use Rattle.fine_model.proofs.GrowLeaf.{above_from, fits_leaf, length-set_le, length-set_there, within_parts}
-use Rattle.fine_model.proofs.Order.{AllBelow, is_below-self, keys_of}
-use Rattle.fine_model.proofs.Parts.{Parted, front_below, key_at-is, parted}
-use Rattle.fine_model.proofs.Small.{length-filter_le}
+use Rattle.fine_model.proofs.Trees.GrowLeaf.{above_from, fits_leaf, length-set_le, length-set_there, within_parts}
+use Rattle.fine_model.proofs.Ordered.Order.{AllBelow, is_below-self, keys_of}
+use Rattle.fine_model.proofs.Ordered.Parts.{Parted, front_below, key_at-is, parted}
+use Rattle.fine_model.proofs.Trees.Small.{length-filter_le}
 use Rattle.damage_laws.proofs.WayApart.{IsIn, IsInside}
 
 -- ---- lists

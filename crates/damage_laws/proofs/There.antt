@@ -8,8 +8,8 @@ use Rattle.fine_model.specs.declared.Node.TheVariants as node
 use Rattle.fine_model.specs.declared.Row.{Row}
 use Rattle.fine_model.specs.Nodes.{Content, is_node, replay, rows_of}
 use Rattle.fine_model.specs.RowBytes.{FitsRow}
-use Rattle.fine_model.proofs.Order.{all_map}
-use Rattle.fine_model.proofs.Sets.{all_filter}
+use Rattle.fine_model.proofs.Ordered.Order.{all_map}
+use Rattle.fine_model.proofs.Ordered.Sets.{all_filter}
 use Rattle.node_cache.specs.declared.cached.Cached.{Cached}
 use Rattle.node_cache.specs.Cache.{Cache, IsResting, before, cached, original}
 use Rattle.node_cache.specs.Given.{IsCached, given}

@@ -20,8 +20,8 @@ use Rattle.fine_model.specs.Pushed.{Growth, add_push, call_push, grown_inner, gr
 use Rattle.fine_model.specs.RowBytes.{most_in_node}
 use Rattle.fine_model.specs.Store.{answer}
 use Rattle.fine_model.specs.Trees.{Bounds, is_leaf, pairs_of, whole}
-use Rattle.fine_model.proofs.NodeLaws.{rows_of-append}
-use Rattle.fine_model.proofs.NodesIn.{same_node}
+use Rattle.fine_model.proofs.Trees.NodeLaws.{rows_of-append}
+use Rattle.fine_model.proofs.Merging.NodesIn.{same_node}
 use Rattle.btree_nodes.proofs.Sound.{IsHead, head_of}
 use Rattle.btree_nodes.proofs.Paths.{kid_below}
 use Rattle.btree_nodes.proofs.Ways.{child_is}

@@ -9,8 +9,8 @@ use Rattle.fine_model.specs.Map.{is_ascending, is_below}
 use Rattle.fine_model.specs.Nodes.{Content}
 use Rattle.fine_model.specs.Paths.{bounds_at, is_inner, kid_at, place_among, seps_of, unfit_from}
 use Rattle.fine_model.specs.Trees.{Bounds, are_separators, is_above, is_leaf, is_up_to}
-use Rattle.fine_model.proofs.Order.{is_below-asym, is_below-self, is_below-trans}
-use Rattle.fine_model.proofs.Small.{length-filter_le}
+use Rattle.fine_model.proofs.Ordered.Order.{is_below-asym, is_below-self, is_below-trans}
+use Rattle.fine_model.proofs.Trees.Small.{length-filter_le}
 use Rattle.btree_nodes.proofs.Sound.{passed}
 
 -- ---- separators and bounds

@@ -15,8 +15,8 @@ use Rattle.log_disk.proofs.Times.{continued_later}
 use Rattle.epoch_room.specs.Meaning.{GoesOnStanding, ShownInside, Stands, StandsTold, StandsWhere}
 use Rattle.epoch_room.specs.Value.{Kept, value_of}
 use Rattle.epoch_room.specs.Whole.{IsWhole}
-use Rattle.epoch_room.proofs.Behind.{all_told}
-use Rattle.epoch_room.proofs.Kept.{on_stands, still_counted}
+use Rattle.epoch_room.proofs.OpenEpochs.Behind.{all_told}
+use Rattle.epoch_room.proofs.OpenEpochs.Kept.{on_stands, still_counted}
 
 module _ (old new entry : Disk) (kept : Kept) (whole : IsWhole (value_of old entry kept)) (open_room : kept.is_shut ≡ false) (same : SameBeside old new) (Run : Told → Told → Type 0) (runs : BothTold Run old.told new.told)
     (Left : Told → Image → Type 0) (leaves : (a b : Told) → Run a b → LeavesOnly (Left a) a b)

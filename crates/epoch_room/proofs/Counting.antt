@@ -7,12 +7,12 @@ use Rattle.fine_model.specs.declared.Mark.TheVariants as mark
 use Rattle.fine_model.specs.declared.Part.{Part}
 use Rattle.fine_model.specs.RowBytes.{greatest}
 use Rattle.fine_model.specs.Jobs.{job_left}
-use Rattle.fine_model.proofs.Order.{all_map}
-use Rattle.fine_model.proofs.Zip.{all_left, all_right}
+use Rattle.fine_model.proofs.Ordered.Order.{all_map}
+use Rattle.fine_model.proofs.Ordered.Zip.{all_left, all_right}
 use Rattle.partition_index.specs.Parts.{LiesIn, is_counted}
 use Rattle.epoch_room.specs.Value.{RoomValue, all_regions, taken}
 use Rattle.epoch_room.specs.Whole.{HasRegions, FollowOn, IsWhole}
-use Rattle.epoch_room.proofs.Beside.{regions_together, few_apart, outside_few}
+use Rattle.epoch_room.proofs.RegionSets.Beside.{regions_together, few_apart, outside_few}
 
 end_most : (parts : List Part) (next e : ℕ) → e ≤ greatest → FollowOn next parts → fold (λ (e : ℕ) (p : Part). p.header.range.last) e parts ≤ greatest
 end_most [] next e h follow = h

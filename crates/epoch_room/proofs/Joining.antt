@@ -6,7 +6,7 @@ use Rattle.fine_model.specs.declared.law.RoomState.{RoomState}
 use Rattle.fine_model.specs.Boards.{buffer_at}
 use Rattle.fine_model.specs.History.{Commit, last_epoch}
 use Rattle.fine_model.specs.Headline.{ShowsSome}
-use Rattle.fine_model.proofs.Goings.{becomes_on}
+use Rattle.fine_model.proofs.Histories.Goings.{becomes_on}
 use Rattle.log_disk.specs.Disk.{BothTold, Image, IsImageAt, IsImageSince, Moment, Told, clock_of}
 use Rattle.log_disk.specs.Moments.{Continues}
 use Rattle.log_disk.proofs.Times.{continued_later, continues_then}
@@ -15,7 +15,7 @@ use Rattle.partition_hold.specs.Views.{ViewValue, opened}
 use Rattle.epoch_room.specs.Returns.{IsPosted}
 use Rattle.epoch_room.specs.Value.{RoomValue}
 use Rattle.epoch_room.specs.Views.{Views}
-use Rattle.epoch_room.proofs.Viewing.{empty_is}
+use Rattle.epoch_room.proofs.Views.Viewing.{empty_is}
 
 any_cons : {A : Type 0} (P : A → Type 0) (x : A) (xs : List A) → Any P xs → Any P (x ∷ xs)
 any_cons P x xs any = (suc any.0, any.1, omega (arith, any.2), any.3, any.4)

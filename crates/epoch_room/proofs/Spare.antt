@@ -11,7 +11,7 @@ use Rattle.epoch_room.specs.Meaning.{Keeps, Stands, StandsTold, StandsWhere}
 use Rattle.epoch_room.specs.MergeSteps.{with_job}
 use Rattle.epoch_room.specs.Value.{RoomValue, regions_outside, taken}
 use Rattle.epoch_room.specs.Whole.{AreApart, IsJob, IsWhole}
-use Rattle.epoch_room.proofs.Behind.{inside_none}
+use Rattle.epoch_room.proofs.OpenEpochs.Behind.{inside_none}
 use Rattle.epoch_room.proofs.Moved.{becomes_still, epoch_stays}
 
 module _ (value : RoomValue) (whole : IsWhole value) (job : Option Job) (free : List ℕ) where

@@ -16,11 +16,11 @@ use Rattle.fine_model.specs.Headline.{ShowsSome}
 use Rattle.fine_model.specs.Boards.{named}
 use Rattle.fine_model.specs.Laws.{is_small}
 use Rattle.fine_model.specs.Room.{SameMembers}
-use Rattle.fine_model.proofs.NodeLaws.{Agrees-refl}
-use Rattle.fine_model.proofs.Order.{all_map}
-use Rattle.fine_model.proofs.Sets.{all_append}
-use Rattle.fine_model.proofs.Stated.{small_law}
-use Rattle.fine_model.proofs.Unique.{Shows-unique}
+use Rattle.fine_model.proofs.Trees.NodeLaws.{Agrees-refl}
+use Rattle.fine_model.proofs.Ordered.Order.{all_map}
+use Rattle.fine_model.proofs.Ordered.Sets.{all_append}
+use Rattle.fine_model.proofs.Histories.Stated.{small_law}
+use Rattle.fine_model.proofs.Chain.Unique.{Shows-unique}
 use Rattle.log_disk.specs.Disk.{Disk, Told, IsSound as IsSoundDisk, IsToldOf, IsImageNow, IsImageSince, BothTold, clock_of}
 use Rattle.log_disk.specs.Moments.{Continues, IsLeft}
 use Rattle.log_disk.proofs.Times.{continued_later, continues_none}
@@ -28,11 +28,11 @@ use Rattle.log_disk.proofs.Moments.{only_now, now_since, synced_now}
 use Rattle.epoch_room.specs.Value.{RoomValue, made}
 use Rattle.epoch_room.specs.Whole.{IsIdle, AreParts, HoldsParts, IsWhole, NamesWhole}
 use Rattle.log_partition.proofs.Costs.{cost_none}
-use Rattle.epoch_room.proofs.Ending.{no_parts_unsynced}
+use Rattle.epoch_room.proofs.OpenEpochs.Ending.{no_parts_unsynced}
 use Rattle.fine_model.specs.Trees.{is_distinct}
 use Rattle.epoch_room.specs.Steps.{appended}
 use Rattle.epoch_room.specs.Meaning.{StandsTold, StandsWhere, Stands, StandsAtFirst, StandsForMore}
-use Rattle.fine_model.proofs.Epochs.{upto_push, last_push, follow_push, sealed_push, open_push, rows_push}
+use Rattle.fine_model.proofs.Histories.Epochs.{upto_push, last_push, follow_push, sealed_push, open_push, rows_push}
 
 -- the rows of partitions are small
 small_rows : (region_len : ℕ) (image : Image) (parts : List Part) (rows : List Row) → AreRowsOf region_len image parts rows → AllByRecursion (λ row. IsTrue (is_small row.rec)) rows

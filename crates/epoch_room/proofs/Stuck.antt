@@ -8,7 +8,7 @@ use Rattle.fine_model.specs.Regions.{Image}
 use Rattle.epoch_room.specs.Stuck.{StuckLaw, TakesNothing}
 use Rattle.epoch_room.specs.Value.{RoomValue}
 use Rattle.epoch_room.specs.Whole.{IsWhole}
-use Rattle.epoch_room.proofs.Clear.{IsClear, all_live, free_is, now, same_len}
+use Rattle.epoch_room.proofs.RegionSets.Clear.{IsClear, all_live, free_is, now, same_len}
 
 pub stuck_law : StuckLaw
 stuck_law value image rows whole nothing =

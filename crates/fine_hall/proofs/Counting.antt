@@ -8,7 +8,7 @@ use Rattle.fine_model.specs.Buckets.{IsUpTo, node_id}
 use Rattle.fine_model.specs.History.{Commit}
 use Rattle.fine_model.specs.Nodes.{Content}
 use Rattle.fine_model.specs.Room.{IsSealedUpTo}
-use Rattle.fine_model.proofs.Epochs.{all_upto, follow_push, none_wait, sealed_push, seals, waiting_push}
+use Rattle.fine_model.proofs.Histories.Epochs.{all_upto, follow_push, none_wait, sealed_push, seals, waiting_push}
 use Rattle.fine_hall.specs.declared.turn.Turn.{Turn}
 use Rattle.fine_hall.specs.Turns.{added, committed, commits, IsOfOpenEpoch}
 use Rattle.fine_hall.specs.EpochLaws.{CountsMore, CountsSealed, CountsStay, CountsAll, EpochsLater, NodesLater, BucketsLater}

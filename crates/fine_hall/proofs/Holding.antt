@@ -6,8 +6,8 @@ use Rattle.std.proofs.lemmas.List.Elements.{filter-append}
 use Rattle.fine_model.specs.declared.Row.{Row}
 use Rattle.fine_model.specs.History.{Commit, all_rows}
 use Rattle.fine_model.specs.Nodes.{Content}
-use Rattle.fine_model.proofs.Epochs.{rows_together}
-use Rattle.fine_model.proofs.Goings.{buckets_on}
+use Rattle.fine_model.proofs.Histories.Epochs.{rows_together}
+use Rattle.fine_model.proofs.Histories.Goings.{buckets_on}
 use Rattle.fine_places.specs.declared.model.Placed.{Placed}
 use Rattle.fine_places.specs.History as places
 use Rattle.fine_places.proofs.Lists.{all_append}

@@ -3,7 +3,7 @@ use Rattle.std.proofs.Common.{ℕ, Option, sym, ap, ◌∙◌}
 use Rattle.fine_model.specs.declared.law.ViewState.{ViewState}
 use Rattle.fine_model.specs.Nodes.{Content}
 use Rattle.fine_model.specs.Buckets.{node_id}
-use Rattle.fine_model.proofs.UpTo.{same_content}
+use Rattle.fine_model.proofs.Merging.UpTo.{same_content}
 use Rattle.fine_hall.specs.EngineLaws.{LoadLaw}
 
 module _ {B V : Type 0} (bucket : B → ℕ) (cached : B → ℕ → Option (Content × ℕ)) (is_settled : B → Type 0) (view : V → ViewState) where

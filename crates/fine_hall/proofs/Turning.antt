@@ -5,7 +5,7 @@ use Rattle.std.proofs.lemmas.Grind.{flat_map-append}
 use Rattle.fine_model.specs.declared.Entry.{Entry}
 use Rattle.fine_model.specs.declared.law.RoomState.{RoomState}
 use Rattle.fine_model.specs.Jobs.{KeepsJob}
-use Rattle.fine_model.proofs.Goings.{job_itself, job_on}
+use Rattle.fine_model.proofs.Histories.Goings.{job_itself, job_on}
 use Rattle.fine_places.specs.declared.model.Placed.{Placed}
 use Rattle.fine_places.specs.History.{by_seat}
 use Rattle.fine_hall.specs.declared.turn.Turn.{Turn}

@@ -8,7 +8,7 @@ use Rattle.fine_model.specs.History.{Commit, IsLegal, all_rows, upto}
 use Rattle.fine_model.specs.Outcomes.{EpochsFollow}
 use Rattle.fine_model.specs.Room.{IsSealedUpTo}
 use Rattle.fine_model.specs.Buckets.{Began, IsBucketFor}
-use Rattle.fine_model.proofs.Goings.{buckets_on}
+use Rattle.fine_model.proofs.Histories.Goings.{buckets_on}
 use Rattle.fine_model.specs.declared.law.Origin.{Origin}
 use Rattle.fine_model.specs.declared.law.RoomState.{RoomState}
 use Rattle.fine_model.specs.declared.law.ViewState.{ViewState}

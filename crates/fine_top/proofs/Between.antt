@@ -14,7 +14,7 @@ use Rattle.fine_model.specs.Chain.{Shows, chain_end}
 use Rattle.fine_model.specs.Trees.{IsSound}
 use Rattle.fine_model.specs.History.{last_epoch}
 use Rattle.fine_model.specs.Room.{IsSealedUpTo}
-use Rattle.fine_model.proofs.Epochs.{sealed_from, sealed_least}
+use Rattle.fine_model.proofs.Histories.Epochs.{sealed_from, sealed_least}
 use Rattle.epoch_room.specs.Meaning.{StandsAtFirst, origin_of}
 use Rattle.epoch_room.specs.Value.{RoomValue, made}
 use Rattle.epoch_room.specs.Whole.{IsWhole}

@@ -34,9 +34,9 @@ use Rattle.fine_model.specs.Regions.{Image}
 use Rattle.fine_model.specs.Report.{all_outcomes, fault_lines, reason_bytes}
 use Rattle.fine_model.specs.Script.{Refusal}
 use Rattle.fine_model.specs.Trees.{IsSound, map_of}
-use Rattle.fine_model.proofs.HistoryLaws.{upto-last}
-use Rattle.fine_model.proofs.Legal.{legal_map}
-use Rattle.fine_model.proofs.TreeLaws.{IsSound-Agrees, map_of-Agrees}
+use Rattle.fine_model.proofs.Histories.HistoryLaws.{upto-last}
+use Rattle.fine_model.proofs.Histories.Legal.{legal_map}
+use Rattle.fine_model.proofs.Trees.TreeLaws.{IsSound-Agrees, map_of-Agrees}
 use Rattle.epoch_room.specs.Meaning.{Stands, StandsTold, origin_of}
 use Rattle.epoch_room.specs.Value.{RoomValue, made}
 use Rattle.epoch_room.specs.Whole.{IsWhole}

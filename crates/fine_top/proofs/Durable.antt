@@ -12,8 +12,8 @@ use Rattle.fine_model.specs.Commands.{are_durable}
 use Rattle.fine_model.specs.History.{Commit, last_epoch}
 use Rattle.fine_model.specs.Outcomes.{AllRun, EpochsFollow, EpochsGoOn, HasRun, has_run, lanes_not_run}
 use Rattle.fine_model.specs.Room.{IsSealedUpTo}
-use Rattle.fine_model.proofs.Epochs.{last_most}
-use Rattle.fine_model.proofs.HistoryLaws.{last_epoch-from}
+use Rattle.fine_model.proofs.Histories.Epochs.{last_most}
+use Rattle.fine_model.proofs.Histories.HistoryLaws.{last_epoch-from}
 
 -- ---- all is durable where nothing waits
 

@@ -35,7 +35,7 @@ use Rattle.log_commands.proofs.Printed.{risen_by, wrote_all, wrote_front}
 use Rattle.fine_top.specs.Running.{Ended, early, ran, text_of, status_of, run_status, IsRunOn, IsRunOf, IsReason, EndsEarly, MayRun, IsEnd, IsEndOfRun, Ends, EndsRunOf, RunsWell, start_on, OfTold, IsRefused, TellsRun}
 use Rattle.fine_top.specs.Opened.{IsOpenedLog, IsUnsoundLog}
 use Rattle.fine_top.proofs.Chainless.{shows_none, unsound}
-use Rattle.fine_model.proofs.NodeLaws.{Agrees-refl}
+use Rattle.fine_model.proofs.Trees.NodeLaws.{Agrees-refl}
 
 -- ---- outcomes that are not told
 

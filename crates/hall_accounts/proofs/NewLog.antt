@@ -13,7 +13,7 @@ use Rattle.fine_model.specs.Trees.{is_distinct}
 use Rattle.fine_model.specs.Chain.{AreRowsOf, Shows, parts_from, apart, chain_of, chain, taken}
 use Rattle.log_partition.proofs.Heads.{in_closed}
 use Rattle.log_disk.specs.Disk.{Disk, Told, zeros, told_anew, new_disk}
-use Rattle.fine_model.proofs.EmptyLog.{none_sound}
+use Rattle.fine_model.proofs.Chain.EmptyLog.{none_sound}
 use Rattle.epoch_room.specs.Meaning.{Stands, StandsAtFirst, origin_of}
 use Rattle.epoch_room.specs.Value.{RoomValue, made}
 use Rattle.epoch_room.specs.Whole.{AreParts}

@@ -11,7 +11,7 @@ use Rattle.partition_hold.specs.Views.{ViewValue, state_of}
 use Rattle.epoch_room.specs.Meaning.{Stands, origin_of}
 use Rattle.epoch_room.specs.Value.{RoomValue}
 use Rattle.epoch_room.specs.Whole.{IsWhole}
-use Rattle.epoch_room.proofs.Seating.{empty_posted}
+use Rattle.epoch_room.proofs.Views.Seating.{empty_posted}
 use Rattle.fine_boxes.specs.declared.model.Mark.{Mark}
 use Rattle.fine_hall.specs.declared.law.Beginning.{Beginning}
 use Rattle.fine_hall.specs.declared.turn.Turn.{Turn}

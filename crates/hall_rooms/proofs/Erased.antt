@@ -3,7 +3,7 @@ use Rattle.std.proofs.Common.{◌≡◌, ◌≢◌, ℕ, List, [], ◌∷◌, ma
 use Rattle.std.specs.Prelude.{Result, OnOk}
 use Rattle.fine_model.specs.declared.law.RoomState.{RoomState}
 use Rattle.fine_model.specs.Jobs.{KeepsJob}
-use Rattle.fine_model.proofs.Goings.{job_itself}
+use Rattle.fine_model.proofs.Histories.Goings.{job_itself}
 use Rattle.log_disk.specs.Disk.{OpenEye, SameBeside}
 use Rattle.epoch_room.specs.Erasing.{ErasesAllOr, FreesThese, erased_state, held, unheld}
 use Rattle.epoch_room.specs.Meaning.{Keeps}

@@ -22,9 +22,9 @@ use Rattle.epoch_room.specs.Value.{RoomValue}
 use Rattle.epoch_room.specs.Whole.{IsWhole}
 use Rattle.epoch_room.specs.declared.answers.RoomFault.{RoomFault}
 use Rattle.epoch_room.specs.declared.answers.RoomFault.TheVariants as room_fault
-use Rattle.epoch_room.proofs.Behind.{keeps_none}
+use Rattle.epoch_room.proofs.OpenEpochs.Behind.{keeps_none}
 use Rattle.epoch_room.proofs.Joining.{keeps_then}
-use Rattle.epoch_room.proofs.Viewing.{empty_is}
+use Rattle.epoch_room.proofs.Views.Viewing.{empty_is}
 use Rattle.room_merges.specs.declared.fault.MergeFault.{MergeFault}
 use Rattle.room_merges.specs.declared.fault.MergeFault.TheVariants as merge_fault
 use Rattle.room_merges.specs.Merging.{EyeTells, IsOut, OfTold}

@@ -14,7 +14,7 @@ use Rattle.fine_model.specs.Boards.{Buffer, buffer_at, is_empty}
 use Rattle.partition_hold.specs.Views.{ViewValue, opened, state_of}
 use Rattle.epoch_room.specs.Value.{RoomValue}
 use Rattle.epoch_room.specs.Whole.{IsWhole}
-use Rattle.epoch_room.proofs.Behind.{keeps_none}
+use Rattle.epoch_room.proofs.OpenEpochs.Behind.{keeps_none}
 use Rattle.epoch_room.proofs.Joining.{keeps_then}
 use Rattle.fine_hall.specs.Halls.{AreAllOnBoard}
 use Rattle.hall_rooms.specs.Boards.{Names, TakesBackAll, faults_of, with_views}

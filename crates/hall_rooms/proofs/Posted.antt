@@ -8,14 +8,14 @@ use Rattle.fine_model.specs.Becomes.{Becomes}
 use Rattle.fine_model.specs.Boards.{Buffer, buffer_at, empty_of, first_from, is_empty, set_of}
 use Rattle.fine_model.specs.Buckets.{Began}
 use Rattle.fine_model.specs.Jobs.{KeepsJob, held_for}
-use Rattle.fine_model.proofs.Goings.{becomes_on, job_itself, job_on}
+use Rattle.fine_model.proofs.Histories.Goings.{becomes_on, job_itself, job_on}
 use Rattle.partition_hold.specs.Views.{ViewValue, opened, state_of}
 use Rattle.epoch_room.specs.Meaning.{Stands}
 use Rattle.epoch_room.specs.Value.{RoomValue, all_regions}
 use Rattle.epoch_room.specs.declared.answers.RoomFault.{RoomFault}
 use Rattle.epoch_room.specs.declared.answers.RoomFault.TheVariants as room_fault
 use Rattle.epoch_room.proofs.Joining.{keeps_then}
-use Rattle.epoch_room.proofs.Viewing.{empty_is}
+use Rattle.epoch_room.proofs.Views.Viewing.{empty_is}
 use Rattle.fine_boxes.specs.declared.model.TurnNote.{TurnNote}
 use Rattle.fine_places.proofs.Elements.{least_more}
 use Rattle.fine_places.proofs.Lists.{decide}

@@ -6,11 +6,11 @@ use mathlib.Core.Option.{some, some-injective}
 use lib.ListN.{get_elem?}
 use Rattle.atomic_table.specs.Seated.{TableId}
 use Rattle.atomic_table.proofs.Lists.{set_else, set_here}
-use Rattle.fine_model.proofs.Goings.{job_itself}
+use Rattle.fine_model.proofs.Histories.Goings.{job_itself}
 use Rattle.partition_hold.specs.Views.{ViewValue, state_of}
 use Rattle.epoch_room.specs.Value.{RoomValue}
 use Rattle.epoch_room.specs.Whole.{IsWhole}
-use Rattle.epoch_room.proofs.Behind.{keeps_none}
+use Rattle.epoch_room.proofs.OpenEpochs.Behind.{keeps_none}
 use Rattle.fine_places.specs.History as places
 use Rattle.fine_places.proofs.Elements.{elem_at, read_at}
 use Rattle.fine_places.proofs.Lists.{decide, some_same}

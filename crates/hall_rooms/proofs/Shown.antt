@@ -5,13 +5,13 @@ use lib.ListN.{get_elem?}
 use Rattle.atomic_table.specs.Seated.{TableId}
 use Rattle.fine_model.specs.declared.law.RoomState.{RoomState}
 use Rattle.fine_model.specs.Jobs.{KeepsJob}
-use Rattle.fine_model.proofs.Goings.{job_itself}
+use Rattle.fine_model.proofs.Histories.Goings.{job_itself}
 use Rattle.partition_hold.specs.Views.{state_of}
 use Rattle.epoch_room.specs.Value.{RoomValue}
 use Rattle.epoch_room.specs.Whole.{IsWhole}
 use Rattle.epoch_room.specs.declared.answers.RoomFault.{RoomFault}
 use Rattle.epoch_room.specs.declared.answers.RoomFault.TheVariants as room_fault
-use Rattle.epoch_room.proofs.Behind.{keeps_none}
+use Rattle.epoch_room.proofs.OpenEpochs.Behind.{keeps_none}
 use Rattle.fine_places.specs.History as places
 use Rattle.fine_places.specs.History.{by_seat}
 use Rattle.fine_places.proofs.Lists.{some_same}

@@ -8,7 +8,7 @@ use Rattle.fine_model.specs.declared.law.RoomState.{RoomState}
 use Rattle.fine_model.specs.Becomes.{Becomes}
 use Rattle.fine_model.specs.Faults.{HasRisen, last_count}
 use Rattle.fine_model.specs.Jobs.{KeepsJob}
-use Rattle.fine_model.proofs.Goings.{becomes_itself, becomes_on, job_itself, job_on}
+use Rattle.fine_model.proofs.Histories.Goings.{becomes_itself, becomes_on, job_itself, job_on}
 use Rattle.log_disk.specs.Disk.{SameBeside}
 use Rattle.epoch_room.specs.Meaning.{Keeps, Stands, origin_of}
 use Rattle.epoch_room.specs.Steps.{Fails, KeepsCounts, SealsOr, Steps, sealed_state, next_part}
@@ -18,7 +18,7 @@ use Rattle.epoch_room.specs.Fitting.{counts_of}
 use Rattle.epoch_room.specs.declared.answers.Counts.{Counts}
 use Rattle.epoch_room.specs.declared.answers.RoomFault.{RoomFault}
 use Rattle.epoch_room.specs.declared.answers.RoomFault.TheVariants as room_fault
-use Rattle.epoch_room.proofs.Behind.{keeps_none}
+use Rattle.epoch_room.proofs.OpenEpochs.Behind.{keeps_none}
 use Rattle.fine_boxes.specs.declared.model.TurnNote.{TurnNote}
 use Rattle.fine_places.specs.declared.model.Placed.{Placed}
 use Rattle.fine_hall.specs.declared.turn.Turn.{Turn}

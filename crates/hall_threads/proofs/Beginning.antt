@@ -17,7 +17,7 @@ use Rattle.fine_model.specs.Nodes.{base, content, replay, Agrees}
 use Rattle.fine_model.specs.History.{all_rows, upto}
 use Rattle.fine_model.specs.Views.{TellsRowsOf}
 use Rattle.fine_model.specs.Buckets.{Began, node_id}
-use Rattle.fine_model.proofs.Unique.{Shows-unique}
+use Rattle.fine_model.proofs.Chain.Unique.{Shows-unique}
 use Rattle.fine_hall.specs.declared.law.Beginning.{Beginning}
 use Rattle.fine_hall.specs.Laws.{beginning}
 use Rattle.fine_hall.specs.Halls.{IsFreshHall, IsFreshView, first_board}

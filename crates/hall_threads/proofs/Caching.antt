@@ -9,7 +9,7 @@ use Rattle.fine_model.specs.declared.Row.{Row}
 use Rattle.fine_model.specs.Nodes.{Content, content}
 use Rattle.fine_model.specs.History.{Commit, all_rows}
 use Rattle.fine_model.specs.Buckets.{Began, IsBucketFor, IsNodeFor, IsUpTo, node_id, has_row_on}
-use Rattle.fine_model.proofs.Goings.{buckets_on}
+use Rattle.fine_model.proofs.Histories.Goings.{buckets_on}
 use Rattle.fine_hall.specs.declared.law.Beginning.{Beginning}
 use Rattle.fine_hall.specs.Turns.{committed, in_bucket}
 use Rattle.fine_hall.proofs.Bucket.{same_bucket}

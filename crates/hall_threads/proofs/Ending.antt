@@ -14,7 +14,7 @@ use Rattle.fine_hall.specs.Halls.{Closes}
 use Rattle.fine_model.specs.Outcomes.{EpochsFollow}
 use Rattle.fine_model.specs.Room.{IsSealedUpTo}
 use Rattle.fine_hall.specs.Passes.{turns, last_room}
-use Rattle.fine_model.proofs.EmptyLog.{none_sound}
+use Rattle.fine_model.proofs.Chain.EmptyLog.{none_sound}
 use Rattle.fine_hall.proofs.Since.{since_law}
 use Rattle.hall_threads.specs.declared.things.DayRoom.{DayRoom}
 use Rattle.hall_threads.specs.declared.things.DayView.{DayView}

@@ -7,7 +7,7 @@ use Rattle.fine_model.specs.Regions.{Image}
 use Rattle.fine_model.specs.Chain.{AreRowsOf}
 use Rattle.fine_model.specs.Nodes.{content}
 use Rattle.fine_model.specs.Views.{counting, TellsRows, TellsRowsOf}
-use Rattle.fine_model.proofs.Unique.{AreRowsOf-unique}
+use Rattle.fine_model.proofs.Chain.Unique.{AreRowsOf-unique}
 use Rattle.fine_hall.specs.declared.law.Beginning.{Beginning}
 use Rattle.fine_hall.specs.declared.pass.Pass.{Pass}
 use Rattle.fine_hall.specs.Passes.{known, view_of, front_of, published, troubles, HasFront}

@@ -14,10 +14,10 @@ use Rattle.fine_model.specs.Trees.{pairs_of, nodes_of}
 use Rattle.fine_model.specs.Pushed.{Growth, Push, set_push, growth, grown_leaf, with_head, call_push, push_of, within_limits, pushed, all_pushed, and_then}
 use Rattle.fine_model.specs.History.{Commit, IsNext, all_rows}
 use Rattle.fine_model.specs.Buckets.{node_id}
-use Rattle.fine_model.proofs.NodeLaws.{content-append}
+use Rattle.fine_model.proofs.Trees.NodeLaws.{content-append}
 use Rattle.hall_threads.specs.Days.{key, key_bucket, leaf_at, put_call, put_row, put_entry, Appends}
 use Rattle.hall_threads.specs.declared.things.DayRoom.{DayRoom}
-use Rattle.fine_model.proofs.Epochs.{rows_push}
+use Rattle.fine_model.proofs.Histories.Epochs.{rows_push}
 
 -- ---- the row
 

@@ -21,7 +21,7 @@ use Rattle.fine_model.specs.Nodes.{Agrees}
 use Rattle.fine_model.specs.Room.{IsSealedUpTo}
 use Rattle.fine_model.specs.Views.{TellsRows}
 use Rattle.fine_model.specs.Buckets.{Began}
-use Rattle.fine_model.proofs.Goings.{becomes_on}
+use Rattle.fine_model.proofs.Histories.Goings.{becomes_on}
 use Rattle.fine_boxes.specs.declared.model.TurnNote.{TurnNote}
 use Rattle.fine_boxes.specs.Telling.{posting}
 use Rattle.fine_places.specs.declared.model.Placed.{Placed}
@@ -38,7 +38,7 @@ use Rattle.hall_threads.specs.declared.things.DayRoom.{DayRoom}
 use Rattle.hall_threads.specs.declared.things.DayView.{DayView}
 use Rattle.hall_threads.specs.Days.{room_state, room_log, view_state, day_stands, job_of, StandsFor, board_of, eye_of, told_rows, leaf_id}
 use Rattle.hall_threads.specs.Turnover.{Seals, IsViewOf, TakesBack, InTurn, PostsTo, PostedBelow, Stays, IsShown, HasNoneToSeal}
-use Rattle.fine_model.proofs.Epochs.{all_upto, epochs_below, seals, none_wait}
+use Rattle.fine_model.proofs.Histories.Epochs.{all_upto, epochs_below, seals, none_wait}
 use Rattle.hall_threads.proofs.Standing.{day_becomes, may_give, may_give_none}
 use Rattle.hall_threads.proofs.Telling.{tells_leaf, agrees_leaf}
 

@@ -14,7 +14,7 @@ use Rattle.fine_model.specs.Room.{IsSealedUpTo}
 use Rattle.fine_model.specs.Regions.{body_in}
 use Rattle.fine_model.specs.Jobs.{KeepsJob, held_for}
 use Rattle.fine_model.specs.Buckets.{Began, node_id}
-use Rattle.fine_model.proofs.HistoryLaws.{IsLegal-push}
+use Rattle.fine_model.proofs.Histories.HistoryLaws.{IsLegal-push}
 use Rattle.fine_hall.specs.declared.law.Beginning.{Beginning}
 use Rattle.fine_hall.specs.declared.pass.Pass.{Pass}
 use Rattle.fine_hall.specs.Turns.{added, committed, is_in, places_more}
@@ -24,7 +24,7 @@ use Rattle.fine_hall.specs.Halls.{TakesRoom, MayGiveRoom, MayGive}
 use Rattle.hall_threads.specs.declared.things.DayRoom.{DayRoom}
 use Rattle.hall_threads.specs.declared.things.DayView.{DayView}
 use Rattle.hall_threads.specs.Days.{zero_image, key_bucket, leaf_at, put_entry, board_of, room_state, room_log, StandsFor, day_stands, day_job, job_of, view_state, Appends}
-use Rattle.fine_model.proofs.Epochs.{epochs_below, waiting_push, sealed_push, follow_push}
+use Rattle.fine_model.proofs.Histories.Epochs.{epochs_below, waiting_push, sealed_push, follow_push}
 use Rattle.hall_threads.proofs.Putting.{next_put, leaf_after, on_leaf, others_stay}
 
 four_free : length (free_regions zero_image) ≡ 4

@@ -1,7 +1,7 @@
 -- Places and the numbers of those that are filled, as one changes.
 use Rattle.std.proofs.Common.{◌≡◌, ◌≢◌, ◌⊎◌, ⊎_elim, inl, inr, ℕ, zero, suc, ◌+◌, ◌<◌, ◌≤◌, List, [], ◌∷◌, ◌++◌, length, replicate, Option, Some, None, slice_get, slice_set, slice_index_or, refl, sym, ap, ◌∙◌, subst, arith}
 use Rattle.std.proofs.lemmas.List.{length-append}
-use Rattle.fine_model.proofs.Times.{times, times-none, times-append, times-same, times-other, times-tail}
+use Rattle.fine_model.proofs.Ordered.Times.{times, times-none, times-append, times-same, times-other, times-tail}
 use Rattle.fine_places.proofs.Lists.{decide}
 use Rattle.key_locks.proofs.Held.{get_same, get_else}
 use Rattle.key_locks.specs.Slots.{IsFilled, IsEmpty, here, number_filled, AreCounted, AreNumbered, ChangesAt, Empties, EachBy}

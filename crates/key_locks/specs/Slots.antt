@@ -2,7 +2,7 @@
 use Rattle.std.specs.Prelude.{◌≡◌, ℕ, suc, ◌<◌, ◌≤◌, List, [], ◌∷◌, length, Option, Some, None, slice_get, slice_set}
 use Rattle.std.specs.Borrow.{MutBor}
 use denote.Param.Members.{Shared}
-use Rattle.fine_model.proofs.Times.{times}
+use Rattle.fine_model.proofs.Ordered.Times.{times}
 
 -- a call at a value may leave the other there
 pub record LeavesAt {F T : Type 0} (g : Shared F (MutBor T × Unit {0}) (Unit {0} × (MutBor T × Unit {0}))) (f : F) (x y : T) : Type 0 where

@@ -16,7 +16,7 @@ use Rattle.fine_model.specs.ChainLaws.{SameIn}
 use Rattle.fine_model.specs.Damages.{HasBadPlace, IsBadOf}
 use Rattle.fine_model.specs.Regions.{HasHeader, Image, Place, region_of}
 use Rattle.fine_model.specs.Views.{SameSeen, TellsRowsOf}
-use Rattle.fine_model.proofs.Owning.{own_law}
+use Rattle.fine_model.proofs.Chain.Owning.{own_law}
 use Rattle.node_fetch.specs.Fetched.{HasBadEntry, HasBadRow}
 use Rattle.partition_index.specs.Parts.{IsSeen}
 use Rattle.partition_hold.specs.Views.{ViewValue}
@@ -25,7 +25,7 @@ use Rattle.damage_laws.specs.Places.{SeesKeptOrGood}
 use Rattle.damage_laws.proofs.Kept.{entry_blamed, row_blamed}
 use Rattle.epoch_room.specs.Value.{RoomValue}
 use Rattle.epoch_room.specs.Whole.{HoldsParts, IsWhole}
-use Rattle.epoch_room.proofs.Freeing.{held_now}
+use Rattle.epoch_room.proofs.RegionSets.Freeing.{held_now}
 use Rattle.room_merges.specs.Near.{StandIn}
 use Rattle.room_merges.specs.Work.{BlamedBy}
 use Rattle.room_merges.specs.declared.fault.MergeFault.TheVariants as merge_fault

@@ -4,7 +4,7 @@ use Rattle.fine_model.specs.Causes.{NoNeighboursFit, NoneFit}
 use Rattle.fine_model.specs.Regions.{Image}
 use Rattle.epoch_room.specs.Value.{RoomValue}
 use Rattle.epoch_room.specs.Whole.{IsWhole}
-use Rattle.epoch_room.proofs.Clear.{IsClear, all_live, free_is, now, same_len}
+use Rattle.epoch_room.proofs.RegionSets.Clear.{IsClear, all_live, free_is, now, same_len}
 use Rattle.log_commands.specs.Merged.{IsMergedLog}
 
 pub merged_log : (value : RoomValue) (image : Image) → IsWhole value → IsClear value image → ((seen : Image) → value.room.image ≡ Some seen → NoneFit value.room.region_len seen value.room.parts (length value.room.free))

@@ -17,9 +17,9 @@ use Rattle.fine_model.specs.declared.law.RoomState.{RoomState}
 use Rattle.fine_model.specs.Chain.{Shows, chain, regions_of}
 use Rattle.fine_model.specs.Nodes.{Agrees}
 use Rattle.fine_model.specs.Regions.{Image}
-use Rattle.fine_model.proofs.ChainFacts.{Fact, facts}
-use Rattle.fine_model.proofs.NodeLaws.{Agrees-refl}
-use Rattle.fine_model.proofs.ReadChain.{ReadChain, read_chain}
+use Rattle.fine_model.proofs.Chain.ChainFacts.{Fact, facts}
+use Rattle.fine_model.proofs.Trees.NodeLaws.{Agrees-refl}
+use Rattle.fine_model.proofs.Chain.ReadChain.{ReadChain, read_chain}
 use Rattle.damage_laws.specs.Made.{AreMadeOf}
 use Rattle.damage_laws.specs.Places.{IsUnchanged}
 use Rattle.epoch_room.specs.Meaning.{Stands, StandsAtFirst}

@@ -8,8 +8,8 @@ use Rattle.fine_model.specs.declared.Row.{Row}
 use Rattle.fine_model.specs.Chain.{chain_end, regions_of}
 use Rattle.fine_model.specs.Regions.{Image}
 use Rattle.fine_model.specs.Views.{SameSeen, TellsRowsOf}
-use Rattle.fine_model.proofs.Owning.{tells_alike}
-use Rattle.epoch_room.proofs.Viewing.{all_parts}
+use Rattle.fine_model.proofs.Chain.Owning.{tells_alike}
+use Rattle.epoch_room.proofs.Views.Viewing.{all_parts}
 use Rattle.room_merges.proofs.Living.{seen_then}
 use Rattle.room_steps.proofs.Stepping.{told_then}
 use Rattle.log_commands.specs.Origins.{AreFrom, ComesFrom, IsMadeOf, chain_start}

@@ -13,8 +13,8 @@ use Rattle.fine_model.specs.declared.Row.{Row}
 use Rattle.fine_model.specs.RowBytes.{row_len}
 use Rattle.fine_model.specs.Nodes.{is_node}
 use Rattle.fine_model.specs.Merge.{is_node_below, nodes_in, cost}
-use Rattle.fine_model.proofs.NodesIn.{times, times-nodes_in, is_node-self, same_node}
-use Rattle.fine_model.proofs.Order.{all_map}
+use Rattle.fine_model.proofs.Merging.NodesIn.{times, times-nodes_in, is_node-self, same_node}
+use Rattle.fine_model.proofs.Ordered.Order.{all_map}
 use Rattle.partition_index.proofs.NodeOrder.{below-other}
 use Rattle.partition_index.proofs.Sorted.{Ascend, nodes_ascend}
 

@@ -10,10 +10,10 @@ use Rattle.fine_model.specs.declared.Row.{Row}
 use Rattle.fine_model.specs.Nodes.{is_node}
 use Rattle.fine_model.specs.Merge.{is_node_below, nodes_in, encoded_len}
 use Rattle.fine_model.specs.RowBytes.{row_len}
-use Rattle.fine_model.proofs.NodesIn.{times, times-nodes_in, node_cases, is_node_below-self, is_node-self, same_node}
-use Rattle.fine_model.proofs.NodeOrder.{below-trans, nodes_more}
-use Rattle.fine_model.proofs.Order.{all_map}
-use Rattle.fine_model.proofs.Sets.{all_append}
+use Rattle.fine_model.proofs.Merging.NodesIn.{times, times-nodes_in, node_cases, is_node_below-self, is_node-self, same_node}
+use Rattle.fine_model.proofs.Merging.NodeOrder.{below-trans, nodes_more}
+use Rattle.fine_model.proofs.Ordered.Order.{all_map}
+use Rattle.fine_model.proofs.Ordered.Sets.{all_append}
 use Rattle.log_partition.specs.Encoding.{names, IsGreatestOf, greater}
 
 -- nodes below one, the node as often as it stands there, and nodes above it

@@ -16,7 +16,7 @@ use Rattle.partition_index.proofs.BodyPlaces.{laid}
 use Rattle.partition_index.proofs.Exact.{area_small}
 use Rattle.log_partition.specs.Headers.{first_bad}
 use Rattle.log_partition.specs.Written.{IsGood, WrittenHeaderLaw, WrittenPartitionLaw}
-use Rattle.fine_model.proofs.Headers.{header_good}
+use Rattle.fine_model.proofs.Chain.Headers.{header_good}
 use Rattle.log_partition.proofs.Sealed.{and_true, both_zero}
 
 -- where each test holds, no field is the first that fails

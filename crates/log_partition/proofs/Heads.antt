@@ -8,8 +8,8 @@ use Rattle.fine_model.specs.declared.Mark.{Mark}
 use Rattle.fine_model.specs.declared.Mark.TheVariants as mark
 use Rattle.fine_model.specs.Regions.{is_sealed, mark_of, number_in, regions_at, more_at, header_at, header_tests, bad_field, header_in}
 use Rattle.log_partition.specs.Headers.{first_bad, HeaderLaw}
-use Rattle.fine_model.proofs.Headers.{header_bad}
-pub use Rattle.fine_model.proofs.Headers.{header_closed as in_closed, header_good as in_good}
+use Rattle.fine_model.proofs.Chain.Headers.{header_bad}
+pub use Rattle.fine_model.proofs.Chain.Headers.{header_closed as in_closed, header_good as in_good}
 
 pub in_bad : (region_len regions lead : ℕ) (bytes : List ℕ) (at : ℕ) → is_sealed bytes ≡ true → bad_field region_len regions lead bytes ≡ Some at → header_in region_len regions lead bytes ≡ Err at
 in_bad region_len regions lead bytes at = header_bad region_len regions lead at bytes

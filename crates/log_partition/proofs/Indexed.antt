@@ -7,7 +7,7 @@ use Rattle.fine_model.specs.declared.Header.{Header}
 use Rattle.fine_model.specs.declared.Row.{Row}
 use Rattle.fine_model.specs.Merge.{nodes_in}
 use Rattle.fine_model.specs.Regions.{index_bytes, index_area, IsBadEntry, body_len}
-use Rattle.fine_model.proofs.Spelling.{split_same}
+use Rattle.fine_model.proofs.Chain.Spelling.{split_same}
 use Rattle.partition_index.specs.Entries.{bytes_of, entry_for}
 use Rattle.partition_index.specs.Index.{entries_of}
 use Rattle.partition_index.specs.declared.entries.IndexEntry.{IndexEntry}

@@ -9,15 +9,15 @@ use Rattle.fine_model.specs.declared.Row.{Row}
 use Rattle.fine_model.specs.Nodes.{is_node}
 use Rattle.fine_model.specs.RowBytes.{row_bytes, row_len, rows_bytes, rows_len}
 use Rattle.fine_model.specs.Merge.{is_row_below, nodes_in, encoded_len}
-use Rattle.fine_model.proofs.Grammar.{row_long}
-use Rattle.fine_model.proofs.Order.{first_of_both}
+use Rattle.fine_model.proofs.Chain.Grammar.{row_long}
+use Rattle.fine_model.proofs.Ordered.Order.{first_of_both}
 use Rattle.node_record.specs.Keys.{IsKeyOf, AreKeysOf}
 use Rattle.node_record.specs.declared.key.RowAt.{RowAt}
 use Rattle.partition_index.specs.Index.{is_rising, opened, closed, first_of}
 use Rattle.partition_index.specs.Indexer.{IsBuilt, BuiltTo, IndexerValue, Indexes, HasNext}
 use Rattle.partition_index.specs.declared.entries.IndexEntry.{IndexEntry}
 use Rattle.partition_index.proofs.Opened.{built_more, built_index}
-use Rattle.fine_model.proofs.NodesIn.{same_node}
+use Rattle.fine_model.proofs.Merging.NodesIn.{same_node}
 use Rattle.log_partition.specs.Encoding.{is_last, AreRowsAt}
 use Rattle.log_partition.proofs.Counted.{count_more}
 use Rattle.log_partition.proofs.Indexed.{entries_count}

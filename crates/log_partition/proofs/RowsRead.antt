@@ -17,11 +17,11 @@ use Rattle.fine_model.specs.declared.Row.{Row}
 use Rattle.fine_model.specs.RowBytes.{row_bytes, row_len, rows_bytes, rows_len, FitsRow, FitsRec, BeginsWithRow}
 use Rattle.fine_model.specs.Merge.{node_cmp, is_row_below, is_ordered}
 use Rattle.fine_model.specs.Regions.{row_area, BeginsWithRows, IsBadRow}
-use Rattle.fine_model.proofs.NodesIn.{nodes_total}
-use Rattle.fine_model.proofs.Order.{first_of_both, all_map}
-use Rattle.fine_model.proofs.Sets.{all_append}
-use Rattle.fine_model.proofs.Spelling.{row_spelling}
-use Rattle.fine_model.proofs.Grammar.{rows_long}
+use Rattle.fine_model.proofs.Merging.NodesIn.{nodes_total}
+use Rattle.fine_model.proofs.Ordered.Order.{first_of_both, all_map}
+use Rattle.fine_model.proofs.Ordered.Sets.{all_append}
+use Rattle.fine_model.proofs.Chain.Spelling.{row_spelling}
+use Rattle.fine_model.proofs.Chain.Grammar.{rows_long}
 use Rattle.node_record.specs.Rows.{IsRowAt, IsNoRowAt}
 use Rattle.partition_index.specs.Index.{is_rising}
 use Rattle.log_partition.specs.Bodies.{ReadSoFar, AreTheRows, HaveLengths}

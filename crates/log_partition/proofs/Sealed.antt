@@ -18,7 +18,7 @@ use Rattle.fine_model.specs.Regions.{region_of, sealed_gate, header_of, header_b
 use Rattle.partition_index.proofs.NodeOrder.{below-asym}
 use Rattle.log_partition.specs.Headers.{first_bad}
 use Rattle.log_partition.specs.Encoding.{FitsRange, EncodeLaw}
-use Rattle.fine_model.proofs.Headers.{header_good}
+use Rattle.fine_model.proofs.Chain.Headers.{header_good}
 
 -- ---- rows and the nodes that they name
 

@@ -14,11 +14,11 @@ use Rattle.fine_model.specs.Nodes.{Content}
 use Rattle.fine_model.specs.Paths.{unfit_between}
 use Rattle.fine_model.specs.ScanLaws.{KeysAscend}
 use Rattle.fine_model.specs.Trees.{bucket_of, nodes_of, pairs_from, pairs_under, whole}
-use Rattle.fine_model.proofs.FoundUnfit.{found_unfit, soundly_fit}
-use Rattle.fine_model.proofs.KeptPairs.{whole_range}
-use Rattle.fine_model.proofs.Among.{subtree_ascends, subtree_in_bucket}
-use Rattle.fine_model.proofs.Order.{all_map, first_of_both}
-use Rattle.fine_model.proofs.TreeLaws.{pairs_kept}
+use Rattle.fine_model.proofs.Trees.FoundUnfit.{found_unfit, soundly_fit}
+use Rattle.fine_model.proofs.Ordered.KeptPairs.{whole_range}
+use Rattle.fine_model.proofs.Trees.Among.{subtree_ascends, subtree_in_bucket}
+use Rattle.fine_model.proofs.Ordered.Order.{all_map, first_of_both}
+use Rattle.fine_model.proofs.Trees.TreeLaws.{pairs_kept}
 use Rattle.node_cache.specs.declared.cached.Cached.{Cached}
 use Rattle.node_cache.specs.Cache.{Cache, cached}
 use Rattle.node_cache.specs.Given.{Finds, IsCached, IsFetched, IsLoaded, given}

@@ -18,16 +18,16 @@ use Rattle.fine_model.specs.Map.{Pair}
 use Rattle.fine_model.specs.Nodes.{Content}
 use Rattle.fine_model.specs.Regions.{HasHeader, Image}
 use Rattle.fine_model.specs.Views.{SameSeen}
-use Rattle.fine_model.proofs.Order.{all_map}
-use Rattle.fine_model.proofs.Parts.{all_both}
-use Rattle.fine_model.proofs.Zip.{all_left, all_right}
+use Rattle.fine_model.proofs.Ordered.Order.{all_map}
+use Rattle.fine_model.proofs.Ordered.Parts.{all_both}
+use Rattle.fine_model.proofs.Ordered.Zip.{all_left, all_right}
 use Rattle.node_fetch.specs.Fetched.{HasBadEntry, HasBadRow, IsReplayOf}
 use Rattle.node_fetch.proofs.Blames as blames
 use Rattle.damage_laws.specs.Places.{AreKeptOrGood, IsGood, IsKept, IsUnchanged, SeesKeptOrGood}
 use Rattle.damage_laws.proofs.Kept.{entry_blamed, found_law, row_blamed}
 use Rattle.epoch_room.specs.Value.{RoomValue, made}
 use Rattle.epoch_room.specs.Whole.{HoldsParts, IsWhole}
-use Rattle.epoch_room.proofs.Freeing.{held_now}
+use Rattle.epoch_room.proofs.RegionSets.Freeing.{held_now}
 use Rattle.reopen.specs.Opening.{OpensRoom}
 use Rattle.map_reader.specs.Reading.{IsGiven, MeetsUnfit, behind_keys, most_pairs}
 use Rattle.map_reader.specs.Maps.{FindsMap, IsNamed, LooksOn, finds_by, tells_room}

@@ -19,10 +19,10 @@ use Rattle.fine_model.specs.Map.{Pair, from_pairs, is_below}
 use Rattle.fine_model.specs.Nodes.{Content, content, replay}
 use Rattle.fine_model.specs.ScanLaws.{IsSorted, KeysAscend, times_of}
 use Rattle.fine_model.specs.Trees.{IsSound, IsSubtree, bucket_of, is_distinct, map_of, nodes_of, pairs_from, reached, tree_map}
-use Rattle.fine_model.proofs.Gathered.{count, order_law}
-use Rattle.fine_model.proofs.KeptPairs.{absent, kept_all, once_ascending}
-use Rattle.fine_model.proofs.Order.{all_map}
-use Rattle.fine_model.proofs.Sets.{all_append}
+use Rattle.fine_model.proofs.Ordered.Gathered.{count, order_law}
+use Rattle.fine_model.proofs.Ordered.KeptPairs.{absent, kept_all, once_ascending}
+use Rattle.fine_model.proofs.Ordered.Order.{all_map}
+use Rattle.fine_model.proofs.Ordered.Sets.{all_append}
 use Rattle.node_cache.specs.Given.{Finds}
 use Rattle.btree_nodes.specs.declared.fault.TreeFault.{TreeFault}
 use Rattle.btree_nodes.specs.declared.fault.TreeFault.TheVariants.{Source, Unfit, BucketFull, Number, NoMemory}

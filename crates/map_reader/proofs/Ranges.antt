@@ -10,8 +10,8 @@ use Rattle.fine_model.specs.Paths.{seps_of}
 use Rattle.fine_model.specs.RowBytes.{FitsKey, FitsPair}
 use Rattle.fine_model.specs.ScanLaws.{AreBytes}
 use Rattle.fine_model.specs.Trees.{pairs_of}
-use Rattle.fine_model.proofs.KeptPairs.{pairs_fit_node, whole_range}
-use Rattle.fine_model.proofs.Parts.{all_both}
+use Rattle.fine_model.proofs.Ordered.KeptPairs.{pairs_fit_node, whole_range}
+use Rattle.fine_model.proofs.Ordered.Parts.{all_both}
 use Rattle.map_reader.specs.Reading.{HasByteKeys, behind_keys}
 
 -- a pair whose key is within the format's bounds, and of bytes

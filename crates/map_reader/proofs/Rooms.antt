@@ -15,7 +15,7 @@ use Rattle.fine_model.specs.declared.law.RoomState.{RoomState}
 use Rattle.fine_model.specs.Map.{Pair}
 use Rattle.fine_model.specs.Nodes.{Content}
 use Rattle.fine_model.specs.Views.{TellsRowsOf}
-use Rattle.fine_model.proofs.Goings.{becomes_on}
+use Rattle.fine_model.proofs.Histories.Goings.{becomes_on}
 use Rattle.btree_nodes.specs.declared.fault.TreeFault.{TreeFault}
 use Rattle.btree_nodes.specs.declared.fault.TreeFault.TheVariants.{Source, Unfit, BucketFull, Number, NoMemory}
 use Rattle.btree_nodes.specs.Calls.{OnCleanAnswer}

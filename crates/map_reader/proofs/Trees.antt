@@ -9,8 +9,8 @@ use Rattle.fine_model.specs.Map.{between}
 use Rattle.fine_model.specs.Nodes.{Content}
 use Rattle.fine_model.specs.Paths.{is_inner, meets, scan_from, scan_kids, seps_of}
 use Rattle.fine_model.specs.Trees.{AllBetween, Bounds, IsInner, IsSubtree, are_separators, is_above, is_leaf, is_up_to, kids_of, pairs_of, pairs_under}
-use Rattle.fine_model.proofs.Order.{first_of_both}
-use Rattle.fine_model.proofs.Sets.{all_append, all_from_list_all}
+use Rattle.fine_model.proofs.Ordered.Order.{first_of_both}
+use Rattle.fine_model.proofs.Ordered.Sets.{all_append, all_from_list_all}
 use Rattle.btree_nodes.specs.Trees.{kids_met, pairs_met}
 use Rattle.btree_nodes.proofs.SameScans.{not_both, same_value, tested}
 use Rattle.btree_nodes.proofs.ScanSteps.{first, kids_go, kids_stop}

@@ -3,8 +3,8 @@ use Rattle.std.proofs.Common.{◌≡◌, ℕ, ◌<◌, ◌≤◌, nat_lt, Bool, 
 use Rattle.std.proofs.lemmas.Bool.{ltb-true, ltb-false}
 use Rattle.std.specs.List.{AllByRecursion}
 use Rattle.fine_model.specs.declared.Part.{Part}
-use Rattle.fine_model.proofs.Order.{all_map}
-use Rattle.fine_model.proofs.Sets.{all_append}
+use Rattle.fine_model.proofs.Ordered.Order.{all_map}
+use Rattle.fine_model.proofs.Ordered.Sets.{all_append}
 use Rattle.merge_policy.specs.declared.figures.Aim.{Aim}
 use Rattle.merge_policy.specs.declared.figures.Aim.TheVariants as aim
 use Rattle.merge_policy.specs.declared.policy.Choice.{Choice}

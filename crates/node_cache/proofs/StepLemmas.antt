@@ -15,8 +15,8 @@ use Rattle.fine_model.specs.declared.Node.TheVariants as node
 use Rattle.fine_model.specs.declared.Rec.{Rec}
 use Rattle.fine_model.specs.declared.Rec.TheVariants as rec
 use Rattle.fine_model.specs.declared.Row.{Row}
-use Rattle.fine_model.proofs.NodeBounds.{step_fits}
-use Rattle.fine_model.proofs.GrowLeaf.{fits_leaf}
+use Rattle.fine_model.proofs.Trees.NodeBounds.{step_fits}
+use Rattle.fine_model.proofs.Trees.GrowLeaf.{fits_leaf}
 use Rattle.node_cache.specs.declared.cached.Cached.{Cached}
 use Rattle.node_cache.specs.declared.undo.Step.{Step}
 use Rattle.node_cache.specs.Undo.{TakesBack, CanTakeBack, back}

@@ -16,12 +16,12 @@ use Rattle.fine_model.specs.Nodes.{Content, base, replay, rows_of, content}
 use Rattle.fine_model.specs.Regions.{Image, Place, body_in, HasHeader, IsSealed}
 use Rattle.fine_model.specs.Seek.{RowSpan, entry_at, is_entry, SpanHolds, IsBadInSpan}
 use Rattle.fine_model.specs.Trees.{nodes_of}
-use Rattle.fine_model.proofs.FoundUnfit.{found_unfit, soundly_fit}
-use Rattle.fine_model.proofs.NodeLaws.{replay-append, rows_of-append}
-use Rattle.fine_model.proofs.Grammar.{sealed_not_bad}
-use Rattle.fine_model.proofs.Replaced.{rows_split}
-use Rattle.fine_model.proofs.Order.{all_map}
-use Rattle.fine_model.proofs.Zip.{all_right}
+use Rattle.fine_model.proofs.Trees.FoundUnfit.{found_unfit, soundly_fit}
+use Rattle.fine_model.proofs.Trees.NodeLaws.{replay-append, rows_of-append}
+use Rattle.fine_model.proofs.Chain.Grammar.{sealed_not_bad}
+use Rattle.fine_model.proofs.Chain.Replaced.{rows_split}
+use Rattle.fine_model.proofs.Ordered.Order.{all_map}
+use Rattle.fine_model.proofs.Ordered.Zip.{all_right}
 use Rattle.partition_index.specs.declared.entries.IndexEntry.{IndexEntry}
 use Rattle.partition_index.specs.declared.entries.Span.{Span}
 use Rattle.partition_index.specs.Entries.{row_span_of}

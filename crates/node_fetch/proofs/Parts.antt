@@ -18,9 +18,9 @@ use Rattle.fine_model.specs.RowBytes.{row_len, rows_len, FitsRow, FitsRec, great
 use Rattle.fine_model.specs.Regions.{Image, HasHeader, IsSealed}
 use Rattle.fine_model.specs.Chain.{AreRowsOf}
 use Rattle.fine_model.specs.Seek.{most_taken}
-use Rattle.fine_model.proofs.NodeLaws.{image_forgets, content-append}
-use Rattle.fine_model.proofs.Order.{all_map}
-use Rattle.fine_model.proofs.Zip.{all_left, all_right}
+use Rattle.fine_model.proofs.Trees.NodeLaws.{image_forgets, content-append}
+use Rattle.fine_model.proofs.Ordered.Order.{all_map}
+use Rattle.fine_model.proofs.Ordered.Zip.{all_left, all_right}
 use Rattle.partition_index.specs.Parts.{SameEye, IsSeen}
 use Rattle.partition_index.specs.Search.{TellsRows}
 use Rattle.partition_index.proofs.Looking.{seen_same}

@@ -12,10 +12,10 @@ use Rattle.fine_model.specs.Merge.{is_image}
 use Rattle.fine_model.specs.Nodes.{Content, base, replay}
 use Rattle.log_disk.specs.Disk.{Eye}
 use Rattle.partition_index.specs.Parts.{SameEye}
-use Rattle.fine_model.proofs.Order.{all_map}
+use Rattle.fine_model.proofs.Ordered.Order.{all_map}
 use Rattle.node_fetch.proofs.PartRows.{reads_same}
-use Rattle.fine_model.proofs.NodeLaws.{replay-append}
-use Rattle.fine_model.proofs.Sets.{all_append}
+use Rattle.fine_model.proofs.Trees.NodeLaws.{replay-append}
+use Rattle.fine_model.proofs.Ordered.Sets.{all_append}
 use Rattle.fine_model.specs.Damages.{has_image_first}
 use Rattle.node_fetch.specs.Fetched.{ReadsRows, IsReplayOf}
 

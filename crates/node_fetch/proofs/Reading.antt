@@ -12,11 +12,11 @@ use Rattle.fine_model.specs.declared.NodeId.{NodeId}
 use Rattle.fine_model.specs.declared.Row.{Row}
 use Rattle.fine_model.specs.RowBytes.{row_bytes, row_len, rows_bytes, rows_len, FitsRow}
 use Rattle.fine_model.specs.Merge.{is_ordered, is_row_below, node_cmp}
-use Rattle.fine_model.proofs.Grammar.{rows_begin, rows_bytes-append}
-use Rattle.fine_model.proofs.NodesIn.{nodes_total}
-use Rattle.fine_model.proofs.Sets.{all_append}
-use Rattle.fine_model.proofs.Spelling.{row_spelling}
-use Rattle.fine_model.proofs.Zip.{all_right}
+use Rattle.fine_model.proofs.Chain.Grammar.{rows_begin, rows_bytes-append}
+use Rattle.fine_model.proofs.Merging.NodesIn.{nodes_total}
+use Rattle.fine_model.proofs.Ordered.Sets.{all_append}
+use Rattle.fine_model.proofs.Chain.Spelling.{row_spelling}
+use Rattle.fine_model.proofs.Ordered.Zip.{all_right}
 use Rattle.node_record.specs.Rows.{IsRowAt, IsNoRowAt, IsFrameOf, IsFrameAt}
 use Rattle.node_record.specs.declared.frames.Frame.{Frame}
 use Rattle.node_fetch.specs.declared.frames.Frames.{Frames}

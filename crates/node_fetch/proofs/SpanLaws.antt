@@ -7,8 +7,8 @@ use Rattle.fine_model.specs.declared.NodeId.{NodeId}
 use Rattle.fine_model.specs.declared.Row.{Row}
 use Rattle.fine_model.specs.RowBytes.{row_bytes, rows_bytes, FitsRow}
 use Rattle.fine_model.specs.Seek.{RowSpan, SpanBegins, SpanHolds, IsBadInSpan, span_bytes}
-use Rattle.fine_model.proofs.Grammar.{all_finished, following, rows_begin, rows_long}
-use Rattle.fine_model.proofs.Zip.{all_left, all_right}
+use Rattle.fine_model.proofs.Chain.Grammar.{all_finished, following, rows_begin, rows_long}
+use Rattle.fine_model.proofs.Ordered.Zip.{all_left, all_right}
 use Rattle.node_fetch.specs.Spans.{ReadSoFar, ReadsAll, IsStop, IsNoRowOf}
 use Rattle.node_fetch.proofs.Reading.{rows_more}
 

@@ -9,9 +9,9 @@ use Rattle.fine_model.specs.Map.{Pair, is_below, get, set, pairs_above}
 use Rattle.fine_model.specs.Nodes.{linked, added, with_sum, keys_below, keys_above}
 use Rattle.fine_model.specs.NumberText.{number_of}
 use Rattle.fine_model.specs.declared.Node.TheVariants as node
-use Rattle.fine_model.proofs.Order.{is_below-self, all_map}
-use Rattle.fine_model.proofs.Nothing.{finds_none, none_any}
-use Rattle.fine_model.proofs.Sets.{all_append, all_pass}
+use Rattle.fine_model.proofs.Ordered.Order.{is_below-self, all_map}
+use Rattle.fine_model.proofs.Ordered.Nothing.{finds_none, none_any}
+use Rattle.fine_model.proofs.Ordered.Sets.{all_append, all_pass}
 use Rattle.node_record.specs.Places.{StandsAt, BelongsAt}
 use Rattle.node_record.proofs.Ordered.{at_drop}
 

@@ -10,7 +10,7 @@ use Rattle.fine_model.specs.declared.Row.{Row}
 use Rattle.fine_model.specs.RowBytes.{body, row_bytes, row_len}
 use Rattle.node_record.specs.Keys.{IsKeyOf, AreKeysOf, AreSorted, SortedLaw, StartsAt}
 use Rattle.node_record.specs.declared.key.RowAt.{RowAt}
-use Rattle.fine_model.proofs.Grammar.{row_long}
+use Rattle.fine_model.proofs.Chain.Grammar.{row_long}
 use Rattle.node_record.proofs.RowLaws.{body_short}
 
 -- ---- the fields of a front

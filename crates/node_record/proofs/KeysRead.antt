@@ -5,7 +5,7 @@ use Rattle.std.proofs.lemmas.List.{drop-drop}
 use Rattle.fine_model.specs.declared.Row.{Row}
 use Rattle.fine_model.specs.declared.Mark.TheVariants as mark
 use Rattle.fine_model.specs.RowBytes.{row_bytes, row_len, rows_bytes, FitsRow}
-use Rattle.fine_model.proofs.Grammar.{row_long}
+use Rattle.fine_model.proofs.Chain.Grammar.{row_long}
 use Rattle.node_record.specs.Keys.{IsKeyOf, AreKeysOf, AreRows, StartsAt}
 use Rattle.node_record.specs.declared.key.RowAt.{RowAt}
 

@@ -6,8 +6,8 @@ use Rattle.std.specs.List.Sorted.{IsPartitionedBy, IsPartitionPoint}
 use Rattle.std.proofs.lemmas.List.{length-take, length-drop, get_or-take, get_or-drop}
 use Rattle.std.proofs.lemmas.List.Elements.{filter-append, recursion_from_All, All-from_recursion}
 use Rattle.fine_model.specs.Map.{is_ascending, is_below}
-use Rattle.fine_model.proofs.Order.{order_cases, is_below-trans, is_below-asym, filter_all, filter_none, all_map}
-use Rattle.fine_model.proofs.InOrder.{AreUp, AreUp-drop, AreUp-from_ascending}
+use Rattle.fine_model.proofs.Ordered.Order.{order_cases, is_below-trans, is_below-asym, filter_all, filter_none, all_map}
+use Rattle.fine_model.proofs.Ordered.InOrder.{AreUp, AreUp-drop, AreUp-from_ascending}
 use Rattle.node_record.specs.Places.{StandsAt, BelongsAt}
 
 module _ {A : Type 0} (name : A → List ℕ) where

@@ -10,8 +10,8 @@ use Rattle.fine_model.specs.declared.Rec.{Rec}
 use Rattle.fine_model.specs.declared.Rec.TheVariants as rec
 use Rattle.fine_model.specs.declared.Row.{Row}
 use Rattle.fine_model.specs.RowBytes.{greatest, last_kind, key_bytes, value_bytes, pair_bytes, kind, body, row_bytes, FitsKey, FitsPair, FitsChild, FitsRec, FitsRow, BeginsWithRow}
-use Rattle.fine_model.proofs.Grammar.{row_long}
-use Rattle.fine_model.proofs.FitPushed.{kind_few}
+use Rattle.fine_model.proofs.Chain.Grammar.{row_long}
+use Rattle.fine_model.proofs.Trees.FitPushed.{kind_few}
 use Rattle.std.proofs.lemmas.Bool.{and_parts}
 use Rattle.node_record.specs.declared.front.Front.{Front}
 use Rattle.node_record.specs.declared.fault.RowFault.{RowFault}

@@ -10,7 +10,7 @@ use Rattle.fine_model.specs.declared.Rec.TheVariants as rec
 use Rattle.fine_model.specs.Map.{Pair, is_ascending}
 use Rattle.fine_model.specs.RowBytes.{key_bytes, value_bytes, pair_bytes, kind, body, FitsKey, FitsValue, FitsPair, FitsChild, FitsRec}
 use Rattle.std.proofs.lemmas.Bool.{and_parts}
-use Rattle.fine_model.proofs.Spelling.{small_bits}
+use Rattle.fine_model.proofs.Chain.Spelling.{small_bits}
 use Rattle.node_record.specs.Reading.{◌>>=◌, only, within, text_at, byte_at, number_at, signed_at, key_at, value_at, pair_at, child_at, items_at, head_at, leaf_at, inner_at, put_at, keyed_at, tailed_at}
 use Rattle.node_record.proofs.Readers.{IsBytes, bind_some, found, some_is, only_some, only_again, Takes, Takes-then, IsReader, text_takes, text_again, byte_reader, reader_16, reader_32, reader_64, only_reader, items_take, items_again, map_takes, map_again, pair_reader}
 

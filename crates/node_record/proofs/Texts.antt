@@ -14,7 +14,7 @@ use Rattle.std.proofs.lemmas.Slice.Eq.{bytes_eq-Decides}
 use Rattle.node_record.proofs.Changes.{not_true}
 use Rattle.fine_model.specs.NumberText.{number_text, digits_worth, worth, is_i64, number_of}
 use Rattle.std.proofs.lemmas.Bool.{and_parts}
-use Rattle.fine_model.proofs.NodeBounds.{signed}
+use Rattle.fine_model.proofs.Trees.NodeBounds.{signed}
 
 abbrev read_on : ℕ → List ℕ → ℕ
 read_on n text = fold (λ n digit. 10 * n + (digit - 48)) n text

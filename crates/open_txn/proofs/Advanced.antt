@@ -12,8 +12,8 @@ use Rattle.fine_model.specs.declared.Why.TheVariants as why
 use Rattle.fine_model.specs.Pushed.{all_pushed, key_of}
 use Rattle.fine_model.specs.Store.{answer}
 use Rattle.fine_model.specs.Trees.{bucket_of}
-use Rattle.fine_model.proofs.Order.{all_map}
-use Rattle.fine_model.proofs.PushedCalls.{pushed_stops}
+use Rattle.fine_model.proofs.Ordered.Order.{all_map}
+use Rattle.fine_model.proofs.Trees.PushedCalls.{pushed_stops}
 use Rattle.node_cache.specs.Cache.{Cache}
 use Rattle.node_cache.specs.Given.{Finds, OnCleanFault}
 use Rattle.btree_nodes.specs.declared.fault.TreeFault.{TreeFault}

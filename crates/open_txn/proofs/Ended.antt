@@ -1,6 +1,6 @@
 -- The laws of open transactions.
-use Rattle.fine_model.proofs.Stated.{shown_small}
-use Rattle.fine_model.proofs.HistoryLaws.{IsLegal-push}
+use Rattle.fine_model.proofs.Histories.Stated.{shown_small}
+use Rattle.fine_model.proofs.Histories.HistoryLaws.{IsLegal-push}
 use Rattle.txn_draft.specs.Drafts.{entry_of}
 use Rattle.txn_draft.proofs.Lawful.{next_law}
 use Rattle.open_txn.specs.Opened.{AbortLaw, FollowsLaw}

@@ -2,7 +2,7 @@
 use Rattle.std.proofs.Common.{◌≡◌, ◌≢◌, ⊎_elim, ℕ, zero, suc, ◌+◌, ◌<◌, ◌≤◌, Bool, true, false, List, [], ◌∷◌, ◌++◌, length, replicate, Option, Some, None, slice_get, slice_index_or, slice_set, refl, sym, ap, ◌∙◌, subst, arith}
 use Rattle.std.proofs.lemmas.List.{length-append, length-set}
 use Rattle.std.proofs.lemmas.Option.{slice_get-get_or, slice_get_within}
-use Rattle.fine_model.proofs.Times.{times, times-none, times-append, times-same, times-cons}
+use Rattle.fine_model.proofs.Ordered.Times.{times, times-none, times-append, times-same, times-cons}
 use Rattle.open_txn.specs.Buckets.{none_touched}
 use Rattle.open_txn.specs.Touched.{AreNumbered, Clears, here, number_set}
 use Rattle.open_txn.proofs.Places.{get_else, get_same}

@@ -7,8 +7,8 @@ use Rattle.fine_model.specs.declared.Row.{Row}
 use Rattle.fine_model.specs.declared.law.Origin.{Origin}
 use Rattle.fine_model.specs.Buckets.{Began}
 use Rattle.fine_model.specs.History.{Commit, all_rows}
-use Rattle.fine_model.proofs.Legal.{legal_map}
-use Rattle.fine_model.proofs.Stated.{shown_small}
+use Rattle.fine_model.proofs.Histories.Legal.{legal_map}
+use Rattle.fine_model.proofs.Histories.Stated.{shown_small}
 use Rattle.node_cache.specs.Cache.{Cache}
 use Rattle.btree_nodes.specs.declared.fault.TreeFault.{TreeFault}
 use Rattle.btree_nodes.specs.Trees.{Holds}

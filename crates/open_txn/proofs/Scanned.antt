@@ -17,8 +17,8 @@ use Rattle.fine_model.specs.Nodes.{Content}
 use Rattle.fine_model.specs.ScanLaws.{IsKept}
 use Rattle.fine_model.specs.Store.{answer}
 use Rattle.fine_model.specs.Trees.{IsSound}
-use Rattle.fine_model.proofs.KeptPairs.{kept_first}
-use Rattle.fine_model.proofs.Order.{filter_all}
+use Rattle.fine_model.proofs.Ordered.KeptPairs.{kept_first}
+use Rattle.fine_model.proofs.Ordered.Order.{filter_all}
 use Rattle.node_cache.specs.Cache.{Cache}
 use Rattle.node_cache.specs.Given.{given}
 use Rattle.btree_nodes.specs.declared.fault.TreeFault.{TreeFault}

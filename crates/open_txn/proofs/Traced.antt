@@ -12,7 +12,7 @@ use Rattle.fine_model.specs.Nodes.{Content}
 use Rattle.fine_model.specs.Pushed.{key_of}
 use Rattle.fine_model.specs.Trees.{bucket_of}
 use Rattle.fine_model.specs.RowBytes.{buckets}
-use Rattle.fine_model.proofs.Order.{all_map, filter_all, filter_none}
+use Rattle.fine_model.proofs.Ordered.Order.{all_map, filter_all, filter_none}
 use Rattle.node_cache.specs.Cache.{Cache}
 use Rattle.node_cache.specs.Given.{Finds, IsLoaded}
 use Rattle.btree_nodes.specs.declared.fault.TreeFault.{TreeFault}

@@ -1,6 +1,6 @@
 -- Flags of buckets, with the numbers of those that are set.
 use Rattle.std.specs.Prelude.{◌≡◌, ℕ, ◌+◌, ◌<◌, ◌≤◌, Bool, true, false, cond, List, [], ◌∷◌, length, Option, Some, None, slice_get, slice_set}
-use Rattle.fine_model.proofs.Times.{times}
+use Rattle.fine_model.proofs.Ordered.Times.{times}
 
 -- 1 for a flag that is set
 unfoldable pub here : Option Bool → ℕ

@@ -8,7 +8,7 @@ use lib.Count.{ones}
 use Rattle.std.proofs.lemmas.Nat.{ones_cat, div-add-mod'}
 use Rattle.std.proofs.lemmas.Nat.Bits.{bit_at_lowest, bit_at-suc, bit_at-lt, bit_at_clear_same, bit_at_clear_other, bit_at-zero, bit_at_ones, bit_at_ones_above, bit_at_or, bit_at-trailing_zeros}
 use Rattle.fine_model.specs.Boards.{regions_by, set_of}
-use Rattle.fine_model.proofs.Pairs.{filter_twice}
+use Rattle.fine_model.proofs.Ordered.Pairs.{filter_twice}
 use Rattle.partition_hold.proofs.Bits.{among, same_regions, bit_more}
 
 -- ---- what passes a test

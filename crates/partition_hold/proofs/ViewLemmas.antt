@@ -8,7 +8,7 @@ use Rattle.fine_model.specs.Boards.{set_of}
 use Rattle.fine_model.specs.declared.Row.{Row}
 use Rattle.fine_model.specs.Regions.{Image, HasHeader}
 use Rattle.fine_model.specs.Chain.{AreRowsOf, regions_of}
-use Rattle.fine_model.proofs.Setting.{set_keeps}
+use Rattle.fine_model.proofs.Chain.Setting.{set_keeps}
 use Rattle.partition_index.specs.Parts.{IsSeen, SameEye}
 use Rattle.partition_index.specs.Search.{TellsRows as TellsPart}
 use Rattle.log_disk.specs.Disk.{Eye}

@@ -13,8 +13,8 @@ use Rattle.fine_model.specs.declared.Mark.TheVariants as mark
 use Rattle.fine_model.specs.Merge.{fits_in}
 use Rattle.fine_model.specs.Chain.{regions_of}
 use Rattle.fine_model.specs.Regions.{Image, region_of, continuations, body_start, body_in, place_of, body_len}
-use Rattle.fine_model.proofs.BodyPlaces.{holds_byte}
-use Rattle.fine_model.proofs.Order.{all_map}
+use Rattle.fine_model.proofs.Chain.BodyPlaces.{holds_byte}
+use Rattle.fine_model.proofs.Ordered.Order.{all_map}
 use Rattle.partition_index.specs.Parts.{is_counted, LiesIn}
 
 -- what a header's counts say of its regions, whatever its mark

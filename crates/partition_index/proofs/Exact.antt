@@ -11,7 +11,7 @@ use Rattle.fine_model.specs.RowBytes.{FitsRow}
 use Rattle.fine_model.specs.Merge.{nodes_in}
 use Rattle.fine_model.specs.Regions.{body_in}
 use Rattle.fine_model.specs.Seek.{RowSpan, entry_at, span_at}
-use Rattle.fine_model.proofs.Order.{all_map}
+use Rattle.fine_model.proofs.Ordered.Order.{all_map}
 use Rattle.partition_index.specs.Entries.{model_of, entry_for, row_span_of}
 use Rattle.partition_index.specs.Parts.{IsSeen, LiesIn}
 use Rattle.partition_index.specs.Search.{TellsRows, IsEntryAt, IsSpanAt, IsBadAt, span_for}

@@ -8,8 +8,8 @@ use Rattle.fine_model.specs.declared.Part.{Part}
 use Rattle.fine_model.specs.Merge.{is_node_below}
 use Rattle.fine_model.specs.Regions.{Image, body_in}
 use Rattle.fine_model.specs.Seek.{entry_at, entry_between, entry_place, is_entry, middle_of, sought_entry, span_at, turn_at}
-use Rattle.fine_model.proofs.NodeOrder.{below-asym}
-use Rattle.fine_model.proofs.NodesIn.{is_node_below-self}
+use Rattle.fine_model.proofs.Merging.NodeOrder.{below-asym}
+use Rattle.fine_model.proofs.Merging.NodesIn.{is_node_below-self}
 use Rattle.partition_index.specs.declared.entries.IndexEntry.{IndexEntry}
 use Rattle.partition_index.specs.Entries.{model_of}
 use Rattle.partition_index.specs.Search.{IfTold, IsEntryAt, IsNoEntryAt, MeetsBad}

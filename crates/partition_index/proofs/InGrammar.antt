@@ -15,9 +15,9 @@ use Rattle.fine_model.specs.RowBytes.{row_len, rows_len, rows_bytes}
 use Rattle.fine_model.specs.Merge.{is_node_below, nodes_in}
 use Rattle.fine_model.specs.Regions.{body_bytes, entry_bytes, index_bytes}
 use Rattle.fine_model.specs.Seek.{entry_of, entry_at, entry_place, is_entry, span_at, span_end, is_followed}
-use Rattle.fine_model.proofs.Grammar.{rows_long}
-use Rattle.fine_model.proofs.NodesIn.{is_node-self, is_node_below-self}
-use Rattle.fine_model.proofs.Order.{filter_all}
+use Rattle.fine_model.proofs.Chain.Grammar.{rows_long}
+use Rattle.fine_model.proofs.Merging.NodesIn.{is_node-self, is_node_below-self}
+use Rattle.fine_model.proofs.Ordered.Order.{filter_all}
 use Rattle.partition_index.specs.Entries.{model_of, entry_for, row_span_of}
 use Rattle.partition_index.specs.Search.{span_for}
 use Rattle.partition_index.proofs.Entry.{entry_from, span_good}

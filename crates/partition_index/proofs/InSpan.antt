@@ -12,10 +12,10 @@ use Rattle.fine_model.specs.RowBytes.{row_bytes, rows_bytes, rows_len, FitsRow}
 use Rattle.fine_model.specs.Merge.{is_ordered}
 use Rattle.fine_model.specs.Regions.{index_bytes, body_in, row_area}
 use Rattle.fine_model.specs.Seek.{SpanHolds, span_bytes}
-use Rattle.fine_model.proofs.Grammar.{rows_long}
-use Rattle.fine_model.proofs.NodesIn.{same_node}
-use Rattle.fine_model.proofs.Order.{all_map}
-use Rattle.fine_model.proofs.Sets.{all_filter, all_pass}
+use Rattle.fine_model.proofs.Chain.Grammar.{rows_long}
+use Rattle.fine_model.proofs.Merging.NodesIn.{same_node}
+use Rattle.fine_model.proofs.Ordered.Order.{all_map}
+use Rattle.fine_model.proofs.Ordered.Sets.{all_filter, all_pass}
 use Rattle.partition_index.specs.Entries.{row_span_of}
 use Rattle.partition_index.specs.Parts.{IsSeen}
 use Rattle.partition_index.specs.Search.{TellsRows, span_for}

@@ -12,7 +12,7 @@ use Rattle.partition_index.specs.Search.{sought, span_for}
 use Rattle.partition_index.proofs.NodeOrder.{below-trans, below-other}
 use Rattle.partition_index.proofs.Sorted.{nodes_ascend, ascend_at, has_rows, no_rows}
 use Rattle.std.specs.Ordering.{ordering_reverse}
-use Rattle.fine_model.proofs.NodesIn.{nodes_total}
+use Rattle.fine_model.proofs.Merging.NodesIn.{nodes_total}
 use Rattle.fine_model.specs.declared.NodeId.{NodeId}
 use Rattle.fine_model.specs.declared.Row.{Row}
 use Rattle.fine_model.specs.Merge.{is_node_below, node_cmp, nodes_in}

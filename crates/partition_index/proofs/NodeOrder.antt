@@ -8,10 +8,10 @@ use Rattle.fine_model.specs.declared.Row.{Row}
 use Rattle.fine_model.specs.Nodes.{is_node, rows_of}
 use Rattle.fine_model.specs.RowBytes.{rows_len}
 use Rattle.fine_model.specs.Merge.{is_node_below}
-use Rattle.fine_model.proofs.NodesIn.{is_node_below-self, is_node-self}
-use Rattle.fine_model.proofs.Order.{filter_all, filter_none, all_map}
+use Rattle.fine_model.proofs.Merging.NodesIn.{is_node_below-self, is_node-self}
+use Rattle.fine_model.proofs.Ordered.Order.{filter_all, filter_none, all_map}
 use Rattle.partition_index.specs.Entries.{entry_for}
-pub use Rattle.fine_model.proofs.NodeOrder.{AllBelow, below-trans, below-asym, below-other, above_or_same, not_above_below, nodes_more, with_above, with_last}
+pub use Rattle.fine_model.proofs.Merging.NodeOrder.{AllBelow, below-trans, below-asym, below-other, above_or_same, not_above_below, nodes_more, with_above, with_last}
 
 -- where the rows of a node begin, and how many there are
 abbrev pub offset_of : List Row → NodeId → ℕ

@@ -12,8 +12,8 @@ use Rattle.fine_model.specs.declared.Row.{Row}
 use Rattle.fine_model.specs.Nodes.{is_node, rows_of}
 use Rattle.fine_model.specs.RowBytes.{row_len, rows_len}
 use Rattle.fine_model.specs.Merge.{node_cmp, is_node_below, is_row_below, with_node, nodes_in}
-use Rattle.fine_model.proofs.NodesIn.{is_node_below-self, is_node-self, same_node}
-use Rattle.fine_model.proofs.Order.{all_map, first_of_both}
+use Rattle.fine_model.proofs.Merging.NodesIn.{is_node_below-self, is_node-self, same_node}
+use Rattle.fine_model.proofs.Ordered.Order.{all_map, first_of_both}
 use Rattle.partition_index.specs.Entries.{entry_for}
 use Rattle.partition_index.specs.Index.{is_rising, entries_of, opened, closed, first_of}
 use Rattle.partition_index.specs.declared.entries.IndexEntry.{IndexEntry}

@@ -10,8 +10,8 @@ use Rattle.fine_model.specs.declared.Row.{Row}
 use Rattle.fine_model.specs.Nodes.{is_node, rows_of}
 use Rattle.fine_model.specs.RowBytes.{row_len, rows_len}
 use Rattle.fine_model.specs.Merge.{is_node_below, with_node, nodes_in}
-use Rattle.fine_model.proofs.NodesIn.{is_node_below-self, is_node-self}
-use Rattle.fine_model.proofs.Order.{filter_all, filter_none, all_map}
+use Rattle.fine_model.proofs.Merging.NodesIn.{is_node_below-self, is_node-self}
+use Rattle.fine_model.proofs.Ordered.Order.{filter_all, filter_none, all_map}
 use Rattle.partition_index.specs.Entries.{entry_for, bytes_of}
 use Rattle.partition_index.specs.Index.{entries_of, IsNextNode, AreNextNodes, entry_at, entries_from, rows_in, NextNodeLaw, PiecesLaw}
 use Rattle.partition_index.specs.declared.entries.IndexEntry.{IndexEntry}

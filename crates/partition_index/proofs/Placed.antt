@@ -17,9 +17,9 @@ use Rattle.fine_model.specs.declared.Mark.TheVariants as mark
 use Rattle.fine_model.specs.Trees.{is_distinct}
 use Rattle.fine_model.specs.Regions.{Image, region_of, continuations, body_start, body_in, place_of, body_len}
 use Rattle.fine_model.specs.Chain.{regions_of}
-use Rattle.fine_model.proofs.BodyPlaces.{holds_byte}
-use Rattle.fine_model.proofs.Nothing.{any_none}
-use Rattle.fine_model.proofs.Order.{all_map, first_of_both}
+use Rattle.fine_model.proofs.Chain.BodyPlaces.{holds_byte}
+use Rattle.fine_model.proofs.Ordered.Nothing.{any_none}
+use Rattle.fine_model.proofs.Ordered.Order.{all_map, first_of_both}
 use Rattle.partition_index.specs.Parts.{LiesIn}
 use Rattle.partition_index.specs.Placing.{HasRoomFor, HasBody, PlacedLaw, FrontLaw}
 use Rattle.partition_index.proofs.BodyPlaces.{AreLong, laid, start_small, names_region, low_place, high_place, place_more, behind_long, all_long, body_long}

@@ -8,8 +8,8 @@ use Rattle.fine_model.specs.declared.NodeId.{NodeId}
 use Rattle.fine_model.specs.declared.Row.{Row}
 use Rattle.fine_model.specs.Nodes.{is_node, rows_of}
 use Rattle.fine_model.specs.Merge.{node_cmp, is_node_below, is_row_below, is_ordered}
-use Rattle.fine_model.proofs.NodesIn.{exact_nodes, node_cases, is_node_below-self, same_node}
-use Rattle.fine_model.proofs.Order.{filter_all, filter_none, first_of_both, all_map}
+use Rattle.fine_model.proofs.Merging.NodesIn.{exact_nodes, node_cases, is_node_below-self, same_node}
+use Rattle.fine_model.proofs.Ordered.Order.{filter_all, filter_none, first_of_both, all_map}
 pub use Rattle.partition_index.specs.Index.{AllFrom}
 use Rattle.partition_index.proofs.NodeOrder.{below-trans, below-asym, below-other}
 

@@ -7,9 +7,9 @@ use Rattle.fine_model.specs.declared.NodeId.{NodeId}
 use Rattle.fine_model.specs.declared.Row.{Row}
 use Rattle.fine_model.specs.Nodes.{is_node, rows_of}
 use Rattle.fine_model.specs.Merge.{is_node_below, with_node, nodes_in}
-use Rattle.fine_model.proofs.Sets.{all_append, all_filter}
-use Rattle.fine_model.proofs.NodesIn.{times, times-nodes_in, is_node-self, same_node}
-pub use Rattle.fine_model.proofs.NodesAscend.{AllAbove, Ascend, nodes_ascend}
+use Rattle.fine_model.proofs.Ordered.Sets.{all_append, all_filter}
+use Rattle.fine_model.proofs.Merging.NodesIn.{times, times-nodes_in, is_node-self, same_node}
+pub use Rattle.fine_model.proofs.Merging.NodesAscend.{AllAbove, Ascend, nodes_ascend}
 
 -- what holds of each item holds of the one at a place
 pub all_at : {A : Type 0} (P : A → Type 0) (xs : List A) (i : ℕ) (d : A) → AllByRecursion P xs → i < length xs → P (get_or xs i d)

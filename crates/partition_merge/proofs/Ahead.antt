@@ -13,11 +13,11 @@ use Rattle.fine_model.specs.Nodes.{is_node, rows_of}
 use Rattle.fine_model.specs.RowBytes.{row_len, rows_bytes, rows_len}
 use Rattle.fine_model.specs.Regions.{body_bytes, index_bytes}
 use Rattle.fine_model.specs.Merge.{is_node_below, merged, merged_node, nodes_in}
-use Rattle.fine_model.proofs.Grammar.{rows_long, rows_bytes-append}
-use Rattle.fine_model.proofs.MergedRows.{rows_of-merged}
-use Rattle.fine_model.proofs.NodesIn.{same_node}
-use Rattle.fine_model.proofs.Order.{all_map}
-use Rattle.fine_model.proofs.Sets.{all_append, all_filter, all_pass}
+use Rattle.fine_model.proofs.Chain.Grammar.{rows_long, rows_bytes-append}
+use Rattle.fine_model.proofs.Merging.MergedRows.{rows_of-merged}
+use Rattle.fine_model.proofs.Merging.NodesIn.{same_node}
+use Rattle.fine_model.proofs.Ordered.Order.{all_map}
+use Rattle.fine_model.proofs.Ordered.Sets.{all_append, all_filter, all_pass}
 use Rattle.partition_index.specs.Entries.{bytes_of}
 use Rattle.partition_index.specs.Index.{entry_at}
 use Rattle.partition_index.proofs.Pieces.{next_node}

@@ -9,7 +9,7 @@ use Rattle.std.proofs.Math.Bool.{and_assoc}
 use Rattle.fine_model.specs.declared.NodeId.{NodeId}
 use Rattle.fine_model.specs.declared.Row.{Row}
 use Rattle.fine_model.specs.Merge.{node_cmp, is_node_below, is_row_below, is_ordered}
-use Rattle.fine_model.proofs.Order.{less}
+use Rattle.fine_model.proofs.Ordered.Order.{less}
 use Rattle.partition_merge.specs.Merging.{follows, last_node}
 use Rattle.partition_merge.specs.Mergers.{all_of, are_apart}
 use Rattle.partition_merge.proofs.Nodes.{names}

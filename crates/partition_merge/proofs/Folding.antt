@@ -10,7 +10,7 @@ use Rattle.fine_model.specs.RowBytes.{row_len, rows_len}
 use Rattle.fine_model.specs.Nodes.{Content, base, replay, step, step_node}
 use Rattle.fine_model.specs.Merge.{image_of, is_image, starts_afresh, merged_into}
 use Rattle.std.proofs.lemmas.Bool.{lt-leb, le-leb}
-use Rattle.fine_model.proofs.NodeLaws.{replay-append}
+use Rattle.fine_model.proofs.Trees.NodeLaws.{replay-append}
 use Rattle.partition_merge.specs.Merging.{merged_of}
 
 -- rows that need something before them stay

@@ -11,14 +11,14 @@ use Rattle.fine_model.specs.Merge.{is_node_below, is_ordered, merged, nodes_in}
 use Rattle.fine_model.specs.Nodes.{is_node, rows_of}
 use Rattle.fine_model.specs.Regions.{Image, body_bytes, index_bytes}
 use Rattle.fine_model.specs.RowBytes.{FitsRow, row_len, rows_bytes, rows_len, index_entry}
-use Rattle.fine_model.proofs.FitMerged.{merged_fits}
-use Rattle.fine_model.proofs.Grammar.{rows_long}
-use Rattle.fine_model.proofs.NodeOrder.{above_or_same, below-asym, below-trans}
-use Rattle.fine_model.proofs.NodesIn.{is_node-self, is_node_below-self}
-use Rattle.fine_model.proofs.Order.{all_map, filter_all}
-use Rattle.fine_model.proofs.Owning.{mark_fits}
-use Rattle.fine_model.proofs.Sets.{all_append}
-use Rattle.fine_model.proofs.Zip.{all_left}
+use Rattle.fine_model.proofs.Merging.FitMerged.{merged_fits}
+use Rattle.fine_model.proofs.Chain.Grammar.{rows_long}
+use Rattle.fine_model.proofs.Merging.NodeOrder.{above_or_same, below-asym, below-trans}
+use Rattle.fine_model.proofs.Merging.NodesIn.{is_node-self, is_node_below-self}
+use Rattle.fine_model.proofs.Ordered.Order.{all_map, filter_all}
+use Rattle.fine_model.proofs.Chain.Owning.{mark_fits}
+use Rattle.fine_model.proofs.Ordered.Sets.{all_append}
+use Rattle.fine_model.proofs.Ordered.Zip.{all_left}
 use Rattle.partition_index.specs.Entries.{bytes_of}
 use Rattle.partition_index.specs.Index.{entry_at}
 use Rattle.partition_index.proofs.Opened.{few_rows}

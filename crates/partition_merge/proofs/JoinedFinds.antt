@@ -10,10 +10,10 @@ use Rattle.fine_model.specs.Merge.{is_node_below}
 use Rattle.fine_model.specs.Nodes.{is_node, rows_of}
 use Rattle.fine_model.specs.Regions.{Image}
 use Rattle.fine_model.specs.Seek.{entry_at, is_entry}
-use Rattle.fine_model.proofs.NodeLaws.{rows_of-append}
-use Rattle.fine_model.proofs.NodeOrder.{below-trans}
-use Rattle.fine_model.proofs.NodesIn.{is_node-self, is_node_below-self, node_cases, same_node}
-use Rattle.fine_model.proofs.Order.{all_map, filter_all, filter_none}
+use Rattle.fine_model.proofs.Trees.NodeLaws.{rows_of-append}
+use Rattle.fine_model.proofs.Merging.NodeOrder.{below-trans}
+use Rattle.fine_model.proofs.Merging.NodesIn.{is_node-self, is_node_below-self, node_cases, same_node}
+use Rattle.fine_model.proofs.Ordered.Order.{all_map, filter_all, filter_none}
 use Rattle.partition_index.proofs.Halving.{AreAround, answer, around_sought}
 use Rattle.partition_merge.specs.Merging.{follows, last_node, merged_of}
 use Rattle.partition_merge.specs.Mergers.{all_of, are_apart, at_front}

@@ -11,8 +11,8 @@ use Rattle.fine_model.specs.Merge.{image_of, merged_into}
 use Rattle.fine_model.specs.Nodes.{base, replay}
 use Rattle.fine_model.specs.Regions.{Image}
 use Rattle.fine_model.specs.RowBytes.{row_len, rows_bytes, rows_len, index_entry}
-use Rattle.fine_model.proofs.Grammar.{rows_long, rows_bytes-append}
-use Rattle.fine_model.proofs.Sets.{all_append}
+use Rattle.fine_model.proofs.Chain.Grammar.{rows_long, rows_bytes-append}
+use Rattle.fine_model.proofs.Ordered.Sets.{all_append}
 use Rattle.partition_index.specs.Entries.{bytes_of}
 use Rattle.partition_index.specs.Index.{entry_at}
 use Rattle.partition_index.proofs.Opened.{few_rows}

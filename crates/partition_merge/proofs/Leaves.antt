@@ -16,10 +16,10 @@ use Rattle.fine_model.specs.Map.{Pair, is_ascending, is_below, pairs_above, pair
 use Rattle.fine_model.specs.Merge.{starts_afresh}
 use Rattle.fine_model.specs.Nodes.{Content, base, changed, replay, step, step_node}
 use Rattle.fine_model.specs.RowBytes.{FitsPair, FitsRec, FitsRow, body, key_bytes, kind, pair_bytes, row_bytes, row_len, rows_bytes, rows_len, value_bytes}
-use Rattle.fine_model.proofs.GrowLeaf.{fits_leaf}
-use Rattle.fine_model.proofs.InOrder.{AreUp-filter, AreUp-from_ascending, AreUp-join, ascending_from_up, set_all, set_up}
-use Rattle.fine_model.proofs.Sets.{all_append, all_filter, all_pass}
-use Rattle.fine_model.proofs.Small.{apart_pairs, exclusive, length-filter_le}
+use Rattle.fine_model.proofs.Trees.GrowLeaf.{fits_leaf}
+use Rattle.fine_model.proofs.Ordered.InOrder.{AreUp-filter, AreUp-from_ascending, AreUp-join, ascending_from_up, set_all, set_up}
+use Rattle.fine_model.proofs.Ordered.Sets.{all_append, all_filter, all_pass}
+use Rattle.fine_model.proofs.Trees.Small.{apart_pairs, exclusive, length-filter_le}
 use Rattle.node_record.specs.Places.{BelongsAt, StandsAt}
 use Rattle.node_record.proofs.Changes.{not_true}
 use Rattle.node_record.proofs.RowLaws.{body_short}

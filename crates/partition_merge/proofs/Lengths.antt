@@ -11,8 +11,8 @@ use Rattle.fine_model.specs.declared.Row.{Row}
 use Rattle.fine_model.specs.Merge.{cost, merged, nodes_in}
 use Rattle.fine_model.specs.Regions.{entry_bytes, index_bytes}
 use Rattle.fine_model.specs.RowBytes.{row_len, rows_bytes, rows_len}
-use Rattle.fine_model.proofs.Grammar.{rows_long}
-use Rattle.fine_model.proofs.MergedLen.{merged_len}
+use Rattle.fine_model.proofs.Chain.Grammar.{rows_long}
+use Rattle.fine_model.proofs.Merging.MergedLen.{merged_len}
 use Rattle.partition_index.specs.Parts.{IsSeen, LiesIn}
 use Rattle.partition_index.specs.Search.{TellsRows}
 use Rattle.partition_index.proofs.BodyPlaces.{laid}

@@ -10,9 +10,9 @@ use Rattle.fine_model.specs.declared.NodeId.{NodeId}
 use Rattle.fine_model.specs.declared.Row.{Row}
 use Rattle.fine_model.specs.RowBytes.{row_len, rows_len}
 use Rattle.fine_model.specs.Merge.{is_node_below, is_ordered, with_node, nodes_in, merged}
-use Rattle.fine_model.proofs.MergedLen.{merged_len}
-use Rattle.fine_model.proofs.Sets.{all_append, all_pass}
-use Rattle.fine_model.proofs.NodeOrder.{below-asym}
+use Rattle.fine_model.proofs.Merging.MergedLen.{merged_len}
+use Rattle.fine_model.proofs.Ordered.Sets.{all_append, all_pass}
+use Rattle.fine_model.proofs.Merging.NodeOrder.{below-asym}
 use Rattle.partition_index.proofs.Opened.{few_rows}
 use Rattle.partition_merge.specs.Merging.{first_node, follows, last_node}
 use Rattle.partition_merge.specs.declared.merger.Measure.{Measure}

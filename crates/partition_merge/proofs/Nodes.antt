@@ -6,10 +6,10 @@ use Rattle.fine_model.specs.declared.NodeId.{NodeId}
 use Rattle.fine_model.specs.declared.Row.{Row}
 use Rattle.fine_model.specs.Nodes.{is_node, rows_of, content}
 use Rattle.fine_model.specs.Merge.{is_node_below, with_node, nodes_in, merged_node}
-use Rattle.fine_model.proofs.NodesIn.{node_cases, is_node_below-self, same_node}
-use Rattle.fine_model.proofs.NodeOrder.{below-asym}
-use Rattle.fine_model.proofs.Order.{filter_all, filter_none, all_map}
-use Rattle.fine_model.proofs.Sets.{all_filter, all_pass, all_append}
+use Rattle.fine_model.proofs.Merging.NodesIn.{node_cases, is_node_below-self, same_node}
+use Rattle.fine_model.proofs.Merging.NodeOrder.{below-asym}
+use Rattle.fine_model.proofs.Ordered.Order.{filter_all, filter_none, all_map}
+use Rattle.fine_model.proofs.Ordered.Sets.{all_filter, all_pass, all_append}
 use Rattle.partition_merge.specs.Merging.{merged_of}
 use Rattle.partition_index.proofs.RowOrder.{AllFrom}
 

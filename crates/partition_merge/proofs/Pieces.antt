@@ -14,8 +14,8 @@ use Rattle.fine_model.specs.Map.{set}
 use Rattle.fine_model.specs.Merge.{is_ordered, is_row_below, starts_afresh}
 use Rattle.fine_model.specs.Nodes.{Content, base, changed, replay, step, step_node}
 use Rattle.fine_model.specs.RowBytes.{FitsRow, body, kind, pair_bytes, row_bytes, row_len, rows_bytes, rows_len}
-use Rattle.fine_model.proofs.Grammar.{rows_bytes-append}
-use Rattle.fine_model.proofs.Sets.{all_append}
+use Rattle.fine_model.proofs.Chain.Grammar.{rows_bytes-append}
+use Rattle.fine_model.proofs.Ordered.Sets.{all_append}
 use Rattle.node_fetch.specs.Spans.{AreFramesOf, ReadsAll, last_row}
 use Rattle.node_fetch.specs.declared.frames.Frames.{Frames}
 use Rattle.node_fetch.proofs.Reading.{below_version}

@@ -13,9 +13,9 @@ use Rattle.fine_model.specs.declared.Rec.{Rec}
 use Rattle.fine_model.specs.Nodes.{is_node, rows_of, base, replay}
 use Rattle.fine_model.specs.Merge.{is_node_below, is_ordered, nodes_in, image_of, merged, merged_into, merged_node}
 use Rattle.fine_model.specs.RowBytes.{FitsRow, FitsRec}
-use Rattle.fine_model.proofs.NodesIn.{node_cases, is_node_below-self, is_node-self, same_node}
-use Rattle.fine_model.proofs.Order.{filter_all, filter_none, all_map}
-use Rattle.fine_model.proofs.Sets.{all_filter, all_append}
+use Rattle.fine_model.proofs.Merging.NodesIn.{node_cases, is_node_below-self, is_node-self, same_node}
+use Rattle.fine_model.proofs.Ordered.Order.{filter_all, filter_none, all_map}
+use Rattle.fine_model.proofs.Ordered.Sets.{all_filter, all_append}
 use Rattle.fine_model.specs.Regions.{Image, body_in}
 use Rattle.fine_model.specs.Seek.{entry_at}
 use Rattle.partition_index.specs.declared.entries.IndexEntry.{IndexEntry}
@@ -31,7 +31,7 @@ use Rattle.node_fetch.proofs.PartRows.{tells_same}
 use Rattle.node_fetch.proofs.Told.{map_told}
 use Rattle.partition_merge.specs.declared.merger.Merger.{Merger}
 use Rattle.partition_merge.specs.declared.merger.Source.{Source}
-use Rattle.fine_model.proofs.NodeOrder.{below-other, below-asym, above_or_same}
+use Rattle.fine_model.proofs.Merging.NodeOrder.{below-other, below-asym, above_or_same}
 use Rattle.partition_index.proofs.RowOrder.{AllFrom, all_above}
 use Rattle.partition_merge.specs.Merging.{FitRows, node_at_head, lower, first_node, merged_of}
 use Rattle.partition_merge.specs.Mergers.{IsLeft, SourceAt, StandsAt, HandsOut, IsPast, TakesRows, nodes_left, behind, node_kept}

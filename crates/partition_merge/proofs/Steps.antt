@@ -7,13 +7,13 @@ use Rattle.fine_model.specs.declared.NodeId.{NodeId}
 use Rattle.fine_model.specs.declared.Row.{Row}
 use Rattle.fine_model.specs.Nodes.{is_node, rows_of, content}
 use Rattle.fine_model.specs.Merge.{is_node_below, is_ordered, nodes_in, merged}
-use Rattle.fine_model.proofs.NodesIn.{node_cases, is_node_below-self, is_node-self, same_node}
-use Rattle.fine_model.proofs.Lists.{all_drop}
-use Rattle.fine_model.proofs.NodeOrder.{below-asym, below-other}
-use Rattle.fine_model.proofs.Order.{filter_all, filter_none, all_map}
-use Rattle.fine_model.proofs.Sets.{all_append}
+use Rattle.fine_model.proofs.Merging.NodesIn.{node_cases, is_node_below-self, is_node-self, same_node}
+use Rattle.fine_model.proofs.Ordered.Lists.{all_drop}
+use Rattle.fine_model.proofs.Merging.NodeOrder.{below-asym, below-other}
+use Rattle.fine_model.proofs.Ordered.Order.{filter_all, filter_none, all_map}
+use Rattle.fine_model.proofs.Ordered.Sets.{all_append}
 use Rattle.fine_model.specs.RowBytes.{FitsRec}
-use Rattle.fine_model.proofs.MergedRows.{content-merged}
+use Rattle.fine_model.proofs.Merging.MergedRows.{content-merged}
 use Rattle.partition_merge.specs.Merging.{FitRows, run_len, first_node, merged_of, StandsFor}
 use Rattle.partition_index.proofs.RowOrder.{AllAbove, AllFrom, all_above, all_from, ordered_tail}
 use Rattle.partition_merge.proofs.Nodes.{rest_of, names, merged_all, lowest_first}

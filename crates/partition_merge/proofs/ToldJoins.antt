@@ -10,9 +10,9 @@ use Rattle.fine_model.specs.Merge.{image_of, is_node_below, merged_into}
 use Rattle.fine_model.specs.Nodes.{base, replay}
 use Rattle.fine_model.specs.Regions.{Image, body_in}
 use Rattle.fine_model.specs.Seek.{RowSpan, SpanHolds, entry_at, is_entry, span_at}
-use Rattle.fine_model.proofs.NodeOrder.{above_or_same, below-asym}
-use Rattle.fine_model.proofs.NodesIn.{is_node_below-self}
-use Rattle.fine_model.proofs.Sets.{all_append}
+use Rattle.fine_model.proofs.Merging.NodeOrder.{above_or_same, below-asym}
+use Rattle.fine_model.proofs.Merging.NodesIn.{is_node_below-self}
+use Rattle.fine_model.proofs.Ordered.Sets.{all_append}
 use Rattle.node_fetch.proofs.SpanLaws.{holds_same}
 use Rattle.partition_index.specs.Entries.{row_span_of}
 use Rattle.partition_merge.specs.declared.merger.Merger.{Merger}

@@ -3,9 +3,9 @@ use Rattle.std.proofs.Common.{◌≡◌, ℕ, true, false, List, ◌++◌, sym, 
 use Rattle.std.proofs.lemmas.List.Sums.{fold-append}
 use Rattle.fine_model.specs.declared.Write.{Write}
 use Rattle.fine_model.specs.Map.{Pair, is_below, pairs_below, pairs_above, set, unset, after_write, map_after}
-use Rattle.fine_model.proofs.Among.{ascending-append}
-use Rattle.fine_model.proofs.Order.{is_below-asym, all_map}
-use Rattle.fine_model.proofs.Sets.{ascending-set, ascending-filter, all_pass}
+use Rattle.fine_model.proofs.Trees.Among.{ascending-append}
+use Rattle.fine_model.proofs.Ordered.Order.{is_below-asym, all_map}
+use Rattle.fine_model.proofs.Ordered.Sets.{ascending-set, ascending-filter, all_pass}
 use Rattle.plain_model.specs.Place.{Ascends}
 
 pub set_ascends : (pairs new : List Pair) (key value : List ℕ) → Ascends pairs → new ≡ set pairs key value → Ascends new

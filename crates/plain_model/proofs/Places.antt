@@ -4,7 +4,7 @@ use Rattle.std.proofs.lemmas.List.{set_split}
 use Rattle.std.proofs.lemmas.Option.{slice_get_within}
 use Rattle.fine_model.specs.Map.{Pair, is_below, set, unset}
 use Rattle.plain_model.specs.Place.{Ascends, IsPlace}
-use Rattle.fine_model.proofs.Order.{AllAbove, set_new, set_again, unset_there, unset_absent, around, above_behind, above_from}
+use Rattle.fine_model.proofs.Ordered.Order.{AllAbove, set_new, set_again, unset_there, unset_absent, around, above_behind, above_from}
 
 module _ (key : List ℕ) (pairs : List Pair) (i : ℕ) (up : Ascends pairs) (place : IsPlace key pairs i) where
   pub set_there : (old value : List ℕ) → slice_get pairs i ≡ Some (key, old) → slice_set pairs i (key, value) ≡ set pairs key value

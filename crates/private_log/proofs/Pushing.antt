@@ -12,9 +12,9 @@ use Rattle.fine_model.specs.declared.NodeId.{NodeId}
 use Rattle.fine_model.specs.declared.Row.{Row}
 use Rattle.fine_model.specs.RowBytes.{row_bytes, rows_bytes, row_len, rows_len}
 use Rattle.fine_model.specs.Merge.{node_cmp, is_node_below, with_node, nodes_in, cost}
-use Rattle.fine_model.proofs.NodesIn.{nodes_total, exact_nodes, is_node_below-self}
-use Rattle.fine_model.proofs.Order.{filter_all, filter_none, all_map}
-use Rattle.fine_model.proofs.Grammar.{row_long, rows_long}
+use Rattle.fine_model.proofs.Merging.NodesIn.{nodes_total, exact_nodes, is_node_below-self}
+use Rattle.fine_model.proofs.Ordered.Order.{filter_all, filter_none, all_map}
+use Rattle.fine_model.proofs.Chain.Grammar.{row_long, rows_long}
 use Rattle.private_log.specs.Kept.{rows_in, noted, AreNoted, many_nodes, IsKept}
 use Rattle.private_log.specs.declared.PrivateLog.TheInside.{Inside}
 

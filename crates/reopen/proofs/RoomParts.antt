@@ -9,11 +9,11 @@ use Rattle.fine_model.specs.declared.Damage.{Damage}
 use Rattle.fine_model.specs.Regions.{Image, region_of, is_sealed, HasHeader}
 use Rattle.fine_model.specs.Chain.{parts_from, chain, regions_of, is_free}
 use Rattle.fine_model.specs.ChainLaws.{PartsFollow, IsPart, IsChain}
-use Rattle.fine_model.proofs.Order.{all_map}
-use Rattle.fine_model.proofs.Sets.{all_append}
-use Rattle.fine_model.proofs.Headers.{Lies, good, lies, in_bounds}
-use Rattle.fine_model.proofs.ReadChain.{ReadChain, read_chain, chain_read}
-use Rattle.fine_model.proofs.ChainFacts.{Fact, all_facts, facts, each_part, chain_law}
+use Rattle.fine_model.proofs.Ordered.Order.{all_map}
+use Rattle.fine_model.proofs.Ordered.Sets.{all_append}
+use Rattle.fine_model.proofs.Chain.Headers.{Lies, good, lies, in_bounds}
+use Rattle.fine_model.proofs.Chain.ReadChain.{ReadChain, read_chain, chain_read}
+use Rattle.fine_model.proofs.Chain.ChainFacts.{Fact, all_facts, facts, each_part, chain_law}
 use Rattle.log_disk.specs.Disk.{Disk, Told}
 use Rattle.epoch_room.specs.Value.{all_regions}
 use Rattle.partition_index.specs.Parts.{LiesIn, is_counted}

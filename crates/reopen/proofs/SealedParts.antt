@@ -13,11 +13,11 @@ use Rattle.fine_model.specs.Trees.{is_distinct}
 use Rattle.fine_model.specs.Regions.{Image, region_of, is_sealed, header_at, header_in, bad_field}
 use Rattle.fine_model.specs.Chain.{parts_from, regions_of}
 use Rattle.fine_model.specs.ChainLaws.{part_of}
-use Rattle.fine_model.proofs.Order.{all_map}
-use Rattle.fine_model.proofs.Times.{times, times-none, times-append, times_distinct, distinct_times}
-use Rattle.fine_model.proofs.Images.{and_then_ok, parts_none, parts_bad, parts_good}
-use Rattle.fine_model.proofs.Headers.{good}
-use Rattle.fine_model.proofs.ChainFacts.{Fact, sharing}
+use Rattle.fine_model.proofs.Ordered.Order.{all_map}
+use Rattle.fine_model.proofs.Ordered.Times.{times, times-none, times-append, times_distinct, distinct_times}
+use Rattle.fine_model.proofs.Chain.Images.{and_then_ok, parts_none, parts_bad, parts_good}
+use Rattle.fine_model.proofs.Chain.Headers.{good}
+use Rattle.fine_model.proofs.Chain.ChainFacts.{Fact, sharing}
 use Rattle.epoch_room.specs.Whole.{AreRising}
 use Rattle.reopen.specs.Opening.{beside}
 

@@ -14,8 +14,8 @@ use Rattle.fine_model.specs.Pushed.{and_then}
 use Rattle.fine_model.specs.Regions.{Image, region_of, header_in, header_tests}
 use Rattle.fine_model.specs.Chain.{parts_from, apart, chain_of, chain}
 use Rattle.fine_model.specs.ChainLaws.{part_of}
-use Rattle.fine_model.proofs.Images.{parts_none, parts_bad, parts_good}
-use Rattle.fine_model.proofs.Headers.{good}
+use Rattle.fine_model.proofs.Chain.Images.{parts_none, parts_bad, parts_good}
+use Rattle.fine_model.proofs.Chain.Headers.{good}
 use Rattle.log_disk.specs.Disk.{Disk, Told, IsSound, IsToldOf}
 use Rattle.reopen.specs.declared.chain.Chain.{Chain}
 use Rattle.reopen.specs.declared.fault.OpenFault.{OpenFault}

@@ -11,11 +11,11 @@ use Rattle.fine_model.specs.Boards.{buffer_at, set_of}
 use Rattle.fine_model.specs.Chain.{regions_of}
 use Rattle.fine_model.specs.Jobs.{held_by, held_for}
 use Rattle.fine_model.specs.Merge.{cost, merged}
-use Rattle.fine_model.proofs.Grammar.{rows_long}
+use Rattle.fine_model.proofs.Chain.Grammar.{rows_long}
 use Rattle.fine_model.specs.Regions.{Image, body_bytes, index_bytes}
 use Rattle.fine_model.specs.RowBytes.{rows_bytes, rows_len}
 use Rattle.fine_model.specs.Views.{SameSeen, TellsRowsOf}
-use Rattle.fine_model.proofs.Owning.{tells_alike}
+use Rattle.fine_model.proofs.Chain.Owning.{tells_alike}
 use Rattle.log_partition.proofs.Indexed.{index_long}
 use Rattle.partition_index.specs.Parts.{IsSeen}
 use Rattle.partition_index.specs.Search.{TellsRows as TellsPart}
@@ -25,7 +25,7 @@ use Rattle.partition_merge.specs.Mergers.{at_front, measure_of}
 use Rattle.partition_merge.proofs.Lengths.{merged_small}
 use Rattle.partition_hold.specs.Views.{IsView, SameView, ViewValue, opened}
 use Rattle.partition_hold.proofs.ViewLemmas.{view_names, view_part}
-use Rattle.epoch_room.proofs.Boarding.{board_shows}
+use Rattle.epoch_room.proofs.Views.Boarding.{board_shows}
 use Rattle.room_merges.specs.Merging.{BlocksBegin, BlocksEnd, BlocksGoOn, BodyIsWritten, EyeTells, JoiningBegins, JoiningEnds, JoiningGoesOn, JoiningLasts, MeasureIsTold, OfTold, ShownByEye, WritingLasts, merger_of}
 
 pub shown_by_eye : ShownByEye

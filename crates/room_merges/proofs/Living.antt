@@ -13,7 +13,7 @@ use Rattle.epoch_room.specs.Closing.{ReadsButGates}
 use Rattle.epoch_room.specs.Erasing.{unheld}
 use Rattle.epoch_room.specs.Value.{RoomValue, all_regions}
 use Rattle.epoch_room.specs.Whole.{IsWhole}
-use Rattle.epoch_room.proofs.Viewing.{all_parts}
+use Rattle.epoch_room.proofs.Views.Viewing.{all_parts}
 use Rattle.room_merges.specs.Live.{KeepsLive}
 use Rattle.room_merges.proofs.Telling.{live_shown, seen_within}
 

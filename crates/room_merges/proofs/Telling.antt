@@ -18,11 +18,11 @@ use Rattle.fine_model.specs.Merge.{merged}
 use Rattle.fine_model.specs.Regions.{HasHeader, Image, body_bytes, body_in, region_of}
 use Rattle.fine_model.specs.RowBytes.{FitsRow}
 use Rattle.fine_model.specs.Views.{SameSeen, TellsRowsOf}
-use Rattle.fine_model.proofs.FitMerged.{merged_fits}
-use Rattle.fine_model.proofs.Nothing.{all_at, each_there}
-use Rattle.fine_model.proofs.Order.{all_map}
-use Rattle.fine_model.proofs.Owning.{mark_fits, tells_alike}
-use Rattle.fine_model.proofs.Sets.{all_append}
+use Rattle.fine_model.proofs.Merging.FitMerged.{merged_fits}
+use Rattle.fine_model.proofs.Ordered.Nothing.{all_at, each_there}
+use Rattle.fine_model.proofs.Ordered.Order.{all_map}
+use Rattle.fine_model.proofs.Chain.Owning.{mark_fits, tells_alike}
+use Rattle.fine_model.proofs.Ordered.Sets.{all_append}
 use Rattle.log_disk.specs.Disk.{BothTold, Told}
 use Rattle.partition_hold.specs.Views.{ViewValue, opened}
 use Rattle.partition_hold.proofs.ViewLemmas.{view_names}
@@ -34,12 +34,12 @@ use Rattle.epoch_room.specs.MergeSealing.{replaced}
 use Rattle.epoch_room.specs.MergeSteps.{header_over}
 use Rattle.epoch_room.specs.Value.{RoomValue, all_regions}
 use Rattle.epoch_room.specs.Whole.{AreApart, IsWhole}
-use Rattle.epoch_room.proofs.AllErased.{unheld_lead}
-use Rattle.epoch_room.proofs.Beside.{regions_together}
-use Rattle.epoch_room.proofs.Boarding.{board_shows}
-use Rattle.epoch_room.proofs.LedParts.{lead_in}
-use Rattle.epoch_room.proofs.Taken.{apart_back, other_list}
-use Rattle.epoch_room.proofs.Viewing.{all_parts}
+use Rattle.epoch_room.proofs.Erasures.AllErased.{unheld_lead}
+use Rattle.epoch_room.proofs.RegionSets.Beside.{regions_together}
+use Rattle.epoch_room.proofs.Views.Boarding.{board_shows}
+use Rattle.epoch_room.proofs.Erasures.LedParts.{lead_in}
+use Rattle.epoch_room.proofs.RegionSets.Taken.{apart_back, other_list}
+use Rattle.epoch_room.proofs.Views.Viewing.{all_parts}
 use Rattle.room_merges.specs.Merging.{EyeTells, IsOut}
 use Rattle.room_merges.specs.Near.{MergesTwo, TellsStill}
 use Rattle.room_merges.specs.Pairs.{header_for, job_for}

@@ -33,11 +33,11 @@ use Rattle.epoch_room.specs.Views.{Views, ViewsOr}
 use Rattle.epoch_room.specs.Whole.{IsWhole}
 use Rattle.epoch_room.specs.declared.answers.RoomFault.{RoomFault}
 use Rattle.epoch_room.specs.declared.answers.RoomFault.TheVariants as room_fault
-use Rattle.epoch_room.proofs.Behind.{keeps_none}
-use Rattle.epoch_room.proofs.Freeing.{held_now}
+use Rattle.epoch_room.proofs.OpenEpochs.Behind.{keeps_none}
+use Rattle.epoch_room.proofs.RegionSets.Freeing.{held_now}
 use Rattle.epoch_room.proofs.Joining.{keeps_then}
-use Rattle.epoch_room.proofs.Retired.{lead_place, replaced_two}
-use Rattle.epoch_room.proofs.Boarding.{board_shows}
+use Rattle.epoch_room.proofs.Merges.Retired.{lead_place, replaced_two}
+use Rattle.epoch_room.proofs.Views.Boarding.{board_shows}
 use Rattle.room_merges.specs.declared.fault.MergeFault.{MergeFault}
 use Rattle.room_merges.specs.declared.fault.MergeFault.TheVariants as merge_fault
 use Rattle.room_merges.specs.Live.{KeepsLive}

@@ -31,7 +31,7 @@ use Rattle.epoch_room.specs.Value.{RoomValue, on}
 use Rattle.epoch_room.specs.Whole.{IsWhole}
 use Rattle.epoch_room.specs.declared.answers.RoomFault.{RoomFault}
 use Rattle.epoch_room.specs.declared.answers.RoomFault.TheVariants as room_fault
-use Rattle.epoch_room.proofs.Behind.{keeps_none}
+use Rattle.epoch_room.proofs.OpenEpochs.Behind.{keeps_none}
 use Rattle.epoch_room.proofs.Joining.{keeps_then}
 use Rattle.room_merges.specs.declared.body.Progress.{Progress}
 use Rattle.room_merges.specs.declared.body.Progress.TheVariants as progress

@@ -11,7 +11,7 @@ use Rattle.fine_model.specs.declared.law.RoomState.{RoomState}
 use Rattle.epoch_room.specs.Value.{RoomValue}
 use Rattle.epoch_room.specs.Whole.{HasGeometry, IsIdle, IsWhole}
 use Rattle.epoch_room.specs.Steps.{SealsOr, sealed_state}
-use Rattle.epoch_room.proofs.Seating.{empty_posted}
+use Rattle.epoch_room.proofs.Views.Seating.{empty_posted}
 
 -- sealing leaves the room open, where it answers an epoch
 pub sealed_open : (old new : RoomValue) (epoch : ℕ) → SealsOr old new (Ok epoch) → new.room.is_shut ≡ false

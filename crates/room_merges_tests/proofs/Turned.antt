@@ -8,7 +8,7 @@ use Rattle.fine_model.specs.declared.law.OpenedEye.{OpenedEye}
 use Rattle.fine_model.specs.declared.law.RoomState.{RoomState}
 use Rattle.fine_model.specs.Boards.{Buffer, buffer_at, empty_of}
 use Rattle.fine_model.specs.Regions.{body_len}
-use Rattle.fine_model.proofs.Goings.{job_on}
+use Rattle.fine_model.proofs.Histories.Goings.{job_on}
 use Rattle.partition_hold.specs.Views.{SameView, ViewValue, opened}
 use Rattle.partition_merge.specs.Blocks.{BlocksValue}
 use Rattle.partition_merge.specs.declared.merger.Measure.{Measure}

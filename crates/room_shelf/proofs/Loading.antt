@@ -12,7 +12,7 @@ use Rattle.fine_model.specs.Chain.{regions_of}
 use Rattle.fine_model.specs.Faults.{HasRisen}
 use Rattle.fine_model.specs.Regions.{HasHeader, Image}
 use Rattle.fine_model.specs.Views.{SameSeen, TellsRowsOf}
-use Rattle.fine_model.proofs.Owning.{tells_alike}
+use Rattle.fine_model.proofs.Chain.Owning.{tells_alike}
 use Rattle.log_disk.specs.Disk.{IsToldOf, Told}
 use Rattle.log_disk.specs.Moments.{IsLeft}
 use Rattle.node_fetch.specs.Fetched.{HasBadEntry, HasBadRow}
@@ -21,7 +21,7 @@ use Rattle.partition_hold.specs.Views.{ViewValue, opened}
 use Rattle.epoch_room.specs.Meaning.{Stands, StandsTold, StandsWhere}
 use Rattle.epoch_room.specs.Value.{RoomValue}
 use Rattle.epoch_room.specs.Whole.{HoldsParts}
-use Rattle.fine_model.proofs.Zip.{all_left}
+use Rattle.fine_model.proofs.Ordered.Zip.{all_left}
 use Rattle.room_shelf.specs.Shelves.{Fails, HasView, IsClean, IsLater, IsOut, LogLaw, ReadsLaw, SeesLive, ShowsLog, TellsLaw, shelf, tells_log, total}
 
 -- ---- a view tells the rows of the live parts

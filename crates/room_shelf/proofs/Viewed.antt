@@ -12,9 +12,9 @@ use Rattle.epoch_room.specs.Meaning.{Keeps}
 use Rattle.epoch_room.specs.Value.{RoomValue, on}
 use Rattle.epoch_room.specs.Views.{Views}
 use Rattle.epoch_room.specs.Whole.{IsWhole}
-use Rattle.epoch_room.proofs.Boarding.{board_shows}
-use Rattle.epoch_room.proofs.Viewing.{empty_is}
-use Rattle.fine_model.proofs.Goings.{becomes_itself}
+use Rattle.epoch_room.proofs.Views.Boarding.{board_shows}
+use Rattle.epoch_room.proofs.Views.Viewing.{empty_is}
+use Rattle.fine_model.proofs.Histories.Goings.{becomes_itself}
 use Rattle.room_shelf.specs.Shelves.{HasView, IsLater, IsOut, IsShelf, SeesLive, ShelfValue, seen_as, shelf, total}
 
 -- ---- the state of the room

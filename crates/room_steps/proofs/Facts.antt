@@ -6,7 +6,7 @@ use Rattle.fine_model.specs.declared.RunFault.TheVariants as run_fault
 use Rattle.fine_model.specs.declared.law.RoomState.{RoomState}
 use Rattle.fine_model.specs.Boards.{is_empty}
 use Rattle.fine_model.specs.Faults.{HasRisen, last_count}
-use Rattle.fine_model.proofs.Goings.{becomes_itself, becomes_on}
+use Rattle.fine_model.proofs.Histories.Goings.{becomes_itself, becomes_on}
 use Rattle.partition_hold.specs.Views.{ViewValue}
 use Rattle.epoch_room.specs.Steps.{KeepsCounts}
 use Rattle.epoch_room.specs.Whole.{IsWhole}

@@ -14,7 +14,7 @@ use Rattle.fine_model.specs.declared.law.RoomState.{RoomState}
 use Rattle.fine_model.specs.Chain.{AreRowsOf, regions_of}
 use Rattle.fine_model.specs.Jobs.{job_left}
 use Rattle.fine_model.specs.Regions.{HasHeader, Image, IsSealed, region_of}
-use Rattle.fine_model.proofs.Times.{absent_times, below_times, distinct_times, times, times-append, times-same}
+use Rattle.fine_model.proofs.Ordered.Times.{absent_times, below_times, distinct_times, times, times-append, times-same}
 use Rattle.partition_index.specs.Parts.{IsSeen, LiesIn}
 use Rattle.damage_laws.specs.Made.{AreMadeOf, AreRowsAs, IsMadeOf, Made, Source, beside, sources}
 use Rattle.damage_laws.specs.Places.{AreKeptOrGood, IsGood, IsUnchanged}
@@ -25,9 +25,9 @@ use Rattle.epoch_room.specs.Gate.{KeepsBeside}
 use Rattle.epoch_room.specs.Gathering.{Gathers, HoldsGathered, gathered_part, gathered_state}
 use Rattle.epoch_room.specs.Value.{RoomValue, all_regions, on, regions_outside, taken}
 use Rattle.epoch_room.specs.Whole.{IsWhole}
-use Rattle.epoch_room.proofs.Beside.{regions_together}
-use Rattle.epoch_room.proofs.Freeing.{held_now}
-use Rattle.epoch_room.proofs.Viewing.{all_parts}
+use Rattle.epoch_room.proofs.RegionSets.Beside.{regions_together}
+use Rattle.epoch_room.proofs.RegionSets.Freeing.{held_now}
+use Rattle.epoch_room.proofs.Views.Viewing.{all_parts}
 use Rattle.room_steps.specs.Made.{LivesOn}
 use Rattle.room_steps.proofs.BesideMade.{bytes_are, each_counted, images, in_parts, unchanged}
 use Rattle.room_steps.proofs.JoinedMade.{all_good, all_still, seal_good}

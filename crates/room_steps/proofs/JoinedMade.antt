@@ -9,7 +9,7 @@ use Rattle.fine_model.specs.declared.Part.{Part}
 use Rattle.fine_model.specs.declared.Row.{Row}
 use Rattle.fine_model.specs.Chain.{regions_of}
 use Rattle.fine_model.specs.Regions.{Image, region_of}
-use Rattle.fine_model.proofs.Owning.{own_law}
+use Rattle.fine_model.proofs.Chain.Owning.{own_law}
 use Rattle.damage_laws.specs.Made.{AreMadeOf, IsMadeOf, Made, Source, at_entry, joined, one, sources}
 use Rattle.damage_laws.specs.Places.{AreKeptOrGood, IsGood, IsKept, IsUnchanged}
 use Rattle.damage_laws.proofs.Kept.{found_law}

@@ -16,7 +16,7 @@ use Rattle.fine_model.specs.Jobs.{job_left}
 use Rattle.fine_model.specs.Merge.{encoded_len, is_ordered}
 use Rattle.fine_model.specs.Regions.{HasHeader, Image, IsSealed, partition_bytes}
 use Rattle.fine_model.specs.VersionLaws.{HaveSameRows}
-use Rattle.fine_model.proofs.Times.{distinct_times, times, times-append, times-same, times-tail}
+use Rattle.fine_model.proofs.Ordered.Times.{distinct_times, times, times-append, times-same, times-tail}
 use Rattle.log_partition.proofs.Sealed.{sealed_again}
 use Rattle.damage_laws.specs.Made.{AreMadeOf, IsMadeOf, Made, Source, at_entry, one, since, sources}
 use Rattle.damage_laws.specs.Places.{AreKeptOrGood, IsUnchanged}
@@ -27,10 +27,10 @@ use Rattle.epoch_room.specs.Meaning.{HoldsEpoch, with_epoch}
 use Rattle.epoch_room.specs.Steps.{SealsOr, next_part, sealed_state}
 use Rattle.epoch_room.specs.Value.{RoomValue, all_regions, on, taken}
 use Rattle.epoch_room.specs.Whole.{HoldsParts, IsWhole}
-use Rattle.epoch_room.proofs.Beside.{regions_together}
-use Rattle.epoch_room.proofs.Freeing.{held_now}
-use Rattle.epoch_room.proofs.Partitions.{alike, partition_long}
-use Rattle.epoch_room.proofs.Torn.{HasOpened, sealed_bytes}
+use Rattle.epoch_room.proofs.RegionSets.Beside.{regions_together}
+use Rattle.epoch_room.proofs.RegionSets.Freeing.{held_now}
+use Rattle.epoch_room.proofs.OpenEpochs.Partitions.{alike, partition_long}
+use Rattle.epoch_room.proofs.OpenEpochs.Torn.{HasOpened, sealed_bytes}
 use Rattle.room_steps.specs.Made.{AreCounted, MadeOn}
 use Rattle.room_steps.proofs.JoinedMade.{all_good, all_still, none_made, seal_good}
 use Rattle.room_steps.proofs.BesideMade.{BothRead, both_read, bytes_are, each_counted, images, in_parts, long_as, unchanged}

@@ -11,7 +11,7 @@ use Rattle.fine_model.specs.Chain.{AreRowsOf, regions_of}
 use Rattle.fine_model.specs.Jobs.{job_left}
 use Rattle.fine_model.specs.Regions.{HasHeader, Image, IsSealed, continuations}
 use Rattle.fine_model.specs.Views.{SameSeen}
-use Rattle.fine_model.proofs.Times.{distinct_times, times, times-append, times-same, times_absent}
+use Rattle.fine_model.proofs.Ordered.Times.{distinct_times, times, times-append, times-same, times_absent}
 use Rattle.partition_index.specs.Parts.{IsSeen}
 use Rattle.damage_laws.specs.Made.{AreMadeOf, IsMadeOf as IsMade, joined}
 use Rattle.damage_laws.specs.Places.{AreKeptOrGood, IsUnchanged}
@@ -20,10 +20,10 @@ use Rattle.epoch_room.specs.MergeSealing.{replaced}
 use Rattle.epoch_room.specs.Value.{RoomValue, all_regions, taken}
 use Rattle.epoch_room.specs.Whole.{IsWhole}
 use Rattle.epoch_room.specs.declared.answers.RoomFault.TheVariants as room_fault
-use Rattle.epoch_room.proofs.Beside.{regions_together}
-use Rattle.epoch_room.proofs.Freeing.{held_now}
-use Rattle.epoch_room.proofs.LedParts.{lead_apart}
-use Rattle.epoch_room.proofs.Retired.{replaced_is}
+use Rattle.epoch_room.proofs.RegionSets.Beside.{regions_together}
+use Rattle.epoch_room.proofs.RegionSets.Freeing.{held_now}
+use Rattle.epoch_room.proofs.Erasures.LedParts.{lead_apart}
+use Rattle.epoch_room.proofs.Merges.Retired.{replaced_is}
 use Rattle.room_merges.proofs.Living.{seen_then}
 use Rattle.room_merges.proofs.Telling.{seen_within}
 use Rattle.room_merges.specs.declared.fault.MergeFault.{MergeFault}

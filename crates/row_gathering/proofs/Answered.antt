@@ -10,8 +10,8 @@ use Rattle.fine_model.specs.Chain.{AreRowsOf}
 use Rattle.fine_model.specs.Merge.{is_ordered}
 use Rattle.fine_model.specs.Nodes.{rows_of}
 use Rattle.fine_model.specs.Regions.{HasHeader, Image, IsSealed}
-use Rattle.fine_model.proofs.Permuted.{permuted_law}
-use Rattle.fine_model.proofs.Unique.{AreRowsOf-unique}
+use Rattle.fine_model.proofs.Ordered.Permuted.{permuted_law}
+use Rattle.fine_model.proofs.Chain.Unique.{AreRowsOf-unique}
 use Rattle.log_disk.specs.Disk.{Disk, Told}
 use Rattle.log_partition.proofs.RowsRead.{rises}
 use Rattle.node_record.specs.Keys.{AreKeysOf}

@@ -15,10 +15,10 @@ use Rattle.fine_model.specs.Chain.{AreRowsOf}
 use Rattle.fine_model.specs.Merge.{nodes_in}
 use Rattle.fine_model.specs.Regions.{BeginsWithRows, HasHeader, Image, IsBadItem, IsSealed, Place, body_in, body_len, body_start, continuations, index_area, index_bytes, place_of, region_of, row_area}
 use Rattle.fine_model.specs.RowBytes.{FitsRow, kind, last_kind, rows_bytes, rows_len}
-use Rattle.fine_model.proofs.Grammar.{rows_bytes-append, rows_long, sealed_not_bad}
-use Rattle.fine_model.proofs.Longer.{rows_more}
-use Rattle.fine_model.proofs.Order.{all_map}
-use Rattle.fine_model.proofs.Sets.{all_append}
+use Rattle.fine_model.proofs.Chain.Grammar.{rows_bytes-append, rows_long, sealed_not_bad}
+use Rattle.fine_model.proofs.Chain.Longer.{rows_more}
+use Rattle.fine_model.proofs.Ordered.Order.{all_map}
+use Rattle.fine_model.proofs.Ordered.Sets.{all_append}
 use Rattle.log_disk.specs.Disk.{Disk, Told}
 use Rattle.log_partition.specs.Bodies.{HasRows}
 use Rattle.log_partition.proofs.Costs.{cost_none, cost_together}

@@ -3,7 +3,7 @@ use Rattle.std.proofs.Common.{◌≡◌, ℕ, ◌+◌, List, [], ◌∷◌, ◌+
 use Rattle.std.proofs.lemmas.List.Sums.{sum_by-cons}
 use Rattle.fine_model.specs.declared.Row.{Row}
 use Rattle.fine_model.specs.RowBytes.{row_bytes, row_len, rows_bytes, rows_len}
-use Rattle.fine_model.proofs.Grammar.{row_long}
+use Rattle.fine_model.proofs.Chain.Grammar.{row_long}
 use Rattle.node_record.specs.Keys.{AreKeysOf}
 use Rattle.row_gathering.specs.Steps.{key_from, keys_from}
 

@@ -14,12 +14,12 @@ use Rattle.fine_model.specs.Merge.{is_node_below, is_ordered, is_row_below, node
 use Rattle.fine_model.specs.Nodes.{is_node, rows_of}
 use Rattle.fine_model.specs.RowBytes.{FitsRow}
 use Rattle.fine_model.specs.VersionLaws.{HaveSameRows}
-use Rattle.fine_model.proofs.Grammar.{ordered_front}
-use Rattle.fine_model.proofs.NodesIn.{is_node-self, is_node_below-self, node_cases, nodes_total, same_node}
-use Rattle.fine_model.proofs.Order.{first_of_both, less}
-use Rattle.fine_model.proofs.Permuted.{permuted_law}
-use Rattle.fine_model.proofs.Sets.{all_filter}
-use Rattle.fine_model.proofs.Spelling.{row_spelling}
+use Rattle.fine_model.proofs.Chain.Grammar.{ordered_front}
+use Rattle.fine_model.proofs.Merging.NodesIn.{is_node-self, is_node_below-self, node_cases, nodes_total, same_node}
+use Rattle.fine_model.proofs.Ordered.Order.{first_of_both, less}
+use Rattle.fine_model.proofs.Ordered.Permuted.{permuted_law}
+use Rattle.fine_model.proofs.Ordered.Sets.{all_filter}
+use Rattle.fine_model.proofs.Chain.Spelling.{row_spelling}
 use Rattle.node_record.specs.Keys.{AreKeysOf, AreRows, AreSorted, IsKeyOf, is_key_below}
 use Rattle.node_record.specs.declared.key.RowAt.{RowAt}
 use Rattle.node_record.proofs.Fronts.{sorted_law}

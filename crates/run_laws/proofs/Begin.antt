@@ -10,7 +10,7 @@ use Rattle.fine_model.specs.declared.ScriptTxn.{ScriptTxn}
 use Rattle.fine_model.specs.declared.law.Origin.{Origin}
 use Rattle.fine_model.specs.Faults.{last_count}
 use Rattle.fine_model.specs.History.{Commit}
-use Rattle.fine_model.proofs.Goings.{becomes_itself}
+use Rattle.fine_model.proofs.Histories.Goings.{becomes_itself}
 use Rattle.epoch_room.specs.Meaning.{origin_of}
 use Rattle.epoch_room.specs.Value.{RoomValue}
 use Rattle.run_laws.specs.Lanes.{none_ended}

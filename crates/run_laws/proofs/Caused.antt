@@ -17,8 +17,8 @@ use Rattle.fine_model.specs.Pushed.{all_pushed}
 use Rattle.fine_model.specs.Regions.{Image}
 use Rattle.fine_model.specs.Room.{HoldsLive, IsSealedUpTo}
 use Rattle.fine_model.specs.RowBytes.{short_header}
-use Rattle.fine_model.proofs.Epochs.{all_upto}
-use Rattle.fine_model.proofs.Goings.{stuck_full}
+use Rattle.fine_model.proofs.Histories.Epochs.{all_upto}
+use Rattle.fine_model.proofs.Histories.Goings.{stuck_full}
 use Rattle.run_laws.specs.Turns.{AreNumbered, CausesLaw, RefusesBehind, StaysRefused, commits_of}
 
 pub stays_refused : StaysRefused

@@ -21,7 +21,7 @@ use Rattle.fine_model.specs.Faults.{HasRisen, last_count}
 use Rattle.fine_model.specs.History.{Commit, last_epoch}
 use Rattle.fine_model.specs.Outcomes.{AllRun, AreOutcomes, lanes_not_run}
 use Rattle.fine_model.specs.Report.{all_outcomes}
-use Rattle.fine_model.proofs.Epochs.{all_sealed}
+use Rattle.fine_model.proofs.Histories.Epochs.{all_sealed}
 use Rattle.epoch_room.specs.Meaning.{Stands, StandsTold, origin_of}
 use Rattle.epoch_room.specs.Value.{RoomValue}
 use Rattle.run_laws.specs.Lanes.{CutShort, HaveEnded, IsSoonest, first_fault, lanes_failed, rank}

@@ -8,8 +8,8 @@ use Rattle.fine_model.specs.Becomes.{Becomes, IsStuck}
 use Rattle.fine_model.specs.History.{Commit}
 use Rattle.fine_model.specs.Outcomes.{EpochsFollow}
 use Rattle.fine_model.specs.Room.{IsSealedUpTo}
-use Rattle.fine_model.proofs.Epochs.{follows_on, none_wait, seals, waiting_push}
-use Rattle.fine_model.proofs.Goings.{becomes_on}
+use Rattle.fine_model.proofs.Histories.Epochs.{follows_on, none_wait, seals, waiting_push}
+use Rattle.fine_model.proofs.Histories.Goings.{becomes_on}
 use Rattle.log_disk.specs.Disk.{BothTold, Told}
 use Rattle.log_disk.specs.Moments.{Continues}
 use Rattle.epoch_room.specs.Meaning.{Keeps, origin_of}

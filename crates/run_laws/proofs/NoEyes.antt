@@ -9,7 +9,7 @@ use Rattle.fine_model.specs.declared.law.RoomState.{RoomState}
 use Rattle.fine_model.specs.Boards.{held_of, is_empty, named}
 use Rattle.epoch_room.specs.Value.{RoomValue}
 use Rattle.epoch_room.specs.Whole.{IsWhole}
-use Rattle.epoch_room.proofs.Seating.{empty_posted}
+use Rattle.epoch_room.proofs.Views.Seating.{empty_posted}
 
 -- no eye is open on the disk of a room with an empty board
 pub no_eyes : (room : RoomValue) → IsWhole room → list_all is_empty room.room.board ≡ true → room.disk.eyes ≡ []

@@ -4,7 +4,7 @@ use Rattle.fine_model.specs.declared.Row.{Row}
 use Rattle.fine_model.specs.Buckets.{Began}
 use Rattle.fine_model.specs.History.{Commit, IsLegal, all_rows, upto}
 use Rattle.fine_model.specs.Nodes.{Agrees}
-use Rattle.fine_model.proofs.Epochs.{legal_of}
+use Rattle.fine_model.proofs.Histories.Epochs.{legal_of}
 use Rattle.log_disk.specs.Disk.{BothTold, Told}
 use Rattle.log_disk.specs.Moments.{Continues}
 use Rattle.partition_hold.specs.Views.{ViewValue}

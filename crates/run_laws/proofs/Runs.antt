@@ -25,7 +25,7 @@ use Rattle.fine_model.specs.History.{Commit, last_epoch}
 use Rattle.fine_model.specs.Outcomes.{AreOutcomes, is_refused}
 use Rattle.fine_model.specs.Report.{all_outcomes}
 use Rattle.fine_model.specs.Trees.{IsSound}
-use Rattle.fine_model.proofs.Epochs.{legal_of, sealed_from, sealed_least}
+use Rattle.fine_model.proofs.Histories.Epochs.{legal_of, sealed_from, sealed_least}
 use Rattle.epoch_room.specs.Meaning.{Stands, StandsAtFirst, StandsTold, StandsWhere, origin_of}
 use Rattle.epoch_room.specs.Value.{RoomValue, made}
 use Rattle.epoch_room.specs.Whole.{HoldsParts}

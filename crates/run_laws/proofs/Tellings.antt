@@ -15,7 +15,7 @@ use Rattle.fine_model.specs.Damages.{GoOnTo, IsDamageIn, LooksAt, calls_on}
 use Rattle.fine_model.specs.Faults.{HasRisen, last_count}
 use Rattle.fine_model.specs.History.{Commit}
 use Rattle.fine_model.specs.Nodes.{Content}
-use Rattle.fine_model.proofs.Sets.{all_append}
+use Rattle.fine_model.proofs.Ordered.Sets.{all_append}
 use Rattle.epoch_room.specs.Meaning.{origin_of}
 use Rattle.epoch_room.specs.Value.{RoomValue}
 use Rattle.room_shelf.specs.Shelves.{IsCountOf}

@@ -5,7 +5,7 @@ use Rattle.std.proofs.lemmas.List.{length-append}
 use Rattle.fine_model.specs.declared.ScriptTxn.{ScriptTxn}
 use Rattle.fine_model.specs.Bounds.{FitsScript, FitsTxn}
 use Rattle.fine_model.specs.Generator.{generated, next_state, txn_of, txns_from}
-use Rattle.fine_model.proofs.Sets.{all_append}
+use Rattle.fine_model.proofs.Ordered.Sets.{all_append}
 use Rattle.script_text.specs.Generating.{IsMade}
 
 -- the first of those that are left

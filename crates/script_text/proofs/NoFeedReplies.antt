@@ -11,8 +11,8 @@ use Rattle.fine_model.specs.declared.Write.TheVariants as write
 use Rattle.fine_model.specs.Map.{Pair, get, has, set, unset, between, pairs_below, pairs_above, is_below, map_after}
 use Rattle.fine_model.specs.NumberText.{number_text, is_i64}
 use Rattle.fine_model.specs.Store.{answer, add_answer, sum_answer, number_at, value_answer, after_call, replies_to, writes_of}
-use Rattle.fine_model.proofs.Lists.{all_take}
-use Rattle.fine_model.proofs.Sets.{all_append, all_filter}
+use Rattle.fine_model.proofs.Ordered.Lists.{all_take}
+use Rattle.fine_model.proofs.Ordered.Sets.{all_append, all_filter}
 use Rattle.script_text.specs.Marks.{HasNoFeed, PairHasNoFeed, CallHasNoFeed, ReplyHasNoFeed}
 use Rattle.script_text.proofs.Feeds.{no_number}
 

@@ -19,9 +19,9 @@ use Rattle.fine_model.specs.Trees.{map_of}
 use Rattle.fine_model.specs.History.{Commit, IsLegal, all_writes, map_at, last_epoch}
 use Rattle.fine_model.specs.Outcomes.{IsOutcomeOf, AreOutcomes, EpochsGoOn, EpochsFollow}
 use Rattle.fine_model.specs.Report.{all_outcomes}
-use Rattle.fine_model.proofs.HistoryLaws.{last_epoch-from}
-use Rattle.fine_model.proofs.Lists.{all_at}
-use Rattle.fine_model.proofs.Sets.{all_append}
+use Rattle.fine_model.proofs.Histories.HistoryLaws.{last_epoch-from}
+use Rattle.fine_model.proofs.Ordered.Lists.{all_at}
+use Rattle.fine_model.proofs.Ordered.Sets.{all_append}
 use Rattle.script_text.specs.Marks.{CallHasNoFeed, ReplyHasNoFeed, IsTold, IsPlainRun, RunTells, MapsStay}
 use Rattle.script_text.proofs.NoFeedReplies.{MapHasNoFeed, WriteHasNoFeed, after_all, replies_all}
 use Rattle.script_text.proofs.NoFeedScripts.{TxnHasNoFeed, script_all}

@@ -10,7 +10,7 @@ use Rattle.fine_model.specs.declared.Ending.TheVariants as ending
 use Rattle.fine_model.specs.declared.ScriptTxn.{ScriptTxn}
 use Rattle.fine_model.specs.NumberText.{number_of}
 use Rattle.fine_model.specs.Script.{lines, onto_first, without_return, pieces, words, natural_of, Line, skipped, begins, calls, ends, faulty, is_key, is_value, line_or_faulty, by_word, when, said, is_comment, is_printable, meaning, Reading, line_added, script_from, script_of}
-use Rattle.fine_model.proofs.Sets.{all_append, all_filter}
+use Rattle.fine_model.proofs.Ordered.Sets.{all_append, all_filter}
 use Rattle.script_text.specs.Marks.{HasNoFeed, CallHasNoFeed}
 use Rattle.script_text.proofs.Grammars.{script_step, script_bad, script_long, script_many}
 

@@ -11,7 +11,7 @@ use Rattle.fine_model.specs.Commands.{counters_summed, map_lines, small_number, 
 use Rattle.fine_model.specs.Map.{Pair, get}
 use Rattle.fine_model.specs.Outcomes.{is_aborted, is_committed, is_refused}
 use Rattle.fine_model.specs.Report.{all_outcomes, fault_line, fault_lines, line}
-use Rattle.fine_model.proofs.Lists.{range_more}
+use Rattle.fine_model.proofs.Ordered.Lists.{range_more}
 use Rattle.script_text.specs.Pages.{Desk, Sends}
 use Rattle.script_text.specs.Summaries.{counted_lines, durable_line, first_summed, gen_line}
 use Rattle.script_text.proofs.Paging.{sends_none, sends_then}

@@ -11,12 +11,12 @@ use Rattle.fine_model.specs.Map.{Pair, map_after}
 use Rattle.fine_model.specs.Pushed.{pushed, all_pushed, key_of}
 use Rattle.fine_model.specs.Store.{answer, after_call, replies_to, writes_of}
 use Rattle.fine_model.specs.Trees.{map_of, bucket_of}
-use Rattle.fine_model.proofs.CallLaw.{same_bucket}
-use Rattle.fine_model.proofs.HistoryLaws.{map_after-append}
-use Rattle.fine_model.proofs.Order.{all_map}
-use Rattle.fine_model.proofs.PushedCalls.{pushed_last}
-use Rattle.fine_model.proofs.SetLaw.{pushed_law}
-use Rattle.fine_model.proofs.Sets.{all_append}
+use Rattle.fine_model.proofs.Trees.CallLaw.{same_bucket}
+use Rattle.fine_model.proofs.Histories.HistoryLaws.{map_after-append}
+use Rattle.fine_model.proofs.Ordered.Order.{all_map}
+use Rattle.fine_model.proofs.Trees.PushedCalls.{pushed_last}
+use Rattle.fine_model.proofs.Trees.SetLaw.{pushed_law}
+use Rattle.fine_model.proofs.Ordered.Sets.{all_append}
 use Rattle.btree_nodes.specs.Trees.{FitsLog}
 use Rattle.txn_draft.specs.Drafts.{DraftValue, IsAnswered, FitsDraft, is_here, noted}
 use Rattle.txn_draft.specs.Steps.{Made, IsMade}

@@ -11,7 +11,7 @@ use Rattle.fine_model.specs.Map.{Pair, is_below, between}
 use Rattle.fine_model.specs.Pushed.{pushed, push_of, call_push, within_limits}
 use Rattle.fine_model.specs.ScanLaws.{IsKept}
 use Rattle.fine_model.specs.Trees.{IsSound, tree_map}
-use Rattle.fine_model.proofs.KeptPairs.{kept_more, kept_cut, kept_all}
+use Rattle.fine_model.proofs.Ordered.KeptPairs.{kept_more, kept_cut, kept_all}
 use Rattle.txn_draft.specs.Drafts.{DraftValue, IsAnswered, noted}
 use Rattle.txn_draft.specs.Scans.{IsFirst, IsCut}
 use Rattle.txn_draft.proofs.Answered.{answered_more}

@@ -12,11 +12,11 @@ use Rattle.fine_model.specs.Buckets.{Began, IsNodeFor, IsUpTo, has_row_on, node_
 use Rattle.fine_model.specs.History.{Commit, all_rows}
 use Rattle.fine_model.specs.Nodes.{Content, content, is_node, replay, rows_of}
 use Rattle.fine_model.specs.Trees.{nodes_of}
-use Rattle.fine_model.proofs.Epochs.{rows_push}
-use Rattle.fine_model.proofs.NodeLaws.{content-append, rows_of-append}
-use Rattle.fine_model.proofs.Order.{all_map, filter_none}
-use Rattle.fine_model.proofs.Sets.{all_append, all_filter}
-use Rattle.fine_model.proofs.UpTo.{no_rows, same_content}
+use Rattle.fine_model.proofs.Histories.Epochs.{rows_push}
+use Rattle.fine_model.proofs.Trees.NodeLaws.{content-append, rows_of-append}
+use Rattle.fine_model.proofs.Ordered.Order.{all_map, filter_none}
+use Rattle.fine_model.proofs.Ordered.Sets.{all_append, all_filter}
+use Rattle.fine_model.proofs.Merging.UpTo.{no_rows, same_content}
 use Rattle.node_cache.specs.declared.cached.Cached.{Cached}
 use Rattle.node_cache.specs.Cache.{Cache, IsResting, IsSaved, after, before, cached, original}
 use Rattle.node_cache.specs.Entries.{stamped}

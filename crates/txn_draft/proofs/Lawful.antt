@@ -11,10 +11,10 @@ use Rattle.fine_model.specs.Nodes.{Content, replay, rows_of}
 use Rattle.fine_model.specs.Pushed.{all_pushed}
 use Rattle.fine_model.specs.Store.{replies_to, writes_of}
 use Rattle.fine_model.specs.Trees.{IsSound, map_of, nodes_of}
-use Rattle.fine_model.proofs.Legal.{legal_map}
-use Rattle.fine_model.proofs.NodeLaws.{content-append, rows_of-append}
-use Rattle.fine_model.proofs.Order.{all_map}
-use Rattle.fine_model.proofs.Sets.{all_append}
+use Rattle.fine_model.proofs.Histories.Legal.{legal_map}
+use Rattle.fine_model.proofs.Trees.NodeLaws.{content-append, rows_of-append}
+use Rattle.fine_model.proofs.Ordered.Order.{all_map}
+use Rattle.fine_model.proofs.Ordered.Sets.{all_append}
 use Rattle.node_cache.specs.declared.cached.Cached.{Cached}
 use Rattle.node_cache.specs.Cache.{Cache, cached, before, IsSaved}
 use Rattle.node_cache.specs.Given.{IsCached}

@@ -16,9 +16,9 @@ use Rattle.fine_model.specs.Nodes.{content, replay, rows_of, base}
 use Rattle.fine_model.specs.Pushed.{pushed, all_pushed, push_of, call_push, within_limits, and_then, key_of, pairs_beside}
 use Rattle.fine_model.specs.Store.{answer, replies_to, writes_of, value_answer, add_answer, number_at}
 use Rattle.fine_model.specs.Trees.{IsSound, map_of, tree_map, pairs_from, nodes_of, bucket_of}
-use Rattle.fine_model.proofs.Legal.{all_pushed_law}
-use Rattle.fine_model.proofs.SetLaw.{pushed_law}
-use Rattle.fine_model.proofs.Stated.{leaf_law}
+use Rattle.fine_model.proofs.Histories.Legal.{all_pushed_law}
+use Rattle.fine_model.proofs.Trees.SetLaw.{pushed_law}
+use Rattle.fine_model.proofs.Histories.Stated.{leaf_law}
 use Rattle.txn_draft.specs.Drafts.{is_here}
 use Rattle.txn_draft.specs.Laws.{SameIn, LocalLaw}
 use Rattle.txn_draft.proofs.Answered.{own_here}

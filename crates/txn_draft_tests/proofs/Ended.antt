@@ -6,7 +6,7 @@ use Rattle.fine_model.specs.declared.Row.{Row}
 use Rattle.fine_model.specs.declared.law.Origin.{Origin}
 use Rattle.fine_model.specs.Buckets.{Began}
 use Rattle.fine_model.specs.History.{Commit, all_rows}
-use Rattle.fine_model.proofs.Legal.{legal_map}
+use Rattle.fine_model.proofs.Histories.Legal.{legal_map}
 use Rattle.node_cache.specs.Cache.{Cache, after, before}
 use Rattle.btree_nodes.specs.declared.fault.TreeFault.{TreeFault}
 use Rattle.btree_nodes.specs.Trees.{Holds, Serves}

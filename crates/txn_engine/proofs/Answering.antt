@@ -14,8 +14,8 @@ use Rattle.fine_model.specs.Buckets.{Began}
 use Rattle.fine_model.specs.History.{Commit, all_rows}
 use Rattle.fine_model.specs.Pushed.{key_of}
 use Rattle.fine_model.specs.Trees.{bucket_of}
-use Rattle.fine_model.proofs.Order.{all_map}
-use Rattle.fine_model.proofs.PushedCalls.{pushed_stops}
+use Rattle.fine_model.proofs.Ordered.Order.{all_map}
+use Rattle.fine_model.proofs.Trees.PushedCalls.{pushed_stops}
 use Rattle.node_cache.specs.Cache.{Cache}
 use Rattle.node_cache.specs.Given.{Finds}
 use Rattle.btree_nodes.specs.declared.fault.TreeFault.{TreeFault}

@@ -14,10 +14,10 @@ use Rattle.fine_model.specs.Buckets.{Began}
 use Rattle.fine_model.specs.History.{Commit, IsLegal}
 use Rattle.fine_model.specs.Jobs.{KeepsJob}
 use Rattle.fine_model.specs.Merge.{cost}
-use Rattle.fine_model.proofs.Epochs.{epochs_below}
-use Rattle.fine_model.proofs.Goings.{becomes_itself, job_itself, job_on}
-use Rattle.fine_model.proofs.HistoryLaws.{IsLegal-push}
-use Rattle.fine_model.proofs.Stated.{shown_small}
+use Rattle.fine_model.proofs.Histories.Epochs.{epochs_below}
+use Rattle.fine_model.proofs.Histories.Goings.{becomes_itself, job_itself, job_on}
+use Rattle.fine_model.proofs.Histories.HistoryLaws.{IsLegal-push}
+use Rattle.fine_model.proofs.Histories.Stated.{shown_small}
 use Rattle.node_cache.specs.Cache.{Cache}
 use Rattle.txn_draft.specs.Drafts.{DraftValue, FitsDraft, blank, entry_of, is_here}
 use Rattle.txn_draft.proofs.Lasting.{untouched_law}

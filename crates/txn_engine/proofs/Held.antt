@@ -14,10 +14,10 @@ use Rattle.fine_model.specs.History.{Commit, IsLegal, all_rows}
 use Rattle.fine_model.specs.Laws.{AreSmall}
 use Rattle.fine_model.specs.Pushed.{all_pushed, key_of}
 use Rattle.fine_model.specs.Trees.{IsSound, bucket_of}
-use Rattle.fine_model.proofs.Legal.{legal_map}
-use Rattle.fine_model.proofs.Stated.{shown_small}
-use Rattle.fine_model.proofs.CallLaw.{bucket_below}
-use Rattle.fine_model.proofs.Epochs.{rows_together}
+use Rattle.fine_model.proofs.Histories.Legal.{legal_map}
+use Rattle.fine_model.proofs.Histories.Stated.{shown_small}
+use Rattle.fine_model.proofs.Trees.CallLaw.{bucket_below}
+use Rattle.fine_model.proofs.Histories.Epochs.{rows_together}
 use Rattle.fine_model.specs.declared.Why.{Why}
 use Rattle.node_cache.specs.Cache.{Cache, IsResting, kept_at}
 use Rattle.btree_nodes.specs.Trees.{Holds, Restores}

@@ -5,7 +5,7 @@ use Rattle.fine_places.proofs.Lists.{decide}
 use Rattle.fine_model.specs.declared.Entry.{Entry}
 use Rattle.fine_model.specs.declared.law.RoomState.{RoomState}
 use Rattle.fine_model.specs.Jobs.{KeepsJob}
-use Rattle.fine_model.proofs.Goings.{job_itself}
+use Rattle.fine_model.proofs.Histories.Goings.{job_itself}
 use Rattle.partition_hold.specs.Views.{state_of}
 use Rattle.fine_hall.specs.declared.law.Beginning.{Beginning}
 use Rattle.fine_hall.specs.Turns.{room_after}

@@ -9,7 +9,7 @@ use Rattle.fine_model.specs.declared.NodeId.{NodeId}
 use Rattle.fine_model.specs.declared.Row.{Row}
 use Rattle.fine_model.specs.ScanLaws.{IsKept}
 use Rattle.fine_model.specs.Trees.{IsSound}
-use Rattle.fine_model.proofs.KeptPairs.{kept_first}
+use Rattle.fine_model.proofs.Ordered.KeptPairs.{kept_first}
 use Rattle.node_cache.specs.Cache.{Cache}
 use Rattle.btree_nodes.specs.declared.fault.TreeFault.{TreeFault}
 use Rattle.btree_nodes.specs.declared.fault.TreeFault.TheVariants.{Unfit, NoMemory}

@@ -4,7 +4,7 @@ use Rattle.std.specs.Prelude.{MatchBool, OnOk, OnErr, IfErr}
 use mathlib.Core.Option.{some}
 use lib.ListN.{get_elem?}
 use Rattle.fine_places.proofs.Lists.{decide, some_same}
-use Rattle.fine_model.proofs.CallLaw.{bucket_below}
+use Rattle.fine_model.proofs.Trees.CallLaw.{bucket_below}
 use Rattle.fine_places.specs.History as places
 use Rattle.fine_model.specs.declared.Call.{Call}
 use Rattle.fine_model.specs.Buckets.{IsBucketFor}

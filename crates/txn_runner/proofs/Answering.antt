@@ -28,7 +28,7 @@ use Rattle.partition_hold.specs.Views.{ViewValue}
 use Rattle.epoch_room.specs.Meaning.{Stands, origin_of}
 use Rattle.epoch_room.specs.Value.{RoomValue, all_regions}
 use Rattle.epoch_room.specs.Whole.{IsWhole}
-use Rattle.epoch_room.proofs.Viewing.{all_parts}
+use Rattle.epoch_room.proofs.Views.Viewing.{all_parts}
 use Rattle.room_merges.proofs.Living.{seen_itself}
 use Rattle.room_shelf.specs.Shelves.{Fails, IsClean, IsLater, IsShelf, LacksView, ReadsOn, ShowsLog, TellsNone, shelf, sight, total}
 use Rattle.room_shelf.proofs.Loading.{reads_law, shows_out}

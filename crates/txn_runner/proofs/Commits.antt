@@ -10,8 +10,8 @@ use Rattle.fine_model.specs.declared.Why.TheVariants as why
 use Rattle.fine_model.specs.History.{Commit, all_rows}
 use Rattle.fine_model.specs.Merge.{cost}
 use Rattle.fine_model.specs.RowBytes.{greatest}
-use Rattle.fine_model.proofs.Epochs.{epochs_below}
-use Rattle.fine_model.proofs.Goings.{becomes_on}
+use Rattle.fine_model.proofs.Histories.Epochs.{epochs_below}
+use Rattle.fine_model.proofs.Histories.Goings.{becomes_on}
 use Rattle.txn_draft.specs.Drafts.{DraftValue, entry_of}
 use Rattle.log_disk.specs.Disk.{Disk}
 use Rattle.partition_hold.specs.Views.{ViewValue}

@@ -10,7 +10,7 @@ use Rattle.fine_model.specs.Damages.{FindsMerged, with_rows}
 use Rattle.fine_model.specs.Merge.{is_image, starts_afresh}
 use Rattle.fine_model.specs.Nodes.{Content, base, replay, rows_of, step}
 use Rattle.fine_model.specs.Regions.{Image}
-use Rattle.fine_model.proofs.NodeLaws.{broken_or_not, replay-append, rows_of-append}
+use Rattle.fine_model.proofs.Trees.NodeLaws.{broken_or_not, replay-append, rows_of-append}
 use Rattle.node_fetch.proofs.Parts.{forgets}
 use Rattle.damage_laws.specs.Firm.{AreFirm, BeginWithImage, CountFrom, GoFrom, HasBegun, IsFirm, IsKnown}
 use Rattle.damage_laws.specs.Goings.{GoBy}

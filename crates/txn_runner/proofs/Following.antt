@@ -19,7 +19,7 @@ use Rattle.fine_model.specs.History.{Commit, all_rows}
 use Rattle.fine_model.specs.Nodes.{Content, is_node, rows_of}
 use Rattle.fine_model.specs.Regions.{HasHeader, Image, region_of}
 use Rattle.fine_model.specs.RowBytes.{FitsRow, buckets as most_buckets}
-use Rattle.fine_model.proofs.NodeLaws.{rows_of-append}
+use Rattle.fine_model.proofs.Trees.NodeLaws.{rows_of-append}
 use Rattle.node_cache.specs.Cache.{Cache}
 use Rattle.damage_laws.specs.Firm.{AreFirm, CountFrom}
 use Rattle.damage_laws.specs.Goings.{GoBy}
@@ -30,7 +30,7 @@ use Rattle.damage_laws.proofs.There.{new_there}
 use Rattle.epoch_room.specs.Meaning.{origin_of}
 use Rattle.epoch_room.specs.Value.{RoomValue}
 use Rattle.epoch_room.specs.Whole.{HoldsParts, IsWhole}
-use Rattle.epoch_room.proofs.Freeing.{held_now}
+use Rattle.epoch_room.proofs.RegionSets.Freeing.{held_now}
 use Rattle.room_steps.specs.Made.{AreCounted, LivesOn, MadeOn}
 use Rattle.room_steps.proofs.JoinedMade.{entry_made}
 use Rattle.open_txn.specs.Buckets.{BucketsValue, StandAll, new_bucket}

@@ -18,7 +18,7 @@ use Rattle.fine_model.specs.Chain.{chain}
 use Rattle.fine_model.specs.Damages.{IsBadOf}
 use Rattle.fine_model.specs.History.{Commit}
 use Rattle.fine_model.specs.Regions.{Image}
-use Rattle.fine_model.proofs.RunDamages.{names_law}
+use Rattle.fine_model.proofs.Histories.RunDamages.{names_law}
 use Rattle.damage_laws.specs.Places.{AreKeptOrGood}
 use Rattle.epoch_room.specs.Fitting.{fit_of}
 use Rattle.epoch_room.specs.Meaning.{origin_of}

@@ -16,7 +16,7 @@ use Rattle.fine_model.specs.Damages.{FindsMerged, GoOnTo, HasBadPlace, MeetsUnfi
 use Rattle.fine_model.specs.History.{Commit, all_rows}
 use Rattle.fine_model.specs.Nodes.{Content, replay, rows_of}
 use Rattle.fine_model.specs.Regions.{Image, Place}
-use Rattle.fine_model.proofs.FoundUnfit.{of_scan}
+use Rattle.fine_model.proofs.Trees.FoundUnfit.{of_scan}
 use Rattle.node_cache.specs.Cache.{Cache}
 use Rattle.node_fetch.specs.Fetched.{HasBadEntry, HasBadRow, IsReplayOf}
 use Rattle.damage_laws.specs.Firm.{AreFirm}

@@ -22,7 +22,7 @@ use Rattle.fine_model.specs.Nodes.{Content, is_node, rows_of}
 use Rattle.fine_model.specs.Pushed.{key_of}
 use Rattle.fine_model.specs.Regions.{Image}
 use Rattle.fine_model.specs.Trees.{bucket_of}
-use Rattle.fine_model.proofs.NodeLaws.{rows_of-append}
+use Rattle.fine_model.proofs.Trees.NodeLaws.{rows_of-append}
 use Rattle.node_cache.specs.Cache.{Cache, IsResting, after, before}
 use Rattle.node_cache.specs.declared.cached.Cached.{Cached}
 use Rattle.node_fetch.specs.Fetched.{IsReplayOf}
@@ -39,7 +39,7 @@ use Rattle.partition_hold.specs.Views.{ViewValue}
 use Rattle.epoch_room.specs.Steps.{appended}
 use Rattle.epoch_room.specs.Value.{RoomValue}
 use Rattle.epoch_room.specs.Whole.{IsWhole}
-use Rattle.fine_model.proofs.Zip.{all_left, all_right}
+use Rattle.fine_model.proofs.Ordered.Zip.{all_left, all_right}
 use Rattle.room_steps.specs.Made.{LivesOn, MadeOn}
 use Rattle.open_txn.specs.Buckets.{BucketsValue, StandAll}
 use Rattle.open_txn.specs.Opened.{LeavesEach}

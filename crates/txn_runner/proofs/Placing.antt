@@ -23,8 +23,8 @@ use Rattle.damage_laws.specs.Places.{AreKeptOrGood, IsGood, IsKept, IsUnchanged,
 use Rattle.damage_laws.proofs.Kept.{entry_blamed, row_blamed}
 use Rattle.epoch_room.specs.Value.{RoomValue, all_regions}
 use Rattle.epoch_room.specs.Whole.{IsWhole}
-use Rattle.fine_model.proofs.Zip.{all_left, all_right}
-use Rattle.epoch_room.proofs.Freeing.{held_now}
+use Rattle.fine_model.proofs.Ordered.Zip.{all_left, all_right}
+use Rattle.epoch_room.proofs.RegionSets.Freeing.{held_now}
 use Rattle.room_merges.specs.Near.{BlamedFirst, StandIn}
 use Rattle.room_merges.specs.Work.{BlamedBy}
 use Rattle.room_merges.specs.declared.fault.MergeFault.TheVariants as merge_fault

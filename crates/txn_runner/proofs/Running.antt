@@ -11,7 +11,7 @@ use Rattle.fine_model.specs.declared.Why.{Why}
 use Rattle.fine_model.specs.Becomes.{Becomes}
 use Rattle.fine_model.specs.History.{Commit, all_rows}
 use Rattle.fine_model.specs.RowBytes.{greatest}
-use Rattle.fine_model.proofs.Goings.{becomes_itself, becomes_on}
+use Rattle.fine_model.proofs.Histories.Goings.{becomes_itself, becomes_on}
 use Rattle.epoch_room.specs.Value.{RoomValue}
 use Rattle.epoch_room.proofs.Counting.{sealed_most}
 use Rattle.room_steps.specs.Laws.{TellsNow}

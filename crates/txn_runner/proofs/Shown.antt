@@ -12,7 +12,7 @@ use Rattle.fine_model.specs.Regions.{Image, region_of}
 use Rattle.fine_model.specs.Views.{SameSeen}
 use Rattle.fine_model.specs.declared.Row.{Row}
 use Rattle.fine_model.specs.declared.law.Origin.{Origin}
-use Rattle.fine_model.proofs.Owning.{own_law}
+use Rattle.fine_model.proofs.Chain.Owning.{own_law}
 use Rattle.damage_laws.specs.Made.{AreMadeOf}
 use Rattle.damage_laws.specs.Places.{AreKeptOrGood, IsUnchanged}
 use Rattle.epoch_room.specs.Value.{RoomValue}

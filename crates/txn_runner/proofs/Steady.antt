@@ -3,7 +3,7 @@ use Rattle.std.proofs.Common.{◌≡◌, ◌⊎◌, inl, inr, ℕ, ◌≤◌, Li
 use Rattle.std.proofs.lemmas.List.{append-nil}
 use Rattle.fine_model.specs.declared.RunFault.{RunFault}
 use Rattle.fine_model.specs.History.{Commit}
-use Rattle.fine_model.proofs.Goings.{buckets_on}
+use Rattle.fine_model.proofs.Histories.Goings.{buckets_on}
 use Rattle.node_cache.specs.Cache.{Cache, IsResting, kept_at}
 use Rattle.epoch_room.specs.Meaning.{origin_of}
 use Rattle.epoch_room.specs.Value.{RoomValue}

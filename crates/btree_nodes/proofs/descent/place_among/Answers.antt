@@ -2,7 +2,7 @@ use Rattle.std.proofs.Common.{◌≡◌, ◌≤◌, true, List, ℕ, length, sub
 use Rattle.std.proofs.lemmas.List.{map-id}
 use Rattle.std.proofs.lemmas.List.Sorted.{IsPartitionPoint-from_clause}
 use Rattle.fine_model.specs.Map.{is_ascending}
-use Rattle.fine_model.proofs.InOrder.{AreUp, AreUp-from_ascending}
+use Rattle.fine_model.proofs.Ordered.InOrder.{AreUp, AreUp-from_ascending}
 use Rattle.btree_nodes.proofs.Places.{is_left, point_filter, left_first}
 use Rattle.btree_nodes.proofs.descent.place_among.Goals as goal
 

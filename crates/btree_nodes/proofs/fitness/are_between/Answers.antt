@@ -3,7 +3,7 @@ use Rattle.std.specs.List.{list_all}
 use Rattle.std.proofs.lemmas.List.{map-id}
 use Rattle.fine_model.specs.Map.{is_ascending}
 use Rattle.fine_model.specs.Trees.{is_above, is_up_to}
-use Rattle.fine_model.proofs.InOrder.{AreUp-from_ascending}
+use Rattle.fine_model.proofs.Ordered.InOrder.{AreUp-from_ascending}
 use Rattle.btree_nodes.proofs.InBounds.{both_ends, ends_below, starts_above}
 use Rattle.btree_nodes.proofs.fitness.are_between.Goals as goal
 

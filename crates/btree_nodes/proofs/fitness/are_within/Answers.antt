@@ -1,7 +1,7 @@
 use Rattle.std.proofs.Common.{◌∙◌, ◌&&◌, ap, option_copied, sym, refl}
 use Rattle.std.specs.List.{list_all}
 use Rattle.fine_model.specs.Trees.{is_from, is_up_to}
-use Rattle.fine_model.proofs.InOrder.{AreUp-from_ascending}
+use Rattle.fine_model.proofs.Ordered.InOrder.{AreUp-from_ascending}
 use Rattle.btree_nodes.proofs.InBounds.{both_ends, ends_below, starts_from}
 use Rattle.btree_nodes.proofs.fitness.are_within.Goals as goal
 

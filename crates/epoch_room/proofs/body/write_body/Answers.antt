@@ -5,7 +5,7 @@ use Rattle.std.proofs.lemmas.List.{append-nil, take-append-drop}
 use Rattle.std.proofs.lemmas.Result.{err_from_is_err_and}
 use Rattle.fine_model.specs.Regions.{place_of, body_len}
 use Rattle.epoch_room.specs.BodyWrites.{WritesBody, lying_in}
-use Rattle.epoch_room.proofs.BodyPieces.{body_among, body_none, first_lies, fits_second, last_lies, pieces, refused_body, still_place}
+use Rattle.epoch_room.proofs.Merges.BodyPieces.{body_among, body_none, first_lies, fits_second, last_lies, pieces, refused_body, still_place}
 use Rattle.epoch_room.proofs.body.write_body.Goals as goal
 
 room_of : (a b m n : ℕ) → a ≡ m → b ≡ n → a - b ≡ m - n

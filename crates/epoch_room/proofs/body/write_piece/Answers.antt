@@ -1,7 +1,7 @@
 use Rattle.std.proofs.Common.{◌≡◌, sym, subst, ap, ◌∙◌}
 use Rattle.log_disk.specs.Disk.{IsUnseen}
 use Rattle.fine_model.specs.Regions.{place_of}
-use Rattle.epoch_room.proofs.BodyPieces.{piece_of, piece_unseen}
+use Rattle.epoch_room.proofs.Merges.BodyPieces.{piece_of, piece_unseen}
 use Rattle.epoch_room.proofs.body.write_piece.Goals as goal
 
 pub write-requires-clause-unseen : goal.write-requires-clause-unseen

@@ -1,4 +1,4 @@
-use Rattle.epoch_room.proofs.GateSteps.{closes_failed, closes_ok}
+use Rattle.epoch_room.proofs.Erasures.GateSteps.{closes_failed, closes_ok}
 use Rattle.epoch_room.proofs.closing.close_gates.Goals as goal
 
 pub returns-in-Ok : goal.returns-in-Ok

@@ -2,8 +2,8 @@ use Rattle.std.proofs.Common.{◌<◌, Err, refl, ap, arith}
 use Rattle.std.specs.Prelude.{slice_index_or}
 use Rattle.log_disk.specs.Disk.{IsUnseen}
 use Rattle.log_disk.specs.declared.refusal.DiskRefusal.{DiskRefusal}
-use Rattle.epoch_room.proofs.GateSteps.{all_there, begun_all, begun_failed, begun_memory, begun_more, begun_none, failed_other}
-use Rattle.epoch_room.proofs.Gates.{still_unseen}
+use Rattle.epoch_room.proofs.Erasures.GateSteps.{all_there, begun_all, begun_failed, begun_memory, begun_more, begun_none, failed_other}
+use Rattle.epoch_room.proofs.OpenEpochs.Gates.{still_unseen}
 use Rattle.epoch_room.proofs.closing.write_gates.Goals as goal
 
 pub loop-begun-init : goal.loop-begun-init

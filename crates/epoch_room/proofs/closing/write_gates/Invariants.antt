@@ -1,4 +1,4 @@
-use Rattle.epoch_room.proofs.GateSteps.{Begun}
+use Rattle.epoch_room.proofs.Erasures.GateSteps.{Begun}
 use Rattle.epoch_room.proofs.closing.write_gates.Given as goal
 
 -- the gates before the next one are closed

@@ -1,4 +1,4 @@
-use Rattle.epoch_room.proofs.Boarding.{board_shows}
+use Rattle.epoch_room.proofs.Views.Boarding.{board_shows}
 use Rattle.epoch_room.proofs.Joining.{keeps_then, views_posted}
 use Rattle.epoch_room.proofs.laws.room_law.Goals as goal
 

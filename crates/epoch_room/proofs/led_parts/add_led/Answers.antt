@@ -2,7 +2,7 @@ use Rattle.std.proofs.Common.{◌<◌}
 use Rattle.std.specs.List.{AllByRecursion}
 use Rattle.fine_model.specs.Chain.{regions_of}
 use Rattle.epoch_room.specs.Whole.{HasRegions}
-use Rattle.epoch_room.proofs.Added.{added_more, drop_next}
+use Rattle.epoch_room.proofs.RegionSets.Added.{added_more, drop_next}
 use Rattle.epoch_room.proofs.led_parts.add_led.Goals as goal
 
 pub loop-part-preserved : goal.loop-part-preserved

@@ -1,6 +1,6 @@
 use Rattle.std.proofs.Common.{◌-◌, ◌++◌, ◌∷◌, [], ◌∙◌, ap, take}
 use Rattle.fine_model.specs.Boards.{set_of}
-use Rattle.epoch_room.proofs.Added.{set_both}
+use Rattle.epoch_room.proofs.RegionSets.Added.{set_both}
 use Rattle.epoch_room.proofs.led_parts.add_part.Goals as goal
 
 pub returns : goal.returns

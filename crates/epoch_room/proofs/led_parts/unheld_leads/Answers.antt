@@ -1,6 +1,6 @@
 use Rattle.std.proofs.Common.{◌<◌}
-use Rattle.epoch_room.proofs.Added.{drop_next}
-use Rattle.epoch_room.proofs.AllErased.{unheld_more}
+use Rattle.epoch_room.proofs.RegionSets.Added.{drop_next}
+use Rattle.epoch_room.proofs.Erasures.AllErased.{unheld_more}
 use Rattle.epoch_room.proofs.led_parts.unheld_leads.Goals as goal
 
 pub loop-part-preserved : goal.loop-part-preserved

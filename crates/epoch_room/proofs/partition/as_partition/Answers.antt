@@ -1,7 +1,7 @@
 use Rattle.std.proofs.Common.{List, ℕ, sym, subst}
 use Rattle.node_record.specs.Keys.{AreKeysOf}
 use Rattle.node_record.specs.declared.key.RowAt.{RowAt}
-use Rattle.epoch_room.proofs.Partitions.{ArrangedAt, arranged_at, as_arranged}
+use Rattle.epoch_room.proofs.OpenEpochs.Partitions.{ArrangedAt, arranged_at, as_arranged}
 use Rattle.epoch_room.proofs.partition.as_partition.Goals as goal
 
 pub encode-requires-clause-rows : goal.encode-requires-clause-rows

@@ -1,7 +1,7 @@
 use Rattle.std.proofs.Common.{rules}
 use Rattle.std.proofs.lemmas.List.Sorted.{answers_always}
 use Rattle.node_record.specs.Keys.{is_key_below}
-use Rattle.epoch_room.proofs.Arranging.{keys_ranked}
+use Rattle.epoch_room.proofs.OpenEpochs.Arranging.{keys_ranked}
 use Rattle.epoch_room.proofs.partition.sorted.Goals as goal
 
 pub returns-clause-sorted : goal.returns-clause-sorted

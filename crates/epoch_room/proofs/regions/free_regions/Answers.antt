@@ -3,8 +3,8 @@ use Rattle.std.specs.Prelude.{filter, nat_eq}
 use Rattle.std.specs.List.{list_any, range_with_len}
 use Rattle.fine_model.specs.Boards.{set_of}
 use Rattle.epoch_room.specs.Value.{all_regions}
-use Rattle.epoch_room.proofs.Beside.{beside_pushed}
-use Rattle.epoch_room.proofs.FreeSets.{set_below}
+use Rattle.epoch_room.proofs.RegionSets.Beside.{beside_pushed}
+use Rattle.epoch_room.proofs.RegionSets.FreeSets.{set_below}
 use Rattle.epoch_room.proofs.regions.free_regions.Goals as goal
 use Rattle.epoch_room.proofs.regions.free_regions.Goals.{then-is_beside, else-is_beside}
 

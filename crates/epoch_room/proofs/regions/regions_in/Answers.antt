@@ -1,5 +1,5 @@
 use Rattle.std.proofs.Common.{◌∙◌, arith}
-use Rattle.epoch_room.proofs.Beside.{regions_sum}
+use Rattle.epoch_room.proofs.RegionSets.Beside.{regions_sum}
 use Rattle.epoch_room.proofs.regions.regions_in.Goals as goal
 
 pub told_regions-requires : goal.told_regions-requires

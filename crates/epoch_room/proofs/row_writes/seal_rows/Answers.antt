@@ -7,9 +7,9 @@ use Rattle.log_disk.specs.declared.refusal.DiskRefusal.{DiskRefusal}
 use Rattle.log_partition.specs.Headers.{padding}
 use Rattle.epoch_room.specs.Gate.{gate, HasBytes, IsUngated, LeavesSealing}
 use Rattle.epoch_room.specs.RowWrites.{WritesRows}
-use Rattle.epoch_room.proofs.Gates.{still_unseen}
-use Rattle.epoch_room.proofs.MergedHeaders.{header_cut}
-use Rattle.epoch_room.proofs.SealedRows.{header_fits, seals_refused, seals_then}
+use Rattle.epoch_room.proofs.OpenEpochs.Gates.{still_unseen}
+use Rattle.epoch_room.proofs.Merges.MergedHeaders.{header_cut}
+use Rattle.epoch_room.proofs.Adopting.SealedRows.{header_fits, seals_refused, seals_then}
 use Rattle.epoch_room.proofs.row_writes.seal_rows.Goals as goal
 
 pub returns-in_err-write_rows : goal.returns-in_err-write_rows

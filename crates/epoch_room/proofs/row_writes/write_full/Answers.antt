@@ -1,4 +1,4 @@
-use Rattle.epoch_room.proofs.LongBodies.{full_none}
+use Rattle.epoch_room.proofs.Merges.LongBodies.{full_none}
 use Rattle.epoch_room.proofs.row_writes.write_full.Goals as goal
 
 pub returns-then-len-lt-BLOCK : goal.returns-then-len-lt-BLOCK

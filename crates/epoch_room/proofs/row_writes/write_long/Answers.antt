@@ -4,7 +4,7 @@ use Rattle.std.proofs.lemmas.Result.{err_from_is_err_and}
 use Rattle.fine_model.specs.Chain.{regions_of}
 use Rattle.log_disk.specs.declared.refusal.DiskRefusal.{DiskRefusal}
 use Rattle.epoch_room.specs.BodyWrites.{WritesBody, lying_in}
-use Rattle.epoch_room.proofs.LongBodies.{body_among_all, front_within, lying_among, place_now, written_more, written_none, written_refused}
+use Rattle.epoch_room.proofs.Merges.LongBodies.{body_among_all, front_within, lying_among, place_now, written_more, written_none, written_refused}
 use Rattle.epoch_room.proofs.row_writes.write_long.Given.{Over}
 use Rattle.epoch_room.proofs.row_writes.write_long.Goals.{After-write_body}
 use Rattle.epoch_room.proofs.row_writes.write_long.Goals as goal

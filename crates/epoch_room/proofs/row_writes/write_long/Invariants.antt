@@ -1,5 +1,5 @@
 use Rattle.std.proofs.Common.{length}
-use Rattle.epoch_room.proofs.LongBodies.{WrittenTo}
+use Rattle.epoch_room.proofs.Merges.LongBodies.{WrittenTo}
 use Rattle.epoch_room.proofs.row_writes.write_long.Given as goal
 
 -- what was written so far, and what is left

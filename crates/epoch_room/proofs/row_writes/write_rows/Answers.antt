@@ -4,8 +4,8 @@ use Rattle.fine_model.specs.declared.Mark.TheVariants as mark
 use Rattle.fine_model.specs.Regions.{body_bytes, index_bytes}
 use Rattle.fine_model.specs.RowBytes.{row_bytes, rows_bytes}
 use Rattle.log_partition.proofs.RowsRead.{lengths}
-use Rattle.epoch_room.proofs.LongBodies.{WrittenTo, front_refused, front_written, full_within, index_taken, left_within, not_err, place_now, row_taken, rows_done, written_none}
-use Rattle.epoch_room.proofs.SealedRows.{body_within}
+use Rattle.epoch_room.proofs.Merges.LongBodies.{WrittenTo, front_refused, front_written, full_within, index_taken, left_within, not_err, place_now, row_taken, rows_done, written_none}
+use Rattle.epoch_room.proofs.Adopting.SealedRows.{body_within}
 use Rattle.epoch_room.proofs.row_writes.write_rows.Given.{Over}
 use Rattle.epoch_room.proofs.row_writes.write_rows.Goals.{After-as_slice, Else-is_err}
 use Rattle.epoch_room.proofs.row_writes.write_rows.Goals as goal

@@ -1,7 +1,7 @@
 use Rattle.std.proofs.Common.{◌++◌, drop}
 use Rattle.fine_model.specs.Regions.{body_bytes, index_bytes}
 use Rattle.fine_model.specs.RowBytes.{rows_bytes}
-use Rattle.epoch_room.proofs.LongBodies.{WrittenTo}
+use Rattle.epoch_room.proofs.Merges.LongBodies.{WrittenTo}
 use Rattle.epoch_room.proofs.row_writes.write_rows.Given as goal
 
 -- what was written so far, and behind it the block, the rows that are left, and the index

@@ -5,8 +5,8 @@ use Rattle.log_disk.specs.Disk.{Disk}
 use Rattle.log_disk.proofs.Sound.{sound_failure, sound_write, sound_sync}
 use Rattle.log_disk.proofs.Times.{continues_told, continues_then, continues_write, continues_sync}
 use Rattle.epoch_room.specs.Gate.{gate, DirtiesOnly, LeavesOpening}
-use Rattle.epoch_room.proofs.Gates.{still_unseen, opening_none, opening_same, opening_synced, opening_begun, opening_done, by_refusal, still_sound, now_same, now_synced}
-use Rattle.epoch_room.proofs.Touching.{dirties_none, dirties_synced, dirties_anew, first_is, last_is, refused_time, refused_synced, beside_told, beside_then, beside_write, beside_sync, own_region, refused_beside}
+use Rattle.epoch_room.proofs.OpenEpochs.Gates.{still_unseen, opening_none, opening_same, opening_synced, opening_begun, opening_done, by_refusal, still_sound, now_same, now_synced}
+use Rattle.epoch_room.proofs.RegionSets.Touching.{dirties_none, dirties_synced, dirties_anew, first_is, last_is, refused_time, refused_synced, beside_told, beside_then, beside_write, beside_sync, own_region, refused_beside}
 use Rattle.epoch_room.proofs.sealing.open_gate.Goals as goal
 
 pub write-requires-clause-unseen : goal.write-requires-clause-unseen

@@ -4,8 +4,8 @@ use Rattle.log_disk.specs.Disk.{Disk}
 use Rattle.log_disk.proofs.Sound.{sound_write}
 use Rattle.log_disk.proofs.Times.{continues_then, continues_write}
 use Rattle.epoch_room.specs.Gate.{LeavesSealing}
-use Rattle.epoch_room.proofs.Gates.{still_unseen, sealing_none, sealing_torn, sealing_gated, behind_none, behind_gated, written_then, by_refusal, still_sound}
-use Rattle.epoch_room.proofs.Touching.{dirties_more, dirties_then, first_is, last_is, refused_time, refused_beside, refused_dirties, beside_then, beside_write, own_region}
+use Rattle.epoch_room.proofs.OpenEpochs.Gates.{still_unseen, sealing_none, sealing_torn, sealing_gated, behind_none, behind_gated, written_then, by_refusal, still_sound}
+use Rattle.epoch_room.proofs.RegionSets.Touching.{dirties_more, dirties_then, first_is, last_is, refused_time, refused_beside, refused_dirties, beside_then, beside_write, own_region}
 use Rattle.epoch_room.proofs.sealing.seal_region.Goals as goal
 
 -- the write was refused

@@ -1,7 +1,7 @@
-use Rattle.fine_model.proofs.NodeBounds.{node_fits}
-use Rattle.fine_model.proofs.FitMerged.{merged_fits}
-use Rattle.fine_model.proofs.FitPushed.{pushed_fits}
-use Rattle.fine_model.proofs.FitHistory.{legal_fits}
+use Rattle.fine_model.proofs.Trees.NodeBounds.{node_fits}
+use Rattle.fine_model.proofs.Merging.FitMerged.{merged_fits}
+use Rattle.fine_model.proofs.Trees.FitPushed.{pushed_fits}
+use Rattle.fine_model.proofs.Histories.FitHistory.{legal_fits}
 use Rattle.fine_model.proofs.bound_laws.bounds_law.Goals as goal
 
 pub returns : goal.returns

@@ -1,4 +1,4 @@
-use Rattle.fine_model.proofs.Closed.{closed_law}
+use Rattle.fine_model.proofs.Chain.Closed.{closed_law}
 use Rattle.fine_model.proofs.chain_laws.closed_law.Goals as goal
 
 pub returns : goal.returns

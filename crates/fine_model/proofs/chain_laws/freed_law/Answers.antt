@@ -1,4 +1,4 @@
-use Rattle.fine_model.proofs.Freed.{freed_law}
+use Rattle.fine_model.proofs.Chain.Freed.{freed_law}
 use Rattle.fine_model.proofs.chain_laws.freed_law.Goals as goal
 
 pub returns : goal.returns

@@ -1,4 +1,4 @@
-use Rattle.fine_model.proofs.Replaced.{replace_law}
+use Rattle.fine_model.proofs.Chain.Replaced.{replace_law}
 use Rattle.fine_model.proofs.chain_laws.replace_law.Goals as goal
 
 pub returns : goal.returns

@@ -1,4 +1,4 @@
-use Rattle.fine_model.proofs.Replaced.{rows_split, rows_join}
+use Rattle.fine_model.proofs.Chain.Replaced.{rows_split, rows_join}
 use Rattle.fine_model.proofs.chain_laws.rows_law.Goals as goal
 
 pub returns : goal.returns

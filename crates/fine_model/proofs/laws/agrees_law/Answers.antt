@@ -1,4 +1,4 @@
-use Rattle.fine_model.proofs.NodeLaws.{Agrees-refl, Agrees-trans, Agrees-append}
+use Rattle.fine_model.proofs.Trees.NodeLaws.{Agrees-refl, Agrees-trans, Agrees-append}
 use Rattle.fine_model.proofs.laws.agrees_law.Goals as goal
 
 pub returns : goal.returns

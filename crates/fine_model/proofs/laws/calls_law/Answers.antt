@@ -1,4 +1,4 @@
-use Rattle.fine_model.proofs.PushedCalls.{pushed_behind, pushed_last, pushed_stops}
+use Rattle.fine_model.proofs.Trees.PushedCalls.{pushed_behind, pushed_last, pushed_stops}
 use Rattle.fine_model.proofs.laws.calls_law.Goals as goal
 
 pub returns : goal.returns

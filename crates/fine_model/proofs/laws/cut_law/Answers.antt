@@ -1,4 +1,4 @@
-use Rattle.fine_model.proofs.Gathered.{order_law, cut_law}
+use Rattle.fine_model.proofs.Ordered.Gathered.{order_law, cut_law}
 use Rattle.fine_model.proofs.laws.cut_law.Goals as goal
 
 pub returns : goal.returns

@@ -1,4 +1,4 @@
-use Rattle.fine_model.proofs.FitPaths.{fit_law, scan_law}
+use Rattle.fine_model.proofs.Trees.FitPaths.{fit_law, scan_law}
 use Rattle.fine_model.proofs.laws.fit_law.Goals as goal
 
 pub returns : goal.returns

@@ -1,5 +1,5 @@
-use Rattle.fine_model.proofs.FewPairs.{few_pairs}
-use Rattle.fine_model.proofs.KeptPairs.{pairs_fit, whole_range}
+use Rattle.fine_model.proofs.Ordered.FewPairs.{few_pairs}
+use Rattle.fine_model.proofs.Ordered.KeptPairs.{pairs_fit, whole_range}
 use Rattle.fine_model.proofs.laws.keys_law.Goals as goal
 
 pub returns : goal.returns

@@ -1,5 +1,5 @@
-use Rattle.fine_model.proofs.Pairs.{get-set_same}
-use Rattle.fine_model.proofs.Joined.{get-set_other}
+use Rattle.fine_model.proofs.Ordered.Pairs.{get-set_same}
+use Rattle.fine_model.proofs.Trees.Joined.{get-set_other}
 use Rattle.fine_model.proofs.laws.map_law.Goals as goal
 
 pub returns : goal.returns

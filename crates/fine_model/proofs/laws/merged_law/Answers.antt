@@ -1,6 +1,6 @@
-use Rattle.fine_model.proofs.MergedLen.{merged_len}
-use Rattle.fine_model.proofs.MergedOrder.{merged_order}
-use Rattle.fine_model.proofs.MergedRuns.{merged_agrees}
+use Rattle.fine_model.proofs.Merging.MergedLen.{merged_len}
+use Rattle.fine_model.proofs.Merging.MergedOrder.{merged_order}
+use Rattle.fine_model.proofs.Merging.MergedRuns.{merged_agrees}
 use Rattle.fine_model.proofs.laws.merged_law.Goals as goal
 
 pub returns : goal.returns

@@ -1,5 +1,5 @@
-use Rattle.fine_model.proofs.SetLaw.{pushed_law}
-use Rattle.fine_model.proofs.Legal.{all_pushed_law}
+use Rattle.fine_model.proofs.Trees.SetLaw.{pushed_law}
+use Rattle.fine_model.proofs.Histories.Legal.{all_pushed_law}
 use Rattle.fine_model.proofs.laws.pushed_law.Goals as goal
 
 pub returns : goal.returns

@@ -1,4 +1,4 @@
-use Rattle.fine_model.proofs.KeptPairs.{kept_first, kept_more, kept_cut, kept_all}
+use Rattle.fine_model.proofs.Ordered.KeptPairs.{kept_first, kept_more, kept_cut, kept_all}
 use Rattle.fine_model.proofs.laws.scan_law.Goals as goal
 
 pub returns : goal.returns

@@ -1,4 +1,4 @@
-use Rattle.fine_model.proofs.Grammar.{sealed_not_bad}
+use Rattle.fine_model.proofs.Chain.Grammar.{sealed_not_bad}
 use Rattle.fine_model.proofs.laws.sealed_law.Goals as goal
 
 pub returns : goal.returns

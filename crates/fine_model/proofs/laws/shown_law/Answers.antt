@@ -1,4 +1,4 @@
-use Rattle.fine_model.proofs.Unique.{Shows-unique}
+use Rattle.fine_model.proofs.Chain.Unique.{Shows-unique}
 use Rattle.fine_model.proofs.laws.shown_law.Goals as goal
 
 pub returns : goal.returns

@@ -1,5 +1,5 @@
-use Rattle.fine_model.proofs.HistoryLaws.{upto-last}
-use Rattle.fine_model.proofs.Legal.{front_law, growth_law}
+use Rattle.fine_model.proofs.Histories.HistoryLaws.{upto-last}
+use Rattle.fine_model.proofs.Histories.Legal.{front_law, growth_law}
 use Rattle.fine_model.proofs.laws.upto_law.Goals as goal
 
 pub returns : goal.returns

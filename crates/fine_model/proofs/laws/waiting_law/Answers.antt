@@ -1,4 +1,4 @@
-use Rattle.fine_model.proofs.Epochs.{waiting_push, seals, none_wait, all_upto}
+use Rattle.fine_model.proofs.Histories.Epochs.{waiting_push, seals, none_wait, all_upto}
 use Rattle.fine_model.proofs.laws.waiting_law.Goals as goal
 
 pub returns : goal.returns

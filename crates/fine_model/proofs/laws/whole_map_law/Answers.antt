@@ -1,4 +1,4 @@
-use Rattle.fine_model.proofs.ByteKeys.{byte_keys, map_ascends, whole_map, whole_scan}
+use Rattle.fine_model.proofs.Chain.ByteKeys.{byte_keys, map_ascends, whole_map, whole_scan}
 use Rattle.fine_model.proofs.laws.whole_map_law.Goals as goal
 
 pub returns : goal.returns

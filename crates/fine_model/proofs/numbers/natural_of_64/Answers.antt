@@ -1,7 +1,7 @@
 use Rattle.std.proofs.Common.{sym, ◌∙◌, arith}
 use Rattle.std.proofs.lemmas.Slice.Eq.{bytes_eq-Decides}
 use Rattle.fine_model.proofs.numbers.natural_of_64.Goals as goal
-use Rattle.fine_model.proofs.Digits.{spelled}
+use Rattle.fine_model.proofs.Ordered.Digits.{spelled}
 
 pub returns-then-eq-clause-is : goal.returns-then-eq-clause-is
 returns-then-eq-clause-is c =

@@ -1,5 +1,5 @@
-use Rattle.fine_model.proofs.Arranged.{stable_law, lower_law}
-use Rattle.fine_model.proofs.Unstable.{are_orders, unstable_law}
+use Rattle.fine_model.proofs.Ordered.Arranged.{stable_law, lower_law}
+use Rattle.fine_model.proofs.Merging.Unstable.{are_orders, unstable_law}
 use Rattle.fine_model.proofs.version_laws.sort_law.Goals as goal
 
 pub returns : goal.returns

@@ -1,6 +1,6 @@
 -- One round: views are posted and taken, and what none names is erased.
 use Rattle.hall_rooms.specs.Rooms.{beginning_of}
-use Rattle.fine_model.proofs.Goings.{job_on}
+use Rattle.fine_model.proofs.Histories.Goings.{job_on}
 use Rattle.hall_rooms.proofs.Clearing.{looks_job, round_goes, show_fails}
 use Rattle.hall_rooms.proofs.Renewing.{go_stays, go_then, part_on}
 use Rattle.hall_rooms.proofs.making.renew_and_erase.Goals as goal

@@ -1,6 +1,6 @@
 use Rattle.std.proofs.Common.{◌++◌, length, sym, ap, ◌∙◌, arith, length-append}
 use Rattle.fine_model.specs.RowBytes.{rows_bytes}
-use Rattle.fine_model.proofs.Grammar.{rows_long}
+use Rattle.fine_model.proofs.Chain.Grammar.{rows_long}
 use Rattle.log_partition.proofs.Fields.{first_forty, forty_long}
 use Rattle.log_partition.proofs.Keyed.{in_bounds}
 use Rattle.log_partition.proofs.Written.{whole_partition}

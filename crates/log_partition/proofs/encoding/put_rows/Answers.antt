@@ -2,7 +2,7 @@ use Rattle.std.proofs.Common.{◌≡◌, ◌<◌, ◌++◌, length, take, sym, a
 use Rattle.std.specs.Prelude.{slice_index_or}
 use Rattle.std.proofs.lemmas.List.{take_all}
 use Rattle.fine_model.specs.RowBytes.{rows_bytes}
-use Rattle.fine_model.proofs.Grammar.{rows_long}
+use Rattle.fine_model.proofs.Chain.Grammar.{rows_long}
 use Rattle.log_partition.proofs.Keyed.{no_key, as_many, part_within, part_long, put_more, part_of, len_more, len_within}
 use Rattle.log_partition.proofs.encoding.put_rows.Goals as goal
 

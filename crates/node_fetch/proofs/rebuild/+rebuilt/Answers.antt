@@ -8,7 +8,7 @@ use Rattle.fine_model.specs.declared.FetchFault.TheVariants as fault
 use Rattle.fine_model.specs.Merge.{is_image}
 use Rattle.fine_model.specs.Nodes.{content, replay}
 use Rattle.node_fetch.specs.Fetched.{HasBadRow, HasBadEntry, TellsParts}
-use Rattle.fine_model.proofs.Zip.{all_left, all_right}
+use Rattle.fine_model.proofs.Ordered.Zip.{all_left, all_right}
 use Rattle.node_fetch.proofs.Parts.{fit_rows, later_tells, later_seen, tells_last, tells_none, content_none, content_by_image, content_on, taken_last, taken_all, after_exact, err_exact, fault_is}
 use Rattle.node_fetch.proofs.ReadBack.{replay_none, replay_image, replay_last, replay_same, after_is}
 use Rattle.partition_index.specs.Parts.{IsSeen}

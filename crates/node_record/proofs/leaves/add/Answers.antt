@@ -3,7 +3,7 @@ use Rattle.fine_model.specs.Map.{set}
 use Rattle.fine_model.specs.Nodes.{with_sum}
 use Rattle.fine_model.specs.NumberText.{number_of, number_text, is_i64}
 use Rattle.fine_model.specs.declared.Node.TheVariants as node
-use Rattle.fine_model.proofs.NodeBounds.{signed}
+use Rattle.fine_model.proofs.Trees.NodeBounds.{signed}
 use Rattle.node_record.proofs.Changes.{get_there, get_absent, set_there, added_absent, added_text, added_sum, not_true}
 use Rattle.node_record.proofs.Texts.{number_fits, test_from_fits}
 use Rattle.node_record.proofs.leaves.add.Goals as goal

@@ -1,7 +1,7 @@
 use Rattle.std.proofs.Common.{◌≡◌, ◌≤◌, ◌∙◌, ap, sym, length, arith, slice_set, length-set}
 use Rattle.fine_model.specs.Map.{set}
 use Rattle.fine_model.specs.declared.Node.TheVariants as node
-use Rattle.fine_model.proofs.GrowLeaf.{fits_leaf}
+use Rattle.fine_model.proofs.Trees.GrowLeaf.{fits_leaf}
 use Rattle.node_record.proofs.Changes.{set_there}
 use Rattle.node_record.proofs.leaves.put.Goals as goal
 

@@ -1,6 +1,6 @@
 use Rattle.std.proofs.Common.{subst, sym}
 use Rattle.node_record.specs.Bounds.{FitsNode}
-use Rattle.fine_model.proofs.NodeBounds.{step_fits}
+use Rattle.fine_model.proofs.Trees.NodeBounds.{step_fits}
 use Rattle.node_record.proofs.replay.apply.Goals as goal
 
 pub returns-clause-fits : goal.returns-clause-fits

@@ -5,8 +5,8 @@ use Rattle.std.proofs.lemmas.Bool.{true≢false}
 use Rattle.std.proofs.lemmas.Cmp.{nat_cmp_total, on_total, then_total}
 use Rattle.fine_model.specs.declared.Row.{Row}
 use Rattle.fine_model.specs.Merge.{node_cmp, is_row_below, is_ordered}
-use Rattle.fine_model.proofs.NodesIn.{nodes_total}
-use Rattle.fine_model.proofs.Order.{first_of_both}
+use Rattle.fine_model.proofs.Merging.NodesIn.{nodes_total}
+use Rattle.fine_model.proofs.Ordered.Order.{first_of_both}
 use Rattle.partition_index.specs.Index.{is_rising}
 use Rattle.partition_index.proofs.Bytes.{index_is}
 use Rattle.partition_index.proofs.Pieces.{next_node, in_pieces}

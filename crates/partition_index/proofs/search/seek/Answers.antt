@@ -10,7 +10,7 @@ use Rattle.partition_index.specs.Search.{IfTold, IsBadAt, IsNoEntryAt, IsSpanAt,
 use Rattle.partition_index.proofs.Looking.{seen_same, same_then}
 use Rattle.partition_index.proofs.Exact.{holds_rows, only_failed, entry_exact, span_exact, there_in}
 use Rattle.fine_model.specs.Seek.{binary_digits, middle_of, span_at}
-use Rattle.fine_model.proofs.NodesIn.{exact_nodes}
+use Rattle.fine_model.proofs.Merging.NodesIn.{exact_nodes}
 use Rattle.partition_index.proofs.Halving.{all_left, comes_to, comes_to_bad, comes_to_none, goes_down, goes_up, meets_none, named}
 use Rattle.partition_index.proofs.Narrowed.{spend, less_below, greater_above, narrow_up, narrow_down, narrowed_none, sought_some}
 use Rattle.log_disk.specs.Disk.{Eye}

@@ -5,8 +5,8 @@ use Rattle.fine_model.specs.declared.Row.{Row}
 use Rattle.fine_model.specs.Merge.{is_row_below, is_ordered}
 use Rattle.fine_model.specs.RowBytes.{FitsRec}
 use Rattle.partition_merge.specs.Merging.{FitRows}
-use Rattle.fine_model.proofs.Sets.{all_append}
-use Rattle.fine_model.proofs.Order.{all_map, first_of_both}
+use Rattle.fine_model.proofs.Ordered.Sets.{all_append}
+use Rattle.fine_model.proofs.Ordered.Order.{all_map, first_of_both}
 use Rattle.partition_merge_tests.proofs.tests.many.Goals as goal
 
 -- a row behind rows that are all below it

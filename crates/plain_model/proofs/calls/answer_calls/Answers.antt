@@ -6,7 +6,7 @@ use Rattle.fine_model.specs.declared.Reply.{Reply}
 use Rattle.fine_model.specs.declared.Write.{Write}
 use Rattle.fine_model.specs.Store.{answer, after_call, replies_to, writes_of}
 use Rattle.plain_model.specs.Place.{Ascends}
-use Rattle.fine_model.proofs.HistoryLaws.{map_after-append}
+use Rattle.fine_model.proofs.Histories.HistoryLaws.{map_after-append}
 use Rattle.plain_model.proofs.Steps.{drop-at}
 use Rattle.plain_model.proofs.calls.answer_calls.Invariants.{Answered}
 use Rattle.plain_model.proofs.calls.answer_calls.Goals as goal

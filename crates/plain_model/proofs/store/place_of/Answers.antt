@@ -1,7 +1,7 @@
 use Rattle.std.proofs.Common.{◌≡◌, ◌<◌, arith, add-one, slice_get, length, Some}
 use Rattle.std.proofs.lemmas.Option.{slice_get_within}
 use Rattle.fine_model.specs.Map.{Pair}
-use Rattle.fine_model.proofs.Order.{below_more}
+use Rattle.fine_model.proofs.Ordered.Order.{below_more}
 use Rattle.plain_model.proofs.store.place_of.Goals as goal
 
 pub loop-i-preserved : goal.loop-i-preserved

@@ -1,6 +1,6 @@
 use Rattle.std.proofs.Common.{ℕ, List, ◌≤◌, ◌-◌, length, take}
 use Rattle.fine_model.specs.Map.{Pair}
-use Rattle.fine_model.proofs.Order.{AllBelow}
+use Rattle.fine_model.proofs.Ordered.Order.{AllBelow}
 use Rattle.plain_model.proofs.store.place_of.Given as goal
 
 pub record Passed (i : ℕ) (key : List ℕ) (pairs : List Pair) : Type 0 where

@@ -1,7 +1,7 @@
 use Rattle.std.proofs.Common.{◌≡◌, ◌⊎◌, ◌<◌, true, false, List, ℕ, Some, sym, ap, ◌∙◌, inl, inr, true≢false, length, arith}
 use Rattle.std.proofs.lemmas.Option.{slice_get_within}
 use Rattle.fine_model.specs.Map.{Pair, is_below}
-use Rattle.fine_model.proofs.Order.{order_cases}
+use Rattle.fine_model.proofs.Ordered.Order.{order_cases}
 use Rattle.plain_model.proofs.store.stands_at.Goals as goal
 
 -- a pair whose key is neither below nor above a key has this key

@@ -1,9 +1,9 @@
 use Rattle.std.proofs.Common.{◌≡◌, ◌+◌, ◌++◌, length, ap, arith, ◌∙◌}
 use Rattle.fine_model.specs.RowBytes.{rows_len}
-use Rattle.fine_model.proofs.Grammar.{rows_long}
+use Rattle.fine_model.proofs.Chain.Grammar.{rows_long}
 use Rattle.epoch_room.specs.Epoch.{Open}
 use Rattle.epoch_room.specs.Gathered.{rows_in}
-use Rattle.epoch_room.proofs.Gathering.{area_is, gathered_more}
+use Rattle.epoch_room.proofs.OpenEpochs.Gathering.{area_is, gathered_more}
 use Rattle.epoch_room.proofs.epoch.OpenEpoch.add.Goals as goal
 
 pub fill-requires : goal.fill-requires

@@ -1,5 +1,5 @@
 use Rattle.std.proofs.Common.{refl, sym, arith}
-use Rattle.epoch_room.proofs.Gathering.{gathered_none}
+use Rattle.epoch_room.proofs.OpenEpochs.Gathering.{gathered_none}
 use Rattle.epoch_room.proofs.epoch.OpenEpoch.clear.Goals as goal
 
 pub invariant_of-self : goal.invariant_of-self

@@ -4,7 +4,7 @@ use Rattle.fine_model.specs.declared.Mark.TheVariants as mark
 use Rattle.fine_model.specs.RowBytes.{FitsRow, rows_bytes, rows_len}
 use Rattle.node_record.specs.Keys.{AreKeysOf, AreRows}
 use Rattle.epoch_room.specs.Epoch.{Open}
-use Rattle.epoch_room.proofs.Gathering.{area_is}
+use Rattle.epoch_room.proofs.OpenEpochs.Gathering.{area_is}
 use Rattle.epoch_room.proofs.epoch.OpenEpoch.keys.Goals.{After-len}
 use Rattle.epoch_room.proofs.epoch.OpenEpoch.keys.Goals as goal
 

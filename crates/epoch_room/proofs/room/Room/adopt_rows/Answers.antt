@@ -12,10 +12,10 @@ use Rattle.epoch_room.specs.Value.{RoomValue, value_of}
 use Rattle.epoch_room.specs.Whole.{IsWhole}
 use Rattle.epoch_room.specs.declared.answers.AdoptFault.TheVariants as adopt_fault
 use Rattle.epoch_room.specs.declared.answers.RoomFault.TheVariants as room_fault
-use Rattle.epoch_room.proofs.Adopted.{adoption_memory, adoption_none, adoption_ok, adoption_shut, whole_memory, whole_ok, whole_shut}
-use Rattle.epoch_room.proofs.AdoptedParts.{CanAdopt, back, cost_small, least, none_lost, part_added, part_made, part_place}
-use Rattle.epoch_room.proofs.Behind.{does_none, is_failed, is_no_memory, not_failed_ok, popped}
-use Rattle.epoch_room.proofs.LongBodies.{is_err_then, not_err}
+use Rattle.epoch_room.proofs.Adopting.Adopted.{adoption_memory, adoption_none, adoption_ok, adoption_shut, whole_memory, whole_ok, whole_shut}
+use Rattle.epoch_room.proofs.Adopting.AdoptedParts.{CanAdopt, back, cost_small, least, none_lost, part_added, part_made, part_place}
+use Rattle.epoch_room.proofs.OpenEpochs.Behind.{does_none, is_failed, is_no_memory, not_failed_ok, popped}
+use Rattle.epoch_room.proofs.Merges.LongBodies.{is_err_then, not_err}
 use Rattle.epoch_room.proofs.Inside.{Ends, ends, kept_in, room_in}
 use Rattle.epoch_room.proofs.room.Room.adopt_rows.Given.{Over}
 use Rattle.epoch_room.proofs.room.Room.adopt_rows.Goals.{After-truncate, Else-len-from}

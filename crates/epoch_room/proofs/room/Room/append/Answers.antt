@@ -11,8 +11,8 @@ use Rattle.epoch_room.specs.Whole.{IsWhole}
 use Rattle.epoch_room.specs.Steps.{appended}
 use Rattle.epoch_room.specs.Meaning.{StandsForMore}
 use Rattle.epoch_room.specs.declared.answers.Fit.TheVariants as fit
-use Rattle.epoch_room.proofs.Fits.{may_append}
-use Rattle.epoch_room.proofs.Appending.{appended_whole, appended_is, appended_becomes, appended_job}
+use Rattle.epoch_room.proofs.OpenEpochs.Fits.{may_append}
+use Rattle.epoch_room.proofs.OpenEpochs.Appending.{appended_whole, appended_is, appended_becomes, appended_job}
 use Rattle.epoch_room.proofs.Standing.{appended_stands}
 use Rattle.epoch_room.proofs.room.Room.append.Goals as goal
 

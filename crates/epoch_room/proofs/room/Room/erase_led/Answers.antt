@@ -8,8 +8,8 @@ use Rattle.epoch_room.specs.Erasing.{ErasesLed, led_by}
 use Rattle.epoch_room.specs.Value.{RoomValue, all_regions, value_of}
 use Rattle.epoch_room.specs.Whole.{HasRegions, IsWhole}
 use Rattle.epoch_room.proofs.Counting.{retired_have}
-use Rattle.epoch_room.proofs.Erasing.{NamesNone, leads_below, leads_unseen, names_none}
-use Rattle.epoch_room.proofs.Led.{free_ordered, led_failed, led_fine, led_none, lost_ordered, retired_parts_small, whole_failed, whole_fine}
+use Rattle.epoch_room.proofs.Erasures.Erasing.{NamesNone, leads_below, leads_unseen, names_none}
+use Rattle.epoch_room.proofs.Erasures.Led.{free_ordered, led_failed, led_fine, led_none, lost_ordered, retired_parts_small, whole_failed, whole_fine}
 use Rattle.epoch_room.proofs.Inside.{Ends, ends, kept_in, room_in}
 use Rattle.epoch_room.proofs.room.Room.erase_led.Given.{Over}
 use Rattle.epoch_room.proofs.room.Room.erase_led.Goals.{After-self}

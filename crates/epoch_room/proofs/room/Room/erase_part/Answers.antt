@@ -3,8 +3,8 @@ use Rattle.fine_model.specs.Boards.{naming_of}
 use Rattle.epoch_room.specs.Value.{RoomValue}
 use Rattle.epoch_room.specs.Whole.{IsWhole}
 use Rattle.epoch_room.specs.declared.answers.EraseFault.TheVariants as erase_fault
-use Rattle.epoch_room.proofs.Behind.{is_failed, is_no_memory}
-use Rattle.epoch_room.proofs.Led.{erases_disk, erases_memory, erases_none, lead_small}
+use Rattle.epoch_room.proofs.OpenEpochs.Behind.{is_failed, is_no_memory}
+use Rattle.epoch_room.proofs.Erasures.Led.{erases_disk, erases_memory, erases_none, lead_small}
 use Rattle.epoch_room.proofs.room.Room.erase_part.Goals as goal
 
 pub returns-then-self : goal.returns-then-self

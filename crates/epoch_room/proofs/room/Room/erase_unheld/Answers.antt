@@ -6,8 +6,8 @@ use Rattle.epoch_room.specs.Erasing.{unheld, unheld_of}
 use Rattle.epoch_room.specs.Value.{RoomValue}
 use Rattle.epoch_room.specs.Whole.{IsWhole}
 use Rattle.epoch_room.specs.declared.answers.RoomFault.TheVariants as room_fault
-use Rattle.epoch_room.proofs.AllErased.{all_disk, all_less, all_memory, all_none, all_ok, leads_small, unheld_few, unheld_lead, unheld_unnamed}
-use Rattle.epoch_room.proofs.Behind.{is_failed, is_no_memory}
+use Rattle.epoch_room.proofs.Erasures.AllErased.{all_disk, all_less, all_memory, all_none, all_ok, leads_small, unheld_few, unheld_lead, unheld_unnamed}
+use Rattle.epoch_room.proofs.OpenEpochs.Behind.{is_failed, is_no_memory}
 use Rattle.epoch_room.proofs.room.Room.erase_unheld.Goals as goal
 
 pub returns-then-self : goal.returns-then-self

@@ -1,17 +1,17 @@
 use Rattle.std.proofs.Common.{◌≡◌, ◌<◌, List, length, Ok, Err, false, true, refl, sym, subst, ap, ◌∙◌}
 use Rattle.fine_model.specs.declared.Part.{Part}
-use Rattle.fine_model.proofs.Zip.{all_left}
+use Rattle.fine_model.proofs.Ordered.Zip.{all_left}
 use Rattle.log_disk.specs.Disk.{Disk}
 use Rattle.partition_index.specs.Parts.{LiesIn}
 use Rattle.epoch_room.specs.Gathering.{DeclinesYoung, GathersYoung, young_at}
 use Rattle.epoch_room.specs.Value.{RoomValue, value_of}
 use Rattle.epoch_room.specs.declared.answers.RoomFault.TheVariants as room_fault
-use Rattle.epoch_room.proofs.Behind.{does_none}
+use Rattle.epoch_room.proofs.OpenEpochs.Behind.{does_none}
 use Rattle.epoch_room.proofs.Inside.{kept_in, room_in}
-use Rattle.epoch_room.proofs.Viewed.{failed_whole, live_below}
-use Rattle.epoch_room.proofs.YoungParts.{all_behind, all_from, leads_below}
-use Rattle.epoch_room.proofs.YoungRooms.{gathers_still, gathers_unread}
-use Rattle.epoch_room.proofs.YoungTold.{none_free, not_gathered, read_all, read_failed, read_none, too_few}
+use Rattle.epoch_room.proofs.Views.Viewed.{failed_whole, live_below}
+use Rattle.epoch_room.proofs.Young.YoungParts.{all_behind, all_from, leads_below}
+use Rattle.epoch_room.proofs.Young.YoungRooms.{gathers_still, gathers_unread}
+use Rattle.epoch_room.proofs.Young.YoungTold.{none_free, not_gathered, read_all, read_failed, read_none, too_few}
 use Rattle.epoch_room.proofs.room.Room.gather_young.Given.{Over}
 use Rattle.epoch_room.proofs.room.Room.gather_young.Goals.{Else-self, In-Ok}
 use Rattle.epoch_room.proofs.room.Room.gather_young.Goals as goal

@@ -12,7 +12,7 @@ use Rattle.epoch_room.specs.Views.{MakesView}
 use Rattle.epoch_room.specs.Whole.{IsWhole}
 use Rattle.epoch_room.specs.declared.answers.RoomFault.TheVariants as room_fault
 use Rattle.epoch_room.proofs.Counting.{live_have}
-use Rattle.epoch_room.proofs.Viewed.{failed_view, failed_whole, live_below, live_small, live_synced, makes_view, viewed_seen, viewed_small, viewed_whole, views_none}
+use Rattle.epoch_room.proofs.Views.Viewed.{failed_view, failed_whole, live_below, live_small, live_synced, makes_view, viewed_seen, viewed_small, viewed_whole, views_none}
 use Rattle.epoch_room.proofs.Inside.{Ends, ends, kept_in, no_memory, room_in}
 use Rattle.epoch_room.proofs.room.Room.make_view.Given.{Over}
 use Rattle.epoch_room.proofs.room.Room.make_view.Goals.{Else-self, In-Failed, In-Ok}

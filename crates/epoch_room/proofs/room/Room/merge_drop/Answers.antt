@@ -8,7 +8,7 @@ use Rattle.epoch_room.specs.Meaning.{Keeps}
 use Rattle.epoch_room.specs.MergeSteps.{free_dropped, with_job}
 use Rattle.epoch_room.specs.Value.{RoomValue}
 use Rattle.epoch_room.specs.Whole.{IsWhole}
-use Rattle.epoch_room.proofs.Picking.{dropped_keeps, dropped_whole, free_set, job_below, job_counted}
+use Rattle.epoch_room.proofs.Merges.Picking.{dropped_keeps, dropped_whole, free_set, job_below, job_counted}
 use Rattle.epoch_room.proofs.Inside.{room_in}
 use Rattle.epoch_room.proofs.room.Room.merge_drop.Goals as goal
 

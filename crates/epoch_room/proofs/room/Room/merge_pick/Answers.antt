@@ -5,7 +5,7 @@ use Rattle.epoch_room.specs.Meaning.{Keeps}
 use Rattle.epoch_room.specs.MergeSteps.{fresh_job, neighbours_from, picked, with_job}
 use Rattle.epoch_room.specs.Value.{RoomValue, Kept, value_of}
 use Rattle.epoch_room.specs.Whole.{IsWhole}
-use Rattle.epoch_room.proofs.Picking.{picked_keeps, picked_untaken, picked_whole}
+use Rattle.epoch_room.proofs.Merges.Picking.{picked_keeps, picked_untaken, picked_whole}
 use Rattle.epoch_room.proofs.room.Room.merge_pick.Goals as goal
 
 pub returns-clause-room : goal.returns-clause-room

@@ -4,8 +4,8 @@ use Rattle.epoch_room.specs.Meaning.{Keeps}
 use Rattle.epoch_room.specs.MergeSteps.{if_enough, measured_len, regions_for_job, regions_needed, with_job}
 use Rattle.epoch_room.specs.Value.{RoomValue}
 use Rattle.epoch_room.specs.Whole.{IsWhole}
-use Rattle.epoch_room.proofs.Behind.{keeps_none}
-use Rattle.epoch_room.proofs.Picking.{taken_whole}
+use Rattle.epoch_room.proofs.OpenEpochs.Behind.{keeps_none}
+use Rattle.epoch_room.proofs.Merges.Picking.{taken_whole}
 use Rattle.epoch_room.proofs.Spare.{spare_keeps}
 use Rattle.epoch_room.proofs.Inside.{room_in}
 use Rattle.epoch_room.proofs.room.Room.merge_take.Goals as goal

@@ -3,7 +3,7 @@ use Rattle.std.specs.Prelude.{IfSome, Option, find, nat_le}
 use Rattle.std.specs.List.{list_any}
 use Rattle.fine_model.specs.declared.Part.{Part}
 use Rattle.epoch_room.specs.Value.{RoomValue}
-use Rattle.epoch_room.proofs.AllErased.{lead_found}
+use Rattle.epoch_room.proofs.Erasures.AllErased.{lead_found}
 use Rattle.epoch_room.proofs.room.Room.retired.Goals as goal
 
 pub returns-clause-leads : goal.returns-clause-leads

@@ -11,11 +11,11 @@ use Rattle.epoch_room.specs.Whole.{IsWhole}
 use Rattle.epoch_room.specs.Partition.{IsPartitionOf}
 use Rattle.epoch_room.specs.Meaning.{Seals}
 use Rattle.epoch_room.specs.declared.answers.RoomFault.TheVariants as room_fault
-use Rattle.epoch_room.proofs.Behind.{bytes_fit, does_none, is_failed, is_no_memory, not_failed_ok, not_failed, popped, seals_none, seals_ok, seals_open, seals_shut, target_at, there, whole_ok, whole_open, whole_shut}
-use Rattle.epoch_room.proofs.Boarding.{unseen}
-use Rattle.epoch_room.proofs.Ending.{own_part, target_beside}
-use Rattle.epoch_room.proofs.Longer.{range_of}
-use Rattle.epoch_room.proofs.OneRegion.{set_one}
+use Rattle.epoch_room.proofs.OpenEpochs.Behind.{bytes_fit, does_none, is_failed, is_no_memory, not_failed_ok, not_failed, popped, seals_none, seals_ok, seals_open, seals_shut, target_at, there, whole_ok, whole_open, whole_shut}
+use Rattle.epoch_room.proofs.Views.Boarding.{unseen}
+use Rattle.epoch_room.proofs.OpenEpochs.Ending.{own_part, target_beside}
+use Rattle.epoch_room.proofs.OpenEpochs.Longer.{range_of}
+use Rattle.epoch_room.proofs.RegionSets.OneRegion.{set_one}
 use Rattle.epoch_room.proofs.Inside.{Ends, ends, kept_in, no_memory, room_in}
 use Rattle.epoch_room.proofs.room.Room.seal_epoch.Given.{Over}
 use Rattle.epoch_room.proofs.room.Room.seal_epoch.Goals.{After-as_slice, After-truncate, Else-self, In-NoMemory}

@@ -13,12 +13,12 @@ use Rattle.epoch_room.specs.MergeSealing.{IsWrittenOut, SealsJob, retire}
 use Rattle.epoch_room.specs.Value.{RoomValue, value_of}
 use Rattle.epoch_room.specs.Whole.{IsWhole}
 use Rattle.epoch_room.specs.declared.answers.RoomFault.TheVariants as room_fault
-use Rattle.epoch_room.proofs.Behind.{is_failed, is_no_memory, not_failed, not_failed_ok}
-use Rattle.epoch_room.proofs.MergedHeaders.{header_cut}
-use Rattle.epoch_room.proofs.SealedJobs.{merged_whole, older_place, once_more, retired_room, seals_disk, seals_ok, shut_whole}
-use Rattle.epoch_room.proofs.SealingJobs.{lead_unseen}
-use Rattle.epoch_room.proofs.UnsealedJobs.{open_whole, seals_memory, seals_none}
-use Rattle.epoch_room.proofs.Written.{none_lost, own_small, own_taken}
+use Rattle.epoch_room.proofs.OpenEpochs.Behind.{is_failed, is_no_memory, not_failed, not_failed_ok}
+use Rattle.epoch_room.proofs.Merges.MergedHeaders.{header_cut}
+use Rattle.epoch_room.proofs.Merges.SealedJobs.{merged_whole, older_place, once_more, retired_room, seals_disk, seals_ok, shut_whole}
+use Rattle.epoch_room.proofs.Merges.SealingJobs.{lead_unseen}
+use Rattle.epoch_room.proofs.Merges.UnsealedJobs.{open_whole, seals_memory, seals_none}
+use Rattle.epoch_room.proofs.Merges.Written.{none_lost, own_small, own_taken}
 use Rattle.epoch_room.proofs.Inside.{Ends, ends, kept_in, room_in}
 use Rattle.epoch_room.proofs.room.Room.seal_job.Given.{Over}
 use Rattle.epoch_room.proofs.room.Room.seal_job.Goals.{After-seal_region, Else-self}

@@ -9,12 +9,12 @@ use Rattle.epoch_room.specs.Gathering.{GathersYoung, gathered_part, range_over, 
 use Rattle.epoch_room.specs.Value.{RoomValue, value_of}
 use Rattle.epoch_room.specs.Youngest.{CanSealYoung, SealsYoung}
 use Rattle.epoch_room.specs.declared.answers.RoomFault.TheVariants as room_fault
-use Rattle.epoch_room.proofs.Behind.{does_none, is_failed, is_no_memory, not_failed, not_failed_ok}
+use Rattle.epoch_room.proofs.OpenEpochs.Behind.{does_none, is_failed, is_no_memory, not_failed, not_failed_ok}
 use Rattle.epoch_room.proofs.Inside.{Ends, ends, kept_in, no_memory, room_in}
-use Rattle.epoch_room.proofs.YoungKept.{CanGather, bytes_fit, lost_is, no_eye, retired_room, there}
-use Rattle.epoch_room.proofs.YoungParts.{AreTwo, AreYoungAt, are_young}
-use Rattle.epoch_room.proofs.YoungRooms.{gathered_whole, gathers_lost, gathers_none, gathers_ok, gathers_still, lost_whole, still_whole}
-use Rattle.epoch_room.proofs.YoungTold.{can_gather, same_header, two, were_gathered}
+use Rattle.epoch_room.proofs.Young.YoungKept.{CanGather, bytes_fit, lost_is, no_eye, retired_room, there}
+use Rattle.epoch_room.proofs.Young.YoungParts.{AreTwo, AreYoungAt, are_young}
+use Rattle.epoch_room.proofs.Young.YoungRooms.{gathered_whole, gathers_lost, gathers_none, gathers_ok, gathers_still, lost_whole, still_whole}
+use Rattle.epoch_room.proofs.Young.YoungTold.{can_gather, same_header, two, were_gathered}
 use Rattle.epoch_room.proofs.room.Room.seal_young.Given.{Over}
 use Rattle.epoch_room.proofs.room.Room.seal_young.Goals.{After-as_slice, After-region_len-region_len, In-NoMemory}
 use Rattle.epoch_room.proofs.room.Room.seal_young.Goals as goal

@@ -5,8 +5,8 @@ use Rattle.fine_model.specs.Boards.{Buffer, is_empty}
 use Rattle.epoch_room.specs.Meaning.{Keeps}
 use Rattle.epoch_room.specs.Value.{RoomValue, value_of}
 use Rattle.epoch_room.specs.Whole.{IsWhole}
-use Rattle.epoch_room.proofs.Behind.{keeps_none}
-use Rattle.epoch_room.proofs.Seating.{seats_keeps, seats_whole}
+use Rattle.epoch_room.proofs.OpenEpochs.Behind.{keeps_none}
+use Rattle.epoch_room.proofs.Views.Seating.{seats_keeps, seats_whole}
 use Rattle.epoch_room.proofs.Inside.{Ends, ends, kept_in, room_in}
 use Rattle.epoch_room.proofs.room.Room.set_seats.Given.{Over}
 use Rattle.epoch_room.proofs.room.Room.set_seats.Goals as goal

@@ -5,7 +5,7 @@ use Rattle.log_disk.specs.Disk.{Closes, Eye, OpenEye}
 use Rattle.partition_hold.specs.Views.{opened}
 use Rattle.epoch_room.specs.Meaning.{Keeps}
 use Rattle.epoch_room.specs.Value.{RoomValue, value_of}
-use Rattle.epoch_room.proofs.Returning.{open_there, returned_keeps, returned_whole}
+use Rattle.epoch_room.proofs.Views.Returning.{open_there, returned_keeps, returned_whole}
 use Rattle.epoch_room.proofs.Inside.{Ends, ends, kept_in, room_in}
 use Rattle.epoch_room.proofs.room.Room.take_back.Given.{Over}
 use Rattle.epoch_room.proofs.room.Room.take_back.Goals.{After-into_eye}

@@ -4,8 +4,8 @@ use Rattle.epoch_room.specs.MergeSteps.{WritesJob, touched, written_on}
 use Rattle.epoch_room.specs.Value.{RoomValue}
 use Rattle.epoch_room.specs.Whole.{IsWhole}
 use Rattle.epoch_room.specs.declared.answers.RoomFault.TheVariants as room_fault
-use Rattle.epoch_room.proofs.Behind.{is_failed, is_no_memory}
-use Rattle.epoch_room.proofs.Written.{body_fits, moved, none_lost, ok_whole, own_place, own_small, own_taken, shut_whole, writes_disk, writes_memory, writes_none, writes_ok}
+use Rattle.epoch_room.proofs.OpenEpochs.Behind.{is_failed, is_no_memory}
+use Rattle.epoch_room.proofs.Merges.Written.{body_fits, moved, none_lost, ok_whole, own_place, own_small, own_taken, shut_whole, writes_disk, writes_memory, writes_none, writes_ok}
 use Rattle.epoch_room.proofs.Inside.{kept_in, room_in}
 use Rattle.epoch_room.proofs.room.Room.write_for.Given.{Over}
 use Rattle.epoch_room.proofs.room.Room.write_for.Goals.{After-lose_touched, Else-self}

@@ -2,7 +2,7 @@ use Rattle.std.proofs.Common.{◌≡◌, ◌+◌, ◌*◌, length, ap, ◌∙◌
 use Rattle.fine_model.specs.Merge.{nodes_in}
 use Rattle.fine_model.specs.RowBytes.{rows_len}
 use Rattle.log_partition.proofs.Sealed.{rows_most}
-use Rattle.epoch_room.proofs.AdoptedSizes.{part_made}
+use Rattle.epoch_room.proofs.Adopting.AdoptedSizes.{part_made}
 use Rattle.epoch_room.proofs.room.adopting.part_over.Goals as goal
 
 pub overflow_cast-result : goal.overflow_cast-result

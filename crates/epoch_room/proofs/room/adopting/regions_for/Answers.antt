@@ -1,5 +1,5 @@
 use Rattle.std.proofs.Common.{◌∙◌, arith}
-use Rattle.epoch_room.proofs.AdoptedSizes.{none_needed, some_needed}
+use Rattle.epoch_room.proofs.Adopting.AdoptedSizes.{none_needed, some_needed}
 use Rattle.epoch_room.proofs.room.adopting.regions_for.Goals as goal
 
 pub returns-then-len-ge-TOO_MANY : goal.returns-then-len-ge-TOO_MANY

@@ -1,5 +1,5 @@
 use Rattle.std.proofs.Common.{◌+◌, take, ap, ◌∙◌}
-use Rattle.epoch_room.proofs.YoungParts.{replaced_at}
+use Rattle.epoch_room.proofs.Young.YoungParts.{replaced_at}
 use Rattle.epoch_room.proofs.room.gathering.replace_young.Goals as goal
 
 pub returns-clause-parts : goal.returns-clause-parts

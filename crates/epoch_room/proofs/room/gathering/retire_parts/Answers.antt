@@ -1,6 +1,6 @@
 use Rattle.std.proofs.Common.{◌+◌, ◌≤◌, drop, length, subst, sym, ◌∙◌}
 use Rattle.std.specs.Prelude.{vec_capacity}
-use Rattle.epoch_room.proofs.YoungParts.{retired_more, room_more}
+use Rattle.epoch_room.proofs.Young.YoungParts.{retired_more, room_more}
 use Rattle.epoch_room.proofs.room.gathering.retire_parts.Goals as goal
 
 pub loop-part-preserved : goal.loop-part-preserved

@@ -1,6 +1,6 @@
 use Rattle.std.proofs.Common.{◌++◌, ◌∷◌, [], ◌-◌, take, ap, ◌∙◌, append_assoc}
 use Rattle.fine_model.specs.Boards.{set_of}
-use Rattle.epoch_room.proofs.JobRegions.{set_more}
+use Rattle.epoch_room.proofs.Merges.JobRegions.{set_more}
 use Rattle.epoch_room.proofs.room.merge_sealing.lose_job.Goals as goal
 
 pub returns : goal.returns

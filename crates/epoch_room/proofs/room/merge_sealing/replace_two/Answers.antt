@@ -1,7 +1,7 @@
 use Rattle.std.proofs.Common.{◌≡◌, ◌+◌, ◌==◌, set, ap, ◌∙◌}
 use Rattle.std.specs.List.{position_or_len, remove}
 use Rattle.fine_model.specs.declared.Part.{Part}
-use Rattle.epoch_room.proofs.Retired.{replaced_two}
+use Rattle.epoch_room.proofs.Merges.Retired.{replaced_two}
 use Rattle.epoch_room.proofs.room.merge_sealing.replace_two.Goals as goal
 
 pub returns : goal.returns

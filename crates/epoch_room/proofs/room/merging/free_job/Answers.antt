@@ -4,7 +4,7 @@ use Rattle.std.specs.List.{list_any}
 use Rattle.fine_model.specs.Boards.{set_of}
 use Rattle.fine_model.specs.Jobs.{taken_by}
 use Rattle.partition_hold.proofs.Sets.{same_set}
-use Rattle.epoch_room.proofs.JobRegions.{given_behind}
+use Rattle.epoch_room.proofs.Merges.JobRegions.{given_behind}
 use Rattle.epoch_room.proofs.room.merging.free_job.Goals as goal
 
 pub give_back-requires-in-Some-clause-set : goal.give_back-requires-in-Some-clause-set

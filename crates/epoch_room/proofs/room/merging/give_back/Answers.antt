@@ -5,7 +5,7 @@ use Rattle.std.proofs.lemmas.List.{take_more}
 use Rattle.fine_model.specs.Boards.{set_of}
 use Rattle.partition_hold.proofs.Bits.{all_next}
 use Rattle.partition_hold.proofs.Sets.{same_set}
-use Rattle.epoch_room.proofs.JobRegions.{given_more}
+use Rattle.epoch_room.proofs.Merges.JobRegions.{given_more}
 use Rattle.epoch_room.proofs.room.merging.give_back.Goals as goal
 
 pub give_one_back-requires-clause-set : goal.give_one_back-requires-clause-set

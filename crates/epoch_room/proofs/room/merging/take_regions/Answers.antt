@@ -1,4 +1,4 @@
-use Rattle.epoch_room.proofs.Picking.{header_made}
+use Rattle.epoch_room.proofs.Merges.Picking.{header_made}
 use Rattle.epoch_room.proofs.room.merging.take_regions.Goals as goal
 
 pub returns-clause-job : goal.returns-clause-job

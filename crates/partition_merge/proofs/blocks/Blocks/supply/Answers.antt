@@ -4,7 +4,7 @@ use Rattle.std.specs.Global.{Vec}
 use Rattle.std.proofs.lemmas.List.{drop_all}
 use Rattle.fine_model.specs.declared.Row.{Row}
 use Rattle.fine_model.specs.RowBytes.{rows_bytes, index_entry}
-use Rattle.fine_model.proofs.Grammar.{rows_long}
+use Rattle.fine_model.proofs.Chain.Grammar.{rows_long}
 use Rattle.partition_merge.specs.Blocks.{BlocksValue, IsAhead}
 use Rattle.partition_merge.specs.Joined.{IsJoined}
 use Rattle.partition_merge.specs.Pieces.{EndsAt, HandsOver, merged_bytes}

@@ -1,0 +1,24 @@
+-- Regions, partitions and the chain of a log.
+pub mod Spelling
+pub mod ByteKeys
+pub mod Unique
+pub mod Fitting
+pub mod Grammar
+pub mod BodyPlaces
+pub mod Headers
+pub mod Images
+pub mod Free
+pub mod Closed
+pub mod Chains
+pub mod ReadChain
+pub mod Sealing
+pub mod Opened
+pub mod Longer
+pub mod ChainFacts
+pub mod Fewer
+pub mod Freed
+pub mod Replacing
+pub mod Replaced
+pub mod Owning
+pub mod Setting
+pub mod EmptyLog

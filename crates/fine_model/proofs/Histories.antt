@@ -1,0 +1,8 @@
+-- Histories, and runs over them.
+pub mod Legal
+pub mod Stated
+pub mod RunDamages
+pub mod HistoryLaws
+pub mod Epochs
+pub mod FitHistory
+pub mod Goings

@@ -4,3 +4,4 @@ pub mod Entries
 pub mod Bodies
 pub mod Sorting
 pub mod Answered
+pub mod Spelled

@@ -13,7 +13,7 @@ ghost use Rattle.row_gathering.specs.Steps.{AddsBody, FindsRows, IsBadBody, Pass
 use fine_model::format::INDEX_ENTRY;
 use fine_model::{Header, NodeId};
 use node_record::{RowAt, frame_at};
-use partition_index::{IndexEntry, entry_bytes};
+use partition_index::{IndexEntry, entry_of};
 use std::alloc::AllocError;
 
 /// Whether a body is in the grammar. If so, the keys of its rows, the first of which has the offset `start`, stand behind those that are there. It takes no memory but for the keys.
@@ -168,5 +168,19 @@ fn stands_at(body: &[u8], at: u32, entry: &IndexEntry) -> bool
     ensures { IsTrue result ↔ (take index_entry (drop at body.now) ≡ bytes_of entry.now) }
 {
     let at = at as usize;
-    body[at..at + INDEX_ENTRY] == entry_bytes(entry)[..]
+    let mut bytes = [0; INDEX_ENTRY];
+    bytes.copy_from_slice(&body[at..at + INDEX_ENTRY]);
+    are_in_range(
+        entry.node.bucket,
+        entry.node.number,
+        entry.offset,
+        entry.rows,
+    );
+    // numbers are compared with fewer steps than bytes
+    entry_of(bytes) == *entry
 }
+
+/// The numbers of an entry are within their types. It does nothing.
+fn are_in_range(bucket: u16, number: u32, offset: u32, rows: u32)
+    ensures { (bucket < 65536) × (number < 4294967296) × (offset < 4294967296) × (rows < 4294967296) }
+{}

@@ -18,11 +18,11 @@ ghost use Rattle.fine_top.specs.Opened.{IsOpenedLog, IsUnsoundLog};
 ghost use Rattle.fine_top.specs.Running.{LeavesBeside, run_status};
 
 use crate::opening::Opened;
-use crate::printing::{OUTPUT_FAILED, print_no_memory, print_reason, run_status};
+use crate::printing::{print_no_memory, print_reason, run_status};
 use crate::running::run_chain;
 use epoch_room::{Fit, Room};
 use fine_model::{Gate, Options, Outcome, Pairs, Ran, Reason, RunFault, Script};
-use log_commands::{Finish, find_chain};
+use log_commands::{Finish, OUTPUT_FAILED, find_chain};
 use log_disk::LogDisk;
 use map_reader::read_map;
 use script_text::{GeneratedRun, Sink, generate, write_summary};

@@ -11,12 +11,10 @@ ghost use Rattle.script_text.specs.Streams.{Puts};
 ghost use Rattle.fine_top.specs.Running.{reason_status, run_status};
 
 use fine_model::{Outcome, Ran, Reason, RunFault, Script};
-use log_commands::fault_status;
+use log_commands::{OUTPUT_FAILED, fault_status};
 use script_text::{Sink, write_reason, write_report};
 
-/// The status where the output failed, and where a transaction was refused.
-pub(crate) const OUTPUT_FAILED: u8 = 5;
-
+/// The status where a transaction was refused.
 const REFUSED: u8 = 8;
 
 fn is_refused(outcome: &Outcome) -> bool

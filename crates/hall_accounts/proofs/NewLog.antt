@@ -7,36 +7,15 @@ use Rattle.fine_model.specs.declared.Row.{Row}
 use Rattle.fine_model.specs.declared.Part.{Part}
 use Rattle.fine_model.specs.Buckets.{Began}
 use Rattle.fine_model.specs.declared.law.Origin.{Origin}
-use Rattle.fine_model.specs.Regions.{region_of, is_sealed}
-use Rattle.fine_model.specs.Pushed.{and_then}
 use Rattle.fine_model.specs.Trees.{is_distinct}
-use Rattle.fine_model.specs.Chain.{AreRowsOf, Shows, parts_from, apart, chain_of, chain, taken}
-use Rattle.log_partition.proofs.Heads.{in_closed}
+use Rattle.fine_model.specs.Chain.{AreRowsOf, Shows}
 use Rattle.log_disk.specs.Disk.{Disk, Told, zeros, told_anew, new_disk}
-use Rattle.fine_model.proofs.Chain.EmptyLog.{none_sound}
+use Rattle.fine_model.proofs.Chain.EmptyLog.{no_chain, none_sound, zero_region}
 use Rattle.epoch_room.specs.Meaning.{Stands, StandsAtFirst, origin_of}
 use Rattle.epoch_room.specs.Value.{RoomValue, made}
 use Rattle.epoch_room.specs.Whole.{AreParts}
 use Rattle.hall_rooms.specs.Opening.{StandsAlone}
 use Rattle.hall_accounts.specs.Halls.{IsNewRoom}
-
-zero_gate : (len : ℕ) → is_sealed (replicate len 0) ≡ false
-zero_gate zero = refl
-zero_gate (suc len) = refl
-
-no_parts : (region_len regions len region k : ℕ) → parts_from region_len regions region (replicate k (replicate len 0)) ≡ Ok []
-unfolding parts_from
-no_parts region_len regions len region zero = refl
-no_parts region_len regions len region (suc k) = rw (in_closed region_len regions region (replicate len 0) (zero_gate len)) (no_parts region_len regions len (region + 1) k)
-
-no_chain : (regions len : ℕ) → chain len (zeros regions len) ≡ Ok []
-unfolding chain apart chain_of taken
-no_chain regions len = ap (λ r. and_then (and_then r apart) chain_of) (no_parts len (length (zeros regions len)) len 0 regions)
-
-zero_region : (k len r : ℕ) → is_sealed (region_of (replicate k (replicate len 0)) r) ≡ false
-zero_region zero len r = refl
-zero_region (suc k) len zero = zero_gate len
-zero_region (suc k) len (suc r) = zero_region k len r
 
 pub new_parts : (regions len : ℕ) → AreParts (new_disk regions len (Some (told_anew (zeros regions len)))) [] []
 unfolding is_distinct
@@ -45,12 +24,12 @@ new_parts regions len = record {
   apart = record { distinct = refl; below = tt };
   lie = tt;
   rising = tt;
-  told = record { is_chain = no_chain regions len; leads = λ r h. zero_region regions len r; headers = tt };
+  told = record { is_chain = no_chain len regions len; leads = λ r h. zero_region regions len r; headers = tt };
 }
 
 shows_none : (regions len : ℕ) → Shows len (zeros regions len) 0 []
 unfolding AreRowsOf
-shows_none regions len = record { parts = []; is_chain = no_chain regions len; ends = refl; are_rows = refl }
+shows_none regions len = record { parts = []; is_chain = no_chain len regions len; ends = refl; are_rows = refl }
 
 began_none : (regions len : ℕ) → Began (origin_of (new_disk regions len (Some (told_anew (zeros regions len))))) 0 []
 unfolding origin_of

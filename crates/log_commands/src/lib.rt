@@ -7,6 +7,5 @@ mod opening;
 mod printing;
 
 pub use commands::{Finish, merge_and_print, print_ranges};
-pub use merged::of_fetch;
 pub use opening::{find_chain, open_fault};
-pub use printing::{fault_status, print_fault};
+pub use printing::{OUTPUT_FAILED, fault_status, print_fault};

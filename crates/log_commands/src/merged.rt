@@ -3,48 +3,14 @@
 ghost use Rattle.std.specs.Prelude.{◌≡◌, None, true, false};
 ghost use Rattle.std.specs.List.{list_all};
 ghost use Rattle.fine_model.specs.Boards.{is_empty};
-ghost use Rattle.room_steps.specs.Merging.{of_fetch, of_merge, of_room};
 ghost use Rattle.log_commands.specs.Merged.{MergesAll, MergesOnce};
 
-use epoch_room::{Room, RoomFault};
-use fine_model::{Damage, FetchFault, RunFault};
+use epoch_room::Room;
+use fine_model::RunFault;
 use log_disk::LogDisk;
-use room_merges::{MergeFault, merge_now};
+use room_merges::merge_now;
+use room_steps::of_merge;
 use std::alloc::Global;
-
-fn of_room(fault: RoomFault) -> RunFault
-    ensures { result ≡ of_room fault }
-{
-    match fault {
-        RoomFault::Disk | RoomFault::Shut { .. } => RunFault::Disk,
-        RoomFault::NoMemory => RunFault::Memory,
-    }
-}
-
-/// The fault that a command tells. A bad row or index entry is damage of its region.
-pub fn of_fetch(fault: FetchFault) -> RunFault
-    ensures { result ≡ of_fetch fault }
-{
-    match fault {
-        FetchFault::Failed => RunFault::Disk,
-        FetchFault::BadRow { region, at } => RunFault::Damaged {
-            what: Damage::Region { region, at },
-        },
-        FetchFault::BadIndex { region, at } => RunFault::Damaged {
-            what: Damage::Region { region, at },
-        },
-        FetchFault::NoMemory => RunFault::Memory,
-    }
-}
-
-fn of_merge(fault: MergeFault) -> RunFault
-    ensures { result ≡ of_merge fault }
-{
-    match fault {
-        MergeFault::Room(fault) => of_room(fault),
-        MergeFault::Fetch(fault) => of_fetch(fault),
-    }
-}
 
 /// Merges the first neighbours that fit: true, or false where none do.
 fn merge_once<D: LogDisk>(alloc: Global, room: &mut Room<D>) -> Result<bool, RunFault>

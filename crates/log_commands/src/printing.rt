@@ -10,7 +10,7 @@ use fine_model::{Part, Reason, RunFault};
 use script_text::{Sink, write_ranges, write_reason};
 
 /// The status where the output failed.
-const OUTPUT_FAILED: u8 = 5;
+pub const OUTPUT_FAILED: u8 = 5;
 
 /// The status of a fault: 1 where memory ran out, 6 where the disk failed, and 7 where the log is damaged.
 pub fn fault_status(fault: RunFault) -> u8

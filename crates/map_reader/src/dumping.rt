@@ -13,14 +13,11 @@ ghost use Rattle.map_reader.specs.Dumps.{DumpsAny, DumpsWell, Ends, EndsRoom, Is
 use crate::map::read_map;
 use epoch_room::Room;
 use fine_model::{Bytes, Pairs, RunFault};
-use log_commands::{open_fault, print_fault};
+use log_commands::{OUTPUT_FAILED, open_fault, print_fault};
 use log_disk::LogDisk;
 use reopen::open_log;
 use script_text::{Sink, write_dump};
 use std::alloc::Global;
-
-/// The status where the output failed.
-const OUTPUT_FAILED: u8 = 5;
 
 /// Prints pairs, and tells the status.
 fn print_pairs<K: Sink>(out: &mut K, pairs: &[(Bytes, Bytes)]) -> u8

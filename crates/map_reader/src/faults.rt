@@ -5,7 +5,7 @@ ghost use Rattle.map_reader.specs.Maps.{of_tree};
 
 use btree_nodes::TreeFault;
 use fine_model::{Damage, RunFault};
-use log_commands::of_fetch;
+use room_steps::of_fetch;
 
 /// What a fault of a scan is told as.
 pub(crate) fn of_tree(fault: TreeFault) -> RunFault

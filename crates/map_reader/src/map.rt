@@ -12,9 +12,9 @@ use crate::gathering::read_all;
 use btree_nodes::TreeFault;
 use epoch_room::Room;
 use fine_model::{Pairs, RunFault};
-use log_commands::of_fetch;
 use log_disk::LogDisk;
 use room_shelf::{rest, view_of};
+use room_steps::of_fetch;
 use std::alloc::Global;
 
 /// Tells what was read, or the fault.

@@ -3,45 +3,21 @@
 ghost use Rattle.std.specs.Prelude.{◌≡◌, ◌<◌, ◌≤◌, None, false};
 ghost use Rattle.fine_model.specs.RowBytes.{longest_region};
 ghost use Rattle.room_shelf.specs.Shelves.{IsShelf, shelf};
-ghost use Rattle.room_steps.specs.Merging.{Frees, GathersFrom, GathersNamed, MergesNamed, MergesOne, of_fetch, of_merge};
+ghost use Rattle.room_steps.specs.Merging.{Frees, GathersFrom, GathersNamed, MergesNamed, MergesOne};
 ghost use Rattle.room_steps.specs.Steps.{IsNamed, Tidies, space_of};
 
-use crate::sealing::{of_room, take_view};
+use crate::faults::{of_merge, of_room};
+use crate::sealing::take_view;
 use epoch_room::Room;
-use fine_model::{Damage, FetchFault, RunFault};
+use fine_model::RunFault;
 use log_disk::LogDisk;
 use merge_policy::{Space, next_merge, young_run};
 use partition_hold::View;
-use room_merges::{MergeFault, erase_retired, merge_near};
+use room_merges::{erase_retired, merge_near};
 use std::alloc::Global;
 
 /// How many free regions a new epoch asks for. As many are spared by merging.
 const SPARE: u32 = 2;
-
-/// The fault that a run tells. A bad row or index entry is damage of its region.
-fn of_fetch(fault: FetchFault) -> RunFault
-    ensures { result ≡ of_fetch fault }
-{
-    match fault {
-        FetchFault::Failed => RunFault::Disk,
-        FetchFault::BadRow { region, at } => RunFault::Damaged {
-            what: Damage::Region { region, at },
-        },
-        FetchFault::BadIndex { region, at } => RunFault::Damaged {
-            what: Damage::Region { region, at },
-        },
-        FetchFault::NoMemory => RunFault::Memory,
-    }
-}
-
-fn of_merge(fault: MergeFault) -> RunFault
-    ensures { result ≡ of_merge fault }
-{
-    match fault {
-        MergeFault::Room(fault) => of_room(fault),
-        MergeFault::Fetch(fault) => of_fetch(fault),
-    }
-}
 
 /// Where the older one begins of the two neighbours that the policy merges next, if it merges any. Nothing is measured before.
 fn named<D: LogDisk>(room: &Room<D>) -> Option<u64>

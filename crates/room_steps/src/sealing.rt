@@ -2,25 +2,15 @@
 
 ghost use Rattle.std.specs.Prelude.{◌≡◌, ◌≤◌, None};
 ghost use Rattle.room_shelf.specs.Shelves.{IsShelf, shelf};
-ghost use Rattle.room_steps.specs.Merging.{TakesView, of_room};
+ghost use Rattle.room_steps.specs.Merging.{TakesView};
 ghost use Rattle.room_steps.specs.Steps.{SealsWaiting};
 
-use epoch_room::{Room, RoomFault};
+use crate::faults::of_room;
+use epoch_room::Room;
 use fine_model::RunFault;
 use log_disk::LogDisk;
 use partition_hold::View;
 use room_shelf::rest;
-
-/// The fault that a run tells.
-pub(crate) fn of_room(fault: RoomFault) -> RunFault
-    ensures { result ≡ of_room fault }
-{
-    match fault {
-        RoomFault::Disk => RunFault::Disk,
-        RoomFault::Shut { epoch: _ } => RunFault::Disk,
-        RoomFault::NoMemory => RunFault::Memory,
-    }
-}
 
 /// Takes the view back, if one is out.
 pub(crate) fn take_view<D: LogDisk>(room: &mut Room<D>, out: &mut Option<View<D::Eye>>)

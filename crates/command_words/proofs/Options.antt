@@ -5,7 +5,7 @@ use Rattle.std.proofs.lemmas.Slice.Eq.{bytes_eq-Decides}
 use Rattle.std.proofs.lemmas.List.Folds.{list_any-append}
 use Rattle.clap.specs.declared.error.kind.ErrorKind.TheVariants as kind
 use Rattle.clap.specs.declared.parser.matches.ValueSource.TheVariants.{CommandLine}
-use Rattle.clap.specs.Walk.{Held, more_values, reading_by, with_values, without, Row, Rule, Text, at_row, arg_by_id, arg_by_long, settled, has_row, first_of}
+use Rattle.clap.specs.Walk.{Held, more_values, reading_by, with_values, without, Row, Rule, Text, at_row, arg_by_long, settled, has_row, first_of}
 use Rattle.clap.specs.Simple.{filled, filled_from}
 use Rattle.clap.specs.Kinds.{Kinds, or_else}
 use Rattle.clap.specs.Faults.{settle_fault}
@@ -102,23 +102,20 @@ with_dashed n g v = go (bytes_eq (codes "group") n) (bytes_eq (codes "tries") n)
 
 -- ---- texts that were given
 
-pub record Texts : Type 0 where
-  pub group : Option Text
-  pub tries : Option Text
-  pub keep : Option Text
+abbrev pub Texts : Type 0
+Texts = Which → Option Text
 
-abbrev pub text_in : Which → Texts → Option Text
-text_in the_group t = t.group
-text_in the_tries t = t.tries
-text_in the_keep t = t.keep
+abbrev pub no_texts : Texts
+no_texts = λ _. None
+
+abbrev is_same : Which → Which → Bool
+is_same k j = bytes_eq (name_of k) (name_of j)
 
 abbrev pub put_text : Which → Texts → Text → Texts
-put_text the_group t v = record { group = Some v; tries = t.tries; keep = t.keep }
-put_text the_tries t v = record { group = t.group; tries = Some v; keep = t.keep }
-put_text the_keep t v = record { group = t.group; tries = t.tries; keep = Some v }
+put_text k t v = λ j. if is_same k j then Some v else t j
 
 abbrev pub numbers : Texts → Option Given
-numbers t = all_given (option_of 100000 t.group) (option_of 1000000 t.tries) (option_of 256 t.keep)
+numbers t = all_given (option_of 100000 (t the_group)) (option_of 1000000 (t the_tries)) (option_of 256 (t the_keep))
 
 abbrev next : Which → Text → Given → Option Given
 next k v g = with_which (Some k) g v
@@ -147,10 +144,10 @@ put_keep (Some a) None m = refl
 put_keep (Some a) (Some b) None = refl
 put_keep (Some a) (Some b) (Some n) = refl
 
-pub put_numbers : (k : Which) (t : Texts) (v : Text) → text_in k t ≡ None → option_and_then (next k v) (numbers t) ≡ numbers (put_text k t v)
-put_numbers the_group t v e = rw e (put_group (option_of 1000000 t.tries) (option_of 256 t.keep) (number the_group v))
-put_numbers the_tries t v e = rw e (put_tries (option_of 100000 t.group) (option_of 256 t.keep) (number the_tries v))
-put_numbers the_keep t v e = rw e (put_keep (option_of 100000 t.group) (option_of 1000000 t.tries) (number the_keep v))
+pub put_numbers : (k : Which) (t : Texts) (v : Text) → t k ≡ None → option_and_then (next k v) (numbers t) ≡ numbers (put_text k t v)
+put_numbers the_group t v e = rw e (put_group (option_of 1000000 (t the_tries)) (option_of 256 (t the_keep)) (number the_group v))
+put_numbers the_tries t v e = rw e (put_tries (option_of 100000 (t the_group)) (option_of 256 (t the_keep)) (number the_tries v))
+put_numbers the_keep t v e = rw e (put_keep (option_of 100000 (t the_group)) (option_of 1000000 (t the_tries)) (number the_keep v))
 
 taken_group : (m : Option ℕ) (b c : Option (Option ℕ)) (o : Option ℕ)
     → option_and_then (λ g. if is_some g.group then None else option_map (put_in the_group g) o) (all_given (option_map (λ n. Some n) m) b c) ≡ None
@@ -173,10 +170,10 @@ taken_keep m (Some a) None o = refl
 taken_keep None (Some a) (Some b) o = refl
 taken_keep (Some m) (Some a) (Some b) o = refl
 
-pub put_taken : (k : Which) (t : Texts) (u v : Text) → text_in k t ≡ Some u → option_and_then (next k v) (numbers t) ≡ None
-put_taken the_group t u v e = rw e (taken_group (number the_group u) (option_of 1000000 t.tries) (option_of 256 t.keep) (number the_group v))
-put_taken the_tries t u v e = rw e (taken_tries (number the_tries u) (option_of 100000 t.group) (option_of 256 t.keep) (number the_tries v))
-put_taken the_keep t u v e = rw e (taken_keep (number the_keep u) (option_of 100000 t.group) (option_of 1000000 t.tries) (number the_keep v))
+pub put_taken : (k : Which) (t : Texts) (u v : Text) → t k ≡ Some u → option_and_then (next k v) (numbers t) ≡ None
+put_taken the_group t u v e = rw e (taken_group (number the_group u) (option_of 1000000 (t the_tries)) (option_of 256 (t the_keep)) (number the_group v))
+put_taken the_tries t u v e = rw e (taken_tries (number the_tries u) (option_of 100000 (t the_group)) (option_of 256 (t the_keep)) (number the_tries v))
+put_taken the_keep t u v e = rw e (taken_keep (number the_keep u) (option_of 100000 (t the_group)) (option_of 1000000 (t the_tries)) (number the_keep v))
 
 -- ---- rows
 
@@ -205,8 +202,8 @@ first_append id (x ∷ rows) r = go (bytes_eq x.id id) refl (first_append id row
 
 -- the rows are those of these texts
 pub record Holds (rows : List Row) (t : Texts) : Type 0 where
-  pub has : (k : Which) → has_row (name_of k) rows ≡ is_some (text_in k t)
-  pub first : (k : Which) → first_of (name_of k) rows ≡ text_in k t
+  pub has : (k : Which) → has_row (name_of k) rows ≡ is_some (t k)
+  pub first : (k : Which) → first_of (name_of k) rows ≡ t k
 
 or_true : (x b : Bool) → b ≡ true → (x || b) ≡ true
 or_true true b e = refl
@@ -216,31 +213,12 @@ or_false : (x b : Bool) → b ≡ false → (x || b) ≡ x
 or_false true b e = refl
 or_false false b e = e
 
-abbrev is_same : Which → Which → Bool
-is_same k j = bytes_eq (name_of k) (name_of j)
-
 -- the texts after one more, by whether it is this one
-put_same : (k j : Which) (t : Texts) (v : Text) → is_same k j ≡ true → text_in j (put_text k t v) ≡ Some v
-put_same the_group the_group t v e = refl
-put_same the_group the_tries t v e = absurd cc
-put_same the_group the_keep t v e = absurd cc
-put_same the_tries the_group t v e = absurd cc
-put_same the_tries the_tries t v e = refl
-put_same the_tries the_keep t v e = absurd cc
-put_same the_keep the_group t v e = absurd cc
-put_same the_keep the_tries t v e = absurd cc
-put_same the_keep the_keep t v e = refl
+put_same : (k j : Which) (t : Texts) (v : Text) → is_same k j ≡ true → put_text k t v j ≡ Some v
+put_same k j t v e = rw e refl
 
-put_other : (k j : Which) (t : Texts) (v : Text) → is_same k j ≡ false → text_in j (put_text k t v) ≡ text_in j t
-put_other the_group the_group t v e = absurd cc
-put_other the_group the_tries t v e = refl
-put_other the_group the_keep t v e = refl
-put_other the_tries the_group t v e = refl
-put_other the_tries the_tries t v e = absurd cc
-put_other the_tries the_keep t v e = refl
-put_other the_keep the_group t v e = refl
-put_other the_keep the_tries t v e = refl
-put_other the_keep the_keep t v e = absurd cc
+put_other : (k j : Which) (t : Texts) (v : Text) → is_same k j ≡ false → put_text k t v j ≡ t j
+put_other k j t v e = rw e refl
 
 same_is : (k j : Which) → is_same k j ≡ true → k ≡ j
 same_is the_group the_group e = refl
@@ -257,26 +235,26 @@ none_of : (o : Option Text) → is_some o ≡ false → None ≡ o
 none_of None e = refl
 none_of (Some v) e = absurd cc
 
-pub holds_put : (k : Which) (rows : List Row) (r : Row) (t : Texts) (v : Text) → Holds rows t → text_in k t ≡ None → r.id ≡ name_of k → r.values ≡ v ∷ []
+pub holds_put : (k : Which) (rows : List Row) (r : Row) (t : Texts) (v : Text) → Holds rows t → t k ≡ None → r.id ≡ name_of k → r.values ≡ v ∷ []
     → Holds (rows ++ r ∷ []) (put_text k t v)
 holds_put k rows r t v h none id values = record { has = λ j. has_ j (is_same k j) refl; first = λ j. first_ j (is_same k j) refl }
   where
-    has_ : (j : Which) (b : Bool) → is_same k j ≡ b → has_row (name_of j) (rows ++ r ∷ []) ≡ is_some (text_in j (put_text k t v))
+    has_ : (j : Which) (b : Bool) → is_same k j ≡ b → has_row (name_of j) (rows ++ r ∷ []) ≡ is_some (put_text k t v j)
     has_ j true e =
         list_any-append (λ x. bytes_eq x.id (name_of j)) rows (r ∷ []) ∙ or_true (has_row (name_of j) rows) _ (rw (id, e) refl) ∙ ap is_some (sym (put_same k j t v e))
     has_ j false e =
         list_any-append (λ x. bytes_eq x.id (name_of j)) rows (r ∷ []) ∙ or_false (has_row (name_of j) rows) _ (rw (id, e) refl) ∙ h.has j ∙ ap is_some (sym (put_other k j t v e))
 
-    first_ : (j : Which) (b : Bool) → is_same k j ≡ b → first_of (name_of j) (rows ++ r ∷ []) ≡ text_in j (put_text k t v)
+    first_ : (j : Which) (b : Bool) → is_same k j ≡ b → first_of (name_of j) (rows ++ r ∷ []) ≡ put_text k t v j
     first_ j true e =
-        let gone : has_row (name_of j) rows ≡ false = h.has j ∙ ap (λ i. is_some (text_in i t)) (sym (same_is k j e)) ∙ ap is_some none in
-        first_append (name_of j) rows r ∙ rw (gone, id, e, values) (sym (put_same k j t v e))
+        let gone : has_row (name_of j) rows ≡ false = h.has j ∙ ap (λ i. is_some (t i)) (sym (same_is k j e)) ∙ ap is_some none in
+        first_append (name_of j) rows r ∙ rw (gone, id, e, values) refl
     first_ j false e = first_append (name_of j) rows r ∙ by (has_row (name_of j) rows) refl ∙ sym (put_other k j t v e)
       where
         by : (b : Bool) → has_row (name_of j) rows ≡ b
-            → (if has_row (name_of j) rows then first_of (name_of j) rows else (if bytes_eq r.id (name_of j) then slice_get r.values 0 else None)) ≡ text_in j t
+            → (if has_row (name_of j) rows then first_of (name_of j) rows else (if bytes_eq r.id (name_of j) then slice_get r.values 0 else None)) ≡ t j
         by true f = rw f (h.first j)
-        by false f = rw (f, id, e) (none_of (text_in j t) (sym (h.has j) ∙ f))
+        by false f = rw (f, id, e) (none_of (t j) (sym (h.has j) ∙ f))
 
 -- ---- the option that was given last, and is not settled yet
 
@@ -286,7 +264,7 @@ held_with rows (Some p) = record { rows = rows; pending = Some (name_of p.0, p.1
 
 abbrev pub texts_with : Texts → Option (Which × Text) → Option Texts
 texts_with t None = Some t
-texts_with t (Some p) = if is_some (text_in p.0 t) then None else Some (put_text p.0 t p.1)
+texts_with t (Some p) = if is_some (t p.0) then None else Some (put_text p.0 t p.1)
 
 -- it is settled, or it was given before
 abbrev pub Settles : List Row → Option (Which × Text) → Option Texts → Type 0
@@ -319,9 +297,9 @@ settled_rows_are k rows v e =
 
 pub settles : (rows : List Row) (t : Texts) (q : Option (Which × Text)) → Holds rows t → Settles rows q (texts_with t q)
 settles rows t None h = (refl, h)
-settles rows t (Some p) h = go (text_in p.0 t) refl
+settles rows t (Some p) h = go (t p.0) refl
   where
-    go : (o : Option Text) → text_in p.0 t ≡ o → Settles rows (Some p) (texts_with t (Some p))
+    go : (o : Option Text) → t p.0 ≡ o → Settles rows (Some p) (texts_with t (Some p))
     go None e =
         let free : has_row (name_of p.0) rows ≡ false = h.has p.0 ∙ ap is_some e in
         rw e (

@@ -3,14 +3,14 @@ use Rattle.std.proofs.Common.{◌≡◌, Bool, true, false, List, [], ◌∷◌,
 use Rattle.std.proofs.lemmas.Slice.Eq.{bytes_eq-Decides}
 use Rattle.clap.specs.declared.error.kind.ErrorKind.{ErrorKind}
 use Rattle.clap.specs.declared.error.kind.ErrorKind.TheVariants as kind
-use Rattle.clap.specs.Walk.{Names, Row, Text, Walk, first_of, has_row, walk, walked, walk_from, nothing_held, idle, finished, settled, subcommand_met}
+use Rattle.clap.specs.Walk.{Names, Row, Text, Walk, first_of, walk, walked, walk_from, nothing_held, idle, finished, settled, subcommand_met}
 use Rattle.clap.specs.Simple.{App, built, entered, is_simple, names_of, subcommand_of}
 use Rattle.clap.specs.Kinds.{IsAmong, Kinds, or_else}
 use Rattle.clap.specs.Faults.{fault_of, is_simple_and_free, entered_fault, level_fault, walk_fault, turn_fault, settle_fault, defaults_fault, check_fault}
 use Rattle.clap.proofs.FaultLemmas.{stopped_fault}
 use Rattle.fine_model.specs.Words.{Command, none_given, options_in, command_of, run, dump, ranges, merge, when_none, without_dashes, with_defaults, gen_of}
 use Rattle.command_words.specs.Program.{program, given_in_rows, generated_of, command_found}
-use Rattle.command_words.proofs.Options.{not_sym, Texts, text_in, name_of, numbers, Holds, Which, the_group, the_tries, the_keep}
+use Rattle.command_words.proofs.Options.{not_sym, Texts, no_texts, numbers, Holds, the_group, the_tries, the_keep}
 use Rattle.command_words.proofs.Levels.{or_nothing}
 use Rattle.command_words.proofs.Walking.{dashes, Agree, agrees, fails, rest_fault, rest_rows, idle_words}
 use Rattle.command_words.proofs.Bare.{Alone, taken, left, bare_words, bare_leaf, bare_fails, walk_fails, walk_dashes}
@@ -78,25 +78,15 @@ module _ (name : Text) (turn : turn_fault whole.top names (walk_from nothing_hel
 
 -- ---- the commands
 
-holds_none : Holds [] (record { group = None; tries = None; keep = None })
-holds_none = record { has = λ k. has_ k; first = λ k. first_ k }
-  where
-    has_ : (k : Which) → has_row (name_of k) [] ≡ is_some (text_in k (record { group = None; tries = None; keep = None }))
-    has_ the_group = refl
-    has_ the_tries = refl
-    has_ the_keep = refl
-
-    first_ : (k : Which) → first_of (name_of k) [] ≡ text_in k (record { group = None; tries = None; keep = None })
-    first_ the_group = refl
-    first_ the_tries = refl
-    first_ the_keep = refl
+holds_none : Holds [] no_texts
+holds_none = record { has = λ _. refl; first = λ _. refl }
 
 given_is : (rows : List Row) (t : Texts) → Holds rows t → given_in_rows rows ≡ numbers t
 given_is rows t h = rw (h.first the_group, h.first the_tries, h.first the_keep) refl
 
 run_words : (ws : List Text) → Parses (codes "run" ∷ ws)
 unfolding walked command_of defaults_fault
-run_words ws = go (idle_words ws [] (record { group = None; tries = None; keep = None }) None holds_none)
+run_words ws = go (idle_words ws [] no_texts None holds_none)
   where
     fault : fault_of program (codes "run" ∷ ws) ≡ rest_fault (walk_from nothing_held) ws
     fault = named_fault (codes "run") refl refl ws ∙ or_nothing (rest_fault (walk_from nothing_held) ws)

@@ -18,7 +18,7 @@ use Rattle.clap.specs.Faults.{walk_fault, turn_fault, settle_fault, flags_fault,
 use Rattle.fine_model.specs.Script.{natural_of}
 use Rattle.fine_model.specs.Words.{Given, has_equals, with_option, options_in, then_given}
 use Rattle.command_words.proofs.Levels.{end_fault, fault_from, or_fails, or_nothing, rows_from, word_fails, word_taken}
-use Rattle.command_words.proofs.Options.{run_rules, Which, the_group, the_tries, the_keep, name_of, rule_for, which_of, by_long, with_dashed, with_which, number, Texts, text_in, given_in, put_text, numbers, put_numbers, put_taken, Holds, held_with, texts_with, Settles, settles, conflict, row_for, settled_named, settled_rows_are, holds_put}
+use Rattle.command_words.proofs.Options.{run_rules, Which, the_group, the_tries, the_keep, name_of, rule_for, which_of, by_long, with_dashed, with_which, number, Texts, given_in, put_text, numbers, put_numbers, put_taken, Holds, held_with, texts_with, Settles, settles, conflict, row_for, settled_named, settled_rows_are, holds_put}
 
 abbrev pub run_leaf : Shape
 run_leaf = record (new_shape (codes "run")) { rules = run_rules; no_binary_name = true; disable_help_flag = true; disable_help_subcommand = true; is_built = true }
@@ -282,9 +282,9 @@ after_option t q ws = option_and_then (λ s. after s ws) (texts_with t q)
 
 -- one more option, before the others
 placed : (k : Which) (t : Texts) (v : Text) → option_and_then (λ g. with_which (Some k) g v) (numbers t) ≡ option_and_then numbers (texts_with t (Some (k, v)))
-placed k t v = go (text_in k t) refl
+placed k t v = go (t k) refl
   where
-    go : (o : Option Text) → text_in k t ≡ o → option_and_then (λ g. with_which (Some k) g v) (numbers t) ≡ option_and_then numbers (texts_with t (Some (k, v)))
+    go : (o : Option Text) → t k ≡ o → option_and_then (λ g. with_which (Some k) g v) (numbers t) ≡ option_and_then numbers (texts_with t (Some (k, v)))
     go None e = put_numbers k t v e ∙ sym (ap (λ o. option_and_then numbers (if is_some o then None else Some (put_text k t v))) e)
     go (Some u) e = put_taken k t u v e ∙ sym (ap (λ o. option_and_then numbers (if is_some o then None else Some (put_text k t v))) e)
 
@@ -512,9 +512,9 @@ module _ (word : Text) (ws : List Text) (n : Text) (is : word ≡ 45 ∷ 45 ∷ 
               settled_ : (o : Option Texts) → Settles rows q o
                   → Agree (rest_fault (walk_from (held_with rows q)) (word ∷ ws)) (rest_rows (walk_from (held_with rows q)) (word ∷ ws)) (option_and_then (λ s. after s (word ∷ ws)) o)
               settled_ None s = agree_fails (walk_from (held_with rows q)) word ws None (λ e. or_fails _ _ (or_fails _ _ s) (sym turn ∙ e)) refl
-              settled_ (Some t') s = placed_ (text_in k t') refl
+              settled_ (Some t') s = placed_ (t' k) refl
                 where
-                  placed_ : (o : Option Text) → text_in k t' ≡ o
+                  placed_ : (o : Option Text) → t' k ≡ o
                       → Agree (rest_fault (walk_from (held_with rows q)) (word ∷ ws)) (rest_rows (walk_from (held_with rows q)) (word ∷ ws)) (after t' (word ∷ ws))
                   placed_ (Some u) e =
                       let taken : has_row (name_of k) (settled run_rules (held_with rows q)).rows ≡ true = s.1.has k ∙ ap is_some e in

@@ -13,11 +13,15 @@ option_named name = record (new_rule name) { long = Some name }
 abbrev pub number_named : Text → Rule
 number_named name = record (new_rule name) { required = true }
 
+-- a command of three words
+abbrev pub shape_of_three : Text → Rule → Rule → Rule → Shape
+shape_of_three name first second third = record (new_shape name) { rules = first ∷ second ∷ third ∷ [] }
+
 abbrev pub run_shape : Shape
-run_shape = record (new_shape (codes "run")) { rules = option_named (codes "group") ∷ option_named (codes "tries") ∷ option_named (codes "keep") ∷ [] }
+run_shape = shape_of_three (codes "run") (option_named (codes "group")) (option_named (codes "tries")) (option_named (codes "keep"))
 
 abbrev pub gen_shape : Shape
-gen_shape = record (new_shape (codes "gen")) { rules = number_named (codes "start") ∷ number_named (codes "count") ∷ number_named (codes "lanes") ∷ [] }
+gen_shape = shape_of_three (codes "gen") (number_named (codes "start")) (number_named (codes "count")) (number_named (codes "lanes"))
 
 abbrev pub top_shape : Shape
 top_shape = record (new_shape (codes "fineline")) {

@@ -9,11 +9,9 @@ use Rattle.log_disk.specs.Disk.{Eye}
 use Rattle.fine_model.specs.declared.Header.{Header}
 use Rattle.fine_model.specs.declared.NodeId.{NodeId}
 use Rattle.fine_model.specs.declared.Part.{Part}
-use Rattle.fine_model.specs.declared.Rec.{Rec}
-use Rattle.fine_model.specs.declared.Rec.TheVariants as rec
 use Rattle.fine_model.specs.declared.Row.{Row}
 use Rattle.fine_model.specs.Merge.{is_image}
-use Rattle.fine_model.specs.Nodes.{Content, base, step, step_node, replay, is_node, rows_of, content}
+use Rattle.fine_model.specs.Nodes.{Content, base, step, replay, is_node, rows_of, content}
 use Rattle.fine_model.specs.RowBytes.{row_len, rows_len, FitsRow, FitsRec, greatest}
 use Rattle.fine_model.specs.Regions.{Image, HasHeader, IsSealed}
 use Rattle.fine_model.specs.Chain.{AreRowsOf}

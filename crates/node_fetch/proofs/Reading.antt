@@ -17,10 +17,10 @@ use Rattle.fine_model.proofs.Merging.NodesIn.{nodes_total}
 use Rattle.fine_model.proofs.Ordered.Sets.{all_append}
 use Rattle.fine_model.proofs.Chain.Spelling.{row_spelling}
 use Rattle.fine_model.proofs.Ordered.Zip.{all_right}
-use Rattle.node_record.specs.Rows.{IsRowAt, IsNoRowAt, IsFrameOf, IsFrameAt}
+use Rattle.node_record.specs.Rows.{IsRowAt, IsFrameOf, IsFrameAt}
 use Rattle.node_record.specs.declared.frames.Frame.{Frame}
 use Rattle.node_fetch.specs.declared.frames.Frames.{Frames}
-use Rattle.node_fetch.specs.Spans.{ReadSoFar, ReadsAll, IsStop, AreFramesOf, FramedSoFar, FramesAll, last_row, with_frame}
+use Rattle.node_fetch.specs.Spans.{ReadSoFar, ReadsAll, IsStop, AreFramesOf, FramedSoFar, last_row, with_frame}
 
 pub rows_more : (rows : List Row) (row : Row) → rows_bytes (rows ++ row ∷ []) ≡ rows_bytes rows ++ row_bytes row
 unfolding rows_bytes

@@ -1,3 +1,4 @@
 pub mod Spans
 pub mod Fetched
 pub mod Blames
+pub mod Fetches

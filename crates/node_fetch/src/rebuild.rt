@@ -11,6 +11,7 @@ ghost use Rattle.fine_model.specs.RowBytes.{FitsRec, FitsRow, greatest, rows_len
 ghost use Rattle.fine_model.specs.Seek.{most_taken};
 ghost use Rattle.partition_index.specs.Parts.{IsSeen};
 ghost use Rattle.partition_index.specs.Search.{Searches, TellsRows};
+ghost use Rattle.node_fetch.specs.Fetches.{IsFetched};
 ghost use Rattle.node_fetch.specs.Fetched.{ReadsRows, IsReplayOf, HasBadRow, HasBadEntry, NoDamage, TellsParts, most_sought, most_read};
 
 use crate::fault::bad_index;
@@ -84,12 +85,7 @@ fn rebuilt<E: LogEye>(
     ensures eye { Searches (IsErrOf result fetch_fault.Failed) (most_read parts.now) (E.LogEye.state eye.old) (E.LogEye.state eye.new) }
     ensures fits { IfOk result (λ found. FitsNode found.0) }
     ensures version { IfOk result (λ found. found.1 ≤ greatest) }
-    ensures read { IfOk result (IsReplayOf (E.LogEye.state eye.old) parts.now node) }
-    ensures bad_row { (region at : ℕ) → IsErrOf result (fetch_fault.BadRow region at) → Any (λ p. HasBadRow (E.LogEye.state eye.old).told region_len p node (record { region = region; at = at })) parts.now }
-    ensures bad_index { (region at : ℕ) → IsErrOf result (fetch_fault.BadIndex region at) → Any (λ p. HasBadEntry (E.LogEye.state eye.old).told region_len p (record { region = region; at = at })) parts.now }
-    ensures exact { (rows : List Row) → TellsParts (E.LogEye.state eye.old) parts.now rows → MatchResult result (λ found. found ≡ content rows node) NoDamage }
-    ensures taken { (rows : List Row) → TellsParts (E.LogEye.state eye.old) parts.now rows
-        → (E.LogEye.state eye.new).taken ≤ (E.LogEye.state eye.old).taken + (most_sought parts.now + rows_len (rows_of node rows)) }
+    ensures fetched { IsFetched parts.now node region_len (E.LogEye.state eye.old) (E.LogEye.state eye.new) result }
 {
     let Some((newest, older)) = parts.split_last() else {
         return Ok(base(alloc, node));

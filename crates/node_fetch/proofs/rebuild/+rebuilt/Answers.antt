@@ -1,4 +1,5 @@
-use Rattle.std.proofs.Common.{rules, ◌≡◌, true, ◌∷◌, [], sym, ap, ◌∙◌, subst, Err}
+use Rattle.std.proofs.Common.{List, rules, arith, ◌≡◌, ◌++◌, true, ◌∷◌, [], sym, ap, ◌∙◌, subst, Err}
+use Rattle.std.proofs.lemmas.Grind.{common_steps}
 use Rattle.std.specs.Prelude.{Any}
 use Rattle.std.specs.List.{AllByRecursion, list_any}
 use Rattle.std.proofs.lemmas.List.{nil_from_length}
@@ -14,59 +15,16 @@ use Rattle.node_fetch.proofs.ReadBack.{replay_none, replay_image, replay_last, r
 use Rattle.partition_index.specs.Parts.{IsSeen}
 use Rattle.node_fetch.proofs.rebuild.+rebuilt.Goals as goal
 
-pub returns-in_default-clause-exact : goal.returns-in_default-clause-exact
-returns-in_default-clause-exact g t c rows tells =
-    let none : c.args.parts.now ≡ [] = nil_from_length c.args.parts.now c.in_default.ensures.cases in
-    let no_rows : rows ≡ [] = tells_none (g.E.LogEye.state c.args.eye.now) rows (subst (λ ps. TellsParts (g.E.LogEye.state c.args.eye.now) ps rows) none tells) in
-    c.base.ensures.base ∙ sym (ap (λ rs. content rs c.args.node) no_rows ∙ content_none c.args.node)
+any_front : (P : Part → Type 0) (parts : List Part) (last : Part) → Any P parts → Any P (parts ++ last ∷ [])
+any_front P parts last (k, part, small, is, p) = (k, part, grind (arith, common_steps, small), grind (arith, common_steps, small, is), p)
 
 pub part_rows-requires-clause-seen : goal.part_rows-requires-clause-seen
 part_rows-requires-clause-seen g t c =
     let P : Part → Type 0 = IsSeen (g.E.LogEye.state c.args.eye.now) in
     (all_right P c.in-Some.older.now (c.in-Some.newest.now ∷ []) (subst (AllByRecursion P) c.in-Some.ensures.cases.0 c.requires.seen)).0
 
-pub returns-in_err-rows-clause-bad_row : goal.returns-in_err-rows-clause-bad_row
-returns-in_err-rows-clause-bad_row g t c region at e =
-    let P : Part → Type 0 = λ p. HasBadRow (g.E.LogEye.state c.args.eye.now).told c.args.region_len p c.args.node (record { region = region; at = at }) in
-    let same : c.from_residual.result ≡ Err c.in_err-rows.field-0.0 = search rules in
-    let here = c.in_err-rows.ensures.bad_row region at (ap Err (fault_is c.from_residual.result c.in_err-rows.field-0.0 (fault.BadRow region at) same e)) in
-    subst (Any P) (sym c.in-Some.ensures.cases.0) (Any-push P c.in-Some.older.now c.in-Some.newest.now here)
-
-pub returns-in_err-rows-clause-bad_index : goal.returns-in_err-rows-clause-bad_index
-returns-in_err-rows-clause-bad_index g t c region at e =
-    let P : Part → Type 0 = λ p. HasBadEntry (g.E.LogEye.state c.args.eye.now).told c.args.region_len p (record { region = region; at = at }) in
-    let same : c.from_residual.result ≡ Err c.in_err-rows.field-0.0 = search rules in
-    let here = c.in_err-rows.ensures.bad_index region at (ap Err (fault_is c.from_residual.result c.in_err-rows.field-0.0 (fault.BadIndex region at) same e)) in
-    subst (Any P) (sym c.in-Some.ensures.cases.0) (Any-push P c.in-Some.older.now c.in-Some.newest.now here)
-
-pub returns-in_err-rows-clause-exact : goal.returns-in_err-rows-clause-exact
-returns-in_err-rows-clause-exact g t c rows tells =
-    let l = tells_last (g.E.LogEye.state c.args.eye.now) c.args.parts.now c.in-Some.older.now c.in-Some.newest.now rows c.in-Some.ensures.cases.0 tells in
-    let same : c.from_residual.result ≡ Err c.in_err-rows.field-0.0 = search rules in
-    err_exact c.from_residual.result c.in_err-rows.field-0.0 (content rows c.args.node) same (c.in_err-rows.ensures.exact l.own l.tells_own)
-
-pub returns-in_err-rows-clause-taken : goal.returns-in_err-rows-clause-taken
-returns-in_err-rows-clause-taken g t c rows tells =
-    let l = tells_last (g.E.LogEye.state c.args.eye.now) c.args.parts.now c.in-Some.older.now c.in-Some.newest.now rows c.in-Some.ensures.cases.0 tells in
-    taken_last (g.E.LogEye.state c.args.eye.now).taken (g.E.LogEye.state c.part_rows.new.eye).taken c.args.parts.now c.in-Some.older.now c.in-Some.newest.now rows l.before l.own c.args.node c.in-Some.ensures.cases.0 l.whole
-    (c.part_rows.ensures.taken l.own l.tells_own)
-
 pub after-requires-clause-rows : goal.after-requires-clause-rows
 after-requires-clause-rows g t c = fit_rows c.in-Some.newest.now c.in_ok-rows.rows c.in_ok-rows.ensures.fit
-
-pub returns-then-has_image-clause-exact : goal.returns-then-has_image-clause-exact
-returns-then-has_image-clause-exact g t c rows tells =
-    let l = tells_last (g.E.LogEye.state c.args.eye.now) c.args.parts.now c.in-Some.older.now c.in-Some.newest.now rows c.in-Some.ensures.cases.0 tells in
-    let image : list_any (λ row. is_image row.rec) c.in_ok-rows.rows ≡ true = search rules in
-    let own = c.in_ok-rows.ensures.exact l.own l.tells_own in
-    after_exact c.after.result _ (content rows c.args.node) c.after.ensures.replay c.after.ensures.err
-    (ap (λ x. replay x c.in_ok-rows.rows) c.base-then-has_image.ensures.base ∙ content_by_image rows l.before l.own c.in_ok-rows.rows c.args.node l.whole own image)
-
-pub returns-then-has_image-clause-taken : goal.returns-then-has_image-clause-taken
-returns-then-has_image-clause-taken g t c rows tells =
-    let l = tells_last (g.E.LogEye.state c.args.eye.now) c.args.parts.now c.in-Some.older.now c.in-Some.newest.now rows c.in-Some.ensures.cases.0 tells in
-    taken_last (g.E.LogEye.state c.args.eye.now).taken (g.E.LogEye.state c.part_rows.new.eye).taken c.args.parts.now c.in-Some.older.now c.in-Some.newest.now rows l.before l.own c.args.node c.in-Some.ensures.cases.0 l.whole
-    (c.part_rows.ensures.taken l.own l.tells_own)
 
 pub rebuilt-requires : goal.rebuilt-requires
 rebuilt-requires g t c κs within =
@@ -82,54 +40,113 @@ rebuilt-requires g t c κs within =
       ),
     )
 
-pub returns-in_err-before-clause-exact : goal.returns-in_err-before-clause-exact
-returns-in_err-before-clause-exact g t c rows tells =
-    let l = tells_last (g.E.LogEye.state c.args.eye.now) c.args.parts.now c.in-Some.older.now c.in-Some.newest.now rows c.in-Some.ensures.cases.0 tells in
-    let same : c.from_residual-in_err-before.result ≡ Err c.in_err-before.field-0.0 = search rules in
-    let later = later_tells (g.E.LogEye.state c.args.eye.now) (g.E.LogEye.state c.part_rows.new.eye) c.in-Some.older.now l.before c.part_rows.ensures.eye.same l.tells_before in
-    err_exact c.from_residual-in_err-before.result c.in_err-before.field-0.0 (content rows c.args.node) same (c.in_err-before.ensures.exact l.before later)
-
-pub returns-in_err-before-clause-taken : goal.returns-in_err-before-clause-taken
-returns-in_err-before-clause-taken g t c rows tells =
-    let l = tells_last (g.E.LogEye.state c.args.eye.now) c.args.parts.now c.in-Some.older.now c.in-Some.newest.now rows c.in-Some.ensures.cases.0 tells in
-    let later = later_tells (g.E.LogEye.state c.args.eye.now) (g.E.LogEye.state c.part_rows.new.eye) c.in-Some.older.now l.before c.part_rows.ensures.eye.same l.tells_before in
-    taken_all (g.E.LogEye.state c.args.eye.now).taken (g.E.LogEye.state c.part_rows.new.eye).taken (g.E.LogEye.state c.rebuilt.new.eye).taken c.args.parts.now c.in-Some.older.now c.in-Some.newest.now rows l.before l.own c.args.node c.in-Some.ensures.cases.0 l.whole
-    (c.part_rows.ensures.taken l.own l.tells_own) (c.rebuilt.ensures.taken l.before later)
-
 pub after-requires-2-clause-rows : goal.after-requires-2-clause-rows
 after-requires-2-clause-rows g t c = fit_rows c.in-Some.newest.now c.in_ok-rows.rows c.in_ok-rows.ensures.fit
 
-pub returns-clause-exact : goal.returns-clause-exact
-returns-clause-exact g t c rows tells =
-    let l = tells_last (g.E.LogEye.state c.args.eye.now) c.args.parts.now c.in-Some.older.now c.in-Some.newest.now rows c.in-Some.ensures.cases.0 tells in
-    let own = c.in_ok-rows.ensures.exact l.own l.tells_own in
-    let later = later_tells (g.E.LogEye.state c.args.eye.now) (g.E.LogEye.state c.part_rows.new.eye) c.in-Some.older.now l.before c.part_rows.ensures.eye.same l.tells_before in
-    let before = c.in_ok-before.ensures.exact l.before later in
-    after_exact c.after-2.result _ (content rows c.args.node) c.after-2.ensures.replay c.after-2.ensures.err
-    (content_on rows l.before l.own c.in_ok-rows.rows c.args.node _ l.whole own before)
+pub returns-in_default-clause-fetched : goal.returns-in_default-clause-fetched
+returns-in_default-clause-fetched g t c = record {
+  read =
+      replay_none (g.E.LogEye.state c.args.eye.now) c.args.parts.now c.args.node c.base.result (nil_from_length c.args.parts.now c.in_default.ensures.cases) c.base.ensures.base;
+  bad_row = search rules;
+  bad_index = search rules;
+  exact = λ rows tells.
+      let none : c.args.parts.now ≡ [] = nil_from_length c.args.parts.now c.in_default.ensures.cases in
+      let no_rows : rows ≡ [] = tells_none (g.E.LogEye.state c.args.eye.now) rows (subst (λ ps. TellsParts (g.E.LogEye.state c.args.eye.now) ps rows) none tells) in
+      c.base.ensures.base ∙ sym (ap (λ rs. content rs c.args.node) no_rows ∙ content_none c.args.node);
+  taken = search rules;
+}
 
-pub returns-clause-taken : goal.returns-clause-taken
-returns-clause-taken g t c rows tells =
-    let l = tells_last (g.E.LogEye.state c.args.eye.now) c.args.parts.now c.in-Some.older.now c.in-Some.newest.now rows c.in-Some.ensures.cases.0 tells in
-    let later = later_tells (g.E.LogEye.state c.args.eye.now) (g.E.LogEye.state c.part_rows.new.eye) c.in-Some.older.now l.before c.part_rows.ensures.eye.same l.tells_before in
-    taken_all (g.E.LogEye.state c.args.eye.now).taken (g.E.LogEye.state c.part_rows.new.eye).taken (g.E.LogEye.state c.rebuilt.new.eye).taken c.args.parts.now c.in-Some.older.now c.in-Some.newest.now rows l.before l.own c.args.node c.in-Some.ensures.cases.0 l.whole
-    (c.part_rows.ensures.taken l.own l.tells_own) (c.rebuilt.ensures.taken l.before later)
+pub returns-in_err-rows-clause-fetched : goal.returns-in_err-rows-clause-fetched
+returns-in_err-rows-clause-fetched g t c = record {
+  read = search rules;
+  bad_row = λ region at e.
+      let P : Part → Type 0 = λ p. HasBadRow (g.E.LogEye.state c.args.eye.now).told c.args.region_len p c.args.node (record { region = region; at = at }) in
+      let same : c.from_residual.result ≡ Err c.in_err-rows.field-0.0 = search rules in
+      let here = c.in_err-rows.ensures.bad_row region at (ap Err (fault_is c.from_residual.result c.in_err-rows.field-0.0 (fault.BadRow region at) same e)) in
+      subst (Any P) (sym c.in-Some.ensures.cases.0) (Any-push P c.in-Some.older.now c.in-Some.newest.now here);
+  bad_index = λ region at e.
+      let P : Part → Type 0 = λ p. HasBadEntry (g.E.LogEye.state c.args.eye.now).told c.args.region_len p (record { region = region; at = at }) in
+      let same : c.from_residual.result ≡ Err c.in_err-rows.field-0.0 = search rules in
+      let here = c.in_err-rows.ensures.bad_index region at (ap Err (fault_is c.from_residual.result c.in_err-rows.field-0.0 (fault.BadIndex region at) same e)) in
+      subst (Any P) (sym c.in-Some.ensures.cases.0) (Any-push P c.in-Some.older.now c.in-Some.newest.now here);
+  exact = λ rows tells.
+      let l = tells_last (g.E.LogEye.state c.args.eye.now) c.args.parts.now c.in-Some.older.now c.in-Some.newest.now rows c.in-Some.ensures.cases.0 tells in
+      let same : c.from_residual.result ≡ Err c.in_err-rows.field-0.0 = search rules in
+      err_exact c.from_residual.result c.in_err-rows.field-0.0 (content rows c.args.node) same (c.in_err-rows.ensures.exact l.own l.tells_own);
+  taken = λ rows tells.
+      let l = tells_last (g.E.LogEye.state c.args.eye.now) c.args.parts.now c.in-Some.older.now c.in-Some.newest.now rows c.in-Some.ensures.cases.0 tells in
+      taken_last (g.E.LogEye.state c.args.eye.now).taken (g.E.LogEye.state c.part_rows.new.eye).taken c.args.parts.now c.in-Some.older.now c.in-Some.newest.now rows l.before l.own c.args.node c.in-Some.ensures.cases.0 l.whole
+      (c.part_rows.ensures.taken l.own l.tells_own);
+}
 
-pub returns-in_default-clause-read : goal.returns-in_default-clause-read
-returns-in_default-clause-read g t c =
-    replay_none (g.E.LogEye.state c.args.eye.now) c.args.parts.now c.args.node c.base.result (nil_from_length c.args.parts.now c.in_default.ensures.cases) c.base.ensures.base
+pub returns-then-has_image-clause-fetched : goal.returns-then-has_image-clause-fetched
+returns-then-has_image-clause-fetched g t c = record {
+  read =
+      let eye = g.E.LogEye.state c.args.eye.now in
+      let image : list_any (λ row. is_image row.rec) c.in_ok-rows.rows ≡ true = search rules in
+      after_is c.after.result eye c.args.parts.now c.args.node _ c.after.ensures.replay
+      (λ found is. replay_image eye c.args.parts.now c.in-Some.older.now c.in-Some.newest.now c.args.node c.in_ok-rows.rows found c.in-Some.ensures.cases.0 c.in_ok-rows.ensures.read image
+      (is ∙ ap (λ x. replay x c.in_ok-rows.rows) c.base-then-has_image.ensures.base));
+  bad_row = search rules;
+  bad_index = search rules;
+  exact = λ rows tells.
+      let l = tells_last (g.E.LogEye.state c.args.eye.now) c.args.parts.now c.in-Some.older.now c.in-Some.newest.now rows c.in-Some.ensures.cases.0 tells in
+      let image : list_any (λ row. is_image row.rec) c.in_ok-rows.rows ≡ true = search rules in
+      let own = c.in_ok-rows.ensures.exact l.own l.tells_own in
+      after_exact c.after.result _ (content rows c.args.node) c.after.ensures.replay c.after.ensures.err
+      (ap (λ x. replay x c.in_ok-rows.rows) c.base-then-has_image.ensures.base ∙ content_by_image rows l.before l.own c.in_ok-rows.rows c.args.node l.whole own image);
+  taken = λ rows tells.
+      let l = tells_last (g.E.LogEye.state c.args.eye.now) c.args.parts.now c.in-Some.older.now c.in-Some.newest.now rows c.in-Some.ensures.cases.0 tells in
+      taken_last (g.E.LogEye.state c.args.eye.now).taken (g.E.LogEye.state c.part_rows.new.eye).taken c.args.parts.now c.in-Some.older.now c.in-Some.newest.now rows l.before l.own c.args.node c.in-Some.ensures.cases.0 l.whole
+      (c.part_rows.ensures.taken l.own l.tells_own);
+}
 
-pub returns-then-has_image-clause-read : goal.returns-then-has_image-clause-read
-returns-then-has_image-clause-read g t c =
-    let eye = g.E.LogEye.state c.args.eye.now in
-    let image : list_any (λ row. is_image row.rec) c.in_ok-rows.rows ≡ true = search rules in
-    after_is c.after.result eye c.args.parts.now c.args.node _ c.after.ensures.replay
-    (λ found is. replay_image eye c.args.parts.now c.in-Some.older.now c.in-Some.newest.now c.args.node c.in_ok-rows.rows found c.in-Some.ensures.cases.0 c.in_ok-rows.ensures.read image
-    (is ∙ ap (λ x. replay x c.in_ok-rows.rows) c.base-then-has_image.ensures.base))
+pub returns-in_err-before-clause-fetched : goal.returns-in_err-before-clause-fetched
+returns-in_err-before-clause-fetched g t c = record {
+  read = search rules;
+  bad_row = λ region at e.
+      let P : Part → Type 0 = λ p. HasBadRow (g.E.LogEye.state c.args.eye.now).told c.args.region_len p c.args.node (record { region = region; at = at }) in
+      let same : c.from_residual-in_err-before.result ≡ Err c.in_err-before.field-0.0 = search rules in
+      let there = c.in_err-before.ensures.fetched.bad_row region at (ap Err (fault_is c.from_residual-in_err-before.result c.in_err-before.field-0.0 (fault.BadRow region at) same e)) in
+      let here : Any P c.in-Some.older.now = subst (λ told. Any (λ p. HasBadRow told c.args.region_len p c.args.node (record { region = region; at = at })) c.in-Some.older.now) c.part_rows.ensures.eye.same.told there in
+      subst (Any P) (sym c.in-Some.ensures.cases.0) (any_front P c.in-Some.older.now c.in-Some.newest.now here);
+  bad_index = λ region at e.
+      let P : Part → Type 0 = λ p. HasBadEntry (g.E.LogEye.state c.args.eye.now).told c.args.region_len p (record { region = region; at = at }) in
+      let same : c.from_residual-in_err-before.result ≡ Err c.in_err-before.field-0.0 = search rules in
+      let there = c.in_err-before.ensures.fetched.bad_index region at (ap Err (fault_is c.from_residual-in_err-before.result c.in_err-before.field-0.0 (fault.BadIndex region at) same e)) in
+      let here : Any P c.in-Some.older.now = subst (λ told. Any (λ p. HasBadEntry told c.args.region_len p (record { region = region; at = at })) c.in-Some.older.now) c.part_rows.ensures.eye.same.told there in
+      subst (Any P) (sym c.in-Some.ensures.cases.0) (any_front P c.in-Some.older.now c.in-Some.newest.now here);
+  exact = λ rows tells.
+      let l = tells_last (g.E.LogEye.state c.args.eye.now) c.args.parts.now c.in-Some.older.now c.in-Some.newest.now rows c.in-Some.ensures.cases.0 tells in
+      let same : c.from_residual-in_err-before.result ≡ Err c.in_err-before.field-0.0 = search rules in
+      let later = later_tells (g.E.LogEye.state c.args.eye.now) (g.E.LogEye.state c.part_rows.new.eye) c.in-Some.older.now l.before c.part_rows.ensures.eye.same l.tells_before in
+      err_exact c.from_residual-in_err-before.result c.in_err-before.field-0.0 (content rows c.args.node) same (c.in_err-before.ensures.fetched.exact l.before later);
+  taken = λ rows tells.
+      let l = tells_last (g.E.LogEye.state c.args.eye.now) c.args.parts.now c.in-Some.older.now c.in-Some.newest.now rows c.in-Some.ensures.cases.0 tells in
+      let later = later_tells (g.E.LogEye.state c.args.eye.now) (g.E.LogEye.state c.part_rows.new.eye) c.in-Some.older.now l.before c.part_rows.ensures.eye.same l.tells_before in
+      taken_all (g.E.LogEye.state c.args.eye.now).taken (g.E.LogEye.state c.part_rows.new.eye).taken (g.E.LogEye.state c.rebuilt.new.eye).taken c.args.parts.now c.in-Some.older.now c.in-Some.newest.now rows l.before l.own c.args.node c.in-Some.ensures.cases.0 l.whole
+      (c.part_rows.ensures.taken l.own l.tells_own) (c.rebuilt.ensures.fetched.taken l.before later);
+}
 
-pub returns-clause-read : goal.returns-clause-read
-returns-clause-read g t c =
-    let eye = g.E.LogEye.state c.args.eye.now in
-    let before = replay_same eye (g.E.LogEye.state c.part_rows.new.eye) c.in-Some.older.now c.args.node c.in_ok-before.before c.part_rows.ensures.eye.same c.in_ok-before.ensures.read in
-    after_is c.after-2.result eye c.args.parts.now c.args.node _ c.after-2.ensures.replay
-    (λ found is. replay_last eye c.args.parts.now c.in-Some.older.now c.in-Some.newest.now c.args.node c.in_ok-rows.rows c.in_ok-before.before found c.in-Some.ensures.cases.0 c.in_ok-rows.ensures.read before is)
+pub returns-clause-fetched : goal.returns-clause-fetched
+returns-clause-fetched g t c = record {
+  read =
+      let eye = g.E.LogEye.state c.args.eye.now in
+      let before = replay_same eye (g.E.LogEye.state c.part_rows.new.eye) c.in-Some.older.now c.args.node c.in_ok-before.before c.part_rows.ensures.eye.same c.in_ok-before.ensures.fetched.read in
+      after_is c.after-2.result eye c.args.parts.now c.args.node _ c.after-2.ensures.replay
+      (λ found is. replay_last eye c.args.parts.now c.in-Some.older.now c.in-Some.newest.now c.args.node c.in_ok-rows.rows c.in_ok-before.before found c.in-Some.ensures.cases.0 c.in_ok-rows.ensures.read before is);
+  bad_row = search rules;
+  bad_index = search rules;
+  exact = λ rows tells.
+      let l = tells_last (g.E.LogEye.state c.args.eye.now) c.args.parts.now c.in-Some.older.now c.in-Some.newest.now rows c.in-Some.ensures.cases.0 tells in
+      let own = c.in_ok-rows.ensures.exact l.own l.tells_own in
+      let later = later_tells (g.E.LogEye.state c.args.eye.now) (g.E.LogEye.state c.part_rows.new.eye) c.in-Some.older.now l.before c.part_rows.ensures.eye.same l.tells_before in
+      let before = c.in_ok-before.ensures.fetched.exact l.before later in
+      after_exact c.after-2.result _ (content rows c.args.node) c.after-2.ensures.replay c.after-2.ensures.err
+      (content_on rows l.before l.own c.in_ok-rows.rows c.args.node _ l.whole own before);
+  taken = λ rows tells.
+      let l = tells_last (g.E.LogEye.state c.args.eye.now) c.args.parts.now c.in-Some.older.now c.in-Some.newest.now rows c.in-Some.ensures.cases.0 tells in
+      let later = later_tells (g.E.LogEye.state c.args.eye.now) (g.E.LogEye.state c.part_rows.new.eye) c.in-Some.older.now l.before c.part_rows.ensures.eye.same l.tells_before in
+      taken_all (g.E.LogEye.state c.args.eye.now).taken (g.E.LogEye.state c.part_rows.new.eye).taken (g.E.LogEye.state c.rebuilt.new.eye).taken c.args.parts.now c.in-Some.older.now c.in-Some.newest.now rows l.before l.own c.args.node c.in-Some.ensures.cases.0 l.whole
+      (c.part_rows.ensures.taken l.own l.tells_own) (c.rebuilt.ensures.fetched.taken l.before later);
+}

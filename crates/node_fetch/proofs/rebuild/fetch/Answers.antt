@@ -1,0 +1,6 @@
+use Rattle.std.proofs.Common.{sym, subst}
+use Rattle.node_fetch.specs.Fetched.{TellsParts}
+use Rattle.node_fetch.proofs.rebuild.fetch.Goals as goal
+
+pub returns-clause-exact : goal.returns-clause-exact
+returns-clause-exact g c rows tells = c.rebuilt.ensures.fetched.exact rows (subst (λ parts. TellsParts (g.E.LogEye.state c.args.eye.now) parts rows) (sym c.as_slice.ensures) tells)

@@ -176,6 +176,21 @@ fn split_off(
     })
 }
 
+/// One row on top of others, of a node that is not split.
+fn push_one(rows: Rows, at: Target, next: u32, rec: Rec) -> Result<Growth, NoMemory>
+    requires { at.version ≤ greatest }
+    ensures grown { IfOk result (λ g. grown_of g ≡ record { rows = rows ++ row_of at.bucket at.number (at.version + 1) rec ∷ []; next = next; split = None }) }
+    ensures next { IfOk result (λ g. g.next ≤ next) }
+{
+    let mut rows = rows;
+    rows.push(row_of(at.bucket, at.number, at.version + 1, rec))?;
+    Ok(Growth {
+        rows,
+        next,
+        split: None,
+    })
+}
+
 /// One row, of a leaf that is not split.
 fn put_whole(
     alloc: Global,
@@ -192,13 +207,7 @@ fn put_whole(
         key: bytes_of(alloc, key)?,
         value: bytes_of(alloc, value)?,
     };
-    let mut rows = Items::new(alloc);
-    rows.push(row_of(at.bucket, at.number, at.version + 1, put))?;
-    Ok(Growth {
-        rows,
-        next,
-        split: None,
-    })
+    push_one(Items::new(alloc), at, next, put)
 }
 
 /// A full leaf is split: pairs 16 and up go to a new leaf, and the new pair into the half where it belongs.
@@ -300,17 +309,11 @@ fn link_whole(
     ensures grown { IfOk result (λ g. grown_of g ≡ record { rows = below ++ row_of at.bucket at.number (at.version + 1) (rec.Link sep right) ∷ []; next = next; split = None }) }
     ensures next { IfOk result (λ g. g.next ≤ next) }
 {
-    let mut rows = below;
     let link = Rec::Link {
         key: sep,
         child: right,
     };
-    rows.push(row_of(at.bucket, at.number, at.version + 1, link))?;
-    Ok(Growth {
-        rows,
-        next,
-        split: None,
-    })
+    push_one(below, at, next, link)
 }
 
 /// What is pushed in an inner node on top of what is pushed below it.

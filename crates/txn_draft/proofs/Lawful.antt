@@ -3,7 +3,6 @@ use Rattle.std.proofs.Common.{◌≡◌, ◌≢◌, ℕ, nat_eq, List, [], ◌�
 use Rattle.std.specs.Prelude.{IfSome, unwrap_or}
 use Rattle.std.specs.Map.{lookup}
 use Rattle.std.specs.List.{AllByRecursion}
-use Rattle.fine_model.specs.declared.Node.TheVariants as node
 use Rattle.fine_model.specs.declared.Row.{Row}
 use Rattle.fine_model.specs.Laws.{AreSmall}
 use Rattle.fine_model.specs.Map.{map_after}
@@ -18,7 +17,7 @@ use Rattle.fine_model.proofs.Ordered.Sets.{all_append}
 use Rattle.node_cache.specs.declared.cached.Cached.{Cached}
 use Rattle.node_cache.specs.Cache.{Cache, cached, before, IsSaved}
 use Rattle.node_cache.specs.Given.{IsCached}
-use Rattle.btree_nodes.specs.Trees.{Serves, node_at}
+use Rattle.btree_nodes.specs.Trees.{node_at}
 use Rattle.txn_draft.specs.Laws.{AreElsewhere, BlankLaw, NextLaw, TakenLaw, OthersLaw, BetweenLaw, RestoredLaw, UsedLaw}
 
 pub blank_law : BlankLaw

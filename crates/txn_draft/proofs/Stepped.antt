@@ -21,9 +21,7 @@ use Rattle.btree_nodes.specs.declared.fault.TreeFault.{TreeFault}
 use Rattle.btree_nodes.specs.declared.fault.TreeFault.TheVariants.{Source, Unfit, BucketFull, Number, NoMemory}
 use Rattle.btree_nodes.specs.Trees.{Serves, Holds, LoadsOnWay, AreUsed, way_in, pairs_in}
 use Rattle.btree_nodes.specs.Calls.{IsChange, IsDone, Answers, IsFound, SoundOutcome, SoundReading}
-use Rattle.btree_nodes.proofs.Changed.{saves_itself}
 use Rattle.btree_nodes.proofs.LeafPush.{pushes_none}
-use Rattle.btree_nodes.proofs.Loads.{among_none}
 use Rattle.btree_nodes.proofs.SoundCalls.{fault_first, reached_fault}
 use Rattle.txn_draft.specs.Steps.{Made, IsMade, IsStep}
 

@@ -3,6 +3,7 @@ pub use Rattle.std.specs.Option.{option_to_list}
 pub use Rattle.fine_model.specs.declared.Row.{Row}
 pub use Rattle.fine_model.specs.Bounds.{FitsCall}
 pub use Rattle.fine_model.specs.Map.{Pair}
+pub use Rattle.fine_model.specs.Merge.{cost}
 pub use Rattle.fine_model.specs.Pushed.{key_of}
 pub use Rattle.fine_model.specs.RowBytes.{FitsKey, FitsValue, buckets}
 pub use Rattle.fine_model.specs.ScanLaws.{IsKept}

@@ -1,8 +1,6 @@
 //! The draft of an entry.
 
 ghost use Rattle.std.specs.Prelude.{◌≡◌, true, false, [], ◌∷◌, ◌++◌, OnOk};
-ghost use Rattle.std.specs.Option.{option_to_list};
-ghost use Rattle.fine_model.specs.Merge.{cost};
 
 use fine_model::{Call, Copied, Entry, Items, NoMemory, Reply, Write};
 use private_log::PrivateLog;
@@ -32,6 +30,7 @@ impl Model for Draft {
 }
 
 impl Draft {
+    ghost use Rattle.txn_draft.specs.Cited.{cost, option_to_list};
     ghost use Rattle.txn_draft.specs.Drafts.{blank, entry_of, noted};
 
     /// A transaction of a lane, with its number in the script. It takes no memory.

@@ -109,11 +109,7 @@ fn limit_of(call: &Call) -> u32
     ensures { result ≡ limit_of call.now }
 {
     match call {
-        Call::Scan {
-            low: _,
-            high: _,
-            limit,
-        } => *limit,
+        Call::Scan { limit, .. } => *limit,
         _ => 0,
     }
 }

@@ -4,7 +4,7 @@ ghost use Rattle.std.specs.Prelude.{◌≡◌, ◌++◌, [], ◌∷◌, if◌the
 ghost use Rattle.fine_model.specs.declared.Call.TheVariants as call_of;
 ghost use Rattle.fine_model.specs.declared.Reply.TheVariants as reply;
 ghost use Rattle.fine_model.specs.declared.Write.TheVariants as write;
-ghost use Rattle.txn_draft.specs.Cited.{FitsCall, FitsKey, FitsValue, OnCleanAnswer, Pair, answer, bucket_of, key_of, option_to_list, value_answer};
+ghost use Rattle.txn_draft.specs.Cited.{FitsCall, FitsKey, FitsValue, OnCleanAnswer, Pair, Row, answer, bucket_of, key_of, option_to_list, value_answer};
 ghost use Rattle.txn_draft.specs.Steps.{IsStep, IsMade};
 
 use btree_nodes::{TreeFault, add_to, find, insert, remove};
@@ -57,16 +57,11 @@ fn reply_of(value: Option<Bytes>) -> Reply
     }
 }
 
-fn get<S: NodeSource>(
-    source: &mut S,
-    bucket: &mut Bucket,
-    log: &mut PrivateLog,
-    key: &Bytes,
-) -> Result<Made, TreeFault>
+fn get<S: NodeSource>(source: &mut S, bucket: &mut Bucket, key: &Bytes) -> Result<Made, TreeFault>
     requires bucket { bucket.old.bucket ≡ bucket_of key.now }
     ensures later { S.later source.old source.new }
     ensures clean { OnCleanAnswer result (S.clean source.old source.new) }
-    ensures step { IsStep (S.tells source.old) (S.finds source.old) (S.upper source.old) bucket.old bucket.new log.old log.new (call_of.Get key.now) (λ pairs. IsMade pairs (call_of.Get key.now)) (λ failed. S.fails source.old failed source.new) result }
+    ensures step { (log : List Row) → IsStep (S.tells source.old) (S.finds source.old) (S.upper source.old) bucket.old bucket.new log log (call_of.Get key.now) (λ pairs. IsMade pairs (call_of.Get key.now)) (λ failed. S.fails source.old failed source.new) result }
 {
     match find(source, bucket, key.as_slice()) {
         Ok(value) => Ok((reply_of(value), None)),
@@ -165,7 +160,7 @@ pub fn step<S: NodeSource>(
     ensures step { IsStep (S.tells source.old) (S.finds source.old) (S.upper source.old) bucket.old bucket.new log.old log.new call.now (λ pairs. IsMade pairs call.now) (λ failed. S.fails source.old failed source.new) result }
 {
     match call {
-        Call::Get { key } => get(source, bucket, log, key),
+        Call::Get { key } => get(source, bucket, key),
         Call::Put { key, value } => put(alloc, source, bucket, log, key, value),
         Call::Del { key } => del(alloc, source, bucket, log, key),
         Call::Add { key, by } => add(alloc, source, bucket, log, key, *by),

@@ -99,23 +99,19 @@ fn reads_every_lane_and_call(rt: HostRuntime) -> Result<(), NoMemory> {
 fn reads_up_to_its_limits(rt: HostRuntime) -> Result<(), NoMemory> {
     let alloc = rt.alloc();
     let table = [
-        (("txn 1\nput ", "k", 64, " v\ncommit\n"), "ok", 0),
-        (("txn 1\nput ", "k", 65, " v\ncommit\n"), "bad", 2),
-        (("txn 1\nput k ", "v", 256, "\ncommit\n"), "ok", 0),
-        (("txn 1\nput k ", "v", 257, "\ncommit\n"), "bad", 2),
-        (("#", "x", 511, "\n"), "ok", 0),
-        (("#", "x", 512, "\n"), "long", 1),
-        (("#", "x", 512, ""), "long", 1),
-        (("", "\n", 1_000_000, ""), "ok", 0),
-        (("", "\n", 1_000_000, "\n"), "many", 1_000_001),
-        (("", "txn 1\ncommit\n", 100_000, ""), "ok", 0),
-        (("", "txn 1\ncommit\n", 100_000, "txn 1\n"), "bad", 200_001),
-        (("txn 1\n", "get a\n", 10_000, "commit\n"), "ok", 0),
-        (("txn 1\n", "get a\n", 10_001, "commit\n"), "bad", 10_002),
+        ("txn 1\nput ", "k", 64, " v\ncommit\n", ("bad", 2)),
+        ("txn 1\nput k ", "v", 256, "\ncommit\n", ("bad", 2)),
+        ("#", "x", 511, "\n", ("long", 1)),
+        ("#", "x", 511, "", ("long", 1)),
+        ("", "\n", 1_000_000, "", ("many", 1_000_001)),
+        ("", "txn 1\ncommit\n", 100_000, "", ("bad", 200_001)),
+        ("txn 1\n", "get a\n", 10_000, "commit\n", ("bad", 10_002)),
     ];
-    for (text, word, line) in table {
-        let mut source = source(alloc, text, 0)?;
-        assert_eq!(rt; read(alloc, &mut source), (word, line));
+    for (front, piece, most, end, refused) in table {
+        let mut full = source(alloc, (front, piece, most, end), 0)?;
+        assert_eq!(rt; read(alloc, &mut full), ("ok", 0));
+        let mut over = source(alloc, (front, piece, most.saturating_add(1), end), 0)?;
+        assert_eq!(rt; read(alloc, &mut over), refused);
     }
     Ok(())
 }

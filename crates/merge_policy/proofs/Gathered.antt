@@ -17,11 +17,11 @@ too_long b c m n h = grind (arith, h)
 -- where all that was seen and one part more are too long, so are those with more parts before them
 pub none_longer : (most : ℕ) (front : List Part) (part : Part) (behind : List Part) → most < part_len part + sum_by part_len behind → young_from most (front ++ part ∷ behind) ≡ young_from most behind
 unfolding young_from
-none_longer most [] part behind long = one_more most part behind false (too_long (nat_le 3 (length behind)) (nat_le (part_len part) (2 * sum_by part_len behind)) (part_len part + sum_by part_len behind) most long)
+none_longer most [] part behind long = one_more most part behind false (too_long (nat_le 3 (length behind)) (nat_le (2 * part_len part) (3 * sum_by part_len behind)) (part_len part + sum_by part_len behind) most long)
 none_longer most (p ∷ front) part behind long =
     let all : sum_by part_len (front ++ part ∷ behind) ≡ sum_by part_len front + (part_len part + sum_by part_len behind) = sum_by-append part_len front (part ∷ behind) ∙ ap (λ n. sum_by part_len front + n) (sum_by-cons part_len part behind) in
     one_more most p (front ++ part ∷ behind) false
-    (too_long (nat_le 3 (length (front ++ part ∷ behind))) (nat_le (part_len p) (2 * sum_by part_len (front ++ part ∷ behind))) (part_len p + sum_by part_len (front ++ part ∷ behind)) most (omega (arith, all, long)))
+    (too_long (nat_le 3 (length (front ++ part ∷ behind))) (nat_le (2 * part_len p) (3 * sum_by part_len (front ++ part ∷ behind))) (part_len p + sum_by part_len (front ++ part ∷ behind)) most (omega (arith, all, long)))
     ∙ none_longer most front part behind long
 
 -- the parts that were seen from the youngest on, their length and number, and the oldest young one of them
@@ -50,7 +50,7 @@ fits true false m n h = refl
 fits false c m n h = refl
 
 pub seen_more : (most : ℕ) (parts left : List Part) (behind count : ℕ) (oldest : Option ℕ) (s : IsSeen most parts left behind count oldest) (before : List Part) (part : Part) → left ≡ before ++ part ∷ [] → (len : ℕ) → len ≡ part_len part → behind + len ≤ most
-    → (next : Option ℕ) → next ≡ (if nat_le 3 count && nat_le len (2 * behind) then Some part.header.range.first else oldest) → IsSeen most parts before (behind + len) (count + 1) next
+    → (next : Option ℕ) → next ≡ (if nat_le 3 count && nat_le (2 * len) (3 * behind) then Some part.header.range.first else oldest) → IsSeen most parts before (behind + len) (count + 1) next
 seen_more most parts left behind count oldest s before part is len len_is short next next_is = record {
   seen = part ∷ s.seen;
   whole = s.whole ∙ ap (λ ps. ps ++ s.seen) is ∙ append_assoc before (part ∷ []) s.seen;
@@ -58,8 +58,8 @@ seen_more most parts left behind count oldest s before part is len len_is short 
   within = short;
   count_is = let e = s.count_is in omega (arith, e);
   oldest_is = next_is
-      ∙ (λ i. if nat_le 3 (s.count_is i) && nat_le (len_is i) (2 * s.behind_is i) then Some part.header.range.first else s.oldest_is i)
+      ∙ (λ i. if nat_le 3 (s.count_is i) && nat_le (2 * len_is i) (3 * s.behind_is i) then Some part.header.range.first else s.oldest_is i)
       ∙ ap (λ (t : Bool). if t then Some part.header.range.first else young_from most s.seen)
-      (sym (fits (nat_le 3 (length s.seen)) (nat_le (part_len part) (2 * sum_by part_len s.seen)) (part_len part + sum_by part_len s.seen) most (let e = s.behind_is in omega (arith, e, short, len_is))))
+      (sym (fits (nat_le 3 (length s.seen)) (nat_le (2 * part_len part) (3 * sum_by part_len s.seen)) (part_len part + sum_by part_len s.seen) most (let e = s.behind_is in omega (arith, e, short, len_is))))
       ∙ sym (one_more most part s.seen (is_young most part s.seen) refl);
 }

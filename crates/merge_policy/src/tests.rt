@@ -191,21 +191,26 @@ fn epochs_of(alloc: Global, count: u64, oldest: u32, area: u32) -> Result<Vec<Pa
 }
 
 #[test]
-fn the_youngest_parts_are_gathered_from_seventeen_on(rt: HostRuntime) -> Result<(), Fail> {
+fn the_youngest_parts_are_gathered_from_seventeen_on_or_where_few_regions_are_free(
+    rt: HostRuntime,
+) -> Result<(), Fail> {
     let cases = [
-        (16, 1000, 1000, None),
-        (17, 1000, 1000, Some(1)),
-        // twice as long as all behind it, and longer
-        (17, 33_000, 1000, Some(1)),
-        (17, 40_000, 1000, Some(2)),
-        // five parts have at most 1 MiB, and two of twice their length
-        (17, 1000, 200_000, Some(13)),
-        (17, 1000, 400_000, None),
+        (7, 16, 1000, 1000, None),
+        (7, 17, 1000, 1000, Some(1)),
+        // one and a half times as long as all behind it, and longer by a byte
+        (7, 17, 24_943, 1000, Some(1)),
+        (7, 17, 24_944, 1000, Some(2)),
+        // five parts have at most 4 MiB, and two of twice their length
+        (7, 17, 1000, 800_000, Some(13)),
+        (7, 17, 1000, 1_600_000, None),
+        // no room for all parts once more
+        (2, 9, 1000, 1000, Some(1)),
+        (2, 8, 1000, 1000, None),
     ];
-    for (count, oldest, area, first) in cases {
+    for (free, count, oldest, area, first) in cases {
         let parts = epochs_of(rt.alloc(), count, oldest, area)?;
-        assert_eq!(rt; young_run(parts.as_slice(), space(7, true, 2, 7)), first);
-        assert_eq!(rt; young_run(parts.as_slice(), space(7, false, 2, 7)), None);
+        assert_eq!(rt; young_run(parts.as_slice(), space(free, true, 2, 7)), first);
+        assert_eq!(rt; young_run(parts.as_slice(), space(free, false, 2, 7)), None);
     }
     Ok(())
 }

@@ -23,3 +23,4 @@ pub mod Handed
 pub mod Loading
 pub mod Counting
 pub mod Holding
+pub mod Staying

@@ -31,6 +31,7 @@ use Rattle.fine_hall.specs.Passes.{PassView, reads, turns, published, found_held
 use Rattle.fine_hall.specs.Halls.{SeesMore, Takes, Waits, TakesRoom, FindsHeld}
 use Rattle.fine_hall.proofs.Meaning.{found_room}
 use Rattle.fine_hall.proofs.Passing.{reads_is, at_the_room, found, sees_taken, taking_pass, taken_keeps_front, takes_place, reads', stood}
+use Rattle.fine_hall.proofs.Staying.{places_more, views_more}
 use Rattle.fine_hall.proofs.Turning.{keeps_job}
 
 -- what a pass had told of its front as it was is told of it as it is
@@ -127,15 +128,6 @@ module _ {V : Type 0} where
   pub waits_on : (p q r : Pass V) → Waits p q → Waits q r → Waits p r
   waits_on p q r s t = record {
     tried = (s.tried.0 ++ t.tried.0, t.tried.1 ∙ (ap (λ l. l ++ t.tried.0) s.tried.1 ∙ append_assoc (found_held p) s.tried.0 t.tried.0));
-    places = record {
-      same_held = t.places.same_held ∙ s.places.same_held;
-      same_turns = t.places.same_turns ∙ s.places.same_turns;
-      same_own = t.places.same_own ∙ s.places.same_own;
-      same_published = t.places.same_published ∙ s.places.same_published;
-    };
-    views = record {
-      reads = t.views.reads ∙ s.views.reads;
-      front = (t.views.front.0 ∙ s.views.front.0, t.views.front.1 ∙ s.views.front.1);
-      backs = t.views.backs ∙ s.views.backs;
-    };
+    places = places_more p q r s.places t.places;
+    views = views_more p q r s.views t.views;
   }

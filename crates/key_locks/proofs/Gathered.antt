@@ -14,7 +14,8 @@ use Rattle.fine_hall.specs.Halls.{Takes, FindsHeld}
 use Rattle.fine_hall.proofs.Holding.{held_stands}
 use Rattle.fine_hall.proofs.Seeing.{sees_itself, sees_on}
 use Rattle.key_locks.specs.Locks.{HasLock, LacksLock, AreLocksOf, AllStand, Gathers, HasAllBelow, StayFrom, StopsAt, StandLaw}
-use Rattle.key_locks.proofs.Held.{near, far, not_both, has_place, get_same, get_else, below_room, views_none, views_more, views_taken}
+use Rattle.key_locks.proofs.Held.{near, far, not_both, has_place, get_same, get_else, below_room, views_taken}
+use Rattle.fine_hall.proofs.Staying.{views_none, views_more}
 
 not_held : (held : List Bool) (k : ℕ) → get_elem? held k ≡ some false → get_elem? held k ≡ some true → ⊥
 not_held held k off on = let e : some false ≡ some true = sym off ∙ on in cc

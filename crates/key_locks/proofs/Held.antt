@@ -14,6 +14,7 @@ use Rattle.fine_hall.specs.Turns.{commits}
 use Rattle.fine_model.specs.Buckets.{IsBucketFor}
 use Rattle.fine_hall.specs.Passes.{known, seen, published, HasPlace, LacksPlace}
 use Rattle.fine_hall.specs.Halls.{KeepsPlaces, KeepsViews, Takes, Gives}
+use Rattle.fine_hall.proofs.Staying.{views_none, views_more}
 use Rattle.key_locks.specs.Locks.{HasLock, LacksLock, AreLocksOf, AllStand, Releases, HoldLaw, HoldRoomLaw}
 
 pub near : (k : ℕ) → k < 256 → k < places.room
@@ -56,12 +57,6 @@ gone_there locks locks' k b e h = ap (λ l. slice_get l k) e ∙ get_same locks 
 -- ---- the views of the pass stay
 
 module _ {V : Type 0} where
-  pub views_none : (p : Pass V) → KeepsViews p p
-  views_none p = record { reads = refl; front = (refl, refl); backs = refl }
-
-  pub views_more : (p q r : Pass V) → KeepsViews p q → KeepsViews q r → KeepsViews p r
-  views_more p q r s t = record { reads = t.reads ∙ s.reads; front = (t.front.0 ∙ s.front.0, t.front.1 ∙ s.front.1); backs = t.backs ∙ s.backs }
-
   -- a bucket was taken
   pub views_taken : (k : ℕ) (p p' : Pass V) → k < 256 → Takes k p p' → KeepsViews p p'
   views_taken k p p' low t = let turn = t.turn (near k low) in record { reads = λ i. record { notes = t.notes i; turn = turn.0 i }; front = t.front; backs = turn.1 }
@@ -107,9 +102,7 @@ module _ {V B : Type 0} where
   releases_one locks locks' p p' k b lt e h g = record {
     fewer = λ j l. ⊎_elim (λ (is : j ≡ k). subst (LacksLock locks') (sym is) (gone_there locks locks' k b e h)) (λ (ne : j ≢ k). ap (λ m. slice_get m j) e ∙ (get_else locks k j None ne ∙ l)) (decide j k);
     room = ap (λ l. get_elem? l places.room) g.held ∙ set_else (known p).held k places.room false (below_room k lt);
-    same_turns = g.same_turns;
-    same_own = g.same_own;
-    same_published = g.same_published;
+    kept = record { same_turns = g.same_turns; same_own = g.same_own; same_published = g.same_published };
     found = g.found;
     views = g.views;
   }
@@ -118,15 +111,13 @@ module _ {V B : Type 0} where
   releases_more a b c p q r s t = record {
     fewer = λ k l. t.fewer k (s.fewer k l);
     room = t.room ∙ s.room;
-    same_turns = t.same_turns ∙ s.same_turns;
-    same_own = t.same_own ∙ s.same_own;
-    same_published = t.same_published ∙ s.same_published;
+    kept = record { same_turns = t.same_turns ∙ s.same_turns; same_own = t.same_own ∙ s.same_own; same_published = t.same_published ∙ s.same_published };
     found = t.found ∙ s.found;
     views = views_more p q r s.views t.views;
   }
 
   pub releases_none : (a : List (Option B)) (p : Pass V) → Releases a a p p
-  releases_none a p = record { fewer = λ k l. l; room = refl; same_turns = refl; same_own = refl; same_published = refl; found = refl; views = views_none p }
+  releases_none a p = record { fewer = λ k l. l; room = refl; kept = record { same_turns = refl; same_own = refl; same_published = refl }; found = refl; views = views_none p }
 
 -- ---- what stands
 

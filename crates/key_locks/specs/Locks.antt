@@ -26,6 +26,12 @@ module _ {B : Type 0} where
   abbrev pub StayFrom : ℕ → List (Option B) → List (Option B) → Type 0
   StayFrom from locks locks' = (k : ℕ) → from ≤ k → slice_get locks' k ≡ slice_get locks k
 
+-- the pass saw no turn more, and did none
+pub record KeepsTurns {V : Type 0} (p p' : Pass V) : Type 0 where
+  pub same_turns : turns p' ≡ turns p
+  pub same_own : own_turns p' ≡ own_turns p
+  pub same_published : published p' ≡ published p
+
 module _ {V B : Type 0} where
   -- the set has the contents of just the buckets that the pass holds
   abbrev pub AreLocksOf : List (Option B) → Pass V → Type 0
@@ -35,9 +41,8 @@ module _ {V B : Type 0} where
   pub record Releases (locks locks' : List (Option B)) (p p' : Pass V) : Type 0 where
     pub fewer : (k : ℕ) → LacksLock locks k → LacksLock locks' k
     pub room : get_elem? (known p').held places.room ≡ get_elem? (known p).held places.room
-    pub same_turns : turns p' ≡ turns p
-    pub same_own : own_turns p' ≡ own_turns p
-    pub same_published : published p' ≡ published p
+    pub kept : KeepsTurns p p'
+    pub open kept use *
     pub found : found_held p' ≡ found_held p
     pub views : KeepsViews p p'
 

@@ -67,11 +67,7 @@ tells_still room whole e first b = told_now room.entry.told room.disk.told whole
 
 made : (old new : RoomValue) (seat : ℕ) (v : ViewValue) → IsWhole old → Views old new seat v → ViewsLog old v → Keeps old new → KeepsJob old.room new.room → MakesView old new seat v
 made old new seat v whole s log keeps job = record {
-  of_seat = s.of_seat;
-  buffer = s.buffer;
-  parts = s.parts;
-  upto = s.upto;
-  region_len = s.region_len;
+  views = s;
   of_parts = s.opens.of_regions.0;
   clean = s.opens.fresh.0;
   is_new = λ had. s.opens.is_new (subst (λ (l : List ℕ). Contains l v.eye.number) (ap (λ (r : RoomState). r.given) whole.of_disk) had);

@@ -2,7 +2,7 @@
 use Rattle.std.specs.Prelude.{◌≡◌, ℕ, true, false, List, [], ◌∷◌, ◌++◌, Contains, Some, Result, Ok, Err, slice_set}
 use Rattle.fine_model.specs.declared.Row.{Row}
 use Rattle.fine_model.specs.declared.law.RoomState.{RoomState}
-use Rattle.fine_model.specs.Boards.{buffer_at, empty_of}
+use Rattle.fine_model.specs.Boards.{buffer_at}
 use Rattle.fine_model.specs.Buckets.{Began}
 use Rattle.fine_model.specs.Faults.{HasRisen}
 use Rattle.fine_model.specs.History.{Commit, all_rows, upto}
@@ -12,6 +12,7 @@ use Rattle.fine_model.specs.Views.{TellsRows}
 use Rattle.partition_hold.specs.Views.{ViewValue, opened, state_of}
 use Rattle.epoch_room.specs.Meaning.{Keeps, Stands, origin_of}
 use Rattle.epoch_room.specs.Value.{RoomValue, all_regions}
+use Rattle.epoch_room.specs.Views.{Views}
 use Rattle.epoch_room.specs.declared.answers.RoomFault.{RoomFault}
 use Rattle.epoch_room.specs.declared.answers.RoomFault.TheVariants as room_fault
 
@@ -37,11 +38,8 @@ ShowsUpTo view first history = (rows : List Row) × TellsRows (state_of view) ro
 -- A view of all live parts was made, in the lowest empty buffer of a seat. Where the log at entry was told and sound, it tells rows that agree with
 -- each history that the room stands for, up to the last sealed epoch.
 pub record MakesView (old new : RoomValue) (seat : ℕ) (view : ViewValue) : Type 0 where
-  pub of_seat : view.seat ≡ seat
-  pub buffer : empty_of old.room.board seat ≡ Some view.buffer
-  pub parts : view.parts ≡ old.room.parts
-  pub upto : view.upto ≡ old.room.sealed
-  pub region_len : view.region_len ≡ old.room.region_len
+  pub views : Views old new seat view
+  pub open views use *
   pub of_parts : view.eye.regions ≡ all_regions old.room.parts
   pub clean : view.eye.faults ≡ 0
   pub is_new : Contains old.room.given view.eye.number → ⊥

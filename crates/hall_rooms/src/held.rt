@@ -37,11 +37,12 @@ impl<D: LogDisk> Model for HeldRoom<D> {
 }
 
 impl<D: LogDisk> RoomLaw for HeldRoom<D> {
-    ghost use Rattle.epoch_room.specs.Meaning.{origin_of, Stands};
+    ghost use Rattle.epoch_room.specs.Meaning.{Stands};
+    ghost use Rattle.hall_rooms.specs.Rooms.{room_log, room_state};
 
-    ghost state = { λ room. room.room };
+    ghost state = { room_state };
 
-    ghost origin = { λ room. origin_of room.entry };
+    ghost origin = { room_log };
 
     ghost stands_for = { Stands };
 }

@@ -16,6 +16,7 @@ use Rattle.epoch_room.specs.Value.{RoomValue}
 use Rattle.run_laws.specs.Lanes.{none_ended}
 use Rattle.run_laws.specs.Runs.{IsReady, Names}
 use Rattle.run_laws.specs.SoFar.{SoFar}
+use Rattle.run_laws.proofs.Nothing.{has_none}
 
 abbrev nones : ℕ → List (Option RunFault)
 nones n = replicate n None
@@ -41,24 +42,15 @@ module _ {B : Type 0} (stands_for : Origin → ℕ → B → List Commit → Typ
     done = [];
     outcomes_are = let same : length script ≡ length script - 0 = omega arith in ap (λ n. replicate n outcome.NotRun) same;
     so_far = record {
-      count = refl;
-      each = tt;
-      numbered = tt;
-      last_ones = λ i j order is. nothing_at i outcome.NotRun is;
+      order = record { count = refl; each = tt; numbered = tt; last_ones = λ i j order is. nothing_at i outcome.NotRun is; replied = tt };
       ends = λ i txn is_txn is. nothing_at i outcome.NotRun is;
-      replied = tt;
     };
     goes_on = record {
       regions = refl;
       region_len = refl;
       same_entry = refl;
       no_job = ready.no_job;
-      whole = ready.whole;
-      epochs = tt;
-      sealed = refl;
-      places = ready.no_place;
-      waiting = ready.none_waits;
-      stands = λ first e began stands. stands;
+      has = has_none entry ready;
       becomes = becomes_itself entry.room;
     };
     few = record { most = λ lane e. omega arith; open_epoch = λ lane is none. omega (arith, group) };

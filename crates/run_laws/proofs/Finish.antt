@@ -172,12 +172,7 @@ module _ (names : Names) (script : List ScriptTxn) (options : Options) (entry ro
   ran = record {
     history = history;
     adds = record {
-      epochs = f.goes_on.epochs;
-      sealed = f.goes_on.sealed;
-      places = f.goes_on.places;
-      waiting = f.goes_on.waiting;
-      stands = f.goes_on.stands;
-      whole = f.goes_on.whole;
+      has = f.goes_on.has;
       beside = record { regions = f.goes_on.regions; region_len = f.goes_on.region_len; no_eyes = no_eyes room f.goes_on.whole f.board; board = f.board; no_job = f.goes_on.no_job; origin = ap origin_of f.goes_on.same_entry };
     };
     outcomes = subst (λ os. AreOutcomes script entry.room.sealed os history) (sym as_told) outcomes;

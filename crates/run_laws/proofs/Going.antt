@@ -50,12 +50,14 @@ stays_law entry old new history g whole s = record {
   region_len = len_same old new g.whole whole s.becomes ∙ g.region_len;
   same_entry = s.entry ∙ g.same_entry;
   no_job = s.job ∙ g.no_job;
-  whole = whole;
-  epochs = g.epochs;
-  sealed = subst (λ n. IsSealedUpTo entry.room.sealed history n) (sym s.sealed) g.sealed;
-  places = s.places ∙ g.places;
-  waiting = s.waiting ∙ g.waiting ∙ ap (λ n. count_by (λ c. c.epoch == n + 1) history) (sym s.sealed);
-  stands = λ first e began stands. s.stands first e history (g.stands first e began stands);
+  has = record {
+    whole = whole;
+    epochs = g.epochs;
+    sealed = subst (λ n. IsSealedUpTo entry.room.sealed history n) (sym s.sealed) g.sealed;
+    places = s.places ∙ g.places;
+    waiting = s.waiting ∙ g.waiting ∙ ap (λ n. count_by (λ c. c.epoch == n + 1) history) (sym s.sealed);
+    stands = λ first e began stands. s.stands first e history (g.stands first e began stands);
+  };
   becomes = becomes_on entry.room old.room new.room g.becomes s.becomes;
 }
 
@@ -89,17 +91,19 @@ commits_law entry old new history c g whole s = record {
   region_len = len_same old new g.whole whole s.becomes ∙ g.region_len;
   same_entry = ap (λ (v : RoomValue). v.entry) s.room ∙ appended_entry old c ∙ g.same_entry;
   no_job = ap (λ (v : RoomValue). v.room.job) s.room ∙ appended_job old c ∙ g.no_job;
-  whole = whole;
-  epochs = next.0;
-  sealed = subst (λ n. IsSealedUpTo entry.room.sealed (history ++ c ∷ []) n) (sym sealed) next.1;
-  places = let a = ap (λ (v : RoomValue). v.room.places) s.room ∙ appended_places old c in let b = g.places in let l = long history c in omega (arith, a, b, l);
-  waiting =
-      let a = ap (λ (v : RoomValue). v.room.waiting) s.room ∙ appended_waiting old c in
-      let b = g.waiting in
-      let w = waiting_push history c (old.room.sealed + 1) s.epoch in
-      let n = ap (λ k. count_by (λ (d : Commit). d.epoch == k + 1) (history ++ c ∷ [])) sealed in
-      omega (arith, a, b, w, n);
-  stands = λ first e began stands. s.stands first e history c refl s.epoch began.sound (s.legal first e began stands) (g.stands first e began stands);
+  has = record {
+    whole = whole;
+    epochs = next.0;
+    sealed = subst (λ n. IsSealedUpTo entry.room.sealed (history ++ c ∷ []) n) (sym sealed) next.1;
+    places = let a = ap (λ (v : RoomValue). v.room.places) s.room ∙ appended_places old c in let b = g.places in let l = long history c in omega (arith, a, b, l);
+    waiting =
+        let a = ap (λ (v : RoomValue). v.room.waiting) s.room ∙ appended_waiting old c in
+        let b = g.waiting in
+        let w = waiting_push history c (old.room.sealed + 1) s.epoch in
+        let n = ap (λ k. count_by (λ (d : Commit). d.epoch == k + 1) (history ++ c ∷ [])) sealed in
+        omega (arith, a, b, w, n);
+    stands = λ first e began stands. s.stands first e history c refl s.epoch began.sound (s.legal first e began stands) (g.stands first e began stands);
+  };
   becomes = becomes_on entry.room old.room new.room g.becomes s.becomes;
 }
   where
@@ -142,12 +146,14 @@ module _ (entry old new : RoomValue) (history : List Commit) (g : GoesOn entry o
     region_len = len_same old new g.whole whole keeps.becomes ∙ g.region_len;
     same_entry = e ∙ g.same_entry;
     no_job = job ∙ g.no_job;
-    whole = whole;
-    epochs = g.epochs;
-    sealed = subst (λ n. IsSealedUpTo entry.room.sealed history n) (sym s) (seals entry.room.sealed history old.room.sealed g.epochs g.sealed (let h = g.waiting in omega (arith, some, h)));
-    places = p ∙ g.places;
-    waiting = w ∙ none_wait entry.room.sealed history old.room.sealed g.epochs g.sealed ∙ ap (λ n. count_by (λ (c : Commit). c.epoch == n + 1) history) (sym s);
-    stands = λ first e began stands. keeps.stands first e history (g.stands first e began stands);
+    has = record {
+      whole = whole;
+      epochs = g.epochs;
+      sealed = subst (λ n. IsSealedUpTo entry.room.sealed history n) (sym s) (seals entry.room.sealed history old.room.sealed g.epochs g.sealed (let h = g.waiting in omega (arith, some, h)));
+      places = p ∙ g.places;
+      waiting = w ∙ none_wait entry.room.sealed history old.room.sealed g.epochs g.sealed ∙ ap (λ n. count_by (λ (c : Commit). c.epoch == n + 1) history) (sym s);
+      stands = λ first e began stands. keeps.stands first e history (g.stands first e began stands);
+    };
     becomes = becomes_on entry.room old.room new.room g.becomes keeps.becomes;
   }
 

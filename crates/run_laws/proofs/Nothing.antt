@@ -14,8 +14,12 @@ use Rattle.fine_model.specs.Outcomes.{AllRun, AreOutcomes, IsCommittedAt, IsOutc
 use Rattle.fine_model.specs.Report.{all_outcomes}
 use Rattle.epoch_room.specs.Value.{RoomValue}
 use Rattle.run_laws.specs.Law.{NothingLaw, nothing_ran}
-use Rattle.run_laws.specs.Runs.{IsNotBegun, IsReady, RunsLanes, RunsScript}
+use Rattle.run_laws.specs.Runs.{HasHistory, IsNotBegun, IsReady, RunsLanes, RunsScript}
 use Rattle.run_laws.proofs.NoEyes.{no_eyes}
+
+-- a room that is ready has none of a history
+pub has_none : (room : RoomValue) → IsReady room → HasHistory room room []
+has_none room ready = record { epochs = tt; sealed = refl; places = ready.no_place; waiting = ready.none_waits; stands = λ first e began stands. stands; whole = ready.whole }
 
 -- ---- outcomes of which none was run
 
@@ -69,12 +73,7 @@ module _ (script : List ScriptTxn) (options : Options) (room : RoomValue) (ready
   ran = record {
     history = [];
     adds = record {
-      epochs = tt;
-      sealed = refl;
-      places = ready.no_place;
-      waiting = ready.none_waits;
-      stands = λ first e began stands. stands;
-      whole = ready.whole;
+      has = has_none room ready;
       beside = record { regions = refl; region_len = refl; no_eyes = no_eyes room ready.whole ready.board; board = ready.board; no_job = ready.no_job; origin = refl };
     };
     outcomes = subst (λ os. AreOutcomes script room.room.sealed os []) (none_told script) (are_none script room.room.sealed);

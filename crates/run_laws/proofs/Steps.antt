@@ -115,12 +115,14 @@ taken (suc i) (s ∷ script) t is = let h = taken i script t is in omega (arith,
 
 pub next_law : NextLaw
 next_law script i done ended t o s at adds = record {
-  count = let a = long done o in let b = s.count in omega (arith, a, b);
-  each = subst (λ ts. AllZip IsOutcomeOf ts (done ++ o ∷ [])) next (zip_push (take i script) done t o s.each adds.is);
-  numbered = number_push 0 0 done o s.numbered numbered;
-  last_ones = subst (λ ts. EndsLanes ts (done ++ o ∷ [])) next (last_push (take i script) done ended t o same adds.runs s.ends s.last_ones);
+  order = record {
+    count = let a = long done o in let b = s.count in omega (arith, a, b);
+    each = subst (λ ts. AllZip IsOutcomeOf ts (done ++ o ∷ [])) next (zip_push (take i script) done t o s.each adds.is);
+    numbered = number_push 0 0 done o s.numbered numbered;
+    last_ones = subst (λ ts. EndsLanes ts (done ++ o ∷ [])) next (last_push (take i script) done ended t o same adds.runs s.ends s.last_ones);
+    replied = replied_push done o s.replied adds.replied;
+  };
   ends = subst (λ ts. HaveEnded ts (done ++ o ∷ []) ended) next (ends_push (take i script) done ended t o same adds.runs s.ends);
-  replied = replied_push done o s.replied adds.replied;
 }
   where
     next : take i script ++ t ∷ [] ≡ take (i + 1) script
@@ -144,14 +146,7 @@ untaken (suc i) (s ∷ script) zero t is = is
 untaken (suc i) (s ∷ script) (suc j) t is = untaken i script j t is
 
 pub lane_ends_law : LaneEndsLaw
-lane_ends_law script i done ended after lane fault low ends s = record {
-  count = s.count;
-  each = s.each;
-  numbered = s.numbered;
-  last_ones = s.last_ones;
-  replied = s.replied;
-  ends = λ j t is_t is. by j t is_t is (t.lane == lane) refl;
-}
+lane_ends_law script i done ended after lane fault low ends s = record { order = s.order; ends = λ j t is_t is. by j t is_t is (t.lane == lane) refl }
   where
     same : (n m : ℕ) → (n == m) ≡ true → n ≡ m
     same n m h = grind (arith, h)

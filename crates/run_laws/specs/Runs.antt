@@ -58,13 +58,18 @@ pub record LeavesBeside (old new : RoomValue) : Type 0 where
 
 -- What the room has of the history that was added, whoever added it: a place for each commit, epochs that follow on those at entry, up to which one
 -- they are sealed, and as many entries that wait as the history has in the open epoch. On a sound log it stands for this history.
-pub record AddsHistory (old new : RoomValue) (history : List Commit) : Type 0 where
+pub record HasHistory (old new : RoomValue) (history : List Commit) : Type 0 where
   pub epochs : EpochsFollow old.room.sealed history
   pub sealed : IsSealedUpTo old.room.sealed history new.room.sealed
   pub places : new.room.places ≡ length history
   pub waiting : new.room.waiting ≡ count_by (λ c. c.epoch == new.room.sealed + 1) history
   pub stands : OfSound old (λ first e. Stands new first e history)
   pub whole : IsWhole new
+
+-- it has the history, and beside it nothing is out
+pub record AddsHistory (old new : RoomValue) (history : List Commit) : Type 0 where
+  pub has : HasHistory old new history
+  pub open has use *
   pub beside : LeavesBeside old new
 
 -- the disk's own count of faults rose

@@ -16,29 +16,32 @@ use Rattle.fine_model.specs.Becomes.{Becomes, IsStuck}
 use Rattle.fine_model.specs.Boards.{is_empty}
 use Rattle.fine_model.specs.Faults.{HasRisen, last_count}
 use Rattle.fine_model.specs.History.{Commit, all_rows}
-use Rattle.fine_model.specs.Outcomes.{EpochsFollow, IsOneLane, IsOutcomeOf}
-use Rattle.fine_model.specs.Room.{IsSealedUpTo}
+use Rattle.fine_model.specs.Outcomes.{IsOneLane, IsOutcomeOf}
 use Rattle.fine_model.specs.RowBytes.{greatest}
-use Rattle.epoch_room.specs.Meaning.{Stands, origin_of}
+use Rattle.epoch_room.specs.Meaning.{origin_of}
 use Rattle.epoch_room.specs.Value.{RoomValue}
-use Rattle.epoch_room.specs.Whole.{IsWhole}
 use Rattle.partition_hold.specs.Views.{ViewValue}
 use Rattle.room_shelf.specs.Shelves.{IsShelf, shelf, total}
 use Rattle.run_laws.specs.Lanes.{EndsLane, HaveEnded, IsLane, fault_of, first_fault, lanes_failed, most_lanes, none_ended}
 use Rattle.run_laws.specs.Needs.{AreSealedInNeed, RunsInNeed}
-use Rattle.run_laws.specs.Runs.{AreFewOfLanes, IsReady, IsReplied, Names, OfSound, OwnRose, RunsBy}
+use Rattle.run_laws.specs.Runs.{AreFewOfLanes, HasHistory, IsReady, IsReplied, Names, OfSound, OwnRose, RunsBy}
 use Rattle.run_laws.specs.Turns.{AreNumbered, AreRefused, EndsLanes, RefusesBehind, commits_of}
 
 -- ---- the outcomes
 
--- one for each transaction so far, in the order of the script; a lane that did not run one has ended
-pub record AreSoFar (script : List ScriptTxn) (i : ℕ) (done : List Outcome) (ended : List (Option RunFault)) : Type 0 where
+-- one for each transaction so far, in the order of the script
+pub record AreInOrder (script : List ScriptTxn) (i : ℕ) (done : List Outcome) : Type 0 where
   pub count : length done ≡ i
   pub each : AllZip IsOutcomeOf (take i script) done
   pub numbered : AreNumbered 0 0 done
   pub last_ones : EndsLanes (take i script) done
-  pub ends : HaveEnded (take i script) done ended
   pub replied : AllByRecursion IsReplied (commits_of done)
+
+-- and a lane that did not run one has ended
+pub record AreSoFar (script : List ScriptTxn) (i : ℕ) (done : List Outcome) (ended : List (Option RunFault)) : Type 0 where
+  pub order : AreInOrder script i done
+  pub open order use *
+  pub ends : HaveEnded (take i script) done ended
 
 -- The outcome of the next transaction: it is not run exactly where its lane has ended, and one that was committed has the next place and turn.
 pub record ComesNext (done : List Outcome) (ended : List (Option RunFault)) (txn : ScriptTxn) (next : Outcome) : Type 0 where
@@ -78,12 +81,8 @@ pub record GoesOn (entry room : RoomValue) (history : List Commit) : Type 0 wher
   pub region_len : room.disk.region_len ≡ entry.disk.region_len
   pub same_entry : room.entry ≡ entry.entry
   pub no_job : room.room.job ≡ None
-  pub whole : IsWhole room
-  pub epochs : EpochsFollow entry.room.sealed history
-  pub sealed : IsSealedUpTo entry.room.sealed history room.room.sealed
-  pub places : room.room.places ≡ length history
-  pub waiting : room.room.waiting ≡ count_by (λ c. c.epoch == room.room.sealed + 1) history
-  pub stands : OfSound entry (λ first e. Stands room first e history)
+  pub has : HasHistory entry room history
+  pub open has use *
   pub becomes : Becomes entry.room room.room
 
 -- no epoch has more entries of a lane than a group, and a lane that goes on has fewer in the open one

@@ -56,11 +56,7 @@ unsound before new fault refused none entry history g = unsound_law entry new No
 bad_place : (before new : RoomValue) (from region at : ℕ) (fault : FetchFault) → (fault ≡ fetch_fault.BadRow region at) ⊎ (fault ≡ fetch_fault.BadIndex region at) → (refused : IsReadRefused before new fault) → BlamedFirst from new fault
     → OfTold refused.view refused.blames.two.0 refused.blames.two.1 (λ a b. ⊥) → NamesPlace new (damage.Region region at)
 bad_place before new from region at fault of_read refused blamed none = record {
-  region = region;
-  at = at;
-  is = refl;
-  fault = fault;
-  of_read = of_read;
+  read = record { region = region; at = at; is = refl; fault = fault; of_read = of_read };
   before = before;
   refused = refused;
   from = from;

@@ -12,8 +12,8 @@ use Rattle.epoch_room.specs.declared.answers.Fit.{Fit}
 use Rattle.epoch_room.specs.declared.answers.Fit.TheVariants as fit
 use Rattle.room_shelf.specs.Shelves.{IsShelf, ShelfValue}
 use Rattle.run_laws.proofs.Going.{full_law}
-use Rattle.room_steps.specs.Merging.{FindsRegion, FindsRoom, Frees, SealsAndTidies, SealsIfFull, is_epoch_full}
-use Rattle.run_laws.specs.Needs.{HasNoRegion, IsSealed}
+use Rattle.room_steps.specs.Merging.{FindsRegion, Frees, SealsAndTidies, SealsIfFull, is_epoch_full}
+use Rattle.run_laws.specs.Needs.{HasNoRegion, IsSealed, Unsealed}
 use Rattle.room_steps.specs.Steps.{ByFit, IsFull, IsWell, MakesOr, MakesRoom, NoneMerge, SealsWaiting, Tidies}
 use Rattle.room_steps.proofs.Facts.{fault_on, leaves_itself, leaves_on, none_failed_itself, none_failed_on, sealed_on, unsealed_itself, well_on}
 use Rattle.room_steps.proofs.Fitting.{Alone, all_fits, alone_fits, alone_still, by_epoch, enough_free, in_epoch_fits, is_large, is_spent_by, no_region, not_by_epoch, tests_of}
@@ -90,6 +90,11 @@ module _ (old : ShelfValue) (none : HasNoRegion old.room.room) where
   }
 
 -- ---- room where nothing is to be sealed before
+
+-- room for rows where nothing is to be sealed before
+pub record FindsRoom (cost : ℕ) (old new : ShelfValue) (full full' : Bool) (result : Result (Option Why) RunFault) : Type 0 where
+  pub unsealed : Unsealed old.room.room new.room.room
+  pub makes : MakesRoom cost old new full full' result
 
 module _ (cost : ℕ) (s : ShelfValue) (on_shelf : IsShelf s.room.room s.view) (whole : IsWhole s.room) (no_job : s.room.room.job ≡ None) (full : Bool) where
   -- what changes nothing

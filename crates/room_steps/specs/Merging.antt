@@ -17,7 +17,7 @@ use Rattle.room_merges.specs.declared.fault.MergeFault.TheVariants as merge_faul
 use Rattle.room_shelf.specs.Shelves.{Rests, ShelfValue}
 use Rattle.run_laws.specs.Needs.{HasNoRegion, IsSealed, Unsealed}
 use Rattle.merge_policy.specs.Young.{young_run}
-use Rattle.room_steps.specs.Steps.{FaultOf, IsFull, IsNamed, IsWell, Leaves, MakesRoom, NoneMerge, TidyOr, space_of}
+use Rattle.room_steps.specs.Steps.{FaultOf, IsFull, IsNamed, IsWell, Leaves, NoneMerge, TidyOr, space_of}
 
 -- the view was taken back, if one was out, and else nothing was done
 pub record TakesView (old new : ShelfValue) : Type 0 where
@@ -141,8 +141,3 @@ pub record FindsRegion (old new : ShelfValue) (full full' : Bool) (result : Resu
   pub unsealed : Unsealed old.room.room new.room.room
   pub at_once : full ≡ true → (new ≡ old) × (result ≡ Ok (Some why.Full))
   pub region : RegionOr old new full full' result
-
--- room for rows where nothing is to be sealed before
-pub record FindsRoom (cost : ℕ) (old new : ShelfValue) (full full' : Bool) (result : Result (Option Why) RunFault) : Type 0 where
-  pub unsealed : Unsealed old.room.room new.room.room
-  pub makes : MakesRoom cost old new full full' result

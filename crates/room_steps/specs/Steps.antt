@@ -67,14 +67,19 @@ pub record IsWell (old new : ShelfValue) : Type 0 where
   pub none_failed : NoneFailed old new
   pub opened : new.room.room.is_shut ≡ false
 
--- A place of the log is bad: a row or an index entry of two neighbours of the chain, by what was read through a view that told what a read of the disk does.
--- So no sound log was told at entry. Those two are the first that were not tried in vain, through a view of the chain, from an epoch on.
-pub record NamesPlace (new : RoomValue) (what : Damage) : Type 0 where
+-- A fetch names a row or an index entry as damage, by the place where it is bad.
+pub record NamesRead (what : Damage) : Type 0 where
   pub region : ℕ
   pub at : ℕ
   pub is : what ≡ damage.Region region at
   pub fault : FetchFault
   pub of_read : (fault ≡ fetch_fault.BadRow region at) ⊎ (fault ≡ fetch_fault.BadIndex region at)
+
+-- A place of the log is bad: a row or an index entry of two neighbours of the chain, by what was read through a view that told what a read of the disk does.
+-- So no sound log was told at entry. Those two are the first that were not tried in vain, through a view of the chain, from an epoch on.
+pub record NamesPlace (new : RoomValue) (what : Damage) : Type 0 where
+  pub read : NamesRead what
+  pub open read use *
   pub before : RoomValue
   pub refused : IsReadRefused before new fault
   pub from : ℕ

@@ -1,9 +1,8 @@
 //! Room for the rows of a transaction.
 
 ghost use Rattle.std.specs.Prelude.{◌≡◌, ◌<◌, ◌≤◌, None, false};
-ghost use Rattle.epoch_room.specs.Fitting.{fit_of};
 ghost use Rattle.room_shelf.specs.Shelves.{IsShelf, shelf};
-ghost use Rattle.room_steps.specs.Merging.{FindsRegion, FindsRoom, SealsAndTidies, SealsIfFull, is_epoch_full};
+ghost use Rattle.room_steps.specs.Merging.{FindsRegion, SealsAndTidies, SealsIfFull, is_epoch_full};
 ghost use Rattle.run_laws.specs.Needs.{HasNoRegion};
 ghost use Rattle.room_steps.specs.Steps.{MakesRoom};
 
@@ -99,34 +98,6 @@ fn find_region<D: LogDisk>(
     }
 }
 
-/// Makes room for rows of a cost, where what waits leaves enough of its region for them, or nothing waits.
-fn find_room<D: LogDisk>(
-    alloc: Global,
-    room: &mut Room<D>,
-    out: &mut Option<View<D::Eye>>,
-    full: &mut bool,
-    cost: u64,
-) -> Result<Option<Why>, RunFault>
-    requires shelf { IsShelf room.old.room out.old }
-    requires no_job { room.old.room.job ≡ None }
-    requires not_by_epoch { is_epoch_full (fit_of room.old.room cost) ≡ false }
-    ensures { FindsRoom cost (shelf room.old out.old) (shelf room.new out.new) full.old full.new result }
-{
-    let _whole = room.sealed();
-    match room.fit(cost) {
-        Fit::Fits => Ok(None),
-        Fit::Shut { epoch: _ } => Err(RunFault::Disk),
-        Fit::Number { epoch: _, place: _ } => Ok(Some(Why::Number)),
-        Fit::TooLarge { need: _, room: _ } => Ok(Some(Why::Large)),
-        Fit::EpochFull { need: _, room: _ } => Ok(Some(Why::Large)),
-        Fit::Full {
-            free: _,
-            live: _,
-            retired: _,
-        } => find_region(alloc, room, out, full),
-    }
-}
-
 /// Makes room for the rows of a transaction, which take so many bytes in a partition beside its header: `None` where they may be appended now, or else why
 /// the transaction is refused. `full` is the flag that the log is full.
 ///
@@ -150,7 +121,21 @@ pub fn make_room<D: LogDisk>(
     ensures { MakesRoom cost (shelf room.old out.old) (shelf room.new out.new) full.old full.new result }
 {
     match seal_if_full(alloc, room, out, cost) {
-        Ok(()) => find_room(alloc, room, out, full, cost),
+        Ok(()) => {
+            let _whole = room.sealed();
+            match room.fit(cost) {
+                Fit::Fits => Ok(None),
+                Fit::Shut { epoch: _ } => Err(RunFault::Disk),
+                Fit::Number { epoch: _, place: _ } => Ok(Some(Why::Number)),
+                Fit::TooLarge { need: _, room: _ } => Ok(Some(Why::Large)),
+                Fit::EpochFull { need: _, room: _ } => Ok(Some(Why::Large)),
+                Fit::Full {
+                    free: _,
+                    live: _,
+                    retired: _,
+                } => find_region(alloc, room, out, full),
+            }
+        }
         Err(fault) => Err(fault),
     }
 }

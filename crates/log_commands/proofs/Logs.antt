@@ -167,7 +167,7 @@ module _ (old : Disk) (room : RoomValue) (opens : OpensRoom old room) (first : S
     stands : Stands new rows e []
     stands =
         let at_first : StandsAtFirst room (Some before) = subst (λ o. StandsAtFirst room o) is_before first in
-        goes.stands rows e [] (at_first e rows (subst (λ n. Shows n before.bytes e rows) (sym first_len) shows))
+        goes.keeps.stands rows e [] (at_first e rows (subst (λ n. Shows n before.bytes e rows) (sym first_len) shows))
 
     entry_told : new.entry.told ≡ Some before
     entry_told = ap (λ (d : Disk). d.told) entry_is ∙ is_before
@@ -187,7 +187,7 @@ module _ (old : Disk) (room : RoomValue) (opens : OpensRoom old room) (first : S
   keeps = record {
     regions = sym goes.whole.entry.regions ∙ ap (λ (d : Disk). d.regions) entry_is;
     region_len = len_is;
-    no_eyes = no_eyes new goes.whole goes.board;
+    no_eyes = no_eyes new goes.whole goes.none_out;
     time = time;
     begun = inl (opens.found.parts, was);
     every_image = λ before after e rows is_before is_after shows image since. every before e rows is_before shows after is_after image since;
@@ -214,7 +214,7 @@ module _ (old : Disk) (room : RoomValue) (opens : OpensRoom old room) (first : S
       told = image_is ∙ ap (option_map (λ (t : Told). t.bytes)) is;
       none_waits = goes.waiting ∙ of_made (λ (r : RoomValue). r.room.waiting);
       none_retired = m.all.1.none_retired;
-      no_job = goes.no_job;
+      no_job = goes.job;
     }) m.all.1.none_fit;
   }
   merges (Err run_fault.Memory) m = counts_from m.all

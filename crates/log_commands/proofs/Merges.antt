@@ -19,6 +19,7 @@ use Rattle.room_merges.specs.declared.fault.MergeFault.TheVariants as merge_faul
 use Rattle.room_merges.specs.Near.{BlamedFirst, IsReadRefused, MergesNear}
 use Rattle.fine_model.specs.Views.{TellsRowsOf}
 use Rattle.room_merges.proofs.Living.{seen_itself, seen_then}
+use Rattle.room_merges.proofs.Through.{rest_itself, rest_then}
 use Rattle.room_steps.specs.Merging.{of_merge}
 use Rattle.room_steps.proofs.MadeOn.{makes_on}
 use Rattle.room_steps.proofs.Merges.{tells_none}
@@ -34,13 +35,9 @@ module _ (old new : RoomValue) (opened : old.room.is_shut ≡ false) (board : li
   goes : (result : Result Bool MergeFault) → MergesNear 1 old new result → GoesOn old new
   goes result m = let k = m.rest in record {
     whole = whole;
-    entry = k.entry;
+    none_out = subst (λ (b : List Buffer). list_all is_empty b ≡ true) (sym k.board) board;
+    rest = k;
     region_len = same_length old new was whole k;
-    no_job = k.job;
-    board = subst (λ (b : List Buffer). list_all is_empty b ≡ true) (sym k.board) board;
-    sealed = k.sealed;
-    waiting = k.waiting;
-    stands = k.keeps.stands;
     told = m.live.told;
     from = live_from old new was whole 1 opened result m;
     makes = (near_lives old new was whole 1 result m).makes;
@@ -59,7 +56,7 @@ module _ (old new : RoomValue) (opened : old.room.is_shut ≡ false) (board : li
       → ((rows : List Row) → TellsRowsOf new.room.image new.room.region_len new.room.parts rows → ⊥) → FaultOf old new (run_fault.Damaged (damage.Region region at))
   bad_once fault region at of_read refused not_failed blamed none_told = (
     refused_well fault refused not_failed,
-    record { region = region; at = at; is = refl; fault = fault; of_read = of_read; blamed = blamed; none_told = none_told },
+    record { read = record { region = region; at = at; is = refl; fault = fault; of_read = of_read }; blamed = blamed; none_told = none_told },
   )
 
   pub fault_once : (fault : MergeFault) → MergesNear 1 old new (Err fault) → MergesOnce old new (Err (of_merge fault))
@@ -85,13 +82,9 @@ module _ (old new : RoomValue) (opened : old.room.is_shut ≡ false) (board : li
 goes_on : (a b c : RoomValue) → GoesOn a b → GoesOn b c → GoesOn a c
 goes_on a b c p q = record {
   whole = q.whole;
-  entry = q.entry ∙ p.entry;
+  none_out = q.none_out;
+  rest = rest_then a b c p.rest q.rest;
   region_len = q.region_len ∙ p.region_len;
-  no_job = q.no_job;
-  board = q.board;
-  sealed = q.sealed ∙ p.sealed;
-  waiting = q.waiting ∙ p.waiting;
-  stands = λ first e history s. q.stands first e history (p.stands first e history s);
   told = seen_then [] a.room.image b.room.image c.room.image p.told q.told;
   from = from_then a.room.region_len a.room.image b.room.image c.room.image p.told a.room.parts b.room.parts c.room.parts p.from
       (subst (λ n. AreFrom n b.room.image c.room.image b.room.parts c.room.parts) p.region_len q.from);
@@ -113,13 +106,9 @@ pub merging_itself : (room : RoomValue) → IsWhole room → room.room.job ≡ N
 merging_itself room whole no_job board opened = record {
   goes_on = record {
     whole = whole;
-    entry = refl;
+    none_out = board;
+    rest = rest_itself room whole no_job;
     region_len = refl;
-    no_job = no_job;
-    board = board;
-    sealed = refl;
-    waiting = refl;
-    stands = λ first e history s. s;
     told = seen_itself [] room.room.image;
     from = from_same room.room.region_len room.room.image room.room.image room.room.parts (λ p there. seen_itself (regions_of p) room.room.image);
     makes = makes_same room room refl refl;

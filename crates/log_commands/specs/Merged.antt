@@ -1,12 +1,9 @@
 -- What merging neighbours until none fit leaves.
-use Rattle.std.specs.Prelude.{◌≡◌, ◌⊎◌, ℕ, ◌+◌, ◌≤◌, Bool, true, false, List, [], length, count_by, Option, None, Some, Result, Ok, Err, option_map}
+use Rattle.std.specs.Prelude.{◌≡◌, ◌⊎◌, ℕ, ◌+◌, ◌≤◌, Bool, true, false, List, [], length, count_by, Option, Some, Result, Ok, Err, option_map}
 use Rattle.std.specs.List.{list_all}
 use Rattle.log_disk.specs.Disk.{Disk, HasRisen, Told, IsImageSince, clock_of}
 use Rattle.log_disk.specs.Moments.{ContinuesOn}
 use Rattle.fine_model.specs.declared.Damage.{Damage}
-use Rattle.fine_model.specs.declared.Damage.TheVariants as damage
-use Rattle.fine_model.specs.declared.FetchFault.{FetchFault}
-use Rattle.fine_model.specs.declared.FetchFault.TheVariants as fetch_fault
 use Rattle.fine_model.specs.declared.Part.{Part}
 use Rattle.fine_model.specs.declared.Row.{Row}
 use Rattle.fine_model.specs.declared.RunFault.{RunFault}
@@ -19,12 +16,12 @@ use Rattle.fine_model.specs.Nodes.{Agrees}
 use Rattle.fine_model.specs.Regions.{Image, is_sealed}
 use Rattle.fine_model.specs.Views.{SameSeen, TellsRowsOf}
 use Rattle.damage_laws.specs.Made.{AreMadeOf}
-use Rattle.epoch_room.specs.Meaning.{GoesOnStanding}
 use Rattle.epoch_room.specs.Steps.{KeepsCounts}
 use Rattle.epoch_room.specs.Value.{RoomValue}
 use Rattle.epoch_room.specs.Whole.{IsWhole}
-use Rattle.room_merges.specs.Near.{AllInVain, BlamedFirst, NoneFitNow}
+use Rattle.room_merges.specs.Near.{AllInVain, BlamedFirst, KeepsRest, NoneFitNow}
 use Rattle.room_steps.specs.Made.{MakesWith}
+use Rattle.room_steps.specs.Steps.{NamesRead}
 use Rattle.script_text.specs.Streams.{Puts}
 use Rattle.log_commands.specs.Ends.{status_of, text_of}
 use Rattle.log_commands.specs.Found.{IsUntouched, SeesLog}
@@ -36,13 +33,10 @@ use Rattle.log_commands.specs.Origins.{AreFrom}
 -- come from those that it had.
 pub record GoesOn (old new : RoomValue) : Type 0 where
   pub whole : IsWhole new
-  pub entry : new.entry ≡ old.entry
+  pub none_out : list_all is_empty new.room.board ≡ true
+  pub rest : KeepsRest old new
+  pub open rest use *
   pub region_len : new.room.region_len ≡ old.room.region_len
-  pub no_job : new.room.job ≡ None
-  pub board : list_all is_empty new.room.board ≡ true
-  pub sealed : new.room.sealed ≡ old.room.sealed
-  pub waiting : new.room.waiting ≡ old.room.waiting
-  pub stands : GoesOnStanding old new
   pub told : SameSeen [] old.room.image new.room.image
   pub from : AreFrom old.room.region_len old.room.image new.room.image old.room.parts new.room.parts
   pub makes : MakesWith [] old new
@@ -66,11 +60,8 @@ pub record NoneMerge (room : RoomValue) : Type 0 where
 -- A place of the log is bad: a row or an index entry of the first two neighbours of the chain that were not tried in vain, by what was read through a view
 -- that told what a read of the disk does; and a read tells no rows of the live parts.
 pub record NamesPlace (room : RoomValue) (what : Damage) : Type 0 where
-  pub region : ℕ
-  pub at : ℕ
-  pub is : what ≡ damage.Region region at
-  pub fault : FetchFault
-  pub of_read : (fault ≡ fetch_fault.BadRow region at) ⊎ (fault ≡ fetch_fault.BadIndex region at)
+  pub read : NamesRead what
+  pub open read use *
   pub blamed : BlamedFirst 1 room fault
   pub none_told : (rows : List Row) → TellsRowsOf room.room.image room.room.region_len room.room.parts rows → ⊥
 

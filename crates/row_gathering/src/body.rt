@@ -134,9 +134,8 @@ fn entry_with(last: Option<IndexEntry>, node: NodeId, offset: u32) -> IndexEntry
     if let Some(entry) = last {
         if entry.node == node {
             return IndexEntry {
-                node: entry.node,
-                offset: entry.offset,
                 rows: entry.rows + 1,
+                ..entry
             };
         }
     }

@@ -2,7 +2,6 @@
 use Rattle.std.proofs.Common.{◌≡◌, ◌≢◌, ℕ, ◌+◌, ◌<◌, List, length, take, refl, arith, eqb-true, slice_index_or}
 use Rattle.std.proofs.lemmas.Bool.{eqb-false}
 use Rattle.fine_model.specs.declared.Row.{Row}
-use Rattle.fine_model.specs.RowBytes.{rows_len}
 use Rattle.log_partition.proofs.Keyed.{no_key}
 use Rattle.row_gathering.proofs.Entries.{counts, fewer_nodes, index_is, indexed_more, indexed_none, last_not, not_indexed, offset_small, rows_all}
 use Rattle.row_gathering.proofs.body.has_index.Goals as goal
@@ -21,20 +20,15 @@ returns-in_default-clause-bad c _ some =
 
 pub entry_with-requires : goal.entry_with-requires
 entry_with-requires c =
-    let start : ℕ = c.requires.rows.0 in
-    let rows : List Row = c.requires.rows.1 in
-    let s = c.loop-key.invariant start rows c.requires.rows.2 c.requires.rows.3 in
-    let here : c.loop-key.key-index < length c.args.keys.now = omega arith in
-    let small : rows_len rows < 4294967296 = omega (arith, c.requires.small, c.requires.rows.2.area) in
-    counts c.args.header.now c.args.body.now rows c.requires.long c.requires.rows.2 start c.args.keys.now c.loop-key.key-index c.loop-key.count c.loop-key.last c.loop-key.offset c.requires.rows.3 here s small
+    let r = c.requires.rows in
+    counts c.args.header.now c.args.body.now r.1 c.requires.long r.2 r.0 c.args.keys.now c.loop-key.key-index c.loop-key.count c.loop-key.last c.loop-key.offset r.3 (omega arith) (c.loop-key.invariant r.0 r.1 r.2 r.3)
+    (omega (arith, c.requires.small, r.2.area))
 
 pub overflow_add-offset : goal.overflow_add-offset
 overflow_add-offset c =
-    let start : ℕ = c.requires.rows.0 in
-    let rows : List Row = c.requires.rows.1 in
-    let s = c.loop-key.invariant start rows c.requires.rows.2 c.requires.rows.3 in
-    let here : c.loop-key.key-index < length c.args.keys.now = omega arith in
-    omega (arith, offset_small c.args.header.now c.args.body.now rows c.requires.long c.requires.rows.2 start c.args.keys.now c.loop-key.key-index c.loop-key.count c.loop-key.last c.loop-key.offset c.requires.rows.3 here s, c.requires.small, c.requires.rows.2.area)
+    let r = c.requires.rows in
+    let within = offset_small c.args.header.now c.args.body.now r.1 c.requires.long r.2 r.0 c.args.keys.now c.loop-key.key-index c.loop-key.count c.loop-key.last c.loop-key.offset r.3 (omega arith) (c.loop-key.invariant r.0 r.1 r.2 r.3) in
+    omega (arith, within, c.requires.small, r.2.area)
 
 pub loop-key-preserved : goal.loop-key-preserved
 loop-key-preserved c start rows are is =

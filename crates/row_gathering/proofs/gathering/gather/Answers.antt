@@ -11,6 +11,8 @@ use Rattle.row_gathering.specs.Steps.{AreRead, Arranges, FitTogether, LacksPart,
 use Rattle.row_gathering.specs.declared.gathering.Gathered.{Gathered}
 use Rattle.row_gathering.proofs.Answered.{cut_twice, gathers, none_gathered, none_of_part}
 use Rattle.row_gathering.proofs.Bodies.{bodies_small}
+use Rattle.row_gathering.proofs.gathering.gather.Given.{Over}
+use Rattle.row_gathering.proofs.gathering.gather.Goals.{After-truncate}
 use Rattle.row_gathering.proofs.gathering.gather.Goals as goal
 
 pub bodies_len-requires : goal.bodies_len-requires
@@ -33,29 +35,27 @@ module _ (disk : Disk) (parts : List Part) (bytes : List ℕ) (keys : List RowAt
   lost None none = inr (inr (none_gathered disk parts bytes keys read none))
   lost (Some gathered) none = tt
 
-pub returns-clause-rows : goal.returns-clause-rows
-returns-clause-rows g c =
+-- what stands once the bytes behind all rows are cut off: the rows that were read, by their keys
+all_read : (g : Over) (c : After-truncate g) → AreRead (g.D.LogDisk.state c.args.disk.now) c.args.parts.now c.truncate.new.self.items c.read_parts.new.keys.items
+all_read g c =
     let disk : Disk = g.D.LogDisk.state c.args.disk.now in
     let bytes : List ℕ = c.read_parts.new.bytes in
     let len : ℕ = c.in_ok-bytes.bytes.len in
     let long : len ≡ length bytes = omega (arith, c.in_ok-end.ensures.len) in
     let low : c.in-Some-2.end ≤ len = omega (arith, long, subst (λ (o : Option ℕ). IfSome o (λ end. end ≤ length bytes)) c.in-Some-2.is c.in_ok-end.ensures.within) in
     let kept : c.truncate.new.self.items ≡ take c.in-Some-2.end bytes = cut_twice bytes (drop (length bytes) c.in_ok-bytes.bytes.items) c.truncate.new.self.items c.in-Some-2.end len c.truncate.ensures.items low long in
-    let read : AreRead disk c.args.parts.now c.truncate.new.self.items c.read_parts.new.keys.items =
     subst (λ (xs : List ℕ). AreRead disk c.args.parts.now xs c.read_parts.new.keys.items) (sym kept)
-    (subst (λ (o : Option ℕ). IfSome o (λ end. AreRead disk c.args.parts.now (take end c.read_parts.new.bytes) c.read_parts.new.keys.items)) c.in-Some-2.is c.in_ok-end.ensures.rows) in
+    (subst (λ (o : Option ℕ). IfSome o (λ end. AreRead disk c.args.parts.now (take end c.read_parts.new.bytes) c.read_parts.new.keys.items)) c.in-Some-2.is c.in_ok-end.ensures.rows)
+
+pub returns-clause-rows : goal.returns-clause-rows
+returns-clause-rows g c =
+    let disk : Disk = g.D.LogDisk.state c.args.disk.now in
+    let read = all_read g (goal.at.returns-clause-rows g c).After-truncate in
     found disk c.args.parts.now c.truncate.new.self.items c.read_parts.new.keys.items read c.region_len.result c.in-Some.len c.region_len.ensures.region_len c.in-Some.ensures.fit c.in_ok-found.found
     (c.in_ok-found.ensures.rows read.rows read.are read.keyed)
 
 pub returns-clause-none : goal.returns-clause-none
 returns-clause-none g c =
     let disk : Disk = g.D.LogDisk.state c.args.disk.now in
-    let bytes : List ℕ = c.read_parts.new.bytes in
-    let len : ℕ = c.in_ok-bytes.bytes.len in
-    let long : len ≡ length bytes = omega (arith, c.in_ok-end.ensures.len) in
-    let low : c.in-Some-2.end ≤ len = omega (arith, long, subst (λ (o : Option ℕ). IfSome o (λ end. end ≤ length bytes)) c.in-Some-2.is c.in_ok-end.ensures.within) in
-    let kept : c.truncate.new.self.items ≡ take c.in-Some-2.end bytes = cut_twice bytes (drop (length bytes) c.in_ok-bytes.bytes.items) c.truncate.new.self.items c.in-Some-2.end len c.truncate.ensures.items low long in
-    let read : AreRead disk c.args.parts.now c.truncate.new.self.items c.read_parts.new.keys.items =
-    subst (λ (xs : List ℕ). AreRead disk c.args.parts.now xs c.read_parts.new.keys.items) (sym kept)
-    (subst (λ (o : Option ℕ). IfSome o (λ end. AreRead disk c.args.parts.now (take end c.read_parts.new.bytes) c.read_parts.new.keys.items)) c.in-Some-2.is c.in_ok-end.ensures.rows) in
+    let read = all_read g (goal.at.returns-clause-none g c).After-truncate in
     lost disk c.args.parts.now c.truncate.new.self.items c.read_parts.new.keys.items read c.in_ok-found.found (c.in_ok-found.ensures.none read.rows read.are read.keyed)

@@ -5,7 +5,5 @@
 
 mod body;
 mod gathering;
-#[cfg(test)]
-mod tests;
 
 pub use gathering::{Gathered, gather};

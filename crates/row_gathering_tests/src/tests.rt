@@ -1,26 +1,16 @@
 //! What no clause says: that neighbours are gathered where nothing stands against it, and byte for byte what comes out.
 
-use crate::{Gathered, gather};
-use fine_model::{Header, Mark, NodeId, Part, Range};
+use fine_model::{NodeId, Part};
+use fine_model_tests::ONE_ROW;
 use log_disk::{DiskRefusal, FaultPlan, LogDisk, MemDisk};
 use node_record::RowAt;
+use row_gathering::{Gathered, gather};
 use std::alloc::Global;
 use std::test::Fail;
 
 /// `put a 1` in node 1 of bucket 97 as its first version, and the index of this row.
 const BODY: [u8; 38] =
     *b"\x04\x00\x61\x00\x00\x00\x01\x00\x00\x00\x00\x00\x00\x00\x01\x00\x00\x00\x05\x01a\x00\x011\x00\x61\x00\x00\x00\x01\x00\x00\x00\x00\x00\x00\x00\x01";
-
-/// The header of a part of an epoch that has one row.
-const ONE_ROW: Header = Header {
-    mark: Mark::Two,
-    range: Range { first: 1, last: 1 },
-    rows: 1,
-    nodes: 1,
-    area: 24,
-    regions: 1,
-    more: [0; 7],
-};
 
 const PARTS: [Part; 2] = [
     Part {

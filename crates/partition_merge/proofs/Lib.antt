@@ -16,3 +16,4 @@ pub mod JoinedFinds
 pub mod Pieces
 pub mod Found
 pub mod Leaves
+pub mod StillSeen

@@ -12,17 +12,19 @@ use Rattle.fine_model.specs.RowBytes.{rows_bytes, rows_len}
 use Rattle.partition_index.specs.declared.entries.IndexEntry.{IndexEntry}
 use Rattle.partition_index.specs.declared.entries.Span.{Span}
 use Rattle.partition_index.specs.Index.{AllFrom}
+use Rattle.partition_index.specs.Parts.{LiesIn}
 use Rattle.node_fetch.specs.Fetched.{HoldsRows}
 use Rattle.node_fetch.specs.Spans.{ReadsAll, last_row}
 use Rattle.partition_merge.specs.declared.merger.Merger.{Merger}
 use Rattle.partition_merge.specs.declared.merger.Source.{Source}
+use Rattle.partition_merge.specs.declared.piece.NodePieces.{NodePieces}
 use Rattle.partition_merge.specs.declared.piece.Piece.{Piece}
 use Rattle.partition_merge.specs.declared.piece.Tally.{Tally}
 use Rattle.partition_merge.specs.declared.piece.Merged.{Merged}
 use Rattle.partition_merge.specs.declared.piece.Merged.TheVariants as merged
 use Rattle.partition_merge.specs.declared.piece.Found.{Found}
 use Rattle.partition_merge.specs.Merging.{merged_of, node_at_head}
-use Rattle.partition_merge.specs.Mergers.{HandsOut, IsJoinOf, SourceAt, StandsAt, TakesRows, node_kept}
+use Rattle.partition_merge.specs.Mergers.{HandsOut, IsJoinOf, SourceAt, StandsAt, TakesRows, newer_part, node_kept, older_part}
 use Rattle.partition_merge.specs.Windows.{WindowValue, window_end}
 
 -- ---- pieces
@@ -76,6 +78,16 @@ HoldsIn source id piece rows = Holds source.part source.ahead.rows id piece rows
 pub record HasRows (source : Source) (id : NodeId) (piece : Option Piece) : Type 0 where
   pub rows : List Row
   pub holds : HoldsIn source id piece rows
+
+-- so of both sources of a merger
+pub record HaveRows (merger : Merger) (pieces : NodePieces) : Type 0 where
+  pub older : HasRows merger.older pieces.node pieces.older
+  pub newer : HasRows merger.newer pieces.node pieces.newer
+
+-- the headers of both parts lie in their regions
+pub record BothLie (merger : Merger) : Type 0 where
+  pub older : LiesIn merger.region_len (older_part merger).header
+  pub newer : LiesIn merger.region_len (newer_part merger).header
 
 -- the span of a piece, if there is one
 abbrev pub span_of : Option Piece → Option Span

@@ -1,16 +1,8 @@
 //! The body of two merged parts, in blocks.
 
 ghost use Rattle.std.specs.Prelude.{◌≡◌, ◌⊎◌, ℕ, ◌+◌, ◌-◌, ◌<◌, ◌≤◌, [], ◌++◌, not, nat_le, false, true, IfOk, IsErrOf, List, MatchResult, Ok, OnOk, Option, Some, drop, length, min, take, vec_capacity, vec_len};
-ghost use Rattle.log_disk.specs.Disk.{Eye};
-ghost use Rattle.fine_model.specs.declared.Row.{Row};
+ghost use Rattle.partition_merge.specs.Cited.{CountsFaults, Eye, Image, IsSeen, NoDamage, Row, SameEye, TellsRows, body_len, bytes_of, index_entry, merged, rows_len};
 ghost use Rattle.fine_model.specs.declared.FetchFault.TheVariants as fetch_fault;
-ghost use Rattle.fine_model.specs.Merge.{merged};
-ghost use Rattle.fine_model.specs.Regions.{Image, body_len};
-ghost use Rattle.fine_model.specs.RowBytes.{rows_len, index_entry};
-ghost use Rattle.partition_index.specs.Entries.{bytes_of};
-ghost use Rattle.partition_index.specs.Parts.{CountsFaults, IsSeen, SameEye};
-ghost use Rattle.partition_index.specs.Search.{TellsRows};
-ghost use Rattle.node_fetch.specs.Fetched.{NoDamage};
 ghost use Rattle.partition_merge.specs.Blocks.{Gives, IsAhead, IsAtStart, SameBlocks, steps_left};
 ghost use Rattle.partition_merge.specs.Joined.{GivesJoined, IsJoined};
 ghost use Rattle.partition_merge.specs.Mergers.{AreKept, BlamesEntry, BlamesRow, at_front, newer_part, older_part};

@@ -26,6 +26,9 @@ pub(crate) struct NodeImage {
     pub(crate) len: u32,
 }
 
+/// The spelled pairs of a leaf and its version, where there is one.
+type Leaf<'a> = Option<(Items<&'a [u8]>, u64)>;
+
 /// The kinds of rows that are the image of a leaf, that delete a key of it, and that cut it off from a key on.
 const LEAF_IMAGE: u8 = 2;
 
@@ -233,11 +236,7 @@ fn begin(alloc: Global, rows: &[u8]) -> Result<Option<(Items<&[u8]>, u64, &[u8])
 }
 
 /// The spelled pairs and the version of the leaf that rows leave, where all but the first, which may be an image, are common changes of a leaf.
-fn leaf_from<'a>(
-    alloc: Global,
-    first: &'a [u8],
-    behind: &'a [u8],
-) -> Result<Option<(Items<&'a [u8]>, u64)>, NoMemory>
+fn leaf_from<'a>(alloc: Global, first: &'a [u8], behind: &'a [u8]) -> Result<Leaf<'a>, NoMemory>
     ensures { (mark also : Mark) (a b : List Row) → AreRows mark first.now a → AreRows also behind.now b
         → IfOk result (λ r. IfSome r (λ leaf. IsLeft (replay (node.Leaf [], 0) (a ++ b)) (map (λ t. t.now) leaf.0) leaf.1)) }
 {
@@ -254,11 +253,7 @@ fn leaf_from<'a>(
 }
 
 /// The same of rows, of which the older ones may be none.
-fn leaf_of<'a>(
-    alloc: Global,
-    older: &'a [u8],
-    newer: &'a [u8],
-) -> Result<Option<(Items<&'a [u8]>, u64)>, NoMemory>
+fn leaf_of<'a>(alloc: Global, older: &'a [u8], newer: &'a [u8]) -> Result<Leaf<'a>, NoMemory>
     ensures { (mark also : Mark) (a b : List Row) → AreRows mark older.now a → AreRows also newer.now b
         → IfOk result (λ r. IfSome r (λ leaf. IsLeft (replay (node.Leaf [], 0) (a ++ b)) (map (λ t. t.now) leaf.0) leaf.1)) }
 {

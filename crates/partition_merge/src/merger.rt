@@ -1,17 +1,8 @@
 //! Merging two parts node by node, through an eye.
 
 ghost use Rattle.std.specs.Prelude.{◌≡◌, ℕ, ◌+◌, ◌-◌, ◌*◌, ◌<◌, ◌≤◌, ◌++◌, ◌&&◌, false, IfOk, IfSome, IsErrOf, MatchResult, OnErr, OnOk, List, length, min, Option, Some, None, Ok, option_map};
-ghost use Rattle.log_disk.specs.Disk.{Eye};
-ghost use Rattle.fine_model.specs.declared.Row.{Row};
+ghost use Rattle.partition_merge.specs.Cited.{AllFrom, CountsFaults, Eye, HasBadEntry, HasBadRow, Image, IsSeen, NoDamage, Row, SameEye, Searches, TellsRows, body_len, index_entry, is_node_below, merged, rows_len, rows_of};
 ghost use Rattle.fine_model.specs.declared.FetchFault.TheVariants as fetch_fault;
-ghost use Rattle.fine_model.specs.Nodes.{rows_of};
-ghost use Rattle.fine_model.specs.Regions.{Image, body_len};
-ghost use Rattle.fine_model.specs.RowBytes.{rows_len, index_entry};
-ghost use Rattle.fine_model.specs.Merge.{is_node_below, merged};
-ghost use Rattle.partition_index.specs.Parts.{IsSeen, SameEye, CountsFaults};
-ghost use Rattle.partition_index.specs.Index.{AllFrom};
-ghost use Rattle.partition_index.specs.Search.{Searches, TellsRows};
-ghost use Rattle.node_fetch.specs.Fetched.{HasBadRow, HasBadEntry, NoDamage};
 ghost use Rattle.partition_merge.specs.Merging.{FitRows, node_at_head, merged_of};
 ghost use Rattle.partition_merge.specs.Pieces.{is_above};
 ghost use Rattle.partition_merge.specs.Readable.{IsReadable};

@@ -1,23 +1,19 @@
 //! Going over two parts node by node, in blocks.
 
 ghost use Rattle.std.specs.Prelude.{◌≡◌, ℕ, ◌+◌, ◌<◌, ◌≤◌, ◌++◌, IfOk, IfSome, IsErrOf, List, MatchResult, None, Ok, OnOk, Option, Some, length, true, vec_capacity, vec_len};
+ghost use Rattle.partition_merge.specs.Cited.{CountsFaults, FitsRec, Image, IsSeen, NoDamage, Row, SameEye, row_bytes};
 ghost use Rattle.fine_model.specs.declared.FetchFault.TheVariants as fetch_fault;
-ghost use Rattle.fine_model.specs.declared.Row.{Row};
-ghost use Rattle.fine_model.specs.Regions.{Image};
-ghost use Rattle.fine_model.specs.RowBytes.{FitsRec, row_bytes};
-ghost use Rattle.partition_index.specs.Parts.{CountsFaults, IsSeen, LiesIn, SameEye};
-ghost use Rattle.node_fetch.specs.Fetched.{NoDamage};
 ghost use Rattle.partition_merge.specs.Leaves.{IsImageOf, IsMergedInto};
 ghost use Rattle.partition_merge.specs.Mergers.{AreKept, BlamesEntry, BlamesRow, StandsAt, at_front, both_left, newer_part, older_part};
-ghost use Rattle.partition_merge.specs.Pieces.{CanSpell, EndsAt, HandsOver, HasRows, HoldsIn, IsMergedFrom, may_fold, merged_bytes};
+ghost use Rattle.partition_merge.specs.Pieces.{BothLie, CanSpell, EndsAt, HandsOver, HaveRows, HoldsIn, IsMergedFrom, may_fold, merged_bytes};
 ghost use Rattle.partition_merge.specs.Streams.{AreInOrder, both_bytes_left};
 
 use crate::fold::folded_moved;
 use crate::leaf::{NodeImage, leaf_image};
 use crate::lower;
-use crate::piece::{Found, Merged, Piece, Tally, both_len, may_fold, span_of};
+use crate::piece::{Found, Merged, NodePieces, Tally, both_len, may_fold, span_of};
 use crate::reader::Reader;
-use fine_model::{FetchFault, NoMemory, NodeId, Part, Row};
+use fine_model::{FetchFault, NoMemory, Part, Row};
 use log_disk::LogEye;
 use node_record::{row_len, write_row};
 use std::alloc::Global;
@@ -38,6 +34,9 @@ impl Model for Pass {
 
     ghost view = { λ p. record { older = p.older; newer = p.newer; region_len = p.region_len } };
 }
+
+/// The image that stands for the rows of a node, where one does.
+type MaybeImage = Result<Option<NodeImage>, NoMemory>;
 
 /// The spelling of a row, if it is asked for.
 fn spelled_row(alloc: Global, spells: bool, row: &Row) -> Result<Vec<u8>, NoMemory>
@@ -71,46 +70,30 @@ impl Pass {
 
     // The image into which the rows of a node in both windows are merged, as it is spelled, if they put pairs into a leaf: the rows are not decoded.
     #[inline(never)]
-    fn leaf_image(
-        &self,
-        alloc: Global,
-        spells: bool,
-        node: NodeId,
-        older: &Option<Piece>,
-        newer: &Option<Piece>,
-    ) -> Result<Option<NodeImage>, NoMemory>
-        requires older { HasRows self.now.older node older.now }
-        requires newer { HasRows self.now.newer node newer.now }
-        requires may_fold { may_fold older.now newer.now ≡ true }
-        ensures { (a b : List Row) → HoldsIn self.now.older node older.now a → HoldsIn self.now.newer node newer.now b → IfOk result (λ r. IfSome r (λ image. IsImageOf spells node (a ++ b) image.bytes.items image.len)) }
+    fn leaf_image(&self, alloc: Global, spells: bool, pieces: &NodePieces) -> MaybeImage
+        requires rows { HaveRows self.now pieces.now }
+        requires may_fold { may_fold pieces.now.older pieces.now.newer ≡ true }
+        ensures { (a b : List Row) → HoldsIn self.now.older pieces.now.node pieces.now.older a → HoldsIn self.now.newer pieces.now.node pieces.now.newer b → IfOk result (λ r. IfSome r (λ image. IsImageOf spells pieces.now.node (a ++ b) image.bytes.items image.len)) }
     {
-        let len = both_len(older, newer);
-        let older = self.older.spelled(span_of(older));
-        let newer = self.newer.spelled(span_of(newer));
-        leaf_image(alloc, spells, node, older, newer, len)
+        let len = both_len(&pieces.older, &pieces.newer);
+        let older = self.older.spelled(span_of(&pieces.older));
+        let newer = self.newer.spelled(span_of(&pieces.newer));
+        leaf_image(alloc, spells, pieces.node, older, newer, len)
     }
 
     // The image that the rows of a node in both windows fold to, if they fold. They are decoded, which few nodes want, so this stands apart: the others do
     // not pay for its place on the stack.
     #[cold]
     #[inline(never)]
-    fn read_image(
-        &self,
-        alloc: Global,
-        spells: bool,
-        node: NodeId,
-        older: Option<Piece>,
-        newer: Option<Piece>,
-    ) -> Result<Option<NodeImage>, NoMemory>
-        requires older_lies { LiesIn self.now.region_len (older_part self.now).header }
-        requires newer_lies { LiesIn self.now.region_len (newer_part self.now).header }
-        requires older { HasRows self.now.older node older }
-        requires newer { HasRows self.now.newer node newer }
-        ensures { (a b : List Row) → HoldsIn self.now.older node older a → HoldsIn self.now.newer node newer b → IfOk result (IsMergedInto spells node (a ++ b)) }
+    fn read_image(&self, alloc: Global, spells: bool, pieces: &NodePieces) -> MaybeImage
+        requires lie { BothLie self.now }
+        requires rows { HaveRows self.now pieces.now }
+        ensures { (a b : List Row) → HoldsIn self.now.older pieces.now.node pieces.now.older a → HoldsIn self.now.newer pieces.now.node pieces.now.newer b → IfOk result (IsMergedInto spells pieces.now.node (a ++ b)) }
     {
-        let len = both_len(&older, &newer);
-        let older = self.older.rows(alloc, node, older, self.region_len)?;
-        let newer = self.newer.rows(alloc, node, newer, self.region_len)?;
+        let node = pieces.node;
+        let len = both_len(&pieces.older, &pieces.newer);
+        let older = self.older.rows(alloc, node, pieces.older, self.region_len)?;
+        let newer = self.newer.rows(alloc, node, pieces.newer, self.region_len)?;
         let Some(row) = folded_moved(alloc, node, older, newer, len)? else {
             return Ok(None);
         };
@@ -122,56 +105,38 @@ impl Pass {
 
     // The image that stands for the rows of a node in both windows, where one does, as it is spelled.
     #[inline(always)]
-    fn image(
-        &self,
-        alloc: Global,
-        spells: bool,
-        node: NodeId,
-        older: &Option<Piece>,
-        newer: &Option<Piece>,
-    ) -> Result<Option<NodeImage>, NoMemory>
-        requires older_lies { LiesIn self.now.region_len (older_part self.now).header }
-        requires newer_lies { LiesIn self.now.region_len (newer_part self.now).header }
-        requires older { HasRows self.now.older node older.now }
-        requires newer { HasRows self.now.newer node newer.now }
-        ensures { (a b : List Row) → HoldsIn self.now.older node older.now a → HoldsIn self.now.newer node newer.now b → IfOk result (IsMergedInto spells node (a ++ b)) }
+    fn image(&self, alloc: Global, spells: bool, pieces: &NodePieces) -> MaybeImage
+        requires lie { BothLie self.now }
+        requires rows { HaveRows self.now pieces.now }
+        ensures { (a b : List Row) → HoldsIn self.now.older pieces.now.node pieces.now.older a → HoldsIn self.now.newer pieces.now.node pieces.now.newer b → IfOk result (IsMergedInto spells pieces.now.node (a ++ b)) }
     {
-        if !may_fold(older, newer) {
+        if !may_fold(&pieces.older, &pieces.newer) {
             return Ok(None);
         }
-        match self.leaf_image(alloc, spells, node, older, newer)? {
+        match self.leaf_image(alloc, spells, pieces)? {
             Some(image) => Ok(Some(image)),
-            None => self.read_image(alloc, spells, node, *older, *newer),
+            None => self.read_image(alloc, spells, pieces),
         }
     }
 
     // What the rows of a node in both windows are merged into. They stay there but where an image stands for them.
     #[inline(always)]
-    fn merged(
-        &self,
-        alloc: Global,
-        spells: bool,
-        node: NodeId,
-        older: &Option<Piece>,
-        newer: &Option<Piece>,
-    ) -> Result<Found, NoMemory>
-        requires older_lies { LiesIn self.now.region_len (older_part self.now).header }
-        requires newer_lies { LiesIn self.now.region_len (newer_part self.now).header }
-        requires older { HasRows self.now.older node older.now }
-        requires newer { HasRows self.now.newer node newer.now }
-        ensures { (a b : List Row) → HoldsIn self.now.older node older.now a → HoldsIn self.now.newer node newer.now b → 1 ≤ length (a ++ b) → IfOk result (IsMergedFrom spells self.now node (a ++ b)) }
+    fn merged(&self, alloc: Global, spells: bool, pieces: &NodePieces) -> Result<Found, NoMemory>
+        requires lie { BothLie self.now }
+        requires rows { HaveRows self.now pieces.now }
+        ensures { (a b : List Row) → HoldsIn self.now.older pieces.now.node pieces.now.older a → HoldsIn self.now.newer pieces.now.node pieces.now.newer b → 1 ≤ length (a ++ b) → IfOk result (IsMergedFrom spells self.now pieces.now.node (a ++ b)) }
     {
-        let Some(image) = self.image(alloc, spells, node, older, newer)? else {
+        let Some(image) = self.image(alloc, spells, pieces)? else {
             return Ok(Found {
-                tally: Tally::of_both(node, older, newer),
+                tally: Tally::of_both(pieces.node, &pieces.older, &pieces.newer),
                 merged: Merged::Both {
-                    older: span_of(older),
-                    newer: span_of(newer),
+                    older: span_of(&pieces.older),
+                    newer: span_of(&pieces.newer),
                 },
             });
         };
         Ok(Found {
-            tally: Tally::of_image(node, image.len),
+            tally: Tally::of_image(pieces.node, image.len),
             merged: Merged::Image(image.bytes),
         })
     }
@@ -218,7 +183,8 @@ impl Pass {
         };
         let older = self.older.take(eye, node, self.region_len)?;
         let newer = self.newer.take(eye, node, self.region_len)?;
-        let Ok(found) = self.merged(alloc, spells, node, &older, &newer) else {
+        let pieces = NodePieces { node, older, newer };
+        let Ok(found) = self.merged(alloc, spells, &pieces) else {
             return Err(FetchFault::NoMemory);
         };
         Ok(Some(found))

@@ -18,6 +18,14 @@ pub(crate) struct Piece {
     pub(crate) last: u64,
 }
 
+/// The rows of a node in the windows of an older and of a newer part, where there are some.
+#[derive(Clone, Copy)]
+pub(crate) struct NodePieces {
+    pub(crate) node: NodeId,
+    pub(crate) older: Option<Piece>,
+    pub(crate) newer: Option<Piece>,
+}
+
 /// A node, the number of its rows and of their bytes, and whether the rows are in order. A number that is above the greatest of 32 bits is told
 /// as this one.
 #[derive(Clone, Copy)]

@@ -1,13 +1,8 @@
 //! Reading a part from front to back, its entries and its rows in blocks.
 
 ghost use Rattle.std.specs.Prelude.{◌≡◌, ℕ, ◌+◌, ◌-◌, ◌<◌, ◌≤◌, ◌++◌, false, IfErr, IfOk, IfSome, IsErrOf, List, MatchResult, None, Ok, OnOk, Option, Some, length, option_map, vec_capacity, vec_len};
+ghost use Rattle.partition_merge.specs.Cited.{AllFrom, CountsFaults, HasBadEntry, HasBadRow, Image, IsSeen, LiesIn, NoDamage, Row, SameEye, is_node_below};
 ghost use Rattle.fine_model.specs.declared.FetchFault.TheVariants as fetch_fault;
-ghost use Rattle.fine_model.specs.declared.Row.{Row};
-ghost use Rattle.fine_model.specs.Merge.{is_node_below};
-ghost use Rattle.fine_model.specs.Regions.{Image};
-ghost use Rattle.partition_index.specs.Index.{AllFrom};
-ghost use Rattle.partition_index.specs.Parts.{CountsFaults, IsSeen, LiesIn, SameEye};
-ghost use Rattle.node_fetch.specs.Fetched.{HasBadEntry, HasBadRow, NoDamage};
 ghost use Rattle.partition_merge.specs.Merging.{FitRows, node_at_head};
 ghost use Rattle.partition_merge.specs.Mergers.{behind, node_kept, nodes_left, IsKept, SourceAt, start_at};
 ghost use Rattle.partition_merge.specs.Pieces.{HasRows, HoldsIn, IsTaken, LiesWithin, StandsIn, bytes_at, span_bytes};
@@ -16,9 +11,9 @@ ghost use Rattle.partition_merge.specs.Streams.{IsInOrder, bytes_left};
 use crate::merger::Source;
 use crate::piece::Piece;
 use crate::through::{NumberedEntry, find_rows, read_head};
-use crate::window::Window;
+use crate::window::{Fetched, Window};
 use fine_model::format::INDEX_ENTRY;
-use fine_model::{FetchFault, Items, NoMemory, NodeId, Part, Rows};
+use fine_model::{Items, NoMemory, NodeId, Part, Rows};
 use log_disk::LogEye;
 use node_fetch::rows_of_span;
 use partition_index::Span;
@@ -69,7 +64,7 @@ impl Reader {
         &mut self,
         eye: &mut E,
         region_len: u64,
-    ) -> Result<Option<NodeId>, FetchFault>
+    ) -> Fetched<Option<NodeId>>
         requires seen { IsSeen (E.LogEye.state eye.old) self.old.part }
         requires region_len { region_len ≡ (E.LogEye.state eye.old).region_len }
         requires kept { IsKept (E.LogEye.state eye.old).told self.old }
@@ -115,7 +110,7 @@ impl Reader {
         eye: &mut E,
         node: NodeId,
         region_len: u64,
-    ) -> Result<Option<Piece>, FetchFault>
+    ) -> Fetched<Option<Piece>>
         requires seen { IsSeen (E.LogEye.state eye.old) self.old.part }
         requires region_len { region_len ≡ (E.LogEye.state eye.old).region_len }
         requires kept { IsKept (E.LogEye.state eye.old).told self.old }

@@ -1,19 +1,14 @@
 //! Entries and rows of a part that are read through windows on its body.
 
 ghost use Rattle.std.specs.Prelude.{◌≡◌, ℕ, ◌+◌, ◌-◌, ◌*◌, ◌<◌, ◌≤◌, IfErr, IfOk, IfSome, IsErrOf, List, Option, OnOk};
+ghost use Rattle.partition_merge.specs.Cited.{AsksEntry, CountsFaults, IsBadRowOf, IsEndOf, IsEntryAt, IsSeen, IsSpanAt, NoDamage, Row, SameEye, TellsRows, body_len, entry_place, span_for};
 ghost use Rattle.fine_model.specs.declared.FetchFault.TheVariants as fetch_fault;
-ghost use Rattle.fine_model.specs.declared.Row.{Row};
-ghost use Rattle.fine_model.specs.Regions.{body_len};
-ghost use Rattle.fine_model.specs.Seek.{entry_place};
-ghost use Rattle.partition_index.specs.Asking.{AsksEntry};
-ghost use Rattle.partition_index.specs.Parts.{CountsFaults, IsSeen, SameEye};
-ghost use Rattle.partition_index.specs.Search.{IsEndOf, IsEntryAt, IsSpanAt, TellsRows, span_for};
-ghost use Rattle.node_fetch.specs.Fetched.{HasBadEntry, IsBadRowOf, NoDamage};
 ghost use Rattle.partition_merge.specs.Pieces.{FindsRows};
-ghost use Rattle.partition_merge.specs.Windows.{HoldsWindow, index_left, rows_left};
+ghost use Rattle.partition_merge.specs.Heads.{ReadsIndex, end_before};
+ghost use Rattle.partition_merge.specs.Windows.{HoldsWindow, rows_left};
 
 use crate::piece::{Piece, is_put};
-use crate::window::Window;
+use crate::window::{Fetched, Window};
 use fine_model::format::INDEX_ENTRY;
 use fine_model::{FetchFault, NodeId, Part};
 use log_disk::LogEye;
@@ -27,28 +22,27 @@ pub(crate) struct NumberedEntry {
     pub(crate) entry: IndexEntry,
 }
 
-// An entry of a part's index, by its number.
+// An entry of a part's index, by its number: the one that was read before, if it has this number.
 #[inline(always)]
 fn read_entry<E: LogEye>(
     index: &mut Window,
+    next: Option<NumberedEntry>,
     eye: &mut E,
     part: &Part,
     i: u32,
     region_len: u64,
-) -> Result<IndexEntry, FetchFault>
+) -> Fetched<IndexEntry>
     requires asked { AsksEntry (E.LogEye.state eye.old) part.now i region_len }
     requires holds { HoldsWindow (E.LogEye.state eye.old).told part.now (body_len part.now.header) index.old }
-    ensures same { SameEye (E.LogEye.state eye.old) (E.LogEye.state eye.new) }
-    ensures counts { CountsFaults (IsErrOf result fetch_fault.Failed) (E.LogEye.state eye.old) (E.LogEye.state eye.new) }
-    ensures holds { HoldsWindow (E.LogEye.state eye.old).told part.now (body_len part.now.header) index.new }
+    requires next { IfSome next (λ n. IsEntryAt (E.LogEye.state eye.old).told part.now n.number n.entry) }
+    ensures reads { ReadsIndex (E.LogEye.state eye.old) (E.LogEye.state eye.new) part.now i i region_len index.old index.new result }
     ensures ok { IfOk result (IsEntryAt (E.LogEye.state eye.old).told part.now i) }
-    ensures good_row { (region at : ℕ) → IsErrOf result (fetch_fault.BadRow region at) → ⊥ }
-    ensures bad_index { (region at : ℕ) → IsErrOf result (fetch_fault.BadIndex region at) → HasBadEntry (E.LogEye.state eye.old).told region_len part.now (record { region = region; at = at }) }
-    ensures order { index.old.from ≤ entry_place part.now.header i → OnOk result (index.new.from ≤ entry_place part.now.header i) }
-    ensures ahead { index.old.from ≤ entry_place part.now.header i
-        → OnOk result ((E.LogEye.state eye.new).taken + index_left part.now index.new ≤ (E.LogEye.state eye.old).taken + index_left part.now index.old) }
-    ensures taken { index.old.from ≤ entry_place part.now.header i → (E.LogEye.state eye.new).taken ≤ (E.LogEye.state eye.old).taken + index_left part.now index.old }
 {
+    if let Some(next) = next {
+        if next.number == i {
+            return Ok(next.entry);
+        }
+    }
     let at = entry_place(&part.header, i);
     let len = INDEX_ENTRY as u32;
     let end = part.header.area + len * part.header.nodes;
@@ -62,75 +56,41 @@ fn read_entry<E: LogEye>(
     }
 }
 
-// An entry of a part's index, by its number: the one that was read before, if it has this number.
+// The entry behind one, if there is one.
 #[inline(always)]
-fn next_entry<E: LogEye>(
+fn entry_behind<E: LogEye>(
     index: &mut Window,
-    next: Option<NumberedEntry>,
     eye: &mut E,
     part: &Part,
     i: u32,
     region_len: u64,
-) -> Result<IndexEntry, FetchFault>
+) -> Fetched<Option<NumberedEntry>>
     requires asked { AsksEntry (E.LogEye.state eye.old) part.now i region_len }
     requires holds { HoldsWindow (E.LogEye.state eye.old).told part.now (body_len part.now.header) index.old }
-    requires next { IfSome next (λ n. IsEntryAt (E.LogEye.state eye.old).told part.now n.number n.entry) }
-    ensures same { SameEye (E.LogEye.state eye.old) (E.LogEye.state eye.new) }
-    ensures counts { CountsFaults (IsErrOf result fetch_fault.Failed) (E.LogEye.state eye.old) (E.LogEye.state eye.new) }
-    ensures holds { HoldsWindow (E.LogEye.state eye.old).told part.now (body_len part.now.header) index.new }
-    ensures ok { IfOk result (IsEntryAt (E.LogEye.state eye.old).told part.now i) }
-    ensures good_row { (region at : ℕ) → IsErrOf result (fetch_fault.BadRow region at) → ⊥ }
-    ensures bad_index { (region at : ℕ) → IsErrOf result (fetch_fault.BadIndex region at) → HasBadEntry (E.LogEye.state eye.old).told region_len part.now (record { region = region; at = at }) }
-    ensures order { index.old.from ≤ entry_place part.now.header i → OnOk result (index.new.from ≤ entry_place part.now.header i) }
-    ensures ahead { index.old.from ≤ entry_place part.now.header i
-        → OnOk result ((E.LogEye.state eye.new).taken + index_left part.now index.new ≤ (E.LogEye.state eye.old).taken + index_left part.now index.old) }
-    ensures taken { index.old.from ≤ entry_place part.now.header i → (E.LogEye.state eye.new).taken ≤ (E.LogEye.state eye.old).taken + index_left part.now index.old }
+    ensures reads { ReadsIndex (E.LogEye.state eye.old) (E.LogEye.state eye.new) part.now i (i + 1) region_len index.old index.new result }
+    ensures next { IfOk result (λ behind. IfSome behind (λ n. IsEntryAt (E.LogEye.state eye.old).told part.now n.number n.entry)) }
+    ensures end { IfOk result (λ behind. IsEndOf (E.LogEye.state eye.old).told part.now i (end_before part.now behind)) }
 {
-    if let Some(next) = next {
-        if next.number == i {
-            return Ok(next.entry);
-        }
+    let number = i + 1;
+    if number < part.header.nodes {
+        let entry = read_entry(index, None, eye, part, number, region_len)?;
+        return Ok(Some(NumberedEntry { number, entry }));
     }
-    read_entry(index, eye, part, i, region_len)
+    Ok(None)
 }
 
-// The end of the span of an entry: the offset of the next one, which is kept, or the end of the rows.
+// The end of the span of an entry: the offset of the one behind it, or the end of the rows.
 #[inline(always)]
-fn end_of<E: LogEye>(
-    index: &mut Window,
-    next: &mut Option<NumberedEntry>,
-    eye: &mut E,
-    part: &Part,
-    i: u32,
-    region_len: u64,
-) -> Result<u32, FetchFault>
-    requires asked { AsksEntry (E.LogEye.state eye.old) part.now i region_len }
-    requires holds { HoldsWindow (E.LogEye.state eye.old).told part.now (body_len part.now.header) index.old }
-    requires next { IfSome next.old (λ n. IsEntryAt (E.LogEye.state eye.old).told part.now n.number n.entry) }
-    ensures same { SameEye (E.LogEye.state eye.old) (E.LogEye.state eye.new) }
-    ensures counts { CountsFaults (IsErrOf result fetch_fault.Failed) (E.LogEye.state eye.old) (E.LogEye.state eye.new) }
-    ensures holds { HoldsWindow (E.LogEye.state eye.old).told part.now (body_len part.now.header) index.new }
-    ensures next { IfSome next.new (λ n. IsEntryAt (E.LogEye.state eye.old).told part.now n.number n.entry) }
-    ensures ok { IfOk result (IsEndOf (E.LogEye.state eye.old).told part.now i) }
-    ensures good_row { (region at : ℕ) → IsErrOf result (fetch_fault.BadRow region at) → ⊥ }
-    ensures bad_index { (region at : ℕ) → IsErrOf result (fetch_fault.BadIndex region at) → HasBadEntry (E.LogEye.state eye.old).told region_len part.now (record { region = region; at = at }) }
-    ensures order { index.old.from ≤ entry_place part.now.header i → OnOk result (index.new.from ≤ entry_place part.now.header (i + 1)) }
-    ensures ahead { index.old.from ≤ entry_place part.now.header i
-        → OnOk result ((E.LogEye.state eye.new).taken + index_left part.now index.new ≤ (E.LogEye.state eye.old).taken + index_left part.now index.old) }
-    ensures taken { index.old.from ≤ entry_place part.now.header i → (E.LogEye.state eye.new).taken ≤ (E.LogEye.state eye.old).taken + index_left part.now index.old }
+fn end_before(part: &Part, behind: Option<NumberedEntry>) -> u32
+    ensures { result ≡ end_before part.now behind }
 {
-    if i + 1 < part.header.nodes {
-        let entry = read_entry(index, eye, part, i + 1, region_len)?;
-        *next = Some(NumberedEntry {
-            number: i + 1,
-            entry,
-        });
-        return Ok(entry.offset);
+    match behind {
+        Some(behind) => behind.entry.offset,
+        None => part.header.area,
     }
-    Ok(part.header.area)
 }
 
-/// An entry of a part's index, by its number, and its span, through a window on the index.
+/// An entry of a part's index, by its number, and its span, through a window on the index. The entry behind it is kept.
 ///
 /// `BadIndex` comes only with the place of an entry, which is bad by the bytes that the eye tells. Where entries are asked for in their
 /// order, each is read once.
@@ -142,26 +102,19 @@ pub(crate) fn read_head<E: LogEye>(
     part: &Part,
     i: u32,
     region_len: u64,
-) -> Result<(IndexEntry, Span), FetchFault>
+) -> Fetched<(IndexEntry, Span)>
     requires asked { AsksEntry (E.LogEye.state eye.old) part.now i region_len }
     requires holds { HoldsWindow (E.LogEye.state eye.old).told part.now (body_len part.now.header) index.old }
     requires next { IfSome next.old (λ n. IsEntryAt (E.LogEye.state eye.old).told part.now n.number n.entry) }
-    ensures same { SameEye (E.LogEye.state eye.old) (E.LogEye.state eye.new) }
-    ensures counts { CountsFaults (IsErrOf result fetch_fault.Failed) (E.LogEye.state eye.old) (E.LogEye.state eye.new) }
-    ensures holds { HoldsWindow (E.LogEye.state eye.old).told part.now (body_len part.now.header) index.new }
+    ensures reads { ReadsIndex (E.LogEye.state eye.old) (E.LogEye.state eye.new) part.now i (i + 1) region_len index.old index.new result }
     ensures next { IfSome next.new (λ n. IsEntryAt (E.LogEye.state eye.old).told part.now n.number n.entry) }
     ensures entry { IfOk result (λ r. IsEntryAt (E.LogEye.state eye.old).told part.now i r.0) }
     ensures span { IfOk result (λ r. IsSpanAt (E.LogEye.state eye.old).told part.now i r.1) }
-    ensures good_row { (region at : ℕ) → IsErrOf result (fetch_fault.BadRow region at) → ⊥ }
-    ensures bad_index { (region at : ℕ) → IsErrOf result (fetch_fault.BadIndex region at) → HasBadEntry (E.LogEye.state eye.old).told region_len part.now (record { region = region; at = at }) }
-    ensures order { index.old.from ≤ entry_place part.now.header i → OnOk result (index.new.from ≤ entry_place part.now.header (i + 1)) }
-    ensures ahead { index.old.from ≤ entry_place part.now.header i
-        → OnOk result ((E.LogEye.state eye.new).taken + index_left part.now index.new ≤ (E.LogEye.state eye.old).taken + index_left part.now index.old) }
-    ensures taken { index.old.from ≤ entry_place part.now.header i → (E.LogEye.state eye.new).taken ≤ (E.LogEye.state eye.old).taken + index_left part.now index.old }
 {
-    let entry = next_entry(index, *next, eye, part, i, region_len)?;
-    let end = end_of(index, next, eye, part, i, region_len)?;
-    match span_in(part, i, &entry, end) {
+    let entry = read_entry(index, *next, eye, part, i, region_len)?;
+    let behind = entry_behind(index, eye, part, i, region_len)?;
+    *next = behind;
+    match span_in(part, i, &entry, end_before(part, behind)) {
         Ok(span) => Ok((entry, span)),
         Err(SeekFault::Failed) => Err(FetchFault::Failed),
         Err(SeekFault::BadIndex { at }) => Err(bad_index(part, region_len, at)),
@@ -180,7 +133,7 @@ pub(crate) fn find_rows<E: LogEye>(
     node: NodeId,
     span: Span,
     region_len: u64,
-) -> Result<Option<Piece>, FetchFault>
+) -> Fetched<Option<Piece>>
     requires seen { IsSeen (E.LogEye.state eye.old) part.now }
     requires region_len { region_len ≡ (E.LogEye.state eye.old).region_len }
     requires some { 1 ≤ part.now.header.nodes }

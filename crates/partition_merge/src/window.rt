@@ -1,12 +1,8 @@
 //! Windows on the body of a part, through which it is read in blocks.
 
 ghost use Rattle.std.specs.Prelude.{◌≡◌, ℕ, ◌+◌, ◌-◌, ◌*◌, ◌<◌, ◌≤◌, false, true, IfErr, IfOk, IsErrOf, OnErr, OnOk, Option, drop, length, max, take};
+ghost use Rattle.partition_merge.specs.Cited.{CountsFaults, Image, IsRangeAt, IsSeen, NoDamage, Part, SameEye, body_len};
 ghost use Rattle.fine_model.specs.declared.FetchFault.TheVariants as fetch_fault;
-ghost use Rattle.fine_model.specs.declared.Part.{Part};
-ghost use Rattle.fine_model.specs.Regions.{Image, body_len};
-ghost use Rattle.partition_index.specs.Parts.{CountsFaults, IsSeen, SameEye};
-ghost use Rattle.partition_index.specs.Search.{IsRangeAt};
-ghost use Rattle.node_fetch.specs.Fetched.{NoDamage};
 ghost use Rattle.partition_merge.specs.Windows.{HoldsWindow, no_window, window_end};
 
 use crate::buffer::Buffer;
@@ -14,6 +10,9 @@ use fine_model::{FetchFault, NoMemory, Part};
 use log_disk::LogEye;
 use std::alloc::Global;
 use std::marker::Model;
+
+/// What a read of a part answers.
+pub(crate) type Fetched<T> = Result<T, FetchFault>;
 
 /// What was read ahead of a part that is not read through windows: nothing. It takes no bytes, and stands where contracts of such a part
 /// and of one that is have the same form.
@@ -102,7 +101,7 @@ impl Window {
         part: &Part,
         region_len: u64,
         len: u32,
-    ) -> Result<(), FetchFault>
+    ) -> Fetched<()>
         requires seen { IsSeen (E.LogEye.state eye.old) part.now }
         requires region_len { region_len ≡ (E.LogEye.state eye.old).region_len }
         requires longer { length self.old.bytes ≤ len }
@@ -137,7 +136,7 @@ impl Window {
         at: u32,
         len: u32,
         end: u32,
-    ) -> Result<(), FetchFault>
+    ) -> Fetched<()>
         requires seen { IsSeen (E.LogEye.state eye.old) part.now }
         requires region_len { region_len ≡ (E.LogEye.state eye.old).region_len }
         requires within { at + len ≤ end }

@@ -1,8 +1,7 @@
 use Rattle.std.proofs.Common.{◌≡◌, ◌∙◌, ◌≤◌, ◌++◌, ◌==◌, [], length, false, true, Ok, Err, sym, ap, subst, arith, rules, refl, true≢false, inl, inr}
 use Rattle.std.proofs.lemmas.Result.{err_from_is_err_and}
 use Rattle.fine_model.specs.declared.FetchFault.TheVariants as fault
-use Rattle.partition_index.specs.Parts.{IsSeen}
-use Rattle.partition_index.proofs.Looking.{seen_same, same_then}
+use Rattle.partition_index.proofs.Looking.{same_then}
 use Rattle.partition_merge.specs.Mergers.{AreKept}
 use Rattle.partition_merge.specs.Blocks.{BlocksValue, SameBlocks}
 use Rattle.partition_merge.proofs.Ahead.{cleared_ahead, filled_ahead, filled_ended, filled_few, filled_same, at_most, full_not_empty, gives, step_falls}
@@ -11,6 +10,7 @@ use Rattle.partition_merge.specs.Streams.{AreInOrder, both_bytes_left}
 use Rattle.partition_merge.proofs.Joining.{cleared_joined, filled_joined, gives_joined}
 use Rattle.partition_merge.proofs.Measured.{blames_row}
 use Rattle.partition_merge.proofs.Sources.{err_clause}
+use Rattle.partition_merge.proofs.StillSeen.{still_seen}
 use Rattle.partition_merge.proofs.blocks.Blocks.next.Given.{Over}
 use Rattle.partition_merge.proofs.blocks.Blocks.next.Goals.{After-is_empty, then-loop-more-test+else-not-is_full, else-loop-more-test}
 use Rattle.partition_merge.proofs.blocks.Blocks.next.Goals as goal
@@ -42,14 +42,10 @@ loop-more-init g c = record {
 }
 
 pub supply-requires-clause-older : goal.supply-requires-clause-older
-supply-requires-clause-older g c =
-    let i = c.loop-more.invariant in
-    subst (IsSeen (g.E.LogEye.state c.loop-more.eye)) (sym i.same.older) (seen_same (g.E.LogEye.state c.args.eye.now) (g.E.LogEye.state c.loop-more.eye) _ i.eye c.requires.older)
+supply-requires-clause-older g c = still_seen (g.E.LogEye.state c.args.eye.now) (g.E.LogEye.state c.loop-more.eye) _ _ c.loop-more.invariant.eye c.loop-more.invariant.same.older c.requires.older
 
 pub supply-requires-clause-newer : goal.supply-requires-clause-newer
-supply-requires-clause-newer g c =
-    let i = c.loop-more.invariant in
-    subst (IsSeen (g.E.LogEye.state c.loop-more.eye)) (sym i.same.newer) (seen_same (g.E.LogEye.state c.args.eye.now) (g.E.LogEye.state c.loop-more.eye) _ i.eye c.requires.newer)
+supply-requires-clause-newer g c = still_seen (g.E.LogEye.state c.args.eye.now) (g.E.LogEye.state c.loop-more.eye) _ _ c.loop-more.invariant.eye c.loop-more.invariant.same.newer c.requires.newer
 
 pub returns-in_err-more-clause-bad_row : goal.returns-in_err-more-clause-bad_row
 returns-in_err-more-clause-bad_row g c region at e =

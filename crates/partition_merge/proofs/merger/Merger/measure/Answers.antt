@@ -1,8 +1,7 @@
 use Rattle.std.proofs.Common.{false, ◌≡◌, ◌∙◌, ◌<◌, Ok, Err, Some, None, sym, ap, subst, arith, rules, refl}
 use Rattle.std.specs.Prelude.{IfSome}
 use Rattle.fine_model.specs.declared.FetchFault.TheVariants as fault
-use Rattle.partition_index.specs.Parts.{IsSeen}
-use Rattle.partition_index.proofs.Looking.{seen_same, same_then}
+use Rattle.partition_index.proofs.Looking.{same_then}
 use Rattle.partition_merge.specs.declared.merger.Merger.{Merger}
 use Rattle.partition_merge.specs.Mergers.{AreKept, StandsAt, at_front, both_left, newer_part, older_part, start_of}
 use Rattle.partition_merge.specs.Pieces.{EndsAt, HandsOver, IsTallyOf}
@@ -10,6 +9,7 @@ use Rattle.partition_merge.specs.Streams.{AreInOrder, both_bytes_left}
 use Rattle.partition_merge.proofs.Streams.{area_told, bytes_front, kept_front, order_front, stands_front}
 use Rattle.partition_merge.proofs.Found.{adds}
 use Rattle.partition_merge.proofs.Sources.{err_clause}
+use Rattle.partition_merge.proofs.StillSeen.{still_seen}
 use Rattle.partition_merge.proofs.Handed.{none_handed, more_handed, all_handed}
 use Rattle.partition_merge.proofs.Measured.{few_more, none_measured, nothing_counted, more_measured, more_counted, all_measured, blames_row}
 use Rattle.partition_merge.proofs.merger.Merger.measure.Goals as goal
@@ -39,14 +39,10 @@ loop-pass-init g c =
     }
 
 pub next_node-requires-clause-older : goal.next_node-requires-clause-older
-next_node-requires-clause-older g c =
-    let i = c.loop-pass.invariant in
-    subst (IsSeen (g.E.LogEye.state c.loop-pass.eye)) (sym i.older) (seen_same (g.E.LogEye.state c.args.eye.now) (g.E.LogEye.state c.loop-pass.eye) _ i.same c.requires.older)
+next_node-requires-clause-older g c = still_seen (g.E.LogEye.state c.args.eye.now) (g.E.LogEye.state c.loop-pass.eye) _ _ c.loop-pass.invariant.same c.loop-pass.invariant.older c.requires.older
 
 pub next_node-requires-clause-newer : goal.next_node-requires-clause-newer
-next_node-requires-clause-newer g c =
-    let i = c.loop-pass.invariant in
-    subst (IsSeen (g.E.LogEye.state c.loop-pass.eye)) (sym i.newer) (seen_same (g.E.LogEye.state c.args.eye.now) (g.E.LogEye.state c.loop-pass.eye) _ i.same c.requires.newer)
+next_node-requires-clause-newer g c = still_seen (g.E.LogEye.state c.args.eye.now) (g.E.LogEye.state c.loop-pass.eye) _ _ c.loop-pass.invariant.same c.loop-pass.invariant.newer c.requires.newer
 
 pub returns-in_err-found-clause-bad_row : goal.returns-in_err-found-clause-bad_row
 returns-in_err-found-clause-bad_row g c region at e =

@@ -130,12 +130,10 @@ returns-in-Ok-clause-read g c = record {
 }
 
 pub take-requires-clause-lowest : goal.take-requires-clause-lowest
-take-requires-clause-lowest g c =
-    first_lowest c.peek.new.self.head c.in_ok-older.older c.in_ok-newer.newer c.in-Some.node c.in_ok-older.ensures.head (sym c.lower.ensures ∙ c.in-Some.is)
+take-requires-clause-lowest g c = first_lowest _ _ _ _ c.in_ok-older.ensures.head (sym c.lower.ensures ∙ c.in-Some.is)
 
 pub take-requires-2-clause-lowest : goal.take-requires-2-clause-lowest
-take-requires-2-clause-lowest g c =
-    second_lowest c.peek-2.new.self.head c.in_ok-older.older c.in_ok-newer.newer c.in-Some.node c.in_ok-newer.ensures.head (sym c.lower.ensures ∙ c.in-Some.is)
+take-requires-2-clause-lowest g c = second_lowest _ _ _ _ c.in_ok-newer.ensures.head (sym c.lower.ensures ∙ c.in-Some.is)
 
 pub returns-in-Ok-clause-some : goal.returns-in-Ok-clause-some
 returns-in-Ok-clause-some g c =

@@ -11,9 +11,9 @@ returns c a b older_holds newer_holds =
     let q = c.self.inside.newer.part in
     let v = c.self.inside.older.ahead.rows in
     let w = c.self.inside.newer.ahead.rows in
-    let id = c.args.node in
-    let older = c.args.older.now in
-    let newer = c.args.newer.now in
+    let id = c.args.pieces.now.node in
+    let older = c.args.pieces.now.older in
+    let newer = c.args.pieces.now.newer in
     let h : HoldsIn c.self.inside.older id older a = subst (λ (m : Merger). HoldsIn m.older id older a) (sym c.self.view_is) older_holds in
     let k : HoldsIn c.self.inside.newer id newer b = subst (λ (m : Merger). HoldsIn m.newer id newer b) (sym c.self.view_is) newer_holds in
     c.leaf_image.ensures p.header.mark q.header.mark a b

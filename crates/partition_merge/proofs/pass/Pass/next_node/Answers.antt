@@ -10,7 +10,7 @@ use Rattle.partition_merge.specs.Mergers.{StandsAt, both_left, newer_part, nodes
 use Rattle.partition_merge.specs.Streams.{AreInOrder, both_bytes_left, bytes_left}
 use Rattle.partition_merge.proofs.Sources.{Peeked, err_clause, fewer_both, source_peeked, peeked_both, none_peeked, takes_as, handed_out, first_lowest, second_lowest, some_both}
 use Rattle.partition_merge.proofs.pass.Pass.next_node.Given.{Over}
-use Rattle.partition_merge.proofs.pass.Pass.next_node.Goals.{After-newer-2-1, After-peek, After-take}
+use Rattle.partition_merge.proofs.pass.Pass.next_node.Goals.{After-pieces-1, After-peek, After-take}
 use Rattle.partition_merge.proofs.pass.Pass.next_node.Goals as goal
 
 -- a pass stands where its two sources do
@@ -28,7 +28,7 @@ sources g c older newer at =
     (c.in_ok-older.ensures.exact older here.of_older) (c.in_ok-newer.ensures.exact newer later) (sym c.lower.ensures ∙ c.in-Some.is)
 
 -- the bytes that the four calls took are those that are no longer left
-both_taken : (g : Over) (c : After-newer-2-1 g) (image : Image) → (g.E.LogEye.state c.args.eye.now).told ≡ Some image → AreInOrder image c.args.self.now
+both_taken : (g : Over) (c : After-pieces-1 g) (image : Image) → (g.E.LogEye.state c.args.eye.now).told ≡ Some image → AreInOrder image c.args.self.now
     → (g.E.LogEye.state c.take-2.new.eye).taken + (bytes_left c.take.new.self + bytes_left c.take-2.new.self) ≤ (g.E.LogEye.state c.args.eye.now).taken + both_bytes_left c.args.self.now
 both_taken g c image told before =
     let order = subst (AreInOrder image) (sym c.self.view_is) before in
@@ -81,12 +81,10 @@ take-requires-2-clause-seen g c =
     subst (IsSeen (g.E.LogEye.state c.take.new.eye)) (sym c.peek-2.ensures.part) (seen_same (g.E.LogEye.state c.args.eye.now) (g.E.LogEye.state c.take.new.eye) c.self.inside.newer.part same (subst (λ (m : Merger). IsSeen (g.E.LogEye.state c.args.eye.now) (newer_part m)) (sym c.self.view_is) c.requires.newer))
 
 pub take-requires-clause-lowest : goal.take-requires-clause-lowest
-take-requires-clause-lowest g c =
-    first_lowest c.peek.new.self.head c.in_ok-older.older c.in_ok-newer.newer c.in-Some.node c.in_ok-older.ensures.head (sym c.lower.ensures ∙ c.in-Some.is)
+take-requires-clause-lowest g c = first_lowest _ _ _ _ c.in_ok-older.ensures.head (sym c.lower.ensures ∙ c.in-Some.is)
 
 pub take-requires-2-clause-lowest : goal.take-requires-2-clause-lowest
-take-requires-2-clause-lowest g c =
-    second_lowest c.peek-2.new.self.head c.in_ok-older.older c.in_ok-newer.newer c.in-Some.node c.in_ok-newer.ensures.head (sym c.lower.ensures ∙ c.in-Some.is)
+take-requires-2-clause-lowest g c = second_lowest _ _ _ _ c.in_ok-newer.ensures.head (sym c.lower.ensures ∙ c.in-Some.is)
 
 pub returns-in_default-clause-exact : goal.returns-in_default-clause-exact
 returns-in_default-clause-exact g c older newer at =
@@ -103,11 +101,10 @@ returns-in_default-clause-exact g c older newer at =
       },
     )
 
-pub merged-requires-clause-older : goal.merged-requires-clause-older
-merged-requires-clause-older g c = let t = c.in_ok-older-2.ensures.taken_is in record { rows = t.rows; holds = t.holds }
-
-pub merged-requires-clause-newer : goal.merged-requires-clause-newer
-merged-requires-clause-newer g c = let t = c.in_ok-newer-2.ensures.taken_is in record { rows = t.rows; holds = t.holds }
+pub merged-requires-clause-rows : goal.merged-requires-clause-rows
+merged-requires-clause-rows g c =
+    let t = c.in_ok-older-2.ensures.taken_is in
+    let u = c.in_ok-newer-2.ensures.taken_is in record { older = record { rows = t.rows; holds = t.holds }; newer = record { rows = u.rows; holds = u.holds } }
 
 pub returns-clause-found : goal.returns-clause-found
 returns-clause-found g c =
@@ -163,15 +160,15 @@ returns-clause-order g c image told before =
 
 pub returns-clause-ahead : goal.returns-clause-ahead
 returns-clause-ahead g c image told before =
-    let so_far = both_taken g (goal.at.returns-clause-ahead g c).After-newer-2-1 image told before in
+    let so_far = both_taken g (goal.at.returns-clause-ahead g c).After-pieces-1 image told before in
     omega (arith, so_far)
 
 pub returns-in_default-merged-clause-taken : goal.returns-in_default-merged-clause-taken
 returns-in_default-merged-clause-taken g c image told before =
-    let so_far = both_taken g (goal.at.returns-in_default-merged-clause-taken g c).After-newer-2-1 image told before in
+    let so_far = both_taken g (goal.at.returns-in_default-merged-clause-taken g c).After-pieces-1 image told before in
     omega (arith, so_far)
 
 pub returns-clause-taken : goal.returns-clause-taken
 returns-clause-taken g c image told before =
-    let so_far = both_taken g (goal.at.returns-clause-taken g c).After-newer-2-1 image told before in
+    let so_far = both_taken g (goal.at.returns-clause-taken g c).After-pieces-1 image told before in
     omega (arith, so_far)

@@ -39,8 +39,8 @@ returns-in_err-entry-clause-exact g c =
     subst (λ (s : Source). (left : List Row) → SourceAt eye s left → MatchResult c.from_residual.result (λ node. node ≡ node_at_head left) NoDamage) c.self.view_is
     (λ left at.
     err_clause c.from_residual.result c.in_err-entry.field-0.0 _ same
-    (no_damage c.in_err-entry.field-0.0 (λ region at e. c.in_err-entry.ensures.good_row region at (ap Err e))
-    (λ region place e. let bad = c.in_err-entry.ensures.bad_index region place (ap Err e) in never_bad eye s.part at.rows bad.at seen at.tells bad.is_bad)))
+    (no_damage c.in_err-entry.field-0.0 (λ region at e. c.in_err-entry.ensures.reads.good_row region at (ap Err e))
+    (λ region place e. let bad = c.in_err-entry.ensures.reads.bad_index region place (ap Err e) in never_bad eye s.part at.rows bad.at seen at.tells bad.is_bad)))
 
 pub returns-clause-exact : goal.returns-clause-exact
 returns-clause-exact g c =

@@ -16,10 +16,10 @@ use Rattle.node_fetch.proofs.ReadBack.{replay_same}
 use Rattle.partition_hold.specs.Sources.{Fails, IsClean, IsLater, finds_in, tells_rows}
 use Rattle.partition_hold.specs.Views.{SameView, ViewValue}
 
-same_itself : (v : ViewValue) → SameView v v
+pub same_itself : (v : ViewValue) → SameView v v
 same_itself v = record { eye = record { number = refl; regions = refl; region_len = refl; told = refl }; parts = refl; upto = refl; place = (refl, refl); region_len = refl }
 
-same_on : (u v w : ViewValue) → SameView u v → SameView v w → SameView u w
+pub same_on : (u v w : ViewValue) → SameView u v → SameView v w → SameView u w
 same_on u v w a b = record {
   eye = record { number = b.eye.number ∙ a.eye.number; regions = b.eye.regions ∙ a.eye.regions; region_len = b.eye.region_len ∙ a.eye.region_len; told = b.eye.told ∙ a.eye.told };
   parts = b.parts ∙ a.parts;

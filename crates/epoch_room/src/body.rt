@@ -4,17 +4,13 @@ ghost use Rattle.std.specs.Prelude.{◌+◌, ◌≤◌, ◌<◌, ◌≡◌, [], 
 ghost use Rattle.fine_model.specs.Regions.{place_of, body_len};
 ghost use Rattle.epoch_room.specs.BodyWrites.{HasPlace, WritesBody, lying_in};
 
+use crate::answers::DiskResult;
 use fine_model::Part;
-use log_disk::{DiskRefusal, LogDisk};
+use log_disk::LogDisk;
 use partition_index::place_of;
 
 /// Writes bytes of a part's body that do not pass the end of the region in which they begin.
-fn write_piece<D: LogDisk>(
-    disk: &mut D,
-    part: &Part,
-    at: u32,
-    bytes: &[u8],
-) -> Result<(), DiskRefusal>
+fn write_piece<D: LogDisk>(disk: &mut D, part: &Part, at: u32, bytes: &[u8]) -> DiskResult<()>
     requires place { HasPlace (D.state disk.old) part.now }
     requires some { 1 ≤ length bytes.now }
     requires within { at + length bytes.now ≤ body_len part.now.header }
@@ -26,12 +22,7 @@ fn write_piece<D: LogDisk>(
 }
 
 /// Writes bytes of a part's body, by two writes at most: at the end of a region they go on behind the gate of the next one.
-pub fn write_body<D: LogDisk>(
-    disk: &mut D,
-    part: &Part,
-    at: u32,
-    bytes: &[u8],
-) -> Result<(), DiskRefusal>
+pub fn write_body<D: LogDisk>(disk: &mut D, part: &Part, at: u32, bytes: &[u8]) -> DiskResult<()>
     requires place { HasPlace (D.state disk.old) part.now }
     requires within { at + length bytes.now ≤ body_len part.now.header }
     requires few { length bytes.now < (D.state disk.old).region_len }

@@ -5,13 +5,14 @@ ghost use Rattle.std.specs.List.{AllByRecursion};
 ghost use Rattle.log_disk.specs.Disk.{IsSound, IsUnseen};
 ghost use Rattle.epoch_room.specs.Closing.{ClosesGates, WritesGates};
 
+use crate::answers::DiskResult;
 use log_disk::{DiskRefusal, LogDisk};
 
 /// The first byte of a region whose gate is closed.
 const CLOSED_GATE: u8 = 0;
 
 /// Whether the disk failed.
-pub fn has_failed(written: &Result<(), DiskRefusal>) -> bool
+pub fn has_failed(written: &DiskResult<()>) -> bool
     ensures yes { result ≡ true → IsErrOf written.now DiskRefusal.Failed }
     ensures no { result ≡ false → IsErrOf written.now DiskRefusal.Failed → ⊥ }
 {
@@ -25,7 +26,7 @@ pub fn has_failed(written: &Result<(), DiskRefusal>) -> bool
 }
 
 /// Writes the closed gates of regions, one behind the other, and answers how many were begun.
-fn write_gates<D: LogDisk>(disk: &mut D, leads: &[u32]) -> (usize, Result<(), DiskRefusal>)
+fn write_gates<D: LogDisk>(disk: &mut D, leads: &[u32]) -> (usize, DiskResult<()>)
     requires sound { IsSound (D.state disk.old) }
     requires there { AllByRecursion (λ r. r < (D.state disk.old).regions) leads.now }
     requires long { 1 ≤ (D.state disk.old).region_len }
@@ -47,7 +48,7 @@ fn write_gates<D: LogDisk>(disk: &mut D, leads: &[u32]) -> (usize, Result<(), Di
 ///
 /// A crash at any moment leaves what it could leave before, with any bytes at the gates of any of these regions. Where one wants memory,
 /// those before it are closed and synced, and no other was begun.
-pub fn close_gates<D: LogDisk>(disk: &mut D, leads: &[u32]) -> (usize, Result<(), DiskRefusal>)
+pub fn close_gates<D: LogDisk>(disk: &mut D, leads: &[u32]) -> (usize, DiskResult<()>)
     requires sound { IsSound (D.state disk.old) }
     requires there { AllByRecursion (λ r. r < (D.state disk.old).regions) leads.now }
     requires long { 1 ≤ (D.state disk.old).region_len }

@@ -16,4 +16,4 @@ mod sealing;
 pub mod stuck_law;
 
 pub use answers::{AdoptFault, Counts, EraseFault, Fit, RoomFault, Stamp};
-pub use room::Room;
+pub use room::{Room, first_neighbours};

@@ -36,6 +36,7 @@ use crate::sealing::seal_region;
 use fine_model::format::{BODY_START, GREATEST, MOST_IN_LOG};
 use fine_model::{Copied, Job, NoMemory, Part, Parts, Range, RoomLaw};
 use log_disk::{DiskRefusal, LogDisk};
+pub use merging::first_neighbours;
 use partition_hold::{Board, RegionSet, View};
 use private_log::PrivateLog;
 use std::alloc::Global;

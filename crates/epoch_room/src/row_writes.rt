@@ -9,6 +9,7 @@ ghost use Rattle.fine_model.specs.RowBytes.{FitsRec, row_len, rows_bytes, rows_l
 ghost use Rattle.epoch_room.specs.BodyWrites.{HasPlace, WritesBody};
 ghost use Rattle.epoch_room.specs.RowWrites.{AreCounted, SealsRows, WritesFull, WritesRows};
 
+use crate::answers::DiskResult;
 use crate::body::write_body;
 use crate::sealing::{header_len, seal_region};
 use fine_model::format::INDEX_ENTRY;
@@ -51,12 +52,7 @@ fn put_index(alloc: Global, rows: &Rows, out: &mut Vec<u8>) -> Result<(), NoMemo
 }
 
 /// Writes bytes of a part's body, however many, by pieces that are shorter than a region.
-fn write_long<D: LogDisk>(
-    disk: &mut D,
-    part: &Part,
-    at: u32,
-    bytes: &[u8],
-) -> Result<(), DiskRefusal>
+fn write_long<D: LogDisk>(disk: &mut D, part: &Part, at: u32, bytes: &[u8]) -> DiskResult<()>
     requires place { HasPlace (D.state disk.old) part.now }
     requires within { at + length bytes.now ≤ body_len part.now.header }
     ensures { WritesBody (regions_of part.now) part.now at bytes.now result (D.state disk.old) (D.state disk.new) }
@@ -79,7 +75,7 @@ fn write_full<D: LogDisk>(
     part: &Part,
     at: u32,
     block: &mut Vec<u8>,
-) -> Result<u32, DiskRefusal>
+) -> DiskResult<u32>
     requires place { HasPlace (D.state disk.old) part.now }
     requires within { at + vec_len block.old ≤ body_len part.now.header }
     ensures { WritesFull part.now at block.old.items block.new.items result (D.state disk.old) (D.state disk.new) }
@@ -94,12 +90,7 @@ fn write_full<D: LogDisk>(
 }
 
 /// Writes the rows of a part and their index, in blocks.
-fn write_rows<D: LogDisk>(
-    alloc: Global,
-    disk: &mut D,
-    part: &Part,
-    rows: &Rows,
-) -> Result<(), DiskRefusal>
+fn write_rows<D: LogDisk>(alloc: Global, disk: &mut D, part: &Part, rows: &Rows) -> DiskResult<()>
     requires place { HasPlace (D.state disk.old) part.now }
     requires counted { AreCounted part.now.header rows.now }
     ensures { WritesRows part.now (body_bytes rows.now) result (D.state disk.old) (D.state disk.new) }
@@ -128,7 +119,7 @@ pub fn seal_rows<D: LogDisk>(
     disk: &mut D,
     part: &Part,
     rows: &Rows,
-) -> Result<(), DiskRefusal>
+) -> DiskResult<()>
     requires place { HasPlace (D.state disk.old) part.now }
     requires counted { AreCounted part.now.header rows.now }
     ensures { SealsRows part.now rows.now result (D.state disk.old) (D.state disk.new) }

@@ -8,6 +8,7 @@ ghost use Rattle.fine_model.specs.Regions.{body_start};
 ghost use Rattle.log_disk.specs.Disk.{IsSound, IsUnseen, with_bytes};
 ghost use Rattle.epoch_room.specs.Gate.{LeavesBehind, LeavesNow, LeavesOpening, LeavesSealing, HasBytes, KeepsBeside, IsUngated, TouchesOnly, gate};
 
+use crate::answers::DiskResult;
 use fine_model::format::SEALED_GATE;
 use fine_model::{Mark, body_start};
 use log_disk::{DiskRefusal, LogDisk};
@@ -23,7 +24,7 @@ pub fn header_len(mark: Mark) -> usize
 ///
 /// A crash at any moment leaves what it could leave before, or what a read gave before with any byte at the gate. After `NoMemory` all
 /// is synced, and the gate is as it was.
-pub fn open_gate<D: LogDisk>(disk: &mut D, lead: u32) -> Result<(), DiskRefusal>
+pub fn open_gate<D: LogDisk>(disk: &mut D, lead: u32) -> DiskResult<()>
     requires sound { IsSound (D.state disk.old) }
     requires there { lead < (D.state disk.old).regions }
     requires long { 1 ≤ (D.state disk.old).region_len }
@@ -48,7 +49,7 @@ pub fn open_gate<D: LogDisk>(disk: &mut D, lead: u32) -> Result<(), DiskRefusal>
 ///
 /// A crash at any moment leaves what it could leave before, torn behind the gate that was there, or all that a read gives then, with any
 /// byte at the gate. After `NoMemory` nothing was begun, or all is synced with the bytes behind the gate that was there. After `Failed` the region is unsynced.
-pub fn seal_region<D: LogDisk>(disk: &mut D, lead: u32, bytes: &[u8]) -> Result<(), DiskRefusal>
+pub fn seal_region<D: LogDisk>(disk: &mut D, lead: u32, bytes: &[u8]) -> DiskResult<()>
     requires sound { IsSound (D.state disk.old) }
     requires there { lead < (D.state disk.old).regions }
     requires within { 1 + length bytes.now ≤ (D.state disk.old).region_len }

@@ -165,8 +165,15 @@ module _ (old entry : Disk) (kept : Kept) (before : List Part) (oldest : Part) (
         → (kept'.is_shut ≡ true → HasRisen old.own_faults new.own_faults × HasRisen old.faults new.faults) → Keeps (value_of old entry kept) (value_of new entry kept')
     keeps kept' stands sealed places risen = record { stands = stands; inside = inside; becomes = becomes kept' sealed places risen; time = time }
 
+    -- the region lies beside those of all parts
+    by_side : AreBeside (region ∷ []) (kept.parts ++ kept.retired)
+    by_side = beside old entry kept before oldest newer region free rows bytes c
+
     -- each region that is taken then is taken once, and the others are free
-    owned_now : (all : List ℕ) → SameTimes (region ∷ taken (value_of old entry kept).room kept.target) all → AreApart new.regions all × (free ≡ regions_outside new.regions all)
+    abbrev IsOwned : List ℕ → Type 0
+    IsOwned all = AreApart new.regions all × (free ≡ regions_outside new.regions all)
+
+    owned_now : (all : List ℕ) → SameTimes (region ∷ taken (value_of old entry kept).room kept.target) all → IsOwned all
     owned_now all times =
         let own = region ∷ taken (value_of old entry kept).room kept.target in (
           subst (λ n. AreApart n all) (sym same.regions) (same_apart old.regions own all times (own_apart old entry kept before oldest newer region free rows bytes c)),
@@ -187,7 +194,6 @@ module _ (old entry : Disk) (kept : Kept) (before : List Part) (oldest : Part) (
 
       pub lost_whole : IsWhole (value_of new entry (record kept { free = free; lost = region ∷ []; is_shut = true }))
       lost_whole =
-          let owned = owned_now (taken (value_of new entry shut).room kept.target) (lost_times old entry kept before oldest newer region free rows bytes c new) in
           record {
             geometry = still_geometry old new same c.whole.geometry;
             sound = sound;
@@ -208,8 +214,8 @@ module _ (old entry : Disk) (kept : Kept) (before : List Part) (oldest : Part) (
             told = λ l. absurd (some_lost l);
           }
         where
-          by_side : AreBeside (region ∷ []) (kept.parts ++ kept.retired)
-          by_side = beside old entry kept before oldest newer region free rows bytes c
+          owned : IsOwned (taken (value_of new entry shut).room kept.target)
+          owned = owned_now _ (lost_times old entry kept before oldest newer region free rows bytes c new)
 
       lost_stands : GoesOnStanding (value_of old entry kept) (value_of new entry shut)
       lost_stands =
@@ -260,7 +266,6 @@ module _ (old entry : Disk) (kept : Kept) (before : List Part) (oldest : Part) (
 
       pub gathered_whole : IsWhole (value_of new entry (record kept { parts = before ++ gathered_part region oldest newer rows ∷ []; retired = retire_all (oldest ∷ newer) kept.retired; free = free }))
       gathered_whole =
-          let owned = owned_now (taken (value_of new entry now).room kept.target) (gathered_times old entry kept before oldest newer region free rows bytes c new) in
           record {
             geometry = still_geometry old new same c.whole.geometry;
             sound = sound;
@@ -282,8 +287,8 @@ module _ (old entry : Disk) (kept : Kept) (before : List Part) (oldest : Part) (
             told = λ l. holds_now;
           }
         where
-          by_side : AreBeside (region ∷ []) (kept.parts ++ kept.retired)
-          by_side = beside old entry kept before oldest newer region free rows bytes c
+          owned : IsOwned (taken (value_of new entry now).room kept.target)
+          owned = owned_now _ (gathered_times old entry kept before oldest newer region free rows bytes c new)
 
           moved : IsPermutation (own ∷ (kept.parts ++ kept.retired)) (now.parts ++ now.retired)
           moved = moves old entry kept before oldest newer region free rows bytes c

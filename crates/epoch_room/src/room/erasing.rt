@@ -10,7 +10,7 @@ ghost use Rattle.epoch_room.specs.Meaning.{Keeps};
 ghost use Rattle.epoch_room.specs.Erasing.{Erases, ErasesAll, ErasesAllOr, ErasesLed, ErasesOr, held, unheld};
 
 use super::Room;
-use crate::answers::{EraseFault, RoomFault};
+use crate::answers::{DiskResult, EraseFault, RoomFault};
 use crate::closing::{close_gates, has_failed};
 use crate::led_parts::{add_led, keep_others, unheld_leads};
 use log_disk::{DiskRefusal, LogDisk};
@@ -93,7 +93,7 @@ impl<D: LogDisk> Room<D> {
     }
 
     /// Erases the retired parts that these regions lead, as far as it comes.
-    fn erase_led(&mut self, leads: &[u32]) -> Result<(), DiskRefusal>
+    fn erase_led(&mut self, leads: &[u32]) -> DiskResult<()>
         requires open_room { self.old.room.is_shut ≡ false }
         requires retired { AllByRecursion (λ region. list_any (λ p. p.region == region) self.old.room.retired ≡ true) leads.now }
         requires unnamed { AllByRecursion (λ region. naming_of self.old.room.board region ≡ None) leads.now }

@@ -38,30 +38,38 @@ fn fresh_job(older: Part, newer: Part) -> Job
     }
 }
 
-/// A job of a part and the first of those behind it.
-fn job_with(older: &Part, behind: &[Part]) -> Option<Job>
-    ensures { result ≡ option_map fresh_job (with_next older.now behind.now) }
+/// A part and the first of those behind it.
+fn with_next(older: &Part, behind: &[Part]) -> Option<(Part, Part)>
+    ensures { result ≡ with_next older.now behind.now }
 {
     let newer = behind.first()?;
-    Some(fresh_job(*older, *newer))
+    Some((*older, *newer))
+}
+
+/// The first two neighbours of a chain whose older part begins at an epoch or later.
+#[tactic(auto, unfolding(crate::specs::MergeSteps::neighbours_from))]
+pub fn first_neighbours(parts: &[Part], from: u64) -> Option<(Part, Part)>
+    ensures { result ≡ neighbours_from from parts.now }
+{
+    let mut left = parts;
+    while let Some((older, behind)) = left.split_first() {
+        if from <= older.header.range.first {
+            return with_next(older, behind);
+        }
+        left = behind;
+    }
+    None
 }
 
 /// A job of the first two neighbours whose older part begins at an epoch or later; none of a shut room.
-#[tactic(auto, unfolding(crate::specs::MergeSteps::neighbours_from))]
 fn first_job(parts: &[Part], from: u64, is_shut: bool) -> Option<Job>
     ensures { result ≡ (if is_shut then None else option_map fresh_job (neighbours_from from parts.now)) }
 {
     if is_shut {
         return None;
     }
-    let mut left = parts;
-    while let Some((older, behind)) = left.split_first() {
-        if from <= older.header.range.first {
-            return job_with(older, behind);
-        }
-        left = behind;
-    }
-    None
+    let (older, newer) = first_neighbours(parts, from)?;
+    Some(fresh_job(older, newer))
 }
 
 /// The least number of regions, up to eight, in which so many bytes fit.

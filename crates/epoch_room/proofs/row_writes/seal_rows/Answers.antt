@@ -10,7 +10,16 @@ use Rattle.epoch_room.specs.RowWrites.{WritesRows}
 use Rattle.epoch_room.proofs.OpenEpochs.Gates.{still_unseen}
 use Rattle.epoch_room.proofs.Merges.MergedHeaders.{header_cut}
 use Rattle.epoch_room.proofs.Adopting.SealedRows.{header_fits, seals_refused, seals_then}
+use Rattle.epoch_room.proofs.row_writes.seal_rows.Given.{Over}
+use Rattle.epoch_room.proofs.row_writes.seal_rows.Goals.{After-header_len}
 use Rattle.epoch_room.proofs.row_writes.seal_rows.Goals as goal
+
+-- the bytes that are written behind the gate are those of the header
+cut_header : (g : Over) (c : After-header_len g) → take c.header_len.result c.header_bytes-bytes.result ≡ header_bytes (g.D.LogDisk.state c.args.disk.now).region_len c.args.part.now.header
+cut_header g c =
+    let header = c.args.part.now.header in
+    header_cut _ header c.header_bytes-bytes.result (padding header.mark) c.header_len.result c.requires.place.lies.listed c.header_len.ensures
+    (c.header_bytes-bytes.ensures ∙ ap (λ n. header_bytes n header ++ padding header.mark) (c.region_len.ensures.region_len ∙ c.in_ok-write_rows.ensures.beside.region_len))
 
 pub returns-in_err-write_rows : goal.returns-in_err-write_rows
 returns-in_err-write_rows g c =
@@ -25,14 +34,8 @@ seal_region-requires-clause-there g c κs within = subst (λ n. c.args.part.now.
 
 pub seal_region-requires-clause-within : goal.seal_region-requires-clause-within
 seal_region-requires-clause-within g c κs within =
-    let old = g.D.LogDisk.state c.args.disk.now in
-    let mid = g.D.LogDisk.state c.write_rows.new.disk in
-    let header = c.args.part.now.header in
-    let same : mid.region_len ≡ old.region_len = c.in_ok-write_rows.ensures.beside.region_len in
-    let cut : take c.header_len.result c.header_bytes-bytes.result ≡ header_bytes old.region_len header =
-    header_cut old.region_len header c.header_bytes-bytes.result (padding header.mark) c.header_len.result c.requires.place.lies.listed c.header_len.ensures
-    (c.header_bytes-bytes.ensures ∙ ap (λ n. header_bytes n header ++ padding header.mark) (c.region_len.ensures.region_len ∙ same)) in
-    omega (arith, header_fits c.args.part.now old c.requires.place, ap (λ (xs : List ℕ). length xs) cut, same)
+    let cut = cut_header g (goal.at.seal_region-requires-clause-within g c).After-header_len in
+    omega (arith, header_fits c.args.part.now (g.D.LogDisk.state c.args.disk.now) c.requires.place, ap (λ (xs : List ℕ). length xs) cut, c.in_ok-write_rows.ensures.beside.region_len)
 
 pub seal_region-requires-clause-unseen : goal.seal_region-requires-clause-unseen
 seal_region-requires-clause-unseen g c κs within =
@@ -43,16 +46,12 @@ returns g c =
     let old = g.D.LogDisk.state c.args.disk.now in
     let mid = g.D.LogDisk.state c.write_rows.new.disk in
     let new = g.D.LogDisk.state c.seal_region.new.disk in
-    let part = c.args.part.now in
-    let header = c.args.part.now.header in
-    let w : WritesRows part (body_bytes c.args.rows.now) (Ok c.in_ok-write_rows.field-0) old mid = c.in_ok-write_rows.ensures in
-    let same : mid.region_len ≡ old.region_len = w.beside.region_len in
+    let cut = cut_header g (goal.at.returns g c).After-header_len in
+    let w : WritesRows c.args.part.now (body_bytes c.args.rows.now) (Ok c.in_ok-write_rows.field-0) old mid = c.in_ok-write_rows.ensures in
     let e = c.seal_region.ensures in
+    let lead = c.args.part.now.region in
     let result = c.seal_region.result in
-    let cut : take c.header_len.result c.header_bytes-bytes.result ≡ header_bytes old.region_len header =
-    header_cut old.region_len header c.header_bytes-bytes.result (padding header.mark) c.header_len.result c.requires.place.lies.listed c.header_len.ensures
-    (c.header_bytes-bytes.ensures ∙ ap (λ n. header_bytes n header ++ padding header.mark) (c.region_len.ensures.region_len ∙ same)) in
-    seals_then part c.args.rows.now old mid new c.requires.place w result e.touches.beside e.touches.counts e.touches.sound e.touches.time e.touches.dirties e.read
-    (subst (λ xs. LeavesSealing part.region xs mid new) cut e.leaves) e.synced
-    (subst (λ xs. OnOk result (HasBytes (λ image. with_bytes (with_bytes image part.region 1 xs) part.region 0 gate) mid new)) cut e.bytes)
-    (subst (λ xs. IsErrOf result DiskRefusal.NoMemory → IsUngated part.region xs mid new) cut e.no_memory) e.untouched
+    seals_then c.args.part.now c.args.rows.now old mid new c.requires.place w result e.touches.beside e.touches.counts e.touches.sound e.touches.time e.touches.dirties e.read
+    (subst (λ xs. LeavesSealing lead xs mid new) cut e.leaves) e.synced
+    (subst (λ xs. OnOk result (HasBytes (λ image. with_bytes (with_bytes image lead 1 xs) lead 0 gate) mid new)) cut e.bytes)
+    (subst (λ xs. IsErrOf result DiskRefusal.NoMemory → IsUngated lead xs mid new) cut e.no_memory) e.untouched

@@ -1,6 +1,6 @@
 use Rattle.std.proofs.Common.{◌≡◌, length}
 use Rattle.epoch_room.specs.MergeSteps.{neighbours_from}
-use Rattle.epoch_room.proofs.room.merging.first_job.Given as goal
+use Rattle.epoch_room.proofs.room.merging.first_neighbours.Given as goal
 
 -- the first neighbours of those that are left are the first of all
 abbrev pub invariant-loop-older : goal.invariant-loop-older

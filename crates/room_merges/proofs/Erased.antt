@@ -56,22 +56,22 @@ refused_then a b c fault first second =
 
 module _ (from : ℕ) (old mid : RoomValue) where
   pub erased_false : MergesThrough from old mid (Ok false) → MergesErased from old mid (Ok false)
-  erased_false t = record { rest = t.rest; told = t.told; live = t.live; erased = t.through }
+  erased_false t = record { rest = t.rest; told = t.told; live = t.live; answers = t.answers }
 
   pub erased_fault : (fault : MergeFault) → MergesThrough from old mid (Err fault) → MergesErased from old mid (Err fault)
-  erased_fault (merge_fault.Fetch fault) t = record { rest = t.rest; told = t.told; live = t.live; erased = t.through }
-  erased_fault (merge_fault.Room room_fault.NoMemory) t = record { rest = t.rest; told = t.told; live = t.live; erased = (t.through.0, inl t.through.1, inl t.through.2) }
-  erased_fault (merge_fault.Room room_fault.Disk) t = record { rest = t.rest; told = t.told; live = t.live; erased = (t.through.0, inl t.through.1, inl t.through.2) }
-  erased_fault (merge_fault.Room (room_fault.Shut epoch)) t = record { rest = t.rest; told = t.told; live = t.live; erased = t.through }
+  erased_fault (merge_fault.Fetch fault) t = record { rest = t.rest; told = t.told; live = t.live; answers = t.answers }
+  erased_fault (merge_fault.Room room_fault.NoMemory) t = record { rest = t.rest; told = t.told; live = t.live; answers = (t.answers.0, inl t.answers.1, inl t.answers.2) }
+  erased_fault (merge_fault.Room room_fault.Disk) t = record { rest = t.rest; told = t.told; live = t.live; answers = (t.answers.0, inl t.answers.1, inl t.answers.2) }
+  erased_fault (merge_fault.Room (room_fault.Shut epoch)) t = record { rest = t.rest; told = t.told; live = t.live; answers = t.answers }
 
 module _ (from : ℕ) (old mid new : RoomValue) (merges : MergesThrough from old mid (Ok true)) where
   two_still : new.room.parts ≡ mid.room.parts → MergesTwo old.room.parts new.room.parts
-  two_still same = two_from old.room.parts old.room.parts mid.room.parts new.room.parts refl same merges.through.1.first.merged
+  two_still same = two_from old.room.parts old.room.parts mid.room.parts new.room.parts refl same merges.answers.1.first.merged
 
   first_from' : new.room.parts ≡ mid.room.parts → TellsStill mid new → MergesFirst from old new
   unfolding two_from two_still
   first_from' same told =
-      let f = merges.through.1.first in
+      let f = merges.answers.1.first in
       let there = part_in old.room.parts mid.room.parts f.merged in
       record {
         merged = two_still same;
@@ -100,7 +100,7 @@ module _ (from : ℕ) (old mid new : RoomValue) (merges : MergesThrough from old
   -- and the two were erased behind it, as far as that came
   and_erases : (result : Result (Unit {0}) MergeFault) → Empties mid new result → MergesAndErases from old new result
   unfolding first_from'
-  and_erases result e = record { first = first_from' e.parts e.told; last = subst (λ v. AllErased v new result) (sym merges.through.1.is_done) e.all }
+  and_erases result e = record { first = first_from' e.parts e.told; last = subst (λ v. AllErased v new result) (sym merges.answers.1.is_done) e.all }
 
   told_both : new.room.parts ≡ mid.room.parts → TellsStill mid new → TellsStill old new
   told_both same told p rows there still tells =
@@ -111,15 +111,15 @@ module _ (from : ℕ) (old mid new : RoomValue) (merges : MergesThrough from old
   live_both same live = live_then old mid new (λ p there still. subst (λ ps. Contains ps p) same still) merges.live live
 
   pub erased_true : (u : Unit {0}) → Empties mid new (Ok u) → MergesErased from old new (Ok true)
-  erased_true u e = record { rest = rest_then old mid new merges.rest e.rest; told = told_both e.parts e.told; live = live_both e.parts e.live; erased = (well_then old mid new merges.through.0 e.empties.0, and_erases (Ok u) e, e.empties.1) }
+  erased_true u e = record { rest = rest_then old mid new merges.rest e.rest; told = told_both e.parts e.told; live = live_both e.parts e.live; answers = (well_then old mid new merges.answers.0 e.empties.0, and_erases (Ok u) e, e.empties.1) }
 
   pub erased_after : (fault : MergeFault) → Empties mid new (Err fault) → MergesErased from old new (Err fault)
   erased_after (merge_fault.Fetch fault) e = absurd e.empties
   erased_after (merge_fault.Room room_fault.NoMemory) e =
-      record { rest = rest_then old mid new merges.rest e.rest; told = told_both e.parts e.told; live = live_both e.parts e.live; erased = (well_then old mid new merges.through.0 e.empties, inr (first_from' e.parts e.told), inr (and_erases (Err (merge_fault.Room room_fault.NoMemory)) e)) }
+      record { rest = rest_then old mid new merges.rest e.rest; told = told_both e.parts e.told; live = live_both e.parts e.live; answers = (well_then old mid new merges.answers.0 e.empties, inr (first_from' e.parts e.told), inr (and_erases (Err (merge_fault.Room room_fault.NoMemory)) e)) }
   erased_after (merge_fault.Room room_fault.Disk) e =
-      record { rest = rest_then old mid new merges.rest e.rest; told = told_both e.parts e.told; live = live_both e.parts e.live; erased = (shut_then old mid new merges.through.0 e.empties, inr (first_from' e.parts e.told), inr (and_erases (Err (merge_fault.Room room_fault.Disk)) e)) }
-  erased_after (merge_fault.Room (room_fault.Shut epoch)) e = absurd (true≢false (sym e.empties.0 ∙ merges.through.0.stays))
+      record { rest = rest_then old mid new merges.rest e.rest; told = told_both e.parts e.told; live = live_both e.parts e.live; answers = (shut_then old mid new merges.answers.0 e.empties, inr (first_from' e.parts e.told), inr (and_erases (Err (merge_fault.Room room_fault.Disk)) e)) }
+  erased_after (merge_fault.Room (room_fault.Shut epoch)) e = absurd (true≢false (sym e.empties.0 ∙ merges.answers.0.stays))
 
 -- ---- and what was retired before
 
@@ -151,25 +151,25 @@ module _ (from : ℕ) (old mid new : RoomValue) (u : Unit {0}) (first : Empties 
     told = told_either e.told;
     live = live_either e.live;
     near = (
-      well_then old mid new first.empties.0 e.erased.0,
-      two_from mid.room.parts old.room.parts new.room.parts new.room.parts first.parts refl e.erased.1.first.merged,
-      e.erased.2,
-      record { erased = mid; erases = first; merges = e.erased.1.first },
-      record { erased = mid; erases = first; merges = e.erased.1 },
+      well_then old mid new first.empties.0 e.answers.0,
+      two_from mid.room.parts old.room.parts new.room.parts new.room.parts first.parts refl e.answers.1.first.merged,
+      e.answers.2,
+      record { erased = mid; erases = first; merges = e.answers.1.first },
+      record { erased = mid; erases = first; merges = e.answers.1 },
     );
   }
   near_then (Ok false) e = record {
     rest = rest_then old mid new first.rest e.rest;
     told = told_either e.told;
     live = live_either e.live;
-    near = (well_then old mid new first.empties.0 e.erased.0, e.erased.1 ∙ first.parts, e.erased.2 ∙ first.empties.1, e.erased.3, e.erased.4);
+    near = (well_then old mid new first.empties.0 e.answers.0, e.answers.1 ∙ first.parts, e.answers.2 ∙ first.empties.1, e.answers.3, e.answers.4);
   }
   near_then (Err (merge_fault.Fetch fault)) e = record {
     rest = rest_then old mid new first.rest e.rest;
     told = told_either e.told;
     live = live_either e.live;
-    near = (refused_then old mid new fault first.empties.0 e.erased.0, e.erased.1 ∙ first.parts, e.erased.2 ∙ first.empties.1, e.erased.3);
+    near = (refused_then old mid new fault first.empties.0 e.answers.0, e.answers.1 ∙ first.parts, e.answers.2 ∙ first.empties.1, e.answers.3);
   }
-  near_then (Err (merge_fault.Room room_fault.NoMemory)) e = record { rest = rest_then old mid new first.rest e.rest; told = told_either e.told; live = live_either e.live; near = (well_then old mid new first.empties.0 e.erased.0, same_or e.erased.1, comes_to room_fault.NoMemory e.erased.2) }
-  near_then (Err (merge_fault.Room room_fault.Disk)) e = record { rest = rest_then old mid new first.rest e.rest; told = told_either e.told; live = live_either e.live; near = (shut_then old mid new first.empties.0 e.erased.0, same_or e.erased.1, comes_to room_fault.Disk e.erased.2) }
-  near_then (Err (merge_fault.Room (room_fault.Shut epoch))) e = absurd (true≢false (sym e.erased.0 ∙ first.empties.0.stays))
+  near_then (Err (merge_fault.Room room_fault.NoMemory)) e = record { rest = rest_then old mid new first.rest e.rest; told = told_either e.told; live = live_either e.live; near = (well_then old mid new first.empties.0 e.answers.0, same_or e.answers.1, comes_to room_fault.NoMemory e.answers.2) }
+  near_then (Err (merge_fault.Room room_fault.Disk)) e = record { rest = rest_then old mid new first.rest e.rest; told = told_either e.told; live = live_either e.live; near = (shut_then old mid new first.empties.0 e.answers.0, same_or e.answers.1, comes_to room_fault.Disk e.answers.2) }
+  near_then (Err (merge_fault.Room (room_fault.Shut epoch))) e = absurd (true≢false (sym e.answers.0 ∙ first.empties.0.stays))

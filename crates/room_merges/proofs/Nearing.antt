@@ -6,6 +6,7 @@ use Rattle.fine_model.specs.declared.FetchFault.{FetchFault}
 use Rattle.fine_model.specs.declared.Part.{Part}
 use Rattle.fine_model.specs.declared.law.RoomState.{RoomState}
 use Rattle.fine_model.specs.Merge.{FitsFree}
+use Rattle.partition_hold.specs.SourceLaws.{same_itself, same_on}
 use Rattle.partition_hold.specs.Views.{SameView, ViewValue}
 use Rattle.partition_merge.specs.declared.merger.Measure.{Measure}
 use Rattle.partition_merge.specs.Mergers.{IsMeasureOf, at_front}
@@ -20,7 +21,7 @@ use Rattle.room_merges.specs.Pairs.{AreTried, IsRefused, LosesPart, MergesPair}
 use Rattle.room_merges.specs.Work.{LosesFor, StaysOpen, same_job}
 use Rattle.room_merges.proofs.Chained.{told_before}
 use Rattle.room_merges.proofs.Pairing.{some_none, some_same}
-use Rattle.room_merges.proofs.Working.{falls_then, looks_sound, looks_then, stays_itself, stays_then, view_back, view_itself, view_later}
+use Rattle.room_merges.proofs.Working.{falls_then, looks_sound, looks_then, stays_itself, stays_then, view_back}
 
 -- ---- the neighbours of a chain
 
@@ -223,7 +224,7 @@ pub none_tried : (from : ℕ) (value : RoomValue) (view : ViewValue) → IsWhole
 none_tried from value view whole none = record {
   low = omega arith;
   room = stays_itself value None whole none;
-  unmoved = view_itself view;
+  unmoved = same_itself view;
   steady = refl;
   none = empty_between from from (InVain value view) value.room.parts (omega arith);
 }
@@ -302,7 +303,7 @@ module _ (from at : ℕ) (old mid : RoomValue) (view seen : ViewValue) (whole : 
       record {
         low = (let low = so_far.low in let less = tried_less next is in omega (arith, low, less));
         room = stays_on new done.room.room.stays;
-        unmoved = view_later view seen view' so_far.unmoved done.looks.same;
+        unmoved = same_on view seen view' so_far.unmoved done.looks.same;
         steady = done.looks.counts.else_same (λ failed. cc) ∙ so_far.steady;
         none = subst (λ n. NoneBetween from n old view) (sym found.2)
             (more_between from at 1 (InVain old view) old.room.parts two whole.in_chain.follow (subst (λ ps. neighbours_from at ps ≡ Some two) same_parts found.1) vain so_far.none);
@@ -385,7 +386,7 @@ tries_then S T N M L K B C old mid new view seen view' (Err (merge_fault.Room (r
 
 at_then : (at : ℕ) (old mid new : RoomValue) (view seen : ViewValue) → StaysOpen None old.room.free old mid → SameView view seen → MergesAt at mid new seen → MergesAt at old new view
 at_then at old mid new view seen stays same merges =
-    record { mid = merges.mid; seen = merges.seen; stays = open_then old mid merges.mid stays merges.stays; same = view_later view seen merges.seen same merges.same; merges = merges.merges }
+    record { mid = merges.mid; seen = merges.seen; stays = open_then old mid merges.mid stays merges.stays; same = same_on view seen merges.seen same merges.same; merges = merges.merges }
 
 -- the first between an epoch and the end is the first of all
 first_high : (from : ℕ) (old : RoomValue) (view : ViewValue) (P : ℕ → Type 0) → FirstBetween from epochs_end old view P → FirstOf from old view P

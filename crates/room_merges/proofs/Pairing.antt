@@ -18,6 +18,7 @@ use Rattle.log_disk.proofs.Times.{continues_then}
 use Rattle.node_fetch.specs.Fetched.{NoDamage}
 use Rattle.partition_index.specs.Parts.{CountsFaults}
 use Rattle.partition_index.specs.Search.{TellsRows as TellsPart}
+use Rattle.partition_hold.specs.SourceLaws.{same_itself}
 use Rattle.partition_hold.specs.Views.{SameView, ViewValue}
 use Rattle.partition_merge.specs.declared.merger.Measure.{Measure}
 use Rattle.partition_merge.specs.declared.merger.Merger.{Merger}
@@ -40,7 +41,7 @@ use Rattle.room_merges.specs.Merging.{EyeTells, HoldsBody, HoldsJoined, IsOut, M
 use Rattle.room_merges.specs.Pairs.{IsReady, AreTried, IsPartSealed, IsPassedOver, IsRefused, LosesPart, MergesJob, MergesMeasured, MergesPair, SealsPart, StaysAsIs, WritesPart, header_for, job_for, measure_in}
 use Rattle.room_merges.specs.Work.{FallsShut, LosesFor, RefusesOr, StaysOpen, WritesAll, same_job}
 use Rattle.room_merges.proofs.Chained.{body_is_written, told_before, told_of}
-use Rattle.room_merges.proofs.Working.{all_lost, blamed, falls_then, looks_refused, looks_sound, looks_then, of_same, refuses_then, stays_itself, stays_then, view_back, view_itself}
+use Rattle.room_merges.proofs.Working.{all_lost, blamed, falls_then, looks_refused, looks_sound, looks_then, of_same, refuses_then, stays_itself, stays_then, view_back}
 
 pub some_none : {A : Type 0} (x : A) → Some x ≡ None → ⊥
 some_none x is = cc
@@ -199,7 +200,7 @@ none_taken old new view job job' measure whole out measured none job_is room_is 
             some_none fits.regions (sym (fit_taken old.room a b fits) ∙ ap (regions_for_job old.room) (sym (measured a b older_told newer_told)) ∙ none),
         inl none,
       );
-      looks = looks_sound view view (Ok false) (view_itself view) refl (λ failed. cc);
+      looks = looks_sound view view (Ok false) (same_itself view) refl (λ failed. cc);
     }
 
 -- what a refusal leaves free
@@ -529,7 +530,7 @@ module _ (from : ℕ) (old mid : RoomValue) (view : ViewValue) (job : Job) (trie
           read = λ two tried. absurd (none two tried);
           none = λ two tried. absurd (none two tried);
         };
-        looks = looks_sound view view (Ok false) (view_itself view) refl (λ failed. cc);
+        looks = looks_sound view view (Ok false) (same_itself view) refl (λ failed. cc);
       }
 
   later_open : (new last : RoomValue) (job' : Job) → StaysOpen (Some job') new.room.free mid new → GivesUp new last → StaysAsIs old last
@@ -637,11 +638,11 @@ pair_none from old new view none opened whole first is =
         read = λ two tried. absurd (no_two two tried);
         none = λ two tried. absurd (no_two two tried);
       };
-      looks = looks_sound view view (Ok false) (view_itself view) refl (λ failed. cc);
+      looks = looks_sound view view (Ok false) (same_itself view) refl (λ failed. cc);
     }
 
 pub pair_shut : (from epoch : ℕ) (value : RoomValue) (view : ViewValue) → value.room.is_shut ≡ true → epoch ≡ value.room.sealed → MergesPair from value value view view (Err (merge_fault.Room (room_fault.Shut epoch)))
 pair_shut from epoch value view shut is = record {
   room = (shut, is, refl);
-  looks = looks_sound view view (Err (merge_fault.Room (room_fault.Shut epoch))) (view_itself view) refl (λ failed. cc);
+  looks = looks_sound view view (Err (merge_fault.Room (room_fault.Shut epoch))) (same_itself view) refl (λ failed. cc);
 }

@@ -20,6 +20,7 @@ use Rattle.fine_model.specs.Views.{SameSeen, TellsRowsOf}
 use Rattle.log_disk.specs.Disk.{Told}
 use Rattle.partition_merge.specs.declared.merger.Measure.{Measure}
 use Rattle.partition_merge.specs.Mergers.{measure_of}
+use Rattle.partition_hold.specs.SourceLaws.{same_itself}
 use Rattle.partition_hold.specs.Views.{IsView, SameView, ViewValue, opened}
 use Rattle.epoch_room.specs.Closing.{ReadsButGates}
 use Rattle.epoch_room.specs.Erasing.{ErasesAllOr, FreesThese, erased_state, held, led_by, left_state, unheld}
@@ -42,7 +43,7 @@ use Rattle.room_merges.specs.declared.fault.MergeFault.{MergeFault}
 use Rattle.room_merges.specs.declared.fault.MergeFault.TheVariants as merge_fault
 use Rattle.room_merges.specs.Live.{KeepsLive}
 use Rattle.room_merges.specs.Merging.{EyeTells, IsOut, OfBytes, OfTold}
-use Rattle.room_merges.specs.Near.{AllInVain, BlamedAny, BlamedFirst, BlamesTwo, Empties, InVain, IsReadRefused, IsShutNow, IsViewOf, IsWell, KeepsRest, LosesAny, LosesFirst, MergesAny, MergesThrough, MergesTwo, NoneBefore, NoneFitNow, OfNeighbours, StandIn, TellsJoined, TellsStill, TriesAll, Unfit}
+use Rattle.room_merges.specs.Near.{AllInVain, BlamedAny, BlamedFirst, BlamesTwo, Empties, InVain, IsReadRefused, IsShutNow, IsViewOf, IsWell, KeepsRest, LosesAny, LosesFirst, MergesAny, MergesThrough, MergesTwo, NoneBefore, NoneFitNow, OfNeighbours, StandIn, TellsJoined, TellsStill, TriesAll, Unfit, MayTry}
 use Rattle.room_merges.specs.Pairs.{Merges, header_for, job_for}
 use Rattle.room_merges.specs.Work.{FallsShut, Looks, StaysOpen}
 use Rattle.room_merges.proofs.Chained.{shown_by_eye, told_before}
@@ -50,7 +51,7 @@ use Rattle.room_merges.proofs.Living.{erased_live, live_itself, live_same, seen_
 use Rattle.room_merges.proofs.Nearing.{all_on, before_on, loses_on, of_at, of_each, read_back, regions_same, stand_in}
 use Rattle.room_merges.proofs.Pairing.{some_none, some_same}
 use Rattle.room_merges.proofs.Telling.{both_fit, erased_tells, held_image, measured_rows, merged_rows, part_in, seen_back, seen_by, seen_within, tells_itself, tells_same, told_by_disk}
-use Rattle.room_merges.proofs.Working.{blames_back, posted_then, view_back, view_itself}
+use Rattle.room_merges.proofs.Working.{blames_back, posted_then, view_back}
 
 -- ---- what stays
 
@@ -280,16 +281,16 @@ module _ (old new : RoomValue) (whole : IsWhole old) (none : old.room.job ≡ No
         live =
             live_same old new
             (ap (λ (r : RoomState). r.image) steps.room ∙ ap (λ told. option_map (λ (t : Told). t.bytes) told) told ∙ sym (ap (λ (r : RoomState). r.image) whole.of_disk));
-        through = (
+        answers = (
           record { opened = shuts.0; shut = ap (λ (r : RoomState). r.is_shut) steps.room; fails = shuts.2 },
           ap (λ (r : RoomState). r.parts) steps.room,
           (ap (λ (r : RoomState). r.retired) steps.room, inl (ap (λ (r : RoomState). r.lost) steps.room ∙ none_lost)),
         );
       }
-  no_view (room_fault.Shut epoch) was = record { rest = subst (KeepsRest old) (sym was.2) (rest_itself old whole none); told = subst (TellsStill old) (sym was.2) (tells_itself old); live = subst (KeepsLive old) (sym was.2) (live_itself old); through = was }
+  no_view (room_fault.Shut epoch) was = record { rest = subst (KeepsRest old) (sym was.2) (rest_itself old whole none); told = subst (TellsStill old) (sym was.2) (tells_itself old); live = subst (KeepsLive old) (sym was.2) (live_itself old); answers = was }
   no_view room_fault.NoMemory (opened_room, same) =
       let is : ErasesWell old new = subst (ErasesWell old) (sym same) (erases_none old whole none opened_room) in
-      record { rest = is.rest; told = subst (TellsStill old) (sym same) (tells_itself old); live = subst (KeepsLive old) (sym same) (live_itself old); through = (is.well, is.parts, (ap (λ (v : RoomValue). v.room.retired) same, ap (λ (v : RoomValue). v.room.free) same)) }
+      record { rest = is.rest; told = subst (TellsStill old) (sym same) (tells_itself old); live = subst (KeepsLive old) (sym same) (live_itself old); answers = (is.well, is.parts, (ap (λ (v : RoomValue). v.room.retired) same, ap (λ (v : RoomValue). v.room.free) same)) }
 
 -- ---- a view
 
@@ -320,8 +321,8 @@ module _ (old mid : RoomValue) (view : ViewValue) (whole : IsWhole old) (all : l
   pub view_open : mid.room.is_shut ≡ false
   view_open = ap (λ (r : RoomState). r.is_shut) views.posts.1.room ∙ views.posts.0
 
-  pub view_no_job : old.room.job ≡ None → mid.room.job ≡ None
-  view_no_job none = ap (λ (r : RoomState). r.job) views.posts.1.room ∙ none
+  pub view_tries : old.room.job ≡ None → MayTry mid view
+  view_tries none = record { idle = record { no_job = ap (λ (r : RoomState). r.job) views.posts.1.room ∙ none; posted = view_posted; region_len = view_len }; opened = view_open; parts = view_parts }
 
 -- ---- what a whole room tells of its live parts
 
@@ -516,7 +517,7 @@ module _ (old mid tried new : RoomValue) (view view' : ViewValue) (is : Passes o
   free_first = ap (λ (r : RoomState). r.free) is.views.posts.1.room
 
   same_before : (from at : ℕ) → NoneBefore from at mid view → NoneBefore from at old view
-  same_before from at before = before_on old mid view view parts_first is.first.becomes.region_len free_first (view_itself view) from at before
+  same_before from at before = before_on old mid view view parts_first is.first.becomes.region_len free_first (same_itself view) from at before
 
   len_last : StaysOpen None mid.room.free mid tried → new.room.region_len ≡ mid.room.region_len
   len_last stays = is.last.becomes.region_len ∙ stays.keeps.becomes.region_len
@@ -532,7 +533,7 @@ module _ (old mid tried new : RoomValue) (view view' : ViewValue) (is : Passes o
   all_in_vain stays none = record {
     view = view;
     of_chain = of_chain_last (ap (λ (r : RoomState). r.parts) stays.room);
-    none = all_on new mid view view (sym (parts_last stays)) (sym (len_last stays)) (sym (free_last stays)) (view_itself view) none;
+    none = all_on new mid view view (sym (parts_last stays)) (sym (len_last stays)) (sym (free_last stays)) (same_itself view) none;
   }
 
   -- or one was refused
@@ -542,7 +543,7 @@ module _ (old mid tried new : RoomValue) (view view' : ViewValue) (is : Passes o
     of_chain = of_chain_last (ap (λ (r : RoomState). r.parts) stays.room);
     blamed = (
       at,
-      before_on new mid view view (sym (parts_last stays)) (sym (len_last stays)) (sym (free_last stays)) (view_itself view) from at before,
+      before_on new mid view view (sym (parts_last stays)) (sym (len_last stays)) (sym (free_last stays)) (same_itself view) from at before,
       record {
         two = blamed.two;
         first = subst (λ ps. neighbours_from at ps ≡ Some blamed.two) (sym (parts_last stays)) blamed.first;
@@ -559,7 +560,7 @@ module _ (old mid tried new : RoomValue) (view view' : ViewValue) (is : Passes o
     loses = (
       at,
       same_before from at before,
-      loses_on old mid view view parts_first is.first.becomes.region_len free_first (view_itself view) at new tried (ap (λ (r : RoomState). r.lost) is.back.room.room) loses,
+      loses_on old mid view view parts_first is.first.becomes.region_len free_first (same_itself view) at new tried (ap (λ (r : RoomState). r.lost) is.back.room.room) loses,
     );
   }
 
@@ -658,7 +659,7 @@ module _ (old mid tried new : RoomValue) (view view' : ViewValue) (is : Passes o
         rest = rest_all rest;
         told = told_all;
         live = live_all;
-        through = (
+        answers = (
           well,
           record {
             first = record {
@@ -704,7 +705,7 @@ module _ (old mid tried new : RoomValue) (view view' : ViewValue) (is : Passes o
         rest = rest_all (rest_stays mid.room.free mid tried stays);
         told = told_all;
         live = live_all;
-        through = (well, parts_all (ap (λ (r : RoomState). r.parts) stays.room), retired_all (ap (λ (r : RoomState). r.retired) stays.room), none_fit well.stays stays tries.room.1, all_in_vain stays tries.room.1);
+        answers = (well, parts_all (ap (λ (r : RoomState). r.parts) stays.room), retired_all (ap (λ (r : RoomState). r.retired) stays.room), none_fit well.stays stays tries.room.1, all_in_vain stays tries.room.1);
       }
   passed from (Err (merge_fault.Fetch fault)) tries =
       let stays = tries.room.0 in
@@ -712,7 +713,7 @@ module _ (old mid tried new : RoomValue) (view view' : ViewValue) (is : Passes o
         rest = rest_all (rest_stays mid.room.free mid tried stays);
         told = told_all;
         live = live_all;
-        through = (refused_all fault stays tries.looks tries.room.1, parts_all (ap (λ (r : RoomState). r.parts) stays.room), retired_all (ap (λ (r : RoomState). r.retired) stays.room), blamed_first from fault stays tries.room.2);
+        answers = (refused_all fault stays tries.looks tries.room.1, parts_all (ap (λ (r : RoomState). r.parts) stays.room), retired_all (ap (λ (r : RoomState). r.retired) stays.room), blamed_first from fault stays tries.room.2);
       }
   passed from (Err (merge_fault.Room room_fault.NoMemory)) tries =
       let stays = tries.room in
@@ -721,7 +722,7 @@ module _ (old mid tried new : RoomValue) (view view' : ViewValue) (is : Passes o
         rest = rest_all (rest_stays mid.room.free mid tried stays);
         told = told_all;
         live = live_all;
-        through = (
+        answers = (
           well_all open_room stays.counts (tries.looks.counts.else_same (λ failed. cc)),
           parts_all (ap (λ (r : RoomState). r.parts) stays.room),
           (retired_all (ap (λ (r : RoomState). r.retired) stays.room), free_all (ap (λ (r : RoomState). r.free) stays.room)),
@@ -733,7 +734,7 @@ module _ (old mid tried new : RoomValue) (view view' : ViewValue) (is : Passes o
         rest = rest_all (rest_falls tried.room.free mid tried falls);
         told = told_all;
         live = live_all;
-        through = (
+        answers = (
           shut_all falls,
           parts_all (ap (λ (r : RoomState). r.parts) falls.room),
           (retired_all (ap (λ (r : RoomState). r.retired) falls.room), inr (loses_first from tries.room.1)),

@@ -16,6 +16,7 @@ use Rattle.fine_model.specs.Regions.{Image, Place, body_len}
 use Rattle.fine_model.specs.RowBytes.{rows_len}
 use Rattle.log_disk.specs.Disk.{Eye, HasRisen}
 use Rattle.node_fetch.specs.Fetched.{HasBadEntry, HasBadRow, NoDamage}
+use Rattle.partition_hold.specs.SourceLaws.{same_itself, same_on}
 use Rattle.partition_hold.specs.Views.{SameView, ViewValue, opened}
 use Rattle.partition_index.specs.Parts.{CountsFaults}
 use Rattle.partition_index.specs.Search.{TellsRows as TellsPart}
@@ -99,18 +100,6 @@ steps_then j k f g a b c (Err fault) first second = refuses_then j k f g a b c f
 
 -- ---- the view
 
-pub view_later : (u v w : ViewValue) → SameView u v → SameView v w → SameView u w
-view_later u v w f s = record {
-  eye = record { number = s.eye.number ∙ f.eye.number; regions = s.eye.regions ∙ f.eye.regions; region_len = s.eye.region_len ∙ f.eye.region_len; told = s.eye.told ∙ f.eye.told };
-  parts = s.parts ∙ f.parts;
-  upto = s.upto ∙ f.upto;
-  place = (s.place.0 ∙ f.place.0, s.place.1 ∙ f.place.1);
-  region_len = s.region_len ∙ f.region_len;
-}
-
-pub view_itself : (v : ViewValue) → SameView v v
-view_itself v = record { eye = record { number = refl; regions = refl; region_len = refl; told = refl }; parts = refl; upto = refl; place = (refl, refl); region_len = refl }
-
 -- the same view, the other way round
 pub view_back : (v w : ViewValue) → SameView v w → SameView w v
 view_back v w s = record {
@@ -136,7 +125,7 @@ posted_then a b v w board same posted =
 -- no read failed so far, and the answer of the next look is that of both
 pub looks_then : {A : Type 0} (u v w : ViewValue) (result : Result A MergeFault) → SameView u v → v.eye.faults ≡ u.eye.faults → Looks v w result → Looks u w result
 looks_then u v w result same steady looks = record {
-  same = view_later u v w same looks.same;
+  same = same_on u v w same looks.same;
   counts = record {
     rises = λ failed. subst (λ n. HasRisen n w.eye.faults) steady (looks.counts.rises failed);
     no_lower = subst (λ n. n ≤ w.eye.faults) steady looks.counts.no_lower;
@@ -388,7 +377,7 @@ pub record Writing (header : Header) (old new : RoomValue) (view view' : ViewVal
 pub none_written : (header : Header) (value : RoomValue) (view : ViewValue) (blocks : BlocksValue) (job : Job) → IsWhole value → value.room.job ≡ Some job → job.written ≤ body_len header → IsWriting value view blocks job
     → Writing header value value view view blocks job job
 none_written header value view blocks job whole out within writing =
-    record { room = stays_itself value (Some job) whole out; unmoved = view_itself view; steady = refl; same = refl; within = within; writing = writing }
+    record { room = stays_itself value (Some job) whole out; unmoved = same_itself view; steady = refl; same = refl; within = within; writing = writing }
 
 module _ (header : Header) (old mid new : RoomValue) (view seen view' : ViewValue) (blocks blocks' : BlocksValue) (job before job' : Job) where
   one_more : {A : Type 0} (result : Result A MergeFault) → Writing header old mid view seen blocks job before → StepsOr (Some job') mid.room.free mid new result → StepsOr (Some job') old.room.free old new result
@@ -402,7 +391,7 @@ module _ (header : Header) (old mid new : RoomValue) (view seen view' : ViewValu
   pub more_written : Writing header old mid view seen blocks job before → WritesNext header mid new seen view' blocks' before job' (Ok progress.Written) → Writing header old new view view' blocks' job job'
   more_written so_far next = record {
     room = one_more (Ok progress.Written) so_far next.room;
-    unmoved = view_later view seen view' so_far.unmoved next.looks.same;
+    unmoved = same_on view seen view' so_far.unmoved next.looks.same;
     steady = next.looks.counts.else_same (λ failed. cc) ∙ so_far.steady;
     same = still so_far next.same;
     within = next.next.1;
@@ -413,7 +402,7 @@ module _ (header : Header) (old mid new : RoomValue) (view seen view' : ViewValu
       → Writing header old mid view seen blocks job before → WritesNext header mid new seen view' blocks' before job' (Ok progress.Ended) → WritesAll header old new view view' job job' (Ok is_whole)
   all_written is_whole total less so_far next = record {
     room = one_more (Ok is_whole) so_far next.room;
-    looks = looks_sound view view' (Ok is_whole) (view_later view seen view' so_far.unmoved next.looks.same) (next.looks.counts.else_same (λ failed. cc) ∙ so_far.steady) (λ failed. cc);
+    looks = looks_sound view view' (Ok is_whole) (same_on view seen view' so_far.unmoved next.looks.same) (next.looks.counts.else_same (λ failed. cc) ∙ so_far.steady) (λ failed. cc);
     same = still so_far next.same;
     all = by is_whole total less;
   }
@@ -425,7 +414,7 @@ module _ (header : Header) (old mid new : RoomValue) (view seen view' : ViewValu
   pub too_long : Writing header old mid view seen blocks job before → WritesNext header mid new seen view' blocks' before job' (Ok progress.TooLong) → WritesAll header old new view view' job job' (Ok false)
   too_long so_far next = record {
     room = one_more (Ok false) so_far next.room;
-    looks = looks_sound view view' (Ok false) (view_later view seen view' so_far.unmoved next.looks.same) (next.looks.counts.else_same (λ failed. cc) ∙ so_far.steady) (λ failed. cc);
+    looks = looks_sound view view' (Ok false) (same_on view seen view' so_far.unmoved next.looks.same) (next.looks.counts.else_same (λ failed. cc) ∙ so_far.steady) (λ failed. cc);
     same = still so_far next.same;
     all = λ a b older_told newer_told is. (let over = next.next a b older_told newer_told in omega (arith, over, is));
   }
@@ -464,7 +453,7 @@ begins value view blocks job region_len most out has_older has_newer none is_len
 pub none_allocated : (header : Header) (value : RoomValue) (view : ViewValue) (job : Job) → IsWhole value → value.room.job ≡ Some job → WritesAll header value value view view job job (Err (merge_fault.Room room_fault.NoMemory))
 none_allocated header value view job whole out = record {
   room = stays_itself value (Some job) whole out;
-  looks = looks_sound view view (Err (merge_fault.Room room_fault.NoMemory)) (view_itself view) refl (λ failed. cc);
+  looks = looks_sound view view (Err (merge_fault.Room room_fault.NoMemory)) (same_itself view) refl (λ failed. cc);
   same = refl;
   all = tt;
 }

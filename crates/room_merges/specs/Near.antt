@@ -29,7 +29,7 @@ use Rattle.room_merges.specs.declared.fault.MergeFault.{MergeFault}
 use Rattle.room_merges.specs.declared.fault.MergeFault.TheVariants as merge_fault
 use Rattle.room_merges.specs.Live.{KeepsLive}
 use Rattle.room_merges.specs.Merging.{EyeTells, OfBytes, OfTold}
-use Rattle.room_merges.specs.Pairs.{IsPassedOver, LosesPart, Merges, header_for, job_for}
+use Rattle.room_merges.specs.Pairs.{IsIdle, IsPassedOver, LosesPart, Merges, header_for, job_for}
 use Rattle.room_merges.specs.Work.{BlamedBy, FallsShut, Looks, StaysOpen}
 
 -- ---- the neighbours of a chain
@@ -73,6 +73,12 @@ pub record MergesTwo (old new : List Part) : Type 0 where
   pub less : length new + 1 ≡ length old
 
 -- ---- through a view
+
+-- no merge is out of an open room, and a view of all its live parts is
+pub record MayTry (value : RoomValue) (view : ViewValue) : Type 0 where
+  pub idle : IsIdle value view
+  pub opened : value.room.is_shut ≡ false
+  pub parts : view.parts ≡ value.room.parts
 
 -- the neighbours at an epoch were merged; before, the room was as it is but for what its disk holds
 pub record MergesAt (at : ℕ) (old new : RoomValue) (view : ViewValue) : Type 0 where
@@ -265,6 +271,13 @@ StopsBetween from old new room_fault.NoMemory = (new.room.retired ≡ old.room.r
 StopsBetween from old new room_fault.Disk = (new.room.retired ≡ old.room.retired) × ((new.room.lost ≡ []) ⊎ LosesFirst from old new)
 StopsBetween from old new (room_fault.Shut epoch) = ⊥
 
+-- No merge is out, what stands in both chains tells what it told and has the bytes that it had, and the rest is so by the answer.
+pub record MergesAs (Or : RoomValue → RoomValue → Result Bool MergeFault → Type 0) (old new : RoomValue) (result : Result Bool MergeFault) : Type 0 where
+  pub rest : KeepsRest old new
+  pub told : TellsStill old new
+  pub live : KeepsLive old new
+  pub answers : Or old new result
+
 -- what merging through a view of all live parts does
 abbrev pub ThroughOr : ℕ → RoomValue → RoomValue → Result Bool MergeFault → Type 0
 ThroughOr from old new (Ok true) = IsWell old new × MergesDone from old new
@@ -275,11 +288,8 @@ ThroughOr from old new (Err (merge_fault.Room room_fault.NoMemory)) = IsWell old
 ThroughOr from old new (Err (merge_fault.Room room_fault.Disk)) = IsShutNow old new × (new.room.parts ≡ old.room.parts) × StopsBetween from old new room_fault.Disk
 ThroughOr from old new (Err (merge_fault.Room (room_fault.Shut epoch))) = WasShut epoch old new
 
-pub record MergesThrough (from : ℕ) (old new : RoomValue) (result : Result Bool MergeFault) : Type 0 where
-  pub rest : KeepsRest old new
-  pub told : TellsStill old new
-  pub live : KeepsLive old new
-  pub through : ThroughOr from old new result
+abbrev pub MergesThrough : ℕ → RoomValue → RoomValue → Result Bool MergeFault → Type 0
+MergesThrough from = MergesAs (ThroughOr from)
 
 -- what erasing all retired parts of a room with an empty board does
 abbrev pub EmptiesOr : RoomValue → RoomValue → Result (Unit {0}) MergeFault → Type 0
@@ -326,11 +336,8 @@ ErasedOr from old new (Err (merge_fault.Room room_fault.NoMemory)) = IsWell old 
 ErasedOr from old new (Err (merge_fault.Room room_fault.Disk)) = IsShutNow old new × SameOrFirst from old new × StopsOr from old new room_fault.Disk
 ErasedOr from old new (Err (merge_fault.Room (room_fault.Shut epoch))) = WasShut epoch old new
 
-pub record MergesErased (from : ℕ) (old new : RoomValue) (result : Result Bool MergeFault) : Type 0 where
-  pub rest : KeepsRest old new
-  pub told : TellsStill old new
-  pub live : KeepsLive old new
-  pub erased : ErasedOr from old new result
+abbrev pub MergesErased : ℕ → RoomValue → RoomValue → Result Bool MergeFault → Type 0
+MergesErased from = MergesAs (ErasedOr from)
 
 -- what was retired was erased first, and then the first neighbours that fit were merged
 pub record ErasesAndMerges (from : ℕ) (old new : RoomValue) : Type 0 where

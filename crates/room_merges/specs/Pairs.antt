@@ -124,6 +124,12 @@ pub record MergesPair (from : ℕ) (old new : RoomValue) (view view' : ViewValue
 abbrev pub measure_in : Header → Measure
 measure_in header = record { rows = header.rows; nodes = header.nodes; area = header.area; ordered = true }
 
+-- no merge is out, and a view of the room is
+pub record IsIdle (value : RoomValue) (view : ViewValue) : Type 0 where
+  pub no_job : value.room.job ≡ None
+  pub posted : IsPosted value.room view
+  pub region_len : view.region_len ≡ value.room.region_len
+
 -- a job that was picked, with no regions yet, is out of an open room, for two parts of a view that is out
 pub record IsFresh (value : RoomValue) (view : ViewValue) (job : Job) : Type 0 where
   pub out : value.room.job ≡ Some job

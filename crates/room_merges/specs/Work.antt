@@ -1,5 +1,5 @@
 -- What the steps of a merge make of a room, of its view and of its job.
-use Rattle.std.specs.Prelude.{◌≡◌, ◌⊎◌, ℕ, ◌+◌, ◌<◌, ◌≤◌, ◌++◌, Bool, true, false, List, length, option_map, Option, None, Some, IfSome, Result, Ok, Err, IsErrOf, ⊤}
+use Rattle.std.specs.Prelude.{◌≡◌, ◌⊎◌, ℕ, ◌+◌, ◌<◌, ◌≤◌, ◌++◌, Bool, true, false, List, length, option_map, Contains, Option, None, Some, IfSome, Result, Ok, Err, IsErrOf, ⊤}
 use Rattle.fine_model.specs.declared.FetchFault.{FetchFault}
 use Rattle.fine_model.specs.declared.FetchFault.TheVariants as fetch_fault
 use Rattle.fine_model.specs.declared.Header.{Header}
@@ -106,6 +106,16 @@ abbrev pub TurnsLast : Type 0
 TurnsLast =
     (view : ViewValue) (blocks : BlocksValue) (job : Job) (old new : RoomValue) → new.room.region_len ≡ old.room.region_len → old.room.job ≡ Some job → KeepsJob old.room new.room
     → IsWriting old view blocks job → IsWriting new view blocks job
+
+-- a job of an open room has its regions, for two parts of a view, and is between two blocks of its body
+pub record HasBegun (header : Header) (room : RoomValue) (view : ViewValue) (blocks : BlocksValue) (job : Job) : Type 0 where
+  pub out : room.room.job ≡ Some job
+  pub opened : room.room.is_shut ≡ false
+  pub taken : job.header ≡ Some header
+  pub older : Contains view.parts job.older
+  pub newer : Contains view.parts job.newer
+  pub writing : IsWriting room view blocks job
+  pub within : job.written ≤ body_len header
 
 -- a block stands in the job's target behind those before it; or the body has no room for it, and nothing was written
 abbrev pub BlockOr : Header → List ℕ → RoomValue → RoomValue → Job → Job → Result Progress MergeFault → Type 0

@@ -3,9 +3,9 @@
 ghost use Rattle.std.specs.Prelude.{◌≡◌, ◌<◌, ◌≤◌, Contains, Some, false, true, length};
 ghost use Rattle.fine_model.specs.Regions.{body_len};
 ghost use Rattle.epoch_room.specs.Returns.{IsPosted};
-ghost use Rattle.room_merges.specs.Work.{IsWriting, WritesAll, WritesBlock, WritesNext};
+ghost use Rattle.room_merges.specs.Work.{HasBegun, IsWriting, WritesAll, WritesBlock, WritesNext};
 
-use crate::fault::MergeFault;
+use crate::fault::{MergeFault, MergeResult};
 use epoch_room::{Room, RoomFault};
 use fine_model::format::INDEX_ENTRY;
 use fine_model::{Header, Job};
@@ -45,7 +45,7 @@ fn write_block<D: LogDisk>(
     job: &mut Job,
     header: Header,
     block: &[u8],
-) -> Result<Progress, MergeFault>
+) -> MergeResult<Progress>
     requires out { room.old.room.job ≡ Some job.old }
     requires open { room.old.room.is_shut ≡ false }
     requires taken { job.old.header ≡ Some header }
@@ -78,7 +78,7 @@ pub fn write_next<D: LogDisk>(
     job: &mut Job,
     header: Header,
     blocks: &mut Blocks,
-) -> Result<Progress, MergeFault>
+) -> MergeResult<Progress>
     requires out { room.old.room.job ≡ Some job.old }
     requires open { room.old.room.is_shut ≡ false }
     requires taken { job.old.header ≡ Some header }
@@ -106,20 +106,14 @@ fn write_blocks<D: LogDisk>(
     view: &mut View<D::Eye>,
     job: &mut Job,
     header: Header,
-    blocks: &mut Blocks,
-) -> Result<bool, MergeFault>
-    requires out { room.old.room.job ≡ Some job.old }
-    requires open { room.old.room.is_shut ≡ false }
-    requires taken { job.old.header ≡ Some header }
-    requires older { Contains view.old.parts job.old.older }
-    requires newer { Contains view.old.parts job.old.newer }
-    requires writing { IsWriting room.old view.old blocks.old job.old }
-    requires within { job.old.written ≤ body_len header }
+    mut blocks: Blocks,
+) -> MergeResult<bool>
+    requires begun { HasBegun header room.old view.old blocks job.old }
     ensures { WritesAll header room.old room.new view.old view.new job.old job.new result }
 {
     let _counts = room.counts();
     loop {
-        match write_next(room, view, job, header, blocks) {
+        match write_next(room, view, job, header, &mut blocks) {
             Ok(progress) => match progress {
                 Progress::Written => {}
                 Progress::Ended => return Ok(is_whole(job, &header)),
@@ -147,7 +141,7 @@ pub fn write_body<D: LogDisk>(
     view: &mut View<D::Eye>,
     job: &mut Job,
     header: Header,
-) -> Result<bool, MergeFault>
+) -> MergeResult<bool>
     requires out { room.old.room.job ≡ Some job.old }
     requires open { room.old.room.is_shut ≡ false }
     requires taken { job.old.header ≡ Some header }
@@ -163,7 +157,7 @@ pub fn write_body<D: LogDisk>(
     let region_len = room.region_len();
     let most = most_in_block(region_len);
     match Blocks::new(alloc, job.older, job.newer, region_len, most) {
-        Ok(mut blocks) => write_blocks(room, view, job, header, &mut blocks),
+        Ok(blocks) => write_blocks(room, view, job, header, blocks),
         Err(_no_memory) => Err(MergeFault::Room(RoomFault::NoMemory)),
     }
 }

@@ -9,3 +9,6 @@ pub enum MergeFault {
     Room(RoomFault),
     Fetch(FetchFault),
 }
+
+/// What merging answers.
+pub type MergeResult<T> = Result<T, MergeFault>;

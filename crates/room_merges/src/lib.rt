@@ -9,6 +9,6 @@ mod near;
 mod pair;
 
 pub use body::{Progress, write_body, write_next};
-pub use fault::MergeFault;
+pub use fault::{MergeFault, MergeResult};
 pub use near::{erase_retired, merge_any, merge_near, merge_now};
 pub use pair::merge_pair;

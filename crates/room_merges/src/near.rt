@@ -3,39 +3,24 @@
 ghost use Rattle.std.specs.Prelude.{◌≡◌, ◌≤◌, None, false, true, option_map};
 ghost use Rattle.std.specs.List.{list_all};
 ghost use Rattle.fine_model.specs.Boards.{is_empty};
-ghost use Rattle.epoch_room.specs.MergeSteps.{neighbours_from, with_next};
+ghost use Rattle.epoch_room.specs.MergeSteps.{neighbours_from};
 ghost use Rattle.epoch_room.specs.Returns.{IsPosted};
-ghost use Rattle.room_merges.specs.Near.{Empties, MergesErased, MergesNear, MergesThrough, TriesAll, TriesBetween};
+ghost use Rattle.room_merges.specs.Near.{Empties, MayTry, MergesErased, MergesNear, MergesThrough, TriesAll, TriesBetween};
 
-use crate::fault::MergeFault;
+use crate::fault::{MergeFault, MergeResult};
 use crate::pair::merge_pair;
-use epoch_room::Room;
+use epoch_room::{Room, first_neighbours};
 use fine_model::Part;
 use log_disk::LogDisk;
 use partition_hold::View;
 use std::alloc::Global;
 
-/// Where the first of some parts begins, if there is one behind another.
-fn epoch_of_next(_older: &Part, behind: &[Part]) -> Option<u64>
-    ensures { result ≡ option_map (λ two. two.1.header.range.first) (with_next _older.now behind.now) }
-{
-    let newer = behind.first()?;
-    Some(newer.header.range.first)
-}
-
 /// Where the newer one begins of the first two neighbours whose older one begins at an epoch or later.
-#[tactic(auto, unfolding(epoch_room::specs::MergeSteps::neighbours_from))]
 fn epoch_behind(parts: &[Part], from: u64) -> Option<u64>
     ensures { result ≡ option_map (λ two. two.1.header.range.first) (neighbours_from from parts.now) }
 {
-    let mut left = parts;
-    while let Some((older, behind)) = left.split_first() {
-        if from <= older.header.range.first {
-            return epoch_of_next(older, behind);
-        }
-        left = behind;
-    }
-    None
+    let (_, newer) = first_neighbours(parts, from)?;
+    Some(newer.header.range.first)
 }
 
 /// Tries the neighbours whose older one begins from an epoch on and before another, in chain order, and merges the first that fit.
@@ -45,12 +30,8 @@ fn merge_between<D: LogDisk>(
     view: &mut View<D::Eye>,
     from: u64,
     until: u64,
-) -> Result<bool, MergeFault>
-    requires no_job { room.old.room.job ≡ None }
-    requires open { room.old.room.is_shut ≡ false }
-    requires posted { IsPosted room.old.room view.old }
-    requires region_len { view.old.region_len ≡ room.old.room.region_len }
-    requires parts { view.old.parts ≡ room.old.room.parts }
+) -> MergeResult<bool>
+    requires may { MayTry room.old view.old }
     ensures { TriesBetween from until room.old room.new view.old view.new result }
 {
     let _counts = room.counts();
@@ -85,7 +66,7 @@ pub fn merge_any<D: LogDisk>(
     room: &mut Room<D>,
     view: &mut View<D::Eye>,
     from: u64,
-) -> Result<bool, MergeFault>
+) -> MergeResult<bool>
     requires no_job { room.old.room.job ≡ None }
     requires open { room.old.room.is_shut ≡ false }
     requires posted { IsPosted room.old.room view.old }
@@ -107,11 +88,7 @@ pub fn merge_any<D: LogDisk>(
 }
 
 /// Merges the first neighbours that fit, through a view of its own.
-fn merge_through<D: LogDisk>(
-    alloc: Global,
-    room: &mut Room<D>,
-    from: u64,
-) -> Result<bool, MergeFault>
+fn merge_through<D: LogDisk>(alloc: Global, room: &mut Room<D>, from: u64) -> MergeResult<bool>
     requires no_job { room.old.room.job ≡ None }
     requires board { list_all is_empty room.old.room.board ≡ true }
     ensures { MergesThrough from room.old room.new result }
@@ -136,7 +113,7 @@ fn merge_through<D: LogDisk>(
 ///
 /// `Shut` comes exactly where an earlier call answered `Disk`, and changes nothing. `Disk` comes only where the disk failed in this call, and shuts the room: the regions of the
 /// parts are lost whose gates were begun. After `NoMemory` the room is open, and the first of these parts are erased. The chain is as it was, whatever the answer.
-pub fn erase_retired<D: LogDisk>(room: &mut Room<D>) -> Result<(), MergeFault>
+pub fn erase_retired<D: LogDisk>(room: &mut Room<D>) -> MergeResult<()>
     requires no_job { room.old.room.job ≡ None }
     requires board { list_all is_empty room.old.room.board ≡ true }
     ensures { Empties room.old room.new result }
@@ -149,11 +126,7 @@ pub fn erase_retired<D: LogDisk>(room: &mut Room<D>) -> Result<(), MergeFault>
 }
 
 /// Merges the first neighbours that fit, and erases the two.
-fn merge_erased<D: LogDisk>(
-    alloc: Global,
-    room: &mut Room<D>,
-    from: u64,
-) -> Result<bool, MergeFault>
+fn merge_erased<D: LogDisk>(alloc: Global, room: &mut Room<D>, from: u64) -> MergeResult<bool>
     requires no_job { room.old.room.job ≡ None }
     requires board { list_all is_empty room.old.room.board ≡ true }
     ensures { MergesErased from room.old room.new result }
@@ -187,11 +160,7 @@ fn merge_erased<D: LogDisk>(
 /// After `NoMemory` the room is open; both may come once two were merged, and what was merged or erased before stays so. A refusal of a
 /// read leaves the chain as it was, and nothing retired; no neighbours that are tried before fit. A crash at any moment of the call leaves
 /// an image that shows what was sealed before.
-pub fn merge_near<D: LogDisk>(
-    alloc: Global,
-    room: &mut Room<D>,
-    from: u64,
-) -> Result<bool, MergeFault>
+pub fn merge_near<D: LogDisk>(alloc: Global, room: &mut Room<D>, from: u64) -> MergeResult<bool>
     requires no_job { room.old.room.job ≡ None }
     requires board { list_all is_empty room.old.room.board ≡ true }
     ensures { MergesNear from room.old room.new result }
@@ -204,7 +173,7 @@ pub fn merge_near<D: LogDisk>(
 }
 
 /// Merges the first neighbours of the chain that fit, as `merge_near` does from the first epoch on.
-pub fn merge_now<D: LogDisk>(alloc: Global, room: &mut Room<D>) -> Result<bool, MergeFault>
+pub fn merge_now<D: LogDisk>(alloc: Global, room: &mut Room<D>) -> MergeResult<bool>
     requires no_job { room.old.room.job ≡ None }
     requires board { list_all is_empty room.old.room.board ≡ true }
     ensures { MergesNear 1 room.old room.new result }

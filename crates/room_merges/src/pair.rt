@@ -8,10 +8,10 @@ ghost use Rattle.epoch_room.specs.Whole.{IsWhole};
 ghost use Rattle.epoch_room.specs.Returns.{IsPosted};
 ghost use Rattle.partition_merge.specs.Mergers.{IsCounted};
 ghost use Rattle.room_merges.specs.Merging.{HoldsBody, HoldsJoined, Measures};
-ghost use Rattle.room_merges.specs.Pairs.{IsFresh, IsReady, MergesJob, MergesMeasured, MergesPair, SealsPart, WritesPart, measure_in};
+ghost use Rattle.room_merges.specs.Pairs.{IsFresh, IsIdle, IsReady, MergesJob, MergesMeasured, MergesPair, SealsPart, WritesPart, measure_in};
 
 use crate::body::write_body;
-use crate::fault::MergeFault;
+use crate::fault::{MergeFault, MergeResult};
 use epoch_room::{Fit, Room, RoomFault};
 use fine_model::{Header, Job, Part};
 use log_disk::{LogDisk, LogEye};
@@ -94,7 +94,7 @@ fn write_part<D: LogDisk>(
     view: &mut View<D::Eye>,
     job: &mut Job,
     header: Header,
-) -> Result<bool, MergeFault>
+) -> MergeResult<bool>
     requires ready { IsReady header room.old view.old job.old }
     ensures { WritesPart header room.old room.new view.old view.new job.old job.new result }
 {
@@ -121,7 +121,7 @@ fn merge_measured<D: LogDisk>(
     view: &mut View<D::Eye>,
     job: &mut Job,
     measure: Measure,
-) -> Result<bool, MergeFault>
+) -> MergeResult<bool>
     requires fresh { IsFresh room.old view.old job.old }
     requires counted { IsCounted measure }
     requires measured { Measures view.old job.old.older job.old.newer measure }
@@ -143,7 +143,7 @@ fn merge_job<D: LogDisk>(
     room: &mut Room<D>,
     view: &mut View<D::Eye>,
     job: &mut Job,
-) -> Result<bool, MergeFault>
+) -> MergeResult<bool>
     requires fresh { IsFresh room.old view.old job.old }
     ensures { MergesJob room.old room.new view.old view.new (job.old.older, job.old.newer) job.new result }
 {
@@ -172,10 +172,8 @@ pub fn merge_pair<D: LogDisk>(
     room: &mut Room<D>,
     view: &mut View<D::Eye>,
     from: u64,
-) -> Result<bool, MergeFault>
-    requires no_job { room.old.room.job ≡ None }
-    requires posted { IsPosted room.old.room view.old }
-    requires region_len { view.old.region_len ≡ room.old.room.region_len }
+) -> MergeResult<bool>
+    requires idle { IsIdle room.old view.old }
     ensures { MergesPair from room.old room.new view.old view.new result }
 {
     let _counts = room.counts();

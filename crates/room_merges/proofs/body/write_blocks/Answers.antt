@@ -17,24 +17,24 @@ more : (g : Over) (c : In-Written g) → WritesNext c.args.header c.loop-progres
 more g c = subst (λ (r : Result Progress MergeFault). WritesNext c.args.header c.loop-progress.room c.write_next.new.room c.loop-progress.view c.write_next.new.view c.write_next.new.blocks c.loop-progress.job c.write_next.new.job r) (c.in-Ok.is ∙ ap (λ p. Ok p) c.in-Written.is) c.write_next.ensures
 
 pub loop-progress-init : goal.loop-progress-init
-loop-progress-init g c = none_written c.args.header c.args.room.now c.args.view.now c.args.blocks.now c.args.job.now c.counts-counts.ensures.whole c.requires.out c.requires.within c.requires.writing
+loop-progress-init g c = none_written c.args.header c.args.room.now c.args.view.now c.args.blocks c.args.job.now c.counts-counts.ensures.whole c.requires.begun.out c.requires.begun.within c.requires.begun.writing
 
 pub write_next-requires-clause-out : goal.write_next-requires-clause-out
 write_next-requires-clause-out g c κs within = ap (λ (r : RoomState). r.job) c.loop-progress.invariant.room.room
 
 pub write_next-requires-clause-open : goal.write_next-requires-clause-open
-write_next-requires-clause-open g c κs within = ap (λ (r : RoomState). r.is_shut) c.loop-progress.invariant.room.room ∙ c.requires.open
+write_next-requires-clause-open g c κs within = ap (λ (r : RoomState). r.is_shut) c.loop-progress.invariant.room.room ∙ c.requires.begun.opened
 
 pub write_next-requires-clause-taken : goal.write_next-requires-clause-taken
-write_next-requires-clause-taken g c κs within = ap (λ (j : Job). j.header) c.loop-progress.invariant.same ∙ c.requires.taken
+write_next-requires-clause-taken g c κs within = ap (λ (j : Job). j.header) c.loop-progress.invariant.same ∙ c.requires.begun.taken
 
 pub write_next-requires-clause-older : goal.write_next-requires-clause-older
 write_next-requires-clause-older g c κs within =
-    subst (λ ps. Contains ps c.loop-progress.job.older) (sym c.loop-progress.invariant.unmoved.parts) (subst (λ (p : Part). Contains c.args.view.now.parts p) (sym (ap (λ (j : Job). j.older) c.loop-progress.invariant.same)) c.requires.older)
+    subst (λ ps. Contains ps c.loop-progress.job.older) (sym c.loop-progress.invariant.unmoved.parts) (subst (λ (p : Part). Contains c.args.view.now.parts p) (sym (ap (λ (j : Job). j.older) c.loop-progress.invariant.same)) c.requires.begun.older)
 
 pub write_next-requires-clause-newer : goal.write_next-requires-clause-newer
 write_next-requires-clause-newer g c κs within =
-    subst (λ ps. Contains ps c.loop-progress.job.newer) (sym c.loop-progress.invariant.unmoved.parts) (subst (λ (p : Part). Contains c.args.view.now.parts p) (sym (ap (λ (j : Job). j.newer) c.loop-progress.invariant.same)) c.requires.newer)
+    subst (λ ps. Contains ps c.loop-progress.job.newer) (sym c.loop-progress.invariant.unmoved.parts) (subst (λ (p : Part). Contains c.args.view.now.parts p) (sym (ap (λ (j : Job). j.newer) c.loop-progress.invariant.same)) c.requires.begun.newer)
 
 pub write_next-requires-clause-writing : goal.write_next-requires-clause-writing
 write_next-requires-clause-writing g c κs within = c.loop-progress.invariant.writing

@@ -11,35 +11,26 @@ returns-then-merged g c =
     any_merged c.args.from c.args.room.now c.merge_between.new.room c.args.view.now c.merge_between.new.view
     (subst (λ (r : Result Bool MergeFault). TriesBetween c.args.from epochs_end c.args.room.now c.merge_between.new.room c.args.view.now c.merge_between.new.view r) (c.in-Ok.is ∙ ap (λ b. Ok b) c.if-merged.true) c.merge_between.ensures)
 
-pub merge_between-requires-else-merged-clause-no_job : goal.merge_between-requires-else-merged-clause-no_job
-merge_between-requires-else-merged-clause-no_job g c κs within =
-    let first =
-    (subst (λ (r : Result Bool MergeFault). TriesBetween c.args.from epochs_end c.args.room.now c.merge_between.new.room c.args.view.now c.merge_between.new.view r) (c.in-Ok.is ∙ ap (λ b. Ok b) c.if-merged.false) c.merge_between.ensures) in
-    ap (λ (r : RoomState). r.job) first.room.0.room
+pub merge_between-requires-clause-may : goal.merge_between-requires-clause-may
+merge_between-requires-clause-may g c κs within = record {
+  idle = record { no_job = c.requires.no_job; posted = c.requires.posted; region_len = c.requires.region_len };
+  opened = c.requires.open;
+  parts = c.requires.parts;
+}
 
-pub merge_between-requires-else-merged-clause-open : goal.merge_between-requires-else-merged-clause-open
-merge_between-requires-else-merged-clause-open g c κs within =
+pub merge_between-requires-else-merged-clause-may : goal.merge_between-requires-else-merged-clause-may
+merge_between-requires-else-merged-clause-may g c κs within =
     let first =
     (subst (λ (r : Result Bool MergeFault). TriesBetween c.args.from epochs_end c.args.room.now c.merge_between.new.room c.args.view.now c.merge_between.new.view r) (c.in-Ok.is ∙ ap (λ b. Ok b) c.if-merged.false) c.merge_between.ensures) in
-    ap (λ (r : RoomState). r.is_shut) first.room.0.room ∙ c.requires.open
-
-pub merge_between-requires-else-merged-clause-posted : goal.merge_between-requires-else-merged-clause-posted
-merge_between-requires-else-merged-clause-posted g c κs within =
-    let first =
-    (subst (λ (r : Result Bool MergeFault). TriesBetween c.args.from epochs_end c.args.room.now c.merge_between.new.room c.args.view.now c.merge_between.new.view r) (c.in-Ok.is ∙ ap (λ b. Ok b) c.if-merged.false) c.merge_between.ensures) in
-    posted_then c.args.room.now.room c.merge_between.new.room.room c.args.view.now c.merge_between.new.view (ap (λ (r : RoomState). r.board) first.room.0.room) first.looks.same c.requires.posted
-
-pub merge_between-requires-else-merged-clause-region_len : goal.merge_between-requires-else-merged-clause-region_len
-merge_between-requires-else-merged-clause-region_len g c κs within =
-    let first =
-    (subst (λ (r : Result Bool MergeFault). TriesBetween c.args.from epochs_end c.args.room.now c.merge_between.new.room c.args.view.now c.merge_between.new.view r) (c.in-Ok.is ∙ ap (λ b. Ok b) c.if-merged.false) c.merge_between.ensures) in
-    first.looks.same.region_len ∙ c.requires.region_len ∙ sym first.room.0.keeps.becomes.region_len
-
-pub merge_between-requires-else-merged-clause-parts : goal.merge_between-requires-else-merged-clause-parts
-merge_between-requires-else-merged-clause-parts g c κs within =
-    let first =
-    (subst (λ (r : Result Bool MergeFault). TriesBetween c.args.from epochs_end c.args.room.now c.merge_between.new.room c.args.view.now c.merge_between.new.view r) (c.in-Ok.is ∙ ap (λ b. Ok b) c.if-merged.false) c.merge_between.ensures) in
-    first.looks.same.parts ∙ c.requires.parts ∙ sym (ap (λ (r : RoomState). r.parts) first.room.0.room)
+    record {
+      idle = record {
+        no_job = ap (λ (r : RoomState). r.job) first.room.0.room;
+        posted = posted_then c.args.room.now.room c.merge_between.new.room.room c.args.view.now c.merge_between.new.view (ap (λ (r : RoomState). r.board) first.room.0.room) first.looks.same c.requires.posted;
+        region_len = first.looks.same.region_len ∙ c.requires.region_len ∙ sym first.room.0.keeps.becomes.region_len;
+      };
+      opened = ap (λ (r : RoomState). r.is_shut) first.room.0.room ∙ c.requires.open;
+      parts = first.looks.same.parts ∙ c.requires.parts ∙ sym (ap (λ (r : RoomState). r.parts) first.room.0.room);
+    }
 
 pub returns-else-merged : goal.returns-else-merged
 returns-else-merged g c =

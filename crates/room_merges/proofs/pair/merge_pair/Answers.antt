@@ -17,8 +17,8 @@ tried g c =
     let old = c.args.room.now in
     let opened : old.room.is_shut ≡ false = c.shut_at.ensures.open c.in_default.is in
     let found : picked old.room c.args.from ≡ Some c.in-Some-merge_pick.job = sym c.merge_pick.ensures.job ∙ c.in-Some-merge_pick.is in
-    let out : IsOut old c.args.view.now = record { whole = c.counts-counts.ensures.whole; is_view = c.parts-parts.ensures.whole; posted = c.requires.posted; region_len = c.requires.region_len } in
-    tries_from c.args.from old c.merge_pick.new.self c.args.view.now c.in-Some-merge_pick.job c.requires.no_job opened out found c.merge_pick.ensures.room c.merge_pick.ensures.keeps
+    let out : IsOut old c.args.view.now = record { whole = c.counts-counts.ensures.whole; is_view = c.parts-parts.ensures.whole; posted = c.requires.idle.posted; region_len = c.requires.idle.region_len } in
+    tries_from c.args.from old c.merge_pick.new.self c.args.view.now c.in-Some-merge_pick.job c.requires.idle.no_job opened out found c.merge_pick.ensures.room c.merge_pick.ensures.keeps
 
 pub returns-in-Some : goal.returns-in-Some
 returns-in-Some g c =
@@ -30,8 +30,8 @@ returns-in_default-merge_pick g c =
     let old = c.args.room.now in
     let opened : old.room.is_shut ≡ false = c.shut_at.ensures.open c.in_default.is in
     let none : picked old.room c.args.from ≡ None = sym c.merge_pick.ensures.job ∙ c.in_default-merge_pick.is in
-    pair_none c.args.from old c.merge_pick.new.self c.args.view.now c.requires.no_job opened c.counts-counts.ensures.whole (pick_none old.room c.args.from opened none)
-    (c.merge_pick.ensures.room ∙ ap (λ j. with_job old j old.room.free) none ∙ ap (λ j. with_job old j old.room.free) (sym c.requires.no_job))
+    pair_none c.args.from old c.merge_pick.new.self c.args.view.now c.requires.idle.no_job opened c.counts-counts.ensures.whole (pick_none old.room c.args.from opened none)
+    (c.merge_pick.ensures.room ∙ ap (λ j. with_job old j old.room.free) none ∙ ap (λ j. with_job old j old.room.free) (sym c.requires.idle.no_job))
 
 pub merge_job-requires-clause-fresh : goal.merge_job-requires-clause-fresh
 merge_job-requires-clause-fresh g c κs within =
@@ -42,8 +42,8 @@ merge_job-requires-clause-fresh g c κs within =
       is = (pick_found c.args.room.now.room c.args.from c.in-Some-merge_pick.job t.opened (sym c.merge_pick.ensures.job ∙ c.in-Some-merge_pick.is)).1;
       older = c.has_both.ensures.older c.if-has_both.true;
       newer = c.has_both.ensures.newer c.if-has_both.true;
-      posted = subst (λ (v : RoomValue). IsPosted v.room c.args.view.now) (sym t.is) c.requires.posted;
-      region_len = c.requires.region_len ∙ sym (ap (λ (v : RoomValue). v.room.region_len) t.is);
+      posted = subst (λ (v : RoomValue). IsPosted v.room c.args.view.now) (sym t.is) c.requires.idle.posted;
+      region_len = c.requires.idle.region_len ∙ sym (ap (λ (v : RoomValue). v.room.region_len) t.is);
     }
 
 pub returns-then-merged : goal.returns-then-merged

@@ -108,16 +108,14 @@ fn folded(alloc: Global) -> Result<Folded, Fail> {
 }
 
 // The part of both epochs: one row of 25 bytes, in the third region.
-fn image_part() -> Part {
-    Part {
-        region: 2,
-        header: Header {
-            range: Range { first: 1, last: 2 },
-            area: 25,
-            ..ONE_ROW
-        },
-    }
-}
+const IMAGE_PART: Part = Part {
+    region: 2,
+    header: Header {
+        range: Range { first: 1, last: 2 },
+        area: 25,
+        ..ONE_ROW
+    },
+};
 
 // A leaf of one pair, `a` and `2`, as the second version of the node.
 fn image_row() -> [u8; 25] {
@@ -130,7 +128,7 @@ fn image_row() -> [u8; 25] {
 fn two_puts_of_a_key_become_an_image(rt: HostRuntime) -> Result<(), Fail> {
     let (merged, part, row) = folded(rt.alloc())?;
     assert_eq!(rt; merged, (Some(true), 1, 0, 7));
-    assert_eq!(rt; part, Some(image_part()));
+    assert_eq!(rt; part, Some(IMAGE_PART));
     assert_eq!(rt; row, image_row());
     Ok(())
 }

@@ -59,6 +59,23 @@ fn two(alloc: Global, first: Row, second: Row) -> Result<Rows, Fail> {
     Ok(rows)
 }
 
+/// The number of a node, a version and a value of one byte.
+type Put<'a> = (u32, u64, &'a [u8; 1]);
+
+/// What two puts are merged to, each in a part of its own.
+fn merged_puts(alloc: Global, older: Put, newer: Put) -> Result<Rows, Fail> {
+    let older = one(alloc, put(alloc, older.0, older.1, older.2)?)?;
+    let newer = one(alloc, put(alloc, newer.0, newer.1, newer.2)?)?;
+    merged(alloc, &older, &newer)
+}
+
+/// Two puts, one behind the other.
+fn both_puts(alloc: Global, first: Put, second: Put) -> Result<Rows, Fail> {
+    let first = put(alloc, first.0, first.1, first.2)?;
+    let second = put(alloc, second.0, second.1, second.2)?;
+    two(alloc, first, second)
+}
+
 /// A put of each of ten thousand nodes.
 fn many(alloc: Global, first: u32, version: u64, value: &[u8; 1]) -> Result<Rows, Fail>
     requires { first < 1000000 }
@@ -86,36 +103,31 @@ fn merged(alloc: Global, older: &Rows, newer: &Rows) -> Result<Rows, Fail>
 #[test]
 fn two_puts_become_the_image_of_their_node(rt: HostRuntime) -> Result<(), Fail> {
     let alloc = rt.alloc();
-    let older = one(alloc, put(alloc, 1, 1, b"1")?)?;
-    let newer = one(alloc, put(alloc, 1, 2, b"2")?)?;
     let mut pairs = Items::new(alloc);
     let pair = (text(alloc, b"a")?, text(alloc, b"2")?);
     pairs.push(pair).ok().ok_or("memory")?;
     let image = one(alloc, row(1, 2, Rec::LeafImage { pairs }))?;
-    assert_eq!(&rt; merged(alloc, &older, &newer)?, image);
+    assert_eq!(&rt; merged_puts(alloc, (1, 1, b"1"), (1, 2, b"2"))?, image);
     Ok(())
 }
 
-/// The image of one put is longer than the put by one byte.
+/// Puts in two nodes stay in the order of nodes, and so do two in one node where a version is wanting between them. The image of one put is
+/// longer than the put by one byte.
 #[test]
-fn nodes_of_one_list_stay_in_the_order_of_nodes(rt: HostRuntime) -> Result<(), Fail> {
+fn puts_without_an_image_stay(rt: HostRuntime) -> Result<(), Fail> {
     let alloc = rt.alloc();
-    let low = one(alloc, put(alloc, 1, 1, b"1")?)?;
-    let high = one(alloc, put(alloc, 2, 1, b"2")?)?;
-    let both = two(alloc, put(alloc, 1, 1, b"1")?, put(alloc, 2, 1, b"2")?)?;
-    assert_eq!(&rt; merged(alloc, &low, &high)?, both);
-    assert_eq!(&rt; merged(alloc, &high, &low)?, both);
-    assert_eq!(&rt; merged(alloc, &low, &Items::new(alloc))?, low);
-    Ok(())
-}
-
-#[test]
-fn rows_that_leave_a_node_broken_stay(rt: HostRuntime) -> Result<(), Fail> {
-    let alloc = rt.alloc();
-    let older = one(alloc, put(alloc, 1, 1, b"1")?)?;
-    let newer = one(alloc, put(alloc, 1, 3, b"2")?)?;
-    let both = two(alloc, put(alloc, 1, 1, b"1")?, put(alloc, 1, 3, b"2")?)?;
-    assert_eq!(&rt; merged(alloc, &older, &newer)?, both);
+    let low = (1, 1, b"1");
+    let high = (2, 1, b"2");
+    let behind = (1, 3, b"2");
+    let cases = [(low, high, high), (high, low, high), (low, behind, behind)];
+    for (older, newer, last) in cases {
+        assert_eq!(&rt;
+            merged_puts(alloc, older, newer)?,
+            both_puts(alloc, low, last)?
+        );
+    }
+    let alone = one(alloc, put(alloc, 1, 1, b"1")?)?;
+    assert_eq!(&rt; merged(alloc, &alone, &Items::new(alloc))?, alone);
     Ok(())
 }
 
@@ -241,6 +253,26 @@ fn look_at(alloc: Global, older: &Rows, newer: &Rows, fails: u64) -> Result<MemE
     }
 }
 
+/// The rows of two parts of ten thousand nodes each, of which five thousand are in both.
+fn overlapping(alloc: Global) -> Result<(Rows, Rows), Fail>
+    ensures order { IfOk result (λ both. IsTrue (is_ordered both.0) × IsTrue (is_ordered both.1)) }
+    ensures fit { IfOk result (λ both. FitRows both.0 × FitRows both.1) }
+{
+    let older = many(alloc, 1, 1, b"1")?;
+    let newer = many(alloc, 5_001, 2, b"2")?;
+    Ok((older, newer))
+}
+
+/// An eye on these two parts, of which the read of one number fails.
+fn look_at_overlapping(alloc: Global, fails: u64) -> Result<MemEye, Fail>
+    ensures older { IfOk result (λ eye. IsSeen eye.eye OLDER) }
+    ensures newer { IfOk result (λ eye. IsSeen eye.eye NEWER) }
+    ensures len { IfOk result (λ eye. eye.eye.region_len ≡ 524288) }
+{
+    let (older, newer) = overlapping(alloc)?;
+    look_at(alloc, &older, &newer, fails)
+}
+
 fn push_all(all: &mut Rows, rows: &[Row]) -> Result<(), NoMemory> {
     for row in rows {
         all.push(row.copy()?)?;
@@ -291,9 +323,7 @@ fn count_blocks<E: LogEye>(
 #[test]
 fn parts_are_merged_node_by_node(rt: HostRuntime) -> Result<(), Fail> {
     let alloc = rt.alloc();
-    let older = many(alloc, 1, 1, b"1")?;
-    let newer = many(alloc, 5_001, 2, b"2")?;
-    let mut eye = look_at(alloc, &older, &newer, 0)?;
+    let mut eye = look_at_overlapping(alloc, 0)?;
     let mut merger = Merger::new(OLDER, NEWER, LEN);
     let measure = Measure {
         rows: 15_000,
@@ -303,6 +333,7 @@ fn parts_are_merged_node_by_node(rt: HostRuntime) -> Result<(), Fail> {
     };
     assert_eq!(&rt; merger.measure(alloc, &mut eye).ok(), Some(measure));
     assert_eq!(&rt; eye.taken(), 14 * 20_000 + 480_000);
+    let (older, newer) = overlapping(alloc)?;
     let whole = merged(alloc, &older, &newer)?;
     assert_eq!(&rt; node_by_node(alloc, &mut eye, merger).ok(), Some(whole));
     Ok(())
@@ -312,9 +343,7 @@ fn parts_are_merged_node_by_node(rt: HostRuntime) -> Result<(), Fail> {
 #[test]
 fn the_body_comes_in_blocks(rt: HostRuntime) -> Result<(), Fail> {
     let alloc = rt.alloc();
-    let older = many(alloc, 1, 1, b"1")?;
-    let newer = many(alloc, 5_001, 2, b"2")?;
-    let mut eye = look_at(alloc, &older, &newer, 0)?;
+    let mut eye = look_at_overlapping(alloc, 0)?;
     let Ok(mut blocks) = Blocks::new(alloc, OLDER, NEWER, LEN, 65_536) else {
         return Err(Fail::from("no memory"));
     };
@@ -327,10 +356,8 @@ fn the_body_comes_in_blocks(rt: HostRuntime) -> Result<(), Fail> {
 #[test]
 fn a_failed_read_is_told(rt: HostRuntime) -> Result<(), Fail> {
     let alloc = rt.alloc();
-    let older = many(alloc, 1, 1, b"1")?;
-    let newer = many(alloc, 5_001, 2, b"2")?;
     for fails in [1, 2, 3, 4, 5, 6, 7, 59_998, 59_999] {
-        let mut eye = look_at(alloc, &older, &newer, fails)?;
+        let mut eye = look_at_overlapping(alloc, fails)?;
         let merger = Merger::new(OLDER, NEWER, LEN);
         let failed = matches!(
             node_by_node(alloc, &mut eye, merger),

@@ -1,6 +1,6 @@
-use Rattle.std.proofs.Common.{◌∙◌, sym, subst, refl}
-use Rattle.partition_index.specs.Parts.{IsSeen}
-use Rattle.partition_index.proofs.Looking.{seen_same, same_then}
+use Rattle.std.proofs.Common.{◌∙◌, subst, refl}
+use Rattle.partition_index.proofs.Looking.{same_then}
+use Rattle.partition_merge.proofs.StillSeen.{still_seen}
 use Rattle.partition_merge.specs.Mergers.{AreKept}
 use Rattle.partition_merge_tests.proofs.tests.count_blocks.Goals as goal
 
@@ -8,14 +8,10 @@ pub loop-count-init : goal.loop-count-init
 loop-count-init g c = record { eye = record { number = refl; regions = refl; region_len = refl; told = refl }; same = record { older = refl; newer = refl; region_len = refl; most = refl }; kept = c.requires.kept }
 
 pub next-requires-clause-older : goal.next-requires-clause-older
-next-requires-clause-older g c =
-    let i = c.loop-count.invariant in
-    subst (IsSeen (g.E.LogEye.state c.loop-count.eye)) (sym i.same.older) (seen_same (g.E.LogEye.state c.args.eye.now) (g.E.LogEye.state c.loop-count.eye) _ i.eye c.requires.older)
+next-requires-clause-older g c = still_seen (g.E.LogEye.state c.args.eye.now) (g.E.LogEye.state c.loop-count.eye) _ _ c.loop-count.invariant.eye c.loop-count.invariant.same.older c.requires.older
 
 pub next-requires-clause-newer : goal.next-requires-clause-newer
-next-requires-clause-newer g c =
-    let i = c.loop-count.invariant in
-    subst (IsSeen (g.E.LogEye.state c.loop-count.eye)) (sym i.same.newer) (seen_same (g.E.LogEye.state c.args.eye.now) (g.E.LogEye.state c.loop-count.eye) _ i.eye c.requires.newer)
+next-requires-clause-newer g c = still_seen (g.E.LogEye.state c.args.eye.now) (g.E.LogEye.state c.loop-count.eye) _ _ c.loop-count.invariant.eye c.loop-count.invariant.same.newer c.requires.newer
 
 pub loop-count-preserved : goal.loop-count-preserved
 loop-count-preserved g c =

@@ -1,20 +1,16 @@
-use Rattle.std.proofs.Common.{◌∙◌, sym, subst, rules, refl}
-use Rattle.partition_index.specs.Parts.{IsSeen}
-use Rattle.partition_index.proofs.Looking.{seen_same, same_then}
+use Rattle.std.proofs.Common.{◌∙◌, rules, refl}
+use Rattle.partition_index.proofs.Looking.{same_then}
+use Rattle.partition_merge.proofs.StillSeen.{still_seen}
 use Rattle.partition_merge_tests.proofs.tests.node_by_node.Goals as goal
 
 pub loop-all-init : goal.loop-all-init
 loop-all-init g c = record { same = record { number = refl; regions = refl; region_len = refl; told = refl }; older = refl; newer = refl; region_len = refl; kept = c.requires.kept }
 
 pub next_node-requires-clause-older : goal.next_node-requires-clause-older
-next_node-requires-clause-older g c =
-    let i = c.loop-all.invariant in
-    subst (IsSeen (g.E.LogEye.state c.loop-all.eye)) (sym i.older) (seen_same (g.E.LogEye.state c.args.eye.now) (g.E.LogEye.state c.loop-all.eye) _ i.same c.requires.older)
+next_node-requires-clause-older g c = still_seen (g.E.LogEye.state c.args.eye.now) (g.E.LogEye.state c.loop-all.eye) _ _ c.loop-all.invariant.same c.loop-all.invariant.older c.requires.older
 
 pub next_node-requires-clause-newer : goal.next_node-requires-clause-newer
-next_node-requires-clause-newer g c =
-    let i = c.loop-all.invariant in
-    subst (IsSeen (g.E.LogEye.state c.loop-all.eye)) (sym i.newer) (seen_same (g.E.LogEye.state c.args.eye.now) (g.E.LogEye.state c.loop-all.eye) _ i.same c.requires.newer)
+next_node-requires-clause-newer g c = still_seen (g.E.LogEye.state c.args.eye.now) (g.E.LogEye.state c.loop-all.eye) _ _ c.loop-all.invariant.same c.loop-all.invariant.newer c.requires.newer
 
 pub loop-all-preserved : goal.loop-all-preserved
 loop-all-preserved g c =

@@ -71,44 +71,47 @@ fn changed(alloc: Global, bytes: &[u8], at: usize, byte: u8) -> Result<Vec<u8>, 
     Ok(copy)
 }
 
+/// The first of some bytes of a header that is not told at a place where it is another.
+fn told_elsewhere(
+    alloc: Global,
+    header: &[u8],
+    region_len: u64,
+    place: u32,
+    bytes: &[(usize, u8)],
+) -> Result<Option<(usize, u8)>, Fail> {
+    for (at, byte) in bytes {
+        let damaged = changed(alloc, header, *at, *byte)?;
+        if header_of(&damaged, region_len) != Err(place) {
+            return Ok(Some((*at, *byte)));
+        }
+    }
+    Ok(None)
+}
+
 #[test]
 fn damaged_headers_are_told_at_their_first_bad_field(rt: HostRuntime) -> Result<(), Fail> {
     let alloc = rt.alloc();
     assert_eq!(rt; header_of(&PUT, 4096), Err(5));
-    let of_one: [(usize, u8, u32); 9] = [
-        (4, b'X', 1),
-        (10, 0, 5),
-        (20, 0, 13),
-        (28, 0, 21),
-        (32, 0, 33),
-        (36, 0, 33),
-        (36, 2, 33),
-        (40, 0, 37),
-        (37, 1, 37),
+    // each place that is told, with the bytes that are another there
+    let of_one: [(u32, &[(usize, u8)]); 6] = [
+        (1, &[(4, b'X')]),
+        (5, &[(10, 0)]),
+        (13, &[(20, 0)]),
+        (21, &[(28, 0)]),
+        (33, &[(32, 0), (36, 0), (36, 2)]),
+        (37, &[(40, 0), (37, 1)]),
     ];
-    let of_two: [(usize, u8, u32); 8] = [
-        (41, 1, 41),
-        (41, 9, 41),
-        (41, 3, 37),
-        (39, 0, 37),
-        (39, 0x40, 37),
-        (45, 3, 42),
-        (45, 8, 42),
-        (49, 1, 46),
+    let of_two: [(u32, &[(usize, u8)]); 4] = [
+        (37, &[(41, 3), (39, 0), (39, 0x40)]),
+        (41, &[(41, 1), (41, 9)]),
+        (42, &[(45, 3), (45, 8)]),
+        (46, &[(49, 1)]),
     ];
-    let tables: [(&[u8], u64, &[(usize, u8, u32)]); 2] = [
-        (&PUT, 4_194_304, &of_one),
-        (&LEAD, 4096, &of_two),
-    ];
-    for (header, region_len, table) in tables {
-        for (at, byte, place) in table {
-            let bytes = changed(alloc, header, *at, *byte)?;
-            assert_eq!(rt;
-                header_of(&bytes, region_len),
-                Err(*place),
-                "{byte} at {at}"
-            );
-        }
+    for (place, bytes) in of_one {
+        assert_eq!(rt; told_elsewhere(alloc, &PUT, 4_194_304, place, bytes)?, None);
+    }
+    for (place, bytes) in of_two {
+        assert_eq!(rt; told_elsewhere(alloc, &LEAD, 4096, place, bytes)?, None);
     }
     Ok(())
 }
@@ -246,15 +249,9 @@ fn a_partition_is_encoded_byte_by_byte(rt: HostRuntime) -> Result<(), Fail> {
 fn a_split_takes_471_bytes(rt: HostRuntime) -> Result<(), Fail> {
     let alloc = rt.alloc();
     let mut body = Vec::new(alloc);
-    let rows: [&[u8]; 4] = [
-        b"\x01\x00\x40\x00\x00\x00\x00\x00\x00\x00\x00\x00\x00\x00\x01\x00\x00\x00\x09\x00\x00\x00\x03\x00\x00\x00\x04\x02",
-        b"\x06\x00\x40\x00\x00\x00\x01\x00\x00\x00\x00\x00\x00\x00\x21\x00\x00\x00\x0b\x0aBBAaAaAaAa",
-        b"\x04\x00\x40\x00\x00\x00\x01\x00\x00\x00\x00\x00\x00\x00\x22\x00\x00\x00\x0e\x0aAaAaAaAaC#\x00\x011",
-        b"\x02\x00\x40\x00\x00\x00\x02\x00\x00\x00\x00\x00\x00\x00\x01\x00\x00\x00\xe1\x10",
-    ];
-    for row in rows {
-        body.extend_from_slice(row).ok().ok_or("memory")?;
-    }
+    let front =
+        b"\x01\x00\x40\x00\x00\x00\x00\x00\x00\x00\x00\x00\x00\x00\x01\x00\x00\x00\x09\x00\x00\x00\x03\x00\x00\x00\x04\x02\x06\x00\x40\x00\x00\x00\x01\x00\x00\x00\x00\x00\x00\x00\x21\x00\x00\x00\x0b\x0aBBAaAaAaAa\x04\x00\x40\x00\x00\x00\x01\x00\x00\x00\x00\x00\x00\x00\x22\x00\x00\x00\x0e\x0aAaAaAaAaC#\x00\x011\x02\x00\x40\x00\x00\x00\x02\x00\x00\x00\x00\x00\x00\x00\x01\x00\x00\x00\xe1\x10";
+    body.extend_from_slice(front).ok().ok_or("memory")?;
     let pieces = [b"Aa", b"BB"];
     for second in pieces {
         for third in pieces {

@@ -285,11 +285,17 @@ fn a_full_leaf_takes_no_other_key(rt: HostRuntime) -> Result<(), Fail> {
     Ok(())
 }
 
+/// The bucket with pairs, of which one was removed since.
+fn with_one_pair_less(alloc: Global) -> Result<Bucket, Fail> {
+    let mut bucket = with_pairs(alloc)?;
+    change(&mut bucket, alloc, 4, 10, None)?;
+    Ok(bucket)
+}
+
 #[test]
 fn a_changed_node_is_changed_in_any_way_and_taken_back(rt: HostRuntime) -> Result<(), Fail> {
     let alloc = rt.alloc();
-    let mut bucket = with_pairs(alloc)?;
-    change(&mut bucket, alloc, 4, 10, None)?;
+    let mut bucket = with_one_pair_less(alloc)?;
     set_version(&mut bucket, 1, 9)?;
     change(&mut bucket, alloc, 10, 15, Some(4))?;
     assert!(rt; has(&bucket, [0, 4, 2], 10));
@@ -301,8 +307,7 @@ fn a_changed_node_is_changed_in_any_way_and_taken_back(rt: HostRuntime) -> Resul
 #[test]
 fn a_changed_node_is_put_in_place_of_and_taken_back(rt: HostRuntime) -> Result<(), Fail> {
     let alloc = rt.alloc();
-    let mut bucket = with_pairs(alloc)?;
-    change(&mut bucket, alloc, 4, 10, None)?;
+    let mut bucket = with_one_pair_less(alloc)?;
     bucket.put(1, leaf(alloc, 1, 1)).ok().ok_or("memory")?;
     bucket.undo();
     assert!(rt; has(&bucket, [1, 0, 2], 3));

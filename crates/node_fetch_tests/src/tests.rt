@@ -12,6 +12,7 @@ use node_record::write_row;
 use partition_index::{IndexEntry, entry_bytes};
 use partition_index_tests::ONE_ROW;
 use std::alloc::Global;
+use std::ops::Range;
 use std::test::*;
 
 const LEN: u64 = 16_384;
@@ -165,16 +166,10 @@ fn image(alloc: Global, number: u32, version: u64) -> Result<Row, Fail>
     })
 }
 
-/// The bytes of puts of a node, whose versions follow.
-fn puts(
-    alloc: Global,
-    out: &mut Vec<u8>,
-    number: u32,
-    version: u32,
-    count: u32,
-) -> Result<(), Fail> {
-    for i in 0..count {
-        let row = put(alloc, number, u64::from(version) + u64::from(i))?;
+/// The bytes of puts of a node, one of each version.
+fn puts(alloc: Global, out: &mut Vec<u8>, number: u32, versions: Range<u32>) -> Result<(), Fail> {
+    for version in versions {
+        let row = put(alloc, number, u64::from(version))?;
         write_row(out, &row)?;
     }
     Ok(())
@@ -212,11 +207,11 @@ fn lay_puts(
     alloc: Global,
     regions: &mut Vec<Vec<u8>>,
     start: usize,
-    version: u32,
-    count: u32,
+    versions: Range<u32>,
 ) -> Result<(), Fail> {
     let mut body = Vec::new(alloc);
-    puts(alloc, &mut body, 1, version, count)?;
+    let count = versions.end.saturating_sub(versions.start);
+    puts(alloc, &mut body, 1, versions)?;
     entry(&mut body, 1, 0, count)?;
     lay(alloc, regions, start, &body)
 }
@@ -228,8 +223,8 @@ fn lay_two(
     entries: [(u32, u32, u32); 2],
 ) -> Result<(), Fail> {
     let mut body = Vec::new(alloc);
-    puts(alloc, &mut body, 1, 2, 1)?;
-    puts(alloc, &mut body, 2, 1, 1)?;
+    puts(alloc, &mut body, 1, 2..3)?;
+    puts(alloc, &mut body, 2, 1..2)?;
     for (number, offset, rows) in entries {
         entry(&mut body, number, offset, rows)?;
     }
@@ -239,7 +234,7 @@ fn lay_two(
 /// A part of node 2 alone.
 fn lay_other(alloc: Global, regions: &mut Vec<Vec<u8>>) -> Result<(), Fail> {
     let mut body = Vec::new(alloc);
-    puts(alloc, &mut body, 2, 2, 1)?;
+    puts(alloc, &mut body, 2, 2..3)?;
     entry(&mut body, 2, 0, 1)?;
     lay(alloc, regions, 41, &body)
 }
@@ -249,7 +244,7 @@ fn lay_folded(alloc: Global, regions: &mut Vec<Vec<u8>>) -> Result<(), Fail> {
     let mut body = Vec::new(alloc);
     let image = image(alloc, 1, 703)?;
     write_row(&mut body, &image)?;
-    puts(alloc, &mut body, 1, 704, 1)?;
+    puts(alloc, &mut body, 1, 704..705)?;
     entry(&mut body, 1, 0, 2)?;
     lay(alloc, regions, 41, &body)
 }
@@ -258,7 +253,7 @@ fn lay_folded(alloc: Global, regions: &mut Vec<Vec<u8>>) -> Result<(), Fail> {
 fn lay_thousand(alloc: Global, regions: &mut Vec<Vec<u8>>) -> Result<(), Fail> {
     let mut body = Vec::new(alloc);
     for i in 0..1000 {
-        puts(alloc, &mut body, i + 1, 1, 1)?;
+        puts(alloc, &mut body, i + 1, 1..2)?;
     }
     for i in 0..1000 {
         entry(&mut body, i + 1, 24 * i, 1)?;
@@ -269,10 +264,10 @@ fn lay_thousand(alloc: Global, regions: &mut Vec<Vec<u8>>) -> Result<(), Fail> {
 /// The regions of the first four parts.
 fn lay_first(alloc: Global) -> Result<Vec<Vec<u8>>, Fail> {
     let mut regions = Vec::new(alloc);
-    lay_puts(alloc, &mut regions, 41, 1, 1)?;
+    lay_puts(alloc, &mut regions, 41, 1..2)?;
     lay_two(alloc, &mut regions, [(1, 0, 1), (2, 24, 1)])?;
     lay_other(alloc, &mut regions)?;
-    lay_puts(alloc, &mut regions, 70, 3, 700)?;
+    lay_puts(alloc, &mut regions, 70, 3..703)?;
     Ok(regions)
 }
 
@@ -282,9 +277,9 @@ fn look(alloc: Global, folded: bool, fails: u64) -> Result<Eye, Fail> {
     if folded {
         lay_folded(alloc, &mut regions)?;
     } else {
-        lay_puts(alloc, &mut regions, 41, 703, 2)?;
+        lay_puts(alloc, &mut regions, 41, 703..705)?;
     }
-    lay_puts(alloc, &mut regions, 41, 705, 1)?;
+    lay_puts(alloc, &mut regions, 41, 705..706)?;
     Ok(eye_on(regions, fails))
 }
 
@@ -347,7 +342,7 @@ fn fetch_over(alloc: Global, at: usize, bytes: &[u8]) -> Result<(bool, u32), Fai
     requires { at < 48 }
 {
     let mut region = vec![in alloc; 0; 41]?;
-    puts(alloc, &mut region, 1, 703, 2)?;
+    puts(alloc, &mut region, 1, 703..705)?;
     for (i, byte) in bytes.iter().enumerate() {
         if let Some(there) = region.get_mut(41 + at + i) {
             *there ^= byte;

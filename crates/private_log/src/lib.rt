@@ -92,6 +92,15 @@ impl PrivateLog {
         }
     }
 
+    /// A log with no rows, and with memory for so many rows, where it is to be had.
+    pub fn with_capacity(alloc: Global, rows: usize) -> PrivateLog
+        ensures { result ≡ [] }
+    {
+        let mut log = PrivateLog::new(alloc);
+        let _ = log.rows.reserve_exact(rows);
+        log
+    }
+
     /// Puts a copy of a row, whose body is within the format's bounds, behind those that are there. `NoMemory` is the only refusal, and
     /// leaves the log as it was.
     pub fn push(&mut self, row: &Row) -> Result<(), NoMemory>

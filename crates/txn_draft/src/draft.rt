@@ -8,6 +8,14 @@ use std::alloc::Global;
 use std::marker::Model;
 use std::mem;
 
+/// Whether a call may write, and then pushes a row at least.
+fn may_write(call: &Call) -> bool {
+    match call {
+        Call::Put { .. } | Call::Del { .. } | Call::Add { .. } => true,
+        Call::Get { .. } | Call::Scan { .. } => false,
+    }
+}
+
 /// An open transaction: the calls that were answered, their replies, what they write, and the rows that they pushed. Contracts see what its
 /// entry is to have. It holds no bucket.
 #[derive(Drop)]
@@ -46,6 +54,20 @@ impl Draft {
             log: PrivateLog::new(alloc),
             failed: false,
         }
+    }
+
+    /// The same for a transaction of which all calls are known: it takes memory for what they leave, where it is to be had, and no more than that. An entry then
+    /// has no list that is longer than it needs to be, however many of them are kept.
+    pub fn for_calls(alloc: Global, lane: u8, turn: u32, calls: &[Call]) -> Draft
+        ensures { result ≡ blank lane turn }
+    {
+        let writing = calls.iter().filter(|call| may_write(call)).count();
+        let mut draft = Draft::new(alloc, lane, turn);
+        let _ = draft.calls.reserve_exact(calls.len());
+        let _ = draft.replies.reserve_exact(calls.len());
+        let _ = draft.writes.reserve_exact(writing);
+        draft.log = PrivateLog::with_capacity(alloc, writing);
+        draft
     }
 
     /// Whether a call answered want of memory. The buckets are then to be undone, and the draft cleared.

@@ -43,7 +43,7 @@ impl<D: LogDisk> Runner<D> {
         requires txn { FitsTxn txn.now }
         ensures { IsHeld self.new.room.room self.new.view × ((group : ℕ) → 1 ≤ group → Tries group (body self.old buckets.old) (body self.new buckets.new) txn.now turn result) }
     {
-        let mut draft = Draft::new(alloc, txn.lane, turn);
+        let mut draft = Draft::for_calls(alloc, txn.lane, turn, txn.calls.as_slice());
         match self.answer(buckets, &mut draft, txn.calls.as_slice(), keep) {
             Ok(refusal) => match refusal {
                 None => match txn.ending {

@@ -7,10 +7,11 @@ ghost use Rattle.merge_policy.specs.Young.{is_crowded, young_from, young_run};
 use crate::figures::{Space, is_low, part_len};
 use fine_model::Part;
 
-/// From so many live parts on the youngest are gathered, and where few regions are free for the bytes of all parts from so many on.
+/// From so many live parts on the youngest are gathered.
 const MANY: usize = 17;
 
-const MANY_FOR_FEW: usize = 9;
+/// The same where so few regions are free that lengths are to fall.
+const MANY_IF_LOW: usize = 9;
 
 /// At least so many parts stand behind the oldest of those that are gathered.
 const BEHIND: usize = 3;
@@ -59,14 +60,14 @@ fn is_crowded(parts: &[Part], space: Space) -> bool
     ensures { result ≡ is_crowded space parts.now }
 {
     (space.is_pressed && MANY <= parts.len())
-        || (MANY_FOR_FEW <= parts.len() && is_low(space, parts))
+        || (MANY_IF_LOW <= parts.len() && is_low(space, parts))
 }
 
 /// Where the youngest parts of the chain begin that are gathered into one, if any are: the first epoch of the oldest of them.
 ///
 /// None while enough regions are free: while the room is not pressed, the chain has fewer than nine parts, or it has fewer than 17 and all of them, written once more, would leave two of the
-/// free regions. Else the oldest part decides that is at most one and a half times as long as all parts behind it together, of which there are three at least, where it and these have at most 4 MiB, and fit a region. So short
-/// epochs are written anew some seven times until they are nearly as long as a region, where merges of two alone would write them once for each doubling of their number.
+/// free regions. Else the oldest part decides that is at most one and a half times as long as all parts behind it together, of which there are three at least, where it and these have at most 4 MiB, and fit a region.
+/// So short epochs are written anew a few times until they are nearly as long as a region, where merges of two alone would write them once for each doubling of their number.
 pub fn young_run(parts: &[Part], space: Space) -> Option<u64>
     requires long { space.region_len ≤ longest_region }
     ensures { result ≡ young_run space parts.now }

@@ -10,5 +10,5 @@ pub enum MergeFault {
     Fetch(FetchFault),
 }
 
-/// What merging answers.
+/// What a call that merges answers: its value, or why it did not come to one.
 pub type MergeResult<T> = Result<T, MergeFault>;

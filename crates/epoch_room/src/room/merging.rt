@@ -46,7 +46,7 @@ fn with_next(older: &Part, behind: &[Part]) -> Option<(Part, Part)>
     Some((*older, *newer))
 }
 
-/// The first two neighbours of a chain whose older part begins at an epoch or later.
+/// The first two neighbours of a chain, the older one first, of which the older one begins at an epoch or later: None where no part that does has another behind it. It takes no memory.
 #[tactic(auto, unfolding(crate::specs::MergeSteps::neighbours_from))]
 pub fn first_neighbours(parts: &[Part], from: u64) -> Option<(Part, Part)>
     ensures { result ≡ neighbours_from from parts.now }

@@ -1,4 +1,4 @@
--- What a row that sets or removes a pair makes of a leaf.
+-- What a row that sets or removes a pair, or cuts pairs off, makes of a leaf.
 use Rattle.std.proofs.Common.{◌≡◌, ℕ, ◌+◌, ◌≤◌, Bool, true, false, cond, List, length, Option, Some, None, is_some, refl, sym, ap, subst, ◌∙◌, eq-eqb, true≢false}
 use Rattle.std.proofs.Common.{Result, Ok, Err, IfOk, OnErr, nat_eq}
 use Rattle.std.specs.Map.{lookup, set_value}
@@ -28,11 +28,13 @@ pub changed_leaf : (pairs : List Pair) (r : Rec) → changes_leaf pairs r ≡ tr
 unfolding changed
 changed_leaf pairs (rec.Put key value) does few = fits_leaf (set pairs key value) few
 changed_leaf pairs (rec.Del key) does few = refl
+changed_leaf pairs (rec.CutLeaf key) does few = refl
 changed_leaf pairs _ does few = absurd (true≢false (sym does))
 
 stepped : (old : Node) (v version : ℕ) (r : Rec) (pairs : List Pair) → changes_leaf pairs r ≡ true → version ≡ v + 1 → step_node (old, v) version r ≡ changed old r
 stepped old v version (rec.Put key value) pairs does next = ap (λ b. cond b (changed old (rec.Put key value)) node.Broken) (eq-eqb version (v + 1) next)
 stepped old v version (rec.Del key) pairs does next = ap (λ b. cond b (changed old (rec.Del key)) node.Broken) (eq-eqb version (v + 1) next)
+stepped old v version (rec.CutLeaf key) pairs does next = ap (λ b. cond b (changed old (rec.CutLeaf key)) node.Broken) (eq-eqb version (v + 1) next)
 stepped old v version _ pairs does next = absurd (true≢false (sym does))
 
 -- a leaf stays within bounds

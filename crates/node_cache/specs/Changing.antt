@@ -1,7 +1,7 @@
--- Changes of one pair of a cached leaf.
+-- Changes of the pairs of a cached leaf.
 use Rattle.std.specs.Prelude.{◌≡◌, ◌≤◌, ℕ, ◌+◌, ◌==◌, nat_eq, nat_lt, Bool, true, false, ◌&&◌, ◌||◌, List, [], length, Option, Some, None, Result, Ok, Err, option_map, unwrap_or}
 use Rattle.std.specs.Map.{lookup, set_value}
-use Rattle.fine_model.specs.Map.{Pair, set, unset, has}
+use Rattle.fine_model.specs.Map.{Pair, set, unset, has, pairs_below}
 use Rattle.fine_model.specs.Nodes.{step}
 use Rattle.fine_model.specs.Trees.{pairs_of}
 use Rattle.fine_model.specs.declared.list.NoMemory.{NoMemory}
@@ -19,17 +19,18 @@ use Rattle.node_cache.specs.Cache.{Cache, cached, saving, rewritten}
 use Rattle.node_cache.specs.Undo.{CanTakeBack, back}
 use Rattle.node_cache.specs.Originals.{noted}
 
--- a leaf has the key that is set or removed, or has room for the one that is set
+-- a leaf has the key that is set or removed, or has room for the one that is set; each can be cut
 abbrev pub changes_leaf : List Pair → Rec → Bool
 changes_leaf pairs (rec.Put key value) = has pairs key || nat_lt (length pairs) most_in_node
 changes_leaf pairs (rec.Del key) = has pairs key
+changes_leaf pairs (rec.CutLeaf key) = true
 changes_leaf pairs _ = false
 
 abbrev pub changes_node : Node → Rec → Bool
 changes_node (node.Leaf pairs) change = changes_leaf pairs change
 changes_node _ change = false
 
--- a row is the next one of a cached leaf, and sets or removes one of its pairs
+-- a row is the next one of a cached leaf, and sets or removes one of its pairs, or cuts pairs off
 abbrev pub changes_pair : Cached → Row → Bool
 changes_pair kept row = (row.version == kept.version + 1) && changes_node kept.node row.rec
 
@@ -41,6 +42,7 @@ pub record FitsChange (row : Row) : Type 0 where
 abbrev pub changed_pairs : List Pair → Rec → List Pair
 changed_pairs pairs (rec.Put key value) = set pairs key value
 changed_pairs pairs (rec.Del key) = unset pairs key
+changed_pairs pairs (rec.CutLeaf key) = pairs_below key pairs
 changed_pairs pairs _ = pairs
 
 -- a leaf was changed as a row says, and as a step takes back
@@ -85,7 +87,7 @@ pub record IsUnchanged (nodes nodes' : List (ℕ × Cached)) (saved saved' : Lis
   pub same_nodes : nodes' ≡ nodes
   pub same_saved : saved' ≡ saved
 
--- a row changes a pair of what is cached of a number
+-- a row changes pairs of what is cached of a number
 abbrev pub changes_cached : Option Cached → Row → Bool
 changes_cached kept row = unwrap_or (option_map (λ k. changes_pair k row) kept) false
 

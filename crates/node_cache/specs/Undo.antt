@@ -1,5 +1,5 @@
 -- What takes back the changes of a leaf's pairs.
-use Rattle.std.specs.Prelude.{◌≡◌, ℕ, ◌<◌, ◌≤◌, List, [], ◌∷◌, ◌++◌, length, map, IsTrue, reverse, Option, Some, None, option_map, unwrap_or, slice_get, slice_set, vec_capacity, ⊤}
+use Rattle.std.specs.Prelude.{◌≡◌, ℕ, ◌<◌, ◌≤◌, List, [], ◌∷◌, ◌++◌, length, map, IsTrue, reverse, Option, Some, None, option_map, unwrap_or, slice_get, slice_set, vec_len, vec_capacity, ◌+◌, ⊤}
 use Rattle.std.specs.List.{insert, remove}
 use Rattle.fine_model.specs.Map.{Pair, is_ascending}
 use Rattle.fine_model.specs.RowBytes.{most_in_node}
@@ -24,12 +24,14 @@ abbrev pub back : Step → List Pair → List Pair
 back (step.Replaced at value) pairs = with_value pairs at value
 back (step.Inserted at) pairs = remove pairs at
 back (step.Removed at pair room) pairs = insert pairs at pair
+back (step.Cut cut) pairs = pairs ++ reverse cut.items
 
 -- a step stands for a change that left these pairs
 abbrev pub CanTakeBack : Step → List Pair → Type 0
 CanTakeBack (step.Replaced at value) pairs = at < length pairs
 CanTakeBack (step.Inserted at) pairs = at < length pairs
 CanTakeBack (step.Removed at pair room) pairs = (at ≤ length pairs) × (length pairs < vec_capacity room) × (room.items ≡ [])
+CanTakeBack (step.Cut cut) pairs = vec_len cut + length pairs ≤ vec_capacity cut
 
 -- the pairs before changes, of which the latest comes first
 abbrev pub all_back : List Step → List Pair → List Pair

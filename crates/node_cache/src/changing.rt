@@ -1,4 +1,4 @@
-//! Changes of one pair of a cached leaf.
+//! Changes of the pairs of a cached leaf.
 
 ghost use Rattle.std.specs.Prelude.{◌≡◌, ◌≤◌, IfOk, OnErr, is_some, nat_eq, length};
 ghost use Rattle.std.specs.Map.{lookup};
@@ -9,14 +9,14 @@ ghost use Rattle.node_cache.specs.Changing.{changes_pair, changes_leaf, changed_
 
 use crate::cached::Cached;
 use crate::original::{Original, note};
-use crate::pairs::{set_pair, unset_pair};
+use crate::pairs::{cut_pairs, set_pair, unset_pair};
 use crate::undo::{Step, UndoLog, rewind};
 use fine_model::{Items, NoMemory, Node, Pairs, Rec, Row};
 use indexmap::IndexMap;
 use std::alloc::Global;
 use std::snapshot::Snapshot;
 
-/// Sets or removes a pair of a leaf. Answers what takes this back, or none where nothing is changed.
+/// Sets or removes a pair of a leaf, or cuts pairs off. Answers what takes this back, or none where nothing is changed.
 fn change_leaf(alloc: Global, pairs: &mut Pairs, change: &Rec) -> Result<Option<Step>, NoMemory>
     requires { IsOfLeaf pairs.old }
     ensures done { IfOk result (λ step. is_some step ≡ changes_leaf pairs.old change.now) }
@@ -27,11 +27,12 @@ fn change_leaf(alloc: Global, pairs: &mut Pairs, change: &Rec) -> Result<Option<
     match change {
         Rec::Put { key, value } => set_pair(alloc, pairs, key.as_slice(), value.as_slice()),
         Rec::Del { key } => unset_pair(alloc, pairs, key.as_slice()),
+        Rec::CutLeaf { key } => cut_pairs(alloc, pairs, key.as_slice()),
         _ => Ok(None),
     }
 }
 
-/// Does to a leaf what a row says of one of its pairs. Answers what takes this back, or none where nothing is changed.
+/// Does to a leaf what a row says of its pairs. Answers what takes this back, or none where nothing is changed.
 fn step_pair(alloc: Global, kept: &mut Cached, row: &Row) -> Result<Option<Step>, NoMemory>
     requires row { FitsChange row.now }
     ensures done { IfOk result (λ step. is_some step ≡ changes_pair kept.old row.now) }
@@ -51,7 +52,7 @@ fn step_pair(alloc: Global, kept: &mut Cached, row: &Row) -> Result<Option<Step>
     Ok(step)
 }
 
-/// Does to a cached leaf what a row says of one of its pairs, and notes what takes this back. Answers whether it did.
+/// Does to a cached leaf what a row says of its pairs, and notes what takes this back. Answers whether it did.
 fn change_kept(
     alloc: Global,
     kept: &mut Cached,
@@ -86,7 +87,7 @@ fn change_kept(
     Ok(true)
 }
 
-/// Does to a cached leaf what a row says of one of its pairs, and saves what takes this back. Answers whether it did.
+/// Does to a cached leaf what a row says of its pairs, and saves what takes this back. Answers whether it did.
 pub fn change_pair(
     nodes: &mut IndexMap<u32, Cached>,
     saved: &mut IndexMap<u32, Original>,

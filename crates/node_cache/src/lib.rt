@@ -202,11 +202,11 @@ impl Bucket {
         }
     }
 
-    /// Does to a cached leaf what a row says that sets or removes one of its pairs, with the order of last use as it was. Answers
-    /// whether it did: false exactly where no leaf is cached of the number, the row is not its next version, or is no `Put` or
-    /// `Del`, the key of a `Del` is not in the leaf, or that of a `Put` is not and the leaf is full; the bucket is then as it was.
-    /// A number that was not saved is saved, at the cost of the pair and not of the node. `NoMemory` is the only refusal, and leaves
-    /// the bucket as it was.
+    /// Does to a cached leaf what a row says that sets or removes one of its pairs, or cuts pairs off, with the order of last use as it
+    /// was. Answers whether it did: false exactly where no leaf is cached of the number, the row is not its next version, or is no `Put`,
+    /// `Del` or `CutLeaf`, the key of a `Del` is not in the leaf, or that of a `Put` is not and the leaf is full; the bucket is then as it
+    /// was. A number that was not saved is saved, at the cost of the pair and not of the node; pairs that are cut off are moved and not
+    /// copied. `NoMemory` is the only refusal, and leaves the bucket as it was.
     pub fn change_pair(&mut self, row: &Row) -> Result<bool, NoMemory>
         requires rec { FitsRec row.now.rec }
         requires version { row.now.version ≤ greatest }

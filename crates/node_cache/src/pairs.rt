@@ -1,11 +1,11 @@
 //! The pairs of a leaf.
 
-ghost use Rattle.std.specs.Prelude.{◌≡◌, ◌<◌, ◌≤◌, ◌||◌, nat_lt, IfOk, IfErr, OnOk, OnErr, Some, option_copied, option_map, is_some, length, slice_get};
-ghost use Rattle.fine_model.specs.Map.{get, has, set, unset};
+ghost use Rattle.std.specs.Prelude.{◌≡◌, ◌<◌, ◌≤◌, ◌||◌, nat_lt, true, IfOk, IfErr, OnOk, OnErr, Some, option_copied, option_map, is_some, length, take, slice_get};
+ghost use Rattle.fine_model.specs.Map.{get, has, set, unset, pairs_below};
 ghost use Rattle.fine_model.specs.RowBytes.{most_in_node};
 ghost use Rattle.node_cache.specs.Undo.{TakesBack, with_value, IsOfLeaf};
 
-use crate::undo::Step;
+use crate::undo::{Step, pour};
 use fine_model::format::MOST_IN_NODE;
 use fine_model::{Bytes, Items, NoMemory, Pairs};
 use node_record::find_pair;
@@ -73,4 +73,30 @@ pub fn unset_pair(alloc: Global, pairs: &mut Pairs, key: &[u8]) -> Result<Option
     let room = Vec::with_capacity(alloc, pairs.len())?;
     let pair = pairs.remove(at);
     Ok(Some(Step::Removed { at, pair, room }))
+}
+
+/// How many pairs have keys below one.
+fn count_below(pairs: &Pairs, key: &[u8]) -> usize
+    requires { IsOfLeaf pairs.now }
+    ensures within { result ≤ length pairs.now }
+    ensures lower { take result pairs.now ≡ pairs_below key.now pairs.now }
+{
+    match find_pair(pairs, key) {
+        Ok(at) => at,
+        Err(at) => at,
+    }
+}
+
+/// Keeps the pairs with keys below one, and moves the others into what takes this back.
+pub fn cut_pairs(alloc: Global, pairs: &mut Pairs, key: &[u8]) -> Result<Option<Step>, NoMemory>
+    requires { IsOfLeaf pairs.old }
+    ensures done { IfOk result (λ step. is_some step ≡ true) }
+    ensures step { IfOk result (λ step. TakesBack step pairs.old pairs.new (pairs_below key.now pairs.old)) }
+    ensures few { length pairs.new ≤ most_in_node }
+    ensures err { OnErr result (pairs.new ≡ pairs.old) }
+{
+    let from = count_below(pairs, key);
+    let mut cut = Vec::with_capacity(alloc, pairs.len())?;
+    pour(pairs, from, &mut cut);
+    Ok(Some(Step::Cut { cut }))
 }

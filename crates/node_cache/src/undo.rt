@@ -29,6 +29,10 @@ pub enum Step {
         pair: (Bytes, Bytes),
         room: Vec<(Bytes, Bytes)>,
     },
+    /// These pairs stood behind all others, the last one first here. The list has room for the others too, so that putting them back takes no memory.
+    Cut {
+        cut: Vec<(Bytes, Bytes)>,
+    },
 }
 
 /// What takes back all changes of a leaf: its version and epoch before them, and the step of each change, of which most leaves
@@ -43,7 +47,7 @@ pub struct UndoLog {
 }
 
 /// Moves the pairs from a place on into a list with room for them, the last one first.
-fn pour(pairs: &mut Pairs, from: usize, room: &mut Vec<(Bytes, Bytes)>)
+pub fn pour(pairs: &mut Pairs, from: usize, room: &mut Vec<(Bytes, Bytes)>)
     requires from { from ≤ length pairs.old }
     requires room { vec_len room.old + (length pairs.old - from) ≤ vec_capacity room.old }
     ensures pairs { pairs.new ≡ take from pairs.old }
@@ -57,6 +61,17 @@ fn pour(pairs: &mut Pairs, from: usize, room: &mut Vec<(Bytes, Bytes)>)
     }
 }
 
+/// Puts pairs back that stood behind the others. The list has the last one first.
+fn put_behind(pairs: &mut Pairs, cut: Vec<(Bytes, Bytes)>)
+    requires { vec_len cut + length pairs.old ≤ vec_capacity cut }
+    ensures { pairs.new ≡ pairs.old ++ reverse cut.items }
+{
+    let mut all = cut;
+    pour(pairs, 0, &mut all);
+    all.reverse();
+    *pairs = Items::from_vec(all);
+}
+
 /// Puts a pair back that was removed.
 fn put_back(pairs: &mut Pairs, at: usize, pair: (Bytes, Bytes), room: Vec<(Bytes, Bytes)>)
     requires at { at ≤ length pairs.old }
@@ -67,9 +82,7 @@ fn put_back(pairs: &mut Pairs, at: usize, pair: (Bytes, Bytes), room: Vec<(Bytes
     let mut room = room;
     pour(pairs, at, &mut room);
     room.push_reserved(pair);
-    pour(pairs, 0, &mut room);
-    room.reverse();
-    *pairs = Items::from_vec(room);
+    put_behind(pairs, room);
 }
 
 /// Takes back one change.
@@ -85,6 +98,7 @@ fn take_back(alloc: Global, pairs: &mut Pairs, step: Step)
             let _later = pairs.remove(at);
         }
         Step::Removed { at, pair, room } => put_back(pairs, at, pair, room),
+        Step::Cut { cut } => put_behind(pairs, cut),
     }
 }
 

@@ -162,6 +162,21 @@ fn text(alloc: Global, byte: u8) -> Result<Bytes, Fail>
     Ok(text)
 }
 
+/// A row of node 1.
+fn row_of(version: u64, rec: Rec) -> Row
+    ensures rec { result.rec ≡ rec }
+    ensures version { result.version ≡ version }
+{
+    Row {
+        node: NodeId {
+            bucket: 64,
+            number: 1,
+        },
+        version,
+        rec,
+    }
+}
+
 /// Sets a key of node 1 to a value, or removes it, by the row of this version. Answers whether that was done.
 fn change(
     bucket: &mut Bucket,
@@ -180,14 +195,20 @@ fn change(
         },
         None => Rec::Del { key },
     };
-    let row = Row {
-        node: NodeId {
-            bucket: 64,
-            number: 1,
-        },
+    let row = row_of(version, rec);
+    Ok(bucket.change_pair(&row).ok().ok_or("memory")?)
+}
+
+/// Cuts the pairs from a key on off node 1, by the row of this version. Answers whether that was done.
+fn cut_from(bucket: &mut Bucket, alloc: Global, version: u64, key: u8) -> Result<bool, Fail>
+    requires { version ≤ greatest }
+{
+    let row = row_of(
         version,
-        rec,
-    };
+        Rec::CutLeaf {
+            key: text(alloc, key)?,
+        },
+    );
     Ok(bucket.change_pair(&row).ok().ok_or("memory")?)
 }
 
@@ -258,6 +279,21 @@ fn changes_of_pairs_are_done_and_taken_back(rt: HostRuntime) -> Result<(), Fail>
     let refused = change_all(&mut bucket, alloc, &rows)?;
     assert!(rt; refused.as_slice() == [9u8, 6].as_slice());
     assert!(rt; has(&bucket, [7, 4, 9], 7));
+    bucket.undo();
+    assert!(rt; has(&bucket, [1, 0, 2], 3));
+    Ok(())
+}
+
+#[test]
+fn pairs_that_are_cut_off_come_back(rt: HostRuntime) -> Result<(), Fail> {
+    let alloc = rt.alloc();
+    let mut bucket = with_pairs(alloc)?;
+    assert!(rt; change(&mut bucket, alloc, 4, 15, Some(4))?);
+    assert!(rt; cut_from(&mut bucket, alloc, 5, 15)?);
+    assert!(rt; has(&bucket, [1, 0, 0], 5));
+    assert!(rt; change(&mut bucket, alloc, 6, 20, Some(9))?);
+    assert!(rt; cut_from(&mut bucket, alloc, 7, 3)?);
+    assert!(rt; has(&bucket, [0, 0, 0], 7));
     bucket.undo();
     assert!(rt; has(&bucket, [1, 0, 2], 3));
     Ok(())

@@ -1,15 +1,26 @@
 -- A number that becomes the last used.
-use Rattle.std.proofs.Common.{◌≡◌, ◌-◌, ℕ, zero, suc, Bool, true, false, cond, List, [], ◌∷◌, ◌++◌, length, position, slice_get, Option, Some, None, refl, sym, ap, ◌∙◌, nat_eq, eq-eqb, eqb-true, is_some}
+use Rattle.std.proofs.Common.{◌≡◌, ◌-◌, ℕ, zero, suc, Bool, true, false, cond, List, [], ◌∷◌, ◌++◌, length, position, slice_get, Option, Some, None, refl, sym, ap, subst, ◌∙◌, nat_eq, eq-eqb, eqb-true, is_some}
+use Rattle.std.specs.Bool.{OnTrue}
+use Rattle.std.specs.Cmp.{nat_eq_equiv}
+use Rattle.std.specs.List.{IsDistinct}
 use Rattle.std.specs.Map.{keys_of, lookup, lookup_entry, remove_entry}
 use Rattle.std.specs.Option.{option_to_list}
 use Rattle.std.proofs.lemmas.Bool.{cond-true, cond-false}
 use Rattle.indexmap.specs.IndexMap.{move_index, insert_entry}
-use Rattle.indexmap.proofs.MapLemmas.{Found-position, remove_entry-first}
-use Rattle.indexmap.proofs.RemoveLemmas.{moved_last}
+use Rattle.indexmap.proofs.MapLemmas.{Found-position, index-first, remove_entry-first}
+use Rattle.indexmap.proofs.RemoveLemmas.{moved_last, own_first}
 
 pub none_found : {A : Type 0} (o : Option A) → is_some o ≡ false → o ≡ None
 none_found None h = refl
 none_found (Some x) h = cc
+
+-- a number stands where its entry does, and nowhere before
+pub own_place : {X : Type 0} (es : List (ℕ × X)) (i j k : ℕ) (v : X) → IsDistinct nat_eq (keys_of es) → Some (j, v) ≡ slice_get es i → OnTrue (nat_eq j k) (position (nat_eq k) (keys_of es) ≡ Some i)
+own_place es i j k v distinct there = by (nat_eq j k) refl
+  where
+    by : (b : Bool) → nat_eq j k ≡ b → OnTrue b (position (nat_eq k) (keys_of es) ≡ Some i)
+    by true same = subst (λ n. position (nat_eq n) (keys_of es) ≡ Some i) (eqb-true j k same) (index-first (nat_eq j) es i (own_first nat_eq nat_eq_equiv es i j v distinct (sym there)))
+    by false other = tt
 
 -- the i-th key is the first that passes
 abbrev IsFirst : {K X : Type 0} → (K → Bool) → List (K × X) → ℕ → Type 0

@@ -24,12 +24,14 @@ mod changing;
 mod marks;
 mod original;
 mod pairs;
+mod recent;
 mod source;
 mod undo;
 
 pub use cached::Cached;
 use original::{Original, keep_whole, restore};
 pub use pairs::bytes_of;
+use recent::{look_up, place_of};
 pub use source::NodeSource;
 
 /// The cached nodes of a bucket by number, the least recently used first, and the originals of those that were saved.
@@ -107,7 +109,7 @@ impl Bucket {
     pub fn peek(&self, number: u32) -> Option<&Cached>
         ensures { option_copied result ≡ cached self.now number }
     {
-        self.nodes.get(&number)
+        look_up(&self.nodes, number)
     }
 
     /// Whether it is known that all keys of the leaf that is cached of a number are of this bucket: only where `note_own_keys` noted it and
@@ -132,7 +134,7 @@ impl Bucket {
         ensures nodes { self.new ≡ touched self.old number }
         ensures same { (n : ℕ) → cached self.new n ≡ cached self.old n }
     {
-        match self.nodes.get_index_of(&number) {
+        match place_of(&self.nodes, number) {
             Some(i) => {
                 let last = self.nodes.len() - 1;
                 self.nodes.move_index(i, last);
@@ -148,7 +150,7 @@ impl Bucket {
         ensures* touches { sem 𝓛 (EndsTouched self.entry number) }
     {
         if self.touch(number) {
-            self.nodes.get(&number)
+            look_up(&self.nodes, number)
         } else {
             None
         }

@@ -1,5 +1,5 @@
--- All keys of a fit leaf are of the bucket, and a change of one pair by a key of the bucket keeps that.
-use Rattle.std.proofs.Common.{◌≡◌, ℕ, ℤ, ◌+ℤ◌, zero, suc, ◌+◌, ◌==◌, nat_le, Bool, true, false, ◌&&◌, if◌then◌else◌, cond, List, [], ◌∷◌, ◌++◌, length, Option, None, Some, option_map, unwrap_or, IfSome, eq-eqb, refl, sym, ap, subst, ◌∙◌}
+-- All keys of a fit leaf are of the bucket, and a change of its pairs by no key but one of the bucket keeps that.
+use Rattle.std.proofs.Common.{◌≡◌, ℕ, ℤ, ◌+ℤ◌, zero, suc, ◌+◌, ◌==◌, nat_le, Bool, true, false, ◌&&◌, if◌then◌else◌, cond, List, [], ◌∷◌, ◌++◌, length, Option, None, Some, option_map, unwrap_or, IfSome, eq-eqb, eqb-true, refl, sym, ap, subst, ◌∙◌}
 use Rattle.std.specs.Bool.{OnTrue}
 use Rattle.std.specs.List.{list_all}
 use Rattle.fine_model.specs.declared.Node.{Node}
@@ -64,7 +64,7 @@ own_given b number = by (cached b number)
     by None own = refl
     by (Some kept) own = own
 
--- ---- a change of one pair
+-- ---- a change of pairs
 
 module _ (bucket : ℕ) where
   abbrev is_own : Pair → Bool
@@ -111,6 +111,13 @@ module _ (bucket : ℕ) where
   own_del (node.Inner seps kids) key own = refl
   own_del node.Broken key own = refl
 
+  own_cut : (n : Node) (key : List ℕ) → HasOwnKeys bucket n → HasOwnKeys bucket (changed n (rec.CutLeaf key))
+  unfolding changed
+  own_cut (node.Leaf pairs) key own = list_all-from is_own (pairs_below key pairs) (all_filter (λ x. is_own x ≡ true) (λ q. is_below q.0 key) pairs (all_from_list_all is_own pairs own))
+  own_cut (node.Head root next depth) key own = refl
+  own_cut (node.Inner seps kids) key own = refl
+  own_cut node.Broken key own = refl
+
   own_plus : (n : Node) (key : List ℕ) (by : ℤ) → HasOwnKeys bucket n → bucket ≡ bucket_of key → HasOwnKeys bucket (changed n (rec.Plus key by))
   unfolding changed
   own_plus (node.Leaf pairs) key by own is = own_added pairs key by (get pairs key) own is
@@ -126,7 +133,7 @@ module _ (bucket : ℕ) where
       after (rec.Put key value) is = own_if (row.version == old.1 + 1) (changed old.0 (rec.Put key value)) (own_put old.0 key value own is)
       after (rec.Del key) is = own_if (row.version == old.1 + 1) (changed old.0 (rec.Del key)) (own_del old.0 key own)
       after (rec.Plus key by) is = own_if (row.version == old.1 + 1) (changed old.0 (rec.Plus key by)) (own_plus old.0 key by own is)
-      after (rec.CutLeaf key) is = absurd is
+      after (rec.CutLeaf key) is = own_if (row.version == old.1 + 1) (changed old.0 (rec.CutLeaf key)) (own_cut old.0 key own)
       after (rec.HeadImage root next depth) is = absurd is
       after (rec.LeafImage image) is = absurd is
       after (rec.InnerImage seps kids) is = absurd is
@@ -148,3 +155,17 @@ pub own_again : (known : Bool) (old new : Cache) (row : Row) → row.node.bucket
     → OnTrue known (IfSome (cached old row.node.number) (λ kept. HasOwnKeys old.bucket kept.node)) → OnTrue known (HasOwnKeys new.bucket (given new row.node.number).0)
 own_again true old new row of pushes is own = own_pushed old new row of pushes is (own_given old row.node.number own)
 own_again false old new row of pushes is own = tt
+
+-- a key that was tested
+pub own_tested : (bucket : ℕ) (key : List ℕ) → OnTrue (bucket_of key == bucket) (bucket ≡ bucket_of key)
+own_tested bucket key = by (bucket_of key == bucket) refl
+  where
+    by : (b : Bool) → (bucket_of key == bucket) ≡ b → OnTrue b (bucket ≡ bucket_of key)
+    by true same = sym (eqb-true (bucket_of key) bucket same)
+    by false other = tt
+
+-- where it is known too that the change brings no other key
+pub own_still : (known : Bool) (old new : Cache) (row : Row) → row.node.bucket ≡ old.bucket → Pushes old new (row ∷ []) → OnTrue known (IsOwnChange old.bucket row.rec)
+    → OnTrue known (IfSome (cached old row.node.number) (λ kept. HasOwnKeys old.bucket kept.node)) → OnTrue known (HasOwnKeys new.bucket (given new row.node.number).0)
+own_still true old new row of pushes is own = own_again true old new row of pushes is own
+own_still false old new row of pushes is own = tt

@@ -64,11 +64,12 @@ pub record IsRowOf (b : Cache) (row : Row) : Type 0 where
   pub rec : FitsRec row.rec
   pub version : row.version ≤ greatest
 
--- a change of one pair of a leaf, whose key is of a bucket
+-- a change of a leaf's pairs that brings no key but one of a bucket
 abbrev pub IsOwnChange : ℕ → Rec → Type 0
 IsOwnChange bucket (rec.Put key value) = bucket ≡ bucket_of key
 IsOwnChange bucket (rec.Del key) = bucket ≡ bucket_of key
 IsOwnChange bucket (rec.Plus key by) = bucket ≡ bucket_of key
+IsOwnChange bucket (rec.CutLeaf key) = Unit {0}
 IsOwnChange bucket _ = ⊥
 
 -- a row is of a node that is there, or makes it

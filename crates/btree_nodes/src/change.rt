@@ -1,6 +1,6 @@
 //! Rows that are pushed, and what they do to the nodes of a bucket.
 
-ghost use Rattle.std.specs.Prelude.{◌≡◌, ◌≢◌, ℕ, ◌+◌, ◌<◌, ◌≤◌, [], ◌∷◌, ◌++◌, OnOk, OnErr, IsOk, MatchResult};
+ghost use Rattle.std.specs.Prelude.{◌≡◌, ◌≢◌, ℕ, ◌+◌, ◌<◌, ◌≤◌, [], ◌∷◌, ◌++◌, OnOk, OnErr, IsOk, IfSome, MatchResult};
 ghost use Rattle.std.specs.Bool.{OnTrue};
 ghost use Rattle.std.specs.List.{AllByRecursion};
 ghost use Rattle.fine_model.specs.Nodes.{step};
@@ -12,8 +12,9 @@ ghost use Rattle.btree_nodes.specs.Changes.{Saves, Pushes, IsChanged, IsRowOf, I
 ghost use Rattle.btree_nodes.specs.declared.fault.TreeFault.TheVariants as fault_of;
 
 use crate::fault::TreeFault;
+use crate::hash::bucket_number;
 use fine_model::format::GREATEST;
-use fine_model::{NoMemory, Node, NodeId, Row, Rows};
+use fine_model::{NoMemory, Node, NodeId, Rec, Row, Rows};
 use node_cache::{Bucket, Cached};
 use node_record::apply;
 use private_log::PrivateLog;
@@ -63,7 +64,8 @@ fn save_and_change(alloc: Global, bucket: &mut Bucket, row: &Row) -> Result<(), 
     change(alloc, bucket, row)
 }
 
-/// Saves a cached node, and does to it what a row says. Where the row sets or removes one pair of a leaf, that costs the pair alone.
+/// Saves a cached node, and does to it what a row says. Where the row sets or removes one pair of a leaf, that costs the pair alone, and pairs
+/// that are cut off are moved.
 fn change_cached(alloc: Global, bucket: &mut Bucket, row: &Row) -> Result<(), NoMemory>
     requires { IsRowOf bucket.old row.now }
     ensures saves { Saves bucket.old bucket.new }
@@ -125,7 +127,27 @@ fn hold_place(bucket: &mut Bucket, number: u32) -> Result<(), NoMemory>
     bucket.put(number, place)
 }
 
-/// Pushes a row of a node that is cached, or of one that the row is the image of, as `push_pair` does; what was known of the node's keys is forgotten.
+/// Whether a change of a leaf's pairs brings no key of another bucket. Of images it is not said.
+fn is_own_change(bucket: u16, change: &Rec) -> bool
+    ensures { OnTrue result (IsOwnChange bucket change.now) }
+{
+    match change {
+        Rec::Put { key, .. } => u16::from(bucket_number(key.as_slice())) == bucket,
+        Rec::CutLeaf { .. } => true,
+        _ => false,
+    }
+}
+
+/// Whether it is known that all keys of a row's leaf are of the bucket, and the row brings no other.
+fn stays_own(bucket: &Bucket, row: &Row) -> bool
+    ensures own { OnTrue result (IfSome (cached bucket.now row.now.node.number) (λ kept. HasOwnKeys bucket.now.bucket kept.node)) }
+    ensures change { OnTrue result (IsOwnChange bucket.now.bucket row.now.rec) }
+{
+    bucket.has_own_keys(row.node.number) && is_own_change(bucket.bucket(), &row.rec)
+}
+
+/// Pushes a row of a node that is cached, or of one that the row is the image of, as `push_pair` does. That all keys of a leaf are of the bucket stays
+/// known where the row cuts it, or sets a pair.
 pub fn push_any(
     alloc: Global,
     bucket: &mut Bucket,
@@ -141,9 +163,13 @@ pub fn push_any(
     ensures there { OnOk result (IsCached bucket.new row.node.number) }
     ensures log { OnOk result (log.new ≡ log.old ++ row ∷ []) }
 {
-    hold_place(bucket, row.node.number)?;
+    let number = row.node.number;
+    hold_place(bucket, number)?;
+    let are_own = stays_own(bucket, &row);
     change_cached(alloc, bucket, &row)?;
-    log.keep(row)
+    log.keep(row)?;
+    note_again(bucket, number, are_own);
+    Ok(())
 }
 
 /// Pushes rows in their order, and moves each of them behind the log's.

@@ -135,7 +135,7 @@ module _ (bucket : ℕ) where
       after (rec.Plus key by) is = own_if (row.version == old.1 + 1) (changed old.0 (rec.Plus key by)) (own_plus old.0 key by own is)
       after (rec.CutLeaf key) is = own_if (row.version == old.1 + 1) (changed old.0 (rec.CutLeaf key)) (own_cut old.0 key own)
       after (rec.HeadImage root next depth) is = absurd is
-      after (rec.LeafImage image) is = absurd is
+      after (rec.LeafImage image) is = is
       after (rec.InnerImage seps kids) is = absurd is
       after (rec.CutInner key) is = absurd is
       after (rec.Link key child) is = absurd is

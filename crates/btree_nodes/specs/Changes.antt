@@ -1,7 +1,7 @@
 -- What calls that push rows do to a bucket.
-use Rattle.std.specs.Prelude.{◌≡◌, ◌≢◌, ◌≤◌, ◌⊎◌, ℕ, nat_eq, Bool, true, ◌||◌, List, [], ◌∷◌, ◌++◌, None, is_some}
+use Rattle.std.specs.Prelude.{◌≡◌, ◌≢◌, ◌≤◌, ◌⊎◌, ℕ, nat_eq, ◌==◌, Bool, true, ◌||◌, List, [], ◌∷◌, ◌++◌, None, is_some}
 use Rattle.std.specs.Map.{keys_of}
-use Rattle.std.specs.List.{AllByRecursion, list_any}
+use Rattle.std.specs.List.{AllByRecursion, list_all, list_any}
 use Rattle.fine_model.specs.declared.Rec.{Rec}
 use Rattle.fine_model.specs.declared.Rec.TheVariants as rec
 use Rattle.fine_model.specs.declared.Row.{Row}
@@ -64,12 +64,13 @@ pub record IsRowOf (b : Cache) (row : Row) : Type 0 where
   pub rec : FitsRec row.rec
   pub version : row.version ≤ greatest
 
--- a change of a leaf's pairs that brings no key but one of a bucket
+-- an image of a leaf, or a change of its pairs, that brings no key but those of a bucket
 abbrev pub IsOwnChange : ℕ → Rec → Type 0
 IsOwnChange bucket (rec.Put key value) = bucket ≡ bucket_of key
 IsOwnChange bucket (rec.Del key) = bucket ≡ bucket_of key
 IsOwnChange bucket (rec.Plus key by) = bucket ≡ bucket_of key
 IsOwnChange bucket (rec.CutLeaf key) = Unit {0}
+IsOwnChange bucket (rec.LeafImage pairs) = list_all (λ p. bucket_of p.0 == bucket) pairs ≡ true
 IsOwnChange bucket _ = ⊥
 
 -- a row is of a node that is there, or makes it

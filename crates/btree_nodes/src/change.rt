@@ -1,17 +1,18 @@
 //! Rows that are pushed, and what they do to the nodes of a bucket.
 
-ghost use Rattle.std.specs.Prelude.{◌≡◌, ◌≢◌, ℕ, ◌+◌, ◌<◌, ◌≤◌, [], ◌∷◌, ◌++◌, OnOk, OnErr, IsOk, IfSome, MatchResult};
+ghost use Rattle.std.specs.Prelude.{◌≡◌, ◌≢◌, ℕ, ◌+◌, ◌<◌, ◌≤◌, [], ◌∷◌, ◌++◌, OnOk, OnErr, IsOk, IfSome, Some, MatchResult};
 ghost use Rattle.std.specs.Bool.{OnTrue};
 ghost use Rattle.std.specs.List.{AllByRecursion};
 ghost use Rattle.fine_model.specs.Nodes.{step};
 ghost use Rattle.fine_model.specs.RowBytes.{FitsRec, greatest};
-ghost use Rattle.node_cache.specs.Cache.{cached, IsSaved};
+ghost use Rattle.node_cache.specs.Cache.{cached, with_node, IsSaved};
 ghost use Rattle.node_cache.specs.Given.{given, IsCached};
 ghost use Rattle.node_cache.specs.Marked.{HasOwnKeys};
 ghost use Rattle.btree_nodes.specs.Changes.{Saves, Pushes, IsChanged, IsRowOf, IsOwnChange, HoldsPlace, IsReady, AreReady};
 ghost use Rattle.btree_nodes.specs.declared.fault.TreeFault.TheVariants as fault_of;
 
 use crate::fault::TreeFault;
+use crate::fitness::are_of;
 use crate::hash::bucket_number;
 use fine_model::format::GREATEST;
 use fine_model::{NoMemory, Node, NodeId, Rec, Row, Rows};
@@ -110,7 +111,20 @@ pub fn push_pair(
     Ok(())
 }
 
-/// Caches a broken node under a number where none is cached, to be replaced by an image.
+/// Caches a node under a number, and notes that all its keys are of the bucket.
+fn put_own(bucket: &mut Bucket, number: u32, kept: Cached) -> Result<(), NoMemory>
+    requires { HasOwnKeys bucket.old.bucket kept.node }
+    ensures nodes { OnOk result (bucket.new ≡ with_node bucket.old number kept) }
+    ensures here { OnOk result (cached bucket.new number ≡ Some kept) }
+    ensures elsewhere { OnOk result ((n : ℕ) → n ≢ number → cached bucket.new n ≡ cached bucket.old n) }
+    ensures err { OnErr result (bucket.new ≡ bucket.old) }
+{
+    bucket.put(number, kept)?;
+    bucket.note_own_keys(number);
+    Ok(())
+}
+
+/// Caches a broken node, which has no keys, under a number where none is cached, to be replaced by an image.
 fn hold_place(bucket: &mut Bucket, number: u32) -> Result<(), NoMemory>
     ensures saves { Saves bucket.old bucket.new }
     ensures held { OnOk result (HoldsPlace bucket.old bucket.new number) }
@@ -124,16 +138,17 @@ fn hold_place(bucket: &mut Bucket, number: u32) -> Result<(), NoMemory>
         version: 0,
         epoch: 0,
     };
-    bucket.put(number, place)
+    put_own(bucket, number, place)
 }
 
-/// Whether a change of a leaf's pairs brings no key of another bucket. Of images it is not said.
+/// Whether an image of a leaf, or a change of its pairs, brings no key of another bucket.
 fn is_own_change(bucket: u16, change: &Rec) -> bool
     ensures { OnTrue result (IsOwnChange bucket change.now) }
 {
     match change {
         Rec::Put { key, .. } => u16::from(bucket_number(key.as_slice())) == bucket,
         Rec::CutLeaf { .. } => true,
+        Rec::LeafImage { pairs } => are_of(bucket, false, pairs.as_slice()),
         _ => false,
     }
 }
@@ -147,7 +162,7 @@ fn stays_own(bucket: &Bucket, row: &Row) -> bool
 }
 
 /// Pushes a row of a node that is cached, or of one that the row is the image of, as `push_pair` does. That all keys of a leaf are of the bucket stays
-/// known where the row cuts it, or sets a pair.
+/// known where the row cuts it or sets a pair, and is found out of an image.
 pub fn push_any(
     alloc: Global,
     bucket: &mut Bucket,

@@ -59,7 +59,7 @@ fn are_within(low: Option<&Bytes>, high: Option<&Bytes>, pairs: &[(Bytes, Bytes)
 }
 
 /// Whether the keys of pairs belong to a bucket, which may be known.
-fn are_of(bucket: u16, are_own: bool, pairs: &[(Bytes, Bytes)]) -> bool
+pub fn are_of(bucket: u16, are_own: bool, pairs: &[(Bytes, Bytes)]) -> bool
     requires { OnTrue are_own (list_all (λ p. bucket_of p.0 == bucket) pairs.now ≡ true) }
     ensures { result ≡ list_all (λ p. bucket_of p.0 == bucket) pairs.now }
 {

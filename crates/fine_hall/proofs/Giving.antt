@@ -36,7 +36,7 @@ use Rattle.fine_hall.specs.Passes.{PassView, first_mine, known, reads, turns, ow
 use Rattle.fine_hall.specs.Halls.{turn_of, Gives, GivesRoom, MayGive, MayGiveRoom}
 use Rattle.fine_hall.proofs.Bucket.{for_touching}
 use Rattle.fine_hall.proofs.Turning.{after_last, rooms_more, commits_one, places_after}
-use Rattle.fine_hall.proofs.Passing.{known_is, reads_is, has, keeps_front, keeps_holder, alone, seen_is, published_is, next_pass, at_bucket, at_the_room}
+use Rattle.fine_hall.proofs.Passing.{keeps_turns, known_is, reads_is, has, keeps_front, keeps_holder, alone, seen_is, published_is, next_pass, at_bucket, at_the_room}
 
 module _ {R B V : Type 0} (state : R → RoomState) (origin : R → Origin) (stands_for : R → List Row → ℕ → List Commit → Type 0) (bucket : B → ℕ) (cached : B → ℕ → Option (Content × ℕ)) (is_settled : B → Type 0)
     (view : V → ViewState) (z : TableId) (x : Beginning) (p : Pass V) (v : PassView) (ok : IsPass view z x p) (e : p.badge.views ≡ v ∷ []) where
@@ -77,11 +77,8 @@ module _ {R B V : Type 0} (state : R → RoomState) (origin : R → Origin) (sta
       pub gives_bucket : Gives k p p'
       gives_bucket = record {
         held = ap (λ (u : Known Beginning Turn). u.held) now_known;
-        same_turns = ap (λ (u : Known Beginning Turn). u.seen) now_known;
-        same_own = ap (λ (u : Known Beginning Turn). first_mine u.shares) now_known;
         same_published = ap (λ (u : Known Beginning Turn). u.published) now_known;
-        found = ap (λ (u : Known Beginning Turn). u.found) now_known;
-        views = record { reads = same_reads; front = (front'.0, front'.1); backs = front'.2 };
+        keeps = keeps_turns p p' _ refl refl refl now_known same_reads front';
       }
 
       same_room : HasPlace p' places.room → HasPlace p places.room

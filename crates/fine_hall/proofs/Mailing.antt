@@ -17,10 +17,10 @@ use Rattle.fine_hall.specs.declared.law.Beginning.{Beginning}
 use Rattle.fine_hall.specs.declared.pass.Pass.{Pass}
 use Rattle.fine_hall.specs.Turns.{touches_bucket}
 use Rattle.fine_hall.specs.Laws.{AreTurns}
-use Rattle.fine_hall.specs.Passes.{PassView, first_mine, known, reads, published, HasPlace, IsHolder, IsPass}
+use Rattle.fine_hall.specs.Passes.{PassView, known, reads, published, HasPlace, IsHolder, IsPass}
 use Rattle.fine_hall.specs.Halls as halls
 use Rattle.fine_hall.specs.Halls.{KeepsPlaces, KeepsViews, Publishes, Posts, MayPost}
-use Rattle.fine_hall.proofs.Passing.{keeps_known, known_is, reads_is, one_turn, keeps_front, keeps_holder, about, still, seeing_pass, steady_pass, sees_more, same_number}
+use Rattle.fine_hall.proofs.Passing.{keeps_turns, keeps_known, known_is, reads_is, one_turn, keeps_front, keeps_holder, about, still, seeing_pass, steady_pass, sees_more, same_number}
 
 module _ {V : Type 0} (view : V → ViewState) (z : TableId) (x : Beginning) (p : Pass V) (v : PassView) (ok : IsPass view z x p) (e : p.badge.views ≡ v ∷ [])
     (p' : Pass V) (v' : PassView) (e' : p'.badge.views ≡ v' ∷ []) (t' : p'.badge.table_id ≡ z) (n' : p'.number ≡ p.number) where
@@ -72,11 +72,8 @@ module _ {V : Type 0} (view : V → ViewState) (z : TableId) (x : Beginning) (p 
     pub publishes : Publishes number p p'
     publishes = record {
       same_held = ap (λ (u : Known Beginning Turn). u.held) wrote;
-      same_turns = ap (λ (u : Known Beginning Turn). u.seen) wrote;
-      same_own = ap (λ (u : Known Beginning Turn). first_mine u.shares) wrote;
       now = ap (λ (u : Known Beginning Turn). u.published) wrote;
-      found = ap (λ (u : Known Beginning Turn). u.found) wrote;
-      views = record { reads = reads_stay; front = (front'.0, front'.1); backs = front'.2 };
+      keeps = keeps_turns p p' _ refl refl refl wrote reads_stay front';
     }
 
     holds_on : (t : TurnNote) → IsHolder x p t → IsHolder x p' t

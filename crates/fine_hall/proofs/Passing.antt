@@ -20,7 +20,7 @@ use Rattle.fine_hall.specs.declared.pass.Pass.{Pass}
 use Rattle.fine_hall.specs.Turns.{commits, touches_bucket}
 use Rattle.fine_hall.specs.Laws.{AreTurns}
 use Rattle.fine_hall.specs.Passes.{PassView, first_known, first_reads, first_mine, known, reads, turns, own_turns, published, found_held, HasPlace, LacksPlace, HasFront, IsHolder, IsPass}
-use Rattle.fine_hall.specs.Halls.{SeesMore, KeepsPlaces, Takes, FindsHeld}
+use Rattle.fine_hall.specs.Halls.{SeesMore, KeepsPlaces, KeepsTurns, Takes, FindsHeld}
 use Rattle.fine_hall.proofs.Bucket.{commits_touching}
 use Rattle.fine_hall.proofs.Turning.{none_own}
 
@@ -45,6 +45,15 @@ module _ {V : Type 0} where
   has p v k e h = subst (λ (u : Known Beginning Turn). Holds u k) (known_is p v e) h
 
   -- ---- what stays of a pass
+
+  pub keeps_turns : (p p' : Pass V) (u : Known Beginning Turn) → u.seen ≡ turns p → first_mine u.shares ≡ own_turns p → u.found ≡ found_held p → known p' ≡ u → reads p' ≡ reads p
+      → (p'.front ≡ p.front) × (p'.buffer ≡ p.buffer) × (p'.backs ≡ p.backs) → KeepsTurns p p'
+  keeps_turns p p' u seen own found now same_reads front' = record {
+    same_turns = ap (λ (w : Known Beginning Turn). w.seen) now ∙ seen;
+    same_own = ap (λ (w : Known Beginning Turn). first_mine w.shares) now ∙ own;
+    found = ap (λ (w : Known Beginning Turn). w.found) now ∙ found;
+    views = record { reads = same_reads; front = (front'.0, front'.1); backs = front'.2 };
+  }
 
   pub keeps_front : (view : V → ViewState) (p p' : Pass V) → (reads p').notes ≡ (reads p).notes → p'.number ≡ p.number → p'.front ≡ p.front → p'.buffer ≡ p.buffer → HasFront view p → HasFront view p'
   keeps_front view p p' notes number front buffer f = record {

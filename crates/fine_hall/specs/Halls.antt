@@ -77,6 +77,13 @@ module _ {V : Type 0} where
     pub same_own : own_turns p' ≡ own_turns p
     pub same_published : published p' ≡ published p
 
+  -- what the pass saw, the buckets that it found held, and its views are as they were
+  pub record KeepsTurns (p p' : Pass V) : Type 0 where
+    pub same_turns : turns p' ≡ turns p
+    pub same_own : own_turns p' ≡ own_turns p
+    pub found : found_held p' ≡ found_held p
+    pub views : KeepsViews p p'
+
   -- ---- taking
 
   pub record Takes (k : ℕ) (p p' : Pass V) : Type 0 where
@@ -119,11 +126,9 @@ module _ {V : Type 0} where
 
   pub record Gives (k : ℕ) (p p' : Pass V) : Type 0 where
     pub held : (known p').held ≡ slice_set (known p).held k false
-    pub same_turns : turns p' ≡ turns p
-    pub same_own : own_turns p' ≡ own_turns p
     pub same_published : published p' ≡ published p
-    pub found : found_held p' ≡ found_held p
-    pub views : KeepsViews p p'
+    pub keeps : KeepsTurns p p'
+    pub open keeps use *
 
   -- The room was given back: the history grew by a turn, which is the pass's own.
   pub record GivesRoom (room : RoomState) (entry : Option Entry) (epoch : ℕ) (t : TurnNote) (p p' : Pass V) : Type 0 where
@@ -218,11 +223,9 @@ module _ {V : Type 0} where
 
   pub record Publishes (epoch : ℕ) (p p' : Pass V) : Type 0 where
     pub same_held : (known p').held ≡ (known p).held
-    pub same_turns : turns p' ≡ turns p
-    pub same_own : own_turns p' ≡ own_turns p
     pub now : published p' ≡ epoch
-    pub found : found_held p' ≡ found_held p
-    pub views : KeepsViews p p'
+    pub keeps : KeepsTurns p p'
+    pub open keeps use *
 
   -- the published number was read
   pub record Reads (p p' : Pass V) : Type 0 where

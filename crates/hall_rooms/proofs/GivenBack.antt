@@ -38,15 +38,17 @@ module _ (x : Beginning) (found new : RoomValue) (p p₁ q r : RoomPass) (begun 
 
     pub turn_added : AddsTurn x found.room new.room p r
     turn_added = let sees = begun.takes.takes.sees in record {
-      others = sees.longer.0;
-      not_own = sees.longer.2;
-      kept = λ j near has. sees.kept j near has ∙ ap (λ ts. in_bucket j (commits ts)) sees.longer.1;
-      found_is = begun.is_room.last ∙ ap (room_after x.room) sees.longer.1;
-      found_job = begun.takes.same_job;
-      returned = t.in_hand;
-      turns_more = gave.turns_more ∙ (λ i. turns_are i ++ record { seat = number i; item = turn_of None 0 new.room t.in_hand } ∷ []);
-      own_more = gave.own_more ∙ (λ i. (on.own ∙ sees.same_own) i ++ record { seat = number i; item = turn_of None 0 new.room t.in_hand } ∷ []);
-      no_earlier = let a = sees.no_earlier in let b = on.no_earlier in let c = gave.same_published in omega (arith, a, b, c);
+      one = record {
+        others = sees.longer.0;
+        not_own = sees.longer.2;
+        kept = λ j near has. sees.kept j near has ∙ ap (λ ts. in_bucket j (commits ts)) sees.longer.1;
+        found_is = begun.is_room.last ∙ ap (room_after x.room) sees.longer.1;
+        found_job = begun.takes.same_job;
+        returned = t.in_hand;
+        turns_more = gave.turns_more ∙ (λ i. turns_are i ++ record { seat = number i; item = turn_of None 0 new.room t.in_hand } ∷ []);
+        own_more = gave.own_more ∙ (λ i. (on.own ∙ sees.same_own) i ++ record { seat = number i; item = turn_of None 0 new.room t.in_hand } ∷ []);
+        no_earlier = let a = sees.no_earlier in let b = on.no_earlier in let c = gave.same_published in omega (arith, a, b, c);
+      };
       same_held = gave.held ∙ (ap (λ l. slice_set l places.room false) (on.held ∙ begun.takes.takes.held) ∙ held_back (known p).held places.room false true begun.free);
     }
 
@@ -75,15 +77,7 @@ module _ (x : Beginning) (found new : RoomValue) (p p₁ q r : RoomPass) (begun 
     pub turn_taken : TakesTurn x found.room None 0 new.room p r × ((known r).held ≡ (known p).held)
     turn_taken = let a = turn_added (stays_on x p₁ q second stays) t gave in (
       record {
-        others = a.others;
-        not_own = a.not_own;
-        kept = a.kept;
-        found_is = a.found_is;
-        found_job = a.found_job;
-        returned = a.returned;
-        turns_more = a.turns_more;
-        own_more = a.own_more;
-        no_earlier = a.no_earlier;
+        one = a.one;
         front = (gave.front.0 ∙ (stays.front.0 ∙ begun.takes.takes.front.0), gave.front.1 ∙ (stays.front.1 ∙ begun.takes.takes.front.1));
         given_same = ap first_given gave.notes ∙ (stays.given_up ∙ ap first_given begun.takes.takes.notes);
       },

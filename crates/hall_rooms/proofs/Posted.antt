@@ -8,7 +8,7 @@ use Rattle.fine_model.specs.Becomes.{Becomes}
 use Rattle.fine_model.specs.Boards.{Buffer, buffer_at, empty_of, first_from, is_empty, set_of}
 use Rattle.fine_model.specs.Buckets.{Began}
 use Rattle.fine_model.specs.Jobs.{KeepsJob, held_for}
-use Rattle.fine_model.proofs.Histories.Goings.{becomes_on, job_itself, job_on}
+use Rattle.fine_model.proofs.Histories.Goings.{becomes_on, job_on}
 use Rattle.partition_hold.specs.Views.{ViewValue, opened, state_of}
 use Rattle.epoch_room.specs.Meaning.{Stands}
 use Rattle.epoch_room.specs.Value.{RoomValue, all_regions}
@@ -33,7 +33,7 @@ use Rattle.hall_rooms.specs.Views.{MakesView, MakesViewOr}
 use Rattle.hall_rooms.specs.Steps.{InTurn, IsCleanTurn, IsFailedTurn, LacksView, NoneFailed, PostedBelow, PostsEachOr, PostsOr, PostsTo, Stays, with_posted}
 use Rattle.hall_rooms.specs.Turning.{KeepsChain, NewView}
 use Rattle.hall_rooms.proofs.Naming.{place_alike}
-use Rattle.hall_rooms.proofs.Turned.{goes, rises, some_failed, stays_none}
+use Rattle.hall_rooms.proofs.Turned.{goes, rises, some_failed}
 
 -- ---- the empty buffer of a seat
 

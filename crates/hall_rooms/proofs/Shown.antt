@@ -4,7 +4,6 @@ use Rattle.std.specs.Prelude.{if◌then◌else◌, Result}
 use lib.ListN.{get_elem?}
 use Rattle.atomic_table.specs.Seated.{TableId}
 use Rattle.fine_model.specs.declared.law.RoomState.{RoomState}
-use Rattle.fine_model.specs.Jobs.{KeepsJob}
 use Rattle.fine_model.proofs.Histories.Goings.{job_itself}
 use Rattle.partition_hold.specs.Views.{state_of}
 use Rattle.epoch_room.specs.Value.{RoomValue}

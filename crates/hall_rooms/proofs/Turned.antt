@@ -26,7 +26,7 @@ use Rattle.fine_hall.specs.declared.law.Beginning.{Beginning}
 use Rattle.fine_hall.specs.Turns.{added, commits, room_after}
 use Rattle.fine_hall.specs.Laws.{CountsEpochs, IsRoomFor}
 use Rattle.fine_hall.specs.Passes.{known, turns, seen, published, last_room, LacksPlace, IsHolder}
-use Rattle.fine_hall.specs.Halls.{TakesRoom}
+use Rattle.fine_hall.specs.Halls.{MayGiveRoom, TakesRoom}
 use Rattle.fine_hall.proofs.Counting.{counts_sealed, counts_stay}
 use Rattle.partition_hold.specs.Views.{state_of}
 use Rattle.hall_rooms.proofs.Viewing.{either}
@@ -66,6 +66,24 @@ stepped x p room new t i l epochs = goes x p p room new t t i refl refl refl i.i
 
 -- ---- its beginning
 
+-- the room may be given back as it was taken
+pub may_give_as_taken : (x : Beginning) (p₀ p : RoomPass) (room : RoomValue) → IsRoomFor room_state room_log Stands x (published p) room (turns p) → (t : TakesRoom state_of x room.room p₀ p) → MayGiveRoom room_state room_log Stands x room None 0 t.turn p
+may_give_as_taken x p₀ p room r t = record {
+  log = r.log;
+  stands = λ e first b. subst (Stands room first e) nil (r.stands e first b);
+  becomes = subst (λ s. Becomes s room.room) r.last (becomes_itself room.room);
+  places = ap (λ (s : RoomState). s.places) r.last;
+  epochs = subst (CountsEpochs x room.room) nil r.epochs;
+  top = let e = t.top in omega (arith, e);
+  board = sym t.board;
+  job = λ ne. subst (λ s. KeepsJob s room.room) r.last (job_itself room.room);
+  counted = inl (let e = ap (λ (s : RoomState). s.faults) r.last in let n = t.none_in_hand in omega (arith, e, n));
+  commits = record {};
+}
+  where
+    nil : seen p ≡ seen p ++ added None 0
+    nil = sym (append-nil (seen p))
+
 pub begins : (x : Beginning) (p₀ p : RoomPass) (room : RoomValue) → p.number ≡ p₀.number → LacksPlace p₀ places.room → IsRoomFor room_state room_log Stands x (published p) room (turns p) → TakesRoom state_of x room.room p₀ p → BeginsTurn x p₀ p room
 begins x p₀ p room number free r t = record {
   number = number;
@@ -77,25 +95,11 @@ begins x p₀ p room number free r t = record {
     turn = record {
       held = ap (λ l. get_elem? l places.room) t.takes.held ∙ set_at (known p₀).held places.room false true free;
       is_turn = t.is_turn;
-      may = record {
-        log = r.log;
-        stands = λ e first b. subst (Stands room first e) nil (r.stands e first b);
-        becomes = subst (λ s. Becomes s room.room) r.last (becomes_itself room.room);
-        places = ap (λ (s : RoomState). s.places) r.last;
-        epochs = subst (CountsEpochs x room.room) nil r.epochs;
-        top = let e = t.top in omega (arith, e);
-        board = sym t.board;
-        job = λ ne. subst (λ s. KeepsJob s room.room) r.last (job_itself room.room);
-        counted = inl (let e = ap (λ (s : RoomState). s.faults) r.last in let n = t.none_in_hand in omega (arith, e, n));
-        commits = record {};
-      };
+      may = may_give_as_taken x p₀ p room r t;
     };
     none_failed = let e = ap (λ (s : RoomState). s.faults) r.last in omega (arith, e);
   };
 }
-  where
-    nil : seen p ≡ seen p ++ added None 0
-    nil = sym (append-nil (seen p))
 
 -- the room as it is changed in the turn is the one that was taken
 pub begun_with : (x : Beginning) (p₀ p : RoomPass) (held room : RoomValue) → room ≡ held → BeginsTurn x p₀ p held → BeginsTurn x p₀ p room

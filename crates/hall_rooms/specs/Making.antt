@@ -1,12 +1,11 @@
 -- Making room with the passes of a hall, in one turn of the seat 1.
-use Rattle.std.specs.Prelude.{◌≡◌, ◌≢◌, ◌⊎◌, ℕ, ◌+◌, ◌<◌, ◌≤◌, ◌==◌, if◌then◌else◌, Bool, true, false, List, [], ◌∷◌, ◌++◌, length, None, Result, Ok, Err}
+use Rattle.std.specs.Prelude.{◌≡◌, ◌≢◌, ◌⊎◌, ℕ, ◌+◌, ◌<◌, ◌≤◌, ◌==◌, if◌then◌else◌, Bool, true, false, List, [], length, None, Result, Ok, Err}
 use mathlib.Core.Option.{some}
 use lib.ListN.{get_elem?}
 use Rattle.fine_model.specs.declared.Row.{Row}
 use Rattle.fine_model.specs.declared.law.RoomState.{RoomState}
 use Rattle.fine_model.specs.Becomes.{IsStuck}
 use Rattle.fine_model.specs.Buckets.{Began}
-use Rattle.fine_model.specs.Jobs.{KeepsJob}
 use Rattle.node_cache.specs.Cache.{Cache}
 use Rattle.partition_hold.specs.Views.{ViewValue, state_of}
 use Rattle.epoch_room.specs.Meaning.{Stands}
@@ -16,20 +15,15 @@ use Rattle.epoch_room.specs.declared.answers.RoomFault.{RoomFault}
 use Rattle.epoch_room.specs.declared.answers.RoomFault.TheVariants as room_fault
 use Rattle.room_merges.specs.declared.fault.MergeFault.{MergeFault}
 use Rattle.room_merges.specs.declared.fault.MergeFault.TheVariants as merge_fault
-use Rattle.fine_places.specs.History as places
-use Rattle.fine_places.specs.History.{by_seat}
-use Rattle.fine_places.specs.declared.model.Placed.{Placed}
 use Rattle.fine_hall.specs.declared.law.Beginning.{Beginning}
-use Rattle.fine_hall.specs.declared.turn.Turn.{Turn}
-use Rattle.fine_hall.specs.Turns.{commits, in_bucket, room_after}
 use Rattle.fine_hall.specs.Laws.{AreTurns}
-use Rattle.fine_hall.specs.Passes.{turns, own_turns, seen, known, published, last_room, HasPlace, HoldsNothing, LacksJob}
-use Rattle.fine_hall.specs.Halls.{turn_of, HallOf, IsAhead, SeesMore}
+use Rattle.fine_hall.specs.Passes.{turns, own_turns, seen, known, published, last_room, HoldsNothing, LacksJob}
+use Rattle.fine_hall.specs.Halls.{HallOf, IsAhead, SeesMore}
 use Rattle.hall_rooms.specs.declared.making.Space.{Space}
 use Rattle.hall_rooms.specs.declared.making.Space.TheVariants as space
 use Rattle.hall_rooms.specs.Rooms.{IsRoomPass, RoomPass, beginning_of, room_log}
 use Rattle.hall_rooms.specs.Steps.{ErasesOr, IsCleanTurn, IsFailedTurn}
-use Rattle.hall_rooms.specs.Turning.{AddsEpoch, MeetsNone, MeetsSome, NotBegan}
+use Rattle.hall_rooms.specs.Turning.{AddsEpoch, MeetsNone, MeetsSome, NotBegan, OneTurn}
 use Rattle.hall_rooms.specs.Merging.{Failing, MergesThroughOr, OnDamage}
 
 -- ---- the fronts of passes
@@ -186,19 +180,10 @@ MakesOr from found room (Err (merge_fault.Room room_fault.NoMemory)) =
 
 -- ---- the turn
 
--- One turn without an entry: the pass saw the turns of others since, of which none is in a bucket that it holds, and then its own, which found
--- the room so, and gave it back so. Its front may be another.
+-- One turn without an entry, behind which the pass holds what it held. Its front may be another.
 pub record AddsTurn (x : Beginning) (found room : RoomState) (p p' : RoomPass) : Type 0 where
-  pub others : List (Placed Turn)
-  pub not_own : by_seat p.number others ≡ []
-  pub kept : (j : ℕ) → j < places.room → HasPlace p j → in_bucket j (seen p) ≡ in_bucket j (commits (turns p ++ others))
-  pub found_is : found ≡ room_after x.room (turns p ++ others)
-  -- the merge of the seat 1 is left by the turns of others
-  pub found_job : p.number ≡ 1 → KeepsJob (last_room x p) found
-  pub returned : ℕ
-  pub turns_more : turns p' ≡ (turns p ++ others) ++ record { seat = p.number; item = turn_of None 0 room returned } ∷ []
-  pub own_more : own_turns p' ≡ own_turns p ++ record { seat = p.number; item = turn_of None 0 room returned } ∷ []
-  pub no_earlier : published p ≤ published p'
+  pub one : OneTurn x found None 0 room p p'
+  pub open one use *
   pub same_held : (known p').held ≡ (known p).held
 
 -- room was made in a turn of a pass, with the other passes of the hall

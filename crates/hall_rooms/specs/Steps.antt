@@ -1,14 +1,18 @@
 -- The steps within a turn of the room.
 use Rattle.std.specs.Prelude.{◌≡◌, ◌⊎◌, ℕ, ◌+◌, ◌-◌, ◌<◌, ◌≤◌, ◌==◌, if◌then◌else◌, true, false, List, [], ◌∷◌, ◌++◌, Contains, None, Result, Ok, Err, slice_index}
+use Rattle.fine_model.specs.declared.Row.{Row}
 use Rattle.fine_model.specs.declared.law.RoomState.{RoomState}
 use Rattle.fine_model.specs.declared.law.ViewState.{ViewState}
+use Rattle.fine_model.specs.Becomes.{Becomes}
 use Rattle.fine_model.specs.Boards.{set_of}
 use Rattle.fine_model.specs.Faults.{last_count}
 use Rattle.fine_model.specs.Jobs.{KeepsJob}
-use Rattle.epoch_room.specs.Meaning.{Keeps, Stands}
+use Rattle.epoch_room.specs.Meaning.{Keeps, Stands, StandsForMore}
+use Rattle.epoch_room.specs.Steps.{appended}
 use Rattle.epoch_room.specs.Value.{RoomValue, all_regions}
 use Rattle.epoch_room.specs.declared.answers.RoomFault.{RoomFault}
 use Rattle.epoch_room.specs.declared.answers.RoomFault.TheVariants as room_fault
+use Rattle.epoch_room.specs.declared.answers.Stamp.{Stamp}
 use Rattle.node_cache.specs.Cache.{Cache}
 use Rattle.partition_hold.specs.Views.{ViewValue, state_of}
 use Rattle.fine_places.specs.History as places
@@ -20,6 +24,16 @@ use Rattle.fine_hall.specs.Laws.{IsRoomFor}
 use Rattle.fine_hall.specs.Halls.{HallOf, MayGiveRoom, Posts, TakesRoom}
 use Rattle.hall_rooms.specs.Rooms.{IsRoomPass, RoomPass, room_state, room_log}
 use Rattle.hall_rooms.specs.Turning.{AddsEpoch, ErasesUnheld, KeepsChain, NewView, SealedAndPosted, SealsAtMost}
+
+-- ---- an entry
+
+-- The rows of an entry were appended to the open epoch, under this place and epoch.
+pub record Appends (rows : List Row) (old new : RoomValue) (given : Stamp) : Type 0 where
+  pub stamp : given ≡ record { place = old.room.places + 1; epoch = old.room.sealed + 1 }
+  pub room : new ≡ appended old rows
+  pub stands : StandsForMore old new rows
+  pub becomes : Becomes old.room new.room
+  pub job : KeepsJob old.room new.room
 
 -- ---- a turn
 

@@ -26,7 +26,7 @@ use Rattle.hall_rooms.specs.Rooms.{RoomPass}
 
 -- One turn: the pass saw the turns of others since, of which none is in a bucket that it holds, and then its own, which found the room so, and
 -- gave it back so.
-pub record TakesTurn (x : Beginning) (found : RoomState) (entry : Option Entry) (epoch : ℕ) (room : RoomState) (p p' : RoomPass) : Type 0 where
+pub record OneTurn (x : Beginning) (found : RoomState) (entry : Option Entry) (epoch : ℕ) (room : RoomState) (p p' : RoomPass) : Type 0 where
   pub others : List (Placed Turn)
   pub not_own : by_seat p.number others ≡ []
   pub kept : (j : ℕ) → j < places.room → HasPlace p j → in_bucket j (seen p) ≡ in_bucket j (commits (turns p ++ others))
@@ -37,6 +37,11 @@ pub record TakesTurn (x : Beginning) (found : RoomState) (entry : Option Entry) 
   pub turns_more : turns p' ≡ (turns p ++ others) ++ record { seat = p.number; item = turn_of entry epoch room returned } ∷ []
   pub own_more : own_turns p' ≡ own_turns p ++ record { seat = p.number; item = turn_of entry epoch room returned } ∷ []
   pub no_earlier : published p ≤ published p'
+
+-- Such a turn, in which the pass kept its front.
+pub record TakesTurn (x : Beginning) (found : RoomState) (entry : Option Entry) (epoch : ℕ) (room : RoomState) (p p' : RoomPass) : Type 0 where
+  pub one : OneTurn x found entry epoch room p p'
+  pub open one use *
   pub front : (p'.front ≡ p.front) × (p'.buffer ≡ p.buffer)
   pub given_same : given_up p' ≡ given_up p
 

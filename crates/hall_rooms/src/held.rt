@@ -1,18 +1,15 @@
 //! A room and a bucket as they lie in a hall.
 
-ghost use Rattle.std.specs.Prelude.{◌≡◌, ◌+◌, [], IfOk, IfErr};
+ghost use Rattle.std.specs.Prelude.{◌≡◌, [], IfOk, IfErr};
 ghost use Rattle.std.specs.List.{AllByRecursion};
 ghost use Rattle.std.specs.Borrow.{sem};
-ghost use Rattle.fine_model.specs.Becomes.{Becomes};
-ghost use Rattle.fine_model.specs.Jobs.{KeepsJob};
 ghost use Rattle.fine_model.specs.Merge.{cost};
 ghost use Rattle.fine_model.specs.RowBytes.{FitsRow};
 ghost use Rattle.fine_model.specs.declared.Mark.TheVariants as mark;
 ghost use Rattle.epoch_room.specs.declared.answers.Fit.TheVariants as fit;
 ghost use Rattle.epoch_room.specs.Fitting.{fit_of};
-ghost use Rattle.epoch_room.specs.Steps.{appended};
-ghost use Rattle.epoch_room.specs.Meaning.{StandsForMore};
 ghost use Rattle.hall_rooms.specs.Lent.{LendsBucket, LendsRoom};
+ghost use Rattle.hall_rooms.specs.Steps.{Appends};
 
 use epoch_room::{Fit, Room, Stamp};
 use fine_model::{BucketLaw, RoomLaw};
@@ -26,6 +23,12 @@ use std::marker::Model;
 #[derive(Drop)]
 pub struct HeldRoom<D: LogDisk> {
     room: Box<Room<D>>,
+}
+
+/// A bucket on the heap, since all places of a hall have one size, and the room's place is moved with each turn. Contracts see the bucket.
+#[derive(Drop)]
+pub struct HeldBucket {
+    bucket: Box<Bucket>,
 }
 
 impl<D: LogDisk> Model for HeldRoom<D> {
@@ -45,6 +48,27 @@ impl<D: LogDisk> RoomLaw for HeldRoom<D> {
     ghost origin = { room_log };
 
     ghost stands_for = { Stands };
+}
+
+impl Model for HeldBucket {
+    ghost use Rattle.node_cache.specs.Cache.{Cache};
+    ghost use Rattle.node_cache.specs.Codes.{cache_code};
+
+    ghost Value = { Cache };
+
+    ghost coded = { cache_code };
+
+    ghost view = { λ held. held.bucket.value };
+}
+
+impl BucketLaw for HeldBucket {
+    ghost use Rattle.node_cache.specs.Cache.{kept_at, IsResting};
+
+    ghost bucket = { λ b. b.bucket };
+
+    ghost cached = { kept_at };
+
+    ghost is_settled = { IsResting };
 }
 
 impl<D: LogDisk> HeldRoom<D> {
@@ -85,41 +109,10 @@ impl<D: LogDisk> HeldRoom<D> {
     pub fn append(&mut self, log: &PrivateLog) -> Stamp
         requires fits { fit_of self.old.room (cost log.now) ≡ fit.Fits }
         requires rows { AllByRecursion (FitsRow mark.Two) log.now }
-        ensures stamp { result ≡ record { place = self.old.room.places + 1; epoch = self.old.room.sealed + 1 } }
-        ensures room { self.new ≡ appended self.old log.now }
-        ensures stands { StandsForMore self.old self.new log.now }
-        ensures becomes { Becomes self.old.room self.new.room }
-        ensures job { KeepsJob self.old.room self.new.room }
+        ensures { Appends log.now self.old self.new result }
     {
         self.room().append(log)
     }
-}
-
-/// A bucket on the heap, since all places of a hall have one size, and the room's place is moved with each turn. Contracts see the bucket.
-#[derive(Drop)]
-pub struct HeldBucket {
-    bucket: Box<Bucket>,
-}
-
-impl Model for HeldBucket {
-    ghost use Rattle.node_cache.specs.Cache.{Cache};
-    ghost use Rattle.node_cache.specs.Codes.{cache_code};
-
-    ghost Value = { Cache };
-
-    ghost coded = { cache_code };
-
-    ghost view = { λ held. held.bucket.value };
-}
-
-impl BucketLaw for HeldBucket {
-    ghost use Rattle.node_cache.specs.Cache.{kept_at, IsResting};
-
-    ghost bucket = { λ b. b.bucket };
-
-    ghost cached = { kept_at };
-
-    ghost is_settled = { IsResting };
 }
 
 impl HeldBucket {

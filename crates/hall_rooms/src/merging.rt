@@ -30,19 +30,18 @@ pub(crate) fn merge_through<D: LogDisk>(
     ensures { MergesThroughOr from room.old room.new result }
 {
     let _whole = room.counts();
-    match make_view(room, 1) {
-        Ok(mut view) => {
-            let _made = room.counts();
-            let _seen = view.parts();
-            let merged = merge_any(alloc, room, &mut view, from);
-            let _tried = room.counts();
-            let _parts = view.parts();
-            take_back(room, view);
-            let _left = room.counts();
-            merged
-        }
-        Err(fault) => Err(MergeFault::Room(fault)),
-    }
+    let mut view = match make_view(room, 1) {
+        Ok(view) => view,
+        Err(fault) => return Err(MergeFault::Room(fault)),
+    };
+    let _made = room.counts();
+    let _seen = view.parts();
+    let merged = merge_any(alloc, room, &mut view, from);
+    let _tried = room.counts();
+    let _parts = view.parts();
+    take_back(room, view);
+    let _left = room.counts();
+    merged
 }
 
 /// Merges the first neighbours of the chain that fit, through a view of all live parts that is made for it and taken back: one turn without an entry.

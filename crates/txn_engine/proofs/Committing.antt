@@ -15,7 +15,7 @@ use Rattle.fine_model.specs.History.{Commit, IsLegal}
 use Rattle.fine_model.specs.Jobs.{KeepsJob}
 use Rattle.fine_model.specs.Merge.{cost}
 use Rattle.fine_model.proofs.Histories.Epochs.{epochs_below}
-use Rattle.fine_model.proofs.Histories.Goings.{becomes_itself, job_itself, job_on}
+use Rattle.fine_model.proofs.Histories.Goings.{job_on}
 use Rattle.fine_model.proofs.Histories.HistoryLaws.{IsLegal-push}
 use Rattle.fine_model.proofs.Histories.Stated.{shown_small}
 use Rattle.node_cache.specs.Cache.{Cache}
@@ -31,7 +31,7 @@ use Rattle.epoch_room.specs.declared.answers.Fit.TheVariants as fit
 use Rattle.epoch_room.specs.declared.answers.Stamp.{Stamp}
 use Rattle.fine_hall.specs.declared.law.Beginning.{Beginning}
 use Rattle.fine_hall.specs.Turns.{added, commits, in_bucket, is_call_in, is_in, room_after}
-use Rattle.fine_hall.specs.Laws.{AreTurns, CountsEpochs, IsRoomFor}
+use Rattle.fine_hall.specs.Laws.{AreTurns, IsRoomFor}
 use Rattle.fine_hall.specs.Passes.{first_given, known, turns, seen, published, last_room, HasPlace, LacksPlace, HoldsNothing}
 use Rattle.fine_hall.specs.Halls.{GivesRoom, MayGiveRoom, Reads, SeesMore, TakesRoom, turn_of}
 use Rattle.fine_hall.proofs.Counting.{counts_more}
@@ -40,6 +40,7 @@ use Rattle.fine_hall.proofs.Troubles.{sees_law, troubles_law}
 use Rattle.fine_hall.proofs.Turning.{commits_one}
 use Rattle.key_locks.specs.Locks.{LacksLock, HasLock, AreLocksOf, Releases}
 use Rattle.key_locks.proofs.Held.{far, held_beside, lacks_place}
+use Rattle.hall_rooms.proofs.Turned.{may_give_as_taken}
 use Rattle.txn_engine.specs.declared.txn.CommitFault.{CommitFault}
 use Rattle.txn_engine.specs.declared.txn.Txn.{Txn}
 use Rattle.txn_engine.specs.Faults.{refusal_of}
@@ -126,18 +127,7 @@ module _ (x : Beginning) (t : Txn) (p p₀ p₁ : RoomPass) (number₀ : p₀.nu
   nil = sym (append-nil (seen p₁))
 
   pub may_none : MayGiveRoom room_state room_log Stands x r None 0 k.turn p₁
-  may_none = record {
-    log = stands.log;
-    stands = λ e first b. subst (Stands r first e) nil (stands.stands e first b);
-    becomes = subst (λ s. Becomes s r.room) stands.last (becomes_itself r.room);
-    places = ap (λ (s : RoomState). s.places) stands.last;
-    epochs = subst (CountsEpochs x r.room) nil stands.epochs;
-    top = let e = k.top in omega (arith, e);
-    board = sym k.board;
-    job = λ ne. subst (λ s. KeepsJob s r.room) stands.last (job_itself r.room);
-    counted = inl (let e = ap (λ (s : RoomState). s.faults) stands.last in let n = k.none_in_hand in omega (arith, e, n));
-    commits = record {};
-  }
+  may_none = may_give_as_taken x p₀ p₁ r stands k
 
   -- ---- the room is given back
 
@@ -147,15 +137,17 @@ module _ (x : Beginning) (t : Txn) (p p₀ p₁ : RoomPass) (number₀ : p₀.nu
 
     pub the_turn : TakesTurn x r.room entry epoch room p p₂
     the_turn = record {
-      others = sees.longer.0;
-      not_own = sees.longer.2;
-      kept = λ j low has. sees.kept j low has ∙ ap (λ l. in_bucket j (commits l)) sees.longer.1;
-      found_is = stands.last ∙ ap (room_after x.room) sees.longer.1;
-      found_job = λ one. job_on (last_room x p) (last_room x p₀) r.room ((sees_law state_of).job x p p₀ mid one read.sees) (k.same_job (number₀ ∙ one));
-      returned = k.turn.in_hand;
-      turns_more = g.turns_more ∙ (λ i. sees.longer.1 i ++ record { seat = (number₁ ∙ number₀) i; item = turn_of entry epoch room k.turn.in_hand } ∷ []);
-      own_more = g.own_more ∙ (λ i. sees.same_own i ++ record { seat = (number₁ ∙ number₀) i; item = turn_of entry epoch room k.turn.in_hand } ∷ []);
-      no_earlier = subst (λ n. published p ≤ n) (sym g.same_published) sees.no_earlier;
+      one = record {
+        others = sees.longer.0;
+        not_own = sees.longer.2;
+        kept = λ j low has. sees.kept j low has ∙ ap (λ l. in_bucket j (commits l)) sees.longer.1;
+        found_is = stands.last ∙ ap (room_after x.room) sees.longer.1;
+        found_job = λ one. job_on (last_room x p) (last_room x p₀) r.room ((sees_law state_of).job x p p₀ mid one read.sees) (k.same_job (number₀ ∙ one));
+        returned = k.turn.in_hand;
+        turns_more = g.turns_more ∙ (λ i. sees.longer.1 i ++ record { seat = (number₁ ∙ number₀) i; item = turn_of entry epoch room k.turn.in_hand } ∷ []);
+        own_more = g.own_more ∙ (λ i. sees.same_own i ++ record { seat = (number₁ ∙ number₀) i; item = turn_of entry epoch room k.turn.in_hand } ∷ []);
+        no_earlier = subst (λ n. published p ≤ n) (sym g.same_published) sees.no_earlier;
+      };
       front = (g.front.0 ∙ (k.takes.front.0 ∙ read.views.front.0), g.front.1 ∙ (k.takes.front.1 ∙ read.views.front.1));
       given_same = ap first_given (g.notes ∙ (k.takes.notes ∙ ap (λ y. y.notes) read.views.reads));
     }
@@ -259,15 +251,17 @@ module _ (x : Beginning) (t : Txn) (p p₀ p₁ : RoomPass) (number₀ : p₀.nu
             found = r.room;
             room = new.room;
             turn = subst (λ (s : Stamp). TakesTurn x r.room (Some (entry_of t.draft)) s.epoch new.room p p₃) (sym stamped) (record {
-              others = turn.others;
-              not_own = turn.not_own;
-              kept = turn.kept;
-              found_is = turn.found_is;
-              found_job = turn.found_job;
-              returned = turn.returned;
-              turns_more = q.same_turns ∙ turn.turns_more;
-              own_more = q.same_own ∙ turn.own_more;
-              no_earlier = subst (λ n. published p ≤ n) (sym q.same_published) turn.no_earlier;
+              one = record {
+                others = turn.others;
+                not_own = turn.not_own;
+                kept = turn.kept;
+                found_is = turn.found_is;
+                no_earlier = subst (λ n. published p ≤ n) (sym q.same_published) turn.no_earlier;
+                found_job = turn.found_job;
+                returned = turn.returned;
+                turns_more = q.same_turns ∙ turn.turns_more;
+                own_more = q.same_own ∙ turn.own_more;
+              };
               front = (q.views.front.0 ∙ turn.front.0, q.views.front.1 ∙ turn.front.1);
               given_same = ap first_given (ap (λ y. y.notes) q.views.reads) ∙ turn.given_same;
             });

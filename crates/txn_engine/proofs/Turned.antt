@@ -41,18 +41,7 @@ turn_law x t p p' found room turn before after free o = record {
     same = ap commits turn.turns_more ∙ (commits_one (turns p ++ turn.others) (record { seat = p.number; item = turn_of None 0 room turn.returned }) ∙ append-nil (commits (turns p ++ turn.others)))
 
 pub seals_law : SealsLaw
-seals_law x t p p' r s = turn_law x t p p' s.found s.room (record {
-  others = s.turn.others;
-  not_own = s.turn.not_own;
-  kept = s.turn.kept;
-  found_is = s.turn.found_is;
-  found_job = s.turn.found_job;
-  returned = s.turn.returned;
-  turns_more = s.turn.turns_more;
-  own_more = s.turn.own_more;
-  no_earlier = s.turn.no_earlier;
-  same_held = s.same_held;
-})
+seals_law x t p p' r s = turn_law x t p p' s.found s.room (record { one = s.turn.one; same_held = s.same_held })
 
 pub makes_law : MakesLaw
 makes_law x t p p' from r m = turn_law x t p p' m.found.room m.room.room m.turn

@@ -73,26 +73,7 @@ fn has_bucket(locks: &mut LockSet<HeldBucket>, bucket: u16) -> bool
     }
 }
 
-/// Takes the bucket of a call that is no scan, unless the set has it.
-fn take_one<D: LogDisk>(
-    locks: &mut LockSet<HeldBucket>,
-    hall: &RoomHall<D>,
-    pass: &mut Pass<View<D::Eye>>,
-    call: &Call,
-) -> Result<(), Conflict>
-    requires pass { IsRoomPass hall.now pass.old × AreLocksOf locks.old pass.old }
-    requires call { FitsCall call.now × (is_scan call.now ≡ false) }
-    ensures pass { IsRoomPass hall.now pass.new × (pass.new.number ≡ pass.old.number) × AreLocksOf locks.new pass.new }
-    ensures locks { LocksOr (beginning_of hall.now) call.now locks.old locks.new pass.old pass.new result }
-{
-    let key = key_of(call);
-    if has_bucket(locks, bucket_of(key)) {
-        return Ok(());
-    }
-    locks.want(hall, pass, key)
-}
-
-/// Takes the buckets of a call: that of its key, or all of them for a scan.
+/// Takes the buckets of a call: that of its key, unless the set has it, or all of them for a scan.
 fn take_buckets<D: LogDisk>(
     locks: &mut LockSet<HeldBucket>,
     hall: &RoomHall<D>,
@@ -105,10 +86,13 @@ fn take_buckets<D: LogDisk>(
     ensures locks { LocksOr (beginning_of hall.now) call.now locks.old locks.new pass.old pass.new result }
 {
     if is_scan(call) {
-        locks.want_all(hall, pass)
-    } else {
-        take_one(locks, hall, pass, call)
+        return locks.want_all(hall, pass);
     }
+    let key = key_of(call);
+    if has_bucket(locks, bucket_of(key)) {
+        return Ok(());
+    }
+    locks.want(hall, pass, key)
 }
 
 impl Txn {

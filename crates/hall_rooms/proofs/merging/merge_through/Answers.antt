@@ -23,8 +23,8 @@ pub take_back-requires-clause-posted : goal.take_back-requires-clause-posted
 take_back-requires-clause-posted g c κs within =
     still_there c.args.from c.args.room.now c.make_view.new.room c.merge_any-merged.new.room c.in-Ok.view c.merge_any-merged.new.view c.in-Ok.ensures c.merge_any-merged.result c.merge_any-merged.ensures
 
-pub returns-in-Ok : goal.returns-in-Ok
-returns-in-Ok g c =
+pub returns : goal.returns
+returns g c =
     through c.args.from c.args.room.now c.make_view.new.room c.merge_any-merged.new.room c.take_back.new.room c.in-Ok.view c.merge_any-merged.new.view c.in-Ok.ensures c.counts-made.ensures.whole c.take_back.ensures.same
     c.counts-tried.ensures.whole c.counts-left.ensures.whole c.parts-parts.ensures.whole c.merge_any-merged.result c.merge_any-merged.ensures c.take_back.ensures.board
 

@@ -68,17 +68,18 @@ fn left(
     Ok(bytes)
 }
 
+// Two writes, a sync, and by the plan of the test a write and a sync that fail.
+const TWO_THAT_FAIL: [Step; 5] = [
+    Some((0, 1, 1)),
+    Some((1, 0, 1)),
+    None,
+    Some((2, 1, 1)),
+    None,
+];
+
 #[test]
 fn images_are_those_of_a_list(rt: HostRuntime) -> Result<(), Fail> {
     let alloc = rt.alloc();
-    // Two writes, a sync, and by the plan a write and a sync that fail.
-    let calls: [Step; 5] = [
-        Some((0, 1, 1)),
-        Some((1, 0, 1)),
-        None,
-        Some((2, 1, 1)),
-        None,
-    ];
     // After so many of them: what the last sync left, and what is unsynced, one bit for each byte.
     let table: [(u32, u32); 6] = [
         (0, 0),
@@ -99,7 +100,7 @@ fn images_are_those_of_a_list(rt: HostRuntime) -> Result<(), Fail> {
                     picks.push((wanted >> at & 1) as u8)?;
                 }
             }
-            let bytes = left(alloc, plan, &calls[..count], &picks)?;
+            let bytes = left(alloc, plan, &TWO_THAT_FAIL[..count], &picks)?;
             for at in 0..8u32 {
                 let bit = (wanted & *unsynced | *synced & !*unsynced) >> at & 1;
                 assert_eq!(rt; bytes[at as usize], Some(bit as u8));

@@ -297,17 +297,16 @@ fn rows_change_a_node(rt: HostRuntime) -> Result<(), Fail> {
 #[test]
 fn an_image_stands_for_a_node(rt: HostRuntime) -> Result<(), Fail> {
     let alloc = rt.alloc();
-    let id = NodeId {
-        bucket: 97,
-        number: 1,
-    };
     let empty = Node::Leaf {
         pairs: Items::new(alloc),
     };
-    let image = image_of(alloc, id, 5, &empty).ok().ok_or("memory")?;
     let none = Rec::LeafImage {
         pairs: Items::new(alloc),
     };
-    assert_eq!(rt; image, row(97, 1, 5, none));
+    let wanted = row(97, 1, 5, none);
+    let image = image_of(alloc, wanted.node, 5, &empty)
+        .ok()
+        .ok_or("memory")?;
+    assert_eq!(rt; image, wanted);
     Ok(())
 }

@@ -3,7 +3,7 @@ use Rattle.std.proofs.Common.{◌≡◌, ℕ, List, Some, None, refl, arith}
 use Rattle.std.specs.Prelude.{Option, IfSome}
 use Rattle.fine_model.specs.declared.Job.{Job}
 use Rattle.fine_model.specs.declared.Row.{Row}
-use Rattle.fine_model.specs.Becomes.{Becomes}
+use Rattle.fine_model.specs.Becomes.{Becomes, IsStuck}
 use Rattle.fine_model.specs.History.{Commit}
 use Rattle.log_disk.specs.Disk.{Told}
 use Rattle.log_disk.proofs.Times.{continues_none}
@@ -38,26 +38,14 @@ module _ (value : RoomValue) (whole : IsWhole value) (job : Option Job) (free : 
       on' (Some a) None s = tt
       on' (Some a) (Some b) s = spare_told a b first e history s
 
+  -- what makes a room stuck is said of its image and of the parts in it
+  spare_stuck : IsStuck value.room → IsStuck (with_job value job free).room
+  spare_stuck s = record { image = s.image; told = s.told; is_chain = s.is_chain; rows = s.rows; are_rows = s.are_rows; none_waits = s.none_waits; none_retired = s.none_retired; few_free = s.few_free; all_live = s.all_live; no_merge = s.no_merge }
+
   spare_becomes : Becomes value.room (with_job value job free).room
   spare_becomes =
       becomes_still value.room (with_job value job free).room (omega arith) (omega arith) (λ h. record { shut = h; image = refl; parts = refl; sealed = refl; places = refl })
-      (λ s. record {
-        stuck = record {
-          image = s.image;
-          told = s.told;
-          is_chain = s.is_chain;
-          rows = s.rows;
-          are_rows = s.are_rows;
-          none_waits = s.none_waits;
-          none_retired = s.none_retired;
-          few_free = s.few_free;
-          all_live = s.all_live;
-          no_merge = s.no_merge;
-        };
-        parts = refl;
-        sealed = refl;
-        places = refl;
-      })
+      (λ s. record { stuck = spare_stuck s; parts = refl; sealed = refl; places = refl })
 
   pub spare_keeps : Keeps value (with_job value job free)
   unfolding Stands

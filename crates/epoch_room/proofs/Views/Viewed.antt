@@ -25,7 +25,7 @@ use Rattle.log_disk.specs.Moments.{Continues, IsLeft}
 use Rattle.log_disk.proofs.Sound.{sound_failure, sound_opens}
 use Rattle.log_disk.proofs.Times.{continues_told}
 use Rattle.epoch_room.specs.Meaning.{Keeps, Stands, StandsWhere}
-use Rattle.epoch_room.specs.Steps.{Shuts}
+use Rattle.epoch_room.specs.Steps.{Does, Shuts}
 use Rattle.epoch_room.specs.Value.{RoomValue, Kept, all_regions, on, value_of}
 use Rattle.epoch_room.specs.Views.{AgreesUpTo, MakesView, ViewsLog, ViewsOr}
 use Rattle.epoch_room.specs.Whole.{AreOnBoard, HoldsParts, IsWhole, NamesWhole}
@@ -191,21 +191,16 @@ module _ (old new entry : Disk) (kept : Kept) (whole : IsWhole (value_of old ent
         st.stands.live.agrees,
       )
 
+  posts : Does (record (value_of old entry kept).room { board = board }) kept.target (value_of old entry kept) (value_of new entry (boarded kept board kept.is_shut))
+  posts = (
+    open_room,
+    record { room = refl; target = refl; entry = refl; regions = opens.others.0; region_len = opens.others.1; time = continues_told old new opens.told },
+    record { faults = opens.others.3; own_faults = opens.others.4 },
+  )
+
   pub makes_view : MakesView (value_of old entry kept) (value_of new entry (boarded kept board kept.is_shut)) seat (Ok view)
   makes_view = record {
-    room = record {
-      of_seat = refl;
-      buffer = lowest;
-      parts = refl;
-      upto = refl;
-      region_len = refl;
-      opens = opens;
-      posts = (
-        open_room,
-        record { room = refl; target = refl; entry = refl; regions = opens.others.0; region_len = opens.others.1; time = continues_told old new opens.told },
-        record { faults = opens.others.3; own_faults = opens.others.4 },
-      );
-    };
+    room = record { of_seat = refl; buffer = lowest; parts = refl; upto = refl; region_len = refl; opens = opens; posts = posts };
     log = log;
     keeps = boarded_keeps old new entry kept whole same sound board kept.is_shut on_board (λ h. h) (λ h. inl h);
     job = boarded_job old new entry kept whole same sound board kept.is_shut on_board (λ h. h) (λ h. inl h);

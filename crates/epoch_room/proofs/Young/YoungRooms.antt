@@ -25,8 +25,9 @@ use Rattle.log_disk.specs.Moments.{ContinuesOn, IsLeft, LeavesOnly}
 use Rattle.log_disk.proofs.Moments.{now_since, synced_now}
 use Rattle.log_disk.proofs.Writes.{same_outside_written}
 use Rattle.epoch_room.specs.Gate.{DirtiesOnly, HasBytes, IsAtGate, IsSealing, IsUngated, KeepsBeside, LeavesBehind, LeavesSealing, ReadsBehind, gate}
-use Rattle.epoch_room.specs.Gathering.{GathersOr, GathersYoung, HoldsGathered, WereGathered, gathered_part, gathered_state, retire_all}
+use Rattle.epoch_room.specs.Gathering.{AreYoung, GathersOr, GathersYoung, HoldsGathered, WereGathered, gathered_part, gathered_state, retire_all}
 use Rattle.epoch_room.specs.Meaning.{GoesOnStanding, Keeps, ShownInside, Stands}
+use Rattle.epoch_room.specs.Steps.{Does}
 use Rattle.epoch_room.specs.Value.{Kept, RoomValue, on, regions_outside, taken, value_of}
 use Rattle.epoch_room.specs.Whole.{AreApart, HoldsParts, IsJob, IsWhole, NamesWhole}
 use Rattle.epoch_room.specs.declared.answers.RoomFault.{RoomFault}
@@ -333,24 +334,17 @@ module _ (old entry : Disk) (kept : Kept) (before : List Part) (oldest : Part) (
                 sealed = young_sealed old.region_len region before oldest newer kept.retired rows bytes w a.bytes h f b.bytes (opened a b o);
               }
 
+      gathered_room : (failed → ⊥) → Does (gathered_state (value_of old entry kept).room before oldest newer (gathered_part region oldest newer rows)) kept.target (value_of old entry kept) (value_of new entry now)
+      unfolding gathered_state
+      gathered_room fine = does _ _ c.open_room (ap (λ (xs : List ℕ). on (record (value_of old entry kept).room { parts = now.parts; retired = now.retired; free = drop 1 xs }) new) (sym c.lowest)) refl refl same time counts fine
+
       pub gathers_ok : (failed → ⊥) → (from : ℕ) → from ≤ oldest.header.range.first → AllByRecursion (λ p. p.header.range.first < from) before
           → GathersYoung from (value_of old entry kept) (value_of new entry (record kept { parts = before ++ gathered_part region oldest newer rows ∷ []; retired = retire_all (oldest ∷ newer) kept.retired; free = free })) (Ok true)
-      unfolding gathered_state
       gathers_ok fine from begins older =
+          let are : AreYoung from kept.parts before oldest newer = record { split = c.split; several = c.several; young = begins; older = older } in
           gathers from now (Ok true)
-          (record {
-            before = before;
-            oldest = oldest;
-            newer = newer;
-            are = record { split = c.split; several = c.several; young = begins; older = older };
-            region = region;
-            free = free;
-            lowest = c.lowest;
-            rows = rows;
-            holds = holds_gathered;
-            synced = synced;
-            room = does _ _ c.open_room (ap (λ (xs : List ℕ). on (record (value_of old entry kept).room { parts = now.parts; retired = now.retired; free = drop 1 xs }) new) (sym c.lowest)) refl refl same time counts fine;
-          }) (keeps now gathered_stands refl refl (λ h. absurd (true≢false (sym h ∙ c.open_room))))
+          (record { before = before; oldest = oldest; newer = newer; are = are; region = region; free = free; lowest = c.lowest; rows = rows; holds = holds_gathered; synced = synced; room = gathered_room fine })
+          (keeps now gathered_stands refl refl (λ h. absurd (true≢false (sym h ∙ c.open_room))))
 
     -- ---- memory ran out
 

@@ -76,16 +76,7 @@ module _ (header : Header) (body : List ℕ) (rows : List Row) (long : length bo
   -- the entry at a place is bad where the entries up to it are not those that are wanted
   bad_entry : (i : ℕ) → AreTheRows header body rows → i < header.nodes → take (14 * i) (index_area header body) ≡ take (14 * i) (index_bytes rows)
       → take (14 * (i + 1)) (index_area header body) ≢ take (14 * (i + 1)) (index_bytes rows) → IsBadEntry header body (header.area + 14 * i)
-  bad_entry i r there before differ = record {
-    rows = rows;
-    good = r.good;
-    all = r.all;
-    entry = i;
-    there = there;
-    place = refl;
-    before = before;
-    bad = inl differ;
-  }
+  bad_entry i r there before differ = record { rows = rows; good = r.good; all = r.all; entry = i; there = there; place = refl; before = before; bad = inl differ }
 
   pub other_entry : (i : ℕ) (d : IndexEntry) → AreTheRows header body rows → i < length (entries_of rows) → i < header.nodes → take (14 * i) (index_area header body) ≡ take (14 * i) (index_bytes rows)
       → (take 14 (drop (header.area + 14 * i) body) ≡ bytes_of (get_or (entries_of rows) i d) → ⊥) → IsBadEntry header body (header.area + 14 * i)

@@ -4,7 +4,6 @@ ghost use Rattle.std.specs.Prelude.{◌≡◌};
 ghost use Rattle.log_partition.specs.declared.fault.DecodeFault.TheVariants.{NoMemory};
 
 use fine_model;
-use std::alloc::AllocError;
 
 /// Why a header was not read.
 #[derive(Debug, Drop)]
@@ -19,14 +18,6 @@ pub enum DecodeFault {
     /// The row or index entry at this offset of the body is the first bad one.
     Bad { at: u32 },
     NoMemory,
-}
-
-impl From<AllocError> for DecodeFault {
-    ghost from_gives = { λ _ e. e ≡ NoMemory };
-
-    fn from(_refused: AllocError) -> DecodeFault {
-        DecodeFault::NoMemory
-    }
 }
 
 impl From<fine_model::NoMemory> for DecodeFault {

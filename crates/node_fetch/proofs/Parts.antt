@@ -147,14 +147,23 @@ content_by_image rows before own found id is same image =
 pub content_on : (rows before own found : List Row) (id : NodeId) (c : Content) → rows ≡ before ++ own → found ≡ rows_of id own → c ≡ content before id → replay c found ≡ content rows id
 content_on rows before own found id c is same e = ap (λ x. replay x found) e ∙ ap (replay (content before id)) same ∙ sym (content_last rows before own id is)
 
--- what the rows of the newest part, and those of the others, may take
-pub taken_last : (old mid : ℕ) (parts front : List Part) (p : Part) (rows before own : List Row) (id : NodeId) → parts ≡ front ++ p ∷ [] → rows ≡ before ++ own
-    → mid ≤ old + (most_taken p.header.nodes + rows_len (rows_of id own)) → mid ≤ old + (most_sought parts + rows_len (rows_of id rows))
-taken_last old mid parts front p rows before own id is whole a = omega (arith, a, sought_last parts front p is, len_last rows before own id whole)
+-- what the rows of the newest part may take
+pub taken_newest : (eye : Eye) (mid : ℕ) (parts front : List Part) (p : Part) (rows : List Row) (id : NodeId) → parts ≡ front ++ p ∷ [] → TellsParts eye parts rows
+    → ((own : List Row) → TellsRows eye p own → mid ≤ eye.taken + (most_taken p.header.nodes + rows_len (rows_of id own))) → mid ≤ eye.taken + (most_sought parts + rows_len (rows_of id rows))
+taken_newest eye mid parts front p rows id is tells newest =
+    let l = tells_last eye parts front p rows is tells in
+    let a = newest l.own l.tells_own in
+    omega (arith, a, sought_last parts front p is, len_last rows l.before l.own id l.whole)
 
-pub taken_all : (old mid new : ℕ) (parts front : List Part) (p : Part) (rows before own : List Row) (id : NodeId) → parts ≡ front ++ p ∷ [] → rows ≡ before ++ own
-    → mid ≤ old + (most_taken p.header.nodes + rows_len (rows_of id own)) → new ≤ mid + (most_sought front + rows_len (rows_of id before)) → new ≤ old + (most_sought parts + rows_len (rows_of id rows))
-taken_all old mid new parts front p rows before own id is whole a b = omega (arith, a, b, sought_last parts front p is, len_last rows before own id whole)
+-- and those of the parts before it, which are read after it
+pub taken_all : (eye mid : Eye) (new : ℕ) (parts front : List Part) (p : Part) (rows : List Row) (id : NodeId) → parts ≡ front ++ p ∷ [] → SameEye eye mid → TellsParts eye parts rows
+    → ((own : List Row) → TellsRows eye p own → mid.taken ≤ eye.taken + (most_taken p.header.nodes + rows_len (rows_of id own)))
+    → ((before : List Row) → TellsParts mid front before → new ≤ mid.taken + (most_sought front + rows_len (rows_of id before))) → new ≤ eye.taken + (most_sought parts + rows_len (rows_of id rows))
+taken_all eye mid new parts front p rows id is same tells newest others =
+    let l = tells_last eye parts front p rows is tells in
+    let a = newest l.own l.tells_own in
+    let b = others l.before (later_tells eye mid front l.before same l.tells_before) in
+    omega (arith, a, b, sought_last parts front p is, len_last rows l.before l.own id l.whole)
 
 -- ---- answers
 

@@ -4,20 +4,10 @@ ghost use Rattle.std.specs.Prelude.{◌≡◌, ◌<◌};
 ghost use Rattle.fine_model.specs.declared.FetchFault.TheVariants as fetch_fault;
 ghost use Rattle.fine_model.specs.Regions.{place_of, body_len};
 ghost use Rattle.partition_index.specs.Parts.{LiesIn};
-ghost use Rattle.node_fetch.specs.Fetched.{row_fault, index_fault};
+ghost use Rattle.node_fetch.specs.Fetched.{index_fault};
 
 use fine_model::{FetchFault, Part};
 use partition_index::place_of;
-
-/// A bad row at an offset of a part's body.
-pub fn bad_row(part: &Part, region_len: u64, at: u32) -> FetchFault
-    requires lies { LiesIn region_len part.now.header }
-    requires within { at < body_len part.now.header }
-    ensures { result ≡ row_fault (place_of region_len part.now.region part.now.header at) }
-{
-    let (region, at) = place_of(part, region_len, at);
-    FetchFault::BadRow { region, at }
-}
 
 /// A bad index entry at an offset of a part's body.
 pub fn bad_index(part: &Part, region_len: u64, at: u32) -> FetchFault

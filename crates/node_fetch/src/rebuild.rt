@@ -11,7 +11,7 @@ ghost use Rattle.fine_model.specs.RowBytes.{FitsRec, FitsRow, greatest, rows_len
 ghost use Rattle.fine_model.specs.Seek.{most_taken};
 ghost use Rattle.partition_index.specs.Parts.{IsSeen};
 ghost use Rattle.partition_index.specs.Search.{Searches, TellsRows};
-ghost use Rattle.node_fetch.specs.Fetches.{IsFetched};
+ghost use Rattle.node_fetch.specs.Fetches.{IsFetched, SeesAll};
 ghost use Rattle.node_fetch.specs.Fetched.{ReadsRows, IsReplayOf, HasBadRow, HasBadEntry, NoDamage, TellsParts, most_sought, most_read};
 
 use crate::fault::bad_index;
@@ -80,8 +80,7 @@ fn rebuilt<E: LogEye>(
     node: NodeId,
     region_len: u64,
 ) -> Result<(Node, u64), FetchFault>
-    requires seen { AllByRecursion (IsSeen (E.LogEye.state eye.old)) parts.now }
-    requires region_len { region_len ≡ (E.LogEye.state eye.old).region_len }
+    requires { SeesAll (E.LogEye.state eye.old) region_len parts.now }
     ensures eye { Searches (IsErrOf result fetch_fault.Failed) (most_read parts.now) (E.LogEye.state eye.old) (E.LogEye.state eye.new) }
     ensures fits { IfOk result (λ found. FitsNode found.0) }
     ensures version { IfOk result (λ found. found.1 ≤ greatest) }

@@ -6,19 +6,18 @@ ghost use Rattle.log_disk.specs.Disk.{Eye};
 ghost use Rattle.fine_model.specs.declared.Row.{Row};
 ghost use Rattle.fine_model.specs.declared.FetchFault.TheVariants as fetch_fault;
 ghost use Rattle.fine_model.specs.Nodes.{rows_of};
-ghost use Rattle.fine_model.specs.Regions.{Image};
+ghost use Rattle.fine_model.specs.Regions.{Image, place_of};
 ghost use Rattle.fine_model.specs.RowBytes.{FitsRow};
 ghost use Rattle.partition_index.specs.Parts.{IsSeen, LiesIn};
 ghost use Rattle.partition_index.specs.Search.{Searches, IsRangeAt, TellsRows, span_for};
 ghost use Rattle.node_fetch.specs.Spans.{ReadsAll, StopsAt, IsStop, FramesAll};
-ghost use Rattle.node_fetch.specs.Fetched.{HoldsRows, IsBadRowOf, IsRowFault, NoDamage};
+ghost use Rattle.node_fetch.specs.Fetched.{HoldsRows, IsBadRowOf, IsRowFault, NoDamage, row_fault};
 
-use crate::fault::bad_row;
 use crate::frames::{Frames, with_frame};
 use fine_model::{FetchFault, Items, Mark, NodeId, Part, Rows};
 use log_disk::LogEye;
 use node_record::{RowFault, frame_at, read_row};
-use partition_index::{Span, read_body};
+use partition_index::{Span, place_of, read_body};
 use std::alloc::Global;
 
 /// So many zeros.
@@ -111,6 +110,17 @@ fn frames_in(bytes: &[u8], node: NodeId, count: u32, mark: Mark) -> Result<Optio
     Ok(frames)
 }
 
+/// A bad row at an offset of the bytes of a span.
+fn bad_row(part: &Part, region_len: u64, span: Span, at: usize) -> FetchFault
+    requires lies { LiesIn region_len part.now.header }
+    requires some { 1 ≤ part.now.header.nodes }
+    requires within { span.at + at ≤ part.now.header.area }
+    ensures { result ≡ row_fault (place_of region_len part.now.region part.now.header (span.at + at)) }
+{
+    let (region, at) = place_of(part, region_len, span.at + at as u32);
+    FetchFault::BadRow { region, at }
+}
+
 /// The rows of a node that the bytes of a span spell, as its index entry gives it.
 ///
 /// By these bytes the span is exactly these rows: all of the node, as many as the entry counts, up to the span's end. Where they are the
@@ -142,7 +152,7 @@ pub fn rows_of_span(
 {
     match rows_in(alloc, bytes, node, span.rows, part.header.mark) {
         Ok(rows) => Ok(rows),
-        Err(RowFault::Bad { at }) => Err(bad_row(part, region_len, span.at + at as u32)),
+        Err(RowFault::Bad { at }) => Err(bad_row(part, region_len, span, at)),
         Err(RowFault::NoMemory) => Err(FetchFault::NoMemory),
     }
 }
@@ -176,7 +186,7 @@ pub fn frames_of_span(
 {
     match frames_in(bytes, node, span.rows, part.header.mark) {
         Ok(frames) => Ok(frames),
-        Err(at) => Err(bad_row(part, region_len, span.at + at as u32)),
+        Err(at) => Err(bad_row(part, region_len, span, at)),
     }
 }
 

@@ -1,5 +1,4 @@
-use Rattle.std.proofs.Common.{List, rules, arith, ◌≡◌, ◌++◌, true, ◌∷◌, [], sym, ap, ◌∙◌, subst, Err}
-use Rattle.std.proofs.lemmas.Grind.{common_steps}
+use Rattle.std.proofs.Common.{rules, ◌≡◌, true, ◌∷◌, [], sym, ap, ◌∙◌, subst, Err}
 use Rattle.std.specs.Prelude.{Any}
 use Rattle.std.specs.List.{AllByRecursion, list_any}
 use Rattle.std.proofs.lemmas.List.{nil_from_length}
@@ -10,13 +9,10 @@ use Rattle.fine_model.specs.Merge.{is_image}
 use Rattle.fine_model.specs.Nodes.{content, replay}
 use Rattle.node_fetch.specs.Fetched.{HasBadRow, HasBadEntry, TellsParts}
 use Rattle.fine_model.proofs.Ordered.Zip.{all_left, all_right}
-use Rattle.node_fetch.proofs.Parts.{fit_rows, later_tells, later_seen, tells_last, tells_none, content_none, content_by_image, content_on, taken_last, taken_all, after_exact, err_exact, fault_is}
+use Rattle.node_fetch.proofs.Parts.{any_front, fit_rows, later_tells, later_seen, tells_last, tells_none, content_none, content_by_image, content_on, taken_newest, taken_all, after_exact, err_exact, fault_is}
 use Rattle.node_fetch.proofs.ReadBack.{replay_none, replay_image, replay_last, replay_same, after_is}
 use Rattle.partition_index.specs.Parts.{IsSeen}
 use Rattle.node_fetch.proofs.rebuild.+rebuilt.Goals as goal
-
-any_front : (P : Part → Type 0) (parts : List Part) (last : Part) → Any P parts → Any P (parts ++ last ∷ [])
-any_front P parts last (k, part, small, is, p) = (k, part, grind (arith, common_steps, small), grind (arith, common_steps, small, is), p)
 
 pub part_rows-requires-clause-seen : goal.part_rows-requires-clause-seen
 part_rows-requires-clause-seen g t c =
@@ -32,11 +28,11 @@ rebuilt-requires g t c κs within =
       search rules,
       (
         search rules,
-        (
-          later_seen (g.E.LogEye.state c.args.eye.now) (g.E.LogEye.state c.part_rows.new.eye) c.in-Some.older.now c.part_rows.ensures.eye.same
-              (all_left P c.in-Some.older.now (c.in-Some.newest.now ∷ []) (subst (AllByRecursion P) c.in-Some.ensures.cases.0 c.requires.seen)),
-          c.requires.region_len ∙ sym c.part_rows.ensures.eye.same.region_len,
-        ),
+        record {
+          seen = later_seen (g.E.LogEye.state c.args.eye.now) (g.E.LogEye.state c.part_rows.new.eye) c.in-Some.older.now c.part_rows.ensures.eye.same
+              (all_left P c.in-Some.older.now (c.in-Some.newest.now ∷ []) (subst (AllByRecursion P) c.in-Some.ensures.cases.0 c.requires.seen));
+          len = c.requires.len ∙ sym c.part_rows.ensures.eye.same.region_len;
+        },
       ),
     )
 
@@ -73,10 +69,7 @@ returns-in_err-rows-clause-fetched g t c = record {
       let l = tells_last (g.E.LogEye.state c.args.eye.now) c.args.parts.now c.in-Some.older.now c.in-Some.newest.now rows c.in-Some.ensures.cases.0 tells in
       let same : c.from_residual.result ≡ Err c.in_err-rows.field-0.0 = search rules in
       err_exact c.from_residual.result c.in_err-rows.field-0.0 (content rows c.args.node) same (c.in_err-rows.ensures.exact l.own l.tells_own);
-  taken = λ rows tells.
-      let l = tells_last (g.E.LogEye.state c.args.eye.now) c.args.parts.now c.in-Some.older.now c.in-Some.newest.now rows c.in-Some.ensures.cases.0 tells in
-      taken_last (g.E.LogEye.state c.args.eye.now).taken (g.E.LogEye.state c.part_rows.new.eye).taken c.args.parts.now c.in-Some.older.now c.in-Some.newest.now rows l.before l.own c.args.node c.in-Some.ensures.cases.0 l.whole
-      (c.part_rows.ensures.taken l.own l.tells_own);
+  taken = λ rows tells. taken_newest (g.E.LogEye.state c.args.eye.now) (g.E.LogEye.state c.part_rows.new.eye).taken c.args.parts.now c.in-Some.older.now c.in-Some.newest.now rows c.args.node c.in-Some.ensures.cases.0 tells c.part_rows.ensures.taken;
 }
 
 pub returns-then-has_image-clause-fetched : goal.returns-then-has_image-clause-fetched
@@ -95,10 +88,7 @@ returns-then-has_image-clause-fetched g t c = record {
       let own = c.in_ok-rows.ensures.exact l.own l.tells_own in
       after_exact c.after.result _ (content rows c.args.node) c.after.ensures.replay c.after.ensures.err
       (ap (λ x. replay x c.in_ok-rows.rows) c.base-then-has_image.ensures.base ∙ content_by_image rows l.before l.own c.in_ok-rows.rows c.args.node l.whole own image);
-  taken = λ rows tells.
-      let l = tells_last (g.E.LogEye.state c.args.eye.now) c.args.parts.now c.in-Some.older.now c.in-Some.newest.now rows c.in-Some.ensures.cases.0 tells in
-      taken_last (g.E.LogEye.state c.args.eye.now).taken (g.E.LogEye.state c.part_rows.new.eye).taken c.args.parts.now c.in-Some.older.now c.in-Some.newest.now rows l.before l.own c.args.node c.in-Some.ensures.cases.0 l.whole
-      (c.part_rows.ensures.taken l.own l.tells_own);
+  taken = λ rows tells. taken_newest (g.E.LogEye.state c.args.eye.now) (g.E.LogEye.state c.part_rows.new.eye).taken c.args.parts.now c.in-Some.older.now c.in-Some.newest.now rows c.args.node c.in-Some.ensures.cases.0 tells c.part_rows.ensures.taken;
 }
 
 pub returns-in_err-before-clause-fetched : goal.returns-in_err-before-clause-fetched
@@ -109,23 +99,21 @@ returns-in_err-before-clause-fetched g t c = record {
       let same : c.from_residual-in_err-before.result ≡ Err c.in_err-before.field-0.0 = search rules in
       let there = c.in_err-before.ensures.fetched.bad_row region at (ap Err (fault_is c.from_residual-in_err-before.result c.in_err-before.field-0.0 (fault.BadRow region at) same e)) in
       let here : Any P c.in-Some.older.now = subst (λ told. Any (λ p. HasBadRow told c.args.region_len p c.args.node (record { region = region; at = at })) c.in-Some.older.now) c.part_rows.ensures.eye.same.told there in
-      subst (Any P) (sym c.in-Some.ensures.cases.0) (any_front P c.in-Some.older.now c.in-Some.newest.now here);
+      subst (Any P) (sym c.in-Some.ensures.cases.0) (any_front P c.in-Some.older.now (c.in-Some.newest.now ∷ []) here);
   bad_index = λ region at e.
       let P : Part → Type 0 = λ p. HasBadEntry (g.E.LogEye.state c.args.eye.now).told c.args.region_len p (record { region = region; at = at }) in
       let same : c.from_residual-in_err-before.result ≡ Err c.in_err-before.field-0.0 = search rules in
       let there = c.in_err-before.ensures.fetched.bad_index region at (ap Err (fault_is c.from_residual-in_err-before.result c.in_err-before.field-0.0 (fault.BadIndex region at) same e)) in
       let here : Any P c.in-Some.older.now = subst (λ told. Any (λ p. HasBadEntry told c.args.region_len p (record { region = region; at = at })) c.in-Some.older.now) c.part_rows.ensures.eye.same.told there in
-      subst (Any P) (sym c.in-Some.ensures.cases.0) (any_front P c.in-Some.older.now c.in-Some.newest.now here);
+      subst (Any P) (sym c.in-Some.ensures.cases.0) (any_front P c.in-Some.older.now (c.in-Some.newest.now ∷ []) here);
   exact = λ rows tells.
       let l = tells_last (g.E.LogEye.state c.args.eye.now) c.args.parts.now c.in-Some.older.now c.in-Some.newest.now rows c.in-Some.ensures.cases.0 tells in
       let same : c.from_residual-in_err-before.result ≡ Err c.in_err-before.field-0.0 = search rules in
       let later = later_tells (g.E.LogEye.state c.args.eye.now) (g.E.LogEye.state c.part_rows.new.eye) c.in-Some.older.now l.before c.part_rows.ensures.eye.same l.tells_before in
       err_exact c.from_residual-in_err-before.result c.in_err-before.field-0.0 (content rows c.args.node) same (c.in_err-before.ensures.fetched.exact l.before later);
   taken = λ rows tells.
-      let l = tells_last (g.E.LogEye.state c.args.eye.now) c.args.parts.now c.in-Some.older.now c.in-Some.newest.now rows c.in-Some.ensures.cases.0 tells in
-      let later = later_tells (g.E.LogEye.state c.args.eye.now) (g.E.LogEye.state c.part_rows.new.eye) c.in-Some.older.now l.before c.part_rows.ensures.eye.same l.tells_before in
-      taken_all (g.E.LogEye.state c.args.eye.now).taken (g.E.LogEye.state c.part_rows.new.eye).taken (g.E.LogEye.state c.rebuilt.new.eye).taken c.args.parts.now c.in-Some.older.now c.in-Some.newest.now rows l.before l.own c.args.node c.in-Some.ensures.cases.0 l.whole
-      (c.part_rows.ensures.taken l.own l.tells_own) (c.rebuilt.ensures.fetched.taken l.before later);
+      taken_all (g.E.LogEye.state c.args.eye.now) (g.E.LogEye.state c.part_rows.new.eye) (g.E.LogEye.state c.rebuilt.new.eye).taken c.args.parts.now c.in-Some.older.now c.in-Some.newest.now rows c.args.node c.in-Some.ensures.cases.0 c.part_rows.ensures.eye.same tells
+      c.part_rows.ensures.taken c.rebuilt.ensures.fetched.taken;
 }
 
 pub returns-clause-fetched : goal.returns-clause-fetched
@@ -145,8 +133,6 @@ returns-clause-fetched g t c = record {
       after_exact c.after-2.result _ (content rows c.args.node) c.after-2.ensures.replay c.after-2.ensures.err
       (content_on rows l.before l.own c.in_ok-rows.rows c.args.node _ l.whole own before);
   taken = λ rows tells.
-      let l = tells_last (g.E.LogEye.state c.args.eye.now) c.args.parts.now c.in-Some.older.now c.in-Some.newest.now rows c.in-Some.ensures.cases.0 tells in
-      let later = later_tells (g.E.LogEye.state c.args.eye.now) (g.E.LogEye.state c.part_rows.new.eye) c.in-Some.older.now l.before c.part_rows.ensures.eye.same l.tells_before in
-      taken_all (g.E.LogEye.state c.args.eye.now).taken (g.E.LogEye.state c.part_rows.new.eye).taken (g.E.LogEye.state c.rebuilt.new.eye).taken c.args.parts.now c.in-Some.older.now c.in-Some.newest.now rows l.before l.own c.args.node c.in-Some.ensures.cases.0 l.whole
-      (c.part_rows.ensures.taken l.own l.tells_own) (c.rebuilt.ensures.fetched.taken l.before later);
+      taken_all (g.E.LogEye.state c.args.eye.now) (g.E.LogEye.state c.part_rows.new.eye) (g.E.LogEye.state c.rebuilt.new.eye).taken c.args.parts.now c.in-Some.older.now c.in-Some.newest.now rows c.args.node c.in-Some.ensures.cases.0 c.part_rows.ensures.eye.same tells
+      c.part_rows.ensures.taken c.rebuilt.ensures.fetched.taken;
 }

@@ -1,5 +1,5 @@
 -- What holds of the states of a source that loads no nodes: they are all the same, and its one fault is no damage.
-use Rattle.std.proofs.Common.{◌≡◌, ◌∙◌, List, refl, sym, ap, subst}
+use Rattle.std.proofs.Common.{◌≡◌, List, sym, subst}
 use Rattle.fine_model.specs.declared.FetchFault.{FetchFault}
 use Rattle.fine_model.specs.declared.FetchFault.TheVariants as fetch_fault
 use Rattle.fine_model.specs.declared.NodeId.{NodeId}
@@ -10,12 +10,6 @@ use Rattle.partition_hold.specs.Sources.{finds_in, tells_rows}
 use Rattle.epoch_room.specs.Value.{RoomValue}
 use Rattle.room_shelf.specs.Shelves.{sight}
 
-pub later_itself : (s : RoomValue) → s ≡ s
-later_itself s = refl
-
-pub later_on : (s t u : RoomValue) → t ≡ s → u ≡ t → u ≡ s
-later_on s t u a b = b ∙ a
-
 pub later_tells : (s t : RoomValue) (rows : List Row) → t ≡ s → tells_rows (sight s) rows → tells_rows (sight t) rows
 later_tells s t rows l told = subst (λ r. tells_rows (sight r) rows) (sym l) told
 
@@ -24,12 +18,6 @@ tells_before s t rows l told = subst (λ r. tells_rows (sight r) rows) l told
 
 pub finds_before : (s t : RoomValue) (id : NodeId) (found : Content) → t ≡ s → finds_in (sight t) id found → finds_in (sight s) id found
 finds_before s t id found l f = subst (λ r. finds_in (sight r) id found) l f
-
-pub later_upper : (s t : RoomValue) → t ≡ s → t.room.sealed ≡ s.room.sealed
-later_upper s t l = ap (λ (r : RoomValue). r.room.sealed) l
-
-pub fails_earlier : (s t u : RoomValue) (fault : FetchFault) → t ≡ s → fault ≡ fetch_fault.NoMemory → fault ≡ fetch_fault.NoMemory
-fails_earlier s t u fault l f = f
 
 pub fails_told : (s t : RoomValue) (rows : List Row) (fault : FetchFault) → tells_rows (sight s) rows → fault ≡ fetch_fault.NoMemory → OnCleanFault fault ⊥
 fails_told s t rows fault told f = subst (λ x. OnCleanFault x ⊥) (sym f) tt

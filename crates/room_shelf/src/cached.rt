@@ -43,8 +43,10 @@ impl<D: LogDisk> CachedNodes<D> {
 
 impl<D: LogDisk> NodeSource for CachedNodes<D> {
     ghost use Rattle.std.specs.Prelude.{◌≡◌};
+    ghost use Rattle.std.proofs.Common.{refl, ap, ◌∙◌};
     ghost use Rattle.fine_model.specs.declared.FetchFault.TheVariants as fetch_fault;
     ghost use Rattle.partition_hold.specs.Sources.{finds_in, tells_rows};
+    ghost use Rattle.epoch_room.specs.Value.{RoomValue};
     ghost use Rattle.room_shelf.specs.Shelves.{sight};
     ghost use Rattle.room_shelf.specs.CachedLaws as laws;
 
@@ -60,9 +62,9 @@ impl<D: LogDisk> NodeSource for CachedNodes<D> {
 
     ghost fails = { λ s fault t. fault ≡ fetch_fault.NoMemory };
 
-    ghost later_itself = { laws.later_itself };
+    ghost later_itself = { λ _. refl };
 
-    ghost later_on = { laws.later_on };
+    ghost later_on = { λ _ _ _ before behind. behind ∙ before };
 
     ghost later_tells = { laws.later_tells };
 
@@ -70,13 +72,13 @@ impl<D: LogDisk> NodeSource for CachedNodes<D> {
 
     ghost finds_before = { laws.finds_before };
 
-    ghost later_upper = { laws.later_upper };
+    ghost later_upper = { λ _ _ later. ap (λ (r : RoomValue). r.room.sealed) later };
 
-    ghost clean_itself = { laws.later_itself };
+    ghost clean_itself = { λ _. refl };
 
-    ghost clean_on = { laws.later_on };
+    ghost clean_on = { λ _ _ _ before behind. behind ∙ before };
 
-    ghost fails_earlier = { laws.fails_earlier };
+    ghost fails_earlier = { λ _ _ _ _ _ failed. failed };
 
     ghost fails_told = { laws.fails_told };
 

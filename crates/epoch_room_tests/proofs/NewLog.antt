@@ -1,52 +1,27 @@
 -- A new disk has no parts.
-use Rattle.std.proofs.Common.{◌≡◌, ◌≤◌, ℕ, zero, suc, ◌+◌, ◌%◌, false, [], length, None, Some, Ok, Err, Result, refl, ap}
-use Rattle.std.specs.Prelude.{Option, replicate}
+use Rattle.std.proofs.Common.{◌≡◌, ◌≤◌, ℕ, ◌%◌, [], None, Some, Ok, Err, Result, refl, ap}
+use Rattle.std.specs.Prelude.{IfSome, Option}
 use Rattle.fine_model.specs.RowBytes.{longest_region, most_in_log}
-use Rattle.fine_model.specs.Regions.{region_of, is_sealed}
-use Rattle.fine_model.specs.Pushed.{and_then}
 use Rattle.fine_model.specs.Trees.{is_distinct}
-use Rattle.fine_model.specs.Chain.{parts_from, apart, chain_of, chain, taken}
-use Rattle.log_partition.proofs.Heads.{in_closed}
+use Rattle.fine_model.proofs.Chain.EmptyLog.{no_chain, zero_region}
 use Rattle.log_disk.specs.Disk.{Told, zeros, told_anew, new_disk}
 use Rattle.fine_model.specs.declared.law.RoomState.{RoomState}
 use Rattle.epoch_room.specs.Value.{RoomValue}
-use Rattle.epoch_room.specs.Whole.{AreParts, IsIdle}
+use Rattle.epoch_room.specs.Whole.{AreParts, HoldsParts, IsIdle}
 use Rattle.epoch_room.specs.Steps.{SealsOr, sealed_state}
 use Rattle.epoch_room.specs.declared.answers.RoomFault.{RoomFault}
 use Rattle.epoch_room.specs.declared.answers.RoomFault.TheVariants as room_fault
 
-zero_gate : (len : ℕ) → is_sealed (replicate len 0) ≡ false
-zero_gate zero = refl
-zero_gate (suc len) = refl
-
-no_parts : (region_len regions len region k : ℕ) → parts_from region_len regions region (replicate k (replicate len 0)) ≡ Ok []
-unfolding parts_from
-no_parts region_len regions len region zero = refl
-no_parts region_len regions len region (suc k) = rw (in_closed region_len regions region (replicate len 0) (zero_gate len)) (no_parts region_len regions len (region + 1) k)
-
-pub no_chain : (regions len : ℕ) → chain len (zeros regions len) ≡ Ok []
-unfolding chain apart chain_of taken
-no_chain regions len = ap (λ r. and_then (and_then r apart) chain_of) (no_parts len (length (zeros regions len)) len 0 regions)
-
-zero_region : (k len r : ℕ) → is_sealed (region_of (replicate k (replicate len 0)) r) ≡ false
-zero_region zero len r = refl
-zero_region (suc k) len zero = zero_gate len
-zero_region (suc k) len (suc r) = zero_region k len r
+any_parts : (regions len : ℕ) (told : Option Told) → IfSome told (λ t. HoldsParts len t.bytes [] []) → AreParts (new_disk regions len told) [] []
+unfolding is_distinct
+any_parts regions len told held = record { in_chain = record { follow = tt }; apart = record { distinct = refl; below = tt }; lie = tt; rising = tt; told = held }
 
 pub new_parts : (regions len : ℕ) → AreParts (new_disk regions len (Some (told_anew (zeros regions len)))) [] []
-unfolding is_distinct
-new_parts regions len = record {
-  in_chain = record { follow = tt };
-  apart = record { distinct = refl; below = tt };
-  lie = tt;
-  rising = tt;
-  told = record { is_chain = no_chain regions len; leads = λ r h. zero_region regions len r; headers = tt };
-}
+new_parts regions len = any_parts regions len _ (record { is_chain = no_chain len regions len; leads = λ r h. zero_region regions len r; headers = tt })
 
 -- nor has one that tells no bytes
 pub untold_parts : (regions len : ℕ) → AreParts (new_disk regions len None) [] []
-unfolding is_distinct
-untold_parts regions len = record { in_chain = record { follow = tt }; apart = record { distinct = refl; below = tt }; lie = tt; rising = tt; told = tt }
+untold_parts regions len = any_parts regions len None tt
 
 -- and a room may be made on it, where it has the geometry of a log
 pub new_idle : (regions len : ℕ) (told : Option Told) → (4 ≤ regions) × (regions ≤ most_in_log) → (4096 ≤ len) × (len ≤ longest_region) → len % 1024 ≡ 0 → IsIdle (new_disk regions len told)

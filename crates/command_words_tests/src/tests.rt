@@ -3,6 +3,7 @@
 use command_words::{Command, command_of, geometry_of};
 use fine_model::{NoMemory, Options};
 use std::alloc::Global;
+use std::process::Abort;
 
 /// The words of a text, with one space between them. An empty text has none.
 fn words(alloc: Global, text: &str) -> Result<Vec<String>, NoMemory> {
@@ -20,6 +21,26 @@ fn words(alloc: Global, text: &str) -> Result<Vec<String>, NoMemory> {
 fn read(alloc: Global, text: &str) -> Result<Option<Command>, NoMemory> {
     let words = words(alloc, text)?;
     command_of(alloc, &words)
+}
+
+/// Reads texts, each of which has to spell its command.
+fn each_spells<R: Abort>(
+    rt: &R,
+    alloc: Global,
+    table: &[(&str, Option<Command>)],
+) -> Result<(), NoMemory> {
+    for (text, command) in table {
+        assert_eq!(rt; read(alloc, text)?, *command);
+    }
+    Ok(())
+}
+
+/// Reads texts, none of which may spell a command.
+fn none_spells<R: Abort>(rt: &R, alloc: Global, texts: &[&str]) -> Result<(), NoMemory> {
+    for text in texts {
+        assert_eq!(rt; read(alloc, text)?, None);
+    }
+    Ok(())
 }
 
 /// The command `run` with these options.
@@ -40,7 +61,6 @@ fn generate(start: u64, count: u32, lanes: u8) -> Option<Command> {
 
 #[test]
 fn run_takes_each_option_once_and_in_any_order(rt: HostRuntime) -> Result<(), NoMemory> {
-    let alloc = rt.alloc();
     let table = [
         ("run", run(64, 100, 64)),
         ("run --group 1", run(1, 100, 64)),
@@ -57,15 +77,11 @@ fn run_takes_each_option_once_and_in_any_order(rt: HostRuntime) -> Result<(), No
         ("run --", run(64, 100, 64)),
         ("run --group=5 --", run(5, 100, 64)),
     ];
-    for (text, command) in table {
-        assert_eq!(rt; read(alloc, text)?, command);
-    }
-    Ok(())
+    each_spells(&rt, rt.alloc(), &table)
 }
 
 #[test]
 fn other_commands_take_their_words(rt: HostRuntime) -> Result<(), NoMemory> {
-    let alloc = rt.alloc();
     let table = [
         ("dump", Some(Command::Dump)),
         ("dump --", Some(Command::Dump)),
@@ -84,15 +100,11 @@ fn other_commands_take_their_words(rt: HostRuntime) -> Result<(), NoMemory> {
         ("gen 7 40 -- 4", generate(7, 40, 4)),
         ("gen 7 40 4 --", generate(7, 40, 4)),
     ];
-    for (text, command) in table {
-        assert_eq!(rt; read(alloc, text)?, command);
-    }
-    Ok(())
+    each_spells(&rt, rt.alloc(), &table)
 }
 
 #[test]
 fn other_words_are_no_command(rt: HostRuntime) -> Result<(), NoMemory> {
-    let alloc = rt.alloc();
     let table = [
         "",
         "fly",
@@ -149,19 +161,13 @@ fn other_words_are_no_command(rt: HostRuntime) -> Result<(), NoMemory> {
         "gen 7 -- 5 -- 4",
         "gen --group 1 7 5 4",
     ];
-    for text in table {
-        assert_eq!(rt; read(alloc, text)?, None);
-    }
-    Ok(())
+    none_spells(&rt, rt.alloc(), &table)
 }
 
 #[test]
 fn an_empty_word_is_no_number(rt: HostRuntime) -> Result<(), NoMemory> {
-    let alloc = rt.alloc();
-    for text in ["run --group ", "gen  5 4", "dump ", " run"] {
-        assert_eq!(rt; read(alloc, text)?, None);
-    }
-    Ok(())
+    let table = ["run --group ", "gen  5 4", "dump ", " run"];
+    none_spells(&rt, rt.alloc(), &table)
 }
 
 #[test]

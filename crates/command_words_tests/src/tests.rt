@@ -3,7 +3,6 @@
 use command_words::{Command, command_of, geometry_of};
 use fine_model::{NoMemory, Options};
 use std::alloc::Global;
-use std::process::Abort;
 
 /// The words of a text, with one space between them. An empty text has none.
 fn words(alloc: Global, text: &str) -> Result<Vec<String>, NoMemory> {
@@ -23,26 +22,6 @@ fn read(alloc: Global, text: &str) -> Result<Option<Command>, NoMemory> {
     command_of(alloc, &words)
 }
 
-/// Reads texts, each of which has to spell its command.
-fn each_spells<R: Abort>(
-    rt: &R,
-    alloc: Global,
-    table: &[(&str, Option<Command>)],
-) -> Result<(), NoMemory> {
-    for (text, command) in table {
-        assert_eq!(rt; read(alloc, text)?, *command);
-    }
-    Ok(())
-}
-
-/// Reads texts, none of which may spell a command.
-fn none_spells<R: Abort>(rt: &R, alloc: Global, texts: &[&str]) -> Result<(), NoMemory> {
-    for text in texts {
-        assert_eq!(rt; read(alloc, text)?, None);
-    }
-    Ok(())
-}
-
 /// The command `run` with these options.
 fn run(group: u32, tries: u32, keep: u32) -> Option<Command> {
     Some(Command::Run {
@@ -60,8 +39,10 @@ fn generate(start: u64, count: u32, lanes: u8) -> Option<Command> {
 }
 
 #[test]
-fn run_takes_each_option_once_and_in_any_order(rt: HostRuntime) -> Result<(), NoMemory> {
+fn each_command_takes_its_words(rt: HostRuntime) -> Result<(), NoMemory> {
+    let alloc = rt.alloc();
     let table = [
+        // each option once, and in any order
         ("run", run(64, 100, 64)),
         ("run --group 1", run(1, 100, 64)),
         ("run --group=1", run(1, 100, 64)),
@@ -76,13 +57,6 @@ fn run_takes_each_option_once_and_in_any_order(rt: HostRuntime) -> Result<(), No
         ("run --keep 256", run(64, 100, 256)),
         ("run --", run(64, 100, 64)),
         ("run --group=5 --", run(5, 100, 64)),
-    ];
-    each_spells(&rt, rt.alloc(), &table)
-}
-
-#[test]
-fn other_commands_take_their_words(rt: HostRuntime) -> Result<(), NoMemory> {
-    let table = [
         ("dump", Some(Command::Dump)),
         ("dump --", Some(Command::Dump)),
         ("ranges", Some(Command::Ranges)),
@@ -100,12 +74,16 @@ fn other_commands_take_their_words(rt: HostRuntime) -> Result<(), NoMemory> {
         ("gen 7 40 -- 4", generate(7, 40, 4)),
         ("gen 7 40 4 --", generate(7, 40, 4)),
     ];
-    each_spells(&rt, rt.alloc(), &table)
+    for (text, command) in table {
+        assert_eq!(rt; read(alloc, text)?, command);
+    }
+    Ok(())
 }
 
 #[test]
 fn other_words_are_no_command(rt: HostRuntime) -> Result<(), NoMemory> {
-    let table = [
+    let alloc = rt.alloc();
+    for text in [
         "",
         "fly",
         "Run",
@@ -160,14 +138,15 @@ fn other_words_are_no_command(rt: HostRuntime) -> Result<(), NoMemory> {
         "gen 07 5 4",
         "gen 7 -- 5 -- 4",
         "gen --group 1 7 5 4",
-    ];
-    none_spells(&rt, rt.alloc(), &table)
-}
-
-#[test]
-fn an_empty_word_is_no_number(rt: HostRuntime) -> Result<(), NoMemory> {
-    let table = ["run --group ", "gen  5 4", "dump ", " run"];
-    none_spells(&rt, rt.alloc(), &table)
+        // an empty word among them, which is no number
+        "run --group ",
+        "gen  5 4",
+        "dump ",
+        " run",
+    ] {
+        assert_eq!(rt; read(alloc, text)?, None);
+    }
+    Ok(())
 }
 
 #[test]

@@ -1,6 +1,5 @@
 -- Bytes that are ahead.
-use Rattle.std.proofs.Common.{◌≡◌, ℕ, List, [], ◌∷◌, ◌++◌, Option, Some, None, ap, sym, ◌∙◌, refl, subst, append_assoc}
-use Rattle.fine_model.specs.Faults.{CountsFault}
+use Rattle.std.proofs.Common.{◌≡◌, ℕ, List, [], Option, Some, None, refl}
 use Rattle.script_text.specs.Streams.{before}
 
 pub before_none : (o : Option (List ℕ)) → before [] o ≡ o

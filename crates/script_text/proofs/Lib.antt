@@ -2,7 +2,6 @@ pub mod Told
 pub mod Paging
 pub mod Lining
 pub mod Reporting
-pub mod Putting
 pub mod Wording
 pub mod Aheading
 pub mod Grammars

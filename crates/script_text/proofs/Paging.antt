@@ -1,9 +1,7 @@
 -- What is said through a page, piece by piece.
 use Rattle.std.proofs.lemmas.Bool.{false≢true}
-use Rattle.std.proofs.Common.{◌≡◌, false, true, ℕ, ◌+◌, ◌≤◌, ◌<◌, min, List, [], ◌∷◌, ◌++◌, length, take, get_or, Option, Some, None, Result, Ok, Err, IsErr, is_err, ap, sym, ◌∙◌, refl, arith, append_assoc, subst}
-use Rattle.std.specs.List.{flat_map}
-use Rattle.std.proofs.lemmas.List.{append-nil, take_min, take_all, take-append-le, take_more}
-use Rattle.std.proofs.lemmas.List.Concat.{flat_map-append}
+use Rattle.std.proofs.Common.{◌≡◌, false, true, ℕ, ◌+◌, ◌≤◌, min, List, [], ◌++◌, length, take, Option, Some, None, Result, Ok, Err, IsErr, is_err, ap, sym, ◌∙◌, refl, arith, append_assoc, subst}
+use Rattle.std.proofs.lemmas.List.{append-nil, take_min, take_all, take-append-le}
 use Rattle.std.proofs.Math.Seq.{take-append-add}
 use Rattle.fine_model.specs.Faults.{CountsFault, HasRisen}
 use Rattle.script_text.specs.Streams.{Puts, IsPart, behind}

@@ -19,7 +19,6 @@ use std::snapshot::Snapshot;
 #[derive(Drop)]
 pub struct StdSource<I: Read> {
     input: Counted<I>,
-    faults: u64,
 }
 
 impl<I: Read> Model for StdSource<I> {
@@ -27,7 +26,7 @@ impl<I: Read> Model for StdSource<I> {
 
     ghost Value = { StreamState };
 
-    ghost view = { λ s. record { faults = s.faults; calls = s.input.calls; asked = s.input.asked.value; done = s.input.done.value; told = I.remaining s.input.stream } };
+    ghost view = { λ s. record { faults = s.input.faults; calls = s.input.calls; asked = s.input.asked.value; done = s.input.done.value; told = I.remaining s.input.stream } };
 }
 
 impl<I: Read> StdSource<I> {
@@ -38,7 +37,6 @@ impl<I: Read> StdSource<I> {
     {
         StdSource {
             input: Counted::new(rt.reader()),
-            faults: 0,
         }
     }
 }
@@ -59,10 +57,7 @@ impl<I: Read> Source for StdSource<I> {
         ensures done { self.new.done ≡ result_ok result }
         ensures bytes { ReadConsumes self.old.told self.new.told result out.new }
     {
-        match self.input.read(out) {
-            Ok(taken) => Ok(taken),
-            Err(_) => Err(failed(&mut self.faults)),
-        }
+        self.input.read(out)
     }
 }
 
@@ -70,7 +65,6 @@ impl<I: Read> Source for StdSource<I> {
 #[derive(Drop)]
 pub struct StdSink<W: Write> {
     output: Counted<W>,
-    faults: u64,
 }
 
 impl<W: Write> Model for StdSink<W> {
@@ -78,7 +72,7 @@ impl<W: Write> Model for StdSink<W> {
 
     ghost Value = { StreamState };
 
-    ghost view = { λ s. record { faults = s.faults; calls = s.output.calls; asked = s.output.asked.value; done = s.output.done.value; told = W.contents s.output.stream } };
+    ghost view = { λ s. record { faults = s.output.faults; calls = s.output.calls; asked = s.output.asked.value; done = s.output.done.value; told = W.contents s.output.stream } };
 }
 
 impl<'r, R: Print> StdSink<Printer<'r, R>> {
@@ -88,7 +82,6 @@ impl<'r, R: Print> StdSink<Printer<'r, R>> {
     {
         StdSink {
             output: Counted::new(io::writer(rt)),
-            faults: 0,
         }
     }
 }
@@ -107,18 +100,16 @@ impl<W: Write> Sink for StdSink<W> {
         ensures done { self.new.done ≡ option_map (λ _. length bytes.now) (result_ok result) }
         ensures bytes { OnOk result (Appends self.old.told self.new.told bytes.now) }
     {
-        match self.output.write(bytes) {
-            Ok(()) => Ok(()),
-            Err(_) => Err(failed(&mut self.faults)),
-        }
+        self.output.write(bytes)
     }
 }
 
-// A reader or a writer. It counts the calls on it, and keeps for contracts what the last one was for and what it answered, which
+// A reader or a writer. It counts the calls on it and those that failed, and keeps for contracts what the last one was for and what it answered, which
 // takes no memory.
 #[derive(Drop)]
 struct Counted<S> {
     stream: S,
+    faults: u64,
     calls: u64,
     asked: Snapshot<usize>,
     done: Snapshot<Option<usize>>,
@@ -127,12 +118,14 @@ struct Counted<S> {
 impl<S> Counted<S> {
     fn new(stream: S) -> Counted<S>
         ensures stream { result.stream ≡ stream }
+        ensures faults { result.faults ≡ 0 }
         ensures calls { result.calls ≡ 0 }
         ensures asked { result.asked.value ≡ 0 }
         ensures done { result.done.value ≡ None }
     {
         Counted {
             stream,
+            faults: 0,
             calls: 0,
             asked: Snapshot::of(&0),
             done: Snapshot::of(&None),
@@ -141,8 +134,9 @@ impl<S> Counted<S> {
 }
 
 impl<I: Read> Counted<I> {
-    fn read(&mut self, out: &mut [u8]) -> io::Result<usize>
+    fn read(&mut self, out: &mut [u8]) -> Result<usize, Failed>
         ensures len { IfOk result (λ n. n ≤ length out.new) }
+        ensures counts { CountsFault (IsErr result) self.old.faults self.new.faults }
         ensures once { self.new.calls ≡ one_call_more self.old.calls }
         ensures asked { self.new.asked.value ≡ length out.new }
         ensures done { self.new.done.value ≡ result_ok result }
@@ -152,12 +146,16 @@ impl<I: Read> Counted<I> {
         self.asked = Snapshot::of(&out.len());
         let taken = self.stream.read(out);
         self.done = Snapshot::of(&taken.as_ref().ok().copied());
-        taken
+        match taken {
+            Ok(taken) => Ok(taken),
+            Err(_) => Err(failed(&mut self.faults)),
+        }
     }
 }
 
 impl<W: Write> Counted<W> {
-    fn write(&mut self, bytes: &[u8]) -> io::Result<()>
+    fn write(&mut self, bytes: &[u8]) -> Result<(), Failed>
+        ensures counts { CountsFault (IsErr result) self.old.faults self.new.faults }
         ensures once { self.new.calls ≡ one_call_more self.old.calls }
         ensures asked { self.new.asked.value ≡ length bytes.now }
         ensures done { self.new.done.value ≡ option_map (λ _. length bytes.now) (result_ok result) }
@@ -167,7 +165,10 @@ impl<W: Write> Counted<W> {
         self.asked = Snapshot::of(&bytes.len());
         let written = self.stream.write_all(bytes);
         self.done = Snapshot::of(&written.is_ok().then_some(bytes.len()));
-        written
+        match written {
+            Ok(()) => Ok(()),
+            Err(_) => Err(failed(&mut self.faults)),
+        }
     }
 }
 

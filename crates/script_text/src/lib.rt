@@ -5,6 +5,7 @@ ghost use Rattle.std.specs.Prelude.{◌≡◌, ℕ, List, Option, IfOk, OnErr, I
 ghost use Rattle.fine_model.specs.Faults.{CountsFault};
 ghost use Rattle.script_text.specs.Streams.{Takes, Puts};
 
+mod array;
 mod console;
 mod generating;
 mod grammar;

@@ -5,6 +5,7 @@ ghost use Rattle.fine_model.specs.Faults.{CountsFault};
 ghost use Rattle.script_text.specs.Streams.{before};
 ghost use Rattle.script_text.specs.Reading.{IsOneLine, EndsLine, MovesLine};
 
+use super::array::ByteArray;
 use super::search::place_of;
 use super::{Failed, Source};
 use std::marker::Model;
@@ -89,7 +90,7 @@ impl Chunk {
         ensures none { result ≡ false → MovesLine [] line.old line.new self.old self.new }
         ensures longer { result ≡ false → length line.old < length line.new }
     {
-        let front = self.front(MOST_BYTES - line.len);
+        let front = self.front(line.room());
         let len = feed_in(front);
         line.extend(&front[..len]);
         if len == front.len() {
@@ -136,53 +137,7 @@ pub(crate) enum LineEnd {
 }
 
 /// The bytes of a line.
-#[derive(Drop)]
-pub(crate) struct LineBytes {
-    bytes: [u8; MOST_BYTES],
-    len: usize,
-}
-
-impl Model for LineBytes {
-    ghost use Rattle.std.specs.Prelude.{◌≤◌, List, ℕ, take};
-
-    ghost Value = { List ℕ };
-
-    ghost view = { λ l. take l.len l.bytes };
-
-    ghost invariant = { λ l. l.len ≤ 513 };
-}
-
-impl LineBytes {
-    pub(crate) fn new() -> LineBytes
-        ensures { result ≡ [] }
-    {
-        LineBytes {
-            bytes: [0; MOST_BYTES],
-            len: 0,
-        }
-    }
-
-    pub(crate) fn as_slice(&self) -> &[u8]
-        ensures { result.now ≡ self.now }
-    {
-        &self.bytes[..self.len]
-    }
-
-    fn clear(&mut self)
-        ensures { self.new ≡ [] }
-    {
-        self.len = 0;
-    }
-
-    fn extend(&mut self, bytes: &[u8])
-        requires { length self.old + length bytes.now ≤ 513 }
-        ensures { self.new ≡ self.old ++ bytes.now }
-    {
-        let end = self.len + bytes.len();
-        self.bytes[self.len..end].copy_from_slice(bytes);
-        self.len = end;
-    }
-}
+pub(crate) type LineBytes = ByteArray<MOST_BYTES>;
 
 /// The place of the first line feed, or how many bytes there are.
 fn feed_in(bytes: &[u8]) -> usize
@@ -204,7 +159,7 @@ pub(crate) fn next_line<S: Source>(
     ensures counts { CountsFault (IsErr result) (S.faults source.old) (S.faults source.new) }
 {
     line.clear();
-    while line.len < MOST_BYTES {
+    while line.room() > 0 {
         if chunk.is_empty() {
             chunk.fill(source)?;
             if chunk.is_empty() {

@@ -1,8 +1,9 @@
 //! A page gathers small pieces before they go to a sink.
 
 ghost use Rattle.std.specs.Prelude.{◌≡◌, [], ◌∷◌, ◌++◌, false, if◌then◌else◌, IsErr};
-ghost use Rattle.script_text.specs.Pages.{desk, Sends, Finishes};
+ghost use Rattle.script_text.specs.Pages.{Gathered, desk, Sends, Finishes};
 
+use super::array::ByteArray;
 use super::{Failed, Sink};
 use std::marker::Model;
 
@@ -11,20 +12,14 @@ const PAGE: usize = 1024;
 /// The bytes that were said and not yet put. Once the sink has failed nothing more is put.
 #[derive(Drop)]
 pub(crate) struct Page {
-    bytes: [u8; PAGE],
-    len: usize,
+    bytes: ByteArray<PAGE>,
     failed: bool,
 }
 
 impl Model for Page {
-    ghost use Rattle.std.specs.Prelude.{◌≤◌, take};
-    ghost use Rattle.script_text.specs.Pages.{Gathered};
-
     ghost Value = { Gathered };
 
-    ghost view = { λ p. record { bytes = take p.len p.bytes; failed = p.failed } };
-
-    ghost invariant = { λ p. p.len ≤ 1024 };
+    ghost view = { λ p. record { bytes = p.bytes; failed = p.failed } };
 }
 
 impl Page {
@@ -32,8 +27,7 @@ impl Page {
         ensures { result ≡ record { bytes = []; failed = false } }
     {
         Page {
-            bytes: [0; PAGE],
-            len: 0,
+            bytes: ByteArray::new(),
             failed: false,
         }
     }
@@ -43,12 +37,10 @@ impl Page {
         ensures bytes { self.new.bytes ≡ (if result then self.old.bytes ++ bytes.now else self.old.bytes) }
         ensures failed { self.new.failed ≡ self.old.failed }
     {
-        if PAGE - self.len < bytes.len() {
+        if self.bytes.room() < bytes.len() {
             return false;
         }
-        let end = self.len + bytes.len();
-        self.bytes[self.len..end].copy_from_slice(bytes);
-        self.len = end;
+        self.bytes.extend(bytes);
         true
     }
 
@@ -57,11 +49,10 @@ impl Page {
         ensures bytes { self.new.bytes ≡ (if result then self.old.bytes ++ byte ∷ [] else self.old.bytes) }
         ensures failed { self.new.failed ≡ self.old.failed }
     {
-        if self.len == PAGE {
+        if self.bytes.room() == 0 {
             return false;
         }
-        self.bytes[self.len] = byte;
-        self.len += 1;
+        self.bytes.push(byte);
         true
     }
 
@@ -70,12 +61,10 @@ impl Page {
         ensures sends { Sends [] (desk (K.written sink.old) (K.faults sink.old) self.old) (desk (K.written sink.new) (K.faults sink.new) self.new) }
         ensures empty { self.new.bytes ≡ [] }
     {
-        let held = self.len;
-        self.len = 0;
-        if self.failed {
-            return;
+        if !self.failed {
+            self.failed = sink.put(self.bytes.as_slice()).is_err();
         }
-        self.failed = sink.put(&self.bytes[..held]).is_err();
+        self.bytes.clear();
     }
 
     /// Puts bytes past the empty page.

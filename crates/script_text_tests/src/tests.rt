@@ -45,23 +45,34 @@ fn source(alloc: Global, text: (&str, &str, u32, &str), fails: u64) -> Result<Me
 #[test]
 fn reads_what_the_grammar_takes(rt: HostRuntime) -> Result<(), NoMemory> {
     let alloc = rt.alloc();
-    let table = [
-        ("", "ok", 0),
-        ("txn 1\nput a 1\nget a\ncommit\n", "ok", 0),
-        ("txn 1\nput a 1\nget a\ncommit", "ok", 0),
-        ("txn 1\r\nput a 1\r\nget a\r\ncommit\r\n", "ok", 0),
-        ("  txn   1  \n\n # é\ncommit\n", "ok", 0),
-        ("txn 1\ncommit é\n", "bad", 2),
-        ("txn 17\n", "bad", 1),
-        ("txn 01\n", "bad", 1),
-        ("txn 1\ntxn 1\n", "bad", 2),
-        ("commit\n", "bad", 1),
-        ("txn 1\nput a 1\n", "bad", 3),
-        ("txn 1\nput a 1", "bad", 3),
-    ];
-    for (text, word, line) in table {
+    for text in [
+        "",
+        "txn 1\nput a 1\nget a\ncommit\n",
+        "txn 1\nput a 1\nget a\ncommit",
+        "txn 1\r\nput a 1\r\nget a\r\ncommit\r\n",
+        "  txn   1  \n\n # é\ncommit\n",
+    ] {
         let mut source = source_of(alloc, text)?;
-        assert_eq!(rt; read(alloc, &mut source), (word, line));
+        assert_eq!(rt; read(alloc, &mut source), ("ok", 0));
+    }
+    Ok(())
+}
+
+#[test]
+fn names_the_first_line_that_is_bad(rt: HostRuntime) -> Result<(), NoMemory> {
+    let alloc = rt.alloc();
+    let table = [
+        ("txn 1\ncommit é\n", 2),
+        ("txn 17\n", 1),
+        ("txn 01\n", 1),
+        ("txn 1\ntxn 1\n", 2),
+        ("commit\n", 1),
+        ("txn 1\nput a 1\n", 3),
+        ("txn 1\nput a 1", 3),
+    ];
+    for (text, line) in table {
+        let mut source = source_of(alloc, text)?;
+        assert_eq!(rt; read(alloc, &mut source), ("bad", line));
     }
     Ok(())
 }
@@ -296,9 +307,27 @@ fn a_failed_sink_has_a_first_part(rt: HostRuntime) -> Result<(), NoMemory> {
     Ok(())
 }
 
+/// The reason of a run that a fault ended early.
+fn ended_by(fault: RunFault) -> Reason {
+    Reason::Fault { fault }
+}
+
+/// The same, where the log is damaged.
+fn damaged(what: Damage) -> Reason {
+    ended_by(RunFault::Damaged { what })
+}
+
 #[test]
 fn each_reason_has_its_line(rt: HostRuntime) -> Result<(), NoMemory> {
     let alloc = rt.alloc();
+    let gap = Damage::Gap {
+        after: 3,
+        region: 1,
+    };
+    let overlap = Damage::Overlap {
+        region: 1,
+        other: 0,
+    };
     let node = NodeId {
         bucket: 97,
         number: 1,
@@ -310,56 +339,15 @@ fn each_reason_has_its_line(rt: HostRuntime) -> Result<(), NoMemory> {
         ),
         (Reason::Script { line: 34 }, "script line 34\n"),
         (Reason::Source, "source\n"),
+        (ended_by(RunFault::Memory), "memory\n"),
+        (ended_by(RunFault::Disk), "disk\n"),
         (
-            Reason::Fault {
-                fault: RunFault::Memory,
-            },
-            "memory\n",
-        ),
-        (
-            Reason::Fault {
-                fault: RunFault::Disk,
-            },
-            "disk\n",
-        ),
-        (
-            Reason::Fault {
-                fault: RunFault::Damaged {
-                    what: Damage::Region { region: 0, at: 41 },
-                },
-            },
+            damaged(Damage::Region { region: 0, at: 41 }),
             "damaged region 0 at 41\n",
         ),
-        (
-            Reason::Fault {
-                fault: RunFault::Damaged {
-                    what: Damage::Gap {
-                        after: 3,
-                        region: 1,
-                    },
-                },
-            },
-            "damaged region 1 after 3\n",
-        ),
-        (
-            Reason::Fault {
-                fault: RunFault::Damaged {
-                    what: Damage::Overlap {
-                        region: 1,
-                        other: 0,
-                    },
-                },
-            },
-            "damaged region 1 over 0\n",
-        ),
-        (
-            Reason::Fault {
-                fault: RunFault::Damaged {
-                    what: Damage::Node { node },
-                },
-            },
-            "damaged node 97 1\n",
-        ),
+        (damaged(gap), "damaged region 1 after 3\n"),
+        (damaged(overlap), "damaged region 1 over 0\n"),
+        (damaged(Damage::Node { node }), "damaged node 97 1\n"),
     ];
     for (reason, text) in table {
         let mut sink = MemSink::new(alloc, 200, Vec::new(alloc))?;

@@ -1,6 +1,6 @@
 //! Logs of crafted parts on a disk in memory, and what a command printed of them.
 
-ghost use Rattle.std.specs.Prelude.{◌≡◌, ◌<◌, [], IfOk};
+ghost use Rattle.std.specs.Prelude.{◌≡◌, ◌<◌, [], IfOk, OnOk};
 ghost use Rattle.epoch_room.specs.Whole.{HasGeometry, IsIdle};
 
 use log_commands::{Finish, merge_and_print, print_ranges};
@@ -56,13 +56,14 @@ fn write(disk: &mut MemDisk, region: u32, shown: Shown) -> Result<(), Fail>
 
 fn fill(disk: &mut MemDisk, parts: &[Shown; 5]) -> Result<(), Fail>
     requires { (disk.old.disk.regions ≡ 8) × (disk.old.disk.region_len ≡ 16384) × (disk.old.disk.eyes ≡ []) }
-    ensures { (disk.new.disk.regions ≡ 8) × (disk.new.disk.region_len ≡ 16384) × (disk.new.disk.eyes ≡ []) }
+    ensures { OnOk result (IsIdle disk.new.disk) }
 {
     write(disk, 0, parts[0])?;
     write(disk, 1, parts[1])?;
     write(disk, 2, parts[2])?;
     write(disk, 3, parts[3])?;
     write(disk, 4, parts[4])?;
+    disk.sync().ok().ok_or("sync")?;
     Ok(())
 }
 
@@ -72,10 +73,7 @@ pub fn disk_of(alloc: Global, parts: &[Shown; 5], plan: FaultPlan) -> Result<Mem
 {
     let mut disk = MemDisk::new(alloc, 8, 16384, plan)?;
     fill(&mut disk, parts)?;
-    match disk.sync() {
-        Ok(()) => Ok(disk),
-        Err(_failed) => Err("sync")?,
-    }
+    Ok(disk)
 }
 
 /// A plan by which each call of the disk fails from a number on.

@@ -28,67 +28,60 @@ fn printed(
 #[test]
 fn logs_are_listed(rt: HostRuntime) -> Result<(), Fail> {
     let alloc = rt.alloc();
-    let table: [(Command, [Shown; 5], u8, &str); 10] = [
-        (Ranges, [Free; 5], 0, "end 0|"),
-        (Merge, [Free; 5], 0, "end 0|"),
-        (
-            Ranges,
-            FIVE,
-            0,
-            "range 1 1 region 0 rows 1|range 2 2 region 1 rows 1|range 3 3 region 2 rows 1|range 4 4 region 3 rows 1|range 5 5 region 4 rows 1|end 5|",
-        ),
+    let gap = (7, "damaged region 1 after 1|");
+    // What stands in the first regions, and the status and the text of a listing and of a merge.
+    let table: [([Shown; 5], (u8, &str), (u8, &str)); 6] = [
+        ([Free; 5], (0, "end 0|"), (0, "end 0|")),
         // two by two, each time over the lowest region that is free: 5, 0, 1 and 0
-        (Merge, FIVE, 0, "range 1 5 region 0 rows 1|end 5|"),
         (
-            Ranges,
-            [Epoch(1), Epoch(3), Free, Free, Free],
-            7,
-            "damaged region 1 after 1|",
+            FIVE,
+            (
+                0,
+                "range 1 1 region 0 rows 1|range 2 2 region 1 rows 1|range 3 3 region 2 rows 1|range 4 4 region 3 rows 1|range 5 5 region 4 rows 1|end 5|",
+            ),
+            (0, "range 1 5 region 0 rows 1|end 5|"),
         ),
-        (
-            Merge,
-            [Epoch(1), Epoch(3), Free, Free, Free],
-            7,
-            "damaged region 1 after 1|",
-        ),
+        ([Epoch(1), Epoch(3), Free, Free, Free], gap, gap),
         // headers alone are read to list a chain
         (
-            Ranges,
             [Epoch(2), BadRow(1), Free, Free, Free],
-            0,
-            "range 1 1 region 1 rows 1|range 2 2 region 0 rows 1|end 2|",
-        ),
-        (
-            Merge,
-            [Epoch(2), BadRow(1), Free, Free, Free],
-            7,
-            "damaged region 1 at 41|",
+            (
+                0,
+                "range 1 1 region 1 rows 1|range 2 2 region 0 rows 1|end 2|",
+            ),
+            (7, "damaged region 1 at 41|"),
         ),
         // what is made of a part that is not in the grammar is read again, and is good
         (
-            Merge,
             [Miscounted(1), Epoch(2), Epoch(3), Free, Free],
-            0,
-            "range 1 3 region 0 rows 1|end 3|",
+            (
+                0,
+                "range 1 1 region 0 rows 2|range 2 2 region 1 rows 1|range 3 3 region 2 rows 1|end 3|",
+            ),
+            (0, "range 1 3 region 0 rows 1|end 3|"),
         ),
         // behind such a merge a place of a part at entry is named
         (
-            Merge,
             [Miscounted(1), Epoch(2), BadRow(3), Free, Free],
-            7,
-            "damaged region 2 at 41|",
+            (
+                0,
+                "range 1 1 region 0 rows 2|range 2 2 region 1 rows 1|range 3 3 region 2 rows 1|end 3|",
+            ),
+            (7, "damaged region 2 at 41|"),
         ),
     ];
-    for (command, parts, status, text) in &table {
-        let found = printed(
-            alloc,
-            *command,
-            parts,
-            FaultPlan::none(alloc),
-            Vec::new(alloc),
-        )?;
-        assert_eq!(rt; found.0, *status);
-        assert_eq!(rt; found.1.as_slice(), text.as_bytes());
+    for (parts, listed, merged) in &table {
+        for (command, expected) in [(Ranges, listed), (Merge, merged)] {
+            let (status, text) = printed(
+                alloc,
+                command,
+                parts,
+                FaultPlan::none(alloc),
+                Vec::new(alloc),
+            )?;
+            assert_eq!(rt; status, expected.0);
+            assert_eq!(rt; text.as_slice(), expected.1.as_bytes());
+        }
     }
     Ok(())
 }

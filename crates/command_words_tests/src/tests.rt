@@ -82,7 +82,6 @@ fn each_command_takes_its_words(rt: HostRuntime) -> Result<(), NoMemory> {
 
 #[test]
 fn other_words_are_no_command(rt: HostRuntime) -> Result<(), NoMemory> {
-    let alloc = rt.alloc();
     for text in [
         "",
         "fly",
@@ -144,7 +143,7 @@ fn other_words_are_no_command(rt: HostRuntime) -> Result<(), NoMemory> {
         "dump ",
         " run",
     ] {
-        assert_eq!(rt; read(alloc, text)?, None);
+        assert_eq!(rt; read(rt.alloc(), text)?, None);
     }
     Ok(())
 }

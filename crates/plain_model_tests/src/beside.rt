@@ -115,12 +115,18 @@ fn without_epochs(alloc: Global, text: &[u8]) -> Result<Vec<u8>, Fail> {
     Ok(kept)
 }
 
+/// A script of a seed, and what the plain program prints of it.
+fn seeded(alloc: Global, seed: u32) -> Result<(String, Vec<u8>), Fail> {
+    let script = script(alloc, seed)?;
+    let plain = run_plain(alloc, script.as_bytes())?;
+    Ok((script, plain))
+}
+
 #[test]
 fn one_epoch_is_printed_as_the_plain_program_prints_it(rt: HostRuntime) -> Result<(), Fail> {
     let alloc = rt.alloc();
     for seed in 0..12u32 {
-        let script = script(alloc, seed)?;
-        let plain = run_plain(alloc, script.as_bytes())?;
+        let (script, plain) = seeded(alloc, seed)?;
         let told = printed(&rt, alloc, &["run", "--group", "100000"], script.as_str())?;
         assert_eq!(rt; told.as_slice(), plain.as_slice(), "{seed}");
     }
@@ -131,8 +137,7 @@ fn one_epoch_is_printed_as_the_plain_program_prints_it(rt: HostRuntime) -> Resul
 fn replies_do_not_depend_on_epochs(rt: HostRuntime) -> Result<(), Fail> {
     let alloc = rt.alloc();
     for seed in 12..15u32 {
-        let script = script(alloc, seed)?;
-        let plain = run_plain(alloc, script.as_bytes())?;
+        let (script, plain) = seeded(alloc, seed)?;
         let plain = without_epochs(alloc, plain.as_slice())?;
         for group in ["1", "9"] {
             let told = printed(

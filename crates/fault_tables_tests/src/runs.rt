@@ -3,7 +3,7 @@
 ghost use Rattle.std.specs.Prelude.{◌≡◌, ◌≤◌, [], IfOk};
 ghost use Rattle.command_words.specs.Words.{IsGeometry};
 
-use fine_model::NoGate;
+use fine_model::{NoGate, NoMemory};
 use fine_top::{Finish, fineline};
 use log_disk::{FaultPlan, MemDisk};
 use script_text::{MemSink, MemSource};
@@ -115,6 +115,14 @@ pub fn crash(disk: MemDisk, picks: &[u8]) -> Result<MemDisk, Fail>
     Ok(disk.crashed(picks)?)
 }
 
+fn words_of(alloc: Global, texts: &[&str]) -> Result<Vec<String>, NoMemory> {
+    let mut words = Vec::new(alloc);
+    for text in texts {
+        words.push(String::from_str(alloc, text)?)?;
+    }
+    Ok(words)
+}
+
 /// Runs the program, where the call of this number of the source fails, and that of the sink; 0 is none.
 pub fn run<R: Threads + Wait + Sync>(
     rt: &R,
@@ -124,15 +132,10 @@ pub fn run<R: Threads + Wait + Sync>(
     fails: (u64, u64),
     disk: MemDisk,
 ) -> Result<Printed, Fail>
-    requires geometry { IsGeometry (disk.disk.regions, disk.disk.region_len) }
-    requires synced { disk.disk.unsynced ≡ [] }
-    requires no_eyes { disk.disk.eyes ≡ [] }
+    requires { IsGeometry (disk.disk.regions, disk.disk.region_len) × (disk.disk.unsynced ≡ []) × (disk.disk.eyes ≡ []) }
     ensures { IfOk result (λ printed. IsGeometry (printed.finish.disk.disk.regions, printed.finish.disk.disk.region_len) × (printed.finish.disk.disk.eyes ≡ [])) }
 {
-    let mut words = Vec::new(alloc);
-    for text in texts {
-        words.push(String::from_str(alloc, text)?)?;
-    }
+    let words = words_of(alloc, texts)?;
     let bytes = Vec::from_slice(alloc, script)?;
     let mut source = MemSource::new(bytes, Vec::from_slice(alloc, &[fails.0])?);
     let mut sink = MemSink::new(alloc, ROOM, Vec::from_slice(alloc, &[fails.1])?)?;
@@ -148,9 +151,7 @@ pub fn obey<R: Threads + Wait + Sync>(
     command: &str,
     disk: MemDisk,
 ) -> Result<(Vec<u8>, MemDisk), Fail>
-    requires geometry { IsGeometry (disk.disk.regions, disk.disk.region_len) }
-    requires synced { disk.disk.unsynced ≡ [] }
-    requires no_eyes { disk.disk.eyes ≡ [] }
+    requires { IsGeometry (disk.disk.regions, disk.disk.region_len) × (disk.disk.unsynced ≡ []) × (disk.disk.eyes ≡ []) }
     ensures { IfOk result (λ r. IsGeometry (r.1.disk.regions, r.1.disk.region_len) × (r.1.disk.unsynced ≡ []) × (r.1.disk.eyes ≡ [])) }
 {
     let printed = run(rt, alloc, &[command], b"", (0, 0), disk)?;

@@ -43,8 +43,9 @@ impl<D: LogDisk> Runner<D> {
         requires txn { FitsTxn txn.now }
         ensures { IsHeld self.new.room.room self.new.view × ((group : ℕ) → 1 ≤ group → Tries group (body self.old buckets.old) (body self.new buckets.new) txn.now turn result) }
     {
-        let mut draft = Draft::for_calls(alloc, txn.lane, turn, txn.calls.as_slice());
-        match self.answer(buckets, &mut draft, txn.calls.as_slice(), keep) {
+        let calls = txn.calls.as_slice();
+        let mut draft = Draft::for_calls(alloc, txn.lane, turn, calls);
+        match self.answer(buckets, &mut draft, calls, keep) {
             Ok(refusal) => match refusal {
                 None => match txn.ending {
                     Ending::Commit => self.commit(alloc, buckets, gate, draft, keep),

@@ -1,5 +1,5 @@
 -- All keys of a fit leaf are of the bucket, and a change of its pairs by no key but one of the bucket keeps that.
-use Rattle.std.proofs.Common.{◌≡◌, ℕ, ℤ, ◌+ℤ◌, zero, suc, ◌+◌, ◌==◌, nat_le, Bool, true, false, ◌&&◌, if◌then◌else◌, cond, List, [], ◌∷◌, ◌++◌, length, Option, None, Some, option_map, unwrap_or, IfSome, eq-eqb, eqb-true, refl, sym, ap, subst, ◌∙◌}
+use Rattle.std.proofs.Common.{◌≡◌, ℕ, ℤ, ◌+ℤ◌, zero, suc, ◌+◌, ◌==◌, nat_le, Bool, true, false, ◌&&◌, if◌then◌else◌, cond, List, [], ◌∷◌, ◌++◌, length, Option, None, Some, option_map, unwrap_or, IfSome, eq-eqb, refl, sym, ap, subst, ◌∙◌}
 use Rattle.std.specs.Bool.{OnTrue}
 use Rattle.std.specs.List.{list_all}
 use Rattle.fine_model.specs.declared.Node.{Node}
@@ -155,14 +155,6 @@ pub own_again : (known : Bool) (old new : Cache) (row : Row) → row.node.bucket
     → OnTrue known (IfSome (cached old row.node.number) (λ kept. HasOwnKeys old.bucket kept.node)) → OnTrue known (HasOwnKeys new.bucket (given new row.node.number).0)
 own_again true old new row of pushes is own = own_pushed old new row of pushes is (own_given old row.node.number own)
 own_again false old new row of pushes is own = tt
-
--- a key that was tested
-pub own_tested : (bucket : ℕ) (key : List ℕ) → OnTrue (bucket_of key == bucket) (bucket ≡ bucket_of key)
-own_tested bucket key = by (bucket_of key == bucket) refl
-  where
-    by : (b : Bool) → (bucket_of key == bucket) ≡ b → OnTrue b (bucket ≡ bucket_of key)
-    by true same = sym (eqb-true (bucket_of key) bucket same)
-    by false other = tt
 
 -- where it is known too that the change brings no other key
 pub own_still : (known : Bool) (old new : Cache) (row : Row) → row.node.bucket ≡ old.bucket → Pushes old new (row ∷ []) → OnTrue known (IsOwnChange old.bucket row.rec)

@@ -12,7 +12,7 @@ use Rattle.fine_top.specs.Running.{IsRefused, OfTold}
 pub own_of : (command expected : Option Command) (s : Seen) → Does command s → command ≡ expected → Own expected s
 own_of command expected s d is = subst (λ c. Own c s) is d.own
 
-not_refused : (n : ℕ) (answer : Result (List ScriptTxn) Refusal) (script : List ScriptTxn) → answer ≡ Ok script → IsRefusedAt n answer → ⊥
+pub not_refused : (n : ℕ) (answer : Result (List ScriptTxn) Refusal) (script : List ScriptTxn) → answer ≡ Ok script → IsRefusedAt n answer → ⊥
 not_refused n answer script ok (inl many) = absurd cc
 not_refused n answer script ok (inr (inl long)) = absurd cc
 not_refused n answer script ok (inr (inr bad)) = absurd cc

@@ -10,3 +10,4 @@ pub mod GeneratedAny
 pub mod Unread
 pub mod Complete
 pub mod AnyLog
+pub mod Doing

@@ -6,8 +6,7 @@ use Rattle.fine_model.specs.declared.RunFault.{RunFault}
 use Rattle.fine_model.specs.declared.RunFault.TheVariants as run_fault
 use Rattle.fine_model.specs.Headline.{OneOf}
 use Rattle.fine_model.specs.Map.{Pair}
-use Rattle.fine_model.specs.declared.Options.{Options}
-use Rattle.fine_model.specs.Words.{Command, dump, merge, ranges, run}
+use Rattle.fine_model.specs.Words.{Command, dump, merge, ranges}
 use Rattle.command_words.specs.Words.{meant}
 use Rattle.command_words.specs.declared.command.Command.{Command as ReadCommand}
 use Rattle.log_disk.specs.Moments.{ContinuesOn}
@@ -18,7 +17,7 @@ use Rattle.log_commands.specs.Found.{FindsChain}
 use Rattle.log_commands.specs.Merged.{KeepsLog, MergesLog, ShowsNone}
 use Rattle.fine_top.specs.Commands.{Does, IsReading, Leaves, Seen, seen, statuses_of}
 use Rattle.fine_top.specs.Opened.{IsOpenedLog, IsUnsoundLog}
-use Rattle.fine_top.specs.Running.{Ends as EndsRun, IsRefused, LeavesBeside, OfTold, RunsWell, RunsAny}
+use Rattle.fine_top.specs.Running.{LeavesBeside}
 use Rattle.fine_top.proofs.Chainless.{unsound}
 
 -- ---- the chain alone
@@ -67,6 +66,10 @@ opened_by old status found known (inr is) opens (inr (inr none)) = absurd none
 
 -- ---- what is left
 
+-- a command writes nothing where one that is equal writes nothing
+pub reads_too : (command c : Command) → ◌≡◌ {A = Option Command} (Some command) (Some c) → IsReading c → IsReading command
+reads_too command c is reads = let same : command ≡ c = cc in subst IsReading (sym same) reads
+
 -- what a command leaves that neither reads a script nor runs one
 leaves_by : (command : Command) (left : Option (List ℕ)) (source output : ℕ × ℕ) (old new : Disk) (status found : ℕ) (was now : Option (List ℕ)) → OneOf (statuses_of (Some command)) status → OneOf (0 ∷ 1 ∷ 5 ∷ 6 ∷ 7 ∷ []) status → (status ≡ 5 → HasRisen output.0 output.1)
     → (status ≡ 6 → HasRisen old.faults new.faults) → (old.faults < new.faults → OneOf (1 ∷ 5 ∷ 6 ∷ []) status) → (status ≡ 7 → IsUnsoundLog old) → (status ≡ 5) ⊎ (status ≡ found) → (found ≡ 0 → IsOpenedLog old)
@@ -82,11 +85,8 @@ leaves_by command left source output old new status found was now status_is know
   untouched = λ early. absurd (grind (arith, known, early));
   beside = beside;
   time = time;
-  still = λ c is reads. still (of_command c is reads);
+  still = λ c is reads. still (reads_too command c is reads);
 }
-  where
-    of_command : (c : Command) → ◌≡◌ {A = Option Command} (Some command) (Some c) → IsReading c → IsReading command
-    of_command c is reads = let same : command ≡ c = cc in subst IsReading (sym same) reads
 
 -- ---- both
 
@@ -124,36 +124,6 @@ module _ (left : Option (List ℕ)) (source output : ℕ × ℕ) (old new : Disk
         (record { regions = beside.regions; region_len = beside.region_len; no_eyes = beside.no_eyes }) (continues_told old new still) (λ reads. still);
     own = record { ends = ends; dump = well; any = any };
   }
-
--- ---- a run
-
-module _ (options : Options) (left : Option (List ℕ)) (source output : ℕ × ℕ) (old new : Disk) (status : ℕ) (was now : Option (List ℕ)) (known : OneOf (0 ∷ 1 ∷ 3 ∷ 4 ∷ 5 ∷ 6 ∷ 7 ∷ 8 ∷ []) status) where
-  pub run_does : EndsRun options (HasRisen source.0 source.1) left old new status was now → RunsWell options left source output old new status was now → RunsAny left source output old new status was now → (status ≡ 3 → OfTold left IsRefused) → OfTold left (λ bytes. IsRefused bytes → OneOf (1 ∷ 3 ∷ 4 ∷ 5 ∷ []) status)
-      → (status ≡ 7 → IsUnsoundLog old) → (OneOf (0 ∷ 8 ∷ []) status → IsOpenedLog old) → (status ≡ 4 → HasRisen source.0 source.1) → (status ≡ 5 → HasRisen output.0 output.1) → (status ≡ 6 → HasRisen old.faults new.faults)
-      → (old.faults < new.faults → OneOf (1 ∷ 5 ∷ 6 ∷ []) status) → (OneOf (3 ∷ 4 ∷ []) status → new ≡ old) → LeavesBeside old new → ContinuesOn old new → Does (Some (run options)) (seen left source output old new status was now)
-  run_does ends well any script refused unsound opened source_failed output_failed failed told untouched beside time = record {
-    leaves = record {
-      status_is = known;
-      source_failed = source_failed;
-      output_failed = output_failed;
-      disk_failed = failed;
-      disk_told = told;
-      damaged = unsound;
-      opened = opened;
-      untouched = λ early. by early;
-      beside = beside;
-      time = time;
-      still = λ c is reads. absurd (not_reading c is reads);
-    };
-    own = record { ends = ends; run = well; any = any; script = script; refused = refused };
-  }
-    where
-      by : OneOf (2 ∷ 3 ∷ 4 ∷ []) status → new ≡ old
-      by (inl two) = absurd (grind (arith, known, two))
-      by (inr rest) = untouched rest
-
-      not_reading : (c : Command) → ◌≡◌ {A = Option Command} (Some (run options)) (Some c) → IsReading c → ⊥
-      not_reading c is reads = let same : run options ≡ c = cc in subst IsReading (sym same) reads
 
 -- ---- the command that was read
 

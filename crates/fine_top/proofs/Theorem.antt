@@ -55,7 +55,7 @@ status_all script outcomes (Some run_fault.Disk) status is = is
 status_all script outcomes (Some (run_fault.Damaged what)) status is = is
 
 -- the statuses of a run
-run_statuses : (outcomes : List Outcome) (f : Option RunFault) → OneOf (0 ∷ 1 ∷ 6 ∷ 7 ∷ 8 ∷ []) (run_status outcomes f)
+pub run_statuses : (outcomes : List Outcome) (f : Option RunFault) → OneOf (0 ∷ 1 ∷ 6 ∷ 7 ∷ 8 ∷ []) (run_status outcomes f)
 run_statuses outcomes None = by (list_any is_refused outcomes)
   where
     by : (b : Bool) → OneOf (0 ∷ 1 ∷ 6 ∷ 7 ∷ 8 ∷ []) (cond {A = ℕ} b 8 0)

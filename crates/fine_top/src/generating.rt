@@ -1,31 +1,25 @@
 //! The command `gen`: a generated script is run, and counted.
 
-ghost use Rattle.std.specs.Prelude.{◌≡◌, ◌<◌, ◌≤◌, ◌⊎◌, [], ◌∷◌, IfErr, IfOk, Err, None, length, true};
+ghost use Rattle.std.specs.Prelude.{◌≡◌, ℕ, IfErr, IfOk, List, Option, Err, None, Some, length, true};
 ghost use Rattle.std.specs.List.{list_all};
-ghost use Rattle.epoch_room.specs.Whole.{IsIdle};
+ghost use Rattle.command_words.specs.declared.command.Command.TheVariants as command;
 ghost use Rattle.fine_model.specs.Boards.{is_empty};
-ghost use Rattle.fine_model.specs.Bounds.{FitsScript};
-ghost use Rattle.fine_model.specs.Headline.{OneOf};
-ghost use Rattle.fine_model.specs.RowBytes.{longest_header, longest_region};
+ghost use Rattle.fine_model.specs.Words.{gen};
 ghost use Rattle.log_commands.specs.Found.{FindsChain};
-ghost use Rattle.log_disk.specs.Disk.{HasRisen, IsSound as IsSoundDisk};
-ghost use Rattle.log_disk.specs.Moments.{ContinuesOn};
-ghost use Rattle.reopen.specs.Opening.{SeesChain};
-ghost use Rattle.script_text.specs.Streams.{Puts};
-ghost use Rattle.script_text.specs.Summaries.{summary_of};
-ghost use Rattle.fine_top.specs.Generating.{CountsRun, Ends, EndsGenerated, GensAny, GensWell, OpensGen, PrintsCounted, ReadsEnd, TellsEnd, default_options, numbers};
-ghost use Rattle.fine_top.specs.Opened.{IsOpenedLog, IsUnsoundLog};
-ghost use Rattle.fine_top.specs.Running.{LeavesBeside, run_status};
+ghost use Rattle.log_disk.specs.Disk.{HasRisen};
+ghost use Rattle.fine_top.specs.Commands.{Does, seen};
+ghost use Rattle.fine_top.specs.Generating.{CountsRun, EndsGenerated, OpensGen, PrintsCounted, ReadsEnd, default_options, numbers};
+ghost use Rattle.fine_top.specs.Starting.{IsReadyToRun, MayBegin};
 
 use crate::opening::Opened;
-use crate::printing::{print_no_memory, print_reason, run_status};
+use crate::printing::{print_no_memory, print_reason, print_run};
 use crate::running::run_chain;
 use epoch_room::{Fit, Room};
 use fine_model::{Gate, Options, Outcome, Pairs, Ran, Reason, RunFault, Script};
-use log_commands::{Finish, OUTPUT_FAILED, find_chain};
+use log_commands::{Finish, find_chain};
 use log_disk::LogDisk;
 use map_reader::read_map;
-use script_text::{GeneratedRun, Sink, generate, write_summary};
+use script_text::{GeneratedRun, Sink, generate};
 use std::alloc::Global;
 
 /// The options of a run where none is given.
@@ -47,9 +41,7 @@ fn open_generated<D: LogDisk>(
     lanes: u8,
     disk: &mut D,
 ) -> Result<Opened, RunFault>
-    requires count { count ≤ 100000 }
-    requires lanes { (1 ≤ lanes) × (lanes ≤ 16) }
-    requires region_len { (longest_header ≤ (D.state disk.old).region_len) × ((D.state disk.old).region_len ≤ longest_region) }
+    requires begins { MayBegin (command.Gen start count lanes) (D.state disk.old) }
     ensures ok { IfOk result (λ opened. OpensGen (numbers start count lanes) (D.state disk.old) opened × (D.state disk.new ≡ D.state disk.old)) }
     ensures err { IfErr result (λ fault. FindsChain (D.state disk.old) (D.state disk.new) (Err fault)) }
 {
@@ -96,18 +88,6 @@ fn read_end<D: LogDisk>(
     match fault {
         None => read_room(alloc, room),
         Some(fault) => Err(fault),
-    }
-}
-
-/// Prints a summary, and tells the status.
-fn print_run<K: Sink>(out: &mut K, run: &GeneratedRun) -> u8
-    ensures status { (result ≡ 5) ⊎ (result ≡ run_status run.now.outcomes.now run.now.fault) }
-    ensures puts { Puts (summary_of run.now) (result ≡ 5) (K.written out.old) (K.written out.new) }
-    ensures failed { result ≡ 5 → HasRisen (K.faults out.old) (K.faults out.new) }
-{
-    match write_summary(out, run) {
-        Ok(()) => run_status(run.outcomes, run.fault),
-        Err(_) => OUTPUT_FAILED,
     }
 }
 
@@ -196,9 +176,7 @@ fn run_generated<K: Sink, D: LogDisk, G: Gate>(
     disk: D,
     gate: &G,
 ) -> Finish<D>
-    requires idle { IsIdle (D.state disk) }
-    requires sees { SeesChain (D.state disk) opened.chain }
-    requires fits { FitsScript opened.script }
+    requires ready { IsReadyToRun opened.script (D.state disk) opened.chain }
     ensures counts { EndsGenerated (numbers start (length opened.script) lanes) opened (D.state disk) (D.state result.disk) result.status (K.written out.old) (K.written out.new) }
     ensures failed { result.status ≡ 5 → HasRisen (K.faults out.old) (K.faults out.new) }
 {
@@ -207,36 +185,6 @@ fn run_generated<K: Sink, D: LogDisk, G: Gate>(
         Ok((ran, room)) => count_run(alloc, start, lanes, &script, ran, room, out),
         Err(disk) => Finish {
             status: print_no_memory(out),
-            disk,
-        },
-    }
-}
-
-/// Generates a script, opens the log, runs and prints; all that `generate_and_print` says of it, in one clause.
-fn gen_found<K: Sink, D: LogDisk, G: Gate>(
-    alloc: Global,
-    start: u64,
-    count: u32,
-    lanes: u8,
-    out: &mut K,
-    disk: D,
-    gate: &G,
-) -> Finish<D>
-    requires idle { IsIdle (D.state disk) }
-    requires count { count ≤ 100000 }
-    requires lanes { (1 ≤ lanes) × (lanes ≤ 16) }
-    ensures ends { Ends (numbers start count lanes) (D.state disk) (D.state result.disk) result.status (K.written out.old) (K.written out.new) }
-    ensures tells { TellsEnd (D.state disk) (D.state result.disk) result.status }
-    ensures sound { IsSoundDisk (D.state disk) }
-    ensures failed { result.status ≡ 5 → HasRisen (K.faults out.old) (K.faults out.new) }
-{
-    let mut disk = disk;
-    // A disk that tells its geometry is a sound one.
-    let _regions = disk.regions();
-    match open_generated(alloc, start, count, lanes, &mut disk) {
-        Ok(opened) => run_generated(alloc, opened, start, lanes, out, disk, gate),
-        Err(fault) => Finish {
-            status: print_reason(out, Reason::Fault { fault }),
             disk,
         },
     }
@@ -256,26 +204,17 @@ pub(crate) fn generate_and_print<K: Sink, D: LogDisk, G: Gate>(
     disk: D,
     gate: &G,
 ) -> Finish<D>
-    requires idle { IsIdle (D.state disk) }
-    requires count { count ≤ 100000 }
-    requires lanes { (1 ≤ lanes) × (lanes ≤ 16) }
-
-    // What is printed, and why; and the theorem of a generated run, on a sound log, and on any.
-    ensures ends { Ends (numbers start count lanes) (D.state disk) (D.state result.disk) result.status (K.written out.old) (K.written out.new) }
-    ensures well { GensWell (numbers start count lanes) (K.faults out.old, K.faults out.new) (D.state disk) (D.state result.disk) result.status (K.written out.old) (K.written out.new) }
-    ensures any { GensAny (numbers start count lanes) (K.faults out.old, K.faults out.new) (D.state disk) (D.state result.disk) result.status (K.written out.old) (K.written out.new) }
-
-    // Why each status comes.
-    ensures damaged { result.status ≡ 7 → IsUnsoundLog (D.state disk) }
-    ensures opened { OneOf (0 ∷ 8 ∷ []) result.status → IsOpenedLog (D.state disk) }
-    ensures output_failed { result.status ≡ 5 → HasRisen (K.faults out.old) (K.faults out.new) }
-    ensures disk_failed { result.status ≡ 6 → HasRisen (D.state disk).faults (D.state result.disk).faults }
-    ensures disk_told { (D.state disk).faults < (D.state result.disk).faults → OneOf (1 ∷ 5 ∷ 6 ∷ []) result.status }
-    ensures known { OneOf (0 ∷ 1 ∷ 5 ∷ 6 ∷ 7 ∷ 8 ∷ []) result.status }
-
-    // What stands on the disk.
-    ensures beside { LeavesBeside (D.state disk) (D.state result.disk) }
-    ensures told { ContinuesOn (D.state disk) (D.state result.disk) }
+    requires begins { MayBegin (command.Gen start count lanes) (D.state disk) }
+    ensures { (left : Option (List ℕ)) (source : ℕ × ℕ) → Does (Some (gen start count lanes)) (seen left source (K.faults out.old, K.faults out.new) (D.state disk) (D.state result.disk) result.status (K.written out.old) (K.written out.new)) }
 {
-    gen_found(alloc, start, count, lanes, out, disk, gate)
+    let mut disk = disk;
+    // A disk that tells its geometry is a sound one.
+    let _regions = disk.regions();
+    match open_generated(alloc, start, count, lanes, &mut disk) {
+        Ok(opened) => run_generated(alloc, opened, start, lanes, out, disk, gate),
+        Err(fault) => Finish {
+            status: print_reason(out, Reason::Fault { fault }),
+            disk,
+        },
+    }
 }

@@ -8,11 +8,12 @@ ghost use Rattle.fine_model.specs.declared.RunFault.TheVariants as run_fault;
 ghost use Rattle.fine_model.specs.Outcomes.{is_refused};
 ghost use Rattle.fine_model.specs.Report.{reason_bytes, report};
 ghost use Rattle.script_text.specs.Streams.{Puts};
+ghost use Rattle.script_text.specs.Summaries.{summary_of};
 ghost use Rattle.fine_top.specs.Running.{reason_status, run_status};
 
 use fine_model::{Outcome, Ran, Reason, RunFault, Script};
 use log_commands::{OUTPUT_FAILED, fault_status};
-use script_text::{Sink, write_reason, write_report};
+use script_text::{GeneratedRun, Sink, write_reason, write_report, write_summary};
 
 /// The status where a transaction was refused.
 const REFUSED: u8 = 8;
@@ -31,7 +32,7 @@ fn has_refused(outcomes: &[Outcome]) -> bool
 }
 
 /// The status of outcomes and a fault: that of the fault, or whether a transaction was refused.
-pub(crate) fn run_status(outcomes: &[Outcome], fault: Option<RunFault>) -> u8
+fn run_status(outcomes: &[Outcome], fault: Option<RunFault>) -> u8
     ensures { result ≡ run_status outcomes.now fault }
 {
     match fault {
@@ -86,6 +87,18 @@ pub(crate) fn print_report<K: Sink>(out: &mut K, script: &Script, ran: &Ran) -> 
 {
     match write_report(out, script, ran) {
         Ok(()) => run_status(ran.outcomes.as_slice(), ran.fault),
+        Err(_) => OUTPUT_FAILED,
+    }
+}
+
+/// Prints the summary of a generated run, and tells the status.
+pub(crate) fn print_run<K: Sink>(out: &mut K, run: &GeneratedRun) -> u8
+    ensures status { (result ≡ 5) ⊎ (result ≡ run_status run.now.outcomes.now run.now.fault) }
+    ensures puts { Puts (summary_of run.now) (result ≡ 5) (K.written out.old) (K.written out.new) }
+    ensures failed { result ≡ 5 → HasRisen (K.faults out.old) (K.faults out.new) }
+{
+    match write_summary(out, run) {
+        Ok(()) => run_status(run.outcomes, run.fault),
         Err(_) => OUTPUT_FAILED,
     }
 }

@@ -1,7 +1,7 @@
 //! The top call.
 
 ghost use Rattle.std.specs.Prelude.{◌≡◌, ◌<◌, ◌≤◌, [], ◌∷◌, ℕ, Some, None};
-ghost use Rattle.command_words.specs.Words.{IsGeometry, IsWithin, command_in, meant};
+ghost use Rattle.command_words.specs.Words.{IsGeometry, command_in, meant};
 ghost use Rattle.epoch_room.specs.Whole.{IsIdle};
 ghost use Rattle.fine_model.specs.declared.Options.{Options};
 ghost use Rattle.fine_model.specs.Headline.{OneOf};
@@ -16,6 +16,7 @@ ghost use Rattle.fine_top.specs.Commands.{Does, HasScript, IsReading, NoneRose, 
 ghost use Rattle.fine_top.specs.Generating.{Ends as EndsGen, GensAny, GensWell, numbers};
 ghost use Rattle.fine_top.specs.Opened.{IsOpenedLog, IsUnsoundLog};
 ghost use Rattle.fine_top.specs.Running.{Ends, IsRefused, LeavesBeside, OfTold, RunsAny, RunsWell};
+ghost use Rattle.fine_top.specs.Starting.{MayBegin};
 
 use crate::generating::generate_and_print;
 use crate::printing::{print_no_memory, print_reason};
@@ -39,8 +40,7 @@ fn do_command<S: Source, K: Sink, D: LogDisk, G: Gate>(
     disk: D,
     gate: &G,
 ) -> Finish<D>
-    requires idle { IsIdle (D.state disk) }
-    requires within { IsWithin command }
+    requires begins { MayBegin command (D.state disk) }
     ensures { Does (Some (meant command)) (seen (S.left script.old) (S.faults script.old, S.faults script.new) (K.faults out.old, K.faults out.new) (D.state disk) (D.state result.disk) result.status (K.written out.old) (K.written out.new)) }
 {
     match command {

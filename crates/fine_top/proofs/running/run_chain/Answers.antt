@@ -4,7 +4,7 @@ use Rattle.fine_top.proofs.Between.{ready_of, runs_from}
 use Rattle.fine_top.proofs.running.run_chain.Goals as goal
 
 pub make-requires-clause-parts : goal.make-requires-clause-parts
-make-requires-clause-parts g c κs within = room_parts (g.D.LogDisk.state c.args.disk) c.args.chain c.requires.idle.geometry c.requires.sees
+make-requires-clause-parts g c κs within = room_parts (g.D.LogDisk.state c.args.disk) c.args.chain c.requires.ready.idle.geometry c.requires.ready.sees
 
 pub run_lanes-ran-requires-clause-ready : goal.run_lanes-ran-requires-clause-ready
 run_lanes-ran-requires-clause-ready g c κs within =

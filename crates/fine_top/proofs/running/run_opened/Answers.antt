@@ -13,7 +13,7 @@ returns-in-Ok-clause-ends g c =
     let script = c.args.opened.script in
     record {
       ended = ran script c.in-Ok.ran;
-      is_end = (refl, subst (λ x. IsRunOf c.args.options.now d x script c.in-Ok.ran) (sym c.into_disk.ensures.disk) (run_from c.args.options.now script d c.args.opened.chain c.in-Ok.ran c.in-Ok.room c.in-Ok.ensures.ok c.requires.sees));
+      is_end = (refl, subst (λ x. IsRunOf c.args.options.now d x script c.in-Ok.ran) (sym c.into_disk.ensures.disk) (run_from c.args.options.now script d c.args.opened.chain c.in-Ok.ran c.in-Ok.room c.in-Ok.ensures.ok c.requires.ready.sees));
       status_is = c.print_report.ensures.status;
       printed = c.print_report.ensures.puts;
     }

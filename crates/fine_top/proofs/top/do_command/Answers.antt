@@ -1,17 +1,23 @@
 -- What each command does.
+use Rattle.std.proofs.Common.{subst}
 use Rattle.command_words.specs.declared.command.Command.TheVariants as command
 use Rattle.fine_top.specs.Commands.{seen}
-use Rattle.fine_top.proofs.Listing.{as_meant, dump_does, merge_does, run_does}
+use Rattle.fine_top.specs.Starting.{MayBegin}
+use Rattle.fine_top.proofs.Listing.{as_meant, dump_does, merge_does}
 use Rattle.fine_top.proofs.top.do_command.Goals as goal
+
+pub run_and_print-requires-clause-begins : goal.run_and_print-requires-clause-begins
+run_and_print-requires-clause-begins g c κs within = subst (λ k. MayBegin k (g.D.LogDisk.state c.args.disk)) c.in-Run.is c.requires.begins
+
+pub generate_and_print-requires-clause-begins : goal.generate_and_print-requires-clause-begins
+generate_and_print-requires-clause-begins g c κs within = subst (λ k. MayBegin k (g.D.LogDisk.state c.args.disk)) c.in-Gen.is c.requires.begins
 
 pub returns-in-Run : goal.returns-in-Run
 returns-in-Run g c =
     as_meant c.args.command (command.Run c.in-Run.options)
     (seen (g.S.Source.left c.args.script.now) (g.S.Source.faults c.args.script.now, g.S.Source.faults c.run_and_print.new.script) (g.K.Sink.faults c.args.out.now, g.K.Sink.faults c.run_and_print.new.out)
     (g.D.LogDisk.state c.args.disk) (g.D.LogDisk.state c.run_and_print.result.disk) c.run_and_print.result.status (g.K.Sink.written c.args.out.now) (g.K.Sink.written c.run_and_print.new.out)) c.in-Run.is
-    (run_does c.in-Run.options (g.S.Source.left c.args.script.now) (g.S.Source.faults c.args.script.now, g.S.Source.faults c.run_and_print.new.script) (g.K.Sink.faults c.args.out.now, g.K.Sink.faults c.run_and_print.new.out)
-    (g.D.LogDisk.state c.args.disk) (g.D.LogDisk.state c.run_and_print.result.disk) c.run_and_print.result.status (g.K.Sink.written c.args.out.now) (g.K.Sink.written c.run_and_print.new.out)
-    c.run_and_print.ensures.known c.run_and_print.ensures.ends c.run_and_print.ensures.run c.run_and_print.ensures.run_any c.run_and_print.ensures.script c.run_and_print.ensures.refused c.run_and_print.ensures.damaged c.run_and_print.ensures.opened c.run_and_print.ensures.source_failed c.run_and_print.ensures.output_failed c.run_and_print.ensures.disk_failed c.run_and_print.ensures.disk_told c.run_and_print.ensures.untouched c.run_and_print.ensures.beside c.run_and_print.ensures.told)
+    c.run_and_print.ensures
 
 pub returns-in-Dump : goal.returns-in-Dump
 returns-in-Dump g c =
@@ -30,3 +36,10 @@ returns-in-Merge g c =
     (merge_does (g.S.Source.left c.args.script.now) (g.S.Source.faults c.args.script.now, g.S.Source.faults c.args.script.now) (g.K.Sink.faults c.args.out.now, g.K.Sink.faults c.merge_and_print.new.out)
     (g.D.LogDisk.state c.args.disk) (g.D.LogDisk.state c.merge_and_print.result.disk) c.merge_and_print.result.status (g.K.Sink.written c.args.out.now) (g.K.Sink.written c.merge_and_print.new.out)
     c.merge_and_print.ensures.output_failed c.merge_and_print.ensures.known c.merge_and_print.ensures.disk_told c.merge_and_print.ensures.ends c.merge_and_print.ensures.merge c.merge_and_print.ensures.any c.merge_and_print.ensures.disk_failed c.merge_and_print.ensures.damaged c.merge_and_print.ensures.keeps)
+
+pub returns-in-Gen : goal.returns-in-Gen
+returns-in-Gen g c =
+    as_meant c.args.command (command.Gen c.in-Gen.start c.in-Gen.count c.in-Gen.lanes)
+    (seen (g.S.Source.left c.args.script.now) (g.S.Source.faults c.args.script.now, g.S.Source.faults c.args.script.now) (g.K.Sink.faults c.args.out.now, g.K.Sink.faults c.generate_and_print.new.out)
+    (g.D.LogDisk.state c.args.disk) (g.D.LogDisk.state c.generate_and_print.result.disk) c.generate_and_print.result.status (g.K.Sink.written c.args.out.now) (g.K.Sink.written c.generate_and_print.new.out)) c.in-Gen.is
+    (c.generate_and_print.ensures (g.S.Source.left c.args.script.now) (g.S.Source.faults c.args.script.now, g.S.Source.faults c.args.script.now))

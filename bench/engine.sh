@@ -1,12 +1,13 @@
 #!/bin/sh
 # What transactions of one `put` each cost on a hall on a disk in memory: 400,000 of one pass on one thread, and as many in all of four passes on four threads,
 # each in a bucket of its own. Beside them a C program whose threads put as many pairs into a hash table under one mutex, and copy a record of 32 bytes each into a
-# buffer under it; and a bare lock that four threads take in turn, who change two cache lines each time: each commit is a turn of the room, so no more than that can
-# be had. The goal is at most 6 microseconds a transaction on one thread, and at least 2.5 times its commits a second with four threads, which wants four cores.
-# Nothing is sealed, so no sync counts.
+# buffer under it; and a bare lock whose threads change two cache lines in each turn, and spend as much time of their own between as a transaction takes on one thread.
+# Each commit is a turn of the room, so what the bare lock gains by four threads is about what can be had. The goal is at most 6 microseconds a transaction on one
+# thread, and at least 2.5 times its commits a second with four threads, which wants four cores. Nothing is sealed, so no sync counts.
 #
 # Printed are, of the hall and of the C program, on one thread and on four, the commits a second and the processor microseconds a transaction; the commits a second of
-# four threads to those of one; the turns a second of the bare lock, also to the commits of one thread; and how long the hall takes to the C program.
+# four threads to those of one; the same of the turns of the bare lock; how long the hall takes to the C program; and how long a cache line takes from one processor
+# to another.
 #
 # Where nobody else is in its way such a transaction takes 2 compare-exchanges, 2 stores and 7 loads of words that other seats use, all sequentially consistent,
 # by the steps of its calls: a bucket and the room are each taken by a compare-exchange and a load and given back by a load and a store, and it looks once
@@ -139,17 +140,18 @@ cat > "$work/turns.c" <<'EOT'
 #include <time.h>
 #include <immintrin.h>
 
-/* Threads that take a bare lock, by a load and a compare-exchange, change two cache lines and give it back by a store; each spends some fifty
-   nanoseconds of its own between. A commit is such a turn of the room, which changes the room's numbers and the end of the log at least. */
-enum { LINES = 2, THREADS = 4, OWN = 100 };
+/* Threads that take a bare lock, by a load and a compare-exchange, change two cache lines and give it back by a store; between they count for themselves. A
+   commit is such a turn of the room, which changes the room's numbers and the end of the log at least. Words: threads, turns of each, counts between two turns. With
+   0 threads, how many nanoseconds a line takes from one processor to another: two threads write one word in turn. */
+enum { LINES = 2, MOST = 4, PASSES = 1000000 };
 static struct { _Alignas(128) atomic_long word; } lock;
 static struct { _Alignas(128) volatile long value; } lines[LINES];
-static long times;
+static long times, own;
 
 static void *work(void *arg) {
     (void)arg;
     for (long i = 0; i < times; i++) {
-        for (volatile long spent = 0; spent < OWN; spent++);
+        for (volatile long spent = 0; spent < own; spent++);
         for (int tries = 0;;) {
             long free = 0;
             if (atomic_load(&lock.word) == 0 && atomic_compare_exchange_strong(&lock.word, &free, 1)) break;
@@ -162,6 +164,14 @@ static void *work(void *arg) {
     return NULL;
 }
 
+static void *pass(void *arg) {
+    for (long i = (size_t)arg; i < PASSES; i += 2) {
+        while (atomic_load(&lock.word) != i);
+        atomic_store(&lock.word, i + 1);
+    }
+    return NULL;
+}
+
 static long now(void) {
     struct timespec t;
     clock_gettime(CLOCK_MONOTONIC, &t);
@@ -169,13 +179,18 @@ static long now(void) {
 }
 
 int main(int argc, char **argv) {
-    pthread_t threads[THREADS];
-    times = argc > 1 ? atol(argv[1]) : 0;
+    pthread_t threads[MOST];
+    if (argc < 4) return 1;
+    long count = atol(argv[1]), running = count ? count : 2;
+    if (count > MOST) return 1;
+    times = atol(argv[2]);
+    own = atol(argv[3]);
     long start = now();
-    for (int i = 0; i < THREADS; i++)
-        if (pthread_create(&threads[i], NULL, work, NULL)) return 1;
-    for (int i = 0; i < THREADS; i++) pthread_join(threads[i], NULL);
-    printf("%ld\n", times * THREADS * 1000000000L / (now() - start));
+    for (long i = 0; i < running; i++)
+        if (pthread_create(&threads[i], NULL, count ? work : pass, (void *)i)) return 1;
+    for (long i = 0; i < running; i++) pthread_join(threads[i], NULL);
+    long spent = now() - start;
+    printf("%ld\n", count ? times * count * 1000000000L / spent : spent / PASSES);
     return 0;
 }
 EOT
@@ -207,9 +222,12 @@ gcc -O2 -pthread -o "$work/turns" "$work/turns.c"
 gcc -O2 -o "$work/used" "$work/used.c"
 proved engine_speed "epoch_room log_disk txn_engine hall_accounts"
 cd "$speed"
+# for awk: the number in the middle of those of all lines
+median='function median(numbers,    i, j, k) {
+    for (i = 2; i <= NR; i++) for (j = i; j > 1 && numbers[j] < numbers[j - 1]; j--) { k = numbers[j]; numbers[j] = numbers[j - 1]; numbers[j - 1] = k }
+    return numbers[int((NR + 1) / 2)]
+  }'
 timed() { "$work/used" "$@" | tr '\n' ' '; }
-# the median: threads that come late leave the lock to the others for a while
-turns=$(for turn in $(seq 1 9); do "$work/turns" "$count"; done | sort -n | sed -n 5p)
 for turn in $(seq 1 9); do
   # a run without transactions shows what a hall costs, which is taken off
   for threads in one four; do
@@ -218,15 +236,12 @@ for turn in $(seq 1 9); do
     timed out/engine_speed $threads 0; timed out/engine_speed $threads $each; timed "$work/peer" $threads 0; timed "$work/peer" $threads $each
   done
   echo
-done | awk -v count="$count" -v turns="$turns" '
+done > "$work/runs"
+awk -v count="$count" -v commits="$work/commits" "$median"'
   NF != 24 || $4 != count || $10 != count || $16 != count || $22 != count { failed = 1 }
   # the seconds, and the processor microseconds, of a transaction, from the field of a run without transactions on
   { for (at = 1; at <= 19; at += 6) { wall[at, NR] = ($(at + 4) - $(at + 1)) / count / 1000000000; cpu[at, NR] = ($(at + 5) - $(at + 2)) / count } }
   { more[NR] = wall[1, NR] / wall[13, NR]; more_in_c[NR] = wall[7, NR] / wall[19, NR]; to_c[NR] = wall[1, NR] / wall[7, NR]; to_c_of_four[NR] = wall[13, NR] / wall[19, NR] }
-  function median(numbers,    i, j, k) {
-    for (i = 2; i <= NR; i++) for (j = i; j > 1 && numbers[j] < numbers[j - 1]; j--) { k = numbers[j]; numbers[j] = numbers[j - 1]; numbers[j - 1] = k }
-    return numbers[int((NR + 1) / 2)]
-  }
   function median_at(numbers, at,    i, some) {
     for (i = 1; i <= NR; i++) some[i] = numbers[at, i]
     return median(some)
@@ -241,6 +256,20 @@ done | awk -v count="$count" -v turns="$turns" '
     line("C, one thread", 7)
     line("C, four threads", 19)
     printf "four threads to one: %.2f of its commits a second; C: %.2f; the goal is 2.5\n", median(more), median(more_in_c)
-    printf "C, a bare lock: %d turns a second on four threads, %.2f of the commits of one thread\n", turns, turns * median_at(wall, 1)
     printf "to C on one thread: %.2f of its time; on four: %.2f\n", median(to_c), median(to_c_of_four)
+    printf "%d\n", 1 / median_at(wall, 1) > commits
+  }' "$work/runs"
+
+# turns THREADS OWN: how many turns of the bare lock there are in a second
+turns() { "$work/turns" "$1" $((count / $1)) "$2"; }
+# one thread alone makes as many turns a second as one thread of the hall commits
+own=300
+for step in 1 2 3 4 5 6; do
+  own=$(awk -v own="$own" -v made="$(turns 1 "$own")" -v wanted="$(cat "$work/commits")" 'BEGIN { printf "%d", own * made / wanted }')
+done
+for turn in $(seq 1 9); do echo "$(turns 1 "$own") $(turns 4 "$own") $("$work/turns" 0 0 0)"; done | awk "$median"'
+  { one[NR] = $1; four[NR] = $2; more[NR] = $2 / $1; passing[NR] = $3 }
+  END {
+    printf "C, a bare lock with as much between two turns: %d turns a second on one thread, %d on four, %.2f to one\n", median(one), median(four), median(more)
+    printf "a cache line takes %d nanoseconds from one processor to another\n", median(passing)
   }'

@@ -3,7 +3,7 @@
 #
 # It runs `rt ci` and looks at its processes once a second: what a process has used is counted by the crate that it builds. What it uses behind the
 # last look at it is not seen, so each figure is at least that, by about a second for each process. What an earlier run kept is not done again: on a machine
-# that has proved nothing yet, or with `--anew`, these are the figures from nothing.
+# that has proved nothing yet, or with `--anew`, these are the figures from nothing. Names of crates are handed on to `rt ci`, which then does these and those below them.
 cd "$(dirname "$0")/.." || exit 1
 exec python3 - "$@" <<'PY'
 import os
@@ -38,7 +38,7 @@ def work_of(pid):
         here = os.readlink(f"/proc/{pid}/cwd")
     except OSError:
         return None
-    if not here.startswith(os.path.join(os.getcwd(), "crates")):
+    if "/rt-edit-" in here:
         return crate, "edits"
     return crate, "tests" if "--test" in words else "proofs"
 

@@ -5,13 +5,16 @@
 # Then the time to the first `get` on the log that is left, with as many transactions and with a tenth of them: of a transaction that is aborted, so that nothing is sealed for it,
 # and of one that is committed. The bytes of epochs are those of the same rows in epochs that fill their regions, of which none is merged, and an index entry for each transaction.
 #
+# The same load on a file in memory, where no sync sleeps, shows what a transaction costs besides: behind a sleep the caches of a processor are cold.
+#
 # Reading alone is a script whose last line is refused; reading with printing is one whose transactions are all aborted and put nothing. `sh bench/load.sh 10000` makes
 # a smaller load. It is no test. The program is proved before it is built.
 set -e
 top=$(cd "$(dirname "$0")/.." && pwd)
 count=${1:-100000}
 work=$(mktemp -d)
-trap 'rm -rf "$work"' EXIT
+memory=$(mktemp -d -p /dev/shm)
+trap 'rm -rf "$work" "$memory"' EXIT
 . "$top/bench/proved.sh"
 proved fineline
 fineline="$work/crates/fineline/out/fineline"
@@ -136,6 +139,9 @@ for group in 64 1; do
   timed /dev/null /dev/null "$work/plain" "$work/plain_log" $epochs $((40 + group * 134 + 14))
   echo "group $group, status $run_status: $(of $((count * 1000)) $((run_wall / 1000))) transactions a second, $(of $run_wall $wall) of the C program's time"
   echo "  processor microseconds a transaction: $(of $run_cpu $count) in all; reading $(of $reading $count); reading and printing without a call $(of $printing $count)"
+  timed "$work/load" /dev/null "$fineline" "$memory/log" default run --group $group
+  echo "  processor microseconds a transaction on a file in memory: $(of $cpu $count)"
+  rm "$memory/log"
   echo "  bytes written: $(of $run_bytes $((count * 112))) for each byte put, $(of $run_bytes $epoch_bytes) for each byte of epochs; resident memory $((run_resident / 1024)) MiB"
   echo "  a first get behind all of them: $first"
   loaded tenth $group

@@ -5,12 +5,14 @@ use Rattle.fine_model.specs.declared.Entry.{Entry}
 use Rattle.fine_model.specs.declared.law.RoomState.{RoomState}
 use Rattle.fine_model.specs.Buckets.{Began}
 use Rattle.fine_places.specs.History.{by_seat}
+use Rattle.node_cache.specs.Cache.{Cache}
+use Rattle.partition_hold.specs.Views.{ViewValue}
 use Rattle.epoch_room.specs.Value.{RoomValue}
 use Rattle.epoch_room.specs.declared.answers.RoomFault.{RoomFault}
 use Rattle.fine_hall.specs.declared.law.Beginning.{Beginning}
 use Rattle.fine_hall.specs.Turns.{added, committed, commits}
 use Rattle.fine_hall.specs.Passes.{mine, own_turns}
-use Rattle.fine_hall.specs.Halls.{turn_of}
+use Rattle.fine_hall.specs.Halls.{HallOf, turn_of}
 use Rattle.fine_hall.proofs.Turning.{commits_one}
 use Rattle.hall_rooms.specs.Rooms.{RoomPass}
 use Rattle.hall_rooms.specs.Closing.{ClosesHall}
@@ -22,7 +24,7 @@ use Rattle.txn_engine.specs.declared.txn.Txn.{Txn}
 use Rattle.txn_engine.specs.Txns.{Commits, IsRefused}
 use Rattle.hall_accounts.specs.declared.transfers.Ended.{Ended}
 use Rattle.hall_accounts.specs.declared.transfers.Ended.TheVariants as ended
-use Rattle.hall_accounts.specs.Doing.{Adds, AreMine, IsRunOfTwo, IsKept, commit_of, commits_of}
+use Rattle.hall_accounts.specs.Doing.{Adds, AreMine, EndsTxn, IsRunOfTwo, IsKept, commit_of, commits_of}
 use Rattle.hall_accounts.specs.Going.{StaysOwn}
 
 module _ (p p' : RoomPass) where
@@ -53,10 +55,13 @@ module _ (p p' : RoomPass) where
   mine_kept kept kept' (ended.NoPlace cause) are adds is = adds ∙ (are ∙ ap commits_of (sym is))
 
 -- behind calls that had no turn
-pub adds_after : (p p' p'' : RoomPass) (end : Ended) → StaysOwn p p' → Adds p' p'' end → Adds p p'' end
+adds_after : (p p' p'' : RoomPass) (end : Ended) → StaysOwn p p' → Adds p' p'' end → Adds p p'' end
 adds_after p p' p'' (ended.Committed done) s adds = adds ∙ ap (λ l. l ++ commit_of done ∷ []) (same_mine p p' s)
 adds_after p p' p'' (ended.Refused fault) s adds = adds ∙ same_mine p p' s
 adds_after p p' p'' (ended.NoPlace cause) s adds = adds ∙ same_mine p p' s
+
+pub ends_after : {Q : Type 0} (hall : HallOf RoomValue Cache ViewValue Q) (t : Txn) (p p' p'' : RoomPass) (end : Ended) → StaysOwn p p' → EndsTxn hall t p' p'' end → EndsTxn hall t p p'' end
+ends_after hall t p p' p'' end s e = record { idle = (e.idle.0, e.idle.1 ∙ s.0); free = e.free; adds = adds_after p p' p'' end s e.adds }
 
 pub none_mine : (p : RoomPass) → own_turns p ≡ [] → AreMine p []
 unfolding commits

@@ -31,6 +31,12 @@ Adds p p' (ended.Committed done) = mine p' ≡ mine p ++ commit_of done ∷ []
 Adds p p' (ended.Refused fault) = mine p' ≡ mine p
 Adds p p' (ended.NoPlace cause) = mine p' ≡ mine p
 
+-- A transaction ended so: the pass is at rest again, the transaction is free, and what it committed was added.
+pub record EndsTxn {Q : Type 0} (hall : HallOf RoomValue Cache ViewValue Q) (t : Txn) (p p' : RoomPass) (end : Ended) : Type 0 where
+  pub idle : IsAtRest hall p' × (p'.number ≡ p.number)
+  pub free : IsFree t
+  pub adds : Adds p p' end
+
 -- and so a list keeps it
 abbrev pub IsKept : List Committed → Ended → List Committed → Type 0
 IsKept old (ended.Committed done) new = new ≡ old ++ done ∷ []
@@ -40,6 +46,11 @@ IsKept old (ended.NoPlace cause) new = new ≡ old
 -- these are all commits of a pass, in their order
 abbrev pub AreMine : RoomPass → List Committed → Type 0
 AreMine p done = mine p ≡ commits_of done
+
+-- a pass at rest, and all its commits in their order
+pub record IsWorker {Q : Type 0} (hall : HallOf RoomValue Cache ViewValue Q) (p : RoomPass) (done : List Committed) : Type 0 where
+  pub idle : IsAtRest hall p
+  pub mine : AreMine p done
 
 -- a pass at rest and a free transaction, and all commits of the pass, in their order
 pub record KeepsAll {Q : Type 0} (hall : HallOf RoomValue Cache ViewValue Q) (t : Txn) (p : RoomPass) (done : List Committed) : Type 0 where

@@ -1,5 +1,5 @@
 -- A transaction that holds nothing, and a pass in the midst of one.
-use Rattle.std.specs.Prelude.{◌≡◌, ℕ}
+use Rattle.std.specs.Prelude.{◌≡◌, ◌≤◌, ℕ, List, []}
 use Rattle.fine_places.specs.History as places
 use Rattle.node_cache.specs.Cache.{Cache}
 use Rattle.partition_hold.specs.Views.{ViewValue}
@@ -28,6 +28,19 @@ pub record IsGoing {Q : Type 0} (hall : HallOf RoomValue Cache ViewValue Q) (t :
   pub is_open : IsOpenTxn (beginning_of hall) t p
   pub room : LacksPlace p places.room
   pub job : LacksJob (beginning_of hall) p
+
+-- so it is of both seats of a hall of two
+pub record AreGoing {Q : Type 0} (hall : HallOf RoomValue Cache ViewValue Q) (t : Txn) (p : RoomPass) (u : Txn) (q : RoomPass) : Type 0 where
+  pub one : IsGoing hall t p × (p.number ≡ 1)
+  pub two : IsGoing hall u q × (q.number ≡ 2)
+
+-- The passes of both seats of a hall of two, which are at rest, and the empty list that its end takes, with this capacity.
+pub record AreTwo {Q : Type 0} (hall : HallOf RoomValue Cache ViewValue Q) (p q : RoomPass) (memory : List ViewValue) (capacity : ℕ) : Type 0 where
+  pub seats : (beginning_of hall).seats ≡ 2
+  pub one : IsAtRest hall p
+  pub two : IsAtRest hall q
+  pub numbers : (p.number ≡ 1) × (q.number ≡ 2)
+  pub spare : (memory ≡ []) × (4 ≤ capacity)
 
 -- it is a pass of the same seat, which had no turn since
 abbrev pub StaysOwn : RoomPass → RoomPass → Type 0

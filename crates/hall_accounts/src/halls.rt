@@ -8,7 +8,7 @@ ghost use Rattle.fine_hall.specs.declared.pass.Pass.{Pass as HallPass};
 ghost use Rattle.hall_rooms.specs.Rooms.{beginning_of};
 ghost use Rattle.hall_rooms.specs.Closing.{ClosesHall};
 ghost use Rattle.hall_accounts.specs.Halls.{AreFresh, IsNewRoom};
-ghost use Rattle.hall_accounts.specs.Going.{IsAtRest};
+ghost use Rattle.hall_accounts.specs.Going.{AreTwo, IsAtRest};
 
 use epoch_room::Room;
 use fine_hall::Pass;
@@ -70,13 +70,9 @@ pub fn open_two(alloc: Global, region_len: u64, plan: FaultPlan) -> Option<Two>
     requires low { 4096 ≤ region_len }
     requires high { region_len ≤ 67108864 }
     requires whole { region_len % 1024 ≡ 0 }
-    ensures seats { IfSome result (λ made. (beginning_of made.hall).seats ≡ 2) }
-    ensures one { IfSome result (λ made. IsAtRest made.hall made.one) }
-    ensures two { IfSome result (λ made. IsAtRest made.hall made.two) }
-    ensures numbers { IfSome result (λ made. (made.one.number ≡ 1) × (made.two.number ≡ 2)) }
+    ensures two { IfSome result (λ made. AreTwo made.hall made.one made.two made.spare.items (vec_capacity made.spare)) }
     ensures fresh { IfSome result (λ made. (own_turns made.one ≡ []) × (own_turns made.two ≡ [])) }
     ensures new { IfSome result (λ made. Began (beginning_of made.hall).log 0 []) }
-    ensures spare { IfSome result (λ made. (made.spare.items ≡ []) × (4 ≤ vec_capacity made.spare)) }
 {
     let Opened {
         hall,
@@ -114,11 +110,7 @@ pub fn end_two<D: LogDisk>(
     two: Pass<View<D::Eye>>,
     spare: Vec<View<D::Eye>>,
 ) -> Option<Room<D>>
-    requires seats { (beginning_of hall).seats ≡ 2 }
-    requires one { IsAtRest hall one }
-    requires two { IsAtRest hall two }
-    requires numbers { (one.number ≡ 1) × (two.number ≡ 2) }
-    requires spare { (spare.items ≡ []) × (4 ≤ vec_capacity spare) }
+    requires two { AreTwo hall one two spare.items (vec_capacity spare) }
     ensures closes { IfSome result (λ room. ClosesHall (beginning_of hall) (one ∷ two ∷ []) room) }
 {
     match pair(alloc, one, two) {

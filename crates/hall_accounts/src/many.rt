@@ -4,7 +4,7 @@ ghost use Rattle.std.specs.Prelude.{◌≡◌, ◌≤◌, ◌<◌, ◌*◌, ℕ,
 ghost use Rattle.fine_model.specs.Bounds.{FitsCall};
 ghost use Rattle.fine_hall.specs.Halls.{AreAll};
 ghost use Rattle.hall_rooms.specs.Rooms.{RoomPass, beginning_of};
-ghost use Rattle.hall_accounts.specs.Going.{IsAtRest, IsFree};
+ghost use Rattle.hall_accounts.specs.Going.{AreTwo, IsAtRest, IsFree};
 
 use crate::accounts::put_of;
 use crate::halls::{Two, end_two};
@@ -68,11 +68,7 @@ pub fn puts<D: LogDisk, W: Wait>(
 
 /// Lets the first pass of a hall do so many transactions of one put each, and ends the hall: the room in numbers. None where there is no memory.
 pub fn puts_by_one<W: Wait>(rt: &W, alloc: Global, opened: Two, times: u64) -> Option<Counts>
-    requires seats { (beginning_of opened.hall).seats ≡ 2 }
-    requires one { IsAtRest opened.hall opened.one }
-    requires two { IsAtRest opened.hall opened.two }
-    requires numbers { (opened.one.number ≡ 1) × (opened.two.number ≡ 2) }
-    requires spare { (opened.spare.items ≡ []) × (4 ≤ vec_capacity opened.spare) }
+    requires two { AreTwo opened.hall opened.one opened.two opened.spare.items (vec_capacity opened.spare) }
 {
     let Two {
         hall,

@@ -2,7 +2,7 @@
 
 ghost use Rattle.std.specs.Prelude.{◌≡◌, ◌≤◌, [], IfSome, vec_capacity};
 ghost use Rattle.hall_rooms.specs.Rooms.{beginning_of};
-ghost use Rattle.hall_accounts.specs.Going.{IsAtRest, IsFree, IsGoing};
+ghost use Rattle.hall_accounts.specs.Going.{AreGoing, AreTwo, IsFree};
 
 use crate::halls::{Two, end_two, open_two};
 use crate::steps::{Seat, Step, Told, take, take_back};
@@ -15,6 +15,13 @@ use std::alloc::Global;
 use std::slice;
 use std::sync::Wait;
 use txn_engine::{RoomHall, Space, Txn, try_room};
+
+/// Both seats of a hall.
+#[derive(Drop)]
+struct Seats {
+    one: Seat,
+    two: Seat,
+}
 
 /// A step of one of two seats, or of both.
 #[derive(Clone, Copy, Debug, PartialEq, Eq)]
@@ -46,39 +53,28 @@ fn told_by(space: Result<Space, MergeFault>) -> Told {
     }
 }
 
-fn make_room<W: Wait>(
-    rt: &W,
-    alloc: Global,
-    hall: &RoomHall<MemDisk>,
-    one: &mut Seat,
-    two: &mut Seat,
-) -> Told
-    requires one { IsGoing hall.now one.old.txn one.old.pass × (one.old.pass.number ≡ 1) }
-    requires two { IsGoing hall.now two.old.txn two.old.pass × (two.old.pass.number ≡ 2) }
-    ensures one { IsGoing hall.now one.new.txn one.new.pass × (one.new.pass.number ≡ 1) }
-    ensures two { IsGoing hall.now two.new.txn two.new.pass × (two.new.pass.number ≡ 2) }
+fn make_room<W: Wait>(rt: &W, alloc: Global, hall: &RoomHall<MemDisk>, seats: &mut Seats) -> Told
+    requires { AreGoing hall.now seats.old.one.txn seats.old.one.pass seats.old.two.txn seats.old.two.pass }
+    ensures { AreGoing hall.now seats.new.one.txn seats.new.one.pass seats.new.two.txn seats.new.two.pass }
 {
-    let others = slice::from_mut(&mut two.pass);
-    told_by(try_room(rt, alloc, hall, &mut one.pass, others, 0))
+    let others = slice::from_mut(&mut seats.two.pass);
+    told_by(try_room(rt, alloc, hall, &mut seats.one.pass, others, 0))
 }
 
 fn do_act<W: Wait>(
     rt: &W,
     alloc: Global,
     hall: &RoomHall<MemDisk>,
-    one: &mut Seat,
-    two: &mut Seat,
+    seats: &mut Seats,
     act: Act,
 ) -> Told
-    requires one { IsGoing hall.now one.old.txn one.old.pass × (one.old.pass.number ≡ 1) }
-    requires two { IsGoing hall.now two.old.txn two.old.pass × (two.old.pass.number ≡ 2) }
-    ensures one { IsGoing hall.now one.new.txn one.new.pass × (one.new.pass.number ≡ 1) }
-    ensures two { IsGoing hall.now two.new.txn two.new.pass × (two.new.pass.number ≡ 2) }
+    requires { AreGoing hall.now seats.old.one.txn seats.old.one.pass seats.old.two.txn seats.old.two.pass }
+    ensures { AreGoing hall.now seats.new.one.txn seats.new.one.pass seats.new.two.txn seats.new.two.pass }
 {
     match act {
-        Act::One(step) => take(rt, alloc, hall, one, step),
-        Act::Two(step) => take(rt, alloc, hall, two, step),
-        Act::MakeRoom => make_room(rt, alloc, hall, one, two),
+        Act::One(step) => take(rt, alloc, hall, &mut seats.one, step),
+        Act::Two(step) => take(rt, alloc, hall, &mut seats.two, step),
+        Act::MakeRoom => make_room(rt, alloc, hall, seats),
     }
 }
 
@@ -87,17 +83,14 @@ fn walk<W: Wait>(
     rt: &W,
     alloc: Global,
     hall: &RoomHall<MemDisk>,
-    one: &mut Seat,
-    two: &mut Seat,
+    seats: &mut Seats,
     table: &[Line],
 ) -> Option<Line>
-    requires one { IsGoing hall.now one.old.txn one.old.pass × (one.old.pass.number ≡ 1) }
-    requires two { IsGoing hall.now two.old.txn two.old.pass × (two.old.pass.number ≡ 2) }
-    ensures one { IsGoing hall.now one.new.txn one.new.pass × (one.new.pass.number ≡ 1) }
-    ensures two { IsGoing hall.now two.new.txn two.new.pass × (two.new.pass.number ≡ 2) }
+    requires { AreGoing hall.now seats.old.one.txn seats.old.one.pass seats.old.two.txn seats.old.two.pass }
+    ensures { AreGoing hall.now seats.new.one.txn seats.new.one.pass seats.new.two.txn seats.new.two.pass }
 {
     for line in table {
-        let told = do_act(rt, alloc, hall, one, two, line.0);
+        let told = do_act(rt, alloc, hall, seats, line.0);
         if told != line.1 {
             return Some(Line(line.0, told));
         }
@@ -117,15 +110,14 @@ fn outcome_of(otherwise: Option<Line>, counts: Counts) -> Outcome {
 fn finish(
     alloc: Global,
     hall: RoomHall<MemDisk>,
-    mut one: Seat,
-    mut two: Seat,
+    seats: Seats,
     spare: Vec<View<MemEye>>,
 ) -> Option<Counts>
     requires seats { (beginning_of hall).seats ≡ 2 }
-    requires one { IsGoing hall one.txn one.pass × (one.pass.number ≡ 1) }
-    requires two { IsGoing hall two.txn two.pass × (two.pass.number ≡ 2) }
+    requires going { AreGoing hall seats.one.txn seats.one.pass seats.two.txn seats.two.pass }
     requires spare { (spare.items ≡ []) × (4 ≤ vec_capacity spare) }
 {
+    let Seats { mut one, mut two } = seats;
     take_back(&hall, &mut one);
     take_back(&hall, &mut two);
     let room = end_two(alloc, hall, one.pass, two.pass, spare)?;
@@ -149,11 +141,7 @@ fn walk_opened<W: Wait>(
     txns: (Txn, Txn),
     table: &[Line],
 ) -> Option<Outcome>
-    requires seats { (beginning_of opened.hall).seats ≡ 2 }
-    requires one { IsAtRest opened.hall opened.one }
-    requires two { IsAtRest opened.hall opened.two }
-    requires numbers { (opened.one.number ≡ 1) × (opened.two.number ≡ 2) }
-    requires spare { (opened.spare.items ≡ []) × (4 ≤ vec_capacity opened.spare) }
+    requires two { AreTwo opened.hall opened.one opened.two opened.spare.items (vec_capacity opened.spare) }
     requires free { IsFree txns.0 × IsFree txns.1 }
 {
     let Two {
@@ -162,16 +150,18 @@ fn walk_opened<W: Wait>(
         two,
         spare,
     } = opened;
-    let mut one = Seat {
-        pass: one,
-        txn: txns.0,
+    let mut seats = Seats {
+        one: Seat {
+            pass: one,
+            txn: txns.0,
+        },
+        two: Seat {
+            pass: two,
+            txn: txns.1,
+        },
     };
-    let mut two = Seat {
-        pass: two,
-        txn: txns.1,
-    };
-    let otherwise = walk(rt, alloc, &hall, &mut one, &mut two, table);
-    let counts = finish(alloc, hall, one, two, spare)?;
+    let otherwise = walk(rt, alloc, &hall, &mut seats, table);
+    let counts = finish(alloc, hall, seats, spare)?;
     Some(outcome_of(otherwise, counts))
 }
 

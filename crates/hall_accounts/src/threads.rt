@@ -1,7 +1,7 @@
 //! Two threads that move money between accounts on one hall.
 
-ghost use Rattle.std.specs.Prelude.{◌≡◌, ◌<◌, IfSome, vec_len, vec_capacity};
-ghost use Rattle.hall_accounts.specs.Doing.{AreMine, IsKept, IsRunOfTwo, KeepsAll};
+ghost use Rattle.std.specs.Prelude.{◌≡◌, ◌<◌, IfErr, IfOk, IfSome, vec_len, vec_capacity};
+ghost use Rattle.hall_accounts.specs.Doing.{IsKept, IsRunOfTwo, IsWorker, KeepsAll};
 ghost use Rattle.hall_accounts.specs.Going.{IsAtRest, StaysOwn};
 
 use crate::accounts::{put_of, scan_of, sum_of};
@@ -47,43 +47,65 @@ fn keep(kept: &mut Vec<Committed>, ended: Ended)
     }
 }
 
-/// One try of a transfer, whose entry is kept. Whether a bucket was found held.
-fn try_once<D: LogDisk, W: Wait>(
-    rt: &W,
+/// A pass, and all that it committed, in order.
+type Worker = (Pass<View<MemEye>>, Vec<Committed>);
+
+/// A worker in the midst of its work, with a transaction that holds nothing.
+#[derive(Drop)]
+struct Active {
     alloc: Global,
-    txn: &mut Txn,
-    hall: &RoomHall<D>,
-    pass: &mut Pass<View<D::Eye>>,
-    kept: &mut Vec<Committed>,
-    route: Route,
-) -> bool
-    requires keeps { KeepsAll hall.now txn.old pass.old kept.old.items }
-    ensures { KeepsAll hall.now txn.new pass.new kept.new.items × (pass.new.number ≡ pass.old.number) }
+    pass: Pass<View<MemEye>>,
+    txn: Txn,
+    kept: Vec<Committed>,
+}
+
+/// Begins with the work. The worker comes back where there is no memory.
+fn begin(alloc: Global, hall: &RoomHall<MemDisk>, worker: Worker) -> Result<Active, Worker>
+    requires { IsWorker hall.now worker.0 worker.1.items }
+    ensures begun { IfOk result (λ active. KeepsAll hall.now active.txn active.pass active.kept.items × (active.pass.number ≡ worker.0.number)) }
+    ensures back { IfErr result (λ back. IsWorker hall.now back.0 back.1.items × (back.0.number ≡ worker.0.number)) }
 {
-    if kept.reserve(1).is_err() {
+    let (pass, kept) = worker;
+    match fresh(alloc, seat_of(&pass)) {
+        Some(txn) => Ok(Active {
+            alloc,
+            pass,
+            txn,
+            kept,
+        }),
+        None => Err((pass, kept)),
+    }
+}
+
+/// One try of a transfer, whose entry is kept. Whether a bucket was found held.
+fn try_once<W: Wait>(rt: &W, hall: &RoomHall<MemDisk>, active: &mut Active, route: Route) -> bool
+    requires { KeepsAll hall.now active.old.txn active.old.pass active.old.kept.items }
+    ensures { KeepsAll hall.now active.new.txn active.new.pass active.new.kept.items × (active.new.pass.number ≡ active.old.pass.number) }
+{
+    if active.kept.reserve(1).is_err() {
         return false;
     }
-    let ended = transfer(rt, alloc, txn, hall, pass, route.from, route.to);
+    let ended = transfer(
+        rt,
+        active.alloc,
+        &mut active.txn,
+        hall,
+        &mut active.pass,
+        route.from,
+        route.to,
+    );
     let again = is_conflict(&ended);
-    keep(kept, ended);
+    keep(&mut active.kept, ended);
     again
 }
 
 /// Moves 1 once no bucket of the two accounts is found held, and keeps the entry.
-fn move_at_last<D: LogDisk, W: Wait>(
-    rt: &W,
-    alloc: Global,
-    txn: &mut Txn,
-    hall: &RoomHall<D>,
-    pass: &mut Pass<View<D::Eye>>,
-    kept: &mut Vec<Committed>,
-    route: Route,
-)
-    requires keeps { KeepsAll hall.now txn.old pass.old kept.old.items }
-    ensures { KeepsAll hall.now txn.new pass.new kept.new.items × (pass.new.number ≡ pass.old.number) }
+fn move_at_last<W: Wait>(rt: &W, hall: &RoomHall<MemDisk>, active: &mut Active, route: Route)
+    requires { KeepsAll hall.now active.old.txn active.old.pass active.old.kept.items }
+    ensures { KeepsAll hall.now active.new.txn active.new.pass active.new.kept.items × (active.new.pass.number ≡ active.old.pass.number) }
 {
     for _ in rt.forever() {
-        if !try_once(rt, alloc, txn, hall, pass, kept, route) {
+        if !try_once(rt, hall, active, route) {
             return;
         }
         thread::yield_now();
@@ -92,56 +114,43 @@ fn move_at_last<D: LogDisk, W: Wait>(
 }
 
 /// Moves 1 on each of two routes, so many times.
-fn move_often<D: LogDisk, W: Wait>(
+fn move_often<W: Wait>(
     rt: &W,
-    alloc: Global,
-    txn: &mut Txn,
-    hall: &RoomHall<D>,
-    pass: &mut Pass<View<D::Eye>>,
-    kept: &mut Vec<Committed>,
+    hall: &RoomHall<MemDisk>,
+    active: &mut Active,
     routes: (Route, Route),
     times: u32,
 )
-    requires keeps { KeepsAll hall.now txn.old pass.old kept.old.items }
-    ensures { KeepsAll hall.now txn.new pass.new kept.new.items × (pass.new.number ≡ pass.old.number) }
+    requires { KeepsAll hall.now active.old.txn active.old.pass active.old.kept.items }
+    ensures { KeepsAll hall.now active.new.txn active.new.pass active.new.kept.items × (active.new.pass.number ≡ active.old.pass.number) }
 {
     for _ in 0..times {
-        move_at_last(rt, alloc, txn, hall, pass, kept, routes.0);
-        move_at_last(rt, alloc, txn, hall, pass, kept, routes.1);
+        move_at_last(rt, hall, active, routes.0);
+        move_at_last(rt, hall, active, routes.1);
     }
 }
 
-/// Moves 1 on each of two routes so many times, seals and shows what waits, and does it again. Answers the pass, and all that it committed, in order.
-fn work<D: LogDisk, W: Wait>(
+/// Moves 1 on each of two routes so many times, seals and shows what waits, and does it again.
+fn work<W: Wait>(
     rt: &W,
     alloc: Global,
-    hall: &RoomHall<D>,
-    mut pass: Pass<View<D::Eye>>,
-    mut kept: Vec<Committed>,
+    hall: &RoomHall<MemDisk>,
+    worker: Worker,
     routes: (Route, Route),
     times: u32,
-) -> (Pass<View<D::Eye>>, Vec<Committed>)
-    requires idle { IsAtRest hall.now pass }
-    requires mine { AreMine pass kept.items }
-    ensures idle { IsAtRest hall.now result.0 × (result.0.number ≡ pass.number) }
-    ensures mine { AreMine result.0 result.1.items }
+) -> Worker
+    requires { IsWorker hall.now worker.0 worker.1.items }
+    ensures { IsWorker hall.now result.0 result.1.items × (result.0.number ≡ worker.0.number) }
 {
-    let seat = seat_of(&pass);
-    let Some(mut txn) = fresh(alloc, seat) else {
-        return (pass, kept);
+    let mut active = match begin(alloc, hall, worker) {
+        Ok(active) => active,
+        Err(worker) => return worker,
     };
-    move_often(
-        rt, alloc, &mut txn, hall, &mut pass, &mut kept, routes, times,
-    );
-    let _shown = show(rt, hall, &mut pass);
-    move_often(
-        rt, alloc, &mut txn, hall, &mut pass, &mut kept, routes, times,
-    );
-    (pass, kept)
+    move_often(rt, hall, &mut active, routes, times);
+    let _shown = show(rt, hall, &mut active.pass);
+    move_often(rt, hall, &mut active, routes, times);
+    (active.pass, active.kept)
 }
-
-/// A pass, and all that it committed, in order.
-type Worker = (Pass<View<MemEye>>, Vec<Committed>);
 
 /// Both threads at once. Both move 1 between the accounts 1 and 2, in different directions, and then 1 between two accounts of their own.
 fn both<R: Threads + Wait + Sync>(
@@ -152,10 +161,10 @@ fn both<R: Threads + Wait + Sync>(
     second: Worker,
     times: u32,
 ) -> (Worker, Worker)
-    requires first { IsAtRest hall.now first.0 × AreMine first.0 first.1.items }
-    requires second { IsAtRest hall.now second.0 × AreMine second.0 second.1.items }
-    ensures first { IsAtRest hall.now result.0.0 × (result.0.0.number ≡ first.0.number) × AreMine result.0.0 result.0.1.items }
-    ensures second { IsAtRest hall.now result.1.0 × (result.1.0.number ≡ second.0.number) × AreMine result.1.0 result.1.1.items }
+    requires first { IsWorker hall.now first.0 first.1.items }
+    requires second { IsWorker hall.now second.0 second.1.items }
+    ensures first { IsWorker hall.now result.0.0 result.0.1.items × (result.0.0.number ≡ first.0.number) }
+    ensures second { IsWorker hall.now result.1.0 result.1.1.items × (result.1.0.number ≡ second.0.number) }
 {
     let (one, one_kept) = first;
     let (two, two_kept) = second;
@@ -164,60 +173,45 @@ fn both<R: Threads + Wait + Sync>(
     join(
         rt,
         || -> Worker
-            requires { IsAtRest hall.now one × AreMine one one_kept.items }
-            ensures { IsAtRest hall.entry.now result.0 × (result.0.number ≡ one.number) × AreMine result.0 result.1.items }
-        { work(rt, alloc, hall, one, one_kept, forth, times) },
+            requires { IsWorker hall.now one one_kept.items }
+            ensures { IsWorker hall.entry.now result.0 result.1.items × (result.0.number ≡ one.number) }
+        { work(rt, alloc, hall, (one, one_kept), forth, times) },
         || -> Worker
-            requires { IsAtRest hall.now two × AreMine two two_kept.items }
-            ensures { IsAtRest hall.entry.now result.0 × (result.0.number ≡ two.number) × AreMine result.0 result.1.items }
-        { work(rt, alloc, hall, two, two_kept, back, times) },
+            requires { IsWorker hall.now two two_kept.items }
+            ensures { IsWorker hall.entry.now result.0 result.1.items × (result.0.number ≡ two.number) }
+        { work(rt, alloc, hall, (two, two_kept), back, times) },
     )
 }
 
 /// Puts 100 into an account, and keeps the entry.
-fn put_once<D: LogDisk, W: Wait>(
-    rt: &W,
-    alloc: Global,
-    txn: &mut Txn,
-    hall: &RoomHall<D>,
-    pass: &mut Pass<View<D::Eye>>,
-    kept: &mut Vec<Committed>,
-    account: u8,
-)
-    requires keeps { KeepsAll hall.now txn.old pass.old kept.old.items }
-    ensures { KeepsAll hall.now txn.new pass.new kept.new.items × (pass.new.number ≡ pass.old.number) }
+fn put_once<W: Wait>(rt: &W, hall: &RoomHall<MemDisk>, active: &mut Active, account: u8)
+    requires { KeepsAll hall.now active.old.txn active.old.pass active.old.kept.items }
+    ensures { KeepsAll hall.now active.new.txn active.new.pass active.new.kept.items × (active.new.pass.number ≡ active.old.pass.number) }
 {
-    let Some(call) = put_of(alloc, account, 100) else {
+    let Some(call) = put_of(active.alloc, account, 100) else {
         return;
     };
-    if kept.reserve(1).is_err() {
+    if active.kept.reserve(1).is_err() {
         return;
     }
     let calls = [call];
-    let ended = run(rt, txn, hall, pass, &calls, 0);
-    keep(kept, ended);
+    let ended = run(rt, &mut active.txn, hall, &mut active.pass, &calls, 0);
+    keep(&mut active.kept, ended);
 }
 
 /// Puts 100 into each of the four accounts from which is moved.
-fn fill<D: LogDisk, W: Wait>(
-    rt: &W,
-    alloc: Global,
-    hall: &RoomHall<D>,
-    pass: &mut Pass<View<D::Eye>>,
-    kept: &mut Vec<Committed>,
-)
-    requires idle { IsAtRest hall.now pass.old }
-    requires mine { AreMine pass.old kept.old.items }
-    ensures idle { IsAtRest hall.now pass.new × (pass.new.number ≡ pass.old.number) }
-    ensures mine { AreMine pass.new kept.new.items }
+fn fill<W: Wait>(rt: &W, alloc: Global, hall: &RoomHall<MemDisk>, worker: Worker) -> Worker
+    requires { IsWorker hall.now worker.0 worker.1.items }
+    ensures { IsWorker hall.now result.0 result.1.items × (result.0.number ≡ worker.0.number) }
 {
-    let seat = seat_of(pass);
-    let Some(mut txn) = fresh(alloc, seat) else {
-        return;
+    let mut active = match begin(alloc, hall, worker) {
+        Ok(active) => active,
+        Err(worker) => return worker,
     };
     for account in [1u8, 2, 10, 20] {
-        put_once(rt, alloc, &mut txn, hall, pass, kept, account);
+        put_once(rt, hall, &mut active, account);
     }
+    (active.pass, active.kept)
 }
 
 /// The sum of all accounts, as a transaction finds it that is then taken back.
@@ -257,20 +251,13 @@ pub fn two_threads<R: Threads + Wait + Sync>(rt: &R, alloc: Global, times: u32) 
 {
     let Two {
         hall,
-        mut one,
+        one,
         two,
         spare,
     } = open_two(alloc, 65_536, FaultPlan::none(alloc))?;
-    let mut kept = Vec::new(alloc);
-    fill(rt, alloc, &hall, &mut one, &mut kept);
-    let ((mut one, first), (two, second)) = both(
-        rt,
-        alloc,
-        &hall,
-        (one, kept),
-        (two, Vec::new(alloc)),
-        times,
-    );
+    let one = fill(rt, alloc, &hall, (one, Vec::new(alloc)));
+    let two = (two, Vec::new(alloc));
+    let ((mut one, first), (two, second)) = both(rt, alloc, &hall, one, two, times);
     let sum = sum_now(alloc, &hall, &mut one);
     let room = end_two(alloc, hall, one, two, spare)?;
     Some(RunOfTwo {

@@ -4,7 +4,7 @@ ghost use Rattle.std.specs.Prelude.{◌≡◌, IfSome};
 ghost use Rattle.std.specs.List.{AllByRecursion};
 ghost use Rattle.fine_model.specs.Bounds.{FitsCall};
 ghost use Rattle.fine_hall.specs.Passes.{mine};
-ghost use Rattle.hall_accounts.specs.Doing.{Adds};
+ghost use Rattle.hall_accounts.specs.Doing.{EndsTxn};
 ghost use Rattle.hall_accounts.specs.Going.{IsAtRest, IsFree, IsGoing, StaysOwn};
 
 use crate::accounts::{balance_of, get_of, put_of};
@@ -105,9 +105,7 @@ pub fn commit<D: LogDisk, W: Wait>(
     keep: usize,
 ) -> Ended
     requires going { IsGoing hall.now txn.old pass.old }
-    ensures idle { IsAtRest hall.now pass.new × (pass.new.number ≡ pass.old.number) }
-    ensures free { IsFree txn.new }
-    ensures adds { Adds pass.old pass.new result }
+    ensures { EndsTxn hall.now txn.new pass.old pass.new result }
 {
     if txn.failed() {
         give_up(txn, hall, pass, keep);
@@ -132,9 +130,7 @@ fn finish<D: LogDisk, W: Wait>(
     keep: usize,
 ) -> Ended
     requires going { IsGoing hall.now txn.old pass.old }
-    ensures idle { IsAtRest hall.now pass.new × (pass.new.number ≡ pass.old.number) }
-    ensures free { IsFree txn.new }
-    ensures adds { Adds pass.old pass.new result }
+    ensures { EndsTxn hall.now txn.new pass.old pass.new result }
 {
     match answered {
         Ok(()) => commit(rt, txn, hall, pass, keep),
@@ -157,31 +153,16 @@ pub fn run<D: LogDisk, W: Wait>(
     requires idle { IsAtRest hall.now pass.old }
     requires free { IsFree txn.old }
     requires calls { AllByRecursion FitsCall calls.now }
-    ensures idle { IsAtRest hall.now pass.new × (pass.new.number ≡ pass.old.number) }
-    ensures free { IsFree txn.new }
-    ensures adds { Adds pass.old pass.new result }
+    ensures { EndsTxn hall.now txn.new pass.old pass.new result }
 {
     let answered = answer_all(txn, hall, pass, calls);
     finish(rt, txn, hall, pass, answered, keep)
 }
 
-/// Reads two balances.
-fn read_two<D: LogDisk>(
-    alloc: Global,
-    txn: &mut Txn,
-    hall: &RoomHall<D>,
-    pass: &mut Pass<View<D::Eye>>,
-    from: u8,
-    to: u8,
-) -> Result<(u8, u8), TxnFault>
-    requires going { IsGoing hall.now txn.old pass.old }
-    ensures going { IsGoing hall.now txn.new pass.new }
-    ensures stays { StaysOwn pass.old pass.new }
-{
-    answer(txn, hall, pass, get_of(alloc, from))?;
-    answer(txn, hall, pass, get_of(alloc, to))?;
+/// The balances that the first two calls of a transaction read.
+fn balances(txn: &Txn) -> (u8, u8) {
     let replies = txn.replies();
-    Ok((balance_of(replies.first()), balance_of(replies.get(1))))
+    (balance_of(replies.first()), balance_of(replies.get(1)))
 }
 
 /// Moves 1 from an account to another one, where it has 1 and the other has room for it.
@@ -197,7 +178,9 @@ fn move_one<D: LogDisk>(
     ensures going { IsGoing hall.now txn.new pass.new }
     ensures stays { StaysOwn pass.old pass.new }
 {
-    let (left, right) = read_two(alloc, txn, hall, pass, from, to)?;
+    answer(txn, hall, pass, get_of(alloc, from))?;
+    answer(txn, hall, pass, get_of(alloc, to))?;
+    let (left, right) = balances(txn);
     if left == 0 || right == u8::MAX {
         return Ok(());
     }
@@ -218,9 +201,7 @@ pub fn transfer<D: LogDisk, W: Wait>(
 ) -> Ended
     requires idle { IsAtRest hall.now pass.old }
     requires free { IsFree txn.old }
-    ensures idle { IsAtRest hall.now pass.new × (pass.new.number ≡ pass.old.number) }
-    ensures free { IsFree txn.new }
-    ensures adds { Adds pass.old pass.new result }
+    ensures { EndsTxn hall.now txn.new pass.old pass.new result }
 {
     let answered = move_one(alloc, txn, hall, pass, from, to);
     finish(rt, txn, hall, pass, answered, 0)

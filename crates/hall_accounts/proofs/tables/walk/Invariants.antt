@@ -1,9 +1,7 @@
-use Rattle.std.proofs.Common.{◌≡◌}
-use Rattle.hall_accounts.specs.Going.{IsGoing}
+use Rattle.hall_accounts.specs.Going.{AreGoing}
 use Rattle.hall_accounts.proofs.tables.walk.Given as goal
 
 abbrev pub invariant-loop-line : goal.invariant-loop-line
 invariant-loop-line g l = record {
-  one : IsGoing l.hall l.one.txn l.one.pass × (l.one.pass.number ≡ 1);
-  two : IsGoing l.hall l.two.txn l.two.pass × (l.two.pass.number ≡ 2);
+  going : AreGoing l.hall l.seats.one.txn l.seats.one.pass l.seats.two.txn l.seats.two.pass;
 }

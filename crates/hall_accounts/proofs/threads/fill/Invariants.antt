@@ -4,6 +4,6 @@ use Rattle.hall_accounts.proofs.threads.fill.Given as goal
 
 abbrev pub invariant-loop-account : goal.invariant-loop-account
 invariant-loop-account g l = record {
-  keeps : KeepsAll l.hall l.txn l.pass l.kept.items;
-  number : l.pass.number ≡ l.initial.pass.number;
+  keeps : KeepsAll l.hall l.active.txn l.active.pass l.active.kept.items;
+  number : l.active.pass.number ≡ l.initial.active.pass.number;
 }

@@ -5,6 +5,6 @@ use Rattle.hall_accounts.proofs.threads.move_at_last.Given as goal
 abbrev pub invariant-loop : goal.invariant-loop
 invariant-loop g l = record {
   more : (goal.iterator-loop g).can_next l.iterator' × (goal.iterator-loop g).is_finite l.iterator';
-  keeps : KeepsAll l.hall l.txn l.pass l.kept.items;
-  number : l.pass.number ≡ l.initial.pass.number;
+  keeps : KeepsAll l.hall l.active.txn l.active.pass l.active.kept.items;
+  number : l.active.pass.number ≡ l.initial.active.pass.number;
 }

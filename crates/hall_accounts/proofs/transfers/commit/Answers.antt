@@ -24,11 +24,16 @@ give_up-requires-in-Err-clause-going g c κs within =
     let e = c.in-Err.ensures in
     refused_goes c.args.hall.now c.args.txn.now c.commit.new.self c.args.pass.now c.commit.new.pass c.in-Err.cause c.requires.going e.pass.0 e.pass.1 e.commits e.«open»
 
-pub returns-in-Err-clause-adds : goal.returns-in-Err-clause-adds
-returns-in-Err-clause-adds g c =
+pub returns-in-Err : goal.returns-in-Err
+returns-in-Err g c =
     let p = c.args.pass.now in
     let q = c.commit.new.pass in
-    same_mine q c.give_up-in-Err.new.pass c.give_up-in-Err.ensures.stays ∙ refused_none p q (beginning_of c.args.hall.now) c.args.txn.now c.commit.new.self c.in-Err.cause c.in-Err.ensures.commits
+    let e = c.give_up-in-Err.ensures in
+    record {
+      idle = (e.idle, e.stays.0 ∙ c.in-Err.ensures.pass.1);
+      free = e.free;
+      adds = same_mine q c.give_up-in-Err.new.pass e.stays ∙ refused_none p q (beginning_of c.args.hall.now) c.args.txn.now c.commit.new.self c.in-Err.cause c.in-Err.ensures.commits;
+    }
 
-pub returns-then-failed-clause-adds : goal.returns-then-failed-clause-adds
-returns-then-failed-clause-adds g c = same_mine c.args.pass.now c.give_up.new.pass c.give_up.ensures.stays
+pub returns-then-failed : goal.returns-then-failed
+returns-then-failed g c = let e = c.give_up.ensures in record { idle = (e.idle, e.stays.0); free = e.free; adds = same_mine c.args.pass.now c.give_up.new.pass e.stays }

@@ -1,5 +1,5 @@
 use Rattle.hall_accounts.proofs.Doing.{same_mine}
 use Rattle.hall_accounts.proofs.transfers.finish.Goals as goal
 
-pub returns-in-Err-clause-adds : goal.returns-in-Err-clause-adds
-returns-in-Err-clause-adds g c = same_mine c.args.pass.now c.give_up.new.pass c.give_up.ensures.stays
+pub returns-in-Err : goal.returns-in-Err
+returns-in-Err g c = let e = c.give_up.ensures in record { idle = (e.idle, e.stays.0); free = e.free; adds = same_mine c.args.pass.now c.give_up.new.pass e.stays }

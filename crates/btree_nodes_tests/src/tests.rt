@@ -3,6 +3,7 @@
 mod again;
 mod calls;
 mod fixtures;
+mod keys;
 mod limits;
 mod scans;
 mod splits;

@@ -2,7 +2,8 @@
 
 ghost use Rattle.std.specs.Prelude.{◌≤◌, IfOk};
 
-use super::fixtures::{Tree, add, del, get, key_at, put, tree_of};
+use super::fixtures::{Tree, add, del, get, put, tree_of};
+use super::keys::key_at;
 use super::scans::pairs_between;
 use super::splits::depth_of;
 use btree_nodes::TreeFault;

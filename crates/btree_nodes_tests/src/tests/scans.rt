@@ -2,7 +2,8 @@
 
 ghost use Rattle.std.specs.Prelude.{IfOk};
 
-use super::fixtures::{Tree, key_at, pairs, tree_of};
+use super::fixtures::{Tree, pairs, tree_of};
+use super::keys::key_at;
 use super::splits::{are_keys, grown, head_of};
 use btree_nodes::TreeFault;
 use fine_model::Pairs;

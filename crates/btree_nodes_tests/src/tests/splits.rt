@@ -2,11 +2,28 @@
 
 ghost use Rattle.std.specs.Prelude.{IfOk};
 
-use super::fixtures::{Tree, get, key_at, pairs, put, tree_of};
+use super::fixtures::{Tree, get, pairs, put, tree_of};
+use super::keys::key_at;
 use btree_nodes::TreeFault;
 use fine_model::{Bytes, NoMemory, Node};
 use std::alloc::Global;
 use std::test::*;
+
+/// Cuts the left leaf before its seventeenth key.
+const CUT: &[u8] =
+    b"\x06\x00\x40\x00\x00\x00\x01\x00\x00\x00\x00\x00\x00\x00\x21\x00\x00\x00\x0b\x0aBBAaAaAaAa";
+
+/// Puts the 33rd pair into it.
+const PUT: &[u8] =
+    b"\x04\x00\x40\x00\x00\x00\x01\x00\x00\x00\x00\x00\x00\x00\x22\x00\x00\x00\x0e\x0aAaAaAaAaC#\x00\x011";
+
+/// The image of the new root, over both leaves.
+const ROOT: &[u8] =
+    b"\x03\x00\x40\x00\x00\x00\x03\x00\x00\x00\x00\x00\x00\x00\x01\x00\x00\x00\x14\x01\x00\x00\x00\x01\x00\x00\x00\x02\x0aBBAaAaAaAa";
+
+/// The image of the head, of depth 2.
+const HEAD: &[u8] =
+    b"\x01\x00\x40\x00\x00\x00\x00\x00\x00\x00\x00\x00\x00\x00\x01\x00\x00\x00\x09\x00\x00\x00\x03\x00\x00\x00\x04\x02";
 
 /// The rows of a root that is split: the right leaf of 16 pairs, two changes of the left one, the new root, and the head.
 fn rows_of_split(alloc: Global) -> Result<Vec<u8>, NoMemory> {
@@ -19,13 +36,7 @@ fn rows_of_split(alloc: Global) -> Result<Vec<u8>, NoMemory> {
         rows.extend_from_slice(key.as_slice())?;
         rows.extend_from_slice(b"\x00\x011")?;
     }
-    let behind: [&[u8]; 4] = [
-        b"\x06\x00\x40\x00\x00\x00\x01\x00\x00\x00\x00\x00\x00\x00\x21\x00\x00\x00\x0b\x0aBBAaAaAaAa",
-        b"\x04\x00\x40\x00\x00\x00\x01\x00\x00\x00\x00\x00\x00\x00\x22\x00\x00\x00\x0e\x0aAaAaAaAaC#\x00\x011",
-        b"\x03\x00\x40\x00\x00\x00\x03\x00\x00\x00\x00\x00\x00\x00\x01\x00\x00\x00\x14\x01\x00\x00\x00\x01\x00\x00\x00\x02\x0aBBAaAaAaAa",
-        b"\x01\x00\x40\x00\x00\x00\x00\x00\x00\x00\x00\x00\x00\x00\x01\x00\x00\x00\x09\x00\x00\x00\x03\x00\x00\x00\x04\x02",
-    ];
-    for row in behind {
+    for row in [CUT, PUT, ROOT, HEAD] {
         rows.extend_from_slice(row)?;
     }
     Ok(rows)

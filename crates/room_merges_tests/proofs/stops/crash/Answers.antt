@@ -3,7 +3,8 @@ use Rattle.std.specs.List.{list_all}
 use Rattle.fine_model.specs.Boards.{is_empty}
 use Rattle.log_disk.specs.Crash.{IsCrashOf}
 use Rattle.log_disk.specs.Disk.{Disk}
-use Rattle.room_merges_tests.proofs.Idle.{idle_again, no_eyes}
+use Rattle.run_laws.proofs.NoEyes.{no_eyes}
+use Rattle.room_merges_tests.proofs.Idle.{idle_again}
 use Rattle.room_merges_tests.proofs.stops.crash.Goals as goal
 
 pub into_disk-disk-requires-clause-board : goal.into_disk-disk-requires-clause-board

@@ -8,8 +8,65 @@ use hall_accounts::Told::{
 };
 use hall_accounts::{Line, Outcome, two_threads, walked};
 use log_disk::FaultPlan;
+use std::alloc::Global;
+use std::process;
+use std::sync::Wait;
 use std::test::Fail;
 use txn_engine::{CommitFault, Space, TxnFault};
+
+/// The balances 10 and 5, stored by one transaction.
+const BEGUN: [Line; 3] = [
+    Line(One(Put(1, 10)), Stored),
+    Line(One(Put(2, 5)), Stored),
+    Line(One(Commit), Committed(1, 1)),
+];
+
+// A balance of the account 1, stored by the transaction of a number in an epoch of its own, which is sealed.
+fn sealed(number: u64, balance: u8) -> [Line; 3] {
+    [
+        Line(One(Put(1, balance)), Stored),
+        Line(One(Commit), Committed(number, number)),
+        Line(One(Show), Shown(number)),
+    ]
+}
+
+// Where nothing is retired: how many regions are free and live, the last epoch sealed, the last place given, and how many entries wait.
+fn counts(free: u32, live: u32, sealed: u64, place: u64, waiting: u64) -> Counts {
+    Counts {
+        free,
+        live,
+        retired: 0,
+        sealed,
+        place,
+        waiting,
+    }
+}
+
+// What comes of tables on a new hall, one behind the other.
+fn walked_all<W: Wait>(
+    rt: &W,
+    alloc: Global,
+    plan: FaultPlan,
+    tables: &[&[Line]],
+) -> Result<Outcome, Fail> {
+    let mut lines = Vec::new(alloc);
+    for table in tables {
+        lines.extend_from_slice(table)?;
+    }
+    Ok(walked(rt, alloc, plan, &lines))
+}
+
+// Walks tables on a new hall whose disk does not fail: each line answers as it is to, and the room ends with these counts.
+fn ends_with<W: Wait + process::Abort>(
+    rt: &W,
+    alloc: Global,
+    tables: &[&[Line]],
+    counts: Counts,
+) -> Result<(), Fail> {
+    let outcome = walked_all(rt, alloc, FaultPlan::none(alloc), tables)?;
+    assert!(rt; outcome == Outcome::Room(counts));
+    Ok(())
+}
 
 // Whether each line of a table answered as it is to.
 fn is_room(outcome: Outcome) -> bool {
@@ -22,10 +79,8 @@ fn is_room(outcome: Outcome) -> bool {
 // The second transaction finds the bucket of the account 1 held, and goes through once the first has committed.
 #[test]
 fn a_conflict_is_tried_again(rt: HostRuntime) -> Result<(), Fail> {
+    let alloc = rt.alloc();
     let table = [
-        Line(One(Put(1, 10)), Stored),
-        Line(One(Put(2, 5)), Stored),
-        Line(One(Commit), Committed(1, 1)),
         Line(One(Get(1)), Balance(10)),
         Line(
             Two(Get(1)),
@@ -48,26 +103,14 @@ fn a_conflict_is_tried_again(rt: HostRuntime) -> Result<(), Fail> {
         Line(One(Abort), Aborted),
         Line(Two(Scan), Sum(15)),
     ];
-    let counts = Counts {
-        free: 7,
-        live: 0,
-        retired: 0,
-        sealed: 0,
-        place: 3,
-        waiting: 3,
-    };
-    let outcome = walked(&rt, rt.alloc(), FaultPlan::none(rt.alloc()), &table);
-    assert!(rt; outcome == Outcome::Room(counts));
-    Ok(())
+    ends_with(&rt, alloc, &[&BEGUN, &table], counts(7, 0, 0, 3, 3))
 }
 
 // What is sealed is evicted as the next transaction ends, and read through the front by the one behind it.
 #[test]
 fn what_was_evicted_is_read_again(rt: HostRuntime) -> Result<(), Fail> {
+    let alloc = rt.alloc();
     let table = [
-        Line(One(Put(1, 10)), Stored),
-        Line(One(Put(2, 5)), Stored),
-        Line(One(Commit), Committed(1, 1)),
         Line(Two(Show), Shown(1)),
         Line(One(Get(1)), Balance(10)),
         Line(One(Get(2)), Balance(5)),
@@ -82,17 +125,7 @@ fn what_was_evicted_is_read_again(rt: HostRuntime) -> Result<(), Fail> {
         Line(One(Show), Shown(2)),
         Line(Two(Scan), Sum(15)),
     ];
-    let counts = Counts {
-        free: 6,
-        live: 2,
-        retired: 0,
-        sealed: 2,
-        place: 3,
-        waiting: 0,
-    };
-    let outcome = walked(&rt, rt.alloc(), FaultPlan::none(rt.alloc()), &table);
-    assert!(rt; outcome == Outcome::Room(counts));
-    Ok(())
+    ends_with(&rt, alloc, &[&BEGUN, &table], counts(6, 2, 2, 3, 0))
 }
 
 // The node is cached until the end of the second transaction, though it was published before. So the first read of the seat 1 is the look for the
@@ -119,12 +152,10 @@ fn what_is_published_is_evicted_at_the_end(rt: HostRuntime) -> Result<(), Fail> 
 // The eyes 1 to 4 are those of the first views; 5 is that which is posted to the seat 1.
 #[test]
 fn a_failing_read_is_of_its_pass_alone(rt: HostRuntime) -> Result<(), Fail> {
-    let mut plan = FaultPlan::none(rt.alloc());
+    let alloc = rt.alloc();
+    let mut plan = FaultPlan::none(alloc);
     plan.eye_reads.push((5, 1))?;
     let table = [
-        Line(One(Put(1, 10)), Stored),
-        Line(One(Put(2, 5)), Stored),
-        Line(One(Commit), Committed(1, 1)),
         Line(Two(Show), Shown(1)),
         Line(One(Get(1)), Refused(TxnFault::Disk)),
         Line(Two(Get(2)), Balance(5)),
@@ -136,32 +167,23 @@ fn a_failing_read_is_of_its_pass_alone(rt: HostRuntime) -> Result<(), Fail> {
         Line(One(Get(1)), Balance(9)),
         Line(One(Scan), Sum(15)),
     ];
-    let counts = Counts {
-        free: 6,
-        live: 1,
-        retired: 0,
-        sealed: 1,
-        place: 2,
-        waiting: 1,
-    };
-    let outcome = walked(&rt, rt.alloc(), plan, &table);
-    assert!(rt; outcome == Outcome::Room(counts));
+    let outcome = walked_all(&rt, alloc, plan, &[&BEGUN, &table])?;
+    assert!(rt; outcome == Outcome::Room(counts(6, 1, 1, 2, 1)));
     Ok(())
 }
 
 // Three parts become one, two at a time, until one is left, while a transaction is open.
 #[test]
 fn room_is_made_of_three_parts(rt: HostRuntime) -> Result<(), Fail> {
-    let table = [
-        Line(One(Put(1, 10)), Stored),
-        Line(One(Commit), Committed(1, 1)),
-        Line(One(Show), Shown(1)),
+    let alloc = rt.alloc();
+    let first = sealed(1, 10);
+    let second = [
         Line(Two(Put(2, 5)), Stored),
         Line(Two(Commit), Committed(2, 2)),
         Line(Two(Show), Shown(2)),
-        Line(One(Put(1, 8)), Stored),
-        Line(One(Commit), Committed(3, 3)),
-        Line(One(Show), Shown(3)),
+    ];
+    let third = sealed(3, 8);
+    let table = [
         Line(Two(Get(2)), Balance(5)),
         Line(MakeRoom, Room(Space::Made)),
         Line(MakeRoom, Room(Space::Made)),
@@ -170,44 +192,23 @@ fn room_is_made_of_three_parts(rt: HostRuntime) -> Result<(), Fail> {
         Line(Two(Commit), Committed(4, 4)),
         Line(One(Scan), Sum(15)),
     ];
-    let counts = Counts {
-        free: 6,
-        live: 1,
-        retired: 0,
-        sealed: 3,
-        place: 4,
-        waiting: 1,
-    };
-    let outcome = walked(&rt, rt.alloc(), FaultPlan::none(rt.alloc()), &table);
-    assert!(rt; outcome == Outcome::Room(counts));
-    Ok(())
+    ends_with(
+        &rt,
+        alloc,
+        &[&first, &second, &third, &table],
+        counts(6, 1, 3, 4, 1),
+    )
 }
 
 // Seven sealed epochs leave one free region, which is kept for merging: a commit is refused, room is made while both transactions are open, and both commit.
 #[test]
 fn a_commit_without_space_is_tried_again(rt: HostRuntime) -> Result<(), Fail> {
+    let alloc = rt.alloc();
+    let mut full = Vec::new(alloc);
+    for balance in 1..8u8 {
+        full.extend_from_slice(&sealed(u64::from(balance), balance))?;
+    }
     let table = [
-        Line(One(Put(1, 1)), Stored),
-        Line(One(Commit), Committed(1, 1)),
-        Line(One(Show), Shown(1)),
-        Line(One(Put(1, 2)), Stored),
-        Line(One(Commit), Committed(2, 2)),
-        Line(One(Show), Shown(2)),
-        Line(One(Put(1, 3)), Stored),
-        Line(One(Commit), Committed(3, 3)),
-        Line(One(Show), Shown(3)),
-        Line(One(Put(1, 4)), Stored),
-        Line(One(Commit), Committed(4, 4)),
-        Line(One(Show), Shown(4)),
-        Line(One(Put(1, 5)), Stored),
-        Line(One(Commit), Committed(5, 5)),
-        Line(One(Show), Shown(5)),
-        Line(One(Put(1, 6)), Stored),
-        Line(One(Commit), Committed(6, 6)),
-        Line(One(Show), Shown(6)),
-        Line(One(Put(1, 7)), Stored),
-        Line(One(Commit), Committed(7, 7)),
-        Line(One(Show), Shown(7)),
         Line(One(Put(1, 10)), Stored),
         Line(Two(Put(2, 5)), Stored),
         Line(
@@ -223,17 +224,7 @@ fn a_commit_without_space_is_tried_again(rt: HostRuntime) -> Result<(), Fail> {
         Line(Two(TryCommit), Committed(9, 8)),
         Line(Two(Scan), Sum(15)),
     ];
-    let counts = Counts {
-        free: 1,
-        live: 6,
-        retired: 0,
-        sealed: 7,
-        place: 9,
-        waiting: 2,
-    };
-    let outcome = walked(&rt, rt.alloc(), FaultPlan::none(rt.alloc()), &table);
-    assert!(rt; outcome == Outcome::Room(counts));
-    Ok(())
+    ends_with(&rt, alloc, &[&full, &table], counts(1, 6, 7, 9, 2))
 }
 
 #[test]

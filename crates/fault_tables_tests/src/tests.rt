@@ -6,12 +6,10 @@ ghost use Rattle.command_words.specs.Words.{IsGeometry};
 use crate::runs::{Case, GROUPS_OF_ONE, Printed, crash, new_disk, number_behind, obey, run};
 use log_disk::{FaultPlan, MemDisk};
 use std::alloc::Global;
+use std::process::Abort;
 use std::sync::Wait;
 use std::test::Fail;
 use std::thread::Threads;
-
-/// More calls of any kind than a run has.
-const MANY: u64 = 100;
 
 /// Which calls of a disk fail.
 #[derive(Clone, Copy, Debug, PartialEq, Eq)]
@@ -87,44 +85,31 @@ fn is_met<R: Threads + Wait + Sync>(
     Ok(met)
 }
 
-/// The last call of a kind that a run meets.
-fn last_met<R: Threads + Wait + Sync>(
+/// Checks of each kind of call that a run meets all up to the last one, and none behind it.
+fn meets<R: Threads + Wait + Sync + Abort>(
     rt: &R,
     alloc: Global,
     case: Case,
-    failing: Failing,
-) -> Result<u64, Fail> {
-    for number in 1..MANY {
-        if !is_met(rt, alloc, case, failing, number)? {
-            return Ok(number - 1);
+    lasts: [u64; 5],
+) -> Result<(), Fail> {
+    let kinds = [AllFrom, Read, Write, SyncOnce, Eye];
+    for (failing, last) in kinds.iter().zip(lasts) {
+        for number in 1..last.saturating_add(2) {
+            let met = is_met(rt, alloc, case, *failing, number)?;
+            assert_eq!(rt; met, number <= last);
         }
     }
-    Ok(MANY)
-}
-
-/// The last call of each kind that a run meets.
-fn each_met<R: Threads + Wait + Sync>(rt: &R, alloc: Global, case: Case) -> Result<[u64; 5], Fail> {
-    Ok([
-        last_met(rt, alloc, case, AllFrom)?,
-        last_met(rt, alloc, case, Read)?,
-        last_met(rt, alloc, case, Write)?,
-        last_met(rt, alloc, case, SyncOnce)?,
-        last_met(rt, alloc, case, Eye)?,
-    ])
+    Ok(())
 }
 
 #[test]
 fn a_call_of_the_disk_that_fails_is_told(rt: HostRuntime) -> Result<(), Fail> {
-    let accounts = each_met(&rt, rt.alloc(), Case::Accounts)?;
-    assert_eq!(rt; accounts, [22, 8, 6, 6, 2]);
-    Ok(())
+    meets(&rt, rt.alloc(), Case::Accounts, [22, 8, 6, 6, 2])
 }
 
 #[test]
 fn a_call_of_a_merge_that_fails_is_told(rt: HostRuntime) -> Result<(), Fail> {
-    let merges = each_met(&rt, rt.alloc(), Case::Merges)?;
-    assert_eq!(rt; merges, [65, 4, 32, 24, 5]);
-    Ok(())
+    meets(&rt, rt.alloc(), Case::Merges, [65, 4, 32, 24, 5])
 }
 
 /// What the run over two accounts prints, where these calls of the source and the sink fail.

@@ -1,9 +1,9 @@
 //! What no clause says: the printed text of worked scripts, the bytes of the log, and calls that fail.
 
-ghost use Rattle.std.specs.Prelude.{◌≡◌, ◌<◌, ◌≤◌, [], IfOk};
-ghost use Rattle.command_words.specs.Words.{IsGeometry};
+ghost use Rattle.std.specs.Prelude.{◌≡◌, ◌<◌, ◌≤◌, IfOk};
+ghost use Rattle.fine_top_tests.specs.Disks.{IsLeft, IsReady};
 
-use fine_model::NoGate;
+use fine_model::{NoGate, NoMemory};
 use fine_top::{Finish, fineline, geometry_of};
 use log_disk::{FaultPlan, LogDisk, MemDisk};
 use script_text::{MemSink, MemSource};
@@ -19,6 +19,8 @@ const ROOM: usize = 8192;
 
 const LENGTH: u64 = 16_384;
 
+const RUN: &[&str] = &["run"];
+
 const LONG_KEY: &str = "kkkkkkkkkkkkkkkkkkkkkkkkkkkkkkkkkkkkkkkkkkkkkkkkkkkkkkkkkkkkkkkk";
 
 const LONG_VALUE: &str =
@@ -29,6 +31,17 @@ const WORDS: &str =
 
 const THREE: &str = "txn 1|put a 1|commit|txn 1|put b 2|commit|txn 1|put c 3|get a|commit|";
 
+/// Reads what these put.
+const READ_THREE: &str = "txn 1|get a|get b|get c|commit|";
+
+const NONE_OF_THREE: &str = "txn 1 commit 1 epoch 1|get a none|get b none|get c none|durable 1|";
+
+const ALL_OF_THREE: &str = "txn 1 commit 1 epoch 2|get a = 1|get b = 2|get c = 3|durable 2|";
+
+/// What a run is given: its words, its script, whose lines end at each `|`, and the numbers of the call of the source that fails and of that of the
+/// sink, where 0 is none.
+type Given<'a> = (&'a [&'a str], &'a str, (u64, u64));
+
 /// What a run of a script on a disk printed, and how it ended.
 #[derive(Drop)]
 struct Printed {
@@ -38,50 +51,78 @@ struct Printed {
 
 // A new disk of four regions of the least length.
 fn small(alloc: Global, plan: FaultPlan) -> Result<MemDisk, Fail>
-    ensures { IfOk result (λ disk. IsGeometry (disk.disk.regions, disk.disk.region_len) × (disk.disk.unsynced ≡ []) × (disk.disk.eyes ≡ [])) }
+    ensures { IfOk result (λ disk. IsReady disk.disk) }
 {
     Ok(MemDisk::new(alloc, 4, LENGTH, plan)?)
 }
 
 // The disk after a crash, which has nothing unsynced.
 fn crash(disk: MemDisk, picks: &[u8]) -> Result<MemDisk, Fail>
-    requires geometry { IsGeometry (disk.disk.regions, disk.disk.region_len) }
-    requires no_eyes { disk.disk.eyes ≡ [] }
-    ensures { IfOk result (λ disk. IsGeometry (disk.disk.regions, disk.disk.region_len) × (disk.disk.unsynced ≡ []) × (disk.disk.eyes ≡ [])) }
+    requires { IsLeft disk.disk }
+    ensures { IfOk result (λ disk. IsReady disk.disk) }
 {
     Ok(disk.crashed(picks)?)
 }
 
-// Runs a script whose lines end at each `|`.
+// A plan by which each call of the disk fails from a number on.
+fn stop_at(alloc: Global, stop: u64) -> FaultPlan {
+    let mut plan = FaultPlan::none(alloc);
+    plan.stop = stop;
+    plan
+}
+
+// The bytes of a text, with another one in place of one of them.
+fn replaced(alloc: Global, text: &[u8], old: u8, new: u8) -> Result<Vec<u8>, NoMemory> {
+    let mut bytes = Vec::new(alloc);
+    for byte in text {
+        bytes.push(if *byte == old { new } else { *byte })?;
+    }
+    Ok(bytes)
+}
+
+// A source of a script whose lines end at each `|`, of which the call of this number fails; 0 is none.
+fn source_of(alloc: Global, script: &str, fail: u64) -> Result<MemSource, NoMemory> {
+    let bytes = replaced(alloc, script.as_bytes(), b'|', b'\n')?;
+    Ok(MemSource::new(bytes, Vec::from_slice(alloc, &[fail])?))
+}
+
+// Runs a script.
 fn run<R: Threads + Wait + Sync>(
     rt: &R,
     alloc: Global,
-    texts: &[&str],
-    script: &str,
-    fails: (Vec<u64>, Vec<u64>),
+    given: Given,
     disk: MemDisk,
 ) -> Result<Printed, Fail>
-    requires geometry { IsGeometry (disk.disk.regions, disk.disk.region_len) }
-    requires synced { disk.disk.unsynced ≡ [] }
-    requires no_eyes { disk.disk.eyes ≡ [] }
-    ensures { IfOk result (λ printed. IsGeometry (printed.finish.disk.disk.regions, printed.finish.disk.disk.region_len) × (printed.finish.disk.disk.eyes ≡ [])) }
+    requires { IsReady disk.disk }
+    ensures { IfOk result (λ printed. IsLeft printed.finish.disk.disk) }
 {
+    let (texts, script, fails) = given;
     let mut words = Vec::new(alloc);
     for text in texts {
         words.push(String::from_str(alloc, text)?)?;
     }
-    let mut bytes = Vec::new(alloc);
-    for byte in script.as_bytes() {
-        bytes.push(if *byte == b'|' { b'\n' } else { *byte })?;
-    }
-    let mut source = MemSource::new(bytes, fails.0);
-    let mut sink = MemSink::new(alloc, ROOM, fails.1)?;
+    let mut source = source_of(alloc, script, fails.0)?;
+    let mut sink = MemSink::new(alloc, ROOM, Vec::from_slice(alloc, &[fails.1])?)?;
     let finish = fineline(rt, alloc, &words, &mut source, &mut sink, disk, &NoGate);
-    let mut text = Vec::new(alloc);
-    for byte in sink.bytes() {
-        text.push(if *byte == b'\n' { b'|' } else { *byte })?;
-    }
+    let text = replaced(alloc, sink.bytes(), b'\n', b'|')?;
     Ok(Printed { text, finish })
+}
+
+// Runs a script, which has to end with this status and to print this text, and gives the disk.
+fn expect<R: Threads + Wait + Sync + Abort>(
+    rt: &R,
+    alloc: Global,
+    given: Given,
+    disk: MemDisk,
+    told: (u8, &str),
+) -> Result<MemDisk, Fail>
+    requires { IsReady disk.disk }
+    ensures { IfOk result (λ disk. IsLeft disk.disk) }
+{
+    let printed = run(rt, alloc, given, disk)?;
+    assert_eq!(rt; printed.finish.status, told.0);
+    assert_eq!(rt; printed.text.as_slice(), told.1.as_bytes());
+    Ok(printed.finish.disk)
 }
 
 // Runs a script on a disk with no call that fails.
@@ -91,118 +132,91 @@ fn run_well<R: Threads + Wait + Sync>(
     script: &str,
     disk: MemDisk,
 ) -> Result<Printed, Fail>
-    requires geometry { IsGeometry (disk.disk.regions, disk.disk.region_len) }
-    requires synced { disk.disk.unsynced ≡ [] }
-    requires no_eyes { disk.disk.eyes ≡ [] }
-    ensures { IfOk result (λ printed. IsGeometry (printed.finish.disk.disk.regions, printed.finish.disk.disk.region_len) × (printed.finish.disk.disk.eyes ≡ [])) }
+    requires { IsReady disk.disk }
+    ensures { IfOk result (λ printed. IsLeft printed.finish.disk.disk) }
 {
-    let none = (Vec::new(alloc), Vec::new(alloc));
-    run(rt, alloc, &["run"], script, none, disk)
+    run(rt, alloc, (RUN, script, (0, 0)), disk)
 }
 
 #[test]
 fn scripts_print_their_reports(rt: HostRuntime) -> Result<(), Fail> {
     let alloc = rt.alloc();
-    let table: [(&[&str], &str, u8, &str); 22] = [
+    let table: [(&str, &str); 16] = [
         (
-            &["run"],
             "txn 1|put a 1|get a|commit|",
-            0,
             "txn 1 commit 1 epoch 1|put a|get a = 1|durable 1|",
         ),
         (
-            &["run"],
             "txn 1|put a 1|get a|commit",
-            0,
             "txn 1 commit 1 epoch 1|put a|get a = 1|durable 1|",
         ),
         (
-            &["run"],
             "txn 1\r|put a 1\r|get a\r|commit\r|",
-            0,
             "txn 1 commit 1 epoch 1|put a|get a = 1|durable 1|",
         ),
-        (&["run"], "", 0, "durable 0|"),
+        ("", "durable 0|"),
         (
-            &["run"],
             "txn 1|commit|txn 1|get x|commit|",
-            0,
             "txn 1 commit 1 epoch 1|txn 2 commit 2 epoch 1|get x none|durable 1|",
         ),
         (
-            &["run"],
             "txn 1|put a none|get a|get b|commit|",
-            0,
             "txn 1 commit 1 epoch 1|put a|get a = none|get b none|durable 1|",
         ),
         (
-            &["run"],
             "txn 1|put a 1|put a 2|get a|commit|txn 1|put a 3|commit|txn 1|get a|commit|",
-            0,
             "txn 1 commit 1 epoch 1|put a|put a|get a = 2|txn 2 commit 2 epoch 1|put a|txn 3 commit 3 epoch 1|get a = 3|durable 1|",
         ),
-        (&["run"], "txn 17|", 3, "script line 1|"),
+        ("txn 2|commit|", "txn 1 commit 1 epoch 1|durable 1|"),
+        ("txn 1|abort|", "txn 1 abort|durable 0|"),
         (
-            &["run"],
-            "txn 2|commit|",
-            0,
-            "txn 1 commit 1 epoch 1|durable 1|",
-        ),
-        (&["run"], "txn 1|abort|", 0, "txn 1 abort|durable 0|"),
-        (
-            &["run"],
             "txn 1|del a|add a 1|scan a b 1|commit|",
-            0,
             "txn 1 commit 1 epoch 1|del a none|add a = 1|scan a b 1|pair a = 1|durable 1|",
         ),
         (
-            &["run"],
             "txn 1|put a 1|commit|txn 2|put a 2|add c 5|abort|txn 16|get a|del a|scan a z 9|commit|",
-            0,
             "txn 1 commit 1 epoch 1|put a|txn 2 abort|txn 3 commit 2 epoch 1|get a = 1|del a|scan a z 0|durable 1|",
         ),
         (
-            &["run"],
             "txn 1|put a 1|commit|txn 1|put a 2|abort|txn 1|get a|commit|",
-            0,
             "txn 1 commit 1 epoch 1|put a|txn 2 abort|txn 3 commit 2 epoch 1|get a = 1|durable 1|",
         ),
         (
-            &["run"],
             "txn 1|del b|put b 5|del b|del b|put b 6|get b|commit|",
-            0,
             "txn 1 commit 1 epoch 1|del b none|put b|del b|del b none|put b|get b = 6|durable 1|",
         ),
         (
-            &["run"],
             "txn 1|add c 5|put t x|add t 1|put m 9223372036854775807|add m 1|get m|add m -9223372036854775808|commit|",
-            0,
             "txn 1 commit 1 epoch 1|add c = 5|put t|add t text|put m|add m range|get m = 9223372036854775807|add m = -1|durable 1|",
         ),
         (
-            &["run"],
             "txn 1|put b 2|put aa 1|put a 0|scan a a 5|scan a z 0|scan a c 10|commit|",
-            0,
             "txn 1 commit 1 epoch 1|put b|put aa|put a|scan a a 0|scan a z 0|scan a c 3|pair a = 0|pair aa = 1|pair b = 2|durable 1|",
         ),
         (
-            &["run"],
             "txn 1|put acct:alice 100|put acct:bob 50|commit|txn 1|add acct:alice -30|add acct:bob 30|commit|txn 1|scan acct: acct; 10|commit|",
-            0,
             "txn 1 commit 1 epoch 1|put acct:alice|put acct:bob|txn 2 commit 2 epoch 1|add acct:alice = 70|add acct:bob = 80|txn 3 commit 3 epoch 1|scan acct: acct; 2|pair acct:alice = 70|pair acct:bob = 80|durable 1|",
         ),
-        (&["run"], "txn 1|put a 1|", 3, "script line 3|"),
-        (&["run"], "txn 1|put a 1", 3, "script line 3|"),
-        (&[], "", 2, WORDS),
-        (&["run", "run"], "", 2, WORDS),
-        (&["Run"], "", 2, WORDS),
     ];
-    for (texts, script, status, text) in &table {
+    for (script, text) in &table {
         let disk = small(alloc, FaultPlan::none(alloc))?;
-        let none = (Vec::new(alloc), Vec::new(alloc));
-        let printed = run(&rt, alloc, texts, script, none, disk)?;
-        assert_eq!(rt; printed.finish.status, *status);
-        assert_eq!(rt; printed.text.as_slice(), text.as_bytes());
+        let given = (RUN, *script, (0, 0));
+        expect(&rt, alloc, given, disk, (0, *text))?;
+    }
+    Ok(())
+}
+
+#[test]
+fn a_script_that_is_refused_names_its_line(rt: HostRuntime) -> Result<(), Fail> {
+    let alloc = rt.alloc();
+    let table: [(&str, &str); 3] = [
+        ("txn 17|", "script line 1|"),
+        ("txn 1|put a 1|", "script line 3|"),
+        ("txn 1|put a 1", "script line 3|"),
+    ];
+    for (script, text) in &table {
+        let disk = small(alloc, FaultPlan::none(alloc))?;
+        expect(&rt, alloc, (RUN, *script, (0, 0)), disk, (3, *text))?;
     }
     Ok(())
 }
@@ -234,14 +248,9 @@ fn keys_and_values_have_a_length(rt: HostRuntime) -> Result<(), Fail> {
             text.push_str(LONG_KEY)?;
         }
         text.push_str(behind)?;
-        let printed = run_well(
-            &rt,
-            alloc,
-            script.as_str(),
-            small(alloc, FaultPlan::none(alloc))?,
-        )?;
-        assert_eq!(rt; printed.finish.status, *status);
-        assert_eq!(rt; printed.text.as_slice(), text.as_str().as_bytes());
+        let disk = small(alloc, FaultPlan::none(alloc))?;
+        let given = (RUN, script.as_str(), (0, 0));
+        expect(&rt, alloc, given, disk, (*status, text.as_str()))?;
     }
     Ok(())
 }
@@ -276,10 +285,9 @@ const FREE: Crafted = (0, 0, 0);
 
 // Writes a partition with no rows, or leaves the region free.
 fn craft(disk: &mut MemDisk, region: u32, part: Crafted) -> Result<(), Fail>
-    requires geometry { IsGeometry (disk.old.disk.regions, disk.old.disk.region_len) }
+    requires left { IsLeft disk.old.disk }
     requires region { region < disk.old.disk.regions }
-    requires no_eyes { disk.old.disk.eyes ≡ [] }
-    ensures { IsGeometry (disk.new.disk.regions, disk.new.disk.region_len) × (disk.new.disk.eyes ≡ []) × (disk.new.disk.regions ≡ disk.old.disk.regions) }
+    ensures { IsLeft disk.new.disk × (disk.new.disk.regions ≡ disk.old.disk.regions) }
 {
     let (mark, first, last) = part;
     let gate = if mark == 0 { 0 } else { 0xa7 };
@@ -324,9 +332,9 @@ fn a_log_reopens_to_its_chain(rt: HostRuntime) -> Result<(), Fail> {
         craft(&mut disk, 1, parts[1])?;
         craft(&mut disk, 2, parts[2])?;
         disk.sync()?;
-        let printed = run_well(&rt, alloc, script, crash(disk, &[])?)?;
-        assert_eq!(rt; printed.finish.status, *status);
-        assert_eq!(rt; printed.text.as_slice(), text.as_bytes());
+        let disk = crash(disk, &[])?;
+        let given = (RUN, *script, (0, 0));
+        expect(&rt, alloc, given, disk, (*status, *text))?;
     }
     Ok(())
 }
@@ -340,35 +348,29 @@ fn obey<R: Threads + Wait + Sync + Abort>(
     text: &str,
     disk: MemDisk,
 ) -> Result<MemDisk, Fail>
-    requires geometry { IsGeometry (disk.disk.regions, disk.disk.region_len) }
-    requires synced { disk.disk.unsynced ≡ [] }
-    requires no_eyes { disk.disk.eyes ≡ [] }
-    ensures { IfOk result (λ disk. IsGeometry (disk.disk.regions, disk.disk.region_len) × (disk.disk.unsynced ≡ []) × (disk.disk.eyes ≡ [])) }
+    requires { IsReady disk.disk }
+    ensures { IfOk result (λ disk. IsReady disk.disk) }
 {
-    let none = (Vec::new(alloc), Vec::new(alloc));
-    let printed = run(rt, alloc, texts, script, none, disk)?;
-    assert_eq!(rt; printed.finish.status, 0);
-    assert_eq!(rt; printed.text.as_slice(), text.as_bytes());
-    crash(printed.finish.disk, &[])
+    let disk = expect(rt, alloc, (texts, script, (0, 0)), disk, (0, text))?;
+    crash(disk, &[])
 }
 
 #[test]
 fn a_run_goes_on_where_the_last_one_ended(rt: HostRuntime) -> Result<(), Fail> {
     let alloc = rt.alloc();
     let disk = small(alloc, FaultPlan::none(alloc))?;
-    let texts = &["run"];
     let first = "txn 1 commit 1 epoch 1|put a|durable 1|";
-    let disk = obey(&rt, alloc, texts, "txn 1|put a 1|commit|", first, disk)?;
+    let disk = obey(&rt, alloc, RUN, "txn 1|put a 1|commit|", first, disk)?;
     let second = "txn 1 commit 1 epoch 2|put a|durable 2|";
-    let disk = obey(&rt, alloc, texts, "txn 1|put a 2|commit|", second, disk)?;
+    let disk = obey(&rt, alloc, RUN, "txn 1|put a 2|commit|", second, disk)?;
     let third = "txn 1 commit 1 epoch 3|get a = 2|durable 3|";
-    let disk = obey(&rt, alloc, texts, "txn 1|get a|commit|", third, disk)?;
-    let disk = obey(&rt, alloc, texts, "", "durable 3|", disk)?;
+    let disk = obey(&rt, alloc, RUN, "txn 1|get a|commit|", third, disk)?;
+    let disk = obey(&rt, alloc, RUN, "", "durable 3|", disk)?;
     // Three of the four regions are sealed: two of them are merged.
     let fourth = "txn 1 commit 1 epoch 4|put b|durable 4|";
-    let disk = obey(&rt, alloc, texts, "txn 1|put b 1|commit|", fourth, disk)?;
+    let disk = obey(&rt, alloc, RUN, "txn 1|put b 1|commit|", fourth, disk)?;
     let last = "txn 1 commit 1 epoch 5|get a = 2|get b = 1|durable 5|";
-    let _disk = obey(&rt, alloc, texts, "txn 1|get a|get b|commit|", last, disk)?;
+    let _disk = obey(&rt, alloc, RUN, "txn 1|get a|get b|commit|", last, disk)?;
     Ok(())
 }
 
@@ -398,23 +400,17 @@ fn each_call_that_fails_has_its_status(rt: HostRuntime) -> Result<(), Fail> {
         (0, 1, 6, 5, ""),
     ];
     for (take, put, stop, status, text) in &table {
-        let mut fails = (Vec::new(alloc), Vec::new(alloc));
-        fails.0.push(*take)?;
-        fails.1.push(*put)?;
-        let mut plan = FaultPlan::none(alloc);
-        plan.stop = *stop;
-        let printed = run(&rt, alloc, &["run"], script, fails, small(alloc, plan)?)?;
-        assert_eq!(rt; printed.finish.status, *status);
-        assert_eq!(rt; printed.text.as_slice(), text.as_bytes());
+        let disk = small(alloc, stop_at(alloc, *stop))?;
+        let given = (RUN, script, (*take, *put));
+        expect(&rt, alloc, given, disk, (*status, *text))?;
     }
     // The gate's write alone fails: a crash may leave it, or not.
     for (pick, text) in [(0xa7, "durable 1|"), (0, "durable 0|")] {
         let mut plan = FaultPlan::none(alloc);
         plan.writes.push(2)?;
-        let printed = run_well(&rt, alloc, script, small(alloc, plan)?)?;
-        assert_eq!(rt; printed.finish.status, 6);
-        assert_eq!(rt; printed.text.as_slice(), lost.as_bytes());
-        let printed = run_well(&rt, alloc, "", crash(printed.finish.disk, &[pick])?)?;
+        let disk = small(alloc, plan)?;
+        let disk = expect(&rt, alloc, (RUN, script, (0, 0)), disk, (6, lost))?;
+        let printed = run_well(&rt, alloc, "", crash(disk, &[pick])?)?;
         assert_eq!(rt; printed.text.as_slice(), text.as_bytes());
     }
     Ok(())
@@ -423,9 +419,6 @@ fn each_call_that_fails_has_its_status(rt: HostRuntime) -> Result<(), Fail> {
 #[test]
 fn a_crash_at_any_call_leaves_a_prefix(rt: HostRuntime) -> Result<(), Fail> {
     let alloc = rt.alloc();
-    let reads = "txn 1|get a|get b|get c|commit|";
-    let none = "txn 1 commit 1 epoch 1|get a none|get b none|get c none|durable 1|";
-    let all = "txn 1 commit 1 epoch 2|get a = 1|get b = 2|get c = 3|durable 2|";
     let picks: [&[u8]; 5] = [
         &[],
         &[0xa7],
@@ -435,9 +428,8 @@ fn a_crash_at_any_call_leaves_a_prefix(rt: HostRuntime) -> Result<(), Fail> {
     ];
     for stop in 0..12 {
         for pick in &picks {
-            let mut plan = FaultPlan::none(alloc);
-            plan.stop = stop;
-            let first = run_well(&rt, alloc, THREE, small(alloc, plan)?)?;
+            let disk = small(alloc, stop_at(alloc, stop))?;
+            let first = run_well(&rt, alloc, THREE, disk)?;
             let done = first.finish.status == 0;
             assert_eq!(rt; done, stop > 9);
             let opened = run_well(&rt, alloc, "", crash(first.finish.disk, pick)?)?;
@@ -445,8 +437,8 @@ fn a_crash_at_any_call_leaves_a_prefix(rt: HostRuntime) -> Result<(), Fail> {
             assert!(rt; sealed || (!done && opened.text.as_slice() == b"durable 0|".as_slice()));
             let again = run_well(&rt, alloc, "", crash(opened.finish.disk, pick)?)?;
             assert_eq!(rt; again.text.as_slice(), opened.text.as_slice());
-            let read = run_well(&rt, alloc, reads, crash(again.finish.disk, pick)?)?;
-            let text = if sealed { all } else { none };
+            let read = run_well(&rt, alloc, READ_THREE, crash(again.finish.disk, pick)?)?;
+            let text = if sealed { ALL_OF_THREE } else { NONE_OF_THREE };
             assert_eq!(rt; read.text.as_slice(), text.as_bytes());
         }
     }
@@ -488,8 +480,11 @@ fn commands_go_on_from_one_another(rt: HostRuntime) -> Result<(), Fail> {
 fn words_and_failing_calls_have_their_status(rt: HostRuntime) -> Result<(), Fail> {
     let alloc = rt.alloc();
     // The words, the numbers of the calls of the sink and of the disk that fail, the status and the text.
-    let table: [(&[&str], u64, u64, u8, &str); 14] = [
+    let table: [(&[&str], u64, u64, u8, &str); 17] = [
+        (&[], 0, u64::MAX, 2, WORDS),
         (&["fly"], 0, u64::MAX, 2, WORDS),
+        (&["Run"], 0, u64::MAX, 2, WORDS),
+        (&["run", "run"], 0, u64::MAX, 2, WORDS),
         (&["gen", "7", "5", "17"], 0, u64::MAX, 2, WORDS),
         (&["run", "--group", "0"], 0, u64::MAX, 2, WORDS),
         (&["dump", "a"], 0, u64::MAX, 2, WORDS),
@@ -511,13 +506,9 @@ fn words_and_failing_calls_have_their_status(rt: HostRuntime) -> Result<(), Fail
         (&["gen", "7", "1", "1"], 0, 1, 6, "disk|"),
     ];
     for (texts, put, stop, status, text) in &table {
-        let mut fails = (Vec::new(alloc), Vec::new(alloc));
-        fails.1.push(*put)?;
-        let mut plan = FaultPlan::none(alloc);
-        plan.stop = *stop;
-        let printed = run(&rt, alloc, texts, "", fails, small(alloc, plan)?)?;
-        assert_eq!(rt; printed.finish.status, *status);
-        assert_eq!(rt; printed.text.as_slice(), text.as_bytes());
+        let disk = small(alloc, stop_at(alloc, *stop))?;
+        let given = (*texts, "", (0, *put));
+        expect(&rt, alloc, given, disk, (*status, *text))?;
     }
     Ok(())
 }

@@ -2,8 +2,9 @@
 
 ghost use Rattle.std.specs.Prelude.{◌≡◌, [], IfOk};
 ghost use Rattle.command_words.specs.Words.{IsGeometry};
+ghost use Rattle.fine_top_tests.specs.Disks.{IsLeft, IsReady};
 
-use super::{crash, run};
+use super::{RUN, crash, expect};
 use log_disk::{FaultPlan, LogDisk, MemDisk};
 use std::alloc::Global;
 use std::process::Abort;
@@ -25,16 +26,25 @@ type Step<'a> = (
     &'a [Piece<'a>],
 );
 
-const RUN: &[&str] = &["run"];
-
 const EACH: &[&str] = &["run", "--group", "1"];
 
+const RANGES: &[&str] = &["ranges"];
+
+const DUMP: &[&str] = &["dump"];
+
+const MERGE: &[&str] = &["merge"];
+
 const NONE: &[Piece] = &[];
+
+// A command with status 0, before and after which no byte of the log is looked at.
+fn tells<'a>(words: &'a [&'a str], script: &'a str, text: &'a str) -> Step<'a> {
+    (NONE, words, script, 0, text, NONE)
+}
 
 // A new disk.
 fn new_disk(alloc: Global, regions: u32, region_len: u64) -> Result<MemDisk, Fail>
     requires { IsGeometry (regions, region_len) }
-    ensures { IfOk result (λ disk. IsGeometry (disk.disk.regions, disk.disk.region_len) × (disk.disk.unsynced ≡ []) × (disk.disk.eyes ≡ [])) }
+    ensures { IfOk result (λ disk. IsReady disk.disk) }
 {
     Ok(MemDisk::new(alloc, regions, region_len, FaultPlan::none(alloc))?)
 }
@@ -119,39 +129,48 @@ fn take_step<R: Threads + Wait + Sync + Abort>(
     mut disk: MemDisk,
     step: &Step,
 ) -> Result<MemDisk, Fail>
-    requires geometry { IsGeometry (disk.disk.regions, disk.disk.region_len) }
-    requires no_eyes { disk.disk.eyes ≡ [] }
-    ensures { IfOk result (λ disk. IsGeometry (disk.disk.regions, disk.disk.region_len) × (disk.disk.unsynced ≡ []) × (disk.disk.eyes ≡ [])) }
+    requires { IsLeft disk.disk }
+    ensures { IfOk result (λ disk. IsReady disk.disk) }
 {
     let (before, words, script, status, text, behind) = *step;
     set_all(&mut disk, before)?;
     let script = spelled(alloc, script)?;
-    let none = (Vec::new(alloc), Vec::new(alloc));
-    let printed = run(rt, alloc, words, script.as_str(), none, crash(disk, &[])?)?;
-    assert_eq!(rt; printed.finish.status, status);
-    assert_eq!(rt;
-        printed.text.as_slice(),
-        spelled(alloc, text)?.as_str().as_bytes()
-    );
-    let mut disk = printed.finish.disk;
+    let text = spelled(alloc, text)?;
+    let disk = crash(disk, &[])?;
+    let given = (words, script.as_str(), (0, 0));
+    let mut disk = expect(rt, alloc, given, disk, (status, text.as_str()))?;
     let holds = has_all(alloc, &mut disk, behind)?;
     assert!(rt; holds);
     crash(disk, &[])
 }
 
 // Takes steps on a log, one after the other.
-fn follow<R: Threads + Wait + Sync + Abort>(
+fn take_steps<R: Threads + Wait + Sync + Abort>(
     rt: &R,
     alloc: Global,
     mut disk: MemDisk,
     steps: &[Step],
-) -> Result<(), Fail>
-    requires geometry { IsGeometry (disk.disk.regions, disk.disk.region_len) }
-    requires no_eyes { disk.disk.eyes ≡ [] }
+) -> Result<MemDisk, Fail>
+    requires { IsLeft disk.disk }
+    ensures { IfOk result (λ disk. IsLeft disk.disk) }
 {
     for step in steps {
         disk = take_step(rt, alloc, disk, step)?;
     }
+    Ok(disk)
+}
+
+// Takes steps on a new log of so many regions of a length.
+fn follow<R: Threads + Wait + Sync + Abort>(
+    rt: &R,
+    alloc: Global,
+    geometry: (u32, u64),
+    steps: &[Step],
+) -> Result<(), Fail>
+    requires { IsGeometry geometry }
+{
+    let disk = new_disk(alloc, geometry.0, geometry.1)?;
+    take_steps(rt, alloc, disk, steps)?;
     Ok(())
 }
 
@@ -171,26 +190,12 @@ fn key_of(alloc: Global, number: u32) -> Result<String, Fail> {
     Ok(key)
 }
 
-// A transaction that puts all 32 keys.
-fn put_32(alloc: Global) -> Result<String, Fail> {
-    let mut script = String::new(alloc);
-    script.push_str("txn 1|")?;
+// A line that puts each of the 32 keys, or tells that it was put, behind a first line.
+fn lines_of_32(alloc: Global, first: &str, value: &str) -> Result<String, Fail> {
+    let mut text = String::from_str(alloc, first)?;
     for number in 0..32 {
         let key = key_of(alloc, number)?;
-        let line = format!(in alloc; "put {} 1|", key.as_str())?;
-        script.push_str(line.as_str())?;
-    }
-    script.push_str("commit|")?;
-    Ok(script)
-}
-
-// What that prints, up to the replies.
-fn replies_of_32(alloc: Global) -> Result<String, Fail> {
-    let mut text = String::new(alloc);
-    text.push_str("txn 1 commit 1 epoch 1|")?;
-    for number in 0..32 {
-        let key = key_of(alloc, number)?;
-        let line = format!(in alloc; "put {}|", key.as_str())?;
+        let line = format!(in alloc; "put {}{value}|", key.as_str())?;
         text.push_str(line.as_str())?;
     }
     Ok(text)
@@ -253,7 +258,7 @@ fn crafted_logs_are_refused(rt: HostRuntime) -> Result<(), Fail> {
     ];
     for (bytes, script, status, text) in &table {
         let step: Step = (&[(0, 0, *bytes)], RUN, *script, *status, *text, NONE);
-        follow(&rt, alloc, new_disk(alloc, 4, 16_384)?, &[step])?;
+        follow(&rt, alloc, (4, 16_384), &[step])?;
     }
     Ok(())
 }
@@ -285,26 +290,29 @@ fn replaced_bytes_are_named(rt: HostRuntime) -> Result<(), Fail> {
         ((0, 61, b"b"), "txn 1 none|durable 1|damaged node 97 1|"),
     ];
     for (piece, text) in &table {
-        let put: Step = (
-            NONE,
+        let put: Step = tells(
             RUN,
             "txn 1|put a 1|get a|commit|",
-            0,
             "txn 1 commit 1 epoch 1|put a|get a = 1|durable 1|",
-            NONE,
         );
         let get: Step = (&[*piece], RUN, "txn 1|get a|commit|", 7, *text, NONE);
-        follow(&rt, alloc, new_disk(alloc, 4, 16_384)?, &[put, get])?;
+        follow(&rt, alloc, (4, 16_384), &[put, get])?;
     }
     Ok(())
 }
 
+/// The parts of a log in whose second epoch a leaf of 32 pairs is split.
+const SPLIT: &str =
+    "range 1 1 region 0 rows 32|range 2 2 region 1 rows 5|range 3 3 region 2 rows 0|end 3|";
+
 #[test]
 fn a_full_leaf_is_split(rt: HostRuntime) -> Result<(), Fail> {
     let alloc = rt.alloc();
-    let mut script = put_32(alloc)?;
-    script.push_str("txn 1|put AaAaAaAaC# 1|commit|txn 1|scan AaBBBBBBBB BBAaAaAaBB 9|commit|")?;
-    let mut text = replies_of_32(alloc)?;
+    let mut script = lines_of_32(alloc, "txn 1|", " 1")?;
+    script.push_str(
+        "commit|txn 1|put AaAaAaAaC# 1|commit|txn 1|scan AaBBBBBBBB BBAaAaAaBB 9|commit|",
+    )?;
+    let mut text = lines_of_32(alloc, "txn 1 commit 1 epoch 1|", "")?;
     text.push_str(
         "txn 2 commit 2 epoch 2|put AaAaAaAaC#|txn 3 commit 3 epoch 3|scan AaBBBBBBBB BBAaAaAaBB 2|pair AaBBBBBBBB = 1|pair BBAaAaAaAa = 1|durable 3|",
     )?;
@@ -343,29 +351,30 @@ fn a_full_leaf_is_split(rt: HostRuntime) -> Result<(), Fail> {
                 (1, 376, inner),
             ],
         ),
-        (
-            NONE,
-            &["ranges"],
-            "",
-            0,
-            "range 1 1 region 0 rows 32|range 2 2 region 1 rows 5|range 3 3 region 2 rows 0|end 3|",
-            NONE,
-        ),
+        tells(RANGES, "", SPLIT),
     ];
-    follow(&rt, alloc, new_disk(alloc, 8, 16_384)?, &steps)
+    follow(&rt, alloc, (8, 16_384), &steps)
 }
 
 #[test]
 fn merged_rows_are_an_image(rt: HostRuntime) -> Result<(), Fail> {
     let alloc = rt.alloc();
-    let one = "txn 1 commit 1 epoch 1|put a|durable 1|";
-    let two = "txn 1 commit 1 epoch 2|put a|durable 2|";
-    let merged: [Step; 6] = [
-        (NONE, RUN, "txn 1|put a 1|commit|", 0, one, NONE),
-        (NONE, RUN, "txn 1|put a 2|commit|", 0, two, NONE),
+    let puts: [Step; 2] = [
+        tells(
+            RUN,
+            "txn 1|put a 1|commit|",
+            "txn 1 commit 1 epoch 1|put a|durable 1|",
+        ),
+        tells(
+            RUN,
+            "txn 1|put a 2|commit|",
+            "txn 1 commit 1 epoch 2|put a|durable 2|",
+        ),
+    ];
+    let merged: [Step; 4] = [
         (
             NONE,
-            &["merge"],
+            MERGE,
             "",
             0,
             "range 1 2 region 2 rows 1|end 2|",
@@ -382,65 +391,48 @@ fn merged_rows_are_an_image(rt: HostRuntime) -> Result<(), Fail> {
                 ),
             ],
         ),
-        (
-            NONE,
+        tells(
             RUN,
             "txn 1|put b 3|commit|",
-            0,
             "txn 1 commit 1 epoch 3|put b|durable 3|",
-            NONE,
         ),
-        (
-            NONE,
-            &["ranges"],
+        tells(
+            RANGES,
             "",
-            0,
             "range 1 2 region 2 rows 1|range 3 3 region 0 rows 1|end 3|",
-            NONE,
         ),
-        (
-            NONE,
-            &["dump"],
-            "",
-            0,
-            "pair a = 2|pair b = 3|pairs 2|",
-            NONE,
-        ),
+        tells(DUMP, "", "pair a = 2|pair b = 3|pairs 2|"),
     ];
-    follow(&rt, alloc, new_disk(alloc, 6, 16_384)?, &merged)?;
-    let closed: [Step; 4] = [
-        (NONE, RUN, "txn 1|put a 1|commit|", 0, one, NONE),
-        (NONE, RUN, "txn 1|put a 2|commit|", 0, two, NONE),
+    let closed: [Step; 2] = [
         (
             &[(1, 0, &[0x37])],
-            &["ranges"],
+            RANGES,
             "",
             0,
             "range 1 1 region 0 rows 1|end 1|",
             NONE,
         ),
-        (
-            NONE,
+        tells(
             RUN,
             "txn 1|get a|commit|",
-            0,
             "txn 1 commit 1 epoch 2|get a = 1|durable 2|",
-            NONE,
         ),
     ];
-    follow(&rt, alloc, new_disk(alloc, 6, 16_384)?, &closed)
+    for more in [&merged[..], &closed[..]] {
+        let disk = new_disk(alloc, 6, 16_384)?;
+        let disk = take_steps(&rt, alloc, disk, &puts)?;
+        take_steps(&rt, alloc, disk, more)?;
+    }
+    Ok(())
 }
 
 #[test]
 fn a_log_of_the_first_mark_goes_on_with_the_second(rt: HostRuntime) -> Result<(), Fail> {
     let alloc = rt.alloc();
-    let put: Step = (
-        NONE,
+    let put: Step = tells(
         RUN,
         "txn 1|put c 5|commit|",
-        0,
         "txn 1 commit 1 epoch 1|put c|durable 1|",
-        NONE,
     );
     let add: Step = (
         &[(0, 4, b"1")],
@@ -459,7 +451,7 @@ fn a_log_of_the_first_mark_goes_on_with_the_second(rt: HostRuntime) -> Result<()
     );
     let merge: Step = (
         NONE,
-        &["merge"],
+        MERGE,
         "",
         0,
         "range 1 2 region 2 rows 1|end 2|",
@@ -484,7 +476,7 @@ fn a_log_of_the_first_mark_goes_on_with_the_second(rt: HostRuntime) -> Result<()
         NONE,
     );
     for last in [merge, bad] {
-        follow(&rt, alloc, new_disk(alloc, 6, 16_384)?, &[put, add, last])?;
+        follow(&rt, alloc, (6, 16_384), &[put, add, last])?;
     }
     Ok(())
 }
@@ -508,16 +500,16 @@ fn a_full_log_refuses_and_a_merge_spans_regions(rt: HostRuntime) -> Result<(), F
     let mut text = spelled(alloc, FILLED)?;
     text.push_str("durable 3|")?;
     let merged: [Step; 4] = [
-        (NONE, EACH, script.as_str(), 0, text.as_str(), NONE),
+        tells(EACH, script.as_str(), text.as_str()),
         (
             NONE,
-            &["merge"],
+            MERGE,
             "",
             0,
             "range 1 3 region 0 rows 24|end 3|",
             &[(1, 0, &[0])],
         ),
-        (NONE, &["dump"], "", 0, DUMPED, NONE),
+        tells(DUMP, "", DUMPED),
         (
             &[(0, 42, &[0; 4])],
             RUN,
@@ -527,12 +519,12 @@ fn a_full_log_refuses_and_a_merge_spans_regions(rt: HostRuntime) -> Result<(), F
             NONE,
         ),
     ];
-    follow(&rt, alloc, new_disk(alloc, 8, 4096)?, &merged)?;
+    follow(&rt, alloc, (8, 4096), &merged)?;
     script.push_str("txn 1|del a|commit|")?;
     let mut text = spelled(alloc, FILLED)?;
     text.push_str("txn 4 refused full|durable 3|")?;
     let full: Step = (NONE, EACH, script.as_str(), 8, text.as_str(), NONE);
-    follow(&rt, alloc, new_disk(alloc, 4, 4096)?, &[full])?;
+    follow(&rt, alloc, (4, 4096), &[full])?;
     let large: Step = (
         NONE,
         RUN,
@@ -541,7 +533,7 @@ fn a_full_log_refuses_and_a_merge_spans_regions(rt: HostRuntime) -> Result<(), F
         "txn 1 refused large|durable 0|",
         NONE,
     );
-    follow(&rt, alloc, new_disk(alloc, 4, 4096)?, &[large])
+    follow(&rt, alloc, (4, 4096), &[large])
 }
 
 // ---- long scripts
@@ -565,17 +557,14 @@ fn two_lanes_count_in_their_order(rt: HostRuntime) -> Result<(), Fail> {
     let script = repeated(alloc, "txn 1|add c 1|commit|txn 2|add c 1|commit|", 50)?;
     let text = counted(alloc, 100)?;
     let steps: [Step; 2] = [
-        (NONE, RUN, script.as_str(), 0, text.as_str(), NONE),
-        (
-            NONE,
+        tells(RUN, script.as_str(), text.as_str()),
+        tells(
             RUN,
             "txn 1|get c|commit|",
-            0,
             "txn 1 commit 1 epoch 3|get c = 100|durable 3|",
-            NONE,
         ),
     ];
-    follow(&rt, alloc, new_disk(alloc, 8, 16_384)?, &steps)
+    follow(&rt, alloc, (8, 16_384), &steps)
 }
 
 #[test]
@@ -594,7 +583,7 @@ fn a_script_has_its_bounds(rt: HostRuntime) -> Result<(), Fail> {
         script.push_str(repeated(alloc, more, *times)?.as_str())?;
         script.push_str(if *times < 1000 { "|" } else { "" })?;
         let step: Step = (NONE, RUN, script.as_str(), *status, *text, NONE);
-        follow(&rt, alloc, new_disk(alloc, 4, 16_384)?, &[step])?;
+        follow(&rt, alloc, (4, 16_384), &[step])?;
     }
     Ok(())
 }
@@ -604,6 +593,6 @@ fn generated_transactions_are_counted(rt: HostRuntime) -> Result<(), Fail> {
     let alloc = rt.alloc();
     let text =
         "gen 7 5000 4|commits 4688|aborts 312|refused 0|none 0|keys 14064|sum 18748|durable all|";
-    let step: Step = (NONE, &["gen", "7", "5000", "4"], "", 0, text, NONE);
-    follow(&rt, alloc, new_disk(alloc, 24, 1_048_576)?, &[step])
+    let step: Step = tells(&["gen", "7", "5000", "4"], "", text);
+    follow(&rt, alloc, (24, 1_048_576), &[step])
 }

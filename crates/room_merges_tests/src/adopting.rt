@@ -8,7 +8,7 @@ ghost use Rattle.fine_model.specs.declared.Mark.TheVariants as mark;
 use crate::fixtures::{new_room, row_of, stop_at};
 use crate::stops::{crash, reopened};
 use epoch_room::{AdoptFault, Room, RoomFault};
-use fine_model::{Items, Range, Rows};
+use fine_model::{Items, Part, Range, Rows};
 use log_disk::{FaultPlan, MemDisk};
 use partition_merge::is_ordered;
 use std::alloc::Global;
@@ -42,6 +42,12 @@ fn adopt(room: &mut Room<MemDisk>, rows: &Rows) -> Result<Result<(), AdoptFault>
     Ok(room.adopt(Range { first: 1, last: 3 }, rows))
 }
 
+// Where the first part lies, and over how many regions.
+fn first_place(parts: &[Part]) -> Option<(u32, u8)> {
+    let part = parts.first().copied()?;
+    Some((part.region, part.header.regions))
+}
+
 // What taking in so many rows answers, how many regions are free then, and where the part lies.
 fn adopted(
     alloc: Global,
@@ -51,11 +57,8 @@ fn adopted(
 {
     let mut room = new_room(alloc, FaultPlan::none(alloc))?;
     let answer = adopt(&mut room, &rows_of(alloc, count)?)?;
-    let part = match room.parts().as_slice().first().copied() {
-        Some(part) => Some((part.region, part.header.regions)),
-        None => None,
-    };
-    Ok((answer, room.counts().free, part))
+    let place = first_place(room.parts().as_slice());
+    Ok((answer, room.counts().free, place))
 }
 
 #[test]

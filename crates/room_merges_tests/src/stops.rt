@@ -2,10 +2,11 @@
 
 ghost use Rattle.std.specs.Prelude.{◌≡◌, ◌≤◌, [], ◌∷◌, None, IfOk};
 ghost use Rattle.epoch_room.specs.Whole.{IsIdle};
+ghost use Rattle.room_merges_tests.specs.Turns.{HadTurns};
 
 use crate::fixtures::{Refusal, merge_idle, new_room, seal_some, stop_at, text, value};
 use epoch_room::{Room, RoomFault};
-use fine_model::{FetchFault, Items, Node, NodeId};
+use fine_model::{Bytes, FetchFault, Items, Node, NodeId};
 use log_disk::{FaultPlan, LogEye, MemDisk};
 use partition_hold::View;
 use reopen::open_log;
@@ -61,13 +62,20 @@ fn merge_thrice(room: &mut Room<MemDisk>, alloc: Global) -> [Answer; 3]
 
 // ---- calls that fail
 
+// Two epochs more of one row each.
+fn seal_two(room: &mut Room<MemDisk>, alloc: Global) -> Result<(), Refusal>
+    ensures { HadTurns room.old room.new }
+{
+    seal_some(room, alloc, 1, 1, 1)?;
+    seal_some(room, alloc, 2, 1, 1)
+}
+
 // A room of two parts of one row, which take four calls of the disk each.
 fn two_parts(alloc: Global, plan: FaultPlan) -> Result<Room<MemDisk>, Fail>
     ensures { IfOk result (λ room. (room.room.board ≡ None ∷ None ∷ None ∷ []) × (room.room.job ≡ None)) }
 {
     let mut room = new_room(alloc, plan)?;
-    seal_some(&mut room, alloc, 1, 1, 1)?;
-    seal_some(&mut room, alloc, 2, 1, 1)?;
+    seal_two(&mut room, alloc)?;
     Ok(room)
 }
 
@@ -123,15 +131,21 @@ fn a_read_that_fails_leaves_the_room_open(rt: HostRuntime) -> Result<(), Fail> {
 
 // ---- crashes
 
-// A room of three parts of eight rows each, which take twelve calls of the disk. Each row has 279 bytes, so that the merged rows of two
-// parts need two regions.
+// Three epochs more of eight rows each. Each row has 279 bytes, so that the merged rows of two parts need two regions.
+fn seal_three(room: &mut Room<MemDisk>, alloc: Global) -> Result<(), Refusal>
+    ensures { HadTurns room.old room.new }
+{
+    seal_some(room, alloc, 1, 8, 256)?;
+    seal_some(room, alloc, 9, 8, 256)?;
+    seal_some(room, alloc, 17, 8, 256)
+}
+
+// A room of three such parts, which take twelve calls of the disk.
 pub fn three_parts(alloc: Global, plan: FaultPlan) -> Result<Room<MemDisk>, Fail>
     ensures { IfOk result (λ room. (room.room.board ≡ None ∷ None ∷ None ∷ []) × (room.room.job ≡ None)) }
 {
     let mut room = new_room(alloc, plan)?;
-    seal_some(&mut room, alloc, 1, 8, 256)?;
-    seal_some(&mut room, alloc, 9, 8, 256)?;
-    seal_some(&mut room, alloc, 17, 8, 256)?;
+    seal_three(&mut room, alloc)?;
     Ok(room)
 }
 
@@ -149,13 +163,22 @@ pub fn crash(alloc: Global, room: Room<MemDisk>, byte: u8, len: usize) -> Result
     }
 }
 
-// The leaf of one value of so many bytes.
+// The pair of the key `a` and a value of so many bytes.
+fn pair_of(alloc: Global, len: usize) -> Result<(Bytes, Bytes), Refusal>
+    requires some { 1 ≤ len }
+    requires few { len ≤ 256 }
+{
+    Ok((text(alloc, b"a")?, value(alloc, len)?))
+}
+
+// The leaf of one such pair.
 fn leaf_of(alloc: Global, len: usize) -> Result<Node, Refusal>
     requires some { 1 ≤ len }
     requires few { len ≤ 256 }
 {
+    let pair = pair_of(alloc, len)?;
     let mut pairs = Items::new(alloc);
-    match pairs.push((text(alloc, b"a")?, value(alloc, len)?)) {
+    match pairs.push(pair) {
         Ok(()) => Ok(Node::Leaf { pairs }),
         Err(_refused) => Err("memory"),
     }

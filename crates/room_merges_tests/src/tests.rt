@@ -70,13 +70,20 @@ fn five_parts_become_one(rt: HostRuntime) -> Result<(), Fail> {
 
 // ---- rows that are folded
 
-// A room whose first node was put twice at one key, in two epochs.
+// Puts the first node twice at one key, in two epochs more.
+fn seal_both(room: &mut Room<MemDisk>, alloc: Global) -> Result<(), Refusal>
+    ensures { HadTurns room.old room.new }
+{
+    seal_version(room, alloc, 1, b"1")?;
+    seal_version(room, alloc, 2, b"2")
+}
+
+// A room with these two parts.
 fn put_twice(alloc: Global) -> Result<Room<MemDisk>, Fail>
     ensures { IfOk result (λ room. (room.room.board ≡ None ∷ None ∷ None ∷ []) × (room.room.job ≡ None)) }
 {
     let mut room = new_room(alloc, FaultPlan::none(alloc))?;
-    seal_version(&mut room, alloc, 1, b"1")?;
-    seal_version(&mut room, alloc, 2, b"2")?;
+    seal_both(&mut room, alloc)?;
     Ok(room)
 }
 

@@ -156,13 +156,19 @@ fn late_tree(alloc: Global) -> Result<Tree, NoMemory> {
     tree_of(alloc, rows.as_slice())
 }
 
+/// Behind a put to such a tree: whether each call that changes the key would pass the limit, whether another key was there, and how many bytes
+/// were pushed.
+fn behind_the_last(alloc: Global) -> Result<([bool; 3], bool, usize), TreeFault> {
+    let mut tree = late_tree(alloc)?;
+    put(&mut tree, KEY, b"5")?;
+    let over = are_over(&mut tree);
+    let there = del(&mut tree, b"BBBBBBBBBB")?;
+    Ok((over, there, tree.log.bytes().len()))
+}
+
 #[test]
 fn the_last_version_of_a_node_is_its_last(rt: HostRuntime) -> Result<(), Fail> {
-    let mut tree = late_tree(rt.alloc())?;
-    put(&mut tree, KEY, b"5")?;
-    assert_eq!(rt; are_over(&mut tree), [true; 3]);
-    assert!(rt; !del(&mut tree, b"BBBBBBBBBB")?);
-    assert_eq!(rt; tree.log.bytes().len(), 33);
+    assert_eq!(rt; behind_the_last(rt.alloc())?, ([true; 3], false, 33));
     Ok(())
 }
 

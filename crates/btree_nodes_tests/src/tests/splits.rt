@@ -59,12 +59,17 @@ pub fn put_keys(
     Ok(())
 }
 
-/// What a cached head says of the next unused number and of the depth.
-pub fn head_of(tree: &Tree) -> Option<(u32, u8)> {
-    match tree.bucket.peek(0)?.node {
+/// What a node says of the next unused number and of the depth, where it is a head.
+fn numbers_of(node: &Node) -> Option<(u32, u8)> {
+    match *node {
         Node::Head { next, depth, .. } => Some((next, depth)),
         _ => None,
     }
+}
+
+/// What a cached head says of them.
+pub fn head_of(tree: &Tree) -> Option<(u32, u8)> {
+    numbers_of(&tree.bucket.peek(0)?.node)
 }
 
 /// The depth that a cached head says, or 0.
@@ -135,15 +140,23 @@ fn count_in_rows(alloc: Global, rows: &[u8], many: u32) -> Result<u32, TreeFault
     })
 }
 
-/// What is found is compared with the keys: in the tree, and in a tree on the rows that were pushed.
+/// The depth of a tree whose keys are set in an order, and how many keys it has: itself, and a tree on the rows that were pushed.
+fn measured(alloc: Global, many: u32, step: u32) -> Result<(u8, u32, u32), TreeFault> {
+    let mut tree = grown(alloc, many, step)?;
+    let depth = depth_of(&tree);
+    let found = count_keys(&mut tree, many)?;
+    let again = count_in_rows(alloc, tree.log.bytes(), many)?;
+    Ok((depth, found, again))
+}
+
 #[test]
 fn trees_grow_to_depth_3(rt: HostRuntime) -> Result<(), Fail> {
     for (many, step) in [(600, 1), (600, 599), (900, 371)] {
-        let mut tree = grown(rt.alloc(), many, step)?;
-        assert_eq!(rt; depth_of(&tree), 3, "step {step}");
-        assert_eq!(rt; count_keys(&mut tree, many)?, many, "step {step}");
-        let again = count_in_rows(rt.alloc(), tree.log.bytes(), many)?;
-        assert_eq!(rt; again, many, "step {step}");
+        assert_eq!(rt;
+            measured(rt.alloc(), many, step)?,
+            (3, many, many),
+            "step {step}"
+        );
     }
     Ok(())
 }

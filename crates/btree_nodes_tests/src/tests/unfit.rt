@@ -63,11 +63,16 @@ const SEPARATOR: Broken = (
     2,
 );
 
+fn push_line(rows: &mut Vec<u8>, line: Line) -> Result<(), NoMemory> {
+    let (kind, number, version, body) = line;
+    push(rows, kind, number, version, body)
+}
+
 /// A tree on these rows.
 fn tree_on(alloc: Global, lines: &[Line]) -> Result<Tree, NoMemory> {
     let mut rows = Vec::new(alloc);
-    for (kind, number, version, body) in lines {
-        push(&mut rows, *kind, *number, *version, body)?;
+    for line in lines {
+        push_line(&mut rows, *line)?;
     }
     tree_of(alloc, rows.as_slice())
 }

@@ -5,7 +5,7 @@ ghost use Rattle.std.specs.Prelude.{◌≤◌, IfOk};
 use super::fixtures::{Tree, add, del, get, put, tree_of};
 use super::keys::key_at;
 use super::scans::pairs_between;
-use super::splits::depth_of;
+use super::splits::{depth_of, is_pair};
 use btree_nodes::TreeFault;
 use fine_model::{Bytes, NoMemory, Reply, number_of, number_text};
 use std::alloc::Global;
@@ -96,11 +96,10 @@ fn are_first(
         if at >= limit as usize {
             break;
         }
-        let Some((key, value)) = found.get(at) else {
+        let Some(pair) = found.get(at) else {
             return Ok(false);
         };
-        let right = key_at(alloc, *place, 13)?;
-        if key.as_slice() != right.as_slice() || value.as_slice() != wanted.as_slice() {
+        if !is_pair(alloc, pair, *place, wanted.as_slice())? {
             return Ok(false);
         }
         at = at.saturating_add(1);
@@ -183,13 +182,24 @@ fn count_in_rows(alloc: Global, rows: &[u8], map: &Map) -> Result<u32, TreeFault
     Ok(if agrees { right } else { 0 })
 }
 
+/// Sets each key and then makes ten thousand calls by chance. Answers how many agreed, the depth, and how many keys agree in a tree on the
+/// rows that were pushed.
+fn call_and_count(tree: &mut Tree, map: &mut Map) -> Result<(u32, u8, u32), TreeFault> {
+    put_all(tree, map)?;
+    let right = call_many(tree, map, 10_000)?;
+    let kept = count_in_rows(tree.alloc, tree.log.bytes(), map)?;
+    Ok((right, depth_of(tree), kept))
+}
+
+/// So of a tree and a map that were empty.
+fn count_from_none(alloc: Global) -> Result<(u32, u8, u32), TreeFault> {
+    let mut tree = tree_of(alloc, b"")?;
+    let mut map = BTreeMap::new(alloc);
+    call_and_count(&mut tree, &mut map)
+}
+
 #[test]
 fn ten_thousand_calls_agree_with_an_ordered_map(rt: HostRuntime) -> Result<(), Fail> {
-    let mut tree = tree_of(rt.alloc(), b"")?;
-    let mut map = BTreeMap::new(rt.alloc());
-    put_all(&mut tree, &mut map)?;
-    assert_eq!(rt; call_many(&mut tree, &mut map, 10_000)?, 10_000);
-    assert_eq!(rt; depth_of(&tree), 3);
-    assert_eq!(rt; count_in_rows(rt.alloc(), tree.log.bytes(), &map)?, KEYS);
+    assert_eq!(rt; count_from_none(rt.alloc())?, (10_000, 3, KEYS));
     Ok(())
 }

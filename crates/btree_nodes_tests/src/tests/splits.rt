@@ -61,8 +61,8 @@ pub fn put_keys(
 
 /// What a node says of the next unused number and of the depth, where it is a head.
 fn numbers_of(node: &Node) -> Option<(u32, u8)> {
-    match *node {
-        Node::Head { next, depth, .. } => Some((next, depth)),
+    match node {
+        Node::Head { next, depth, .. } => Some((*next, *depth)),
         _ => None,
     }
 }
@@ -80,16 +80,32 @@ pub fn depth_of(tree: &Tree) -> u8 {
     }
 }
 
+/// Whether the key of thirteen pieces at a place is there.
+fn has_key(tree: &mut Tree, place: u32) -> Result<bool, TreeFault> {
+    let key = key_at(tree.alloc, place, 13)?;
+    Ok(get(tree, key.as_slice())?.is_some())
+}
+
 /// How many of the first keys of thirteen pieces are there.
 pub fn count_keys(tree: &mut Tree, many: u32) -> Result<u32, TreeFault> {
     let mut count = 0u32;
     for place in 0..many {
-        let key = key_at(tree.alloc, place, 13)?;
-        if get(tree, key.as_slice())?.is_some() {
+        if has_key(tree, place)? {
             count = count.saturating_add(1);
         }
     }
     Ok(count)
+}
+
+/// Whether a pair is the key of thirteen pieces at a place, with this value.
+pub fn is_pair(
+    alloc: Global,
+    pair: &(Bytes, Bytes),
+    place: u32,
+    value: &[u8],
+) -> Result<bool, NoMemory> {
+    let key = key_at(alloc, place, 13)?;
+    Ok(pair.0.as_slice() == key.as_slice() && pair.1.as_slice() == value)
 }
 
 /// Whether pairs are so many keys of thirteen pieces from a place on, each with `1`.
@@ -100,9 +116,8 @@ pub fn are_keys(
     many: u32,
 ) -> Result<bool, NoMemory> {
     let mut place = first;
-    for (key, value) in pairs {
-        let wanted = key_at(alloc, place, 13)?;
-        if key.as_slice() != wanted.as_slice() || value.as_slice() != b"1".as_slice() {
+    for pair in pairs {
+        if !is_pair(alloc, pair, place, b"1")? {
             return Ok(false);
         }
         place = place.saturating_add(1);
@@ -110,14 +125,30 @@ pub fn are_keys(
     Ok(place.saturating_sub(first) == many)
 }
 
+/// Whether the rows of that split stand in a log behind so many bytes, and nothing behind them.
+fn ends_in_split(alloc: Global, log: &[u8], at: usize) -> Result<bool, NoMemory> {
+    let rows = rows_of_split(alloc)?;
+    Ok(log.get(at..) == Some(rows.as_slice()))
+}
+
+/// How many bytes the 32 keys of a full leaf push, and whether the next key pushes the rows of its split.
+fn split_leaf(tree: &mut Tree) -> Result<(usize, bool), TreeFault> {
+    put_keys(tree, 32, 5, 1, 32)?;
+    let many = tree.log.bytes().len();
+    put(tree, b"AaAaAaAaC#", b"1")?;
+    let splits = ends_in_split(tree.alloc, tree.log.bytes(), many)?;
+    Ok((many, splits))
+}
+
+/// So of a tree that was empty.
+fn split_empty(alloc: Global) -> Result<(usize, bool), TreeFault> {
+    let mut tree = tree_of(alloc, b"")?;
+    split_leaf(&mut tree)
+}
+
 #[test]
 fn the_33rd_key_of_a_leaf_splits_it(rt: HostRuntime) -> Result<(), Fail> {
-    let mut tree = tree_of(rt.alloc(), b"")?;
-    put_keys(&mut tree, 32, 5, 1, 32)?;
-    assert_eq!(rt; tree.log.bytes().len(), 1056);
-    put(&mut tree, b"AaAaAaAaC#", b"1")?;
-    let rows = rows_of_split(rt.alloc())?;
-    assert_eq!(rt; tree.log.bytes().get(1056..), Some(rows.as_slice()));
+    assert_eq!(rt; split_empty(rt.alloc())?, (1056, true));
     Ok(())
 }
 
@@ -140,13 +171,18 @@ fn count_in_rows(alloc: Global, rows: &[u8], many: u32) -> Result<u32, TreeFault
     })
 }
 
-/// The depth of a tree whose keys are set in an order, and how many keys it has: itself, and a tree on the rows that were pushed.
+/// The depth of a tree, and how many keys it has: itself, and a tree on the rows that were pushed.
+fn measure(tree: &mut Tree, many: u32) -> Result<(u8, u32, u32), TreeFault> {
+    let depth = depth_of(tree);
+    let found = count_keys(tree, many)?;
+    let again = count_in_rows(tree.alloc, tree.log.bytes(), many)?;
+    Ok((depth, found, again))
+}
+
+/// So of a tree whose keys are set in an order.
 fn measured(alloc: Global, many: u32, step: u32) -> Result<(u8, u32, u32), TreeFault> {
     let mut tree = grown(alloc, many, step)?;
-    let depth = depth_of(&tree);
-    let found = count_keys(&mut tree, many)?;
-    let again = count_in_rows(alloc, tree.log.bytes(), many)?;
-    Ok((depth, found, again))
+    measure(&mut tree, many)
 }
 
 #[test]

@@ -15,6 +15,8 @@ use std::thread::Threads;
 
 mod worked;
 
+use worked::{has_piece, new_disk, set_piece};
+
 const ROOM: usize = 8192;
 
 const LENGTH: u64 = 16_384;
@@ -64,11 +66,21 @@ fn crash(disk: MemDisk, picks: &[u8]) -> Result<MemDisk, Fail>
     Ok(disk.crashed(picks)?)
 }
 
+// A plan by which these writes of the disk fail, and each of its calls from a number on.
+fn failing(alloc: Global, writes: Vec<u64>, stop: u64) -> FaultPlan {
+    FaultPlan {
+        reads: Vec::new(alloc),
+        writes,
+        syncs: Vec::new(alloc),
+        eyes: Vec::new(alloc),
+        eye_reads: Vec::new(alloc),
+        stop,
+    }
+}
+
 // A plan by which each call of the disk fails from a number on.
 fn stop_at(alloc: Global, stop: u64) -> FaultPlan {
-    let mut plan = FaultPlan::none(alloc);
-    plan.stop = stop;
-    plan
+    failing(alloc, Vec::new(alloc), stop)
 }
 
 // The bytes of a text, with another one in place of one of them.
@@ -86,6 +98,24 @@ fn source_of(alloc: Global, script: &str, fail: u64) -> Result<MemSource, NoMemo
     Ok(MemSource::new(bytes, Vec::from_slice(alloc, &[fail])?))
 }
 
+// The words of a command.
+fn words_of(alloc: Global, texts: &[&str]) -> Result<Vec<String>, NoMemory> {
+    let mut words = Vec::new(alloc);
+    for text in texts {
+        words.push(String::from_str(alloc, text)?)?;
+    }
+    Ok(words)
+}
+
+// Texts one behind the other.
+fn joined(alloc: Global, texts: &[&str]) -> Result<String, NoMemory> {
+    let mut whole = String::new(alloc);
+    for text in texts {
+        whole.push_str(text)?;
+    }
+    Ok(whole)
+}
+
 // Runs a script.
 fn run<R: Threads + Wait + Sync>(
     rt: &R,
@@ -97,10 +127,7 @@ fn run<R: Threads + Wait + Sync>(
     ensures { IfOk result (λ printed. IsLeft printed.finish.disk.disk) }
 {
     let (texts, script, fails) = given;
-    let mut words = Vec::new(alloc);
-    for text in texts {
-        words.push(String::from_str(alloc, text)?)?;
-    }
+    let words = words_of(alloc, texts)?;
     let mut source = source_of(alloc, script, fails.0)?;
     let mut sink = MemSink::new(alloc, ROOM, Vec::from_slice(alloc, &[fails.1])?)?;
     let finish = fineline(rt, alloc, &words, &mut source, &mut sink, disk, &NoGate);
@@ -224,30 +251,30 @@ fn a_script_that_is_refused_names_its_line(rt: HostRuntime) -> Result<(), Fail> 
 #[test]
 fn keys_and_values_have_a_length(rt: HostRuntime) -> Result<(), Fail> {
     let alloc = rt.alloc();
-    let table: [(&str, &str, u8, &str, &str); 3] = [
-        ("", "", 0, "txn 1 commit 1 epoch 1|put ", "|durable 1|"),
-        ("k", "", 3, "script line 2|", ""),
-        ("", "v", 3, "script line 2|", ""),
+    let table: [(&str, &str, u8, &[&str]); 3] = [
+        (
+            "",
+            "",
+            0,
+            &["txn 1 commit 1 epoch 1|put ", LONG_KEY, "|durable 1|"],
+        ),
+        ("k", "", 3, &["script line 2|"]),
+        ("", "v", 3, &["script line 2|"]),
     ];
-    for (more_key, more_value, status, before, behind) in &table {
-        let mut script = String::new(alloc);
-        for piece in [
-            "txn 1|put ",
-            LONG_KEY,
-            more_key,
-            " ",
-            LONG_VALUE,
-            more_value,
-            "|commit|",
-        ] {
-            script.push_str(piece)?;
-        }
-        let mut text = String::new(alloc);
-        text.push_str(before)?;
-        if *status == 0 {
-            text.push_str(LONG_KEY)?;
-        }
-        text.push_str(behind)?;
+    for (more_key, more_value, status, texts) in &table {
+        let script = joined(
+            alloc,
+            &[
+                "txn 1|put ",
+                LONG_KEY,
+                more_key,
+                " ",
+                LONG_VALUE,
+                more_value,
+                "|commit|",
+            ],
+        )?;
+        let text = joined(alloc, texts)?;
         let disk = small(alloc, FaultPlan::none(alloc))?;
         let given = (RUN, script.as_str(), (0, 0));
         expect(&rt, alloc, given, disk, (*status, text.as_str()))?;
@@ -263,39 +290,42 @@ fn the_first_epoch_is_a_partition(rt: HostRuntime) -> Result<(), Fail> {
         0, 0, 0, 0, 1, 0, 0, 0, 1, 0, 0, 0, 1, 0, 0, 0, 0x18, 4, 0, 0x61, 0, 0, 0, 1, 0, 0, 0, 0,
         0, 0, 0, 1, 0, 0, 0, 5, 1, 0x61, 0, 1, 0x31, 0, 0x61, 0, 0, 0, 1, 0, 0, 0, 0, 0, 0, 0, 1,
     ];
-    let mut words = Vec::new(alloc);
-    words.push(String::from_str(alloc, "-")?)?;
-    words.push(String::from_str(alloc, "4x4096")?)?;
+    let words = words_of(alloc, &["-", "4x4096"])?;
     assert_eq!(rt; geometry_of(&words), Some((4, 4_194_304)));
-    let disk = MemDisk::new(alloc, 4, 4_194_304, FaultPlan::none(alloc))?;
-    let printed = run_well(&rt, alloc, "txn 1|put a 1|get a|commit|", disk)?;
-    let mut disk = printed.finish.disk;
+    let disk = new_disk(alloc, 4, 4_194_304)?;
+    let mut disk = run_well(&rt, alloc, "txn 1|put a 1|get a|commit|", disk)?
+        .finish
+        .disk;
     assert_eq!(rt; disk.regions(), 4);
     assert_eq!(rt; disk.region_len(), 4_194_304);
-    let mut bytes = [0u8; 79];
-    disk.read(0, 0, &mut bytes)?;
-    assert_eq!(rt; bytes, vector);
+    let holds = has_piece(alloc, &mut disk, &(0, 0, &vector))?;
+    assert!(rt; holds);
     Ok(())
 }
 
-// The first bytes of a region: a partition with no rows, or with the mark 0 a region that is free.
+// What a region of a crafted log begins with: a partition with no rows, or with the mark 0 a region that is free.
 type Crafted = (u8, u64, u64);
 
 const FREE: Crafted = (0, 0, 0);
 
-// Writes a partition with no rows, or leaves the region free.
-fn craft(disk: &mut MemDisk, region: u32, part: Crafted) -> Result<(), Fail>
-    requires left { IsLeft disk.old.disk }
-    requires region { region < disk.old.disk.regions }
-    ensures { IsLeft disk.new.disk × (disk.new.disk.regions ≡ disk.old.disk.regions) }
-{
+// The first bytes of a region.
+fn crafted(alloc: Global, part: Crafted) -> Result<Vec<u8>, NoMemory> {
     let (mark, first, last) = part;
     let gate = if mark == 0 { 0 } else { 0xa7 };
-    disk.write(region, 0, &[gate, 0x46, 0x4c, 0x50, mark])?;
-    disk.write(region, 5, &LENGTH.to_be_bytes())?;
-    disk.write(region, 13, &first.to_be_bytes())?;
-    disk.write(region, 21, &last.to_be_bytes())?;
-    Ok(())
+    let mut bytes = Vec::from_slice(alloc, &[gate, 0x46, 0x4c, 0x50, mark])?;
+    for number in [LENGTH, first, last] {
+        bytes.extend_from_slice(&number.to_be_bytes())?;
+    }
+    Ok(bytes)
+}
+
+// Writes a partition with no rows, or leaves the region free.
+fn craft(alloc: Global, disk: &mut MemDisk, region: u32, part: Crafted) -> Result<(), Fail>
+    requires { IsLeft disk.old.disk }
+    ensures { IsLeft disk.new.disk }
+{
+    let bytes = crafted(alloc, part)?;
+    set_piece(disk, &(region, 0, &bytes))
 }
 
 #[test]
@@ -328,10 +358,9 @@ fn a_log_reopens_to_its_chain(rt: HostRuntime) -> Result<(), Fail> {
     ];
     for (parts, script, status, text) in &table {
         let mut disk = small(alloc, FaultPlan::none(alloc))?;
-        craft(&mut disk, 0, parts[0])?;
-        craft(&mut disk, 1, parts[1])?;
-        craft(&mut disk, 2, parts[2])?;
-        disk.sync()?;
+        craft(alloc, &mut disk, 0, parts[0])?;
+        craft(alloc, &mut disk, 1, parts[1])?;
+        craft(alloc, &mut disk, 2, parts[2])?;
         let disk = crash(disk, &[])?;
         let given = (RUN, *script, (0, 0));
         expect(&rt, alloc, given, disk, (*status, *text))?;
@@ -406,12 +435,11 @@ fn each_call_that_fails_has_its_status(rt: HostRuntime) -> Result<(), Fail> {
     }
     // The gate's write alone fails: a crash may leave it, or not.
     for (pick, text) in [(0xa7, "durable 1|"), (0, "durable 0|")] {
-        let mut plan = FaultPlan::none(alloc);
-        plan.writes.push(2)?;
-        let disk = small(alloc, plan)?;
+        let writes = Vec::from_slice(alloc, &[2])?;
+        let disk = small(alloc, failing(alloc, writes, u64::MAX))?;
         let disk = expect(&rt, alloc, (RUN, script, (0, 0)), disk, (6, lost))?;
-        let printed = run_well(&rt, alloc, "", crash(disk, &[pick])?)?;
-        assert_eq!(rt; printed.text.as_slice(), text.as_bytes());
+        let disk = crash(disk, &[pick])?;
+        expect(&rt, alloc, (RUN, "", (0, 0)), disk, (0, text))?;
     }
     Ok(())
 }

@@ -1,7 +1,8 @@
 //! Worked rows: commands that follow on one log, what each prints, and bytes that it leaves.
 
-ghost use Rattle.std.specs.Prelude.{◌≡◌, [], IfOk};
+ghost use Rattle.std.specs.Prelude.{◌≡◌, [], IfOk, length};
 ghost use Rattle.command_words.specs.Words.{IsGeometry};
+ghost use Rattle.log_disk.specs.Disk.{IsWithin};
 ghost use Rattle.fine_top_tests.specs.Disks.{IsLeft, IsReady};
 
 use super::{RUN, crash, expect};
@@ -42,7 +43,7 @@ fn tells<'a>(words: &'a [&'a str], script: &'a str, text: &'a str) -> Step<'a> {
 }
 
 // A new disk.
-fn new_disk(alloc: Global, regions: u32, region_len: u64) -> Result<MemDisk, Fail>
+pub fn new_disk(alloc: Global, regions: u32, region_len: u64) -> Result<MemDisk, Fail>
     requires { IsGeometry (regions, region_len) }
     ensures { IfOk result (λ disk. IsReady disk.disk) }
 {
@@ -70,8 +71,18 @@ fn repeated(alloc: Global, text: &str, times: u32) -> Result<String, Fail> {
     Ok(whole)
 }
 
+// Writes bytes at a place of a region that has room for them.
+fn write_piece(disk: &mut MemDisk, region: u32, at: u64, bytes: &[u8]) -> Result<(), Fail>
+    requires within { IsWithin disk.old.disk region at (length bytes.now) }
+    requires no_eyes { disk.old.disk.eyes ≡ [] }
+    ensures { (disk.new.disk.regions ≡ disk.old.disk.regions) × (disk.new.disk.region_len ≡ disk.old.disk.region_len) × (disk.new.disk.eyes ≡ []) }
+{
+    disk.write(region, at, bytes)?;
+    Ok(())
+}
+
 // Writes bytes, which a crash leaves.
-fn set_piece(disk: &mut MemDisk, piece: &Piece) -> Result<(), Fail>
+pub fn set_piece(disk: &mut MemDisk, piece: &Piece) -> Result<(), Fail>
     requires no_eyes { disk.old.disk.eyes ≡ [] }
     ensures { (disk.new.disk.regions ≡ disk.old.disk.regions) × (disk.new.disk.region_len ≡ disk.old.disk.region_len) × (disk.new.disk.eyes ≡ []) }
 {
@@ -79,13 +90,13 @@ fn set_piece(disk: &mut MemDisk, piece: &Piece) -> Result<(), Fail>
     if disk.regions() <= region || disk.region_len().saturating_sub(at) < 1 + bytes.len() as u64 {
         return Err("piece")?;
     }
-    disk.write(region, at, bytes)?;
+    write_piece(disk, region, at, bytes)?;
     disk.sync()?;
     Ok(())
 }
 
 // Whether the log has these bytes.
-fn has_piece(alloc: Global, disk: &mut MemDisk, piece: &Piece) -> Result<bool, Fail>
+pub fn has_piece(alloc: Global, disk: &mut MemDisk, piece: &Piece) -> Result<bool, Fail>
     requires no_eyes { disk.old.disk.eyes ≡ [] }
     ensures { (disk.new.disk.regions ≡ disk.old.disk.regions) × (disk.new.disk.region_len ≡ disk.old.disk.region_len) × (disk.new.disk.eyes ≡ []) }
 {
@@ -179,13 +190,8 @@ fn follow<R: Threads + Wait + Sync + Abort>(
 // The keys of five pieces, each `Aa` or `BB`, in order.
 fn key_of(alloc: Global, number: u32) -> Result<String, Fail> {
     let mut key = String::new(alloc);
-    for place in 0..5u32 {
-        let piece = if number >> (4 - place) & 1 == 0 {
-            "Aa"
-        } else {
-            "BB"
-        };
-        key.push_str(piece)?;
+    for bit in [16, 8, 4, 2, 1] {
+        key.push_str(if number & bit == 0 { "Aa" } else { "BB" })?;
     }
     Ok(key)
 }

@@ -75,15 +75,26 @@ fn commit<D: LogDisk>(room: &mut Room<D>, log: &PrivateLog) -> Result<Stamp, Fai
     }
 }
 
+// An entry more, in a node.
+fn commit_one<D: LogDisk>(room: &mut Room<D>, alloc: Global, number: u32) -> Result<Stamp, Fail>
+    requires low { 1 ≤ number }
+    requires high { number < 8 }
+    ensures waits { OnOk result (1 ≤ room.new.room.waiting) }
+    ensures same { OnOk result ((room.new.room.board ≡ room.old.room.board) × (room.new.room.job ≡ room.old.room.job) × (is_some room.new.room.image ≡ is_some room.old.room.image)) }
+{
+    let log = put(alloc, number)?;
+    commit(room, &log)
+}
+
 // An epoch more of one entry, in a node.
-fn seal_one<D: LogDisk>(room: &mut Room<D>, alloc: Global, number: u32) -> Result<(), Fail>
+fn seal_one<D: LogDisk>(room: &mut Room<D>, alloc: Global, number: u32) -> Result<Stamp, Fail>
     requires low { 1 ≤ number }
     requires high { number < 8 }
     ensures { OnOk result ((room.new.room.board ≡ room.old.room.board) × (room.new.room.job ≡ room.old.room.job) × (is_some room.new.room.image ≡ is_some room.old.room.image)) }
 {
-    commit(room, &put(alloc, number)?)?;
+    let stamp = commit_one(room, alloc, number)?;
     match room.seal() {
-        Ok(_epoch) => Ok(()),
+        Ok(_epoch) => Ok(stamp),
         Err(_fault) => Err("seal")?,
     }
 }
@@ -93,10 +104,26 @@ fn seal_two<D: LogDisk>(room: &mut Room<D>, alloc: Global) -> Result<(), Fail>
     ensures { OnOk result ((room.new.room.board ≡ room.old.room.board) × (room.new.room.job ≡ room.old.room.job) × (is_some room.new.room.image ≡ is_some room.old.room.image)) }
 {
     seal_one(room, alloc, 1)?;
-    seal_one(room, alloc, 2)
+    seal_one(room, alloc, 2)?;
+    Ok(())
+}
+
+// A new room with two epochs, each of whose calls fails from a number on.
+fn room_of_two(alloc: Global, stop: u64) -> Result<Room<MemDisk>, Fail>
+    ensures { IfOk result (λ room. (room.room.board ≡ None ∷ None ∷ None ∷ []) × (room.room.job ≡ None)) }
+{
+    let mut room = new_room(alloc, 4096, stop)?;
+    seal_two(&mut room, alloc)?;
+    Ok(room)
 }
 
 // ---- a new room, and its first epoch
+
+// Whether an epoch's entries of these bytes fit into a new room.
+fn fit_anew(alloc: Global, cost: u64) -> Result<Fit, Fail> {
+    let room = new_room(alloc, 4096, MOST)?;
+    Ok(room.fit(cost))
+}
 
 #[test]
 fn a_new_room_has_its_regions(rt: HostRuntime) -> Result<(), Fail> {
@@ -105,25 +132,30 @@ fn a_new_room_has_its_regions(rt: HostRuntime) -> Result<(), Fail> {
         room: 4096,
     };
     for (cost, fit) in [(4055, Fit::Fits), (4056, larger)] {
-        assert_eq!(rt; new_room(rt.alloc(), 4096, MOST)?.fit(cost), fit);
+        assert_eq!(rt; fit_anew(rt.alloc(), cost)?, fit);
     }
     Ok(())
 }
 
-// How a new room's first epoch of one entry is sealed: its stamp, the room in numbers, and the disk's bytes.
-fn first_epoch(alloc: Global) -> Result<(Stamp, Counts, [u8; 79]), Fail> {
-    let mut room = new_room(alloc, 4_194_304, MOST)?;
-    let stamp = commit(&mut room, &put(alloc, 1)?)?;
-    if room.seal().is_err() {
-        return Err("seal")?;
-    }
-    let counts = room.counts();
+// The disk's bytes at the start of its first region.
+fn first_bytes(room: Room<MemDisk>) -> [u8; 79]
+    requires board { room.room.board ≡ None ∷ None ∷ None ∷ [] }
+    requires job { room.room.job ≡ None }
+{
     let mut disk = room.into_disk();
     let mut bytes = [0u8; 79];
     if disk.regions() > 0 && disk.region_len() >= 79 {
         let _read = disk.read(0, 0, &mut bytes);
     }
-    Ok((stamp, counts, bytes))
+    bytes
+}
+
+// How a new room's first epoch of one entry is sealed: its stamp, the room in numbers, and the disk's bytes.
+fn first_epoch(alloc: Global) -> Result<(Stamp, Counts, [u8; 79]), Fail> {
+    let mut room = new_room(alloc, 4_194_304, MOST)?;
+    let stamp = seal_one(&mut room, alloc, 1)?;
+    let counts = room.counts();
+    Ok((stamp, counts, first_bytes(room)))
 }
 
 #[test]
@@ -168,7 +200,7 @@ fn sealed_twice(
     stop: u64,
 ) -> Result<(Result<u64, RoomFault>, Result<u64, RoomFault>, Fit), Fail> {
     let mut room = new_room(alloc, 4096, stop)?;
-    commit(&mut room, &put(alloc, 1)?)?;
+    commit_one(&mut room, alloc, 1)?;
     Ok(seal_twice(&mut room))
 }
 
@@ -222,6 +254,12 @@ fn take_and_drop<D: LogDisk>(
     Ok((taken, free, room.counts().free))
 }
 
+// The same in a room of two epochs.
+fn taken_and_dropped(alloc: Global, area: u32, ordered: bool) -> Result<(bool, u32, u32), Fail> {
+    let mut room = room_of_two(alloc, MOST)?;
+    take_and_drop(&mut room, area, ordered)
+}
+
 #[test]
 fn a_job_takes_regions_and_gives_them_back(rt: HostRuntime) -> Result<(), Fail> {
     for (area, ordered, taken, free) in [
@@ -231,9 +269,10 @@ fn a_job_takes_regions_and_gives_them_back(rt: HostRuntime) -> Result<(), Fail> 
         (8108, true, false, 2),
         (24, false, false, 2),
     ] {
-        let mut room = new_room(rt.alloc(), 4096, MOST)?;
-        seal_two(&mut room, rt.alloc())?;
-        assert_eq!(rt; take_and_drop(&mut room, area, ordered)?, (taken, free, 2));
+        assert_eq!(rt;
+            taken_and_dropped(rt.alloc(), area, ordered)?,
+            (taken, free, 2)
+        );
     }
     Ok(())
 }
@@ -268,11 +307,11 @@ fn write_four<D: LogDisk>(room: &mut Room<D>, job: &mut Job) -> Result<(), RoomF
     room.merge_write(job, b"abcd")
 }
 
+type Written = (Result<(), RoomFault>, Result<(), RoomFault>, u32, u32);
+
 // Writes four bytes for a job, twice: what the calls answer, how many bytes the job counts, and how many regions are free once it is
 // given up.
-fn write_twice<D: LogDisk>(
-    room: &mut Room<D>,
-) -> Result<(Result<(), RoomFault>, Result<(), RoomFault>, u32, u32), Fail>
+fn write_twice<D: LogDisk>(room: &mut Room<D>) -> Result<Written, Fail>
     requires job { room.old.room.job ≡ None }
 {
     let mut job = taken_job(room)?;
@@ -283,6 +322,12 @@ fn write_twice<D: LogDisk>(
     Ok((first, second, written, room.counts().free))
 }
 
+// The same in a room of two epochs, each of whose calls fails from a number on.
+fn written_twice(alloc: Global, stop: u64) -> Result<Written, Fail> {
+    let mut room = room_of_two(alloc, stop)?;
+    write_twice(&mut room)
+}
+
 #[test]
 fn a_job_counts_what_was_written(rt: HostRuntime) -> Result<(), Fail> {
     let (failed, shut) = (Err(RoomFault::Disk), Err(RoomFault::Shut { epoch: 2 }));
@@ -291,9 +336,10 @@ fn a_job_counts_what_was_written(rt: HostRuntime) -> Result<(), Fail> {
         (10, Ok(()), failed, 4, 1),
         (MOST, Ok(()), Ok(()), 8, 2),
     ] {
-        let mut room = new_room(rt.alloc(), 4096, stop)?;
-        seal_two(&mut room, rt.alloc())?;
-        assert_eq!(rt; write_twice(&mut room)?, (first, second, written, free));
+        assert_eq!(rt;
+            written_twice(rt.alloc(), stop)?,
+            (first, second, written, free)
+        );
     }
     Ok(())
 }
@@ -432,11 +478,10 @@ fn held_until_back<D: LogDisk>(
     (read, held, erase_first(room))
 }
 
+type Shown = ((Option<Node>, Erased, Erased), Option<Node>, Counts);
+
 // The same of a view that was made before a merge, then what a new view reads, and the room in numbers.
-fn across_a_merge<D: LogDisk>(
-    room: &mut Room<D>,
-    alloc: Global,
-) -> Result<((Option<Node>, Erased, Erased), Option<Node>, Counts), Fail>
+fn across_a_merge<D: LogDisk>(room: &mut Room<D>, alloc: Global) -> Result<Shown, Fail>
     requires board { room.old.room.board ≡ None ∷ None ∷ None ∷ [] }
     requires job { room.old.room.job ≡ None }
     requires untold { is_some room.old.room.image ≡ false }
@@ -449,9 +494,14 @@ fn across_a_merge<D: LogDisk>(
     Ok((old, read_one(&mut view), counts))
 }
 
-#[test]
-fn a_view_from_before_a_merge_reads_and_holds_its_parts(rt: HostRuntime) -> Result<(), Fail> {
-    let path = fresh_path(&rt)?;
+// The same in a room on a new file.
+fn shown_on_file(rt: &HostRuntime, path: &str) -> Result<Shown, Fail> {
+    let mut room = file_room(rt, path)?;
+    across_a_merge(&mut room, rt.alloc())
+}
+
+// What that has to be: the older view reads the older value and holds its parts, and the newer one reads the merged part.
+fn to_be_shown(alloc: Global) -> Result<Shown, Fail> {
     let counts = Counts {
         free: 1,
         live: 3,
@@ -461,16 +511,20 @@ fn a_view_from_before_a_merge_reads_and_holds_its_parts(rt: HostRuntime) -> Resu
         waiting: 0,
     };
     let held = Err(EraseFault::Held { seat: 1, buffer: 0 });
-    let (before, after) = (leaf_of(rt.alloc(), b"1")?, leaf_of(rt.alloc(), b"9")?);
-    let shown = across_a_merge(&mut file_room(&rt, path.as_str())?, rt.alloc())?;
-    assert_eq!(rt;
-        shown,
-        (
-            (Some(before), Some(held), Some(Ok(()))),
-            Some(after),
-            counts
-        )
-    );
+    let before = leaf_of(alloc, b"1")?;
+    let after = leaf_of(alloc, b"9")?;
+    Ok((
+        (Some(before), Some(held), Some(Ok(()))),
+        Some(after),
+        counts,
+    ))
+}
+
+#[test]
+fn a_view_from_before_a_merge_reads_and_holds_its_parts(rt: HostRuntime) -> Result<(), Fail> {
+    let path = fresh_path(&rt)?;
+    let shown = shown_on_file(&rt, path.as_str())?;
+    assert_eq!(rt; shown, to_be_shown(rt.alloc())?);
     fs::remove_file(&rt, path.as_str())?;
     Ok(())
 }
@@ -526,10 +580,14 @@ fn two_seats<D: LogDisk>(room: &mut Room<D>) -> Result<[(u32, u8); 2], Fail>
     Ok(places)
 }
 
+// The same in a room of two epochs.
+fn two_seats_of_two(alloc: Global) -> Result<[(u32, u8); 2], Fail> {
+    let mut room = room_of_two(alloc, MOST)?;
+    two_seats(&mut room)
+}
+
 #[test]
 fn each_seat_has_buffers_of_its_own(rt: HostRuntime) -> Result<(), Fail> {
-    let mut room = new_room(rt.alloc(), 4096, MOST)?;
-    seal_two(&mut room, rt.alloc())?;
-    assert_eq!(rt; two_seats(&mut room)?, [(1, 0), (2, 0)]);
+    assert_eq!(rt; two_seats_of_two(rt.alloc())?, [(1, 0), (2, 0)]);
     Ok(())
 }

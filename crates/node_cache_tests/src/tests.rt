@@ -52,22 +52,38 @@ fn an_uncached_number_is_none(rt: HostRuntime) -> Result<(), Fail> {
     Ok(())
 }
 
-#[test]
-fn evict_keeps_the_open_epoch_and_the_last_used(rt: HostRuntime) -> Result<(), Fail> {
-    let mut bucket = filled(rt.alloc(), 41)?;
-    assert!(rt; bucket.touch(1));
-    bucket.evict(40, 8);
+/// How many of the numbers below 50 are cached.
+fn count_kept(bucket: &Bucket) -> u32 {
     let mut left = 0u32;
     for number in 0..50u32 {
         if bucket.peek(number).is_some() {
             left = left.saturating_add(1);
         }
     }
-    assert_eq!(rt; left, 9);
-    assert!(rt; bucket.peek(41).is_some());
-    assert!(rt; bucket.peek(1).is_some());
-    assert!(rt; bucket.peek(33).is_none());
-    assert!(rt; bucket.peek(34).is_some());
+    left
+}
+
+/// Which of these numbers are cached.
+fn kept_of(bucket: &Bucket, numbers: [u32; 4]) -> [bool; 4] {
+    let [a, b, c, d] = numbers;
+    [
+        bucket.peek(a).is_some(),
+        bucket.peek(b).is_some(),
+        bucket.peek(c).is_some(),
+        bucket.peek(d).is_some(),
+    ]
+}
+
+#[test]
+fn evict_keeps_the_open_epoch_and_the_last_used(rt: HostRuntime) -> Result<(), Fail> {
+    let mut bucket = filled(rt.alloc(), 41)?;
+    assert!(rt; bucket.touch(1));
+    bucket.evict(40, 8);
+    assert_eq!(rt; count_kept(&bucket), 9);
+    assert_eq!(rt;
+        kept_of(&bucket, [41, 1, 33, 34]),
+        [true, true, false, true]
+    );
     Ok(())
 }
 
@@ -83,18 +99,22 @@ fn set_version(bucket: &mut Bucket, number: u32, version: u64) -> Result<(), Fai
     Ok(())
 }
 
-#[test]
-fn undo_restores_what_was_saved(rt: HostRuntime) -> Result<(), Fail> {
-    let alloc = rt.alloc();
-    let mut bucket = filled(alloc, 2)?;
+/// Puts node 3, and gives node 1 the version 4, each of which was saved before.
+fn change_saved(bucket: &mut Bucket, alloc: Global) -> Result<(), Fail> {
     bucket.save(3).ok().ok_or("memory")?;
     bucket.put(3, leaf(alloc, 5, 9)).ok().ok_or("memory")?;
-    set_version(&mut bucket, 1, 4)?;
+    set_version(bucket, 1, 4)?;
     bucket.save(1).ok().ok_or("memory")?;
+    Ok(())
+}
+
+#[test]
+fn undo_restores_what_was_saved(rt: HostRuntime) -> Result<(), Fail> {
+    let mut bucket = filled(rt.alloc(), 2)?;
+    change_saved(&mut bucket, rt.alloc())?;
     assert_eq!(rt; version_of(&bucket, 1), 4);
     bucket.undo();
-    assert_eq!(rt; version_of(&bucket, 1), 1);
-    assert_eq!(rt; version_of(&bucket, 2), 1);
+    assert_eq!(rt; (version_of(&bucket, 1), version_of(&bucket, 2)), (1, 1));
     assert!(rt; bucket.peek(3).is_none());
     Ok(())
 }
@@ -262,10 +282,8 @@ fn change_all(
     Ok(refused)
 }
 
-#[test]
-fn changes_of_pairs_are_done_and_taken_back(rt: HostRuntime) -> Result<(), Fail> {
-    let alloc = rt.alloc();
-    let mut bucket = with_pairs(alloc)?;
+/// Does six rows to node 1. Answers the versions of those that were not done.
+fn change_six(bucket: &mut Bucket, alloc: Global) -> Result<Vec<u8>, Fail> {
     let rows = [
         (4, 10, Some(7)),
         // not the next version
@@ -276,23 +294,45 @@ fn changes_of_pairs_are_done_and_taken_back(rt: HostRuntime) -> Result<(), Fail>
         (6, 15, Some(4)),
         (7, 20, Some(9)),
     ];
-    let refused = change_all(&mut bucket, alloc, &rows)?;
-    assert!(rt; refused.as_slice() == [9u8, 6].as_slice());
+    change_all(bucket, alloc, &rows)
+}
+
+#[test]
+fn changes_of_pairs_are_done_and_taken_back(rt: HostRuntime) -> Result<(), Fail> {
+    let mut bucket = with_pairs(rt.alloc())?;
+    assert!(rt; change_six(&mut bucket, rt.alloc())?.as_slice() == [9u8, 6].as_slice());
     assert!(rt; has(&bucket, [7, 4, 9], 7));
     bucket.undo();
     assert!(rt; has(&bucket, [1, 0, 2], 3));
     Ok(())
 }
 
+/// Sets a key of node 1 by the row of this version, and cuts from a key on by the next. Answers whether each was done.
+fn set_and_cut(
+    bucket: &mut Bucket,
+    alloc: Global,
+    version: u8,
+    pair: (u8, u8),
+    from: u8,
+) -> Result<(bool, bool), Fail> {
+    let version = u64::from(version);
+    let is_set = change(bucket, alloc, version, pair.0, Some(pair.1))?;
+    Ok((is_set, cut_from(bucket, alloc, version + 1, from)?))
+}
+
 #[test]
 fn pairs_that_are_cut_off_come_back(rt: HostRuntime) -> Result<(), Fail> {
     let alloc = rt.alloc();
     let mut bucket = with_pairs(alloc)?;
-    assert!(rt; change(&mut bucket, alloc, 4, 15, Some(4))?);
-    assert!(rt; cut_from(&mut bucket, alloc, 5, 15)?);
+    assert_eq!(rt;
+        set_and_cut(&mut bucket, alloc, 4, (15, 4), 15)?,
+        (true, true)
+    );
     assert!(rt; has(&bucket, [1, 0, 0], 5));
-    assert!(rt; change(&mut bucket, alloc, 6, 20, Some(9))?);
-    assert!(rt; cut_from(&mut bucket, alloc, 7, 3)?);
+    assert_eq!(rt;
+        set_and_cut(&mut bucket, alloc, 6, (20, 9), 3)?,
+        (true, true)
+    );
     assert!(rt; has(&bucket, [0, 0, 0], 7));
     bucket.undo();
     assert!(rt; has(&bucket, [1, 0, 2], 3));
@@ -308,16 +348,19 @@ fn full(alloc: Global) -> Result<Bucket, Fail> {
     Ok(bucket)
 }
 
+/// Sets key 33, which is not there, and key 32, which is. Answers whether each was done.
+fn set_two(bucket: &mut Bucket, alloc: Global) -> Result<(bool, bool), Fail> {
+    let other = change(bucket, alloc, 34, 33, Some(1))?;
+    Ok((other, change(bucket, alloc, 34, 32, Some(2))?))
+}
+
 #[test]
 fn a_full_leaf_takes_no_other_key(rt: HostRuntime) -> Result<(), Fail> {
-    let alloc = rt.alloc();
-    let mut bucket = full(alloc)?;
-    assert!(rt; !change(&mut bucket, alloc, 34, 33, Some(1))?);
-    assert!(rt; change(&mut bucket, alloc, 34, 32, Some(2))?);
+    let mut bucket = full(rt.alloc())?;
+    assert_eq!(rt; set_two(&mut bucket, rt.alloc())?, (false, true));
     assert_eq!(rt; value_of(&bucket, 32), 2);
     bucket.undo();
-    assert_eq!(rt; value_of(&bucket, 32), 0);
-    assert_eq!(rt; version_of(&bucket, 1), 1);
+    assert_eq!(rt; (value_of(&bucket, 32), version_of(&bucket, 1)), (0, 1));
     Ok(())
 }
 

@@ -15,7 +15,7 @@ use Rattle.fine_places.specs.declared.model.Placed.{Placed}
 use Rattle.fine_places.specs.declared.model.Share.{Share}
 use Rattle.fine_places.specs.declared.model.View.{View}
 use Rattle.fine_places.specs.History.{room}
-use Rattle.fine_places.specs.Places.{newcomer, shares_of}
+use Rattle.fine_places.specs.Places.{opening_seat, shares_of}
 use Rattle.fine_places.proofs.Lists.{none_held, all_append, zeros}
 use Rattle.fine_boxes.specs.declared.model.BoxNote.{BoxNote}
 use Rattle.fine_boxes.specs.declared.model.Reads.{Reads}
@@ -163,9 +163,9 @@ module _ {T X N : Type 0} (seats : X → ℕ) (fronts : X → List ViewState) (v
   }
 
   -- the first seat of a new table has all numbers
-  pub boxes_open : (n q : ℕ) → n ≡ seats x → Keeps seats view board sealed backs shows above returned x p [] (opening words slots (record { places = newcomer n q x; beside = first_notes (fronts x) }))
+  pub boxes_open : (n q : ℕ) → n ≡ seats x → Keeps seats view board sealed backs shows above returned x p [] (opening words slots (record { places = opening_seat n q x; beside = first_notes (fronts x) }))
   boxes_open n q same =
-      let v : View X N (Reads N) = record { places = newcomer n q x; beside = first_notes (fronts x) } in
+      let v : View X N (Reads N) = record { places = opening_seat n q x; beside = first_notes (fronts x) } in
       let none_given : given_by (v ∷ []) ≡ 0 = (let e = sum_zero (λ (m : BoxNote N). m.given_up) v.beside.notes (all_reverse (λ (m : BoxNote N). m.given_up ≡ 0) (map note_of (fronts x)) (all_notes (λ (m : BoxNote N). m.given_up ≡ 0) (fronts x) (λ _ _ _. refl))) in omega arith) in record {
         cells = cells;
         wide = o.wide;

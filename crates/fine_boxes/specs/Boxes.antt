@@ -86,7 +86,7 @@ sum_below (suc n) f = sum_below n f + f n
 abbrev pub beginning : {T : Type 0} → (T → List (Option OpenedEye)) → (T → ℕ) → (T → List ℕ) → T → TurnNote
 beginning board sealed backs thing = record { backs = backs thing; out = None; posted = replicate (length (backs thing)) 0; top = sealed thing; board = board thing; in_hand = 0 }
 
--- what a seat knows of views at the start, after it was cut in two or joined, and after it took the room and gave it back
+-- what a seat knows of views at the start, after it was split in two or joined, and after it took the room and gave it back
 abbrev pub note_of : {N : Type 0} → ViewState → BoxNote N
 note_of v = record { seat = v.seat; front = v; found_fresh = false; is_out = false; given_up = 0; marks = record { upto = v.upto; seen = [] } ∷ []; looks = [] }
 

@@ -1,4 +1,4 @@
--- What the rule of the mailboxes asks of the steps at the places: at a bucket, at the room, and where a seat is cut in two or joined.
+-- What the rule of the mailboxes asks of the steps at the places: at a bucket, at the room, and where a seat is split in two or joined.
 use Rattle.std.proofs.Common.{◌≡◌, ℕ, suc, ◌+◌, ◌*◌, ◌<◌, ◌≤◌, List, [], ◌∷◌, ◌++◌, map, length, slice_get, slice_index, set, true, false, Option, Some, None, take, drop, sym, refl, ap, ◌∙◌, subst, ⊎_elim, arith, length-set, true≢false, get_or-set_same, get_or-set_other}
 use Rattle.std.specs.List.{AllByRecursion}
 use Rattle.std.proofs.lemmas.List.{map-append, length-replicate}

@@ -1,5 +1,5 @@
 ghost use Rattle.std.specs.Prelude.{◌≡◌, ◌++◌, ◌∷◌, [], Some, None, Ok, Err, false, replicate, IfOk};
-ghost use Rattle.fine_places.specs.Places.{newcomer};
+ghost use Rattle.fine_places.specs.Places.{opening_seat};
 ghost use Rattle.fine_places.specs.Telling.{IsSized};
 ghost use Rattle.fine_boxes.specs.Boxes.{first_notes};
 ghost use Rattle.fine_boxes.specs.Plays.{HasBoxes};
@@ -110,7 +110,7 @@ fn things(alloc: Global) -> Result<Vec<Option<Thing>>, Fail>
 
 fn opened(alloc: Global) -> Result<(TrialPlaces, TrialSeat), Fail>
     ensures table { IfOk result (λ r. IsSized r.0.shared.table_id × HasBoxes 1 r.0.shared.table_id × (r.1.table_id ≡ r.0.shared.table_id)) }
-    ensures seat { IfOk result (λ r. r.1.me ≡ (record { places = newcomer 1 0 tt; beside = first_notes (state_in 0 ∷ []) }, [])) }
+    ensures seat { IfOk result (λ r. r.1.me ≡ (record { places = opening_seat 1 0 tt; beside = first_notes (state_in 0 ∷ []) }, [])) }
 {
     let words = words(alloc)?;
     let things = things(alloc)?;

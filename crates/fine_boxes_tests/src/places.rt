@@ -1,5 +1,5 @@
 ghost use Rattle.std.specs.Prelude.{◌≡◌, Some, replicate, IfOk, false, None, []};
-ghost use Rattle.fine_places.specs.Places.{newcomer};
+ghost use Rattle.fine_places.specs.Places.{opening_seat};
 ghost use Rattle.fine_places.specs.Telling.{IsSized};
 
 use fine_places::{Alone, PlaceLaw, PlaceSeat, Places, StartLaw, give, open, split, take};
@@ -47,7 +47,7 @@ type PlainSeat = PlaceSeat<u64, (), (), ()>;
 
 fn opened(alloc: Global) -> Result<(PlainPlaces, PlainSeat), Fail>
     ensures table { IfOk result (λ r. IsSized r.0.shared.table_id × (r.1.table_id ≡ r.0.shared.table_id)) }
-    ensures seat { IfOk result (λ r. r.1.me ≡ (record { places = newcomer 2 0 tt; beside = tt }, [])) }
+    ensures seat { IfOk result (λ r. r.1.me ≡ (record { places = opening_seat 2 0 tt; beside = tt }, [])) }
 {
     let words = words(alloc, 257)?;
     let things = things(alloc, 257)?;

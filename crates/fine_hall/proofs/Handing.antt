@@ -9,7 +9,7 @@ use Rattle.fine_model.specs.declared.law.ViewState.{ViewState}
 use Rattle.fine_places.specs.declared.model.Known.{Known}
 use Rattle.fine_places.specs.History as places
 use Rattle.fine_places.specs.History.{most_seats, by_seat}
-use Rattle.fine_places.specs.Places.{share, shares_of, newcomer, without_first, only_first, tail_of, head_of}
+use Rattle.fine_places.specs.Places.{share, shares_of, opening_seat, without_first, only_first, tail_of, head_of}
 use Rattle.fine_places.proofs.Lists.{none_held, replicate_at, snoc_at}
 use Rattle.fine_boxes.specs.declared.model.BoxNote.{BoxNote}
 use Rattle.fine_boxes.specs.declared.model.Reads.{Reads}
@@ -42,7 +42,7 @@ pub record Beginner (x : Beginning) (n : ℕ) (v : K) : Type 0 where
   pub moving : v.moving ≡ None
   pub published : v.published ≡ 0
 
-pub begins : (x : Beginning) (n : ℕ) (v : K) → v ≡ newcomer n 0 x → Beginner x n v
+pub begins : (x : Beginning) (n : ℕ) (v : K) → v ≡ opening_seat n 0 x → Beginner x n v
 begins x n v e = record {
   about = ap (λ (u : K). u.about) e;
   shares = ap (λ (u : K). u.shares) e;

@@ -55,14 +55,14 @@ impl<R: RoomLaw, B: BucketLaw, V: ViewLaw> Hall<R, B, V> {
         ensures content { IfOk result (λ content. IsBucketFor B.bucket B.cached B.is_settled (begun R.state R.origin V.state self.now).log bucket (published pass.new) content (seen pass.new)) }
         ensures conflict { IfErr result (λ conflict. (conflict.bucket ≡ bucket) × FindsHeld (begun R.state R.origin V.state self.now) bucket conflict.owner pass.old pass.new) }
     {
-        let mut seat: Seat<R, B, V> = pass.sit();
+        let mut seat: Seat<R, B, V> = pass.take_seat();
         let answer = take(
             &self.table.shared,
             &mut seat,
             usize::from(bucket),
             u64::from(pass.number),
         );
-        pass.stand_up(seat);
+        pass.give_seat(seat);
         match answer {
             Ok(load) => {
                 let Load::Bucket(content) = load else {
@@ -87,13 +87,13 @@ impl<R: RoomLaw, B: BucketLaw, V: ViewLaw> Hall<R, B, V> {
         ensures pass { IsPassOf R.state R.origin V.state self.now pass.new × (pass.new.number ≡ pass.old.number) }
         ensures gives { Gives bucket pass.old pass.new }
     {
-        let mut seat: Seat<R, B, V> = pass.sit();
+        let mut seat: Seat<R, B, V> = pass.take_seat();
         give(
             &self.table.shared,
             &mut seat,
             usize::from(bucket),
             Load::Bucket(content),
         );
-        pass.stand_up(seat);
+        pass.give_seat(seat);
     }
 }

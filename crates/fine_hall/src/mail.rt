@@ -26,9 +26,9 @@ impl<R: RoomLaw, B: BucketLaw, V: ViewLaw> Hall<R, B, V> {
         ensures number { result ≡ published pass.new }
         ensures reads { Reads pass.old pass.new }
     {
-        let mut seat: Seat<R, B, V> = pass.sit();
+        let mut seat: Seat<R, B, V> = pass.take_seat();
         let number = published(&self.table.shared, &mut seat);
-        pass.stand_up(seat);
+        pass.give_seat(seat);
         number
     }
 
@@ -43,9 +43,9 @@ impl<R: RoomLaw, B: BucketLaw, V: ViewLaw> Hall<R, B, V> {
         ensures pass { IsPassOf R.state R.origin V.state self.now pass.new × (pass.new.number ≡ pass.old.number) }
         ensures publishes { Publishes epoch pass.old pass.new }
     {
-        let mut seat: Seat<R, B, V> = pass.sit();
+        let mut seat: Seat<R, B, V> = pass.take_seat();
         publish(&self.table.shared, &mut seat, epoch);
-        pass.stand_up(seat);
+        pass.give_seat(seat);
     }
 
     /// Posts a view to a seat, in a turn of the room, and hands out the seat's old middle. It waits for nobody, and takes no memory.
@@ -61,10 +61,10 @@ impl<R: RoomLaw, B: BucketLaw, V: ViewLaw> Hall<R, B, V> {
         ensures pass { IsPassOf R.state R.origin V.state self.now pass.new × (pass.new.number ≡ pass.old.number) }
         ensures posts { (t : TurnNote) → IsHolder (begun R.state R.origin V.state self.now) pass.old t → Posts (begun R.state R.origin V.state self.now) seat t (V.state view) (V.state result) pass.old pass.new }
     {
-        let mut own: Seat<R, B, V> = pass.sit();
+        let mut own: Seat<R, B, V> = pass.take_seat();
         let back = pass.backs[(seat - 1) as usize];
         let (load, middle) = post(&self.table.shared, &mut own, seat, back, Load::View(view));
-        pass.stand_up(own);
+        pass.give_seat(own);
         pass.backs[(seat - 1) as usize] = middle;
         let Load::View(old) = load else {
             unreachable!()
@@ -77,7 +77,7 @@ impl<R: RoomLaw, B: BucketLaw, V: ViewLaw> Hall<R, B, V> {
         requires pass { IsPassOf R.state R.origin V.state self.now pass.old }
         ensures { LooksOnce V.state self.now.table.shared.table_id (begun R.state R.origin V.state self.now) pass.old pass.new result }
     {
-        let mut seat: Seat<R, B, V> = pass.sit();
+        let mut seat: Seat<R, B, V> = pass.take_seat();
         let is_fresh = look(&self.table.shared, &mut seat, pass.number);
         if is_fresh {
             let Some(front) = pass.front.take() else {
@@ -96,10 +96,10 @@ impl<R: RoomLaw, B: BucketLaw, V: ViewLaw> Hall<R, B, V> {
             let given_up = pass.front.replace(new);
             let None = given_up else { unreachable!() };
             pass.buffer = buffer;
-            pass.stand_up(seat);
+            pass.give_seat(seat);
             true
         } else {
-            pass.stand_up(seat);
+            pass.give_seat(seat);
             false
         }
     }

@@ -33,8 +33,8 @@ impl<V> Pass<V> {
         self.number
     }
 
-    /// The pass's seat, for a step. `stand_up` gives it back.
-    pub(crate) fn sit<S>(&mut self) -> HallSeat<S>
+    /// The pass's seat, for a step. `give_seat` gives it back.
+    pub(crate) fn take_seat<S>(&mut self) -> HallSeat<S>
         requires { (v : PassView) × (self.old.badge.views ≡ v ∷ []) }
         ensures seat { (result.table_id ≡ self.old.badge.table_id) × (result.id ≡ self.old.badge.id) × (result.me.1 ≡ []) }
         ensures view { self.old.badge.views ≡ result.me.0 ∷ [] }
@@ -44,7 +44,7 @@ impl<V> Pass<V> {
         mem::replace(&mut self.badge, Badge::blank()).into_seat()
     }
 
-    pub(crate) fn stand_up<S>(&mut self, seat: HallSeat<S>)
+    pub(crate) fn give_seat<S>(&mut self, seat: HallSeat<S>)
         requires { seat.me.1 ≡ [] }
         ensures seat { (self.new.badge.table_id ≡ seat.table_id) × (self.new.badge.id ≡ seat.id) }
         ensures view { self.new.badge.views ≡ seat.me.0 ∷ [] }

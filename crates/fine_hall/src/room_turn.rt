@@ -24,9 +24,9 @@ impl<R: RoomLaw, B: BucketLaw, V: ViewLaw> Hall<R, B, V> {
         requires free { LacksPlace pass.old places.room }
         ensures { TriesToTakeRoom R.state R.origin R.stands_for V.state self.now.table.shared.table_id (begun R.state R.origin V.state self.now) pass.old pass.new result }
     {
-        let mut seat: Seat<R, B, V> = pass.sit();
+        let mut seat: Seat<R, B, V> = pass.take_seat();
         let answer = take(&self.table.shared, &mut seat, ROOM, u64::from(pass.number));
-        pass.stand_up(seat);
+        pass.give_seat(seat);
         match answer {
             Ok(load) => {
                 let Load::Room {
@@ -93,7 +93,7 @@ impl<R: RoomLaw, B: BucketLaw, V: ViewLaw> Hall<R, B, V> {
         ensures pass { IsPassOf R.state R.origin V.state self.now pass.new × (pass.new.number ≡ pass.old.number) }
         ensures gives { (t : TurnNote) → IsHolder (begun R.state R.origin V.state self.now) pass.old t → GivesRoom (R.state room) (option_copied entry.entry) epoch t pass.old pass.new }
     {
-        let mut seat: Seat<R, B, V> = pass.sit();
+        let mut seat: Seat<R, B, V> = pass.take_seat();
         let entry = noted(entry);
         let backs = pass.backs;
         give(
@@ -107,7 +107,7 @@ impl<R: RoomLaw, B: BucketLaw, V: ViewLaw> Hall<R, B, V> {
                 backs,
             },
         );
-        pass.stand_up(seat);
+        pass.give_seat(seat);
     }
 }
 

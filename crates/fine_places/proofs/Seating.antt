@@ -1,4 +1,4 @@
--- How a table opens, and how seats are cut in two and joined.
+-- How a table opens, and how seats are split in two and joined.
 use Rattle.std.proofs.Common.{◌≡◌, ◌≢◌, ◌⊎◌, ℕ, zero, suc, ◌<◌, ◌≤◌, List, [], ◌∷◌, ◌++◌, map, length, slice_index, set, Bool, Option, Some, sym, refl, ap, ◌∙◌, subst, inl, inr, ⊎_elim, arith, le_refl}
 use Rattle.std.proofs.lemmas.List.Elements.{All-nil}
 use Rattle.std.proofs.Math.Nat.{max-le}
@@ -9,7 +9,7 @@ use Rattle.atomic_table.proofs.Lists.{at_set, set_else, at_longer}
 use Rattle.fine_places.specs.declared.model.Placed.{Placed}
 use Rattle.fine_places.specs.declared.model.View.{View}
 use Rattle.fine_places.specs.History.{room, most_seats, StartsWith, Owns, Owned}
-use Rattle.fine_places.specs.Places.{share, shares_of, newcomer, spent, without_first, only_first, tail_of, head_of, joined, Holds, PlaceState, Fits, Keeps, Rules}
+use Rattle.fine_places.specs.Places.{share, shares_of, opening_seat, spent, without_first, only_first, tail_of, head_of, joined, Holds, PlaceState, Fits, Keeps, Rules}
 use Rattle.fine_places.specs.Telling.{HoldsNothing}
 use Rattle.fine_places.specs.Beside as beside
 use Rattle.fine_places.proofs.Keeping.{around, reseated}
@@ -20,8 +20,8 @@ module _ {T X N Y : Type 0} (stands : X → ℕ → ℕ → T → List (Placed N
   pub opens : (ws : List ℕ) (slots : List (Option T)) (p : ℕ) (y : Y) → suc room ≤ length ws → suc room ≤ length slots → (0 < seats x) × (seats x ≤ most_seats) → legal x []
       → ((k : ℕ) → k ≤ room → slice_index ws k ≡ 0)
       → ((k : ℕ) → k ≤ room → (thing : T) × (get_elem? slots k ≡ some (Some thing)) × stands x k p thing [])
-      → Keeps stands legal seats touches x p [] (opening ws slots (record { places = newcomer (seats x) p x; beside = y }))
-  opens ws slots p y wide long few lawful zero_words each = let v : View X N Y = record { places = newcomer (seats x) p x; beside = y } in record {
+      → Keeps stands legal seats touches x p [] (opening ws slots (record { places = opening_seat (seats x) p x; beside = y }))
+  opens ws slots p y wide long few lawful zero_words each = let v : View X N Y = record { places = opening_seat (seats x) p x; beside = y } in record {
     wide = wide;
     deep = subst (λ l. suc room ≤ l) (sym (length-map slots some)) long;
     few = few;

@@ -55,7 +55,7 @@ module _ {T X N Y : Type 0} (keeps : X → ℕ → List (Placed N) → State (Op
       → get_elem? s.views id ≡ some v → Holds v.places room → v.places.seen ≡ log → owes x p v.places.seen item v.beside thing
       → keeps x p (giving v.places room item).seen (changed s room 0 (some (Some thing)) id (record { places = giving v.places room item; beside = given v.beside thing }))
 
-  -- a seat that holds nothing is cut in two
+  -- a seat that holds nothing is split in two
   abbrev pub Splits : (Y → Y) → (Y → Y) → Type 0
   Splits left right = (x : X) (p : ℕ) (log : List (Placed N)) (s : State (Option T) (View X N Y)) → keeps x p log s → Around p log s → (id n : ℕ) (v : View X N Y)
       → get_elem? s.views id ≡ some v → ((k : ℕ) → ¬ Holds v.places k) → v.places.shares ≡ shares_of (suc (suc n))

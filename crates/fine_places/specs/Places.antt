@@ -46,8 +46,8 @@ placed shares n = record { seat = first_seat shares; item = n }
 
 module _ {X N : Type 0} where
   -- the first seat, which has the numbers n to 1
-  abbrev pub newcomer : ℕ → ℕ → X → Known X N
-  newcomer n p x = record { about = Some x; shares = shares_of n; seen = []; fronts = []; held = replicate (suc room) false; found = []; moving = None; published = p }
+  abbrev pub opening_seat : ℕ → ℕ → X → Known X N
+  opening_seat n p x = record { about = Some x; shares = shares_of n; seen = []; fronts = []; held = replicate (suc room) false; found = []; moving = None; published = p }
 
   abbrev pub spent : Known X N
   spent = record { about = None; shares = []; seen = []; fronts = []; held = []; found = []; moving = None; published = 0 }

@@ -16,7 +16,7 @@ mod steps;
 pub use beside::{Alone, BesideLaw};
 pub use law::{PlaceLaw, Rule, StartLaw};
 pub use model::{Found, Known, Placed, Share, View};
-pub use plays::{Cut, Fetched, Gave, Glue, Settled, Took};
+pub use plays::{Fetched, Gave, JoinSeat, Settled, SplitSeat, Took};
 pub use steps::{PlaceSeat, Places, SharedPlaces, beside_law, give, join, open, shut, split, take};
 
 /// The place of the room. Those before it are the buckets.

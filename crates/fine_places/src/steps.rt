@@ -6,14 +6,14 @@ ghost use lib.ListN.{get_elem?};
 ghost use Rattle.std.specs.Slots.{slots_items, slots_len, IsFull};
 ghost use Rattle.atomic_table.specs.Table.{opening};
 ghost use Rattle.fine_places.specs.History.{room, most_seats, Owned};
-ghost use Rattle.fine_places.specs.Places.{Holds, newcomer, without_first, only_first, joined, shares_of};
+ghost use Rattle.fine_places.specs.Places.{Holds, opening_seat, without_first, only_first, joined, shares_of};
 ghost use Rattle.fine_places.specs.Beside.{StepsBeside};
 ghost use Rattle.fine_places.specs.Telling.{TookIt, FoundHeld, GivesIt, given_back, IsStill, HoldsNothing, IsSized, Ended};
 
 use crate::beside::BesideLaw;
 use crate::law::{PlaceLaw, Rule, StartLaw};
 use crate::model::View;
-use crate::plays::{Cut, Fetched, Gave, Glue, Settled, Took};
+use crate::plays::{Fetched, Gave, JoinSeat, Settled, SplitSeat, Took};
 use atomic_table::{Closed, Play, Refused, Seat, Table};
 use std::alloc::Global;
 
@@ -92,10 +92,10 @@ pub fn open<T, X, N, Y, K, L: PlaceLaw<T, X, N, Y> + StartLaw<X, K>, E: BesideLa
     requires legal { L.legal (L.start key.now) [] }
     requires free { (k : ℕ) → k ≤ room → slice_index words.now k ≡ 0 }
     requires stands { (k : ℕ) → k ≤ room → (thing : T) × (get_elem? slots.items k ≡ some (Some thing)) × L.stands (L.start key.now) k (L.begins (L.start key.now)) thing [] }
-    requires beside { E.keeps (L.start key.now) (L.begins (L.start key.now)) [] (opening words.now slots.items (record { places = newcomer (L.seats (L.start key.now)) (L.begins (L.start key.now)) (L.start key.now); beside = E.first (L.start key.now) })) }
+    requires beside { E.keeps (L.start key.now) (L.begins (L.start key.now)) [] (opening words.now slots.items (record { places = opening_seat (L.seats (L.start key.now)) (L.begins (L.start key.now)) (L.start key.now); beside = E.first (L.start key.now) })) }
     ensures table { IfOk result (λ r. IsSized r.0.shared.table_id × (r.1.table_id ≡ r.0.shared.table_id) × (r.0.shared.key ≡ key.now)) }
     ensures counts { IfOk result (λ r. (r.0.shared.table_id.words ≡ length words.now) × (r.0.shared.table_id.slots ≡ length slots.items)) }
-    ensures seat { IfOk result (λ r. r.1.me ≡ (record { places = newcomer (L.seats (L.start key.now)) (L.begins (L.start key.now)) (L.start key.now); beside = E.first (L.start key.now) }, [])) }
+    ensures seat { IfOk result (λ r. r.1.me ≡ (record { places = opening_seat (L.seats (L.start key.now)) (L.begins (L.start key.now)) (L.start key.now); beside = E.first (L.start key.now) }, [])) }
     ensures refused { IfErr result (λ r. r.slots.items ≡ slots.items) }
 {
     Table::new(alloc, words, slots, key)
@@ -113,7 +113,7 @@ pub fn split<T, X, N, Y, K, L: PlaceLaw<T, X, N, Y> + StartLaw<X, K>, E: BesideL
     ensures this { seat.new.me ≡ (record { places = without_first seat.old.me.0.places; beside = E.left seat.old.me.0.beside }, seat.old.me.1) }
     ensures other { result.me ≡ (record { places = only_first seat.old.me.0.places; beside = E.right seat.old.me.0.beside }, []) }
 {
-    places.split_seat::<Cut<T, E>>(seat)
+    places.split_seat::<SplitSeat<T, E>>(seat)
 }
 
 /// Takes over the numbers, and all else that another seat knows. Both hold nothing.
@@ -127,7 +127,7 @@ pub fn join<T, X, N, Y, K, L: PlaceLaw<T, X, N, Y> + StartLaw<X, K>, E: BesideLa
     ensures table { (seat.new.table_id ≡ seat.old.table_id) × (seat.new.id ≡ seat.old.id) }
     ensures joined { seat.new.me ≡ (record { places = joined seat.old.me.0.places other.me.0.places; beside = E.both seat.old.me.0.beside other.me.0.beside }, seat.old.me.1) }
 {
-    places.join_seat::<Glue<T, E>>(seat, other);
+    places.join_seat::<JoinSeat<T, E>>(seat, other);
 }
 
 /// Ends a table, once one seat has the numbers of all and holds nothing.

@@ -10,11 +10,11 @@ use Rattle.fine_hall.proofs.Meaning.{is_bucket, found_bucket}
 use Rattle.fine_hall.proofs.hall.Hall+R+B+V.take_bucket.Goals as goal
 
 pub take-answer-requires-clause-own : goal.take-answer-requires-clause-own
-take-answer-requires-clause-own g c = subst (Owned c.sit-seat.result.me.0.places.shares) (sym (c.from-2.ensures ∙ c.sit-seat.ensures.number)) (own g.V.ViewLaw.state _ _ c.args.pass.now _ c.requires.pass c.sit-seat.ensures.view)
+take-answer-requires-clause-own g c = subst (Owned c.take_seat-seat.result.me.0.places.shares) (sym (c.from-2.ensures ∙ c.take_seat-seat.ensures.number)) (own g.V.ViewLaw.state _ _ c.args.pass.now _ c.requires.pass c.take_seat-seat.ensures.view)
 
 pub unreachable-requires : goal.unreachable-requires
 unreachable-requires g c =
-    let s = stood_once _ _ _ g.V.ViewLaw.state _ _ c.args.pass.now _ _ _ _ c.requires.pass c.sit-seat.ensures.view c.in-Ok.ensures.took in
+    let s = stood_once _ _ _ g.V.ViewLaw.state _ _ c.args.pass.now _ _ _ _ c.requires.pass c.take_seat-seat.ensures.view c.in-Ok.ensures.took in
     is_bucket g.R.RoomLaw.state g.R.RoomLaw.origin g.R.RoomLaw.stands_for g.B.BucketLaw.bucket g.B.BucketLaw.cached g.B.BucketLaw.is_settled _ _ s.0 c.in-Ok.load s.1 (subst (λ k. k < places.room) (sym c.from.ensures) c.requires.free.0) s.2 c.in_default.not-Bucket
 
 pub overflow_cast-result : goal.overflow_cast-result
@@ -22,39 +22,39 @@ overflow_cast-result g c = let few : c.in-Err.owner < 4294967296 = fits_owner _ 
 
 pub returns-in-Bucket-clause-pass : goal.returns-in-Bucket-clause-pass
 returns-in-Bucket-clause-pass g c = (
-  bucket_pass _ _ _ g.V.ViewLaw.state _ _ c.args.pass.now c.stand_up.new.self _ _ _ _ c.requires.pass c.sit-seat.ensures.view c.stand_up.ensures.view
-      (c.stand_up.ensures.seat.0 ∙ (c.in-Ok.ensures.table.0 ∙ (c.sit-seat.ensures.seat.0 ∙ c.requires.pass.table))) (c.stand_up.ensures.number ∙ c.sit-seat.ensures.number)
-      (c.stand_up.ensures.front.0 ∙ c.sit-seat.ensures.front.0, c.stand_up.ensures.front.1 ∙ c.sit-seat.ensures.front.1) c.in-Ok.ensures.took
-      (subst (λ k. k < places.room) (sym c.from.ensures) c.requires.free.0) (c.stand_up.ensures.front.2 ∙ c.sit-seat.ensures.front.2),
-  c.stand_up.ensures.number ∙ c.sit-seat.ensures.number,
+  bucket_pass _ _ _ g.V.ViewLaw.state _ _ c.args.pass.now c.give_seat.new.self _ _ _ _ c.requires.pass c.take_seat-seat.ensures.view c.give_seat.ensures.view
+      (c.give_seat.ensures.seat.0 ∙ (c.in-Ok.ensures.table.0 ∙ (c.take_seat-seat.ensures.seat.0 ∙ c.requires.pass.table))) (c.give_seat.ensures.number ∙ c.take_seat-seat.ensures.number)
+      (c.give_seat.ensures.front.0 ∙ c.take_seat-seat.ensures.front.0, c.give_seat.ensures.front.1 ∙ c.take_seat-seat.ensures.front.1) c.in-Ok.ensures.took
+      (subst (λ k. k < places.room) (sym c.from.ensures) c.requires.free.0) (c.give_seat.ensures.front.2 ∙ c.take_seat-seat.ensures.front.2),
+  c.give_seat.ensures.number ∙ c.take_seat-seat.ensures.number,
 )
 
 pub returns-in-Bucket-clause-takes : goal.returns-in-Bucket-clause-takes
-returns-in-Bucket-clause-takes g c = subst (λ k. Takes k c.args.pass.now c.stand_up.new.self) c.from.ensures
-    (takes_bucket _ _ _ g.V.ViewLaw.state _ _ c.args.pass.now c.stand_up.new.self _ _ _ _ c.requires.pass c.sit-seat.ensures.view c.stand_up.ensures.view
-    (c.stand_up.ensures.seat.0 ∙ (c.in-Ok.ensures.table.0 ∙ (c.sit-seat.ensures.seat.0 ∙ c.requires.pass.table))) (c.stand_up.ensures.number ∙ c.sit-seat.ensures.number)
-    (c.stand_up.ensures.front.0 ∙ c.sit-seat.ensures.front.0, c.stand_up.ensures.front.1 ∙ c.sit-seat.ensures.front.1) c.in-Ok.ensures.took
-    (subst (λ k. k < places.room) (sym c.from.ensures) c.requires.free.0) (c.stand_up.ensures.front.2 ∙ c.sit-seat.ensures.front.2))
+returns-in-Bucket-clause-takes g c = subst (λ k. Takes k c.args.pass.now c.give_seat.new.self) c.from.ensures
+    (takes_bucket _ _ _ g.V.ViewLaw.state _ _ c.args.pass.now c.give_seat.new.self _ _ _ _ c.requires.pass c.take_seat-seat.ensures.view c.give_seat.ensures.view
+    (c.give_seat.ensures.seat.0 ∙ (c.in-Ok.ensures.table.0 ∙ (c.take_seat-seat.ensures.seat.0 ∙ c.requires.pass.table))) (c.give_seat.ensures.number ∙ c.take_seat-seat.ensures.number)
+    (c.give_seat.ensures.front.0 ∙ c.take_seat-seat.ensures.front.0, c.give_seat.ensures.front.1 ∙ c.take_seat-seat.ensures.front.1) c.in-Ok.ensures.took
+    (subst (λ k. k < places.room) (sym c.from.ensures) c.requires.free.0) (c.give_seat.ensures.front.2 ∙ c.take_seat-seat.ensures.front.2))
 
 pub returns-in-Bucket-clause-content : goal.returns-in-Bucket-clause-content
 returns-in-Bucket-clause-content g c =
-    let s = stood _ _ _ g.V.ViewLaw.state _ _ c.args.pass.now c.stand_up.new.self _ _ _ _ c.requires.pass c.sit-seat.ensures.view c.stand_up.ensures.view
-    (c.stand_up.ensures.seat.0 ∙ (c.in-Ok.ensures.table.0 ∙ (c.sit-seat.ensures.seat.0 ∙ c.requires.pass.table))) (c.stand_up.ensures.number ∙ c.sit-seat.ensures.number)
-    (c.stand_up.ensures.front.0 ∙ c.sit-seat.ensures.front.0, c.stand_up.ensures.front.1 ∙ c.sit-seat.ensures.front.1) c.in-Ok.ensures.took in
-    found_bucket g.R.RoomLaw.state g.R.RoomLaw.origin g.R.RoomLaw.stands_for g.B.BucketLaw.bucket g.B.BucketLaw.cached g.B.BucketLaw.is_settled _ _ _ c.in-Ok.load _ (turns c.stand_up.new.self) c.requires.free.0 c.in-Bucket.is
-    (subst (λ k. Stands g.R.RoomLaw.state g.R.RoomLaw.origin g.R.RoomLaw.stands_for g.B.BucketLaw.bucket g.B.BucketLaw.cached g.B.BucketLaw.is_settled (begun g.R.RoomLaw.state g.R.RoomLaw.origin g.V.ViewLaw.state c.args.self.now) k (published c.stand_up.new.self) c.in-Ok.load (touching touches_bucket k (turns c.stand_up.new.self))) c.from.ensures s)
+    let s = stood _ _ _ g.V.ViewLaw.state _ _ c.args.pass.now c.give_seat.new.self _ _ _ _ c.requires.pass c.take_seat-seat.ensures.view c.give_seat.ensures.view
+    (c.give_seat.ensures.seat.0 ∙ (c.in-Ok.ensures.table.0 ∙ (c.take_seat-seat.ensures.seat.0 ∙ c.requires.pass.table))) (c.give_seat.ensures.number ∙ c.take_seat-seat.ensures.number)
+    (c.give_seat.ensures.front.0 ∙ c.take_seat-seat.ensures.front.0, c.give_seat.ensures.front.1 ∙ c.take_seat-seat.ensures.front.1) c.in-Ok.ensures.took in
+    found_bucket g.R.RoomLaw.state g.R.RoomLaw.origin g.R.RoomLaw.stands_for g.B.BucketLaw.bucket g.B.BucketLaw.cached g.B.BucketLaw.is_settled _ _ _ c.in-Ok.load _ (turns c.give_seat.new.self) c.requires.free.0 c.in-Bucket.is
+    (subst (λ k. Stands g.R.RoomLaw.state g.R.RoomLaw.origin g.R.RoomLaw.stands_for g.B.BucketLaw.bucket g.B.BucketLaw.cached g.B.BucketLaw.is_settled (begun g.R.RoomLaw.state g.R.RoomLaw.origin g.V.ViewLaw.state c.args.self.now) k (published c.give_seat.new.self) c.in-Ok.load (touching touches_bucket k (turns c.give_seat.new.self))) c.from.ensures s)
 
 pub returns-in-Err-clause-pass : goal.returns-in-Err-clause-pass
 returns-in-Err-clause-pass g c =
-    still_pass g.V.ViewLaw.state _ _ c.args.pass.now c.stand_up.new.self _ _ _ _ c.requires.pass c.sit-seat.ensures.view c.stand_up.ensures.view
-    (c.stand_up.ensures.seat.0 ∙ (c.in-Err.ensures.table.0 ∙ (c.sit-seat.ensures.seat.0 ∙ c.requires.pass.table))) (c.stand_up.ensures.number ∙ c.sit-seat.ensures.number)
-    (c.stand_up.ensures.front.0 ∙ c.sit-seat.ensures.front.0, c.stand_up.ensures.front.1 ∙ c.sit-seat.ensures.front.1, c.stand_up.ensures.front.2 ∙ c.sit-seat.ensures.front.2) c.in-Err.ensures.took
+    still_pass g.V.ViewLaw.state _ _ c.args.pass.now c.give_seat.new.self _ _ _ _ c.requires.pass c.take_seat-seat.ensures.view c.give_seat.ensures.view
+    (c.give_seat.ensures.seat.0 ∙ (c.in-Err.ensures.table.0 ∙ (c.take_seat-seat.ensures.seat.0 ∙ c.requires.pass.table))) (c.give_seat.ensures.number ∙ c.take_seat-seat.ensures.number)
+    (c.give_seat.ensures.front.0 ∙ c.take_seat-seat.ensures.front.0, c.give_seat.ensures.front.1 ∙ c.take_seat-seat.ensures.front.1, c.give_seat.ensures.front.2 ∙ c.take_seat-seat.ensures.front.2) c.in-Err.ensures.took
 
 pub returns-in-Err-clause-conflict : goal.returns-in-Err-clause-conflict
 returns-in-Err-clause-conflict g c = (
   refl,
-  subst (λ k. FindsHeld (begun g.R.RoomLaw.state g.R.RoomLaw.origin g.V.ViewLaw.state c.args.self.now) k c.in-Err.owner c.args.pass.now c.stand_up.new.self) c.from.ensures
-      (finds g.V.ViewLaw.state _ _ c.args.pass.now c.stand_up.new.self _ _ _ _ c.requires.pass c.sit-seat.ensures.view c.stand_up.ensures.view
-      (c.stand_up.ensures.seat.0 ∙ (c.in-Err.ensures.table.0 ∙ (c.sit-seat.ensures.seat.0 ∙ c.requires.pass.table))) (c.stand_up.ensures.number ∙ c.sit-seat.ensures.number)
-      (c.stand_up.ensures.front.0 ∙ c.sit-seat.ensures.front.0, c.stand_up.ensures.front.1 ∙ c.sit-seat.ensures.front.1, c.stand_up.ensures.front.2 ∙ c.sit-seat.ensures.front.2) c.in-Err.ensures.took),
+  subst (λ k. FindsHeld (begun g.R.RoomLaw.state g.R.RoomLaw.origin g.V.ViewLaw.state c.args.self.now) k c.in-Err.owner c.args.pass.now c.give_seat.new.self) c.from.ensures
+      (finds g.V.ViewLaw.state _ _ c.args.pass.now c.give_seat.new.self _ _ _ _ c.requires.pass c.take_seat-seat.ensures.view c.give_seat.ensures.view
+      (c.give_seat.ensures.seat.0 ∙ (c.in-Err.ensures.table.0 ∙ (c.take_seat-seat.ensures.seat.0 ∙ c.requires.pass.table))) (c.give_seat.ensures.number ∙ c.take_seat-seat.ensures.number)
+      (c.give_seat.ensures.front.0 ∙ c.take_seat-seat.ensures.front.0, c.give_seat.ensures.front.1 ∙ c.take_seat-seat.ensures.front.1, c.give_seat.ensures.front.2 ∙ c.take_seat-seat.ensures.front.2) c.in-Err.ensures.took),
 )

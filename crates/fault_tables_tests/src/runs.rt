@@ -1,20 +1,17 @@
-//! Runs on a disk in memory, and what their log then shows.
+//! Two runs, what they print, and what their logs then show.
 
-ghost use Rattle.std.specs.Prelude.{◌≡◌, ◌≤◌, [], IfOk};
-ghost use Rattle.command_words.specs.Words.{IsGeometry};
+ghost use Rattle.std.specs.Prelude.{◌≤◌, IfOk};
+ghost use Rattle.program_runs.specs.Disks.{IsReady};
 
-use fine_model::{NoGate, NoMemory};
-use fine_top::{Finish, fineline};
-use log_disk::{FaultPlan, MemDisk};
-use script_text::{MemSink, MemSource};
+use log_disk::MemDisk;
+use program_runs::{crash, run};
 use std::alloc::Global;
-use std::process::Abort;
 use std::sync::Wait;
 use std::test::Fail;
 use std::thread::Threads;
 
-/// The greatest length of what is printed.
-const ROOM: usize = 4096;
+/// The length of a region, which is the least one.
+pub const LENGTH: u64 = 4096;
 
 /// A run in groups of one, so that each transaction is an epoch of its own.
 #[derive(Clone, Copy, Debug, PartialEq, Eq)]
@@ -47,101 +44,48 @@ impl Case {
         }
     }
 
-    pub fn script(self) -> &'static [u8] {
+    pub fn script(self) -> &'static str {
         match self {
             Case::Accounts => {
-                b"txn 1\nput acct:alice 100\nput acct:bob 50\ncommit\ntxn 1\nadd acct:alice -30\nadd acct:bob 30\ncommit\ntxn 1\nscan acct: acct; 10\ncommit\n"
+                "txn 1|put acct:alice 100|put acct:bob 50|commit|txn 1|add acct:alice -30|add acct:bob 30|commit|txn 1|scan acct: acct; 10|commit|"
             }
             Case::Merges => {
-                b"txn 1\nput a 1\ncommit\ntxn 1\nput a 2\ncommit\ntxn 1\nput a 3\ncommit\ntxn 1\nput a 4\ncommit\ntxn 1\nput a 5\ncommit\ntxn 1\nput a 6\ncommit\n"
+                "txn 1|put a 1|commit|txn 1|put a 2|commit|txn 1|put a 3|commit|txn 1|put a 4|commit|txn 1|put a 5|commit|txn 1|put a 6|commit|"
             }
         }
     }
 
     /// What it prints where no call fails.
-    pub fn whole(self) -> &'static [u8] {
+    pub fn whole(self) -> &'static str {
         match self {
             Case::Accounts => {
-                b"txn 1 commit 1 epoch 1\nput acct:alice\nput acct:bob\ntxn 2 commit 2 epoch 2\nadd acct:alice = 70\nadd acct:bob = 80\ntxn 3 commit 3 epoch 3\nscan acct: acct; 2\npair acct:alice = 70\npair acct:bob = 80\ndurable 3\n"
+                "txn 1 commit 1 epoch 1|put acct:alice|put acct:bob|txn 2 commit 2 epoch 2|add acct:alice = 70|add acct:bob = 80|txn 3 commit 3 epoch 3|scan acct: acct; 2|pair acct:alice = 70|pair acct:bob = 80|durable 3|"
             }
             Case::Merges => {
-                b"txn 1 commit 1 epoch 1\nput a\ntxn 2 commit 2 epoch 2\nput a\ntxn 3 commit 3 epoch 3\nput a\ntxn 4 commit 4 epoch 4\nput a\ntxn 5 commit 5 epoch 5\nput a\ntxn 6 commit 6 epoch 6\nput a\ndurable 6\n"
+                "txn 1 commit 1 epoch 1|put a|txn 2 commit 2 epoch 2|put a|txn 3 commit 3 epoch 3|put a|txn 4 commit 4 epoch 4|put a|txn 5 commit 5 epoch 5|put a|txn 6 commit 6 epoch 6|put a|durable 6|"
             }
         }
     }
 
     /// What `dump` prints of a log that ends with an epoch of it.
-    pub fn pairs_at(self, end: u8) -> &'static [u8] {
+    pub fn pairs_at(self, end: u8) -> &'static str {
         match self {
             Case::Accounts => match end {
-                0 => b"pairs 0\n",
-                1 => b"pair acct:alice = 100\npair acct:bob = 50\npairs 2\n",
-                _ => b"pair acct:alice = 70\npair acct:bob = 80\npairs 2\n",
+                0 => "pairs 0|",
+                1 => "pair acct:alice = 100|pair acct:bob = 50|pairs 2|",
+                _ => "pair acct:alice = 70|pair acct:bob = 80|pairs 2|",
             },
             Case::Merges => match end {
-                0 => b"pairs 0\n",
-                1 => b"pair a = 1\npairs 1\n",
-                2 => b"pair a = 2\npairs 1\n",
-                3 => b"pair a = 3\npairs 1\n",
-                4 => b"pair a = 4\npairs 1\n",
-                5 => b"pair a = 5\npairs 1\n",
-                _ => b"pair a = 6\npairs 1\n",
+                0 => "pairs 0|",
+                1 => "pair a = 1|pairs 1|",
+                2 => "pair a = 2|pairs 1|",
+                3 => "pair a = 3|pairs 1|",
+                4 => "pair a = 4|pairs 1|",
+                5 => "pair a = 5|pairs 1|",
+                _ => "pair a = 6|pairs 1|",
             },
         }
     }
-}
-
-/// What a run printed, and how it ended.
-#[derive(Drop)]
-pub struct Printed {
-    pub text: Vec<u8>,
-    pub finish: Finish<MemDisk>,
-}
-
-/// A new disk of so many regions of the least length, whose calls fail by a plan.
-pub fn new_disk(alloc: Global, regions: u32, plan: FaultPlan) -> Result<MemDisk, Fail>
-    requires { (4 ≤ regions) × (regions ≤ 64) }
-    ensures { IfOk result (λ disk. IsGeometry (disk.disk.regions, disk.disk.region_len) × (disk.disk.unsynced ≡ []) × (disk.disk.eyes ≡ [])) }
-{
-    Ok(MemDisk::new(alloc, regions, 4096, plan)?)
-}
-
-/// The disk after a crash, which has nothing unsynced, and of which no call fails.
-pub fn crash(disk: MemDisk, picks: &[u8]) -> Result<MemDisk, Fail>
-    requires geometry { IsGeometry (disk.disk.regions, disk.disk.region_len) }
-    requires no_eyes { disk.disk.eyes ≡ [] }
-    ensures { IfOk result (λ disk. IsGeometry (disk.disk.regions, disk.disk.region_len) × (disk.disk.unsynced ≡ []) × (disk.disk.eyes ≡ [])) }
-{
-    Ok(disk.crashed(picks)?)
-}
-
-fn words_of(alloc: Global, texts: &[&str]) -> Result<Vec<String>, NoMemory> {
-    let mut words = Vec::new(alloc);
-    for text in texts {
-        words.push(String::from_str(alloc, text)?)?;
-    }
-    Ok(words)
-}
-
-/// Runs the program, where the call of this number of the source fails, and that of the sink; 0 is none.
-pub fn run<R: Threads + Wait + Sync>(
-    rt: &R,
-    alloc: Global,
-    texts: &[&str],
-    script: &[u8],
-    fails: (u64, u64),
-    disk: MemDisk,
-) -> Result<Printed, Fail>
-    requires { IsGeometry (disk.disk.regions, disk.disk.region_len) × (disk.disk.unsynced ≡ []) × (disk.disk.eyes ≡ []) }
-    ensures { IfOk result (λ printed. IsGeometry (printed.finish.disk.disk.regions, printed.finish.disk.disk.region_len) × (printed.finish.disk.disk.eyes ≡ [])) }
-{
-    let words = words_of(alloc, texts)?;
-    let bytes = Vec::from_slice(alloc, script)?;
-    let mut source = MemSource::new(bytes, Vec::from_slice(alloc, &[fails.0])?);
-    let mut sink = MemSink::new(alloc, ROOM, Vec::from_slice(alloc, &[fails.1])?)?;
-    let finish = fineline(rt, alloc, &words, &mut source, &mut sink, disk, &NoGate);
-    let text = Vec::from_slice(alloc, sink.bytes())?;
-    Ok(Printed { text, finish })
 }
 
 /// Does a command on a log on which no call fails: what it prints, and the disk.
@@ -151,10 +95,10 @@ pub fn obey<R: Threads + Wait + Sync>(
     command: &str,
     disk: MemDisk,
 ) -> Result<(Vec<u8>, MemDisk), Fail>
-    requires { IsGeometry (disk.disk.regions, disk.disk.region_len) × (disk.disk.unsynced ≡ []) × (disk.disk.eyes ≡ []) }
-    ensures { IfOk result (λ r. IsGeometry (r.1.disk.regions, r.1.disk.region_len) × (r.1.disk.unsynced ≡ []) × (r.1.disk.eyes ≡ [])) }
+    requires { IsReady disk.disk }
+    ensures { IfOk result (λ r. IsReady r.1.disk) }
 {
-    let printed = run(rt, alloc, &[command], b"", (0, 0), disk)?;
+    let printed = run(rt, alloc, (&[command], "", (0, 0)), disk)?;
     if printed.finish.status != 0 {
         return Err("a command failed")?;
     }

@@ -1,10 +1,11 @@
 //! A table for each kind of call: whichever of them fails, the status tells it, and the log shows a prefix of the run.
 
-ghost use Rattle.std.specs.Prelude.{◌≡◌, [], IfOk};
-ghost use Rattle.command_words.specs.Words.{IsGeometry};
+ghost use Rattle.std.specs.Prelude.{IfOk};
+ghost use Rattle.program_runs.specs.Disks.{IsLeft};
 
-use crate::runs::{Case, GROUPS_OF_ONE, Printed, crash, new_disk, number_behind, obey, run};
+use crate::runs::{Case, GROUPS_OF_ONE, LENGTH, number_behind, obey};
 use log_disk::{FaultPlan, MemDisk};
+use program_runs::{Printed, crash, new_disk, run};
 use std::alloc::Global;
 use std::process::Abort;
 use std::sync::Wait;
@@ -44,13 +45,12 @@ fn end_after<R: Threads + Wait + Sync>(
     disk: MemDisk,
     picks: &[u8],
 ) -> Result<u8, Fail>
-    requires geometry { IsGeometry (disk.disk.regions, disk.disk.region_len) }
-    requires no_eyes { disk.disk.eyes ≡ [] }
+    requires { IsLeft disk.disk }
 {
     let (ranges, disk) = obey(rt, alloc, "ranges", crash(disk, picks)?)?;
     let end = number_behind(ranges.as_slice(), b"end ").ok_or("no end")?;
     let (pairs, _disk) = obey(rt, alloc, "dump", disk)?;
-    if pairs.as_slice() != case.pairs_at(end) {
+    if pairs.as_slice() != case.pairs_at(end).as_bytes() {
         return Err("other pairs")?;
     }
     Ok(end)
@@ -67,14 +67,16 @@ fn is_met<R: Threads + Wait + Sync>(
 ) -> Result<bool, Fail> {
     let mut met = false;
     for picks in [&[][..], &[0xa7; 64]] {
-        let disk = new_disk(alloc, case.regions(), plan_of(alloc, failing, number)?)?;
-        let printed = run(rt, alloc, GROUPS_OF_ONE, case.script(), (0, 0), disk)?;
+        let plan = plan_of(alloc, failing, number)?;
+        let disk = new_disk(alloc, case.regions(), LENGTH, plan)?;
+        let given = (GROUPS_OF_ONE, case.script(), (0, 0));
+        let printed = run(rt, alloc, given, disk)?;
         let text = printed.text.as_slice();
         met = printed.finish.status != 0;
         let as_wanted = if met {
-            printed.finish.status == 6 && text.ends_with(b"disk\n")
+            printed.finish.status == 6 && text.ends_with(b"disk|")
         } else {
-            text == case.whole()
+            text == case.whole().as_bytes()
         };
         let durable = number_behind(text, b"durable ").unwrap_or(0);
         let end = end_after(rt, alloc, case, printed.finish.disk, picks)?;
@@ -118,11 +120,11 @@ fn accounts<R: Threads + Wait + Sync>(
     alloc: Global,
     fails: (u64, u64),
 ) -> Result<Printed, Fail>
-    ensures { IfOk result (λ printed. IsGeometry (printed.finish.disk.disk.regions, printed.finish.disk.disk.region_len) × (printed.finish.disk.disk.eyes ≡ [])) }
+    ensures { IfOk result (λ printed. IsLeft printed.finish.disk.disk) }
 {
-    let disk = new_disk(alloc, 8, FaultPlan::none(alloc))?;
-    let script = Case::Accounts.script();
-    run(rt, alloc, GROUPS_OF_ONE, script, fails, disk)
+    let disk = new_disk(alloc, 8, LENGTH, FaultPlan::none(alloc))?;
+    let given = (GROUPS_OF_ONE, Case::Accounts.script(), fails);
+    run(rt, alloc, given, disk)
 }
 
 #[test]
@@ -132,13 +134,13 @@ fn a_source_that_fails_leaves_the_log(rt: HostRuntime) -> Result<(), Fail> {
         let printed = accounts(&rt, alloc, (number, 0))?;
         if number < 3 {
             assert_eq!(rt; printed.finish.status, 4);
-            assert_eq!(rt; printed.text.as_slice(), b"source\n".as_slice());
+            assert_eq!(rt; printed.text.as_slice(), b"source|".as_slice());
             assert_eq!(rt;
                 end_after(&rt, alloc, Case::Accounts, printed.finish.disk, &[0xa7; 64])?,
                 0
             );
         } else {
-            assert_eq!(rt; printed.text.as_slice(), Case::Accounts.whole());
+            assert_eq!(rt; printed.text.as_slice(), Case::Accounts.whole().as_bytes());
         }
     }
     Ok(())
@@ -149,11 +151,16 @@ fn a_sink_that_fails_has_a_first_part(rt: HostRuntime) -> Result<(), Fail> {
     let alloc = rt.alloc();
     for number in 1..4u64 {
         let printed = accounts(&rt, alloc, (0, number))?;
-        assert!(rt; Case::Accounts.whole().starts_with(printed.text.as_slice()));
+        assert!(rt;
+            Case::Accounts
+                .whole()
+                .as_bytes()
+                .starts_with(printed.text.as_slice())
+        );
         if printed.finish.status != 0 {
             assert_eq!(rt; printed.finish.status, 5);
         } else {
-            assert_eq!(rt; printed.text.as_slice(), Case::Accounts.whole());
+            assert_eq!(rt; printed.text.as_slice(), Case::Accounts.whole().as_bytes());
         }
     }
     Ok(())

@@ -1,23 +1,17 @@
 //! What no clause says: the printed text of worked scripts, the bytes of the log, and calls that fail.
 
-ghost use Rattle.std.specs.Prelude.{◌≡◌, ◌<◌, ◌≤◌, IfOk};
-ghost use Rattle.fine_top_tests.specs.Disks.{IsLeft, IsReady};
+ghost use Rattle.std.specs.Prelude.{IfOk};
+ghost use Rattle.program_runs.specs.Disks.{IsLeft, IsReady};
 
-use fine_model::{NoGate, NoMemory};
-use fine_top::{Finish, fineline, geometry_of};
+use fine_model::NoMemory;
+use fine_top::geometry_of;
 use log_disk::{FaultPlan, LogDisk, MemDisk};
-use script_text::{MemSink, MemSource};
+use program_runs::{Printed, crash, expect, has_piece, new_disk, run, set_piece, words_of};
 use std::alloc::Global;
 use std::process::Abort;
 use std::sync::Wait;
 use std::test::Fail;
 use std::thread::Threads;
-
-mod worked;
-
-use worked::{has_piece, new_disk, set_piece};
-
-const ROOM: usize = 8192;
 
 const LENGTH: u64 = 16_384;
 
@@ -40,30 +34,11 @@ const NONE_OF_THREE: &str = "txn 1 commit 1 epoch 1|get a none|get b none|get c 
 
 const ALL_OF_THREE: &str = "txn 1 commit 1 epoch 2|get a = 1|get b = 2|get c = 3|durable 2|";
 
-/// What a run is given: its words, its script, whose lines end at each `|`, and the numbers of the call of the source that fails and of that of the
-/// sink, where 0 is none.
-type Given<'a> = (&'a [&'a str], &'a str, (u64, u64));
-
-/// What a run of a script on a disk printed, and how it ended.
-#[derive(Drop)]
-struct Printed {
-    text: Vec<u8>,
-    finish: Finish<MemDisk>,
-}
-
-// A new disk of four regions of the least length.
+// A new disk of four regions.
 fn small(alloc: Global, plan: FaultPlan) -> Result<MemDisk, Fail>
     ensures { IfOk result (λ disk. IsReady disk.disk) }
 {
-    Ok(MemDisk::new(alloc, 4, LENGTH, plan)?)
-}
-
-// The disk after a crash, which has nothing unsynced.
-fn crash(disk: MemDisk, picks: &[u8]) -> Result<MemDisk, Fail>
-    requires { IsLeft disk.disk }
-    ensures { IfOk result (λ disk. IsReady disk.disk) }
-{
-    Ok(disk.crashed(picks)?)
+    new_disk(alloc, 4, LENGTH, plan)
 }
 
 // A plan by which these writes of the disk fail, and each of its calls from a number on.
@@ -83,30 +58,6 @@ fn stop_at(alloc: Global, stop: u64) -> FaultPlan {
     failing(alloc, Vec::new(alloc), stop)
 }
 
-// The bytes of a text, with another one in place of one of them.
-fn replaced(alloc: Global, text: &[u8], old: u8, new: u8) -> Result<Vec<u8>, NoMemory> {
-    let mut bytes = Vec::new(alloc);
-    for byte in text {
-        bytes.push(if *byte == old { new } else { *byte })?;
-    }
-    Ok(bytes)
-}
-
-// A source of a script whose lines end at each `|`, of which the call of this number fails; 0 is none.
-fn source_of(alloc: Global, script: &str, fail: u64) -> Result<MemSource, NoMemory> {
-    let bytes = replaced(alloc, script.as_bytes(), b'|', b'\n')?;
-    Ok(MemSource::new(bytes, Vec::from_slice(alloc, &[fail])?))
-}
-
-// The words of a command.
-fn words_of(alloc: Global, texts: &[&str]) -> Result<Vec<String>, NoMemory> {
-    let mut words = Vec::new(alloc);
-    for text in texts {
-        words.push(String::from_str(alloc, text)?)?;
-    }
-    Ok(words)
-}
-
 // Texts one behind the other.
 fn joined(alloc: Global, texts: &[&str]) -> Result<String, NoMemory> {
     let mut whole = String::new(alloc);
@@ -114,42 +65,6 @@ fn joined(alloc: Global, texts: &[&str]) -> Result<String, NoMemory> {
         whole.push_str(text)?;
     }
     Ok(whole)
-}
-
-// Runs a script.
-fn run<R: Threads + Wait + Sync>(
-    rt: &R,
-    alloc: Global,
-    given: Given,
-    disk: MemDisk,
-) -> Result<Printed, Fail>
-    requires { IsReady disk.disk }
-    ensures { IfOk result (λ printed. IsLeft printed.finish.disk.disk) }
-{
-    let (texts, script, fails) = given;
-    let words = words_of(alloc, texts)?;
-    let mut source = source_of(alloc, script, fails.0)?;
-    let mut sink = MemSink::new(alloc, ROOM, Vec::from_slice(alloc, &[fails.1])?)?;
-    let finish = fineline(rt, alloc, &words, &mut source, &mut sink, disk, &NoGate);
-    let text = replaced(alloc, sink.bytes(), b'\n', b'|')?;
-    Ok(Printed { text, finish })
-}
-
-// Runs a script, which has to end with this status and to print this text, and gives the disk.
-fn expect<R: Threads + Wait + Sync + Abort>(
-    rt: &R,
-    alloc: Global,
-    given: Given,
-    disk: MemDisk,
-    told: (u8, &str),
-) -> Result<MemDisk, Fail>
-    requires { IsReady disk.disk }
-    ensures { IfOk result (λ disk. IsLeft disk.disk) }
-{
-    let printed = run(rt, alloc, given, disk)?;
-    assert_eq!(rt; printed.finish.status, told.0);
-    assert_eq!(rt; printed.text.as_slice(), told.1.as_bytes());
-    Ok(printed.finish.disk)
 }
 
 // Runs a script on a disk with no call that fails.
@@ -240,7 +155,7 @@ fn the_first_epoch_is_a_partition(rt: HostRuntime) -> Result<(), Fail> {
     ];
     let words = words_of(alloc, &["-", "4x4096"])?;
     assert_eq!(rt; geometry_of(&words), Some((4, 4_194_304)));
-    let disk = new_disk(alloc, 4, 4_194_304)?;
+    let disk = new_disk(alloc, 4, 4_194_304, FaultPlan::none(alloc))?;
     let mut disk = run_well(&rt, alloc, "txn 1|put a 1|get a|commit|", disk)?
         .finish
         .disk;

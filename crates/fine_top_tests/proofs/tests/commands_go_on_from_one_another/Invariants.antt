@@ -1,4 +1,4 @@
-use Rattle.fine_top_tests.specs.Disks.{IsReady}
+use Rattle.program_runs.specs.Disks.{IsReady}
 use Rattle.fine_top_tests.proofs.tests.commands_go_on_from_one_another.Given as goal
 
 abbrev pub invariant-loop-texts : goal.invariant-loop-texts

@@ -1,5 +1,5 @@
-use Rattle.fine_top_tests.specs.Disks.{IsLeft}
-use Rattle.fine_top_tests.proofs.tests.worked.take_steps.Given as goal
+use Rattle.program_runs.specs.Disks.{IsLeft}
+use Rattle.worked_logs_tests.proofs.tests.take_steps.Given as goal
 
 -- the log is as a run leaves it
 abbrev pub invariant-loop-step : goal.invariant-loop-step

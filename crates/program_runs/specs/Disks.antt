@@ -10,3 +10,7 @@ IsLeft disk = IsGeometry (disk.regions, disk.region_len) × (disk.eyes ≡ [])
 -- and nothing on it is unsynced, as a run wants it
 abbrev pub IsReady : Disk → Type 0
 IsReady disk = IsGeometry (disk.regions, disk.region_len) × (disk.unsynced ≡ []) × (disk.eyes ≡ [])
+
+-- its geometry stays, and no eye is open
+abbrev pub KeepsGeometry : Disk → Disk → Type 0
+KeepsGeometry old new = (new.regions ≡ old.regions) × (new.region_len ≡ old.region_len) × (new.eyes ≡ [])

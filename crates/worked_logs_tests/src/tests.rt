@@ -1,20 +1,16 @@
 //! Worked rows: commands that follow on one log, what each prints, and bytes that it leaves.
 
-ghost use Rattle.std.specs.Prelude.{◌≡◌, [], IfOk, length};
+ghost use Rattle.std.specs.Prelude.{◌≡◌, [], IfOk};
 ghost use Rattle.command_words.specs.Words.{IsGeometry};
-ghost use Rattle.log_disk.specs.Disk.{IsWithin};
-ghost use Rattle.fine_top_tests.specs.Disks.{IsLeft, IsReady};
+ghost use Rattle.program_runs.specs.Disks.{IsLeft, IsReady, KeepsGeometry};
 
-use super::{RUN, crash, expect};
-use log_disk::{FaultPlan, LogDisk, MemDisk};
+use log_disk::{FaultPlan, MemDisk};
+use program_runs::{Piece, crash, expect, has_piece, new_disk, set_piece};
 use std::alloc::Global;
 use std::process::Abort;
 use std::sync::Wait;
 use std::test::Fail;
 use std::thread::Threads;
-
-/// Bytes of a region from a place on.
-type Piece<'a> = (u32, u64, &'a [u8]);
 
 /// What is written into the log before a command, its words and its script, the status and the text that it prints, and what the log has then.
 /// In texts each `|` ends a line, and each `~` is a value of 256 letters.
@@ -26,6 +22,8 @@ type Step<'a> = (
     &'a str,
     &'a [Piece<'a>],
 );
+
+const RUN: &[&str] = &["run"];
 
 const EACH: &[&str] = &["run", "--group", "1"];
 
@@ -40,14 +38,6 @@ const NONE: &[Piece] = &[];
 // A command with status 0, before and after which no byte of the log is looked at.
 fn tells<'a>(words: &'a [&'a str], script: &'a str, text: &'a str) -> Step<'a> {
     (NONE, words, script, 0, text, NONE)
-}
-
-// A new disk.
-pub fn new_disk(alloc: Global, regions: u32, region_len: u64) -> Result<MemDisk, Fail>
-    requires { IsGeometry (regions, region_len) }
-    ensures { IfOk result (λ disk. IsReady disk.disk) }
-{
-    Ok(MemDisk::new(alloc, regions, region_len, FaultPlan::none(alloc))?)
 }
 
 // A text with its values written out.
@@ -71,48 +61,10 @@ fn repeated(alloc: Global, text: &str, times: u32) -> Result<String, Fail> {
     Ok(whole)
 }
 
-// Writes bytes at a place of a region that has room for them.
-fn write_piece(disk: &mut MemDisk, region: u32, at: u64, bytes: &[u8]) -> Result<(), Fail>
-    requires within { IsWithin disk.old.disk region at (length bytes.now) }
-    requires no_eyes { disk.old.disk.eyes ≡ [] }
-    ensures { (disk.new.disk.regions ≡ disk.old.disk.regions) × (disk.new.disk.region_len ≡ disk.old.disk.region_len) × (disk.new.disk.eyes ≡ []) }
-{
-    disk.write(region, at, bytes)?;
-    Ok(())
-}
-
-// Writes bytes, which a crash leaves.
-pub fn set_piece(disk: &mut MemDisk, piece: &Piece) -> Result<(), Fail>
-    requires no_eyes { disk.old.disk.eyes ≡ [] }
-    ensures { (disk.new.disk.regions ≡ disk.old.disk.regions) × (disk.new.disk.region_len ≡ disk.old.disk.region_len) × (disk.new.disk.eyes ≡ []) }
-{
-    let (region, at, bytes) = *piece;
-    if disk.regions() <= region || disk.region_len().saturating_sub(at) < 1 + bytes.len() as u64 {
-        return Err("piece")?;
-    }
-    write_piece(disk, region, at, bytes)?;
-    disk.sync()?;
-    Ok(())
-}
-
-// Whether the log has these bytes.
-pub fn has_piece(alloc: Global, disk: &mut MemDisk, piece: &Piece) -> Result<bool, Fail>
-    requires no_eyes { disk.old.disk.eyes ≡ [] }
-    ensures { (disk.new.disk.regions ≡ disk.old.disk.regions) × (disk.new.disk.region_len ≡ disk.old.disk.region_len) × (disk.new.disk.eyes ≡ []) }
-{
-    let (region, at, bytes) = *piece;
-    let mut found = Vec::from_slice(alloc, bytes)?;
-    if disk.regions() <= region || disk.region_len().saturating_sub(at) < 1 + bytes.len() as u64 {
-        return Ok(false);
-    }
-    disk.read(region, at, &mut found)?;
-    Ok(found.as_slice() == bytes)
-}
-
 // Writes pieces.
 fn set_all(disk: &mut MemDisk, pieces: &[Piece]) -> Result<(), Fail>
     requires no_eyes { disk.old.disk.eyes ≡ [] }
-    ensures { (disk.new.disk.regions ≡ disk.old.disk.regions) × (disk.new.disk.region_len ≡ disk.old.disk.region_len) × (disk.new.disk.eyes ≡ []) }
+    ensures { KeepsGeometry disk.old.disk disk.new.disk }
 {
     for piece in pieces {
         set_piece(disk, piece)?;
@@ -123,7 +75,7 @@ fn set_all(disk: &mut MemDisk, pieces: &[Piece]) -> Result<(), Fail>
 // Whether the log has all pieces.
 fn has_all(alloc: Global, disk: &mut MemDisk, pieces: &[Piece]) -> Result<bool, Fail>
     requires no_eyes { disk.old.disk.eyes ≡ [] }
-    ensures { (disk.new.disk.regions ≡ disk.old.disk.regions) × (disk.new.disk.region_len ≡ disk.old.disk.region_len) × (disk.new.disk.eyes ≡ []) }
+    ensures { KeepsGeometry disk.old.disk disk.new.disk }
 {
     for piece in pieces {
         if !has_piece(alloc, disk, piece)? {
@@ -180,7 +132,7 @@ fn follow<R: Threads + Wait + Sync + Abort>(
 ) -> Result<(), Fail>
     requires { IsGeometry geometry }
 {
-    let disk = new_disk(alloc, geometry.0, geometry.1)?;
+    let disk = new_disk(alloc, geometry.0, geometry.1, FaultPlan::none(alloc))?;
     take_steps(rt, alloc, disk, steps)?;
     Ok(())
 }
@@ -425,7 +377,7 @@ fn merged_rows_are_an_image(rt: HostRuntime) -> Result<(), Fail> {
         ),
     ];
     for more in [&merged[..], &closed[..]] {
-        let disk = new_disk(alloc, 6, 16_384)?;
+        let disk = new_disk(alloc, 6, 16_384, FaultPlan::none(alloc))?;
         let disk = take_steps(&rt, alloc, disk, &puts)?;
         take_steps(&rt, alloc, disk, more)?;
     }

@@ -1,8 +1,8 @@
 #!/bin/sh
 # What transactions of one `put` each cost on a hall on a disk in memory: 400,000 of one pass on one thread, and as many in all of four passes on four threads,
 # each in a bucket of its own. Beside them a C program whose threads put as many pairs into a hash table under one mutex, and copy a record of 32 bytes each into a
-# buffer under it; and a bare lock whose threads change two cache lines in each turn, and spend as much time of their own between as a transaction takes on one thread.
-# Each commit is a turn of the room, so what the bare lock gains by four threads is about what can be had. The goal is at most 6 microseconds a transaction on one
+# buffer under it; and a bare lock whose threads change cache lines in each turn, each of which tells where the next one lies, and spend as much time of their own between as a
+# transaction takes on one thread. Each commit is a turn of the room, so what the bare lock gains by four threads is about what can be had with so long a chain. The goal is at most 6 microseconds a transaction on one
 # thread, and at least 2.5 times its commits a second with four threads, which wants four cores. Nothing is sealed, so no sync counts.
 #
 # Printed are, of the hall and of the C program, on one thread and on four, the commits a second and the processor microseconds a transaction; the commits a second of
@@ -140,13 +140,15 @@ cat > "$work/turns.c" <<'EOT'
 #include <time.h>
 #include <immintrin.h>
 
-/* Threads that take a bare lock, by a load and a compare-exchange, change two cache lines and give it back by a store; between they count for themselves. A
-   commit is such a turn of the room, which changes the room's numbers and the end of the log at least. Words: threads, turns of each, counts between two turns. With
-   0 threads, how many nanoseconds a line takes from one processor to another: two threads write one word in turn. */
-enum { LINES = 2, MOST = 4, PASSES = 1000000 };
+/* Threads that take a bare lock, by a load and a compare-exchange, change so many cache lines, each of which tells where the next one lies, and give it back by
+   a store; between they count for themselves. A commit is such a turn of the room: the room's slot tells where the room lies, and the room where its log ends.
+   Words: threads, turns of each, counts between two turns, lines. With 0 threads, how many nanoseconds a line takes from one processor to another: two threads
+   write one word in turn. */
+enum { LINES = 4, MOST = 4, PASSES = 1000000 };
+typedef struct line { _Alignas(128) struct line *volatile next; volatile long value; } line;
 static struct { _Alignas(128) atomic_long word; } lock;
-static struct { _Alignas(128) volatile long value; } lines[LINES];
-static long times, own;
+static line lines[LINES + 1];
+static long times, own, chain;
 
 static void *work(void *arg) {
     (void)arg;
@@ -158,7 +160,11 @@ static void *work(void *arg) {
             for (int spin = 0; spin < 1 << (tries < 6 ? tries : 6); spin++) _mm_pause();
             tries++;
         }
-        for (long line = 0; line < LINES; line++) lines[line].value++;
+        line *at = lines;
+        for (long link = 0; link < chain; link++) {
+            at->value++;
+            at = at->next;
+        }
         atomic_store(&lock.word, 0);
     }
     return NULL;
@@ -180,11 +186,13 @@ static long now(void) {
 
 int main(int argc, char **argv) {
     pthread_t threads[MOST];
-    if (argc < 4) return 1;
+    if (argc < 5) return 1;
     long count = atol(argv[1]), running = count ? count : 2;
-    if (count > MOST) return 1;
     times = atol(argv[2]);
     own = atol(argv[3]);
+    chain = atol(argv[4]);
+    if (count > MOST || chain > LINES) return 1;
+    for (long i = 0; i < LINES; i++) lines[i].next = &lines[i + 1];
     long start = now();
     for (long i = 0; i < running; i++)
         if (pthread_create(&threads[i], NULL, count ? work : pass, (void *)i)) return 1;
@@ -260,16 +268,19 @@ awk -v count="$count" -v commits="$work/commits" "$median"'
     printf "%d\n", 1 / median_at(wall, 1) > commits
   }' "$work/runs"
 
-# turns THREADS OWN: how many turns of the bare lock there are in a second
-turns() { "$work/turns" "$1" $((count / $1)) "$2"; }
+# turns THREADS OWN LINES: how many turns of the bare lock there are in a second
+turns() { "$work/turns" "$1" $((count / $1)) "$2" "$3"; }
 # one thread alone makes as many turns a second as one thread of the hall commits
 own=300
 for step in 1 2 3 4 5 6; do
-  own=$(awk -v own="$own" -v made="$(turns 1 "$own")" -v wanted="$(cat "$work/commits")" 'BEGIN { printf "%d", own * made / wanted }')
+  own=$(awk -v own="$own" -v made="$(turns 1 "$own" 1)" -v wanted="$(cat "$work/commits")" 'BEGIN { printf "%d", own * made / wanted }')
 done
-for turn in $(seq 1 9); do echo "$(turns 1 "$own") $(turns 4 "$own") $("$work/turns" 0 0 0)"; done | awk "$median"'
-  { one[NR] = $1; four[NR] = $2; more[NR] = $2 / $1; passing[NR] = $3 }
-  END {
-    printf "C, a bare lock with as much between two turns: %d turns a second on one thread, %d on four, %.2f to one\n", median(one), median(four), median(more)
-    printf "a cache line takes %d nanoseconds from one processor to another\n", median(passing)
-  }'
+echo "C, a bare lock with as much between two turns, each of which changes so many lines that tell where the next one lies:"
+for lines in 0 1 2 3 4; do
+  for turn in $(seq 1 9); do echo "$(turns 1 "$own" $lines) $(turns 4 "$own" $lines)"; done | awk -v lines=$lines "$median"'
+    { one[NR] = $1; four[NR] = $2; more[NR] = $2 / $1 }
+    END { printf "  %d lines: %d turns a second on one thread, %d on four, %.2f to one\n", lines, median(one), median(four), median(more) }'
+done
+for turn in $(seq 1 9); do "$work/turns" 0 0 0 0; done | awk "$median"'
+  { passing[NR] = $1 }
+  END { printf "a cache line takes %d nanoseconds from one processor to another\n", median(passing) }'

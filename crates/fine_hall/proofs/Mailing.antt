@@ -5,7 +5,6 @@ use Rattle.atomic_table.specs.Seated.{TableId}
 use Rattle.fine_model.specs.declared.law.ViewState.{ViewState}
 use Rattle.fine_places.specs.declared.model.Known.{Known}
 use Rattle.fine_places.specs.History as places
-use Rattle.fine_places.specs.History.{by_seat}
 use Rattle.fine_places.proofs.Lists.{decide}
 use Rattle.fine_boxes.specs.declared.model.TurnNote.{TurnNote}
 use Rattle.fine_boxes.specs.declared.model.Reads.{Reads}
@@ -19,7 +18,7 @@ use Rattle.fine_hall.specs.Turns.{touches_bucket}
 use Rattle.fine_hall.specs.Laws.{AreTurns}
 use Rattle.fine_hall.specs.Passes.{PassView, known, reads, published, HasPlace, IsHolder, IsPass}
 use Rattle.fine_hall.specs.Halls as halls
-use Rattle.fine_hall.specs.Halls.{KeepsPlaces, KeepsViews, Publishes, Posts, MayPost}
+use Rattle.fine_hall.specs.Halls.{Publishes, Posts, MayPost}
 use Rattle.fine_hall.proofs.Passing.{keeps_turns, keeps_known, known_is, reads_is, one_turn, keeps_front, keeps_holder, about, still, seeing_pass, steady_pass, sees_more, same_number}
 
 module _ {V : Type 0} (view : V → ViewState) (z : TableId) (x : Beginning) (p : Pass V) (v : PassView) (ok : IsPass view z x p) (e : p.badge.views ≡ v ∷ [])

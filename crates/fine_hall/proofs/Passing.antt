@@ -8,7 +8,7 @@ use Rattle.fine_model.specs.declared.law.ViewState.{ViewState}
 use Rattle.fine_places.specs.declared.model.Placed.{Placed}
 use Rattle.fine_places.specs.declared.model.Known.{Known}
 use Rattle.fine_places.specs.History as places
-use Rattle.fine_places.specs.History.{most_seats, touches_place, touching, by_seat, Owns, Owned}
+use Rattle.fine_places.specs.History.{most_seats, touching, by_seat, Owns, Owned}
 use Rattle.fine_places.specs.Places.{share, finding, Holds}
 use Rattle.fine_places.specs.Telling.{at_room, Sees, TookIt, Finds, FoundHeld, IsSized}
 use Rattle.fine_places.proofs.Lists.{at_room_elim, some_same, whole}

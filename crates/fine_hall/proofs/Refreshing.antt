@@ -8,7 +8,6 @@ use Rattle.fine_model.specs.Views.{counting}
 use Rattle.fine_places.specs.declared.model.Placed.{Placed}
 use Rattle.fine_places.specs.declared.model.Known.{Known}
 use Rattle.fine_places.specs.History as places
-use Rattle.fine_places.specs.History.{touching}
 use Rattle.fine_places.specs.Places.{Holds, knowing}
 use Rattle.fine_places.specs.Telling.{Sees}
 use Rattle.fine_places.proofs.Lists.{some_same}

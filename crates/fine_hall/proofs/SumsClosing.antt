@@ -16,7 +16,7 @@ use Rattle.fine_places.specs.declared.model.Placed.{Placed}
 use Rattle.fine_places.specs.History.{by_seat}
 use Rattle.fine_boxes.specs.declared.model.BoxNote.{BoxNote}
 use Rattle.fine_boxes.specs.declared.model.Reads.{Reads}
-use Rattle.fine_boxes.specs.Boxes.{sum_below, given_of, both}
+use Rattle.fine_boxes.specs.Boxes.{sum_below, given_of}
 use Rattle.fine_hall.specs.declared.turn.Turn.{Turn}
 use Rattle.fine_hall.specs.declared.law.Beginning.{Beginning}
 use Rattle.fine_hall.specs.declared.pass.Pass.{Pass}

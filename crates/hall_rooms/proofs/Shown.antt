@@ -12,7 +12,6 @@ use Rattle.epoch_room.specs.declared.answers.RoomFault.{RoomFault}
 use Rattle.epoch_room.specs.declared.answers.RoomFault.TheVariants as room_fault
 use Rattle.epoch_room.proofs.OpenEpochs.Behind.{keeps_none}
 use Rattle.fine_places.specs.History as places
-use Rattle.fine_places.specs.History.{by_seat}
 use Rattle.fine_places.proofs.Lists.{some_same}
 use Rattle.fine_boxes.specs.declared.model.TurnNote.{TurnNote}
 use Rattle.fine_hall.specs.declared.law.Beginning.{Beginning}

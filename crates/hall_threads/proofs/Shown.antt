@@ -36,7 +36,7 @@ use Rattle.fine_hall.proofs.Since.{since_law}
 use Rattle.fine_hall.proofs.Troubles.{troubles_law}
 use Rattle.hall_threads.specs.declared.things.DayRoom.{DayRoom}
 use Rattle.hall_threads.specs.declared.things.DayView.{DayView}
-use Rattle.hall_threads.specs.Days.{room_state, room_log, view_state, day_stands, job_of, StandsFor, board_of, eye_of, told_rows, leaf_id}
+use Rattle.hall_threads.specs.Days.{room_state, room_log, view_state, day_stands, job_of, StandsFor, board_of, eye_of, told_rows}
 use Rattle.hall_threads.specs.Turnover.{Seals, IsViewOf, TakesBack, InTurn, PostsTo, PostedBelow, Stays, IsShown, HasNoneToSeal}
 use Rattle.fine_model.proofs.Histories.Epochs.{all_upto, epochs_below, seals, none_wait}
 use Rattle.hall_threads.proofs.Standing.{day_becomes, may_give, may_give_none}

@@ -11,8 +11,7 @@ use Rattle.fine_model.specs.Chain.{free_regions, is_free}
 use Rattle.fine_model.specs.History.{Commit, IsLegal}
 use Rattle.fine_model.specs.Becomes.{Becomes, IsStuck}
 use Rattle.fine_model.specs.Room.{IsSealedUpTo}
-use Rattle.fine_model.specs.Regions.{body_in}
-use Rattle.fine_model.specs.Jobs.{KeepsJob, held_for}
+use Rattle.fine_model.specs.Jobs.{KeepsJob}
 use Rattle.fine_model.specs.Buckets.{Began, node_id}
 use Rattle.fine_model.proofs.Histories.HistoryLaws.{IsLegal-push}
 use Rattle.fine_hall.specs.declared.law.Beginning.{Beginning}
@@ -23,7 +22,7 @@ use Rattle.fine_hall.specs.Passes.{seen, turns, published, last_room, HasPlace}
 use Rattle.fine_hall.specs.Halls.{TakesRoom, MayGiveRoom, MayGive}
 use Rattle.hall_threads.specs.declared.things.DayRoom.{DayRoom}
 use Rattle.hall_threads.specs.declared.things.DayView.{DayView}
-use Rattle.hall_threads.specs.Days.{zero_image, key_bucket, leaf_at, put_entry, board_of, room_state, room_log, StandsFor, day_stands, day_job, job_of, view_state, Appends}
+use Rattle.hall_threads.specs.Days.{zero_image, key_bucket, leaf_at, put_entry, board_of, room_state, room_log, StandsFor, day_stands, job_of, view_state, Appends}
 use Rattle.fine_model.proofs.Histories.Epochs.{epochs_below, waiting_push, sealed_push, follow_push}
 use Rattle.hall_threads.proofs.Putting.{next_put, leaf_after, on_leaf, others_stay}
 

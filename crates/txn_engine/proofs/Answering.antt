@@ -5,7 +5,6 @@ use Rattle.std.specs.List.{AllByRecursion, list_any}
 use Rattle.fine_places.proofs.Lists.{decide}
 use Rattle.fine_model.specs.declared.Call.{Call}
 use Rattle.fine_model.specs.declared.Call.TheVariants as call
-use Rattle.fine_model.specs.declared.FetchFault.{FetchFault}
 use Rattle.fine_model.specs.declared.NodeId.{NodeId}
 use Rattle.fine_model.specs.declared.Row.{Row}
 use Rattle.fine_model.specs.declared.Why.TheVariants as why
@@ -17,10 +16,9 @@ use Rattle.fine_model.specs.Trees.{bucket_of}
 use Rattle.fine_model.proofs.Ordered.Order.{all_map}
 use Rattle.fine_model.proofs.Trees.PushedCalls.{pushed_stops}
 use Rattle.node_cache.specs.Cache.{Cache}
-use Rattle.node_cache.specs.Given.{Finds}
 use Rattle.btree_nodes.specs.declared.fault.TreeFault.{TreeFault}
 use Rattle.btree_nodes.specs.declared.fault.TreeFault.TheVariants.{Source, Unfit, BucketFull, Number, NoMemory}
-use Rattle.btree_nodes.specs.Calls.{IsChange, IsFirstUnfit, Outcome}
+use Rattle.btree_nodes.specs.Calls.{IsFirstUnfit}
 use Rattle.btree_nodes.specs.Faults.{OnFault}
 use Rattle.btree_nodes.specs.Trees.{Holds, Restores, Serves}
 use Rattle.fine_model.specs.Map.{Pair}

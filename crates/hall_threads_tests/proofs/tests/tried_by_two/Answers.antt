@@ -1,4 +1,4 @@
-use Rattle.std.proofs.Common.{◌≤◌, arith}
+use Rattle.std.proofs.Common.{arith}
 use Rattle.hall_threads.proofs.Idle.{near}
 use Rattle.hall_threads_tests.proofs.tests.tried_by_two.Goals as goal
 

@@ -8,7 +8,6 @@ use Rattle.fine_places.specs.History.{by_seat}
 use Rattle.node_cache.specs.Cache.{Cache}
 use Rattle.partition_hold.specs.Views.{ViewValue}
 use Rattle.epoch_room.specs.Value.{RoomValue}
-use Rattle.epoch_room.specs.declared.answers.RoomFault.{RoomFault}
 use Rattle.fine_hall.specs.declared.law.Beginning.{Beginning}
 use Rattle.fine_hall.specs.Turns.{added, committed, commits}
 use Rattle.fine_hall.specs.Passes.{mine, own_turns}

@@ -1,17 +1,24 @@
--- A pass in the midst of a transaction, after a call, and after a commit that was refused.
-use Rattle.std.proofs.Common.{◌≡◌, ℕ, Result, ◌<◌, ◌≤◌, ◌∙◌, ap, sym, arith, le_refl}
+-- A pass in the midst of a transaction, after a call, after a commit that was refused, and after turns without an entry.
+use Rattle.std.proofs.Common.{◌≡◌, ℕ, Bool, None, Result, List, [], ◌∷◌, ◌++◌, ◌∙◌, ap, sym, subst, arith, le_refl}
+use Rattle.std.specs.Prelude.{slice_index_or}
+use mathlib.Core.Option.{some}
 use lib.ListN.{get_elem?}
+use Rattle.fine_model.specs.declared.law.RoomState.{RoomState}
+use Rattle.fine_model.specs.Jobs.{KeepsJob}
 use Rattle.fine_places.specs.History as places
 use Rattle.node_cache.specs.Cache.{Cache}
 use Rattle.partition_hold.specs.Views.{ViewValue, state_of}
 use Rattle.epoch_room.specs.Value.{RoomValue}
-use Rattle.fine_hall.specs.Halls.{HallOf}
+use Rattle.fine_hall.specs.Halls.{HallOf, turn_of}
+use Rattle.fine_hall.specs.Passes.{turns}
+use Rattle.fine_hall.specs.Turns.{room_after}
 use Rattle.fine_hall.proofs.Troubles.{sees_law}
+use Rattle.fine_hall.proofs.Turning.{after_last}
 use Rattle.epoch_room.specs.declared.answers.RoomFault.{RoomFault}
 use Rattle.room_merges.specs.declared.fault.MergeFault.{MergeFault}
-use Rattle.hall_rooms.specs.declared.making.Space.{Space}
-use Rattle.hall_rooms.specs.Making.{Renews, TriesRoom}
-use Rattle.hall_rooms.specs.Turning.{SealsAndPosts}
+use Rattle.hall_rooms.specs.Making.{MakesRoom, Renews, RenewsEach}
+use Rattle.hall_rooms.specs.Merging.{MergesInTurn}
+use Rattle.hall_rooms.specs.Turning.{DidInTurn, SealsAndPosts}
 use Rattle.hall_rooms.proofs.Idle.{seals_idle}
 use Rattle.hall_rooms.specs.Rooms.{IsRoomPass, RoomPass, beginning_of}
 use Rattle.txn_engine.specs.declared.txn.CommitFault.{CommitFault}
@@ -19,8 +26,9 @@ use Rattle.txn_engine.specs.declared.txn.Txn.{Txn}
 use Rattle.txn_engine.specs.Txns.{IsOpenTxn, IsRefused, SeesCall}
 use Rattle.key_locks.proofs.Held.{near}
 use Rattle.txn_engine.proofs.Idle.{begins_law, refused_job, seen_law}
-use Rattle.txn_engine.proofs.Turned.{makes_law, makes_no_job}
-use Rattle.hall_accounts.specs.Going.{IsAtRest, IsFree, IsGoing}
+use Rattle.txn_engine.proofs.Turned.{makes_law, makes_no_job, turn_law}
+use Rattle.hall_accounts.specs.Going.{AreGoing, IsAtRest, IsFree, IsGoing}
+use Rattle.hall_accounts.proofs.Begun.{first_is}
 
 module _ {Q : Type 0} (hall : HallOf RoomValue Cache ViewValue Q) (t t' : Txn) (p p' : RoomPass) where
   pub going_on : IsGoing hall t p → IsRoomPass hall p' → p'.number ≡ p.number → SeesCall (beginning_of hall) p p' → IsOpenTxn (beginning_of hall) t' p' → IsGoing hall t' p'
@@ -43,23 +51,50 @@ module _ {Q : Type 0} (hall : HallOf RoomValue Cache ViewValue Q) (t t' : Txn) (
 pub shows_on : {Q : Type 0} (hall : HallOf RoomValue Cache ViewValue Q) (p p' : RoomPass) (r : Result ℕ RoomFault) → IsAtRest hall p → IsRoomPass hall p' → p'.number ≡ p.number → SealsAndPosts (beginning_of hall) p p' r → IsAtRest hall p'
 shows_on hall p p' r rest pass number s = let i = seals_idle r (beginning_of hall) p p' number s rest.idle.1 rest.idle.2 in record { idle = (pass, i.0, i.1) }
 
--- an open transaction goes on over a turn of its pass that makes room, whatever that comes to
-pub makes_goes : {Q : Type 0} (hall : HallOf RoomValue Cache ViewValue Q) (t : Txn) (p p' : RoomPass) (from : ℕ) (r : Result Space MergeFault) → IsGoing hall t p → IsRoomPass hall p' → TriesRoom (beginning_of hall) from p p' r → IsGoing hall t p'
+-- an open transaction goes on over a turn of its pass without an entry that leaves the merge as it was, whatever else it did
+pub turn_goes : {Q : Type 0} (hall : HallOf RoomValue Cache ViewValue Q) (t : Txn) (p p' : RoomPass) (does : RoomState → RoomState → Type 0) → IsGoing hall t p → IsRoomPass hall p' → p'.number ≡ p.number → DidInTurn (beginning_of hall) p p' does → IsGoing hall t p'
+turn_goes hall t p p' does g pass number d = record {
+  pass = pass;
+  is_open = turn_law (beginning_of hall) t p p' d.found d.room (record { one = d.turn.one; same_held = d.same_held }) g.pass.lawful pass.lawful g.room g.is_open;
+  room = ap (λ l. get_elem? l places.room) d.same_held ∙ g.room;
+  job = λ one.
+      let was = sym number ∙ one in
+      let first = (beginning_of hall).room in
+      ap (λ ts. (room_after first ts).job) d.turn.turns_more
+      ∙ (ap (λ (r : RoomState). r.job) (after_last first (turns p ++ d.turn.others) (record { seat = p.number; item = turn_of None 0 d.room d.turn.returned })) ∙ (d.job.job ∙ ((d.turn.found_job was).job ∙ g.job was)));
+}
+
+-- so it does over one that merges
+pub merges_goes : {Q : Type 0} (hall : HallOf RoomValue Cache ViewValue Q) (t : Txn) (p p' : RoomPass) (from : ℕ) (r : Result Bool MergeFault) → IsGoing hall t p → IsRoomPass hall p' → p'.number ≡ p.number → MergesInTurn (beginning_of hall) from p p' r → IsGoing hall t p'
+merges_goes hall t p p' from r g pass number m = turn_goes hall t p p' KeepsJob g pass number (record { found = m.found.room; room = m.room.room; turn = m.turn; same_held = m.same_held; job = m.job; did = m.job })
+
+-- and over one that makes room, whatever that comes to
+makes_goes : {Q : Type 0} (hall : HallOf RoomValue Cache ViewValue Q) (t : Txn) (p p' : RoomPass) (from : ℕ) (r : Result Bool MergeFault) → IsGoing hall t p → IsRoomPass hall p' → MakesRoom (beginning_of hall) from p p' r → IsGoing hall t p'
 makes_goes hall t p p' from r g pass m = record {
   pass = pass;
-  is_open = makes_law (beginning_of hall) t p p' from m.made m.makes g.pass.lawful pass.lawful g.room g.is_open;
-  room = ap (λ l. get_elem? l places.room) m.makes.turn.same_held ∙ g.room;
-  job = makes_no_job (beginning_of hall) p p' from m.made m.makes;
+  is_open = makes_law (beginning_of hall) t p p' from r m g.pass.lawful pass.lawful g.room g.is_open;
+  room = ap (λ l. get_elem? l places.room) m.turn.same_held ∙ g.room;
+  job = makes_no_job (beginning_of hall) p p' from r m;
 }
 
 -- and so does that of another pass, which looks in its mailbox in it
-pub renews_goes : {Q : Type 0} (hall : HallOf RoomValue Cache ViewValue Q) (t : Txn) (p p' : RoomPass) → IsGoing hall t p → IsRoomPass hall p' → Renews (beginning_of hall) p p' → IsGoing hall t p'
+renews_goes : {Q : Type 0} (hall : HallOf RoomValue Cache ViewValue Q) (t : Txn) (p p' : RoomPass) → IsGoing hall t p → IsRoomPass hall p' → Renews (beginning_of hall) p p' → IsGoing hall t p'
 renews_goes hall t p p' g pass r = record {
   pass = pass;
   is_open = seen_law (beginning_of hall) t p p' r.sees g.pass.lawful pass.lawful (λ k low. ap (λ l. get_elem? l k) r.same_held) g.is_open;
   room = ap (λ l. get_elem? l places.room) r.same_held ∙ g.room;
   job = λ one. let was = sym r.number ∙ one in ((sees_law state_of).job (beginning_of hall) p p' pass.lawful was r.sees).job ∙ g.job was;
 }
+
+-- the transactions of both seats go on as the first makes room with the pass of the second
+pub both_go : {Q : Type 0} (hall : HallOf RoomValue Cache ViewValue Q) (t u : Txn) (p p' q : RoomPass) (before after : List RoomPass) (from : ℕ) (r : Result Bool MergeFault) → AreGoing hall t p u q → before ≡ q ∷ [] → IsRoomPass hall p' × (p'.number ≡ p.number) → ((i : ℕ) (o : RoomPass) → get_elem? after i ≡ some o → IsRoomPass hall o) → RenewsEach (beginning_of hall) before after → MakesRoom (beginning_of hall) from p p' r → AreGoing hall t p' u (slice_index_or after 0 q)
+both_go hall t u p p' q before after from r are is pass others renews m =
+    let e = renews.each 0 q (ap (λ l. get_elem? l 0) is) in
+    let goes = renews_goes hall u q e.0 are.two.0 (others 0 e.0 e.1) e.2 in
+    record {
+      one = (makes_goes hall t p p' from r are.one.0 pass.0 m, pass.1 ∙ are.one.1);
+      two = subst (λ o. IsGoing hall u o × (o.number ≡ 2)) (sym (first_is after q e.0 e.1)) (goes, e.2.number ∙ are.two.1);
+    }
 
 -- a transaction that holds nothing begins with an idle pass
 pub goes : {Q : Type 0} (hall : HallOf RoomValue Cache ViewValue Q) (t : Txn) (p : RoomPass) → IsAtRest hall p → IsFree t → IsGoing hall t p

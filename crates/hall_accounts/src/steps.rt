@@ -13,7 +13,7 @@ use log_disk::{MemDisk, MemEye};
 use partition_hold::View;
 use std::alloc::Global;
 use std::sync::Wait;
-use txn_engine::{CommitFault, RoomHall, Space, Txn, TxnFault};
+use txn_engine::{CommitFault, RoomHall, Space, Txn, TxnFault, settle_views};
 
 /// A pass with its transaction.
 #[derive(Drop)]
@@ -35,6 +35,8 @@ pub enum Step {
     Abort,
     /// Takes back what is open, seals what waits, and posts views of it.
     Show,
+    /// Erases what is retired and no view names. What is open stays open.
+    Settle,
 }
 
 /// What a step answers.
@@ -51,7 +53,15 @@ pub enum Told {
     /// The sealed epoch.
     Shown(u64),
     NotShown(RoomFault),
+    /// How many parts were erased.
+    Settled(u32),
+    NotSettled(RoomFault),
+    /// Whether two parts were merged.
+    Merged(bool),
+    NotMerged,
     Room(Space),
+    /// Whether room was made.
+    RoomMade(bool),
     NoRoom,
 }
 
@@ -131,6 +141,20 @@ fn show_now<W: Wait>(rt: &W, hall: &RoomHall<MemDisk>, seat: &mut Seat) -> Told
     }
 }
 
+fn told_settled(settled: Result<u32, RoomFault>) -> Told {
+    match settled {
+        Ok(erased) => Told::Settled(erased),
+        Err(fault) => Told::NotSettled(fault),
+    }
+}
+
+fn settle_now<W: Wait>(rt: &W, hall: &RoomHall<MemDisk>, seat: &mut Seat) -> Told
+    requires going { IsGoing hall.now seat.old.txn seat.old.pass }
+    ensures going { IsGoing hall.now seat.new.txn seat.new.pass × (seat.new.pass.number ≡ seat.old.pass.number) }
+{
+    told_settled(settle_views(rt, hall, &mut seat.pass))
+}
+
 /// A step of a seat.
 pub fn take<W: Wait>(
     rt: &W,
@@ -150,5 +174,6 @@ pub fn take<W: Wait>(
         Step::TryCommit => try_commit(rt, hall, seat),
         Step::Abort => abort(hall, seat),
         Step::Show => show_now(rt, hall, seat),
+        Step::Settle => settle_now(rt, hall, seat),
     }
 }

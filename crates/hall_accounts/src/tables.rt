@@ -2,7 +2,7 @@
 
 ghost use Rattle.std.specs.Prelude.{◌≡◌, ◌≤◌, [], IfSome, vec_capacity};
 ghost use Rattle.hall_rooms.specs.Rooms.{beginning_of};
-ghost use Rattle.hall_accounts.specs.Going.{AreGoing, AreTwo, IsFree};
+ghost use Rattle.hall_accounts.specs.Going.{AreGoing, AreTwo, IsFree, IsGoing};
 
 use crate::halls::{Two, end_two, open_two};
 use crate::steps::{Seat, Step, Told, take, take_back};
@@ -14,7 +14,7 @@ use room_merges::MergeFault;
 use std::alloc::Global;
 use std::slice;
 use std::sync::Wait;
-use txn_engine::{RoomHall, Space, Txn, try_room};
+use txn_engine::{RoomHall, Space, Txn, make_room, merge_next, try_room};
 
 /// Both seats of a hall.
 #[derive(Drop)]
@@ -28,7 +28,11 @@ struct Seats {
 pub enum Act {
     One(Step),
     Two(Step),
-    /// Makes room with both passes. What is open stays open.
+    /// Merges the first neighbours that fit, with the pass of the seat 1. What is open stays open, as after the next two.
+    Merge,
+    /// Makes room with both passes.
+    TryRoom,
+    /// Makes room in the same way, and tells only whether some was made.
     MakeRoom,
 }
 
@@ -46,19 +50,54 @@ pub enum Outcome {
     NoMemory,
 }
 
-fn told_by(space: Result<Space, MergeFault>) -> Told {
+fn told_merged(merged: Result<bool, MergeFault>) -> Told {
+    match merged {
+        Ok(merged) => Told::Merged(merged),
+        Err(_fault) => Told::NotMerged,
+    }
+}
+
+fn merge_now<W: Wait>(rt: &W, alloc: Global, hall: &RoomHall<MemDisk>, seat: &mut Seat) -> Told
+    requires going { IsGoing hall.now seat.old.txn seat.old.pass }
+    requires first { seat.old.pass.number ≡ 1 }
+    ensures going { IsGoing hall.now seat.new.txn seat.new.pass × (seat.new.pass.number ≡ seat.old.pass.number) }
+{
+    told_merged(merge_next(rt, alloc, hall, &mut seat.pass, 0))
+}
+
+fn told_space(space: Result<Space, MergeFault>) -> Told {
     match space {
         Ok(space) => Told::Room(space),
         Err(_fault) => Told::NoRoom,
     }
 }
 
-fn make_room<W: Wait>(rt: &W, alloc: Global, hall: &RoomHall<MemDisk>, seats: &mut Seats) -> Told
+fn try_room_now<W: Wait>(rt: &W, alloc: Global, hall: &RoomHall<MemDisk>, seats: &mut Seats) -> Told
     requires { AreGoing hall.now seats.old.one.txn seats.old.one.pass seats.old.two.txn seats.old.two.pass }
     ensures { AreGoing hall.now seats.new.one.txn seats.new.one.pass seats.new.two.txn seats.new.two.pass }
 {
     let others = slice::from_mut(&mut seats.two.pass);
-    told_by(try_room(rt, alloc, hall, &mut seats.one.pass, others, 0))
+    told_space(try_room(rt, alloc, hall, &mut seats.one.pass, others, 0))
+}
+
+fn told_made(made: Result<bool, MergeFault>) -> Told {
+    match made {
+        Ok(made) => Told::RoomMade(made),
+        Err(_fault) => Told::NoRoom,
+    }
+}
+
+fn make_room_now<W: Wait>(
+    rt: &W,
+    alloc: Global,
+    hall: &RoomHall<MemDisk>,
+    seats: &mut Seats,
+) -> Told
+    requires { AreGoing hall.now seats.old.one.txn seats.old.one.pass seats.old.two.txn seats.old.two.pass }
+    ensures { AreGoing hall.now seats.new.one.txn seats.new.one.pass seats.new.two.txn seats.new.two.pass }
+{
+    let others = slice::from_mut(&mut seats.two.pass);
+    told_made(make_room(rt, alloc, hall, &mut seats.one.pass, others, 0))
 }
 
 fn do_act<W: Wait>(
@@ -74,7 +113,9 @@ fn do_act<W: Wait>(
     match act {
         Act::One(step) => take(rt, alloc, hall, &mut seats.one, step),
         Act::Two(step) => take(rt, alloc, hall, &mut seats.two, step),
-        Act::MakeRoom => make_room(rt, alloc, hall, seats),
+        Act::Merge => merge_now(rt, alloc, hall, &mut seats.one),
+        Act::TryRoom => try_room_now(rt, alloc, hall, seats),
+        Act::MakeRoom => make_room_now(rt, alloc, hall, seats),
     }
 }
 

@@ -1,10 +1,11 @@
 //! Tables of steps on halls on disks in memory.
 
 use epoch_room::Counts;
-use hall_accounts::Act::{MakeRoom, One, Two};
-use hall_accounts::Step::{Abort, Commit, Get, Put, Scan, Show, TryCommit};
+use hall_accounts::Act::{MakeRoom, Merge, One, TryRoom, Two};
+use hall_accounts::Step::{Abort, Commit, Get, Put, Scan, Settle, Show, TryCommit};
 use hall_accounts::Told::{
-    Aborted, Balance, Committed, NoPlace, Refused, Room, Shown, Stored, Sum,
+    Aborted, Balance, Committed, Merged, NoPlace, Refused, Room, RoomMade, Settled, Shown, Stored,
+    Sum,
 };
 use hall_accounts::{Line, Outcome, two_threads, walked};
 use log_disk::FaultPlan;
@@ -172,9 +173,10 @@ fn a_failing_read_is_of_its_pass_alone(rt: HostRuntime) -> Result<(), Fail> {
     Ok(())
 }
 
-// Three parts become one, two at a time, until one is left, while a transaction is open.
+// Four parts become one, two at a time, while a transaction is open. The first two are merged by a call that does no more, and erased once each seat took a new
+// view, and the one that it had before was taken back as views were posted again. The others are merged as room is made.
 #[test]
-fn room_is_made_of_three_parts(rt: HostRuntime) -> Result<(), Fail> {
+fn room_is_made_of_four_parts(rt: HostRuntime) -> Result<(), Fail> {
     let alloc = rt.alloc();
     let first = sealed(1, 10);
     let second = [
@@ -182,21 +184,34 @@ fn room_is_made_of_three_parts(rt: HostRuntime) -> Result<(), Fail> {
         Line(Two(Commit), Committed(2, 2)),
         Line(Two(Show), Shown(2)),
     ];
-    let third = sealed(3, 8);
+    let third = sealed(3, 9);
+    let fourth = sealed(4, 8);
     let table = [
         Line(Two(Get(2)), Balance(5)),
-        Line(MakeRoom, Room(Space::Made)),
-        Line(MakeRoom, Room(Space::Made)),
-        Line(MakeRoom, Room(Space::Enough)),
+        Line(One(Get(1)), Balance(8)),
+        Line(Merge, Merged(true)),
+        Line(Two(Settle), Settled(0)),
+        Line(One(Show), Shown(4)),
+        Line(One(Get(1)), Balance(8)),
+        Line(Two(Get(3)), Balance(0)),
+        Line(Two(Settle), Settled(0)),
+        Line(One(Show), Shown(4)),
+        Line(Two(Settle), Settled(2)),
+        Line(One(Settle), Settled(0)),
+        Line(TryRoom, Room(Space::Made)),
+        Line(MakeRoom, RoomMade(true)),
+        Line(Merge, Merged(false)),
+        Line(MakeRoom, RoomMade(false)),
+        Line(TryRoom, Room(Space::Enough)),
         Line(Two(Put(2, 7)), Stored),
-        Line(Two(Commit), Committed(4, 4)),
+        Line(Two(Commit), Committed(5, 5)),
         Line(One(Scan), Sum(15)),
     ];
     ends_with(
         &rt,
         alloc,
-        &[&first, &second, &third, &table],
-        counts(6, 1, 3, 4, 1),
+        &[&first, &second, &third, &fourth, &table],
+        counts(6, 1, 4, 5, 1),
     )
 }
 
@@ -219,12 +234,21 @@ fn a_commit_without_space_is_tried_again(rt: HostRuntime) -> Result<(), Fail> {
                 retired: 0,
             }),
         ),
-        Line(MakeRoom, Room(Space::Made)),
+        Line(Merge, Merged(true)),
+        Line(
+            One(TryCommit),
+            NoPlace(CommitFault::Full {
+                free: 0,
+                live: 6,
+                retired: 2,
+            }),
+        ),
+        Line(TryRoom, Room(Space::Made)),
         Line(One(TryCommit), Committed(8, 8)),
         Line(Two(TryCommit), Committed(9, 8)),
         Line(Two(Scan), Sum(15)),
     ];
-    ends_with(&rt, alloc, &[&full, &table], counts(1, 6, 7, 9, 2))
+    ends_with(&rt, alloc, &[&full, &table], counts(2, 5, 7, 9, 2))
 }
 
 #[test]

@@ -1,5 +1,4 @@
-use Rattle.std.proofs.Common.{◌≡◌, ap, arith}
-use mathlib.Core.Option.{some}
+use Rattle.std.proofs.Common.{ap, arith}
 use lib.ListN.{get_elem?}
 use Rattle.hall_accounts.specs.Going.{IsAtRest}
 use Rattle.hall_accounts.proofs.Begun.{first_of_two, second_of_two, two_of}

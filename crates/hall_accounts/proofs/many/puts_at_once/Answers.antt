@@ -1,5 +1,5 @@
 use Rattle.std.proofs.Common.{arith}
-use Rattle.hall_rooms.specs.Rooms.{IsIdle, beginning_of}
+use Rattle.hall_rooms.specs.Rooms.{beginning_of}
 use Rattle.hall_accounts.specs.Going.{IsAtRest}
 use Rattle.hall_accounts.proofs.Begun.{all_back}
 use Rattle.fine_places.proofs.Elements.{each_of, same_each}

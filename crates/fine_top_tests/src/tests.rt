@@ -6,7 +6,7 @@ ghost use Rattle.program_runs.specs.Disks.{IsLeft, IsReady};
 use fine_model::NoMemory;
 use fine_top::geometry_of;
 use log_disk::{FaultPlan, LogDisk, MemDisk};
-use program_runs::{Printed, crash, expect, has_piece, new_disk, run, set_piece, words_of};
+use program_runs::{Given, Printed, crash, has_piece, new_disk, run, set_piece, words_of};
 use std::alloc::Global;
 use std::process::Abort;
 use std::sync::Wait;
@@ -65,6 +65,23 @@ fn joined(alloc: Global, texts: &[&str]) -> Result<String, NoMemory> {
         whole.push_str(text)?;
     }
     Ok(whole)
+}
+
+// Runs a script, which has to end with this status and to print this text, and gives the disk.
+fn expect<R: Threads + Wait + Sync + Abort>(
+    rt: &R,
+    alloc: Global,
+    given: Given,
+    disk: MemDisk,
+    told: (u8, &str),
+) -> Result<MemDisk, Fail>
+    requires { IsReady disk.disk }
+    ensures { IfOk result (λ disk. IsLeft disk.disk) }
+{
+    let printed = run(rt, alloc, given, disk)?;
+    assert_eq!(rt; printed.finish.status, told.0);
+    assert_eq!(rt; printed.text.as_slice(), told.1.as_bytes());
+    Ok(printed.finish.disk)
 }
 
 // Runs a script on a disk with no call that fails.

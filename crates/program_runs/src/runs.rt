@@ -8,7 +8,6 @@ use fine_top::{Finish, fineline};
 use log_disk::MemDisk;
 use script_text::{MemSink, MemSource};
 use std::alloc::Global;
-use std::process::Abort;
 use std::sync::Wait;
 use std::test::Fail;
 use std::thread::Threads;
@@ -68,21 +67,4 @@ pub fn run<R: Threads + Wait + Sync>(
     let finish = fineline(rt, alloc, &words, &mut source, &mut sink, disk, &NoGate);
     let text = replaced(alloc, sink.bytes(), b'\n', b'|')?;
     Ok(Printed { text, finish })
-}
-
-/// Does what is given on a disk, which has to end with this status and to print this text, and gives the disk.
-pub fn expect<R: Threads + Wait + Sync + Abort>(
-    rt: &R,
-    alloc: Global,
-    given: Given,
-    disk: MemDisk,
-    told: (u8, &str),
-) -> Result<MemDisk, Fail>
-    requires { IsReady disk.disk }
-    ensures { IfOk result (λ disk. IsLeft disk.disk) }
-{
-    let printed = run(rt, alloc, given, disk)?;
-    assert_eq!(rt; printed.finish.status, told.0);
-    assert_eq!(rt; printed.text.as_slice(), told.1.as_bytes());
-    Ok(printed.finish.disk)
 }

@@ -5,7 +5,7 @@ ghost use Rattle.command_words.specs.Words.{IsGeometry};
 ghost use Rattle.program_runs.specs.Disks.{IsLeft, IsReady, KeepsGeometry};
 
 use log_disk::{FaultPlan, MemDisk};
-use program_runs::{Piece, crash, expect, has_piece, new_disk, set_piece};
+use program_runs::{Given, Piece, crash, has_piece, new_disk, run, set_piece};
 use std::alloc::Global;
 use std::process::Abort;
 use std::sync::Wait;
@@ -83,6 +83,23 @@ fn has_all(alloc: Global, disk: &mut MemDisk, pieces: &[Piece]) -> Result<bool, 
         }
     }
     Ok(true)
+}
+
+// Runs a script, which has to end with this status and to print this text, and gives the disk.
+fn expect<R: Threads + Wait + Sync + Abort>(
+    rt: &R,
+    alloc: Global,
+    given: Given,
+    disk: MemDisk,
+    told: (u8, &str),
+) -> Result<MemDisk, Fail>
+    requires { IsReady disk.disk }
+    ensures { IfOk result (λ disk. IsLeft disk.disk) }
+{
+    let printed = run(rt, alloc, given, disk)?;
+    assert_eq!(rt; printed.finish.status, told.0);
+    assert_eq!(rt; printed.text.as_slice(), told.1.as_bytes());
+    Ok(printed.finish.disk)
 }
 
 // Takes a step on a log, which is then as a crash leaves it.

@@ -5,7 +5,8 @@
 # Then the time to the first `get` on the log that is left, with as many transactions and with a tenth of them: of a transaction that is aborted, so that nothing is sealed for it,
 # and of one that is committed. The bytes of epochs are those of the same rows in epochs that fill their regions, of which none is merged, and an index entry for each transaction.
 #
-# The same load on a file in memory, where no sync sleeps, shows what a transaction costs besides: behind a sleep the caches of a processor are cold.
+# The same load on a file in memory, where no sync sleeps, shows what a transaction costs besides: behind a sleep the caches of a processor are cold, and each line that
+# is touched then comes from afar. What such a line takes is printed last.
 #
 # Reading alone is a script whose last line is refused; reading with printing is one whose transactions are all aborted and put nothing. `sh bench/load.sh 10000` makes
 # a smaller load. It is no test. The program is proved before it is built.
@@ -87,6 +88,49 @@ int main(int argc, char **argv) {
 EOF
 gcc -O2 -o "$work/plain" "$work/plain.c"
 
+cat > "$work/cold.c" <<'EOF'
+/* Prints how many nanoseconds a cache line takes that was touched before a sync and is touched again behind it: 256 lines, each of which tells where the next
+   one lies, are walked over behind each write and sync of a file. The median of the turns counts. */
+#include <fcntl.h>
+#include <stdio.h>
+#include <stdlib.h>
+#include <time.h>
+#include <unistd.h>
+
+enum { LINES = 256, TURNS = 400 };
+static struct { _Alignas(64) volatile int next; } lines[LINES];
+static double spent[TURNS];
+
+static double now(void) {
+    struct timespec t;
+    clock_gettime(CLOCK_MONOTONIC, &t);
+    return t.tv_sec * 1e9 + t.tv_nsec;
+}
+
+static int by_size(const void *a, const void *b) {
+    double x = *(const double *)a, y = *(const double *)b;
+    return (x > y) - (x < y);
+}
+
+int main(int argc, char **argv) {
+    char bytes[200] = {0};
+    int fd = argc < 2 ? -1 : open(argv[1], O_RDWR | O_CREAT, 0666), at = 0;
+    if (fd < 0) return 1;
+    /* in an order that no prefetcher guesses */
+    for (int i = 0; i < LINES; i++) lines[i].next = (i * 37 + 101) % LINES;
+    for (int turn = 0; turn < TURNS; turn++) {
+        if (pwrite(fd, bytes, sizeof bytes, turn * 4096L) != sizeof bytes || fdatasync(fd)) return 1;
+        double begun = now();
+        for (int i = 0; i < LINES; i++) at = lines[at].next;
+        spent[turn] = now() - begun;
+    }
+    qsort(spent, TURNS, sizeof *spent, by_size);
+    printf("%.1f\n", spent[TURNS / 2] / LINES);
+    return at < 0;
+}
+EOF
+gcc -O2 -o "$work/cold" "$work/cold.c"
+
 # script NAME COUNT CALLS ENDING LAST: a script of so many transactions, with a last line.
 script() {
   awk -v count="$2" -v put="$3" -v ending="$4" -v last="$5" 'BEGIN {
@@ -147,3 +191,4 @@ for group in 64 1; do
   loaded tenth $group
   echo "  behind a tenth of them: $(gets)"
 done
+echo "a cache line that was touched before a sync and is touched behind it: $("$work/cold" "$work/cold_file") nanoseconds on the disk, $("$work/cold" "$memory/cold_file") on a file in memory"

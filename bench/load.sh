@@ -5,8 +5,8 @@
 # Then the time to the first `get` on the log that is left, with as many transactions and with a tenth of them: of a transaction that is aborted, so that nothing is sealed for it,
 # and of one that is committed. The bytes of epochs are those of the same rows in epochs that fill their regions, of which none is merged, and an index entry for each transaction.
 #
-# The same load on a file in memory, where no sync sleeps, shows what a transaction costs besides: behind a sleep the caches of a processor are cold, and each line that
-# is touched then comes from afar. What such a line takes is printed last.
+# The same load on a file in memory, where no sync sleeps, shows what a transaction costs besides: behind a sleep the caches of a processor may be cold, and each line that
+# is touched then comes from afar. What such a line takes is printed last, of a run of its own: the longer a sync sleeps, the more.
 #
 # Reading alone is a script whose last line is refused; reading with printing is one whose transactions are all aborted and put nothing. `sh bench/load.sh 10000` makes
 # a smaller load. It is no test. The program is proved before it is built.
@@ -116,7 +116,7 @@ int main(int argc, char **argv) {
     char bytes[200] = {0};
     int fd = argc < 2 ? -1 : open(argv[1], O_RDWR | O_CREAT, 0666), at = 0;
     if (fd < 0) return 1;
-    /* in an order that no prefetcher guesses */
+    /* all of them once, with no fixed step from one to the next */
     for (int i = 0; i < LINES; i++) lines[i].next = (i * 37 + 101) % LINES;
     for (int turn = 0; turn < TURNS; turn++) {
         if (pwrite(fd, bytes, sizeof bytes, turn * 4096L) != sizeof bytes || fdatasync(fd)) return 1;

@@ -6,7 +6,7 @@
 # and of one that is committed. The bytes of epochs are those of the same rows in epochs that fill their regions, of which none is merged, and an index entry for each transaction.
 #
 # The same load on a file in memory, where no sync sleeps, shows what a transaction costs besides: behind a sleep the caches of a processor may be cold, and each line that
-# is touched then comes from afar. What such a line takes is printed last, of a run of its own: the longer a sync sleeps, the more.
+# is touched then comes from afar. What such a line takes is printed last, of a run of its own.
 #
 # Reading alone is a script whose last line is refused; reading with printing is one whose transactions are all aborted and put nothing. `sh bench/load.sh 10000` makes
 # a smaller load. It is no test. The program is proved before it is built.

@@ -1,12 +1,16 @@
 #!/bin/sh
 # What transactions of one `put` each cost on a hall on a disk in memory: 400,000 of one pass on one thread, and as many in all of four passes on four threads,
-# each in a bucket of its own. Beside them a C program whose threads put as many pairs into a hash table under one mutex, and copy a record of 32 bytes each into a
+# each in a bucket of its own. They are of two kinds: short ones, which put one pair of a byte and a byte again and again, and long ones, which put keys of 12 bytes
+# with values of 100 as bench/load.sh does, 400 of them in turn, as many as 100,000 keys have in each of 256 buckets. Each commit is a turn of the room, and a turn is as long in both: so
+# short ones show what a turn costs, and long ones what four threads gain where a transaction does more than nothing.
+#
+# Beside them a C program whose threads put as many pairs into a hash table under one mutex, and copy a record as long as a row into a
 # buffer under it; and a bare lock whose threads change cache lines in each turn, each of which tells where the next one lies, and spend as much time of their own between as a
-# transaction takes on one thread. Each commit is a turn of the room, so what the bare lock gains by four threads is about what can be had with so long a chain. The goal is at most 6 microseconds a transaction on one
+# short transaction takes on one thread. What the bare lock gains by four threads is about what can be had with so long a chain. The goal is at most 6 microseconds a transaction on one
 # thread, and at least 2.5 times its commits a second with four threads, which wants four cores. Nothing is sealed, so no sync counts.
 #
-# Printed are, of the hall and of the C program, on one thread and on four, the commits a second and the processor microseconds a transaction; the commits a second of
-# four threads to those of one; the same of the turns of the bare lock; how long the hall takes to the C program; and how long a cache line takes from one processor
+# Printed are, of both kinds, of the hall and of the C program, on one thread and on four, the commits a second and the processor microseconds a transaction; the commits a second of
+# four threads to those of one; how long the hall takes to the C program; then the turns of the bare lock; and how long a cache line takes from one processor
 # to another.
 #
 # Where nobody else is in its way such a transaction takes 2 compare-exchanges, 2 stores and 7 loads of words that other seats use, all sequentially consistent,
@@ -38,37 +42,40 @@ use std::sync::Wait;
 use std::test::Fail;
 use std::thread::Threads;
 use std::time::Instant;
-use hall_accounts::{open, open_two, puts_at_once, puts_by_one};
+use hall_accounts::{Load, Puts, open, open_two, puts_at_once, puts_by_one};
 
 /// The bytes of a region, in which all rows of a run have room.
-const REGION: u64 = 16_777_216;
+const REGION: u64 = 67_108_864;
 
-/// How many were committed by one thread.
-fn by_one<R: Wait>(rt: &R, alloc: Global, times: u64) -> Result<u64, Fail> {
+/// How many were committed by one thread, and in how many nanoseconds.
+fn by_one<R: Wait + Clock>(rt: &R, alloc: Global, puts: Puts) -> Result<(u64, u128), Fail> {
     let opened = open_two(alloc, REGION, FaultPlan::none(alloc)).ok_or("memory")?;
-    let counts = puts_by_one(rt, alloc, opened, times).ok_or("memory")?;
-    Ok(counts.place)
+    let start = Instant::now(rt)?;
+    let counts = puts_by_one(rt, alloc, opened, puts).ok_or("memory")?;
+    Ok((counts.place, start.elapsed(rt)?.as_nanos()))
 }
 
-/// How many were committed by four threads.
-fn by_four<R: Threads + Wait + Sync>(rt: &R, alloc: Global, times: u64) -> Result<u64, Fail> {
+/// How many were committed by four threads, and in how many nanoseconds.
+fn by_four<R: Threads + Wait + Sync + Clock>(rt: &R, alloc: Global, puts: Puts) -> Result<(u64, u128), Fail> {
     let opened = open(alloc, 4, REGION, FaultPlan::none(alloc)).ok_or("memory")?;
-    let counts = puts_at_once(rt, alloc, opened, times).ok_or("memory")?;
-    Ok(counts.place)
+    let start = Instant::now(rt)?;
+    let counts = puts_at_once(rt, alloc, opened, puts).ok_or("memory")?;
+    Ok((counts.place, start.elapsed(rt)?.as_nanos()))
 }
 
 fn main(rt: HostRuntime) -> Result<(), Fail> {
     let mut args = std::env::args(&rt)?;
     let _program = args.next();
     let threads = args.next().ok_or("one or four")?;
+    let kind = args.next().ok_or("short or long")?;
     let times: u64 = args.next().ok_or("how many")?.as_str().parse().ok().ok_or("a number")?;
-    let start = Instant::now(&rt)?;
-    let committed = if threads.as_str() == "one" {
-        by_one(&rt, rt.alloc(), times)?
+    let load = if kind.as_str() == "long" { Load::Long } else { Load::Short };
+    let puts = Puts { times, load };
+    let (committed, spent) = if threads.as_str() == "one" {
+        by_one(&rt, rt.alloc(), puts)?
     } else {
-        by_four(&rt, rt.alloc(), times)?
+        by_four(&rt, rt.alloc(), puts)?
     };
-    let spent = start.elapsed(&rt)?.as_nanos();
     println!(rt; "{committed} {spent}")?;
     Ok(())
 }
@@ -81,12 +88,13 @@ cat > "$work/peer.c" <<'EOT'
 #include <string.h>
 #include <time.h>
 
-enum { SLOTS = 4096, RECORD = 32, MOST = 4 };
+/* Words: one or four, short or long, how many. A record is as long as a row. */
+enum { SLOTS = 4096, SHORT = 24, LONG = 134, MOST = 4 };
 
 static pthread_mutex_t mutex = PTHREAD_MUTEX_INITIALIZER;
 static unsigned char keys[SLOTS], values[SLOTS], used[SLOTS];
 static char *records;
-static long filled, times;
+static long filled, times, length;
 
 static void put(unsigned char key, unsigned char value) {
     unsigned slot = key * 2654435761u % SLOTS;
@@ -97,14 +105,14 @@ static void put(unsigned char key, unsigned char value) {
 }
 
 static void *work(void *arg) {
-    char record[RECORD];
+    char record[LONG];
     unsigned char key = (unsigned char)(size_t)arg;
-    memset(record, key, RECORD);
+    memset(record, key, LONG);
     for (long i = 0; i < times; i++) {
         pthread_mutex_lock(&mutex);
         put(key, 1);
-        memcpy(records + filled, record, RECORD);
-        filled += RECORD;
+        memcpy(records + filled, record, length);
+        filled += length;
         pthread_mutex_unlock(&mutex);
     }
     return NULL;
@@ -118,16 +126,18 @@ static long now(void) {
 
 int main(int argc, char **argv) {
     pthread_t threads[MOST];
+    if (argc < 4) return 1;
     int count = strcmp(argv[1], "one") ? MOST : 1;
-    times = argc > 2 ? atol(argv[2]) : 0;
-    records = malloc(times * count * RECORD + 1);
+    length = strcmp(argv[2], "long") ? SHORT : LONG;
+    times = atol(argv[3]);
+    records = malloc(times * count * length + 1);
     if (!records) return 1;
     long start = now();
     for (int i = 0; i < count; i++)
         if (pthread_create(&threads[i], NULL, work, (void *)(size_t)(i + 1))) return 1;
     for (int i = 0; i < count; i++) pthread_join(threads[i], NULL);
     long spent = now() - start;
-    printf("%ld %ld\n", filled / RECORD, spent);
+    printf("%ld %ld\n", filled / length, spent);
     return 0;
 }
 EOT
@@ -236,16 +246,18 @@ median='function median(numbers,    i, j, k) {
     return numbers[int((NR + 1) / 2)]
   }'
 timed() { "$work/used" "$@" | tr '\n' ' '; }
-for turn in $(seq 1 9); do
-  # a run without transactions shows what a hall costs, which is taken off
-  for threads in one four; do
-    each=$count
-    [ $threads = one ] || each=$((count / 4))
-    timed out/engine_speed $threads 0; timed out/engine_speed $threads $each; timed "$work/peer" $threads 0; timed "$work/peer" $threads $each
-  done
-  echo
-done > "$work/runs"
-awk -v count="$count" -v commits="$work/commits" "$median"'
+for kind in short long; do
+  for turn in $(seq 1 9); do
+    # a run without transactions shows what a hall costs, which is taken off
+    for threads in one four; do
+      each=$count
+      [ $threads = one ] || each=$((count / 4))
+      timed out/engine_speed $threads $kind 0; timed out/engine_speed $threads $kind $each
+      timed "$work/peer" $threads $kind 0; timed "$work/peer" $threads $kind $each
+    done
+    echo
+  done > "$work/runs"
+  awk -v count="$count" -v commits="$work/commits_$kind" -v kind=$kind "$median"'
   NF != 24 || $4 != count || $10 != count || $16 != count || $22 != count { failed = 1 }
   # the seconds, and the processor microseconds, of a transaction, from the field of a run without transactions on
   { for (at = 1; at <= 19; at += 6) { wall[at, NR] = ($(at + 4) - $(at + 1)) / count / 1000000000; cpu[at, NR] = ($(at + 5) - $(at + 2)) / count } }
@@ -255,25 +267,27 @@ awk -v count="$count" -v commits="$work/commits" "$median"'
     return median(some)
   }
   function line(name, at) {
-    printf "%s: %d commits a second, %.2f processor microseconds a transaction\n", name, 1 / median_at(wall, at), median_at(cpu, at)
+    printf "  %s: %d commits a second, %.2f processor microseconds a transaction\n", name, 1 / median_at(wall, at), median_at(cpu, at)
   }
   END {
     if (failed || NR != 9) { print "a run failed"; exit 1 }
+    print kind " transactions:"
     line("one thread", 1)
     line("four threads", 13)
     line("C, one thread", 7)
     line("C, four threads", 19)
-    printf "four threads to one: %.2f of its commits a second; C: %.2f; the goal is 2.5\n", median(more), median(more_in_c)
-    printf "to C on one thread: %.2f of its time; on four: %.2f\n", median(to_c), median(to_c_of_four)
+    printf "  four threads to one: %.2f of its commits a second; C: %.2f; the goal is 2.5\n", median(more), median(more_in_c)
+    printf "  to C on one thread: %.2f of its time; on four: %.2f\n", median(to_c), median(to_c_of_four)
     printf "%d\n", 1 / median_at(wall, 1) > commits
   }' "$work/runs"
+done
 
 # turns THREADS OWN LINES: how many turns of the bare lock there are in a second
 turns() { "$work/turns" "$1" $((count / $1)) "$2" "$3"; }
-# one thread alone makes as many turns a second as one thread of the hall commits
+# one thread alone makes as many turns a second as one thread of the hall commits of short ones
 own=300
 for step in 1 2 3 4 5 6; do
-  own=$(awk -v own="$own" -v made="$(turns 1 "$own" 1)" -v wanted="$(cat "$work/commits")" 'BEGIN { printf "%d", own * made / wanted }')
+  own=$(awk -v own="$own" -v made="$(turns 1 "$own" 1)" -v wanted="$(cat "$work/commits_short")" 'BEGIN { printf "%d", own * made / wanted }')
 done
 echo "C, a bare lock with as much between two turns, each of which changes so many lines that tell where the next one lies:"
 for lines in 0 1 2 3 4; do

@@ -110,6 +110,3 @@ routes_sync = declared_sync (type_at (tuple_name 2) (route.the_row ∷ route.the
 
 pub small_sync : IsSync denote.Builtin.u32
 small_sync = search rules
-
-pub count_sync : IsSync denote.Builtin.u64
-count_sync = search rules

@@ -1,6 +1,6 @@
 //! Calls on accounts, whose keys and balances are of one byte each.
 
-ghost use Rattle.std.specs.Prelude.{◌≡◌, [], ◌∷◌, IfSome};
+ghost use Rattle.std.specs.Prelude.{◌≡◌, ◌≤◌, [], ◌∷◌, length, IfSome};
 ghost use Rattle.fine_model.specs.Bounds.{FitsCall};
 
 use fine_model::{Bytes, Call, Items, Reply};
@@ -11,13 +11,19 @@ const FIRST: u8 = 1;
 
 const END: u8 = 255;
 
-fn byte(alloc: Global, byte: u8) -> Option<Bytes>
-    ensures { IfSome result (λ bytes. bytes ≡ byte ∷ []) }
+fn copy_of(alloc: Global, bytes: &[u8]) -> Option<Bytes>
+    ensures { IfSome result (λ copy. copy ≡ bytes.now) }
 {
-    match Vec::from_slice(alloc, &[byte]) {
+    match Vec::from_slice(alloc, bytes) {
         Ok(bytes) => Some(Items::from_vec(bytes)),
         Err(_refused) => None,
     }
+}
+
+fn byte(alloc: Global, byte: u8) -> Option<Bytes>
+    ensures { IfSome result (λ bytes. bytes ≡ byte ∷ []) }
+{
+    copy_of(alloc, &[byte])
 }
 
 /// Asks for a balance.
@@ -29,14 +35,23 @@ pub fn get_of(alloc: Global, account: u8) -> Option<Call>
     })
 }
 
+/// A put of these bytes.
+pub(crate) fn put_bytes(alloc: Global, key: &[u8], value: &[u8]) -> Option<Call>
+    requires key { (1 ≤ length key.now) × (length key.now ≤ 64) }
+    requires value { (1 ≤ length value.now) × (length value.now ≤ 256) }
+    ensures { IfSome result FitsCall }
+{
+    Some(Call::Put {
+        key: copy_of(alloc, key)?,
+        value: copy_of(alloc, value)?,
+    })
+}
+
 /// Sets a balance.
 pub fn put_of(alloc: Global, account: u8, balance: u8) -> Option<Call>
     ensures { IfSome result FitsCall }
 {
-    Some(Call::Put {
-        key: byte(alloc, account)?,
-        value: byte(alloc, balance)?,
-    })
+    put_bytes(alloc, &[account], &[balance])
 }
 
 /// Asks for all accounts from 1 to 254.

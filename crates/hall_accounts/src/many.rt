@@ -1,17 +1,17 @@
 //! Many transactions of one put each.
 
-ghost use Rattle.std.specs.Prelude.{◌≡◌, ◌≤◌, ◌<◌, ◌*◌, ℕ, [], length, All, IfOk, slice_index_or, vec_len, vec_capacity};
+ghost use Rattle.std.specs.Prelude.{◌≡◌, ◌≤◌, ◌<◌, ◌*◌, ℕ, [], length, All, IfOk, IfSome, slice_index_or, vec_len, vec_capacity};
 ghost use Rattle.fine_model.specs.Bounds.{FitsCall};
 ghost use Rattle.fine_hall.specs.Halls.{AreAll};
 ghost use Rattle.hall_rooms.specs.Rooms.{RoomPass, beginning_of};
 ghost use Rattle.hall_accounts.specs.Going.{AreTwo, IsAtRest, IsFree};
 
-use crate::accounts::put_of;
+use crate::accounts::{put_bytes, put_of};
 use crate::halls::{Two, end_two};
 use crate::transfers::{Ended, fresh, run, seat_of};
 use epoch_room::Counts;
 use fine_hall::Pass;
-use fine_model::Call;
+use fine_model::{Call, bucket_of};
 use log_disk::{LogDisk, MemDisk, MemEye};
 use partition_hold::View;
 use std::alloc::{AllocError, Global};
@@ -20,54 +20,93 @@ use std::thread;
 use std::thread::Threads;
 use txn_engine::{Opened, RoomHall, Txn, close_hall};
 
-/// So many transactions of this one call.
-fn repeat<D: LogDisk, W: Wait>(
+/// What is put.
+#[derive(Clone, Copy, Debug, PartialEq, Eq)]
+pub enum Load {
+    /// One pair, of a byte and a byte.
+    Short,
+    /// Keys of 12 bytes with values of 100: 400 in turn, as many as 100,000 keys have in each of 256 buckets.
+    Long,
+}
+
+/// How many transactions of one put each, and of which.
+#[derive(Clone, Copy, Debug, PartialEq, Eq)]
+pub struct Puts {
+    pub times: u64,
+    pub load: Load,
+}
+
+/// How far the buckets of two passes lie apart, so that their words share no cache line, as those of two of 256 buckets mostly do
+/// not. That of the greatest seat is 252.
+const APART: u8 = 14;
+
+const KEYS: u64 = 400;
+
+const VALUE: [u8; 100] = [b'v'; 100];
+
+/// The key of 12 bytes with a number, of which the last one is chosen so that it is of a bucket: it is added to the sum that tells it.
+fn key_in(bucket: u8, number: u64) -> [u8; 12] {
+    let [a, b, c, d, e, f, g, h] = number.to_be_bytes();
+    let mut key = [b'k', b'e', b'y', a, b, c, d, e, f, g, h, 0];
+    let [low, _high] = bucket_of(&key).to_le_bytes();
+    key[11] = bucket.wrapping_sub(low);
+    key
+}
+
+/// The put with a number, in the bucket of a seat. None where there is no memory.
+fn put_with(alloc: Global, seat: u8, load: Load, number: u64) -> Option<Call>
+    ensures { IfSome result FitsCall }
+{
+    let bucket = seat.saturating_mul(APART);
+    match load {
+        Load::Short => put_of(alloc, bucket, 1),
+        Load::Long => put_bytes(alloc, &key_in(bucket, number % KEYS), &VALUE),
+    }
+}
+
+/// So many transactions of one put each.
+fn put_often<D: LogDisk, W: Wait>(
     rt: &W,
+    alloc: Global,
     txn: &mut Txn,
     hall: &RoomHall<D>,
     pass: &mut Pass<View<D::Eye>>,
-    call: Call,
-    times: u64,
+    puts: Puts,
 )
     requires idle { IsAtRest hall.now pass.old }
     requires free { IsFree txn.old }
-    requires call { FitsCall call }
     ensures idle { IsAtRest hall.now pass.new × (pass.new.number ≡ pass.old.number) }
 {
-    let calls = [call];
-    for _ in 0..times {
+    let seat = seat_of(pass);
+    for number in 0..puts.times {
+        let Some(call) = put_with(alloc, seat, puts.load, number) else {
+            return;
+        };
+        let calls = [call];
         let _ended: Ended = run(rt, txn, hall, pass, &calls, 0);
     }
 }
 
-/// How far the accounts of two passes lie apart, so that the words of their buckets share no cache line, as those of two of 256 buckets mostly do
-/// not. The account of the greatest seat is 252.
-const APART: u8 = 14;
-
-/// So many transactions of one put in an account that is the pass's own.
+/// So many transactions of one put each in a bucket that is the pass's own.
 pub fn puts<D: LogDisk, W: Wait>(
     rt: &W,
     alloc: Global,
     hall: &RoomHall<D>,
     mut pass: Pass<View<D::Eye>>,
-    times: u64,
+    puts: Puts,
 ) -> Pass<View<D::Eye>>
     requires idle { IsAtRest hall.now pass }
     ensures idle { IsAtRest hall.now result × (result.number ≡ pass.number) }
 {
-    let seat = seat_of(&pass);
-    let Some(mut txn) = fresh(alloc, seat) else {
+    let Some(mut txn) = fresh(alloc, seat_of(&pass)) else {
         return pass;
     };
-    let Some(call) = put_of(alloc, seat.saturating_mul(APART), 1) else {
-        return pass;
-    };
-    repeat(rt, &mut txn, hall, &mut pass, call, times);
+    put_often(rt, alloc, &mut txn, hall, &mut pass, puts);
     pass
 }
 
 /// Lets the first pass of a hall do so many transactions of one put each, and ends the hall: the room in numbers. None where there is no memory.
-pub fn puts_by_one<W: Wait>(rt: &W, alloc: Global, opened: Two, times: u64) -> Option<Counts>
+pub fn puts_by_one<W: Wait>(rt: &W, alloc: Global, opened: Two, load: Puts) -> Option<Counts>
     requires two { AreTwo opened.hall opened.one opened.two opened.spare.items (vec_capacity opened.spare) }
 {
     let Two {
@@ -76,7 +115,7 @@ pub fn puts_by_one<W: Wait>(rt: &W, alloc: Global, opened: Two, times: u64) -> O
         two,
         spare,
     } = opened;
-    let one = puts(rt, alloc, &hall, one, times);
+    let one = puts(rt, alloc, &hall, one, load);
     let room = end_two(alloc, hall, one, two, spare)?;
     Some(room.counts())
 }
@@ -87,7 +126,7 @@ fn at_once<R: Threads + Wait + Sync>(
     alloc: Global,
     hall: &RoomHall<MemDisk>,
     passes: Vec<Pass<View<MemEye>>>,
-    times: u64,
+    load: Puts,
 ) -> Result<Vec<Pass<View<MemEye>>>, AllocError>
     requires passes { All (IsAtRest hall.now) passes.items }
     ensures idle { IfOk result (λ back. All (IsAtRest hall.now) back.items) }
@@ -97,7 +136,7 @@ fn at_once<R: Threads + Wait + Sync>(
     let work = |pass: Pass<View<MemEye>>| -> Pass<View<MemEye>>
         requires { IsAtRest hall.now pass }
         ensures { IsAtRest hall.entry.now result × (result.number ≡ pass.number) }
-    { puts(rt, alloc, hall, pass, times) };
+    { puts(rt, alloc, hall, pass, load) };
     thread::map_vec(rt, passes, &work)
 }
 
@@ -107,7 +146,7 @@ pub fn puts_at_once<R: Threads + Wait + Sync>(
     rt: &R,
     alloc: Global,
     opened: Opened<MemDisk>,
-    times: u64,
+    load: Puts,
 ) -> Option<Counts>
     requires seats { 1 ≤ (beginning_of opened.hall).seats }
     requires count { length opened.passes.items ≡ (beginning_of opened.hall).seats }
@@ -120,7 +159,7 @@ pub fn puts_at_once<R: Threads + Wait + Sync>(
         passes,
         spare,
     } = opened;
-    let Ok(passes) = at_once(rt, alloc, &hall, passes, times) else {
+    let Ok(passes) = at_once(rt, alloc, &hall, passes, load) else {
         return None;
     };
     Some(close_hall(hall, passes, spare).counts())

@@ -1,9 +1,0 @@
-use Rattle.std.proofs.Common.{◌≡◌}
-use Rattle.hall_accounts.specs.Going.{IsAtRest, IsFree}
-use Rattle.hall_accounts.proofs.many.repeat.Given as goal
-
-abbrev pub invariant-loop : goal.invariant-loop
-invariant-loop g l = record {
-  idle : IsAtRest l.hall l.pass × (l.pass.number ≡ l.initial.pass.number);
-  free : IsFree l.txn;
-}

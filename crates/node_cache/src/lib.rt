@@ -249,7 +249,7 @@ impl Bucket {
         ensures same { (n : ℕ) → IfSome (cached self.new n) (λ kept. cached self.old n ≡ Some kept) }
         ensures few { count_by (is_published published) self.new.nodes ≤ keep }
     {
-        let surplus = count_published(&self.nodes, published).saturating_sub(keep);
+        let surplus = surplus_of(&self.nodes, published, keep);
         if surplus > 0 {
             remove_first(&mut self.nodes, published, surplus);
         }
@@ -318,6 +318,16 @@ fn count_published(nodes: &IndexMap<u32, Cached>, published: u64) -> usize
         }
     }
     count
+}
+
+/// How many nodes are published above `keep`. Where so many are not cached at all, none is looked at.
+fn surplus_of(nodes: &IndexMap<u32, Cached>, published: u64, keep: usize) -> usize
+    ensures { result ≡ count_by (is_published published) nodes.now.entries - keep }
+{
+    if nodes.len() <= keep {
+        return 0;
+    }
+    count_published(nodes, published).saturating_sub(keep)
 }
 
 /// Removes the first `surplus` of the nodes that are published.

@@ -1,11 +1,13 @@
 //! What no clause says: the index of a part as it is read from a disk in memory.
 
-ghost use Rattle.std.specs.Prelude.{◌≡◌, ◌<◌, ◌≤◌, ◌+◌, [], ◌∷◌, length, IfOk};
+ghost use Rattle.std.specs.Prelude.{◌≡◌, ◌<◌, ◌≤◌, ◌+◌, [], ◌∷◌, length, map, IsTrue, IfOk};
 ghost use Rattle.fine_model.specs.declared.Rec.TheVariants as rec;
+ghost use Rattle.partition_index.specs.Index.{is_rising};
+ghost use Rattle.fine_model.specs.RowBytes.{row_len, rows_len};
 ghost use Rattle.partition_index.specs.Parts.{IsSeen};
 
 use crate::ONE_ROW;
-use fine_model::{Bytes, Header, Items, Mark, NodeId, Part, Rec, Row, Rows};
+use fine_model::{Bytes, Header, Items, Mark, NoMemory, NodeId, Part, Rec, Row, Rows};
 use log_disk::{DiskRefusal, FaultPlan, LogDisk, MemDisk, MemEye};
 use partition_index::{
     IndexEntry, Indexer, SeekFault, Span, build, entry_at, entry_bytes, entry_of, place_of,
@@ -270,18 +272,28 @@ fn row(alloc: Global, number: u32, version: u64) -> Result<Row, AllocError>
     })
 }
 
-#[test]
+// Three rows of two nodes, which no exit of the test drops.
 #[tactic(auto, unfolding(fine_model::specs::RowBytes::body))]
-fn builds_the_index_of_rows(rt: HostRuntime) -> Result<(), Fail> {
-    let alloc = rt.alloc();
+fn rows(alloc: Global) -> Result<Rows, NoMemory>
+    ensures order { IfOk result (λ rows. IsTrue (is_rising rows)) }
+    ensures lens { IfOk result (λ rows. map row_len rows ≡ 21 ∷ 21 ∷ 21 ∷ []) }
+    ensures small { IfOk result (λ rows. rows_len rows ≡ 63) }
+{
     let mut rows: Rows = Items::new(alloc);
-    let _first = rows.push(row(alloc, 4, 1)?);
-    let _second = rows.push(row(alloc, 4, 2)?);
-    let _third = rows.push(row(alloc, 6, 1)?);
-    if rows.len() < 3 {
-        return Ok(());
-    }
-    let index = build(alloc, &rows, &[21, 21, 21])?;
+    rows.push(row(alloc, 4, 1)?)?;
+    rows.push(row(alloc, 4, 2)?)?;
+    rows.push(row(alloc, 6, 1)?)?;
+    Ok(rows)
+}
+
+fn index_of_rows(alloc: Global) -> Result<Vec<IndexEntry>, NoMemory> {
+    let rows = rows(alloc)?;
+    build(alloc, &rows, &[21, 21, 21])
+}
+
+#[test]
+fn builds_the_index_of_rows(rt: HostRuntime) -> Result<(), Fail> {
+    let index = index_of_rows(rt.alloc())?;
     let wanted = [(4, 0, 2), (6, 42, 1)];
     assert_eq!(rt; index.len(), wanted.len());
     for (entry, (number, offset, rows)) in index.iter().zip(wanted) {

@@ -1,31 +1,89 @@
 //! A source of the rows that bytes spell.
 
-ghost use Rattle.std.specs.Prelude.{◌≡◌, ℕ, [], IfOk};
+ghost use Rattle.std.specs.Prelude.{◌≡◌, ◌≤◌, ℕ, [], IfOk, IfSome, length};
 ghost use Rattle.fine_model.specs.Nodes.{base};
+ghost use Rattle.fine_model.specs.RowBytes.{FitsRec, greatest};
+ghost use Rattle.node_record.specs.Bounds.{FitsNode};
 ghost use Rattle.node_cache.specs.Given.{OnCleanFault};
 
-use fine_model::{FetchFault, Mark, NoMemory, NodeId};
+use fine_model::{FetchFault, Mark, NoMemory, Node, NodeId, Row};
 use node_cache::{Bucket, Cached, NodeSource};
 use node_fetch::base;
 use node_record::{apply, read_row};
 use std::alloc::Global;
 
-/// What the rows of a node among bytes leave, under an epoch. It ends at the first bytes that are no row.
+/// Does a row to a node, if it is the node's. Answers whether there was memory for it.
 #[tactic(auto, unfolding(fine_model::specs::Nodes::step))]
+fn replay_row(alloc: Global, row: &Row, id: NodeId, node: &mut Node, version: &mut u64) -> bool
+    requires row { FitsRec row.now.rec }
+    requires row_version { row.now.version ≤ greatest }
+    requires node { FitsNode node.old }
+    requires version { version.old ≤ greatest }
+    ensures node { FitsNode node.new }
+    ensures version { version.new ≤ greatest }
+{
+    if row.node == id {
+        apply(alloc, node, version, row).is_ok()
+    } else {
+        true
+    }
+}
+
+/// So of the row at a place. Answers the place behind it, or None where there is no row.
+fn replay_one(
+    alloc: Global,
+    bytes: &[u8],
+    at: usize,
+    id: NodeId,
+    node: &mut Node,
+    version: &mut u64,
+) -> Result<Option<usize>, NoMemory>
+    requires at { at ≤ length bytes.now }
+    requires node { FitsNode node.old }
+    requires version { version.old ≤ greatest }
+    ensures at { IfOk result (λ found. IfSome found (λ behind. behind ≤ length bytes.now)) }
+    ensures node { FitsNode node.new }
+    ensures version { version.new ≤ greatest }
+{
+    let Ok((row, behind)) = read_row(alloc, bytes, at, Mark::Two) else {
+        return Ok(None);
+    };
+    if replay_row(alloc, &row, id, node, version) {
+        Ok(Some(behind))
+    } else {
+        Err(NoMemory)
+    }
+}
+
+/// Does the rows of a node among bytes to it. It ends at the first bytes that are no row.
+fn replay_all(
+    alloc: Global,
+    bytes: &[u8],
+    id: NodeId,
+    node: &mut Node,
+    version: &mut u64,
+) -> Result<(), NoMemory>
+    requires node { FitsNode node.old }
+    requires version { version.old ≤ greatest }
+    ensures node { FitsNode node.new }
+    ensures version { version.new ≤ greatest }
+{
+    let mut at = 0;
+    for _row in 0..bytes.len() {
+        match replay_one(alloc, bytes, at, id, node, version)? {
+            Some(behind) => at = behind,
+            None => return Ok(()),
+        }
+    }
+    Ok(())
+}
+
+/// What the rows of a node among bytes leave, under an epoch.
 fn replay(alloc: Global, bytes: &[u8], id: NodeId, epoch: u64) -> Result<Cached, NoMemory>
     ensures epoch { IfOk result (λ kept. kept.epoch ≡ epoch) }
 {
     let (mut node, mut version) = base(alloc, id);
-    let mut at = 0;
-    for _row in 0..bytes.len() {
-        let Ok((row, behind)) = read_row(alloc, bytes, at, Mark::Two) else {
-            break;
-        };
-        if row.node == id && apply(alloc, &mut node, &mut version, &row).is_err() {
-            return Err(NoMemory);
-        }
-        at = behind;
-    }
+    replay_all(alloc, bytes, id, &mut node, &mut version)?;
     Ok(Cached {
         node,
         version,

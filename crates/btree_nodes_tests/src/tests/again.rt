@@ -45,29 +45,41 @@ fn set_again<S: NodeSource>(
     insert(alloc, source, bucket, second, key, value)
 }
 
-#[test]
-fn a_key_that_was_taken_back_is_set_again(rt: HostRuntime) -> Result<(), Fail> {
-    let alloc = rt.alloc();
+/// So of `c` in a bucket that had no rows. Answers whether it was set again.
+fn set_again_in(alloc: Global, first: &mut PrivateLog, second: &mut PrivateLog) -> bool
+    requires first { first.old ≡ [] }
+    requires second { second.old ≡ [] }
+{
     let mut source = Rows::none(alloc, 0);
-    let key = b"c";
-    let mut bucket = Bucket::new(alloc, bucket_of(key));
-    let mut first = PrivateLog::new(alloc);
-    let mut second = PrivateLog::new(alloc);
-    let again = set_again(
+    let mut bucket = Bucket::new(alloc, bucket_of(b"c"));
+    set_again(
         alloc,
         &mut source,
         &mut bucket,
-        &mut first,
-        &mut second,
-        key,
+        first,
+        second,
+        b"c",
         b"5",
         0,
         0,
-    );
-    assert!(rt; again.is_ok());
-    let row =
-        b"\x04\x00\x63\x00\x00\x00\x01\x00\x00\x00\x00\x00\x00\x00\x01\x00\x00\x00\x05\x01c\x00\x015";
-    assert_eq!(rt; first.bytes(), row.as_slice());
-    assert_eq!(rt; second.bytes(), row.as_slice());
+    )
+    .is_ok()
+}
+
+/// The row that sets `c` to `5`.
+const ROW: &[u8] =
+    b"\x04\x00\x63\x00\x00\x00\x01\x00\x00\x00\x00\x00\x00\x00\x01\x00\x00\x00\x05\x01c\x00\x015";
+
+/// Whether the key was set again, and whether each of the two transactions pushed its row.
+fn set_in_both(alloc: Global) -> [bool; 3] {
+    let mut first = PrivateLog::new(alloc);
+    let mut second = PrivateLog::new(alloc);
+    let is_set = set_again_in(alloc, &mut first, &mut second);
+    [is_set, first.bytes() == ROW, second.bytes() == ROW]
+}
+
+#[test]
+fn a_key_that_was_taken_back_is_set_again(rt: HostRuntime) -> Result<(), Fail> {
+    assert_eq!(rt; set_in_both(rt.alloc()), [true; 3]);
     Ok(())
 }

@@ -2,7 +2,7 @@
 
 ghost use Rattle.std.specs.Prelude.{◌≤◌, IfOk};
 
-use super::fixtures::{Tree, add, del, get, put, tree_of};
+use super::fixtures::{Tree, add, bare_tree, del, get, lay, put};
 use super::keys::key_at;
 use super::scans::pairs_between;
 use super::splits::{depth_of, is_pair};
@@ -174,12 +174,23 @@ fn count_right(tree: &mut Tree, map: &Map) -> Result<u32, TreeFault> {
     Ok(right)
 }
 
-/// So of a tree on rows, where a scan agrees too.
-fn count_in_rows(alloc: Global, rows: &[u8], map: &Map) -> Result<u32, TreeFault> {
-    let mut tree = tree_of(alloc, rows)?;
-    let right = count_right(&mut tree, map)?;
-    let agrees = scan_both(&mut tree, map, 9, 2000)?;
+/// So once rows are laid, where a scan agrees too.
+fn count_laid(tree: &mut Tree, rows: &[u8], map: &Map) -> Result<u32, TreeFault> {
+    lay(tree, rows)?;
+    let right = count_right(tree, map)?;
+    let agrees = scan_both(tree, map, 9, 2000)?;
     Ok(if agrees { right } else { 0 })
+}
+
+/// So of a tree on rows.
+fn count_in_rows(alloc: Global, rows: &[u8], map: &Map) -> Result<u32, TreeFault> {
+    let mut tree = bare_tree(alloc);
+    count_laid(&mut tree, rows, map)
+}
+
+/// So of a tree on the rows that another pushed.
+fn count_again(tree: &Tree, map: &Map) -> Result<u32, TreeFault> {
+    count_in_rows(tree.alloc, tree.log.bytes(), map)
 }
 
 /// Sets each key and then makes ten thousand calls by chance. Answers how many agreed, the depth, and how many keys agree in a tree on the
@@ -187,13 +198,13 @@ fn count_in_rows(alloc: Global, rows: &[u8], map: &Map) -> Result<u32, TreeFault
 fn call_and_count(tree: &mut Tree, map: &mut Map) -> Result<(u32, u8, u32), TreeFault> {
     put_all(tree, map)?;
     let right = call_many(tree, map, 10_000)?;
-    let kept = count_in_rows(tree.alloc, tree.log.bytes(), map)?;
+    let kept = count_again(tree, map)?;
     Ok((right, depth_of(tree), kept))
 }
 
 /// So of a tree and a map that were empty.
 fn count_from_none(alloc: Global) -> Result<(u32, u8, u32), TreeFault> {
-    let mut tree = tree_of(alloc, b"")?;
+    let mut tree = bare_tree(alloc);
     let mut map = BTreeMap::new(alloc);
     call_and_count(&mut tree, &mut map)
 }

@@ -29,15 +29,21 @@ impl Tree {
     }
 }
 
-/// A tree of bucket 64 on the rows that bytes spell, with nothing cached.
-pub fn tree_of(alloc: Global, rows: &[u8]) -> Result<Tree, NoMemory> {
-    let bytes = Vec::from_slice(alloc, rows)?;
-    Ok(Tree {
+/// A tree of bucket 64 on a log that has no rows, with nothing cached. What is done to it stands in functions that borrow it: its drop at each
+/// exit of one that owns it costs a check seconds.
+pub fn bare_tree(alloc: Global) -> Tree {
+    Tree {
         alloc,
-        source: Rows::new(alloc, bytes, 0),
+        source: Rows::none(alloc, 0),
         bucket: Bucket::new(alloc, 64),
         log: PrivateLog::new(alloc),
-    })
+    }
+}
+
+/// Lays the rows that bytes spell behind those of the tree's source.
+pub fn lay(tree: &mut Tree, rows: &[u8]) -> Result<(), NoMemory> {
+    tree.source.bytes.extend_from_slice(rows)?;
+    Ok(())
 }
 
 pub fn get(tree: &mut Tree, key: &[u8]) -> Result<Option<Bytes>, TreeFault> {

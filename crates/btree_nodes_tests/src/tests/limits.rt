@@ -2,7 +2,7 @@
 
 ghost use Rattle.std.specs.Prelude.{IfOk};
 
-use super::fixtures::{Kind, Tree, call, del, put, tree_of};
+use super::fixtures::{Kind, Tree, bare_tree, call, del, put};
 use super::splits::{depth_of, put_keys};
 use btree_nodes::TreeFault;
 use fine_model::format::GREATEST;
@@ -72,15 +72,14 @@ fn push_full_inner(
     push(rows, 3, number, 1, body.as_slice())
 }
 
-/// A tree of a depth whose nodes on the way of the least key are all full but for the leaf.
-fn full_tree(alloc: Global, depth: u8) -> Result<Tree, NoMemory> {
-    let mut rows = Vec::new(alloc);
-    push_head(&mut rows, 1, u32::from(depth), 20, depth)?;
+/// The rows of a tree of a depth whose nodes on the way of the least key are all full but for the leaf, and whose head has a next unused number.
+fn push_full(alloc: Global, rows: &mut Vec<u8>, depth: u8, next: u32) -> Result<(), NoMemory> {
+    push_head(rows, 1, u32::from(depth), next, depth)?;
     for height in 1..depth {
         let number = u32::from(height);
-        push_full_inner(alloc, &mut rows, number + 1, 80 + height % 10, number)?;
+        push_full_inner(alloc, rows, number + 1, 80 + height % 10, number)?;
     }
-    tree_of(alloc, rows.as_slice())
+    Ok(())
 }
 
 /// The answer to the 33rd key of a leaf, or want of memory where an earlier one is not set.
@@ -91,42 +90,43 @@ fn split(tree: &mut Tree) -> Result<(), TreeFault> {
     put(tree, b"AaAaAaAaC#", b"1")
 }
 
-/// A tree whose head has a version and a next unused number.
-fn headed_tree(alloc: Global, version: u64, next: u32) -> Result<Tree, NoMemory> {
-    let mut rows = Vec::new(alloc);
-    push_head(&mut rows, version, 1, next, 1)?;
-    tree_of(alloc, rows.as_slice())
+/// What became of a split: the depth behind it, or the next unused number and the depth that it was refused with.
+#[derive(Clone, Copy, Debug, PartialEq, Eq)]
+enum SplitEnd {
+    Done(u8),
+    Full(u32, u8),
+    Otherwise,
+}
+
+/// The split of a leaf in such a tree.
+fn split_full(tree: &mut Tree, depth: u8, next: u32) -> Result<SplitEnd, NoMemory> {
+    push_full(tree.alloc, &mut tree.source.bytes, depth, next)?;
+    Ok(match split(tree) {
+        Ok(()) => SplitEnd::Done(depth_of(tree)),
+        Err(TreeFault::BucketFull { next, depth }) => SplitEnd::Full(next, depth),
+        Err(_) => SplitEnd::Otherwise,
+    })
+}
+
+/// So of a tree that had no rows.
+fn end_of_split(alloc: Global, depth: u8, next: u32) -> Result<SplitEnd, NoMemory> {
+    let mut tree = bare_tree(alloc);
+    split_full(&mut tree, depth, next)
 }
 
 #[test]
 fn a_bucket_is_full_where_its_numbers_end(rt: HostRuntime) -> Result<(), Fail> {
-    for next in [1_048_574, 1_048_575, 1_048_576] {
-        let mut tree = headed_tree(rt.alloc(), 1, next)?;
-        let right = match split(&mut tree) {
-            Ok(()) => next == 1_048_574,
-            Err(TreeFault::BucketFull { next: said, depth }) => next > 1_048_574
-                && said == next
-                && depth == 1,
-            Err(_) => false,
-        };
-        assert!(rt; right, "{next}");
+    assert_eq!(rt; end_of_split(rt.alloc(), 1, 1_048_574)?, SplitEnd::Done(2));
+    for next in [1_048_575, 1_048_576] {
+        assert_eq!(rt; end_of_split(rt.alloc(), 1, next)?, SplitEnd::Full(next, 1));
     }
     Ok(())
 }
 
 #[test]
 fn a_bucket_is_full_where_its_depth_ends(rt: HostRuntime) -> Result<(), Fail> {
-    for depth in [7, 8] {
-        let mut tree = full_tree(rt.alloc(), depth)?;
-        let right = match split(&mut tree) {
-            Ok(()) => depth == 7 && depth_of(&tree) == 8,
-            Err(TreeFault::BucketFull { next, depth: said }) => depth == 8
-                && next == 20
-                && said == 8,
-            Err(_) => false,
-        };
-        assert!(rt; right, "{depth}");
-    }
+    assert_eq!(rt; end_of_split(rt.alloc(), 7, 20)?, SplitEnd::Done(8));
+    assert_eq!(rt; end_of_split(rt.alloc(), 8, 20)?, SplitEnd::Full(20, 8));
     Ok(())
 }
 
@@ -149,21 +149,20 @@ fn are_over(tree: &mut Tree) -> [bool; 3] {
     ]
 }
 
-/// A tree whose leaf has the last version but one.
-fn late_tree(alloc: Global) -> Result<Tree, NoMemory> {
-    let mut rows = Vec::new(alloc);
-    push(&mut rows, 2, 1, GREATEST - 1, b"\x00")?;
-    tree_of(alloc, rows.as_slice())
+/// Behind a put to a leaf of the last version but one: whether each call that changes the key would pass the limit, whether another key was
+/// there, and how many bytes were pushed.
+fn pass_the_last(tree: &mut Tree) -> Result<([bool; 3], bool, usize), TreeFault> {
+    push(&mut tree.source.bytes, 2, 1, GREATEST - 1, b"\x00")?;
+    put(tree, KEY, b"5")?;
+    let over = are_over(tree);
+    let there = del(tree, b"BBBBBBBBBB")?;
+    Ok((over, there, tree.log.bytes().len()))
 }
 
-/// Behind a put to such a tree: whether each call that changes the key would pass the limit, whether another key was there, and how many bytes
-/// were pushed.
+/// So of a tree that had no rows.
 fn behind_the_last(alloc: Global) -> Result<([bool; 3], bool, usize), TreeFault> {
-    let mut tree = late_tree(alloc)?;
-    put(&mut tree, KEY, b"5")?;
-    let over = are_over(&mut tree);
-    let there = del(&mut tree, b"BBBBBBBBBB")?;
-    Ok((over, there, tree.log.bytes().len()))
+    let mut tree = bare_tree(alloc);
+    pass_the_last(&mut tree)
 }
 
 #[test]
@@ -172,10 +171,20 @@ fn the_last_version_of_a_node_is_its_last(rt: HostRuntime) -> Result<(), Fail> {
     Ok(())
 }
 
+/// Whether a split would pass the limit of the head, whose version is the last, and how many bytes were pushed.
+fn split_late(tree: &mut Tree) -> Result<(bool, usize), NoMemory> {
+    push_head(&mut tree.source.bytes, GREATEST, 1, 2, 1)?;
+    Ok((is_over(split(tree), 0), tree.log.bytes().len()))
+}
+
+/// So of a tree that had no rows.
+fn late_split(alloc: Global) -> Result<(bool, usize), NoMemory> {
+    let mut tree = bare_tree(alloc);
+    split_late(&mut tree)
+}
+
 #[test]
 fn a_split_needs_a_version_of_the_head(rt: HostRuntime) -> Result<(), Fail> {
-    let mut tree = headed_tree(rt.alloc(), GREATEST, 2)?;
-    assert!(rt; is_over(split(&mut tree), 0));
-    assert_eq!(rt; tree.log.bytes().len(), 1056);
+    assert_eq!(rt; late_split(rt.alloc())?, (true, 1056));
     Ok(())
 }

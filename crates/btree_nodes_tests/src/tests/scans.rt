@@ -2,25 +2,27 @@
 
 ghost use Rattle.std.specs.Prelude.{IfOk};
 
-use super::fixtures::{Tree, pairs, tree_of};
+use super::fixtures::{Tree, bare_tree, lay, pairs};
 use super::keys::key_at;
-use super::splits::{are_keys, grown, head_of};
+use super::splits::{are_keys, head_of, put_keys};
 use btree_nodes::TreeFault;
 use fine_model::Pairs;
 use std::alloc::Global;
 use std::test::*;
 
-/// The rows of a tree of 600 keys of thirteen pieces, each with `1`.
-pub fn deep_rows(alloc: Global) -> Result<Vec<u8>, TreeFault> {
-    let tree = grown(alloc, 600, 1)?;
-    copied(alloc, tree.log.bytes())
-}
-
-fn copied(alloc: Global, bytes: &[u8]) -> Result<Vec<u8>, TreeFault> {
-    match Vec::from_slice(alloc, bytes) {
+/// The rows that 600 keys of thirteen pieces push, each with `1`.
+fn rows_of_600(tree: &mut Tree) -> Result<Vec<u8>, TreeFault> {
+    put_keys(tree, 600, 13, 1, 600)?;
+    match Vec::from_slice(tree.alloc, tree.log.bytes()) {
         Ok(copy) => Ok(copy),
         Err(_) => Err(TreeFault::NoMemory),
     }
+}
+
+/// So where there were no rows.
+pub fn deep_rows(alloc: Global) -> Result<Vec<u8>, TreeFault> {
+    let mut tree = bare_tree(alloc);
+    rows_of_600(&mut tree)
 }
 
 /// A scan between two places among the keys of thirteen pieces.
@@ -38,31 +40,35 @@ fn next_of(tree: &Tree) -> u32 {
     }
 }
 
-/// Whether a scan between two places finds so many keys from the first place on.
-fn finds(
-    alloc: Global,
-    rows: &[u8],
-    low: u32,
-    high: u32,
-    limit: u32,
-    many: u32,
-) -> Result<bool, TreeFault> {
-    let mut tree = tree_of(alloc, rows)?;
-    let found = pairs_between(&mut tree, low, high, limit)?;
-    Ok(are_keys(alloc, found.as_slice(), low, many)?)
+/// The first place of a scan, the one behind its last, and its limit.
+type Range = (u32, u32, u32);
+
+/// Whether a scan of rows finds so many keys from its first place on.
+fn scan_finds(tree: &mut Tree, rows: &[u8], range: Range, many: u32) -> Result<bool, TreeFault> {
+    let (low, high, limit) = range;
+    lay(tree, rows)?;
+    let found = pairs_between(tree, low, high, limit)?;
+    Ok(are_keys(tree.alloc, found.as_slice(), low, many)?)
 }
 
-/// How many nodes a scan between two places loads, and the next unused number that the head then says.
-fn loads_of(
-    alloc: Global,
-    rows: &[u8],
-    low: u32,
-    high: u32,
-    limit: u32,
-) -> Result<(u32, u32), TreeFault> {
-    let mut tree = tree_of(alloc, rows)?;
-    pairs_between(&mut tree, low, high, limit)?;
-    Ok((tree.source.loads, next_of(&tree)))
+/// So of a tree that had no rows.
+fn finds(alloc: Global, rows: &[u8], range: Range, many: u32) -> Result<bool, TreeFault> {
+    let mut tree = bare_tree(alloc);
+    scan_finds(&mut tree, rows, range, many)
+}
+
+/// How many nodes a scan of rows loads, and the next unused number that the head then says.
+fn scan_loads(tree: &mut Tree, rows: &[u8], range: Range) -> Result<(u32, u32), TreeFault> {
+    let (low, high, limit) = range;
+    lay(tree, rows)?;
+    pairs_between(tree, low, high, limit)?;
+    Ok((tree.source.loads, next_of(tree)))
+}
+
+/// So of a tree that had no rows.
+fn loads_of(alloc: Global, rows: &[u8], range: Range) -> Result<(u32, u32), TreeFault> {
+    let mut tree = bare_tree(alloc);
+    scan_loads(&mut tree, rows, range)
 }
 
 #[test]
@@ -81,7 +87,7 @@ fn a_scan_finds_the_first_pairs_of_its_range(rt: HostRuntime) -> Result<(), Fail
         (599, 8000, 9, 1),
         (600, 8000, 9, 0),
     ] {
-        let right = finds(rt.alloc(), rows.as_slice(), low, high, limit, many)?;
+        let right = finds(rt.alloc(), rows.as_slice(), (low, high, limit), many)?;
         assert!(rt; right, "from {low} to {high}, {limit}");
     }
     Ok(())
@@ -90,18 +96,18 @@ fn a_scan_finds_the_first_pairs_of_its_range(rt: HostRuntime) -> Result<(), Fail
 #[test]
 fn a_scan_loads_only_what_it_needs(rt: HostRuntime) -> Result<(), Fail> {
     let rows = deep_rows(rt.alloc())?;
-    for ((low, high), limit, loads) in [
-        ((0, 600), 0, 1),
-        ((9, 9), 9, 1),
-        ((9, 8), 9, 1),
-        ((100, 101), 9, 4),
-        ((100, 120), 1, 4),
-        ((8, 24), 99, 5),
+    for (range, loads) in [
+        ((0, 600, 0), 1),
+        ((9, 9, 9), 1),
+        ((9, 8, 9), 1),
+        ((100, 101, 9), 4),
+        ((100, 120, 1), 4),
+        ((8, 24, 99), 5),
     ] {
-        let (found, _next) = loads_of(rt.alloc(), rows.as_slice(), low, high, limit)?;
-        assert_eq!(rt; found, loads, "from {low} to {high}, {limit}");
+        let (found, _next) = loads_of(rt.alloc(), rows.as_slice(), range)?;
+        assert_eq!(rt; found, loads, "{range:?}");
     }
-    let (found, next) = loads_of(rt.alloc(), rows.as_slice(), 0, 600, 2000)?;
+    let (found, next) = loads_of(rt.alloc(), rows.as_slice(), (0, 600, 2000))?;
     assert_eq!(rt; found, next);
     Ok(())
 }

@@ -2,7 +2,7 @@
 
 ghost use Rattle.std.specs.Prelude.{IfOk};
 
-use super::fixtures::{Tree, get, pairs, put, tree_of};
+use super::fixtures::{Tree, bare_tree, get, lay, pairs, put};
 use super::keys::key_at;
 use btree_nodes::TreeFault;
 use fine_model::{Bytes, NoMemory, Node};
@@ -97,6 +97,11 @@ pub fn count_keys(tree: &mut Tree, many: u32) -> Result<u32, TreeFault> {
     Ok(count)
 }
 
+/// Whether a pair is this key, with this value.
+fn is_of_both(pair: &(Bytes, Bytes), key: &[u8], value: &[u8]) -> bool {
+    pair.0.as_slice() == key && pair.1.as_slice() == value
+}
+
 /// Whether a pair is the key of thirteen pieces at a place, with this value.
 pub fn is_pair(
     alloc: Global,
@@ -105,7 +110,7 @@ pub fn is_pair(
     value: &[u8],
 ) -> Result<bool, NoMemory> {
     let key = key_at(alloc, place, 13)?;
-    Ok(pair.0.as_slice() == key.as_slice() && pair.1.as_slice() == value)
+    Ok(is_of_both(pair, key.as_slice(), value))
 }
 
 /// Whether pairs are so many keys of thirteen pieces from a place on, each with `1`.
@@ -142,7 +147,7 @@ fn split_leaf(tree: &mut Tree) -> Result<(usize, bool), TreeFault> {
 
 /// So of a tree that was empty.
 fn split_empty(alloc: Global) -> Result<(usize, bool), TreeFault> {
-    let mut tree = tree_of(alloc, b"")?;
+    let mut tree = bare_tree(alloc);
     split_leaf(&mut tree)
 }
 
@@ -152,44 +157,45 @@ fn the_33rd_key_of_a_leaf_splits_it(rt: HostRuntime) -> Result<(), Fail> {
     Ok(())
 }
 
-/// A tree whose keys are set in an order.
-pub fn grown(alloc: Global, many: u32, step: u32) -> Result<Tree, TreeFault> {
-    let mut tree = tree_of(alloc, b"")?;
-    put_keys(&mut tree, many, 13, step, many)?;
-    Ok(tree)
+/// Whether a scan of all keys gives so many.
+fn scans_all(tree: &mut Tree, many: u32) -> Result<bool, TreeFault> {
+    let all = pairs(tree, b"A", b"C", 2000)?;
+    Ok(are_keys(tree.alloc, all.as_slice(), 0, many)?)
 }
 
-/// How many keys a tree on rows has, where a scan gives them all.
+/// How many keys a tree has once rows are laid, where a scan gives them all.
+fn count_laid(tree: &mut Tree, rows: &[u8], many: u32) -> Result<u32, TreeFault> {
+    lay(tree, rows)?;
+    let count = count_keys(tree, many)?;
+    Ok(if scans_all(tree, many)? { count } else { 0 })
+}
+
+/// So of a tree on rows.
 fn count_in_rows(alloc: Global, rows: &[u8], many: u32) -> Result<u32, TreeFault> {
-    let mut tree = tree_of(alloc, rows)?;
-    let count = count_keys(&mut tree, many)?;
-    let all = pairs(&mut tree, b"A", b"C", 2000)?;
-    Ok(if are_keys(alloc, all.as_slice(), 0, many)? {
-        count
-    } else {
-        0
-    })
+    let mut tree = bare_tree(alloc);
+    count_laid(&mut tree, rows, many)
 }
 
-/// The depth of a tree, and how many keys it has: itself, and a tree on the rows that were pushed.
-fn measure(tree: &mut Tree, many: u32) -> Result<(u8, u32, u32), TreeFault> {
+/// The depth of a tree whose keys are set in an order, and how many keys it has: itself, and a tree on the rows that were pushed.
+fn grow(tree: &mut Tree, many: u32, step: u32) -> Result<(u8, u32, u32), TreeFault> {
+    put_keys(tree, many, 13, step, many)?;
     let depth = depth_of(tree);
     let found = count_keys(tree, many)?;
     let again = count_in_rows(tree.alloc, tree.log.bytes(), many)?;
     Ok((depth, found, again))
 }
 
-/// So of a tree whose keys are set in an order.
-fn measured(alloc: Global, many: u32, step: u32) -> Result<(u8, u32, u32), TreeFault> {
-    let mut tree = grown(alloc, many, step)?;
-    measure(&mut tree, many)
+/// So of a tree that was empty.
+fn grown(alloc: Global, many: u32, step: u32) -> Result<(u8, u32, u32), TreeFault> {
+    let mut tree = bare_tree(alloc);
+    grow(&mut tree, many, step)
 }
 
 #[test]
 fn trees_grow_to_depth_3(rt: HostRuntime) -> Result<(), Fail> {
     for (many, step) in [(600, 1), (600, 599), (900, 371)] {
         assert_eq!(rt;
-            measured(rt.alloc(), many, step)?,
+            grown(rt.alloc(), many, step)?,
             (3, many, many),
             "step {step}"
         );

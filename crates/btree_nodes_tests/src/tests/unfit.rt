@@ -2,11 +2,11 @@
 
 ghost use Rattle.std.specs.Prelude.{IfOk};
 
-use super::fixtures::{KINDS, Kind, Tree, call, tree_of};
+use super::fixtures::{KINDS, Kind, Tree, bare_tree, call, lay};
 use super::limits::push;
 use super::scans::deep_rows;
 use btree_nodes::{TreeFault, scan};
-use fine_model::{Bytes, FetchFault, Items, NoMemory, NodeId};
+use fine_model::{FetchFault, Items, NoMemory, NodeId, Pairs};
 use std::alloc::Global;
 use std::test::*;
 
@@ -68,13 +68,11 @@ fn push_line(rows: &mut Vec<u8>, line: Line) -> Result<(), NoMemory> {
     push(rows, kind, number, version, body)
 }
 
-/// A tree on these rows.
-fn tree_on(alloc: Global, lines: &[Line]) -> Result<Tree, NoMemory> {
-    let mut rows = Vec::new(alloc);
+fn push_lines(rows: &mut Vec<u8>, lines: &[Line]) -> Result<(), NoMemory> {
     for line in lines {
-        push_line(&mut rows, *line)?;
+        push_line(rows, *line)?;
     }
-    tree_of(alloc, rows.as_slice())
+    Ok(())
 }
 
 /// Whether an answer names this node as unfit.
@@ -85,21 +83,26 @@ fn is_unfit(answer: Result<(), TreeFault>, number: u32) -> bool {
     }
 }
 
-/// How many of the five calls on the least key name this node as unfit.
+/// Whether a call on the least key names this node as unfit.
+fn names_unfit(tree: &mut Tree, kind: Kind, number: u32) -> bool {
+    is_unfit(call(tree, b"AaAaAaAaAa", kind), number)
+}
+
+/// How many of the five calls do.
 fn count_unfit(tree: &mut Tree, number: u32) -> u32 {
     let mut count = 0u32;
     for kind in KINDS {
-        if is_unfit(call(tree, b"AaAaAaAaAa", kind), number) {
+        if names_unfit(tree, kind, number) {
             count = count.saturating_add(1);
         }
     }
     count
 }
 
-/// How many of the five calls on these rows name this node as unfit, or 0 where one pushes a row.
-fn unfit_on(alloc: Global, lines: &[Line], number: u32) -> Result<u32, NoMemory> {
-    let mut tree = tree_on(alloc, lines)?;
-    let count = count_unfit(&mut tree, number);
+/// So on these rows, or 0 where a call pushes a row.
+fn unfit_on(tree: &mut Tree, lines: &[Line], number: u32) -> Result<u32, NoMemory> {
+    push_lines(&mut tree.source.bytes, lines)?;
+    let count = count_unfit(tree, number);
     Ok(if tree.log.bytes().is_empty() {
         count
     } else {
@@ -107,11 +110,17 @@ fn unfit_on(alloc: Global, lines: &[Line], number: u32) -> Result<u32, NoMemory>
     })
 }
 
+/// So of a tree that had no rows.
+fn unfit_in(alloc: Global, lines: &[Line], number: u32) -> Result<u32, NoMemory> {
+    let mut tree = bare_tree(alloc);
+    unfit_on(&mut tree, lines, number)
+}
+
 #[test]
 fn each_call_names_the_first_unfit_node(rt: HostRuntime) -> Result<(), Fail> {
     let rules = [ROOT, LEAF, INNER, VERSION, CHILD, KEY, BUCKET, SEPARATOR];
     for (rule, (lines, number)) in rules.iter().enumerate() {
-        assert_eq!(rt; unfit_on(rt.alloc(), lines, *number)?, 5, "rule {rule}");
+        assert_eq!(rt; unfit_in(rt.alloc(), lines, *number)?, 5, "rule {rule}");
     }
     Ok(())
 }
@@ -136,24 +145,30 @@ fn end_of(answer: Result<(), TreeFault>) -> Ends {
     }
 }
 
-/// A scan over some leaves behind a pair that stood there. Where it fails, the pair is all that is there.
-fn scan_behind(tree: &mut Tree, before: (Bytes, Bytes)) -> Ends {
+/// How a scan over some leaves ends.
+fn end_of_scan(tree: &mut Tree, out: &mut Pairs) -> Ends {
     if tree.bucket.bucket() > 255 {
         return Ends::Otherwise;
     }
-    let mut out = Items::new(tree.alloc);
-    if out.push(before).is_err() {
-        return Ends::Otherwise;
-    }
-    let answer = scan(
+    end_of(scan(
         &mut tree.source,
         &mut tree.bucket,
         b"AaAaAaAaAaAaAaAaAaAaAaBBAa",
         b"C",
         60,
-        &mut out,
-    );
-    let end = end_of(answer);
+        out,
+    ))
+}
+
+/// So behind a pair that is put there before. Where it fails, the pair is all that is there.
+fn scan_behind(tree: &mut Tree, out: &mut Pairs) -> Ends {
+    if out
+        .push((Items::new(tree.alloc), Items::new(tree.alloc)))
+        .is_err()
+    {
+        return Ends::Otherwise;
+    }
+    let end = end_of_scan(tree, out);
     let many = if end == Ends::Done { 61 } else { 1 };
     if out.len() == many {
         end
@@ -165,21 +180,43 @@ fn scan_behind(tree: &mut Tree, before: (Bytes, Bytes)) -> Ends {
 /// How one of the five calls ends, of which the scan is one behind a pair.
 fn end_call(tree: &mut Tree, kind: Kind) -> Ends {
     if kind == Kind::Scan {
-        let before = (Items::new(tree.alloc), Items::new(tree.alloc));
-        scan_behind(tree, before)
+        let mut out = Items::new(tree.alloc);
+        scan_behind(tree, &mut out)
     } else {
         end_of(call(tree, b"AaAaAaAaAaAaAaAaAaAaAaAaBB", kind))
     }
 }
 
+/// How a call on rows ends where this load fails, which is otherwise if it failed and pushed rows, and how many loads there were.
+fn fail_load(
+    tree: &mut Tree,
+    rows: &[u8],
+    kind: Kind,
+    fails: u32,
+) -> Result<(Ends, u32), NoMemory> {
+    lay(tree, rows)?;
+    tree.source.fails = fails;
+    let end = end_call(tree, kind);
+    let end = if end == Ends::Failed && !tree.log.bytes().is_empty() {
+        Ends::Otherwise
+    } else {
+        end
+    };
+    Ok((end, tree.source.loads))
+}
+
+/// So of a tree that had no rows.
+fn fail_in(alloc: Global, rows: &[u8], kind: Kind, fails: u32) -> Result<(Ends, u32), NoMemory> {
+    let mut tree = bare_tree(alloc);
+    fail_load(&mut tree, rows, kind, fails)
+}
+
 /// Makes each load of a call fail in turn, until none does. Answers how many loads there were, or 0 where an answer was another.
 fn fail_each_load(alloc: Global, rows: &[u8], kind: Kind) -> Result<u32, NoMemory> {
     for fails in 1..20u32 {
-        let mut tree = tree_of(alloc, rows)?;
-        tree.source.fails = fails;
-        match end_call(&mut tree, kind) {
-            Ends::Done => return Ok(tree.source.loads),
-            Ends::Failed if tree.log.bytes().is_empty() && tree.source.loads == fails => {}
+        match fail_in(alloc, rows, kind, fails)? {
+            (Ends::Done, loads) => return Ok(loads),
+            (Ends::Failed, loads) if loads == fails => {}
             _ => return Ok(0),
         }
     }

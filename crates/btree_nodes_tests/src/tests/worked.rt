@@ -2,8 +2,9 @@
 
 ghost use Rattle.std.specs.Prelude.{IfOk};
 
-use super::fixtures::{Tree, add, del, get, put, tree_of};
+use super::fixtures::{Tree, add, bare_tree, del, get, put};
 use fine_model::Reply;
+use std::alloc::Global;
 use std::test::*;
 
 const KEY: &[u8] = b"AaAaAaAaAa";
@@ -17,10 +18,15 @@ fn are_absent(tree: &mut Tree) -> [bool; 3] {
     ]
 }
 
+/// So of a tree that has no rows.
+fn are_absent_at_first(alloc: Global) -> [bool; 3] {
+    let mut tree = bare_tree(alloc);
+    are_absent(&mut tree)
+}
+
 #[test]
 fn a_key_that_is_absent_is_not_removed(rt: HostRuntime) -> Result<(), Fail> {
-    let mut tree = tree_of(rt.alloc(), b"")?;
-    assert_eq!(rt; are_absent(&mut tree), [true; 3]);
+    assert_eq!(rt; are_absent_at_first(rt.alloc()), [true; 3]);
     Ok(())
 }
 
@@ -29,14 +35,23 @@ fn adds(tree: &mut Tree, by: i64, wanted: i64) -> bool {
     matches!(add(tree, KEY, by), Ok(Reply::Sum { sum }) if sum == wanted)
 }
 
+/// The rows that adding 5 and then 2 pushes: a pair that is put, and a sum.
+const ADDED: &[u8] =
+    b"\x04\x00\x40\x00\x00\x00\x01\x00\x00\x00\x00\x00\x00\x00\x01\x00\x00\x00\x0e\x0aAaAaAaAaAa\x00\x015\x09\x00\x40\x00\x00\x00\x01\x00\x00\x00\x00\x00\x00\x00\x02\x00\x00\x00\x13\x0aAaAaAaAaAa\x00\x00\x00\x00\x00\x00\x00\x02";
+
+/// Whether adding to a key that is absent gives each sum, and whether these rows are pushed.
+fn add_twice(alloc: Global) -> [bool; 3] {
+    let mut tree = bare_tree(alloc);
+    [
+        adds(&mut tree, 5, 5),
+        adds(&mut tree, 2, 7),
+        tree.log.bytes() == ADDED,
+    ]
+}
+
 #[test]
 fn a_number_is_added_to_a_key(rt: HostRuntime) -> Result<(), Fail> {
-    let mut tree = tree_of(rt.alloc(), b"")?;
-    let added = [adds(&mut tree, 5, 5), adds(&mut tree, 2, 7)];
-    assert_eq!(rt; added, [true; 2]);
-    let rows =
-        b"\x04\x00\x40\x00\x00\x00\x01\x00\x00\x00\x00\x00\x00\x00\x01\x00\x00\x00\x0e\x0aAaAaAaAaAa\x00\x015\x09\x00\x40\x00\x00\x00\x01\x00\x00\x00\x00\x00\x00\x00\x02\x00\x00\x00\x13\x0aAaAaAaAaAa\x00\x00\x00\x00\x00\x00\x00\x02";
-    assert_eq!(rt; tree.log.bytes(), rows.as_slice());
+    assert_eq!(rt; add_twice(rt.alloc()), [true; 3]);
     Ok(())
 }
 
@@ -58,9 +73,17 @@ fn stays_known(tree: &mut Tree) -> (bool, [bool; 4], bool) {
     (first, known, tree.bucket.has_own_keys(1))
 }
 
+/// So of a tree that has no rows.
+fn stays_known_from_none(alloc: Global) -> (bool, [bool; 4], bool) {
+    let mut tree = bare_tree(alloc);
+    stays_known(&mut tree)
+}
+
 #[test]
 fn what_is_known_of_a_leaf_stays_known(rt: HostRuntime) -> Result<(), Fail> {
-    let mut tree = tree_of(rt.alloc(), b"")?;
-    assert_eq!(rt; stays_known(&mut tree), (false, [true; 4], false));
+    assert_eq!(rt;
+        stays_known_from_none(rt.alloc()),
+        (false, [true; 4], false)
+    );
     Ok(())
 }

@@ -1,8 +1,8 @@
 //! What no clause says: the calls of a disk in memory as they run, and each list of a plan.
 
-ghost use Rattle.std.specs.Prelude.{◌≡◌, ◌<◌, ◌≤◌, [], IfOk, length};
+ghost use Rattle.std.specs.Prelude.{◌≡◌, ◌+◌, ◌<◌, ◌≤◌, [], Contains, IfOk};
 
-use log_disk::{DiskRefusal, FaultPlan, LogDisk, LogEye, MemDisk, NoMemory};
+use log_disk::{DiskRefusal, FaultPlan, LogDisk, LogEye, MemDisk, MemEye, NoMemory};
 use std::alloc::Global;
 use std::test::Fail;
 
@@ -51,6 +51,17 @@ fn byte(disk: &mut MemDisk, region: u32, at: u64) -> Option<u8>
     None
 }
 
+// All bytes, in order of region and offset.
+fn bytes(disk: &mut MemDisk) -> [Option<u8>; 8]
+    requires { (disk.old.disk.regions ≡ 4) × (disk.old.disk.region_len ≡ 2) × (disk.old.disk.eyes ≡ []) }
+{
+    let mut bytes = [None; 8];
+    for k in 0..8u32 {
+        bytes[k as usize] = byte(disk, k / 2, u64::from(k % 2));
+    }
+    bytes
+}
+
 // The bytes after some steps and a crash, in order of region and offset.
 fn left(
     alloc: Global,
@@ -61,11 +72,7 @@ fn left(
     let mut disk = small(alloc, plan)?;
     steps(&mut disk, calls);
     let mut disk = disk.crashed(picks)?;
-    let mut bytes = [None; 8];
-    for k in 0..8u32 {
-        bytes[k as usize] = byte(&mut disk, k / 2, u64::from(k % 2));
-    }
-    Ok(bytes)
+    Ok(bytes(&mut disk))
 }
 
 // Two writes, a sync, and by the plan of the test a write and a sync that fail.
@@ -77,9 +84,44 @@ const TWO_THAT_FAIL: [Step; 5] = [
     None,
 ];
 
+// The bits of a number at those places where another has 1.
+fn bits_at(alloc: Global, number: u32, places: u32) -> Result<Vec<u8>, NoMemory> {
+    let mut bits = Vec::new(alloc);
+    for at in 0..8u32 {
+        if places >> at & 1 == 1 {
+            bits.push((number >> at & 1) as u8)?;
+        }
+    }
+    Ok(bits)
+}
+
+// The bytes after so many of them and a crash that picks the bits of a number where bytes are unsynced.
+fn image(
+    alloc: Global,
+    count: usize,
+    wanted: u32,
+    unsynced: u32,
+) -> Result<[Option<u8>; 8], NoMemory>
+    requires { count ≤ 5 }
+{
+    let picks = bits_at(alloc, wanted, unsynced)?;
+    let mut plan = FaultPlan::none(alloc);
+    plan.writes.push(3)?;
+    plan.syncs.push(2)?;
+    left(alloc, plan, &TWO_THAT_FAIL[..count], &picks)
+}
+
+// The eight lowest bits of a number as bytes.
+fn bits_of(number: u32) -> [Option<u8>; 8] {
+    let mut bits = [None; 8];
+    for at in 0..8u32 {
+        bits[at as usize] = Some((number >> at & 1) as u8);
+    }
+    bits
+}
+
 #[test]
 fn images_are_those_of_a_list(rt: HostRuntime) -> Result<(), Fail> {
-    let alloc = rt.alloc();
     // After so many of them: what the last sync left, and what is unsynced, one bit for each byte.
     let table: [(u32, u32); 6] = [
         (0, 0),
@@ -91,50 +133,41 @@ fn images_are_those_of_a_list(rt: HostRuntime) -> Result<(), Fail> {
     ];
     for (count, (synced, unsynced)) in table.iter().enumerate() {
         for wanted in 0..256u32 {
-            let mut plan = FaultPlan::none(alloc);
-            plan.writes.push(3)?;
-            plan.syncs.push(2)?;
-            let mut picks = Vec::new(alloc);
-            for at in 0..8u32 {
-                if *unsynced >> at & 1 == 1 {
-                    picks.push((wanted >> at & 1) as u8)?;
-                }
-            }
-            let bytes = left(alloc, plan, &TWO_THAT_FAIL[..count], &picks)?;
-            for at in 0..8u32 {
-                let bit = (wanted & *unsynced | *synced & !*unsynced) >> at & 1;
-                assert_eq!(rt; bytes[at as usize], Some(bit as u8));
-            }
+            let bytes = image(rt.alloc(), count, wanted, *unsynced)?;
+            assert_eq!(rt; bytes, bits_of(wanted & *unsynced | *synced & !*unsynced));
         }
     }
     Ok(())
 }
 
+// Once 1 is synced at each end, the later region is written first, and one byte twice.
+const LATER_FIRST: [Step; 8] = [
+    Some((0, 1, 1)),
+    Some((3, 0, 1)),
+    Some((3, 1, 1)),
+    None,
+    Some((3, 1, 2)),
+    Some((3, 0, 2)),
+    Some((0, 1, 3)),
+    Some((0, 1, 4)),
+];
+
+// So many picks, and the three bytes that were written.
+const PICKED: [(usize, [Option<u8>; 3]); 4] = [
+    (0, [Some(1), Some(1), Some(1)]),
+    (1, [Some(7), Some(1), Some(1)]),
+    (2, [Some(7), Some(8), Some(1)]),
+    (4, [Some(7), Some(8), Some(9)]),
+];
+
 #[test]
 fn picks_go_by_region_and_offset(rt: HostRuntime) -> Result<(), Fail> {
     let alloc = rt.alloc();
-    // Once 1 is synced at each end, the later region is written first, and one byte twice.
-    let calls: [Step; 8] = [
-        Some((0, 1, 1)),
-        Some((3, 0, 1)),
-        Some((3, 1, 1)),
-        None,
-        Some((3, 1, 2)),
-        Some((3, 0, 2)),
-        Some((0, 1, 3)),
-        Some((0, 1, 4)),
-    ];
-    let table: [(&[u8], [u8; 3]); 4] = [
-        (&[], [1, 1, 1]),
-        (&[7], [7, 1, 1]),
-        (&[7, 8], [7, 8, 1]),
-        (&[7, 8, 9, 10], [7, 8, 9]),
-    ];
-    for (picks, wanted) in &table {
-        let bytes = left(alloc, FaultPlan::none(alloc), &calls, picks)?;
-        assert_eq!(rt; bytes[1], Some(wanted[0]));
-        assert_eq!(rt; bytes[6], Some(wanted[1]));
-        assert_eq!(rt; bytes[7], Some(wanted[2]));
+    let picks: [u8; 4] = [7, 8, 9, 10];
+    for (count, wanted) in &PICKED {
+        let picks = picks.get(..*count).unwrap_or(&[]);
+        let bytes = left(alloc, FaultPlan::none(alloc), &LATER_FIRST, picks)?;
+        assert_eq!(rt; [bytes[1], bytes[6], bytes[7]], *wanted);
     }
     Ok(())
 }
@@ -157,85 +190,116 @@ fn look(disk: &mut MemDisk, region: u32) -> [bool; 3]
     }
 }
 
-// Reads, writes, syncs and looks, as the plan has it, and says which failed.
-fn failures(alloc: Global, plan: FaultPlan) -> Result<[bool; 8], NoMemory> {
-    let mut disk = small(alloc, plan)?;
-    let read = byte(&mut disk, 0, 0).is_none();
-    let again = byte(&mut disk, 0, 0).is_none();
-    let write = step(&mut disk, Some((0, 0, 5)));
-    let rewrite = step(&mut disk, Some((0, 0, 6)));
+// Reads, writes, syncs and looks, and has a bit for each that failed, in this order from the lowest.
+fn all_calls(disk: &mut MemDisk) -> u32
+    requires { (disk.old.disk.regions ≡ 4) × (disk.old.disk.region_len ≡ 2) × (disk.old.disk.eyes ≡ []) }
+{
+    let read = byte(disk, 0, 0).is_none();
+    let again = byte(disk, 0, 0).is_none();
+    let write = step(disk, Some((0, 0, 5)));
+    let rewrite = step(disk, Some((0, 0, 6)));
+    let before = bits([read, again, write, rewrite]);
     if disk.sync().is_err() {
-        return Ok([read, again, write, rewrite, true, false, false, false]);
+        return before | 16;
     }
-    let [eye, first, second] = look(&mut disk, 1);
-    Ok([read, again, write, rewrite, false, eye, first, second])
+    let [eye, first, second] = look(disk, 1);
+    before | bits([false, eye, first, second]) << 4
+}
+
+fn bits(flags: [bool; 4]) -> u32
+    ensures { result < 16 }
+{
+    let [a, b, c, d] = flags;
+    u32::from(a) | u32::from(b) << 1 | u32::from(c) << 2 | u32::from(d) << 3
+}
+
+// Adds a failure to a list of a plan, and says whether there was memory for it.
+fn plan_one(plan: &mut FaultPlan, list: u8, number: u64) -> bool {
+    match list {
+        0 => plan.reads.push(number).is_ok(),
+        1 => plan.writes.push(number).is_ok(),
+        2 => plan.syncs.push(number).is_ok(),
+        3 => plan.eyes.push(number).is_ok(),
+        4 => plan.eye_reads.push((1, number)).is_ok(),
+        _ => {
+            plan.stop = number;
+            true
+        }
+    }
+}
+
+// The calls that fail where one failure is planned.
+fn failures(alloc: Global, list: u8, number: u64) -> Result<u32, NoMemory> {
+    let mut plan = FaultPlan::none(alloc);
+    if !plan_one(&mut plan, list, number) {
+        return Err(NoMemory);
+    }
+    let mut disk = small(alloc, plan)?;
+    Ok(all_calls(&mut disk))
 }
 
 #[test]
 fn each_list_of_a_plan_fails_its_calls(rt: HostRuntime) -> Result<(), Fail> {
-    let alloc = rt.alloc();
-    // Each row plans one failure, by its list and number, and names the calls that fail.
-    let table: [(u8, u64, &[usize]); 16] = [
-        (0, 1, &[0]),
-        (0, 2, &[1]),
-        (1, 1, &[2]),
-        (1, 2, &[3]),
-        (2, 1, &[4]),
-        (2, 2, &[]),
-        (3, 1, &[5]),
-        (3, 2, &[]),
-        (4, 1, &[6]),
-        (4, 2, &[7]),
-        (5, 1, &[0, 1, 2, 3, 4]),
-        (5, 3, &[2, 3, 4]),
-        (5, 4, &[3, 4]),
-        (5, 5, &[4]),
-        (5, 6, &[5]),
-        (5, 7, &[]),
+    // Each row plans one failure, by its list and number, and has a bit for each call that fails.
+    let table: [(u8, u64, u32); 16] = [
+        (0, 1, 0b1),
+        (0, 2, 0b10),
+        (1, 1, 0b100),
+        (1, 2, 0b1000),
+        (2, 1, 0b1_0000),
+        (2, 2, 0),
+        (3, 1, 0b10_0000),
+        (3, 2, 0),
+        (4, 1, 0b100_0000),
+        (4, 2, 0b1000_0000),
+        (5, 1, 0b1_1111),
+        (5, 3, 0b1_1100),
+        (5, 4, 0b1_1000),
+        (5, 5, 0b1_0000),
+        (5, 6, 0b10_0000),
+        (5, 7, 0),
     ];
-    for (list, number, wanted) in &table {
-        let mut plan = FaultPlan::none(alloc);
-        match *list {
-            0 => plan.reads.push(*number)?,
-            1 => plan.writes.push(*number)?,
-            2 => plan.syncs.push(*number)?,
-            3 => plan.eyes.push(*number)?,
-            4 => plan.eye_reads.push((1, *number))?,
-            _ => plan.stop = *number,
-        }
-        let failed = failures(alloc, plan)?;
-        for call in 0..8usize {
-            assert_eq!(rt;
-                failed[call],
-                wanted.contains(&call),
-                "list {list}, number {number}, call {call}"
-            );
-        }
+    for (list, number, wanted) in table {
+        let failed = failures(rt.alloc(), list, number)?;
+        assert_eq!(rt; failed, wanted, "list {list}, number {number}");
     }
     Ok(())
 }
 
 // Opens two eyes on regions that overlap, and reads one byte of region 1 by each.
-fn seen_by_two(disk: &mut MemDisk) -> Result<[u8; 2], DiskRefusal>
+fn seen_by_two(disk: &mut MemDisk) -> Result<[Option<u8>; 2], DiskRefusal>
     requires { (disk.old.disk.regions ≡ 4) × (disk.old.disk.region_len ≡ 2) × (disk.old.disk.unsynced ≡ []) }
 {
-    let mut seen = [0u8; 2];
     let mut first = disk.eye(&[0, 1])?;
     let mut second = disk.eye(&[1, 2])?;
-    first.read(1, 0, &mut seen[..1])?;
-    second.read(1, 1, &mut seen[1..])?;
-    Ok(seen)
+    Ok([seen(&mut first, 0), seen(&mut second, 1)])
+}
+
+// The byte of region 1 that an eye reads.
+fn seen(eye: &mut MemEye, at: u64) -> Option<u8>
+    requires named { Contains eye.old.eye.regions 1 }
+    requires within { at + 1 ≤ eye.old.eye.region_len }
+{
+    let mut byte = [0u8; 1];
+    match eye.read(1, at, &mut byte) {
+        Ok(()) => Some(byte[0]),
+        Err(_) => None,
+    }
+}
+
+// Writes a byte, and sees it by two eyes once it is synced.
+fn written_and_seen(disk: &mut MemDisk) -> Result<[Option<u8>; 2], DiskRefusal>
+    requires { (disk.old.disk.regions ≡ 4) × (disk.old.disk.region_len ≡ 2) × (disk.old.disk.eyes ≡ []) }
+{
+    disk.write(1, 1, &[9])?;
+    disk.sync()?;
+    seen_by_two(disk)
 }
 
 #[test]
 fn two_eyes_share_a_region(rt: HostRuntime) -> Result<(), Fail> {
-    let alloc = rt.alloc();
-    let mut disk = small(alloc, FaultPlan::none(alloc))?;
-    let wrote = step(&mut disk, Some((1, 1, 9)));
-    assert!(rt; !wrote);
-    if disk.sync().is_ok() {
-        let seen = seen_by_two(&mut disk)?;
-        assert_eq!(rt; seen, [0, 9]);
-    }
+    let mut disk = small(rt.alloc(), FaultPlan::none(rt.alloc()))?;
+    let seen = written_and_seen(&mut disk);
+    assert_eq!(rt; seen, Ok([Some(0), Some(9)]));
     Ok(())
 }

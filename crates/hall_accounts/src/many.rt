@@ -53,33 +53,41 @@ fn key_in(bucket: u8, number: u64) -> [u8; 12] {
     key
 }
 
-/// The put with a number, in the bucket of a seat. None where there is no memory.
-fn put_with(alloc: Global, seat: u8, load: Load, number: u64) -> Option<Call>
-    ensures { IfSome result FitsCall }
-{
-    let bucket = seat.saturating_mul(APART);
-    match load {
-        Load::Short => put_of(alloc, bucket, 1),
-        Load::Long => put_bytes(alloc, &key_in(bucket, number % KEYS), &VALUE),
+/// Puts in a bucket of one's own.
+#[derive(Clone, Copy)]
+struct OwnPuts {
+    alloc: Global,
+    bucket: u8,
+    load: Load,
+}
+
+impl OwnPuts {
+    /// The put with a number. None where there is no memory.
+    fn call(&self, number: u64) -> Option<Call>
+        ensures { IfSome result FitsCall }
+    {
+        match self.load {
+            Load::Short => put_of(self.alloc, self.bucket, 1),
+            Load::Long => put_bytes(self.alloc, &key_in(self.bucket, number % KEYS), &VALUE),
+        }
     }
 }
 
 /// So many transactions of one put each.
 fn put_often<D: LogDisk, W: Wait>(
     rt: &W,
-    alloc: Global,
     txn: &mut Txn,
     hall: &RoomHall<D>,
     pass: &mut Pass<View<D::Eye>>,
-    puts: Puts,
+    puts: &OwnPuts,
+    times: u64,
 )
     requires idle { IsAtRest hall.now pass.old }
     requires free { IsFree txn.old }
     ensures idle { IsAtRest hall.now pass.new × (pass.new.number ≡ pass.old.number) }
 {
-    let seat = seat_of(pass);
-    for number in 0..puts.times {
-        let Some(call) = put_with(alloc, seat, puts.load, number) else {
+    for number in 0..times {
+        let Some(call) = puts.call(number) else {
             return;
         };
         let calls = [call];
@@ -98,10 +106,16 @@ pub fn puts<D: LogDisk, W: Wait>(
     requires idle { IsAtRest hall.now pass }
     ensures idle { IsAtRest hall.now result × (result.number ≡ pass.number) }
 {
-    let Some(mut txn) = fresh(alloc, seat_of(&pass)) else {
+    let seat = seat_of(&pass);
+    let Some(mut txn) = fresh(alloc, seat) else {
         return pass;
     };
-    put_often(rt, alloc, &mut txn, hall, &mut pass, puts);
+    let own = OwnPuts {
+        alloc,
+        bucket: seat.saturating_mul(APART),
+        load: puts.load,
+    };
+    put_often(rt, &mut txn, hall, &mut pass, &own, puts.times);
     pass
 }
 

@@ -1,8 +1,8 @@
 ghost use Rattle.std.specs.Prelude.{◌≡◌, ◌≤◌, [], IfOk, length};
-ghost use Rattle.fine_model.specs.RowBytes.{greatest};
+ghost use Rattle.fine_model.specs.RowBytes.{FitsRec, greatest};
 ghost use Rattle.fine_model.specs.declared.Node.TheVariants as node;
 
-use fine_model::{Bytes, Items, Node, NodeId, Pairs, Rec, Row};
+use fine_model::{Bytes, Items, NoMemory, Node, NodeId, Pairs, Rec, Row};
 use node_cache::{Bucket, Cached};
 use std::alloc::Global;
 use std::test::*;
@@ -29,26 +29,48 @@ fn version_of(bucket: &Bucket, number: u32) -> u64 {
     }
 }
 
-/// A bucket with nodes 1 to `count` of the epochs 1 to `count`.
-fn filled(alloc: Global, count: u32) -> Result<Bucket, Fail>
-    ensures { IfOk result (λ b. b.saved ≡ []) }
+/// Puts an empty leaf of this version, last changed in this epoch.
+fn put_leaf(
+    bucket: &mut Bucket,
+    alloc: Global,
+    number: u32,
+    version: u64,
+    epoch: u64,
+) -> Result<(), NoMemory>
+    requires { version ≤ greatest }
+    ensures { bucket.new.saved ≡ bucket.old.saved }
 {
-    let mut bucket = Bucket::new(alloc, 64);
+    bucket.put(number, leaf(alloc, version, epoch))
+}
+
+/// Puts the nodes 1 to `count` of the epochs 1 to `count`. What is done to a bucket stands in functions that borrow it, as this one: its drop at
+/// each exit of one that owns it costs a check seconds.
+fn fill(bucket: &mut Bucket, alloc: Global, count: u32) -> Result<(), NoMemory>
+    requires { bucket.old.saved ≡ [] }
+    ensures { bucket.new.saved ≡ [] }
+{
     for number in 1..=count {
-        let kept = leaf(alloc, 1, u64::from(number));
-        bucket.put(number, kept).ok().ok_or("memory")?;
+        put_leaf(bucket, alloc, number, 1, u64::from(number))?;
     }
-    Ok(bucket)
+    Ok(())
+}
+
+/// A bucket's number, and whether nodes 1 and, once node 1 was put, 1 and 2 are cached.
+fn look_up(bucket: &mut Bucket, alloc: Global) -> Result<(u16, [bool; 3]), NoMemory> {
+    let at_first = bucket.get(1).is_some();
+    put_leaf(bucket, alloc, 1, 7, 3)?;
+    let found = [at_first, bucket.get(1).is_some(), bucket.get(2).is_some()];
+    Ok((bucket.bucket(), found))
+}
+
+fn looked_up(alloc: Global) -> Result<(u16, [bool; 3]), NoMemory> {
+    let mut bucket = Bucket::new(alloc, 97);
+    look_up(&mut bucket, alloc)
 }
 
 #[test]
 fn an_uncached_number_is_none(rt: HostRuntime) -> Result<(), Fail> {
-    let mut bucket = Bucket::new(rt.alloc(), 97);
-    assert_eq!(rt; bucket.bucket(), 97);
-    assert!(rt; bucket.get(1).is_none());
-    bucket.put(1, leaf(rt.alloc(), 7, 3)).ok().ok_or("memory")?;
-    assert!(rt; bucket.get(1).is_some());
-    assert!(rt; bucket.get(2).is_none());
+    assert_eq!(rt; looked_up(rt.alloc())?, (97, [false, true, false]));
     Ok(())
 }
 
@@ -74,72 +96,107 @@ fn kept_of(bucket: &Bucket, numbers: [u32; 4]) -> [bool; 4] {
     ]
 }
 
+/// Of 41 nodes, of which node 1 is the last used: whether it was there, how many are kept, and which of four.
+fn evict_some(bucket: &mut Bucket, alloc: Global) -> Result<(bool, u32, [bool; 4]), NoMemory>
+    requires { bucket.old.saved ≡ [] }
+{
+    fill(bucket, alloc, 41)?;
+    let there = bucket.touch(1);
+    bucket.evict(40, 8);
+    Ok((there, count_kept(bucket), kept_of(bucket, [41, 1, 33, 34])))
+}
+
+fn evicted(alloc: Global) -> Result<(bool, u32, [bool; 4]), NoMemory> {
+    let mut bucket = Bucket::new(alloc, 64);
+    evict_some(&mut bucket, alloc)
+}
+
 #[test]
 fn evict_keeps_the_open_epoch_and_the_last_used(rt: HostRuntime) -> Result<(), Fail> {
-    let mut bucket = filled(rt.alloc(), 41)?;
-    assert!(rt; bucket.touch(1));
-    bucket.evict(40, 8);
-    assert_eq!(rt; count_kept(&bucket), 9);
-    assert_eq!(rt;
-        kept_of(&bucket, [41, 1, 33, 34]),
-        [true, true, false, true]
-    );
+    assert_eq!(rt; evicted(rt.alloc())?, (true, 9, [true, true, false, true]));
     Ok(())
 }
 
 /// Gives a cached node a version, where memory allows it.
-fn set_version(bucket: &mut Bucket, number: u32, version: u64) -> Result<(), Fail>
+fn set_version(bucket: &mut Bucket, number: u32, version: u64) -> Result<(), NoMemory>
     requires { version ≤ greatest }
 {
-    bucket.save(number).ok().ok_or("memory")?;
+    bucket.save(number)?;
     if bucket.touch(number) {
-        let kept = bucket.get_mut(number).ok().ok_or("memory")?;
+        let kept = bucket.get_mut(number)?;
         kept.version = version;
     }
     Ok(())
 }
 
 /// Puts node 3, and gives node 1 the version 4, each of which was saved before.
-fn change_saved(bucket: &mut Bucket, alloc: Global) -> Result<(), Fail> {
-    bucket.save(3).ok().ok_or("memory")?;
-    bucket.put(3, leaf(alloc, 5, 9)).ok().ok_or("memory")?;
+fn change_saved(bucket: &mut Bucket, alloc: Global) -> Result<(), NoMemory> {
+    bucket.save(3)?;
+    put_leaf(bucket, alloc, 3, 5, 9)?;
     set_version(bucket, 1, 4)?;
-    bucket.save(1).ok().ok_or("memory")?;
-    Ok(())
+    bucket.save(1)
+}
+
+/// The versions of nodes 1 to 3.
+fn versions(bucket: &Bucket) -> [u64; 3] {
+    [
+        version_of(bucket, 1),
+        version_of(bucket, 2),
+        version_of(bucket, 3),
+    ]
+}
+
+/// The versions of two nodes behind a change of one and a node more, those once that is taken back, and whether the third is there then.
+fn undo_change(bucket: &mut Bucket, alloc: Global) -> Result<([u64; 3], [u64; 3], bool), NoMemory>
+    requires { bucket.old.saved ≡ [] }
+{
+    fill(bucket, alloc, 2)?;
+    change_saved(bucket, alloc)?;
+    let changed = versions(bucket);
+    bucket.undo();
+    Ok((changed, versions(bucket), bucket.peek(3).is_some()))
+}
+
+fn undone(alloc: Global) -> Result<([u64; 3], [u64; 3], bool), NoMemory> {
+    let mut bucket = Bucket::new(alloc, 64);
+    undo_change(&mut bucket, alloc)
 }
 
 #[test]
 fn undo_restores_what_was_saved(rt: HostRuntime) -> Result<(), Fail> {
-    let mut bucket = filled(rt.alloc(), 2)?;
-    change_saved(&mut bucket, rt.alloc())?;
-    assert_eq!(rt; version_of(&bucket, 1), 4);
-    bucket.undo();
-    assert_eq!(rt; (version_of(&bucket, 1), version_of(&bucket, 2)), (1, 1));
-    assert!(rt; bucket.peek(3).is_none());
+    assert_eq!(rt; undone(rt.alloc())?, ([4, 1, 5], [1, 1, 0], false));
     Ok(())
+}
+
+/// Of two nodes, of which node 1 was saved, settled and then taken back: how many stay once what is published may go, and which.
+fn settle_one(bucket: &mut Bucket, alloc: Global) -> Result<(usize, [bool; 2]), NoMemory>
+    requires { bucket.old.saved ≡ [] }
+{
+    fill(bucket, alloc, 2)?;
+    bucket.save(1)?;
+    bucket.settle(9);
+    bucket.undo();
+    bucket.evict(8, 0);
+    let there = [bucket.peek(1).is_some(), bucket.peek(2).is_some()];
+    Ok((bucket.len(), there))
+}
+
+fn settled(alloc: Global) -> Result<(usize, [bool; 2]), NoMemory> {
+    let mut bucket = Bucket::new(alloc, 64);
+    settle_one(&mut bucket, alloc)
 }
 
 #[test]
 fn settle_stamps_what_was_saved(rt: HostRuntime) -> Result<(), Fail> {
-    let mut bucket = filled(rt.alloc(), 2)?;
-    bucket.save(1).ok().ok_or("memory")?;
-    bucket.settle(9);
-    bucket.undo();
-    bucket.evict(8, 0);
-    assert_eq!(rt; bucket.len(), 1);
-    assert!(rt; bucket.peek(1).is_some());
-    assert!(rt; bucket.peek(2).is_none());
+    assert_eq!(rt; settled(rt.alloc())?, (1, [true, false]));
     Ok(())
 }
 
-/// A bucket that notes of nodes 1 and 2, empty leaves, that all their keys are of the bucket.
-fn noted(alloc: Global) -> Result<Bucket, Fail> {
-    let mut bucket = Bucket::new(alloc, 64);
-    bucket.put(1, leaf(alloc, 1, 1)).ok().ok_or("memory")?;
-    bucket.note_own_keys(1);
-    bucket.put(2, leaf(alloc, 1, 1)).ok().ok_or("memory")?;
-    bucket.note_own_keys(2);
-    Ok(bucket)
+/// Puts an empty leaf, and notes of it that all its keys are of the bucket.
+fn put_noted(bucket: &mut Bucket, alloc: Global, number: u32) -> Result<(), NoMemory> {
+    bucket.put(number, leaf(alloc, 1, 1))?;
+    bucket.note_own_keys(number);
+    Ok(())
 }
 
 /// Of which of nodes 1 and 2 it is known that all their keys are of the bucket.
@@ -147,38 +204,62 @@ fn known(bucket: &Bucket) -> (bool, bool) {
     (bucket.has_own_keys(1), bucket.has_own_keys(2))
 }
 
+/// What is known of two leaves once it was noted of both, then once the first was put anew, and then once the second was given a version.
+fn forget_both(bucket: &mut Bucket, alloc: Global) -> Result<[(bool, bool); 3], NoMemory> {
+    put_noted(bucket, alloc, 1)?;
+    put_noted(bucket, alloc, 2)?;
+    let at_first = known(bucket);
+    put_leaf(bucket, alloc, 1, 1, 1)?;
+    let behind_put = known(bucket);
+    set_version(bucket, 2, 4)?;
+    Ok([at_first, behind_put, known(bucket)])
+}
+
+fn forgotten(alloc: Global) -> Result<[(bool, bool); 3], NoMemory> {
+    let mut bucket = Bucket::new(alloc, 64);
+    forget_both(&mut bucket, alloc)
+}
+
 #[test]
 fn what_is_known_of_keys_goes_with_a_change(rt: HostRuntime) -> Result<(), Fail> {
-    let alloc = rt.alloc();
-    let mut bucket = noted(alloc)?;
-    assert!(rt; known(&bucket) == (true, true));
-    bucket.put(1, leaf(alloc, 1, 1)).ok().ok_or("memory")?;
-    assert!(rt; known(&bucket) == (false, true));
-    set_version(&mut bucket, 2, 4)?;
-    assert!(rt; known(&bucket) == (false, false));
+    let known = [(true, true), (false, true), (false, false)];
+    assert!(rt; forgotten(rt.alloc())? == known);
     Ok(())
+}
+
+/// Of two leaves that are noted, and of which the first is saved and settled: whether it was there, what is known of both, and what of them
+/// once the first is saved and taken back.
+fn keep_both(bucket: &mut Bucket, alloc: Global) -> Result<(bool, [(bool, bool); 2]), NoMemory> {
+    put_noted(bucket, alloc, 1)?;
+    put_noted(bucket, alloc, 2)?;
+    bucket.save(1)?;
+    let there = bucket.touch(1);
+    bucket.settle(5);
+    bucket.evict(0, 0);
+    let kept = known(bucket);
+    bucket.save(1)?;
+    bucket.undo();
+    Ok((there, [kept, known(bucket)]))
+}
+
+fn kept_known(alloc: Global) -> Result<(bool, [(bool, bool); 2]), NoMemory> {
+    let mut bucket = Bucket::new(alloc, 64);
+    keep_both(&mut bucket, alloc)
 }
 
 #[test]
 fn what_is_known_of_keys_stays_otherwise(rt: HostRuntime) -> Result<(), Fail> {
-    let mut bucket = noted(rt.alloc())?;
-    bucket.save(1).ok().ok_or("memory")?;
-    assert!(rt; bucket.touch(1));
-    bucket.settle(5);
-    bucket.evict(0, 0);
-    assert!(rt; known(&bucket) == (true, true));
-    bucket.save(1).ok().ok_or("memory")?;
-    bucket.undo();
-    assert!(rt; known(&bucket) == (false, true));
+    let known = [(true, true), (false, true)];
+    assert!(rt; kept_known(rt.alloc())? == (true, known));
     Ok(())
 }
 
 /// A text of one byte.
-fn text(alloc: Global, byte: u8) -> Result<Bytes, Fail>
+fn text(alloc: Global, byte: u8) -> Result<Bytes, NoMemory>
     ensures { IfOk result (λ text. length text ≡ 1) }
 {
     let mut text = Items::new(alloc);
-    text.push(byte).ok().ok_or("memory")?;
+    text.push(byte)?;
     Ok(text)
 }
 
@@ -197,39 +278,41 @@ fn row_of(version: u64, rec: Rec) -> Row
     }
 }
 
-/// Sets a key of node 1 to a value, or removes it, by the row of this version. Answers whether that was done.
+/// A change of one key of a leaf, or a cut from it on.
+#[derive(Clone, Copy)]
+enum Step {
+    Put(u8),
+    Del,
+    Cut,
+}
+
+/// What a row records of a step at a key.
+fn rec_of(alloc: Global, key: u8, step: Step) -> Result<Rec, NoMemory>
+    ensures { IfOk result FitsRec }
+{
+    let key = text(alloc, key)?;
+    Ok(match step {
+        Step::Put(value) => Rec::Put {
+            key,
+            value: text(alloc, value)?,
+        },
+        Step::Del => Rec::Del { key },
+        Step::Cut => Rec::CutLeaf { key },
+    })
+}
+
+/// Does a step to node 1, by the row of this version. Answers whether that was done.
 fn change(
     bucket: &mut Bucket,
     alloc: Global,
     version: u64,
     key: u8,
-    value: Option<u8>,
-) -> Result<bool, Fail>
+    step: Step,
+) -> Result<bool, NoMemory>
     requires { version ≤ greatest }
 {
-    let key = text(alloc, key)?;
-    let rec = match value {
-        Some(value) => Rec::Put {
-            key,
-            value: text(alloc, value)?,
-        },
-        None => Rec::Del { key },
-    };
-    let row = row_of(version, rec);
-    Ok(bucket.change_pair(&row).ok().ok_or("memory")?)
-}
-
-/// Cuts the pairs from a key on off node 1, by the row of this version. Answers whether that was done.
-fn cut_from(bucket: &mut Bucket, alloc: Global, version: u64, key: u8) -> Result<bool, Fail>
-    requires { version ≤ greatest }
-{
-    let row = row_of(
-        version,
-        Rec::CutLeaf {
-            key: text(alloc, key)?,
-        },
-    );
-    Ok(bucket.change_pair(&row).ok().ok_or("memory")?)
+    let row = row_of(version, rec_of(alloc, key, step)?);
+    bucket.change_pair(&row)
 }
 
 /// The value of a key in node 1, or 0.
@@ -248,13 +331,15 @@ fn value_of(bucket: &Bucket, key: u8) -> u8 {
     0
 }
 
-/// A bucket whose node 1 is a leaf of version 3 with 10 to 1 and 20 to 2.
-fn with_pairs(alloc: Global) -> Result<Bucket, Fail> {
-    let mut bucket = filled(alloc, 1)?;
-    change(&mut bucket, alloc, 2, 10, Some(1))?;
-    change(&mut bucket, alloc, 3, 20, Some(2))?;
+/// Makes node 1 a leaf of version 3 with 10 to 1 and 20 to 2.
+fn put_pairs(bucket: &mut Bucket, alloc: Global) -> Result<(), NoMemory>
+    requires { bucket.old.saved ≡ [] }
+{
+    fill(bucket, alloc, 1)?;
+    change(bucket, alloc, 2, 10, Step::Put(1))?;
+    change(bucket, alloc, 3, 20, Step::Put(2))?;
     bucket.settle(5);
-    Ok(bucket)
+    Ok(())
 }
 
 /// Whether node 1 has these values of 10, 15 and 20, and this version.
@@ -267,128 +352,177 @@ fn has(bucket: &Bucket, values: [u8; 3], version: u64) -> bool {
         && version_of(bucket, 1) == version
 }
 
-/// Does rows to node 1, by the version, the key and the value of each. Answers the versions of those that were not done.
-fn change_all(
+/// Does rows to node 1, by the version, the key and the step of each. Answers whether these are the versions of those that were not done.
+fn refuses(
     bucket: &mut Bucket,
     alloc: Global,
-    rows: &[(u8, u8, Option<u8>)],
-) -> Result<Vec<u8>, Fail> {
-    let mut refused = Vec::new(alloc);
-    for (version, key, value) in rows {
-        if !change(bucket, alloc, u64::from(*version), *key, *value)? {
-            refused.push(*version).ok().ok_or("memory")?;
+    rows: &[(u8, u8, Step)],
+    wanted: &[u8],
+) -> Result<bool, NoMemory> {
+    let mut many = 0usize;
+    for (version, key, step) in rows {
+        if !change(bucket, alloc, u64::from(*version), *key, *step)? {
+            if wanted.get(many) != Some(version) {
+                return Ok(false);
+            }
+            many = many.saturating_add(1);
         }
     }
-    Ok(refused)
+    Ok(many == wanted.len())
 }
 
-/// Does six rows to node 1. Answers the versions of those that were not done.
-fn change_six(bucket: &mut Bucket, alloc: Global) -> Result<Vec<u8>, Fail> {
+/// Whether of six rows on node 1 those are refused that should be, whether the others are done, and whether all is taken back.
+fn change_six(bucket: &mut Bucket, alloc: Global) -> Result<[bool; 3], NoMemory>
+    requires { bucket.old.saved ≡ [] }
+{
+    put_pairs(bucket, alloc)?;
     let rows = [
-        (4, 10, Some(7)),
+        (4, 10, Step::Put(7)),
         // not the next version
-        (9, 15, Some(4)),
-        (5, 20, None),
+        (9, 15, Step::Put(4)),
+        (5, 20, Step::Del),
         // no such key
-        (6, 20, None),
-        (6, 15, Some(4)),
-        (7, 20, Some(9)),
+        (6, 20, Step::Del),
+        (6, 15, Step::Put(4)),
+        (7, 20, Step::Put(9)),
     ];
-    change_all(bucket, alloc, &rows)
+    let refused = refuses(bucket, alloc, &rows, &[9, 6])?;
+    let done = has(bucket, [7, 4, 9], 7);
+    bucket.undo();
+    Ok([refused, done, has(bucket, [1, 0, 2], 3)])
+}
+
+fn six_changed(alloc: Global) -> Result<[bool; 3], NoMemory> {
+    let mut bucket = Bucket::new(alloc, 64);
+    change_six(&mut bucket, alloc)
 }
 
 #[test]
 fn changes_of_pairs_are_done_and_taken_back(rt: HostRuntime) -> Result<(), Fail> {
-    let mut bucket = with_pairs(rt.alloc())?;
-    assert!(rt; change_six(&mut bucket, rt.alloc())?.as_slice() == [9u8, 6].as_slice());
-    assert!(rt; has(&bucket, [7, 4, 9], 7));
-    bucket.undo();
-    assert!(rt; has(&bucket, [1, 0, 2], 3));
+    assert_eq!(rt; six_changed(rt.alloc())?, [true; 3]);
     Ok(())
 }
 
-/// Sets a key of node 1 by the row of this version, and cuts from a key on by the next. Answers whether each was done.
-fn set_and_cut(
-    bucket: &mut Bucket,
-    alloc: Global,
-    version: u8,
-    pair: (u8, u8),
-    from: u8,
-) -> Result<(bool, bool), Fail> {
-    let version = u64::from(version);
-    let is_set = change(bucket, alloc, version, pair.0, Some(pair.1))?;
-    Ok((is_set, cut_from(bucket, alloc, version + 1, from)?))
+/// Whether two times a key is set and then some are cut off, which is done, and whether all is taken back.
+fn cut_twice(bucket: &mut Bucket, alloc: Global) -> Result<[bool; 5], NoMemory>
+    requires { bucket.old.saved ≡ [] }
+{
+    put_pairs(bucket, alloc)?;
+    let some = [(4, 15, Step::Put(4)), (5, 15, Step::Cut)];
+    let are_cut = refuses(bucket, alloc, &some, &[])?;
+    let one_left = has(bucket, [1, 0, 0], 5);
+    let all = [(6, 20, Step::Put(9)), (7, 3, Step::Cut)];
+    let all_cut = refuses(bucket, alloc, &all, &[])?;
+    let none_left = has(bucket, [0, 0, 0], 7);
+    bucket.undo();
+    Ok([
+        are_cut,
+        one_left,
+        all_cut,
+        none_left,
+        has(bucket, [1, 0, 2], 3),
+    ])
+}
+
+fn twice_cut(alloc: Global) -> Result<[bool; 5], NoMemory> {
+    let mut bucket = Bucket::new(alloc, 64);
+    cut_twice(&mut bucket, alloc)
 }
 
 #[test]
 fn pairs_that_are_cut_off_come_back(rt: HostRuntime) -> Result<(), Fail> {
-    let alloc = rt.alloc();
-    let mut bucket = with_pairs(alloc)?;
-    assert_eq!(rt;
-        set_and_cut(&mut bucket, alloc, 4, (15, 4), 15)?,
-        (true, true)
-    );
-    assert!(rt; has(&bucket, [1, 0, 0], 5));
-    assert_eq!(rt;
-        set_and_cut(&mut bucket, alloc, 6, (20, 9), 3)?,
-        (true, true)
-    );
-    assert!(rt; has(&bucket, [0, 0, 0], 7));
-    bucket.undo();
-    assert!(rt; has(&bucket, [1, 0, 2], 3));
+    assert_eq!(rt; twice_cut(rt.alloc())?, [true; 5]);
     Ok(())
 }
 
-/// A bucket whose node 1 is a leaf with the keys 1 to 32, which were set since it was saved.
-fn full(alloc: Global) -> Result<Bucket, Fail> {
-    let mut bucket = filled(alloc, 1)?;
+/// Makes node 1 a leaf with the keys 1 to 32, which were set since it was saved.
+fn fill_leaf(bucket: &mut Bucket, alloc: Global) -> Result<(), NoMemory>
+    requires { bucket.old.saved ≡ [] }
+{
+    fill(bucket, alloc, 1)?;
     for key in 1..=32u8 {
-        change(&mut bucket, alloc, u64::from(key) + 1, key, Some(1))?;
+        change(bucket, alloc, u64::from(key) + 1, key, Step::Put(1))?;
     }
-    Ok(bucket)
+    Ok(())
 }
 
-/// Sets key 33, which is not there, and key 32, which is. Answers whether each was done.
-fn set_two(bucket: &mut Bucket, alloc: Global) -> Result<(bool, bool), Fail> {
-    let other = change(bucket, alloc, 34, 33, Some(1))?;
-    Ok((other, change(bucket, alloc, 34, 32, Some(2))?))
+/// Whether key 33, which is not there, and key 32, which is, are set in a full leaf, and what 32 then has and once all is taken back, beside
+/// the version.
+fn set_two(bucket: &mut Bucket, alloc: Global) -> Result<([bool; 2], u8, (u8, u64)), NoMemory>
+    requires { bucket.old.saved ≡ [] }
+{
+    fill_leaf(bucket, alloc)?;
+    let other = change(bucket, alloc, 34, 33, Step::Put(1))?;
+    let same = change(bucket, alloc, 34, 32, Step::Put(2))?;
+    let value = value_of(bucket, 32);
+    bucket.undo();
+    Ok((
+        [other, same],
+        value,
+        (value_of(bucket, 32), version_of(bucket, 1)),
+    ))
+}
+
+fn two_set(alloc: Global) -> Result<([bool; 2], u8, (u8, u64)), NoMemory> {
+    let mut bucket = Bucket::new(alloc, 64);
+    set_two(&mut bucket, alloc)
 }
 
 #[test]
 fn a_full_leaf_takes_no_other_key(rt: HostRuntime) -> Result<(), Fail> {
-    let mut bucket = full(rt.alloc())?;
-    assert_eq!(rt; set_two(&mut bucket, rt.alloc())?, (false, true));
-    assert_eq!(rt; value_of(&bucket, 32), 2);
-    bucket.undo();
-    assert_eq!(rt; (value_of(&bucket, 32), version_of(&bucket, 1)), (0, 1));
+    assert!(rt; two_set(rt.alloc())? == ([false, true], 2, (0, 1)));
     Ok(())
 }
 
-/// The bucket with pairs, of which one was removed since.
-fn with_one_pair_less(alloc: Global) -> Result<Bucket, Fail> {
-    let mut bucket = with_pairs(alloc)?;
-    change(&mut bucket, alloc, 4, 10, None)?;
-    Ok(bucket)
+/// Makes node 1 the leaf with pairs, of which one was removed since.
+fn put_less(bucket: &mut Bucket, alloc: Global) -> Result<(), NoMemory>
+    requires { bucket.old.saved ≡ [] }
+{
+    put_pairs(bucket, alloc)?;
+    change(bucket, alloc, 4, 10, Step::Del)?;
+    Ok(())
+}
+
+/// Whether such a leaf takes another version and then a pair, and whether all is taken back.
+fn change_more(bucket: &mut Bucket, alloc: Global) -> Result<[bool; 2], NoMemory>
+    requires { bucket.old.saved ≡ [] }
+{
+    put_less(bucket, alloc)?;
+    set_version(bucket, 1, 9)?;
+    change(bucket, alloc, 10, 15, Step::Put(4))?;
+    let changed = has(bucket, [0, 4, 2], 10);
+    bucket.undo();
+    Ok([changed, has(bucket, [1, 0, 2], 3)])
+}
+
+fn more_changed(alloc: Global) -> Result<[bool; 2], NoMemory> {
+    let mut bucket = Bucket::new(alloc, 64);
+    change_more(&mut bucket, alloc)
 }
 
 #[test]
 fn a_changed_node_is_changed_in_any_way_and_taken_back(rt: HostRuntime) -> Result<(), Fail> {
-    let alloc = rt.alloc();
-    let mut bucket = with_one_pair_less(alloc)?;
-    set_version(&mut bucket, 1, 9)?;
-    change(&mut bucket, alloc, 10, 15, Some(4))?;
-    assert!(rt; has(&bucket, [0, 4, 2], 10));
-    bucket.undo();
-    assert!(rt; has(&bucket, [1, 0, 2], 3));
+    assert_eq!(rt; more_changed(rt.alloc())?, [true; 2]);
     Ok(())
+}
+
+/// Whether such a leaf comes back once another was put in its place.
+fn put_over(bucket: &mut Bucket, alloc: Global) -> Result<bool, NoMemory>
+    requires { bucket.old.saved ≡ [] }
+{
+    put_less(bucket, alloc)?;
+    put_leaf(bucket, alloc, 1, 1, 1)?;
+    bucket.undo();
+    Ok(has(bucket, [1, 0, 2], 3))
+}
+
+fn comes_back(alloc: Global) -> Result<bool, NoMemory> {
+    let mut bucket = Bucket::new(alloc, 64);
+    put_over(&mut bucket, alloc)
 }
 
 #[test]
 fn a_changed_node_is_put_in_place_of_and_taken_back(rt: HostRuntime) -> Result<(), Fail> {
-    let alloc = rt.alloc();
-    let mut bucket = with_one_pair_less(alloc)?;
-    bucket.put(1, leaf(alloc, 1, 1)).ok().ok_or("memory")?;
-    bucket.undo();
-    assert!(rt; has(&bucket, [1, 0, 2], 3));
+    assert!(rt; comes_back(rt.alloc())?);
     Ok(())
 }

@@ -1,5 +1,5 @@
 use Rattle.std.proofs.Common.{◌≡◌, []}
-use Rattle.node_cache_tests.proofs.tests.filled.Given as goal
+use Rattle.node_cache_tests.proofs.tests.fill.Given as goal
 
 abbrev pub invariant-loop-number : goal.invariant-loop-number
 invariant-loop-number l = l.bucket.saved ≡ []

@@ -2,7 +2,7 @@ ghost use Rattle.std.specs.Prelude.{◌≡◌, IfOk};
 ghost use Rattle.fine_model.specs.declared.Rec.TheVariants as rec;
 ghost use Rattle.fine_model.specs.RowBytes.{FitsRec};
 
-use fine_model::{Bytes, Items, NodeId, Rec, Row};
+use fine_model::{Bytes, Items, NoMemory, NodeId, Rec, Row};
 use private_log::PrivateLog;
 use std::alloc::Global;
 use std::test::*;
@@ -11,13 +11,13 @@ use std::test::*;
 const PUTS: [u8; 48] =
     *b"\x04\x00\x61\x00\x00\x00\x01\x00\x00\x00\x00\x00\x00\x00\x01\x00\x00\x00\x05\x01a\x00\x011\x04\x00\x61\x00\x00\x00\x01\x00\x00\x00\x00\x00\x00\x00\x02\x00\x00\x00\x05\x01a\x00\x012";
 
-fn text(alloc: Global, text: &[u8]) -> Result<Bytes, Fail>
+fn text(alloc: Global, text: &[u8]) -> Result<Bytes, NoMemory>
     ensures { IfOk result (λ b. b ≡ text.now) }
 {
-    Ok(Items::from_vec(Vec::from_slice(alloc, text).ok().ok_or("memory")?))
+    Ok(Items::from_vec(Vec::from_slice(alloc, text)?))
 }
 
-fn put(alloc: Global, version: u64, value: &[u8; 1]) -> Result<Row, Fail>
+fn put(alloc: Global, version: u64, value: &[u8; 1]) -> Result<Row, NoMemory>
     ensures { IfOk result (λ row. FitsRec row.rec) }
 {
     let key = text(alloc, b"a")?;
@@ -49,22 +49,52 @@ fn head() -> Row
     }
 }
 
+fn push_put(
+    log: &mut PrivateLog,
+    alloc: Global,
+    version: u64,
+    value: &[u8; 1],
+) -> Result<(), NoMemory> {
+    let row = put(alloc, version, value)?;
+    log.push(&row)
+}
+
+fn push_head(log: &mut PrivateLog) -> Result<(), NoMemory> {
+    log.push(&head())
+}
+
+/// What a log costs at first and behind each of two puts, and whether it then has their bytes.
+fn push_puts(log: &mut PrivateLog, alloc: Global) -> Result<([u64; 3], bool), NoMemory> {
+    let none = log.cost();
+    push_put(log, alloc, 1, b"1")?;
+    let one = log.cost();
+    push_put(log, alloc, 2, b"2")?;
+    Ok(([none, one, log.cost()], log.bytes() == PUTS.as_slice()))
+}
+
+/// What a log costs behind a head, once it is cleared, and behind the head again, and whether it had no bytes in between.
+fn push_heads(log: &mut PrivateLog) -> Result<([u64; 3], bool), NoMemory> {
+    push_head(log)?;
+    let behind = log.cost();
+    log.clear();
+    let cleared = log.cost();
+    let is_empty = log.bytes().is_empty();
+    push_head(log)?;
+    Ok(([behind, cleared, log.cost()], is_empty))
+}
+
+fn push_all(log: &mut PrivateLog, alloc: Global) -> Result<[([u64; 3], bool); 2], NoMemory> {
+    Ok([push_puts(log, alloc)?, push_heads(log)?])
+}
+
+fn costs(alloc: Global) -> Result<[([u64; 3], bool); 2], NoMemory> {
+    let mut log = PrivateLog::new(alloc);
+    push_all(&mut log, alloc)
+}
+
 #[test]
 fn counts_each_node_once(rt: HostRuntime) -> Result<(), Fail> {
-    let alloc = rt.alloc();
-    let mut log = PrivateLog::new(alloc);
-    assert_eq!(rt; log.cost(), 0);
-    log.push(&put(alloc, 1, b"1")?).ok().ok_or("memory")?;
-    assert_eq!(rt; log.cost(), 38);
-    log.push(&put(alloc, 2, b"2")?).ok().ok_or("memory")?;
-    assert_eq!(rt; log.cost(), 62);
-    assert_eq!(rt; log.bytes(), PUTS.as_slice());
-    log.push(&head()).ok().ok_or("memory")?;
-    assert_eq!(rt; log.cost(), 104);
-    log.clear();
-    assert_eq!(rt; log.cost(), 0);
-    assert!(rt; log.bytes().is_empty());
-    log.push(&head()).ok().ok_or("memory")?;
-    assert_eq!(rt; log.cost(), 42);
+    let wanted = [([0, 38, 62], true), ([104, 0, 42], true)];
+    assert_eq!(rt; costs(rt.alloc())?, wanted);
     Ok(())
 }

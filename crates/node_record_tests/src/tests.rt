@@ -1,9 +1,10 @@
-ghost use Rattle.std.specs.Prelude.{◌≡◌, IfOk};
+ghost use Rattle.std.specs.Prelude.{◌≡◌, ◌≤◌, length, IfOk};
+ghost use Rattle.fine_model.specs.RowBytes.{FitsRec};
 ghost use Rattle.node_record.specs.Bounds.{FitsNode};
 
-use fine_model::{Bytes, Items, Keys, Kids, Mark, Node, NodeId, Pairs, Rec, Row};
+use fine_model::{Bytes, Items, Keys, Kids, Mark, NoMemory, Node, NodeId, Pairs, Rec, Row};
 use node_record::{
-    RowAt, RowFault, apply, frame_at, front_at, image_of, read_row, row_len, write_row,
+    Frame, RowAt, RowFault, apply, frame_at, front_at, image_of, read_row, row_len, write_row,
 };
 use std::alloc::Global;
 use std::process::Abort;
@@ -21,10 +22,10 @@ const PLUS: [u8; 29] =
 const LEAF: [u8; 30] =
     *b"\x02\x00\x61\x00\x00\x00\x01\x00\x00\x00\x00\x00\x00\x00\x02\x00\x00\x00\x0b\x02\x01a\x00\x012\x01b\x00\x013";
 
-fn bytes(alloc: Global, text: &[u8]) -> Result<Bytes, Fail>
+fn bytes(alloc: Global, text: &[u8]) -> Result<Bytes, NoMemory>
     ensures { IfOk result (λ b. b ≡ text.now) }
 {
-    Ok(Items::from_vec(Vec::from_slice(alloc, text).ok().ok_or("memory")?))
+    Ok(Items::from_vec(Vec::from_slice(alloc, text)?))
 }
 
 fn row(bucket: u16, number: u32, version: u64, rec: Rec) -> Row
@@ -37,69 +38,83 @@ fn row(bucket: u16, number: u32, version: u64, rec: Rec) -> Row
     }
 }
 
-fn pairs(alloc: Global, texts: &[(&[u8], &[u8])]) -> Result<Pairs, Fail> {
-    let mut pairs = Items::new(alloc);
-    for (key, value) in texts {
-        let pair = (bytes(alloc, key)?, bytes(alloc, value)?);
-        pairs.push(pair).ok().ok_or("memory")?;
-    }
-    Ok(pairs)
+/// Adds a pair to those of a leaf.
+fn add(alloc: Global, pairs: &mut Pairs, key: &[u8], value: &[u8]) -> Result<(), NoMemory> {
+    pairs.push((bytes(alloc, key)?, bytes(alloc, value)?))?;
+    Ok(())
 }
 
-fn keys(alloc: Global, texts: &[&[u8]]) -> Result<Keys, Fail> {
+fn one_key(alloc: Global, text: &[u8]) -> Result<Keys, NoMemory> {
     let mut keys = Items::new(alloc);
-    for key in texts {
-        keys.push(bytes(alloc, key)?).ok().ok_or("memory")?;
-    }
+    keys.push(bytes(alloc, text)?)?;
     Ok(keys)
 }
 
-fn kids(alloc: Global, numbers: &[u32]) -> Result<Kids, Fail> {
-    Ok(Items::from_vec(Vec::from_slice(alloc, numbers).ok().ok_or("memory")?))
+fn kids(alloc: Global, numbers: &[u32]) -> Result<Kids, NoMemory> {
+    Ok(Items::from_vec(Vec::from_slice(alloc, numbers)?))
 }
 
 /// What `PUT` sets.
-fn put_of(alloc: Global) -> Result<Rec, Fail> {
+fn put_of(alloc: Global) -> Result<Rec, NoMemory> {
     let key = bytes(alloc, b"a")?;
     let value = bytes(alloc, b"1")?;
     Ok(Rec::Put { key, value })
 }
 
 /// The image of a leaf of two pairs.
-fn leaf_image(alloc: Global) -> Result<Rec, Fail> {
-    let pairs = pairs(alloc, &[(b"a", b"2"), (b"b", b"3")])?;
+fn leaf_image(alloc: Global) -> Result<Rec, NoMemory> {
+    let mut pairs = Items::new(alloc);
+    add(alloc, &mut pairs, b"a", b"2")?;
+    add(alloc, &mut pairs, b"b", b"3")?;
     Ok(Rec::LeafImage { pairs })
 }
 
 /// The image of an inner node over nodes 1 and 2.
-fn inner_image(alloc: Global) -> Result<Rec, Fail> {
-    let seps = keys(alloc, &[b"BBAaAaAaAa"])?;
+fn inner_image(alloc: Global) -> Result<Rec, NoMemory> {
+    let seps = one_key(alloc, b"BBAaAaAaAa")?;
     let kids = kids(alloc, &[1, 2])?;
     Ok(Rec::InnerImage { seps, kids })
 }
 
-/// Reads a row, and writes it again.
-fn both_ways(rt: &impl Abort, alloc: Global, text: &[u8], row: Row) -> Result<(), Fail> {
-    let (read, end) = read_row(alloc, text, 0, Mark::Two).ok().ok_or("no row")?;
-    assert_eq!(rt; read, row);
-    assert_eq!(rt; end, text.len());
-    assert_eq!(rt; row_len(&read) as usize, text.len());
-    let mut written = Vec::new(alloc);
-    write_row(&mut written, &read).ok().ok_or("memory")?;
-    assert_eq!(rt; written.as_slice(), text);
-    Ok(())
+/// The row that ends where its text does.
+fn row_of(alloc: Global, text: &[u8]) -> Result<Row, RowFault>
+    ensures { IfOk result (λ row. FitsRec row.rec) }
+{
+    let (row, end) = read_row(alloc, text, 0, Mark::Two)?;
+    if end != text.len() {
+        return Err(RowFault::Bad { at: end });
+    }
+    Ok(row)
 }
 
-/// Finds the frame of a row that ends where its text does.
-fn framed(rt: &impl Abort, text: &[u8], row: &Row) -> Result<(), Fail> {
-    let frame = frame_at(text, 0, Mark::Two).ok().ok_or("no frame")?;
-    assert_eq!(rt; (frame.node, frame.version), (row.node, row.version));
-    assert_eq!(rt; frame.end, text.len());
+/// The frame of a row that ends at a place.
+fn frame_of(row: &Row, end: usize) -> Frame {
     let is_image = matches!(
         row.rec,
         Rec::HeadImage { .. } | Rec::LeafImage { .. } | Rec::InnerImage { .. }
     );
-    assert_eq!(rt; frame.is_image, is_image);
+    Frame {
+        node: row.node,
+        version: row.version,
+        is_image,
+        end,
+    }
+}
+
+/// Writes again the row that a text spells, and tells the length that it should have.
+fn written(alloc: Global, text: &[u8], out: &mut Vec<u8>) -> Result<u32, RowFault> {
+    let row = row_of(alloc, text)?;
+    match write_row(out, &row) {
+        Ok(()) => Ok(row_len(&row)),
+        Err(_) => Err(RowFault::NoMemory),
+    }
+}
+
+/// Reads a row and writes it again.
+fn both_ways(rt: &impl Abort, alloc: Global, text: &[u8]) -> Result<(), Fail> {
+    let mut out = Vec::new(alloc);
+    let len = written(alloc, text, &mut out)?;
+    assert_eq!(rt; (len as usize, out.as_slice()), (text.len(), text));
     Ok(())
 }
 
@@ -114,15 +129,20 @@ fn key_of(alloc: Global, text: &[u8]) -> Result<RowAt, Fail> {
 #[test]
 fn keys_are_read_off_the_fronts_of_rows(rt: HostRuntime) -> Result<(), Fail> {
     for (text, bucket, version, len) in [(&PUT[..], 97, 1, 24), (&PLUS[..], 99, 2, 29)] {
-        let key = key_of(rt.alloc(), text)?;
-        assert_eq!(&rt; (key.node.bucket, key.node.number), (bucket, 1));
-        assert_eq!(&rt; (key.version, key.at, key.len), (version, 0, len));
+        let node = NodeId { bucket, number: 1 };
+        let key = RowAt {
+            node,
+            version,
+            at: 0,
+            len,
+        };
+        assert_eq!(&rt; key_of(rt.alloc(), text)?, key);
     }
     Ok(())
 }
 
 /// The row that one of the texts below spells.
-fn spelled(alloc: Global, which: u8) -> Result<Row, Fail> {
+fn spelled(alloc: Global, which: u8) -> Result<Row, NoMemory> {
     Ok(match which {
         1 => row(
             64,
@@ -148,6 +168,14 @@ fn spelled(alloc: Global, which: u8) -> Result<Row, Fail> {
     })
 }
 
+/// Reads a row and its frame.
+fn reads(rt: &impl Abort, alloc: Global, text: &[u8]) -> Result<(), Fail> {
+    let row = spelled(alloc, text.first().copied().unwrap_or(0))?;
+    assert_eq!(rt; frame_at(text, 0, Mark::Two)?, frame_of(&row, text.len()));
+    assert_eq!(rt; row_of(alloc, text)?, row);
+    Ok(())
+}
+
 #[test]
 fn rows_are_read_and_written_byte_by_byte(rt: HostRuntime) -> Result<(), Fail> {
     let texts: [&[u8]; 6] = [
@@ -159,20 +187,35 @@ fn rows_are_read_and_written_byte_by_byte(rt: HostRuntime) -> Result<(), Fail> {
         &PLUS,
     ];
     for text in texts {
-        let kind = text.first().copied().unwrap_or(0);
-        framed(&rt, text, &spelled(rt.alloc(), kind)?)?;
-        both_ways(&rt, rt.alloc(), text, spelled(rt.alloc(), kind)?)?;
+        reads(&rt, rt.alloc(), text)?;
+        both_ways(&rt, rt.alloc(), text)?;
     }
     Ok(())
+}
+
+/// A text with one byte changed.
+fn changed<const N: usize>(mut text: [u8; N], at: usize, byte: u8) -> [u8; N] {
+    if let Some(place) = text.get_mut(at) {
+        *place = byte;
+    }
+    text
+}
+
+/// Which place is told to be bad.
+fn bad_at(alloc: Global, text: &[u8], at: usize, mark: Mark) -> Option<usize>
+    requires { at ≤ length text.now }
+{
+    match read_row(alloc, text, at, mark) {
+        Err(RowFault::Bad { at }) => Some(at),
+        _ => None,
+    }
 }
 
 #[test]
 fn bad_rows_are_told_at_their_start(rt: HostRuntime) {
     let alloc = rt.alloc();
-    let cut = read_row(alloc, &PUT[..23], 0, Mark::Two);
-    assert!(rt; matches!(cut, Err(RowFault::Bad { at: 0 })));
-    let old = read_row(alloc, &PLUS, 0, Mark::One);
-    assert!(rt; matches!(old, Err(RowFault::Bad { at: 0 })));
+    assert_eq!(rt; bad_at(alloc, &PUT[..23], 0, Mark::Two), Some(0));
+    assert_eq!(rt; bad_at(alloc, &PLUS, 0, Mark::One), Some(0));
     // one byte of the row changed: kind, bucket, number, version, length of the body, of the key and of the value
     for (at, byte) in [
         (0, 0),
@@ -190,29 +233,12 @@ fn bad_rows_are_told_at_their_start(rt: HostRuntime) {
         (21, 2),
         (22, 0),
     ] {
-        let mut row = PUT;
-        if let Some(place) = row.get_mut(at) {
-            *place = byte;
-        }
-        let read = read_row(alloc, &row, 0, Mark::Two);
-        assert!(rt;
-            matches!(read, Err(RowFault::Bad { at: 0 })),
-            "{byte} at {at}"
-        );
+        let bad = bad_at(alloc, &changed(PUT, at, byte), 0, Mark::Two);
+        assert_eq!(rt; (at, byte, bad), (at, byte, Some(0)));
     }
     for at in 0..24 {
-        let read = read_row(alloc, &PUT[..at], at, Mark::Two);
-        assert!(rt; matches!(read, Err(RowFault::Bad { at: place }) if place == at));
+        assert_eq!(rt; bad_at(alloc, &PUT[..at], at, Mark::Two), Some(at));
     }
-}
-
-/// The leaf's image with one byte changed.
-fn changed_leaf(at: usize, byte: u8) -> [u8; 30] {
-    let mut row = LEAF;
-    if let Some(place) = row.get_mut(at) {
-        *place = byte;
-    }
-    row
 }
 
 /// Where the row ends with which a text begins, as it is read and as it is framed.
@@ -245,17 +271,17 @@ fn frames_are_refused_where_rows_are(rt: HostRuntime) {
         (26, 97),
         (28, 2),
     ] {
-        let ends = ends_of(alloc, &changed_leaf(at, byte));
-        assert_eq!(rt; ends, (None, None), "{byte} at {at}");
+        let ends = ends_of(alloc, &changed(LEAF, at, byte));
+        assert_eq!(rt; (at, byte, ends), (at, byte, (None, None)));
     }
     for at in 0..30 {
         for byte in [0, 2, 97, 255] {
-            let (read, framed) = ends_of(alloc, &changed_leaf(at, byte));
-            assert_eq!(rt; framed, read, "{byte} at {at}");
+            let (read, framed) = ends_of(alloc, &changed(LEAF, at, byte));
+            assert_eq!(rt; (at, byte, framed), (at, byte, read));
         }
     }
     for len in 0..30 {
-        assert_eq!(rt; ends_of(alloc, &LEAF[..len]), (None, None), "{len}");
+        assert_eq!(rt; (len, ends_of(alloc, &LEAF[..len])), (len, (None, None)));
     }
 }
 
@@ -264,49 +290,73 @@ fn change(alloc: Global, node: &mut Node, version: &mut u64, text: &[u8]) -> Res
     requires { FitsNode node.old }
     ensures { FitsNode node.new }
 {
-    let Ok((row, _behind)) = read_row(alloc, text, 0, Mark::Two) else {
-        return Err("no row".into());
+    let row = row_of(alloc, text)?;
+    apply(alloc, node, version, &row)?;
+    Ok(())
+}
+
+/// What rows make of an empty leaf, and its version behind them.
+fn after(alloc: Global, texts: &[&[u8]]) -> Result<(Node, u64), Fail> {
+    let mut node = Node::Leaf {
+        pairs: Items::new(alloc),
     };
-    match apply(alloc, node, version, &row) {
-        Ok(()) => Ok(()),
-        Err(_) => Err("memory".into()),
+    let mut version = 0;
+    for text in texts {
+        change(alloc, &mut node, &mut version, text)?;
     }
+    Ok((node, version))
+}
+
+/// A leaf of one pair.
+fn leaf_of(alloc: Global, key: &[u8], value: &[u8]) -> Result<Node, NoMemory> {
+    let mut pairs = Items::new(alloc);
+    add(alloc, &mut pairs, key, value)?;
+    Ok(Node::Leaf { pairs })
+}
+
+/// Sees what rows make of an empty leaf.
+fn changes(
+    rt: &impl Abort,
+    alloc: Global,
+    texts: &[&[u8]],
+    node: &Node,
+    version: u64,
+) -> Result<(), Fail> {
+    let (changed, last) = after(alloc, texts)?;
+    assert_eq!(rt; changed, *node);
+    assert_eq!(rt; last, version);
+    Ok(())
 }
 
 #[test]
 fn rows_change_a_node(rt: HostRuntime) -> Result<(), Fail> {
     let alloc = rt.alloc();
-    let mut node = Node::Leaf {
-        pairs: Items::new(alloc),
-    };
-    let mut version = 0;
-    change(alloc, &mut node, &mut version, &PUT)?;
     let plus =
         b"\x09\x00\x61\x00\x00\x00\x01\x00\x00\x00\x00\x00\x00\x00\x02\x00\x00\x00\x0a\x01a\xff\xff\xff\xff\xff\xff\xff\xd5";
-    change(alloc, &mut node, &mut version, plus)?;
-    let pairs = pairs(alloc, &[(b"a", b"-42")])?;
-    assert_eq!(rt; node, Node::Leaf { pairs });
-    assert_eq!(rt; version, 2);
     let late = b"\x05\x00\x61\x00\x00\x00\x01\x00\x00\x00\x00\x00\x00\x00\x04\x00\x00\x00\x02\x01a";
-    change(alloc, &mut node, &mut version, late)?;
-    assert_eq!(rt; node, Node::Broken);
-    assert_eq!(rt; version, 4);
+    let leaf = leaf_of(alloc, b"a", b"-42")?;
+    changes(&rt, alloc, &[&PUT, plus], &leaf, 2)?;
+    changes(&rt, alloc, &[&PUT, plus, late], &Node::Broken, 4)?;
     Ok(())
+}
+
+/// The image of an empty leaf.
+fn image_of_none(alloc: Global, node: NodeId, version: u64) -> Result<Row, NoMemory> {
+    let empty = Node::Leaf {
+        pairs: Items::new(alloc),
+    };
+    image_of(alloc, node, version, &empty)
 }
 
 #[test]
 fn an_image_stands_for_a_node(rt: HostRuntime) -> Result<(), Fail> {
     let alloc = rt.alloc();
-    let empty = Node::Leaf {
-        pairs: Items::new(alloc),
+    let node = NodeId {
+        bucket: 97,
+        number: 1,
     };
-    let none = Rec::LeafImage {
-        pairs: Items::new(alloc),
-    };
-    let wanted = row(97, 1, 5, none);
-    let image = image_of(alloc, wanted.node, 5, &empty)
-        .ok()
-        .ok_or("memory")?;
-    assert_eq!(rt; image, wanted);
+    let image = image_of_none(alloc, node, 5)?;
+    let pairs = Items::new(alloc);
+    assert_eq!(rt; image, row(97, 1, 5, Rec::LeafImage { pairs }));
     Ok(())
 }

@@ -68,12 +68,6 @@ fn looked_up(alloc: Global) -> Result<(u16, [bool; 3]), NoMemory> {
     look_up(&mut bucket, alloc)
 }
 
-#[test]
-fn an_uncached_number_is_none(rt: HostRuntime) -> Result<(), Fail> {
-    assert_eq!(rt; looked_up(rt.alloc())?, (97, [false, true, false]));
-    Ok(())
-}
-
 /// How many of the numbers below 50 are cached.
 fn count_kept(bucket: &Bucket) -> u32 {
     let mut left = 0u32;
@@ -109,12 +103,6 @@ fn evict_some(bucket: &mut Bucket, alloc: Global) -> Result<(bool, u32, [bool; 4
 fn evicted(alloc: Global) -> Result<(bool, u32, [bool; 4]), NoMemory> {
     let mut bucket = Bucket::new(alloc, 64);
     evict_some(&mut bucket, alloc)
-}
-
-#[test]
-fn evict_keeps_the_open_epoch_and_the_last_used(rt: HostRuntime) -> Result<(), Fail> {
-    assert_eq!(rt; evicted(rt.alloc())?, (true, 9, [true, true, false, true]));
-    Ok(())
 }
 
 /// Gives a cached node a version, where memory allows it.
@@ -162,12 +150,6 @@ fn undone(alloc: Global) -> Result<([u64; 3], [u64; 3], bool), NoMemory> {
     undo_change(&mut bucket, alloc)
 }
 
-#[test]
-fn undo_restores_what_was_saved(rt: HostRuntime) -> Result<(), Fail> {
-    assert_eq!(rt; undone(rt.alloc())?, ([4, 1, 5], [1, 1, 0], false));
-    Ok(())
-}
-
 /// Of two nodes, of which node 1 was saved, settled and then taken back: how many stay once what is published may go, and which.
 fn settle_one(bucket: &mut Bucket, alloc: Global) -> Result<(usize, [bool; 2]), NoMemory>
     requires { bucket.old.saved ≡ [] }
@@ -184,12 +166,6 @@ fn settle_one(bucket: &mut Bucket, alloc: Global) -> Result<(usize, [bool; 2]), 
 fn settled(alloc: Global) -> Result<(usize, [bool; 2]), NoMemory> {
     let mut bucket = Bucket::new(alloc, 64);
     settle_one(&mut bucket, alloc)
-}
-
-#[test]
-fn settle_stamps_what_was_saved(rt: HostRuntime) -> Result<(), Fail> {
-    assert_eq!(rt; settled(rt.alloc())?, (1, [true, false]));
-    Ok(())
 }
 
 /// Puts an empty leaf, and notes of it that all its keys are of the bucket.
@@ -220,13 +196,6 @@ fn forgotten(alloc: Global) -> Result<[(bool, bool); 3], NoMemory> {
     forget_both(&mut bucket, alloc)
 }
 
-#[test]
-fn what_is_known_of_keys_goes_with_a_change(rt: HostRuntime) -> Result<(), Fail> {
-    let known = [(true, true), (false, true), (false, false)];
-    assert!(rt; forgotten(rt.alloc())? == known);
-    Ok(())
-}
-
 /// Of two leaves that are noted, and of which the first is saved and settled: whether it was there, what is known of both, and what of them
 /// once the first is saved and taken back.
 fn keep_both(bucket: &mut Bucket, alloc: Global) -> Result<(bool, [(bool, bool); 2]), NoMemory> {
@@ -245,13 +214,6 @@ fn keep_both(bucket: &mut Bucket, alloc: Global) -> Result<(bool, [(bool, bool);
 fn kept_known(alloc: Global) -> Result<(bool, [(bool, bool); 2]), NoMemory> {
     let mut bucket = Bucket::new(alloc, 64);
     keep_both(&mut bucket, alloc)
-}
-
-#[test]
-fn what_is_known_of_keys_stays_otherwise(rt: HostRuntime) -> Result<(), Fail> {
-    let known = [(true, true), (false, true)];
-    assert!(rt; kept_known(rt.alloc())? == (true, known));
-    Ok(())
 }
 
 /// A text of one byte.
@@ -397,12 +359,6 @@ fn six_changed(alloc: Global) -> Result<[bool; 3], NoMemory> {
     change_six(&mut bucket, alloc)
 }
 
-#[test]
-fn changes_of_pairs_are_done_and_taken_back(rt: HostRuntime) -> Result<(), Fail> {
-    assert_eq!(rt; six_changed(rt.alloc())?, [true; 3]);
-    Ok(())
-}
-
 /// Whether two times a key is set and then some are cut off, which is done, and whether all is taken back.
 fn cut_twice(bucket: &mut Bucket, alloc: Global) -> Result<[bool; 5], NoMemory>
     requires { bucket.old.saved ≡ [] }
@@ -427,12 +383,6 @@ fn cut_twice(bucket: &mut Bucket, alloc: Global) -> Result<[bool; 5], NoMemory>
 fn twice_cut(alloc: Global) -> Result<[bool; 5], NoMemory> {
     let mut bucket = Bucket::new(alloc, 64);
     cut_twice(&mut bucket, alloc)
-}
-
-#[test]
-fn pairs_that_are_cut_off_come_back(rt: HostRuntime) -> Result<(), Fail> {
-    assert_eq!(rt; twice_cut(rt.alloc())?, [true; 5]);
-    Ok(())
 }
 
 /// Makes node 1 a leaf with the keys 1 to 32, which were set since it was saved.
@@ -468,12 +418,6 @@ fn two_set(alloc: Global) -> Result<([bool; 2], u8, (u8, u64)), NoMemory> {
     set_two(&mut bucket, alloc)
 }
 
-#[test]
-fn a_full_leaf_takes_no_other_key(rt: HostRuntime) -> Result<(), Fail> {
-    assert!(rt; two_set(rt.alloc())? == ([false, true], 2, (0, 1)));
-    Ok(())
-}
-
 /// Makes node 1 the leaf with pairs, of which one was removed since.
 fn put_less(bucket: &mut Bucket, alloc: Global) -> Result<(), NoMemory>
     requires { bucket.old.saved ≡ [] }
@@ -500,12 +444,6 @@ fn more_changed(alloc: Global) -> Result<[bool; 2], NoMemory> {
     change_more(&mut bucket, alloc)
 }
 
-#[test]
-fn a_changed_node_is_changed_in_any_way_and_taken_back(rt: HostRuntime) -> Result<(), Fail> {
-    assert_eq!(rt; more_changed(rt.alloc())?, [true; 2]);
-    Ok(())
-}
-
 /// Whether such a leaf comes back once another was put in its place.
 fn put_over(bucket: &mut Bucket, alloc: Global) -> Result<bool, NoMemory>
     requires { bucket.old.saved ≡ [] }
@@ -522,7 +460,36 @@ fn comes_back(alloc: Global) -> Result<bool, NoMemory> {
 }
 
 #[test]
-fn a_changed_node_is_put_in_place_of_and_taken_back(rt: HostRuntime) -> Result<(), Fail> {
+fn nodes_are_cached_and_go(rt: HostRuntime) -> Result<(), Fail> {
+    // an uncached number is none
+    assert_eq!(rt; looked_up(rt.alloc())?, (97, [false, true, false]));
+    // the open epoch and the last used are kept
+    assert_eq!(rt; evicted(rt.alloc())?, (true, 9, [true, true, false, true]));
+    // what was saved is restored
+    assert_eq!(rt; undone(rt.alloc())?, ([4, 1, 5], [1, 1, 0], false));
+    // what was saved is stamped
+    assert_eq!(rt; settled(rt.alloc())?, (1, [true, false]));
+    Ok(())
+}
+
+#[test]
+fn what_is_known_of_keys_goes_with_a_change_alone(rt: HostRuntime) -> Result<(), Fail> {
+    let gone = [(true, true), (false, true), (false, false)];
+    assert!(rt; forgotten(rt.alloc())? == gone);
+    let stays = [(true, true), (false, true)];
+    assert!(rt; kept_known(rt.alloc())? == (true, stays));
+    Ok(())
+}
+
+#[test]
+fn changes_of_pairs_are_done_and_taken_back(rt: HostRuntime) -> Result<(), Fail> {
+    assert_eq!(rt; six_changed(rt.alloc())?, [true; 3]);
+    // pairs that are cut off come back
+    assert_eq!(rt; twice_cut(rt.alloc())?, [true; 5]);
+    // a full leaf takes no other key
+    assert!(rt; two_set(rt.alloc())? == ([false, true], 2, (0, 1)));
+    // a changed node is changed in any way, or another is put in its place, and both are taken back
+    assert_eq!(rt; more_changed(rt.alloc())?, [true; 2]);
     assert!(rt; comes_back(rt.alloc())?);
     Ok(())
 }

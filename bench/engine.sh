@@ -42,13 +42,13 @@ use std::sync::Wait;
 use std::test::Fail;
 use std::thread::Threads;
 use std::time::Instant;
-use hall_accounts::{Load, Puts, open, open_two, puts_at_once, puts_by_one};
+use hall_accounts::{Load, Workload, open, open_two, puts_at_once, puts_by_one};
 
 /// The bytes of a region, in which all rows of a run have room.
 const REGION: u64 = 67_108_864;
 
 /// How many were committed by one thread, and in how many nanoseconds.
-fn by_one<R: Wait + Clock>(rt: &R, alloc: Global, puts: Puts) -> Result<(u64, u128), Fail> {
+fn by_one<R: Wait + Clock>(rt: &R, alloc: Global, puts: Workload) -> Result<(u64, u128), Fail> {
     let opened = open_two(alloc, REGION, FaultPlan::none(alloc)).ok_or("memory")?;
     let start = Instant::now(rt)?;
     let counts = puts_by_one(rt, alloc, opened, puts).ok_or("memory")?;
@@ -56,7 +56,7 @@ fn by_one<R: Wait + Clock>(rt: &R, alloc: Global, puts: Puts) -> Result<(u64, u1
 }
 
 /// How many were committed by four threads, and in how many nanoseconds.
-fn by_four<R: Threads + Wait + Sync + Clock>(rt: &R, alloc: Global, puts: Puts) -> Result<(u64, u128), Fail> {
+fn by_four<R: Threads + Wait + Sync + Clock>(rt: &R, alloc: Global, puts: Workload) -> Result<(u64, u128), Fail> {
     let opened = open(alloc, 4, REGION, FaultPlan::none(alloc)).ok_or("memory")?;
     let start = Instant::now(rt)?;
     let counts = puts_at_once(rt, alloc, opened, puts).ok_or("memory")?;
@@ -70,7 +70,7 @@ fn main(rt: HostRuntime) -> Result<(), Fail> {
     let kind = args.next().ok_or("short or long")?;
     let times: u64 = args.next().ok_or("how many")?.as_str().parse().ok().ok_or("a number")?;
     let load = if kind.as_str() == "long" { Load::Long } else { Load::Short };
-    let puts = Puts { times, load };
+    let puts = Workload { times, load };
     let (committed, spent) = if threads.as_str() == "one" {
         by_one(&rt, rt.alloc(), puts)?
     } else {

@@ -11,7 +11,7 @@ mod transfers;
 
 pub use accounts::{balance_of, get_of, put_of, scan_of, sum_of};
 pub use halls::{Two, end_two, open, open_two};
-pub use many::{Load, Puts, puts, puts_at_once, puts_by_one};
+pub use many::{Load, Workload, puts, puts_at_once, puts_by_one};
 pub use steps::{Seat, Step, Told, take, take_back};
 pub use tables::{Act, Line, Outcome, walked};
 pub use threads::{Route, RunOfTwo, two_threads};

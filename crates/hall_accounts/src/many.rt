@@ -31,7 +31,7 @@ pub enum Load {
 
 /// How many transactions of one put each, and of which.
 #[derive(Clone, Copy, Debug, PartialEq, Eq)]
-pub struct Puts {
+pub struct Workload {
     pub times: u64,
     pub load: Load,
 }
@@ -101,7 +101,7 @@ pub fn puts<D: LogDisk, W: Wait>(
     alloc: Global,
     hall: &RoomHall<D>,
     mut pass: Pass<View<D::Eye>>,
-    puts: Puts,
+    puts: Workload,
 ) -> Pass<View<D::Eye>>
     requires idle { IsAtRest hall.now pass }
     ensures idle { IsAtRest hall.now result × (result.number ≡ pass.number) }
@@ -120,7 +120,7 @@ pub fn puts<D: LogDisk, W: Wait>(
 }
 
 /// Lets the first pass of a hall do so many transactions of one put each, and ends the hall: the room in numbers. None where there is no memory.
-pub fn puts_by_one<W: Wait>(rt: &W, alloc: Global, opened: Two, load: Puts) -> Option<Counts>
+pub fn puts_by_one<W: Wait>(rt: &W, alloc: Global, opened: Two, load: Workload) -> Option<Counts>
     requires two { AreTwo opened.hall opened.one opened.two opened.spare.items (vec_capacity opened.spare) }
 {
     let Two {
@@ -140,7 +140,7 @@ fn at_once<R: Threads + Wait + Sync>(
     alloc: Global,
     hall: &RoomHall<MemDisk>,
     passes: Vec<Pass<View<MemEye>>>,
-    load: Puts,
+    load: Workload,
 ) -> Result<Vec<Pass<View<MemEye>>>, AllocError>
     requires passes { All (IsAtRest hall.now) passes.items }
     ensures idle { IfOk result (λ back. All (IsAtRest hall.now) back.items) }
@@ -160,7 +160,7 @@ pub fn puts_at_once<R: Threads + Wait + Sync>(
     rt: &R,
     alloc: Global,
     opened: Opened<MemDisk>,
-    load: Puts,
+    load: Workload,
 ) -> Option<Counts>
     requires seats { 1 ≤ (beginning_of opened.hall).seats }
     requires count { length opened.passes.items ≡ (beginning_of opened.hall).seats }

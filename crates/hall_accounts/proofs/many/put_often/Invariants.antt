@@ -2,8 +2,8 @@ use Rattle.std.proofs.Common.{◌≡◌}
 use Rattle.hall_accounts.specs.Going.{IsAtRest, IsFree}
 use Rattle.hall_accounts.proofs.many.put_often.Given as goal
 
-abbrev pub invariant-loop : goal.invariant-loop
-invariant-loop g l = record {
+abbrev pub invariant-loop-number : goal.invariant-loop-number
+invariant-loop-number g l = record {
   idle : IsAtRest l.hall l.pass × (l.pass.number ≡ l.initial.pass.number);
   free : IsFree l.txn;
 }

@@ -1,7 +1,7 @@
 #!/bin/sh
 # What transactions of one `put` each cost on a hall on a disk in memory: 400,000 of one pass on one thread, and as many in all of four passes on four threads,
 # each in a bucket of its own. They are of two kinds: short ones, which put one pair of a byte and a byte again and again, and long ones, which put keys of 12 bytes
-# with values of 100 as bench/load.sh does, 400 of them in turn, as many as 100,000 keys have in each of 256 buckets. Each commit is a turn of the room, and a turn is as long in both: so
+# with values of 100 as bench/load.sh does, 400 of them in turn, as many as 100,000 keys have in each of 256 buckets. Each commit is a turn of the room: so
 # short ones show what a turn costs, and long ones what four threads gain where a transaction does more than nothing.
 #
 # Beside them a C program whose threads put as many pairs into a hash table under one mutex, and copy a record as long as a row into a

@@ -1,8 +1,8 @@
 #!/bin/sh
 # What transactions of one `put` each cost on a hall on a disk in memory: 400,000 of one pass on one thread, and as many in all of four passes on four threads,
 # each in a bucket of its own. They are of two kinds: short ones, which put one pair of a byte and a byte again and again, and long ones, which put keys of 12 bytes
-# with values of 100 as bench/load.sh does, 400 of them in turn, as many as 100,000 keys have in each of 256 buckets. Each commit is a turn of the room: so
-# short ones show what a turn costs, and long ones what four threads gain where a transaction does more than nothing.
+# with values of 100 as bench/load.sh does, 400 of them in turn, as many as 100,000 keys have in each of 256 buckets. Of both
+# kinds each transaction makes its call anew, and each commit is a turn of the room.
 #
 # Beside them a C program whose threads put as many pairs into a hash table under one mutex, and copy a record as long as a row into a
 # buffer under it; and a bare lock whose threads change cache lines in each turn, each of which tells where the next one lies, and spend as much time of their own between as a

@@ -48,18 +48,18 @@ use hall_accounts::{Load, Workload, open, open_two, puts_at_once, puts_by_one};
 const REGION: u64 = 67_108_864;
 
 /// How many were committed by one thread, and in how many nanoseconds.
-fn by_one<R: Wait + Clock>(rt: &R, alloc: Global, puts: Workload) -> Result<(u64, u128), Fail> {
+fn by_one<R: Wait + Clock>(rt: &R, alloc: Global, workload: Workload) -> Result<(u64, u128), Fail> {
     let opened = open_two(alloc, REGION, FaultPlan::none(alloc)).ok_or("memory")?;
     let start = Instant::now(rt)?;
-    let counts = puts_by_one(rt, alloc, opened, puts).ok_or("memory")?;
+    let counts = puts_by_one(rt, alloc, opened, workload).ok_or("memory")?;
     Ok((counts.place, start.elapsed(rt)?.as_nanos()))
 }
 
 /// How many were committed by four threads, and in how many nanoseconds.
-fn by_four<R: Threads + Wait + Sync + Clock>(rt: &R, alloc: Global, puts: Workload) -> Result<(u64, u128), Fail> {
+fn by_four<R: Threads + Wait + Sync + Clock>(rt: &R, alloc: Global, workload: Workload) -> Result<(u64, u128), Fail> {
     let opened = open(alloc, 4, REGION, FaultPlan::none(alloc)).ok_or("memory")?;
     let start = Instant::now(rt)?;
-    let counts = puts_at_once(rt, alloc, opened, puts).ok_or("memory")?;
+    let counts = puts_at_once(rt, alloc, opened, workload).ok_or("memory")?;
     Ok((counts.place, start.elapsed(rt)?.as_nanos()))
 }
 
@@ -70,11 +70,11 @@ fn main(rt: HostRuntime) -> Result<(), Fail> {
     let kind = args.next().ok_or("short or long")?;
     let times: u64 = args.next().ok_or("how many")?.as_str().parse().ok().ok_or("a number")?;
     let load = if kind.as_str() == "long" { Load::Long } else { Load::Short };
-    let puts = Workload { times, load };
+    let workload = Workload { times, load };
     let (committed, spent) = if threads.as_str() == "one" {
-        by_one(&rt, rt.alloc(), puts)?
+        by_one(&rt, rt.alloc(), workload)?
     } else {
-        by_four(&rt, rt.alloc(), puts)?
+        by_four(&rt, rt.alloc(), workload)?
     };
     println!(rt; "{committed} {spent}")?;
     Ok(())

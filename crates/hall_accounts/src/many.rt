@@ -101,7 +101,7 @@ pub fn puts<D: LogDisk, W: Wait>(
     alloc: Global,
     hall: &RoomHall<D>,
     mut pass: Pass<View<D::Eye>>,
-    puts: Workload,
+    workload: Workload,
 ) -> Pass<View<D::Eye>>
     requires idle { IsAtRest hall.now pass }
     ensures idle { IsAtRest hall.now result × (result.number ≡ pass.number) }
@@ -113,14 +113,19 @@ pub fn puts<D: LogDisk, W: Wait>(
     let own = OwnPuts {
         alloc,
         bucket: seat.saturating_mul(APART),
-        load: puts.load,
+        load: workload.load,
     };
-    put_often(rt, &mut txn, hall, &mut pass, &own, puts.times);
+    put_often(rt, &mut txn, hall, &mut pass, &own, workload.times);
     pass
 }
 
 /// Lets the first pass of a hall do so many transactions of one put each, and ends the hall: the room in numbers. None where there is no memory.
-pub fn puts_by_one<W: Wait>(rt: &W, alloc: Global, opened: Two, load: Workload) -> Option<Counts>
+pub fn puts_by_one<W: Wait>(
+    rt: &W,
+    alloc: Global,
+    opened: Two,
+    workload: Workload,
+) -> Option<Counts>
     requires two { AreTwo opened.hall opened.one opened.two opened.spare.items (vec_capacity opened.spare) }
 {
     let Two {
@@ -129,7 +134,7 @@ pub fn puts_by_one<W: Wait>(rt: &W, alloc: Global, opened: Two, load: Workload) 
         two,
         spare,
     } = opened;
-    let one = puts(rt, alloc, &hall, one, load);
+    let one = puts(rt, alloc, &hall, one, workload);
     let room = end_two(alloc, hall, one, two, spare)?;
     Some(room.counts())
 }
@@ -140,7 +145,7 @@ fn at_once<R: Threads + Wait + Sync>(
     alloc: Global,
     hall: &RoomHall<MemDisk>,
     passes: Vec<Pass<View<MemEye>>>,
-    load: Workload,
+    workload: Workload,
 ) -> Result<Vec<Pass<View<MemEye>>>, AllocError>
     requires passes { All (IsAtRest hall.now) passes.items }
     ensures idle { IfOk result (λ back. All (IsAtRest hall.now) back.items) }
@@ -150,7 +155,7 @@ fn at_once<R: Threads + Wait + Sync>(
     let work = |pass: Pass<View<MemEye>>| -> Pass<View<MemEye>>
         requires { IsAtRest hall.now pass }
         ensures { IsAtRest hall.entry.now result × (result.number ≡ pass.number) }
-    { puts(rt, alloc, hall, pass, load) };
+    { puts(rt, alloc, hall, pass, workload) };
     thread::map_vec(rt, passes, &work)
 }
 
@@ -160,7 +165,7 @@ pub fn puts_at_once<R: Threads + Wait + Sync>(
     rt: &R,
     alloc: Global,
     opened: Opened<MemDisk>,
-    load: Workload,
+    workload: Workload,
 ) -> Option<Counts>
     requires seats { 1 ≤ (beginning_of opened.hall).seats }
     requires count { length opened.passes.items ≡ (beginning_of opened.hall).seats }
@@ -173,7 +178,7 @@ pub fn puts_at_once<R: Threads + Wait + Sync>(
         passes,
         spare,
     } = opened;
-    let Ok(passes) = at_once(rt, alloc, &hall, passes, load) else {
+    let Ok(passes) = at_once(rt, alloc, &hall, passes, workload) else {
         return None;
     };
     Some(close_hall(hall, passes, spare).counts())

@@ -9,17 +9,15 @@ use Rattle.fine_places.specs.History as places
 use Rattle.node_cache.specs.Cache.{Cache}
 use Rattle.partition_hold.specs.Views.{ViewValue, state_of}
 use Rattle.epoch_room.specs.Value.{RoomValue}
-use Rattle.fine_hall.specs.Halls.{HallOf, turn_of}
-use Rattle.fine_hall.specs.Passes.{turns}
-use Rattle.fine_hall.specs.Turns.{room_after}
+use Rattle.fine_hall.specs.Halls.{HallOf}
 use Rattle.fine_hall.proofs.Troubles.{sees_law}
-use Rattle.fine_hall.proofs.Turning.{after_last}
 use Rattle.epoch_room.specs.declared.answers.RoomFault.{RoomFault}
 use Rattle.room_merges.specs.declared.fault.MergeFault.{MergeFault}
 use Rattle.hall_rooms.specs.Making.{MakesRoom, Renews, RenewsEach}
 use Rattle.hall_rooms.specs.Merging.{MergesInTurn}
 use Rattle.hall_rooms.specs.Turning.{DidInTurn, SealsAndPosts}
 use Rattle.hall_rooms.proofs.Idle.{seals_idle}
+use Rattle.hall_rooms.proofs.Left.{job_left}
 use Rattle.hall_rooms.specs.Rooms.{IsRoomPass, RoomPass, beginning_of}
 use Rattle.txn_engine.specs.declared.txn.CommitFault.{CommitFault}
 use Rattle.txn_engine.specs.declared.txn.Txn.{Txn}
@@ -57,11 +55,7 @@ turn_goes hall t p p' does g pass number d = record {
   pass = pass;
   is_open = turn_law (beginning_of hall) t p p' d.found d.room (record { one = d.turn.one; same_held = d.same_held }) g.pass.lawful pass.lawful g.room g.is_open;
   room = ap (λ l. get_elem? l places.room) d.same_held ∙ g.room;
-  job = λ one.
-      let was = sym number ∙ one in
-      let first = (beginning_of hall).room in
-      ap (λ ts. (room_after first ts).job) d.turn.turns_more
-      ∙ (ap (λ (r : RoomState). r.job) (after_last first (turns p ++ d.turn.others) (record { seat = p.number; item = turn_of None 0 d.room d.turn.returned })) ∙ (d.job.job ∙ ((d.turn.found_job was).job ∙ g.job was)));
+  job = job_left (beginning_of hall) d.found None 0 d.room p p' number d.turn.one d.job g.job;
 }
 
 -- so it does over one that merges

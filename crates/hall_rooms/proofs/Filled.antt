@@ -14,14 +14,12 @@ use Rattle.epoch_room.proofs.Stuck.{stuck_law}
 use Rattle.room_merges.specs.Near.{NoneFitNow}
 use Rattle.room_merges.specs.declared.fault.MergeFault.{MergeFault}
 use Rattle.fine_hall.specs.declared.law.Beginning.{Beginning}
-use Rattle.fine_hall.specs.Turns.{room_after}
-use Rattle.fine_hall.specs.Passes.{seen, turns}
-use Rattle.fine_hall.specs.Halls.{turn_of}
-use Rattle.fine_hall.proofs.Turning.{after_last}
+use Rattle.fine_hall.specs.Passes.{seen}
 use Rattle.hall_rooms.specs.declared.making.Space.{Space}
 use Rattle.hall_rooms.specs.declared.making.Space.TheVariants as space
 use Rattle.hall_rooms.specs.Rooms.{room_log}
 use Rattle.hall_rooms.specs.Making.{IsCleared, MakesOr, StuckThen, TellsSpace}
+use Rattle.hall_rooms.proofs.Left.{last_is}
 
 -- ---- what the log told at entry
 
@@ -81,5 +79,4 @@ stuck_then x from p p' t e first began =
     let m = t.makes in
     let told = stuck_told m.room.room t.made t.tells in
     let vain = subst (MakesOr from m.found m.room) told.0 m.makes in
-    let end = ap (room_after x.room) m.turn.turns_more ∙ after_last x.room (turns p ++ m.turn.others) (record { seat = p.number; item = turn_of None 0 m.room.room m.turn.returned }) in
-    subst IsStuck (sym end) (is_stuck x m.room m.log vain.1.is.cleared vain.1.is.tries.merges.2 told.1 e first began (seen p') (m.stands e first began))
+    subst IsStuck (sym (last_is x m.found.room None 0 m.room.room p p' m.turn.one)) (is_stuck x m.room m.log vain.1.is.cleared vain.1.is.tries.merges.2 told.1 e first began (seen p') (m.stands e first began))

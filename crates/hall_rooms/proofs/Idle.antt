@@ -1,26 +1,22 @@
 -- A pass that held nothing before a turn holds nothing after it, and has no merge out.
-use Rattle.std.proofs.Common.{◌≡◌, ◌∙◌, ◌++◌, None, ap, sym}
+use Rattle.std.proofs.Common.{◌≡◌, ◌∙◌, None, ap, sym}
 use lib.ListN.{get_elem?}
 use Rattle.fine_model.specs.declared.law.RoomState.{RoomState}
 use Rattle.fine_model.specs.Jobs.{KeepsJob}
 use Rattle.fine_hall.specs.declared.law.Beginning.{Beginning}
-use Rattle.fine_hall.specs.Turns.{room_after}
-use Rattle.fine_hall.specs.Passes.{known, turns, HoldsNothing, LacksJob}
-use Rattle.fine_hall.specs.Halls.{turn_of}
+use Rattle.fine_hall.specs.Passes.{known, HoldsNothing, LacksJob}
 use Rattle.fine_hall.proofs.Troubles.{sees_law}
-use Rattle.fine_hall.proofs.Turning.{after_last}
 use Rattle.partition_hold.specs.Views.{state_of}
 use Rattle.hall_rooms.specs.Rooms.{RoomPass}
 use Rattle.hall_rooms.specs.Turning.{SealsIdle, SettlesIdle, TakesTurn}
 use Rattle.hall_rooms.specs.Merging.{MergesIdle}
 use Rattle.hall_rooms.specs.Making.{MakesIdle, RenewsIdle}
+use Rattle.hall_rooms.proofs.Left.{job_left, last_is}
 
 idle : (x : Beginning) (found room : RoomState) (p p' : RoomPass) → p'.number ≡ p.number → TakesTurn x found None 0 room p p' → KeepsJob found room → (known p').held ≡ (known p).held → HoldsNothing p → LacksJob x p → HoldsNothing p' × LacksJob x p'
 idle x found room p p' number t job held nothing lacks = (
   λ k low. ap (λ l. get_elem? l k) held ∙ nothing k low,
-  λ one.
-      let was = sym number ∙ one in
-      ap (λ ts. (room_after x.room ts).job) t.turns_more ∙ (ap (λ (r : RoomState). r.job) (after_last x.room (turns p ++ t.others) (record { seat = p.number; item = turn_of None 0 room t.returned })) ∙ (job.job ∙ ((t.found_job was).job ∙ lacks was))),
+  job_left x found None 0 room p p' number t.one job lacks,
 )
 
 pub seals_idle : SealsIdle
@@ -35,7 +31,7 @@ merges_idle from r x p p' number s nothing lacks = idle x s.found.room s.room.ro
 pub makes_idle : MakesIdle
 makes_idle x from r p p' number s nothing lacks = (
   λ k low. ap (λ l. get_elem? l k) s.turn.same_held ∙ nothing k low,
-  λ one. ap (λ ts. (room_after x.room ts).job) s.turn.turns_more ∙ (ap (λ (r : RoomState). r.job) (after_last x.room (turns p ++ s.turn.others) (record { seat = p.number; item = turn_of None 0 s.room.room s.turn.returned })) ∙ s.no_job.1),
+  λ one. ap (λ (r : RoomState). r.job) (last_is x s.found.room None 0 s.room.room p p' s.turn.one) ∙ s.no_job.1,
 )
 
 pub renews_idle : RenewsIdle

@@ -8,6 +8,7 @@ pub mod Shown
 pub mod Erased
 pub mod Fresh
 pub mod GivenBack
+pub mod Left
 pub mod Idle
 pub mod Merged
 pub mod Renewing

@@ -1,36 +1,22 @@
 -- What a pass has out after a transaction, and when a transaction is open.
-use Rattle.std.proofs.Common.{◌≡◌, ◌≢◌, ⊎_elim, ℕ, ◌∙◌, ◌++◌, None, Option, ap, sym, inl, subst, arith}
+use Rattle.std.proofs.Common.{◌≡◌, ◌≢◌, ⊎_elim, ◌∙◌, None, sym, inl, subst, arith}
 use Rattle.fine_places.specs.History as places
 use Rattle.fine_places.proofs.Lists.{decide}
-use Rattle.fine_model.specs.declared.Entry.{Entry}
-use Rattle.fine_model.specs.declared.law.RoomState.{RoomState}
-use Rattle.fine_model.specs.Jobs.{KeepsJob}
 use Rattle.fine_model.proofs.Histories.Goings.{job_itself}
 use Rattle.partition_hold.specs.Views.{state_of}
-use Rattle.fine_hall.specs.declared.law.Beginning.{Beginning}
-use Rattle.fine_hall.specs.Turns.{room_after}
-use Rattle.fine_hall.specs.Passes.{turns, LacksPlace, LacksJob}
-use Rattle.fine_hall.specs.Halls.{turn_of}
+use Rattle.fine_hall.specs.Passes.{LacksPlace}
 use Rattle.fine_hall.proofs.Troubles.{sees_law}
-use Rattle.fine_hall.proofs.Turning.{after_last}
-use Rattle.hall_rooms.specs.Rooms.{RoomPass}
-use Rattle.hall_rooms.specs.Turning.{TakesTurn}
+use Rattle.hall_rooms.proofs.Left.{job_left}
 use Rattle.key_locks.proofs.Held.{far, held_alike}
 use Rattle.txn_engine.specs.Laws.{AbortsIdle, BeginsLaw, CommitsIdle, RefusedJob, SeenLaw}
 use Rattle.txn_engine.proofs.Open.{open_seen}
 use Rattle.txn_engine.proofs.Releasing.{open_blank}
 
-no_job : (x : Beginning) (found room : RoomState) (entry : Option Entry) (epoch : ℕ) (p p' : RoomPass) → p'.number ≡ p.number → TakesTurn x found entry epoch room p p' → KeepsJob found room → LacksJob x p → LacksJob x p'
-no_job x found room entry epoch p p' number t job lacks one =
-    let was = sym number ∙ one in
-    ap (λ ts. (room_after x.room ts).job) t.turns_more
-    ∙ (ap (λ (r : RoomState). r.job) (after_last x.room (turns p ++ t.others) (record { seat = p.number; item = turn_of entry epoch room t.returned })) ∙ (job.job ∙ ((t.found_job was).job ∙ lacks was)))
-
 pub commits_idle : CommitsIdle
-commits_idle x t t' p p' stamp number c lacks = (c.nothing, no_job x c.found c.room _ stamp.epoch p p' number c.turn c.job lacks)
+commits_idle x t t' p p' stamp number c lacks = (c.nothing, job_left x c.found _ stamp.epoch c.room p p' number c.turn.one c.job lacks)
 
 pub refused_job : RefusedJob
-refused_job x t t' p p' cause number r lacks = no_job x r.room r.room None 0 p p' number r.turn (job_itself r.room) lacks
+refused_job x t t' p p' cause number r lacks = job_left x r.room None 0 r.room p p' number r.turn.one (job_itself r.room) lacks
 
 pub aborts_idle : AbortsIdle
 aborts_idle x t t' p p' number lawful a free lacks = (

@@ -7,11 +7,12 @@ use Rattle.fine_places.specs.History as places
 use Rattle.fine_model.specs.declared.law.RoomState.{RoomState}
 use Rattle.fine_model.specs.History.{IsLegal}
 use Rattle.fine_hall.specs.declared.turn.Turn.{Turn}
-use Rattle.fine_hall.specs.Turns.{commits, room_after}
+use Rattle.fine_hall.specs.Turns.{commits}
 use Rattle.fine_hall.specs.Passes.{known, reads, turns, seen, published, HasPlace, LacksPlace}
 use Rattle.fine_hall.specs.Halls.{SeesMore, turn_of}
-use Rattle.fine_hall.proofs.Turning.{after_last, commits_one}
+use Rattle.fine_hall.proofs.Turning.{commits_one}
 use Rattle.hall_rooms.specs.Rooms.{RoomPass}
+use Rattle.hall_rooms.proofs.Left.{job_left, last_is}
 use Rattle.key_locks.proofs.Held.{held_alike}
 use Rattle.txn_engine.specs.Laws.{MakesLaw, MakesNoJob, SealsLaw, SealsNoJob, TurnLaw}
 use Rattle.txn_engine.specs.Txns.{IsOpenOn}
@@ -49,11 +50,7 @@ makes_law x t p p' from r m = turn_law x t p p' m.found.room m.room.room m.turn
 -- ---- the merge that is out
 
 pub makes_no_job : MakesNoJob
-makes_no_job x p p' from r m one = ap (λ ts. (room_after x.room ts).job) m.turn.turns_more
-    ∙ (ap (λ (r : RoomState). r.job) (after_last x.room (turns p ++ m.turn.others) (record { seat = p.number; item = turn_of None 0 m.room.room m.turn.returned })) ∙ m.no_job.1)
+makes_no_job x p p' from r m one = ap (λ (r : RoomState). r.job) (last_is x m.found.room None 0 m.room.room p p' m.turn.one) ∙ m.no_job.1
 
 pub seals_no_job : SealsNoJob
-seals_no_job x p p' r number s lacks one =
-    let was = sym number ∙ one in
-    ap (λ ts. (room_after x.room ts).job) s.turn.turns_more
-    ∙ (ap (λ (r : RoomState). r.job) (after_last x.room (turns p ++ s.turn.others) (record { seat = p.number; item = turn_of None 0 s.room s.turn.returned })) ∙ (s.job.job ∙ ((s.turn.found_job was).job ∙ lacks was)))
+seals_no_job x p p' r number s lacks = job_left x s.found None 0 s.room p p' number s.turn.one s.job lacks

@@ -12,21 +12,28 @@ use node_fetch::base;
 use node_record::{apply, read_row};
 use std::alloc::Global;
 
-/// Does a row to a node, if it is the node's. Answers whether there was memory for it.
+/// Does a row to a node, if it is the node's. Answers the place behind it.
 #[tactic(auto, unfolding(fine_model::specs::Nodes::step))]
-fn replay_row(alloc: Global, row: &Row, id: NodeId, node: &mut Node, version: &mut u64) -> bool
+fn replay_row(
+    alloc: Global,
+    row: &Row,
+    behind: usize,
+    id: NodeId,
+    node: &mut Node,
+    version: &mut u64,
+) -> Result<Option<usize>, NoMemory>
     requires row { FitsRec row.now.rec }
     requires row_version { row.now.version ≤ greatest }
     requires node { FitsNode node.old }
     requires version { version.old ≤ greatest }
+    ensures at { IfOk result (λ found. IfSome found (λ at. at ≡ behind)) }
     ensures node { FitsNode node.new }
     ensures version { version.new ≤ greatest }
 {
     if row.node == id {
-        apply(alloc, node, version, row).is_ok()
-    } else {
-        true
+        apply(alloc, node, version, row)?;
     }
+    Ok(Some(behind))
 }
 
 /// So of the row at a place. Answers the place behind it, or None where there is no row.
@@ -45,13 +52,9 @@ fn replay_one(
     ensures node { FitsNode node.new }
     ensures version { version.new ≤ greatest }
 {
-    let Ok((row, behind)) = read_row(alloc, bytes, at, Mark::Two) else {
-        return Ok(None);
-    };
-    if replay_row(alloc, &row, id, node, version) {
-        Ok(Some(behind))
-    } else {
-        Err(NoMemory)
+    match read_row(alloc, bytes, at, Mark::Two) {
+        Ok(found) => replay_row(alloc, &found.0, found.1, id, node, version),
+        Err(_no_row) => Ok(None),
     }
 }
 

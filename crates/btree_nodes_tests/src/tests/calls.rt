@@ -2,8 +2,7 @@
 
 ghost use Rattle.std.specs.Prelude.{◌≤◌, IfOk};
 
-use super::fixtures::{Tree, add, bare_tree, del, get, lay, put};
-use super::keys::key_at;
+use super::fixtures::{Tree, add_at, del_at, get_at, lay, on_bare, put_at};
 use super::scans::pairs_between;
 use super::splits::{depth_of, is_pair};
 use btree_nodes::TreeFault;
@@ -27,26 +26,30 @@ fn note(alloc: Global, map: &mut Map, place: u32, value: &[u8]) -> Result<(), No
     }
 }
 
+/// Whether a value is the one that a key holds in the map.
+fn is_held(found: &Option<Bytes>, wanted: Option<&Vec<u8>>) -> bool {
+    match wanted {
+        Some(wanted) => match found {
+            Some(value) => value.as_slice() == wanted.as_slice(),
+            None => false,
+        },
+        None => found.is_none(),
+    }
+}
+
 fn get_both(tree: &mut Tree, map: &Map, place: u32) -> Result<bool, TreeFault> {
-    let key = key_at(tree.alloc, place, 13)?;
-    let found = get(tree, key.as_slice())?;
-    Ok(match (&found, map.get(&place)) {
-        (Some(value), Some(wanted)) => value.as_slice() == wanted.as_slice(),
-        (None, None) => true,
-        _ => false,
-    })
+    let found = get_at(tree, place, 13)?;
+    Ok(is_held(&found, map.get(&place)))
 }
 
 fn put_both(tree: &mut Tree, map: &mut Map, place: u32, value: &[u8]) -> Result<(), TreeFault> {
-    let key = key_at(tree.alloc, place, 13)?;
     note(tree.alloc, map, place, value)?;
-    put(tree, key.as_slice(), value)
+    put_at(tree, place, 13, value)
 }
 
 fn del_both(tree: &mut Tree, map: &mut Map, place: u32) -> Result<bool, TreeFault> {
-    let key = key_at(tree.alloc, place, 13)?;
     let there = map.remove(&place).is_some();
-    Ok(del(tree, key.as_slice())? == there)
+    Ok(del_at(tree, place, 13)? == there)
 }
 
 /// The sum that a key of the map is to have, where it is one, and whether the text that it has is a number.
@@ -66,18 +69,36 @@ fn note_sum(alloc: Global, map: &mut Map, place: u32, sum: i64) -> Result<(), No
     note(alloc, map, place, text.as_slice())
 }
 
-fn add_both(tree: &mut Tree, map: &mut Map, place: u32, by: i64) -> Result<bool, TreeFault> {
-    let key = key_at(tree.alloc, place, 13)?;
-    let (wanted, is_number) = sum_of(map, place, by);
-    if let Some(sum) = wanted {
-        note_sum(tree.alloc, map, place, sum)?;
-    }
-    Ok(match add(tree, key.as_slice(), by)? {
+/// Whether an answer is the one to a sum, or to a key that is to have none.
+fn is_sum(reply: Reply, wanted: Option<i64>, is_number: bool) -> bool {
+    match reply {
         Reply::Sum { sum } => wanted == Some(sum),
         Reply::OutOfRange => wanted.is_none() && is_number,
         Reply::NotNumber => !is_number,
         _ => false,
-    })
+    }
+}
+
+fn add_both(tree: &mut Tree, map: &mut Map, place: u32, by: i64) -> Result<bool, TreeFault> {
+    let (wanted, is_number) = sum_of(map, place, by);
+    if let Some(sum) = wanted {
+        note_sum(tree.alloc, map, place, sum)?;
+    }
+    Ok(is_sum(add_at(tree, place, 13, by)?, wanted, is_number))
+}
+
+/// Whether the pair at a place among others is this key of the map, with this value.
+fn is_pair_at(
+    alloc: Global,
+    found: &[(Bytes, Bytes)],
+    at: usize,
+    place: u32,
+    wanted: &[u8],
+) -> Result<bool, NoMemory> {
+    match found.get(at) {
+        Some(pair) => is_pair(alloc, pair, place, wanted),
+        None => Ok(false),
+    }
 }
 
 /// Whether pairs are the first ones of the map between two places, and no more than so many.
@@ -88,29 +109,26 @@ fn are_first(
     low: u32,
     high: u32,
     limit: u32,
-) -> Result<bool, NoMemory>
+) -> Result<bool, TreeFault>
     requires { low ≤ high }
 {
     let mut at = 0;
+    let mut right = 0usize;
     for (place, wanted) in map.range(low..high) {
-        if at >= limit as usize {
-            break;
+        if at < limit as usize {
+            if is_pair_at(alloc, found, at, *place, wanted.as_slice())? {
+                right = right.saturating_add(1);
+            }
+            at = at.saturating_add(1);
         }
-        let Some(pair) = found.get(at) else {
-            return Ok(false);
-        };
-        if !is_pair(alloc, pair, *place, wanted.as_slice())? {
-            return Ok(false);
-        }
-        at = at.saturating_add(1);
     }
-    Ok(at == found.len())
+    Ok(at == found.len() && right == at)
 }
 
 fn scan_both(tree: &mut Tree, map: &Map, low: u32, limit: u32) -> Result<bool, TreeFault> {
     let high = low.saturating_add(100);
     let found = pairs_between(tree, low, high, limit)?;
-    Ok(are_first(tree.alloc, found.as_slice(), map, low, high, limit)?)
+    are_first(tree.alloc, found.as_slice(), map, low, high, limit)
 }
 
 /// Sets a key to a number.
@@ -182,15 +200,10 @@ fn count_laid(tree: &mut Tree, rows: &[u8], map: &Map) -> Result<u32, TreeFault>
     Ok(if agrees { right } else { 0 })
 }
 
-/// So of a tree on rows.
-fn count_in_rows(alloc: Global, rows: &[u8], map: &Map) -> Result<u32, TreeFault> {
-    let mut tree = bare_tree(alloc);
-    count_laid(&mut tree, rows, map)
-}
-
 /// So of a tree on the rows that another pushed.
 fn count_again(tree: &Tree, map: &Map) -> Result<u32, TreeFault> {
-    count_in_rows(tree.alloc, tree.log.bytes(), map)
+    let rows = tree.log.bytes();
+    on_bare(tree.alloc, |again| count_laid(again, rows, map))
 }
 
 /// Sets each key and then makes ten thousand calls by chance. Answers how many agreed, the depth, and how many keys agree in a tree on the
@@ -202,15 +215,14 @@ fn call_and_count(tree: &mut Tree, map: &mut Map) -> Result<(u32, u8, u32), Tree
     Ok((right, depth_of(tree), kept))
 }
 
-/// So of a tree and a map that were empty.
-fn count_from_none(alloc: Global) -> Result<(u32, u8, u32), TreeFault> {
-    let mut tree = bare_tree(alloc);
-    let mut map = BTreeMap::new(alloc);
-    call_and_count(&mut tree, &mut map)
+/// So of a map that was empty.
+fn count_from_none(tree: &mut Tree) -> Result<(u32, u8, u32), TreeFault> {
+    let mut map = BTreeMap::new(tree.alloc);
+    call_and_count(tree, &mut map)
 }
 
 #[test]
 fn ten_thousand_calls_agree_with_an_ordered_map(rt: HostRuntime) -> Result<(), Fail> {
-    assert_eq!(rt; count_from_none(rt.alloc())?, (10_000, 3, KEYS));
+    assert_eq!(rt; on_bare(rt.alloc(), count_from_none)?, (10_000, 3, KEYS));
     Ok(())
 }

@@ -1,6 +1,6 @@
 //! Trees in memory, on the rows that bytes spell.
 
-use super::keys::is_of;
+use super::keys::{is_of, key_at};
 use crate::rows::Rows;
 use btree_nodes::{TreeFault, add_to, find, insert, remove, scan};
 use fine_model::{Bytes, Items, NoMemory, Pairs, Reply};
@@ -29,15 +29,22 @@ impl Tree {
     }
 }
 
-/// A tree of bucket 64 on a log that has no rows, with nothing cached. What is done to it stands in functions that borrow it: its drop at each
-/// exit of one that owns it costs a check seconds.
-pub fn bare_tree(alloc: Global) -> Tree {
+/// A tree of bucket 64 on a log that has no rows, with nothing cached.
+fn bare_tree(alloc: Global) -> Tree {
     Tree {
         alloc,
         source: Rows::none(alloc, 0),
         bucket: Bucket::new(alloc, 64),
         log: PrivateLog::new(alloc),
     }
+}
+
+/// What is asked of such a tree. No other function owns one, since its drop at each exit costs a check seconds.
+pub fn on_bare<R, F: FnOnce(&mut Tree) -> R>(alloc: Global, ask: F) -> R
+    requires { F.IsAlwaysCallable ask }
+{
+    let mut tree = bare_tree(alloc);
+    ask(&mut tree)
 }
 
 /// Lays the rows that bytes spell behind those of the tree's source.
@@ -93,6 +100,27 @@ pub fn pairs(tree: &mut Tree, low: &[u8], high: &[u8], limit: u32) -> Result<Pai
     Ok(out)
 }
 
+/// The calls on the key of so many pieces at a place.
+pub fn get_at(tree: &mut Tree, place: u32, pieces: u32) -> Result<Option<Bytes>, TreeFault> {
+    let key = key_at(tree.alloc, place, pieces)?;
+    get(tree, key.as_slice())
+}
+
+pub fn put_at(tree: &mut Tree, place: u32, pieces: u32, value: &[u8]) -> Result<(), TreeFault> {
+    let key = key_at(tree.alloc, place, pieces)?;
+    put(tree, key.as_slice(), value)
+}
+
+pub fn del_at(tree: &mut Tree, place: u32, pieces: u32) -> Result<bool, TreeFault> {
+    let key = key_at(tree.alloc, place, pieces)?;
+    del(tree, key.as_slice())
+}
+
+pub fn add_at(tree: &mut Tree, place: u32, pieces: u32, by: i64) -> Result<Reply, TreeFault> {
+    let key = key_at(tree.alloc, place, pieces)?;
+    add(tree, key.as_slice(), by)
+}
+
 /// The calls on a key.
 #[derive(Clone, Copy, Debug, PartialEq, Eq)]
 pub enum Kind {
@@ -105,22 +133,21 @@ pub enum Kind {
 
 pub const KINDS: [Kind; 5] = [Kind::Get, Kind::Put, Kind::Del, Kind::Add, Kind::Scan];
 
+/// An answer without what it gives.
+fn outcome_of<T: Drop>(answer: Result<T, TreeFault>) -> Result<(), TreeFault> {
+    match answer {
+        Ok(_given) => Ok(()),
+        Err(fault) => Err(fault),
+    }
+}
+
 /// One of the calls on a key, of which the scan begins there.
 pub fn call(tree: &mut Tree, key: &[u8], kind: Kind) -> Result<(), TreeFault> {
     match kind {
-        Kind::Get => {
-            get(tree, key)?;
-        }
-        Kind::Put => put(tree, key, b"2")?,
-        Kind::Del => {
-            del(tree, key)?;
-        }
-        Kind::Add => {
-            add(tree, key, 1)?;
-        }
-        Kind::Scan => {
-            pairs(tree, key, b"C", 9)?;
-        }
+        Kind::Get => outcome_of(get(tree, key)),
+        Kind::Put => put(tree, key, b"2"),
+        Kind::Del => outcome_of(del(tree, key)),
+        Kind::Add => outcome_of(add(tree, key, 1)),
+        Kind::Scan => outcome_of(pairs(tree, key, b"C", 9)),
     }
-    Ok(())
 }

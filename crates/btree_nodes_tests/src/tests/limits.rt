@@ -2,7 +2,7 @@
 
 ghost use Rattle.std.specs.Prelude.{IfOk};
 
-use super::fixtures::{Kind, Tree, bare_tree, call, del, put};
+use super::fixtures::{Kind, Tree, call, del, on_bare, put};
 use super::splits::{depth_of, put_keys};
 use btree_nodes::TreeFault;
 use fine_model::format::GREATEST;
@@ -108,25 +108,20 @@ fn split_full(tree: &mut Tree, depth: u8, next: u32) -> Result<SplitEnd, NoMemor
     })
 }
 
-/// So of a tree that had no rows.
-fn end_of_split(alloc: Global, depth: u8, next: u32) -> Result<SplitEnd, NoMemory> {
-    let mut tree = bare_tree(alloc);
-    split_full(&mut tree, depth, next)
-}
-
 #[test]
-fn a_bucket_is_full_where_its_numbers_end(rt: HostRuntime) -> Result<(), Fail> {
-    assert_eq!(rt; end_of_split(rt.alloc(), 1, 1_048_574)?, SplitEnd::Done(2));
-    for next in [1_048_575, 1_048_576] {
-        assert_eq!(rt; end_of_split(rt.alloc(), 1, next)?, SplitEnd::Full(next, 1));
+fn a_bucket_is_full_where_its_numbers_or_its_depth_end(rt: HostRuntime) -> Result<(), Fail> {
+    for (depth, next, end) in [
+        (1, 1_048_574, SplitEnd::Done(2)),
+        (1, 1_048_575, SplitEnd::Full(1_048_575, 1)),
+        (1, 1_048_576, SplitEnd::Full(1_048_576, 1)),
+        (7, 20, SplitEnd::Done(8)),
+        (8, 20, SplitEnd::Full(20, 8)),
+    ] {
+        assert_eq!(rt;
+            on_bare(rt.alloc(), |tree| split_full(tree, depth, next))?,
+            end
+        );
     }
-    Ok(())
-}
-
-#[test]
-fn a_bucket_is_full_where_its_depth_ends(rt: HostRuntime) -> Result<(), Fail> {
-    assert_eq!(rt; end_of_split(rt.alloc(), 7, 20)?, SplitEnd::Done(8));
-    assert_eq!(rt; end_of_split(rt.alloc(), 8, 20)?, SplitEnd::Full(20, 8));
     Ok(())
 }
 
@@ -159,32 +154,16 @@ fn pass_the_last(tree: &mut Tree) -> Result<([bool; 3], bool, usize), TreeFault>
     Ok((over, there, tree.log.bytes().len()))
 }
 
-/// So of a tree that had no rows.
-fn behind_the_last(alloc: Global) -> Result<([bool; 3], bool, usize), TreeFault> {
-    let mut tree = bare_tree(alloc);
-    pass_the_last(&mut tree)
-}
-
-#[test]
-fn the_last_version_of_a_node_is_its_last(rt: HostRuntime) -> Result<(), Fail> {
-    assert_eq!(rt; behind_the_last(rt.alloc())?, ([true; 3], false, 33));
-    Ok(())
-}
-
 /// Whether a split would pass the limit of the head, whose version is the last, and how many bytes were pushed.
 fn split_late(tree: &mut Tree) -> Result<(bool, usize), NoMemory> {
     push_head(&mut tree.source.bytes, GREATEST, 1, 2, 1)?;
     Ok((is_over(split(tree), 0), tree.log.bytes().len()))
 }
 
-/// So of a tree that had no rows.
-fn late_split(alloc: Global) -> Result<(bool, usize), NoMemory> {
-    let mut tree = bare_tree(alloc);
-    split_late(&mut tree)
-}
-
 #[test]
-fn a_split_needs_a_version_of_the_head(rt: HostRuntime) -> Result<(), Fail> {
-    assert_eq!(rt; late_split(rt.alloc())?, (true, 1056));
+fn the_last_version_of_a_node_is_its_last(rt: HostRuntime) -> Result<(), Fail> {
+    // of a leaf, and of the head, of which a split needs one more
+    assert_eq!(rt; on_bare(rt.alloc(), pass_the_last)?, ([true; 3], false, 33));
+    assert_eq!(rt; on_bare(rt.alloc(), split_late)?, (true, 1056));
     Ok(())
 }

@@ -2,7 +2,7 @@
 
 ghost use Rattle.std.specs.Prelude.{IfOk};
 
-use super::fixtures::{Tree, bare_tree, get, lay, pairs, put};
+use super::fixtures::{Tree, get_at, lay, on_bare, pairs, put, put_at};
 use super::keys::key_at;
 use btree_nodes::TreeFault;
 use fine_model::{Bytes, NoMemory, Node};
@@ -25,21 +25,28 @@ const ROOT: &[u8] =
 const HEAD: &[u8] =
     b"\x01\x00\x40\x00\x00\x00\x00\x00\x00\x00\x00\x00\x00\x00\x01\x00\x00\x00\x09\x00\x00\x00\x03\x00\x00\x00\x04\x02";
 
-/// The rows of a root that is split: the right leaf of 16 pairs, two changes of the left one, the new root, and the head.
-fn rows_of_split(alloc: Global) -> Result<Vec<u8>, NoMemory> {
-    let mut rows = Vec::new(alloc);
-    let front = b"\x02\x00\x40\x00\x00\x00\x02\x00\x00\x00\x00\x00\x00\x00\x01\x00\x00\x00\xe1\x10";
-    rows.extend_from_slice(front)?;
+/// The front of the right leaf, of 16 pairs.
+const RIGHT: &[u8] =
+    b"\x02\x00\x40\x00\x00\x00\x02\x00\x00\x00\x00\x00\x00\x00\x01\x00\x00\x00\xe1\x10";
+
+/// Puts the key at a place behind others.
+fn push_key(rows: &mut Vec<u8>, alloc: Global, place: u32) -> Result<(), NoMemory> {
+    let key = key_at(alloc, place, 5)?;
+    Ok(rows.extend_from_slice(key.as_slice())?)
+}
+
+/// Puts the rows of a root that is split behind others: the right leaf, two changes of the left one, the new root, and the head.
+fn push_split(rows: &mut Vec<u8>, alloc: Global) -> Result<(), NoMemory> {
+    rows.extend_from_slice(RIGHT)?;
     for place in 16..32u32 {
         rows.extend_from_slice(b"\x0a")?;
-        let key = key_at(alloc, place, 5)?;
-        rows.extend_from_slice(key.as_slice())?;
+        push_key(rows, alloc, place)?;
         rows.extend_from_slice(b"\x00\x011")?;
     }
     for row in [CUT, PUT, ROOT, HEAD] {
         rows.extend_from_slice(row)?;
     }
-    Ok(rows)
+    Ok(())
 }
 
 /// Sets so many keys of so many pieces to `1`, each `step` places behind the last one, round `span` places.
@@ -52,8 +59,7 @@ pub fn put_keys(
 ) -> Result<(), TreeFault> {
     let mut place = 0u32;
     for _key in 0..many {
-        let key = key_at(tree.alloc, place, pieces)?;
-        put(tree, key.as_slice(), b"1")?;
+        put_at(tree, place, pieces, b"1")?;
         place = place.saturating_add(step).checked_rem(span).unwrap_or(0);
     }
     Ok(())
@@ -82,8 +88,7 @@ pub fn depth_of(tree: &Tree) -> u8 {
 
 /// Whether the key of thirteen pieces at a place is there.
 fn has_key(tree: &mut Tree, place: u32) -> Result<bool, TreeFault> {
-    let key = key_at(tree.alloc, place, 13)?;
-    Ok(get(tree, key.as_slice())?.is_some())
+    Ok(get_at(tree, place, 13)?.is_some())
 }
 
 /// How many of the first keys of thirteen pieces are there.
@@ -119,7 +124,7 @@ pub fn are_keys(
     pairs: &[(Bytes, Bytes)],
     first: u32,
     many: u32,
-) -> Result<bool, NoMemory> {
+) -> Result<bool, TreeFault> {
     let mut place = first;
     for pair in pairs {
         if !is_pair(alloc, pair, place, b"1")? {
@@ -130,10 +135,10 @@ pub fn are_keys(
     Ok(place.saturating_sub(first) == many)
 }
 
-/// Whether the rows of that split stand in a log behind so many bytes, and nothing behind them.
-fn ends_in_split(alloc: Global, log: &[u8], at: usize) -> Result<bool, NoMemory> {
-    let rows = rows_of_split(alloc)?;
-    Ok(log.get(at..) == Some(rows.as_slice()))
+/// Whether there is memory for the rows of that split, and they stand in a log behind so many bytes, and nothing behind them.
+fn ends_in_split(alloc: Global, log: &[u8], at: usize) -> bool {
+    let mut rows = Vec::new(alloc);
+    push_split(&mut rows, alloc).is_ok() && log.get(at..) == Some(rows.as_slice())
 }
 
 /// How many bytes the 32 keys of a full leaf push, and whether the next key pushes the rows of its split.
@@ -141,26 +146,20 @@ fn split_leaf(tree: &mut Tree) -> Result<(usize, bool), TreeFault> {
     put_keys(tree, 32, 5, 1, 32)?;
     let many = tree.log.bytes().len();
     put(tree, b"AaAaAaAaC#", b"1")?;
-    let splits = ends_in_split(tree.alloc, tree.log.bytes(), many)?;
+    let splits = ends_in_split(tree.alloc, tree.log.bytes(), many);
     Ok((many, splits))
-}
-
-/// So of a tree that was empty.
-fn split_empty(alloc: Global) -> Result<(usize, bool), TreeFault> {
-    let mut tree = bare_tree(alloc);
-    split_leaf(&mut tree)
 }
 
 #[test]
 fn the_33rd_key_of_a_leaf_splits_it(rt: HostRuntime) -> Result<(), Fail> {
-    assert_eq!(rt; split_empty(rt.alloc())?, (1056, true));
+    assert_eq!(rt; on_bare(rt.alloc(), split_leaf).ok(), Some((1056, true)));
     Ok(())
 }
 
 /// Whether a scan of all keys gives so many.
 fn scans_all(tree: &mut Tree, many: u32) -> Result<bool, TreeFault> {
     let all = pairs(tree, b"A", b"C", 2000)?;
-    Ok(are_keys(tree.alloc, all.as_slice(), 0, many)?)
+    are_keys(tree.alloc, all.as_slice(), 0, many)
 }
 
 /// How many keys a tree has once rows are laid, where a scan gives them all.
@@ -170,10 +169,10 @@ fn count_laid(tree: &mut Tree, rows: &[u8], many: u32) -> Result<u32, TreeFault>
     Ok(if scans_all(tree, many)? { count } else { 0 })
 }
 
-/// So of a tree on rows.
-fn count_in_rows(alloc: Global, rows: &[u8], many: u32) -> Result<u32, TreeFault> {
-    let mut tree = bare_tree(alloc);
-    count_laid(&mut tree, rows, many)
+/// So of a tree on the rows that another pushed.
+fn count_again(tree: &Tree, many: u32) -> Result<u32, TreeFault> {
+    let rows = tree.log.bytes();
+    on_bare(tree.alloc, |again| count_laid(again, rows, many))
 }
 
 /// The depth of a tree whose keys are set in an order, and how many keys it has: itself, and a tree on the rows that were pushed.
@@ -181,21 +180,15 @@ fn grow(tree: &mut Tree, many: u32, step: u32) -> Result<(u8, u32, u32), TreeFau
     put_keys(tree, many, 13, step, many)?;
     let depth = depth_of(tree);
     let found = count_keys(tree, many)?;
-    let again = count_in_rows(tree.alloc, tree.log.bytes(), many)?;
+    let again = count_again(tree, many)?;
     Ok((depth, found, again))
-}
-
-/// So of a tree that was empty.
-fn grown(alloc: Global, many: u32, step: u32) -> Result<(u8, u32, u32), TreeFault> {
-    let mut tree = bare_tree(alloc);
-    grow(&mut tree, many, step)
 }
 
 #[test]
 fn trees_grow_to_depth_3(rt: HostRuntime) -> Result<(), Fail> {
     for (many, step) in [(600, 1), (600, 599), (900, 371)] {
         assert_eq!(rt;
-            grown(rt.alloc(), many, step)?,
+            on_bare(rt.alloc(), |tree| grow(tree, many, step))?,
             (3, many, many),
             "step {step}"
         );

@@ -2,7 +2,7 @@
 
 ghost use Rattle.std.specs.Prelude.{IfOk};
 
-use super::fixtures::{KINDS, Kind, Tree, bare_tree, call, lay};
+use super::fixtures::{KINDS, Kind, Tree, call, lay, on_bare};
 use super::limits::push;
 use super::scans::deep_rows;
 use btree_nodes::{TreeFault, scan};
@@ -110,18 +110,21 @@ fn unfit_on(tree: &mut Tree, lines: &[Line], number: u32) -> Result<u32, NoMemor
     })
 }
 
-/// So of a tree that had no rows.
-fn unfit_in(alloc: Global, lines: &[Line], number: u32) -> Result<u32, NoMemory> {
-    let mut tree = bare_tree(alloc);
-    unfit_on(&mut tree, lines, number)
+const RULES: [Broken; 8] = [ROOT, LEAF, INNER, VERSION, CHILD, KEY, BUCKET, SEPARATOR];
+
+/// So of trees that had no rows, for each rule.
+fn unfit_by_rule(alloc: Global) -> Result<[u32; 8], NoMemory> {
+    let mut counts = [0; 8];
+    for rule in 0..8 {
+        let (lines, number) = RULES[rule];
+        counts[rule] = on_bare(alloc, |tree| unfit_on(tree, lines, number))?;
+    }
+    Ok(counts)
 }
 
 #[test]
 fn each_call_names_the_first_unfit_node(rt: HostRuntime) -> Result<(), Fail> {
-    let rules = [ROOT, LEAF, INNER, VERSION, CHILD, KEY, BUCKET, SEPARATOR];
-    for (rule, (lines, number)) in rules.iter().enumerate() {
-        assert_eq!(rt; unfit_in(rt.alloc(), lines, *number)?, 5, "rule {rule}");
-    }
+    assert_eq!(rt; unfit_by_rule(rt.alloc())?, [5; 8]);
     Ok(())
 }
 
@@ -205,16 +208,10 @@ fn fail_load(
     Ok((end, tree.source.loads))
 }
 
-/// So of a tree that had no rows.
-fn fail_in(alloc: Global, rows: &[u8], kind: Kind, fails: u32) -> Result<(Ends, u32), NoMemory> {
-    let mut tree = bare_tree(alloc);
-    fail_load(&mut tree, rows, kind, fails)
-}
-
 /// Makes each load of a call fail in turn, until none does. Answers how many loads there were, or 0 where an answer was another.
 fn fail_each_load(alloc: Global, rows: &[u8], kind: Kind) -> Result<u32, NoMemory> {
     for fails in 1..20u32 {
-        match fail_in(alloc, rows, kind, fails)? {
+        match on_bare(alloc, |tree| fail_load(tree, rows, kind, fails))? {
             (Ends::Done, loads) => return Ok(loads),
             (Ends::Failed, loads) if loads == fails => {}
             _ => return Ok(0),
@@ -223,16 +220,27 @@ fn fail_each_load(alloc: Global, rows: &[u8], kind: Kind) -> Result<u32, NoMemor
     Ok(0)
 }
 
+/// So of each of the five calls.
+fn fail_each_call(alloc: Global, rows: &[u8]) -> Result<[u32; 5], NoMemory> {
+    let mut loads = [0; 5];
+    for place in 0..5 {
+        loads[place] = fail_each_load(alloc, rows, KINDS[place])?;
+    }
+    Ok(loads)
+}
+
+/// So on the rows of 600 keys.
+fn fail_on_600(alloc: Global) -> Result<[u32; 5], TreeFault> {
+    let rows = deep_rows(alloc)?;
+    match fail_each_call(alloc, rows.as_slice()) {
+        Ok(loads) => Ok(loads),
+        Err(_no_memory) => Err(TreeFault::NoMemory),
+    }
+}
+
 #[test]
 fn a_load_that_fails_is_told(rt: HostRuntime) -> Result<(), Fail> {
-    let rows = deep_rows(rt.alloc())?;
-    for kind in KINDS {
-        let loads = if kind == Kind::Scan { 7 } else { 4 };
-        assert_eq!(rt;
-            fail_each_load(rt.alloc(), rows.as_slice(), kind)?,
-            loads,
-            "{kind:?}"
-        );
-    }
+    // the scan, which is the last of the five, loads more than the others
+    assert_eq!(rt; fail_on_600(rt.alloc())?, [4, 4, 4, 4, 7]);
     Ok(())
 }

@@ -2,32 +2,30 @@
 
 ghost use Rattle.std.specs.Prelude.{IfOk};
 
-use super::fixtures::{Tree, add, bare_tree, del, get, put};
+use super::fixtures::{Tree, add, del, get, on_bare, put};
 use fine_model::Reply;
 use std::alloc::Global;
 use std::test::*;
 
 const KEY: &[u8] = b"AaAaAaAaAa";
 
+/// Whether the key is not found.
+fn finds_none(tree: &mut Tree) -> bool {
+    matches!(get(tree, KEY), Ok(None))
+}
+
+/// Whether removing the key tells that it was there, or that it was not.
+fn removes(tree: &mut Tree, wanted: bool) -> bool {
+    matches!(del(tree, KEY), Ok(there) if there == wanted)
+}
+
 /// Whether a key that is absent is neither found nor removed, and no row is pushed.
 fn are_absent(tree: &mut Tree) -> [bool; 3] {
     [
-        matches!(get(tree, KEY), Ok(None)),
-        matches!(del(tree, KEY), Ok(false)),
+        finds_none(tree),
+        removes(tree, false),
         tree.log.bytes().is_empty(),
     ]
-}
-
-/// So of a tree that has no rows.
-fn are_absent_at_first(alloc: Global) -> [bool; 3] {
-    let mut tree = bare_tree(alloc);
-    are_absent(&mut tree)
-}
-
-#[test]
-fn a_key_that_is_absent_is_not_removed(rt: HostRuntime) -> Result<(), Fail> {
-    assert_eq!(rt; are_absent_at_first(rt.alloc()), [true; 3]);
-    Ok(())
 }
 
 /// Whether adding to the key gives this sum.
@@ -40,50 +38,44 @@ const ADDED: &[u8] =
     b"\x04\x00\x40\x00\x00\x00\x01\x00\x00\x00\x00\x00\x00\x00\x01\x00\x00\x00\x0e\x0aAaAaAaAaAa\x00\x015\x09\x00\x40\x00\x00\x00\x01\x00\x00\x00\x00\x00\x00\x00\x02\x00\x00\x00\x13\x0aAaAaAaAaAa\x00\x00\x00\x00\x00\x00\x00\x02";
 
 /// Whether adding to a key that is absent gives each sum, and whether these rows are pushed.
-fn add_twice(alloc: Global) -> [bool; 3] {
-    let mut tree = bare_tree(alloc);
+fn add_twice(tree: &mut Tree) -> [bool; 3] {
     [
-        adds(&mut tree, 5, 5),
-        adds(&mut tree, 2, 7),
+        adds(tree, 5, 5),
+        adds(tree, 2, 7),
         tree.log.bytes() == ADDED,
     ]
 }
 
-#[test]
-fn a_number_is_added_to_a_key(rt: HostRuntime) -> Result<(), Fail> {
-    assert_eq!(rt; add_twice(rt.alloc()), [true; 3]);
-    Ok(())
+/// Whether the leaf is known.
+fn is_known(tree: &Tree) -> bool {
+    tree.bucket.has_own_keys(1)
 }
 
-/// For one call of each kind, whether it gives its answer and leaves the leaf known.
-fn leave_known(tree: &mut Tree) -> [bool; 4] {
+/// For one call of each kind, whether it gives its answer, and whether it leaves the leaf known.
+fn leave_known(tree: &mut Tree) -> [[bool; 2]; 4] {
     [
-        matches!(get(tree, KEY), Ok(None)) && tree.bucket.has_own_keys(1),
-        put(tree, KEY, b"5").is_ok() && tree.bucket.has_own_keys(1),
-        adds(tree, 2, 7) && tree.bucket.has_own_keys(1),
-        matches!(del(tree, KEY), Ok(true)) && tree.bucket.has_own_keys(1),
+        [finds_none(tree), is_known(tree)],
+        [put(tree, KEY, b"5").is_ok(), is_known(tree)],
+        [adds(tree, 2, 7), is_known(tree)],
+        [removes(tree, true), is_known(tree)],
     ]
 }
 
 /// Whether the leaf is known at first, after each call, and once all is taken back.
-fn stays_known(tree: &mut Tree) -> (bool, [bool; 4], bool) {
-    let first = tree.bucket.has_own_keys(1);
+fn stays_known(tree: &mut Tree) -> (bool, [[bool; 2]; 4], bool) {
+    let first = is_known(tree);
     let known = leave_known(tree);
     tree.bucket.undo();
-    (first, known, tree.bucket.has_own_keys(1))
-}
-
-/// So of a tree that has no rows.
-fn stays_known_from_none(alloc: Global) -> (bool, [bool; 4], bool) {
-    let mut tree = bare_tree(alloc);
-    stays_known(&mut tree)
+    (first, known, is_known(tree))
 }
 
 #[test]
-fn what_is_known_of_a_leaf_stays_known(rt: HostRuntime) -> Result<(), Fail> {
+fn a_key_is_absent_or_added_to_and_its_leaf_stays_known(rt: HostRuntime) -> Result<(), Fail> {
+    assert_eq!(rt; on_bare(rt.alloc(), are_absent), [true; 3]);
+    assert_eq!(rt; on_bare(rt.alloc(), add_twice), [true; 3]);
     assert_eq!(rt;
-        stays_known_from_none(rt.alloc()),
-        (false, [true; 4], false)
+        on_bare(rt.alloc(), stays_known),
+        (false, [[true; 2]; 4], false)
     );
     Ok(())
 }

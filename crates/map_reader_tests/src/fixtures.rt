@@ -1,11 +1,10 @@
 //! A log of two epochs that was written by hand, in regions of 16,384 bytes.
 
-ghost use Rattle.std.specs.Prelude.{◌≡◌, ◌<◌, [], IfOk};
+ghost use Rattle.std.specs.Prelude.{◌≡◌, ◌<◌, [], IfOk, OnOk};
 ghost use Rattle.epoch_room.specs.Whole.{IsIdle};
 
-use log_disk::{FaultPlan, LogDisk, MemDisk};
+use log_disk::{DiskRefusal, FaultPlan, LogDisk, MemDisk};
 use std::alloc::Global;
-use std::test::Fail;
 
 /// Epoch 1, in region 1: the first puts of `a`, in bucket 97, and of `b`, in bucket 98.
 const FIRST: [u8; 117] =
@@ -33,27 +32,24 @@ fn changed<const N: usize>(bytes: [u8; N], here: u32, change: Change) -> [u8; N]
     bytes
 }
 
-fn write(disk: &mut MemDisk, change: Change) -> Result<(), Fail>
+/// Writes the log to a disk, and syncs it.
+fn fill(disk: &mut MemDisk, change: Change) -> Result<(), DiskRefusal>
     requires { (disk.old.disk.regions ≡ 4) × (disk.old.disk.region_len ≡ 16384) × (disk.old.disk.eyes ≡ []) }
-    ensures { (disk.new.disk.regions ≡ 4) × (disk.new.disk.region_len ≡ 16384) × (disk.new.disk.eyes ≡ []) }
+    ensures { OnOk result (IsIdle disk.new.disk) }
 {
-    disk.write(0, 0, &changed(SECOND, 0, change))
-        .ok()
-        .ok_or("write")?;
-    disk.write(1, 0, &changed(FIRST, 1, change))
-        .ok()
-        .ok_or("write")?;
+    disk.write(0, 0, &changed(SECOND, 0, change))?;
+    disk.write(1, 0, &changed(FIRST, 1, change))?;
+    disk.sync()?;
     Ok(())
 }
 
 /// A disk with the log, whose calls fail by a plan. Filling it takes two writes and a sync, and no read.
-pub fn disk_of(alloc: Global, change: Change, plan: FaultPlan) -> Result<MemDisk, Fail>
+pub fn disk_of(alloc: Global, change: Change, plan: FaultPlan) -> Result<MemDisk, DiskRefusal>
     ensures { IfOk result (λ idle. IsIdle idle.disk) }
 {
     let mut disk = MemDisk::new(alloc, 4, 16384, plan)?;
-    write(&mut disk, change)?;
-    match disk.sync() {
+    match fill(&mut disk, change) {
         Ok(()) => Ok(disk),
-        Err(_failed) => Err("sync")?,
+        Err(refusal) => Err(refusal),
     }
 }

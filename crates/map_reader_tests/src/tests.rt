@@ -1,15 +1,18 @@
 //! What no clause says: the text of a worked log, each call with ample memory, and calls that fail.
 
-ghost use Rattle.epoch_room.specs.Whole.{IsIdle};
+ghost use Rattle.std.specs.Prelude.{◌≡◌, true, OnOk};
+ghost use Rattle.std.specs.List.{list_all};
+ghost use Rattle.fine_model.specs.Boards.{is_empty};
 
 use crate::fixtures::Change::{Byte, Nothing};
 use crate::fixtures::{Change, disk_of};
-use fine_model::Pairs;
-use log_disk::{FaultPlan, MemDisk};
+use epoch_room::Room;
+use fine_model::{NoMemory, Pairs, RunFault};
+use log_disk::{DiskRefusal, FaultPlan, MemDisk};
 use map_reader::{dump_and_print, read_map};
 use reopen::open_log;
 use script_text::MemSink;
-use std::alloc::Global;
+use std::alloc::{AllocError, Global};
 use std::test::Fail;
 
 /// More than each text here has.
@@ -27,48 +30,81 @@ enum Failing {
 
 use Failing::{Eye, Header, Load, Output};
 
-fn plan_of(alloc: Global, failing: Failing) -> Result<FaultPlan, Fail> {
+fn plan_of(alloc: Global, failing: Failing) -> Result<FaultPlan, AllocError> {
     let mut plan = FaultPlan::none(alloc);
     match failing {
-        Header => plan.reads.push(1).ok().ok_or("memory")?,
-        Eye => plan.eyes.push(1).ok().ok_or("memory")?,
-        Load(read) => plan.eye_reads.push((1, read)).ok().ok_or("memory")?,
+        Header => plan.reads.push(1)?,
+        Eye => plan.eyes.push(1)?,
+        Load(read) => plan.eye_reads.push((1, read))?,
         _ => {}
     }
     Ok(plan)
 }
 
-fn sink_of(alloc: Global, failing: Failing) -> Result<MemSink, Fail> {
+fn sink_of(alloc: Global, failing: Failing) -> Result<MemSink, NoMemory> {
     let mut fails = Vec::new(alloc);
     if let Output = failing {
         fails.push(1)?;
     }
-    Ok(MemSink::new(alloc, ROOM, fails)?)
+    MemSink::new(alloc, ROOM, fails)
 }
 
-/// The text that a sink holds, with `|` for each line's end.
-fn text_of(alloc: Global, sink: &MemSink) -> Result<Vec<u8>, Fail> {
-    let mut text = Vec::new(alloc);
-    for byte in sink.bytes() {
-        text.push(if *byte == b'\n' { b'|' } else { *byte })?;
+/// Whether bytes are a text that has `|` for each line's end.
+fn is_text(bytes: &[u8], text: &str) -> bool {
+    let text = text.as_bytes();
+    let mut same = bytes.len() == text.len();
+    for (byte, wanted) in bytes.iter().zip(text) {
+        let byte = if *byte == b'\n' { b'|' } else { *byte };
+        same = same && byte == *wanted;
     }
-    Ok(text)
+    same
 }
 
-/// What is printed of the log, and the status.
-fn printed(alloc: Global, change: Change, failing: Failing) -> Result<(u8, Vec<u8>), Fail> {
+/// Prints the log, and answers the status.
+fn print(
+    alloc: Global,
+    sink: &mut MemSink,
+    change: Change,
+    failing: Failing,
+) -> Result<u8, DiskRefusal> {
     let plan = plan_of(alloc, failing)?;
     let disk = disk_of(alloc, change, plan)?;
-    let mut sink = sink_of(alloc, failing)?;
-    let (status, _disk) = dump_and_print(alloc, &mut sink, disk);
-    Ok((status, text_of(alloc, &sink)?))
+    let (status, _disk) = dump_and_print(alloc, sink, disk);
+    Ok(status)
+}
+
+/// The status, and whether what is printed of the log to a sink that has nothing is a text.
+fn prints_to(
+    alloc: Global,
+    sink: &mut MemSink,
+    change: Change,
+    failing: Failing,
+    text: &str,
+) -> Result<(u8, bool), DiskRefusal> {
+    let status = print(alloc, sink, change, failing)?;
+    Ok((status, is_text(sink.bytes(), text)))
+}
+
+fn prints(
+    alloc: Global,
+    change: Change,
+    failing: Failing,
+    text: &str,
+) -> Result<(u8, bool), DiskRefusal> {
+    let Ok(mut sink) = sink_of(alloc, failing) else {
+        return Err(DiskRefusal::NoMemory);
+    };
+    prints_to(alloc, &mut sink, change, failing, text)
+}
+
+fn byte(region: u32, at: usize, byte: u8) -> Change {
+    Byte { region, at, byte }
 }
 
 #[test]
 fn a_log_is_dumped(rt: HostRuntime) -> Result<(), Fail> {
     let alloc = rt.alloc();
     let all = "pair Bc = x|pair a = 1|pair b = 3|pair c = 4|pair cd = y|pair dE = z|pairs 6|";
-    let byte = |region, at, byte| Byte { region, at, byte };
     let table: [(Change, Failing, u8, &str); 11] = [
         (Nothing, Failing::None, 0, all),
         // the gate of epoch 2 is closed
@@ -93,40 +129,52 @@ fn a_log_is_dumped(rt: HostRuntime) -> Result<(), Fail> {
         (Nothing, Output, 5, ""),
     ];
     for (change, failing, status, text) in &table {
-        let found = printed(alloc, *change, *failing)?;
-        assert_eq!(rt; found.0, *status);
-        assert_eq!(rt; found.1.as_slice(), text.as_bytes());
+        let found = prints(alloc, *change, *failing, text)?;
+        assert_eq!(rt; found, (*status, true), "{text}");
     }
     Ok(())
 }
 
-/// The keys of pairs, one behind the other.
-fn keys_of(alloc: Global, pairs: &Pairs) -> Result<Vec<u8>, Fail> {
-    let mut keys = Vec::new(alloc);
+/// Whether the keys of pairs, one behind the other, are a text.
+fn have_keys(pairs: &Pairs, text: &[u8]) -> bool {
+    let mut rest = text;
     for pair in pairs.as_slice() {
-        for byte in pair.0.as_slice() {
-            keys.push(*byte)?;
+        match rest.strip_prefix(pair.0.as_slice()) {
+            Some(behind) => rest = behind,
+            None => return false,
         }
     }
-    Ok(keys)
+    rest.is_empty()
 }
 
-/// The keys that are read in one room, twice.
-fn read_twice(alloc: Global, disk: MemDisk) -> Result<(Vec<u8>, Vec<u8>), Fail>
-    requires { IsIdle disk.disk }
+/// Whether the keys that are read are a text.
+fn reads(alloc: Global, room: &mut Room<MemDisk>, text: &[u8]) -> Result<bool, RunFault>
+    requires { list_all is_empty room.old.room.board ≡ true }
+    ensures { OnOk result (list_all is_empty room.new.room.board ≡ true) }
 {
-    let mut room = open_log(alloc, disk).ok().ok_or("open")?;
-    let first = read_map(alloc, &mut room).ok().ok_or("first")?;
-    let second = read_map(alloc, &mut room).ok().ok_or("second")?;
-    Ok((keys_of(alloc, &first)?, keys_of(alloc, &second)?))
+    let pairs = read_map(alloc, room)?;
+    Ok(have_keys(&pairs, text))
+}
+
+/// The same in one room, twice.
+fn reads_twice(alloc: Global, room: &mut Room<MemDisk>, text: &[u8]) -> Result<[bool; 2], RunFault>
+    requires { list_all is_empty room.old.room.board ≡ true }
+{
+    let first = reads(alloc, room, text)?;
+    Ok([first, reads(alloc, room, text)?])
+}
+
+/// The same in a room of the log.
+fn log_reads_twice(alloc: Global, text: &[u8]) -> Result<[bool; 2], Fail> {
+    let disk = disk_of(alloc, Nothing, FaultPlan::none(alloc))?;
+    match open_log(alloc, disk) {
+        Ok(mut room) => Ok(reads_twice(alloc, &mut room, text)?),
+        Err(_fault) => Err("open")?,
+    }
 }
 
 #[test]
 fn a_room_is_read_twice(rt: HostRuntime) -> Result<(), Fail> {
-    let alloc = rt.alloc();
-    let disk = disk_of(alloc, Nothing, FaultPlan::none(alloc))?;
-    let (first, second) = read_twice(alloc, disk)?;
-    assert_eq!(rt; first.as_slice(), b"BcabccddE".as_slice());
-    assert_eq!(rt; second.as_slice(), first.as_slice());
+    assert_eq!(rt; log_reads_twice(rt.alloc(), b"BcabccddE")?, [true; 2]);
     Ok(())
 }

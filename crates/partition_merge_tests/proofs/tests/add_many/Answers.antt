@@ -7,7 +7,7 @@ use Rattle.fine_model.specs.RowBytes.{FitsRec}
 use Rattle.partition_merge.specs.Merging.{FitRows}
 use Rattle.fine_model.proofs.Ordered.Sets.{all_append}
 use Rattle.fine_model.proofs.Ordered.Order.{all_map, first_of_both}
-use Rattle.partition_merge_tests.proofs.tests.many.Goals as goal
+use Rattle.partition_merge_tests.proofs.tests.add_many.Goals as goal
 
 -- a row behind rows that are all below it
 ordered_more : (rows : List Row) (row : Row) → IsTrue (is_ordered rows) → AllByRecursion (λ r. is_row_below r row ≡ true) rows → IsTrue (is_ordered (rows ++ row ∷ []))
@@ -27,9 +27,9 @@ loop-i-preserved c =
     let row = c.in_ok-row.row in
     let node = c.in_ok-row.ensures.node in
     let pushed : c.push.new.self ≡ c.loop-i.rows ++ row ∷ [] = search rules in
-    let Low : Row → Type 0 = λ r. (r.node.bucket ≡ 97) × (r.node.number < c.args.first + c.loop-i.i) in
-    let Lower : Row → Type 0 = λ r. (r.node.bucket ≡ 97) × (r.node.number < c.args.first + (c.loop-i.i + 1)) in
-    let below : (r : Row) → Low r → is_row_below r row ≡ true = λ r h. row_below r row (c.args.first + c.loop-i.i) h.0 h.1 (ap (λ n. n.bucket) node) (ap (λ n. n.number) node) in
+    let Low : Row → Type 0 = λ r. (r.node.bucket ≡ 97) × (r.node.number < c.args.puts.0 + c.loop-i.i) in
+    let Lower : Row → Type 0 = λ r. (r.node.bucket ≡ 97) × (r.node.number < c.args.puts.0 + (c.loop-i.i + 1)) in
+    let below : (r : Row) → Low r → is_row_below r row ≡ true = λ r h. row_below r row (c.args.puts.0 + c.loop-i.i) h.0 h.1 (ap (λ n. n.bucket) node) (ap (λ n. n.number) node) in
     record {
       order = subst (λ rows. IsTrue (is_ordered rows)) (sym pushed) (ordered_more c.loop-i.rows row kept.order (all_map Low (λ r. is_row_below r row ≡ true) below c.loop-i.rows kept.so_far));
       fit = subst FitRows (sym pushed) (all_append (λ r. FitsRec r.rec) c.loop-i.rows (row ∷ []) kept.fit (c.in_ok-row.ensures.rec, tt));

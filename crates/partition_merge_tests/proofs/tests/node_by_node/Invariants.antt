@@ -3,8 +3,8 @@ use Rattle.partition_index.specs.Parts.{SameEye}
 use Rattle.partition_merge.specs.Mergers.{AreKept, both_left, older_part, newer_part}
 use Rattle.partition_merge_tests.proofs.tests.node_by_node.Given as goal
 
-abbrev pub invariant-loop-all : goal.invariant-loop-all
-invariant-loop-all g l = record {
+abbrev pub invariant-loop-rows : goal.invariant-loop-rows
+invariant-loop-rows g l = record {
   same : SameEye (g.E.LogEye.state l.initial.eye) (g.E.LogEye.state l.eye);
   older : older_part l.pass ≡ older_part l.fn.merger;
   newer : newer_part l.pass ≡ newer_part l.fn.merger;
@@ -12,5 +12,5 @@ invariant-loop-all g l = record {
   kept : AreKept (g.E.LogEye.state l.initial.eye).told l.pass;
 }
 
-abbrev pub decreases-loop-all : goal.decreases-loop-all
-decreases-loop-all g l = both_left l.pass
+abbrev pub decreases-loop-rows : goal.decreases-loop-rows
+decreases-loop-rows g l = both_left l.pass

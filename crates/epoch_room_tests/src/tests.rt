@@ -9,7 +9,7 @@ ghost use Rattle.partition_hold.specs.Views.{SameView, opened};
 ghost use Rattle.partition_merge.specs.Mergers.{IsCounted};
 
 use epoch_room::{Counts, EraseFault, Fit, Room, RoomFault, Stamp};
-use fine_model::{Bytes, Items, Job, Node, NodeId, Rec, Row};
+use fine_model::{Bytes, Items, Job, NoMemory, Node, NodeId, Pairs, Rec, Row};
 use log_disk::{FaultPlan, FileDisk, LogDisk, LogEye, MemDisk};
 use partition_hold::View;
 use partition_merge::Measure;
@@ -20,10 +20,31 @@ use std::test::Fail;
 
 const MOST: u64 = u64::MAX;
 
-// ---- rooms in memory, and epochs
+// What is missing where a test does not come to what it asks.
+#[derive(Clone, Copy, Debug)]
+enum Missing {
+    Memory,
+    Fit,
+    Seal,
+    Rows,
+    Neighbours,
+    Regions,
+    Write,
+    Merge,
+    View,
+    File,
+}
+
+impl From<NoMemory> for Missing {
+    fn from(_refused: NoMemory) -> Missing {
+        Missing::Memory
+    }
+}
+
+// ---- rooms in memory, and epochs; a room that is owned has one exit, since its drop at each costs a check seconds, and its steps borrow it
 
 // A room on a new disk of four regions, each of whose calls fails from a number on.
-fn new_room(alloc: Global, region_len: u64, stop: u64) -> Result<Room<MemDisk>, Fail>
+fn new_room(alloc: Global, region_len: u64, stop: u64) -> Result<Room<MemDisk>, Missing>
     requires low { 4096 ≤ region_len }
     requires high { region_len ≤ 67108864 }
     requires whole { region_len % 1024 ≡ 0 }
@@ -31,63 +52,90 @@ fn new_room(alloc: Global, region_len: u64, stop: u64) -> Result<Room<MemDisk>, 
 {
     let mut plan = FaultPlan::none(alloc);
     plan.stop = stop;
-    let disk = MemDisk::new(alloc, 4, region_len, plan)?;
+    let Ok(disk) = MemDisk::new(alloc, 4, region_len, plan) else {
+        return Err(Missing::Memory);
+    };
     match Room::make(alloc, disk, Items::new(alloc), Items::new(alloc)) {
         Ok(room) => Ok(room),
-        Err(_refused) => Err("memory")?,
+        Err(_refused) => Err(Missing::Memory),
     }
 }
 
-fn text(alloc: Global, text: &[u8]) -> Result<Bytes, Fail>
+fn text(alloc: Global, text: &[u8]) -> Result<Bytes, NoMemory>
     ensures { IfOk result (λ b. b ≡ text.now) }
 {
-    Ok(Items::from_vec(Vec::from_slice(alloc, text).ok().ok_or("memory")?))
+    Ok(Items::from_vec(Vec::from_slice(alloc, text)?))
 }
 
-// `put a 1` in a node, alone.
+// `put a 1` in a node.
 #[tactic(auto, unfolding(fine_model::specs::RowBytes::body))]
-fn put(alloc: Global, number: u32) -> Result<PrivateLog, Fail>
+fn put(alloc: Global, number: u32) -> Result<Row, NoMemory>
     requires low { 1 ≤ number }
     requires high { number < 8 }
-    ensures { IfOk result (AllByRecursion (FitsRow mark.Two)) }
+    ensures { IfOk result (FitsRow mark.Two) }
 {
     let key = text(alloc, b"a")?;
     let value = text(alloc, b"1")?;
-    let mut log = PrivateLog::new(alloc);
-    let row = Row {
+    Ok(Row {
         node: NodeId { bucket: 97, number },
         version: 1,
         rec: Rec::Put { key, value },
-    };
-    log.push(&row).ok().ok_or("memory")?;
-    Ok(log)
+    })
+}
+
+// Adds such a row to a log that has none.
+fn add_put(log: &mut PrivateLog, alloc: Global, number: u32) -> Result<(), NoMemory>
+    requires none { log.old ≡ [] }
+    requires low { 1 ≤ number }
+    requires high { number < 8 }
+    ensures { OnOk result (AllByRecursion (FitsRow mark.Two) log.new) }
+{
+    let row = put(alloc, number)?;
+    log.keep(row)
 }
 
 #[tactic(auto, unfolding(epoch_room::specs::Steps::appended))]
-fn commit<D: LogDisk>(room: &mut Room<D>, log: &PrivateLog) -> Result<Stamp, Fail>
+fn commit<D: LogDisk>(room: &mut Room<D>, log: &PrivateLog) -> Result<Stamp, Missing>
     requires { AllByRecursion (FitsRow mark.Two) log.now }
     ensures waits { OnOk result (1 ≤ room.new.room.waiting) }
     ensures same { (room.new.room.board ≡ room.old.room.board) × (room.new.room.job ≡ room.old.room.job) × (is_some room.new.room.image ≡ is_some room.old.room.image) }
 {
     match room.fit(log.cost()) {
         Fit::Fits => Ok(room.append(log)),
-        _ => Err("fit")?,
+        _ => Err(Missing::Fit),
     }
 }
 
-// An entry more, in a node.
-fn commit_one<D: LogDisk>(room: &mut Room<D>, alloc: Global, number: u32) -> Result<Stamp, Fail>
+// Adds a row to a log, and an entry of it to a room.
+fn commit_by<D: LogDisk>(
+    room: &mut Room<D>,
+    log: &mut PrivateLog,
+    alloc: Global,
+    number: u32,
+) -> Result<Stamp, Missing>
+    requires none { log.old ≡ [] }
     requires low { 1 ≤ number }
     requires high { number < 8 }
     ensures waits { OnOk result (1 ≤ room.new.room.waiting) }
     ensures same { OnOk result ((room.new.room.board ≡ room.old.room.board) × (room.new.room.job ≡ room.old.room.job) × (is_some room.new.room.image ≡ is_some room.old.room.image)) }
 {
-    let log = put(alloc, number)?;
-    commit(room, &log)
+    add_put(log, alloc, number)?;
+    commit(room, log)
+}
+
+// An entry more, in a node.
+fn commit_one<D: LogDisk>(room: &mut Room<D>, alloc: Global, number: u32) -> Result<Stamp, Missing>
+    requires low { 1 ≤ number }
+    requires high { number < 8 }
+    ensures waits { OnOk result (1 ≤ room.new.room.waiting) }
+    ensures same { OnOk result ((room.new.room.board ≡ room.old.room.board) × (room.new.room.job ≡ room.old.room.job) × (is_some room.new.room.image ≡ is_some room.old.room.image)) }
+{
+    let mut log = PrivateLog::new(alloc);
+    commit_by(room, &mut log, alloc, number)
 }
 
 // An epoch more of one entry, in a node.
-fn seal_one<D: LogDisk>(room: &mut Room<D>, alloc: Global, number: u32) -> Result<Stamp, Fail>
+fn seal_one<D: LogDisk>(room: &mut Room<D>, alloc: Global, number: u32) -> Result<Stamp, Missing>
     requires low { 1 ≤ number }
     requires high { number < 8 }
     ensures { OnOk result ((room.new.room.board ≡ room.old.room.board) × (room.new.room.job ≡ room.old.room.job) × (is_some room.new.room.image ≡ is_some room.old.room.image)) }
@@ -95,12 +143,12 @@ fn seal_one<D: LogDisk>(room: &mut Room<D>, alloc: Global, number: u32) -> Resul
     let stamp = commit_one(room, alloc, number)?;
     match room.seal() {
         Ok(_epoch) => Ok(stamp),
-        Err(_fault) => Err("seal")?,
+        Err(_fault) => Err(Missing::Seal),
     }
 }
 
 // Two epochs more, which take four calls of the disk each.
-fn seal_two<D: LogDisk>(room: &mut Room<D>, alloc: Global) -> Result<(), Fail>
+fn seal_two<D: LogDisk>(room: &mut Room<D>, alloc: Global) -> Result<(), Missing>
     ensures { OnOk result ((room.new.room.board ≡ room.old.room.board) × (room.new.room.job ≡ room.old.room.job) × (is_some room.new.room.image ≡ is_some room.old.room.image)) }
 {
     seal_one(room, alloc, 1)?;
@@ -108,19 +156,10 @@ fn seal_two<D: LogDisk>(room: &mut Room<D>, alloc: Global) -> Result<(), Fail>
     Ok(())
 }
 
-// A new room with two epochs, each of whose calls fails from a number on.
-fn room_of_two(alloc: Global, stop: u64) -> Result<Room<MemDisk>, Fail>
-    ensures { IfOk result (λ room. (room.room.board ≡ None ∷ None ∷ None ∷ []) × (room.room.job ≡ None)) }
-{
-    let mut room = new_room(alloc, 4096, stop)?;
-    seal_two(&mut room, alloc)?;
-    Ok(room)
-}
-
 // ---- a new room, and its first epoch
 
 // Whether an epoch's entries of these bytes fit into a new room.
-fn fit_anew(alloc: Global, cost: u64) -> Result<Fit, Fail> {
+fn fit_anew(alloc: Global, cost: u64) -> Result<Fit, Missing> {
     let room = new_room(alloc, 4096, MOST)?;
     Ok(room.fit(cost))
 }
@@ -150,12 +189,21 @@ fn first_bytes(room: Room<MemDisk>) -> [u8; 79]
     bytes
 }
 
-// How a new room's first epoch of one entry is sealed: its stamp, the room in numbers, and the disk's bytes.
-fn first_epoch(alloc: Global) -> Result<(Stamp, Counts, [u8; 79]), Fail> {
+// How a new room's first epoch of one entry is sealed: its stamp, and the room in numbers.
+fn seal_first(room: &mut Room<MemDisk>, alloc: Global) -> Result<(Stamp, Counts), Missing>
+    ensures { OnOk result ((room.new.room.board ≡ room.old.room.board) × (room.new.room.job ≡ room.old.room.job)) }
+{
+    let stamp = seal_one(room, alloc, 1)?;
+    Ok((stamp, room.counts()))
+}
+
+// The same, and the disk's bytes.
+fn first_epoch(alloc: Global) -> Result<((Stamp, Counts), [u8; 79]), Missing> {
     let mut room = new_room(alloc, 4_194_304, MOST)?;
-    let stamp = seal_one(&mut room, alloc, 1)?;
-    let counts = room.counts();
-    Ok((stamp, counts, first_bytes(room)))
+    match seal_first(&mut room, alloc) {
+        Ok(sealed) => Ok((sealed, first_bytes(room))),
+        Err(missing) => Err(missing),
+    }
 }
 
 #[test]
@@ -173,15 +221,16 @@ fn an_epoch_is_a_partition(rt: HostRuntime) -> Result<(), Fail> {
         place: 1,
         waiting: 0,
     };
-    let (stamp, counted, bytes) = first_epoch(rt.alloc())?;
-    assert_eq!(rt; stamp, Stamp { place: 1, epoch: 1 });
-    assert_eq!(rt; counted, counts);
+    let (sealed, bytes) = first_epoch(rt.alloc())?;
+    assert_eq!(rt; sealed, (Stamp { place: 1, epoch: 1 }, counts));
     assert_eq!(rt; bytes, vector);
     Ok(())
 }
 
+type Twice = (Result<u64, RoomFault>, Result<u64, RoomFault>, Fit);
+
 // Seals, and where that fails, again: what that answers, and whether a row would fit then.
-fn seal_twice(room: &mut Room<MemDisk>) -> (Result<u64, RoomFault>, Result<u64, RoomFault>, Fit)
+fn seal_twice(room: &mut Room<MemDisk>) -> Twice
     requires { 1 ≤ room.old.room.waiting }
 {
     let first = room.seal();
@@ -194,14 +243,16 @@ fn seal_twice(room: &mut Room<MemDisk>) -> (Result<u64, RoomFault>, Result<u64, 
     }
 }
 
-// Seals an epoch of one entry twice, on a disk whose calls fail from a number on.
-fn sealed_twice(
-    alloc: Global,
-    stop: u64,
-) -> Result<(Result<u64, RoomFault>, Result<u64, RoomFault>, Fit), Fail> {
+// Seals an epoch of one entry twice.
+fn seal_one_twice(room: &mut Room<MemDisk>, alloc: Global) -> Result<Twice, Missing> {
+    commit_one(room, alloc, 1)?;
+    Ok(seal_twice(room))
+}
+
+// The same in a new room, on a disk whose calls fail from a number on.
+fn sealed_twice(alloc: Global, stop: u64) -> Result<Twice, Missing> {
     let mut room = new_room(alloc, 4096, stop)?;
-    commit_one(&mut room, alloc, 1)?;
-    Ok(seal_twice(&mut room))
+    seal_one_twice(&mut room, alloc)
 }
 
 #[test]
@@ -234,30 +285,41 @@ fn measure(area: u32, ordered: bool) -> Measure
 }
 
 // Whether a job takes its regions, how many are free then, and how many once it is given up.
-fn take_and_drop<D: LogDisk>(
-    room: &mut Room<D>,
-    area: u32,
-    ordered: bool,
-) -> Result<(bool, u32, u32), Fail>
+type Taken = (bool, u32, u32);
+
+fn take_and_drop<D: LogDisk>(room: &mut Room<D>, measure: Measure) -> Result<Taken, Missing>
+    requires counted { IsCounted measure }
     requires job { room.old.room.job ≡ None }
-    ensures { OnOk result (room.new.room.job ≡ None) }
 {
-    if area == 0 {
-        return Err("no rows")?;
-    }
     let Some(mut job) = room.merge_pick(1) else {
-        return Err("neighbours")?;
+        return Err(Missing::Neighbours);
     };
-    let taken = room.merge_take(&mut job, measure(area, ordered));
+    let taken = room.merge_take(&mut job, measure);
     let free = room.counts().free;
     room.merge_drop(job);
     Ok((taken, free, room.counts().free))
 }
 
-// The same in a room of two epochs.
-fn taken_and_dropped(alloc: Global, area: u32, ordered: bool) -> Result<(bool, u32, u32), Fail> {
-    let mut room = room_of_two(alloc, MOST)?;
-    take_and_drop(&mut room, area, ordered)
+// The same behind two epochs.
+fn take_of_two<D: LogDisk>(
+    room: &mut Room<D>,
+    alloc: Global,
+    measure: Measure,
+) -> Result<Taken, Missing>
+    requires counted { IsCounted measure }
+    requires job { room.old.room.job ≡ None }
+{
+    seal_two(room, alloc)?;
+    take_and_drop(room, measure)
+}
+
+// The same in a new room.
+fn taken_and_dropped(alloc: Global, area: u32, ordered: bool) -> Result<Taken, Missing> {
+    if area == 0 {
+        return Err(Missing::Rows);
+    }
+    let mut room = new_room(alloc, 4096, MOST)?;
+    take_of_two(&mut room, alloc, measure(area, ordered))
 }
 
 #[test]
@@ -278,7 +340,7 @@ fn a_job_takes_regions_and_gives_them_back(rt: HostRuntime) -> Result<(), Fail> 
 }
 
 // A job that has taken its regions, for the body of a part of one row.
-fn taken_job<D: LogDisk>(room: &mut Room<D>) -> Result<Job, Fail>
+fn taken_job<D: LogDisk>(room: &mut Room<D>) -> Result<Job, Missing>
     requires job { room.old.room.job ≡ None }
     ensures out { IfOk result (λ job. room.new.room.job ≡ Some job) }
     ensures taken { IfOk result (λ job. IsSome job.header) }
@@ -286,10 +348,10 @@ fn taken_job<D: LogDisk>(room: &mut Room<D>) -> Result<Job, Fail>
     ensures same { (room.new.room.board ≡ room.old.room.board) × (is_some room.new.room.image ≡ is_some room.old.room.image) }
 {
     let Some(mut job) = room.merge_pick(1) else {
-        return Err("neighbours")?;
+        return Err(Missing::Neighbours);
     };
     if !room.merge_take(&mut job, measure(24, true)) {
-        return Err("regions")?;
+        return Err(Missing::Regions);
     }
     Ok(job)
 }
@@ -311,7 +373,7 @@ type Written = (Result<(), RoomFault>, Result<(), RoomFault>, u32, u32);
 
 // Writes four bytes for a job, twice: what the calls answer, how many bytes the job counts, and how many regions are free once it is
 // given up.
-fn write_twice<D: LogDisk>(room: &mut Room<D>) -> Result<Written, Fail>
+fn write_twice<D: LogDisk>(room: &mut Room<D>) -> Result<Written, Missing>
     requires job { room.old.room.job ≡ None }
 {
     let mut job = taken_job(room)?;
@@ -322,10 +384,18 @@ fn write_twice<D: LogDisk>(room: &mut Room<D>) -> Result<Written, Fail>
     Ok((first, second, written, room.counts().free))
 }
 
-// The same in a room of two epochs, each of whose calls fails from a number on.
-fn written_twice(alloc: Global, stop: u64) -> Result<Written, Fail> {
-    let mut room = room_of_two(alloc, stop)?;
-    write_twice(&mut room)
+// The same behind two epochs.
+fn write_of_two<D: LogDisk>(room: &mut Room<D>, alloc: Global) -> Result<Written, Missing>
+    requires { room.old.room.job ≡ None }
+{
+    seal_two(room, alloc)?;
+    write_twice(room)
+}
+
+// The same in a new room, each of whose calls fails from a number on.
+fn written_twice(alloc: Global, stop: u64) -> Result<Written, Missing> {
+    let mut room = new_room(alloc, 4096, stop)?;
+    write_of_two(&mut room, alloc)
 }
 
 #[test]
@@ -355,14 +425,16 @@ fn fresh_path(rt: &HostRuntime) -> Result<String, Fail> {
 }
 
 // A room on a new file of five regions.
-fn file_room(rt: &HostRuntime, path: &str) -> Result<Room<FileDisk<HostRuntime>>, Fail>
+fn file_room(rt: &HostRuntime, path: &str) -> Result<Room<FileDisk<HostRuntime>>, Missing>
     ensures { IfOk result (λ room. (room.room.board ≡ None ∷ None ∷ None ∷ []) × (room.room.job ≡ None) × (is_some room.room.image ≡ false)) }
 {
     let alloc = rt.alloc();
-    let disk = FileDisk::make(rt, alloc, path, 5, 4096)?;
+    let Ok(disk) = FileDisk::make(rt, alloc, path, 5, 4096) else {
+        return Err(Missing::File);
+    };
     match Room::make(alloc, disk, Items::new(alloc), Items::new(alloc)) {
         Ok(room) => Ok(room),
-        Err(_refused) => Err("memory")?,
+        Err(_refused) => Err(Missing::Memory),
     }
 }
 
@@ -375,7 +447,7 @@ fn nine() -> [u8; 38] {
 }
 
 // A job whose part is written to its end.
-fn written_job<D: LogDisk>(room: &mut Room<D>) -> Result<Job, Fail>
+fn written_job<D: LogDisk>(room: &mut Room<D>) -> Result<Job, Missing>
     requires job { room.old.room.job ≡ None }
     ensures out { IfOk result (λ job. room.new.room.job ≡ Some job) }
     ensures taken { IfOk result (λ job. IsSome job.header) }
@@ -386,12 +458,12 @@ fn written_job<D: LogDisk>(room: &mut Room<D>) -> Result<Job, Fail>
     let _whole = room.counts();
     match room.merge_write(&mut job, &nine()) {
         Ok(()) => Ok(job),
-        Err(_fault) => Err("write")?,
+        Err(_fault) => Err(Missing::Write),
     }
 }
 
 // Seals the part of a job.
-fn finish<D: LogDisk>(room: &mut Room<D>, job: Job) -> Result<(), Fail>
+fn finish<D: LogDisk>(room: &mut Room<D>, job: Job) -> Result<(), Missing>
     requires out { room.old.room.job ≡ Some job }
     requires taken { IsSome job.header }
     requires total { IfSome job.header (λ header. job.written ≡ body_len header) }
@@ -400,47 +472,57 @@ fn finish<D: LogDisk>(room: &mut Room<D>, job: Job) -> Result<(), Fail>
 {
     match room.merge_seal(job) {
         Ok(()) => Ok(()),
-        Err(_refused) => Err("merge")?,
+        Err(_refused) => Err(Missing::Merge),
     }
 }
 
 // A view for the first seat, which has no other.
-fn view_one<D: LogDisk>(room: &mut Room<D>) -> Result<View<D::Eye>, Fail>
+fn view_one<D: LogDisk>(room: &mut Room<D>) -> Result<View<D::Eye>, Missing>
     requires { room.old.room.board ≡ None ∷ None ∷ None ∷ [] }
     ensures board { IfOk result (λ view. (view.seat ≡ 1) × (view.buffer ≡ 0) × (room.new.room.board ≡ Some (opened view.eye) ∷ None ∷ None ∷ [])) }
     ensures same { (room.new.room.job ≡ room.old.room.job) × (is_some room.new.room.image ≡ is_some room.old.room.image) }
 {
     match room.view_for(1) {
         Ok(view) => Ok(view),
-        Err(_fault) => Err("view")?,
+        Err(_fault) => Err(Missing::View),
     }
 }
 
-// A view of two parts, which are merged after it was made; two epochs are sealed while the merge is out.
-fn merged_under<D: LogDisk>(room: &mut Room<D>, alloc: Global) -> Result<View<D::Eye>, Fail>
-    requires board { room.old.room.board ≡ None ∷ None ∷ None ∷ [] }
+// Merges two parts; two epochs are sealed while the merge is out.
+fn merge_under<D: LogDisk>(room: &mut Room<D>, alloc: Global) -> Result<(), Missing>
     requires job { room.old.room.job ≡ None }
     requires untold { is_some room.old.room.image ≡ false }
-    ensures { IfOk result (λ view. (view.seat ≡ 1) × (view.buffer ≡ 0) × (room.new.room.board ≡ Some (opened view.eye) ∷ None ∷ None ∷ [])) }
+    ensures { OnOk result (room.new.room.board ≡ room.old.room.board) }
 {
-    let view = view_one(room)?;
     let job = written_job(room)?;
     seal_one(room, alloc, 3)?;
     seal_one(room, alloc, 4)?;
-    finish(room, job)?;
-    Ok(view)
+    finish(room, job)
 }
 
-// The leaf of a text at the key `a`.
-fn leaf_of(alloc: Global, value: &[u8; 1]) -> Result<Node, Fail> {
-    let pair = (text(alloc, b"a")?, text(alloc, value)?);
-    let mut pairs = Items::new(alloc);
-    pairs.push(pair).ok().ok_or("memory")?;
-    Ok(Node::Leaf { pairs })
+// The value of the key `a`, where pairs are this one with a value of one byte.
+fn value_in(pairs: &Pairs) -> Option<u8> {
+    if pairs.len() != 1 {
+        return None;
+    }
+    let (key, value) = pairs.at(0);
+    if key.as_slice() == b"a".as_slice() && value.len() == 1 {
+        Some(*value.at(0))
+    } else {
+        None
+    }
 }
 
-// What a view reads of node 1.
-fn read_one<E: LogEye>(view: &mut View<E>) -> Option<Node>
+// The same of a node, where it is a leaf.
+fn value_of(node: Node) -> Option<u8> {
+    match node {
+        Node::Leaf { pairs } => value_in(&pairs),
+        _ => None,
+    }
+}
+
+// What a view reads of node 1, where it is a leaf of one pair.
+fn read_one<E: LogEye>(view: &mut View<E>) -> Option<u8>
     ensures { SameView view.old view.new }
 {
     let node = NodeId {
@@ -448,7 +530,7 @@ fn read_one<E: LogEye>(view: &mut View<E>) -> Option<Node>
         number: 1,
     };
     match view.fetch(node) {
-        Ok((found, _version)) => Some(found),
+        Ok((found, _version)) => value_of(found),
         Err(_fault) => None,
     }
 }
@@ -467,7 +549,7 @@ fn erase_first<D: LogDisk>(room: &mut Room<D>) -> Erased
 fn held_until_back<D: LogDisk>(
     room: &mut Room<D>,
     mut view: View<D::Eye>,
-) -> (Option<Node>, Erased, Erased)
+) -> (Option<u8>, Erased, Erased)
     requires place { (view.seat ≡ 1) × (view.buffer ≡ 0) }
     requires board { room.old.room.board ≡ Some (opened view.eye) ∷ None ∷ None ∷ [] }
     ensures { room.new.room.board ≡ None ∷ None ∷ None ∷ [] }
@@ -478,30 +560,50 @@ fn held_until_back<D: LogDisk>(
     (read, held, erase_first(room))
 }
 
-type Shown = ((Option<Node>, Erased, Erased), Option<Node>, Counts);
+// What a new view reads.
+fn read_anew<D: LogDisk>(room: &mut Room<D>) -> Result<Option<u8>, Missing>
+    requires { room.old.room.board ≡ None ∷ None ∷ None ∷ [] }
+{
+    let mut view = view_one(room)?;
+    Ok(read_one(&mut view))
+}
 
-// The same of a view that was made before a merge, then what a new view reads, and the room in numbers.
-fn across_a_merge<D: LogDisk>(room: &mut Room<D>, alloc: Global) -> Result<Shown, Fail>
+type Shown = ((Option<u8>, Erased, Erased), Counts, Option<u8>);
+
+// The same of a view that is out while its parts are merged, then the room in numbers, and what a new view reads.
+fn across_a_merge<D: LogDisk>(room: &mut Room<D>, alloc: Global) -> Result<Shown, Missing>
     requires board { room.old.room.board ≡ None ∷ None ∷ None ∷ [] }
     requires job { room.old.room.job ≡ None }
     requires untold { is_some room.old.room.image ≡ false }
 {
     seal_two(room, alloc)?;
-    let view = merged_under(room, alloc)?;
+    let view = view_one(room)?;
+    merge_under(room, alloc)?;
     let old = held_until_back(room, view);
-    let counts = room.counts();
-    let mut view = view_one(room)?;
-    Ok((old, read_one(&mut view), counts))
+    Ok((old, room.counts(), read_anew(room)?))
 }
 
 // The same in a room on a new file.
-fn shown_on_file(rt: &HostRuntime, path: &str) -> Result<Shown, Fail> {
+fn shown_on_file(rt: &HostRuntime, path: &str) -> Result<Shown, Missing> {
     let mut room = file_room(rt, path)?;
     across_a_merge(&mut room, rt.alloc())
 }
 
-// What that has to be: the older view reads the older value and holds its parts, and the newer one reads the merged part.
-fn to_be_shown(alloc: Global) -> Result<Shown, Fail> {
+// The same, and the file is gone then.
+fn shown_at(rt: &HostRuntime, path: &str) -> Result<Shown, Fail> {
+    let shown = shown_on_file(rt, path)?;
+    fs::remove_file(rt, path)?;
+    Ok(shown)
+}
+
+fn shown(rt: &HostRuntime) -> Result<Shown, Fail> {
+    let path = fresh_path(rt)?;
+    shown_at(rt, path.as_str())
+}
+
+// The older view reads the older value and holds its parts, and the newer one reads the merged part.
+#[test]
+fn a_view_from_before_a_merge_reads_and_holds_its_parts(rt: HostRuntime) -> Result<(), Fail> {
     let counts = Counts {
         free: 1,
         live: 3,
@@ -511,45 +613,35 @@ fn to_be_shown(alloc: Global) -> Result<Shown, Fail> {
         waiting: 0,
     };
     let held = Err(EraseFault::Held { seat: 1, buffer: 0 });
-    let before = leaf_of(alloc, b"1")?;
-    let after = leaf_of(alloc, b"9")?;
-    Ok((
-        (Some(before), Some(held), Some(Ok(()))),
-        Some(after),
-        counts,
-    ))
-}
-
-#[test]
-fn a_view_from_before_a_merge_reads_and_holds_its_parts(rt: HostRuntime) -> Result<(), Fail> {
-    let path = fresh_path(&rt)?;
-    let shown = shown_on_file(&rt, path.as_str())?;
-    assert_eq!(rt; shown, to_be_shown(rt.alloc())?);
-    fs::remove_file(&rt, path.as_str())?;
+    let old = (Some(b'1'), Some(held), Some(Ok(())));
+    assert_eq!(rt; shown(&rt)?, (old, counts, Some(b'9')));
     Ok(())
 }
 
 // ---- a board of several seats
 
 // A view for the first of two seats, whose buffers are all empty.
-fn view_first<D: LogDisk>(room: &mut Room<D>) -> Result<View<D::Eye>, Fail>
+fn view_first<D: LogDisk>(room: &mut Room<D>) -> Result<View<D::Eye>, Missing>
     requires { room.old.room.board ≡ None ∷ None ∷ None ∷ None ∷ None ∷ None ∷ [] }
     ensures { IfOk result (λ view. (view.seat ≡ 1) × (view.buffer ≡ 0) × (room.new.room.board ≡ Some (opened view.eye) ∷ None ∷ None ∷ None ∷ None ∷ None ∷ [])) }
 {
     match room.view_for(1) {
         Ok(view) => Ok(view),
-        Err(_fault) => Err("view")?,
+        Err(_fault) => Err(Missing::View),
     }
 }
 
 // A view for the second of two seats, while the first one has one.
-fn view_second<D: LogDisk>(room: &mut Room<D>, first: &View<D::Eye>) -> Result<View<D::Eye>, Fail>
+fn view_second<D: LogDisk>(
+    room: &mut Room<D>,
+    first: &View<D::Eye>,
+) -> Result<View<D::Eye>, Missing>
     requires { room.old.room.board ≡ Some (opened first.now.eye) ∷ None ∷ None ∷ None ∷ None ∷ None ∷ [] }
     ensures { IfOk result (λ view. (view.seat ≡ 2) × (view.buffer ≡ 0) × (room.new.room.board ≡ Some (opened first.now.eye) ∷ None ∷ None ∷ Some (opened view.eye) ∷ None ∷ None ∷ [])) }
 {
     match room.view_for(2) {
         Ok(view) => Ok(view),
-        Err(_fault) => Err("view")?,
+        Err(_fault) => Err(Missing::View),
     }
 }
 
@@ -565,10 +657,10 @@ fn take_both_back<D: LogDisk>(room: &mut Room<D>, first: View<D::Eye>, second: V
 }
 
 // The seats and buffers of a view for each of two seats; once both came back, the board is that of a third seat too.
-fn two_seats<D: LogDisk>(room: &mut Room<D>) -> Result<[(u32, u8); 2], Fail>
+fn two_seats<D: LogDisk>(room: &mut Room<D>) -> Result<[(u32, u8); 2], Missing>
     requires { room.old.room.board ≡ None ∷ None ∷ None ∷ [] }
 {
-    room.set_seats(2).ok().ok_or("seats")?;
+    room.set_seats(2)?;
     let first = view_first(room)?;
     let second = view_second(room, &first)?;
     let places = [
@@ -576,14 +668,21 @@ fn two_seats<D: LogDisk>(room: &mut Room<D>) -> Result<[(u32, u8); 2], Fail>
         (second.seat(), second.buffer()),
     ];
     take_both_back(room, first, second);
-    room.set_seats(3).ok().ok_or("seats")?;
+    room.set_seats(3)?;
     Ok(places)
 }
 
-// The same in a room of two epochs.
-fn two_seats_of_two(alloc: Global) -> Result<[(u32, u8); 2], Fail> {
-    let mut room = room_of_two(alloc, MOST)?;
-    two_seats(&mut room)
+// The same in a new room of two epochs.
+fn seat_of_two<D: LogDisk>(room: &mut Room<D>, alloc: Global) -> Result<[(u32, u8); 2], Missing>
+    requires { room.old.room.board ≡ None ∷ None ∷ None ∷ [] }
+{
+    seal_two(room, alloc)?;
+    two_seats(room)
+}
+
+fn two_seats_of_two(alloc: Global) -> Result<[(u32, u8); 2], Missing> {
+    let mut room = new_room(alloc, 4096, MOST)?;
+    seat_of_two(&mut room, alloc)
 }
 
 #[test]

@@ -7,5 +7,5 @@ use Rattle.epoch_room_tests.proofs.tests.file_room.Goals as goal
 
 pub make-requires-2-clause-parts : goal.make-requires-2-clause-parts
 make-requires-2-clause-parts c = λ _.
-    subst (λ (ps : List Part). AreParts c.in_ok-disk.disk.disk ps c.new-2.result) (sym c.new.ensures)
-    (subst (λ (ps : List Part). AreParts c.in_ok-disk.disk.disk [] ps) (sym c.new-2.ensures) (subst (λ (d : Disk). AreParts d [] []) (sym c.in_ok-disk.ensures.made) (untold_parts 5 4096)))
+    subst (λ (ps : List Part). AreParts c.in-Ok.disk.disk ps c.new-2.result) (sym c.new.ensures)
+    (subst (λ (ps : List Part). AreParts c.in-Ok.disk.disk [] ps) (sym c.new-2.ensures) (subst (λ (d : Disk). AreParts d [] []) (sym c.in-Ok.ensures.made) (untold_parts 5 4096)))

@@ -1,7 +1,8 @@
 //! What no clause says: the text of a worked log, each call with ample memory, and calls that fail.
 
-ghost use Rattle.std.specs.Prelude.{◌≡◌, true, OnOk};
+ghost use Rattle.std.specs.Prelude.{◌≡◌, true, IfOk, OnOk};
 ghost use Rattle.std.specs.List.{list_all};
+ghost use Rattle.epoch_room.specs.Whole.{IsIdle};
 ghost use Rattle.fine_model.specs.Boards.{is_empty};
 
 use crate::fixtures::Change::{Byte, Nothing};
@@ -164,13 +165,24 @@ fn reads_twice(alloc: Global, room: &mut Room<MemDisk>, text: &[u8]) -> Result<[
     Ok([first, reads(alloc, room, text)?])
 }
 
-/// The same in a room of the log.
-fn log_reads_twice(alloc: Global, text: &[u8]) -> Result<[bool; 2], Fail> {
-    let disk = disk_of(alloc, Nothing, FaultPlan::none(alloc))?;
+/// A room of the log.
+fn room_of(alloc: Global, disk: MemDisk) -> Result<Room<MemDisk>, RunFault>
+    requires { IsIdle disk.disk }
+    ensures { IfOk result (λ room. list_all is_empty room.room.board ≡ true) }
+{
     match open_log(alloc, disk) {
-        Ok(mut room) => Ok(reads_twice(alloc, &mut room, text)?),
-        Err(_fault) => Err("open")?,
+        Ok(room) => Ok(room),
+        Err(_fault) => Err(RunFault::Disk),
     }
+}
+
+/// Whether the keys that are read twice in a room of the log are a text.
+fn log_reads_twice(alloc: Global, text: &[u8]) -> Result<[bool; 2], RunFault> {
+    let Ok(disk) = disk_of(alloc, Nothing, FaultPlan::none(alloc)) else {
+        return Err(RunFault::Disk);
+    };
+    let mut room = room_of(alloc, disk)?;
+    reads_twice(alloc, &mut room, text)
 }
 
 #[test]

@@ -1,5 +1,5 @@
 -- A pass in the midst of a transaction, after a call, after a commit that was refused, and after turns without an entry.
-use Rattle.std.proofs.Common.{◌≡◌, ℕ, Bool, None, Result, List, [], ◌∷◌, ◌++◌, ◌∙◌, ap, sym, subst, arith, le_refl}
+use Rattle.std.proofs.Common.{◌≡◌, ℕ, Bool, None, Result, List, [], ◌∷◌, ◌∙◌, ap, sym, subst, arith, le_refl}
 use Rattle.std.specs.Prelude.{slice_index_or}
 use mathlib.Core.Option.{some}
 use lib.ListN.{get_elem?}

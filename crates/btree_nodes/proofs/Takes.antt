@@ -1,16 +1,15 @@
 -- The first pairs of lists, as many as are wanted.
-use Rattle.std.proofs.Common.{◌≡◌, ℕ, zero, suc, ◌-◌, ◌≤◌, ◌==◌, Bool, true, false, cond, ◌&&◌, not, List, [], ◌∷◌, ◌++◌, length, take, Some, Result, Ok, refl, sym, ap, ◌∙◌, true≢false, arith, eqb-true, append-nil, append_assoc}
+use Rattle.std.proofs.Common.{◌≡◌, ℕ, zero, suc, ◌-◌, ◌==◌, Bool, true, false, cond, ◌&&◌, not, List, [], ◌∷◌, ◌++◌, length, take, Some, Result, Ok, refl, sym, ap, ◌∙◌, true≢false, arith, eqb-true, append-nil, append_assoc}
 use Rattle.std.specs.List.{AllByRecursion}
 use Rattle.std.proofs.lemmas.List.{length-append}
 use Rattle.std.proofs.lemmas.List.Elements.{filter-append}
-use Rattle.std.proofs.Math.Seq.{take-append_seam}
 use Rattle.std.proofs.Math.Bool.{and-false}
 use Rattle.fine_model.specs.Map.{Pair, is_below, between}
 use Rattle.fine_model.specs.Paths.{meets, scan_kids}
 use Rattle.fine_model.specs.Trees.{Bounds}
 use Rattle.fine_model.proofs.Ordered.Order.{filter_none}
 use Rattle.fine_model.proofs.Trees.Bounded.{not_lower}
-use Rattle.btree_nodes.specs.Scans.{IsLonger, IsTaken}
+use Rattle.btree_nodes.specs.Scans.{IsTaken}
 
 pub take_nothing : {A : Type 0} (n : ℕ) → take {A = A} n [] ≡ []
 take_nothing zero = refl

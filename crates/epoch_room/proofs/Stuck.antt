@@ -1,13 +1,8 @@
 -- A room in which nothing waits and no neighbours fit can take nothing any more.
-use Rattle.std.proofs.Common.{◌≡◌, Ok, List, arith, subst, sym}
-use Rattle.fine_model.specs.declared.Row.{Row}
-use Rattle.fine_model.specs.Becomes.{IsStuck}
+use Rattle.std.proofs.Common.{◌≡◌, Ok, arith, subst, sym}
 use Rattle.fine_model.specs.Causes.{NoneFit}
 use Rattle.fine_model.specs.Chain.{chain}
-use Rattle.fine_model.specs.Regions.{Image}
-use Rattle.epoch_room.specs.Stuck.{StuckLaw, TakesNothing}
-use Rattle.epoch_room.specs.Value.{RoomValue}
-use Rattle.epoch_room.specs.Whole.{IsWhole}
+use Rattle.epoch_room.specs.Stuck.{StuckLaw}
 use Rattle.epoch_room.proofs.RegionSets.Clear.{IsClear, all_live, free_is, now, same_len}
 
 pub stuck_law : StuckLaw

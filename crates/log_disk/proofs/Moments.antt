@@ -1,8 +1,8 @@
 -- Which images a crash may leave: laws for the crates above.
-use Rattle.std.proofs.Common.{◌≡◌, ◌⊎◌, ℕ, ◌+◌, ◌-◌, ◌≤◌, List, [], ◌∷◌, ◌++◌, length, get_or, drop, refl, sym, ap, subst, ◌∙◌, inl, inr, arith}
+use Rattle.std.proofs.Common.{◌≡◌, ◌⊎◌, ℕ, ◌+◌, ◌≤◌, List, [], ◌∷◌, ◌++◌, length, get_or, drop, refl, sym, ap, subst, ◌∙◌, inl, inr, arith}
 use Rattle.std.specs.Prelude.{Any}
 use Rattle.std.proofs.lemmas.Bool.{cases_lt}
-use Rattle.std.proofs.lemmas.List.{nil_from_length, length-map, length-append, drop-append-le, drop_at, drop-drop, get_or-drop, length-drop, get_or_append_left, get_or_at}
+use Rattle.std.proofs.lemmas.List.{nil_from_length, length-map, length-append, drop-append-le, drop_at, get_or-drop, length-drop, get_or_append_left, get_or_at}
 use Rattle.log_disk.specs.Disk.{Image, region_of, Span, Moment, IsImageAt, Told, Disk, clock_of, IsImageNow, IsImageSince, HasGoneOn, HasSynced, IsToldOf}
 use Rattle.log_disk.specs.Moments.{LeavesOnly, IsLeft}
 use Rattle.log_disk.proofs.Images.{only_synced}

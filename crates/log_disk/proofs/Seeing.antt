@@ -4,7 +4,7 @@ use Rattle.std.specs.Prelude.{Option, All, Any, Contains, filter, not, ◌==◌}
 use Rattle.std.proofs.lemmas.List.{get_or_default}
 use Rattle.std.proofs.lemmas.Bool.{ne_eqb}
 use Rattle.std.proofs.lemmas.List.Elements.{All-contains}
-use Rattle.log_disk.specs.Disk.{Image, region_of, Told, Disk, Eye, OpenEye, BothTold, BothSee, SameOutside, IsUnseen, Writes, Syncs, Opens, Closes, Looks, HasSynced}
+use Rattle.log_disk.specs.Disk.{Image, region_of, Told, Disk, Eye, OpenEye, BothTold, BothSee, SameOutside, IsUnseen, Writes, Syncs, Opens, Closes, HasSynced}
 use Rattle.log_disk.specs.Moments.{SameSeen, IsOpenOn}
 use Rattle.log_disk.proofs.Lists.{contains_left, contains_last}
 

@@ -1,12 +1,10 @@
 -- What each call of a disk leaves, for a caller that makes several, on states of the disk.
-use Rattle.std.proofs.Common.{◌≡◌, ◌⊎◌, ℕ, ◌+◌, ◌-◌, ◌<◌, ◌≤◌, List, [], ◌++◌, length, take, drop, Some, None, refl, sym, ap, subst, ◌∙◌, inl, inr, arith}
-use Rattle.std.specs.Prelude.{Option, IfSome, slice_range}
-use Rattle.std.proofs.lemmas.List.{drop-drop, drop-take, take-take, take_at, drop_at, length-take-le, append_assoc}
-use Rattle.std.proofs.lemmas.Bool.{cases_lt}
-use Rattle.log_disk.specs.Disk.{Image, region_of, Told, Disk, Eye, BothTold, SameOutside, HasGoneOn, HasSynced, Moment, IsToldOf, IsSound, IsImageNow, IsImageSince, Writes, Syncs, Opens, Closes, clock_of, unsynced_too, span_of, with_bytes}
+use Rattle.std.proofs.Common.{◌≡◌, ℕ, ◌+◌, ◌-◌, ◌≤◌, List, [], length, take, drop, Some, None, refl, sym, ap, subst, ◌∙◌, inl, inr, arith}
+use Rattle.std.specs.Prelude.{Option, IfSome}
+use Rattle.std.proofs.lemmas.List.{drop-drop, take-take}
+use Rattle.log_disk.specs.Disk.{Image, region_of, Told, Disk, Eye, BothTold, SameOutside, HasGoneOn, HasSynced, Moment, IsToldOf, IsSound, IsImageNow, Writes, Syncs, Opens, Closes, clock_of, unsynced_too, span_of}
 use Rattle.log_disk.specs.Moments.{LeavesOnly, Leaves, IsLeft, IsLeftOn, IsTorn, Grows, GrowsOn}
 use Rattle.log_disk.proofs.Moments.{now_since, since_on, since_kept, clock_on, synced_now, synced_is_now, leaves_none, leaves_then, leaves_weaker}
-use Rattle.log_disk.proofs.Writes.{region_of-set_same}
 use Rattle.log_disk.proofs.Calls.{left_write, left_sync, leaves_write, leaves_sync}
 
 -- Facts of what is told, on states of a disk.

@@ -1,12 +1,12 @@
 -- What reading a body answers.
-use Rattle.std.specs.Prelude.{◌≡◌, ℕ, ◌+◌, ◌*◌, ◌≤◌, List, ◌++◌, length, drop, IsTrue, true, []}
+use Rattle.std.specs.Prelude.{◌≡◌, ℕ, ◌≤◌, List, ◌++◌, length, drop, IsTrue, true, []}
 use Rattle.std.specs.List.{AllByRecursion}
 use Rattle.fine_model.specs.declared.Header.{Header}
 use Rattle.fine_model.specs.declared.Mark.{Mark}
 use Rattle.fine_model.specs.declared.Row.{Row}
 use Rattle.fine_model.specs.RowBytes.{rows_bytes, rows_len, FitsRow, FitsRec}
 use Rattle.fine_model.specs.Merge.{is_ordered, nodes_in}
-use Rattle.fine_model.specs.Regions.{body_bytes, index_bytes, index_area, BeginsWithRows, IsBadRow, IsBadItem, body_len}
+use Rattle.fine_model.specs.Regions.{body_bytes, index_bytes, index_area, BeginsWithRows, IsBadRow, IsBadItem}
 use Rattle.log_partition.specs.declared.fault.DecodeFault.{DecodeFault}
 use Rattle.log_partition.specs.declared.fault.DecodeFault.TheVariants as fault
 

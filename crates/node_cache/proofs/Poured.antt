@@ -1,7 +1,7 @@
 -- Items that are moved to another list from the end.
-use Rattle.std.proofs.Common.{◌≡◌, ℕ, zero, suc, ◌-◌, ◌<◌, ◌≤◌, List, [], ◌∷◌, ◌++◌, length, take, drop, reverse, slice_get, Some, refl, sym, ap, ◌∙◌, arith, append_assoc}
+use Rattle.std.proofs.Common.{◌≡◌, ℕ, zero, suc, ◌-◌, ◌<◌, ◌≤◌, List, [], ◌∷◌, ◌++◌, length, reverse, slice_get, Some, sym, ap, ◌∙◌, arith, append_assoc}
 use Rattle.std.specs.List.{remove}
-use Rattle.std.proofs.lemmas.List.{reverse-append, take_at}
+use Rattle.std.proofs.lemmas.List.{reverse-append}
 
 -- the items from a place on are moved, the last one first
 pub record IsPoured {A : Type 0} (from : ℕ) (old new to to' : List A) : Type 0 where

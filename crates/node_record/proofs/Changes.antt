@@ -1,9 +1,9 @@
 -- What a change leaves at the place of its key.
-use Rattle.std.proofs.Common.{◌≡◌, ℕ, suc, ◌+◌, ◌<◌, ◌≤◌, Bool, true, false, cond, ◌&&◌, not, List, [], ◌∷◌, ◌++◌, length, take, drop, slice_get, slice_set, Option, Some, None, ℤ, ◌+ℤ◌, refl, sym, ap, subst, ◌∙◌, true≢false, arith, take-append-drop, leb}
+use Rattle.std.proofs.Common.{◌≡◌, ℕ, suc, ◌+◌, ◌<◌, ◌≤◌, Bool, true, false, cond, List, [], ◌∷◌, ◌++◌, length, take, drop, slice_get, slice_set, Option, Some, None, ℤ, ◌+ℤ◌, refl, sym, ap, subst, ◌∙◌, true≢false, arith, take-append-drop, leb}
 use Rattle.std.specs.Prelude.{filter, find, bytes_eq}
 use Rattle.std.specs.List.{AllByRecursion, list_any, insert, remove}
 use Rattle.std.proofs.lemmas.List.{length-take, take_at, set_split}
-use Rattle.std.proofs.lemmas.Bool.{le-leb, lt-leb}
+use Rattle.std.proofs.lemmas.Bool.{le-leb}
 use Rattle.std.proofs.lemmas.Slice.Eq.{bytes_eq-Decides}
 use Rattle.fine_model.specs.Map.{Pair, is_below, get, set, pairs_above}
 use Rattle.fine_model.specs.Nodes.{linked, added, with_sum, keys_below, keys_above}

@@ -1,5 +1,5 @@
 -- What loads of a view answer.
-use Rattle.std.proofs.Common.{◌≡◌, ℕ, List, refl, sym, subst}
+use Rattle.std.proofs.Common.{◌≡◌, ℕ, List, sym, subst}
 use Rattle.std.specs.Prelude.{Any, Result, Err, IfErr, IsErrOf, MatchResult}
 use Rattle.fine_model.specs.declared.FetchFault.{FetchFault}
 use Rattle.fine_model.specs.declared.FetchFault.TheVariants as fetch_fault

@@ -6,8 +6,7 @@ use Rattle.fine_model.specs.declared.FetchFault.TheVariants as fetch_fault
 use Rattle.fine_model.specs.declared.NodeId.{NodeId}
 use Rattle.fine_model.specs.declared.Row.{Row}
 use Rattle.fine_model.specs.Views.{TellsRows}
-use Rattle.fine_model.specs.Nodes.{Content}
-use Rattle.node_cache.specs.Given.{Finds, OnCleanFault}
+use Rattle.node_cache.specs.Given.{Finds}
 use Rattle.node_fetch.specs.Fetched.{HasBadEntry, HasBadRow, IsReplayOf}
 use Rattle.partition_hold.specs.Views.{SameView, ViewValue, state_of}
 

@@ -1,8 +1,6 @@
 -- Pairs stay in order.
-use Rattle.std.proofs.Common.{◌≡◌, ℕ, true, false, List, ◌++◌, sym, subst}
-use Rattle.std.proofs.lemmas.List.Sums.{fold-append}
-use Rattle.fine_model.specs.declared.Write.{Write}
-use Rattle.fine_model.specs.Map.{Pair, is_below, pairs_below, pairs_above, set, unset, after_write, map_after}
+use Rattle.std.proofs.Common.{◌≡◌, ℕ, true, false, List, sym, subst}
+use Rattle.fine_model.specs.Map.{Pair, is_below, pairs_below, pairs_above, set, unset}
 use Rattle.fine_model.proofs.Trees.Among.{ascending-append}
 use Rattle.fine_model.proofs.Ordered.Order.{is_below-asym, all_map}
 use Rattle.fine_model.proofs.Ordered.Sets.{ascending-set, ascending-filter, all_pass}

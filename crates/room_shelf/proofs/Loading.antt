@@ -22,7 +22,7 @@ use Rattle.epoch_room.specs.Meaning.{Stands, StandsTold, StandsWhere}
 use Rattle.epoch_room.specs.Value.{RoomValue}
 use Rattle.epoch_room.specs.Whole.{HoldsParts}
 use Rattle.fine_model.proofs.Ordered.Zip.{all_left}
-use Rattle.room_shelf.specs.Shelves.{Fails, HasView, IsClean, IsLater, IsOut, LogLaw, ReadsLaw, SeesLive, ShowsLog, TellsLaw, shelf, tells_log, total}
+use Rattle.room_shelf.specs.Shelves.{Fails, HasView, IsClean, IsOut, LogLaw, ReadsLaw, SeesLive, ShowsLog, TellsLaw, shelf, tells_log, total}
 
 -- ---- a view tells the rows of the live parts
 

@@ -1,38 +1,22 @@
 -- What the live parts are made of behind a call that touches none of their regions.
-use Rattle.std.proofs.Common.{◌≡◌, ◌∙◌, ◌≢◌, ℕ, zero, suc, ◌+◌, ◌<◌, ◌≤◌, ◌||◌, false, IsTrue, List, [], ◌∷◌, ◌++◌, length, map, Option, Some, None, Ok, refl, sym, ap, subst, arith, append-nil, append_assoc}
-use Rattle.std.specs.Prelude.{Contains, IfSome, nat_eq, option_map, option_to_list, unwrap_or}
+use Rattle.std.proofs.Common.{◌≡◌, ◌∙◌, ℕ, zero, suc, ◌≤◌, false, List, [], ◌∷◌, ◌++◌, length, Option, Some, None, refl, sym, ap, subst, arith}
+use Rattle.std.specs.Prelude.{Contains, IfSome, nat_eq, option_map}
 use Rattle.std.specs.List.{AllByRecursion, list_any}
-use Rattle.std.proofs.lemmas.Grind.{flat_map-append}
-use Rattle.std.proofs.lemmas.List.{map-append}
-use Rattle.std.proofs.lemmas.List.Elements.{All-contains, All-from_recursion, Contains-append_left, Contains-append_right}
+use Rattle.std.proofs.lemmas.List.Elements.{All-contains, All-from_recursion, Contains-append_left}
 use Rattle.log_disk.specs.Disk.{BothTold, IsToldOf, Told, region_of}
-use Rattle.fine_model.specs.declared.Mark.TheVariants as mark
 use Rattle.fine_model.specs.declared.Part.{Part}
-use Rattle.fine_model.specs.declared.Range.{Range}
-use Rattle.fine_model.specs.declared.Row.{Row}
 use Rattle.fine_model.specs.declared.law.RoomState.{RoomState}
 use Rattle.fine_model.specs.Chain.{regions_of}
-use Rattle.fine_model.specs.Jobs.{job_left}
-use Rattle.fine_model.specs.Merge.{encoded_len, is_ordered}
-use Rattle.fine_model.specs.Regions.{HasHeader, Image, IsSealed, partition_bytes}
-use Rattle.fine_model.specs.VersionLaws.{HaveSameRows}
-use Rattle.fine_model.proofs.Ordered.Times.{distinct_times, times, times-append, times-same, times-tail}
-use Rattle.log_partition.proofs.Sealed.{sealed_again}
-use Rattle.damage_laws.specs.Made.{AreMadeOf, IsMadeOf, Made, Source, at_entry, one, since, sources}
+use Rattle.fine_model.specs.Regions.{HasHeader, Image}
+use Rattle.fine_model.proofs.Ordered.Times.{times, times-append, times-same, times-tail}
+use Rattle.damage_laws.specs.Made.{AreMadeOf}
 use Rattle.damage_laws.specs.Places.{AreKeptOrGood, IsUnchanged}
-use Rattle.damage_laws.proofs.Counted.{counted}
-use Rattle.damage_laws.proofs.MergedFinds.{sealed_law}
 use Rattle.epoch_room.specs.Gate.{KeepsBeside}
-use Rattle.epoch_room.specs.Meaning.{HoldsEpoch, with_epoch}
-use Rattle.epoch_room.specs.Steps.{SealsOr, next_part, sealed_state}
-use Rattle.epoch_room.specs.Value.{RoomValue, all_regions, on, taken}
-use Rattle.epoch_room.specs.Whole.{HoldsParts, IsWhole}
-use Rattle.epoch_room.proofs.RegionSets.Beside.{regions_together}
+use Rattle.epoch_room.specs.Value.{RoomValue, all_regions}
+use Rattle.epoch_room.specs.Whole.{IsWhole}
 use Rattle.epoch_room.proofs.RegionSets.Freeing.{held_now}
-use Rattle.epoch_room.proofs.OpenEpochs.Partitions.{alike, partition_long}
-use Rattle.epoch_room.proofs.OpenEpochs.Torn.{HasOpened, sealed_bytes}
-use Rattle.room_steps.specs.Made.{AreCounted, MadeOn}
-use Rattle.room_steps.proofs.JoinedMade.{all_good, all_still, none_made, seal_good}
+use Rattle.room_steps.specs.Made.{MadeOn}
+use Rattle.room_steps.proofs.JoinedMade.{all_good, none_made}
 use Rattle.room_steps.proofs.MadeOn.{made_none}
 use Rattle.room_steps.proofs.Stepping.{none_more}
 

@@ -1,5 +1,5 @@
 -- What the live parts are made of behind a gathering of the youngest.
-use Rattle.std.proofs.Common.{◌≡◌, ◌∙◌, ◌≢◌, ◌⊎◌, inl, inr, Bool, ℕ, ◌+◌, ◌<◌, ◌≤◌, ◌||◌, not, true, false, List, [], ◌∷◌, ◌++◌, length, map, take, Option, Some, None, refl, sym, ap, subst, arith, append-nil, append_assoc, true≢false}
+use Rattle.std.proofs.Common.{◌≡◌, ◌∙◌, ◌≢◌, ◌⊎◌, inl, inr, Bool, ℕ, ◌<◌, ◌≤◌, ◌||◌, not, true, false, List, [], ◌∷◌, ◌++◌, length, map, take, Option, Some, None, refl, sym, ap, subst, arith, append-nil, true≢false}
 use Rattle.std.specs.Prelude.{Contains, IfSome, Ok, Result, nat_eq, filter, flat_map, option_map, option_to_list}
 use Rattle.std.specs.List.{AllByRecursion, list_any, range_with_len}
 use Rattle.std.proofs.lemmas.Bool.{cases_lt}
@@ -14,16 +14,16 @@ use Rattle.fine_model.specs.declared.law.RoomState.{RoomState}
 use Rattle.fine_model.specs.Chain.{AreRowsOf, regions_of}
 use Rattle.fine_model.specs.Jobs.{job_left}
 use Rattle.fine_model.specs.Regions.{HasHeader, Image, IsSealed, region_of}
-use Rattle.fine_model.proofs.Ordered.Times.{absent_times, below_times, distinct_times, times, times-append, times-same}
+use Rattle.fine_model.proofs.Ordered.Times.{absent_times, below_times, times, times-append}
 use Rattle.partition_index.specs.Parts.{IsSeen, LiesIn}
 use Rattle.damage_laws.specs.Made.{AreMadeOf, AreRowsAs, IsMadeOf, Made, Source, beside, sources}
-use Rattle.damage_laws.specs.Places.{AreKeptOrGood, IsGood, IsUnchanged}
+use Rattle.damage_laws.specs.Places.{AreKeptOrGood, IsUnchanged}
 use Rattle.damage_laws.proofs.GoodFinds.{good_finds}
 use Rattle.damage_laws.proofs.Heads.{head_same, not_empty, tail_same}
 use Rattle.damage_laws.proofs.MergedFinds.{beside_law, gathered_law}
 use Rattle.epoch_room.specs.Gate.{KeepsBeside}
 use Rattle.epoch_room.specs.Gathering.{Gathers, HoldsGathered, gathered_part, gathered_state}
-use Rattle.epoch_room.specs.Value.{RoomValue, all_regions, on, regions_outside, taken}
+use Rattle.epoch_room.specs.Value.{RoomValue, all_regions, regions_outside, taken}
 use Rattle.epoch_room.specs.Whole.{IsWhole}
 use Rattle.epoch_room.proofs.RegionSets.Beside.{regions_together}
 use Rattle.epoch_room.proofs.RegionSets.Freeing.{held_now}

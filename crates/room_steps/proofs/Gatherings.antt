@@ -1,9 +1,8 @@
 -- Gathering the youngest parts, and erasing what is retired then.
-use Rattle.std.proofs.Common.{◌≡◌, ◌∙◌, ◌⊎◌, ℕ, true, false, List, [], inl, inr, Option, Some, None, Ok, Err, refl, sym, ap, subst, arith}
+use Rattle.std.proofs.Common.{◌≡◌, ◌∙◌, ◌⊎◌, ℕ, true, false, List, [], inl, inr, Some, None, Ok, Err, refl, sym, ap, subst}
 use Rattle.std.specs.Prelude.{Bool, OnOk, Result, take}
 use Rattle.std.specs.List.{list_all}
 use Rattle.fine_model.specs.declared.Part.{Part}
-use Rattle.fine_model.specs.declared.Row.{Row}
 use Rattle.fine_model.specs.declared.RunFault.{RunFault}
 use Rattle.fine_model.specs.declared.law.RoomState.{RoomState}
 use Rattle.fine_model.specs.Boards.{Buffer, is_empty}
@@ -13,8 +12,6 @@ use Rattle.epoch_room.specs.Value.{RoomValue}
 use Rattle.epoch_room.specs.Whole.{IsWhole}
 use Rattle.epoch_room.specs.declared.answers.RoomFault.{RoomFault}
 use Rattle.epoch_room.specs.declared.answers.RoomFault.TheVariants as room_fault
-use Rattle.merge_policy.specs.declared.figures.Space.{Space}
-use Rattle.merge_policy.specs.Young.{young_run}
 use Rattle.room_merges.specs.Near.{Empties}
 use Rattle.room_merges.specs.declared.fault.MergeFault.{MergeFault}
 use Rattle.room_merges.specs.declared.fault.MergeFault.TheVariants as merge_fault
@@ -22,7 +19,7 @@ use Rattle.room_shelf.specs.Shelves.{IsShelf, ShelfValue}
 use Rattle.run_laws.specs.Needs.{Unsealed}
 use Rattle.room_steps.specs.Made.{LivesOn, MadeOn}
 use Rattle.room_steps.specs.Merging.{GathersFrom, GathersNamed, MergesNamed, of_merge, of_room}
-use Rattle.room_steps.specs.Steps.{FaultOf, IsNamed, IsWell, Leaves, NamesSome, NoneFailed, Tidies, TidyOr, space_of}
+use Rattle.room_steps.specs.Steps.{FaultOf, IsNamed, IsWell, Leaves, NamesSome, Tidies, TidyOr}
 use Rattle.room_steps.proofs.BesideMade.{kept_made}
 use Rattle.room_steps.proofs.Facts.{Rested, failed_on, fault_on, has_failed, leaves_on, leaves_staying, none_failed_on, unsealed_on, was_shut, well_counts, well_on}
 use Rattle.room_steps.proofs.GatheredMade.{free_apart, gathered_lives}

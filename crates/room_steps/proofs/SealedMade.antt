@@ -1,11 +1,11 @@
 -- What the live parts are made of behind a seal.
-use Rattle.std.proofs.Common.{◌≡◌, ◌∙◌, ◌≢◌, ℕ, zero, suc, ◌+◌, ◌<◌, ◌≤◌, ◌||◌, false, IsTrue, List, [], ◌∷◌, ◌++◌, length, map, Option, Some, None, Ok, refl, sym, ap, subst, arith, append-nil, append_assoc}
+use Rattle.std.proofs.Common.{◌≡◌, ◌∙◌, ◌≢◌, ℕ, ◌+◌, ◌<◌, ◌≤◌, ◌||◌, false, IsTrue, List, [], ◌∷◌, ◌++◌, length, map, Option, Some, None, Ok, refl, sym, ap, subst, arith, append-nil, append_assoc}
 use Rattle.std.specs.Prelude.{Contains, IfSome, nat_eq, option_map, option_to_list, unwrap_or}
 use Rattle.std.specs.List.{AllByRecursion, list_any}
 use Rattle.std.proofs.lemmas.Grind.{flat_map-append}
 use Rattle.std.proofs.lemmas.List.{map-append}
 use Rattle.std.proofs.lemmas.List.Elements.{All-contains, All-from_recursion, Contains-append_left, Contains-append_right}
-use Rattle.log_disk.specs.Disk.{BothTold, IsToldOf, Told, region_of}
+use Rattle.log_disk.specs.Disk.{IsToldOf, Told, region_of}
 use Rattle.fine_model.specs.declared.Mark.TheVariants as mark
 use Rattle.fine_model.specs.declared.Part.{Part}
 use Rattle.fine_model.specs.declared.Range.{Range}
@@ -16,10 +16,10 @@ use Rattle.fine_model.specs.Jobs.{job_left}
 use Rattle.fine_model.specs.Merge.{encoded_len, is_ordered}
 use Rattle.fine_model.specs.Regions.{HasHeader, Image, IsSealed, partition_bytes}
 use Rattle.fine_model.specs.VersionLaws.{HaveSameRows}
-use Rattle.fine_model.proofs.Ordered.Times.{distinct_times, times, times-append, times-same, times-tail}
+use Rattle.fine_model.proofs.Ordered.Times.{distinct_times, times, times-append, times-same}
 use Rattle.log_partition.proofs.Sealed.{sealed_again}
 use Rattle.damage_laws.specs.Made.{AreMadeOf, IsMadeOf, Made, Source, at_entry, one, since, sources}
-use Rattle.damage_laws.specs.Places.{AreKeptOrGood, IsUnchanged}
+use Rattle.damage_laws.specs.Places.{AreKeptOrGood}
 use Rattle.damage_laws.proofs.Counted.{counted}
 use Rattle.damage_laws.proofs.MergedFinds.{sealed_law}
 use Rattle.epoch_room.specs.Gate.{KeepsBeside}
@@ -32,9 +32,8 @@ use Rattle.epoch_room.proofs.RegionSets.Freeing.{held_now}
 use Rattle.epoch_room.proofs.OpenEpochs.Partitions.{alike, partition_long}
 use Rattle.epoch_room.proofs.OpenEpochs.Torn.{HasOpened, sealed_bytes}
 use Rattle.room_steps.specs.Made.{AreCounted, MadeOn}
-use Rattle.room_steps.proofs.JoinedMade.{all_good, all_still, none_made, seal_good}
+use Rattle.room_steps.proofs.JoinedMade.{all_good, all_still, seal_good}
 use Rattle.room_steps.proofs.BesideMade.{BothRead, both_read, bytes_are, each_counted, images, in_parts, long_as, unchanged}
-use Rattle.room_steps.proofs.Stepping.{none_more}
 
 -- no live part has the target of the open epoch
 pub target_apart : (value : RoomValue) → IsWhole value → (p : Part) → Contains value.room.parts p → AllByRecursion (λ r. list_any (nat_eq r) (option_to_list value.target) ≡ false) (regions_of p)

@@ -14,7 +14,6 @@ use Rattle.fine_model.specs.declared.RunFault.TheVariants as run_fault
 use Rattle.fine_model.specs.declared.ScriptTxn.{ScriptTxn}
 use Rattle.fine_model.specs.declared.law.Origin.{Origin}
 use Rattle.fine_model.specs.declared.law.RoomState.{RoomState}
-use Rattle.fine_model.specs.Boards.{named}
 use Rattle.fine_model.specs.Buckets.{Began}
 use Rattle.fine_model.specs.Causes.{HaveCauses}
 use Rattle.fine_model.specs.Faults.{HasRisen, last_count}

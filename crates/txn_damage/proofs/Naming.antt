@@ -1,5 +1,5 @@
 -- What a refused call names, over all buckets of a transaction.
-use Rattle.std.proofs.Common.{◌≡◌, ℕ, ◌<◌, List, [], ◌++◌, Some, Ok, sym, subst, ◌∙◌}
+use Rattle.std.proofs.Common.{◌≡◌, ℕ, ◌<◌, List, [], Some, Ok, sym, subst, ◌∙◌}
 use Rattle.std.specs.Prelude.{flat_map, slice_get, take}
 use Rattle.fine_model.specs.declared.Call.{Call}
 use Rattle.fine_model.specs.declared.FetchFault.{FetchFault}

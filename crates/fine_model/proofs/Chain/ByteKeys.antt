@@ -8,7 +8,7 @@ use Rattle.fine_model.specs.Types.rec
 use Rattle.fine_model.specs.Types.node
 use Rattle.fine_model.specs.Map.{Pair, is_below, pairs_below, get, set, unset, from_pairs}
 use Rattle.fine_model.specs.NumberText.{number_of, number_text, is_i64}
-use Rattle.fine_model.specs.Nodes.{Content, base, leaf, added, with_sum, changed, changed_from, step_node, step, replay, is_node, rows_of, content, linked, keys_below, keys_above}
+use Rattle.fine_model.specs.Nodes.{Content, base, leaf, added, with_sum, changed, replay, is_node, rows_of, content, linked, keys_below, keys_above}
 use Rattle.fine_model.specs.RowBytes.{FitsPair, FitsRec, body, pair_bytes, row_bytes, rows_bytes}
 use Rattle.fine_model.specs.Regions.{Image, region_of, continuations, body_start, body_in, body_bytes, IsSealed}
 use Rattle.fine_model.specs.Chain.{AreRowsOf}

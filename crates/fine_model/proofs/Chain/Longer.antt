@@ -1,12 +1,12 @@
 -- The law of a free region that is sealed next.
-use Rattle.std.proofs.Common.{◌≡◌, ℕ, suc, ◌≤◌, ◌≢◌, true, List, [], ◌∷◌, ◌++◌, length, refl, sym, ap, ◌∙◌, subst, None, Ok, arith, length-append, append-nil, append_assoc}
+use Rattle.std.proofs.Common.{◌≡◌, ℕ, suc, ◌≤◌, ◌≢◌, List, [], ◌∷◌, ◌++◌, length, refl, sym, ap, ◌∙◌, subst, None, Ok, arith, length-append, append-nil, append_assoc}
 use Rattle.std.specs.Prelude.{Result}
 use Rattle.std.specs.List.{AllByRecursion}
 use Rattle.std.proofs.lemmas.Bool.{cases_eq}
 use Rattle.std.proofs.lemmas.List.Sums.{fold-append}
 use Rattle.fine_model.specs.Types.{Row, Header, Part, Damage}
-use Rattle.fine_model.specs.Regions.{Image, region_of, IsSealed}
-use Rattle.fine_model.specs.Chain.{taken, chain_end, fault_beside, chain, is_free, AreRowsOf, Shows}
+use Rattle.fine_model.specs.Regions.{Image, IsSealed}
+use Rattle.fine_model.specs.Chain.{taken, chain_end, fault_beside, chain, AreRowsOf, Shows}
 use Rattle.fine_model.specs.ChainLaws.{part_of, PartsFollow, IsSealedNext, SealLaw, AreRetired}
 use Rattle.fine_model.proofs.Ordered.Order.{all_map}
 use Rattle.fine_model.proofs.Ordered.Sets.{all_append}

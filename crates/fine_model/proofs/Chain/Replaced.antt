@@ -1,13 +1,13 @@
 -- The law of a free region that takes the place of neighbours on the chain.
-use Rattle.std.proofs.Common.{◌≡◌, ◌≢◌, ℕ, ◌+◌, ◌≤◌, ◌<◌, true, List, [], ◌∷◌, ◌++◌, length, refl, sym, ap, ◌∙◌, subst, None, Ok, arith, length-append, append_assoc}
+use Rattle.std.proofs.Common.{◌≡◌, ◌≢◌, ℕ, ◌+◌, ◌≤◌, ◌<◌, List, [], ◌∷◌, ◌++◌, length, refl, sym, ap, ◌∙◌, subst, None, Ok, arith, length-append, append_assoc}
 use Rattle.std.specs.Prelude.{flat_map}
 use Rattle.std.specs.List.{AllByRecursion}
 use Rattle.std.proofs.lemmas.Bool.{cases_eq}
 use Rattle.std.proofs.lemmas.List.Sums.{fold-append}
 use Rattle.std.proofs.lemmas.Grind.{flat_map-append}
 use Rattle.fine_model.specs.Types.{Row, Header, Part}
-use Rattle.fine_model.specs.Regions.{Image, region_of, continuations, HasHeader, IsSealed}
-use Rattle.fine_model.specs.Chain.{regions_of, chain_end, fault_beside, chain, is_free, AreRowsOf}
+use Rattle.fine_model.specs.Regions.{Image, continuations, HasHeader, IsSealed}
+use Rattle.fine_model.specs.Chain.{regions_of, chain_end, fault_beside, chain, AreRowsOf}
 use Rattle.fine_model.specs.ChainLaws.{part_of, PartsFollow, IsPart, IsChain, AreRetired, IsOpenedOver, ReplaceLaw, RowsSplit, RowsJoin}
 use Rattle.fine_model.proofs.Ordered.Order.{all_map}
 use Rattle.fine_model.proofs.Ordered.Sets.{all_append}

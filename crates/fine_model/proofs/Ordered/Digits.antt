@@ -1,5 +1,5 @@
 -- The number of 64 bits that digits spell.
-use Rattle.std.proofs.Common.{◌≡◌, ◌⊎◌, ℕ, ◌+◌, ◌<◌, ◌≤◌, min, nat_le, true, List, Some, refl, sym, ap, ◌∙◌, inl, inr, arith, le-leb}
+use Rattle.std.proofs.Common.{◌≡◌, ◌⊎◌, ℕ, ◌<◌, ◌≤◌, min, nat_le, true, List, Some, refl, sym, ap, ◌∙◌, inl, inr, arith, le-leb}
 use Rattle.std.specs.Prelude.{Option, bytes_eq, decimal}
 use Rattle.std.specs.Fmt.{digits}
 use Rattle.std.proofs.lemmas.Bool.{cases_lt}

@@ -1,5 +1,5 @@
 -- Rows within bounds leave nodes within bounds.
-use Rattle.std.proofs.Common.{◌≡◌, ◌⊎◌, ℕ, suc, ◌+◌, ◌≤◌, ◌==◌, Bool, true, false, cond, ◌&&◌, not, nat_eq, List, [], ◌∷◌, ◌++◌, length, take, drop, Option, Some, None, ℤ, pos, negsuc, ◌+ℤ◌, FitsSigned, w64, refl, sym, ap, subst, ◌∙◌, inl, inr, true≢false, arith, leb, length-append}
+use Rattle.std.proofs.Common.{◌≡◌, ◌⊎◌, ℕ, suc, ◌+◌, ◌≤◌, ◌==◌, Bool, true, false, cond, ◌&&◌, not, List, [], ◌∷◌, ◌++◌, length, take, drop, Option, Some, None, ℤ, pos, negsuc, ◌+ℤ◌, FitsSigned, w64, refl, sym, ap, subst, ◌∙◌, inl, inr, true≢false, arith, leb, length-append}
 use Rattle.std.specs.Prelude.{find, bytes_eq, option_map}
 use Rattle.std.specs.List.{AllByRecursion, list_any}
 use Rattle.std.proofs.lemmas.Bool.{leb-true, and_parts, not-true, or_parts}
@@ -10,7 +10,7 @@ use Rattle.fine_model.specs.Types.{NodeId, Rec, Row, Node, Mark}
 use Rattle.fine_model.specs.Types.rec
 use Rattle.fine_model.specs.Types.node
 use Rattle.fine_model.specs.Map.{Pair, is_below, is_ascending, get, set, unset, pairs_below, pairs_above}
-use Rattle.fine_model.specs.Nodes.{Content, base, leaf, linked, added, with_sum, keys_below, keys_above, changed, changed_from, step_node, step, replay, is_node, rows_of, content}
+use Rattle.fine_model.specs.Nodes.{Content, base, leaf, linked, added, with_sum, keys_below, keys_above, changed, step_node, replay, is_node, rows_of, content}
 use Rattle.fine_model.specs.NumberText.{number_of, number_text, is_i64}
 use Rattle.fine_model.specs.RowBytes.{FitsKey, FitsValue, FitsPair, FitsChild, FitsRec, FitsRow}
 use Rattle.fine_model.specs.BoundLaws.{FitsNode, NodeFits}

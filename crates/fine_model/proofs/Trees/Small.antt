@@ -8,7 +8,7 @@ use Rattle.fine_model.specs.Types.rec
 use Rattle.fine_model.specs.Types.node
 use Rattle.fine_model.specs.Map.{Pair, is_below, pairs_below, pairs_above, get, set, unset}
 use Rattle.fine_model.specs.NumberText.{number_text, number_of, is_i64}
-use Rattle.fine_model.specs.Nodes.{Content, base, keys_below, keys_above, leaf, with_sum, added, changed, changed_from, step_node, step, replay, rows_of, is_node, content}
+use Rattle.fine_model.specs.Nodes.{Content, base, keys_below, keys_above, leaf, with_sum, added, changed, replay, rows_of, is_node, content}
 use Rattle.fine_model.specs.Laws.{is_small, AreSmall}
 use Rattle.fine_model.proofs.Ordered.Order.{is_below-asym, is_below-self}
 use Rattle.fine_model.proofs.Ordered.Sets.{all_filter, all_append}

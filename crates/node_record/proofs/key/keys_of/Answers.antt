@@ -1,6 +1,6 @@
 -- Each key is that of the row that starts where the rows before it end.
-use Rattle.std.proofs.Common.{List, ℕ, arith}
-use Rattle.node_record.proofs.KeysRead.{KeyedTo, keyed_none, starts, key_some, key_within, keyed_more, keyed_all}
+use Rattle.std.proofs.Common.{arith}
+use Rattle.node_record.proofs.KeysRead.{keyed_none, starts, key_some, key_within, keyed_more, keyed_all}
 use Rattle.node_record.proofs.key.keys_of.Goals as goal
 
 pub loop-at-init : goal.loop-at-init

@@ -2,7 +2,6 @@ use Rattle.std.proofs.Common.{◌≡◌, None, Ok, Result, true, ap, subst}
 use Rattle.std.specs.List.{list_all}
 use Rattle.fine_model.specs.Boards.{is_empty}
 use Rattle.epoch_room.specs.Gathering.{GathersYoung as RoomGathers}
-use Rattle.epoch_room.specs.declared.answers.RoomFault.{RoomFault}
 use Rattle.room_merges.specs.Near.{Empties}
 use Rattle.room_merges.specs.declared.fault.MergeFault.{MergeFault}
 use Rattle.room_shelf.specs.Shelves.{ShelfValue, shelf}

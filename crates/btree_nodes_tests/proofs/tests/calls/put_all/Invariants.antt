@@ -1,4 +1,4 @@
-use Rattle.node_cache.proofs.Bounds.{FitsCache, fits_cache}
+use Rattle.node_cache.proofs.Bounds.{FitsCache}
 use Rattle.btree_nodes_tests.proofs.tests.calls.put_all.Given as goal
 
 abbrev pub invariant-loop-place : goal.invariant-loop-place

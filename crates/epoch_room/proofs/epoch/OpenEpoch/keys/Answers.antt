@@ -1,8 +1,8 @@
-use Rattle.std.proofs.Common.{◌≡◌, List, ℕ, length, ap, subst, ◌∙◌, arith}
+use Rattle.std.proofs.Common.{◌≡◌, length, ap, subst, ◌∙◌, arith}
 use Rattle.std.specs.List.{AllByRecursion}
 use Rattle.fine_model.specs.declared.Mark.TheVariants as mark
 use Rattle.fine_model.specs.RowBytes.{FitsRow, rows_bytes, rows_len}
-use Rattle.node_record.specs.Keys.{AreKeysOf, AreRows}
+use Rattle.node_record.specs.Keys.{AreRows}
 use Rattle.epoch_room.specs.Epoch.{Open}
 use Rattle.epoch_room.proofs.OpenEpochs.Gathering.{area_is}
 use Rattle.epoch_room.proofs.epoch.OpenEpoch.keys.Goals.{After-len}

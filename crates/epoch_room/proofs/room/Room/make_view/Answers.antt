@@ -1,4 +1,4 @@
-use Rattle.std.proofs.Common.{◌<◌, List, Some, Ok, Err, refl, sym, subst, ap, ◌∙◌, true, false}
+use Rattle.std.proofs.Common.{◌<◌, List, Some, Ok, Err, refl, sym, subst, ap, ◌∙◌, true}
 use Rattle.std.specs.Prelude.{All, Contains, slice_set}
 use Rattle.std.specs.List.{AllByRecursion}
 use Rattle.std.proofs.lemmas.List.Elements.{All-from_recursion}

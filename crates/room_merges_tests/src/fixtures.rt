@@ -12,16 +12,21 @@ use log_disk::{FaultPlan, MemDisk};
 use private_log::PrivateLog;
 use room_merges::{MergeFault, merge_now};
 use std::alloc::Global;
-use std::test::Fail;
 
-// A room on a new disk of eight regions, whose calls fail by a plan.
-pub fn new_room(alloc: Global, plan: FaultPlan) -> Result<Room<MemDisk>, Fail>
+// Why a fixture was not made, as a test shows it that compares answers.
+pub type Refusal = &'static str;
+
+// A room on a new disk of eight regions, whose calls fail by a plan. What is done to a room stands in functions that borrow it: its drop at each
+// exit of one that owns it costs a check seconds.
+pub fn new_room(alloc: Global, plan: FaultPlan) -> Result<Room<MemDisk>, Refusal>
     ensures { IfOk result (λ room. (room.room.board ≡ None ∷ None ∷ None ∷ []) × (room.room.job ≡ None) × (room.room.places ≡ 0)) }
 {
-    let disk = MemDisk::new(alloc, 8, 4096, plan)?;
+    let Ok(disk) = MemDisk::new(alloc, 8, 4096, plan) else {
+        return Err("memory");
+    };
     match Room::make(alloc, disk, Items::new(alloc), Items::new(alloc)) {
         Ok(room) => Ok(room),
-        Err(_refused) => Err("memory")?,
+        Err(_refused) => Err("memory"),
     }
 }
 
@@ -31,9 +36,6 @@ pub fn stop_at(alloc: Global, stop: u64) -> FaultPlan {
     plan.stop = stop;
     plan
 }
-
-// Why an epoch was not sealed; as a test's failure where it is handed on to one.
-pub type Refusal = &'static str;
 
 pub fn text(alloc: Global, text: &[u8]) -> Result<Bytes, Refusal>
     ensures { IfOk result (λ b. b ≡ text.now) }
@@ -81,6 +83,17 @@ pub fn row_of(alloc: Global, number: u32, len: usize) -> Result<Row, Refusal>
     row_with(alloc, number, 1, value(alloc, len)?)
 }
 
+fn push(log: &mut PrivateLog, row: &Row) -> Result<(), Refusal>
+    requires row { FitsRow mark.Two row.now }
+    requires fit { AllByRecursion (FitsRow mark.Two) log.old }
+    ensures { OnOk result (AllByRecursion (FitsRow mark.Two) log.new) }
+{
+    match log.push(row) {
+        Ok(()) => Ok(()),
+        Err(_refused) => Err("memory"),
+    }
+}
+
 fn put(log: &mut PrivateLog, alloc: Global, number: u32, len: usize) -> Result<(), Refusal>
     requires low { 1 ≤ number }
     requires high { number < 100 }
@@ -89,10 +102,26 @@ fn put(log: &mut PrivateLog, alloc: Global, number: u32, len: usize) -> Result<(
     requires fit { AllByRecursion (FitsRow mark.Two) log.old }
     ensures { OnOk result (AllByRecursion (FitsRow mark.Two) log.new) }
 {
-    match log.push(&row_of(alloc, number, len)?) {
-        Ok(()) => Ok(()),
-        Err(_refused) => Err("memory")?,
-    }
+    let row = row_of(alloc, number, len)?;
+    push(log, &row)
+}
+
+// So of a text at the key `a` in the first node, as a version of it.
+fn put_version(
+    log: &mut PrivateLog,
+    alloc: Global,
+    version: u64,
+    value: &[u8],
+) -> Result<(), Refusal>
+    requires first { 1 ≤ version }
+    requires last { version < 100 }
+    requires some { 1 ≤ length value.now }
+    requires few { length value.now ≤ 256 }
+    requires fit { AllByRecursion (FitsRow mark.Two) log.old }
+    ensures { OnOk result (AllByRecursion (FitsRow mark.Two) log.new) }
+{
+    let row = row_with(alloc, 1, version, text(alloc, value)?)?;
+    push(log, &row)
 }
 
 // So in each of so many nodes, from a number on.
@@ -125,7 +154,7 @@ fn commit(room: &mut Room<MemDisk>, log: &PrivateLog) -> Result<(), Refusal>
             let _stamp = room.append(log);
             Ok(())
         }
-        _ => Err("fit")?,
+        _ => Err("fit"),
     }
 }
 
@@ -177,8 +206,7 @@ pub fn seal_version(
     ensures turns { HadTurns room.old room.new }
 {
     let mut log = PrivateLog::new(alloc);
-    let row = row_with(alloc, 1, version, text(alloc, value)?)?;
-    log.push(&row).ok().ok_or("memory")?;
+    put_version(&mut log, alloc, version, value)?;
     seal_log(room, &log)
 }
 

@@ -12,7 +12,6 @@ use partition_hold::View;
 use reopen::open_log;
 use room_merges::MergeFault;
 use std::alloc::Global;
-use std::test::Fail;
 
 // What a merge answers.
 #[derive(Clone, Copy, Debug, PartialEq, Eq)]
@@ -70,63 +69,63 @@ fn seal_two(room: &mut Room<MemDisk>, alloc: Global) -> Result<(), Refusal>
     seal_some(room, alloc, 2, 1, 1)
 }
 
-// A room of two parts of one row, which take four calls of the disk each.
-fn two_parts(alloc: Global, plan: FaultPlan) -> Result<Room<MemDisk>, Fail>
-    ensures { IfOk result (λ room. (room.room.board ≡ None ∷ None ∷ None ∷ []) × (room.room.job ≡ None)) }
+// Three merges of two parts of one row, which take four calls of the disk each.
+fn merge_two(room: &mut Room<MemDisk>, alloc: Global) -> Result<[Answer; 3], Refusal>
+    requires board { room.old.room.board ≡ None ∷ None ∷ None ∷ [] }
+    requires job { room.old.room.job ≡ None }
 {
-    let mut room = new_room(alloc, plan)?;
-    seal_two(&mut room, alloc)?;
-    Ok(room)
+    seal_two(room, alloc)?;
+    Ok(merge_thrice(room, alloc))
 }
 
-fn merged_with(alloc: Global, plan: FaultPlan) -> Result<[Answer; 3], Fail> {
-    let mut room = two_parts(alloc, plan)?;
-    Ok(merge_thrice(&mut room, alloc))
+// So in a new room.
+fn merged_with(alloc: Global, plan: FaultPlan) -> Result<[Answer; 3], Refusal> {
+    let mut room = new_room(alloc, plan)?;
+    merge_two(&mut room, alloc)
 }
 
 #[test]
-fn each_call_that_fails_is_told(rt: HostRuntime) -> Result<(), Fail> {
+fn each_call_that_fails_is_told(rt: HostRuntime) {
     let alloc = rt.alloc();
     // the view's eye, the body and the header and their sync, the gate and its sync, and two gates and a sync to erase the two
     for stop in 9..18 {
         assert_eq!(rt;
-            merged_with(alloc, stop_at(alloc, stop))?,
-            [Disk, Shut, Shut]
+            merged_with(alloc, stop_at(alloc, stop)),
+            Ok([Disk, Shut, Shut])
         );
     }
     assert_eq!(rt;
-        merged_with(alloc, stop_at(alloc, 18))?,
-        [Merged, Disk, Shut]
+        merged_with(alloc, stop_at(alloc, 18)),
+        Ok([Merged, Disk, Shut])
     );
     assert_eq!(rt;
-        merged_with(alloc, FaultPlan::none(alloc))?,
-        [Merged, NoneFit, NoneFit]
+        merged_with(alloc, FaultPlan::none(alloc)),
+        Ok([Merged, NoneFit, NoneFit])
     );
-    Ok(())
 }
 
 // A plan by which one read of the first eye fails.
-fn failing_read(alloc: Global, read: u64) -> Result<FaultPlan, Fail> {
+fn failing_read(alloc: Global, read: u64) -> Result<FaultPlan, Refusal> {
     let mut plan = FaultPlan::none(alloc);
     plan.eye_reads.push((1, read)).ok().ok_or("memory")?;
     Ok(plan)
 }
 
+fn merged_reading(alloc: Global, read: u64) -> Result<[Answer; 3], Refusal> {
+    merged_with(alloc, failing_read(alloc, read)?)
+}
+
 #[test]
-fn a_read_that_fails_leaves_the_room_open(rt: HostRuntime) -> Result<(), Fail> {
-    let alloc = rt.alloc();
+fn a_read_that_fails_leaves_the_room_open(rt: HostRuntime) {
     // the index and the rows of two parts, to measure them and to merge them
-    for read in 1..9 {
+    for read in 1..10 {
+        let first = if read < 9 { Read } else { Merged };
+        let second = if read < 9 { Merged } else { NoneFit };
         assert_eq!(rt;
-            merged_with(alloc, failing_read(alloc, read)?)?,
-            [Read, Merged, NoneFit]
+            merged_reading(rt.alloc(), read),
+            Ok([first, second, NoneFit])
         );
     }
-    assert_eq!(rt;
-        merged_with(alloc, failing_read(alloc, 9)?)?,
-        [Merged, NoneFit, NoneFit]
-    );
-    Ok(())
 }
 
 // ---- crashes
@@ -141,7 +140,7 @@ fn seal_three(room: &mut Room<MemDisk>, alloc: Global) -> Result<(), Refusal>
 }
 
 // A room of three such parts, which take twelve calls of the disk.
-pub fn three_parts(alloc: Global, plan: FaultPlan) -> Result<Room<MemDisk>, Fail>
+pub fn three_parts(alloc: Global, plan: FaultPlan) -> Result<Room<MemDisk>, Refusal>
     ensures { IfOk result (λ room. (room.room.board ≡ None ∷ None ∷ None ∷ []) × (room.room.job ≡ None)) }
 {
     let mut room = new_room(alloc, plan)?;
@@ -150,16 +149,16 @@ pub fn three_parts(alloc: Global, plan: FaultPlan) -> Result<Room<MemDisk>, Fail
 }
 
 // The disk of a room as a crash leaves it, where all that was not synced has one byte; as the last sync left it without such bytes.
-pub fn crash(alloc: Global, room: Room<MemDisk>, byte: u8, len: usize) -> Result<MemDisk, Fail>
+fn crash(alloc: Global, room: Room<MemDisk>, byte: u8, len: usize) -> Result<MemDisk, Refusal>
     requires board { room.room.board ≡ None ∷ None ∷ None ∷ [] }
     requires job { room.room.job ≡ None }
     ensures { IfOk result (λ disk. IsIdle disk.disk) }
 {
-    let picks = vec![in alloc; byte; len].ok().ok_or("memory")?;
     let disk = room.into_disk();
+    let picks = vec![in alloc; byte; len].ok().ok_or("memory")?;
     match disk.crashed(picks.as_slice()) {
         Ok(disk) => Ok(disk),
-        Err(_refused) => Err("memory")?,
+        Err(_refused) => Err("memory"),
     }
 }
 
@@ -192,33 +191,63 @@ fn shows<E: LogEye>(view: &mut View<E>, number: u32, leaves: &[Node]) -> bool {
     }
 }
 
+// In how many nodes it does, from the first one on, up to 32.
+fn count_shown<E: LogEye>(view: &mut View<E>, leaves: &[Node]) -> u32 {
+    for number in 1..33 {
+        if !shows(view, number, leaves) {
+            return number - 1;
+        }
+    }
+    32
+}
+
+// So of a room.
+fn nodes_with(room: &mut Room<MemDisk>, leaves: &[Node]) -> Result<u32, Refusal>
+    requires { room.old.room.board ≡ None ∷ None ∷ None ∷ [] }
+{
+    match room.view_for(1) {
+        Ok(mut view) => Ok(count_shown(&mut view, leaves)),
+        Err(_fault) => Err("view"),
+    }
+}
+
 // How many nodes a room shows with a value of one byte or of 256, from the first one on, up to 32.
-fn nodes_of(room: &mut Room<MemDisk>, alloc: Global) -> Result<u32, Fail>
+fn nodes_of(room: &mut Room<MemDisk>, alloc: Global) -> Result<u32, Refusal>
     requires { room.old.room.board ≡ None ∷ None ∷ None ∷ [] }
 {
     let leaves = [leaf_of(alloc, 1)?, leaf_of(alloc, 256)?];
-    let Ok(mut view) = room.view_for(1) else {
-        return Err("view")?;
-    };
-    for number in 1..33 {
-        if !shows(&mut view, number, &leaves) {
-            return Ok(number - 1);
-        }
-    }
-    Ok(32)
+    nodes_with(room, &leaves)
 }
 
-// The last epoch of a log, and how many nodes it shows, from the first one on.
-pub fn reopened(alloc: Global, disk: MemDisk) -> Result<(u64, u32), Fail>
+// The last epoch of a room, and how many nodes it shows, from the first one on.
+fn shown_in(room: &mut Room<MemDisk>, alloc: Global) -> Result<(u64, u32), Refusal>
+    requires { room.old.room.board ≡ None ∷ None ∷ None ∷ [] }
+{
+    let sealed = room.counts().sealed;
+    Ok((sealed, nodes_of(room, alloc)?))
+}
+
+// So of a log.
+fn reopened(alloc: Global, disk: MemDisk) -> Result<(u64, u32), Refusal>
     requires { IsIdle disk.disk }
 {
     match open_log(alloc, disk) {
-        Ok(mut room) => {
-            let sealed = room.counts().sealed;
-            Ok((sealed, nodes_of(&mut room, alloc)?))
-        }
-        Err(_refused) => Err("open")?,
+        Ok(mut room) => shown_in(&mut room, alloc),
+        Err(_refused) => Err("open"),
     }
+}
+
+// So of what such a crash leaves of a room.
+pub fn left_by(
+    alloc: Global,
+    room: Room<MemDisk>,
+    byte: u8,
+    len: usize,
+) -> Result<(u64, u32), Refusal>
+    requires board { room.room.board ≡ None ∷ None ∷ None ∷ [] }
+    requires job { room.room.job ≡ None }
+{
+    reopened(alloc, crash(alloc, room, byte, len)?)
 }
 
 // What merging three parts answers where the calls fail from a number on, and what a crash then leaves of them.
@@ -227,11 +256,10 @@ fn stopped(
     stop: u64,
     byte: u8,
     len: usize,
-) -> Result<([Answer; 3], (u64, u32)), Fail> {
+) -> Result<([Answer; 3], (u64, u32)), Refusal> {
     let mut room = three_parts(alloc, stop_at(alloc, stop))?;
     let answers = merge_thrice(&mut room, alloc);
-    let disk = crash(alloc, room, byte, len)?;
-    Ok((answers, reopened(alloc, disk)?))
+    Ok((answers, left_by(alloc, room, byte, len)?))
 }
 
 // What three merges of three parts answer, where the calls fail from a number on. The first merge takes eleven calls, the second eleven, and
@@ -247,14 +275,14 @@ fn answers_at(stop: u64) -> [Answer; 3] {
 }
 
 #[test]
-fn a_merge_that_is_stopped_loses_no_row(rt: HostRuntime) -> Result<(), Fail> {
+fn a_merge_that_is_stopped_loses_no_row(rt: HostRuntime) {
     // what was not synced is as it was; or each gate that was being written is open, or closed, behind which other bytes stand
     for (byte, len) in [(0, 0), (0xa7, 8192), (0, 8192)] {
         for stop in 13..37 {
-            let (answers, shown) = stopped(rt.alloc(), stop, byte, len)?;
-            assert_eq!(rt; answers, answers_at(stop));
-            assert_eq!(rt; shown, (3, 24));
+            assert_eq!(rt;
+                stopped(rt.alloc(), stop, byte, len),
+                Ok((answers_at(stop), (3, 24)))
+            );
         }
     }
-    Ok(())
 }

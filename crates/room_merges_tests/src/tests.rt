@@ -10,7 +10,6 @@ use log_disk::{FaultPlan, LogDisk, MemDisk};
 use partition_index_tests::ONE_ROW;
 use room_merges::merge_near;
 use std::alloc::Global;
-use std::test::Fail;
 
 // Five epochs more of one entry each, in five nodes.
 fn seal_five(room: &mut Room<MemDisk>, alloc: Global) -> Result<(), Refusal>
@@ -21,15 +20,6 @@ fn seal_five(room: &mut Room<MemDisk>, alloc: Global) -> Result<(), Refusal>
     seal_some(room, alloc, 3, 1, 1)?;
     seal_some(room, alloc, 4, 1, 1)?;
     seal_some(room, alloc, 5, 1, 1)
-}
-
-// A room of five parts, of one row each.
-fn five_parts(alloc: Global) -> Result<Room<MemDisk>, Fail>
-    ensures { IfOk result (λ room. (room.room.board ≡ None ∷ None ∷ None ∷ []) × (room.room.job ≡ None)) }
-{
-    let mut room = new_room(alloc, FaultPlan::none(alloc))?;
-    seal_five(&mut room, alloc)?;
-    Ok(room)
 }
 
 // What merging once answers, and how many regions are live, retired and free then.
@@ -44,19 +34,30 @@ fn merge_once(room: &mut Room<MemDisk>, alloc: Global) -> (Option<bool>, u32, u3
     (merged, counts.live, counts.retired, counts.free)
 }
 
+type Merged = [(Option<bool>, u32, u32, u32); 5];
+
 // Five merges of five parts, one after another.
-fn merge_five(alloc: Global) -> Result<[(Option<bool>, u32, u32, u32); 5], Fail> {
-    let mut room = five_parts(alloc)?;
-    let first = merge_once(&mut room, alloc);
-    let second = merge_once(&mut room, alloc);
-    let third = merge_once(&mut room, alloc);
-    let fourth = merge_once(&mut room, alloc);
-    let fifth = merge_once(&mut room, alloc);
+fn merge_five(room: &mut Room<MemDisk>, alloc: Global) -> Result<Merged, Refusal>
+    requires board { room.old.room.board ≡ None ∷ None ∷ None ∷ [] }
+    requires job { room.old.room.job ≡ None }
+{
+    seal_five(room, alloc)?;
+    let first = merge_once(room, alloc);
+    let second = merge_once(room, alloc);
+    let third = merge_once(room, alloc);
+    let fourth = merge_once(room, alloc);
+    let fifth = merge_once(room, alloc);
     Ok([first, second, third, fourth, fifth])
 }
 
+// So in a new room.
+fn merged_five(alloc: Global) -> Result<Merged, Refusal> {
+    let mut room = new_room(alloc, FaultPlan::none(alloc))?;
+    merge_five(&mut room, alloc)
+}
+
 #[test]
-fn five_parts_become_one(rt: HostRuntime) -> Result<(), Fail> {
+fn five_parts_become_one(rt: HostRuntime) {
     let answers = [
         (Some(true), 4, 0, 4),
         (Some(true), 3, 0, 5),
@@ -64,8 +65,7 @@ fn five_parts_become_one(rt: HostRuntime) -> Result<(), Fail> {
         (Some(true), 1, 0, 7),
         (Some(false), 1, 0, 7),
     ];
-    assert_eq!(rt; merge_five(rt.alloc())?, answers);
-    Ok(())
+    assert_eq!(rt; merged_five(rt.alloc()), Ok(answers));
 }
 
 // ---- rows that are folded
@@ -79,7 +79,7 @@ fn seal_both(room: &mut Room<MemDisk>, alloc: Global) -> Result<(), Refusal>
 }
 
 // A room with these two parts.
-fn put_twice(alloc: Global) -> Result<Room<MemDisk>, Fail>
+fn put_twice(alloc: Global) -> Result<Room<MemDisk>, Refusal>
     ensures { IfOk result (λ room. (room.room.board ≡ None ∷ None ∷ None ∷ []) × (room.room.job ≡ None)) }
 {
     let mut room = new_room(alloc, FaultPlan::none(alloc))?;
@@ -88,26 +88,30 @@ fn put_twice(alloc: Global) -> Result<Room<MemDisk>, Fail>
 }
 
 // The first 25 bytes of the body of a part of one region.
-fn body_at(room: Room<MemDisk>, region: u32) -> Result<[u8; 25], Fail>
+fn body_on(disk: &mut MemDisk, region: u32) -> Result<[u8; 25], Refusal> {
+    let mut bytes = [0u8; 25];
+    if region >= disk.regions() || disk.region_len() < 66 {
+        return Err("region");
+    }
+    match disk.read(region, 41, &mut bytes) {
+        Ok(()) => Ok(bytes),
+        Err(_failed) => Err("read"),
+    }
+}
+
+fn body_at(room: Room<MemDisk>, region: u32) -> Result<[u8; 25], Refusal>
     requires board { room.room.board ≡ None ∷ None ∷ None ∷ [] }
     requires job { room.room.job ≡ None }
 {
     let mut disk = room.into_disk();
-    let mut bytes = [0u8; 25];
-    if region >= disk.regions() || disk.region_len() < 66 {
-        return Err("region")?;
-    }
-    match disk.read(region, 41, &mut bytes) {
-        Ok(()) => Ok(bytes),
-        Err(_failed) => Err("read")?,
-    }
+    body_on(&mut disk, region)
 }
 
 type Folded = ((Option<bool>, u32, u32, u32), Option<Part>, [u8; 25]);
 
 // What merging such a room answers, and how many regions are live, retired and free then; the first part of the chain, and the bytes of the row
 // in the third region.
-fn folded(alloc: Global) -> Result<Folded, Fail> {
+fn folded(alloc: Global) -> Result<Folded, Refusal> {
     let mut room = put_twice(alloc)?;
     let merged = merge_once(&mut room, alloc);
     let part = room.parts().as_slice().first().copied();
@@ -132,12 +136,12 @@ fn image_row() -> [u8; 25] {
 }
 
 #[test]
-fn two_puts_of_a_key_become_an_image(rt: HostRuntime) -> Result<(), Fail> {
-    let (merged, part, row) = folded(rt.alloc())?;
-    assert_eq!(rt; merged, (Some(true), 1, 0, 7));
-    assert_eq!(rt; part, Some(IMAGE_PART));
-    assert_eq!(rt; row, image_row());
-    Ok(())
+fn two_puts_of_a_key_become_an_image(rt: HostRuntime) {
+    let merged = (Some(true), 1, 0, 7);
+    assert_eq!(rt;
+        folded(rt.alloc()),
+        Ok((merged, Some(IMAGE_PART), image_row()))
+    );
 }
 
 // ---- which neighbours are merged
@@ -148,19 +152,28 @@ fn range_at(parts: &[Part], place: usize) -> Option<(u64, u64)> {
     Some((part.header.range.first, part.header.range.last))
 }
 
-// The epochs of the second and the third part, once neighbours were merged from an epoch on.
-fn merge_from(
-    alloc: Global,
-    from: u64,
-) -> Result<(Option<bool>, Option<(u64, u64)>, Option<(u64, u64)>), Fail> {
-    let mut room = five_parts(alloc)?;
-    let merged = merge_near(alloc, &mut room, from).ok();
+// What a merge answers, and the epochs of the second and the third part then.
+type Neighbours = (Option<bool>, Option<(u64, u64)>, Option<(u64, u64)>);
+
+// So of five parts, where neighbours are merged from an epoch on.
+fn merge_from(room: &mut Room<MemDisk>, alloc: Global, from: u64) -> Result<Neighbours, Refusal>
+    requires board { room.old.room.board ≡ None ∷ None ∷ None ∷ [] }
+    requires job { room.old.room.job ≡ None }
+{
+    seal_five(room, alloc)?;
+    let merged = merge_near(alloc, room, from).ok();
     let parts = room.parts().as_slice();
     Ok((merged, range_at(parts, 1), range_at(parts, 2)))
 }
 
+// So in a new room.
+fn merged_from(alloc: Global, from: u64) -> Result<Neighbours, Refusal> {
+    let mut room = new_room(alloc, FaultPlan::none(alloc))?;
+    merge_from(&mut room, alloc, from)
+}
+
 #[test]
-fn the_neighbours_from_an_epoch_on_are_first(rt: HostRuntime) -> Result<(), Fail> {
+fn the_neighbours_from_an_epoch_on_are_first(rt: HostRuntime) {
     for (from, second, third) in [
         (1, (3, 3), (4, 4)),
         (2, (2, 3), (4, 4)),
@@ -169,9 +182,8 @@ fn the_neighbours_from_an_epoch_on_are_first(rt: HostRuntime) -> Result<(), Fail
         (5, (3, 3), (4, 4)),
     ] {
         assert_eq!(rt;
-            merge_from(rt.alloc(), from)?,
-            (Some(true), Some(second), Some(third))
+            merged_from(rt.alloc(), from),
+            Ok((Some(true), Some(second), Some(third)))
         );
     }
-    Ok(())
 }

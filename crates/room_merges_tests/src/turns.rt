@@ -7,8 +7,8 @@ ghost use Rattle.partition_merge.specs.Mergers.{IsCounted};
 ghost use Rattle.room_merges.specs.Merging.{Measures};
 ghost use Rattle.room_merges_tests.specs.Turns.{EndsTurn, IsAt, IsPicked, IsTaken, IsUnderway, IsWritten, Merges};
 
-use crate::fixtures::{seal_some, stop_at};
-use crate::stops::{crash, reopened, three_parts};
+use crate::fixtures::{Refusal, seal_some, stop_at};
+use crate::stops::{left_by, three_parts};
 use epoch_room::{EraseFault, Room};
 use fine_model::{Header, Job, Part};
 use log_disk::{MemDisk, MemEye};
@@ -16,7 +16,6 @@ use partition_hold::View;
 use partition_merge::{Blocks, Measure, Merger};
 use room_merges::{Progress, write_next};
 use std::alloc::Global;
-use std::test::Fail;
 
 // How far a merge came.
 #[derive(Clone, Copy, Debug, PartialEq, Eq)]
@@ -52,23 +51,23 @@ fn has_part(view: &View<MemEye>, part: &Part) -> bool
 }
 
 // The job of the first two neighbours, of which a view has both.
-fn pick(room: &mut Room<MemDisk>, view: &View<MemEye>) -> Result<Job, Fail>
+fn pick(room: &mut Room<MemDisk>, view: &View<MemEye>) -> Result<Job, Refusal>
     requires at { IsAt room.old view.now }
     requires job { room.old.room.job ≡ None }
     ensures { IfOk result (IsPicked room.new view.now) }
 {
     let Some(job) = room.merge_pick(1) else {
-        return Err("neighbours")?;
+        return Err("neighbours");
     };
     if has_part(view, &job.older) && has_part(view, &job.newer) {
         Ok(job)
     } else {
-        Err("parts")?
+        Err("parts")
     }
 }
 
 // The measure of the merged rows of a job's two parts.
-fn measured(view: &mut View<MemEye>, job: &Job) -> Result<Measure, Fail>
+fn measured(view: &mut View<MemEye>, job: &Job) -> Result<Measure, Refusal>
     requires older { Contains view.old.parts job.now.older }
     requires newer { Contains view.old.parts job.now.newer }
     ensures same { SameView view.old view.new }
@@ -79,18 +78,18 @@ fn measured(view: &mut View<MemEye>, job: &Job) -> Result<Measure, Fail>
     let mut merger = Merger::new(job.older, job.newer, view.region_len());
     match view.measure(&mut merger) {
         Ok(measure) => Ok(measure),
-        Err(_fault) => Err("measure")?,
+        Err(_fault) => Err("measure"),
     }
 }
 
 // Takes regions for the merged rows of a job's two parts.
-fn take(room: &mut Room<MemDisk>, view: &mut View<MemEye>, job: &mut Job) -> Result<Header, Fail>
+fn take(room: &mut Room<MemDisk>, view: &mut View<MemEye>, job: &mut Job) -> Result<Header, Refusal>
     requires { IsPicked room.old view.old job.old }
     ensures { IfOk result (IsTaken room.new view.new job.new) }
 {
     let measure = measured(view, job)?;
     if !room.merge_take(job, measure) {
-        return Err("take")?;
+        return Err("take");
     }
     let Some(header) = job.header else {
         unreachable!()
@@ -105,7 +104,7 @@ fn blocks_for(
     view: &View<MemEye>,
     job: &Job,
     header: Header,
-) -> Result<Blocks, Fail>
+) -> Result<Blocks, Refusal>
     requires { IsTaken room.now view.now job.now header }
     ensures { IfOk result (λ blocks. IsUnderway room.now view.now blocks job.now header) }
 {
@@ -113,7 +112,7 @@ fn blocks_for(
     let _parts = view.parts();
     match Blocks::new(alloc, job.older, job.newer, room.region_len(), 4095) {
         Ok(blocks) => Ok(blocks),
-        Err(_no_memory) => Err("memory")?,
+        Err(_no_memory) => Err("memory"),
     }
 }
 
@@ -229,7 +228,7 @@ fn merge_in_turns(
     room: &mut Room<MemDisk>,
     alloc: Global,
     view: &mut View<MemEye>,
-) -> Result<Came, Fail>
+) -> Result<Came, Refusal>
     requires at { IsAt room.old view.old }
     requires job { room.old.room.job ≡ None }
     ensures at { OnOk result (IsAt room.new view.new) }
@@ -267,7 +266,7 @@ type Merged = (Came, u64, (Erased, Erased));
 
 // How far a merge between seals comes, the last epoch that is sealed then, and whether a retired part is erased while the view is out, and once
 // it came back. Neither a view nor a job is out behind it.
-fn merge_between_seals(room: &mut Room<MemDisk>, alloc: Global) -> Result<Merged, Fail>
+fn merge_between_seals(room: &mut Room<MemDisk>, alloc: Global) -> Result<Merged, Refusal>
     requires board { room.old.room.board ≡ None ∷ None ∷ None ∷ [] }
     requires job { room.old.room.job ≡ None }
     ensures board { OnOk result (room.new.room.board ≡ None ∷ None ∷ None ∷ []) }
@@ -287,11 +286,10 @@ fn merged_with(
     stop: u64,
     byte: u8,
     len: usize,
-) -> Result<(Merged, (u64, u32)), Fail> {
+) -> Result<(Merged, (u64, u32)), Refusal> {
     let mut room = three_parts(alloc, stop_at(alloc, stop))?;
     let merged = merge_between_seals(&mut room, alloc)?;
-    let disk = crash(alloc, room, byte, len)?;
-    Ok((merged, reopened(alloc, disk)?))
+    Ok((merged, left_by(alloc, room, byte, len)?))
 }
 
 // Whether a part is erased behind a merge, where the calls fail from a number on: not while the view is out.
@@ -332,7 +330,7 @@ fn shown_at(epoch: u32) -> (u64, u32) {
 
 // What a merge between seals answers, and leaves behind a crash, where the calls fail from a number on: what was not synced is as it was; or
 // each gate that was being written is open, or closed, behind which other bytes stand.
-fn merged_thrice(alloc: Global, stop: u64) -> Result<[(Merged, (u64, u32)); 3], Fail> {
+fn merged_thrice(alloc: Global, stop: u64) -> Result<[(Merged, (u64, u32)); 3], Refusal> {
     let kept = merged_with(alloc, stop, 0, 0)?;
     let opened = merged_with(alloc, stop, 0xa7, 8192)?;
     let closed = merged_with(alloc, stop, 0, 8192)?;
@@ -340,19 +338,18 @@ fn merged_thrice(alloc: Global, stop: u64) -> Result<[(Merged, (u64, u32)); 3], 
 }
 
 #[test]
-fn a_job_is_out_across_two_seals(rt: HostRuntime) -> Result<(), Fail> {
+fn a_job_is_out_across_two_seals(rt: HostRuntime) {
     for (from, until, came, sealed, opened) in steps() {
         for stop in from..until {
             let merged = (came, u64::from(sealed), erased_at(came, stop));
             assert_eq!(rt;
-                merged_thrice(rt.alloc(), stop)?,
-                [
+                merged_thrice(rt.alloc(), stop),
+                Ok([
                     (merged, shown_at(sealed)),
                     (merged, shown_at(opened)),
                     (merged, shown_at(sealed))
-                ]
+                ])
             );
         }
     }
-    Ok(())
 }

@@ -162,12 +162,18 @@ fn live_of(room: &Room<MemDisk>) -> ([u8; 4], u32) {
     (leads(room.parts().as_slice()), room.counts().free)
 }
 
-fn opened(alloc: Global, regions: &[Shown; 4]) -> Option<Opened> {
-    let disk = disk_of(alloc, regions)?;
-    Some(match open_log(alloc, disk) {
+fn opened_on(alloc: Global, disk: MemDisk) -> Opened
+    requires { IsIdle disk.disk }
+{
+    match open_log(alloc, disk) {
         Ok(room) => Ok(live_of(&room)),
-        Err((fault, _disk)) => Err(damage_of(fault)),
-    })
+        Err(refused) => Err(damage_of(refused.0)),
+    }
+}
+
+/// So of a disk that shows this.
+fn opened(alloc: Global, regions: &[Shown; 4]) -> Option<Opened> {
+    Some(opened_on(alloc, disk_of(alloc, regions)?))
 }
 
 /// What the chain of a disk that shows this comes to, and the room that opens on it.

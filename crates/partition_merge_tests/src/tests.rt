@@ -458,7 +458,7 @@ fn push_all(all: &mut Rows, rows: &[Row]) -> Result<(), NoMemory> {
 fn node_by_node<E: LogEye>(
     alloc: Global,
     eye: &mut E,
-    merger: Merger,
+    mut merger: Merger,
     all: &mut Rows,
 ) -> Result<(), FetchFault>
     requires older { IsSeen (E.LogEye.state eye.old) (older_part merger) }
@@ -466,8 +466,7 @@ fn node_by_node<E: LogEye>(
     requires region_len { merger.region_len ≡ (E.LogEye.state eye.old).region_len }
     requires kept { AreKept (E.LogEye.state eye.old).told merger }
 {
-    let mut pass = merger;
-    while let Some(rows) = pass.next_node(alloc, eye)? {
+    while let Some(rows) = merger.next_node(alloc, eye)? {
         if push_all(all, rows.as_slice()).is_err() {
             return Err(FetchFault::NoMemory);
         }

@@ -106,24 +106,6 @@ fn put(log: &mut PrivateLog, alloc: Global, number: u32, len: usize) -> Result<(
     push(log, &row)
 }
 
-// So of a text at the key `a` in the first node, as a version of it.
-fn put_version(
-    log: &mut PrivateLog,
-    alloc: Global,
-    version: u64,
-    value: &[u8],
-) -> Result<(), Refusal>
-    requires first { 1 ≤ version }
-    requires last { version < 100 }
-    requires some { 1 ≤ length value.now }
-    requires few { length value.now ≤ 256 }
-    requires fit { AllByRecursion (FitsRow mark.Two) log.old }
-    ensures { OnOk result (AllByRecursion (FitsRow mark.Two) log.new) }
-{
-    let row = row_with(alloc, 1, version, text(alloc, value)?)?;
-    push(log, &row)
-}
-
 // So in each of so many nodes, from a number on.
 fn put_some(alloc: Global, from: u32, nodes: u32, len: usize) -> Result<PrivateLog, Refusal>
     requires low { 1 ≤ from }
@@ -191,6 +173,17 @@ pub fn seal_some(
     seal_log(room, &put_some(alloc, from, nodes, len)?)
 }
 
+// So of this row.
+#[tactic(auto, using(crate::proofs::Turned::no_turns))]
+fn seal_row(room: &mut Room<MemDisk>, alloc: Global, row: &Row) -> Result<(), Refusal>
+    requires { FitsRow mark.Two row.now }
+    ensures turns { HadTurns room.old room.new }
+{
+    let mut log = PrivateLog::new(alloc);
+    push(&mut log, row)?;
+    seal_log(room, &log)
+}
+
 // An epoch more of one entry, which puts a text at the key `a` in the first node, as a version of it.
 #[tactic(auto, using(crate::proofs::Turned::no_turns))]
 pub fn seal_version(
@@ -205,9 +198,8 @@ pub fn seal_version(
     requires few { length value.now ≤ 256 }
     ensures turns { HadTurns room.old room.new }
 {
-    let mut log = PrivateLog::new(alloc);
-    put_version(&mut log, alloc, version, value)?;
-    seal_log(room, &log)
+    let row = row_with(alloc, 1, version, text(alloc, value)?)?;
+    seal_row(room, alloc, &row)
 }
 
 // A merge of a room of which nothing is out, and nothing is out of it then.

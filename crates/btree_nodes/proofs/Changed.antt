@@ -15,7 +15,7 @@ use Rattle.node_cache.specs.declared.cached.Cached.{Cached}
 use Rattle.node_cache.specs.Cache.{Cache, cached, original, before, rewritten, saving, IsSaved}
 use Rattle.node_cache.specs.Given.{given, IsCached}
 use Rattle.node_cache.specs.Changing.{IsPairChange}
-use Rattle.node_cache.proofs.Bounds.{same_kept}
+use Rattle.node_cache.proofs.Equal.{same_kept}
 use Rattle.node_cache.proofs.Kept.{saving_before, saving_here}
 use Rattle.btree_nodes.specs.Trees.{node_at}
 use Rattle.btree_nodes.specs.Changes.{Saves, IsChanged, is_named, Pushes}
@@ -214,9 +214,6 @@ module _ (b m : Cache) (k : ℕ) (saved : m ≡ saving b k) where
     changed = λ q. inr (unchanged q);
     order = record { added = []; is = ap (λ c. keys_of c.nodes) saved ∙ ap (λ (es : List (ℕ × Cached)). keys_of es) (saving_same b k).1 ∙ sym (append-nil (keys_of b.nodes)) };
   }
-
-  pub saved_there : IsCached b k → IsCached m k
-  saved_there here = ap is_some (unchanged k) ∙ here
 
   -- and then a row is done to it, or memory runs out
   pub saves_then : (new : Cache) (row : Row) (r : Result (Unit {0}) NoMemory) → row.node.number ≡ k → row.node.bucket ≡ b.bucket → IsCached b k → ((n : ℕ) → before m n ≡ before b n) → IsSaved m k → OnOk r (IsChanged m new row) → OnErr r (new ≡ m) → Saves b new

@@ -7,7 +7,7 @@ use Rattle.fine_model.specs.declared.Row.{Row}
 use Rattle.fine_model.specs.declared.Node.TheVariants as node
 use Rattle.node_cache.specs.declared.cached.Cached.{Cached}
 use Rattle.node_cache.specs.Cache.{Cache, cached}
-use Rattle.node_cache.specs.Given.{Finds, given, IsCached, IsFetched, IsLoad, IsLoaded, SameNodes}
+use Rattle.node_cache.specs.Given.{Finds, given, IsCached, IsFetched, IsLoaded, SameNodes}
 use Rattle.btree_nodes.specs.Trees.{LoadsAmong}
 
 pub same_or_not : (n m : ℕ) → (n ≡ m) ⊎ (n ≢ m)
@@ -22,27 +22,6 @@ none_or_some None = inl refl
 none_or_some (Some kept) = inr refl
 
 module _ (tells : List Row → Type 0) (finds : Finds) (upper : ℕ) where
-  -- nothing was loaded
-  pub loaded_same : (old new : Cache) → new.bucket ≡ old.bucket → new.saved ≡ old.saved → SameNodes old new → IsLoaded tells finds upper old new
-  loaded_same old new bucket saved same = record {
-    bucket = bucket;
-    saved = saved;
-    stays = λ n here. same n;
-    fetched = λ n none. subst (λ o. IfSome o (IsFetched tells finds upper old.bucket n)) (sym (same n ∙ none)) tt;
-  }
-
-  -- one node was
-  pub loaded_one : (number : ℕ) (old new : Cache) → IsLoad tells finds upper number old new → IsLoaded tells finds upper old new
-  loaded_one number old new load = record {
-    bucket = load.bucket;
-    saved = load.saved;
-    stays = λ n here. ⊎_elim (λ same. subst (λ m. cached new m ≡ cached old m) (sym same) (load.stays (subst (IsCached old) same here))) (λ other. load.others n other) (same_or_not n number);
-    fetched = λ n none. ⊎_elim
-        (λ same. subst (λ m. IfSome (cached new m) (IsFetched tells finds upper old.bucket m)) (sym same) (load.fetched (subst (λ m. cached old m ≡ None) same none)))
-        (λ other. subst (λ o. IfSome o (IsFetched tells finds upper old.bucket n)) (sym (load.others n other ∙ none)) tt)
-        (same_or_not n number);
-  }
-
   -- some, and then some more
   pub loaded_on : (a b c : Cache) → IsLoaded tells finds upper a b → IsLoaded tells finds upper b c → IsLoaded tells finds upper a c
   loaded_on a b c first second = record {

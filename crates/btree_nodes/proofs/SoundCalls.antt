@@ -1,5 +1,5 @@
 -- Calls that change a tree, on sound rows.
-use Rattle.std.proofs.Common.{◌≡◌, ℕ, Bool, if◌then◌else◌, List, ◌++◌, Option, None, is_some, Result, Ok, Err, refl, sym, ap, subst, ◌∙◌}
+use Rattle.std.proofs.Common.{◌≡◌, ℕ, Bool, if◌then◌else◌, List, ◌++◌, Option, None, is_some, Result, Ok, Err, sym, ap, subst, ◌∙◌}
 use Rattle.fine_model.specs.declared.Call.{Call}
 use Rattle.fine_model.specs.declared.Call.TheVariants as call
 use Rattle.fine_model.specs.declared.FetchFault.{FetchFault}
@@ -15,8 +15,7 @@ use Rattle.btree_nodes.specs.declared.fault.TreeFault.{TreeFault}
 use Rattle.btree_nodes.specs.declared.fault.TreeFault.TheVariants.{Source, Unfit, BucketFull, Number, NoMemory}
 use Rattle.node_cache.specs.Given.{Finds, given, IsCached, IsLoaded}
 use Rattle.btree_nodes.specs.Trees.{unfit_in, pairs_in, Serves, Holds, LoadsOnWay, HeadSays, first_over}
-use Rattle.btree_nodes.specs.Calls.{Answers, IsFound, IsReached, IsAsBefore, Outcome, IsChange, OnReached, OnCleanAnswer, Stays, SoundOutcome, SoundReading}
-use Rattle.btree_nodes.proofs.Changed.{saves_itself}
+use Rattle.btree_nodes.specs.Calls.{Answers, IsFound, IsReached, IsAsBefore, Outcome, IsChange, OnCleanAnswer, Stays, SoundOutcome, SoundReading}
 use Rattle.btree_nodes.proofs.Held.{restores_saved, holds_pushed}
 use Rattle.btree_nodes.proofs.OnWays.{holds_on_way}
 use Rattle.btree_nodes.proofs.Sound.{holds_agrees, head_same, sound_pairs, sound_value, sound_leaf_push, sound_fit}
@@ -60,23 +59,6 @@ module _ (rows log : List Row) (mid : Cache) (key : List ℕ) (sound : IsSound (
 
 -- ---- from the way on
 
--- a fault on the way
-pub fault_first : {A B : Type 0} (mid : Cache) (log : List Row) (c : Call) (P : A → Type 0) (P' : B → Type 0) (F : FetchFault → Type 0) (e : TreeFault) → Answers mid (key_of c) P F (Err e) → Outcome mid mid log log c P' F (Err e)
-fault_first mid log c P P' F (Source f) h = (h, record { nodes = refl; rows = refl })
-fault_first mid log c P P' F (Unfit id) h = (h, record { nodes = refl; rows = refl })
-fault_first mid log c P P' F (BucketFull m d) h = absurd h
-fault_first mid log c P P' F (Number id) h = absurd h
-fault_first mid log c P P' F NoMemory h = saves_itself mid mid refl
-
--- and no load failed on the way, where what follows is no failed load
-pub still_clean : {A : Type 0} (mid new : Cache) (log log' : List Row) (c : Call) (P : A → Type 0) (r : Result A TreeFault) (C : Type 0) → C → Outcome mid new log log' c P (λ _. ⊥) r → OnCleanAnswer r C
-still_clean mid new log log' c P (Ok a) C clean h = clean
-still_clean mid new log log' c P (Err (Source f)) C clean h = absurd h.0
-still_clean mid new log log' c P (Err (Unfit id)) C clean h = clean
-still_clean mid new log log' c P (Err (BucketFull m d)) C clean h = clean
-still_clean mid new log log' c P (Err (Number id)) C clean h = clean
-still_clean mid new log log' c P (Err NoMemory) C clean h = clean
-
 -- the same answer at another type
 pub clean_fault : (A B : Type 0) (e : TreeFault) (C : Type 0) → OnCleanAnswer {A = A} (Err e) C → OnCleanAnswer {A = B} (Err e) C
 clean_fault A B (Source f) C h = h
@@ -95,13 +77,6 @@ clean_map (Err (Unfit id)) C D on h = on h
 clean_map (Err (BucketFull m d)) C D on h = on h
 clean_map (Err (Number id)) C D on h = on h
 clean_map (Err NoMemory) C D on h = on h
-
-pub reached_fault : (A B : Type 0) (mid : Cache) (key : List ℕ) (Q : B → Type 0) (F : FetchFault → Type 0) (e : TreeFault) (P : Type 0) → Answers mid key Q F (Err e) → OnReached {A = A} (Err e) P
-reached_fault A B mid key Q F (Source f) P h = tt
-reached_fault A B mid key Q F (Unfit id) P h = tt
-reached_fault A B mid key Q F (BucketFull m d) P h = absurd h
-reached_fault A B mid key Q F (Number id) P h = absurd h
-reached_fault A B mid key Q F NoMemory P h = tt
 
 -- a removal on sound rows
 pub removed_soundly : (tells : List Row → Type 0) (finds : Finds) (upper : ℕ) (old new : Cache) (log log' : List Row) (key : List ℕ) (F : FetchFault → Type 0) (r : Result Bool TreeFault) → old.bucket ≡ bucket_of key

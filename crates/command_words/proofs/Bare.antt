@@ -61,10 +61,6 @@ module _ (s : Shape) (names : Names) where
   bare_trailing : (word : Text) → turn_fault (bare s) names trailing_walk word ≡ [] → ⊥
   bare_trailing word e = stray_some s e
 
-  -- what the words give
-  pub bare_level : List Text → Bool → Kinds → Kinds
-  bare_level ws has below = level_fault (bare s) names nothing_held ws has below
-
   pub level_fails : (ws : List Text) (has : Bool) (below : Kinds) → (walk_fault (bare s) names (walk_from nothing_held) ws ≡ [] → ⊥) → level_fault (bare s) names nothing_held ws has below ≡ [] → ⊥
   level_fails ws has below some = or_fails _ _ some
 

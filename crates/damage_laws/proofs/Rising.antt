@@ -68,13 +68,6 @@ module _ (bucket : ℕ) (nodes : ℕ → Content) (next : ℕ) (key : List ℕ) 
   pub itself : (m : ℕ) → is_node (id m) (id m) ≡ true
   itself m = ap (λ b. b && (m == m)) (eq-eqb bucket bucket refl) ∙ eq-eqb m m refl
 
-  not_same : (m n : ℕ) → m ≢ n → is_node (id m) (id n) ≡ false
-  not_same m n other = by (is_node (id m) (id n)) refl
-    where
-      by : (t : Bool) → is_node (id m) (id n) ≡ t → is_node (id m) (id n) ≡ false
-      by true e = absurd (other (ap (λ (i : NodeId). i.number) (same_node (id m) (id n) e)))
-      by false e = e
-
   -- two numbers are the same or not
   pub same_or : (m n : ℕ) → (m ≡ n) ⊎ (m ≢ n)
   same_or m n = by (m == n) refl

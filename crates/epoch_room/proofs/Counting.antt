@@ -12,7 +12,7 @@ use Rattle.fine_model.proofs.Ordered.Zip.{all_left, all_right}
 use Rattle.partition_index.specs.Parts.{LiesIn, is_counted}
 use Rattle.epoch_room.specs.Value.{RoomValue, all_regions, taken}
 use Rattle.epoch_room.specs.Whole.{HasRegions, FollowOn, IsWhole}
-use Rattle.epoch_room.proofs.RegionSets.Beside.{regions_together, few_apart, outside_few}
+use Rattle.epoch_room.proofs.RegionSets.Beside.{regions_together, few_apart}
 
 end_most : (parts : List Part) (next e : ℕ) → e ≤ greatest → FollowOn next parts → fold (λ (e : ℕ) (p : Part). p.header.range.last) e parts ≤ greatest
 end_most [] next e h follow = h
@@ -34,9 +34,6 @@ regions_of_header region_len p lies =
 module _ (value : RoomValue) (whole : IsWhole value) where
   pub sealed_most : value.room.sealed ≤ greatest
   sealed_most = subst (λ n. n ≤ greatest) (sym whole.ends) (end_most value.room.parts 1 0 (omega arith) whole.in_chain.follow)
-
-  pub free_few : length value.room.free ≤ 64
-  free_few = omega (arith, ap length whole.free, outside_few value.disk.regions (taken value.room value.target), whole.geometry.regions_high)
 
   both_have : AllByRecursion HasRegions (value.room.parts ++ value.room.retired)
   both_have = all_map (λ (p : Part). LiesIn value.disk.region_len p.header) HasRegions (regions_of_header value.disk.region_len) (value.room.parts ++ value.room.retired) whole.lie

@@ -137,9 +137,6 @@ made_stands disk live retired value is idle parts sound = subst (λ (v : RoomVal
 
 module _ (value : RoomValue) (rows : List Row) (before told : Told) (first : List Row) (e : ℕ) (history : List Commit) (c : Commit) (open_room : value.room.is_shut ≡ false) (passed : clock_of before ≤ clock_of told)
     (of_rows : c.entry.rows ≡ rows) (of_epoch : c.epoch ≡ value.room.sealed + 1) (sound : IsSound first) (legal : IsLegal first (history ++ c ∷ [])) (old : StandsTold value.room before told first e history) where
-  more : List Commit
-  more = history ++ c ∷ []
-
   last_is : last_epoch e (history ++ c ∷ []) ≡ value.room.sealed + 1
   last_is = last_push e history c ∙ of_epoch
 

@@ -1,5 +1,5 @@
 -- What calls leave as it was, and what a job has once it took regions: the steps of tests.
-use Rattle.std.proofs.Common.{◌≡◌, ℕ, ◌+◌, ◌*◌, ◌≤◌, Bool, true, false, List, [], ◌∷◌, length, None, Some, Ok, Err, Result, refl, sym, ap, subst, ◌∙◌, arith, true≢false}
+use Rattle.std.proofs.Common.{◌≡◌, ℕ, ◌+◌, ◌*◌, Bool, true, false, List, [], ◌∷◌, None, Some, Ok, Err, Result, sym, ap, subst, ◌∙◌, arith, true≢false}
 use Rattle.std.specs.Prelude.{Option, IfSome, is_some, option_map, slice_get, slice_set, if◌then◌else◌}
 use Rattle.fine_model.specs.declared.Header.{Header}
 use Rattle.fine_model.specs.declared.Job.{Job}
@@ -13,7 +13,7 @@ use Rattle.partition_hold.specs.Views.{SameView, ViewValue, opened}
 use Rattle.partition_merge.specs.declared.merger.Measure.{Measure}
 use Rattle.epoch_room.specs.Erasing.{ErasesOr}
 use Rattle.epoch_room.specs.MergeSealing.{IsWrittenOut, SealsJobOr, WritesMerged, merged_state}
-use Rattle.epoch_room.specs.MergeSteps.{WritesOr, fresh_job, header_over, job_after, neighbours_from, picked, written_on}
+use Rattle.epoch_room.specs.MergeSteps.{fresh_job, header_over, job_after, neighbours_from, picked, written_on}
 use Rattle.epoch_room.specs.Value.{RoomValue}
 use Rattle.epoch_room.specs.declared.answers.EraseFault.{EraseFault}
 use Rattle.epoch_room.specs.declared.answers.EraseFault.TheVariants as erase_fault
@@ -32,61 +32,13 @@ picked_fresh room from job is = by room.is_shut (neighbours_from from room.parts
     by false (Some two) e = let f : fresh_job two ≡ job = cc in ap (λ (j : Job). j.written) (sym f)
 
 module _ (job job' : Job) (measure : Measure) (free : List ℕ) where
-  pub taken_has : (o : Option ℕ) → job' ≡ job_after job measure free o → is_some o ≡ true → is_some job'.header ≡ true
-  taken_has None e h = absurd (true≢false (sym h))
-  taken_has (Some k) e h = subst (λ (j : Job). is_some j.header ≡ true) (sym e) refl
-
   -- its body is as long as the measure says
   pub taken_long : (o : Option ℕ) (n : ℕ) → job' ≡ job_after job measure free o → is_some o ≡ true → job.written ≡ 0 → measure.area + 14 * measure.nodes ≡ n → IfSome job'.header (λ header. job'.written + n ≡ body_len header)
   unfolding header_over
   taken_long None n e h none long = absurd (true≢false (sym h))
   taken_long (Some k) n e h none long = subst (λ (j : Job). IfSome j.header (λ header. j.written + n ≡ body_len header)) (sym e) (omega (arith, none, long))
 
--- a body of which so many bytes are left has room for fewer
-pub has_room : (written left n : ℕ) (header : Option Header) → n ≤ left → IfSome header (λ h. written + left ≡ body_len h) → IfSome header (λ h. written + n ≤ body_len h)
-has_room written left n None low is = tt
-has_room written left n (Some h) low is = omega (arith, low, is)
-
 -- ---- writing
-
-module _ (bytes : List ℕ) (old new : RoomValue) (job job' : Job) where
-  -- a write leaves the board and the job's header, whatever it answers; it writes all, or the count stays
-  left_by : (header : Header) (result : Result (Unit {0}) RoomFault) → WritesOr bytes old new job job' header result → (new.room.board ≡ old.room.board) × (job'.header ≡ job.header) × (job'.written ≤ job.written + length bytes)
-  left_by header (Ok u) is = (ap (λ (r : RoomState). r.board) is.1.1.room, ap (λ (j : Job). j.header) is.0, omega (arith, ap (λ (j : Job). j.written) is.0))
-  left_by header (Err room_fault.Disk) is = (ap (λ (r : RoomState). r.board) is.1.1.room, ap (λ (j : Job). j.header) is.0, omega (arith, ap (λ (j : Job). j.written) is.0))
-  left_by header (Err (room_fault.Shut epoch)) is = (ap (λ (v : RoomValue). v.room.board) is.1.2, ap (λ (j : Job). j.header) is.0, omega (arith, ap (λ (j : Job). j.written) is.0))
-  left_by header (Err room_fault.NoMemory) is = (ap (λ (r : RoomState). r.board) is.1.1.room, ap (λ (j : Job). j.header) is.0, omega (arith, ap (λ (j : Job). j.written) is.0))
-
-  pub still_has : (result : Result (Unit {0}) RoomFault) → IfSome job.header (λ header. WritesOr bytes old new job job' header result) → is_some job.header ≡ true → (new.room.board ≡ old.room.board) × (is_some job'.header ≡ true)
-  still_has result is some = by job.header is some (λ header w. left_by header result w)
-    where
-      by : (o : Option Header) → IfSome o (λ header. WritesOr bytes old new job job' header result) → is_some o ≡ true
-          → ((header : Header) → WritesOr bytes old new job job' header result → (new.room.board ≡ old.room.board) × (job'.header ≡ job.header) × (job'.written ≤ job.written + length bytes)) → (new.room.board ≡ old.room.board) × (is_some job'.header ≡ true)
-      by None w h same = absurd (true≢false (sym h))
-      by (Some header) w h same = let left = same header w in (left.0, ap is_some left.1 ∙ some)
-
-  -- what is left of the body's room
-  pub still_long : (n : ℕ) (result : Result (Unit {0}) RoomFault) → IfSome job.header (λ header. WritesOr bytes old new job job' header result) → IfSome job.header (λ header. job.written + (length bytes + n) ≤ body_len header)
-      → is_some job.header ≡ true → IfSome job'.header (λ header. job'.written + n ≤ body_len header)
-  still_long n result is long some = by job.header refl is long some
-    where
-      by : (o : Option Header) → job.header ≡ o → IfSome o (λ header. WritesOr bytes old new job job' header result) → IfSome o (λ header. job.written + (length bytes + n) ≤ body_len header) → is_some o ≡ true
-          → IfSome job'.header (λ header. job'.written + n ≤ body_len header)
-      by None e w l h = absurd (true≢false (sym h))
-      by (Some header) e w l h =
-          let left = left_by header result w in
-          let most = left.2 in
-          subst (λ (o : Option Header). IfSome o (λ header. job'.written + n ≤ body_len header)) (sym (left.1 ∙ e)) (omega (arith, most, l))
-
-  -- what was left is written
-  pub written_whole : IfSome job.header (λ header. WritesOr bytes old new job job' header (Ok tt)) → IfSome job.header (λ header. job.written + length bytes ≡ body_len header)
-      → is_some job.header ≡ true → IfSome job'.header (λ header. job'.written ≡ body_len header)
-  written_whole is long some = by job.header refl is long some
-    where
-      by : (o : Option Header) → job.header ≡ o → IfSome o (λ header. WritesOr bytes old new job job' header (Ok tt)) → IfSome o (λ header. job.written + length bytes ≡ body_len header) → is_some o ≡ true
-          → IfSome job'.header (λ header. job'.written ≡ body_len header)
-      by None e w l h = absurd (true≢false (sym h))
-      by (Some header) e w l h = subst (λ (j : Job). IfSome j.header (λ header. j.written ≡ body_len header)) (sym w.0) (subst (λ (o : Option Header). IfSome o (λ header. job.written + length bytes ≡ body_len header)) (sym e) l)
 
 -- ---- sealing
 

@@ -69,10 +69,6 @@ module _ {V : Type 0} where
   front_first : (p : Pass V) (ps : List (Pass V)) (h : HasOne p) → filter_map (λ q. q.front) (p ∷ ps) ≡ h.0 ∷ filter_map (λ q. q.front) ps
   front_first p ps h = ap (λ o. cons_option o (filter_map (λ (q : Pass V). q.front) ps)) h.1
 
-  pub long_fronts : (ps : List (Pass V)) → AllByRecursion HasOne ps → length (filter_map (λ q. q.front) ps) ≡ length ps
-  long_fronts [] h = refl
-  long_fronts (p ∷ ps) h = ap length (front_first p ps h.0) ∙ ap suc (long_fronts ps h.1)
-
   pub front_at : (ps : List (Pass V)) → AllByRecursion HasOne ps → (i : ℕ) (v : V) → get_elem? (filter_map (λ q. q.front) ps) i ≡ some v → (p : Pass V) × (get_elem? ps i ≡ some p) × (p.front ≡ Some v)
   front_at [] h i v at = absurd (some-ne-none v (sym at))
   front_at (p ∷ ps) h zero v at = (p, refl, h.0.1 ∙ ap Some (some-injective h.0.0 v (sym (ap (λ l. get_elem? l 0) (front_first p ps h.0)) ∙ at)))

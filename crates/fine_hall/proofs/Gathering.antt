@@ -60,10 +60,6 @@ module _ {V : Type 0} where
   pub rest_passes : (before left : List (Pass V)) (p : Pass V) (i : ℕ) (q : Pass V) → before ≡ left ++ p ∷ [] → get_elem? left i ≡ some q → get_elem? before i ≡ some q
   rest_passes before left p i q e at = ap (λ (l : List (Pass V)). get_elem? l i) e ∙ at_longer left (p ∷ []) i q at
 
-  pub no_passes : (l : List (Pass V)) → length l ≡ 0 → l ≡ []
-  no_passes [] e = refl
-  no_passes (p ∷ ps) e = absurd (omega arith)
-
   saw_turns : (all : List (Placed Turn)) (p : Pass V) (v : PassView) → p.badge.views ≡ v ∷ [] → StartsWith all v.places.seen → StartsWith all (turns p)
   saw_turns all p v e s = subst (λ (u : Known Beginning Turn). StartsWith all u.seen) (sym (known_is p v e)) s
 

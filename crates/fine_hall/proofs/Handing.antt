@@ -9,7 +9,7 @@ use Rattle.fine_model.specs.declared.law.ViewState.{ViewState}
 use Rattle.fine_places.specs.declared.model.Known.{Known}
 use Rattle.fine_places.specs.History as places
 use Rattle.fine_places.specs.History.{most_seats, by_seat}
-use Rattle.fine_places.specs.Places.{share, shares_of, opening_seat, without_first, only_first, tail_of, head_of}
+use Rattle.fine_places.specs.Places.{share, shares_of, without_first, only_first, tail_of, head_of}
 use Rattle.fine_places.proofs.Lists.{none_held, replicate_at, snoc_at}
 use Rattle.fine_boxes.specs.declared.model.BoxNote.{BoxNote}
 use Rattle.fine_boxes.specs.declared.model.Reads.{Reads}
@@ -41,17 +41,6 @@ pub record Beginner (x : Beginning) (n : ℕ) (v : K) : Type 0 where
   pub found : v.found ≡ []
   pub moving : v.moving ≡ None
   pub published : v.published ≡ 0
-
-pub begins : (x : Beginning) (n : ℕ) (v : K) → v ≡ opening_seat n 0 x → Beginner x n v
-begins x n v e = record {
-  about = ap (λ (u : K). u.about) e;
-  shares = ap (λ (u : K). u.shares) e;
-  seen = ap (λ (u : K). u.seen) e;
-  held = ap (λ (u : K). u.held) e;
-  found = ap (λ (u : K). u.found) e;
-  moving = ap (λ (u : K). u.moving) e;
-  published = ap (λ (u : K). u.published) e;
-}
 
 pub keeps_rest : (x : Beginning) (n : ℕ) (v w : K) → w ≡ without_first v → Beginner x (suc n) v → Beginner x n w
 keeps_rest x n v w e b = record {

@@ -1,6 +1,6 @@
 -- What lies in the slots of a new hall.
 use Rattle.std.proofs.Common.{◌≡◌, ℕ, suc, ◌*◌, ◌<◌, List, [], ◌∷◌, ◌++◌, map, reverse, length, Option, Some, None, refl, sym, ap, ◌∙◌, arith, append_assoc, length-append}
-use Rattle.std.proofs.lemmas.List.{map-append, reverse-append}
+use Rattle.std.proofs.lemmas.List.{reverse-append}
 use Rattle.fine_places.proofs.Lists.{some_same}
 use Rattle.fine_boxes.specs.Lists.{first_same, rest_same}
 use Rattle.fine_hall.specs.declared.law.Load.{Load}
@@ -86,11 +86,6 @@ module _ {R B V : Type 0} where
 
   -- ---- filling
 
-  pub fills : (all before left : List B) (b : B) (slots slots' rest : List (Option (Load R B V))) → before ≡ left ++ b ∷ [] → slots' ≡ slots ++ bucket_slot b ∷ [] → map bucket_slot before ++ reverse slots ≡ rest → map bucket_slot left ++ reverse slots' ≡ rest
-  fills all before left b slots slots' rest e e' h =
-      ap (λ l. map bucket_slot left ++ reverse l) e' ∙ (ap (λ l. map bucket_slot left ++ l) (reverse-append slots (bucket_slot b ∷ []))
-      ∙ (sym (append_assoc (map bucket_slot left) (bucket_slot b ∷ []) (reverse slots)) ∙ (ap (λ l. l ++ reverse slots) (sym (map-append bucket_slot left (b ∷ [])) ∙ ap (map bucket_slot) (sym e)) ∙ h)))
-
   pub views_append : (a b : List V) → laid_views {R = R} {B = B} (a ++ b) ≡ laid_views a ++ laid_views b
   views_append [] b = refl
   views_append (v ∷ a) b = ap (λ l. None ∷ Some (load.View v) ∷ None ∷ l) (views_append a b)
@@ -108,10 +103,6 @@ module _ {R B V : Type 0} where
 
   pub empties : (rest : List (Option (Load R B V))) (room : R) (left less : List B) (b : B) (buckets buckets' : List B) (all : List (Option (Load R B V))) → left ≡ less ++ b ∷ [] → buckets' ≡ buckets ++ b ∷ [] → all ≡ laid_places room (left ++ reverse buckets) → all ≡ laid_places room (less ++ reverse buckets')
   empties rest room left less b buckets buckets' all e e' h = h ∙ ap (laid_places room) (ap (λ l. l ++ reverse buckets) e ∙ (append_assoc less (b ∷ []) (reverse buckets) ∙ (ap (λ l. less ++ l) (sym (reverse-append buckets (b ∷ []))) ∙ ap (λ l. less ++ reverse l) (sym e'))))
-
-  pub none_left : (left : List B) → map (bucket_slot {R = R} {B = B} {V = V}) left ≡ [] → left ≡ []
-  none_left [] e = refl
-  none_left (b ∷ bs) e = absurd (not_empty _ _ e)
 
   pub same_views : (a b : List V) → laid_views {R = R} {B = B} a ≡ laid_views b → a ≡ b
   same_views [] [] e = refl
@@ -131,15 +122,6 @@ module _ {R B V : Type 0} where
       let t = parts_same (laid_places room all) (laid_places room' all') (laid_views views) (laid_views views') e (long_views R B views ∙ (ap (λ n. 3 * n) len ∙ sym (long_views R B views'))) in
       let s = last_same (map bucket_slot all) (map bucket_slot all') (room_slot room) (room_slot room') t.0 in
       (sym (same_room room room' s.1), sym (same_all all all' s.0), sym (same_views views views' t.1))
-
-  -- what no bucket is
-  is_bucket : Load R B V → ℕ
-  is_bucket (load.Room room entry epoch backs) = 0
-  is_bucket (load.Bucket b) = 1
-  is_bucket (load.View v) = 2
-
-  pub in_bucket_slot : (l : Load R B V) (b : B) → Some l ≡ bucket_slot b → l ≡ load.Bucket b
-  in_bucket_slot l b e = some_same _ _ e
 
   pub unfold_last : (front : List (Option (Load R B V))) (all : List V) (v : V) → front ++ laid_views (all ++ v ∷ []) ≡ (front ++ laid_views all) ++ laid_views (v ∷ [])
   unfold_last front all v = ap (λ l. front ++ l) (views_append all (v ∷ [])) ∙ sym (append_assoc front (laid_views all) (laid_views (v ∷ [])))

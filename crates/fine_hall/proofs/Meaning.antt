@@ -35,9 +35,6 @@ module _ {R B V : Type 0} (state : R → RoomState) (origin : R → Origin) (sta
   pub not_bucket : (x : Beginning) (k p : ℕ) (l : Load R B V) (b : B) (all : List (Placed Turn)) → k ≡ places.room → l ≡ load.Bucket b → ¬ Meant x k p l all
   not_bucket x k p l b all at is s = let less : k < places.room = (subst (λ y. Meant x k p y all) is s).0 in absurd (omega arith)
 
-  pub not_view : (x : Beginning) (k p : ℕ) (l : Load R B V) (v : V) (all : List (Placed Turn)) → l ≡ load.View v → ¬ Meant x k p l all
-  not_view x k p l v all is s = subst (λ y. Meant x k p y all) is s
-
   pub found_bucket : (x : Beginning) (k p : ℕ) (l : Load R B V) (b : B) (all : List (Placed Turn)) → k < places.room → l ≡ load.Bucket b → Meant x k p l (touching touches_bucket k all) → IsBucketFor bucket cached is_settled x.log k p b (commits all)
   found_bucket x k p l b all near is s = for_all bucket cached is_settled x k p b all near (subst (λ y. Meant x k p y (touching touches_bucket k all)) is s).1
 

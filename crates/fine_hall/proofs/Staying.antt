@@ -1,12 +1,9 @@
 -- What a pass keeps over one step and another it keeps over both.
 use Rattle.std.proofs.Common.{refl, ◌∙◌}
 use Rattle.fine_hall.specs.declared.pass.Pass.{Pass}
-use Rattle.fine_hall.specs.Halls.{KeepsPlaces, KeepsViews}
+use Rattle.fine_hall.specs.Halls.{KeepsViews}
 
 module _ {V : Type 0} where
-  pub places_more : (p q r : Pass V) → KeepsPlaces p q → KeepsPlaces q r → KeepsPlaces p r
-  places_more p q r s t = record { same_held = t.same_held ∙ s.same_held; same_turns = t.same_turns ∙ s.same_turns; same_own = t.same_own ∙ s.same_own; same_published = t.same_published ∙ s.same_published }
-
   pub views_none : (p : Pass V) → KeepsViews p p
   views_none p = record { reads = refl; front = (refl, refl); backs = refl }
 

@@ -1,5 +1,5 @@
 -- How a pass goes on as it takes the room.
-use Rattle.std.proofs.Common.{◌≡◌, ℕ, ◌+◌, ◌-◌, ◌*◌, ◌≤◌, List, [], ◌∷◌, ◌++◌, length, slice_get, Option, Some, refl, sym, ap, ◌∙◌, subst, arith, append_assoc, zero-le}
+use Rattle.std.proofs.Common.{◌≡◌, ℕ, ◌+◌, ◌-◌, ◌*◌, ◌≤◌, List, [], ◌∷◌, length, slice_get, Option, Some, refl, sym, ap, ◌∙◌, subst, arith, zero-le}
 use lib.ListN.{length-replicate}
 use Rattle.std.specs.List.{AllByRecursion}
 use Rattle.std.specs.declared.snapshot.Snapshot.{Snapshot}
@@ -27,11 +27,10 @@ use Rattle.fine_hall.specs.declared.law.Load.TheVariants as load
 use Rattle.fine_hall.specs.declared.pass.Pass.{Pass}
 use Rattle.fine_hall.specs.Turns.{touches_bucket, room_after}
 use Rattle.fine_hall.specs.Laws.{AreTurns, IsRoomFor, Stands, board_in, sealed_in, backs_in}
-use Rattle.fine_hall.specs.Passes.{PassView, reads, turns, published, found_held, last_room, front_of, view_of, HasFront, IsHolder, IsPass}
+use Rattle.fine_hall.specs.Passes.{PassView, reads, turns, published, last_room, front_of, view_of, HasFront, IsHolder, IsPass}
 use Rattle.fine_hall.specs.Halls.{SeesMore, Takes, Waits, TakesRoom, FindsHeld}
 use Rattle.fine_hall.proofs.Meaning.{found_room}
 use Rattle.fine_hall.proofs.Passing.{reads_is, at_the_room, found, sees_taken, taking_pass, taken_keeps_front, takes_place, reads', stood}
-use Rattle.fine_hall.proofs.Staying.{places_more, views_more}
 use Rattle.fine_hall.proofs.Turning.{keeps_job}
 
 -- what a pass had told of its front as it was is told of it as it is
@@ -124,10 +123,3 @@ module _ {R B V : Type 0} (state : R → RoomState) (origin : R → Origin) (sta
 module _ {V : Type 0} where
   pub waited : (x : Beginning) (k owner : ℕ) (p p' : Pass V) → FindsHeld x k owner p p' → Waits p p'
   waited x k owner p p' f = record { tried = (record { place = k; owner = owner } ∷ [], f.tried); places = f.places; views = f.views }
-
-  pub waits_on : (p q r : Pass V) → Waits p q → Waits q r → Waits p r
-  waits_on p q r s t = record {
-    tried = (s.tried.0 ++ t.tried.0, t.tried.1 ∙ (ap (λ l. l ++ t.tried.0) s.tried.1 ∙ append_assoc (found_held p) s.tried.0 t.tried.0));
-    places = places_more p q r s.places t.places;
-    views = views_more p q r s.views t.views;
-  }

@@ -1,16 +1,11 @@
 -- What the command that words spell tells of a call.
-use Rattle.std.proofs.Common.{◌≡◌, inl, inr, ℕ, List, [], ◌∷◌, subst, Option, Some, None, Result, Ok, arith}
+use Rattle.std.proofs.Common.{◌≡◌, inl, inr, ℕ, List, [], ◌∷◌, Option, Some, None, Result, Ok}
 use Rattle.fine_model.specs.declared.Options.{Options}
 use Rattle.fine_model.specs.declared.ScriptTxn.{ScriptTxn}
 use Rattle.fine_model.specs.Headline.{IsRefusedAt, OneOf}
 use Rattle.fine_model.specs.Script.{Refusal, script_of}
 use Rattle.fine_model.specs.Words.{Command, dump, gen, merge, ranges, run}
-use Rattle.fine_top.specs.Commands.{Does, HasScript, NoneRose, Own, Seen, TellsSound}
-use Rattle.fine_top.specs.Running.{IsRefused, OfTold}
-
--- what the command does, where this is the one
-pub own_of : (command expected : Option Command) (s : Seen) → Does command s → command ≡ expected → Own expected s
-own_of command expected s d is = subst (λ c. Own c s) is d.own
+use Rattle.fine_top.specs.Commands.{Does, HasScript, NoneRose, Seen, TellsSound}
 
 pub not_refused : (n : ℕ) (answer : Result (List ScriptTxn) Refusal) (script : List ScriptTxn) → answer ≡ Ok script → IsRefusedAt n answer → ⊥
 not_refused n answer script ok (inl many) = absurd cc
@@ -61,12 +56,3 @@ module _ (s : Seen) (sound : TellsSound s.old) (none : NoneRose s.source s.outpu
   complete (Some ranges) d script = listing (Some ranges) d d.leaves.status_is
   complete (Some merge) d script = listing (Some merge) d d.leaves.status_is
   complete (Some (gen start count lanes)) d script = generating (Some (gen start count lanes)) d d.leaves.status_is
-
--- status 3 comes for a script that is refused
-pub refused_script : (command : Option Command) (s : Seen) → Does command s → s.status ≡ 3 → OfTold s.left IsRefused
-refused_script (Some (run options)) s d three = d.own.script three
-refused_script None s d three = absurd (grind (arith, d.leaves.status_is, three))
-refused_script (Some dump) s d three = absurd (grind (arith, d.leaves.status_is, three))
-refused_script (Some ranges) s d three = absurd (grind (arith, d.leaves.status_is, three))
-refused_script (Some merge) s d three = absurd (grind (arith, d.leaves.status_is, three))
-refused_script (Some (gen start count lanes)) s d three = absurd (grind (arith, d.leaves.status_is, three))

@@ -1,18 +1,18 @@
 -- What `ranges` and `merge` leave, from how they ended.
 use Rattle.std.proofs.Common.{◌≡◌, ◌⊎◌, inl, inr, ℕ, ◌<◌, List, [], ◌∷◌, option_map, ap, ◌∙◌, sym, subst, Option, Some, Result, Ok, Err, arith}
-use Rattle.log_disk.specs.Disk.{Disk, HasRisen, OnlyFails}
+use Rattle.log_disk.specs.Disk.{Disk, HasRisen}
 use Rattle.fine_model.specs.declared.Part.{Part}
 use Rattle.fine_model.specs.declared.RunFault.{RunFault}
 use Rattle.fine_model.specs.declared.RunFault.TheVariants as run_fault
 use Rattle.fine_model.specs.Headline.{OneOf}
 use Rattle.fine_model.specs.Map.{Pair}
-use Rattle.fine_model.specs.Words.{Command, dump, merge, ranges}
+use Rattle.fine_model.specs.Words.{Command, dump, merge}
 use Rattle.command_words.specs.Words.{meant}
 use Rattle.command_words.specs.declared.command.Command.{Command as ReadCommand}
 use Rattle.log_disk.specs.Moments.{ContinuesOn}
 use Rattle.map_reader.specs.Dumps.{DumpsAny, DumpsWell, Ends as EndsDump, FindsDump, IsUnsoundLog as DumpUnsound, LeavesBeside as DumpBeside}
 use Rattle.log_disk.proofs.Times.{continues_told}
-use Rattle.log_commands.specs.Ends.{Ends, MergesAnyWell, MergesWell, RangesWell, status_of}
+use Rattle.log_commands.specs.Ends.{Ends, MergesAnyWell, MergesWell, status_of}
 use Rattle.log_commands.specs.Found.{FindsChain}
 use Rattle.log_commands.specs.Merged.{KeepsLog, MergesLog, ShowsNone}
 use Rattle.fine_top.specs.Commands.{Does, IsReading, Leaves, Seen, seen, statuses_of}
@@ -33,12 +33,6 @@ finds_unsound old new (Ok parts) f is = absurd (omega (arith, is))
 finds_unsound old new (Err run_fault.Memory) f is = absurd (omega (arith, is))
 finds_unsound old new (Err run_fault.Disk) f is = absurd (omega (arith, is))
 finds_unsound old new (Err (run_fault.Damaged what)) f is = unsound old what f.1
-
-pub finds_opened : (old new : Disk) (found : Result (List Part) RunFault) → FindsChain old new found → status_of found ≡ 0 → IsOpenedLog old
-finds_opened old new (Ok parts) f is = (parts, f.1)
-finds_opened old new (Err run_fault.Memory) f is = absurd (omega (arith, is))
-finds_opened old new (Err run_fault.Disk) f is = absurd (omega (arith, is))
-finds_opened old new (Err (run_fault.Damaged what)) f is = absurd (omega (arith, is))
 
 -- ---- the pairs
 
@@ -94,17 +88,6 @@ module _ (left : Option (List ℕ)) (source output : ℕ × ℕ) (old new : Disk
     (disk_told : old.faults < new.faults → OneOf (5 ∷ 6 ∷ []) status) where
   told : old.faults < new.faults → OneOf (1 ∷ 5 ∷ 6 ∷ []) status
   told rose = inr (disk_told rose)
-
-  pub ranges_does : old.eyes ≡ [] → (ends : Ends (FindsChain old new) status was now) → RangesWell output old new status was now → (status ≡ 6 → OnlyFails old new) → new.told ≡ old.told → Does (Some ranges) (seen left source output old new status was now)
-  ranges_does none ends well failed still = record {
-    leaves = leaves_by ranges left source output old new status (status_of ends.found) was now known known output_failed (λ six. (failed six).counts.faults tt) told (by_seven ends.status_is) ends.status_is
-        (finds_opened old new ends.found ends.is_found) (finds_beside old new none ends.found ends.is_found) (continues_told old new still) (λ reads. still);
-    own = record { ends = ends; ranges = well };
-  }
-    where
-      by_seven : (status ≡ 5) ⊎ (status ≡ status_of ends.found) → status ≡ 7 → IsUnsoundLog old
-      by_seven (inl five) seven = absurd (omega (arith, five, seven))
-      by_seven (inr is) seven = finds_unsound old new ends.found ends.is_found (sym is ∙ seven)
 
   pub merge_does : (ends : Ends (MergesLog old new) status was now) → MergesWell output old new status was now → MergesAnyWell output old new status was now → (status ≡ 6 → HasRisen old.faults new.faults) → (status ≡ 7 → ShowsNone old) → KeepsLog old new
       → Does (Some merge) (seen left source output old new status was now)

@@ -45,9 +45,6 @@ module _ (p p' : RoomPass) where
   pub seals_none : (x : Beginning) (r : _) → SealsAndPosts x p p' r → mine p' ≡ mine p
   seals_none x r s = turn_none x s.found s.room s.turn
 
-  pub mine_same : (kept : List Committed) → mine p' ≡ mine p → AreMine p kept → AreMine p' kept
-  mine_same kept same are = same ∙ are
-
   pub mine_kept : (kept kept' : List Committed) (end : Ended) → AreMine p kept → Adds p p' end → IsKept kept end kept' → AreMine p' kept'
   mine_kept kept kept' (ended.Committed done) are adds is = adds ∙ (ap (λ l. l ++ commit_of done ∷ []) are ∙ (sym (map-append commit_of kept (done ∷ [])) ∙ ap commits_of (sym is)))
   mine_kept kept kept' (ended.Refused fault) are adds is = adds ∙ (are ∙ ap commits_of (sym is))

@@ -55,10 +55,6 @@ module _ (x : Beginning) where
   goes_stopped room p (room_fault.Shut epoch) g = g
   goes_stopped room p room_fault.NoMemory g = g
 
-  -- one answer that is Ok is as another
-  pub goes_ok : (room : RoomValue) (p : RoomPass) (a b : Bool) → GoesOn x room p (Ok a) → GoesOn x room p (Ok b)
-  goes_ok room p a b g = g
-
   -- whatever was answered, the room may be given back
   pub in_any_turn : (room : RoomValue) (p : RoomPass) (r : Result Bool MergeFault) → GoesOn x room p r → (t : TurnNote) × InTurn x room p t
   in_any_turn room p (Ok merged) g = (g.note, g.turn)

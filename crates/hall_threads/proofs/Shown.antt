@@ -8,7 +8,6 @@ use Rattle.std.proofs.lemmas.List.Sums.{sum_by-cons}
 use lib.ListN.{get_elem?, length-map}
 use Rattle.atomic_table.specs.Seated.{TableId}
 use Rattle.fine_places.specs.History as places
-use Rattle.fine_places.proofs.Elements.{least_more}
 use Rattle.fine_places.proofs.Lists.{set_at}
 use Rattle.fine_model.specs.declared.Entry.{Entry}
 use Rattle.fine_model.specs.declared.Row.{Row}
@@ -37,7 +36,7 @@ use Rattle.fine_hall.proofs.Troubles.{troubles_law}
 use Rattle.hall_threads.specs.declared.things.DayRoom.{DayRoom}
 use Rattle.hall_threads.specs.declared.things.DayView.{DayView}
 use Rattle.hall_threads.specs.Days.{room_state, room_log, view_state, day_stands, job_of, StandsFor, board_of, eye_of, told_rows}
-use Rattle.hall_threads.specs.Turnover.{Seals, IsViewOf, TakesBack, InTurn, PostsTo, PostedBelow, Stays, IsShown, HasNoneToSeal}
+use Rattle.hall_threads.specs.Turnover.{Seals, IsViewOf, TakesBack, InTurn, PostsTo, IsShown, HasNoneToSeal}
 use Rattle.fine_model.proofs.Histories.Epochs.{all_upto, epochs_below, seals, none_wait}
 use Rattle.hall_threads.proofs.Standing.{day_becomes, may_give, may_give_none}
 use Rattle.hall_threads.proofs.Telling.{tells_leaf, agrees_leaf}
@@ -179,9 +178,6 @@ module _ (z : TableId) (x : Beginning) (p : Pass DayView) (room : DayRoom) (seat
     later = let a = i.may.top in let b = is.upto in omega (arith, a, b);
   }
 
-  pub long : length room.board.items ≡ 3 * x.seats
-  long = sym (length-map room.board.items (option_map eye_of)) ∙ (ap length i.may.board ∙ i.is_turn.long.2)
-
   module _ (p' : Pass DayView) (back : DayView) (number : p'.number ≡ p.number) (posts : Posts x seat t (view_state v) (view_state back) p p') where
     pub back_there : 3 * (seat - 1) + back.buffer < length room.board.items
     back_there = let h = in_range t.board (3 * (seat - 1) + back.buffer) (Some (eye_of back.sight)) posts.on_board in let n = ap length i.may.board in let m = length-map room.board.items (option_map eye_of) in omega (arith, h, n, m)
@@ -217,19 +213,6 @@ module _ (z : TableId) (x : Beginning) (p : Pass DayView) (room : DayRoom) (seat
             ∙ (λ j. set (set (i.may.board j) (3 * (seat - 1) + sym is.place.1 j) (Some (eye_of v.sight))) (3 * (seat - 1) + back.buffer) None)))
 
 -- ---- publishing
-
-pub posted_next : (x : Beginning) (i seat : ℕ) → seat ≡ i + 1 → i < x.seats → (old new : DayRoom) (p p' : Pass DayView) (b : PostedBelow x i old p) → PostsTo x seat b.note old new p p' → PostedBelow x (i + 1) new p'
-posted_next x i seat is lt old new p p' b s =
-    let box : seat - 1 ≡ i = omega (arith, is) in
-    let long = b.turn.is_turn.long.1 in
-    let up = s.upto in
-    let same = s.same.0 in
-    record {
-      note = posting b.note (seat - 1) s.view.buffer s.view s.back;
-      turn = s.turn;
-      posted = λ j near. subst (λ k. new.sealed ≤ slice_index (slice_set b.note.posted k s.view.upto) j) (sym box)
-          (least_more b.note.posted i s.view.upto new.sealed (omega (arith, lt, long)) (omega (arith, up)) (λ k below. let a = b.posted k below in omega (arith, a, same)) j near);
-    }
 
 pub published_turn : (z : TableId) (x : Beginning) (epoch : ℕ) (p p' : Pass DayView) (room : DayRoom) (t : TurnNote) → IsPass view_state z x p' → p'.number ≡ p.number → InTurn x room p t → Publishes epoch p p' → InTurn x room p' t
 published_turn z x epoch p p' room t ok number i s =
@@ -270,26 +253,6 @@ seals_all x room history q none = each_sealed room.sealed history (epochs_below 
 -- ---- what stays
 
 module _ (x : Beginning) where
-  pub stays_none : (p : Pass DayView) → Stays x p p
-  stays_none p = record { held = refl; turns = refl; own = refl; troubles = refl }
-
-  pub stays_more : (p q r : Pass DayView) → Stays x p q → Stays x q r → Stays x p r
-  stays_more p q r s t = record { held = t.held ∙ s.held; turns = t.turns ∙ s.turns; own = t.own ∙ s.own; troubles = t.troubles ∙ s.troubles }
-
-  pub stays_posted : (seat : ℕ) (t : TurnNote) (old new : DayRoom) (p p' : Pass DayView) → p'.number ≡ p.number → PostsTo x seat t old new p p' → Stays x p p'
-  stays_posted seat t old new p p' number s = record {
-    held = s.posts.places.same_held;
-    turns = s.posts.places.same_turns;
-    own = s.posts.places.same_own;
-    troubles = ((troubles_law view_state x).same p p' number).posts seat t s.view s.back s.posts;
-  }
-
-  pub stays_published : (epoch : ℕ) (p p' : Pass DayView) → p'.number ≡ p.number → Publishes epoch p p' → Stays x p p'
-  stays_published epoch p p' number s = record { held = s.same_held; turns = s.same_turns; own = s.same_own; troubles = ((troubles_law view_state x).same p p' number).publishes epoch s }
-
-  pub stays_same : (p p' : Pass DayView) → p' ≡ p → Stays x p p'
-  stays_same p p' e = subst (Stays x p) (sym e) (stays_none p)
-
   -- ---- the faults of a turn that may end
 
   pub none_failed : (p p' : Pass DayView) (room : DayRoom) (entry : Option Entry) (epoch : ℕ) (t : TurnNote) → p'.number ≡ p.number → room.faults ≤ (last_room x p).faults + t.in_hand → GivesRoom (room_state room) entry epoch t p p' → troubles view_state x p' ≡ troubles view_state x p

@@ -100,9 +100,6 @@ module _ {V B : Type 0} (number : B → ℕ) (cached : B → ℕ → Option (Con
     pub stay : StayFrom upto locks locks'
     pub gathers : Gathers number cached is_settled x.log locks locks' p p'
 
-  pub none_yet : (locks : List (Option B)) (p : Pass V) → SoFar 0 locks locks p p
-  none_yet locks p = record { all = λ k low. absurd (omega (arith, low)); stay = λ k h. refl; gathers = gathers_none number cached is_settled x locks p }
-
   pub one_more : (i : ℕ) (locks mid locks' : List (Option B)) (p q p' : Pass V) → AreLocksOf locks p → AreLocksOf mid q → q.number ≡ p.number → SoFar i locks mid p q → Gathers number cached is_settled x.log mid locks' q p' → ((b : B) × HasLock locks' i b)
       → ((k : ℕ) → k ≢ i → slice_get locks' k ≡ slice_get mid k) → SoFar (i + 1) locks locks' p p'
   one_more i locks mid locks' p q p' first now same_number s g there others = record {

@@ -1,5 +1,5 @@
 -- How the set and the pass go on together.
-use Rattle.std.proofs.Common.{◌≡◌, ◌≢◌, ◌⊎◌, ℕ, zero, suc, ◌<◌, Bool, true, false, List, [], ◌∷◌, set, slice_get, slice_set, Option, Some, None, refl, sym, ap, ◌∙◌, subst, inl, inr, ⊎_elim, arith}
+use Rattle.std.proofs.Common.{◌≡◌, ◌≢◌, ◌⊎◌, ℕ, ◌<◌, Bool, true, false, List, set, slice_get, slice_set, Option, Some, None, refl, sym, ap, ◌∙◌, subst, inl, inr, ⊎_elim, arith}
 use lib.ListN.{get_elem?}
 use Rattle.fine_places.specs.History as places
 use Rattle.atomic_table.proofs.Lists.{set_else}
@@ -14,7 +14,7 @@ use Rattle.fine_hall.specs.Turns.{commits}
 use Rattle.fine_model.specs.Buckets.{IsBucketFor}
 use Rattle.fine_hall.specs.Passes.{known, seen, published, HasPlace, LacksPlace}
 use Rattle.fine_hall.specs.Halls.{KeepsPlaces, KeepsViews, Takes, Gives}
-use Rattle.fine_hall.proofs.Staying.{views_none, views_more}
+use Rattle.fine_hall.proofs.Staying.{views_none}
 use Rattle.key_locks.specs.Locks.{HasLock, LacksLock, AreLocksOf, AllStand, Releases, HoldLaw, HoldRoomLaw}
 
 pub near : (k : ℕ) → k < 256 → k < places.room
@@ -44,12 +44,6 @@ not_both locks k b l h = let e = ap (some_of None) (sym l ∙ h) in let n = ap i
 -- a place that is set has what was set there, and the others have what they had
 pub get_same : {A : Type 0} (l : List A) (k : ℕ) (a b : A) → slice_get l k ≡ Some a → slice_get (slice_set l k b) k ≡ Some b
 get_same l k a b e = get_set_here l k b (slice_get_within l k a e)
-
-pub set_none : {A : Type 0} (l : List (Option A)) (k : ℕ) → slice_get l k ≡ Some None → slice_set l k None ≡ l
-unfolding is_some some_of
-set_none [] k e = refl
-set_none (x ∷ xs) zero e = ap (λ y. y ∷ xs) (ap (some_of None) (sym e))
-set_none (x ∷ xs) (suc k) e = ap (λ l. x ∷ l) (set_none xs k e)
 
 pub gone_there : {B : Type 0} (locks locks' : List (Option B)) (k : ℕ) (b : B) → locks' ≡ slice_set locks k None → HasLock locks k b → LacksLock locks' k
 gone_there locks locks' k b e h = ap (λ l. slice_get l k) e ∙ get_same locks k (Some b) None h
@@ -93,9 +87,6 @@ module _ {V B : Type 0} where
   pub held_beside : HoldRoomLaw V B
   held_beside locks p p' taken all e = held_alike locks p p' all (λ k lt. ap (λ l. get_elem? l k) e ∙ set_else (known p).held places.room k taken (λ is. below_room k lt (sym is)))
 
-  pub all_stay : (locks : List (Option B)) (p p' : Pass V) → KeepsPlaces p p' → AreLocksOf locks p → AreLocksOf locks p'
-  all_stay locks p p' s all = held_alike locks p p' all (λ k lt. ap (λ l. get_elem? l k) s.same_held)
-
   -- ---- giving back
 
   pub releases_one : (locks locks' : List (Option B)) (p p' : Pass V) (k : ℕ) (b : B) → k < 256 → locks' ≡ slice_set locks k None → HasLock locks k b → Gives k p p' → Releases locks locks' p p'
@@ -105,15 +96,6 @@ module _ {V B : Type 0} where
     kept = record { same_turns = g.same_turns; same_own = g.same_own; same_published = g.same_published };
     found = g.found;
     views = g.views;
-  }
-
-  pub releases_more : (a b c : List (Option B)) (p q r : Pass V) → Releases a b p q → Releases b c q r → Releases a c p r
-  releases_more a b c p q r s t = record {
-    fewer = λ k l. t.fewer k (s.fewer k l);
-    room = t.room ∙ s.room;
-    kept = record { same_turns = t.same_turns ∙ s.same_turns; same_own = t.same_own ∙ s.same_own; same_published = t.same_published ∙ s.same_published };
-    found = t.found ∙ s.found;
-    views = views_more p q r s.views t.views;
   }
 
   pub releases_none : (a : List (Option B)) (p : Pass V) → Releases a a p p

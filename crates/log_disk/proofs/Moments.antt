@@ -2,7 +2,7 @@
 use Rattle.std.proofs.Common.{◌≡◌, ◌⊎◌, ℕ, ◌+◌, ◌≤◌, List, [], ◌∷◌, ◌++◌, length, get_or, drop, refl, sym, ap, subst, ◌∙◌, inl, inr, arith}
 use Rattle.std.specs.Prelude.{Any}
 use Rattle.std.proofs.lemmas.Bool.{cases_lt}
-use Rattle.std.proofs.lemmas.List.{nil_from_length, length-map, length-append, drop-append-le, drop_at, get_or-drop, length-drop, get_or_append_left, get_or_at}
+use Rattle.std.proofs.lemmas.List.{nil_from_length, length-map, length-append, drop-append-le, drop_at, get_or_append_left, get_or_at}
 use Rattle.log_disk.specs.Disk.{Image, region_of, Span, Moment, IsImageAt, Told, Disk, clock_of, IsImageNow, IsImageSince, HasGoneOn, HasSynced, IsToldOf}
 use Rattle.log_disk.specs.Moments.{LeavesOnly, IsLeft}
 use Rattle.log_disk.proofs.Images.{only_synced}
@@ -18,11 +18,6 @@ any_either P xs y any =
   where
     is_last : any.0 ≡ length xs → any.1 ≡ y
     is_last at = sym any.3 ∙ ap (λ k. get_or (xs ++ y ∷ []) k any.1) at ∙ get_or_at xs y [] any.1 (length xs) refl
-
--- an element behind others
-any_behind : {A : Type 0} (P : A → Type 0) (n : ℕ) (xs : List A) → Any P (drop n xs) → Any P xs
-any_behind P n xs any =
-    (n + any.0, any.1, omega (arith, any.2, length-drop n xs), sym (get_or-drop n xs any.0 any.1) ∙ any.3, any.4)
 
 -- an image now is one since each clock value that is not later
 pub now_since : (clock : ℕ) (told : Told) (image : Image) → clock ≤ clock_of told → IsImageNow told image → IsImageSince clock told image

@@ -1,6 +1,6 @@
 -- What a run of calls leaves, at each moment of it.
-use Rattle.std.specs.Prelude.{ℕ, ◌≡◌, ◌≤◌, ◌⊎◌, [], ◌∷◌, ◌++◌, Option, Contains, All, IfSome, List, Some, None}
-use Rattle.log_disk.specs.Disk.{Image, region_of, Moment, Told, Disk, Eye, BothTold, SameOutside, clock_of, IsImageNow, IsImageSince}
+use Rattle.std.specs.Prelude.{ℕ, ◌≡◌, ◌≤◌, ◌⊎◌, [], ◌∷◌, ◌++◌, Option, Contains, All, List, Some, None}
+use Rattle.log_disk.specs.Disk.{Image, region_of, Moment, Told, Disk, Eye, BothTold, clock_of, IsImageNow, IsImageSince}
 
 -- A crash at any moment since old leaves an image that has P.
 pub record LeavesOnly (P : Image → Type 0) (old new : Told) : Type 0 where
@@ -28,14 +28,6 @@ SameSeen regions None (Some image) = ⊥
 pub record IsOpenOn (eye : Eye) (disk : Disk) : Type 0 where
   pub listed : Contains disk.eyes (record { number = eye.number; regions = eye.regions })
   pub seen : SameSeen eye.regions disk.told eye.told
-
--- the same of a disk, where it tells its bytes
-abbrev pub IsLeftOn : (Image → Type 0) → Disk → Type 0
-IsLeftOn P disk = IfSome disk.told (IsLeft P)
-
--- An image that has P, but for any bytes in a range of a region.
-abbrev pub IsTorn : (Image → Type 0) → ℕ → ℕ → ℕ → Image → Type 0
-IsTorn P region from end image = (before : Image) × P before × SameOutside region from end before image
 
 -- From old to new, the images since each clock value that old has reached grow by no others than those now.
 pub record Grows (old new : Told) : Type 0 where

@@ -12,7 +12,6 @@ use Rattle.fine_model.specs.declared.Mark.TheVariants as mark
 use Rattle.fine_model.specs.RowBytes.{greatest}
 use Rattle.fine_model.specs.Merge.{fits_in}
 use Rattle.fine_model.specs.Regions.{sealed_gate, header_bytes, header_at, alike, header_tests, bad_field, header_in}
-use Rattle.partition_index.proofs.BodyPlaces.{laid}
 use Rattle.partition_index.proofs.Exact.{area_small}
 use Rattle.log_partition.specs.Headers.{first_bad}
 use Rattle.log_partition.specs.Written.{IsGood, WrittenHeaderLaw, WrittenPartitionLaw}
@@ -128,9 +127,6 @@ module _ (region_len regions lead first last rows nodes area : ℕ) (rest : List
     module _ (good : IsGood region_len regions lead (with_regions mark.Three k seven_more)) where
       abbrev long : Header
       long = with_regions mark.Three k seven_more
-
-      few_regions : k < 256
-      few_regions = let r = laid region_len long good.lies in omega (arith, r.few)
 
       entry_again : (r : ℕ) (used others : Bool) → (if used then nat_lt r regions && others else (r == 0)) ≡ true → from_be_bytes w32 (to_be_bytes w32 r) ≡ r
       entry_again r used others h = from_be_bytes-to_be_bytes_4 r (small_entry regions r used others good.few h)

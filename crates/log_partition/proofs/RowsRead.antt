@@ -1,5 +1,5 @@
 -- Rows that are read one after the other.
-use Rattle.std.proofs.Common.{◌≡◌, ℕ, suc, ◌+◌, ◌-◌, ◌<◌, ◌≤◌, Bool, true, false, ◌&&◌, List, [], ◌∷◌, ◌++◌, length, drop, Option, Some, None, refl, sym, ap, ◌∙◌, inl, inr, arith, append_assoc, append-nil, length-append, length-drop, drop_at}
+use Rattle.std.proofs.Common.{◌≡◌, ℕ, suc, ◌+◌, ◌-◌, ◌<◌, ◌≤◌, Bool, true, false, ◌&&◌, List, [], ◌∷◌, ◌++◌, length, drop, Option, Some, refl, sym, ap, ◌∙◌, inl, inr, arith, append_assoc, append-nil, length-append, length-drop, drop_at}
 use Rattle.std.specs.Prelude.{slice_get, flat_map, not}
 use Rattle.std.specs.List.{AllByRecursion}
 use Rattle.std.specs.Ordering.{nat_cmp, ordering_reverse, ordering_then, is_lt}
@@ -42,13 +42,6 @@ ordered_more (a ∷ b ∷ rows) last row o e =
     let k : length (a ∷ b ∷ rows) - 1 ≡ suc (length (b ∷ rows) - 1) = omega arith in
     let e' : slice_get (b ∷ rows) (length (b ∷ rows) - 1) ≡ Some last = sym (ap (slice_get (a ∷ b ∷ rows)) k) ∙ e in
     ap (λ t. t && is_ordered (b ∷ (rows ++ row ∷ []))) s.0 ∙ ordered_more (b ∷ rows) last row s.1 e'
-
-no_rows : (rows : List Row) → slice_get rows (length rows - 1) ≡ None → rows ≡ []
-no_rows [] e = refl
-no_rows (a ∷ []) e = absurd (cc)
-no_rows (a ∷ b ∷ rows) e =
-    let k : length (a ∷ b ∷ rows) - 1 ≡ suc (length (b ∷ rows) - 1) = omega arith in
-    let none : b ∷ rows ≡ [] = no_rows (b ∷ rows) (sym (ap (slice_get (a ∷ b ∷ rows)) k) ∙ e) in absurd (cc)
 
 -- rows that ascend strictly ascend
 rows_total : IsTotalOrder (λ (a b : Row). ordering_then (node_cmp a.node b.node) (nat_cmp a.version b.version))

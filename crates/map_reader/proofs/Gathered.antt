@@ -11,7 +11,6 @@ use Rattle.std.proofs.lemmas.List.Folds.{flat_map-map}
 use Rattle.std.proofs.lemmas.List.FromFn.{map-range_with_len_more}
 use Rattle.std.proofs.lemmas.List.Sums.{sum_by-cons, sum_by-append}
 use Rattle.std.proofs.lemmas.List.Sorted.{sum_by-IsPermutation}
-use Rattle.fine_model.specs.declared.FetchFault.{FetchFault}
 use Rattle.fine_model.specs.declared.Node.TheVariants as node
 use Rattle.fine_model.specs.declared.NodeId.{NodeId}
 use Rattle.fine_model.specs.declared.Row.{Row}
@@ -24,9 +23,6 @@ use Rattle.fine_model.proofs.Ordered.KeptPairs.{absent, kept_all, once_ascending
 use Rattle.fine_model.proofs.Ordered.Order.{all_map}
 use Rattle.fine_model.proofs.Ordered.Sets.{all_append}
 use Rattle.node_cache.specs.Given.{Finds}
-use Rattle.btree_nodes.specs.declared.fault.TreeFault.{TreeFault}
-use Rattle.btree_nodes.specs.declared.fault.TreeFault.TheVariants.{Source, Unfit, BucketFull, Number, NoMemory}
-use Rattle.btree_nodes.specs.Faults.{OnFault}
 use Rattle.map_reader.specs.Reading.{FindsAll, FindsTree, Gathers, GathersOne, IsGiven, MeetsUnfit}
 
 pub pairs_ranked : IsStrictWeakOrder (λ (a b : Pair). is_below a.0 b.0)
@@ -200,10 +196,3 @@ module _ (tells tells' : List Row → Type 0) (finds finds' : Finds) (tell : (ro
     are = f.are;
     map = λ rows told. f.map rows (tell rows told);
   }
-
-  pub fault_before : {F G : FetchFault → Type 0} → ((f : FetchFault) → F f → G f) → (fault : TreeFault) → OnFault fault F (MeetsUnfit tells' finds') (Unit {0}) → OnFault fault G (MeetsUnfit tells finds) (Unit {0})
-  fault_before imply (Source f) h = imply f h
-  fault_before imply (Unfit id) h = unfit_before id h
-  fault_before imply (BucketFull n d) h = h
-  fault_before imply (Number id) h = h
-  fault_before imply NoMemory h = h

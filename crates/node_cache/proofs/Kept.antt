@@ -155,14 +155,6 @@ fresh nodes saved none distinct = record {
   stands = λ q. subst (λ s. IfSome (lookup (nat_eq q) s) (λ o. Stands o (lookup (nat_eq q) nodes))) (sym none) tt;
 }
 
--- the same nodes are cached
-pub stays : (nodes nodes' : Nodes) (saved : Saved) → IsKept nodes saved → IsDistinct nat_eq (keys_of nodes') → ((q : ℕ) → lookup (nat_eq q) nodes' ≡ lookup (nat_eq q) nodes) → IsKept nodes' saved
-stays nodes nodes' saved kept distinct same = record {
-  distinct = distinct;
-  once = kept.once;
-  stands = λ q. subst (λ found. IfSome (lookup (nat_eq q) saved) (λ o. Stands o found)) (sym (same q)) (kept.stands q);
-}
-
 -- all but one number are as before
 pub stands_but : (k : ℕ) (nodes nodes' : Nodes) (saved saved' : Saved) → IsKept nodes saved → ((q : ℕ) → nat_eq k q ≡ false → lookup (nat_eq q) nodes' ≡ lookup (nat_eq q) nodes)
     → ((q : ℕ) → nat_eq k q ≡ false → lookup (nat_eq q) saved' ≡ lookup (nat_eq q) saved) → IfSome (lookup (nat_eq k) saved') (λ o. Stands o (lookup (nat_eq k) nodes'))

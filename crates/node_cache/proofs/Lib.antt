@@ -1,4 +1,4 @@
-pub mod Bounds
+pub mod Equal
 pub mod Moved
 pub mod Restored
 pub mod Evicted

@@ -40,9 +40,6 @@ module _ (pairs : List Pair) (key : List ℕ) (at : ℕ) where
     pub set_within : (value : List ℕ) → at < length (with_value pairs at value)
     set_within value = subst (λ ps. at < length ps) (sym (value_set pairs at stands.here.0 value there)) (omega (arith, stands.within, length-set pairs at (stands.here.0.0, value)))
 
-    pub set_few : (value : List ℕ) → length (with_value pairs at value) ≡ length pairs
-    set_few value = ap length (value_set pairs at stands.here.0 value there) ∙ length-set pairs at (stands.here.0.0, value)
-
     -- the value that stood is set again
     pub set_again : (value old : List ℕ) → option_map (λ (p : Pair). p.1) (slice_get pairs at) ≡ Some old → with_value (with_value pairs at value) at old ≡ pairs
     set_again value old stood =

@@ -21,7 +21,7 @@ use Rattle.node_cache.specs.declared.cached.Cached.{Cached}
 use Rattle.node_cache.specs.declared.undo.Step.{Step}
 use Rattle.node_cache.specs.Undo.{TakesBack, CanTakeBack, back}
 use Rattle.node_cache.specs.Changing.{changes_leaf, changes_pair, changes_cached, changed_pairs, StepsBack, IsNoted, ChangesPair}
-use Rattle.node_cache.proofs.Bounds.{same_kept}
+use Rattle.node_cache.proofs.Equal.{same_kept}
 
 -- what a change of a pair leaves
 pub changed_leaf : (pairs : List Pair) (r : Rec) → changes_leaf pairs r ≡ true → length (changed_pairs pairs r) ≤ 32 → changed (node.Leaf pairs) r ≡ node.Leaf (changed_pairs pairs r)

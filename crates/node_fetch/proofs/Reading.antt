@@ -57,11 +57,6 @@ stops_at_other mark bytes id rows at count row end s few r other = record {
   );
 }
 
-pub reads_all : (mark : Mark) (bytes : List ℕ) (id : NodeId) (rows : List Row) (at count : ℕ) → ReadSoFar mark bytes id rows at → length rows ≡ count → length bytes ≤ at → ReadsAll mark bytes id count rows
-reads_all mark bytes id rows at count s all end =
-    let same : at ≡ length bytes = omega (arith, s.within) in
-    record { so_far = subst (ReadSoFar mark bytes id rows) same s; counted = all }
-
 -- bytes are so many rows of a node in one way
 pub reads_once : (mark : Mark) (bytes : List ℕ) (id : NodeId) (count : ℕ) (a b : List Row) → ReadsAll mark bytes id count a → ReadsAll mark bytes id count b → a ≡ b
 reads_once mark bytes id count a b r s =

@@ -46,9 +46,6 @@ module _ (x y : ℕ) (a b : List ℕ) where
       by true is = absurd (omega (arith, gt, eqb-true x y is))
       by false is = refl
 
-  byte_decides : Decides x y (x ∷ a) (y ∷ b) a b
-  byte_decides = record { lower = lower_byte; higher = higher_byte; equal = equal_byte }
-
 -- ---- a byte before others, which are worth less than one of its units
 
 module _ (unit x y n k : ℕ) (a b rest_a rest_b : List ℕ) (n_less : n < unit) (k_less : k < unit) (others : Decides n k a b rest_a rest_b) where

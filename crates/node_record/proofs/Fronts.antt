@@ -15,10 +15,6 @@ use Rattle.node_record.proofs.RowLaws.{body_short}
 
 -- ---- the fields of a front
 
--- what follows the kind of a row that starts at a place
-behind_kind : Row → List ℕ → List ℕ
-behind_kind row rest = body row.rec ++ rest
-
 front_is : (bytes : List ℕ) (at : ℕ) (row : Row) → StartsAt bytes at row → (rest : List ℕ) × (drop at bytes ≡ row_bytes row ++ rest)
 front_is bytes at row starts = (drop (at + row_len row) bytes, starts.begins.spelled)
 

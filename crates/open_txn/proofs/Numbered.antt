@@ -74,11 +74,6 @@ new_numbered flags numbers room clear none reserved = subst (λ l. AreNumbered l
 pub clear_at : (flags : List Bool) (k : ℕ) (r d : Bool) → k < 256 → length flags ≡ 256 → r ≡ slice_index_or flags k d → r ≡ false → slice_get flags k ≡ Some false
 clear_at flags k r d low long is clear = slice_get-get_or flags k d (omega (arith, low, long)) ∙ ap Some (sym is ∙ clear)
 
-pub set_itself : (flags : List Bool) (k : ℕ) (flag : Bool) → slice_get flags k ≡ Some flag → flags ≡ slice_set flags k flag
-set_itself [] k flag is = absurd cc
-set_itself (x ∷ flags) zero flag is = cc
-set_itself (x ∷ flags) (suc k) flag is = ap (λ l. x ∷ l) (set_itself flags k flag is)
-
 module _ (flags : List Bool) (numbers : List ℕ) (room : ℕ) (are : AreNumbered flags numbers room) where
   pub has_room : (k : ℕ) → slice_get flags k ≡ Some false → length numbers < room
   has_room k is = let n = not_all_set flags k is in let m = are.as_many in let a = are.all in let r = are.reserved in omega (arith, n, m, a, r)

@@ -19,12 +19,6 @@ none_from p a (suc n) fails =
     ap (λ b. cond b (a ∷ filter p (range_with_len (a + 1) n)) (filter p (range_with_len (a + 1) n))) (fails a (omega arith) (omega arith))
     ∙ none_from p (a + 1) n (λ i low high. fails i (omega (arith, low)) (omega (arith, high)))
 
-all_from : (p : ℕ → Bool) (a n : ℕ) → ((i : ℕ) → a ≤ i → i < a + n → p i ≡ true) → filter p (range_with_len a n) ≡ range_with_len a n
-all_from p a zero all = refl
-all_from p a (suc n) all =
-    ap (λ b. cond b (a ∷ filter p (range_with_len (a + 1) n)) (filter p (range_with_len (a + 1) n))) (all a (omega arith) (omega arith))
-    ∙ ap (λ xs. a ∷ xs) (all_from p (a + 1) n (λ i low high. all i (omega (arith, low)) (omega (arith, high))))
-
 -- those below a number
 below_from : (p : ℕ → Bool) (a k n : ℕ) → k ≤ n → ((i : ℕ) → a ≤ i → i < a + n → p i ≡ nat_lt i (a + k)) → filter p (range_with_len a n) ≡ range_with_len a k
 below_from p a zero n few is = none_from p a n (λ i low high. is i low high ∙ not_below i low)

@@ -76,17 +76,6 @@ bad_entry known p at i entry there place none told = record {
 entry_sound : (header : Header) (e : ModelEntry) → is_entry header e ≡ true → (e.offset < header.area) × (1 ≤ e.rows) × (e.rows ≤ header.rows)
 entry_sound header e h = grind (arith, nat_tests)
 
--- the end of an entry's span is the next entry's offset, or the end of the rows
-pub end_next : (known : Option Image) (p : Part) (i : ℕ) (entry : IndexEntry) → i + 1 < p.header.nodes → IsEntryAt known p (i + 1) entry → IsEndOf known p i entry.offset
-end_next known p i entry there e = record {
-  within = omega (arith, entry_sound p.header (model_of entry) e.sound);
-  told = each_told (λ image. (is_followed p.header (body_in image p.region p.header) i ≡ true) × (span_end p.header (body_in image p.region p.header) i ≡ entry.offset)) known
-      (λ image t.
-      let is : entry_at p.header (body_in image p.region p.header) (i + 1) ≡ model_of entry = told_as (λ j. entry_at p.header (body_in j p.region p.header) (i + 1) ≡ model_of entry) known image t e.told in
-      let more : nat_lt (i + 1) p.header.nodes ≡ true = lt-ltb (i + 1) p.header.nodes there in
-      (rw more (ap (is_entry p.header) is ∙ e.sound), rw more (ap (λ x. x.offset) is)));
-}
-
 -- the span of an entry, where it is not empty
 pub span_some : (known : Option Image) (p : Part) (i end : ℕ) (entry : IndexEntry) → IsEntryAt known p i entry → IsEndOf known p i end → entry.offset < end
     → IsSpanAt known p i (record { at = entry.offset; end = end; rows = entry.rows })

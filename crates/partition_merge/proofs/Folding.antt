@@ -35,9 +35,6 @@ pub stay_broken : (id : NodeId) (own : List Row) (c : Content) → c ≡ replay 
 unfolding merged_into
 stay_broken id own c e none = as_replayed id own c e ∙ ap (merged_into id own c.1) none
 
-chosen : List Row → Row → Bool → List Row
-chosen own row test = cond test (row ∷ []) own
-
 -- rows whose image is longer stay
 pub stay_short : (id : NodeId) (own : List Row) (c : Content) (image : Rec) → c ≡ replay (base id) own → image_of c.0 ≡ Some image
     → nat_le (row_len (record { node = id; version = c.1; rec = image })) (rows_len own) ≡ false → merged_of id own ≡ own

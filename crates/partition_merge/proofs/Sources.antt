@@ -16,19 +16,16 @@ use Rattle.fine_model.specs.RowBytes.{FitsRow, FitsRec}
 use Rattle.fine_model.proofs.Merging.NodesIn.{node_cases, is_node_below-self, is_node-self, same_node}
 use Rattle.fine_model.proofs.Ordered.Order.{filter_all, filter_none, all_map}
 use Rattle.fine_model.proofs.Ordered.Sets.{all_filter, all_append}
-use Rattle.fine_model.specs.Regions.{Image, body_in}
-use Rattle.fine_model.specs.Seek.{entry_at}
+use Rattle.fine_model.specs.Regions.{Image}
 use Rattle.partition_index.specs.declared.entries.IndexEntry.{IndexEntry}
 use Rattle.partition_index.specs.declared.entries.Span.{Span}
-use Rattle.partition_index.specs.Entries.{model_of}
 use Rattle.partition_index.specs.Parts.{IsSeen, SameEye}
-use Rattle.partition_index.specs.Search.{TellsRows, IsEntryAt, IsSpanAt, IsSpanOf, span_for}
+use Rattle.partition_index.specs.Search.{TellsRows, IsEntryAt, IsSpanAt, span_for}
 use Rattle.partition_index.proofs.Exact.{holds_rows, entry_exact, span_exact, there_in}
 use Rattle.fine_model.specs.declared.FetchFault.{FetchFault}
 use Rattle.node_fetch.specs.Fetched.{HoldsRows, NoDamage}
 use Rattle.node_fetch.proofs.Parts.{fit_rows}
 use Rattle.node_fetch.proofs.PartRows.{tells_same}
-use Rattle.node_fetch.proofs.Told.{map_told}
 use Rattle.partition_merge.specs.declared.merger.Merger.{Merger}
 use Rattle.partition_merge.specs.declared.merger.Source.{Source}
 use Rattle.fine_model.proofs.Merging.NodeOrder.{below-other, below-asym, above_or_same}
@@ -146,14 +143,6 @@ pub span_kept : (eye : Eye) (p : Part) (next : ℕ) (rows : List Row) (entry : I
 span_kept eye p next rows entry span n seen t there e s same =
     span_exact eye p rows next span n seen t there s
     ∙ ap (span_for rows) (sym (ap (λ x. x.node) (entry_exact eye p rows next entry n seen t there e)) ∙ same)
-
-pub names_node : (known : Option Image) (p : Part) (next : ℕ) (entry : IndexEntry) (span : Span) (n : NodeId) → next < p.header.nodes → IsEntryAt known p next entry → IsSpanAt known p next span → entry.node ≡ n → IsSpanOf known p n span
-names_node known p next entry span n there e s same = record {
-  entry = next;
-  there = there;
-  names = map_told (λ image. entry_at p.header (body_in image p.region p.header) next ≡ model_of entry) (λ image. (entry_at p.header (body_in image p.region p.header) next).node ≡ n) known (λ image is. ap (λ x. x.node) is ∙ same) e.told;
-  is_span = s;
-}
 
 pub source_later : (old new : Eye) (before after : Source) (rows left : List Row) → SameEye old new → after.part ≡ before.part → TellsRows old before.part rows → IsLeft rows after.next left → SourceAt new after left
 source_later old new before after rows left same part t l = record {

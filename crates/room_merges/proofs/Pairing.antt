@@ -119,11 +119,6 @@ does_later header j job a b c whole first (opened_room, steps, counts) = (
 )
 
 module _ (header : Header) (old mid new : RoomValue) (view view' : ViewValue) (job job' : Job) where
-  -- what sealing asks of the job as it is written, and of the view
-  pub still_there : SameView view view' → job' ≡ same_job job job'.written → (P : Job → Part) → P (same_job job job'.written) ≡ P job → Contains view.parts (P job) → Contains view'.parts (P job')
-  still_there same is P stays there =
-      subst (λ parts. Contains parts (P job')) (sym same.parts) (subst (λ p. Contains view.parts p) (sym stays ∙ sym (ap P is)) there)
-
   pub still_measured : SameView view view' → job' ≡ same_job job job'.written → Measures view job.older job.newer (measure_in header) → Measures view' job'.older job'.newer (measure_in header)
   still_measured same is measured =
       of_same view view' job job' same (ap (λ (j : Job). j.older) is) (ap (λ (j : Job). j.newer) is) (λ a b. measure_in header ≡ measure_of (merged a b)) measured

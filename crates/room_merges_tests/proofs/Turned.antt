@@ -1,9 +1,8 @@
 -- A merge that stays out while epochs are sealed: what each step leaves for the next one.
-use Rattle.std.proofs.Common.{◌≡◌, ℕ, Bool, true, false, List, [], ◌∷◌, None, Some, Ok, Err, Result, refl, sym, ap, subst, ◌∙◌}
-use Rattle.std.specs.Prelude.{Contains, IfSome, Option, option_map, is_some, slice_get, slice_set, if◌then◌else◌}
+use Rattle.std.proofs.Common.{◌≡◌, ℕ, true, false, List, [], ◌∷◌, None, Some, Ok, Err, Result, refl, sym, ap, subst, ◌∙◌}
+use Rattle.std.specs.Prelude.{Contains, IfSome, Option, is_some, slice_get, slice_set}
 use Rattle.fine_model.specs.declared.Header.{Header}
 use Rattle.fine_model.specs.declared.Job.{Job}
-use Rattle.fine_model.specs.declared.Part.{Part}
 use Rattle.fine_model.specs.declared.law.OpenedEye.{OpenedEye}
 use Rattle.fine_model.specs.declared.law.RoomState.{RoomState}
 use Rattle.fine_model.specs.Boards.{Buffer, buffer_at, empty_of}
@@ -13,7 +12,7 @@ use Rattle.partition_hold.specs.Views.{SameView, ViewValue, opened}
 use Rattle.partition_merge.specs.Blocks.{BlocksValue}
 use Rattle.partition_merge.specs.declared.merger.Measure.{Measure}
 use Rattle.epoch_room.specs.MergeSealing.{IsWrittenOut, SealsJobOr, merged_state}
-use Rattle.epoch_room.specs.MergeSteps.{free_after, fresh_job, job_after, neighbours_from, picked, regions_for_job, with_job}
+use Rattle.epoch_room.specs.MergeSteps.{free_after, job_after, regions_for_job, with_job}
 use Rattle.epoch_room.specs.Returns.{IsPosted}
 use Rattle.epoch_room.specs.Meaning.{Keeps}
 use Rattle.epoch_room.specs.Value.{RoomValue}
@@ -66,29 +65,6 @@ views_at old new view empty keeps made =
     }
 
 -- ---- the job
-
-pub picked_fresh : (room : RoomState) (from : ℕ) (job : Job) → picked room from ≡ Some job → (room.is_shut ≡ false) × (job ≡ fresh_job (job.older, job.newer))
-picked_fresh room from job is = by room.is_shut (neighbours_from from room.parts) refl is
-  where
-    by : (b : Bool) (o : Option (Part × Part)) → room.is_shut ≡ b → ◌≡◌ {A = Option Job} (if b then None else option_map fresh_job o) (Some job) → (room.is_shut ≡ false) × (job ≡ fresh_job (job.older, job.newer))
-    by true o shut e = absurd (let f : ◌≡◌ {A = Option Job} None (Some job) = e in cc)
-    by false None shut e = absurd (let f : ◌≡◌ {A = Option Job} None (Some job) = e in cc)
-    by false (Some two) shut e = let f : fresh_job two ≡ job = cc in (shut, sym f ∙ ap (λ (j : Job). fresh_job (j.older, j.newer)) f)
-
-pub picks : (old new : RoomValue) (view : ViewValue) (job : Job) (from : ℕ) → IsAt old view → Some job ≡ picked old.room from → new ≡ with_job old (picked old.room from) old.room.free
-    → Contains view.parts job.older → Contains view.parts job.newer → IsPicked new view job
-picks old new view job from at is new_is older newer =
-    let fresh = picked_fresh old.room from job (sym is) in
-    record {
-      with_view = record {
-        at = record { place = at.place; board = ap (λ (v : RoomValue). v.room.board) new_is ∙ at.board; region_len = at.region_len ∙ sym (ap (λ (v : RoomValue). v.room.region_len) new_is) };
-        out = ap (λ (v : RoomValue). v.room.job) new_is ∙ sym is;
-        older = older;
-        newer = newer;
-      };
-      opened = ap (λ (v : RoomValue). v.room.is_shut) new_is ∙ fresh.0;
-      fresh = fresh.1;
-    }
 
 pub takes : (old new : RoomValue) (view view' : ViewValue) (job job' : Job) (header : Header) (measure : Measure) → SameView view view' → Measures view job.older job.newer measure
     → true ≡ is_some (regions_for_job old.room measure) → job' ≡ job_after job measure old.room.free (regions_for_job old.room measure)
@@ -170,10 +146,6 @@ module _ (header : Header) (old new : RoomValue) (view view' : ViewValue) (block
   }
 
 -- ---- turns of others
-
--- nobody had one
-pub no_turns : (a : RoomValue) → HadTurns a a
-no_turns a = record { board = refl; region_len = refl; job = record { job = refl; held = λ job is. refl } }
 
 pub turns_on : (a b c : RoomValue) → HadTurns a b → HadTurns b c → HadTurns a c
 turns_on a b c p q = record { board = q.board ∙ p.board; region_len = q.region_len ∙ p.region_len; job = job_on a.room b.room c.room p.job q.job }

@@ -31,7 +31,7 @@ use Rattle.run_laws.proofs.Readings.{unsound_law}
 use Rattle.room_steps.specs.Laws.{MergesStay}
 use Rattle.room_steps.specs.Merging.{FreeOr, Frees, IsMerging, IsTidying, MergesNamed, MergesOne, of_merge}
 use Rattle.run_laws.specs.Needs.{Unsealed}
-use Rattle.room_steps.specs.Steps.{FaultOf, IsNamed, IsWell, Leaves, NamesPlace, NoneFailed, space_of}
+use Rattle.room_steps.specs.Steps.{FaultOf, IsNamed, IsWell, Leaves, NamesPlace, space_of}
 use Rattle.room_steps.proofs.MadeOn.{made_none}
 use Rattle.room_steps.proofs.Stepping.{near_lives}
 use Rattle.room_steps.proofs.Facts.{Rested, failed_on, fault_on, has_failed, leaves_itself, leaves_on, leaves_staying, none_failed_itself, unsealed_itself, unsealed_on, was_shut, well_counts, well_on}
@@ -210,13 +210,6 @@ module _ (a b c : ShelfValue) (p : IsMerging a b) where
     so_far = inr (well_after m.merge.0);
   }
 
-pub none_failed_after : (a b : ShelfValue) → IsMerging a b → NoneFailed a b
-none_failed_after a b p = by p.so_far
-  where
-    by : (b ≡ a) ⊎ IsWell a b → NoneFailed a b
-    by (inl same) = subst (λ s. NoneFailed a s) (sym same) (none_failed_itself a)
-    by (inr w) = w.none_failed
-
 -- ---- as the policy names the neighbours
 
 pub tidying_itself : (s : ShelfValue) → IsShelf s.room.room s.view → IsWhole s.room → s.room.room.job ≡ None → IsTidying s s
@@ -232,10 +225,6 @@ module _ (a b : ShelfValue) (p : IsTidying a b) where
 
   pub tidying_on : (c : ShelfValue) (from : ℕ) → IsNamed b.room.room (Some from) → MergesOne b c (Ok true) → IsTidying a c
   tidying_on c from named m = record { merging = merging_on a b c p.merging m; erased = inr m.merge.2; called = inr (named_before from named) }
-
-  -- the policy names no more neighbours
-  pub tidied : IsNamed b.room.room None → MergesNamed a b (Ok tt)
-  tidied none = record { leaves = p.merging.leaves; unsealed = p.merging.unsealed; called = p.called; tidy = (none_failed_after a b p.merging, inl none); erased = p.erased }
 
   -- it names some, and none fit
   pub none_fitted : (c : ShelfValue) (from : ℕ) → IsNamed b.room.room (Some from) → MergesOne b c (Ok false) → MergesNamed a c (Ok tt)

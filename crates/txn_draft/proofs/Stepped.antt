@@ -20,9 +20,8 @@ use Rattle.node_cache.specs.Given.{Finds, IsFetched, IsLoaded}
 use Rattle.btree_nodes.specs.declared.fault.TreeFault.{TreeFault}
 use Rattle.btree_nodes.specs.declared.fault.TreeFault.TheVariants.{Source, Unfit, BucketFull, Number, NoMemory}
 use Rattle.btree_nodes.specs.Trees.{Serves, Holds, LoadsOnWay, AreUsed, way_in, pairs_in}
-use Rattle.btree_nodes.specs.Calls.{IsChange, IsDone, Answers, IsFound, SoundOutcome, SoundReading}
+use Rattle.btree_nodes.specs.Calls.{IsChange, IsDone, IsFound, SoundOutcome, SoundReading}
 use Rattle.btree_nodes.proofs.LeafPush.{pushes_none}
-use Rattle.btree_nodes.proofs.SoundCalls.{fault_first, reached_fault}
 use Rattle.txn_draft.specs.Steps.{Made, IsMade, IsStep}
 
 -- nothing was loaded
@@ -52,21 +51,6 @@ module _ (tells : List Row → Type 0) (finds : Finds) (upper : ℕ) (old new : 
   fault_change P Q (Number id) h = record { mid = h.mid; loaded = h.loaded; on_way = h.on_way; used = h.used; outcome = h.outcome }
   fault_change P Q NoMemory h = record { mid = h.mid; loaded = h.loaded; on_way = h.on_way; used = tt; outcome = h.outcome }
 
-  fault_outcome : {A B : Type 0} (rows : List Row) (P : A → Type 0) (Q : B → Type 0) (e : TreeFault) → SoundOutcome {A = A} rows log log' new c P (Err e) → SoundOutcome {A = B} rows log log' new c Q (Err e)
-  fault_outcome rows P Q (Source f) h = h
-  fault_outcome rows P Q (Unfit id) h = h
-  fault_outcome rows P Q (BucketFull m d) h = h
-  fault_outcome rows P Q (Number id) h = h
-  fault_outcome rows P Q NoMemory h = h
-
-  pub fault_step : {A B : Type 0} (P : Cache → A → Type 0) (R : List Row → A → Type 0) (Q : List Pair → B → Type 0) (e : TreeFault) → IsChange {A = A} tells finds upper old new log log' c P F (Err e)
-      → ((rows : List Row) → Serves tells old rows → Holds old rows log → IsSound (rows ++ log) → SoundOutcome {A = A} rows log log' new c (R (rows ++ log)) (Err e))
-      → IsStep {A = B} tells finds upper old new log log' c Q F (Err e)
-  fault_step P R Q e change sound = record {
-    change = fault_change P (λ mid. Q (pairs_in mid (key_of c))) e change;
-    sound = λ rows serves holds is. fault_outcome rows (R (rows ++ log)) (Q (map_of (rows ++ log))) e (sound rows serves holds is);
-  }
-
   -- another value in its place
   pub done_step : {A B : Type 0} (R : List Pair → A → Type 0) (Q : List Pair → B → Type 0) (a : A) (b : B) → ((pairs : List Pair) → R pairs a → Q pairs b) → IsChange {A = A} tells finds upper old new log log' c (λ mid. R (pairs_in mid (key_of c))) F (Ok a)
       → ((rows : List Row) → Serves tells old rows → Holds old rows log → IsSound (rows ++ log) → SoundOutcome {A = A} rows log log' new c (R (map_of (rows ++ log))) (Ok a))
@@ -74,15 +58,6 @@ module _ (tells : List Row → Type 0) (finds : Finds) (upper : ℕ) (old new : 
   done_step R Q a b on h sound = record {
     change = record { mid = h.mid; loaded = h.loaded; on_way = h.on_way; used = h.used; outcome = (on (pairs_in h.mid (key_of c)) h.outcome.0, h.outcome.1, h.outcome.2) };
     sound = λ rows serves holds is. let s = sound rows serves holds is in (on (map_of (rows ++ log)) s.0, s.1);
-  }
-
-  -- memory ran out once the call was done
-  pub lost_step : {A B : Type 0} (P : Cache → A → Type 0) (R : List Row → A → Type 0) (Q : List Pair → B → Type 0) (a : A) → IsChange {A = A} tells finds upper old new log log' c P F (Ok a)
-      → ((rows : List Row) → Serves tells old rows → Holds old rows log → IsSound (rows ++ log) → SoundOutcome {A = A} rows log log' new c (R (rows ++ log)) (Ok a))
-      → IsStep {A = B} tells finds upper old new log log' c Q F (Err NoMemory)
-  lost_step P R Q a h sound = record {
-    change = record { mid = h.mid; loaded = h.loaded; on_way = h.on_way; used = tt; outcome = h.outcome.2.pushes.saves };
-    sound = λ rows serves holds is. (sound rows serves holds is).1.holds.restores;
   }
 
 -- a key was looked up
@@ -94,27 +69,6 @@ module _ (tells : List Row → Type 0) (finds : Finds) (upper : ℕ) (old new : 
     change = record { mid = new; loaded = loaded; on_way = on_way; used = used; outcome = (on (pairs_in new key) found.stands, record { here = found.here; fit = found.fit }, done_none new log key) };
     sound = λ rows serves holds is. let s = sound rows log serves holds is in (on (map_of (rows ++ log)) s.0, record { own = []; is_pushed = get_pushed (rows ++ log) key; behind = sym (append-nil log); holds = s.1 });
   }
-
-  pub missed_step : {B : Type 0} (Q : List Pair → B → Type 0) (e : TreeFault) → Answers {A = Option (List ℕ)} new key (IsFound new key) F (Err e)
-      → ((rows log : List Row) → Serves tells old rows → Holds old rows log → IsSound (rows ++ log) → SoundReading {A = Option (List ℕ)} rows log new (λ v. v ≡ get (map_of (rows ++ log)) key) (Err e))
-      → IsStep {A = B} tells finds upper old new log log (call.Get key) Q F (Err e)
-  missed_step {B} Q e answer sound = record {
-    change = record {
-      mid = new;
-      loaded = loaded;
-      on_way = on_way;
-      used = reached_fault B (Option (List ℕ)) new key (IsFound new key) F e (AreUsed old new (way_in new key)) answer;
-      outcome = fault_first {B = B} new log (call.Get key) (IsFound new key) (Q (pairs_in new key)) F e answer;
-    };
-    sound = λ rows serves holds is. by rows e (sound rows log serves holds is);
-  }
-    where
-      by : (rows : List Row) (e : TreeFault) → SoundReading {A = Option (List ℕ)} rows log new (λ v. v ≡ get (map_of (rows ++ log)) key) (Err e) → SoundOutcome {A = B} rows log log new (call.Get key) (Q (map_of (rows ++ log))) (Err e)
-      by rows (Source f) h = record { same = refl; holds = h }
-      by rows (Unfit id) h = h
-      by rows (BucketFull m d) h = absurd h
-      by rows (Number id) h = absurd h
-      by rows NoMemory h = h.restores
 
 -- ---- the replies and writes
 

@@ -57,13 +57,6 @@ module _ (tells : List Row → Type 0) (finds : Finds) (upper : ℕ) (b b' : Cac
         subst (λ rs. IsStep {A = Made} tells finds upper b b' d.rows rs c (λ pairs. IsMade pairs c) F (Ok made)) (sym rows) s,
       )
 
-  -- memory ran out when the call was to be kept
-  pub tried_lost : (made : Made) → step_of (Ok made) → IsTried tells finds upper b b' d d' c F (Err NoMemory)
-  tried_lost made s = record {
-    change = record { mid = s.change.mid; loaded = s.change.loaded; on_way = s.change.on_way; used = tt; outcome = s.change.outcome.2.pushes.saves };
-    sound = λ rows serves holds is. (s.sound rows serves holds is).1.holds.restores;
-  }
-
   module _ (d'' : DraftValue) (r : Result (Unit {0}) TreeFault) (failed : d'' ≡ record d' { failed = wants_memory r d'.failed }) (tried : IsTried tells finds upper b b' d d' c F r) where
     same_rows : d''.rows ≡ d'.rows
     same_rows = ap (λ x. x.rows) failed

@@ -40,7 +40,6 @@ use Rattle.fine_hall.proofs.Troubles.{sees_law, troubles_law}
 use Rattle.fine_hall.proofs.Turning.{commits_one}
 use Rattle.key_locks.specs.Locks.{LacksLock, HasLock, AreLocksOf, Releases}
 use Rattle.key_locks.proofs.Held.{far, held_beside, lacks_place}
-use Rattle.hall_rooms.proofs.Turned.{may_give_as_taken}
 use Rattle.txn_engine.specs.declared.txn.CommitFault.{CommitFault}
 use Rattle.txn_engine.specs.declared.txn.Txn.{Txn}
 use Rattle.txn_engine.specs.Faults.{refusal_of}
@@ -125,9 +124,6 @@ module _ (x : Beginning) (t : Txn) (p p₀ p₁ : RoomPass) (number₀ : p₀.nu
 
   nil : seen p₁ ≡ seen p₁ ++ added None 0
   nil = sym (append-nil (seen p₁))
-
-  pub may_none : MayGiveRoom room_state room_log Stands x r None 0 k.turn p₁
-  may_none = may_give_as_taken x p₀ p₁ r stands k
 
   -- ---- the room is given back
 

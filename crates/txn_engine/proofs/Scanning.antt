@@ -1,26 +1,22 @@
 -- A scan from bucket to bucket, through a view.
-use Rattle.std.proofs.Common.{◌≡◌, ◌≢◌, ⊎_elim, ℕ, ◌+◌, ◌<◌, ◌≤◌, true, false, nat_le, List, [], ◌++◌, slice_get, slice_set, Option, Some, Result, Ok, Err, inl, inr, refl, sym, ap, ◌∙◌, subst, arith}
+use Rattle.std.proofs.Common.{◌≡◌, ◌≢◌, ⊎_elim, ℕ, ◌+◌, ◌<◌, ◌≤◌, true, false, nat_le, List, [], ◌++◌, slice_get, Option, Some, Result, Ok, Err, inl, refl, sym, ap, ◌∙◌, subst, arith}
 use Rattle.std.specs.Prelude.{OnOk, IfErr}
 use Rattle.std.proofs.lemmas.Bool.Decides.{leb_tells}
 use Rattle.fine_model.specs.declared.Call.{Call}
 use Rattle.fine_model.specs.declared.Call.TheVariants as call
-use Rattle.fine_model.specs.declared.FetchFault.{FetchFault}
 use Rattle.fine_model.specs.declared.NodeId.{NodeId}
 use Rattle.fine_model.specs.declared.Row.{Row}
 use Rattle.fine_model.specs.ScanLaws.{IsKept}
-use Rattle.fine_model.specs.Trees.{IsSound}
 use Rattle.fine_model.proofs.Ordered.KeptPairs.{kept_first}
 use Rattle.node_cache.specs.Cache.{Cache}
 use Rattle.btree_nodes.specs.declared.fault.TreeFault.{TreeFault}
-use Rattle.btree_nodes.specs.declared.fault.TreeFault.TheVariants.{Unfit, NoMemory}
-use Rattle.btree_nodes.specs.Calls.{IsFirstUnfitBetween, Reads, SoundReading}
+use Rattle.btree_nodes.specs.declared.fault.TreeFault.TheVariants.{Unfit}
 use Rattle.btree_nodes.specs.Faults.{OnFault}
-use Rattle.btree_nodes.specs.Trees.{Holds, Serves}
-use Rattle.txn_draft.specs.Drafts.{DraftValue, FitsDraft, IsAnswered, IsLost}
+use Rattle.btree_nodes.specs.Trees.{Serves}
+use Rattle.txn_draft.specs.Drafts.{DraftValue, FitsDraft, IsAnswered}
 use Rattle.txn_draft.specs.Scans.{KeepsFound, ScanValue}
 use Rattle.txn_draft.specs.Uses.{IsUsed}
 use Rattle.open_txn.proofs.Advanced.{still_served}
-use Rattle.open_txn.proofs.Scanned.{caused_by, held_behind}
 use Rattle.partition_hold.specs.SourceLaws.{later_tells}
 use Rattle.partition_hold.specs.Sources.{IsLater, tells_rows}
 use Rattle.partition_hold.specs.Views.{ViewValue}
@@ -32,42 +28,6 @@ use Rattle.txn_engine.proofs.Open.{one_content}
 use Rattle.txn_engine.proofs.Ending.{less_or_at}
 
 -- ---- one bucket
-
-module _ (v v' : ViewValue) (k : ℕ) (near : k < 256) (locks : List (Option Cache)) (b b' : Cache) (there : HasLock locks k b) (low high : List ℕ) (limit : ℕ) (s s' : ScanValue)
-    (used : (least : ℕ) (taken : Cache) (rows : List Row) → IsUsed least taken b rows → least ≤ v.upto → IsUsed least taken b' rows) (serves : (rows : List Row) → Serves (tells_rows v) b rows → Serves (tells_rows v') b' rows) where
-  abbrev Kept : List Row → List Row → Type 0
-  Kept rows log = IsKept (rows ++ log) low high limit s.next s.pairs → IsKept (rows ++ log) low high limit s'.next s'.pairs
-
-  abbrev Sound : Result (Unit {0}) TreeFault → Type 0
-  Sound r = (rows log : List Row) → Serves (tells_rows v) b rows → Holds b rows log → IsSound (rows ++ log) → SoundReading rows log b' (λ (done : Unit {0}). Kept rows log) r
-
-  abbrev First : NodeId → Type 0
-  First = IsFirstUnfitBetween b' low high limit
-
-  unfit_of : (P : Unit {0} → Type 0) (S : FetchFault → Type 0) (r : Result (Unit {0}) TreeFault) → Reads P S First r → UnfitBy First r
-  unfit_of P S r reads id is = subst (λ (x : Result (Unit {0}) TreeFault). Reads P S First x) is reads
-
-  pub gathered_in : (P : Unit {0} → Type 0) (S : FetchFault → Type 0) (r : Result (Unit {0}) TreeFault) → Reads P S First r → Sound r → GathersIn v v' k locks (slice_set locks k (Some b')) low high limit s s' r
-  gathered_in P S (Ok done) reads sound = record {
-    old = b;
-    new = b';
-    there = there;
-    locks_are = refl;
-    read = record { used = used; serves = serves; holds = λ rows log served holds fine. (sound rows log served holds fine).1 };
-    more = λ rows log served kept. (sound rows log (served.serves k b near there) (served.holds k b near there) served.sound).0 kept;
-    unfit = unfit_of P S (Ok done) reads;
-    cause = tt;
-  }
-  gathered_in P S (Err fault) reads sound = record {
-    old = b;
-    new = b';
-    there = there;
-    locks_are = refl;
-    read = record { used = used; serves = serves; holds = λ rows log served holds fine. held_behind (Holds b' rows log) fault (sound rows log served holds fine) };
-    more = tt;
-    unfit = unfit_of P S (Err fault) reads;
-    cause = λ rows log served. caused_by (Holds b' rows log) fault (sound rows log (served.serves k b near there) (served.holds k b near there) served.sound);
-  }
 
 -- ---- one bucket behind another
 
@@ -162,10 +122,6 @@ read_to_end n v v' locks locks' le later r = record { below = λ k b low h. read
 pub ok_names_none : (id : NodeId) → (◌≡◌ {A = Result (Unit {0}) TreeFault} (Ok tt) (Err (Unfit id))) → ⊥
 ok_names_none id is = cc
 
--- and want of memory neither
-want_names_none : (id : NodeId) → (◌≡◌ {A = Result (Unit {0}) TreeFault} (Err NoMemory) (Err (Unfit id))) → ⊥
-want_names_none id is = cc
-
 module _ (v v' : ViewValue) (locks locks' : List (Option Cache)) (d d' : DraftValue) (c : Call) (low high : List ℕ) (limit : ℕ) (s₀ s : ScanValue) where
   pub scan_found : s₀ ≡ record { pairs = []; next = 0 } → GathersOr v v' locks locks' low high limit s₀ s (Ok tt) → KeepsFound c s.pairs d d' → (FitsDraft d → FitsDraft d')
       → ((rows : List Row) → IsAnswered rows d → IsKept (rows ++ d.rows) low high limit 256 s.pairs → IsAnswered rows d') → ScansIn v v' locks locks' d d' c (Ok tt)
@@ -179,9 +135,6 @@ module _ (v v' : ViewValue) (locks locks' : List (Option Cache)) (d d' : DraftVa
     unfit = λ id is. absurd (ok_names_none id is);
     cause = tt;
   }
-
-  pub scan_lost : GathersOr v v' locks locks' low high limit s₀ s (Ok tt) → IsLost d d' → ScansIn v v' locks locks' d d' c (Err NoMemory)
-  scan_lost g lost = record { read = λ k b near h. g.read.below k b near h; kept = tt; fits = tt; answered = tt; left = inr (refl, lost); unfit = λ id is. absurd (want_names_none id is); cause = λ rows log served. tt }
 
 pub scan_halted : (v v' : ViewValue) (locks locks' : List (Option Cache)) (d : DraftValue) (c : Call) (low high : List ℕ) (limit : ℕ) (s₀ s : ScanValue) (fault : TreeFault) → c ≡ call.Scan low high limit → GathersOr v v' locks locks' low high limit s₀ s (Err fault) → ScansIn v v' locks locks' d d c (Err fault)
 scan_halted v v' locks locks' d c low high limit s₀ s fault scans g = record {

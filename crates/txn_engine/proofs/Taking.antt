@@ -121,9 +121,6 @@ module _ (x : Beginning) (locks locks' : List (Option Cache)) (p p' : RoomPass) 
       (decide k places.room)
 
 module _ (x : Beginning) (c : Call) (t t' : Txn) (p p₁ : RoomPass) (before : AreTurns x (turns p)) (after : AreTurns x (turns p₁)) (number : p₁.number ≡ p.number) (o : IsOpenTxn x t p) (same : t'.draft ≡ t.draft) (are : AreLocksOf t'.locks p₁) where
-  abbrev Open : RoomPass → List (Option Cache) → Type 0
-  Open q locks = IsOpenOn x.log (published q) (seen q) t.draft locks
-
   with_same : (q : RoomPass) → IsOpenOn x.log (published q) (seen q) t.draft t'.locks → IsOpenOn x.log (published q) (seen q) t'.draft t'.locks
   with_same q = subst (λ d. IsOpenOn x.log (published q) (seen q) d t'.locks) (sym same)
 

@@ -125,9 +125,6 @@ module _ (region_len : ℕ) (was now : Image) (before present : List Part) (more
 -- ---- all nodes of a bucket
 
 module _ (bucket : ℕ) (nodes : ℕ → Content) (calls : List Call) (done part rest : List Row) (goes : GoBy bucket nodes calls (done ++ (part ++ rest))) where
-  id_of : ℕ → NodeId
-  id_of n = record { bucket = bucket; number = n }
-
   module _ (n : ℕ) where
     abbrev id : NodeId
     id = record { bucket = bucket; number = n }

@@ -75,9 +75,6 @@ module _ (log : Origin) (room : RoomValue) (history : List Commit) (eye : Eye) (
   all_sealed = sym (append-nil (all_of a.sealed)) ∙ ap (λ xs. all_of a.sealed ++ xs) (sym (l.whole.epoch.none l.none_waits).1) ∙ a.follows.rows
 
   module _ (c : Cache) (g : GoesIn log.region_len before now parts room.room.parts a.sealed c history) where
-    abbrev k : ℕ
-    k = c.bucket
-
     abbrev rows : List Row
     rows = rows_in c.bucket (all_rows history)
 

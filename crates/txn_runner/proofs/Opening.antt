@@ -81,9 +81,6 @@ none_waits sealed waiting history k n rows same = no_more (rows_of (node_id k n)
 -- ---- an eye, and its length alone
 
 module _ (eye : Eye) (entry now : Image) (parts present : List Part) (sealed : List (List Row)) (b : Cache) (calls own : List Call) (done rows log : List Row) where
-  abbrev OpenFor : Eye → Type 0
-  OpenFor e = IsOpen e entry now parts present sealed b calls own done rows log
-
   unseen : (region_len : ℕ) → eye.region_len ≡ region_len → IsOpen eye entry now parts present sealed b calls own done rows log → IsOpen (blind region_len) entry now parts present sealed b calls own done rows log
   unseen region_len e o = subst (λ n. IsOpen (blind n) entry now parts present sealed b calls own done rows log) e (record { opened = o.opened; firm = o.firm; saved = o.saved; absent = o.absent; there = o.there })
 
@@ -321,9 +318,6 @@ none_on id (row ∷ rows) e = by (is_node id row.node) refl e (none_on id rows)
 
 module _ (log : Origin) (room : RoomValue) (opened new : BucketsValue) (history : List Commit) (own : Commit) (epoch evicted : ℕ) (left : LeavesEach evicted (λ b. after b epoch) opened new) (next : own.epoch ≡ room.room.sealed + 1)
     (stand : StandAll log room.room.sealed new (history ++ own ∷ [])) (entry now : Image) (parts : List Part) (o : AllOpen log.region_len entry now parts room.room opened history own.entry.calls own.entry.rows) where
-  abbrev longer : List Commit
-  longer = history ++ own ∷ []
-
   rows_then : all_rows history ++ own.entry.rows ≡ all_rows (history ++ own ∷ [])
   rows_then = sym (flat_map-append (λ (c : Commit). c.entry.rows) history (own ∷ []) ∙ ap (λ xs. all_rows history ++ xs) (append-nil own.entry.rows))
 

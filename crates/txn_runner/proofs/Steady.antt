@@ -12,7 +12,6 @@ use Rattle.run_laws.specs.Needs.{IsSealed, Unsealed}
 use Rattle.run_laws.specs.Runs.{AreFewOfLanes}
 use Rattle.run_laws.specs.SoFar.{AreFewSoFar, GoesOn}
 use Rattle.run_laws.proofs.Going.{few_wait}
-use Rattle.txn_runner.specs.Body.{Body, Goes}
 
 -- ---- the buckets
 
@@ -23,10 +22,6 @@ stand_on entry p q b history low s = record {
   untouched = s.untouched;
   each = λ k c is. buckets_on (λ (x : Cache). x.bucket) kept_at IsResting (origin_of entry.entry) k p q c history low (s.each k c is);
 }
-
--- the rest goes on with any buckets
-pub with_buckets : (entry : RoomValue) (b : Body) (buckets : BucketsValue) (history : List Commit) → Goes entry b history → Goes entry (record b { buckets = buckets }) history
-with_buckets entry b buckets history g = record { room = g.room; stuck = g.stuck; view = g.view }
 
 -- ---- few wait
 

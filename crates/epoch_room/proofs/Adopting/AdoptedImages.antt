@@ -15,7 +15,7 @@ use Rattle.fine_model.proofs.Chain.Longer.{seal_law}
 use Rattle.fine_model.proofs.Trees.NodeLaws.{Agrees-append}
 use Rattle.fine_model.proofs.Ordered.Nothing.{all_at, each_there}
 use Rattle.fine_model.proofs.Ordered.Order.{all_map}
-use Rattle.log_disk.specs.Disk.{Disk, IsImageNow, IsToldOf, SameOutside, Told, with_bytes}
+use Rattle.log_disk.specs.Disk.{Disk, IsToldOf, SameOutside, Told, with_bytes}
 use Rattle.log_disk.specs.Moments.{IsLeft}
 use Rattle.log_disk.proofs.Writes.{same_outside_written}
 use Rattle.log_partition.specs.Written.{IsGood}
@@ -41,9 +41,6 @@ module _ (old entry : Disk) (kept : Kept) (range : Range) (rows : List Row) (k :
 
   abbrev header : List ℕ
   header = header_bytes old.region_len p.header
-
-  long_now : (was : Image) → IsImageNow a was → length was ≡ old.regions
-  long_now was now = now.regions ∙ sym told.image.regions ∙ told.regions
 
   -- ---- an image with the body
 

@@ -244,10 +244,6 @@ module _ (old entry : Disk) (kept : Kept) (range : Range) (rows : List Row) (k :
           (all_map (λ r. list_any (nat_eq r) (regions_of p) ≡ true) (IsUnseen old) (λ r there. unseen old (kept.parts ++ kept.retired) r c.whole.board.of_parts (part_beside r there)) (regions_of p) (each_there (regions_of p)));
     }
 
-    -- the rows become live
-    abbrev pub adopted_kept : Kept
-    adopted_kept = record kept { parts = kept.parts ++ p ∷ []; free = drop k kept.free; sealed = range.last }
-
     pub adopted_times : (new now : Disk) → SameTimes (take k kept.free ++ taken (value_of old entry kept).room kept.target) (taken (value_of new now (record kept { parts = kept.parts ++ p ∷ []; free = drop k kept.free; sealed = range.last })).room kept.target)
     adopted_times new now n =
         let t : List ℕ = option_to_list kept.target in

@@ -230,9 +230,6 @@ module _ (old entry : Disk) (kept : Kept) (whole : IsWhole (value_of old entry k
   pub retired_below : AllByRecursion (λ r. r < old.regions) (all_regions kept.retired)
   retired_below = all_right (λ r. r < old.regions) (all_regions kept.parts) (all_regions kept.retired) retired_apart.below
 
-  pub retired_small : AllByRecursion (λ r. r < 64) (all_regions kept.retired)
-  retired_small = all_map (λ r. r < old.regions) (λ r. r < 64) (λ r h. let m = whole.geometry.regions_high in omega (arith, h, m)) (all_regions kept.retired) retired_below
-
   module _ (leads : List ℕ) (are : AllByRecursion (λ r. list_any (λ p. p.region == r) kept.retired ≡ true) leads) where
     pub leads_below : AllByRecursion (λ r. r < old.regions) leads
     leads_below = all_map (λ r. list_any (λ p. p.region == r) kept.retired ≡ true) (λ r. r < old.regions) (λ r h. all_at (λ n. n < old.regions) r (all_regions kept.retired) retired_below (lead_in r kept.retired h)) leads are

@@ -1,5 +1,5 @@
 -- What holds behind each answer of erasing parts by their leads.
-use Rattle.std.proofs.Common.{◌≡◌, ◌≢◌, ℕ, zero, suc, ◌<◌, ◌≤◌, ◌==◌, Bool, true, false, List, [], ◌∷◌, ◌++◌, length, take, drop, Ok, Err, None, ◌||◌, append-nil, length-append, Result, refl, sym, ap, subst, ◌∙◌, arith, true≢false}
+use Rattle.std.proofs.Common.{◌≡◌, ◌≢◌, ℕ, zero, suc, ◌<◌, ◌≤◌, ◌==◌, Bool, true, false, List, [], ◌∷◌, ◌++◌, length, take, drop, Err, None, ◌||◌, length-append, Result, refl, sym, ap, subst, ◌∙◌, arith, true≢false}
 use Rattle.std.specs.Prelude.{IsErrOf, OnOk, nat_eq, not, option_to_list, slice_index}
 use Rattle.std.specs.List.{AllByRecursion, list_any}
 use Rattle.fine_model.specs.declared.law.OpenedEye.{OpenedEye}
@@ -217,14 +217,6 @@ module _ (region : ℕ) (old new : RoomValue) (result : Answer) (led : ErasesLed
 
   leaves_one : LeavesClosing (region ∷ []) old.disk new.disk
   leaves_one = subst (λ rs. LeavesClosing rs old.disk new.disk) (sym led.are) (closing_wider led.begun led.more old.disk new.disk led.leaves)
-
-  pub erases_ok : result ≡ Ok tt → Erases region old new (Ok tt)
-  erases_ok is =
-      let all = led.all is in
-      let fine : IsErrOf result refusal.Failed → ⊥ = λ f. (let e : ◌≡◌ {A = Answer} (Ok tt) (Err refusal.Failed) = sym is ∙ f in cc) in
-      let begun : led.begun ≡ region ∷ [] = sym (append-nil led.begun) ∙ ap (λ more. led.begun ++ more) (sym all) ∙ sym led.are in
-      let ne : led.begun ≢ [] = λ e. (let c : ◌≡◌ {A = List ℕ} (region ∷ []) [] = sym begun ∙ e in cc) in
-      record { room = (unnamed, led.synced fine ne, subst (λ rs. Does (erased_state old.room rs) old.target old new) begun (led.does fine ne)); read = read_one; leaves = leaves_one; beside = led.beside; keeps = led.keeps; job = led.job }
 
   pub erases_disk : IsErrOf result refusal.Failed → Erases region old new (Err erase_fault.Disk)
   erases_disk f =

@@ -5,7 +5,7 @@ use Rattle.std.specs.List.{AllByRecursion, list_any}
 use Rattle.std.proofs.lemmas.Bool.{cases_lt, eqb-true, or_right}
 use Rattle.std.proofs.lemmas.List.{take_at, drop_at, drop-drop, take-take, take-append-drop}
 use Rattle.std.proofs.lemmas.Nat.{div-add-mod', mod-mul-add}
-use Rattle.std.proofs.lemmas.List.Elements.{All-contains, All-from_recursion}
+use Rattle.std.proofs.lemmas.List.Elements.{All-contains}
 use Rattle.std.proofs.lemmas.Map.Views.{Contains-from_any, list_any-from_Contains}
 use Rattle.fine_model.specs.declared.Header.{Header}
 use Rattle.fine_model.specs.declared.Mark.{Mark}
@@ -149,9 +149,6 @@ module _ (p : Part) (at : ℕ) (bytes : List ℕ) (old : Disk) (place : HasPlace
 
   pub piece_unseen : IsUnseen old (place_of old.region_len p.region p.header at).region
   piece_unseen = All-contains (IsUnseen old) (regions_of p) _ place.unseen named
-
-  pub piece_there : (place_of old.region_len p.region p.header at).region < old.regions
-  piece_there = All-contains (λ r. r < old.regions) (regions_of p) _ (All-from_recursion (λ r. r < old.regions) (regions_of p) place.there) named
 
   pub piece_begun : (fits : (place_of old.region_len p.region p.header at).at + length bytes ≤ old.region_len) (new : Disk) (result : Result (Unit {0}) DiskRefusal)
       → Writes (place_of old.region_len p.region p.header at).region (place_of old.region_len p.region p.header at).at bytes (IsErrOf result refusal.Failed) old new

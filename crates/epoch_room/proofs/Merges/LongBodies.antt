@@ -1,6 +1,6 @@
 -- Bytes of a part's body that are written by several calls.
-use Rattle.std.proofs.Common.{◌≡◌, ℕ, zero, suc, ◌+◌, ◌<◌, ◌≤◌, Bool, true, false, List, [], ◌∷◌, ◌++◌, length, Ok, Err, Result, refl, sym, ap, subst, ◌∙◌, inl, inr, arith, append_assoc, append-nil, drop, get_or, length-append, true≢false}
-use Rattle.std.specs.Prelude.{IsErrOf, OnErr, OnOk, flat_map, is_err, nat_eq}
+use Rattle.std.proofs.Common.{◌≡◌, ℕ, zero, suc, ◌+◌, ◌<◌, ◌≤◌, Bool, true, false, List, [], ◌∷◌, ◌++◌, length, Ok, Err, Result, refl, sym, ap, subst, ◌∙◌, inl, inr, arith, append_assoc, drop, get_or, length-append, true≢false}
+use Rattle.std.specs.Prelude.{OnErr, OnOk, flat_map, is_err, nat_eq}
 use Rattle.std.specs.List.{AllByRecursion, list_any}
 use Rattle.std.proofs.lemmas.Bool.{eqb-true}
 use Rattle.std.proofs.lemmas.List.{drop_more}
@@ -119,40 +119,6 @@ module _ (p : Part) (at : ℕ) (bytes : List ℕ) (start now : Disk) (place : Ha
     written_refused e s =
         refused_body (regions_of p) p at (w.done ++ front) bytes e start new (omega (arith, length-append w.done front, long, front_long))
         (pieces (regions_of p) p at w.done front start now new place both_within (Err e) w.run (second s))
-
-  -- nothing is left
-  pub written_all : length left ≡ 0 → WritesBody (regions_of p) p at bytes (Ok tt) start now
-  written_all none = subst (λ xs. WritesBody (regions_of p) p at xs (Ok tt) start now) (sym (append-nil w.done) ∙ ap (λ xs. w.done ++ xs) (sym (empty left none)) ∙ w.joined) w.run
-    where
-      empty : (xs : List ℕ) → length xs ≡ 0 → xs ≡ []
-      empty [] e = refl
-      empty (x ∷ xs) e = absurd (omega (arith, e))
-
-  -- want of memory, before the disk was called again
-  pub written_stopped : (e : DiskRefusal) → (e ≡ refusal.Failed → ⊥) → (all : List ℕ) → WritesRows p all (Err e) start now
-  written_stopped e fine all = record {
-    touches = record {
-      beside = w.run.beside;
-      counts = record {
-        faults = λ f. absurd (not_failed f);
-        own_faults = λ f. absurd (not_failed f);
-        no_lower = w.run.counts.no_lower;
-        else_same = λ f. w.run.counts.else_same (λ g. let h : ◌≡◌ {A = Result (Unit {0}) DiskRefusal} (Ok tt) (Err refusal.Failed) = g in cc);
-      };
-      sound = w.run.sound;
-      time = w.run.time;
-      dirties = w.run.dirties;
-    };
-    read = w.run.read;
-    leaves = w.run.leaves;
-    done = tt;
-  }
-    where
-      not_failed : IsErrOf {T = Unit {0}} (Err e) refusal.Failed → ⊥
-      not_failed f = fine (some_is e refusal.Failed f)
-        where
-          some_is : (x y : DiskRefusal) → ◌≡◌ {A = Result (Unit {0}) DiskRefusal} (Err x) (Err y) → x ≡ y
-          some_is x y h = cc
 
 -- all of a body was to be written
 pub as_rows : {result : Result (Unit {0}) DiskRefusal} (p : Part) (bytes : List ℕ) (old new : Disk) → WritesBody (regions_of p) p 0 bytes result old new → WritesRows p bytes result old new

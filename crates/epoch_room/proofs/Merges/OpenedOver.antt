@@ -169,12 +169,6 @@ module _ (region_len : ℕ) (base : Image) (job : Job) (header : Header) (has : 
       held_moved region_len base image (part_of job.target header) (before ++ older ∷ newer ∷ after) retired parts' retired' opened.differs (ap is_sealed opened.spelled) has_header over.headers (over.is_chain ∙ ap (λ (ps : List Part). Ok ps) (sym is)) holds moves
 
   module _ (body : body_in image job.target header ≡ body_in base job.target header) (rows : List Row) (are : AreMergeable region_len base job header before older newer after rows) where
-    abbrev whole : List Row
-    whole = merged are.o are.n
-
-    abbrev now : List Row
-    now = are.first ++ (merged are.o are.n ++ are.last)
-
     fit : AllByRecursion (FitsRow header.mark) (merged are.o are.n)
     fit =
         let o = both_fit region_len base (older ∷ []) are.o are.of_older in

@@ -51,9 +51,6 @@ use Rattle.epoch_room.specs.declared.answers.RoomFault.{RoomFault}
 
 module _ (old entry : Disk) (kept : Kept) (whole : IsWhole (value_of old entry kept)) (open_room : kept.is_shut ≡ false) (job : Job) (out : kept.job ≡ Some job) (header : Header) (has : job.header ≡ Some header)
     (written : IsWrittenOut (value_of old entry kept).room job header) where
-  abbrev own : Part
-  own = part_of job.target header
-
   abbrev rs : List ℕ
   rs = regions_of (part_of job.target header)
 
@@ -195,12 +192,6 @@ module _ (old entry : Disk) (kept : Kept) (whole : IsWhole (value_of old entry k
         on' None (Some b) e p q s t h = absurd p
         on' (Some a) None e p q s t h = absurd p
         on' (Some a) (Some b) e p q s t h = record { told = s; told' = t; left = h; is_now = e; differs = record { as_many = p.0; others = λ r ne. p.1 r (other r job.target ne) }; crashes = q }
-
-    abbrev eyes_of : Disk → List (ℕ × List ℕ)
-    eyes_of disk = map (λ eye. (eye.number, eye.regions)) disk.eyes
-
-    same_eyes : eyes_of new ≡ eyes_of old
-    same_eyes = ap (map (λ eye. (eye.number, eye.regions))) same.eyes
 
     shows_at : (a b : Told) → Run a b → (first : List Row) (history : List Commit) (low high : ℕ) → ((was : Image) → IsImageNow a was → ShowsSome old.region_len first history low high was)
         → (image : Image) → IsSealing job.target (header_bytes old.region_len header) a image → ShowsSome old.region_len first history low high image

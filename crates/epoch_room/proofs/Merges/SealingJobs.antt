@@ -66,9 +66,6 @@ held_same job header has (Some a) (Some b) r body = ap (λ h. Some (held_by b.by
 
 module _ (old entry : Disk) (kept : Kept) (whole : IsWhole (value_of old entry kept)) (open_room : kept.is_shut ≡ false) (job : Job) (out : kept.job ≡ Some job) (header : Header) (has : job.header ≡ Some header)
     (written : IsWrittenOut (value_of old entry kept).room job header) where
-  abbrev pub own : Part
-  own = part_of job.target header
-
   abbrev rs : List ℕ
   rs = regions_of (part_of job.target header)
 

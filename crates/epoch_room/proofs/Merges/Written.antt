@@ -9,7 +9,6 @@ use Rattle.std.proofs.lemmas.List.Elements.{All-from_recursion}
 use Rattle.std.proofs.lemmas.Map.Views.{any-filter_same, list_any-from_Contains}
 use Rattle.fine_model.specs.declared.Header.{Header}
 use Rattle.fine_model.specs.declared.Job.{Job}
-use Rattle.fine_model.specs.declared.Part.{Part}
 use Rattle.fine_model.specs.Boards.{set_of}
 use Rattle.fine_model.specs.Chain.{regions_of}
 use Rattle.fine_model.specs.ChainLaws.{part_of}
@@ -63,9 +62,6 @@ times_parted n p (x ∷ xs) = by (p x) (times_parted n p xs)
         omega (arith, a, b, rest)
 
 module _ (old entry : Disk) (kept : Kept) (whole : IsWhole (value_of old entry kept)) (open_room : kept.is_shut ≡ false) (job : Job) (out : kept.job ≡ Some job) (header : Header) (has : job.header ≡ Some header) where
-  abbrev pub own : Part
-  own = part_of job.target header
-
   abbrev rs : List ℕ
   rs = regions_of (part_of job.target header)
 
@@ -151,9 +147,6 @@ module _ (old entry : Disk) (kept : Kept) (whole : IsWhole (value_of old entry k
     does_of job' fine = does _ _ open_room refl refl refl run.beside run.time run.counts fine
 
     -- ---- all is written
-
-    abbrev pub job_on : Job
-    job_on = written_on job (length bytes)
 
     pub ok_whole : IsWhole (value_of new entry (record kept { job = Some (written_on job (length bytes)) }))
     ok_whole =

@@ -5,7 +5,6 @@ use Rattle.std.specs.List.{AllByRecursion, list_any, range_with_len, IsDistinct}
 use Rattle.std.proofs.lemmas.Bool.{eqb-true, not-true}
 use Rattle.std.proofs.lemmas.Grind.{flat_map-append}
 use Rattle.std.proofs.lemmas.List.Folds.{list_any-append}
-use Rattle.std.proofs.lemmas.List.FromFn.{length-range_with_len}
 use Rattle.std.proofs.lemmas.List.Sums.{sum_by-cons}
 use Rattle.std.proofs.lemmas.Map.Steps.{length-le_from_distinct_below}
 use Rattle.fine_model.specs.declared.Part.{Part}
@@ -14,7 +13,7 @@ use Rattle.fine_model.specs.Trees.{is_distinct}
 use Rattle.fine_model.proofs.Ordered.Lists.{range_more}
 use Rattle.fine_model.proofs.Ordered.Nothing.{any_none}
 use Rattle.fine_model.proofs.Ordered.Order.{first_of_both}
-use Rattle.epoch_room.specs.Value.{all_regions, regions_outside}
+use Rattle.epoch_room.specs.Value.{all_regions}
 use Rattle.epoch_room.specs.Whole.{HasRegions, AreApart}
 
 -- a region is in one of the parts where it is among all their regions
@@ -64,10 +63,6 @@ filter_few p (x ∷ xs) = by (p x) (filter_few p xs)
     by : (b : Bool) → length (filter p xs) ≤ length xs → length (cond b (x ∷ filter p xs) (filter p xs)) ≤ length (x ∷ xs)
     by true h = omega (arith, h)
     by false h = omega (arith, h)
-
-pub outside_few : (regions : ℕ) (some : List ℕ) → length (regions_outside regions some) ≤ regions
-unfolding regions_outside
-outside_few regions some = omega (arith, filter_few (λ r. not (list_any (nat_eq r) some)) (range_with_len 0 regions), length-range_with_len 0 regions)
 
 pub filter_end : {A : Type 0} (p : A → Bool) (xs : List A) (y : A) → filter p (xs ++ y ∷ []) ≡ filter p xs ++ cond (p y) (y ∷ []) []
 filter_end p [] y = refl

@@ -1,28 +1,24 @@
 -- A room to which a view comes back.
-use Rattle.std.proofs.Common.{◌≡◌, ℕ, zero, suc, ◌+◌, ◌*◌, ◌<◌, ◌≤◌, ◌==◌, Bool, true, false, cond, not, nat_eq, get_or, List, [], ◌∷◌, ◌++◌, length, map, Some, None, refl, sym, ap, subst, ◌∙◌, inl, arith, append_assoc, true≢false}
+use Rattle.std.proofs.Common.{◌≡◌, ℕ, zero, suc, ◌+◌, ◌<◌, ◌≤◌, ◌==◌, Bool, true, false, cond, not, nat_eq, get_or, List, [], ◌∷◌, ◌++◌, length, map, Some, None, refl, sym, ap, subst, ◌∙◌, inl, arith, append_assoc, true≢false}
 use Rattle.std.specs.Prelude.{Option, Any, Contains, IsPermutation, IsTrue, filter, option_map, slice_get, slice_set, sum_by}
 use Rattle.std.specs.List.{AllByRecursion, swap}
 use Rattle.std.proofs.lemmas.List.{length-set, map-append}
 use Rattle.std.proofs.lemmas.List.Elements.{filter-append}
 use Rattle.std.proofs.lemmas.List.Sums.{sum_by-cons}
 use Rattle.std.proofs.lemmas.List.Sorted.{Contains-permutation, IsPermutation-append_comm, IsPermutation-append_left, IsPermutation-append_right, IsPermutation-keeps, IsPermutation-refl, IsPermutation-sym, IsPermutation-trans, sum_by-IsPermutation}
-use Rattle.std.proofs.lemmas.Option.{slice_get_within}
 use Rattle.fine_model.specs.declared.law.OpenedEye.{OpenedEye}
 use Rattle.fine_model.specs.Boards.{Buffer, buffer_at, posted, named, held_of}
-use Rattle.fine_model.specs.Jobs.{KeepsJob}
 use Rattle.fine_model.specs.Trees.{is_distinct}
 use Rattle.fine_model.specs.Views.{SameSeen}
 use Rattle.fine_model.proofs.Ordered.Sets.{all_filter}
 use Rattle.fine_model.proofs.Ordered.Times.{times, times-append, times_distinct, distinct_times}
-use Rattle.partition_hold.specs.Views.{IsView, ViewValue, opened}
+use Rattle.partition_hold.specs.Views.{ViewValue, opened}
 use Rattle.log_disk.specs.Disk.{Closes, Disk, OpenEye, Told, IsSound}
 use Rattle.log_disk.proofs.Sound.{sound_closes}
-use Rattle.log_disk.proofs.Times.{continues_told}
 use Rattle.epoch_room.specs.Meaning.{Keeps}
-use Rattle.epoch_room.specs.Returns.{TakesBack}
 use Rattle.epoch_room.specs.Value.{Kept, value_of}
 use Rattle.epoch_room.specs.Whole.{AreOnBoard, IsWhole, NamesWhole}
-use Rattle.epoch_room.proofs.Views.Seating.{SameBytes, boarded, boarded_job, boarded_keeps, boarded_whole, bytes_stay}
+use Rattle.epoch_room.proofs.Views.Seating.{SameBytes, boarded, boarded_keeps, boarded_whole, bytes_stay}
 
 -- ---- what a filter leaves of two lists of the same elements
 
@@ -166,10 +162,6 @@ empties_at (None ∷ board) (suc at) x is = let s = empties_at board at x is in 
 empties_at (Some eye ∷ board) zero x is = record { front = []; back = posted board; was = (let e : ◌≡◌ {A = Option Buffer} (Some (Some eye)) (Some (Some x)) = is in let s : eye ≡ x = cc in ap (λ y. y ∷ posted board) s); is = refl }
 empties_at (Some eye ∷ board) (suc at) x is = let s = empties_at board at x is in record { front = eye ∷ s.front; back = s.back; was = ap (λ es. eye ∷ es) s.was; is = ap (λ es. eye ∷ es) s.is }
 
--- a seat with an eye is one of the board
-pub seat_there : (board : List Buffer) (seats seat buffer : ℕ) (x : Buffer) → length board ≡ 3 * seats → 1 ≤ seat → slice_get board (buffer_at seat buffer) ≡ Some x → 3 * seat ≤ length board
-seat_there board seats seat buffer x long some is = let low = slice_get_within board (buffer_at seat buffer) x is in omega (arith, long, some, low)
-
 eye_there : (eyes : List OpenEye) (x : Held) → Contains (map named (map (λ (eye : OpenEye). (eye.number, eye.regions)) eyes)) x → Any (λ (eye : OpenEye). eye.number ≡ x.0) eyes
 eye_there [] x there = absurd (let low = there.1 in omega (arith, low))
 eye_there (eye ∷ eyes) x (zero, low, is) = (0, eye, omega arith, refl, ap number_of is)
@@ -204,9 +196,6 @@ module _ (old new entry : Disk) (kept : Kept) (whole : IsWhole (value_of old ent
       in_middle : (front back : List Held) (h : Held) → Contains (front ++ h ∷ back) h
       in_middle [] back h = (0, omega arith, refl)
       in_middle (f ∷ front) back h = let more = in_middle front back h in (suc more.0, (let low = more.1 in omega (arith, low)), more.2)
-
-  pub seat_below : IsView view → 3 * view.seat ≤ length kept.board
-  seat_below is = let s = whole.board.seats in seat_there kept.board s.0 view.seat view.buffer (Some x) s.3 is.place.0 there
 
   module _ (closes : Closes view.eye old new) where
     same : SameBytes old new
@@ -267,12 +256,3 @@ module _ (old new entry : Disk) (kept : Kept) (whole : IsWhole (value_of old ent
 
     pub returned_keeps : Keeps (value_of old entry kept) (value_of new entry (boarded kept board kept.is_shut))
     returned_keeps = boarded_keeps old new entry kept whole same sound board kept.is_shut on_board (λ h. h) (λ h. inl h)
-
-    pub returned_job : KeepsJob (value_of old entry kept).room (value_of new entry (boarded kept board kept.is_shut)).room
-    returned_job = boarded_job old new entry kept whole same sound board kept.is_shut on_board (λ h. h) (λ h. inl h)
-
-    pub takes_back : TakesBack (value_of old entry kept) (value_of new entry (boarded kept board kept.is_shut)) view
-    takes_back = record {
-      closes = closes;
-      room = record { room = refl; target = refl; entry = refl; regions = closes.others.0; region_len = closes.others.1; time = continues_told old new closes.told };
-    }

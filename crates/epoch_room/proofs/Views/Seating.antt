@@ -207,6 +207,3 @@ module _ (disk entry : Disk) (kept : Kept) (whole : IsWhole (value_of disk entry
 
   pub seats_keeps : Keeps (value_of disk entry kept) (value_of disk entry (boarded kept (replicate (3 * seats) None) kept.is_shut))
   seats_keeps = boarded_keeps disk disk entry kept whole same_bytes whole.sound (replicate (3 * seats) None) kept.is_shut seats_board (λ h. h) (λ h. inl h)
-
-  pub seats_job : KeepsJob (value_of disk entry kept).room (value_of disk entry (boarded kept (replicate (3 * seats) None) kept.is_shut)).room
-  seats_job = boarded_job disk disk entry kept whole same_bytes whole.sound (replicate (3 * seats) None) kept.is_shut seats_board (λ h. h) (λ h. inl h)

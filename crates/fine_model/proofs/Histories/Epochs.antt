@@ -166,10 +166,6 @@ all_sealed e [] sealed is none = is
 all_sealed e (c ∷ cs) sealed (inl is) none = sym is
 all_sealed e (c ∷ cs) sealed (inr is) none = let w = waits (sealed + 1) c cs is in absurd (omega (arith, w, none))
 
--- where some entry waits, the history is sealed up to one more epoch once it is sealed
-pub sealed_on : (e : ℕ) (history : List Commit) (sealed : ℕ) → EpochsFollow e history → IsSealedUpTo e history sealed → 1 ≤ length (filter (λ c. c.epoch == sealed + 1) history) → IsSealedUpTo e history (sealed + 1)
-sealed_on e history sealed follow is some = sealed_by e (sealed + 1) history (last_open e sealed history follow is some)
-
 -- ---- sealing, by how many commits wait
 
 -- of no epoch above all there are commits

@@ -20,14 +20,6 @@ below_not a b c ab cb = by (order_cases b c)
     by (inr (inl e)) = subst (λ x. is_below a x ≡ true) e ab
     by (inr (inr h)) = absurd (true≢false (sym h.0 ∙ cb))
 
--- a not before b, and c before b, so a not before c
-pub not_below : (a b c : List ℕ) → is_below a b ≡ false → is_below c b ≡ true → is_below a c ≡ false
-not_below a b c ab cb = by (is_below a c) refl
-  where
-    by : (r : Bool) → is_below a c ≡ r → is_below a c ≡ false
-    by true h = absurd (true≢false (sym (is_below-trans a c b h cb) ∙ ab))
-    by false h = h
-
 -- a not before b, and b not before c, so a not before c
 pub not_lower : (a c b : List ℕ) → is_below b c ≡ false → is_below a b ≡ false → is_below a c ≡ false
 not_lower a c b bc ab = by (is_below a c) refl

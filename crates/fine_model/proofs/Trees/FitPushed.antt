@@ -137,9 +137,6 @@ module _ (rows : List Row) (fits : AllByRecursion (FitsRow mark.Two) rows) (smal
           (leaf_fits rows key value t.next small pair some nodes_fit (no_body t) (bucket_below key) (same_bucket key)) (inner_fits rows key value t.next small pair some nodes_fit (no_body t) (bucket_below key) (same_bucket key))
           (height rows key value small sound t) whole t.root (subtree rows key value small sound t) (same_bucket key) (once rows key value small sound t)
 
-      fresh : ℕ
-      fresh = (g rows key value small sound t).next
-
       ordered : t.next ≤ (g rows key value small sound t).next
       ordered = let gr = grows rows key value small sound t in gr.ordered
 

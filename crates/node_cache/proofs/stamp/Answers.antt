@@ -1,7 +1,7 @@
 use Rattle.std.proofs.Common.{nat_eq, refl, sym, ap, ◌∙◌}
 use Rattle.std.specs.Map.{set_value}
 use Rattle.node_cache.specs.Entries.{stamped}
-use Rattle.node_cache.proofs.Bounds.{same_kept}
+use Rattle.node_cache.proofs.Equal.{same_kept}
 use Rattle.node_cache.proofs.Restored.{stamped_there, stamped_nowhere}
 use Rattle.node_cache.proofs.stamp.Goals as goal
 

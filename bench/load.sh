@@ -5,8 +5,9 @@
 # Then the time to the first `get` on the log that is left, with as many transactions and with a tenth of them: of a transaction that is aborted, so that nothing is sealed for it,
 # and of one that is committed. The bytes of epochs are those of the same rows in epochs that fill their regions, of which none is merged, and an index entry for each transaction.
 #
-# The same load on a file in memory, where no sync sleeps, shows what a transaction costs besides: behind a sleep the caches of a processor may be cold, and each line that
-# is touched then comes from afar. What such a line takes is printed last, of a run of its own.
+# The same load on a file in memory, where no sync sleeps, shows what a transaction costs besides. On a disk the lines of a tree that a transaction walks over may have left the
+# caches since they were last touched, as other processors and other machines on the same hardware use these too. What such a line takes is printed last, of a run of its own, and what it takes
+# where the program waits as long and calls nothing.
 #
 # Reading alone is a script whose last line is refused; reading with printing is one whose transactions are all aborted and put nothing. `sh bench/load.sh 10000` makes
 # a smaller load. It is no test. The program is proved before it is built.
@@ -89,17 +90,18 @@ EOF
 gcc -O2 -o "$work/plain" "$work/plain.c"
 
 cat > "$work/cold.c" <<'EOF'
-/* Prints how many nanoseconds a cache line takes that was touched before a sync and is touched again behind it: 256 lines, each of which tells where the next
-   one lies, are walked over behind each write and sync of a file. The median of the turns counts. */
+/* Prints how many nanoseconds a cache line takes that was touched some 400 turns before: 16,384 lines, a mebibyte, of which each tells where the next one lies, are
+   walked over, 40 in each of 4,000 turns. Before each turn a file is written and synced; with a third word the program only keeps its processor busy for as long as each of the first
+   hundred syncs took, and calls nothing. */
 #include <fcntl.h>
 #include <stdio.h>
 #include <stdlib.h>
 #include <time.h>
 #include <unistd.h>
 
-enum { LINES = 256, TURNS = 400 };
+enum { LINES = 16384, TURNS = 4000, STEPS = 40, FIRST = 100 };
 static struct { _Alignas(64) volatile int next; } lines[LINES];
-static double spent[TURNS];
+static int order[LINES];
 
 static double now(void) {
     struct timespec t;
@@ -107,25 +109,32 @@ static double now(void) {
     return t.tv_sec * 1e9 + t.tv_nsec;
 }
 
-static int by_size(const void *a, const void *b) {
-    double x = *(const double *)a, y = *(const double *)b;
-    return (x > y) - (x < y);
-}
-
 int main(int argc, char **argv) {
     char bytes[200] = {0};
     int fd = argc < 2 ? -1 : open(argv[1], O_RDWR | O_CREAT, 0666), at = 0;
+    unsigned long chance = 88172645463325252UL;
+    double spent = 0, pause = 0;
     if (fd < 0) return 1;
-    /* all of them once, with no fixed step from one to the next */
-    for (int i = 0; i < LINES; i++) lines[i].next = (i * 37 + 101) % LINES;
-    for (int turn = 0; turn < TURNS; turn++) {
-        if (pwrite(fd, bytes, sizeof bytes, turn * 4096L) != sizeof bytes || fdatasync(fd)) return 1;
-        double begun = now();
-        for (int i = 0; i < LINES; i++) at = lines[at].next;
-        spent[turn] = now() - begun;
+    for (int i = 0; i < LINES; i++) {
+        chance ^= chance << 13, chance ^= chance >> 7, chance ^= chance << 17;
+        int j = chance % (i + 1);
+        order[i] = order[j], order[j] = i;
     }
-    qsort(spent, TURNS, sizeof *spent, by_size);
-    printf("%.1f\n", spent[TURNS / 2] / LINES);
+    for (int i = 0; i < LINES; i++) lines[order[i]].next = order[(i + 1) % LINES];
+    for (int i = 0; i < LINES; i++) at = lines[at].next;
+    for (int turn = 0; turn < TURNS; turn++) {
+        double begun = now();
+        if (argc > 2 && turn >= FIRST) {
+            while (now() - begun < pause / FIRST) {}
+        } else {
+            if (pwrite(fd, bytes, sizeof bytes, turn % FIRST * 4096L) != sizeof bytes || fdatasync(fd)) return 1;
+            if (turn < FIRST) pause += now() - begun;
+        }
+        begun = now();
+        for (int i = 0; i < STEPS; i++) at = lines[at].next;
+        if (turn >= FIRST) spent += now() - begun;
+    }
+    printf("%.0f\n", spent / (TURNS - FIRST) / STEPS);
     return at < 0;
 }
 EOF
@@ -191,4 +200,4 @@ for group in 64 1; do
   loaded tenth $group
   echo "  behind a tenth of them: $(gets)"
 done
-echo "a cache line that was touched before a sync and is touched behind it: $("$work/cold" "$work/cold_file") nanoseconds on the disk, $("$work/cold" "$memory/cold_file") on a file in memory"
+echo "a cache line that was touched 400 syncs before: $("$work/cold" "$work/cold_file") nanoseconds on the disk, $("$work/cold" "$work/cold_file" busy) behind pauses as long, $("$work/cold" "$memory/cold_file") on a file in memory"

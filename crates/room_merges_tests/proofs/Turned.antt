@@ -147,6 +147,10 @@ module _ (header : Header) (old new : RoomValue) (view view' : ViewValue) (block
 
 -- ---- turns of others
 
+-- nobody had one
+pub no_turns : (a : RoomValue) → HadTurns a a
+no_turns a = record { board = refl; region_len = refl; job = record { job = refl; held = λ job is. refl } }
+
 pub turns_on : (a b c : RoomValue) → HadTurns a b → HadTurns b c → HadTurns a c
 turns_on a b c p q = record { board = q.board ∙ p.board; region_len = q.region_len ∙ p.region_len; job = job_on a.room b.room c.room p.job q.job }
 

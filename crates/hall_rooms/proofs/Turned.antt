@@ -1,5 +1,5 @@
 -- How a turn of the room goes on.
-use Rattle.std.proofs.Common.{◌≡◌, ◌⊎◌, inl, inr, ⊎_elim, ℕ, suc, zero, ◌+◌, ◌<◌, ◌≤◌, ◌==◌, true, false, List, ◌++◌, None, Ok, Err, refl, sym, ap, ◌∙◌, subst, arith, append-nil, ne_eqb}
+use Rattle.std.proofs.Common.{◌≡◌, ◌⊎◌, inl, inr, ⊎_elim, ℕ, suc, zero, ◌+◌, ◌<◌, ◌≤◌, ◌==◌, true, false, List, ◌++◌, map, None, Ok, Err, refl, sym, ap, ◌∙◌, subst, arith, append-nil, ne_eqb}
 use Rattle.std.specs.Prelude.{Option, if◌then◌else◌}
 use lib.ListN.{get_elem?}
 use Rattle.fine_places.specs.History as places
@@ -9,10 +9,10 @@ use Rattle.fine_model.specs.Becomes.{Becomes}
 use Rattle.fine_model.specs.Faults.{HasRisen, last_count}
 use Rattle.fine_model.specs.Jobs.{KeepsJob}
 use Rattle.fine_model.proofs.Histories.Goings.{becomes_itself, becomes_on, job_itself, job_on}
-use Rattle.log_disk.specs.Disk.{SameBeside}
+use Rattle.log_disk.specs.Disk.{Disk, OpenEye, SameBeside}
 use Rattle.epoch_room.specs.Meaning.{Keeps, Stands, origin_of}
 use Rattle.epoch_room.specs.Steps.{Fails, KeepsCounts, SealsOr, Steps, sealed_state, next_part}
-use Rattle.epoch_room.specs.Value.{RoomValue}
+use Rattle.epoch_room.specs.Value.{RoomValue, on}
 use Rattle.epoch_room.specs.Whole.{IsWhole}
 use Rattle.epoch_room.specs.Fitting.{counts_of}
 use Rattle.epoch_room.specs.declared.answers.Counts.{Counts}
@@ -37,8 +37,8 @@ use Rattle.hall_rooms.specs.Steps.{BeginsTurn, InTurn, IsSealed, LeavesViews, Ri
 -- ---- a turn goes on
 
 module _ (x : Beginning) (p p' : RoomPass) (room new : RoomValue) (t t' : TurnNote) (i : InTurn x room p t) (held : (known p').held ≡ (known p).held) (same : turns p' ≡ turns p) (number : p'.number ≡ p.number) (h : IsHolder x p' t') where
-  on : (P : List (Placed Turn) → Type 0) → P (turns p) → P (turns p')
-  on P a = subst P (sym same) a
+  over : (P : List (Placed Turn) → Type 0) → P (turns p) → P (turns p')
+  over P a = subst P (sym same) a
 
   pub goes : Keeps room new → KeepsJob room.room new.room → new.entry ≡ room.entry → new.room.places ≡ room.room.places → CountsEpochs x new.room (seen p ++ added None 0) → t'.top ≤ new.room.sealed → new.room.board ≡ t'.board
       → ((last_room x p).faults + t'.in_hand ≤ new.room.faults) ⊎ (last_count ≤ new.room.faults) → InTurn x new p' t'
@@ -47,14 +47,14 @@ module _ (x : Beginning) (p p' : RoomPass) (room new : RoomValue) (t t' : TurnNo
     is_turn = h;
     may = record {
       log = ap origin_of entry ∙ i.may.log;
-      stands = λ e first b. on (λ l. Stands new first e (commits l ++ added None 0)) (keeps.stands first e (seen p ++ added None 0) (i.may.stands e first b));
-      becomes = on (λ l. Becomes (room_after x.room l) new.room) (becomes_on (last_room x p) room.room new.room i.may.becomes keeps.becomes);
-      places = on (λ l. new.room.places ≡ (room_after x.room l).places) (as_many ∙ i.may.places);
-      epochs = on (λ l. CountsEpochs x new.room (commits l ++ added None 0)) epochs;
+      stands = λ e first b. over (λ l. Stands new first e (commits l ++ added None 0)) (keeps.stands first e (seen p ++ added None 0) (i.may.stands e first b));
+      becomes = over (λ l. Becomes (room_after x.room l) new.room) (becomes_on (last_room x p) room.room new.room i.may.becomes keeps.becomes);
+      places = over (λ l. new.room.places ≡ (room_after x.room l).places) (as_many ∙ i.may.places);
+      epochs = over (λ l. CountsEpochs x new.room (commits l ++ added None 0)) epochs;
       top = top;
       board = board;
-      job = λ ne. on (λ l. KeepsJob (room_after x.room l) new.room) (job_on (last_room x p) room.room new.room (i.may.job (λ e. ne (number ∙ e))) job);
-      counted = on (λ l. ((room_after x.room l).faults + t'.in_hand ≤ new.room.faults) ⊎ (last_count ≤ new.room.faults)) counted;
+      job = λ ne. over (λ l. KeepsJob (room_after x.room l) new.room) (job_on (last_room x p) room.room new.room (i.may.job (λ e. ne (number ∙ e))) job);
+      counted = over (λ l. ((room_after x.room l).faults + t'.in_hand ≤ new.room.faults) ⊎ (last_count ≤ new.room.faults)) counted;
       commits = record {};
     };
   }
@@ -152,6 +152,36 @@ module _ (old new : RoomValue) (whole : IsWhole old) (beside : SameBeside old.di
 
   pub left_rises : Fails old.disk new.disk → Rises old.room new.room
   left_rises fails = rises old new (subst (λ n. HasRisen n new.room.faults) (sym (ap (λ (r : RoomState). r.faults) whole.of_disk)) (subst (HasRisen old.disk.faults) (sym (ap (λ (r : RoomState). r.faults) s.room)) fails.faults))
+
+  -- beside what a read gives and the counts of faults, the room has this state
+  pub left_but_read : (f : RoomState → RoomState) → ((d : Disk) → on state d ≡ f (on old.room d)) → new.room ≡ record (f old.room) { image = new.room.image; faults = new.room.faults; own_faults = new.room.own_faults }
+  left_but_read f is = subst (λ (m : RoomState). m ≡ with_read (f old.room) m) (sym s.room) (one ∙ ap (λ (r : RoomState). with_read r x) (is old.disk ∙ ap f (sym whole.of_disk)))
+    where
+      with_read : RoomState → RoomState → RoomState
+      with_read r m = record r { image = m.image; faults = m.faults; own_faults = m.own_faults }
+
+      x : RoomState
+      x = on state new.disk
+
+      one : x ≡ with_read (on state old.disk) x
+      one i = record x { region_len = s.region_len i; regions = s.regions i; eyes = map (λ (e : OpenEye). (e.number, e.regions)) (beside.eyes i); given = beside.given i }
+
+  -- and where no call failed, beside what a read gives
+  pub left_still : KeepsCounts old.disk new.disk → (f : RoomState → RoomState) → ((d : Disk) → on state d ≡ f (on old.room d)) → new.room ≡ record (f old.room) { image = new.room.image }
+  left_still counts f is = subst (λ (m : RoomState). m ≡ record (f old.room) { image = m.image }) (sym s.room) (one ∙ ap (λ (r : RoomState). record r { image = x.image }) (is old.disk ∙ ap f (sym whole.of_disk)))
+    where
+      x : RoomState
+      x = on state new.disk
+
+      one : x ≡ record (on state old.disk) { image = x.image }
+      one i = record x {
+        region_len = s.region_len i;
+        regions = s.regions i;
+        eyes = map (λ (e : OpenEye). (e.number, e.regions)) (beside.eyes i);
+        given = beside.given i;
+        faults = counts.faults i;
+        own_faults = counts.own_faults i;
+      }
 
 -- ---- sealing
 

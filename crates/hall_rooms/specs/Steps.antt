@@ -23,7 +23,7 @@ use Rattle.fine_hall.specs.Passes.{known, turns, own_turns, published, given_up,
 use Rattle.fine_hall.specs.Laws.{IsRoomFor}
 use Rattle.fine_hall.specs.Halls.{HallOf, MayGiveRoom, Posts, TakesRoom}
 use Rattle.hall_rooms.specs.Rooms.{IsRoomPass, RoomPass, room_state, room_log}
-use Rattle.hall_rooms.specs.Turning.{AddsEpoch, ErasesUnheld, KeepsChain, NewView, SealedAndPosted, SealsAtMost}
+use Rattle.hall_rooms.specs.Turning.{AddsEpoch, ErasesFirst, ErasesUnheld, KeepsChain, LosesFirst, NewView, SealedAndPosted, SealsAtMost}
 
 -- ---- an entry
 
@@ -178,6 +178,6 @@ ShowsOr x old new p' (Err room_fault.NoMemory) = IsCleanTurn x new p' × (new.ro
 -- what every answer leaves: the epochs are as they were, and no view comes or goes
 abbrev pub ErasesOr : RoomValue → RoomValue → Result ℕ RoomFault → Type 0
 ErasesOr old new (Ok erased) = LeavesViews old new × SameEpochs old.room new.room × (old.room.is_shut ≡ false) × (new.room.is_shut ≡ false) × ErasesUnheld old.room new.room erased × (new.room.faults ≡ old.room.faults)
-ErasesOr old new (Err room_fault.Disk) = LeavesViews old new × SameEpochs old.room new.room × (old.room.is_shut ≡ false) × (new.room.is_shut ≡ true) × Rises old.room new.room × KeepsChain old.room new.room
+ErasesOr old new (Err room_fault.Disk) = LeavesViews old new × SameEpochs old.room new.room × (old.room.is_shut ≡ false) × (new.room.is_shut ≡ true) × Rises old.room new.room × LosesFirst old.room new.room
 ErasesOr old new (Err (room_fault.Shut epoch)) = (old.room.is_shut ≡ true) × (epoch ≡ old.room.sealed) × (new ≡ old)
-ErasesOr old new (Err room_fault.NoMemory) = LeavesViews old new × SameEpochs old.room new.room × (new.room.is_shut ≡ false) × (new.room.faults ≡ old.room.faults) × KeepsChain old.room new.room
+ErasesOr old new (Err room_fault.NoMemory) = LeavesViews old new × SameEpochs old.room new.room × (new.room.is_shut ≡ false) × (new.room.faults ≡ old.room.faults) × ErasesFirst old.room new.room

@@ -11,7 +11,8 @@ use Rattle.fine_model.specs.Faults.{last_count}
 use Rattle.fine_model.specs.Jobs.{KeepsJob}
 use Rattle.partition_hold.specs.Views.{state_of}
 use Rattle.epoch_room.specs.Value.{all_regions}
-use Rattle.epoch_room.specs.Erasing.{held, led_by, unheld}
+use Rattle.epoch_room.specs.Erasing.{held, led_by, left_state, unheld, without}
+use Rattle.epoch_room.specs.Steps.{shut_state}
 use Rattle.epoch_room.specs.declared.answers.RoomFault.{RoomFault}
 use Rattle.epoch_room.specs.declared.answers.RoomFault.TheVariants as room_fault
 use Rattle.fine_places.specs.History as places
@@ -123,19 +124,44 @@ SealsAndPosts x p p' r = DidInTurn x p p' (λ found room. SealsTurn x found room
 
 -- ---- erasing
 
--- The retired parts that no view names were erased, so many, and their regions are free; nothing else changed.
+-- The parts that some regions lead were erased, and their regions are free; nothing else changed but what a read gives.
+pub record ErasesThese (leads : List ℕ) (found room : RoomState) : Type 0 where
+  pub none : leads ≡ [] → room ≡ found
+  pub retired : leads ≢ [] → room.retired ≡ without leads found.retired
+  pub freed : leads ≢ [] → room.free ≡ set_of (found.free ++ all_regions (led_by leads found.retired))
+  pub same : room ≡ record found { retired = room.retired; free = room.free; image = room.image }
+
+-- The retired parts that no view names were erased, so many.
 pub record ErasesUnheld (found room : RoomState) (erased : ℕ) : Type 0 where
   pub count : erased ≡ length (unheld found)
   pub left : room.retired ≡ held found
-  pub none : unheld found ≡ [] → room ≡ found
-  pub freed : unheld found ≢ [] → room.free ≡ set_of (found.free ++ all_regions (led_by (unheld found) found.retired))
-  pub same : room ≡ record found { retired = room.retired; free = room.free; image = room.image }
+  pub erases : ErasesThese (unheld found) found room
+  pub open erases use *
 
+-- Memory ran out: none of them was erased, or the first ones, but not all.
+pub record ErasesFirst (found room : RoomState) : Type 0 where
+  pub begun : List ℕ
+  pub more : List ℕ
+  pub are : unheld found ≡ begun ++ more
+  pub not_all : begun ≢ [] → more ≢ []
+  pub erases : ErasesThese begun found room
+
+-- The disk failed: the first of them are retired no more, and their regions are lost, as none was before. Nothing else changed but what a read
+-- gives, the counts of faults, and that the room is shut.
+pub record LosesFirst (found room : RoomState) : Type 0 where
+  pub begun : List ℕ
+  pub more : List ℕ
+  pub are : unheld found ≡ begun ++ more
+  pub some : begun ≢ []
+  pub none_lost : found.lost ≡ []
+  pub same : room ≡ record (shut_state (left_state found begun) (all_regions (led_by begun found.retired))) { image = room.image; faults = room.faults; own_faults = room.own_faults }
+
+-- All that no view names was erased, or it came so far; the pass met a fault after `Disk` alone.
 abbrev pub SettlesTurn : Beginning → RoomState → RoomState → RoomPass → RoomPass → Result ℕ RoomFault → Type 0
 SettlesTurn x found room p p' (Ok erased) = (room.is_shut ≡ false) × ErasesUnheld found room erased × MeetsNone x p p'
-SettlesTurn x found room p p' (Err room_fault.Disk) = (found.is_shut ≡ false) × (room.is_shut ≡ true) × KeepsChain found room × (room.board ≡ found.board) × MeetsSome x p p'
+SettlesTurn x found room p p' (Err room_fault.Disk) = (found.is_shut ≡ false) × (room.is_shut ≡ true) × LosesFirst found room × MeetsSome x p p'
 SettlesTurn x found room p p' (Err (room_fault.Shut epoch)) = (found.is_shut ≡ true) × (epoch ≡ found.sealed) × (room ≡ found) × MeetsNone x p p'
-SettlesTurn x found room p p' (Err room_fault.NoMemory) = (room.is_shut ≡ false) × KeepsChain found room × (room.board ≡ found.board) × MeetsNone x p p'
+SettlesTurn x found room p p' (Err room_fault.NoMemory) = (room.is_shut ≡ false) × ErasesFirst found room × MeetsNone x p p'
 
 -- one turn without an entry, in which each retired part is erased that no view names
 abbrev pub SettlesViews : Beginning → RoomPass → RoomPass → Result ℕ RoomFault → Type 0

@@ -27,7 +27,8 @@ pub(crate) fn erase_unheld<D: LogDisk>(room: &mut Room<D>) -> Result<u32, RoomFa
 /// the room.
 ///
 /// `Disk` comes only where the disk failed in this call, and the room is shut; `Shut` exactly where it was shut before, and the turn leaves it as it was.
-/// After `Disk` and `NoMemory` some parts may be erased, and the chain, the epochs, the places and the board are as they were.
+/// After `NoMemory` the first of these parts may be erased, but not all of them. After `Disk` the first of them, one at least, are retired no more, and their
+/// regions are lost. Nothing else of the room changed.
 pub fn settle_views<D: LogDisk, W: Wait>(
     rt: &W,
     hall: &RoomHall<D>,

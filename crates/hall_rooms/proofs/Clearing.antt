@@ -91,7 +91,7 @@ module _ (x : Beginning) (old mid new : RoomValue) (others : List RoomPass) wher
   show_fails p' (room_fault.Shut epoch) s = (s.0, (s.1, s.2, s.3))
   show_fails p' room_fault.NoMemory s = (s.0, s.1)
 
-  module _ (p' : RoomPass) (seats : ℕ) (posted : SealedAndPosted old.room mid.room seats) (c : IsCleanTurn x mid p') where
+  module _ (p' : RoomPass) (seats : ℕ) (not_shut : mid.room.is_shut ≡ false) (posted : SealedAndPosted old.room mid.room seats) (c : IsCleanTurn x mid p') where
     -- and erasing
     pub round_goes : IsAhead state_of x p' → AllAhead x others → (r : Result Bool RoomFault) → ErasesAndLooks mid new r → RoundOr x old new p' others r
     round_goes ahead all (Ok done) (erased, e, none) = (
@@ -101,7 +101,7 @@ module _ (x : Beginning) (old mid new : RoomValue) (others : List RoomPass) wher
         none_waits = e.1.1 ∙ posted.none_waits;
         sealed = e.1.0 ∙ posted.sealed;
         not_shut = e.3;
-        parts = λ idle. ap (λ (r : RoomState). r.parts) e.4.same ∙ posted.parts idle;
+        parts = λ idle. ap (λ (r : RoomState). r.parts) e.4.same ∙ (posted.parts idle).0;
         epoch = λ some. let p = posted.epoch some in (p.0, ap (λ (r : RoomState). r.parts) e.4.same ∙ p.1, p.2);
       },
       ahead,
@@ -109,7 +109,7 @@ module _ (x : Beginning) (old mid new : RoomValue) (others : List RoomPass) wher
       none,
     )
     round_goes ahead all (Err room_fault.Disk) e = (record { note = c.note; turn = may_settle x mid new p' c (Err room_fault.Disk) e; some_failed = some_failed x p' mid new c.note c.turn e.4 }, (posted.opened, e.3))
-    round_goes ahead all (Err (room_fault.Shut epoch)) e = absurd (true≢false (sym e.0 ∙ posted.not_shut))
+    round_goes ahead all (Err (room_fault.Shut epoch)) e = absurd (true≢false (sym e.0 ∙ not_shut))
     round_goes ahead all (Err room_fault.NoMemory) e =
         (record { note = c.note; turn = may_settle x mid new p' c (Err room_fault.NoMemory) e; none_failed = let n = c.none_failed in let f = e.3 in omega (arith, n, f) }, e.2)
 

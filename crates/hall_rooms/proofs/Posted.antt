@@ -1,5 +1,5 @@
 -- A view is posted to a seat, in a turn, and the old middle taken back.
-use Rattle.std.proofs.Common.{◌≡◌, inl, inr, ⊎_elim, ℕ, suc, zero, ◌+◌, ◌-◌, ◌*◌, ◌<◌, ◌≤◌, false, List, [], ◌∷◌, ◌++◌, take, drop, length, Option, Some, None, Ok, Err, refl, sym, ap, ◌∙◌, subst, arith, append-nil, append_assoc, true≢false}
+use Rattle.std.proofs.Common.{◌≡◌, ◌≢◌, inl, inr, ⊎_elim, ℕ, suc, zero, ◌+◌, ◌-◌, ◌*◌, ◌<◌, ◌≤◌, false, List, [], ◌∷◌, ◌++◌, take, drop, length, Option, Some, None, Ok, Err, refl, sym, ap, ◌∙◌, subst, arith, append-nil, append_assoc, length-set, true≢false}
 use Rattle.std.specs.Prelude.{Contains, IsSome, slice_get, slice_set, slice_index, slice_range}
 use Rattle.std.proofs.lemmas.List.Elements.{Contains-append_left}
 use Rattle.atomic_table.specs.Seated.{TableId}
@@ -29,9 +29,9 @@ use Rattle.fine_hall.proofs.Counting.{counts_stay}
 use Rattle.fine_hall.proofs.Since.{since_law}
 use Rattle.hall_rooms.specs.Rooms.{RoomPass}
 use Rattle.hall_rooms.specs.Boards.{TakesBackAll, with_views}
-use Rattle.hall_rooms.specs.Views.{MakesView, MakesViewOr}
-use Rattle.hall_rooms.specs.Steps.{InTurn, IsCleanTurn, IsFailedTurn, LacksView, NoneFailed, PostedBelow, PostsEachOr, PostsOr, PostsTo, Stays, with_posted}
-use Rattle.hall_rooms.specs.Turning.{KeepsChain, NewView}
+use Rattle.hall_rooms.specs.Views.{MakesView, MakesViewOr, with_faults}
+use Rattle.hall_rooms.specs.Steps.{InTurn, IsCleanTurn, IsFailedTurn, LacksView, NoneFailed, PostedBelow, PostsEachOr, PostsFirst, PostsOr, PostsTo, Stays, with_posted}
+use Rattle.hall_rooms.specs.Turning.{RenewsSeat, RenewsSeats}
 use Rattle.hall_rooms.proofs.Naming.{place_alike}
 use Rattle.hall_rooms.proofs.Turned.{goes, rises, some_failed}
 
@@ -95,12 +95,8 @@ module _ (x : Beginning) (p : RoomPass) (room : RoomValue) (t : TurnNote) (i : I
       m.is_shut,
       rises room new m.faults,
       m.leaves.job,
-      record {
-        parts = ap (λ (r : RoomState). r.parts) m.room;
-        sealed = ap (λ (r : RoomState). r.sealed) m.room;
-        waiting = ap (λ (r : RoomState). r.waiting) m.room;
-        places = ap (λ (r : RoomState). r.places) m.room;
-      },
+      m.board,
+      m.room,
     ),
   )
   lacks new (room_fault.Shut epoch) m = (subst (λ r. InTurn x r p t) (sym m.2) i, m)
@@ -161,6 +157,7 @@ module _ (x : Beginning) (p : RoomPass) (room : RoomValue) (t : TurnNote) (i : I
             view = state_of v;
             back = state_of back;
             within = few;
+            was_empty = empty_is room.room.board seat v.buffer m.buffer;
             upto = m.upto ∙ sym sealed_is;
             of_parts = ap set_of m.of_parts;
             is_new = m.is_new;
@@ -209,35 +206,67 @@ module _ (x : Beginning) (i seat : ℕ) (is : seat ≡ i + 1) (lt : i < x.seats)
       ∙ (get_set_else (slice_set b.note.board slot (Some s.view.eye)) gone slot None (λ e. s.posts.apart (let a : s.back.buffer ≡ s.view.buffer = omega (arith, e) in a))
       ∙ get_set_here b.note.board slot (Some s.view.eye) long)
 
+  gone_there : slice_get new.room.board gone ≡ Some None
+  gone_there =
+      ap (λ l. slice_get l gone) s.turn.may.board
+      ∙ get_set_here (slice_set b.note.board slot (Some s.view.eye)) gone None
+      (let l = b.turn.is_turn.long.2 in let w = s.posts.within in let n = length-set b.note.board slot (Some s.view.eye) in omega (arith, l, w, n, is, lt))
+
+  -- every other buffer is as it was
+  elsewhere : (at : ℕ) → at ≢ slot → at ≢ gone → slice_get new.room.board at ≡ slice_get old.room.board at
+  elsewhere at not_slot not_gone =
+      ap (λ l. slice_get l at) s.turn.may.board
+      ∙ (get_set_else (slice_set b.note.board slot (Some s.view.eye)) gone at None not_gone
+      ∙ (get_set_else b.note.board slot at (Some s.view.eye) not_slot
+      ∙ ap (λ l. slice_get l at) (sym b.turn.may.board)))
+
+  other_seat : (k c : ℕ) → 1 ≤ k → k ≢ seat → c < 3 → slice_get new.room.board (buffer_at k c) ≡ slice_get old.room.board (buffer_at k c)
+  other_seat k c least other few = elsewhere (buffer_at k c) (apart s.view.buffer s.within) (apart s.back.buffer s.posts.within)
+    where
+      apart : (d : ℕ) → d < 3 → buffer_at k c ≢ 3 * (seat - 1) + d
+      apart d near e = other (place_alike k seat c d (omega (arith, least)) (omega (arith, is)) few near e).0
+
   is_new : Contains found.given s.view.eye.number → ⊥
   is_new had = s.is_new (subst (λ l. Contains l s.view.eye.number) (sym b.given.1) (Contains-append_left found.given b.given.0 s.view.eye.number had))
 
-  own_view : NewView found.given new.room.parts new.room.board seat
-  own_view = record {
-    buffer = s.view.buffer;
-    within = s.within;
-    eye = s.view.eye;
-    on_board = own_there;
-    of_parts = s.of_parts ∙ ap (λ ps. set_of (all_regions ps)) (sym parts_same);
-    is_new = is_new;
+  own_seat : RenewsSeat found.given new.room.parts found.board new.room.board seat
+  own_seat = record {
+    view = record {
+      buffer = s.view.buffer;
+      within = s.within;
+      eye = s.view.eye;
+      on_board = own_there;
+      of_parts = s.of_parts ∙ ap (λ ps. set_of (all_regions ps)) (sym parts_same);
+      is_new = is_new;
+    };
+    was_empty = sym (b.board.others seat s.view.buffer (omega (arith, is)) s.within) ∙ s.was_empty;
+    back = s.back.buffer;
+    within = (s.posts.within, s.posts.apart);
+    came_back = (s.back.eye, sym (b.board.others seat s.back.buffer (omega (arith, is)) s.posts.within) ∙ (ap (λ l. slice_get l gone) b.turn.may.board ∙ s.posts.on_board));
+    emptied = gone_there;
+    third = λ c few not_slot not_gone. elsewhere (buffer_at seat c) (λ e. not_slot (let a : c ≡ s.view.buffer = omega (arith, e) in a)) (λ e. not_gone (let a : c ≡ s.back.buffer = omega (arith, e) in a)) ∙ b.board.others seat c (omega (arith, is)) few;
   }
 
-  other_view : (k : ℕ) → 1 ≤ k → k < seat → NewView found.given old.room.parts old.room.board k → NewView found.given new.room.parts new.room.board k
-  other_view k least below v = record {
-    buffer = v.buffer;
+  seat_before : (k : ℕ) → 1 ≤ k → k < seat → RenewsSeat found.given old.room.parts found.board old.room.board k → RenewsSeat found.given new.room.parts found.board new.room.board k
+  seat_before k least below v = record {
+    view = record {
+      buffer = v.view.buffer;
+      within = v.view.within;
+      eye = v.view.eye;
+      on_board = same v.view.buffer v.view.within ∙ v.view.on_board;
+      of_parts = v.view.of_parts ∙ ap (λ ps. set_of (all_regions ps)) (sym parts_same);
+      is_new = v.view.is_new;
+    };
+    was_empty = v.was_empty;
+    back = v.back;
     within = v.within;
-    eye = v.eye;
-    on_board =
-        ap (λ l. slice_get l (buffer_at k v.buffer)) s.turn.may.board
-        ∙ (get_set_else (slice_set b.note.board slot (Some s.view.eye)) gone (buffer_at k v.buffer) None (λ e. apart s.back.buffer s.posts.within e)
-        ∙ (get_set_else b.note.board slot (buffer_at k v.buffer) (Some s.view.eye) (λ e. apart s.view.buffer s.within e)
-        ∙ (ap (λ l. slice_get l (buffer_at k v.buffer)) (sym b.turn.may.board) ∙ v.on_board)));
-    of_parts = v.of_parts ∙ ap (λ ps. set_of (all_regions ps)) (sym parts_same);
-    is_new = v.is_new;
+    came_back = v.came_back;
+    emptied = same v.back v.within.0 ∙ v.emptied;
+    third = λ c few not_view not_back. same c few ∙ v.third c few not_view not_back;
   }
     where
-      apart : (c : ℕ) → c < 3 → buffer_at k v.buffer ≡ 3 * (seat - 1) + c → ⊥
-      apart c few e = let s = (place_alike k seat v.buffer c (omega (arith, least)) (omega (arith, least, below)) v.within few e).0 in absurd (omega (arith, s, below))
+      same : (c : ℕ) → c < 3 → slice_get new.room.board (buffer_at k c) ≡ slice_get old.room.board (buffer_at k c)
+      same c few = other_seat k c least (λ e. absurd (omega (arith, below, e))) few
 
   pub posted_next : PostedBelow x (i + 1) found new p'
   posted_next = record {
@@ -248,10 +277,13 @@ module _ (x : Beginning) (i seat : ℕ) (is : seat ≡ i + 1) (lt : i < x.seats)
     given = (b.given.0 ++ s.view.eye.number ∷ [], s.given ∙ (ap (λ l. l ++ s.view.eye.number ∷ []) b.given.1 ∙ append_assoc found.given b.given.0 (s.view.eye.number ∷ [])));
     upto = λ j near. subst (λ k. new.room.sealed ≤ slice_index (slice_set b.note.posted k s.view.upto) j) (sym box)
         (least_more b.note.posted i s.view.upto new.room.sealed (let l = b.turn.is_turn.long.1 in omega (arith, lt, l)) (let u = s.upto in omega (arith, u)) (λ k below. let a = b.upto k below in let e = sealed_same in omega (arith, a, e)) j near);
-    posted = λ k least most. ⊎_elim
-        (λ e. subst (NewView found.given new.room.parts new.room.board) (sym e) own_view)
-        (λ ne. other_view k least (omega (arith, most, is, ne)) (b.posted k least (omega (arith, most, is, ne))))
-        (decide k seat);
+    board = record {
+      renewed = λ k least most. ⊎_elim
+          (λ e. subst (RenewsSeat found.given new.room.parts found.board new.room.board) (sym e) own_seat)
+          (λ ne. seat_before k least (omega (arith, most, is, ne)) (b.board.renewed k least (omega (arith, most, is, ne))))
+          (decide k seat);
+      others = λ k c above few. other_seat k c (omega (arith, above)) (λ e. absurd (omega (arith, above, e, is))) few ∙ b.board.others k c (omega (arith, above)) few;
+    };
   }
 
 -- ---- a loop over the seats
@@ -275,31 +307,28 @@ none_posted x p room c = record {
   same = refl;
   given = ([], sym (append-nil room.room.given));
   upto = λ i lt. absurd (omega (arith, lt));
-  posted = λ seat least most. absurd (omega (arith, least, most));
+  board = record { renewed = λ seat least most. absurd (omega (arith, least, most)); others = λ seat c above few. refl };
 }
 
--- and the chain
-chain_posted : (found new : RoomState) → new ≡ with_posted found new → KeepsChain found new
-chain_posted found new same = record {
-  parts = ap (λ (r : RoomState). r.parts) same;
-  sealed = ap (λ (r : RoomState). r.sealed) same;
-  waiting = ap (λ (r : RoomState). r.waiting) same;
-  places = ap (λ (r : RoomState). r.places) same;
-}
-
-keeps_more : (a b c : RoomState) → KeepsChain a b → KeepsChain b c → KeepsChain a c
-keeps_more a b c s t = record { parts = t.parts ∙ s.parts; sealed = t.sealed ∙ s.sealed; waiting = t.waiting ∙ s.waiting; places = t.places ∙ s.places }
+-- where the board, the eyes and the count of all faults alone are others, so are they with the counts and whether it is shut
+pub faults_same : (a b : RoomState) → b ≡ with_posted a b → b ≡ with_faults a b
+faults_same a b same = same ∙ (λ i. record (with_posted a b) { is_shut = ap (λ (r : RoomState). r.is_shut) (sym same) i; own_faults = ap (λ (r : RoomState). r.own_faults) (sym same) i })
 
 -- a view could not be made for one of them
-pub each_lacks : (x : Beginning) (i seat : ℕ) (first old new : RoomValue) (p p' : RoomPass) (fault : RoomFault) (b : PostedBelow x i first.room old p) → (0 < i → old.room.is_shut ≡ false) → (i ≡ 0 → old ≡ first)
+pub each_lacks : (x : Beginning) (i seat : ℕ) (first old new : RoomValue) (p p' : RoomPass) (fault : RoomFault) (b : PostedBelow x i first.room old p) → i < x.seats → (0 < i → old.room.is_shut ≡ false) → (i ≡ 0 → old ≡ first)
     → PostsOr x seat b.note old new p p' (Err fault) → PostsEachOr x first new p' (Err fault)
-each_lacks x i seat first old new p p' room_fault.Disk b is_open at_first s = (
+each_lacks x i seat first old new p p' room_fault.Disk b lt is_open at_first s = (
   subst (IsFailedTurn x new) (sym s.0) (record { note = b.note; turn = s.1; some_failed = some_failed x p old new b.note b.turn s.2.2 }),
   sym (ap (λ (r : RoomState). r.is_shut) b.same) ∙ s.2.0,
   s.2.1,
-  keeps_more first.room old.room new.room (chain_posted first.room old.room b.same) s.2.4,
+  record {
+    upto = i;
+    not_all = lt;
+    same = s.2.5 ∙ ap (λ r. with_faults r new.room) b.same;
+    board = subst (λ l. RenewsSeats i first.room.given new.room.parts first.room.board l) (sym s.2.4) (subst (λ ps. RenewsSeats i first.room.given ps first.room.board old.room.board) (sym (ap (λ (r : RoomState). r.parts) s.2.5)) b.board);
+  },
 )
-each_lacks x i seat first old new p p' (room_fault.Shut epoch) b is_open at_first s = (
+each_lacks x i seat first old new p p' (room_fault.Shut epoch) b lt is_open at_first s = (
   subst (IsCleanTurn x new) (sym s.0) (record { note = b.note; turn = s.1; none_failed = subst (λ r. NoneFailed x r p b.note) (sym s.2.2) b.none_failed }),
   sym (ap (λ (r : RoomState). r.is_shut) b.same) ∙ s.2.0,
   s.2.1 ∙ ap (λ (r : RoomState). r.sealed) b.same,
@@ -309,8 +338,9 @@ each_lacks x i seat first old new p p' (room_fault.Shut epoch) b is_open at_firs
     by : (n : ℕ) → i ≡ n → old ≡ first
     by zero e = at_first e
     by (suc n) e = absurd (true≢false (sym s.2.0 ∙ is_open (omega (arith, e))))
-each_lacks x i seat first old new p p' room_fault.NoMemory b is_open at_first s = (
+each_lacks x i seat first old new p p' room_fault.NoMemory b lt is_open at_first s = (
   subst (IsCleanTurn x new) (sym s.0) (record { note = b.note; turn = s.1; none_failed = subst (λ r. NoneFailed x r p b.note) (sym s.2.1) b.none_failed }),
+  sym (ap (λ (r : RoomState). r.is_shut) b.same) ∙ s.2.0,
   ap (λ (r : RoomValue). r.room.is_shut) s.2.1 ∙ s.2.0,
-  subst (λ (r : RoomValue). KeepsChain first.room r.room) (sym s.2.1) (chain_posted first.room old.room b.same),
+  subst (λ (r : RoomValue). PostsFirst x.seats first.room r.room) (sym s.2.1) (record { upto = i; not_all = lt; same = faults_same first.room old.room b.same; board = b.board }),
 )

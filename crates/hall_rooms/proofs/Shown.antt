@@ -1,6 +1,6 @@
 -- What waits is sealed, posted to all seats and published, in a turn, and the turn ends.
-use Rattle.std.proofs.Common.{◌≡◌, inl, inr, ℕ, suc, zero, ◌+◌, ◌≤◌, true≢false, None, Ok, Err, refl, sym, ap, ◌∙◌, subst, arith, ne_eqb}
-use Rattle.std.specs.Prelude.{if◌then◌else◌, Result}
+use Rattle.std.proofs.Common.{◌≡◌, inl, inr, ℕ, suc, zero, ◌≤◌, false, true≢false, None, Ok, Err, refl, sym, ap, ◌∙◌, subst, arith}
+use Rattle.std.specs.Prelude.{Result}
 use lib.ListN.{get_elem?}
 use Rattle.atomic_table.specs.Seated.{TableId}
 use Rattle.fine_model.specs.declared.law.RoomState.{RoomState}
@@ -19,10 +19,12 @@ use Rattle.fine_hall.specs.Turns.{room_after}
 use Rattle.fine_hall.specs.Passes.{first_given, published, IsHolder, IsPass}
 use Rattle.fine_hall.specs.Halls.{GivesRoom, Publishes}
 use Rattle.hall_rooms.specs.Rooms.{RoomPass}
-use Rattle.hall_rooms.specs.Turning.{KeepsChain, NewView, SealsAtMost, SealsTurn}
+use Rattle.hall_rooms.specs.Turning.{RenewsSeats, SealedAndPosted, SealsTurn, StopsPosting}
+use Rattle.hall_rooms.specs.Views.{with_faults}
 use Rattle.hall_rooms.specs.Making.{TurnsOn}
-use Rattle.hall_rooms.specs.Steps.{BeginsTurn, InTurn, IsCleanTurn, PostsEachOr, SealsWaitingOr, ShowsOr, Stays}
+use Rattle.hall_rooms.specs.Steps.{BeginsTurn, InTurn, IsCleanTurn, PostsEachOr, PostsFirst, SealsWaitingOr, ShowsOr, Stays}
 use Rattle.hall_rooms.proofs.GivenBack.{met_none, met_some}
+use Rattle.hall_rooms.proofs.Posted.{faults_same}
 use Rattle.hall_rooms.proofs.Renewing.{stays_on}
 use Rattle.hall_rooms.proofs.Turned.{epochs_sealed, epochs_stay, goes, some_failed, stepped}
 
@@ -51,23 +53,26 @@ seal_fails x p old mid room_fault.NoMemory c s = (
 
 -- ---- posting
 
--- what is sealed stays where a view could not be posted
-seals_at_most : (old mid new : RoomValue) → SealsWaitingOr old mid (Ok tt) → KeepsChain mid.room new.room → SealsAtMost old.room new.room
-seals_at_most old mid new s k = by old.room.waiting refl
-  where
-    by : (n : ℕ) → old.room.waiting ≡ n → SealsAtMost old.room new.room
-    by zero none = inl (subst (λ (v : RoomValue). KeepsChain v.room new.room) (s.2 none) k)
-    by (suc n) waits =
-        let e = s.1.epoch (λ none. absurd (omega (arith, waits, none))) in
-        inr (record {
-          epoch = (e.0, k.parts ∙ e.1, e.2);
-          sealed = k.sealed ∙ (s.1.sealed ∙ ap (λ b. if b then old.room.sealed else old.room.sealed + 1) (ne_eqb old.room.waiting 0 (λ none. omega (arith, waits, none))));
-          waiting = k.waiting ∙ s.1.none_waits;
-          places = k.places ∙ s.0.places;
-        })
+-- what waited is sealed, and the first seats have their views
+sealed_posted : (n : ℕ) (old mid : RoomValue) (new : RoomState) → SealsWaitingOr old mid (Ok tt) → mid.room.is_shut ≡ false → new ≡ with_faults mid.room new → RenewsSeats n mid.room.given new.parts mid.room.board new.board → SealedAndPosted old.room new n
+sealed_posted n old mid new s is_open same board = record {
+  opened = sym s.1.is_shut ∙ is_open;
+  parts = λ none. (ap (λ (r : RoomState). r.parts) same ∙ ap (λ (v : RoomValue). v.room.parts) (s.2 none), ap (λ (r : RoomState). r.image) same ∙ ap (λ (v : RoomValue). v.room.image) (s.2 none));
+  epoch = λ some. let e = s.1.epoch some in (e.0, ap (λ (r : RoomState). r.parts) same ∙ e.1, e.2);
+  none_waits = ap (λ (r : RoomState). r.waiting) same ∙ s.1.none_waits;
+  none_open = (ap (λ (r : RoomState). r.open_rows) same ∙ s.1.none_open.0, ap (λ (r : RoomState). r.used) same ∙ s.1.none_open.1);
+  sealed = ap (λ (r : RoomState). r.sealed) same ∙ s.1.sealed;
+  places = ap (λ (r : RoomState). r.places) same ∙ s.0.places;
+  retired = ap (λ (r : RoomState). r.retired) same ∙ s.1.retired;
+  free = (ap (λ (r : RoomState). r.free) same ∙ s.1.free.0, ap (λ (r : RoomState). r.lost) same ∙ s.1.free.1);
+  board = subst (λ g. RenewsSeats n g new.parts old.room.board new.board) s.0.given (subst (λ l. RenewsSeats n mid.room.given new.parts l new.board) s.0.board board);
+}
+
+stops_posting : (old mid : RoomValue) (new : RoomState) (seats : ℕ) → SealsWaitingOr old mid (Ok tt) → mid.room.is_shut ≡ false → PostsFirst seats mid.room new → StopsPosting old.room new seats
+stops_posting old mid new seats s is_open f = (f.upto, f.not_all, sealed_posted f.upto old mid new s is_open f.same f.board)
 
 pub post_fails : (x : Beginning) (old mid new : RoomValue) (p' : RoomPass) (fault : RoomFault) → SealsWaitingOr old mid (Ok tt) → PostsEachOr x mid new p' (Err fault) → ShowsOr x old new p' (Err fault)
-post_fails x old mid new p' room_fault.Disk s e = (e.0, sym s.1.is_shut ∙ e.1, e.2, seals_at_most old mid new s e.3)
+post_fails x old mid new p' room_fault.Disk s e = (e.0, sym s.1.is_shut ∙ e.1, e.2, inr (stops_posting old mid new.room x.seats s e.1 e.3))
 post_fails x old mid new p' (room_fault.Shut epoch) s e = by old.room.waiting refl
   where
     same : mid ≡ old → ShowsOr x old new p' (Err (room_fault.Shut epoch))
@@ -76,7 +81,7 @@ post_fails x old mid new p' (room_fault.Shut epoch) s e = by old.room.waiting re
     by : (n : ℕ) → old.room.waiting ≡ n → ShowsOr x old new p' (Err (room_fault.Shut epoch))
     by zero is = same (s.2 is)
     by (suc n) is = absurd (true≢false (sym (sym s.1.is_shut ∙ e.1) ∙ s.3 (λ none. absurd (omega (arith, is, none)))))
-post_fails x old mid new p' room_fault.NoMemory s e = (e.0, e.1, seals_at_most old mid new s e.2)
+post_fails x old mid new p' room_fault.NoMemory s e = (e.0, e.2, inr (stops_posting old mid new.room x.seats s e.1 e.3))
 
 -- ---- publishing
 
@@ -97,17 +102,8 @@ module _ (x : Beginning) (new : RoomValue) (p' p'' : RoomPass) (z : TableId) (ok
         },
         is,
         s.now,
-        record {
-          opened = sym sealed.1.is_shut ∙ (sym (ap (λ (r : RoomState). r.is_shut) b.same) ∙ posts.1);
-          parts = λ none. ap (λ (r : RoomState). r.parts) b.same ∙ ap (λ (v : RoomValue). v.room.parts) (sealed.2 none);
-          epoch = λ some. let e = sealed.1.epoch some in (e.0, ap (λ (r : RoomState). r.parts) b.same ∙ e.1, e.2);
-          none_waits = ap (λ (r : RoomState). r.waiting) b.same ∙ sealed.1.none_waits;
-          sealed = ap (λ (r : RoomState). r.sealed) b.same ∙ sealed.1.sealed;
-          not_shut = posts.1;
-          retired = ap (λ (r : RoomState). r.retired) b.same ∙ sealed.1.retired;
-          free = (ap (λ (r : RoomState). r.free) b.same ∙ sealed.1.free.0, ap (λ (r : RoomState). r.lost) b.same ∙ sealed.1.free.1);
-          posted = λ seat least most. subst (λ g. NewView g new.room.parts new.room.board seat) sealed.0.given (b.posted seat least most);
-        },
+        posts.1,
+        sealed_posted x.seats old mid new.room sealed (sym (ap (λ (r : RoomState). r.is_shut) b.same) ∙ posts.1) (faults_same mid.room new.room b.same) b.board,
       )
 
 pub stays_published : (epoch : ℕ) (p p' : RoomPass) → published p ≤ epoch → Publishes epoch p p' → Stays p p'
@@ -136,7 +132,7 @@ module _ (x : Beginning) (found new : RoomValue) (p p₁ q r : RoomPass) (begun 
 
   pub seals_turn : (answer : Result ℕ RoomFault) (s : ShowsOr x found new q answer) → GivesRoom new.room None 0 (in_turn x found new q answer s).0 q r → SealsTurn x found.room new.room p r answer
   unfolding in_turn
-  seals_turn (Ok epoch) s gave = (s.1, gave.same_published ∙ s.2, s.3, met_none x found new p p₁ q r begun second third on s.0.note gave s.0.none_failed)
+  seals_turn (Ok epoch) s gave = (s.1, gave.same_published ∙ s.2, s.3, s.4, met_none x found new p p₁ q r begun second third on s.0.note gave s.0.none_failed)
   seals_turn (Err room_fault.Disk) s gave = (s.1, s.2, s.3, met_some x found new p p₁ q r begun second third on s.0.note gave s.0.some_failed)
   seals_turn (Err (room_fault.Shut epoch)) s gave = (s.1, s.2, ap (λ (v : RoomValue). v.room) s.3, met_none x found new p p₁ q r begun second third on s.0.note gave s.0.none_failed)
   seals_turn (Err room_fault.NoMemory) s gave = (s.1, s.2, met_none x found new p p₁ q r begun second third on s.0.note gave s.0.none_failed)

@@ -1,23 +1,26 @@
 -- How a turn of the room goes on.
-use Rattle.std.proofs.Common.{◌≡◌, ◌⊎◌, inl, inr, ⊎_elim, ℕ, suc, zero, ◌+◌, ◌<◌, ◌≤◌, ◌==◌, true, false, List, ◌++◌, map, None, Ok, Err, refl, sym, ap, ◌∙◌, subst, arith, append-nil, ne_eqb}
-use Rattle.std.specs.Prelude.{Option, if◌then◌else◌}
+use Rattle.std.proofs.Common.{◌≡◌, ◌⊎◌, inl, inr, ⊎_elim, ℕ, suc, zero, ◌+◌, ◌<◌, ◌≤◌, ◌==◌, true, false, List, [], ◌∷◌, ◌++◌, map, eq-eqb, None, Ok, Err, refl, sym, ap, ◌∙◌, subst, arith, append-nil, ne_eqb}
+use Rattle.std.specs.Prelude.{Option, Some, if◌then◌else◌, nat_eq, nat_lt, not, ◌&&◌, ◌||◌, option_to_list}
+use Rattle.std.specs.List.{list_any}
 use lib.ListN.{get_elem?}
 use Rattle.fine_places.specs.History as places
 use Rattle.fine_places.proofs.Lists.{set_at}
 use Rattle.fine_model.specs.declared.law.RoomState.{RoomState}
 use Rattle.fine_model.specs.Becomes.{Becomes}
+use Rattle.fine_model.specs.Boards.{set_of}
 use Rattle.fine_model.specs.Faults.{HasRisen, last_count}
 use Rattle.fine_model.specs.Jobs.{KeepsJob}
 use Rattle.fine_model.proofs.Histories.Goings.{becomes_itself, becomes_on, job_itself, job_on}
 use Rattle.log_disk.specs.Disk.{Disk, OpenEye, SameBeside}
 use Rattle.epoch_room.specs.Meaning.{Keeps, Stands, origin_of}
-use Rattle.epoch_room.specs.Steps.{Fails, KeepsCounts, SealsOr, Steps, sealed_state, next_part}
-use Rattle.epoch_room.specs.Value.{RoomValue, on}
+use Rattle.epoch_room.specs.Steps.{Fails, KeepsCounts, SealsOr, Shuts, Steps, sealed_state, shut_state, next_part}
+use Rattle.epoch_room.specs.Value.{RoomValue, on, taken}
 use Rattle.epoch_room.specs.Whole.{IsWhole}
 use Rattle.epoch_room.specs.Fitting.{counts_of}
 use Rattle.epoch_room.specs.declared.answers.Counts.{Counts}
 use Rattle.epoch_room.specs.declared.answers.RoomFault.{RoomFault}
 use Rattle.epoch_room.specs.declared.answers.RoomFault.TheVariants as room_fault
+use Rattle.epoch_room.proofs.Merges.JobRegions.{outside_any}
 use Rattle.epoch_room.proofs.OpenEpochs.Behind.{keeps_none}
 use Rattle.fine_boxes.specs.declared.model.TurnNote.{TurnNote}
 use Rattle.fine_places.specs.declared.model.Placed.{Placed}
@@ -31,7 +34,7 @@ use Rattle.fine_hall.proofs.Counting.{counts_sealed, counts_stay}
 use Rattle.partition_hold.specs.Views.{state_of}
 use Rattle.hall_rooms.proofs.Viewing.{either}
 use Rattle.hall_rooms.specs.Rooms.{RoomPass, room_state, room_log}
-use Rattle.hall_rooms.specs.Turning.{KeepsChain}
+use Rattle.hall_rooms.specs.Turning.{LosesTarget}
 use Rattle.hall_rooms.specs.Steps.{BeginsTurn, InTurn, IsSealed, LeavesViews, Rises, SameEpochs, SealsWaitingOr, SomeFailed, Stays}
 
 -- ---- a turn goes on
@@ -137,15 +140,6 @@ module _ (old new : RoomValue) (whole : IsWhole old) (beside : SameBeside old.di
     given = ap Given s.room ∙ (beside.given ∙ sym (ap Given whole.of_disk));
   }
 
-  -- the chain stays
-  pub left_chain : state.parts ≡ old.room.parts → state.sealed ≡ old.room.sealed → state.waiting ≡ old.room.waiting → state.places ≡ old.room.places → KeepsChain old.room new.room
-  left_chain parts sealed waiting places = record {
-    parts = ap (λ (r : RoomState). r.parts) s.room ∙ parts;
-    sealed = ap (λ (r : RoomState). r.sealed) s.room ∙ sealed;
-    waiting = ap (λ (r : RoomState). r.waiting) s.room ∙ waiting;
-    places = ap (λ (r : RoomState). r.places) s.room ∙ places;
-  }
-
   -- no call on the disk failed, or some did
   pub left_counts : KeepsCounts old.disk new.disk → new.room.faults ≡ old.room.faults
   left_counts counts = ap (λ (r : RoomState). r.faults) s.room ∙ (counts.faults ∙ sym (ap (λ (r : RoomState). r.faults) whole.of_disk))
@@ -192,6 +186,7 @@ module _ (old new : RoomValue) (whole : IsWhole old) (waits : old.room.waiting �
     left_views old new whole beside keeps job _ _ s.2.1 refl refl,
     record {
       none_waits = ap (λ (r : RoomState). r.waiting) s.2.1.room;
+      none_open = (ap (λ (r : RoomState). r.open_rows) s.2.1.room, ap (λ (r : RoomState). r.used) s.2.1.room);
       epoch = λ some. (next_part old, ap (λ (r : RoomState). r.parts) s.2.1.room, refl);
       sealed = ap (λ (r : RoomState). r.sealed) s.2.1.room ∙ sym (ap (λ b. if b then old.room.sealed else old.room.sealed + 1) (ne_eqb old.room.waiting 0 waits));
       is_shut = ap (λ (r : RoomState). r.is_shut) s.2.1.room;
@@ -203,14 +198,38 @@ module _ (old new : RoomValue) (whole : IsWhole old) (waits : old.room.waiting �
     λ _. s.2.0,
   )
 
+  target_lost : Shuts old.room None (option_to_list old.target) old new → LosesTarget old.room new.room
+  target_lost s = record {
+    waits = waits;
+    region = target.0;
+    not_free = ap (list_any (nat_eq target.0)) whole.free ∙ (outside_any old.disk.regions (taken old.room old.target) target.0 ∙ ap (λ b. not b && nat_lt target.0 old.disk.regions) is_taken);
+    none_lost = whole.lost s.0;
+    same = left_but_read old new whole beside keeps job _ _ s.1 (λ r. shut_state r (target.0 ∷ [])) (λ d i. record (on (shut_state old.room []) d) { lost = set_of (option_to_list (target.1 i)) });
+  }
+    where
+      target : (region : ℕ) × (old.target ≡ Some region)
+      target = whole.epoch.some (whole.lost s.0) (omega (arith, waits))
+
+      is_taken : list_any (nat_eq target.0) (taken old.room old.target) ≡ true
+      is_taken = (λ i. list_any (nat_eq target.0) (taken old.room (target.1 i))) ∙ ap (λ b. b || list_any (nat_eq target.0) (taken old.room None)) (eq-eqb target.0 target.0 refl)
+
   pub sealed_err : (fault : RoomFault) → SealsOr old new (Err fault) → SealsWaitingOr old new (Err fault)
-  sealed_err room_fault.Disk s =
-      let k = left_chain old new whole beside keeps job _ _ s.1 refl refl refl refl in
-      (left_views old new whole beside keeps job _ _ s.1 refl refl, (k.sealed, k.waiting), s.0, ap (λ (r : RoomState). r.is_shut) s.1.room, left_rises old new whole beside keeps job _ _ s.1 s.2, k)
+  sealed_err room_fault.Disk s = (
+    left_views old new whole beside keeps job _ _ s.1 refl refl,
+    (ap (λ (r : RoomState). r.sealed) s.1.room, ap (λ (r : RoomState). r.waiting) s.1.room),
+    s.0,
+    ap (λ (r : RoomState). r.is_shut) s.1.room,
+    left_rises old new whole beside keeps job _ _ s.1 s.2,
+    target_lost s,
+  )
   sealed_err (room_fault.Shut epoch) s = s
-  sealed_err room_fault.NoMemory s =
-      let k = left_chain old new whole beside keeps job _ _ s.1 refl refl refl refl in
-      (left_views old new whole beside keeps job _ _ s.1 refl refl, (k.sealed, k.waiting), ap (λ (r : RoomState). r.is_shut) s.1.room ∙ s.0, left_counts old new whole beside keeps job _ _ s.1 s.2, k)
+  sealed_err room_fault.NoMemory s = (
+    left_views old new whole beside keeps job _ _ s.1 refl refl,
+    (ap (λ (r : RoomState). r.sealed) s.1.room, ap (λ (r : RoomState). r.waiting) s.1.room),
+    ap (λ (r : RoomState). r.is_shut) s.1.room ∙ s.0,
+    left_counts old new whole beside keeps job _ _ s.1 s.2,
+    record { waits = waits; same = left_still old new whole beside keeps job _ _ s.1 s.2 (λ r. r) (λ d. refl) },
+  )
 
 -- the numbers that a room tells of itself
 pub counted : (room : RoomState) (c : Counts) → c ≡ counts_of room → (c.waiting ≡ room.waiting) × (c.sealed ≡ room.sealed)
@@ -226,6 +245,7 @@ none_sealed room whole none = (
   leaves_none room whole,
   record {
     none_waits = none;
+    none_open = let n = whole.epoch.none none in (n.1, n.2);
     sealed = sym (ap (λ n. if n == 0 then room.room.sealed else room.room.sealed + 1) none);
     epoch = λ some. absurd (some none);
     is_shut = refl;

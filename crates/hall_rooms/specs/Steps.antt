@@ -1,10 +1,10 @@
 -- The steps within a turn of the room.
-use Rattle.std.specs.Prelude.{◌≡◌, ◌⊎◌, ℕ, ◌+◌, ◌-◌, ◌<◌, ◌≤◌, ◌==◌, if◌then◌else◌, true, false, List, [], ◌∷◌, ◌++◌, Contains, None, Result, Ok, Err, slice_index}
+use Rattle.std.specs.Prelude.{◌≡◌, ◌⊎◌, ℕ, ◌+◌, ◌-◌, ◌<◌, ◌≤◌, ◌==◌, if◌then◌else◌, true, false, List, [], ◌∷◌, ◌++◌, Contains, Some, None, Result, Ok, Err, slice_get, slice_index}
 use Rattle.fine_model.specs.declared.Row.{Row}
 use Rattle.fine_model.specs.declared.law.RoomState.{RoomState}
 use Rattle.fine_model.specs.declared.law.ViewState.{ViewState}
 use Rattle.fine_model.specs.Becomes.{Becomes}
-use Rattle.fine_model.specs.Boards.{set_of}
+use Rattle.fine_model.specs.Boards.{buffer_at, set_of}
 use Rattle.fine_model.specs.Faults.{last_count}
 use Rattle.fine_model.specs.Jobs.{KeepsJob}
 use Rattle.epoch_room.specs.Meaning.{Keeps, Stands, StandsForMore}
@@ -23,7 +23,8 @@ use Rattle.fine_hall.specs.Passes.{known, turns, own_turns, published, given_up,
 use Rattle.fine_hall.specs.Laws.{IsRoomFor}
 use Rattle.fine_hall.specs.Halls.{HallOf, MayGiveRoom, Posts, TakesRoom}
 use Rattle.hall_rooms.specs.Rooms.{IsRoomPass, RoomPass, room_state, room_log}
-use Rattle.hall_rooms.specs.Turning.{AddsEpoch, ErasesFirst, ErasesUnheld, KeepsChain, LosesFirst, NewView, SealedAndPosted, SealsAtMost}
+use Rattle.hall_rooms.specs.Turning.{AddsEpoch, ErasesFirst, ErasesUnheld, LosesFirst, LosesTarget, RenewsSeats, SealedAndPosted, StillWaits, StopsPosting}
+use Rattle.hall_rooms.specs.Views.{with_faults}
 
 -- ---- an entry
 
@@ -101,6 +102,7 @@ Rises old new = (old.faults < new.faults) ⊎ (last_count ≤ new.faults)
 -- what waited is sealed
 pub record IsSealed (old new : RoomState) : Type 0 where
   pub none_waits : new.waiting ≡ 0
+  pub none_open : (new.open_rows ≡ []) × (new.used ≡ 0)
   pub sealed : new.sealed ≡ (if old.waiting == 0 then old.sealed else old.sealed + 1)
   pub epoch : (old.waiting ≡ 0 → ⊥) → AddsEpoch old new
   pub is_shut : new.is_shut ≡ old.is_shut
@@ -114,9 +116,9 @@ SameEpochs old new = (new.sealed ≡ old.sealed) × (new.waiting ≡ old.waiting
 
 abbrev pub SealsWaitingOr : RoomValue → RoomValue → Result (Unit {0}) RoomFault → Type 0
 SealsWaitingOr old new (Ok done) = LeavesViews old new × IsSealed old.room new.room × (old.room.waiting ≡ 0 → new ≡ old) × ((old.room.waiting ≡ 0 → ⊥) → old.room.is_shut ≡ false)
-SealsWaitingOr old new (Err room_fault.Disk) = LeavesViews old new × SameEpochs old.room new.room × (old.room.is_shut ≡ false) × (new.room.is_shut ≡ true) × Rises old.room new.room × KeepsChain old.room new.room
+SealsWaitingOr old new (Err room_fault.Disk) = LeavesViews old new × SameEpochs old.room new.room × (old.room.is_shut ≡ false) × (new.room.is_shut ≡ true) × Rises old.room new.room × LosesTarget old.room new.room
 SealsWaitingOr old new (Err (room_fault.Shut epoch)) = (old.room.is_shut ≡ true) × (epoch ≡ old.room.sealed) × (new ≡ old)
-SealsWaitingOr old new (Err room_fault.NoMemory) = LeavesViews old new × SameEpochs old.room new.room × (new.room.is_shut ≡ false) × (new.room.faults ≡ old.room.faults) × KeepsChain old.room new.room
+SealsWaitingOr old new (Err room_fault.NoMemory) = LeavesViews old new × SameEpochs old.room new.room × (new.room.is_shut ≡ false) × (new.room.faults ≡ old.room.faults) × StillWaits old.room new.room
 
 -- ---- posting
 
@@ -129,6 +131,7 @@ pub record PostsTo (x : Beginning) (seat : ℕ) (t : TurnNote) (old new : RoomVa
   pub view : ViewState
   pub back : ViewState
   pub within : view.buffer < 3
+  pub was_empty : slice_get old.room.board (buffer_at seat view.buffer) ≡ Some None
   pub upto : view.upto ≡ new.room.sealed
   pub of_parts : view.eye.regions ≡ set_of (all_regions old.room.parts)
   pub is_new : Contains old.room.given view.eye.number → ⊥
@@ -140,7 +143,7 @@ pub record PostsTo (x : Beginning) (seat : ℕ) (t : TurnNote) (old new : RoomVa
 
 -- no view could be made for it
 abbrev pub LacksView : RoomValue → RoomValue → RoomFault → Type 0
-LacksView old new room_fault.Disk = (old.room.is_shut ≡ false) × (new.room.is_shut ≡ true) × Rises old.room new.room × KeepsJob old.room new.room × KeepsChain old.room new.room
+LacksView old new room_fault.Disk = (old.room.is_shut ≡ false) × (new.room.is_shut ≡ true) × Rises old.room new.room × KeepsJob old.room new.room × (new.room.board ≡ old.room.board) × (new.room ≡ with_faults old.room new.room)
 LacksView old new (room_fault.Shut epoch) = (old.room.is_shut ≡ true) × (epoch ≡ old.room.sealed) × (new ≡ old)
 LacksView old new room_fault.NoMemory = (old.room.is_shut ≡ false) × (new ≡ old)
 
@@ -148,7 +151,7 @@ abbrev pub PostsOr : Beginning → ℕ → TurnNote → RoomValue → RoomValue 
 PostsOr x seat t old new p p' (Ok done) = PostsTo x seat t old new p p' × (old.room.is_shut ≡ false)
 PostsOr x seat t old new p p' (Err fault) = (p' ≡ p) × InTurn x new p t × LacksView old new fault
 
--- In a turn of the pass in which no call failed, a view of all live parts was posted to each seat up to one.
+-- In a turn of the pass in which no call failed, a view of all live parts was posted to each of the first seats, so many.
 pub record PostedBelow (x : Beginning) (seats : ℕ) (found : RoomState) (room : RoomValue) (p : RoomPass) : Type 0 where
   pub note : TurnNote
   pub turn : InTurn x room p note
@@ -156,22 +159,30 @@ pub record PostedBelow (x : Beginning) (seats : ℕ) (found : RoomState) (room :
   pub same : room.room ≡ with_posted found room.room
   pub given : (more : List ℕ) × (room.room.given ≡ found.given ++ more)
   pub upto : (i : ℕ) → i < seats → room.room.sealed ≤ slice_index note.posted i
-  pub posted : (seat : ℕ) → 1 ≤ seat → seat ≤ seats → NewView found.given room.room.parts room.room.board seat
+  pub board : RenewsSeats seats found.given room.room.parts found.board room.room.board
+
+-- A view was posted to some first seats, and none could be made for the next one. Nothing else changed but the eyes, the counts of faults, and
+-- whether the room is shut.
+pub record PostsFirst (seats : ℕ) (old new : RoomState) : Type 0 where
+  pub upto : ℕ
+  pub not_all : upto < seats
+  pub same : new ≡ with_faults old new
+  pub board : RenewsSeats upto old.given new.parts old.board new.board
 
 -- how a loop over the seats ends
 abbrev pub PostsEachOr : Beginning → RoomValue → RoomValue → RoomPass → Result (Unit {0}) RoomFault → Type 0
 PostsEachOr x old new p' (Ok done) = PostedBelow x x.seats old.room new p' × (new.room.is_shut ≡ false)
-PostsEachOr x old new p' (Err room_fault.Disk) = IsFailedTurn x new p' × (old.room.is_shut ≡ false) × (new.room.is_shut ≡ true) × KeepsChain old.room new.room
+PostsEachOr x old new p' (Err room_fault.Disk) = IsFailedTurn x new p' × (old.room.is_shut ≡ false) × (new.room.is_shut ≡ true) × PostsFirst x.seats old.room new.room
 PostsEachOr x old new p' (Err (room_fault.Shut epoch)) = IsCleanTurn x new p' × (old.room.is_shut ≡ true) × (epoch ≡ old.room.sealed) × (new ≡ old)
-PostsEachOr x old new p' (Err room_fault.NoMemory) = IsCleanTurn x new p' × (new.room.is_shut ≡ false) × KeepsChain old.room new.room
+PostsEachOr x old new p' (Err room_fault.NoMemory) = IsCleanTurn x new p' × (old.room.is_shut ≡ false) × (new.room.is_shut ≡ false) × PostsFirst x.seats old.room new.room
 
 -- ---- sealing, posting and publishing
 
 abbrev pub ShowsOr : Beginning → RoomValue → RoomValue → RoomPass → Result ℕ RoomFault → Type 0
-ShowsOr x old new p' (Ok epoch) = IsCleanTurn x new p' × (epoch ≡ new.room.sealed) × (published p' ≡ epoch) × SealedAndPosted old.room new.room x.seats
-ShowsOr x old new p' (Err room_fault.Disk) = IsFailedTurn x new p' × (old.room.is_shut ≡ false) × (new.room.is_shut ≡ true) × SealsAtMost old.room new.room
+ShowsOr x old new p' (Ok epoch) = IsCleanTurn x new p' × (epoch ≡ new.room.sealed) × (published p' ≡ epoch) × (new.room.is_shut ≡ false) × SealedAndPosted old.room new.room x.seats
+ShowsOr x old new p' (Err room_fault.Disk) = IsFailedTurn x new p' × (old.room.is_shut ≡ false) × (new.room.is_shut ≡ true) × (LosesTarget old.room new.room ⊎ StopsPosting old.room new.room x.seats)
 ShowsOr x old new p' (Err (room_fault.Shut epoch)) = IsCleanTurn x new p' × (old.room.is_shut ≡ true) × (epoch ≡ old.room.sealed) × (new ≡ old)
-ShowsOr x old new p' (Err room_fault.NoMemory) = IsCleanTurn x new p' × (new.room.is_shut ≡ false) × SealsAtMost old.room new.room
+ShowsOr x old new p' (Err room_fault.NoMemory) = IsCleanTurn x new p' × (new.room.is_shut ≡ false) × (StillWaits old.room new.room ⊎ StopsPosting old.room new.room x.seats)
 
 -- ---- erasing
 

@@ -1,5 +1,6 @@
 -- What a turn of a pass does to the room.
-use Rattle.std.specs.Prelude.{◌≡◌, ◌≢◌, ◌⊎◌, ℕ, ◌+◌, ◌<◌, ◌≤◌, ◌==◌, if◌then◌else◌, true, false, List, [], ◌∷◌, ◌++◌, length, Contains, Option, Some, None, Result, Ok, Err, slice_get}
+use Rattle.std.specs.Prelude.{◌≡◌, ◌≢◌, ◌⊎◌, ℕ, ◌+◌, ◌<◌, ◌≤◌, ◌==◌, nat_eq, if◌then◌else◌, true, false, List, [], ◌∷◌, ◌++◌, length, Contains, Option, Some, None, Result, Ok, Err, slice_get}
+use Rattle.std.specs.List.{list_any}
 use Rattle.fine_model.specs.declared.Entry.{Entry}
 use Rattle.fine_model.specs.declared.Part.{Part}
 use Rattle.fine_model.specs.declared.Row.{Row}
@@ -77,46 +78,63 @@ pub record NewView (given : List ℕ) (parts : List Part) (board : List Buffer) 
   pub of_parts : eye.regions ≡ set_of (all_regions parts)
   pub is_new : Contains given eye.number → ⊥
 
+-- A seat got a new view, in a buffer that was empty; the view of another buffer came back, and the third buffer is as it was.
+pub record RenewsSeat (given : List ℕ) (parts : List Part) (old new : List Buffer) (seat : ℕ) : Type 0 where
+  pub view : NewView given parts new seat
+  pub was_empty : slice_get old (buffer_at seat view.buffer) ≡ Some None
+  pub back : ℕ
+  pub within : (back < 3) × (back ≢ view.buffer)
+  pub came_back : (eye : OpenedEye) × (slice_get old (buffer_at seat back) ≡ Some (Some eye))
+  pub emptied : slice_get new (buffer_at seat back) ≡ Some None
+  pub third : (b : ℕ) → b < 3 → b ≢ view.buffer → b ≢ back → slice_get new (buffer_at seat b) ≡ slice_get old (buffer_at seat b)
+
+-- So it is of each of the first seats, so many; the buffers of the others are as they were.
+pub record RenewsSeats (seats : ℕ) (given : List ℕ) (parts : List Part) (old new : List Buffer) : Type 0 where
+  pub renewed : (seat : ℕ) → 1 ≤ seat → seat ≤ seats → RenewsSeat given parts old new seat
+  pub others : (seat b : ℕ) → seats < seat → b < 3 → slice_get new (buffer_at seat b) ≡ slice_get old (buffer_at seat b)
+
 -- the chain has one part more, of the epoch behind the last sealed one
 abbrev pub AddsEpoch : RoomState → RoomState → Type 0
 AddsEpoch old new = (p : Part) × (new.parts ≡ old.parts ++ p ∷ []) × (p.header.range ≡ record { first = old.sealed + 1; last = old.sealed + 1 })
 
--- the chain, the epochs and the places are as they were
-pub record KeepsChain (found room : RoomState) : Type 0 where
-  pub parts : room.parts ≡ found.parts
-  pub sealed : room.sealed ≡ found.sealed
-  pub waiting : room.waiting ≡ found.waiting
-  pub places : room.places ≡ found.places
-
--- what waited is sealed as one epoch more, and no place was given
-pub record SealsChain (found room : RoomState) : Type 0 where
-  pub epoch : AddsEpoch found room
-  pub sealed : room.sealed ≡ found.sealed + 1
-  pub waiting : room.waiting ≡ 0
-  pub places : room.places ≡ found.places
-
--- what waited is sealed, or still waits
-abbrev pub SealsAtMost : RoomState → RoomState → Type 0
-SealsAtMost found room = KeepsChain found room ⊎ SealsChain found room
-
--- What waited is sealed, as one epoch more, and each seat has a new view of all live parts. What is retired, free or lost is as it was, and so is
--- the chain where nothing waited.
+-- What waited is sealed, as one epoch more, and each of the first seats, so many, has a new view of all live parts. What is retired, free or lost is
+-- as it was, and so are the chain and what a read gives where nothing waited.
 pub record SealedAndPosted (found room : RoomState) (seats : ℕ) : Type 0 where
   pub opened : found.is_shut ≡ false
-  pub parts : found.waiting ≡ 0 → room.parts ≡ found.parts
+  pub parts : found.waiting ≡ 0 → (room.parts ≡ found.parts) × (room.image ≡ found.image)
   pub epoch : (found.waiting ≡ 0 → ⊥) → AddsEpoch found room
   pub none_waits : room.waiting ≡ 0
+  pub none_open : (room.open_rows ≡ []) × (room.used ≡ 0)
   pub sealed : room.sealed ≡ (if found.waiting == 0 then found.sealed else found.sealed + 1)
-  pub not_shut : room.is_shut ≡ false
+  pub places : room.places ≡ found.places
   pub retired : room.retired ≡ found.retired
   pub free : (room.free ≡ found.free) × (room.lost ≡ found.lost)
-  pub posted : (seat : ℕ) → 1 ≤ seat → seat ≤ seats → NewView found.given room.parts room.board seat
+  pub board : RenewsSeats seats found.given room.parts found.board room.board
 
+-- So it is of some first seats, and not of all: no view could be made for the next one.
+abbrev pub StopsPosting : RoomState → RoomState → ℕ → Type 0
+StopsPosting found room seats = (upto : ℕ) × (upto < seats) × SealedAndPosted found room upto
+
+-- Memory ran out as what waits was to be sealed: nothing changed but what a read gives.
+pub record StillWaits (found room : RoomState) : Type 0 where
+  pub waits : found.waiting ≡ 0 → ⊥
+  pub same : room ≡ record found { image = room.image }
+
+-- The disk failed as what waits was sealed: it waits still, and the region that it was to take, which was not free, is lost, as none was before.
+-- Nothing else changed but what a read gives, the counts of faults, and that the room is shut.
+pub record LosesTarget (found room : RoomState) : Type 0 where
+  pub waits : found.waiting ≡ 0 → ⊥
+  pub region : ℕ
+  pub not_free : list_any (nat_eq region) found.free ≡ false
+  pub none_lost : found.lost ≡ []
+  pub same : room ≡ record (shut_state found (region ∷ [])) { image = room.image; faults = room.faults; own_faults = room.own_faults }
+
+-- What waits was sealed, posted and published, or it came so far; the pass met a fault after `Disk` alone.
 abbrev pub SealsTurn : Beginning → RoomState → RoomState → RoomPass → RoomPass → Result ℕ RoomFault → Type 0
-SealsTurn x found room p p' (Ok epoch) = (epoch ≡ room.sealed) × (published p' ≡ epoch) × SealedAndPosted found room x.seats × MeetsNone x p p'
-SealsTurn x found room p p' (Err room_fault.Disk) = (found.is_shut ≡ false) × (room.is_shut ≡ true) × SealsAtMost found room × MeetsSome x p p'
+SealsTurn x found room p p' (Ok epoch) = (epoch ≡ room.sealed) × (published p' ≡ epoch) × (room.is_shut ≡ false) × SealedAndPosted found room x.seats × MeetsNone x p p'
+SealsTurn x found room p p' (Err room_fault.Disk) = (found.is_shut ≡ false) × (room.is_shut ≡ true) × (LosesTarget found room ⊎ StopsPosting found room x.seats) × MeetsSome x p p'
 SealsTurn x found room p p' (Err (room_fault.Shut epoch)) = (found.is_shut ≡ true) × (epoch ≡ found.sealed) × (room ≡ found) × MeetsNone x p p'
-SealsTurn x found room p p' (Err room_fault.NoMemory) = (room.is_shut ≡ false) × SealsAtMost found room × MeetsNone x p p'
+SealsTurn x found room p p' (Err room_fault.NoMemory) = (room.is_shut ≡ false) × (StillWaits found room ⊎ StopsPosting found room x.seats) × MeetsNone x p p'
 
 -- one turn without an entry, in which what waits is sealed, posted and published
 abbrev pub SealsAndPosts : Beginning → RoomPass → RoomPass → Result ℕ RoomFault → Type 0

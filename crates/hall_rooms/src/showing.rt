@@ -96,8 +96,9 @@ pub(crate) fn show<D: LogDisk>(
 /// without an entry. It may wait for the room.
 ///
 /// `Disk` comes only where the disk failed in this call, and the room is shut; `Shut` exactly where it was shut before, and the turn leaves it as it was.
-/// After `Disk` and `NoMemory` what waits is sealed as one epoch more, or waits as it did, and some seats may have their views. Nothing is published then, of
-/// which the clauses say only that the published number does not fall.
+/// After `Disk` and `NoMemory` what waits is sealed as one epoch more, or none waited, and the first seats, but not all, have their views; or what waits
+/// waits as it did, and no seat has a new view. What is retired or free is as it was, and so is what is lost, but where the disk failed in sealing: then
+/// the region that the epoch was to take is. Nothing is published then, of which the clauses say only that the published number does not fall.
 pub fn seal_and_post<D: LogDisk, W: Wait>(
     rt: &W,
     hall: &RoomHall<D>,

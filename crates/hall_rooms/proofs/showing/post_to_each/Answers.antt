@@ -51,4 +51,4 @@ returns-in_err-post_to-clause-posts g c =
     let p = err_from_is_err_and c.from_residual.result c.from_residual.ensures.1 in
     let e : ◌≡◌ {A = Result (Unit {0}) RoomFault} c.from_residual.result (Err fault) = cc (p.1, p.2) in
     subst (PostsEachOr x c.args.room.now c.post_to.new.room c.post_to.new.pass) (sym e)
-    (each_lacks x c.loop-i.i (c.loop-i.i + 1) c.args.room.now c.loop-i.room c.post_to.new.room c.loop-i.pass c.post_to.new.pass fault b i.is_open i.at_first (c.in_err-post_to.ensures.posts b.note b.turn))
+    (each_lacks x c.loop-i.i (c.loop-i.i + 1) c.args.room.now c.loop-i.room c.post_to.new.room c.loop-i.pass c.post_to.new.pass fault b (let many = c.seats-seats.ensures in let below = c.loop-i-test.true in omega (arith, many, below)) i.is_open i.at_first (c.in_err-post_to.ensures.posts b.note b.turn))

@@ -38,8 +38,6 @@ module _ (job job' : Job) (measure : Measure) (free : List ℕ) where
   taken_long None n e h none long = absurd (true≢false (sym h))
   taken_long (Some k) n e h none long = subst (λ (j : Job). IfSome j.header (λ header. j.written + n ≡ body_len header)) (sym e) (omega (arith, none, long))
 
--- ---- writing
-
 -- ---- sealing
 
 -- nothing is asked of what was written where the disk does not tell its bytes

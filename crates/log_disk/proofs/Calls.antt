@@ -1,4 +1,4 @@
--- What each call of a disk leaves, for a caller that makes several.
+-- What a crash leaves behind a write that was begun, and behind a sync that succeeded.
 use Rattle.std.proofs.Common.{◌≡◌, ℕ, ◌+◌, subst}
 use Rattle.log_disk.specs.Disk.{Image, Told, Disk, SameOutside, HasGoneOn, HasSynced, IsToldOf, IsImageAt, unsynced_too, span_of}
 use Rattle.log_disk.specs.Moments.{Leaves, IsLeft}

@@ -1,4 +1,4 @@
--- What each call of a disk leaves, for a caller that makes several, on states of the disk.
+-- What calls of a disk leave of the images that a crash could have left since, on states of the disk.
 use Rattle.std.proofs.Common.{◌≡◌, ℕ, List, [], Some, None, refl, sym, subst, inl, inr, arith}
 use Rattle.std.specs.Prelude.{Option}
 use Rattle.log_disk.specs.Disk.{Image, Told, Disk, BothTold, HasGoneOn, HasSynced, Moment, IsToldOf, IsImageNow, Writes, Syncs}

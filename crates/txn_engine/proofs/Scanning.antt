@@ -27,8 +27,6 @@ use Rattle.txn_engine.specs.Txns.{HasAll, IsUnfitIn}
 use Rattle.txn_engine.proofs.Open.{one_content}
 use Rattle.txn_engine.proofs.Ending.{less_or_at}
 
--- ---- one bucket
-
 -- ---- one bucket behind another
 
 -- a view tells later what it told

@@ -1,6 +1,6 @@
 -- What each step at a mailbox, and at the published word, is allowed: the statements of the step lemmas.
 use Rattle.std.specs.Prelude.{◌≡◌, ℕ, suc, ◌+◌, ◌*◌, ◌<◌, ◌≤◌, List, [], ◌∷◌, slice_index, Bool, true, false, Option, Some, None, if◌then◌else◌}
-use Rattle.atomic_table.specs.Table.{State, Me}
+use Rattle.atomic_table.specs.Table.{State}
 use Rattle.fine_model.specs.declared.law.ViewState.{ViewState}
 use Rattle.fine_model.specs.declared.law.OpenedEye.{OpenedEye}
 use Rattle.fine_model.specs.Views.{counting}
@@ -18,9 +18,6 @@ use Rattle.fine_boxes.specs.Telling.{with_note, landing, Looked, Refreshed, Fetc
 
 module _ {T X N : Type 0} (kept : X → ℕ → List (Placed N) → State (Option T) (View X N (Reads N)) → Type 0) (legal : X → List (Placed N) → Type 0) (touches : ℕ → N → Bool)
     (seats : X → ℕ) (view : T → Option ViewState) (shows : X → List (Placed N) → ViewState → Type 0) (x : X) (slots id : ℕ) where
-  abbrev pub M : Type 0
-  M = Me (Option T) (View X N (Reads N))
-
   -- kind 10: the own mailbox is looked at; where it is fresh, the empty slot of the front comes into hand
   abbrev pub LooksStep : Type 0
   LooksStep = (v : View X N (Reads N)) (c : List (ℕ × Option T)) (m : BoxNote N) (i : ℕ) → v.beside.notes ≡ m ∷ [] → m.seat ≡ suc i → m.is_out ≡ false

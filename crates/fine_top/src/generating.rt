@@ -16,7 +16,7 @@ use crate::printing::{print_no_memory, print_reason, print_run};
 use crate::running::run_chain;
 use epoch_room::{Fit, Room};
 use fine_model::{Gate, Options, Outcome, Pairs, Ran, Reason, RunFault, Script};
-use log_commands::{Finish, find_chain};
+use log_commands::{Finish, Status, find_chain};
 use log_disk::LogDisk;
 use map_reader::read_map;
 use script_text::{GeneratedRun, Sink, generate};
@@ -100,7 +100,7 @@ fn print_counted<'x, K: Sink>(
     outcomes: &'x [Outcome],
     all_durable: bool,
     found: &'x Result<Pairs, RunFault>,
-) -> u8
+) -> Status
     ensures prints { PrintsCounted (numbers start (length script.now) lanes) script.now outcomes.now all_durable found.now result (K.written out.old) (K.written out.new) }
     ensures failed { result ≡ 5 → HasRisen (K.faults out.old) (K.faults out.new) }
 {
@@ -161,7 +161,7 @@ fn count_run<K: Sink, D: LogDisk>(
         &found,
     );
     Finish {
-        status,
+        status: status.number(),
         disk: room.into_disk(),
     }
 }
@@ -184,7 +184,7 @@ fn run_generated<K: Sink, D: LogDisk, G: Gate>(
     match run_chain(alloc, opened.chain, &script, &default_options(), disk, gate) {
         Ok((ran, room)) => count_run(alloc, start, lanes, &script, ran, room, out),
         Err(disk) => Finish {
-            status: print_no_memory(out),
+            status: print_no_memory(out).number(),
             disk,
         },
     }
@@ -213,7 +213,7 @@ pub(crate) fn generate_and_print<K: Sink, D: LogDisk, G: Gate>(
     match open_generated(alloc, start, count, lanes, &mut disk) {
         Ok(opened) => run_generated(alloc, opened, start, lanes, out, disk, gate),
         Err(fault) => Finish {
-            status: print_reason(out, Reason::Fault { fault }),
+            status: print_reason(out, Reason::Fault { fault }).number(),
             disk,
         },
     }

@@ -61,11 +61,11 @@ fn run_opened<K: Sink, D: LogDisk, G: Gate>(
     let script = opened.script;
     match run_chain(alloc, opened.chain, &script, options, disk, gate) {
         Ok((ran, room)) => Finish {
-            status: print_report(out, &script, &ran),
+            status: print_report(out, &script, &ran).number(),
             disk: room.into_disk(),
         },
         Err(disk) => Finish {
-            status: print_no_memory(out),
+            status: print_no_memory(out).number(),
             disk,
         },
     }
@@ -96,7 +96,7 @@ pub(crate) fn run_and_print<S: Source, K: Sink, D: LogDisk, G: Gate>(
     match open_run(alloc, script, &mut disk) {
         Ok(opened) => run_opened(alloc, opened, options, out, disk, gate),
         Err(reason) => Finish {
-            status: print_reason(out, reason),
+            status: print_reason(out, reason).number(),
             disk,
         },
     }

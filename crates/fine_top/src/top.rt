@@ -47,7 +47,10 @@ fn do_command<S: Source, K: Sink, D: LogDisk, G: Gate>(
         Command::Run { options } => run_and_print(alloc, &options, script, out, disk, gate),
         Command::Dump => {
             let (status, disk) = dump_and_print(alloc, out, disk);
-            Finish { status, disk }
+            Finish {
+                status: status.number(),
+                disk,
+            }
         }
         Command::Ranges => print_ranges(alloc, out, disk),
         Command::Merge => merge_and_print(alloc, out, disk),
@@ -77,12 +80,12 @@ fn obey<S: Source, K: Sink, D: LogDisk, G: Gate>(
         Ok(command) => match command {
             Some(command) => do_command(alloc, command, script, out, disk, gate),
             None => Finish {
-                status: print_reason(out, Reason::Words),
+                status: print_reason(out, Reason::Words).number(),
                 disk,
             },
         },
         Err(_) => Finish {
-            status: print_no_memory(out),
+            status: print_no_memory(out).number(),
             disk,
         },
     }

@@ -14,6 +14,7 @@ ghost use Rattle.log_commands.specs.Merged.{EndsRoom, KeepsLog, MergesLog, Print
 use crate::merged::merge_all;
 use crate::opening::{find_chain, open_fault};
 use crate::printing::{print_chain, print_fault};
+use crate::status::Status;
 use epoch_room::Room;
 use fine_model::RunFault;
 use log_disk::LogDisk;
@@ -37,11 +38,11 @@ fn print_found<K: Sink, D: LogDisk>(alloc: Global, out: &mut K, disk: D) -> Fini
     let mut disk = disk;
     match find_chain(alloc, &mut disk) {
         Ok(chain) => Finish {
-            status: print_chain(out, chain.parts.as_slice()),
+            status: print_chain(out, chain.parts.as_slice()).number(),
             disk,
         },
         Err(fault) => Finish {
-            status: print_fault(out, fault),
+            status: print_fault(out, fault).number(),
             disk,
         },
     }
@@ -80,7 +81,7 @@ fn print_merged<K: Sink, D: LogDisk>(
     out: &mut K,
     room: &Room<D>,
     merged: Result<(), RunFault>,
-) -> u8
+) -> Status
     ensures ends { PrintsMerged room.now merged result (K.written out.old) (K.written out.new) }
     ensures failed { result ≡ 5 → HasRisen (K.faults out.old) (K.faults out.new) }
 {
@@ -102,7 +103,7 @@ fn merge_room<K: Sink, D: LogDisk>(alloc: Global, out: &mut K, room: Room<D>) ->
     let merged = merge_all(alloc, &mut room);
     let status = print_merged(out, &room, merged);
     Finish {
-        status,
+        status: status.number(),
         disk: room.into_disk(),
     }
 }
@@ -121,7 +122,7 @@ fn merge_found<K: Sink, D: LogDisk>(alloc: Global, out: &mut K, disk: D) -> Fini
             merge_room(alloc, out, room)
         }
         Err((fault, disk)) => Finish {
-            status: print_fault(out, open_fault(fault)),
+            status: print_fault(out, open_fault(fault)).number(),
             disk,
         },
     }

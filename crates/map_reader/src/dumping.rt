@@ -13,26 +13,26 @@ ghost use Rattle.map_reader.specs.Dumps.{DumpsAny, DumpsWell, Ends, EndsRoom, Is
 use crate::map::read_map;
 use epoch_room::Room;
 use fine_model::{Bytes, Pairs, RunFault};
-use log_commands::{OUTPUT_FAILED, open_fault, print_fault};
+use log_commands::{Status, open_fault, print_fault};
 use log_disk::LogDisk;
 use reopen::open_log;
 use script_text::{Sink, write_dump};
 use std::alloc::Global;
 
 /// Prints pairs, and tells the status.
-fn print_pairs<K: Sink>(out: &mut K, pairs: &[(Bytes, Bytes)]) -> u8
+fn print_pairs<K: Sink>(out: &mut K, pairs: &[(Bytes, Bytes)]) -> Status
     ensures status { (result ≡ 5) ⊎ (result ≡ 0) }
     ensures puts { Puts (dump pairs.now) (result ≡ 5) (K.written out.old) (K.written out.new) }
     ensures failed { result ≡ 5 → HasRisen (K.faults out.old) (K.faults out.new) }
 {
     match write_dump(out, pairs) {
-        Ok(()) => 0,
-        Err(_) => OUTPUT_FAILED,
+        Ok(()) => Status::DONE,
+        Err(_) => Status::OUTPUT,
     }
 }
 
 /// Prints what was found, and tells the status.
-fn print_found<K: Sink>(out: &mut K, found: Result<Pairs, RunFault>) -> u8
+fn print_found<K: Sink>(out: &mut K, found: Result<Pairs, RunFault>) -> Status
     ensures prints { Prints found result (K.written out.old) (K.written out.new) }
     ensures failed { result ≡ 5 → HasRisen (K.faults out.old) (K.faults out.new) }
 {
@@ -43,7 +43,7 @@ fn print_found<K: Sink>(out: &mut K, found: Result<Pairs, RunFault>) -> u8
 }
 
 /// Reads the map of a room, prints it, and gives the disk back.
-fn dump_room<K: Sink, D: LogDisk>(alloc: Global, out: &mut K, room: Room<D>) -> (u8, D)
+fn dump_room<K: Sink, D: LogDisk>(alloc: Global, out: &mut K, room: Room<D>) -> (Status, D)
     requires no_job { room.room.job ≡ None }
     requires board { list_all is_empty room.room.board ≡ true }
     ensures ends { EndsRoom room (D.state result.1) result.0 (K.written out.old) (K.written out.new) }
@@ -57,7 +57,7 @@ fn dump_room<K: Sink, D: LogDisk>(alloc: Global, out: &mut K, room: Room<D>) -> 
 }
 
 /// Opens the log, reads and prints; all that `dump_and_print` says of it, in one clause.
-fn dump_log<K: Sink, D: LogDisk>(alloc: Global, out: &mut K, disk: D) -> (u8, D)
+fn dump_log<K: Sink, D: LogDisk>(alloc: Global, out: &mut K, disk: D) -> (Status, D)
     requires idle { IsIdle (D.state disk) }
     ensures ends { Ends (D.state disk) (D.state result.1) result.0 (K.written out.old) (K.written out.new) }
     ensures failed { result.0 ≡ 5 → HasRisen (K.faults out.old) (K.faults out.new) }
@@ -76,7 +76,7 @@ fn dump_log<K: Sink, D: LogDisk>(alloc: Global, out: &mut K, disk: D) -> (u8, D)
 ///
 /// The disk has 4 to 64 regions of 4 KiB to 64 MiB, whole KiB; nothing is unsynced, and no eye is open. The status is 0 where the pairs were printed; 7 where the chain, a row, an index entry or
 /// a tree is damaged, 6 where the disk failed, and 1 where memory ran out, with the fault's line alone; and 5 where the text could not be written whole.
-pub fn dump_and_print<K: Sink, D: LogDisk>(alloc: Global, out: &mut K, disk: D) -> (u8, D)
+pub fn dump_and_print<K: Sink, D: LogDisk>(alloc: Global, out: &mut K, disk: D) -> (Status, D)
     requires idle { IsIdle (D.state disk) }
 
     // What is printed, and why; and what becomes of the disk.

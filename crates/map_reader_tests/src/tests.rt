@@ -71,7 +71,7 @@ fn print(
     let plan = plan_of(alloc, failing)?;
     let disk = disk_of(alloc, change, plan)?;
     let (status, _disk) = dump_and_print(alloc, sink, disk);
-    Ok(status)
+    Ok(status.number())
 }
 
 /// The status, and whether what is printed of the log to a sink that has nothing is a text.

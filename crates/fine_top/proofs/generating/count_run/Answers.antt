@@ -15,6 +15,7 @@ into_disk-requires-clause-no_job g c κs within = read_job c.args.ran.fault c.ar
 pub returns-clause-counts : goal.returns-clause-counts
 unfolding counts_of
 returns-clause-counts g c =
+    rw c.number.ensures (
     run_counted (numbers c.args.start (length c.args.script.now) c.args.lanes) c.args.script.now c.args.ran c.args.room c.read_end-found.new.room (g.D.LogDisk.state c.into_disk.result) c.print_counted-status.result (g.K.Sink.written c.args.out.now)
     (g.K.Sink.written c.print_counted-status.new.out) c.read_end-found.result c.counts-all_durable.result.waiting c.as_slice.result.now c.counts-left.ensures.whole c.into_disk.ensures.disk c.read_end-found.ensures
-    (ap (λ (n : Counts). n.waiting) c.counts-all_durable.ensures.counts) c.as_slice.ensures c.print_counted-status.ensures.prints
+    (ap (λ (n : Counts). n.waiting) c.counts-all_durable.ensures.counts) c.as_slice.ensures c.print_counted-status.ensures.prints)

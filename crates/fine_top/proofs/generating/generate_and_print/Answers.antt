@@ -17,7 +17,8 @@ returns-in-Ok g c = λ left source.
 
 pub returns-in-Err : goal.returns-in-Err
 returns-in-Err g c = λ left source.
+    rw c.number.ensures (
     gen_does c.args.start c.args.count c.args.lanes left source (g.K.Sink.faults c.args.out.now, g.K.Sink.faults c.print_reason.new.out) (g.D.LogDisk.state c.args.disk) (g.D.LogDisk.state c.open_generated.new.disk) c.print_reason.result
     (g.K.Sink.written c.args.out.now) (g.K.Sink.written c.print_reason.new.out) c.requires.begins.idle c.regions-regions.ensures.sound c.print_reason.ensures.failed
     (early_ends (numbers c.args.start c.args.count c.args.lanes) (g.D.LogDisk.state c.args.disk) (g.D.LogDisk.state c.open_generated.new.disk) c.print_reason.result (g.K.Sink.written c.args.out.now) (g.K.Sink.written c.print_reason.new.out) c.in-Err.fault
-    c.in-Err.ensures.err c.print_reason.ensures.status c.print_reason.ensures.puts)
+    c.in-Err.ensures.err c.print_reason.ensures.status c.print_reason.ensures.puts))

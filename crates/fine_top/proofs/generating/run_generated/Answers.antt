@@ -11,4 +11,5 @@ returns-in-Ok-clause-counts g c =
 
 pub returns-clause-counts : goal.returns-clause-counts
 returns-clause-counts g c =
-    inr (lacks_memory (g.D.LogDisk.state c.args.disk) (g.D.LogDisk.state c.in-Err.disk) c.print_no_memory.result (g.K.Sink.written c.args.out.now) (g.K.Sink.written c.print_no_memory.new.out) c.in-Err.ensures.err c.print_no_memory.ensures.status c.print_no_memory.ensures.puts)
+    rw c.number.ensures (
+    inr (lacks_memory (g.D.LogDisk.state c.args.disk) (g.D.LogDisk.state c.in-Err.disk) c.print_no_memory.result (g.K.Sink.written c.args.out.now) (g.K.Sink.written c.print_no_memory.new.out) c.in-Err.ensures.err c.print_no_memory.ensures.status c.print_no_memory.ensures.puts))

@@ -21,8 +21,9 @@ returns-in-Ok g c =
 
 pub returns-in-Err : goal.returns-in-Err
 returns-in-Err g c =
+    rw c.number.ensures (
     run_does c.args.options.now (g.S.Source.left c.args.script.now) (g.S.Source.faults c.args.script.now, g.S.Source.faults c.open_run.new.source) (g.K.Sink.faults c.args.out.now, g.K.Sink.faults c.print_reason.new.out)
     (g.D.LogDisk.state c.args.disk) (g.D.LogDisk.state c.open_run.new.disk) c.print_reason.result (g.K.Sink.written c.args.out.now) (g.K.Sink.written c.print_reason.new.out)
     c.requires.begins.idle c.regions-regions.ensures.sound c.print_reason.ensures.failed
     (early_run c.args.options.now (HasRisen (g.S.Source.faults c.args.script.now) (g.S.Source.faults c.open_run.new.source)) (g.S.Source.left c.args.script.now) (g.D.LogDisk.state c.args.disk) (g.D.LogDisk.state c.open_run.new.disk)
-    c.print_reason.result (g.K.Sink.written c.args.out.now) (g.K.Sink.written c.print_reason.new.out) c.in-Err.reason c.in-Err.ensures.reason c.in-Err.ensures.early c.print_reason.ensures.status c.print_reason.ensures.puts)
+    c.print_reason.result (g.K.Sink.written c.args.out.now) (g.K.Sink.written c.print_reason.new.out) c.in-Err.reason c.in-Err.ensures.reason c.in-Err.ensures.early c.print_reason.ensures.status c.print_reason.ensures.puts))

@@ -21,12 +21,13 @@ returns-in-Run g c =
 
 pub returns-in-Dump : goal.returns-in-Dump
 returns-in-Dump g c =
+    rw c.number.ensures (
     as_meant c.args.command command.Dump
     (seen (g.S.Source.left c.args.script.now) (g.S.Source.faults c.args.script.now, g.S.Source.faults c.args.script.now) (g.K.Sink.faults c.args.out.now, g.K.Sink.faults c.dump_and_print-status.new.out)
     (g.D.LogDisk.state c.args.disk) (g.D.LogDisk.state c.dump_and_print-status.result.1) c.dump_and_print-status.result.0 (g.K.Sink.written c.args.out.now) (g.K.Sink.written c.dump_and_print-status.new.out)) c.in-Dump.is
     (dump_does (g.S.Source.left c.args.script.now) (g.S.Source.faults c.args.script.now, g.S.Source.faults c.args.script.now) (g.K.Sink.faults c.args.out.now, g.K.Sink.faults c.dump_and_print-status.new.out)
     (g.D.LogDisk.state c.args.disk) (g.D.LogDisk.state c.dump_and_print-status.result.1) c.dump_and_print-status.result.0 (g.K.Sink.written c.args.out.now) (g.K.Sink.written c.dump_and_print-status.new.out)
-    c.dump_and_print-status.ensures.output_failed c.dump_and_print-status.ensures.known c.dump_and_print-status.ensures.ends c.dump_and_print-status.ensures.sound c.dump_and_print-status.ensures.any c.dump_and_print-status.ensures.disk_failed c.dump_and_print-status.ensures.disk_told c.dump_and_print-status.ensures.damaged c.dump_and_print-status.ensures.still_told c.dump_and_print-status.ensures.beside)
+    c.dump_and_print-status.ensures.output_failed c.dump_and_print-status.ensures.known c.dump_and_print-status.ensures.ends c.dump_and_print-status.ensures.sound c.dump_and_print-status.ensures.any c.dump_and_print-status.ensures.disk_failed c.dump_and_print-status.ensures.disk_told c.dump_and_print-status.ensures.damaged c.dump_and_print-status.ensures.still_told c.dump_and_print-status.ensures.beside))
 
 pub returns-in-Merge : goal.returns-in-Merge
 returns-in-Merge g c =

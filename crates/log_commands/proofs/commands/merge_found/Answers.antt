@@ -23,10 +23,10 @@ returns-in-Ok-clause-ends g c =
     (g.K.Sink.written c.args.out.now) (g.K.Sink.written c.merge_room.new.out) c.merge_room.ensures.ends
 
 pub returns-in-Err-clause-ends : goal.returns-in-Err-clause-ends
-returns-in-Err-clause-ends g c = record {
+returns-in-Err-clause-ends g c = rw c.number.ensures (record {
   found = Err c.open_fault.result;
   is_found = subst (λ (f : RunFault). MergesLog (g.D.LogDisk.state c.args.disk) (g.D.LogDisk.state c.in-Err.disk) (Err f)) (sym c.open_fault.ensures)
       (unopened (g.D.LogDisk.state c.args.disk) (g.D.LogDisk.state c.in-Err.disk) c.requires.idle c.regions-regions.ensures.sound c.in-Err.fault c.in-Err.ensures.damage c.in-Err.ensures.failed c.in-Err.ensures.same);
   status_is = c.print_fault.ensures.status;
   printed = c.print_fault.ensures.puts;
-}
+})

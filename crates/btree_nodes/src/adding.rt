@@ -18,8 +18,8 @@ use crate::growth::row_of;
 use crate::insertion::put_at;
 use crate::leaf::value_in;
 use crate::tree::{Path, find_leaf};
-use fine_model::{Rec, Reply, number_of, number_text};
-use node_cache::{Bucket, NodeSource, bytes_of};
+use fine_model::{Bytes, Rec, Reply, number_of, number_text};
+use node_cache::{Bucket, NodeSource};
 use private_log::PrivateLog;
 use std::alloc::Global;
 
@@ -78,7 +78,7 @@ fn add_in(
     }
     let version = next_version(bucket, path.leaf)?;
     let plus = Rec::Plus {
-        key: bytes_of(alloc, key)?,
+        key: Bytes::from_slice(alloc, key)?,
         by,
     };
     let row = row_of(bucket.bucket(), path.leaf, version, plus);

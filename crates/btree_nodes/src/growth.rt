@@ -15,7 +15,7 @@ use crate::descent::place_among;
 use crate::leaf::value_of;
 use fine_model::format::MOST_IN_NODE;
 use fine_model::{Bytes, Copied, Items, Keys, Kids, NoMemory, Node, NodeId, Pairs, Rec, Row, Rows};
-use node_cache::{Bucket, bytes_of};
+use node_cache::Bucket;
 use node_record::is_below;
 use std::alloc::Global;
 
@@ -204,8 +204,8 @@ fn put_whole(
     ensures next { IfOk result (λ g. g.next ≤ next) }
 {
     let put = Rec::Put {
-        key: bytes_of(alloc, key)?,
-        value: bytes_of(alloc, value)?,
+        key: Bytes::from_slice(alloc, key)?,
+        value: Bytes::from_slice(alloc, value)?,
     };
     push_one(Items::new(alloc), at, next, put)
 }
@@ -234,8 +234,8 @@ fn split_leaf(
         key: middle.copy()?,
     };
     let put = Rec::Put {
-        key: bytes_of(alloc, key)?,
-        value: bytes_of(alloc, value)?,
+        key: Bytes::from_slice(alloc, key)?,
+        value: Bytes::from_slice(alloc, value)?,
     };
     let left = is_below(key, middle.as_slice());
     split_off(Items::new(alloc), at, next, middle, image, cut, put, left)

@@ -19,7 +19,7 @@ use crate::growth::{Growth, grow, has_room, row_of, version_of};
 use crate::tree::{Path, find_leaf};
 use fine_model::format::{GREATEST, GREATEST_DEPTH, NODE_NUMBERS};
 use fine_model::{Bytes, Items, NoMemory, NodeId, Rec, Row, Rows};
-use node_cache::{Bucket, NodeSource, bytes_of};
+use node_cache::{Bucket, NodeSource};
 use private_log::PrivateLog;
 use std::alloc::Global;
 
@@ -140,8 +140,8 @@ pub fn put_at(
     if has_room(bucket, path.leaf, key) {
         let version = next_version(bucket, path.leaf)?;
         let put = Rec::Put {
-            key: bytes_of(alloc, key)?,
-            value: bytes_of(alloc, value)?,
+            key: Bytes::from_slice(alloc, key)?,
+            value: Bytes::from_slice(alloc, value)?,
         };
         let row = row_of(bucket.bucket(), path.leaf, version, put);
         push_pair(alloc, bucket, log, row)?;

@@ -15,8 +15,8 @@ use crate::fault::TreeFault;
 use crate::growth::row_of;
 use crate::leaf::value_in;
 use crate::tree::{Path, find_leaf};
-use fine_model::Rec;
-use node_cache::{Bucket, NodeSource, bytes_of};
+use fine_model::{Bytes, Rec};
+use node_cache::{Bucket, NodeSource};
 use private_log::PrivateLog;
 use std::alloc::Global;
 
@@ -37,7 +37,7 @@ fn remove_at(
     }
     let version = next_version(bucket, path.leaf)?;
     let del = Rec::Del {
-        key: bytes_of(alloc, key)?,
+        key: Bytes::from_slice(alloc, key)?,
     };
     let row = row_of(bucket.bucket(), path.leaf, version, del);
     push_pair(alloc, bucket, log, row)?;

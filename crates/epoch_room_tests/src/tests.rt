@@ -64,7 +64,7 @@ fn new_room(alloc: Global, region_len: u64, stop: u64) -> Result<Room<MemDisk>, 
 fn text(alloc: Global, text: &[u8]) -> Result<Bytes, NoMemory>
     ensures { IfOk result (λ b. b ≡ text.now) }
 {
-    Ok(Items::from_vec(Vec::from_slice(alloc, text)?))
+    Bytes::from_slice(alloc, text)
 }
 
 // `put a 1` in a node.
@@ -507,7 +507,7 @@ fn value_in(pairs: &Pairs) -> Option<u8> {
     }
     let (key, value) = pairs.at(0);
     if key.as_slice() == b"a".as_slice() && value.len() == 1 {
-        Some(*value.at(0))
+        Some(value.as_slice()[0])
     } else {
         None
     }

@@ -6,6 +6,7 @@ ghost use Rattle.fine_model.specs.Trees.{bucket_of};
 
 mod becoming;
 mod bound_laws;
+mod bytes;
 mod chain_laws;
 mod copied;
 pub mod format;
@@ -18,6 +19,7 @@ mod version_laws;
 
 pub use becoming::{becomes_law, buckets_law, job_law, no_room_law, set_law};
 pub use bound_laws::bounds_law;
+pub use bytes::Bytes;
 pub use chain_laws::{
     behind_law, chain_law, closed_law, erased_law, free_law, freed_law, own_law, replace_law,
     rows_law, seal_law, tells_law,
@@ -33,9 +35,6 @@ pub use layout::{body_start, fits_in};
 pub use list::{Copied, Items, NoMemory};
 pub use numbers::{natural_of, natural_of_64, number_of, number_text};
 pub use version_laws::{arranged_law, ordered_law, permuted_law, sort_law, versions_law};
-
-/// A key, a value or a text.
-pub type Bytes = Items<u8>;
 
 pub type Keys = Items<Bytes>;
 

@@ -5,7 +5,7 @@ ghost use Rattle.std.specs.Int.{w64};
 ghost use Rattle.fine_model.specs.NumberText.{digits_worth, worth, is_i64, number_of, number_text};
 ghost use Rattle.fine_model.specs.Script.{natural_of};
 
-use crate::{Bytes, Items, NoMemory};
+use crate::{Bytes, NoMemory};
 use itoa::Buffer;
 use std::alloc::Global;
 
@@ -90,5 +90,5 @@ pub fn number_text(alloc: Global, number: i64) -> Result<Bytes, NoMemory>
     ensures { IfOk result (λ text. text ≡ number_text number) }
 {
     let mut buffer = Buffer::new();
-    Ok(Items::from_vec(Vec::from_slice(alloc, buffer.format(number).as_bytes())?))
+    Bytes::from_slice(alloc, buffer.format(number).as_bytes())
 }

@@ -25,9 +25,7 @@ fn copied<T: Copied + Drop>(item: T, alloc: Global) -> Result<(), NoMemory> {
 }
 
 fn text(alloc: Global) -> Result<Bytes, NoMemory> {
-    let mut bytes: Bytes = Items::new(alloc);
-    bytes.push(97)?;
-    Ok(bytes)
+    Bytes::from_slice(alloc, b"a")
 }
 
 fn part() -> Part {

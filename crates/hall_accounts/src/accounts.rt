@@ -3,7 +3,7 @@
 ghost use Rattle.std.specs.Prelude.{◌≡◌, ◌≤◌, [], ◌∷◌, length, IfSome};
 ghost use Rattle.fine_model.specs.Bounds.{FitsCall};
 
-use fine_model::{Bytes, Call, Items, Reply};
+use fine_model::{Bytes, Call, Reply};
 use std::alloc::Global;
 
 /// The lowest account of a scan, and the first one that is not in it.
@@ -14,8 +14,8 @@ const END: u8 = 255;
 fn copy_of(alloc: Global, bytes: &[u8]) -> Option<Bytes>
     ensures { IfSome result (λ copy. copy ≡ bytes.now) }
 {
-    match Vec::from_slice(alloc, bytes) {
-        Ok(bytes) => Some(Items::from_vec(bytes)),
+    match Bytes::from_slice(alloc, bytes) {
+        Ok(copy) => Some(copy),
         Err(_refused) => None,
     }
 }

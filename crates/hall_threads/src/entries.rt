@@ -17,7 +17,7 @@ const LAST: u64 = 4_611_686_018_427_387_904;
 fn text(alloc: Global, text: &[u8]) -> Result<Bytes, NoMemory>
     ensures { IfOk result (λ bytes. bytes ≡ text.now) }
 {
-    Ok(Items::from_vec(Vec::from_slice(alloc, text)?))
+    Bytes::from_slice(alloc, text)
 }
 
 fn the_key(alloc: Global) -> Result<Bytes, NoMemory>

@@ -1,4 +1,4 @@
-use fine_model::{Header, Items, Mark, NoMemory, NodeId, Range, Rec, Row, Rows};
+use fine_model::{Bytes, Header, Items, Mark, NoMemory, NodeId, Range, Rec, Row, Rows};
 use log_partition::{
     DecodeFault, HeaderFault, Partition, decode_body, encode, encoded_len, header_bytes,
     read_header,
@@ -135,8 +135,8 @@ fn a_header_over_two_regions_is_read_and_written(rt: HostRuntime) {
 fn a_body_is_read(rt: HostRuntime) -> Result<(), Fail> {
     let alloc = rt.alloc();
     let rows = decoded(alloc, &ONE_ROW, &PUT[41..])?;
-    let key = Items::from_vec(Vec::from_slice(alloc, b"a").ok().ok_or("memory")?);
-    let value = Items::from_vec(Vec::from_slice(alloc, b"1").ok().ok_or("memory")?);
+    let key = Bytes::from_vec(Vec::from_slice(alloc, b"a").ok().ok_or("memory")?);
+    let value = Bytes::from_vec(Vec::from_slice(alloc, b"1").ok().ok_or("memory")?);
     let node = NodeId {
         bucket: 97,
         number: 1,

@@ -1,5 +1,5 @@
 -- Of which cached leaves it is known that all their keys are of the bucket.
-use Rattle.std.specs.Prelude.{◌≡◌, ℕ, ◌==◌, nat_eq, Bool, true, false, List, unwrap_or, slice_get, IfSome}
+use Rattle.std.specs.Prelude.{◌≡◌, ℕ, ◌-◌, ◌==◌, nat_eq, nat_lt, if◌then◌else◌, Bool, true, false, List, get_or, IfSome}
 use Rattle.std.specs.List.{list_all}
 use Rattle.std.specs.Map.{lookup}
 use Rattle.fine_model.specs.declared.Node.{Node}
@@ -10,7 +10,7 @@ use Rattle.node_cache.specs.Originals.{IsKept}
 use Rattle.node_cache.specs.declared.marks.Marks.{Marks}
 
 abbrev pub is_marked : Marks → ℕ → Bool
-is_marked m n = unwrap_or (slice_get m.marks.items n) false
+is_marked m n = if nat_lt n 64 then get_or m.near n false else get_or m.far.items (n - 64) false
 
 -- all keys of a leaf are of a bucket; a node that is no leaf has none
 abbrev pub HasOwnKeys : ℕ → Node → Type 0

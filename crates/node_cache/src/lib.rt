@@ -30,7 +30,6 @@ mod undo;
 
 pub use cached::Cached;
 use original::{Original, keep_whole, restore};
-pub use pairs::bytes_of;
 use recent::{look_up, place_of};
 pub use source::NodeSource;
 
@@ -229,6 +228,7 @@ impl Bucket {
         ensures restored { (n : ℕ) → cached self.new n ≡ before self.old n }
     {
         restore_all(&mut self.nodes, &mut self.saved, &mut self.marks);
+        self.saved = IndexMap::new(*self.nodes.allocator());
     }
 
     /// Keeps all that was done since numbers were saved: each of these nodes has this epoch, and what was saved is forgotten. It
@@ -238,6 +238,7 @@ impl Bucket {
         ensures stamped { (n : ℕ) → cached self.new n ≡ after self.old epoch n }
     {
         stamp_all(&mut self.nodes, &mut self.saved, epoch);
+        self.saved = IndexMap::new(*self.nodes.allocator());
     }
 
     /// Removes nodes whose epoch is at most `published`, the least recently used first, until at most `keep` of these are left. All

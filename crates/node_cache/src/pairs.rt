@@ -7,16 +7,9 @@ ghost use Rattle.node_cache.specs.Undo.{TakesBack, with_value, IsOfLeaf};
 
 use crate::undo::{Step, pour};
 use fine_model::format::MOST_IN_NODE;
-use fine_model::{Bytes, Items, NoMemory, Pairs};
+use fine_model::{Bytes, NoMemory, Pairs};
 use node_record::find_pair;
 use std::alloc::Global;
-
-/// A list of the bytes of a slice. `NoMemory` is the only refusal.
-pub fn bytes_of(alloc: Global, bytes: &[u8]) -> Result<Bytes, NoMemory>
-    ensures { IfOk result (λ copy. copy ≡ bytes.now) }
-{
-    Ok(Items::from_vec(Vec::from_slice(alloc, bytes)?))
-}
 
 /// Sets the value of the pair at a place. Answers the one that stood there.
 pub fn exchange_value(alloc: Global, pairs: &mut Pairs, at: usize, value: Bytes) -> Bytes
@@ -24,7 +17,7 @@ pub fn exchange_value(alloc: Global, pairs: &mut Pairs, at: usize, value: Bytes)
     ensures stood { option_map (λ p. p.1) (slice_get pairs.old at) ≡ Some result }
     ensures set { pairs.new ≡ with_value pairs.old at value }
 {
-    let (key, stood) = pairs.replace(at, (Items::new(alloc), Items::new(alloc)));
+    let (key, stood) = pairs.replace(at, (Bytes::new(alloc), Bytes::new(alloc)));
     let _empty = pairs.replace(at, (key, value));
     stood
 }
@@ -44,7 +37,7 @@ pub fn set_pair(
 {
     match find_pair(pairs, key) {
         Ok(at) => {
-            let value = bytes_of(alloc, value)?;
+            let value = Bytes::from_slice(alloc, value)?;
             let value = exchange_value(alloc, pairs, at, value);
             Ok(Some(Step::Replaced { at, value }))
         }
@@ -52,7 +45,10 @@ pub fn set_pair(
             if pairs.len() == MOST_IN_NODE {
                 return Ok(None);
             }
-            let pair = (bytes_of(alloc, key)?, bytes_of(alloc, value)?);
+            let pair = (
+                Bytes::from_slice(alloc, key)?,
+                Bytes::from_slice(alloc, value)?,
+            );
             pairs.insert(at, pair)?;
             Ok(Some(Step::Inserted { at }))
         }

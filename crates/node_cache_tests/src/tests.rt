@@ -220,9 +220,7 @@ fn kept_known(alloc: Global) -> Result<(bool, [(bool, bool); 2]), NoMemory> {
 fn text(alloc: Global, byte: u8) -> Result<Bytes, NoMemory>
     ensures { IfOk result (λ text. length text ≡ 1) }
 {
-    let mut text = Items::new(alloc);
-    text.push(byte)?;
-    Ok(text)
+    Bytes::from_slice(alloc, &[byte])
 }
 
 /// A row of node 1.

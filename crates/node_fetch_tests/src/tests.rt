@@ -129,7 +129,7 @@ fn node(number: u32) -> NodeId {
 fn text(alloc: Global, text: &[u8; 1]) -> Result<Bytes, Fail>
     ensures { IfOk result (λ bytes. bytes ≡ text.now) }
 {
-    Ok(Items::from_vec(Vec::from_slice(alloc, text)?))
+    Ok(Bytes::from_vec(Vec::from_slice(alloc, text)?))
 }
 
 fn put(alloc: Global, number: u32, version: u64) -> Result<Row, Fail>

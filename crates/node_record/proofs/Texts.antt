@@ -1,5 +1,5 @@
 -- Which texts are numbers.
-use Rattle.std.proofs.Common.{◌≡◌, ℕ, ◌-◌, Bool, true, false, cond, ◌&&◌, List, ℤ, pos, negsuc, Some, None, refl, ap, subst, arith}
+use Rattle.std.proofs.Common.{◌≡◌, ℕ, Bool, true, false, cond, ◌&&◌, List, ℤ, pos, negsuc, Some, None, refl, ap, subst, arith}
 use Rattle.std.specs.Prelude.{bytes_eq, FitsSigned}
 use Rattle.std.specs.Int.{w64}
 use Rattle.std.proofs.lemmas.Bool.{le-leb}

@@ -22,6 +22,14 @@ impl From<AllocError> for RowFault {
     }
 }
 
+impl From<fine_model::NoMemory> for RowFault {
+    ghost from_gives = { λ _ e. e ≡ NoMemory };
+
+    fn from(_refused: fine_model::NoMemory) -> RowFault {
+        RowFault::NoMemory
+    }
+}
+
 impl<T: Drop> From<(fine_model::NoMemory, T)> for RowFault {
     ghost from_gives = { λ _ e. e ≡ NoMemory };
 

@@ -8,9 +8,9 @@ ghost use Rattle.node_record.specs.Reading.{Gives, Finds, within, text_at, byte_
 ghost use Rattle.node_record.specs.Writing.{Appends};
 
 use crate::fault::RowFault;
+use fine_model::Bytes;
 use fine_model::format::{MOST_IN_KEY, MOST_IN_VALUE, NODE_NUMBERS};
-use fine_model::{Bytes, Items};
-use std::alloc::{AllocError, Global};
+use std::alloc::Global;
 
 /// Appends bytes for which there is room.
 pub fn put(out: &mut Vec<u8>, bytes: &[u8])
@@ -162,19 +162,12 @@ pub fn pair_in(bytes: &[u8], start: usize, at: usize) -> Result<((&[u8], &[u8]),
     Ok(((&bytes[key_at..key_end], &bytes[key_end + 2..end]), end))
 }
 
-/// A copy of bytes.
-pub fn copy(alloc: Global, text: &[u8]) -> Result<Bytes, AllocError>
-    ensures { IfOk result (λ copy. copy ≡ text.now) }
-{
-    Ok(Items::from_vec(Vec::from_slice(alloc, text)?))
-}
-
 pub fn key(alloc: Global, bytes: &[u8], start: usize, at: usize) -> Result<(Bytes, usize), RowFault>
     requires { at ≤ length bytes.now }
     ensures { Gives (λ key. key) bytes.now start result (key_at (drop at bytes.now)) }
 {
     let (key, at) = key_in(bytes, start, at)?;
-    Ok((copy(alloc, key)?, at))
+    Ok((Bytes::from_slice(alloc, key)?, at))
 }
 
 #[tactic(auto, unfolding(crate::specs::Reading::child_at))]

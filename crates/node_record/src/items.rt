@@ -4,7 +4,7 @@ ghost use Rattle.std.specs.Prelude.{◌≡◌, ℕ, ◌≤◌, List, Option, [],
 ghost use Rattle.node_record.specs.Reading.{Gives, Passes, behind, ascending_at, key_at, pair_at, child_at, items_at};
 
 use crate::fault::RowFault;
-use crate::fields::{child, copy, key, key_in, pair_in, sure};
+use crate::fields::{child, key, key_in, pair_in, sure};
 use crate::places::is_below;
 use fine_model::{Bytes, Items};
 use std::alloc::Global;
@@ -43,7 +43,13 @@ impl Field for (Bytes, Bytes) {
         at: usize,
     ) -> Result<((Bytes, Bytes), usize), RowFault> {
         let ((key, value), at) = pair_in(bytes, start, at)?;
-        Ok(((copy(alloc, key)?, copy(alloc, value)?), at))
+        Ok((
+            (
+                Bytes::from_slice(alloc, key)?,
+                Bytes::from_slice(alloc, value)?,
+            ),
+            at,
+        ))
     }
 }
 

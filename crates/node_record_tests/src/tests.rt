@@ -25,7 +25,7 @@ const LEAF: [u8; 30] =
 fn bytes(alloc: Global, text: &[u8]) -> Result<Bytes, NoMemory>
     ensures { IfOk result (λ b. b ≡ text.now) }
 {
-    Ok(Items::from_vec(Vec::from_slice(alloc, text)?))
+    Bytes::from_slice(alloc, text)
 }
 
 fn row(bucket: u16, number: u32, version: u64, rec: Rec) -> Row

@@ -260,10 +260,9 @@ fn a_damaged_entry_is_told_at_its_place(rt: HostRuntime) -> Result<(), Fail> {
 fn row(alloc: Global, number: u32, version: u64) -> Result<Row, AllocError>
     ensures { IfOk result (λ r. r ≡ record { node = record { bucket = 7; number = number }; version = version; rec = rec.Del (97 ∷ []) }) }
 {
-    let mut key: Bytes = Items::new(alloc);
-    if key.push(97).is_err() {
+    let Ok(key) = Bytes::from_slice(alloc, b"a") else {
         return Err(AllocError);
-    }
+    };
     let node = NodeId { bucket: 7, number };
     Ok(Row {
         node,

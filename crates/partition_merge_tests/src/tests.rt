@@ -22,9 +22,7 @@ use std::test::*;
 fn text(alloc: Global, byte: u8) -> Result<Bytes, NoMemory>
     ensures { IfOk result (λ text. length text ≡ 1) }
 {
-    let mut text = Items::new(alloc);
-    text.push(byte)?;
-    Ok(text)
+    Bytes::from_slice(alloc, &[byte])
 }
 
 /// What a row says of the key `a`: a put of a value, a deletion, or the image of a leaf that has this key alone, or none.

@@ -59,7 +59,7 @@ fn prints_what_each_script_gives(rt: HostRuntime) -> Result<(), NoMemory> {
 }
 
 fn bytes(alloc: Global, text: &str) -> Result<Bytes, NoMemory> {
-    Ok(Items::from_vec(Vec::from_slice(alloc, text.as_bytes())?))
+    Bytes::from_slice(alloc, text.as_bytes())
 }
 
 /// The map of one pair.

@@ -2,7 +2,7 @@ ghost use Rattle.std.specs.Prelude.{◌≡◌, IfOk};
 ghost use Rattle.fine_model.specs.declared.Rec.TheVariants as rec;
 ghost use Rattle.fine_model.specs.RowBytes.{FitsRec};
 
-use fine_model::{Bytes, Items, NoMemory, NodeId, Rec, Row};
+use fine_model::{Bytes, NoMemory, NodeId, Rec, Row};
 use private_log::PrivateLog;
 use std::alloc::Global;
 use std::test::*;
@@ -14,7 +14,7 @@ const PUTS: [u8; 48] =
 fn text(alloc: Global, text: &[u8]) -> Result<Bytes, NoMemory>
     ensures { IfOk result (λ b. b ≡ text.now) }
 {
-    Ok(Items::from_vec(Vec::from_slice(alloc, text)?))
+    Bytes::from_slice(alloc, text)
 }
 
 fn put(alloc: Global, version: u64, value: &[u8; 1]) -> Result<Row, NoMemory>

@@ -40,7 +40,7 @@ pub fn stop_at(alloc: Global, stop: u64) -> FaultPlan {
 pub fn text(alloc: Global, text: &[u8]) -> Result<Bytes, Refusal>
     ensures { IfOk result (λ b. b ≡ text.now) }
 {
-    Ok(Items::from_vec(Vec::from_slice(alloc, text).ok().ok_or("memory")?))
+    Ok(Bytes::from_vec(Vec::from_slice(alloc, text).ok().ok_or("memory")?))
 }
 
 // A value of so many bytes.
@@ -50,7 +50,7 @@ pub fn value(alloc: Global, len: usize) -> Result<Bytes, Refusal>
     ensures some { IfOk result (λ b. 1 ≤ length b) }
     ensures few { IfOk result (λ b. length b ≤ 256) }
 {
-    Ok(Items::from_vec(vec![in alloc; b'v'; len].ok().ok_or("memory")?))
+    Ok(Bytes::from_vec(vec![in alloc; b'v'; len].ok().ok_or("memory")?))
 }
 
 // A row of a version that puts a value at the key `a` in a node.

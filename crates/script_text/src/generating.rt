@@ -39,7 +39,7 @@ fn joined(alloc: Global, first: &[u8], number: u64, last: &[u8]) -> Result<Bytes
     let mut key = Vec::from_slice(alloc, first)?;
     key.extend_from_slice(digits)?;
     key.extend_from_slice(last)?;
-    Ok(Items::from_vec(key))
+    Ok(Bytes::from_vec(key))
 }
 
 /// A key that is put.
@@ -63,7 +63,7 @@ fn counter_key(alloc: Global, counter: u64) -> Result<Bytes, NoMemory>
 fn letters(alloc: Global, n: usize) -> Result<Bytes, NoMemory>
     ensures { IfOk result (λ value. value ≡ replicate n 118) }
 {
-    Ok(Items::from_vec(vec![in alloc; b'v'; n]?))
+    Ok(Bytes::from_vec(vec![in alloc; b'v'; n]?))
 }
 
 /// A put of so many letters.

@@ -8,7 +8,7 @@ ghost use Rattle.script_text.specs.Fits.{AreWords, FitsLine};
 
 use super::search::place_of;
 use fine_model::format::{MOST_IN_KEY, MOST_IN_VALUE};
-use fine_model::{Bytes, Call, Ending, Items, NoMemory, natural_of, number_of};
+use fine_model::{Bytes, Call, Ending, NoMemory, natural_of, number_of};
 use std::alloc::Global;
 
 /// What a line says.
@@ -90,7 +90,7 @@ fn words_behind(rest: &[u8]) -> Arguments<'_>
 fn bytes(alloc: Global, word: &[u8]) -> Result<Bytes, NoMemory>
     ensures { IfOk result (λ bytes. bytes ≡ word.now) }
 {
-    Ok(Items::from_vec(Vec::from_slice(alloc, word)?))
+    Bytes::from_slice(alloc, word)
 }
 
 fn is_word(word: &[u8], name: &[u8]) -> bool

@@ -10,7 +10,7 @@ use script_text::{
 use std::alloc::Global;
 
 fn bytes(alloc: Global, text: &str) -> Result<Bytes, NoMemory> {
-    Ok(Items::from_vec(Vec::from_slice(alloc, text.as_bytes())?))
+    Bytes::from_slice(alloc, text.as_bytes())
 }
 
 fn sink(alloc: Global, room: usize) -> Result<MemSink, NoMemory> {

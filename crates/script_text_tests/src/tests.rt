@@ -11,7 +11,7 @@ use script_text::{
 use std::alloc::Global;
 
 fn bytes(alloc: Global, text: &str) -> Result<Bytes, NoMemory> {
-    Ok(Items::from_vec(Vec::from_slice(alloc, text.as_bytes())?))
+    Bytes::from_slice(alloc, text.as_bytes())
 }
 
 /// What is read of a text, by the word of the answer and its line.
@@ -195,7 +195,7 @@ fn call(
         "get" => Call::Get { key },
         "put" => Call::Put {
             key,
-            value: Items::new(alloc),
+            value: Bytes::new(alloc),
         },
         "del" => Call::Del { key },
         _ => Call::Add { key, by: 1 },
@@ -237,10 +237,7 @@ fn calls(entry: &mut Entry, alloc: Global, value: Bytes) -> Result<(), NoMemory>
 
 /// An entry with each form of reply, the first one with a value of this length.
 fn entry(alloc: Global, length: u32) -> Result<Entry, NoMemory> {
-    let mut value = Items::new(alloc);
-    for _ in 0..length {
-        value.push(b'v')?;
-    }
+    let value = Bytes::from_vec(vec![in alloc; b'v'; length as usize]?);
     let mut entry = Entry {
         lane: 1,
         turn: 1,

@@ -6,14 +6,14 @@ ghost use Rattle.fine_model.specs.Pushed.{key_of};
 ghost use Rattle.fine_model.specs.RowBytes.{FitsKey, FitsValue};
 ghost use Rattle.txn_draft.specs.Drafts.{is_scan};
 
-use fine_model::{Bytes, Call, Items};
+use fine_model::{Bytes, Call};
 use std::alloc::{AllocError, Global};
 
 /// A copy of a text.
 pub fn text(alloc: Global, text: &[u8]) -> Result<Bytes, AllocError>
     ensures { IfOk result (λ b. b ≡ text.now) }
 {
-    Ok(Items::from_vec(Vec::from_slice(alloc, text)?))
+    Ok(Bytes::from_vec(Vec::from_slice(alloc, text)?))
 }
 
 /// A call that sets a key.

@@ -6,7 +6,7 @@ use super::fixtures::{KINDS, Kind, Tree, call, lay, on_bare};
 use super::limits::push;
 use super::scans::deep_rows;
 use btree_nodes::{TreeFault, scan};
-use fine_model::{FetchFault, Items, NoMemory, NodeId, Pairs};
+use fine_model::{Bytes, FetchFault, Items, NoMemory, NodeId, Pairs};
 use std::alloc::Global;
 use std::test::*;
 
@@ -166,7 +166,7 @@ fn end_of_scan(tree: &mut Tree, out: &mut Pairs) -> Ends {
 /// So behind a pair that is put there before. Where it fails, the pair is all that is there.
 fn scan_behind(tree: &mut Tree, out: &mut Pairs) -> Ends {
     if out
-        .push((Items::new(tree.alloc), Items::new(tree.alloc)))
+        .push((Bytes::new(tree.alloc), Bytes::new(tree.alloc)))
         .is_err()
     {
         return Ends::Otherwise;

@@ -99,7 +99,7 @@ returns c =
     let version = c.in_ok-version.ensures in
     let small = subst (λ v. v ≤ 4611686018427387904) version.0 version.1 in
     let same : c.row_of-row.result ≡ leaf_row b key path is (rec.Plus key c.args.by) =
-    c.row_of-row.ensures ∙ (λ i. row_of (c.bucket.ensures i) path.leaf (version.0 i) (rec.Plus (c.in_ok-bytes_of.ensures i) (to_z-of_z c.ranges.by i))) in record {
+    c.row_of-row.ensures ∙ (λ i. row_of (c.bucket.ensures i) path.leaf (version.0 i) (rec.Plus (c.in_ok-from_slice.ensures i) (to_z-of_z c.ranges.by i))) in record {
       outcome = (
         said at,
         record { here = is.here; fit = is.fit },

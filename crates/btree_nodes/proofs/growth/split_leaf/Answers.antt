@@ -15,11 +15,11 @@ returns-clause-grown c =
     let image : c.in_ok-copy_all.field-0 ≡ drop 16 pairs = (c.in_ok-copy_all.ensures) ∙ rest_from 16 c.as_slice.result.now ∙ ap (drop 16) c.as_slice.ensures in
     let cut : c.in_ok-copy.field-0 ≡ key_at pairs 16 = (c.in_ok-copy.ensures) ∙ middle in
     let left : c.is_below-left.result ≡ is_below c.args.key.now (key_at pairs 16) = c.is_below-left.ensures ∙ ap (is_below c.args.key.now) (c.as_slice-2.ensures ∙ middle) in
-    let key : c.in_ok-bytes_of.field-0 ≡ c.args.key.now = (c.in_ok-bytes_of.ensures) in
-    let value : c.in_ok-bytes_of-2.field-0 ≡ c.args.value.now = (c.in_ok-bytes_of-2.ensures) in
+    let key : c.in_ok-from_slice.field-0 ≡ c.args.key.now = (c.in_ok-from_slice.ensures) in
+    let value : c.in_ok-from_slice-2.field-0 ≡ c.args.value.now = (c.in_ok-from_slice-2.ensures) in
     let at = c.args.at in
     if_ok
-    (λ (g : Growth). grown_of g ≡ record { rows = c.new.result ++ split_rows at.bucket at.number at.version c.args.next (rec.LeafImage c.in_ok-copy_all.field-0) (rec.CutLeaf c.in_ok-copy.field-0) (rec.Put c.in_ok-bytes_of.field-0 c.in_ok-bytes_of-2.field-0) c.is_below-left.result; next = c.args.next + 1; split = Some (c.middle_key-middle.result.now, c.args.next) })
+    (λ (g : Growth). grown_of g ≡ record { rows = c.new.result ++ split_rows at.bucket at.number at.version c.args.next (rec.LeafImage c.in_ok-copy_all.field-0) (rec.CutLeaf c.in_ok-copy.field-0) (rec.Put c.in_ok-from_slice.field-0 c.in_ok-from_slice-2.field-0) c.is_below-left.result; next = c.args.next + 1; split = Some (c.middle_key-middle.result.now, c.args.next) })
     (λ (g : Growth). grown_of g ≡ split_leaf at.bucket at.number at.version c.args.next (c.args.key.now, c.args.value.now) pairs (key_at pairs 16)) c.split_off.result
     (λ g is. is
     ∙ (λ i. record {

@@ -39,7 +39,7 @@ returns-then-has_room c =
     let version = c.in_ok-version.ensures in
     let small = subst (λ v. v ≤ 4611686018427387904) version.0 version.1 in
     let same : c.row_of-row.result ≡ leaf_row b key path is (rec.Put key value) =
-    c.row_of-row.ensures ∙ (λ i. row_of (c.bucket.ensures i) path.leaf (version.0 i) (rec.Put (c.in_ok-bytes_of.ensures i) (c.in_ok-bytes_of-2.ensures i))) in record {
+    c.row_of-row.ensures ∙ (λ i. row_of (c.bucket.ensures i) path.leaf (version.0 i) (rec.Put (c.in_ok-from_slice.ensures i) (c.in_ok-from_slice-2.ensures i))) in record {
       outcome = (
         tt,
         record { here = is.here; fit = is.fit },

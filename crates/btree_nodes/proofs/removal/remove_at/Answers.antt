@@ -32,7 +32,7 @@ returns c =
     let there : has (pairs_in b key) key ≡ true = sym (there_by b key path c.requires.path _ c.value_in.ensures) ∙ copied_there c.value_in.result ∙ c.if-is_none.ensures in
     let version = (c.in_ok-version.ensures) in
     let same : c.row_of-row.result ≡ leaf_row b key path c.requires.path (rec.Del key) =
-    c.row_of-row.ensures ∙ (λ i. row_of (c.bucket.ensures i) path.leaf (version.0 i) (rec.Del (c.in_ok-bytes_of.ensures i))) in record {
+    c.row_of-row.ensures ∙ (λ i. row_of (c.bucket.ensures i) path.leaf (version.0 i) (rec.Del (c.in_ok-from_slice.ensures i))) in record {
       outcome = (
         sym there,
         record { here = c.requires.path.here; fit = c.requires.path.fit },

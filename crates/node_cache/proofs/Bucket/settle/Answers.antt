@@ -11,7 +11,7 @@ invariant_of-self c =
     let inside = c.self.inside in
     let os = originals inside.saved.entries in
     record {
-      kept = fresh _ _ c.stamp_all.ensures.saved c.stamp_all.ensures.unique;
+      kept = fresh _ _ c.new.ensures.empty c.stamp_all.ensures.unique;
       marked = marked_stamped inside.bucket c.args.epoch inside.marks inside.nodes.entries c.stamp_all.new.nodes.entries (λ n. is_some (lookup (nat_eq n) os)) c.self.invariant.marked
           (λ n. ap (lookup (nat_eq n)) c.stamp_all.ensures.nodes ∙ finds_stamped c.args.epoch os n inside.nodes.entries);
     }

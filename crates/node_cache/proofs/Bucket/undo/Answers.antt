@@ -6,7 +6,7 @@ use Rattle.node_cache.proofs.Restored.{finds_restored}
 use Rattle.node_cache.proofs.Bucket.undo.Goals as goal
 
 pub invariant_of-self : goal.invariant_of-self
-invariant_of-self c = record { kept = fresh _ _ c.restore_all.ensures.saved c.restore_all.ensures.unique; marked = c.restore_all.ensures.marks c.self.inside.bucket c.self.invariant.marked }
+invariant_of-self c = record { kept = fresh _ _ c.new.ensures.empty c.restore_all.ensures.unique; marked = c.restore_all.ensures.marks c.self.inside.bucket c.self.invariant.marked }
 
 pub returns-clause-restored : goal.returns-clause-restored
 returns-clause-restored c =

@@ -36,10 +36,10 @@ returns-in_ok-insert-in-Err-clause-step c =
     let ps = c.args.pairs.now in
     let key = c.args.key.now in
     let at = c.in-Err.at in
-    let p : Pair = (c.in_ok-bytes_of-in-Err.field-0, c.in_ok-bytes_of-in-Err-2.field-0) in
+    let p : Pair = (c.in_ok-from_slice-in-Err.field-0, c.in_ok-from_slice-in-Err-2.field-0) in
     let is = c.in_ok-insert-in-Err.ensures.ok in
     let within : at ≤ length ps = (c.in-Err.ensures).within in (
-      is ∙ (λ i. insert ps at (c.in_ok-bytes_of-in-Err.ensures i, c.in_ok-bytes_of-in-Err-2.ensures i)) ∙ set_absent ps key at c.in-Err.ensures c.args.value.now,
+      is ∙ (λ i. insert ps at (c.in_ok-from_slice-in-Err.ensures i, c.in_ok-from_slice-in-Err-2.ensures i)) ∙ set_absent ps key at c.in-Err.ensures c.args.value.now,
       omega (arith, ap length is, length-insert_one ps at p within, within),
       ap (λ qs. remove qs at) is ∙ remove_inserted ps at p within,
     )

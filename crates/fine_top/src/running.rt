@@ -17,6 +17,7 @@ use log_disk::LogDisk;
 use reopen::Chain;
 use script_text::{Sink, Source};
 use std::alloc::Global;
+use std::mem;
 use txn_runner::run_lanes;
 
 /// Makes the room of a chain, and runs a script on it; or there was no memory for the room, and the disk is as it was.
@@ -60,10 +61,16 @@ fn run_opened<K: Sink, D: LogDisk, G: Gate>(
 {
     let script = opened.script;
     match run_chain(alloc, opened.chain, &script, options, disk, gate) {
-        Ok((ran, room)) => Finish {
-            status: print_report(out, &script, &ran).number(),
-            disk: room.into_disk(),
-        },
+        Ok((ran, room)) => {
+            let status = print_report(out, &script, &ran).number();
+            // The program ends behind this: to give back block by block what each transaction has in memory takes a tenth of a long run.
+            mem::forget(script);
+            mem::forget(ran);
+            Finish {
+                status,
+                disk: room.into_disk(),
+            }
+        }
         Err(disk) => Finish {
             status: print_no_memory(out).number(),
             disk,

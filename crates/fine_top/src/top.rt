@@ -106,6 +106,8 @@ fn obey<S: Source, K: Sink, D: LogDisk, G: Gate>(
 /// line; 4 where the source failed; 5 where the output failed; 6 where the disk failed; 7 where the log is damaged. With 0 and 8 the command's whole text is printed. With 1, 6 and 7 it is
 /// the line of the fault, behind what a run of `run` or `gen` came to; with 2, 3 and 4 the line of the reason alone; with 5 a first part of one of these. The disk comes back with every status,
 /// and with 2, 3 and 4 as it was; `dump` and `ranges` write nothing to it.
+///
+/// The memory of the script of `run` and of its outcomes is not given back, as the program ends behind this call.
 pub fn fineline<R: Threads + Wait + Sync, S: Source, K: Sink, D: LogDisk, G: Gate>(
     rt: &R,
     alloc: Global,

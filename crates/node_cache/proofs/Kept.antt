@@ -205,7 +205,7 @@ keys_whole t es = by (lookup t es) refl
     by None is = ap keys_of (whole_none t es is)
     by (Some o) is = ap keys_of (whole_some t es o is) ∙ keys-set_value t es (made_whole o)
 
-other_whole : (k q : ℕ) → nat_eq k q ≡ false → (es : Saved) → lookup (nat_eq q) (whole_at (nat_eq k) es) ≡ lookup (nat_eq q) es
+pub other_whole : (k q : ℕ) → nat_eq k q ≡ false → (es : Saved) → lookup (nat_eq q) (whole_at (nat_eq k) es) ≡ lookup (nat_eq q) es
 other_whole k q differs es = by (lookup (nat_eq k) es) refl
   where
     by : (o : Option Original) → lookup (nat_eq k) es ≡ o → lookup (nat_eq q) (whole_at (nat_eq k) es) ≡ lookup (nat_eq q) es

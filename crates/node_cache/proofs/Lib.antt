@@ -5,6 +5,7 @@ pub mod Evicted
 pub mod PairSteps
 pub mod Poured
 pub mod Kept
+pub mod Saves
 pub mod Marked
 pub mod StepLemmas
 pub mod Noted

@@ -1,5 +1,5 @@
 -- Saved nodes, put back or stamped one after the other.
-use Rattle.std.proofs.Common.{◌≡◌, ℕ, Bool, true, false, cond, if◌then◌else◌, List, [], ◌∷◌, ◌++◌, map, Option, Some, None, option_map, unwrap_or, is_some, IsSome, ◌↔◌, ◌<◌, length, arith, nat_eq, eq-eqb, eqb-true, refl, sym, ap, ◌∙◌, subst, true≢false}
+use Rattle.std.proofs.Common.{◌≡◌, ℕ, Bool, true, false, cond, if◌then◌else◌, List, [], ◌∷◌, ◌++◌, map, Option, Some, None, option_map, unwrap_or, is_some, nat_eq, eq-eqb, eqb-true, refl, sym, ap, ◌∙◌, subst, true≢false}
 use Rattle.std.specs.List.{filter_map, cons_option, IsDistinct, AllByRecursion}
 use Rattle.std.specs.Map.{keys_of, lookup, remove_entry, set_value}
 use Rattle.std.proofs.lemmas.Bool.{cond-true, cond-false}
@@ -208,8 +208,3 @@ finds_stamped epoch saved q (e ∷ es) = by (nat_eq q e.0) refl (finds_stamped e
         ≡ (if is_some (lookup (nat_eq q) saved) then option_map (stamped epoch) (cond b (Some e.1) (lookup (nat_eq q) es)) else cond b (Some e.1) (lookup (nat_eq q) es))
     by true equal later = same equal (is_some (lookup (nat_eq e.0) saved)) ∙ ap (λ n. if is_some (lookup (nat_eq n) saved) then Some (stamped epoch e.1) else Some e.1) (sym (eqb-true q e.0 equal))
     by false differs later = other differs (is_some (lookup (nat_eq e.0) saved)) ∙ later
-
--- nothing was left to be taken off
-pub emptied : {A X : Type 0} (es : List X) (r : Option A) → r ≡ None → IsSome r ↔ (0 < length es) → es ≡ []
-emptied [] r none found = refl
-emptied (x ∷ xs) r none found = absurd (true≢false (sym (found.1 (omega arith)) ∙ ap is_some none))

@@ -3,6 +3,7 @@ pub mod Undo
 pub mod Entries
 pub mod Cache
 pub mod Originals
+pub mod Saves
 pub mod Codes
 pub mod Changing
 pub mod Given

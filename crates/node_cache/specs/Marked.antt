@@ -5,7 +5,8 @@ use Rattle.std.specs.Map.{lookup}
 use Rattle.fine_model.specs.declared.Node.{Node}
 use Rattle.fine_model.specs.Trees.{bucket_of, pairs_of}
 use Rattle.node_cache.specs.declared.cached.Cached.{Cached}
-use Rattle.node_cache.specs.declared.original.Original.{Original}
+use Rattle.node_cache.specs.declared.saved.Saved.{Saved}
+use Rattle.node_cache.specs.Saves.{saved_in, IsOnce}
 use Rattle.node_cache.specs.Originals.{IsKept}
 use Rattle.node_cache.specs.declared.marks.Marks.{Marks}
 
@@ -21,6 +22,7 @@ pub record AreMarked (bucket : ℕ) (m : Marks) (nodes : List (ℕ × Cached)) :
   pub each : (n : ℕ) → is_marked m n ≡ true → IfSome (lookup (nat_eq n) nodes) (λ kept. HasOwnKeys bucket kept.node)
 
 -- what holds of each bucket inside
-pub record IsInside (bucket : ℕ) (nodes : List (ℕ × Cached)) (saved : List (ℕ × Original)) (m : Marks) : Type 0 where
-  pub kept : IsKept nodes saved
+pub record IsInside (bucket : ℕ) (nodes : List (ℕ × Cached)) (saved : Saved) (m : Marks) : Type 0 where
+  pub kept : IsKept nodes (saved_in saved)
+  pub once : IsOnce saved
   pub marked : AreMarked bucket m nodes

@@ -4,12 +4,13 @@ ghost use Rattle.std.specs.Prelude.{◌≡◌, ◌≤◌, IfOk, OnErr, is_some, 
 ghost use Rattle.std.specs.Map.{lookup};
 ghost use Rattle.indexmap.specs.IndexMap.{IsUnique};
 ghost use Rattle.fine_model.specs.RowBytes.{most_in_node};
+ghost use Rattle.node_cache.specs.Saves.{saved_in, IsOnce};
 ghost use Rattle.node_cache.specs.Undo.{TakesBack, IsOfLeaf};
 ghost use Rattle.node_cache.specs.Changing.{changes_pair, changes_leaf, changed_pairs, StepsBack, IsNoted, ChangesPair, FitsChange};
 
 use crate::cached::Cached;
-use crate::original::{Original, note};
 use crate::pairs::{cut_pairs, set_pair, unset_pair};
+use crate::saved::Saved;
 use crate::undo::{Step, UndoLog, rewind};
 use fine_model::{Items, NoMemory, Node, Pairs, Rec, Row};
 use indexmap::IndexMap;
@@ -56,16 +57,16 @@ fn step_pair(alloc: Global, kept: &mut Cached, row: &Row) -> Result<Option<Step>
 fn change_kept(
     alloc: Global,
     kept: &mut Cached,
-    saved: &mut IndexMap<u32, Original>,
+    saved: &mut Saved,
     row: &Row,
 ) -> Result<bool, NoMemory>
     requires row { FitsChange row.now }
-    requires unique { IsUnique nat_eq saved.old }
+    requires once { IsOnce saved.old }
     ensures done { IfOk result (λ done. done ≡ changes_pair kept.old row.now) }
-    ensures noted { IfOk result (λ done. IsNoted done kept.old kept.new saved.old.entries saved.new.entries row.now) }
-    ensures unique { IsUnique nat_eq saved.new }
+    ensures noted { IfOk result (λ done. IsNoted done kept.old kept.new (saved_in saved.old) (saved_in saved.new) row.now) }
+    ensures once { IsOnce saved.new }
     ensures err_kept { OnErr result (kept.new ≡ kept.old) }
-    ensures err_saved { OnErr result (saved.new.entries ≡ saved.old.entries) }
+    ensures err_saved { OnErr result ((saved_in saved.new) ≡ (saved_in saved.old)) }
 {
     let original = Snapshot::of(kept);
     let version = kept.version;
@@ -80,7 +81,7 @@ fn change_kept(
         earlier: Items::new(alloc),
         last,
     };
-    if let Err(undo) = note(saved, row.node.number, undo) {
+    if let Err(undo) = saved.note(row.node.number, undo) {
         rewind(alloc, kept, undo);
         return Err(NoMemory);
     }
@@ -90,14 +91,14 @@ fn change_kept(
 /// Does to a cached leaf what a row says of its pairs, and saves what takes this back. Answers whether it did.
 pub fn change_pair(
     nodes: &mut IndexMap<u32, Cached>,
-    saved: &mut IndexMap<u32, Original>,
+    saved: &mut Saved,
     row: &Row,
 ) -> Result<bool, NoMemory>
     requires row { FitsChange row.now }
-    requires unique { IsUnique nat_eq saved.old }
-    ensures change { ChangesPair result nodes.old.entries nodes.new.entries saved.old.entries saved.new.entries row.now }
+    requires once { IsOnce saved.old }
+    ensures change { ChangesPair result nodes.old.entries nodes.new.entries (saved_in saved.old) (saved_in saved.new) row.now }
     ensures unique_nodes { IsUnique nat_eq nodes.new }
-    ensures unique_saved { IsUnique nat_eq saved.new }
+    ensures once { IsOnce saved.new }
 {
     let alloc = *nodes.allocator();
     match nodes.get_mut(&row.node.number) {

@@ -9,6 +9,7 @@ ghost use Rattle.fine_model.specs.RowBytes.{FitsRec, greatest};
 ghost use Rattle.indexmap.specs.IndexMap.{IsUnique};
 ghost use Rattle.node_cache.specs.Entries.{as_saved, stamped_at, settled_entry, is_published, without_first};
 ghost use Rattle.node_cache.specs.Originals.{originals, IsKept};
+ghost use Rattle.node_cache.specs.Saves.{saved_in, IsOnce};
 ghost use Rattle.node_cache.specs.Marked.{AreMarked};
 ghost use Rattle.std.specs.Borrow.{sem};
 
@@ -25,12 +26,14 @@ mod marks;
 mod original;
 mod pairs;
 mod recent;
+mod saved;
 mod source;
 mod undo;
 
 pub use cached::Cached;
-use original::{Original, keep_whole, restore};
+use original::{Original, restore};
 use recent::{look_up, place_of};
+use saved::Saved;
 pub use source::NodeSource;
 
 /// The cached nodes of a bucket by number, the least recently used first, and the originals of those that were saved.
@@ -42,13 +45,14 @@ pub use source::NodeSource;
 pub struct Bucket {
     bucket: u16,
     nodes: IndexMap<u32, Cached>,
-    saved: IndexMap<u32, Original>,
+    saved: Saved,
     marks: Marks,
 }
 
 impl Model for Bucket {
     ghost use Rattle.node_cache.specs.Cache.{Cache};
     ghost use Rattle.node_cache.specs.Originals.{originals};
+    ghost use Rattle.node_cache.specs.Saves.{saved_in};
     ghost use Rattle.node_cache.specs.Marked.{IsInside};
     ghost use Rattle.node_cache.specs.Codes.{cache_code};
 
@@ -56,9 +60,9 @@ impl Model for Bucket {
 
     ghost coded = { cache_code };
 
-    ghost view = { λ b. record { bucket = b.bucket; nodes = b.nodes.entries; saved = originals b.saved.entries } };
+    ghost view = { λ b. record { bucket = b.bucket; nodes = b.nodes.entries; saved = originals (saved_in b.saved) } };
 
-    ghost invariant = { λ b. IsInside b.bucket b.nodes.entries b.saved.entries b.marks };
+    ghost invariant = { λ b. IsInside b.bucket b.nodes.entries b.saved b.marks };
 }
 
 impl BucketLaw for Bucket {
@@ -84,7 +88,7 @@ impl Bucket {
         Bucket {
             bucket,
             nodes: IndexMap::new(alloc),
-            saved: IndexMap::new(alloc),
+            saved: Saved::new(alloc),
             marks: Marks::new(alloc),
         }
     }
@@ -163,7 +167,7 @@ impl Bucket {
         ensures elsewhere { OnOk result ((n : ℕ) → n ≢ number → cached self.new n ≡ cached self.old n) }
         ensures err { OnErr result (self.new ≡ self.old) }
     {
-        keep_whole(&self.nodes, &mut self.saved, number)?;
+        self.saved.keep_whole(&self.nodes, number)?;
         self.marks.take(number);
         self.nodes.insert(number, kept)?;
         self.touch(number);
@@ -178,11 +182,11 @@ impl Bucket {
         ensures before { (n : ℕ) → before self.new n ≡ before self.old n }
         ensures err { OnErr result (self.new ≡ self.old) }
     {
-        if self.saved.contains_key(&number) {
+        if self.saved.has(number) {
             return Ok(());
         }
         let original = copy_of(self.nodes.get(&number))?;
-        self.saved.insert(number, Original::Whole(original))?;
+        self.saved.push(number, Original::Whole(original))?;
         Ok(())
     }
 
@@ -195,7 +199,7 @@ impl Bucket {
         ensures value { IfOk result (λ kept. cached self.old number ≡ Some kept.now) }
         ensures* writes_back { sem 𝓛 (LendsNode self.entry number result) }
     {
-        keep_whole(&self.nodes, &mut self.saved, number)?;
+        self.saved.keep_whole(&self.nodes, number)?;
         self.marks.take(number);
         match self.nodes.get_mut(&number) {
             Some(kept) => Ok(kept),
@@ -228,7 +232,8 @@ impl Bucket {
         ensures restored { (n : ℕ) → cached self.new n ≡ before self.old n }
     {
         restore_all(&mut self.nodes, &mut self.saved, &mut self.marks);
-        self.saved = IndexMap::new(*self.nodes.allocator());
+        // The memory of many originals is given back: the next transaction, mostly of another bucket, then has memory that was used just now.
+        self.saved = Saved::new(*self.nodes.allocator());
     }
 
     /// Keeps all that was done since numbers were saved: each of these nodes has this epoch, and what was saved is forgotten. It
@@ -238,7 +243,8 @@ impl Bucket {
         ensures stamped { (n : ℕ) → cached self.new n ≡ after self.old epoch n }
     {
         stamp_all(&mut self.nodes, &mut self.saved, epoch);
-        self.saved = IndexMap::new(*self.nodes.allocator());
+        // As in `undo`.
+        self.saved = Saved::new(*self.nodes.allocator());
     }
 
     /// Removes nodes whose epoch is at most `published`, the least recently used first, until at most `keep` of these are left. All
@@ -268,15 +274,12 @@ fn copy_of(kept: Option<&Cached>) -> Result<Option<Cached>, NoMemory>
 }
 
 /// Puts each node back as it was saved, and takes its mark away.
-fn restore_all(
-    nodes: &mut IndexMap<u32, Cached>,
-    saved: &mut IndexMap<u32, Original>,
-    marks: &mut Marks,
-)
-    requires { IsKept nodes.old.entries saved.old.entries }
-    ensures nodes { nodes.new.entries ≡ filter_map (as_saved (originals saved.old.entries)) nodes.old.entries }
+fn restore_all(nodes: &mut IndexMap<u32, Cached>, saved: &mut Saved, marks: &mut Marks)
+    requires kept { IsKept nodes.old.entries (saved_in saved.old) }
+    requires once { IsOnce saved.old }
+    ensures nodes { nodes.new.entries ≡ filter_map (as_saved (originals (saved_in saved.old))) nodes.old.entries }
     ensures unique { IsUnique nat_eq nodes.new }
-    ensures saved { saved.new.entries ≡ [] }
+    ensures saved { saved_in saved.new ≡ [] }
     ensures marks { (bucket : ℕ) → AreMarked bucket marks.old nodes.old.entries → AreMarked bucket marks.new nodes.new.entries }
 {
     while let Some((number, original)) = saved.pop() {
@@ -296,11 +299,12 @@ fn stamp(nodes: &mut IndexMap<u32, Cached>, number: u32, epoch: u64)
 }
 
 /// Gives each node that was saved an epoch.
-fn stamp_all(nodes: &mut IndexMap<u32, Cached>, saved: &mut IndexMap<u32, Original>, epoch: u64)
-    requires { IsUnique nat_eq nodes.old }
-    ensures nodes { nodes.new.entries ≡ map (settled_entry epoch (originals saved.old.entries)) nodes.old.entries }
+fn stamp_all(nodes: &mut IndexMap<u32, Cached>, saved: &mut Saved, epoch: u64)
+    requires unique { IsUnique nat_eq nodes.old }
+    requires once { IsOnce saved.old }
+    ensures nodes { nodes.new.entries ≡ map (settled_entry epoch (originals (saved_in saved.old))) nodes.old.entries }
     ensures unique { IsUnique nat_eq nodes.new }
-    ensures saved { saved.new.entries ≡ [] }
+    ensures saved { saved_in saved.new ≡ [] }
 {
     while let Some((number, original)) = saved.pop() {
         drop(original);

@@ -35,7 +35,7 @@ fn is_changed(original: &Original) -> bool
 }
 
 /// Adds what takes back a change. An original that is kept whole needs nothing. Where memory is wanting, the log comes back.
-fn add_change(original: &mut Original, undo: UndoLog) -> Result<(), UndoLog>
+pub fn add_change(original: &mut Original, undo: UndoLog) -> Result<(), UndoLog>
     ensures ok { OnOk result (original.new ≡ with_change original.old undo) }
     ensures err { OnErr result (original.new ≡ original.old) }
     ensures back { IfErr result (λ back. back ≡ undo) }
@@ -65,7 +65,11 @@ fn add_change(original: &mut Original, undo: UndoLog) -> Result<(), UndoLog>
 }
 
 /// Notes what takes back a change of a number's node, which is saved so if it was not. Where memory is wanting, the log comes back.
-pub fn note(saved: &mut IndexMap<u32, Original>, number: u32, undo: UndoLog) -> Result<(), UndoLog>
+pub fn note_in(
+    saved: &mut IndexMap<u32, Original>,
+    number: u32,
+    undo: UndoLog,
+) -> Result<(), UndoLog>
     ensures ok { OnOk result (saved.new.entries ≡ noted number undo saved.old.entries) }
     ensures unique { IsUnique nat_eq saved.new }
     ensures err { OnErr result (saved.new.entries ≡ saved.old.entries) }
@@ -87,7 +91,7 @@ pub fn note(saved: &mut IndexMap<u32, Original>, number: u32, undo: UndoLog) -> 
 }
 
 /// Keeps an original whole that was kept by what takes changes back.
-fn make_whole(alloc: Global, kept: &Cached, original: &mut Original) -> Result<(), NoMemory>
+pub fn make_whole(alloc: Global, kept: &Cached, original: &mut Original) -> Result<(), NoMemory>
     requires { ChangedAt original.old kept.now }
     ensures ok { OnOk result (original.new ≡ made_whole original.old) }
     ensures err { OnErr result (original.new ≡ original.old) }
@@ -107,7 +111,7 @@ fn make_whole(alloc: Global, kept: &Cached, original: &mut Original) -> Result<(
 }
 
 /// Keeps the original of a number whole, so that its node may be changed in any way.
-pub fn keep_whole(
+pub fn keep_whole_in(
     nodes: &IndexMap<u32, Cached>,
     saved: &mut IndexMap<u32, Original>,
     number: u32,

@@ -7,6 +7,7 @@ use Rattle.node_cache.specs.Entries.{is_published, without_first}
 use Rattle.node_cache.proofs.Kept.{fresh, originals_none}
 use Rattle.node_cache.proofs.Evicted.{stays, unchanged, few, without_none}
 use Rattle.node_cache.proofs.Marked.{marked_fewer}
+use Rattle.node_cache.specs.Saves.{saved_in}
 use Rattle.node_cache.proofs.Bucket.evict.Goals as goal
 
 pub invariant_of-self : goal.invariant_of-self
@@ -16,7 +17,8 @@ invariant_of-self c =
     let fewer : (n : ℕ) → IfSome (lookup (nat_eq n) c.remove_first.new.nodes.entries) (λ kept. lookup (nat_eq n) es ≡ Some kept) =
     λ n. subst (λ fs. IfSome (lookup (nat_eq n) fs) (λ kept. lookup (nat_eq n) es ≡ Some kept)) (sym c.remove_first.ensures.nodes) (unchanged c.args.published n c.surplus_of-surplus.result es c.self.invariant.kept.distinct) in
     record {
-      kept = fresh _ _ (originals_none inside.saved.entries (ap (λ b. b.saved) c.self.view_is ∙ c.requires)) c.remove_first.ensures.unique;
+      once = c.self.invariant.once;
+      kept = fresh _ _ (originals_none (saved_in inside.saved) (ap (λ b. b.saved) c.self.view_is ∙ c.requires)) c.remove_first.ensures.unique;
       marked = marked_fewer inside.bucket inside.marks es c.remove_first.new.nodes.entries c.self.invariant.marked fewer;
     }
 
@@ -42,6 +44,6 @@ returns-else-surplus-gt0-clause-nodes c =
     let p = c.args.published in
     let inside = c.self.inside in
     let es = inside.nodes.entries in
-    let with_nodes : List (ℕ × Cached) → Cache = λ fs. record { bucket = inside.bucket; nodes = fs; saved = originals inside.saved.entries } in
+    let with_nodes : List (ℕ × Cached) → Cache = λ fs. record { bucket = inside.bucket; nodes = fs; saved = originals (saved_in inside.saved) } in
     let none : count_by (is_published p) es - c.args.keep ≡ 0 = omega (arith, c.surplus_of-surplus.ensures) in
     rw (← c.self.view_is) (ap with_nodes (sym (ap (λ n. without_first p n es) none ∙ without_none p es)))

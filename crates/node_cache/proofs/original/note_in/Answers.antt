@@ -6,7 +6,7 @@ use Rattle.node_cache.specs.declared.original.Original.TheVariants as original
 use Rattle.node_cache.specs.Originals.{noted_at}
 use Rattle.node_cache.proofs.Moved.{none_found}
 use Rattle.node_cache.proofs.Kept.{on_err}
-use Rattle.node_cache.proofs.original.note.Goals as goal
+use Rattle.node_cache.proofs.original.note_in.Goals as goal
 
 pub returns-in-Some-clause-err : goal.returns-in-Some-clause-err
 returns-in-Some-clause-err c =

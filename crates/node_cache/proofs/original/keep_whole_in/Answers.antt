@@ -2,7 +2,7 @@ use Rattle.std.proofs.Common.{nat_eq, sym, ap, ◌∙◌}
 use Rattle.std.specs.Map.{set_value}
 use Rattle.std.proofs.lemmas.Map.Steps.{set_value_same}
 use Rattle.node_cache.proofs.Kept.{on_err, whole_absent}
-use Rattle.node_cache.proofs.original.keep_whole.Goals as goal
+use Rattle.node_cache.proofs.original.keep_whole_in.Goals as goal
 
 pub returns-in-Some-get_mut-clause-err : goal.returns-in-Some-get_mut-clause-err
 returns-in-Some-get_mut-clause-err c =

@@ -1,10 +1,11 @@
 -- What a hall holds may go to any thread.
-use Rattle.std.proofs.Common.{rules}
+use Rattle.std.proofs.Common.{rules, List, [], ◌∷◌}
 use Rattle.std.proofs.Crossing.{crosses}
 use denote.RattleType.{RattleType}
 use denote.Param.Send.{IsSend, sendable, view_send}
 use denote.Param.SendFields.{as_row_send, declared_send, variants_send}
 use denote.Struct.Field.{row_field}
+use denote.Struct.Tuple.{Tuple, tuple_type}
 use Rattle.std.specs.contracts.option.Option as option
 use Rattle.std.specs.contracts.snapshot.Snapshot as snapshot
 use Rattle.std.specs.contracts.vec.Vec as vec
@@ -22,6 +23,7 @@ use Rattle.node_cache.specs.contracts.undo.UndoLog as undo
 use Rattle.node_cache.specs.contracts.undo.Step as steps
 use Rattle.node_cache.specs.contracts.cached.Cached as cache
 use Rattle.node_cache.specs.contracts.original.Original as original
+use Rattle.node_cache.specs.contracts.saved.Saved as saved
 use Rattle.node_cache.specs.contracts.Bucket as bucket
 use Rattle.node_cache.specs.contracts.Bucket.TheInside as bucket_in
 use Rattle.indexmap.specs.contracts.map.IndexMap as map
@@ -155,12 +157,24 @@ module _ (V : RattleType) (b : BuildHasher.Ghosts hasher.Denot fold.the_row.Deno
   map_send = view_send _ _ _ _ _ (declared_send (map_in.the_type denote.Builtin.u32 V hasher alloc.the_row fold.the_row equal.ghosts hash.ghosts b folding.ghosts ghosts)
       (as_row_send (columns.the_field denote.Builtin.u32 V alloc.the_row ghosts) (columns_send V v), (as_row_send (table.the_field alloc.the_row ghosts) table_send, (as_row_send (row_field hasher) hasher_send, tt))))
 
+abbrev first : List RattleType
+first = denote.Builtin.u32 ∷ original.the_row ∷ []
+
+first_send : IsSend (Tuple first)
+first_send = declared_send (tuple_type first) (as_row_send (row_field denote.Builtin.u32) (search rules), (as_row_send (row_field original.the_row) original_send, tt))
+
+saved_send : IsSend saved.the_row
+saved_send = declared_send saved.the_type (
+  option_send (Tuple first) first_send,
+  (as_row_send (map.the_field denote.Builtin.u32 original.the_row hasher alloc.the_row fold.the_row equal.ghosts hash.ghosts _ folding.ghosts ghosts) (map_send original.the_row _ original_send), tt),
+)
+
 cached_send : IsSend bucket.the_row
 cached_send = view_send _ _ _ _ _ (declared_send bucket_in.the_type (
   search rules,
   (
     as_row_send (map.the_field denote.Builtin.u32 cache.the_row hasher alloc.the_row fold.the_row equal.ghosts hash.ghosts _ folding.ghosts ghosts) (map_send cache.the_row _ cached.the_send),
-    (as_row_send (map.the_field denote.Builtin.u32 original.the_row hasher alloc.the_row fold.the_row equal.ghosts hash.ghosts _ folding.ghosts ghosts) (map_send original.the_row _ original_send), (marks.the_send, tt)),
+    (saved_send, (marks.the_send, tt)),
   ),
 ))
 

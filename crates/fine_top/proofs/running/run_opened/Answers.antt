@@ -11,16 +11,16 @@ unfolding text_of
 returns-in-Ok-clause-ends g c =
     let d = g.D.LogDisk.state c.args.disk in
     let script = c.args.opened.script in
-    rw c.number.ensures (record {
+    rw c.number-status.ensures (record {
       ended = ran script c.in-Ok.ran;
       is_end = (refl, subst (λ x. IsRunOf c.args.options.now d x script c.in-Ok.ran) (sym c.into_disk.ensures.disk) (run_from c.args.options.now script d c.args.opened.chain c.in-Ok.ran c.in-Ok.room c.in-Ok.ensures.ok c.requires.ready.sees));
       status_is = c.print_report.ensures.status;
       printed = c.print_report.ensures.puts;
     })
 
-pub returns-clause-ends : goal.returns-clause-ends
+pub returns-in-Err-clause-ends : goal.returns-in-Err-clause-ends
 unfolding text_of
-returns-clause-ends g c = rw c.number-in-Err.ensures (record {
+returns-in-Err-clause-ends g c = rw c.number.ensures (record {
   ended = early (reason.Fault run_fault.Memory);
   is_end = (refl, c.in-Err.ensures.err);
   status_is = c.print_no_memory.ensures.status;

@@ -1,6 +1,6 @@
 #!/bin/sh
 # What transactions of one `put` each cost on a hall on a disk in memory: 400,000 of one pass on one thread, and as many in all of four passes on four threads,
-# each in a bucket of its own. They are of two kinds: short ones, which put one pair of a byte and a byte again and again, and long ones, which put keys of 12 bytes
+# each in a bucket of its own, which all go on until the last of them is committed. They are of two kinds: short ones, which put one pair of a byte and a byte again and again, and long ones, which put keys of 12 bytes
 # with values of 100 as bench/load.sh does, 400 of them in turn, as many as 100,000 keys have in each of 256 buckets. Of both
 # kinds each transaction makes its call anew, and each commit is a turn of the room.
 #
@@ -9,9 +9,12 @@
 # short transaction takes on one thread. What the bare lock gains by four threads is about what can be had with so long a chain. The goal is at most 6 microseconds a transaction on one
 # thread, and at least 2.5 times its commits a second with four threads, which wants four cores. Nothing is sealed, so no sync counts.
 #
+# What four processors give at most shows in four programs at once, each with a hall of its own and one thread: they share nothing. Four processors that are two cores of two
+# threads each, or that others use as well, do not make four times the commits of one even so.
+#
 # Printed are, of both kinds, of the hall and of the C program, on one thread and on four, the commits a second and the processor microseconds a transaction; the commits a second of
-# four threads to those of one; how long the hall takes to the C program; then the turns of the bare lock; and how long a cache line takes from one processor
-# to another.
+# four threads to those of one, of four programs at once to those of one, and of four threads to those of four programs; how long the hall takes to the C program; then the turns of the
+# bare lock; and how long a cache line takes from one processor to another.
 #
 # Where nobody else is in its way such a transaction takes 2 compare-exchanges, 2 stores and 7 loads of words that other seats use, all sequentially consistent,
 # by the steps of its calls: a bucket and the room are each taken by a compare-exchange and a load and given back by a load and a store, and it looks once
@@ -88,7 +91,7 @@ cat > "$work/peer.c" <<'EOT'
 #include <string.h>
 #include <time.h>
 
-/* Words: one or four, short or long, how many. A record is as long as a row. */
+/* Words: one or four, short or long, how many in all. A record is as long as a row. */
 enum { SLOTS = 4096, SHORT = 24, LONG = 134, MOST = 4 };
 
 static pthread_mutex_t mutex = PTHREAD_MUTEX_INITIALIZER;
@@ -108,11 +111,14 @@ static void *work(void *arg) {
     char record[LONG];
     unsigned char key = (unsigned char)(size_t)arg;
     memset(record, key, LONG);
-    for (long i = 0; i < times; i++) {
+    for (int goes_on = 1; goes_on;) {
         pthread_mutex_lock(&mutex);
-        put(key, 1);
-        memcpy(records + filled, record, length);
-        filled += length;
+        goes_on = filled < times * length;
+        if (goes_on) {
+            put(key, 1);
+            memcpy(records + filled, record, length);
+            filled += length;
+        }
         pthread_mutex_unlock(&mutex);
     }
     return NULL;
@@ -130,7 +136,7 @@ int main(int argc, char **argv) {
     int count = strcmp(argv[1], "one") ? MOST : 1;
     length = strcmp(argv[2], "long") ? SHORT : LONG;
     times = atol(argv[3]);
-    records = malloc(times * count * length + 1);
+    records = malloc(times * length + 1);
     if (!records) return 1;
     long start = now();
     for (int i = 0; i < count; i++)
@@ -250,18 +256,22 @@ for kind in short long; do
   for turn in $(seq 1 9); do
     # a run without transactions shows what a hall costs, which is taken off
     for threads in one four; do
-      each=$count
-      [ $threads = one ] || each=$((count / 4))
-      timed out/engine_speed $threads $kind 0; timed out/engine_speed $threads $kind $each
-      timed "$work/peer" $threads $kind 0; timed "$work/peer" $threads $kind $each
+      timed out/engine_speed $threads $kind 0; timed out/engine_speed $threads $kind $count
+      timed "$work/peer" $threads $kind 0; timed "$work/peer" $threads $kind $count
     done
+    for program in 1 2 3 4; do out/engine_speed one $kind $count > "$work/alone_$program" & done
+    wait
+    cat "$work"/alone_* | tr '\n' ' '
     echo
   done > "$work/runs"
   awk -v count="$count" -v commits="$work/commits_$kind" -v kind=$kind "$median"'
-  NF != 24 || $4 != count || $10 != count || $16 != count || $22 != count { failed = 1 }
+  # each of four threads may commit one that began before the last was committed
+  NF != 32 || $4 != count || $10 != count || $16 < count || $16 > count + 3 || $22 != count { failed = 1 }
   # the seconds, and the processor microseconds, of a transaction, from the field of a run without transactions on
-  { for (at = 1; at <= 19; at += 6) { wall[at, NR] = ($(at + 4) - $(at + 1)) / count / 1000000000; cpu[at, NR] = ($(at + 5) - $(at + 2)) / count } }
+  { for (at = 1; at <= 19; at += 6) { wall[at, NR] = ($(at + 4) - $(at + 1)) / $(at + 3) / 1000000000; cpu[at, NR] = ($(at + 5) - $(at + 2)) / $(at + 3) } }
+  { apart = 0; for (at = 25; at <= 31; at += 2) { if ($at != count) failed = 1; apart += $at / ($(at + 1) - $2) * 1000000000 } }
   { more[NR] = wall[1, NR] / wall[13, NR]; more_in_c[NR] = wall[7, NR] / wall[19, NR]; to_c[NR] = wall[1, NR] / wall[7, NR]; to_c_of_four[NR] = wall[13, NR] / wall[19, NR] }
+  { more_apart[NR] = wall[1, NR] * apart; to_apart[NR] = 1 / wall[13, NR] / apart }
   function median_at(numbers, at,    i, some) {
     for (i = 1; i <= NR; i++) some[i] = numbers[at, i]
     return median(some)
@@ -277,6 +287,7 @@ for kind in short long; do
     line("C, one thread", 7)
     line("C, four threads", 19)
     printf "  four threads to one: %.2f of its commits a second; C: %.2f; the goal is 2.5\n", median(more), median(more_in_c)
+    printf "  four programs that share nothing to one: %.2f; the four threads of one hall to these: %.2f\n", median(more_apart), median(to_apart)
     printf "  to C on one thread: %.2f of its time; on four: %.2f\n", median(to_c), median(to_c_of_four)
     printf "%d\n", 1 / median_at(wall, 1) > commits
   }' "$work/runs"

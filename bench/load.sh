@@ -9,6 +9,10 @@
 # caches since they were last touched, as other processors and other machines on the same hardware use these too. What such a line takes is printed last, of a run of its own, and what it takes
 # where the program waits as long and calls nothing.
 #
+# Microseconds are those between the calls of the system, by a library that is loaded before the program and reads the clock as each call begins and ends: so what
+# the kernel does for a write or a sync is left out, and what it does for pages that are touched first is not. What the kernel counts to the program is printed too. Where it counts by its
+# ticks, one that has to wait for the end of a call is counted to what comes behind it, so that with many calls it counts too much.
+#
 # Reading alone is a script whose last line is refused; reading with printing is one whose transactions are all aborted and put nothing. `sh bench/load.sh 10000` makes
 # a smaller load. It is no test. The program is proved before it is built.
 set -e
@@ -22,7 +26,8 @@ proved fineline
 fineline="$work/crates/fineline/out/fineline"
 
 cat > "$work/timed.c" <<'EOF'
-/* Runs a program on an input, and prints: wall and processor microseconds, resident kilobytes, bytes written by calls. */
+/* Runs a program on an input, with a library loaded before it that tells microseconds between calls, and prints: wall microseconds, those between calls, those of the processor as the
+   kernel counts them, resident kilobytes, bytes written by calls, status. Words: the library, the file that it tells by, input, output, the program and its words. */
 #include <fcntl.h>
 #include <stdio.h>
 #include <stdlib.h>
@@ -48,25 +53,77 @@ static long written(pid_t child) {
 }
 
 int main(int argc, char **argv) {
+    if (argc < 6) return 1;
+    unlink(argv[2]);
     long start = now();
     pid_t child = fork();
     if (child == 0) {
-        if (!freopen(argv[1], "r", stdin) || !freopen(argv[2], "w", stdout)) _exit(99);
-        execv(argv[3], argv + 3);
+        if (!freopen(argv[3], "r", stdin) || !freopen(argv[4], "w", stdout)) _exit(99);
+        if (setenv("LD_PRELOAD", argv[1], 1) || setenv("BETWEEN", argv[2], 1)) _exit(99);
+        execv(argv[5], argv + 5);
         _exit(99);
     }
     siginfo_t info;
     waitid(P_PID, child, &info, WEXITED | WNOWAIT);
-    long spent = now() - start, bytes = written(child);
+    long spent = now() - start, bytes = written(child), between = -1;
     struct rusage use;
     int status;
     wait4(child, &status, 0, &use);
+    FILE *told = fopen(argv[2], "r");
+    if (!told || fscanf(told, "%ld", &between) != 1) return 1;
     long cpu = use.ru_utime.tv_sec * 1000000L + use.ru_utime.tv_usec;
-    printf("%ld %ld %ld %ld %d\n", spent, cpu, use.ru_maxrss, bytes, WEXITSTATUS(status));
+    printf("%ld %ld %ld %ld %ld %d\n", spent, between, cpu, use.ru_maxrss, bytes, WEXITSTATUS(status));
     return 0;
 }
 EOF
 gcc -O2 -o "$work/timed" "$work/timed.c"
+
+cat > "$work/between.c" <<'EOF'
+/* Sums what a program spends between its calls of the system that read, write and sync, and tells the microseconds by the file that BETWEEN names. */
+#define _GNU_SOURCE
+#include <dlfcn.h>
+#include <stdio.h>
+#include <stdlib.h>
+#include <time.h>
+#include <unistd.h>
+
+static long last, between;
+
+static long now(void) {
+    struct timespec t;
+    clock_gettime(CLOCK_MONOTONIC, &t);
+    return t.tv_sec * 1000000000L + t.tv_nsec;
+}
+
+#define CALL(answer, name, words, handed)                           \
+    answer name words {                                             \
+        static answer(*real) words;                                 \
+        if (!real) real = (answer(*) words)dlsym(RTLD_NEXT, #name); \
+        between += now() - last;                                    \
+        answer result = real handed;                                \
+        last = now();                                               \
+        return result;                                              \
+    }
+CALL(int, fdatasync, (int fd), (fd))
+CALL(int, fsync, (int fd), (fd))
+CALL(ssize_t, read, (int fd, void *bytes, size_t len), (fd, bytes, len))
+CALL(ssize_t, write, (int fd, const void *bytes, size_t len), (fd, bytes, len))
+CALL(ssize_t, pread, (int fd, void *bytes, size_t len, off_t at), (fd, bytes, len, at))
+CALL(ssize_t, pread64, (int fd, void *bytes, size_t len, off64_t at), (fd, bytes, len, at))
+CALL(ssize_t, pwrite, (int fd, const void *bytes, size_t len, off_t at), (fd, bytes, len, at))
+CALL(ssize_t, pwrite64, (int fd, const void *bytes, size_t len, off64_t at), (fd, bytes, len, at))
+
+__attribute__((constructor)) static void begin(void) { last = now(); }
+
+__attribute__((destructor)) static void end(void) {
+    between += now() - last;
+    FILE *told = fopen(getenv("BETWEEN"), "w");
+    if (!told) return;
+    fprintf(told, "%ld\n", between / 1000);
+    fclose(told);
+}
+EOF
+gcc -O2 -fPIC -shared -o "$work/between.so" "$work/between.c" -ldl
 
 cat > "$work/plain.c" <<'EOF'
 /* Writes epochs of so many bytes: the body, a sync, the gate, a sync. */
@@ -159,7 +216,8 @@ script aborted "$count" 0 abort ""
 printf 'txn 1\nget k00000000000\nabort\n' > "$work/get"
 printf 'txn 1\nget k00000000000\ncommit\n' > "$work/one"
 
-timed() { "$work/timed" "$@" > "$work/timing"; read -r wall cpu resident bytes status < "$work/timing"; }
+# timed INPUT OUTPUT PROGRAM WORDS
+timed() { "$work/timed" "$work/between.so" "$work/told" "$@" > "$work/timing"; read -r wall between cpu resident bytes status < "$work/timing"; }
 # loaded SCRIPT GROUP: a load of a new log, and the bytes that it wrote to it.
 loaded() {
   rm -f "$work/log"
@@ -181,19 +239,19 @@ for group in 64 1; do
   epochs=$((count / group))
   rm -f "$work/log"
   timed "$work/refused" "$work/out" "$fineline" "$work/log" default run --group $group
-  reading=$cpu
+  reading=$between
   timed "$work/aborted" "$work/out" "$fineline" "$work/log" default run --group $group
-  printing=$cpu
+  printing=$between
   loaded load $group
-  run_wall=$wall run_cpu=$cpu run_resident=$resident run_bytes=$bytes run_status=$status
+  run_wall=$wall run_between=$between run_cpu=$cpu run_resident=$resident run_bytes=$bytes run_status=$status
   # ahead of the C program, whose writes the sync at the opening would wait for
   first=$(gets)
   # a row has 19 + 1 + 12 + 2 + 100 bytes, an epoch an index entry for each leaf besides, of which there is at least one
   timed /dev/null /dev/null "$work/plain" "$work/plain_log" $epochs $((40 + group * 134 + 14))
   echo "group $group, status $run_status: $(of $((count * 1000)) $((run_wall / 1000))) transactions a second, $(of $run_wall $wall) of the C program's time"
-  echo "  processor microseconds a transaction: $(of $run_cpu $count) in all; reading $(of $reading $count); reading and printing without a call $(of $printing $count)"
+  echo "  processor microseconds a transaction: $(of $run_between $count) in all; reading $(of $reading $count); reading and printing without a call $(of $printing $count); the kernel counts $(of $run_cpu $count)"
   timed "$work/load" /dev/null "$fineline" "$memory/log" default run --group $group
-  echo "  processor microseconds a transaction on a file in memory: $(of $cpu $count)"
+  echo "  processor microseconds a transaction on a file in memory: $(of $between $count); the kernel counts $(of $cpu $count)"
   rm "$memory/log"
   echo "  bytes written: $(of $run_bytes $((count * 112))) for each byte put, $(of $run_bytes $epoch_bytes) for each byte of epochs; resident memory $((run_resident / 1024)) MiB"
   echo "  a first get behind all of them: $first"

@@ -29,7 +29,7 @@ pub enum Load {
     Long,
 }
 
-/// How many transactions of one put each, and of which.
+/// How many transactions of one put each are committed by all passes together, and of which.
 #[derive(Clone, Copy, Debug, PartialEq, Eq)]
 pub struct Workload {
     pub times: u64,
@@ -73,7 +73,15 @@ impl OwnPuts {
     }
 }
 
-/// So many transactions of one put each.
+/// Whether a transaction has the last of so many places, or one behind it.
+fn is_last(ended: &Ended, times: u64) -> bool {
+    match ended {
+        Ended::Committed(done) => times <= done.stamp.place,
+        _ => false,
+    }
+}
+
+/// Transactions of one put each, until so many are committed by all passes together, and no more of this pass.
 fn put_often<D: LogDisk, W: Wait>(
     rt: &W,
     txn: &mut Txn,
@@ -91,11 +99,15 @@ fn put_often<D: LogDisk, W: Wait>(
             return;
         };
         let calls = [call];
-        let _ended: Ended = run(rt, txn, hall, pass, &calls, 0);
+        let ended: Ended = run(rt, txn, hall, pass, &calls, 0);
+        if is_last(&ended, times) {
+            return;
+        }
     }
 }
 
-/// So many transactions of one put each in a bucket that is the pass's own.
+/// Transactions of one put each, in a bucket that is the pass's own, until all passes together have committed so many. With several threads at it each of the others may
+/// still commit one that it had begun.
 pub fn puts<D: LogDisk, W: Wait>(
     rt: &W,
     alloc: Global,
@@ -139,7 +151,7 @@ pub fn puts_by_one<W: Wait>(
     Some(room.counts())
 }
 
-/// So many transactions of one put each by each pass, each on a thread of its own.
+/// So many transactions of one put each by all passes together, each of which is on a thread of its own.
 fn at_once<R: Threads + Wait + Sync>(
     rt: &R,
     alloc: Global,
@@ -159,8 +171,8 @@ fn at_once<R: Threads + Wait + Sync>(
     thread::map_vec(rt, passes, &work)
 }
 
-/// Lets all passes of a hall do so many transactions of one put each at once, each on a thread of its own, and ends the hall: the room in numbers. None where
-/// there is no memory.
+/// Lets all passes of a hall do so many transactions of one put each together, each pass on a thread of its own, and ends the hall: the room in numbers. So all threads are at it until the end,
+/// however unlike their processors are. None where there is no memory.
 pub fn puts_at_once<R: Threads + Wait + Sync>(
     rt: &R,
     alloc: Global,

@@ -29,9 +29,10 @@ pub enum Load {
     Long,
 }
 
-/// How many transactions of one put each are committed by all passes together, and of which.
+/// How many transactions of one put each all passes commit together, and what is put.
 #[derive(Clone, Copy, Debug, PartialEq, Eq)]
 pub struct Workload {
+    /// Each pass goes on until so many are committed by all, or it has tried so many itself. Of several passes each but one may so commit one more, which it had begun.
     pub times: u64,
     pub load: Load,
 }
@@ -73,15 +74,15 @@ impl OwnPuts {
     }
 }
 
-/// Whether a transaction has the last of so many places, or one behind it.
-fn is_last(ended: &Ended, times: u64) -> bool {
+/// Whether a transaction was committed at a place or behind it.
+fn has_reached(place: u64, ended: &Ended) -> bool {
     match ended {
-        Ended::Committed(done) => times <= done.stamp.place,
+        Ended::Committed(done) => place <= done.stamp.place,
         _ => false,
     }
 }
 
-/// Transactions of one put each, until so many are committed by all passes together, and no more of this pass.
+/// Transactions of one put each, until all passes together have committed so many, or this one has tried so many. Where memory is wanting it ends early.
 fn put_often<D: LogDisk, W: Wait>(
     rt: &W,
     txn: &mut Txn,
@@ -100,14 +101,13 @@ fn put_often<D: LogDisk, W: Wait>(
         };
         let calls = [call];
         let ended: Ended = run(rt, txn, hall, pass, &calls, 0);
-        if is_last(&ended, times) {
+        if has_reached(times, &ended) {
             return;
         }
     }
 }
 
-/// Transactions of one put each, in a bucket that is the pass's own, until all passes together have committed so many. With several threads at it each of the others may
-/// still commit one that it had begun.
+/// Transactions of one put each, in a bucket that is the pass's own, until all passes together have committed so many, or this one has tried so many. Where memory is wanting it ends early.
 pub fn puts<D: LogDisk, W: Wait>(
     rt: &W,
     alloc: Global,
@@ -171,8 +171,8 @@ fn at_once<R: Threads + Wait + Sync>(
     thread::map_vec(rt, passes, &work)
 }
 
-/// Lets all passes of a hall do so many transactions of one put each together, each pass on a thread of its own, and ends the hall: the room in numbers. So all threads are at it until the end,
-/// however unlike their processors are. None where there is no memory.
+/// Lets all passes of a hall commit so many transactions of one put each together, each pass on a thread of its own, and ends the hall: the room in numbers. All threads are at it until the last
+/// of these places is given, however unlike their processors are. Where commits are refused or memory is wanting there are fewer. None where there is no memory for the passes.
 pub fn puts_at_once<R: Threads + Wait + Sync>(
     rt: &R,
     alloc: Global,

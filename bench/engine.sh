@@ -16,9 +16,8 @@
 # four threads to those of one, of four programs at once to those of one, and of four threads to those of four programs; how long the hall takes to the C program; then the turns of the
 # bare lock; and how long a cache line takes from one processor to another.
 #
-# Where nobody else is in its way such a transaction takes 2 compare-exchanges, 2 stores and 7 loads of words that other seats use, all sequentially consistent,
-# by the steps of its calls: a bucket and the room are each taken by a compare-exchange and a load and given back by a load and a store, and it looks once
-# at its mailbox, once at the published number, and once at the room's word before it tries to take the room.
+# The atomic steps of a transaction are printed as its calls have them, which is counted by hand: a bucket and the room are each taken by a compare-exchange and a load and given back
+# by a load and a store, and it looks once at its mailbox, once at the published number, and once at the room's word before it tries to take the room.
 #
 # All run nine times in turn, and of each number the median is printed; four threads are set against the one of the same turn, since a machine's speed changes from
 # second to second by more than a turn takes. It is no test. The timing program is proved before it is built, since only a proved build is optimized.
@@ -293,6 +292,7 @@ for kind in short long; do
   }' "$work/runs"
 done
 
+echo "where nobody is in its way a transaction takes 2 compare-exchanges, 2 stores and 7 loads of words that other seats use, all sequentially consistent"
 # turns THREADS OWN LINES: how many turns of the bare lock there are in a second
 turns() { "$work/turns" "$1" $((count / $1)) "$2" "$3"; }
 # one thread alone makes as many turns a second as one thread of the hall commits of short ones

@@ -1,5 +1,5 @@
 -- A run on a room that was made on a disk is a run between the disk's states.
-use Rattle.std.proofs.Common.{◌≡◌, ◌∙◌, ℕ, Bool, List, Some, option_map, ap, subst, inl, refl, sym, ◌≤◌}
+use Rattle.std.proofs.Common.{◌≡◌, ◌∙◌, ℕ, List, Some, option_map, ap, subst, inl, refl, sym, ◌≤◌}
 use Rattle.log_disk.specs.Disk.{Disk, Told}
 use Rattle.log_disk.specs.Moments.{ContinuesOn}
 use Rattle.fine_model.specs.declared.Damage.{Damage}
@@ -84,10 +84,10 @@ on_from options script disk found ran room r before after e rows old_is new_is s
 pub ready_of : (disk : Disk) (live retired : List Part) (room : RoomValue) → room ≡ made disk live retired → IsWhole room → StandsAtFirst room disk.told → IsReady room
 ready_of disk live retired room is whole stands = subst IsReady (sym is) (ready disk live retired (subst IsWhole is whole) (subst (λ r. StandsAtFirst r disk.told) is stands))
 
-pub runs_from : (options : Options) (script : List ScriptTxn) (disk : Disk) (found : Chain) (ran : Ran) (room behind : RoomValue) (unsealed : Bool) → room ≡ made disk found.parts found.retired → IsWhole room → StandsAtFirst room disk.told
-    → RunsOn script options room behind ran unsealed → behind.entry ≡ room.entry → RunsFrom options script disk found ran behind
-runs_from options script disk found ran room behind unsealed is whole stands by entry =
-    let on = subst (λ (r : RoomValue). RunsOn script options r behind ran unsealed) is by in
+pub runs_from : (options : Options) (script : List ScriptTxn) (disk : Disk) (found : Chain) (ran : Ran) (room behind : RoomValue) → room ≡ made disk found.parts found.retired → IsWhole room → StandsAtFirst room disk.told
+    → RunsOn script options room behind ran → behind.entry ≡ room.entry → RunsFrom options script disk found ran behind
+runs_from options script disk found ran room behind is whole stands by entry =
+    let on = subst (λ (r : RoomValue). RunsOn script options r behind ran) is by in
     record {
       whole = subst IsWhole is whole;
       stood = subst (λ r. StandsAtFirst r disk.told) is stands;

@@ -37,7 +37,7 @@ pub(crate) fn run_chain<D: LogDisk, G: Gate>(
     match Room::make(alloc, disk, chain.parts, chain.retired) {
         Ok(room) => {
             let _made = room.counts();
-            let (ran, room, _unsealed) = run_lanes(alloc, room, script, gate, options);
+            let (ran, room) = run_lanes(alloc, room, script, gate, options);
             let _left = room.counts();
             Ok((ran, room))
         }

@@ -12,7 +12,6 @@ ghost use Rattle.run_laws.specs.Runs.{IsReady};
 ghost use Rattle.txn_runner.specs.Body.{RunsSoFar, body};
 ghost use Rattle.txn_runner.specs.Left.{RunsOn};
 
-use crate::faults::is_memory;
 use crate::runner::Runner;
 use epoch_room::Room;
 use fine_model::{Gate, Items, NoMemory, Options, Outcome, Outcomes, Ran, RunFault, Script};
@@ -33,9 +32,9 @@ fn none_run(alloc: Global, count: usize) -> Result<Outcomes, NoMemory>
 }
 
 /// What a run gives for which there was no memory to begin.
-fn not_begun<D: LogDisk>(alloc: Global, room: Room<D>) -> (Ran, Room<D>, bool)
+fn not_begun<D: LogDisk>(alloc: Global, room: Room<D>) -> (Ran, Room<D>)
     requires ready { IsReady room }
-    ensures run { (script : List ScriptTxn) (options : Limits) → RunsOn script options room result.1 result.0 result.2 }
+    ensures run { (script : List ScriptTxn) (options : Limits) → RunsOn script options room result.1 result.0 }
     ensures entry { result.1.entry ≡ room.entry }
 {
     let durable = room.sealed();
@@ -44,7 +43,7 @@ fn not_begun<D: LogDisk>(alloc: Global, room: Room<D>) -> (Ran, Room<D>, bool)
         durable,
         fault: Some(RunFault::Memory),
     };
-    (ran, room, false)
+    (ran, room)
 }
 
 /// Runs the transactions in the order of the script, each lane up to its first fault.
@@ -69,25 +68,24 @@ fn run_txns<D: LogDisk, G: Gate>(
     }
 }
 
-/// What a run gives behind its last transaction: the view is taken back, and what waits is sealed. Whether memory was wanting for this seal is told beside it.
+/// What a run gives behind its last transaction: the view is taken back, and what waits is sealed.
 fn finish<D: LogDisk, G: Gate>(
     mut runner: Runner<D>,
     gate: &G,
     outcomes: Outcomes,
-) -> (Ran, Room<D>, bool)
+) -> (Ran, Room<D>)
     requires shelf { IsShelf runner.room.room runner.view }
     requires no_job { runner.room.room.job ≡ None }
-    ensures run { (script : List ScriptTxn) (options : Limits) (entry : RoomValue) (buckets : BucketsValue) → IsReady entry → RunsSoFar script options (length script) entry (body runner buckets) outcomes → RunsOn script options entry result.1 result.0 result.2 }
+    ensures run { (script : List ScriptTxn) (options : Limits) (entry : RoomValue) (buckets : BucketsValue) → IsReady entry → RunsSoFar script options (length script) entry (body runner buckets) outcomes → RunsOn script options entry result.1 result.0 }
     ensures entry { (script : List ScriptTxn) (options : Limits) (entry : RoomValue) (buckets : BucketsValue) → IsReady entry → RunsSoFar script options (length script) entry (body runner buckets) outcomes → result.1.entry ≡ entry.entry }
 {
     let last = runner.close(gate);
-    let unsealed = is_memory(last);
     let ran = Ran {
         outcomes,
         durable: runner.room.sealed(),
         fault: runner.ended.fault_with(last),
     };
-    (ran, runner.room, unsealed)
+    (ran, runner.room)
 }
 
 /// Runs a script on a room, on one thread: the transactions in the order of the script, each lane up to its first fault.
@@ -97,8 +95,7 @@ fn finish<D: LogDisk, G: Gate>(
 /// each transaction of a lane that goes on begins and ends, and behind each seal; no point of a merge is called. `tries` is not used on one thread.
 ///
 /// On return the room is whole, no view of it is out, and its disk went on from the one that it was made on. On a sound log that the disk told it stands for all that was committed, and each refusal has
-/// its cause. Without a fault it leaves what a reader of the whole log has to know (`RunsOn`). What is answered last is true where memory was wanting for the last seal, so that entries wait which are
-/// not durable; else all that was committed is durable, whatever ended the lanes, unless the disk failed on its own. What is named as damaged is damage of the bytes at entry, on any log that the disk told then and that has a chain, in the grammar or not: a place that is bad, or a node that
+/// its cause. Without a fault it leaves what a reader of the whole log has to know (`RunsOn`). What is named as damaged is damage of the bytes at entry, on any log that the disk told then and that has a chain, in the grammar or not: a place that is bad, or a node that
 /// calls of the script meet unfit.
 pub fn run_lanes<D: LogDisk, G: Gate>(
     alloc: Global,
@@ -106,11 +103,11 @@ pub fn run_lanes<D: LogDisk, G: Gate>(
     script: &Script,
     gate: &G,
     options: &Options,
-) -> (Ran, Room<D>, bool)
+) -> (Ran, Room<D>)
     requires ready { IsReady room }
     requires script { FitsScript script.now }
     requires group { 1 ≤ options.now.group }
-    ensures run { RunsOn script.now options.now room result.1 result.0 result.2 }
+    ensures run { RunsOn script.now options.now room result.1 result.0 }
     ensures entry { result.1.entry ≡ room.entry }
 {
     let Ok(mut outcomes) = none_run(alloc, script.len()) else {

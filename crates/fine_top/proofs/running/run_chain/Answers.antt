@@ -12,5 +12,5 @@ run_lanes-ran-requires-clause-ready g c κs within =
 
 pub returns-in-Ok-clause-ok : goal.returns-in-Ok-clause-ok
 returns-in-Ok-clause-ok g c =
-    runs_from c.args.options.now c.args.script.now (g.D.LogDisk.state c.args.disk) c.args.chain c.run_lanes-ran.result.0 c.in-Ok.room c.run_lanes-ran.result.1 c.run_lanes-ran.result.2 c.in-Ok.ensures.made c.counts-made.ensures.whole c.in-Ok.ensures.stands
+    runs_from c.args.options.now c.args.script.now (g.D.LogDisk.state c.args.disk) c.args.chain c.run_lanes-ran.result.0 c.in-Ok.room c.run_lanes-ran.result.1 c.in-Ok.ensures.made c.counts-made.ensures.whole c.in-Ok.ensures.stands
     c.run_lanes-ran.ensures.run c.run_lanes-ran.ensures.entry

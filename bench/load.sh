@@ -2,8 +2,8 @@
 # Prints what a load of 100,000 transactions costs, each with one `put` of a key of 12 bytes and a value of 100, in groups of 64 and of 1, beside a C
 # program that writes and syncs as many epochs of as many bytes: transactions a second, processor microseconds a transaction (reading, running and
 # printing apart), bytes written for each byte that is put and for each byte of epochs (the report is not counted), resident memory, and the ratio of times.
-# Then the same load is begun once more on the log that is left, and killed after half a second, and the time to the first `get` behind that is taken, with as many transactions and with a
-# tenth of them: of a transaction that is aborted, so that nothing is sealed for it, and of one that is committed. The bytes of epochs are those of the same rows in epochs that fill
+# Then the same load is begun once more in groups of one on the log that is left, and killed after a fifth of a second, which adds a few thousand transactions where it is on a disk, and the time to the first `get` behind that is taken, with as many
+# transactions and with a tenth of them: of a transaction that is aborted, so that nothing is sealed for it, and of one that is committed. The bytes of epochs are those of the same rows in epochs that fill
 # their regions, of which none is merged, and an index entry for each transaction.
 #
 # The same load on a file in memory, where no sync sleeps, shows what a transaction costs besides. On a disk the lines of a tree that a transaction walks over may have left the
@@ -221,12 +221,13 @@ loaded() {
   timed "$work/$1" "$work/out" "$fineline" "$work/log" default run --group "$2"
   bytes=$((bytes - $(wc -c < "$work/out")))
 }
-# gets GROUP: the load once more on the log that is left, killed after half a second, and then the milliseconds of a first get that is aborted, and of one that is committed. Nothing else
-# is written meanwhile, for which the sync at the opening would wait.
+# gets: the load once more in groups of one on the log that is left, killed after a fifth of a second, and then the milliseconds of a first get that is aborted, and of one that is committed. Nothing
+# else is written meanwhile, for which the sync at the opening would wait.
 gets() {
-  "$fineline" "$work/log" default run --group "$1" < "$work/load" > /dev/null &
-  sleep 0.5
-  kill -9 $! && wait $! 2> /dev/null || :
+  "$fineline" "$work/log" default run --group 1 < "$work/load" > /dev/null &
+  sleep 0.2
+  kill -9 $! || exit 1
+  ! wait $! 2> /dev/null || { echo "the load ended before it was killed"; exit 1; }
   sleep 1
   timed "$work/get" /dev/null "$fineline" "$work/log" default run
   aborted=$wall
@@ -242,7 +243,7 @@ for group in 64 1; do
   loaded load $group
   run_wall=$wall run_between=$between run_reading=$reading run_printing=$printing run_cpu=$cpu run_resident=$resident run_bytes=$bytes run_status=$status
   # ahead of the C program, whose writes the sync at the opening would wait for
-  first=$(gets $group)
+  first=$(gets)
   # a row has 19 + 1 + 12 + 2 + 100 bytes, an epoch an index entry for each leaf besides, of which there is at least one
   timed /dev/null /dev/null "$work/plain" "$work/plain_log" $epochs $((40 + group * 134 + 14))
   echo "group $group, status $run_status: $(of $((count * 1000)) $((run_wall / 1000))) transactions a second, $(of $run_wall $wall) of the C program's time"
@@ -254,6 +255,6 @@ for group in 64 1; do
   echo "  bytes written: $(of $run_bytes $((count * 112))) for each byte put, $(of $run_bytes $epoch_bytes) for each byte of epochs; resident memory $((run_resident / 1024)) MiB"
   echo "  a first get behind all of them and a kill: $first"
   loaded tenth $group
-  echo "  behind a tenth of them and a kill: $(gets $group)"
+  echo "  behind a tenth of them and a kill: $(gets)"
 done
 echo "a cache line that was touched 400 syncs before: $("$work/cold" "$work/cold_file") nanoseconds on the disk, $("$work/cold" "$work/cold_file" busy) behind pauses as long, $("$work/cold" "$memory/cold_file") on a file in memory"

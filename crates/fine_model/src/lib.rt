@@ -263,12 +263,14 @@ pub enum Reason {
     Fault { fault: RunFault },
 }
 
-/// What a run gave.
+/// What a run gave: an outcome for each transaction, the last durable epoch, and the fault that ended lanes, if any.
 #[derive(Debug, Drop, PartialEq, Eq)]
 pub struct Ran {
     pub outcomes: Outcomes,
     pub durable: u64,
     pub fault: Option<RunFault>,
+    /// Whether memory was wanting for the last seal, so that what was committed in the last epoch is not durable.
+    pub unsealed: bool,
 }
 
 /// A point at which a run calls its gate.

@@ -329,7 +329,7 @@ module _ (n : Numbers) (output : ℕ × ℕ) (old new : Disk) (status : ℕ) (wa
     -- ---- an early end
 
     abbrev nothing : RunFault → Ran
-    nothing fault = record { outcomes = []; durable = e; fault = Some fault }
+    nothing fault = record { outcomes = []; durable = e; fault = Some fault; unsealed = false }
 
     early_any : (fault : RunFault) → FindsChain old new (Err fault) → FailsSound back fault → (status ≡ fault_status fault → (status ≡ 1 → fault ≡ run_fault.Memory) × (status ≡ 6 → (fault ≡ run_fault.Disk) × back.own_rose) × ((status ≡ 1) ⊎ (status ≡ 6)))
         → ((status ≡ fault_status fault) → HasStatus status (all_outcomes (script_by n) []) (Some fault)) → Puts (fault_line fault) (status ≡ 5) was now → (status ≡ 5) ⊎ (status ≡ fault_status fault) → Result_

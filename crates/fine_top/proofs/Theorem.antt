@@ -236,7 +236,7 @@ module _ (options : Options) (source output : ℕ × ℕ) (left : Option (List �
     unfolding reason_bytes
     early_disk en why written text is =
         let spells = why bytes left_is in
-        let nothing_done : Ran = record { outcomes = []; durable = e; fault = Some run_fault.Disk } in
+        let nothing_done : Ran = record { outcomes = []; durable = e; fault = Some run_fault.Disk; unsealed = false } in
         let counts = (en.failed refl).counts in
         let own_rose = counts.own_faults tt in
         does written (inr (inl is)) (record {

@@ -1,5 +1,5 @@
 -- A run of a script on an empty store in memory, one transaction after another.
-use Rattle.std.specs.Prelude.{ℕ, ◌+◌, if◌then◌else◌, List, [], ◌∷◌, None, Result, Ok, Err}
+use Rattle.std.specs.Prelude.{ℕ, ◌+◌, if◌then◌else◌, false, List, [], ◌∷◌, None, Result, Ok, Err}
 use Rattle.std.specs.List.{list_any}
 use Rattle.fine_model.specs.declared.Ending.{Ending}
 use Rattle.fine_model.specs.declared.Ending.TheVariants as ending
@@ -44,7 +44,7 @@ abbrev pub last_epoch : List ScriptTxn → ℕ
 last_epoch script = if list_any (λ txn. is_commit txn.ending) script then 1 else 0
 
 abbrev pub plain_run : List ScriptTxn → Ran
-plain_run script = record { outcomes = outcomes_on [] 1 1 script; durable = last_epoch script; fault = None }
+plain_run script = record { outcomes = outcomes_on [] 1 1 script; durable = last_epoch script; fault = None; unsealed = false }
 
 -- what is printed of a script that was read or refused
 abbrev pub printed : Result (List ScriptTxn) Refusal → List ℕ

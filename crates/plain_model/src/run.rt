@@ -101,5 +101,6 @@ pub(crate) fn run_script(alloc: Global, script: &Script) -> Result<Ran, NoMemory
         outcomes: outcomes_of(alloc, script)?,
         durable: last_epoch(script),
         fault: None,
+        unsealed: false,
     })
 }

@@ -40,7 +40,7 @@ at_one P [] x all (k, within, is) = absurd (omega (arith, within))
 at_one P (f ∷ faults) x all (zero, within, is) = subst P is all.0
 at_one P (f ∷ faults) x all (suc k, within, is) = at_one P faults x all.1 (k, omega (arith, within), is)
 
-module _ (names : Names) (script : List ScriptTxn) (options : Options) (entry room : RoomValue) (done : List Outcome) (ended told : List (Option RunFault)) (ready : IsReady entry) (f : Finished names script options entry room done ended told) where
+module _ (names : Names) (script : List ScriptTxn) (options : Options) (entry room : RoomValue) (done : List Outcome) (ended told : List (Option RunFault)) (unsealed : Bool) (ready : IsReady entry) (f : Finished names script options entry room done ended told) where
   abbrev history : List Commit
   history = commits_of done
 
@@ -167,7 +167,7 @@ module _ (names : Names) (script : List ScriptTxn) (options : Options) (entry ro
   unfolding origin_of
   own_low = subst (λ n. n ≤ room.disk.own_faults) (ap (λ (o : Origin). o.own_faults) (ap origin_of f.goes_on.same_entry) ∙ ap (λ d. d.own_faults) (sym ready.at_entry)) f.goes_on.whole.entry.no_lower.1
 
-  ran : RunsScript script options entry room (record { outcomes = done; durable = room.room.sealed; fault = fault })
+  ran : RunsScript script options entry room (record { outcomes = done; durable = room.room.sealed; fault = fault; unsealed = unsealed })
   ran = record {
     history = history;
     adds = record {
@@ -192,9 +192,9 @@ module _ (names : Names) (script : List ScriptTxn) (options : Options) (entry ro
     };
   }
 
-  pub finished : RunsBy names script options entry room (record { outcomes = done; durable = room.room.sealed; fault = fault })
+  pub finished : RunsBy names script options entry room (record { outcomes = done; durable = room.room.sealed; fault = fault; unsealed = unsealed })
   unfolding ran
   finished = record { run = ran; damage = λ what is. f.named what (among (run_fault.Damaged what) is) }
 
 pub finished_law : (names : Names) → FinishedLaw names
-finished_law names script options entry room done ended told ready f = finished names script options entry room done ended told ready f
+finished_law names script options entry room done ended told unsealed ready f = finished names script options entry room done ended told unsealed ready f

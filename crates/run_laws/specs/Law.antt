@@ -1,5 +1,5 @@
 -- What a run of lanes is in the words of the theorems.
-use Rattle.std.specs.Prelude.{◌≡◌, ◌⊎◌, ℕ, ◌-◌, ◌≤◌, List, [], Option, Some, Ok, None}
+use Rattle.std.specs.Prelude.{◌≡◌, ◌⊎◌, ℕ, ◌-◌, ◌≤◌, false, List, [], Option, Some, Ok, None}
 use Rattle.log_disk.specs.Disk.{Disk, Told, IsImageNow, IsImageSince, clock_of}
 use Rattle.fine_model.specs.declared.Damage.{Damage}
 use Rattle.fine_model.specs.declared.Options.{Options}
@@ -90,7 +90,7 @@ StatusLaw =
 
 -- nothing is run, since there is nothing, or since memory ran out before the first transaction
 abbrev pub nothing_ran : ℕ → Option RunFault → Ran
-nothing_ran sealed fault = record { outcomes = []; durable = sealed; fault = fault }
+nothing_ran sealed fault = record { outcomes = []; durable = sealed; fault = fault; unsealed = false }
 
 abbrev pub NothingLaw : Type 0
 NothingLaw =

@@ -196,5 +196,5 @@ module _ {B : Type 0} (stands_for : Origin → ℕ → B → List Commit → Typ
 -- then it was a run
 abbrev pub FinishedLaw : Names → Type 0
 FinishedLaw names =
-    (script : List ScriptTxn) (options : Options) (entry room : RoomValue) (done : List Outcome) (ended told : List (Option RunFault)) → IsReady entry → Finished names script options entry room done ended told
-    → RunsBy names script options entry room (record { outcomes = done; durable = room.room.sealed; fault = first_fault told })
+    (script : List ScriptTxn) (options : Options) (entry room : RoomValue) (done : List Outcome) (ended told : List (Option RunFault)) (unsealed : Bool) → IsReady entry → Finished names script options entry room done ended told
+    → RunsBy names script options entry room (record { outcomes = done; durable = room.room.sealed; fault = first_fault told; unsealed = unsealed })

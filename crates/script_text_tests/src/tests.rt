@@ -269,6 +269,7 @@ fn ran(alloc: Global, length: u32) -> Result<Ran, NoMemory> {
         outcomes,
         durable: 18_446_744_073_709_551_615,
         fault,
+        unsealed: false,
     })
 }
 

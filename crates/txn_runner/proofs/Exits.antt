@@ -1,5 +1,5 @@
 -- What each call leaves at its exits, from what the calls in it said. A runner is opened before its parts are used: `inside` is what it holds.
-use Rattle.std.proofs.Common.{◌≡◌, ℕ, zero, suc, ◌+◌, ◌≤◌, List, [], length, refl, sym, ap, ◌∙◌, subst, Option, Some, None, Ok, Err, arith}
+use Rattle.std.proofs.Common.{◌≡◌, ℕ, zero, suc, ◌+◌, ◌≤◌, Bool, false, List, [], length, refl, sym, ap, ◌∙◌, subst, Option, Some, None, Ok, Err, arith}
 use Rattle.std.specs.Prelude.{Result}
 use Rattle.fine_model.specs.declared.Entry.{Entry}
 use Rattle.fine_model.specs.declared.Options.{Options}
@@ -26,7 +26,7 @@ use Rattle.run_laws.specs.Lanes.{first_fault, with_last}
 use Rattle.run_laws.specs.Runs.{IsReady}
 use Rattle.run_laws.specs.Turns.{commits_of}
 use Rattle.txn_runner.specs.Body.{RunnerValue, RunsSoFar, body}
-use Rattle.txn_runner.specs.Left.{RunsOn}
+use Rattle.txn_runner.specs.Left.{RunsOn, is_memory}
 use Rattle.txn_runner.specs.Steps.{Appends, Closes, IsClosed, SealsAll, TakesBack}
 use Rattle.txn_runner.proofs.Looping as looping
 use Rattle.txn_runner.proofs.Seals as seals
@@ -88,10 +88,10 @@ module _ (inside old : RunnerValue) (is : inside ≡ old) where
   closes buckets first epoch ok last none room view s = subst (λ v. Closes (body v buckets) (body (moved room view) buckets) last) is
       (subst (Closes (body inside buckets) (body (moved room view) buckets)) (sym none) (seals.closes (body inside buckets) room epoch view (subst (SealsWaiting (shelf inside.room inside.view) (shelf room view)) ok s)))
 
-  pub closes_not : (buckets : BucketsValue) (first : Result ℕ RunFault) (fault : RunFault) → first ≡ Err fault → (last : Option RunFault) → last ≡ Some fault → (room : RoomValue) (view : Option ViewValue) → SealsWaiting (shelf inside.room inside.view) (shelf room view) first
+  pub closes_not : 1 ≤ inside.room.room.waiting → (buckets : BucketsValue) (first : Result ℕ RunFault) (fault : RunFault) → first ≡ Err fault → (last : Option RunFault) → last ≡ Some fault → (room : RoomValue) (view : Option ViewValue) → SealsWaiting (shelf inside.room inside.view) (shelf room view) first
       → Closes (body old buckets) (body (moved room view) buckets) last
-  closes_not buckets first fault err last some room view s = subst (λ v. Closes (body v buckets) (body (moved room view) buckets) last) is
-      (subst (Closes (body inside buckets) (body (moved room view) buckets)) (sym some) (seals.not_closed (body inside buckets) room fault view (subst (SealsWaiting (shelf inside.room inside.view) (shelf room view)) err s)))
+  closes_not waits buckets first fault err last some room view s = subst (λ v. Closes (body v buckets) (body (moved room view) buckets) last) is
+      (subst (Closes (body inside buckets) (body (moved room view) buckets)) (sym some) (seals.not_closed (body inside buckets) room waits fault view (subst (SealsWaiting (shelf inside.room inside.view) (shelf room view)) err s)))
 
 -- the end of the body, behind all transactions
 closes_so_far : (old new : RunnerValue) (last : Option RunFault) → ((buckets : BucketsValue) → Closes (body old buckets) (body new buckets) last) → (script : List ScriptTxn) (options : Options) (entry : RoomValue) (buckets : BucketsValue) (outcomes : List Outcome)
@@ -100,13 +100,14 @@ closes_so_far old new last closes script options entry buckets outcomes ready s 
 
 -- what a run gives behind the last transaction
 pub finish : (old new inside : RunnerValue) → inside ≡ new → (last : Option RunFault) → ((buckets : BucketsValue) → Closes (body old buckets) (body new buckets) last) → (outcomes : List Outcome) (durable : ℕ) → durable ≡ inside.room.room.sealed
-    → (fault : Option RunFault) → fault ≡ first_fault (with_last inside.ended last) → (script : List ScriptTxn) (options : Options) (entry : RoomValue) (buckets : BucketsValue) → IsReady entry
-    → RunsSoFar script options (length script) entry (body old buckets) outcomes → RunsOn script options entry inside.room (record { outcomes = outcomes; durable = durable; fault = fault })
-finish old new inside is last closes outcomes durable is_sealed fault told script options entry buckets ready s =
+    → (fault : Option RunFault) → fault ≡ first_fault (with_last inside.ended last) → (unsealed : Bool) → unsealed ≡ is_memory last → (script : List ScriptTxn) (options : Options) (entry : RoomValue) (buckets : BucketsValue) → IsReady entry
+    → RunsSoFar script options (length script) entry (body old buckets) outcomes → RunsOn script options entry inside.room (record { outcomes = outcomes; durable = durable; fault = fault; unsealed = unsealed })
+finish old new inside is last closes outcomes durable is_sealed fault told unsealed wanting script options entry buckets ready s =
     looping.finishes script options entry (body old buckets) outcomes s ready (body inside buckets) last (subst (λ v. IsClosed entry (body old buckets) (body v buckets) (commits_of s.done) last) (sym is) closed)
-    (record { outcomes = outcomes; durable = durable; fault = fault })
-    (ap (λ n. record { outcomes = outcomes; durable = n; fault = fault }) is_sealed
-    ∙ ap (λ f. record { outcomes = outcomes; durable = inside.room.room.sealed; fault = f }) (told ∙ ap (λ ended. first_fault (with_last ended last)) (ap (λ (v : RunnerValue). v.ended) is ∙ closed.ended)))
+    (record { outcomes = outcomes; durable = durable; fault = fault; unsealed = unsealed })
+    (ap (λ n. record { outcomes = outcomes; durable = n; fault = fault; unsealed = unsealed }) is_sealed
+    ∙ ap (λ f. record { outcomes = outcomes; durable = inside.room.room.sealed; fault = f; unsealed = unsealed }) (told ∙ ap (λ ended. first_fault (with_last ended last)) (ap (λ (v : RunnerValue). v.ended) is ∙ closed.ended))
+    ∙ ap (λ u. record { outcomes = outcomes; durable = inside.room.room.sealed; fault = first_fault (with_last (body inside buckets).ended last); unsealed = u }) wanting)
   where
     closed : IsClosed entry (body old buckets) (body new buckets) (commits_of s.done) last
     closed = closes_so_far old new last closes script options entry buckets outcomes ready s
@@ -119,6 +120,6 @@ finish_entry old new inside is last closes outcomes script options entry buckets
 
 -- and where there was no memory to begin
 pub not_begun : (room : RoomValue) → IsReady room → (outcomes : List Outcome) → outcomes ≡ [] → (durable : ℕ) → durable ≡ room.room.sealed → (script : List ScriptTxn) (options : Options)
-    → RunsOn script options room room (record { outcomes = outcomes; durable = durable; fault = Some run_fault.Memory })
-not_begun room ready outcomes none durable is_sealed script options = looping.not_begun script options room (record { outcomes = outcomes; durable = durable; fault = Some run_fault.Memory }) ready
-    (ap (λ os. record { outcomes = os; durable = durable; fault = Some run_fault.Memory }) none ∙ ap (λ n. record { outcomes = []; durable = n; fault = Some run_fault.Memory }) is_sealed)
+    → RunsOn script options room room (record { outcomes = outcomes; durable = durable; fault = Some run_fault.Memory; unsealed = false })
+not_begun room ready outcomes none durable is_sealed script options = looping.not_begun script options room (record { outcomes = outcomes; durable = durable; fault = Some run_fault.Memory; unsealed = false }) ready
+    (ap (λ os. record { outcomes = os; durable = durable; fault = Some run_fault.Memory; unsealed = false }) none ∙ ap (λ n. record { outcomes = []; durable = n; fault = Some run_fault.Memory; unsealed = false }) is_sealed)

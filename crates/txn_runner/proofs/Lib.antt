@@ -5,6 +5,7 @@ pub mod Exits
 pub mod FirmOn
 pub mod Following
 pub mod Keeping
+pub mod LastSeal
 pub mod Looping
 pub mod Making
 pub mod Naming

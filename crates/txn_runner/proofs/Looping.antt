@@ -1,5 +1,5 @@
 -- The transactions one after another, and the end.
-use Rattle.std.proofs.Common.{◌≡◌, inl, inr, ℕ, zero, suc, ◌+◌, ◌-◌, ◌<◌, ◌≤◌, false, List, [], ◌∷◌, ◌++◌, length, refl, sym, ap, ◌∙◌, subst, Option, Some, None, arith}
+use Rattle.std.proofs.Common.{◌≡◌, inl, inr, ℕ, zero, suc, ◌+◌, ◌-◌, ◌<◌, ◌≤◌, Bool, false, List, [], ◌∷◌, ◌++◌, length, refl, sym, ap, true≢false, ◌∙◌, subst, Option, Some, None, arith}
 use Rattle.std.specs.Prelude.{Contains, replicate, slice_get, slice_set, take}
 use Rattle.std.specs.List.{AllByRecursion}
 use Rattle.std.proofs.Math.Seq.{take-length}
@@ -34,9 +34,10 @@ use Rattle.run_laws.proofs.Stepping as stepping
 use Rattle.run_laws.proofs.Steps.{lane_ends_law, next_law}
 use Rattle.run_laws.proofs.Turns.{in_turn_law}
 use Rattle.txn_runner.specs.Body.{Body, IsBetween, RunsSoFar, serial, stands_on}
-use Rattle.txn_runner.specs.Left.{Leaves, RunsOn}
+use Rattle.txn_runner.specs.Left.{Leaves, RunsOn, SealsLast, is_memory}
 use Rattle.txn_runner.specs.Steps.{BehindTxns, Comes, IsClosed, RunsTxn}
 use Rattle.txn_runner.proofs.Following as following
+use Rattle.txn_runner.proofs.LastSeal.{none_durable, seals_last}
 use Rattle.txn_runner.proofs.Naming.{never_later}
 
 -- outcomes have one history
@@ -151,8 +152,8 @@ module _ (script : List ScriptTxn) (options : Options) (entry : RoomValue) where
         none = omega arith
 
     -- the run's history is that of these outcomes, and no other is
-    run : RunsLanes script options entry new.room (record { outcomes = s.done; durable = new.room.room.sealed; fault = first_fault (with_last b.ended last) })
-    run = finished_law (IsDamageAt entry) script options entry new.room s.done b.ended (with_last b.ended last) ready ended
+    run : RunsLanes script options entry new.room (record { outcomes = s.done; durable = new.room.room.sealed; fault = first_fault (with_last b.ended last); unsealed = is_memory last })
+    run = finished_law (IsDamageAt entry) script options entry new.room s.done b.ended (with_last b.ended last) (is_memory last) ready ended
 
     all_told : all_outcomes script s.done ≡ s.done
     all_told = ap (λ n. s.done ++ replicate n outcome.NotRun) none ∙ append-nil s.done
@@ -166,19 +167,31 @@ module _ (script : List ScriptTxn) (options : Options) (entry : RoomValue) where
     of_run : IsHistoryOf s.done run.run.history
     of_run = subst (λ os. IsHistoryOf os run.run.history) all_told run.run.outcomes.history_of
 
-    runs_on : RunsOn script options entry new.room (record { outcomes = s.done; durable = new.room.room.sealed; fault = first_fault (with_last b.ended last) })
+    same_history : commits_of s.done ≡ run.run.history
+    same_history = one_history s.done (commits_of s.done) run.run.history of_done of_run
+
+    runs_on : RunsOn script options entry new.room (record { outcomes = s.done; durable = new.room.room.sealed; fault = first_fault (with_last b.ended last); unsealed = is_memory last })
     runs_on = record {
       run = run;
-      leaves = λ none. subst (Leaves (origin_of entry.entry) new.room) (one_history s.done (commits_of s.done) run.run.history of_done of_run) (new.buckets, (closed.stand.all, closed.stand.follows));
+      leaves = λ none. subst (Leaves (origin_of entry.entry) new.room) same_history (new.buckets, (closed.stand.all, closed.stand.follows));
+      seals_last = subst (λ history. SealsLast entry new.room (record { outcomes = s.done; durable = new.room.room.sealed; fault = first_fault (with_last b.ended last); unsealed = is_memory last }) history) same_history
+          (seals_last entry new.room (commits_of s.done) ready closed.goes_on b.ended last closed.sealed closed.some_wait s.done);
     }
 
-    pub finishes : (ran : Ran) → ran ≡ record { outcomes = outcomes; durable = new.room.room.sealed; fault = first_fault (with_last b.ended last) } → RunsOn script options entry new.room ran
-    finishes ran is = subst (RunsOn script options entry new.room) (sym (is ∙ ap (λ os. record { outcomes = os; durable = new.room.room.sealed; fault = first_fault (with_last b.ended last) }) all_done)) runs_on
+    pub finishes : (ran : Ran) → ran ≡ record { outcomes = outcomes; durable = new.room.room.sealed; fault = first_fault (with_last b.ended last); unsealed = is_memory last } → RunsOn script options entry new.room ran
+    finishes ran is = subst (RunsOn script options entry new.room) (sym (is ∙ ap (λ os. record { outcomes = os; durable = new.room.room.sealed; fault = first_fault (with_last b.ended last); unsealed = is_memory last }) all_done)) runs_on
 
   -- ---- no memory to begin
 
-  pub not_begun : (ran : Ran) → IsReady entry → ran ≡ nothing_ran entry.room.sealed (Some run_fault.Memory) → RunsOn script options entry entry ran
-  not_begun ran ready is = record {
-    run = subst (RunsLanes script options entry entry) (sym is) (nothing_law script options entry ready).0;
-    leaves = λ none. absurd (let e : ◌≡◌ {A = Option RunFault} (Some run_fault.Memory) None = sym (ap (λ (r : Ran). r.fault) is) ∙ none in cc);
+  none_begun : IsReady entry → RunsOn script options entry entry (nothing_ran entry.room.sealed (Some run_fault.Memory))
+  none_begun ready = record {
+    run = run;
+    leaves = λ none. absurd (let e : ◌≡◌ {A = Option RunFault} (Some run_fault.Memory) None = none in cc);
+    seals_last = record { all_durable = λ sealed low. none_durable entry run.run.history ready run.run.adds.has.places; some_wait = λ wanting. absurd (true≢false (sym wanting)); memory_told = λ wanting. refl };
   }
+    where
+      run : RunsLanes script options entry entry (nothing_ran entry.room.sealed (Some run_fault.Memory))
+      run = (nothing_law script options entry ready).0
+
+  pub not_begun : (ran : Ran) → IsReady entry → ran ≡ nothing_ran entry.room.sealed (Some run_fault.Memory) → RunsOn script options entry entry ran
+  not_begun ran ready is = subst (RunsOn script options entry entry) (sym is) (none_begun ready)

@@ -1,5 +1,5 @@
 -- What the seal of a group leaves, and the last seal of a run.
-use Rattle.std.proofs.Common.{◌≡◌, ◌⊎◌, inl, inr, ℕ, ◌+◌, true, false, List, refl, sym, ap, ◌∙◌, subst, Option, Some, None, Ok, Err, arith}
+use Rattle.std.proofs.Common.{◌≡◌, ◌⊎◌, inl, inr, ℕ, ◌+◌, ◌≤◌, true, false, List, refl, sym, ap, ◌∙◌, subst, Option, Some, None, Ok, Err, arith}
 use Rattle.std.specs.Prelude.{Result}
 use Rattle.fine_model.specs.declared.RunFault.{RunFault}
 use Rattle.fine_model.specs.declared.RunFault.TheVariants as run_fault
@@ -111,6 +111,7 @@ rests old room none whole r entry history ready g t stand = record {
   becomes = r.later.becomes;
   board = r.board;
   sealed = λ open_room not. ap (λ (x : RoomState). x.waiting) r.later.room ∙ none;
+  some_wait = λ is. absurd (let e : ◌≡◌ {A = Option RunFault} None (Some run_fault.Memory) = is in cc);
   ended = refl;
   stand = stand_later entry old (moved old room None) history stand r.later refl;
 }
@@ -129,6 +130,7 @@ module _ (old : Body) (room : RoomValue) where
     becomes = s.leaves.becomes;
     board = subst (λ v. IsShelf room.room v) s.rested s.leaves.shelf;
     sealed = λ open_room not. s.seals.1.waiting;
+    some_wait = λ is. absurd (let e : ◌≡◌ {A = Option RunFault} None (Some run_fault.Memory) = is in cc);
     ended = refl;
     stand = (on_by entry old room view history ready s.leaves (inr s.seals.1) g stand).stand;
   }
@@ -139,8 +141,14 @@ module _ (old : Body) (room : RoomValue) where
   waits run_fault.Memory view s open_room not = absurd (not refl)
   waits (run_fault.Damaged what) view s open_room not = absurd s
 
-  pub not_closed : (fault : RunFault) (view : Option ViewValue) → SealsWaiting (shelf_of old) (shelf room view) (Err fault) → Closes old (moved old room view) (Some fault)
-  not_closed fault view s entry history ready g t stand = record {
+  -- what waited waits still, where it was not
+  still : (fault : RunFault) (view : Option ViewValue) → steps.SealsOr (shelf_of old) (shelf room view) (Err fault) → 1 ≤ old.room.room.waiting → 1 ≤ room.room.waiting
+  still run_fault.Disk view s some = let e = s.1.waiting in omega (arith, e, some)
+  still run_fault.Memory view s some = let e = s.1.waiting in omega (arith, e, some)
+  still (run_fault.Damaged what) view s some = absurd s
+
+  pub not_closed : 1 ≤ old.room.room.waiting → (fault : RunFault) (view : Option ViewValue) → SealsWaiting (shelf_of old) (shelf room view) (Err fault) → Closes old (moved old room view) (Some fault)
+  not_closed some fault view s entry history ready g t stand = record {
     goes_on = s.leaves.goes_on entry history g.room;
     tells = alone entry room old.ended (with_last old.ended (Some fault)) (subst (λ v. AreTold entry room (total (shelf room v)) old.ended (with_last old.ended (Some fault))) s.rested
         (told_with (shelf_of old) (shelf room view) entry history old.ended old.ended old.ended (with_last old.ended (Some fault)) fault ready (s.leaves.goes_on entry history g.room)
@@ -150,6 +158,7 @@ module _ (old : Body) (room : RoomValue) where
     becomes = s.leaves.becomes;
     board = subst (λ v. IsShelf room.room v) s.rested s.leaves.shelf;
     sealed = waits fault view s.seals;
+    some_wait = λ is. still fault view s.seals some;
     ended = refl;
     stand = (on_by entry old room view history ready s.leaves (inl (seal_fault (shelf_of old) (shelf room view) fault s.seals).1) g stand).stand;
   }

@@ -1,16 +1,18 @@
--- What a run leaves for a reader of the whole log at its end. Each law is the contract of a function.
-use Rattle.std.specs.Prelude.{◌≡◌, ◌⊎◌, ℕ, ◌<◌, false, List, Any, None, Some, Ok}
+-- What a run leaves: for a reader of the whole log at its end, and of its last seal. Each law is the contract of a function.
+use Rattle.std.specs.Prelude.{◌≡◌, ◌⊎◌, ℕ, ◌<◌, ◌≤◌, Bool, true, false, List, Any, Option, None, Some, Ok}
 use Rattle.log_disk.specs.Disk.{Eye}
 use Rattle.fine_model.specs.declared.Node.TheVariants as node
 use Rattle.fine_model.specs.declared.NodeId.{NodeId}
 use Rattle.fine_model.specs.declared.Options.{Options}
 use Rattle.fine_model.specs.declared.Ran.{Ran}
+use Rattle.fine_model.specs.declared.RunFault.{RunFault}
+use Rattle.fine_model.specs.declared.RunFault.TheVariants as run_fault
 use Rattle.fine_model.specs.declared.ScriptTxn.{ScriptTxn}
 use Rattle.fine_model.specs.declared.law.Origin.{Origin}
 use Rattle.fine_model.specs.declared.law.RoomState.{RoomState}
 use Rattle.fine_model.specs.Buckets.{node_id}
 use Rattle.fine_model.specs.Damages.{HasBadPlace, MeetsUnfit}
-use Rattle.fine_model.specs.History.{Commit}
+use Rattle.fine_model.specs.History.{Commit, last_epoch}
 use Rattle.fine_model.specs.Nodes.{Content}
 use Rattle.fine_model.specs.Paths.{unfit_between}
 use Rattle.fine_model.specs.Regions.{Place}
@@ -21,7 +23,7 @@ use Rattle.epoch_room.specs.Value.{RoomValue}
 use Rattle.epoch_room.specs.Whole.{IsWhole}
 use Rattle.room_shelf.specs.Shelves.{SeesLive}
 use Rattle.open_txn.specs.Buckets.{BucketsValue}
-use Rattle.run_laws.specs.Runs.{RunsLanes}
+use Rattle.run_laws.specs.Runs.{OwnRose, RunsLanes}
 use Rattle.txn_runner.specs.Body.{stands_on}
 use Rattle.txn_runner.specs.Follows.{OfToldLog}
 
@@ -29,10 +31,23 @@ use Rattle.txn_runner.specs.Follows.{OfToldLog}
 abbrev pub Leaves : Origin → RoomValue → List Commit → Type 0
 Leaves log room history = (kept : BucketsValue) × stands_on log room.room.sealed (record { buckets = kept; room = room.room }) history
 
--- A run, and what it leaves where no fault ended it.
+-- a fault that is want of memory
+abbrev pub is_memory : Option RunFault → Bool
+is_memory (Some run_fault.Memory) = true
+is_memory _ = false
+
+-- What a run with this history says of its last seal. Whatever ended its lanes, all that was committed is durable, unless memory was wanting for this seal, or the disk's own count rose. Where memory was
+-- wanting, entries wait in the open epoch, which are not durable, and it is told.
+pub record SealsLast (old new : RoomValue) (ran : Ran) (history : List Commit) : Type 0 where
+  pub all_durable : ran.unsealed ≡ false → (OwnRose old new → ⊥) → ran.durable ≡ last_epoch old.room.sealed history
+  pub some_wait : ran.unsealed ≡ true → 1 ≤ new.room.waiting
+  pub memory_told : ran.unsealed ≡ true → ran.fault ≡ Some run_fault.Memory
+
+-- A run, what it leaves where no fault ended it, and what it says of its last seal.
 pub record RunsOn (script : List ScriptTxn) (options : Options) (old new : RoomValue) (ran : Ran) : Type 0 where
   pub run : RunsLanes script options old new ran
   pub leaves : ran.fault ≡ None → Leaves (origin_of old.entry) new run.run.history
+  pub seals_last : SealsLast old new ran run.run.history
 
 -- ---- reading
 

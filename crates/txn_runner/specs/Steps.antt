@@ -237,7 +237,7 @@ pub record RunsTxn (group : ℕ) (entry : RoomValue) (done : List Outcome) (txn 
 
 -- ---- the end
 
--- The view was taken back, and what waited was sealed, unless the room is shut or memory ran out: the fault of this last seal is told beside those of lanes. The buckets stand as before.
+-- The view was taken back, and what waited was sealed, unless the room is shut or memory ran out, and then it waits still: the fault of this last seal is told beside those of lanes. The buckets stand as before.
 pub record IsClosed (entry : RoomValue) (old new : Body) (history : List Commit) (last : Option RunFault) : Type 0 where
   pub goes_on : GoesOn entry new.room history
   pub tells : AreTold entry new.room new.room.disk.faults old.ended (with_last old.ended last)
@@ -245,6 +245,7 @@ pub record IsClosed (entry : RoomValue) (old new : Body) (history : List Commit)
   pub becomes : Becomes old.room.room new.room.room
   pub board : list_all is_empty new.room.room.board ≡ true
   pub sealed : new.room.room.is_shut ≡ false → (last ≡ Some run_fault.Memory → ⊥) → new.room.room.waiting ≡ 0
+  pub some_wait : last ≡ Some run_fault.Memory → 1 ≤ new.room.room.waiting
   pub ended : new.ended ≡ old.ended
   pub stand : Stand entry new history
 

@@ -1,10 +1,25 @@
 //! What faults of calls are told as.
 
 ghost use Rattle.std.specs.Prelude.{◌≡◌};
+ghost use Rattle.txn_runner.specs.Left.{is_memory};
 ghost use Rattle.txn_runner.specs.Steps.{of_fetch, of_tree};
 
 use btree_nodes::TreeFault;
 use fine_model::{Damage, FetchFault, RunFault, Why};
+
+/// Whether a fault is want of memory.
+pub fn is_memory(fault: Option<RunFault>) -> bool
+    ensures { result ≡ is_memory fault }
+{
+    match fault {
+        Some(fault) => match fault {
+            RunFault::Memory => true,
+            RunFault::Disk => false,
+            RunFault::Damaged { what: _ } => false,
+        },
+        None => false,
+    }
+}
 
 /// What a fault of a load is told as.
 pub fn of_fetch(fault: FetchFault) -> RunFault

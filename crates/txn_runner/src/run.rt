@@ -12,6 +12,7 @@ ghost use Rattle.run_laws.specs.Runs.{IsReady};
 ghost use Rattle.txn_runner.specs.Body.{RunsSoFar, body};
 ghost use Rattle.txn_runner.specs.Left.{RunsOn};
 
+use crate::faults::is_memory;
 use crate::runner::Runner;
 use epoch_room::Room;
 use fine_model::{Gate, Items, NoMemory, Options, Outcome, Outcomes, Ran, RunFault, Script};
@@ -42,6 +43,7 @@ fn not_begun<D: LogDisk>(alloc: Global, room: Room<D>) -> (Ran, Room<D>)
         outcomes: Items::new(alloc),
         durable,
         fault: Some(RunFault::Memory),
+        unsealed: false,
     };
     (ran, room)
 }
@@ -80,10 +82,12 @@ fn finish<D: LogDisk, G: Gate>(
     ensures entry { (script : List ScriptTxn) (options : Limits) (entry : RoomValue) (buckets : BucketsValue) → IsReady entry → RunsSoFar script options (length script) entry (body runner buckets) outcomes → result.1.entry ≡ entry.entry }
 {
     let last = runner.close(gate);
+    let unsealed = is_memory(last);
     let ran = Ran {
         outcomes,
         durable: runner.room.sealed(),
         fault: runner.ended.fault_with(last),
+        unsealed,
     };
     (ran, runner.room)
 }
@@ -95,7 +99,8 @@ fn finish<D: LogDisk, G: Gate>(
 /// each transaction of a lane that goes on begins and ends, and behind each seal; no point of a merge is called. `tries` is not used on one thread.
 ///
 /// On return the room is whole, no view of it is out, and its disk went on from the one that it was made on. On a sound log that the disk told it stands for all that was committed, and each refusal has
-/// its cause. Without a fault it leaves what a reader of the whole log has to know (`RunsOn`). What is named as damaged is damage of the bytes at entry, on any log that the disk told then and that has a chain, in the grammar or not: a place that is bad, or a node that
+/// its cause. Without a fault it leaves what a reader of the whole log has to know (`RunsOn`). `unsealed` says that memory was wanting for the last seal, so that entries wait which are
+/// not durable; else all that was committed is durable, whatever ended the lanes, unless the disk failed on its own. What is named as damaged is damage of the bytes at entry, on any log that the disk told then and that has a chain, in the grammar or not: a place that is bad, or a node that
 /// calls of the script meet unfit.
 pub fn run_lanes<D: LogDisk, G: Gate>(
     alloc: Global,

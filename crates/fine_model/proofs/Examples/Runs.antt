@@ -1,5 +1,5 @@
 -- Whole runs of one lane, from the bytes of the script to the bytes of the report.
-use Rattle.std.proofs.Common.{◌≡◌, ℕ, ◌+◌, List, [], ◌∷◌, ◌++◌, None, Ok, Err, refl, map}
+use Rattle.std.proofs.Common.{◌≡◌, ℕ, ◌+◌, false, List, [], ◌∷◌, ◌++◌, None, Ok, Err, refl, map}
 use Rattle.std.specs.Prelude.{◌==◌, if◌then◌else◌, codes, Result, flat_map}
 use Rattle.std.specs.Fmt.{digits}
 use Rattle.fine_model.specs.Types.{ScriptTxn, Outcome, Ending}
@@ -32,7 +32,7 @@ outcomes_of epochs m turn place (t ∷ ts) =
     ∷ outcomes_of epochs (by_ending t.ending (map_after m (writes_of m t.calls)) m) (turn + 1) (by_ending t.ending (place + 1) place) ts
 
 abbrev printed : (ℕ → ℕ) → ℕ → Result (List ScriptTxn) Refusal → List ℕ
-printed epochs durable (Ok script) = report script (record { outcomes = outcomes_of epochs [] 1 1 script; durable = durable; fault = None })
+printed epochs durable (Ok script) = report script (record { outcomes = outcomes_of epochs [] 1 1 script; durable = durable; fault = None; unsealed = false })
 printed epochs durable (Err (many n)) = script_line n
 printed epochs durable (Err (too_long n)) = script_line n
 printed epochs durable (Err (bad_line n)) = script_line n

@@ -11,5 +11,5 @@ seal_waiting-requires-clause-waiting g c κs within = some_wait c.waiting.result
 pub returns : goal.returns
 returns g c buckets = elim c.match-seal_waiting.branch [
   | in-Ok w ↦ closes _ _ c.self.view_is buckets _ w.in-Ok.epoch w.in-Ok.is _ w.result-is _ _ c.seal_waiting.ensures
-  | in-Err w ↦ closes_not _ _ c.self.view_is buckets _ w.in-Err.fault w.in-Err.is _ w.result-is _ _ c.seal_waiting.ensures
+  | in-Err w ↦ closes_not _ _ c.self.view_is (some_wait c.waiting.result _ c.waiting.ensures c.if-waiting-eq0.false) buckets _ w.in-Err.fault w.in-Err.is _ w.result-is _ _ c.seal_waiting.ensures
 ]

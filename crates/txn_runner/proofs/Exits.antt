@@ -107,7 +107,7 @@ finish old new inside is last closes outcomes durable is_sealed fault told unsea
     (record { outcomes = outcomes; durable = durable; fault = fault; unsealed = unsealed })
     (ap (λ n. record { outcomes = outcomes; durable = n; fault = fault; unsealed = unsealed }) is_sealed
     ∙ ap (λ f. record { outcomes = outcomes; durable = inside.room.room.sealed; fault = f; unsealed = unsealed }) (told ∙ ap (λ ended. first_fault (with_last ended last)) (ap (λ (v : RunnerValue). v.ended) is ∙ closed.ended))
-    ∙ ap (λ u. record { outcomes = outcomes; durable = inside.room.room.sealed; fault = first_fault (with_last (body inside buckets).ended last); unsealed = u }) wanting)
+    ∙ ap (λ u. record { outcomes = outcomes; durable = inside.room.room.sealed; fault = first_fault (with_last (body old buckets).ended last); unsealed = u }) wanting)
   where
     closed : IsClosed entry (body old buckets) (body new buckets) (commits_of s.done) last
     closed = closes_so_far old new last closes script options entry buckets outcomes ready s

@@ -17,6 +17,7 @@ use fine_hall::{Conflict, Hall, Pass};
 use fine_model::{BucketLaw, NoMemory, RoomLaw, ViewLaw, bucket_of};
 use std::alloc::Global;
 use std::marker::Model;
+use std::snapshot::Snapshot;
 
 mod laws;
 mod slots;
@@ -180,16 +181,23 @@ impl<B: BucketLaw + Drop> LockSet<B> {
         true
     }
 
-    /// Gives all buckets back. It takes no memory, and goes over no other place, which no clause says.
+    /// Gives all buckets back, and hands out the set as it was, for contracts alone. It takes no memory, and goes over no other place, which no clause says.
     ///
     /// Each content stands for the whole history that the pass saw.
-    pub fn release_all<R: RoomLaw, V: ViewLaw>(&mut self, hall: &Hall<R, B, V>, pass: &mut Pass<V>)
+    pub fn release_all<R: RoomLaw, V: ViewLaw>(
+        &mut self,
+        hall: &Hall<R, B, V>,
+        pass: &mut Pass<V>,
+    ) -> Snapshot<LockSet<B>>
         requires pass { IsPassOf R.state R.origin V.state hall.now pass.old × AreLocksOf self.old pass.old }
         requires stands { AllStand B.bucket B.cached B.is_settled (begun R.state R.origin V.state hall.now).log self.old pass.old }
         ensures pass { IsPassOf R.state R.origin V.state hall.now pass.new × (pass.new.number ≡ pass.old.number) × AreLocksOf self.new pass.new }
         ensures none { (k : ℕ) → k < 256 → LacksLock self.new k }
         ensures releases { Releases self.old self.new pass.old pass.new }
+        ensures given_back { result.value ≡ self.old }
     {
+        let given_back = Snapshot::of(self);
         while self.release_one(hall, pass) {}
+        given_back
     }
 }

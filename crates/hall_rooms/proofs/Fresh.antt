@@ -500,7 +500,13 @@ module _ (old new : RoomValue) (seats : ℕ) (fronts middles : List ViewValue) (
   }
 
   pub opens : OpensHall old seats x
-  opens = record { seats_are = v.many; log = ap origin_of entry_is; room = room_is; becomes = (keeps_then old v.mid new v.keeps v.made.out.keeps).becomes }
+  opens = record {
+    seats_are = v.many;
+    log = ap origin_of entry_is;
+    room = room_is;
+    becomes = (keeps_then old v.mid new v.keeps v.made.out.keeps).becomes;
+    not_shut = ap (λ (r : RoomState). r.is_shut) room_is ∙ v.opened;
+  }
 
   pub lacks_hall : LacksViews old new (reverse middles ++ reverse fronts) room_fault.NoMemory
   lacks_hall = lacks_seated old v.mid v.board v.is v.keeps new (reverse middles ++ reverse fronts) room_fault.NoMemory (record { out = v.made.out; cause = v.made.same })

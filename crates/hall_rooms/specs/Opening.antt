@@ -23,12 +23,13 @@ use Rattle.hall_rooms.specs.Rooms.{room_log}
 use Rattle.hall_rooms.specs.Boards.{Names, faults_of}
 use Rattle.hall_rooms.specs.Views.{with_eyes, with_faults}
 
--- The hall is one of so many seats on the log of this room, and its room at the beginning is this one, with views on its board.
+-- The hall is one of so many seats on the log of this room, and its room at the beginning is this one, with views on its board, and is not shut.
 pub record OpensHall (old : RoomValue) (seats : ℕ) (x : Beginning) : Type 0 where
   pub seats_are : x.seats ≡ seats
   pub log : x.log ≡ origin_of old.entry
   pub room : x.room ≡ with_eyes old.room x.room
   pub becomes : Becomes old.room x.room
+  pub not_shut : x.room.is_shut ≡ false
 
 -- why no hall was made: the disk failed as an eye was opened, and the room is shut; or it was shut before; or memory ran out
 abbrev pub WhyNoHall : RoomState → RoomState → RoomFault → Type 0

@@ -126,8 +126,8 @@ fn refuse<D: LogDisk>(room: Room<D>) -> (RoomFault, Room<D>)
     (RoomFault::NoMemory, room)
 }
 
-/// A hall of 1 to 18 seats on a room, with two views for each seat, and its passes. Where it cannot be made, the room comes back with no view on its
-/// board, and stands for what it stood for.
+/// A hall of 1 to 18 seats on a room, with two views for each seat, and its passes. The room of the hall is not shut as it begins. Where it cannot be made,
+/// the room comes back with no view on its board, and stands for what it stood for.
 ///
 /// The room has no view, no merge and no entry yet, and stands for what its log showed at entry, with no history. `Disk` comes only where the disk failed in
 /// this call, and the room is shut; `Shut` only where it was shut before.

@@ -161,6 +161,9 @@ module _ (z : TableId) (x : Beginning) (c : Call) (t t₂ t₃ : Txn) (p p₂ p�
   pub open_after : IsOpenTxn x t₃ p₃
   open_after = record { locks = locks_now; open_on = subst (λ q. IsOpenOn x.log q.published (commits q.seen) t₃.draft t₃.locks) (sym stayed.same_known) both.0 }
 
+  pub ahead_after : IsAhead state_of x p₃
+  ahead_after = stayed.ahead ahead
+
   pub sees_after : SeesCall x p p₃
   sees_after = record {
     sees = sees_on p p₂ p₃ number all_held stays.sees.sees stayed.sees;

@@ -194,6 +194,11 @@ CallsOr x c t t' p p' (Err (fault.BucketFull next depth)) = IsLeft x t t' p p' �
 CallsOr x c t t' p p' (Err (fault.Number id)) = IsLeft x t t' p p' × TakesBuckets c t t' p p' × Refuses x t c p' why.Number (IsOver c id)
 CallsOr x c t t' p p' (Err fault.NoMemory) = WantsMemory c t t' p p'
 
+-- a call was refused by a conflict
+abbrev pub is_conflict : Result (Unit {0}) TxnFault → Bool
+is_conflict (Err (fault.Conflict bucket owner)) = true
+is_conflict _ = false
+
 -- ---- the ends
 
 -- The entry was committed in one turn, at the end of what the pass then saw, and all buckets were given back.

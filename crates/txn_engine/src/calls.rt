@@ -8,7 +8,7 @@ ghost use Rattle.fine_hall.specs.Halls.{IsAhead};
 ghost use Rattle.node_cache.specs.Cache.{Cache};
 ghost use Rattle.key_locks.specs.Locks.{AreLocksOf, HasLock, LacksLock};
 ghost use Rattle.hall_rooms.specs.Rooms.{IsRoomPass, beginning_of};
-ghost use Rattle.txn_engine.specs.Txns.{CallsOr, HasBuckets, IsOpenTxn, SeesCall, StaysFailed, wants_memory};
+ghost use Rattle.txn_engine.specs.Txns.{CallsOr, HasBuckets, IsOpenTxn, SeesCall, StaysFailed, is_conflict, wants_memory};
 ghost use Rattle.txn_engine.specs.Turns.{LocksOr, ReadsFront, TakesOr};
 ghost use Rattle.txn_engine.specs.Faults.{after_fault, fault_of, source_fault};
 
@@ -159,7 +159,8 @@ impl Txn {
     /// read through the front failed. `BadRow` and `BadIndex` name a place of a part of the front that is bad by what was read, and `Unfit` the first node on
     /// the call's way that is not fit, by what a bucket gives that is then held; these do not come where the log at entry was told and sound. There
     /// `BucketFull` and `Number` come only where the definitions refuse the call for this reason, with what the bucket's head says, and with the first node
-    /// that is over its bounds. After each of these it may be tried again. `NoMemory` leaves the transaction failed, and no other answer does [`failed`]: each
+    /// that is over its bounds. After each of these it may be tried again. After all but a conflict the pass's front shows what the pass saw, up to an epoch not
+    /// below the published one that it knows [`ahead`]. `NoMemory` leaves the transaction failed, and no other answer does [`failed`]: each
     /// later call answers it too, and changes nothing, until the transaction is aborted.
     pub fn call<D: LogDisk>(
         &mut self,
@@ -176,6 +177,7 @@ impl Txn {
         ensures gone { self.old.draft.failed ≡ true → StaysFailed self.old self.new pass.old pass.new result }
         ensures sees { SeesCall (beginning_of hall.now) pass.old pass.new }
         ensures answer { CallsOr (beginning_of hall.now) call.now self.old self.new pass.old pass.new result }
+        ensures ahead { self.old.draft.failed ≡ false → is_conflict result ≡ false → IsAhead state_of (beginning_of hall.now) pass.new }
     {
         if self.draft.failed() {
             return Err(TxnFault::NoMemory);

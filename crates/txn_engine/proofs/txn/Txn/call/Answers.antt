@@ -1,8 +1,8 @@
-use Rattle.std.proofs.Common.{Ok, Err, ap, refl, subst, sym, ◌∙◌}
+use Rattle.std.proofs.Common.{Ok, Err, ap, refl, subst, sym, true≢false, ◌∙◌}
 use Rattle.hall_rooms.specs.Rooms.{beginning_of}
 use Rattle.txn_engine.specs.Faults.{after_fault}
 use Rattle.txn_engine.specs.Txns.{CallsOr, IsOpenTxn}
-use Rattle.txn_engine.proofs.Calling.{answer_err, answer_ok, open_after, same_number, sees_after, still_pass}
+use Rattle.txn_engine.proofs.Calling.{ahead_after, answer_err, answer_ok, open_after, same_number, sees_after, still_pass}
 use Rattle.txn_engine.proofs.Failing.{answer_failed, not_gone, open_fails, sees_still, still_failed}
 use Rattle.txn_engine.proofs.txn.Txn.call.Goals as goal
 
@@ -19,6 +19,9 @@ returns-then-failed-clause-answer g c = still_failed (beginning_of c.args.hall.n
 
 pub returns-then-failed-clause-gone : goal.returns-then-failed-clause-gone
 returns-then-failed-clause-gone g c = λ _. (refl, refl, refl)
+
+pub returns-then-failed-clause-ahead : goal.returns-then-failed-clause-ahead
+returns-then-failed-clause-ahead g c = λ ok other. absurd (true≢false (sym (sym c.failed.ensures ∙ c.if-failed.true) ∙ ok))
 
 -- ---- it was not
 
@@ -83,3 +86,12 @@ returns-in-Ok-clause-gone g c = not_gone _ _ _ _ _ (sym c.failed.ensures ∙ c.i
 
 pub returns-in-Err-read_for-clause-gone : goal.returns-in-Err-read_for-clause-gone
 returns-in-Err-read_for-clause-gone g c = not_gone _ _ _ _ _ (sym c.failed.ensures ∙ c.if-failed.false)
+
+pub returns-in-Err-clause-ahead : goal.returns-in-Err-clause-ahead
+returns-in-Err-clause-ahead g c = λ ok other. absurd (true≢false other)
+
+pub returns-in-Ok-clause-ahead : goal.returns-in-Ok-clause-ahead
+returns-in-Ok-clause-ahead g c = let e = c.in_default.ensures in λ ok other. ahead_after c.args.hall.now.table.shared.table_id (beginning_of c.args.hall.now) c.args.call.now c.args.self.now c.take_for.new.self c.read_for.new.self c.args.pass.now c.take_for.new.pass c.read_for.new.pass e.pass.0 e.pass.1 e.takes.0 e.takes.1 e.takes.2 (Ok c.in-Ok.field-0) c.in-Ok.ensures.reads
+
+pub returns-in-Err-read_for-clause-ahead : goal.returns-in-Err-read_for-clause-ahead
+returns-in-Err-read_for-clause-ahead g c = let e = c.in_default.ensures in λ ok other. ahead_after c.args.hall.now.table.shared.table_id (beginning_of c.args.hall.now) c.args.call.now c.args.self.now c.take_for.new.self c.read_for.new.self c.args.pass.now c.take_for.new.pass c.read_for.new.pass e.pass.0 e.pass.1 e.takes.0 e.takes.1 e.takes.2 (Err c.in-Err-read_for.fault) c.in-Err-read_for.ensures.reads

@@ -36,8 +36,8 @@ module _ (p p' : RoomPass) where
   turn_none : (x : Beginning) (found room : RoomState) → TakesTurn x found None 0 room p p' → mine p' ≡ mine p
   turn_none x found room t = turn_adds x found room None 0 t ∙ append-nil (mine p)
 
-  pub commit_adds : (x : Beginning) (t t' : Txn) (done : Committed) → Commits x t t' p p' done.stamp → done.entry ≡ entry_of t.draft → mine p' ≡ mine p ++ commit_of done ∷ []
-  commit_adds x t t' done c is = turn_adds x c.found c.room (Some (entry_of t.draft)) done.stamp.epoch c.turn ∙ ap (λ (e : Entry). mine p ++ committed e done.stamp.epoch ∷ []) (sym is)
+  pub commit_adds : (x : Beginning) (keep : ℕ) (t t' : Txn) (done : Committed) → Commits x keep t t' p p' done.stamp → done.entry ≡ entry_of t.draft → mine p' ≡ mine p ++ commit_of done ∷ []
+  commit_adds x keep t t' done c is = turn_adds x c.found c.room (Some (entry_of t.draft)) done.stamp.epoch c.turn ∙ ap (λ (e : Entry). mine p ++ committed e done.stamp.epoch ∷ []) (sym is)
 
   pub refused_none : (x : Beginning) (t t' : Txn) (cause : CommitFault) → IsRefused x t t' p p' cause → mine p' ≡ mine p
   refused_none x t t' cause r = turn_none x r.room r.room r.turn

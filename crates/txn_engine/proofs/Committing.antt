@@ -18,7 +18,7 @@ use Rattle.fine_model.proofs.Histories.Epochs.{epochs_below}
 use Rattle.fine_model.proofs.Histories.Goings.{job_on}
 use Rattle.fine_model.proofs.Histories.HistoryLaws.{IsLegal-push}
 use Rattle.fine_model.proofs.Histories.Stated.{shown_small}
-use Rattle.node_cache.specs.Cache.{Cache}
+use Rattle.node_cache.specs.Cache.{Cache, evicted, settled}
 use Rattle.txn_draft.specs.Drafts.{DraftValue, FitsDraft, blank, entry_of, is_here}
 use Rattle.txn_draft.proofs.Lasting.{untouched_law}
 use Rattle.txn_draft.proofs.Lawful.{next_law}
@@ -45,10 +45,10 @@ use Rattle.txn_engine.specs.declared.txn.Txn.{Txn}
 use Rattle.txn_engine.specs.Faults.{refusal_of}
 use Rattle.hall_rooms.specs.Rooms.{RoomPass, room_log, room_state}
 use Rattle.hall_rooms.specs.Turning.{MeetsNone, TakesTurn}
-use Rattle.txn_engine.specs.Txns.{Commits, HoldsNone, IsAnsweredOn, IsOpenOn, IsOpenTxn, IsRefused}
+use Rattle.txn_engine.specs.Txns.{Commits, GivesBack, HoldsNone, IsAnsweredOn, IsOpenOn, IsOpenTxn, IsRefused}
 use Rattle.txn_engine.proofs.Held.{same_calls}
 use Rattle.txn_engine.proofs.Open.{open_seen}
-use Rattle.txn_engine.proofs.Releasing.{StandAt, locks_read}
+use Rattle.txn_engine.proofs.Releasing.{StandAt, gives_settled, locks_read}
 
 -- ---- what a draft commits
 
@@ -239,9 +239,9 @@ module _ (x : Beginning) (t : Txn) (p p₀ p₁ : RoomPass) (number₀ : p₀.nu
       pub stand_now : (locks : List (Option Cache)) → StandAt x (published p₁) (seen p₁ ++ commit ∷ []) locks → StandAt x (published p₂) (seen p₂) locks
       stand_now locks all = subst (λ n. StandAt x n (seen p₂) locks) (sym g.same_published) (subst (λ h. StandAt x (published p₁) h locks) (sym seen_now) all)
 
-      pub committed : (fits : fit_of r.room (cost t.draft.rows) ≡ fit.Fits) (t' : Txn) (p₃ : RoomPass) (locks : List (Option Cache)) (stamp : Stamp) → p₃.number ≡ p₂.number → stamp ≡ record { place = r.room.places + 1; epoch = epoch }
-          → t'.draft ≡ blank t.draft.lane t.draft.turn → AreLocksOf t'.locks p₃ → HoldsNone t'.locks → Releases locks t'.locks p₂ p₃ → Commits x t t' p p₃ stamp
-      committed fits t' p₃ locks stamp number₃ stamped draft are none q =
+      pub committed : (keep : ℕ) (fits : fit_of r.room (cost t.draft.rows) ≡ fit.Fits) (t' : Txn) (p₃ : RoomPass) (locks : List (Option Cache)) (stamp : Stamp) → p₃.number ≡ p₂.number → stamp ≡ record { place = r.room.places + 1; epoch = epoch }
+          → t'.draft ≡ blank t.draft.lane t.draft.turn → AreLocksOf t'.locks p₃ → HoldsNone t'.locks → Releases locks t'.locks p₂ p₃ → (upto : ℕ) → upto ≡ published p₀ → GivesBack (λ b. evicted upto keep (settled stamp.epoch b)) t t' → Commits x keep t t' p p₃ stamp
+      committed keep fits t' p₃ locks stamp number₃ stamped draft are none q upto is_upto gives =
           let turn = the_turn (Some (entry_of t.draft)) epoch new.room p₂ number₂ g in
           record {
             found = r.room;
@@ -268,6 +268,7 @@ module _ (x : Beginning) (t : Txn) (p p₀ p₁ : RoomPass) (number₀ : p₀.nu
             place = ap (λ (s : Stamp). s.place) stamped ∙ (ap (λ n. n + 1) stands.places ∙ sym (ap (λ l. length (commits l)) q.same_turns ∙ (ap length seen_now ∙ length-append (seen p₁) (commit ∷ []))));
             blank_now = (draft, none);
             nothing = nothing;
+            evicts = gives_settled keep stamp.epoch upto t t' p p₀ p₁ p₂ p₃ read is_upto k.takes.sees.no_earlier g.same_published q.same_published gives;
             meets = ((troubles_law state_of x).same p₂ p₃ number₃).turns_stay q.same_turns q.views ∙ meets_none (Some (entry_of t.draft)) epoch new.room p₂ number₂ g faults_are;
           }
         where

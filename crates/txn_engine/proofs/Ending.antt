@@ -17,7 +17,8 @@ use Rattle.std.specs.Borrow.{MutBor}
 use denote.Param.Members.{Shared}
 use Rattle.key_locks.specs.Slots.{EachBy, LeavesAt}
 use Rattle.txn_engine.specs.Steps.{EachBecomes}
-use Rattle.txn_engine.specs.Txns.{IsHeld}
+use Rattle.txn_engine.specs.declared.txn.Txn.{Txn}
+use Rattle.txn_engine.specs.Txns.{GivesBack, IsHeld}
 use Rattle.txn_engine.proofs.Open.{has_or_lacks, one_content}
 
 pub less_or_at : (k at : ℕ) → k < at + 1 → (k < at) ⊎ (k ≡ at)
@@ -36,6 +37,13 @@ module _ (f : Cache → Cache) (Left : Cache → Cache → Type 0) where
         let w = e.filled k b h in
         let r = by b w.0 w.2 in
         (subst (HasLock locks' k) r.0 w.1, subst (Left b) r.0 r.1);
+  }
+
+  -- and so it was given back
+  pub gives_back : (t t' : Txn) (locks : List (Option Cache)) → EachBecomes f Left t.locks locks → t'.given_back.value ≡ locks → GivesBack f t t'
+  gives_back t t' locks e is = record {
+    none = λ k low none. subst (λ l. LacksLock l k) (sym is) (e.lacks k none);
+    each = λ k b low h. subst (λ l. HasLock l k (f b)) (sym is) (e.each k b low h).0;
   }
 
   -- a content of the set at the end was another before

@@ -13,13 +13,13 @@ use Rattle.txn_engine.proofs.Open.{open_seen}
 use Rattle.txn_engine.proofs.Releasing.{open_blank}
 
 pub commits_idle : CommitsIdle
-commits_idle x t t' p p' stamp number c lacks = (c.nothing, job_left x c.found _ stamp.epoch c.room p p' number c.turn.one c.job lacks)
+commits_idle x keep t t' p p' stamp number c lacks = (c.nothing, job_left x c.found _ stamp.epoch c.room p p' number c.turn.one c.job lacks)
 
 pub refused_job : RefusedJob
 refused_job x t t' p p' cause number r lacks = job_left x r.room None 0 r.room p p' number r.turn.one (job_itself r.room) lacks
 
 pub aborts_idle : AbortsIdle
-aborts_idle x t t' p p' number lawful a free lacks = (
+aborts_idle x keep t t' p p' number lawful a free lacks = (
   λ k low. ⊎_elim
       (λ (same : k ≡ places.room). subst (LacksPlace p') (sym same) (a.room ∙ free))
       (λ (other : k ≢ places.room). a.nothing k (far k (grind (arith, low, other))))

@@ -15,7 +15,6 @@ use Rattle.btree_nodes.specs.Faults.{OnFault}
 use Rattle.btree_nodes.specs.Trees.{Serves}
 use Rattle.txn_draft.specs.Drafts.{DraftValue, FitsDraft, IsAnswered}
 use Rattle.txn_draft.specs.Scans.{KeepsFound, ScanValue}
-use Rattle.txn_draft.specs.Uses.{IsUsed}
 use Rattle.open_txn.proofs.Advanced.{still_served}
 use Rattle.partition_hold.specs.SourceLaws.{later_tells}
 use Rattle.partition_hold.specs.Sources.{IsLater, tells_rows}

@@ -67,10 +67,10 @@ SealsNoJob = (x : Beginning) (p p' : RoomPass) (r : Result ℕ RoomFault) → p'
 -- ---- what a pass has out
 
 abbrev pub CommitsIdle : Type 0
-CommitsIdle = (x : Beginning) (t t' : Txn) (p p' : RoomPass) (stamp : Stamp) → p'.number ≡ p.number → Commits x t t' p p' stamp → LacksJob x p → HoldsNothing p' × LacksJob x p'
+CommitsIdle = (x : Beginning) (keep : ℕ) (t t' : Txn) (p p' : RoomPass) (stamp : Stamp) → p'.number ≡ p.number → Commits x keep t t' p p' stamp → LacksJob x p → HoldsNothing p' × LacksJob x p'
 
 abbrev pub RefusedJob : Type 0
 RefusedJob = (x : Beginning) (t t' : Txn) (p p' : RoomPass) (cause : CommitFault) → p'.number ≡ p.number → IsRefused x t t' p p' cause → LacksJob x p → LacksJob x p'
 
 abbrev pub AbortsIdle : Type 0
-AbortsIdle = (x : Beginning) (t t' : Txn) (p p' : RoomPass) → p'.number ≡ p.number → AreTurns x (turns p') → Aborts x t t' p p' → LacksPlace p places.room → LacksJob x p → HoldsNothing p' × LacksJob x p'
+AbortsIdle = (x : Beginning) (keep : ℕ) (t t' : Txn) (p p' : RoomPass) → p'.number ≡ p.number → AreTurns x (turns p') → Aborts x keep t t' p p' → LacksPlace p places.room → LacksJob x p → HoldsNothing p' × LacksJob x p'

@@ -20,7 +20,7 @@ use Rattle.fine_model.specs.Merge.{cost}
 use Rattle.fine_model.specs.Pushed.{all_pushed, key_of, push_of}
 use Rattle.fine_model.specs.Store.{replies_to}
 use Rattle.fine_model.specs.Trees.{bucket_of, map_of, nodes_of}
-use Rattle.node_cache.specs.Cache.{Cache}
+use Rattle.node_cache.specs.Cache.{Cache, evicted, settled, undone}
 use Rattle.btree_nodes.specs.Trees.{HeadSays, Holds, Restores, first_over}
 use Rattle.txn_draft.specs.Drafts.{DraftValue, IsAnswered, FitsDraft, IsLost, Keeps, blank, entry_of, is_here, is_scan}
 use Rattle.txn_draft.specs.Scans.{KeepsFound}
@@ -201,8 +201,21 @@ is_conflict _ = false
 
 -- ---- the ends
 
--- The entry was committed in one turn, at the end of what the pass then saw, and all buckets were given back.
-pub record Commits (x : Beginning) (t t' : Txn) (p p' : RoomPass) (stamp : Stamp) : Type 0 where
+-- Each bucket that was held was given back as f makes it of what it was, and no other one.
+pub record GivesBack (f : Cache → Cache) (t t' : Txn) : Type 0 where
+  pub none : (k : ℕ) → k < 256 → LacksLock t.locks k → LacksLock t'.given_back.value k
+  pub each : (k : ℕ) (b : Cache) → k < 256 → HasLock t.locks k b → HasLock t'.given_back.value k (f b)
+
+-- Each was given back settled, and what was published evicted, but for so many nodes: up to an epoch that is not below the published one that the pass
+-- knew, nor above the one that it then knows.
+pub record GivesBackSettled (keep epoch : ℕ) (t t' : Txn) (p p' : RoomPass) : Type 0 where
+  pub upto : ℕ
+  pub no_earlier : published p ≤ upto
+  pub no_later : upto ≤ published p'
+  pub gives : GivesBack (λ b. evicted upto keep (settled epoch b)) t t'
+
+-- The entry was committed in one turn, at the end of what the pass then saw, and all buckets were given back, settled and evicted.
+pub record Commits (x : Beginning) (keep : ℕ) (t t' : Txn) (p p' : RoomPass) (stamp : Stamp) : Type 0 where
   pub found : RoomState
   pub room : RoomState
   pub turn : TakesTurn x found (Some (entry_of t.draft)) stamp.epoch room p p'
@@ -213,6 +226,7 @@ pub record Commits (x : Beginning) (t t' : Txn) (p p' : RoomPass) (stamp : Stamp
   pub place : stamp.place ≡ length (seen p')
   pub blank_now : IsBlank t t'
   pub nothing : HoldsNothing p'
+  pub evicts : GivesBackSettled keep stamp.epoch t t' p p'
   pub meets : MeetsNone x p p'
 
 -- The room had no place for it, by its own numbers; it was given back as it was, and the transaction is as it was.
@@ -224,14 +238,15 @@ pub record IsRefused (x : Beginning) (t t' : Txn) (p p' : RoomPass) (cause : Com
   pub held : (known p').held ≡ (known p).held
   pub meets : MeetsNone x p p'
 
-abbrev pub CommitsOr : Beginning → Txn → Txn → RoomPass → RoomPass → Result Committed CommitFault → Type 0
-CommitsOr x t t' p p' (Ok done) = Commits x t t' p p' done.stamp × (done.entry ≡ entry_of t.draft)
-CommitsOr x t t' p p' (Err cause) = IsRefused x t t' p p' cause
+abbrev pub CommitsOr : Beginning → ℕ → Txn → Txn → RoomPass → RoomPass → Result Committed CommitFault → Type 0
+CommitsOr x keep t t' p p' (Ok done) = Commits x keep t t' p p' done.stamp × (done.entry ≡ entry_of t.draft)
+CommitsOr x keep t t' p p' (Err cause) = IsRefused x t t' p p' cause
 
--- All was taken back, and all buckets were given back; the pass had no turn.
-pub record Aborts (x : Beginning) (t t' : Txn) (p p' : RoomPass) : Type 0 where
+-- All was taken back, and all buckets were given back, without what is published, but for so many nodes; the pass had no turn.
+pub record Aborts (x : Beginning) (keep : ℕ) (t t' : Txn) (p p' : RoomPass) : Type 0 where
   pub blank_now : IsBlank t t'
   pub nothing : (k : ℕ) → k < 256 → LacksPlace p' k
+  pub evicts : GivesBack (λ b. evicted (published p') keep (undone b)) t t'
   pub room : get_elem? (known p').held places.room ≡ get_elem? (known p).held places.room
   pub sees : SeesMore p p'
   pub found : found_held p' ≡ found_held p

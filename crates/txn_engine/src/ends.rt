@@ -43,8 +43,9 @@ impl Txn {
     /// Commits in one turn of the room, as one entry of the open epoch, gives all buckets back, and hands the entry out. It may wait for the room, and takes no
     /// memory.
     ///
-    /// What was done to the buckets is kept under the entry's epoch, and what is published is evicted, but for `keep` nodes of each bucket. A refusal is the
-    /// first that the numbers of the room give, which is handed back as it was found; the transaction is as it was.
+    /// What was done to the buckets is kept under the entry's epoch, and what is published is evicted, but for `keep` nodes of each bucket, by the published
+    /// number as it was read before the turn. A refusal is the first that the numbers of the room give, which is handed back as it was found; the transaction
+    /// is as it was.
     pub fn commit<D: LogDisk, W: Wait>(
         &mut self,
         rt: &W,
@@ -57,7 +58,7 @@ impl Txn {
         requires open { IsOpenTxn (beginning_of hall.now) self.old pass.old × (self.old.draft.failed ≡ false) }
         ensures pass { IsRoomPass hall.now pass.new × (pass.new.number ≡ pass.old.number) }
         ensures open { IsOpenTxn (beginning_of hall.now) self.new pass.new }
-        ensures commits { CommitsOr (beginning_of hall.now) self.old self.new pass.old pass.new result }
+        ensures commits { CommitsOr (beginning_of hall.now) keep self.old self.new pass.old pass.new result }
     {
         let published = hall.published(pass);
         let mut room = hall.take_room(rt, pass);
@@ -67,7 +68,7 @@ impl Txn {
                 let entry = self.draft.take_entry();
                 hall.give_room(pass, room, Some(&entry), stamp.epoch);
                 settle_all(&mut self.locks, stamp.epoch, published, keep);
-                self.locks.release_all(hall, pass);
+                self.given_back = self.locks.release_all(hall, pass);
                 Ok(Committed { stamp, entry })
             }
             Some(cause) => {
@@ -90,11 +91,11 @@ impl Txn {
         requires open { IsOpenTxn (beginning_of hall.now) self.old pass.old }
         ensures pass { IsRoomPass hall.now pass.new × (pass.new.number ≡ pass.old.number) }
         ensures open { IsOpenTxn (beginning_of hall.now) self.new pass.new }
-        ensures aborts { Aborts (beginning_of hall.now) self.old self.new pass.old pass.new }
+        ensures aborts { Aborts (beginning_of hall.now) keep self.old self.new pass.old pass.new }
     {
         let published = hall.published(pass);
         undo_all(&mut self.locks, published, keep);
-        self.locks.release_all(hall, pass);
+        self.given_back = self.locks.release_all(hall, pass);
         self.draft.clear();
     }
 }

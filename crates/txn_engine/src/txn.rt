@@ -9,6 +9,7 @@ use fine_model::{Entry, NoMemory, NodeId, Reply};
 use hall_rooms::HeldBucket;
 use key_locks::LockSet;
 use std::alloc::Global;
+use std::snapshot::Snapshot;
 use txn_draft::Draft;
 
 /// What a transaction answered so far, and the buckets that it took, which are those of its calls. It goes with one pass.
@@ -17,6 +18,8 @@ pub struct Txn {
     pub(crate) alloc: Global,
     pub(crate) draft: Draft,
     pub(crate) locks: LockSet<HeldBucket>,
+    /// The buckets as they were given back at the last commit or abort, for contracts alone. It takes no bytes.
+    pub(crate) given_back: Snapshot<LockSet<HeldBucket>>,
 }
 
 /// What became of a commit: its place and its epoch, and the entry, with the replies to all calls.
@@ -68,10 +71,13 @@ impl Txn {
         ensures draft { IfOk result (λ txn. txn.draft ≡ blank lane turn) }
         ensures locks { IfOk result (λ txn. HoldsNone txn.locks) }
     {
+        let locks = LockSet::new(alloc)?;
+        let given_back = Snapshot::of(&locks);
         Ok(Txn {
             alloc,
             draft: Draft::new(alloc, lane, turn),
-            locks: LockSet::new(alloc)?,
+            locks,
+            given_back,
         })
     }
 

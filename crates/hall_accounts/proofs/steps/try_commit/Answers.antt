@@ -11,7 +11,7 @@ commit-requires-clause-open g c κs within = (c.requires.going.is_open, sym c.fa
 pub returns-in-Ok : goal.returns-in-Ok
 returns-in-Ok g c =
     let e = c.in-Ok.ensures in
-    let i = commits_idle (beginning_of c.args.hall.now) c.args.seat.now.txn c.commit.new.self c.args.seat.now.pass c.commit.new.pass c.in-Ok.done.stamp e.pass.1 e.commits.0 c.requires.going.job in
+    let i = commits_idle (beginning_of c.args.hall.now) 0 c.args.seat.now.txn c.commit.new.self c.args.seat.now.pass c.commit.new.pass c.in-Ok.done.stamp e.pass.1 e.commits.0 c.requires.going.job in
     record { going = (record { pass = e.pass.0; is_open = e.«open»; room = i.0 places.room (le_refl places.room); job = i.1 }, e.pass.1) }
 
 pub returns-in-Err : goal.returns-in-Err

@@ -6,7 +6,7 @@ pub returns : goal.returns
 returns g c =
     let e = c.abort.ensures in
     let o = c.requires.going in
-    let i = aborts_idle (beginning_of c.args.hall.now) c.args.txn.now c.abort.new.self c.args.pass.now c.abort.new.pass e.pass.1 e.pass.0.lawful e.aborts o.room o.job in
+    let i = aborts_idle (beginning_of c.args.hall.now) c.args.keep c.args.txn.now c.abort.new.self c.args.pass.now c.abort.new.pass e.pass.1 e.pass.0.lawful e.aborts o.room o.job in
     record {
       idle = record { idle = (e.pass.0, i.0, i.1) };
       stays = (e.pass.1, e.aborts.sees.same_own);

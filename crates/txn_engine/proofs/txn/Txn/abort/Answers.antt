@@ -1,11 +1,9 @@
 use denote.Param.Send.{sendable}
 use Rattle.std.proofs.Common.{◌≤◌, arith}
-use Rattle.node_cache.specs.Cache.{before, evicted, undone}
 use Rattle.fine_hall.specs.Passes.{published, seen}
-use Rattle.txn_draft.specs.Standing.{IsLeft}
 use Rattle.hall_rooms.specs.Rooms.{beginning_of}
 use Rattle.hall_rooms.proofs.Crossing.{bucket_send, in_hall_send}
-use Rattle.txn_engine.proofs.Ending.{still_locks}
+use Rattle.txn_engine.proofs.Ending.{gives_back, still_locks}
 use Rattle.txn_engine.proofs.Releasing.{aborted, locks_read, open_blank, open_read, undone_all}
 use Rattle.txn_engine.proofs.txn.Txn.abort.Goals as goal
 
@@ -26,7 +24,7 @@ release_all-requires-clause-pass g c κs within =
     let x = beginning_of c.args.hall.now in
     let r = c.published-published.ensures in (
       r.pass.0,
-      still_locks (λ b. evicted c.published-published.result c.args.keep (undone b)) (λ b new. IsLeft c.published-published.result (before b) b new) c.args.self.now.locks c.undo_all.new.locks c.published-published.new.pass
+      still_locks _ _ c.args.self.now.locks c.undo_all.new.locks c.published-published.new.pass
           (locks_read x c.args.self.now c.args.pass.now c.published-published.new.pass r.pass.1 r.reads c.requires.open) c.undo_all.ensures,
     )
 
@@ -37,7 +35,7 @@ release_all-requires-clause-stands g c κs within =
     let p = c.published-published.new.pass in
     let t = c.args.self.now in
     let le : c.published-published.result ≤ published p = omega (arith, r.number) in
-    undone_all (λ b. evicted c.published-published.result c.args.keep (undone b)) x (published p) c.published-published.result (seen p) t.draft t.locks c.undo_all.new.locks p
+    undone_all _ x (published p) c.published-published.result (seen p) t.draft t.locks c.undo_all.new.locks p
     (locks_read x t c.args.pass.now p r.pass.1 r.reads c.requires.open) (open_read x t c.args.pass.now p r.pass.1 r.reads c.requires.open c.requires.pass.lawful r.pass.0.lawful) le c.undo_all.ensures
 
 pub returns-clause-open : goal.returns-clause-open
@@ -49,4 +47,5 @@ pub returns-clause-aborts : goal.returns-clause-aborts
 returns-clause-aborts g c =
     let e = c.release_all.ensures in
     let r = c.published-published.ensures in
-    aborted (beginning_of c.args.hall.now) c.args.self.now c.args.pass.now c.published-published.new.pass r.pass.1 r.reads c.requires.open _ c.release_all.new.pass c.undo_all.new.locks e.pass.1 c.clear.ensures e.pass.2 e.none e.releases
+    aborted (beginning_of c.args.hall.now) c.args.self.now c.args.pass.now c.published-published.new.pass r.pass.1 r.reads c.requires.open c.args.keep c.published-published.result _ c.release_all.new.pass c.undo_all.new.locks e.pass.1 c.clear.ensures e.pass.2 e.none e.releases r.number
+    (gives_back _ _ c.args.self.now _ c.undo_all.new.locks c.undo_all.ensures e.given_back)

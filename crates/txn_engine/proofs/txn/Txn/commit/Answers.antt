@@ -1,9 +1,7 @@
 use denote.Param.Send.{sendable}
-use Rattle.std.proofs.Common.{◌≤◌, ◌∙◌, ◌+◌, Some, arith, ap, refl, subst, sym}
+use Rattle.std.proofs.Common.{◌∙◌, ◌+◌, Some, arith, ap, refl, subst, sym}
 use Rattle.fine_model.specs.declared.Entry.{Entry}
-use Rattle.node_cache.specs.Cache.{after, evicted, settled}
 use Rattle.txn_draft.specs.Drafts.{entry_of}
-use Rattle.txn_draft.specs.Standing.{IsLeft}
 use Rattle.epoch_room.specs.Fitting.{fit_of}
 use Rattle.epoch_room.specs.Meaning.{Stands, StandsForMore}
 use Rattle.epoch_room.specs.Steps.{appended}
@@ -11,10 +9,9 @@ use Rattle.epoch_room.specs.declared.answers.Stamp.{Stamp}
 use Rattle.fine_hall.specs.Halls.{GivesRoom, MayGiveRoom}
 use Rattle.fine_hall.specs.Passes.{published, seen}
 use Rattle.hall_rooms.specs.Rooms.{beginning_of, room_log, room_state}
-use Rattle.txn_engine.specs.Steps.{EachBecomes}
 use Rattle.txn_engine.proofs.Committing.{committed, epochs, free_read, held_room, locks_then, locks₁, may_some, open_refused, open₁, refused, stand_now}
 use Rattle.hall_rooms.proofs.Crossing.{bucket_send, in_hall_send}
-use Rattle.txn_engine.proofs.Ending.{still_locks}
+use Rattle.txn_engine.proofs.Ending.{gives_back, still_locks}
 use Rattle.txn_engine.proofs.Releasing.{open_blank, settled_all}
 use Rattle.txn_engine.proofs.txn.Txn.commit.Goals as goal
 
@@ -75,7 +72,7 @@ release_all-requires-clause-pass g c κs within =
     let k = c.take_room-room.ensures.takes in
     let e = c.give_room.ensures in (
       e.pass.0,
-      still_locks (λ b. evicted c.published-published.result c.args.keep (settled c.append-stamp.result.epoch b)) (λ b new. IsLeft c.published-published.result (after b c.append-stamp.result.epoch) b new) c.args.self.now.locks c.settle_all.new.locks c.give_room.new.pass
+      still_locks _ _ c.args.self.now.locks c.settle_all.new.locks c.give_room.new.pass
           (locks_then (beginning_of c.args.hall.now) c.args.self.now c.args.pass.now c.published-published.new.pass c.take_room-room.new.pass c.published-published.ensures.pass.1 c.take_room-room.ensures.pass.1 c.published-published.ensures.reads c.requires.pass.lawful c.published-published.ensures.pass.0.lawful c.take_room-room.ensures.pass.0.lawful c.requires.open.0 c.requires.free c.take_room-room.result c.take_room-room.ensures.takes c.take_room-room.ensures.room (Some c.take_entry-entry.result) c.append-stamp.result.epoch c.append-stamp.new.self.room c.give_room.new.pass e.pass.1 (e.gives k.turn k.is_turn)) c.settle_all.ensures,
     )
 
@@ -88,13 +85,12 @@ release_all-requires-clause-stands g c κs within =
     let stamped = ap (λ (s : Stamp). s.epoch) c.append-stamp.ensures.stamp in
     let read = c.published-published.ensures.number in
     let later = k.takes.sees.no_earlier in
-    let le : c.published-published.result ≤ published p = omega (arith, read, later) in
     let given = subst (λ (e : Entry). GivesRoom c.append-stamp.new.self.room (Some e) (c.take_room-room.result.room.sealed + 1) k.turn p c.give_room.new.pass) c.take_entry-entry.ensures.entry
     (subst (λ n. GivesRoom c.append-stamp.new.self.room (Some c.take_entry-entry.result) n k.turn p c.give_room.new.pass) stamped (c.give_room.ensures.gives k.turn k.is_turn)) in
     stand_now (beginning_of c.args.hall.now) c.args.self.now c.args.pass.now c.published-published.new.pass c.take_room-room.new.pass c.published-published.ensures.pass.1 c.take_room-room.ensures.pass.1 c.published-published.ensures.reads c.requires.pass.lawful c.published-published.ensures.pass.0.lawful c.take_room-room.ensures.pass.0.lawful c.requires.open.0 c.requires.free c.take_room-room.result c.take_room-room.ensures.takes c.take_room-room.ensures.room c.requires.open.1 c.append-stamp.new.self (c.append-stamp.ensures.room ∙ ap (appended c.take_room-room.result) c.log.ensures) (subst (StandsForMore c.take_room-room.result c.append-stamp.new.self) c.log.ensures c.append-stamp.ensures.stands) c.append-stamp.ensures.becomes c.append-stamp.ensures.job c.give_room.new.pass c.give_room.ensures.pass.1 given c.settle_all.new.locks
-    (settled_all (λ b. evicted c.published-published.result c.args.keep (settled c.append-stamp.result.epoch b)) x (published p) c.published-published.result (seen p) t.draft t.locks c.settle_all.new.locks p (locks₁ (beginning_of c.args.hall.now) c.args.self.now c.args.pass.now c.published-published.new.pass c.take_room-room.new.pass c.published-published.ensures.pass.1 c.take_room-room.ensures.pass.1 c.published-published.ensures.reads c.requires.pass.lawful c.published-published.ensures.pass.0.lawful c.take_room-room.ensures.pass.0.lawful c.requires.open.0 c.requires.free c.take_room-room.result c.take_room-room.ensures.takes c.take_room-room.ensures.room) (open₁ (beginning_of c.args.hall.now) c.args.self.now c.args.pass.now c.published-published.new.pass c.take_room-room.new.pass c.published-published.ensures.pass.1 c.take_room-room.ensures.pass.1 c.published-published.ensures.reads c.requires.pass.lawful c.published-published.ensures.pass.0.lawful c.take_room-room.ensures.pass.0.lawful c.requires.open.0 c.requires.free c.take_room-room.result c.take_room-room.ensures.takes c.take_room-room.ensures.room) le
+    (settled_all _ x (published p) _ (seen p) t.draft t.locks c.settle_all.new.locks p (locks₁ (beginning_of c.args.hall.now) c.args.self.now c.args.pass.now c.published-published.new.pass c.take_room-room.new.pass c.published-published.ensures.pass.1 c.take_room-room.ensures.pass.1 c.published-published.ensures.reads c.requires.pass.lawful c.published-published.ensures.pass.0.lawful c.take_room-room.ensures.pass.0.lawful c.requires.open.0 c.requires.free c.take_room-room.result c.take_room-room.ensures.takes c.take_room-room.ensures.room) (open₁ (beginning_of c.args.hall.now) c.args.self.now c.args.pass.now c.published-published.new.pass c.take_room-room.new.pass c.published-published.ensures.pass.1 c.take_room-room.ensures.pass.1 c.published-published.ensures.reads c.requires.pass.lawful c.published-published.ensures.pass.0.lawful c.take_room-room.ensures.pass.0.lawful c.requires.open.0 c.requires.free c.take_room-room.result c.take_room-room.ensures.takes c.take_room-room.ensures.room) (omega (arith, read, later))
     (record { entry = entry_of t.draft; epoch = c.take_room-room.result.room.sealed + 1 }) c.requires.open.1 refl (epochs (beginning_of c.args.hall.now) c.args.self.now c.args.pass.now c.published-published.new.pass c.take_room-room.new.pass c.published-published.ensures.pass.1 c.take_room-room.ensures.pass.1 c.published-published.ensures.reads c.requires.pass.lawful c.published-published.ensures.pass.0.lawful c.take_room-room.ensures.pass.0.lawful c.requires.open.0 c.requires.free c.take_room-room.result c.take_room-room.ensures.takes c.take_room-room.ensures.room c.requires.open.1 c.append-stamp.new.self (c.append-stamp.ensures.room ∙ ap (appended c.take_room-room.result) c.log.ensures) (subst (StandsForMore c.take_room-room.result c.append-stamp.new.self) c.log.ensures c.append-stamp.ensures.stands) c.append-stamp.ensures.becomes c.append-stamp.ensures.job)
-    (subst (λ n. EachBecomes (λ b. evicted c.published-published.result c.args.keep (settled c.append-stamp.result.epoch b)) (λ b new. IsLeft c.published-published.result (after b n) b new) t.locks c.settle_all.new.locks) stamped c.settle_all.ensures))
+    _ stamped c.settle_all.ensures)
 
 pub returns-in-None-clause-open : goal.returns-in-None-clause-open
 returns-in-None-clause-open g c =
@@ -109,8 +105,8 @@ returns-in-None-clause-commits g c =
     let stamped = ap (λ (s : Stamp). s.epoch) c.append-stamp.ensures.stamp in
     let given = subst (λ (e : Entry). GivesRoom c.append-stamp.new.self.room (Some e) (c.take_room-room.result.room.sealed + 1) k.turn p c.give_room.new.pass) c.take_entry-entry.ensures.entry
     (subst (λ n. GivesRoom c.append-stamp.new.self.room (Some c.take_entry-entry.result) n k.turn p c.give_room.new.pass) stamped (c.give_room.ensures.gives k.turn k.is_turn)) in (
-      committed (beginning_of c.args.hall.now) c.args.self.now c.args.pass.now c.published-published.new.pass c.take_room-room.new.pass c.published-published.ensures.pass.1 c.take_room-room.ensures.pass.1 c.published-published.ensures.reads c.requires.pass.lawful c.published-published.ensures.pass.0.lawful c.take_room-room.ensures.pass.0.lawful c.requires.open.0 c.requires.free c.take_room-room.result c.take_room-room.ensures.takes c.take_room-room.ensures.room c.requires.open.1 c.append-stamp.new.self (c.append-stamp.ensures.room ∙ ap (appended c.take_room-room.result) c.log.ensures) (subst (StandsForMore c.take_room-room.result c.append-stamp.new.self) c.log.ensures c.append-stamp.ensures.stands) c.append-stamp.ensures.becomes c.append-stamp.ensures.job c.give_room.new.pass c.give_room.ensures.pass.1 given (ap (fit_of c.take_room-room.result.room) (sym c.cost.ensures) ∙ (sym c.fit.ensures ∙ c.in-None.ensures)) _ c.release_all.new.pass c.settle_all.new.locks c.append-stamp.result e.pass.1
-          c.append-stamp.ensures.stamp c.take_entry-entry.ensures.left e.pass.2 e.none e.releases,
+      committed (beginning_of c.args.hall.now) c.args.self.now c.args.pass.now c.published-published.new.pass c.take_room-room.new.pass c.published-published.ensures.pass.1 c.take_room-room.ensures.pass.1 c.published-published.ensures.reads c.requires.pass.lawful c.published-published.ensures.pass.0.lawful c.take_room-room.ensures.pass.0.lawful c.requires.open.0 c.requires.free c.take_room-room.result c.take_room-room.ensures.takes c.take_room-room.ensures.room c.requires.open.1 c.append-stamp.new.self (c.append-stamp.ensures.room ∙ ap (appended c.take_room-room.result) c.log.ensures) (subst (StandsForMore c.take_room-room.result c.append-stamp.new.self) c.log.ensures c.append-stamp.ensures.stands) c.append-stamp.ensures.becomes c.append-stamp.ensures.job c.give_room.new.pass c.give_room.ensures.pass.1 given c.args.keep (ap (fit_of c.take_room-room.result.room) (sym c.cost.ensures) ∙ (sym c.fit.ensures ∙ c.in-None.ensures)) _ c.release_all.new.pass c.settle_all.new.locks c.append-stamp.result e.pass.1
+          c.append-stamp.ensures.stamp c.take_entry-entry.ensures.left e.pass.2 e.none e.releases c.published-published.result c.published-published.ensures.number (gives_back _ _ c.args.self.now _ c.settle_all.new.locks c.settle_all.ensures e.given_back),
       c.take_entry-entry.ensures.entry,
     )
 

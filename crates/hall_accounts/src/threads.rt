@@ -24,15 +24,33 @@ pub struct Route {
     pub to: u8,
 }
 
-/// Whether a transaction found a bucket held.
-fn is_conflict(ended: &Ended) -> bool {
-    matches!(
-        ended,
-        Ended::Refused(TxnFault::Conflict {
+/// What is to be done where a transaction was refused so.
+#[derive(Clone, Copy, Debug, PartialEq, Eq)]
+enum Next {
+    /// A bucket was found held.
+    Again,
+    /// A read failed.
+    AgainAfterRead,
+    /// It ended for good.
+    Leave,
+}
+
+fn next_after(fault: TxnFault) -> Next {
+    match fault {
+        TxnFault::Conflict {
             bucket: _,
-            owner: _
-        })
-    )
+            owner: _,
+        } => Next::Again,
+        TxnFault::Disk => Next::AgainAfterRead,
+        _ => Next::Leave,
+    }
+}
+
+fn next_of(ended: &Ended) -> Next {
+    match ended {
+        Ended::Refused(fault) => next_after(*fault),
+        _ => Next::Leave,
+    }
 }
 
 /// Keeps what a transaction committed, for which there is room.
@@ -50,6 +68,9 @@ fn keep(kept: &mut Vec<Committed>, ended: Ended)
 /// A pass, and all that it committed, in order.
 type Worker = (Pass<View<MemEye>>, Vec<Committed>);
 
+/// The same, and how many of its tries a failing read ended.
+type Worked = (Pass<View<MemEye>>, Vec<Committed>, u64);
+
 /// A worker in the midst of its work, with a transaction that holds nothing.
 #[derive(Drop)]
 struct Active {
@@ -57,6 +78,7 @@ struct Active {
     pass: Pass<View<MemEye>>,
     txn: Txn,
     kept: Vec<Committed>,
+    met: u64,
 }
 
 /// Begins with the work. The worker comes back where there is no memory.
@@ -72,12 +94,13 @@ fn begin(alloc: Global, hall: &RoomHall<MemDisk>, worker: Worker) -> Result<Acti
             pass,
             txn,
             kept,
+            met: 0,
         }),
         None => Err((pass, kept)),
     }
 }
 
-/// One try of a transfer, whose entry is kept. Whether a bucket was found held.
+/// One try of a transfer, whose entry is kept. Whether it is to be tried again, since a bucket was found held or a read failed, which is counted.
 fn try_once<W: Wait>(rt: &W, hall: &RoomHall<MemDisk>, active: &mut Active, route: Route) -> bool
     requires { KeepsAll hall.now active.old.txn active.old.pass active.old.kept.items }
     ensures { KeepsAll hall.now active.new.txn active.new.pass active.new.kept.items × (active.new.pass.number ≡ active.old.pass.number) }
@@ -94,12 +117,13 @@ fn try_once<W: Wait>(rt: &W, hall: &RoomHall<MemDisk>, active: &mut Active, rout
         route.from,
         route.to,
     );
-    let again = is_conflict(&ended);
+    let next = next_of(&ended);
     keep(&mut active.kept, ended);
-    again
+    active.met = active.met.saturating_add(u64::from(next == Next::AgainAfterRead));
+    next != Next::Leave
 }
 
-/// Moves 1 once no bucket of the two accounts is found held, and keeps the entry.
+/// Moves 1 once no bucket of the two accounts is found held and no read fails, and keeps the entry.
 fn move_at_last<W: Wait>(rt: &W, hall: &RoomHall<MemDisk>, active: &mut Active, route: Route)
     requires { KeepsAll hall.now active.old.txn active.old.pass active.old.kept.items }
     ensures { KeepsAll hall.now active.new.txn active.new.pass active.new.kept.items × (active.new.pass.number ≡ active.old.pass.number) }
@@ -138,18 +162,18 @@ fn work<W: Wait>(
     worker: Worker,
     routes: (Route, Route),
     times: u32,
-) -> Worker
+) -> Worked
     requires { IsWorker hall.now worker.0 worker.1.items }
     ensures { IsWorker hall.now result.0 result.1.items × (result.0.number ≡ worker.0.number) }
 {
     let mut active = match begin(alloc, hall, worker) {
         Ok(active) => active,
-        Err(worker) => return worker,
+        Err((pass, kept)) => return (pass, kept, 0),
     };
     move_often(rt, hall, &mut active, routes, times);
     let _shown = show(rt, hall, &mut active.pass);
     move_often(rt, hall, &mut active, routes, times);
-    (active.pass, active.kept)
+    (active.pass, active.kept, active.met)
 }
 
 /// Both threads at once. Both move 1 between the accounts 1 and 2, in different directions, and then 1 between two accounts of their own.
@@ -160,7 +184,7 @@ fn both<R: Threads + Wait + Sync>(
     first: Worker,
     second: Worker,
     times: u32,
-) -> (Worker, Worker)
+) -> (Worked, Worked)
     requires first { IsWorker hall.now first.0 first.1.items }
     requires second { IsWorker hall.now second.0 second.1.items }
     ensures first { IsWorker hall.now result.0.0 result.0.1.items × (result.0.0.number ≡ first.0.number) }
@@ -172,11 +196,11 @@ fn both<R: Threads + Wait + Sync>(
     let back = (Route { from: 2, to: 1 }, Route { from: 20, to: 21 });
     join(
         rt,
-        || -> Worker
+        || -> Worked
             requires { IsWorker hall.now one one_kept.items }
             ensures { IsWorker hall.entry.now result.0 result.1.items × (result.0.number ≡ one.number) }
         { work(rt, alloc, hall, (one, one_kept), forth, times) },
-        || -> Worker
+        || -> Worked
             requires { IsWorker hall.now two two_kept.items }
             ensures { IsWorker hall.entry.now result.0 result.1.items × (result.0.number ≡ two.number) }
         { work(rt, alloc, hall, (two, two_kept), back, times) },
@@ -233,20 +257,26 @@ fn sum_now<D: LogDisk>(alloc: Global, hall: &RoomHall<D>, pass: &mut Pass<View<D
     sum
 }
 
-/// What a run of two threads leaves: the room, the sum of all accounts, and what each committed.
+/// What a run of two threads leaves: the room, the sum of all accounts, what each committed, and how many tries of each a failing read ended.
 #[derive(Drop)]
 pub struct RunOfTwo {
     pub room: Room<MemDisk>,
     pub sum: u64,
     pub first: Vec<Committed>,
     pub second: Vec<Committed>,
+    pub met: (u64, u64),
 }
 
-/// Opens a hall of two seats on a new disk in memory, fills four accounts, lets two threads make twice so many transfers on each of two routes at once, each with a seal between, and ends the hall.
-/// None where there is no memory.
+/// Opens a hall of two seats on a new disk in memory, which fails where the plan says so, fills four accounts, lets two threads make twice so many transfers on each of two routes at once, each with a
+/// seal between, and ends the hall. The sum is 0 where the read of it is refused. None where there is no memory.
 ///
 /// There is one history, in which each entry has the store's replies, and of which each thread was handed just its own entries, in their order.
-pub fn two_threads<R: Threads + Wait + Sync>(rt: &R, alloc: Global, times: u32) -> Option<RunOfTwo>
+pub fn two_threads<R: Threads + Wait + Sync>(
+    rt: &R,
+    alloc: Global,
+    plan: FaultPlan,
+    times: u32,
+) -> Option<RunOfTwo>
     ensures history { IfSome result (λ made. IsRunOfTwo made.first.items made.second.items made.room) }
 {
     let Two {
@@ -254,10 +284,11 @@ pub fn two_threads<R: Threads + Wait + Sync>(rt: &R, alloc: Global, times: u32) 
         one,
         two,
         spare,
-    } = open_two(alloc, 65_536, FaultPlan::none(alloc))?;
+    } = open_two(alloc, 65_536, plan)?;
     let one = fill(rt, alloc, &hall, (one, Vec::new(alloc)));
     let two = (two, Vec::new(alloc));
-    let ((mut one, first), (two, second)) = both(rt, alloc, &hall, one, two, times);
+    let ((mut one, first, first_met), (two, second, second_met)) =
+        both(rt, alloc, &hall, one, two, times);
     let sum = sum_now(alloc, &hall, &mut one);
     let room = end_two(alloc, hall, one, two, spare)?;
     Some(RunOfTwo {
@@ -265,5 +296,6 @@ pub fn two_threads<R: Threads + Wait + Sync>(rt: &R, alloc: Global, times: u32) 
         sum,
         first,
         second,
+        met: (first_met, second_met),
     })
 }

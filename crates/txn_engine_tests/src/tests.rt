@@ -1,13 +1,13 @@
 //! Tables of steps on halls on disks in memory.
 
-use epoch_room::Counts;
+use epoch_room::{Counts, RoomFault};
 use hall_accounts::Act::{MakeRoom, Merge, One, TryRoom, Two};
 use hall_accounts::Step::{Abort, Commit, Get, Put, Scan, Settle, Show, TryCommit};
 use hall_accounts::Told::{
-    Aborted, Balance, Committed, Merged, NoPlace, Refused, Room, RoomMade, Settled, Shown, Stored,
-    Sum,
+    Aborted, Balance, Committed, Merged, NoPlace, NotSettled, NotShown, Refused, Room, RoomMade,
+    Settled, Shown, Stored, Sum,
 };
-use hall_accounts::{Line, Outcome, two_threads, walked};
+use hall_accounts::{Line, Outcome, RunOfTwo, two_threads, walked};
 use log_disk::FaultPlan;
 use std::alloc::Global;
 use std::process;
@@ -215,6 +215,60 @@ fn room_is_made_of_four_parts(rt: HostRuntime) -> Result<(), Fail> {
     )
 }
 
+// A disk that fails so in a seal of what waits.
+#[derive(Clone, Copy, Debug, PartialEq, Eq)]
+enum Stop {
+    Write(u64),
+    Sync(u64),
+}
+
+fn plan_of(alloc: Global, stop: Stop) -> Result<FaultPlan, Fail> {
+    let mut plan = FaultPlan::none(alloc);
+    match stop {
+        Stop::Write(number) => plan.writes.push(number)?,
+        Stop::Sync(number) => plan.syncs.push(number)?,
+    }
+    plan.eye_reads.push((5, 2))?;
+    Ok(plan)
+}
+
+// The second seal fails and shuts the room. Calls, an abort and the end of the hall go on: what is cached is answered without a read, where the second read of the
+// seat's eye would fail, and does so at the next account.
+#[test]
+fn a_failing_disk_shuts_the_room(rt: HostRuntime) -> Result<(), Fail> {
+    let alloc = rt.alloc();
+    let shut = RoomFault::Shut { epoch: 1 };
+    let table = [
+        Line(Two(Put(2, 5)), Stored),
+        Line(Two(Commit), Committed(2, 2)),
+        Line(One(Put(1, 9)), Stored),
+        Line(Two(Show), NotShown(RoomFault::Disk)),
+        Line(One(TryCommit), NoPlace(CommitFault::Shut { epoch: 1 })),
+        Line(Two(Show), NotShown(shut)),
+        Line(Two(Settle), NotSettled(shut)),
+        Line(One(Get(1)), Balance(9)),
+        Line(One(Get(3)), Refused(TxnFault::Disk)),
+        Line(
+            Two(Get(1)),
+            Refused(TxnFault::Conflict {
+                bucket: 1,
+                owner: 1,
+            }),
+        ),
+        Line(One(Abort), Aborted),
+        Line(Two(Put(1, 8)), Stored),
+        Line(Two(TryCommit), NoPlace(CommitFault::Shut { epoch: 1 })),
+        Line(Two(Abort), Aborted),
+        Line(One(Get(1)), Balance(10)),
+        Line(One(Scan), Sum(15)),
+    ];
+    for stop in [Stop::Write(3), Stop::Sync(3)] {
+        let outcome = walked_all(&rt, alloc, plan_of(alloc, stop)?, &[&sealed(1, 10), &table])?;
+        assert!(rt; outcome == Outcome::Room(counts(6, 1, 1, 2, 1)), "{stop:?} {outcome:?}");
+    }
+    Ok(())
+}
+
 // Seven sealed epochs leave one free region, which is kept for merging: a commit is refused, room is made while both transactions are open, and both commit.
 #[test]
 fn a_commit_without_space_is_tried_again(rt: HostRuntime) -> Result<(), Fail> {
@@ -251,12 +305,36 @@ fn a_commit_without_space_is_tried_again(rt: HostRuntime) -> Result<(), Fail> {
     ends_with(&rt, alloc, &[&full, &table], counts(2, 5, 7, 9, 2))
 }
 
+// What a run of two threads leaves that is the same whatever their turns are: how much each committed, the sum of all accounts, and the last place. And how many tries
+// of each a failing read ended.
+fn left_by(made: &RunOfTwo) -> ((usize, usize), u64, u64, (u64, u64)) {
+    let committed = (made.first.len(), made.second.len());
+    (committed, made.sum, made.room.counts().place, made.met)
+}
+
 #[test]
 fn two_threads_move_money(rt: HostRuntime) -> Result<(), Fail> {
-    let Some(made) = two_threads(&rt, rt.alloc(), 25) else {
+    let alloc = rt.alloc();
+    let Some(made) = two_threads(&rt, alloc, FaultPlan::none(alloc), 25) else {
         return Err("memory")?;
     };
-    let committed = (made.first.len(), made.second.len());
-    assert!(rt; (committed, made.sum, made.room.counts().place) == ((104, 100), 400, 204));
+    assert!(rt; left_by(&made) == ((104, 100), 400, 204, (0, 0)));
+    Ok(())
+}
+
+// The eyes 6 and 8 are those which the two seals of the run post to the seat 2. Behind the seal of its own the second thread reads through one of them at least, as
+// each transaction looks for the head of a bucket, and the first read of each fails.
+#[test]
+fn a_read_fails_in_one_of_two_threads(rt: HostRuntime) -> Result<(), Fail> {
+    let alloc = rt.alloc();
+    let mut plan = FaultPlan::none(alloc);
+    plan.eye_reads.push((6, 1))?;
+    plan.eye_reads.push((8, 1))?;
+    let Some(made) = two_threads(&rt, alloc, plan, 25) else {
+        return Err("memory")?;
+    };
+    let (committed, sum, place, met) = left_by(&made);
+    assert!(rt; (committed, sum, place) == ((104, 100), 400, 204));
+    assert!(rt; met == (0, 1) || met == (0, 2));
     Ok(())
 }

@@ -119,7 +119,9 @@ fn try_once<W: Wait>(rt: &W, hall: &RoomHall<MemDisk>, active: &mut Active, rout
     );
     let next = next_of(&ended);
     keep(&mut active.kept, ended);
-    active.met = active.met.saturating_add(u64::from(next == Next::AgainAfterRead));
+    active.met = active
+        .met
+        .saturating_add(u64::from(next == Next::AgainAfterRead));
     next != Next::Leave
 }
 
@@ -287,8 +289,9 @@ pub fn two_threads<R: Threads + Wait + Sync>(
     } = open_two(alloc, 65_536, plan)?;
     let one = fill(rt, alloc, &hall, (one, Vec::new(alloc)));
     let two = (two, Vec::new(alloc));
-    let ((mut one, first, first_met), (two, second, second_met)) =
-        both(rt, alloc, &hall, one, two, times);
+    let ((mut one, first, first_met), (two, second, second_met)) = both(
+        rt, alloc, &hall, one, two, times,
+    );
     let sum = sum_now(alloc, &hall, &mut one);
     let room = end_two(alloc, hall, one, two, spare)?;
     Some(RunOfTwo {

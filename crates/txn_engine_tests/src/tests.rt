@@ -7,12 +7,13 @@ use hall_accounts::Told::{
     Aborted, Balance, Committed, Merged, NoPlace, NotSettled, NotShown, Refused, Room, RoomMade,
     Settled, Shown, Stored, Sum,
 };
-use hall_accounts::{Line, Outcome, RunOfTwo, two_threads, walked};
+use hall_accounts::{Line, Outcome, two_threads, walked};
 use log_disk::FaultPlan;
 use std::alloc::Global;
 use std::process;
 use std::sync::Wait;
 use std::test::Fail;
+use std::thread::Threads;
 use txn_engine::{CommitFault, Space, TxnFault};
 
 /// The balances 10 and 5, stored by one transaction.
@@ -215,25 +216,17 @@ fn room_is_made_of_four_parts(rt: HostRuntime) -> Result<(), Fail> {
     )
 }
 
-// A disk that fails so in a seal of what waits.
-#[derive(Clone, Copy, Debug, PartialEq, Eq)]
-enum Stop {
-    Write(u64),
-    Sync(u64),
-}
-
-fn plan_of(alloc: Global, stop: Stop) -> Result<FaultPlan, Fail> {
+// The disk fails at a write or a sync of this number, where it is not 0, and at the second read of the eye 5, which is the first one that is posted to the seat 1.
+fn failing_at(alloc: Global, write: u64, sync: u64) -> Result<FaultPlan, Fail> {
     let mut plan = FaultPlan::none(alloc);
-    match stop {
-        Stop::Write(number) => plan.writes.push(number)?,
-        Stop::Sync(number) => plan.syncs.push(number)?,
-    }
+    plan.writes.push(write)?;
+    plan.syncs.push(sync)?;
     plan.eye_reads.push((5, 2))?;
     Ok(plan)
 }
 
-// The second seal fails and shuts the room. Calls, an abort and the end of the hall go on: what is cached is answered without a read, where the second read of the
-// seat's eye would fail, and does so at the next account.
+// Each write and each sync of the second seal in turn fails and shuts the room. Calls, aborts and the end of the hall go on. What the seat 1 has cached is answered
+// without a read: the next one of its eye fails, as the call behind it shows.
 #[test]
 fn a_failing_disk_shuts_the_room(rt: HostRuntime) -> Result<(), Fail> {
     let alloc = rt.alloc();
@@ -262,9 +255,10 @@ fn a_failing_disk_shuts_the_room(rt: HostRuntime) -> Result<(), Fail> {
         Line(One(Get(1)), Balance(10)),
         Line(One(Scan), Sum(15)),
     ];
-    for stop in [Stop::Write(3), Stop::Sync(3)] {
-        let outcome = walked_all(&rt, alloc, plan_of(alloc, stop)?, &[&sealed(1, 10), &table])?;
-        assert!(rt; outcome == Outcome::Room(counts(6, 1, 1, 2, 1)), "{stop:?} {outcome:?}");
+    for (write, sync) in [(3, 0), (0, 3), (4, 0), (0, 4)] {
+        let plan = failing_at(alloc, write, sync)?;
+        let outcome = walked_all(&rt, alloc, plan, &[&sealed(1, 10), &table])?;
+        assert!(rt; outcome == Outcome::Room(counts(6, 1, 1, 2, 1)));
     }
     Ok(())
 }
@@ -305,35 +299,36 @@ fn a_commit_without_space_is_tried_again(rt: HostRuntime) -> Result<(), Fail> {
     ends_with(&rt, alloc, &[&full, &table], counts(2, 5, 7, 9, 2))
 }
 
-// What a run of two threads leaves that is the same whatever their turns are: how much each committed, the sum of all accounts, and the last place. And how many tries
-// of each a failing read ended.
-fn left_by(made: &RunOfTwo) -> ((usize, usize), u64, u64, (u64, u64)) {
+// What two threads leave: how much each committed, the sum of all accounts, the last place, and how many tries of each a failing read ended. None where there is no memory.
+fn moved<R: Threads + Wait + Sync>(
+    rt: &R,
+    alloc: Global,
+    plan: FaultPlan,
+) -> Option<((usize, usize), u64, u64, (u64, u64))> {
+    let made = two_threads(rt, alloc, plan, 25)?;
     let committed = (made.first.len(), made.second.len());
-    (committed, made.sum, made.room.counts().place, made.met)
+    Some((committed, made.sum, made.room.counts().place, made.met))
 }
 
 #[test]
 fn two_threads_move_money(rt: HostRuntime) -> Result<(), Fail> {
     let alloc = rt.alloc();
-    let Some(made) = two_threads(&rt, alloc, FaultPlan::none(alloc), 25) else {
-        return Err("memory")?;
-    };
-    assert!(rt; left_by(&made) == ((104, 100), 400, 204, (0, 0)));
+    let moved = moved(&rt, alloc, FaultPlan::none(alloc));
+    assert!(rt; moved == Some(((104, 100), 400, 204, (0, 0))));
     Ok(())
 }
 
-// The eyes 6 and 8 are those which the two seals of the run post to the seat 2. Behind the seal of its own the second thread reads through one of them at least, as
-// each transaction looks for the head of a bucket, and the first read of each fails.
+// The eyes 6 and 8 are those which the two seals of the run post to the seat 2. Behind the second thread's own seal its front is one of them, and the first read of
+// each fails; it reads at each transaction, which looks for the head of a bucket. The seat 1 has other eyes.
 #[test]
 fn a_read_fails_in_one_of_two_threads(rt: HostRuntime) -> Result<(), Fail> {
     let alloc = rt.alloc();
     let mut plan = FaultPlan::none(alloc);
     plan.eye_reads.push((6, 1))?;
     plan.eye_reads.push((8, 1))?;
-    let Some(made) = two_threads(&rt, alloc, plan, 25) else {
+    let Some((committed, sum, place, met)) = moved(&rt, alloc, plan) else {
         return Err("memory")?;
     };
-    let (committed, sum, place, met) = left_by(&made);
     assert!(rt; (committed, sum, place) == ((104, 100), 400, 204));
     assert!(rt; met == (0, 1) || met == (0, 2));
     Ok(())

@@ -43,9 +43,9 @@ impl Txn {
     /// Commits in one turn of the room, as one entry of the open epoch, gives all buckets back, and hands the entry out. It may wait for the room, and takes no
     /// memory.
     ///
-    /// What was done to the buckets is kept under the entry's epoch, and what is published is evicted, but for `keep` nodes of each bucket, by the published
-    /// number as it was read before the turn. A refusal is the first that the numbers of the room give, which is handed back as it was found; the transaction
-    /// is as it was.
+    /// What was done to the buckets is kept under the entry's epoch, and what is published is evicted, but for `keep` nodes of each bucket: up to a number that is
+    /// not below the published one that the pass knew, nor above the one that it then knows. A refusal is the first that the numbers of the room give, which is
+    /// handed back as it was found; the transaction is as it was.
     pub fn commit<D: LogDisk, W: Wait>(
         &mut self,
         rt: &W,
@@ -80,7 +80,7 @@ impl Txn {
 
     /// Takes back all that was done, after want of memory too, and gives all buckets back. It takes no turn and no memory, and waits for nobody.
     ///
-    /// What is published is evicted from the buckets, but for `keep` nodes of each.
+    /// What is published is evicted from the buckets, but for `keep` nodes of each, up to the published number that the pass then knows.
     pub fn abort<D: LogDisk>(
         &mut self,
         hall: &RoomHall<D>,

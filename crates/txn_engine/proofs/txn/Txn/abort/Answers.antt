@@ -1,5 +1,5 @@
 use denote.Param.Send.{sendable}
-use Rattle.std.proofs.Common.{◌≤◌, arith}
+use Rattle.std.proofs.Common.{arith}
 use Rattle.fine_hall.specs.Passes.{published, seen}
 use Rattle.hall_rooms.specs.Rooms.{beginning_of}
 use Rattle.hall_rooms.proofs.Crossing.{bucket_send, in_hall_send}
@@ -34,9 +34,9 @@ release_all-requires-clause-stands g c κs within =
     let r = c.published-published.ensures in
     let p = c.published-published.new.pass in
     let t = c.args.self.now in
-    let le : c.published-published.result ≤ published p = omega (arith, r.number) in
-    undone_all _ x (published p) c.published-published.result (seen p) t.draft t.locks c.undo_all.new.locks p
-    (locks_read x t c.args.pass.now p r.pass.1 r.reads c.requires.open) (open_read x t c.args.pass.now p r.pass.1 r.reads c.requires.open c.requires.pass.lawful r.pass.0.lawful) le c.undo_all.ensures
+    let read = r.number in
+    undone_all _ x (published p) _ (seen p) t.draft t.locks c.undo_all.new.locks p
+    (locks_read x t c.args.pass.now p r.pass.1 r.reads c.requires.open) (open_read x t c.args.pass.now p r.pass.1 r.reads c.requires.open c.requires.pass.lawful r.pass.0.lawful) (omega (arith, read)) c.undo_all.ensures
 
 pub returns-clause-open : goal.returns-clause-open
 returns-clause-open g c =

@@ -24,33 +24,28 @@ pub struct Route {
     pub to: u8,
 }
 
-/// What is to be done where a transaction was refused so.
-#[derive(Clone, Copy, Debug, PartialEq, Eq)]
-enum Next {
-    /// A bucket was found held.
-    Again,
-    /// A read failed.
-    AgainAfterRead,
-    /// It ended for good.
-    Leave,
-}
-
-fn next_after(fault: TxnFault) -> Next {
-    match fault {
-        TxnFault::Conflict {
-            bucket: _,
-            owner: _,
-        } => Next::Again,
-        TxnFault::Disk => Next::AgainAfterRead,
-        _ => Next::Leave,
-    }
-}
-
-fn next_of(ended: &Ended) -> Next {
+/// Why a call of a transaction was refused, where one was.
+fn refusal_of(ended: &Ended) -> Option<TxnFault> {
     match ended {
-        Ended::Refused(fault) => next_after(*fault),
-        _ => Next::Leave,
+        Ended::Refused(fault) => Some(*fault),
+        _ => None,
     }
+}
+
+/// Whether a bucket was found held.
+fn is_conflict(refused: Option<TxnFault>) -> bool {
+    matches!(
+        refused,
+        Some(TxnFault::Conflict {
+            bucket: _,
+            owner: _
+        })
+    )
+}
+
+/// Whether a read failed.
+fn is_disk(refused: Option<TxnFault>) -> bool {
+    matches!(refused, Some(TxnFault::Disk))
 }
 
 /// Keeps what a transaction committed, for which there is room.
@@ -117,12 +112,11 @@ fn try_once<W: Wait>(rt: &W, hall: &RoomHall<MemDisk>, active: &mut Active, rout
         route.from,
         route.to,
     );
-    let next = next_of(&ended);
+    let refused = refusal_of(&ended);
     keep(&mut active.kept, ended);
-    active.met = active
-        .met
-        .saturating_add(u64::from(next == Next::AgainAfterRead));
-    next != Next::Leave
+    let failed = is_disk(refused);
+    active.met = active.met.saturating_add(u64::from(failed));
+    failed | is_conflict(refused)
 }
 
 /// Moves 1 once no bucket of the two accounts is found held and no read fails, and keeps the entry.

@@ -182,7 +182,10 @@ fn run_generated<K: Sink, D: LogDisk, G: Gate>(
 {
     let script = opened.script;
     match run_chain(alloc, opened.chain, &script, &default_options(), disk, gate) {
-        Ok((ran, room)) => count_run(alloc, start, lanes, &script, ran, room, out),
+        Ok((ran, room, cached)) => {
+            drop(cached);
+            count_run(alloc, start, lanes, &script, ran, room, out)
+        }
         Err(disk) => Finish {
             status: print_no_memory(out).number(),
             disk,

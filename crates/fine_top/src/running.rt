@@ -18,9 +18,9 @@ use reopen::Chain;
 use script_text::{Sink, Source};
 use std::alloc::Global;
 use std::mem;
-use txn_runner::run_lanes;
+use txn_runner::{Buckets, run_cached};
 
-/// Makes the room of a chain, and runs a script on it; or there was no memory for the room, and the disk is as it was.
+/// Makes the room of a chain, and runs a script on it, which hands out what it cached as well; or there was no memory for the room, and the disk is as it was.
 pub(crate) fn run_chain<D: LogDisk, G: Gate>(
     alloc: Global,
     chain: Chain,
@@ -28,7 +28,7 @@ pub(crate) fn run_chain<D: LogDisk, G: Gate>(
     options: &Options,
     disk: D,
     gate: &G,
-) -> Result<(Ran, Room<D>), D>
+) -> Result<(Ran, Room<D>, Option<Buckets>), D>
     requires ready { IsReadyToRun script.now (D.state disk) chain }
     requires group { 1 ≤ options.now.group }
     ensures ok { IfOk result (λ ran. RunsFrom options.now script.now (D.state disk) chain ran.0 ran.1) }
@@ -37,9 +37,9 @@ pub(crate) fn run_chain<D: LogDisk, G: Gate>(
     match Room::make(alloc, disk, chain.parts, chain.retired) {
         Ok(room) => {
             let _made = room.counts();
-            let (ran, room) = run_lanes(alloc, room, script, gate, options);
+            let (ran, room, cached) = run_cached(alloc, room, script, gate, options);
             let _left = room.counts();
-            Ok((ran, room))
+            Ok((ran, room, cached))
         }
         Err((_, disk)) => Err(disk),
     }
@@ -61,11 +61,12 @@ fn run_opened<K: Sink, D: LogDisk, G: Gate>(
 {
     let script = opened.script;
     match run_chain(alloc, opened.chain, &script, options, disk, gate) {
-        Ok((ran, room)) => {
+        Ok((ran, room, cached)) => {
             let status = print_report(out, &script, &ran).number();
-            // The program ends behind this: to give back block by block what each transaction has in memory takes a tenth of a long run.
+            // The program ends behind this: to give back block by block what each transaction has in memory takes a tenth of a long run, and the trees a twentieth.
             mem::forget(script);
             mem::forget(ran);
+            mem::forget(cached);
             Finish {
                 status,
                 disk: room.into_disk(),

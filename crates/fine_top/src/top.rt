@@ -107,7 +107,7 @@ fn obey<S: Source, K: Sink, D: LogDisk, G: Gate>(
 /// the line of the fault, behind what a run of `run` or `gen` came to; with 2, 3 and 4 the line of the reason alone; with 5 a first part of one of these. The disk comes back with every status,
 /// and with 2, 3 and 4 as it was; `dump` and `ranges` write nothing to it.
 ///
-/// The memory of the script of `run` and of its outcomes is not given back, as the program ends behind this call.
+/// The memory of the script of `run`, of its outcomes and of the nodes that it cached is not given back, as the program ends behind this call.
 pub fn fineline<R: Threads + Wait + Sync, S: Source, K: Sink, D: LogDisk, G: Gate>(
     rt: &R,
     alloc: Global,

@@ -11,4 +11,5 @@ mod sealing;
 mod txn;
 
 pub use laws::{follows_law, left_log_law, opens_law, places_law};
-pub use run::run_lanes;
+pub use open_txn::Buckets;
+pub use run::{run_cached, run_lanes};

@@ -115,11 +115,32 @@ pub fn run_lanes<D: LogDisk, G: Gate>(
     ensures run { RunsOn script.now options.now room result.1 result.0 }
     ensures entry { result.1.entry ≡ room.entry }
 {
+    let (ran, room, _cached) = run_cached(alloc, room, script, gate, options);
+    (ran, room)
+}
+
+/// Runs a script on a room as `run_lanes` does, and hands out the buckets with the nodes that the run cached, unless there was no memory to begin. They serve no later call: a program that ends behind the run may leave them in memory, which
+/// `run_lanes` gives back block by block.
+pub fn run_cached<D: LogDisk, G: Gate>(
+    alloc: Global,
+    room: Room<D>,
+    script: &Script,
+    gate: &G,
+    options: &Options,
+) -> (Ran, Room<D>, Option<Buckets>)
+    requires ready { IsReady room }
+    requires script { FitsScript script.now }
+    requires group { 1 ≤ options.now.group }
+    ensures run { RunsOn script.now options.now room result.1 result.0 }
+    ensures entry { result.1.entry ≡ room.entry }
+{
     let Ok(mut outcomes) = none_run(alloc, script.len()) else {
-        return not_begun(alloc, room);
+        let (ran, room) = not_begun(alloc, room);
+        return (ran, room, None);
     };
     let Ok(mut buckets) = Buckets::new(alloc) else {
-        return not_begun(alloc, room);
+        let (ran, room) = not_begun(alloc, room);
+        return (ran, room, None);
     };
     let mut runner = Runner {
         room,
@@ -136,5 +157,6 @@ pub fn run_lanes<D: LogDisk, G: Gate>(
         options,
         &mut outcomes,
     );
-    finish(runner, gate, outcomes)
+    let (ran, room) = finish(runner, gate, outcomes);
+    (ran, room, Some(buckets))
 }

@@ -159,8 +159,8 @@ impl Txn {
     /// read through the front failed. `BadRow` and `BadIndex` name a place of a part of the front that is bad by what was read, and `Unfit` the first node on
     /// the call's way that is not fit, by what a bucket gives that is then held; these do not come where the log at entry was told and sound. There
     /// `BucketFull` and `Number` come only where the definitions refuse the call for this reason, with what the bucket's head says, and with the first node
-    /// that is over its bounds. After each of these it may be tried again. After all but a conflict the pass's front shows what the pass saw, up to an epoch not
-    /// below the published one that it knows [`ahead`]. `NoMemory` leaves the transaction failed, and no other answer does [`failed`]: each
+    /// that is over its bounds. After each of these it may be tried again. Unless a conflict refused it, or memory had run out before it, the pass's front then shows
+    /// what the pass saw, up to an epoch not below the published one that it knows [`ahead`]. `NoMemory` leaves the transaction failed, and no other answer does [`failed`]: each
     /// later call answers it too, and changes nothing, until the transaction is aborted.
     pub fn call<D: LogDisk>(
         &mut self,

@@ -12,7 +12,8 @@ ghost use Rattle.room_shelf.specs.Shelves.{IsShelf};
 ghost use Rattle.txn_runner.specs.Body.{IsHeld, body};
 ghost use Rattle.txn_runner.specs.Steps.{Appends, MakesPlace, TriesToCommit};
 
-use crate::runner::{Runner, SEAT};
+use crate::runner::Runner;
+use crate::seats::SeatGate;
 use fine_model::{Gate, Outcome, Point, RunFault, Why};
 use log_disk::LogDisk;
 use open_txn::Buckets;
@@ -25,7 +26,7 @@ impl<D: LogDisk> Runner<D> {
     fn make_place<G: Gate>(
         &mut self,
         alloc: Global,
-        gate: &G,
+        gate: &SeatGate<G>,
         cost: u64,
     ) -> Result<Option<Why>, RunFault>
         requires shelf { IsShelf self.old.room.room self.old.view }
@@ -36,7 +37,7 @@ impl<D: LogDisk> Runner<D> {
         let made = make_room(alloc, &mut self.room, &mut self.view, &mut self.full, cost);
         let epoch = self.room.sealed();
         if before < epoch {
-            gate.at(SEAT, Point::Sealed { epoch });
+            gate.at(Point::Sealed { epoch });
         }
         made
     }
@@ -65,7 +66,7 @@ impl<D: LogDisk> Runner<D> {
         &mut self,
         alloc: Global,
         buckets: &mut Buckets,
-        gate: &G,
+        gate: &SeatGate<G>,
         draft: Draft,
         keep: usize,
     ) -> Result<Outcome, RunFault>

@@ -8,6 +8,7 @@ mod reading;
 mod run;
 mod runner;
 mod sealing;
+mod seats;
 mod txn;
 
 pub use laws::{follows_law, left_log_law, opens_law, places_law};

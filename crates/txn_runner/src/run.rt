@@ -14,6 +14,7 @@ ghost use Rattle.txn_runner.specs.Left.{RunsOn};
 
 use crate::faults::is_memory;
 use crate::runner::Runner;
+use crate::seats::{SeatGate, Seats};
 use epoch_room::Room;
 use fine_model::{Gate, Items, NoMemory, Options, Outcome, Outcomes, Ran, RunFault, Script};
 use log_disk::LogDisk;
@@ -55,6 +56,7 @@ fn run_txns<D: LogDisk, G: Gate>(
     buckets: &mut Buckets,
     script: &Script,
     gate: &G,
+    seats: Seats,
     options: &Options,
     outcomes: &mut Outcomes,
 )
@@ -65,7 +67,9 @@ fn run_txns<D: LogDisk, G: Gate>(
     ensures { RunsSoFar script.now options.now (length script.now) runner.old.room (body runner.new buckets.new) outcomes.new }
 {
     for i in 0..script.len() {
-        let outcome = runner.run_txn(alloc, buckets, gate, options, i as u32 + 1, script.at(i));
+        let txn = script.at(i);
+        let own = SeatGate::new(gate, seats.of_lane(txn.lane));
+        let outcome = runner.run_txn(alloc, buckets, &own, options, i as u32 + 1, txn);
         outcomes.replace(i, outcome);
     }
 }
@@ -73,7 +77,7 @@ fn run_txns<D: LogDisk, G: Gate>(
 /// What a run gives behind its last transaction: the view is taken back, and what waits is sealed.
 fn finish<D: LogDisk, G: Gate>(
     mut runner: Runner<D>,
-    gate: &G,
+    gate: &SeatGate<G>,
     outcomes: Outcomes,
 ) -> (Ran, Room<D>)
     requires shelf { IsShelf runner.room.room runner.view }
@@ -95,8 +99,9 @@ fn finish<D: LogDisk, G: Gate>(
 /// Runs a script on a room, on one thread: the transactions in the order of the script, each lane up to its first fault.
 ///
 /// A transaction that the script commits is committed at the next place, in the open epoch, or refused. An epoch is sealed once as many entries wait as a group has, where
-/// the rows of a transaction do not fit it any more, and at the end. A fault ends its lane: of want of memory, a failed disk and damage the soonest is told. The gate is called by the one seat as
-/// each transaction of a lane that goes on begins and ends, and behind each seal; no point of a merge is called. `tries` is not used on one thread.
+/// the rows of a transaction do not fit it any more, and at the end. A fault ends its lane: of want of memory, a failed disk and damage the soonest is told. The gate is called as
+/// each transaction of a lane that goes on begins and ends, and behind each seal, for the seat that the lane has where each runs on a thread of its own: from 2 on, in the order of the lanes. The last seal
+/// is the caller's, behind these. No point of a merge is called. `tries` is not used on one thread.
 ///
 /// On return the room is whole, no view of it is out, and its disk went on from the one that it was made on. On a sound log that the disk told it stands for all that was committed, and each refusal has
 /// its cause. Without a fault it leaves what a reader of the whole log has to know (`RunsOn`). `unsealed` says that memory was wanting for the last seal, so that entries wait which are
@@ -148,15 +153,18 @@ pub fn run_cached<D: LogDisk, G: Gate>(
         full: false,
         ended: EndedLanes::none(),
     };
+    let seats = Seats::of_script(script);
     run_txns(
         alloc,
         &mut runner,
         &mut buckets,
         script,
         gate,
+        seats,
         options,
         &mut outcomes,
     );
-    let (ran, room) = finish(runner, gate, outcomes);
+    let last = SeatGate::new(gate, seats.of_caller());
+    let (ran, room) = finish(runner, &last, outcomes);
     (ran, room, Some(buckets))
 }

@@ -6,9 +6,6 @@ use partition_hold::View;
 use run_laws::EndedLanes;
 use std::marker::Model;
 
-/// The seat of the one thread.
-pub const SEAT: u32 = 1;
-
 /// A room with the view that is out for loading, whether its log is known to be stuck, and how each lane ended. The buckets stand beside it.
 #[derive(Drop)]
 pub struct Runner<D: LogDisk> {

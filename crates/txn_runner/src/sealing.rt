@@ -6,7 +6,8 @@ ghost use Rattle.room_shelf.specs.Shelves.{IsShelf};
 ghost use Rattle.txn_runner.specs.Body.{body};
 ghost use Rattle.txn_runner.specs.Steps.{Closes, SealsAll};
 
-use crate::runner::{Runner, SEAT};
+use crate::runner::Runner;
+use crate::seats::SeatGate;
 use fine_model::{Gate, Point, RunFault};
 use log_disk::LogDisk;
 use room_shelf::rest;
@@ -15,7 +16,11 @@ use std::alloc::Global;
 
 impl<D: LogDisk> Runner<D> {
     /// Seals what waits, and gathers and merges what the policy names behind it.
-    pub(crate) fn seal_group<G: Gate>(&mut self, alloc: Global, gate: &G) -> Result<(), RunFault>
+    pub(crate) fn seal_group<G: Gate>(
+        &mut self,
+        alloc: Global,
+        gate: &SeatGate<G>,
+    ) -> Result<(), RunFault>
         requires shelf { IsShelf self.old.room.room self.old.view }
         requires no_job { self.old.room.room.job ≡ None }
         requires waiting { 1 ≤ self.old.room.room.waiting }
@@ -23,7 +28,7 @@ impl<D: LogDisk> Runner<D> {
     {
         match seal_waiting(&mut self.room, &mut self.view) {
             Ok(epoch) => {
-                gate.at(SEAT, Point::Sealed { epoch });
+                gate.at(Point::Sealed { epoch });
                 tidy(alloc, &mut self.room, &mut self.view)
             }
             Err(fault) => Err(fault),
@@ -31,7 +36,7 @@ impl<D: LogDisk> Runner<D> {
     }
 
     /// Takes the view back and seals what waits, behind the last transaction. A fault of this seal is answered.
-    pub(crate) fn close<G: Gate>(&mut self, gate: &G) -> Option<RunFault>
+    pub(crate) fn close<G: Gate>(&mut self, gate: &SeatGate<G>) -> Option<RunFault>
         requires shelf { IsShelf self.old.room.room self.old.view }
         requires no_job { self.old.room.room.job ≡ None }
         ensures { (buckets : BucketsValue) → Closes (body self.old buckets) (body self.new buckets) result }
@@ -44,7 +49,7 @@ impl<D: LogDisk> Runner<D> {
         }
         match seal_waiting(&mut self.room, &mut self.view) {
             Ok(epoch) => {
-                gate.at(SEAT, Point::Sealed { epoch });
+                gate.at(Point::Sealed { epoch });
                 None
             }
             Err(fault) => Some(fault),

@@ -9,7 +9,8 @@ ghost use Rattle.run_laws.specs.Lanes.{IsLane, fault_of};
 ghost use Rattle.txn_runner.specs.Body.{IsHeld, body};
 ghost use Rattle.txn_runner.specs.Steps.{BehindTxns, EndsGroup, RunsTxn, Tries, refused_as};
 
-use crate::runner::{Runner, SEAT};
+use crate::runner::Runner;
+use crate::seats::SeatGate;
 use fine_model::{Ending, Gate, Options, Outcome, Point, RunFault, ScriptTxn, Why};
 use log_disk::LogDisk;
 use open_txn::Buckets;
@@ -32,7 +33,7 @@ impl<D: LogDisk> Runner<D> {
         &mut self,
         alloc: Global,
         buckets: &mut Buckets,
-        gate: &G,
+        gate: &SeatGate<G>,
         keep: usize,
         turn: u32,
         txn: &ScriptTxn,
@@ -61,7 +62,7 @@ impl<D: LogDisk> Runner<D> {
     }
 
     /// Ends the group of entries that wait, where it is full. A fault ends the lane; what was committed stays so.
-    fn end_group<G: Gate>(&mut self, alloc: Global, gate: &G, group: u32, lane: u8)
+    fn end_group<G: Gate>(&mut self, alloc: Global, gate: &SeatGate<G>, group: u32, lane: u8)
         requires shelf { IsShelf self.old.room.room self.old.view }
         requires no_job { self.old.room.room.job ≡ None }
         requires group { 1 ≤ group }
@@ -82,7 +83,7 @@ impl<D: LogDisk> Runner<D> {
         &mut self,
         alloc: Global,
         buckets: &mut Buckets,
-        gate: &G,
+        gate: &SeatGate<G>,
         options: &Options,
         turn: u32,
         txn: &ScriptTxn,
@@ -112,7 +113,7 @@ impl<D: LogDisk> Runner<D> {
         &mut self,
         alloc: Global,
         buckets: &mut Buckets,
-        gate: &G,
+        gate: &SeatGate<G>,
         options: &Options,
         turn: u32,
         txn: &ScriptTxn,
@@ -127,9 +128,9 @@ impl<D: LogDisk> Runner<D> {
         if self.ended.has_ended(txn.lane) {
             return Outcome::NotRun;
         }
-        gate.at(SEAT, Point::TxnStart { turn });
+        gate.at(Point::TxnStart { turn });
         let outcome = self.run_open(alloc, buckets, gate, options, turn, txn);
-        gate.at(SEAT, Point::TxnEnd { turn });
+        gate.at(Point::TxnEnd { turn });
         outcome
     }
 }

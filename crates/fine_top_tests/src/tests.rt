@@ -3,13 +3,16 @@
 ghost use Rattle.std.specs.Prelude.{IfOk};
 ghost use Rattle.program_runs.specs.Disks.{IsLeft, IsReady};
 
-use fine_model::NoMemory;
+use fine_model::{Gate, NoMemory, Point};
 use fine_top::geometry_of;
 use log_disk::{FaultPlan, LogDisk, MemDisk};
-use program_runs::{Given, Printed, crash, has_piece, new_disk, run, set_piece, words_of};
+use program_runs::{
+    Given, Printed, crash, has_piece, new_disk, run, run_gated, set_piece, words_of,
+};
 use std::alloc::Global;
 use std::process::Abort;
 use std::sync::Wait;
+use std::sync::atomic::{AtomicU64, Ordering};
 use std::test::Fail;
 use std::thread::Threads;
 
@@ -418,5 +421,77 @@ fn words_and_failing_calls_have_their_status(rt: HostRuntime) -> Result<(), Fail
         let given = (*texts, "", (0, *put));
         expect(&rt, alloc, given, disk, (*status, *text))?;
     }
+    Ok(())
+}
+
+// ---- the gate
+
+// How many points there were at most of which the numbers are kept, in their order: the seat is their thousands, and the kind their hundreds.
+const POINTS: usize = 8;
+
+#[derive(Drop)]
+struct Points {
+    count: AtomicU64,
+    numbers: [AtomicU64; POINTS],
+}
+
+// The number of a point at a seat, where its transaction or epoch is below a hundred.
+fn number_of(who: u32, point: Point) -> u64 {
+    let (kind, what) = match point {
+        Point::TxnStart { turn } => (100, u64::from(turn)),
+        Point::TxnEnd { turn } => (200, u64::from(turn)),
+        Point::Sealed { epoch } => (300, epoch),
+        _ => (900, 0),
+    };
+    1000 * u64::from(who) + kind + what % 100
+}
+
+impl Gate for Points {
+    fn at(&self, who: u32, point: Point) {
+        let place = self.count.fetch_add(1, Ordering::SeqCst);
+        if let Some(number) = self.numbers.get(place as usize) {
+            number.store(number_of(who, point), Ordering::SeqCst);
+        }
+    }
+}
+
+// No point yet.
+fn no_points() -> Points {
+    Points {
+        count: AtomicU64::new(0),
+        numbers: [
+            AtomicU64::new(0),
+            AtomicU64::new(0),
+            AtomicU64::new(0),
+            AtomicU64::new(0),
+            AtomicU64::new(0),
+            AtomicU64::new(0),
+            AtomicU64::new(0),
+            AtomicU64::new(0),
+        ],
+    }
+}
+
+// Whether these were the points, and no others.
+fn were(points: &Points, wanted: &[u64; POINTS]) -> bool {
+    for i in 0..POINTS {
+        if points.numbers[i].load(Ordering::SeqCst) != wanted[i] {
+            return false;
+        }
+    }
+    points.count.load(Ordering::SeqCst) == POINTS as u64
+}
+
+// Two lanes in groups of two: the lower one has the seat 2, the other one 3, and what seals behind both 4.
+#[test]
+fn the_gate_is_told_of_each_seat(rt: HostRuntime) -> Result<(), Fail> {
+    let alloc = rt.alloc();
+    let points = no_points();
+    let words: &[&str] = &["run", "--group", "2"];
+    let script = "txn 3|put a 1|commit|txn 1|put b 2|commit|txn 1|put c 3|commit|";
+    let disk = small(alloc, FaultPlan::none(alloc))?;
+    let printed = run_gated(&rt, alloc, (words, script, (0, 0)), disk, &points)?;
+    assert_eq!(rt; printed.finish.status, 0);
+    assert!(rt; were(&points, &[3101, 3201, 2102, 2301, 2202, 2103, 2203, 4302]));
     Ok(())
 }

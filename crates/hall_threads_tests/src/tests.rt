@@ -1,15 +1,15 @@
 //! A bucket that another seat holds, and what two threads and eighteen leave.
 
-ghost use Rattle.std.specs.Prelude.{◌≡◌};
-ghost use Rattle.hall_threads.specs.Days.{key_bucket, IsIdlePass};
+ghost use Rattle.std.specs.Prelude.{◌<◌};
+ghost use Rattle.hall_threads.specs.Days.{IsIdlePass};
 
 use fine_hall::{Conflict, Pass};
-use hall_threads::{DayHall, DayView, Tally, day, day_of_many, open, the_bucket};
+use hall_threads::{DayHall, DayView, Tally, day, day_of_many, open};
 use std::alloc::Global;
 use std::sync::atomic::{AtomicU64, Ordering};
 use std::test::Fail;
 
-// The second pass tries the bucket of the key while the first holds it.
+// The second pass tries a bucket while the first holds it, and takes it once it was given back.
 fn tried_by_two(
     hall: &DayHall,
     one: &mut Pass<DayView>,
@@ -18,18 +18,23 @@ fn tried_by_two(
 ) -> Option<Conflict>
     requires one { IsIdlePass hall.now one.old }
     requires two { IsIdlePass hall.now two.old }
-    requires bucket { bucket ≡ key_bucket }
+    requires bucket { bucket < 256 }
 {
-    let Ok(_content) = hall.take_bucket(one, bucket) else {
+    let Ok(content) = hall.take_bucket(one, bucket) else {
         return None;
     };
+    let conflict = match hall.take_bucket(two, bucket) {
+        Ok(_content) => return None,
+        Err(conflict) => conflict,
+    };
+    hall.give_bucket(one, bucket, content);
     match hall.take_bucket(two, bucket) {
-        Ok(_content) => None,
-        Err(conflict) => Some(conflict),
+        Ok(_content) => Some(conflict),
+        Err(_conflict) => None,
     }
 }
 
-fn conflict_on_a_new_hall(alloc: Global) -> Option<(Conflict, u16)> {
+fn conflict_on_a_new_hall(alloc: Global) -> Option<Conflict> {
     let (hall, mut passes) = open(alloc, 2, 1)?;
     let Some(mut one) = passes.pop() else {
         return None;
@@ -37,17 +42,21 @@ fn conflict_on_a_new_hall(alloc: Global) -> Option<(Conflict, u16)> {
     let Some(mut two) = passes.pop() else {
         return None;
     };
-    let bucket = the_bucket();
-    let conflict = tried_by_two(&hall, &mut one, &mut two, bucket)?;
-    Some((conflict, bucket))
+    tried_by_two(&hall, &mut one, &mut two, 99)
 }
 
 #[test]
 fn a_held_bucket_names_its_holder(rt: HostRuntime) -> Result<(), Fail> {
-    let Some((conflict, bucket)) = conflict_on_a_new_hall(rt.alloc()) else {
-        return Err("no conflict")?;
+    let Some(conflict) = conflict_on_a_new_hall(rt.alloc()) else {
+        return Err("no conflict, or the bucket did not come back")?;
     };
-    assert!(rt; conflict == Conflict { bucket, owner: 1 });
+    assert!(rt;
+        conflict
+            == Conflict {
+                bucket: 99,
+                owner: 1
+            }
+    );
     Ok(())
 }
 

@@ -5,4 +5,4 @@ mod disks;
 mod runs;
 
 pub use disks::{Piece, crash, has_piece, new_disk, set_piece};
-pub use runs::{Given, Printed, run, words_of};
+pub use runs::{Given, Printed, run, run_gated, words_of};

@@ -3,7 +3,7 @@
 ghost use Rattle.std.specs.Prelude.{IfOk};
 ghost use Rattle.program_runs.specs.Disks.{IsLeft, IsReady};
 
-use fine_model::{NoGate, NoMemory};
+use fine_model::{Gate, NoGate, NoMemory};
 use fine_top::{Finish, fineline};
 use log_disk::MemDisk;
 use script_text::{MemSink, MemSource};
@@ -60,11 +60,25 @@ pub fn run<R: Threads + Wait + Sync>(
     requires { IsReady disk.disk }
     ensures { IfOk result (λ printed. IsLeft printed.finish.disk.disk) }
 {
+    run_gated(rt, alloc, given, disk, &NoGate)
+}
+
+/// The same with a gate, which is called at the points of the run.
+pub fn run_gated<R: Threads + Wait + Sync, G: Gate>(
+    rt: &R,
+    alloc: Global,
+    given: Given,
+    disk: MemDisk,
+    gate: &G,
+) -> Result<Printed, Fail>
+    requires { IsReady disk.disk }
+    ensures { IfOk result (λ printed. IsLeft printed.finish.disk.disk) }
+{
     let (texts, script, fails) = given;
     let words = words_of(alloc, texts)?;
     let mut source = source_of(alloc, script, fails.0)?;
     let mut sink = MemSink::new(alloc, ROOM, Vec::from_slice(alloc, &[fails.1])?)?;
-    let finish = fineline(rt, alloc, &words, &mut source, &mut sink, disk, &NoGate);
+    let finish = fineline(rt, alloc, &words, &mut source, &mut sink, disk, gate);
     let text = replaced(alloc, sink.bytes(), b'\n', b'|')?;
     Ok(Printed { text, finish })
 }

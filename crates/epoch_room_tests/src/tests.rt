@@ -690,3 +690,72 @@ fn each_seat_has_buffers_of_its_own(rt: HostRuntime) -> Result<(), Fail> {
     assert_eq!(rt; two_seats_of_two(rt.alloc())?, [(1, 0), (2, 0)]);
     Ok(())
 }
+
+// A view for the second of two seats, in its buffer 0.
+fn view_of_second<D: LogDisk>(room: &mut Room<D>) -> Result<View<D::Eye>, Missing>
+    requires { room.old.room.board ≡ None ∷ None ∷ None ∷ None ∷ None ∷ None ∷ [] }
+    ensures board { IfOk result (λ view. (view.seat ≡ 2) × (view.buffer ≡ 0) × (room.new.room.board ≡ None ∷ None ∷ None ∷ Some (opened view.eye) ∷ None ∷ None ∷ [])) }
+    ensures same { (room.new.room.job ≡ room.old.room.job) × (is_some room.new.room.image ≡ is_some room.old.room.image) }
+{
+    match room.view_for(2) {
+        Ok(view) => Ok(view),
+        Err(_fault) => Err(Missing::View),
+    }
+}
+
+// Another one, in its buffer 1.
+fn view_beside<D: LogDisk>(
+    room: &mut Room<D>,
+    before: &View<D::Eye>,
+) -> Result<View<D::Eye>, Missing>
+    requires { room.old.room.board ≡ None ∷ None ∷ None ∷ Some (opened before.now.eye) ∷ None ∷ None ∷ [] }
+    ensures board { IfOk result (λ view. room.new.room.board ≡ None ∷ None ∷ None ∷ Some (opened before.now.eye) ∷ Some (opened view.eye) ∷ None ∷ []) }
+    ensures same { (room.new.room.job ≡ room.old.room.job) × (is_some room.new.room.image ≡ is_some room.old.room.image) }
+{
+    match room.view_for(2) {
+        Ok(view) => Ok(view),
+        Err(_fault) => Err(Missing::View),
+    }
+}
+
+// A view in the buffer 1 of the second seat: the one in its buffer 0 came back.
+fn view_in_buffer_one<D: LogDisk>(room: &mut Room<D>) -> Result<View<D::Eye>, Missing>
+    requires { room.old.room.board ≡ None ∷ None ∷ None ∷ None ∷ None ∷ None ∷ [] }
+    ensures { OnOk result ((room.new.room.job ≡ room.old.room.job) × (is_some room.new.room.image ≡ is_some room.old.room.image)) }
+{
+    let before = view_of_second(room)?;
+    let view = view_beside(room, &before)?;
+    room.take_back(before);
+    Ok(view)
+}
+
+// Erases the first retired part while this view of two merged parts is out.
+fn erase_beside_it<D: LogDisk>(room: &mut Room<D>, alloc: Global) -> Result<Erased, Missing>
+    requires board { room.old.room.board ≡ None ∷ None ∷ None ∷ [] }
+    requires job { room.old.room.job ≡ None }
+    requires untold { is_some room.old.room.image ≡ false }
+{
+    seal_two(room, alloc)?;
+    room.set_seats(2)?;
+    let view = view_in_buffer_one(room)?;
+    merge_under(room, alloc)?;
+    let erased = erase_first(room);
+    drop(view);
+    Ok(erased)
+}
+
+// The same in a room on a new file, which is gone then.
+fn erased_on_file(rt: &HostRuntime) -> Result<Erased, Fail> {
+    let path = fresh_path(rt)?;
+    let mut room = file_room(rt, path.as_str())?;
+    let erased = erase_beside_it(&mut room, rt.alloc())?;
+    fs::remove_file(rt, path.as_str())?;
+    Ok(erased)
+}
+
+#[test]
+fn a_held_part_names_the_seat_and_the_buffer(rt: HostRuntime) -> Result<(), Fail> {
+    let held = Some(Err(EraseFault::Held { seat: 2, buffer: 1 }));
+    assert_eq!(rt; erased_on_file(&rt)?, held);
+    Ok(())
+}
